@@ -1,0 +1,10 @@
+pub mod Rising
+pub mod Pairs
+pub mod LinkLemmas
+pub mod Numerals
+pub mod Cuts
+pub mod Groups
+pub mod TextLaws
+pub mod Six
+pub mod Hexes
+pub mod DerivedOrders

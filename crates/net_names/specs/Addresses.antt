@@ -1,0 +1,33 @@
+-- Addresses of both families.
+use Rattle.std.specs.Prelude.{ℕ, ◌^◌, ◌<◌, nat_lt, Option, Some, None, if◌then◌else◌}
+use Rattle.std.specs.declared.cmp.Ordering.{Ordering}
+use Rattle.std.specs.Ordering.{nat_cmp, ordering_then}
+use Rattle.net_names.specs.declared.addresses.Family.{Family}
+use Rattle.net_names.specs.declared.addresses.Family.TheVariants.{V4, V6}
+
+-- how many bits an address of the family has (RFC 791, section 3.2; RFC 4291, section 2)
+abbrev pub width : Family → ℕ
+width V4 = 32
+width V6 = 128
+
+-- an address is a family and a number
+pub record AddrValue : Type 0 where
+  pub family : Family
+  pub bits : ℕ
+
+-- the number has no more bits than the family's width
+abbrev pub FitsFamily : Family → ℕ → Type 0
+FitsFamily family bits = bits < 2 ^ width family
+
+-- the address of that family and number, where the number fits the family
+abbrev pub addr_at : Family → ℕ → Option AddrValue
+addr_at family bits = if nat_lt bits (2 ^ width family) then Some (record { family = family; bits = bits }) else None
+
+-- IPv4 comes before IPv6 (own rule)
+abbrev pub family_place : Family → ℕ
+family_place V4 = 0
+family_place V6 = 1
+
+-- addresses are ordered by family, and then by number (own rule)
+abbrev pub addr_cmp : AddrValue → AddrValue → Ordering
+addr_cmp a b = ordering_then (nat_cmp (family_place a.family) (family_place b.family)) (nat_cmp a.bits b.bits)

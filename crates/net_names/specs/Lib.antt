@@ -1,0 +1,9 @@
+pub mod Numbers
+pub mod Links
+pub mod LinkLists
+pub mod Addresses
+pub mod Prefixes
+pub mod Payloads
+pub mod Steps
+pub mod Texts
+pub mod SixSteps

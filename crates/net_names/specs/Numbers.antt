@@ -1,0 +1,22 @@
+-- Lists of AS numbers.
+use Rattle.std.specs.Prelude.{◌≡◌, ℕ, Bool, false, ◌==◌, List, [], ◌∷◌, ⊤}
+use Rattle.std.specs.List.{list_any}
+
+-- the number stands in the list (own rule)
+abbrev pub occurs : ℕ → List ℕ → Bool
+occurs x xs = list_any (λ y. y == x) xs
+
+-- no number stands twice in the list (own rule)
+abbrev pub IsDistinct : List ℕ → Type 0
+IsDistinct [] = ⊤
+IsDistinct (x ∷ xs) = (occurs x xs ≡ false) × IsDistinct xs
+
+-- the first number of the list, or the given one where the list is empty (own rule)
+abbrev pub first_or : ℕ → List ℕ → ℕ
+first_or d [] = d
+first_or d (x ∷ xs) = x
+
+-- the last number of the list, or the given one where the list is empty (own rule)
+abbrev pub last_or : ℕ → List ℕ → ℕ
+last_or d [] = d
+last_or d (x ∷ xs) = last_or x xs

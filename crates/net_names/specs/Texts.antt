@@ -1,0 +1,170 @@
+-- The texts of AS numbers, addresses and prefixes: what each text says, and how each value is printed.
+use Rattle.std.specs.Prelude.{ℕ, ◌+◌, ◌-◌, ◌*◌, ◌/◌, ◌%◌, ◌^◌, ◌&&◌, ◌||◌, ◌==◌, ◌==◌ as nat_eq, nat_lt, nat_le, not, List, [], ◌∷◌, ◌++◌, length, slice_index, decimal, Option, Some, None, option_map, if◌then◌else◌, position, zip, unwrap_or, take, drop, fold, replicate, map, zero, suc, false}
+use Rattle.std.specs.List.{starts_with, list_all, slice_split, join_with_byte}
+use Rattle.std.specs.Fmt.{digits}
+use Rattle.std.specs.Char.{is_digit}
+use Rattle.std.specs.Str.Parse.{digits_value}
+use Rattle.net_names.specs.declared.addresses.Family.{Family}
+use Rattle.net_names.specs.declared.addresses.Family.TheVariants.{V4, V6}
+use Rattle.net_names.specs.Addresses.{width, AddrValue}
+use Rattle.net_names.specs.Prefixes.{PrefixValue, prefix_at}
+use Rattle.net_names.specs.Steps.{◌>>=◌, either}
+
+-- the text before the first such byte, and the text after it, where the byte stands in the text (own rule)
+abbrev pub cut_at : ℕ → List ℕ → Option (List ℕ × List ℕ)
+cut_at byte text = option_map (λ i. (take i text, drop (i + 1) text)) (position (λ b. b == byte) text)
+
+-- the parts of the text between such bytes (own rule)
+abbrev pub fields : ℕ → List ℕ → List (List ℕ)
+fields byte = slice_split (λ b. b == byte)
+
+-- the number that the text writes in the radix, where it is one digit or more, up to `most` (own rule)
+unfoldable pub numeral : ℕ → ℕ → List ℕ → Option ℕ
+numeral radix most text =
+    if nat_lt 0 (length text) && (nat_le (length text) most && list_all (λ c. is_digit c radix) text)
+    then Some (digits_value radix text) else None
+
+-- the number that 1 to 3 decimal digits write, without a leading zero unless it is the digit 0, where it is at most the limit (own rule)
+abbrev pub plain_at_most : ℕ → List ℕ → Option ℕ
+plain_at_most limit text = do
+  n ← numeral 10 3 text
+  if (nat_lt 1 (length text) && (slice_index text 0 == 48)) || nat_lt limit n then None else Some n
+
+-- the AS number that 1 to 10 decimal digits write, where it is from 1 to 4294967295 (RFC 5396, asplain; RFC 7607 rules out 0)
+unfoldable pub asn_of : List ℕ → Option ℕ
+asn_of text = do
+  n ← numeral 10 10 text
+  if nat_lt 0 n && nat_lt n (2 ^ 32) then Some n else None
+
+-- the IPv4 address that four numbers up to 255 with dots between them write (RFC 3986, section 3.2.2, IPv4address)
+unfoldable pub v4_of : List ℕ → Option ℕ
+v4_of text = do
+  w ← cut_at 46 text
+  x ← cut_at 46 w.1
+  y ← cut_at 46 x.1
+  a ← plain_at_most 255 w.0
+  b ← plain_at_most 255 x.0
+  c ← plain_at_most 255 y.0
+  d ← plain_at_most 255 y.1
+  Some (a * 2 ^ 24 + b * 2 ^ 16 + c * 2 ^ 8 + d)
+
+-- the first of the places below k at which f is greatest (own rule)
+abbrev pub best_place : (ℕ → ℕ) → ℕ → ℕ
+best_place f zero = 0
+best_place f (suc k) = if nat_lt (f (best_place f k)) (f k) then k else best_place f k
+
+-- the place of the first such byte that another one follows (own rule)
+abbrev pub pair_place : ℕ → List ℕ → Option ℕ
+pair_place byte text = position (λ p. (p.0 == byte) && (p.1 == byte)) (zip text (drop 1 text))
+
+-- what stands before the first pair of such bytes, and what stands after it (own rule)
+abbrev pub cut_pair : ℕ → List ℕ → Option (List ℕ × List ℕ)
+cut_pair byte text = option_map (λ i. (take i text, drop (i + 2) text)) (pair_place byte text)
+
+-- all values of the list, where each is there (own rule)
+abbrev pub all_some : {A : Type 0} → List (Option A) → Option (List A)
+all_some [] = Some []
+all_some (o ∷ os) = do
+  x ← o
+  xs ← all_some os
+  Some (x ∷ xs)
+
+-- the groups of 1 to 4 hexadecimal digits with colons between them; an empty text has none (RFC 4291, section 2.2)
+unfoldable pub groups_of : List ℕ → Option (List ℕ)
+groups_of [] = Some []
+groups_of (b ∷ bs) = all_some (map (numeral 16 4) (fields 58 (b ∷ bs)))
+
+-- the number that groups of 16 bits make, the first group highest (RFC 4291, section 2.2)
+abbrev pub bits_of_groups : List ℕ → ℕ
+bits_of_groups = fold (λ n g. n * 2 ^ 16 + g) 0
+
+-- a number of so many groups with these groups behind it, and how many groups that makes, where they are eight at most (own rule)
+abbrev pub groups_on : ℕ → ℕ → Option (List ℕ) → Option (ℕ × ℕ)
+groups_on bits count read = do
+  gs ← read
+  if nat_le (count + length gs) 8 then Some (fold (λ n g. n * 2 ^ 16 + g) bits gs, count + length gs) else None
+
+-- the eight groups of a text: all of them, or seven at most with one pair of colons in place of the groups of 0 that are missing (RFC 4291, section 2.2)
+abbrev pub groups_at : List ℕ → Option (List ℕ × List ℕ) → Option (List ℕ)
+groups_at text None = do
+  gs ← groups_of text
+  if length gs == 8 then Some gs else None
+groups_at text (Some p) = do
+  front ← groups_of p.0
+  back ← groups_of p.1
+  if nat_lt (length front + length back) 8 then Some (front ++ (replicate (8 - (length front + length back)) 0 ++ back)) else None
+
+-- the eight groups that the text writes (RFC 4291, section 2.2, forms 1 and 2)
+abbrev pub v6_groups_of : List ℕ → Option (List ℕ)
+v6_groups_of text = groups_at text (cut_pair 58 text)
+
+-- the IPv6 address that the text writes (RFC 4291, section 2.2, forms 1 and 2; the form with a dotted end is not read)
+unfoldable pub v6_of : List ℕ → Option ℕ
+v6_of text = option_map bits_of_groups (v6_groups_of text)
+
+-- the eight groups of 16 bits of an IPv6 address, the highest first (RFC 4291, section 2.2)
+unfoldable pub groups : ℕ → List ℕ
+groups bits = map (λ i. bits / 2 ^ (16 * (7 - i)) % 2 ^ 16) (0 ∷ 1 ∷ 2 ∷ 3 ∷ 4 ∷ 5 ∷ 6 ∷ 7 ∷ [])
+
+-- groups in lower case hexadecimal digits without leading zeros, with colons between them (RFC 5952, sections 4.1 and 4.3)
+abbrev pub hex_text : List ℕ → List ℕ
+hex_text gs = join_with_byte 58 (map (digits 16 false) gs)
+
+-- how many groups of 0 the list begins with (own rule)
+abbrev pub zeros_before : List ℕ → ℕ
+zeros_before gs = unwrap_or (position (λ g. not (g == 0)) gs) (length gs)
+
+-- how many groups of 0 stand together from this place on (own rule)
+abbrev pub zeros_at : List ℕ → ℕ → ℕ
+zeros_at gs i = zeros_before (drop i gs)
+
+-- groups with a pair of colons in place of the n groups of 0 from place i on, where they are two or more (RFC 5952, section 4.2.2)
+abbrev pub shortened : List ℕ → ℕ → ℕ → List ℕ
+shortened gs i n = if nat_lt n 2 then hex_text gs else hex_text (take i gs) ++ (58 ∷ 58 ∷ hex_text (drop (i + n) gs))
+
+-- the text of eight groups, in which the first longest run of groups of 0 is shortened (RFC 5952, section 4.2.3)
+unfoldable pub groups_text : List ℕ → List ℕ
+groups_text gs = let i = best_place (zeros_at gs) 8 in shortened gs i (zeros_at gs i)
+
+-- the one text that an IPv6 address is printed as (RFC 5952, section 4)
+abbrev pub v6_text : ℕ → List ℕ
+v6_text bits = groups_text (groups bits)
+
+-- the one text of an IPv4 address: its four bytes in decimal digits with dots between them (RFC 3986, section 3.2.2)
+unfoldable pub v4_text : ℕ → List ℕ
+v4_text bits = decimal (bits / 2 ^ 24) ++ (46 ∷ (decimal (bits / 2 ^ 16 % 2 ^ 8) ++ (46 ∷ (decimal (bits / 2 ^ 8 % 2 ^ 8) ++ (46 ∷ decimal (bits % 2 ^ 8))))))
+
+-- the one text of an address of the family
+abbrev pub text_in : Family → ℕ → List ℕ
+text_in V4 bits = v4_text bits
+text_in V6 bits = v6_text bits
+
+-- the one text of an address
+abbrev pub addr_text : AddrValue → List ℕ
+addr_text a = text_in a.family a.bits
+
+-- the one text of a prefix: its address, a slash and its length in decimal digits (RFC 4632, section 3.1; RFC 4291, section 2.3)
+abbrev pub prefix_text : PrefixValue → List ℕ
+prefix_text p = text_in p.family p.addr ++ (47 ∷ decimal p.len)
+
+-- the address of either family that the text writes
+unfoldable pub addr_of : List ℕ → Option AddrValue
+addr_of text = either (option_map (λ a. record { family = V4; bits = a }) (v4_of text)) (option_map (λ a. record { family = V6; bits = a }) (v6_of text))
+
+-- the prefix that an address, a slash and a length of at most the width write, where no bit past the length is set (RFC 4632, section 3.1; RFC 4291, section 2.3)
+unfoldable pub prefix_of : List ℕ → Option PrefixValue
+prefix_of text = do
+  p ← cut_at 47 text
+  a ← addr_of p.0
+  l ← plain_at_most (width a.family) p.1
+  prefix_at a.family a.bits l
+
+-- what stands after these bytes, where the text begins with them (own rule)
+abbrev pub after : List ℕ → List ℕ → Option (List ℕ)
+after front text = if starts_with nat_eq text front then Some (drop (length front) text) else None
+
+-- the number of a payload, at most 4294967295, that 1 to 10 decimal digits write, before which the letters `AS` may stand (own rule)
+unfoldable pub vrp_asn_of : List ℕ → Option ℕ
+vrp_asn_of text = do
+  n ← numeral 10 10 (unwrap_or (after (65 ∷ 83 ∷ []) text) text)
+  if nat_lt n (2 ^ 32) then Some n else None

@@ -1,0 +1,29 @@
+//! The plain values of routing and their texts: AS numbers, relations and links of ASes, addresses,
+//! prefixes and payloads of both families, and paths.
+//!
+//! Each type keeps its range by itself. A text has at most one value, and a value has one text,
+//! which is what the `put_` calls append. `Links` is a finite map with at most 1,500,000 links.
+#![tactic(auto)]
+
+mod addresses;
+mod links;
+mod numbers;
+mod payloads;
+mod prefixes;
+mod reading;
+mod routes;
+mod six_reading;
+mod six_writing;
+mod writing;
+
+pub use addresses::{Addr, Family};
+pub use links::{Link, Links, LinksError};
+pub use numbers::{Asn, NoMemory, Path};
+pub use payloads::Vrp;
+pub use prefixes::Prefix;
+pub use reading::{cut, number, read_addr, read_asn, read_prefix, read_vrp_asn, strip};
+pub use routes::{Class, Rel, State};
+pub use writing::{put_addr, put_asn, put_prefix, v4_has_one_text};
+
+#[cfg(test)]
+mod tests;

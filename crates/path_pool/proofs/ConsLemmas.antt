@@ -1,0 +1,109 @@
+-- What `cons` leaves.
+use Rattle.std.proofs.Common.{◌≡◌, ◌≢◌, ℕ, suc, ◌+◌, ◌-◌, ◌<◌, List, [], ◌∷◌, length, set, refl, ap, sym, ◌∙◌, subst, arith, inl, inr}
+use Rattle.std.proofs.lemmas.Bool.{cases_eq}
+use Rattle.path_pool.specs.declared.pool.Cell.{Cell}
+use Rattle.path_pool.specs.Region.{cell_at, walk, list_of, IsLive, cells_above, holds_of, IsRegion, CanFollow, GainsCell}
+use Rattle.path_pool.proofs.RegionLemmas.{at_same, at_other, live_inside, rehold_kind, rehold_above, rehold_at, rehold_region, rehold_lists, take_above_other, take_above_tail, take_lists_at}
+
+-- a cell put on the first free place
+take_new : (xs : List Cell) (free spare limit : ℕ) (y : Cell) (rest : List ℕ) → IsRegion xs free spare limit → 0 < spare → CanFollow xs y →
+    walk (set xs free y) (y.len - 1) y.tail ≡ rest →
+    list_of (set xs free y) free ≡ y.head ∷ rest
+take_new xs f spare limit y rest r s w e =
+    let inside : f < length xs = r.first_inside s in
+    let self : cell_at (set xs f y) f ≡ y = at_same xs f y inside in
+    let some : y.len ≡ suc (y.len - 1) = omega (arith, w.some) in
+    ap (λ (c : Cell). walk (set xs f y) c.len f) self
+    ∙ ap (λ n. walk (set xs f y) n f) some
+    ∙ ap (λ (c : Cell). c.head ∷ walk (set xs f y) (y.len - 1) c.tail) self
+    ∙ ap (λ t. y.head ∷ t) e
+
+tail_apart : (xs : List Cell) (free spare limit : ℕ) (y : Cell) → IsRegion xs free spare limit → 0 < spare → CanFollow xs y → 1 < y.len → y.tail ≢ free
+tail_apart xs f spare limit y r s w l e = omega (arith, w.live l, r.first_dead s, ap (λ t. (cell_at xs t).count) e)
+
+-- with no tail
+pub gains_single : (xs : List Cell) (free spare limit : ℕ) (y : Cell) → IsRegion xs free spare limit → 0 < spare → CanFollow xs y → y.len ≡ 1 →
+    GainsCell xs (set xs free y) free (y.head ∷ [])
+gains_single xs f spare limit y r s w one =
+    let inside : f < length xs = r.first_inside s in
+    let dead : (cell_at xs f).count ≡ 0 = r.first_dead s in
+    let self : cell_at (set xs f y) f ≡ y = at_same xs f y inside in
+    let above : (k : ℕ) → cells_above (set xs f y) k ≡ cells_above xs k = λ k. take_above_other xs f k y inside dead (λ l _. omega (arith, l, one)) in
+    let none : y.len - 1 ≡ 0 = omega (arith, one) in
+    record {
+      fresh = dead;
+      live = omega (arith, w.held, ap (λ (c : Cell). c.count) self);
+      list = take_new xs f spare limit y [] r s w (ap (λ n. walk (set xs f y) n y.tail) none);
+      one_hold = omega (arith, w.held, ap (λ (c : Cell). c.count) self, above f, r.counted f, dead);
+      other_holds = λ k n. omega (arith, above k, ap (λ (c : Cell). c.count) (at_other xs f k y n));
+      counts = λ k. elim (cases_eq k f) [
+        | inl e ↦ omega (arith, w.held, ap (λ (c : Cell). c.count) self, ap (λ i. (cell_at (set xs f y) i).count) e)
+        | inr n ↦ omega (arith, ap (λ (c : Cell). c.count) (at_other xs f k y n))
+      ];
+      stays_live = λ k a. elim (cases_eq k f) [
+        | inl e ↦ absurd (omega (arith, a, dead, ap (λ t. (cell_at xs t).count) e))
+        | inr n ↦ omega (arith, a, ap (λ (c : Cell). c.count) (at_other xs f k y n))
+      ];
+      was_live = λ k n a. omega (arith, a, ap (λ (c : Cell). c.count) (at_other xs f k y n));
+      lists = take_lists_at xs f spare limit y r s;
+    }
+
+-- over a tail: the cell y on the free place, after one more hold of its tail
+pub gains_over : (xs : List Cell) (free spare limit t h : ℕ) → IsRegion xs free spare limit → 0 < spare → IsLive xs t →
+    (n : ℕ) → n ≡ (cell_at xs t).count + 1 → (l : ℕ) → l ≡ (cell_at xs t).len + 1 →
+    CanFollow (set xs t (record (cell_at xs t) { count = n })) (record { head = h; tail = t; len = l; count = 1 })
+    × GainsCell xs (set (set xs t (record (cell_at xs t) { count = n })) free (record { head = h; tail = t; len = l; count = 1 })) free (h ∷ list_of xs t)
+gains_over xs f spare limit t h r s a n en l el =
+    let inside : t < length xs = live_inside xs t a in
+    let z : Cell = record (cell_at xs t) { count = n } in
+    let ys : List Cell = set xs t z in
+    let y : Cell = record { head = h; tail = t; len = l; count = 1 } in
+    let some : 0 < n = omega (arith, en) in
+    let ylen : (cell_at ys t).len ≡ (cell_at xs t).len = (rehold_kind xs t n t a some).len in
+    let above1 : (k : ℕ) → cells_above ys k ≡ cells_above xs k = λ k. rehold_above xs t n k a some in
+    let region : IsRegion ys f spare limit = rehold_region xs f spare limit t n r a some (omega (arith, en, r.counted t)) in
+    let w : CanFollow ys y = record {
+      held = refl;
+      some = omega (arith, el);
+      live = λ _. omega (arith, some, rehold_at xs t n a);
+      free_hold = λ _. omega (arith, above1 t, rehold_at xs t n a, en, r.counted t);
+      shorter = λ _. omega (arith, ylen, el);
+    } in
+    let long : 1 < l = omega (arith, el, (r.linked t inside).some) in
+    let yin : f < length ys = region.first_inside s in
+    let dead : (cell_at ys f).count ≡ 0 = region.first_dead s in
+    let apart : t ≢ f = tail_apart ys f spare limit y region s w long in
+    let zs : List Cell = set ys f y in
+    let self : cell_at zs f ≡ y = at_same ys f y yin in
+    let kept : (k : ℕ) → k ≢ f → cell_at zs k ≡ cell_at ys k = λ k o. at_other ys f k y o in
+    let list_t : list_of zs t ≡ list_of xs t = take_lists_at ys f spare limit y region s t (omega (arith, some, rehold_at xs t n a)) ∙ rehold_lists xs f spare limit t n r a some t a in
+    let above2 : (k : ℕ) → k ≢ t → cells_above zs k ≡ cells_above ys k = λ k o. take_above_other ys f k y yin dead (λ _ e. o (sym e)) in
+    let above_t : cells_above zs t ≡ cells_above ys t + 1 = take_above_tail ys f y yin dead (omega arith) long in
+    let less : l - 1 ≡ (cell_at zs t).len = omega (arith, el, ylen, ap (λ (c : Cell). c.len) (kept t apart)) in (
+      w,
+      record {
+        fresh = r.first_dead s;
+        live = omega (arith, ap (λ (c : Cell). c.count) self);
+        list = take_new ys f spare limit y (list_of xs t) region s w
+            (ap (λ m. walk zs m t) less ∙ list_t);
+        one_hold = omega (arith, ap (λ (c : Cell). c.count) self, above2 f (λ e. apart (sym e)), region.counted f, dead);
+        other_holds = λ k o. elim (cases_eq k t) [
+          | inl e ↦ subst (λ i. holds_of zs i ≡ holds_of xs i) (sym e)
+              (omega (arith, above_t, above1 t, ap (λ (c : Cell). c.count) (kept t apart), rehold_at xs t n a, en))
+          | inr p ↦ omega (arith, above2 k p, above1 k, ap (λ (c : Cell). c.count) (kept k o), ap (λ (c : Cell). c.count) (at_other xs t k z p))
+        ];
+        counts = λ k. elim (cases_eq k f) [
+          | inl e ↦ omega (arith, ap (λ (c : Cell). c.count) self, ap (λ i. (cell_at zs i).count) e)
+          | inr o ↦ elim (cases_eq k t) [
+            | inl e ↦ omega (arith, ap (λ (c : Cell). c.count) (kept k o), rehold_at xs t n a, en, ap (λ i. (cell_at ys i).count) e, ap (λ i. (cell_at xs i).count) e)
+            | inr p ↦ omega (arith, ap (λ (c : Cell). c.count) (kept k o), ap (λ (c : Cell). c.count) (at_other xs t k z p))
+          ]
+        ];
+        stays_live = λ k b. elim (cases_eq k f) [
+          | inl e ↦ absurd (omega (arith, b, r.first_dead s, ap (λ i. (cell_at xs i).count) e))
+          | inr o ↦ omega (arith, (rehold_kind xs t n k a some).alive b, ap (λ (c : Cell). c.count) (kept k o))
+        ];
+        was_live = λ k o b. (rehold_kind xs t n k a some).dead (omega (arith, b, ap (λ (c : Cell). c.count) (kept k o)));
+        lists = λ k b. take_lists_at ys f spare limit y region s k ((rehold_kind xs t n k a some).alive b) ∙ rehold_lists xs f spare limit t n r a some k b;
+      },
+    )

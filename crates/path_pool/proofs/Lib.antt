@@ -1,0 +1,5 @@
+pub mod RegionLemmas
+pub mod ConsLemmas
+pub mod ReleaseLemmas
+pub mod GrowLemmas
+pub mod Needed

@@ -1,0 +1,15 @@
+/// Why a pool has no room for the cells that were asked for.
+#[derive(Clone, Copy, Debug, PartialEq, Eq)]
+pub enum PoolError {
+    /// Memory was refused.
+    Memory,
+    /// The live cells and the cells asked for are together more than the pool's limit.
+    Full {
+        /// How many cells are live.
+        live: usize,
+        /// How many cells were asked for.
+        asked: usize,
+        /// How many cells may be live.
+        limit: usize,
+    },
+}

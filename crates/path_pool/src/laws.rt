@@ -1,0 +1,27 @@
+//! What holds of every pool, whatever was called.
+
+ghost use Rattle.path_pool.specs.Pool.{IsLive, IsOver, count_of, holds_of, over_count, live_count, spare_of, limit_of};
+ghost use Rattle.std.specs.Prelude.{◌≡◌, ℕ, ◌+◌, ◌<◌, ◌≤◌, ◌⊎◌, ◌↔◌};
+
+use crate::PathPool;
+
+/// The count of a cell is its outside holds and the live cells over it.
+pub fn counts_are_holds(pool: &PathPool)
+    ensures { (k : ℕ) → count_of pool.now k ≡ holds_of pool.now k + over_count pool.now k }
+{
+    let _ = pool.live();
+}
+
+/// A cell is live exactly where it has an outside hold or is the tail of a live cell.
+pub fn needed_are_live(pool: &PathPool)
+    ensures { (k : ℕ) → IsLive pool.now k ↔ ((0 < holds_of pool.now k) ⊎ ((j : ℕ) × IsOver pool.now j k)) }
+{
+    let _ = pool.live();
+}
+
+/// The live cells and the spare ones are together at most as many as the limit.
+pub fn cells_are_within(pool: &PathPool)
+    ensures { live_count pool.now + spare_of pool.now ≤ limit_of pool.now }
+{
+    let _ = pool.live();
+}

@@ -1,0 +1,240 @@
+//! The region of cells, and the calls that change it.
+
+ghost use Rattle.path_pool.specs.Region.{IsRegion};
+ghost use Rattle.std.specs.Option.{ForSome};
+ghost use Rattle.std.specs.Prelude.{◌≡◌, ◌≢◌, ℕ, ◌+◌, ◌<◌, ◌≤◌, [], ◌∷◌, ◌++◌, length, slice_set, IsOk, IfErr, OnOk, OnErr};
+
+mod reads;
+
+use crate::{PathId, PoolError};
+use net_names::Asn;
+use std::alloc::{AllocError, Global};
+
+/// One AS of a path, and where the rest of the path stands. A cell that is not live belongs to no
+/// path: its tail is the next such cell.
+#[derive(Clone, Copy)]
+pub struct Cell {
+    head: Asn,
+    tail: u32,
+    /// How many cells hang together from here on.
+    len: u32,
+    /// The outside holds and the live cells whose tail this is.
+    count: u32,
+}
+
+/// A region of cells. A live cell stands for the path of its AS and of the cells below it.
+#[derive(Drop)]
+pub struct PathPool {
+    cells: Vec<Cell>,
+    free: u32,
+    spare: usize,
+    limit: usize,
+    ghost region: { IsRegion cells.items free spare limit },
+}
+
+impl PathPool {
+    ghost use Rattle.path_pool.specs.Region.{CanFollow, cell_at, cells_above};
+    ghost use Rattle.path_pool.specs.Pool.{IsLive, GainsPath, GainsHold, LosesHold, SamePaths, IsRefusal, tail_list, list_of, holds_of, count_of, live_count, spare_of, limit_of};
+
+    /// A pool without paths, in which at most `limit` cells may be live at once.
+    pub fn new(alloc: Global, limit: usize) -> PathPool
+        requires { limit < 4294967295 }
+        ensures none { (k : ℕ) → ¬ IsLive result k }
+        ensures live { live_count result ≡ 0 }
+        ensures spare { spare_of result ≡ 0 }
+        ensures limit { limit_of result ≡ limit }
+    {
+        PathPool {
+            cells: Vec::new(alloc),
+            free: 0,
+            spare: 0,
+            limit,
+        }
+    }
+
+    /// Makes room for `n` more calls of [`cons`](PathPool::cons). It is refused with
+    /// [`PoolError::Full`] exactly where the live cells and `n` are together more than the limit,
+    /// and with [`PoolError::Memory`] only where the room is not there already. Paths and holds
+    /// stay as they are, also after a refusal.
+    pub fn reserve(&mut self, n: usize) -> Result<(), PoolError>
+        ensures room { OnOk result (n ≤ spare_of self.new) }
+        ensures fits { OnOk result (live_count self.old + n ≤ limit_of self.old) }
+        ensures refused { IfErr result (λ e. IsRefusal e (live_count self.old) n (limit_of self.old)) }
+        ensures succeeds { n ≤ spare_of self.old → IsOk result }
+        ensures kept { SamePaths self.old self.new }
+        ensures spare { spare_of self.old ≤ spare_of self.new }
+        ensures limit { limit_of self.new ≡ limit_of self.old }
+    {
+        let live = self.live();
+        if n > self.limit - live {
+            return Err(PoolError::Full {
+                live,
+                asked: n,
+                limit: self.limit,
+            });
+        }
+        'cells: while self.spare < n {
+            if self.add_cell().is_err() {
+                return Err(PoolError::Memory);
+            }
+        }
+        Ok(())
+    }
+
+    /// A new path: `head`, and then the path `tail`, or nothing. It comes with one outside hold,
+    /// and each other path and hold stays. Takes no memory.
+    pub fn cons(&mut self, head: Asn, tail: Option<PathId>) -> PathId
+        requires spare { 0 < spare_of self.old }
+        requires tail_live { ForSome tail (λ t. IsLive self.old t.0) }
+        requires tail_room { ForSome tail (λ t. count_of self.old t.0 < 4294967295) }
+        ensures made { GainsPath self.old self.new result.0 (head ∷ tail_list self.old tail) }
+        ensures live { live_count self.new ≡ live_count self.old + 1 }
+        ensures spare { spare_of self.new + 1 ≡ spare_of self.old }
+        ensures limit { limit_of self.new ≡ limit_of self.old }
+    {
+        match tail {
+            None => self.take_cell(head, 0, 1),
+            Some(t) => self.cons_over(head, t),
+        }
+    }
+
+    /// One outside hold of the path more. All else stays. Takes no memory.
+    pub fn hold(&mut self, id: PathId)
+        requires live { IsLive self.old id.0 }
+        requires room { count_of self.old id.0 < 4294967295 }
+        ensures held { GainsHold self.old self.new id.0 }
+        ensures live { live_count self.new ≡ live_count self.old }
+        ensures spare { spare_of self.new ≡ spare_of self.old }
+        ensures limit { limit_of self.new ≡ limit_of self.old }
+    {
+        let count = self.count(id) + 1;
+        self.set_count(id, count);
+    }
+
+    /// One outside hold of the path less. Cells that nothing needs any more are live no more:
+    /// the answer is how many these are. Every other hold stays, and so does the path of each
+    /// cell that stays live. Takes no memory.
+    pub fn release(&mut self, id: PathId) -> usize
+        requires { 0 < holds_of self.old id.0 }
+        ensures released { LosesHold self.old self.new id.0 }
+        ensures freed { live_count self.new + result ≡ live_count self.old }
+        ensures spare { spare_of self.new ≡ spare_of self.old + result }
+        ensures limit { limit_of self.new ≡ limit_of self.old }
+    {
+        let before = self.spare;
+        let mut at = id.0;
+        let mut more = true;
+        'cells: while more {
+            let cell = self.cells[at as usize];
+            if cell.count > 1 {
+                self.set_count(PathId(at), cell.count - 1);
+                more = false;
+            } else {
+                self.free_cell(PathId(at), cell.head);
+                at = cell.tail;
+                more = cell.len > 1;
+            }
+        }
+        self.spare - before
+    }
+
+    // A new path over one that is there.
+    fn cons_over(&mut self, head: Asn, tail: PathId) -> PathId
+        requires spare { 0 < spare_of self.old }
+        requires tail_live { IsLive self.old tail.0 }
+        requires tail_room { count_of self.old tail.0 < 4294967295 }
+        ensures made { GainsPath self.old self.new result.0 (head ∷ list_of self.old tail.0) }
+        ensures live { live_count self.new ≡ live_count self.old + 1 }
+        ensures spare { spare_of self.new + 1 ≡ spare_of self.old }
+        ensures limit { limit_of self.new ≡ limit_of self.old }
+    {
+        let cell = self.cells[tail.0 as usize];
+        self.set_count(tail, cell.count + 1);
+        self.take_cell(head, tail.0, cell.len + 1)
+    }
+
+    // Writes how often a live cell is needed.
+    fn set_count(&mut self, id: PathId, count: u32)
+        requires live { IsLive self.old id.0 }
+        requires some { 0 < count }
+        requires enough { cells_above self.old.cells.items id.0 ≤ count }
+        ensures cells { self.new.cells.items ≡ slice_set self.old.cells.items id.0 (record (cell_at self.old.cells.items id.0) { count = count }) }
+        ensures free { self.new.free ≡ self.old.free }
+        ensures spare { spare_of self.new ≡ spare_of self.old }
+        ensures limit { limit_of self.new ≡ limit_of self.old }
+    {
+        let cell = &mut self.cells[id.0 as usize];
+        cell.count = count;
+    }
+
+    // Takes the first free cell for a new path.
+    fn take_cell(&mut self, head: Asn, tail: u32, len: u32) -> PathId
+        requires spare { 0 < spare_of self.old }
+        requires follows { CanFollow self.old.cells.items (record { head = head; tail = tail; len = len; count = 1 }) }
+        ensures which { result.0 ≡ self.old.free }
+        ensures cells { self.new.cells.items ≡ slice_set self.old.cells.items self.old.free (record { head = head; tail = tail; len = len; count = 1 }) }
+        ensures spare { spare_of self.new + 1 ≡ spare_of self.old }
+        ensures limit { limit_of self.new ≡ limit_of self.old }
+    {
+        let at = self.free;
+        self.free = self.cells[at as usize].tail;
+        self.spare -= 1;
+        self.cells[at as usize] = Cell {
+            head,
+            tail,
+            len,
+            count: 1,
+        };
+        PathId(at)
+    }
+
+    // Puts a cell that nothing needs any more before the free ones.
+    fn free_cell(&mut self, id: PathId, head: Asn)
+        requires live { IsLive self.old id.0 }
+        requires none { cells_above self.old.cells.items id.0 ≡ 0 }
+        ensures cells { self.new.cells.items ≡ slice_set self.old.cells.items id.0 (record { head = head; tail = self.old.free; len = spare_of self.old + 1; count = 0 }) }
+        ensures spare { spare_of self.new ≡ spare_of self.old + 1 }
+        ensures limit { limit_of self.new ≡ limit_of self.old }
+    {
+        let next = self.free;
+        self.spare += 1;
+        self.cells[id.0 as usize] = Cell {
+            head,
+            tail: next,
+            len: self.spare as u32,
+            count: 0,
+        };
+        self.free = id.0;
+    }
+
+    // One more free cell.
+    fn add_cell(&mut self) -> Result<(), AllocError>
+        requires { length self.old.cells.items < limit_of self.old }
+        ensures ok { OnOk result (SamePaths self.old self.new) }
+        ensures err { OnErr result (self.new.cells.items ≡ self.old.cells.items) }
+        ensures more { OnOk result (spare_of self.new ≡ spare_of self.old + 1) }
+        ensures err_spare { OnErr result (spare_of self.new ≡ spare_of self.old) }
+        ensures limit { limit_of self.new ≡ limit_of self.old }
+    {
+        let next = self.free;
+        let at = self.cells.len();
+        let len = self.spare + 1;
+        self.cells.push(Cell {
+            head: any_asn(),
+            tail: next,
+            len: len as u32,
+            count: 0,
+        })?;
+        self.free = at as u32;
+        self.spare = len;
+        Ok(())
+    }
+}
+
+// What stands in a cell that belongs to no path.
+fn any_asn() -> Asn {
+    match Asn::new(1) {
+        Some(asn) => asn,
+        None => unreachable!(),
+    }
+}
