@@ -8,20 +8,16 @@ use crate::PathPool;
 /// The count of a cell is its outside holds and the live cells over it.
 pub fn counts_are_holds(pool: &PathPool)
     ensures { (k : ℕ) → count_of pool.now k ≡ holds_of pool.now k + over_count pool.now k }
-{
-    let _ = pool.live();
-}
+{}
 
 /// A cell is live exactly where it has an outside hold or is the tail of a live cell.
 pub fn needed_are_live(pool: &PathPool)
     ensures { (k : ℕ) → IsLive pool.now k ↔ ((0 < holds_of pool.now k) ⊎ ((j : ℕ) × IsOver pool.now j k)) }
-{
-    let _ = pool.live();
-}
+{}
 
-/// The live cells and the spare ones are together at most as many as the limit.
+/// The live cells and the spare ones are together at most as many as the limit, which is below
+/// 4294967295.
 pub fn cells_are_within(pool: &PathPool)
-    ensures { live_count pool.now + spare_of pool.now ≤ limit_of pool.now }
-{
-    let _ = pool.live();
-}
+    ensures within { live_count pool.now + spare_of pool.now ≤ limit_of pool.now }
+    ensures limit { limit_of pool.now < 4294967295 }
+{}

@@ -1,7 +1,7 @@
 //! What a pool tells. No call here changes it.
 
-ghost use Rattle.std.specs.List.{list_any};
-ghost use Rattle.std.specs.Prelude.{◌≡◌, ℕ, ◌==◌, ◌+◌, ◌≤◌, ◌∷◌, length, IfSome, IfOk};
+ghost use Rattle.net_names.specs.Numbers.{occurs};
+ghost use Rattle.std.specs.Prelude.{◌≡◌, ◌+◌, ◌<◌, ◌≤◌, ◌∷◌, length, IfSome, IfOk};
 
 use super::PathPool;
 use crate::PathId;
@@ -57,11 +57,14 @@ impl PathPool {
         }
     }
 
-    /// How many ASes the path has. There are never more than live cells.
+    /// How many ASes the path has: at least one, and never more than there are live cells, which is
+    /// less than 4294967295.
     pub fn length(&self, id: PathId) -> u32
         requires { IsLive self.now id.0 }
         ensures value { result ≡ length (list_of self.now id.0) }
+        ensures some { 0 < result }
         ensures short { result ≤ live_count self.now }
+        ensures fits { result < 4294967295 }
     {
         self.cells[id.0 as usize].len
     }
@@ -69,7 +72,7 @@ impl PathPool {
     /// Whether the path has the AS. Walks along the path as far as that AS.
     pub fn contains(&self, id: PathId, asn: Asn) -> bool
         requires { IsLive self.now id.0 }
-        ensures { result ≡ list_any (λ x. x == asn) (list_of self.now id.0) }
+        ensures { result ≡ occurs asn (list_of self.now id.0) }
     {
         let mut at = id.0;
         let mut left = self.cells[at as usize].len;

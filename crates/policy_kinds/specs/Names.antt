@@ -1,0 +1,22 @@
+-- The names of the kinds (own rule).
+use Rattle.std.specs.Prelude.{ℕ, ◌==◌, List, [], ◌∷◌, Option, find, codes}
+use Rattle.std.specs.Cmp.Lexicographic.{pointwise}
+use Rattle.policy_kinds.specs.declared.kind.Kind.{Kind}
+use Rattle.policy_kinds.specs.declared.kind.Kind.TheVariants.{Plain, DropInvalid, PreferValid, ProviderFirst, Otc, DropInvalidOtc}
+
+-- the kind's name
+abbrev pub name_of : Kind → List ℕ
+name_of Plain = codes "plain"
+name_of DropInvalid = codes "drop-invalid"
+name_of PreferValid = codes "prefer-valid"
+name_of ProviderFirst = codes "provider-first"
+name_of Otc = codes "otc"
+name_of DropInvalidOtc = codes "drop-invalid+otc"
+
+-- all kinds
+abbrev pub kinds : List Kind
+kinds = Plain ∷ DropInvalid ∷ PreferValid ∷ ProviderFirst ∷ Otc ∷ DropInvalidOtc ∷ []
+
+-- the kind whose name the text is
+abbrev pub kind_named : List ℕ → Option Kind
+kind_named text = find (λ k. pointwise ◌==◌ text (name_of k)) kinds
