@@ -7,7 +7,7 @@ use std::marker::Model;
 /// A validated ROA payload (RFC 6811, section 2): a prefix, the greatest length of a route that it
 /// allows, and the number of the AS that may originate it, where 0 allows none (RFC 6483, section 4). Payloads
 /// are ordered by prefix, then by greatest length, then by number.
-#[derive(Clone, Copy, Debug, PartialEq, Eq, PartialOrd, Ord)]
+#[derive(Clone, Copy, Debug, PartialEq, Eq, PartialOrd, Ord, Hash)]
 pub struct Vrp {
     prefix: Prefix,
     max: u8,
