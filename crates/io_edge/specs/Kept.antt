@@ -4,24 +4,24 @@ use Rattle.std.specs.Str.{bytes_eq}
 use Rattle.io_edge.specs.Files.{NamedFile}
 use Rattle.io_edge.specs.declared.files.MemFile.{MemFile}
 
--- the file and its name
+-- The file and its name (own rule).
 abbrev pub seen : MemFile → NamedFile
 seen file = record { name = string_bytes file.name; bytes = file.bytes.items }
 
--- where the first file of this name stands
+-- Where the first file of this name stands (own rule).
 abbrev pub place_of : List MemFile → List ℕ → Option ℕ
 place_of files name = position (λ file. bytes_eq (string_bytes file.name) name) files
 
--- what a file holds from an offset on, and no file holds nothing
+-- What a file holds from an offset on; no file holds nothing (own rule).
 abbrev pub rest_of : Option MemFile → ℕ → List ℕ
 rest_of None at = []
 rest_of (Some file) at = drop at file.bytes.items
 
--- what is left of the file at the place that was begun
+-- What is left of the file at the place that was begun (own rule).
 abbrev pub left_of : List MemFile → Option ℕ → ℕ → List ℕ
 left_of files begun at = rest_of (option_and_then (λ place. slice_get files place) begun) at
 
--- the place that was begun is one of the files
+-- The place that was begun is one of the files (own rule).
 abbrev pub IsWithin : List MemFile → Option ℕ → Type 0
 IsWithin files None = Unit {0}
 IsWithin files (Some place) = place < length files

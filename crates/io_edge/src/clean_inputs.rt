@@ -35,7 +35,8 @@ impl CleanInputs {
 
     /// Puts in a file. A later call for the same name replaces the bytes, and what is left of a file that was begun stays.
     pub fn file(&mut self, name: &str, bytes: &[u8]) -> Result<(), NoMemory>
-        ensures ok { OnOk result (self.new ≡ record self.old { files = record { name = name.now; bytes = bytes.now } ∷ self.old.files }) }
+        ensures ok { OnOk result
+            (self.new ≡ record self.old { files = record { name = name.now; bytes = bytes.now } ∷ self.old.files }) }
         ensures err { OnErr result (self.new ≡ self.old) }
     {
         self.files.put(name, bytes)

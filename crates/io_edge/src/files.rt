@@ -53,7 +53,8 @@ impl NamedFiles {
 
     /// Puts a file in front. What is left of the file that was begun stays.
     pub(crate) fn put(&mut self, name: &str, bytes: &[u8]) -> Result<(), NoMemory>
-        ensures ok { OnOk result (self.new ≡ record self.old { files = record { name = name.now; bytes = bytes.now } ∷ self.old.files }) }
+        ensures ok { OnOk result
+            (self.new ≡ record self.old { files = record { name = name.now; bytes = bytes.now } ∷ self.old.files }) }
         ensures err { OnErr result (self.new ≡ self.old) }
     {
         let alloc = self.all.allocator();

@@ -35,7 +35,12 @@ impl Model for MemInputs {
 impl MemInputs {
     /// No files, no call that is to fail, and no bound on one `take`.
     pub fn new(alloc: Global) -> MemInputs
-        ensures { result ≡ record { files = []; left = []; calls = record { fails = []; made = 0; faults = 0 }; most = 2 ^ 64 - 1 } }
+        ensures { result ≡ record {
+          files = [];
+          left = [];
+          calls = record { fails = []; made = 0; faults = 0 };
+          most = 2 ^ 64 - 1;
+        } }
     {
         MemInputs {
             files: NamedFiles::new(alloc),
@@ -46,7 +51,8 @@ impl MemInputs {
 
     /// Puts in a file. A later call for the same name replaces the bytes, and what is left of a file that was begun stays.
     pub fn file(&mut self, name: &str, bytes: &[u8]) -> Result<(), NoMemory>
-        ensures ok { OnOk result (self.new ≡ record self.old { files = record { name = name.now; bytes = bytes.now } ∷ self.old.files }) }
+        ensures ok { OnOk result
+            (self.new ≡ record self.old { files = record { name = name.now; bytes = bytes.now } ∷ self.old.files }) }
         ensures err { OnErr result (self.new ≡ self.old) }
     {
         self.files.put(name, bytes)
@@ -54,7 +60,8 @@ impl MemInputs {
 
     /// The call of this number is to fail, besides those that were named before.
     pub fn fail_at(&mut self, call: u64) -> Result<(), NoMemory>
-        ensures ok { OnOk result (self.new ≡ record self.old { calls = record self.old.calls { fails = self.old.calls.fails ++ call ∷ [] } }) }
+        ensures ok { OnOk result
+            (self.new ≡ record self.old { calls = record self.old.calls { fails = self.old.calls.fails ++ call ∷ [] } }) }
         ensures err { OnErr result (self.new ≡ self.old) }
     {
         self.calls.fail_at(call)
@@ -82,7 +89,8 @@ impl Inputs for MemInputs {
 
     fn begin(&mut self, name: &str) -> Result<(), Failed>
         ensures fails { IsErr result ↔ (FailsNext self.old.calls ⊎ IsNone (held self.old.files name.now)) }
-        ensures ok { OnOk result (self.new ≡ record self.old { left = bytes_under self.old.files name.now; calls = after_call self.old.calls }) }
+        ensures ok { OnOk result
+            (self.new ≡ record self.old { left = bytes_under self.old.files name.now; calls = after_call self.old.calls }) }
         ensures err { OnErr result (self.new ≡ record self.old { left = []; calls = after_fault self.old.calls }) }
     {
         if self.calls.next() {
@@ -100,7 +108,8 @@ impl Inputs for MemInputs {
         ensures fails { IsErr result ↔ FailsNext self.old.calls }
         ensures count { IfOk result (λ n. n ≡ min self.old.most (min (length room.new) (length self.old.left))) }
         ensures bytes { IfOk result (λ n. take n room.new ≡ take n self.old.left) }
-        ensures ok { IfOk result (λ n. self.new ≡ record self.old { left = drop n self.old.left; calls = after_call self.old.calls }) }
+        ensures ok { IfOk result
+            (λ n. self.new ≡ record self.old { left = drop n self.old.left; calls = after_call self.old.calls }) }
         ensures err { OnErr result (self.new ≡ record self.old { calls = after_fault self.old.calls }) }
         ensures goes_on { ReadConsumes (Some self.old.left) (Some self.new.left) result room.new }
     {

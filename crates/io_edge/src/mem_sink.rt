@@ -48,7 +48,8 @@ impl MemSink {
 
     /// The call of this number is to fail, besides those that were named before.
     pub fn fail_at(&mut self, call: u64) -> Result<(), NoMemory>
-        ensures ok { OnOk result (self.new ≡ record self.old { calls = record self.old.calls { fails = self.old.calls.fails ++ call ∷ [] } }) }
+        ensures ok { OnOk result
+            (self.new ≡ record self.old { calls = record self.old.calls { fails = self.old.calls.fails ++ call ∷ [] } }) }
         ensures err { OnErr result (self.new ≡ self.old) }
     {
         self.calls.fail_at(call)
@@ -79,7 +80,8 @@ impl Sink for MemSink {
         ensures fails { IsErr result ↔ FailsNext self.old.calls }
         ensures count { IfOk result (λ n. n ≡ min self.old.most (length piece.now)) }
         ensures goes_on { 0 < length piece.now → IfOk result (λ n. 0 < n) }
-        ensures ok { IfOk result (λ n. self.new ≡ record self.old { kept = with_bytes self.old.kept (take n piece.now); calls = after_call self.old.calls }) }
+        ensures ok { IfOk result (λ n.
+            self.new ≡ record self.old { kept = with_bytes self.old.kept (take n piece.now); calls = after_call self.old.calls }) }
         ensures err { OnErr result (self.new ≡ record self.old { calls = after_fault self.old.calls }) }
     {
         if self.calls.next() {

@@ -30,10 +30,12 @@ pub fn read_all<I: Inputs>(
     limit: usize,
 ) -> Result<Vec<u8>, ReadAllError>
     requires { limit < 4294967295 }
-    ensures whole { IfOk result (λ bytes. (length bytes.items ≤ limit) × Keeps (I.holds inputs.old name.now) (Some bytes.items)) }
+    ensures whole { IfOk result
+        (λ bytes. (length bytes.items ≤ limit) × Keeps (I.holds inputs.old name.now) (Some bytes.items)) }
     // The file is longer, and one byte past the limit was taken.
     ensures too_long { IsErrOf result ReadAllError.TooLong →
-        IfSome (I.holds inputs.old name.now) (λ file. (limit < length file) × (I.left inputs.new ≡ Some (drop (limit + 1) file))) }
+        IfSome (I.holds inputs.old name.now)
+        (λ file. (limit < length file) × (I.left inputs.new ≡ Some (drop (limit + 1) file))) }
     ensures fault { IsErrOf result ReadAllError.ReadFault →
         Rose (I.faults inputs.old) (I.faults inputs.new) × (I.is_sound inputs.old name.now → ⊥) }
     // Where no call failed, only want of memory stands against the answer that the file asks for.

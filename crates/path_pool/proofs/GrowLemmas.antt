@@ -4,8 +4,9 @@ use Rattle.std.specs.List.{count_by, list_any}
 use Rattle.std.proofs.lemmas.Bool.{cases_eq, cases_lt, le-ltb, eq-eqb, ne_eqb}
 use Rattle.std.proofs.lemmas.List.{get_or_append_left, get_or_at, get_or_past}
 use Rattle.std.proofs.lemmas.List.Sums.{sum_by_push}
+use Rattle.net_names.specs.Numbers.{first_or}
 use Rattle.path_pool.specs.declared.pool.Cell.{Cell}
-use Rattle.path_pool.specs.Region.{blank, cell_at, walk, IsLive, is_live, is_above, cells_above, live_count, IsLinked, IsRegion, SameCells}
+use Rattle.path_pool.specs.Region.{blank, cell_at, list_of, walk, IsLive, is_live, is_above, cells_above, live_count, IsLinked, IsRegion, SameCells}
 use Rattle.path_pool.proofs.RegionLemmas.{live_inside, one_if, not_above, kind_same, lists_same, linked_same}
 
 grow_count : (p : Cell → Bool) (xs : List Cell) (y : Cell) → count_by p (xs ++ y ∷ []) ≡ count_by p xs + one_if (p y)
@@ -142,3 +143,7 @@ any_here cells n i number h e = ap (list_any (λ x. eqb x number)) (walk_more ce
 pub any_later : (cells : List Cell) (n i number : ℕ) → 0 < n → (cell_at cells i).head ≢ number →
     list_any (λ x. eqb x number) (walk cells n i) ≡ list_any (λ x. eqb x number) (walk cells (n - 1) (cell_at cells i).tail)
 any_later cells n i number h e = ap (list_any (λ x. eqb x number)) (walk_more cells n i h) ∙ ap (λ b. b || list_any (λ x. eqb x number) (walk cells (n - 1) (cell_at cells i).tail)) (ne_eqb (cell_at cells i).head number e)
+
+-- the first number of a path is its cell's
+pub first_or-list_of : (cells : List Cell) (i : ℕ) → 0 < (cell_at cells i).len → first_or 0 (list_of cells i) ≡ (cell_at cells i).head
+first_or-list_of cells i h = ap (first_or 0) (walk_more cells (cell_at cells i).len i h)

@@ -1,7 +1,7 @@
 //! What holds of every pool, whatever was called.
 
-ghost use Rattle.path_pool.specs.Pool.{IsLive, IsOver, count_of, holds_of, over_count, live_count, spare_of, limit_of};
-ghost use Rattle.std.specs.Prelude.{◌≡◌, ℕ, ◌+◌, ◌<◌, ◌≤◌, ◌⊎◌, ◌↔◌};
+ghost use Rattle.path_pool.specs.Pool.{IsLive, IsOver, list_of, count_of, holds_of, over_count, live_count, spare_of, limit_of};
+ghost use Rattle.std.specs.Prelude.{◌≡◌, ℕ, ◌+◌, ◌<◌, ◌≤◌, ◌⊎◌, ◌↔◌, length};
 
 use crate::PathPool;
 
@@ -20,4 +20,9 @@ pub fn needed_are_live(pool: &PathPool)
 pub fn cells_are_within(pool: &PathPool)
     ensures within { live_count pool.now + spare_of pool.now ≤ limit_of pool.now }
     ensures limit { limit_of pool.now < 4294967295 }
+{}
+
+/// A path has at least one AS.
+pub fn paths_are_not_empty(pool: &PathPool)
+    ensures { (k : ℕ) → IsLive pool.now k → 0 < length (list_of pool.now k) }
 {}

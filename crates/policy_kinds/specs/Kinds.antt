@@ -103,7 +103,7 @@ number_goes true (Some number) Customer = true
 number_goes true (Some number) Peer = false
 number_goes true (Some number) Provider = false
 
--- own and customers' routes are exported to every neighbour, peers' and providers' routes to customers only (Gao and Rexford 2001, section 2.2)
+-- own and customers' routes are exported to every neighbour, peers' and providers' routes to customers only (Gao and Rexford 2001)
 abbrev pub plain_exports : Class → Rel → Bool
 plain_exports class.Origin to = true
 plain_exports class.Customer to = true

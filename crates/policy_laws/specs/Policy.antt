@@ -7,7 +7,7 @@ use Rattle.net_names.specs.declared.routes.Rel.TheVariants.{Customer}
 use Rattle.net_names.specs.declared.routes.State.{State}
 use Rattle.policy_laws.specs.declared.policy.View.{View}
 
--- a policy says which offers it accepts, which of two it puts before the other, which held routes it exports to whom, whether it reads the validation state, and whether it marks routes (Gao and Rexford 2001, section 2; RFC 6811, section 3; RFC 9234, section 5)
+-- a policy says which offers it accepts, which of two it puts before the other, which held routes it exports to whom, whether it reads the validation state, and whether it marks routes (Gao and Rexford 2001; RFC 6811, section 3; RFC 9234, section 5)
 pub record Policy : Type 0 where
   pub accepts : View → Bool
   pub before : View → View → Bool
@@ -29,7 +29,7 @@ pub record RanksOffers (p : Policy) : Type 0 where
 abbrev pub PrefersCustomers : Policy → Type 0
 PrefersCustomers p = (x y : View) → x.rel ≡ Customer → y.rel ≢ Customer → IsTrue (p.before x y)
 
--- what a peer or a provider gave is exported to customers only (Gao and Rexford 2001, section 2.2; Gao 2001, valley-free paths)
+-- what a peer or a provider gave is exported to customers only (Gao and Rexford 2001; Gao 2001, valley-free paths)
 pub record ExportsDownOnly (p : Policy) : Type 0 where
   pub from_peer : (otc : Option ℕ) (to : Rel) → IsTrue (p.exports class.Peer otc to) → to ≡ Customer
   pub from_provider : (otc : Option ℕ) (to : Rel) → IsTrue (p.exports class.Provider otc to) → to ≡ Customer

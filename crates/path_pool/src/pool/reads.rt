@@ -1,6 +1,6 @@
 //! What a pool tells. No call here changes it.
 
-ghost use Rattle.net_names.specs.Numbers.{occurs};
+ghost use Rattle.net_names.specs.Numbers.{first_or, occurs};
 ghost use Rattle.std.specs.Prelude.{◌≡◌, ◌+◌, ◌<◌, ◌≤◌, ◌∷◌, length, IfSome, IfOk};
 
 use super::PathPool;
@@ -37,7 +37,8 @@ impl PathPool {
     /// The first AS of the path.
     pub fn head(&self, id: PathId) -> Asn
         requires { IsLive self.now id.0 }
-        ensures { result ≡ head_of self.now id.0 }
+        ensures value { result ≡ head_of self.now id.0 }
+        ensures first { result ≡ first_or 0 (list_of self.now id.0) }
     {
         self.cells[id.0 as usize].head
     }

@@ -1,0 +1,16 @@
+pub mod Chains
+pub mod Ranks
+pub mod Links
+pub mod Fitting
+pub mod EditsLemmas
+pub mod RowLemmas
+pub mod RowLinks
+pub mod RowAses
+pub mod Building
+pub mod OrderLemmas
+pub mod Kept
+pub mod RowWrites
+pub mod Marking
+pub mod EndLemmas
+pub mod Gathering
+pub mod RowsOfLinks

@@ -1,0 +1,24 @@
+use Rattle.std.proofs.Common.{rules, ◌≡◌, take, ap, ◌∙◌, arith}
+use Rattle.std.specs.FinMap as map
+use Rattle.std.proofs.lemmas.List.{take_all}
+use Rattle.std.proofs.lemmas.List.Sorted.{answers_always, IsNonDecreasingBy-from_sort}
+use Rattle.as_graph.specs.declared.ends.End.{End}
+use Rattle.as_graph.specs.Ends.{higher_ends, ends_at}
+use Rattle.as_graph.proofs.EndLemmas.{past_end, higher_ends-next, ends_at-stable}
+use Rattle.as_graph.proofs.ends.higher_side.Goals as goal
+
+pub unreachable-requires : goal.unreachable-requires
+unreachable-requires c = omega (arith, past_end (map.entries c.args.links.now) c.loop-place.place c.in_default.ensures.value, map.len-entries c.args.links.now, c.len-place-end.ensures.value, c.loop-place-test.true)
+
+pub loop-place-preserved : goal.loop-place-preserved
+loop-place-preserved c =
+    c.in_ok-push.ensures.items ∙ higher_ends-next (map.entries c.args.links.now) c.loop-place.place c.in-Some.link.lo c.in-Some.link.hi c.in-Some.link.rel c.in-Some.ensures.value c.loop-place.ends.items c.converse.result c.converse.ensures c.loop-place.invariant
+
+pub returns-clause-ends : goal.returns-clause-ends
+returns-clause-ends c = λ a.
+    let all : take c.loop-place.place (map.entries c.args.links.now) ≡ map.entries c.args.links.now = take_all c.loop-place.place (map.entries c.args.links.now) (omega (arith, map.len-entries c.args.links.now, c.len-place-end.ensures.value, c.loop-place-test.false)) in
+    ends_at-stable c.loop-place.ends.items c.sort_by_key.new.self.items (c.sort_by_key.ensures.stable (λ (e : End). e.at) (answers_always _ _ _ (λ f a r g called. search rules))) a
+    ∙ ap (ends_at a) (c.loop-place.invariant ∙ ap higher_ends all)
+
+pub returns-clause-by_as : goal.returns-clause-by_as
+returns-clause-by_as c = IsNonDecreasingBy-from_sort (λ (e : End). e.at) c.sort_by_key.new.self.items (c.in_ok-sort_by_key.ensures.sorted (λ (e : End). e.at) (answers_always _ _ _ (λ f a r g called. search rules)))

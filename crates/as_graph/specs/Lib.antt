@@ -1,0 +1,11 @@
+pub mod Topology
+pub mod Hierarchy
+pub mod Neighbours
+pub mod Edits
+pub mod Following
+pub mod Refusals
+pub mod Order
+pub mod Rows
+pub mod Ends
+pub mod Graphs
+pub mod Gathering

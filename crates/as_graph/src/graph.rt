@@ -1,0 +1,157 @@
+//! The graph.
+ghost use Rattle.std.specs.Prelude.{◌≡◌, ◌<◌, ◌≤◌, ℕ, length, nat_eq, true, false, IfOk, IfErr, OnOk, OnErr, IfSome, IfNone};
+ghost use Rattle.std.specs.List.{IsDistinct};
+ghost use Rattle.std.specs.List.Sorted.{IsStrictlyIncreasing};
+ghost use Rattle.std.specs.FinMap as map;
+ghost use Rattle.std.specs.FinSet as set;
+ghost use Rattle.net_names.specs.Numbers.{occurs};
+ghost use Rattle.as_graph.specs.Neighbours.{AreNeighbours};
+ghost use Rattle.as_graph.specs.Topology.{what, has, as_count, unmarked, with_mark};
+ghost use Rattle.as_graph.specs.Following.{IsAbove, IsNext};
+
+use crate::build::{MOST_ASES, make_row, order_of, rows_of, set_mark};
+use crate::error::GraphError;
+use crate::neighbour::Neighbour;
+use crate::order::{put_in_order, start_above};
+use crate::row::Row;
+use indexmap::IndexMap;
+use net_names::{Asn, Links, Rel};
+use std::alloc::Global;
+use std::marker::Model;
+
+/// Links between ASes, and marked ASes. Contracts see the finite map of the links and the set of the
+/// marked ASes. The ASes of the graph are the ends of its links and the marked ASes, at most 150,000;
+/// the links are at most 1,500,000.
+#[derive(Drop)]
+pub struct Graph {
+    alloc: Global,
+    rows: IndexMap<Asn, Row>,
+    order: Vec<Asn>,
+    links: usize,
+}
+
+impl Model for Graph {
+    ghost use Rattle.as_graph.specs.Topology.{Topology, topology_code};
+
+    ghost Value = { Topology };
+
+    ghost coded = { topology_code };
+
+    ghost use Rattle.as_graph.specs.Graphs.{topology_of, IsKept};
+
+    ghost view = { λ g. topology_of g.rows };
+
+    ghost invariant = { λ g. IsKept g.rows g.order.items g.links };
+}
+
+impl Graph {
+    ghost use Rattle.as_graph.specs.Refusals.{IsBuildRefusal, IsMarkRefusal};
+
+    /// The graph with just these links and no marks. `TooManyAses` exactly where their ends are more
+    /// than 150,000, unless there is not enough memory.
+    pub fn build(alloc: Global, links: &Links) -> Result<Graph, GraphError>
+        ensures ok { IfOk result (λ g. g ≡ unmarked links.now) }
+        ensures few { OnOk result (as_count (unmarked links.now) ≤ 150000) }
+        ensures refused { IfErr result (IsBuildRefusal links.now) }
+    {
+        let rows = rows_of(alloc, links)?;
+        let order = order_of(alloc, &rows)?;
+        Ok(Graph {
+            alloc,
+            rows,
+            order,
+            links: links.len(),
+        })
+    }
+
+    /// Marks an AS, so that it is an AS of the graph even without a link. A marked AS may be marked
+    /// again. `TooManyAses` exactly where the AS is new and there are 150,000, unless there is not
+    /// enough memory for a new AS. After a refusal the graph is as it was.
+    pub fn mark(&mut self, asn: Asn) -> Result<(), GraphError>
+        ensures ok { OnOk result (self.new ≡ with_mark self.old asn) }
+        ensures few { OnOk result (has self.old asn ≡ false → as_count self.old < 150000) }
+        ensures err { OnErr result (self.new ≡ self.old) }
+        ensures refused { IfErr result (IsMarkRefusal self.old asn) }
+    {
+        if self.has(asn) {
+            set_mark(&mut self.rows, asn);
+            return Ok(());
+        }
+        if self.order.len() >= MOST_ASES {
+            return Err(GraphError::TooManyAses);
+        }
+        self.order.reserve(1)?;
+        make_row(&mut self.rows, self.alloc, asn)?;
+        put_in_order(&mut self.order, asn);
+        set_mark(&mut self.rows, asn);
+        Ok(())
+    }
+
+    /// What `b` is to `a`; `None` exactly where they have no link.
+    pub fn rel(&self, a: Asn, b: Asn) -> Option<Rel>
+        ensures { result ≡ what self.now a b }
+    {
+        self.rows.get(&a)?.rel(b)
+    }
+
+    /// The neighbours of an AS in rising order of their numbers; none where the AS is not there.
+    pub fn neighbours(&self, asn: Asn) -> &[Neighbour]
+        ensures { AreNeighbours (what self.now) asn result.now }
+    {
+        match self.rows.get(&asn) {
+            Some(row) => row.as_slice(),
+            None => &[],
+        }
+    }
+
+    /// Whether the AS is an AS of the graph.
+    pub fn has(&self, asn: Asn) -> bool
+        ensures { result ≡ has self.now asn }
+    {
+        match self.rows.get(&asn) {
+            Some(row) => row.is_needed(),
+            None => false,
+        }
+    }
+
+    /// The least AS above `after`, or the least of all where there is no bound; `None` exactly where
+    /// there is none.
+    pub fn next(&self, after: Option<Asn>) -> Option<Asn>
+        ensures found { IfSome result (IsNext self.now after) }
+        ensures none { IfNone result ((k : ℕ) → IsAbove after k → has self.now k ≡ false) }
+    {
+        let order = self.order.as_slice();
+        let at = start_above(order, after);
+        if at < order.len() {
+            Some(order[at])
+        } else {
+            None
+        }
+    }
+
+    /// The ASes of the graph in rising order of their numbers.
+    pub fn ases(&self) -> &[Asn]
+        ensures listed { (a : ℕ) → occurs a result.now ≡ has self.now a }
+        ensures apart { IsDistinct nat_eq result.now }
+        ensures counted { length result.now ≡ as_count self.now }
+        ensures rising { IsStrictlyIncreasing result.now }
+    {
+        self.order.as_slice()
+    }
+
+    /// How many ASes the graph has, at most 150,000.
+    pub fn as_count(&self) -> usize
+        ensures value { result ≡ as_count self.now }
+        ensures few { result ≤ 150000 }
+    {
+        self.order.len()
+    }
+
+    /// How many links the graph has, at most 1,500,000.
+    pub fn link_count(&self) -> usize
+        ensures value { result ≡ map.len self.now.links }
+        ensures few { result ≤ 1500000 }
+    {
+        self.links
+    }
+}

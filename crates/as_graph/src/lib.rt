@@ -1,0 +1,23 @@
+//! The graph of ASes: links between customers, peers and providers, and marked ASes.
+//!
+//! Contracts see a graph as a finite map of links and a finite set of marked ASes. Its ASes are the
+//! ends of its links and the marked ones. The neighbours of an AS, and the ASes, come in rising order
+//! of their numbers. The laws say what provider cycles and ranks are, for any graph.
+#![tactic(auto)]
+
+mod build;
+mod ends;
+mod error;
+mod graph;
+mod laws;
+mod neighbour;
+mod order;
+mod row;
+
+pub use error::GraphError;
+pub use graph::Graph;
+pub use laws::{fitting_are_ranks, links_are_set, links_are_sound, one_rank, ranks_fit};
+pub use neighbour::Neighbour;
+
+#[cfg(test)]
+mod tests;

@@ -1,0 +1,87 @@
+//! The neighbours of one AS.
+ghost use Rattle.std.specs.Prelude.{◌≡◌, ◌<◌, ◌≤◌, ◌+◌, ◌++◌, ◌∷◌, [], ◌||◌, nat_lt, length, Bool, true, false, IfOk, IfErr, OnOk, OnErr};
+ghost use Rattle.as_graph.specs.Rows.{IsRising};
+
+use crate::neighbour::Neighbour;
+use net_names::{Asn, Rel};
+use smallvec::SmallVec;
+use std::alloc::{AllocError, Global};
+
+/// The neighbours of an AS in rising order of their numbers, and whether the AS is marked.
+#[derive(Drop)]
+pub struct Row {
+    marked: bool,
+    neighbours: SmallVec<Neighbour, 2>,
+    ghost rising: { IsRising neighbours.items },
+}
+
+impl Row {
+    ghost use Rattle.as_graph.specs.Rows.{rel_in, IsAt, IsGapFor, AreBelow};
+    ghost use Rattle.smallvec.specs.SmallVec.{small_vec_len};
+
+    /// The row of an AS without neighbours and without a mark.
+    pub fn new(alloc: Global) -> Row
+        ensures none { result.neighbours.items ≡ [] }
+        ensures unmarked { result.marked ≡ false }
+    {
+        Row {
+            marked: false,
+            neighbours: SmallVec::new(alloc),
+        }
+    }
+
+    /// The neighbours.
+    pub fn as_slice(&self) -> &[Neighbour]
+        ensures value { result.now ≡ self.now.neighbours.items }
+        ensures rising { IsRising self.now.neighbours.items }
+    {
+        self.neighbours.as_slice()
+    }
+
+    /// Whether there is a reason to count the AS: its mark, or a neighbour.
+    pub fn is_needed(&self) -> bool
+        ensures { result ≡ (self.now.marked || nat_lt 0 (length self.now.neighbours.items)) }
+    {
+        self.marked || !self.neighbours.is_empty()
+    }
+
+    /// Marks the AS.
+    pub fn mark(&mut self)
+        ensures marked { self.new.marked ≡ true }
+        ensures same { self.new.neighbours.items ≡ self.old.neighbours.items }
+    {
+        self.marked = true;
+    }
+
+    // Where the number is, or where it would go.
+    fn search(&self, asn: Asn) -> Result<usize, usize>
+        ensures found { IfOk result (IsAt self.now.neighbours.items asn) }
+        ensures absent { IfErr result (IsGapFor self.now.neighbours.items asn) }
+    {
+        self.neighbours
+            .as_slice()
+            .binary_search_by_key(&asn, |n| n.asn)
+    }
+
+    /// What a neighbour is; nothing where the number is no neighbour's.
+    pub fn rel(&self, asn: Asn) -> Option<Rel>
+        ensures { result ≡ rel_in self.now.neighbours.items asn }
+    {
+        match self.search(asn) {
+            Ok(at) => {
+                let all = self.neighbours.as_slice();
+                Some(all[at].rel)
+            }
+            Err(_) => None,
+        }
+    }
+
+    /// Puts a neighbour behind the others.
+    pub fn push(&mut self, asn: Asn, rel: Rel) -> Result<(), AllocError>
+        requires { AreBelow self.old.neighbours.items asn }
+        ensures ok { OnOk result (self.new.neighbours.items ≡ self.old.neighbours.items ++ record { asn = asn; rel = rel } ∷ []) }
+        ensures marked { self.new.marked ≡ self.old.marked }
+    {
+        Ok(self.neighbours.push(Neighbour { asn, rel })?)
+    }
+}

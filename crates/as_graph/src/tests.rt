@@ -1,0 +1,116 @@
+//! A small graph worked by hand, and graphs at the limits.
+ghost use Rattle.std.specs.Prelude.{◌≤◌};
+
+use crate::*;
+use net_names::{Asn, Links, Rel};
+use std::alloc::Global;
+use std::test::Fail;
+
+/// Sets a link of two numbers, where the second is to the first what `rel` says.
+fn put(links: &mut Links, a: u32, b: u32, rel: Rel) -> Result<(), Fail> {
+    let a = Asn::new(a).ok_or("a number")?;
+    let b = Asn::new(b).ok_or("a number")?;
+    if a != b {
+        links.set(a, b, rel)?;
+    }
+    Ok(())
+}
+
+/// The graph of the links 1|2, 1|3, 2|4 and 3|4, provider first, with 9 marked.
+fn diamond(alloc: Global) -> Result<Graph, Fail> {
+    let mut links = Links::new(alloc);
+    for (provider, customer) in [(3, 4), (1, 2), (2, 4), (1, 3)] {
+        put(&mut links, provider, customer, Rel::Customer)?;
+    }
+    let mut graph = Graph::build(alloc, &links)?;
+    for number in [9, 9, 2] {
+        graph.mark(Asn::new(number).ok_or("a number")?)?;
+    }
+    Ok(graph)
+}
+
+#[test]
+fn neighbours_of_a_diamond_are_seen_from_both_ends(rt: HostRuntime) -> Result<(), Fail> {
+    let graph = diamond(rt.alloc())?;
+    let rows: [(u32, &[(u32, Rel)]); 6] = [
+        (1, &[(2, Rel::Customer), (3, Rel::Customer)]),
+        (2, &[(1, Rel::Provider), (4, Rel::Customer)]),
+        (3, &[(1, Rel::Provider), (4, Rel::Customer)]),
+        (4, &[(2, Rel::Provider), (3, Rel::Provider)]),
+        (5, &[]),
+        (9, &[]),
+    ];
+    for (a, neighbours) in &rows {
+        let a = Asn::new(*a).ok_or("a number")?;
+        let found = graph.neighbours(a);
+        assert_eq!(rt; found.len(), neighbours.len());
+        for (neighbour, (b, rel)) in found.iter().zip(neighbours.iter()) {
+            assert_eq!(rt; neighbour.asn.get(), *b);
+            assert_eq!(rt; neighbour.rel, *rel);
+            assert_eq!(rt; graph.rel(a, neighbour.asn), Some(*rel));
+        }
+        assert!(rt; graph.rel(a, a).is_none());
+    }
+    Ok(())
+}
+
+#[test]
+fn ases_of_a_diamond_come_in_rising_order(rt: HostRuntime) -> Result<(), Fail> {
+    let graph = diamond(rt.alloc())?;
+    let mut last = None;
+    for number in [1, 2, 3, 4, 9] {
+        last = graph.next(last);
+        assert!(rt; last == Asn::new(number));
+    }
+    assert!(rt; graph.next(last).is_none());
+    assert!(rt; graph.next(Asn::new(5)) == Asn::new(9));
+    assert!(rt; graph.ases().last().copied() == last);
+    assert!(rt; graph.has(Asn::new(4).ok_or("a number")?));
+    assert!(rt; !graph.has(Asn::new(5).ok_or("a number")?));
+    assert_eq!(rt; graph.as_count(), 5);
+    assert_eq!(rt; graph.link_count(), 4);
+    Ok(())
+}
+
+#[test]
+fn no_links_make_a_graph_without_ases(rt: HostRuntime) -> Result<(), Fail> {
+    let graph = Graph::build(rt.alloc(), &Links::new(rt.alloc()))?;
+    assert_eq!(rt; graph.as_count(), 0);
+    assert_eq!(rt; graph.link_count(), 0);
+    assert!(rt; graph.next(None).is_none());
+    Ok(())
+}
+
+/// So many links of two ASes that no other link has.
+fn disjoint(alloc: Global, count: u32) -> Result<Links, Fail>
+    requires { count ≤ 1000000 }
+{
+    let mut links = Links::new(alloc);
+    for i in 0..count {
+        put(&mut links, i * 2 + 1, i * 2 + 2, Rel::Peer)?;
+    }
+    Ok(links)
+}
+
+#[test]
+fn more_than_150000_ases_are_refused(rt: HostRuntime) -> Result<(), Fail> {
+    let mut graph = Graph::build(rt.alloc(), &disjoint(rt.alloc(), 75_000)?)?;
+    assert_eq!(rt; graph.as_count(), 150_000);
+    let new = Asn::new(150_001).ok_or("a number")?;
+    assert!(rt; graph.mark(new) == Err(GraphError::TooManyAses));
+    let links = disjoint(rt.alloc(), 75_001)?;
+    match Graph::build(rt.alloc(), &links) {
+        Ok(_) => assert!(rt; false),
+        Err(e) => assert!(rt; e == GraphError::TooManyAses),
+    }
+    Ok(())
+}
+
+#[test]
+fn laws_are_called() {
+    fitting_are_ranks();
+    ranks_fit();
+    one_rank();
+    links_are_sound();
+    links_are_set();
+}

@@ -1,0 +1,106 @@
+-- Answers to lines, one after the other.
+use Rattle.std.proofs.Common.{◌≡◌, ◌<◌, ◌≤◌, ◌+◌, ◌||◌, ℕ, Bool, true, false, List, [], ◌∷◌, ◌++◌, length, take, get_or, Option, refl, sym, ◌∙◌, append_assoc, append-nil, arith, length-append, ◌⊎◌, inl, inr, cond, nat_lt, ◌^◌, ◌-◌}
+use Rattle.std.proofs.Math.Seq.{take-append-add}
+use Rattle.std.proofs.lemmas.List.{take_more, take_all}
+use Rattle.std.proofs.lemmas.Bool.{ltb-true, ltb-false}
+use Rattle.io_edge.specs.Faults.{Rose}
+use Rattle.io_edge.specs.Bytes.{Appends, AppendsFront}
+use Rattle.io_edge.proofs.Appending.{Appends-nil, Appends-trans}
+use Rattle.asprop.specs.World.{World}
+use Rattle.asprop.specs.Told.{Answered, Told}
+use Rattle.asprop.specs.Written.{WroteAll, WroteWhole, WroteFront}
+use Rattle.asprop.specs.declared.types.Line.{Line}
+
+-- What follows is told of the lines that follow, and so of all.
+pub record SoFar (heads : Bool) (start now : World) (lines : List Line) (refused : Bool) (old new : Option (List ℕ)) : Type 0 where
+  pub text : List ℕ
+  pub appends : Appends old new text
+  pub told : (more : List Line) (rest : List ℕ) (others : Bool) → Told heads now more rest others → Told heads start (lines ++ more) (text ++ rest) (refused || others)
+
+pub begun : (heads : Bool) (w : World) (old : Option (List ℕ)) → SoFar heads w w [] false old old
+begun heads w old = record { text = []; appends = Appends-nil old; told = λ more rest others h. h }
+
+or_assoc : (a b c : Bool) → ((a || b) || c) ≡ (a || (b || c))
+or_assoc true b c = refl
+or_assoc false b c = refl
+
+-- one more line
+more_told : (heads : Bool) (start now after : World) (lines : List Line) (line : Line) (refused first : Bool) (text front : List ℕ)
+    → ((more : List Line) (rest : List ℕ) (others : Bool) → Told heads now more rest others → Told heads start (lines ++ more) (text ++ rest) (refused || others))
+    → Answered heads now line front first after
+    → (more : List Line) (rest : List ℕ) (others : Bool) → Told heads after more rest others → Told heads start ((lines ++ line ∷ []) ++ more) ((text ++ front) ++ rest) ((refused || first) || others)
+more_told heads start now after lines line refused first text front told answered more rest others h =
+    rw (append_assoc lines (line ∷ []) more, append_assoc text front rest, or_assoc refused first others)
+    (told (line ∷ more) (front ++ rest) (first || others) (front, rest, first, others, after, answered, h, refl, refl))
+
+-- one more line, whose answer was written
+pub one_more : (heads : Bool) (start now after : World) (lines : List Line) (line : Line) (refused first : Bool) (old mid new : Option (List ℕ)) (front : List ℕ)
+    → SoFar heads start now lines refused old mid → Answered heads now line front first after → Appends mid new front
+    → SoFar heads start after (lines ++ line ∷ []) (refused || first) old new
+one_more heads start now after lines line refused first old mid new front so answered appends = record {
+  text = so.text ++ front;
+  appends = Appends-trans old mid new so.text front so.appends appends;
+  told = more_told heads start now after lines line refused first so.text front so.told answered;
+}
+
+or_false : (b : Bool) → (b || false) ≡ b
+or_false true = refl
+or_false false = refl
+
+-- nothing follows
+pub ended : (heads : Bool) (start now : World) (lines : List Line) (refused : Bool) (old new : Option (List ℕ)) → SoFar heads start now lines refused old new → WroteAll heads start lines refused old new
+ended heads start now lines refused old new so = record {
+  text = so.text;
+  told = rw (append-nil lines, append-nil so.text, or_false refused) at (so.told [] [] false (refl, refl));
+  appends = so.appends;
+}
+
+-- a front of a front
+pub Appends-front : (a b c : Option (List ℕ)) (x y : List ℕ) → Appends a b x → AppendsFront b c y → AppendsFront a c (x ++ y)
+Appends-front a b c x y p q = (length x + q.0, omega (arith, length-append x y, q.1), rw (take-append-add x y q.0) (Appends-trans a b c x (take q.0 y) p q.2))
+
+or_first : (refused first after : Bool) → first ≡ true → after ≡ true → after ≡ (refused || first)
+or_first true first after p q = q
+or_first false first after p q = q ∙ sym p
+
+or_other : (refused first after : Bool) → first ≡ false → after ≡ refused → after ≡ (refused || first)
+or_other true first after p q = q
+or_other false first after p q = q ∙ sym p
+
+-- one of the two ways that the program goes on
+pub either : (refused first after : Bool) → ((first ≡ true) × (after ≡ true)) ⊎ ((first ≡ false) × (after ≡ refused)) → after ≡ (refused || first)
+either refused first after (inl h) = or_first refused first after h.0 h.1
+either refused first after (inr h) = or_other refused first after h.0 h.1
+
+pub whole : (heads : Bool) (start now : World) (lines : List Line) (i : ℕ) (refused : Bool) (old new : Option (List ℕ)) → SoFar heads start now (take i lines) refused old new → WroteWhole heads start lines old new
+whole heads start now lines i refused old new so = record { count = i; refused = refused; wrote = ended heads start now (take i lines) refused old new so }
+
+pub all : (heads : Bool) (start now : World) (lines : List Line) (i : ℕ) (refused : Bool) (old new : Option (List ℕ)) → SoFar heads start now (take i lines) refused old new → length lines ≤ i → WroteAll heads start lines refused old new
+all heads start now lines i refused old new so h = rw (take_all i lines h) at (ended heads start now (take i lines) refused old new so)
+
+pub next : (heads : Bool) (start now after : World) (lines : List Line) (i : ℕ) (d : Line) (refused first : Bool) (old mid new : Option (List ℕ)) (front : List ℕ) → i < length lines
+    → SoFar heads start now (take i lines) refused old mid → Answered heads now (get_or lines i d) front first after → Appends mid new front
+    → SoFar heads start after (take (i + 1) lines) (refused || first) old new
+next heads start now after lines i d refused first old mid new front l so answered appends =
+    rw (take_more lines i d l) (one_more heads start now after (take i lines) (get_or lines i d) refused first old mid new front so answered appends)
+
+-- the answer to one more line was written in part
+pub part : (heads : Bool) (start now after : World) (lines : List Line) (i : ℕ) (d : Line) (refused first : Bool) (old mid new : Option (List ℕ)) (front : List ℕ) → i < length lines
+    → SoFar heads start now (take i lines) refused old mid → Answered heads now (get_or lines i d) front first after → AppendsFront mid new front
+    → WroteFront heads start lines old new
+part heads start now after lines i d refused first old mid new front l so answered appends =
+    let told : Told heads start (take (i + 1) lines) (so.text ++ front) (refused || first) =
+    rw (take_more lines i d l)
+    (rw (append-nil (take i lines ++ get_or lines i d ∷ []), append-nil (so.text ++ front), or_false (refused || first)) at
+    (more_told heads start now after (take i lines) (get_or lines i d) refused first so.text front so.told answered [] [] false (refl, refl))) in
+    record { count = i + 1; text = so.text ++ front; refused = refused || first; told = told; appends = Appends-front old mid new so.text front so.appends appends }
+
+rose_by : (x y : Bool) (a b c m : ℕ) → (x ≡ true → a < m) → (y ≡ false → m ≤ b) → a ≤ b → cond y (b + 1) b ≤ c → cond x (a + 1) a ≤ c
+rose_by true true a b c m low high le h = omega (arith, le, h)
+rose_by true false a b c m low high le h = omega (arith, low refl, high refl, h)
+rose_by false true a b c m low high le h = omega (arith, le, h)
+rose_by false false a b c m low high le h = omega (arith, le, h)
+
+-- a count that rose from a later value rose from an earlier one
+pub rose_earlier : (a b c : ℕ) → a ≤ b → Rose b c → Rose a c
+rose_earlier a b c le h = rose_by (nat_lt a (2 ^ 64 - 1)) (nat_lt b (2 ^ 64 - 1)) a b c (2 ^ 64 - 1) (ltb-true a (2 ^ 64 - 1)) (ltb-false b (2 ^ 64 - 1)) le h

@@ -1,0 +1,10 @@
+pub mod ReadLemmas
+pub mod Announcing
+pub mod Marking
+pub mod Routing
+pub mod Seeding
+pub mod Preparing
+pub mod Answering
+pub mod Ending
+pub mod StatusLemmas
+pub mod Feeding

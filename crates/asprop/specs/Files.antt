@@ -1,0 +1,45 @@
+-- What was read of the files, and what comes of it.
+use Rattle.std.specs.Prelude.{ℕ, ◌≡◌, List, [], Option, Some, None, Result, Ok, Err}
+use Rattle.std.specs.Io.KnownBytes.{Keeps}
+use Rattle.asprop.specs.Words.{name_in}
+use Rattle.asprop.specs.Task.{Task, Reads, task_of}
+use Rattle.asprop.specs.declared.types.File.{File}
+use Rattle.asprop.specs.declared.types.Fault.{Fault}
+use Rattle.asprop.specs.declared.types.Stop.{Stop}
+use Rattle.asprop.specs.declared.types.Stop.TheVariants as stop
+
+-- A file was read whole, or a read of it failed: then the faults rose, and the name wasn't sound.
+abbrev pub IsRead : Option (List ℕ) → Type 0 → Type 0 → Option (List ℕ) → Type 0
+IsRead held sound rose (Some bytes) = Keeps held (Some bytes)
+IsRead held sound rose None = rose × (sound → ⊥)
+
+-- A file was read under its name. One that isn't named counts as empty.
+abbrev pub IsReadAs : (List ℕ → Option (List ℕ)) → (List ℕ → Type 0) → Type 0 → Option (List ℕ) → Option (List ℕ) → Type 0
+IsReadAs holds sound rose None read = read ≡ Some []
+IsReadAs holds sound rose (Some name) read = IsRead (holds name) (sound name) rose read
+
+-- each file was read under the name that the words give it
+abbrev pub AreReads : (List ℕ → Option (List ℕ)) → (List ℕ → Type 0) → Type 0 → List (List ℕ) → Reads → Type 0
+AreReads holds sound rose words reads = (file : File) → IsReadAs holds sound rose (name_in words file) (reads file)
+
+-- what was prepared is the value, unless memory ran out
+abbrev pub IsStop : {A : Type 0} → Stop → Result A Fault → Type 0
+IsStop stop.Memory value = Unit {0}
+IsStop (stop.Fault fault) value = value ≡ Err fault
+IsStop _ value = ⊥
+
+abbrev pub Finds : {X A : Type 0} → (X → A) → Result X Stop → Result A Fault → Type 0
+Finds view (Ok x) value = value ≡ Ok (view x)
+Finds view (Err e) value = IsStop e value
+
+-- One file was read under a name, and what was found is the value of what was read.
+pub record ReadsTo {X A : Type 0} (held : Option (List ℕ)) (sound rose : Type 0) (view : X → A) (result : Result X Stop) (value : Option (List ℕ) → Result A Fault) : Type 0 where
+  pub read : Option (List ℕ)
+  pub is_read : IsRead held sound rose read
+  pub finds : Finds view result (value read)
+
+-- The files were read under the names of the words, and what was found is the task of what was read.
+pub record Prepares {X : Type 0} (holds : List ℕ → Option (List ℕ)) (sound : List ℕ → Type 0) (rose : Type 0) (words : List (List ℕ)) (view : X → Task) (result : Result X Stop) : Type 0 where
+  pub reads : Reads
+  pub are_read : AreReads holds sound rose words reads
+  pub finds : Finds view result (task_of words reads)

@@ -1,0 +1,11 @@
+pub mod World
+pub mod Words
+pub mod Task
+pub mod Told
+pub mod Texts
+pub mod Files
+pub mod Written
+pub mod Ran
+pub mod Statuses
+pub mod Seen
+pub mod Seeds

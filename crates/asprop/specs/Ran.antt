@@ -1,0 +1,92 @@
+-- How a run ends, what it writes, and what it says of a fault.
+use Rattle.std.specs.Prelude.{ℕ, ◌≡◌, ◌⊎◌, Bool, true, false, List, [], Option, Result, Ok, Err, codes}
+use Rattle.io_edge.specs.Bytes.{Appends, AppendsFront}
+use Rattle.as_graph.specs.Topology.{what}
+use Rattle.cycle_check.specs.Cycles.{IsCycleFromLowest}
+use Rattle.asprop.specs.World.{World, topology}
+use Rattle.asprop.specs.Task.{Task, Reads, task_of}
+use Rattle.asprop.specs.Told.{HasCycle}
+use Rattle.asprop.specs.Texts.{status_of, fault_text, message, cycle_text}
+use Rattle.asprop.specs.Files.{AreReads}
+use Rattle.asprop.specs.Written.{WroteAll, WroteWhole, WroteFront}
+use Rattle.asprop.specs.declared.types.Fault.{Fault}
+use Rattle.asprop.specs.declared.types.Stop.{Stop}
+use Rattle.asprop.specs.declared.types.Stop.TheVariants as stop
+use Rattle.asprop.specs.declared.types.Status.{Status}
+use Rattle.asprop.specs.declared.types.Status.TheVariants as status
+
+-- how a run over a task or a fault ends, and what is written
+abbrev pub Ends : Result Task Fault → Status → Option (List ℕ) → Option (List ℕ) → Type 0 → Type 0
+Ends (Err fault) status.NoMemory old new rose = Appends old new []
+Ends (Err fault) s old new rose = (s ≡ status_of fault) × Appends old new []
+Ends (Ok task) status.Done old new rose = (HasCycle task.world → ⊥) × WroteAll task.heads task.world task.lines false old new
+Ends (Ok task) status.SomeRefused old new rose = (HasCycle task.world → ⊥) × WroteAll task.heads task.world task.lines true old new
+Ends (Ok task) status.BadInput old new rose = HasCycle task.world × Appends old new []
+Ends (Ok task) status.WriteFault old new rose = rose × (HasCycle task.world → ⊥) × WroteFront task.heads task.world task.lines old new
+Ends (Ok task) status.NoMemory old new rose = WroteWhole task.heads task.world task.lines old new × (HasCycle task.world → Appends old new [])
+Ends (Ok task) s old new rose = ⊥
+
+-- the cycle is a provider cycle of the world, told from its lowest number on
+abbrev pub IsCycle : World → List ℕ → Type 0
+IsCycle w cycle = IsCycleFromLowest (what (topology w)) cycle
+
+-- the text for a status
+abbrev pub Explains : List (List ℕ) → Result Task Fault → Status → List ℕ → Type 0
+Explains words task status.Done text = text ≡ []
+Explains words task status.SomeRefused text = text ≡ []
+Explains words task status.NoMemory text = text ≡ message (codes "out of memory")
+Explains words task status.WriteFault text = text ≡ message (codes "write fault")
+Explains words (Err fault) s text = text ≡ fault_text words fault
+Explains words (Ok task) s text = (cycle : List ℕ) × IsCycle task.world cycle × (text ≡ cycle_text cycle)
+
+-- the text was written, or a front of it where the sink failed
+abbrev pub Reports : List ℕ → Option (List ℕ) → Option (List ℕ) → Type 0 → Type 0
+Reports text old new rose = Appends old new text ⊎ (rose × AppendsFront old new text)
+
+-- A run: what was read of the files, how it ends, what it writes, and what it says of a fault.
+pub record Ran (holds : List ℕ → Option (List ℕ)) (sound : List ℕ → Type 0) (read_rose : Type 0) (words : List (List ℕ)) (s : Status)
+    (out_old out_new : Option (List ℕ)) (out_rose : Type 0) (err_old err_new : Option (List ℕ)) (err_rose : Type 0) : Type 0 where
+  pub reads : Reads
+  pub are_read : AreReads holds sound read_rose words reads
+  pub ends : Ends (task_of words reads) s out_old out_new out_rose
+  pub text : List ℕ
+  pub explains : Explains words (task_of words reads) s text
+  pub reports : Reports text err_old err_new err_rose
+
+-- how the work before the report ends
+abbrev pub Works : Result Task Fault → Result Bool Stop → Option (List ℕ) → Option (List ℕ) → Type 0 → Type 0
+Works (Ok task) (Ok refused) old new rose = (HasCycle task.world → ⊥) × WroteAll task.heads task.world task.lines refused old new
+Works (Ok task) (Err stop.Memory) old new rose = WroteWhole task.heads task.world task.lines old new × (HasCycle task.world → Appends old new [])
+Works (Ok task) (Err stop.Write) old new rose = rose × (HasCycle task.world → ⊥) × WroteFront task.heads task.world task.lines old new
+Works (Ok task) (Err (stop.Cycle cycle)) old new rose = IsCycle task.world cycle × Appends old new []
+Works (Ok task) (Err (stop.Fault fault)) old new rose = ⊥
+Works (Err fault) (Err stop.Memory) old new rose = Appends old new []
+Works (Err fault) (Err (stop.Fault found)) old new rose = (found ≡ fault) × Appends old new []
+Works (Err fault) _ old new rose = ⊥
+
+-- The files were read, and the answers written as far as the work got.
+pub record Worked (holds : List ℕ → Option (List ℕ)) (sound : List ℕ → Type 0) (read_rose : Type 0) (words : List (List ℕ)) (result : Result Bool Stop)
+    (out_old out_new : Option (List ℕ)) (out_rose : Type 0) : Type 0 where
+  pub reads : Reads
+  pub are_read : AreReads holds sound read_rose words reads
+  pub works : Works (task_of words reads) result out_old out_new out_rose
+
+abbrev pub stop_status : Stop → Status
+stop_status stop.Memory = status.NoMemory
+stop_status stop.Write = status.WriteFault
+stop_status (stop.Cycle cycle) = status.BadInput
+stop_status (stop.Fault fault) = status_of fault
+
+abbrev pub stop_text : List (List ℕ) → Stop → List ℕ
+stop_text words stop.Memory = message (codes "out of memory")
+stop_text words stop.Write = message (codes "write fault")
+stop_text words (stop.Cycle cycle) = cycle_text cycle
+stop_text words (stop.Fault fault) = fault_text words fault
+
+-- how a stop is explained: by its own text, or where that can't be made by that for want of memory
+abbrev pub Explained : List (List ℕ) → Stop → Status → Option (List ℕ) → Option (List ℕ) → Type 0 → Type 0
+Explained words stop.Memory s old new rose = (s ≡ status.NoMemory) × Reports (stop_text words stop.Memory) old new rose
+Explained words stop.Write s old new rose = (s ≡ status.WriteFault) × Reports (stop_text words stop.Write) old new rose
+Explained words reason s old new rose =
+    ((s ≡ stop_status reason) × Reports (stop_text words reason) old new rose)
+    ⊎ ((s ≡ status.NoMemory) × Reports (stop_text words stop.Memory) old new rose)

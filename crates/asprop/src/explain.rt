@@ -1,0 +1,138 @@
+//! What is said of a fault.
+ghost use Rattle.std.specs.Prelude.{◌≡◌, ◌++◌, IfOk, map, string_bytes};
+ghost use Rattle.io_edge.specs.Faults.{Rose};
+ghost use Rattle.asprop.specs.Texts.{cycle_text, fault_text, rel_text, shown, status_of};
+ghost use Rattle.asprop.specs.Ran.{Explained, Reports};
+
+use crate::types::{Fault, File, Status, Stop};
+use crate::words::read_words;
+use caida_reader::RelError;
+use cycle_check::Cycle;
+use io_edge::{Sink, write_all};
+use net_names::NoMemory;
+use reports::put_numbers;
+use std::alloc::{AllocError, Global};
+
+const USAGE: &str =
+    "usage: asprop REL [--vrps FILE] [--scenario FILE] [--script FILE]\n       asprop REL --origin N\n       asprop --demo N\n";
+
+// The name that the words give to a file.
+fn file_name(words: &[String], file: File) -> &str
+    ensures { result.now ≡ shown (map string_bytes words.now) file }
+{
+    match read_words(words) {
+        Some(form) => match file {
+            File::Relations => form.rel,
+        },
+        None => "",
+    }
+}
+
+fn relation_text(alloc: Global, error: RelError) -> Result<String, AllocError>
+    ensures { IfOk result (λ text. string_bytes text ≡ rel_text error) }
+{
+    match error {
+        RelError::Memory => Ok(String::new(alloc)),
+        RelError::Unreadable { line } => format!(in alloc; "line {line}: unreadable"),
+        RelError::SelfLink { line } => format!(in alloc; "line {line}: an AS linked to itself"),
+        RelError::Conflict { line, earlier } => {
+            format!(in alloc; "line {line}: conflicts with line {earlier}")
+        }
+        RelError::TooManyLinks { line } => format!(in alloc;
+            "line {line}: more than 1500000 links"
+        ),
+    }
+}
+
+fn fault_message(alloc: Global, words: &[String], fault: Fault) -> Result<String, AllocError>
+    ensures { IfOk result (λ text. string_bytes text ≡ fault_text (map string_bytes words.now) fault) }
+{
+    match fault {
+        Fault::Usage => String::from_str(alloc, USAGE),
+        Fault::Unread(file) => {
+            let name = file_name(words, file);
+            format!(in alloc; "asprop: {name}: read fault\n")
+        }
+        Fault::TooLong(file) => {
+            let name = file_name(words, file);
+            format!(in alloc; "asprop: {name}: more than 268435456 bytes\n")
+        }
+        Fault::Relation(error) => {
+            let name = file_name(words, File::Relations);
+            let text = relation_text(alloc, error)?;
+            format!(in alloc; "asprop: {name}: {text}\n")
+        }
+        Fault::TooManyAses => String::from_str(alloc, "asprop: more than 150000 ASes\n"),
+    }
+}
+
+// The numbers of a cycle, the lowest first.
+fn cycle_message(alloc: Global, cycle: &Cycle) -> Result<Vec<u8>, NoMemory>
+    ensures { IfOk result (λ text. text.items ≡ cycle_text cycle.now) }
+{
+    let mut text = Vec::new(alloc);
+    if text.extend_from_slice(b"asprop: provider cycle: ").is_err() {
+        return Err(NoMemory);
+    }
+    put_numbers(&mut text, cycle.as_slice())?;
+    match text.push(b'\n') {
+        Ok(()) => Ok(text),
+        Err(_) => Err(NoMemory),
+    }
+}
+
+fn fault_status(fault: Fault) -> Status
+    ensures { result ≡ status_of fault }
+{
+    match fault {
+        Fault::Usage => Status::Usage,
+        Fault::Unread(_) => Status::ReadFault,
+        Fault::TooLong(_) => Status::TooLarge,
+        Fault::Relation(RelError::TooManyLinks { line: _ }) => Status::TooLarge,
+        Fault::Relation(_) => Status::BadInput,
+        Fault::TooManyAses => Status::TooLarge,
+    }
+}
+
+// Writes a text as far as the sink takes it.
+fn report<E: Sink>(err: &mut E, text: &[u8])
+    ensures { Reports text.now (E.written err.old) (E.written err.new) (Rose (E.faults err.old) (E.faults err.new)) }
+{
+    let _ = write_all(err, text);
+}
+
+/// Says why the work stopped, and gives its status. Where memory for the text is wanting, that is said instead.
+pub fn explain<E: Sink>(alloc: Global, words: &[String], stop: &Stop, err: &mut E) -> Status
+    ensures { Explained (map string_bytes words.now) stop.now result (E.written err.old) (E.written err.new) (Rose (E.faults err.old) (E.faults err.new)) }
+{
+    match stop {
+        Stop::Memory => {
+            report(err, b"asprop: out of memory\n");
+            Status::NoMemory
+        }
+        Stop::Write => {
+            report(err, b"asprop: write fault\n");
+            Status::WriteFault
+        }
+        Stop::Cycle(cycle) => match cycle_message(alloc, cycle) {
+            Ok(text) => {
+                report(err, &text);
+                Status::BadInput
+            }
+            Err(_) => {
+                report(err, b"asprop: out of memory\n");
+                Status::NoMemory
+            }
+        },
+        Stop::Fault(fault) => match fault_message(alloc, words, *fault) {
+            Ok(text) => {
+                report(err, text.as_bytes());
+                fault_status(*fault)
+            }
+            Err(_) => {
+                report(err, b"asprop: out of memory\n");
+                Status::NoMemory
+            }
+        },
+    }
+}

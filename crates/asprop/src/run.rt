@@ -1,0 +1,82 @@
+//! The top call.
+ghost use Rattle.std.specs.Prelude.{map, string_bytes};
+ghost use Rattle.io_edge.specs.Faults.{Rose};
+ghost use Rattle.asprop.specs.Ran.{Ran, Worked};
+ghost use Rattle.asprop.specs.Statuses.{IsComplete, ReadFaultRow, RunsAsTold, UsageRow, WriteFaultRow};
+
+use crate::answers::answer_all;
+use crate::explain::explain;
+use crate::load::prepare;
+use crate::types::{Status, Stop};
+use io_edge::{Inputs, Sink};
+use rank_order::{RankError, Ranks};
+use std::alloc::Global;
+
+// Reads the words and the files, and writes the answers.
+fn work<I: Inputs, O: Sink>(
+    alloc: Global,
+    words: &[String],
+    inputs: &mut I,
+    out: &mut O,
+) -> Result<bool, Stop>
+    ensures { Worked (I.holds inputs.old) (I.is_sound inputs.old) (Rose (I.faults inputs.old) (I.faults inputs.new)) (map string_bytes words.now) result
+        (O.written out.old) (O.written out.new) (Rose (O.faults out.old) (O.faults out.new)) }
+{
+    let prepared = match prepare(alloc, words, inputs) {
+        Ok(prepared) => prepared,
+        Err(stop) => return Err(stop),
+    };
+    let ranks = match Ranks::build(alloc, &prepared.graph) {
+        Ok(ranks) => ranks,
+        Err(RankError::Memory) => return Err(Stop::Memory),
+        Err(RankError::ProviderCycle(cycle)) => return Err(Stop::Cycle(cycle)),
+    };
+    answer_all(alloc, &prepared, &ranks, &prepared.lines, out)
+}
+
+fn run_to_end<I: Inputs, O: Sink, E: Sink>(
+    alloc: Global,
+    words: &[String],
+    inputs: &mut I,
+    out: &mut O,
+    err: &mut E,
+) -> Status
+    ensures { Ran (I.holds inputs.old) (I.is_sound inputs.old) (Rose (I.faults inputs.old) (I.faults inputs.new)) (map string_bytes words.now) result
+        (O.written out.old) (O.written out.new) (Rose (O.faults out.old) (O.faults out.new))
+        (E.written err.old) (E.written err.new) (Rose (E.faults err.old) (E.faults err.new)) }
+{
+    match work(alloc, words, inputs, out) {
+        Ok(true) => Status::SomeRefused,
+        Ok(false) => Status::Done,
+        Err(stop) => explain(alloc, words, &stop, err),
+    }
+}
+
+/// Reads the words and the files that they name, writes the answers to `out`, and says on `err` why it stopped.
+///
+/// The first word is the program's name. The order of the work is: the words, the relationship file,
+/// the number of ASes, the provider cycle, the answers, line by line, each made whole before it is
+/// written. Nothing is written to `out` before all files have been read and judged.
+pub fn run<I: Inputs, O: Sink, E: Sink>(
+    alloc: Global,
+    words: &[String],
+    inputs: &mut I,
+    out: &mut O,
+    err: &mut E,
+) -> Status
+    // What was read of the files, how the run ends, what it writes, and what it says of a fault.
+    ensures ran { Ran (I.holds inputs.old) (I.is_sound inputs.old) (Rose (I.faults inputs.old) (I.faults inputs.new)) (map string_bytes words.now) result
+        (O.written out.old) (O.written out.new) (Rose (O.faults out.old) (O.faults out.new))
+        (E.written err.old) (E.written err.new) (Rose (E.faults err.old) (E.faults err.new)) }
+    // Where no read fails, the run is that of the files as they are told.
+    ensures told { RunsAsTold (I.holds inputs.old) (I.is_sound inputs.old) (Rose (I.faults inputs.old) (I.faults inputs.new)) (map string_bytes words.now) result
+        (O.written out.old) (O.written out.new) (Rose (O.faults out.old) (O.faults out.new)) }
+    // Accepted files give Done or SomeRefused, or want of memory, where neither a read nor a write fails.
+    ensures complete { IsComplete (I.holds inputs.old) (I.is_sound inputs.old) (Rose (I.faults inputs.old) (I.faults inputs.new)) (map string_bytes words.now) result
+        (Rose (O.faults out.old) (O.faults out.new)) }
+    ensures usage { UsageRow (map string_bytes words.now) result }
+    ensures read_fault { ReadFaultRow (I.is_sound inputs.old) (Rose (I.faults inputs.old) (I.faults inputs.new)) (map string_bytes words.now) result }
+    ensures write_fault { WriteFaultRow (Rose (O.faults out.old) (O.faults out.new)) result }
+{
+    run_to_end(alloc, words, inputs, out, err)
+}

@@ -1,0 +1,9 @@
+pub mod Cutting
+pub mod PairLemmas
+pub mod LinkLemmas
+pub mod Values
+pub mod Reading
+pub mod Given
+pub mod Accepted
+pub mod Faulty
+pub mod Causes

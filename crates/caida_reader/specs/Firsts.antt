@@ -1,0 +1,47 @@
+-- The pairs of the lines so far, as a reader keeps them.
+use Rattle.std.specs.Prelude.{◌≡◌, ℕ, ◌<◌, ◌≤◌, map, IsSome, Some, None, Result, Ok, Err, if◌then◌else◌}
+use Rattle.std.specs.Option.{is_some}
+use Rattle.std.specs.Coded.{Coded, coded×, coded_ℕ}
+use Rattle.std.specs.FinMap as fin
+use Rattle.net_names.specs.Links.{LinkMap}
+use Rattle.net_names.specs.declared.routes.Rel.{Rel}
+use Rattle.caida_reader.specs.Value.{FirstMap, fault_at}
+use Rattle.caida_reader.specs.declared.line.Said.{Said}
+use Rattle.caida_reader.specs.declared.line.Said.TheVariants.{Link}
+use Rattle.caida_reader.specs.declared.firsts.First.{First}
+use Rattle.caida_reader.specs.contracts.firsts.First as first
+use Rattle.caida_reader.specs.declared.errors.RelError.{RelError}
+use Rattle.caida_reader.specs.declared.errors.RelError.TheVariants as fault
+
+-- How such a map is stored as a value (own rule).
+abbrev pub first_map_code : Coded FirstMap
+first_map_code = fin.code (coded× coded_ℕ coded_ℕ) first.the_row.coded
+
+-- The pairs with one more, unless it stands already (own rule).
+abbrev pub with_first : FirstMap → ℕ × ℕ → First → FirstMap
+with_first before pair given = if is_some (fin.get before pair) then before else fin.insert before pair given
+
+-- The pairs after a line of this number (own rule).
+abbrev pub with_said : FirstMap → ℕ → Said → FirstMap
+with_said before line (Link lo hi rel) = with_first before (lo, hi) (record { rel = rel; line = line })
+with_said before line said = before
+
+-- The line has no fault, and these are the pairs after it; or it has this fault; or memory ran out (own rule).
+abbrev pub Judges : FirstMap → FirstMap → ℕ → Said → Result (Unit {0}) RelError → Type 0
+Judges old new line said (Ok _) = (fault_at old line said ≡ None) × (new ≡ with_said old line said)
+Judges old new line said (Err fault.Memory) = Unit {0}
+Judges old new line said (Err e) = fault_at old line said ≡ Some e
+
+-- A pair with its relation, without the line (own rule).
+abbrev pub link_at : (ℕ × ℕ) × First → (ℕ × ℕ) × Rel
+link_at entry = (entry.0, entry.1.rel)
+
+-- The links of the pairs, without their lines (own rule).
+abbrev pub relations : FirstMap → LinkMap
+relations pairs = fin.from_entries (map link_at (fin.entries pairs))
+
+-- Each pair begins with the lower AS, so many pairs stand, and they are 1,500,000 at most (own rule).
+pub record ArePairs (pairs : FirstMap) (count : ℕ) : Type 0 where
+  pub lower : (pair : ℕ × ℕ) → IsSome (fin.get pairs pair) → pair.0 < pair.1
+  pub counted : count ≡ fin.len pairs
+  pub few : count ≤ 1500000

@@ -1,0 +1,45 @@
+-- A reader of a relationship file that comes in pieces: where it stands, and what the file comes to.
+use Rattle.std.specs.Prelude.{◌≡◌, ℕ, ◌+◌, List, [], ◌∷◌, ◌++◌, Option, Some, Result, Ok, Err, Vec}
+use Rattle.std.specs.Global.{Global}
+use Rattle.std.specs.List.{flat_map}
+use Rattle.net_names.specs.Links.{LinkMap}
+use Rattle.caida_reader.specs.Value.{FirstMap, said_in, fault_at, unless}
+use Rattle.caida_reader.specs.Firsts.{with_said, relations}
+use Rattle.caida_reader.specs.declared.line.Said.{Said}
+use Rattle.caida_reader.specs.declared.errors.RelError.{RelError}
+use Rattle.caida_reader.specs.declared.errors.RelError.TheVariants as fault
+
+-- Where a reader stands: the pairs of the lines that are judged, the number of the next line, what has come of that line, and the fault that was found (own rule).
+pub record Progress : Type 0 where
+  pub table : FirstMap
+  pub line : ℕ
+  pub rest : List ℕ
+  pub failed : Option RelError
+
+-- What lines from this number on come to, where the lines before them give these pairs (own rule).
+abbrev pub value_from : FirstMap → ℕ → List Said → Result LinkMap RelError
+value_from before line [] = Ok (relations before)
+value_from before line (said ∷ more) = unless (fault_at before line said) (value_from (with_said before line said) (line + 1) more)
+
+-- What the whole file comes to, if these bytes are all that is still to come (own rule).
+abbrev pub outcome : Progress → List ℕ → Result LinkMap RelError
+outcome p more = unless p.failed (value_from p.table p.line (said_in (p.rest ++ more)))
+
+-- The file comes to this fault, unless it is want of memory (own rule).
+abbrev pub Fails : RelError → Result LinkMap RelError → Type 0
+Fails fault.Memory value = Unit {0}
+Fails e value = value ≡ Err e
+
+-- What a call answered is what the file comes to, unless memory ran out (own rule).
+abbrev pub Gives : {T : Type 0} → (T → LinkMap) → Result T RelError → Result LinkMap RelError → Type 0
+Gives view (Ok x) value = value ≡ Ok (view x)
+Gives view (Err e) value = Fails e value
+
+-- The fact holds, unless memory ran out (own rule).
+abbrev pub UnlessMemory : Option RelError → Type 0 → Type 0
+UnlessMemory (Some fault.Memory) fact = Unit {0}
+UnlessMemory _ fact = fact
+
+-- The bytes of pieces, one after the other (own rule).
+abbrev pub joined : List (Vec ℕ Global) → List ℕ
+joined pieces = flat_map (λ (piece : Vec ℕ Global). piece.items) pieces

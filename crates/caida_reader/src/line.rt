@@ -1,0 +1,90 @@
+// One line of a relationship file.
+ghost use Rattle.std.specs.Prelude.{◌≡◌, ◌∷◌, ℕ, List};
+ghost use Rattle.net_names.specs.Texts.{fields};
+ghost use Rattle.caida_reader.specs.Says.{rel_of, link, said_by, says, IsRising};
+
+use net_names::{Asn, Rel, cut, read_asn};
+
+/// What a line says: nothing where it is skipped, and else a link, unless it is faulty by itself.
+#[derive(Clone, Copy, Debug, PartialEq, Eq)]
+pub(crate) enum Said {
+    Nothing,
+    Unreadable,
+    Itself,
+    Link { lo: Asn, hi: Asn, rel: Rel },
+}
+
+fn read_rel(text: &[u8]) -> Option<Rel>
+    ensures { result ≡ rel_of text.now }
+{
+    match text {
+        b"-1" => Some(Rel::Customer),
+        b"0" => Some(Rel::Peer),
+        _ => None,
+    }
+}
+
+// The link of two ASes, of which the second is this to the first.
+fn make_link(a: Asn, b: Asn, rel: Rel) -> Said
+    ensures value { result ≡ link a b rel }
+    ensures rising { IsRising result }
+{
+    if a == b {
+        return Said::Itself;
+    }
+    if a < b {
+        return Said::Link { lo: a, hi: b, rel };
+    }
+    Said::Link {
+        lo: b,
+        hi: a,
+        rel: rel.converse(),
+    }
+}
+
+// The field before the first `|`, or the whole text where there is none.
+#[tactic(auto, using(crate::proofs::Cutting::cutting))]
+fn first_field(text: &[u8]) -> &[u8]
+    ensures { (further : List (List ℕ)) × (fields 124 text.now ≡ result.now ∷ further) }
+{
+    match cut(text, b'|') {
+        Some((field, _)) => field,
+        None => text,
+    }
+}
+
+#[tactic(auto, using(crate::proofs::Cutting::cutting))]
+fn read_fields(text: &[u8]) -> Said
+    ensures value { result ≡ said_by (fields 124 text.now) }
+    ensures rising { IsRising result }
+{
+    let Some((first, rest)) = cut(text, b'|') else {
+        return Said::Unreadable;
+    };
+    let Some((second, rest)) = cut(rest, b'|') else {
+        return Said::Unreadable;
+    };
+    match (
+        read_asn(first),
+        read_asn(second),
+        read_rel(first_field(rest)),
+    ) {
+        (Some(a), Some(b), Some(rel)) => make_link(a, b, rel),
+        _ => Said::Unreadable,
+    }
+}
+
+/// What a line says.
+pub(crate) fn read_line(line: &[u8]) -> Said
+    ensures value { result ≡ says line.now }
+    ensures rising { IsRising result }
+{
+    let text = match line {
+        [front @ .., b'\r'] => front,
+        _ => line,
+    };
+    match text {
+        [] | [b'#', ..] => Said::Nothing,
+        _ => read_fields(text),
+    }
+}

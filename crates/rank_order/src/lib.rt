@@ -1,0 +1,15 @@
+//! The rank of each AS, and the ASes in an order of rising rank.
+//!
+//! The rank of an AS is the number of provider links on the longest way down from it. `Ranks::build`
+//! gives the ranks of a graph, or a provider cycle exactly where the graph has one. `by_rank` lists
+//! the ASes so that each comes behind its customers.
+#![tactic(auto)]
+
+mod order;
+mod ranks;
+
+pub use order::by_rank;
+pub use ranks::{RankError, Ranks};
+
+#[cfg(test)]
+mod tests;

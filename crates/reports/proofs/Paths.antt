@@ -1,0 +1,26 @@
+-- The text of a path that is made cell by cell.
+use Rattle.std.proofs.Common.{◌≡◌, ℕ, ◌+◌, ◌<◌, ◌≤◌, List, [], ◌∷◌, ◌++◌, length, drop, decimal, refl, sym, ap, subst, ◌∙◌, append_assoc, append-nil, arith}
+use Rattle.std.proofs.lemmas.List.Concat.{flat_map-cons}
+use Rattle.net_names.specs.Numbers.{first_or}
+use Rattle.reports.specs.Growth.{Grows}
+use Rattle.reports.specs.Rows.{more_numbers}
+
+-- what grows twice has grown
+pub Grows-trans : (a b c : List ℕ) → Grows a b → Grows b c → Grows a c
+Grows-trans a b c g h = record { more = g.more ++ h.more; is = h.is ∙ ap (λ (x : List ℕ). x ++ h.more) g.is ∙ append_assoc a g.more h.more }
+
+-- one more number of the path
+pub told_next : (xs ys : List ℕ) (first n : ℕ) (out new goal : List ℕ) → xs ≡ first ∷ ys → 0 < length ys → n ≡ first_or 0 ys → new ≡ out ++ (32 ∷ decimal n)
+    → out ++ more_numbers (drop 1 xs) ≡ goal → new ++ more_numbers (drop 1 ys) ≡ goal
+told_next xs [] first n out new goal e some is grown told = absurd (omega (arith, some))
+told_next xs (y ∷ ys) first n out new goal e some is grown told =
+    ap (λ (o : List ℕ). o ++ more_numbers ys) (grown ∙ ap (λ (m : ℕ). out ++ (32 ∷ decimal m)) is)
+    ∙ append_assoc out (32 ∷ decimal y) (more_numbers ys)
+    ∙ ap (λ (t : List ℕ). out ++ t) (sym (flat_map-cons (λ (m : ℕ). 32 ∷ decimal m) y ys))
+    ∙ (let P : List ℕ → Type 0 = λ zs. out ++ more_numbers (drop 1 zs) ≡ goal in subst P e told)
+
+-- no number is left
+pub told_end : (xs out goal : List ℕ) → length xs ≤ 1 → out ++ more_numbers (drop 1 xs) ≡ goal → out ≡ goal
+told_end [] out goal short told = sym (append-nil out) ∙ told
+told_end (x ∷ []) out goal short told = sym (append-nil out) ∙ told
+told_end (x ∷ y ∷ ys) out goal short told = absurd (omega (arith, short))

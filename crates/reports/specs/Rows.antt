@@ -1,0 +1,51 @@
+-- The printed table of a routing: a row for each AS.
+use Rattle.std.specs.Prelude.{◌≡◌, ℕ, Bool, Option, None, Some, List, [], ◌∷◌, ◌++◌, codes, decimal}
+use Rattle.std.specs.List.{flat_map}
+use Rattle.std.specs.List.Sorted.{IsStrictlyIncreasing}
+use Rattle.net_names.specs.Numbers.{occurs}
+use Rattle.net_names.specs.declared.routes.Class.{Class}
+use Rattle.net_names.specs.declared.routes.Class.TheVariants as class
+use Rattle.stability_laws.specs.declared.entry.Entry.{Entry}
+
+-- the word for a class (own format)
+abbrev pub class_word : Class → List ℕ
+class_word class.Origin = codes "origin"
+class_word class.Customer = codes "customer"
+class_word class.Peer = codes "peer"
+class_word class.Provider = codes "provider"
+
+-- further numbers of a list, each after a space (own format)
+abbrev pub more_numbers : List ℕ → List ℕ
+more_numbers ns = flat_map (λ n. 32 ∷ decimal n) ns
+
+-- the numbers with one space between (own format)
+abbrev pub numbers_text : List ℕ → List ℕ
+numbers_text [] = []
+numbers_text (n ∷ ns) = decimal n ++ more_numbers ns
+
+-- the number of RFC 9234 that an entry has, at the end of its row (own format)
+abbrev pub otc_text : Option ℕ → List ℕ
+otc_text None = []
+otc_text (Some n) = codes "|otc " ++ decimal n
+
+-- what a row says of the entry: the class word, `|` and the path; `none` and `|` where there is no entry (own format)
+abbrev pub entry_text : Option Entry → List ℕ
+entry_text None = codes "none|"
+entry_text (Some e) = class_word e.class ++ (124 ∷ (numbers_text e.path ++ otc_text e.otc))
+
+-- the row of an AS: its number, `|`, its entry and a line feed (own format)
+abbrev pub row : ℕ → Option Entry → List ℕ
+row a held = decimal a ++ (124 ∷ (entry_text held ++ 10 ∷ []))
+
+-- the text has just one row for each AS, in rising number (own format)
+pub record IsTable (has : ℕ → Bool) (f : ℕ → Option Entry) (text : List ℕ) : Type 0 where
+  pub ases : List ℕ
+  pub complete : (a : ℕ) → occurs a ases ≡ has a
+  pub rising : IsStrictlyIncreasing ases
+  pub rows : text ≡ flat_map (λ a. row a (f a)) ases
+
+-- the table's text was appended
+pub record AppendsTable (has : ℕ → Bool) (f : ℕ → Option Entry) (old new : List ℕ) : Type 0 where
+  pub text : List ℕ
+  pub table : IsTable has f text
+  pub is : new ≡ old ++ text

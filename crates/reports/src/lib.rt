@@ -1,0 +1,13 @@
+//! The texts of answers.
+//!
+//! Each call appends the exact text of an answer to a buffer that its caller keeps and uses again, so
+//! that printing takes no memory once the buffer is large enough. Where memory runs out, the buffer is
+//! as it was.
+#![tactic(auto)]
+
+mod rows;
+
+pub use rows::{put_numbers, put_routes};
+
+#[cfg(test)]
+mod tests;

@@ -1,0 +1,187 @@
+//! The table of a routing.
+ghost use Rattle.std.specs.Prelude.{◌≡◌, ◌++◌, ◌∷◌, ℕ, OnOk, OnErr, Some, option_map, decimal};
+ghost use Rattle.as_graph.specs.Topology.{has};
+ghost use Rattle.path_pool.specs.Pool.{IsLive, list_of};
+ghost use Rattle.route_choice.specs.Routings.{entry_of, table_routing};
+ghost use Rattle.reports.specs.Growth.{Grows};
+ghost use Rattle.reports.specs.Held.{AreLive, IsHeldLive};
+ghost use Rattle.reports.specs.Rows.{class_word, entry_text, more_numbers, numbers_text, otc_text, row as row_of, AppendsTable};
+
+use as_graph::Graph;
+use net_names::{Asn, Class, NoMemory, put_asn};
+use path_pool::{PathId, PathPool};
+use route_choice::{Held, Table};
+
+fn put_bytes(out: &mut Vec<u8>, bytes: &[u8]) -> Result<(), NoMemory>
+    ensures ok { OnOk result (out.new.items ≡ out.old.items ++ bytes.now) }
+    ensures err { OnErr result (Grows out.old.items out.new.items) }
+{
+    match out.extend_from_slice(bytes) {
+        Ok(()) => Ok(()),
+        Err(_) => Err(NoMemory),
+    }
+}
+
+fn class_name(class: Class) -> &'static str
+    ensures { result.now ≡ class_word class }
+{
+    match class {
+        Class::Origin => "origin",
+        Class::Customer => "customer",
+        Class::Peer => "peer",
+        Class::Provider => "provider",
+    }
+}
+
+// Appends each number after a space.
+fn append_more_numbers(out: &mut Vec<u8>, numbers: &[Asn]) -> Result<(), NoMemory>
+    ensures ok { OnOk result (out.new.items ≡ out.old.items ++ more_numbers numbers.now) }
+    ensures err { OnErr result (Grows out.old.items out.new.items) }
+{
+    for number in numbers {
+        put_bytes(out, b" ")?;
+        put_asn(out, *number)?;
+    }
+    Ok(())
+}
+
+// Appends the numbers with one space between.
+fn append_numbers(out: &mut Vec<u8>, numbers: &[Asn]) -> Result<(), NoMemory>
+    ensures ok { OnOk result (out.new.items ≡ out.old.items ++ numbers_text numbers.now) }
+    ensures err { OnErr result (Grows out.old.items out.new.items) }
+{
+    match numbers {
+        [] => Ok(()),
+        [first, rest @ ..] => {
+            put_asn(out, *first)?;
+            append_more_numbers(out, rest)
+        }
+    }
+}
+
+/// Appends the numbers of a list of ASes with one space between. Where memory runs out, nothing changes.
+pub fn put_numbers(out: &mut Vec<u8>, numbers: &[Asn]) -> Result<(), NoMemory>
+    ensures ok { OnOk result (out.new.items ≡ out.old.items ++ numbers_text numbers.now) }
+    ensures err { OnErr result (out.new.items ≡ out.old.items) }
+{
+    let kept = out.len();
+    if append_numbers(out, numbers).is_err() {
+        out.truncate(kept);
+        return Err(NoMemory);
+    }
+    Ok(())
+}
+
+// Appends a space and a number.
+fn append_number(out: &mut Vec<u8>, number: Asn) -> Result<(), NoMemory>
+    ensures ok { OnOk result (out.new.items ≡ out.old.items ++ (32 ∷ decimal number)) }
+    ensures err { OnErr result (Grows out.old.items out.new.items) }
+{
+    put_bytes(out, b" ")?;
+    put_asn(out, number)?;
+    Ok(())
+}
+
+// Appends the numbers of a path with one space between, along its cells.
+fn append_path(out: &mut Vec<u8>, pool: &PathPool, path: PathId) -> Result<(), NoMemory>
+    requires { IsLive pool.now path.0 }
+    ensures ok { OnOk result (out.new.items ≡ out.old.items ++ numbers_text (list_of pool.now path.0)) }
+    ensures err { OnErr result (Grows out.old.items out.new.items) }
+{
+    put_asn(out, pool.head(path))?;
+    let mut at = path;
+    let mut left = pool.length(path);
+    'cells: while left > 1 {
+        let Some(next) = pool.tail(at) else {
+            unreachable!();
+        };
+        match append_number(out, pool.head(next)) {
+            Ok(()) => {}
+            Err(_) => return Err(NoMemory),
+        }
+        at = next;
+        left -= 1;
+    }
+    Ok(())
+}
+
+// Appends the number of an entry, if it has one.
+fn append_otc(out: &mut Vec<u8>, otc: Option<Asn>) -> Result<(), NoMemory>
+    ensures ok { OnOk result (out.new.items ≡ out.old.items ++ otc_text otc) }
+    ensures err { OnErr result (Grows out.old.items out.new.items) }
+{
+    match otc {
+        None => Ok(()),
+        Some(number) => {
+            put_bytes(out, b"|otc ")?;
+            put_asn(out, number)?;
+            Ok(())
+        }
+    }
+}
+
+// Appends what a row says of an entry.
+fn append_held(out: &mut Vec<u8>, pool: &PathPool, held: Held) -> Result<(), NoMemory>
+    requires { IsLive pool.now held.path.0 }
+    ensures ok { OnOk result (out.new.items ≡ out.old.items ++ entry_text (Some (entry_of pool.now held))) }
+    ensures err { OnErr result (Grows out.old.items out.new.items) }
+{
+    put_bytes(out, class_name(held.class).as_bytes())?;
+    put_bytes(out, b"|")?;
+    append_path(out, pool, held.path)?;
+    append_otc(out, held.otc)
+}
+
+// Appends what a row says of an entry, or of none.
+fn append_entry(out: &mut Vec<u8>, pool: &PathPool, held: Option<Held>) -> Result<(), NoMemory>
+    requires { IsHeldLive pool.now held }
+    ensures ok { OnOk result (out.new.items ≡ out.old.items ++ entry_text (option_map (entry_of pool.now) held)) }
+    ensures err { OnErr result (Grows out.old.items out.new.items) }
+{
+    match held {
+        None => put_bytes(out, b"none|"),
+        Some(held) => append_held(out, pool, held),
+    }
+}
+
+// Appends the row of an AS.
+fn append_row(
+    out: &mut Vec<u8>,
+    pool: &PathPool,
+    asn: Asn,
+    held: Option<Held>,
+) -> Result<(), NoMemory>
+    requires { IsHeldLive pool.now held }
+    ensures ok { OnOk result (out.new.items ≡ out.old.items ++ row_of asn (option_map (entry_of pool.now) held)) }
+    ensures err { OnErr result (Grows out.old.items out.new.items) }
+{
+    put_asn(out, asn)?;
+    put_bytes(out, b"|")?;
+    append_entry(out, pool, held)?;
+    put_bytes(out, b"\n")
+}
+
+/// Appends the table of a routing: for each AS of the graph, in rising number, a row with the AS,
+/// `|`, the class word, `|` and the numbers of the path with one space between; `none` and `|`
+/// where the AS has no entry. A number of RFC 9234 stands at the end of its row after `|otc `.
+/// Where memory runs out, nothing changes. The format is this project's own.
+pub fn put_routes(
+    out: &mut Vec<u8>,
+    graph: &Graph,
+    table: &Table,
+    pool: &PathPool,
+) -> Result<(), NoMemory>
+    requires { AreLive pool.now table.now }
+    ensures ok { OnOk result (AppendsTable (has graph.now) (table_routing pool.now table.now) out.old.items out.new.items) }
+    ensures err { OnErr result (out.new.items ≡ out.old.items) }
+{
+    let kept = out.len();
+    let ases = graph.ases();
+    for asn in ases {
+        if append_row(out, pool, *asn, table.get(*asn)).is_err() {
+            out.truncate(kept);
+            return Err(NoMemory);
+        }
+    }
+    Ok(())
+}

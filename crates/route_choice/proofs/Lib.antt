@@ -1,0 +1,6 @@
+pub mod Uses
+pub mod Lists
+pub mod Numbers
+pub mod Chosen
+pub mod Unread
+pub mod Room

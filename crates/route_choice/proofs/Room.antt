@@ -1,0 +1,23 @@
+-- Room for steps.
+use Rattle.std.proofs.Common.{ℕ, ◌≤◌, arith}
+use Rattle.path_pool.specs.declared.pool.PathPool.{PathPool}
+use Rattle.route_choice.specs.declared.table.Table.{Table}
+use Rattle.route_choice.specs.declared.overlay.Overlay.{Overlay}
+use Rattle.route_choice.specs.declared.seeds.SeedIds.{SeedIds}
+use Rattle.route_choice.specs.Resources.{AreSeedsLive, CanStep, Keeps}
+
+-- where so many steps can be made, fewer can
+pub fewer : (p : PathPool) (s : SeedIds) (t : Table) (o : Overlay) (m n : ℕ) → n ≤ m → CanStep p s t o m → CanStep p s t o n
+fewer p s t o m n le can = record {
+  changes = record {
+    held = can.changes.held;
+    seeds_live = can.changes.seeds_live;
+    spare = omega (arith, le, can.changes.spare);
+    counts = λ k. omega (arith, le, can.changes.counts k);
+  };
+  room = omega (arith, le, can.room);
+}
+
+-- seeds stay live where all that was live does
+pub seeds_kept : (p p' : PathPool) (s : SeedIds) → Keeps p p' s → AreSeedsLive p s → AreSeedsLive p' s
+seeds_kept p p' s kept live a seed e = kept.live seed.path.0 (live a seed e)

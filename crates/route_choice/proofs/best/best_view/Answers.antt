@@ -1,0 +1,40 @@
+use Rattle.std.proofs.Common.{◌≡◌, ℕ, ◌+◌, ◌⊎◌, true, sym, subst, refl, option_map, take, take_all}
+use Rattle.net_names.specs.Numbers.{occurs}
+use Rattle.as_graph.specs.Neighbours.{asns}
+use Rattle.as_graph.specs.Topology.{what}
+use Rattle.stability_laws.specs.Book.{policy_at}
+use Rattle.stability_laws.specs.Offers.{Offer, GivenBy}
+use Rattle.stability_laws.specs.BestView.{IsBestViewOf}
+use Rattle.stability_laws.specs.World.{setting}
+use Rattle.stability_laws.proofs.BestViews.{among_more, one_more, best_of_all}
+use Rattle.route_choice.specs.Tables.{prefix_of}
+use Rattle.route_choice.specs.Routings.{routing_of}
+use Rattle.route_choice.specs.Choices.{offers_of, state_seen}
+use Rattle.route_choice.proofs.Chosen.{given_in_part}
+use Rattle.route_choice.proofs.best.best_view.Goals as goal
+
+pub loop-neighbour-preserved : goal.loop-neighbour-preserved
+loop-neighbour-preserved g c =
+    let here = setting g.P.RoutePolicy.meaning c.args.graph.now c.args.book.now (state_seen c.args.reads (g.V.OriginStates.state_of c.args.states.now (prefix_of c.args.table.now))) in
+    let own = policy_at c.args.book.now c.args.asn in
+    let offers = λ (n : ℕ). offers_of c.args.part here (routing_of c.args.pool.now c.args.table.now c.args.overlay.now) c.args.asn n in
+    let given = λ (n : ℕ). given_in_part c.args.part here (routing_of c.args.pool.now c.args.table.now c.args.overlay.now) c.args.asn n in
+    let xs = c.args.neighbours.now in
+    let i = c.loop-neighbour.neighbour-index in
+    let step = one_more (here.policy c.args.asn) (g.met.P.RoutePolicy.ranks_offers own) offers (λ n o e. (given n o e).neighbour)
+    c.neighbour-item.result.asn (asns (take i xs)) (asns (take (i + 1) xs))
+    (λ m is. subst (λ t. (t.asn ≡ m) ⊎ (occurs m (asns (take i xs)) ≡ true)) (sym c.neighbour-item.is) (among_more xs i m c.neighbour-item.result c.loop-neighbour-test.true is))
+    c.loop-neighbour.best (option_map (λ (o : Offer). o.view) (offers c.neighbour-item.result.asn)) refl c.loop-neighbour.invariant in
+    subst (IsBestViewOf (here.policy c.args.asn) offers (asns (take (i + 1) xs))) (sym c.with_offer-best.ensures) step
+
+pub returns : goal.returns
+returns g c =
+    let here = setting g.P.RoutePolicy.meaning c.args.graph.now c.args.book.now (state_seen c.args.reads (g.V.OriginStates.state_of c.args.states.now (prefix_of c.args.table.now))) in
+    let own = policy_at c.args.book.now c.args.asn in
+    let offers = λ (n : ℕ). offers_of c.args.part here (routing_of c.args.pool.now c.args.table.now c.args.overlay.now) c.args.asn n in
+    let given = λ (n : ℕ). given_in_part c.args.part here (routing_of c.args.pool.now c.args.table.now c.args.overlay.now) c.args.asn n in
+    let xs = c.args.neighbours.now in
+    let i = c.loop-neighbour.neighbour-index in
+    best_of_all (here.policy c.args.asn) (g.met.P.RoutePolicy.ranks_offers own) offers (λ n o e. (given n o e).neighbour)
+    (asns xs) (λ n o e. let from : GivenBy (what c.args.graph.now c.args.asn n) n o = given n o e in c.requires.neighbours.complete n from.from from.linked)
+    c.loop-neighbour.best (subst (λ ys. IsBestViewOf (here.policy c.args.asn) offers (asns ys) c.loop-neighbour.best) (take_all i xs c.loop-neighbour-test.false) c.loop-neighbour.invariant)

@@ -1,0 +1,32 @@
+use Rattle.std.specs.Prelude.{is_some}
+use Rattle.std.proofs.Common.{sym, ◌≡◌, None, rules, ap, ◌∙◌}
+use Rattle.stability_laws.specs.Book.{policy_at}
+use Rattle.route_choice.specs.Tables.{prefix_of, seed_at}
+use Rattle.route_choice.specs.Routings.{routing_of, seeds_of}
+use Rattle.route_choice.proofs.Lists.{seed_there}
+use Rattle.route_choice.proofs.Unread.{choice_seen, nothing_seen}
+use Rattle.route_choice.proofs.choosing.evaluate.Goals as goal
+
+pub returns-in-Some-clause-choice : goal.returns-in-Some-clause-choice
+returns-in-Some-clause-choice g c =
+    let none : seeds_of c.args.pool.now c.args.seeds.now c.args.asn ≡ None = search rules in
+    let reads : c.reads_state-reads.result ≡ (g.P.RoutePolicy.meaning (policy_at c.args.book.now c.args.asn)).reads_state =
+    c.reads_state-reads.ensures ∙ ap (λ p. (g.P.RoutePolicy.meaning p).reads_state) c.policy.ensures in
+    choice_seen g.P.RoutePolicy.meaning c.args.graph.now c.args.book.now (routing_of c.args.pool.now c.args.table.now c.args.overlay.now) c.args.asn
+    (g.met.P.RoutePolicy.ignores_state (policy_at c.args.book.now c.args.asn)) c.args.part (g.V.OriginStates.state_of c.args.states.now (prefix_of c.args.table.now))
+    c.reads_state-reads.result reads (seeds_of c.args.pool.now c.args.seeds.now c.args.asn) none c.in-Some.view c.in-Some.ensures
+
+pub returns-in-None-clause-choice : goal.returns-in-None-clause-choice
+returns-in-None-clause-choice g c =
+    let none : seeds_of c.args.pool.now c.args.seeds.now c.args.asn ≡ None = search rules in
+    let reads : c.reads_state-reads.result ≡ (g.P.RoutePolicy.meaning (policy_at c.args.book.now c.args.asn)).reads_state =
+    c.reads_state-reads.ensures ∙ ap (λ p. (g.P.RoutePolicy.meaning p).reads_state) c.policy.ensures in (
+      none,
+      nothing_seen g.P.RoutePolicy.meaning c.args.graph.now c.args.book.now (routing_of c.args.pool.now c.args.table.now c.args.overlay.now) c.args.asn
+          (g.met.P.RoutePolicy.ignores_state (policy_at c.args.book.now c.args.asn)) c.args.part (g.V.OriginStates.state_of c.args.states.now (prefix_of c.args.table.now))
+          c.reads_state-reads.result reads c.in-None.ensures,
+    )
+
+pub returns-then-is_some-clause-choice : goal.returns-then-is_some-clause-choice
+returns-then-is_some-clause-choice g c =
+    seed_there c.args.pool.now (seed_at c.args.seeds.now c.args.asn) (ap is_some (sym c.get.ensures) ∙ sym c.is_some.ensures ∙ c.if-is_some.true)

@@ -1,0 +1,7 @@
+pub mod Slots
+pub mod Holds
+pub mod Tables
+pub mod Routings
+pub mod Choices
+pub mod Resources
+pub mod Named

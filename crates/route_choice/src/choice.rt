@@ -1,0 +1,26 @@
+use net_names::{Asn, Rel};
+
+/// Which offers a step looks at.
+#[derive(Clone, Copy, Debug, PartialEq, Eq)]
+pub enum Part {
+    /// Those of customers.
+    Up,
+    /// All.
+    Whole,
+}
+
+/// What an AS chooses.
+#[derive(Clone, Copy, Debug, PartialEq, Eq)]
+pub enum Choice {
+    /// It has no seed, and there is no offer.
+    Nothing,
+    /// It has a seed.
+    Seed,
+    /// It has no seed, and this neighbour, which is `rel` to it, makes the best offer.
+    Via {
+        /// Who makes the offer.
+        neighbour: Asn,
+        /// What the neighbour is to the AS.
+        rel: Rel,
+    },
+}

@@ -1,0 +1,53 @@
+//! What an AS chooses.
+
+ghost use Rattle.std.specs.Prelude.{◌≡◌, ◌+◌};
+ghost use Rattle.stability_laws.specs.Book.{policy_at};
+ghost use Rattle.stability_laws.specs.World.{setting};
+ghost use Rattle.route_choice.specs.Tables.{prefix_of};
+ghost use Rattle.route_choice.specs.Routings.{routing_of, seeds_of};
+ghost use Rattle.route_choice.specs.Choices.{offers_of, IsChoice};
+ghost use Rattle.route_choice.specs.Resources.{AreLive};
+
+use crate::best::best_view;
+use crate::{Choice, Overlay, Part, SeedIds, Steps, Table};
+use as_graph::Graph;
+use net_names::Asn;
+use path_pool::PathPool;
+use policy_laws::{OriginStates, RoutePolicy};
+use stability_laws::Book;
+use std::sync::ledger::Ledger;
+
+/// What an AS chooses, in one step: its seed, or else the best offer of the part, or nothing. The
+/// offers are those of the table with the changes in place. Takes no memory.
+pub fn evaluate<P: RoutePolicy, V: OriginStates, L: Ledger>(
+    graph: &Graph,
+    book: &Book<P>,
+    states: &V,
+    seeds: &SeedIds,
+    pool: &PathPool,
+    table: &Table,
+    overlay: &Overlay,
+    asn: Asn,
+    part: Part,
+    steps: &mut Steps<L>,
+) -> Choice
+    requires { AreLive pool.now table.now overlay.now }
+    ensures choice { IsChoice (P.meaning (policy_at book.now asn)) (seeds_of pool.now seeds.now asn) (λ n. offers_of part (setting P.meaning graph.now book.now (V.state_of states.now (prefix_of table.now))) (routing_of pool.now table.now overlay.now) asn n) result }
+    ensures cost { steps.new ≡ steps.old + 1 }
+{
+    steps.tick();
+    if seeds.get(asn).is_some() {
+        return Choice::Seed;
+    }
+    let reads = book.policy(asn).reads_state();
+    let neighbours = graph.neighbours(asn);
+    match best_view(
+        graph, neighbours, book, states, reads, pool, table, overlay, asn, part,
+    ) {
+        Some(view) => Choice::Via {
+            neighbour: view.neighbour,
+            rel: view.rel,
+        },
+        None => Choice::Nothing,
+    }
+}

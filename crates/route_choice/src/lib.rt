@@ -1,0 +1,31 @@
+//! What one AS chooses, and what all ASes hold. A table has for one prefix what each AS holds, an
+//! overlay has changes of it, and both name paths of a pool. A step of an AS takes its seed, or
+//! else its best offer, or nothing, and puts the entry that this names into the overlay. It takes
+//! no memory, and each step is counted. Who makes steps needs only that they can be made, and
+//! learns what each leaves: the routing, the holds and the room.
+#![tactic(auto)]
+
+mod best;
+mod choice;
+mod choosing;
+mod held;
+mod overlay;
+mod seeds;
+mod settling;
+mod slots;
+mod stepping;
+mod steps;
+mod table;
+
+pub use choice::{Choice, Part};
+pub use choosing::evaluate;
+pub use held::{Held, SeedHeld};
+pub use overlay::Overlay;
+pub use seeds::SeedIds;
+pub use settling::settle;
+pub use stepping::visit;
+pub use steps::Steps;
+pub use table::Table;
+
+#[cfg(test)]
+mod tests;

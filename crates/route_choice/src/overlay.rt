@@ -1,0 +1,119 @@
+//! Changes of a table.
+
+ghost use Rattle.std.specs.Prelude.{◌≡◌, ◌≢◌, ◌⊎◌, ℕ, ◌+◌, ◌<◌, ◌≤◌, [], ◌∷◌, ◌++◌, length, slice_get, Some, None, IsSome, IsOk, OnOk, is_some, nat_eq, unwrap_or};
+ghost use Rattle.std.specs.List.{IsDistinct};
+ghost use Rattle.net_names.specs.Numbers.{occurs};
+
+use crate::Held;
+use crate::slots::{exchange, let_all_go};
+use indexmap::IndexMap;
+use net_names::{Asn, NoMemory};
+use path_pool::PathPool;
+use std::alloc::Global;
+
+/// Changes of a table: at some ASes a new entry, or none. It owns one outside hold for each of its
+/// entries.
+#[derive(Drop)]
+pub struct Overlay {
+    pub(crate) changes: IndexMap<Asn, Option<Held>>,
+}
+
+impl Overlay {
+    ghost use Rattle.route_choice.specs.Tables.{change_at, places_of, overlay_spare, overlay_uses, HasPlace};
+    ghost use Rattle.route_choice.specs.Slots.{use_of};
+    ghost use Rattle.route_choice.specs.Holds.{GivesBack};
+    ghost use Rattle.path_pool.specs.Pool.{holds_of};
+
+    /// No change.
+    pub fn new(alloc: Global) -> Overlay
+        ensures none { (a : ℕ) → change_at result a ≡ None }
+        ensures places { places_of result ≡ [] }
+        ensures uses { (k : ℕ) → overlay_uses result k ≡ 0 }
+    {
+        Overlay {
+            changes: IndexMap::new(alloc),
+        }
+    }
+
+    /// Makes room for `n` more ASes. The changes stay, also after a refusal.
+    pub fn room(&mut self, n: usize) -> Result<(), NoMemory>
+        ensures room { OnOk result (n ≤ overlay_spare self.new) }
+        ensures more { overlay_spare self.old ≤ overlay_spare self.new }
+        ensures succeeds { n ≤ overlay_spare self.old → IsOk result }
+        ensures same { (a : ℕ) → change_at self.new a ≡ change_at self.old a }
+        ensures places { places_of self.new ≡ places_of self.old }
+        ensures uses { (k : ℕ) → overlay_uses self.new k ≡ overlay_uses self.old k }
+    {
+        match self.changes.reserve(n) {
+            Ok(()) => Ok(()),
+            Err(_) => Err(NoMemory),
+        }
+    }
+
+    /// The change at an AS, if there is one: a new entry, or none.
+    pub fn get(&self, asn: Asn) -> Option<Option<Held>>
+        ensures { result ≡ change_at self.now asn }
+    {
+        self.changes.get(&asn).copied()
+    }
+
+    /// Puts a change at an AS, in place of the one that it had. The caller gives the hold of the
+    /// new entry to the overlay, and takes over that of the replaced one. Takes no memory: an AS
+    /// that has no change yet takes up room for one.
+    pub fn put(&mut self, asn: Asn, held: Option<Held>)
+        requires { HasPlace self.old asn }
+        ensures this { change_at self.new asn ≡ Some held }
+        ensures others { (a : ℕ) → a ≢ asn → change_at self.new a ≡ change_at self.old a }
+        ensures uses { (k : ℕ) → overlay_uses self.new k + use_of k (unwrap_or (change_at self.old asn) None) ≡ overlay_uses self.old k + use_of k held }
+        ensures spare { overlay_spare self.old ≤ overlay_spare self.new + 1 }
+        ensures kept { IsSome (change_at self.old asn) → places_of self.new ≡ places_of self.old }
+        ensures new_place { change_at self.old asn ≡ None → places_of self.new ≡ places_of self.old ++ asn ∷ [] }
+        ensures kept_spare { IsSome (change_at self.old asn) → overlay_spare self.new ≡ overlay_spare self.old }
+    {
+        let _ = self.exchange(asn, held);
+    }
+
+    // Puts a change at an AS. Returns the entry of the replaced one.
+    pub(crate) fn exchange(&mut self, asn: Asn, held: Option<Held>) -> Option<Held>
+        requires { HasPlace self.old asn }
+        ensures old { result ≡ unwrap_or (change_at self.old asn) None }
+        ensures this { change_at self.new asn ≡ Some held }
+        ensures others { (a : ℕ) → a ≢ asn → change_at self.new a ≡ change_at self.old a }
+        ensures uses { (k : ℕ) → overlay_uses self.new k + use_of k result ≡ overlay_uses self.old k + use_of k held }
+        ensures spare { overlay_spare self.old ≤ overlay_spare self.new + 1 }
+        ensures kept { IsSome (change_at self.old asn) → places_of self.new ≡ places_of self.old }
+        ensures new_place { change_at self.old asn ≡ None → places_of self.new ≡ places_of self.old ++ asn ∷ [] }
+        ensures kept_spare { IsSome (change_at self.old asn) → overlay_spare self.new ≡ overlay_spare self.old }
+    {
+        exchange(&mut self.changes, asn, held)
+    }
+
+    /// How many ASes have a change. Each stands at one place.
+    pub fn len(&self) -> usize
+        ensures count { result ≡ length (places_of self.now) }
+        ensures listed { (a : ℕ) → occurs a (places_of self.now) ≡ is_some (change_at self.now a) }
+        ensures apart { IsDistinct nat_eq (places_of self.now) }
+    {
+        self.changes.len()
+    }
+
+    /// The AS at a place, in the order in which the ASes were first put.
+    pub fn at(&self, place: usize) -> Option<Asn>
+        ensures { result ≡ slice_get (places_of self.now) place }
+    {
+        match self.changes.get_index(place) {
+            Some((asn, _)) => Some(*asn),
+            None => None,
+        }
+    }
+
+    /// Gives back the holds of all entries. Each cell that stays live keeps its path. Takes no
+    /// memory.
+    pub fn undo(self, pool: &mut PathPool)
+        requires { (k : ℕ) → overlay_uses self k ≤ holds_of pool.old k }
+        ensures holds { (k : ℕ) → holds_of pool.new k + overlay_uses self k ≡ holds_of pool.old k }
+        ensures back { GivesBack pool.old pool.new }
+    {
+        let_all_go(&self.changes, pool);
+    }
+}

@@ -1,0 +1,207 @@
+//! The entry that a choice names, put in place.
+
+ghost use Rattle.std.specs.Prelude.{◌≡◌, ◌≢◌, ◌↔◌, ℕ, ◌+◌, ◌<◌, ◌≤◌, IsTrue, IsSome, IsSomeAnd, Some, None, false, option_map, suc, unwrap_or, ◌∷◌};
+ghost use Rattle.route_choice.specs.declared.held.Held.{Held as AHeld};
+ghost use Rattle.path_pool.specs.declared.pool.PathPool.{PathPool as APool};
+ghost use Rattle.path_pool.specs.Pool.{IsLive, list_of, holds_of, count_of, live_count, spare_of, limit_of};
+ghost use Rattle.stability_laws.specs.Book.{policy_at};
+ghost use Rattle.route_choice.specs.Slots.{use_of};
+ghost use Rattle.route_choice.specs.Tables.{change_at, overlay_uses, HasPlace};
+ghost use Rattle.route_choice.specs.Routings.{entry_of, routing_of, seeds_of};
+ghost use Rattle.route_choice.specs.Choices.{named_by};
+ghost use Rattle.route_choice.specs.Named.{wanted_entry, IsWantedLive, IsLonger, Takes};
+ghost use Rattle.route_choice.specs.Resources.{AreLive, AreSeedsLive, CanChange, IsNameable, IsVia, Spends, GivesUpNothing, Keeps};
+
+use crate::best::held;
+use crate::slots::let_go;
+use crate::{Choice, Held, Overlay, SeedIds, Table};
+use net_names::{Asn, Class};
+use path_pool::{PathId, PathPool, paths_are_not_empty};
+use policy_laws::RoutePolicy;
+use stability_laws::{Book, carried, class_from};
+
+// The entry that a choice names, before its path is made.
+#[derive(Clone, Copy)]
+pub(crate) enum Wanted {
+    // None.
+    Nothing,
+    // This one, with a path that is there.
+    Ready(Held),
+    // This one, with the AS before its path.
+    Longer(Held),
+}
+
+// The entry that the choice names.
+fn wanted_by<P: RoutePolicy>(
+    book: &Book<P>,
+    seeds: &SeedIds,
+    table: &Table,
+    overlay: &Overlay,
+    asn: Asn,
+    choice: Choice,
+) -> Wanted
+    ensures entry { (p : APool) → wanted_entry p asn result ≡ named_by (λ n. P.meaning (policy_at book.now n)) (seeds_of p seeds.now asn) (routing_of p table.now overlay.now) asn choice }
+    ensures live { (p : APool) → AreLive p table.now overlay.now → AreSeedsLive p seeds.now → IsWantedLive p result }
+    ensures via { IsLonger result → IsVia choice }
+{
+    match choice {
+        Choice::Nothing => Wanted::Nothing,
+        Choice::Seed => match seeds.get(asn) {
+            Some(seed) => Wanted::Ready(Held {
+                class: Class::Origin,
+                path: seed.path,
+                otc: seed.otc,
+            }),
+            None => Wanted::Nothing,
+        },
+        Choice::Via { neighbour, rel } => match held(table, overlay, neighbour) {
+            Some(given) => {
+                let sender = book.policy(neighbour);
+                let receiver = book.policy(asn);
+                Wanted::Longer(Held {
+                    class: class_from(rel),
+                    path: given.path,
+                    otc: carried(sender, receiver, neighbour, rel.converse(), given.otc),
+                })
+            }
+            None => Wanted::Nothing,
+        },
+    }
+}
+
+// Whether two paths have the same ASes.
+fn same_path(pool: &PathPool, a: PathId, b: PathId) -> bool
+    requires first { IsLive pool.now a.0 }
+    requires second { IsLive pool.now b.0 }
+    ensures { IsTrue result ↔ (list_of pool.now a.0 ≡ list_of pool.now b.0) }
+{
+    paths_are_not_empty(pool);
+    let mut x = a;
+    let mut y = b;
+    'cells: while x != y {
+        if pool.head(x) != pool.head(y) {
+            return false;
+        }
+        let Some(rest) = pool.tail(x) else {
+            return pool.tail(y).is_none();
+        };
+        let Some(other) = pool.tail(y) else {
+            return false;
+        };
+        x = rest;
+        y = other;
+    }
+    true
+}
+
+// Whether a path is the AS and then the other path.
+fn is_longer(pool: &PathPool, path: PathId, asn: Asn, rest: PathId) -> bool
+    requires first { IsLive pool.now path.0 }
+    requires second { IsLive pool.now rest.0 }
+    ensures { IsTrue result ↔ (list_of pool.now path.0 ≡ asn ∷ list_of pool.now rest.0) }
+{
+    paths_are_not_empty(pool);
+    if pool.head(path) != asn {
+        return false;
+    }
+    match pool.tail(path) {
+        Some(tail) => same_path(pool, tail, rest),
+        None => false,
+    }
+}
+
+// Whether the class and the number are the same.
+fn same_kind(a: &Held, b: &Held) -> bool
+    ensures { IsTrue result ↔ ((a.now.class ≡ b.now.class) × (a.now.otc ≡ b.now.otc)) }
+{
+    a.class == b.class && a.otc == b.otc
+}
+
+// Whether the wanted entry is held.
+fn is_held(pool: &PathPool, asn: Asn, have: &Option<Held>, wanted: &Wanted) -> bool
+    requires have { (h : AHeld) → have.now ≡ Some h → IsLive pool.now h.path.0 }
+    requires wanted { IsWantedLive pool.now wanted.now }
+    ensures { IsTrue result ↔ (option_map (entry_of pool.now) have.now ≡ wanted_entry pool.now asn wanted.now) }
+{
+    match (have, wanted) {
+        (None, Wanted::Nothing) => true,
+        (Some(a), Wanted::Ready(b)) => same_kind(a, b) && same_path(pool, a.path, b.path),
+        (Some(a), Wanted::Longer(b)) => same_kind(a, b) && is_longer(pool, a.path, asn, b.path),
+        (None, _) | (Some(_), Wanted::Nothing) => false,
+    }
+}
+
+// Makes the wanted entry, with a hold of its path.
+fn made(pool: &mut PathPool, asn: Asn, wanted: Wanted) -> Option<Held>
+    requires live { IsWantedLive pool.old wanted }
+    requires spare { 0 < spare_of pool.old }
+    requires counts { (k : ℕ) → count_of pool.old k < 4294967295 }
+    ensures entry { option_map (entry_of pool.new) result ≡ wanted_entry pool.old asn wanted }
+    ensures takes { Takes pool.old pool.new result }
+    ensures live { live_count pool.old < live_count pool.new → IsLonger wanted }
+{
+    match wanted {
+        Wanted::Nothing => None,
+        Wanted::Ready(held) => {
+            pool.hold(held.path);
+            Some(held)
+        }
+        Wanted::Longer(held) => Some(Held {
+            class: held.class,
+            path: pool.cons(asn, Some(held.path)),
+            otc: held.otc,
+        }),
+    }
+}
+
+// Puts the wanted entry in place, and gives back the hold of a change that was there.
+fn replace(pool: &mut PathPool, overlay: &mut Overlay, asn: Asn, wanted: Wanted)
+    requires live { IsWantedLive pool.old wanted }
+    requires spare { 0 < spare_of pool.old }
+    requires counts { (k : ℕ) → count_of pool.old k < 4294967295 }
+    requires held { (k : ℕ) → overlay_uses overlay.old k ≤ holds_of pool.old k }
+    requires room { HasPlace overlay.old asn }
+    ensures put { IsSomeAnd (change_at overlay.new asn) (λ e. option_map (entry_of pool.new) e ≡ wanted_entry pool.old asn wanted) }
+    ensures spent { Spends pool.old pool.new overlay.old overlay.new asn }
+    ensures kept { unwrap_or (change_at overlay.old asn) None ≡ None → (k : ℕ) → IsLive pool.old k → IsLive pool.new k }
+    ensures live { live_count pool.old < live_count pool.new → IsLonger wanted }
+{
+    let new = made(pool, asn, wanted);
+    let old = overlay.exchange(asn, new);
+    let_go(pool, old);
+}
+
+/// Puts the entry that a choice names, and answers whether it is another one than before, by its
+/// class, its path and its number of the attribute Only to Customer. Where it is the same, all
+/// stays. The choice `Nothing` names no entry, `Seed` the seed, and `Via` the neighbour's entry as
+/// it is passed on. Takes no memory.
+pub fn settle<P: RoutePolicy>(
+    book: &Book<P>,
+    seeds: &SeedIds,
+    pool: &mut PathPool,
+    table: &Table,
+    overlay: &mut Overlay,
+    asn: Asn,
+    choice: Choice,
+) -> bool
+    requires choice { IsNameable seeds.now table.now overlay.old asn choice }
+    requires pool { CanChange pool.old seeds.now table.now overlay.old 1 }
+    requires room { HasPlace overlay.old asn }
+    ensures named { routing_of pool.new table.now overlay.new asn ≡ named_by (λ n. P.meaning (policy_at book.now n)) (seeds_of pool.old seeds.now asn) (routing_of pool.old table.now overlay.old) asn choice }
+    ensures others { (n : ℕ) → n ≢ asn → routing_of pool.new table.now overlay.new n ≡ routing_of pool.old table.now overlay.old n }
+    ensures changed { IsTrue result ↔ (routing_of pool.new table.now overlay.new asn ≢ routing_of pool.old table.now overlay.old asn) }
+    ensures unchanged { result ≡ false → (pool.new ≡ pool.old) × (overlay.new ≡ overlay.old) }
+    ensures put { IsTrue result → IsSome (change_at overlay.new asn) }
+    ensures spent { Spends pool.old pool.new overlay.old overlay.new asn }
+    ensures live { live_count pool.old < live_count pool.new → IsVia choice }
+    ensures next { (n : ℕ) → CanChange pool.old seeds.now table.now overlay.old (suc n) → AreSeedsLive pool.new seeds.now → CanChange pool.new seeds.now table.now overlay.new n }
+    ensures kept { GivesUpNothing overlay.old (routing_of pool.old table.now overlay.old) (routing_of pool.new table.now overlay.new) asn → Keeps pool.old pool.new seeds.now }
+{
+    let wanted = wanted_by(book, seeds, table, overlay, asn, choice);
+    let have = held(table, overlay, asn);
+    if is_held(pool, asn, &have, &wanted) {
+        return false;
+    }
+    replace(pool, overlay, asn, wanted);
+    true
+}

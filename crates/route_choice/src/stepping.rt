@@ -1,0 +1,50 @@
+//! One step of an AS.
+
+ghost use Rattle.std.specs.Prelude.{◌≡◌, ◌≢◌, ◌↔◌, ℕ, suc, ◌+◌, ◌<◌, IsTrue, IsSome, false};
+ghost use Rattle.path_pool.specs.Pool.{live_count};
+ghost use Rattle.stability_laws.specs.World.{setting};
+ghost use Rattle.route_choice.specs.Tables.{prefix_of, change_at};
+ghost use Rattle.route_choice.specs.Routings.{routing_of, seeds_of};
+ghost use Rattle.route_choice.specs.Choices.{IsStepOf};
+ghost use Rattle.route_choice.specs.Resources.{AreSeedsLive, CanStep, Spends, GivesUpNothing, Keeps};
+
+use crate::choosing::evaluate;
+use crate::settling::settle;
+use crate::{Overlay, Part, SeedIds, Steps, Table};
+use as_graph::Graph;
+use net_names::Asn;
+use path_pool::PathPool;
+use policy_laws::{OriginStates, RoutePolicy};
+use stability_laws::Book;
+use std::sync::ledger::Ledger;
+
+/// One step of an AS: it chooses by [`evaluate`], and the entry is put by [`settle`]. Answers
+/// whether it is another one than before. Takes no memory.
+pub fn visit<P: RoutePolicy, V: OriginStates, L: Ledger>(
+    graph: &Graph,
+    book: &Book<P>,
+    states: &V,
+    seeds: &SeedIds,
+    pool: &mut PathPool,
+    table: &Table,
+    overlay: &mut Overlay,
+    asn: Asn,
+    part: Part,
+    steps: &mut Steps<L>,
+) -> bool
+    requires { CanStep pool.old seeds.now table.now overlay.old 1 }
+    ensures cost { steps.new ≡ steps.old + 1 }
+    ensures step { IsStepOf part (setting P.meaning graph.now book.now (V.state_of states.now (prefix_of table.now))) (seeds_of pool.old seeds.now) (routing_of pool.old table.now overlay.old) asn (routing_of pool.new table.now overlay.new) }
+    ensures changed { IsTrue result ↔ (routing_of pool.new table.now overlay.new asn ≢ routing_of pool.old table.now overlay.old asn) }
+    ensures unchanged { result ≡ false → (pool.new ≡ pool.old) × (overlay.new ≡ overlay.old) }
+    ensures put { IsTrue result → IsSome (change_at overlay.new asn) }
+    ensures spent { Spends pool.old pool.new overlay.old overlay.new asn }
+    ensures live { live_count pool.old < live_count pool.new → IsSome (routing_of pool.new table.now overlay.new asn) }
+    ensures next { (n : ℕ) → CanStep pool.old seeds.now table.now overlay.old (suc n) → AreSeedsLive pool.new seeds.now → CanStep pool.new seeds.now table.now overlay.new n }
+    ensures kept { GivesUpNothing overlay.old (routing_of pool.old table.now overlay.old) (routing_of pool.new table.now overlay.new) asn → Keeps pool.old pool.new seeds.now }
+{
+    let choice = evaluate(
+        graph, book, states, seeds, pool, table, overlay, asn, part, steps,
+    );
+    settle(book, seeds, pool, table, overlay, asn, choice)
+}

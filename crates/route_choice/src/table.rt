@@ -1,0 +1,99 @@
+//! The routing of one prefix and one round.
+
+ghost use Rattle.std.specs.Prelude.{◌≡◌, ℕ, ◌+◌, ◌≤◌, length, None, IsOk, OnOk, unwrap_or};
+
+use crate::slots::replace_all;
+use crate::{Held, Overlay};
+use indexmap::IndexMap;
+use net_names::{Asn, NoMemory, Prefix};
+use path_pool::PathPool;
+use std::alloc::Global;
+
+/// What each AS holds of one prefix in one round. It owns one outside hold for each of its
+/// entries.
+#[derive(Drop)]
+pub struct Table {
+    prefix: Prefix,
+    slots: IndexMap<Asn, Option<Held>>,
+}
+
+impl Table {
+    ghost use Rattle.route_choice.specs.Tables.{prefix_of, held_at, table_uses, table_spare, change_at, places_of, overlay_uses, joined};
+    ghost use Rattle.route_choice.specs.Routings.{table_routing, routing_of};
+    ghost use Rattle.route_choice.specs.Holds.{GivesBack};
+    ghost use Rattle.path_pool.specs.Pool.{holds_of};
+
+    /// The table of a prefix in which no AS holds anything.
+    pub fn new(alloc: Global, prefix: Prefix) -> Table
+        ensures prefix { prefix_of result ≡ prefix }
+        ensures none { (a : ℕ) → held_at result a ≡ None }
+        ensures uses { (k : ℕ) → table_uses result k ≡ 0 }
+    {
+        Table {
+            prefix,
+            slots: IndexMap::new(alloc),
+        }
+    }
+
+    /// The table of a prefix that has the entries of an overlay. It takes over their holds. Takes
+    /// no memory.
+    pub fn from_changes(prefix: Prefix, overlay: Overlay) -> Table
+        ensures prefix { prefix_of result ≡ prefix }
+        ensures entries { (a : ℕ) → held_at result a ≡ unwrap_or (change_at overlay a) None }
+        ensures uses { (k : ℕ) → table_uses result k ≡ overlay_uses overlay k }
+    {
+        Table {
+            prefix,
+            slots: overlay.changes,
+        }
+    }
+
+    /// The prefix.
+    pub fn prefix(&self) -> Prefix
+        ensures { result ≡ prefix_of self.now }
+    {
+        self.prefix
+    }
+
+    /// What an AS holds, if anything.
+    pub fn get(&self, asn: Asn) -> Option<Held>
+        ensures { result ≡ held_at self.now asn }
+    {
+        match self.slots.get(&asn) {
+            Some(entry) => *entry,
+            None => None,
+        }
+    }
+
+    /// Makes room for `n` more ASes. The entries stay, also after a refusal.
+    pub fn room(&mut self, n: usize) -> Result<(), NoMemory>
+        ensures room { OnOk result (n ≤ table_spare self.new) }
+        ensures succeeds { n ≤ table_spare self.old → IsOk result }
+        ensures prefix { prefix_of self.new ≡ prefix_of self.old }
+        ensures same { (a : ℕ) → held_at self.new a ≡ held_at self.old a }
+        ensures uses { (k : ℕ) → table_uses self.new k ≡ table_uses self.old k }
+    {
+        match self.slots.reserve(n) {
+            Ok(()) => Ok(()),
+            Err(_) => Err(NoMemory),
+        }
+    }
+
+    /// Puts the changes in place, and gives back the holds of the entries that are replaced or
+    /// taken away. Each cell that stays live keeps its path. Takes no memory.
+    pub fn commit(&mut self, overlay: Overlay, pool: &mut PathPool)
+        requires room { length (places_of overlay) ≤ table_spare self.old }
+        requires held { (k : ℕ) → table_uses self.old k + overlay_uses overlay k ≤ holds_of pool.old k }
+        ensures prefix { prefix_of self.new ≡ prefix_of self.old }
+        ensures entries { (a : ℕ) → held_at self.new a ≡ joined self.old overlay a }
+        ensures routing { (a : ℕ) → table_routing pool.new self.new a ≡ routing_of pool.old self.old overlay a }
+        ensures holds { (k : ℕ) → table_uses self.new k + holds_of pool.old k ≡ table_uses self.old k + overlay_uses overlay k + holds_of pool.new k }
+        ensures back { GivesBack pool.old pool.new }
+    {
+        if self.slots.is_empty() {
+            self.slots = overlay.changes;
+        } else {
+            replace_all(&mut self.slots, &overlay.changes, pool);
+        }
+    }
+}

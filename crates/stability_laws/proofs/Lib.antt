@@ -1,0 +1,13 @@
+pub mod Local
+pub mod OneRouting
+pub mod LocalLaws
+pub mod Answer
+pub mod OneFamily
+pub mod BestViews
+pub mod Verdicts
+pub mod Passes
+pub mod Pieces
+pub mod Activations
+pub mod Stored
+pub mod Books
+pub mod Shorts

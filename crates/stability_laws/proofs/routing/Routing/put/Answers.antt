@@ -1,0 +1,16 @@
+use Rattle.std.proofs.Common.{sym, ap, ◌∙◌, subst}
+use Rattle.std.specs.FinMap as map
+use Rattle.stability_laws.specs.Short.{HasShortPaths}
+use Rattle.stability_laws.proofs.Stored.{stored_put}
+use Rattle.stability_laws.proofs.Shorts.{short_insert}
+use Rattle.stability_laws.proofs.routing.Routing.put.Goals as goal
+
+pub returns-in-Ok-clause-ok : goal.returns-in-Ok-clause-ok
+returns-in-Ok-clause-ok c =
+    stored_put c.self.inside.entries.entries c.insert.new.self.entries c.args.asn c.args.entry c.in-Ok.ensures.updates.0
+    ∙ ap (λ m. map.insert m c.args.asn c.args.entry) c.self.view_is
+
+pub invariant_of-self : goal.invariant_of-self
+invariant_of-self c =
+    subst HasShortPaths (sym (stored_put c.self.inside.entries.entries c.insert.new.self.entries c.args.asn c.args.entry c.in-Ok.ensures.updates.0))
+    (short_insert (map.from_entries c.self.inside.entries.entries) c.args.asn c.args.entry c.self.invariant c.requires)

@@ -1,0 +1,15 @@
+pub mod Entries
+pub mod Offers
+pub mod Stable
+pub mod Rounds
+pub mod Book
+pub mod Rows
+pub mod World
+pub mod Laws
+pub mod Carried
+pub mod BestView
+pub mod Short
+pub mod Verdict
+pub mod Steps
+pub mod Runs
+pub mod AnyOrder

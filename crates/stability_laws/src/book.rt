@@ -1,0 +1,94 @@
+//! Which policy an AS has.
+ghost use Rattle.std.specs.Prelude.{◌≡◌, IsTrue, OnOk, OnErr};
+ghost use Rattle.std.specs.FinMap as map;
+ghost use Rattle.std.specs.FinSet as set;
+ghost use Rattle.stability_laws.specs.Book.{policy_at, with_room, with_policy, without_policy};
+
+use indexmap::IndexMap;
+use net_names::{Asn, NoMemory};
+use std::alloc::Global;
+use std::marker::Model;
+
+/// A policy for each AS: that of the named ones, and one for the rest. Contracts see the policy of the
+/// rest, the finite map of the named ones, and the set of the ASes that can be named without memory.
+#[derive(Drop)]
+pub struct Book<P> {
+    rest: P,
+    named: IndexMap<Asn, Option<P>>,
+}
+
+impl<P> Model for Book<P> {
+    ghost use Rattle.stability_laws.specs.Book.{PolicyBook, book_code};
+    ghost use Rattle.stability_laws.specs.Rows.{book_of};
+
+    ghost Value = { PolicyBook P };
+
+    ghost coded = { book_code P.code };
+
+    ghost view = { λ b. book_of b.rest b.named.entries };
+}
+
+impl<P> Book<P> {
+    /// The book that has this policy for every AS.
+    pub fn new(alloc: Global, rest: P) -> Book<P>
+        ensures rest { result.rest ≡ rest }
+        ensures named { result.named ≡ map.empty }
+        ensures room { result.room ≡ set.empty }
+    {
+        Book {
+            rest,
+            named: IndexMap::new(alloc),
+        }
+    }
+
+    /// The policy of an AS. It costs next to nothing where no AS has ever been named.
+    pub fn policy(&self, asn: Asn) -> &P
+        ensures { result.now ≡ policy_at self.now asn }
+    {
+        if self.named.len() == 0 {
+            return &self.rest;
+        }
+        match self.named.get(&asn) {
+            Some(row) => match row {
+                Some(policy) => policy,
+                None => &self.rest,
+            },
+            None => &self.rest,
+        }
+    }
+}
+
+impl<P: Drop> Book<P> {
+    /// Makes room for an AS: from then on it can be named, and named otherwise, without memory. `Err`
+    /// where there is not enough memory; then the book stays as it was.
+    pub fn room(&mut self, asn: Asn) -> Result<(), NoMemory>
+        ensures ok { OnOk result (self.new ≡ with_room self.old asn) }
+        ensures err { OnErr result (self.new ≡ self.old) }
+    {
+        if self.named.get_index_of(&asn).is_some() {
+            return Ok(());
+        }
+        match self.named.insert(asn, None) {
+            Ok(_) => Ok(()),
+            Err(_) => Err(NoMemory),
+        }
+    }
+
+    /// Names an AS with this policy, in place of an earlier one. It takes no memory and keeps the room.
+    pub fn set(&mut self, asn: Asn, policy: P)
+        requires { IsTrue (set.contains self.old.room asn) }
+        ensures { self.new ≡ with_policy self.old asn policy }
+    {
+        let _ = self.named.insert(asn, Some(policy));
+    }
+
+    /// Gives an AS the policy of the rest again. It takes no memory and keeps the room.
+    pub fn clear(&mut self, asn: Asn)
+        ensures { self.new ≡ without_policy self.old asn }
+    {
+        if self.named.get_index_of(&asn).is_none() {
+            return;
+        }
+        let _ = self.named.insert(asn, None);
+    }
+}

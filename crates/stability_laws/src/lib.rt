@@ -1,0 +1,31 @@
+//! Offers between ASes, what it is for a routing to be right and stable, and that there is one stable
+//! routing.
+//!
+//! A routing is stable where each AS holds its seed, or else the offer that its policy puts first, or
+//! nothing where it has no offer. In a world without a provider cycle no two stable routings differ,
+//! and activations in any order come to the stable one. `check_at` tests one AS, and the laws say what
+//! an offer and a choice depend on.
+#![tactic(auto)]
+
+mod book;
+mod check;
+mod entry;
+mod laws;
+mod offers;
+mod routing;
+mod same;
+mod wrong;
+
+pub use book::Book;
+pub use check::check_at;
+pub use entry::{Entry, Seed};
+pub use laws::{
+    any_order_settles, customers_decide, nothing_up, offer_follows, offer_names, one_answer,
+    one_family, one_stable_routing, right_by_offers, right_follows,
+};
+pub use offers::{carried, class_from, offered_view};
+pub use routing::{Routing, Seeds};
+pub use wrong::Wrong;
+
+#[cfg(test)]
+mod tests;

@@ -1,0 +1,111 @@
+//! Which offer one AS makes to another.
+ghost use Rattle.std.specs.Prelude.{◌≡◌, ◌<◌, ◌-◌, ◌^◌, ℕ, Some, None, length, option_map, if◌then◌else◌};
+ghost use Rattle.net_names.specs.Numbers.{last_or};
+ghost use Rattle.net_names.specs.Links.{converse};
+ghost use Rattle.stability_laws.specs.Entries.{class_of as class_of_rel};
+ghost use Rattle.stability_laws.specs.Offers.{number_sent as sent_number, number_kept as kept_number, offer_given, is_empty};
+ghost use Rattle.stability_laws.specs.Carried.{number_carried};
+
+use crate::entry::Entry;
+use net_names::{Asn, Class, Prefix, Rel};
+use policy_laws::{OriginStates, RoutePolicy, View};
+
+/// The class of an entry that a neighbour gave, which names what the neighbour is.
+pub fn class_from(rel: Rel) -> Class
+    ensures { result ≡ class_of_rel rel }
+{
+    match rel {
+        Rel::Customer => Class::Customer,
+        Rel::Peer => Class::Peer,
+        Rel::Provider => Class::Provider,
+    }
+}
+
+/// The number that `n` sends along with an entry to an AS that is `to` to it (RFC 9234, section 5).
+fn number_sent(marks: bool, n: Asn, to: Rel, otc: Option<Asn>) -> Option<Asn>
+    ensures { result ≡ sent_number marks n to otc }
+{
+    match otc {
+        Some(number) => Some(number),
+        None => match to {
+            Rel::Customer | Rel::Peer => if marks { Some(n) } else { None },
+            Rel::Provider => None,
+        },
+    }
+}
+
+/// The number that an AS keeps of what `n`, which is `from` to it, sent (RFC 9234, section 5).
+fn number_kept(marks: bool, n: Asn, from: Rel, otc: Option<Asn>) -> Option<Asn>
+    ensures { result ≡ kept_number marks n from otc }
+{
+    match otc {
+        Some(number) => Some(number),
+        None => match from {
+            Rel::Customer => None,
+            Rel::Peer | Rel::Provider => if marks { Some(n) } else { None },
+        },
+    }
+}
+
+/// The number that the receiver, which is `to` to the sender `from`, keeps of an entry that the sender
+/// holds with this number in the attribute Only to Customer (RFC 9234, section 5). It takes no memory.
+pub fn carried<P: RoutePolicy>(
+    sender: &P,
+    receiver: &P,
+    from: Asn,
+    to: Rel,
+    otc: Option<Asn>,
+) -> Option<Asn>
+    ensures { result ≡ number_carried (P.meaning sender.now) (P.meaning receiver.now) from to otc }
+{
+    let sent = number_sent(sender.marks(), from, to, otc);
+    number_kept(receiver.marks(), from, to.converse(), sent)
+}
+
+/// The last number of a path, where it has one.
+fn last_of(path: &[Asn]) -> Option<Asn>
+    ensures { result ≡ (if is_empty path.now then None else Some (last_or 0 path.now)) }
+{
+    path.last().copied()
+}
+
+/// The view of the offer that `n`, which is `from` to `a`, makes to `a` of an entry that it holds; `None`
+/// exactly where it makes none: where its policy does not export the entry, the path is empty or goes
+/// through `a`, or the policy of `a` does not accept the view. It takes no memory.
+pub fn offered_view<P: RoutePolicy, V: OriginStates>(
+    sender: &P,
+    receiver: &P,
+    states: &V,
+    prefix: Prefix,
+    n: Asn,
+    a: Asn,
+    from: Rel,
+    held: &Entry,
+) -> Option<View>
+    requires { length held.now.path < 2 ^ 32 - 1 }
+    ensures { result ≡ option_map (λ o. o.view) (offer_given (P.meaning sender.now) (P.meaning receiver.now) (V.state_of states.now prefix) n a (Some from) (Some held.now)) }
+{
+    let path = held.path.as_slice();
+    let to = from.converse();
+    if !sender.exports(held.class, held.otc, to) {
+        return None;
+    }
+    let Some(origin) = last_of(path) else {
+        return None;
+    };
+    if path.contains(&a) {
+        return None;
+    }
+    let view = View {
+        rel: from,
+        neighbour: n,
+        length: path.len() as u32 + 1,
+        state: states.state(prefix, origin),
+        otc: number_sent(sender.marks(), n, to, held.otc),
+    };
+    if receiver.accepts(&view) {
+        Some(view)
+    } else {
+        None
+    }
+}

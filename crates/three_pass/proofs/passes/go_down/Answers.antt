@@ -1,0 +1,83 @@
+use Rattle.std.proofs.Common.{arith, true, ◌≡◌, ◌==◌, ℕ, ◌+◌, ◌-◌, ◌<◌, ◌∷◌, ◌++◌, [], length, take, sym, subst, ap, ◌∙◌}
+use Rattle.std.proofs.lemmas.Bool.{eq-eqb}
+use Rattle.std.proofs.lemmas.List.{take_more, take_all}
+use Rattle.std.proofs.lemmas.List.Folds.{list_any_at}
+use Rattle.net_names.specs.Numbers.{occurs}
+use Rattle.as_graph.specs.Topology.{what, ases}
+use Rattle.as_graph.proofs.Links.{what_mutual, what_self, topology-AreLinks}
+use Rattle.as_graph.proofs.Ranks.{ranks_fall}
+use Rattle.rank_order.specs.Ranks.{rank_at}
+use Rattle.stability_laws.specs.Book.{policy_at}
+use Rattle.stability_laws.specs.World.{setting}
+use Rattle.stability_laws.specs.Stable.{IsLawful}
+use Rattle.route_choice.specs.declared.choice.Part.TheVariants.{Whole}
+use Rattle.route_choice.specs.Routings.{routing_of, seeds_of}
+use Rattle.route_choice.specs.Tables.{prefix_of}
+use Rattle.three_pass.specs.Progress.{AfterWhole}
+use Rattle.three_pass.proofs.InOrder.{turn, down_more, down_fresh, all_right}
+use Rattle.three_pass.proofs.Spending.{can_step, spent_nothing, visited, step_seeds}
+use Rattle.three_pass.proofs.passes.go_down.Goals as goal
+
+pub visit-requires : goal.visit-requires
+visit-requires g c = can_step c.loop-left.pool c.args.seeds.now c.args.table.now c.loop-left.overlay c.args.order.now c.loop-left.invariant.room (omega (arith, c.loop-left-test.true, c.loop-left.invariant.within))
+
+pub loop-left-init : goal.loop-left-init
+loop-left-init g c =
+    let meaning = g.P.RoutePolicy.meaning in
+    let w = c.args.graph.now in
+    let here = setting meaning w c.args.book.now (g.V.OriginStates.state_of c.args.states.now (prefix_of c.args.table.now)) in
+    let lawful = λ (a : ℕ). (let p = policy_at c.args.book.now a in
+    let is : IsLawful (meaning p) = record { ranks_offers = g.met.P.RoutePolicy.ranks_offers p; prefers_customers = g.met.P.RoutePolicy.prefers_customers p; exports_down_only = g.met.P.RoutePolicy.exports_down_only p } in is) in
+    let falls = (ranks_fall (what w) (ases w) (topology-AreLinks w) c.requires.no_cycle (rank_at c.args.ranks.now) c.requires.ranks).falls in
+    let xs = c.args.order.now in
+    let seeds = seeds_of c.args.pool.now c.args.seeds.now in
+    let f = routing_of c.args.pool.now c.args.table.now c.args.overlay.now in
+    record {
+      within = omega arith;
+      steps = omega arith;
+      so_far = subst (λ ys. AfterWhole here seeds ys f) (sym (take_all (length xs) xs (omega arith)))
+          (turn here lawful (what_mutual w) (what_self w) seeds (rank_at c.args.ranks.now) falls xs c.requires.order f c.requires.up);
+      room = c.requires.room;
+      spent = spent_nothing c.args.pool.now c.args.seeds.now c.args.table.now c.args.overlay.now xs;
+    }
+
+pub loop-left-preserved : goal.loop-left-preserved
+loop-left-preserved g c =
+    let meaning = g.P.RoutePolicy.meaning in
+    let w = c.args.graph.now in
+    let here = setting meaning w c.args.book.now (g.V.OriginStates.state_of c.args.states.now (prefix_of c.args.table.now)) in
+    let lawful = λ (a : ℕ). (let p = policy_at c.args.book.now a in
+    let is : IsLawful (meaning p) = record { ranks_offers = g.met.P.RoutePolicy.ranks_offers p; prefers_customers = g.met.P.RoutePolicy.prefers_customers p; exports_down_only = g.met.P.RoutePolicy.exports_down_only p } in is) in
+    let falls = (ranks_fall (what w) (ases w) (topology-AreLinks w) c.requires.no_cycle (rank_at c.args.ranks.now) c.requires.ranks).falls in
+    let xs = c.args.order.now in
+    let i = c.loop-left.left - 1 in
+    let a = c.index-order-left.result in
+    let some = c.loop-left-test.true in
+    let seeds = seeds_of c.args.pool.now c.args.seeds.now in
+    let f = routing_of c.loop-left.pool c.args.table.now c.loop-left.overlay in
+    let f' = routing_of c.visit.new.pool c.args.table.now c.visit.new.overlay in
+    let back : i + 1 ≡ c.loop-left.left = omega arith in
+    let within : i < length xs = omega (arith, c.loop-left.invariant.within) in
+    let more : take (i + 1) xs ≡ take i xs ++ a ∷ [] = take_more xs i a within ∙ ap (λ t. take i xs ++ t ∷ []) (sym c.index-order-left.is) in
+    let there : occurs a xs ≡ true = list_any_at (λ y. y == a) xs i a within (eq-eqb _ a (sym c.index-order-left.is)) in
+    let so_far = subst (λ k. AfterWhole here seeds (take k xs) f) (sym back) c.loop-left.invariant.so_far in
+    let step = step_seeds Whole here (seeds_of c.loop-left.pool c.args.seeds.now) seeds f a f' c.visit.ensures.step (c.loop-left.invariant.spent.keeps.same_seeds a) in
+    let fresh = down_fresh here lawful (what_mutual w) (what_self w) seeds (rank_at c.args.ranks.now) falls xs c.requires.order i a a f f' within c.index-order-left.is more step so_far in
+    let both = visited c.args.pool.now c.loop-left.pool c.visit.new.pool c.args.seeds.now c.args.table.now c.args.overlay.now c.loop-left.overlay c.visit.new.overlay xs a c.visit.result
+    c.requires.order.apart there c.loop-left.invariant.room c.loop-left.invariant.spent c.visit.ensures.changed c.visit.ensures.unchanged step.others c.visit.ensures.spent c.visit.ensures.kept fresh in
+    record {
+      within = omega (arith, c.loop-left.invariant.within);
+      steps = omega (arith, c.visit.ensures.cost, c.loop-left.invariant.steps);
+      so_far = down_more here lawful (what_mutual w) (what_self w) seeds (rank_at c.args.ranks.now) falls xs c.requires.order i a a f f' within c.index-order-left.is more step so_far;
+      room = both.0;
+      spent = both.1;
+    }
+
+pub returns-clause-done : goal.returns-clause-done
+returns-clause-done g c =
+    let here = setting g.P.RoutePolicy.meaning c.args.graph.now c.args.book.now (g.V.OriginStates.state_of c.args.states.now (prefix_of c.args.table.now)) in
+    let xs = c.args.order.now in
+    let seeds = seeds_of c.args.pool.now c.args.seeds.now in
+    let f = routing_of c.loop-left.pool c.args.table.now c.loop-left.overlay in
+    let over : c.loop-left.left ≡ 0 = omega arith in
+    all_right here seeds f (subst (λ k. AfterWhole here seeds (take k xs) f) over c.loop-left.invariant.so_far)

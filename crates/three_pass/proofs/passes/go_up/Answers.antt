@@ -1,0 +1,62 @@
+use Rattle.std.proofs.Common.{arith, ◌≡◌, ℕ, ◌+◌, ◌∷◌, ◌++◌, [], slice_index, refl, option_map, take, ap}
+use Rattle.std.proofs.lemmas.List.{take_more}
+use Rattle.as_graph.specs.Topology.{what, ases}
+use Rattle.as_graph.proofs.Links.{what_mutual, what_self, topology-AreLinks}
+use Rattle.as_graph.proofs.Ranks.{ranks_fall}
+use Rattle.rank_order.specs.Ranks.{rank_at}
+use Rattle.stability_laws.specs.Book.{policy_at}
+use Rattle.stability_laws.specs.World.{setting}
+use Rattle.stability_laws.specs.Stable.{IsLawful}
+use Rattle.route_choice.specs.declared.choice.Part.TheVariants.{Up}
+use Rattle.route_choice.specs.Routings.{entry_of, routing_of, seeds_of}
+use Rattle.route_choice.specs.Tables.{prefix_of}
+use Rattle.three_pass.proofs.InOrder.{none_yet, up_more, up_fresh}
+use Rattle.three_pass.proofs.Spending.{spent_nothing, spent_more, step_seeds}
+use Rattle.three_pass.proofs.passes.go_up.Goals as goal
+
+pub loop-place-init : goal.loop-place-init
+loop-place-init g c =
+    let pool = c.args.pool.now in
+    let here = setting g.P.RoutePolicy.meaning c.args.graph.now c.args.book.now (g.V.OriginStates.state_of c.args.states.now (prefix_of c.args.table.now)) in
+    record {
+      steps = omega arith;
+      so_far = none_yet here (seeds_of pool c.args.seeds.now) (routing_of pool c.args.table.now c.args.overlay.now) (λ a. ap (option_map (entry_of pool)) (c.requires.empty a));
+      room = c.requires.room;
+      spent = spent_nothing pool c.args.seeds.now c.args.table.now c.args.overlay.now c.args.order.now;
+    }
+
+pub step_up-requires-clause-nothing : goal.step_up-requires-clause-nothing
+step_up-requires-clause-nothing g c =
+    let meaning = g.P.RoutePolicy.meaning in
+    let w = c.args.graph.now in
+    let here = setting meaning w c.args.book.now (g.V.OriginStates.state_of c.args.states.now (prefix_of c.args.table.now)) in
+    let lawful = λ (a : ℕ). (let p = policy_at c.args.book.now a in
+    let is : IsLawful (meaning p) = record { ranks_offers = g.met.P.RoutePolicy.ranks_offers p; prefers_customers = g.met.P.RoutePolicy.prefers_customers p; exports_down_only = g.met.P.RoutePolicy.exports_down_only p } in is) in
+    let falls = (ranks_fall (what w) (ases w) (topology-AreLinks w) c.requires.no_cycle (rank_at c.args.ranks.now) c.requires.ranks).falls in
+    let xs = c.args.order.now in
+    let i = c.loop-place.place in
+    up_fresh here lawful (what_mutual w) (what_self w) (seeds_of c.args.pool.now c.args.seeds.now) (rank_at c.args.ranks.now) falls xs c.requires.order
+    i 0 (slice_index xs i) (routing_of c.loop-place.pool c.args.table.now c.loop-place.overlay) c.loop-place-test.true refl c.loop-place.invariant.so_far
+
+pub loop-place-preserved : goal.loop-place-preserved
+loop-place-preserved g c =
+    let meaning = g.P.RoutePolicy.meaning in
+    let w = c.args.graph.now in
+    let here = setting meaning w c.args.book.now (g.V.OriginStates.state_of c.args.states.now (prefix_of c.args.table.now)) in
+    let lawful = λ (a : ℕ). (let p = policy_at c.args.book.now a in
+    let is : IsLawful (meaning p) = record { ranks_offers = g.met.P.RoutePolicy.ranks_offers p; prefers_customers = g.met.P.RoutePolicy.prefers_customers p; exports_down_only = g.met.P.RoutePolicy.exports_down_only p } in is) in
+    let falls = (ranks_fall (what w) (ases w) (topology-AreLinks w) c.requires.no_cycle (rank_at c.args.ranks.now) c.requires.ranks).falls in
+    let xs = c.args.order.now in
+    let i = c.loop-place.place in
+    let a = slice_index xs i in
+    let seeds = seeds_of c.args.pool.now c.args.seeds.now in
+    let f = routing_of c.loop-place.pool c.args.table.now c.loop-place.overlay in
+    let f' = routing_of c.step_up.new.pool c.args.table.now c.step_up.new.overlay in
+    let more : take (i + 1) xs ≡ take i xs ++ a ∷ [] = take_more xs i 0 c.loop-place-test.true in
+    let step = step_seeds Up here (seeds_of c.loop-place.pool c.args.seeds.now) seeds f a f' c.step_up.ensures.step (c.loop-place.invariant.spent.keeps.same_seeds a) in
+    record {
+      steps = omega (arith, c.step_up.ensures.cost, c.loop-place.invariant.steps);
+      so_far = up_more here lawful (what_mutual w) (what_self w) seeds (rank_at c.args.ranks.now) falls xs c.requires.order i 0 a f f' c.loop-place-test.true refl more step c.loop-place.invariant.so_far;
+      room = c.step_up.ensures.room;
+      spent = spent_more c.args.pool.now c.loop-place.pool c.step_up.new.pool c.args.seeds.now c.args.table.now c.args.overlay.now c.loop-place.overlay c.step_up.new.overlay xs c.loop-place.invariant.spent c.step_up.ensures.spent;
+    }

@@ -1,0 +1,52 @@
+use Rattle.std.proofs.Common.{arith, inl, true, ◌≡◌, ◌==◌, slice_index, option_map, sym, ap, ◌∙◌}
+use Rattle.std.proofs.lemmas.Bool.{eq-eqb}
+use Rattle.std.proofs.lemmas.List.{get_or_read}
+use Rattle.std.proofs.lemmas.List.Folds.{list_any_at}
+use Rattle.net_names.specs.Numbers.{occurs}
+use Rattle.as_graph.specs.Topology.{what, ases}
+use Rattle.as_graph.proofs.Links.{topology-AreLinks}
+use Rattle.as_graph.proofs.Ranks.{ranks_fall}
+use Rattle.rank_order.specs.Ranks.{rank_at}
+use Rattle.stability_laws.specs.World.{setting}
+use Rattle.route_choice.specs.Routings.{routing_of, seed_of, seeds_of}
+use Rattle.route_choice.specs.Tables.{prefix_of, seed_at}
+use Rattle.three_pass.specs.Spending.{CanGo, HasSpent}
+use Rattle.three_pass.proofs.Idle.{idle}
+use Rattle.three_pass.proofs.Spending.{can_step, spent_nothing, visited}
+use Rattle.three_pass.proofs.passes.step_up.Given as given
+use Rattle.three_pass.proofs.passes.step_up.Goals as goal
+
+pub visit-requires : goal.visit-requires
+visit-requires g c = can_step c.args.pool.now c.args.seeds.now c.args.table.now c.args.overlay.now c.args.order.now c.requires.room (let inside = c.requires.inside in omega arith)
+
+pub returns-then-has_none_to_take-clause-step : goal.returns-then-has_none_to_take-clause-step
+returns-then-has_none_to_take-clause-step g c =
+    let w = c.args.graph.now in
+    let here = setting g.P.RoutePolicy.meaning w c.args.book.now (g.V.OriginStates.state_of c.args.states.now (prefix_of c.args.table.now)) in
+    let rank = rank_at c.args.ranks.now in
+    let a = slice_index c.args.order.now c.args.place in
+    let read = get_or_read c.args.order.now c.args.place c.index-order-place.result c.requires.inside c.index-order-place.is 0 in
+    let none = c.has_none_to_take.ensures c.if-has_none_to_take.true in
+    let low : rank a ≡ 0 = ap rank (sym read) ∙ none.0 in
+    let no_seed = ap (option_map (seed_of c.args.pool.now)) (ap (seed_at c.args.seeds.now) (sym read) ∙ none.1) in
+    let falls = (ranks_fall (what w) (ases w) (topology-AreLinks w) c.requires.no_cycle rank c.requires.ranks).falls in
+    idle here (seeds_of c.args.pool.now c.args.seeds.now) (routing_of c.args.pool.now c.args.table.now c.args.overlay.now) a no_seed c.requires.nothing
+    (λ n linked. (let less = falls a n linked in absurd (omega (arith, less, low))))
+
+-- what the step took
+both : (g : given.Over) (c : goal.After-visit g) → CanGo c.visit.new.pool c.args.seeds.now c.args.table.now c.visit.new.overlay c.args.order.now × HasSpent c.args.pool.now c.visit.new.pool c.args.seeds.now c.args.table.now c.args.overlay.now c.visit.new.overlay c.args.order.now
+both g c =
+    let xs = c.args.order.now in
+    let a = c.index-order-place.result in
+    let read = get_or_read xs c.args.place a c.requires.inside c.index-order-place.is 0 in
+    let there : occurs a xs ≡ true = list_any_at (λ y. y == a) xs c.args.place 0 c.requires.inside (eq-eqb _ a (sym read)) in
+    let none = ap (routing_of c.args.pool.now c.args.table.now c.args.overlay.now) read ∙ c.requires.nothing in
+    visited c.args.pool.now c.args.pool.now c.visit.new.pool c.args.seeds.now c.args.table.now c.args.overlay.now c.args.overlay.now c.visit.new.overlay xs a c.visit.result
+    c.requires.order.apart there c.requires.room (spent_nothing c.args.pool.now c.args.seeds.now c.args.table.now c.args.overlay.now xs)
+    c.visit.ensures.changed c.visit.ensures.unchanged c.visit.ensures.step.others c.visit.ensures.spent c.visit.ensures.kept (inl none)
+
+pub returns-clause-room : goal.returns-clause-room
+returns-clause-room g c = (both g c).0
+
+pub returns-clause-spent : goal.returns-clause-spent
+returns-clause-spent g c = (both g c).1

@@ -1,0 +1,15 @@
+//! The stable routing of a prefix, by two passes over the ASes in an order by rank.
+//!
+//! Upwards each AS takes its seed or the best of its customers' offers. Then, from the top down, each
+//! takes its seed or the best of all offers: peers' routes go across and providers' routes down.
+//! In a world without a provider cycle the routing that stands then is stable, for every policy that
+//! meets the laws, and it is the only stable one.
+#![tactic(auto)]
+
+mod passes;
+mod stable;
+
+pub use stable::propagate;
+
+#[cfg(test)]
+mod tests;
