@@ -22,12 +22,13 @@ IsReadAs holds sound rose (Some name) read = IsRead (holds name) (sound name) ro
 abbrev pub AreReads : (List ℕ → Option (List ℕ)) → (List ℕ → Type 0) → Type 0 → List (List ℕ) → Reads → Type 0
 AreReads holds sound rose words reads = (file : File) → IsReadAs holds sound rose (name_in words file) (reads file)
 
--- what was prepared is the value, unless memory ran out
+-- why the work stopped is the value's fault, unless memory ran out
 abbrev pub IsStop : {A : Type 0} → Stop → Result A Fault → Type 0
 IsStop stop.Memory value = Unit {0}
 IsStop (stop.Fault fault) value = value ≡ Err fault
 IsStop _ value = ⊥
 
+-- what was found is the value, or the stop says why there is none
 abbrev pub Finds : {X A : Type 0} → (X → A) → Result X Stop → Result A Fault → Type 0
 Finds view (Ok x) value = value ≡ Ok (view x)
 Finds view (Err e) value = IsStop e value

@@ -71,12 +71,14 @@ pub record Worked (holds : List ℕ → Option (List ℕ)) (sound : List ℕ →
   pub are_read : AreReads holds sound read_rose words reads
   pub works : Works (task_of words reads) result out_old out_new out_rose
 
+-- the status for each reason to stop
 abbrev pub stop_status : Stop → Status
 stop_status stop.Memory = status.NoMemory
 stop_status stop.Write = status.WriteFault
 stop_status (stop.Cycle cycle) = status.BadInput
 stop_status (stop.Fault fault) = status_of fault
 
+-- the text for each reason to stop
 abbrev pub stop_text : List (List ℕ) → Stop → List ℕ
 stop_text words stop.Memory = message (codes "out of memory")
 stop_text words stop.Write = message (codes "write fault")

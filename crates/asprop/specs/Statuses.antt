@@ -14,6 +14,7 @@ abbrev pub IsTold : (List ℕ → Option (List ℕ)) → Option (List ℕ) → L
 IsTold holds None bytes = bytes ≡ []
 IsTold holds (Some name) bytes = holds name ≡ Some bytes
 
+-- the inputs tell the bytes of every file that the words name
 abbrev pub AreTold : (List ℕ → Option (List ℕ)) → List (List ℕ) → (File → List ℕ) → Type 0
 AreTold holds words files = (file : File) → IsTold holds (name_in words file) (files file)
 
@@ -38,6 +39,7 @@ Succeeds status.SomeRefused = Unit {0}
 Succeeds status.NoMemory = Unit {0}
 Succeeds s = ⊥
 
+-- the words and the files give a task, and its world has no provider cycle
 abbrev pub HasTask : Result Task Fault → Type 0
 HasTask (Ok task) = HasCycle task.world → ⊥
 HasTask (Err fault) = ⊥

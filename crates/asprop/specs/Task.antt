@@ -37,6 +37,7 @@ abbrev pub bytes_of : File → ℕ → Option (List ℕ) → Result (List ℕ) F
 bytes_of file limit None = Err (fault.Unread file)
 bytes_of file limit (Some bytes) = if nat_lt limit (length bytes) then Err (fault.TooLong file) else Ok bytes
 
+-- the links that were read, or their fault as a fault of the task
 abbrev pub links_or_fault : Result LinkMap RelError → Result LinkMap Fault
 links_or_fault (Ok links) = Ok links
 links_or_fault (Err e) = Err (fault.Relation e)
@@ -65,6 +66,7 @@ origin_task links origin = record {
 abbrev pub within_limits : Task → Result Task Fault
 within_limits task = if nat_lt 150000 (as_count (topology task.world)) then Err fault.TooManyAses else Ok task
 
+-- the task of a form and of what was read of the files; words without a form are the first fault
 abbrev pub task_of_form : Option Form → Reads → Result Task Fault
 task_of_form None reads = Err fault.Usage
 task_of_form (Some (origin_form rel origin)) reads = relations (reads Relations) >>= λ links. within_limits (origin_task links origin)

@@ -11,7 +11,7 @@ pub data Form : Type 0 where
   -- the routes of all ASes to one origin, over the links of a relationship file
   origin_form : (rel : List ℕ) (origin : ℕ) → Form
 
--- the form of the words: the program's name, the name of a relationship file, `--origin` and the number of an AS
+-- the form of the words: the program's name, the name of a relationship file, `--origin` and the number of an AS (own format)
 abbrev pub form_of : List (List ℕ) → Option Form
 form_of (program ∷ rel ∷ option ∷ number ∷ []) =
     if bytes_eq option (codes "--origin") then option_map (λ origin. origin_form rel origin) (asn_of number) else None
@@ -21,6 +21,7 @@ form_of _ = None
 abbrev pub name_of : Form → File → Option (List ℕ)
 name_of (origin_form rel origin) Relations = Some rel
 
+-- the name that a form gives to a file; without a form there is none
 abbrev pub name_by : Option Form → File → Option (List ℕ)
 name_by None file = None
 name_by (Some form) file = name_of form file
