@@ -4,8 +4,9 @@ ghost use Rattle.std.specs.Prelude.{◌≡◌};
 use crate::addresses::Family;
 use std::marker::Model;
 
-/// A prefix of a family: an address with no bit past the length set (RFC 4632, section 3.1; RFC
-/// 4291, section 2.3). Prefixes are ordered by family, then by address, then by length.
+/// A prefix of a family: an address with no bit past the length set.
+/// Source: RFC 4632, section 3.1, and RFC 4291, section 2.3.
+/// Prefixes are ordered by family, then by address, then by length.
 #[derive(Clone, Copy, Debug, PartialEq, Eq, PartialOrd, Ord, Hash)]
 pub struct Prefix {
     family: Family,

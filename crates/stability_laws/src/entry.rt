@@ -8,8 +8,8 @@ pub struct Entry {
     pub class: Class,
     /// The ASes that it came through: the AS itself first, the origin last.
     pub path: Path,
-    /// The number that it carries in the attribute Only to Customer, where it has one (RFC 9234,
-    /// section 5).
+    /// The number that it carries in the attribute Only to Customer, where it has one.
+    /// Source: RFC 9234, section 5.
     pub otc: Option<Asn>,
 }
 
