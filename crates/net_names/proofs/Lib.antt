@@ -6,5 +6,6 @@ pub mod Cuts
 pub mod Groups
 pub mod TextLaws
 pub mod Six
+pub mod HexDigits
 pub mod Hexes
 pub mod DerivedOrders

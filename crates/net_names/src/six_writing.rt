@@ -1,9 +1,8 @@
 //! IPv6 addresses to texts.
-ghost use Rattle.std.specs.Prelude.{◌≡◌, ◌+◌, ◌<◌, ◌≤◌, ◌==◌, ◌++◌, ◌∷◌, false, not, length, position, string_bytes, IfSome, IfOk, OnOk};
-ghost use Rattle.std.specs.Fmt.{digits};
+ghost use Rattle.std.specs.Prelude.{◌≡◌, ◌+◌, ◌-◌, ◌*◌, ◌<◌, ◌≤◌, ◌==◌, ◌++◌, ◌∷◌, not, length, position, vec_len, vec_capacity, IfSome};
 ghost use Rattle.net_names.specs.Texts.{groups, zeros_before, zeros_at, best_place, hex_text, v6_text, shortened};
 
-use std::alloc::{AllocError, Global};
+use crate::room::{put_bytes, put_hex};
 
 #[tactic(auto, unfolding(crate::specs::Texts::groups))]
 fn split_groups(bits: u128) -> [u16; 8]
@@ -60,66 +59,56 @@ fn best(gs: &[u16]) -> usize
     best
 }
 
-fn push_group(text: &mut String, g: u16) -> Result<(), AllocError>
-    ensures { OnOk result (string_bytes text.new ≡ string_bytes text.old ++ (58 ∷ digits 16 false g)) }
+/// The groups with a colon between each two.
+fn put_row(out: &mut Vec<u8>, first: u16, rest: &[u16])
+    requires { vec_len out.old + (5 * length rest.now + 4) ≤ vec_capacity out.old }
+    ensures text { out.new.items ≡ out.old.items ++ hex_text (first ∷ rest.now) }
+    ensures len { vec_len out.new ≤ vec_len out.old + (5 * length rest.now + 4) }
+    ensures capacity { vec_capacity out.old ≤ vec_capacity out.new }
 {
-    write!(text, ":{:x}", g)?;
-    Ok(())
-}
-
-fn push_row(text: &mut String, first: u16, rest: &[u16]) -> Result<(), AllocError>
-    ensures { OnOk result (string_bytes text.new ≡ string_bytes text.old ++ hex_text (first ∷ rest.now)) }
-{
-    write!(text, "{:x}", first)?;
+    put_hex(out, first);
     for g in rest {
-        push_group(text, *g)?;
+        out.push_reserved(b':');
+        put_hex(out, *g);
     }
-    Ok(())
 }
 
-fn push_hex(text: &mut String, gs: &[u16]) -> Result<(), AllocError>
-    ensures { OnOk result (string_bytes text.new ≡ string_bytes text.old ++ hex_text gs.now) }
+fn put_groups(out: &mut Vec<u8>, gs: &[u16])
+    requires { vec_len out.old + (5 * length gs.now - 1) ≤ vec_capacity out.old }
+    ensures text { out.new.items ≡ out.old.items ++ hex_text gs.now }
+    ensures len { vec_len out.new ≤ vec_len out.old + (5 * length gs.now - 1) }
+    ensures capacity { vec_capacity out.old ≤ vec_capacity out.new }
 {
     match gs {
-        [] => Ok(()),
-        [first, rest @ ..] => push_row(text, *first, rest),
+        [] => {}
+        [first, rest @ ..] => put_row(out, *first, rest),
     }
 }
 
-fn push_short(alloc: Global, front: &[u16], back: &[u16]) -> Result<String, AllocError>
-    ensures { IfOk result (λ s. string_bytes s ≡ hex_text front.now ++ (58 ∷ 58 ∷ hex_text back.now)) }
-{
-    let mut text = String::new(alloc);
-    push_hex(&mut text, front)?;
-    text.push_str("::")?;
-    push_hex(&mut text, back)?;
-    Ok(text)
-}
-
-fn push_long(alloc: Global, gs: &[u16]) -> Result<String, AllocError>
-    ensures { IfOk result (λ s. string_bytes s ≡ hex_text gs.now) }
-{
-    let mut text = String::new(alloc);
-    push_hex(&mut text, gs)?;
-    Ok(text)
-}
-
-fn spell(alloc: Global, gs: &[u16], i: usize, n: usize) -> Result<String, AllocError>
-    requires { i + n ≤ length gs.now }
-    ensures { IfOk result (λ s. string_bytes s ≡ shortened gs.now i n) }
+/// The groups, with a pair of colons in place of the n groups of 0 from place i on.
+fn put_shortened(out: &mut Vec<u8>, gs: &[u16], i: usize, n: usize)
+    requires place { i + n ≤ length gs.now }
+    requires room { vec_len out.old + (5 * length gs.now - 1) ≤ vec_capacity out.old }
+    ensures text { out.new.items ≡ out.old.items ++ shortened gs.now i n }
+    ensures len { vec_len out.new ≤ vec_len out.old + (5 * length gs.now - 1) }
+    ensures capacity { vec_capacity out.old ≤ vec_capacity out.new }
 {
     if n < 2 {
-        push_long(alloc, gs)
-    } else {
-        push_short(alloc, gs.split_at(i).0, gs.split_at(i + n).1)
+        return put_groups(out, gs);
     }
+    put_groups(out, gs.split_at(i).0);
+    put_bytes(out, b"::");
+    put_groups(out, gs.split_at(i + n).1);
 }
 
-pub(crate) fn v6_string(alloc: Global, bits: u128) -> Result<String, AllocError>
-    ensures { IfOk result (λ s. string_bytes s ≡ v6_text bits) }
+pub(crate) fn put_v6(out: &mut Vec<u8>, bits: u128)
+    requires { vec_len out.old + 39 ≤ vec_capacity out.old }
+    ensures text { out.new.items ≡ out.old.items ++ v6_text bits }
+    ensures len { vec_len out.new ≤ vec_len out.old + 39 }
+    ensures capacity { vec_capacity out.old ≤ vec_capacity out.new }
 {
     let gs = split_groups(bits);
     let i = best(&gs);
     let n = zeros(&gs, i);
-    spell(alloc, &gs, i, n)
+    put_shortened(out, &gs, i, n);
 }

@@ -1,28 +1,17 @@
-//! Values to texts.
-ghost use Rattle.std.specs.Prelude.{◌≡◌, ℕ, ◌^◌, ◌<◌, ◌++◌, decimal, List, string_bytes, IfOk, OnOk, OnErr, IsOk, Some};
+//! Values to texts. Room is made first, so where it is refused nothing has changed.
+ghost use Rattle.std.specs.Prelude.{◌≡◌, ℕ, ◌^◌, ◌+◌, ◌<◌, ◌≤◌, ◌++◌, decimal, List, vec_len, vec_capacity, OnOk, OnErr, Some};
 ghost use Rattle.net_names.specs.Addresses.{FitsFamily};
 ghost use Rattle.net_names.specs.Texts.{addr_text, prefix_text, text_in, v4_of, v4_text};
 
 use crate::addresses::{Addr, Family};
 use crate::numbers::{Asn, NoMemory};
 use crate::prefixes::Prefix;
-use crate::six_writing::v6_string;
+use crate::room::put_decimal;
+use crate::six_writing::put_v6;
 use itoa::Buffer;
-use std::alloc::{AllocError, Global};
 
-fn append(out: &mut Vec<u8>, text: Result<String, AllocError>) -> Result<(), NoMemory>
-    ensures ok { OnOk result (IfOk text (λ s. out.new.items ≡ out.old.items ++ string_bytes s)) }
-    ensures made { OnOk result (IsOk text) }
-    ensures err { OnErr result (out.new.items ≡ out.old.items) }
-{
-    match text {
-        Ok(text) => match out.extend_from_slice(text.as_bytes()) {
-            Ok(()) => Ok(()),
-            Err(_) => Err(NoMemory),
-        },
-        Err(_) => Err(NoMemory),
-    }
-}
+/// The most bytes that an address takes: eight groups of four digits, and seven colons.
+const MOST_BYTES: usize = 39;
 
 /// Appends the number in decimal digits. Where memory is wanting, nothing changes.
 pub fn put_asn(out: &mut Vec<u8>, asn: Asn) -> Result<(), NoMemory>
@@ -36,17 +25,30 @@ pub fn put_asn(out: &mut Vec<u8>, asn: Asn) -> Result<(), NoMemory>
     }
 }
 
-#[tactic(auto, unfolding(crate::specs::Texts::v4_text))]
-fn v4_string(alloc: Global, bits: u32) -> Result<String, AllocError>
-    ensures { IfOk result (λ s. string_bytes s ≡ v4_text bits) }
+fn make_room(out: &mut Vec<u8>, bytes: usize) -> Result<(), NoMemory>
+    ensures same { out.new.items ≡ out.old.items }
+    ensures room { OnOk result (vec_len out.new + bytes ≤ vec_capacity out.new) }
 {
-    format!(in alloc;
-        "{}.{}.{}.{}",
-        bits / 0x100_0000,
-        bits / 0x1_0000 % 256,
-        bits / 256 % 256,
-        bits % 256
-    )
+    match out.reserve(bytes) {
+        Ok(()) => Ok(()),
+        Err(_) => Err(NoMemory),
+    }
+}
+
+#[tactic(auto, unfolding(crate::specs::Texts::v4_text))]
+fn put_v4(out: &mut Vec<u8>, bits: u32)
+    requires { vec_len out.old + 15 ≤ vec_capacity out.old }
+    ensures text { out.new.items ≡ out.old.items ++ v4_text bits }
+    ensures len { vec_len out.new ≤ vec_len out.old + 15 }
+    ensures capacity { vec_capacity out.old ≤ vec_capacity out.new }
+{
+    put_decimal(out, (bits / 0x100_0000) as u8);
+    out.push_reserved(b'.');
+    put_decimal(out, (bits / 0x1_0000 % 256) as u8);
+    out.push_reserved(b'.');
+    put_decimal(out, (bits / 256 % 256) as u8);
+    out.push_reserved(b'.');
+    put_decimal(out, (bits % 256) as u8);
 }
 
 /// What is read as an IPv4 address is the one text of that address, and that text is read again.
@@ -55,13 +57,16 @@ pub fn v4_has_one_text()
     ensures again { (bits : ℕ) → bits < 2 ^ 32 → v4_of (v4_text bits) ≡ Some bits }
 {}
 
-fn family_string(alloc: Global, family: Family, bits: u128) -> Result<String, AllocError>
-    requires { FitsFamily family bits }
-    ensures { IfOk result (λ s. string_bytes s ≡ text_in family bits) }
+fn put_family(out: &mut Vec<u8>, family: Family, bits: u128)
+    requires fits { FitsFamily family bits }
+    requires room { vec_len out.old + MOST_BYTES ≤ vec_capacity out.old }
+    ensures text { out.new.items ≡ out.old.items ++ text_in family bits }
+    ensures len { vec_len out.new ≤ vec_len out.old + MOST_BYTES }
+    ensures capacity { vec_capacity out.old ≤ vec_capacity out.new }
 {
     match family {
-        Family::V4 => v4_string(alloc, bits as u32),
-        Family::V6 => v6_string(alloc, bits),
+        Family::V4 => put_v4(out, bits as u32),
+        Family::V6 => put_v6(out, bits),
     }
 }
 
@@ -70,15 +75,9 @@ pub fn put_addr(out: &mut Vec<u8>, addr: Addr) -> Result<(), NoMemory>
     ensures ok { OnOk result (out.new.items ≡ out.old.items ++ addr_text addr) }
     ensures err { OnErr result (out.new.items ≡ out.old.items) }
 {
-    let alloc = *out.allocator();
-    append(out, family_string(alloc, addr.family(), addr.bits()))
-}
-
-fn prefix_string(alloc: Global, prefix: Prefix) -> Result<String, AllocError>
-    ensures { IfOk result (λ s. string_bytes s ≡ prefix_text prefix) }
-{
-    let text = family_string(alloc, prefix.family(), prefix.addr())?;
-    format!(in alloc; "{}/{}", text.as_str(), prefix.len())
+    make_room(out, MOST_BYTES)?;
+    put_family(out, addr.family(), addr.bits());
+    Ok(())
 }
 
 /// Appends the one printed text of the prefix. Where memory is wanting, nothing changes.
@@ -86,6 +85,9 @@ pub fn put_prefix(out: &mut Vec<u8>, prefix: Prefix) -> Result<(), NoMemory>
     ensures ok { OnOk result (out.new.items ≡ out.old.items ++ prefix_text prefix) }
     ensures err { OnErr result (out.new.items ≡ out.old.items) }
 {
-    let alloc = *out.allocator();
-    append(out, prefix_string(alloc, prefix))
+    make_room(out, MOST_BYTES + 4)?;
+    put_family(out, prefix.family(), prefix.addr());
+    out.push_reserved(b'/');
+    put_decimal(out, prefix.len());
+    Ok(())
 }
