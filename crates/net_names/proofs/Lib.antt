@@ -8,4 +8,5 @@ pub mod TextLaws
 pub mod Six
 pub mod HexDigits
 pub mod Hexes
+pub mod Runs
 pub mod DerivedOrders

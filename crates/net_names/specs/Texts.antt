@@ -1,6 +1,6 @@
 -- The texts of AS numbers, addresses and prefixes: what each text says, and how each value is printed.
-use Rattle.std.specs.Prelude.{ℕ, ◌+◌, ◌-◌, ◌*◌, ◌/◌, ◌%◌, ◌^◌, ◌&&◌, ◌||◌, ◌==◌, ◌==◌ as nat_eq, nat_lt, nat_le, not, List, [], ◌∷◌, ◌++◌, length, slice_index, decimal, Option, Some, None, option_map, if◌then◌else◌, position, zip, unwrap_or, take, drop, fold, replicate, map, zero, suc, false}
-use Rattle.std.specs.List.{starts_with, list_all, slice_split, join_with_byte}
+use Rattle.std.specs.Prelude.{ℕ, ◌+◌, ◌-◌, ◌*◌, ◌/◌, ◌%◌, ◌^◌, ◌&&◌, ◌||◌, ◌==◌, ◌==◌ as nat_eq, nat_lt, nat_le, not, List, [], ◌∷◌, ◌++◌, length, slice_index, decimal, Option, Some, None, option_map, if◌then◌else◌, position, zip, unwrap_or, take, drop, fold, replicate, map, false}
+use Rattle.std.specs.List.{starts_with, list_all, position_or_len, slice_split, join_with_byte}
 use Rattle.std.specs.Fmt.{digits}
 use Rattle.std.specs.Char.{is_digit}
 use Rattle.std.specs.Str.Parse.{digits_value}
@@ -47,11 +47,6 @@ v4_of text = do
   c ← plain_at_most 255 y.0
   d ← plain_at_most 255 y.1
   Some (a * 2 ^ 24 + b * 2 ^ 16 + c * 2 ^ 8 + d)
-
--- the first of the places below k at which f is greatest (own rule)
-abbrev pub best_place : (ℕ → ℕ) → ℕ → ℕ
-best_place f zero = 0
-best_place f (suc k) = if nat_lt (f (best_place f k)) (f k) then k else best_place f k
 
 -- the place of the first such byte that another one follows (own rule)
 abbrev pub pair_place : ℕ → List ℕ → Option ℕ
@@ -102,9 +97,13 @@ v6_groups_of text = groups_at text (cut_pair 58 text)
 unfoldable pub v6_of : List ℕ → Option ℕ
 v6_of text = option_map bits_of_groups (v6_groups_of text)
 
+-- the places of the eight groups of an IPv6 address (own rule)
+abbrev pub eight_places : List ℕ
+eight_places = 0 ∷ 1 ∷ 2 ∷ 3 ∷ 4 ∷ 5 ∷ 6 ∷ 7 ∷ []
+
 -- the eight groups of 16 bits of an IPv6 address, the highest first (RFC 4291, section 2.2)
 unfoldable pub groups : ℕ → List ℕ
-groups bits = map (λ i. bits / 2 ^ (16 * (7 - i)) % 2 ^ 16) (0 ∷ 1 ∷ 2 ∷ 3 ∷ 4 ∷ 5 ∷ 6 ∷ 7 ∷ [])
+groups bits = map (λ i. bits / 2 ^ (16 * (7 - i)) % 2 ^ 16) eight_places
 
 -- groups in lower case hexadecimal digits without leading zeros, with colons between them (RFC 5952, sections 4.1 and 4.3)
 abbrev pub hex_text : List ℕ → List ℕ
@@ -118,13 +117,21 @@ zeros_before gs = unwrap_or (position (λ g. not (g == 0)) gs) (length gs)
 abbrev pub zeros_at : List ℕ → ℕ → ℕ
 zeros_at gs i = zeros_before (drop i gs)
 
+-- the first place whose number no other number of the list exceeds (own rule)
+abbrev pub first_greatest : List ℕ → ℕ
+first_greatest ns = position_or_len (λ n. list_all (λ m. nat_le m n) ns) ns
+
+-- where the longest run of groups of 0 begins, the first such run where several are as long (RFC 5952, section 4.2.3)
+unfoldable pub longest_run : List ℕ → ℕ
+longest_run gs = first_greatest (map (zeros_at gs) eight_places)
+
 -- groups with a pair of colons in place of the n groups of 0 from place i on, where they are two or more (RFC 5952, section 4.2.2)
 abbrev pub shortened : List ℕ → ℕ → ℕ → List ℕ
 shortened gs i n = if nat_lt n 2 then hex_text gs else hex_text (take i gs) ++ (58 ∷ 58 ∷ hex_text (drop (i + n) gs))
 
 -- the text of eight groups, in which the first longest run of groups of 0 is shortened (RFC 5952, section 4.2.3)
 unfoldable pub groups_text : List ℕ → List ℕ
-groups_text gs = let i = best_place (zeros_at gs) 8 in shortened gs i (zeros_at gs i)
+groups_text gs = let i = longest_run gs in shortened gs i (zeros_at gs i)
 
 -- the one text that an IPv6 address is printed as (RFC 5952, section 4)
 abbrev pub v6_text : ℕ → List ℕ

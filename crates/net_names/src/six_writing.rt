@@ -1,6 +1,6 @@
 //! IPv6 addresses to texts.
 ghost use Rattle.std.specs.Prelude.{◌≡◌, ◌+◌, ◌-◌, ◌*◌, ◌<◌, ◌≤◌, ◌==◌, ◌++◌, ◌∷◌, not, length, position, vec_len, vec_capacity, IfSome};
-ghost use Rattle.net_names.specs.Texts.{groups, zeros_before, zeros_at, best_place, hex_text, v6_text, shortened};
+ghost use Rattle.net_names.specs.Texts.{groups, zeros_before, zeros_at, longest_run, hex_text, v6_text, shortened};
 
 use crate::room::{put_bytes, put_hex};
 
@@ -47,7 +47,7 @@ fn zeros(gs: &[u16], i: usize) -> usize
 
 fn best(gs: &[u16]) -> usize
     requires { length gs.now ≡ 8 }
-    ensures value { result ≡ best_place (zeros_at gs.now) 8 }
+    ensures value { result ≡ longest_run gs.now }
     ensures within { result < 8 }
 {
     let mut best: usize = 0;
