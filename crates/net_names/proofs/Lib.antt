@@ -6,7 +6,12 @@ pub mod Cuts
 pub mod Groups
 pub mod TextLaws
 pub mod Six
+pub mod Free
+pub mod Colons
 pub mod HexDigits
 pub mod Hexes
+pub mod HexTexts
+pub mod SixLaws
+pub mod Again
 pub mod Runs
 pub mod DerivedOrders

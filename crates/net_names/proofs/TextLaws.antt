@@ -1,7 +1,7 @@
 -- A text that is read is the one text of its value, and that text is read again.
 use Rattle.std.proofs.Common.{◌≡◌, ℕ, zero, suc, ◌+◌, ◌*◌, ◌/◌, ◌%◌, ◌^◌, ◌<◌, ◌≤◌, Bool, true, false, cond, ◌&&◌, ◌||◌, List, [], ◌∷◌, ◌++◌, length, get_or, Option, Some, None, refl, ap, sym, subst, ◌∙◌, arith, eq-eqb, lit<}
 use Rattle.std.specs.Prelude.{decimal, nat_lt, nat_le, ◌==◌}
-use Rattle.std.specs.List.{list_all, join_with_byte, All, AllByRecursion}
+use Rattle.std.specs.List.{list_all, join_with_byte, All}
 use Rattle.std.specs.Char.{is_digit, digit_value}
 use Rattle.std.specs.Str.Parse.{AllDigits, digits_value, IsNumeral}
 use Rattle.std.proofs.Math.Bool.{and-true}
@@ -14,6 +14,7 @@ use Rattle.net_names.specs.Steps.{◌>>=◌}
 use Rattle.net_names.specs.Texts.{numeral, plain_at_most, cut_at, fields, v4_of, v4_text}
 use Rattle.net_names.proofs.Numerals.{all_digits}
 use Rattle.net_names.proofs.Cuts.{fields_cut, fields_uncut}
+use Rattle.net_names.proofs.Free.{free_decimal}
 
 -- ---- steps
 
@@ -59,7 +60,7 @@ numeral_again radix most text n some few digits value =
     let b : nat_le (length text) most ≡ true = le-leb (length text) most few in
     rw (a, b, digits, value) refl
 
-list_digits : (radix : ℕ) (text : List ℕ) → AllDigits radix text → list_all (λ c. is_digit c radix) text ≡ true
+pub list_digits : (radix : ℕ) (text : List ℕ) → AllDigits radix text → list_all (λ c. is_digit c radix) text ≡ true
 list_digits radix [] h = refl
 list_digits radix (c ∷ cs) h = let t : is_digit c radix ≡ true = lt-ltb (digit_value c) radix h.0 in rw (t, list_digits radix cs h.1) refl
 
@@ -138,21 +139,8 @@ cut_again byte front back free =
     ]) refl
 
 -- no dot stands in decimal digits
-not_dot : (c : ℕ) → digit_value c < 10 → (c == 46) ≡ false
-not_dot c h =
-    (elim (c == 46) as (λ v. (c == 46) ≡ v → (c == 46) ≡ false) [
-      | true ↦ λ e. let q : c ≡ 46 = eqb-true c 46 e in let k : digit_value 46 < 10 = subst (λ (x : ℕ). digit_value x < 10) q h in absurd (omega (arith, k))
-      | false ↦ λ e. e
-    ]) refl
-
-dotless_digits : (ds : List ℕ) → AllDigits 10 ds → AllByRecursion (λ x. (x == 46) ≡ false) ds
-dotless_digits [] h = tt
-dotless_digits (c ∷ cs) h = (not_dot c h.0, dotless_digits cs h.1)
-
 dotless : (n : ℕ) → n < 2 ^ 64 → All (λ x. (x == 46) ≡ false) (decimal n)
-dotless n h =
-    let m : IsNumeral 10 (decimal n) × (digits_value 10 (decimal n) ≡ n) = decimal_is_IsNumeral n h in
-    All-from_recursion (λ x. (x == 46) ≡ false) (decimal n) (dotless_digits (decimal n) m.0.1)
+dotless n h = All-from_recursion (λ x. (x == 46) ≡ false) (decimal n) (free_decimal 46 n (λ k. omega (arith, k)) h)
 
 -- ---- IPv4
 

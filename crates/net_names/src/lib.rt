@@ -24,7 +24,9 @@ pub use payloads::Vrp;
 pub use prefixes::Prefix;
 pub use reading::{cut, number, read_addr, read_asn, read_prefix, read_vrp_asn, strip};
 pub use routes::{Class, Rel, State};
-pub use writing::{put_addr, put_asn, put_prefix, v4_has_one_text};
+pub use writing::{
+    put_addr, put_asn, put_prefix, texts_are_read_again, v4_has_one_text, v6_has_one_text,
+};
 
 #[cfg(test)]
 mod tests;

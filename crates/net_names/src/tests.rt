@@ -87,6 +87,8 @@ fn prefixes_and_numbers_are_read_and_printed(rt: HostRuntime) -> Result<(), Fail
     assert!(rt; strip(b"link 1 2", b"link ") == Some(b"1 2".as_slice()));
     assert_eq!(rt; number(b"ff", 16, 4), Some(255));
     v4_has_one_text();
+    v6_has_one_text();
+    texts_are_read_again();
     Ok(())
 }
 

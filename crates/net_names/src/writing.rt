@@ -1,7 +1,8 @@
 //! Values to texts. Room is made first, so where it is refused nothing has changed.
 ghost use Rattle.std.specs.Prelude.{◌≡◌, ℕ, ◌^◌, ◌+◌, ◌<◌, ◌≤◌, ◌++◌, decimal, List, vec_len, vec_capacity, OnOk, OnErr, Some};
-ghost use Rattle.net_names.specs.Addresses.{FitsFamily};
-ghost use Rattle.net_names.specs.Texts.{addr_text, prefix_text, text_in, v4_of, v4_text};
+ghost use Rattle.net_names.specs.Addresses.{AddrValue, FitsFamily};
+ghost use Rattle.net_names.specs.Prefixes.{PrefixValue, IsPrefix};
+ghost use Rattle.net_names.specs.Texts.{asn_of, addr_of, addr_text, prefix_of, prefix_text, text_in, v4_of, v4_text, v6_of, v6_text};
 
 use crate::addresses::{Addr, Family};
 use crate::numbers::{Asn, NoMemory};
@@ -55,6 +56,18 @@ fn put_v4(out: &mut Vec<u8>, bits: u32)
 pub fn v4_has_one_text()
     ensures found { (text : List ℕ) (bits : ℕ) → v4_of text ≡ Some bits → (text ≡ v4_text bits) × (bits < 2 ^ 32) }
     ensures again { (bits : ℕ) → bits < 2 ^ 32 → v4_of (v4_text bits) ≡ Some bits }
+{}
+
+/// An IPv6 address may be written in several ways. Its one printed text is read again as the address.
+pub fn v6_has_one_text()
+    ensures again { (bits : ℕ) → bits < 2 ^ 128 → v6_of (v6_text bits) ≡ Some bits }
+{}
+
+/// The printed text of an AS number, an address or a prefix is read again as that value.
+pub fn texts_are_read_again()
+    ensures asn { (n : ℕ) → 1 ≤ n → n < 2 ^ 32 → asn_of (decimal n) ≡ Some n }
+    ensures addr { (a : AddrValue) → FitsFamily a.family a.bits → addr_of (addr_text a) ≡ Some a }
+    ensures prefix { (p : PrefixValue) → IsPrefix p.family p.addr p.len → prefix_of (prefix_text p) ≡ Some p }
 {}
 
 fn put_family(out: &mut Vec<u8>, family: Family, bits: u128)

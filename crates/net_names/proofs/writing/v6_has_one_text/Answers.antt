@@ -1,0 +1,5 @@
+use Rattle.net_names.proofs.SixLaws.{v6_again}
+use Rattle.net_names.proofs.writing.v6_has_one_text.Goals as goal
+
+pub returns : goal.returns
+returns c = record { again = v6_again }
