@@ -15,3 +15,5 @@ pub mod SixLaws
 pub mod Again
 pub mod Runs
 pub mod DerivedOrders
+pub mod Shortening
+pub mod Orders

@@ -3,6 +3,7 @@ pub mod Links
 pub mod LinkLists
 pub mod Addresses
 pub mod Prefixes
+pub mod Coverage
 pub mod Payloads
 pub mod Steps
 pub mod Texts

@@ -1,11 +1,11 @@
--- Prefixes of both families: which there are, their order, and what they hold and cover.
-use Rattle.std.specs.Prelude.{◌≡◌, ℕ, ◌-◌, ◌/◌, ◌%◌, ◌^◌, ◌<◌, ◌≤◌, ◌&&◌, ◌==◌, nat_lt, nat_le, Option, Some, None, if◌then◌else◌, refl}
+-- Prefixes of both families: which there are, and their order.
+use Rattle.std.specs.Prelude.{◌≡◌, ℕ, ◌-◌, ◌%◌, ◌^◌, ◌<◌, ◌≤◌, ◌&&◌, ◌==◌, nat_lt, nat_le, Option, Some, None, if◌then◌else◌, refl}
 use Rattle.std.specs.Coded.{Coded, code_by, coded×, coded_ℕ}
 use Rattle.std.specs.declared.cmp.Ordering.{Ordering}
 use Rattle.std.specs.Ordering.{nat_cmp, ordering_then}
 use Rattle.net_names.specs.declared.addresses.Family.{Family}
 use Rattle.net_names.specs.contracts.addresses.Family as family
-use Rattle.net_names.specs.Addresses.{width, AddrValue}
+use Rattle.net_names.specs.Addresses.{width}
 pub use Rattle.net_names.specs.Addresses.{family_place}
 
 -- a prefix is a family, the number of its lowest address, and a length
@@ -35,18 +35,3 @@ prefix_at family addr len =
 -- prefixes are ordered by family, then by address, then by length (own rule)
 abbrev pub prefix_cmp : PrefixValue → PrefixValue → Ordering
 prefix_cmp p q = ordering_then (nat_cmp (family_place p.family) (family_place q.family)) (ordering_then (nat_cmp p.addr q.addr) (nat_cmp p.len q.len))
-
--- the first so many bits of an address of the family
-abbrev pub first_bits : Family → ℕ → ℕ → ℕ
-first_bits family addr bits = addr / 2 ^ (width family - bits)
-
--- the outer prefix covers the inner one: of one family, no longer, and alike in its bits (RFC 6811, section 2)
-pub record Covers (outer inner : PrefixValue) : Type 0 where
-  pub family : outer.family ≡ inner.family
-  pub len : outer.len ≤ inner.len
-  pub bits : first_bits outer.family outer.addr outer.len ≡ first_bits outer.family inner.addr outer.len
-
--- the prefix holds the address: of one family, and alike in the prefix's bits (RFC 4632, section 3.1)
-pub record Holds (prefix : PrefixValue) (a : AddrValue) : Type 0 where
-  pub family : prefix.family ≡ a.family
-  pub bits : first_bits prefix.family prefix.addr prefix.len ≡ first_bits prefix.family a.bits prefix.len

@@ -6,6 +6,7 @@
 #![tactic(auto)]
 
 mod addresses;
+mod coverage;
 mod links;
 mod numbers;
 mod payloads;
@@ -18,6 +19,7 @@ mod six_writing;
 mod writing;
 
 pub use addresses::{Addr, Family};
+pub use coverage::{covers, holds};
 pub use links::{Link, Links, LinksError};
 pub use numbers::{Asn, NoMemory, Path};
 pub use payloads::Vrp;

@@ -1,7 +1,8 @@
 //! Prefixes of both families.
-ghost use Rattle.std.specs.Prelude.{◌≡◌};
+ghost use Rattle.std.specs.Prelude.{◌≡◌, ◌≤◌};
 
 use crate::addresses::Family;
+use crate::coverage::without_last;
 use std::marker::Model;
 
 /// A prefix of a family: an address with no bit past the length set.
@@ -28,7 +29,8 @@ impl Model for Prefix {
 
 impl Prefix {
     ghost use Rattle.net_names.specs.Addresses.{FitsFamily};
-    ghost use Rattle.net_names.specs.Prefixes.{prefix_at, PrefixValue};
+    ghost use Rattle.net_names.specs.Prefixes.{prefix_at, PrefixValue, IsPrefix};
+    ghost use Rattle.net_names.specs.Coverage.{shortened as shortened_of};
 
     /// The prefix of that address and length; `None` exactly where the address does not fit the
     /// family, the length is above the family's width, or a bit past the length is set.
@@ -66,6 +68,7 @@ impl Prefix {
     pub fn addr(self) -> u128
         ensures value { result ≡ self.addr }
         ensures fits { FitsFamily self.family result }
+        ensures prefix { IsPrefix self.family self.addr self.len }
     {
         self.addr
     }
@@ -75,5 +78,17 @@ impl Prefix {
         ensures { result ≡ self.len }
     {
         self.len
+    }
+    /// The prefix of this length that covers it: the bits past the length are cleared.
+    pub fn shortened(self, len: u8) -> Prefix
+        requires { len ≤ self.len }
+        ensures { result ≡ shortened_of self len }
+    {
+        let addr = without_last(self.addr, self.family.width() - len);
+        Prefix {
+            family: self.family,
+            addr,
+            len,
+        }
     }
 }
