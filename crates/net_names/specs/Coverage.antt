@@ -4,15 +4,15 @@ use Rattle.net_names.specs.declared.addresses.Family.{Family}
 use Rattle.net_names.specs.Addresses.{width, family_place, AddrValue}
 use Rattle.net_names.specs.Prefixes.{PrefixValue}
 
--- the first so many bits of an address of the family
+-- the first so many bits of an address of the family (RFC 4291, section 2.3)
 abbrev pub first_bits : Family → ℕ → ℕ → ℕ
 first_bits family addr bits = addr / 2 ^ (width family - bits)
 
--- both are of one family
+-- both are of one family (own rule)
 abbrev pub same_family : Family → Family → Bool
 same_family f g = family_place f == family_place g
 
--- the first bits of an address are those of the prefix, as many as the prefix is long
+-- the first bits of an address are those of the prefix, as many as the prefix is long (RFC 6811, section 2)
 abbrev pub has_bits : PrefixValue → ℕ → Bool
 has_bits p addr = first_bits p.family p.addr p.len == first_bits p.family addr p.len
 
@@ -24,6 +24,6 @@ covers outer inner = same_family outer.family inner.family && (nat_le outer.len 
 abbrev pub holds : PrefixValue → AddrValue → Bool
 holds prefix a = same_family prefix.family a.family && has_bits prefix a.bits
 
--- the prefix of this length that has the same first bits
+-- the prefix of this length that has the same first bits (RFC 4632, section 3.1)
 abbrev pub shortened : PrefixValue → ℕ → PrefixValue
 shortened p n = record p { len = n; addr = first_bits p.family p.addr n * 2 ^ (width p.family - n) }
