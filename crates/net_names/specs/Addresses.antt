@@ -10,16 +10,16 @@ abbrev pub width : Family → ℕ
 width V4 = 32
 width V6 = 128
 
--- an address is a family and a number
+-- an address is a family and a number (RFC 791, section 3.2; RFC 4291, section 2)
 pub record AddrValue : Type 0 where
   pub family : Family
   pub bits : ℕ
 
--- the number has no more bits than the family's width
+-- the number has no more bits than the family's width (RFC 4291, section 2)
 abbrev pub FitsFamily : Family → ℕ → Type 0
 FitsFamily family bits = bits < 2 ^ width family
 
--- the address of that family and number, where the number fits the family
+-- the address of that family and number, where the number fits the family (own rule)
 abbrev pub addr_at : Family → ℕ → Option AddrValue
 addr_at family bits = if nat_lt bits (2 ^ width family) then Some (record { family = family; bits = bits }) else None
 

@@ -16,7 +16,7 @@ pair_cmp a b = ordering_then (nat_cmp a.0 b.0) (nat_cmp a.1 b.1)
 abbrev pub LinkMap : Type 0
 LinkMap = map.FinMap pair_cmp Rel
 
--- how such a map is stored as a value
+-- how such a map is stored as a value (own rule)
 abbrev pub link_map_code : Coded LinkMap
 link_map_code = map.code (coded× coded_ℕ coded_ℕ) rel.the_row.coded
 

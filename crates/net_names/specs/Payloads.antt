@@ -12,7 +12,7 @@ pub record VrpValue : Type 0 where
   pub max : ℕ
   pub asn : ℕ
 
--- stored as the triple of its fields
+-- stored as the triple of its fields (own rule)
 abbrev pub vrp_code : Coded VrpValue
 vrp_code =
     code_by (PrefixValue × (ℕ × ℕ)) (coded× prefix_code (coded× coded_ℕ coded_ℕ))
@@ -22,7 +22,7 @@ vrp_code =
 abbrev pub IsMax : PrefixValue → ℕ → Type 0
 IsMax p max = (p.len ≤ max) × (max ≤ width p.family)
 
--- the payload of that prefix, maximum length and number, where the maximum length is one of the prefix
+-- the payload of that prefix, maximum length and number, where the maximum length is one of the prefix (RFC 6811, section 2)
 abbrev pub vrp_at : PrefixValue → ℕ → ℕ → Option VrpValue
 vrp_at p max asn = if nat_lt max p.len || nat_lt (width p.family) max then None else Some (record { prefix = p; max = max; asn = asn })
 

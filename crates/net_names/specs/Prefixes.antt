@@ -8,13 +8,13 @@ use Rattle.net_names.specs.contracts.addresses.Family as family
 use Rattle.net_names.specs.Addresses.{width}
 pub use Rattle.net_names.specs.Addresses.{family_place}
 
--- a prefix is a family, the number of its lowest address, and a length
+-- a prefix is a family, the number of its lowest address, and a length (RFC 4632, section 3.1; RFC 4291, section 2.3)
 pub record PrefixValue : Type 0 where
   pub family : Family
   pub addr : ℕ
   pub len : ℕ
 
--- stored as the triple of its fields
+-- stored as the triple of its fields (own rule)
 abbrev pub prefix_code : Coded PrefixValue
 prefix_code =
     code_by (Family × (ℕ × ℕ)) (coded× family.the_row.coded (coded× coded_ℕ coded_ℕ))
@@ -26,7 +26,7 @@ pub record IsPrefix (f : Family) (a l : ℕ) : Type 0 where
   pub short : l ≤ width f
   pub clear : a % 2 ^ (width f - l) ≡ 0
 
--- the prefix of that family, address and length, where they are one
+-- the prefix of that family, address and length, where they are one (own rule)
 abbrev pub prefix_at : Family → ℕ → ℕ → Option PrefixValue
 prefix_at family addr len =
     if nat_lt addr (2 ^ width family) && (nat_le len (width family) && (addr % 2 ^ (width family - len) == 0))
