@@ -14,7 +14,7 @@ use std::marker::Model;
 
 /// A provider cycle: at least two ASes, each a provider of the next, and the last of the first.
 /// Contracts see the list of their numbers.
-#[derive(Drop)]
+#[derive(Debug, Drop)]
 pub struct Cycle {
     numbers: Vec<Asn>,
 }
