@@ -16,4 +16,3 @@ pub mod Again
 pub mod Runs
 pub mod DerivedOrders
 pub mod Shortening
-pub mod Orders

@@ -8,3 +8,4 @@ pub mod Payloads
 pub mod Steps
 pub mod Texts
 pub mod SixSteps
+pub mod Orders

@@ -10,9 +10,9 @@ use std::marker::Model;
 /// Prefixes are ordered by family, then by address, then by length.
 #[derive(Clone, Copy, Debug, PartialEq, Eq, PartialOrd, Ord, Hash)]
 pub struct Prefix {
-    family: Family,
-    addr: u128,
-    len: u8,
+    pub(crate) family: Family,
+    pub(crate) addr: u128,
+    pub(crate) len: u8,
 }
 
 impl Model for Prefix {
