@@ -1,0 +1,5 @@
+pub mod Lines
+pub mod LineValues
+pub mod Forms
+pub mod Walks
+pub mod Script

@@ -1,0 +1,16 @@
+//! The scenario and the script of a run, by their grammars.
+//!
+//! A scenario is four lists: announcements, policies, leakers of each later round and watched addresses.
+//! [`read_scenario`] takes one from a JSON document, or tells the first fault of the first pass that finds one, with its
+//! place. A script is edits of a world and queries about it, a line each: [`read_script`] takes its lines, or tells the
+//! first faulty one. In every [`Scenario`] nothing is named twice, no limit is passed, and each path starts with its AS.
+#![tactic(auto)]
+
+mod acts;
+mod forms;
+mod lines;
+mod script;
+
+pub use acts::{Act, Edit, Query};
+pub use lines::{Line, Lines};
+pub use script::{ScriptError, read_script};

@@ -1,0 +1,77 @@
+//! The lines of a script.
+ghost use Rattle.std.specs.Prelude.{◌≡◌, [], ◌∷◌, ◌++◌, OnOk, OnErr, option_copied, slice_get};
+
+use crate::acts::Act;
+use net_names::NoMemory;
+use std::alloc::Global;
+use std::marker::Model;
+
+/// A line of a script that isn't skipped. Contracts see its two fields.
+#[derive(Debug, PartialEq, Eq, Drop)]
+pub struct Line {
+    /// The number of the line in its file, where the first line has number 1 and skipped lines count.
+    pub number: u32,
+    /// What it asks for.
+    pub act: Act,
+}
+
+impl Model for Line {
+    ghost use Rattle.scenario_text.specs.LineValues.{LineValue};
+
+    ghost Value = { LineValue };
+
+    ghost view = { λ l. record { number = l.number; act = l.act } };
+
+    ghost inverse = { λ l. record { number = l.number; act = l.act } };
+}
+
+/// The lines of a script that aren't skipped, in their order. Contracts see the list of them.
+#[derive(Drop)]
+pub struct Lines {
+    items: Vec<Line>,
+}
+
+impl Model for Lines {
+    ghost use Rattle.std.specs.Prelude.{List};
+    ghost use Rattle.scenario_text.specs.LineValues.{LineValue};
+
+    ghost Value = { List LineValue };
+
+    ghost view = { λ l. l.items.items };
+}
+
+impl Lines {
+    /// No lines.
+    pub fn new(alloc: Global) -> Lines
+        ensures { result ≡ [] }
+    {
+        Lines {
+            items: Vec::new(alloc),
+        }
+    }
+
+    /// Puts a line at the end. `Err` where there is not enough memory; then the list stays as it was.
+    pub fn push(&mut self, line: Line) -> Result<(), NoMemory>
+        ensures ok { OnOk result (self.new ≡ self.old ++ line ∷ []) }
+        ensures err { OnErr result (self.new ≡ self.old) }
+    {
+        match self.items.push(line) {
+            Ok(()) => Ok(()),
+            Err(_) => Err(NoMemory),
+        }
+    }
+
+    /// The line at a place, counted from 0; `None` exactly where the place is not below their number.
+    pub fn at(&self, place: usize) -> Option<&Line>
+        ensures { option_copied result ≡ slice_get self.now place }
+    {
+        self.items.get(place)
+    }
+
+    /// The lines in their order.
+    pub fn as_slice(&self) -> &[Line]
+        ensures { result.now ≡ self.now }
+    {
+        self.items.as_slice()
+    }
+}

@@ -1,0 +1,103 @@
+//! Reading a script.
+ghost use Rattle.std.specs.Prelude.{◌≡◌, ℕ, ◌<◌, ◌≤◌, ◌∷◌, length};
+ghost use Rattle.scenario_text.specs.Lines.{is_skipped, without_cr, texts, kept_from};
+ghost use Rattle.scenario_text.specs.Script.{Gives, command, script_of};
+
+use crate::forms::act;
+use crate::lines::{Line, Lines};
+use net_names::cut;
+use std::alloc::Global;
+
+/// Why a script is refused: the fault of its first faulty line. Lines are numbered from 1, and skipped lines count. A
+/// line is judged in the order of the last two variants.
+#[derive(Clone, Copy, Debug, PartialEq, Eq)]
+pub enum ScriptError {
+    /// Memory ran out.
+    Memory,
+    /// The line has none of the forms.
+    Unreadable {
+        /// The number of the line.
+        line: u32,
+    },
+    /// 100,000 lines that aren't skipped stand before the line.
+    TooMany {
+        /// The number of the line.
+        line: u32,
+    },
+}
+
+const MOST_COMMANDS: u32 = 100_000;
+
+// One carriage return at the end doesn't count.
+fn drop_cr(line: &[u8]) -> &[u8]
+    ensures { result.now ≡ without_cr line.now }
+{
+    if !line.is_empty() && line[line.len() - 1] == b'\r' {
+        &line[..line.len() - 1]
+    } else {
+        line
+    }
+}
+
+// The first line, and the bytes after it.
+fn next_line(bytes: &[u8]) -> (&[u8], &[u8])
+    requires { 0 < length bytes.now }
+    ensures lines { (number : ℕ) → kept_from number (texts bytes.now) ≡ kept_from number (result.0.now ∷ texts result.1.now) }
+    ensures shorter { length result.1.now < length bytes.now }
+{
+    match cut(bytes, b'\n') {
+        Some((line, rest)) => (drop_cr(line), rest),
+        None => (drop_cr(bytes), &bytes[..0]),
+    }
+}
+
+fn skips(line: &[u8]) -> bool
+    ensures { result ≡ is_skipped line.now }
+{
+    line.is_empty() || line[0] == b'#'
+}
+
+// What a line says that isn't skipped, where so many others stand before it.
+fn command_of(line: &[u8], number: u32, before: u32) -> Result<Line, ScriptError>
+    ensures { Gives result (command before (number, line.now)) }
+{
+    match act(line) {
+        None => Err(ScriptError::Unreadable { line: number }),
+        Some(act) => {
+            if before < MOST_COMMANDS {
+                Ok(Line { number, act })
+            } else {
+                Err(ScriptError::TooMany { line: number })
+            }
+        }
+    }
+}
+
+/// The lines of a script of at most 16,777,216 bytes. A line ends with a line feed, before which one carriage return may
+/// stand; a line that is empty or begins with `#` is skipped. The format is this project's own.
+///
+/// `Unreadable` exactly where the first faulty line has none of the forms, and `TooMany` exactly where it has one and
+/// 100,000 lines that aren't skipped stand before it; `Memory` where there is not enough memory.
+pub fn read_script(alloc: Global, bytes: &[u8]) -> Result<Lines, ScriptError>
+    requires { length bytes.now ≤ 16777216 }
+    ensures { Gives result (script_of bytes.now) }
+{
+    let mut lines = Lines::new(alloc);
+    let mut rest = bytes;
+    let mut number: u32 = 0;
+    let mut count: u32 = 0;
+    while !rest.is_empty() {
+        let (line, more) = next_line(rest);
+        rest = more;
+        number += 1;
+        if !skips(line) {
+            let next = command_of(line, number, count)?;
+            count += 1;
+            match lines.push(next) {
+                Ok(()) => {}
+                Err(_) => return Err(ScriptError::Memory),
+            }
+        }
+    }
+    Ok(lines)
+}
