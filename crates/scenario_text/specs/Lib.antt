@@ -3,3 +3,13 @@ pub mod LineValues
 pub mod Forms
 pub mod Walks
 pub mod Script
+pub mod Places
+pub mod PlaceTexts
+pub mod Faults
+pub mod Documents
+pub mod Shapes
+pub mod Scenarios
+pub mod Values
+pub mod Twice
+pub mod Limits
+pub mod Readings

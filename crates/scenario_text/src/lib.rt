@@ -7,10 +7,27 @@
 #![tactic(auto)]
 
 mod acts;
+mod document_shapes;
+mod documents;
+mod faults;
 mod forms;
+mod limits;
 mod lines;
+mod place_texts;
+mod places;
+mod reading;
+mod scenario;
 mod script;
+mod shapes;
+mod twice;
+mod values;
+mod walks;
 
 pub use acts::{Act, Edit, Query};
+pub use faults::{LimitOf, ScenarioError};
 pub use lines::{Line, Lines};
+pub use place_texts::put_place;
+pub use places::{Member, PartOf, Place};
+pub use reading::read_scenario;
+pub use scenario::{Announcement, Scenario};
 pub use script::{ScriptError, read_script};

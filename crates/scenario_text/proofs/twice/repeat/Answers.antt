@@ -1,0 +1,17 @@
+use Rattle.std.proofs.Common.{arith, sym, ◌∙◌}
+use Rattle.scenario_text.proofs.Repeats.{contains_more, goes_on, stops, ends}
+use Rattle.scenario_text.proofs.twice.repeat.Goals as goal
+
+pub returns-in-Ok-false : goal.returns-in-Ok-false
+returns-in-Ok-false g c place =
+    stops g.K.Ord.cmp place c.args.keys.now c.loop-i.i c.index-keys-i.result _ c.index-keys-i.is (omega arith) (c.loop-i.invariant.seen c.index-keys-i.result) (sym c.in-Ok-false.ensures.added ∙ c.in-Ok-false.field-0-test) (c.loop-i.invariant.so_far place)
+
+pub loop-i-preserved : goal.loop-i-preserved
+loop-i-preserved g c = record {
+  so_far = λ place.
+      goes_on g.K.Ord.cmp place c.args.keys.now c.loop-i.i c.index-keys-i.result _ c.index-keys-i.is (omega arith) (c.loop-i.invariant.seen c.index-keys-i.result) (sym c.in-Ok-true.ensures.added ∙ c.in-Ok-true.field-0-test) (c.loop-i.invariant.so_far place);
+  seen = λ q. contains_more g.K.Ord.cmp g.met.K.Ord.total c.args.keys.now c.loop-i.i c.index-keys-i.result q _ _ c.index-keys-i.is (omega arith) (c.in-Ok-true.ensures.updates.0 q) (c.loop-i.invariant.seen q);
+}
+
+pub returns : goal.returns
+returns g c place = ends g.K.Ord.cmp place c.args.keys.now c.loop-i.i (omega arith) (c.loop-i.invariant.so_far place)

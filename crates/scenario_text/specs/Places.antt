@@ -1,0 +1,25 @@
+-- Places in a scenario's document (own format).
+use Rattle.std.specs.Prelude.{ℕ, Some, None}
+use Rattle.scenario_text.specs.declared.places.Member.{Member}
+use Rattle.scenario_text.specs.declared.places.PartOf.{PartOf}
+use Rattle.scenario_text.specs.declared.places.Place.{Place}
+
+-- the document itself (own format)
+abbrev pub document : Place
+document = record { member = None; first = None; part = None; second = None }
+
+-- a member of the document (own format)
+abbrev pub in_member : Member → Place
+in_member m = record { member = Some m; first = None; part = None; second = None }
+
+-- the item at a position, counted from 0, of the member's list (own format)
+abbrev pub item : Place → ℕ → Place
+item p i = record p { first = Some i }
+
+-- a member of the object that stands there (own format)
+abbrev pub in_part : Place → PartOf → Place
+in_part p part = record p { part = Some part }
+
+-- the item at a position, counted from 0, of the list that stands there (own format)
+abbrev pub second_item : Place → ℕ → Place
+second_item p j = record p { second = Some j }

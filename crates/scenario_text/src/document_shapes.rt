@@ -1,0 +1,214 @@
+//! The first pass over a document: the types of its values, and the members of its objects.
+ghost use Rattle.std.specs.Prelude.{◌≡◌, ◌∷◌, [], codes};
+ghost use Rattle.serde_json.specs.View.{view};
+ghost use Rattle.scenario_text.specs.Faults.{Gives, GivesBy};
+ghost use Rattle.scenario_text.specs.Shapes.{text_at, number_at, path_number_at, list_of, needed, optional, announcement_at, policy_at, leakers_at, watched_at, document_of};
+
+use crate::documents::{AnnouncementText, Document, Numbers, Object, PolicyText, Text};
+use crate::faults::ScenarioError;
+use crate::places::{Member, PartOf, Place};
+use crate::shapes::{Shape, list, number, object, text};
+use serde_json::Value;
+use std::alloc::Global;
+
+struct NumberShape;
+
+impl Shape for NumberShape {
+    type To = u64;
+
+    ghost reads = { path_number_at };
+
+    fn shape(
+        _alloc: Global,
+        list: Place,
+        index: usize,
+        value: &Value,
+    ) -> Result<u64, ScenarioError> {
+        number(list.second_item(index), value)
+    }
+}
+
+fn numbers(alloc: Global, place: Place, value: &Value) -> Result<Numbers, ScenarioError>
+    ensures { Gives result (list_of path_number_at place (view value.now)) }
+{
+    let numbers = list::<NumberShape>(alloc, place, value)?;
+    Ok(Numbers { numbers })
+}
+
+fn needed_text(
+    alloc: Global,
+    place: Place,
+    name: &str,
+    value: &Value,
+) -> Result<Text, ScenarioError>
+    ensures { Gives result (needed text_at place name.now (view value.now)) }
+{
+    match value.get(name) {
+        Some(value) => text(alloc, place, value),
+        None => Err(ScenarioError::Shape { place }),
+    }
+}
+
+fn needed_number(place: Place, name: &str, value: &Value) -> Result<u64, ScenarioError>
+    ensures { Gives result (needed number_at place name.now (view value.now)) }
+{
+    match value.get(name) {
+        Some(value) => number(place, value),
+        None => Err(ScenarioError::Shape { place }),
+    }
+}
+
+// The path, or the list of this number alone where there is none.
+fn path(alloc: Global, place: Place, asn: u64, value: &Value) -> Result<Numbers, ScenarioError>
+    ensures { Gives result (optional (list_of path_number_at) (asn ∷ []) place (codes "path") (view value.now)) }
+{
+    match value.get("path") {
+        Some(value) => numbers(alloc, place, value),
+        None => {
+            let mut numbers = Vec::new(alloc);
+            match numbers.push(asn) {
+                Ok(()) => Ok(Numbers { numbers }),
+                Err(_) => Err(ScenarioError::Memory),
+            }
+        }
+    }
+}
+
+struct AnnouncementShape;
+
+impl Shape for AnnouncementShape {
+    type To = AnnouncementText;
+
+    ghost reads = { announcement_at };
+
+    #[tactic(auto, unfolding(crate::specs::Shapes::announcement_at))]
+    fn shape(
+        alloc: Global,
+        list: Place,
+        index: usize,
+        value: &Value,
+    ) -> Result<AnnouncementText, ScenarioError> {
+        let place = list.item(index);
+        object(Object::Announcement, place, value)?;
+        let prefix = needed_text(alloc, place.part(PartOf::Prefix), "prefix", value)?;
+        let number = needed_number(place.part(PartOf::Number), "as", value)?;
+        let path = path(alloc, place.part(PartOf::Path), number, value)?;
+        Ok(AnnouncementText {
+            prefix,
+            number,
+            path,
+        })
+    }
+}
+
+struct PolicyShape;
+
+impl Shape for PolicyShape {
+    type To = PolicyText;
+
+    ghost reads = { policy_at };
+
+    #[tactic(auto, unfolding(crate::specs::Shapes::policy_at))]
+    fn shape(
+        alloc: Global,
+        list: Place,
+        index: usize,
+        value: &Value,
+    ) -> Result<PolicyText, ScenarioError> {
+        let place = list.item(index);
+        object(Object::Policy, place, value)?;
+        let number = needed_number(place.part(PartOf::Number), "as", value)?;
+        let policy = needed_text(alloc, place.part(PartOf::Policy), "policy", value)?;
+        Ok(PolicyText { number, policy })
+    }
+}
+
+struct LeakersShape;
+
+impl Shape for LeakersShape {
+    type To = Numbers;
+
+    ghost reads = { leakers_at };
+
+    fn shape(
+        alloc: Global,
+        list: Place,
+        index: usize,
+        value: &Value,
+    ) -> Result<Numbers, ScenarioError> {
+        numbers(alloc, list.item(index), value)
+    }
+}
+
+struct WatchedShape;
+
+impl Shape for WatchedShape {
+    type To = Text;
+
+    ghost reads = { watched_at };
+
+    fn shape(
+        alloc: Global,
+        list: Place,
+        index: usize,
+        value: &Value,
+    ) -> Result<Text, ScenarioError> {
+        text(alloc, list.item(index), value)
+    }
+}
+
+fn needed_list<S: Shape>(
+    alloc: Global,
+    place: Place,
+    name: &str,
+    value: &Value,
+) -> Result<Vec<S::To>, ScenarioError>
+    ensures { GivesBy (λ v. v.items) result (needed (list_of S.reads) place name.now (view value.now)) }
+{
+    match value.get(name) {
+        Some(value) => list::<S>(alloc, place, value),
+        None => Err(ScenarioError::Shape { place }),
+    }
+}
+
+fn optional_list<S: Shape>(
+    alloc: Global,
+    place: Place,
+    name: &str,
+    value: &Value,
+) -> Result<Vec<S::To>, ScenarioError>
+    ensures { GivesBy (λ v. v.items) result (optional (list_of S.reads) [] place name.now (view value.now)) }
+{
+    match value.get(name) {
+        Some(value) => list::<S>(alloc, place, value),
+        None => Ok(Vec::new(alloc)),
+    }
+}
+
+/// The document with each value of its type, or the first place at which one isn't.
+#[tactic(auto, unfolding(crate::specs::Shapes::document_of))]
+pub fn document(alloc: Global, value: &Value) -> Result<Document, ScenarioError>
+    ensures { Gives result (document_of (view value.now)) }
+{
+    object(Object::Document, Place::document(), value)?;
+    let announcements = needed_list::<AnnouncementShape>(
+        alloc,
+        Place::member(Member::Announcements),
+        "announcements",
+        value,
+    )?;
+    let policies = optional_list::<PolicyShape>(
+        alloc,
+        Place::member(Member::Policies),
+        "policies",
+        value,
+    )?;
+    let leaks = optional_list::<LeakersShape>(alloc, Place::member(Member::Leaks), "leaks", value)?;
+    let watch = optional_list::<WatchedShape>(alloc, Place::member(Member::Watch), "watch", value)?;
+    Ok(Document {
+        announcements,
+        policies,
+        leaks,
+        watch,
+    })
+}

@@ -1,0 +1,93 @@
+//! Documents whose values are of their types.
+ghost use Rattle.std.specs.Prelude.{◌≡◌};
+
+use std::marker::Model;
+
+/// The objects of a document.
+#[derive(Clone, Copy)]
+pub enum Object {
+    /// The document itself.
+    Document,
+    /// An announcement.
+    Announcement,
+    /// A policy.
+    Policy,
+}
+
+/// A text of a document. Contracts see its bytes.
+#[derive(Drop)]
+pub struct Text {
+    pub text: String,
+}
+
+impl Model for Text {
+    ghost use Rattle.std.specs.Prelude.{ℕ, List, string_bytes};
+
+    ghost Value = { List ℕ };
+
+    ghost view = { λ t. string_bytes t.text };
+}
+
+impl Text {
+    /// Its bytes.
+    pub fn as_bytes(&self) -> &[u8]
+        ensures { result.now ≡ self.now }
+    {
+        self.text.as_bytes()
+    }
+}
+
+/// Numbers of a document. Contracts see the list of them.
+#[derive(Drop)]
+pub struct Numbers {
+    pub numbers: Vec<u64>,
+}
+
+impl Model for Numbers {
+    ghost use Rattle.std.specs.Prelude.{ℕ, List};
+
+    ghost Value = { List ℕ };
+
+    ghost view = { λ n. n.numbers.items };
+}
+
+impl Numbers {
+    /// The numbers in their order.
+    pub fn as_slice(&self) -> &[u64]
+        ensures { result.now ≡ self.now }
+    {
+        self.numbers.as_slice()
+    }
+}
+
+/// An announcement of a document.
+#[derive(Drop)]
+pub struct AnnouncementText {
+    pub prefix: Text,
+    pub number: u64,
+    pub path: Numbers,
+}
+
+/// A policy of a document.
+#[derive(Drop)]
+pub struct PolicyText {
+    pub number: u64,
+    pub policy: Text,
+}
+
+/// A document whose values are of their types. Contracts see its four lists.
+#[derive(Drop)]
+pub struct Document {
+    pub announcements: Vec<AnnouncementText>,
+    pub policies: Vec<PolicyText>,
+    pub leaks: Vec<Numbers>,
+    pub watch: Vec<Text>,
+}
+
+impl Model for Document {
+    ghost use Rattle.scenario_text.specs.Documents.{DocumentValue};
+
+    ghost Value = { DocumentValue };
+
+    ghost view = { λ d. record { announcements = d.announcements.items; policies = d.policies.items; leaks = d.leaks.items; watch = d.watch.items } };
+}

@@ -1,0 +1,103 @@
+//! The last pass: no limit is passed.
+ghost use Rattle.std.specs.Prelude.{◌≡◌, IfOk, length, map, nat_lt};
+ghost use Rattle.std.specs.BTreeSet.{IsFromIterResult};
+ghost use Rattle.std.specs.List.{list_any};
+ghost use Rattle.scenario_text.specs.Faults.{Gives};
+ghost use Rattle.scenario_text.specs.Limits.{within};
+ghost use Rattle.scenario_text.specs.Scenarios.{prefix_count};
+
+use crate::faults::{LimitOf, ScenarioError};
+use crate::scenario::{Announcement, Leakers, Lists};
+use net_names::Prefix;
+use std::alloc::{AllocError, Global};
+use std::collections::BTreeSet;
+
+const MOST_ANNOUNCEMENTS: usize = 64;
+
+const MOST_PREFIXES: usize = 32;
+
+const MOST_NUMBERS: usize = 64;
+
+const MOST_LEAK_LISTS: usize = 1;
+
+const MOST_LEAKERS: usize = 64;
+
+const MOST_WATCHED: usize = 16;
+
+fn set_of<K: Ord + Copy>(alloc: Global, keys: &[K]) -> Result<BTreeSet<K>, AllocError>
+where
+    K: Drop,
+    ensures { IfOk result (λ set. IsFromIterResult K.cmp keys.now set) }
+{
+    keys.iter().copied().collect(alloc)
+}
+
+fn prefixes(alloc: Global, announcements: &[Announcement]) -> Result<Vec<Prefix>, AllocError>
+    ensures { IfOk result (λ v. v.items ≡ map (λ a. a.prefix) announcements.now) }
+{
+    announcements.iter().map(|a| a.prefix).collect(alloc)
+}
+
+// How many different prefixes are announced.
+fn count_prefixes(alloc: Global, announcements: &[Announcement]) -> Result<usize, AllocError>
+    ensures { IfOk result (λ n. n ≡ prefix_count announcements.now) }
+{
+    let prefixes = prefixes(alloc, announcements)?;
+    let different = set_of(alloc, &prefixes)?;
+    Ok(different.len())
+}
+
+fn has_long_path(announcements: &[Announcement]) -> bool
+    ensures { result ≡ list_any (λ a. nat_lt 64 (length a.path)) announcements.now }
+{
+    announcements
+        .iter()
+        .any(|a| a.path.as_slice().len() > MOST_NUMBERS)
+}
+
+fn has_many_leakers(leaks: &[Leakers]) -> bool
+    ensures { result ≡ list_any (λ leakers. nat_lt 64 (length leakers)) leaks.now }
+{
+    leaks.iter().any(|l| l.as_slice().len() > MOST_LEAKERS)
+}
+
+/// Tests that no limit is passed.
+#[tactic(auto, unfolding(crate::specs::Limits::within))]
+pub fn test_limits(alloc: Global, lists: &Lists) -> Result<(), ScenarioError>
+    ensures { Gives result (within lists.now) }
+{
+    if lists.announcements.len() > MOST_ANNOUNCEMENTS {
+        return Err(ScenarioError::Limit {
+            which: LimitOf::Announcements,
+        });
+    }
+    let Ok(prefixes) = count_prefixes(alloc, &lists.announcements) else {
+        return Err(ScenarioError::Memory);
+    };
+    if prefixes > MOST_PREFIXES {
+        return Err(ScenarioError::Limit {
+            which: LimitOf::Prefixes,
+        });
+    }
+    if has_long_path(&lists.announcements) {
+        return Err(ScenarioError::Limit {
+            which: LimitOf::Path,
+        });
+    }
+    if lists.leaks.len() > MOST_LEAK_LISTS {
+        return Err(ScenarioError::Limit {
+            which: LimitOf::Rounds,
+        });
+    }
+    if has_many_leakers(&lists.leaks) {
+        return Err(ScenarioError::Limit {
+            which: LimitOf::Leakers,
+        });
+    }
+    if lists.watch.len() > MOST_WATCHED {
+        return Err(ScenarioError::Limit {
+            which: LimitOf::Watch,
+        });
+    }
+    Ok(())
+}

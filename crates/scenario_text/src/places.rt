@@ -1,0 +1,99 @@
+//! Places in a scenario's document.
+
+/// The members of the document.
+#[derive(Clone, Copy, Debug, PartialEq, Eq)]
+pub enum Member {
+    /// The list of announcements.
+    Announcements,
+    /// The list of policies.
+    Policies,
+    /// The leakers of each round after the first.
+    Leaks,
+    /// The list of watched addresses.
+    Watch,
+}
+
+/// The members of an announcement and of a policy.
+#[derive(Clone, Copy, Debug, PartialEq, Eq)]
+pub enum PartOf {
+    /// The prefix of an announcement.
+    Prefix,
+    /// The number of the AS.
+    Number,
+    /// The path of an announcement.
+    Path,
+    /// The name of a policy.
+    Policy,
+}
+
+/// A place in a document: the document itself where there is no member. Positions count from 0.
+#[derive(Clone, Copy, Debug, PartialEq, Eq)]
+pub struct Place {
+    /// The member of the document.
+    pub member: Option<Member>,
+    /// The position in the member's list.
+    pub first: Option<usize>,
+    /// The member of the object at that position.
+    pub part: Option<PartOf>,
+    /// The position in the list that stands there.
+    pub second: Option<usize>,
+}
+
+impl Place {
+    ghost use Rattle.std.specs.Prelude.{◌≡◌};
+    ghost use Rattle.scenario_text.specs.Places.{document, in_member, item, in_part, second_item};
+
+    /// The document itself.
+    pub fn document() -> Place
+        ensures { result ≡ document }
+    {
+        Place {
+            member: None,
+            first: None,
+            part: None,
+            second: None,
+        }
+    }
+
+    /// A member of the document.
+    pub fn member(member: Member) -> Place
+        ensures { result ≡ in_member member }
+    {
+        Place {
+            member: Some(member),
+            first: None,
+            part: None,
+            second: None,
+        }
+    }
+
+    /// The item at this position of the member's list.
+    pub fn item(self, index: usize) -> Place
+        ensures { result ≡ item self index }
+    {
+        Place {
+            first: Some(index),
+            ..self
+        }
+    }
+
+    /// A member of the object that stands there.
+    pub fn part(self, part: PartOf) -> Place
+        ensures { result ≡ in_part self part }
+    {
+        Place {
+            part: Some(part),
+            ..self
+        }
+    }
+
+    /// The item at this position of the list that stands there.
+    pub fn second_item(self, index: usize) -> Place
+        ensures { result ≡ second_item self index }
+    {
+        Place {
+            second: Some(index),
+            ..self
+        }
+    }
+}
