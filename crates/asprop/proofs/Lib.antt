@@ -1,3 +1,6 @@
+pub mod Adding
+pub mod Parsing
+pub mod OnWords
 pub mod ReadLemmas
 pub mod Announcing
 pub mod Marking

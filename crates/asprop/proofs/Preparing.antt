@@ -1,18 +1,19 @@
--- What the words and the files ask for.
-use Rattle.std.proofs.Common.{◌≡◌, ◌<◌, ◌≤◌, ℕ, List, [], ◌∷◌, false, Option, Some, None, Ok, Err, refl, sym, ap, ◌∙◌, subst, lt-ltb, le-ltb}
+-- What the form and the files ask for.
+use Rattle.std.proofs.Common.{◌≡◌, ◌<◌, ◌≤◌, ℕ, List, [], ◌∷◌, false, Option, Some, None, Result, Ok, Err, refl, sym, ap, ◌∙◌, subst, lt-ltb, le-ltb}
 use Rattle.net_names.specs.Links.{LinkMap}
-use Rattle.asprop.specs.Words.{Form, origin_form, form_of, name_by, name_in}
+use Rattle.asprop.specs.Words.{Form, script_form, origin_form, name_by}
 use Rattle.as_graph.specs.Topology.{as_count}
 use Rattle.asprop.specs.World.{topology}
 use Rattle.net_names.specs.Prefixes.{PrefixValue}
 use Rattle.as_graph.specs.Topology.{Topology}
 use Rattle.asprop.specs.Seen.{MakesGraph, world_of}
 use Rattle.asprop.specs.declared.types.Line.{Line}
-use Rattle.asprop.specs.Task.{Task, Reads, all_addresses, announced_by, origin_task, relations, task_of, task_of_form, within_limits, ◌>>=◌}
-use Rattle.asprop.specs.Files.{IsRead, IsReadAs, AreReads, IsStop, ReadsTo, Prepares}
-use Rattle.asprop.specs.declared.types.File.TheVariants.{Relations}
+use Rattle.asprop.specs.Task.{Task, Reads, all_addresses, announced_by, origin_task, relations, within_limits, ◌>>=◌}
+use Rattle.asprop.specs.Files.{IsRead, IsReadAs, AreReads, IsStop, Finds, ReadsTo, Prepares}
+use Rattle.asprop.specs.declared.types.File.TheVariants.{Relations, Payloads, Scenario, Script}
 use Rattle.asprop.specs.declared.types.Stop.{Stop}
 use Rattle.asprop.specs.declared.types.Stop.TheVariants as stop
+use Rattle.asprop.specs.declared.types.Fault.{Fault}
 use Rattle.asprop.specs.declared.types.Fault.TheVariants as fault
 use Rattle.asprop.proofs.ReadLemmas.{some_read}
 
@@ -21,55 +22,61 @@ read_as holds sound rose None = (Some [], refl)
 read_as holds sound rose (Some name) = some_read (holds name) (sound name) rose
 
 -- nothing was read yet
-none_read : (holds : List ℕ → Option (List ℕ)) (sound : List ℕ → Type 0) (rose : Type 0) (words : List (List ℕ)) → (reads : Reads) × AreReads holds sound rose words reads
-none_read holds sound rose words = (λ file. (read_as holds sound rose (name_in words file)).0, λ file. (read_as holds sound rose (name_in words file)).1)
+pub none_read : (holds : List ℕ → Option (List ℕ)) (sound : List ℕ → Type 0) (rose : Type 0) (form : Option Form) → (reads : Reads) × AreReads holds sound rose form reads
+none_read holds sound rose form = (λ file. (read_as holds sound rose (name_by form file)).0, λ file. (read_as holds sound rose (name_by form file)).1)
 
--- the relationship file was read
-one_read : (holds : List ℕ → Option (List ℕ)) (sound : List ℕ → Type 0) (rose : Type 0) (words : List (List ℕ)) (rel : List ℕ) (origin : ℕ) (read : Option (List ℕ))
-    → Some (origin_form rel origin) ≡ form_of words → IsRead (holds rel) (sound rel) rose read → AreReads holds sound rose words (λ _. read)
-one_read holds sound rose words rel origin read e h Relations =
-    let P : Option Form → Type 0 = λ form. IsReadAs holds sound rose (name_by form Relations) read in subst P e h
+-- the relationship file alone was read
+abbrev only_relations : Option (List ℕ) → Reads
+only_relations read Relations = read
+only_relations read file = Some []
 
-of_origin : (words : List (List ℕ)) (rel : List ℕ) (origin : ℕ) (reads : Reads) → Some (origin_form rel origin) ≡ form_of words
-    → task_of words reads ≡ (relations (reads Relations) >>= λ links. within_limits (origin_task links origin))
-of_origin words rel origin reads e = ap (λ form. task_of_form form reads) (sym e)
+one_read : (holds : List ℕ → Option (List ℕ)) (sound : List ℕ → Type 0) (rose : Type 0) (rel : List ℕ) (origin : ℕ) (read : Option (List ℕ))
+    → IsRead (holds rel) (sound rel) rose read → AreReads holds sound rose (Some (origin_form rel origin)) (only_relations read)
+one_read holds sound rose rel origin read h Relations = h
+one_read holds sound rose rel origin read h Payloads = refl
+one_read holds sound rose rel origin read h Scenario = refl
+one_read holds sound rose rel origin read h Script = refl
 
-stops : (words : List (List ℕ)) (rel : List ℕ) (origin : ℕ) (reads : Reads) (s : Stop) → Some (origin_form rel origin) ≡ form_of words
-    → IsStop s (relations (reads Relations)) → IsStop s (task_of words reads)
-stops words rel origin reads stop.Memory e h = tt
-stops words rel origin reads (stop.Fault f) e h = of_origin words rel origin reads e ∙ ap (λ r. r >>= λ links. within_limits (origin_task links origin)) h
-stops words rel origin reads stop.Write e h = h
-stops words rel origin reads (stop.Cycle c) e h = h
-
-value : (words : List (List ℕ)) (rel : List ℕ) (origin : ℕ) (read : Option (List ℕ)) (links : LinkMap) → Some (origin_form rel origin) ≡ form_of words
-    → relations read ≡ Ok links → task_of words (λ _. read) ≡ within_limits (origin_task links origin)
-value words rel origin read links e h = of_origin words rel origin (λ _. read) e ∙ ap (λ r. r >>= λ links. within_limits (origin_task links origin)) h
+stops : (origin : ℕ) (links : Result LinkMap Fault) (s : Stop) → IsStop s links → IsStop s (links >>= λ links. within_limits (origin_task links origin))
+stops origin links stop.Memory h = tt
+stops origin links (stop.Fault f) h = ap (λ r. r >>= λ links. within_limits (origin_task links origin)) h
+stops origin links stop.Write h = h
+stops origin links (stop.Cycle c) h = h
 
 -- what is known at each way out
-module _ {X : Type 0} {holds : List ℕ → Option (List ℕ)} {sound : List ℕ → Type 0} {rose : Type 0} {words : List (List ℕ)} {view : X → Task} where
-  pub no_form : None ≡ form_of words → Prepares holds sound rose words view (Err (stop.Fault fault.Usage))
-  no_form e = let r = none_read holds sound rose words in record { reads = r.0; are_read = r.1; finds = rw (← e) refl }
+module _ {X : Type 0} {holds : List ℕ → Option (List ℕ)} {sound : List ℕ → Type 0} {rose : Type 0} {view : X → Task} where
+  pub no_form : {form : Option Form} → None ≡ form → Prepares holds sound rose form view (Err (stop.Fault fault.Usage))
+  no_form {form} e = let r = none_read holds sound rose form in record { reads = r.0; are_read = r.1; finds = rw (← e) refl }
 
-  module _ {rel : List ℕ} {origin : ℕ} (e : Some (origin_form rel origin) ≡ form_of words) where
-    pub stopped_early : {Y : Type 0} (of_y : Y → LinkMap) (s : Stop) → ReadsTo (holds rel) (sound rel) rose of_y (Err s) relations → Prepares holds sound rose words view (Err s)
+  pub a_script : {form : Option Form} {rel : List ℕ} {vrps scenario script : Option (List ℕ)} → Some (script_form rel vrps scenario script) ≡ form → Prepares holds sound rose form view (Err (stop.Fault fault.Usage))
+  a_script {form} e = let r = none_read holds sound rose form in record { reads = r.0; are_read = r.1; finds = rw (← e) refl }
+
+  module _ {rel : List ℕ} {origin : ℕ} where
+    pub stopped_early : {Y : Type 0} (of_y : Y → LinkMap) (s : Stop) → ReadsTo (holds rel) (sound rel) rose of_y (Err s) relations → Prepares holds sound rose (Some (origin_form rel origin)) view (Err s)
     stopped_early of_y s found = record {
-      reads = λ _. found.read;
-      are_read = one_read holds sound rose words rel origin found.read e found.is_read;
-      finds = stops words rel origin (λ _. found.read) s e found.finds;
+      reads = only_relations found.read;
+      are_read = one_read holds sound rose rel origin found.read found.is_read;
+      finds = stops origin (relations found.read) s found.finds;
     }
 
     module _ {Y : Type 0} (of_y : Y → LinkMap) (y : Y) (found : ReadsTo (holds rel) (sound rel) rose of_y (Ok y) relations) where
-      pub no_memory : Prepares holds sound rose words view (Err stop.Memory)
-      no_memory = record { reads = λ _. found.read; are_read = one_read holds sound rose words rel origin found.read e found.is_read; finds = tt }
+      -- what is found of the links that were read is found of the file
+      finds_of : (result : Result X Stop) → Finds view result (within_limits (origin_task (of_y y) origin)) → Prepares holds sound rose (Some (origin_form rel origin)) view result
+      finds_of result h =
+          let P : Result LinkMap Fault → Type 0 = λ links. Finds view result (links >>= λ links. within_limits (origin_task links origin)) in
+          record { reads = only_relations found.read; are_read = one_read holds sound rose rel origin found.read found.is_read; finds = subst P (sym found.finds) h }
 
-      pub too_many : 150000 < as_count (topology (origin_task (of_y y) origin).world) → Prepares holds sound rose words view (Err (stop.Fault fault.TooManyAses))
-      too_many many = record { reads = λ _. found.read; are_read = one_read holds sound rose words rel origin found.read e found.is_read; finds = value words rel origin found.read (of_y y) e found.finds ∙ rw (lt-ltb _ _ many) refl }
+      pub no_memory : Prepares holds sound rose (Some (origin_form rel origin)) view (Err stop.Memory)
+      no_memory = finds_of (Err stop.Memory) tt
 
-      pub prepared : (x : X) → as_count (topology (origin_task (of_y y) origin).world) ≤ 150000 → view x ≡ origin_task (of_y y) origin → Prepares holds sound rose words view (Ok x)
-      prepared x few is = record { reads = λ _. found.read; are_read = one_read holds sound rose words rel origin found.read e found.is_read; finds = value words rel origin found.read (of_y y) e found.finds ∙ rw (le-ltb _ _ few, is) refl }
+      pub too_many : 150000 < as_count (topology (origin_task (of_y y) origin).world) → Prepares holds sound rose (Some (origin_form rel origin)) view (Err (stop.Fault fault.TooManyAses))
+      too_many many = finds_of (Err (stop.Fault fault.TooManyAses)) (rw (lt-ltb _ _ many) refl)
+
+      pub prepared : (x : X) → as_count (topology (origin_task (of_y y) origin).world) ≤ 150000 → view x ≡ origin_task (of_y y) origin → Prepares holds sound rose (Some (origin_form rel origin)) view (Ok x)
+      prepared x few is = finds_of (Ok x) (rw (le-ltb _ _ few, is) refl)
 
       -- the graph wasn't made
-      pub unmade : (s : Stop) → MakesGraph (topology (origin_task (of_y y) origin).world) (Err s) → Prepares holds sound rose words view (Err s)
+      pub unmade : (s : Stop) → MakesGraph (topology (origin_task (of_y y) origin).world) (Err s) → Prepares holds sound rose (Some (origin_form rel origin)) view (Err s)
       unmade stop.Memory h = no_memory
       unmade stop.Write h = absurd h
       unmade (stop.Cycle cycle) h = absurd h

@@ -8,10 +8,10 @@ use Rattle.asprop.specs.Texts.{status_of, rel_status}
 use Rattle.asprop.specs.declared.types.Fault.TheVariants as fault
 use Rattle.asprop.specs.declared.types.File.TheVariants.{Relations}
 use Rattle.asprop.specs.Task.{Task, Reads, task_of, task_of_form, origin_task, relations, links_or_fault, bytes_of, within_limits, ◌>>=◌}
-use Rattle.asprop.specs.Words.{Form, origin_form, form_of, name_in}
+use Rattle.asprop.specs.Words.{Form, origin_form, script_form, form_of, name_in}
 use Rattle.asprop.specs.Files.{IsReadAs, IsRead}
 use Rattle.asprop.specs.Ran.{Ends, Ran}
-use Rattle.asprop.specs.Statuses.{IsTold, IsSoundAs, NoFault, RunsAsTold, Succeeds, HasTask, IsComplete, UsageRow, ReadFaultRow, WriteFaultRow}
+use Rattle.asprop.specs.Statuses.{IsUnanswered, IsTold, IsSoundAs, NoFault, RunsAsTold, Succeeds, HasTask, IsComplete, UsageRow, ReadFaultRow, WriteFaultRow}
 use Rattle.asprop.specs.declared.types.File.{File}
 use Rattle.asprop.specs.declared.types.Fault.{Fault}
 use Rattle.asprop.specs.declared.types.Status.{Status}
@@ -81,7 +81,7 @@ of_relations (Some bytes) e h =
 
 -- the faults of the words and the files
 data Stopped (form : Option Form) (reads : Reads) : Fault → Type 0 where
-  no_form : form ≡ None → Stopped form reads fault.Usage
+  unanswered : IsUnanswered form → Stopped form reads fault.Usage
   in_relations : (e : Fault) → Faulty (reads Relations) e → Stopped form reads e
   too_many : Stopped form reads fault.TooManyAses
 
@@ -89,7 +89,9 @@ of_limits : (form : Option Form) (reads : Reads) (task : Task) (e : Fault) → w
 of_limits form reads task e h = subst (Stopped form reads) (chosen_err _ _ e task h) too_many
 
 of_task : (form : Option Form) (reads : Reads) (e : Fault) → task_of_form form reads ≡ Err e → Stopped form reads e
-of_task None reads e h = let is : fault.Usage ≡ e = cc in subst (Stopped None reads) is (no_form refl)
+of_task None reads e h = let is : fault.Usage ≡ e = cc in subst (Stopped None reads) is (unanswered tt)
+of_task (Some (script_form rel vrps scenario script)) reads e h =
+    let is : fault.Usage ≡ e = cc in subst (Stopped (Some (script_form rel vrps scenario script)) reads) is (unanswered tt)
 of_task (Some (origin_form rel origin)) reads e h =
     elim (bind_err (relations (reads Relations)) (λ links. within_limits (origin_task links origin)) e h) [
       | inl early ↦ in_relations e (of_relations (reads Relations) e early)
@@ -118,16 +120,21 @@ not_write_fault (rel.SelfLink n) h = cc
 not_write_fault (rel.Conflict n m) h = cc
 not_write_fault (rel.TooManyLinks n) h = cc
 
-usage_stop : (form : Option Form) (reads : Reads) (f : Fault) → Stopped form reads f → status.Usage ≡ status_of f → form ≡ None
-usage_stop form reads _ (no_form is) h = is
+usage_stop : (form : Option Form) (reads : Reads) (f : Fault) → Stopped form reads f → status.Usage ≡ status_of f → IsUnanswered form
+usage_stop form reads _ (unanswered is) h = is
 usage_stop form reads _ (in_relations _ (unread is)) h = cc
 usage_stop form reads _ (in_relations _ too_long) h = cc
 usage_stop form reads _ (in_relations _ (refused e)) h = absurd (not_usage e h)
 usage_stop form reads _ too_many h = cc
 
-usage_only : (form : Option Form) (reads : Reads) (task : Result Task Fault) (old new : Option (List ℕ)) (rose : Type 0) → task_of_form form reads ≡ task → Ends task status.Usage old new rose → form ≡ None
+usage_only : (form : Option Form) (reads : Reads) (task : Result Task Fault) (old new : Option (List ℕ)) (rose : Type 0) → task_of_form form reads ≡ task → Ends task status.Usage old new rose → IsUnanswered form
 usage_only form reads (Ok task) old new rose e h = absurd h
 usage_only form reads (Err f) old new rose e h = usage_stop form reads f (of_task form reads f e) h.0
+
+usage_task : (form : Option Form) (reads : Reads) → IsUnanswered form → task_of_form form reads ≡ Err fault.Usage
+usage_task None reads is = refl
+usage_task (Some (script_form rel vrps scenario script)) reads is = refl
+usage_task (Some (origin_form rel origin)) reads is = absurd is
 
 usage_there : (s : Status) (old new : Option (List ℕ)) (rose : Type 0) → Ends (Err fault.Usage) s old new rose → (s ≡ status.Usage) ⊎ (s ≡ status.NoMemory)
 usage_there status.NoMemory old new rose h = inr refl
@@ -140,7 +147,7 @@ usage_there status.WriteFault old new rose h = inl h.0
 usage_there status.TooLarge old new rose h = inl h.0
 
 read_stop : (form : Option Form) (reads : Reads) (f : Fault) → Stopped form reads f → status.ReadFault ≡ status_of f → reads Relations ≡ None
-read_stop form reads _ (no_form is) h = cc
+read_stop form reads _ (unanswered is) h = cc
 read_stop form reads _ (in_relations _ (unread is)) h = is
 read_stop form reads _ (in_relations _ too_long) h = cc
 read_stop form reads _ (in_relations _ (refused e)) h = absurd (not_read_fault e h)
@@ -169,7 +176,7 @@ module _ {holds : List ℕ → Option (List ℕ)} {sound : List ℕ → Type 0} 
   usage_row r = record {
     only = λ is. usage_only (form_of words) r.reads (task_of words r.reads) out_old out_new out_rose refl (rw is at r.ends);
     there = λ none.
-        let task : task_of words r.reads ≡ Err fault.Usage = ap (λ form. task_of_form form r.reads) none in
+        let task : task_of words r.reads ≡ Err fault.Usage = usage_task (form_of words) r.reads none in
         usage_there s out_old out_new out_rose (rw task at r.ends);
   }
 

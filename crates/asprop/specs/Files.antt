@@ -1,8 +1,8 @@
 -- What was read of the files, and what comes of it.
 use Rattle.std.specs.Prelude.{ℕ, ◌≡◌, List, [], Option, Some, None, Result, Ok, Err}
 use Rattle.std.specs.Io.KnownBytes.{Keeps}
-use Rattle.asprop.specs.Words.{name_in}
-use Rattle.asprop.specs.Task.{Task, Reads, task_of}
+use Rattle.asprop.specs.Words.{Form, name_by}
+use Rattle.asprop.specs.Task.{Task, Reads, task_of_form}
 use Rattle.asprop.specs.declared.types.File.{File}
 use Rattle.asprop.specs.declared.types.Fault.{Fault}
 use Rattle.asprop.specs.declared.types.Stop.{Stop}
@@ -18,9 +18,9 @@ abbrev pub IsReadAs : (List ℕ → Option (List ℕ)) → (List ℕ → Type 0)
 IsReadAs holds sound rose None read = read ≡ Some []
 IsReadAs holds sound rose (Some name) read = IsRead (holds name) (sound name) rose read
 
--- each file was read under the name that the words give it
-abbrev pub AreReads : (List ℕ → Option (List ℕ)) → (List ℕ → Type 0) → Type 0 → List (List ℕ) → Reads → Type 0
-AreReads holds sound rose words reads = (file : File) → IsReadAs holds sound rose (name_in words file) (reads file)
+-- each file was read under the name that the form gives it
+abbrev pub AreReads : (List ℕ → Option (List ℕ)) → (List ℕ → Type 0) → Type 0 → Option Form → Reads → Type 0
+AreReads holds sound rose form reads = (file : File) → IsReadAs holds sound rose (name_by form file) (reads file)
 
 -- why the work stopped is the value's fault, unless memory ran out
 abbrev pub IsStop : {A : Type 0} → Stop → Result A Fault → Type 0
@@ -39,8 +39,8 @@ pub record ReadsTo {X A : Type 0} (held : Option (List ℕ)) (sound rose : Type 
   pub is_read : IsRead held sound rose read
   pub finds : Finds view result (value read)
 
--- The files were read under the names of the words, and what was found is the task of what was read.
-pub record Prepares {X : Type 0} (holds : List ℕ → Option (List ℕ)) (sound : List ℕ → Type 0) (rose : Type 0) (words : List (List ℕ)) (view : X → Task) (result : Result X Stop) : Type 0 where
+-- The files were read under the names of the form, and what was found is the task of what was read.
+pub record Prepares {X : Type 0} (holds : List ℕ → Option (List ℕ)) (sound : List ℕ → Type 0) (rose : Type 0) (form : Option Form) (view : X → Task) (result : Result X Stop) : Type 0 where
   pub reads : Reads
-  pub are_read : AreReads holds sound rose words reads
-  pub finds : Finds view result (task_of words reads)
+  pub are_read : AreReads holds sound rose form reads
+  pub finds : Finds view result (task_of_form form reads)

@@ -1,4 +1,5 @@
 pub mod World
+pub mod Command
 pub mod Words
 pub mod Task
 pub mod Told

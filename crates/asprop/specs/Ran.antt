@@ -4,7 +4,8 @@ use Rattle.io_edge.specs.Bytes.{Appends, AppendsFront}
 use Rattle.as_graph.specs.Topology.{what}
 use Rattle.cycle_check.specs.Cycles.{IsCycleFromLowest}
 use Rattle.asprop.specs.World.{World, topology}
-use Rattle.asprop.specs.Task.{Task, Reads, task_of}
+use Rattle.asprop.specs.Words.{Form, form_of}
+use Rattle.asprop.specs.Task.{Task, Reads, task_of, task_of_form}
 use Rattle.asprop.specs.Told.{HasCycle}
 use Rattle.asprop.specs.Texts.{status_of, fault_text, message, cycle_text}
 use Rattle.asprop.specs.Files.{AreReads}
@@ -31,13 +32,13 @@ abbrev pub IsCycle : World → List ℕ → Type 0
 IsCycle w cycle = IsCycleFromLowest (what (topology w)) cycle
 
 -- the text for a status
-abbrev pub Explains : List (List ℕ) → Result Task Fault → Status → List ℕ → Type 0
-Explains words task status.Done text = text ≡ []
-Explains words task status.SomeRefused text = text ≡ []
-Explains words task status.NoMemory text = text ≡ message (codes "out of memory")
-Explains words task status.WriteFault text = text ≡ message (codes "write fault")
-Explains words (Err fault) s text = text ≡ fault_text words fault
-Explains words (Ok task) s text = (cycle : List ℕ) × IsCycle task.world cycle × (text ≡ cycle_text cycle)
+abbrev pub Explains : Option Form → Result Task Fault → Status → List ℕ → Type 0
+Explains form task status.Done text = text ≡ []
+Explains form task status.SomeRefused text = text ≡ []
+Explains form task status.NoMemory text = text ≡ message (codes "out of memory")
+Explains form task status.WriteFault text = text ≡ message (codes "write fault")
+Explains form (Err fault) s text = text ≡ fault_text form fault
+Explains form (Ok task) s text = (cycle : List ℕ) × IsCycle task.world cycle × (text ≡ cycle_text cycle)
 
 -- the text was written, or a front of it where the sink failed
 abbrev pub Reports : List ℕ → Option (List ℕ) → Option (List ℕ) → Type 0 → Type 0
@@ -47,10 +48,10 @@ Reports text old new rose = Appends old new text ⊎ (rose × AppendsFront old n
 pub record Ran (holds : List ℕ → Option (List ℕ)) (sound : List ℕ → Type 0) (read_rose : Type 0) (words : List (List ℕ)) (s : Status)
     (out_old out_new : Option (List ℕ)) (out_rose : Type 0) (err_old err_new : Option (List ℕ)) (err_rose : Type 0) : Type 0 where
   pub reads : Reads
-  pub are_read : AreReads holds sound read_rose words reads
+  pub are_read : AreReads holds sound read_rose (form_of words) reads
   pub ends : Ends (task_of words reads) s out_old out_new out_rose
   pub text : List ℕ
-  pub explains : Explains words (task_of words reads) s text
+  pub explains : Explains (form_of words) (task_of words reads) s text
   pub reports : Reports text err_old err_new err_rose
 
 -- how the work before the report ends
@@ -64,12 +65,12 @@ Works (Err fault) (Err stop.Memory) old new rose = Appends old new []
 Works (Err fault) (Err (stop.Fault found)) old new rose = (found ≡ fault) × Appends old new []
 Works (Err fault) _ old new rose = ⊥
 
--- The files were read, and the answers written as far as the work got.
-pub record Worked (holds : List ℕ → Option (List ℕ)) (sound : List ℕ → Type 0) (read_rose : Type 0) (words : List (List ℕ)) (result : Result Bool Stop)
+-- The files that a form names were read, and the answers written as far as the work got.
+pub record Worked (holds : List ℕ → Option (List ℕ)) (sound : List ℕ → Type 0) (read_rose : Type 0) (form : Option Form) (result : Result Bool Stop)
     (out_old out_new : Option (List ℕ)) (out_rose : Type 0) : Type 0 where
   pub reads : Reads
-  pub are_read : AreReads holds sound read_rose words reads
-  pub works : Works (task_of words reads) result out_old out_new out_rose
+  pub are_read : AreReads holds sound read_rose form reads
+  pub works : Works (task_of_form form reads) result out_old out_new out_rose
 
 -- the status for each reason to stop
 abbrev pub stop_status : Stop → Status
@@ -79,16 +80,16 @@ stop_status (stop.Cycle cycle) = status.BadInput
 stop_status (stop.Fault fault) = status_of fault
 
 -- the text for each reason to stop
-abbrev pub stop_text : List (List ℕ) → Stop → List ℕ
-stop_text words stop.Memory = message (codes "out of memory")
-stop_text words stop.Write = message (codes "write fault")
-stop_text words (stop.Cycle cycle) = cycle_text cycle
-stop_text words (stop.Fault fault) = fault_text words fault
+abbrev pub stop_text : Option Form → Stop → List ℕ
+stop_text form stop.Memory = message (codes "out of memory")
+stop_text form stop.Write = message (codes "write fault")
+stop_text form (stop.Cycle cycle) = cycle_text cycle
+stop_text form (stop.Fault fault) = fault_text form fault
 
 -- how a stop is explained: by its own text, or where that can't be made by that for want of memory
-abbrev pub Explained : List (List ℕ) → Stop → Status → Option (List ℕ) → Option (List ℕ) → Type 0 → Type 0
-Explained words stop.Memory s old new rose = (s ≡ status.NoMemory) × Reports (stop_text words stop.Memory) old new rose
-Explained words stop.Write s old new rose = (s ≡ status.WriteFault) × Reports (stop_text words stop.Write) old new rose
-Explained words reason s old new rose =
-    ((s ≡ stop_status reason) × Reports (stop_text words reason) old new rose)
-    ⊎ ((s ≡ status.NoMemory) × Reports (stop_text words stop.Memory) old new rose)
+abbrev pub Explained : Option Form → Stop → Status → Option (List ℕ) → Option (List ℕ) → Type 0 → Type 0
+Explained form stop.Memory s old new rose = (s ≡ status.NoMemory) × Reports (stop_text form stop.Memory) old new rose
+Explained form stop.Write s old new rose = (s ≡ status.WriteFault) × Reports (stop_text form stop.Write) old new rose
+Explained form reason s old new rose =
+    ((s ≡ stop_status reason) × Reports (stop_text form reason) old new rose)
+    ⊎ ((s ≡ status.NoMemory) × Reports (stop_text form stop.Memory) old new rose)

@@ -9,7 +9,7 @@ use Rattle.caida_reader.specs.declared.errors.RelError.{RelError}
 use Rattle.as_graph.specs.Topology.{as_count}
 use Rattle.stability_laws.specs.Rounds.{announcement_cmp}
 use Rattle.asprop.specs.World.{World, topology}
-use Rattle.asprop.specs.Words.{Form, origin_form, form_of}
+use Rattle.asprop.specs.Words.{Form, origin_form, script_form, form_of}
 use Rattle.asprop.specs.declared.types.File.{File}
 use Rattle.asprop.specs.declared.types.File.TheVariants.{Relations}
 use Rattle.asprop.specs.declared.types.Fault.{Fault}
@@ -66,9 +66,10 @@ origin_task links origin = record {
 abbrev pub within_limits : Task → Result Task Fault
 within_limits task = if nat_lt 150000 (as_count (topology task.world)) then Err fault.TooManyAses else Ok task
 
--- the task of a form and of what was read of the files; words without a form are the first fault
+-- the task of a form and of what was read of the files; words without a form are the first fault, and a script is one too as long as none is answered
 abbrev pub task_of_form : Option Form → Reads → Result Task Fault
 task_of_form None reads = Err fault.Usage
+task_of_form (Some (script_form rel vrps scenario script)) reads = Err fault.Usage
 task_of_form (Some (origin_form rel origin)) reads = relations (reads Relations) >>= λ links. within_limits (origin_task links origin)
 
 -- the task of the words and of what was read of the files, or the first fault in the order in which they are judged

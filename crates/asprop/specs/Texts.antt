@@ -1,9 +1,9 @@
 -- The texts of faults, and their statuses.
-use Rattle.std.specs.Prelude.{ℕ, List, [], ◌∷◌, ◌++◌, codes, unwrap_or, decimal}
+use Rattle.std.specs.Prelude.{ℕ, List, [], ◌∷◌, ◌++◌, codes, Option, unwrap_or, decimal}
 use Rattle.caida_reader.specs.declared.errors.RelError.{RelError}
 use Rattle.caida_reader.specs.declared.errors.RelError.TheVariants as rel
 use Rattle.reports.specs.Rows.{numbers_text}
-use Rattle.asprop.specs.Words.{name_in}
+use Rattle.asprop.specs.Words.{Form, name_by}
 use Rattle.asprop.specs.declared.types.File.{File}
 use Rattle.asprop.specs.declared.types.File.TheVariants.{Relations}
 use Rattle.asprop.specs.declared.types.Fault.{Fault}
@@ -24,9 +24,9 @@ abbrev pub usage : List ℕ
 usage =
     codes "usage: asprop REL [--vrps FILE] [--scenario FILE] [--script FILE]" ++ 10 ∷ codes "       asprop REL --origin N" ++ 10 ∷ codes "       asprop --demo N" ++ 10 ∷ []
 
--- the name of a file as the words give it
-abbrev pub shown : List (List ℕ) → File → List ℕ
-shown words file = unwrap_or (name_in words file) []
+-- the name of a file as the form gives it
+abbrev pub shown : Option Form → File → List ℕ
+shown form file = unwrap_or (name_by form file) []
 
 -- the fault of a relationship file and its line (own format)
 abbrev pub rel_text : RelError → List ℕ
@@ -37,12 +37,12 @@ rel_text (rel.Conflict line earlier) = codes "line " ++ (decimal line ++ (codes 
 rel_text (rel.TooManyLinks line) = codes "line " ++ (decimal line ++ codes ": more than 1500000 links")
 
 -- the text for a fault of the words and the files (own format)
-abbrev pub fault_text : List (List ℕ) → Fault → List ℕ
-fault_text words fault.Usage = usage
-fault_text words (fault.Unread file) = of_file (shown words file) (codes "read fault")
-fault_text words (fault.TooLong file) = of_file (shown words file) (codes "more than 268435456 bytes")
-fault_text words (fault.Relation e) = of_file (shown words Relations) (rel_text e)
-fault_text words fault.TooManyAses = message (codes "more than 150000 ASes")
+abbrev pub fault_text : Option Form → Fault → List ℕ
+fault_text form fault.Usage = usage
+fault_text form (fault.Unread file) = of_file (shown form file) (codes "read fault")
+fault_text form (fault.TooLong file) = of_file (shown form file) (codes "more than 268435456 bytes")
+fault_text form (fault.Relation e) = of_file (shown form Relations) (rel_text e)
+fault_text form fault.TooManyAses = message (codes "more than 150000 ASes")
 
 -- a fault of a relationship file is bad input, but for a passed limit (own rule)
 abbrev pub rel_status : RelError → Status

@@ -1,11 +1,12 @@
 //! What is said of a fault.
-ghost use Rattle.std.specs.Prelude.{◌≡◌, ◌++◌, IfOk, map, string_bytes};
+ghost use Rattle.std.specs.Prelude.{◌≡◌, ◌++◌, IfOk, option_map, string_bytes};
 ghost use Rattle.io_edge.specs.Faults.{Rose};
 ghost use Rattle.asprop.specs.Texts.{cycle_text, fault_text, rel_text, shown, status_of};
 ghost use Rattle.asprop.specs.Ran.{Explained, Reports};
+ghost use Rattle.asprop.specs.Words.{form_seen};
 
 use crate::types::{Fault, File, Status, Stop};
-use crate::words::read_words;
+use crate::words::WordForm;
 use caida_reader::RelError;
 use cycle_check::Cycle;
 use io_edge::{Sink, write_all};
@@ -16,14 +17,12 @@ use std::alloc::{AllocError, Global};
 const USAGE: &str =
     "usage: asprop REL [--vrps FILE] [--scenario FILE] [--script FILE]\n       asprop REL --origin N\n       asprop --demo N\n";
 
-// The name that the words give to a file.
-fn file_name(words: &[String], file: File) -> &str
-    ensures { result.now ≡ shown (map string_bytes words.now) file }
+// The name of a file as the form gives it.
+fn file_name<'a>(form: &Option<WordForm<'a>>, file: File) -> &'a str
+    ensures { result.now ≡ shown (option_map form_seen form.now) file }
 {
-    match read_words(words) {
-        Some(form) => match file {
-            File::Relations => form.rel,
-        },
+    match form {
+        Some(form) => form.name(file).unwrap_or(""),
         None => "",
     }
 }
@@ -44,21 +43,25 @@ fn relation_text(alloc: Global, error: RelError) -> Result<String, AllocError>
     }
 }
 
-fn fault_message(alloc: Global, words: &[String], fault: Fault) -> Result<String, AllocError>
-    ensures { IfOk result (λ text. string_bytes text ≡ fault_text (map string_bytes words.now) fault) }
+fn fault_message(
+    alloc: Global,
+    form: &Option<WordForm<'_>>,
+    fault: Fault,
+) -> Result<String, AllocError>
+    ensures { IfOk result (λ text. string_bytes text ≡ fault_text (option_map form_seen form.now) fault) }
 {
     match fault {
         Fault::Usage => String::from_str(alloc, USAGE),
         Fault::Unread(file) => {
-            let name = file_name(words, file);
+            let name = file_name(form, file);
             format!(in alloc; "asprop: {name}: read fault\n")
         }
         Fault::TooLong(file) => {
-            let name = file_name(words, file);
+            let name = file_name(form, file);
             format!(in alloc; "asprop: {name}: more than 268435456 bytes\n")
         }
         Fault::Relation(error) => {
-            let name = file_name(words, File::Relations);
+            let name = file_name(form, File::Relations);
             let text = relation_text(alloc, error)?;
             format!(in alloc; "asprop: {name}: {text}\n")
         }
@@ -102,8 +105,13 @@ fn report<E: Sink>(err: &mut E, text: &[u8])
 }
 
 /// Says why the work stopped, and gives its status. Where memory for the text is wanting, that is said instead.
-pub fn explain<E: Sink>(alloc: Global, words: &[String], stop: &Stop, err: &mut E) -> Status
-    ensures { Explained (map string_bytes words.now) stop.now result (E.written err.old) (E.written err.new) (Rose (E.faults err.old) (E.faults err.new)) }
+pub fn explain<E: Sink>(
+    alloc: Global,
+    form: &Option<WordForm<'_>>,
+    stop: &Stop,
+    err: &mut E,
+) -> Status
+    ensures { Explained (option_map form_seen form.now) stop.now result (E.written err.old) (E.written err.new) (Rose (E.faults err.old) (E.faults err.new)) }
 {
     match stop {
         Stop::Memory => {
@@ -124,7 +132,7 @@ pub fn explain<E: Sink>(alloc: Global, words: &[String], stop: &Stop, err: &mut 
                 Status::NoMemory
             }
         },
-        Stop::Fault(fault) => match fault_message(alloc, words, *fault) {
+        Stop::Fault(fault) => match fault_message(alloc, form, *fault) {
             Ok(text) => {
                 report(err, text.as_bytes());
                 fault_status(*fault)

@@ -1,5 +1,5 @@
-//! From the words and the files to a task.
-ghost use Rattle.std.specs.Prelude.{◌≡◌, ◌<◌, ◌≤◌, Result, IfOk, length, map, string_bytes};
+//! From the form of the words and the files to a task.
+ghost use Rattle.std.specs.Prelude.{◌≡◌, ◌<◌, ◌≤◌, Result, IfOk, length, option_map};
 ghost use Rattle.io_edge.specs.Faults.{Rose, KeepsNames};
 ghost use Rattle.net_names.specs.Links.{LinkMap};
 ghost use Rattle.as_graph.specs.Topology.{as_count};
@@ -8,9 +8,10 @@ ghost use Rattle.asprop.specs.World.{topology};
 ghost use Rattle.asprop.specs.Task.{all_addresses, links_or_fault, origin_task, relations};
 ghost use Rattle.asprop.specs.Files.{IsStop, ReadsTo, Prepares};
 ghost use Rattle.asprop.specs.Seen.{MakesGraph, task_seen, world_of};
+ghost use Rattle.asprop.specs.Words.{form_seen, origin_form};
 
 use crate::types::{Fault, File, Line, Stop};
-use crate::words::read_words;
+use crate::words::WordForm;
 use as_graph::{Graph, GraphError};
 use caida_reader::{Reader, RelError};
 use io_edge::{Failed, Inputs};
@@ -126,23 +127,23 @@ fn origin_graph(alloc: Global, links: &Links, origin: Asn) -> Result<Graph, Stop
     }
 }
 
-/// Reads the words and the files. The first fault is answered, in this order: the words; the
-/// relationship file, which is read to its end, or to one byte past its limit, before it is judged;
-/// the number of ASes.
-pub fn prepare<I: Inputs>(alloc: Global, words: &[String], inputs: &mut I) -> Result<Prepared, Stop>
+// The routes of all ASes to one origin, over the relationship file of this name.
+fn prepare_origin<I: Inputs>(
+    alloc: Global,
+    rel: &str,
+    origin: Asn,
+    inputs: &mut I,
+) -> Result<Prepared, Stop>
     ensures task { Prepares (I.holds inputs.old) (I.is_sound inputs.old) (Rose (I.faults inputs.old) (I.faults inputs.new))
-        (map string_bytes words.now) task_seen result }
+        (Some (origin_form rel.now origin)) task_seen result }
     ensures graph { IfOk result (λ p. p.graph ≡ topology (world_of p.graph p.origin)) }
     ensures few { IfOk result (λ p. as_count p.graph ≤ 150000) }
 {
-    let Some(form) = read_words(words) else {
-        return Err(Stop::Fault(Fault::Usage));
-    };
-    let links = match read_relations(alloc, inputs, form.rel) {
+    let links = match read_relations(alloc, inputs, rel) {
         Ok(links) => links,
         Err(stop) => return Err(stop),
     };
-    let graph = match origin_graph(alloc, &links, form.origin) {
+    let graph = match origin_graph(alloc, &links, origin) {
         Ok(graph) => graph,
         Err(stop) => return Err(stop),
     };
@@ -153,10 +154,32 @@ pub fn prepare<I: Inputs>(alloc: Global, words: &[String], inputs: &mut I) -> Re
     match vec![in alloc; line] {
         Ok(lines) => Ok(Prepared {
             graph,
-            origin: form.origin,
+            origin,
             lines,
             heads: false,
         }),
         Err(_) => Err(Stop::Memory),
+    }
+}
+
+/// Reads the files that the form names. The first fault is answered, in this order: the form; the
+/// relationship file, which is read to its end, or to one byte past its limit, before it is judged;
+/// the number of ASes.
+pub fn prepare<I: Inputs>(
+    alloc: Global,
+    form: &Option<WordForm<'_>>,
+    inputs: &mut I,
+) -> Result<Prepared, Stop>
+    ensures task { Prepares (I.holds inputs.old) (I.is_sound inputs.old) (Rose (I.faults inputs.old) (I.faults inputs.new))
+        (option_map form_seen form.now) task_seen result }
+    ensures graph { IfOk result (λ p. p.graph ≡ topology (world_of p.graph p.origin)) }
+    ensures few { IfOk result (λ p. as_count p.graph ≤ 150000) }
+{
+    let Some(form) = form else {
+        return Err(Stop::Fault(Fault::Usage));
+    };
+    match form {
+        WordForm::Origin { rel, origin } => prepare_origin(alloc, rel, *origin, inputs),
+        WordForm::Script { .. } => Err(Stop::Fault(Fault::Usage)),
     }
 }

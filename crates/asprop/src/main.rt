@@ -5,6 +5,7 @@
 #![tactic(auto)]
 
 mod answers;
+mod command;
 mod explain;
 mod load;
 mod run;
@@ -44,7 +45,7 @@ fn main(rt: HostRuntime) -> ExitCode {
     let mut err = StdSink::new(rt.stderr());
     let status = match read_args(rt) {
         Ok(words) => run(rt.alloc(), &words, &mut inputs, &mut out, &mut err),
-        Err(stop) => explain(rt.alloc(), &[], &stop, &mut err),
+        Err(stop) => explain(rt.alloc(), &None, &stop, &mut err),
     };
     ExitCode::from(status as u8)
 }

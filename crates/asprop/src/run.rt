@@ -1,28 +1,30 @@
 //! The top call.
-ghost use Rattle.std.specs.Prelude.{map, string_bytes};
+ghost use Rattle.std.specs.Prelude.{map, option_map, string_bytes};
 ghost use Rattle.io_edge.specs.Faults.{Rose};
 ghost use Rattle.asprop.specs.Ran.{Ran, Worked};
 ghost use Rattle.asprop.specs.Statuses.{IsComplete, ReadFaultRow, RunsAsTold, UsageRow, WriteFaultRow};
+ghost use Rattle.asprop.specs.Words.{form_seen};
 
 use crate::answers::answer_all;
 use crate::explain::explain;
 use crate::load::prepare;
 use crate::types::{Status, Stop};
+use crate::words::{WordForm, read_words};
 use io_edge::{Inputs, Sink};
 use rank_order::{RankError, Ranks};
 use std::alloc::Global;
 
-// Reads the words and the files, and writes the answers.
+// Reads the files that the form names, and writes the answers.
 fn work<I: Inputs, O: Sink>(
     alloc: Global,
-    words: &[String],
+    form: &Option<WordForm<'_>>,
     inputs: &mut I,
     out: &mut O,
 ) -> Result<bool, Stop>
-    ensures { Worked (I.holds inputs.old) (I.is_sound inputs.old) (Rose (I.faults inputs.old) (I.faults inputs.new)) (map string_bytes words.now) result
+    ensures { Worked (I.holds inputs.old) (I.is_sound inputs.old) (Rose (I.faults inputs.old) (I.faults inputs.new)) (option_map form_seen form.now) result
         (O.written out.old) (O.written out.new) (Rose (O.faults out.old) (O.faults out.new)) }
 {
-    let prepared = match prepare(alloc, words, inputs) {
+    let prepared = match prepare(alloc, form, inputs) {
         Ok(prepared) => prepared,
         Err(stop) => return Err(stop),
     };
@@ -34,6 +36,7 @@ fn work<I: Inputs, O: Sink>(
     answer_all(alloc, &prepared, &ranks, &prepared.lines, out)
 }
 
+// Reads the words once: their form says which files are read, and how a fault names them.
 fn run_to_end<I: Inputs, O: Sink, E: Sink>(
     alloc: Global,
     words: &[String],
@@ -45,10 +48,14 @@ fn run_to_end<I: Inputs, O: Sink, E: Sink>(
         (O.written out.old) (O.written out.new) (Rose (O.faults out.old) (O.faults out.new))
         (E.written err.old) (E.written err.new) (Rose (E.faults err.old) (E.faults err.new)) }
 {
-    match work(alloc, words, inputs, out) {
+    let form = match read_words(alloc, words) {
+        Ok(form) => form,
+        Err(_) => return explain(alloc, &None, &Stop::Memory, err),
+    };
+    match work(alloc, &form, inputs, out) {
         Ok(true) => Status::SomeRefused,
         Ok(false) => Status::Done,
-        Err(stop) => explain(alloc, words, &stop, err),
+        Err(stop) => explain(alloc, &form, &stop, err),
     }
 }
 

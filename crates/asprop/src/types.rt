@@ -8,6 +8,12 @@ use net_names::Prefix;
 pub enum File {
     /// The relationship file.
     Relations,
+    /// The file of payloads.
+    Payloads,
+    /// The scenario.
+    Scenario,
+    /// The script.
+    Script,
 }
 
 /// Why the words and the files give no task.

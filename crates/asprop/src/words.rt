@@ -1,33 +1,158 @@
 //! The words of the command line.
-ghost use Rattle.std.specs.Prelude.{◌≡◌, map, string_bytes, option_map};
-ghost use Rattle.asprop.specs.Words.{form_of, form_seen};
+ghost use Rattle.std.specs.Prelude.{◌≡◌, IfOk, map, option_map, string_bytes};
+ghost use Rattle.asprop.specs.Words.{also, asked_by, form_by, form_of, form_seen, jobs_seen, name_of, text_seen};
 
-use net_names::{Asn, read_asn};
+use crate::command::new_command;
+use crate::types::File;
+use clap::error::ErrorKind;
+use net_names::{Asn, NoMemory, read_asn};
+use std::alloc::Global;
 
-/// `asprop REL --origin N`.
+#[cfg(test)]
+mod tests;
+
+/// A form that the words may have.
 #[derive(Clone, Copy)]
-pub struct OriginForm<'a> {
-    /// The name of the relationship file.
-    pub rel: &'a str,
-    /// The AS that announces.
-    pub origin: Asn,
+pub enum WordForm<'a> {
+    /// `asprop REL` with any of `--vrps FILE`, `--scenario FILE` and `--script FILE`.
+    Script {
+        /// The name of the relationship file.
+        rel: &'a str,
+        /// The name of the file of payloads.
+        vrps: Option<&'a str>,
+        /// The name of the scenario.
+        scenario: Option<&'a str>,
+        /// The name of the script.
+        script: Option<&'a str>,
+    },
+    /// `asprop REL --origin N`.
+    Origin {
+        /// The name of the relationship file.
+        rel: &'a str,
+        /// The AS that announces.
+        origin: Asn,
+    },
 }
 
-/// The form of the words, the program's name first; `None` exactly where they have none.
-pub fn read_words(words: &[String]) -> Option<OriginForm<'_>>
-    ensures { option_map form_seen result ≡ form_of (map string_bytes words.now) }
+impl<'a> WordForm<'a> {
+    /// The name that the form gives to a file, if it names one.
+    pub fn name(&self, file: File) -> Option<&'a str>
+        ensures { text_seen result ≡ name_of (form_seen self.now) file }
+    {
+        match (self, file) {
+            (WordForm::Script { rel, .. }, File::Relations) => Some(rel),
+            (WordForm::Script { vrps, .. }, File::Payloads) => *vrps,
+            (WordForm::Script { scenario, .. }, File::Scenario) => *scenario,
+            (WordForm::Script { script, .. }, File::Script) => *script,
+            (WordForm::Origin { rel, .. }, File::Relations) => Some(rel),
+            (WordForm::Origin { .. }, _) => None,
+        }
+    }
+}
+
+/// An option that says what to do.
+#[derive(Clone, Copy)]
+pub enum Job {
+    /// `--script FILE`.
+    Script,
+    /// `--origin N`.
+    Origin,
+    /// `--demo N`.
+    Demo,
+}
+
+/// Which of these options stand, one with its value.
+#[derive(Clone, Copy)]
+pub enum Jobs<'a> {
+    /// None of them.
+    Nothing,
+    /// This one, with this value.
+    Only(Job, &'a str),
+    /// More than one.
+    Several,
+}
+
+// One more option that may stand.
+fn also<'a>(job: Job, value: Option<&'a str>, jobs: Jobs<'a>) -> Jobs<'a>
+    ensures { jobs_seen result ≡ also job (text_seen value.entry) (jobs_seen jobs.entry) }
 {
-    let [_, rel, option, number] = words else {
-        return None;
+    let Some(value) = value else {
+        return jobs;
     };
-    if option.as_str() != "--origin" {
-        return None;
+    match jobs {
+        Jobs::Nothing => Jobs::Only(job, value),
+        Jobs::Only(_, _) => Jobs::Several,
+        Jobs::Several => Jobs::Several,
     }
-    match read_asn(number.as_bytes()) {
-        Some(origin) => Some(OriginForm {
-            rel: rel.as_str(),
-            origin,
+}
+
+// Which of the options that say what to do stand.
+fn asked_by<'a>(script: Option<&'a str>, origin: Option<&'a str>, demo: Option<&'a str>) -> Jobs<'a>
+    ensures { jobs_seen result ≡ asked_by (text_seen script.entry) (text_seen origin.entry) (text_seen demo.entry) }
+{
+    let jobs = also(Job::Script, script, Jobs::Nothing);
+    let jobs = also(Job::Origin, origin, jobs);
+    also(Job::Demo, demo, jobs)
+}
+
+// The table of the forms.
+fn form_by<'a>(
+    rel: Option<&'a str>,
+    vrps: Option<&'a str>,
+    scenario: Option<&'a str>,
+    jobs: Jobs<'a>,
+) -> Option<WordForm<'a>>
+    ensures { option_map form_seen result ≡ form_by (text_seen rel.entry) (text_seen vrps.entry) (text_seen scenario.entry) (jobs_seen jobs.entry) }
+{
+    match (rel, vrps, scenario, jobs) {
+        (Some(rel), vrps, scenario, Jobs::Nothing) => Some(WordForm::Script {
+            rel,
+            vrps,
+            scenario,
+            script: None,
         }),
-        None => None,
+        (Some(rel), vrps, scenario, Jobs::Only(Job::Script, name)) => Some(WordForm::Script {
+            rel,
+            vrps,
+            scenario,
+            script: Some(name),
+        }),
+        (Some(rel), None, None, Jobs::Only(Job::Origin, number)) => {
+            match read_asn(number.as_bytes()) {
+                Some(origin) => Some(WordForm::Origin { rel, origin }),
+                None => None,
+            }
+        }
+        _ => None,
     }
+}
+
+/// The form of the words, the program's name first; `None` exactly where the command doesn't take them or they have no form.
+pub fn read_words<'a>(alloc: Global, words: &'a [String]) -> Result<Option<WordForm<'a>>, NoMemory>
+    ensures { IfOk result (λ form. option_map form_seen form ≡ form_of (map string_bytes words.now)) }
+{
+    let command = match new_command(alloc) {
+        Ok(command) => command,
+        Err(_) => return Err(NoMemory),
+    };
+    let matches = match command.try_get_matches_from(words) {
+        Ok(matches) => matches,
+        Err(error) => {
+            if error.kind() == ErrorKind::OutOfMemory {
+                return Err(NoMemory);
+            }
+            return Ok(None);
+        }
+    };
+    let jobs = asked_by(
+        matches.get_str("script"),
+        matches.get_str("origin"),
+        matches.get_str("demo"),
+    );
+    Ok(form_by(
+        matches.get_str("rel"),
+        matches.get_str("vrps"),
+        matches.get_str("scenario"),
+        jobs,
+    ))
 }

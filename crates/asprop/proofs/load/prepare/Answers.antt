@@ -1,20 +1,10 @@
-use Rattle.net_names.specs.Links.{LinkMap}
-use Rattle.asprop.proofs.Preparing.{no_form, stopped_early, no_memory, unmade, prepared, task_is}
+use Rattle.std.proofs.Common.{sym, ap, option_map}
+use Rattle.asprop.specs.Words.{form_seen}
+use Rattle.asprop.proofs.Preparing.{no_form, a_script}
 use Rattle.asprop.proofs.load.prepare.Goals as goal
 
 pub returns-in_default-clause-task : goal.returns-in_default-clause-task
-returns-in_default-clause-task g c = no_form c.in_default.ensures
+returns-in_default-clause-task g c = no_form (sym (ap (option_map form_seen) c.in_default.is))
 
-pub returns-in-Err-clause-task : goal.returns-in-Err-clause-task
-returns-in-Err-clause-task g c = stopped_early c.in-Some.ensures (λ (links : LinkMap). links) _ c.in-Err.ensures
-
-pub returns-in-Err-origin_graph-clause-task : goal.returns-in-Err-origin_graph-clause-task
-returns-in-Err-origin_graph-clause-task g c = unmade c.in-Some.ensures (λ (links : LinkMap). links) c.in-Ok.links c.in-Ok.ensures _ c.in-Err-origin_graph.ensures
-
-pub returns-in-Ok-vec-clause-task : goal.returns-in-Ok-vec-clause-task
-returns-in-Ok-vec-clause-task g c =
-    prepared c.in-Some.ensures (λ (links : LinkMap). links) c.in-Ok.links c.in-Ok.ensures _ c.in-Ok-origin_graph.ensures.1
-    (task_is c.in-Ok-origin_graph.graph _ c.in-Ok.links c.in-Some.form.origin c.all_v4_addresses.result c.in-Ok-origin_graph.ensures.0 c.in-Ok-vec.ensures.items c.all_v4_addresses.ensures)
-
-pub returns-clause-task : goal.returns-clause-task
-returns-clause-task g c = no_memory c.in-Some.ensures (λ (links : LinkMap). links) c.in-Ok.links c.in-Ok.ensures
+pub returns-in-Script-clause-task : goal.returns-in-Script-clause-task
+returns-in-Script-clause-task g c = a_script (sym (ap (option_map form_seen) (rw c.in-Script.is at c.in-Some.is)))

@@ -1,0 +1,30 @@
+-- The forms of words that are written out, as examples of the definition.
+use Rattle.std.proofs.Common.{◌≡◌, refl, [], ◌∷◌, codes, Some, None}
+use Rattle.clap.proofs.OnLiterals.{clap_on_literals}
+use Rattle.net_names.specs.Texts.{asn_of, numeral}
+use Rattle.asprop.specs.Command.{asprop_command, faults_in, rows_in}
+use Rattle.asprop.specs.Words.{form_of, script_form, origin_form}
+
+rel_alone : form_of (codes "asprop" ∷ codes "rel" ∷ []) ≡ Some (script_form (codes "rel") None None None)
+unfolding clap_on_literals faults_in rows_in asprop_command
+rel_alone = refl
+
+options_before_rel : form_of (codes "asprop" ∷ codes "--script" ∷ codes "cmds" ∷ codes "--vrps=v" ∷ codes "rel" ∷ []) ≡ Some (script_form (codes "rel") (Some (codes "v")) None (Some (codes "cmds")))
+unfolding clap_on_literals faults_in rows_in asprop_command
+options_before_rel = refl
+
+one_origin : form_of (codes "asprop" ∷ codes "rel" ∷ codes "--origin" ∷ codes "0000000007" ∷ []) ≡ Some (origin_form (codes "rel") 7)
+unfolding clap_on_literals faults_in rows_in asprop_command asn_of numeral
+one_origin = refl
+
+option_twice : form_of (codes "asprop" ∷ codes "rel" ∷ codes "--script" ∷ codes "a" ∷ codes "--script" ∷ codes "b" ∷ []) ≡ None
+unfolding clap_on_literals faults_in rows_in asprop_command
+option_twice = refl
+
+origin_and_script : form_of (codes "asprop" ∷ codes "rel" ∷ codes "--script" ∷ codes "a" ∷ codes "--origin" ∷ codes "7" ∷ []) ≡ None
+unfolding clap_on_literals faults_in rows_in asprop_command
+origin_and_script = refl
+
+help : form_of (codes "asprop" ∷ codes "rel" ∷ codes "--help" ∷ []) ≡ None
+unfolding clap_on_literals faults_in rows_in asprop_command
+help = refl

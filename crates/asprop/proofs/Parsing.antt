@@ -1,0 +1,55 @@
+-- What the program's command finds in the words.
+use Rattle.std.proofs.Common.{◌≡◌, ◌∙◌, ap, subst, refl, true, List, [], ◌∷◌, codes, Option, Some, None, inl, inr}
+use Rattle.clap.specs.Walk.{Row, Text, first_of}
+use Rattle.clap.specs.Words.{App, HasKind, HasMatchesOf, Kinds, fault_of, first_value, found_of, is_simple, is_simple_and_free, kind_of, matches_of, rows_of}
+use Rattle.clap.specs.declared.error.Error.{Error}
+use Rattle.clap.specs.declared.error.kind.ErrorKind.TheVariants.{OutOfMemory}
+use Rattle.clap.specs.declared.parser.matches.ArgMatches.{ArgMatches}
+use Rattle.clap.proofs.WalkLemmas.{first_value-rows}
+use Rattle.asprop.specs.Command.{asprop_command, faults_in, rows_in}
+use Rattle.asprop.specs.Words.{Asked, Form, asked_by, form_by, form_of, form_unless}
+
+-- the command is one of those whose faults and matches are told
+simple_and_free : is_simple_and_free asprop_command ≡ true
+unfolding asprop_command
+simple_and_free = refl
+
+simple : is_simple asprop_command ≡ true
+unfolding asprop_command
+simple = refl
+
+-- words that are taken have no fault
+pub taken : (app : App) (words : List Text) → app ≡ asprop_command → (is_simple_and_free app ≡ true → fault_of app words ≡ []) → faults_in words ≡ []
+unfolding faults_in
+taken app words is none = subst (λ (a : App). fault_of a words ≡ []) is (none (ap is_simple_and_free is ∙ simple_and_free))
+
+-- the error's kind is that of a fault, or want of memory
+pub failed : (app : App) (words : List Text) (e : Error) → app ≡ asprop_command → (is_simple_and_free app ≡ true → HasKind (fault_of app words) e) → HasKind (faults_in words) e
+unfolding faults_in
+failed app words e is has = subst (λ (a : App). HasKind (fault_of a words) e) is (has (ap is_simple_and_free is ∙ simple_and_free))
+
+-- the rows of what was found
+pub found : (app : App) (words : List Text) (m : ArgMatches) → app ≡ asprop_command → HasMatchesOf app words m → rows_of (found_of m) ≡ rows_in words
+unfolding rows_in
+found app words m is has = (has (ap is_simple is ∙ simple)).0 ∙ ap (λ (a : App). matches_of a words) is
+
+refused_by : (kinds : Kinds) (e : Error) (form : Option Form) → HasKind kinds e → (kind_of e ≡ OutOfMemory → ⊥) → None ≡ form_unless kinds form
+refused_by [] e form (inl memory) other = absurd (other memory)
+refused_by [] e form (inr none) other = elim none [ ]
+refused_by (k ∷ ks) e form has other = refl
+
+-- words with an error that isn't want of memory have no form
+pub refused : (words : List Text) (e : Error) → HasKind (faults_in words) e → (kind_of e ≡ OutOfMemory → ⊥) → None ≡ form_of words
+refused words e has other = refused_by (faults_in words) e _ has other
+
+-- the value of a name, where these are the rows
+pub stands : (m : ArgMatches) (rows : List Row) (id : Text) → rows_of (found_of m) ≡ rows → first_value (found_of m) id ≡ first_of id rows
+stands m rows id is = first_value-rows (found_of m) id ∙ ap (first_of id) is
+
+-- words without a fault have the form of their values
+pub accepted : (words : List Text) (rel vrps scenario script origin demo : Option Text) (asked : Asked) (form : Option Form) → faults_in words ≡ []
+    → rel ≡ first_of (codes "rel") (rows_in words) → vrps ≡ first_of (codes "vrps") (rows_in words) → scenario ≡ first_of (codes "scenario") (rows_in words)
+    → script ≡ first_of (codes "script") (rows_in words) → origin ≡ first_of (codes "origin") (rows_in words) → demo ≡ first_of (codes "demo") (rows_in words)
+    → asked ≡ asked_by script origin demo → form ≡ form_by rel vrps scenario asked → form ≡ form_of words
+accepted words rel vrps scenario script origin demo asked form takes rel_is vrps_is scenario_is script_is origin_is demo_is asked_is form_is =
+    rw (takes, form_is, asked_is, rel_is, vrps_is, scenario_is, script_is, origin_is, demo_is) refl
