@@ -1,5 +1,5 @@
 -- Scenarios: four lists, and when they are a scenario's (own format).
-use Rattle.std.specs.Prelude.{◌≡◌, ◌≢◌, ℕ, ◌≤◌, List, [], All, length, slice_get, map, Some}
+use Rattle.std.specs.Prelude.{◌≡◌, ◌≢◌, ℕ, ◌-◌, ◌≤◌, List, [], ◌∷◌, ◌++◌, All, length, slice_get, slice_index_or, slice_set, map, Some}
 use Rattle.std.specs.List.{AllPairs}
 use Rattle.std.specs.Ordering.{eq_by_cmp}
 use Rattle.std.specs.Set.{distinct_count}
@@ -26,6 +26,14 @@ name_of a = (a.prefix, a.asn)
 -- how many different prefixes are announced (own format)
 abbrev pub prefix_count : List Announcement → ℕ
 prefix_count announcements = distinct_count (eq_by_cmp prefix_cmp) (map (λ a. a.prefix) announcements)
+
+-- the last list of leakers, empty where there is none (own format)
+abbrev pub last_leakers : List (List ℕ) → List ℕ
+last_leakers leaks = slice_index_or leaks (length leaks - 1) []
+
+-- the lists of leakers with one more leaker at the end of the last of them (own format)
+abbrev pub with_leaker : List (List ℕ) → ℕ → List (List ℕ)
+with_leaker leaks asn = slice_set leaks (length leaks - 1) (last_leakers leaks ++ asn ∷ [])
 
 -- a path starts with this AS (own format)
 abbrev pub StartsWith : ℕ → List ℕ → Type 0

@@ -1,7 +1,7 @@
 //! Scenarios: four lists.
-ghost use Rattle.std.specs.Prelude.{◌≡◌, [], option_copied, option_and_then, slice_get, length};
+ghost use Rattle.std.specs.Prelude.{◌≡◌, ◌≢◌, ◌<◌, ◌≤◌, ◌++◌, ◌∷◌, [], All, OnOk, OnErr, option_copied, option_and_then, slice_get, length};
 
-use net_names::{Addr, Asn, Path, Prefix};
+use net_names::{Addr, Asn, NoMemory, Path, Prefix};
 use policy_kinds::Kind;
 use std::alloc::Global;
 use std::marker::Model;
@@ -81,7 +81,7 @@ impl Model for Scenario {
 }
 
 impl Scenario {
-    ghost use Rattle.scenario_text.specs.Scenarios.{nothing, IsScenario};
+    ghost use Rattle.scenario_text.specs.Scenarios.{nothing, name_of, prefix_count, StartsWith, last_leakers, with_leaker, IsScenario};
 
     /// The scenario with four empty lists.
     pub fn new(alloc: Global) -> Scenario
@@ -105,6 +105,82 @@ impl Scenario {
             policies: lists.policies,
             leaks: lists.leaks,
             watch: lists.watch,
+        }
+    }
+
+    /// Puts an announcement at the end. Its prefix and AS are not named yet, no limit is passed with it, and its path starts
+    /// with its AS. `Err` where there is not enough memory; then the scenario stays as it was.
+    pub fn announce(&mut self, announcement: Announcement) -> Result<(), NoMemory>
+        requires new { All (λ a. name_of a ≢ name_of announcement) self.old.announcements }
+        requires room { length self.old.announcements < 64 }
+        requires few_prefixes { prefix_count (self.old.announcements ++ announcement ∷ []) ≤ 32 }
+        requires short { length announcement.path ≤ 64 }
+        requires own_path { StartsWith announcement.asn announcement.path }
+        ensures ok { OnOk result (self.new ≡ record self.old { announcements = self.old.announcements ++ announcement ∷ [] }) }
+        ensures err { OnErr result (self.new ≡ self.old) }
+    {
+        match self.announcements.push(announcement) {
+            Ok(()) => Ok(()),
+            Err(_) => Err(NoMemory),
+        }
+    }
+
+    /// Puts a policy at the end, of an AS that has none yet. `Err` where there is not enough memory; then the scenario stays
+    /// as it was.
+    pub fn set_policy(&mut self, asn: Asn, kind: Kind) -> Result<(), NoMemory>
+        requires { All (λ p. p.0 ≢ asn) self.old.policies }
+        ensures ok { OnOk result (self.new ≡ record self.old { policies = self.old.policies ++ (asn, kind) ∷ [] }) }
+        ensures err { OnErr result (self.new ≡ self.old) }
+    {
+        match self.policies.push((asn, kind)) {
+            Ok(()) => Ok(()),
+            Err(_) => Err(NoMemory),
+        }
+    }
+
+    /// Puts an empty list of leakers at the end: one more round, in which nobody leaks yet. There is none so far. `Err` where
+    /// there is not enough memory; then the scenario stays as it was.
+    pub fn new_round(&mut self) -> Result<(), NoMemory>
+        requires { length self.old.leaks < 1 }
+        ensures ok { OnOk result (self.new ≡ record self.old { leaks = self.old.leaks ++ [] ∷ [] }) }
+        ensures err { OnErr result (self.new ≡ self.old) }
+    {
+        let alloc = *self.leaks.allocator();
+        match self.leaks.push(Leakers {
+            numbers: Vec::new(alloc),
+        }) {
+            Ok(()) => Ok(()),
+            Err(_) => Err(NoMemory),
+        }
+    }
+
+    /// Puts a leaker at the end of the last list of leakers, of which it is none yet. There is a list, and it has fewer than
+    /// 64. `Err` where there is not enough memory; then the scenario stays as it was.
+    pub fn leaker(&mut self, asn: Asn) -> Result<(), NoMemory>
+        requires some { 0 < length self.old.leaks }
+        requires new { All (λ n. n ≢ asn) (last_leakers self.old.leaks) }
+        requires room { length (last_leakers self.old.leaks) < 64 }
+        ensures ok { OnOk result (self.new ≡ record self.old { leaks = with_leaker self.old.leaks asn }) }
+        ensures err { OnErr result (self.new ≡ self.old) }
+    {
+        let last = self.leaks.len() - 1;
+        match self.leaks[last].numbers.push(asn) {
+            Ok(()) => Ok(()),
+            Err(_) => Err(NoMemory),
+        }
+    }
+
+    /// Puts a watched address at the end, which is not watched yet; there are fewer than 16. `Err` where there is not enough
+    /// memory; then the scenario stays as it was.
+    pub fn watch(&mut self, addr: Addr) -> Result<(), NoMemory>
+        requires new { All (λ a. a ≢ addr) self.old.watch }
+        requires room { length self.old.watch < 16 }
+        ensures ok { OnOk result (self.new ≡ record self.old { watch = self.old.watch ++ addr ∷ [] }) }
+        ensures err { OnErr result (self.new ≡ self.old) }
+    {
+        match self.watch.push(addr) {
+            Ok(()) => Ok(()),
+            Err(_) => Err(NoMemory),
         }
     }
 
