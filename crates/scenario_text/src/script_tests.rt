@@ -1,0 +1,160 @@
+//! Scripts from outside.
+use crate::{Act, Edit, Line, Lines, Query, ScriptError, read_script};
+use net_names::{Asn, Rel, Vrp, read_addr, read_asn, read_prefix};
+use policy_kinds::Kind;
+use std::alloc::{AllocError, Global};
+use std::test::Fail;
+
+fn read(alloc: Global, text: &[u8]) -> Result<Lines, ScriptError> {
+    if text.len() > 16_777_216 {
+        return Err(ScriptError::Memory);
+    }
+    read_script(alloc, text)
+}
+
+const UNREADABLE: &str = "link 1|1|-1
+link 1|01|0
+link 1|2|1
+link 1|2
+link  1|2|0
+link 1|2|0 
+link 0|2|0
+unlink 1|2|0
+unlink 7|7
+policy 1 Plain
+policy AS1 plain
+policy 1
+vrp-add 1 10.0.0.0/8 7
+vrp-add 1 10.0.0.0/8 33
+vrp-take 1 2001:db8::/32 129
+vrp-take 1 10.0.0.0/8 0008
+vrp-add 4294967296 10.0.0.0/8 8
+routes 1 10.0.0.1/8
+routes  1 10.0.0.0/8
+routes 1234567890 10.0.0.0/8
+route 1
+route 1 10.0.0.0/8 4 
+trace 1 4 10.0.0.256
+report 1 10.0.0.0/8
+ranks 
+ ranks
+Ranks
+validity 10.0.0.0/8 AS4
+announce";
+
+#[test]
+fn a_line_without_one_of_the_forms_is_unreadable(rt: HostRuntime) -> Result<(), Fail> {
+    for line in UNREADABLE.lines() {
+        let text = format!(in rt.alloc(); "ranks\n\n# comment\n{line}\nranks\n")?;
+        let fault = read(rt.alloc(), text.as_bytes()).err();
+        assert!(rt;
+            fault == Some(ScriptError::Unreadable { line: 4 }),
+            "{line}"
+        );
+    }
+    Ok(())
+}
+
+fn link(a: u32, b: u32, rel: Rel) -> Option<Act> {
+    let (a, b) = (Asn::new(a)?, Asn::new(b)?);
+    Some(Act::Edit(Edit::Link { a, b, rel }))
+}
+
+fn vrp(prefix: &[u8], max: u8, asn: u32) -> Option<Vrp> {
+    Vrp::new(read_prefix(prefix)?, max, asn)
+}
+
+#[test]
+fn readable_lines_are_what_they_say(rt: HostRuntime) -> Result<(), Fail> {
+    let text =
+        b"link 1|2|-1\n\nlink 02|1|0\r\n#\xff\nunlink 3|1\npolicy 4 prefer-valid\nvrp-add AS09 10.0.0.0/8 008\nvrp-take 0 2001:DB8::/32 128\n\r\nroutes 007 10.0.0.0/8\nroute 0 0.0.0.0/0 4294967295\ntrace 1 4 10.0.0.1\nreport 999999999 ::1\nranks\nvalidity 10.0.0.0/8 4";
+    let one = Asn::new(1).ok_or("a number")?;
+    let three = Asn::new(3).ok_or("a number")?;
+    let asn = Asn::new(4).ok_or("a number")?;
+    let last = read_asn(b"4294967295").ok_or("a number")?;
+    let prefix = read_prefix(b"10.0.0.0/8").ok_or("a prefix")?;
+    let all = read_prefix(b"0.0.0.0/0").ok_or("a prefix")?;
+    let addr = read_addr(b"10.0.0.1").ok_or("an address")?;
+    let six = read_addr(b"::1").ok_or("an address")?;
+    let added = vrp(b"10.0.0.0/8", 8, 9).ok_or("a payload")?;
+    let taken = vrp(b"2001:db8::/32", 128, 0).ok_or("a payload")?;
+    let acts = [
+        (1, link(1, 2, Rel::Customer).ok_or("a link")?),
+        (3, link(2, 1, Rel::Peer).ok_or("a link")?),
+        (5, Act::Edit(Edit::Unlink { a: three, b: one })),
+        (
+            6,
+            Act::Edit(Edit::Policy {
+                asn,
+                kind: Kind::PreferValid,
+            }),
+        ),
+        (7, Act::Edit(Edit::VrpAdd { vrp: added })),
+        (8, Act::Edit(Edit::VrpTake { vrp: taken })),
+        (10, Act::Query(Query::Routes { round: 7, prefix })),
+        (
+            11,
+            Act::Query(Query::Route {
+                round: 0,
+                prefix: all,
+                asn: last,
+            }),
+        ),
+        (
+            12,
+            Act::Query(Query::Trace {
+                round: 1,
+                asn,
+                addr,
+            }),
+        ),
+        (
+            13,
+            Act::Query(Query::Report {
+                round: 999999999,
+                addr: six,
+            }),
+        ),
+        (14, Act::Query(Query::Ranks)),
+        (15, Act::Query(Query::Validity { prefix, asn })),
+    ];
+    let lines = read(rt.alloc(), text)?;
+    assert_eq!(rt; lines.as_slice().len(), acts.len());
+    for (place, (number, act)) in acts.iter().enumerate() {
+        let line = lines.at(place).ok_or("a line")?;
+        assert!(rt; line.number == *number && line.act == *act, "line {number}");
+    }
+    assert!(rt; lines.at(acts.len()).is_none());
+    Ok(())
+}
+
+fn ranks(alloc: Global, count: u32, last: &str) -> Result<String, AllocError> {
+    let mut text = String::new(alloc);
+    for _ in 0..count {
+        text.push_str("ranks\n")?;
+    }
+    text.push_str(last)?;
+    Ok(text)
+}
+
+#[test]
+fn the_line_past_a_hundred_thousand_is_too_many(rt: HostRuntime) -> Result<(), Fail> {
+    let full = read(rt.alloc(), ranks(rt.alloc(), 100_000, "#")?.as_bytes())?;
+    assert_eq!(rt; full.as_slice().len(), 100_000);
+    let past = read(rt.alloc(), ranks(rt.alloc(), 100_000, "ranks")?.as_bytes()).err();
+    assert!(rt; past == Some(ScriptError::TooMany { line: 100_001 }));
+    let unreadable = read(rt.alloc(), ranks(rt.alloc(), 100_000, "rank")?.as_bytes()).err();
+    assert!(rt; unreadable == Some(ScriptError::Unreadable { line: 100_001 }));
+    Ok(())
+}
+
+#[test]
+fn lines_are_put_at_the_end(rt: HostRuntime) -> Result<(), Fail> {
+    let mut lines = Lines::new(rt.alloc());
+    for number in [3, 7] {
+        let act = Act::Query(Query::Ranks);
+        lines.push(Line { number, act })?;
+    }
+    assert!(rt; lines.at(1).ok_or("a line")?.number == 7 && lines.at(2).is_none());
+    Ok(())
+}
