@@ -39,7 +39,8 @@ fn position_string(alloc: Global, position: Option<usize>) -> Result<String, All
     }
 }
 
-fn place_string(alloc: Global, place: Place) -> Result<String, AllocError>
+/// The text of a place, as [`put_place`] appends it. `Err` where there is not enough memory.
+pub fn place_string(alloc: Global, place: Place) -> Result<String, AllocError>
     ensures { IfOk result (λ s. string_bytes s ≡ place_text place) }
 {
     let first = position_string(alloc, place.first)?;

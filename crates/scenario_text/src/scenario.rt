@@ -228,3 +228,31 @@ impl Scenario {
         self.watch.get(place).copied()
     }
 }
+
+impl Scenario {
+    ghost use Rattle.scenario_text.specs.Scenarios.{IsScenario};
+
+    /// The announcements in their order.
+    pub fn announcements(&self) -> &[Announcement]
+        ensures value { result.now ≡ self.now.announcements }
+        ensures scenario { IsScenario self.now }
+    {
+        self.announcements.as_slice()
+    }
+
+    /// The policies in their order.
+    pub fn policies(&self) -> &[(Asn, Kind)]
+        ensures value { result.now ≡ self.now.policies }
+        ensures scenario { IsScenario self.now }
+    {
+        self.policies.as_slice()
+    }
+
+    /// The lists of leakers in their order. The first is of round 2.
+    pub fn leaks(&self) -> &[Leakers]
+        ensures value { result.now ≡ self.now.leaks }
+        ensures scenario { IsScenario self.now }
+    {
+        self.leaks.as_slice()
+    }
+}
