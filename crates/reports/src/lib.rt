@@ -7,7 +7,7 @@
 
 mod rows;
 
-pub use rows::{put_numbers, put_routes};
+pub use rows::{put_numbers, put_route, put_routes};
 
 #[cfg(test)]
 mod tests;

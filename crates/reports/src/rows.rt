@@ -186,3 +186,22 @@ pub fn put_routes(
     }
     Ok(())
 }
+
+/// Appends the row of one AS, as it stands in its table. Where memory runs out, nothing changes.
+pub fn put_route(
+    out: &mut Vec<u8>,
+    table: &Table,
+    pool: &PathPool,
+    asn: Asn,
+) -> Result<(), NoMemory>
+    requires { AreEntriesLive pool.now table.now }
+    ensures ok { OnOk result (out.new.items ≡ out.old.items ++ row_of asn (table_routing pool.now table.now asn)) }
+    ensures err { OnErr result (out.new.items ≡ out.old.items) }
+{
+    let kept = out.len();
+    if append_row(out, pool, asn, table.get(asn)).is_err() {
+        out.truncate(kept);
+        return Err(NoMemory);
+    }
+    Ok(())
+}
