@@ -1,5 +1,5 @@
 -- The last pass: no limit is passed (own format).
-use Rattle.std.specs.Prelude.{ℕ, nat_lt, length, Bool, if◌then◌else◌, Result, Ok, Err}
+use Rattle.std.specs.Prelude.{nat_lt, length, Bool, if◌then◌else◌, Result, Ok, Err}
 use Rattle.std.specs.List.{list_any}
 use Rattle.scenario_text.specs.declared.faults.LimitOf.{LimitOf}
 use Rattle.scenario_text.specs.declared.faults.LimitOf.TheVariants as limits

@@ -1,6 +1,6 @@
 -- The first pass over a document: each value is of its type, and each object has the members that it is to have (own format, over RFC 8259).
 -- The first fault is that of the first step that fails, in the order of the steps.
-use Rattle.std.specs.Prelude.{ℕ, ◌&&◌, List, [], ◌∷◌, codes, Bool, true, if◌then◌else◌, bytes_eq, Option, Some, None, option_map, option_and_then, Result, Ok, Err, false}
+use Rattle.std.specs.Prelude.{ℕ, ◌&&◌, List, [], ◌∷◌, codes, Bool, true, if◌then◌else◌, bytes_eq, Some, None, option_map, option_and_then, Result, Ok, Err, false}
 use Rattle.std.specs.List.{list_any}
 use Rattle.serde_json.specs.Data.{Data, Items, no_items, item as json_item, Members, no_members, member}
 use Rattle.serde_json.specs.Find.{get, as_str, as_number, as_u64, as_array, as_object}

@@ -187,7 +187,7 @@ fn optional_list<S: Shape>(
 
 /// The document with each value of its type, or the first place at which one isn't.
 #[tactic(auto, unfolding(crate::specs::Shapes::document_of))]
-pub fn document(alloc: Global, value: &Value) -> Result<Document, ScenarioError>
+pub(crate) fn document(alloc: Global, value: &Value) -> Result<Document, ScenarioError>
     ensures { Gives result (document_of (view value.now)) }
 {
     object(Object::Document, Place::document(), value)?;

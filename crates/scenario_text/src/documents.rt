@@ -5,7 +5,7 @@ use std::marker::Model;
 
 /// The objects of a document.
 #[derive(Clone, Copy)]
-pub enum Object {
+pub(crate) enum Object {
     /// The document itself.
     Document,
     /// An announcement.
@@ -16,8 +16,8 @@ pub enum Object {
 
 /// A text of a document. Contracts see its bytes.
 #[derive(Drop)]
-pub struct Text {
-    pub text: String,
+pub(crate) struct Text {
+    pub(crate) text: String,
 }
 
 impl Model for Text {
@@ -30,7 +30,7 @@ impl Model for Text {
 
 impl Text {
     /// Its bytes.
-    pub fn as_bytes(&self) -> &[u8]
+    pub(crate) fn as_bytes(&self) -> &[u8]
         ensures { result.now ≡ self.now }
     {
         self.text.as_bytes()
@@ -39,8 +39,8 @@ impl Text {
 
 /// Numbers of a document. Contracts see the list of them.
 #[derive(Drop)]
-pub struct Numbers {
-    pub numbers: Vec<u64>,
+pub(crate) struct Numbers {
+    pub(crate) numbers: Vec<u64>,
 }
 
 impl Model for Numbers {
@@ -53,7 +53,7 @@ impl Model for Numbers {
 
 impl Numbers {
     /// The numbers in their order.
-    pub fn as_slice(&self) -> &[u64]
+    pub(crate) fn as_slice(&self) -> &[u64]
         ensures { result.now ≡ self.now }
     {
         self.numbers.as_slice()
@@ -62,26 +62,26 @@ impl Numbers {
 
 /// An announcement of a document.
 #[derive(Drop)]
-pub struct AnnouncementText {
-    pub prefix: Text,
-    pub number: u64,
-    pub path: Numbers,
+pub(crate) struct AnnouncementText {
+    pub(crate) prefix: Text,
+    pub(crate) number: u64,
+    pub(crate) path: Numbers,
 }
 
 /// A policy of a document.
 #[derive(Drop)]
-pub struct PolicyText {
-    pub number: u64,
-    pub policy: Text,
+pub(crate) struct PolicyText {
+    pub(crate) number: u64,
+    pub(crate) policy: Text,
 }
 
 /// A document whose values are of their types. Contracts see its four lists.
 #[derive(Drop)]
-pub struct Document {
-    pub announcements: Vec<AnnouncementText>,
-    pub policies: Vec<PolicyText>,
-    pub leaks: Vec<Numbers>,
-    pub watch: Vec<Text>,
+pub(crate) struct Document {
+    pub(crate) announcements: Vec<AnnouncementText>,
+    pub(crate) policies: Vec<PolicyText>,
+    pub(crate) leaks: Vec<Numbers>,
+    pub(crate) watch: Vec<Text>,
 }
 
 impl Model for Document {

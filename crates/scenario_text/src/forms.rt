@@ -166,7 +166,7 @@ fn validity_act(text: &[u8]) -> Option<Act>
 
 /// What a line asks for; `None` exactly where it has none of the forms.
 #[tactic(auto, unfolding(crate::specs::Forms::act_of))]
-pub fn act(line: &[u8]) -> Option<Act>
+pub(crate) fn act(line: &[u8]) -> Option<Act>
     ensures { result ≡ act_of line.now }
 {
     if let Some(rest) = strip(line, b"link ") {

@@ -13,6 +13,7 @@ mod faults;
 mod forms;
 mod limits;
 mod lines;
+mod lists;
 mod place_texts;
 mod places;
 mod reading;

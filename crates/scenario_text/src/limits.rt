@@ -7,7 +7,8 @@ ghost use Rattle.scenario_text.specs.Limits.{within};
 ghost use Rattle.scenario_text.specs.Scenarios.{prefix_count};
 
 use crate::faults::{LimitOf, ScenarioError};
-use crate::scenario::{Announcement, Leakers, Lists};
+use crate::lists::{Leakers, Lists};
+use crate::scenario::Announcement;
 use net_names::Prefix;
 use std::alloc::{AllocError, Global};
 use std::collections::BTreeSet;
@@ -63,7 +64,7 @@ fn has_many_leakers(leaks: &[Leakers]) -> bool
 
 /// Tests that no limit is passed.
 #[tactic(auto, unfolding(crate::specs::Limits::within))]
-pub fn test_limits(alloc: Global, lists: &Lists) -> Result<(), ScenarioError>
+pub(crate) fn test_limits(alloc: Global, lists: &Lists) -> Result<(), ScenarioError>
     ensures { Gives result (within lists.now) }
 {
     if lists.announcements.len() > MOST_ANNOUNCEMENTS {

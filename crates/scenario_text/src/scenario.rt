@@ -1,6 +1,7 @@
 //! Scenarios: four lists.
 ghost use Rattle.std.specs.Prelude.{◌≡◌, ◌≢◌, ◌<◌, ◌≤◌, ◌++◌, ◌∷◌, [], All, OnOk, OnErr, option_copied, option_and_then, slice_get, length};
 
+use crate::lists::{Leakers, Lists};
 use net_names::{Addr, Asn, NoMemory, Path, Prefix};
 use policy_kinds::Kind;
 use std::alloc::Global;
@@ -15,46 +16,6 @@ pub struct Announcement {
     pub asn: Asn,
     /// The path, as the AS hands it on.
     pub path: Path,
-}
-
-/// The leakers of a round. Contracts see their numbers.
-#[derive(Drop)]
-pub struct Leakers {
-    pub numbers: Vec<Asn>,
-}
-
-impl Model for Leakers {
-    ghost use Rattle.std.specs.Prelude.{ℕ, List};
-
-    ghost Value = { List ℕ };
-
-    ghost view = { λ l. l.numbers.items };
-}
-
-impl Leakers {
-    /// The leakers in their order.
-    pub fn as_slice(&self) -> &[Asn]
-        ensures { result.now ≡ self.now }
-    {
-        self.numbers.as_slice()
-    }
-}
-
-/// Four lists that need not be a scenario's: something may be named twice, or a limit be passed. Contracts see the lists.
-#[derive(Drop)]
-pub struct Lists {
-    pub announcements: Vec<Announcement>,
-    pub policies: Vec<(Asn, Kind)>,
-    pub leaks: Vec<Leakers>,
-    pub watch: Vec<Addr>,
-}
-
-impl Model for Lists {
-    ghost use Rattle.scenario_text.specs.Scenarios.{ScenarioValue};
-
-    ghost Value = { ScenarioValue };
-
-    ghost view = { λ s. record { announcements = s.announcements.items; policies = s.policies.items; leaks = s.leaks.items; watch = s.watch.items } };
 }
 
 /// What is announced, which AS has which policy, who leaks in each round after the first, and which addresses are
@@ -96,7 +57,7 @@ impl Scenario {
     }
 
     /// The scenario of these lists.
-    pub fn from_lists(lists: Lists) -> Scenario
+    pub(crate) fn from_lists(lists: Lists) -> Scenario
         requires { IsScenario lists }
         ensures { result ≡ lists }
     {

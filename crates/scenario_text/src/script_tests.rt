@@ -3,6 +3,7 @@ use crate::{Act, Edit, Line, Lines, Query, ScriptError, read_script};
 use net_names::{Asn, Rel, Vrp, read_addr, read_asn, read_prefix};
 use policy_kinds::Kind;
 use std::alloc::{AllocError, Global};
+use std::process::Abort;
 use std::test::Fail;
 
 fn read(alloc: Global, text: &[u8]) -> Result<Lines, ScriptError> {
@@ -64,68 +65,75 @@ fn vrp(prefix: &[u8], max: u8, asn: u32) -> Option<Vrp> {
     Vrp::new(read_prefix(prefix)?, max, asn)
 }
 
+fn expect_acts(
+    rt: &impl Abort,
+    alloc: Global,
+    text: &[u8],
+    expected: &[(u32, Act)],
+) -> Result<(), Fail> {
+    let lines = read(alloc, text)?;
+    assert_eq!(rt; lines.as_slice().len(), expected.len());
+    for (line, (number, act)) in lines.as_slice().iter().zip(expected) {
+        assert!(rt; line.number == *number && line.act == *act, "line {number}");
+    }
+    Ok(())
+}
+
 #[test]
-fn readable_lines_are_what_they_say(rt: HostRuntime) -> Result<(), Fail> {
+fn lines_of_edits_are_what_they_say(rt: HostRuntime) -> Result<(), Fail> {
     let text =
-        b"link 1|2|-1\n\nlink 02|1|0\r\n#\xff\nunlink 3|1\npolicy 4 prefer-valid\nvrp-add AS09 10.0.0.0/8 008\nvrp-take 0 2001:DB8::/32 128\n\r\nroutes 007 10.0.0.0/8\nroute 0 0.0.0.0/0 4294967295\ntrace 1 4 10.0.0.1\nreport 999999999 ::1\nranks\nvalidity 10.0.0.0/8 4";
-    let one = Asn::new(1).ok_or("a number")?;
-    let three = Asn::new(3).ok_or("a number")?;
+        b"link 1|2|-1\n\nlink 02|1|0\r\n#\xff\nunlink 3|1\npolicy 4 prefer-valid\nvrp-add AS09 10.0.0.0/8 008\n\r\nvrp-take 0 2001:DB8::/32 128";
+    let a = Asn::new(3).ok_or("a number")?;
+    let b = Asn::new(1).ok_or("a number")?;
     let asn = Asn::new(4).ok_or("a number")?;
-    let last = read_asn(b"4294967295").ok_or("a number")?;
-    let prefix = read_prefix(b"10.0.0.0/8").ok_or("a prefix")?;
-    let all = read_prefix(b"0.0.0.0/0").ok_or("a prefix")?;
-    let addr = read_addr(b"10.0.0.1").ok_or("an address")?;
-    let six = read_addr(b"::1").ok_or("an address")?;
+    let kind = Kind::PreferValid;
     let added = vrp(b"10.0.0.0/8", 8, 9).ok_or("a payload")?;
     let taken = vrp(b"2001:db8::/32", 128, 0).ok_or("a payload")?;
     let acts = [
         (1, link(1, 2, Rel::Customer).ok_or("a link")?),
         (3, link(2, 1, Rel::Peer).ok_or("a link")?),
-        (5, Act::Edit(Edit::Unlink { a: three, b: one })),
-        (
-            6,
-            Act::Edit(Edit::Policy {
-                asn,
-                kind: Kind::PreferValid,
-            }),
-        ),
+        (5, Act::Edit(Edit::Unlink { a, b })),
+        (6, Act::Edit(Edit::Policy { asn, kind })),
         (7, Act::Edit(Edit::VrpAdd { vrp: added })),
-        (8, Act::Edit(Edit::VrpTake { vrp: taken })),
-        (10, Act::Query(Query::Routes { round: 7, prefix })),
+        (9, Act::Edit(Edit::VrpTake { vrp: taken })),
+    ];
+    expect_acts(&rt, rt.alloc(), text, &acts)
+}
+
+#[test]
+fn lines_of_queries_are_what_they_say(rt: HostRuntime) -> Result<(), Fail> {
+    let text =
+        b"routes 007 10.0.0.0/8\nroute 0 10.0.0.0/8 4294967295\ntrace 1 4294967295 ::1\nreport 999999999 ::1\nranks\r\nvalidity 10.0.0.0/8 4294967295\n";
+    let asn = read_asn(b"4294967295").ok_or("a number")?;
+    let prefix = read_prefix(b"10.0.0.0/8").ok_or("a prefix")?;
+    let addr = read_addr(b"::1").ok_or("an address")?;
+    let report = Query::Report {
+        round: 999_999_999,
+        addr,
+    };
+    let acts = [
+        (1, Act::Query(Query::Routes { round: 7, prefix })),
         (
-            11,
+            2,
             Act::Query(Query::Route {
                 round: 0,
-                prefix: all,
-                asn: last,
+                prefix,
+                asn,
             }),
         ),
         (
-            12,
+            3,
             Act::Query(Query::Trace {
                 round: 1,
                 asn,
                 addr,
             }),
         ),
-        (
-            13,
-            Act::Query(Query::Report {
-                round: 999999999,
-                addr: six,
-            }),
-        ),
-        (14, Act::Query(Query::Ranks)),
-        (15, Act::Query(Query::Validity { prefix, asn })),
+        (4, Act::Query(report)),
+        (5, Act::Query(Query::Ranks)),
+        (6, Act::Query(Query::Validity { prefix, asn })),
     ];
-    let lines = read(rt.alloc(), text)?;
-    assert_eq!(rt; lines.as_slice().len(), acts.len());
-    for (place, (number, act)) in acts.iter().enumerate() {
-        let line = lines.at(place).ok_or("a line")?;
-        assert!(rt; line.number == *number && line.act == *act, "line {number}");
-    }
-    assert!(rt; lines.at(acts.len()).is_none());
-    Ok(())
+    expect_acts(&rt, rt.alloc(), text, &acts)
 }
 
 fn ranks(alloc: Global, count: u32, last: &str) -> Result<String, AllocError> {

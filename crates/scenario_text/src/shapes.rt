@@ -17,7 +17,7 @@ use serde_json::{Map, Value};
 use std::alloc::Global;
 
 /// How an item of a document's list is read.
-pub trait Shape {
+pub(crate) trait Shape {
     /// What it is read as.
     type To: Drop;
 
@@ -34,7 +34,7 @@ pub trait Shape {
 }
 
 /// The same as a reading of an item.
-pub struct ByShape<S> {
+pub(crate) struct ByShape<S> {
     shape: S,
 }
 
@@ -56,7 +56,7 @@ impl<S: Shape> Reading for ByShape<S> {
 }
 
 /// The value as a text.
-pub fn text(alloc: Global, place: Place, value: &Value) -> Result<Text, ScenarioError>
+pub(crate) fn text(alloc: Global, place: Place, value: &Value) -> Result<Text, ScenarioError>
     ensures { Gives result (text_at place (view value.now)) }
 {
     match value.as_str() {
@@ -69,7 +69,7 @@ pub fn text(alloc: Global, place: Place, value: &Value) -> Result<Text, Scenario
 }
 
 /// The value as a number from 0 to 2^64 - 1.
-pub fn number(place: Place, value: &Value) -> Result<u64, ScenarioError>
+pub(crate) fn number(place: Place, value: &Value) -> Result<u64, ScenarioError>
     ensures { Gives result (number_at place (view value.now)) }
 {
     match value.as_u64() {
@@ -79,7 +79,7 @@ pub fn number(place: Place, value: &Value) -> Result<u64, ScenarioError>
 }
 
 /// The value as a list, each of whose items is read.
-pub fn list<S: Shape>(
+pub(crate) fn list<S: Shape>(
     alloc: Global,
     place: Place,
     value: &Value,
@@ -120,7 +120,7 @@ fn has_known(object: Object, value: &Value) -> bool
 }
 
 /// Tests that the value is an object all of whose members are known.
-pub fn object(object: Object, place: Place, value: &Value) -> Result<(), ScenarioError>
+pub(crate) fn object(object: Object, place: Place, value: &Value) -> Result<(), ScenarioError>
     ensures { Gives result (object_at object place (view value.now)) }
 {
     if has_known(object, value) {

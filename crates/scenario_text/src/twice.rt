@@ -9,8 +9,9 @@ ghost use Rattle.scenario_text.specs.Scenarios.{name_of};
 ghost use Rattle.scenario_text.specs.Twice.{once_in, at_repeat, leakers_once, name_cmp, once};
 
 use crate::faults::ScenarioError;
+use crate::lists::{Leakers, Lists};
 use crate::places::{Member, Place};
-use crate::scenario::{Announcement, Leakers, Lists};
+use crate::scenario::Announcement;
 use crate::walks::{Reading, each};
 use net_names::{Addr, Asn, NoMemory, Prefix};
 use policy_kinds::Kind;
@@ -125,7 +126,7 @@ impl Reading for LeakersOnce {
 
 /// Tests that no announcement, policy, leaker of a round or watched address is named twice.
 #[tactic(auto, unfolding(crate::specs::Twice::once))]
-pub fn test_once(alloc: Global, lists: &Lists) -> Result<(), ScenarioError>
+pub(crate) fn test_once(alloc: Global, lists: &Lists) -> Result<(), ScenarioError>
     ensures { Gives result (once lists.now) }
 {
     announcements_once(

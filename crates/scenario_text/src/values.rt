@@ -5,8 +5,9 @@ ghost use Rattle.scenario_text.specs.Values.{asn_at, path_asn_at, is_own_path, a
 
 use crate::documents::{AnnouncementText, Document, Numbers, PolicyText, Text};
 use crate::faults::ScenarioError;
+use crate::lists::{Leakers, Lists};
 use crate::places::{Member, PartOf, Place};
-use crate::scenario::{Announcement, Leakers, Lists};
+use crate::scenario::Announcement;
 use crate::walks::{Reading, each};
 use net_names::{Addr, Asn, Path, read_addr, read_prefix};
 use policy_kinds::{Kind, read_kind};
@@ -153,7 +154,7 @@ impl Reading for WatchedValue {
 
 /// The four lists that the document says, or the first number, text or path that is outside its grammar.
 #[tactic(auto, unfolding(crate::specs::Values::lists_of))]
-pub fn lists(alloc: Global, document: &Document) -> Result<Lists, ScenarioError>
+pub(crate) fn lists(alloc: Global, document: &Document) -> Result<Lists, ScenarioError>
     ensures { Gives result (lists_of document.now) }
 {
     let announcements = each::<AnnouncementValue>(

@@ -10,7 +10,7 @@ use crate::places::Place;
 use std::alloc::Global;
 
 /// How an item of a list is read.
-pub trait Reading {
+pub(crate) trait Reading {
     /// What an item is.
     type From;
     /// What it is read as.
@@ -29,7 +29,7 @@ pub trait Reading {
 }
 
 /// What the items are read as, or the first fault of the first faulty one.
-pub fn each<R: Reading>(
+pub(crate) fn each<R: Reading>(
     alloc: Global,
     place: Place,
     items: &[R::From],
