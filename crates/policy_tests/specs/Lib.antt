@@ -1,0 +1,2 @@
+pub mod Narrows
+pub mod NarrowLaws
