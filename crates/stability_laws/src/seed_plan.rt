@@ -53,7 +53,7 @@ fn place_of(announced: &[Announcement], prefix: Prefix, asn: Asn) -> Result<usiz
     announced.binary_search_by_key(&(prefix, asn), |x| (x.prefix, x.asn))
 }
 
-// Puts the key among the keys, where it is not there yet.
+// Puts the key among the rising keys, where it is not there yet. Where there is room it does not fail.
 fn put_key<K: Ord + Copy>(keys: &mut Vec<K>, key: K) -> Result<(), NoMemory>
     requires exact { IsAntisymmetric K.cmp }
     requires rising { IsRising K.cmp keys.old.items }
@@ -103,7 +103,8 @@ impl SeedPlan {
     }
 
     /// Makes the first AS of the path announce the path of the prefix, in every round. The path has 1
-    /// to 4294967294 numbers. `Err` where there is not enough memory; then the plan stays as it was.
+    /// to 4294967294 numbers, and that AS does not announce the prefix yet. `Err` where there is not
+    /// enough memory; then the plan stays as it was.
     pub fn announce(&mut self, prefix: Prefix, path: Path) -> Result<(), NoMemory>
         requires some { 1 ≤ length path }
         requires short { length path ≤ 4294967294 }
@@ -112,6 +113,7 @@ impl SeedPlan {
         ensures err { OnErr result (self.new ≡ self.old) }
     {
         let asn = path.as_slice()[0];
+        // Two lists get their room before the third is written, so that a failure changes none.
         if self.prefixes.reserve(1).is_err() {
             return Err(NoMemory);
         }
@@ -155,7 +157,8 @@ impl SeedPlan {
         place_of(self.announced.as_slice(), prefix, asn).is_ok()
     }
 
-    /// The path that the AS announces of the prefix; `None` exactly where it does not announce it.
+    /// The path that the AS announces of the prefix; `None` exactly where it does not announce it. It
+    /// starts with the AS and has at most 4294967294 numbers.
     pub fn path(&self, prefix: Prefix, asn: Asn) -> Option<&Path>
         ensures value { option_copied result ≡ announced_path self.now prefix asn }
         ensures sound { IsSound self.now }
@@ -166,8 +169,8 @@ impl SeedPlan {
         }
     }
 
-    /// The prefix at a place in their rising order of family, address and length; `None` exactly where the place is not below their
-    /// number. It takes a constant time.
+    /// The prefix at a place in their rising order of family, address and length; `None` exactly where
+    /// the place is not below their number. It takes a constant time.
     pub fn prefix_at(&self, place: usize) -> Option<Prefix>
         ensures value { result ≡ slice_get (prefixes_of self.now) place }
         ensures listed { ListsRising prefix_cmp (λ prefix. IsTrue (has_prefix self.now prefix)) (prefixes_of self.now) }

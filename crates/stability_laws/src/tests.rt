@@ -1,7 +1,7 @@
 //! Routings of small worlds, worked by hand.
 use crate::*;
 use as_graph::Graph;
-use net_names::{Asn, Class, Links, Path, Rel, read_prefix};
+use net_names::{Asn, Class, Links, Path, Prefix, Rel, read_prefix};
 use policy_kinds::Kind;
 use policy_laws::NoStates;
 use std::alloc::Global;
@@ -180,13 +180,21 @@ fn kept(sender: Kind, receiver: Kind, to: Rel, held: u32) -> Option<u32> {
 }
 
 #[test]
-fn numbers_go_along_links_as_marking_asks(rt: HostRuntime) {
+fn numbers_go_along_links_as_marking_asks(rt: HostRuntime) -> Result<(), Fail> {
     assert_eq!(rt; kept(Kind::Plain, Kind::Plain, Rel::Customer, 0), None);
     assert_eq!(rt; kept(Kind::Otc, Kind::Plain, Rel::Peer, 0), Some(1));
     assert_eq!(rt; kept(Kind::Otc, Kind::Otc, Rel::Provider, 0), None);
     assert_eq!(rt; kept(Kind::Plain, Kind::Otc, Rel::Customer, 0), Some(1));
     assert_eq!(rt; kept(Kind::Plain, Kind::Plain, Rel::Customer, 9), Some(9));
+    let one = number(1)?;
+    assert_eq!(rt; number_sent(true, one, Rel::Peer, None), Some(one));
+    assert_eq!(rt; number_sent(true, one, Rel::Provider, None), None);
+    assert_eq!(rt;
+        number_sent(false, one, Rel::Provider, Asn::new(9)),
+        Asn::new(9)
+    );
     assert!(rt; class_from(Rel::Peer) == Class::Peer);
+    Ok(())
 }
 
 #[test]
@@ -224,4 +232,52 @@ fn the_laws_hold_of_the_kinds() {
     one_stable_routing::<Kind>();
     one_family::<Kind>();
     any_order_settles::<Kind>();
+}
+
+fn announce(plan: &mut SeedPlan, prefix: Prefix, path: Path) -> Result<(), Fail> {
+    if path.as_slice().is_empty() || path.as_slice().len() > 4294967294 {
+        return Err("a path".into());
+    }
+    let first = path.as_slice()[0];
+    if plan.announces(prefix, first) {
+        return Err("announced twice".into());
+    }
+    plan.announce(prefix, path)?;
+    Ok(())
+}
+
+#[test]
+fn a_plan_lists_prefixes_announcers_and_leakers_in_order(rt: HostRuntime) -> Result<(), Fail> {
+    let alloc = rt.alloc();
+    let high = read_prefix(b"192.0.2.0/24").ok_or("a prefix")?;
+    let low = read_prefix(b"10.0.0.0/8").ok_or("a prefix")?;
+    let mut plan = SeedPlan::new(alloc);
+    announce(&mut plan, high, path(alloc, &[6, 4])?)?;
+    announce(&mut plan, low, path(alloc, &[6])?)?;
+    announce(&mut plan, low, path(alloc, &[5])?)?;
+    for (round, asn) in [(3, 7), (2, 9), (2, 3), (2, 9)] {
+        assert!(rt; round > 1);
+        plan.leaker(round, number(asn)?)?;
+    }
+    for (place, prefix) in [(0, Some(low)), (1, Some(high)), (2, None)] {
+        assert_eq!(rt; plan.prefix_at(place), prefix);
+    }
+    for (place, asn) in [(0, Asn::new(5)), (1, Asn::new(6)), (2, None)] {
+        assert_eq!(rt; plan.announcer_at(place), asn);
+    }
+    for (round, place, asn) in [
+        (1, 0, 0),
+        (2, 0, 3),
+        (2, 1, 9),
+        (2, 2, 0),
+        (3, 0, 7),
+        (4, 0, 0),
+    ] {
+        assert_eq!(rt; plan.leaker_at(round, place), Asn::new(asn));
+    }
+    let announced = plan.path(high, number(6)?).ok_or("a path")?;
+    assert!(rt; announced.as_slice() == path(alloc, &[6, 4])?.as_slice());
+    assert!(rt; plan.announces(low, number(5)?) && !plan.announces(high, number(5)?));
+    assert!(rt; plan.path(high, number(5)?).is_none());
+    Ok(())
 }
