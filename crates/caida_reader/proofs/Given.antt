@@ -56,10 +56,10 @@ Contains-cons_cases y x xs h = elim (Contains-append_cases (y ∷ []) xs x h) as
   | inr b ↦ inr b
 ]
 
-Contains-here : {X : Type 0} (x : X) (xs : List X) → Contains (x ∷ xs) x
+pub Contains-here : {X : Type 0} (x : X) (xs : List X) → Contains (x ∷ xs) x
 Contains-here x xs = Contains-append_left (x ∷ []) xs x (Contains-push [] x)
 
-Contains-there : {X : Type 0} (y x : X) (xs : List X) → Contains xs x → Contains (y ∷ xs) x
+pub Contains-there : {X : Type 0} (y x : X) (xs : List X) → Contains xs x → Contains (y ∷ xs) x
 Contains-there y x xs h = Contains-append_right (y ∷ []) xs x h
 
 -- ---- a link that is found is given, and one that is given is found

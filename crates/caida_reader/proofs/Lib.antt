@@ -1,9 +1,14 @@
 pub mod Cutting
 pub mod PairLemmas
+pub mod MarkLemmas
+pub mod RunLemmas
 pub mod LinkLemmas
 pub mod Values
+pub mod JoinLemmas
 pub mod Reading
 pub mod Given
+pub mod ListLemmas
+pub mod SetLemmas
 pub mod Accepted
 pub mod Faulty
 pub mod Causes

@@ -52,6 +52,10 @@ put_back m s given first stands = same_map pairs_total exact_pair _ _ (λ q.
     ∙ ap (cond (eq_by_cmp pair_cmp q s) (Some first)) (get-insert pairs_total m s given q)
     ∙ back (eq_by_cmp pair_cmp q s) (get m q) given first (λ h. ap (get m) (same_pair q s h) ∙ stands))
 
+pub not_some : (o : Option First) → o ≡ None → IsSome o → ⊥
+not_some None e h = cc
+not_some (Some x) e h = cc
+
 -- no pairs
 pub no_pairs : ArePairs empty 0
 no_pairs = record {
@@ -59,10 +63,6 @@ no_pairs = record {
   counted = sym (len-empty pair_cmp First);
   few = omega arith;
 }
-  where
-    not_some : (o : Option First) → o ≡ None → IsSome o → ⊥
-    not_some None e h = cc
-    not_some (Some x) e h = cc
 
 rising : (b : Bool) (o : Option First) (given : First) (q : ℕ × ℕ) (lo hi : ℕ) → (b ≡ true → q ≡ (lo, hi)) → (IsSome o → q.0 < q.1) → lo < hi → IsSome (cond b (Some given) o) → q.0 < q.1
 rising true o given q lo hi same lower rises h = let e = same refl in rw e rises

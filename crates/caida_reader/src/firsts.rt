@@ -1,15 +1,17 @@
 // The pairs of the lines so far, each with its first line.
-ghost use Rattle.std.specs.Prelude.{◌≡◌, ◌<◌, Ok, Err, IfOk, OnOk, unwrap_or, if◌then◌else◌};
+ghost use Rattle.std.specs.Prelude.{◌≡◌, ◌<◌, All, Ok, Err, IfOk, OnOk, OnErr, unwrap_or, if◌then◌else◌};
 ghost use Rattle.std.specs.FinMap as fin;
 ghost use Rattle.caida_reader.specs.Says.{IsRising};
 ghost use Rattle.caida_reader.specs.Value.{same_rel};
 ghost use Rattle.caida_reader.specs.Firsts.{with_first, Judges, relations};
+ghost use Rattle.caida_reader.specs.Runs.{AreApart, Puts, Lists};
 
 use crate::RelError;
 use crate::line::Said;
-use net_names::{Asn, Links, NoMemory, Rel};
+use crate::others::Others;
+use crate::runs::Runs;
+use net_names::{Asn, Link, Links, NoMemory, Rel};
 use std::alloc::Global;
-use std::collections::BTreeMap;
 use std::marker::Model;
 
 /// The most pairs of a file.
@@ -22,25 +24,56 @@ pub(crate) struct First {
     pub(crate) line: u64,
 }
 
-/// The pairs of the lines so far, each with its first line.
+/// The pairs of the lines so far, each with its first line: in runs while they come in the order of the lines, and else
+/// among the others.
 #[derive(Drop)]
 pub(crate) struct Firsts {
-    entries: BTreeMap<(Asn, Asn), First>,
+    runs: Runs,
+    others: Others,
     count: usize,
 }
 
 impl Model for Firsts {
-    ghost use Rattle.std.specs.FinMap as fin;
     ghost use Rattle.caida_reader.specs.Value.{FirstMap};
-    ghost use Rattle.caida_reader.specs.Firsts.{first_map_code, ArePairs};
+    ghost use Rattle.caida_reader.specs.Firsts.{first_map_code};
+    ghost use Rattle.caida_reader.specs.Runs.{joined, AreFirsts};
 
     ghost Value = { FirstMap };
 
     ghost coded = { first_map_code };
 
-    ghost view = { λ a. fin.from_entries a.entries.entries };
+    ghost view = { λ a. joined a.runs a.others };
 
-    ghost invariant = { λ a. ArePairs (fin.from_entries a.entries.entries) a.count };
+    ghost invariant = { λ a. AreFirsts a.runs a.others a.count };
+}
+
+// Puts a pair in, unless it stands: then its first line is answered.
+fn put(
+    runs: &mut Runs,
+    others: &mut Others,
+    lo: Asn,
+    hi: Asn,
+    given: First,
+) -> Result<Option<First>, NoMemory>
+    requires { AreApart runs.old others.old }
+    ensures ok { IfOk result (Puts runs.old others.old (lo, hi) given runs.new others.new) }
+    ensures err { OnErr result ((runs.new ≡ runs.old) × (others.new ≡ others.old)) }
+{
+    match runs.get(lo, hi) {
+        Some(first) => return Ok(Some(first)),
+        None => {}
+    }
+    if !runs.takes(lo, hi) {
+        return others.add(lo, hi, given);
+    }
+    match others.get(lo, hi) {
+        Some(first) => return Ok(Some(first)),
+        None => {}
+    }
+    if runs.put(lo, hi, given)? {
+        return Ok(None);
+    }
+    others.add(lo, hi, given)
 }
 
 impl Firsts {
@@ -48,7 +81,8 @@ impl Firsts {
         ensures { result ≡ fin.empty }
     {
         Firsts {
-            entries: BTreeMap::new(alloc),
+            runs: Runs::new(alloc),
+            others: Others::new(alloc),
             count: 0,
         }
     }
@@ -60,17 +94,12 @@ impl Firsts {
         ensures value { IfOk result (λ first. first ≡ unwrap_or (fin.get self.old (lo, hi)) given) }
         ensures after { OnOk result (self.new ≡ with_first self.old (lo, hi) given) }
     {
-        match self.entries.insert((lo, hi), given) {
-            Ok(None) => {
+        match put(&mut self.runs, &mut self.others, lo, hi, given)? {
+            Some(first) => Ok(first),
+            None => {
                 self.count += 1;
                 Ok(given)
             }
-            Ok(Some(first)) => {
-                // The pair stands, so its first line is put back.
-                let _ = self.entries.insert((lo, hi), first);
-                Ok(first)
-            }
-            Err(_) => Err(NoMemory),
         }
     }
 }
@@ -93,7 +122,10 @@ impl Firsts {
     fn get(&self, lo: Asn, hi: Asn) -> Option<First>
         ensures { result ≡ fin.get self.now (lo, hi) }
     {
-        self.entries.get(&(lo, hi)).copied()
+        match self.runs.get(lo, hi) {
+            Some(first) => Some(first),
+            None => self.others.get(lo, hi),
+        }
     }
 
     // Judges a link where no further pair may stand.
@@ -136,13 +168,31 @@ impl Firsts {
 }
 
 impl Firsts {
-    /// The links of the pairs. They come in rising order, so each is put at the end.
+    // The links of the pairs, in rising order.
+    fn gather(&self, alloc: Global) -> Result<Vec<Link>, NoMemory>
+        ensures all { IfOk result (λ links. Lists links.items self.now) }
+        ensures lower { IfOk result (λ links. All (λ l. l.lo < l.hi) links.items) }
+    {
+        let mut links = self.runs.links(alloc)?;
+        let others = self.others.links(alloc)?;
+        match links.extend_from_slice(&others) {
+            Ok(()) => {}
+            Err(_) => return Err(NoMemory),
+        }
+        match links.sort_by_key(|link| (link.lo, link.hi)) {
+            Ok(()) => Ok(links),
+            Err(_) => Err(NoMemory),
+        }
+    }
+
+    /// The links of the pairs. They are put in in rising order, so each comes to the end.
     pub(crate) fn links(&self, alloc: Global) -> Result<Links, NoMemory>
         ensures { IfOk result (λ links. links ≡ relations self.now) }
     {
+        let gathered = self.gather(alloc)?;
         let mut links = Links::new(alloc);
-        'pairs: for (pair, first) in self.entries.iter() {
-            if links.set(pair.0, pair.1, first.rel).is_err() {
+        'links: for link in &gathered {
+            if links.set(link.lo, link.hi, link.rel).is_err() {
                 return Err(NoMemory);
             }
         }

@@ -11,7 +11,11 @@ mod errors;
 mod firsts;
 mod laws;
 mod line;
+mod marks;
+mod others;
 mod reader;
+mod run;
+mod runs;
 #[cfg(test)]
 mod tests;
 

@@ -1,7 +1,9 @@
-use Rattle.std.proofs.Common.{sym, ap, ◌∙◌}
-use Rattle.std.specs.FinMap as fin
-use Rattle.caida_reader.proofs.PairLemmas.{get_pair}
+use Rattle.std.proofs.Common.{◌∙◌, sym}
+use Rattle.caida_reader.proofs.JoinLemmas.{get_front, get_back}
 use Rattle.caida_reader.proofs.firsts.Firsts.get.Goals as goal
 
-pub returns : goal.returns
-returns c = c.copied.ensures ∙ c.get.ensures.value ∙ sym (get_pair c.self.inside.entries.entries (c.args.lo, c.args.hi)) ∙ ap (λ m. fin.get m (c.args.lo, c.args.hi)) c.self.view_is
+pub returns-in-Some : goal.returns-in-Some
+returns-in-Some c = rw (← c.self.view_is) (sym (get_front c.self.inside.runs c.self.inside.others (c.args.lo, c.args.hi) c.in-Some.first (sym c.in-Some.ensures)))
+
+pub returns-in-None : goal.returns-in-None
+returns-in-None c = rw (← c.self.view_is) (c.get-in-None.ensures ∙ sym (get_back c.self.inside.runs c.self.inside.others (c.args.lo, c.args.hi) (sym c.in-None.ensures)))

@@ -1,43 +1,34 @@
-use Rattle.std.proofs.Common.{◌≡◌, ◌<◌, ◌++◌, ◌∷◌, [], ℕ, List, map, sym, ap, ◌∙◌, refl, arith}
+use Rattle.std.proofs.Common.{◌<◌, All, sym, ap, subst, ◌∙◌, arith, cond, None}
 use Rattle.std.specs.FinMap as fin
-use Rattle.std.specs.Map.Iter.{deref_pair}
-use Rattle.std.proofs.lemmas.Map.Iter.{btree_map_turn, rest_so_far, rest_more, iter_end}
-use Rattle.net_names.proofs.Pairs.{pairs_total}
-use Rattle.std.proofs.lemmas.List.{map-append}
-use Rattle.net_names.specs.Links.{LinkMap, with_relation}
-use Rattle.caida_reader.specs.declared.firsts.First.{First}
-use Rattle.caida_reader.specs.Firsts.{relations, link_at}
-use Rattle.caida_reader.proofs.PairLemmas.{get_pair, ok_by_test}
-use Rattle.caida_reader.proofs.LinkLemmas.{one_link_more, relations-from_entries}
+use Rattle.std.proofs.lemmas.List.{take_all}
+use Rattle.net_names.specs.declared.links.Link.{Link}
+use Rattle.net_names.specs.Links.{LinkMap, pair_cmp}
+use Rattle.caida_reader.specs.Firsts.{relations}
+use Rattle.caida_reader.specs.Runs.{Lists}
+use Rattle.caida_reader.proofs.PairLemmas.{ok_by_test}
+use Rattle.caida_reader.proofs.SetLemmas.{is_among, one_set, all_set}
 use Rattle.caida_reader.proofs.firsts.Firsts.links.Goals as goal
+
+pub links-init : goal.links-init
+links-init c = λ pair. ap (λ (m : LinkMap). fin.get m pair) c.new-links.ensures ∙ fin.get-empty pair_cmp pair
 
 pub set-requires : goal.set-requires
 set-requires c =
-    let pair : ℕ × ℕ = c.in-Some.pair.now in
-    let turn = btree_map_turn deref_pair c.pairs.yielded c.into_iter-pair-iterator.result c.pairs.pair-iterator c.next.new.self c.next.result (c.in-Some.pair, c.in-Some.first)
-    c.pairs.yielded_by c.in-Some.is c.next.ensures.steps pairs_total c.self.inside.entries (cc) c.iter-pair-items.ensures.ordered in
-    let lower : pair.0 < pair.1 = c.self.invariant.lower pair (rw (get_pair c.self.inside.entries.entries pair, turn.1) refl) in
-    λ same. omega (arith, lower, same)
+    let lower = subst (All (λ (l : Link). l.lo < l.hi)) (sym c.deref-link-items.ensures.value) c.in_ok-gathered.ensures.lower in
+    let here : c.link-item.result.lo < c.link-item.result.hi = subst (λ (l : Link). l.lo < l.hi) (sym c.link-item.is) (lower c.links.link-index c.link-item.result c.links-test.true) in
+    λ same. omega (arith, here, same)
 
--- the links of these entries
-abbrev made : List ((ℕ × ℕ) × First) → LinkMap
-made entries = fin.from_entries (map link_at entries)
-
-pub pairs-preserved : goal.pairs-preserved
-pairs-preserved c =
-    let pair : ℕ × ℕ = c.in-Some.pair.now in
-    let turn = btree_map_turn deref_pair c.pairs.yielded c.into_iter-pair-iterator.result c.pairs.pair-iterator c.next.new.self c.next.result (c.in-Some.pair, c.in-Some.first)
-    c.pairs.yielded_by c.in-Some.is c.next.ensures.steps pairs_total c.self.inside.entries (cc) c.iter-pair-items.ensures.ordered in
-    let lower : pair.0 < pair.1 = c.self.invariant.lower pair (rw (get_pair c.self.inside.entries.entries pair, turn.1) refl) in
-    let so_far = rest_so_far deref_pair c.pairs.yielded c.into_iter-pair-iterator.result c.pairs.pair-iterator c.pairs.yielded_by in
-    let next = rest_more deref_pair c.pairs.pair-iterator c.next.new.self c.next.result (c.in-Some.pair, c.in-Some.first) c.in-Some.is c.next.ensures.steps in
-    let split : c.self.inside.entries.entries ≡ map deref_pair c.pairs.yielded ++ (pair, c.in-Some.first.now) ∷ c.next.new.self = cc in
-    ok_by_test c.set.result _ c.if-is_err.ensures.negation c.set.ensures.ok
-    ∙ ap (λ (links : LinkMap). with_relation links pair.0 pair.1 c.in-Some.first.now.rel) c.pairs.invariant
-    ∙ one_link_more c.self.inside.entries.entries (map deref_pair c.pairs.yielded) c.next.new.self (pair, c.in-Some.first.now) split c.iter-pair-items.ensures.ordered lower
-    ∙ ap made (sym (map-append deref_pair c.pairs.yielded ((c.in-Some.pair, c.in-Some.first) ∷ [])))
+pub links-preserved : goal.links-preserved
+links-preserved c = λ pair.
+    let xs = c.deref-link-items.result.now in
+    let lower = subst (All (λ (l : Link). l.lo < l.hi)) (sym c.deref-link-items.ensures.value) c.in_ok-gathered.ensures.lower in
+    let here = subst (λ (l : Link). l.lo < l.hi) (sym c.link-item.is) (lower c.links.link-index c.link-item.result c.links-test.true) in
+    let lists = subst (λ links. Lists links c.args.self.now) (sym c.deref-link-items.ensures.value) c.in_ok-gathered.ensures.all in
+    ap (λ (m : LinkMap). fin.get m pair) (ok_by_test c.set.result _ c.if-is_err.ensures.negation c.set.ensures.ok)
+    ∙ one_set xs c.args.self.now lists c.links.links c.links.link-index c.link-item.result c.links-test.true c.link-item.is here c.links.invariant pair
 
 pub returns : goal.returns
 returns c =
-    let whole = iter_end deref_pair c.self.inside.entries.entries c.pairs.yielded c.into_iter-pair-iterator.result c.pairs.pair-iterator c.next.new.self c.next.result (cc) c.pairs.yielded_by c.in-None.is c.next.ensures.steps in
-    c.pairs.invariant ∙ ap made whole.0 ∙ relations-from_entries c.self.inside.entries.entries ∙ ap relations c.self.view_is
+    let xs = c.deref-link-items.result.now in
+    let lists = subst (λ links. Lists links c.args.self.now) (sym c.deref-link-items.ensures.value) c.in_ok-gathered.ensures.all in
+    all_set xs c.args.self.now lists c.links.links (λ pair. c.links.invariant pair ∙ ap (λ links. cond (is_among pair links) (fin.get (relations c.args.self.now) pair) None) (take_all c.links.link-index xs c.links-test.false))

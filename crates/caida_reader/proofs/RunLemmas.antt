@@ -1,0 +1,107 @@
+-- Entries whose pairs rise, as a map.
+use Rattle.std.proofs.Common.{◌≡◌, ℕ, ◌-◌, ◌<◌, List, [], ◌∷◌, ◌++◌, length, get_or, refl, sym, ap, subst, ◌∙◌, arith, T, Ok, Err, Some, None, cond, All, Bool, true, false, ◌&&◌}
+use Rattle.std.specs.FinMap as fin
+use Rattle.std.specs.List.{insert, HoldsAt, AllByRecursion}
+use Rattle.std.specs.Map.{keys_of}
+use Rattle.std.proofs.lemmas.List.Edits.{insert_end}
+use Rattle.std.proofs.lemmas.Map.Keys.{sorted_head, sorted_tail}
+use Rattle.std.specs.Ordering.{is_eq, ordering_reverse}
+use Rattle.std.proofs.lemmas.List.Elements.{All-tail}
+use Rattle.std.specs.List.Sorted.{IsSearchInRange, IsBinarySearchResult, IsStrictlySortedBy}
+use Rattle.std.specs.declared.cmp.Ordering.TheVariants.{Less}
+use Rattle.net_names.specs.Links.{pair_cmp}
+use Rattle.net_names.proofs.Pairs.{exact_pair, pairs_total}
+use Rattle.net_names.proofs.Rising as rising
+use Rattle.caida_reader.specs.Value.{FirstMap}
+use Rattle.caida_reader.specs.Runs.{IsPast}
+use Rattle.caida_reader.specs.declared.firsts.First.{First}
+
+abbrev pub Entry : Type 0
+Entry = (ℕ × ℕ) × First
+
+abbrev key : Entry → ℕ × ℕ
+key e = e.0
+
+abbrev first_of : Entry → First
+first_of e = e.1
+
+abbrev pub run_of : List Entry → FirstMap
+run_of es = fin.from_sorted {R = pair_cmp} es
+
+itself : (es : List Entry) → rising.pairs pair_cmp key first_of es ≡ es
+itself [] = refl
+itself (e ∷ es) = ap (λ fs. e ∷ fs) (itself es)
+
+none_below : (es : List Entry) (k : ℕ × ℕ) → All (λ e. pair_cmp e.0 k ≡ Less) es → fin.find pair_cmp k es ≡ None
+none_below [] k below = refl
+none_below (e ∷ es) k below =
+    ap (λ r. cond (is_eq r) (Some e.1) (fin.find pair_cmp k es)) (pairs_total.antisymm k e.0 ∙ ap ordering_reverse (below 0 e (omega arith)))
+    ∙ none_below es k (All-tail (λ (d : Entry). pair_cmp d.0 k ≡ Less) e es below)
+
+-- a pair above all doesn't stand
+pub get-past : (m : FirstMap) (k : ℕ × ℕ) → IsPast m k → fin.get m k ≡ None
+get-past m k is_past = fin.get-entries m k ∙ none_below (fin.entries m) k is_past
+
+module _ (es : List Entry) (sorted : T (fin.is_sorted pair_cmp es)) where
+  rises : rising.IsRising pair_cmp key first_of es
+  rises = subst (λ fs. T (fin.is_sorted pair_cmp fs)) (sym (itself es)) sorted
+
+  pub entries-run_of : fin.entries (run_of es) ≡ es
+  entries-run_of = fin.entries-from_sorted pair_cmp es sorted
+
+  gap : (k : ℕ × ℕ) (at : ℕ) → IsSearchInRange (Err at) (length es) → IsBinarySearchResult (λ e. pair_cmp e.0 k) es (Err at) → rising.IsGap pair_cmp key first_of es k at
+  gap k at inside here = rising.gap_by pair_cmp key first_of pairs_total exact_pair es k at rises inside here
+
+  none : (k : ℕ × ℕ) (at : ℕ) → rising.IsGap pair_cmp key first_of es k at → fin.get (run_of es) k ≡ None
+  none k at g = ap (λ fs. fin.get (run_of fs) k) (sym (itself es)) ∙ rising.get_gap pair_cmp key first_of pairs_total exact_pair es k at rises g
+
+  -- a pair above the last one
+  pub past : (k : ℕ × ℕ) → (0 < length es → HoldsAt (λ e. pair_cmp e.0 k ≡ Less) es (length es - 1)) → IsPast (run_of es) k
+  past k last = rw entries-run_of (λ j d lt. (gap k (length es) (omega arith) (rising.all_below (λ (e : Entry). pair_cmp e.0 k) es (last (omega (arith, lt))))).below j d lt lt)
+
+  -- what a search finds
+  pub found : (k : ℕ × ℕ) (at : ℕ) (d : Entry) → IsSearchInRange (Ok at) (length es) → IsBinarySearchResult (λ e. pair_cmp e.0 k) es (Ok at) → fin.get (run_of es) k ≡ Some (get_or es at d).1
+  found k at d inside here =
+      ap (λ fs. fin.get (run_of fs) k) (sym (itself es))
+      ∙ rising.get_place pair_cmp key first_of pairs_total exact_pair es k at d rises (rising.place_by pair_cmp key first_of pairs_total exact_pair es k at inside here)
+
+  pub missed : (k : ℕ × ℕ) (at : ℕ) → IsSearchInRange (Err at) (length es) → IsBinarySearchResult (λ e. pair_cmp e.0 k) es (Err at) → fin.get (run_of es) k ≡ None
+  missed k at inside here = none k at (gap k at inside here)
+
+  module _ (k : ℕ × ℕ) (is_past : IsPast (run_of es) k) where
+    at_end : rising.IsGap pair_cmp key first_of es k (length es)
+    at_end = record { inside = omega arith; below = λ j d lt inside. (rw entries-run_of at is_past) j d inside; above = λ j d le inside. absurd (omega (arith, le, inside)) }
+
+    pushed : (first : First) → rising.pairs pair_cmp key first_of (insert es (length es) (k, first)) ≡ es ++ (k, first) ∷ []
+    pushed first = itself (insert es (length es) (k, first)) ∙ insert_end es (k, first)
+
+    pub sorted-push : (first : First) → T (fin.is_sorted pair_cmp (es ++ (k, first) ∷ []))
+    sorted-push first = subst (λ fs. T (fin.is_sorted pair_cmp fs)) (pushed first) (rising.rising_insert pair_cmp key first_of pairs_total exact_pair es (k, first) (length es) rises at_end)
+
+    pub run_of-push : (first : First) → run_of (es ++ (k, first) ∷ []) ≡ fin.insert (run_of es) k first
+    run_of-push first =
+        ap run_of (sym (pushed first)) ∙ rising.map_insert pair_cmp key first_of pairs_total exact_pair es (k, first) (length es) rises at_end
+        ∙ ap (λ fs. fin.insert (run_of fs) k first) (itself es)
+
+pub run_of-nothing : run_of [] ≡ fin.empty
+run_of-nothing = fin.empty_of_len (run_of []) (fin.len-entries (run_of []) ∙ ap (λ (es : List Entry). length es) (entries-run_of [] tt))
+
+pub run_of-entries : (m : FirstMap) → run_of (fin.entries m) ≡ m
+run_of-entries m = fin.same_entries_map _ _ (entries-run_of (fin.entries m) (fin.entries_sorted m))
+
+both : (a b : Bool) → T a → T b → T (a && b)
+both true b p q = q
+both false b p q = p
+
+is_below : (k : ℕ × ℕ) (es : List Entry) → AllByRecursion (λ q. pair_cmp k q ≡ Less) (keys_of es) → T (fin.Entries.below_all pair_cmp k es)
+is_below k [] h = tt
+is_below k (e ∷ es) h = rw h.0 (is_below k es h.1)
+
+rises_strictly : (es : List Entry) → IsStrictlySortedBy pair_cmp (keys_of es) → T (fin.is_sorted pair_cmp es)
+rises_strictly [] h = tt
+rises_strictly (e ∷ es) h = both _ _ (is_below e.0 es (sorted_head pair_cmp e.0 (keys_of es) h)) (rises_strictly es (sorted_tail pair_cmp e.0 (keys_of es) h))
+
+pub entries-from_entries : (es : List Entry) → IsStrictlySortedBy pair_cmp (keys_of es) → fin.entries (fin.from_entries {R = pair_cmp} es) ≡ es
+entries-from_entries es h =
+    let sorted = rises_strictly es h in
+    ap (λ (m : FirstMap). fin.entries m) (fin.same_map pairs_total exact_pair _ _ (λ q. fin.get-from_entries pairs_total es q ∙ sym (fin.get-from_sorted pair_cmp es q sorted))) ∙ entries-run_of es sorted

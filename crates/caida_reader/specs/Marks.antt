@@ -1,0 +1,19 @@
+-- Marks of pairs, kept as bits (own rules; they only spare a search).
+use Rattle.std.specs.Prelude.{◌≡◌, ℕ, ◌+◌, ◌*◌, ◌/◌, ◌%◌, ◌^◌, ◌<◌, List, length, slice_index}
+use Rattle.std.specs.Int.RustNames.{bit_and, bit_or}
+
+-- A pair as a number below 2 ^ 64, of which every bit depends on both ends (own rule).
+abbrev pub mixed : ℕ × ℕ → ℕ
+mixed pair = (pair.0 * 2 ^ 32 + pair.1) * 0x9e37_79b9_7f4a_7c15 % 2 ^ 64
+
+-- The word in which a pair is marked (own rule).
+unfoldable pub word_of : ℕ × ℕ → ℕ
+word_of pair = mixed pair / 2 ^ 47
+
+-- The one or two bits of that word that mark it (own rule).
+unfoldable pub bits_of : ℕ × ℕ → ℕ
+bits_of pair = bit_or (1 * 2 ^ (mixed pair / 2 ^ 41 % 64) % 2 ^ 64) (1 * 2 ^ (mixed pair / 2 ^ 35 % 64) % 2 ^ 64)
+
+-- The pair is marked: its bits are set in its word (own rule).
+abbrev pub IsMarked : List ℕ → ℕ × ℕ → Type 0
+IsMarked words pair = (word_of pair < length words) × (bit_and (slice_index words (word_of pair)) (bits_of pair) ≡ bits_of pair)

@@ -1,0 +1,104 @@
+// Pairs that come in rising order.
+ghost use Rattle.std.specs.Prelude.{◌≡◌, ◌<◌, ◌-◌, IsTrue, OnOk, OnErr, length};
+ghost use Rattle.std.specs.FinMap as fin;
+ghost use Rattle.std.specs.List.{HoldsAt};
+ghost use Rattle.std.specs.List.Sorted.{IsSearchInRange, IsBinarySearchResult};
+ghost use Rattle.std.specs.declared.cmp.Ordering.TheVariants.{Less};
+ghost use Rattle.net_names.specs.Links.{pair_cmp};
+ghost use Rattle.caida_reader.specs.Runs.{IsPast};
+
+use crate::firsts::First;
+use net_names::{Asn, NoMemory};
+use std::alloc::Global;
+use std::marker::Model;
+
+/// Pairs, each with its first line. A pair above all others is put in at once.
+#[derive(Drop)]
+pub(crate) struct Run {
+    entries: Vec<((Asn, Asn), First)>,
+}
+
+impl Model for Run {
+    ghost use Rattle.std.specs.Prelude.{T};
+    ghost use Rattle.std.specs.FinMap as fin;
+    ghost use Rattle.net_names.specs.Links.{pair_cmp};
+    ghost use Rattle.caida_reader.specs.Value.{FirstMap};
+    ghost use Rattle.caida_reader.specs.Firsts.{first_map_code};
+
+    ghost Value = { FirstMap };
+
+    ghost coded = { first_map_code };
+
+    ghost view = { λ a. fin.from_sorted a.entries.items };
+
+    ghost invariant = { λ a. T (fin.is_sorted pair_cmp a.entries.items) };
+}
+
+// Whether a pair is above the last one, where there is one.
+fn is_past_last(entries: &[((Asn, Asn), First)], a: Asn, b: Asn) -> bool
+    ensures { IsTrue result → 0 < length entries.now → HoldsAt (λ e. pair_cmp e.0 (a, b) ≡ Less) entries.now (length entries.now - 1) }
+{
+    match entries.last() {
+        Some(last) => last.0 < (a, b),
+        None => true,
+    }
+}
+
+// Where a pair stands, or where it would have to be put in.
+fn search(entries: &[((Asn, Asn), First)], a: Asn, b: Asn) -> Result<usize, usize>
+    ensures bound { IsSearchInRange result (length entries.now) }
+    ensures position { IsBinarySearchResult (λ e. pair_cmp e.0 (a, b)) entries.now result }
+{
+    entries.binary_search_by_key(&(a, b), |entry| entry.0)
+}
+
+impl Run {
+    /// No pairs.
+    pub(crate) fn new(alloc: Global) -> Run
+        ensures { result ≡ fin.empty }
+    {
+        Run {
+            entries: Vec::new(alloc),
+        }
+    }
+
+    /// The pairs in rising order, each with its first line.
+    pub(crate) fn as_slice(&self) -> &[((Asn, Asn), First)]
+        ensures { result.now ≡ fin.entries self.now }
+    {
+        self.entries.as_slice()
+    }
+
+    /// Whether a pair is above all.
+    pub(crate) fn is_past(&self, a: Asn, b: Asn) -> bool
+        ensures { IsTrue result → IsPast self.now (a, b) }
+    {
+        is_past_last(self.entries.as_slice(), a, b)
+    }
+
+    /// The first line of a pair.
+    pub(crate) fn get(&self, a: Asn, b: Asn) -> Option<First>
+        ensures { result ≡ fin.get self.now (a, b) }
+    {
+        if self.is_past(a, b) {
+            return None;
+        }
+        match search(self.entries.as_slice(), a, b) {
+            Ok(at) => Some(self.entries[at].1),
+            Err(_) => None,
+        }
+    }
+
+    /// Puts in a pair that is above all.
+    pub(crate) fn push(&mut self, a: Asn, b: Asn, first: First) -> Result<(), NoMemory>
+        requires { IsPast self.old (a, b) }
+        ensures ok { OnOk result (self.new ≡ fin.insert self.old (a, b) first) }
+        ensures err { OnErr result (self.new ≡ self.old) }
+    {
+        match self.entries.push(((a, b), first)) {
+            Ok(()) => {}
+            Err(_) => return Err(NoMemory),
+        }
+        Ok(())
+    }
+}

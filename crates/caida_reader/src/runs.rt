@@ -1,0 +1,123 @@
+// Pairs in two runs.
+ghost use Rattle.std.specs.Prelude.{◌≡◌, ℕ, ◌++◌, None, IsSome, IfOk, OnErr, map, if◌then◌else◌};
+ghost use Rattle.std.specs.FinMap as fin;
+ghost use Rattle.caida_reader.specs.Marks.{IsMarked};
+ghost use Rattle.caida_reader.specs.Runs.{link_of, turned, Lists};
+
+use crate::firsts::First;
+use crate::marks::Marks;
+use crate::run::Run;
+use net_names::{Asn, Link, NoMemory};
+use std::alloc::{AllocError, Global};
+use std::marker::Model;
+
+/// Pairs, each with its first line. The pairs of a file whose lines rise by their first number all have their place here:
+/// those whose first number is the lower one rise, and the others do with their ends exchanged.
+#[derive(Drop)]
+pub(crate) struct Runs {
+    rising: Run,
+    marks: Marks,
+    turned: Run,
+}
+
+impl Model for Runs {
+    ghost use Rattle.caida_reader.specs.Value.{FirstMap};
+    ghost use Rattle.caida_reader.specs.Firsts.{first_map_code};
+    ghost use Rattle.caida_reader.specs.Runs.{joined, flipped, AreRuns};
+
+    ghost Value = { FirstMap };
+
+    ghost coded = { first_map_code };
+
+    ghost view = { λ a. joined a.rising (flipped a.turned) };
+
+    ghost invariant = { λ a. AreRuns a.rising a.turned a.marks };
+}
+
+// The first line of a pair of a run whose pairs are marked. A pair that isn't marked is not searched for.
+fn get_marked(run: &Run, marks: &Marks, lo: Asn, hi: Asn) -> Option<First>
+    requires { (pair : ℕ × ℕ) → IsSome (fin.get run.now pair) → IsMarked marks.now pair }
+    ensures { result ≡ fin.get run.now (lo, hi) }
+{
+    if !run.is_past(lo, hi) && !marks.has(lo, hi) {
+        return None;
+    }
+    run.get(lo, hi)
+}
+
+// The links of rising entries, and those of entries whose ends are exchanged.
+fn gather(
+    alloc: Global,
+    rising: &[((Asn, Asn), First)],
+    exchanged: &[((Asn, Asn), First)],
+) -> Result<Vec<Link>, AllocError>
+    ensures { IfOk result (λ links. links.items ≡ map link_of rising.now ++ map (λ e. link_of (turned e)) exchanged.now) }
+{
+    let front = rising.iter().map(|e| Link {
+        lo: e.0.0,
+        hi: e.0.1,
+        rel: e.1.rel,
+    });
+    let back = exchanged.iter().map(|e| Link {
+        lo: e.0.1,
+        hi: e.0.0,
+        rel: e.1.rel,
+    });
+    front.chain(back).collect(alloc)
+}
+
+impl Runs {
+    /// No pairs.
+    pub(crate) fn new(alloc: Global) -> Runs
+        ensures { result ≡ fin.empty }
+    {
+        Runs {
+            rising: Run::new(alloc),
+            marks: Marks::new(alloc),
+            turned: Run::new(alloc),
+        }
+    }
+
+    /// The first line of the pair, where it stands.
+    pub(crate) fn get(&self, lo: Asn, hi: Asn) -> Option<First>
+        ensures { result ≡ fin.get self.now (lo, hi) }
+    {
+        match get_marked(&self.rising, &self.marks, lo, hi) {
+            Some(first) => Some(first),
+            None => self.turned.get(hi, lo),
+        }
+    }
+
+    /// Whether the pair has its place here.
+    pub(crate) fn takes(&self, lo: Asn, hi: Asn) -> bool {
+        self.rising.is_past(lo, hi) || self.turned.is_past(hi, lo)
+    }
+
+    /// Puts the pair in, where it has its place here, and says whether it has.
+    pub(crate) fn put(&mut self, lo: Asn, hi: Asn, first: First) -> Result<bool, NoMemory>
+        requires { fin.get self.old (lo, hi) ≡ None }
+        ensures ok { IfOk result (λ put. self.new ≡ (if put then fin.insert self.old (lo, hi) first else self.old)) }
+        ensures err { OnErr result (self.new ≡ self.old) }
+    {
+        if self.rising.is_past(lo, hi) {
+            self.marks.mark(lo, hi)?;
+            self.rising.push(lo, hi, first)?;
+            return Ok(true);
+        }
+        if self.turned.is_past(hi, lo) {
+            self.turned.push(hi, lo, first)?;
+            return Ok(true);
+        }
+        Ok(false)
+    }
+
+    /// The links of the pairs.
+    pub(crate) fn links(&self, alloc: Global) -> Result<Vec<Link>, NoMemory>
+        ensures { IfOk result (λ links. Lists links.items self.now) }
+    {
+        match gather(alloc, self.rising.as_slice(), self.turned.as_slice()) {
+            Ok(links) => Ok(links),
+            Err(_) => Err(NoMemory),
+        }
+    }
+}
