@@ -11,7 +11,7 @@ use Rattle.net_names.proofs.Pairs.{exact_pair, pairs_total}
 use Rattle.caida_reader.specs.Value.{FirstMap}
 use Rattle.caida_reader.specs.Firsts.{with_first, ArePairs}
 use Rattle.caida_reader.specs.Marks.{IsMarked}
-use Rattle.caida_reader.specs.Runs.{joined, turned, flipped, AreApart, AreRuns, AreFirsts, Puts}
+use Rattle.caida_reader.specs.Runs.{joined, turned, all_turned, AreApart, AreRuns, AreFirsts, Puts}
 use Rattle.caida_reader.specs.declared.firsts.First.{First}
 use Rattle.caida_reader.proofs.PairLemmas.{same_pair, not_some, no_pairs, one_more}
 use Rattle.caida_reader.proofs.Values.{find-append}
@@ -42,8 +42,8 @@ find-turned (e ∷ es) a b =
     ap (λ t. cond t (Some e.1) (find pair_cmp (a, b) (map turned es))) (tie-turned a b e.0.1 e.0.0)
     ∙ ap (cond (eq_by_cmp pair_cmp (b, a) e.0) (Some e.1)) (find-turned es a b)
 
-pub get-flipped : (m : FirstMap) (a b : ℕ) → get (flipped m) (a, b) ≡ get m (b, a)
-get-flipped m a b = get-from_entries pairs_total (map turned (entries m)) (a, b) ∙ find-turned (entries m) a b ∙ sym (get-entries m (b, a))
+pub get-all_turned : (m : FirstMap) (a b : ℕ) → get (all_turned m) (a, b) ≡ get m (b, a)
+get-all_turned m a b = get-from_entries pairs_total (map turned (entries m)) (a, b) ∙ find-turned (entries m) a b ∙ sym (get-entries m (b, a))
 
 in_front : (t : Bool) (v : First) (o p : Option First) → either (cond t (Some v) o) p ≡ cond t (Some v) (either o p)
 in_front true v o p = refl
@@ -76,11 +76,11 @@ module _ (a b : FirstMap) (k : ℕ × ℕ) (v : First) where
         by_test (is_some (get b k))
         ∙ ap (λ o. if is_some o then joined a b else insert (joined a b) k v) (sym (get-joined a b k ∙ ap (λ o. either o (get b k)) none))
 
-pub flipped-insert : (m : FirstMap) (a b : ℕ) (v : First) → flipped (insert m (b, a) v) ≡ insert (flipped m) (a, b) v
-flipped-insert m a b v = same_map pairs_total exact_pair _ _ (λ q.
-    get-flipped (insert m (b, a) v) q.0 q.1 ∙ get-insert pairs_total m (b, a) v (q.1, q.0)
+pub all_turned-insert : (m : FirstMap) (a b : ℕ) (v : First) → all_turned (insert m (b, a) v) ≡ insert (all_turned m) (a, b) v
+all_turned-insert m a b v = same_map pairs_total exact_pair _ _ (λ q.
+    get-all_turned (insert m (b, a) v) q.0 q.1 ∙ get-insert pairs_total m (b, a) v (q.1, q.0)
     ∙ ap (λ t. cond t (Some v) (get m (q.1, q.0))) (tie-turned q.1 q.0 b a)
-    ∙ sym (get-insert pairs_total (flipped m) (a, b) v q ∙ ap (cond (eq_by_cmp pair_cmp q (a, b)) (Some v)) (get-flipped m q.0 q.1)))
+    ∙ sym (get-insert pairs_total (all_turned m) (a, b) v q ∙ ap (cond (eq_by_cmp pair_cmp q (a, b)) (Some v)) (get-all_turned m q.0 q.1)))
 
 still_none : (t : Bool) (v : First) (o p : Option First) → (t ≡ true → p ≡ None) → o ≡ None → IsSome p → cond t (Some v) o ≡ None
 still_none true v o p none is some = absurd (not_some p (none refl) some)
@@ -105,8 +105,8 @@ nothing = empty
 pub joined-empty : joined empty empty ≡ empty
 joined-empty = same_map pairs_total exact_pair _ _ (λ q. get-joined empty empty q ∙ ap (λ o. either o (get nothing q)) (get-empty {X = First} pair_cmp q))
 
-pub flipped-empty : flipped empty ≡ empty
-flipped-empty = same_map pairs_total exact_pair _ _ (λ q. get-flipped empty q.0 q.1 ∙ get-empty {X = First} pair_cmp (q.1, q.0) ∙ sym (get-empty {X = First} pair_cmp q))
+pub all_turned-empty : all_turned empty ≡ empty
+all_turned-empty = same_map pairs_total exact_pair _ _ (λ q. get-all_turned empty q.0 q.1 ∙ get-empty {X = First} pair_cmp (q.1, q.0) ∙ sym (get-empty {X = First} pair_cmp q))
 
 -- where neither map has a pair
 none_of : (o p : Option First) → either o p ≡ None → (o ≡ None) × (p ≡ None)
@@ -133,18 +133,18 @@ marked_more true v o P new old some = new refl
 marked_more false v o P new old some = old some
 
 -- a pair more of those that rise
-pub rising_more : (rising exchanged : FirstMap) (marks more : List ℕ) (k : ℕ × ℕ) (v : First) → AreRuns rising exchanged marks → get (flipped exchanged) k ≡ None
+pub rising_more : (rising exchanged : FirstMap) (marks more : List ℕ) (k : ℕ × ℕ) (v : First) → AreRuns rising exchanged marks → get (all_turned exchanged) k ≡ None
     → IsMarked more k → ((q : ℕ × ℕ) → IsMarked marks q → IsMarked more q) → AreRuns (insert rising k v) exchanged more
 rising_more rising exchanged marks more k v are none new kept = record {
-  apart = apart-insert_front rising (flipped exchanged) k v are.apart none;
+  apart = apart-insert_front rising (all_turned exchanged) k v are.apart none;
   marked = λ q some. marked_more (eq_by_cmp pair_cmp q k) v (get rising q) (IsMarked more q) (λ t. subst (IsMarked more) (sym (same_pair q k t)) new) (λ old. kept q (are.marked q old))
       (rw (get-insert pairs_total rising k v q) at some);
 }
 
 -- a pair more of those with exchanged ends
-pub exchanged_more : (rising exchanged : FirstMap) (marks : List ℕ) (lo hi : ℕ) (v : First) → AreRuns rising exchanged marks → get rising (lo, hi) ≡ None → AreRuns rising (insert exchanged (hi, lo) v) marks
-exchanged_more rising exchanged marks lo hi v are none = record {
-  apart = subst (AreApart rising) (sym (flipped-insert exchanged lo hi v)) (apart-insert_back rising (flipped exchanged) (lo, hi) v are.apart none);
+pub turned_more : (rising exchanged : FirstMap) (marks : List ℕ) (lo hi : ℕ) (v : First) → AreRuns rising exchanged marks → get rising (lo, hi) ≡ None → AreRuns rising (insert exchanged (hi, lo) v) marks
+turned_more rising exchanged marks lo hi v are none = record {
+  apart = subst (AreApart rising) (sym (all_turned-insert exchanged lo hi v)) (apart-insert_back rising (all_turned exchanged) (lo, hi) v are.apart none);
   marked = are.marked;
 }
 

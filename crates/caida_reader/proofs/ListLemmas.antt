@@ -15,12 +15,12 @@ use Rattle.net_names.specs.declared.links.Link.{Link}
 use Rattle.net_names.proofs.Pairs.{pairs_total}
 use Rattle.caida_reader.specs.Value.{FirstMap}
 use Rattle.caida_reader.specs.Firsts.{relations}
-use Rattle.caida_reader.specs.Runs.{joined, turned, flipped, AreApart, link_of, Lists}
+use Rattle.caida_reader.specs.Runs.{joined, turned, all_turned, AreApart, link_of, Lists}
 use Rattle.caida_reader.specs.declared.firsts.First.{First}
 use Rattle.caida_reader.proofs.PairLemmas.{same_pair}
 use Rattle.caida_reader.proofs.LinkLemmas.{get-relations}
 use Rattle.caida_reader.proofs.RunLemmas.{Entry, run_of, run_of-entries, entries-from_entries, found}
-use Rattle.caida_reader.proofs.JoinLemmas.{get-joined, get-flipped}
+use Rattle.caida_reader.proofs.JoinLemmas.{get-joined, get-all_turned}
 use Rattle.caida_reader.proofs.Given.{Contains-here, Contains-there}
 
 abbrev pub its_rel : Option First → Option Rel
@@ -71,11 +71,11 @@ lists-entries m lo hi rel = (λ h. listed.0 (ap its_rel at_run ∙ sym (get-rela
 pub lists-rising : (es : List Entry) → IsStrictlySortedBy pair_cmp (keys_of es) → Lists (map link_of es) (fin.from_entries es)
 lists-rising es h = subst (λ fs. Lists (map link_of fs) (fin.from_entries es)) (entries-from_entries es h) (lists-entries (fin.from_entries es))
 
-pub lists-flipped : (m : FirstMap) → Lists (map (λ e. link_of (turned e)) (fin.entries m)) (flipped m)
-lists-flipped m lo hi rel = (λ h. listed.0 (at_run ∙ h), λ h. sym at_run ∙ listed.1 h)
+pub lists-all_turned : (m : FirstMap) → Lists (map (λ e. link_of (turned e)) (fin.entries m)) (all_turned m)
+lists-all_turned m lo hi rel = (λ h. listed.0 (at_run ∙ h), λ h. sym at_run ∙ listed.1 h)
   where
-    at_run : its_rel (fin.get (run_of (fin.entries m)) (hi, lo)) ≡ fin.get (relations (flipped m)) (lo, hi)
-    at_run = ap (λ (n : FirstMap). its_rel (fin.get n (hi, lo))) (run_of-entries m) ∙ ap its_rel (sym (get-flipped m lo hi)) ∙ sym (get-relations (flipped m) (lo, hi))
+    at_run : its_rel (fin.get (run_of (fin.entries m)) (hi, lo)) ≡ fin.get (relations (all_turned m)) (lo, hi)
+    at_run = ap (λ (n : FirstMap). its_rel (fin.get n (hi, lo))) (run_of-entries m) ∙ ap its_rel (sym (get-all_turned m lo hi)) ∙ sym (get-relations (all_turned m) (lo, hi))
 
     listed : (its_rel (fin.get (run_of (fin.entries m)) (hi, lo)) ≡ Some rel) ↔ Contains (map (λ e. link_of (turned e)) (fin.entries m)) (link (lo, hi) rel)
     listed = found_listed (λ e. link_of (turned e)) (hi, lo) rel (link (lo, hi) rel)
@@ -111,15 +111,15 @@ lists-joined xs ys a b apart front back lo hi rel = (to, from)
 
     to : rel_of (joined a b) ≡ Some rel → Contains (xs ++ ys) l
     to h = elim (either_some (rel_of a) (rel_of b) rel (sym both ∙ h)) as (λ _. Contains (xs ++ ys) l) [
-        | inl e ↦ Contains-append_left xs ys l ((front lo hi rel).0 e)
-        | inr e ↦ Contains-append_right xs ys l ((back lo hi rel).0 e)
-      ]
+      | inl e ↦ Contains-append_left xs ys l ((front lo hi rel).0 e)
+      | inr e ↦ Contains-append_right xs ys l ((back lo hi rel).0 e)
+    ]
 
     from : Contains (xs ++ ys) l → rel_of (joined a b) ≡ Some rel
     from h = elim (Contains-append_cases xs ys l h) as (λ _. rel_of (joined a b) ≡ Some rel) [
-        | inl in_front ↦ both ∙ ap (λ o. either o (rel_of b)) ((front lo hi rel).1 in_front)
-        | inr behind ↦
-            let there = (back lo hi rel).1 behind in
-            let none = apart (lo, hi) (some_rel (fin.get b (lo, hi)) rel (sym (get-relations b (lo, hi)) ∙ there)) in
-            both ∙ ap (λ o. either o (rel_of b)) (get-relations a (lo, hi) ∙ ap its_rel none) ∙ there
-      ]
+      | inl in_front ↦ both ∙ ap (λ o. either o (rel_of b)) ((front lo hi rel).1 in_front)
+      | inr behind ↦
+          let there = (back lo hi rel).1 behind in
+          let none = apart (lo, hi) (some_rel (fin.get b (lo, hi)) rel (sym (get-relations b (lo, hi)) ∙ there)) in
+          both ∙ ap (λ o. either o (rel_of b)) (get-relations a (lo, hi) ∙ ap its_rel none) ∙ there
+    ]

@@ -3,9 +3,9 @@ use Rattle.std.specs.Prelude.{◌≡◌, ℕ, ◌↔◌, List, ◌++◌, All, Co
 use Rattle.std.specs.FinMap as fin
 use Rattle.std.specs.declared.cmp.Ordering.TheVariants.{Less}
 use Rattle.net_names.specs.Links.{pair_cmp}
-use Rattle.caida_reader.specs.Value.{FirstMap}
 use Rattle.net_names.specs.declared.routes.Rel.{Rel}
 use Rattle.net_names.specs.declared.links.Link.{Link}
+use Rattle.caida_reader.specs.Value.{FirstMap}
 use Rattle.caida_reader.specs.Firsts.{with_first, relations, ArePairs}
 use Rattle.caida_reader.specs.Marks.{IsMarked}
 use Rattle.caida_reader.specs.declared.firsts.First.{First}
@@ -18,21 +18,21 @@ IsPast pairs pair = All (λ e. pair_cmp e.0 pair ≡ Less) (fin.entries pairs)
 abbrev pub joined : FirstMap → FirstMap → FirstMap
 joined front back = fin.from_entries (fin.entries front ++ fin.entries back)
 
--- A pair with its ends exchanged (own rule).
+-- An entry with the ends of its pair exchanged (own rule).
 abbrev pub turned : (ℕ × ℕ) × First → (ℕ × ℕ) × First
 turned entry = ((entry.0.1, entry.0.0), entry.1)
 
--- The pairs with their ends exchanged (own rule).
-abbrev pub flipped : FirstMap → FirstMap
-flipped pairs = fin.from_entries (map turned (fin.entries pairs))
+-- The pairs with their ends exchanged, and their first lines (own rule).
+abbrev pub all_turned : FirstMap → FirstMap
+all_turned pairs = fin.from_entries (map turned (fin.entries pairs))
 
 -- No pair stands in both maps (own rule).
 abbrev pub AreApart : FirstMap → FirstMap → Type 0
 AreApart front back = (pair : ℕ × ℕ) → IsSome (fin.get back pair) → fin.get front pair ≡ None
 
--- No pair stands in both runs, of which the second has its pairs' ends exchanged, and those of the first are marked (own rule).
+-- Two runs, of which the second has its pairs with the ends exchanged: no pair stands in both, and those of the first are marked (own rule).
 pub record AreRuns (rising exchanged : FirstMap) (marks : List ℕ) : Type 0 where
-  pub apart : AreApart rising (flipped exchanged)
+  pub apart : AreApart rising (all_turned exchanged)
   pub marked : (pair : ℕ × ℕ) → IsSome (fin.get rising pair) → IsMarked marks pair
 
 -- The link of a pair with its first line (own rule).
@@ -43,7 +43,7 @@ link_of entry = record { lo = entry.0.0; hi = entry.0.1; rel = entry.1.rel }
 abbrev pub Lists : List Link → FirstMap → Type 0
 Lists links pairs = (lo hi : ℕ) (rel : Rel) → (fin.get (relations pairs) (lo, hi) ≡ Some rel) ↔ Contains links (record { lo = lo; hi = hi; rel = rel })
 
--- No pair stands twice, and the pairs are as they have to be (own rule).
+-- No pair stands both in a run and among the others, and the pairs are as they have to be (own rule).
 pub record AreFirsts (runs others : FirstMap) (count : ℕ) : Type 0 where
   pub apart : AreApart runs others
   pub pairs : ArePairs (joined runs others) count

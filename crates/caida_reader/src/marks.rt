@@ -1,4 +1,4 @@
-// Marks of pairs. A pair that isn't marked doesn't stand, so it needn't be searched for.
+// Marks of pairs. Where the pairs that stand are marked, one that isn't needs no search.
 ghost use Rattle.std.specs.Prelude.{◌≡◌, ◌<◌, ◌↔◌, ℕ, IsTrue, OnOk, length};
 ghost use Rattle.caida_reader.specs.Marks.{word_of, bits_of, IsMarked};
 
@@ -6,10 +6,10 @@ use net_names::{Asn, NoMemory};
 use std::alloc::Global;
 use std::marker::Model;
 
-/// The words once a pair is marked. They are enough for 1,500,000 pairs: of those that aren't marked, few seem to be.
+/// How many words there are once a pair is marked. Where 1,500,000 pairs are, one in fourteen of the others seems to be too.
 const WORDS: usize = 131_072;
 
-/// Marks of pairs, which say of a pair that isn't marked that it isn't, and of a few others that they are.
+/// Marks of pairs. A few pairs seem to be marked that never were.
 #[derive(Drop)]
 pub(crate) struct Marks {
     words: Vec<u64>,
@@ -42,7 +42,9 @@ fn spot_of(lo: Asn, hi: Asn) -> Spot
     let mixed = pair.wrapping_mul(0x9e37_79b9_7f4a_7c15);
     Spot {
         word: (mixed >> 47) as usize,
-        bits: (1 << ((mixed >> 41) % 64)) | (1 << ((mixed >> 35) % 64)),
+        bits: (1 << ((mixed >> 41) % 64))
+            | (1 << ((mixed >> 35) % 64))
+            | (1 << ((mixed >> 29) % 64)),
     }
 }
 

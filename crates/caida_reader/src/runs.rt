@@ -11,8 +11,9 @@ use net_names::{Asn, Link, NoMemory};
 use std::alloc::{AllocError, Global};
 use std::marker::Model;
 
-/// Pairs, each with its first line. The pairs of a file whose lines rise by their first number all have their place here:
-/// those whose first number is the lower one rise, and the others do with their ends exchanged.
+/// Pairs, each with its first line. In a file whose lines rise, the pairs of lines with the lower number first rise, and
+/// those of the other lines do with their ends exchanged: each is put in at once. The rising pairs are marked, so that
+/// among them hardly one is searched for.
 #[derive(Drop)]
 pub(crate) struct Runs {
     rising: Run,
@@ -23,13 +24,13 @@ pub(crate) struct Runs {
 impl Model for Runs {
     ghost use Rattle.caida_reader.specs.Value.{FirstMap};
     ghost use Rattle.caida_reader.specs.Firsts.{first_map_code};
-    ghost use Rattle.caida_reader.specs.Runs.{joined, flipped, AreRuns};
+    ghost use Rattle.caida_reader.specs.Runs.{joined, all_turned, AreRuns};
 
     ghost Value = { FirstMap };
 
     ghost coded = { first_map_code };
 
-    ghost view = { λ a. joined a.rising (flipped a.turned) };
+    ghost view = { λ a. joined a.rising (all_turned a.turned) };
 
     ghost invariant = { λ a. AreRuns a.rising a.turned a.marks };
 }
@@ -88,12 +89,12 @@ impl Runs {
         }
     }
 
-    /// Whether the pair has its place here.
+    /// Whether `put` would put the pair in. Only time hangs on it.
     pub(crate) fn takes(&self, lo: Asn, hi: Asn) -> bool {
         self.rising.is_past(lo, hi) || self.turned.is_past(hi, lo)
     }
 
-    /// Puts the pair in, where it has its place here, and says whether it has.
+    /// Puts the pair in where it is above all pairs of a run, and says whether it is.
     pub(crate) fn put(&mut self, lo: Asn, hi: Asn, first: First) -> Result<bool, NoMemory>
         requires { fin.get self.old (lo, hi) ≡ None }
         ensures ok { IfOk result (λ put. self.new ≡ (if put then fin.insert self.old (lo, hi) first else self.old)) }

@@ -30,6 +30,7 @@ fn accepted_files_have_these_links(rt: HostRuntime) -> Result<(), Fail> {
         (2, 10, Rel::Customer),
     ]
     .as_slice();
+    let falling = [(3, 4, Rel::Peer), (5, 8, Rel::Provider), (7, 9, Rel::Peer)].as_slice();
     let cases = [
         (b"".as_slice(), [].as_slice()),
         (b"\n\n# 5|5|1\n\r\n".as_slice(), [].as_slice()),
@@ -43,6 +44,10 @@ fn accepted_files_have_these_links(rt: HostRuntime) -> Result<(), Fail> {
         ),
         (b"1|2|-1\n1|2|-1\n3|2|0\n2|3|0\n".as_slice(), twice),
         (b"2|10|-1\n3|1|0\n3|2|-1".as_slice(), rising),
+        (
+            b"7|9|0\n8|5|-1\n3|4|0\n4|3|0\n8|5|-1\n9|7|0".as_slice(),
+            falling,
+        ),
         (
             b"4294967295|5|0\n".as_slice(),
             [(5, 4294967295, Rel::Peer)].as_slice(),
@@ -104,6 +109,7 @@ fn an_as_linked_to_itself_and_a_conflict_name_their_lines(rt: HostRuntime) {
         (b"1|2|-1\n1|2|0\n".as_slice(), second),
         (b"1|2|-1\n2|1|-1\n".as_slice(), second),
         (b"3|4|0\n#\n1|2|-1\n1|2|-1\n2|1|0\n5|5|0".as_slice(), fifth),
+        (b"7|9|0\n8|5|-1\n3|4|0\n#\n4|3|-1\n".as_slice(), fifth),
     ];
     for (file, expected) in cases {
         expect_fault(&rt, read_links(rt.alloc(), file), expected, file);

@@ -1,33 +1,33 @@
 use Rattle.std.proofs.Common.{◌∙◌, ap, sym, subst}
 use Rattle.std.specs.FinMap as fin
 use Rattle.caida_reader.specs.Value.{FirstMap}
-use Rattle.caida_reader.specs.Runs.{joined, flipped, AreRuns}
-use Rattle.caida_reader.proofs.JoinLemmas.{joined-insert_front, joined-insert_back, flipped-insert, none_of_joined, rising_more, exchanged_more}
+use Rattle.caida_reader.specs.Runs.{joined, all_turned, AreRuns}
+use Rattle.caida_reader.proofs.JoinLemmas.{joined-insert_front, joined-insert_back, all_turned-insert, none_of_joined, rising_more, turned_more}
 use Rattle.caida_reader.proofs.runs.Runs.put.Goals as goal
 
 pub invariant_of-self-then-is_past : goal.invariant_of-self-then-is_past
 invariant_of-self-then-is_past c =
-    let exchanged = flipped c.self.inside.turned in
+    let exchanged = all_turned c.self.inside.turned in
     let none = none_of_joined c.self.inside.rising exchanged (c.args.lo, c.args.hi) (rw (← c.self.view_is) at c.requires) in
     subst (λ rising. AreRuns rising c.self.inside.turned c.mark.new.self) (sym c.in_ok-push.ensures.ok)
     (rising_more c.self.inside.rising c.self.inside.turned c.self.inside.marks c.mark.new.self (c.args.lo, c.args.hi) c.args.first c.self.invariant none.1 c.in_ok-mark.ensures.marked c.mark.ensures.kept)
 
 pub returns-then-is_past-clause-ok : goal.returns-then-is_past-clause-ok
 returns-then-is_past-clause-ok c =
-    let exchanged = flipped c.self.inside.turned in
+    let exchanged = all_turned c.self.inside.turned in
     ap (λ rising. joined rising exchanged) c.in_ok-push.ensures.ok ∙ joined-insert_front c.self.inside.rising exchanged (c.args.lo, c.args.hi) c.args.first
     ∙ ap (λ (m : FirstMap). fin.insert m (c.args.lo, c.args.hi) c.args.first) c.self.view_is
 
 pub invariant_of-self-then-is_past-2 : goal.invariant_of-self-then-is_past-2
 invariant_of-self-then-is_past-2 c =
-    let none = none_of_joined c.self.inside.rising (flipped c.self.inside.turned) (c.args.lo, c.args.hi) (rw (← c.self.view_is) at c.requires) in
+    let none = none_of_joined c.self.inside.rising (all_turned c.self.inside.turned) (c.args.lo, c.args.hi) (rw (← c.self.view_is) at c.requires) in
     subst (λ exchanged. AreRuns c.self.inside.rising exchanged c.self.inside.marks) (sym c.in_ok-push-2.ensures.ok)
-    (exchanged_more c.self.inside.rising c.self.inside.turned c.self.inside.marks c.args.lo c.args.hi c.args.first c.self.invariant none.0)
+    (turned_more c.self.inside.rising c.self.inside.turned c.self.inside.marks c.args.lo c.args.hi c.args.first c.self.invariant none.0)
 
 pub returns-then-is_past-2-clause-ok : goal.returns-then-is_past-2-clause-ok
 returns-then-is_past-2-clause-ok c =
     let rising = c.self.inside.rising in
-    let none = none_of_joined rising (flipped c.self.inside.turned) (c.args.lo, c.args.hi) (rw (← c.self.view_is) at c.requires) in
-    ap (λ exchanged. joined rising (flipped exchanged)) c.in_ok-push-2.ensures.ok ∙ ap (joined rising) (flipped-insert c.self.inside.turned c.args.lo c.args.hi c.args.first)
-    ∙ joined-insert_back rising (flipped c.self.inside.turned) (c.args.lo, c.args.hi) c.args.first none.0
+    let none = none_of_joined rising (all_turned c.self.inside.turned) (c.args.lo, c.args.hi) (rw (← c.self.view_is) at c.requires) in
+    ap (λ exchanged. joined rising (all_turned exchanged)) c.in_ok-push-2.ensures.ok ∙ ap (joined rising) (all_turned-insert c.self.inside.turned c.args.lo c.args.hi c.args.first)
+    ∙ joined-insert_back rising (all_turned c.self.inside.turned) (c.args.lo, c.args.hi) c.args.first none.0
     ∙ ap (λ (m : FirstMap). fin.insert m (c.args.lo, c.args.hi) c.args.first) c.self.view_is
