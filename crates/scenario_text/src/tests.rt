@@ -1,8 +1,10 @@
 //! Scenarios from outside, and scenarios that are built.
+ghost use Rattle.std.specs.Prelude.{◌≡◌, ◌∷◌, [], IfOk};
+
 use crate::{
     Announcement, LimitOf, Member, PartOf, Place, Scenario, ScenarioError, put_place, read_scenario,
 };
-use net_names::{Asn, Path, read_addr, read_prefix};
+use net_names::{Asn, NoMemory, Path, Prefix, read_addr, read_prefix};
 use policy_kinds::Kind;
 use std::alloc::{AllocError, Global};
 use std::process::Abort;
@@ -205,25 +207,36 @@ fn a_scenario_is_read_as_its_four_lists(rt: HostRuntime) -> Result<(), Fail> {
     Ok(())
 }
 
+fn announcement(alloc: Global, prefix: Prefix, asn: Asn) -> Result<Announcement, NoMemory>
+    ensures { IfOk result (λ a. (a.prefix ≡ prefix) × (a.asn ≡ asn) × (a.path ≡ asn ∷ [])) }
+{
+    let mut path = Path::new(alloc);
+    path.push(asn)?;
+    Ok(Announcement { prefix, asn, path })
+}
+
 #[test]
 fn a_scenario_is_built_call_by_call(rt: HostRuntime) -> Result<(), Fail> {
     let alloc = rt.alloc();
     let asn = Asn::new(4).ok_or("a number")?;
+    let other = Asn::new(5).ok_or("a number")?;
     let prefix = read_prefix(b"0.0.0.0/0").ok_or("a prefix")?;
     let addr = read_addr(b"10.0.0.1").ok_or("an address")?;
-    let mut path = Path::new(alloc);
-    path.push(asn)?;
     let mut scenario = Scenario::new(alloc);
-    scenario.announce(Announcement { prefix, asn, path })?;
+    scenario.announce(announcement(alloc, prefix, asn)?)?;
+    scenario.announce(announcement(alloc, prefix, other)?)?;
     scenario.set_policy(asn, Kind::Otc)?;
+    scenario.set_policy(other, Kind::Plain)?;
     scenario.new_round()?;
     scenario.leaker(asn)?;
+    scenario.leaker(other)?;
     scenario.watch(addr)?;
-    let announcement = scenario.announcement_at(0).ok_or("an announcement")?;
-    assert!(rt; announcement.prefix == prefix && announcement.asn == asn);
+    let last = scenario.announcement_at(1).ok_or("an announcement")?;
+    assert!(rt; last.prefix == prefix && last.asn == other);
     assert!(rt; scenario.policy_at(0) == Some((asn, Kind::Otc)));
-    assert!(rt; scenario.leak_lists() == 1 && scenario.leaker_at(0, 0) == Some(asn));
-    assert!(rt; scenario.watch_at(0) == Some(addr));
+    assert!(rt; scenario.policy_at(1) == Some((other, Kind::Plain)));
+    assert!(rt; scenario.leak_lists() == 1 && scenario.leaker_at(0, 1) == Some(other));
+    assert!(rt; scenario.watch_at(0) == Some(addr) && scenario.watch_at(1).is_none());
     Ok(())
 }
 
