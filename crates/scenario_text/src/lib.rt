@@ -30,7 +30,8 @@ pub use lines::{Line, Lines};
 pub use place_texts::{place_string, put_place};
 pub use places::{Member, PartOf, Place};
 pub use reading::read_scenario;
-pub use scenario::{Announcement, Leakers, Scenario};
+pub use lists::Leakers;
+pub use scenario::{Announcement, Scenario};
 pub use script::{ScriptError, read_script};
 
 #[cfg(test)]

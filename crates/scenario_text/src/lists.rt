@@ -8,7 +8,7 @@ use std::marker::Model;
 
 /// The leakers of a round. Contracts see their numbers.
 #[derive(Drop)]
-pub(crate) struct Leakers {
+pub struct Leakers {
     pub(crate) numbers: Vec<Asn>,
 }
 
@@ -22,7 +22,7 @@ impl Model for Leakers {
 
 impl Leakers {
     /// The leakers in their order.
-    pub(crate) fn as_slice(&self) -> &[Asn]
+    pub fn as_slice(&self) -> &[Asn]
         ensures { result.now ≡ self.now }
     {
         self.numbers.as_slice()
