@@ -16,14 +16,17 @@ kept_bits a n m h = same_from_bits _ _ (λ i.
     (bit_at_and (bit_or a n) m i ∙ ap (λ x. min x (bit_at m i)) (bit_at_or a n i))
     (sym (bit_at_and a m i) ∙ ap (λ x. bit_at x i) h))
 
-pub still_marked : (words : List ℕ) (at w bits : ℕ) (pair : ℕ × ℕ) → w ≡ get_or words at w → at < length words → IsMarked words pair → IsMarked (set words at (bit_or w bits)) pair
-still_marked words at w bits pair is inside h = (rw length-set h.0, by_word (nat_eq (word_of pair) at) refl)
+pub still_marked : (words : List ℕ) (at w bits : ℕ) → w ≡ get_or words at w → at < length words → (pair : ℕ × ℕ) → IsMarked words pair → IsMarked (set words at (bit_or w bits)) pair
+still_marked words at w bits is inside pair h within = by_word (nat_eq (word_of pair) at) refl
   where
+    was : bit_and (get_or words (word_of pair) 0) (bits_of pair) ≡ bits_of pair
+    was = h (rw length-set at within)
+
     by_word : (b : Bool) → nat_eq (word_of pair) at ≡ b → bit_and (get_or (set words at (bit_or w bits)) (word_of pair) 0) (bits_of pair) ≡ bits_of pair
     by_word true e =
         let same : word_of pair ≡ at = eqb-true _ _ e in
         let here : get_or words at 0 ≡ w = get_or_default words at 0 w inside ∙ sym is in
-        rw (same, get_or-set_same) (kept_bits w bits (bits_of pair) (rw (same, here) at h.1))
+        rw (same, get_or-set_same) (kept_bits w bits (bits_of pair) (rw (same, here) at was))
     by_word false e =
         let other = eqb-false _ _ e in
-        rw get_or-set_other h.1
+        rw get_or-set_other was

@@ -1,11 +1,11 @@
 -- Entries whose pairs rise, as a map.
-use Rattle.std.proofs.Common.{◌≡◌, ℕ, ◌-◌, ◌<◌, List, [], ◌∷◌, ◌++◌, length, get_or, refl, sym, ap, subst, ◌∙◌, arith, T, Ok, Err, Some, None, cond, All, Bool, true, false, ◌&&◌}
+use Rattle.std.proofs.Common.{◌≡◌, ℕ, ◌-◌, ◌<◌, List, [], ◌∷◌, ◌++◌, length, get_or, refl, sym, ap, subst, ◌∙◌, arith, T, Result, Ok, Err, OnOk, OnErr, Some, None, IsSome, cond, All, Bool, true, false, ◌&&◌}
 use Rattle.std.specs.FinMap as fin
 use Rattle.std.specs.List.{insert, HoldsAt, AllByRecursion}
 use Rattle.std.specs.Map.{keys_of}
 use Rattle.std.proofs.lemmas.List.Edits.{insert_end}
 use Rattle.std.proofs.lemmas.Map.Keys.{sorted_head, sorted_tail}
-use Rattle.std.specs.Ordering.{is_eq, ordering_reverse}
+use Rattle.std.specs.Ordering.{eq_by_cmp, is_eq, ordering_reverse}
 use Rattle.std.proofs.lemmas.List.Elements.{All-tail}
 use Rattle.std.specs.List.Sorted.{IsSearchInRange, IsBinarySearchResult, IsStrictlySortedBy}
 use Rattle.std.specs.declared.cmp.Ordering.TheVariants.{Less}
@@ -13,7 +13,9 @@ use Rattle.net_names.specs.Links.{pair_cmp}
 use Rattle.net_names.proofs.Pairs.{exact_pair, pairs_total}
 use Rattle.net_names.proofs.Rising as rising
 use Rattle.caida_reader.specs.Value.{FirstMap}
-use Rattle.caida_reader.specs.Runs.{IsPast}
+use Rattle.caida_reader.specs.Marks.{IsMarked}
+use Rattle.caida_reader.specs.Runs.{IsPast, AreMarked}
+use Rattle.caida_reader.proofs.PairLemmas.{same_pair}
 use Rattle.caida_reader.specs.declared.firsts.First.{First}
 
 abbrev pub Entry : Type 0
@@ -105,3 +107,20 @@ pub entries-from_entries : (es : List Entry) → IsStrictlySortedBy pair_cmp (ke
 entries-from_entries es h =
     let sorted = rises_strictly es h in
     ap (λ (m : FirstMap). fin.entries m) (fin.same_map pairs_total exact_pair _ _ (λ q. fin.get-from_entries pairs_total es q ∙ sym (fin.get-from_sorted pair_cmp es q sorted))) ∙ entries-run_of es sorted
+
+-- what holds of each pair in the list holds of one that is found
+found_holds : (P : ℕ × ℕ → Type 0) (es : List Entry) (k : ℕ × ℕ) → All (λ e. P e.0) es → IsSome (fin.find pair_cmp k es) → P k
+found_holds P [] k h is = cc
+found_holds P (e ∷ es) k h is = by_first (eq_by_cmp pair_cmp k e.0) refl is (found_holds P es k (All-tail (λ (d : Entry). P d.0) e es h))
+  where
+    by_first : (b : Bool) → eq_by_cmp pair_cmp k e.0 ≡ b → IsSome (cond b (Some e.1) (fin.find pair_cmp k es)) → (IsSome (fin.find pair_cmp k es) → P k) → P k
+    by_first true ties some later = subst P (sym (same_pair k e.0 ties)) (h 0 e (omega arith))
+    by_first false ties some later = later some
+
+are_marked : (m : FirstMap) (marks : List ℕ) → All (λ e. IsMarked marks e.0) (fin.entries m) → AreMarked m marks
+are_marked m marks all k is = found_holds (IsMarked marks) (fin.entries m) k all (rw fin.get-entries at is)
+
+-- they stay so where the marks are made anew, or memory ran out
+pub marked_anew : {T E : Type 0} (m : FirstMap) (old new : List ℕ) (r : Result T E) → OnOk r (All (λ e. IsMarked new e.0) (fin.entries m)) → OnErr r (new ≡ old) → AreMarked m old → AreMarked m new
+marked_anew m old new (Ok x) all same before = are_marked m new all
+marked_anew m old new (Err e) all same before = subst (AreMarked m) (sym same) before

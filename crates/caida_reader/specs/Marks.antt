@@ -18,6 +18,6 @@ bit_from pair shift = 1 * 2 ^ (mixed pair / 2 ^ shift % 64) % 2 ^ 64
 unfoldable pub bits_of : ℕ × ℕ → ℕ
 bits_of pair = bit_or (bit_or (bit_from pair 41) (bit_from pair 35)) (bit_from pair 29)
 
--- The pair is marked: its bits are set in its word (own rule).
+-- The pair is marked: its bits are set in its word, where that is there (own rule).
 abbrev pub IsMarked : List ℕ → ℕ × ℕ → Type 0
-IsMarked words pair = (word_of pair < length words) × (bit_and (slice_index words (word_of pair)) (bits_of pair) ≡ bits_of pair)
+IsMarked words pair = word_of pair < length words → bit_and (slice_index words (word_of pair)) (bits_of pair) ≡ bits_of pair

@@ -30,10 +30,14 @@ all_turned pairs = fin.from_entries (map turned (fin.entries pairs))
 abbrev pub AreApart : FirstMap → FirstMap → Type 0
 AreApart front back = (pair : ℕ × ℕ) → IsSome (fin.get back pair) → fin.get front pair ≡ None
 
+-- The pairs that stand are marked (own rule).
+abbrev pub AreMarked : FirstMap → List ℕ → Type 0
+AreMarked pairs marks = (pair : ℕ × ℕ) → IsSome (fin.get pairs pair) → IsMarked marks pair
+
 -- Two runs, of which the second has its pairs with the ends exchanged: no pair stands in both, and those of the first are marked (own rule).
 pub record AreRuns (rising exchanged : FirstMap) (marks : List ℕ) : Type 0 where
   pub apart : AreApart rising (all_turned exchanged)
-  pub marked : (pair : ℕ × ℕ) → IsSome (fin.get rising pair) → IsMarked marks pair
+  pub marked : AreMarked rising marks
 
 -- The link of a pair with its first line (own rule).
 abbrev pub link_of : (ℕ × ℕ) × First → Link

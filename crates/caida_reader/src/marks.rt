@@ -1,28 +1,27 @@
 // Marks of pairs. Where the pairs that stand are marked, one that isn't needs no search.
-ghost use Rattle.std.specs.Prelude.{◌≡◌, ◌<◌, ◌↔◌, ℕ, IsTrue, OnOk, length};
+ghost use Rattle.std.specs.Prelude.{◌≡◌, ◌↔◌, ℕ, All, IsTrue, OnOk, OnErr};
 ghost use Rattle.caida_reader.specs.Marks.{word_of, bits_of, IsMarked};
 
+use crate::firsts::First;
 use net_names::{Asn, NoMemory};
 use std::alloc::Global;
 use std::marker::Model;
 
-/// How many words there are once a pair is marked. Where 1,500,000 pairs are, one in fourteen of the others seems to be too.
+/// How many words there are. Where 1,500,000 pairs are marked, one in fourteen of the others seems to be too.
 const WORDS: usize = 131_072;
 
-/// Marks of pairs. A few pairs seem to be marked that never were.
+/// Marks of pairs: at first all pairs, and then those that were marked, and a few others.
 #[derive(Drop)]
 pub(crate) struct Marks {
     words: Vec<u64>,
 }
 
 impl Model for Marks {
-    ghost use Rattle.std.specs.Prelude.{◌≡◌, ◌<◌, ℕ, List, length};
+    ghost use Rattle.std.specs.Prelude.{ℕ, List};
 
     ghost Value = { List ℕ };
 
     ghost view = { λ a. a.words.items };
-
-    ghost invariant = { λ a. 0 < length a.words.items → length a.words.items ≡ 131072 };
 }
 
 /// Where a pair is marked.
@@ -36,7 +35,6 @@ struct Spot {
 fn spot_of(lo: Asn, hi: Asn) -> Spot
     ensures word { result.word ≡ word_of (lo, hi) }
     ensures bits { result.bits ≡ bits_of (lo, hi) }
-    ensures within { result.word < 131072 }
 {
     let pair = lo.get() as u64 * 0x1_0000_0000 + hi.get() as u64;
     let mixed = pair.wrapping_mul(0x9e37_79b9_7f4a_7c15);
@@ -48,9 +46,19 @@ fn spot_of(lo: Asn, hi: Asn) -> Spot
     }
 }
 
+// Words without a mark.
+fn make_words(alloc: Global) -> Result<Vec<u64>, NoMemory> {
+    match vec![in alloc; 0; WORDS] {
+        Ok(words) => Ok(words),
+        Err(_) => Err(NoMemory),
+    }
+}
+
 impl Marks {
-    /// No marks.
-    pub(crate) fn new(alloc: Global) -> Marks {
+    /// Marks of all pairs, which take no memory.
+    pub(crate) fn new(alloc: Global) -> Marks
+        ensures { (pair : ℕ × ℕ) → IsMarked result pair }
+    {
         Marks {
             words: Vec::new(alloc),
         }
@@ -62,39 +70,31 @@ impl Marks {
     {
         let spot = spot_of(lo, hi);
         if spot.word >= self.words.len() {
-            return false;
+            return true;
         }
         self.words[spot.word] & spot.bits == spot.bits
     }
 
-    // Has the words made, where they aren't yet.
-    fn open(&mut self) -> Result<(), NoMemory>
-        ensures ok { OnOk result (length self.new ≡ 131072) }
+    /// Marks the pair. What was marked stays so.
+    pub(crate) fn mark(&mut self, lo: Asn, hi: Asn)
+        ensures marked { IsMarked self.new (lo, hi) }
         ensures kept { (pair : ℕ × ℕ) → IsMarked self.old pair → IsMarked self.new pair }
     {
-        if !self.words.is_empty() {
-            return Ok(());
-        }
-        match vec![in *self.words.allocator(); 0; WORDS] {
-            Ok(words) => {
-                self.words = words;
-                Ok(())
-            }
-            Err(_) => Err(NoMemory),
+        let spot = spot_of(lo, hi);
+        if spot.word < self.words.len() {
+            self.words[spot.word] |= spot.bits;
         }
     }
 
-    /// Marks the pair. What was marked stays so.
-    pub(crate) fn mark(&mut self, lo: Asn, hi: Asn) -> Result<(), NoMemory>
-        ensures marked { OnOk result (IsMarked self.new (lo, hi)) }
-        ensures kept { (pair : ℕ × ℕ) → IsMarked self.old pair → IsMarked self.new pair }
+    /// Marks these pairs, in place of what was marked.
+    pub(crate) fn mark_only(&mut self, entries: &[((Asn, Asn), First)]) -> Result<(), NoMemory>
+        ensures marked { OnOk result (All (λ e. IsMarked self.new e.0) entries.now) }
+        ensures err { OnErr result (self.new ≡ self.old) }
     {
-        match self.open() {
-            Ok(()) => {}
-            Err(error) => return Err(error),
+        self.words = make_words(*self.words.allocator())?;
+        'entries: for entry in entries {
+            self.mark(entry.0.0, entry.0.1);
         }
-        let spot = spot_of(lo, hi);
-        self.words[spot.word] |= spot.bits;
         Ok(())
     }
 }

@@ -1,8 +1,7 @@
 // Pairs in two runs.
-ghost use Rattle.std.specs.Prelude.{◌≡◌, ℕ, ◌++◌, None, IsSome, IfOk, OnErr, map, if◌then◌else◌};
+ghost use Rattle.std.specs.Prelude.{◌≡◌, ◌++◌, None, IfOk, OnErr, map, if◌then◌else◌};
 ghost use Rattle.std.specs.FinMap as fin;
-ghost use Rattle.caida_reader.specs.Marks.{IsMarked};
-ghost use Rattle.caida_reader.specs.Runs.{link_of, turned, Lists};
+ghost use Rattle.caida_reader.specs.Runs.{link_of, turned, AreMarked, Lists};
 
 use crate::firsts::First;
 use crate::marks::Marks;
@@ -11,9 +10,12 @@ use net_names::{Asn, Link, NoMemory};
 use std::alloc::{AllocError, Global};
 use std::marker::Model;
 
+/// As many pairs as a run has before they are marked.
+const LONG: usize = 4096;
+
 /// Pairs, each with its first line. In a file whose lines rise, the pairs of lines with the lower number first rise, and
 /// those of the other lines do with their ends exchanged: each is put in at once. The rising pairs are marked, so that
-/// among them hardly one is searched for.
+/// hardly one is searched for among them in vain.
 #[derive(Drop)]
 pub(crate) struct Runs {
     rising: Run,
@@ -35,9 +37,20 @@ impl Model for Runs {
     ghost invariant = { λ a. AreRuns a.rising a.turned a.marks };
 }
 
+// Sets the marks of a run's pairs apart from the others' once the run is long: searches cost more than marks from there on.
+fn mark_long(run: &Run, marks: &mut Marks) -> Result<(), NoMemory>
+    requires { AreMarked run.now marks.old }
+    ensures { AreMarked run.now marks.new }
+{
+    if run.as_slice().len() != LONG {
+        return Ok(());
+    }
+    marks.mark_only(run.as_slice())
+}
+
 // The first line of a pair of a run whose pairs are marked. A pair that isn't marked is not searched for.
 fn get_marked(run: &Run, marks: &Marks, lo: Asn, hi: Asn) -> Option<First>
-    requires { (pair : ℕ × ℕ) → IsSome (fin.get run.now pair) → IsMarked marks.now pair }
+    requires { AreMarked run.now marks.now }
     ensures { result ≡ fin.get run.now (lo, hi) }
 {
     if !run.is_past(lo, hi) && !marks.has(lo, hi) {
@@ -101,7 +114,8 @@ impl Runs {
         ensures err { OnErr result (self.new ≡ self.old) }
     {
         if self.rising.is_past(lo, hi) {
-            self.marks.mark(lo, hi)?;
+            mark_long(&self.rising, &mut self.marks)?;
+            self.marks.mark(lo, hi);
             self.rising.push(lo, hi, first)?;
             return Ok(true);
         }

@@ -1,11 +1,10 @@
-use Rattle.std.proofs.Common.{◌<◌, length, sym, ap, subst, List, ℕ, arith}
+use Rattle.std.proofs.Common.{◌<◌, length, sym, subst, arith}
 use Rattle.caida_reader.specs.Marks.{IsMarked}
 use Rattle.caida_reader.proofs.MarkLemmas.{still_marked}
 use Rattle.caida_reader.proofs.marks.Marks.mark.Goals as goal
 
-pub returns-clause-kept : goal.returns-clause-kept
-returns-clause-kept c = λ pair marked.
-    let words = c.self.inside.words.items in
-    let inside : c.spot_of-spot.result.word < length words = omega (arith, c.spot_of-spot.ensures.within, ap (λ (ws : List ℕ). length ws) c.self.view_is, c.in-Ok.ensures.ok) in
-    still_marked words c.spot_of-spot.result.word c.index_mut.result.now c.spot_of-spot.result.bits pair c.index_mut.ensures.value inside
-    (subst (λ ws. IsMarked ws pair) (sym c.self.view_is) (c.open.ensures.kept pair marked))
+pub returns-then-spot-len-clause-kept : goal.returns-then-spot-len-clause-kept
+returns-then-spot-len-clause-kept c = λ pair marked.
+    let inside : c.spot_of-spot.result.word < length c.self.inside.words.items = omega (arith, c.if-spot-len.true, c.len.ensures, c.self.inside.words.ok.0) in
+    still_marked c.self.inside.words.items c.spot_of-spot.result.word c.index_mut.result.now c.spot_of-spot.result.bits c.index_mut.ensures.value inside pair
+    (subst (λ words. IsMarked words pair) (sym c.self.view_is) marked)

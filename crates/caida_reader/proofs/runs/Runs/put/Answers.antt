@@ -9,8 +9,9 @@ pub invariant_of-self-then-is_past : goal.invariant_of-self-then-is_past
 invariant_of-self-then-is_past c =
     let exchanged = all_turned c.self.inside.turned in
     let none = none_of_joined c.self.inside.rising exchanged (c.args.lo, c.args.hi) (rw (← c.self.view_is) at c.requires) in
+    let are : AreRuns c.self.inside.rising c.self.inside.turned c.mark_long.new.marks = record { apart = c.self.invariant.apart; marked = c.mark_long.ensures } in
     subst (λ rising. AreRuns rising c.self.inside.turned c.mark.new.self) (sym c.in_ok-push.ensures.ok)
-    (rising_more c.self.inside.rising c.self.inside.turned c.self.inside.marks c.mark.new.self (c.args.lo, c.args.hi) c.args.first c.self.invariant none.1 c.in_ok-mark.ensures.marked c.mark.ensures.kept)
+    (rising_more c.self.inside.rising c.self.inside.turned c.mark_long.new.marks c.mark.new.self (c.args.lo, c.args.hi) c.args.first are none.1 c.mark.ensures.marked c.mark.ensures.kept)
 
 pub returns-then-is_past-clause-ok : goal.returns-then-is_past-clause-ok
 returns-then-is_past-clause-ok c =
