@@ -5,7 +5,7 @@ use Rattle.net_names.specs.declared.routes.Rel.TheVariants.{Customer}
 use Rattle.net_names.specs.Numbers.{IsDistinct, first_or, last_or}
 use Rattle.as_graph.specs.Topology.{Topology, what}
 
--- each AS of the list is a provider of the next
+-- each AS of the list is a provider of the next (Gao and Rexford 2001)
 abbrev pub IsDescent : (ℕ → ℕ → Option Rel) → List ℕ → Type 0
 IsDescent what [] = ⊤
 IsDescent what (a ∷ []) = ⊤
@@ -19,11 +19,11 @@ pub record IsProviderCycle (what : ℕ → ℕ → Option Rel) (xs : List ℕ) :
   pub descends : IsDescent what xs
   pub closes : what (last_or 0 xs) (first_or 0 xs) ≡ Some Customer
 
--- no list of ASes is a provider cycle
+-- no list of ASes is a provider cycle (Gao and Rexford 2001)
 abbrev pub HasNoProviderCycle : (ℕ → ℕ → Option Rel) → Type 0
 HasNoProviderCycle what = (xs : List ℕ) → IsProviderCycle what xs → ⊥
 
--- a chain from a: distinct ASes, a the first, each a provider of the next
+-- a chain from a: distinct ASes, a the first, each a provider of the next (own rule)
 pub record IsChainFrom (what : ℕ → ℕ → Option Rel) (a : ℕ) (xs : List ℕ) : Type 0 where
   pub starts : (rest : List ℕ) × (xs ≡ a ∷ rest)
   pub distinct : IsDistinct xs
@@ -40,14 +40,14 @@ pub record RankFits (what : ℕ → ℕ → Option Rel) (rank : ℕ → ℕ) (a 
   pub above : (b : ℕ) → what a b ≡ Some Customer → suc (rank b) ≤ rank a
   pub reached : (rank a ≡ 0) ⊎ ((b : ℕ) × (what a b ≡ Some Customer) × (rank a ≡ suc (rank b)))
 
--- numbers that fit at every AS are the ranks
+-- numbers that fit at every AS are the ranks (own rule)
 abbrev pub FittingAreRanks : Type 0
 FittingAreRanks = (what : ℕ → ℕ → Option Rel) (rank : ℕ → ℕ) → ((a : ℕ) → RankFits what rank a) → (a : ℕ) → IsRank what a (rank a)
 
--- in a graph without a provider cycle, ranks fit at every AS
+-- in a graph without a provider cycle, ranks fit at every AS (own rule)
 abbrev pub RanksFit : Type 0
 RanksFit = (w : Topology) (rank : ℕ → ℕ) → HasNoProviderCycle (what w) → ((a : ℕ) → IsRank (what w) a (rank a)) → (a : ℕ) → RankFits (what w) rank a
 
--- an AS has at most one rank
+-- an AS has at most one rank (own rule)
 abbrev pub OneRank : Type 0
 OneRank = (what : ℕ → ℕ → Option Rel) (a r s : ℕ) → IsRank what a r → IsRank what a s → r ≡ s

@@ -8,41 +8,41 @@ use Rattle.net_names.specs.declared.routes.Rel.{Rel}
 use Rattle.net_names.specs.Links.{LinkMap, link_map_code, between}
 use Rattle.net_names.specs.Numbers.{occurs}
 
--- the links, and the marked ASes, which are there without a link too
+-- the links, and the marked ASes, which are there without a link too (own rule)
 pub record Topology : Type 0 where
   pub links : LinkMap
   pub marked : set.FinSet nat_cmp
 
--- stored as the pair of its fields
+-- stored as the pair of its fields (own rule)
 abbrev pub topology_code : Coded Topology
 topology_code =
     code_by (LinkMap × set.FinSet nat_cmp) (coded× link_map_code (set.code coded_ℕ)) (λ g. (g.links, g.marked)) (λ p. record { links = p.0; marked = p.1 }) (λ _. refl)
 
--- what b is to a: customer, peer, provider or nothing
+-- what b is to a: customer, peer, provider or nothing (RFC 9234, section 4)
 abbrev pub what : Topology → ℕ → ℕ → Option Rel
 what g a b = between g.links a b
 
--- both ends of each link
+-- both ends of each link (own rule)
 abbrev pub ends_of : List ((ℕ × ℕ) × Rel) → List ℕ
 ends_of [] = []
 ends_of (e ∷ es) = e.0.0 ∷ e.0.1 ∷ ends_of es
 
--- the marked ASes and the ends of links, some twice
+-- the marked ASes and the ends of links, some twice (own rule)
 abbrev pub ases : Topology → List ℕ
 ases g = set.items g.marked ++ ends_of (map.entries g.links)
 
--- a is an AS of the graph: it is marked, or an end of a link
+-- a is an AS of the graph: it is marked, or an end of a link (own rule)
 abbrev pub has : Topology → ℕ → Bool
 has g a = occurs a (ases g)
 
--- how many ASes the graph has, each counted once
+-- how many ASes the graph has, each counted once (own rule)
 abbrev pub as_count : Topology → ℕ
 as_count g = set.len (set.from_list {R = nat_cmp} (ases g))
 
--- the graph with these links and no marks
+-- the graph with these links and no marks (own rule)
 abbrev pub unmarked : LinkMap → Topology
 unmarked links = record { links = links; marked = set.empty }
 
--- the graph with a mark on a, and all else as before
+-- the graph with a mark on a, and all else as before (own rule)
 abbrev pub with_mark : Topology → ℕ → Topology
 with_mark g a = record g { marked = set.insert g.marked a }

@@ -12,7 +12,7 @@ ghost use Rattle.as_graph.specs.Ends.{ends_at, AreByAs};
 ghost use Rattle.as_graph.specs.Gathering.{AreGathered, IsGatherRefusal};
 ghost use Rattle.as_graph.specs.Graphs.{IsBuilt, MakesRow, MarksOnly};
 
-use crate::ends::{End, higher_side, lower_side, next_end, take_run};
+use crate::ends::{End, higher_side, lower_side, next_end, row_for, take_run};
 use crate::error::GraphError;
 use crate::row::Row;
 use indexmap::IndexMap;
@@ -65,7 +65,7 @@ fn gather(alloc: Global, higher: &[End], lower: &[End]) -> Result<IndexMap<Asn, 
     let mut from_higher = 0;
     let mut from_lower = 0;
     while let Some(asn) = next_end(higher, from_higher, lower, from_lower) {
-        let mut row = Row::new(alloc);
+        let mut row = row_for(alloc, higher, from_higher, lower, from_lower, asn)?;
         from_higher = take_run(&mut row, higher, from_higher, asn)?;
         from_lower = take_run(&mut row, lower, from_lower, asn)?;
         rows.insert(asn, row)?;

@@ -1,5 +1,5 @@
 //! The two ends of each link, by the AS that stands there.
-ghost use Rattle.std.specs.Prelude.{◌≡◌, ◌<◌, ◌≤◌, ◌++◌, ℕ, length, slice_get, drop, slice_index_or, IfOk, OnOk, IfSome, IfNone};
+ghost use Rattle.std.specs.Prelude.{◌≡◌, ◌<◌, ◌≤◌, ◌++◌, ℕ, length, [], false, slice_get, drop, slice_index_or, IfOk, OnOk, IfSome, IfNone};
 ghost use Rattle.std.specs.FinMap as map;
 ghost use Rattle.as_graph.specs.Rows.{IsRising};
 ghost use Rattle.as_graph.specs.Ends.{lower_ends, higher_ends, ends_at, at_of, AreTurned, AreByAs, IsRun, IsNextEnd};
@@ -82,6 +82,34 @@ pub fn next_end(higher: &[End], j: usize, lower: &[End], i: usize) -> Option<Asn
         (None, Some(l)) => Some(l),
         (None, None) => None,
     }
+}
+
+// How many ends from a place on are those of the AS.
+fn run_length(ends: &[End], from: usize, asn: Asn) -> usize {
+    match ends.get(from..) {
+        Some(rest) => rest.iter().take_while(|end| end.at == asn).count(),
+        None => 0,
+    }
+}
+
+/// An empty row with room for the neighbours at an AS's ends, which begin at place `j` of the higher
+/// ends and place `i` of the lower ends.
+pub fn row_for(
+    alloc: Global,
+    higher: &[End],
+    j: usize,
+    lower: &[End],
+    i: usize,
+    asn: Asn,
+) -> Result<Row, AllocError>
+    ensures none { IfOk result (λ r. r.neighbours.items ≡ []) }
+    ensures unmarked { IfOk result (λ r. r.marked ≡ false) }
+{
+    let lower_count = run_length(lower, i, asn);
+    Row::with_room(
+        alloc,
+        run_length(higher, j, asn).saturating_add(lower_count),
+    )
 }
 
 /// Puts the neighbours at an AS's ends into its row. Returns the place behind these ends.

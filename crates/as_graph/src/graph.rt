@@ -13,6 +13,7 @@ use crate::build::{MOST_ASES, make_row, order_of, rows_of, set_mark};
 use crate::error::GraphError;
 use crate::neighbour::Neighbour;
 use crate::order::{put_in_order, start_above};
+use crate::places::{Places, places_of};
 use crate::row::Row;
 use indexmap::IndexMap;
 use net_names::{Asn, Links, Rel};
@@ -28,6 +29,7 @@ pub struct Graph {
     rows: IndexMap<Asn, Row>,
     order: Vec<Asn>,
     links: usize,
+    places: Places,
 }
 
 impl Model for Graph {
@@ -56,11 +58,13 @@ impl Graph {
     {
         let rows = rows_of(alloc, links)?;
         let order = order_of(alloc, &rows)?;
+        let places = places_of(alloc, &rows)?;
         Ok(Graph {
             alloc,
             rows,
             order,
             links: links.len(),
+            places,
         })
     }
 
@@ -102,6 +106,44 @@ impl Graph {
             Some(row) => row.as_slice(),
             None => &[],
         }
+    }
+
+    /// The neighbours of an AS, as `neighbours` gives them, sought first in the row at a place.
+    pub fn neighbours_near(&self, asn: Asn, place: usize) -> &[Neighbour]
+        ensures { AreNeighbours (what self.now) asn result.now }
+    {
+        match self.rows.get_index(place) {
+            Some((found, row)) if *found == asn => row.as_slice(),
+            _ => self.neighbours(asn),
+        }
+    }
+
+    /// Where the rows of the neighbours of the AS at a place stand, in the order of the neighbours.
+    /// These are hints: no contract says what they are, and whoever uses one compares the number
+    /// that stands there.
+    pub fn neighbour_places(&self, place: usize) -> &[u32] {
+        match self.places.get(place) {
+            Some(places) => places.as_slice(),
+            None => &[],
+        }
+    }
+
+    /// Where the row of an AS stands among the rows, sought first at a place. It is a hint, as in
+    /// [`Graph::neighbour_places`].
+    pub fn place_near(&self, asn: Asn, place: usize) -> usize {
+        match self.rows.get_index(place) {
+            Some((found, _)) if *found == asn => place,
+            _ => self.rows.get_index_of(&asn).unwrap_or(0),
+        }
+    }
+
+    /// The ASes that have a row, each once, in the order of the rows. All ASes of the graph are
+    /// among them.
+    pub fn rows(&self) -> &[Asn]
+        ensures complete { (a : ℕ) → has self.now a ≡ true → occurs a result.now ≡ true }
+        ensures apart { IsDistinct nat_eq result.now }
+    {
+        self.rows.keys().as_slice()
     }
 
     /// Whether the AS is an AS of the graph.

@@ -12,6 +12,7 @@ mod graph;
 mod laws;
 mod neighbour;
 mod order;
+mod places;
 mod row;
 
 pub use error::GraphError;

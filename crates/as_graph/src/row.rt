@@ -30,6 +30,18 @@ impl Row {
         }
     }
 
+    /// The row of an AS without a mark and with room for so many neighbours, of which there is none
+    /// yet.
+    pub fn with_room(alloc: Global, neighbours: usize) -> Result<Row, AllocError>
+        ensures none { IfOk result (λ r. r.neighbours.items ≡ []) }
+        ensures unmarked { IfOk result (λ r. r.marked ≡ false) }
+    {
+        Ok(Row {
+            marked: false,
+            neighbours: SmallVec::with_capacity(alloc, neighbours)?,
+        })
+    }
+
     /// The neighbours.
     pub fn as_slice(&self) -> &[Neighbour]
         ensures value { result.now ≡ self.now.neighbours.items }

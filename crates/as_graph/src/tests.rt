@@ -73,6 +73,25 @@ fn ases_of_a_diamond_come_in_rising_order(rt: HostRuntime) -> Result<(), Fail> {
 }
 
 #[test]
+fn neighbours_are_found_near_any_place(rt: HostRuntime) -> Result<(), Fail> {
+    let graph = diamond(rt.alloc())?;
+    let rows = graph.rows();
+    assert_eq!(rt; rows.len(), 5);
+    for (place, a) in rows.iter().enumerate() {
+        assert_eq!(rt; graph.place_near(*a, 0), place);
+        let neighbours = graph.neighbours(*a);
+        assert!(rt; graph.neighbours_near(*a, place) == neighbours);
+        assert!(rt; graph.neighbours_near(*a, 2) == neighbours);
+        let places = graph.neighbour_places(place);
+        assert_eq!(rt; places.len(), neighbours.len());
+        for (neighbour, there) in neighbours.iter().zip(places.iter()) {
+            assert_eq!(rt; rows.get(*there as usize).copied(), Some(neighbour.asn));
+        }
+    }
+    Ok(())
+}
+
+#[test]
 fn no_links_make_a_graph_without_ases(rt: HostRuntime) -> Result<(), Fail> {
     let graph = Graph::build(rt.alloc(), &Links::new(rt.alloc()))?;
     assert_eq!(rt; graph.as_count(), 0);

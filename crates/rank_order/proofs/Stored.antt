@@ -1,5 +1,5 @@
 -- The ranks that a stored map and a list tell.
-use Rattle.std.proofs.Common.{◌≡◌, ℕ, ◌<◌, Bool, true, false, ◌||◌, ◌==◌, nat_eq, cond, Some, List, [], ◌∷◌, ◌++◌, length, get_or, take, refl, sym, ◌∙◌, ap, arith, is_some}
+use Rattle.std.proofs.Common.{◌≡◌, ℕ, ◌<◌, Bool, true, false, ◌||◌, ◌==◌, nat_eq, cond, Some, List, [], ◌∷◌, ◌++◌, length, get_or, take, Option, unwrap_or, refl, sym, ◌∙◌, ap, arith, is_some}
 use Rattle.std.proofs.lemmas.Bool.{or_parts, eqb-true, eqb-false, false_from_ne_true}
 use Rattle.std.proofs.lemmas.List.{get_or-take, get_or-map, take-map, length-take, length-map}
 use Rattle.std.proofs.lemmas.List.Folds.{Any-from_list_any}
@@ -12,6 +12,7 @@ use Rattle.std.specs.Map.{lookup}
 use Rattle.net_names.specs.Numbers.{occurs}
 use Rattle.cycle_check.specs.declared.ranking.RankedAs.{RankedAs}
 use Rattle.cycle_check.specs.Rankings.{numbers_of, rank_told}
+use Rattle.rank_order.specs.Ranks.{RankMap, rank_by}
 
 find_is : (es : List (ℕ × ℕ)) (q : ℕ) → map.find nat_cmp q es ≡ lookup (nat_eq q) es
 find_is [] q = refl
@@ -56,3 +57,7 @@ is_told (x ∷ xs) a = by (x.asn == a) (is_told xs a)
     by : (b : Bool) → is_some (rank_told xs a) ≡ occurs a (numbers_of xs) → is_some (cond b (Some x.rank) (rank_told xs a)) ≡ (b || occurs a (numbers_of xs))
     by true ih = refl
     by false ih = ih
+
+-- what is found in the kept map is the rank
+pub found : (es : List (ℕ × ℕ)) (m : RankMap) (q : ℕ) (r : Option ℕ) → map.from_entries es ≡ m → r ≡ lookup (nat_eq q) es → unwrap_or r 0 ≡ rank_by m q
+found es m q r is e = ap (λ x. unwrap_or x 0) (e ∙ sym (get_is es q) ∙ ap (λ n. map.get n q) is)

@@ -8,7 +8,7 @@
 mod order;
 mod ranks;
 
-pub use order::by_rank;
+pub use order::{RankOrder, by_rank, placed_by_rank};
 pub use ranks::{RankError, Ranks};
 
 #[cfg(test)]

@@ -74,6 +74,16 @@ impl Ranks {
             None => 0,
         }
     }
+
+    /// The rank of an AS, as `rank` gives it, sought first at a place, which is a hint.
+    pub fn rank_near(&self, asn: Asn, place: usize) -> u32
+        ensures { result ≡ rank_at self.now asn }
+    {
+        match self.ranks.get_index(place) {
+            Some((found, rank)) if *found == asn => *rank,
+            _ => self.rank(asn),
+        }
+    }
 }
 
 // The ranks as a map.

@@ -5,3 +5,4 @@ pub mod Chosen
 pub mod Unread
 pub mod Room
 pub mod RoundLemmas
+pub mod Writes

@@ -1,6 +1,7 @@
 -- Lists of AS numbers.
-use Rattle.std.proofs.Common.{◌≡◌, ℕ, ◌<◌, List, [], ◌∷◌, length, sym, ap, arith}
-use Rattle.net_names.specs.Numbers.{last_or}
+use Rattle.std.proofs.Common.{◌≡◌, ℕ, zero, suc, ◌<◌, ◌||◌, ◌==◌, true, false, nat_eq, List, [], ◌∷◌, length, take, slice_index_or, refl, sym, ◌∙◌, ap, arith}
+use Rattle.std.specs.List.{IsDistinct, AllByRecursion}
+use Rattle.net_names.specs.Numbers.{occurs, last_or}
 
 -- the last of a longer list is the last of the rest
 pub last_or-longer : (d x : ℕ) (xs zs : List ℕ) → xs ≡ x ∷ zs → 0 < length zs → last_or d zs ≡ last_or d xs
@@ -12,3 +13,18 @@ pub one_differs : (a b : ℕ) (xs ys zs : List ℕ) → xs ≡ a ∷ zs → ys �
 one_differs a b xs ys zs e f some same =
     let none : zs ≡ [] = cc in
     omega (arith, some, ap length none)
+
+pub all_at : (P : ℕ → Type 0) (xs : List ℕ) (i d : ℕ) → AllByRecursion P xs → i < length xs → P (slice_index_or xs i d)
+all_at P [] i d all h = absurd (omega arith)
+all_at P (x ∷ xs) zero d (p, all) h = p
+all_at P (x ∷ xs) (suc i) d (p, all) h = all_at P xs i d all (omega arith)
+
+-- where no number stands twice, none stands before its place
+pub apart_at : (xs : List ℕ) (i d : ℕ) → IsDistinct nat_eq xs → i < length xs → occurs (slice_index_or xs i d) (take i xs) ≡ false
+unfolding IsDistinct
+apart_at [] i d apart h = absurd (omega arith)
+apart_at (x ∷ xs) zero d apart h = refl
+apart_at (x ∷ xs) (suc i) d (all, rest) h =
+    let b = slice_index_or xs i d in
+    let first : (x == b) ≡ false = all_at (λ y. nat_eq x y ≡ false) xs i d all (omega arith) in
+    ap (λ t. t || occurs b (take i xs)) first ∙ apart_at xs i d rest (omega arith)

@@ -1,5 +1,8 @@
 -- Room for steps.
-use Rattle.std.proofs.Common.{ℕ, ◌≤◌, arith}
+use Rattle.std.proofs.Common.{◌≡◌, ℕ, ◌≤◌, Bool, true, false, cond, Option, Some, None, List, refl, ap, ◌∙◌, arith}
+use Rattle.net_names.specs.Numbers.{occurs}
+use Rattle.route_choice.specs.Slots.{over}
+use Rattle.route_choice.specs.Tables.{held_at, change_at, joined}
 use Rattle.path_pool.specs.declared.pool.PathPool.{PathPool}
 use Rattle.route_choice.specs.declared.table.Table.{Table}
 use Rattle.route_choice.specs.declared.overlay.Overlay.{Overlay}
@@ -21,3 +24,11 @@ fewer p s t o m n le can = record {
 -- seeds stay live where all that was live does
 pub seeds_kept : (p p' : PathPool) (s : SeedIds) → Keeps p p' s → AreSeedsLive p s → AreSeedsLive p' s
 seeds_kept p p' s kept live a seed e = kept.live seed.path.0 (live a seed e)
+
+-- nobody holds anything in an empty table under changes that have no entry
+pub blank_none : (t : Table) (o : Overlay) (ases : List ℕ) → ((a : ℕ) → held_at t a ≡ None) → ((a : ℕ) → change_at o a ≡ cond (occurs a ases) (Some None) None) → (a : ℕ) → joined t o a ≡ None
+blank_none t o ases none blank a = ap (λ h. over (change_at o a) h) (none a) ∙ ap (λ x. over x None) (blank a) ∙ by (occurs a ases)
+  where
+    by : (b : Bool) → over (cond b (Some None) None) None ≡ None
+    by true = refl
+    by false = refl

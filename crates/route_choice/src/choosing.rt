@@ -18,6 +18,44 @@ use stability_laws::Book;
 use std::sync::ledger::Ledger;
 
 /// What an AS chooses, in one step: its seed, or else the best offer of the part, or nothing. The
+/// offers are those of the table with the changes in place. The place where the row of the AS was
+/// last found in the graph is a hint. Takes no memory.
+pub fn evaluate_near<P: RoutePolicy, V: OriginStates, L: Ledger>(
+    graph: &Graph,
+    book: &Book<P>,
+    states: &V,
+    seeds: &SeedIds,
+    pool: &PathPool,
+    table: &Table,
+    overlay: &Overlay,
+    asn: Asn,
+    place: usize,
+    part: Part,
+    steps: &mut Steps<L>,
+) -> Choice
+    requires { AreLive pool.now table.now overlay.now }
+    ensures choice { IsChoice (P.meaning (policy_at book.now asn)) (seeds_of pool.now seeds.now asn) (λ n. offers_of part (setting P.meaning graph.now book.now (V.state_of states.now (prefix_of table.now))) (routing_of pool.now table.now overlay.now) asn n) result }
+    ensures cost { steps.new ≡ steps.old + 1 }
+{
+    steps.tick();
+    if seeds.get(asn).is_some() {
+        return Choice::Seed;
+    }
+    let reads = book.policy(asn).reads_state();
+    let neighbours = graph.neighbours_near(asn, place);
+    let places = graph.neighbour_places(place);
+    match best_view(
+        graph, neighbours, places, book, states, reads, pool, table, overlay, asn, part,
+    ) {
+        Some(view) => Choice::Via {
+            neighbour: view.neighbour,
+            rel: view.rel,
+        },
+        None => Choice::Nothing,
+    }
+}
+
+/// What an AS chooses, in one step: its seed, or else the best offer of the part, or nothing. The
 /// offers are those of the table with the changes in place. Takes no memory.
 pub fn evaluate<P: RoutePolicy, V: OriginStates, L: Ledger>(
     graph: &Graph,
@@ -35,19 +73,8 @@ pub fn evaluate<P: RoutePolicy, V: OriginStates, L: Ledger>(
     ensures choice { IsChoice (P.meaning (policy_at book.now asn)) (seeds_of pool.now seeds.now asn) (λ n. offers_of part (setting P.meaning graph.now book.now (V.state_of states.now (prefix_of table.now))) (routing_of pool.now table.now overlay.now) asn n) result }
     ensures cost { steps.new ≡ steps.old + 1 }
 {
-    steps.tick();
-    if seeds.get(asn).is_some() {
-        return Choice::Seed;
-    }
-    let reads = book.policy(asn).reads_state();
-    let neighbours = graph.neighbours(asn);
-    match best_view(
-        graph, neighbours, book, states, reads, pool, table, overlay, asn, part,
-    ) {
-        Some(view) => Choice::Via {
-            neighbour: view.neighbour,
-            rel: view.rel,
-        },
-        None => Choice::Nothing,
-    }
+    let place = graph.place_near(asn, 0);
+    evaluate_near(
+        graph, book, states, seeds, pool, table, overlay, asn, place, part, steps,
+    )
 }

@@ -1,11 +1,12 @@
 //! Changes of a table.
 
-ghost use Rattle.std.specs.Prelude.{◌≡◌, ◌≢◌, ◌⊎◌, ℕ, ◌+◌, ◌<◌, ◌≤◌, [], ◌∷◌, ◌++◌, length, slice_get, Some, None, IsSome, IsOk, OnOk, is_some, nat_eq, unwrap_or};
+ghost use Rattle.std.specs.Prelude.{◌≡◌, ◌≢◌, ◌⊎◌, ℕ, ◌+◌, ◌<◌, ◌≤◌, [], ◌∷◌, ◌++◌, length, slice_get, Some, None, IsSome, IsOk, OnOk, is_some, nat_eq, unwrap_or, IfOk, if◌then◌else◌};
 ghost use Rattle.std.specs.List.{IsDistinct};
+ghost use Rattle.std.specs.Option.{option_copied};
 ghost use Rattle.net_names.specs.Numbers.{occurs};
 
 use crate::Held;
-use crate::slots::{exchange, let_all_go};
+use crate::slots::{blank_slots, exchange_near, find_near, let_all_go};
 use indexmap::IndexMap;
 use net_names::{Asn, NoMemory};
 use path_pool::PathPool;
@@ -35,6 +36,19 @@ impl Overlay {
         }
     }
 
+    /// No entry at each of these ASes, in this order, and room for `n` more ASes.
+    pub fn blank(alloc: Global, ases: &[Asn], n: usize) -> Result<Overlay, NoMemory>
+        requires { IsDistinct nat_eq ases.now }
+        ensures changes { IfOk result (λ o. (a : ℕ) → change_at o a ≡ (if occurs a ases.now then Some None else None)) }
+        ensures places { IfOk result (λ o. places_of o ≡ ases.now) }
+        ensures uses { IfOk result (λ o. (k : ℕ) → overlay_uses o k ≡ 0) }
+        ensures room { IfOk result (λ o. n ≤ overlay_spare o) }
+    {
+        Ok(Overlay {
+            changes: blank_slots(alloc, ases, n)?,
+        })
+    }
+
     /// Makes room for `n` more ASes. The changes stay, also after a refusal.
     pub fn room(&mut self, n: usize) -> Result<(), NoMemory>
         ensures room { OnOk result (n ≤ overlay_spare self.new) }
@@ -57,6 +71,21 @@ impl Overlay {
         self.changes.get(&asn).copied()
     }
 
+    /// The change at an AS, as `get` gives it, sought first at a place, which is a hint.
+    pub fn get_near(&self, asn: Asn, place: usize) -> Option<Option<Held>>
+        ensures { result ≡ change_at self.now asn }
+    {
+        self.slot_near(asn, place).copied()
+    }
+
+    // The change at an AS, sought first at a place.
+    #[inline(always)]
+    pub(crate) fn slot_near(&self, asn: Asn, place: usize) -> Option<&Option<Held>>
+        ensures { option_copied result ≡ change_at self.now asn }
+    {
+        find_near(&self.changes, asn, place)
+    }
+
     /// Puts a change at an AS, in place of the one that it had. The caller gives the hold of the
     /// new entry to the overlay, and takes over that of the replaced one. Takes no memory: an AS
     /// that has no change yet takes up room for one.
@@ -70,11 +99,16 @@ impl Overlay {
         ensures new_place { change_at self.old asn ≡ None → places_of self.new ≡ places_of self.old ++ asn ∷ [] }
         ensures kept_spare { IsSome (change_at self.old asn) → overlay_spare self.new ≡ overlay_spare self.old }
     {
-        let _ = self.exchange(asn, held);
+        let _ = self.exchange_near(asn, 0, held);
     }
 
-    // Puts a change at an AS. Returns the entry of the replaced one.
-    pub(crate) fn exchange(&mut self, asn: Asn, held: Option<Held>) -> Option<Held>
+    // Puts a change at an AS, sought first at a place. Returns the entry of the replaced one.
+    pub(crate) fn exchange_near(
+        &mut self,
+        asn: Asn,
+        place: usize,
+        held: Option<Held>,
+    ) -> Option<Held>
         requires { HasPlace self.old asn }
         ensures old { result ≡ unwrap_or (change_at self.old asn) None }
         ensures this { change_at self.new asn ≡ Some held }
@@ -85,7 +119,7 @@ impl Overlay {
         ensures new_place { change_at self.old asn ≡ None → places_of self.new ≡ places_of self.old ++ asn ∷ [] }
         ensures kept_spare { IsSome (change_at self.old asn) → overlay_spare self.new ≡ overlay_spare self.old }
     {
-        exchange(&mut self.changes, asn, held)
+        exchange_near(&mut self.changes, asn, place, held)
     }
 
     /// How many ASes have a change. Each stands at one place.

@@ -12,7 +12,7 @@ ghost use Rattle.route_choice.specs.Choices.{named_by};
 ghost use Rattle.route_choice.specs.Named.{wanted_entry, IsWantedLive, IsLonger, Takes};
 ghost use Rattle.route_choice.specs.Resources.{AreLive, AreSeedsLive, CanChange, IsNameable, IsVia, Spends, GivesUpNothing, Keeps};
 
-use crate::best::held;
+use crate::looks::held_near;
 use crate::slots::let_go;
 use crate::{Choice, Held, Overlay, SeedIds, Table};
 use net_names::{Asn, Class};
@@ -54,7 +54,7 @@ fn wanted_by<P: RoutePolicy>(
             }),
             None => Wanted::Nothing,
         },
-        Choice::Via { neighbour, rel } => match held(table, overlay, neighbour) {
+        Choice::Via { neighbour, rel } => match held_near(table, overlay, neighbour, 0) {
             Some(given) => {
                 let sender = book.policy(neighbour);
                 let receiver = book.policy(asn);
@@ -155,7 +155,7 @@ fn made(pool: &mut PathPool, asn: Asn, wanted: Wanted) -> Option<Held>
 }
 
 // Puts the wanted entry in place, and gives back the hold of a change that was there.
-fn replace(pool: &mut PathPool, overlay: &mut Overlay, asn: Asn, wanted: Wanted)
+fn replace(pool: &mut PathPool, overlay: &mut Overlay, asn: Asn, place: usize, wanted: Wanted)
     requires live { IsWantedLive pool.old wanted }
     requires spare { 0 < spare_of pool.old }
     requires counts { (k : ℕ) → count_of pool.old k < 4294967295 }
@@ -167,8 +167,44 @@ fn replace(pool: &mut PathPool, overlay: &mut Overlay, asn: Asn, wanted: Wanted)
     ensures live { live_count pool.old < live_count pool.new → IsLonger wanted }
 {
     let new = made(pool, asn, wanted);
-    let old = overlay.exchange(asn, new);
+    let old = overlay.exchange_near(asn, place, new);
     let_go(pool, old);
+}
+
+/// Puts the entry that a choice names, and answers whether it is another one than before, by its
+/// class, its path and its number of the attribute Only to Customer. Where it is the same, all
+/// stays. The choice `Nothing` names no entry, `Seed` the seed, and `Via` the neighbour's entry as
+/// it is passed on. The place where the AS was last found in the table is a hint. Takes no memory.
+pub fn settle_near<P: RoutePolicy>(
+    book: &Book<P>,
+    seeds: &SeedIds,
+    pool: &mut PathPool,
+    table: &Table,
+    overlay: &mut Overlay,
+    asn: Asn,
+    place: usize,
+    choice: Choice,
+) -> bool
+    requires choice { IsNameable seeds.now table.now overlay.old asn choice }
+    requires pool { CanChange pool.old seeds.now table.now overlay.old 1 }
+    requires room { HasPlace overlay.old asn }
+    ensures named { routing_of pool.new table.now overlay.new asn ≡ named_by (λ n. P.meaning (policy_at book.now n)) (seeds_of pool.old seeds.now asn) (routing_of pool.old table.now overlay.old) asn choice }
+    ensures others { (n : ℕ) → n ≢ asn → routing_of pool.new table.now overlay.new n ≡ routing_of pool.old table.now overlay.old n }
+    ensures changed { IsTrue result ↔ (routing_of pool.new table.now overlay.new asn ≢ routing_of pool.old table.now overlay.old asn) }
+    ensures unchanged { result ≡ false → (pool.new ≡ pool.old) × (overlay.new ≡ overlay.old) }
+    ensures put { IsTrue result → IsSome (change_at overlay.new asn) }
+    ensures spent { Spends pool.old pool.new overlay.old overlay.new asn }
+    ensures live { live_count pool.old < live_count pool.new → IsVia choice }
+    ensures next { (n : ℕ) → CanChange pool.old seeds.now table.now overlay.old (suc n) → AreSeedsLive pool.new seeds.now → CanChange pool.new seeds.now table.now overlay.new n }
+    ensures kept { GivesUpNothing overlay.old (routing_of pool.old table.now overlay.old) (routing_of pool.new table.now overlay.new) asn → Keeps pool.old pool.new seeds.now }
+{
+    let wanted = wanted_by(book, seeds, table, overlay, asn, choice);
+    let have = held_near(table, overlay, asn, place).copied();
+    if is_held(pool, asn, &have, &wanted) {
+        return false;
+    }
+    replace(pool, overlay, asn, place, wanted);
+    true
 }
 
 /// Puts the entry that a choice names, and answers whether it is another one than before, by its
@@ -197,11 +233,5 @@ pub fn settle<P: RoutePolicy>(
     ensures next { (n : ℕ) → CanChange pool.old seeds.now table.now overlay.old (suc n) → AreSeedsLive pool.new seeds.now → CanChange pool.new seeds.now table.now overlay.new n }
     ensures kept { GivesUpNothing overlay.old (routing_of pool.old table.now overlay.old) (routing_of pool.new table.now overlay.new) asn → Keeps pool.old pool.new seeds.now }
 {
-    let wanted = wanted_by(book, seeds, table, overlay, asn, choice);
-    let have = held(table, overlay, asn);
-    if is_held(pool, asn, &have, &wanted) {
-        return false;
-    }
-    replace(pool, overlay, asn, wanted);
-    true
+    settle_near(book, seeds, pool, table, overlay, asn, 0, choice)
 }

@@ -8,8 +8,8 @@ ghost use Rattle.route_choice.specs.Routings.{routing_of, seeds_of};
 ghost use Rattle.route_choice.specs.Choices.{IsStepOf};
 ghost use Rattle.route_choice.specs.Resources.{AreSeedsLive, CanStep, Spends, GivesUpNothing, Keeps};
 
-use crate::choosing::evaluate;
-use crate::settling::settle;
+use crate::choosing::evaluate_near;
+use crate::settling::settle_near;
 use crate::{Overlay, Part, SeedIds, Steps, Table};
 use as_graph::Graph;
 use net_names::Asn;
@@ -18,8 +18,9 @@ use policy_laws::{OriginStates, RoutePolicy};
 use stability_laws::Book;
 use std::sync::ledger::Ledger;
 
-/// One step of an AS: it chooses by [`evaluate`], and the entry is put by [`settle`]. Answers
-/// whether it is another one than before. Takes no memory.
+/// One step of an AS: it chooses as by [`evaluate`](crate::evaluate), and the entry is put as by
+/// [`settle`](crate::settle). Answers whether it is another one than before. The place where the AS
+/// was last found, in the graph and in the table, is a hint. Takes no memory.
 pub fn visit<P: RoutePolicy, V: OriginStates, L: Ledger>(
     graph: &Graph,
     book: &Book<P>,
@@ -29,6 +30,7 @@ pub fn visit<P: RoutePolicy, V: OriginStates, L: Ledger>(
     table: &Table,
     overlay: &mut Overlay,
     asn: Asn,
+    place: usize,
     part: Part,
     steps: &mut Steps<L>,
 ) -> bool
@@ -43,8 +45,8 @@ pub fn visit<P: RoutePolicy, V: OriginStates, L: Ledger>(
     ensures next { (n : ℕ) → CanStep pool.old seeds.now table.now overlay.old (suc n) → AreSeedsLive pool.new seeds.now → CanStep pool.new seeds.now table.now overlay.new n }
     ensures kept { GivesUpNothing overlay.old (routing_of pool.old table.now overlay.old) (routing_of pool.new table.now overlay.new) asn → Keeps pool.old pool.new seeds.now }
 {
-    let choice = evaluate(
-        graph, book, states, seeds, pool, table, overlay, asn, part, steps,
+    let choice = evaluate_near(
+        graph, book, states, seeds, pool, table, overlay, asn, place, part, steps,
     );
-    settle(book, seeds, pool, table, overlay, asn, choice)
+    settle_near(book, seeds, pool, table, overlay, asn, place, choice)
 }

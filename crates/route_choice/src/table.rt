@@ -1,8 +1,9 @@
 //! The routing of one prefix and one round.
 
 ghost use Rattle.std.specs.Prelude.{◌≡◌, ℕ, ◌+◌, ◌≤◌, length, None, IsOk, OnOk, unwrap_or};
+ghost use Rattle.std.specs.Option.{option_copied};
 
-use crate::slots::replace_all;
+use crate::slots::{find_near, replace_all};
 use crate::{Held, Overlay};
 use indexmap::IndexMap;
 use net_names::{Asn, NoMemory, Prefix};
@@ -61,6 +62,24 @@ impl Table {
     {
         match self.slots.get(&asn) {
             Some(entry) => *entry,
+            None => None,
+        }
+    }
+
+    /// What an AS holds, as `get` gives it, sought first at a place, which is a hint.
+    pub fn get_near(&self, asn: Asn, place: usize) -> Option<Held>
+        ensures { result ≡ held_at self.now asn }
+    {
+        self.held_near(asn, place).copied()
+    }
+
+    // What an AS holds, sought first at a place.
+    #[inline(always)]
+    pub(crate) fn held_near(&self, asn: Asn, place: usize) -> Option<&Held>
+        ensures { option_copied result ≡ held_at self.now asn }
+    {
+        match find_near(&self.slots, asn, place) {
+            Some(entry) => entry.as_ref(),
             None => None,
         }
     }

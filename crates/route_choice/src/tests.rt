@@ -98,6 +98,7 @@ fn step<L: Ledger>(
         &desk.table,
         &mut desk.overlay,
         asn,
+        graph.place_near(asn, 0),
         part,
         steps,
     );

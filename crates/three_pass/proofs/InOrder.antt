@@ -1,7 +1,6 @@
 -- Two passes over an order by rank: upwards over customers' offers, and downwards over all offers.
 use Rattle.std.proofs.Common.{nat_eq, ◌≡◌, ◌≢◌, ◌⊎◌, inl, inr, ℕ, zero, suc, ◌+◌, ◌<◌, ◌≤◌, Bool, true, false, ◌||◌, ◌==◌, Option, Some, None, option_map, List, [], ◌∷◌, ◌++◌, length, take, slice_index_or, refl, sym, ◌∙◌, ap, subst, arith}
 use Rattle.std.proofs.lemmas.Bool.{cases_eq, cases_Bool, cases_lt, or_cases, or_right, eqb-true, eq-eqb}
-use Rattle.std.specs.List.{IsDistinct, AllByRecursion}
 use Rattle.net_names.specs.declared.routes.Class.{Class}
 use Rattle.net_names.specs.declared.routes.Class.TheVariants as class
 use Rattle.std.proofs.lemmas.List.{get_or-take, length-take-le}
@@ -16,6 +15,7 @@ use Rattle.stability_laws.specs.declared.entry.Seed.{Seed}
 use Rattle.stability_laws.specs.Offers.{Setting}
 use Rattle.stability_laws.specs.Stable.{IsRight, IsStable, IsLawful}
 use Rattle.stability_laws.specs.Steps.{low, low_by, lows, IsStepUp, IsStepWhole, IsRightUp}
+use Rattle.route_choice.proofs.Numbers.{apart_at}
 use Rattle.stability_laws.proofs.Passes.{up_keeps, up_now, up_is_low, whole_low_same, whole_keeps, whole_now}
 use Rattle.three_pass.specs.Progress.{AfterUp, AfterWhole}
 
@@ -48,21 +48,6 @@ not_before b a xs ys is h = (
 
     at_end : (a == b) ≡ true → occurs b ys ≡ true
     at_end e = ap (occurs b) is ∙ list_any-append (λ y. y == b) xs (a ∷ []) ∙ or_true (occurs b xs) _ (ap (λ t. t || false) e)
-
-pub all_at : (P : ℕ → Type 0) (xs : List ℕ) (i d : ℕ) → AllByRecursion P xs → i < length xs → P (slice_index_or xs i d)
-all_at P [] i d all h = absurd (omega arith)
-all_at P (x ∷ xs) zero d (p, all) h = p
-all_at P (x ∷ xs) (suc i) d (p, all) h = all_at P xs i d all (omega arith)
-
--- where no number stands twice, none stands before its place
-apart_at : (xs : List ℕ) (i d : ℕ) → IsDistinct nat_eq xs → i < length xs → occurs (slice_index_or xs i d) (take i xs) ≡ false
-unfolding IsDistinct
-apart_at [] i d apart h = absurd (omega arith)
-apart_at (x ∷ xs) zero d apart h = refl
-apart_at (x ∷ xs) (suc i) d (all, rest) h =
-    let b = slice_index_or xs i d in
-    let first : (x == b) ≡ false = all_at (λ y. nat_eq x y ≡ false) xs i d all (omega arith) in
-    ap (λ t. t || occurs b (take i xs)) first ∙ apart_at xs i d rest (omega arith)
 
 -- who has an Origin or Customer entry has no other
 low_some : (h : Option Entry) (e : Entry) → low h ≡ Some e → h ≡ Some e

@@ -1,4 +1,5 @@
-//! The two passes.
+//! The two passes. For each AS of the order they get the place where its row was last found in the
+//! graph, which is a hint.
 
 ghost use Rattle.std.specs.Prelude.{◌≡◌, ℕ, true, None, length, slice_index, ◌<◌, ◌≤◌, ◌+◌};
 ghost use Rattle.as_graph.specs.Topology.{what, has};
@@ -21,11 +22,19 @@ use route_choice::{Overlay, Part, SeedIds, Steps, Table, visit};
 use stability_laws::Book;
 use std::sync::ledger::Ledger;
 
+// Where the row of the AS at a place of the order was last found, or the first row.
+fn row_at(rows: &[u32], place: usize) -> usize {
+    match rows.get(place) {
+        Some(row) => *row as usize,
+        None => 0,
+    }
+}
+
 // Whether an AS has neither customers, by its rank, nor a seed.
-fn has_none_to_take(ranks: &Ranks, seeds: &SeedIds, asn: Asn) -> bool
+fn has_none_to_take(ranks: &Ranks, seeds: &SeedIds, asn: Asn, row: usize) -> bool
     ensures { result ≡ true → (rank_at ranks.now asn ≡ 0) × (seed_at seeds.now asn ≡ None) }
 {
-    ranks.rank(asn) == 0 && seeds.get(asn).is_none()
+    ranks.rank_near(asn, row) == 0 && seeds.get(asn).is_none()
 }
 
 // The step upwards of the AS at a place of the order. Who has neither customers nor a seed takes none.
@@ -33,6 +42,7 @@ fn step_up<P: RoutePolicy, V: OriginStates, L: Ledger>(
     graph: &Graph,
     ranks: &Ranks,
     order: &[Asn],
+    rows: &[u32],
     place: usize,
     book: &Book<P>,
     states: &V,
@@ -54,7 +64,8 @@ fn step_up<P: RoutePolicy, V: OriginStates, L: Ledger>(
     ensures spent { HasSpent pool.old pool.new seeds.now table.now overlay.old overlay.new order.now }
 {
     let asn = order[place];
-    if has_none_to_take(ranks, seeds, asn) {
+    let row = row_at(rows, place);
+    if has_none_to_take(ranks, seeds, asn, row) {
         return;
     }
     visit(
@@ -66,6 +77,7 @@ fn step_up<P: RoutePolicy, V: OriginStates, L: Ledger>(
         table,
         overlay,
         asn,
+        row,
         Part::Up,
         steps,
     );
@@ -76,6 +88,7 @@ pub fn go_up<P: RoutePolicy, V: OriginStates, L: Ledger>(
     graph: &Graph,
     ranks: &Ranks,
     order: &[Asn],
+    rows: &[u32],
     book: &Book<P>,
     states: &V,
     seeds: &SeedIds,
@@ -96,7 +109,7 @@ pub fn go_up<P: RoutePolicy, V: OriginStates, L: Ledger>(
 {
     for place in 0..order.len() {
         step_up(
-            graph, ranks, order, place, book, states, seeds, pool, table, overlay, steps,
+            graph, ranks, order, rows, place, book, states, seeds, pool, table, overlay, steps,
         );
     }
 }
@@ -106,6 +119,7 @@ pub fn go_down<P: RoutePolicy, V: OriginStates, L: Ledger>(
     graph: &Graph,
     ranks: &Ranks,
     order: &[Asn],
+    rows: &[u32],
     book: &Book<P>,
     states: &V,
     seeds: &SeedIds,
@@ -135,6 +149,7 @@ pub fn go_down<P: RoutePolicy, V: OriginStates, L: Ledger>(
             table,
             overlay,
             order[left],
+            row_at(rows, left),
             Part::Whole,
             steps,
         );

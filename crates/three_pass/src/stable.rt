@@ -10,7 +10,7 @@ ghost use Rattle.stability_laws.specs.Stable.{IsStable};
 ghost use Rattle.stability_laws.specs.World.{setting};
 ghost use Rattle.route_choice.specs.Resources.{AreEntriesLive, AreSeedsLive, Keeps};
 ghost use Rattle.route_choice.specs.Routings.{seeds_of, table_routing};
-ghost use Rattle.route_choice.specs.Tables.{change_at, overlay_spare, overlay_uses, prefix_of, table_uses};
+ghost use Rattle.route_choice.specs.Tables.{prefix_of, table_uses};
 ghost use Rattle.three_pass.specs.Spending.{FewNewCells};
 
 use crate::passes::{go_down, go_up};
@@ -18,27 +18,24 @@ use as_graph::Graph;
 use net_names::{NoMemory, Prefix};
 use path_pool::PathPool;
 use policy_laws::{OriginStates, RoutePolicy};
-use rank_order::{Ranks, by_rank};
+use rank_order::{Ranks, placed_by_rank};
 use route_choice::{Overlay, SeedIds, Steps, Table};
 use stability_laws::{Book, one_stable_routing};
 use std::alloc::Global;
 use std::sync::ledger::Ledger;
 
-// Makes room for the steps of so many ASes, so that no step takes memory.
-fn make_room(pool: &mut PathPool, overlay: &mut Overlay, ases: usize) -> Result<(), NoMemory>
+// Makes room for the cells of so many ASes, so that no step takes memory.
+fn make_room(pool: &mut PathPool, ases: usize) -> Result<(), NoMemory>
     requires { ases ≤ 150000 }
     ensures same { SamePaths pool.old pool.new }
     ensures limit { limit_of pool.new ≡ limit_of pool.old }
     ensures cells { OnOk result (0 < ases → ases + 1 ≤ spare_of pool.new) }
-    ensures room { OnOk result (0 < ases → ases + 1 ≤ overlay_spare overlay.new) }
-    ensures changes { (a : ℕ) → change_at overlay.new a ≡ change_at overlay.old a }
-    ensures uses { (k : ℕ) → overlay_uses overlay.new k ≡ overlay_uses overlay.old k }
 {
     if ases == 0 {
         return Ok(());
     }
     match pool.reserve(ases + 1) {
-        Ok(()) => overlay.room(ases + 1),
+        Ok(()) => Ok(()),
         Err(_) => Err(NoMemory),
     }
 }
@@ -81,14 +78,17 @@ pub fn propagate<P: RoutePolicy, V: OriginStates, L: Ledger>(
 {
     one_stable_routing::<P>();
     let count = graph.as_count();
-    let order = by_rank(alloc, graph, ranks)?;
+    let placed = placed_by_rank(alloc, graph, ranks)?;
+    let order = placed.ases.as_slice();
+    let rows = placed.places.as_slice();
     let table = Table::new(alloc, prefix);
-    let mut overlay = Overlay::new(alloc);
-    make_room(pool, &mut overlay, count)?;
+    let mut overlay = Overlay::blank(alloc, graph.rows(), count + 1)?;
+    make_room(pool, count)?;
     go_up(
         graph,
         ranks,
-        &order,
+        order,
+        rows,
         book,
         states,
         seeds,
@@ -100,7 +100,8 @@ pub fn propagate<P: RoutePolicy, V: OriginStates, L: Ledger>(
     go_down(
         graph,
         ranks,
-        &order,
+        order,
+        rows,
         book,
         states,
         seeds,

@@ -13,19 +13,19 @@ use Rattle.route_choice.specs.Choices.{offers_of, state_seen}
 use Rattle.route_choice.proofs.Chosen.{given_in_part}
 use Rattle.route_choice.proofs.best.best_view.Goals as goal
 
-pub loop-neighbour-preserved : goal.loop-neighbour-preserved
-loop-neighbour-preserved g c =
+pub loop-index-preserved : goal.loop-index-preserved
+loop-index-preserved g c =
     let here = setting g.P.RoutePolicy.meaning c.args.graph.now c.args.book.now (state_seen c.args.reads (g.V.OriginStates.state_of c.args.states.now (prefix_of c.args.table.now))) in
     let own = policy_at c.args.book.now c.args.asn in
     let offers = λ (n : ℕ). offers_of c.args.part here (routing_of c.args.pool.now c.args.table.now c.args.overlay.now) c.args.asn n in
     let given = λ (n : ℕ). given_in_part c.args.part here (routing_of c.args.pool.now c.args.table.now c.args.overlay.now) c.args.asn n in
     let xs = c.args.neighbours.now in
-    let i = c.loop-neighbour.neighbour-index in
+    let i = c.loop-index.index in
     let step = one_more (here.policy c.args.asn) (g.met.P.RoutePolicy.ranks_offers own) offers (λ n o e. (given n o e).neighbour)
-    c.neighbour-item.result.asn (asns (take i xs)) (asns (take (i + 1) xs))
-    (λ m is. subst (λ t. (t.asn ≡ m) ⊎ (occurs m (asns (take i xs)) ≡ true)) (sym c.neighbour-item.is) (among_more xs i m c.neighbour-item.result c.loop-neighbour-test.true is))
-    c.loop-neighbour.best (option_map (λ (o : Offer). o.view) (offers c.neighbour-item.result.asn)) refl c.loop-neighbour.invariant in
-    subst (IsBestViewOf (here.policy c.args.asn) offers (asns (take (i + 1) xs))) (sym c.with_offer-best.ensures) step
+    c.index-neighbours-index.result.asn (asns (take i xs)) (asns (take (i + 1) xs))
+    (λ m is. subst (λ t. (t.asn ≡ m) ⊎ (occurs m (asns (take i xs)) ≡ true)) (sym c.index-neighbours-index.is) (among_more xs i m c.index-neighbours-index.result c.loop-index-test.true is))
+    c.loop-index.best (option_map (λ (o : Offer). o.view) (offers c.index-neighbours-index.result.asn)) refl c.loop-index.invariant in
+    subst (IsBestViewOf (here.policy c.args.asn) offers (asns (take (i + 1) xs))) (sym c.look_at.ensures) step
 
 pub returns : goal.returns
 returns g c =
@@ -34,7 +34,7 @@ returns g c =
     let offers = λ (n : ℕ). offers_of c.args.part here (routing_of c.args.pool.now c.args.table.now c.args.overlay.now) c.args.asn n in
     let given = λ (n : ℕ). given_in_part c.args.part here (routing_of c.args.pool.now c.args.table.now c.args.overlay.now) c.args.asn n in
     let xs = c.args.neighbours.now in
-    let i = c.loop-neighbour.neighbour-index in
+    let i = c.loop-index.index in
     best_of_all (here.policy c.args.asn) (g.met.P.RoutePolicy.ranks_offers own) offers (λ n o e. (given n o e).neighbour)
     (asns xs) (λ n o e. let from : GivenBy (what c.args.graph.now c.args.asn n) n o = given n o e in c.requires.neighbours.complete n from.from from.linked)
-    c.loop-neighbour.best (subst (λ ys. IsBestViewOf (here.policy c.args.asn) offers (asns ys) c.loop-neighbour.best) (take_all i xs c.loop-neighbour-test.false) c.loop-neighbour.invariant)
+    c.loop-index.best (subst (λ ys. IsBestViewOf (here.policy c.args.asn) offers (asns ys) c.loop-index.best) (take_all i xs c.loop-index-test.false) c.loop-index.invariant)

@@ -19,11 +19,11 @@ returns-clause-put c =
       arith,
       c.let_go.ensures.holds k,
       c.made-new.ensures.takes.holds k,
-      ap (use_of k) c.exchange-old.ensures.old,
+      ap (use_of k) c.exchange_near-old.ensures.old,
       use_of-le c.args.overlay.now.changes c.args.asn k,
       c.requires.held k,
       ap (use_of k) e,
       use_of-itself h,
     ) in
-    subst (λ (o : Option (Option Held)). IsSomeAnd o (λ e. option_map (entry_of p) e ≡ wanted_entry c.args.pool.now c.args.asn c.args.wanted)) (sym c.exchange-old.ensures.this)
+    subst (λ (o : Option (Option Held)). IsSomeAnd o (λ e. option_map (entry_of p) e ≡ wanted_entry c.args.pool.now c.args.asn c.args.wanted)) (sym c.exchange_near-old.ensures.this)
     (entries_same c.made-new.new.pool p c.made-new.result (λ h e. c.let_go.ensures.back.lists h.path.0 (held_live p h.path.0 (held h e))) ∙ c.made-new.ensures.entry)

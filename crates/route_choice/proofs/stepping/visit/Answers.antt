@@ -9,8 +9,8 @@ use Rattle.route_choice.proofs.Chosen.{named_is_right}
 use Rattle.route_choice.proofs.Lists.{joined_live}
 use Rattle.route_choice.proofs.stepping.visit.Goals as goal
 
-pub evaluate-choice-requires : goal.evaluate-choice-requires
-evaluate-choice-requires g c = joined_live c.args.pool.now c.args.table.now c.args.overlay.now c.requires.changes.held
+pub evaluate_near-choice-requires : goal.evaluate_near-choice-requires
+evaluate_near-choice-requires g c = joined_live c.args.pool.now c.args.table.now c.args.overlay.now c.requires.changes.held
 
 pub returns-clause-step : goal.returns-clause-step
 returns-clause-step g c =
@@ -18,7 +18,7 @@ returns-clause-step g c =
     let f = routing_of c.args.pool.now c.args.table.now c.args.overlay.now in
     let seed = seeds_of c.args.pool.now c.args.seeds.now c.args.asn in
     record {
-      others = c.settle.ensures.others;
-      right = subst (IsRightGiven (here.policy c.args.asn) seed (λ n. offers_of c.args.part here f c.args.asn n)) (sym c.settle.ensures.named)
-          (named_is_right c.args.part here f c.args.asn seed c.evaluate-choice.result c.evaluate-choice.ensures.choice);
+      others = c.settle_near.ensures.others;
+      right = subst (IsRightGiven (here.policy c.args.asn) seed (λ n. offers_of c.args.part here f c.args.asn n)) (sym c.settle_near.ensures.named)
+          (named_is_right c.args.part here f c.args.asn seed c.evaluate_near-choice.result c.evaluate_near-choice.ensures.choice);
     }

@@ -7,24 +7,35 @@ use Rattle.stability_laws.specs.declared.entry.Seed.{Seed}
 use Rattle.stability_laws.specs.Stable.{IsStable}
 use Rattle.stability_laws.specs.World.{setting}
 use Rattle.route_choice.specs.Routings.{routing_of, table_routing, seeds_of}
+use Rattle.route_choice.specs.Tables.{prefix_of}
 use Rattle.route_choice.proofs.Lists.{entry_live}
-use Rattle.three_pass.specs.Spending.{HasSpent}
+use Rattle.route_choice.proofs.Room.{blank_none}
+use Rattle.three_pass.specs.Progress.{AfterUp}
 use Rattle.three_pass.proofs.Ended.{seeds_same, same_keeps, routing_is}
 use Rattle.three_pass.proofs.Holders.{holders, length-holders, holder_holds, holders_apart}
 use Rattle.three_pass.proofs.stable.propagate.Goals as goal
 
 pub go_up-requires-clause-room : goal.go_up-requires-clause-room
 go_up-requires-clause-room g c =
-    let len : length c.deref.result.now ≡ c.as_count-count.result = ap length c.deref.ensures.value ∙ c.in_ok-order.ensures.count ∙ sym c.as_count-count.ensures.value in
+    let len : length c.as_slice-order.result.now ≡ c.as_count-count.result = ap length c.as_slice-order.ensures.value ∙ c.in_ok-placed.ensures.count ∙ sym c.as_count-count.ensures.value in
     record {
-      held = λ k. omega (arith, c.new-table.ensures.uses k, c.make_room.ensures.uses k, c.new-overlay.ensures.uses k);
+      held = λ k. omega (arith, c.new-table.ensures.uses k, c.in_ok-overlay.ensures.uses k);
       seeds_live = λ a s at. c.make_room.ensures.same.stays_live s.path.0 (c.requires.seeds a s at);
       enough = λ some. record {
         spare = (let cells = c.in_ok-make_room.ensures.cells (omega (arith, len, some)) in omega (arith, cells, len));
         counts = λ k. omega (arith, c.make_room.ensures.same.counts k, c.requires.counts k, len, c.as_count-count.ensures.few);
-        room = (let room = c.in_ok-make_room.ensures.room (omega (arith, len, some)) in omega (arith, room, len));
+        room = omega (arith, c.in_ok-overlay.ensures.room, len);
       };
     }
+
+pub go_up-requires-clause-empty : goal.go_up-requires-clause-empty
+go_up-requires-clause-empty g c = blank_none c.new-table.result c.in_ok-overlay.overlay c.rows.result.now c.new-table.ensures.none c.in_ok-overlay.ensures.changes
+
+pub go_down-requires-clause-up : goal.go_down-requires-clause-up
+go_down-requires-clause-up g c =
+    let here = setting g.P.RoutePolicy.meaning c.args.graph.now c.args.book.now (g.V.OriginStates.state_of c.args.states.now (prefix_of c.new-table.result)) in
+    let F : (ℕ → Option Seed) → Type 0 = λ s. AfterUp here s c.as_slice-order.result.now (routing_of c.go_up.new.pool c.new-table.result c.go_up.new.overlay) in
+    coe 0 1 (i. F (λ a. sym (c.go_up.ensures.spent.keeps.same_seeds a) i)) c.go_up.ensures.done
 
 pub returns-clause-stable : goal.returns-clause-stable
 returns-clause-stable g c =
@@ -41,13 +52,13 @@ returns-clause-only g c = λ other other_stable a.
 
 pub returns-clause-cells : goal.returns-clause-cells
 returns-clause-cells g c =
-    let xs = c.deref-2.result.now in
+    let xs = c.as_slice-order.result.now in
     let f = routing_of c.go_down.new.pool c.new-table.result c.go_down.new.overlay in
     let routing = routing_is c.go_down.new.pool c.new-table.result c.go_down.new.overlay c.from_changes.result c.new-table.ensures.none c.from_changes.ensures.entries in
-    let up = subst (HasSpent c.make_room.new.pool c.go_up.new.pool c.args.seeds.now c.new-table.result c.make_room.new.overlay c.go_up.new.overlay) (c.deref.ensures.value ∙ sym c.deref-2.ensures.value) c.go_up.ensures.spent in
+    let up = c.go_up.ensures.spent in
     record {
       ases = holders f xs;
-      distinct = holders_apart f xs (subst (IsDistinct nat_eq) (sym c.deref-2.ensures.value) c.in_ok-order.ensures.order.apart);
+      distinct = holders_apart f xs (subst (IsDistinct nat_eq) (sym c.as_slice-order.ensures.value) c.in_ok-placed.ensures.order.apart);
       entries = λ a o. subst IsSome (routing a) (holder_holds f xs a o);
       few = omega (arith, c.make_room.ensures.same.live, up.live, c.go_down.ensures.spent.live, length-holders f xs);
       counts = λ k. omega (arith, c.make_room.ensures.same.counts k, up.counts k, c.go_down.ensures.spent.counts k, length-holders f xs);
@@ -55,7 +66,7 @@ returns-clause-cells g c =
 
 pub returns-clause-holds : goal.returns-clause-holds
 returns-clause-holds g c = λ k.
-    omega (arith, c.make_room.ensures.same.holds k, c.new-overlay.ensures.uses k, c.make_room.ensures.uses k, c.go_up.ensures.spent.holds k, c.go_down.ensures.spent.holds k, c.from_changes.ensures.uses k)
+    omega (arith, c.make_room.ensures.same.holds k, c.in_ok-overlay.ensures.uses k, c.go_up.ensures.spent.holds k, c.go_down.ensures.spent.holds k, c.from_changes.ensures.uses k)
 
 pub returns-clause-live : goal.returns-clause-live
 returns-clause-live g c = entry_live c.go_down.new.pool c.from_changes.result.slots (λ k. (let held = returns-clause-holds g c k in omega (arith, held)))

@@ -2,7 +2,7 @@ use Rattle.std.proofs.Common.{◌==◌, nat_eq, sym, ◌∙◌}
 use Rattle.std.proofs.lemmas.List.Sorted.{list_any-IsPermutation, length_permutation}
 use Rattle.std.proofs.lemmas.Cmp.{nat_eq_equiv}
 use Rattle.std.proofs.lemmas.Map.Keys.{IsDistinct-IsPermutation}
-use Rattle.rank_order.proofs.order.by_rank.Goals as goal
+use Rattle.rank_order.proofs.order.placed_by_rank.Goals as goal
 
 pub returns-in-Ok-clause-order : goal.returns-in-Ok-clause-order
 returns-in-Ok-clause-order c = record {

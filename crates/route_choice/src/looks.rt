@@ -1,0 +1,33 @@
+//! What ASes hold, sought first where they may stand.
+
+ghost use Rattle.std.specs.Prelude.{◌≡◌};
+ghost use Rattle.std.specs.Option.{option_copied};
+ghost use Rattle.route_choice.specs.Tables.{joined};
+
+use crate::{Held, Overlay, Table};
+use net_names::Asn;
+
+/// What an AS holds, with the changes in place, sought first at a place.
+#[inline(always)]
+pub(crate) fn held_near<'a>(
+    table: &'a Table,
+    overlay: &'a Overlay,
+    asn: Asn,
+    place: usize,
+) -> Option<&'a Held>
+    ensures { option_copied result ≡ joined table.now overlay.now asn }
+{
+    match overlay.slot_near(asn, place) {
+        Some(change) => change.as_ref(),
+        None => table.held_near(asn, place),
+    }
+}
+
+/// The place at an index, or the first one where there is none.
+#[inline(always)]
+pub(crate) fn place_at(places: &[u32], index: usize) -> usize {
+    match places.get(index) {
+        Some(place) => *place as usize,
+        None => 0,
+    }
+}
