@@ -1,0 +1,6 @@
+pub mod Marks
+pub mod Keys
+pub mod Topologies
+pub mod Plans
+pub mod Within
+pub mod Loads

@@ -1,0 +1,196 @@
+-- Plans and policies that are made one entry after the other.
+use Rattle.std.proofs.Common.{◌≡◌, ◌≢◌, ℕ, suc, ◌+◌, ◌<◌, ◌≤◌, Bool, true, false, cond, List, [], ◌∷◌, ◌++◌, map, filter, take, length, get_or, slice_get, is_some, ◌||◌, IsTrue, Option, Some, None, refl, sym, ap, ◌∙◌, subst, arith}
+use Rattle.std.specs.List.{All, AllPairs}
+use Rattle.std.proofs.Common.{append_assoc, append-nil}
+use Rattle.std.proofs.lemmas.List.{get_or-take, length-take, take_more}
+use Rattle.std.proofs.lemmas.List.Elements.{All-head, All-tail, All-from_get_or, All-get_or}
+use Rattle.std.proofs.lemmas.Cmp.{nat_cmp_total, tied_itself}
+use Rattle.std.proofs.lemmas.Map.Lookups.{exact_pairs, exact_unsigned}
+use Rattle.std.specs.Cmp.{IsTotalOrder}
+use Rattle.std.specs.declared.cmp.Ordering.{Ordering}
+use Rattle.std.specs.declared.cmp.Ordering.TheVariants.{Less, Equal, Greater}
+use Rattle.std.specs.Ordering.{nat_cmp, eq_by_cmp, is_eq}
+use Rattle.std.specs.FinMap as fin
+use Rattle.std.specs.FinSet as set
+use Rattle.std.specs.FinMap.Entries.{find}
+use Rattle.net_names.specs.Links.{pair_cmp}
+use Rattle.net_names.specs.Prefixes.{PrefixValue, prefix_cmp}
+use Rattle.net_names.proofs.Pairs.{pairs_total}
+use Rattle.policy_kinds.specs.declared.kind.Kind.{Kind}
+use Rattle.stability_laws.specs.Plans.{Plan, announcement_cmp, announcer_of, announces, with_announcement, with_leaker}
+use Rattle.stability_laws.proofs.PlanOrders.{exact_prefix, prefixes_total, exact_announcement, announcements_total}
+use Rattle.scenario_text.specs.Scenarios.{ScenarioValue, IsScenario, StartsWith, name_of}
+use Rattle.scenario_text.specs.declared.scenario.Announcement.{Announcement}
+use Rattle.sim_core.specs.Loaded.{planned, leaks_from, is_other, kinds_of}
+
+-- a key as the entry of a set
+abbrev one : {A K : Type 0} → (A → K) → A → K × Unit {0}
+one f a = (f a, tt)
+
+abbrev there : Option (Unit {0})
+there = Some tt
+
+-- a key among others that are put in one after the other
+module _ {K : Type 0} {R : K → K → Ordering} (o : IsTotalOrder R) (same : fin.IsAntisymmetric R) where
+  find_push : {A : Type 0} (f : A → K) (xs : List A) (x : A) (q : K)
+      → find R q (map (one f) (xs ++ x ∷ [])) ≡ cond (eq_by_cmp R q (f x)) (there) (find R q (map (one f) xs))
+  find_push f [] x q = refl
+  find_push f (y ∷ ys) x q = ap (cond (eq_by_cmp R q (f y)) (there)) (find_push f ys x q) ∙ swapped (eq_by_cmp R q (f y)) (eq_by_cmp R q (f x)) (find R q (map (one f) ys))
+    where
+      swapped : (a b : Bool) (r : Option (Unit {0})) → cond a (there) (cond b (there) r) ≡ cond b (there) (cond a (there) r)
+      swapped true true r = refl
+      swapped true false r = refl
+      swapped false true r = refl
+      swapped false false r = refl
+
+  pub set_push : {A : Type 0} (f : A → K) (xs : List A) (x : A) → fin.from_entries {R = R} (map (one f) (xs ++ x ∷ [])) ≡ fin.insert (fin.from_entries (map (one f) xs)) (f x) tt
+  set_push f xs x = fin.same_map o same _ _ (λ q.
+      fin.get-from_entries o (map (one f) (xs ++ x ∷ [])) q
+      ∙ find_push f xs x q
+      ∙ sym (fin.get-insert o (fin.from_entries (map (one f) xs)) (f x) tt q ∙ ap (cond (eq_by_cmp R q (f x)) (there)) (fin.get-from_entries o (map (one f) xs) q)))
+
+is_equal : (r : Ordering) → is_eq r ≡ true → r ≡ Equal
+is_equal Less e = cc
+is_equal Equal e = refl
+is_equal Greater e = cc
+
+-- a key that none of the entries has is not found
+module _ {K X : Type 0} {R : K → K → Ordering} (same : fin.IsAntisymmetric R) where
+  skipped : (k : K) (e : K × X) (r : Option X) → e.0 ≢ k → r ≡ None → cond (eq_by_cmp R k e.0) (Some e.1) r ≡ None
+  skipped k e r other none =
+      elim (eq_by_cmp R k e.0) as (λ b. eq_by_cmp R k e.0 ≡ b → cond b (Some e.1) r ≡ None) [
+        | true ↦ λ is. absurd (other (sym (same k e.0 (is_equal (R k e.0) is))))
+        | false ↦ λ is. none
+      ] refl
+
+  pub unfound : {A : Type 0} (entry : A → K × X) (k : K) (xs : List A) → All (λ a. (entry a).0 ≢ k) xs → find R k (map entry xs) ≡ None
+  unfound entry k [] h = refl
+  unfound entry k (a ∷ xs) h = skipped k (entry a) (find R k (map entry xs)) (All-head (λ b. (entry b).0 ≢ k) a xs h) (unfound entry k xs (All-tail (λ b. (entry b).0 ≢ k) a xs h))
+
+  pub unfound_kept : (test : K × X → Bool) (k : K) (es : List (K × X)) → All (λ e. e.0 ≢ k) es → find R k (filter test es) ≡ None
+  unfound_kept test k [] h = refl
+  unfound_kept test k (e ∷ es) h =
+      elim (test e) as (λ b. find R k (cond b (e ∷ filter test es) (filter test es)) ≡ None) [
+        | true ↦ skipped k e (find R k (filter test es)) (All-head (λ d. d.0 ≢ k) e es h) (unfound_kept test k es (All-tail (λ d. d.0 ≢ k) e es h))
+        | false ↦ unfound_kept test k es (All-tail (λ d. d.0 ≢ k) e es h)
+      ]
+
+-- what differs from each later one differs from those before it
+pub earlier_differ : {A : Type 0} (P : A → A → Type 0) (xs : List A) (i : ℕ) (d : A) → i < length xs → AllPairs P xs → All (λ a. P a (get_or xs i d)) (take i xs)
+earlier_differ P xs i d inside pairs = All-from_get_or (λ a. P a (get_or xs i d)) (take i xs) d (λ j before.
+    let here : j < i = omega (arith, before, length-take i xs) in
+    subst (λ a. P a (get_or xs i d)) (sym (get_or-take i xs j d here)) (pairs j i d here inside))
+
+-- one more announcement
+starts : (asn : ℕ) (path : List ℕ) → StartsWith asn path → announcer_of path ≡ asn
+starts asn [] h = cc
+starts asn (a ∷ more) h = cc
+
+map_push : {A B : Type 0} (f : A → B) (xs : List A) (x : A) → map f (xs ++ x ∷ []) ≡ map f xs ++ f x ∷ []
+map_push f [] x = refl
+map_push f (y ∷ ys) x = ap (λ zs. f y ∷ zs) (map_push f ys x)
+
+pub planned_announcement : (xs : List Announcement) (leaks : List (ℕ × ℕ)) (x : Announcement) → StartsWith x.asn x.path → All (λ a. name_of a ≢ name_of x) xs
+    → planned (xs ++ x ∷ []) leaks ≡ with_announcement (planned xs leaks) x.prefix x.path
+planned_announcement xs leaks x own new =
+    let entry : Announcement → (PrefixValue × ℕ) × List ℕ = λ (a : Announcement). ((a.prefix, a.asn), a.path) in
+    let prefixes = set_push prefixes_total exact_prefix (λ (a : Announcement). a.prefix) xs x in
+    let announced : fin.from_entries {R = announcement_cmp} (map entry (xs ++ x ∷ [])) ≡ fin.insert (fin.from_entries (map entry xs)) (x.prefix, announcer_of x.path) x.path =
+    ap (λ es. fin.from_entries {R = announcement_cmp} es) (map_push entry xs x)
+    ∙ fin.from_entries_push announcements_total exact_announcement (map entry xs) (x.prefix, x.asn) x.path (unfound exact_announcement entry (x.prefix, x.asn) xs new)
+    ∙ ap (λ a. fin.insert (fin.from_entries (map entry xs)) (x.prefix, a) x.path) (sym (starts x.asn x.path own)) in
+    λ i. record { prefixes = prefixes i; announced = announced i; leakers = fin.from_entries (map (λ leak. (leak, tt)) leaks) }
+
+-- nobody announces it yet
+pub unannounced : (xs : List Announcement) (leaks : List (ℕ × ℕ)) (x : Announcement) → StartsWith x.asn x.path → All (λ a. name_of a ≢ name_of x) xs → announces (planned xs leaks) x.prefix (announcer_of x.path) ≡ false
+unannounced xs leaks x own new =
+    ap (λ a. announces (planned xs leaks) x.prefix a) (starts x.asn x.path own)
+    ∙ ap is_some (fin.get-from_entries announcements_total (map (λ (a : Announcement). ((a.prefix, a.asn), a.path)) xs) (x.prefix, x.asn) ∙ unfound exact_announcement (λ (a : Announcement). ((a.prefix, a.asn), a.path)) (x.prefix, x.asn) xs new)
+
+pub exact_pair : fin.IsAntisymmetric pair_cmp
+exact_pair = exact_pairs nat_cmp nat_cmp exact_unsigned exact_unsigned
+
+-- one more leaker
+pub planned_leaker : (xs : List Announcement) (leaks : List (ℕ × ℕ)) (round a : ℕ) → planned xs (leaks ++ (round, a) ∷ []) ≡ with_leaker (planned xs leaks) round a
+planned_leaker xs leaks round a = let leakers = set_push pairs_total exact_pair (λ (leak : ℕ × ℕ). leak) leaks (round, a) in λ i. record (planned xs leaks) { leakers = leakers i }
+
+pub one_leaker_more : (xs : List Announcement) (leaks : List (ℕ × ℕ)) (leakers : List ℕ) (i round a : ℕ) (old new : Plan) → i < length leakers → a ≡ get_or leakers i a
+    → old ≡ planned xs (leaks ++ map (λ b. (round, b)) (take i leakers)) → new ≡ with_leaker old round a → new ≡ planned xs (leaks ++ map (λ b. (round, b)) (take (i + 1) leakers))
+one_leaker_more xs leaks leakers i round a old new inside is so made =
+    let pair : ℕ → ℕ × ℕ = λ b. (round, b) in
+    let more : leaks ++ map pair (take (i + 1) leakers) ≡ (leaks ++ map pair (take i leakers)) ++ (round, a) ∷ [] =
+    ap (λ ys. leaks ++ map pair ys) (take_more leakers i a inside ∙ ap (λ b. take i leakers ++ b ∷ []) (sym is))
+    ∙ ap (λ ys. leaks ++ ys) (map_push pair (take i leakers) a)
+    ∙ sym (append_assoc leaks (map pair (take i leakers)) ((round, a) ∷ [])) in
+    made ∙ ap (λ (p : Plan). with_leaker p round a) so ∙ sym (planned_leaker xs (leaks ++ map pair (take i leakers)) round a) ∙ ap (planned xs) (sym more)
+
+filter_push : {A : Type 0} (test : A → Bool) (xs : List A) (x : A) → filter test (xs ++ x ∷ []) ≡ filter test xs ++ filter test (x ∷ [])
+filter_push test [] x = refl
+filter_push test (y ∷ ys) x =
+    elim (test y) as (λ b. cond b (y ∷ filter test (ys ++ x ∷ [])) (filter test (ys ++ x ∷ [])) ≡ cond b (y ∷ filter test ys) (filter test ys) ++ filter test (x ∷ [])) [
+      | true ↦ ap (λ zs. y ∷ zs) (filter_push test ys x)
+      | false ↦ filter_push test ys x
+    ]
+
+-- a policy that names nobody else
+pub named_too : (before : List (ℕ × Kind)) (p : ℕ × Kind) (old new : fin.FinMap nat_cmp Kind) → All (λ q. q.0 ≢ p.0) before → is_other p ≡ true → old ≡ kinds_of before → new ≡ fin.insert old p.0 p.1 → new ≡ kinds_of (before ++ p ∷ [])
+named_too before p old new others is so made =
+    made ∙ ap (λ (m : fin.FinMap nat_cmp Kind). fin.insert m p.0 p.1) so
+    ∙ sym (fin.from_entries_push nat_cmp_total fin.nat_cmp-IsAntisymmetric (filter is_other before) p.0 p.1 (unfound_kept fin.nat_cmp-IsAntisymmetric is_other p.0 before others))
+    ∙ ap (λ es. fin.from_entries {R = nat_cmp} es) (sym (filter_push is_other before p ∙ ap (λ b. filter is_other before ++ cond b (p ∷ []) []) is))
+
+-- the plain policy names nobody
+pub unnamed : (before : List (ℕ × Kind)) (p : ℕ × Kind) → is_other p ≡ false → kinds_of before ≡ kinds_of (before ++ p ∷ [])
+unnamed before p is =
+    ap (λ es. fin.from_entries {R = nat_cmp} es) (sym (filter_push is_other before p ∙ ap (λ b. filter is_other before ++ cond b (p ∷ []) []) is ∙ append-nil (filter is_other before)))
+
+-- what a scenario's announcement at a place is to those before it
+pub announcement_new : (s : ScenarioValue) (i : ℕ) (x : Announcement) → IsScenario s → i < length s.announcements → x ≡ get_or s.announcements i x → All (λ a. name_of a ≢ name_of x) (take i s.announcements)
+announcement_new s i x is inside here =
+    subst (λ (y : Announcement). All (λ a. name_of a ≢ name_of y) (take i s.announcements)) (sym here) (earlier_differ (λ (a b : Announcement). name_of a ≢ name_of b) s.announcements i x inside is.announced_once)
+
+pub announcement_own : (s : ScenarioValue) (i : ℕ) (x : Announcement) → IsScenario s → i < length s.announcements → x ≡ get_or s.announcements i x → StartsWith x.asn x.path
+announcement_own s i x is inside here = subst (λ (y : Announcement). StartsWith y.asn y.path) (sym here) (All-get_or (λ (y : Announcement). StartsWith y.asn y.path) s.announcements i x inside is.own_paths)
+
+-- one more announcement of a scenario
+pub announced_more : (s : ScenarioValue) (i : ℕ) (x : Announcement) (path : List ℕ) (old new : Plan) → IsScenario s → i < length s.announcements → x ≡ get_or s.announcements i x → path ≡ x.path
+    → old ≡ planned (take i s.announcements) [] → new ≡ with_announcement old x.prefix path → new ≡ planned (take (i + 1) s.announcements) []
+announced_more s i x path old new is inside here same so made =
+    made ∙ ap (λ (p : Plan). with_announcement p x.prefix path) so ∙ ap (with_announcement (planned (take i s.announcements) []) x.prefix) same
+    ∙ sym (planned_announcement (take i s.announcements) [] x (announcement_own s i x is inside here) (announcement_new s i x is inside here))
+    ∙ ap (λ xs. planned xs []) (ap (λ y. take i s.announcements ++ y ∷ []) here ∙ sym (take_more s.announcements i x inside))
+
+pub announced_new : (s : ScenarioValue) (i : ℕ) (x : Announcement) (path : List ℕ) (plan : Plan) → IsScenario s → i < length s.announcements → x ≡ get_or s.announcements i x → path ≡ x.path
+    → plan ≡ planned (take i s.announcements) [] → announces plan x.prefix (announcer_of path) ≡ false
+announced_new s i x path plan is inside here same so =
+    rw (so, same) (unannounced (take i s.announcements) [] x (announcement_own s i x is inside here) (announcement_new s i x is inside here))
+
+-- one more policy of a scenario
+pub policy_new : (s : ScenarioValue) (i : ℕ) (p : ℕ × Kind) → IsScenario s → i < length s.policies → p ≡ get_or s.policies i p → All (λ q. q.0 ≢ p.0) (take i s.policies)
+policy_new s i p is inside here =
+    subst (λ (y : ℕ × Kind). All (λ q. q.0 ≢ y.0) (take i s.policies)) (sym here) (earlier_differ (λ (a b : ℕ × Kind). a.0 ≢ b.0) s.policies i p inside is.ruled_once)
+
+or_here : (a b : Bool) → a ≡ true → IsTrue (a || b)
+or_here true b h = refl
+or_here false b h = cc
+
+-- room for an AS that was made is there
+pub has_room : (room : set.FinSet nat_cmp) (a : ℕ) → IsTrue (set.contains (set.insert room a) a)
+has_room room a = rw (set.contains-insert nat_cmp_total room a a) (or_here (eq_by_cmp nat_cmp a a) (set.contains room a) (ap is_eq (tied_itself nat_cmp_total a)))
+
+leaks_push : (round : ℕ) (lists : List (List ℕ)) (leakers : List ℕ) → leaks_from round (lists ++ leakers ∷ []) ≡ leaks_from round lists ++ map (λ a. (round + length lists, a)) leakers
+leaks_push round [] leakers = append-nil (map (λ a. (round, a)) leakers) ∙ ap (λ r. map (λ a. (r, a)) leakers) (let same : round ≡ round + 0 = omega arith in same)
+leaks_push round (first ∷ lists) leakers =
+    ap (λ ls. map (λ a. (round, a)) first ++ ls) (leaks_push (suc round) lists leakers)
+    ∙ sym (append_assoc (map (λ a. (round, a)) first) (leaks_from (suc round) lists) (map (λ a. (suc round + length lists, a)) leakers))
+    ∙ ap (λ r. (map (λ a. (round, a)) first ++ leaks_from (suc round) lists) ++ map (λ a. (r, a)) leakers) (let same : suc round + length lists ≡ round + suc (length lists) = omega arith in same)
+
+-- the leakers of one round more
+pub leaks_more : (xs : List Announcement) (lists : List (List ℕ)) (i round : ℕ) (leakers : List ℕ) (now : Plan) → i < length lists → leakers ≡ get_or lists i leakers → round ≡ 2 + i
+    → now ≡ planned xs (leaks_from 2 (take i lists) ++ map (λ a. (round, a)) leakers) → now ≡ planned xs (leaks_from 2 (take (i + 1) lists))
+leaks_more xs lists i round leakers now inside here at is =
+    let long : 2 + length (take i lists) ≡ round = omega (arith, length-take i lists, at, inside) in
+    is ∙ ap (planned xs) (sym (
+    ap (leaks_from 2) (take_more lists i leakers inside ∙ ap (λ l. take i lists ++ l ∷ []) (sym here))
+    ∙ leaks_push 2 (take i lists) leakers
+    ∙ ap (λ r. leaks_from 2 (take i lists) ++ map (λ a. (r, a)) leakers) long))

@@ -1,0 +1,9 @@
+use Rattle.std.proofs.Common.{◌≡◌, ◌+◌, take}
+use Rattle.sim_core.specs.Loaded.{leaks_from, planned}
+use Rattle.sim_core.proofs.planning.seed_plan.Given as goal
+
+abbrev pub invariant-loop-leakers : goal.invariant-loop-leakers
+invariant-loop-leakers l = record {
+  round : l.round ≡ 2 + l.leakers-index;
+  plan : l.plan ≡ planned l.scenario.announcements (leaks_from 2 (take l.leakers-index l.leakers-items));
+}

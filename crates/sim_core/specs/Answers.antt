@@ -1,0 +1,44 @@
+-- Answers to queries.
+use Rattle.std.specs.Prelude.{◌≡◌, ℕ, Bool, Option, None, Some, List, ◌++◌, if◌then◌else◌}
+use Rattle.scenario_text.specs.declared.acts.Query.{Query}
+use Rattle.scenario_text.specs.declared.acts.Query.TheVariants as query
+use Rattle.reports.specs.Rows.{IsTable, row}
+use Rattle.sim_core.specs.World.{World, has_as, has_prefix, has_round}
+use Rattle.sim_core.specs.Families.{Family}
+use Rattle.sim_core.specs.declared.errors.QueryError.{QueryError}
+use Rattle.sim_core.specs.declared.errors.QueryError.TheVariants as refused
+
+-- this refusal, unless what it asks for is there
+abbrev pub unless : Bool → QueryError → Option QueryError → Option QueryError
+unless there e others = if there then others else Some e
+
+-- why a query is refused: the first thing in the order round, prefix, AS that it names and that the world has not (own rule)
+abbrev pub refusal_of : World → Query → Option QueryError
+refusal_of w (query.Routes round prefix) = unless (has_round w round) (refused.UnknownRound round) (unless (has_prefix w prefix) (refused.UnknownPrefix prefix) None)
+refusal_of w (query.Route round prefix a) =
+    unless (has_round w round) (refused.UnknownRound round) (unless (has_prefix w prefix) (refused.UnknownPrefix prefix) (unless (has_as w a) (refused.UnknownAs a) None))
+refusal_of w _ = None
+
+-- the text is the answer to a query, by the routings of the rounds (own format)
+abbrev pub IsAnswer : World → Family → Query → List ℕ → Type 0
+IsAnswer w g (query.Routes round prefix) text = IsTable (has_as w) (g round prefix) text
+IsAnswer w g (query.Route round prefix a) text = text ≡ row a (g round prefix a)
+IsAnswer w g _ text = ⊥
+
+-- the queries that are answered
+abbrev pub IsAnswered : Query → Type 0
+IsAnswered (query.Routes round prefix) = Unit {0}
+IsAnswered (query.Route round prefix a) = Unit {0}
+IsAnswered _ = ⊥
+
+-- the answer to the query was appended
+pub record Answers (w : World) (g : Family) (q : Query) (old new : List ℕ) : Type 0 where
+  pub text : List ℕ
+  pub answer : IsAnswer w g q text
+  pub accepted : refusal_of w q ≡ None
+  pub appended : new ≡ old ++ text
+
+-- memory is wanting, or this is the reason to refuse the query (own rule)
+abbrev pub IsQueryRefusal : World → Query → QueryError → Type 0
+IsQueryRefusal w q refused.Memory = Unit {0}
+IsQueryRefusal w q e = refusal_of w q ≡ Some e

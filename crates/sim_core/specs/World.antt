@@ -1,0 +1,54 @@
+-- A world: what a simulation rests on.
+use Rattle.std.specs.Prelude.{ℕ, Bool, ◌&&◌, nat_le, List, map, ◌++◌, unwrap_or}
+use Rattle.std.specs.Ordering.{nat_cmp}
+use Rattle.std.specs.FinMap as fin
+use Rattle.std.specs.FinSet as set
+use Rattle.net_names.specs.Links.{LinkMap}
+use Rattle.net_names.specs.Prefixes.{PrefixValue}
+use Rattle.as_graph.specs.Topology.{Topology, what, has}
+use Rattle.as_graph.specs.Hierarchy.{IsProviderCycle}
+use Rattle.policy_kinds.specs.Kinds.{kind_policy}
+use Rattle.policy_kinds.specs.declared.kind.Kind.{Kind}
+use Rattle.policy_kinds.specs.declared.kind.Kind.TheVariants.{Plain}
+use Rattle.net_names.specs.declared.routes.State.TheVariants.{NotFound}
+use Rattle.stability_laws.specs.Offers.{Setting}
+use Rattle.stability_laws.specs.Plans.{Plan, announcers_of, has_prefix as plans_prefix}
+
+-- the links between ASes, the policies of the ASes that have another than the plain one, what is announced and leaked, and how many rounds there are (own rule)
+pub record World : Type 0 where
+  pub links : LinkMap
+  pub kinds : fin.FinMap nat_cmp Kind
+  pub plan : Plan
+  pub rounds : ℕ
+
+-- the ASes that leak in some round (RFC 7908, section 3)
+abbrev pub leakers : Plan → List ℕ
+leakers plan = map (λ e. e.1) (fin.keys plan.leakers)
+
+-- the graph of a world: its links, and the ASes that an announcement, a leak or a policy names, which are there without a link too (own rule)
+abbrev pub topology : World → Topology
+topology w = record { links = w.links; marked = set.from_list (announcers_of w.plan ++ (leakers w.plan ++ fin.keys w.kinds)) }
+
+-- an AS of the world (own rule)
+abbrev pub has_as : World → ℕ → Bool
+has_as w = has (topology w)
+
+-- a prefix of the world is one that the scenario announces (own rule)
+abbrev pub has_prefix : World → PrefixValue → Bool
+has_prefix w prefix = plans_prefix w.plan prefix
+
+-- rounds are counted from 1 (own rule)
+abbrev pub has_round : World → ℕ → Bool
+has_round w round = nat_le 1 round && nat_le round w.rounds
+
+-- the policy of an AS; an AS that none is named for has the plain one (own rule)
+abbrev pub kind_at : World → ℕ → Kind
+kind_at w a = unwrap_or (fin.get w.kinds a) Plain
+
+-- what the routing of a prefix rests on: the ASes and their links, and their policies; without payloads each origin's state is not-found (RFC 6811, section 2)
+abbrev pub setting_of : World → PrefixValue → Setting
+setting_of w prefix = record { has = has_as w; what = what (topology w); policy = λ a. kind_policy (kind_at w a); state = λ origin. NotFound }
+
+-- there is a provider cycle among the links (Gao and Rexford 2001, the hierarchy assumption)
+abbrev pub HasCycle : World → Type 0
+HasCycle w = (cycle : List ℕ) × IsProviderCycle (what (topology w)) cycle

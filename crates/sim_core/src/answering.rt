@@ -1,0 +1,121 @@
+//! Answers of a simulation.
+ghost use Rattle.std.specs.Prelude.{◌≡◌, ◌≤◌, Some, IfOk, IfErr, OnOk, OnErr};
+ghost use Rattle.std.specs.FinMap as fin;
+ghost use Rattle.as_graph.specs.Topology.{as_count};
+ghost use Rattle.scenario_text.specs.declared.acts.Query.TheVariants as query;
+ghost use Rattle.sim_core.specs.Answers.{Answers, IsAnswered, IsQueryRefusal};
+ghost use Rattle.sim_core.specs.Parts.{IsTableOf, no_table, world_by};
+ghost use Rattle.sim_core.specs.Sims.{kept, world_seen};
+ghost use Rattle.sim_core.specs.World.{topology};
+
+use crate::{QueryError, Sim};
+use as_graph::Graph;
+use leak_round::Rounds;
+use net_names::{Asn, Prefix};
+use policy_kinds::Kind;
+use reports::{put_route, put_routes};
+use route_choice::Table;
+use scenario_text::Query;
+use stability_laws::Book;
+
+// The table of a round for a prefix.
+fn table_of<'a>(
+    graph: &Graph,
+    book: &Book<Kind>,
+    rounds: &'a Rounds,
+    round: u32,
+    prefix: Prefix,
+) -> Result<&'a Table, QueryError>
+    ensures found { IfOk result (λ t. IsTableOf (world_by graph.now book.now rounds.now) rounds.now round prefix t.now) }
+    ensures refused { IfErr result (λ e. no_table (world_by graph.now book.now rounds.now) round prefix ≡ Some e) }
+{
+    let _ = graph;
+    let _ = book;
+    let Some(tables) = rounds.round(round) else {
+        return Err(QueryError::UnknownRound { round });
+    };
+    match tables.table(prefix) {
+        Some(table) => Ok(table),
+        None => Err(QueryError::UnknownPrefix { prefix }),
+    }
+}
+
+impl Sim {
+    // Appends the table of a round for a prefix.
+    fn put_routes(&self, round: u32, prefix: Prefix, out: &mut Vec<u8>) -> Result<(), QueryError>
+        ensures answered { OnOk result (Answers (world_seen self.now) (kept self.now) (query.Routes round prefix) out.old.items out.new.items) }
+        ensures refused { IfErr result (IsQueryRefusal (world_seen self.now) (query.Routes round prefix)) }
+        ensures err { OnErr result (out.new.items ≡ out.old.items) }
+    {
+        let table = match table_of(&self.graph, &self.book, &self.rounds, round, prefix) {
+            Ok(table) => table,
+            Err(error) => return Err(error),
+        };
+        match put_routes(out, &self.graph, table, self.rounds.pool()) {
+            Ok(()) => Ok(()),
+            Err(_) => Err(QueryError::Memory),
+        }
+    }
+
+    // Appends the row of an AS in that table.
+    fn put_route(
+        &self,
+        round: u32,
+        prefix: Prefix,
+        asn: Asn,
+        out: &mut Vec<u8>,
+    ) -> Result<(), QueryError>
+        ensures answered { OnOk result (Answers (world_seen self.now) (kept self.now) (query.Route round prefix asn) out.old.items out.new.items) }
+        ensures refused { IfErr result (IsQueryRefusal (world_seen self.now) (query.Route round prefix asn)) }
+        ensures err { OnErr result (out.new.items ≡ out.old.items) }
+    {
+        let table = match table_of(&self.graph, &self.book, &self.rounds, round, prefix) {
+            Ok(table) => table,
+            Err(error) => return Err(error),
+        };
+        if !self.graph.has(asn) {
+            return Err(QueryError::UnknownAs { asn });
+        }
+        match put_route(out, table, self.rounds.pool(), asn) {
+            Ok(()) => Ok(()),
+            Err(_) => Err(QueryError::Memory),
+        }
+    }
+
+    /// Appends the answer to a query. It is refused exactly where it names something that the world has
+    /// not: `UnknownRound`, `UnknownPrefix` or `UnknownAs`, tested in this order among what it names.
+    /// After a refusal `out` is as it was.
+    ///
+    /// Traces, reports, ranks and validity are not answered yet.
+    pub fn answer(&self, query: &Query, out: &mut Vec<u8>) -> Result<(), QueryError>
+        requires { IsAnswered query.now }
+        ensures answered { OnOk result (Answers (world_seen self.now) (kept self.now) query.now out.old.items out.new.items) }
+        ensures refused { IfErr result (IsQueryRefusal (world_seen self.now) query.now) }
+        ensures err { OnErr result (out.new.items ≡ out.old.items) }
+    {
+        match query {
+            Query::Routes { round, prefix } => self.put_routes(*round, *prefix, out),
+            Query::Route { round, prefix, asn } => self.put_route(*round, *prefix, *asn, out),
+            Query::Trace { .. } => unreachable!(),
+            Query::Report { .. } => unreachable!(),
+            Query::Ranks => unreachable!(),
+            Query::Validity { .. } => unreachable!(),
+        }
+    }
+
+    /// How many ASes the world has, at most 150,000.
+    pub fn as_count(&self) -> usize
+        ensures value { result ≡ as_count (topology (world_seen self.now)) }
+        ensures few { result ≤ 150000 }
+    {
+        self.graph.as_count()
+    }
+
+    /// How many links the world has, at most 1,500,000.
+    pub fn link_count(&self) -> usize
+        ensures value { result ≡ fin.len (world_seen self.now).links }
+        ensures few { result ≤ 1500000 }
+    {
+        self.graph.link_count()
+    }
+}

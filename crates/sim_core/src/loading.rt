@@ -1,0 +1,97 @@
+//! Making a simulation.
+ghost use Rattle.std.specs.Prelude.{◌≡◌, ◌<◌, ◌≤◌, ℕ, IfOk, IfErr, OnOk};
+ghost use Rattle.as_graph.specs.Topology.{as_count, what};
+ghost use Rattle.as_graph.specs.Hierarchy.{HasNoProviderCycle, IsRank};
+ghost use Rattle.rank_order.specs.Ranks.{rank_at};
+ghost use Rattle.sim_core.specs.Families.{IsOneFamily};
+ghost use Rattle.sim_core.specs.Loaded.{world_of};
+ghost use Rattle.sim_core.specs.Loading.{IsCycleRefusal, IsLoadRefusal};
+ghost use Rattle.sim_core.specs.Sims.{kept, world_seen};
+ghost use Rattle.sim_core.specs.World.{HasCycle, topology};
+
+use crate::naming::world_graph;
+use crate::planning::{policies, seed_plan};
+use crate::{LoadError, Sim};
+use as_graph::Graph;
+use leak_round::Rounds;
+use net_names::Links;
+use policy_laws::NoStates;
+use rank_order::{RankError, Ranks};
+use route_choice::Steps;
+use scenario_text::Scenario;
+use std::alloc::Global;
+use std::marker::Brand;
+use std::sync::ledger::{Blank, Ledger};
+
+// The ranks of a graph.
+fn ranks_of(alloc: Global, graph: &Graph) -> Result<Ranks, LoadError>
+    ensures ranks { IfOk result (λ r. (a : ℕ) → IsRank (what graph.now) a (rank_at r a)) }
+    ensures no_cycle { OnOk result (HasNoProviderCycle (what graph.now)) }
+    ensures refused { IfErr result (IsCycleRefusal (what graph.now)) }
+{
+    match Ranks::build(alloc, graph) {
+        Ok(ranks) => Ok(ranks),
+        Err(RankError::Memory) => Err(LoadError::Memory),
+        Err(RankError::ProviderCycle(cycle)) => Err(LoadError::ProviderCycle(cycle)),
+    }
+}
+
+// The simulation of a world.
+fn load_world<L: Ledger>(
+    alloc: Global,
+    links: &Links,
+    scenario: &Scenario,
+    blank: Blank,
+) -> Result<Sim, LoadError>
+    requires ledger { (blank.name ≡ L.name) × (blank.parts ≡ L.parts) × (0 < L.parts) }
+    ensures world { IfOk result (λ sim. world_seen sim ≡ world_of links.now scenario.now) }
+    ensures routings { IfOk result (λ sim. IsOneFamily (world_seen sim) (kept sim)) }
+    ensures no_cycle { IfOk result (λ sim. HasCycle (world_seen sim) → ⊥) }
+    ensures few { IfOk result (λ sim. as_count (topology (world_seen sim)) ≤ 150000) }
+    ensures refused { IfErr result (IsLoadRefusal (world_of links.now scenario.now)) }
+{
+    let graph = match world_graph(alloc, links, scenario) {
+        Ok(graph) => graph,
+        Err(error) => return Err(error),
+    };
+    let ranks = match ranks_of(alloc, &graph) {
+        Ok(ranks) => ranks,
+        Err(error) => return Err(error),
+    };
+    let Ok(book) = policies(alloc, scenario) else {
+        return Err(LoadError::Memory);
+    };
+    let Ok(plan) = seed_plan(alloc, scenario) else {
+        return Err(LoadError::Memory);
+    };
+    let count = scenario.leak_lists() as u32 + 1;
+    let mut steps = Steps::<L>::new(blank);
+    match Rounds::build(
+        alloc, &graph, &ranks, &book, &NoStates, plan, count, &mut steps,
+    ) {
+        Ok(rounds) => Ok(Sim {
+            graph,
+            book,
+            rounds,
+        }),
+        Err(_) => Err(LoadError::Memory),
+    }
+}
+
+impl Sim {
+    /// The simulation of the world of these links and this scenario. For each round and prefix it keeps
+    /// the one and only stable routing.
+    ///
+    /// `TooManyAses` comes exactly where the world has more than 150,000 ASes, and else `ProviderCycle`
+    /// exactly where its links have a provider cycle (Gao and Rexford 2001), with one from its lowest
+    /// number on, unless memory runs out.
+    pub fn load(alloc: Global, links: Links, scenario: Scenario) -> Result<Sim, LoadError>
+        ensures world { IfOk result (λ sim. world_seen sim ≡ world_of links scenario) }
+        ensures routings { IfOk result (λ sim. IsOneFamily (world_seen sim) (kept sim)) }
+        ensures no_cycle { IfOk result (λ sim. HasCycle (world_seen sim) → ⊥) }
+        ensures few { IfOk result (λ sim. as_count (topology (world_seen sim)) ≤ 150000) }
+        ensures refused { IfErr result (IsLoadRefusal (world_of links scenario)) }
+    {
+        load_world::<Brand>(alloc, &links, &scenario, Blank::new(1))
+    }
+}

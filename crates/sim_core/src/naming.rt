@@ -1,0 +1,129 @@
+//! The graph of a world: its links, and the ASes that the scenario names.
+ghost use Rattle.std.specs.Prelude.{◌≡◌, ◌≤◌, ◌∷◌, ◌++◌, [], ℕ, map, filter, flat_map, IfOk, OnOk, IfErr};
+ghost use Rattle.as_graph.specs.Topology.{as_count};
+ghost use Rattle.scenario_text.specs.declared.scenario.Announcement.{Announcement as AnAnnouncement};
+ghost use Rattle.sim_core.specs.Loaded.{is_other as is_other_policy, names_in};
+ghost use Rattle.sim_core.specs.Marking.{IsMarksRefusal, MakesGraph, marked};
+
+use crate::LoadError;
+use as_graph::{Graph, GraphError};
+use net_names::{Asn, Links, NoMemory};
+use policy_kinds::Kind;
+use scenario_text::{Announcement, Leakers, Scenario};
+use std::alloc::Global;
+
+// Marks an AS.
+fn mark(graph: &mut Graph, asn: Asn) -> Result<(), LoadError>
+    ensures ok { OnOk result (graph.new ≡ marked graph.old (asn ∷ [])) }
+    ensures few { OnOk result (as_count graph.old ≤ 150000 → as_count graph.new ≤ 150000) }
+    ensures refused { IfErr result (IsMarksRefusal graph.old (asn ∷ [])) }
+{
+    match graph.mark(asn) {
+        Ok(()) => Ok(()),
+        Err(GraphError::Memory) => Err(LoadError::Memory),
+        Err(GraphError::TooManyLinks) => unreachable!(),
+        Err(GraphError::TooManyAses) => Err(LoadError::TooManyAses),
+    }
+}
+
+// Marks the ASes.
+fn mark_all(graph: &mut Graph, names: &[Asn]) -> Result<(), LoadError>
+    ensures ok { OnOk result (graph.new ≡ marked graph.old names.now) }
+    ensures few { OnOk result (as_count graph.old ≤ 150000 → as_count graph.new ≤ 150000) }
+    ensures refused { IfErr result (IsMarksRefusal graph.old names.now) }
+{
+    for asn in names {
+        match mark(graph, *asn) {
+            Ok(()) => {}
+            Err(error) => return Err(error),
+        }
+    }
+    Ok(())
+}
+
+// Whether the kind is another than the plain one.
+pub fn is_other(kind: Kind) -> bool
+    ensures { (a : ℕ) → result ≡ is_other_policy (a, kind) }
+{
+    match kind {
+        Kind::Plain => false,
+        _ => true,
+    }
+}
+
+// Puts the announcing ASes at the end.
+fn add_announcers(names: &mut Vec<Asn>, announcements: &[Announcement]) -> Result<(), NoMemory>
+    ensures { OnOk result (names.new.items ≡ names.old.items ++ map (λ (a : AnAnnouncement). a.asn) announcements.now) }
+{
+    for announcement in announcements {
+        if names.push(announcement.asn).is_err() {
+            return Err(NoMemory);
+        }
+    }
+    Ok(())
+}
+
+// Puts the leakers of all rounds at the end.
+fn add_leakers(names: &mut Vec<Asn>, leaks: &[Leakers]) -> Result<(), NoMemory>
+    ensures { OnOk result (names.new.items ≡ names.old.items ++ flat_map (λ leakers. leakers) leaks.now) }
+{
+    for leakers in leaks {
+        if names.extend_from_slice(leakers.as_slice()).is_err() {
+            return Err(NoMemory);
+        }
+    }
+    Ok(())
+}
+
+// Puts the AS at the end, where its policy is another than the plain one.
+fn add_other(names: &mut Vec<Asn>, policy: (Asn, Kind)) -> Result<(), NoMemory>
+    ensures { OnOk result (names.new.items ≡ names.old.items ++ map (λ p. p.0) (filter is_other_policy (policy ∷ []))) }
+{
+    if !is_other(policy.1) {
+        return Ok(());
+    }
+    match names.push(policy.0) {
+        Ok(()) => Ok(()),
+        Err(_) => Err(NoMemory),
+    }
+}
+
+// Puts the ASes with another policy than the plain one at the end.
+fn add_others(names: &mut Vec<Asn>, policies: &[(Asn, Kind)]) -> Result<(), NoMemory>
+    ensures { OnOk result (names.new.items ≡ names.old.items ++ map (λ p. p.0) (filter is_other_policy policies.now)) }
+{
+    for policy in policies {
+        add_other(names, *policy)?;
+    }
+    Ok(())
+}
+
+// The ASes that the scenario names, some twice.
+fn names_of(alloc: Global, scenario: &Scenario) -> Result<Vec<Asn>, NoMemory>
+    ensures { IfOk result (λ names. names.items ≡ names_in scenario.now) }
+{
+    let mut names = Vec::new(alloc);
+    add_announcers(&mut names, scenario.announcements())?;
+    add_leakers(&mut names, scenario.leaks())?;
+    add_others(&mut names, scenario.policies())?;
+    Ok(names)
+}
+
+/// The graph of the links in which the ASes that the scenario names are marked.
+pub fn world_graph(alloc: Global, links: &Links, scenario: &Scenario) -> Result<Graph, LoadError>
+    ensures { MakesGraph links.now (names_in scenario.now) result }
+{
+    let Ok(names) = names_of(alloc, scenario) else {
+        return Err(LoadError::Memory);
+    };
+    let mut graph = match Graph::build(alloc, links) {
+        Ok(graph) => graph,
+        Err(GraphError::Memory) => return Err(LoadError::Memory),
+        Err(GraphError::TooManyLinks) => unreachable!(),
+        Err(GraphError::TooManyAses) => return Err(LoadError::TooManyAses),
+    };
+    match mark_all(&mut graph, &names) {
+        Ok(()) => Ok(graph),
+        Err(error) => Err(error),
+    }
+}

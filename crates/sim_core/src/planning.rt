@@ -1,0 +1,91 @@
+//! What a scenario announces and leaks, and which policies it gives, as the rounds need them.
+ghost use Rattle.std.specs.Prelude.{◌≡◌, ◌≢◌, ◌≤◌, ◌++◌, ◌∷◌, [], ℕ, List, All, map, IfOk, OnOk};
+ghost use Rattle.policy_kinds.specs.declared.kind.Kind.{Kind as AKind};
+ghost use Rattle.policy_kinds.specs.declared.kind.Kind.TheVariants.{Plain};
+ghost use Rattle.scenario_text.specs.declared.scenario.Announcement.{Announcement as AnAnnouncement};
+ghost use Rattle.stability_laws.specs.Plans.{empty_plan};
+ghost use Rattle.sim_core.specs.Loaded.{kinds_of, plan_of, planned};
+
+use crate::naming::is_other;
+use net_names::{Asn, NoMemory, Path};
+use policy_kinds::Kind;
+use scenario_text::{Announcement, Scenario};
+use stability_laws::{Book, SeedPlan};
+use std::alloc::Global;
+
+// The same path once more.
+fn copy_of(alloc: Global, path: &Path) -> Result<Path, NoMemory>
+    ensures { IfOk result (λ p. p ≡ path.now) }
+{
+    let mut copy = Path::new(alloc);
+    for asn in path.as_slice() {
+        copy.push(*asn)?;
+    }
+    Ok(copy)
+}
+
+// Makes the ASes announce.
+fn announce_all(alloc: Global, plan: &mut SeedPlan, scenario: &Scenario) -> Result<(), NoMemory>
+    requires { plan.old ≡ empty_plan }
+    ensures { OnOk result (plan.new ≡ planned scenario.now.announcements []) }
+{
+    for announcement in scenario.announcements() {
+        let path = copy_of(alloc, &announcement.path)?;
+        plan.announce(announcement.prefix, path)?;
+    }
+    Ok(())
+}
+
+// Makes the ASes leak in the round.
+fn leak_all(plan: &mut SeedPlan, round: u32, leakers: &[Asn]) -> Result<(), NoMemory>
+    requires { 2 ≤ round }
+    ensures { OnOk result ((announcements : List AnAnnouncement) (leaks : List (ℕ × ℕ)) → plan.old ≡ planned announcements leaks → plan.new ≡ planned announcements (leaks ++ map (λ a. (round, a)) leakers.now)) }
+{
+    for asn in leakers {
+        plan.leaker(round, *asn)?;
+    }
+    Ok(())
+}
+
+/// What the scenario announces and leaks.
+pub fn seed_plan(alloc: Global, scenario: &Scenario) -> Result<SeedPlan, NoMemory>
+    ensures { IfOk result (λ plan. plan ≡ plan_of scenario.now) }
+{
+    let mut plan = SeedPlan::new(alloc);
+    announce_all(alloc, &mut plan, scenario)?;
+    let mut round = 2u32;
+    for leakers in scenario.leaks() {
+        leak_all(&mut plan, round, leakers.as_slice())?;
+        round += 1;
+    }
+    Ok(plan)
+}
+
+// Names the AS, where its policy is another than the plain one.
+fn name_policy(book: &mut Book<Kind>, policy: (Asn, Kind)) -> Result<(), NoMemory>
+    ensures rest { book.new.rest ≡ book.old.rest }
+    ensures named { OnOk result ((before : List (ℕ × AKind)) → All (λ p. p.0 ≢ policy.0) before → book.old.named ≡ kinds_of before → book.new.named ≡ kinds_of (before ++ policy ∷ [])) }
+{
+    if !is_other(policy.1) {
+        return Ok(());
+    }
+    match book.room(policy.0) {
+        Ok(()) => {
+            book.set(policy.0, policy.1);
+            Ok(())
+        }
+        Err(_) => Err(NoMemory),
+    }
+}
+
+/// The policies that the scenario gives, and the plain one for the rest.
+pub fn policies(alloc: Global, scenario: &Scenario) -> Result<Book<Kind>, NoMemory>
+    ensures rest { IfOk result (λ book. book.rest ≡ Plain) }
+    ensures named { IfOk result (λ book. book.named ≡ kinds_of scenario.now.policies) }
+{
+    let mut book = Book::new(alloc, Kind::Plain);
+    for policy in scenario.policies() {
+        name_policy(&mut book, *policy)?;
+    }
+    Ok(book)
+}

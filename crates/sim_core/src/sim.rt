@@ -1,0 +1,19 @@
+//! A simulation.
+ghost use Rattle.std.specs.Prelude.{◌≡◌};
+ghost use Rattle.sim_core.specs.Parts.{world_by};
+ghost use Rattle.sim_core.specs.World.{topology};
+
+use as_graph::Graph;
+use leak_round::Rounds;
+use policy_kinds::Kind;
+use stability_laws::Book;
+
+/// A world, and for each round and prefix the one and only stable routing. Contracts see the world and
+/// what each AS holds.
+#[derive(Drop)]
+pub struct Sim {
+    pub(crate) graph: Graph,
+    pub(crate) book: Book<Kind>,
+    pub(crate) rounds: Rounds,
+    ghost named: { graph ≡ topology (world_by graph book rounds) },
+}
