@@ -64,6 +64,14 @@ fn state_of<V: OriginStates>(
     }
 }
 
+/// The best view so far, if there is one, and the place where its neighbour was last found, which is a
+/// hint.
+#[derive(Drop)]
+pub(crate) struct Best {
+    pub(crate) view: Option<View>,
+    pub(crate) place: usize,
+}
+
 // The view of what a neighbour holds and exports, where the policy of the AS accepts it. Whether the
 // path goes through the AS is not asked here.
 fn view_of<P: RoutePolicy, V: OriginStates>(
@@ -126,16 +134,18 @@ fn weigh<P: RoutePolicy, V: OriginStates>(
     pool: &PathPool,
     asn: Asn,
     neighbour: &Neighbour,
+    place: usize,
     given: &Held,
-    best: &mut Option<View>,
+    best: &mut Best,
 )
     requires live { IsLive pool.now given.now.path.0 }
     requires exported { (P.meaning sender.now).exports given.now.class given.now.otc (converse neighbour.now.rel) ≡ true }
-    ensures { best.new ≡ better_of (P.meaning own.now) best.old (option_map (λ o. o.view) (offer_given (P.meaning sender.now) (P.meaning own.now) (state_seen reads (V.state_of states.now prefix)) neighbour.now.asn asn (Some neighbour.now.rel) (Some (entry_of pool.now given.now)))) }
+    ensures { best.new.view ≡ better_of (P.meaning own.now) best.old.view (option_map (λ o. o.view) (offer_given (P.meaning sender.now) (P.meaning own.now) (state_seen reads (V.state_of states.now prefix)) neighbour.now.asn asn (Some neighbour.now.rel) (Some (entry_of pool.now given.now)))) }
 {
     if let Some(view) = view_of(own, sender, states, reads, prefix, pool, neighbour, given) {
-        if is_better(own, pool, asn, best, &view, given.path) {
-            *best = Some(view);
+        if is_better(own, pool, asn, &best.view, &view, given.path) {
+            best.view = Some(view);
+            best.place = place;
         }
     }
 }
@@ -156,12 +166,12 @@ fn look_at<P: RoutePolicy, V: OriginStates>(
     neighbour: &Neighbour,
     place: usize,
     part: Part,
-    best: &mut Option<View>,
+    best: &mut Best,
 )
     requires linked { what graph.now asn neighbour.now.asn ≡ Some neighbour.now.rel }
     requires live { AreLive pool.now table.now overlay.now }
     requires own { own.now ≡ policy_at book.now asn }
-    ensures { best.new ≡ better_of (P.meaning (policy_at book.now asn)) best.old (option_map (λ o. o.view) (offers_of part (setting P.meaning graph.now book.now (state_seen reads (V.state_of states.now (prefix_of table.now)))) (routing_of pool.now table.now overlay.now) asn neighbour.now.asn)) }
+    ensures { best.new.view ≡ better_of (P.meaning (policy_at book.now asn)) best.old.view (option_map (λ o. o.view) (offers_of part (setting P.meaning graph.now book.now (state_seen reads (V.state_of states.now (prefix_of table.now)))) (routing_of pool.now table.now overlay.now) asn neighbour.now.asn)) }
 {
     if !looks_at(part, neighbour.rel) {
         return;
@@ -182,6 +192,7 @@ fn look_at<P: RoutePolicy, V: OriginStates>(
         pool,
         asn,
         neighbour,
+        place,
         given,
         best,
     );
@@ -201,13 +212,16 @@ pub(crate) fn best_view<P: RoutePolicy, V: OriginStates>(
     overlay: &Overlay,
     asn: Asn,
     part: Part,
-) -> Option<View>
+) -> Best
     requires neighbours { AreNeighbours (what graph.now) asn neighbours.now }
     requires live { AreLive pool.now table.now overlay.now }
-    ensures { IsBestView (P.meaning (policy_at book.now asn)) (λ n. offers_of part (setting P.meaning graph.now book.now (state_seen reads (V.state_of states.now (prefix_of table.now)))) (routing_of pool.now table.now overlay.now) asn n) result }
+    ensures { IsBestView (P.meaning (policy_at book.now asn)) (λ n. offers_of part (setting P.meaning graph.now book.now (state_seen reads (V.state_of states.now (prefix_of table.now)))) (routing_of pool.now table.now overlay.now) asn n) result.view }
 {
     let own = book.policy(asn);
-    let mut best: Option<View> = None;
+    let mut best = Best {
+        view: None,
+        place: 0,
+    };
     for (index, neighbour) in neighbours.iter().enumerate() {
         let place = place_at(places, index);
         look_at(

@@ -24,3 +24,12 @@ pub enum Choice {
         rel: Rel,
     },
 }
+
+/// A choice, and where the AS whose offer it names was last found. The place is a hint.
+#[derive(Clone, Copy)]
+pub struct ChoiceNear {
+    /// The choice.
+    pub choice: Choice,
+    /// The place.
+    pub place: usize,
+}

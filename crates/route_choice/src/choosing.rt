@@ -8,8 +8,8 @@ ghost use Rattle.route_choice.specs.Routings.{routing_of, seeds_of};
 ghost use Rattle.route_choice.specs.Choices.{offers_of, IsChoice};
 ghost use Rattle.route_choice.specs.Resources.{AreLive};
 
-use crate::best::best_view;
-use crate::{Choice, Overlay, Part, SeedIds, Steps, Table};
+use crate::best::{Best, best_view};
+use crate::{Choice, ChoiceNear, Overlay, Part, SeedIds, Steps, Table};
 use as_graph::Graph;
 use net_names::Asn;
 use path_pool::PathPool;
@@ -32,26 +32,36 @@ pub fn evaluate_near<P: RoutePolicy, V: OriginStates, L: Ledger>(
     place: usize,
     part: Part,
     steps: &mut Steps<L>,
-) -> Choice
+) -> ChoiceNear
     requires { AreLive pool.now table.now overlay.now }
-    ensures choice { IsChoice (P.meaning (policy_at book.now asn)) (seeds_of pool.now seeds.now asn) (λ n. offers_of part (setting P.meaning graph.now book.now (V.state_of states.now (prefix_of table.now))) (routing_of pool.now table.now overlay.now) asn n) result }
+    ensures choice { IsChoice (P.meaning (policy_at book.now asn)) (seeds_of pool.now seeds.now asn) (λ n. offers_of part (setting P.meaning graph.now book.now (V.state_of states.now (prefix_of table.now))) (routing_of pool.now table.now overlay.now) asn n) result.choice }
     ensures cost { steps.new ≡ steps.old + 1 }
 {
     steps.tick();
     if seeds.get(asn).is_some() {
-        return Choice::Seed;
+        return ChoiceNear {
+            choice: Choice::Seed,
+            place: 0,
+        };
     }
     let reads = book.policy(asn).reads_state();
     let neighbours = graph.neighbours_near(asn, place);
     let places = graph.neighbour_places(place);
-    match best_view(
+    let Best { view, place } = best_view(
         graph, neighbours, places, book, states, reads, pool, table, overlay, asn, part,
-    ) {
-        Some(view) => Choice::Via {
-            neighbour: view.neighbour,
-            rel: view.rel,
+    );
+    match view {
+        Some(view) => ChoiceNear {
+            choice: Choice::Via {
+                neighbour: view.neighbour,
+                rel: view.rel,
+            },
+            place,
         },
-        None => Choice::Nothing,
+        None => ChoiceNear {
+            choice: Choice::Nothing,
+            place,
+        },
     }
 }
 
@@ -77,4 +87,5 @@ pub fn evaluate<P: RoutePolicy, V: OriginStates, L: Ledger>(
     evaluate_near(
         graph, book, states, seeds, pool, table, overlay, asn, place, part, steps,
     )
+    .choice
 }

@@ -19,7 +19,7 @@ mod stepping;
 mod steps;
 mod table;
 
-pub use choice::{Choice, Part};
+pub use choice::{Choice, ChoiceNear, Part};
 pub use choosing::{evaluate, evaluate_near};
 pub use held::{Held, SeedHeld};
 pub use overlay::Overlay;

@@ -14,7 +14,7 @@ ghost use Rattle.route_choice.specs.Resources.{AreLive, AreSeedsLive, CanChange,
 
 use crate::looks::held_near;
 use crate::slots::let_go;
-use crate::{Choice, Held, Overlay, SeedIds, Table};
+use crate::{Choice, ChoiceNear, Held, Overlay, SeedIds, Table};
 use net_names::{Asn, Class};
 use path_pool::{PathId, PathPool, paths_are_not_empty};
 use policy_laws::RoutePolicy;
@@ -31,7 +31,7 @@ pub(crate) enum Wanted {
     Longer(Held),
 }
 
-// The entry that the choice names.
+// The entry that the choice names. The place where the neighbour may stand is a hint.
 fn wanted_by<P: RoutePolicy>(
     book: &Book<P>,
     seeds: &SeedIds,
@@ -39,6 +39,7 @@ fn wanted_by<P: RoutePolicy>(
     overlay: &Overlay,
     asn: Asn,
     choice: Choice,
+    from: usize,
 ) -> Wanted
     ensures entry { (p : APool) → wanted_entry p asn result ≡ named_by (λ n. P.meaning (policy_at book.now n)) (seeds_of p seeds.now asn) (routing_of p table.now overlay.now) asn choice }
     ensures live { (p : APool) → AreLive p table.now overlay.now → AreSeedsLive p seeds.now → IsWantedLive p result }
@@ -54,7 +55,7 @@ fn wanted_by<P: RoutePolicy>(
             }),
             None => Wanted::Nothing,
         },
-        Choice::Via { neighbour, rel } => match held_near(table, overlay, neighbour, 0) {
+        Choice::Via { neighbour, rel } => match held_near(table, overlay, neighbour, from) {
             Some(given) => {
                 let sender = book.policy(neighbour);
                 let receiver = book.policy(asn);
@@ -183,22 +184,30 @@ pub fn settle_near<P: RoutePolicy>(
     overlay: &mut Overlay,
     asn: Asn,
     place: usize,
-    choice: Choice,
+    chosen: ChoiceNear,
 ) -> bool
-    requires choice { IsNameable seeds.now table.now overlay.old asn choice }
+    requires choice { IsNameable seeds.now table.now overlay.old asn chosen.choice }
     requires pool { CanChange pool.old seeds.now table.now overlay.old 1 }
     requires room { HasPlace overlay.old asn }
-    ensures named { routing_of pool.new table.now overlay.new asn ≡ named_by (λ n. P.meaning (policy_at book.now n)) (seeds_of pool.old seeds.now asn) (routing_of pool.old table.now overlay.old) asn choice }
+    ensures named { routing_of pool.new table.now overlay.new asn ≡ named_by (λ n. P.meaning (policy_at book.now n)) (seeds_of pool.old seeds.now asn) (routing_of pool.old table.now overlay.old) asn chosen.choice }
     ensures others { (n : ℕ) → n ≢ asn → routing_of pool.new table.now overlay.new n ≡ routing_of pool.old table.now overlay.old n }
     ensures changed { IsTrue result ↔ (routing_of pool.new table.now overlay.new asn ≢ routing_of pool.old table.now overlay.old asn) }
     ensures unchanged { result ≡ false → (pool.new ≡ pool.old) × (overlay.new ≡ overlay.old) }
     ensures put { IsTrue result → IsSome (change_at overlay.new asn) }
     ensures spent { Spends pool.old pool.new overlay.old overlay.new asn }
-    ensures live { live_count pool.old < live_count pool.new → IsVia choice }
+    ensures live { live_count pool.old < live_count pool.new → IsVia chosen.choice }
     ensures next { (n : ℕ) → CanChange pool.old seeds.now table.now overlay.old (suc n) → AreSeedsLive pool.new seeds.now → CanChange pool.new seeds.now table.now overlay.new n }
     ensures kept { GivesUpNothing overlay.old (routing_of pool.old table.now overlay.old) (routing_of pool.new table.now overlay.new) asn → Keeps pool.old pool.new seeds.now }
 {
-    let wanted = wanted_by(book, seeds, table, overlay, asn, choice);
+    let wanted = wanted_by(
+        book,
+        seeds,
+        table,
+        overlay,
+        asn,
+        chosen.choice,
+        chosen.place,
+    );
     let have = held_near(table, overlay, asn, place).copied();
     if is_held(pool, asn, &have, &wanted) {
         return false;
@@ -233,5 +242,6 @@ pub fn settle<P: RoutePolicy>(
     ensures next { (n : ℕ) → CanChange pool.old seeds.now table.now overlay.old (suc n) → AreSeedsLive pool.new seeds.now → CanChange pool.new seeds.now table.now overlay.new n }
     ensures kept { GivesUpNothing overlay.old (routing_of pool.old table.now overlay.old) (routing_of pool.new table.now overlay.new) asn → Keeps pool.old pool.new seeds.now }
 {
-    settle_near(book, seeds, pool, table, overlay, asn, 0, choice)
+    let chosen = ChoiceNear { choice, place: 0 };
+    settle_near(book, seeds, pool, table, overlay, asn, 0, chosen)
 }

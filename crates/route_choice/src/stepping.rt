@@ -45,8 +45,8 @@ pub fn visit<P: RoutePolicy, V: OriginStates, L: Ledger>(
     ensures next { (n : ℕ) → CanStep pool.old seeds.now table.now overlay.old (suc n) → AreSeedsLive pool.new seeds.now → CanStep pool.new seeds.now table.now overlay.new n }
     ensures kept { GivesUpNothing overlay.old (routing_of pool.old table.now overlay.old) (routing_of pool.new table.now overlay.new) asn → Keeps pool.old pool.new seeds.now }
 {
-    let choice = evaluate_near(
+    let chosen = evaluate_near(
         graph, book, states, seeds, pool, table, overlay, asn, place, part, steps,
     );
-    settle_near(book, seeds, pool, table, overlay, asn, place, choice)
+    settle_near(book, seeds, pool, table, overlay, asn, place, chosen)
 }

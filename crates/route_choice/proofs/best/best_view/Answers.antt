@@ -24,7 +24,7 @@ loop-index-preserved g c =
     let step = one_more (here.policy c.args.asn) (g.met.P.RoutePolicy.ranks_offers own) offers (λ n o e. (given n o e).neighbour)
     c.index-neighbours-index.result.asn (asns (take i xs)) (asns (take (i + 1) xs))
     (λ m is. subst (λ t. (t.asn ≡ m) ⊎ (occurs m (asns (take i xs)) ≡ true)) (sym c.index-neighbours-index.is) (among_more xs i m c.index-neighbours-index.result c.loop-index-test.true is))
-    c.loop-index.best (option_map (λ (o : Offer). o.view) (offers c.index-neighbours-index.result.asn)) refl c.loop-index.invariant in
+    c.loop-index.best.view (option_map (λ (o : Offer). o.view) (offers c.index-neighbours-index.result.asn)) refl c.loop-index.invariant in
     subst (IsBestViewOf (here.policy c.args.asn) offers (asns (take (i + 1) xs))) (sym c.look_at.ensures) step
 
 pub returns : goal.returns
@@ -37,4 +37,4 @@ returns g c =
     let i = c.loop-index.index in
     best_of_all (here.policy c.args.asn) (g.met.P.RoutePolicy.ranks_offers own) offers (λ n o e. (given n o e).neighbour)
     (asns xs) (λ n o e. let from : GivenBy (what c.args.graph.now c.args.asn n) n o = given n o e in c.requires.neighbours.complete n from.from from.linked)
-    c.loop-index.best (subst (λ ys. IsBestViewOf (here.policy c.args.asn) offers (asns ys) c.loop-index.best) (take_all i xs c.loop-index-test.false) c.loop-index.invariant)
+    c.loop-index.best.view (subst (λ ys. IsBestViewOf (here.policy c.args.asn) offers (asns ys) c.loop-index.best.view) (take_all i xs c.loop-index-test.false) c.loop-index.invariant)

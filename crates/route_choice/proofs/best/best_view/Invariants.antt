@@ -12,4 +12,4 @@ abbrev pub invariant-loop-index : goal.invariant-loop-index
 invariant-loop-index g l =
     let meaning = g.P.RoutePolicy.meaning in
     let here = setting meaning l.graph l.book (state_seen l.reads (g.V.OriginStates.state_of l.states (prefix_of l.table))) in
-    IsBestViewOf (meaning (policy_at l.book l.asn)) (λ n. offers_of l.part here (routing_of l.pool l.table l.overlay) l.asn n) (asns (take l.index l.neighbours)) l.best
+    IsBestViewOf (meaning (policy_at l.book l.asn)) (λ n. offers_of l.part here (routing_of l.pool l.table l.overlay) l.asn n) (asns (take l.index l.neighbours)) l.best.view

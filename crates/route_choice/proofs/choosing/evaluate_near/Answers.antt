@@ -14,7 +14,7 @@ returns-in-Some-clause-choice g c =
     c.reads_state-reads.ensures ∙ ap (λ p. (g.P.RoutePolicy.meaning p).reads_state) c.policy.ensures in
     choice_seen g.P.RoutePolicy.meaning c.args.graph.now c.args.book.now (routing_of c.args.pool.now c.args.table.now c.args.overlay.now) c.args.asn
     (g.met.P.RoutePolicy.ignores_state (policy_at c.args.book.now c.args.asn)) c.args.part (g.V.OriginStates.state_of c.args.states.now (prefix_of c.args.table.now))
-    c.reads_state-reads.result reads (seeds_of c.args.pool.now c.args.seeds.now c.args.asn) none c.in-Some.view c.in-Some.ensures
+    c.reads_state-reads.result reads (seeds_of c.args.pool.now c.args.seeds.now c.args.asn) none c.in-Some.view (rw c.in-Some.is at c.best_view-view.ensures)
 
 pub returns-in-None-clause-choice : goal.returns-in-None-clause-choice
 returns-in-None-clause-choice g c =
@@ -24,7 +24,7 @@ returns-in-None-clause-choice g c =
       none,
       nothing_seen g.P.RoutePolicy.meaning c.args.graph.now c.args.book.now (routing_of c.args.pool.now c.args.table.now c.args.overlay.now) c.args.asn
           (g.met.P.RoutePolicy.ignores_state (policy_at c.args.book.now c.args.asn)) c.args.part (g.V.OriginStates.state_of c.args.states.now (prefix_of c.args.table.now))
-          c.reads_state-reads.result reads c.in-None.ensures,
+          c.reads_state-reads.result reads (rw c.in-None.is at c.best_view-view.ensures),
     )
 
 pub returns-then-is_some-clause-choice : goal.returns-then-is_some-clause-choice

@@ -9,8 +9,8 @@ use Rattle.route_choice.proofs.Chosen.{named_is_right}
 use Rattle.route_choice.proofs.Lists.{joined_live}
 use Rattle.route_choice.proofs.stepping.visit.Goals as goal
 
-pub evaluate_near-choice-requires : goal.evaluate_near-choice-requires
-evaluate_near-choice-requires g c = joined_live c.args.pool.now c.args.table.now c.args.overlay.now c.requires.changes.held
+pub evaluate_near-chosen-requires : goal.evaluate_near-chosen-requires
+evaluate_near-chosen-requires g c = joined_live c.args.pool.now c.args.table.now c.args.overlay.now c.requires.changes.held
 
 pub returns-clause-step : goal.returns-clause-step
 returns-clause-step g c =
@@ -20,5 +20,5 @@ returns-clause-step g c =
     record {
       others = c.settle_near.ensures.others;
       right = subst (IsRightGiven (here.policy c.args.asn) seed (λ n. offers_of c.args.part here f c.args.asn n)) (sym c.settle_near.ensures.named)
-          (named_is_right c.args.part here f c.args.asn seed c.evaluate_near-choice.result c.evaluate_near-choice.ensures.choice);
+          (named_is_right c.args.part here f c.args.asn seed c.evaluate_near-chosen.result.choice c.evaluate_near-chosen.ensures.choice);
     }
