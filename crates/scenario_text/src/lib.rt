@@ -27,10 +27,10 @@ mod walks;
 pub use acts::{Act, Edit, Query};
 pub use faults::{LimitOf, ScenarioError};
 pub use lines::{Line, Lines};
+pub use lists::Leakers;
 pub use place_texts::{place_string, put_place};
 pub use places::{Member, PartOf, Place};
 pub use reading::read_scenario;
-pub use lists::Leakers;
 pub use scenario::{Announcement, Scenario};
 pub use script::{ScriptError, read_script};
 
