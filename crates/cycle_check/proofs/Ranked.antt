@@ -1,5 +1,5 @@
 -- After the walk the marks tell ranks that fit, and without a cycle.
-use Rattle.std.proofs.Common.{◌≡◌, ◌≢◌, ◌⊎◌, inl, inr, ℕ, suc, ◌<◌, ◌≤◌, Bool, true, false, ◌==◌, cond, Option, Some, List, [], ◌∷◌, length, map, get_or, refl, sym, ◌∙◌, ap, arith}
+use Rattle.std.proofs.Common.{◌≡◌, ◌≢◌, ◌⊎◌, inl, inr, ℕ, suc, ◌<◌, ◌≤◌, Bool, true, false, ◌==◌, cond, Option, Some, List, [], ◌∷◌, length, map, get_or, refl, sym, ◌∙◌, ap, arith, unwrap_or}
 use Rattle.std.proofs.lemmas.Bool.{cases_Bool, cases_lt}
 use Rattle.std.proofs.lemmas.List.{get_or_past, length-map}
 use Rattle.net_names.specs.declared.routes.Rel.{Rel}
@@ -9,7 +9,7 @@ use Rattle.as_graph.specs.Hierarchy.{IsDescent, HasNoProviderCycle, RankFits}
 use Rattle.cycle_check.specs.declared.marks.Mark.{Mark}
 use Rattle.cycle_check.specs.declared.marks.Mark.TheVariants.{Unseen, Open, Ranked}
 use Rattle.cycle_check.specs.declared.ranking.RankedAs.{RankedAs}
-use Rattle.cycle_check.specs.Rankings.{rank_in, rank_of}
+use Rattle.cycle_check.specs.Rankings.{rank_in, rank_told, rank_of}
 use Rattle.cycle_check.specs.Marks.{place_in, mark_of}
 use Rattle.cycle_check.specs.Looks.{IsReached, FitsAll}
 use Rattle.cycle_check.specs.Walks.{IsFinished}
@@ -23,7 +23,7 @@ unfolding no_rank
 rank_in_at [] a = refl
 rank_in_at (x ∷ xs) a = by (x.asn == a) (rank_in_at xs a)
   where
-    by : (b : Bool) → rank_in xs a ≡ (get_or xs (place_in (map (λ y. y.asn) xs) a) no_rank).rank → cond b x.rank (rank_in xs a) ≡ (get_or (x ∷ xs) (cond b 0 (suc (place_in (map (λ y. y.asn) xs) a))) no_rank).rank
+    by : (b : Bool) → rank_in xs a ≡ (get_or xs (place_in (map (λ y. y.asn) xs) a) no_rank).rank → unwrap_or (cond b (Some x.rank) (rank_told xs a)) 0 ≡ (get_or (x ∷ xs) (cond b 0 (suc (place_in (map (λ y. y.asn) xs) a))) no_rank).rank
     by true ih = refl
     by false ih = ih
 

@@ -1,41 +1,50 @@
 -- Ranks by number, and an order by them.
-use Rattle.std.specs.Prelude.{◌≡◌, ℕ, Bool, ◌==◌, if◌then◌else◌, Option, None, Some, List, [], ◌∷◌, map as map_list, unwrap_or, nat_eq, ⊤}
+use Rattle.std.specs.Prelude.{◌≡◌, ℕ, Bool, Option, List, unwrap_or, nat_eq, refl, ⊤}
 use Rattle.std.specs.List.{IsDistinct}
 use Rattle.std.specs.List.Sorted.{IsNonDecreasingBy, IsPermutation}
 use Rattle.std.specs.Ordering.{nat_cmp}
+use Rattle.std.specs.Coded.{Coded, code_by, coded×, coded_ℕ}
 use Rattle.std.specs.FinMap as map
 use Rattle.net_names.specs.Numbers.{occurs}
 use Rattle.net_names.specs.declared.routes.Rel.{Rel}
 use Rattle.cycle_check.specs.Cycles.{IsCycleFromLowest}
-use Rattle.cycle_check.specs.declared.ranking.RankedAs.{RankedAs}
 use Rattle.rank_order.specs.declared.ranks.RankError.{RankError}
 use Rattle.rank_order.specs.declared.ranks.RankError.TheVariants.{Memory, ProviderCycle}
 
--- the rank of an AS, 0 where none is given
-abbrev pub rank_at : map.FinMap nat_cmp ℕ → ℕ → ℕ
-rank_at ranks a = unwrap_or (map.get ranks a) 0
+-- a rank for each of finitely many ASes (own rule)
+abbrev pub RankMap : Type 0
+RankMap = map.FinMap nat_cmp ℕ
 
--- just the ASes, each once, by rising rank
+-- the rank that a map gives to an AS, 0 where it gives none (own rule)
+abbrev pub rank_by : RankMap → ℕ → ℕ
+rank_by ranks a = unwrap_or (map.get ranks a) 0
+
+-- ranks are a map from AS to rank, and for how many more ASes there is room without memory (own rule)
+pub record KeptRanks : Type 0 where
+  pub by_as : RankMap
+  pub spare : ℕ
+
+-- stored as the pair of its fields
+abbrev pub kept_ranks_code : Coded KeptRanks
+kept_ranks_code =
+    code_by (RankMap × ℕ) (coded× (map.code coded_ℕ coded_ℕ) coded_ℕ) (λ r. (r.by_as, r.spare)) (λ p. record { by_as = p.0; spare = p.1 }) (λ _. refl)
+
+-- the rank of an AS, 0 where none is given (own rule)
+abbrev pub rank_at : KeptRanks → ℕ → ℕ
+rank_at ranks a = rank_by ranks.by_as a
+
+-- just the ASes, each once, by rising rank (own rule)
 pub record IsRankOrder (has : ℕ → Bool) (rank : ℕ → ℕ) (xs : List ℕ) : Type 0 where
   pub complete : (a : ℕ) → occurs a xs ≡ has a
   pub apart : IsDistinct nat_eq xs
   pub rising : IsNonDecreasingBy rank xs
 
--- the same numbers, by rising rank
+-- the same numbers, by rising rank (own rule)
 pub record IsSortedOut (rank : ℕ → ℕ) (xs ys : List ℕ) : Type 0 where
   pub same : IsPermutation xs ys
   pub rising : IsNonDecreasingBy rank ys
 
--- a refusal that names a cycle names a provider cycle, from its lowest number on
+-- a refusal that names a cycle names a provider cycle, from its lowest number on (Gao and Rexford 2001, the hierarchy assumption)
 abbrev pub IsRankRefusal : (ℕ → ℕ → Option Rel) → RankError → Type 0
 IsRankRefusal what Memory = ⊤
 IsRankRefusal what (ProviderCycle cycle) = IsCycleFromLowest what cycle
-
--- the numbers of ASes with ranks
-abbrev pub asns_of : List RankedAs → List ℕ
-asns_of xs = map_list (λ x. x.asn) xs
-
--- the rank that the list tells of an AS, if it tells one
-abbrev pub rank_told : List RankedAs → ℕ → Option ℕ
-rank_told [] a = None
-rank_told (x ∷ xs) a = if x.asn == a then Some x.rank else rank_told xs a

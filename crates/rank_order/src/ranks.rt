@@ -5,8 +5,8 @@ ghost use Rattle.std.specs.FinMap as map;
 ghost use Rattle.indexmap.specs.IndexMap.{get};
 ghost use Rattle.as_graph.specs.Topology.{what, has};
 ghost use Rattle.as_graph.specs.Hierarchy.{HasNoProviderCycle, IsRank};
-ghost use Rattle.cycle_check.specs.Rankings.{AreRanks};
-ghost use Rattle.rank_order.specs.Ranks.{rank_at, asns_of, rank_told, IsRankRefusal};
+ghost use Rattle.cycle_check.specs.Rankings.{numbers_of, rank_told};
+ghost use Rattle.rank_order.specs.Ranks.{rank_at, IsRankRefusal};
 
 use as_graph::Graph;
 use cycle_check::{Cycle, RankedAs, Ranking, rank_ases};
@@ -24,23 +24,23 @@ pub enum RankError {
     ProviderCycle(Cycle),
 }
 
-/// A rank for each AS of a graph. Contracts see the finite map from the AS to its rank.
+/// A rank for each AS of a graph. Contracts see the finite map from the AS to its rank, and for how
+/// many more ASes there is room without memory.
 #[derive(Drop)]
 pub struct Ranks {
     ranks: IndexMap<Asn, u32>,
 }
 
 impl Model for Ranks {
-    ghost use Rattle.std.specs.Ordering.{nat_cmp};
-    ghost use Rattle.std.specs.Coded.{coded_ℕ};
     ghost use Rattle.std.specs.FinMap as map;
-    ghost use Rattle.std.specs.Prelude.{ℕ};
+    ghost use Rattle.indexmap.specs.IndexMap.{spare as spare_of};
+    ghost use Rattle.rank_order.specs.Ranks.{KeptRanks, kept_ranks_code};
 
-    ghost Value = { map.FinMap nat_cmp ℕ };
+    ghost Value = { KeptRanks };
 
-    ghost coded = { map.code coded_ℕ coded_ℕ };
+    ghost coded = { kept_ranks_code };
 
-    ghost view = { λ r. map.from_entries r.ranks.entries };
+    ghost view = { λ r. record { by_as = map.from_entries r.ranks.entries; spare = spare_of r.ranks } };
 }
 
 impl Ranks {
@@ -51,7 +51,7 @@ impl Ranks {
     /// carries one from its lowest number on; `Memory` where memory runs out.
     pub fn build(alloc: Global, graph: &Graph) -> Result<Ranks, RankError>
         ensures ranks { IfOk result (λ r. (a : ℕ) → IsRank (what graph.now) a (rank_at r a)) }
-        ensures ases { IfOk result (λ r. (a : ℕ) → is_some (map.get r a) ≡ has graph.now a) }
+        ensures ases { IfOk result (λ r. (a : ℕ) → is_some (map.get r.by_as a) ≡ has graph.now a) }
         ensures no_cycle { OnOk result (HasNoProviderCycle (what graph.now)) }
         ensures cycle { IfErr result (IsRankRefusal (what graph.now)) }
     {
@@ -78,7 +78,7 @@ impl Ranks {
 
 // The ranks as a map.
 fn stored(alloc: Global, ranked: &[RankedAs]) -> Result<IndexMap<Asn, u32>, NoMemory>
-    requires { IsStrictlyIncreasing (asns_of ranked.now) }
+    requires { IsStrictlyIncreasing (numbers_of ranked.now) }
     ensures { IfOk result (λ m. (a : ℕ) → get nat_eq m a ≡ rank_told ranked.now a) }
 {
     let mut ranks = match IndexMap::with_capacity(alloc, ranked.len()) {

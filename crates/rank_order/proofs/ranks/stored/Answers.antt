@@ -1,7 +1,7 @@
 use Rattle.std.proofs.Common.{◌≡◌, ◌==◌, ◌++◌, ◌+◌, ◌∷◌, [], List, Some, cond, take, sym, ap, ◌∙◌}
 use Rattle.std.proofs.lemmas.List.{take_more}
 use Rattle.cycle_check.specs.declared.ranking.RankedAs.{RankedAs}
-use Rattle.rank_order.specs.Ranks.{rank_told}
+use Rattle.cycle_check.specs.Rankings.{rank_told}
 use Rattle.rank_order.proofs.Stored.{rank_told_push, not_among}
 use Rattle.rank_order.proofs.ranks.stored.Goals as goal
 

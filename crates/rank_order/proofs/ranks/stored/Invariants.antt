@@ -1,6 +1,6 @@
 use Rattle.std.proofs.Common.{◌≡◌, ℕ, nat_eq, take}
 use Rattle.indexmap.specs.IndexMap.{get}
-use Rattle.rank_order.specs.Ranks.{rank_told}
+use Rattle.cycle_check.specs.Rankings.{rank_told}
 use Rattle.rank_order.proofs.ranks.stored.Given as goal
 
 abbrev pub invariant-loop-one : goal.invariant-loop-one
