@@ -49,9 +49,9 @@ fn make_room(pool: &mut PathPool, overlay: &mut Overlay, ases: usize) -> Result<
 ///
 /// The graph has no provider cycle, and the ranks are its ranks. The seeds' paths are live, no count
 /// of the pool is above 4,000,000,000, and the pool's limit leaves two cells for each AS beside the
-/// live ones. The table owns one hold for each of its entries. At most one cell more is live for each
-/// of them, and what was live keeps its path. Its only refusal is want of memory, and then the
-/// pool's paths and holds are as before.
+/// live ones. The table owns one hold for each of its entries. For each of them at most one cell more
+/// is live, and no count rises by more than one; what was live keeps its path. Its only refusal is
+/// want of memory, and then the pool's paths and holds are as before.
 pub fn propagate<P: RoutePolicy, V: OriginStates, L: Ledger>(
     alloc: Global,
     graph: &Graph,

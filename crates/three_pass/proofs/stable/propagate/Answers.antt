@@ -50,6 +50,7 @@ returns-clause-cells g c =
       distinct = holders_apart f xs (subst (IsDistinct nat_eq) (sym c.deref-2.ensures.value) c.in_ok-order.ensures.order.apart);
       entries = λ a o. subst IsSome (routing a) (holder_holds f xs a o);
       few = omega (arith, c.make_room.ensures.same.live, up.live, c.go_down.ensures.spent.live, length-holders f xs);
+      counts = λ k. omega (arith, c.make_room.ensures.same.counts k, up.counts k, c.go_down.ensures.spent.counts k, length-holders f xs);
     }
 
 pub returns-clause-holds : goal.returns-clause-holds
