@@ -1,8 +1,8 @@
--- What `cons` leaves.
+-- What `cons` and `lengthen` leave.
 use Rattle.std.proofs.Common.{◌≡◌, ◌≢◌, ℕ, suc, ◌+◌, ◌-◌, ◌<◌, List, [], ◌∷◌, length, set, refl, ap, sym, ◌∙◌, subst, arith, inl, inr}
 use Rattle.std.proofs.lemmas.Bool.{cases_eq}
 use Rattle.path_pool.specs.declared.pool.Cell.{Cell}
-use Rattle.path_pool.specs.Region.{cell_at, walk, list_of, IsLive, cells_above, holds_of, IsRegion, CanFollow, GainsCell}
+use Rattle.path_pool.specs.Region.{cell_at, walk, list_of, IsLive, cells_above, holds_of, IsRegion, CanFollow, GainsCell, PassesHold, GainsCells}
 use Rattle.path_pool.proofs.RegionLemmas.{at_same, at_other, live_inside, rehold_kind, rehold_above, rehold_at, rehold_region, rehold_lists, take_above_other, take_above_tail, take_lists_at}
 
 -- a cell put on the first free place
@@ -107,3 +107,80 @@ gains_over xs f spare limit t h r s a n en l el =
         lists = λ k b. take_lists_at ys f spare limit y region s k ((rehold_kind xs t n k a some).alive b) ∙ rehold_lists xs f spare limit t n r a some k b;
       },
     )
+
+-- over a path that passes a hold on: the cell y on the free place
+pub passes_over : (xs : List Cell) (free spare limit t h : ℕ) → IsRegion xs free spare limit → 0 < spare → 0 < holds_of xs t → (l : ℕ) → l ≡ (cell_at xs t).len + 1 →
+    CanFollow xs (record { head = h; tail = t; len = l; count = 1 })
+    × PassesHold xs (set xs free (record { head = h; tail = t; len = l; count = 1 })) t free (h ∷ list_of xs t)
+passes_over xs f spare limit t h r s held l el =
+    let a : IsLive xs t = omega (arith, held) in
+    let y : Cell = record { head = h; tail = t; len = l; count = 1 } in
+    let w : CanFollow xs y = record { held = refl; some = omega (arith, el); live = λ _. a; free_hold = λ _. omega (arith, held); shorter = λ _. omega (arith, el) } in
+    let long : 1 < l = omega (arith, el, (r.linked t (live_inside xs t a)).some) in
+    let yin : f < length xs = r.first_inside s in
+    let dead : (cell_at xs f).count ≡ 0 = r.first_dead s in
+    let apart : t ≢ f = tail_apart xs f spare limit y r s w long in
+    let zs : List Cell = set xs f y in
+    let self : cell_at zs f ≡ y = at_same xs f y yin in
+    let kept : (k : ℕ) → k ≢ f → cell_at zs k ≡ cell_at xs k = λ k o. at_other xs f k y o in
+    let list_t : list_of zs t ≡ list_of xs t = take_lists_at xs f spare limit y r s t a in
+    let above : (k : ℕ) → k ≢ t → cells_above zs k ≡ cells_above xs k = λ k o. take_above_other xs f k y yin dead (λ _ e. o (sym e)) in
+    let above_t : cells_above zs t ≡ cells_above xs t + 1 = take_above_tail xs f y yin dead (omega arith) long in
+    let less : l - 1 ≡ (cell_at zs t).len = omega (arith, el, ap (λ (c : Cell). c.len) (kept t apart)) in (
+      w,
+      record {
+        fresh = dead;
+        live = omega (arith, ap (λ (c : Cell). c.count) self);
+        list = take_new xs f spare limit y (list_of xs t) r s w (ap (λ m. walk zs m t) less ∙ list_t);
+        one_hold = omega (arith, ap (λ (c : Cell). c.count) self, above f (λ e. apart (sym e)), r.counted f, dead);
+        one_less = omega (arith, above_t, ap (λ (c : Cell). c.count) (kept t apart), held);
+        other_holds = λ k o p. omega (arith, above k p, ap (λ (c : Cell). c.count) (kept k o));
+        one_count = ap (λ (c : Cell). c.count) self;
+        counts = λ k o. ap (λ (c : Cell). c.count) (kept k o);
+        stays_live = λ k b. elim (cases_eq k f) [
+          | inl e ↦ absurd (omega (arith, b, dead, ap (λ i. (cell_at xs i).count) e))
+          | inr o ↦ omega (arith, b, ap (λ (c : Cell). c.count) (kept k o))
+        ];
+        was_live = λ k o b. omega (arith, b, ap (λ (c : Cell). c.count) (kept k o));
+        lists = take_lists_at xs f spare limit y r s;
+      },
+    )
+
+-- a new path of one cell is one of new cells
+pub gains_one : (old new : List Cell) (id : ℕ) (numbers : List ℕ) → GainsCell old new id numbers → GainsCells old new id numbers
+gains_one old new id numbers g = record {
+  fresh = g.fresh;
+  live = g.live;
+  list = g.list;
+  one_hold = g.one_hold;
+  other_holds = g.other_holds;
+  counts = g.counts;
+  stays_live = g.stays_live;
+  lists = g.lists;
+}
+
+-- a new path that is made longer is a new path
+pub gains_longer : (old xs new : List Cell) (id longer h : ℕ) (numbers : List ℕ) → GainsCells old xs id numbers → PassesHold xs new id longer (h ∷ list_of xs id) → GainsCells old new longer (h ∷ numbers)
+gains_longer old xs new id longer h numbers g p = record {
+  fresh = dead longer p.fresh;
+  live = p.live;
+  list = p.list ∙ ap (λ t. h ∷ t) g.list;
+  one_hold = p.one_hold;
+  other_holds = λ k o. elim (cases_eq k id) [
+    | inl e ↦ subst (λ i. holds_of new i ≡ holds_of old i) (sym e) (omega (arith, p.one_less, g.one_hold, g.fresh))
+    | inr n ↦ p.other_holds k o n ∙ g.other_holds k n
+  ];
+  counts = λ k. elim (cases_eq k longer) [
+    | inl e ↦ omega (arith, p.one_count, ap (λ i. (cell_at new i).count) e)
+    | inr n ↦ omega (arith, p.counts k n, g.counts k)
+  ];
+  stays_live = λ k l. p.stays_live k (g.stays_live k l);
+  lists = λ k l. p.lists k (g.stays_live k l) ∙ g.lists k l;
+}
+  where
+    -- who was not live in between was not live before
+    dead : (k : ℕ) → (cell_at xs k).count ≡ 0 → (cell_at old k).count ≡ 0
+    dead k e = elim (cases_eq (cell_at old k).count 0) [
+      | inl none ↦ none
+      | inr some ↦ absurd (omega (arith, e, g.stays_live k (omega (arith, some))))
+    ]

@@ -59,6 +59,15 @@ limit_of p = p.limit
 abbrev pub GainsPath : PathPool → PathPool → ℕ → List ℕ → Type 0
 GainsPath old new id numbers = region.GainsCell old.cells.items new.cells.items id numbers
 
+-- A new path is there, over an old one that has passed one outside hold on to it, and nothing else has changed.
+abbrev pub PassesHold : PathPool → PathPool → ℕ → ℕ → List ℕ → Type 0
+PassesHold old new from id numbers = region.PassesHold old.cells.items new.cells.items from id numbers
+
+-- A new path is there, of new cells and with one outside hold, no count rises by more than one, and each other hold and
+-- path is as before.
+abbrev pub GainsWholePath : PathPool → PathPool → ℕ → List ℕ → Type 0
+GainsWholePath old new id numbers = region.GainsCells old.cells.items new.cells.items id numbers
+
 -- A path has one outside hold more, no count rises by more than one, and nothing else has changed.
 abbrev pub GainsHold : PathPool → PathPool → ℕ → Type 0
 GainsHold old new id = region.GainsHold old.cells.items new.cells.items id

@@ -97,6 +97,32 @@ pub record GainsCell (old new : List Cell) (id : ℕ) (numbers : List ℕ) : Typ
   pub was_live : (k : ℕ) → k ≢ id → IsLive new k → IsLive old k
   pub lists : (k : ℕ) → IsLive old k → list_of new k ≡ list_of old k
 
+-- A new path is there, over an old one that has passed one outside hold on to it, and nothing else has changed.
+pub record PassesHold (old new : List Cell) (from id : ℕ) (numbers : List ℕ) : Type 0 where
+  pub fresh : (cell_at old id).count ≡ 0
+  pub live : IsLive new id
+  pub list : list_of new id ≡ numbers
+  pub one_hold : holds_of new id ≡ 1
+  pub one_less : holds_of new from + 1 ≡ holds_of old from
+  pub other_holds : (k : ℕ) → k ≢ id → k ≢ from → holds_of new k ≡ holds_of old k
+  pub one_count : (cell_at new id).count ≡ 1
+  pub counts : (k : ℕ) → k ≢ id → (cell_at new k).count ≡ (cell_at old k).count
+  pub stays_live : (k : ℕ) → IsLive old k → IsLive new k
+  pub was_live : (k : ℕ) → k ≢ id → IsLive new k → IsLive old k
+  pub lists : (k : ℕ) → IsLive old k → list_of new k ≡ list_of old k
+
+-- A new path is there, of new cells and with one outside hold, no count rises by more than one, and each other hold and
+-- path is as before.
+pub record GainsCells (old new : List Cell) (id : ℕ) (numbers : List ℕ) : Type 0 where
+  pub fresh : (cell_at old id).count ≡ 0
+  pub live : IsLive new id
+  pub list : list_of new id ≡ numbers
+  pub one_hold : holds_of new id ≡ 1
+  pub other_holds : (k : ℕ) → k ≢ id → holds_of new k ≡ holds_of old k
+  pub counts : (k : ℕ) → (cell_at new k).count ≤ (cell_at old k).count + 1
+  pub stays_live : (k : ℕ) → IsLive old k → IsLive new k
+  pub lists : (k : ℕ) → IsLive old k → list_of new k ≡ list_of old k
+
 -- A path has one outside hold more, and nothing else has changed.
 pub record GainsHold (old new : List Cell) (id : ℕ) : Type 0 where
   pub one_more : holds_of new id ≡ holds_of old id + 1

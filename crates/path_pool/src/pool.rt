@@ -34,7 +34,7 @@ pub struct PathPool {
 
 impl PathPool {
     ghost use Rattle.path_pool.specs.Region.{CanFollow, cell_at, cells_above};
-    ghost use Rattle.path_pool.specs.Pool.{IsLive, GainsPath, GainsHold, LosesHold, SamePaths, IsRefusal, tail_list, list_of, holds_of, count_of, live_count, spare_of, limit_of};
+    ghost use Rattle.path_pool.specs.Pool.{IsLive, GainsPath, PassesHold, GainsWholePath, GainsHold, LosesHold, SamePaths, IsRefusal, tail_list, list_of, holds_of, count_of, live_count, spare_of, limit_of};
 
     /// A pool without paths, in which at most `limit` cells may be live at once.
     pub fn new(alloc: Global, limit: usize) -> PathPool
@@ -96,6 +96,39 @@ impl PathPool {
             None => self.take_cell(head, 0, 1),
             Some(t) => self.cons_over(head, t),
         }
+    }
+
+    /// A new path: `head`, and then the path `rest`, of which one outside hold passes on to the new
+    /// path. Each other path and hold stays. Takes no memory.
+    pub fn lengthen(&mut self, head: Asn, rest: PathId) -> PathId
+        requires spare { 0 < spare_of self.old }
+        requires held { 0 < holds_of self.old rest.0 }
+        ensures made { PassesHold self.old self.new rest.0 result.0 (head ∷ list_of self.old rest.0) }
+        ensures live { live_count self.new ≡ live_count self.old + 1 }
+        ensures spare { spare_of self.new + 1 ≡ spare_of self.old }
+        ensures limit { limit_of self.new ≡ limit_of self.old }
+    {
+        let len = self.cells[rest.0 as usize].len;
+        self.take_cell(head, rest.0, len + 1)
+    }
+
+    /// A new path of these ASes, first to last, which shares no cell with another path. It comes with
+    /// one outside hold, and each other path and hold stays. Takes no memory.
+    pub fn copy_in(&mut self, numbers: &[Asn]) -> PathId
+        requires some { 0 < length numbers.now }
+        requires spare { length numbers.now ≤ spare_of self.old }
+        ensures made { GainsWholePath self.old self.new result.0 numbers.now }
+        ensures live { live_count self.new ≡ live_count self.old + length numbers.now }
+        ensures spare { spare_of self.new + length numbers.now ≡ spare_of self.old }
+        ensures limit { limit_of self.new ≡ limit_of self.old }
+    {
+        let mut left = numbers.len() - 1;
+        let mut path = self.cons(numbers[left], None);
+        'numbers: while left > 0 {
+            left -= 1;
+            path = self.lengthen(numbers[left], path);
+        }
+        path
     }
 
     /// One outside hold of the path more. All else stays. Takes no memory.

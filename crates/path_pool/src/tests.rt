@@ -61,3 +61,21 @@ fn a_path_is_read_from_its_head(rt: HostRuntime) -> Result<(), Fail> {
     assert_eq!(rt; (pool.count(path), pool.count(end)), (2, 2));
     Ok(())
 }
+
+#[test]
+fn a_path_that_is_copied_in_goes_with_its_one_hold(rt: HostRuntime) -> Result<(), Fail> {
+    let (Some(two), Some(three), Some(four)) = (Asn::new(2), Asn::new(3), Asn::new(4)) else {
+        return Err(Fail::new("no AS"));
+    };
+    let mut pool = PathPool::new(rt.alloc(), 3);
+    pool.reserve(3)?;
+    let path = pool.copy_in(&[two, four]);
+    assert_eq!(rt; (pool.live(), pool.spare()), (2, 1));
+    let copy = pool.copy_out(rt.alloc(), path)?;
+    assert_eq!(rt; copy.as_slice(), [two, four].as_slice());
+    let longer = pool.lengthen(three, path);
+    let copy = pool.copy_out(rt.alloc(), longer)?;
+    assert_eq!(rt; copy.as_slice(), [three, two, four].as_slice());
+    assert_eq!(rt; pool.release(longer), 3);
+    Ok(())
+}
