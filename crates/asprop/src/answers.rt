@@ -4,8 +4,8 @@ ghost use Rattle.io_edge.specs.Faults.{Rose};
 ghost use Rattle.as_graph.specs.Topology.{what, as_count};
 ghost use Rattle.as_graph.specs.Hierarchy.{HasNoProviderCycle, IsRank};
 ghost use Rattle.rank_order.specs.Ranks.{rank_at};
+ghost use Rattle.route_choice.specs.Resources.{AreEntriesLive};
 ghost use Rattle.route_choice.specs.Routings.{table_routing};
-ghost use Rattle.reports.specs.Held.{AreLive};
 ghost use Rattle.asprop.specs.World.{topology};
 ghost use Rattle.asprop.specs.Task.{all_addresses};
 ghost use Rattle.asprop.specs.Seen.{task_seen, world_of};
@@ -99,7 +99,7 @@ fn origin_table<L: Ledger>(
     requires seeds { IsSeeded origin prefix pool.old seeds.now }
     requires ledger { (blank.name ≡ L.name) × (blank.parts ≡ L.parts) × (0 < L.parts) }
     ensures one { IfOk result (λ table. IsOneRouting (world_of graph.now origin) prefix (table_routing pool.new table)) }
-    ensures live { IfOk result (AreLive pool.new) }
+    ensures live { IfOk result (AreEntriesLive pool.new) }
 {
     let book = Book::new(alloc, Kind::Plain);
     let mut steps = Steps::<L>::new(blank);

@@ -2,9 +2,10 @@
 ghost use Rattle.std.specs.Prelude.{◌≡◌, ◌++◌, ◌∷◌, ℕ, OnOk, OnErr, Some, option_map, decimal};
 ghost use Rattle.as_graph.specs.Topology.{has};
 ghost use Rattle.path_pool.specs.Pool.{IsLive, list_of};
+ghost use Rattle.route_choice.specs.Resources.{AreEntriesLive};
 ghost use Rattle.route_choice.specs.Routings.{entry_of, table_routing};
 ghost use Rattle.reports.specs.Growth.{Grows};
-ghost use Rattle.reports.specs.Held.{AreLive, IsHeldLive};
+ghost use Rattle.reports.specs.Held.{IsHeldLive};
 ghost use Rattle.reports.specs.Rows.{class_word, entry_text, more_numbers, numbers_text, otc_text, row as row_of, AppendsTable};
 
 use as_graph::Graph;
@@ -171,7 +172,7 @@ pub fn put_routes(
     table: &Table,
     pool: &PathPool,
 ) -> Result<(), NoMemory>
-    requires { AreLive pool.now table.now }
+    requires { AreEntriesLive pool.now table.now }
     ensures ok { OnOk result (AppendsTable (has graph.now) (table_routing pool.now table.now) out.old.items out.new.items) }
     ensures err { OnErr result (out.new.items ≡ out.old.items) }
 {

@@ -4,3 +4,4 @@ pub mod Numbers
 pub mod Chosen
 pub mod Unread
 pub mod Room
+pub mod RoundLemmas

@@ -5,3 +5,4 @@ pub mod Routings
 pub mod Choices
 pub mod Resources
 pub mod Named
+pub mod RoundTables

@@ -1,8 +1,8 @@
 //! What one AS chooses, and what all ASes hold. A table has for one prefix what each AS holds, an
-//! overlay has changes of it, and both name paths of a pool. A step of an AS takes its seed, or
-//! else its best offer, or nothing, and puts the entry that this names into the overlay. It takes
-//! no memory, and each step is counted. Who makes steps needs only that they can be made, and
-//! learns what each leaves: the routing, the holds and the room.
+//! overlay has changes of it, and both name paths of a pool; a round has a table for each prefix. A
+//! step of an AS takes its seed, or else its best offer, or nothing, and puts the entry that this
+//! names into the overlay. It takes no memory, and each step is counted. Who makes steps needs only
+//! that they can be made, and learns what each leaves: the routing, the holds and the room.
 #![tactic(auto)]
 
 mod best;
@@ -10,6 +10,7 @@ mod choice;
 mod choosing;
 mod held;
 mod overlay;
+mod round_tables;
 mod seeds;
 mod settling;
 mod slots;
@@ -21,6 +22,7 @@ pub use choice::{Choice, Part};
 pub use choosing::evaluate;
 pub use held::{Held, SeedHeld};
 pub use overlay::Overlay;
+pub use round_tables::RoundTables;
 pub use seeds::SeedIds;
 pub use settling::settle;
 pub use stepping::visit;

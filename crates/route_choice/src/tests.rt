@@ -293,3 +293,33 @@ fn changes_stand_in_the_order_put_and_are_undone(rt: HostRuntime) -> Result<(), 
     assert_eq!(rt; pool.live(), 0);
     Ok(())
 }
+
+#[test]
+fn each_prefix_has_a_table_of_its_own(rt: HostRuntime) -> Result<(), Fail> {
+    let alloc = rt.alloc();
+    let (one, other) = (prefix()?, read_prefix(b"2001:db8::/32").ok_or("a prefix")?);
+    let four = number(4)?;
+    let mut pool = PathPool::new(alloc, 3);
+    pool.reserve(1)?;
+    let held = Held {
+        class: Class::Origin,
+        path: pool.cons(four, None),
+        otc: None,
+    };
+    let mut overlay = Overlay::new(alloc);
+    overlay.room(1)?;
+    overlay.put(four, Some(held));
+    let mut tables = RoundTables::new(alloc);
+    tables.push(Table::new(alloc, one))?;
+    assert!(rt; tables.table(other).is_none());
+    tables.push(Table::new(alloc, other))?;
+    let Some(table) = tables.table_mut(other) else {
+        return Err("a table".into());
+    };
+    *table = Table::from_changes(other, overlay);
+    let table = tables.table(other).ok_or("the changed table")?;
+    assert!(rt; table.prefix() == other && table.get(four) == Some(held));
+    let table = tables.table(one).ok_or("the table that stays")?;
+    assert!(rt; table.prefix() == one && table.get(four).is_none());
+    Ok(())
+}

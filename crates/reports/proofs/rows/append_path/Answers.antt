@@ -1,4 +1,4 @@
-use Rattle.std.proofs.Common.{◌≡◌, ◌<◌, ◌+◌, ◌≤◌, length, ap, refl, arith}
+use Rattle.std.proofs.Common.{◌≡◌, ◌+◌, length, ap, arith}
 use Rattle.path_pool.specs.Pool.{list_of}
 use Rattle.reports.proofs.Paths.{Grows-trans, told_next, told_end}
 use Rattle.reports.proofs.rows.append_path.Goals as goal
