@@ -1,6 +1,5 @@
 -- What the laws say.
 use Rattle.std.specs.Prelude.{◌≡◌, ◌≢◌, ◌⊎◌, ◌↔◌, ℕ, suc, ◌<◌, ◌≤◌, IsTrue, true, false, Option, None, Some, List, length}
-use Rattle.std.specs.FinSet as set
 use Rattle.net_names.specs.declared.routes.Class.TheVariants as class
 use Rattle.net_names.specs.declared.routes.Rel.{Rel}
 use Rattle.net_names.specs.declared.routes.Rel.TheVariants.{Customer, Peer, Provider}
@@ -14,7 +13,8 @@ use Rattle.stability_laws.specs.Offers.{Setting, Offer, GivenBy, offer}
 use Rattle.stability_laws.specs.Stable.{IsRight, IsRightGiven, IsStable}
 use Rattle.stability_laws.specs.Book.{PolicyBook, policy_at}
 use Rattle.stability_laws.specs.World.{setting}
-use Rattle.stability_laws.specs.Rounds.{Plan, AreRounds}
+use Rattle.stability_laws.specs.Plans.{Plan, has_prefix}
+use Rattle.stability_laws.specs.Rounds.{AreRounds}
 use Rattle.net_names.specs.Prefixes.{PrefixValue}
 
 -- two settings and routings are alike around AS a: its links, its policy, what its neighbours export and whether they mark, what they hold, and, where its policy reads them, the states (own rule)
@@ -104,7 +104,7 @@ OneFamily {P} meaning =
     (w : Topology) (book : PolicyBook P) (state : PrefixValue → ℕ → State) (plan : Plan) (rounds : ℕ) (g h : ℕ → PrefixValue → ℕ → Option Entry) →
     let here = λ (prefix : PrefixValue). setting meaning w book (state prefix) in
     HasNoProviderCycle (what w) → AreRounds here plan rounds g → AreRounds here plan rounds h →
-    (before : ℕ) (prefix : PrefixValue) → before < rounds → IsTrue (set.contains plan.prefixes prefix) → (a : ℕ) → g (suc before) prefix a ≡ h (suc before) prefix a
+    (before : ℕ) (prefix : PrefixValue) → before < rounds → IsTrue (has_prefix plan prefix) → (a : ℕ) → g (suc before) prefix a ≡ h (suc before) prefix a
 
 -- the height of a world is how many ASes its longest chain of providers and customers has (Gao and Rexford 2001)
 pub record IsHeight (w : Topology) (height : ℕ) : Type 0 where

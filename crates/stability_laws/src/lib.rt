@@ -14,6 +14,7 @@ mod laws;
 mod offers;
 mod routing;
 mod same;
+mod seed_plan;
 mod wrong;
 
 pub use book::Book;
@@ -25,6 +26,7 @@ pub use laws::{
 };
 pub use offers::{carried, class_from, offered_view};
 pub use routing::{Routing, Seeds};
+pub use seed_plan::SeedPlan;
 pub use wrong::Wrong;
 
 #[cfg(test)]
