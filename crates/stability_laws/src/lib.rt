@@ -24,7 +24,7 @@ pub use laws::{
     any_order_settles, customers_decide, nothing_up, offer_follows, offer_names, one_answer,
     one_family, one_stable_routing, right_by_offers, right_follows,
 };
-pub use offers::{carried, class_from, offered_view};
+pub use offers::{carried, class_from, number_sent, offered_view};
 pub use routing::{Routing, Seeds};
 pub use seed_plan::SeedPlan;
 pub use wrong::Wrong;
