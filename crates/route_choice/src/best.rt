@@ -6,7 +6,7 @@ ghost use Rattle.net_names.specs.Numbers.{occurs, last_or};
 ghost use Rattle.as_graph.specs.Neighbours.{AreNeighbours};
 ghost use Rattle.path_pool.specs.Pool.{IsLive, list_of};
 ghost use Rattle.stability_laws.specs.Book.{policy_at};
-ghost use Rattle.stability_laws.specs.Offers.{number_sent as sent_number, offer_given};
+ghost use Rattle.stability_laws.specs.Offers.{offer_given};
 ghost use Rattle.stability_laws.specs.BestView.{IsBestView, better_of};
 ghost use Rattle.stability_laws.specs.World.{setting};
 ghost use Rattle.route_choice.specs.Tables.{prefix_of, joined};
@@ -19,7 +19,7 @@ use as_graph::{Graph, Neighbour};
 use net_names::{Asn, Prefix, Rel, State};
 use path_pool::{PathId, PathPool, paths_are_not_empty};
 use policy_laws::{OriginStates, RoutePolicy, View};
-use stability_laws::Book;
+use stability_laws::{Book, number_sent};
 
 /// What an AS holds, with the changes in place.
 pub(crate) fn held(table: &Table, overlay: &Overlay, asn: Asn) -> Option<Held>
@@ -69,17 +69,6 @@ fn state_of<V: OriginStates>(
         states.state(prefix, origin_of(pool, path))
     } else {
         State::NotFound
-    }
-}
-
-// The number that goes out with an entry.
-fn number_sent(marks: bool, sender: Asn, to: Rel, otc: Option<Asn>) -> Option<Asn>
-    ensures { result ≡ sent_number marks sender to otc }
-{
-    match (otc, to) {
-        (Some(number), _) => Some(number),
-        (None, Rel::Customer | Rel::Peer) => if marks { Some(sender) } else { None },
-        (None, Rel::Provider) => None,
     }
 }
 

@@ -1,3 +1,8 @@
+pub mod PlanOrders
+pub mod KeyLists
+pub mod Announcements
+pub mod PlanReads
+pub mod PlanListings
 pub mod Local
 pub mod OneRouting
 pub mod LocalLaws

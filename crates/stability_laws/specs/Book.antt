@@ -11,7 +11,7 @@ pub record PolicyBook (P : Type 0) : Type 0 where
   pub named : map.FinMap nat_cmp P
   pub room : set.FinSet nat_cmp
 
--- stored as the triple of its fields
+-- stored as the triple of its fields (own rule)
 abbrev pub book_code : {P : Type 0} → Coded P → Coded (PolicyBook P)
 book_code {P} p =
     code_by (P × (map.FinMap nat_cmp P × set.FinSet nat_cmp)) (coded× p (coded× (map.code coded_ℕ p) (set.code coded_ℕ)))
@@ -21,14 +21,14 @@ book_code {P} p =
 abbrev pub policy_at : {P : Type 0} → PolicyBook P → ℕ → P
 policy_at b a = unwrap_or (map.get b.named a) b.rest
 
--- the book with room for one AS more
+-- the book with room for one AS more (own rule)
 abbrev pub with_room : {P : Type 0} → PolicyBook P → ℕ → PolicyBook P
 with_room b a = record b { room = set.insert b.room a }
 
--- the book in which the AS has this policy
+-- the book in which the AS has this policy (own rule)
 abbrev pub with_policy : {P : Type 0} → PolicyBook P → ℕ → P → PolicyBook P
 with_policy b a p = record b { named = map.insert b.named a p }
 
--- the book in which the AS has the policy of the rest
+-- the book in which the AS has the policy of the rest (own rule)
 abbrev pub without_policy : {P : Type 0} → PolicyBook P → ℕ → PolicyBook P
 without_policy b a = record b { named = map.remove b.named a }

@@ -1,6 +1,8 @@
 pub mod Entries
 pub mod Offers
 pub mod Stable
+pub mod Plans
+pub mod PlanLists
 pub mod Rounds
 pub mod Book
 pub mod Rows

@@ -55,7 +55,7 @@ passed_on n_marks a_marks n a from e = record {
   otc = number_kept a_marks n from (number_sent n_marks n (converse from) e.otc);
 }
 
--- the list has no number
+-- the list has no number (own rule)
 abbrev pub is_empty : List ℕ → Bool
 is_empty [] = true
 is_empty (x ∷ xs) = false
@@ -75,7 +75,7 @@ offer_given sender receiver state n a (Some from) (Some e) =
     then Some (record { view = view; entry = passed_on sender.marks receiver.marks n a from e })
     else None
 
--- the offer that n makes to a in the routing f
+-- the offer that n makes to a in the routing f (RFC 4271, section 9.1)
 abbrev pub offer : Setting → (ℕ → Option Entry) → ℕ → ℕ → Option Offer
 offer w f n a = offer_given (w.policy n) (w.policy a) w.state n a (w.what a n) (f n)
 

@@ -14,6 +14,7 @@ mod laws;
 mod offers;
 mod routing;
 mod same;
+mod seed_plan;
 mod wrong;
 
 pub use book::Book;
@@ -23,8 +24,9 @@ pub use laws::{
     any_order_settles, customers_decide, nothing_up, offer_follows, offer_names, one_answer,
     one_family, one_stable_routing, right_by_offers, right_follows,
 };
-pub use offers::{carried, class_from, offered_view};
+pub use offers::{carried, class_from, number_sent, offered_view};
 pub use routing::{Routing, Seeds};
+pub use seed_plan::SeedPlan;
 pub use wrong::Wrong;
 
 #[cfg(test)]

@@ -21,8 +21,11 @@ pub fn class_from(rel: Rel) -> Class
     }
 }
 
-/// The number that `n` sends along with an entry to an AS that is `to` to it (RFC 9234, section 5).
-fn number_sent(marks: bool, n: Asn, to: Rel, otc: Option<Asn>) -> Option<Asn>
+/// The number that `n` sends along with an entry to an AS that is `to` to it: the one that the entry has,
+/// else its own where it marks and the receiver is its customer or its peer, else none. It takes no
+/// memory.
+/// Source: RFC 9234, section 5, rule 1 on sending.
+pub fn number_sent(marks: bool, n: Asn, to: Rel, otc: Option<Asn>) -> Option<Asn>
     ensures { result ≡ sent_number marks n to otc }
 {
     match otc {

@@ -1,0 +1,194 @@
+-- The lists of a plan's prefixes, announcers and leakers have all of them, each once.
+use Rattle.std.proofs.Common.{◌≡◌, ℕ, zero, suc, ◌<◌, ◌≤◌, Bool, true, false, cond, ◌||◌, ◌&&◌, ◌==◌, IsTrue, is_some, T, List, [], ◌∷◌, map, length, drop, get_or, refl, sym, ap, subst, ◌∙◌, arith, Option, Some, None, IfSome, MatchOption, slice_get, take, ◌-◌, ◌⊎◌, inl, inr}
+use Rattle.std.specs.Option.{option_copied}
+use Rattle.std.specs.Borrow.{Bor}
+use Rattle.std.proofs.Math.Seq.{take-length}
+use Rattle.std.proofs.lemmas.List.{length-drop}
+use Rattle.std.specs.Prelude.{nat_lt, filter}
+use Rattle.std.proofs.lemmas.Bool.{true≢false, eqb-true, eqb-false, ltb-true, ltb-false, lt-ltb, cases_lt, ne_eqb}
+use Rattle.std.proofs.lemmas.Option.{none-some}
+use Rattle.std.specs.List.{list_any, HoldsAt}
+use Rattle.std.specs.List.Sorted.{IsPartitionPoint, IsPartitionedBy}
+use Rattle.std.specs.declared.cmp.Ordering.{Ordering}
+use Rattle.std.specs.declared.cmp.Ordering.TheVariants.{Less, Equal, Greater}
+use Rattle.std.specs.Ordering.{nat_cmp, eq_by_cmp, is_eq, is_lt, ordering_then}
+use Rattle.std.specs.Cmp.{nat_cmp_total, nat_cmp_is, ranked, unsigned_tied, nat_eq_equiv}
+use Rattle.std.proofs.lemmas.Map.Lookups.{exact_unsigned}
+use Rattle.std.specs.FinMap as fin
+use Rattle.net_names.specs.Prefixes.{PrefixValue}
+use Rattle.net_names.specs.Links.{pair_cmp}
+use Rattle.net_names.proofs.Pairs.{exact_pair, pairs_total}
+use Rattle.stability_laws.specs.Plans.{announcement_cmp, Plan, announcing_set, announcers_of, leaks_in, in_round, leakers_of, IsAnnouncer, ListsRising}
+use Rattle.stability_laws.specs.PlanLists.{marks, IsRising, set_of}
+use Rattle.stability_laws.proofs.PlanOrders.{announcements_total, exact_announcement}
+use Rattle.stability_laws.proofs.KeyLists.{keys_listed, listed_as, eq_is, eq_same, keys_set_of, left, right, below_later, copied_at}
+use Rattle.stability_laws.proofs.Announcements.{by_as, get-announcing_set}
+
+-- an entry of the AS is found under its prefix
+find_of_as : (a : ℕ) (es : List ((PrefixValue × ℕ) × List ℕ)) → is_some (fin.find nat_cmp a (by_as es)) ≡ true → (prefix : PrefixValue) × (path : List ℕ) × (fin.find announcement_cmp (prefix, a) es ≡ Some path)
+find_of_as a [] h = absurd (true≢false (sym h))
+find_of_as a (e ∷ es) h = by (eq_by_cmp nat_cmp a e.0.1) refl (find_of_as a es) h
+  where
+    later : (prefix : PrefixValue) (path : List ℕ) (b : Bool) → fin.find announcement_cmp (prefix, a) es ≡ Some path → (p : List ℕ) × (cond b (Some e.1) (fin.find announcement_cmp (prefix, a) es) ≡ Some p)
+    later prefix path true is = (e.1, refl)
+    later prefix path false is = (path, is)
+
+    by : (b : Bool) → eq_by_cmp nat_cmp a e.0.1 ≡ b → (is_some (fin.find nat_cmp a (by_as es)) ≡ true → (prefix : PrefixValue) × (path : List ℕ) × (fin.find announcement_cmp (prefix, a) es ≡ Some path))
+        → is_some (cond b (Some tt) (fin.find nat_cmp a (by_as es))) ≡ true → (prefix : PrefixValue) × (path : List ℕ) × (fin.find announcement_cmp (prefix, a) (e ∷ es) ≡ Some path)
+    by true t rest h =
+        let same : (e.0.0, a) ≡ e.0 = ap (λ (x : ℕ). (e.0.0, x)) (eq_is nat_cmp_total exact_unsigned a e.0.1 t) in
+        (e.0.0, e.1, ap (λ (b : Bool). cond b (Some e.1) (fin.find announcement_cmp (e.0.0, a) es)) (eq_same announcements_total exact_announcement (e.0.0, a) e.0 same))
+    by false t rest h = let r = rest h in let l = later r.0 r.1 (eq_by_cmp announcement_cmp (r.0, a) e.0) r.2 in (r.0, l.0, l.1)
+
+as_of_find : (prefix : PrefixValue) (a : ℕ) (path : List ℕ) (es : List ((PrefixValue × ℕ) × List ℕ)) → fin.find announcement_cmp (prefix, a) es ≡ Some path → is_some (fin.find nat_cmp a (by_as es)) ≡ true
+as_of_find prefix a path [] h = absurd (none-some path h)
+as_of_find prefix a path (e ∷ es) h = by (eq_by_cmp announcement_cmp (prefix, a) e.0) refl (as_of_find prefix a path es) h
+  where
+    later : (b : Bool) → is_some (fin.find nat_cmp a (by_as es)) ≡ true → is_some (cond b (Some tt) (fin.find nat_cmp a (by_as es))) ≡ true
+    later true is = refl
+    later false is = is
+
+    by : (b : Bool) → eq_by_cmp announcement_cmp (prefix, a) e.0 ≡ b → (fin.find announcement_cmp (prefix, a) es ≡ Some path → is_some (fin.find nat_cmp a (by_as es)) ≡ true)
+        → cond b (Some e.1) (fin.find announcement_cmp (prefix, a) es) ≡ Some path → is_some (fin.find nat_cmp a (by_as (e ∷ es))) ≡ true
+    by true t rest h =
+        let same : a ≡ e.0.1 = ap (λ (x : PrefixValue × ℕ). x.1) (eq_is announcements_total exact_announcement (prefix, a) e.0 t) in
+        ap (λ (b : Bool). is_some (cond b (Some tt) (fin.find nat_cmp a (by_as es)))) (eq_same nat_cmp_total exact_unsigned a e.0.1 same)
+    by false t rest h = later (eq_by_cmp nat_cmp a e.0.1) (rest h)
+
+-- the announcers are those who announce a prefix
+pub announcers_listed : (plan : Plan) → ListsRising nat_cmp (IsAnnouncer plan) (announcers_of plan)
+announcers_listed plan = listed_as nat_cmp (λ a. IsTrue (fin.contains_key (announcing_set plan) a)) (IsAnnouncer plan) (announcers_of plan) there back (keys_listed nat_cmp_total exact_unsigned (announcing_set plan))
+  where
+    there : (a : ℕ) → IsTrue (fin.contains_key (announcing_set plan) a) → IsAnnouncer plan a
+    there a h = let r = find_of_as a (fin.entries plan.announced) (sym (ap is_some (get-announcing_set plan a)) ∙ h) in record { prefix = r.0; path = r.1; announced = fin.get-entries plan.announced (r.0, a) ∙ r.2 }
+
+    back : (a : ℕ) → IsAnnouncer plan a → IsTrue (fin.contains_key (announcing_set plan) a)
+    back a h = ap is_some (get-announcing_set plan a) ∙ as_of_find h.prefix a h.path (fin.entries plan.announced) (sym (fin.get-entries plan.announced (h.prefix, a)) ∙ h.announced)
+
+then_tied : (o p : Ordering) → is_eq (ordering_then o p) ≡ (is_eq o && is_eq p)
+then_tied Less p = refl
+then_tied Equal p = refl
+then_tied Greater p = refl
+
+head_tied : (r a : ℕ) (x : ℕ × ℕ) → eq_by_cmp pair_cmp (r, a) x ≡ ((x.0 == r) && eq_by_cmp nat_cmp a x.1)
+head_tied r a x = then_tied (nat_cmp r x.0) (nat_cmp a x.1) ∙ ap (λ b. b && eq_by_cmp nat_cmp a x.1) (unsigned_tied r x.0 ∙ nat_eq_equiv.symm r x.0)
+
+any_in_round : (r a : ℕ) (xs : List (ℕ × ℕ)) → list_any (eq_by_cmp nat_cmp a) (in_round r xs) ≡ list_any (eq_by_cmp pair_cmp (r, a)) xs
+any_in_round r a [] = refl
+any_in_round r a (x ∷ xs) = by (x.0 == r) (any_in_round r a xs) ∙ ap (λ b. b || list_any (eq_by_cmp pair_cmp (r, a)) xs) (sym (head_tied r a x))
+  where
+    by : (b : Bool) → list_any (eq_by_cmp nat_cmp a) (in_round r xs) ≡ list_any (eq_by_cmp pair_cmp (r, a)) xs
+        → list_any (eq_by_cmp nat_cmp a) (map (λ y. y.1) (cond b (x ∷ filter (λ y. y.0 == r) xs) (filter (λ y. y.0 == r) xs))) ≡ ((b && eq_by_cmp nat_cmp a x.1) || list_any (eq_by_cmp pair_cmp (r, a)) xs)
+    by true rest = ap (λ b. eq_by_cmp nat_cmp a x.1 || b) rest
+    by false rest = rest
+
+both : (a b : Bool) → T a → T b → T (a && b)
+both true b p q = q
+both false b p q = absurd p
+
+second_less : (x y : ℕ × ℕ) → x.0 ≡ y.0 → T (is_lt (pair_cmp x y)) → T (is_lt (nat_cmp x.1 y.1))
+second_less x y e h = subst (λ (o : Ordering). T (is_lt (ordering_then o (nat_cmp x.1 y.1)))) (sym (nat_cmp_is x.0 y.0 Equal e)) h
+
+below_in_round : (r : ℕ) (x : ℕ × ℕ) (xs : List (ℕ × ℕ)) → x.0 ≡ r → T (fin.Entries.below_all pair_cmp x (marks xs)) → T (fin.Entries.below_all nat_cmp x.1 (marks (in_round r xs)))
+below_in_round r x [] e h = tt
+below_in_round r x (y ∷ xs) e h = by (y.0 == r) refl (below_in_round r x xs e (right _ _ h))
+  where
+    by : (b : Bool) → (y.0 == r) ≡ b → T (fin.Entries.below_all nat_cmp x.1 (marks (in_round r xs)))
+        → T (fin.Entries.below_all nat_cmp x.1 (marks (map (λ z. z.1) (cond b (y ∷ filter (λ z. z.0 == r) xs) (filter (λ z. z.0 == r) xs)))))
+    by true t rest = both _ _ (second_less x y (e ∙ sym (eqb-true y.0 r t)) (left _ _ h)) rest
+    by false t rest = rest
+
+rising_in_round : (r : ℕ) (xs : List (ℕ × ℕ)) → IsRising pair_cmp xs → IsRising nat_cmp (in_round r xs)
+rising_in_round r [] h = tt
+rising_in_round r (x ∷ xs) h = by (x.0 == r) refl (rising_in_round r xs (right _ _ h))
+  where
+    by : (b : Bool) → (x.0 == r) ≡ b → IsRising nat_cmp (in_round r xs) → IsRising nat_cmp (map (λ z. z.1) (cond b (x ∷ filter (λ z. z.0 == r) xs) (filter (λ z. z.0 == r) xs)))
+    by true t rest = both _ _ (below_in_round r x xs (eqb-true x.0 r t) (left _ _ h)) rest
+    by false t rest = rest
+
+marks_of_keys : {K : Type 0} (es : List (K × Unit {0})) → marks (map (λ e. e.0) es) ≡ es
+marks_of_keys [] = refl
+marks_of_keys (e ∷ es) = ap (λ l. e ∷ l) (marks_of_keys es)
+
+-- the leakers of a round are those who leak in it
+pub leakers_listed : (plan : Plan) (round : ℕ) → ListsRising nat_cmp (λ a. IsTrue (leaks_in plan round a)) (leakers_of plan round)
+leakers_listed plan round =
+    let xs = fin.keys plan.leakers in
+    let rises : IsRising nat_cmp (leakers_of plan round) = rising_in_round round xs (subst (λ es. T (fin.is_sorted pair_cmp es)) (sym (marks_of_keys (fin.entries plan.leakers))) (fin.entries_sorted plan.leakers)) in
+    let keys = keys_set_of nat_cmp (leakers_of plan round) rises in
+    let same : (a : ℕ) → fin.contains_key (set_of nat_cmp (leakers_of plan round)) a ≡ leaks_in plan round a = λ a.
+    fin.contains_key-keys (set_of nat_cmp (leakers_of plan round)) a ∙ ap (list_any (eq_by_cmp nat_cmp a)) keys ∙ any_in_round round a xs ∙ sym (fin.contains_key-keys plan.leakers (round, a)) in
+    listed_as nat_cmp (λ a. IsTrue (fin.contains_key (set_of nat_cmp (leakers_of plan round)) a)) (λ a. IsTrue (leaks_in plan round a)) (leakers_of plan round) (λ a h. sym (same a) ∙ h) (λ a h. same a ∙ h)
+    (subst (λ (ys : List ℕ). ListsRising nat_cmp (λ a. IsTrue (fin.contains_key (set_of nat_cmp (leakers_of plan round)) a)) ys) keys (keys_listed nat_cmp_total exact_unsigned (set_of nat_cmp (leakers_of plan round))))
+
+-- the AS of a pair of the round
+abbrev pub picked : ℕ → Option (ℕ × ℕ) → Option ℕ
+picked r None = None
+picked r (Some x) = cond (x.0 == r) (Some x.1) None
+
+no_later : (x y : ℕ) → (x == y) ≡ false → nat_lt x y ≡ false → y < x
+no_later x y apart above = omega (arith, ltb-false x y above, eqb-false x y apart)
+
+first_rises : (x y : ℕ × ℕ) → T (is_lt (pair_cmp x y)) → x.0 ≤ y.0
+first_rises x y h = by (nat_cmp x.0 y.0) refl h
+  where
+    by : (o : Ordering) → nat_cmp x.0 y.0 ≡ o → T (is_lt (ordering_then o (nat_cmp x.1 y.1))) → x.0 ≤ y.0
+    by Less e h = let p : x.0 < y.0 = ranked x.0 y.0 Less (sym e) in omega (arith, p)
+    by Equal e h = let p : x.0 ≡ y.0 = ranked x.0 y.0 Equal (sym e) in omega (arith, p)
+    by Greater e h = absurd h
+
+-- after a pair of a later round there is none of the round
+none_after : (r : ℕ) (x : ℕ × ℕ) (xs : List (ℕ × ℕ)) (place : ℕ) → r < x.0 → T (fin.Entries.below_all pair_cmp x (marks xs)) → (in_round r xs ≡ []) × (picked r (slice_get xs place) ≡ None)
+none_after r x [] place late h = (refl, refl)
+none_after r x (y ∷ xs) place late h =
+    let after : r < y.0 = let p = first_rises x y (left _ _ h) in omega (arith, late, p) in
+    let apart : (y.0 == r) ≡ false = ne_eqb y.0 r (λ (e : y.0 ≡ r). omega (arith, e, after)) in
+    by place apart (λ (i : ℕ). none_after r x xs i late (right _ _ h))
+  where
+    by : (i : ℕ) → (y.0 == r) ≡ false → ((i : ℕ) → (in_round r xs ≡ []) × (picked r (slice_get xs i) ≡ None)) → (in_round r (y ∷ xs) ≡ []) × (picked r (slice_get (y ∷ xs) i) ≡ None)
+    by zero apart rest = (rw apart (rest 0).0, rw apart refl)
+    by (suc i) apart rest = (rw apart (rest i).0, (rest i).1)
+
+-- the pairs of the round begin where those of the earlier rounds end
+pub in_round_at : (r : ℕ) (xs : List (ℕ × ℕ)) (first place : ℕ) → IsRising pair_cmp xs
+    → ((j : ℕ) (d : ℕ × ℕ) → j < first → j < length xs → nat_lt (get_or xs j d).0 r ≡ true) → ((j : ℕ) (d : ℕ × ℕ) → first ≤ j → j < length xs → nat_lt (get_or xs j d).0 r ≡ false)
+    → picked r (slice_get (drop first xs) place) ≡ slice_get (in_round r xs) place
+in_round_at r [] zero place h before after = refl
+in_round_at r [] (suc first) place h before after = refl
+in_round_at r (x ∷ xs) (suc first) place h before after =
+    let earlier : x.0 < r = ltb-true x.0 r (before 0 x (omega arith) (omega arith)) in
+    let apart : (x.0 == r) ≡ false = ne_eqb x.0 r (λ (e : x.0 ≡ r). omega (arith, e, earlier)) in
+    in_round_at r xs first place (right _ _ h) (λ j d lt within. before (suc j) d (omega (arith, lt)) (omega (arith, within))) (λ j d le within. after (suc j) d (omega (arith, le)) (omega (arith, within)))
+    ∙ ap (λ b. slice_get (map (λ z. z.1) (cond b (x ∷ filter (λ z. z.0 == r) xs) (filter (λ z. z.0 == r) xs))) place) (sym apart)
+in_round_at r (x ∷ xs) zero place h before after = by place (x.0 == r) refl (λ (i : ℕ). in_round_at r xs zero i (right _ _ h) (λ j d lt within. absurd (omega (arith, lt))) (λ j d le within. after (suc j) d (omega arith) (omega (arith, within))))
+  where
+    by : (i : ℕ) (b : Bool) → (x.0 == r) ≡ b → ((i : ℕ) → picked r (slice_get xs i) ≡ slice_get (in_round r xs) i)
+        → picked r (slice_get (x ∷ xs) i) ≡ slice_get (map (λ z. z.1) (cond b (x ∷ filter (λ z. z.0 == r) xs) (filter (λ z. z.0 == r) xs))) i
+    by zero true t rest = ap (λ b. cond b (Some x.1) None) t
+    by (suc i) true t rest = rest i
+    by zero false t rest = ap (λ b. cond b (Some x.1) None) t ∙ ap (λ ys. slice_get ys zero) (sym (none_after r x xs zero (no_later x.0 r t (after 0 x (omega arith) (omega arith))) (left _ _ h)).0)
+    by (suc i) false t rest =
+        let none = none_after r x xs i (no_later x.0 r t (after 0 x (omega arith) (omega arith))) (left _ _ h) in
+        none.1 ∙ ap (λ ys. slice_get ys (suc i)) (sym none.0)
+
+-- the first number does not fall
+pub earlier_first : (r : ℕ) (xs : List (ℕ × ℕ)) → IsRising pair_cmp xs → IsPartitionedBy (λ (y : ℕ × ℕ). nat_lt y.0 r) xs
+earlier_first r xs h i j d le within t = by (cases_lt i j)
+  where
+    by : (i < j) ⊎ (j ≤ i) → nat_lt (get_or xs i d).0 r ≡ true
+    by (inl lt) =
+        let p : (get_or xs i d).0 ≤ (get_or xs j d).0 = first_rises (get_or xs i d) (get_or xs j d) (subst (λ (o : Ordering). T (is_lt o)) (sym (below_later pairs_total exact_pair xs h i j d lt within)) tt) in
+        let q : (get_or xs j d).0 < r = ltb-true (get_or xs j d).0 r t in
+        lt-ltb (get_or xs i d).0 r (omega (arith, p, q))
+    by (inr ge) = let same : i ≡ j = omega (arith, le, ge) in subst (λ (k : ℕ). nat_lt (get_or xs k d).0 r ≡ true) (sym same) t
+
+-- what stands at a place from there on
+pub in_round_by : (r : ℕ) (xs : List (ℕ × ℕ)) (first place : ℕ) → IsRising pair_cmp xs → IsPartitionPoint (λ (y : ℕ × ℕ). nat_lt y.0 r ≡ true) (λ (y : ℕ × ℕ). nat_lt y.0 r ≡ false) xs first
+    → (o : Option (Bor (ℕ × ℕ))) → IfSome o (λ x. x.now ≡ get_or (take (length xs - first) (drop first xs)) place x.now)
+    → MatchOption o (length (take (length xs - first) (drop first xs)) ≤ place) (λ x. (place < length (take (length xs - first) (drop first xs))) × HoldsAt (λ y. x.now ≡ y) (take (length xs - first) (drop first xs)) place)
+    → picked r (option_copied o) ≡ slice_get (in_round r xs) place
+in_round_by r xs first place h point o is at =
+    let rest : take (length xs - first) (drop first xs) ≡ drop first xs = ap (λ n. take n (drop first xs)) (sym (length-drop first xs)) ∙ take-length (drop first xs) in
+    ap (picked r) (copied_at (take (length xs - first) (drop first xs)) place o is at)
+    ∙ (ap (λ (ys : List (ℕ × ℕ)). picked r (slice_get ys place)) rest
+    ∙ in_round_at r xs first place h (λ j d lt within. point.0 j d (omega arith) lt) (λ j d le within. point.1 j d le within))

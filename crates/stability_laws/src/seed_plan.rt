@@ -1,0 +1,195 @@
+//! Who announces what, and who leaks in which round.
+ghost use Rattle.std.specs.Prelude.{◌≡◌, ℕ, ◌≤◌, ◌<◌, false, IsTrue, length, slice_get, option_copied, OnOk, OnErr, IsOk, vec_len, vec_capacity};
+ghost use Rattle.std.specs.FinMap as fin;
+ghost use Rattle.std.specs.FinMap.{IsAntisymmetric};
+ghost use Rattle.std.specs.Ordering.{nat_cmp};
+ghost use Rattle.std.specs.List.Sorted.{IsSearchInRange, IsBinarySearchResult};
+ghost use Rattle.net_names.specs.Links.{pair_cmp};
+ghost use Rattle.net_names.specs.Prefixes.{prefix_cmp};
+ghost use Rattle.stability_laws.specs.Plans.{announcement_cmp, announces, announced_path, announcer_of, empty_plan, with_announcement, with_leaker, has_prefix, leaks_in, prefixes_of, announcers_of, in_round, leakers_of, IsAnnouncer, IsSound, ListsRising};
+ghost use Rattle.stability_laws.specs.PlanLists.{set_of, IsRising};
+
+use net_names::{Asn, NoMemory, Path, Prefix};
+use std::alloc::Global;
+use std::marker::Model;
+
+// A path, with the prefix and the AS that announce it.
+#[derive(Drop)]
+struct Announcement {
+    prefix: Prefix,
+    asn: Asn,
+    path: Path,
+}
+
+/// Who announces what, and who leaks in which round. Contracts see the plan: its prefixes, the path
+/// at a prefix and an AS that announces it, and the rounds with the ASes that leak in them.
+#[derive(Drop)]
+pub struct SeedPlan {
+    prefixes: Vec<Prefix>,
+    announced: Vec<Announcement>,
+    announcers: Vec<Asn>,
+    leakers: Vec<(u32, Asn)>,
+}
+
+impl Model for SeedPlan {
+    ghost use Rattle.stability_laws.specs.Plans.{Plan, plan_code};
+
+    ghost Value = { Plan };
+
+    ghost coded = { plan_code };
+
+    ghost use Rattle.stability_laws.specs.PlanLists.{plan_of, ArePlan};
+
+    ghost view = { λ p. plan_of p.prefixes.items p.announced.items p.leakers.items };
+
+    ghost invariant = { λ p. ArePlan p.prefixes.items p.announced.items p.announcers.items p.leakers.items };
+}
+
+// Where the announcement of the prefix by the AS stands, or where it has to be put in.
+fn place_of(announced: &[Announcement], prefix: Prefix, asn: Asn) -> Result<usize, usize>
+    ensures bound { IsSearchInRange result (length announced.now) }
+    ensures position { IsBinarySearchResult (λ x. announcement_cmp (x.prefix, x.asn) (prefix, asn)) announced.now result }
+{
+    announced.binary_search_by_key(&(prefix, asn), |x| (x.prefix, x.asn))
+}
+
+// Puts the key among the keys, where it is not there yet.
+fn put_key<K: Ord + Copy>(keys: &mut Vec<K>, key: K) -> Result<(), NoMemory>
+    requires exact { IsAntisymmetric K.cmp }
+    requires rising { IsRising K.cmp keys.old.items }
+    ensures ok { OnOk result (set_of K.cmp keys.new.items ≡ fin.insert (set_of K.cmp keys.old.items) key tt) }
+    ensures rising { OnOk result (IsRising K.cmp keys.new.items) }
+    ensures err { OnErr result (keys.new.items ≡ keys.old.items) }
+    ensures room { vec_len keys.old < vec_capacity keys.old → IsOk result }
+{
+    match keys.as_slice().binary_search(&key) {
+        Ok(_) => Ok(()),
+        Err(at) => match keys.insert(at, key) {
+            Ok(()) => Ok(()),
+            Err(_) => Err(NoMemory),
+        },
+    }
+}
+
+// The AS at a place among those that leak in the round.
+fn leaker_in(leakers: &[(u32, Asn)], round: u32, place: usize) -> Option<Asn>
+    requires { IsRising pair_cmp leakers.now }
+    ensures { result ≡ slice_get (in_round round leakers.now) place }
+{
+    let first = leakers.partition_point(|leaker| leaker.0 < round);
+    match leakers[first..].get(place) {
+        Some(leaker) => {
+            if leaker.0 == round {
+                Some(leaker.1)
+            } else {
+                None
+            }
+        }
+        None => None,
+    }
+}
+
+impl SeedPlan {
+    /// The plan in which nobody announces or leaks anything.
+    pub fn new(alloc: Global) -> SeedPlan
+        ensures { result ≡ empty_plan }
+    {
+        SeedPlan {
+            prefixes: Vec::new(alloc),
+            announced: Vec::new(alloc),
+            announcers: Vec::new(alloc),
+            leakers: Vec::new(alloc),
+        }
+    }
+
+    /// Makes the first AS of the path announce the path of the prefix, in every round. The path has 1
+    /// to 4294967294 numbers. `Err` where there is not enough memory; then the plan stays as it was.
+    pub fn announce(&mut self, prefix: Prefix, path: Path) -> Result<(), NoMemory>
+        requires some { 1 ≤ length path }
+        requires short { length path ≤ 4294967294 }
+        requires new { announces self.old prefix (announcer_of path) ≡ false }
+        ensures ok { OnOk result (self.new ≡ with_announcement self.old prefix path) }
+        ensures err { OnErr result (self.new ≡ self.old) }
+    {
+        let asn = path.as_slice()[0];
+        if self.prefixes.reserve(1).is_err() {
+            return Err(NoMemory);
+        }
+        if self.announcers.reserve(1).is_err() {
+            return Err(NoMemory);
+        }
+        let at = match place_of(self.announced.as_slice(), prefix, asn) {
+            Ok(at) => at,
+            Err(at) => at,
+        };
+        match self
+            .announced
+            .insert(at, Announcement { prefix, asn, path })
+        {
+            Ok(()) => {}
+            Err(_) => return Err(NoMemory),
+        }
+        let _ = put_key(&mut self.prefixes, prefix);
+        let _ = put_key(&mut self.announcers, asn);
+        Ok(())
+    }
+
+    /// Makes the AS leak in that round, which is at least 2: of each prefix that it does not announce
+    /// it puts in what a peer or a provider gave it in the round before. `Err` where there is not
+    /// enough memory; then the plan stays as it was.
+    /// Source: RFC 7908, section 3.
+    pub fn leaker(&mut self, round: u32, asn: Asn) -> Result<(), NoMemory>
+        requires { 2 ≤ round }
+        ensures ok { OnOk result (self.new ≡ with_leaker self.old round asn) }
+        ensures err { OnErr result (self.new ≡ self.old) }
+    {
+        put_key(&mut self.leakers, (round, asn))?;
+        Ok(())
+    }
+
+    /// Whether the AS announces the prefix.
+    pub fn announces(&self, prefix: Prefix, asn: Asn) -> bool
+        ensures value { result ≡ announces self.now prefix asn }
+        ensures sound { IsSound self.now }
+    {
+        place_of(self.announced.as_slice(), prefix, asn).is_ok()
+    }
+
+    /// The path that the AS announces of the prefix; `None` exactly where it does not announce it.
+    pub fn path(&self, prefix: Prefix, asn: Asn) -> Option<&Path>
+        ensures value { option_copied result ≡ announced_path self.now prefix asn }
+        ensures sound { IsSound self.now }
+    {
+        match place_of(self.announced.as_slice(), prefix, asn) {
+            Ok(at) => Some(&self.announced[at].path),
+            Err(_) => None,
+        }
+    }
+
+    /// The prefix at a place in their rising order of family, address and length; `None` exactly where the place is not below their
+    /// number. It takes a constant time.
+    pub fn prefix_at(&self, place: usize) -> Option<Prefix>
+        ensures value { result ≡ slice_get (prefixes_of self.now) place }
+        ensures listed { ListsRising prefix_cmp (λ prefix. IsTrue (has_prefix self.now prefix)) (prefixes_of self.now) }
+    {
+        self.prefixes.get(place).copied()
+    }
+
+    /// The AS at a place among the distinct ASes that announce a prefix, in rising order; `None`
+    /// exactly where the place is not below their number. It takes a constant time.
+    pub fn announcer_at(&self, place: usize) -> Option<Asn>
+        ensures value { result ≡ slice_get (announcers_of self.now) place }
+        ensures listed { ListsRising nat_cmp (IsAnnouncer self.now) (announcers_of self.now) }
+    {
+        self.announcers.get(place).copied()
+    }
+
+    /// The AS at a place among the ASes that leak in that round, in rising order; `None` exactly where
+    /// the place is not below their number.
+    pub fn leaker_at(&self, round: u32, place: usize) -> Option<Asn>
+        ensures value { result ≡ slice_get (leakers_of self.now round) place }
+        ensures listed { ListsRising nat_cmp (λ a. IsTrue (leaks_in self.now round a)) (leakers_of self.now round) }
+    {
+        leaker_in(self.leakers.as_slice(), round, place)
+    }
+}
