@@ -1,0 +1,40 @@
+use Rattle.std.proofs.Common.{◌≡◌, ◌≢◌, ℕ, ◌+◌, ◌<◌, ◌≤◌, Some, None, length, sym, ◌∙◌, arith}
+use Rattle.std.specs.Prelude.{slice_get, IsTrue}
+use Rattle.std.proofs.lemmas.Option.{slice_get_within}
+use Rattle.std.specs.List.{sum_by}
+use Rattle.net_names.specs.Prefixes.{PrefixValue, prefix_cmp}
+use Rattle.stability_laws.specs.Plans.{has_prefix, prefixes_of, announcers_of}
+use Rattle.stability_laws.proofs.KeyLists.{seen_before_end}
+use Rattle.leak_round.specs.Limits.{announced_length}
+use Rattle.leak_round.specs.Announced.{HasAnnounced}
+use Rattle.leak_round.proofs.Listing.{at_next, sum_next}
+use Rattle.leak_round.proofs.announced.announce_all.Goals as goal
+
+pub prefixes-smaller : goal.prefixes-smaller
+prefixes-smaller c =
+    let within : c.prefixes.place < length (prefixes_of c.args.plan.now) = slice_get_within (prefixes_of c.args.plan.now) c.prefixes.place c.in-Some.prefix (sym c.in-Some.ensures.value) in
+    omega arith
+
+pub prefixes-preserved : goal.prefixes-preserved
+prefixes-preserved c =
+    let plan = c.args.plan.now in
+    let xs = prefixes_of plan in
+    let i = c.prefixes.place in
+    let p = c.in-Some.prefix in
+    let at : slice_get xs i ≡ Some p = sym c.in-Some.ensures.value in
+    let ys = c.announce_prefix.new.announced.items in
+    let old = c.prefixes.invariant in
+    let now = c.in_ok-announce_prefix.ensures in
+    record {
+      so_far = now.so_far;
+      put = at_next xs i p (λ q. (a : ℕ) → HasAnnounced plan ys q a) at now.whole (λ j q less is a h. now.more q a (old.put j q less is a h));
+      within = (let within = slice_get_within xs i p at in omega (arith, within));
+      cells = (let next = sum_next (λ (q : PrefixValue). sum_by (announced_length plan q) (announcers_of plan)) xs i p at in omega (arith, next, now.cells, old.cells));
+      limit = now.limit ∙ old.limit;
+    }
+
+pub returns-clause-whole : goal.returns-clause-whole
+returns-clause-whole c = λ prefix a there.
+    let plan = c.args.plan.now in
+    let (i, less, at) = seen_before_end prefix_cmp (λ p. IsTrue (has_prefix plan p)) (prefixes_of plan) c.prefix_at.ensures.listed c.prefixes.place (sym c.prefix_at.ensures.value ∙ c.in_default.is) prefix there in
+    c.prefixes.invariant.put i prefix less at a

@@ -1,0 +1,49 @@
+use Rattle.std.proofs.Common.{◌≡◌, ◌≢◌, ℕ, ◌+◌, ◌<◌, ◌≤◌, Some, None, length, sym, ◌∙◌, arith}
+use Rattle.std.specs.Prelude.{slice_get}
+use Rattle.std.proofs.lemmas.Option.{slice_get_within}
+use Rattle.std.specs.List.{sum_by}
+use Rattle.std.specs.Ordering.{nat_cmp}
+use Rattle.stability_laws.specs.Plans.{announced_path, announcers_of, IsAnnouncer}
+use Rattle.stability_laws.proofs.KeyLists.{seen_before_end}
+use Rattle.leak_round.specs.Limits.{announced_length}
+use Rattle.leak_round.specs.Announced.{HasAnnounced}
+use Rattle.leak_round.proofs.Listing.{at_next, sum_next, place_le, some_of}
+use Rattle.leak_round.proofs.announced.announce_prefix.Goals as goal
+
+pub overflow_add-place : goal.overflow_add-place
+overflow_add-place c =
+    let at : slice_get (announcers_of c.args.plan.now) c.announcers.place ≡ Some c.in-Some.asn = sym c.in-Some.ensures.value in
+    let low : c.announcers.place ≤ c.in-Some.asn = place_le (IsAnnouncer c.args.plan.now) (announcers_of c.args.plan.now) c.in-Some.ensures.listed c.announcers.place c.in-Some.asn at in
+    omega (arith, low, c.get-number.ensures.value, c.get-number.type_inv)
+
+pub announcers-smaller : goal.announcers-smaller
+announcers-smaller c =
+    let within : c.announcers.place < length (announcers_of c.args.plan.now) = slice_get_within (announcers_of c.args.plan.now) c.announcers.place c.in-Some.asn (sym c.in-Some.ensures.value) in
+    omega arith
+
+pub announcers-preserved : goal.announcers-preserved
+announcers-preserved c =
+    let plan = c.args.plan.now in
+    let prefix = c.args.prefix in
+    let xs = announcers_of plan in
+    let i = c.announcers.place in
+    let a = c.in-Some.asn in
+    let at : slice_get xs i ≡ Some a = sym c.in-Some.ensures.value in
+    let ys = c.announce.new.announced.items in
+    let old = c.announcers.invariant in
+    let now = c.in_ok-announce.ensures in
+    record {
+      so_far = now.so_far;
+      more = λ p b h. now.more p b (old.more p b h);
+      put = at_next xs i a (HasAnnounced plan ys prefix) at now.this (λ j b less is h. now.more prefix b (old.put j b less is h));
+      within = (let within = slice_get_within xs i a at in omega (arith, within));
+      cells = (let next = sum_next (announced_length plan prefix) xs i a at in omega (arith, next, now.cells, old.cells));
+      limit = now.limit ∙ old.limit;
+    }
+
+pub returns-clause-whole : goal.returns-clause-whole
+returns-clause-whole c = λ a h.
+    let plan = c.args.plan.now in
+    let (path, is) = some_of (announced_path plan c.args.prefix a) h in
+    let (i, less, at) = seen_before_end nat_cmp (IsAnnouncer plan) (announcers_of plan) c.announcer_at.ensures.listed c.announcers.place (sym c.announcer_at.ensures.value ∙ c.in_default.is) a (record { prefix = c.args.prefix; path = path; announced = is }) in
+    c.announcers.invariant.put i a less at h

@@ -1,0 +1,46 @@
+-- The announced paths in a pool.
+use Rattle.std.specs.Prelude.{◌≡◌, ℕ, ◌≤◌, Bool, ◌&&◌, ◌==◌, if◌then◌else◌, Option, None, Some, IsSome, IsTrue, option_map, List, fold, count_by}
+use Rattle.net_names.specs.Prefixes.{PrefixValue}
+use Rattle.net_names.specs.contracts.prefixes.PrefixPartialEq.TheImpl as same_prefix
+use Rattle.path_pool.specs.declared.path_id.PathId.{PathId}
+use Rattle.path_pool.specs.declared.pool.PathPool.{PathPool}
+use Rattle.path_pool.specs.Pool.{IsLive, list_of, holds_of, count_of, live_count}
+use Rattle.stability_laws.specs.Plans.{Plan, announced_path, has_prefix}
+use Rattle.route_choice.specs.declared.held.SeedHeld.{SeedHeld}
+use Rattle.leak_round.specs.declared.announced.Announced.{Announced}
+
+-- the announcement is that of the prefix by the AS (own rule)
+abbrev pub is_of : PrefixValue → ℕ → Announced → Bool
+is_of prefix a x = (same_prefix.ghosts).eq x.prefix prefix && (x.asn == a)
+
+-- where the path stands that the AS announces of the prefix (own rule)
+abbrev pub own_path : List Announced → PrefixValue → ℕ → Option PathId
+own_path xs prefix a = fold (λ found x. if is_of prefix a x then Some x.path else found) None xs
+
+-- how many announcements have the path (own rule)
+abbrev pub announced_uses : List Announced → ℕ → ℕ
+announced_uses xs k = count_by (λ x. x.path.0 == k) xs
+
+-- an announced path as a seed, without a number (own rule)
+abbrev pub own_seed : PathId → SeedHeld
+own_seed id = record { path = id; otc = None }
+
+-- each path that stands in the pool for an announcement is live and the announced one, each has one hold, and no cell has more (own rule)
+pub record IsAnnouncing (pool : PathPool) (plan : Plan) (xs : List Announced) : Type 0 where
+  pub live : (prefix : PrefixValue) (a : ℕ) (id : PathId) → own_path xs prefix a ≡ Some id → IsLive pool id.0
+  pub sound : (prefix : PrefixValue) (a : ℕ) (id : PathId) → own_path xs prefix a ≡ Some id → announced_path plan prefix a ≡ Some (list_of pool id.0)
+  pub holds : (k : ℕ) → holds_of pool k ≡ announced_uses xs k
+  pub counts : (k : ℕ) → count_of pool k ≤ live_count pool
+
+-- who has announced something has announced it still (own rule)
+abbrev pub KeepsAnnounced : List Announced → List Announced → Type 0
+KeepsAnnounced old new = (prefix : PrefixValue) (a : ℕ) → IsSome (own_path old prefix a) → IsSome (own_path new prefix a)
+
+-- what the AS announces of the prefix in the plan stands in the pool (own rule)
+abbrev pub HasAnnounced : Plan → List Announced → PrefixValue → ℕ → Type 0
+HasAnnounced plan xs prefix a = IsSome (announced_path plan prefix a) → IsSome (own_path xs prefix a)
+
+-- the announced paths of the plan's prefixes are just those of the plan, and live (own rule)
+pub record AreAnnounced (pool : PathPool) (plan : Plan) (xs : List Announced) : Type 0 where
+  pub live : (prefix : PrefixValue) (a : ℕ) (id : PathId) → own_path xs prefix a ≡ Some id → IsLive pool id.0
+  pub paths : (prefix : PrefixValue) (a : ℕ) → IsTrue (has_prefix plan prefix) → option_map (λ id. list_of pool id.0) (own_path xs prefix a) ≡ announced_path plan prefix a

@@ -1,0 +1,7 @@
+pub mod Limits
+pub mod Announced
+pub mod Leaked
+pub mod Growth
+pub mod Entries
+pub mod Tables
+pub mod Rounds

@@ -1,0 +1,29 @@
+-- What contracts see of rounds: the plan, the pool, and what each AS holds of each prefix in each round.
+use Rattle.std.specs.Prelude.{◌≡◌, ℕ, ◌+◌, Option, List, length}
+use Rattle.net_names.specs.Prefixes.{PrefixValue}
+use Rattle.path_pool.specs.declared.pool.PathPool.{PathPool}
+use Rattle.stability_laws.specs.declared.entry.Entry.{Entry}
+use Rattle.stability_laws.specs.Plans.{Plan}
+use Rattle.leak_round.specs.declared.rounds.Rounds.{Rounds}
+use Rattle.leak_round.specs.Announced.{announced_uses}
+use Rattle.leak_round.specs.Tables.{kept_in, entry_uses}
+
+-- who announces what, and who leaks in which round (own rule)
+abbrev pub plan_of : Rounds → Plan
+plan_of r = r.plan
+
+-- the pool in which the paths stand (own rule)
+abbrev pub pool_of : Rounds → PathPool
+pool_of r = r.pool
+
+-- how many rounds there are (own rule)
+abbrev pub round_count : Rounds → ℕ
+round_count r = length r.tables.items
+
+-- what an AS holds of a prefix in a round; nothing in a round that is not there (own rule)
+abbrev pub kept : Rounds → ℕ → PrefixValue → ℕ → Option Entry
+kept r round prefix a = kept_in r.pool r.tables.items round prefix a
+
+-- how many entries and announced paths stand at the path (own rule)
+abbrev pub uses_of : Rounds → ℕ → ℕ
+uses_of r k = entry_uses r.tables.items k + announced_uses r.announced.items k

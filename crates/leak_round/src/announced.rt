@@ -1,0 +1,121 @@
+//! The announced paths, as paths of a pool.
+
+ghost use Rattle.std.specs.Prelude.{◌≡◌, ℕ, ◌+◌, ◌≤◌, None, [], length, option_map, IsTrue, IfOk, OnOk};
+ghost use Rattle.std.specs.List.{sum_by};
+ghost use Rattle.net_names.specs.Prefixes.{PrefixValue};
+ghost use Rattle.path_pool.specs.Pool.{live_count, limit_of};
+ghost use Rattle.stability_laws.specs.Plans.{has_prefix, prefixes_of, announcers_of};
+ghost use Rattle.route_choice.specs.Tables.{seed_at};
+ghost use Rattle.leak_round.specs.Limits.{announced_length};
+ghost use Rattle.leak_round.specs.Announced.{own_path, own_seed, IsAnnouncing, KeepsAnnounced, HasAnnounced};
+
+use net_names::{Asn, NoMemory, Prefix};
+use path_pool::{PathId, PathPool};
+use route_choice::{SeedHeld, SeedIds};
+use stability_laws::SeedPlan;
+use std::alloc::Global;
+
+/// An AS that announces a prefix, and where the announced path stands in a pool.
+#[derive(Clone, Copy)]
+pub struct Announced {
+    pub prefix: Prefix,
+    pub asn: Asn,
+    pub path: PathId,
+}
+
+// Puts the path that an AS announces of a prefix into the pool, if it announces the prefix.
+fn announce(
+    plan: &SeedPlan,
+    prefix: Prefix,
+    asn: Asn,
+    pool: &mut PathPool,
+    announced: &mut Vec<Announced>,
+) -> Result<(), NoMemory>
+    requires so_far { IsAnnouncing pool.old plan.now announced.old.items }
+    ensures so_far { OnOk result (IsAnnouncing pool.new plan.now announced.new.items) }
+    ensures more { OnOk result (KeepsAnnounced announced.old.items announced.new.items) }
+    ensures this { OnOk result (HasAnnounced plan.now announced.new.items prefix asn) }
+    ensures cells { OnOk result (live_count pool.new ≤ live_count pool.old + announced_length plan.now prefix asn) }
+    ensures limit { limit_of pool.new ≡ limit_of pool.old }
+{
+    let Some(path) = plan.path(prefix, asn) else {
+        return Ok(());
+    };
+    let numbers = path.as_slice();
+    match pool.reserve(numbers.len()) {
+        Ok(()) => {}
+        Err(_) => return Err(NoMemory),
+    }
+    let path = pool.copy_in(numbers);
+    match announced.push(Announced { prefix, asn, path }) {
+        Ok(()) => Ok(()),
+        Err(_) => Err(NoMemory),
+    }
+}
+
+// Puts the announced paths of a prefix into the pool.
+fn announce_prefix(
+    plan: &SeedPlan,
+    prefix: Prefix,
+    pool: &mut PathPool,
+    announced: &mut Vec<Announced>,
+) -> Result<(), NoMemory>
+    requires so_far { IsAnnouncing pool.old plan.now announced.old.items }
+    ensures so_far { OnOk result (IsAnnouncing pool.new plan.now announced.new.items) }
+    ensures more { OnOk result (KeepsAnnounced announced.old.items announced.new.items) }
+    ensures whole { OnOk result ((a : ℕ) → HasAnnounced plan.now announced.new.items prefix a) }
+    ensures cells { OnOk result (live_count pool.new ≤ live_count pool.old + sum_by (announced_length plan.now prefix) (announcers_of plan.now)) }
+    ensures limit { limit_of pool.new ≡ limit_of pool.old }
+{
+    let mut place = 0;
+    'announcers: while let Some(asn) = plan.announcer_at(place) {
+        announce(plan, prefix, asn, pool, announced)?;
+        // The numbers rise, so that none is below its place.
+        let _number = asn.get();
+        place += 1;
+    }
+    Ok(())
+}
+
+// Puts all announced paths into the pool, each once and with one hold.
+pub fn announce_all(
+    alloc: Global,
+    plan: &SeedPlan,
+    pool: &mut PathPool,
+) -> Result<Vec<Announced>, NoMemory>
+    requires few { length (prefixes_of plan.now) ≤ 32 }
+    requires so_far { IsAnnouncing pool.old plan.now [] }
+    ensures so_far { IfOk result (λ v. IsAnnouncing pool.new plan.now v.items) }
+    ensures whole { IfOk result (λ v. (prefix : PrefixValue) (a : ℕ) → IsTrue (has_prefix plan.now prefix) → HasAnnounced plan.now v.items prefix a) }
+    ensures cells { OnOk result (live_count pool.new ≤ live_count pool.old + sum_by (λ prefix. sum_by (announced_length plan.now prefix) (announcers_of plan.now)) (prefixes_of plan.now)) }
+    ensures limit { limit_of pool.new ≡ limit_of pool.old }
+{
+    let mut announced = Vec::new(alloc);
+    let mut place = 0;
+    'prefixes: while let Some(prefix) = plan.prefix_at(place) {
+        announce_prefix(plan, prefix, pool, &mut announced)?;
+        place += 1;
+    }
+    Ok(announced)
+}
+
+// The seeds that the announcements of a prefix make.
+pub fn announced_seeds(
+    alloc: Global,
+    announced: &[Announced],
+    prefix: Prefix,
+) -> Result<SeedIds, NoMemory>
+    ensures { IfOk result (λ s. (a : ℕ) → seed_at s a ≡ option_map own_seed (own_path announced.now prefix a)) }
+{
+    let mut seeds = SeedIds::new(alloc);
+    for one in announced {
+        if one.prefix == prefix {
+            let seed = SeedHeld {
+                path: one.path,
+                otc: None,
+            };
+            seeds.put(one.asn, seed)?;
+        }
+    }
+    Ok(seeds)
+}

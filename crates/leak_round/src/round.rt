@@ -1,0 +1,110 @@
+//! The tables of one round.
+
+ghost use Rattle.std.specs.Prelude.{◌≡◌, ℕ, suc, ◌+◌, ◌-◌, ◌*◌, ◌≤◌, length, IfOk, OnOk};
+ghost use Rattle.as_graph.specs.Topology.{what, as_count};
+ghost use Rattle.as_graph.specs.Hierarchy.{HasNoProviderCycle, IsRank};
+ghost use Rattle.rank_order.specs.Ranks.{rank_at};
+ghost use Rattle.path_pool.specs.Pool.{holds_of, live_count};
+ghost use Rattle.stability_laws.specs.Stable.{IsStable};
+ghost use Rattle.stability_laws.specs.World.{setting};
+ghost use Rattle.stability_laws.specs.Plans.{prefixes_of};
+ghost use Rattle.stability_laws.specs.Rounds.{seeds_of};
+ghost use Rattle.route_choice.specs.Resources.{AreEntriesLive};
+ghost use Rattle.route_choice.specs.Routings.{table_routing};
+ghost use Rattle.route_choice.specs.RoundTables.{round_routing, tables_uses};
+ghost use Rattle.route_choice.specs.Tables.{prefix_of, table_uses};
+ghost use Rattle.leak_round.specs.Announced.{AreAnnounced};
+ghost use Rattle.leak_round.specs.Entries.{HasEntries};
+ghost use Rattle.leak_round.specs.Growth.{KeepsPaths, GrowsBy, HasRoomFor};
+ghost use Rattle.leak_round.specs.Tables.{kept_in, AreFull, AreRoundsFull, IsRound};
+
+use crate::announced::{Announced, announced_seeds};
+use crate::leaked::leak_all;
+use as_graph::Graph;
+use net_names::{NoMemory, Prefix};
+use path_pool::PathPool;
+use policy_laws::{OriginStates, RoutePolicy};
+use rank_order::Ranks;
+use route_choice::{RoundTables, Steps, Table};
+use stability_laws::{Book, SeedPlan};
+use std::alloc::Global;
+use std::sync::ledger::Ledger;
+use three_pass::propagate;
+
+// The table of a prefix in a round.
+fn make_table<P: RoutePolicy, V: OriginStates, L: Ledger>(
+    alloc: Global,
+    graph: &Graph,
+    ranks: &Ranks,
+    book: &Book<P>,
+    states: &V,
+    plan: &SeedPlan,
+    announced: &[Announced],
+    earlier: &[RoundTables],
+    round: u32,
+    prefix: Prefix,
+    pool: &mut PathPool,
+    steps: &mut Steps<L>,
+) -> Result<Table, NoMemory>
+    requires no_cycle { HasNoProviderCycle (what graph.now) }
+    requires ranks { (a : ℕ) → IsRank (what graph.now) a (rank_at ranks.now a) }
+    requires announced { AreAnnounced pool.old plan.now announced.now }
+    requires earlier { AreRoundsFull pool.old plan.now earlier.now }
+    requires round { round ≡ suc (length earlier.now) }
+    requires room { HasRoomFor pool.old 1 }
+    ensures cost { steps.new ≤ steps.old + 2 * as_count graph.now }
+    ensures prefix { IfOk result (λ t. prefix_of t ≡ prefix) }
+    ensures stable { IfOk result (λ t. IsStable (setting P.meaning graph.now book.now (V.state_of states.now prefix)) (seeds_of plan.now round prefix (kept_in pool.old earlier.now (length earlier.now) prefix)) (table_routing pool.new t)) }
+    ensures live { IfOk result (AreEntriesLive pool.new) }
+    ensures holds { IfOk result (λ t. (k : ℕ) → holds_of pool.new k ≡ holds_of pool.old k + table_uses t k) }
+    ensures cells { IfOk result (λ t. HasEntries (table_routing pool.new t) (live_count pool.new - live_count pool.old)) }
+    ensures keeps { OnOk result (KeepsPaths pool.old pool.new) }
+    ensures grows { OnOk result (GrowsBy pool.old pool.new 150000) }
+{
+    let mut seeds = announced_seeds(alloc, announced, prefix)?;
+    leak_all(plan, prefix, round, earlier, &mut seeds)?;
+    propagate(
+        alloc, graph, ranks, book, states, prefix, &seeds, pool, steps,
+    )
+}
+
+// The tables of a round, one for each prefix.
+pub fn make_round<P: RoutePolicy, V: OriginStates, L: Ledger>(
+    alloc: Global,
+    graph: &Graph,
+    ranks: &Ranks,
+    book: &Book<P>,
+    states: &V,
+    plan: &SeedPlan,
+    announced: &[Announced],
+    earlier: &[RoundTables],
+    round: u32,
+    pool: &mut PathPool,
+    steps: &mut Steps<L>,
+) -> Result<RoundTables, NoMemory>
+    requires no_cycle { HasNoProviderCycle (what graph.now) }
+    requires ranks { (a : ℕ) → IsRank (what graph.now) a (rank_at ranks.now a) }
+    requires few { length (prefixes_of plan.now) ≤ 32 }
+    requires announced { AreAnnounced pool.old plan.now announced.now }
+    requires earlier { AreRoundsFull pool.old plan.now earlier.now }
+    requires round { round ≡ suc (length earlier.now) }
+    requires room { HasRoomFor pool.old (length (prefixes_of plan.now)) }
+    ensures cost { steps.new ≤ steps.old + 2 * as_count graph.now * length (prefixes_of plan.now) }
+    ensures stable { IfOk result (λ t. IsRound (λ p. setting P.meaning graph.now book.now (V.state_of states.now p)) plan.now round (kept_in pool.old earlier.now (length earlier.now)) (round_routing pool.new t)) }
+    ensures full { IfOk result (AreFull pool.new plan.now) }
+    ensures holds { IfOk result (λ t. (k : ℕ) → holds_of pool.new k ≡ holds_of pool.old k + tables_uses t k) }
+    ensures cells { IfOk result (λ t. HasEntries (λ x. round_routing pool.new t x.0 x.1) (live_count pool.new - live_count pool.old)) }
+    ensures keeps { OnOk result (KeepsPaths pool.old pool.new) }
+    ensures grows { OnOk result (GrowsBy pool.old pool.new (150000 * length (prefixes_of plan.now))) }
+{
+    let mut tables = RoundTables::new(alloc);
+    let mut place = 0;
+    'prefixes: while let Some(prefix) = plan.prefix_at(place) {
+        let table = make_table(
+            alloc, graph, ranks, book, states, plan, announced, earlier, round, prefix, pool, steps,
+        )?;
+        tables.push(table)?;
+        place += 1;
+    }
+    Ok(tables)
+}

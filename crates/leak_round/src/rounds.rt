@@ -1,0 +1,173 @@
+//! The tables of all rounds.
+
+ghost use Rattle.std.specs.Prelude.{◌≡◌, ◌↔◌, ℕ, suc, ◌+◌, ◌-◌, ◌*◌, ◌<◌, ◌≤◌, IsTrue, IsSome, IfSome, IfOk, OnOk, Option, length, is_some};
+ghost use Rattle.net_names.specs.Prefixes.{PrefixValue};
+ghost use Rattle.as_graph.specs.Topology.{what, as_count};
+ghost use Rattle.as_graph.specs.Hierarchy.{HasNoProviderCycle, IsRank};
+ghost use Rattle.rank_order.specs.Ranks.{rank_at};
+ghost use Rattle.path_pool.specs.Pool.{holds_of, live_count};
+ghost use Rattle.stability_laws.specs.declared.entry.Entry.{Entry as AnEntry};
+ghost use Rattle.stability_laws.specs.World.{setting};
+ghost use Rattle.stability_laws.specs.Plans.{has_prefix, prefixes_of};
+ghost use Rattle.stability_laws.specs.Rounds.{AreRounds};
+ghost use Rattle.route_choice.specs.RoundTables.{table_at, round_routing, AreAllLive, AreByPrefix};
+ghost use Rattle.leak_round.specs.Limits.{IsWithinLimits, numbers_of};
+ghost use Rattle.leak_round.specs.Announced.{AreAnnounced, announced_uses};
+ghost use Rattle.leak_round.specs.Entries.{HasEntries};
+ghost use Rattle.leak_round.specs.Growth.{KeepsPaths, HasRoomFor};
+ghost use Rattle.leak_round.specs.Tables.{kept_in, entry_uses, AreRoundsFull};
+
+use crate::announced::{Announced, announce_all};
+use crate::round::make_round;
+use as_graph::Graph;
+use net_names::NoMemory;
+use path_pool::PathPool;
+use policy_laws::{OriginStates, RoutePolicy};
+use rank_order::Ranks;
+use route_choice::{RoundTables, Steps};
+use stability_laws::{Book, SeedPlan, one_family};
+use std::alloc::Global;
+use std::sync::ledger::Ledger;
+
+// The most cells of a pool. The entries of four rounds of 32 prefixes and the announced paths have fewer.
+const MAX_CELLS: usize = 40_000_000;
+
+/// The tables of all rounds of a plan of seeds, with the pool of their paths. It owns one hold of each
+/// announced path.
+#[derive(Drop)]
+pub struct Rounds {
+    pool: PathPool,
+    plan: SeedPlan,
+    announced: Vec<Announced>,
+    tables: Vec<RoundTables>,
+    ghost announcements: { AreAnnounced pool plan announced.items },
+    ghost full: { AreRoundsFull pool plan tables.items },
+    ghost held: { (k : ℕ) → holds_of pool k ≡ entry_uses tables.items k + announced_uses announced.items k },
+}
+
+// The tables of the rounds, one after the other.
+fn make_rounds<P: RoutePolicy, V: OriginStates, L: Ledger>(
+    alloc: Global,
+    graph: &Graph,
+    ranks: &Ranks,
+    book: &Book<P>,
+    states: &V,
+    plan: &SeedPlan,
+    announced: &[Announced],
+    rounds: u32,
+    pool: &mut PathPool,
+    steps: &mut Steps<L>,
+) -> Result<Vec<RoundTables>, NoMemory>
+    requires no_cycle { HasNoProviderCycle (what graph.now) }
+    requires ranks { (a : ℕ) → IsRank (what graph.now) a (rank_at ranks.now a) }
+    requires few { length (prefixes_of plan.now) ≤ 32 }
+    requires announced { AreAnnounced pool.old plan.now announced.now }
+    requires room { HasRoomFor pool.old (rounds * length (prefixes_of plan.now)) }
+    ensures cost { steps.new ≤ steps.old + 2 * as_count graph.now * length (prefixes_of plan.now) * rounds }
+    ensures count { IfOk result (λ v. length v.items ≡ rounds) }
+    ensures stable { IfOk result (λ v. AreRounds (λ p. setting P.meaning graph.now book.now (V.state_of states.now p)) plan.now rounds (kept_in pool.new v.items)) }
+    ensures full { IfOk result (λ v. AreRoundsFull pool.new plan.now v.items) }
+    ensures holds { IfOk result (λ v. (k : ℕ) → holds_of pool.new k ≡ holds_of pool.old k + entry_uses v.items k) }
+    ensures cells { IfOk result (λ v. HasEntries (λ x. kept_in pool.new v.items x.0 x.1.0 x.1.1) (live_count pool.new - live_count pool.old)) }
+    ensures keeps { OnOk result (KeepsPaths pool.old pool.new) }
+{
+    let mut tables = Vec::new(alloc);
+    for past in 0..rounds {
+        let next = make_round(
+            alloc,
+            graph,
+            ranks,
+            book,
+            states,
+            plan,
+            announced,
+            tables.as_slice(),
+            past + 1,
+            pool,
+            steps,
+        )?;
+        match tables.push(next) {
+            Ok(()) => {}
+            Err(_) => return Err(NoMemory),
+        }
+    }
+    Ok(tables)
+}
+
+impl Rounds {
+    ghost use Rattle.leak_round.specs.Rounds.{plan_of, pool_of, round_count, kept, uses_of};
+
+    /// The tables of the rounds from 1 to `rounds`, at most 4. For each round and prefix of the plan it
+    /// is the one stable routing of that round's seeds: the announced paths and, from round 2 on, what
+    /// each leaker of the round, unless it announces the prefix, got from a peer or a provider in the
+    /// round just before (RFC 7908, section 3).
+    ///
+    /// The graph has no provider cycle, and the ranks are its ranks. It takes at most two steps for each
+    /// AS, prefix and round, and at most one cell for each entry and each number of an announced path.
+    /// Its only refusal is want of memory.
+    pub fn build<P: RoutePolicy, V: OriginStates, L: Ledger>(
+        alloc: Global,
+        graph: &Graph,
+        ranks: &Ranks,
+        book: &Book<P>,
+        states: &V,
+        plan: SeedPlan,
+        rounds: u32,
+        steps: &mut Steps<L>,
+    ) -> Result<Rounds, NoMemory>
+        requires no_cycle { HasNoProviderCycle (what graph.now) }
+        requires ranks { (a : ℕ) → IsRank (what graph.now) a (rank_at ranks.now a) }
+        requires limits { IsWithinLimits plan }
+        requires rounds { rounds ≤ 4 }
+        ensures cost { steps.new ≤ steps.old + 2 * as_count graph.now * length (prefixes_of plan) * rounds }
+        ensures plan { IfOk result (λ r. plan_of r ≡ plan) }
+        ensures count { IfOk result (λ r. round_count r ≡ rounds) }
+        ensures stable { IfOk result (λ r. AreRounds (λ p. setting P.meaning graph.now book.now (V.state_of states.now p)) plan rounds (kept r)) }
+        ensures only { IfOk result (λ r. (other : ℕ → PrefixValue → ℕ → Option AnEntry) → AreRounds (λ p. setting P.meaning graph.now book.now (V.state_of states.now p)) plan rounds other → (before : ℕ) (prefix : PrefixValue) → before < rounds → IsTrue (has_prefix plan prefix) → (a : ℕ) → other (suc before) prefix a ≡ kept r (suc before) prefix a) }
+        ensures cells { IfOk result (λ r. HasEntries (λ x. kept r x.0 x.1.0 x.1.1) (live_count (pool_of r) - numbers_of plan)) }
+    {
+        one_family::<P>();
+        let mut pool = PathPool::new(alloc, MAX_CELLS);
+        let announced = announce_all(alloc, &plan, &mut pool)?;
+        let tables = make_rounds(
+            alloc, graph, ranks, book, states, &plan, &announced, rounds, &mut pool, steps,
+        )?;
+        Ok(Rounds {
+            pool,
+            plan,
+            announced,
+            tables,
+        })
+    }
+
+    /// The tables of a round, one for each prefix of the plan; `None` exactly where there is no such
+    /// round. Rounds are numbered from 1.
+    pub fn round(&self, round: u32) -> Option<&RoundTables>
+        ensures there { IsSome result ↔ ((1 ≤ round) × (round ≤ round_count self.now)) }
+        ensures routing { IfSome result (λ t. (prefix : PrefixValue) (a : ℕ) → round_routing (pool_of self.now) t.now prefix a ≡ kept self.now round prefix a) }
+        ensures prefixes { IfSome result (λ t. (prefix : PrefixValue) → is_some (table_at t.now prefix) ≡ has_prefix (plan_of self.now) prefix) }
+        ensures by_prefix { IfSome result (λ t. AreByPrefix t.now) }
+        ensures live { IfSome result (λ t. AreAllLive (pool_of self.now) t.now) }
+    {
+        if round == 0 {
+            return None;
+        }
+        self.tables.get(round as usize - 1)
+    }
+
+    /// The pool in which the paths of all tables stand. Each of its outside holds is that of an entry or
+    /// of an announced path.
+    pub fn pool(&self) -> &PathPool
+        ensures value { result.now ≡ pool_of self.now }
+        ensures held { (k : ℕ) → holds_of result.now k ≡ uses_of self.now k }
+    {
+        &self.pool
+    }
+
+    /// Who announces what, and who leaks in which round.
+    pub fn seed_plan(&self) -> &SeedPlan
+        ensures { result.now ≡ plan_of self.now }
+    {
+        &self.plan
+    }
+}

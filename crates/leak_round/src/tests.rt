@@ -1,0 +1,132 @@
+//! Rounds of small worlds, worked by hand, with ample memory.
+
+use crate::Rounds;
+use as_graph::Graph;
+use net_names::{Asn, Class, Links, Path, Prefix, Rel, put_asn, read_prefix};
+use policy_kinds::Kind;
+use policy_laws::NoStates;
+use rank_order::Ranks;
+use route_choice::Steps;
+use stability_laws::{Book, SeedPlan};
+use std::alloc::Global;
+use std::marker::Brand;
+use std::process::Abort;
+use std::sync::ledger::{Blank, Ledger};
+use std::test::Fail;
+
+const DOWN: Rel = Rel::Customer;
+
+const ACROSS: Rel = Rel::Peer;
+
+type Row = (u32, u32, Rel);
+
+// The graph of these links: the second is a customer or a peer of the first.
+fn graph_of(rt: &impl Abort, alloc: Global, rows: &[Row]) -> Result<Graph, Fail> {
+    let mut links = Links::new(alloc);
+    for row in rows {
+        let one = Asn::new(row.0).ok_or("a number of an AS")?;
+        let other = Asn::new(row.1).ok_or("a number of an AS")?;
+        assert!(rt; one != other);
+        links.set(one, other, row.2)?;
+    }
+    Ok(Graph::build(alloc, &links)?)
+}
+
+fn main_prefix() -> Result<Prefix, Fail> {
+    Ok(read_prefix(b"10.0.0.0/8").ok_or("a prefix")?)
+}
+
+// The plan in which AS 5 announces the prefix by its own number, and these ASes leak in these rounds.
+fn plan_of(rt: &impl Abort, alloc: Global, leakers: &[(u32, u32)]) -> Result<SeedPlan, Fail> {
+    let mut plan = SeedPlan::new(alloc);
+    let mut path = Path::new(alloc);
+    path.push(Asn::new(5).ok_or("a number of an AS")?)?;
+    plan.announce(main_prefix()?, path)?;
+    for leaker in leakers {
+        assert!(rt; leaker.0 >= 2);
+        plan.leaker(leaker.0, Asn::new(leaker.1).ok_or("a number of an AS")?)?;
+    }
+    Ok(plan)
+}
+
+// Each AS that holds a route of the prefix in a round, with the route's class and path.
+fn text(alloc: Global, graph: &Graph, rounds: &Rounds, round: u32) -> Result<Vec<u8>, Fail> {
+    let mut out = Vec::new(alloc);
+    let tables = rounds.round(round).ok_or("a round")?;
+    let table = tables.table(main_prefix()?).ok_or("a table")?;
+    for asn in graph.ases() {
+        if let Some(held) = table.get(*asn) {
+            out.extend_from_slice(match held.class {
+                Class::Origin => b"origin",
+                Class::Customer => b"customer",
+                Class::Peer => b"peer",
+                Class::Provider => b"provider",
+            })?;
+            let path = rounds.pool().copy_out(alloc, held.path)?;
+            for hop in path.as_slice() {
+                out.push(b' ')?;
+                put_asn(&mut out, *hop)?;
+            }
+            out.push(b'\n')?;
+        }
+    }
+    Ok(out)
+}
+
+// The rounds over these links in which these ASes leak.
+fn rounds_of<L: Ledger>(
+    rt: &impl Abort,
+    alloc: Global,
+    graph: &Graph,
+    leakers: &[(u32, u32)],
+    rounds: u32,
+    blank: Blank,
+) -> Result<Rounds, Fail> {
+    let Ok(ranks) = Ranks::build(alloc, graph) else {
+        return Err("ranks".into());
+    };
+    let plan = plan_of(rt, alloc, leakers)?;
+    let book = Book::new(alloc, Kind::Plain);
+    let mut steps = Steps::<L>::new(blank);
+    Ok(Rounds::build(
+        alloc, graph, &ranks, &book, &NoStates, plan, rounds, &mut steps,
+    )?)
+}
+
+#[test]
+fn a_provider_route_leaks_in_the_rounds_of_its_leaker(rt: HostRuntime) -> Result<(), Fail> {
+    let links = [(1, 3, DOWN), (2, 3, DOWN), (1, 5, DOWN), (1, 2, ACROSS)];
+    let graph = graph_of(&rt, rt.alloc(), &links)?;
+    let rounds = rounds_of::<Brand>(&rt, rt.alloc(), &graph, &[(2, 3), (4, 3)], 4, Blank::new(1))?;
+    let plain = b"customer 1 5\npeer 2 1 5\nprovider 3 1 5\norigin 5\n".as_slice();
+    let leaked = b"customer 1 5\ncustomer 2 3 1 5\norigin 3 1 5\norigin 5\n".as_slice();
+    assert!(rt; text(rt.alloc(), &graph, &rounds, 1)?.as_slice() == plain);
+    assert!(rt; text(rt.alloc(), &graph, &rounds, 2)?.as_slice() == leaked);
+    assert!(rt; text(rt.alloc(), &graph, &rounds, 3)?.as_slice() == plain);
+    assert!(rt; text(rt.alloc(), &graph, &rounds, 4)?.as_slice() == leaked);
+    assert!(rt; rounds.round(0).is_none());
+    assert!(rt; rounds.round(5).is_none());
+    assert!(rt; rounds.pool().live() <= 17);
+    Ok(())
+}
+
+#[test]
+fn two_leakers_lean_on_each_other(rt: HostRuntime) -> Result<(), Fail> {
+    let links = [
+        (5, 1, DOWN),
+        (5, 2, DOWN),
+        (1, 3, DOWN),
+        (2, 3, DOWN),
+        (1, 6, DOWN),
+        (6, 4, DOWN),
+        (2, 4, DOWN),
+    ];
+    let graph = graph_of(&rt, rt.alloc(), &links)?;
+    let rounds = rounds_of::<Brand>(&rt, rt.alloc(), &graph, &[(2, 3), (2, 4)], 2, Blank::new(1))?;
+    let text = text(rt.alloc(), &graph, &rounds, 2)?;
+    assert!(rt;
+        text.as_slice()
+            == b"customer 1 6 4 2 5\ncustomer 2 3 1 5\norigin 3 1 5\norigin 4 2 5\norigin 5\ncustomer 6 4 2 5\n".as_slice()
+    );
+    Ok(())
+}
