@@ -1,3 +1,6 @@
 mod Listing
 mod Announcing
 mod Leaking
+mod Seeding
+mod Counting
+mod Keeping

@@ -1,13 +1,13 @@
 //! The tables of one round.
 
-ghost use Rattle.std.specs.Prelude.{◌≡◌, ℕ, suc, ◌+◌, ◌-◌, ◌*◌, ◌≤◌, length, IfOk, OnOk};
+ghost use Rattle.std.specs.Prelude.{◌≡◌, ℕ, suc, ◌+◌, ◌-◌, ◌*◌, ◌≤◌, length, IsTrue, IfOk, OnOk};
 ghost use Rattle.as_graph.specs.Topology.{what, as_count};
 ghost use Rattle.as_graph.specs.Hierarchy.{HasNoProviderCycle, IsRank};
 ghost use Rattle.rank_order.specs.Ranks.{rank_at};
 ghost use Rattle.path_pool.specs.Pool.{holds_of, live_count};
 ghost use Rattle.stability_laws.specs.Stable.{IsStable};
 ghost use Rattle.stability_laws.specs.World.{setting};
-ghost use Rattle.stability_laws.specs.Plans.{prefixes_of};
+ghost use Rattle.stability_laws.specs.Plans.{has_prefix, prefixes_of};
 ghost use Rattle.stability_laws.specs.Rounds.{seeds_of};
 ghost use Rattle.route_choice.specs.Resources.{AreEntriesLive};
 ghost use Rattle.route_choice.specs.Routings.{table_routing};
@@ -51,6 +51,7 @@ fn make_table<P: RoutePolicy, V: OriginStates, L: Ledger>(
     requires announced { AreAnnounced pool.old plan.now announced.now }
     requires earlier { AreRoundsFull pool.old plan.now earlier.now }
     requires round { round ≡ suc (length earlier.now) }
+    requires known { IsTrue (has_prefix plan.now prefix) }
     requires room { HasRoomFor pool.old 1 }
     ensures cost { steps.new ≤ steps.old + 2 * as_count graph.now }
     ensures prefix { IfOk result (λ t. prefix_of t ≡ prefix) }
@@ -61,11 +62,15 @@ fn make_table<P: RoutePolicy, V: OriginStates, L: Ledger>(
     ensures keeps { OnOk result (KeepsPaths pool.old pool.new) }
     ensures grows { OnOk result (GrowsBy pool.old pool.new 150000) }
 {
+    let _count = graph.as_count();
     let mut seeds = announced_seeds(alloc, announced, prefix)?;
     leak_all(plan, prefix, round, earlier, &mut seeds)?;
-    propagate(
+    match propagate(
         alloc, graph, ranks, book, states, prefix, &seeds, pool, steps,
-    )
+    ) {
+        Ok(table) => Ok(table),
+        Err(_) => Err(NoMemory),
+    }
 }
 
 // The tables of a round, one for each prefix.

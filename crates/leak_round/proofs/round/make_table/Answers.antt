@@ -1,0 +1,34 @@
+use Rattle.std.proofs.Common.{◌≡◌, ℕ, ◌+◌, ◌*◌, ◌≤◌, Option, length, subst, arith}
+use Rattle.stability_laws.specs.declared.entry.Seed.{Seed}
+use Rattle.stability_laws.specs.Stable.{IsStable}
+use Rattle.stability_laws.specs.World.{setting}
+use Rattle.route_choice.specs.Routings.{table_routing}
+use Rattle.leak_round.proofs.Seeding.{seeds_are, seeds_live}
+use Rattle.leak_round.proofs.Counting.{table_entries, few_entries}
+use Rattle.leak_round.proofs.round.make_table.Goals as goal
+
+pub propagate-requires-clause-seeds : goal.propagate-requires-clause-seeds
+propagate-requires-clause-seeds g c =
+    seeds_live c.args.pool.now c.args.plan.now c.args.announced.now c.args.earlier.now c.args.round c.args.prefix c.requires.announced c.requires.earlier c.requires.round c.in_ok-seeds.seeds c.leak_all.new.seeds c.in_ok-seeds.ensures c.in_ok-leak_all.ensures
+
+pub propagate-requires-clause-room : goal.propagate-requires-clause-room
+propagate-requires-clause-room g c = omega (arith, c.requires.room.cells, c.as_count-count.ensures.few)
+
+pub returns-in-Ok-clause-stable : goal.returns-in-Ok-clause-stable
+returns-in-Ok-clause-stable g c =
+    let same = seeds_are c.args.pool.now c.args.plan.now c.args.announced.now c.args.earlier.now c.args.round c.args.prefix c.requires.announced c.requires.earlier c.requires.round c.in_ok-seeds.seeds c.leak_all.new.seeds c.in_ok-seeds.ensures c.in_ok-leak_all.ensures c.requires.known in
+    let F : (ℕ → Option Seed) → Type 0 = λ s. IsStable (setting g.P.RoutePolicy.meaning c.args.graph.now c.args.book.now (g.V.OriginStates.state_of c.args.states.now c.args.prefix)) s (table_routing c.propagate.new.pool c.in-Ok.table) in
+    subst F (λ i a. same a i) c.in-Ok.ensures.stable
+
+pub returns-in-Ok-clause-cells : goal.returns-in-Ok-clause-cells
+returns-in-Ok-clause-cells g c = table_entries c.args.pool.now c.propagate.new.pool (table_routing c.propagate.new.pool c.in-Ok.table) c.in-Ok.ensures.cells
+
+pub returns-in-Ok-clause-grows : goal.returns-in-Ok-clause-grows
+returns-in-Ok-clause-grows g c =
+    let h = c.in-Ok.ensures.cells in
+    let few : length h.ases ≤ 150000 = (let n = few_entries c.args.graph.now (table_routing c.propagate.new.pool c.in-Ok.table) h.ases h.distinct h.entries c.in-Ok.ensures.stable.only_ases in omega (arith, n, c.as_count-count.ensures.value, c.as_count-count.ensures.few)) in
+    record {
+      cells = omega (arith, h.few, few);
+      counts = λ k. omega (arith, h.counts k, few);
+      limit = c.in-Ok.ensures.limit;
+    }
