@@ -54,7 +54,7 @@ apart_appended (x ∷ xs) ys a b never = (
   apart_appended xs ys a.1 b (λ y l r. never y (inr l) r),
 )
 
-none_some : {X : Type 0} (o : Option X) → o ≡ None → IsSome o → ⊥
+pub none_some : {X : Type 0} (o : Option X) → o ≡ None → IsSome o → ⊥
 none_some None e h = cc
 none_some (Some x) e h = cc
 

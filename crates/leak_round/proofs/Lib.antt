@@ -4,3 +4,4 @@ mod Leaking
 mod Seeding
 mod Counting
 mod Keeping
+mod Rounding

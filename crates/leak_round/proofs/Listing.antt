@@ -1,5 +1,5 @@
 -- Lists that are walked from place to place up to the first that is past their end.
-use Rattle.std.proofs.Common.{◌≡◌, ◌≢◌, ℕ, zero, suc, ◌+◌, ◌<◌, ◌≤◌, Option, Some, None, List, [], ◌∷◌, ◌++◌, length, take, get_or, refl, sym, ap, subst, ◌∙◌, arith, inl, inr}
+use Rattle.std.proofs.Common.{◌≡◌, ◌≢◌, ℕ, zero, suc, ◌+◌, ◌*◌, ◌<◌, ◌≤◌, Option, Some, None, List, [], ◌∷◌, ◌++◌, length, take, get_or, refl, sym, ap, subst, ◌∙◌, arith, inl, inr}
 use Rattle.std.specs.Prelude.{IsSome, slice_get}
 use Rattle.std.specs.List.{sum_by}
 use Rattle.std.specs.Cmp.{ranked}
@@ -9,6 +9,7 @@ use Rattle.std.proofs.lemmas.Bool.{cases_eq, cases_lt}
 use Rattle.std.proofs.lemmas.List.{take_more}
 use Rattle.std.proofs.lemmas.List.Sums.{sum_by_push}
 use Rattle.std.proofs.lemmas.Option.{slice_get_within, slice_get-get_or, get_or_from_slice_get}
+use Rattle.std.proofs.Math.Nat.{mul-le-mul_left}
 use Rattle.stability_laws.specs.Plans.{ListsRising}
 
 -- what holds at the places so far and at this one holds at the places up to the next
@@ -43,3 +44,10 @@ place_le P xs l (suc i) x is =
 pub some_of : {X : Type 0} (o : Option X) → IsSome o → (x : X) × (o ≡ Some x)
 some_of None h = cc
 some_of (Some x) h = (x, refl)
+
+-- a further part of the same cost
+pub cost_more : (start so_far next each n all : ℕ) → so_far ≤ start + each * n → next ≤ so_far + each → n + 1 ≤ all → next ≤ start + each * all
+cost_more start so_far next each n all before step within =
+    let whole : each * (n + 1) ≤ each * all = mul-le-mul_left each within in
+    let parts : each * (n + 1) ≡ each * n + each = omega arith in
+    omega arith

@@ -1,5 +1,6 @@
 -- How many entries there are.
 use Rattle.std.specs.Prelude.{◌≡◌, ◌⊎◌, ℕ, ◌≤◌, Option, IsSome, List, [], ◌∷◌, length, ⊤}
+use Rattle.net_names.specs.Prefixes.{PrefixValue}
 use Rattle.stability_laws.specs.declared.entry.Entry.{Entry}
 
 -- x stands in the list (own rule)
@@ -18,3 +19,11 @@ pub record HasEntries {X : Type 0} (held : X → Option Entry) (n : ℕ) : Type 
   pub apart : AreApart places
   pub entries : (x : X) → StandsIn x places → IsSome (held x)
   pub enough : n ≤ length places
+
+-- what is held of a round at a prefix and an AS (own rule)
+abbrev pub of_round : (PrefixValue → ℕ → Option Entry) → PrefixValue × ℕ → Option Entry
+of_round held x = held x.0 x.1
+
+-- what is held at a round, a prefix and an AS (own rule)
+abbrev pub of_rounds : (ℕ → PrefixValue → ℕ → Option Entry) → ℕ × (PrefixValue × ℕ) → Option Entry
+of_rounds held x = held x.0 x.1.0 x.1.1

@@ -14,7 +14,7 @@ ghost use Rattle.route_choice.specs.Routings.{table_routing};
 ghost use Rattle.route_choice.specs.RoundTables.{round_routing, tables_uses};
 ghost use Rattle.route_choice.specs.Tables.{prefix_of, table_uses};
 ghost use Rattle.leak_round.specs.Announced.{AreAnnounced};
-ghost use Rattle.leak_round.specs.Entries.{HasEntries};
+ghost use Rattle.leak_round.specs.Entries.{HasEntries, of_round};
 ghost use Rattle.leak_round.specs.Growth.{KeepsPaths, GrowsBy, HasRoomFor};
 ghost use Rattle.leak_round.specs.Tables.{kept_in, AreFull, AreRoundsFull, IsRound};
 
@@ -98,7 +98,7 @@ pub fn make_round<P: RoutePolicy, V: OriginStates, L: Ledger>(
     ensures stable { IfOk result (λ t. IsRound (λ p. setting P.meaning graph.now book.now (V.state_of states.now p)) plan.now round (kept_in pool.old earlier.now (length earlier.now)) (round_routing pool.new t)) }
     ensures full { IfOk result (AreFull pool.new plan.now) }
     ensures holds { IfOk result (λ t. (k : ℕ) → holds_of pool.new k ≡ holds_of pool.old k + tables_uses t k) }
-    ensures cells { IfOk result (λ t. HasEntries (λ x. round_routing pool.new t x.0 x.1) (live_count pool.new - live_count pool.old)) }
+    ensures cells { IfOk result (λ t. HasEntries (of_round (round_routing pool.new t)) (live_count pool.new - live_count pool.old)) }
     ensures keeps { OnOk result (KeepsPaths pool.old pool.new) }
     ensures grows { OnOk result (GrowsBy pool.old pool.new (150000 * length (prefixes_of plan.now))) }
 {

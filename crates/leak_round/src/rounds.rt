@@ -13,7 +13,7 @@ ghost use Rattle.stability_laws.specs.Rounds.{AreRounds};
 ghost use Rattle.route_choice.specs.RoundTables.{table_at, round_routing, AreAllLive, AreByPrefix};
 ghost use Rattle.leak_round.specs.Limits.{IsWithinLimits, numbers_of};
 ghost use Rattle.leak_round.specs.Announced.{AreAnnounced, announced_uses};
-ghost use Rattle.leak_round.specs.Entries.{HasEntries};
+ghost use Rattle.leak_round.specs.Entries.{HasEntries, of_rounds};
 ghost use Rattle.leak_round.specs.Growth.{KeepsPaths, HasRoomFor};
 ghost use Rattle.leak_round.specs.Tables.{kept_in, entry_uses, AreRoundsFull};
 
@@ -68,7 +68,7 @@ fn make_rounds<P: RoutePolicy, V: OriginStates, L: Ledger>(
     ensures stable { IfOk result (λ v. AreRounds (λ p. setting P.meaning graph.now book.now (V.state_of states.now p)) plan.now rounds (kept_in pool.new v.items)) }
     ensures full { IfOk result (λ v. AreRoundsFull pool.new plan.now v.items) }
     ensures holds { IfOk result (λ v. (k : ℕ) → holds_of pool.new k ≡ holds_of pool.old k + entry_uses v.items k) }
-    ensures cells { IfOk result (λ v. HasEntries (λ x. kept_in pool.new v.items x.0 x.1.0 x.1.1) (live_count pool.new - live_count pool.old)) }
+    ensures cells { IfOk result (λ v. HasEntries (of_rounds (kept_in pool.new v.items)) (live_count pool.new - live_count pool.old)) }
     ensures keeps { OnOk result (KeepsPaths pool.old pool.new) }
 {
     let mut tables = Vec::new(alloc);
@@ -124,7 +124,7 @@ impl Rounds {
         ensures count { IfOk result (λ r. round_count r ≡ rounds) }
         ensures stable { IfOk result (λ r. AreRounds (λ p. setting P.meaning graph.now book.now (V.state_of states.now p)) plan rounds (kept r)) }
         ensures only { IfOk result (λ r. (other : ℕ → PrefixValue → ℕ → Option AnEntry) → AreRounds (λ p. setting P.meaning graph.now book.now (V.state_of states.now p)) plan rounds other → (before : ℕ) (prefix : PrefixValue) → before < rounds → IsTrue (has_prefix plan prefix) → (a : ℕ) → other (suc before) prefix a ≡ kept r (suc before) prefix a) }
-        ensures cells { IfOk result (λ r. HasEntries (λ x. kept r x.0 x.1.0 x.1.1) (live_count (pool_of r) - numbers_of plan)) }
+        ensures cells { IfOk result (λ r. HasEntries (of_rounds (kept r)) (live_count (pool_of r) - numbers_of plan)) }
     {
         one_family::<P>();
         let mut pool = PathPool::new(alloc, MAX_CELLS);

@@ -1,0 +1,76 @@
+use Rattle.std.proofs.Common.{◌≡◌, ℕ, suc, ◌+◌, ◌-◌, ◌*◌, ◌<◌, ◌≤◌, Option, Some, None, length, sym, ap, subst, ◌∙◌, arith}
+use Rattle.std.specs.Prelude.{IsTrue, slice_get}
+use Rattle.std.proofs.lemmas.Option.{slice_get_within}
+use Rattle.as_graph.specs.Topology.{as_count}
+use Rattle.net_names.specs.Prefixes.{PrefixValue}
+use Rattle.stability_laws.specs.declared.entry.Entry.{Entry}
+use Rattle.stability_laws.specs.Offers.{Setting}
+use Rattle.stability_laws.specs.Stable.{IsStable}
+use Rattle.stability_laws.specs.World.{setting}
+use Rattle.stability_laws.specs.Plans.{has_prefix, prefixes_of}
+use Rattle.stability_laws.specs.Rounds.{seeds_of}
+use Rattle.route_choice.specs.RoundTables.{table_at, PutsTable}
+use Rattle.route_choice.specs.Routings.{table_routing}
+use Rattle.leak_round.specs.Tables.{kept_in}
+use Rattle.leak_round.proofs.Listing.{cost_more}
+use Rattle.leak_round.proofs.Keeping.{rounds_full_kept, announced_kept, all_kept, room_left}
+use Rattle.leak_round.proofs.Rounding.{round_start, none_yet, round_more, round_full, round_stable}
+use Rattle.leak_round.proofs.round.make_round.Goals as goal
+
+pub make_table-requires-clause-earlier : goal.make_table-requires-clause-earlier
+make_table-requires-clause-earlier g c = rounds_full_kept c.args.pool.now c.prefixes.pool c.prefixes.invariant.so_far.keeps c.args.plan.now c.args.earlier.now c.requires.earlier
+
+pub make_table-requires-clause-room : goal.make_table-requires-clause-room
+make_table-requires-clause-room g c =
+    let within = slice_get_within (prefixes_of c.args.plan.now) c.prefixes.place c.in-Some.prefix (sym c.in-Some.ensures.value) in
+    room_left c.args.pool.now c.prefixes.pool c.prefixes.place 1 (length (prefixes_of c.args.plan.now)) c.prefixes.invariant.so_far.grows c.requires.room (omega (arith, within))
+
+pub returns-in_err-table-clause-cost : goal.returns-in_err-table-clause-cost
+returns-in_err-table-clause-cost g c =
+    let within = slice_get_within (prefixes_of c.args.plan.now) c.prefixes.place c.in-Some.prefix (sym c.in-Some.ensures.value) in
+    cost_more c.args.steps.now c.prefixes.steps c.make_table.new.steps (2 * as_count c.args.graph.now) c.prefixes.place (length (prefixes_of c.args.plan.now)) c.prefixes.invariant.cost c.make_table.ensures.cost (omega (arith, within))
+
+pub push-requires : goal.push-requires
+push-requires g c =
+    let at = λ (p : PrefixValue). setting g.P.RoutePolicy.meaning c.args.graph.now c.args.book.now (g.V.OriginStates.state_of c.args.states.now p) in
+    ap (table_at c.prefixes.tables) c.in_ok-table.ensures.prefix
+    ∙ none_yet at c.args.plan.now c.args.round (kept_in c.args.pool.now c.args.earlier.now (length c.args.earlier.now)) c.args.pool.now c.prefixes.pool c.make_table.new.pool c.prefixes.tables c.prefixes.tables c.prefixes.place c.in-Some.prefix c.in_ok-table.table c.prefixes.invariant.so_far c.in-Some.ensures.listed (sym c.in-Some.ensures.value)
+
+pub returns-in_err-push-clause-cost : goal.returns-in_err-push-clause-cost
+returns-in_err-push-clause-cost g c =
+    let within = slice_get_within (prefixes_of c.args.plan.now) c.prefixes.place c.in-Some.prefix (sym c.in-Some.ensures.value) in
+    cost_more c.args.steps.now c.prefixes.steps c.make_table.new.steps (2 * as_count c.args.graph.now) c.prefixes.place (length (prefixes_of c.args.plan.now)) c.prefixes.invariant.cost c.make_table.ensures.cost (omega (arith, within))
+
+pub prefixes-smaller : goal.prefixes-smaller
+prefixes-smaller g c =
+    let within : c.prefixes.place < length (prefixes_of c.args.plan.now) = slice_get_within (prefixes_of c.args.plan.now) c.prefixes.place c.in-Some.prefix (sym c.in-Some.ensures.value) in
+    omega arith
+
+pub prefixes-preserved : goal.prefixes-preserved
+prefixes-preserved g c =
+    let at = λ (p : PrefixValue). setting g.P.RoutePolicy.meaning c.args.graph.now c.args.book.now (g.V.OriginStates.state_of c.args.states.now p) in
+    let plan = c.args.plan.now in
+    let earlier = c.args.earlier.now in
+    let first = c.args.pool.now in
+    let p = c.in-Some.prefix in
+    let within = slice_get_within (prefixes_of plan) c.prefixes.place p (sym c.in-Some.ensures.value) in
+    let table = c.in_ok-table.ensures in
+    let same = all_kept first c.prefixes.pool c.prefixes.invariant.so_far.keeps plan earlier c.requires.earlier (length earlier) p in
+    let F : (ℕ → Option Entry) → Type 0 = λ f. IsStable (at p) (seeds_of plan c.args.round p f) (table_routing c.make_table.new.pool c.in_ok-table.table) in
+    record {
+      so_far = round_more at plan c.args.round (kept_in first earlier (length earlier)) first c.prefixes.pool c.make_table.new.pool c.prefixes.tables c.push.new.self c.prefixes.place p c.in_ok-table.table c.prefixes.invariant.so_far c.in-Some.ensures.listed (sym c.in-Some.ensures.value)
+          table.keeps table.grows table.holds table.live (subst F (λ i a. same a i) table.stable) table.cells
+          (subst (λ q. PutsTable c.prefixes.tables c.push.new.self q c.in_ok-table.table) table.prefix c.in_ok-push.ensures.ok) c.in_ok-push.ensures.by_prefix;
+      within = omega (arith, within);
+      cost = cost_more c.args.steps.now c.prefixes.steps c.make_table.new.steps (2 * as_count c.args.graph.now) c.prefixes.place (c.prefixes.place + 1) c.prefixes.invariant.cost c.make_table.ensures.cost (omega arith);
+    }
+
+pub returns-clause-stable : goal.returns-clause-stable
+returns-clause-stable g c =
+    let at = λ (p : PrefixValue). setting g.P.RoutePolicy.meaning c.args.graph.now c.args.book.now (g.V.OriginStates.state_of c.args.states.now p) in
+    round_stable at c.args.plan.now c.args.round (kept_in c.args.pool.now c.args.earlier.now (length c.args.earlier.now)) c.args.pool.now c.prefixes.pool c.prefixes.tables c.prefixes.place c.prefixes.invariant.so_far c.prefix_at.ensures.listed (sym c.prefix_at.ensures.value ∙ c.in_default.is)
+
+pub returns-clause-full : goal.returns-clause-full
+returns-clause-full g c =
+    let at = λ (p : PrefixValue). setting g.P.RoutePolicy.meaning c.args.graph.now c.args.book.now (g.V.OriginStates.state_of c.args.states.now p) in
+    round_full at c.args.plan.now c.args.round (kept_in c.args.pool.now c.args.earlier.now (length c.args.earlier.now)) c.args.pool.now c.prefixes.pool c.prefixes.tables c.prefixes.place c.prefixes.invariant.so_far c.prefix_at.ensures.listed (sym c.prefix_at.ensures.value ∙ c.in_default.is)
