@@ -5,3 +5,4 @@ mod Seeding
 mod Counting
 mod Keeping
 mod Rounding
+mod AllRounds

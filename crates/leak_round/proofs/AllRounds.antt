@@ -1,0 +1,127 @@
+-- The rounds, one by one.
+use Rattle.std.proofs.Common.{◌≡◌, ◌≢◌, ◌⊎◌, inl, inr, ℕ, zero, suc, ◌+◌, ◌-◌, ◌*◌, ◌<◌, ◌≤◌, Option, Some, None, List, [], ◌∷◌, ◌++◌, length, refl, sym, ap, subst, ◌∙◌, arith}
+use Rattle.std.specs.Prelude.{IsSome, IsTrue, slice_get, option_and_then}
+use Rattle.std.proofs.lemmas.Bool.{cases_eq, cases_lt}
+use Rattle.std.proofs.lemmas.List.{length-append}
+use Rattle.std.proofs.lemmas.List.Sums.{sum_by_push}
+use Rattle.net_names.specs.Prefixes.{PrefixValue}
+use Rattle.path_pool.specs.declared.pool.PathPool.{PathPool}
+use Rattle.path_pool.specs.Pool.{holds_of, live_count}
+use Rattle.stability_laws.specs.declared.entry.Entry.{Entry}
+use Rattle.stability_laws.specs.Offers.{Setting}
+use Rattle.stability_laws.specs.Stable.{IsStable}
+use Rattle.stability_laws.specs.Plans.{Plan, has_prefix}
+use Rattle.stability_laws.specs.Rounds.{AreRounds, seeds_of}
+use Rattle.route_choice.specs.declared.round_tables.RoundTables.{RoundTables}
+use Rattle.route_choice.specs.RoundTables.{tables_uses, round_routing}
+use Rattle.leak_round.specs.Entries.{HasEntries, of_round, of_rounds}
+use Rattle.leak_round.specs.Growth.{KeepsPaths}
+use Rattle.leak_round.specs.Tables.{tables_in, kept_in, entry_uses, AreFull, AreRoundsFull, IsRound}
+use Rattle.leak_round.proofs.Counting.{more_entries, no_entries, none_some}
+use Rattle.leak_round.proofs.Keeping.{keeps_itself, keeps_on, round_kept, full_kept, all_kept}
+
+got_before : {X : Type 0} (xs : List X) (x : X) (i : ℕ) → i < length xs → slice_get (xs ++ x ∷ []) i ≡ slice_get xs i
+got_before [] x i less = absurd (omega arith)
+got_before (y ∷ xs) x zero less = refl
+got_before (y ∷ xs) x (suc i) less = got_before xs x i (omega arith)
+
+got_last : {X : Type 0} (xs : List X) (x : X) → slice_get (xs ++ x ∷ []) (length xs) ≡ Some x
+got_last [] x = refl
+got_last (y ∷ xs) x = got_last xs x
+
+got_either : {X : Type 0} (xs : List X) (x : X) (i : ℕ) (y : X) → slice_get (xs ++ x ∷ []) i ≡ Some y → (slice_get xs i ≡ Some y) ⊎ (x ≡ y)
+got_either [] x zero y e = inr (let same : x ≡ y = cc in same)
+got_either [] x (suc i) y e = cc
+got_either (z ∷ xs) x zero y e = inl e
+got_either (z ∷ xs) x (suc i) y e = got_either xs x i y e
+
+got_past : {X : Type 0} (xs : List X) → slice_get xs (length xs) ≡ None
+got_past [] = refl
+got_past (x ∷ xs) = got_past xs
+
+-- what the rounds so far are, since the pool was this one
+pub record AreRoundsSoFar (setting : PrefixValue → Setting) (plan : Plan) (first pool : PathPool) (rounds : List RoundTables) : Type 0 where
+  pub keeps : KeepsPaths first pool
+  pub holds : (k : ℕ) → holds_of pool k ≡ holds_of first k + entry_uses rounds k
+  pub stable : AreRounds setting plan (length rounds) (kept_in pool rounds)
+  pub full : AreRoundsFull pool plan rounds
+  pub cells : HasEntries (of_rounds (kept_in pool rounds)) (live_count pool - live_count first)
+
+module _ (setting : PrefixValue → Setting) (plan : Plan) (first : PathPool) where
+  -- no round yet
+  pub rounds_start : AreRoundsSoFar setting plan first first []
+  rounds_start = record {
+    keeps = keeps_itself first;
+    holds = λ k. omega arith;
+    stable = λ before p less known. absurd (omega (arith, less));
+    full = λ round tables at. absurd (none_some (tables_in [] round) (nothing round) (subst IsSome (sym at) refl));
+    cells = no_entries (of_rounds (kept_in first [])) (live_count first - live_count first) (omega arith);
+  }
+    where
+      nothing : (round : ℕ) → tables_in [] round ≡ None
+      nothing zero = refl
+      nothing (suc i) = refl
+
+  module _ (pool next : PathPool) (rounds : List RoundTables) (t : RoundTables) (so_far : AreRoundsSoFar setting plan first pool rounds) (keeps : KeepsPaths pool next) where
+    earlier_round : (round : ℕ) → round ≤ length rounds → tables_in (rounds ++ t ∷ []) round ≡ tables_in rounds round
+    earlier_round zero within = refl
+    earlier_round (suc i) within = got_before rounds t i (omega arith)
+
+    -- what was kept is kept
+    kept_still : (round : ℕ) → round ≤ length rounds → (p : PrefixValue) (a : ℕ) → kept_in next (rounds ++ t ∷ []) round p a ≡ kept_in pool rounds round p a
+    kept_still round within p a = ap (option_and_then (λ (x : RoundTables). round_routing next x p a)) (earlier_round round within) ∙ all_kept pool next keeps plan rounds so_far.full round p a
+
+    kept_new : (p : PrefixValue) (a : ℕ) → kept_in next (rounds ++ t ∷ []) (suc (length rounds)) p a ≡ round_routing next t p a
+    kept_new p a = ap (option_and_then (λ (x : RoundTables). round_routing next x p a)) (got_last rounds t)
+
+    module _ (stable : IsRound setting plan (suc (length rounds)) (kept_in pool rounds (length rounds)) (round_routing next t)) (full : AreFull next plan t) (holds : (k : ℕ) → holds_of next k ≡ holds_of pool k + tables_uses t k) (cells : HasEntries (of_round (round_routing next t)) (live_count next - live_count pool)) where
+      stable_at : (before : ℕ) (p : PrefixValue) → (before < length rounds) ⊎ (before ≡ length rounds) → IsTrue (has_prefix plan p) → IsStable (setting p) (seeds_of plan (suc before) p (kept_in next (rounds ++ t ∷ []) before p)) (kept_in next (rounds ++ t ∷ []) (suc before) p)
+      stable_at before p (inl less) known =
+          let F : (ℕ → Option Entry) → (ℕ → Option Entry) → Type 0 = λ f g. IsStable (setting p) (seeds_of plan (suc before) p f) g in
+          let one = kept_still before (omega (arith, less)) p in
+          let two = kept_still (suc before) (omega (arith, less)) p in
+          coe 1 0 (i. F (λ a. one a i) (λ a. two a i)) (so_far.stable before p less known)
+      stable_at before p (inr e) known =
+          let F : ℕ → (ℕ → Option Entry) → (ℕ → Option Entry) → Type 0 = λ n f g. IsStable (setting p) (seeds_of plan (suc n) p f) g in
+          let one = kept_still (length rounds) (omega arith) p in
+          let two = kept_new p in
+          let last : IsStable (setting p) (seeds_of plan (suc (length rounds)) p (kept_in next (rounds ++ t ∷ []) (length rounds) p)) (kept_in next (rounds ++ t ∷ []) (suc (length rounds)) p) =
+          coe 1 0 (i. F (length rounds) (λ a. one a i) (λ a. two a i)) (stable p known) in
+          subst (λ n. IsStable (setting p) (seeds_of plan (suc n) p (kept_in next (rounds ++ t ∷ []) n p)) (kept_in next (rounds ++ t ∷ []) (suc n) p)) (sym e) last
+
+      full_at : (round : ℕ) (tables : RoundTables) → tables_in (rounds ++ t ∷ []) round ≡ Some tables → AreFull next plan tables
+      full_at zero tables e = cc
+      full_at (suc i) tables e = elim (got_either rounds t i tables e) [
+        | inl before ↦ full_kept pool next keeps plan tables (so_far.full (suc i) tables before)
+        | inr same ↦ subst (AreFull next plan) same full
+      ]
+
+      entry_still : (x : ℕ × (PrefixValue × ℕ)) → IsSome (of_rounds (kept_in pool rounds) x) → IsSome (of_rounds (kept_in next (rounds ++ t ∷ [])) x)
+      entry_still x h = elim (cases_lt (length rounds) x.0) [
+        | inl past ↦ absurd (none_some (kept_in pool rounds x.0 x.1.0 x.1.1) (ap (option_and_then (λ (y : RoundTables). round_routing pool y x.1.0 x.1.1)) (none_past x.0 past)) h)
+        | inr within ↦ subst IsSome (sym (kept_still x.0 within x.1.0 x.1.1)) h
+      ]
+        where
+          none_at : (xs : List RoundTables) (i : ℕ) → length xs ≤ i → slice_get xs i ≡ None
+          none_at [] i less = refl
+          none_at (y ∷ xs) zero less = absurd (omega arith)
+          none_at (y ∷ xs) (suc i) less = none_at xs i (omega arith)
+
+          none_past : (round : ℕ) → length rounds < round → tables_in rounds round ≡ None
+          none_past zero past = refl
+          none_past (suc i) past = none_at rounds i (omega arith)
+
+      -- one round more
+      pub rounds_more : AreRoundsSoFar setting plan first next (rounds ++ t ∷ [])
+      rounds_more = record {
+        keeps = keeps_on first pool next so_far.keeps keeps;
+        holds = λ k. (let more = sum_by_push (λ (x : RoundTables). tables_uses x k) rounds t in omega (arith, more, holds k, so_far.holds k));
+        stable = λ before p less known. stable_at before p (which before less) known;
+        full = full_at;
+        cells = more_entries (of_rounds (kept_in pool rounds)) (of_rounds (kept_in next (rounds ++ t ∷ []))) (of_round (round_routing next t)) (λ x. (suc (length rounds), x)) (λ x y e. ap (λ (z : ℕ × (PrefixValue × ℕ)). z.1) e)
+            (λ x. ap (option_and_then (λ (y : RoundTables). round_routing pool y x.0 x.1)) (got_past rounds)) entry_still (λ x h. subst IsSome (sym (kept_new x.0 x.1)) h)
+            (live_count pool - live_count first) (live_count next - live_count pool) so_far.cells cells (live_count next - live_count first) (omega arith);
+      }
+        where
+          which : (before : ℕ) → before < length (rounds ++ t ∷ []) → (before < length rounds) ⊎ (before ≡ length rounds)
+          which before less = elim (cases_eq before (length rounds)) [ inl e ↦ inr e | inr ne ↦ inl (omega (arith, less, length-append rounds (t ∷ []))) ]

@@ -1,0 +1,37 @@
+use Rattle.std.proofs.Common.{◌≡◌, ℕ, suc, ◌+◌, ◌-◌, ◌*◌, ◌<◌, ◌≤◌, ◌++◌, ◌∷◌, [], List, length, sym, ap, subst, ◌∙◌, arith}
+use Rattle.std.proofs.lemmas.List.{length-append}
+use Rattle.as_graph.specs.Topology.{as_count}
+use Rattle.net_names.specs.Prefixes.{PrefixValue}
+use Rattle.stability_laws.specs.World.{setting}
+use Rattle.stability_laws.specs.Plans.{prefixes_of}
+use Rattle.route_choice.specs.declared.round_tables.RoundTables.{RoundTables}
+use Rattle.route_choice.specs.RoundTables.{round_routing}
+use Rattle.leak_round.specs.Tables.{kept_in, IsRound}
+use Rattle.leak_round.proofs.Listing.{cost_more}
+use Rattle.leak_round.proofs.Keeping.{grows_on}
+use Rattle.leak_round.proofs.AllRounds.{AreRoundsSoFar, rounds_more}
+use Rattle.leak_round.proofs.rounds.make_rounds.Goals as goal
+
+pub loop-past-preserved : goal.loop-past-preserved
+loop-past-preserved g c =
+    let at = λ (p : PrefixValue). setting g.P.RoutePolicy.meaning c.args.graph.now c.args.book.now (g.V.OriginStates.state_of c.args.states.now p) in
+    let plan = c.args.plan.now in
+    let first = c.args.pool.now in
+    let old = c.loop-past.invariant in
+    let xs : List RoundTables = c.loop-past.tables.items in
+    let t = c.in_ok-next.next in
+    let size = length (prefixes_of plan) in
+    let is : c.as_slice.result.now ≡ xs = c.as_slice.ensures.value in
+    let now = c.in_ok-next.ensures in
+    let next = c.make_round.new.pool in
+    let number : c.loop-past.past + 1 ≡ suc (length xs) = omega (arith, old.count) in
+    let F : ℕ → List RoundTables → Type 0 = λ n ys. IsRound at plan n (kept_in c.loop-past.pool ys (length ys)) (round_routing next t) in
+    let stable : IsRound at plan (suc (length xs)) (kept_in c.loop-past.pool xs (length xs)) (round_routing next t) = coe 0 1 (i. F (number i) (is i)) now.stable in
+    let more = rounds_more at plan first c.loop-past.pool next xs t old.so_far now.keeps stable now.full now.holds now.cells in
+    let items : c.push.new.self.items ≡ xs ++ t ∷ [] = c.in-Ok.ensures.items in
+    record {
+      so_far = subst (AreRoundsSoFar at plan first next) (sym items) more;
+      count = ap length items ∙ length-append xs (t ∷ []) ∙ ap (λ n. n + 1) old.count;
+      grows = grows_on first c.loop-past.pool next (150000 * (c.loop-past.past * size)) (150000 * size) (150000 * ((c.loop-past.past + 1) * size)) old.grows now.grows (omega arith);
+      cost = cost_more c.args.steps.now c.loop-past.steps c.make_round.new.steps (2 * as_count c.args.graph.now * size) c.loop-past.past (c.loop-past.past + 1) old.cost c.make_round.ensures.cost (omega arith);
+    }
