@@ -89,3 +89,6 @@ apart_by_test (x ∷ xs) d = (others_apart xs x d.0, apart_by_test xs d.1)
 -- entries stand at ASes, so a table has at most as many
 pub few_entries : (g : Topology) (f : ℕ → Option Entry) (xs : List ℕ) → IsDistinct xs → ((a : ℕ) → occurs a xs ≡ true → IsSome (f a)) → ((a : ℕ) → has g a ≡ false → f a ≡ None) → length xs ≤ as_count g
 few_entries g f xs d held away = length-le-as_count g xs (apart_by_test xs d) (λ a o. elim (cases_Bool (has g a)) [ inl there ↦ there | inr not ↦ absurd (none_some (f a) (away a not) (held a o)) ])
+
+pub fewer_entries : {X : Type 0} (held : X → Option Entry) (m n : ℕ) → HasEntries held n → m ≤ n → HasEntries held m
+fewer_entries held m n h less = record { places = h.places; apart = h.apart; entries = h.entries; enough = omega (arith, less, h.enough) }

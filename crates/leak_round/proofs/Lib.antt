@@ -6,3 +6,5 @@ mod Counting
 mod Keeping
 mod Rounding
 mod AllRounds
+mod Numbers
+mod Built

@@ -27,7 +27,7 @@ use Rattle.leak_round.proofs.Counting.{more_entries, no_entries, none_some}
 use Rattle.leak_round.proofs.Keeping.{keeps_itself, keeps_on, grows_on, round_kept, live_kept}
 use Rattle.leak_round.proofs.Listing.{at_next}
 
-same_or_not : (p q : PrefixValue) → (p ≡ q) ⊎ (p ≢ q)
+pub same_or_not : (p q : PrefixValue) → (p ≡ q) ⊎ (p ≢ q)
 same_or_not p q = elim (cases_Bool (eq_by_cmp prefix_cmp p q)) [
   | inl e ↦ inl (eq_is prefixes_total exact_prefix p q e)
   | inr e ↦ inr (λ same. (let t = eq_same prefixes_total exact_prefix p q same in cc))

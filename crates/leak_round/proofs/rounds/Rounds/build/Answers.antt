@@ -1,0 +1,28 @@
+use Rattle.std.proofs.Common.{◌≡◌, ℕ, ◌-◌, ◌≤◌, arith, ◌∙◌}
+use Rattle.net_names.specs.Prefixes.{PrefixValue}
+use Rattle.path_pool.specs.Pool.{live_count}
+use Rattle.leak_round.specs.Entries.{of_rounds}
+use Rattle.leak_round.specs.Limits.{numbers_of}
+use Rattle.leak_round.specs.Tables.{kept_in}
+use Rattle.leak_round.proofs.Built.{all_room}
+use Rattle.leak_round.proofs.Counting.{fewer_entries}
+use Rattle.leak_round.proofs.Numbers.{numbers_counted}
+use Rattle.leak_round.proofs.rounds.Rounds.build.Goals as goal
+
+pub make_rounds-requires-clause-room : goal.make_rounds-requires-clause-room
+make_rounds-requires-clause-room g c =
+    let plan = c.args.plan in
+    let counted = numbers_counted plan in
+    let few : live_count c.announce_all.new.pool ≤ numbers_of plan = omega (arith, counted, c.in_ok-announced.ensures.cells, c.new-pool.ensures.live) in
+    all_room c.announce_all.new.pool plan c.args.rounds c.requires.limits c.requires.rounds few c.in_ok-announced.ensures.so_far.counts (c.announce_all.ensures.limit ∙ c.new-pool.ensures.limit)
+
+pub returns-clause-only : goal.returns-clause-only
+returns-clause-only g c = λ other are before prefix less known a.
+    c.one_family.ensures c.args.graph.now c.args.book.now (λ (p : PrefixValue). g.V.OriginStates.state_of c.args.states.now p) c.args.plan c.args.rounds other (kept_in c.make_rounds.new.pool c.in_ok-tables.tables.items) c.requires.no_cycle are c.in_ok-tables.ensures.stable before prefix less known a
+
+pub returns-clause-cells : goal.returns-clause-cells
+returns-clause-cells g c =
+    let plan = c.args.plan in
+    let counted = numbers_counted plan in
+    let few : live_count c.announce_all.new.pool ≤ numbers_of plan = omega (arith, counted, c.in_ok-announced.ensures.cells, c.new-pool.ensures.live) in
+    fewer_entries (of_rounds (kept_in c.make_rounds.new.pool c.in_ok-tables.tables.items)) (live_count c.make_rounds.new.pool - numbers_of plan) (live_count c.make_rounds.new.pool - live_count c.announce_all.new.pool) c.in_ok-tables.ensures.cells (omega (arith, few))
