@@ -1,5 +1,5 @@
 -- What contracts see of rounds: the plan, the pool, and what each AS holds of each prefix in each round.
-use Rattle.std.specs.Prelude.{◌≡◌, ℕ, ◌+◌, Option, List, length}
+use Rattle.std.specs.Prelude.{ℕ, ◌+◌, Option, length}
 use Rattle.net_names.specs.Prefixes.{PrefixValue}
 use Rattle.path_pool.specs.declared.pool.PathPool.{PathPool}
 use Rattle.stability_laws.specs.declared.entry.Entry.{Entry}
