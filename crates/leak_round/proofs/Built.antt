@@ -21,13 +21,14 @@ pub nothing_announced : (pool : PathPool) (plan : Plan) → ((k : ℕ) → ¬ Is
 nothing_announced pool plan dead = record {
   live = λ prefix a id e. cc;
   sound = λ prefix a id e. cc;
+  each = λ place x at. cc;
   holds = λ k. (let unused : ¬ (0 < count_of pool k) = dead k in omega (arith, unused));
   counts = λ k. (let unused : ¬ (0 < count_of pool k) = dead k in omega (arith, unused));
 }
 
 -- all that is announced stands in the pool
 pub all_announced : (pool : PathPool) (plan : Plan) (xs : List Announced) → IsAnnouncing pool plan xs → ((prefix : PrefixValue) (a : ℕ) → IsTrue (has_prefix plan prefix) → HasAnnounced plan xs prefix a) → AreAnnounced pool plan xs
-all_announced pool plan xs h whole = record { live = h.live; paths = λ prefix a known. by prefix a known (own_path xs prefix a) refl (announced_path plan prefix a) refl }
+all_announced pool plan xs h whole = record { live = h.live; each = h.each; paths = λ prefix a known. by prefix a known (own_path xs prefix a) refl (announced_path plan prefix a) refl }
   where
     by : (prefix : PrefixValue) (a : ℕ) → IsTrue (has_prefix plan prefix) → (o : Option PathId) → own_path xs prefix a ≡ o → (p : Option (List ℕ)) → announced_path plan prefix a ≡ p → option_map (λ (id : PathId). list_of pool id.0) o ≡ p
     by prefix a known (Some id) e p is = sym (h.sound prefix a id e) ∙ is
