@@ -1,5 +1,5 @@
 -- The rounds, one by one.
-use Rattle.std.proofs.Common.{◌≡◌, ◌≢◌, ◌⊎◌, inl, inr, ℕ, zero, suc, ◌+◌, ◌-◌, ◌*◌, ◌<◌, ◌≤◌, Option, Some, None, List, [], ◌∷◌, ◌++◌, length, refl, sym, ap, subst, ◌∙◌, arith}
+use Rattle.std.proofs.Common.{◌≡◌, ◌⊎◌, inl, inr, ℕ, zero, suc, ◌+◌, ◌-◌, ◌<◌, ◌≤◌, Option, Some, None, List, [], ◌∷◌, ◌++◌, length, refl, sym, ap, subst, ◌∙◌, arith}
 use Rattle.std.specs.Prelude.{IsSome, IsTrue, slice_get, option_and_then}
 use Rattle.std.proofs.lemmas.Bool.{cases_eq, cases_lt}
 use Rattle.std.proofs.lemmas.List.{length-append}
@@ -18,7 +18,8 @@ use Rattle.leak_round.specs.Entries.{HasEntries, of_round, of_rounds}
 use Rattle.leak_round.specs.Growth.{KeepsPaths}
 use Rattle.leak_round.specs.Tables.{tables_in, kept_in, entry_uses, AreFull, AreRoundsFull, IsRound}
 use Rattle.leak_round.proofs.Counting.{more_entries, no_entries, none_some}
-use Rattle.leak_round.proofs.Keeping.{keeps_itself, keeps_on, round_kept, full_kept, all_kept}
+use Rattle.leak_round.proofs.Listing.{got_either}
+use Rattle.leak_round.proofs.Keeping.{keeps_itself, keeps_on, full_kept, all_kept}
 
 got_before : {X : Type 0} (xs : List X) (x : X) (i : ℕ) → i < length xs → slice_get (xs ++ x ∷ []) i ≡ slice_get xs i
 got_before [] x i less = absurd (omega arith)
@@ -28,12 +29,6 @@ got_before (y ∷ xs) x (suc i) less = got_before xs x i (omega arith)
 got_last : {X : Type 0} (xs : List X) (x : X) → slice_get (xs ++ x ∷ []) (length xs) ≡ Some x
 got_last [] x = refl
 got_last (y ∷ xs) x = got_last xs x
-
-got_either : {X : Type 0} (xs : List X) (x : X) (i : ℕ) (y : X) → slice_get (xs ++ x ∷ []) i ≡ Some y → (slice_get xs i ≡ Some y) ⊎ (x ≡ y)
-got_either [] x zero y e = inr (let same : x ≡ y = cc in same)
-got_either [] x (suc i) y e = cc
-got_either (z ∷ xs) x zero y e = inl e
-got_either (z ∷ xs) x (suc i) y e = got_either xs x i y e
 
 got_past : {X : Type 0} (xs : List X) → slice_get xs (length xs) ≡ None
 got_past [] = refl

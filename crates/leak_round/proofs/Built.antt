@@ -1,5 +1,5 @@
 -- A pool that begins without paths.
-use Rattle.std.proofs.Common.{◌≡◌, ℕ, zero, suc, ◌+◌, ◌-◌, ◌*◌, ◌<◌, ◌≤◌, Bor, Option, Some, None, option_map, List, [], length, is_some, refl, sym, ap, ◌∙◌, arith}
+use Rattle.std.proofs.Common.{◌≡◌, ℕ, zero, suc, ◌-◌, ◌*◌, ◌<◌, ◌≤◌, Bor, Option, Some, None, option_map, List, [], length, is_some, refl, sym, ap, ◌∙◌, arith}
 use Rattle.std.specs.Prelude.{IsSome, IfSome, IsTrue, slice_get}
 use Rattle.std.specs.Option.{option_copied}
 use Rattle.net_names.specs.Prefixes.{PrefixValue}
@@ -9,26 +9,26 @@ use Rattle.path_pool.specs.Pool.{IsLive, list_of, count_of, live_count, limit_of
 use Rattle.stability_laws.specs.Plans.{Plan, has_prefix, announced_path, prefixes_of}
 use Rattle.route_choice.specs.declared.round_tables.RoundTables.{RoundTables}
 use Rattle.leak_round.specs.declared.announced.Announced.{Announced}
-use Rattle.leak_round.specs.Announced.{own_path, announced_uses, IsAnnouncing, HasAnnounced, AreAnnounced}
+use Rattle.leak_round.specs.Announced.{own_path, IsAnnouncing, HasAnnounced, AreAnnounced}
 use Rattle.leak_round.specs.Growth.{HasRoomFor}
 use Rattle.leak_round.specs.Tables.{tables_in, AreFull, AreRoundsFull}
 use Rattle.leak_round.specs.Limits.{IsWithinLimits, numbers_of}
 use Rattle.leak_round.proofs.Counting.{none_some}
-use Rattle.leak_round.proofs.Listing.{some_of}
 use Rattle.leak_round.proofs.Numbers.{few_numbers}
-use Rattle.std.proofs.Math.Nat.{mul-le-mul_left, mul-le-mul_right}
+use Rattle.std.proofs.Math.Nat.{mul-le-mul_right}
 
 pub nothing_announced : (pool : PathPool) (plan : Plan) → ((k : ℕ) → ¬ IsLive pool k) → IsAnnouncing pool plan []
 nothing_announced pool plan dead = record {
   live = λ prefix a id e. cc;
   sound = λ prefix a id e. cc;
+  each = λ place x at. cc;
   holds = λ k. (let unused : ¬ (0 < count_of pool k) = dead k in omega (arith, unused));
   counts = λ k. (let unused : ¬ (0 < count_of pool k) = dead k in omega (arith, unused));
 }
 
 -- all that is announced stands in the pool
 pub all_announced : (pool : PathPool) (plan : Plan) (xs : List Announced) → IsAnnouncing pool plan xs → ((prefix : PrefixValue) (a : ℕ) → IsTrue (has_prefix plan prefix) → HasAnnounced plan xs prefix a) → AreAnnounced pool plan xs
-all_announced pool plan xs h whole = record { live = h.live; paths = λ prefix a known. by prefix a known (own_path xs prefix a) refl (announced_path plan prefix a) refl }
+all_announced pool plan xs h whole = record { live = h.live; each = h.each; paths = λ prefix a known. by prefix a known (own_path xs prefix a) refl (announced_path plan prefix a) refl }
   where
     by : (prefix : PrefixValue) (a : ℕ) → IsTrue (has_prefix plan prefix) → (o : Option PathId) → own_path xs prefix a ≡ o → (p : Option (List ℕ)) → announced_path plan prefix a ≡ p → option_map (λ (id : PathId). list_of pool id.0) o ≡ p
     by prefix a known (Some id) e p is = sym (h.sound prefix a id e) ∙ is

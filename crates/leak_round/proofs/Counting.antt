@@ -1,5 +1,5 @@
 -- Entries of a table, of a round and of all rounds are counted.
-use Rattle.std.proofs.Common.{◌≡◌, ℕ, ◌+◌, ◌-◌, ◌≤◌, Bool, true, false, ◌||◌, ◌==◌, Option, None, Some, List, [], ◌∷◌, ◌++◌, length, map, refl, sym, ap, subst, ◌∙◌, arith, ◌⊎◌, inl, inr, nat_eq}
+use Rattle.std.proofs.Common.{◌≡◌, ℕ, ◌+◌, ◌-◌, ◌≤◌, true, false, ◌==◌, Option, None, Some, List, [], ◌∷◌, ◌++◌, length, map, refl, sym, ap, subst, ◌∙◌, arith, ◌⊎◌, inl, inr, nat_eq}
 use Rattle.std.specs.Prelude.{IsSome}
 use Rattle.std.specs.List.{AllByRecursion, IsDistinct as AreDistinct}
 use Rattle.std.proofs.lemmas.Bool.{cases_Bool, or_parts, or_left, or_right, eq-eqb}
@@ -65,7 +65,7 @@ pub more_entries : {X Y : Type 0} (old new : X → Option Entry) (held : Y → O
 more_entries {X} {Y} old new held into one fresh kept put m n h j k few = record {
   places = map into j.places ++ h.places;
   apart = apart_appended (map into j.places) h.places (apart_mapped into one j.places j.apart) h.apart (λ x l r.
-          (let (y, s, e) = from_mapped into one j.places x l in none_some (old x) (ap old e ∙ fresh y) (h.entries x r)));
+      (let (y, s, e) = from_mapped into one j.places x l in none_some (old x) (ap old e ∙ fresh y) (h.entries x r)));
   entries = λ x s. elim (from_appended (map into j.places) h.places x s) [
     | inl l ↦ (let (y, t, e) = from_mapped into one j.places x l in subst (λ z. IsSome (new z)) (sym e) (put y (j.entries y t)))
     | inr r ↦ kept x (h.entries x r)

@@ -1,12 +1,12 @@
 -- What stands for paths of a pool stands for the same paths in a pool that keeps them.
-use Rattle.std.proofs.Common.{◌≡◌, ℕ, zero, suc, ◌+◌, ◌*◌, ◌≤◌, Option, Some, None, option_map, List, length, refl, sym, ap, ◌∙◌, arith}
-use Rattle.std.specs.Prelude.{IsTrue, option_and_then}
+use Rattle.std.proofs.Common.{◌≡◌, ℕ, ◌+◌, ◌*◌, ◌≤◌, Option, Some, None, option_map, List, refl, sym, ap, ◌∙◌, arith}
+use Rattle.std.specs.Prelude.{option_and_then}
 use Rattle.net_names.specs.Prefixes.{PrefixValue}
 use Rattle.path_pool.specs.declared.path_id.PathId.{PathId}
 use Rattle.path_pool.specs.declared.pool.PathPool.{PathPool}
-use Rattle.path_pool.specs.Pool.{IsLive, list_of}
+use Rattle.path_pool.specs.Pool.{list_of}
 use Rattle.stability_laws.specs.declared.entry.Entry.{Entry}
-use Rattle.stability_laws.specs.Plans.{Plan, has_prefix, announced_path}
+use Rattle.stability_laws.specs.Plans.{Plan}
 use Rattle.route_choice.specs.declared.held.Held.{Held}
 use Rattle.route_choice.specs.declared.round_tables.RoundTables.{RoundTables}
 use Rattle.route_choice.specs.declared.table.Table.{Table}
@@ -65,7 +65,11 @@ module _ (old new : PathPool) (keeps : KeepsPaths old new) where
         by (Some t) e = round_kept t (full round t e).live prefix a
 
     pub announced_kept : (xs : List Announced) → AreAnnounced old plan xs → AreAnnounced new plan xs
-    announced_kept xs h = record { live = λ prefix a id e. keeps.live id.0 (h.live prefix a id e); paths = λ prefix a known. by prefix a (own_path xs prefix a) refl ∙ h.paths prefix a known }
+    announced_kept xs h = record {
+      live = λ prefix a id e. keeps.live id.0 (h.live prefix a id e);
+      each = λ place x at. (let (alive, own) = h.each place x at in (keeps.live x.path.0 alive, own ∙ ap (λ (l : List ℕ). Some l) (sym (keeps.lists x.path.0 alive))));
+      paths = λ prefix a known. by prefix a (own_path xs prefix a) refl ∙ h.paths prefix a known;
+    }
       where
         by : (prefix : PrefixValue) (a : ℕ) (o : Option PathId) → own_path xs prefix a ≡ o → option_map (λ id. list_of new id.0) o ≡ option_map (λ id. list_of old id.0) o
         by prefix a None e = refl

@@ -8,3 +8,4 @@ mod Rounding
 mod AllRounds
 mod Numbers
 mod Built
+mod OnePlan

@@ -1,19 +1,18 @@
 -- How many numbers the announced paths have.
-use Rattle.std.proofs.Common.{◌≡◌, ◌≢◌, ◌⊎◌, inl, inr, ℕ, zero, suc, ◌+◌, ◌*◌, ◌<◌, ◌≤◌, Bool, true, false, ◌&&◌, cond, T, Option, Some, None, List, [], ◌∷◌, length, get_or, refl, sym, ap, subst, ◌∙◌, arith}
+use Rattle.std.proofs.Common.{◌≡◌, ◌≢◌, ◌⊎◌, inl, inr, ℕ, zero, suc, ◌+◌, ◌*◌, ◌<◌, ◌≤◌, Bool, true, false, cond, T, Option, Some, List, [], ◌∷◌, length, get_or, refl, sym, ap, subst, ◌∙◌, arith}
 use Rattle.std.specs.Prelude.{IsTrue, slice_get}
 use Rattle.std.specs.List.{sum_by}
 use Rattle.std.specs.Option.{option_map_or}
 use Rattle.std.specs.Ordering.{nat_cmp, eq_by_cmp, is_eq, is_lt}
-use Rattle.std.specs.declared.cmp.Ordering.{Ordering}
-use Rattle.std.specs.declared.cmp.Ordering.TheVariants.{Less, Equal}
+use Rattle.std.specs.declared.cmp.Ordering.TheVariants.{Less}
 use Rattle.std.specs.FinMap as fin
 use Rattle.std.specs.FinMap.Entries.{below_all}
-use Rattle.std.proofs.lemmas.Bool.{cases_Bool, cases_eq, true≢false}
+use Rattle.std.proofs.lemmas.Bool.{cases_eq}
 use Rattle.std.proofs.lemmas.Cmp.{nat_cmp_total}
-use Rattle.std.proofs.lemmas.List.Sums.{sum_by-cons, sum_by-le, sum_by-le-sum_by}
+use Rattle.std.proofs.lemmas.List.Sums.{sum_by-cons, sum_by-le}
 use Rattle.std.proofs.lemmas.Option.{slice_get-get_or}
 use Rattle.net_names.specs.Prefixes.{PrefixValue, prefix_cmp}
-use Rattle.stability_laws.specs.Plans.{Plan, ListsRising, IsAnnouncer, announced_path, announcement_cmp, has_prefix, prefixes_of, announcers_of}
+use Rattle.stability_laws.specs.Plans.{Plan, IsAnnouncer, announcement_cmp, has_prefix, prefixes_of, announcers_of}
 use Rattle.stability_laws.proofs.KeyLists.{is_less, left, right, apart_later, eq_is, eq_same, keys_listed}
 use Rattle.stability_laws.proofs.PlanListings.{announcers_listed}
 use Rattle.stability_laws.proofs.PlanOrders.{exact_prefix, exact_announcement, prefixes_total, announcements_total}
@@ -106,7 +105,7 @@ module _ (prefixes : List PrefixValue) (ases : List ℕ) (prefixes_apart : AreAp
   all-found [] = omega (arith, sum_by-none (λ p. sum_by (found [] p) ases) prefixes (λ p s. sum_by-none (found [] p) ases (λ a t. refl)))
   all-found (e ∷ es) =
       let both = sum_by-both (λ p. sum_by (found (e ∷ es) p) ases) (λ p. sum_by (if_same e.0 e.1 p) ases) (λ p. sum_by (found es p) ases)
-          (λ p. sum_by-both (found (e ∷ es) p) (if_same e.0 e.1 p) (found es p) (found_more e es p) ases) prefixes in
+      (λ p. sum_by-both (found (e ∷ es) p) (if_same e.0 e.1 p) (found es p) (found_more e es p) ases) prefixes in
       omega (arith, both, all-one e.0 e.1, all-found es, sum_by-cons (λ (x : (PrefixValue × ℕ) × List ℕ). length x.1) e es)
 
 -- the announced paths, prefix by prefix and AS by AS, have no more numbers than all together
@@ -149,6 +148,6 @@ pub few_numbers : (plan : Plan) → IsWithinLimits plan → numbers_of plan ≤ 
 few_numbers plan h =
     let es = fin.entries plan.announced in
     let each = λ (k : ℕ) (d : (PrefixValue × ℕ) × List ℕ) (less : k < length es).
-        h.paths (get_or es k d).0.0 (get_or es k d).0.1 (get_or es k d).1 (fin.get-entries plan.announced (get_or es k d).0 ∙ entry_found es (fin.entries_sorted plan.announced) k (get_or es k d) (slice_get-get_or es k d less)) in
+    h.paths (get_or es k d).0.0 (get_or es k d).0.1 (get_or es k d).1 (fin.get-entries plan.announced (get_or es k d).0 ∙ entry_found es (fin.entries_sorted plan.announced) k (get_or es k d) (slice_get-get_or es k d less)) in
     let most : sum_by (λ (e : (PrefixValue × ℕ) × List ℕ). length e.1) es ≤ length es * 64 = sum_by-le (λ (e : (PrefixValue × ℕ) × List ℕ). length e.1) 64 es each in
     omega (arith, most, fin.len-entries plan.announced, h.announcements)

@@ -1,13 +1,12 @@
 -- The tables of a round, one by one.
-use Rattle.std.proofs.Common.{◌≡◌, ◌≢◌, ◌⊎◌, inl, inr, ℕ, suc, ◌+◌, ◌-◌, ◌*◌, ◌<◌, ◌≤◌, Bool, true, false, Option, Some, None, option_map, unwrap_or, List, length, refl, sym, ap, subst, ◌∙◌, arith}
+use Rattle.std.proofs.Common.{◌≡◌, ◌≢◌, ◌⊎◌, inl, inr, ℕ, ◌+◌, ◌-◌, ◌*◌, ◌<◌, Bool, true, false, Option, Some, None, option_map, unwrap_or, refl, sym, ap, subst, ◌∙◌, arith}
 use Rattle.std.specs.Prelude.{IsSome, IsTrue, is_some, slice_get, option_and_then}
-use Rattle.std.proofs.lemmas.Bool.{cases_Bool, cases_eq}
+use Rattle.std.proofs.lemmas.Bool.{cases_Bool}
 use Rattle.std.specs.Ordering.{eq_by_cmp}
 use Rattle.net_names.specs.Prefixes.{PrefixValue, prefix_cmp}
 use Rattle.path_pool.specs.declared.pool.PathPool.{PathPool}
 use Rattle.path_pool.specs.Pool.{holds_of, live_count}
 use Rattle.stability_laws.specs.declared.entry.Entry.{Entry}
-use Rattle.stability_laws.specs.declared.entry.Seed.{Seed}
 use Rattle.stability_laws.specs.Offers.{Setting}
 use Rattle.stability_laws.specs.Stable.{IsStable}
 use Rattle.stability_laws.specs.Plans.{Plan, ListsRising, has_prefix, prefixes_of}
@@ -19,7 +18,7 @@ use Rattle.route_choice.specs.declared.table.Table.{Table}
 use Rattle.route_choice.specs.Resources.{AreEntriesLive}
 use Rattle.route_choice.specs.Routings.{table_routing}
 use Rattle.route_choice.specs.RoundTables.{table_at, tables_uses, uses_at, round_routing, AreAllLive, AreByPrefix, PutsTable}
-use Rattle.route_choice.specs.Tables.{held_at, prefix_of, table_uses}
+use Rattle.route_choice.specs.Tables.{table_uses}
 use Rattle.leak_round.specs.Entries.{HasEntries}
 use Rattle.leak_round.specs.Growth.{KeepsPaths, GrowsBy}
 use Rattle.leak_round.specs.Tables.{AreFull, IsRound}

@@ -1,5 +1,5 @@
 -- The seeds of a round, as paths of the pool, are those of the plan.
-use Rattle.std.proofs.Common.{◌≡◌, ◌≢◌, ℕ, zero, suc, ◌+◌, ◌-◌, ◌<◌, ◌≤◌, Bool, true, false, ◌&&◌, nat_lt, Option, Some, None, option_map, List, [], ◌∷◌, length, refl, sym, ap, subst, ◌∙◌, arith, inl, inr}
+use Rattle.std.proofs.Common.{◌≡◌, ℕ, suc, ◌-◌, Bool, true, false, ◌&&◌, nat_lt, Option, Some, None, option_map, List, [], ◌∷◌, length, refl, sym, ap, subst, ◌∙◌, arith}
 use Rattle.std.specs.Prelude.{IsTrue, option_and_then, slice_get}
 use Rattle.std.proofs.lemmas.Bool.{lt-ltb}
 use Rattle.net_names.specs.Prefixes.{PrefixValue}
@@ -8,12 +8,9 @@ use Rattle.net_names.specs.declared.routes.Class.TheVariants.{Origin, Customer, 
 use Rattle.path_pool.specs.declared.path_id.PathId.{PathId}
 use Rattle.path_pool.specs.declared.pool.PathPool.{PathPool}
 use Rattle.path_pool.specs.Pool.{IsLive, list_of}
-use Rattle.stability_laws.specs.declared.entry.Entry.{Entry}
-use Rattle.stability_laws.specs.declared.entry.Seed.{Seed}
 use Rattle.stability_laws.specs.Plans.{Plan, announced_path, has_prefix, leaks_in}
 use Rattle.stability_laws.specs.Rounds.{seed_given, leaked_class, seeds_of as seeds_in}
 use Rattle.route_choice.specs.declared.held.Held.{Held}
-use Rattle.route_choice.specs.declared.held.SeedHeld.{SeedHeld}
 use Rattle.route_choice.specs.declared.round_tables.RoundTables.{RoundTables}
 use Rattle.route_choice.specs.declared.seeds.SeedIds.{SeedIds}
 use Rattle.route_choice.specs.declared.table.Table.{Table}
@@ -23,7 +20,7 @@ use Rattle.route_choice.specs.RoundTables.{table_at, round_routing}
 use Rattle.route_choice.specs.Tables.{held_at, seed_at}
 use Rattle.leak_round.specs.declared.announced.Announced.{Announced}
 use Rattle.leak_round.specs.Announced.{own_path, own_seed, AreAnnounced}
-use Rattle.leak_round.specs.Leaked.{held_in, held_last, last_round, leaked_of, leaked_by, own_or_leaked}
+use Rattle.leak_round.specs.Leaked.{held_in, held_last, last_round, leaked_of, own_or_leaked}
 use Rattle.leak_round.specs.Tables.{tables_in, kept_in, AreRoundsFull}
 
 -- the last round is that of the highest number

@@ -1,5 +1,5 @@
 -- The announced paths in a pool.
-use Rattle.std.specs.Prelude.{◌≡◌, ℕ, ◌≤◌, Bool, ◌&&◌, ◌==◌, if◌then◌else◌, Option, None, Some, IsSome, IsTrue, option_map, List, fold, count_by}
+use Rattle.std.specs.Prelude.{◌≡◌, ℕ, ◌≤◌, Bool, ◌&&◌, ◌==◌, if◌then◌else◌, Option, None, Some, IsSome, IsTrue, option_map, List, fold, count_by, slice_get}
 use Rattle.net_names.specs.Prefixes.{PrefixValue}
 use Rattle.net_names.specs.contracts.prefixes.PrefixPartialEq.TheImpl as same_prefix
 use Rattle.path_pool.specs.declared.path_id.PathId.{PathId}
@@ -25,10 +25,15 @@ announced_uses xs k = count_by (λ x. x.path.0 == k) xs
 abbrev pub own_seed : PathId → SeedHeld
 own_seed id = record { path = id; otc = None }
 
+-- each announcement is one of the plan, and its path is live (own rule)
+abbrev pub AreOfPlan : PathPool → Plan → List Announced → Type 0
+AreOfPlan pool plan xs = (place : ℕ) (x : Announced) → slice_get xs place ≡ Some x → IsLive pool x.path.0 × (announced_path plan x.prefix x.asn ≡ Some (list_of pool x.path.0))
+
 -- each path that stands in the pool for an announcement is live and the announced one, each has one hold, and no cell has more (own rule)
 pub record IsAnnouncing (pool : PathPool) (plan : Plan) (xs : List Announced) : Type 0 where
   pub live : (prefix : PrefixValue) (a : ℕ) (id : PathId) → own_path xs prefix a ≡ Some id → IsLive pool id.0
   pub sound : (prefix : PrefixValue) (a : ℕ) (id : PathId) → own_path xs prefix a ≡ Some id → announced_path plan prefix a ≡ Some (list_of pool id.0)
+  pub each : AreOfPlan pool plan xs
   pub holds : (k : ℕ) → holds_of pool k ≡ announced_uses xs k
   pub counts : (k : ℕ) → count_of pool k ≤ live_count pool
 
@@ -40,7 +45,8 @@ KeepsAnnounced old new = (prefix : PrefixValue) (a : ℕ) → IsSome (own_path o
 abbrev pub HasAnnounced : Plan → List Announced → PrefixValue → ℕ → Type 0
 HasAnnounced plan xs prefix a = IsSome (announced_path plan prefix a) → IsSome (own_path xs prefix a)
 
--- the announced paths of the plan's prefixes are just those of the plan, and live (own rule)
+-- the announcements are just those that the plan has of its prefixes, with their paths, which are live (own rule)
 pub record AreAnnounced (pool : PathPool) (plan : Plan) (xs : List Announced) : Type 0 where
   pub live : (prefix : PrefixValue) (a : ℕ) (id : PathId) → own_path xs prefix a ≡ Some id → IsLive pool id.0
+  pub each : AreOfPlan pool plan xs
   pub paths : (prefix : PrefixValue) (a : ℕ) → IsTrue (has_prefix plan prefix) → option_map (λ id. list_of pool id.0) (own_path xs prefix a) ≡ announced_path plan prefix a

@@ -1,9 +1,10 @@
 -- What contracts see of rounds: the plan, the pool, and what each AS holds of each prefix in each round.
-use Rattle.std.specs.Prelude.{◌≡◌, ℕ, ◌+◌, Option, List, length}
+use Rattle.std.specs.Prelude.{ℕ, ◌+◌, Option, List, length}
 use Rattle.net_names.specs.Prefixes.{PrefixValue}
 use Rattle.path_pool.specs.declared.pool.PathPool.{PathPool}
 use Rattle.stability_laws.specs.declared.entry.Entry.{Entry}
 use Rattle.stability_laws.specs.Plans.{Plan}
+use Rattle.leak_round.specs.declared.announced.Announced.{Announced}
 use Rattle.leak_round.specs.declared.rounds.Rounds.{Rounds}
 use Rattle.leak_round.specs.Announced.{announced_uses}
 use Rattle.leak_round.specs.Tables.{kept_in, entry_uses}
@@ -24,6 +25,10 @@ round_count r = length r.tables.items
 abbrev pub kept : Rounds → ℕ → PrefixValue → ℕ → Option Entry
 kept r round prefix a = kept_in r.pool r.tables.items round prefix a
 
--- how many entries and announced paths stand at the path (own rule)
+-- the announcements, with their paths in the pool (own rule)
+abbrev pub announced_of : Rounds → List Announced
+announced_of r = r.announced.items
+
+-- how many entries of the tables and how many announcements have the path (own rule)
 abbrev pub uses_of : Rounds → ℕ → ℕ
 uses_of r k = entry_uses r.tables.items k + announced_uses r.announced.items k

@@ -95,7 +95,7 @@ fn make_rounds<P: RoutePolicy, V: OriginStates, L: Ledger>(
 }
 
 impl Rounds {
-    ghost use Rattle.leak_round.specs.Rounds.{plan_of, pool_of, round_count, kept, uses_of};
+    ghost use Rattle.leak_round.specs.Rounds.{plan_of, pool_of, round_count, kept, announced_of, uses_of};
 
     /// The tables of the rounds from 1 to `rounds`, at most 4. For each round and prefix of the plan it
     /// is the one stable routing of that round's seeds: the announced paths and, from round 2 on, what
@@ -160,6 +160,7 @@ impl Rounds {
     pub fn pool(&self) -> &PathPool
         ensures value { result.now ≡ pool_of self.now }
         ensures held { (k : ℕ) → holds_of result.now k ≡ uses_of self.now k }
+        ensures announced { AreAnnounced result.now (plan_of self.now) (announced_of self.now) }
     {
         &self.pool
     }

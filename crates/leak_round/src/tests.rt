@@ -1,5 +1,8 @@
 //! Rounds of small worlds, worked by hand, with ample memory.
 
+ghost use Rattle.std.specs.Prelude.{◌≡◌, ◌<◌, ◌≤◌, IfOk};
+ghost use Rattle.leak_round.specs.Limits.{IsWithinLimits};
+
 use crate::Rounds;
 use as_graph::Graph;
 use net_names::{Asn, Class, Links, Path, Prefix, Rel, put_asn, read_prefix};
@@ -37,11 +40,16 @@ fn main_prefix() -> Result<Prefix, Fail> {
 }
 
 // The plan in which AS 5 announces the prefix by its own number, and these ASes leak in these rounds.
-fn plan_of(rt: &impl Abort, alloc: Global, leakers: &[(u32, u32)]) -> Result<SeedPlan, Fail> {
+fn plan_of(rt: &impl Abort, alloc: Global, leakers: &[(u32, u32)]) -> Result<SeedPlan, Fail>
+    ensures { IfOk result IsWithinLimits }
+{
     let mut plan = SeedPlan::new(alloc);
     let mut path = Path::new(alloc);
-    path.push(Asn::new(5).ok_or("a number of an AS")?)?;
-    plan.announce(main_prefix()?, path)?;
+    let five = Asn::new(5).ok_or("a number of an AS")?;
+    let prefix = main_prefix()?;
+    path.push(five)?;
+    assert!(rt; !plan.announces(prefix, five));
+    plan.announce(prefix, path)?;
     for leaker in leakers {
         assert!(rt; leaker.0 >= 2);
         plan.leaker(leaker.0, Asn::new(leaker.1).ok_or("a number of an AS")?)?;
@@ -81,7 +89,12 @@ fn rounds_of<L: Ledger>(
     leakers: &[(u32, u32)],
     rounds: u32,
     blank: Blank,
-) -> Result<Rounds, Fail> {
+) -> Result<Rounds, Fail>
+    requires rounds { rounds ≤ 4 }
+    requires name { blank.name ≡ L.name }
+    requires parts { blank.parts ≡ L.parts }
+    requires some { 0 < L.parts }
+{
     let Ok(ranks) = Ranks::build(alloc, graph) else {
         return Err("ranks".into());
     };
@@ -107,6 +120,7 @@ fn a_provider_route_leaks_in_the_rounds_of_its_leaker(rt: HostRuntime) -> Result
     assert!(rt; rounds.round(0).is_none());
     assert!(rt; rounds.round(5).is_none());
     assert!(rt; rounds.pool().live() <= 17);
+    assert_eq!(rt; rounds.seed_plan().leaker_at(4, 0), Asn::new(3));
     Ok(())
 }
 

@@ -1,9 +1,7 @@
-use Rattle.std.proofs.Common.{◌≡◌, ◌+◌, ◌∷◌, [], ◌++◌, ◌<◌, Some, length, sym, ap, ◌∙◌, subst, arith}
+use Rattle.std.proofs.Common.{◌≡◌, ◌<◌, Some, length, sym, ap, ◌∙◌}
 use Rattle.std.proofs.lemmas.Option.{slice_get_within}
-use Rattle.path_pool.specs.Pool.{GainsWholePath, live_count}
 use Rattle.stability_laws.specs.Plans.{announced_path}
 use Rattle.leak_round.specs.declared.announced.Announced.{Announced}
-use Rattle.leak_round.specs.Announced.{IsAnnouncing}
 use Rattle.leak_round.proofs.Announcing.{announced_more}
 use Rattle.leak_round.proofs.announced.announce.Goals as goal
 

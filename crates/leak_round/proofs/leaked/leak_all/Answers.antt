@@ -1,4 +1,4 @@
-use Rattle.std.proofs.Common.{◌≡◌, ◌≢◌, ℕ, ◌+◌, ◌<◌, ◌≤◌, Some, None, length, sym, ap, ◌∙◌, arith}
+use Rattle.std.proofs.Common.{◌≡◌, ◌<◌, ◌≤◌, Some, length, sym, ap, ◌∙◌, arith}
 use Rattle.std.specs.Prelude.{slice_get, IsTrue}
 use Rattle.std.proofs.lemmas.Option.{slice_get_within}
 use Rattle.stability_laws.specs.Plans.{leaks_in, leakers_of}
@@ -34,4 +34,4 @@ returns c = λ a.
     let xs = leakers_of c.args.plan.now c.args.round in
     c.leakers.invariant.so_far a
     ∙ ap (λ b. own_or_leaked (seed_at c.args.seeds.now a) b (held_last c.args.earlier.now c.args.prefix a))
-        (occurs-listed (leaks_in c.args.plan.now c.args.round) xs c.leaker_at.ensures.listed c.leakers.place (sym c.leaker_at.ensures.value ∙ c.in_default.is) a)
+    (occurs-listed (leaks_in c.args.plan.now c.args.round) xs c.leaker_at.ensures.listed c.leakers.place (sym c.leaker_at.ensures.value ∙ c.in_default.is) a)

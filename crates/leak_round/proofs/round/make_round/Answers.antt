@@ -1,20 +1,18 @@
-use Rattle.std.proofs.Common.{◌≡◌, ℕ, suc, ◌+◌, ◌-◌, ◌*◌, ◌<◌, ◌≤◌, Option, Some, None, length, sym, ap, subst, ◌∙◌, arith}
-use Rattle.std.specs.Prelude.{IsTrue, slice_get}
+use Rattle.std.proofs.Common.{ℕ, ◌+◌, ◌*◌, ◌<◌, Option, length, sym, ap, subst, ◌∙◌, arith}
 use Rattle.std.proofs.lemmas.Option.{slice_get_within}
 use Rattle.as_graph.specs.Topology.{as_count}
 use Rattle.net_names.specs.Prefixes.{PrefixValue}
 use Rattle.stability_laws.specs.declared.entry.Entry.{Entry}
-use Rattle.stability_laws.specs.Offers.{Setting}
 use Rattle.stability_laws.specs.Stable.{IsStable}
 use Rattle.stability_laws.specs.World.{setting}
-use Rattle.stability_laws.specs.Plans.{has_prefix, prefixes_of}
+use Rattle.stability_laws.specs.Plans.{prefixes_of}
 use Rattle.stability_laws.specs.Rounds.{seeds_of}
 use Rattle.route_choice.specs.RoundTables.{table_at, PutsTable}
 use Rattle.route_choice.specs.Routings.{table_routing}
 use Rattle.leak_round.specs.Tables.{kept_in}
 use Rattle.leak_round.proofs.Listing.{cost_more}
-use Rattle.leak_round.proofs.Keeping.{rounds_full_kept, announced_kept, all_kept, room_left}
-use Rattle.leak_round.proofs.Rounding.{round_start, none_yet, round_more, round_full, round_stable}
+use Rattle.leak_round.proofs.Keeping.{rounds_full_kept, all_kept, room_left}
+use Rattle.leak_round.proofs.Rounding.{none_yet, round_more, round_full, round_stable}
 use Rattle.leak_round.proofs.round.make_round.Goals as goal
 
 pub make_table-requires-clause-earlier : goal.make_table-requires-clause-earlier

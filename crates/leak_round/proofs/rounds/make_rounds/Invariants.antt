@@ -1,4 +1,4 @@
-use Rattle.std.proofs.Common.{◌≡◌, ℕ, ◌+◌, ◌*◌, ◌≤◌, length}
+use Rattle.std.proofs.Common.{◌≡◌, ◌+◌, ◌*◌, ◌≤◌, length}
 use Rattle.as_graph.specs.Topology.{as_count}
 use Rattle.net_names.specs.Prefixes.{PrefixValue}
 use Rattle.stability_laws.specs.World.{setting}

@@ -1,4 +1,4 @@
-use Rattle.std.proofs.Common.{◌≡◌, ℕ, ◌-◌, ◌≤◌, arith, ◌∙◌}
+use Rattle.std.proofs.Common.{◌-◌, ◌≤◌, arith, ◌∙◌}
 use Rattle.net_names.specs.Prefixes.{PrefixValue}
 use Rattle.path_pool.specs.Pool.{live_count}
 use Rattle.leak_round.specs.Entries.{of_rounds}
