@@ -1,21 +1,30 @@
 -- Answers to lines, one after the other.
-use Rattle.std.proofs.Common.{◌≡◌, ◌<◌, ◌≤◌, ◌+◌, ◌||◌, ℕ, Bool, true, false, List, [], ◌∷◌, ◌++◌, length, take, get_or, Option, refl, sym, ◌∙◌, append_assoc, append-nil, arith, length-append, ◌⊎◌, inl, inr, cond, nat_lt, ◌^◌, ◌-◌}
+use Rattle.std.proofs.Common.{◌≡◌, ◌<◌, ◌≤◌, ◌+◌, ◌||◌, ℕ, Bool, true, false, List, [], ◌∷◌, ◌++◌, length, take, get_or, Option, Some, None, Result, Ok, Err, IfOk, ap, subst, refl, sym, ◌∙◌, append_assoc, append-nil, arith, length-append, ◌⊎◌, inl, inr, cond, nat_lt, ◌^◌, ◌-◌}
 use Rattle.std.proofs.Math.Seq.{take-append-add}
 use Rattle.std.proofs.lemmas.List.{take_more, take_all}
 use Rattle.std.proofs.lemmas.Bool.{ltb-true, ltb-false}
 use Rattle.io_edge.specs.Faults.{Rose}
 use Rattle.io_edge.specs.Bytes.{Appends, AppendsFront}
 use Rattle.io_edge.proofs.Appending.{Appends-nil, Appends-trans}
-use Rattle.asprop.specs.World.{World}
-use Rattle.asprop.specs.Told.{Answered, Told}
+use Rattle.scenario_text.specs.LineValues.{LineValue}
+use Rattle.scenario_text.specs.declared.acts.Act.{Act}
+use Rattle.scenario_text.specs.declared.acts.Act.TheVariants as act
+use Rattle.scenario_text.specs.declared.acts.Query.{Query}
+use Rattle.sim_core.specs.World.{World}
+use Rattle.sim_core.specs.Families.{Family, IsOneFamily}
+use Rattle.net_names.specs.declared.numbers.NoMemory.{NoMemory}
+use Rattle.std.specs.List.{All}
+use Rattle.std.proofs.lemmas.List.Elements.{All-nil, All-cons, All-get_or}
+use Rattle.asprop.specs.Task.{AreAnswered, all_answered, first_unanswered, is_answered, unless_unanswered, ◌>>=◌}
+use Rattle.asprop.specs.declared.types.Fault.{Fault}
+use Rattle.asprop.specs.Told.{Answered, AppendsReply, Tells, Told, head}
 use Rattle.asprop.specs.Written.{WroteAll, WroteWhole, WroteFront}
-use Rattle.asprop.specs.declared.types.Line.{Line}
 
 -- What follows is told of the lines that follow, and so of all.
-pub record SoFar (heads : Bool) (start now : World) (lines : List Line) (refused : Bool) (old new : Option (List ℕ)) : Type 0 where
+pub record SoFar (heads : Bool) (start now : World) (lines : List LineValue) (refused : Bool) (old new : Option (List ℕ)) : Type 0 where
   pub text : List ℕ
   pub appends : Appends old new text
-  pub told : (more : List Line) (rest : List ℕ) (others : Bool) → Told heads now more rest others → Told heads start (lines ++ more) (text ++ rest) (refused || others)
+  pub told : (more : List LineValue) (rest : List ℕ) (others : Bool) → Told heads now more rest others → Told heads start (lines ++ more) (text ++ rest) (refused || others)
 
 pub begun : (heads : Bool) (w : World) (old : Option (List ℕ)) → SoFar heads w w [] false old old
 begun heads w old = record { text = []; appends = Appends-nil old; told = λ more rest others h. h }
@@ -25,16 +34,16 @@ or_assoc true b c = refl
 or_assoc false b c = refl
 
 -- one more line
-more_told : (heads : Bool) (start now after : World) (lines : List Line) (line : Line) (refused first : Bool) (text front : List ℕ)
-    → ((more : List Line) (rest : List ℕ) (others : Bool) → Told heads now more rest others → Told heads start (lines ++ more) (text ++ rest) (refused || others))
+more_told : (heads : Bool) (start now after : World) (lines : List LineValue) (line : LineValue) (refused first : Bool) (text front : List ℕ)
+    → ((more : List LineValue) (rest : List ℕ) (others : Bool) → Told heads now more rest others → Told heads start (lines ++ more) (text ++ rest) (refused || others))
     → Answered heads now line front first after
-    → (more : List Line) (rest : List ℕ) (others : Bool) → Told heads after more rest others → Told heads start ((lines ++ line ∷ []) ++ more) ((text ++ front) ++ rest) ((refused || first) || others)
+    → (more : List LineValue) (rest : List ℕ) (others : Bool) → Told heads after more rest others → Told heads start ((lines ++ line ∷ []) ++ more) ((text ++ front) ++ rest) ((refused || first) || others)
 more_told heads start now after lines line refused first text front told answered more rest others h =
     rw (append_assoc lines (line ∷ []) more, append_assoc text front rest, or_assoc refused first others)
     (told (line ∷ more) (front ++ rest) (first || others) (front, rest, first, others, after, answered, h, refl, refl))
 
 -- one more line, whose answer was written
-pub one_more : (heads : Bool) (start now after : World) (lines : List Line) (line : Line) (refused first : Bool) (old mid new : Option (List ℕ)) (front : List ℕ)
+pub one_more : (heads : Bool) (start now after : World) (lines : List LineValue) (line : LineValue) (refused first : Bool) (old mid new : Option (List ℕ)) (front : List ℕ)
     → SoFar heads start now lines refused old mid → Answered heads now line front first after → Appends mid new front
     → SoFar heads start after (lines ++ line ∷ []) (refused || first) old new
 one_more heads start now after lines line refused first old mid new front so answered appends = record {
@@ -48,7 +57,7 @@ or_false true = refl
 or_false false = refl
 
 -- nothing follows
-pub ended : (heads : Bool) (start now : World) (lines : List Line) (refused : Bool) (old new : Option (List ℕ)) → SoFar heads start now lines refused old new → WroteAll heads start lines refused old new
+pub ended : (heads : Bool) (start now : World) (lines : List LineValue) (refused : Bool) (old new : Option (List ℕ)) → SoFar heads start now lines refused old new → WroteAll heads start lines refused old new
 ended heads start now lines refused old new so = record {
   text = so.text;
   told = rw (append-nil lines, append-nil so.text, or_false refused) at (so.told [] [] false (refl, refl));
@@ -72,20 +81,20 @@ pub either : (refused first after : Bool) → ((first ≡ true) × (after ≡ tr
 either refused first after (inl h) = or_first refused first after h.0 h.1
 either refused first after (inr h) = or_other refused first after h.0 h.1
 
-pub whole : (heads : Bool) (start now : World) (lines : List Line) (i : ℕ) (refused : Bool) (old new : Option (List ℕ)) → SoFar heads start now (take i lines) refused old new → WroteWhole heads start lines old new
+pub whole : (heads : Bool) (start now : World) (lines : List LineValue) (i : ℕ) (refused : Bool) (old new : Option (List ℕ)) → SoFar heads start now (take i lines) refused old new → WroteWhole heads start lines old new
 whole heads start now lines i refused old new so = record { count = i; refused = refused; wrote = ended heads start now (take i lines) refused old new so }
 
-pub all : (heads : Bool) (start now : World) (lines : List Line) (i : ℕ) (refused : Bool) (old new : Option (List ℕ)) → SoFar heads start now (take i lines) refused old new → length lines ≤ i → WroteAll heads start lines refused old new
+pub all : (heads : Bool) (start now : World) (lines : List LineValue) (i : ℕ) (refused : Bool) (old new : Option (List ℕ)) → SoFar heads start now (take i lines) refused old new → length lines ≤ i → WroteAll heads start lines refused old new
 all heads start now lines i refused old new so h = rw (take_all i lines h) at (ended heads start now (take i lines) refused old new so)
 
-pub next : (heads : Bool) (start now after : World) (lines : List Line) (i : ℕ) (d : Line) (refused first : Bool) (old mid new : Option (List ℕ)) (front : List ℕ) → i < length lines
+pub next : (heads : Bool) (start now after : World) (lines : List LineValue) (i : ℕ) (d : LineValue) (refused first : Bool) (old mid new : Option (List ℕ)) (front : List ℕ) → i < length lines
     → SoFar heads start now (take i lines) refused old mid → Answered heads now (get_or lines i d) front first after → Appends mid new front
     → SoFar heads start after (take (i + 1) lines) (refused || first) old new
 next heads start now after lines i d refused first old mid new front l so answered appends =
     rw (take_more lines i d l) (one_more heads start now after (take i lines) (get_or lines i d) refused first old mid new front so answered appends)
 
 -- the answer to one more line was written in part
-pub part : (heads : Bool) (start now after : World) (lines : List Line) (i : ℕ) (d : Line) (refused first : Bool) (old mid new : Option (List ℕ)) (front : List ℕ) → i < length lines
+pub part : (heads : Bool) (start now after : World) (lines : List LineValue) (i : ℕ) (d : LineValue) (refused first : Bool) (old mid new : Option (List ℕ)) (front : List ℕ) → i < length lines
     → SoFar heads start now (take i lines) refused old mid → Answered heads now (get_or lines i d) front first after → AppendsFront mid new front
     → WroteFront heads start lines old new
 part heads start now after lines i d refused first old mid new front l so answered appends =
@@ -104,3 +113,36 @@ rose_by false false a b c m low high le h = omega (arith, le, h)
 -- a count that rose from a later value rose from an earlier one
 pub rose_earlier : (a b c : ℕ) → a ≤ b → Rose b c → Rose a c
 rose_earlier a b c le h = rose_by (nat_lt a (2 ^ 64 - 1)) (nat_lt b (2 ^ 64 - 1)) a b c (2 ^ 64 - 1) (ltb-true a (2 ^ 64 - 1)) (ltb-false b (2 ^ 64 - 1)) le h
+
+-- a reply under a head line is an answer
+pub answered : (r : Result Bool NoMemory) (heads : Bool) (w : World) (g : Family) (line : LineValue) (q : Query) (begun now : List ℕ) → begun ≡ head heads line → line.act ≡ act.Query q → IsOneFamily w g
+    → IfOk r (λ refused. AppendsReply w g q refused begun now) → IfOk r (λ refused. Answered heads w line now refused w)
+answered (Ok refused) heads w g line q begun now first asks one h = record {
+  answer = h.text;
+  answers = record { routings = g; one = one; told = subst (λ (a : Act). Tells w g a h.text refused) (sym asks) h.reply; stays = refl };
+  text_is = h.appended ∙ ap (λ l. l ++ h.text) first;
+}
+answered (Err e) heads w g line q begun now first asks one h = h
+
+-- each line is answered where none is unanswered
+none_unanswered : (t : Bool) (line : LineValue) (rest : Option ℕ) → is_answered line.act ≡ t → cond t rest (Some line.number) ≡ None → (is_answered line.act ≡ true) × (rest ≡ None)
+none_unanswered true line rest is h = (is, h)
+none_unanswered false line rest is h = cc
+
+all_answer : (lines : List LineValue) → AreAnswered lines → All (λ l. is_answered l.act ≡ true) lines
+all_answer [] h = All-nil (λ l. is_answered l.act ≡ true)
+all_answer (line ∷ lines) h =
+    let both = none_unanswered (is_answered line.act) line (first_unanswered lines) refl h in
+    All-cons (λ l. is_answered l.act ≡ true) line lines both.0 (all_answer lines both.1)
+
+pub one_answer : (lines : List LineValue) (i : ℕ) (line : LineValue) → AreAnswered lines → i < length lines → line ≡ get_or lines i line → is_answered line.act ≡ true
+one_answer lines i line h inside here = subst (λ (l : LineValue). is_answered l.act ≡ true) (sym here) (All-get_or (λ l. is_answered l.act ≡ true) lines i line inside (all_answer lines h))
+
+-- lines that were taken are all answered
+taken_answer : (found : Option ℕ) (lines taken : List LineValue) → first_unanswered lines ≡ found → unless_unanswered found lines ≡ Ok taken → AreAnswered taken
+taken_answer None lines taken none is = cc
+taken_answer (Some number) lines taken some is = cc
+
+pub are_answered : (read : Result (List LineValue) Fault) (taken : List LineValue) → (read >>= all_answered) ≡ Ok taken → AreAnswered taken
+are_answered (Ok lines) taken is = taken_answer (first_unanswered lines) lines taken refl is
+are_answered (Err fault) taken is = cc

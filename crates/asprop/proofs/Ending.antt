@@ -1,13 +1,17 @@
 -- How a run ends where the work stopped.
-use Rattle.std.proofs.Common.{◌≡◌, inl, inr, ℕ, List, [], Option, Result, Ok, Err, None, refl, true, false}
+use Rattle.std.proofs.Common.{◌≡◌, ◌<◌, ◌≤◌, inl, inr, ℕ, Bool, List, [], Option, Result, Ok, Err, None, refl, sym, ap, subst, ◌∙◌, true, false, lt-ltb, le-ltb}
+use Rattle.as_graph.specs.Topology.{as_count}
+use Rattle.sim_core.specs.World.{World, HasCycle, topology}
+use Rattle.asprop.specs.Written.{Answering}
+use Rattle.asprop.proofs.ReadLemmas.{bind_stop}
 use Rattle.io_edge.specs.Bytes.{Appends}
 use Rattle.io_edge.proofs.Appending.{Appends-nil}
-use Rattle.asprop.specs.Files.{Prepares}
+use Rattle.asprop.specs.Files.{IsStop, Prepares}
 use Rattle.asprop.proofs.Preparing.{none_read}
 use Rattle.asprop.specs.Words.{Form, form_of}
-use Rattle.asprop.specs.Task.{Task, task_of}
+use Rattle.asprop.specs.Task.{Task, asked, task_of, within_limits, ◌>>=◌}
 use Rattle.asprop.specs.Texts.{status_of, fault_text}
-use Rattle.asprop.specs.Ran.{Works, Ends, Explains, Explained, Reports, Ran, Worked, stop_status, stop_text}
+use Rattle.asprop.specs.Ran.{IsCycle, Works, Ends, Explains, Explained, Reports, Ran, Worked, stop_status, stop_text}
 use Rattle.asprop.specs.declared.types.Stop.{Stop}
 use Rattle.asprop.specs.declared.types.Stop.TheVariants as stop
 use Rattle.asprop.specs.declared.types.Status.{Status}
@@ -15,6 +19,8 @@ use Rattle.asprop.specs.declared.types.Status.TheVariants as status
 use Rattle.asprop.specs.declared.types.Fault.{Fault}
 use Rattle.asprop.specs.declared.types.Fault.TheVariants as fault
 use Rattle.caida_reader.specs.declared.errors.RelError.TheVariants as rel
+use Rattle.scenario_text.specs.declared.faults.ScenarioError.TheVariants as scenario
+use Rattle.scenario_text.specs.declared.script.ScriptError.TheVariants as script
 
 -- the end and the text of a run
 record Ended (form : Option Form) (task : Result Task Fault) (s : Status) (old new : Option (List ℕ)) (rose : Type 0) (text : List ℕ) : Type 0 where
@@ -30,6 +36,16 @@ by_fault form (fault.Relation (rel.Unreadable n)) old new rose h = record { ends
 by_fault form (fault.Relation (rel.SelfLink n)) old new rose h = record { ends = (refl, h); explains = refl }
 by_fault form (fault.Relation (rel.Conflict n m)) old new rose h = record { ends = (refl, h); explains = refl }
 by_fault form (fault.Relation (rel.TooManyLinks n)) old new rose h = record { ends = (refl, h); explains = refl }
+by_fault form (fault.Scenario scenario.Memory) old new rose h = record { ends = (refl, h); explains = refl }
+by_fault form (fault.Scenario scenario.NotJson) old new rose h = record { ends = (refl, h); explains = refl }
+by_fault form (fault.Scenario (scenario.Shape place)) old new rose h = record { ends = (refl, h); explains = refl }
+by_fault form (fault.Scenario (scenario.Value place)) old new rose h = record { ends = (refl, h); explains = refl }
+by_fault form (fault.Scenario (scenario.Twice place)) old new rose h = record { ends = (refl, h); explains = refl }
+by_fault form (fault.Scenario (scenario.Limit which)) old new rose h = record { ends = (refl, h); explains = refl }
+by_fault form (fault.Later member) old new rose h = record { ends = (refl, h); explains = refl }
+by_fault form (fault.Script script.Memory) old new rose h = record { ends = (refl, h); explains = refl }
+by_fault form (fault.Script (script.Unreadable n)) old new rose h = record { ends = (refl, h); explains = refl }
+by_fault form (fault.Script (script.TooMany n)) old new rose h = record { ends = (refl, h); explains = refl }
 by_fault form fault.TooManyAses old new rose h = record { ends = (refl, h); explains = refl }
 
 by_stop : (form : Option Form) (task : Result Task Fault) (reason : Stop) (old new : Option (List ℕ)) (rose : Type 0) → Works task (Err reason) old new rose → Ended form task (stop_status reason) old new rose (stop_text form reason)
@@ -112,3 +128,58 @@ module _ {holds : List ℕ → Option (List ℕ)} {sound : List ℕ → Type 0} 
 
   pub without_refusal : Worked holds sound read_rose (form_of words) (Ok false) out_old out_new out_rose → Ran holds sound read_rose words status.Done out_old out_new out_rose err err err_rose
   without_refusal w = record { reads = w.reads; are_read = w.are_read; ends = none_refused (task_of words w.reads) _ _ _ w.works; text = []; explains = refl; reports = inl (Appends-nil err) }
+
+-- the task of a form is the one that was asked for, where its world isn't too large
+few_ases : (task : Task) → as_count (topology task.world) ≤ 150000 → within_limits task ≡ Ok task
+few_ases task few = rw (le-ltb 150000 (as_count (topology task.world)) few) refl
+
+many_ases : (task : Task) → 150000 < as_count (topology task.world) → within_limits task ≡ Err fault.TooManyAses
+many_ases task many = rw (lt-ltb 150000 (as_count (topology task.world)) many) refl
+
+-- what was written of the answers, in a world without a provider cycle
+answering : (task : Task) (result : Result Bool Stop) (old new : Option (List ℕ)) (rose : Type 0) → (HasCycle task.world → ⊥) → Answering task.heads task.world task.lines result old new rose → Works (Ok task) result old new rose
+answering task (Ok refused) old new rose none h = (none, h)
+answering task (Err stop.Memory) old new rose none h = (h, λ cycle. absurd (none cycle))
+answering task (Err stop.Write) old new rose none h = (h.0, none, h.1)
+answering task (Err (stop.Cycle cycle)) old new rose none h = absurd h
+answering task (Err (stop.Fault f)) old new rose none h = absurd h
+
+-- the work stopped before there was a task
+before : (task : Result Task Fault) (s : Stop) (old : Option (List ℕ)) (rose : Type 0) → IsStop s task → Works task (Err s) old old rose
+before task stop.Memory old rose h = idle task old rose
+before task (stop.Fault f) old rose h = subst (λ (t : Result Task Fault). Works t (Err (stop.Fault f)) old old rose) (sym h) (refl, Appends-nil old)
+before task stop.Write old rose h = absurd h
+before task (stop.Cycle cycle) old rose h = absurd h
+
+pub stopped : {holds : List ℕ → Option (List ℕ)} {sound : List ℕ → Type 0} {read_rose : Type 0} {form : Option Form} {X : Type 0} {view : X → Task} {old : Option (List ℕ)} {out_rose : Type 0} (s : Stop)
+    → Prepares holds sound read_rose form view (Err s) → Worked holds sound read_rose form (Err s) old old out_rose
+stopped {form} {old} {out_rose} s p = record { reads = p.reads; are_read = p.are_read; works = before (asked form p.reads >>= within_limits) s old out_rose (bind_stop (asked form p.reads) within_limits s p.finds) }
+
+module _ {holds : List ℕ → Option (List ℕ)} {sound : List ℕ → Type 0} {read_rose : Type 0} {form : Option Form} {X : Type 0} {view : X → Task} {old new : Option (List ℕ)} {out_rose : Type 0} where
+  -- the task is the one that was asked for
+  on_task : (x : X) (p : Prepares holds sound read_rose form view (Ok x)) (result : Result Bool Stop) → as_count (topology (view x).world) ≤ 150000 → Works (Ok (view x)) result old new out_rose → Worked holds sound read_rose form result old new out_rose
+  on_task x p result few w = record {
+    reads = p.reads;
+    are_read = p.are_read;
+    works = subst (λ (t : Result Task Fault). Works t result old new out_rose) (sym (ap (λ (t : Result Task Fault). t >>= within_limits) p.finds ∙ few_ases (view x) few)) w;
+  }
+
+  -- answers were written
+  pub worked : (x : X) (w : World) (result : Result Bool Stop) → Prepares holds sound read_rose form view (Ok x) → w ≡ (view x).world → as_count (topology w) ≤ 150000 → (HasCycle w → ⊥)
+      → Answering (view x).heads w (view x).lines result old new out_rose → Worked holds sound read_rose form result old new out_rose
+  worked x w result p is few none h =
+      on_task x p result (subst (λ (w : World). as_count (topology w) ≤ 150000) is few)
+      (answering (view x) result old new out_rose (subst (λ (w : World). HasCycle w → ⊥) is none) (subst (λ (w : World). Answering (view x).heads w (view x).lines result old new out_rose) is h))
+
+module _ {holds : List ℕ → Option (List ℕ)} {sound : List ℕ → Type 0} {read_rose : Type 0} {form : Option Form} {X : Type 0} {view : X → Task} {old : Option (List ℕ)} {out_rose : Type 0} where
+  -- the world has a provider cycle
+  pub cyclic : (x : X) (cycle : List ℕ) → Prepares holds sound read_rose form view (Ok x) → (as_count (topology (view x).world) ≤ 150000) × IsCycle (view x).world cycle → Worked holds sound read_rose form (Err (stop.Cycle cycle)) old old out_rose
+  cyclic x cycle p h = on_task x p (Err (stop.Cycle cycle)) h.0 (h.1, Appends-nil old)
+
+  -- the world is too large
+  pub too_many : (x : X) → Prepares holds sound read_rose form view (Ok x) → 150000 < as_count (topology (view x).world) → Worked holds sound read_rose form (Err (stop.Fault fault.TooManyAses)) old old out_rose
+  too_many x p many = record {
+    reads = p.reads;
+    are_read = p.are_read;
+    works = subst (λ (t : Result Task Fault). Works t (Err (stop.Fault fault.TooManyAses)) old old out_rose) (sym (ap (λ (t : Result Task Fault). t >>= within_limits) p.finds ∙ many_ases (view x) many)) (refl, Appends-nil old);
+  }

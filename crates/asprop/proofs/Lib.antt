@@ -2,12 +2,12 @@ pub mod Adding
 pub mod Parsing
 pub mod OnWords
 pub mod ReadLemmas
-pub mod Announcing
-pub mod Marking
-pub mod Routing
-pub mod Seeding
 pub mod Preparing
 pub mod Answering
+pub mod RefusalPieces
 pub mod Ending
 pub mod StatusLemmas
+pub mod Faults
+pub mod StatusRows
 pub mod Feeding
+pub mod NoScript

@@ -5,11 +5,11 @@ use Rattle.net_names.specs.Texts.{asn_of, numeral}
 use Rattle.asprop.specs.Command.{asprop_command, faults_in, rows_in}
 use Rattle.asprop.specs.Words.{form_of, script_form, origin_form}
 
-rel_alone : form_of (codes "asprop" ∷ codes "rel" ∷ []) ≡ Some (script_form (codes "rel") None None None)
+rel_alone : form_of (codes "asprop" ∷ codes "rel" ∷ []) ≡ Some (script_form (codes "rel") None None)
 unfolding clap_on_literals faults_in rows_in asprop_command
 rel_alone = refl
 
-options_before_rel : form_of (codes "asprop" ∷ codes "--script" ∷ codes "cmds" ∷ codes "--vrps=v" ∷ codes "rel" ∷ []) ≡ Some (script_form (codes "rel") (Some (codes "v")) None (Some (codes "cmds")))
+options_before_rel : form_of (codes "asprop" ∷ codes "--script" ∷ codes "cmds" ∷ codes "--scenario=s" ∷ codes "rel" ∷ []) ≡ Some (script_form (codes "rel") (Some (codes "s")) (Some (codes "cmds")))
 unfolding clap_on_literals faults_in rows_in asprop_command
 options_before_rel = refl
 

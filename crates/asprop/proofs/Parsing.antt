@@ -1,5 +1,5 @@
 -- What the program's command finds in the words.
-use Rattle.std.proofs.Common.{◌≡◌, ◌∙◌, ap, subst, refl, true, List, [], ◌∷◌, codes, Option, Some, None, inl, inr}
+use Rattle.std.proofs.Common.{◌≡◌, ◌∙◌, ap, subst, refl, true, List, [], ◌∷◌, codes, Option, None, inl, inr}
 use Rattle.clap.specs.Walk.{Row, Text, first_of}
 use Rattle.clap.specs.Words.{App, HasKind, HasMatchesOf, Kinds, fault_of, first_value, found_of, is_simple, is_simple_and_free, kind_of, matches_of, rows_of}
 use Rattle.clap.specs.declared.error.Error.{Error}

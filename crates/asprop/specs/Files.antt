@@ -2,7 +2,7 @@
 use Rattle.std.specs.Prelude.{ℕ, ◌≡◌, List, [], Option, Some, None, Result, Ok, Err}
 use Rattle.std.specs.Io.KnownBytes.{Keeps}
 use Rattle.asprop.specs.Words.{Form, name_by}
-use Rattle.asprop.specs.Task.{Task, Reads, task_of_form}
+use Rattle.asprop.specs.Task.{Task, Reads, asked}
 use Rattle.asprop.specs.declared.types.File.{File}
 use Rattle.asprop.specs.declared.types.Fault.{Fault}
 use Rattle.asprop.specs.declared.types.Stop.{Stop}
@@ -39,8 +39,14 @@ pub record ReadsTo {X A : Type 0} (held : Option (List ℕ)) (sound rose : Type 
   pub is_read : IsRead held sound rose read
   pub finds : Finds view result (value read)
 
--- The files were read under the names of the form, and what was found is the task of what was read.
+-- One file was read under its name, if it has one, and what was found is the value of what was read.
+pub record ReadsAs {X A : Type 0} (holds : List ℕ → Option (List ℕ)) (sound : List ℕ → Type 0) (rose : Type 0) (name : Option (List ℕ)) (view : X → A) (result : Result X Stop) (value : Option (List ℕ) → Result A Fault) : Type 0 where
+  pub read : Option (List ℕ)
+  pub is_read : IsReadAs holds sound rose name read
+  pub finds : Finds view result (value read)
+
+-- The files were read under the names of the form, and what was found is what they ask for.
 pub record Prepares {X : Type 0} (holds : List ℕ → Option (List ℕ)) (sound : List ℕ → Type 0) (rose : Type 0) (form : Option Form) (view : X → Task) (result : Result X Stop) : Type 0 where
   pub reads : Reads
   pub are_read : AreReads holds sound rose form reads
-  pub finds : Finds view result (task_of_form form reads)
+  pub finds : Finds view result (asked form reads)

@@ -1,7 +1,7 @@
-pub mod World
 pub mod Command
 pub mod Words
 pub mod Task
+pub mod Refusals
 pub mod Told
 pub mod Texts
 pub mod Files
@@ -9,4 +9,3 @@ pub mod Written
 pub mod Ran
 pub mod Statuses
 pub mod Seen
-pub mod Seeds

@@ -3,10 +3,9 @@ use Rattle.std.specs.Prelude.{ℕ, ◌≡◌, ◌⊎◌, Bool, true, false, List
 use Rattle.io_edge.specs.Bytes.{Appends, AppendsFront}
 use Rattle.as_graph.specs.Topology.{what}
 use Rattle.cycle_check.specs.Cycles.{IsCycleFromLowest}
-use Rattle.asprop.specs.World.{World, topology}
+use Rattle.sim_core.specs.World.{World, HasCycle, topology}
 use Rattle.asprop.specs.Words.{Form, form_of}
 use Rattle.asprop.specs.Task.{Task, Reads, task_of, task_of_form}
-use Rattle.asprop.specs.Told.{HasCycle}
 use Rattle.asprop.specs.Texts.{status_of, fault_text, message, cycle_text}
 use Rattle.asprop.specs.Files.{AreReads}
 use Rattle.asprop.specs.Written.{WroteAll, WroteWhole, WroteFront}

@@ -1,8 +1,8 @@
 -- Which status comes when.
 use Rattle.std.specs.Prelude.{ℕ, ◌≡◌, ◌⊎◌, List, [], Option, Some, None, Result, Ok, Err}
-use Rattle.asprop.specs.Words.{Form, script_form, origin_form, form_of, name_in}
+use Rattle.asprop.specs.Words.{form_of, name_in}
 use Rattle.asprop.specs.Task.{Task, task_of}
-use Rattle.asprop.specs.Told.{HasCycle}
+use Rattle.sim_core.specs.World.{HasCycle}
 use Rattle.asprop.specs.Ran.{Ends}
 use Rattle.asprop.specs.declared.types.File.{File}
 use Rattle.asprop.specs.declared.types.Fault.{Fault}
@@ -49,16 +49,10 @@ abbrev pub IsComplete : (List ℕ → Option (List ℕ)) → (List ℕ → Type 
 IsComplete holds sound rose words s out_rose =
     (files : File → List ℕ) → AreTold holds words files → NoFault sound rose words → (out_rose → ⊥) → HasTask (task_of words (λ file. Some (files file))) → Succeeds s
 
--- there is no form, or one that isn't answered yet
-abbrev pub IsUnanswered : Option Form → Type 0
-IsUnanswered None = Unit {0}
-IsUnanswered (Some (script_form rel vrps scenario script)) = Unit {0}
-IsUnanswered (Some (origin_form rel origin)) = ⊥
-
--- Usage comes where the words have no form, or one that isn't answered yet, and there nothing else but want of memory.
+-- Usage comes where the words have no form, and there nothing else but want of memory.
 pub record UsageRow (words : List (List ℕ)) (s : Status) : Type 0 where
-  pub only : s ≡ status.Usage → IsUnanswered (form_of words)
-  pub there : IsUnanswered (form_of words) → (s ≡ status.Usage) ⊎ (s ≡ status.NoMemory)
+  pub only : s ≡ status.Usage → form_of words ≡ None
+  pub there : form_of words ≡ None → (s ≡ status.Usage) ⊎ (s ≡ status.NoMemory)
 
 -- a file that the words name wasn't sound
 abbrev pub NamesUnsound : (List ℕ → Type 0) → List (List ℕ) → Type 0

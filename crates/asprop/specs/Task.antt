@@ -1,77 +1,154 @@
--- What the words and the files ask for: a task, or the first fault.
-use Rattle.std.specs.Prelude.{ℕ, nat_lt, List, [], ◌∷◌, length, Option, Some, None, Result, Ok, Err, if◌then◌else◌, Bool, false}
-use Rattle.std.specs.FinMap as fin
+-- The task that the words and the files ask for, or the first fault.
+use Rattle.std.specs.Prelude.{ℕ, ◌≡◌, Bool, true, false, nat_lt, List, [], ◌∷◌, length, Option, None, Some, Result, Ok, Err, if◌then◌else◌}
 use Rattle.net_names.specs.Links.{LinkMap}
 use Rattle.net_names.specs.Prefixes.{PrefixValue}
 use Rattle.net_names.specs.declared.addresses.Family.TheVariants.{V4}
 use Rattle.caida_reader.specs.Value.{links_of}
-use Rattle.caida_reader.specs.declared.errors.RelError.{RelError}
 use Rattle.as_graph.specs.Topology.{as_count}
-use Rattle.stability_laws.specs.Rounds.{announcement_cmp}
-use Rattle.asprop.specs.World.{World, topology}
-use Rattle.asprop.specs.Words.{Form, origin_form, script_form, form_of}
+use Rattle.scenario_text.specs.Scenarios.{ScenarioValue, nothing}
+use Rattle.scenario_text.specs.Readings.{scenario_of_bytes}
+use Rattle.scenario_text.specs.LineValues.{LineValue}
+use Rattle.scenario_text.specs.Script.{script_of}
+use Rattle.scenario_text.specs.declared.acts.Act.{Act}
+use Rattle.scenario_text.specs.declared.acts.Act.TheVariants as act
+use Rattle.scenario_text.specs.declared.acts.Query.TheVariants as query
+use Rattle.scenario_text.specs.declared.places.Member.{Member}
+use Rattle.scenario_text.specs.declared.places.Member.TheVariants.{Policies, Leaks, Watch}
+use Rattle.scenario_text.specs.declared.script.ScriptError.TheVariants as script
+use Rattle.sim_core.specs.World.{World, topology}
+use Rattle.sim_core.specs.Loaded.{world_of}
+use Rattle.asprop.specs.Words.{Form, script_form, origin_form, form_of}
 use Rattle.asprop.specs.declared.types.File.{File}
-use Rattle.asprop.specs.declared.types.File.TheVariants.{Relations}
+use Rattle.asprop.specs.declared.types.File.TheVariants as file
 use Rattle.asprop.specs.declared.types.Fault.{Fault}
 use Rattle.asprop.specs.declared.types.Fault.TheVariants as fault
-use Rattle.asprop.specs.declared.types.Line.{Line}
 
--- a world, the lines that are answered in it one after the other, and whether each answer has a head line
+-- a world, the lines that are answered in it one after the other, and whether each answer has a head line (own rule)
 pub record Task : Type 0 where
   pub world : World
-  pub lines : List Line
+  pub lines : List LineValue
   pub heads : Bool
 
--- what was read of each file: its bytes, or nothing where a read failed
+-- what was read of each file: its bytes, or nothing where a read failed (own rule)
 abbrev pub Reads : Type 0
 Reads = File → Option (List ℕ)
 
--- the value of the first step goes into the second, and a fault of the first is the fault of both
+-- the value of the first step goes into the second, and a fault of the first is the fault of both (own rule)
 infixl 10 ◌>>=◌
 abbrev pub ◌>>=◌ : {A B : Type 0} → Result A Fault → (A → Result B Fault) → Result B Fault
 (Ok x) >>= f = f x
 (Err e) >>= f = Err e
 
--- the file's bytes, which are at most so many
-abbrev pub bytes_of : File → ℕ → Option (List ℕ) → Result (List ℕ) Fault
-bytes_of file limit None = Err (fault.Unread file)
-bytes_of file limit (Some bytes) = if nat_lt limit (length bytes) then Err (fault.TooLong file) else Ok bytes
+-- the most bytes of a file (own rule)
+abbrev pub most_bytes : File → ℕ
+most_bytes file.Relations = 268435456
+most_bytes file.Scenario = 16777216
+most_bytes file.Script = 16777216
 
--- the links that were read, or their fault as a fault of the task
-abbrev pub links_or_fault : Result LinkMap RelError → Result LinkMap Fault
-links_or_fault (Ok links) = Ok links
-links_or_fault (Err e) = Err (fault.Relation e)
+-- the file's bytes, where they are no more than it may have (own rule)
+abbrev pub bytes_of : File → Option (List ℕ) → Result (List ℕ) Fault
+bytes_of which None = Err (fault.Unread which)
+bytes_of which (Some bytes) = if nat_lt (most_bytes which) (length bytes) then Err (fault.TooLong which) else Ok bytes
 
--- the links of the relationship file, by what was read of it; it has at most 268435456 bytes
+-- the value that was read, or its fault as one of the task (own rule)
+abbrev pub or_fault : {A E : Type 0} → (E → Fault) → Result A E → Result A Fault
+or_fault as_fault (Ok x) = Ok x
+or_fault as_fault (Err e) = Err (as_fault e)
+
+-- the value that the bytes of a file say (own rule)
+abbrev pub read_as : {A E : Type 0} → File → (E → Fault) → (List ℕ → Result A E) → Option (List ℕ) → Result A Fault
+read_as which as_fault value read = bytes_of which read >>= λ bytes. or_fault as_fault (value bytes)
+
+-- the links of the relationship file (CAIDA AS Relationships, serial-1)
 abbrev pub relations : Option (List ℕ) → Result LinkMap Fault
-relations read = bytes_of Relations 268435456 read >>= λ bytes. links_or_fault (links_of bytes)
+relations = read_as file.Relations fault.Relation links_of
 
--- the prefix that holds every IPv4 address, 0.0.0.0/0
+-- the first member of a scenario that names something whose meaning is not built yet: policies, leakers or watched addresses (own rule)
+abbrev pub later_in : ScenarioValue → Option Member
+later_in s = elim s.policies [
+  | (p ∷ ps) ↦ Some Policies
+  | [] ↦ elim s.leaks [ (leakers ∷ lists) ↦ Some Leaks | [] ↦ elim s.watch [ (addr ∷ addrs) ↦ Some Watch | [] ↦ None ] ]
+]
+
+-- the scenario, if it names nothing whose meaning is not built yet (own rule)
+abbrev pub unless_later : Option Member → ScenarioValue → Result ScenarioValue Fault
+unless_later None s = Ok s
+unless_later (Some member) s = Err (fault.Later member)
+
+abbrev pub without_later : ScenarioValue → Result ScenarioValue Fault
+without_later s = unless_later (later_in s) s
+
+-- the scenario of the file of this name; without a name it is the empty one (own rule)
+abbrev pub scenario_by : Option (List ℕ) → Option (List ℕ) → Result ScenarioValue Fault
+scenario_by None read = Ok nothing
+scenario_by (Some name) read = read_as file.Scenario fault.Scenario scenario_of_bytes read >>= without_later
+
+-- what is asked is answered; the other lines are not built yet (own rule)
+abbrev pub is_answered : Act → Bool
+is_answered (act.Query (query.Routes round prefix)) = true
+is_answered (act.Query (query.Route round prefix asn)) = true
+is_answered _ = false
+
+-- the number of the first line that isn't answered (own rule)
+abbrev pub first_unanswered : List LineValue → Option ℕ
+first_unanswered [] = None
+first_unanswered (line ∷ lines) = if is_answered line.act then first_unanswered lines else Some line.number
+
+-- the lines, if all of them are answered; the first that isn't counts as unreadable (own rule)
+abbrev pub unless_unanswered : Option ℕ → List LineValue → Result (List LineValue) Fault
+unless_unanswered None lines = Ok lines
+unless_unanswered (Some number) lines = Err (fault.Script (script.Unreadable number))
+
+abbrev pub all_answered : List LineValue → Result (List LineValue) Fault
+all_answered lines = unless_unanswered (first_unanswered lines) lines
+
+-- each of the lines is answered (own rule)
+abbrev pub AreAnswered : List LineValue → Type 0
+AreAnswered lines = first_unanswered lines ≡ None
+
+-- the lines of the script (own format)
+abbrev pub script_lines : Option (List ℕ) → Result (List LineValue) Fault
+script_lines read = read_as file.Script fault.Script script_of read >>= all_answered
+
+-- the prefix that holds every IPv4 address, 0.0.0.0/0 (RFC 4632, section 3.1)
 abbrev pub all_addresses : PrefixValue
 all_addresses = record { family = V4; addr = 0; len = 0 }
 
--- the AS announces 0.0.0.0/0 with its own number as the path, and nobody else announces anything
-abbrev pub announced_by : ℕ → fin.FinMap announcement_cmp (List ℕ)
-announced_by origin = fin.insert fin.empty (all_addresses, origin) (origin ∷ [])
+-- the AS announces 0.0.0.0/0 with its own number as the path, and there is nothing else (own rule)
+abbrev pub announced_by : ℕ → ScenarioValue
+announced_by origin = record nothing { announcements = record { prefix = all_addresses; asn = origin; path = origin ∷ [] } ∷ [] }
 
--- the routes of all ASes to one origin: one line without a head line
+-- the line that asks for the routes of 0.0.0.0/0 in round 1 (own rule)
+abbrev pub origin_line : LineValue
+origin_line = record { number = 1; act = act.Query (query.Routes 1 all_addresses) }
+
+-- the routes of all ASes to one origin: one line without a head line (own rule)
 abbrev pub origin_task : LinkMap → ℕ → Task
 origin_task links origin = record {
-  world = record { links = links; announced = announced_by origin };
-  lines = record { number = 1; prefix = all_addresses } ∷ [];
+  world = world_of links (announced_by origin);
+  lines = origin_line ∷ [];
   heads = false;
 }
 
--- the task, if its world has at most 150000 ASes
+-- the answers to a script, with a head line each (own rule)
+abbrev pub script_task : LinkMap → ScenarioValue → List LineValue → Task
+script_task links scenario lines = record { world = world_of links scenario; lines = lines; heads = true }
+
+-- what the form and the files ask for; words without a form are the first fault (own rule)
+abbrev pub asked : Option Form → Reads → Result Task Fault
+asked None reads = Err fault.Usage
+asked (Some (origin_form rel origin)) reads = relations (reads file.Relations) >>= λ links. Ok (origin_task links origin)
+asked (Some (script_form rel scenario script)) reads =
+    relations (reads file.Relations) >>= λ links. scenario_by scenario (reads file.Scenario) >>= λ plan. script_lines (reads file.Script) >>= λ lines. Ok (script_task links plan lines)
+
+-- the task, if its world has at most 150000 ASes (own rule)
 abbrev pub within_limits : Task → Result Task Fault
 within_limits task = if nat_lt 150000 (as_count (topology task.world)) then Err fault.TooManyAses else Ok task
 
--- the task of a form and of what was read of the files; words without a form are the first fault, and a script is one too as long as none is answered
+-- the task of a form and of what was read of the files (own rule)
 abbrev pub task_of_form : Option Form → Reads → Result Task Fault
-task_of_form None reads = Err fault.Usage
-task_of_form (Some (script_form rel vrps scenario script)) reads = Err fault.Usage
-task_of_form (Some (origin_form rel origin)) reads = relations (reads Relations) >>= λ links. within_limits (origin_task links origin)
+task_of_form form reads = asked form reads >>= within_limits
 
--- the task of the words and of what was read of the files, or the first fault in the order in which they are judged
+-- the task of the words and of what was read of the files, or the first fault in the order in which they are judged (own rule)
 abbrev pub task_of : List (List ℕ) → Reads → Result Task Fault
 task_of words reads = task_of_form (form_of words) reads

@@ -2,10 +2,18 @@
 use Rattle.std.specs.Prelude.{ℕ, List, [], ◌∷◌, ◌++◌, codes, Option, unwrap_or, decimal}
 use Rattle.caida_reader.specs.declared.errors.RelError.{RelError}
 use Rattle.caida_reader.specs.declared.errors.RelError.TheVariants as rel
+use Rattle.scenario_text.specs.Places.{in_member}
+use Rattle.scenario_text.specs.PlaceTexts.{place_text}
+use Rattle.scenario_text.specs.declared.faults.LimitOf.{LimitOf}
+use Rattle.scenario_text.specs.declared.faults.LimitOf.TheVariants as limit
+use Rattle.scenario_text.specs.declared.faults.ScenarioError.{ScenarioError}
+use Rattle.scenario_text.specs.declared.faults.ScenarioError.TheVariants as scenario
+use Rattle.scenario_text.specs.declared.script.ScriptError.{ScriptError}
+use Rattle.scenario_text.specs.declared.script.ScriptError.TheVariants as script
 use Rattle.reports.specs.Rows.{numbers_text}
 use Rattle.asprop.specs.Words.{Form, name_by}
 use Rattle.asprop.specs.declared.types.File.{File}
-use Rattle.asprop.specs.declared.types.File.TheVariants.{Relations}
+use Rattle.asprop.specs.declared.types.File.TheVariants as file
 use Rattle.asprop.specs.declared.types.Fault.{Fault}
 use Rattle.asprop.specs.declared.types.Fault.TheVariants as fault
 use Rattle.asprop.specs.declared.types.Status.{Status}
@@ -36,12 +44,45 @@ rel_text (rel.SelfLink line) = codes "line " ++ (decimal line ++ codes ": an AS 
 rel_text (rel.Conflict line earlier) = codes "line " ++ (decimal line ++ (codes ": conflicts with line " ++ decimal earlier))
 rel_text (rel.TooManyLinks line) = codes "line " ++ (decimal line ++ codes ": more than 1500000 links")
 
+-- the limit of a scenario that is passed (own format)
+abbrev pub limit_text : LimitOf → List ℕ
+limit_text limit.Announcements = codes "more than 64 announcements"
+limit_text limit.Prefixes = codes "more than 32 prefixes"
+limit_text limit.Path = codes "more than 64 numbers in a path"
+limit_text limit.Rounds = codes "more than 2 rounds"
+limit_text limit.Leakers = codes "more than 64 leakers in a round"
+limit_text limit.Watch = codes "more than 16 watched addresses"
+
+-- the fault of a scenario and its place (own format)
+abbrev pub scenario_text : ScenarioError → List ℕ
+scenario_text scenario.Memory = []
+scenario_text scenario.NotJson = codes "not JSON"
+scenario_text (scenario.Shape place) = place_text place ++ codes ": wrong shape"
+scenario_text (scenario.Value place) = place_text place ++ codes ": bad value"
+scenario_text (scenario.Twice place) = place_text place ++ codes ": named twice"
+scenario_text (scenario.Limit which) = limit_text which
+
+-- the fault of a script and its line (own format)
+abbrev pub script_text : ScriptError → List ℕ
+script_text script.Memory = []
+script_text (script.Unreadable line) = codes "line " ++ (decimal line ++ codes ": unreadable")
+script_text (script.TooMany line) = codes "line " ++ (decimal line ++ codes ": more than 100000 commands")
+
+-- a file is longer than it may be (own format)
+abbrev pub length_text : File → List ℕ
+length_text file.Relations = codes "more than 268435456 bytes"
+length_text file.Scenario = codes "more than 16777216 bytes"
+length_text file.Script = codes "more than 16777216 bytes"
+
 -- the text for a fault of the words and the files (own format)
 abbrev pub fault_text : Option Form → Fault → List ℕ
 fault_text form fault.Usage = usage
-fault_text form (fault.Unread file) = of_file (shown form file) (codes "read fault")
-fault_text form (fault.TooLong file) = of_file (shown form file) (codes "more than 268435456 bytes")
-fault_text form (fault.Relation e) = of_file (shown form Relations) (rel_text e)
+fault_text form (fault.Unread which) = of_file (shown form which) (codes "read fault")
+fault_text form (fault.TooLong which) = of_file (shown form which) (length_text which)
+fault_text form (fault.Relation e) = of_file (shown form file.Relations) (rel_text e)
+fault_text form (fault.Scenario e) = of_file (shown form file.Scenario) (scenario_text e)
+fault_text form (fault.Later member) = of_file (shown form file.Scenario) (place_text (in_member member) ++ codes ": not built yet")
+fault_text form (fault.Script e) = of_file (shown form file.Script) (script_text e)
 fault_text form fault.TooManyAses = message (codes "more than 150000 ASes")
 
 -- a fault of a relationship file is bad input, but for a passed limit (own rule)
@@ -49,12 +90,25 @@ abbrev pub rel_status : RelError → Status
 rel_status (rel.TooManyLinks line) = status.TooLarge
 rel_status _ = status.BadInput
 
+-- a fault of a scenario is bad input, but for a passed limit (own rule)
+abbrev pub scenario_status : ScenarioError → Status
+scenario_status (scenario.Limit which) = status.TooLarge
+scenario_status _ = status.BadInput
+
+-- a fault of a script is bad input, but for a passed limit (own rule)
+abbrev pub script_status : ScriptError → Status
+script_status (script.TooMany line) = status.TooLarge
+script_status _ = status.BadInput
+
 -- the status for a fault of the words and the files (own rule)
 abbrev pub status_of : Fault → Status
 status_of fault.Usage = status.Usage
-status_of (fault.Unread file) = status.ReadFault
-status_of (fault.TooLong file) = status.TooLarge
+status_of (fault.Unread which) = status.ReadFault
+status_of (fault.TooLong which) = status.TooLarge
 status_of (fault.Relation e) = rel_status e
+status_of (fault.Scenario e) = scenario_status e
+status_of (fault.Later member) = status.BadInput
+status_of (fault.Script e) = script_status e
 status_of fault.TooManyAses = status.TooLarge
 
 -- the text for a provider cycle: its numbers, the lowest first (own format)

@@ -1,51 +1,54 @@
 -- What is written for a task.
-use Rattle.std.specs.Prelude.{◌≡◌, ◌||◌, ℕ, Bool, false, Option, List, [], ◌∷◌, ◌++◌, codes, if◌then◌else◌, decimal}
-use Rattle.net_names.specs.Prefixes.{PrefixValue}
-use Rattle.as_graph.specs.Topology.{what}
-use Rattle.as_graph.specs.Hierarchy.{IsProviderCycle}
-use Rattle.stability_laws.specs.declared.entry.Entry.{Entry}
-use Rattle.stability_laws.specs.Stable.{IsStable}
-use Rattle.reports.specs.Rows.{IsTable}
-use Rattle.asprop.specs.World.{World, topology, setting_of, seeds_of}
-use Rattle.asprop.specs.declared.types.Line.{Line}
+use Rattle.std.specs.Prelude.{◌≡◌, ◌||◌, ℕ, Bool, true, false, Option, Some, None, List, [], ◌∷◌, ◌++◌, codes, if◌then◌else◌, decimal}
+use Rattle.scenario_text.specs.LineValues.{LineValue}
+use Rattle.scenario_text.specs.declared.acts.Act.{Act}
+use Rattle.scenario_text.specs.declared.acts.Act.TheVariants as act
+use Rattle.scenario_text.specs.declared.acts.Query.{Query}
+use Rattle.sim_core.specs.World.{World}
+use Rattle.sim_core.specs.Families.{Family, IsOneFamily}
+use Rattle.sim_core.specs.Answers.{IsAnswer, refusal_of}
+use Rattle.sim_core.specs.declared.errors.QueryError.{QueryError}
+use Rattle.asprop.specs.Refusals.{refusal_text}
 
--- the routing is stable for what the ASes announce of the prefix, and no other routing is
-pub record IsOneRouting (w : World) (prefix : PrefixValue) (routing : ℕ → Option Entry) : Type 0 where
-  pub stable : IsStable (setting_of w prefix) (seeds_of w prefix) routing
-  pub only : (other : ℕ → Option Entry) → IsStable (setting_of w prefix) (seeds_of w prefix) other → (a : ℕ) → other a ≡ routing a
+-- the text is the answer, or where there is a reason to refuse the text of the refusal (own format)
+abbrev pub IsReply : World → Family → Query → Option QueryError → List ℕ → Bool → Type 0
+IsReply w routings q None text refused = IsAnswer w routings q text × (refused ≡ false)
+IsReply w routings q (Some e) text refused = (text ≡ refusal_text e) × (refused ≡ true)
 
--- the text is the table of the one stable routing of the prefix
-pub record Routes (w : World) (prefix : PrefixValue) (text : List ℕ) : Type 0 where
-  pub routing : ℕ → Option Entry
-  pub one : IsOneRouting w prefix routing
-  pub table : IsTable (setting_of w prefix).has routing text
+-- the reply to a query was appended (own format)
+pub record AppendsReply (w : World) (routings : Family) (q : Query) (refused : Bool) (old new : List ℕ) : Type 0 where
+  pub text : List ℕ
+  pub reply : IsReply w routings q (refusal_of w q) text refused
+  pub appended : new ≡ old ++ text
 
--- the text answers the line: it is the prefix's table and no refusal, and the world stays as it is
-pub record Answers (w : World) (line : Line) (text : List ℕ) (refused : Bool) (after : World) : Type 0 where
-  pub routes : Routes w line.prefix text
-  pub accepted : refused ≡ false
+-- the text is what is told for what a line asks; an edit has no text yet (own format)
+abbrev pub Tells : World → Family → Act → List ℕ → Bool → Type 0
+Tells w routings (act.Query q) text refused = IsReply w routings q (refusal_of w q) text refused
+Tells w routings (act.Edit e) text refused = ⊥
+
+-- the text answers the line by the one and only stable routings of the world's rounds, and the world stays as it is (Gao and Rexford 2001)
+pub record Answers (w : World) (line : LineValue) (text : List ℕ) (refused : Bool) (after : World) : Type 0 where
+  pub routings : Family
+  pub one : IsOneFamily w routings
+  pub told : Tells w routings line.act text refused
   pub stays : after ≡ w
-
--- there is a provider cycle among the links (Gao and Rexford 2001, the hierarchy assumption)
-abbrev pub HasCycle : World → Type 0
-HasCycle w = (cycle : List ℕ) × IsProviderCycle (what (topology w)) cycle
 
 -- the head line of an answer: `# ` and the line's number (own format)
 abbrev pub head_line : ℕ → List ℕ
 head_line number = codes "# " ++ (decimal number ++ 10 ∷ [])
 
--- a head line, if there are head lines
-abbrev pub head : Bool → Line → List ℕ
+-- a head line, if there are head lines (own format)
+abbrev pub head : Bool → LineValue → List ℕ
 head heads line = if heads then head_line line.number else []
 
--- a head line, if there are head lines, and the answer
-pub record Answered (heads : Bool) (w : World) (line : Line) (text : List ℕ) (refused : Bool) (after : World) : Type 0 where
+-- a head line, if there are head lines, and the answer (own format)
+pub record Answered (heads : Bool) (w : World) (line : LineValue) (text : List ℕ) (refused : Bool) (after : World) : Type 0 where
   pub answer : List ℕ
   pub answers : Answers w line answer refused after
   pub text_is : text ≡ head heads line ++ answer
 
--- the text answers the lines one after the other, each in the world that the lines before it leave; `refused` says whether an answer is a refusal
-abbrev pub Told : Bool → World → List Line → List ℕ → Bool → Type 0
+-- the text answers the lines one after the other, each in the world that the lines before it leave; `refused` says whether an answer is a refusal (own format)
+abbrev pub Told : Bool → World → List LineValue → List ℕ → Bool → Type 0
 Told heads w [] text refused = (text ≡ []) × (refused ≡ false)
 Told heads w (line ∷ lines) text refused =
     (front rest : List ℕ) × (first others : Bool) × (after : World)

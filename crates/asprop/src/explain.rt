@@ -1,10 +1,11 @@
 //! What is said of a fault.
 ghost use Rattle.std.specs.Prelude.{◌≡◌, ◌++◌, IfOk, option_map, string_bytes};
 ghost use Rattle.io_edge.specs.Faults.{Rose};
-ghost use Rattle.asprop.specs.Texts.{cycle_text, fault_text, rel_text, shown, status_of};
+ghost use Rattle.asprop.specs.Texts.{cycle_text, fault_text, shown, status_of};
 ghost use Rattle.asprop.specs.Ran.{Explained, Reports};
 ghost use Rattle.asprop.specs.Words.{form_seen};
 
+use crate::fault_texts::{length_text, relation_text, scenario_text, script_text};
 use crate::types::{Fault, File, Status, Stop};
 use crate::words::WordForm;
 use caida_reader::RelError;
@@ -12,6 +13,7 @@ use cycle_check::Cycle;
 use io_edge::{Sink, write_all};
 use net_names::NoMemory;
 use reports::put_numbers;
+use scenario_text::{Place, ScenarioError, ScriptError, place_string};
 use std::alloc::{AllocError, Global};
 
 const USAGE: &str =
@@ -24,22 +26,6 @@ fn file_name<'a>(form: &Option<WordForm<'a>>, file: File) -> &'a str
     match form {
         Some(form) => form.name(file).unwrap_or(""),
         None => "",
-    }
-}
-
-fn relation_text(alloc: Global, error: RelError) -> Result<String, AllocError>
-    ensures { IfOk result (λ text. string_bytes text ≡ rel_text error) }
-{
-    match error {
-        RelError::Memory => Ok(String::new(alloc)),
-        RelError::Unreadable { line } => format!(in alloc; "line {line}: unreadable"),
-        RelError::SelfLink { line } => format!(in alloc; "line {line}: an AS linked to itself"),
-        RelError::Conflict { line, earlier } => {
-            format!(in alloc; "line {line}: conflicts with line {earlier}")
-        }
-        RelError::TooManyLinks { line } => format!(in alloc;
-            "line {line}: more than 1500000 links"
-        ),
     }
 }
 
@@ -58,11 +44,27 @@ fn fault_message(
         }
         Fault::TooLong(file) => {
             let name = file_name(form, file);
-            format!(in alloc; "asprop: {name}: more than 268435456 bytes\n")
+            let text = length_text(file);
+            format!(in alloc; "asprop: {name}: {text}\n")
         }
         Fault::Relation(error) => {
             let name = file_name(form, File::Relations);
             let text = relation_text(alloc, error)?;
+            format!(in alloc; "asprop: {name}: {text}\n")
+        }
+        Fault::Scenario(error) => {
+            let name = file_name(form, File::Scenario);
+            let text = scenario_text(alloc, error)?;
+            format!(in alloc; "asprop: {name}: {text}\n")
+        }
+        Fault::Later(member) => {
+            let name = file_name(form, File::Scenario);
+            let text = place_string(alloc, Place::member(member))?;
+            format!(in alloc; "asprop: {name}: {text}: not built yet\n")
+        }
+        Fault::Script(error) => {
+            let name = file_name(form, File::Script);
+            let text = script_text(alloc, error)?;
             format!(in alloc; "asprop: {name}: {text}\n")
         }
         Fault::TooManyAses => String::from_str(alloc, "asprop: more than 150000 ASes\n"),
@@ -93,6 +95,11 @@ fn fault_status(fault: Fault) -> Status
         Fault::TooLong(_) => Status::TooLarge,
         Fault::Relation(RelError::TooManyLinks { line: _ }) => Status::TooLarge,
         Fault::Relation(_) => Status::BadInput,
+        Fault::Scenario(ScenarioError::Limit { which: _ }) => Status::TooLarge,
+        Fault::Scenario(_) => Status::BadInput,
+        Fault::Later(_) => Status::BadInput,
+        Fault::Script(ScriptError::TooMany { line: _ }) => Status::TooLarge,
+        Fault::Script(_) => Status::BadInput,
         Fault::TooManyAses => Status::TooLarge,
     }
 }

@@ -1,14 +1,18 @@
-//! The routes of autonomous systems over the links of a relationship file.
+//! The routes of autonomous systems over the links of a relationship file, and answers to a script about them.
 //!
 //! `main` makes the real files and streams and the list of words, and ends with the status of `run`.
 //! What `run` reads, writes and answers is proved in its contract.
 #![tactic(auto)]
 
 mod answers;
+mod asking;
 mod command;
 mod explain;
-mod load;
+mod fault_texts;
+mod reading;
+mod refusals;
 mod run;
+mod stops;
 #[cfg(test)]
 mod tests;
 mod types;

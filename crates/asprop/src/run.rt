@@ -6,12 +6,12 @@ ghost use Rattle.asprop.specs.Statuses.{IsComplete, ReadFaultRow, RunsAsTold, Us
 ghost use Rattle.asprop.specs.Words.{form_seen};
 
 use crate::answers::answer_all;
+use crate::asking::{Asked, ask};
 use crate::explain::explain;
-use crate::load::prepare;
-use crate::types::{Status, Stop};
+use crate::types::{Fault, Status, Stop};
 use crate::words::{WordForm, read_words};
 use io_edge::{Inputs, Sink};
-use rank_order::{RankError, Ranks};
+use sim_core::{LoadError, Sim};
 use std::alloc::Global;
 
 // Reads the files that the form names, and writes the answers.
@@ -24,16 +24,21 @@ fn work<I: Inputs, O: Sink>(
     ensures { Worked (I.holds inputs.old) (I.is_sound inputs.old) (Rose (I.faults inputs.old) (I.faults inputs.new)) (option_map form_seen form.now) result
         (O.written out.old) (O.written out.new) (Rose (O.faults out.old) (O.faults out.new)) }
 {
-    let prepared = match prepare(alloc, form, inputs) {
-        Ok(prepared) => prepared,
+    let Asked {
+        links,
+        scenario,
+        lines,
+        heads,
+    } = match ask(alloc, form, inputs) {
+        Ok(asked) => asked,
         Err(stop) => return Err(stop),
     };
-    let ranks = match Ranks::build(alloc, &prepared.graph) {
-        Ok(ranks) => ranks,
-        Err(RankError::Memory) => return Err(Stop::Memory),
-        Err(RankError::ProviderCycle(cycle)) => return Err(Stop::Cycle(cycle)),
-    };
-    answer_all(alloc, &prepared, &ranks, &prepared.lines, out)
+    match Sim::load(alloc, links, scenario) {
+        Ok(sim) => answer_all(alloc, &sim, heads, lines.as_slice(), out),
+        Err(LoadError::Memory) => Err(Stop::Memory),
+        Err(LoadError::TooManyAses) => Err(Stop::Fault(Fault::TooManyAses)),
+        Err(LoadError::ProviderCycle(cycle)) => Err(Stop::Cycle(cycle)),
+    }
 }
 
 // Reads the words once: their form says which files are read, and how a fault names them.
@@ -62,8 +67,9 @@ fn run_to_end<I: Inputs, O: Sink, E: Sink>(
 /// Reads the words and the files that they name, writes the answers to `out`, and says on `err` why it stopped.
 ///
 /// The first word is the program's name. The order of the work is: the words, the relationship file,
-/// the number of ASes, the provider cycle, the answers, line by line, each made whole before it is
-/// written. Nothing is written to `out` before all files have been read and judged.
+/// the scenario, the script, the number of ASes, the provider cycle, the answers, line by
+/// line, each made whole before it is written. Nothing is written to `out` before all files have been
+/// read and judged.
 pub fn run<I: Inputs, O: Sink, E: Sink>(
     alloc: Global,
     words: &[String],

@@ -360,3 +360,191 @@ fn a_failing_fault_text_changes_nothing_else(rt: HostRuntime) -> Result<(), Fail
     assert_eq!(rt; left.out.bytes(), b"1|cus".as_slice());
     Ok(())
 }
+
+struct ScriptCase {
+    name: &'static str,
+    rel: &'static [u8],
+    scenario: &'static [u8],
+    script: &'static [u8],
+    status: Status,
+    out: &'static [u8],
+    err: &'static [u8],
+}
+
+const TWO_ANNOUNCERS: &[u8] =
+    b"{\"announcements\":[{\"prefix\":\"10.0.0.0/8\",\"as\":4},{\"prefix\":\"10.0.0.0/8\",\"as\":5}]}\n";
+
+const SCRIPT_CASES: [ScriptCase; 10] = [
+    ScriptCase {
+        name: "two-ases-announce-one-prefix",
+        rel: b"1|4|-1\n1|5|-1\n2|5|-1\n1|2|0\n",
+        scenario: TWO_ANNOUNCERS,
+        script: b"routes 1 10.0.0.0/8\n",
+        status: Status::Done,
+        out: b"# 1\n1|customer|1 4\n2|customer|2 5\n4|origin|4\n5|origin|5\n",
+        err: b"",
+    },
+    ScriptCase {
+        name: "table-queries-outside-the-world",
+        rel: b"1|4|-1\n1|5|-1\n2|5|-1\n1|2|0\n",
+        scenario: TWO_ANNOUNCERS,
+        script: b"routes 3 10.0.0.0/8\nroutes 1 11.0.0.0/8\nroute 1 10.0.0.0/8 9\n",
+        status: Status::SomeRefused,
+        out: b"# 1\nrefused unknown-round 3\n# 2\nrefused unknown-prefix 11.0.0.0/8\n# 3\nrefused unknown-as 9\n",
+        err: b"",
+    },
+    ScriptCase {
+        name: "numbers of lines count the skipped ones",
+        rel: b"1|4|-1\n",
+        scenario: TWO_ANNOUNCERS,
+        script: b"# first\n\nroute 1 10.0.0.0/8 1\r\n",
+        status: Status::Done,
+        out: b"# 3\n1|customer|1 4\n",
+        err: b"",
+    },
+    ScriptCase {
+        name: "announcement-named-twice",
+        rel: b"",
+        scenario: b"{\"announcements\":[{\"prefix\":\"10.0.0.0/8\",\"as\":4},{\"prefix\":\"10.0.0.0/8\",\"as\":4}]}",
+        script: b"",
+        status: Status::BadInput,
+        out: b"",
+        err: b"asprop: sc: announcements[1]: named twice\n",
+    },
+    ScriptCase {
+        name: "prefix-with-a-bit-past-its-length",
+        rel: b"",
+        scenario: b"{\"announcements\":[{\"prefix\":\"10.0.0.1/8\",\"as\":4}]}",
+        script: b"",
+        status: Status::BadInput,
+        out: b"",
+        err: b"asprop: sc: announcements[0].prefix: bad value\n",
+    },
+    ScriptCase {
+        name: "scenario-is-not-json",
+        rel: b"",
+        scenario: b"[",
+        script: b"",
+        status: Status::BadInput,
+        out: b"",
+        err: b"asprop: sc: not JSON\n",
+    },
+    ScriptCase {
+        name: "unknown-member-of-the-document",
+        rel: b"",
+        scenario: b"{\"announcements\":[],\"extra\":1}",
+        script: b"",
+        status: Status::BadInput,
+        out: b"",
+        err: b"asprop: sc: document: wrong shape\n",
+    },
+    ScriptCase {
+        name: "member-policies-not-there-yet",
+        rel: b"1|3|-1\n",
+        scenario: b"{\"announcements\":[],\"policies\":[{\"as\":5,\"policy\":\"plain\"}]}",
+        script: b"",
+        status: Status::BadInput,
+        out: b"",
+        err: b"asprop: sc: policies: not built yet\n",
+    },
+    ScriptCase {
+        name: "short-script-line-is-unreadable",
+        rel: b"",
+        scenario: TWO_ANNOUNCERS,
+        script: b"routes 1 10.0.0.0/8\nroute 1\n",
+        status: Status::BadInput,
+        out: b"",
+        err: b"asprop: cmds: line 2: unreadable\n",
+    },
+    ScriptCase {
+        name: "a line that isn't answered yet",
+        rel: b"",
+        scenario: TWO_ANNOUNCERS,
+        script: b"routes 1 10.0.0.0/8\npolicy 4 plain\n",
+        status: Status::BadInput,
+        out: b"",
+        err: b"asprop: cmds: line 2: unreadable\n",
+    },
+];
+
+// Runs the program over a relationship file, a scenario and a script, of which the call of this number
+// fails; 0 for none.
+fn run_script(
+    alloc: Global,
+    texts: &[&str],
+    case: &ScriptCase,
+    most: usize,
+    fails: u64,
+) -> Result<Left, Fail>
+    requires { 1 ≤ most }
+{
+    let mut inputs = MemInputs::new(alloc);
+    inputs.file("rel", case.rel)?;
+    inputs.file("sc", case.scenario)?;
+    inputs.file("cmds", case.script)?;
+    inputs.fail_at(fails)?;
+    inputs.most(most);
+    let mut out = MemSink::new(alloc, room(alloc)?);
+    let mut err = MemSink::new(alloc, room(alloc)?);
+    let all = words(alloc, texts)?;
+    let status = run(alloc, &all, &mut inputs, &mut out, &mut err);
+    Ok(Left { status, out, err })
+}
+
+const SCRIPT_WORDS: [&str; 6] = ["asprop", "rel", "--scenario", "sc", "--script", "cmds"];
+
+#[test]
+fn each_script_gives_its_answers_or_the_first_fault(rt: HostRuntime) -> Result<(), Fail> {
+    let alloc = rt.alloc();
+    for case in &SCRIPT_CASES {
+        for most in 1..4usize {
+            let left = run_script(alloc, &SCRIPT_WORDS, case, most, 0)?;
+            let name = case.name;
+            assert_eq!(rt; left.status, case.status, "{name}, {most} at a time");
+            assert_eq!(rt; left.out.bytes(), case.out, "{name}, {most} at a time");
+            assert_eq!(rt; left.err.bytes(), case.err, "{name}, {most} at a time");
+        }
+    }
+    Ok(())
+}
+
+#[test]
+fn a_file_that_is_not_named_is_empty(rt: HostRuntime) -> Result<(), Fail> {
+    let alloc = rt.alloc();
+    let case = &SCRIPT_CASES[1];
+    let left = run_script(alloc, &["asprop", "rel"], case, 64, 0)?;
+    assert_eq!(rt; left.status, Status::Done);
+    assert_eq!(rt; left.out.bytes(), b"".as_slice());
+    let left = run_script(alloc, &["asprop", "rel", "--scenario", "sc"], case, 64, 0)?;
+    assert_eq!(rt; left.status, Status::Done);
+    assert_eq!(rt; left.out.bytes(), b"".as_slice());
+    let left = run_script(alloc, &["asprop", "rel", "--script", "cmds"], case, 64, 0)?;
+    assert_eq!(rt; left.status, Status::SomeRefused);
+    assert_eq!(rt;
+        left.out.bytes(),
+        b"# 1\nrefused unknown-round 3\n# 2\nrefused unknown-prefix 11.0.0.0/8\n# 3\nrefused unknown-prefix 10.0.0.0/8\n".as_slice()
+    );
+    Ok(())
+}
+
+#[test]
+fn the_failing_read_names_its_file(rt: HostRuntime) -> Result<(), Fail> {
+    let alloc = rt.alloc();
+    let case = &SCRIPT_CASES[2];
+    // A `begin`, a `take` for the bytes and one at the end, for each file.
+    let texts: [&[u8]; 3] = [
+        b"asprop: rel: read fault\n",
+        b"asprop: sc: read fault\n",
+        b"asprop: cmds: read fault\n",
+    ];
+    for call in 1..10u64 {
+        let left = run_script(alloc, &SCRIPT_WORDS, case, 4096, call)?;
+        let text = texts[(call as usize - 1) / 3];
+        assert_eq!(rt; left.status, Status::ReadFault, "call {call}");
+        assert_eq!(rt; left.out.bytes(), b"".as_slice(), "call {call}");
+        assert_eq!(rt; left.err.bytes(), text, "call {call}");
+    }
+    let left = run_script(alloc, &SCRIPT_WORDS, case, 4096, 10)?;
+    assert_eq!(rt; left.status, Status::Done);
+    Ok(())
+}

@@ -1,15 +1,13 @@
 //! What a run is about.
 use caida_reader::RelError;
 use cycle_check::Cycle;
-use net_names::Prefix;
+use scenario_text::{Member, ScenarioError, ScriptError};
 
 /// The part that a file has in a run.
 #[derive(Clone, Copy, Debug, PartialEq, Eq)]
 pub enum File {
     /// The relationship file.
     Relations,
-    /// The file of payloads.
-    Payloads,
     /// The scenario.
     Scenario,
     /// The script.
@@ -27,15 +25,14 @@ pub enum Fault {
     TooLong(File),
     /// The relationship file has this fault.
     Relation(RelError),
+    /// The scenario has this fault.
+    Scenario(ScenarioError),
+    /// The scenario names something in this member, whose meaning is not built yet.
+    Later(Member),
+    /// The script has this fault.
+    Script(ScriptError),
     /// The world has more than 150,000 ASes.
     TooManyAses,
-}
-
-/// A line that asks for the table of a prefix, and its number.
-#[derive(Clone, Copy, Debug, PartialEq, Eq)]
-pub struct Line {
-    pub number: u64,
-    pub prefix: Prefix,
 }
 
 /// How a run ended. The number is the program's exit status.

@@ -13,11 +13,11 @@ struct Worded {
 const WORDED: [Worded; 33] = [
     Worded {
         words: &["asprop", "rel"],
-        form: r#"script "rel" None None None"#,
+        form: r#"script "rel" None None"#,
     },
     Worded {
         words: &["asprop", "rel", "--script", "cmds"],
-        form: r#"script "rel" None None Some("cmds")"#,
+        form: r#"script "rel" None Some("cmds")"#,
     },
     Worded {
         words: &[
@@ -29,31 +29,31 @@ const WORDED: [Worded; 33] = [
             "rel",
             "--vrps=v",
         ],
-        form: r#"script "rel" Some("v") Some("sc") Some("cmds")"#,
+        form: "usage",
     },
     Worded {
         words: &["asprop", "rel", "--script="],
-        form: r#"script "rel" None None Some("")"#,
+        form: r#"script "rel" None Some("")"#,
     },
     Worded {
         words: &["asprop", "rel", "--script", "-"],
-        form: r#"script "rel" None None Some("-")"#,
+        form: r#"script "rel" None Some("-")"#,
     },
     Worded {
         words: &["asprop", "--", "--help"],
-        form: r#"script "--help" None None None"#,
+        form: r#"script "--help" None None"#,
     },
     Worded {
         words: &["asprop", "-"],
-        form: r#"script "-" None None None"#,
+        form: r#"script "-" None None"#,
     },
     Worded {
         words: &["asprop", ""],
-        form: r#"script "" None None None"#,
+        form: r#"script "" None None"#,
     },
     Worded {
         words: &["asprop", "help"],
-        form: r#"script "help" None None None"#,
+        form: r#"script "help" None None"#,
     },
     Worded {
         words: &["asprop", "rel", "--origin", "4"],
@@ -159,11 +159,10 @@ fn form_text(alloc: Global, form: &Option<WordForm<'_>>) -> Result<String, Alloc
         Some(
             WordForm::Script {
                 rel,
-                vrps,
                 scenario,
                 script,
             },
-        ) => { format!(in alloc; "script {rel:?} {vrps:?} {scenario:?} {script:?}") }
+        ) => { format!(in alloc; "script {rel:?} {scenario:?} {script:?}") }
         Some(WordForm::Origin { rel, origin }) => {
             let number = origin.get();
             format!(in alloc; "origin {rel:?} {number}")

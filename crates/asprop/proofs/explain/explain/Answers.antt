@@ -1,4 +1,4 @@
-use Rattle.std.proofs.Common.{◌≡◌, ℕ, List, inl, inr, refl, sym, ◌∙◌, subst, option_map}
+use Rattle.std.proofs.Common.{ℕ, List, inl, inr, refl, sym, ◌∙◌, subst, option_map}
 use Rattle.io_edge.specs.Faults.{Rose}
 use Rattle.asprop.specs.Ran.{Explained, Reports}
 use Rattle.asprop.specs.Words.{form_seen}

@@ -1,4 +1,5 @@
-use Rattle.asprop.proofs.StatusLemmas.{as_told, complete, usage_row, read_row, write_row}
+use Rattle.asprop.proofs.StatusLemmas.{as_told, complete}
+use Rattle.asprop.proofs.StatusRows.{usage_row, read_row, write_row}
 use Rattle.asprop.proofs.run.run.Goals as goal
 
 pub returns-clause-told : goal.returns-clause-told

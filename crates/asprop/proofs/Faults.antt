@@ -1,0 +1,141 @@
+-- The faults of the words and the files.
+use Rattle.std.proofs.Common.{◌≡◌, ◌⊎◌, inl, inr, ℕ, List, Option, Some, None, Result, Ok, Err, refl, ap, subst, ◌∙◌, Bool, true, false, cond}
+use Rattle.caida_reader.specs.Value.{links_of}
+use Rattle.caida_reader.specs.declared.errors.RelError.{RelError}
+use Rattle.scenario_text.specs.Readings.{scenario_of_bytes}
+use Rattle.scenario_text.specs.Script.{script_of}
+use Rattle.caida_reader.specs.declared.errors.RelError.TheVariants as rel
+use Rattle.scenario_text.specs.Scenarios.{ScenarioValue}
+use Rattle.scenario_text.specs.LineValues.{LineValue}
+use Rattle.scenario_text.specs.declared.places.Member.{Member}
+use Rattle.scenario_text.specs.declared.faults.ScenarioError.{ScenarioError}
+use Rattle.scenario_text.specs.declared.faults.ScenarioError.TheVariants as scenario
+use Rattle.scenario_text.specs.declared.script.ScriptError.{ScriptError}
+use Rattle.scenario_text.specs.declared.script.ScriptError.TheVariants as script
+use Rattle.asprop.specs.Texts.{status_of}
+use Rattle.asprop.specs.Task.{Task, Reads, asked, task_of_form, origin_task, script_task, relations, scenario_by, script_lines, later_in, unless_later, without_later, first_unanswered, unless_unanswered, all_answered, read_as, or_fault, bytes_of, within_limits, ◌>>=◌}
+use Rattle.asprop.specs.Words.{Form, origin_form, script_form}
+use Rattle.asprop.specs.declared.types.File.{File}
+use Rattle.asprop.specs.declared.types.File.TheVariants as file
+use Rattle.asprop.specs.declared.types.Fault.{Fault}
+use Rattle.asprop.specs.declared.types.Fault.TheVariants as fault
+use Rattle.asprop.specs.declared.types.Status.{Status}
+use Rattle.asprop.specs.declared.types.Status.TheVariants as status
+
+bind_err : {A B : Type 0} (r : Result A Fault) (f : A → Result B Fault) (e : Fault) → (r >>= f) ≡ Err e → (r ≡ Err e) ⊎ ((x : A) × (r ≡ Ok x) × (f x ≡ Err e))
+bind_err (Ok x) f e h = inr (x, refl, h)
+bind_err (Err d) f e h = let is : d ≡ e = cc in inl (ap Err is)
+
+chosen_err : {A : Type 0} (b : Bool) (d e : Fault) (x : A) → cond b (Err d) (Ok x) ≡ Err e → d ≡ e
+chosen_err true d e x h = cc
+chosen_err false d e x h = cc
+
+-- a fault that is neither one of the words nor a failed read, and that no write makes
+pub record IsOther (f : Fault) : Type 0 where
+  pub usage : status.Usage ≡ status_of f → ⊥
+  pub read : status.ReadFault ≡ status_of f → ⊥
+  pub write : status.WriteFault ≡ status_of f → ⊥
+
+other : (f : Fault) (s : Status) → status_of f ≡ s → (status.Usage ≡ s → ⊥) → (status.ReadFault ≡ s → ⊥) → (status.WriteFault ≡ s → ⊥) → IsOther f
+other f s is no_usage no_read no_write = record { usage = λ h. no_usage (h ∙ is); read = λ h. no_read (h ∙ is); write = λ h. no_write (h ∙ is) }
+
+bad : (f : Fault) → status_of f ≡ status.BadInput → IsOther f
+bad f is = other f status.BadInput is (λ h. cc) (λ h. cc) (λ h. cc)
+
+large : (f : Fault) → status_of f ≡ status.TooLarge → IsOther f
+large f is = other f status.TooLarge is (λ h. cc) (λ h. cc) (λ h. cc)
+
+pub other_relation : (e : RelError) → IsOther (fault.Relation e)
+other_relation rel.Memory = bad _ refl
+other_relation (rel.Unreadable n) = bad _ refl
+other_relation (rel.SelfLink n) = bad _ refl
+other_relation (rel.Conflict n m) = bad _ refl
+other_relation (rel.TooManyLinks n) = large _ refl
+
+pub other_scenario : (e : ScenarioError) → IsOther (fault.Scenario e)
+other_scenario scenario.Memory = bad _ refl
+other_scenario scenario.NotJson = bad _ refl
+other_scenario (scenario.Shape place) = bad _ refl
+other_scenario (scenario.Value place) = bad _ refl
+other_scenario (scenario.Twice place) = bad _ refl
+other_scenario (scenario.Limit which) = large _ refl
+
+pub other_script : (e : ScriptError) → IsOther (fault.Script e)
+other_script script.Memory = bad _ refl
+other_script (script.Unreadable n) = bad _ refl
+other_script (script.TooMany n) = large _ refl
+
+-- why the words and the files give no task
+pub data Stopped (form : Option Form) (reads : Reads) : Fault → Type 0 where
+  no_form : form ≡ None → Stopped form reads fault.Usage
+  unread : (which : File) → reads which ≡ None → Stopped form reads (fault.Unread which)
+  by_value : (f : Fault) → IsOther f → Stopped form reads f
+
+module _ (form : Option Form) (reads : Reads) where
+  of_value : {A E : Type 0} (as_fault : E → Fault) → ((e : E) → IsOther (as_fault e)) → (r : Result A E) (e : Fault) → or_fault as_fault r ≡ Err e → Stopped form reads e
+  of_value as_fault others (Ok x) e h = cc
+  of_value as_fault others (Err d) e h = let is : as_fault d ≡ e = cc in subst (Stopped form reads) is (by_value (as_fault d) (others d))
+
+  of_bytes : (which : File) (read : Option (List ℕ)) → reads which ≡ read → (e : Fault) → bytes_of which read ≡ Err e → Stopped form reads e
+  of_bytes which None none e h = let is : fault.Unread which ≡ e = cc in subst (Stopped form reads) is (unread which none)
+  of_bytes which (Some bytes) some e h = subst (Stopped form reads) (chosen_err _ _ e bytes h) (by_value (fault.TooLong which) (large _ refl))
+
+  of_read : {A E : Type 0} (which : File) (as_fault : E → Fault) (value : List ℕ → Result A E) → ((e : E) → IsOther (as_fault e)) → (e : Fault) → read_as which as_fault value (reads which) ≡ Err e → Stopped form reads e
+  of_read which as_fault value others e h =
+      elim (bind_err (bytes_of which (reads which)) (λ bytes. or_fault as_fault (value bytes)) e h) [
+        | inl early ↦ of_bytes which (reads which) refl e early
+        | inr late ↦ of_value as_fault others (value late.0) e late.2
+      ]
+
+  of_member : (found : Option Member) (s : ScenarioValue) (e : Fault) → unless_later found s ≡ Err e → Stopped form reads e
+  of_member None s e h = cc
+  of_member (Some member) s e h = let is : fault.Later member ≡ e = cc in subst (Stopped form reads) is (by_value (fault.Later member) (bad _ refl))
+
+  of_scenario : (name : Option (List ℕ)) (e : Fault) → scenario_by name (reads file.Scenario) ≡ Err e → Stopped form reads e
+  of_scenario None e h = cc
+  of_scenario (Some name) e h =
+      elim (bind_err (read_as file.Scenario fault.Scenario scenario_of_bytes (reads file.Scenario)) without_later e h) [
+        | inl early ↦ of_read file.Scenario fault.Scenario scenario_of_bytes other_scenario e early
+        | inr late ↦ of_member (later_in late.0) late.0 e late.2
+      ]
+
+  of_unanswered : (found : Option ℕ) (lines : List LineValue) (e : Fault) → unless_unanswered found lines ≡ Err e → Stopped form reads e
+  of_unanswered None lines e h = cc
+  of_unanswered (Some number) lines e h = (let is : fault.Script (script.Unreadable number) ≡ e = cc in subst (Stopped form reads) is (by_value (fault.Script (script.Unreadable number)) (bad _ refl)))
+
+  of_lines : (e : Fault) → script_lines (reads file.Script) ≡ Err e → Stopped form reads e
+  of_lines e h =
+      elim (bind_err (read_as file.Script fault.Script script_of (reads file.Script)) all_answered e h) [
+        | inl early ↦ of_read file.Script fault.Script script_of other_script e early
+        | inr late ↦ of_unanswered (first_unanswered late.0) late.0 e late.2
+      ]
+
+  of_limits : (task : Task) (e : Fault) → within_limits task ≡ Err e → Stopped form reads e
+  of_limits task e h = subst (Stopped form reads) (chosen_err _ _ e task h) (by_value fault.TooManyAses (large _ refl))
+
+of_asked : (form : Option Form) (reads : Reads) (e : Fault) → asked form reads ≡ Err e → Stopped form reads e
+of_asked None reads e h = let is : fault.Usage ≡ e = cc in subst (Stopped None reads) is (no_form refl)
+of_asked (Some (origin_form rel origin)) reads e h =
+    elim (bind_err (relations (reads file.Relations)) (λ links. Ok (origin_task links origin)) e h) [
+      | inl early ↦ of_read _ reads file.Relations fault.Relation links_of other_relation e early
+      | inr late ↦ cc
+    ]
+of_asked (Some (script_form rel scenario script)) reads e h =
+    elim (bind_err (relations (reads file.Relations)) (λ links. scenario_by scenario (reads file.Scenario) >>= λ plan. script_lines (reads file.Script) >>= λ lines. Ok (script_task links plan lines)) e h) [
+      | inl early ↦ of_read _ reads file.Relations fault.Relation links_of other_relation e early
+      | inr links ↦ elim (bind_err (scenario_by scenario (reads file.Scenario)) (λ plan. script_lines (reads file.Script) >>= λ lines. Ok (script_task links.0 plan lines)) e links.2) [
+        | inl early ↦ of_scenario _ reads scenario e early
+        | inr plan ↦ elim (bind_err (script_lines (reads file.Script)) (λ lines. Ok (script_task links.0 plan.0 lines)) e plan.2) [
+          | inl early ↦ of_lines _ reads e early
+          | inr late ↦ cc
+        ]
+      ]
+    ]
+
+-- each fault of a task has its reason
+pub of_task : (form : Option Form) (reads : Reads) (e : Fault) → task_of_form form reads ≡ Err e → Stopped form reads e
+of_task form reads e h =
+    elim (bind_err (asked form reads) within_limits e h) [
+      | inl early ↦ of_asked form reads e early
+      | inr late ↦ of_limits form reads late.0 e late.2
+    ]

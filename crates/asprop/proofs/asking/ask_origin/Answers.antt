@@ -1,0 +1,17 @@
+use Rattle.std.proofs.Common.{Ok, Err, refl}
+use Rattle.net_names.specs.Links.{LinkMap}
+use Rattle.asprop.specs.declared.types.Stop.TheVariants as stop
+use Rattle.asprop.proofs.Preparing.{origin_stopped, origin_found}
+use Rattle.asprop.proofs.asking.ask_origin.Goals as goal
+
+pub returns-in-Err-clause-task : goal.returns-in-Err-clause-task
+returns-in-Err-clause-task g c = origin_stopped _ _ (λ (links : LinkMap). links) c.in-Err.stop c.in-Err.ensures.found
+
+pub returns-in_default-clause-task : goal.returns-in_default-clause-task
+returns-in_default-clause-task g c = origin_found _ _ (λ (links : LinkMap). links) c.in-Ok.links (Err stop.Memory) c.in-Ok.ensures.found tt
+
+pub returns-in_default-origin_lines-clause-task : goal.returns-in_default-origin_lines-clause-task
+returns-in_default-origin_lines-clause-task g c = origin_found _ _ (λ (links : LinkMap). links) c.in-Ok.links (Err stop.Memory) c.in-Ok.ensures.found tt
+
+pub returns-clause-task : goal.returns-clause-task
+returns-clause-task g c = origin_found _ _ (λ (links : LinkMap). links) c.in-Ok.links (Ok _) c.in-Ok.ensures.found (rw (c.in-Ok-origin_scenario.ensures, c.in-Ok-origin_lines.ensures) refl)

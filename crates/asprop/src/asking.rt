@@ -1,0 +1,148 @@
+//! From the form of the words and the files to what is asked.
+ghost use Rattle.std.specs.Prelude.{◌≡◌, ◌∷◌, [], IfOk, option_map, Some};
+ghost use Rattle.io_edge.specs.Faults.{Rose};
+ghost use Rattle.asprop.specs.Task.{AreAnswered, all_addresses, announced_by, origin_line};
+ghost use Rattle.asprop.specs.Files.{Prepares};
+ghost use Rattle.asprop.specs.Seen.{task_seen};
+ghost use Rattle.asprop.specs.Words.{form_seen, origin_form, script_form, text_seen};
+
+use crate::reading::{read_lines, read_plan, read_relations};
+use crate::types::{Fault, Stop};
+use crate::words::WordForm;
+use io_edge::Inputs;
+use net_names::{Asn, Family, Links, NoMemory, Path, Prefix};
+use scenario_text::{Act, Announcement, Line, Lines, Query, Scenario};
+use std::alloc::Global;
+
+/// The links and the scenario of a world, and the lines to be answered in it, with a
+/// head line each or without.
+#[derive(Drop)]
+pub struct Asked {
+    pub links: Links,
+    pub scenario: Scenario,
+    pub lines: Lines,
+    pub heads: bool,
+}
+
+// 0.0.0.0/0.
+fn all_v4_addresses() -> Prefix
+    ensures { result ≡ all_addresses }
+{
+    let Some(prefix) = Prefix::new(Family::V4, 0, 0) else {
+        unreachable!();
+    };
+    prefix
+}
+
+// The scenario in which an AS announces 0.0.0.0/0 by its own number.
+fn origin_scenario(alloc: Global, origin: Asn) -> Result<Scenario, NoMemory>
+    ensures { IfOk result (λ s. s ≡ announced_by origin) }
+{
+    let mut path = Path::new(alloc);
+    path.push(origin)?;
+    let mut scenario = Scenario::new(alloc);
+    scenario.announce(Announcement {
+        prefix: all_v4_addresses(),
+        asn: origin,
+        path,
+    })?;
+    Ok(scenario)
+}
+
+// The line that asks for the routes of 0.0.0.0/0.
+fn origin_lines(alloc: Global) -> Result<Lines, NoMemory>
+    ensures { IfOk result (λ lines. lines ≡ origin_line ∷ []) }
+{
+    let mut lines = Lines::new(alloc);
+    let prefix = all_v4_addresses();
+    lines.push(Line {
+        number: 1,
+        act: Act::Query(Query::Routes { round: 1, prefix }),
+    })?;
+    Ok(lines)
+}
+
+// The routes of all ASes to one origin, over the relationship file of this name.
+fn ask_origin<I: Inputs>(
+    alloc: Global,
+    rel: &str,
+    origin: Asn,
+    inputs: &mut I,
+) -> Result<Asked, Stop>
+    ensures task { Prepares (I.holds inputs.old) (I.is_sound inputs.old) (Rose (I.faults inputs.old) (I.faults inputs.new))
+        (Some (origin_form rel.now origin)) task_seen result }
+    ensures answered { IfOk result (λ asked. AreAnswered asked.lines) }
+{
+    let links = match read_relations(alloc, inputs, rel) {
+        Ok(links) => links,
+        Err(stop) => return Err(stop),
+    };
+    let Ok(scenario) = origin_scenario(alloc, origin) else {
+        return Err(Stop::Memory);
+    };
+    let Ok(lines) = origin_lines(alloc) else {
+        return Err(Stop::Memory);
+    };
+    Ok(Asked {
+        links,
+        scenario,
+        lines,
+        heads: false,
+    })
+}
+
+// The answers to a script, over the files of these names.
+fn ask_script<I: Inputs>(
+    alloc: Global,
+    rel: &str,
+    scenario: Option<&str>,
+    script: Option<&str>,
+    inputs: &mut I,
+) -> Result<Asked, Stop>
+    ensures task { Prepares (I.holds inputs.old) (I.is_sound inputs.old) (Rose (I.faults inputs.old) (I.faults inputs.new))
+        (Some (script_form rel.now (text_seen scenario.entry) (text_seen script.entry))) task_seen result }
+    ensures answered { IfOk result (λ asked. AreAnswered asked.lines) }
+{
+    let links = match read_relations(alloc, inputs, rel) {
+        Ok(links) => links,
+        Err(stop) => return Err(stop),
+    };
+    let scenario = match read_plan(alloc, inputs, scenario) {
+        Ok(scenario) => scenario,
+        Err(stop) => return Err(stop),
+    };
+    match read_lines(alloc, inputs, script) {
+        Ok(lines) => Ok(Asked {
+            links,
+            scenario,
+            lines,
+            heads: true,
+        }),
+        Err(stop) => Err(stop),
+    }
+}
+
+/// Reads the files that the form names. The first fault is answered, in this order: the form, the
+/// relationship file, the scenario, the script; each file is read to its end, or to
+/// one byte past its limit, before it is judged.
+pub fn ask<I: Inputs>(
+    alloc: Global,
+    form: &Option<WordForm<'_>>,
+    inputs: &mut I,
+) -> Result<Asked, Stop>
+    ensures task { Prepares (I.holds inputs.old) (I.is_sound inputs.old) (Rose (I.faults inputs.old) (I.faults inputs.new))
+        (option_map form_seen form.now) task_seen result }
+    ensures answered { IfOk result (λ asked. AreAnswered asked.lines) }
+{
+    let Some(form) = form else {
+        return Err(Stop::Fault(Fault::Usage));
+    };
+    match form {
+        WordForm::Origin { rel, origin } => ask_origin(alloc, rel, *origin, inputs),
+        WordForm::Script {
+            rel,
+            scenario,
+            script,
+        } => ask_script(alloc, rel, *scenario, *script, inputs),
+    }
+}

@@ -1,0 +1,207 @@
+//! The files of a run: each is read to its end, or to one byte past its limit, before it is judged.
+ghost use Rattle.std.specs.Prelude.{◌≡◌, ◌<◌, length};
+ghost use Rattle.io_edge.specs.Faults.{Rose, KeepsNames};
+ghost use Rattle.asprop.specs.Task.{all_answered as lines_if_answered, bytes_of, first_unanswered as first_unanswered_in, is_answered as answers_act, later_in as later_member, most_bytes, relations, scenario_by, script_lines, without_later as with_nothing_later};
+ghost use Rattle.asprop.specs.Files.{Finds, ReadsAs, ReadsTo};
+ghost use Rattle.asprop.specs.Words.{text_seen};
+
+use crate::stops::{relation_stop, scenario_stop, script_stop};
+use crate::types::{Fault, File, Stop};
+use caida_reader::Reader;
+use io_edge::{Failed, Inputs, ReadAllError, read_all};
+use net_names::Links;
+use scenario_text::{
+    Act, Line, Lines, Member, Query, Scenario, ScriptError, read_scenario, read_script,
+};
+use std::alloc::Global;
+
+// The most bytes of a relationship file.
+const MAX_RELATION_BYTES: usize = 268_435_456;
+
+// How many bytes are taken at once.
+const PIECE: usize = 65_536;
+
+// The most bytes of a file.
+fn limit_of(file: File) -> usize
+    ensures { result ≡ most_bytes file }
+{
+    match file {
+        File::Relations => 268_435_456,
+        File::Scenario | File::Script => 16_777_216,
+    }
+}
+
+// Reads the relationship file in pieces as long as the room.
+fn read_pieces<I: Inputs>(
+    alloc: Global,
+    inputs: &mut I,
+    name: &str,
+    room: &mut [u8],
+) -> Result<Links, Stop>
+    requires { 0 < length room.old }
+    ensures found { ReadsTo (I.holds inputs.old name.now) (I.is_sound inputs.old name.now) (Rose (I.faults inputs.old) (I.faults inputs.new))
+        (λ links. links) result relations }
+    ensures keeps { KeepsNames I.holds I.is_sound I.faults inputs.old inputs.new }
+{
+    if inputs.begin(name).is_err() {
+        return Err(Stop::Fault(Fault::Unread(File::Relations)));
+    }
+    let mut reader = Reader::new(alloc);
+    let most = room.len();
+    let mut taken = 0usize;
+    'pieces: while taken <= MAX_RELATION_BYTES {
+        let want = (MAX_RELATION_BYTES + 1 - taken).min(most);
+        match inputs.take(&mut room[..want]) {
+            Err(Failed) => return Err(Stop::Fault(Fault::Unread(File::Relations))),
+            Ok(0) => {
+                return match reader.finish() {
+                    Ok(links) => Ok(links),
+                    Err(error) => Err(relation_stop(error)),
+                };
+            }
+            Ok(count) => {
+                taken += count;
+                // A reader that has failed answers its fault at the end.
+                let _ = reader.feed(&room[..count]);
+            }
+        }
+    }
+    Err(Stop::Fault(Fault::TooLong(File::Relations)))
+}
+
+/// Reads the relationship file.
+pub fn read_relations<I: Inputs>(alloc: Global, inputs: &mut I, name: &str) -> Result<Links, Stop>
+    ensures found { ReadsTo (I.holds inputs.old name.now) (I.is_sound inputs.old name.now) (Rose (I.faults inputs.old) (I.faults inputs.new))
+        (λ links. links) result relations }
+    ensures keeps { KeepsNames I.holds I.is_sound I.faults inputs.old inputs.new }
+{
+    let Ok(mut room) = vec![in alloc; 0u8; PIECE] else {
+        return Err(Stop::Memory);
+    };
+    read_pieces(alloc, inputs, name, room.as_mut_slice())
+}
+
+// Reads the bytes of a file.
+fn read_bytes<I: Inputs>(
+    alloc: Global,
+    inputs: &mut I,
+    file: File,
+    name: &str,
+) -> Result<Vec<u8>, Stop>
+    ensures found { ReadsTo (I.holds inputs.old name.now) (I.is_sound inputs.old name.now) (Rose (I.faults inputs.old) (I.faults inputs.new))
+        (λ bytes. bytes.items) result (bytes_of file) }
+    ensures keeps { KeepsNames I.holds I.is_sound I.faults inputs.old inputs.new }
+{
+    match read_all(alloc, inputs, name, limit_of(file)) {
+        Ok(bytes) => Ok(bytes),
+        Err(ReadAllError::Memory) => Err(Stop::Memory),
+        Err(ReadAllError::ReadFault) => Err(Stop::Fault(Fault::Unread(file))),
+        Err(ReadAllError::TooLong) => Err(Stop::Fault(Fault::TooLong(file))),
+    }
+}
+
+// The first member that names something whose meaning is not built yet, if there is one.
+fn later_in(scenario: &Scenario) -> Option<Member>
+    ensures { result ≡ later_member scenario.now }
+{
+    if !scenario.policies().is_empty() {
+        return Some(Member::Policies);
+    }
+    if !scenario.leaks().is_empty() {
+        return Some(Member::Leaks);
+    }
+    if scenario.watch_at(0).is_some() {
+        return Some(Member::Watch);
+    }
+    None
+}
+
+// The scenario, if it names nothing whose meaning is not built yet.
+fn without_later(scenario: Scenario) -> Result<Scenario, Stop>
+    ensures { Finds (λ scenario. scenario) result (with_nothing_later scenario) }
+{
+    match later_in(&scenario) {
+        Some(member) => Err(Stop::Fault(Fault::Later(member))),
+        None => Ok(scenario),
+    }
+}
+
+/// Reads the scenario of the file of this name; without a name it is the empty one.
+pub fn read_plan<I: Inputs>(
+    alloc: Global,
+    inputs: &mut I,
+    name: Option<&str>,
+) -> Result<Scenario, Stop>
+    ensures found { ReadsAs (I.holds inputs.old) (I.is_sound inputs.old) (Rose (I.faults inputs.old) (I.faults inputs.new)) (text_seen name.entry)
+        (λ scenario. scenario) result (scenario_by (text_seen name.entry)) }
+    ensures keeps { KeepsNames I.holds I.is_sound I.faults inputs.old inputs.new }
+{
+    let Some(name) = name else {
+        return Ok(Scenario::new(alloc));
+    };
+    let bytes = match read_bytes(alloc, inputs, File::Scenario, name) {
+        Ok(bytes) => bytes,
+        Err(stop) => return Err(stop),
+    };
+    match read_scenario(alloc, &bytes) {
+        Ok(scenario) => without_later(scenario),
+        Err(error) => Err(scenario_stop(error)),
+    }
+}
+
+// Whether what is asked is answered.
+fn is_answered(act: &Act) -> bool
+    ensures { result ≡ answers_act act.now }
+{
+    match act {
+        Act::Query(Query::Routes { .. }) => true,
+        Act::Query(Query::Route { .. }) => true,
+        Act::Query(_) => false,
+        Act::Edit(_) => false,
+    }
+}
+
+// The number of the first line that is not answered yet, if there is one.
+fn first_unanswered(lines: &[Line]) -> Option<u32>
+    ensures { result ≡ first_unanswered_in lines.now }
+{
+    for line in lines {
+        if !is_answered(&line.act) {
+            return Some(line.number);
+        }
+    }
+    None
+}
+
+// The lines, if each is answered.
+fn all_answered(lines: Lines) -> Result<Lines, Stop>
+    ensures { Finds (λ lines. lines) result (lines_if_answered lines) }
+{
+    match first_unanswered(lines.as_slice()) {
+        Some(line) => Err(Stop::Fault(Fault::Script(ScriptError::Unreadable { line }))),
+        None => Ok(lines),
+    }
+}
+
+/// Reads the lines of the script of this name; without a name there are none.
+pub fn read_lines<I: Inputs>(
+    alloc: Global,
+    inputs: &mut I,
+    name: Option<&str>,
+) -> Result<Lines, Stop>
+    ensures found { ReadsAs (I.holds inputs.old) (I.is_sound inputs.old) (Rose (I.faults inputs.old) (I.faults inputs.new)) (text_seen name.entry)
+        (λ lines. lines) result script_lines }
+    ensures keeps { KeepsNames I.holds I.is_sound I.faults inputs.old inputs.new }
+{
+    let Some(name) = name else {
+        return Ok(Lines::new(alloc));
+    };
+    let bytes = match read_bytes(alloc, inputs, File::Script, name) {
+        Ok(bytes) => bytes,
+        Err(stop) => return Err(stop),
+    };
+    match read_script(alloc, &bytes) {
+        Ok(lines) => all_answered(lines),
+        Err(error) => Err(script_stop(error)),
+    }
+}

@@ -1,0 +1,59 @@
+//! What the faults of files mean for the run.
+ghost use Rattle.std.specs.Prelude.{Result, List};
+ghost use Rattle.net_names.specs.Links.{LinkMap};
+ghost use Rattle.caida_reader.specs.Progress.{Fails as RelationFails};
+ghost use Rattle.caida_reader.specs.declared.errors.RelError.{RelError as ARelError};
+ghost use Rattle.scenario_text.specs.Scenarios.{ScenarioValue};
+ghost use Rattle.scenario_text.specs.Faults.{Fails as ScenarioFails};
+ghost use Rattle.scenario_text.specs.LineValues.{LineValue};
+ghost use Rattle.scenario_text.specs.Script.{Fails as ScriptFails};
+ghost use Rattle.scenario_text.specs.declared.faults.ScenarioError.{ScenarioError as AScenarioError};
+ghost use Rattle.scenario_text.specs.declared.script.ScriptError.{ScriptError as AScriptError};
+ghost use Rattle.asprop.specs.Task.{or_fault};
+ghost use Rattle.asprop.specs.Files.{IsStop};
+ghost use Rattle.asprop.specs.declared.types.Fault.TheVariants as fault;
+
+use crate::types::{Fault, Stop};
+use caida_reader::RelError;
+use scenario_text::{ScenarioError, ScriptError};
+
+/// The stop for a fault of the relationship file.
+pub fn relation_stop(error: RelError) -> Stop
+    ensures { (value : Result LinkMap ARelError) → RelationFails error value → IsStop result (or_fault fault.Relation value) }
+{
+    match error {
+        RelError::Memory => Stop::Memory,
+        RelError::Unreadable { line: _ } => Stop::Fault(Fault::Relation(error)),
+        RelError::SelfLink { line: _ } => Stop::Fault(Fault::Relation(error)),
+        RelError::Conflict {
+            line: _,
+            earlier: _,
+        } => Stop::Fault(Fault::Relation(error)),
+        RelError::TooManyLinks { line: _ } => Stop::Fault(Fault::Relation(error)),
+    }
+}
+
+/// The stop for a fault of the scenario.
+pub fn scenario_stop(error: ScenarioError) -> Stop
+    ensures { (value : Result ScenarioValue AScenarioError) → ScenarioFails error value → IsStop result (or_fault fault.Scenario value) }
+{
+    match error {
+        ScenarioError::Memory => Stop::Memory,
+        ScenarioError::NotJson => Stop::Fault(Fault::Scenario(error)),
+        ScenarioError::Shape { place: _ } => Stop::Fault(Fault::Scenario(error)),
+        ScenarioError::Value { place: _ } => Stop::Fault(Fault::Scenario(error)),
+        ScenarioError::Twice { place: _ } => Stop::Fault(Fault::Scenario(error)),
+        ScenarioError::Limit { which: _ } => Stop::Fault(Fault::Scenario(error)),
+    }
+}
+
+/// The stop for a fault of the script.
+pub fn script_stop(error: ScriptError) -> Stop
+    ensures { (value : Result (List LineValue) AScriptError) → ScriptFails error value → IsStop result (or_fault fault.Script value) }
+{
+    match error {
+        ScriptError::Memory => Stop::Memory,
+        ScriptError::Unreadable { line: _ } => Stop::Fault(Fault::Script(error)),
+        ScriptError::TooMany { line: _ } => Stop::Fault(Fault::Script(error)),
+    }
+}
