@@ -1,0 +1,4 @@
+pub mod Sets
+pub mod Cover
+pub mod Lists
+pub mod Shelves
