@@ -1,14 +1,12 @@
 -- The payloads of the shortened prefixes, one length after the other, are those that cover, and their order.
-use Rattle.std.proofs.Common.{◌≡◌, ℕ, zero, suc, ◌≤◌, ◌<◌, ◌+◌, Bool, true, false, cond, ◌||◌, ◌&&◌, List, [], ◌∷◌, ◌++◌, refl, sym, ap, subst, ◌∙◌, arith, ◌⊎◌, inl, inr}
+use Rattle.std.proofs.Common.{◌≡◌, ℕ, zero, suc, ◌<◌, Bool, true, false, cond, ◌||◌, ◌&&◌, List, [], ◌∷◌, refl, sym, ap, subst, ◌∙◌, arith, ◌⊎◌, inl, inr}
 use Rattle.std.specs.List.{list_any, list_all, filter}
 use Rattle.std.specs.List.Sorted.{IsStrictlySortedBy}
-use Rattle.std.specs.declared.cmp.Ordering.{Ordering}
-use Rattle.std.specs.declared.cmp.Ordering.TheVariants.{Less, Equal, Greater}
-use Rattle.std.specs.Ordering.{eq_by_cmp, is_eq, is_lt, nat_cmp, ordering_then}
+use Rattle.std.specs.declared.cmp.Ordering.TheVariants.{Less}
+use Rattle.std.specs.Ordering.{eq_by_cmp, is_lt, nat_cmp, ordering_then}
 use Rattle.std.specs.Cmp.{tied_itself, both_ways, nat_cmp_is, nat_cmp_total}
 use Rattle.std.proofs.lemmas.List.Folds.{list_any-append}
 use Rattle.std.specs.FinMap as fin
-use Rattle.net_names.specs.Addresses.{family_place}
 use Rattle.net_names.specs.Prefixes.{PrefixValue, prefix_cmp}
 use Rattle.net_names.specs.Payloads.{VrpValue, vrp_cmp}
 use Rattle.net_names.specs.Orders.{prefix_total, exact_prefix, vrp_total, exact_vrp}
@@ -17,8 +15,8 @@ use Rattle.net_names.proofs.Shortening.{IsWhole, covers_to, shortened_covers, sh
 use Rattle.roa_table.specs.Sets.{Payloads, has, items}
 use Rattle.roa_table.specs.Lists.{is_rising}
 use Rattle.roa_table.specs.Cover.{of_prefix, covering, cover_cmp, rows_below}
-use Rattle.roa_table.proofs.Tests.{both, both_true, either_true, or_left, or_right, list_all_mono}
-use Rattle.roa_table.proofs.Rising.{less, eq_is, tie_self, rising_keys, rising_filter, rising_append, strictly_from_rising, same_lists, any_filter}
+use Rattle.roa_table.proofs.Booleans.{both, both_true, either_true, or_left, or_right}
+use Rattle.roa_table.proofs.Rising.{eq_is, tie_self, rising_keys, rising_filter, rising_append, strictly_from_rising, same_lists, any_filter}
 
 -- what holds of each member holds of each element
 all_members : (p : VrpValue → Bool) (vs : List VrpValue) → ((q : VrpValue) → list_any (eq_by_cmp vrp_cmp q) vs ≡ true → p q ≡ true) → list_all p vs ≡ true

@@ -1,5 +1,5 @@
 -- Shelves that are cut in two, and shelves that are filled one after the other.
-use Rattle.std.proofs.Common.{◌≡◌, ℕ, zero, suc, ◌+◌, ◌≤◌, ◌<◌, Bool, true, false, not, ◌&&◌, List, [], ◌∷◌, ◌++◌, length, take, drop, get_or, set, refl, sym, ap, subst, ◌∙◌, arith, add-one}
+use Rattle.std.proofs.Common.{◌≡◌, ℕ, zero, suc, ◌+◌, ◌≤◌, ◌<◌, Bool, true, false, not, List, [], ◌∷◌, ◌++◌, length, take, drop, get_or, set, refl, sym, ap, subst, ◌∙◌, arith, add-one}
 use Rattle.std.specs.List.{insert, list_all, AllByRecursion}
 use Rattle.std.specs.Cmp.{tied_itself}
 use Rattle.std.specs.Ordering.{is_lt}
@@ -9,7 +9,7 @@ use Rattle.net_names.specs.Orders.{prefix_total, exact_prefix, vrp_total, exact_
 use Rattle.roa_table.specs.declared.shelf.Shelf.{Shelf}
 use Rattle.roa_table.specs.Lists.{is_rising, IsRising, is_below, is_from, are_apart, IsPart}
 use Rattle.roa_table.specs.Shelves.{all_of, IsBefore, IsInOrder}
-use Rattle.roa_table.proofs.Tests.{both, both_true, not_true, not-false, list_all_mono, list_all_left, list_all_right, each_mono, each_both, each_append}
+use Rattle.roa_table.proofs.Booleans.{both, both_true, not_true, not-false, list_all_mono, list_all_left, list_all_right, each_mono, each_both, each_append}
 use Rattle.roa_table.proofs.Rising.{lt_le, rising_left, rising_right, rising_take}
 use Rattle.roa_table.proofs.Placed.{no_lower}
 use Rattle.roa_table.proofs.Shelving.{Around, around, in_order, all_of-append, whole_at}

@@ -1,6 +1,6 @@
 -- Payloads in rising order: where the prefixes of a list end, and the sets of lists.
-use Rattle.std.proofs.Common.{◌≡◌, ℕ, zero, suc, ◌+◌, ◌≤◌, ◌<◌, Bool, true, false, cond, not, ◌||◌, ◌&&◌, List, [], ◌∷◌, ◌++◌, map, length, take, drop, get_or, refl, sym, ap, subst, ◌∙◌, arith, ◌⊎◌, inl, inr, is_some, Result, Ok, Err}
-use Rattle.std.specs.List.{insert, remove, list_any, list_all, filter}
+use Rattle.std.proofs.Common.{◌≡◌, ℕ, zero, suc, ◌≤◌, ◌<◌, Bool, true, false, not, ◌||◌, ◌&&◌, List, [], ◌∷◌, ◌++◌, length, take, drop, get_or, refl, sym, ap, subst, ◌∙◌, arith, ◌⊎◌, inl, inr, is_some, Result, Ok, Err}
+use Rattle.std.specs.List.{insert, remove, list_any, list_all}
 use Rattle.std.specs.Prelude.{is_ok}
 use Rattle.std.specs.List.Sorted.{IsPartitionPoint, IsPartitionedBy, IsSearchInRange, IsBinarySearchResult}
 use Rattle.std.proofs.lemmas.List.{length-map}
@@ -14,9 +14,9 @@ use Rattle.net_names.specs.Prefixes.{PrefixValue, prefix_cmp}
 use Rattle.net_names.specs.Payloads.{VrpValue, vrp_cmp}
 use Rattle.net_names.specs.Orders.{prefix_total, exact_prefix, vrp_total, exact_vrp}
 use Rattle.roa_table.specs.Sets.{Payloads, no_payloads, has, added, taken, items, count, set_of}
-use Rattle.roa_table.specs.Lists.{IsRising, is_below, is_to, is_above, is_from, row_in, CutsAt, are_apart, IsPart, is_rising, stands_in, PutsIn, TakesOut}
-use Rattle.roa_table.proofs.Tests.{both, both_true, not_true, not_false, not-false, list_all_mono, list_any_opposite, list_all_opposite, filter_middle, list_any_take, all_take, all_drop, in_front, all_insert, all_remove}
-use Rattle.roa_table.proofs.Rising.{less, lt_le, le_lt, lt_not, lt_not_tied, gt_not_tied, lt_trans, tied, rising_at, rising_keys, rising_take, rising_drop, same_lists, same_members, contains_insert, contains_remove, any_insert, any_remove, found_by, gap_by, place_by, rising_insert, rising_remove, eq_is}
+use Rattle.roa_table.specs.Lists.{IsRising, is_below, is_to, is_above, row_in, CutsAt, are_apart, IsPart, is_rising, stands_in, PutsIn, TakesOut}
+use Rattle.roa_table.proofs.Booleans.{both, both_true, not_true, not_false, not-false, list_all_mono, list_any_opposite, list_all_opposite, filter_middle, list_any_take, all_take, all_drop, in_front, all_insert, all_remove}
+use Rattle.roa_table.proofs.Rising.{less, lt_le, le_lt, lt_not, lt_not_tied, gt_not_tied, tied, rising_at, rising_keys, same_lists, same_members, contains_insert, contains_remove, any_insert, any_remove, found_by, gap_by, place_by, rising_insert, rising_remove, eq_is}
 
 -- the payloads of a lower prefix come first
 pub prefix_first : (v w : VrpValue) → is_lt (prefix_cmp v.prefix w.prefix) ≡ true → is_lt (vrp_cmp v w) ≡ true

@@ -1,20 +1,19 @@
 -- Shelves in order: what stands round a shelf, and what they are after one of them has changed.
-use Rattle.std.proofs.Common.{◌≡◌, ℕ, zero, suc, ◌+◌, ◌-◌, ◌≤◌, ◌<◌, Bool, true, false, not, ◌||◌, ◌&&◌, List, [], ◌∷◌, ◌++◌, length, take, drop, get_or, set, refl, sym, ap, subst, ◌∙◌, arith, ◌⊎◌, inl, inr, add-one}
-use Rattle.std.specs.List.{insert, list_any, list_all, AllByRecursion}
+use Rattle.std.proofs.Common.{◌≡◌, ℕ, zero, suc, ◌-◌, ◌≤◌, ◌<◌, Bool, true, false, not, ◌||◌, ◌&&◌, List, [], ◌∷◌, ◌++◌, length, take, drop, get_or, set, refl, sym, ap, subst, ◌∙◌, arith, ◌⊎◌, inl, inr}
+use Rattle.std.specs.List.{list_all, AllByRecursion}
 use Rattle.std.specs.List.Sorted.{IsPartitionPoint, IsPartitionedBy}
 use Rattle.std.proofs.lemmas.Bool.{cases_lt}
 use Rattle.std.proofs.lemmas.List.Folds.{list_any-append}
-use Rattle.std.specs.Cmp.{tied_itself}
 use Rattle.std.specs.Ordering.{is_lt, eq_by_cmp}
 use Rattle.net_names.specs.Prefixes.{PrefixValue, prefix_cmp}
 use Rattle.net_names.specs.Payloads.{VrpValue, vrp_cmp}
 use Rattle.net_names.specs.Orders.{prefix_total, exact_prefix, vrp_total, exact_vrp}
 use Rattle.roa_table.specs.declared.shelf.Shelf.{Shelf}
-use Rattle.roa_table.specs.Lists.{is_rising, IsRising, is_below, is_above, is_from, row_in, are_apart, IsPart, stands_in, PutsIn, TakesOut}
+use Rattle.roa_table.specs.Lists.{is_rising, IsRising, is_below, is_above, is_from, row_in, stands_in, PutsIn, TakesOut}
 use Rattle.roa_table.specs.Sets.{added, taken, set_of}
 use Rattle.roa_table.specs.Shelves.{all_of, IsBefore, IsInOrder, IsHome}
-use Rattle.roa_table.proofs.Tests.{both, both_true, not_true, not_false, not-false, and_false, or_false, list_all_mono, list_any_opposite, list_all_left, list_all_right, filter_within, each_left, each_right, each_append, each_mono, each_both, each_at, each_drop, across_append, across_none}
-use Rattle.roa_table.proofs.Rising.{lt_le, le_lt, lt_trans, lt_not_tied, gt_not_tied, tie_self, eq_is, rising_append, rising_left, rising_right}
+use Rattle.roa_table.proofs.Booleans.{both, both_true, not_true, not_false, not-false, and_false, or_false, list_all_mono, list_any_opposite, filter_within, each_left, each_right, each_append, each_mono, each_both, each_at, each_drop, across_append, across_none}
+use Rattle.roa_table.proofs.Rising.{lt_le, lt_trans, lt_not_tied, gt_not_tied, eq_is, rising_append}
 use Rattle.roa_table.proofs.Placed.{prefix_first, set_put, set_take}
 
 -- a list round one of its elements

@@ -1,5 +1,5 @@
 -- A table of shelves and the set that it stands for.
-use Rattle.std.proofs.Common.{◌≡◌, ℕ, zero, suc, ◌+◌, ◌-◌, ◌≤◌, ◌<◌, Bool, true, false, cond, not, ◌||◌, ◌&&◌, List, [], ◌∷◌, length, refl, sym, ap, subst, ◌∙◌, arith, ◌⊎◌, inl, inr}
+use Rattle.std.proofs.Common.{◌≡◌, ℕ, zero, suc, ◌+◌, ◌-◌, ◌≤◌, ◌<◌, Bool, true, false, cond, not, List, [], refl, sym, ap, subst, ◌∙◌, arith, ◌⊎◌, inl, inr}
 use Rattle.std.specs.Ordering.{eq_by_cmp}
 use Rattle.std.specs.FinMap as fin
 use Rattle.net_names.specs.Prefixes.{PrefixValue}
@@ -7,20 +7,20 @@ use Rattle.net_names.specs.Payloads.{VrpValue, vrp_cmp}
 use Rattle.net_names.specs.Orders.{vrp_total, exact_vrp}
 use Rattle.net_names.proofs.Shortening.{IsWhole}
 use Rattle.roa_table.specs.declared.shelf.Shelf.{Shelf}
-use Rattle.roa_table.specs.Sets.{Payloads, no_payloads, has, added, taken, count, set_of}
+use Rattle.roa_table.specs.Sets.{IsSound, AreSound, Payloads, no_payloads, has, added, taken, count, set_of}
 use Rattle.roa_table.specs.Lists.{row_in, stands_in}
 use Rattle.roa_table.specs.Cover.{of_prefix}
-use Rattle.roa_table.specs.Shelves.{all_of, IsInOrder, IsSound, IsTable}
-use Rattle.roa_table.proofs.Tests.{both, either_true}
+use Rattle.roa_table.specs.Shelves.{all_of, IsInOrder, IsTable}
+use Rattle.roa_table.proofs.Booleans.{both, either_true}
 use Rattle.roa_table.proofs.Rising.{eq_is, contains_insert, contains_remove}
-use Rattle.roa_table.proofs.Placed.{has_set_of, items_set_of, count_set_of, count_items}
+use Rattle.roa_table.proofs.Placed.{has_set_of, items_set_of, count_set_of}
 use Rattle.roa_table.proofs.Shelving.{rising_all}
 
 pub empty_table : (ss : List Shelf) → ss ≡ [] → IsTable ss 0
 empty_table ss e = subst (λ l. IsTable l 0) (sym e) (record { order = tt; sound = λ v h. cc h; counted = refl; bound = omega arith })
 
 -- shelves of so many payloads, which are sound
-pub table_of : (ss : List Shelf) (n : ℕ) → IsInOrder ss → ((v : VrpValue) → has (set_of (all_of ss)) v ≡ true → IsSound v) → n ≡ count (set_of (all_of ss)) → n ≤ 2000000 → IsTable ss n
+pub table_of : (ss : List Shelf) (n : ℕ) → IsInOrder ss → AreSound (set_of (all_of ss)) → n ≡ count (set_of (all_of ss)) → n ≤ 2000000 → IsTable ss n
 table_of ss n order sound counted bound = record {
   order = order;
   sound = λ v h. sound v (has_set_of (all_of ss) v ∙ h);
@@ -38,7 +38,7 @@ module _ (ss : List Shelf) (n : ℕ) (t : IsTable ss n) (s : Payloads) (seen : s
   pub row_is : (p : PrefixValue) → row_in p (all_of ss) ≡ of_prefix s p
   row_is p = ap (row_in p) (sym (items_set_of (all_of ss) (rising_all ss t.order))) ∙ ap (λ x. of_prefix x p) seen
 
-  pub sound_is : (v : VrpValue) → has s v ≡ true → IsSound v
+  pub sound_is : AreSound s
   sound_is v h = t.sound v (has_is v ∙ h)
 
   pub whole_is : (v : VrpValue) → has s v ≡ true → IsWhole v.prefix

@@ -1,9 +1,9 @@
 -- Finite sets of payloads.
-use Rattle.std.specs.Prelude.{ℕ, Bool, List, [], ◌∷◌}
+use Rattle.std.specs.Prelude.{◌≡◌, ℕ, Bool, true, List, [], ◌∷◌}
 use Rattle.std.specs.Coded.{Coded}
 use Rattle.std.specs.FinMap as fin
 use Rattle.std.specs.FinSet as set
-use Rattle.net_names.specs.Payloads.{VrpValue, vrp_cmp, vrp_code}
+use Rattle.net_names.specs.Payloads.{VrpValue, IsVrp, vrp_cmp, vrp_code}
 
 -- a finite set of payloads: a finite map with nothing at each (own rule)
 abbrev pub Payloads : Type 0
@@ -41,3 +41,11 @@ count s = fin.len s
 abbrev pub set_of : List VrpValue → Payloads
 set_of [] = no_payloads
 set_of (v ∷ vs) = added (set_of vs) v
+
+-- the payload has a prefix, and its maximum length is one of it (net_names, Payloads)
+abbrev pub IsSound : VrpValue → Type 0
+IsSound v = IsVrp v.prefix.family v.prefix.addr v.prefix.len v.max
+
+-- each payload of the set is such a one
+abbrev pub AreSound : Payloads → Type 0
+AreSound s = (v : VrpValue) → has s v ≡ true → IsSound v

@@ -1,9 +1,10 @@
 -- All payloads in rising order, on shelves.
-use Rattle.std.specs.Prelude.{◌≡◌, ℕ, suc, ◌<◌, ◌≤◌, Bool, true, false, List, [], ◌∷◌, ◌++◌, length, take, drop, slice_index_or, ⊤}
+use Rattle.std.specs.Prelude.{◌≡◌, ℕ, suc, ◌<◌, ◌≤◌, true, false, List, [], ◌∷◌, ◌++◌, length, drop, slice_index_or, ⊤}
 use Rattle.std.specs.List.{list_all, AllByRecursion}
 use Rattle.std.specs.Ordering.{is_lt}
 use Rattle.net_names.specs.Prefixes.{PrefixValue, prefix_cmp}
-use Rattle.net_names.specs.Payloads.{VrpValue, IsVrp}
+use Rattle.net_names.specs.Payloads.{VrpValue}
+use Rattle.roa_table.specs.Sets.{IsSound}
 use Rattle.roa_table.specs.Lists.{IsRising, is_below, is_from, stands_in}
 use Rattle.roa_table.specs.declared.shelf.Shelf.{Shelf}
 
@@ -28,10 +29,6 @@ pub record IsHome (ss : List Shelf) (p : PrefixValue) (k : ℕ) : Type 0 where
   pub inside : k < length ss
   pub low : (s : Shelf) → 0 < k → is_lt (prefix_cmp p (slice_index_or ss k s).low) ≡ false
   pub later : AllByRecursion (λ (t : Shelf). is_lt (prefix_cmp p t.low) ≡ true) (drop (suc k) ss)
-
--- the payload has a prefix, and its maximum length is one of it (net_names, Payloads)
-abbrev pub IsSound : VrpValue → Type 0
-IsSound v = IsVrp v.prefix.family v.prefix.addr v.prefix.len v.max
 
 -- the shelves of a set: in order, of payloads each, of so many and at most 2,000,000
 pub record IsTable (ss : List Shelf) (n : ℕ) : Type 0 where

@@ -5,12 +5,20 @@
 #![tactic(auto)]
 
 mod covering;
+mod crowd;
 mod errors;
+mod file;
+mod gather;
+mod record;
 mod row;
+mod rows;
 mod shelf;
 mod shelves;
 mod table;
+#[cfg(test)]
+mod tests;
 
 pub use covering::Covering;
 pub use errors::{AddError, VrpError};
+pub use file::read;
 pub use table::Vrps;

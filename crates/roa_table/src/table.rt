@@ -1,15 +1,17 @@
 //! Sets of payloads.
-ghost use Rattle.std.specs.Prelude.{◌≡◌, ◌≤◌, ◌↔◌, false, suc, not, Err, OnOk, OnErr, IfOk};
+ghost use Rattle.std.specs.Prelude.{◌≡◌, ◌≤◌, ◌↔◌, false, suc, not, length, Err, OnOk, OnErr, IfOk};
 ghost use Rattle.std.specs.List.Sorted.{IsStrictlySortedBy};
-ghost use Rattle.roa_table.specs.Sets.{no_payloads, has, added, taken, count};
+ghost use Rattle.roa_table.specs.Sets.{no_payloads, has, added, taken, count, set_of, AreSound};
+ghost use Rattle.roa_table.specs.Lists.{IsRising};
+ghost use Rattle.roa_table.specs.Gathering.{AllSound};
 ghost use Rattle.roa_table.specs.Cover.{of_prefix, covering as covering_of, cover_cmp, rows_below};
 
 use crate::covering::Covering;
 use crate::errors::AddError;
 use crate::shelf::Shelf;
-use crate::shelves::{put, row_of, stands, take};
+use crate::shelves::{put, row_of, shelved, stands, take};
 use net_names::{NoMemory, Prefix, Vrp};
-use std::alloc::Global;
+use std::alloc::{AllocError, Global};
 use std::marker::Model;
 
 /// How many payloads a set has at most.
@@ -46,6 +48,20 @@ impl Vrps {
             shelves: Vec::new(alloc),
             count: 0,
         }
+    }
+
+    /// The set of payloads that stand in rising order.
+    pub(crate) fn from_sorted(alloc: Global, vrps: &[Vrp]) -> Result<Vrps, AllocError>
+        requires rising { IsRising vrps.now }
+        requires few { length vrps.now ≤ 2000000 }
+        requires sound { AllSound vrps.now }
+        ensures { IfOk result (λ s. s ≡ set_of vrps.now) }
+    {
+        let shelves = shelved(alloc, vrps)?;
+        Ok(Vrps {
+            shelves,
+            count: vrps.len(),
+        })
     }
 
     /// How many payloads there are, at most 2,000,000.
@@ -116,6 +132,13 @@ impl Vrps {
     pub fn rows_cover(&self, prefix: Prefix)
         ensures rows { rows_below self.now prefix (suc prefix.len) ≡ covering_of self.now prefix }
         ensures order { IsStrictlySortedBy cover_cmp (covering_of self.now prefix) }
+    {
+        let _ = &self.shelves;
+    }
+
+    /// Each payload has a maximum length from its prefix's length to the family's width. It does nothing.
+    pub fn are_sound(&self)
+        ensures { AreSound self.now }
     {
         let _ = &self.shelves;
     }

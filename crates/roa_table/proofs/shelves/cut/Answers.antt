@@ -5,7 +5,6 @@ use Rattle.std.proofs.lemmas.List.Edits.{get_or-insert_below}
 use Rattle.net_names.specs.Payloads.{VrpValue}
 use Rattle.roa_table.specs.declared.shelf.Shelf.{Shelf}
 use Rattle.roa_table.specs.Lists.{IsRising, IsPart}
-use Rattle.roa_table.specs.Shelves.{IsInOrder, all_of}
 use Rattle.roa_table.proofs.Shelving.{rising_at_place}
 use Rattle.roa_table.proofs.Cutting.{AreParts, IsCut, cut_at}
 use Rattle.roa_table.proofs.shelves.cut.Goals as goal

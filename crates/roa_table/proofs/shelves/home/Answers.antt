@@ -1,4 +1,4 @@
-use Rattle.std.proofs.Common.{rules, arith}
+use Rattle.std.proofs.Common.{rules}
 use Rattle.std.proofs.lemmas.List.Sorted.{IsPartitionPoint-from_clause}
 use Rattle.roa_table.proofs.Shelving.{is_low, parted_low, home_by}
 use Rattle.roa_table.proofs.shelves.home.Goals as goal

@@ -1,7 +1,7 @@
 use Rattle.std.proofs.Common.{◌∙◌, ap, subst}
 use Rattle.roa_table.specs.Sets.{set_of}
 use Rattle.roa_table.specs.Shelves.{IsHome}
-use Rattle.roa_table.proofs.Tests.{on_err}
+use Rattle.roa_table.proofs.Booleans.{on_err}
 use Rattle.roa_table.proofs.Shelving.{rising_here, put_order_at, put_set_at, same_order_at, same_all_at}
 use Rattle.roa_table.proofs.shelves.put.Goals as goal
 

@@ -1,4 +1,4 @@
-use Rattle.std.proofs.Common.{◌≡◌, sym, ap, ◌∙◌, subst}
+use Rattle.std.proofs.Common.{sym, ap, ◌∙◌, subst}
 use Rattle.roa_table.specs.Lists.{IsRising, row_in}
 use Rattle.roa_table.proofs.Shelving.{rising_here, row_here}
 use Rattle.roa_table.proofs.shelves.row_of.Goals as goal

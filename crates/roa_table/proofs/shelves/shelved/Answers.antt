@@ -1,7 +1,7 @@
-use Rattle.std.proofs.Common.{◌≡◌, ◌<◌, ◌++◌, ◌∷◌, [], ◌∙◌, ap, subst, sym, arith, rules, take, drop, length}
+use Rattle.std.proofs.Common.{◌≡◌, ◌<◌, ◌++◌, ◌∷◌, [], ◌∙◌, ap, subst, sym, arith, rules, drop, length}
 use Rattle.std.specs.List.{AllByRecursion}
 use Rattle.std.proofs.lemmas.List.{get_or_read, take_rest}
-use Rattle.net_names.specs.Payloads.{VrpValue, vrp_cmp}
+use Rattle.net_names.specs.Payloads.{VrpValue}
 use Rattle.net_names.specs.Orders.{vrp_total, exact_vrp}
 use Rattle.roa_table.specs.declared.shelf.Shelf.{Shelf}
 use Rattle.roa_table.specs.Lists.{IsRising}

@@ -1,4 +1,4 @@
-use Rattle.std.proofs.Common.{◌∙◌, ap, subst, arith, rules, eqb-true, length}
+use Rattle.std.proofs.Common.{◌∙◌, subst, rules, eqb-true, length}
 use Rattle.roa_table.specs.Shelves.{IsHome}
 use Rattle.roa_table.proofs.Shelving.{rising_here, stands_here, take_order_at, take_set_at, none_taken}
 use Rattle.roa_table.proofs.shelves.take.Goals as goal

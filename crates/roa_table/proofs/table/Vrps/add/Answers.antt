@@ -1,6 +1,5 @@
-use Rattle.std.proofs.Common.{◌≡◌, not, sym, ap, ◌∙◌, true, false, refl, arith}
+use Rattle.std.proofs.Common.{not, sym, ap, ◌∙◌, refl, arith}
 use Rattle.net_names.specs.Orders.{vrp_total, exact_vrp}
-use Rattle.roa_table.specs.Sets.{has, added}
 use Rattle.roa_table.proofs.Rising.{insert_there}
 use Rattle.roa_table.proofs.Tabled.{count_is, added_table}
 use Rattle.roa_table.proofs.table.Vrps.add.Goals as goal

@@ -1,5 +1,4 @@
-use Rattle.std.proofs.Common.{◌≡◌, ◌-◌, cond, sym, ap, ◌∙◌, true, false}
-use Rattle.roa_table.specs.Sets.{has}
+use Rattle.std.proofs.Common.{◌-◌, cond, sym, ap, ◌∙◌}
 use Rattle.roa_table.proofs.Tabled.{has_is, taken_table, some_there}
 use Rattle.roa_table.proofs.table.Vrps.take.Goals as goal
 
