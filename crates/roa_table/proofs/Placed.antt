@@ -68,6 +68,15 @@ cuts_at p vs n le point = record {
   back = list_any_opposite (λ v. not (p v)) p (λ v e. not_true _ e) (drop n vs) (all_drop (λ v. not (p v)) vs n (λ j d a lt. not-false _ (point.1 j d a lt)));
 }
 
+-- where the first payload fails the test, all fail it
+pub cuts_none : (q : PrefixValue) (vs : List VrpValue) (v : VrpValue) → IsRising vs → v ≡ get_or vs 0 v → is_to q v ≡ false → CutsAt (is_to q) vs 0
+cuts_none q [] v rising first above = record { inside = omega arith; front = refl; back = refl }
+cuts_none q (x ∷ xs) v rising first above = cuts_at (is_to q) (x ∷ xs) 0 (omega arith) (λ j d le lt. absurd (omega (arith, lt)), λ j d le lt. by j d le lt (is_to q (get_or (x ∷ xs) j d)) refl)
+  where
+    by : (j : ℕ) (d : VrpValue) → 0 ≤ j → j < length (x ∷ xs) → (b : Bool) → is_to q (get_or (x ∷ xs) j d) ≡ b → b ≡ false
+    by j d le lt false e = refl
+    by j d le lt true e = cc (above, parted_to q (x ∷ xs) rising 0 j d le lt e)
+
 take-append-drop : {A : Type 0} (n : ℕ) (xs : List A) → take n xs ++ drop n xs ≡ xs
 take-append-drop zero [] = refl
 take-append-drop zero (x ∷ xs) = refl

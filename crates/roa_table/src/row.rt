@@ -31,6 +31,13 @@ fn count_to(vrps: &[Vrp], prefix: Prefix) -> usize
     requires { IsRising vrps.now }
     ensures { CutsAt (is_to_of prefix) vrps.now result }
 {
+    // Most prefixes that are asked for have no payload.
+    if vrps.is_empty() {
+        return 0;
+    }
+    if !is_to(prefix, &vrps[0]) {
+        return 0;
+    }
     vrps.partition_point(|vrp| is_to(prefix, vrp))
 }
 
