@@ -1,14 +1,17 @@
 -- What a shortened prefix is, and which prefixes cover one.
-use Rattle.std.proofs.Common.{◌≡◌, ℕ, ◌-◌, ◌*◌, ◌/◌, ◌%◌, ◌^◌, ◌≤◌, ◌<◌, refl, sym, ap, ◌∙◌, arith, Bool, true, false, nat_eq, eqb-true, eq-eqb}
+use Rattle.std.proofs.Common.{◌≡◌, ℕ, ◌+◌, ◌-◌, ◌*◌, ◌/◌, ◌%◌, ◌^◌, ◌≤◌, ◌<◌, refl, sym, ap, subst, ◌∙◌, ◌⊎◌, inl, inr, arith, Bool, true, false, nat_eq, eqb-true, eq-eqb, pow-add}
 use Rattle.std.specs.Prelude.{◌&&◌, nat_le}
-use Rattle.std.proofs.Math.Nat.{mul-mod_left, div-mul-le_self, mod-eq-sub-div-mul, mul-div_cancel}
-use Rattle.std.proofs.lemmas.Nat.{pow_pos}
+use Rattle.std.proofs.Math.Nat.{mul_comm, mul_assoc, mul-mod_left, mul-le-mul_right, div-mul-le_self, mod-eq-sub-div-mul, mul-div_cancel}
+use Rattle.std.proofs.lemmas.Nat.{pow_pos, le-div}
+use Rattle.std.proofs.lemmas.Bool.{cases_lt}
 use Rattle.std.proofs.lemmas.Bool.Decides.{nat_tests}
-use Rattle.std.specs.Cmp.{both_ways}
+use Rattle.std.specs.declared.cmp.Ordering.TheVariants.{Less}
+use Rattle.std.specs.Ordering.{nat_cmp, ordering_then}
+use Rattle.std.specs.Cmp.{both_ways, nat_cmp_is, nat_cmp_total, tied_itself}
 use Rattle.net_names.specs.declared.addresses.Family.{Family}
 use Rattle.net_names.specs.declared.addresses.Family.TheVariants.{V4, V6}
 use Rattle.net_names.specs.Addresses.{width, family_place}
-use Rattle.net_names.specs.Prefixes.{PrefixValue, IsPrefix}
+use Rattle.net_names.specs.Prefixes.{PrefixValue, IsPrefix, prefix_cmp}
 use Rattle.net_names.specs.Coverage.{first_bits, same_family, has_bits, covers, shortened}
 
 -- the value of a prefix, whose bits past its length are clear
@@ -77,3 +80,33 @@ shortened_covers p n h =
     both_true _ _ (eq-eqb (family_place p.family) (family_place p.family) refl)
     (both_true (nat_le n p.len) _ (grind (arith, nat_tests))
     (eq-eqb (p.addr / 2 ^ (width p.family - n) * 2 ^ (width p.family - n) / 2 ^ (width p.family - n)) (p.addr / 2 ^ (width p.family - n)) (mul-div_cancel (p.addr / 2 ^ (width p.family - n)) (pow_pos (width p.family - n)))))
+
+-- a number cut to a multiple is no greater than when it is cut to a multiple of a divisor
+pub cut_le : (a d k : ℕ) → 0 < d → a / (d * k) * (d * k) ≤ a / d * d
+cut_le a d k pos =
+    let q = a / (d * k) in
+    let turned : q * (d * k) ≡ q * k * d = ap (λ x. q * x) (mul_comm d k) ∙ sym (mul_assoc q k d) in
+    let below : q * k * d ≤ a = subst (λ x. x ≤ a) turned (div-mul-le_self a (d * k)) in
+    subst (λ x. x ≤ a / d * d) (sym turned) (mul-le-mul_right d (le-div (q * k) a d pos below))
+
+-- a shorter prefix of a prefix has no greater address
+pub shortened_le : (p : PrefixValue) (n m : ℕ) → n ≤ m → (shortened p n).addr ≤ (shortened p m).addr
+shortened_le p n m le =
+    let w = width p.family in
+    let sum : w - n ≡ w - m + (w - n - (w - m)) = omega arith in
+    let split : 2 ^ (w - n) ≡ 2 ^ (w - m) * 2 ^ (w - n - (w - m)) = ap (λ x. 2 ^ x) sum ∙ pow-add 2 (w - m) (w - n - (w - m)) in
+    subst (λ d. p.addr / d * d ≤ p.addr / 2 ^ (w - m) * 2 ^ (w - m)) (sym split) (cut_le p.addr (2 ^ (w - m)) (2 ^ (w - n - (w - m))) (pow_pos (w - m)))
+
+-- and so it comes first
+pub shorter_first : (p : PrefixValue) (n m : ℕ) → n < m → prefix_cmp (shortened p n) (shortened p m) ≡ Less
+shorter_first p n m lt =
+    ap (λ r. ordering_then r (ordering_then (nat_cmp (shortened p n).addr (shortened p m).addr) (nat_cmp n m))) (tied_itself nat_cmp_total (family_place p.family))
+    ∙ by (cases_lt (shortened p n).addr (shortened p m).addr)
+  where
+    by : ((shortened p n).addr < (shortened p m).addr) ⊎ ((shortened p m).addr ≤ (shortened p n).addr) → ordering_then (nat_cmp (shortened p n).addr (shortened p m).addr) (nat_cmp n m) ≡ Less
+    by (inl less) = ap (λ r. ordering_then r (nat_cmp n m)) (sym (nat_cmp_is (shortened p n).addr (shortened p m).addr Less less))
+    by (inr more) =
+        let same : (shortened p n).addr ≡ (shortened p m).addr = omega (arith, shortened_le p n m (omega (arith, lt))) in
+        ap (λ a. ordering_then (nat_cmp a (shortened p m).addr) (nat_cmp n m)) same
+        ∙ ap (λ r. ordering_then r (nat_cmp n m)) (tied_itself nat_cmp_total (shortened p m).addr)
+        ∙ sym (nat_cmp_is n m Less lt)

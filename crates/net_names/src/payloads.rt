@@ -32,7 +32,7 @@ impl Model for Vrp {
 }
 
 impl Vrp {
-    ghost use Rattle.net_names.specs.Payloads.{vrp_at, IsMax};
+    ghost use Rattle.net_names.specs.Payloads.{vrp_at, IsMax, IsVrp};
 
     /// The payload of those; `None` exactly where the greatest length is below the prefix's length or
     /// above the family's width.
@@ -67,6 +67,7 @@ impl Vrp {
     pub fn max(self) -> u8
         ensures value { result ≡ self.max }
         ensures range { IsMax self.prefix result }
+        ensures sound { IsVrp self.prefix.family self.prefix.addr self.prefix.len self.max }
     {
         self.max
     }

@@ -1,0 +1,122 @@
+-- The state over a set less a payload, from the payloads that cover.
+use Rattle.std.proofs.Common.{◌≡◌, ℕ, Bool, true, false, cond, not, ◌||◌, ◌&&◌, List, [], ◌∷◌, refl, sym, ap, ◌∙◌, Option, Some, None, ◌+◌, suc, arith}
+use Rattle.std.specs.Prelude.{if◌then◌else◌}
+use Rattle.std.specs.List.{list_any, filter}
+use Rattle.std.specs.Ordering.{eq_by_cmp}
+use Rattle.std.specs.Cmp.{eq_by_cmp_equiv}
+use Rattle.std.proofs.lemmas.List.Folds.{list_any-append}
+use Rattle.std.specs.FinMap as fin
+use Rattle.net_names.specs.declared.routes.State.{State}
+use Rattle.net_names.specs.declared.routes.State.TheVariants.{NotFound, Valid, Invalid}
+use Rattle.net_names.specs.Prefixes.{PrefixValue}
+use Rattle.net_names.specs.Coverage.{covers, shortened}
+use Rattle.net_names.specs.Payloads.{VrpValue, vrp_cmp}
+use Rattle.net_names.specs.Orders.{vrp_total, exact_vrp}
+use Rattle.roa_table.specs.Sets.{Payloads, taken, items, has}
+use Rattle.roa_table.specs.Cover.{covering, rows_below, of_prefix}
+use Rattle.roa_table.proofs.Rising.{contains_remove, rising_keys, rising_filter, same_lists, any_filter}
+use Rattle.origin_validation.specs.Judging.{matches, state_among, state_of}
+use Rattle.origin_validation.specs.Leaving.{less, is_left}
+
+-- the payloads less one are those that aren't it
+pub taken_items : (s : Payloads) (w : VrpValue) → items (taken s w) ≡ filter (is_left (Some w)) (items s)
+taken_items s w = same_lists vrp_total exact_vrp _ _ (rising_keys vrp_cmp (taken s w)) (rising_filter vrp_cmp (is_left (Some w)) (items s) (rising_keys vrp_cmp s))
+    (λ q.
+    sym (fin.contains_key-keys (taken s w) q) ∙ contains_remove vrp_total exact_vrp s w q
+    ∙ swap (not (eq_by_cmp vrp_cmp q w)) (has s q)
+    ∙ (λ i. fin.contains_key-keys s q i && not ((eq_by_cmp_equiv vrp_total).symm q w i))
+    ∙ sym (any_filter vrp_total exact_vrp (is_left (Some w)) (items s) q))
+  where
+    swap : (a b : Bool) → (a && b) ≡ (b && a)
+    swap true true = refl
+    swap true false = refl
+    swap false true = refl
+    swap false false = refl
+
+all_left : {A : Type 0} (xs : List A) → xs ≡ filter (λ _. true) xs
+all_left [] = refl
+all_left (x ∷ xs) = ap (λ l. x ∷ l) (all_left xs)
+
+pub less_items : (s : Payloads) (but : Option VrpValue) → items (less s but) ≡ filter (is_left but) (items s)
+less_items s None = all_left (items s)
+less_items s (Some w) = taken_items s w
+
+any_of_two : {A : Type 0} (f g h : A → Bool) (xs : List A) → list_any h (filter f (filter g xs)) ≡ list_any (λ x. g x && h x) (filter f xs)
+any_of_two f g h [] = refl
+any_of_two f g h (x ∷ xs) = by (f x) refl (g x) refl (any_of_two f g h xs)
+  where
+    by : (a : Bool) → f x ≡ a → (b : Bool) → g x ≡ b → list_any h (filter f (filter g xs)) ≡ list_any (λ x. g x && h x) (filter f xs)
+        → list_any h (filter f (cond b (x ∷ filter g xs) (filter g xs))) ≡ list_any (λ x. g x && h x) (cond a (x ∷ filter f xs) (filter f xs))
+    by true e true k i = rw (e, k) (ap (λ c. h x || c) i)
+    by true e false k i = rw k i
+    by false e true k i = rw e i
+    by false e false k i = i
+
+abbrev is_empty : {A : Type 0} → List A → Bool
+is_empty [] = true
+is_empty (x ∷ xs) = false
+
+among : (p : PrefixValue) (origin : ℕ) (xs : List VrpValue) → state_among p origin xs ≡ (if is_empty xs then NotFound else if list_any (matches p origin) xs then Valid else Invalid)
+among p origin [] = refl
+among p origin (x ∷ xs) = refl
+
+is_empty_any : {A : Type 0} (xs : List A) → is_empty xs ≡ not (list_any (λ _. true) xs)
+is_empty_any [] = refl
+is_empty_any (x ∷ xs) = refl
+
+always : {A : Type 0} (g : A → Bool) (xs : List A) → list_any (λ x. g x && true) xs ≡ list_any g xs
+always g [] = refl
+always g (x ∷ xs) = (λ i. and_true (g x) i || always g xs i)
+  where
+    and_true : (a : Bool) → (a && true) ≡ a
+    and_true true = refl
+    and_true false = refl
+
+-- what the two questions over the payloads that cover say
+abbrev pub judged : Bool → Bool → State
+judged found valid = if valid then Valid else if found then Invalid else NotFound
+
+module _ (s : Payloads) (but : Option VrpValue) (p : PrefixValue) (origin : ℕ) where
+  abbrev found : List VrpValue → Bool
+  found xs = list_any (is_left but) xs
+
+  abbrev valid : List VrpValue → Bool
+  valid xs = list_any (λ v. is_left but v && matches p origin v) xs
+
+  covering_less : covering (less s but) p ≡ filter (λ v. covers v.prefix p) (filter (is_left but) (items s))
+  covering_less = ap (filter (λ v. covers v.prefix p)) (less_items s but)
+
+  found_is : is_empty (covering (less s but) p) ≡ not (found (covering s p))
+  found_is = is_empty_any (covering (less s but) p)
+      ∙ ap (λ l. not (list_any (λ _. true) l)) covering_less
+      ∙ ap not (any_of_two (λ v. covers v.prefix p) (is_left but) (λ _. true) (items s) ∙ always (is_left but) (covering s p))
+
+  valid_is : list_any (matches p origin) (covering (less s but) p) ≡ valid (covering s p)
+  valid_is = ap (list_any (matches p origin)) covering_less ∙ any_of_two (λ v. covers v.prefix p) (is_left but) (matches p origin) (items s)
+
+  valid_found : (xs : List VrpValue) → found xs ≡ false → valid xs ≡ false
+  valid_found [] h = refl
+  valid_found (x ∷ xs) h = by (is_left but x) h (valid_found xs)
+    where
+      by : (a : Bool) → (a || found xs) ≡ false → (found xs ≡ false → valid xs ≡ false) → ((a && matches p origin x) || valid xs) ≡ false
+      by true h f = cc h
+      by false h f = f h
+
+  pub state_judged : state_of (less s but) p origin ≡ judged (found (covering s p)) (valid (covering s p))
+  state_judged = among p origin (covering (less s but) p) ∙ (λ i. if found_is i then NotFound else if valid_is i then Valid else Invalid) ∙ by (found (covering s p)) refl (valid (covering s p)) refl
+    where
+      by : (a : Bool) → found (covering s p) ≡ a → (b : Bool) → valid (covering s p) ≡ b → (if not a then NotFound else if b then Valid else Invalid) ≡ judged a b
+      by true e true k = refl
+      by true e false k = refl
+      by false e true k = cc (k, valid_found (covering s p) e)
+      by false e false k = refl
+
+  pub row_step : (f : VrpValue → Bool) (n : ℕ) (b c : Bool) → b ≡ list_any f (rows_below s p n) → c ≡ list_any f (of_prefix s (shortened p n)) → (b || c) ≡ list_any f (rows_below s p (n + 1))
+  row_step f n b c e g =
+      let next : suc n ≡ n + 1 = omega arith in
+      (λ i. e i || g i) ∙ sym (list_any-append f (rows_below s p n) (of_prefix s (shortened p n))) ∙ ap (λ k. list_any f (rows_below s p k)) next
+
+  pub ended : (b c : Bool) (n : ℕ) → b ≡ found (rows_below s p n) → c ≡ valid (rows_below s p n) → n ≡ suc p.len → rows_below s p (suc p.len) ≡ covering s p → judged b c ≡ state_of (less s but) p origin
+  ended b c n e g l h =
+      let all : rows_below s p n ≡ covering s p = ap (rows_below s p) l ∙ h in
+      (λ i. judged (e i) (g i)) ∙ (λ i. judged (found (all i)) (valid (all i))) ∙ sym state_judged

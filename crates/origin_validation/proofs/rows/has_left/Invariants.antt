@@ -1,0 +1,7 @@
+use Rattle.std.proofs.Common.{◌≡◌, take, false}
+use Rattle.std.specs.List.{list_any}
+use Rattle.origin_validation.specs.Leaving.{is_left}
+use Rattle.origin_validation.proofs.rows.has_left.Given as goal
+
+abbrev pub invariant-loop-vrp : goal.invariant-loop-vrp
+invariant-loop-vrp l = list_any (is_left l.but) (take l.vrp-index l.row) ≡ false

@@ -1,0 +1,16 @@
+//! Route origin validation: what validated payloads say of a prefix with an origin.
+//!
+//! [`state`] tells whether the origin may announce the prefix, by all payloads of a set, and [`explain`] tells the payloads
+//! that cover the prefix besides. [`States`] gives routing policies the states over a set, or over a set without one
+//! payload.
+#![tactic(auto)]
+
+mod explained;
+mod judging;
+mod rows;
+mod states;
+#[cfg(test)]
+mod tests;
+
+pub use explained::{Explained, explain, state};
+pub use states::States;

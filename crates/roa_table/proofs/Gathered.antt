@@ -1,0 +1,165 @@
+-- The payloads of rows, and the first fault of rows behind others.
+use Rattle.std.proofs.Common.{◌≡◌, ℕ, ◌+◌, ◌≤◌, Bool, true, false, cond, ◌||◌, List, [], ◌∷◌, ◌++◌, length, refl, sym, ap, subst, ◌∙◌, arith, Option, Some, None, Result, Ok, Err}
+use Rattle.std.specs.Prelude.{nat_lt, is_ok}
+use Rattle.std.specs.List.{list_all, dedup, dedup_from}
+use Rattle.std.specs.Ordering.{eq_by_cmp}
+use Rattle.std.specs.FinMap as fin
+use Rattle.std.proofs.lemmas.Bool.Decides.{nat_tests}
+use Rattle.std.proofs.lemmas.List.Folds.{list_any-append}
+use Rattle.net_names.specs.Steps.{either}
+use Rattle.net_names.specs.Payloads.{VrpValue, vrp_cmp}
+use Rattle.net_names.specs.Orders.{vrp_total, exact_vrp}
+use Rattle.roa_table.specs.Sets.{IsSound, has, added, count, set_of}
+use Rattle.roa_table.specs.Lists.{IsRising, stands_in}
+use Rattle.roa_table.specs.Records.{payload_of}
+use Rattle.roa_table.specs.Files.{Row, with_payload, given, payloads_given, fault_at, fault_after, first_fault}
+use Rattle.roa_table.specs.Gathering.{JoinsIn}
+use Rattle.roa_table.specs.declared.record.Wrong.{Wrong}
+use Rattle.roa_table.specs.declared.errors.VrpError.{VrpError}
+use Rattle.roa_table.specs.declared.errors.VrpError.TheVariants as fault
+use Rattle.roa_table.proofs.Booleans.{both}
+use Rattle.roa_table.proofs.Rising.{eq_is}
+use Rattle.roa_table.proofs.Placed.{same_set_of, count_set_of}
+
+-- dropping repeats keeps the members
+pub any_dedup : (E : VrpValue → VrpValue → Bool) → ((v w : VrpValue) → E v w ≡ eq_by_cmp vrp_cmp v w) → (vs : List VrpValue) (q : VrpValue) → stands_in (dedup E vs) q ≡ stands_in vs q
+any_dedup E ties [] q = refl
+any_dedup E ties (v ∷ vs) q = from v vs
+  where
+    twice : (a b : Bool) → (a || b) ≡ (a || (a || b))
+    twice true b = refl
+    twice false b = refl
+
+    from : (k : VrpValue) (ws : List VrpValue) → stands_in (dedup_from E k ws) q ≡ (eq_by_cmp vrp_cmp q k || stands_in ws q)
+    from k [] = refl
+    from k (w ∷ ws) = by (E w k) refl (from k ws) (from w ws)
+      where
+        by : (b : Bool) → E w k ≡ b → stands_in (dedup_from E k ws) q ≡ (eq_by_cmp vrp_cmp q k || stands_in ws q) → stands_in (dedup_from E w ws) q ≡ (eq_by_cmp vrp_cmp q w || stands_in ws q)
+            → stands_in (cond b (dedup_from E k ws) (k ∷ dedup_from E w ws)) q ≡ (eq_by_cmp vrp_cmp q k || (eq_by_cmp vrp_cmp q w || stands_in ws q))
+        by true e f g = f ∙ twice (eq_by_cmp vrp_cmp q k) (stands_in ws q) ∙ ap (λ x. eq_by_cmp vrp_cmp q k || (eq_by_cmp vrp_cmp q x || stands_in ws q)) (sym (eq_is vrp_total exact_vrp w k (sym (ties w k) ∙ e)))
+        by false e f g = ap (λ b. eq_by_cmp vrp_cmp q k || b) g
+
+-- one payload more at the end
+pub stands_in-push : (vs : List VrpValue) (v q : VrpValue) → stands_in (vs ++ (v ∷ [])) q ≡ (eq_by_cmp vrp_cmp q v || stands_in vs q)
+stands_in-push vs v q = list_any-append (eq_by_cmp vrp_cmp q) vs (v ∷ []) ∙ turn (stands_in vs q) (eq_by_cmp vrp_cmp q v)
+  where
+    turn : (a b : Bool) → (a || (b || false)) ≡ (b || a)
+    turn true true = refl
+    turn true false = refl
+    turn false true = refl
+    turn false false = refl
+
+given-append : (xs ys : List Row) → given (xs ++ ys) ≡ given xs ++ given ys
+given-append [] ys = refl
+given-append (x ∷ xs) ys = ap (with_payload (payload_of x)) (given-append xs ys) ∙ by (payload_of x)
+  where
+    by : (r : Result VrpValue Wrong) → with_payload r (given xs ++ given ys) ≡ with_payload r (given xs) ++ given ys
+    by (Ok v) = refl
+    by (Err w) = refl
+
+pub given_push : (xs : List Row) (x : Row) (v : VrpValue) → payload_of x ≡ Ok v → given (xs ++ (x ∷ [])) ≡ given xs ++ (v ∷ [])
+given_push xs x v e = given-append xs (x ∷ []) ∙ ap (λ r. given xs ++ with_payload r []) e
+
+-- the number of payloads of lists
+count_more : (vs ws : List VrpValue) → count (set_of ws) ≤ count (set_of (vs ++ ws))
+count_more [] ws = omega arith
+count_more (v ∷ vs) ws = by (has (set_of (vs ++ ws)) v) (fin.len-insert vrp_total (set_of (vs ++ ws)) v tt) (count_more vs ws)
+  where
+    by : (b : Bool) → count (added (set_of (vs ++ ws)) v) ≡ cond b (count (set_of (vs ++ ws))) (count (set_of (vs ++ ws)) + 1) → count (set_of ws) ≤ count (set_of (vs ++ ws)) → count (set_of ws) ≤ count (added (set_of (vs ++ ws)) v)
+    by true e h = omega (arith, e, h)
+    by false e h = omega (arith, e, h)
+
+set_of-turned : (vs ws : List VrpValue) → set_of (vs ++ ws) ≡ set_of (ws ++ vs)
+set_of-turned vs ws = same_set_of (vs ++ ws) (ws ++ vs) (λ q. list_any-append (eq_by_cmp vrp_cmp q) vs ws ∙ turn (stands_in vs q) (stands_in ws q) ∙ sym (list_any-append (eq_by_cmp vrp_cmp q) ws vs))
+  where
+    turn : (a b : Bool) → (a || b) ≡ (b || a)
+    turn true true = refl
+    turn true false = refl
+    turn false true = refl
+    turn false false = refl
+
+count_given : (xs ys : List Row) → count (payloads_given xs) ≤ count (payloads_given (xs ++ ys))
+count_given xs ys = subst (λ s. count (payloads_given xs) ≤ count s) (set_of-turned (given ys) (given xs) ∙ ap set_of (sym (given-append xs ys))) (count_more (given ys) (given xs))
+
+pub payloads_push : (xs : List Row) (x : Row) (v : VrpValue) → payload_of x ≡ Ok v → payloads_given (xs ++ (x ∷ [])) ≡ added (payloads_given xs) v
+payloads_push xs x v e = ap set_of (given_push xs x v e) ∙ set_of-turned (given xs) (v ∷ [])
+
+count_push : (xs : List Row) (x : Row) (v : VrpValue) → payload_of x ≡ Ok v → count (payloads_given (xs ++ (x ∷ []))) ≡ cond (has (payloads_given xs) v) (count (payloads_given xs)) (count (payloads_given xs) + 1)
+count_push xs x v e = ap count (payloads_push xs x v e) ∙ fin.len-insert vrp_total (payloads_given xs) v tt
+
+pub rows_assoc : (xs ys zs : List Row) → xs ++ (ys ++ zs) ≡ (xs ++ ys) ++ zs
+rows_assoc [] ys zs = refl
+rows_assoc (x ∷ xs) ys zs = ap (λ l. x ∷ l) (rows_assoc xs ys zs)
+
+-- a row whose payload finds room has no fault
+pub no_fault : (before : List Row) (row : Row) (v : VrpValue) → payload_of row ≡ Ok v → count (payloads_given (before ++ (row ∷ []))) ≤ 2000000 → fault_after before row ≡ None
+no_fault before row v e few =
+    ap (fault_at (payloads_given before) (length before + 2)) e
+    ∙ by (has (payloads_given before) v) (count_push before row v e)
+  where
+    by : (b : Bool) → count (payloads_given (before ++ (row ∷ []))) ≡ cond b (count (payloads_given before)) (count (payloads_given before) + 1)
+        → cond (b || nat_lt (count (payloads_given before)) 2000000) None (Some (fault.TooMany (length before + 2))) ≡ None
+    by true k = refl
+    by false k =
+        let room : nat_lt (count (payloads_given before)) 2000000 ≡ true = grind (arith, nat_tests, few, k) in
+        ap (λ b. cond b None (Some (fault.TooMany (length before + 2)))) room
+
+is_payload : (r : Result VrpValue Wrong) → is_ok r ≡ true → (v : VrpValue) × (r ≡ Ok v)
+is_payload (Ok v) e = (v, refl)
+is_payload (Err w) e = cc e
+
+-- readable rows with few payloads have no fault, so the first one is behind them
+pub first_behind : (before done left : List Row) → list_all (λ r. is_ok (payload_of r)) done ≡ true → count (payloads_given (before ++ done)) ≤ 2000000 → first_fault before (done ++ left) ≡ first_fault (before ++ done) left
+first_behind before [] left h few = ap (λ l. first_fault l left) (sym (append_none before))
+  where
+    append_none : (xs : List Row) → xs ++ [] ≡ xs
+    append_none [] = refl
+    append_none (x ∷ xs) = ap (λ l. x ∷ l) (append_none xs)
+first_behind before (row ∷ done) left h few =
+    let k = both _ _ h in
+    let p = is_payload (payload_of row) k.left in
+    let joined = rows_assoc before (row ∷ []) done in
+    let fewer : count (payloads_given ((before ++ (row ∷ [])) ++ done)) ≤ 2000000 = subst (λ l. count (payloads_given l) ≤ 2000000) joined few in
+    let here = no_fault before row p.0 p.1 (below _ _ (count_given (before ++ (row ∷ [])) done) fewer) in
+    ap (λ o. either o (first_fault (before ++ (row ∷ [])) (done ++ left))) here
+    ∙ first_behind (before ++ (row ∷ [])) done left k.right fewer ∙ ap (λ l. first_fault l left) (sym joined)
+  where
+    below : (a b : ℕ) → a ≤ b → b ≤ 2000000 → a ≤ 2000000
+    below a b h k = omega (arith, h, k)
+
+none_left : (o p : Option VrpError) → either o p ≡ None → (o ≡ None) × (p ≡ None)
+none_left None p e = (refl, e)
+none_left (Some x) p e = cc e
+
+-- where rows have no fault, they are readable and have few payloads
+pub few_behind : (before done left : List Row) → first_fault before (done ++ left) ≡ None → count (payloads_given before) ≤ 2000000 → count (payloads_given (before ++ done)) ≤ 2000000
+few_behind before [] left e few = subst (λ l. count (payloads_given l) ≤ 2000000) (sym (append_none before)) few
+  where
+    append_none : (xs : List Row) → xs ++ [] ≡ xs
+    append_none [] = refl
+    append_none (x ∷ xs) = ap (λ l. x ∷ l) (append_none xs)
+few_behind before (row ∷ done) left e few =
+    let k = none_left (fault_after before row) (first_fault (before ++ (row ∷ [])) (done ++ left)) e in
+    subst (λ l. count (payloads_given l) ≤ 2000000) (sym (rows_assoc before (row ∷ []) done))
+    (few_behind (before ++ (row ∷ [])) done left k.1 (still (payload_of row) refl k.0))
+  where
+    still : (r : Result VrpValue Wrong) → payload_of row ≡ r → fault_at (payloads_given before) (length before + 2) (payload_of row) ≡ None → count (payloads_given (before ++ (row ∷ []))) ≤ 2000000
+    still (Err w) f g = cc (g, ap (fault_at (payloads_given before) (length before + 2)) f)
+    still (Ok v) f g = by (has (payloads_given before) v) (count_push before row v f) (sym (ap (fault_at (payloads_given before) (length before + 2)) f) ∙ g)
+      where
+        by : (b : Bool) → count (payloads_given (before ++ (row ∷ []))) ≡ cond b (count (payloads_given before)) (count (payloads_given before) + 1)
+            → cond (b || nat_lt (count (payloads_given before)) 2000000) None (Some (fault.TooMany (length before + 2))) ≡ None → count (payloads_given (before ++ (row ∷ []))) ≤ 2000000
+        by true k m = omega (arith, k, few)
+        by false k m = room (nat_lt (count (payloads_given before)) 2000000) refl m
+          where
+            room : (b : Bool) → nat_lt (count (payloads_given before)) 2000000 ≡ b → cond b None (Some (fault.TooMany (length before + 2))) ≡ None → count (payloads_given (before ++ (row ∷ []))) ≤ 2000000
+            room true n m = grind (arith, nat_tests, k)
+            room false n m = cc m
+
+-- the number of a list with the members of another one, in rising order
+pub count_same : (vs new : List VrpValue) → IsRising new → ((q : VrpValue) → stands_in new q ≡ stands_in vs q) → count (set_of vs) ≡ length new
+count_same vs new rising members = ap count (sym (same_set_of new vs members)) ∙ count_set_of new rising
+
+-- a payload put behind a list with the members of another one
+pub joins : (v : VrpValue) (old mid new : List VrpValue) → IsSound v → ((q : VrpValue) → stands_in mid q ≡ stands_in old q) → new ≡ mid ++ (v ∷ []) → JoinsIn v old new
+joins v old mid new sound members e = record { sound = sound; members = λ q. ap (λ l. stands_in l q) e ∙ stands_in-push mid v q ∙ ap (λ b. eq_by_cmp vrp_cmp q v || b) (members q) }

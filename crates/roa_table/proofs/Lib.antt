@@ -1,0 +1,12 @@
+pub mod Booleans
+pub mod Rising
+pub mod Placed
+pub mod Shelving
+pub mod Cutting
+pub mod Covered
+pub mod Tabled
+pub mod CsvRecords
+pub mod Judged
+pub mod Gathered
+pub mod Reading
+pub mod Admitted

@@ -1,0 +1,91 @@
+-- How far a file has been read.
+use Rattle.std.specs.Prelude.{◌≡◌, ℕ, ◌+◌, ◌<◌, ◌≤◌, ◌||◌, true, List, [], ◌++◌, length, Option, Some, None, Result, Ok, Err, IsErr, is_ok, ⊤}
+use Rattle.std.specs.List.{list_all}
+use Rattle.std.specs.Ordering.{eq_by_cmp}
+use Rattle.net_names.specs.Payloads.{VrpValue, vrp_cmp}
+use Rattle.roa_table.specs.Sets.{Payloads, count, set_of, IsSound}
+use Rattle.roa_table.specs.Lists.{IsRising, stands_in}
+use Rattle.roa_table.specs.Records.{payload_of}
+use Rattle.roa_table.specs.Files.{Row, rows_of, given, fault_in, fault_at, first_fault}
+use Rattle.roa_table.specs.Standing.{ByteReader, Stands}
+use Rattle.roa_table.specs.declared.record.Wrong.{Wrong}
+use Rattle.roa_table.specs.declared.errors.VrpError.{VrpError}
+use Rattle.roa_table.specs.declared.errors.VrpError.TheVariants as fault
+use Rattle.roa_table.specs.declared.gather.Stop.{Stop}
+use Rattle.roa_table.specs.declared.gather.Stop.TheVariants as stop
+
+-- each payload of the list is sound
+abbrev pub AllSound : List VrpValue → Type 0
+AllSound vs = (v : VrpValue) → stands_in vs v ≡ true → IsSound v
+
+-- the new list has the payload and those of the old list
+pub record JoinsIn (v : VrpValue) (old new : List VrpValue) : Type 0 where
+  pub sound : IsSound v
+  pub members : (q : VrpValue) → stands_in new q ≡ (eq_by_cmp vrp_cmp q v || stands_in old q)
+
+-- the payload of a record has been gathered
+abbrev pub Gathers : Result VrpValue Wrong → List VrpValue → List VrpValue → Type 0
+Gathers (Ok v) old new = JoinsIn v old new
+Gathers (Err w) old new = ⊥
+
+-- why the payload of a record of this number has not been gathered: it has none, there are more than 2,000,000 already, or memory ran out
+abbrev pub StopsAt : ℕ → Result VrpValue Wrong → List VrpValue → List VrpValue → Stop → Type 0
+StopsAt row judged old new (stop.Fault e) = (w : Wrong) × (judged ≡ Err w) × (e ≡ fault_in row w) × (new ≡ old)
+StopsAt row judged old new stop.Crowded = 2000000 < count (set_of old)
+StopsAt row judged old new stop.Memory = ⊤
+
+-- the payloads in rising order, where they are 2,000,000 at most
+pub record IsTidied (old new : List VrpValue) : Type 0 where
+  pub rising : IsRising new
+  pub few : length new ≤ 2000000
+  pub members : (q : VrpValue) → stands_in new q ≡ stands_in old q
+
+-- why gathered payloads are not answered: a fault came behind them, or they are too many
+abbrev pub EndsWith : Option VrpError → List VrpValue → Stop → Type 0
+EndsWith end old (stop.Fault e) = (end ≡ Some e) × (count (set_of old) ≤ 2000000)
+EndsWith end old stop.Crowded = 2000000 < count (set_of old)
+EndsWith end old stop.Memory = ⊥
+
+-- all payloads of a file, in rising order
+pub record AreAll (vs : List VrpValue) (value : Result Payloads VrpError) : Type 0 where
+  pub rising : IsRising vs
+  pub few : length vs ≤ 2000000
+  pub sound : AllSound vs
+  pub is : value ≡ Ok (set_of vs)
+
+-- why a file's payloads are not answered: memory ran out, it has some fault, which may be of its limit, or it has this one
+abbrev pub Explains : Stop → Result Payloads VrpError → Type 0
+Explains stop.Memory value = ⊤
+Explains stop.Crowded value = IsErr value
+Explains (stop.Fault e) value = value ≡ Err e
+
+-- of a file's rows these have been read, and those are still to come
+pub record IsReading (reader : ByteReader) (bytes : List ℕ) (row : ℕ) : Type 0 where
+  pub done : List Row
+  pub left : List Row
+  pub rows : rows_of bytes ≡ done ++ left
+  pub stands : Stands reader left
+  pub counted : row ≡ length done + 2
+
+-- the payloads of the rows that have been read have been gathered
+pub record IsGathering (reader : ByteReader) (bytes : List ℕ) (row : ℕ) (vs : List VrpValue) : Type 0 where
+  pub reading : IsReading reader bytes row
+  pub readable : list_all (λ r. is_ok (payload_of r)) reading.done ≡ true
+  pub members : (q : VrpValue) → stands_in vs q ≡ stands_in (given reading.done) q
+  pub sound : AllSound vs
+
+-- the payload of a record of this number has been let in, where it is no fault
+abbrev pub Admits : ℕ → Result VrpValue Wrong → List VrpValue → List VrpValue → Type 0
+Admits row (Ok v) old new = (fault_at (set_of old) row (Ok v) ≡ None) × ((q : VrpValue) → stands_in new q ≡ (eq_by_cmp vrp_cmp q v || stands_in old q))
+Admits row (Err w) old new = ⊥
+
+-- the record's fault, unless memory ran out
+abbrev pub Faults : VrpError → Option VrpError → Type 0
+Faults fault.Memory found = ⊤
+Faults e found = found ≡ Some e
+
+-- the rows that have been read have no fault, and their payloads stand in the list
+pub record IsAdmitting (reader : ByteReader) (bytes : List ℕ) (row : ℕ) (vs : List VrpValue) : Type 0 where
+  pub reading : IsReading reader bytes row
+  pub free : first_fault [] (rows_of bytes) ≡ first_fault reading.done reading.left
+  pub members : (q : VrpValue) → stands_in vs q ≡ stands_in (given reading.done) q

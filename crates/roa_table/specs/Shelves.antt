@@ -1,0 +1,38 @@
+-- All payloads in rising order, on shelves.
+use Rattle.std.specs.Prelude.{◌≡◌, ℕ, suc, ◌<◌, ◌≤◌, true, false, List, [], ◌∷◌, ◌++◌, length, drop, slice_index_or, ⊤}
+use Rattle.std.specs.List.{list_all, AllByRecursion}
+use Rattle.std.specs.Ordering.{is_lt}
+use Rattle.net_names.specs.Prefixes.{PrefixValue, prefix_cmp}
+use Rattle.net_names.specs.Payloads.{VrpValue}
+use Rattle.roa_table.specs.Sets.{IsSound}
+use Rattle.roa_table.specs.Lists.{IsRising, is_below, is_from, stands_in}
+use Rattle.roa_table.specs.declared.shelf.Shelf.{Shelf}
+
+-- the payloads of all shelves, in their order
+abbrev pub all_of : List Shelf → List VrpValue
+all_of [] = []
+all_of (s ∷ ss) = s.vrps.items ++ all_of ss
+
+-- of two shelves the first has prefixes below the second one's low prefix, and the second one has none of these
+pub record IsBefore (s t : Shelf) : Type 0 where
+  pub low : is_lt (prefix_cmp s.low t.low) ≡ true
+  pub below : list_all (is_below t.low) s.vrps.items ≡ true
+  pub from : list_all (is_from t.low) t.vrps.items ≡ true
+
+-- the payloads of each shelf rise, and each shelf is before the later ones
+abbrev pub IsInOrder : List Shelf → Type 0
+IsInOrder [] = ⊤
+IsInOrder (s ∷ ss) = IsRising s.vrps.items × AllByRecursion (IsBefore s) ss × IsInOrder ss
+
+-- the shelf on which payloads of this prefix stand: the last one whose low prefix is not above it, or else the first one
+pub record IsHome (ss : List Shelf) (p : PrefixValue) (k : ℕ) : Type 0 where
+  pub inside : k < length ss
+  pub low : (s : Shelf) → 0 < k → is_lt (prefix_cmp p (slice_index_or ss k s).low) ≡ false
+  pub later : AllByRecursion (λ (t : Shelf). is_lt (prefix_cmp p t.low) ≡ true) (drop (suc k) ss)
+
+-- the shelves of a set: in order, of payloads each, of so many and at most 2,000,000
+pub record IsTable (ss : List Shelf) (n : ℕ) : Type 0 where
+  pub order : IsInOrder ss
+  pub sound : (v : VrpValue) → stands_in (all_of ss) v ≡ true → IsSound v
+  pub counted : n ≡ length (all_of ss)
+  pub bound : n ≤ 2000000

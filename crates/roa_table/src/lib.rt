@@ -1,0 +1,24 @@
+//! Sets of validated ROA payloads, and the CSV files that they are read from.
+//!
+//! [`Vrps`] is a finite set of at most 2,000,000 payloads. It tells the payloads of one prefix and those that cover one, in
+//! order. [`read`] gives the set of all payloads of a file, or the first fault of its first faulty row.
+#![tactic(auto)]
+
+mod covering;
+mod crowd;
+mod errors;
+mod file;
+mod gather;
+mod record;
+mod row;
+mod rows;
+mod shelf;
+mod shelves;
+mod table;
+#[cfg(test)]
+mod tests;
+
+pub use covering::Covering;
+pub use errors::{AddError, VrpError};
+pub use file::read;
+pub use table::Vrps;
