@@ -29,6 +29,7 @@ fn looks_at(part: Part, rel: Rel) -> bool
 {
     match part {
         Part::Up => rel == Rel::Customer,
+        Part::Down => rel == Rel::Provider,
         Part::Whole => true,
     }
 }

@@ -4,3 +4,6 @@ pub mod Spending
 pub mod Holders
 pub mod Ended
 pub mod Idle
+pub mod Reaching
+pub mod Quiet
+pub mod Settled

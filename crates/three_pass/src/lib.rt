@@ -7,6 +7,7 @@
 #![tactic(auto)]
 
 mod passes;
+mod reached;
 mod stable;
 
 pub use stable::propagate;

@@ -14,6 +14,7 @@ ghost use Rattle.route_choice.specs.Tables.{prefix_of, table_uses};
 ghost use Rattle.three_pass.specs.Spending.{FewNewCells};
 
 use crate::passes::{go_down, go_up};
+use crate::reached::Reached;
 use as_graph::Graph;
 use net_names::{NoMemory, Prefix};
 use path_pool::PathPool;
@@ -84,6 +85,7 @@ pub fn propagate<P: RoutePolicy, V: OriginStates, L: Ledger>(
     let table = Table::new(alloc, prefix);
     let mut overlay = Overlay::blank(alloc, graph.rows(), count + 1)?;
     make_room(pool, count)?;
+    let mut reached = Reached::none(alloc, count);
     go_up(
         graph,
         ranks,
@@ -95,6 +97,7 @@ pub fn propagate<P: RoutePolicy, V: OriginStates, L: Ledger>(
         pool,
         &table,
         &mut overlay,
+        &mut reached,
         steps,
     );
     go_down(
@@ -102,6 +105,7 @@ pub fn propagate<P: RoutePolicy, V: OriginStates, L: Ledger>(
         ranks,
         order,
         rows,
+        &reached,
         book,
         states,
         seeds,

@@ -1,7 +1,7 @@
-use Rattle.std.proofs.Common.{arith, true, ◌≡◌, ◌==◌, ℕ, ◌+◌, ◌-◌, ◌<◌, ◌∷◌, ◌++◌, [], length, take, sym, subst, ap, ◌∙◌}
-use Rattle.std.proofs.lemmas.Bool.{eq-eqb}
+use Rattle.std.proofs.Common.{arith, true, false, ◌||◌, refl, ◌≡◌, ◌==◌, ℕ, ◌+◌, ◌-◌, ◌<◌, ◌∷◌, ◌++◌, [], length, take, sym, subst, ap, ◌∙◌}
+use Rattle.std.proofs.lemmas.Bool.{eq-eqb, or_right}
 use Rattle.std.proofs.lemmas.List.{take_more, take_all}
-use Rattle.std.proofs.lemmas.List.Folds.{list_any_at}
+use Rattle.std.proofs.lemmas.List.Folds.{list_any-append, list_any_at}
 use Rattle.net_names.specs.Numbers.{occurs}
 use Rattle.as_graph.specs.Topology.{what, ases}
 use Rattle.as_graph.proofs.Links.{what_mutual, what_self, topology-AreLinks}
@@ -14,12 +14,39 @@ use Rattle.route_choice.specs.declared.choice.Part.TheVariants.{Whole}
 use Rattle.route_choice.specs.Routings.{routing_of, seeds_of}
 use Rattle.route_choice.specs.Tables.{prefix_of}
 use Rattle.three_pass.specs.Progress.{AfterWhole}
-use Rattle.three_pass.proofs.InOrder.{turn, down_more, down_fresh, all_right}
+use Rattle.three_pass.proofs.InOrder.{turn, down_same, down_more, down_fresh, all_right}
+use Rattle.three_pass.proofs.Quiet.{still_quiet}
+use Rattle.three_pass.proofs.Settled.{settled}
 use Rattle.three_pass.proofs.Spending.{can_step, spent_nothing, visited, step_seeds}
 use Rattle.three_pass.proofs.passes.go_down.Goals as goal
 
-pub visit-requires : goal.visit-requires
-visit-requires g c = can_step c.loop-left.pool c.args.seeds.now c.args.table.now c.loop-left.overlay c.args.order.now c.loop-left.invariant.room (omega (arith, c.loop-left-test.true, c.loop-left.invariant.within))
+pub step_down-requires-clause-can : goal.step_down-requires-clause-can
+step_down-requires-clause-can g c = can_step c.loop-left.pool c.args.seeds.now c.args.table.now c.loop-left.overlay c.args.order.now c.loop-left.invariant.room (omega (arith, c.loop-left-test.true, c.loop-left.invariant.within))
+
+pub step_down-requires-clause-quiet : goal.step_down-requires-clause-quiet
+step_down-requires-clause-quiet g c = c.loop-left.invariant.quiet c.index-order-left.result
+
+pub step_down-requires-clause-held : goal.step_down-requires-clause-held
+step_down-requires-clause-held g c = λ some.
+    let meaning = g.P.RoutePolicy.meaning in
+    let w = c.args.graph.now in
+    let here = setting meaning w c.args.book.now (g.V.OriginStates.state_of c.args.states.now (prefix_of c.args.table.now)) in
+    let lawful = λ (a : ℕ). (let p = policy_at c.args.book.now a in
+    let is : IsLawful (meaning p) = record { ranks_offers = g.met.P.RoutePolicy.ranks_offers p; prefers_customers = g.met.P.RoutePolicy.prefers_customers p; exports_down_only = g.met.P.RoutePolicy.exports_down_only p } in is) in
+    let xs = c.args.order.now in
+    let i = c.loop-left.left - 1 in
+    let a = c.index-order-left.result in
+    let left = c.loop-left-test.true in
+    let seeds = seeds_of c.args.pool.now c.args.seeds.now in
+    let f = routing_of c.loop-left.pool c.args.table.now c.loop-left.overlay in
+    let back : i + 1 ≡ c.loop-left.left = omega arith in
+    let within : i < length xs = omega (arith, c.loop-left.invariant.within) in
+    let more : take (i + 1) xs ≡ take i xs ++ a ∷ [] = take_more xs i a within ∙ ap (λ t. take i xs ++ t ∷ []) (sym c.index-order-left.is) in
+    let there : occurs a xs ≡ true = list_any_at (λ y. y == a) xs i a within (eq-eqb _ a (sym c.index-order-left.is)) in
+    let still : occurs a (take c.loop-left.left xs) ≡ true = ap (λ k. occurs a (take k xs)) (sym back) ∙ ap (occurs a) more ∙ list_any-append (λ y. y == a) (take i xs) (a ∷ []) ∙ or_right (occurs a (take i xs)) _ (ap (λ t. t || false) (eq-eqb a a refl)) in
+    step_seeds Whole here seeds (seeds_of c.loop-left.pool c.args.seeds.now) f a f
+    (settled here lawful f a seeds some (c.loop-left.invariant.so_far.still a still) (c.loop-left.invariant.so_far.low a (sym (c.requires.order.complete a) ∙ there)))
+    (sym (c.loop-left.invariant.spent.keeps.same_seeds a))
 
 pub loop-left-init : goal.loop-left-init
 loop-left-init g c =
@@ -37,6 +64,7 @@ loop-left-init g c =
       steps = omega arith;
       so_far = subst (λ ys. AfterWhole here seeds ys f) (sym (take_all (length xs) xs (omega arith)))
           (turn here lawful (what_mutual w) (what_self w) seeds (rank_at c.args.ranks.now) falls xs c.requires.order f c.requires.up);
+      quiet = c.requires.reached;
       room = c.requires.room;
       spent = spent_nothing c.args.pool.now c.args.seeds.now c.args.table.now c.args.overlay.now xs;
     }
@@ -55,20 +83,21 @@ loop-left-preserved g c =
     let some = c.loop-left-test.true in
     let seeds = seeds_of c.args.pool.now c.args.seeds.now in
     let f = routing_of c.loop-left.pool c.args.table.now c.loop-left.overlay in
-    let f' = routing_of c.visit.new.pool c.args.table.now c.visit.new.overlay in
+    let f' = routing_of c.step_down.new.pool c.args.table.now c.step_down.new.overlay in
     let back : i + 1 ≡ c.loop-left.left = omega arith in
     let within : i < length xs = omega (arith, c.loop-left.invariant.within) in
     let more : take (i + 1) xs ≡ take i xs ++ a ∷ [] = take_more xs i a within ∙ ap (λ t. take i xs ++ t ∷ []) (sym c.index-order-left.is) in
     let there : occurs a xs ≡ true = list_any_at (λ y. y == a) xs i a within (eq-eqb _ a (sym c.index-order-left.is)) in
     let so_far = subst (λ k. AfterWhole here seeds (take k xs) f) (sym back) c.loop-left.invariant.so_far in
-    let step = step_seeds Whole here (seeds_of c.loop-left.pool c.args.seeds.now) seeds f a f' c.visit.ensures.step (c.loop-left.invariant.spent.keeps.same_seeds a) in
+    let step = step_seeds Whole here (seeds_of c.loop-left.pool c.args.seeds.now) seeds f a f' c.step_down.ensures.step (c.loop-left.invariant.spent.keeps.same_seeds a) in
     let fresh = down_fresh here lawful (what_mutual w) (what_self w) seeds (rank_at c.args.ranks.now) falls xs c.requires.order i a a f f' within c.index-order-left.is more step so_far in
-    let both = visited c.args.pool.now c.loop-left.pool c.visit.new.pool c.args.seeds.now c.args.table.now c.args.overlay.now c.loop-left.overlay c.visit.new.overlay xs a c.visit.result
-    c.requires.order.apart there c.loop-left.invariant.room c.loop-left.invariant.spent c.visit.ensures.changed c.visit.ensures.unchanged step.others c.visit.ensures.spent c.visit.ensures.kept fresh in
+    let both = visited c.args.pool.now c.loop-left.pool c.step_down.new.pool c.args.seeds.now c.args.table.now c.args.overlay.now c.loop-left.overlay c.step_down.new.overlay xs a c.step_down.result
+    c.requires.order.apart there c.loop-left.invariant.room c.loop-left.invariant.spent c.step_down.ensures.changed c.step_down.ensures.unchanged step.others c.step_down.ensures.spent c.step_down.ensures.kept fresh in
     record {
       within = omega (arith, c.loop-left.invariant.within);
-      steps = omega (arith, c.visit.ensures.cost, c.loop-left.invariant.steps);
+      steps = omega (arith, c.step_down.ensures.cost, c.loop-left.invariant.steps);
       so_far = down_more here lawful (what_mutual w) (what_self w) seeds (rank_at c.args.ranks.now) falls xs c.requires.order i a a f f' within c.index-order-left.is more step so_far;
+      quiet = λ b out. still_quiet here f f' b (down_same here lawful (what_mutual w) (what_self w) seeds (rank_at c.args.ranks.now) falls xs c.requires.order i a a f f' within c.index-order-left.is step so_far) (c.loop-left.invariant.quiet b out);
       room = both.0;
       spent = both.1;
     }

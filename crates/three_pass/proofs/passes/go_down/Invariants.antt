@@ -1,8 +1,9 @@
-use Rattle.std.proofs.Common.{take, length, ◌≤◌, ◌+◌}
+use Rattle.std.proofs.Common.{◌≡◌, ℕ, false, take, length, ◌≤◌, ◌+◌}
 use Rattle.stability_laws.specs.World.{setting}
 use Rattle.route_choice.specs.Routings.{routing_of, seeds_of}
 use Rattle.route_choice.specs.Tables.{prefix_of}
 use Rattle.three_pass.specs.Progress.{AfterWhole}
+use Rattle.three_pass.specs.Reached.{is_reached, IsQuiet}
 use Rattle.three_pass.specs.Spending.{CanGo, HasSpent}
 use Rattle.three_pass.proofs.passes.go_down.Given as goal
 
@@ -11,6 +12,7 @@ invariant-loop-left g l = record {
   within : l.left ≤ length l.order;
   steps : l.steps + l.left ≤ l.initial.steps + length l.order;
   so_far : AfterWhole (setting g.P.RoutePolicy.meaning l.graph l.book (g.V.OriginStates.state_of l.states (prefix_of l.table))) (seeds_of l.initial.pool l.seeds) (take l.left l.order) (routing_of l.pool l.table l.overlay);
+  quiet : (a : ℕ) → is_reached l.reached a ≡ false → IsQuiet (setting g.P.RoutePolicy.meaning l.graph l.book (g.V.OriginStates.state_of l.states (prefix_of l.table))) (routing_of l.pool l.table l.overlay) a;
   room : CanGo l.pool l.seeds l.table l.overlay l.order;
   spent : HasSpent l.initial.pool l.pool l.seeds l.table l.initial.overlay l.overlay l.order;
 }

@@ -1,5 +1,7 @@
-use Rattle.std.proofs.Common.{arith, ◌≡◌, ℕ, ◌+◌, ◌∷◌, ◌++◌, [], slice_index, refl, option_map, take, ap}
-use Rattle.std.proofs.lemmas.List.{take_more}
+use Rattle.std.proofs.Common.{arith, inl, inr, ◌≡◌, ℕ, ◌+◌, ◌∷◌, ◌++◌, ◌∙◌, [], slice_index, refl, sym, option_map, take, ap}
+use Rattle.std.proofs.lemmas.Bool.{cases_eq}
+use Rattle.std.proofs.lemmas.List.{take_more, take_all}
+use Rattle.net_names.specs.Numbers.{occurs}
 use Rattle.as_graph.specs.Topology.{what, ases}
 use Rattle.as_graph.proofs.Links.{what_mutual, what_self, topology-AreLinks}
 use Rattle.as_graph.proofs.Ranks.{ranks_fall}
@@ -10,7 +12,9 @@ use Rattle.stability_laws.specs.Stable.{IsLawful}
 use Rattle.route_choice.specs.declared.choice.Part.TheVariants.{Up}
 use Rattle.route_choice.specs.Routings.{entry_of, routing_of, seeds_of}
 use Rattle.route_choice.specs.Tables.{prefix_of}
-use Rattle.three_pass.proofs.InOrder.{none_yet, up_more, up_fresh}
+use Rattle.three_pass.specs.Reached.{is_reached}
+use Rattle.three_pass.proofs.InOrder.{in_more, none_yet, up_more, up_fresh}
+use Rattle.three_pass.proofs.Quiet.{quiet_from}
 use Rattle.three_pass.proofs.Spending.{spent_nothing, spent_more, step_seeds}
 use Rattle.three_pass.proofs.passes.go_up.Goals as goal
 
@@ -21,6 +25,7 @@ loop-place-init g c =
     record {
       steps = omega arith;
       so_far = none_yet here (seeds_of pool c.args.seeds.now) (routing_of pool c.args.table.now c.args.overlay.now) (λ a. ap (option_map (entry_of pool)) (c.requires.empty a));
+      holders = λ b n r there some linked other. cc;
       room = c.requires.room;
       spent = spent_nothing pool c.args.seeds.now c.args.table.now c.args.overlay.now c.args.order.now;
     }
@@ -37,6 +42,14 @@ step_up-requires-clause-nothing g c =
     let i = c.loop-place.place in
     up_fresh here lawful (what_mutual w) (what_self w) (seeds_of c.args.pool.now c.args.seeds.now) (rank_at c.args.ranks.now) falls xs c.requires.order
     i 0 (slice_index xs i) (routing_of c.loop-place.pool c.args.table.now c.loop-place.overlay) c.loop-place-test.true refl c.loop-place.invariant.so_far
+
+pub step_up-requires-clause-quiet : goal.step_up-requires-clause-quiet
+step_up-requires-clause-quiet g c =
+    let here = setting g.P.RoutePolicy.meaning c.args.graph.now c.args.book.now (g.V.OriginStates.state_of c.args.states.now (prefix_of c.args.table.now)) in
+    let xs = c.args.order.now in
+    let i = c.loop-place.place in
+    quiet_from here (routing_of c.loop-place.pool c.args.table.now c.loop-place.overlay) (take i xs) (is_reached c.loop-place.reached) (what_mutual c.args.graph.now)
+    c.loop-place.invariant.so_far.rest c.loop-place.invariant.holders (slice_index xs i)
 
 pub loop-place-preserved : goal.loop-place-preserved
 loop-place-preserved g c =
@@ -57,6 +70,17 @@ loop-place-preserved g c =
     record {
       steps = omega (arith, c.step_up.ensures.cost, c.loop-place.invariant.steps);
       so_far = up_more here lawful (what_mutual w) (what_self w) seeds (rank_at c.args.ranks.now) falls xs c.requires.order i 0 a f f' c.loop-place-test.true refl more step c.loop-place.invariant.so_far;
+      holders = λ b n r there some linked other. elim (cases_eq b a) [
+        | inl e ↦ c.step_up.ensures.around (λ none. some (ap f' e ∙ none)) n r (ap (λ t. what w t n) (sym e) ∙ linked) other
+        | inr ne ↦ elim (in_more b a (take i xs) (take (i + 1) xs) more there) [
+          | inl e ↦ absurd (ne (sym e))
+          | inr e ↦ c.step_up.ensures.others n (c.loop-place.invariant.holders b n r e (λ none. some (step.others b ne ∙ none)) linked other)
+        ]
+      ];
       room = c.step_up.ensures.room;
       spent = spent_more c.args.pool.now c.loop-place.pool c.step_up.new.pool c.args.seeds.now c.args.table.now c.args.overlay.now c.loop-place.overlay c.step_up.new.overlay xs c.loop-place.invariant.spent c.step_up.ensures.spent;
     }
+
+pub returns-clause-reached : goal.returns-clause-reached
+returns-clause-reached g c = λ b n r there some linked other.
+    c.loop-place.invariant.holders b n r (ap (occurs b) (take_all c.loop-place.place c.args.order.now (omega arith)) ∙ there) some linked other

@@ -1,4 +1,4 @@
-use Rattle.std.proofs.Common.{arith, inl, true, ◌≡◌, ◌==◌, slice_index, option_map, sym, ap, ◌∙◌}
+use Rattle.std.proofs.Common.{arith, inl, inr, ℕ, true, ◌≡◌, ◌==◌, slice_index, option_map, sym, ap, ◌∙◌}
 use Rattle.std.proofs.lemmas.Bool.{eq-eqb}
 use Rattle.std.proofs.lemmas.List.{get_or_read}
 use Rattle.std.proofs.lemmas.List.Folds.{list_any_at}
@@ -7,11 +7,16 @@ use Rattle.as_graph.specs.Topology.{what, ases}
 use Rattle.as_graph.proofs.Links.{topology-AreLinks}
 use Rattle.as_graph.proofs.Ranks.{ranks_fall}
 use Rattle.rank_order.specs.Ranks.{rank_at}
+use Rattle.stability_laws.specs.Book.{policy_at}
+use Rattle.stability_laws.specs.Offers.{offer}
+use Rattle.stability_laws.specs.Stable.{IsLawful}
 use Rattle.stability_laws.specs.World.{setting}
-use Rattle.route_choice.specs.Routings.{routing_of, seed_of, seeds_of}
+use Rattle.route_choice.specs.Routings.{entry_of, routing_of, seed_of, seeds_of}
 use Rattle.route_choice.specs.Tables.{prefix_of, seed_at}
 use Rattle.three_pass.specs.Spending.{CanGo, HasSpent}
-use Rattle.three_pass.proofs.Idle.{idle}
+use Rattle.three_pass.specs.Reached.{is_reached}
+use Rattle.three_pass.proofs.Idle.{idle, no_customer}
+use Rattle.three_pass.proofs.Quiet.{up_none}
 use Rattle.three_pass.proofs.Spending.{can_step, spent_nothing, visited}
 use Rattle.three_pass.proofs.passes.step_up.Given as given
 use Rattle.three_pass.proofs.passes.step_up.Goals as goal
@@ -21,20 +26,26 @@ visit-requires g c = can_step c.args.pool.now c.args.seeds.now c.args.table.now 
 
 pub returns-then-has_none_to_take-clause-step : goal.returns-then-has_none_to_take-clause-step
 returns-then-has_none_to_take-clause-step g c =
+    let meaning = g.P.RoutePolicy.meaning in
     let w = c.args.graph.now in
-    let here = setting g.P.RoutePolicy.meaning w c.args.book.now (g.V.OriginStates.state_of c.args.states.now (prefix_of c.args.table.now)) in
+    let here = setting meaning w c.args.book.now (g.V.OriginStates.state_of c.args.states.now (prefix_of c.args.table.now)) in
+    let lawful = λ (a : ℕ). (let p = policy_at c.args.book.now a in
+    let is : IsLawful (meaning p) = record { ranks_offers = g.met.P.RoutePolicy.ranks_offers p; prefers_customers = g.met.P.RoutePolicy.prefers_customers p; exports_down_only = g.met.P.RoutePolicy.exports_down_only p } in is) in
     let rank = rank_at c.args.ranks.now in
     let a = slice_index c.args.order.now c.args.place in
     let read = get_or_read c.args.order.now c.args.place c.index-order-place.result c.requires.inside c.index-order-place.is 0 in
     let none = c.has_none_to_take.ensures c.if-has_none_to_take.true in
-    let low : rank a ≡ 0 = ap rank (sym read) ∙ none.0 in
+    let f = routing_of c.args.pool.now c.args.table.now c.args.overlay.now in
     let no_seed = ap (option_map (seed_of c.args.pool.now)) (ap (seed_at c.args.seeds.now) (sym read) ∙ none.1) in
     let falls = (ranks_fall (what w) (ases w) (topology-AreLinks w) c.requires.no_cycle rank c.requires.ranks).falls in
-    idle here (seeds_of c.args.pool.now c.args.seeds.now) (routing_of c.args.pool.now c.args.table.now c.args.overlay.now) a no_seed c.requires.nothing
-    (λ n linked. (let less = falls a n linked in absurd (omega (arith, less, low))))
+    idle here (seeds_of c.args.pool.now c.args.seeds.now) f a no_seed c.requires.nothing
+    (elim none.0 [
+      | inl low ↦ λ n. no_customer (here.what a n) (offer here f n a) (λ linked. (let less = falls a n linked in let zero : rank a ≡ 0 = ap rank (sym read) ∙ low in absurd (omega (arith, less, zero))))
+      | inr out ↦ up_none here lawful f a (c.requires.quiet (ap (is_reached c.args.reached.now) (sym read) ∙ out))
+    ])
 
 -- what the step took
-both : (g : given.Over) (c : goal.After-visit g) → CanGo c.visit.new.pool c.args.seeds.now c.args.table.now c.visit.new.overlay c.args.order.now × HasSpent c.args.pool.now c.visit.new.pool c.args.seeds.now c.args.table.now c.args.overlay.now c.visit.new.overlay c.args.order.now
+both : (g : given.Over) (c : goal.After-add_holder g) → CanGo c.visit.new.pool c.args.seeds.now c.args.table.now c.visit.new.overlay c.args.order.now × HasSpent c.args.pool.now c.visit.new.pool c.args.seeds.now c.args.table.now c.args.overlay.now c.visit.new.overlay c.args.order.now
 both g c =
     let xs = c.args.order.now in
     let a = c.index-order-place.result in
@@ -50,3 +61,11 @@ returns-clause-room g c = (both g c).0
 
 pub returns-clause-spent : goal.returns-clause-spent
 returns-clause-spent g c = (both g c).1
+
+pub returns-then-has_none_to_take-clause-around : goal.returns-then-has_none_to_take-clause-around
+returns-then-has_none_to_take-clause-around g c = λ some. absurd (some c.requires.nothing)
+
+pub returns-clause-around : goal.returns-clause-around
+returns-clause-around g c = λ some n r linked other.
+    let read = get_or_read c.args.order.now c.args.place c.index-order-place.result c.requires.inside c.index-order-place.is 0 in
+    c.add_holder.ensures.around (λ none. some (ap (routing_of c.visit.new.pool c.args.table.now c.visit.new.overlay) (sym read) ∙ ap (option_map (entry_of c.visit.new.pool)) none)) n r (ap (λ t. what c.args.graph.now t n) read ∙ linked) other
