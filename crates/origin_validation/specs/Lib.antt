@@ -1,2 +1,4 @@
 pub mod Judging
 pub mod Leaving
+pub mod Known
+pub mod Found

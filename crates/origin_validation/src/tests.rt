@@ -1,5 +1,5 @@
 //! States worked by hand from the rules of RFC 6811.
-use crate::{States, explain, state};
+use crate::{KnownStates, States, explain, state};
 use net_names::{Asn, Prefix, State, Vrp, read_prefix};
 use policy_laws::OriginStates;
 use roa_table::{Vrps, read};
@@ -94,5 +94,35 @@ fn many_payloads_of_a_prefix_are_searched(rt: HostRuntime) -> Result<(), Fail> {
     let (inner, other) = route(b"10.1.0.0/16", 41).ok_or("a route")?;
     assert_eq!(rt; state(&vrps, inner, origin), State::Valid);
     assert_eq!(rt; state(&vrps, inner, other), State::Invalid);
+    Ok(())
+}
+
+#[test]
+fn kept_states_are_those_over_the_set(rt: HostRuntime) -> Result<(), Fail> {
+    let vrps = payloads(rt.alloc())?;
+    let mut known = KnownStates::of(rt.alloc(), &vrps);
+    let rows: [(&[u8], u32, State); 8] = [
+        (b"10.1.0.0/16", 4, State::Valid),
+        (b"10.1.0.0/16", 5, State::Invalid),
+        (b"10.1.1.0/24", 4, State::Invalid),
+        (b"11.0.0.0/8", 4, State::NotFound),
+        (b"192.0.2.0/24", 4, State::Invalid),
+        (b"198.51.100.0/25", 7, State::Valid),
+        (b"2001:db8::/32", 5, State::Valid),
+        (b"2001:db9::/32", 5, State::NotFound),
+    ];
+    for row in &rows {
+        let (prefix, origin) = route(row.0, row.1).ok_or("a route")?;
+        assert_eq!(rt; known.state(prefix, origin), row.2);
+    }
+    for row in &rows[..4] {
+        let (prefix, origin) = route(row.0, row.1).ok_or("a route")?;
+        assert!(rt; known.find(prefix, origin) == Ok(()));
+    }
+    for row in &rows {
+        let (prefix, origin) = route(row.0, row.1).ok_or("a route")?;
+        assert_eq!(rt; known.state(prefix, origin), row.2);
+        assert_eq!(rt; state(&vrps, prefix, origin), row.2);
+    }
     Ok(())
 }
