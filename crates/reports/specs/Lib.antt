@@ -1,3 +1,4 @@
 pub mod Rows
 pub mod Growth
 pub mod Held
+pub mod Validity

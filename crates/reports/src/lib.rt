@@ -5,9 +5,12 @@
 //! as it was.
 #![tactic(auto)]
 
+mod bytes;
 mod rows;
+mod validity;
 
 pub use rows::{put_numbers, put_route, put_routes};
+pub use validity::put_validity;
 
 #[cfg(test)]
 mod tests;

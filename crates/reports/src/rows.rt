@@ -8,20 +8,11 @@ ghost use Rattle.reports.specs.Growth.{Grows};
 ghost use Rattle.reports.specs.Held.{IsHeldLive};
 ghost use Rattle.reports.specs.Rows.{class_word, entry_text, more_numbers, numbers_text, otc_text, row as row_of, AppendsTable};
 
+use crate::bytes::put_bytes;
 use as_graph::Graph;
 use net_names::{Asn, Class, NoMemory, put_asn};
 use path_pool::{PathId, PathPool};
 use route_choice::{Held, Table};
-
-fn put_bytes(out: &mut Vec<u8>, bytes: &[u8]) -> Result<(), NoMemory>
-    ensures ok { OnOk result (out.new.items ≡ out.old.items ++ bytes.now) }
-    ensures err { OnErr result (Grows out.old.items out.new.items) }
-{
-    match out.extend_from_slice(bytes) {
-        Ok(()) => Ok(()),
-        Err(_) => Err(NoMemory),
-    }
-}
 
 fn class_name(class: Class) -> &'static str
     ensures { result.now ≡ class_word class }

@@ -1,0 +1,25 @@
+-- The printed text of a validation state: a line for the state, and a row for each payload.
+use Rattle.std.specs.Prelude.{ℕ, List, ◌∷◌, [], ◌++◌, codes, decimal}
+use Rattle.std.specs.List.{flat_map}
+use Rattle.net_names.specs.Payloads.{VrpValue}
+use Rattle.net_names.specs.Texts.{prefix_text}
+use Rattle.net_names.specs.declared.routes.State.{State}
+use Rattle.net_names.specs.declared.routes.State.TheVariants as state
+
+-- the word for a validation state (own format)
+abbrev pub state_word : State → List ℕ
+state_word state.Valid = codes "valid"
+state_word state.Invalid = codes "invalid"
+state_word state.NotFound = codes "not-found"
+
+-- the row of a payload: its number, `|`, its prefix, `|`, its maximum length and a line feed (own format)
+abbrev pub payload_row : VrpValue → List ℕ
+payload_row v = decimal v.asn ++ (124 ∷ (prefix_text v.prefix ++ (124 ∷ (decimal v.max ++ 10 ∷ []))))
+
+-- the rows of payloads, in their order (own format)
+abbrev pub payload_rows : List VrpValue → List ℕ
+payload_rows = flat_map payload_row
+
+-- the line of a validation state and a line feed, and the rows of the payloads that cover the prefix (own format)
+abbrev pub validity_text : State → List VrpValue → List ℕ
+validity_text s vrps = codes "state|" ++ (state_word s ++ (10 ∷ payload_rows vrps))
