@@ -1,5 +1,5 @@
 -- Plans and policies that are made one entry after the other.
-use Rattle.std.proofs.Common.{◌≡◌, ◌≢◌, ℕ, suc, ◌+◌, ◌<◌, ◌≤◌, Bool, true, false, cond, List, [], ◌∷◌, ◌++◌, map, filter, take, length, get_or, slice_get, is_some, ◌||◌, IsTrue, Option, Some, None, refl, sym, ap, ◌∙◌, subst, arith}
+use Rattle.std.proofs.Common.{◌≡◌, ◌≢◌, ℕ, suc, ◌+◌, ◌<◌, Bool, true, false, cond, List, [], ◌∷◌, ◌++◌, map, filter, take, length, get_or, is_some, ◌||◌, IsTrue, Option, Some, None, refl, sym, ap, ◌∙◌, subst, arith}
 use Rattle.std.specs.List.{All, AllPairs}
 use Rattle.std.proofs.Common.{append_assoc, append-nil}
 use Rattle.std.proofs.lemmas.List.{get_or-take, length-take, take_more}
@@ -14,7 +14,7 @@ use Rattle.std.specs.FinMap as fin
 use Rattle.std.specs.FinSet as set
 use Rattle.std.specs.FinMap.Entries.{find}
 use Rattle.net_names.specs.Links.{pair_cmp}
-use Rattle.net_names.specs.Prefixes.{PrefixValue, prefix_cmp}
+use Rattle.net_names.specs.Prefixes.{PrefixValue}
 use Rattle.net_names.proofs.Pairs.{pairs_total}
 use Rattle.policy_kinds.specs.declared.kind.Kind.{Kind}
 use Rattle.stability_laws.specs.Plans.{Plan, announcement_cmp, announcer_of, announces, with_announcement, with_leaker}

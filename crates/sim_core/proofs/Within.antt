@@ -1,26 +1,24 @@
 -- The plan of a scenario is within the limits, and its names are the marks of its world.
-use Rattle.std.proofs.Common.{◌≡◌, ℕ, suc, ◌+◌, ◌≤◌, Bool, true, false, ◌||◌, ◌==◌, cond, List, [], ◌∷◌, ◌++◌, map, filter, flat_map, length, Option, Some, None, is_some, refl, sym, ap, ◌∙◌, subst, arith, append_assoc}
+use Rattle.std.proofs.Common.{◌≡◌, ℕ, suc, ◌+◌, ◌≤◌, Bool, true, false, ◌||◌, cond, List, [], ◌∷◌, ◌++◌, map, filter, flat_map, length, Some, is_some, refl, sym, ap, ◌∙◌, subst, arith}
 use Rattle.std.specs.List.{All}
 use Rattle.std.specs.Set.{distinct_count, unique_keys, is_member}
 use Rattle.std.specs.Cmp.{IsTotalOrder}
-use Rattle.std.specs.Ordering.{nat_cmp, eq_by_cmp}
+use Rattle.std.specs.Ordering.{eq_by_cmp}
 use Rattle.std.specs.declared.cmp.Ordering.{Ordering}
 use Rattle.std.specs.FinMap as fin
 use Rattle.std.specs.FinMap.Entries.{find}
 use Rattle.std.proofs.lemmas.Cmp.{nat_cmp_total}
 use Rattle.std.proofs.lemmas.List.Elements.{All-head, All-tail}
 use Rattle.net_names.specs.Numbers.{occurs}
-use Rattle.net_names.specs.Links.{pair_cmp}
-use Rattle.net_names.specs.Prefixes.{PrefixValue, prefix_cmp}
+use Rattle.net_names.specs.Prefixes.{PrefixValue}
 use Rattle.net_names.proofs.Pairs.{pairs_total}
 use Rattle.as_graph.proofs.RowAses.{occurs-append}
-use Rattle.policy_kinds.specs.declared.kind.Kind.{Kind}
-use Rattle.stability_laws.specs.Plans.{announcement_cmp, announced_path, announcers_of}
+use Rattle.stability_laws.specs.Plans.{announcement_cmp, announcers_of}
 use Rattle.stability_laws.proofs.PlanOrders.{prefixes_total, announcements_total, exact_announcement}
 use Rattle.leak_round.specs.Limits.{IsWithinLimits}
-use Rattle.scenario_text.specs.Scenarios.{ScenarioValue, IsScenario, prefix_count}
+use Rattle.scenario_text.specs.Scenarios.{ScenarioValue, IsScenario}
 use Rattle.scenario_text.specs.declared.scenario.Announcement.{Announcement}
-use Rattle.sim_core.specs.Loaded.{is_other, kinds_of, leaks_from, names_in, plan_of, planned}
+use Rattle.sim_core.specs.Loaded.{is_other, kinds_of, leaks_from, names_in, plan_of}
 use Rattle.sim_core.specs.World.{leakers}
 use Rattle.sim_core.proofs.Keys.{occurs-from_entries}
 use Rattle.sim_core.proofs.Plans.{exact_pair}

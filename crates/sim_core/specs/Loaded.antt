@@ -2,11 +2,11 @@
 use Rattle.std.specs.Prelude.{ℕ, suc, ◌+◌, Bool, true, false, List, [], ◌∷◌, ◌++◌, map, filter, flat_map, length}
 use Rattle.std.specs.Ordering.{nat_cmp}
 use Rattle.std.specs.FinMap as fin
-use Rattle.net_names.specs.Links.{LinkMap, pair_cmp}
-use Rattle.net_names.specs.Prefixes.{prefix_cmp}
+use Rattle.net_names.specs.Links.{LinkMap}
 use Rattle.policy_kinds.specs.declared.kind.Kind.{Kind}
 use Rattle.policy_kinds.specs.declared.kind.Kind.TheVariants as kind
-use Rattle.stability_laws.specs.Plans.{Plan, announcement_cmp}
+use Rattle.roa_table.specs.Sets.{Payloads}
+use Rattle.stability_laws.specs.Plans.{Plan}
 use Rattle.scenario_text.specs.Scenarios.{ScenarioValue}
 use Rattle.scenario_text.specs.declared.scenario.Announcement.{Announcement}
 use Rattle.sim_core.specs.World.{World}
@@ -36,9 +36,9 @@ is_other p = elim p.1 [ kind.Plain ↦ false | _ ↦ true ]
 abbrev pub kinds_of : List (ℕ × Kind) → fin.FinMap nat_cmp Kind
 kinds_of policies = fin.from_entries (filter is_other policies)
 
--- the world of these links and this scenario: one round more than it has lists of leakers (own rule)
-abbrev pub world_of : LinkMap → ScenarioValue → World
-world_of links s = record { links = links; kinds = kinds_of s.policies; plan = plan_of s; rounds = length s.leaks + 1 }
+-- the world of these links, payloads and this scenario: one round more than it has lists of leakers (own rule)
+abbrev pub world_of : LinkMap → Payloads → ScenarioValue → World
+world_of links payloads s = record { links = links; payloads = payloads; kinds = kinds_of s.policies; plan = plan_of s; rounds = length s.leaks + 1 }
 
 -- the ASes that a scenario names by an announcement, a leak or a policy other than the plain one, some twice (own format)
 abbrev pub names_in : ScenarioValue → List ℕ

@@ -1,5 +1,5 @@
 -- Graphs with several marks.
-use Rattle.std.specs.Prelude.{◌≡◌, ◌<◌, ◌≤◌, ℕ, List, [], ◌∷◌, fold, Result, Ok, Err}
+use Rattle.std.specs.Prelude.{◌≡◌, ◌<◌, ◌≤◌, ℕ, List, fold, Result, Ok, Err}
 use Rattle.net_names.specs.Links.{LinkMap}
 use Rattle.as_graph.specs.Topology.{Topology, as_count, unmarked, with_mark}
 use Rattle.sim_core.specs.declared.errors.LoadError.{LoadError}

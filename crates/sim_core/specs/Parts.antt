@@ -1,22 +1,38 @@
 -- What a simulation is made of.
-use Rattle.std.specs.Prelude.{◌≡◌, ℕ, true, Option, None}
+use Rattle.std.specs.Prelude.{◌≡◌, ◌<◌, ◌+◌, ℕ, suc, true, IsTrue, length, Option, None}
 use Rattle.as_graph.specs.Topology.{Topology}
 use Rattle.net_names.specs.Prefixes.{PrefixValue}
 use Rattle.policy_kinds.specs.declared.kind.Kind.{Kind}
+use Rattle.policy_kinds.specs.Kinds.{kind_policy}
+use Rattle.roa_table.specs.Sets.{Payloads}
+use Rattle.origin_validation.specs.Judging.{state_of}
+use Rattle.scenario_text.specs.Scenarios.{ScenarioValue}
 use Rattle.stability_laws.specs.Book.{PolicyBook}
+use Rattle.stability_laws.specs.Plans.{has_prefix}
+use Rattle.stability_laws.specs.Rounds.{AreRounds}
+use Rattle.stability_laws.specs.World.{setting}
 use Rattle.route_choice.specs.declared.table.Table.{Table}
 use Rattle.route_choice.specs.Resources.{AreEntriesLive}
 use Rattle.route_choice.specs.Routings.{table_routing}
 use Rattle.leak_round.specs.declared.rounds.Rounds.{Rounds}
 use Rattle.leak_round.specs.Rounds.{kept as kept_rounds, plan_of, pool_of, round_count}
-use Rattle.sim_core.specs.World.{World, topology, has_round, has_prefix as has_world_prefix}
+use Rattle.sim_core.specs.World.{World, has_round, has_prefix as has_world_prefix}
 use Rattle.sim_core.specs.Answers.{unless}
+use Rattle.sim_core.specs.Families.{Family}
+use Rattle.sim_core.specs.Loaded.{plan_of as plan_in}
 use Rattle.sim_core.specs.declared.errors.QueryError.{QueryError}
 use Rattle.sim_core.specs.declared.errors.QueryError.TheVariants as refused
 
--- the world of a graph, a book of policies and rounds (own rule)
-abbrev pub world_by : Topology → PolicyBook Kind → Rounds → World
-world_by graph book rounds = record { links = graph.links; kinds = book.named; plan = plan_of rounds; rounds = round_count rounds }
+-- the world of a graph, payloads, a book of policies and rounds (own rule)
+abbrev pub world_by : Topology → Payloads → PolicyBook Kind → Rounds → World
+world_by graph payloads book rounds = record { links = graph.links; payloads = payloads; kinds = book.named; plan = plan_of rounds; rounds = round_count rounds }
+
+-- the tables are the stable routings of the rounds of a graph, payloads, policies and a scenario, and there are no others (Gao and Rexford 2001; RFC 7908, section 3)
+pub record AreRoundsOf (graph : Topology) (payloads : Payloads) (book : PolicyBook Kind) (s : ScenarioValue) (rounds : Rounds) : Type 0 where
+  pub plan : plan_of rounds ≡ plan_in s
+  pub count : round_count rounds ≡ length s.leaks + 1
+  pub stable : AreRounds (λ p. setting kind_policy graph book (state_of payloads p)) (plan_in s) (length s.leaks + 1) (kept_rounds rounds)
+  pub only : (other : Family) → AreRounds (λ p. setting kind_policy graph book (state_of payloads p)) (plan_in s) (length s.leaks + 1) other → (before : ℕ) (prefix : PrefixValue) → before < length s.leaks + 1 → IsTrue (has_prefix (plan_in s) prefix) → (a : ℕ) → other (suc before) prefix a ≡ kept_rounds rounds (suc before) prefix a
 
 -- the table is that of a round and a prefix that are there, and the paths of its entries can be read (own rule)
 pub record IsTableOf (w : World) (rounds : Rounds) (round : ℕ) (prefix : PrefixValue) (table : Table) : Type 0 where

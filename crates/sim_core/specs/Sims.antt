@@ -7,7 +7,7 @@ use Rattle.sim_core.specs.declared.sim.Sim.{Sim}
 
 -- the world of a simulation (own rule)
 abbrev pub world_seen : Sim → World
-world_seen sim = world_by sim.graph sim.book sim.rounds
+world_seen sim = world_by sim.graph sim.vrps sim.book sim.rounds
 
 -- the routings that a simulation keeps: for each round and prefix what each AS holds (own rule)
 abbrev pub kept : Sim → Family

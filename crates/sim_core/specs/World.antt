@@ -10,13 +10,15 @@ use Rattle.as_graph.specs.Hierarchy.{IsProviderCycle}
 use Rattle.policy_kinds.specs.Kinds.{kind_policy}
 use Rattle.policy_kinds.specs.declared.kind.Kind.{Kind}
 use Rattle.policy_kinds.specs.declared.kind.Kind.TheVariants.{Plain}
-use Rattle.net_names.specs.declared.routes.State.TheVariants.{NotFound}
+use Rattle.roa_table.specs.Sets.{Payloads}
+use Rattle.origin_validation.specs.Judging.{state_of}
 use Rattle.stability_laws.specs.Offers.{Setting}
 use Rattle.stability_laws.specs.Plans.{Plan, announcers_of, has_prefix as plans_prefix}
 
--- the links between ASes, the policies of the ASes that have another than the plain one, what is announced and leaked, and how many rounds there are (own rule)
+-- the links between ASes, the validated payloads, the policies of the ASes that have another than the plain one, what is announced and leaked, and how many rounds there are (own rule)
 pub record World : Type 0 where
   pub links : LinkMap
+  pub payloads : Payloads
   pub kinds : fin.FinMap nat_cmp Kind
   pub plan : Plan
   pub rounds : ℕ
@@ -45,9 +47,9 @@ has_round w round = nat_le 1 round && nat_le round w.rounds
 abbrev pub kind_at : World → ℕ → Kind
 kind_at w a = unwrap_or (fin.get w.kinds a) Plain
 
--- what the routing of a prefix rests on: the ASes and their links, and their policies; without payloads each origin's state is not-found (RFC 6811, section 2)
+-- what the routing of a prefix rests on: the ASes and their links, their policies, and each origin's state by the payloads (RFC 6811, section 2)
 abbrev pub setting_of : World → PrefixValue → Setting
-setting_of w prefix = record { has = has_as w; what = what (topology w); policy = λ a. kind_policy (kind_at w a); state = λ origin. NotFound }
+setting_of w prefix = record { has = has_as w; what = what (topology w); policy = λ a. kind_policy (kind_at w a); state = state_of w.payloads prefix }
 
 -- there is a provider cycle among the links (Gao and Rexford 2001, the hierarchy assumption)
 abbrev pub HasCycle : World → Type 0

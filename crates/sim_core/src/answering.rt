@@ -4,50 +4,39 @@ ghost use Rattle.std.specs.FinMap as fin;
 ghost use Rattle.as_graph.specs.Topology.{as_count};
 ghost use Rattle.scenario_text.specs.declared.acts.Query.TheVariants as query;
 ghost use Rattle.sim_core.specs.Answers.{Answers, IsAnswered, IsQueryRefusal};
-ghost use Rattle.sim_core.specs.Parts.{IsTableOf, no_table, world_by};
+ghost use Rattle.sim_core.specs.Parts.{IsTableOf, no_table};
 ghost use Rattle.sim_core.specs.Sims.{kept, world_seen};
 ghost use Rattle.sim_core.specs.World.{topology};
 
 use crate::{QueryError, Sim};
-use as_graph::Graph;
-use leak_round::Rounds;
 use net_names::{Asn, Prefix};
-use policy_kinds::Kind;
-use reports::{put_route, put_routes};
+use origin_validation::explain;
+use reports::{put_route, put_routes, put_validity};
 use route_choice::Table;
 use scenario_text::Query;
-use stability_laws::Book;
-
-// The table of a round for a prefix.
-fn table_of<'a>(
-    graph: &Graph,
-    book: &Book<Kind>,
-    rounds: &'a Rounds,
-    round: u32,
-    prefix: Prefix,
-) -> Result<&'a Table, QueryError>
-    ensures found { IfOk result (λ t. IsTableOf (world_by graph.now book.now rounds.now) rounds.now round prefix t.now) }
-    ensures refused { IfErr result (λ e. no_table (world_by graph.now book.now rounds.now) round prefix ≡ Some e) }
-{
-    let _ = graph;
-    let _ = book;
-    let Some(tables) = rounds.round(round) else {
-        return Err(QueryError::UnknownRound { round });
-    };
-    match tables.table(prefix) {
-        Some(table) => Ok(table),
-        None => Err(QueryError::UnknownPrefix { prefix }),
-    }
-}
 
 impl Sim {
+    // The table of a round for a prefix.
+    fn table_of(&self, round: u32, prefix: Prefix) -> Result<&Table, QueryError>
+        ensures found { IfOk result (λ t. IsTableOf (world_seen self.now) self.now.rounds round prefix t.now) }
+        ensures refused { IfErr result (λ e. no_table (world_seen self.now) round prefix ≡ Some e) }
+    {
+        let Some(tables) = self.rounds.round(round) else {
+            return Err(QueryError::UnknownRound { round });
+        };
+        match tables.table(prefix) {
+            Some(table) => Ok(table),
+            None => Err(QueryError::UnknownPrefix { prefix }),
+        }
+    }
+
     // Appends the table of a round for a prefix.
     fn put_routes(&self, round: u32, prefix: Prefix, out: &mut Vec<u8>) -> Result<(), QueryError>
         ensures answered { OnOk result (Answers (world_seen self.now) (kept self.now) (query.Routes round prefix) out.old.items out.new.items) }
         ensures refused { IfErr result (IsQueryRefusal (world_seen self.now) (query.Routes round prefix)) }
         ensures err { OnErr result (out.new.items ≡ out.old.items) }
     {
-        let table = match table_of(&self.graph, &self.book, &self.rounds, round, prefix) {
+        let table = match self.table_of(round, prefix) {
             Ok(table) => table,
             Err(error) => return Err(error),
         };
@@ -69,7 +58,7 @@ impl Sim {
         ensures refused { IfErr result (IsQueryRefusal (world_seen self.now) (query.Route round prefix asn)) }
         ensures err { OnErr result (out.new.items ≡ out.old.items) }
     {
-        let table = match table_of(&self.graph, &self.book, &self.rounds, round, prefix) {
+        let table = match self.table_of(round, prefix) {
             Ok(table) => table,
             Err(error) => return Err(error),
         };
@@ -82,11 +71,26 @@ impl Sim {
         }
     }
 
+    // Appends the state of a prefix with an origin, and the payloads that cover the prefix.
+    fn put_validity(&self, prefix: Prefix, origin: Asn, out: &mut Vec<u8>) -> Result<(), QueryError>
+        ensures answered { OnOk result (Answers (world_seen self.now) (kept self.now) (query.Validity prefix origin) out.old.items out.new.items) }
+        ensures refused { IfErr result (IsQueryRefusal (world_seen self.now) (query.Validity prefix origin)) }
+        ensures err { OnErr result (out.new.items ≡ out.old.items) }
+    {
+        let Ok(explained) = explain(*out.allocator(), &self.vrps, prefix, origin) else {
+            return Err(QueryError::Memory);
+        };
+        match put_validity(out, &explained) {
+            Ok(()) => Ok(()),
+            Err(_) => Err(QueryError::Memory),
+        }
+    }
+
     /// Appends the answer to a query. It is refused exactly where it names something that the world has
     /// not: `UnknownRound`, `UnknownPrefix` or `UnknownAs`, tested in this order among what it names.
     /// After a refusal `out` is as it was.
     ///
-    /// Traces, reports, ranks and validity are not answered yet.
+    /// Traces, reports and ranks are not answered yet.
     pub fn answer(&self, query: &Query, out: &mut Vec<u8>) -> Result<(), QueryError>
         requires { IsAnswered query.now }
         ensures answered { OnOk result (Answers (world_seen self.now) (kept self.now) query.now out.old.items out.new.items) }
@@ -99,7 +103,7 @@ impl Sim {
             Query::Trace { .. } => unreachable!(),
             Query::Report { .. } => unreachable!(),
             Query::Ranks => unreachable!(),
-            Query::Validity { .. } => unreachable!(),
+            Query::Validity { prefix, asn } => self.put_validity(*prefix, *asn, out),
         }
     }
 

@@ -1,8 +1,8 @@
 //! A simulation: a world, and the routings of all its rounds.
 //!
-//! [`Sim::load`] makes the world of links and a scenario, and keeps for each round and prefix the one
-//! and only stable routing. [`Sim::answer`] appends the answer to a query about it, or refuses a query
-//! that names a round, a prefix or an AS that the world has not.
+//! [`Sim::load`] makes the world of links, validated payloads and a scenario, and keeps for each round and
+//! prefix the one and only stable routing. [`Sim::answer`] appends the answer to a query about it, or refuses
+//! a query that names a round, a prefix or an AS that the world has not.
 #![tactic(auto)]
 
 mod answering;
@@ -11,6 +11,7 @@ mod loading;
 mod naming;
 mod planning;
 mod sim;
+mod validating;
 
 pub use errors::{LoadError, QueryError};
 pub use sim::Sim;

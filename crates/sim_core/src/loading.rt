@@ -6,19 +6,23 @@ ghost use Rattle.rank_order.specs.Ranks.{rank_at};
 ghost use Rattle.sim_core.specs.Families.{IsOneFamily};
 ghost use Rattle.sim_core.specs.Loaded.{world_of};
 ghost use Rattle.sim_core.specs.Loading.{IsCycleRefusal, IsLoadRefusal};
+ghost use Rattle.sim_core.specs.Parts.{AreRoundsOf};
 ghost use Rattle.sim_core.specs.Sims.{kept, world_seen};
 ghost use Rattle.sim_core.specs.World.{HasCycle, topology};
 
 use crate::naming::world_graph;
 use crate::planning::{policies, seed_plan};
+use crate::validating::known_states;
 use crate::{LoadError, Sim};
 use as_graph::Graph;
 use leak_round::Rounds;
-use net_names::Links;
-use policy_laws::NoStates;
+use net_names::{Links, NoMemory};
+use policy_kinds::Kind;
 use rank_order::{RankError, Ranks};
+use roa_table::Vrps;
 use route_choice::Steps;
 use scenario_text::Scenario;
+use stability_laws::Book;
 use std::alloc::Global;
 use std::marker::Brand;
 use std::sync::ledger::{Blank, Ledger};
@@ -36,19 +40,45 @@ fn ranks_of(alloc: Global, graph: &Graph) -> Result<Ranks, LoadError>
     }
 }
 
+// The tables of all rounds, by the states over the payloads.
+fn rounds_of<L: Ledger>(
+    alloc: Global,
+    graph: &Graph,
+    ranks: &Ranks,
+    vrps: &Vrps,
+    book: &Book<Kind>,
+    scenario: &Scenario,
+    blank: Blank,
+) -> Result<Rounds, NoMemory>
+    requires ledger { (blank.name ≡ L.name) × (blank.parts ≡ L.parts) × (0 < L.parts) }
+    requires no_cycle { HasNoProviderCycle (what graph.now) }
+    requires ranks { (a : ℕ) → IsRank (what graph.now) a (rank_at ranks.now a) }
+    ensures { IfOk result (λ rounds. AreRoundsOf graph.now vrps.now book.now scenario.now rounds) }
+{
+    let states = known_states(alloc, vrps, scenario)?;
+    let plan = seed_plan(alloc, scenario)?;
+    let count = scenario.leak_lists() as u32 + 1;
+    let mut steps = Steps::<L>::new(blank);
+    match Rounds::build(alloc, graph, ranks, book, &states, plan, count, &mut steps) {
+        Ok(rounds) => Ok(rounds),
+        Err(_) => Err(NoMemory),
+    }
+}
+
 // The simulation of a world.
 fn load_world<L: Ledger>(
     alloc: Global,
     links: &Links,
+    vrps: Vrps,
     scenario: &Scenario,
     blank: Blank,
 ) -> Result<Sim, LoadError>
     requires ledger { (blank.name ≡ L.name) × (blank.parts ≡ L.parts) × (0 < L.parts) }
-    ensures world { IfOk result (λ sim. world_seen sim ≡ world_of links.now scenario.now) }
+    ensures world { IfOk result (λ sim. world_seen sim ≡ world_of links.now vrps scenario.now) }
     ensures routings { IfOk result (λ sim. IsOneFamily (world_seen sim) (kept sim)) }
     ensures no_cycle { IfOk result (λ sim. HasCycle (world_seen sim) → ⊥) }
     ensures few { IfOk result (λ sim. as_count (topology (world_seen sim)) ≤ 150000) }
-    ensures refused { IfErr result (IsLoadRefusal (world_of links.now scenario.now)) }
+    ensures refused { IfErr result (IsLoadRefusal (world_of links.now vrps scenario.now)) }
 {
     let graph = match world_graph(alloc, links, scenario) {
         Ok(graph) => graph,
@@ -61,16 +91,10 @@ fn load_world<L: Ledger>(
     let Ok(book) = policies(alloc, scenario) else {
         return Err(LoadError::Memory);
     };
-    let Ok(plan) = seed_plan(alloc, scenario) else {
-        return Err(LoadError::Memory);
-    };
-    let count = scenario.leak_lists() as u32 + 1;
-    let mut steps = Steps::<L>::new(blank);
-    match Rounds::build(
-        alloc, &graph, &ranks, &book, &NoStates, plan, count, &mut steps,
-    ) {
+    match rounds_of::<L>(alloc, &graph, &ranks, &vrps, &book, scenario, blank) {
         Ok(rounds) => Ok(Sim {
             graph,
+            vrps,
             book,
             rounds,
         }),
@@ -79,19 +103,24 @@ fn load_world<L: Ledger>(
 }
 
 impl Sim {
-    /// The simulation of the world of these links and this scenario. For each round and prefix it keeps
-    /// the one and only stable routing.
+    /// The simulation of the world of these links, these payloads and this scenario. For each round and
+    /// prefix it keeps the one and only stable routing.
     ///
     /// `TooManyAses` comes exactly where the world has more than 150,000 ASes, and else `ProviderCycle`
     /// exactly where its links have a provider cycle (Gao and Rexford 2001), with one from its lowest
     /// number on, unless memory runs out.
-    pub fn load(alloc: Global, links: Links, scenario: Scenario) -> Result<Sim, LoadError>
-        ensures world { IfOk result (λ sim. world_seen sim ≡ world_of links scenario) }
+    pub fn load(
+        alloc: Global,
+        links: Links,
+        vrps: Vrps,
+        scenario: Scenario,
+    ) -> Result<Sim, LoadError>
+        ensures world { IfOk result (λ sim. world_seen sim ≡ world_of links vrps scenario) }
         ensures routings { IfOk result (λ sim. IsOneFamily (world_seen sim) (kept sim)) }
         ensures no_cycle { IfOk result (λ sim. HasCycle (world_seen sim) → ⊥) }
         ensures few { IfOk result (λ sim. as_count (topology (world_seen sim)) ≤ 150000) }
-        ensures refused { IfErr result (IsLoadRefusal (world_of links scenario)) }
+        ensures refused { IfErr result (IsLoadRefusal (world_of links vrps scenario)) }
     {
-        load_world::<Brand>(alloc, &links, &scenario, Blank::new(1))
+        load_world::<Brand>(alloc, &links, vrps, &scenario, Blank::new(1))
     }
 }

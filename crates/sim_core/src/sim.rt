@@ -6,6 +6,7 @@ ghost use Rattle.sim_core.specs.World.{topology};
 use as_graph::Graph;
 use leak_round::Rounds;
 use policy_kinds::Kind;
+use roa_table::Vrps;
 use stability_laws::Book;
 
 /// A world, and for each round and prefix the one and only stable routing. Contracts see the world and
@@ -13,7 +14,8 @@ use stability_laws::Book;
 #[derive(Drop)]
 pub struct Sim {
     pub(crate) graph: Graph,
+    pub(crate) vrps: Vrps,
     pub(crate) book: Book<Kind>,
     pub(crate) rounds: Rounds,
-    ghost named: { graph ≡ topology (world_by graph book rounds) },
+    ghost named: { graph ≡ topology (world_by graph vrps book rounds) },
 }

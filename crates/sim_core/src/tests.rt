@@ -1,6 +1,7 @@
-//! A world of two origins.
+//! Worlds of two origins, with payloads and without.
 use crate::Sim;
 use net_names::{Asn, Links, Path, Rel, read_prefix};
+use roa_table::{Vrps, read};
 use scenario_text::{Query, Scenario, read_scenario};
 use std::test::Fail;
 
@@ -24,7 +25,7 @@ fn two_origins_share_the_ases(rt: HostRuntime) -> Result<(), Fail> {
     let Ok(scenario) = read_scenario(alloc, text) else {
         return Err("a scenario".into());
     };
-    let Ok(sim) = Sim::load(alloc, links, scenario) else {
+    let Ok(sim) = Sim::load(alloc, links, Vrps::new(alloc), scenario) else {
         return Err("a simulation".into());
     };
     assert!(rt; sim.as_count() == 4 && sim.link_count() == 4);
@@ -41,6 +42,55 @@ fn two_origins_share_the_ases(rt: HostRuntime) -> Result<(), Fail> {
     assert!(rt;
         sim.answer(&Query::Routes { round: 2, prefix }, &mut out)
             .is_err()
+    );
+    Ok(())
+}
+
+#[test]
+fn a_policy_drops_what_the_payloads_make_invalid(rt: HostRuntime) -> Result<(), Fail> {
+    let alloc = rt.alloc();
+    let mut links = Links::new(alloc);
+    for customer in [3, 4, 6] {
+        let provider = Asn::new(2).ok_or("a number")?;
+        let customer = Asn::new(customer).ok_or("a number")?;
+        assert!(rt; provider != customer);
+        links.set(provider, customer, Rel::Customer)?;
+    }
+    let text =
+        br#"{"announcements":[{"prefix":"10.0.0.0/8","as":4},{"prefix":"10.0.0.0/9","as":6}],"policies":[{"as":3,"policy":"drop-invalid"}]}"#;
+    let Ok(scenario) = read_scenario(alloc, text) else {
+        return Err("a scenario".into());
+    };
+    let vrps = read(alloc, b"ASN,IP Prefix,Max Length\nAS4,10.0.0.0/8,8\n")?;
+    let Ok(sim) = Sim::load(alloc, links, vrps, scenario) else {
+        return Err("a simulation".into());
+    };
+    let outer = read_prefix(b"10.0.0.0/8").ok_or("a prefix")?;
+    let inner = read_prefix(b"10.0.0.0/9").ok_or("a prefix")?;
+    let three = Asn::new(3).ok_or("a number")?;
+    let six = Asn::new(6).ok_or("a number")?;
+    let mut out = Vec::new(alloc);
+    for query in [
+        Query::Route {
+            round: 1,
+            prefix: inner,
+            asn: three,
+        },
+        Query::Route {
+            round: 1,
+            prefix: outer,
+            asn: three,
+        },
+        Query::Validity {
+            prefix: inner,
+            asn: six,
+        },
+    ] {
+        assert!(rt; sim.answer(&query, &mut out).is_ok());
+    }
+    assert_eq!(rt;
+        out.as_slice(),
+        b"3|none|\n3|provider|3 2 4\nstate|invalid\n4|10.0.0.0/8|8\n".as_slice()
     );
     Ok(())
 }

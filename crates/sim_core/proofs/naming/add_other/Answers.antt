@@ -1,4 +1,4 @@
-use Rattle.std.proofs.Common.{◌≡◌, ◌++◌, ◌∷◌, [], ◌∙◌, ap, sym, map, cond, append-nil}
+use Rattle.std.proofs.Common.{◌++◌, ◌∷◌, [], ◌∙◌, ap, sym, map, cond, append-nil}
 use Rattle.sim_core.proofs.naming.add_other.Goals as goal
 
 pub returns-then-not-is_other : goal.returns-then-not-is_other

@@ -1,4 +1,4 @@
-use Rattle.std.proofs.Common.{◌≡◌, ◌∷◌, ◌∙◌, ◌+◌, ap, sym, drop}
+use Rattle.std.proofs.Common.{◌∷◌, ◌∙◌, ◌+◌, ap, sym, drop}
 use Rattle.std.proofs.lemmas.List.{drop_more}
 use Rattle.sim_core.specs.Marking.{marked}
 use Rattle.sim_core.proofs.Marks.{refused_before}

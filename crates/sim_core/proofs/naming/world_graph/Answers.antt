@@ -1,4 +1,4 @@
-use Rattle.std.proofs.Common.{subst, ◌≡◌, ◌≤◌, ◌∙◌, ap, sym}
+use Rattle.std.proofs.Common.{subst, ◌≤◌, ◌∙◌, ap, sym}
 use Rattle.as_graph.specs.Refusals.{IsBuildRefusal}
 use Rattle.as_graph.specs.Topology.{Topology, as_count, unmarked}
 use Rattle.as_graph.specs.declared.error.GraphError.{GraphError}

@@ -1,5 +1,3 @@
-use Rattle.std.proofs.Common.{◌≡◌, ◌∙◌, ◌++◌, ◌∷◌, [], ap, sym, map, take}
-use Rattle.sim_core.specs.Loaded.{planned}
 use Rattle.sim_core.proofs.Plans.{one_leaker_more}
 use Rattle.sim_core.proofs.planning.leak_all.Goals as goal
 

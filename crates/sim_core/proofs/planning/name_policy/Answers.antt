@@ -1,4 +1,4 @@
-use Rattle.std.proofs.Common.{◌≡◌, ◌∙◌, ap, sym, subst, IsTrue}
+use Rattle.std.proofs.Common.{◌∙◌, ap, sym, subst, IsTrue}
 use Rattle.std.specs.FinSet as set
 use Rattle.stability_laws.specs.Book.{PolicyBook}
 use Rattle.policy_kinds.specs.declared.kind.Kind.{Kind}

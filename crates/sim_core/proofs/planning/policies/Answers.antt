@@ -1,4 +1,4 @@
-use Rattle.std.proofs.Common.{◌≡◌, ◌∙◌, ◌++◌, ◌∷◌, ◌+◌, ◌<◌, [], ap, subst, sym, length, get_or, take, List, ℕ}
+use Rattle.std.proofs.Common.{◌∙◌, ◌++◌, ◌∷◌, ◌+◌, ◌<◌, [], ap, subst, sym, length, get_or, take, List, ℕ}
 use Rattle.std.proofs.lemmas.List.{take_more}
 use Rattle.policy_kinds.specs.declared.kind.Kind.{Kind}
 use Rattle.sim_core.specs.Loaded.{kinds_of}
