@@ -19,6 +19,7 @@ use Rattle.asprop.specs.declared.types.Status.TheVariants as status
 use Rattle.asprop.specs.declared.types.Fault.{Fault}
 use Rattle.asprop.specs.declared.types.Fault.TheVariants as fault
 use Rattle.caida_reader.specs.declared.errors.RelError.TheVariants as rel
+use Rattle.roa_table.specs.declared.errors.VrpError.TheVariants as vrp
 use Rattle.scenario_text.specs.declared.faults.ScenarioError.TheVariants as scenario
 use Rattle.scenario_text.specs.declared.script.ScriptError.TheVariants as script
 
@@ -36,6 +37,12 @@ by_fault form (fault.Relation (rel.Unreadable n)) old new rose h = record { ends
 by_fault form (fault.Relation (rel.SelfLink n)) old new rose h = record { ends = (refl, h); explains = refl }
 by_fault form (fault.Relation (rel.Conflict n m)) old new rose h = record { ends = (refl, h); explains = refl }
 by_fault form (fault.Relation (rel.TooManyLinks n)) old new rose h = record { ends = (refl, h); explains = refl }
+by_fault form (fault.Payload vrp.Memory) old new rose h = record { ends = (refl, h); explains = refl }
+by_fault form (fault.Payload (vrp.Fields n)) old new rose h = record { ends = (refl, h); explains = refl }
+by_fault form (fault.Payload (vrp.BadAsn n)) old new rose h = record { ends = (refl, h); explains = refl }
+by_fault form (fault.Payload (vrp.BadPrefix n)) old new rose h = record { ends = (refl, h); explains = refl }
+by_fault form (fault.Payload (vrp.BadMax n)) old new rose h = record { ends = (refl, h); explains = refl }
+by_fault form (fault.Payload (vrp.TooMany n)) old new rose h = record { ends = (refl, h); explains = refl }
 by_fault form (fault.Scenario scenario.Memory) old new rose h = record { ends = (refl, h); explains = refl }
 by_fault form (fault.Scenario scenario.NotJson) old new rose h = record { ends = (refl, h); explains = refl }
 by_fault form (fault.Scenario (scenario.Shape place)) old new rose h = record { ends = (refl, h); explains = refl }

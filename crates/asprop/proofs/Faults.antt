@@ -5,6 +5,9 @@ use Rattle.caida_reader.specs.declared.errors.RelError.{RelError}
 use Rattle.scenario_text.specs.Readings.{scenario_of_bytes}
 use Rattle.scenario_text.specs.Script.{script_of}
 use Rattle.caida_reader.specs.declared.errors.RelError.TheVariants as rel
+use Rattle.roa_table.specs.Files.{payloads_in}
+use Rattle.roa_table.specs.declared.errors.VrpError.{VrpError}
+use Rattle.roa_table.specs.declared.errors.VrpError.TheVariants as vrp
 use Rattle.scenario_text.specs.Scenarios.{ScenarioValue}
 use Rattle.scenario_text.specs.LineValues.{LineValue}
 use Rattle.scenario_text.specs.declared.places.Member.{Member}
@@ -13,7 +16,7 @@ use Rattle.scenario_text.specs.declared.faults.ScenarioError.TheVariants as scen
 use Rattle.scenario_text.specs.declared.script.ScriptError.{ScriptError}
 use Rattle.scenario_text.specs.declared.script.ScriptError.TheVariants as script
 use Rattle.asprop.specs.Texts.{status_of}
-use Rattle.asprop.specs.Task.{Task, Reads, asked, task_of_form, origin_task, script_task, relations, scenario_by, script_lines, later_in, unless_later, without_later, first_unanswered, unless_unanswered, all_answered, read_as, or_fault, bytes_of, within_limits, ◌>>=◌}
+use Rattle.asprop.specs.Task.{Task, Reads, asked, task_of_form, origin_task, script_task, relations, payloads_by, scenario_by, script_lines, later_in, unless_later, without_later, first_unanswered, unless_unanswered, all_answered, read_as, or_fault, bytes_of, within_limits, ◌>>=◌}
 use Rattle.asprop.specs.Words.{Form, origin_form, script_form}
 use Rattle.asprop.specs.declared.types.File.{File}
 use Rattle.asprop.specs.declared.types.File.TheVariants as file
@@ -52,6 +55,14 @@ other_relation (rel.SelfLink n) = bad _ refl
 other_relation (rel.Conflict n m) = bad _ refl
 other_relation (rel.TooManyLinks n) = large _ refl
 
+pub other_payload : (e : VrpError) → IsOther (fault.Payload e)
+other_payload vrp.Memory = bad _ refl
+other_payload (vrp.Fields n) = bad _ refl
+other_payload (vrp.BadAsn n) = bad _ refl
+other_payload (vrp.BadPrefix n) = bad _ refl
+other_payload (vrp.BadMax n) = bad _ refl
+other_payload (vrp.TooMany n) = large _ refl
+
 pub other_scenario : (e : ScenarioError) → IsOther (fault.Scenario e)
 other_scenario scenario.Memory = bad _ refl
 other_scenario scenario.NotJson = bad _ refl
@@ -87,6 +98,10 @@ module _ (form : Option Form) (reads : Reads) where
         | inr late ↦ of_value as_fault others (value late.0) e late.2
       ]
 
+  of_payloads : (name : Option (List ℕ)) (e : Fault) → payloads_by name (reads file.Payloads) ≡ Err e → Stopped form reads e
+  of_payloads None e h = cc
+  of_payloads (Some name) e h = of_read file.Payloads fault.Payload payloads_in other_payload e h
+
   of_member : (found : Option Member) (s : ScenarioValue) (e : Fault) → unless_later found s ≡ Err e → Stopped form reads e
   of_member None s e h = cc
   of_member (Some member) s e h = let is : fault.Later member ≡ e = cc in subst (Stopped form reads) is (by_value (fault.Later member) (bad _ refl))
@@ -120,14 +135,17 @@ of_asked (Some (origin_form rel origin)) reads e h =
       | inl early ↦ of_read _ reads file.Relations fault.Relation links_of other_relation e early
       | inr late ↦ cc
     ]
-of_asked (Some (script_form rel scenario script)) reads e h =
-    elim (bind_err (relations (reads file.Relations)) (λ links. scenario_by scenario (reads file.Scenario) >>= λ plan. script_lines (reads file.Script) >>= λ lines. Ok (script_task links plan lines)) e h) [
+of_asked (Some (script_form rel vrps scenario script)) reads e h =
+    elim (bind_err (relations (reads file.Relations)) (λ links. payloads_by vrps (reads file.Payloads) >>= λ payloads. scenario_by scenario (reads file.Scenario) >>= λ plan. script_lines (reads file.Script) >>= λ lines. Ok (script_task links payloads plan lines)) e h) [
       | inl early ↦ of_read _ reads file.Relations fault.Relation links_of other_relation e early
-      | inr links ↦ elim (bind_err (scenario_by scenario (reads file.Scenario)) (λ plan. script_lines (reads file.Script) >>= λ lines. Ok (script_task links.0 plan lines)) e links.2) [
-        | inl early ↦ of_scenario _ reads scenario e early
-        | inr plan ↦ elim (bind_err (script_lines (reads file.Script)) (λ lines. Ok (script_task links.0 plan.0 lines)) e plan.2) [
-          | inl early ↦ of_lines _ reads e early
-          | inr late ↦ cc
+      | inr links ↦ elim (bind_err (payloads_by vrps (reads file.Payloads)) (λ payloads. scenario_by scenario (reads file.Scenario) >>= λ plan. script_lines (reads file.Script) >>= λ lines. Ok (script_task links.0 payloads plan lines)) e links.2) [
+        | inl early ↦ of_payloads _ reads vrps e early
+        | inr payloads ↦ elim (bind_err (scenario_by scenario (reads file.Scenario)) (λ plan. script_lines (reads file.Script) >>= λ lines. Ok (script_task links.0 payloads.0 plan lines)) e payloads.2) [
+          | inl early ↦ of_scenario _ reads scenario e early
+          | inr plan ↦ elim (bind_err (script_lines (reads file.Script)) (λ lines. Ok (script_task links.0 payloads.0 plan.0 lines)) e plan.2) [
+            | inl early ↦ of_lines _ reads e early
+            | inr late ↦ cc
+          ]
         ]
       ]
     ]

@@ -3,6 +3,7 @@ pub mod Parsing
 pub mod OnWords
 pub mod ReadLemmas
 pub mod Preparing
+pub mod InOrder
 pub mod Answering
 pub mod RefusalPieces
 pub mod Ending

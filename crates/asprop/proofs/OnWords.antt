@@ -5,13 +5,17 @@ use Rattle.net_names.specs.Texts.{asn_of, numeral}
 use Rattle.asprop.specs.Command.{asprop_command, faults_in, rows_in}
 use Rattle.asprop.specs.Words.{form_of, script_form, origin_form}
 
-rel_alone : form_of (codes "asprop" ∷ codes "rel" ∷ []) ≡ Some (script_form (codes "rel") None None)
+rel_alone : form_of (codes "asprop" ∷ codes "rel" ∷ []) ≡ Some (script_form (codes "rel") None None None)
 unfolding clap_on_literals faults_in rows_in asprop_command
 rel_alone = refl
 
-options_before_rel : form_of (codes "asprop" ∷ codes "--script" ∷ codes "cmds" ∷ codes "--scenario=s" ∷ codes "rel" ∷ []) ≡ Some (script_form (codes "rel") (Some (codes "s")) (Some (codes "cmds")))
+options_before_rel : form_of (codes "asprop" ∷ codes "--script" ∷ codes "cmds" ∷ codes "--scenario=s" ∷ codes "rel" ∷ []) ≡ Some (script_form (codes "rel") None (Some (codes "s")) (Some (codes "cmds")))
 unfolding clap_on_literals faults_in rows_in asprop_command
 options_before_rel = refl
+
+payloads_alone : form_of (codes "asprop" ∷ codes "rel" ∷ codes "--vrps" ∷ codes "v" ∷ []) ≡ Some (script_form (codes "rel") (Some (codes "v")) None None)
+unfolding clap_on_literals faults_in rows_in asprop_command
+payloads_alone = refl
 
 one_origin : form_of (codes "asprop" ∷ codes "rel" ∷ codes "--origin" ∷ codes "0000000007" ∷ []) ≡ Some (origin_form (codes "rel") 7)
 unfolding clap_on_literals faults_in rows_in asprop_command asn_of numeral
@@ -24,6 +28,10 @@ option_twice = refl
 origin_and_script : form_of (codes "asprop" ∷ codes "rel" ∷ codes "--script" ∷ codes "a" ∷ codes "--origin" ∷ codes "7" ∷ []) ≡ None
 unfolding clap_on_literals faults_in rows_in asprop_command
 origin_and_script = refl
+
+origin_and_payloads : form_of (codes "asprop" ∷ codes "rel" ∷ codes "--vrps" ∷ codes "v" ∷ codes "--origin" ∷ codes "7" ∷ []) ≡ None
+unfolding clap_on_literals faults_in rows_in asprop_command
+origin_and_payloads = refl
 
 help : form_of (codes "asprop" ∷ codes "rel" ∷ codes "--help" ∷ []) ≡ None
 unfolding clap_on_literals faults_in rows_in asprop_command

@@ -1,10 +1,11 @@
 -- What the form and the files ask for.
 use Rattle.std.proofs.Common.{◌≡◌, ℕ, List, [], Option, Some, None, Result, Ok, Err, refl, sym, ap, subst}
 use Rattle.net_names.specs.Links.{LinkMap}
+use Rattle.roa_table.specs.Sets.{Payloads}
 use Rattle.scenario_text.specs.Scenarios.{ScenarioValue}
 use Rattle.scenario_text.specs.LineValues.{LineValue}
 use Rattle.asprop.specs.Words.{Form, script_form, origin_form, name_by}
-use Rattle.asprop.specs.Task.{Task, Reads, asked, origin_task, script_task, relations, scenario_by, script_lines, ◌>>=◌}
+use Rattle.asprop.specs.Task.{Task, Reads, asked, origin_task, script_task, relations, payloads_by, scenario_by, script_lines, ◌>>=◌}
 use Rattle.asprop.specs.Files.{IsRead, IsReadAs, AreReads, IsStop, Finds, ReadsTo, Prepares}
 use Rattle.asprop.specs.declared.types.File.TheVariants as file
 use Rattle.asprop.specs.declared.types.Stop.{Stop}
@@ -14,40 +15,54 @@ use Rattle.asprop.specs.declared.types.Fault.TheVariants as fault
 use Rattle.asprop.proofs.ReadLemmas.{some_read_as, bind_stop}
 
 -- what was read of each file
-abbrev pub three : Option (List ℕ) → Option (List ℕ) → Option (List ℕ) → Reads
-three relations scenario script file.Relations = relations
-three relations scenario script file.Scenario = scenario
-three relations scenario script file.Script = script
+abbrev pub four : Option (List ℕ) → Option (List ℕ) → Option (List ℕ) → Option (List ℕ) → Reads
+four relations payloads scenario script file.Relations = relations
+four relations payloads scenario script file.Payloads = payloads
+four relations payloads scenario script file.Scenario = scenario
+four relations payloads scenario script file.Script = script
+
+-- the relationship file alone
+abbrev alone : Option (List ℕ) → Reads
+alone read = four read (Some []) (Some []) (Some [])
 
 -- something was read of each file
 pub none_read : (holds : List ℕ → Option (List ℕ)) (sound : List ℕ → Type 0) (rose : Type 0) (form : Option Form) → (reads : Reads) × AreReads holds sound rose form reads
 none_read holds sound rose form = (λ which. (some_read_as holds sound rose (name_by form which)).0, λ which. (some_read_as holds sound rose (name_by form which)).1)
 
 module _ (holds : List ℕ → Option (List ℕ)) (sound : List ℕ → Type 0) (rose : Type 0) (rel : List ℕ) where
-  one_read : (origin : ℕ) (read : Option (List ℕ)) → IsRead (holds rel) (sound rel) rose read → AreReads holds sound rose (Some (origin_form rel origin)) (three read (Some []) (Some []))
+  one_read : (origin : ℕ) (read : Option (List ℕ)) → IsRead (holds rel) (sound rel) rose read → AreReads holds sound rose (Some (origin_form rel origin)) (alone read)
   one_read origin read h file.Relations = h
+  one_read origin read h file.Payloads = refl
   one_read origin read h file.Scenario = refl
   one_read origin read h file.Script = refl
 
-  three_read : (scenario script a b c : Option (List ℕ)) → IsReadAs holds sound rose (Some rel) a → IsReadAs holds sound rose scenario b → IsReadAs holds sound rose script c
-      → AreReads holds sound rose (Some (script_form rel scenario script)) (three a b c)
-  three_read scenario script a b c p q r file.Relations = p
-  three_read scenario script a b c p q r file.Scenario = q
-  three_read scenario script a b c p q r file.Script = r
+  four_read : (vrps scenario script a b c d : Option (List ℕ)) → IsReadAs holds sound rose (Some rel) a → IsReadAs holds sound rose vrps b → IsReadAs holds sound rose scenario c → IsReadAs holds sound rose script d
+      → AreReads holds sound rose (Some (script_form rel vrps scenario script)) (four a b c d)
+  four_read vrps scenario script a b c d p q r t file.Relations = p
+  four_read vrps scenario script a b c d p q r t file.Payloads = q
+  four_read vrps scenario script a b c d p q r t file.Scenario = r
+  four_read vrps scenario script a b c d p q r t file.Script = t
 
--- what follows the lines, and what follows the scenario
-abbrev last : LinkMap → ScenarioValue → Result (List LineValue) Fault → Result Task Fault
-last links plan lines = lines >>= λ lines. Ok (script_task links plan lines)
+-- what follows the lines, the scenario and the payloads
+abbrev last : LinkMap → Payloads → ScenarioValue → Result (List LineValue) Fault → Result Task Fault
+last links payloads plan lines = lines >>= λ lines. Ok (script_task links payloads plan lines)
 
-abbrev second : LinkMap → Option (List ℕ) → Result ScenarioValue Fault → Result Task Fault
-second links c plan = plan >>= λ plan. last links plan (script_lines c)
+abbrev third : LinkMap → Payloads → Option (List ℕ) → Result ScenarioValue Fault → Result Task Fault
+third links payloads d plan = plan >>= λ plan. last links payloads plan (script_lines d)
 
-module _ {X : Type 0} (view : X → Task) (rel : List ℕ) (scenario script a b c : Option (List ℕ)) (links : LinkMap) (is_links : relations a ≡ Ok links) (result : Result X Stop) where
-  by_links : Finds view result (second links c (scenario_by scenario b)) → Finds view result (asked (Some (script_form rel scenario script)) (three a b c))
-  by_links h = subst (λ (found : Result LinkMap Fault). Finds view result (found >>= λ links. second links c (scenario_by scenario b))) (sym is_links) h
+abbrev second : LinkMap → Option (List ℕ) → Option (List ℕ) → Option (List ℕ) → Result Payloads Fault → Result Task Fault
+second links scenario c d payloads = payloads >>= λ payloads. third links payloads d (scenario_by scenario c)
 
-  by_plan : (plan : ScenarioValue) → scenario_by scenario b ≡ Ok plan → Finds view result (last links plan (script_lines c)) → Finds view result (asked (Some (script_form rel scenario script)) (three a b c))
-  by_plan plan is h = by_links (subst (λ (v : Result ScenarioValue Fault). Finds view result (second links c v)) (sym is) h)
+module _ {X : Type 0} (view : X → Task) (rel : List ℕ) (vrps scenario script a b c d : Option (List ℕ)) (links : LinkMap) (is_links : relations a ≡ Ok links) (result : Result X Stop) where
+  by_links : Finds view result (second links scenario c d (payloads_by vrps b)) → Finds view result (asked (Some (script_form rel vrps scenario script)) (four a b c d))
+  by_links h = subst (λ (found : Result LinkMap Fault). Finds view result (found >>= λ links. second links scenario c d (payloads_by vrps b))) (sym is_links) h
+
+  by_payloads : (payloads : Payloads) → payloads_by vrps b ≡ Ok payloads → Finds view result (third links payloads d (scenario_by scenario c)) → Finds view result (asked (Some (script_form rel vrps scenario script)) (four a b c d))
+  by_payloads payloads is h = by_links (subst (λ (v : Result Payloads Fault). Finds view result (second links scenario c d v)) (sym is) h)
+
+  by_plan : (payloads : Payloads) (plan : ScenarioValue) → payloads_by vrps b ≡ Ok payloads → scenario_by scenario c ≡ Ok plan → Finds view result (last links payloads plan (script_lines d))
+      → Finds view result (asked (Some (script_form rel vrps scenario script)) (four a b c d))
+  by_plan payloads plan is_payloads is h = by_payloads payloads is_payloads (subst (λ (v : Result ScenarioValue Fault). Finds view result (third links payloads d v)) (sym is) h)
 
 module _ {X : Type 0} {holds : List ℕ → Option (List ℕ)} {sound : List ℕ → Type 0} {rose : Type 0} {view : X → Task} where
   -- words without a form
@@ -57,7 +72,7 @@ module _ {X : Type 0} {holds : List ℕ → Option (List ℕ)} {sound : List ℕ
   -- the routes to one origin
   pub origin_stopped : (rel : List ℕ) (origin : ℕ) {Y : Type 0} (of_y : Y → LinkMap) (s : Stop) → ReadsTo (holds rel) (sound rel) rose of_y (Err s) relations → Prepares holds sound rose (Some (origin_form rel origin)) view (Err s)
   origin_stopped rel origin of_y s found = record {
-    reads = three found.read (Some []) (Some []);
+    reads = alone found.read;
     are_read = one_read holds sound rose rel origin found.read found.is_read;
     finds = bind_stop (relations found.read) (λ links. Ok (origin_task links origin)) s found.finds;
   }
@@ -65,36 +80,54 @@ module _ {X : Type 0} {holds : List ℕ → Option (List ℕ)} {sound : List ℕ
   pub origin_found : (rel : List ℕ) (origin : ℕ) {Y : Type 0} (of_y : Y → LinkMap) (y : Y) (result : Result X Stop) → ReadsTo (holds rel) (sound rel) rose of_y (Ok y) relations → Finds view result (Ok (origin_task (of_y y) origin))
       → Prepares holds sound rose (Some (origin_form rel origin)) view result
   origin_found rel origin of_y y result found h = record {
-    reads = three found.read (Some []) (Some []);
+    reads = alone found.read;
     are_read = one_read holds sound rose rel origin found.read found.is_read;
     finds = subst (λ (links : Result LinkMap Fault). Finds view result (links >>= λ links. Ok (origin_task links origin))) (sym found.finds) h;
   }
 
   -- the answers to a script
-  pub no_links : (rel : List ℕ) (scenario script a : Option (List ℕ)) (s : Stop) → IsReadAs holds sound rose (Some rel) a → IsStop s (relations a) → Prepares holds sound rose (Some (script_form rel scenario script)) view (Err s)
-  no_links rel scenario script a s p h =
-      let b = some_read_as holds sound rose scenario in
-      let c = some_read_as holds sound rose script in
-      record { reads = three a b.0 c.0; are_read = three_read holds sound rose rel scenario script a b.0 c.0 p b.1 c.1; finds = bind_stop (relations a) (λ links. second links c.0 (scenario_by scenario b.0)) s h }
+  pub no_links : (rel : List ℕ) (vrps scenario script a : Option (List ℕ)) (s : Stop) → IsReadAs holds sound rose (Some rel) a → IsStop s (relations a) → Prepares holds sound rose (Some (script_form rel vrps scenario script)) view (Err s)
+  no_links rel vrps scenario script a s p h =
+      let b = some_read_as holds sound rose vrps in
+      let c = some_read_as holds sound rose scenario in
+      let d = some_read_as holds sound rose script in
+      record { reads = four a b.0 c.0 d.0; are_read = four_read holds sound rose rel vrps scenario script a b.0 c.0 d.0 p b.1 c.1 d.1; finds = bind_stop (relations a) (λ links. second links scenario c.0 d.0 (payloads_by vrps b.0)) s h }
 
-  pub no_scenario : (rel : List ℕ) (scenario script a b : Option (List ℕ)) (links : LinkMap) (s : Stop) → IsReadAs holds sound rose (Some rel) a → relations a ≡ Ok links → IsReadAs holds sound rose scenario b → IsStop s (scenario_by scenario b)
-      → Prepares holds sound rose (Some (script_form rel scenario script)) view (Err s)
-  no_scenario rel scenario script a b links s p is_links q h =
-      let c = some_read_as holds sound rose script in
-      record { reads = three a b c.0; are_read = three_read holds sound rose rel scenario script a b c.0 p q c.1; finds = by_links view rel scenario script a b c.0 links is_links (Err s) (bind_stop (scenario_by scenario b) (λ plan. last links plan (script_lines c.0)) s h) }
+  pub no_payloads : (rel : List ℕ) (vrps scenario script a b : Option (List ℕ)) (links : LinkMap) (s : Stop) → IsReadAs holds sound rose (Some rel) a → relations a ≡ Ok links → IsReadAs holds sound rose vrps b → IsStop s (payloads_by vrps b)
+      → Prepares holds sound rose (Some (script_form rel vrps scenario script)) view (Err s)
+  no_payloads rel vrps scenario script a b links s p is_links q h =
+      let c = some_read_as holds sound rose scenario in
+      let d = some_read_as holds sound rose script in
+      record {
+        reads = four a b c.0 d.0;
+        are_read = four_read holds sound rose rel vrps scenario script a b c.0 d.0 p q c.1 d.1;
+        finds = by_links view rel vrps scenario script a b c.0 d.0 links is_links (Err s) (bind_stop (payloads_by vrps b) (λ payloads. third links payloads d.0 (scenario_by scenario c.0)) s h);
+      }
 
-  pub no_lines : (rel : List ℕ) (scenario script a b c : Option (List ℕ)) (links : LinkMap) (plan : ScenarioValue) (s : Stop) → IsReadAs holds sound rose (Some rel) a → relations a ≡ Ok links → IsReadAs holds sound rose scenario b → scenario_by scenario b ≡ Ok plan
-      → IsReadAs holds sound rose script c → IsStop s (script_lines c) → Prepares holds sound rose (Some (script_form rel scenario script)) view (Err s)
-  no_lines rel scenario script a b c links plan s p is_links q is_plan r h = record {
-    reads = three a b c;
-    are_read = three_read holds sound rose rel scenario script a b c p q r;
-    finds = by_plan view rel scenario script a b c links is_links (Err s) plan is_plan (bind_stop (script_lines c) (λ lines. Ok (script_task links plan lines)) s h);
+  pub no_scenario : (rel : List ℕ) (vrps scenario script a b c : Option (List ℕ)) (links : LinkMap) (payloads : Payloads) (s : Stop) → IsReadAs holds sound rose (Some rel) a → relations a ≡ Ok links
+      → IsReadAs holds sound rose vrps b → payloads_by vrps b ≡ Ok payloads → IsReadAs holds sound rose scenario c → IsStop s (scenario_by scenario c) → Prepares holds sound rose (Some (script_form rel vrps scenario script)) view (Err s)
+  no_scenario rel vrps scenario script a b c links payloads s p is_links q is_payloads r h =
+      let d = some_read_as holds sound rose script in
+      record {
+        reads = four a b c d.0;
+        are_read = four_read holds sound rose rel vrps scenario script a b c d.0 p q r d.1;
+        finds = by_payloads view rel vrps scenario script a b c d.0 links is_links (Err s) payloads is_payloads (bind_stop (scenario_by scenario c) (λ plan. last links payloads plan (script_lines d.0)) s h);
+      }
+
+  pub no_lines : (rel : List ℕ) (vrps scenario script a b c d : Option (List ℕ)) (links : LinkMap) (payloads : Payloads) (plan : ScenarioValue) (s : Stop) → IsReadAs holds sound rose (Some rel) a → relations a ≡ Ok links
+      → IsReadAs holds sound rose vrps b → payloads_by vrps b ≡ Ok payloads → IsReadAs holds sound rose scenario c → scenario_by scenario c ≡ Ok plan
+      → IsReadAs holds sound rose script d → IsStop s (script_lines d) → Prepares holds sound rose (Some (script_form rel vrps scenario script)) view (Err s)
+  no_lines rel vrps scenario script a b c d links payloads plan s p is_links q is_payloads r is_plan t h = record {
+    reads = four a b c d;
+    are_read = four_read holds sound rose rel vrps scenario script a b c d p q r t;
+    finds = by_plan view rel vrps scenario script a b c d links is_links (Err s) payloads plan is_payloads is_plan (bind_stop (script_lines d) (λ lines. Ok (script_task links payloads plan lines)) s h);
   }
 
-  pub all_read : (rel : List ℕ) (scenario script a b c : Option (List ℕ)) (links : LinkMap) (plan : ScenarioValue) (lines : List LineValue) (x : X) → IsReadAs holds sound rose (Some rel) a → relations a ≡ Ok links → IsReadAs holds sound rose scenario b → scenario_by scenario b ≡ Ok plan
-      → IsReadAs holds sound rose script c → script_lines c ≡ Ok lines → view x ≡ script_task links plan lines → Prepares holds sound rose (Some (script_form rel scenario script)) view (Ok x)
-  all_read rel scenario script a b c links plan lines x p is_links q is_plan r is_lines is = record {
-    reads = three a b c;
-    are_read = three_read holds sound rose rel scenario script a b c p q r;
-    finds = by_plan view rel scenario script a b c links is_links (Ok x) plan is_plan (subst (λ (v : Result (List LineValue) Fault). Finds view (Ok x) (last links plan v)) (sym is_lines) (ap Ok (sym is)));
+  pub all_read : (rel : List ℕ) (vrps scenario script a b c d : Option (List ℕ)) (links : LinkMap) (payloads : Payloads) (plan : ScenarioValue) (lines : List LineValue) (x : X) → IsReadAs holds sound rose (Some rel) a → relations a ≡ Ok links
+      → IsReadAs holds sound rose vrps b → payloads_by vrps b ≡ Ok payloads → IsReadAs holds sound rose scenario c → scenario_by scenario c ≡ Ok plan
+      → IsReadAs holds sound rose script d → script_lines d ≡ Ok lines → view x ≡ script_task links payloads plan lines → Prepares holds sound rose (Some (script_form rel vrps scenario script)) view (Ok x)
+  all_read rel vrps scenario script a b c d links payloads plan lines x p is_links q is_payloads r is_plan t is_lines is = record {
+    reads = four a b c d;
+    are_read = four_read holds sound rose rel vrps scenario script a b c d p q r t;
+    finds = by_plan view rel vrps scenario script a b c d links is_links (Ok x) payloads plan is_payloads is_plan (subst (λ (v : Result (List LineValue) Fault). Finds view (Ok x) (last links payloads plan v)) (sym is_lines) (ap Ok (sym is)));
   }

@@ -11,7 +11,7 @@ use Rattle.asprop.specs.declared.types.Fault.{Fault}
 use Rattle.asprop.specs.declared.types.Fault.TheVariants as fault
 use Rattle.asprop.specs.declared.types.Status.{Status}
 use Rattle.asprop.specs.declared.types.Status.TheVariants as status
-use Rattle.asprop.proofs.Faults.{Stopped, no_form, unread, by_value, other_relation, other_scenario, other_script, of_task}
+use Rattle.asprop.proofs.Faults.{Stopped, no_form, unread, by_value, other_payload, other_relation, other_scenario, other_script, of_task}
 
 usage_stop : (form : Option Form) (reads : Reads) (f : Fault) → Stopped form reads f → status.Usage ≡ status_of f → form ≡ None
 usage_stop form reads _ (no_form is) h = is
@@ -53,6 +53,7 @@ write_only (Err fault.Usage) old new rose h = cc
 write_only (Err (fault.Unread which)) old new rose h = cc
 write_only (Err (fault.TooLong which)) old new rose h = cc
 write_only (Err (fault.Relation e)) old new rose h = absurd ((other_relation e).write h.0)
+write_only (Err (fault.Payload e)) old new rose h = absurd ((other_payload e).write h.0)
 write_only (Err (fault.Scenario e)) old new rose h = absurd ((other_scenario e).write h.0)
 write_only (Err (fault.Later member)) old new rose h = cc
 write_only (Err (fault.Script e)) old new rose h = absurd ((other_script e).write h.0)

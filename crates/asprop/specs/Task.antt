@@ -4,6 +4,8 @@ use Rattle.net_names.specs.Links.{LinkMap}
 use Rattle.net_names.specs.Prefixes.{PrefixValue}
 use Rattle.net_names.specs.declared.addresses.Family.TheVariants.{V4}
 use Rattle.caida_reader.specs.Value.{links_of}
+use Rattle.roa_table.specs.Files.{payloads_in}
+use Rattle.roa_table.specs.Sets.{Payloads, no_payloads}
 use Rattle.as_graph.specs.Topology.{as_count}
 use Rattle.scenario_text.specs.Scenarios.{ScenarioValue, nothing}
 use Rattle.scenario_text.specs.Readings.{scenario_of_bytes}
@@ -13,7 +15,7 @@ use Rattle.scenario_text.specs.declared.acts.Act.{Act}
 use Rattle.scenario_text.specs.declared.acts.Act.TheVariants as act
 use Rattle.scenario_text.specs.declared.acts.Query.TheVariants as query
 use Rattle.scenario_text.specs.declared.places.Member.{Member}
-use Rattle.scenario_text.specs.declared.places.Member.TheVariants.{Policies, Leaks, Watch}
+use Rattle.scenario_text.specs.declared.places.Member.TheVariants.{Leaks, Watch}
 use Rattle.scenario_text.specs.declared.script.ScriptError.TheVariants as script
 use Rattle.sim_core.specs.World.{World, topology}
 use Rattle.sim_core.specs.Loaded.{world_of}
@@ -42,6 +44,7 @@ abbrev pub ◌>>=◌ : {A B : Type 0} → Result A Fault → (A → Result B Fau
 -- the most bytes of a file (own rule)
 abbrev pub most_bytes : File → ℕ
 most_bytes file.Relations = 268435456
+most_bytes file.Payloads = 268435456
 most_bytes file.Scenario = 16777216
 most_bytes file.Script = 16777216
 
@@ -63,12 +66,14 @@ read_as which as_fault value read = bytes_of which read >>= λ bytes. or_fault a
 abbrev pub relations : Option (List ℕ) → Result LinkMap Fault
 relations = read_as file.Relations fault.Relation links_of
 
--- the first member of a scenario that names something whose meaning is not built yet: policies, leakers or watched addresses (own rule)
+-- the payloads of the file of this name; without a name there are none (own rule)
+abbrev pub payloads_by : Option (List ℕ) → Option (List ℕ) → Result Payloads Fault
+payloads_by None read = Ok no_payloads
+payloads_by (Some name) read = read_as file.Payloads fault.Payload payloads_in read
+
+-- the first member of a scenario that names something whose meaning is not built yet: leakers or watched addresses (own rule)
 abbrev pub later_in : ScenarioValue → Option Member
-later_in s = elim s.policies [
-  | (p ∷ ps) ↦ Some Policies
-  | [] ↦ elim s.leaks [ (leakers ∷ lists) ↦ Some Leaks | [] ↦ elim s.watch [ (addr ∷ addrs) ↦ Some Watch | [] ↦ None ] ]
-]
+later_in s = elim s.leaks [ (leakers ∷ lists) ↦ Some Leaks | [] ↦ elim s.watch [ (addr ∷ addrs) ↦ Some Watch | [] ↦ None ] ]
 
 -- the scenario, if it names nothing whose meaning is not built yet (own rule)
 abbrev pub unless_later : Option Member → ScenarioValue → Result ScenarioValue Fault
@@ -87,6 +92,7 @@ scenario_by (Some name) read = read_as file.Scenario fault.Scenario scenario_of_
 abbrev pub is_answered : Act → Bool
 is_answered (act.Query (query.Routes round prefix)) = true
 is_answered (act.Query (query.Route round prefix asn)) = true
+is_answered (act.Query (query.Validity prefix asn)) = true
 is_answered _ = false
 
 -- the number of the first line that isn't answered (own rule)
@@ -122,24 +128,24 @@ announced_by origin = record nothing { announcements = record { prefix = all_add
 abbrev pub origin_line : LineValue
 origin_line = record { number = 1; act = act.Query (query.Routes 1 all_addresses) }
 
--- the routes of all ASes to one origin: one line without a head line (own rule)
+-- the routes of all ASes to one origin, without payloads: one line without a head line (own rule)
 abbrev pub origin_task : LinkMap → ℕ → Task
 origin_task links origin = record {
-  world = world_of links (announced_by origin);
+  world = world_of links no_payloads (announced_by origin);
   lines = origin_line ∷ [];
   heads = false;
 }
 
 -- the answers to a script, with a head line each (own rule)
-abbrev pub script_task : LinkMap → ScenarioValue → List LineValue → Task
-script_task links scenario lines = record { world = world_of links scenario; lines = lines; heads = true }
+abbrev pub script_task : LinkMap → Payloads → ScenarioValue → List LineValue → Task
+script_task links payloads scenario lines = record { world = world_of links payloads scenario; lines = lines; heads = true }
 
 -- what the form and the files ask for; words without a form are the first fault (own rule)
 abbrev pub asked : Option Form → Reads → Result Task Fault
 asked None reads = Err fault.Usage
 asked (Some (origin_form rel origin)) reads = relations (reads file.Relations) >>= λ links. Ok (origin_task links origin)
-asked (Some (script_form rel scenario script)) reads =
-    relations (reads file.Relations) >>= λ links. scenario_by scenario (reads file.Scenario) >>= λ plan. script_lines (reads file.Script) >>= λ lines. Ok (script_task links plan lines)
+asked (Some (script_form rel vrps scenario script)) reads =
+    relations (reads file.Relations) >>= λ links. payloads_by vrps (reads file.Payloads) >>= λ payloads. scenario_by scenario (reads file.Scenario) >>= λ plan. script_lines (reads file.Script) >>= λ lines. Ok (script_task links payloads plan lines)
 
 -- the task, if its world has at most 150000 ASes (own rule)
 abbrev pub within_limits : Task → Result Task Fault

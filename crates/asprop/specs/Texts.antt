@@ -2,6 +2,8 @@
 use Rattle.std.specs.Prelude.{ℕ, List, [], ◌∷◌, ◌++◌, codes, Option, unwrap_or, decimal}
 use Rattle.caida_reader.specs.declared.errors.RelError.{RelError}
 use Rattle.caida_reader.specs.declared.errors.RelError.TheVariants as rel
+use Rattle.roa_table.specs.declared.errors.VrpError.{VrpError}
+use Rattle.roa_table.specs.declared.errors.VrpError.TheVariants as vrp
 use Rattle.scenario_text.specs.Places.{in_member}
 use Rattle.scenario_text.specs.PlaceTexts.{place_text}
 use Rattle.scenario_text.specs.declared.faults.LimitOf.{LimitOf}
@@ -44,6 +46,15 @@ rel_text (rel.SelfLink line) = codes "line " ++ (decimal line ++ codes ": an AS 
 rel_text (rel.Conflict line earlier) = codes "line " ++ (decimal line ++ (codes ": conflicts with line " ++ decimal earlier))
 rel_text (rel.TooManyLinks line) = codes "line " ++ (decimal line ++ codes ": more than 1500000 links")
 
+-- the fault of a payload file and its row (own format)
+abbrev pub vrp_text : VrpError → List ℕ
+vrp_text vrp.Memory = []
+vrp_text (vrp.Fields row) = codes "row " ++ (decimal row ++ codes ": fewer than three fields")
+vrp_text (vrp.BadAsn row) = codes "row " ++ (decimal row ++ codes ": bad AS number")
+vrp_text (vrp.BadPrefix row) = codes "row " ++ (decimal row ++ codes ": bad prefix")
+vrp_text (vrp.BadMax row) = codes "row " ++ (decimal row ++ codes ": bad maximum length")
+vrp_text (vrp.TooMany row) = codes "row " ++ (decimal row ++ codes ": more than 2000000 payloads")
+
 -- the limit of a scenario that is passed (own format)
 abbrev pub limit_text : LimitOf → List ℕ
 limit_text limit.Announcements = codes "more than 64 announcements"
@@ -71,6 +82,7 @@ script_text (script.TooMany line) = codes "line " ++ (decimal line ++ codes ": m
 -- a file is longer than it may be (own format)
 abbrev pub length_text : File → List ℕ
 length_text file.Relations = codes "more than 268435456 bytes"
+length_text file.Payloads = codes "more than 268435456 bytes"
 length_text file.Scenario = codes "more than 16777216 bytes"
 length_text file.Script = codes "more than 16777216 bytes"
 
@@ -80,6 +92,7 @@ fault_text form fault.Usage = usage
 fault_text form (fault.Unread which) = of_file (shown form which) (codes "read fault")
 fault_text form (fault.TooLong which) = of_file (shown form which) (length_text which)
 fault_text form (fault.Relation e) = of_file (shown form file.Relations) (rel_text e)
+fault_text form (fault.Payload e) = of_file (shown form file.Payloads) (vrp_text e)
 fault_text form (fault.Scenario e) = of_file (shown form file.Scenario) (scenario_text e)
 fault_text form (fault.Later member) = of_file (shown form file.Scenario) (place_text (in_member member) ++ codes ": not built yet")
 fault_text form (fault.Script e) = of_file (shown form file.Script) (script_text e)
@@ -89,6 +102,11 @@ fault_text form fault.TooManyAses = message (codes "more than 150000 ASes")
 abbrev pub rel_status : RelError → Status
 rel_status (rel.TooManyLinks line) = status.TooLarge
 rel_status _ = status.BadInput
+
+-- a fault of a payload file is bad input, but for a passed limit (own rule)
+abbrev pub vrp_status : VrpError → Status
+vrp_status (vrp.TooMany row) = status.TooLarge
+vrp_status _ = status.BadInput
 
 -- a fault of a scenario is bad input, but for a passed limit (own rule)
 abbrev pub scenario_status : ScenarioError → Status
@@ -106,6 +124,7 @@ status_of fault.Usage = status.Usage
 status_of (fault.Unread which) = status.ReadFault
 status_of (fault.TooLong which) = status.TooLarge
 status_of (fault.Relation e) = rel_status e
+status_of (fault.Payload e) = vrp_status e
 status_of (fault.Scenario e) = scenario_status e
 status_of (fault.Later member) = status.BadInput
 status_of (fault.Script e) = script_status e

@@ -6,7 +6,7 @@ use Rattle.clap.specs.Walk.{Row, Text, first_of}
 use Rattle.net_names.specs.Texts.{asn_of}
 use Rattle.asprop.specs.Command.{faults_in, rows_in}
 use Rattle.asprop.specs.declared.types.File.{File}
-use Rattle.asprop.specs.declared.types.File.TheVariants.{Relations, Scenario, Script as ScriptFile}
+use Rattle.asprop.specs.declared.types.File.TheVariants.{Relations, Payloads, Scenario, Script as ScriptFile}
 use Rattle.asprop.specs.declared.words.Job.{Job}
 use Rattle.asprop.specs.declared.words.Job.TheVariants.{Script, Origin, Demo}
 use Rattle.asprop.specs.declared.words.Jobs.{Jobs}
@@ -17,7 +17,7 @@ use Rattle.asprop.specs.declared.words.WordForm.TheVariants as form
 -- a form that the words may have (own format)
 pub data Form : Type 0 where
   -- the answers to a script, over a relationship file, payloads and a scenario
-  script_form : (rel : Text) (scenario script : Option Text) → Form
+  script_form : (rel : Text) (vrps scenario script : Option Text) → Form
   -- the routes of all ASes to one origin, over a relationship file
   origin_form : (rel : Text) (origin : ℕ) → Form
 
@@ -40,8 +40,8 @@ asked_by script origin demo = also Demo demo (also Origin origin (also Script sc
 
 -- the table of the forms, by the relationship file, the payloads, the scenario and what is asked (own format)
 abbrev pub form_by : Option Text → Option Text → Option Text → Asked → Option Form
-form_by (Some rel) None scenario nothing = Some (script_form rel scenario None)
-form_by (Some rel) None scenario (only Script name) = Some (script_form rel scenario (Some name))
+form_by (Some rel) vrps scenario nothing = Some (script_form rel vrps scenario None)
+form_by (Some rel) vrps scenario (only Script name) = Some (script_form rel vrps scenario (Some name))
 form_by (Some rel) None None (only Origin number) = option_map (λ origin. origin_form rel origin) (asn_of number)
 form_by _ _ _ _ = None
 
@@ -61,9 +61,10 @@ form_of words = form_unless (faults_in words) (form_in (rows_in words))
 
 -- the name that a form gives to a file, if it names one
 abbrev pub name_of : Form → File → Option Text
-name_of (script_form rel scenario script) Relations = Some rel
-name_of (script_form rel scenario script) Scenario = scenario
-name_of (script_form rel scenario script) ScriptFile = script
+name_of (script_form rel vrps scenario script) Relations = Some rel
+name_of (script_form rel vrps scenario script) Payloads = vrps
+name_of (script_form rel vrps scenario script) Scenario = scenario
+name_of (script_form rel vrps scenario script) ScriptFile = script
 name_of (origin_form rel origin) Relations = Some rel
 name_of (origin_form rel origin) file = None
 
@@ -82,7 +83,7 @@ text_seen = option_map (λ text. text.now)
 
 -- what the program keeps of a form
 abbrev pub form_seen : WordForm → Form
-form_seen (form.Script rel scenario script) = script_form rel.now (text_seen scenario) (text_seen script)
+form_seen (form.Script rel vrps scenario script) = script_form rel.now (text_seen vrps) (text_seen scenario) (text_seen script)
 form_seen (form.Origin rel origin) = origin_form rel.now origin
 
 -- what the program keeps of the options that say what to do

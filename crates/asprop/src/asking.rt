@@ -6,19 +6,21 @@ ghost use Rattle.asprop.specs.Files.{Prepares};
 ghost use Rattle.asprop.specs.Seen.{task_seen};
 ghost use Rattle.asprop.specs.Words.{form_seen, origin_form, script_form, text_seen};
 
-use crate::reading::{read_lines, read_plan, read_relations};
+use crate::reading::{read_lines, read_payloads, read_plan, read_relations};
 use crate::types::{Fault, Stop};
 use crate::words::WordForm;
 use io_edge::Inputs;
 use net_names::{Asn, Family, Links, NoMemory, Path, Prefix};
+use roa_table::Vrps;
 use scenario_text::{Act, Announcement, Line, Lines, Query, Scenario};
 use std::alloc::Global;
 
-/// The links and the scenario of a world, and the lines to be answered in it, with a
+/// The links, the payloads and the scenario of a world, and the lines to be answered in it, with a
 /// head line each or without.
 #[derive(Drop)]
 pub struct Asked {
     pub links: Links,
+    pub vrps: Vrps,
     pub scenario: Scenario,
     pub lines: Lines,
     pub heads: bool,
@@ -62,7 +64,7 @@ fn origin_lines(alloc: Global) -> Result<Lines, NoMemory>
     Ok(lines)
 }
 
-// The routes of all ASes to one origin, over the relationship file of this name.
+// The routes of all ASes to one origin, over the relationship file of this name, without payloads.
 fn ask_origin<I: Inputs>(
     alloc: Global,
     rel: &str,
@@ -85,6 +87,7 @@ fn ask_origin<I: Inputs>(
     };
     Ok(Asked {
         links,
+        vrps: Vrps::new(alloc),
         scenario,
         lines,
         heads: false,
@@ -95,16 +98,21 @@ fn ask_origin<I: Inputs>(
 fn ask_script<I: Inputs>(
     alloc: Global,
     rel: &str,
+    vrps: Option<&str>,
     scenario: Option<&str>,
     script: Option<&str>,
     inputs: &mut I,
 ) -> Result<Asked, Stop>
     ensures task { Prepares (I.holds inputs.old) (I.is_sound inputs.old) (Rose (I.faults inputs.old) (I.faults inputs.new))
-        (Some (script_form rel.now (text_seen scenario.entry) (text_seen script.entry))) task_seen result }
+        (Some (script_form rel.now (text_seen vrps.entry) (text_seen scenario.entry) (text_seen script.entry))) task_seen result }
     ensures answered { IfOk result (λ asked. AreAnswered asked.lines) }
 {
     let links = match read_relations(alloc, inputs, rel) {
         Ok(links) => links,
+        Err(stop) => return Err(stop),
+    };
+    let vrps = match read_payloads(alloc, inputs, vrps) {
+        Ok(vrps) => vrps,
         Err(stop) => return Err(stop),
     };
     let scenario = match read_plan(alloc, inputs, scenario) {
@@ -114,6 +122,7 @@ fn ask_script<I: Inputs>(
     match read_lines(alloc, inputs, script) {
         Ok(lines) => Ok(Asked {
             links,
+            vrps,
             scenario,
             lines,
             heads: true,
@@ -123,7 +132,7 @@ fn ask_script<I: Inputs>(
 }
 
 /// Reads the files that the form names. The first fault is answered, in this order: the form, the
-/// relationship file, the scenario, the script; each file is read to its end, or to
+/// relationship file, the payload file, the scenario, the script; each file is read to its end, or to
 /// one byte past its limit, before it is judged.
 pub fn ask<I: Inputs>(
     alloc: Global,
@@ -141,8 +150,9 @@ pub fn ask<I: Inputs>(
         WordForm::Origin { rel, origin } => ask_origin(alloc, rel, *origin, inputs),
         WordForm::Script {
             rel,
+            vrps,
             scenario,
             script,
-        } => ask_script(alloc, rel, *scenario, *script, inputs),
+        } => ask_script(alloc, rel, *vrps, *scenario, *script, inputs),
     }
 }

@@ -5,7 +5,7 @@ ghost use Rattle.asprop.specs.Texts.{cycle_text, fault_text, shown, status_of};
 ghost use Rattle.asprop.specs.Ran.{Explained, Reports};
 ghost use Rattle.asprop.specs.Words.{form_seen};
 
-use crate::fault_texts::{length_text, relation_text, scenario_text, script_text};
+use crate::fault_texts::{length_text, payload_text, relation_text, scenario_text, script_text};
 use crate::types::{Fault, File, Status, Stop};
 use crate::words::WordForm;
 use caida_reader::RelError;
@@ -13,6 +13,7 @@ use cycle_check::Cycle;
 use io_edge::{Sink, write_all};
 use net_names::NoMemory;
 use reports::put_numbers;
+use roa_table::VrpError;
 use scenario_text::{Place, ScenarioError, ScriptError, place_string};
 use std::alloc::{AllocError, Global};
 
@@ -50,6 +51,11 @@ fn fault_message(
         Fault::Relation(error) => {
             let name = file_name(form, File::Relations);
             let text = relation_text(alloc, error)?;
+            format!(in alloc; "asprop: {name}: {text}\n")
+        }
+        Fault::Payload(error) => {
+            let name = file_name(form, File::Payloads);
+            let text = payload_text(alloc, error)?;
             format!(in alloc; "asprop: {name}: {text}\n")
         }
         Fault::Scenario(error) => {
@@ -95,6 +101,8 @@ fn fault_status(fault: Fault) -> Status
         Fault::TooLong(_) => Status::TooLarge,
         Fault::Relation(RelError::TooManyLinks { line: _ }) => Status::TooLarge,
         Fault::Relation(_) => Status::BadInput,
+        Fault::Payload(VrpError::TooMany { row: _ }) => Status::TooLarge,
+        Fault::Payload(_) => Status::BadInput,
         Fault::Scenario(ScenarioError::Limit { which: _ }) => Status::TooLarge,
         Fault::Scenario(_) => Status::BadInput,
         Fault::Later(_) => Status::BadInput,

@@ -1,9 +1,10 @@
 //! The texts of faults of files.
 ghost use Rattle.std.specs.Prelude.{◌≡◌, IfOk, string_bytes};
-ghost use Rattle.asprop.specs.Texts.{length_text as length_text_of, limit_text as limit_text_of, rel_text, scenario_text as scenario_text_of, script_text as script_text_of};
+ghost use Rattle.asprop.specs.Texts.{length_text as length_text_of, limit_text as limit_text_of, rel_text, scenario_text as scenario_text_of, script_text as script_text_of, vrp_text};
 
 use crate::types::File;
 use caida_reader::RelError;
+use roa_table::VrpError;
 use scenario_text::{LimitOf, ScenarioError, ScriptError, place_string};
 use std::alloc::{AllocError, Global};
 
@@ -20,6 +21,19 @@ pub fn relation_text(alloc: Global, error: RelError) -> Result<String, AllocErro
         RelError::TooManyLinks { line } => format!(in alloc;
             "line {line}: more than 1500000 links"
         ),
+    }
+}
+
+pub fn payload_text(alloc: Global, error: VrpError) -> Result<String, AllocError>
+    ensures { IfOk result (λ text. string_bytes text ≡ vrp_text error) }
+{
+    match error {
+        VrpError::Memory => Ok(String::new(alloc)),
+        VrpError::Fields { row } => format!(in alloc; "row {row}: fewer than three fields"),
+        VrpError::BadAsn { row } => format!(in alloc; "row {row}: bad AS number"),
+        VrpError::BadPrefix { row } => format!(in alloc; "row {row}: bad prefix"),
+        VrpError::BadMax { row } => format!(in alloc; "row {row}: bad maximum length"),
+        VrpError::TooMany { row } => format!(in alloc; "row {row}: more than 2000000 payloads"),
     }
 }
 
@@ -75,7 +89,7 @@ pub fn length_text(file: File) -> &'static str
     ensures { result.now ≡ length_text_of file }
 {
     match file {
-        File::Relations => "more than 268435456 bytes",
+        File::Relations | File::Payloads => "more than 268435456 bytes",
         File::Scenario | File::Script => "more than 16777216 bytes",
     }
 }

@@ -1,15 +1,16 @@
 //! The files of a run: each is read to its end, or to one byte past its limit, before it is judged.
 ghost use Rattle.std.specs.Prelude.{◌≡◌, ◌<◌, length};
 ghost use Rattle.io_edge.specs.Faults.{Rose, KeepsNames};
-ghost use Rattle.asprop.specs.Task.{all_answered as lines_if_answered, bytes_of, first_unanswered as first_unanswered_in, is_answered as answers_act, later_in as later_member, most_bytes, relations, scenario_by, script_lines, without_later as with_nothing_later};
+ghost use Rattle.asprop.specs.Task.{all_answered as lines_if_answered, bytes_of, first_unanswered as first_unanswered_in, is_answered as answers_act, later_in as later_member, most_bytes, payloads_by, relations, scenario_by, script_lines, without_later as with_nothing_later};
 ghost use Rattle.asprop.specs.Files.{Finds, ReadsAs, ReadsTo};
 ghost use Rattle.asprop.specs.Words.{text_seen};
 
-use crate::stops::{relation_stop, scenario_stop, script_stop};
+use crate::stops::{payload_stop, relation_stop, scenario_stop, script_stop};
 use crate::types::{Fault, File, Stop};
 use caida_reader::Reader;
 use io_edge::{Failed, Inputs, ReadAllError, read_all};
 use net_names::Links;
+use roa_table::Vrps;
 use scenario_text::{
     Act, Line, Lines, Member, Query, Scenario, ScriptError, read_scenario, read_script,
 };
@@ -26,7 +27,7 @@ fn limit_of(file: File) -> usize
     ensures { result ≡ most_bytes file }
 {
     match file {
-        File::Relations => 268_435_456,
+        File::Relations | File::Payloads => 268_435_456,
         File::Scenario | File::Script => 16_777_216,
     }
 }
@@ -100,13 +101,33 @@ fn read_bytes<I: Inputs>(
     }
 }
 
+/// Reads the payloads of the file of this name; without a name there are none.
+pub fn read_payloads<I: Inputs>(
+    alloc: Global,
+    inputs: &mut I,
+    name: Option<&str>,
+) -> Result<Vrps, Stop>
+    ensures found { ReadsAs (I.holds inputs.old) (I.is_sound inputs.old) (Rose (I.faults inputs.old) (I.faults inputs.new)) (text_seen name.entry)
+        (λ vrps. vrps) result (payloads_by (text_seen name.entry)) }
+    ensures keeps { KeepsNames I.holds I.is_sound I.faults inputs.old inputs.new }
+{
+    let Some(name) = name else {
+        return Ok(Vrps::new(alloc));
+    };
+    let bytes = match read_bytes(alloc, inputs, File::Payloads, name) {
+        Ok(bytes) => bytes,
+        Err(stop) => return Err(stop),
+    };
+    match roa_table::read(alloc, &bytes) {
+        Ok(vrps) => Ok(vrps),
+        Err(error) => Err(payload_stop(error)),
+    }
+}
+
 // The first member that names something whose meaning is not built yet, if there is one.
 fn later_in(scenario: &Scenario) -> Option<Member>
     ensures { result ≡ later_member scenario.now }
 {
-    if !scenario.policies().is_empty() {
-        return Some(Member::Policies);
-    }
     if !scenario.leaks().is_empty() {
         return Some(Member::Leaks);
     }
@@ -156,6 +177,7 @@ fn is_answered(act: &Act) -> bool
     match act {
         Act::Query(Query::Routes { .. }) => true,
         Act::Query(Query::Route { .. }) => true,
+        Act::Query(Query::Validity { .. }) => true,
         Act::Query(_) => false,
         Act::Edit(_) => false,
     }

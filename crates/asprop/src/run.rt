@@ -26,6 +26,7 @@ fn work<I: Inputs, O: Sink>(
 {
     let Asked {
         links,
+        vrps,
         scenario,
         lines,
         heads,
@@ -33,7 +34,7 @@ fn work<I: Inputs, O: Sink>(
         Ok(asked) => asked,
         Err(stop) => return Err(stop),
     };
-    match Sim::load(alloc, links, scenario) {
+    match Sim::load(alloc, links, vrps, scenario) {
         Ok(sim) => answer_all(alloc, &sim, heads, lines.as_slice(), out),
         Err(LoadError::Memory) => Err(Stop::Memory),
         Err(LoadError::TooManyAses) => Err(Stop::Fault(Fault::TooManyAses)),
@@ -67,7 +68,7 @@ fn run_to_end<I: Inputs, O: Sink, E: Sink>(
 /// Reads the words and the files that they name, writes the answers to `out`, and says on `err` why it stopped.
 ///
 /// The first word is the program's name. The order of the work is: the words, the relationship file,
-/// the scenario, the script, the number of ASes, the provider cycle, the answers, line by
+/// the payload file, the scenario, the script, the number of ASes, the provider cycle, the answers, line by
 /// line, each made whole before it is written. Nothing is written to `out` before all files have been
 /// read and judged.
 pub fn run<I: Inputs, O: Sink, E: Sink>(

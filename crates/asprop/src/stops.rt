@@ -1,8 +1,11 @@
 //! What the faults of files mean for the run.
-ghost use Rattle.std.specs.Prelude.{Result, List};
+ghost use Rattle.std.specs.Prelude.{Result, List, Err};
 ghost use Rattle.net_names.specs.Links.{LinkMap};
 ghost use Rattle.caida_reader.specs.Progress.{Fails as RelationFails};
 ghost use Rattle.caida_reader.specs.declared.errors.RelError.{RelError as ARelError};
+ghost use Rattle.roa_table.specs.Files.{Gives};
+ghost use Rattle.roa_table.specs.Sets.{Payloads};
+ghost use Rattle.roa_table.specs.declared.errors.VrpError.{VrpError as AVrpError};
 ghost use Rattle.scenario_text.specs.Scenarios.{ScenarioValue};
 ghost use Rattle.scenario_text.specs.Faults.{Fails as ScenarioFails};
 ghost use Rattle.scenario_text.specs.LineValues.{LineValue};
@@ -15,6 +18,7 @@ ghost use Rattle.asprop.specs.declared.types.Fault.TheVariants as fault;
 
 use crate::types::{Fault, Stop};
 use caida_reader::RelError;
+use roa_table::VrpError;
 use scenario_text::{ScenarioError, ScriptError};
 
 /// The stop for a fault of the relationship file.
@@ -30,6 +34,20 @@ pub fn relation_stop(error: RelError) -> Stop
             earlier: _,
         } => Stop::Fault(Fault::Relation(error)),
         RelError::TooManyLinks { line: _ } => Stop::Fault(Fault::Relation(error)),
+    }
+}
+
+/// The stop for a fault of the payload file.
+pub fn payload_stop(error: VrpError) -> Stop
+    ensures { (value : Result Payloads AVrpError) → Gives (Err error) value → IsStop result (or_fault fault.Payload value) }
+{
+    match error {
+        VrpError::Memory => Stop::Memory,
+        VrpError::Fields { row: _ } => Stop::Fault(Fault::Payload(error)),
+        VrpError::BadAsn { row: _ } => Stop::Fault(Fault::Payload(error)),
+        VrpError::BadPrefix { row: _ } => Stop::Fault(Fault::Payload(error)),
+        VrpError::BadMax { row: _ } => Stop::Fault(Fault::Payload(error)),
+        VrpError::TooMany { row: _ } => Stop::Fault(Fault::Payload(error)),
     }
 }
 

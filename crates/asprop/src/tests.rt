@@ -3,9 +3,14 @@ ghost use Rattle.std.specs.Prelude.{◌≡◌, ◌≤◌, [], IfOk};
 
 use crate::run::run;
 use crate::types::Status;
-use io_edge::{CleanInputs, CleanSink, MemInputs, MemSink};
+use io_edge::{MemInputs, MemSink};
 use std::alloc::{AllocError, Global};
+use std::process::Abort;
 use std::test::Fail;
+
+mod origins;
+mod payloads;
+mod scripts;
 
 fn words(alloc: Global, texts: &[&str]) -> Result<Vec<String>, AllocError> {
     let mut all = Vec::new(alloc);
@@ -21,169 +26,6 @@ fn room(alloc: Global) -> Result<Vec<u8>, AllocError>
     Vec::with_capacity(alloc, 4096)
 }
 
-struct Case {
-    name: &'static str,
-    rel: &'static [u8],
-    origin: &'static str,
-    status: Status,
-    out: &'static [u8],
-    err: &'static [u8],
-}
-
-const DIAMOND: &[u8] = b"1|2|-1\n1|3|-1\n2|4|-1\n3|4|-1\n";
-
-const DIAMOND_TABLE: &[u8] = b"1|customer|1 2 4\n2|customer|2 4\n3|customer|3 4\n4|origin|4\n";
-
-const USAGE: &[u8] =
-    b"usage: asprop REL [--vrps FILE] [--scenario FILE] [--script FILE]\n       asprop REL --origin N\n       asprop --demo N\n";
-
-const CASES: [Case; 18] = [
-    Case {
-        name: "as-linked-to-itself",
-        rel: b"5|5|0\n",
-        origin: "5",
-        status: Status::BadInput,
-        out: b"",
-        err: b"asprop: rel: line 1: an AS linked to itself\n",
-    },
-    Case {
-        name: "as-number-above-32-bits-is-unreadable",
-        rel: b"4294967296|5|-1\n",
-        origin: "5",
-        status: Status::BadInput,
-        out: b"",
-        err: b"asprop: rel: line 1: unreadable\n",
-    },
-    Case {
-        name: "as-number-zero-is-unreadable",
-        rel: b"0|5|-1\n",
-        origin: "5",
-        status: Status::BadInput,
-        out: b"",
-        err: b"asprop: rel: line 1: unreadable\n",
-    },
-    Case {
-        name: "comment-cr-lf-and-further-fields",
-        rel: b"# inferred clique: 174 1299\r\n174|1299|0|bgp\r\n1299|64500|-1\r\n",
-        origin: "64500",
-        status: Status::Done,
-        out: b"174|peer|174 1299 64500\n1299|customer|1299 64500\n64500|origin|64500\n",
-        err: b"",
-    },
-    Case {
-        name: "compressed-file-is-unreadable",
-        rel: b"BZh91AY&SY\x00\xff\x17|2|-1\n1|2|-1\n",
-        origin: "3",
-        status: Status::BadInput,
-        out: b"",
-        err: b"asprop: rel: line 1: unreadable\n",
-    },
-    Case {
-        name: "cut-last-line-is-unreadable",
-        rel: b"1|2|-1\n1|3|-",
-        origin: "3",
-        status: Status::BadInput,
-        out: b"",
-        err: b"asprop: rel: line 2: unreadable\n",
-    },
-    Case {
-        name: "diamond-of-provider-links",
-        rel: b"1|2|-1\n1|3|-1\n2|4|-1\n3|4|-1\n",
-        origin: "4",
-        status: Status::Done,
-        out: b"1|customer|1 2 4\n2|customer|2 4\n3|customer|3 4\n4|origin|4\n",
-        err: b"",
-    },
-    Case {
-        name: "empty-file-lone-origin",
-        rel: b"",
-        origin: "7",
-        status: Status::Done,
-        out: b"7|origin|7\n",
-        err: b"",
-    },
-    Case {
-        name: "greatest-as-number",
-        rel: b"4294967295|5|0\n",
-        origin: "5",
-        status: Status::Done,
-        out: b"5|origin|5\n4294967295|peer|4294967295 5\n",
-        err: b"",
-    },
-    Case {
-        name: "last-line-without-lf",
-        rel: b"1|2|-1\n1|3|-1",
-        origin: "3",
-        status: Status::Done,
-        out: b"1|customer|1 3\n2|provider|2 1 3\n3|origin|3\n",
-        err: b"",
-    },
-    Case {
-        name: "longer-customer-route-before-peer-route",
-        rel: b"5|6|0\n6|9|-1\n5|7|-1\n7|8|-1\n8|9|-1\n",
-        origin: "9",
-        status: Status::Done,
-        out: b"5|customer|5 7 8 9\n6|customer|6 9\n7|customer|7 8 9\n8|customer|8 9\n9|origin|9\n",
-        err: b"",
-    },
-    Case {
-        name: "longer-peer-route-before-provider-route",
-        rel: b"7|9|-1\n7|5|-1\n5|6|0\n6|8|-1\n8|9|-1\n",
-        origin: "9",
-        status: Status::Done,
-        out: b"5|peer|5 6 8 9\n6|customer|6 8 9\n7|customer|7 9\n8|customer|8 9\n9|origin|9\n",
-        err: b"",
-    },
-    Case {
-        name: "peer-line-conflicts-with-provider-line",
-        rel: b"1|2|-1\n1|2|0\n",
-        origin: "2",
-        status: Status::BadInput,
-        out: b"",
-        err: b"asprop: rel: line 2: conflicts with line 1\n",
-    },
-    Case {
-        name: "provider-cycle-in-the-file",
-        rel: b"1|2|-1\n2|3|-1\n3|1|-1\n",
-        origin: "1",
-        status: Status::BadInput,
-        out: b"",
-        err: b"asprop: provider cycle: 1 2 3\n",
-    },
-    Case {
-        name: "provider-cycle-with-an-origin-outside",
-        rel: b"1|2|-1\n2|3|-1\n3|1|-1\n",
-        origin: "99",
-        status: Status::BadInput,
-        out: b"",
-        err: b"asprop: provider cycle: 1 2 3\n",
-    },
-    Case {
-        name: "same-link-twice-is-one-link",
-        rel: b"1|2|-1\n1|2|-1\n3|2|0\n2|3|0\n",
-        origin: "2",
-        status: Status::Done,
-        out: b"1|customer|1 2\n2|origin|2\n3|peer|3 2\n",
-        err: b"",
-    },
-    Case {
-        name: "tie-to-lowest-neighbour",
-        rel: b"1|2|-1\n1|3|-1\n2|4|-1\n3|4|-1\n2|3|0\n",
-        origin: "4",
-        status: Status::Done,
-        out: b"1|customer|1 2 4\n2|customer|2 4\n3|customer|3 4\n4|origin|4\n",
-        err: b"",
-    },
-    Case {
-        name: "turned-provider-line-conflicts",
-        rel: b"1|2|-1\n2|1|-1\n",
-        origin: "2",
-        status: Status::BadInput,
-        out: b"",
-        err: b"asprop: rel: line 2: conflicts with line 1\n",
-    },
-];
-
 // What a run over memory left.
 #[derive(Drop)]
 struct Left {
@@ -192,178 +34,12 @@ struct Left {
     err: MemSink,
 }
 
-// Runs the program over one relationship file, which is taken at most so many bytes at a time. The
-// calls of these numbers fail, of the inputs, of the output and of the fault texts; 0 for none.
-fn run_over(
-    alloc: Global,
-    texts: &[&str],
-    rel: &[u8],
-    most: usize,
-    fails: (u64, u64, u64),
-) -> Result<Left, Fail>
-    requires { 1 ≤ most }
-{
-    let mut inputs = MemInputs::new(alloc);
-    inputs.file("rel", rel)?;
-    inputs.fail_at(fails.0)?;
-    inputs.most(most);
-    let mut out = MemSink::new(alloc, room(alloc)?);
-    out.fail_at(fails.1)?;
-    out.most(most);
-    let mut err = MemSink::new(alloc, room(alloc)?);
-    err.fail_at(fails.2)?;
-    let all = words(alloc, texts)?;
-    let status = run(alloc, &all, &mut inputs, &mut out, &mut err);
-    Ok(Left { status, out, err })
-}
-
-#[test]
-fn each_file_gives_its_table_or_its_fault(rt: HostRuntime) -> Result<(), Fail> {
-    let alloc = rt.alloc();
-    for case in &CASES {
-        for most in 1..5usize {
-            let texts = ["asprop", "rel", "--origin", case.origin];
-            let left = run_over(alloc, &texts, case.rel, most, (0, 0, 0))?;
-            let name = case.name;
-            assert_eq!(rt; left.status, case.status, "{name}, {most} at a time");
-            assert_eq!(rt; left.out.bytes(), case.out, "{name}, {most} at a time");
-            assert_eq!(rt; left.err.bytes(), case.err, "{name}, {most} at a time");
-        }
-    }
-    Ok(())
-}
-
-// What a file of two lines gives that is cut after so many bytes.
-fn after_cut(count: usize) -> (Status, &'static [u8], &'static [u8]) {
-    match count {
-        0 => (Status::Done, b"2|origin|2\n", b""),
-        1..=5 => (Status::BadInput, b"", b"asprop: rel: line 1: unreadable\n"),
-        6 | 7 => (Status::Done, b"1|customer|1 2\n2|origin|2\n", b""),
-        8..=12 => (Status::BadInput, b"", b"asprop: rel: line 2: unreadable\n"),
-        _ => (
-            Status::Done,
-            b"1|customer|1 2\n2|origin|2\n3|provider|3 1 2\n",
-            b"",
-        ),
-    }
-}
-
-#[test]
-fn a_file_cut_after_each_byte_is_read_or_refused(rt: HostRuntime) -> Result<(), Fail> {
-    let alloc = rt.alloc();
-    let whole = b"1|2|-1\n1|3|-1\n".as_slice();
-    for count in 0..whole.len() + 1 {
-        for most in 1..4usize {
-            let texts = ["asprop", "rel", "--origin", "2"];
-            let left = run_over(alloc, &texts, &whole[..count], most, (0, 0, 0))?;
-            let (status, out, err) = after_cut(count);
-            assert_eq!(rt; left.status, status, "{count} bytes, {most} at a time");
-            assert_eq!(rt; left.out.bytes(), out, "{count} bytes, {most} at a time");
-            assert_eq!(rt; left.err.bytes(), err, "{count} bytes, {most} at a time");
-        }
-    }
-    Ok(())
-}
-
-#[test]
-fn over_clean_inputs_and_sinks_the_table_is_written(rt: HostRuntime) -> Result<(), Fail> {
-    let alloc = rt.alloc();
-    let mut inputs = CleanInputs::new(alloc);
-    inputs.file("rel", DIAMOND)?;
-    let mut out = CleanSink::new(room(alloc)?);
-    let mut err = CleanSink::new(room(alloc)?);
-    let all = words(alloc, &["asprop", "rel", "--origin", "4"])?;
-    let status = run(alloc, &all, &mut inputs, &mut out, &mut err);
-    assert_eq!(rt; status, Status::Done);
-    assert_eq!(rt; out.bytes(), DIAMOND_TABLE);
-    assert_eq!(rt; err.bytes(), b"".as_slice());
-    Ok(())
-}
-
-#[test]
-fn words_of_no_form_are_usage(rt: HostRuntime) -> Result<(), Fail> {
-    let alloc = rt.alloc();
-    let all: [&[&str]; 4] = [
-        &[],
-        &["asprop"],
-        &["asprop", "rel", "--origin", "4", "--script", "cmds"],
-        &["asprop", "--demo", "3"],
-    ];
-    for texts in &all {
-        let left = run_over(alloc, texts, DIAMOND, 1, (0, 0, 0))?;
-        assert_eq!(rt; left.status, Status::Usage);
-        assert_eq!(rt; left.out.bytes(), b"".as_slice());
-        assert_eq!(rt; left.err.bytes(), USAGE);
-    }
-    Ok(())
-}
-
-#[test]
-fn each_failing_read_is_a_read_fault(rt: HostRuntime) -> Result<(), Fail> {
-    let alloc = rt.alloc();
-    let texts = ["asprop", "rel", "--origin", "4"];
-    // A `begin`, a `take` for each 8 of the 28 bytes and one at the end.
-    for call in 1..7u64 {
-        let left = run_over(alloc, &texts, DIAMOND, 8, (call, 0, 0))?;
-        assert_eq!(rt; left.status, Status::ReadFault, "call {call}");
-        assert_eq!(rt; left.out.bytes(), b"".as_slice(), "call {call}");
-        assert_eq!(rt;
-            left.err.bytes(),
-            b"asprop: rel: read fault\n".as_slice(),
-            "call {call}"
-        );
-    }
-    let left = run_over(alloc, &texts, DIAMOND, 8, (7, 0, 0))?;
-    assert_eq!(rt; left.status, Status::Done);
-    let absent = run_over(
-        alloc,
-        &["asprop", "other", "--origin", "4"],
-        DIAMOND,
-        8,
-        (0, 0, 0),
-    )?;
-    assert_eq!(rt; absent.status, Status::ReadFault);
-    assert_eq!(rt;
-        absent.err.bytes(),
-        b"asprop: other: read fault\n".as_slice()
-    );
-    Ok(())
-}
-
-#[test]
-fn each_failing_write_leaves_a_front_of_the_table(rt: HostRuntime) -> Result<(), Fail> {
-    let alloc = rt.alloc();
-    let texts = ["asprop", "rel", "--origin", "4"];
-    for call in 1..DIAMOND_TABLE.len() + 1 {
-        let left = run_over(alloc, &texts, DIAMOND, 1, (0, call as u64, 0))?;
-        assert_eq!(rt; left.status, Status::WriteFault, "call {call}");
-        assert_eq!(rt; left.out.bytes(), &DIAMOND_TABLE[..call - 1], "call {call}");
-        assert_eq!(rt;
-            left.err.bytes(),
-            b"asprop: write fault\n".as_slice(),
-            "call {call}"
-        );
-    }
-    Ok(())
-}
-
-#[test]
-fn a_failing_fault_text_changes_nothing_else(rt: HostRuntime) -> Result<(), Fail> {
-    let alloc = rt.alloc();
-    let texts = ["asprop", "rel", "--origin", "4"];
-    let left = run_over(alloc, &texts, b"1|2|-\n", 1, (0, 0, 1))?;
-    assert_eq!(rt; left.status, Status::BadInput);
-    assert_eq!(rt; left.out.bytes(), b"".as_slice());
-    assert_eq!(rt; left.err.bytes(), b"".as_slice());
-    let left = run_over(alloc, &texts, DIAMOND, 1, (0, 6, 1))?;
-    assert_eq!(rt; left.status, Status::WriteFault);
-    assert_eq!(rt; left.out.bytes(), b"1|cus".as_slice());
-    Ok(())
-}
-
+// The four files by the names `rel`, `vrps`, `sc` and `cmds`, and what the run over them gives.
 struct ScriptCase {
     name: &'static str,
+    words: &'static [&'static str],
     rel: &'static [u8],
+    vrps: &'static [u8],
     scenario: &'static [u8],
     script: &'static [u8],
     status: Status,
@@ -371,104 +47,8 @@ struct ScriptCase {
     err: &'static [u8],
 }
 
-const TWO_ANNOUNCERS: &[u8] =
-    b"{\"announcements\":[{\"prefix\":\"10.0.0.0/8\",\"as\":4},{\"prefix\":\"10.0.0.0/8\",\"as\":5}]}\n";
-
-const SCRIPT_CASES: [ScriptCase; 10] = [
-    ScriptCase {
-        name: "two-ases-announce-one-prefix",
-        rel: b"1|4|-1\n1|5|-1\n2|5|-1\n1|2|0\n",
-        scenario: TWO_ANNOUNCERS,
-        script: b"routes 1 10.0.0.0/8\n",
-        status: Status::Done,
-        out: b"# 1\n1|customer|1 4\n2|customer|2 5\n4|origin|4\n5|origin|5\n",
-        err: b"",
-    },
-    ScriptCase {
-        name: "table-queries-outside-the-world",
-        rel: b"1|4|-1\n1|5|-1\n2|5|-1\n1|2|0\n",
-        scenario: TWO_ANNOUNCERS,
-        script: b"routes 3 10.0.0.0/8\nroutes 1 11.0.0.0/8\nroute 1 10.0.0.0/8 9\n",
-        status: Status::SomeRefused,
-        out: b"# 1\nrefused unknown-round 3\n# 2\nrefused unknown-prefix 11.0.0.0/8\n# 3\nrefused unknown-as 9\n",
-        err: b"",
-    },
-    ScriptCase {
-        name: "numbers of lines count the skipped ones",
-        rel: b"1|4|-1\n",
-        scenario: TWO_ANNOUNCERS,
-        script: b"# first\n\nroute 1 10.0.0.0/8 1\r\n",
-        status: Status::Done,
-        out: b"# 3\n1|customer|1 4\n",
-        err: b"",
-    },
-    ScriptCase {
-        name: "announcement-named-twice",
-        rel: b"",
-        scenario: b"{\"announcements\":[{\"prefix\":\"10.0.0.0/8\",\"as\":4},{\"prefix\":\"10.0.0.0/8\",\"as\":4}]}",
-        script: b"",
-        status: Status::BadInput,
-        out: b"",
-        err: b"asprop: sc: announcements[1]: named twice\n",
-    },
-    ScriptCase {
-        name: "prefix-with-a-bit-past-its-length",
-        rel: b"",
-        scenario: b"{\"announcements\":[{\"prefix\":\"10.0.0.1/8\",\"as\":4}]}",
-        script: b"",
-        status: Status::BadInput,
-        out: b"",
-        err: b"asprop: sc: announcements[0].prefix: bad value\n",
-    },
-    ScriptCase {
-        name: "scenario-is-not-json",
-        rel: b"",
-        scenario: b"[",
-        script: b"",
-        status: Status::BadInput,
-        out: b"",
-        err: b"asprop: sc: not JSON\n",
-    },
-    ScriptCase {
-        name: "unknown-member-of-the-document",
-        rel: b"",
-        scenario: b"{\"announcements\":[],\"extra\":1}",
-        script: b"",
-        status: Status::BadInput,
-        out: b"",
-        err: b"asprop: sc: document: wrong shape\n",
-    },
-    ScriptCase {
-        name: "member-policies-not-there-yet",
-        rel: b"1|3|-1\n",
-        scenario: b"{\"announcements\":[],\"policies\":[{\"as\":5,\"policy\":\"plain\"}]}",
-        script: b"",
-        status: Status::BadInput,
-        out: b"",
-        err: b"asprop: sc: policies: not built yet\n",
-    },
-    ScriptCase {
-        name: "short-script-line-is-unreadable",
-        rel: b"",
-        scenario: TWO_ANNOUNCERS,
-        script: b"routes 1 10.0.0.0/8\nroute 1\n",
-        status: Status::BadInput,
-        out: b"",
-        err: b"asprop: cmds: line 2: unreadable\n",
-    },
-    ScriptCase {
-        name: "a line that isn't answered yet",
-        rel: b"",
-        scenario: TWO_ANNOUNCERS,
-        script: b"routes 1 10.0.0.0/8\npolicy 4 plain\n",
-        status: Status::BadInput,
-        out: b"",
-        err: b"asprop: cmds: line 2: unreadable\n",
-    },
-];
-
-// Runs the program over a relationship file, a scenario and a script, of which the call of this number
-// fails; 0 for none.
+// Runs the program with these words over the files of a case, which are taken at most so many bytes at a time.
+// The call of this number fails; 0 for none.
 fn run_script(
     alloc: Global,
     texts: &[&str],
@@ -480,6 +60,7 @@ fn run_script(
 {
     let mut inputs = MemInputs::new(alloc);
     inputs.file("rel", case.rel)?;
+    inputs.file("vrps", case.vrps)?;
     inputs.file("sc", case.scenario)?;
     inputs.file("cmds", case.script)?;
     inputs.fail_at(fails)?;
@@ -491,60 +72,16 @@ fn run_script(
     Ok(Left { status, out, err })
 }
 
-const SCRIPT_WORDS: [&str; 6] = ["asprop", "rel", "--scenario", "sc", "--script", "cmds"];
-
-#[test]
-fn each_script_gives_its_answers_or_the_first_fault(rt: HostRuntime) -> Result<(), Fail> {
-    let alloc = rt.alloc();
-    for case in &SCRIPT_CASES {
+// Each case gives what it says, however many bytes are taken at a time.
+fn check_cases(rt: &impl Abort, alloc: Global, cases: &[ScriptCase]) -> Result<(), Fail> {
+    for case in cases {
         for most in 1..4usize {
-            let left = run_script(alloc, &SCRIPT_WORDS, case, most, 0)?;
+            let left = run_script(alloc, case.words, case, most, 0)?;
             let name = case.name;
             assert_eq!(rt; left.status, case.status, "{name}, {most} at a time");
             assert_eq!(rt; left.out.bytes(), case.out, "{name}, {most} at a time");
             assert_eq!(rt; left.err.bytes(), case.err, "{name}, {most} at a time");
         }
     }
-    Ok(())
-}
-
-#[test]
-fn a_file_that_is_not_named_is_empty(rt: HostRuntime) -> Result<(), Fail> {
-    let alloc = rt.alloc();
-    let case = &SCRIPT_CASES[1];
-    let left = run_script(alloc, &["asprop", "rel"], case, 64, 0)?;
-    assert_eq!(rt; left.status, Status::Done);
-    assert_eq!(rt; left.out.bytes(), b"".as_slice());
-    let left = run_script(alloc, &["asprop", "rel", "--scenario", "sc"], case, 64, 0)?;
-    assert_eq!(rt; left.status, Status::Done);
-    assert_eq!(rt; left.out.bytes(), b"".as_slice());
-    let left = run_script(alloc, &["asprop", "rel", "--script", "cmds"], case, 64, 0)?;
-    assert_eq!(rt; left.status, Status::SomeRefused);
-    assert_eq!(rt;
-        left.out.bytes(),
-        b"# 1\nrefused unknown-round 3\n# 2\nrefused unknown-prefix 11.0.0.0/8\n# 3\nrefused unknown-prefix 10.0.0.0/8\n".as_slice()
-    );
-    Ok(())
-}
-
-#[test]
-fn the_failing_read_names_its_file(rt: HostRuntime) -> Result<(), Fail> {
-    let alloc = rt.alloc();
-    let case = &SCRIPT_CASES[2];
-    // A `begin`, a `take` for the bytes and one at the end, for each file.
-    let texts: [&[u8]; 3] = [
-        b"asprop: rel: read fault\n",
-        b"asprop: sc: read fault\n",
-        b"asprop: cmds: read fault\n",
-    ];
-    for call in 1..10u64 {
-        let left = run_script(alloc, &SCRIPT_WORDS, case, 4096, call)?;
-        let text = texts[(call as usize - 1) / 3];
-        assert_eq!(rt; left.status, Status::ReadFault, "call {call}");
-        assert_eq!(rt; left.out.bytes(), b"".as_slice(), "call {call}");
-        assert_eq!(rt; left.err.bytes(), text, "call {call}");
-    }
-    let left = run_script(alloc, &SCRIPT_WORDS, case, 4096, 10)?;
-    assert_eq!(rt; left.status, Status::Done);
     Ok(())
 }

@@ -1,6 +1,7 @@
 //! What a run is about.
 use caida_reader::RelError;
 use cycle_check::Cycle;
+use roa_table::VrpError;
 use scenario_text::{Member, ScenarioError, ScriptError};
 
 /// The part that a file has in a run.
@@ -8,6 +9,8 @@ use scenario_text::{Member, ScenarioError, ScriptError};
 pub enum File {
     /// The relationship file.
     Relations,
+    /// The payload file.
+    Payloads,
     /// The scenario.
     Scenario,
     /// The script.
@@ -25,6 +28,8 @@ pub enum Fault {
     TooLong(File),
     /// The relationship file has this fault.
     Relation(RelError),
+    /// The payload file has this fault.
+    Payload(VrpError),
     /// The scenario has this fault.
     Scenario(ScenarioError),
     /// The scenario names something in this member, whose meaning is not built yet.

@@ -14,10 +14,12 @@ mod tests;
 /// A form that the words may have.
 #[derive(Clone, Copy)]
 pub enum WordForm<'a> {
-    /// `asprop REL` with any of `--scenario FILE` and `--script FILE`.
+    /// `asprop REL` with any of `--vrps FILE`, `--scenario FILE` and `--script FILE`.
     Script {
         /// The name of the relationship file.
         rel: &'a str,
+        /// The name of the payload file.
+        vrps: Option<&'a str>,
         /// The name of the scenario.
         scenario: Option<&'a str>,
         /// The name of the script.
@@ -39,6 +41,7 @@ impl<'a> WordForm<'a> {
     {
         match (self, file) {
             (WordForm::Script { rel, .. }, File::Relations) => Some(rel),
+            (WordForm::Script { vrps, .. }, File::Payloads) => *vrps,
             (WordForm::Script { scenario, .. }, File::Scenario) => *scenario,
             (WordForm::Script { script, .. }, File::Script) => *script,
             (WordForm::Origin { rel, .. }, File::Relations) => Some(rel),
@@ -102,13 +105,15 @@ fn form_by<'a>(
     ensures { option_map form_seen result ≡ form_by (text_seen rel.entry) (text_seen vrps.entry) (text_seen scenario.entry) (jobs_seen jobs.entry) }
 {
     match (rel, vrps, scenario, jobs) {
-        (Some(rel), None, scenario, Jobs::Nothing) => Some(WordForm::Script {
+        (Some(rel), vrps, scenario, Jobs::Nothing) => Some(WordForm::Script {
             rel,
+            vrps,
             scenario,
             script: None,
         }),
-        (Some(rel), None, scenario, Jobs::Only(Job::Script, name)) => Some(WordForm::Script {
+        (Some(rel), vrps, scenario, Jobs::Only(Job::Script, name)) => Some(WordForm::Script {
             rel,
+            vrps,
             scenario,
             script: Some(name),
         }),

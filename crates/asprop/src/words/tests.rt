@@ -10,14 +10,14 @@ struct Worded {
     form: &'static str,
 }
 
-const WORDED: [Worded; 33] = [
+const WORDED: [Worded; 35] = [
     Worded {
         words: &["asprop", "rel"],
-        form: r#"script "rel" None None"#,
+        form: r#"script "rel" None None None"#,
     },
     Worded {
         words: &["asprop", "rel", "--script", "cmds"],
-        form: r#"script "rel" None Some("cmds")"#,
+        form: r#"script "rel" None None Some("cmds")"#,
     },
     Worded {
         words: &[
@@ -29,31 +29,39 @@ const WORDED: [Worded; 33] = [
             "rel",
             "--vrps=v",
         ],
+        form: r#"script "rel" Some("v") Some("sc") Some("cmds")"#,
+    },
+    Worded {
+        words: &["asprop", "rel", "--vrps", "v"],
+        form: r#"script "rel" Some("v") None None"#,
+    },
+    Worded {
+        words: &["asprop", "rel", "--vrps", "a", "--vrps", "b"],
         form: "usage",
     },
     Worded {
         words: &["asprop", "rel", "--script="],
-        form: r#"script "rel" None Some("")"#,
+        form: r#"script "rel" None None Some("")"#,
     },
     Worded {
         words: &["asprop", "rel", "--script", "-"],
-        form: r#"script "rel" None Some("-")"#,
+        form: r#"script "rel" None None Some("-")"#,
     },
     Worded {
         words: &["asprop", "--", "--help"],
-        form: r#"script "--help" None None"#,
+        form: r#"script "--help" None None None"#,
     },
     Worded {
         words: &["asprop", "-"],
-        form: r#"script "-" None None"#,
+        form: r#"script "-" None None None"#,
     },
     Worded {
         words: &["asprop", ""],
-        form: r#"script "" None None"#,
+        form: r#"script "" None None None"#,
     },
     Worded {
         words: &["asprop", "help"],
-        form: r#"script "help" None None"#,
+        form: r#"script "help" None None None"#,
     },
     Worded {
         words: &["asprop", "rel", "--origin", "4"],
@@ -159,10 +167,11 @@ fn form_text(alloc: Global, form: &Option<WordForm<'_>>) -> Result<String, Alloc
         Some(
             WordForm::Script {
                 rel,
+                vrps,
                 scenario,
                 script,
             },
-        ) => { format!(in alloc; "script {rel:?} {scenario:?} {script:?}") }
+        ) => { format!(in alloc; "script {rel:?} {vrps:?} {scenario:?} {script:?}") }
         Some(WordForm::Origin { rel, origin }) => {
             let number = origin.get();
             format!(in alloc; "origin {rel:?} {number}")

@@ -14,4 +14,4 @@ pub returns-in_default-origin_lines-clause-task : goal.returns-in_default-origin
 returns-in_default-origin_lines-clause-task g c = origin_found _ _ (λ (links : LinkMap). links) c.in-Ok.links (Err stop.Memory) c.in-Ok.ensures.found tt
 
 pub returns-clause-task : goal.returns-clause-task
-returns-clause-task g c = origin_found _ _ (λ (links : LinkMap). links) c.in-Ok.links (Ok _) c.in-Ok.ensures.found (rw (c.in-Ok-origin_scenario.ensures, c.in-Ok-origin_lines.ensures) refl)
+returns-clause-task g c = origin_found _ _ (λ (links : LinkMap). links) c.in-Ok.links (Ok _) c.in-Ok.ensures.found (rw (c.new.ensures, c.in-Ok-origin_scenario.ensures, c.in-Ok-origin_lines.ensures) refl)

@@ -1,40 +1,30 @@
-use Rattle.std.proofs.Common.{Some, refl, arith}
+use Rattle.std.proofs.Common.{refl}
 use Rattle.scenario_text.specs.Script.{script_of}
 use Rattle.asprop.specs.Task.{read_as}
 use Rattle.asprop.specs.declared.types.File.TheVariants as file
 use Rattle.asprop.specs.declared.types.Fault.TheVariants as fault
-use Rattle.asprop.specs.Words.{text_seen}
 use Rattle.asprop.proofs.Answering.{are_answered}
-use Rattle.asprop.proofs.ReadLemmas.{read_whole_run, kept_names, kept_twice}
-use Rattle.asprop.proofs.Preparing.{no_links, no_scenario, no_lines, all_read}
+use Rattle.asprop.proofs.Preparing.{no_links}
+use Rattle.asprop.proofs.InOrder.{payloads_stop, scenario_stop, lines_stop, all_found}
 use Rattle.asprop.proofs.asking.ask_script.Goals as goal
 
 pub returns-in-Err-clause-task : goal.returns-in-Err-clause-task
-returns-in-Err-clause-task g c = no_links _ _ _ c.in-Err.ensures.found.read c.in-Err.stop c.in-Err.ensures.found.is_read c.in-Err.ensures.found.finds
+returns-in-Err-clause-task g c = no_links _ _ _ _ c.in-Err.ensures.found.read c.in-Err.stop c.in-Err.ensures.found.is_read c.in-Err.ensures.found.finds
+
+pub returns-in-Err-read_payloads-clause-task : goal.returns-in-Err-read_payloads-clause-task
+returns-in-Err-read_payloads-clause-task g c =
+    payloads_stop c.read_relations.ensures.keeps c.read_payloads.ensures.keeps _ _ _ _ c.in-Ok.links c.in-Err-read_payloads.stop c.in-Ok.ensures.found c.in-Err-read_payloads.ensures.found
 
 pub returns-in-Err-read_plan-clause-task : goal.returns-in-Err-read_plan-clause-task
 returns-in-Err-read_plan-clause-task g c =
-    let a = c.in-Ok.ensures.found in
-    let b = c.in-Err-read_plan.ensures.found in
-    no_scenario _ _ _ a.read b.read c.in-Ok.links c.in-Err-read_plan.stop
-    (read_whole_run {holds = g.I.Inputs.holds} {is_sound = g.I.Inputs.is_sound} {faults = g.I.Inputs.faults} c.args.inputs.now c.args.inputs.now c.read_relations.new.inputs c.read_plan.new.inputs (kept_names c.args.inputs.now) c.read_plan.ensures.keeps.later (Some c.args.rel.now) a.read a.is_read)
-    a.finds
-    (read_whole_run {holds = g.I.Inputs.holds} {is_sound = g.I.Inputs.is_sound} {faults = g.I.Inputs.faults} c.args.inputs.now c.read_relations.new.inputs c.read_plan.new.inputs c.read_plan.new.inputs c.read_relations.ensures.keeps (omega arith) (text_seen c.args.scenario) b.read b.is_read)
-    b.finds
+    scenario_stop c.read_relations.ensures.keeps c.read_payloads.ensures.keeps c.read_plan.ensures.keeps _ _ _ _ c.in-Ok.links c.in-Ok-read_payloads.vrps c.in-Err-read_plan.stop
+    c.in-Ok.ensures.found c.in-Ok-read_payloads.ensures.found c.in-Err-read_plan.ensures.found
 
 pub returns-in-Ok-read_lines-clause-task : goal.returns-in-Ok-read_lines-clause-task
 returns-in-Ok-read_lines-clause-task g c =
-    let a = c.in-Ok.ensures.found in
-    let b = c.in-Ok-read_plan.ensures.found in
-    let d = c.in-Ok-read_lines.ensures.found in
-    all_read _ _ _ a.read b.read d.read c.in-Ok.links c.in-Ok-read_plan.scenario c.in-Ok-read_lines.lines _
-    (read_whole_run {holds = g.I.Inputs.holds} {is_sound = g.I.Inputs.is_sound} {faults = g.I.Inputs.faults} c.args.inputs.now c.args.inputs.now c.read_relations.new.inputs c.read_lines.new.inputs (kept_names c.args.inputs.now) (omega (arith, c.read_plan.ensures.keeps.later, c.read_lines.ensures.keeps.later)) (Some c.args.rel.now) a.read a.is_read)
-    a.finds
-    (read_whole_run {holds = g.I.Inputs.holds} {is_sound = g.I.Inputs.is_sound} {faults = g.I.Inputs.faults} c.args.inputs.now c.read_relations.new.inputs c.read_plan.new.inputs c.read_lines.new.inputs c.read_relations.ensures.keeps c.read_lines.ensures.keeps.later (text_seen c.args.scenario) b.read b.is_read)
-    b.finds
-    (read_whole_run {holds = g.I.Inputs.holds} {is_sound = g.I.Inputs.is_sound} {faults = g.I.Inputs.faults} c.args.inputs.now c.read_plan.new.inputs c.read_lines.new.inputs c.read_lines.new.inputs (kept_twice c.args.inputs.now c.read_relations.new.inputs c.read_plan.new.inputs c.read_relations.ensures.keeps c.read_plan.ensures.keeps) (omega arith) (text_seen c.args.script) d.read d.is_read)
-    d.finds
-    refl
+    all_found c.read_relations.ensures.keeps c.read_payloads.ensures.keeps c.read_plan.ensures.keeps c.read_lines.ensures.keeps _ _ _ _
+    c.in-Ok.links c.in-Ok-read_payloads.vrps c.in-Ok-read_plan.scenario c.in-Ok-read_lines.lines _
+    c.in-Ok.ensures.found c.in-Ok-read_payloads.ensures.found c.in-Ok-read_plan.ensures.found c.in-Ok-read_lines.ensures.found refl
 
 pub returns-in-Ok-read_lines-clause-answered : goal.returns-in-Ok-read_lines-clause-answered
 returns-in-Ok-read_lines-clause-answered g c =
@@ -42,13 +32,6 @@ returns-in-Ok-read_lines-clause-answered g c =
 
 pub returns-in-Err-read_lines-clause-task : goal.returns-in-Err-read_lines-clause-task
 returns-in-Err-read_lines-clause-task g c =
-    let a = c.in-Ok.ensures.found in
-    let b = c.in-Ok-read_plan.ensures.found in
-    let d = c.in-Err-read_lines.ensures.found in
-    no_lines _ _ _ a.read b.read d.read c.in-Ok.links c.in-Ok-read_plan.scenario c.in-Err-read_lines.stop
-    (read_whole_run {holds = g.I.Inputs.holds} {is_sound = g.I.Inputs.is_sound} {faults = g.I.Inputs.faults} c.args.inputs.now c.args.inputs.now c.read_relations.new.inputs c.read_lines.new.inputs (kept_names c.args.inputs.now) (omega (arith, c.read_plan.ensures.keeps.later, c.read_lines.ensures.keeps.later)) (Some c.args.rel.now) a.read a.is_read)
-    a.finds
-    (read_whole_run {holds = g.I.Inputs.holds} {is_sound = g.I.Inputs.is_sound} {faults = g.I.Inputs.faults} c.args.inputs.now c.read_relations.new.inputs c.read_plan.new.inputs c.read_lines.new.inputs c.read_relations.ensures.keeps c.read_lines.ensures.keeps.later (text_seen c.args.scenario) b.read b.is_read)
-    b.finds
-    (read_whole_run {holds = g.I.Inputs.holds} {is_sound = g.I.Inputs.is_sound} {faults = g.I.Inputs.faults} c.args.inputs.now c.read_plan.new.inputs c.read_lines.new.inputs c.read_lines.new.inputs (kept_twice c.args.inputs.now c.read_relations.new.inputs c.read_plan.new.inputs c.read_relations.ensures.keeps c.read_plan.ensures.keeps) (omega arith) (text_seen c.args.script) d.read d.is_read)
-    d.finds
+    lines_stop c.read_relations.ensures.keeps c.read_payloads.ensures.keeps c.read_plan.ensures.keeps c.read_lines.ensures.keeps _ _ _ _
+    c.in-Ok.links c.in-Ok-read_payloads.vrps c.in-Ok-read_plan.scenario c.in-Err-read_lines.stop
+    c.in-Ok.ensures.found c.in-Ok-read_payloads.ensures.found c.in-Ok-read_plan.ensures.found c.in-Err-read_lines.ensures.found
