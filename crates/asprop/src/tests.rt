@@ -10,6 +10,7 @@ use std::test::Fail;
 
 mod origins;
 mod payloads;
+mod readme;
 mod scripts;
 
 fn words(alloc: Global, texts: &[&str]) -> Result<Vec<String>, AllocError> {
