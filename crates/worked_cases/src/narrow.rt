@@ -1,6 +1,6 @@
 //! The narrow policy.
 ghost use Rattle.std.specs.Prelude.{◌≡◌};
-ghost use Rattle.policy_tests.specs.Narrows.{class_place as place_of_class};
+ghost use Rattle.worked_cases.specs.Narrows.{class_place as place_of_class};
 
 use net_names::{Asn, Class, Rel};
 use policy_laws::{RoutePolicy, View};
@@ -24,8 +24,8 @@ fn class_place(rel: Rel) -> u8
 }
 
 impl RoutePolicy for Narrow {
-    ghost use Rattle.policy_tests.specs.Narrows.{narrow_policy};
-    ghost use Rattle.policy_tests.specs.NarrowLaws.{narrow_ranks_offers, narrow_prefers_customers, narrow_exports_down_only, narrow_ignores_state};
+    ghost use Rattle.worked_cases.specs.Narrows.{narrow_policy};
+    ghost use Rattle.worked_cases.specs.NarrowLaws.{narrow_ranks_offers, narrow_prefers_customers, narrow_exports_down_only, narrow_ignores_state};
 
     ghost meaning = { λ p. narrow_policy };
 

@@ -11,7 +11,7 @@ use Rattle.net_names.specs.declared.routes.Rel.TheVariants.{Customer, Peer, Prov
 use Rattle.policy_laws.specs.declared.policy.View.{View}
 use Rattle.policy_laws.specs.Policy.{RanksOffers, PrefersCustomers, ExportsDownOnly, IgnoresState}
 use Rattle.policy_laws.specs.Ranking.{ranks_by, last_tied}
-use Rattle.policy_tests.specs.Narrows.{class_place, narrow_cmp, narrow_policy}
+use Rattle.worked_cases.specs.Narrows.{class_place, narrow_cmp, narrow_policy}
 
 pub narrow_ranks_offers : RanksOffers narrow_policy
 narrow_ranks_offers = ranks_by narrow_policy narrow_cmp (λ x y. refl)

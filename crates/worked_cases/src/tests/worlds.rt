@@ -1,0 +1,145 @@
+//! What several modules build: numbers, prefixes, links, graphs, seeds, and routes as text.
+
+ghost use Rattle.std.specs.Prelude.{◌≡◌, ℕ, ◌+◌, ◌*◌, ◌<◌, ◌≤◌, IfOk};
+ghost use Rattle.path_pool.specs.Pool.{count_of, live_count, limit_of};
+ghost use Rattle.route_choice.specs.Resources.{AreEntriesLive, AreSeedsLive};
+
+use as_graph::Graph;
+use net_names::{Asn, Class, Links, Prefix, Rel, put_asn, read_prefix};
+use path_pool::PathPool;
+use policy_laws::{NoStates, RoutePolicy};
+use rank_order::Ranks;
+use route_choice::{SeedHeld, SeedIds, Steps, Table};
+use stability_laws::Book;
+use std::alloc::Global;
+use std::process::Abort;
+use std::sync::ledger::{Blank, Ledger};
+use std::test::Fail;
+use three_pass::propagate;
+
+pub(super) const DOWN: Rel = Rel::Customer;
+
+pub(super) const ACROSS: Rel = Rel::Peer;
+
+// A link: the second AS is a customer or a peer of the first.
+pub(super) type Row = (u32, u32, Rel);
+
+pub(super) fn number(n: u32) -> Result<Asn, Fail> {
+    Ok(Asn::new(n).ok_or("a number of an AS")?)
+}
+
+pub(super) fn prefix(text: &[u8]) -> Result<Prefix, Fail> {
+    Ok(read_prefix(text).ok_or("a prefix")?)
+}
+
+pub(super) fn links_of(rt: &impl Abort, alloc: Global, rows: &[Row]) -> Result<Links, Fail> {
+    let mut links = Links::new(alloc);
+    for row in rows {
+        let (one, other) = (number(row.0)?, number(row.1)?);
+        assert!(rt; one != other);
+        links.set(one, other, row.2)?;
+    }
+    Ok(links)
+}
+
+pub(super) fn graph_of(rt: &impl Abort, alloc: Global, rows: &[Row]) -> Result<Graph, Fail> {
+    Ok(Graph::build(alloc, &links_of(rt, alloc, rows)?)?)
+}
+
+pub(super) fn ranks_of(alloc: Global, graph: &Graph) -> Result<Ranks, Fail> {
+    match Ranks::build(alloc, graph) {
+        Ok(ranks) => Ok(ranks),
+        Err(_) => Err("ranks".into()),
+    }
+}
+
+// A pool and the seed of an AS that announces the prefix.
+#[derive(Drop)]
+pub(super) struct Announcement {
+    pub(super) pool: PathPool,
+    pub(super) seeds: SeedIds,
+}
+
+pub(super) fn announce(alloc: Global, asn: Asn, limit: usize) -> Result<Announcement, Fail>
+    requires { limit < 1000 }
+    ensures seeds { IfOk result (λ d. AreSeedsLive d.pool d.seeds) }
+    ensures counts { IfOk result (λ d. (k : ℕ) → count_of d.pool k ≤ 1) }
+    ensures live { IfOk result (λ d. live_count d.pool ≡ 1) }
+    ensures limit { IfOk result (λ d. limit_of d.pool ≡ limit) }
+{
+    let mut pool = PathPool::new(alloc, limit);
+    pool.reserve(1)?;
+    let path = pool.cons(asn, None);
+    let mut seeds = SeedIds::new(alloc);
+    seeds.put(asn, SeedHeld { path, otc: None })?;
+    Ok(Announcement { pool, seeds })
+}
+
+// A line of an AS, with the class and the path of its route.
+fn put_entry(out: &mut Vec<u8>, asn: Asn, class: Class, path: &[Asn]) -> Result<(), Fail> {
+    put_asn(out, asn)?;
+    out.extend_from_slice(match class {
+        Class::Origin => b" origin",
+        Class::Customer => b" customer",
+        Class::Peer => b" peer",
+        Class::Provider => b" provider",
+    })?;
+    for hop in path {
+        out.push(b' ')?;
+        put_asn(out, *hop)?;
+    }
+    out.push(b'\n')?;
+    Ok(())
+}
+
+// The line of each AS that holds a route.
+pub(super) fn routes_text(
+    alloc: Global,
+    graph: &Graph,
+    pool: &PathPool,
+    table: &Table,
+) -> Result<Vec<u8>, Fail>
+    requires { AreEntriesLive pool.now table.now }
+{
+    let mut out = Vec::new(alloc);
+    for asn in graph.ases() {
+        if let Some(held) = table.get(*asn) {
+            let path = pool.copy_out(alloc, held.path)?;
+            put_entry(&mut out, *asn, held.class, path.as_slice())?;
+        }
+    }
+    Ok(out)
+}
+
+// The routes of a prefix that one AS announces, by these policies, in a pool that is just large enough.
+pub(super) fn routes_by<P: RoutePolicy, L: Ledger>(
+    rt: &impl Abort,
+    alloc: Global,
+    book: &Book<P>,
+    rows: &[Row],
+    origin: u32,
+    blank: Blank,
+) -> Result<Vec<u8>, Fail>
+    requires name { blank.name ≡ L.name }
+    requires parts { blank.parts ≡ L.parts }
+    requires some { 0 < L.parts }
+{
+    let graph = graph_of(rt, alloc, rows)?;
+    let count = graph.as_count();
+    assert!(rt; count < 100);
+    let ranks = ranks_of(alloc, &graph)?;
+    let Announcement { mut pool, seeds } = announce(alloc, number(origin)?, 1 + 2 * count)?;
+    let mut steps = Steps::<L>::new(blank);
+    let table = propagate(
+        alloc,
+        &graph,
+        &ranks,
+        book,
+        &NoStates,
+        prefix(b"192.0.2.0/24")?,
+        &seeds,
+        &mut pool,
+        &mut steps,
+    )?;
+    routes_text(alloc, &graph, &pool, &table)
+}
