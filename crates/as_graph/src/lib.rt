@@ -19,6 +19,3 @@ pub use error::GraphError;
 pub use graph::Graph;
 pub use laws::{fitting_are_ranks, links_are_set, links_are_sound, one_rank, ranks_fit};
 pub use neighbour::Neighbour;
-
-#[cfg(test)]
-mod tests;

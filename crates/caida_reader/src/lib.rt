@@ -16,8 +16,6 @@ mod others;
 mod reader;
 mod run;
 mod runs;
-#[cfg(test)]
-mod tests;
 
 pub use errors::RelError;
 pub use laws::links_are_those_given;

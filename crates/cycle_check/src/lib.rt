@@ -13,6 +13,3 @@ mod walk;
 
 pub use cycle::Cycle;
 pub use ranking::{RankedAs, Ranking, find_cycle, rank_ases};
-
-#[cfg(test)]
-mod tests;

@@ -15,8 +15,6 @@ mod files;
 mod mem_inputs;
 mod mem_sink;
 mod std_sink;
-#[cfg(test)]
-mod tests;
 mod traits;
 mod whole;
 

@@ -8,4 +8,3 @@ mod Rounding
 mod AllRounds
 mod Numbers
 mod Built
-mod OnePlan

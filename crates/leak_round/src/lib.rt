@@ -11,6 +11,3 @@ mod round;
 mod rounds;
 
 pub use rounds::Rounds;
-
-#[cfg(test)]
-mod tests;

@@ -29,6 +29,3 @@ pub use routes::{Class, Rel, State};
 pub use writing::{
     put_addr, put_asn, put_prefix, texts_are_read_again, v4_has_one_text, v6_has_one_text,
 };
-
-#[cfg(test)]
-mod tests;

@@ -11,8 +11,6 @@ mod judging;
 mod known;
 mod rows;
 mod states;
-#[cfg(test)]
-mod tests;
 
 pub use explained::{Explained, explain, state};
 pub use known::KnownStates;

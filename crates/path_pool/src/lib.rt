@@ -14,6 +14,3 @@ pub use error::PoolError;
 pub use laws::{cells_are_within, counts_are_holds, needed_are_live, paths_are_not_empty};
 pub use path_id::PathId;
 pub use pool::PathPool;
-
-#[cfg(test)]
-mod tests;

@@ -9,6 +9,3 @@ mod texts;
 
 pub use kind::Kind;
 pub use texts::{put_kind, read_kind};
-
-#[cfg(test)]
-mod tests;

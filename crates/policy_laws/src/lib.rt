@@ -11,6 +11,3 @@ mod states;
 
 pub use policy::{Labelled, RoutePolicy, View};
 pub use states::{NoStates, OriginStates};
-
-#[cfg(test)]
-mod tests;

@@ -10,6 +10,3 @@ mod ranks;
 
 pub use order::{RankOrder, by_rank, placed_by_rank};
 pub use ranks::{RankError, Ranks};
-
-#[cfg(test)]
-mod tests;

@@ -11,6 +11,3 @@ mod validity;
 
 pub use rows::{put_numbers, put_route, put_routes};
 pub use validity::put_validity;
-
-#[cfg(test)]
-mod tests;

@@ -15,8 +15,6 @@ mod rows;
 mod shelf;
 mod shelves;
 mod table;
-#[cfg(test)]
-mod tests;
 
 pub use covering::Covering;
 pub use errors::{AddError, VrpError};

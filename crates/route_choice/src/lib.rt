@@ -29,6 +29,3 @@ pub use settling::{settle, settle_near};
 pub use stepping::visit;
 pub use steps::Steps;
 pub use table::Table;
-
-#[cfg(test)]
-mod tests;

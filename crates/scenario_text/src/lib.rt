@@ -33,8 +33,3 @@ pub use places::{Member, PartOf, Place};
 pub use reading::read_scenario;
 pub use scenario::{Announcement, Scenario};
 pub use script::{ScriptError, read_script};
-
-#[cfg(test)]
-mod script_tests;
-#[cfg(test)]
-mod tests;

@@ -15,6 +15,3 @@ mod validating;
 
 pub use errors::{LoadError, QueryError};
 pub use sim::Sim;
-
-#[cfg(test)]
-mod tests;

@@ -28,6 +28,3 @@ pub use offers::{carried, class_from, number_sent, offered_view};
 pub use routing::{Routing, Seeds};
 pub use seed_plan::SeedPlan;
 pub use wrong::Wrong;
-
-#[cfg(test)]
-mod tests;

@@ -11,6 +11,3 @@ mod reached;
 mod stable;
 
 pub use stable::propagate;
-
-#[cfg(test)]
-mod tests;

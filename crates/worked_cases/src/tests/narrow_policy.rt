@@ -1,6 +1,6 @@
 //! What the narrow policy answers, and the stable routing where every AS has it, worked by hand.
 
-use super::worlds::{ACROSS, DOWN, routes_by};
+use super::worlds::{ACROSS, DOWN, likes, routes_by, takes, view};
 use crate::Narrow;
 use net_names::{Asn, Class, Rel, State};
 use policy_laws::{RoutePolicy, View};
@@ -9,23 +9,8 @@ use std::marker::Brand;
 use std::sync::ledger::Blank;
 use std::test::Fail;
 
-fn view(rel: Rel, neighbour: u32, length: u32) -> Option<View> {
-    Some(View {
-        rel,
-        neighbour: Asn::new(neighbour)?,
-        length,
-        state: State::Invalid,
-        otc: Asn::new(9),
-    })
-}
-
-// What a policy type's bound gives, so that each call goes through the trait.
-fn likes<P: RoutePolicy>(policy: &P, x: &View, y: &View) -> bool {
-    policy.before(x, y) && !policy.before(y, x)
-}
-
-fn takes<P: RoutePolicy>(policy: &P, v: &View) -> bool {
-    policy.accepts(v)
+fn offer(rel: Rel, neighbour: u32, length: u32) -> Result<View, Fail> {
+    view(rel, neighbour, length, State::Invalid, Asn::new(9))
 }
 
 fn hands_on<P: RoutePolicy>(policy: &P, held: Class, to: Rel) -> bool {
@@ -36,11 +21,11 @@ fn hands_on<P: RoutePolicy>(policy: &P, held: Class, to: Rel) -> bool {
 fn customers_then_shorter_paths_then_higher_neighbours_come_first(
     rt: HostRuntime,
 ) -> Result<(), Fail> {
-    let customer = view(Rel::Customer, 1, 3).ok_or("a view")?;
-    let peer = view(Rel::Peer, 2, 2).ok_or("a view")?;
-    let provider = view(Rel::Provider, 3, 2).ok_or("a view")?;
-    let shorter = view(Rel::Peer, 1, 1).ok_or("a view")?;
-    let long = view(Rel::Customer, 1, 4).ok_or("a view")?;
+    let customer = offer(Rel::Customer, 1, 3)?;
+    let peer = offer(Rel::Peer, 2, 2)?;
+    let provider = offer(Rel::Provider, 3, 2)?;
+    let shorter = offer(Rel::Peer, 1, 1)?;
+    let long = offer(Rel::Customer, 1, 4)?;
     assert!(rt; likes(&Narrow, &customer, &peer) && likes(&Narrow, &customer, &provider));
     assert!(rt; likes(&Narrow, &provider, &peer) && likes(&Narrow, &shorter, &provider));
     assert!(rt; takes(&Narrow, &customer) && !takes(&Narrow, &long));

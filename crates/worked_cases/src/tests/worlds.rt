@@ -1,13 +1,13 @@
-//! What several modules build: numbers, prefixes, links, graphs, seeds, and routes as text.
+//! What several modules build: numbers, prefixes, payloads, paths, links, graphs, seeds, and routes as text.
 
 ghost use Rattle.std.specs.Prelude.{◌≡◌, ℕ, ◌+◌, ◌*◌, ◌<◌, ◌≤◌, IfOk};
 ghost use Rattle.path_pool.specs.Pool.{count_of, live_count, limit_of};
 ghost use Rattle.route_choice.specs.Resources.{AreEntriesLive, AreSeedsLive};
 
 use as_graph::Graph;
-use net_names::{Asn, Class, Links, Prefix, Rel, put_asn, read_prefix};
+use net_names::{Asn, Class, Links, Path, Prefix, Rel, State, Vrp, put_asn, read_prefix};
 use path_pool::PathPool;
-use policy_laws::{NoStates, RoutePolicy};
+use policy_laws::{NoStates, RoutePolicy, View};
 use rank_order::Ranks;
 use route_choice::{SeedHeld, SeedIds, Steps, Table};
 use stability_laws::Book;
@@ -32,6 +32,22 @@ pub(super) fn prefix(text: &[u8]) -> Result<Prefix, Fail> {
     Ok(read_prefix(text).ok_or("a prefix")?)
 }
 
+pub(super) fn main_prefix() -> Result<Prefix, Fail> {
+    prefix(b"192.0.2.0/24")
+}
+
+pub(super) fn payload(asn: u32, text: &[u8], max: u8) -> Result<Vrp, Fail> {
+    Ok(Vrp::new(prefix(text)?, max, asn).ok_or("a payload")?)
+}
+
+pub(super) fn path_of(alloc: Global, numbers: &[u32]) -> Result<Path, Fail> {
+    let mut path = Path::new(alloc);
+    for n in numbers {
+        path.push(number(*n)?)?;
+    }
+    Ok(path)
+}
+
 pub(super) fn links_of(rt: &impl Abort, alloc: Global, rows: &[Row]) -> Result<Links, Fail> {
     let mut links = Links::new(alloc);
     for row in rows {
@@ -51,6 +67,31 @@ pub(super) fn ranks_of(alloc: Global, graph: &Graph) -> Result<Ranks, Fail> {
         Ok(ranks) => Ok(ranks),
         Err(_) => Err("ranks".into()),
     }
+}
+
+pub(super) fn view(
+    rel: Rel,
+    neighbour: u32,
+    length: u32,
+    state: State,
+    otc: Option<Asn>,
+) -> Result<View, Fail> {
+    Ok(View {
+        rel,
+        neighbour: number(neighbour)?,
+        length,
+        state,
+        otc,
+    })
+}
+
+// What the bound of a policy gives, so that each call goes through the trait.
+pub(super) fn likes<P: RoutePolicy>(policy: &P, x: &View, y: &View) -> bool {
+    policy.before(x, y) && !policy.before(y, x)
+}
+
+pub(super) fn takes<P: RoutePolicy>(policy: &P, v: &View) -> bool {
+    policy.accepts(v)
 }
 
 // A pool and the seed of an AS that announces the prefix.
@@ -136,7 +177,7 @@ pub(super) fn routes_by<P: RoutePolicy, L: Ledger>(
         &ranks,
         book,
         &NoStates,
-        prefix(b"192.0.2.0/24")?,
+        main_prefix()?,
         &seeds,
         &mut pool,
         &mut steps,

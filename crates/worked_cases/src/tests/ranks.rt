@@ -1,0 +1,67 @@
+//! Ranks and orders of graphs that were worked by hand.
+use super::worlds::{ACROSS, DOWN, Row, graph_of, number, ranks_of};
+use as_graph::Graph;
+use net_names::put_asn;
+use rank_order::{RankError, Ranks, by_rank};
+use std::alloc::Global;
+use std::test::Fail;
+
+// The ASes by rising rank, each with its rank; or the cycle; or that memory is wanting.
+fn order_text(alloc: Global, graph: &Graph) -> Result<Vec<u8>, Fail> {
+    let mut out = Vec::new(alloc);
+    match Ranks::build(alloc, graph) {
+        Ok(ranks) => {
+            for asn in &by_rank(alloc, graph, &ranks)? {
+                put_asn(&mut out, *asn)?;
+                out.push(b':')?;
+                out.push(b'0' + ranks.rank(*asn).min(9) as u8)?;
+                out.push(b' ')?;
+            }
+        }
+        Err(RankError::ProviderCycle(cycle)) => {
+            out.extend_from_slice(b"cycle ")?;
+            for asn in cycle.as_slice() {
+                put_asn(&mut out, *asn)?;
+                out.push(b' ')?;
+            }
+        }
+        Err(RankError::Memory) => out.extend_from_slice(b"memory")?,
+    }
+    Ok(out)
+}
+
+#[test]
+fn each_as_comes_behind_its_customers(rt: HostRuntime) -> Result<(), Fail> {
+    let two_ways = [
+        (5, 1, DOWN),
+        (5, 2, DOWN),
+        (1, 3, DOWN),
+        (2, 3, DOWN),
+        (1, 6, DOWN),
+        (6, 4, DOWN),
+        (2, 4, DOWN),
+        (4, 3, ACROSS),
+    ];
+    let across = [(1, 2, DOWN), (2, 3, DOWN), (3, 1, ACROSS)];
+    let ring = [(9, 3, DOWN), (2, 3, DOWN), (3, 1, DOWN), (1, 2, DOWN)];
+    let table: [(&[Row], &[u8]); 4] = [
+        (&[], b""),
+        (&two_ways, b"3:0 4:0 2:1 6:1 1:2 5:3 "),
+        (&across, b"3:0 2:1 1:2 "),
+        (&ring, b"cycle 1 2 3 "),
+    ];
+    for row in &table {
+        let graph = graph_of(&rt, rt.alloc(), row.0)?;
+        assert!(rt; order_text(rt.alloc(), &graph)?.as_slice() == row.1);
+    }
+    Ok(())
+}
+
+#[test]
+fn who_is_not_there_has_rank_zero(rt: HostRuntime) -> Result<(), Fail> {
+    let graph = graph_of(&rt, rt.alloc(), &[(1, 2, DOWN)])?;
+    let ranks = ranks_of(rt.alloc(), &graph)?;
+    assert_eq!(rt; ranks.rank(number(1)?), 1);
+    assert_eq!(rt; ranks.rank(number(7)?), 0);
+    Ok(())
+}

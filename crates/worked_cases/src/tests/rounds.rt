@@ -1,0 +1,105 @@
+//! Rounds of small worlds, worked by hand.
+
+ghost use Rattle.std.specs.Prelude.{◌≡◌, ◌<◌, ◌≤◌, IfOk};
+ghost use Rattle.leak_round.specs.Limits.{IsWithinLimits};
+
+use super::worlds::{ACROSS, DOWN, graph_of, main_prefix, number, ranks_of, routes_text};
+use as_graph::Graph;
+use leak_round::Rounds;
+use net_names::{Asn, Path};
+use policy_kinds::Kind;
+use policy_laws::NoStates;
+use route_choice::Steps;
+use stability_laws::{Book, SeedPlan};
+use std::alloc::Global;
+use std::marker::Brand;
+use std::process::Abort;
+use std::sync::ledger::{Blank, Ledger};
+use std::test::Fail;
+
+// The plan in which AS 5 announces the prefix by its own number, and these ASes leak in these rounds.
+fn plan_of(rt: &impl Abort, alloc: Global, leakers: &[(u32, u32)]) -> Result<SeedPlan, Fail>
+    ensures { IfOk result IsWithinLimits }
+{
+    let mut plan = SeedPlan::new(alloc);
+    let mut path = Path::new(alloc);
+    let five = number(5)?;
+    let prefix = main_prefix()?;
+    path.push(five)?;
+    assert!(rt; !plan.announces(prefix, five));
+    plan.announce(prefix, path)?;
+    for leaker in leakers {
+        assert!(rt; leaker.0 >= 2);
+        plan.leaker(leaker.0, number(leaker.1)?)?;
+    }
+    Ok(plan)
+}
+
+// The lines of the ASes that hold a route of the prefix in a round.
+fn text(alloc: Global, graph: &Graph, rounds: &Rounds, round: u32) -> Result<Vec<u8>, Fail> {
+    let tables = rounds.round(round).ok_or("a round")?;
+    let table = tables.table(main_prefix()?).ok_or("a table")?;
+    routes_text(alloc, graph, rounds.pool(), table)
+}
+
+// The rounds over these links in which these ASes leak.
+fn rounds_of<L: Ledger>(
+    rt: &impl Abort,
+    alloc: Global,
+    graph: &Graph,
+    leakers: &[(u32, u32)],
+    rounds: u32,
+    blank: Blank,
+) -> Result<Rounds, Fail>
+    requires rounds { rounds ≤ 4 }
+    requires name { blank.name ≡ L.name }
+    requires parts { blank.parts ≡ L.parts }
+    requires some { 0 < L.parts }
+{
+    let ranks = ranks_of(alloc, graph)?;
+    let plan = plan_of(rt, alloc, leakers)?;
+    let book = Book::new(alloc, Kind::Plain);
+    let mut steps = Steps::<L>::new(blank);
+    Ok(Rounds::build(
+        alloc, graph, &ranks, &book, &NoStates, plan, rounds, &mut steps,
+    )?)
+}
+
+#[test]
+fn a_provider_route_leaks_in_the_rounds_of_its_leaker(rt: HostRuntime) -> Result<(), Fail> {
+    let links = [(1, 3, DOWN), (2, 3, DOWN), (1, 5, DOWN), (1, 2, ACROSS)];
+    let graph = graph_of(&rt, rt.alloc(), &links)?;
+    let rounds = rounds_of::<Brand>(&rt, rt.alloc(), &graph, &[(2, 3), (4, 3)], 4, Blank::new(1))?;
+    let plain = b"1 customer 1 5\n2 peer 2 1 5\n3 provider 3 1 5\n5 origin 5\n".as_slice();
+    let leaked = b"1 customer 1 5\n2 customer 2 3 1 5\n3 origin 3 1 5\n5 origin 5\n".as_slice();
+    assert!(rt; text(rt.alloc(), &graph, &rounds, 1)?.as_slice() == plain);
+    assert!(rt; text(rt.alloc(), &graph, &rounds, 2)?.as_slice() == leaked);
+    assert!(rt; text(rt.alloc(), &graph, &rounds, 3)?.as_slice() == plain);
+    assert!(rt; text(rt.alloc(), &graph, &rounds, 4)?.as_slice() == leaked);
+    assert!(rt; rounds.round(0).is_none());
+    assert!(rt; rounds.round(5).is_none());
+    assert!(rt; rounds.pool().live() <= 17);
+    assert_eq!(rt; rounds.seed_plan().leaker_at(4, 0), Asn::new(3));
+    Ok(())
+}
+
+#[test]
+fn two_leakers_lean_on_each_other(rt: HostRuntime) -> Result<(), Fail> {
+    let links = [
+        (5, 1, DOWN),
+        (5, 2, DOWN),
+        (1, 3, DOWN),
+        (2, 3, DOWN),
+        (1, 6, DOWN),
+        (6, 4, DOWN),
+        (2, 4, DOWN),
+    ];
+    let graph = graph_of(&rt, rt.alloc(), &links)?;
+    let rounds = rounds_of::<Brand>(&rt, rt.alloc(), &graph, &[(2, 3), (2, 4)], 2, Blank::new(1))?;
+    let text = text(rt.alloc(), &graph, &rounds, 2)?;
+    assert!(rt;
+        text.as_slice()
+            == b"1 customer 1 6 4 2 5\n2 customer 2 3 1 5\n3 origin 3 1 5\n4 origin 4 2 5\n5 origin 5\n6 customer 6 4 2 5\n".as_slice()
+    );
+    Ok(())
+}
