@@ -41,14 +41,21 @@ fn validity(alloc: Global, payloads: &[u8], text: &[u8], origin: u32) -> Result<
 fn a_state_has_a_line_and_each_payload_a_row(rt: HostRuntime) -> Result<(), Fail> {
     let four: &[u8] = b"h\nAS4,10.0.0.0/8,16\n";
     let none: &[u8] = b"h\nAS0,10.0.0.0/8,\n";
-    let cases: [(&[u8], &[u8], &str); 4] = [
-        (four, b"10.1.0.0/16", "state|valid\n4|10.0.0.0/8|16\n"),
-        (four, b"10.1.1.0/24", "state|invalid\n4|10.0.0.0/8|16\n"),
-        (four, b"11.0.0.0/8", "state|not-found\n"),
-        (none, b"10.0.0.0/8", "state|invalid\n0|10.0.0.0/8|8\n"),
+    let six: &[u8] = b"h\nAS5,2001:db8::/32,48\n";
+    let cases: [(&[u8], &[u8], u32, &str); 5] = [
+        (four, b"10.1.0.0/16", 4, "state|valid\n4|10.0.0.0/8|16\n"),
+        (four, b"10.1.1.0/24", 4, "state|invalid\n4|10.0.0.0/8|16\n"),
+        (four, b"11.0.0.0/8", 4, "state|not-found\n"),
+        (none, b"10.0.0.0/8", 4, "state|invalid\n0|10.0.0.0/8|8\n"),
+        (
+            six,
+            b"2001:db8:1::/48",
+            5,
+            "state|valid\n5|2001:db8::/32|48\n",
+        ),
     ];
-    for (payloads, prefix, text) in &cases {
-        let out = validity(rt.alloc(), payloads, prefix, 4)?;
+    for (payloads, prefix, origin, text) in &cases {
+        let out = validity(rt.alloc(), payloads, prefix, *origin)?;
         assert_eq!(rt; out.as_slice(), text.as_bytes());
     }
     Ok(())
@@ -65,20 +72,5 @@ fn payloads_stand_by_prefix_length_maximum_length_and_number(rt: HostRuntime) ->
     let text =
         "state|valid\n6|10.0.0.0/8|9\n4294967295|10.0.0.0/8|32\n7|10.1.0.0/16|16\n4|10.1.0.0/16|24\n9|10.1.0.0/16|24\n";
     assert_eq!(rt; out.as_slice(), text.as_bytes());
-    Ok(())
-}
-
-#[test]
-fn payloads_of_the_other_family_are_printed(rt: HostRuntime) -> Result<(), Fail> {
-    let out = validity(
-        rt.alloc(),
-        b"h\nAS5,2001:db8::/32,48\n",
-        b"2001:db8:1::/48",
-        5,
-    )?;
-    assert_eq!(rt;
-        out.as_slice(),
-        "state|valid\n5|2001:db8::/32|48\n".as_bytes()
-    );
     Ok(())
 }

@@ -81,15 +81,6 @@ fn neighbours_are_found_near_any_place(rt: HostRuntime) -> Result<(), Fail> {
     Ok(())
 }
 
-#[test]
-fn no_links_make_a_graph_without_ases(rt: HostRuntime) -> Result<(), Fail> {
-    let graph = Graph::build(rt.alloc(), &Links::new(rt.alloc()))?;
-    assert_eq!(rt; graph.as_count(), 0);
-    assert_eq!(rt; graph.link_count(), 0);
-    assert!(rt; graph.next(None).is_none());
-    Ok(())
-}
-
 // So many links of two ASes that no other link has.
 fn disjoint(rt: &impl Abort, alloc: Global, count: u32) -> Result<Links, Fail>
     requires { count ≤ 1000000 }

@@ -5,7 +5,8 @@ use super::worlds::{number, prefix};
 use net_names::{Asn, NoMemory, Path, Prefix, read_addr, read_prefix};
 use policy_kinds::Kind;
 use scenario_text::{
-    Announcement, LimitOf, Member, PartOf, Place, Scenario, ScenarioError, put_place, read_scenario,
+    Announcement, LimitOf, Member, PartOf, Place, Scenario, ScenarioError, place_string, put_place,
+    read_scenario,
 };
 use std::alloc::{AllocError, Global};
 use std::process::Abort;
@@ -269,6 +270,7 @@ fn places_have_their_texts(rt: HostRuntime) -> Result<(), Fail> {
         let mut out = Vec::from_slice(rt.alloc(), b"sc: ")?;
         put_place(&mut out, place)?;
         assert!(rt; out.len() > 4 && &out[4..] == text.as_bytes());
+        assert_eq!(rt; place_string(rt.alloc(), place)?.as_str(), text);
     }
     Ok(())
 }
