@@ -1,5 +1,5 @@
 //! The texts of answers.
-use super::worlds::{number, prefix};
+use super::worlds::{expect_text, number, path_of, prefix};
 use origin_validation::explain;
 use reports::{put_numbers, put_validity};
 use roa_table::read;
@@ -8,32 +8,27 @@ use std::test::Fail;
 
 #[test]
 fn numbers_have_one_space_between(rt: HostRuntime) -> Result<(), Fail> {
-    let alloc = rt.alloc();
-    let cases: [(&[u32], &str); 3] = [
-        (&[], "rows:"),
-        (&[7], "rows:7"),
-        (&[1, 4294967295, 4], "rows:1 4294967295 4"),
+    let cases: [(&[u32], &[u8]); 3] = [
+        (&[], b"rows:"),
+        (&[7], b"rows:7"),
+        (&[1, 4294967295, 4], b"rows:1 4294967295 4"),
     ];
     for (numbers, text) in &cases {
-        let mut path = Vec::new(alloc);
-        for n in *numbers {
-            path.push(number(*n)?)?;
-        }
-        let mut out = Vec::from_slice(alloc, b"rows:")?;
-        put_numbers(&mut out, &path)?;
-        assert_eq!(rt; out.as_slice(), text.as_bytes());
+        let path = path_of(rt.alloc(), *numbers)?;
+        let mut out = Vec::from_slice(rt.alloc(), b"rows:")?;
+        put_numbers(&mut out, path.as_slice())?;
+        expect_text(&rt, out.as_slice(), *text);
     }
     Ok(())
 }
 
 // The text of a prefix's state with an origin, over the payloads.
 fn validity(alloc: Global, payloads: &[u8], text: &[u8], origin: u32) -> Result<Vec<u8>, Fail> {
+    let (prefix, origin) = (prefix(text)?, number(origin)?);
     let vrps = read(alloc, payloads)?;
+    let explained = explain(alloc, &vrps, prefix, origin)?;
     let mut out = Vec::new(alloc);
-    put_validity(
-        &mut out,
-        &explain(alloc, &vrps, prefix(text)?, number(origin)?)?,
-    )?;
+    put_validity(&mut out, &explained)?;
     Ok(out)
 }
 
@@ -56,7 +51,7 @@ fn a_state_has_a_line_and_each_payload_a_row(rt: HostRuntime) -> Result<(), Fail
     ];
     for (payloads, prefix, origin, text) in &cases {
         let out = validity(rt.alloc(), payloads, prefix, *origin)?;
-        assert_eq!(rt; out.as_slice(), text.as_bytes());
+        expect_text(&rt, out.as_slice(), text.as_bytes());
     }
     Ok(())
 }
@@ -71,6 +66,6 @@ fn payloads_stand_by_prefix_length_maximum_length_and_number(rt: HostRuntime) ->
     )?;
     let text =
         "state|valid\n6|10.0.0.0/8|9\n4294967295|10.0.0.0/8|32\n7|10.1.0.0/16|16\n4|10.1.0.0/16|24\n9|10.1.0.0/16|24\n";
-    assert_eq!(rt; out.as_slice(), text.as_bytes());
+    expect_text(&rt, out.as_slice(), text.as_bytes());
     Ok(())
 }

@@ -1,41 +1,59 @@
 //! Cycles and ranks of graphs that were worked by hand.
-use super::worlds::{ACROSS, DOWN, Row, graph_of, number};
+use super::worlds::{ACROSS, DOWN, Row, expect_text, graph_of, number};
 use as_graph::Graph;
-use cycle_check::{Ranking, find_cycle, rank_ases};
-use net_names::put_asn;
+use cycle_check::{RankedAs, Ranking, find_cycle, rank_ases};
+use net_names::{Asn, put_asn};
 use std::alloc::Global;
+use std::process::Abort;
 use std::test::Fail;
 
-// The numbers of the cycle, each with a space behind it, or "none".
-fn cycle_text(alloc: Global, graph: &Graph) -> Result<Vec<u8>, Fail> {
+fn numbers_text(alloc: Global, numbers: &[Asn]) -> Result<Vec<u8>, Fail> {
     let mut out = Vec::new(alloc);
-    match find_cycle(alloc, graph)? {
-        None => out.extend_from_slice(b"none")?,
-        Some(cycle) => {
-            for asn in cycle.as_slice() {
-                put_asn(&mut out, *asn)?;
-                out.push(b' ')?;
-            }
-        }
+    for asn in numbers {
+        put_asn(&mut out, *asn)?;
+        out.push(b' ')?;
     }
     Ok(out)
 }
 
-// Each AS with its rank, or "cycle".
-fn rank_text(alloc: Global, graph: &Graph) -> Result<Vec<u8>, Fail> {
+fn ranks_text(alloc: Global, ranks: &[RankedAs]) -> Result<Vec<u8>, Fail> {
     let mut out = Vec::new(alloc);
-    match rank_ases(alloc, graph)? {
-        Ranking::Cycle(_) => out.extend_from_slice(b"cycle")?,
-        Ranking::Ranks(ranks) => {
-            for ranked in &ranks {
-                put_asn(&mut out, ranked.asn)?;
-                out.push(b':')?;
-                out.push(b'0' + ranked.rank.min(9) as u8)?;
-                out.push(b' ')?;
-            }
-        }
+    for ranked in ranks {
+        put_asn(&mut out, ranked.asn)?;
+        out.push(b':')?;
+        out.push(b'0' + ranked.rank.min(9) as u8)?;
+        out.push(b' ')?;
     }
     Ok(out)
+}
+
+// The numbers of the cycle, each with a space behind it, or "none".
+fn cycle_text(alloc: Global, graph: &Graph) -> Result<Vec<u8>, Fail> {
+    match find_cycle(alloc, graph)? {
+        None => Ok(Vec::from_slice(alloc, b"none")?),
+        Some(cycle) => numbers_text(alloc, cycle.as_slice()),
+    }
+}
+
+// Each AS with its rank, or "cycle".
+fn rank_text(alloc: Global, graph: &Graph) -> Result<Vec<u8>, Fail> {
+    match rank_ases(alloc, graph)? {
+        Ranking::Cycle(_) => Ok(Vec::from_slice(alloc, b"cycle")?),
+        Ranking::Ranks(ranks) => ranks_text(alloc, ranks.as_slice()),
+    }
+}
+
+// The cycle and the ranks of a graph have these texts.
+fn expect_found(
+    rt: &impl Abort,
+    alloc: Global,
+    graph: &Graph,
+    cycle: &[u8],
+    ranks: &[u8],
+) -> Result<(), Fail> {
+    expect_text(rt, cycle_text(alloc, graph)?.as_slice(), cycle);
+    expect_text(rt, rank_text(alloc, graph)?.as_slice(), ranks);
+    Ok(())
 }
 
 #[test]
@@ -58,38 +76,8 @@ fn a_cycle_is_told_from_its_lowest_number_on(rt: HostRuntime) -> Result<(), Fail
     ];
     for row in &table {
         let graph = graph_of(&rt, rt.alloc(), row.0)?;
-        assert!(rt; cycle_text(rt.alloc(), &graph)?.as_slice() == row.1);
-        assert!(rt; rank_text(rt.alloc(), &graph)?.as_slice() == b"cycle".as_slice());
+        expect_found(&rt, rt.alloc(), &graph, row.1, b"cycle")?;
     }
-    Ok(())
-}
-
-#[test]
-fn a_marked_as_without_links_has_rank_zero(rt: HostRuntime) -> Result<(), Fail> {
-    let lone = number(99)?;
-    let mut ring = graph_of(&rt, rt.alloc(), &[(1, 2, DOWN), (2, 3, DOWN), (3, 1, DOWN)])?;
-    ring.mark(lone)?;
-    assert!(rt; cycle_text(rt.alloc(), &ring)?.as_slice() == b"1 2 3 ".as_slice());
-    let mut chain = graph_of(&rt, rt.alloc(), &[(1, 2, DOWN), (2, 3, DOWN)])?;
-    chain.mark(lone)?;
-    assert!(rt; rank_text(rt.alloc(), &chain)?.as_slice() == b"1:2 2:1 3:0 99:0 ".as_slice());
-    Ok(())
-}
-
-#[test]
-fn one_of_two_cycles_is_told(rt: HostRuntime) -> Result<(), Fail> {
-    let rows = [
-        (30, 10, DOWN),
-        (10, 20, DOWN),
-        (20, 30, DOWN),
-        (6, 4, DOWN),
-        (4, 5, DOWN),
-        (5, 6, DOWN),
-    ];
-    let text = cycle_text(rt.alloc(), &graph_of(&rt, rt.alloc(), &rows)?)?;
-    assert!(rt;
-        text.as_slice() == b"10 20 30 ".as_slice() || text.as_slice() == b"4 5 6 ".as_slice()
-    );
     Ok(())
 }
 
@@ -112,8 +100,40 @@ fn without_a_cycle_each_as_has_its_rank(rt: HostRuntime) -> Result<(), Fail> {
     ];
     for row in &table {
         let graph = graph_of(&rt, rt.alloc(), row.0)?;
-        assert!(rt; cycle_text(rt.alloc(), &graph)?.as_slice() == b"none".as_slice());
-        assert!(rt; rank_text(rt.alloc(), &graph)?.as_slice() == row.1);
+        expect_found(&rt, rt.alloc(), &graph, b"none", row.1)?;
     }
+    Ok(())
+}
+
+#[test]
+fn a_marked_as_without_links_has_rank_zero(rt: HostRuntime) -> Result<(), Fail> {
+    let lone = number(99)?;
+    let mut chain = graph_of(&rt, rt.alloc(), &[(1, 2, DOWN), (2, 3, DOWN)])?;
+    chain.mark(lone)?;
+    expect_found(&rt, rt.alloc(), &chain, b"none", b"1:2 2:1 3:0 99:0 ")
+}
+
+#[test]
+fn a_marked_as_without_links_is_in_no_cycle(rt: HostRuntime) -> Result<(), Fail> {
+    let lone = number(99)?;
+    let mut ring = graph_of(&rt, rt.alloc(), &[(1, 2, DOWN), (2, 3, DOWN), (3, 1, DOWN)])?;
+    ring.mark(lone)?;
+    expect_found(&rt, rt.alloc(), &ring, b"1 2 3 ", b"cycle")
+}
+
+#[test]
+fn one_of_two_cycles_is_told(rt: HostRuntime) -> Result<(), Fail> {
+    let rows = [
+        (30, 10, DOWN),
+        (10, 20, DOWN),
+        (20, 30, DOWN),
+        (6, 4, DOWN),
+        (4, 5, DOWN),
+        (5, 6, DOWN),
+    ];
+    let graph = graph_of(&rt, rt.alloc(), &rows)?;
+    let text = cycle_text(rt.alloc(), &graph)?;
+    let told = text.as_slice();
+    assert!(rt; told == b"10 20 30 ".as_slice() || told == b"4 5 6 ".as_slice());
     Ok(())
 }

@@ -20,63 +20,79 @@ fn diamond(rt: &impl Abort, alloc: Global) -> Result<Graph, Fail> {
     Ok(graph)
 }
 
+// The neighbours of an AS are these, in this order.
+fn expect_neighbours(rt: &impl Abort, graph: &Graph, a: Asn, expected: &[(u32, Rel)]) {
+    let found = graph.neighbours(a);
+    assert_eq!(rt; found.len(), expected.len());
+    for (neighbour, (b, rel)) in found.iter().zip(expected.iter()) {
+        assert!(rt; neighbour.asn.get() == *b && neighbour.rel == *rel);
+        assert_eq!(rt; graph.rel(a, neighbour.asn), Some(*rel));
+    }
+    assert!(rt; graph.rel(a, a).is_none());
+}
+
 #[test]
 fn neighbours_of_a_diamond_are_seen_from_both_ends(rt: HostRuntime) -> Result<(), Fail> {
-    let graph = diamond(&rt, rt.alloc())?;
-    let rows: [(u32, &[(u32, Rel)]); 6] = [
-        (1, &[(2, Rel::Customer), (3, Rel::Customer)]),
-        (2, &[(1, Rel::Provider), (4, Rel::Customer)]),
-        (3, &[(1, Rel::Provider), (4, Rel::Customer)]),
-        (4, &[(2, Rel::Provider), (3, Rel::Provider)]),
-        (5, &[]),
-        (9, &[]),
+    let rows: [(Asn, &[(u32, Rel)]); 6] = [
+        (number(1)?, &[(2, Rel::Customer), (3, Rel::Customer)]),
+        (number(2)?, &[(1, Rel::Provider), (4, Rel::Customer)]),
+        (number(3)?, &[(1, Rel::Provider), (4, Rel::Customer)]),
+        (number(4)?, &[(2, Rel::Provider), (3, Rel::Provider)]),
+        (number(5)?, &[]),
+        (number(9)?, &[]),
     ];
+    let graph = diamond(&rt, rt.alloc())?;
     for (a, neighbours) in &rows {
-        let a = number(*a)?;
-        let found = graph.neighbours(a);
-        assert_eq!(rt; found.len(), neighbours.len());
-        for (neighbour, (b, rel)) in found.iter().zip(neighbours.iter()) {
-            assert_eq!(rt; neighbour.asn.get(), *b);
-            assert_eq!(rt; neighbour.rel, *rel);
-            assert_eq!(rt; graph.rel(a, neighbour.asn), Some(*rel));
-        }
-        assert!(rt; graph.rel(a, a).is_none());
+        expect_neighbours(&rt, &graph, *a, *neighbours);
     }
     Ok(())
 }
 
-#[test]
-fn ases_of_a_diamond_come_in_rising_order(rt: HostRuntime) -> Result<(), Fail> {
-    let graph = diamond(&rt, rt.alloc())?;
+// The ASes of a graph are these, and each comes behind the one before.
+fn expect_ases(rt: &impl Abort, graph: &Graph, expected: &[Asn]) {
+    assert_eq!(rt; graph.ases(), expected);
     let mut last = None;
-    for number in [1, 2, 3, 4, 9] {
+    for asn in expected {
         last = graph.next(last);
-        assert!(rt; last == Asn::new(number));
+        assert!(rt; last == Some(*asn) && graph.has(*asn));
     }
     assert!(rt; graph.next(last).is_none());
-    assert!(rt; graph.next(Asn::new(5)) == Asn::new(9));
-    assert!(rt; graph.ases().last().copied() == last);
-    assert!(rt; graph.has(number(4)?) && !graph.has(number(5)?));
-    assert_eq!(rt; graph.as_count(), 5);
+    assert_eq!(rt; graph.as_count(), expected.len());
+}
+
+#[test]
+fn ases_of_a_diamond_come_in_rising_order(rt: HostRuntime) -> Result<(), Fail> {
+    let ases = [number(1)?, number(2)?, number(3)?, number(4)?, number(9)?];
+    let (five, nine) = (number(5)?, number(9)?);
+    let graph = diamond(&rt, rt.alloc())?;
+    expect_ases(&rt, &graph, &ases);
+    assert!(rt; graph.next(Some(five)) == Some(nine) && !graph.has(five));
     assert_eq!(rt; graph.link_count(), 4);
     Ok(())
+}
+
+// The neighbours of the AS in this row are found near any place, and their rows are told.
+fn expect_places(rt: &impl Abort, graph: &Graph, place: usize, a: Asn) {
+    let neighbours = graph.neighbours(a);
+    assert_eq!(rt; graph.place_near(a, 0), place);
+    assert!(rt; graph.neighbours_near(a, place) == neighbours);
+    assert!(rt; graph.neighbours_near(a, 2) == neighbours);
+    let places = graph.neighbour_places(place);
+    assert_eq!(rt; places.len(), neighbours.len());
+    for (neighbour, there) in neighbours.iter().zip(places.iter()) {
+        assert_eq!(rt;
+            graph.rows().get(*there as usize).copied(),
+            Some(neighbour.asn)
+        );
+    }
 }
 
 #[test]
 fn neighbours_are_found_near_any_place(rt: HostRuntime) -> Result<(), Fail> {
     let graph = diamond(&rt, rt.alloc())?;
-    let rows = graph.rows();
-    assert_eq!(rt; rows.len(), 5);
-    for (place, a) in rows.iter().enumerate() {
-        assert_eq!(rt; graph.place_near(*a, 0), place);
-        let neighbours = graph.neighbours(*a);
-        assert!(rt; graph.neighbours_near(*a, place) == neighbours);
-        assert!(rt; graph.neighbours_near(*a, 2) == neighbours);
-        let places = graph.neighbour_places(place);
-        assert_eq!(rt; places.len(), neighbours.len());
-        for (neighbour, there) in neighbours.iter().zip(places.iter()) {
-            assert_eq!(rt; rows.get(*there as usize).copied(), Some(neighbour.asn));
-        }
+    assert_eq!(rt; graph.rows().len(), 5);
+    for (place, a) in graph.rows().iter().enumerate() {
+        expect_places(&rt, &graph, place, *a);
     }
     Ok(())
 }
@@ -95,14 +111,20 @@ fn disjoint(rt: &impl Abort, alloc: Global, count: u32) -> Result<Links, Fail>
 }
 
 #[test]
-fn more_than_150000_ases_are_refused(rt: HostRuntime) -> Result<(), Fail> {
-    let mut graph = Graph::build(rt.alloc(), &disjoint(&rt, rt.alloc(), 75_000)?)?;
+fn no_as_is_marked_past_150000(rt: HostRuntime) -> Result<(), Fail> {
+    let new = number(150_001)?;
+    let links = disjoint(&rt, rt.alloc(), 75_000)?;
+    let mut graph = Graph::build(rt.alloc(), &links)?;
     assert_eq!(rt; graph.as_count(), 150_000);
-    assert!(rt; graph.mark(number(150_001)?) == Err(GraphError::TooManyAses));
-    match Graph::build(rt.alloc(), &disjoint(&rt, rt.alloc(), 75_001)?) {
-        Ok(_) => assert!(rt; false),
-        Err(e) => assert!(rt; e == GraphError::TooManyAses),
-    }
+    assert!(rt; graph.mark(new) == Err(GraphError::TooManyAses));
+    Ok(())
+}
+
+#[test]
+fn links_of_more_than_150000_ases_are_refused(rt: HostRuntime) -> Result<(), Fail> {
+    let links = disjoint(&rt, rt.alloc(), 75_001)?;
+    let fault = Graph::build(rt.alloc(), &links).err();
+    assert!(rt; fault == Some(GraphError::TooManyAses));
     Ok(())
 }
 

@@ -9,10 +9,6 @@ use std::marker::Brand;
 use std::sync::ledger::Blank;
 use std::test::Fail;
 
-fn offer(rel: Rel, neighbour: u32, length: u32) -> Result<View, Fail> {
-    view(rel, neighbour, length, State::Invalid, Asn::new(9))
-}
-
 fn hands_on<P: RoutePolicy>(policy: &P, held: Class, to: Rel) -> bool {
     policy.exports(held, Asn::new(9), to)
 }
@@ -21,11 +17,12 @@ fn hands_on<P: RoutePolicy>(policy: &P, held: Class, to: Rel) -> bool {
 fn customers_then_shorter_paths_then_higher_neighbours_come_first(
     rt: HostRuntime,
 ) -> Result<(), Fail> {
-    let customer = offer(Rel::Customer, 1, 3)?;
-    let peer = offer(Rel::Peer, 2, 2)?;
-    let provider = offer(Rel::Provider, 3, 2)?;
-    let shorter = offer(Rel::Peer, 1, 1)?;
-    let long = offer(Rel::Customer, 1, 4)?;
+    let nine = Asn::new(9);
+    let customer = view(Rel::Customer, 1, 3, State::Invalid, nine)?;
+    let peer = view(Rel::Peer, 2, 2, State::Invalid, nine)?;
+    let provider = view(Rel::Provider, 3, 2, State::Invalid, nine)?;
+    let shorter = view(Rel::Peer, 1, 1, State::Invalid, nine)?;
+    let long = view(Rel::Customer, 1, 4, State::Invalid, nine)?;
     assert!(rt; likes(&Narrow, &customer, &peer) && likes(&Narrow, &customer, &provider));
     assert!(rt; likes(&Narrow, &provider, &peer) && likes(&Narrow, &shorter, &provider));
     assert!(rt; takes(&Narrow, &customer) && !takes(&Narrow, &long));

@@ -1,7 +1,8 @@
 //! Plans of seeds.
-use super::worlds::{number, path_of, prefix};
+use super::worlds::{main_prefix, number, path_of, prefix};
 use net_names::{Asn, Path, Prefix};
 use stability_laws::SeedPlan;
+use std::alloc::Global;
 use std::process::Abort;
 use std::test::Fail;
 
@@ -13,19 +14,24 @@ fn announce(rt: &impl Abort, plan: &mut SeedPlan, prefix: Prefix, path: Path) ->
     Ok(())
 }
 
+fn plan_of_two_prefixes(rt: &impl Abort, alloc: Global) -> Result<SeedPlan, Fail> {
+    let (low, high) = (prefix(b"10.0.0.0/8")?, main_prefix()?);
+    let (three, seven, nine) = (number(3)?, number(7)?, number(9)?);
+    let mut plan = SeedPlan::new(alloc);
+    announce(rt, &mut plan, high, path_of(alloc, &[6, 4])?)?;
+    announce(rt, &mut plan, low, path_of(alloc, &[6])?)?;
+    announce(rt, &mut plan, low, path_of(alloc, &[5])?)?;
+    plan.leaker(3, seven)?;
+    for asn in [nine, three, nine] {
+        plan.leaker(2, asn)?;
+    }
+    Ok(plan)
+}
+
 #[test]
 fn a_plan_lists_prefixes_announcers_and_leakers_in_order(rt: HostRuntime) -> Result<(), Fail> {
-    let alloc = rt.alloc();
-    let high = prefix(b"192.0.2.0/24")?;
-    let low = prefix(b"10.0.0.0/8")?;
-    let mut plan = SeedPlan::new(alloc);
-    announce(&rt, &mut plan, high, path_of(alloc, &[6, 4])?)?;
-    announce(&rt, &mut plan, low, path_of(alloc, &[6])?)?;
-    announce(&rt, &mut plan, low, path_of(alloc, &[5])?)?;
-    for (round, asn) in [(3, 7), (2, 9), (2, 3), (2, 9)] {
-        assert!(rt; round > 1);
-        plan.leaker(round, number(asn)?)?;
-    }
+    let (low, high) = (prefix(b"10.0.0.0/8")?, main_prefix()?);
+    let plan = plan_of_two_prefixes(&rt, rt.alloc())?;
     for (place, prefix) in [(0, Some(low)), (1, Some(high)), (2, None)] {
         assert_eq!(rt; plan.prefix_at(place), prefix);
     }
@@ -42,9 +48,17 @@ fn a_plan_lists_prefixes_announcers_and_leakers_in_order(rt: HostRuntime) -> Res
     ] {
         assert_eq!(rt; plan.leaker_at(round, place), Asn::new(asn));
     }
-    let announced = plan.path(high, number(6)?).ok_or("a path")?;
-    assert!(rt; announced.as_slice() == path_of(alloc, &[6, 4])?.as_slice());
-    assert!(rt; plan.announces(low, number(5)?) && !plan.announces(high, number(5)?));
-    assert!(rt; plan.path(high, number(5)?).is_none());
+    Ok(())
+}
+
+#[test]
+fn a_plan_has_the_paths_that_are_announced(rt: HostRuntime) -> Result<(), Fail> {
+    let (low, high) = (prefix(b"10.0.0.0/8")?, main_prefix()?);
+    let (four, five, six) = (number(4)?, number(5)?, number(6)?);
+    let plan = plan_of_two_prefixes(&rt, rt.alloc())?;
+    let announced = plan.path(high, six).ok_or("a path")?;
+    assert!(rt; announced.as_slice() == [six, four].as_slice());
+    assert!(rt; plan.announces(low, five) && !plan.announces(high, five));
+    assert!(rt; plan.path(high, five).is_none());
     Ok(())
 }

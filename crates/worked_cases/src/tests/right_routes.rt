@@ -1,6 +1,7 @@
 //! What is right at an AS, policies by AS, and what goes along a link, worked by hand.
 use super::worlds::{ACROSS, DOWN, graph_of, main_prefix, number, path_of};
-use net_names::{Asn, Class, Path, Rel};
+use as_graph::Graph;
+use net_names::{Asn, Class, Path, Prefix, Rel};
 use policy_kinds::Kind;
 use policy_laws::NoStates;
 use stability_laws::{
@@ -40,14 +41,31 @@ fn seed_at_four(rt: &impl Abort, alloc: Global) -> Result<Seeds, Fail> {
     Ok(seeds)
 }
 
-// AS 1 is the provider of 2 and 3, which are peers and the providers of 4. 4 has a seed, and all have the plain policy.
-// Of each of these ASes that is told which is told, where these are the entries.
+// What is told of each of these ASes, where all have the plain policy.
+fn expect_each(
+    rt: &impl Abort,
+    graph: &Graph,
+    book: &Book<Kind>,
+    prefix: Prefix,
+    seeds: &Seeds,
+    routing: &Routing,
+    told: &[(Asn, Result<(), Wrong>)],
+) {
+    for (asn, wrong) in told {
+        let found = check_at(graph, book, &NoStates, prefix, seeds, routing, *asn);
+        assert_eq!(rt; found, *wrong);
+    }
+}
+
+// What is told of ASes where these are the entries. AS 1 is the provider of 2 and 3, which are peers and the providers of 4,
+// and 4 has a seed.
 fn expect_told(
     rt: &impl Abort,
     alloc: Global,
     entries: &[(Class, &[u32])],
-    told: &[(u32, Result<(), Wrong>)],
+    told: &[(Asn, Result<(), Wrong>)],
 ) -> Result<(), Fail> {
+    let prefix = main_prefix()?;
     let diamond = [
         (1, 2, DOWN),
         (1, 3, DOWN),
@@ -56,22 +74,10 @@ fn expect_told(
         (3, 4, DOWN),
     ];
     let graph = graph_of(rt, alloc, &diamond)?;
-    let book = Book::new(alloc, Kind::Plain);
     let seeds = seed_at_four(rt, alloc)?;
     let routing = routing_of(rt, alloc, entries)?;
-    let prefix = main_prefix()?;
-    for (asn, wrong) in told {
-        let found = check_at(
-            &graph,
-            &book,
-            &NoStates,
-            prefix,
-            &seeds,
-            &routing,
-            number(*asn)?,
-        );
-        assert_eq!(rt; found, *wrong, "AS {asn}");
-    }
+    let book = Book::new(alloc, Kind::Plain);
+    expect_each(rt, &graph, &book, prefix, &seeds, &routing, told);
     Ok(())
 }
 
@@ -84,11 +90,11 @@ fn the_stable_routing_of_a_diamond_is_right_everywhere(rt: HostRuntime) -> Resul
         (Class::Origin, &[4]),
     ];
     let told = [
-        (1, Ok(())),
-        (2, Ok(())),
-        (3, Ok(())),
-        (4, Ok(())),
-        (5, Ok(())),
+        (number(1)?, Ok(())),
+        (number(2)?, Ok(())),
+        (number(3)?, Ok(())),
+        (number(4)?, Ok(())),
+        (number(5)?, Ok(())),
     ];
     expect_told(&rt, rt.alloc(), &entries, &told)
 }
@@ -101,9 +107,9 @@ fn a_missing_entry_is_told_with_who_makes_the_best_offer(rt: HostRuntime) -> Res
         (Class::Origin, &[4]),
     ];
     let told = [
-        (1, Err(Wrong::NotBest { by: number(3)? })),
-        (2, Err(Wrong::Absent { by: number(4)? })),
-        (3, Ok(())),
+        (number(1)?, Err(Wrong::NotBest { by: number(3)? })),
+        (number(2)?, Err(Wrong::Absent { by: number(4)? })),
+        (number(3)?, Ok(())),
     ];
     expect_told(&rt, rt.alloc(), &entries, &told)
 }
@@ -117,10 +123,10 @@ fn entries_that_nobody_gave_are_told(rt: HostRuntime) -> Result<(), Fail> {
         (Class::Provider, &[5, 1]),
     ];
     let told = [
-        (1, Err(Wrong::Unexpected)),
-        (3, Err(Wrong::NotBest { by: number(4)? })),
-        (4, Err(Wrong::SeedNotHeld)),
-        (5, Err(Wrong::Unexpected)),
+        (number(1)?, Err(Wrong::Unexpected)),
+        (number(3)?, Err(Wrong::NotBest { by: number(4)? })),
+        (number(4)?, Err(Wrong::SeedNotHeld)),
+        (number(5)?, Err(Wrong::Unexpected)),
     ];
     expect_told(&rt, rt.alloc(), &entries, &told)
 }
@@ -140,13 +146,11 @@ fn a_named_as_has_its_own_policy_until_it_is_cleared(rt: HostRuntime) -> Result<
 
 #[test]
 fn the_last_entry_that_is_put_stays(rt: HostRuntime) -> Result<(), Fail> {
+    let (two, three) = (number(2)?, number(3)?);
     let entries: [(Class, &[u32]); 2] = [(Class::Peer, &[2, 4]), (Class::Customer, &[2, 3, 4])];
     let routing = routing_of(&rt, rt.alloc(), &entries)?;
-    let held = routing.get(number(2)?).ok_or("an entry")?;
-    assert_eq!(rt; held.path.as_slice().len(), 3);
-    assert!(rt; routing.get(number(3)?).is_none());
-    let seeds = seed_at_four(&rt, rt.alloc())?;
-    assert!(rt; seeds.get(number(4)?).is_some());
+    let hops = routing.get(two).map_or(0, |e| e.path.as_slice().len());
+    assert!(rt; hops == 3 && routing.get(three).is_none());
     Ok(())
 }
 

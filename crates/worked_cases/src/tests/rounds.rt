@@ -56,8 +56,8 @@ fn rounds_of<L: Ledger>(
     requires parts { blank.parts ≡ L.parts }
     requires some { 0 < L.parts }
 {
-    let ranks = ranks_of(alloc, graph)?;
     let plan = plan_of(rt, alloc, leakers)?;
+    let ranks = ranks_of(alloc, graph)?;
     let book = Book::new(alloc, Kind::Plain);
     let mut steps = Steps::<L>::new(blank);
     Ok(Rounds::build(

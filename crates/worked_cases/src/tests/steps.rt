@@ -3,7 +3,9 @@
 ghost use Rattle.std.specs.Prelude.{◌≡◌, ℕ, ◌+◌, ◌<◌, IfOk, length, suc};
 ghost use Rattle.route_choice.specs.Resources.{CanStep, AreEntriesLive};
 
-use super::worlds::{ACROSS, DOWN, graph_of, main_prefix, number, prefix, routes_text};
+use super::worlds::{
+    ACROSS, DOWN, expect_text, graph_of, main_prefix, number, prefix, routes_text,
+};
 use as_graph::Graph;
 use net_names::{Asn, Class};
 use path_pool::PathPool;
@@ -136,9 +138,9 @@ fn routes<L: Ledger>(alloc: Global, graph: &Graph, blank: Blank) -> Result<(Path
 {
     let up = [number(4)?, number(2)?, number(3)?, number(1)?];
     let down = [number(1)?, number(6)?, number(5)?];
+    let mut desk = set_up(alloc)?;
     let book = Book::new(alloc, Kind::Plain);
     let mut steps = Steps::<L>::new(blank);
-    let mut desk = set_up(alloc)?;
     pass(graph, &book, &mut desk, &up, Part::Up, &mut steps);
     pass(graph, &book, &mut desk, &down, Part::Whole, &mut steps);
     finished(desk)
@@ -148,10 +150,10 @@ fn routes<L: Ledger>(alloc: Global, graph: &Graph, blank: Blank) -> Result<(Path
 fn routes_go_up_then_across_and_down(rt: HostRuntime) -> Result<(), Fail> {
     let graph = world(&rt, rt.alloc())?;
     let (pool, table) = routes::<Brand>(rt.alloc(), &graph, Blank::new(1))?;
-    let text = routes_text(rt.alloc(), &graph, &pool, &table)?;
     let expected =
         b"1 customer 1 2 4\n2 customer 2 4\n3 customer 3 4\n4 origin 4\n5 provider 5 1 2 4\n6 peer 6 3 4\n";
-    assert!(rt; text.as_slice() == expected.as_slice());
+    let text = routes_text(rt.alloc(), &graph, &pool, &table)?;
+    expect_text(&rt, text.as_slice(), expected);
     assert_eq!(rt; pool.live(), 6);
     Ok(())
 }
@@ -166,10 +168,11 @@ fn choices<L: Ledger>(
     requires parts { blank.parts ≡ L.parts }
     requires some { 0 < L.parts }
 {
-    let book = Book::new(alloc, Kind::Plain);
+    let (two, four) = (number(2)?, number(4)?);
     let mut desk = set_up(alloc)?;
+    let book = Book::new(alloc, Kind::Plain);
     let mut steps = Steps::<L>::new(blank);
-    let four = evaluate(
+    let of_four = evaluate(
         graph,
         &book,
         &NoStates,
@@ -177,11 +180,11 @@ fn choices<L: Ledger>(
         &desk.pool,
         &desk.table,
         &desk.overlay,
-        number(4)?,
+        four,
         Part::Up,
         &mut steps,
     );
-    let two = evaluate(
+    let of_two = evaluate(
         graph,
         &book,
         &NoStates,
@@ -189,7 +192,7 @@ fn choices<L: Ledger>(
         &desk.pool,
         &desk.table,
         &desk.overlay,
-        number(2)?,
+        two,
         Part::Whole,
         &mut steps,
     );
@@ -199,10 +202,10 @@ fn choices<L: Ledger>(
         &mut desk.pool,
         &desk.table,
         &mut desk.overlay,
-        number(2)?,
+        two,
         Choice::Nothing,
     );
-    Ok((four, two, changed))
+    Ok((of_four, of_two, changed))
 }
 
 #[test]

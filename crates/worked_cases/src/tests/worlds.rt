@@ -1,7 +1,10 @@
 //! What several modules build: numbers, prefixes, payloads, paths, links, graphs, seeds, and routes as text.
 
-ghost use Rattle.std.specs.Prelude.{◌≡◌, ℕ, ◌+◌, ◌*◌, ◌<◌, ◌≤◌, IfOk};
+ghost use Rattle.std.specs.Prelude.{◌≡◌, ℕ, ◌+◌, ◌*◌, ◌<◌, ◌≤◌, IfOk, OnOk};
+ghost use Rattle.as_graph.specs.Hierarchy.{HasNoProviderCycle, IsRank};
+ghost use Rattle.as_graph.specs.Topology.{as_count, what};
 ghost use Rattle.path_pool.specs.Pool.{count_of, live_count, limit_of};
+ghost use Rattle.rank_order.specs.Ranks.{rank_at};
 ghost use Rattle.route_choice.specs.Resources.{AreEntriesLive, AreSeedsLive};
 
 use as_graph::Graph;
@@ -62,7 +65,10 @@ pub(super) fn graph_of(rt: &impl Abort, alloc: Global, rows: &[Row]) -> Result<G
     Ok(Graph::build(alloc, &links_of(rt, alloc, rows)?)?)
 }
 
-pub(super) fn ranks_of(alloc: Global, graph: &Graph) -> Result<Ranks, Fail> {
+pub(super) fn ranks_of(alloc: Global, graph: &Graph) -> Result<Ranks, Fail>
+    ensures ranks { IfOk result (λ r. (a : ℕ) → IsRank (what graph.now) a (rank_at r a)) }
+    ensures no_cycle { OnOk result (HasNoProviderCycle (what graph.now)) }
+{
     match Ranks::build(alloc, graph) {
         Ok(ranks) => Ok(ranks),
         Err(_) => Err("ranks".into()),
@@ -152,7 +158,32 @@ pub(super) fn routes_text(
     Ok(out)
 }
 
-// The routes of a prefix that one AS announces, by these policies, in a pool that is just large enough.
+// The routes of a prefix that one AS announces, by these policies and ranks, in a pool that is just large enough.
+fn stable_text<P: RoutePolicy, L: Ledger>(
+    alloc: Global,
+    graph: &Graph,
+    ranks: &Ranks,
+    book: &Book<P>,
+    prefix: Prefix,
+    origin: Asn,
+    blank: Blank,
+) -> Result<Vec<u8>, Fail>
+    requires no_cycle { HasNoProviderCycle (what graph.now) }
+    requires ranks { (a : ℕ) → IsRank (what graph.now) a (rank_at ranks.now a) }
+    requires few { as_count graph.now < 100 }
+    requires name { blank.name ≡ L.name }
+    requires parts { blank.parts ≡ L.parts }
+    requires some { 0 < L.parts }
+{
+    let Announcement { mut pool, seeds } = announce(alloc, origin, 1 + 2 * graph.as_count())?;
+    let mut steps = Steps::<L>::new(blank);
+    let table = propagate(
+        alloc, graph, ranks, book, &NoStates, prefix, &seeds, &mut pool, &mut steps,
+    )?;
+    routes_text(alloc, graph, &pool, &table)
+}
+
+// The routes of a prefix that one AS announces, by these policies.
 pub(super) fn routes_by<P: RoutePolicy, L: Ledger>(
     rt: &impl Abort,
     alloc: Global,
@@ -165,22 +196,14 @@ pub(super) fn routes_by<P: RoutePolicy, L: Ledger>(
     requires parts { blank.parts ≡ L.parts }
     requires some { 0 < L.parts }
 {
+    let (origin, prefix) = (number(origin)?, main_prefix()?);
     let graph = graph_of(rt, alloc, rows)?;
-    let count = graph.as_count();
-    assert!(rt; count < 100);
+    assert!(rt; graph.as_count() < 100);
     let ranks = ranks_of(alloc, &graph)?;
-    let Announcement { mut pool, seeds } = announce(alloc, number(origin)?, 1 + 2 * count)?;
-    let mut steps = Steps::<L>::new(blank);
-    let table = propagate(
-        alloc,
-        &graph,
-        &ranks,
-        book,
-        &NoStates,
-        main_prefix()?,
-        &seeds,
-        &mut pool,
-        &mut steps,
-    )?;
-    routes_text(alloc, &graph, &pool, &table)
+    stable_text::<P, L>(alloc, &graph, &ranks, book, prefix, origin, blank)
+}
+
+// The two texts are the same.
+pub(super) fn expect_text(rt: &impl Abort, found: &[u8], expected: &[u8]) {
+    assert_eq!(rt; found, expected);
 }
