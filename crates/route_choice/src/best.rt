@@ -1,6 +1,6 @@
 //! The best of the offers that an AS gets, found by one pass over its neighbours.
 
-ghost use Rattle.std.specs.Prelude.{◌≡◌, ℕ, ◌<◌, true, None, Some, option_map, if◌then◌else◌};
+ghost use Rattle.std.specs.Prelude.{◌≡◌, ℕ, ◌<◌, true, false, None, Some, option_map, if◌then◌else◌};
 ghost use Rattle.as_graph.specs.Topology.{what};
 ghost use Rattle.net_names.specs.Numbers.{occurs, last_or};
 ghost use Rattle.net_names.specs.Links.{converse};
@@ -13,6 +13,7 @@ ghost use Rattle.stability_laws.specs.World.{setting};
 ghost use Rattle.route_choice.specs.Tables.{prefix_of};
 ghost use Rattle.route_choice.specs.Routings.{entry_of, routing_of};
 ghost use Rattle.route_choice.specs.Choices.{is_looked_at, offers_of, state_seen};
+ghost use Rattle.route_choice.specs.Loops.{HasNoLoops};
 ghost use Rattle.route_choice.specs.Resources.{AreLive};
 
 use crate::looks::{held_near, place_at};
@@ -104,23 +105,34 @@ fn view_of<P: RoutePolicy, V: OriginStates>(
     if own.accepts(&view) { Some(view) } else { None }
 }
 
+// Whether a path goes through the AS. It is walked only where it may.
+fn goes_through(pool: &PathPool, path: PathId, asn: Asn, may_loop: bool) -> bool
+    requires live { IsLive pool.now path.0 }
+    requires no_loops { may_loop ≡ false → occurs asn (list_of pool.now path.0) ≡ false }
+    ensures { result ≡ occurs asn (list_of pool.now path.0) }
+{
+    may_loop && pool.contains(path, asn)
+}
+
 // Whether a view comes before the best one so far and its path is not through the AS.
 fn is_better<P: RoutePolicy>(
     own: &P,
     pool: &PathPool,
     asn: Asn,
+    may_loop: bool,
     best: &Option<View>,
     view: &View,
     path: PathId,
 ) -> bool
-    requires { IsLive pool.now path.0 }
+    requires live { IsLive pool.now path.0 }
+    requires no_loops { may_loop ≡ false → occurs asn (list_of pool.now path.0) ≡ false }
     ensures { (if result then Some view.now else best.now) ≡ better_of (P.meaning own.now) best.now (if occurs asn (list_of pool.now path.0) then None else Some view.now) }
 {
     let wins = match best {
         None => true,
         Some(old) => own.before(view, old),
     };
-    wins && !pool.contains(path, asn)
+    wins && !goes_through(pool, path, asn, may_loop)
 }
 
 // Puts the view of what a neighbour holds and exports in place of the best one so far, if it is
@@ -134,17 +146,19 @@ fn weigh<P: RoutePolicy, V: OriginStates>(
     prefix: Prefix,
     pool: &PathPool,
     asn: Asn,
+    may_loop: bool,
     neighbour: &Neighbour,
     place: usize,
     given: &Held,
     best: &mut Best,
 )
     requires live { IsLive pool.now given.now.path.0 }
+    requires no_loops { may_loop ≡ false → occurs asn (list_of pool.now given.now.path.0) ≡ false }
     requires exported { (P.meaning sender.now).exports given.now.class given.now.otc (converse neighbour.now.rel) ≡ true }
     ensures { best.new.view ≡ better_of (P.meaning own.now) best.old.view (option_map (λ o. o.view) (offer_given (P.meaning sender.now) (P.meaning own.now) (state_seen reads (V.state_of states.now prefix)) neighbour.now.asn asn (Some neighbour.now.rel) (Some (entry_of pool.now given.now)))) }
 {
     if let Some(view) = view_of(own, sender, states, reads, prefix, pool, neighbour, given) {
-        if is_better(own, pool, asn, &best.view, &view, given.path) {
+        if is_better(own, pool, asn, may_loop, &best.view, &view, given.path) {
             best.view = Some(view);
             best.place = place;
         }
@@ -164,6 +178,7 @@ fn look_at<P: RoutePolicy, V: OriginStates>(
     table: &Table,
     overlay: &Overlay,
     asn: Asn,
+    may_loop: bool,
     neighbour: &Neighbour,
     place: usize,
     part: Part,
@@ -171,6 +186,7 @@ fn look_at<P: RoutePolicy, V: OriginStates>(
 )
     requires linked { what graph.now asn neighbour.now.asn ≡ Some neighbour.now.rel }
     requires live { AreLive pool.now table.now overlay.now }
+    requires no_loops { may_loop ≡ false → HasNoLoops part (what graph.now) (λ n. P.meaning (policy_at book.now n)) (routing_of pool.now table.now overlay.now) asn }
     requires own { own.now ≡ policy_at book.now asn }
     ensures { best.new.view ≡ better_of (P.meaning (policy_at book.now asn)) best.old.view (option_map (λ o. o.view) (offers_of part (setting P.meaning graph.now book.now (state_seen reads (V.state_of states.now (prefix_of table.now)))) (routing_of pool.now table.now overlay.now) asn neighbour.now.asn)) }
 {
@@ -192,6 +208,7 @@ fn look_at<P: RoutePolicy, V: OriginStates>(
         table.prefix(),
         pool,
         asn,
+        may_loop,
         neighbour,
         place,
         given,
@@ -200,7 +217,8 @@ fn look_at<P: RoutePolicy, V: OriginStates>(
 }
 
 /// The view of the best offer of the part, if there is an offer. The places, in the order of the
-/// neighbours, are hints. Where `reads` is not set, no state is asked for.
+/// neighbours, are hints. Where `reads` is not set, no state is asked for, and where `may_loop` is not
+/// set, no path is walked in search of the AS.
 pub(crate) fn best_view<P: RoutePolicy, V: OriginStates>(
     graph: &Graph,
     neighbours: &[Neighbour],
@@ -212,10 +230,12 @@ pub(crate) fn best_view<P: RoutePolicy, V: OriginStates>(
     table: &Table,
     overlay: &Overlay,
     asn: Asn,
+    may_loop: bool,
     part: Part,
 ) -> Best
     requires neighbours { AreNeighbours (what graph.now) asn neighbours.now }
     requires live { AreLive pool.now table.now overlay.now }
+    requires no_loops { may_loop ≡ false → HasNoLoops part (what graph.now) (λ n. P.meaning (policy_at book.now n)) (routing_of pool.now table.now overlay.now) asn }
     ensures { IsBestView (P.meaning (policy_at book.now asn)) (λ n. offers_of part (setting P.meaning graph.now book.now (state_seen reads (V.state_of states.now (prefix_of table.now)))) (routing_of pool.now table.now overlay.now) asn n) result.view }
 {
     let own = book.policy(asn);
@@ -226,8 +246,8 @@ pub(crate) fn best_view<P: RoutePolicy, V: OriginStates>(
     for (index, neighbour) in neighbours.iter().enumerate() {
         let place = place_at(places, index);
         look_at(
-            graph, book, own, states, reads, pool, table, overlay, asn, neighbour, place, part,
-            &mut best,
+            graph, book, own, states, reads, pool, table, overlay, asn, may_loop, neighbour, place,
+            part, &mut best,
         );
     }
     best

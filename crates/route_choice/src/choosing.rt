@@ -1,11 +1,13 @@
 //! What an AS chooses.
 
-ghost use Rattle.std.specs.Prelude.{◌≡◌, ◌+◌};
+ghost use Rattle.std.specs.Prelude.{◌≡◌, ◌+◌, false};
+ghost use Rattle.as_graph.specs.Topology.{what};
 ghost use Rattle.stability_laws.specs.Book.{policy_at};
 ghost use Rattle.stability_laws.specs.World.{setting};
 ghost use Rattle.route_choice.specs.Tables.{prefix_of};
 ghost use Rattle.route_choice.specs.Routings.{routing_of, seeds_of};
 ghost use Rattle.route_choice.specs.Choices.{offers_of, IsChoice};
+ghost use Rattle.route_choice.specs.Loops.{HasNoLoops};
 ghost use Rattle.route_choice.specs.Resources.{AreLive};
 
 use crate::best::{Best, best_view};
@@ -19,7 +21,8 @@ use std::sync::ledger::Ledger;
 
 /// What an AS chooses, in one step: its seed, or else the best offer of the part, or nothing. The
 /// offers are those of the table with the changes in place. The place where the row of the AS was
-/// last found in the graph is a hint. Takes no memory.
+/// last found in the graph is a hint. Where `may_loop` is not set, no offer of the part has a
+/// path through the AS, and none is walked in search of it. Takes no memory.
 pub fn evaluate_near<P: RoutePolicy, V: OriginStates, L: Ledger>(
     graph: &Graph,
     book: &Book<P>,
@@ -30,10 +33,12 @@ pub fn evaluate_near<P: RoutePolicy, V: OriginStates, L: Ledger>(
     overlay: &Overlay,
     asn: Asn,
     place: usize,
+    may_loop: bool,
     part: Part,
     steps: &mut Steps<L>,
 ) -> ChoiceNear
-    requires { AreLive pool.now table.now overlay.now }
+    requires live { AreLive pool.now table.now overlay.now }
+    requires no_loops { may_loop ≡ false → HasNoLoops part (what graph.now) (λ n. P.meaning (policy_at book.now n)) (routing_of pool.now table.now overlay.now) asn }
     ensures choice { IsChoice (P.meaning (policy_at book.now asn)) (seeds_of pool.now seeds.now asn) (λ n. offers_of part (setting P.meaning graph.now book.now (V.state_of states.now (prefix_of table.now))) (routing_of pool.now table.now overlay.now) asn n) result.choice }
     ensures cost { steps.new ≡ steps.old + 1 }
 {
@@ -48,7 +53,7 @@ pub fn evaluate_near<P: RoutePolicy, V: OriginStates, L: Ledger>(
     let neighbours = graph.neighbours_near(asn, place);
     let places = graph.neighbour_places(place);
     let Best { view, place } = best_view(
-        graph, neighbours, places, book, states, reads, pool, table, overlay, asn, part,
+        graph, neighbours, places, book, states, reads, pool, table, overlay, asn, may_loop, part,
     );
     match view {
         Some(view) => ChoiceNear {
@@ -85,7 +90,7 @@ pub fn evaluate<P: RoutePolicy, V: OriginStates, L: Ledger>(
 {
     let place = graph.place_near(asn, 0);
     evaluate_near(
-        graph, book, states, seeds, pool, table, overlay, asn, place, part, steps,
+        graph, book, states, seeds, pool, table, overlay, asn, place, true, part, steps,
     )
     .choice
 }

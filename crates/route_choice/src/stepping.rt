@@ -2,10 +2,13 @@
 
 ghost use Rattle.std.specs.Prelude.{◌≡◌, ◌≢◌, ◌↔◌, ℕ, suc, ◌+◌, ◌<◌, IsTrue, IsSome, false};
 ghost use Rattle.path_pool.specs.Pool.{live_count};
+ghost use Rattle.as_graph.specs.Topology.{what};
+ghost use Rattle.stability_laws.specs.Book.{policy_at};
 ghost use Rattle.stability_laws.specs.World.{setting};
 ghost use Rattle.route_choice.specs.Tables.{prefix_of, change_at};
 ghost use Rattle.route_choice.specs.Routings.{routing_of, seeds_of};
 ghost use Rattle.route_choice.specs.Choices.{IsStepOf};
+ghost use Rattle.route_choice.specs.Loops.{HasNoLoops};
 ghost use Rattle.route_choice.specs.Resources.{AreSeedsLive, CanStep, Spends, GivesUpNothing, Keeps};
 
 use crate::choosing::evaluate_near;
@@ -20,7 +23,8 @@ use std::sync::ledger::Ledger;
 
 /// One step of an AS: it chooses as by [`evaluate`](crate::evaluate), and the entry is put as by
 /// [`settle`](crate::settle). Answers whether it is another one than before. The place where the AS
-/// was last found, in the graph and in the table, is a hint. Takes no memory.
+/// was last found, in the graph and in the table, is a hint. Where `may_loop` is not set, no offer
+/// of the part has a path through the AS, and none is walked in search of it. Takes no memory.
 pub fn visit<P: RoutePolicy, V: OriginStates, L: Ledger>(
     graph: &Graph,
     book: &Book<P>,
@@ -31,10 +35,12 @@ pub fn visit<P: RoutePolicy, V: OriginStates, L: Ledger>(
     overlay: &mut Overlay,
     asn: Asn,
     place: usize,
+    may_loop: bool,
     part: Part,
     steps: &mut Steps<L>,
 ) -> bool
-    requires { CanStep pool.old seeds.now table.now overlay.old 1 }
+    requires can { CanStep pool.old seeds.now table.now overlay.old 1 }
+    requires no_loops { may_loop ≡ false → HasNoLoops part (what graph.now) (λ n. P.meaning (policy_at book.now n)) (routing_of pool.old table.now overlay.old) asn }
     ensures cost { steps.new ≡ steps.old + 1 }
     ensures step { IsStepOf part (setting P.meaning graph.now book.now (V.state_of states.now (prefix_of table.now))) (seeds_of pool.old seeds.now) (routing_of pool.old table.now overlay.old) asn (routing_of pool.new table.now overlay.new) }
     ensures changed { IsTrue result ↔ (routing_of pool.new table.now overlay.new asn ≢ routing_of pool.old table.now overlay.old asn) }
@@ -46,7 +52,7 @@ pub fn visit<P: RoutePolicy, V: OriginStates, L: Ledger>(
     ensures kept { GivesUpNothing overlay.old (routing_of pool.old table.now overlay.old) (routing_of pool.new table.now overlay.new) asn → Keeps pool.old pool.new seeds.now }
 {
     let chosen = evaluate_near(
-        graph, book, states, seeds, pool, table, overlay, asn, place, part, steps,
+        graph, book, states, seeds, pool, table, overlay, asn, place, may_loop, part, steps,
     );
     settle_near(book, seeds, pool, table, overlay, asn, place, chosen)
 }

@@ -1,3 +1,4 @@
+pub mod NoLoops
 pub mod InOrder
 pub mod Counts
 pub mod Spending

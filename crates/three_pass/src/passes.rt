@@ -8,16 +8,20 @@ ghost use Rattle.net_names.specs.declared.routes.Rel.TheVariants.{Customer};
 ghost use Rattle.as_graph.specs.Topology.{what, has};
 ghost use Rattle.as_graph.specs.Hierarchy.{HasNoProviderCycle, IsRank};
 ghost use Rattle.rank_order.specs.Ranks.{rank_at, IsRankOrder};
+ghost use Rattle.stability_laws.specs.Book.{policy_at};
 ghost use Rattle.stability_laws.specs.Stable.{IsStable};
 ghost use Rattle.stability_laws.specs.World.{setting};
 ghost use Rattle.route_choice.specs.Tables.{joined, prefix_of, seed_at};
 ghost use Rattle.route_choice.specs.Choices.{IsStepOf};
+ghost use Rattle.route_choice.specs.Loops.{HasNoLoops};
 ghost use Rattle.route_choice.specs.Routings.{routing_of, seeds_of};
 ghost use Rattle.route_choice.specs.Resources.{CanStep, Spends, GivesUpNothing, Keeps};
+ghost use Rattle.three_pass.specs.Naming.{is_named, AreNamed};
 ghost use Rattle.three_pass.specs.Progress.{AfterUp, AfterWhole};
 ghost use Rattle.three_pass.specs.Reached.{is_reached, IsQuiet};
 ghost use Rattle.three_pass.specs.Spending.{CanGo, HasSpent};
 
+use crate::named::Named;
 use crate::reached::{Reached, holds};
 use as_graph::Graph;
 use net_names::Asn;
@@ -54,6 +58,7 @@ fn step_up<P: RoutePolicy, V: OriginStates, L: Ledger>(
     book: &Book<P>,
     states: &V,
     seeds: &SeedIds,
+    named: &Named,
     pool: &mut PathPool,
     table: &Table,
     overlay: &mut Overlay,
@@ -66,6 +71,7 @@ fn step_up<P: RoutePolicy, V: OriginStates, L: Ledger>(
     requires inside { place < length order.now }
     requires nothing { routing_of pool.old table.now overlay.old (slice_index order.now place) ≡ None }
     requires quiet { is_reached reached.old (slice_index order.now place) ≡ false → IsQuiet (setting P.meaning graph.now book.now (V.state_of states.now (prefix_of table.now))) (routing_of pool.old table.now overlay.old) (slice_index order.now place) }
+    requires no_loops { is_named named.now (slice_index order.now place) ≡ false → HasNoLoops Part.Up (what graph.now) (λ n. P.meaning (policy_at book.now n)) (routing_of pool.old table.now overlay.old) (slice_index order.now place) }
     requires room { CanGo pool.old seeds.now table.now overlay.old order.now }
     ensures cost { steps.new ≤ steps.old + 1 }
     ensures step { IsStepOf Part.Up (setting P.meaning graph.now book.now (V.state_of states.now (prefix_of table.now))) (seeds_of pool.old seeds.now) (routing_of pool.old table.now overlay.old) (slice_index order.now place) (routing_of pool.new table.now overlay.new) }
@@ -79,6 +85,7 @@ fn step_up<P: RoutePolicy, V: OriginStates, L: Ledger>(
     if has_none_to_take(ranks, seeds, reached, asn, row) {
         return;
     }
+    let may_loop = named.has(asn);
     visit(
         graph,
         book,
@@ -89,6 +96,7 @@ fn step_up<P: RoutePolicy, V: OriginStates, L: Ledger>(
         overlay,
         asn,
         row,
+        may_loop,
         Part::Up,
         steps,
     );
@@ -104,6 +112,7 @@ pub fn go_up<P: RoutePolicy, V: OriginStates, L: Ledger>(
     book: &Book<P>,
     states: &V,
     seeds: &SeedIds,
+    named: &Named,
     pool: &mut PathPool,
     table: &Table,
     overlay: &mut Overlay,
@@ -114,6 +123,7 @@ pub fn go_up<P: RoutePolicy, V: OriginStates, L: Ledger>(
     requires ranks { (a : ℕ) → IsRank (what graph.now) a (rank_at ranks.now a) }
     requires order { IsRankOrder (has graph.now) (rank_at ranks.now) order.now }
     requires empty { (a : ℕ) → joined table.now overlay.old a ≡ None }
+    requires named { AreNamed (is_named named.now) (seeds_of pool.old seeds.now) }
     requires room { CanGo pool.old seeds.now table.now overlay.old order.now }
     ensures cost { steps.new ≤ steps.old + length order.now }
     ensures done { AfterUp (setting P.meaning graph.now book.now (V.state_of states.now (prefix_of table.now))) (seeds_of pool.old seeds.now) order.now (routing_of pool.new table.now overlay.new) }
@@ -123,8 +133,8 @@ pub fn go_up<P: RoutePolicy, V: OriginStates, L: Ledger>(
 {
     for place in 0..order.len() {
         step_up(
-            graph, ranks, order, rows, place, book, states, seeds, pool, table, overlay, reached,
-            steps,
+            graph, ranks, order, rows, place, book, states, seeds, named, pool, table, overlay,
+            reached, steps,
         );
     }
 }
@@ -146,6 +156,7 @@ fn step_down<P: RoutePolicy, V: OriginStates, L: Ledger>(
     book: &Book<P>,
     states: &V,
     seeds: &SeedIds,
+    named: &Named,
     pool: &mut PathPool,
     table: &Table,
     overlay: &mut Overlay,
@@ -157,6 +168,7 @@ fn step_down<P: RoutePolicy, V: OriginStates, L: Ledger>(
     requires can { CanStep pool.old seeds.now table.now overlay.old 1 }
     requires held { routing_of pool.old table.now overlay.old asn ≢ None → IsStepOf Part.Whole (setting P.meaning graph.now book.now (V.state_of states.now (prefix_of table.now))) (seeds_of pool.old seeds.now) (routing_of pool.old table.now overlay.old) asn (routing_of pool.old table.now overlay.old) }
     requires quiet { is_reached reached.now asn ≡ false → IsQuiet (setting P.meaning graph.now book.now (V.state_of states.now (prefix_of table.now))) (routing_of pool.old table.now overlay.old) asn }
+    requires no_loops { routing_of pool.old table.now overlay.old asn ≡ None → is_named named.now asn ≡ false → HasNoLoops Part.Whole (what graph.now) (λ n. P.meaning (policy_at book.now n)) (routing_of pool.old table.now overlay.old) asn }
     ensures cost { steps.new ≤ steps.old + 1 }
     ensures step { IsStepOf Part.Whole (setting P.meaning graph.now book.now (V.state_of states.now (prefix_of table.now))) (seeds_of pool.old seeds.now) (routing_of pool.old table.now overlay.old) asn (routing_of pool.new table.now overlay.new) }
     ensures changed { IsTrue result ↔ (routing_of pool.new table.now overlay.new asn ≢ routing_of pool.old table.now overlay.old asn) }
@@ -168,8 +180,9 @@ fn step_down<P: RoutePolicy, V: OriginStates, L: Ledger>(
         return false;
     }
     let part = part_for(reached, asn);
+    let may_loop = named.has(asn);
     visit(
-        graph, book, states, seeds, pool, table, overlay, asn, row, part, steps,
+        graph, book, states, seeds, pool, table, overlay, asn, row, may_loop, part, steps,
     )
 }
 
@@ -184,6 +197,7 @@ pub fn go_down<P: RoutePolicy, V: OriginStates, L: Ledger>(
     book: &Book<P>,
     states: &V,
     seeds: &SeedIds,
+    named: &Named,
     pool: &mut PathPool,
     table: &Table,
     overlay: &mut Overlay,
@@ -193,6 +207,7 @@ pub fn go_down<P: RoutePolicy, V: OriginStates, L: Ledger>(
     requires ranks { (a : ℕ) → IsRank (what graph.now) a (rank_at ranks.now a) }
     requires order { IsRankOrder (has graph.now) (rank_at ranks.now) order.now }
     requires reached { (a : ℕ) → is_reached reached.now a ≡ false → IsQuiet (setting P.meaning graph.now book.now (V.state_of states.now (prefix_of table.now))) (routing_of pool.old table.now overlay.old) a }
+    requires named { AreNamed (is_named named.now) (seeds_of pool.old seeds.now) }
     requires up { AfterUp (setting P.meaning graph.now book.now (V.state_of states.now (prefix_of table.now))) (seeds_of pool.old seeds.now) order.now (routing_of pool.old table.now overlay.old) }
     requires room { CanGo pool.old seeds.now table.now overlay.old order.now }
     ensures cost { steps.new ≤ steps.old + length order.now }
@@ -207,6 +222,7 @@ pub fn go_down<P: RoutePolicy, V: OriginStates, L: Ledger>(
             book,
             states,
             seeds,
+            named,
             pool,
             table,
             overlay,

@@ -91,6 +91,7 @@ fn step<L: Ledger>(
         &mut desk.overlay,
         asn,
         graph.place_near(asn, 0),
+        true,
         part,
         steps,
     );

@@ -13,8 +13,9 @@ use Rattle.stability_laws.specs.Stable.{IsLawful}
 use Rattle.route_choice.specs.declared.choice.Part.TheVariants.{Whole}
 use Rattle.route_choice.specs.Routings.{routing_of, seeds_of}
 use Rattle.route_choice.specs.Tables.{prefix_of}
+use Rattle.three_pass.specs.Naming.{is_named}
 use Rattle.three_pass.specs.Progress.{AfterWhole}
-use Rattle.three_pass.proofs.InOrder.{turn, down_same, down_more, down_fresh, all_right}
+use Rattle.three_pass.proofs.InOrder.{turn, down_same, down_more, down_fresh, no_loops_downwards, all_right}
 use Rattle.three_pass.proofs.Quiet.{still_quiet}
 use Rattle.three_pass.proofs.Settled.{settled}
 use Rattle.three_pass.proofs.Spending.{can_step, spent_nothing, visited, step_seeds}
@@ -47,6 +48,26 @@ step_down-requires-clause-held g c = λ some.
     step_seeds Whole here seeds (seeds_of c.loop-left.pool c.args.seeds.now) f a f
     (settled here lawful f a seeds some (c.loop-left.invariant.so_far.still a still) (c.loop-left.invariant.so_far.low a (sym (c.requires.order.complete a) ∙ there)))
     (sym (c.loop-left.invariant.spent.keeps.same_seeds a))
+
+pub step_down-requires-clause-no_loops : goal.step_down-requires-clause-no_loops
+step_down-requires-clause-no_loops g c =
+    let meaning = g.P.RoutePolicy.meaning in
+    let w = c.args.graph.now in
+    let here = setting meaning w c.args.book.now (g.V.OriginStates.state_of c.args.states.now (prefix_of c.args.table.now)) in
+    let lawful = λ (a : ℕ). (let p = policy_at c.args.book.now a in
+    let is : IsLawful (meaning p) = record { ranks_offers = g.met.P.RoutePolicy.ranks_offers p; prefers_customers = g.met.P.RoutePolicy.prefers_customers p; exports_down_only = g.met.P.RoutePolicy.exports_down_only p } in is) in
+    let falls = (ranks_fall (what w) (ases w) (topology-AreLinks w) c.requires.no_cycle (rank_at c.args.ranks.now) c.requires.ranks).falls in
+    let xs = c.args.order.now in
+    let i = c.loop-left.left - 1 in
+    let a = c.index-order-left.result in
+    let left = c.loop-left-test.true in
+    let seeds = seeds_of c.args.pool.now c.args.seeds.now in
+    let f = routing_of c.loop-left.pool c.args.table.now c.loop-left.overlay in
+    let back : i + 1 ≡ c.loop-left.left = omega arith in
+    let within : i < length xs = omega (arith, c.loop-left.invariant.within) in
+    let more : take (i + 1) xs ≡ take i xs ++ a ∷ [] = take_more xs i a within ∙ ap (λ t. take i xs ++ t ∷ []) (sym c.index-order-left.is) in
+    no_loops_downwards here lawful (what_mutual w) (what_self w) seeds (rank_at c.args.ranks.now) falls xs c.requires.order
+    (is_named c.args.named.now) c.requires.named i a a f within c.index-order-left.is more (subst (λ k. AfterWhole here seeds (take k xs) f) (sym back) c.loop-left.invariant.so_far)
 
 pub loop-left-init : goal.loop-left-init
 loop-left-init g c =

@@ -12,8 +12,9 @@ use Rattle.stability_laws.specs.Stable.{IsLawful}
 use Rattle.route_choice.specs.declared.choice.Part.TheVariants.{Up}
 use Rattle.route_choice.specs.Routings.{entry_of, routing_of, seeds_of}
 use Rattle.route_choice.specs.Tables.{prefix_of}
+use Rattle.three_pass.specs.Naming.{is_named}
 use Rattle.three_pass.specs.Reached.{is_reached}
-use Rattle.three_pass.proofs.InOrder.{in_more, none_yet, up_more, up_fresh}
+use Rattle.three_pass.proofs.InOrder.{in_more, none_yet, up_more, up_fresh, no_loops_upwards}
 use Rattle.three_pass.proofs.Quiet.{quiet_from}
 use Rattle.three_pass.proofs.Spending.{spent_nothing, spent_more, step_seeds}
 use Rattle.three_pass.proofs.passes.go_up.Goals as goal
@@ -42,6 +43,19 @@ step_up-requires-clause-nothing g c =
     let i = c.loop-place.place in
     up_fresh here lawful (what_mutual w) (what_self w) (seeds_of c.args.pool.now c.args.seeds.now) (rank_at c.args.ranks.now) falls xs c.requires.order
     i 0 (slice_index xs i) (routing_of c.loop-place.pool c.args.table.now c.loop-place.overlay) c.loop-place-test.true refl c.loop-place.invariant.so_far
+
+pub step_up-requires-clause-no_loops : goal.step_up-requires-clause-no_loops
+step_up-requires-clause-no_loops g c =
+    let meaning = g.P.RoutePolicy.meaning in
+    let w = c.args.graph.now in
+    let here = setting meaning w c.args.book.now (g.V.OriginStates.state_of c.args.states.now (prefix_of c.args.table.now)) in
+    let lawful = λ (a : ℕ). (let p = policy_at c.args.book.now a in
+    let is : IsLawful (meaning p) = record { ranks_offers = g.met.P.RoutePolicy.ranks_offers p; prefers_customers = g.met.P.RoutePolicy.prefers_customers p; exports_down_only = g.met.P.RoutePolicy.exports_down_only p } in is) in
+    let falls = (ranks_fall (what w) (ases w) (topology-AreLinks w) c.requires.no_cycle (rank_at c.args.ranks.now) c.requires.ranks).falls in
+    let xs = c.args.order.now in
+    let i = c.loop-place.place in
+    no_loops_upwards here lawful (what_mutual w) (what_self w) (seeds_of c.args.pool.now c.args.seeds.now) (rank_at c.args.ranks.now) falls xs c.requires.order
+    (is_named c.args.named.now) c.requires.named (take i xs) (routing_of c.loop-place.pool c.args.table.now c.loop-place.overlay) c.loop-place.invariant.so_far (slice_index xs i)
 
 pub step_up-requires-clause-quiet : goal.step_up-requires-clause-quiet
 step_up-requires-clause-quiet g c =

@@ -39,6 +39,15 @@ returns-then-holds-clause-kept g c = λ up. record { live = λ k live. live; lis
 pub returns-then-holds-clause-changed : goal.returns-then-holds-clause-changed
 returns-then-holds-clause-changed g c = (λ no. (let x : false ≡ true = no in cc), λ other. absurd (other refl))
 
+joined_none : (pool : PathPool) (h : Option Held) → is_some h ≡ false → option_map (entry_of pool) h ≡ None
+joined_none pool None none = refl
+joined_none pool (Some x) none = cc
+
+pub visit-requires-clause-no_loops : goal.visit-requires-clause-no_loops
+visit-requires-clause-no_loops g c = λ out n r e linked looked held exported.
+    let none : routing_of c.args.pool.now c.args.table.now c.args.overlay.now c.args.asn ≡ None = joined_none c.args.pool.now (joined c.args.table.now c.args.overlay.now c.args.asn) (sym c.holds.ensures ∙ c.if-holds.false) in
+    c.requires.no_loops none (sym c.has-may_loop.ensures ∙ out) n r e linked refl held exported
+
 pub returns-clause-step : goal.returns-clause-step
 returns-clause-step g c =
     let meaning = g.P.RoutePolicy.meaning in

@@ -1,4 +1,4 @@
-use Rattle.std.proofs.Common.{arith, inl, inr, ℕ, true, ◌≡◌, ◌==◌, slice_index, option_map, sym, ap, ◌∙◌}
+use Rattle.std.proofs.Common.{arith, inl, inr, ℕ, true, ◌≡◌, ◌==◌, slice_index, option_map, sym, subst, ap, ◌∙◌}
 use Rattle.std.proofs.lemmas.Bool.{eq-eqb}
 use Rattle.std.proofs.lemmas.List.{get_or_read}
 use Rattle.std.proofs.lemmas.List.Folds.{list_any_at}
@@ -13,7 +13,10 @@ use Rattle.stability_laws.specs.Stable.{IsLawful}
 use Rattle.stability_laws.specs.World.{setting}
 use Rattle.route_choice.specs.Routings.{entry_of, routing_of, seed_of, seeds_of}
 use Rattle.route_choice.specs.Tables.{prefix_of, seed_at}
+use Rattle.route_choice.specs.declared.choice.Part.TheVariants.{Up}
+use Rattle.three_pass.specs.Naming.{is_named}
 use Rattle.three_pass.specs.Spending.{CanGo, HasSpent}
+use Rattle.route_choice.specs.Loops.{HasNoLoops}
 use Rattle.three_pass.specs.Reached.{is_reached}
 use Rattle.three_pass.proofs.Idle.{idle, no_customer}
 use Rattle.three_pass.proofs.Quiet.{up_none}
@@ -21,8 +24,16 @@ use Rattle.three_pass.proofs.Spending.{can_step, spent_nothing, visited}
 use Rattle.three_pass.proofs.passes.step_up.Given as given
 use Rattle.three_pass.proofs.passes.step_up.Goals as goal
 
-pub visit-requires : goal.visit-requires
-visit-requires g c = can_step c.args.pool.now c.args.seeds.now c.args.table.now c.args.overlay.now c.args.order.now c.requires.room (let inside = c.requires.inside in omega arith)
+pub visit-requires-clause-can : goal.visit-requires-clause-can
+visit-requires-clause-can g c = can_step c.args.pool.now c.args.seeds.now c.args.table.now c.args.overlay.now c.args.order.now c.requires.room (let inside = c.requires.inside in omega arith)
+
+pub visit-requires-clause-no_loops : goal.visit-requires-clause-no_loops
+visit-requires-clause-no_loops g c = λ out.
+    let meaning = g.P.RoutePolicy.meaning in
+    let read = get_or_read c.args.order.now c.args.place c.index-order-place.result c.requires.inside c.index-order-place.is 0 in
+    let f = routing_of c.args.pool.now c.args.table.now c.args.overlay.now in
+    subst (HasNoLoops Up (what c.args.graph.now) (λ n. meaning (policy_at c.args.book.now n)) f) (sym read)
+    (c.requires.no_loops (ap (is_named c.args.named.now) (sym read) ∙ sym c.has-may_loop.ensures ∙ out))
 
 pub returns-then-has_none_to_take-clause-step : goal.returns-then-has_none_to_take-clause-step
 returns-then-has_none_to_take-clause-step g c =
