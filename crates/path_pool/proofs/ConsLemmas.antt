@@ -3,7 +3,8 @@ use Rattle.std.proofs.Common.{◌≡◌, ◌≢◌, ℕ, suc, ◌+◌, ◌-◌, 
 use Rattle.std.proofs.lemmas.Bool.{cases_eq}
 use Rattle.path_pool.specs.declared.pool.Cell.{Cell}
 use Rattle.path_pool.specs.Region.{cell_at, walk, list_of, IsLive, cells_above, holds_of, IsRegion, CanFollow, GainsCell, PassesHold, GainsCells}
-use Rattle.path_pool.proofs.RegionLemmas.{at_same, at_other, live_inside, rehold_kind, rehold_above, rehold_at, rehold_region, rehold_lists, take_above_other, take_above_tail, take_lists_at}
+use Rattle.path_pool.proofs.RegionLemmas.{at_same, at_other, live_inside, take_above_other, take_above_tail, take_lists_at}
+use Rattle.path_pool.proofs.HoldLemmas.{rehold_kind, rehold_above, rehold_at, rehold_region, rehold_lists}
 
 -- a cell put on the first free place
 take_new : (xs : List Cell) (free spare limit : ℕ) (y : Cell) (rest : List ℕ) → IsRegion xs free spare limit → 0 < spare → CanFollow xs y →
@@ -50,26 +51,28 @@ gains_single xs f spare limit y r s w one =
 
 -- over a tail: the cell y on the free place, after one more hold of its tail
 pub gains_over : (xs : List Cell) (free spare limit t h : ℕ) → IsRegion xs free spare limit → 0 < spare → IsLive xs t →
-    (n : ℕ) → n ≡ (cell_at xs t).count + 1 → (l : ℕ) → l ≡ (cell_at xs t).len + 1 →
-    CanFollow (set xs t (record (cell_at xs t) { count = n })) (record { head = h; tail = t; len = l; count = 1 })
-    × GainsCell xs (set (set xs t (record (cell_at xs t) { count = n })) free (record { head = h; tail = t; len = l; count = 1 })) free (h ∷ list_of xs t)
-gains_over xs f spare limit t h r s a n en l el =
+    (n : ℕ) → n ≡ (cell_at xs t).count + 1 → (l : ℕ) → l ≡ (cell_at xs t).len + 1 → (z : ℕ) → z ≡ (cell_at xs t).last →
+    CanFollow (set xs t (record (cell_at xs t) { count = n })) (record { head = h; tail = t; len = l; count = 1; last = z })
+    × GainsCell xs (set (set xs t (record (cell_at xs t) { count = n })) free (record { head = h; tail = t; len = l; count = 1; last = z })) free (h ∷ list_of xs t)
+gains_over xs f spare limit t h r s a n en l el z ez =
     let inside : t < length xs = live_inside xs t a in
-    let z : Cell = record (cell_at xs t) { count = n } in
-    let ys : List Cell = set xs t z in
-    let y : Cell = record { head = h; tail = t; len = l; count = 1 } in
+    let held : Cell = record (cell_at xs t) { count = n } in
+    let ys : List Cell = set xs t held in
+    let y : Cell = record { head = h; tail = t; len = l; count = 1; last = z } in
     let some : 0 < n = omega (arith, en) in
     let ylen : (cell_at ys t).len ≡ (cell_at xs t).len = (rehold_kind xs t n t a some).len in
     let above1 : (k : ℕ) → cells_above ys k ≡ cells_above xs k = λ k. rehold_above xs t n k a some in
     let region : IsRegion ys f spare limit = rehold_region xs f spare limit t n r a some (omega (arith, en, r.counted t)) in
+    let long : 1 < l = omega (arith, el, (r.linked t inside).some) in
     let w : CanFollow ys y = record {
       held = refl;
       some = omega (arith, el);
       live = λ _. omega (arith, some, rehold_at xs t n a);
       free_hold = λ _. omega (arith, above1 t, rehold_at xs t n a, en, r.counted t);
       shorter = λ _. omega (arith, ylen, el);
+      single_last = λ one. absurd (omega (arith, one, long));
+      longer_last = λ _. ez ∙ sym (rehold_kind xs t n t a some).last;
     } in
-    let long : 1 < l = omega (arith, el, (r.linked t inside).some) in
     let yin : f < length ys = region.first_inside s in
     let dead : (cell_at ys f).count ≡ 0 = region.first_dead s in
     let apart : t ≢ f = tail_apart ys f spare limit y region s w long in
@@ -90,13 +93,13 @@ gains_over xs f spare limit t h r s a n en l el =
         other_holds = λ k o. elim (cases_eq k t) [
           | inl e ↦ subst (λ i. holds_of zs i ≡ holds_of xs i) (sym e)
               (omega (arith, above_t, above1 t, ap (λ (c : Cell). c.count) (kept t apart), rehold_at xs t n a, en))
-          | inr p ↦ omega (arith, above2 k p, above1 k, ap (λ (c : Cell). c.count) (kept k o), ap (λ (c : Cell). c.count) (at_other xs t k z p))
+          | inr p ↦ omega (arith, above2 k p, above1 k, ap (λ (c : Cell). c.count) (kept k o), ap (λ (c : Cell). c.count) (at_other xs t k held p))
         ];
         counts = λ k. elim (cases_eq k f) [
           | inl e ↦ omega (arith, ap (λ (c : Cell). c.count) self, ap (λ i. (cell_at zs i).count) e)
           | inr o ↦ elim (cases_eq k t) [
             | inl e ↦ omega (arith, ap (λ (c : Cell). c.count) (kept k o), rehold_at xs t n a, en, ap (λ i. (cell_at ys i).count) e, ap (λ i. (cell_at xs i).count) e)
-            | inr p ↦ omega (arith, ap (λ (c : Cell). c.count) (kept k o), ap (λ (c : Cell). c.count) (at_other xs t k z p))
+            | inr p ↦ omega (arith, ap (λ (c : Cell). c.count) (kept k o), ap (λ (c : Cell). c.count) (at_other xs t k held p))
           ]
         ];
         stays_live = λ k b. elim (cases_eq k f) [
@@ -109,14 +112,22 @@ gains_over xs f spare limit t h r s a n en l el =
     )
 
 -- over a path that passes a hold on: the cell y on the free place
-pub passes_over : (xs : List Cell) (free spare limit t h : ℕ) → IsRegion xs free spare limit → 0 < spare → 0 < holds_of xs t → (l : ℕ) → l ≡ (cell_at xs t).len + 1 →
-    CanFollow xs (record { head = h; tail = t; len = l; count = 1 })
-    × PassesHold xs (set xs free (record { head = h; tail = t; len = l; count = 1 })) t free (h ∷ list_of xs t)
-passes_over xs f spare limit t h r s held l el =
+pub passes_over : (xs : List Cell) (free spare limit t h : ℕ) → IsRegion xs free spare limit → 0 < spare → 0 < holds_of xs t → (l : ℕ) → l ≡ (cell_at xs t).len + 1 → (z : ℕ) → z ≡ (cell_at xs t).last →
+    CanFollow xs (record { head = h; tail = t; len = l; count = 1; last = z })
+    × PassesHold xs (set xs free (record { head = h; tail = t; len = l; count = 1; last = z })) t free (h ∷ list_of xs t)
+passes_over xs f spare limit t h r s held l el z ez =
     let a : IsLive xs t = omega (arith, held) in
-    let y : Cell = record { head = h; tail = t; len = l; count = 1 } in
-    let w : CanFollow xs y = record { held = refl; some = omega (arith, el); live = λ _. a; free_hold = λ _. omega (arith, held); shorter = λ _. omega (arith, el) } in
+    let y : Cell = record { head = h; tail = t; len = l; count = 1; last = z } in
     let long : 1 < l = omega (arith, el, (r.linked t (live_inside xs t a)).some) in
+    let w : CanFollow xs y = record {
+      held = refl;
+      some = omega (arith, el);
+      live = λ _. a;
+      free_hold = λ _. omega (arith, held);
+      shorter = λ _. omega (arith, el);
+      single_last = λ one. absurd (omega (arith, one, long));
+      longer_last = λ _. ez;
+    } in
     let yin : f < length xs = r.first_inside s in
     let dead : (cell_at xs f).count ≡ 0 = r.first_dead s in
     let apart : t ≢ f = tail_apart xs f spare limit y r s w long in

@@ -4,7 +4,7 @@ use Rattle.std.specs.List.{count_by, list_any}
 use Rattle.std.proofs.lemmas.Bool.{cases_eq, cases_lt, le-ltb, eq-eqb, ne_eqb}
 use Rattle.std.proofs.lemmas.List.{get_or_append_left, get_or_at, get_or_past}
 use Rattle.std.proofs.lemmas.List.Sums.{sum_by_push}
-use Rattle.net_names.specs.Numbers.{first_or}
+use Rattle.net_names.specs.Numbers.{first_or, last_or}
 use Rattle.path_pool.specs.declared.pool.Cell.{Cell}
 use Rattle.path_pool.specs.Region.{blank, cell_at, list_of, walk, IsLive, is_live, is_above, cells_above, live_count, IsLinked, IsRegion, SameCells}
 use Rattle.path_pool.proofs.RegionLemmas.{live_inside, one_if, not_above, kind_same, lists_same, linked_same}
@@ -46,6 +46,8 @@ grow_region xs free spare limit y r room y_dead y_len y_tail =
           both_dead = λ long e.
               let s : 0 < spare = omega (arith, long, y_len, ap (λ (c : Cell). c.len) self) in
               ap (λ t. (cell_at ys t).count) (ap (λ (c : Cell). c.tail) self ∙ y_tail) ∙ ap (λ (c : Cell). c.count) (other free (r.first_inside s)) ∙ r.first_dead s;
+          single_last = λ p _. absurd (omega (arith, p, y_dead, ap (λ (c : Cell). c.count) self));
+          longer_last = λ p _. absurd (omega (arith, p, y_dead, ap (λ (c : Cell). c.count) self));
         })
         | inr n ↦ linked_same xs ys j (omega (arith, len)) (kind_same (cell_at xs j) (cell_at ys j) (other j (old j l n)))
             (λ long. kind_same (cell_at xs (cell_at xs j).tail) (cell_at ys (cell_at xs j).tail) (other (cell_at xs j).tail ((r.linked j (old j l n)).inside long)))
@@ -147,3 +149,18 @@ any_later cells n i number h e = ap (list_any (λ x. eqb x number)) (walk_more c
 -- the first number of a path is its cell's
 pub first_or-list_of : (cells : List Cell) (i : ℕ) → 0 < (cell_at cells i).len → first_or 0 (list_of cells i) ≡ (cell_at cells i).head
 first_or-list_of cells i h = ap (first_or 0) (walk_more cells (cell_at cells i).len i h)
+
+last_or-walk : (cells : List Cell) (free spare limit : ℕ) → IsRegion cells free spare limit → (d n i : ℕ) → IsLive cells i → (cell_at cells i).len ≡ suc n →
+    last_or d (walk cells (suc n) i) ≡ (cell_at cells i).last
+last_or-walk cells free spare limit r d zero i a e = sym ((r.linked i (live_inside cells i a)).single_last a e)
+last_or-walk cells free spare limit r d (suc n) i a e =
+    let linked : IsLinked cells i = r.linked i (live_inside cells i a) in
+    let long : 1 < (cell_at cells i).len = omega (arith, e) in
+    last_or-walk cells free spare limit r (cell_at cells i).head n (cell_at cells i).tail (linked.both_live long a) (omega (arith, e, linked.shorter long))
+    ∙ sym (linked.longer_last a long)
+
+-- the last number of a live path stands in its cell
+pub last_or-list_of : (cells : List Cell) (free spare limit i : ℕ) → IsRegion cells free spare limit → IsLive cells i → last_or 0 (list_of cells i) ≡ (cell_at cells i).last
+last_or-list_of cells free spare limit i r a =
+    let some : (cell_at cells i).len ≡ suc ((cell_at cells i).len - 1) = omega (arith, (r.linked i (live_inside cells i a)).some) in
+    ap (λ n. last_or 0 (walk cells n i)) some ∙ last_or-walk cells free spare limit r 0 ((cell_at cells i).len - 1) i a some

@@ -1,4 +1,5 @@
 pub mod RegionLemmas
+pub mod HoldLemmas
 pub mod ConsLemmas
 pub mod ReleaseLemmas
 pub mod GrowLemmas

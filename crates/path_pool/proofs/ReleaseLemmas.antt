@@ -3,7 +3,8 @@ use Rattle.std.proofs.Common.{◌≡◌, ◌≢◌, ℕ, ◌+◌, ◌<◌, ◌�
 use Rattle.std.proofs.lemmas.Bool.{cases_eq, lt-ltb, eq-eqb, ne_eqb, ltb-true, false≢true}
 use Rattle.path_pool.specs.declared.pool.Cell.{Cell}
 use Rattle.path_pool.specs.Region.{cell_at, list_of, IsLive, is_above, cells_above, holds_of, IsRegion, LosesHold}
-use Rattle.path_pool.proofs.RegionLemmas.{at_same, at_other, live_inside, one_if, rehold_kind, rehold_above, rehold_at, rehold_lists, drop_above, drop_lists}
+use Rattle.path_pool.proofs.RegionLemmas.{at_same, at_other, live_inside, one_if, drop_above, drop_lists}
+use Rattle.path_pool.proofs.HoldLemmas.{rehold_kind, rehold_above, rehold_at, rehold_lists}
 
 -- On the way of a release of id: where `more` says so, the cell `at` still has a hold to be given back.
 pub record IsReleasing (old new : List Cell) (id at : ℕ) (more : Bool) : Type 0 where

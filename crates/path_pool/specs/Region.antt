@@ -6,7 +6,7 @@ use Rattle.path_pool.specs.declared.path_id.PathId.{PathId}
 
 -- What is read past the last cell: a cell that nothing needs.
 abbrev pub blank : Cell
-blank = record { head = 0; tail = 0; len = 0; count = 0 }
+blank = record { head = 0; tail = 0; len = 0; count = 0; last = 0 }
 
 -- The cell at a place.
 abbrev pub cell_at : List Cell → ℕ → Cell
@@ -54,13 +54,16 @@ abbrev pub tail_list : List Cell → Option PathId → List ℕ
 tail_list cells None = []
 tail_list cells (Some t) = list_of cells t.0
 
--- A cell of more than one AS has a tail, which is one AS shorter, and live exactly where the cell is.
+-- A cell of more than one AS has a tail, which is one AS shorter, and live exactly where the cell is. A live cell of one
+-- AS has that AS as its last, and a longer one the last of its tail.
 pub record IsLinked (cells : List Cell) (i : ℕ) : Type 0 where
   pub some : 1 ≤ (cell_at cells i).len
   pub inside : 1 < (cell_at cells i).len → (cell_at cells i).tail < length cells
   pub shorter : 1 < (cell_at cells i).len → (cell_at cells (cell_at cells i).tail).len + 1 ≡ (cell_at cells i).len
   pub both_live : 1 < (cell_at cells i).len → 0 < (cell_at cells i).count → 0 < (cell_at cells (cell_at cells i).tail).count
   pub both_dead : 1 < (cell_at cells i).len → (cell_at cells i).count ≡ 0 → (cell_at cells (cell_at cells i).tail).count ≡ 0
+  pub single_last : 0 < (cell_at cells i).count → (cell_at cells i).len ≡ 1 → (cell_at cells i).last ≡ (cell_at cells i).head
+  pub longer_last : 0 < (cell_at cells i).count → 1 < (cell_at cells i).len → (cell_at cells i).last ≡ (cell_at cells (cell_at cells i).tail).last
 
 -- A region is sound where each cell is linked and counts at least the live cells over it, the cells that are not live
 -- hang together from `free` on (no two of them at the same length, and `spare` is that of the first), live and spare
@@ -77,13 +80,16 @@ pub record IsRegion (cells : List Cell) (free spare limit : ℕ) : Type 0 where
   pub within : length cells ≤ limit
   pub limited : limit < 4294967295
 
--- A cell can be put over its tail, where it has one: the tail is live, one AS shorter, and has a hold left for it.
+-- A cell can be put over its tail, where it has one: the tail is live, one AS shorter, ends with the same AS, and has a
+-- hold left for it.
 pub record CanFollow (xs : List Cell) (y : Cell) : Type 0 where
   pub held : y.count ≡ 1
   pub some : 1 ≤ y.len
   pub live : 1 < y.len → IsLive xs y.tail
   pub free_hold : 1 < y.len → cells_above xs y.tail < (cell_at xs y.tail).count
   pub shorter : 1 < y.len → (cell_at xs y.tail).len + 1 ≡ y.len
+  pub single_last : y.len ≡ 1 → y.last ≡ y.head
+  pub longer_last : 1 < y.len → y.last ≡ (cell_at xs y.tail).last
 
 -- A new path is there, with one outside hold, no count rises by more than one, and nothing else has changed.
 pub record GainsCell (old new : List Cell) (id : ℕ) (numbers : List ℕ) : Type 0 where

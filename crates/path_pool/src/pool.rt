@@ -20,6 +20,8 @@ pub struct Cell {
     len: u32,
     /// The outside holds and the live cells whose tail this is.
     count: u32,
+    /// The last AS of the path.
+    last: Asn,
 }
 
 /// A region of cells. A live cell stands for the path of its AS and of the cells below it.
@@ -93,7 +95,7 @@ impl PathPool {
         ensures limit { limit_of self.new ≡ limit_of self.old }
     {
         match tail {
-            None => self.take_cell(head, 0, 1),
+            None => self.take_cell(head, 0, 1, head),
             Some(t) => self.cons_over(head, t),
         }
     }
@@ -108,8 +110,8 @@ impl PathPool {
         ensures spare { spare_of self.new + 1 ≡ spare_of self.old }
         ensures limit { limit_of self.new ≡ limit_of self.old }
     {
-        let len = self.cells[rest.0 as usize].len;
-        self.take_cell(head, rest.0, len + 1)
+        let cell = self.cells[rest.0 as usize];
+        self.take_cell(head, rest.0, cell.len + 1, cell.last)
     }
 
     /// A new path of these ASes, first to last, which shares no cell with another path. It comes with
@@ -183,7 +185,7 @@ impl PathPool {
     {
         let cell = self.cells[tail.0 as usize];
         self.set_count(tail, cell.count + 1);
-        self.take_cell(head, tail.0, cell.len + 1)
+        self.take_cell(head, tail.0, cell.len + 1, cell.last)
     }
 
     // Writes how often a live cell is needed.
@@ -201,11 +203,11 @@ impl PathPool {
     }
 
     // Takes the first free cell for a new path.
-    fn take_cell(&mut self, head: Asn, tail: u32, len: u32) -> PathId
+    fn take_cell(&mut self, head: Asn, tail: u32, len: u32, last: Asn) -> PathId
         requires spare { 0 < spare_of self.old }
-        requires follows { CanFollow self.old.cells.items (record { head = head; tail = tail; len = len; count = 1 }) }
+        requires follows { CanFollow self.old.cells.items (record { head = head; tail = tail; len = len; count = 1; last = last }) }
         ensures which { result.0 ≡ self.old.free }
-        ensures cells { self.new.cells.items ≡ slice_set self.old.cells.items self.old.free (record { head = head; tail = tail; len = len; count = 1 }) }
+        ensures cells { self.new.cells.items ≡ slice_set self.old.cells.items self.old.free (record { head = head; tail = tail; len = len; count = 1; last = last }) }
         ensures spare { spare_of self.new + 1 ≡ spare_of self.old }
         ensures limit { limit_of self.new ≡ limit_of self.old }
     {
@@ -217,6 +219,7 @@ impl PathPool {
             tail,
             len,
             count: 1,
+            last,
         };
         PathId(at)
     }
@@ -225,7 +228,7 @@ impl PathPool {
     fn free_cell(&mut self, id: PathId, head: Asn)
         requires live { IsLive self.old id.0 }
         requires none { cells_above self.old.cells.items id.0 ≡ 0 }
-        ensures cells { self.new.cells.items ≡ slice_set self.old.cells.items id.0 (record { head = head; tail = self.old.free; len = spare_of self.old + 1; count = 0 }) }
+        ensures cells { self.new.cells.items ≡ slice_set self.old.cells.items id.0 (record { head = head; tail = self.old.free; len = spare_of self.old + 1; count = 0; last = head }) }
         ensures spare { spare_of self.new ≡ spare_of self.old + 1 }
         ensures limit { limit_of self.new ≡ limit_of self.old }
     {
@@ -236,6 +239,7 @@ impl PathPool {
             tail: next,
             len: self.spare as u32,
             count: 0,
+            last: head,
         };
         self.free = id.0;
     }
@@ -252,11 +256,13 @@ impl PathPool {
         let next = self.free;
         let at = self.cells.len();
         let len = self.spare + 1;
+        let asn = any_asn();
         self.cells.push(Cell {
-            head: any_asn(),
+            head: asn,
             tail: next,
             len: len as u32,
             count: 0,
+            last: asn,
         })?;
         self.free = at as u32;
         self.spare = len;

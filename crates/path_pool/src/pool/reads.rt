@@ -1,6 +1,6 @@
 //! What a pool tells. No call here changes it.
 
-ghost use Rattle.net_names.specs.Numbers.{first_or, occurs};
+ghost use Rattle.net_names.specs.Numbers.{first_or, last_or, occurs};
 ghost use Rattle.std.specs.Prelude.{◌≡◌, ◌+◌, ◌<◌, ◌≤◌, ◌∷◌, length, IfSome, IfOk};
 
 use super::PathPool;
@@ -41,6 +41,14 @@ impl PathPool {
         ensures first { result ≡ first_or 0 (list_of self.now id.0) }
     {
         self.cells[id.0 as usize].head
+    }
+
+    /// The last AS of the path. Walks along no path.
+    pub fn last(&self, id: PathId) -> Asn
+        requires { IsLive self.now id.0 }
+        ensures { result ≡ last_or 0 (list_of self.now id.0) }
+    {
+        self.cells[id.0 as usize].last
     }
 
     /// The path after its first AS. There is none where that AS is the only one.

@@ -7,7 +7,7 @@ use Rattle.path_pool.proofs.pool.PathPool.add_cell.Goals as goal
 pub invariant_of-self-2 : goal.invariant_of-self-2
 invariant_of-self-2 c =
     let xs : List Cell = c.args.self.now.cells.items in
-    let y : Cell = record { head = c.any_asn.result; tail = c.args.self.now.free; len = c.args.self.now.spare + 1; count = 0 } in
+    let y : Cell = record { head = c.any_asn-asn.result; tail = c.args.self.now.free; len = c.args.self.now.spare + 1; count = 0; last = c.any_asn-asn.result } in
     let at : c.len-at.result ≡ length xs = search rules in
     record {
       region =
@@ -18,6 +18,6 @@ invariant_of-self-2 c =
 
 pub returns-clause-ok : goal.returns-clause-ok
 returns-clause-ok c =
-    let y : Cell = record { head = c.any_asn.result; tail = c.args.self.now.free; len = c.args.self.now.spare + 1; count = 0 } in
+    let y : Cell = record { head = c.any_asn-asn.result; tail = c.args.self.now.free; len = c.args.self.now.spare + 1; count = 0; last = c.any_asn-asn.result } in
     subst (λ ys. SameCells c.args.self.now.cells.items ys) (sym c.in_ok-push.ensures.items)
     (grow_same c.args.self.now.cells.items c.args.self.now.free c.args.self.now.spare c.args.self.now.limit y c.args.self.now.region refl)

@@ -21,9 +21,9 @@ take_cell-requires-clause-follows c =
     let t : ℕ = c.args.tail.0 in
     let v : Cell = c.index-cell.result.now in
     let e : v ≡ cell_at xs t = cell_read xs t v (live_inside xs t c.requires.tail_live) c.index-cell.ensures in
-    subst (λ ys. CanFollow ys (record { head = c.args.head; tail = t; len = v.len + 1; count = 1 })) (sym c.set_count.ensures.cells)
+    subst (λ ys. CanFollow ys (record { head = c.args.head; tail = t; len = v.len + 1; count = 1; last = v.last })) (sym c.set_count.ensures.cells)
     (gains_over xs c.args.self.now.free c.args.self.now.spare c.args.self.now.limit t c.args.head c.args.self.now.region c.requires.spare c.requires.tail_live
-    (v.count + 1) (ap (λ (c : Cell). c.count + 1) e) (v.len + 1) (ap (λ (c : Cell). c.len + 1) e)).0
+    (v.count + 1) (ap (λ (c : Cell). c.count + 1) e) (v.len + 1) (ap (λ (c : Cell). c.len + 1) e) v.last (ap (λ (c : Cell). c.last) e)).0
 
 pub returns-clause-made : goal.returns-clause-made
 returns-clause-made c =
@@ -31,7 +31,7 @@ returns-clause-made c =
     let t : ℕ = c.args.tail.0 in
     let f : ℕ = c.args.self.now.free in
     let v : Cell = c.index-cell.result.now in
-    let y : Cell = record { head = c.args.head; tail = t; len = v.len + 1; count = 1 } in
+    let y : Cell = record { head = c.args.head; tail = t; len = v.len + 1; count = 1; last = v.last } in
     let e : v ≡ cell_at xs t = cell_read xs t v (live_inside xs t c.requires.tail_live) c.index-cell.ensures in
     let ys : List Cell = set xs t (record (cell_at xs t) { count = v.count + 1 }) in
     let cells : c.take_cell.new.self.cells.items ≡ set ys f y =
@@ -40,4 +40,4 @@ returns-clause-made c =
     subst (λ zs. GainsCell xs zs c.take_cell.result.0 (c.args.head ∷ list_of xs t)) (sym cells)
     (subst (λ i. GainsCell xs (set ys f y) i (c.args.head ∷ list_of xs t)) (sym which)
     (gains_over xs f c.args.self.now.spare c.args.self.now.limit t c.args.head c.args.self.now.region c.requires.spare c.requires.tail_live
-    (v.count + 1) (ap (λ (c : Cell). c.count + 1) e) (v.len + 1) (ap (λ (c : Cell). c.len + 1) e)).1)
+    (v.count + 1) (ap (λ (c : Cell). c.count + 1) e) (v.len + 1) (ap (λ (c : Cell). c.len + 1) e) v.last (ap (λ (c : Cell). c.last) e)).1)

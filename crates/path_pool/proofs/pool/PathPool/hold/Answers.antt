@@ -1,7 +1,7 @@
 use Rattle.std.proofs.Common.{◌+◌, ap, sym, subst, List}
 use Rattle.path_pool.specs.declared.pool.Cell.{Cell}
 use Rattle.path_pool.specs.Region.{GainsHold}
-use Rattle.path_pool.proofs.RegionLemmas.{rehold_gains}
+use Rattle.path_pool.proofs.HoldLemmas.{rehold_gains}
 use Rattle.path_pool.proofs.pool.PathPool.hold.Goals as goal
 
 pub returns-clause-held : goal.returns-clause-held

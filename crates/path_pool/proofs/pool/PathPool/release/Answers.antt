@@ -51,7 +51,7 @@ cells-preserved c =
     let same : v ≡ cell_at xs i = cell_read xs i v (live_inside xs i live) c.index-cell.ensures in
     let e : v.count ≡ (cell_at xs i).count = ap (λ (c : Cell). c.count) same in
     let w : IsReleasing c.args.self.now.cells.items xs c.args.id.0 i true = subst (IsReleasing c.args.self.now.cells.items xs c.args.id.0 i) c.cells-test.true c.cells.invariant.releasing in
-    let y : Cell = record { head = v.head; tail = c.cells.self.free; len = c.cells.self.spare + 1; count = 0 } in
+    let y : Cell = record { head = v.head; tail = c.cells.self.free; len = c.cells.self.spare + 1; count = 0; last = v.head } in
     record {
       releasing = subst (λ ys. IsReleasing c.args.self.now.cells.items ys c.args.id.0 v.tail (ltb 1 v.len)) (sym c.free_cell.ensures.cells)
           (subst (λ (c' : Cell). IsReleasing c.args.self.now.cells.items (set xs i y) c.args.id.0 c'.tail (ltb 1 c'.len)) (sym same)

@@ -1,7 +1,8 @@
 use Rattle.std.proofs.Common.{◌≡◌, ℕ, List, set, sym, subst}
 use Rattle.path_pool.specs.declared.pool.Cell.{Cell}
 use Rattle.path_pool.specs.Region.{IsRegion, cell_at}
-use Rattle.path_pool.proofs.RegionLemmas.{cell_read, live_inside, rehold_region}
+use Rattle.path_pool.proofs.RegionLemmas.{cell_read, live_inside}
+use Rattle.path_pool.proofs.HoldLemmas.{rehold_region}
 use Rattle.path_pool.proofs.pool.PathPool.set_count.Goals as goal
 
 pub invariant_of-self : goal.invariant_of-self
