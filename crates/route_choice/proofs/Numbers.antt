@@ -1,12 +1,7 @@
 -- Lists of AS numbers.
-use Rattle.std.proofs.Common.{◌≡◌, ℕ, zero, suc, ◌<◌, ◌||◌, ◌==◌, true, false, nat_eq, List, [], ◌∷◌, length, take, slice_index_or, refl, sym, ◌∙◌, ap, arith}
+use Rattle.std.proofs.Common.{◌≡◌, ℕ, zero, suc, ◌<◌, ◌||◌, ◌==◌, true, false, nat_eq, List, [], ◌∷◌, length, take, slice_index_or, refl, ◌∙◌, ap, arith}
 use Rattle.std.specs.List.{IsDistinct, AllByRecursion}
-use Rattle.net_names.specs.Numbers.{occurs, last_or}
-
--- the last of a longer list is the last of the rest
-pub last_or-longer : (d x : ℕ) (xs zs : List ℕ) → xs ≡ x ∷ zs → 0 < length zs → last_or d zs ≡ last_or d xs
-last_or-longer d x xs [] e some = absurd (omega arith)
-last_or-longer d x xs (z ∷ zs) e some = sym (ap (last_or d) e)
+use Rattle.net_names.specs.Numbers.{occurs}
 
 -- a list of one differs from a longer one
 pub one_differs : (a b : ℕ) (xs ys zs : List ℕ) → xs ≡ a ∷ zs → ys ≡ b ∷ [] → 0 < length zs → xs ≡ ys → ⊥

@@ -20,7 +20,7 @@ use crate::looks::{held_near, place_at};
 use crate::{Held, Overlay, Part, Table};
 use as_graph::{Graph, Neighbour};
 use net_names::{Asn, Prefix, Rel, State};
-use path_pool::{PathId, PathPool, paths_are_not_empty};
+use path_pool::{PathId, PathPool};
 use policy_laws::{OriginStates, RoutePolicy, View};
 use stability_laws::{Book, number_sent};
 
@@ -35,19 +35,6 @@ fn looks_at(part: Part, rel: Rel) -> bool
     }
 }
 
-// The last AS of a path.
-fn origin_of(pool: &PathPool, path: PathId) -> Asn
-    requires { IsLive pool.now path.0 }
-    ensures { result ≡ last_or 0 (list_of pool.now path.0) }
-{
-    paths_are_not_empty(pool);
-    let mut at = path;
-    'cells: while let Some(rest) = pool.tail(at) {
-        at = rest;
-    }
-    pool.head(at)
-}
-
 // The state of the prefix with the path's origin, where it is asked for.
 fn state_of<V: OriginStates>(
     states: &V,
@@ -60,7 +47,7 @@ fn state_of<V: OriginStates>(
     ensures { result ≡ state_seen reads (V.state_of states.now prefix) (last_or 0 (list_of pool.now path.0)) }
 {
     if reads {
-        states.state(prefix, origin_of(pool, path))
+        states.state(prefix, pool.last(path))
     } else {
         State::NotFound
     }
