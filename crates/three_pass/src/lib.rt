@@ -6,6 +6,7 @@
 //! meets the laws, and it is the only stable one.
 #![tactic(auto)]
 
+mod asn_set;
 mod named;
 mod passes;
 mod reached;

@@ -16,12 +16,13 @@ ghost use Rattle.route_choice.specs.Choices.{IsStepOf};
 ghost use Rattle.route_choice.specs.Loops.{HasNoLoops};
 ghost use Rattle.route_choice.specs.Routings.{routing_of, seeds_of};
 ghost use Rattle.route_choice.specs.Resources.{CanStep, Spends, GivesUpNothing, Keeps};
-ghost use Rattle.three_pass.specs.Naming.{is_named, AreNamed};
+ghost use Rattle.three_pass.specs.AsnSets.{is_among};
+ghost use Rattle.three_pass.specs.Naming.{AreNamed};
 ghost use Rattle.three_pass.specs.Progress.{AfterUp, AfterWhole};
 ghost use Rattle.three_pass.specs.Reached.{is_reached, IsQuiet};
 ghost use Rattle.three_pass.specs.Spending.{CanGo, HasSpent};
 
-use crate::named::Named;
+use crate::asn_set::AsnSet;
 use crate::reached::{Reached, holds};
 use as_graph::Graph;
 use net_names::Asn;
@@ -58,7 +59,7 @@ fn step_up<P: RoutePolicy, V: OriginStates, L: Ledger>(
     book: &Book<P>,
     states: &V,
     seeds: &SeedIds,
-    named: &Named,
+    named: &AsnSet,
     pool: &mut PathPool,
     table: &Table,
     overlay: &mut Overlay,
@@ -71,7 +72,7 @@ fn step_up<P: RoutePolicy, V: OriginStates, L: Ledger>(
     requires inside { place < length order.now }
     requires nothing { routing_of pool.old table.now overlay.old (slice_index order.now place) ≡ None }
     requires quiet { is_reached reached.old (slice_index order.now place) ≡ false → IsQuiet (setting P.meaning graph.now book.now (V.state_of states.now (prefix_of table.now))) (routing_of pool.old table.now overlay.old) (slice_index order.now place) }
-    requires no_loops { is_named named.now (slice_index order.now place) ≡ false → HasNoLoops Part.Up (what graph.now) (λ n. P.meaning (policy_at book.now n)) (routing_of pool.old table.now overlay.old) (slice_index order.now place) }
+    requires no_loops { is_among named.now (slice_index order.now place) ≡ false → HasNoLoops Part.Up (what graph.now) (λ n. P.meaning (policy_at book.now n)) (routing_of pool.old table.now overlay.old) (slice_index order.now place) }
     requires room { CanGo pool.old seeds.now table.now overlay.old order.now }
     ensures cost { steps.new ≤ steps.old + 1 }
     ensures step { IsStepOf Part.Up (setting P.meaning graph.now book.now (V.state_of states.now (prefix_of table.now))) (seeds_of pool.old seeds.now) (routing_of pool.old table.now overlay.old) (slice_index order.now place) (routing_of pool.new table.now overlay.new) }
@@ -112,7 +113,7 @@ pub fn go_up<P: RoutePolicy, V: OriginStates, L: Ledger>(
     book: &Book<P>,
     states: &V,
     seeds: &SeedIds,
-    named: &Named,
+    named: &AsnSet,
     pool: &mut PathPool,
     table: &Table,
     overlay: &mut Overlay,
@@ -123,7 +124,7 @@ pub fn go_up<P: RoutePolicy, V: OriginStates, L: Ledger>(
     requires ranks { (a : ℕ) → IsRank (what graph.now) a (rank_at ranks.now a) }
     requires order { IsRankOrder (has graph.now) (rank_at ranks.now) order.now }
     requires empty { (a : ℕ) → joined table.now overlay.old a ≡ None }
-    requires named { AreNamed (is_named named.now) (seeds_of pool.old seeds.now) }
+    requires named { AreNamed (is_among named.now) (seeds_of pool.old seeds.now) }
     requires room { CanGo pool.old seeds.now table.now overlay.old order.now }
     ensures cost { steps.new ≤ steps.old + length order.now }
     ensures done { AfterUp (setting P.meaning graph.now book.now (V.state_of states.now (prefix_of table.now))) (seeds_of pool.old seeds.now) order.now (routing_of pool.new table.now overlay.new) }
@@ -156,7 +157,7 @@ fn step_down<P: RoutePolicy, V: OriginStates, L: Ledger>(
     book: &Book<P>,
     states: &V,
     seeds: &SeedIds,
-    named: &Named,
+    named: &AsnSet,
     pool: &mut PathPool,
     table: &Table,
     overlay: &mut Overlay,
@@ -168,7 +169,7 @@ fn step_down<P: RoutePolicy, V: OriginStates, L: Ledger>(
     requires can { CanStep pool.old seeds.now table.now overlay.old 1 }
     requires held { routing_of pool.old table.now overlay.old asn ≢ None → IsStepOf Part.Whole (setting P.meaning graph.now book.now (V.state_of states.now (prefix_of table.now))) (seeds_of pool.old seeds.now) (routing_of pool.old table.now overlay.old) asn (routing_of pool.old table.now overlay.old) }
     requires quiet { is_reached reached.now asn ≡ false → IsQuiet (setting P.meaning graph.now book.now (V.state_of states.now (prefix_of table.now))) (routing_of pool.old table.now overlay.old) asn }
-    requires no_loops { routing_of pool.old table.now overlay.old asn ≡ None → is_named named.now asn ≡ false → HasNoLoops Part.Whole (what graph.now) (λ n. P.meaning (policy_at book.now n)) (routing_of pool.old table.now overlay.old) asn }
+    requires no_loops { routing_of pool.old table.now overlay.old asn ≡ None → is_among named.now asn ≡ false → HasNoLoops Part.Whole (what graph.now) (λ n. P.meaning (policy_at book.now n)) (routing_of pool.old table.now overlay.old) asn }
     ensures cost { steps.new ≤ steps.old + 1 }
     ensures step { IsStepOf Part.Whole (setting P.meaning graph.now book.now (V.state_of states.now (prefix_of table.now))) (seeds_of pool.old seeds.now) (routing_of pool.old table.now overlay.old) asn (routing_of pool.new table.now overlay.new) }
     ensures changed { IsTrue result ↔ (routing_of pool.new table.now overlay.new asn ≢ routing_of pool.old table.now overlay.old asn) }
@@ -197,7 +198,7 @@ pub fn go_down<P: RoutePolicy, V: OriginStates, L: Ledger>(
     book: &Book<P>,
     states: &V,
     seeds: &SeedIds,
-    named: &Named,
+    named: &AsnSet,
     pool: &mut PathPool,
     table: &Table,
     overlay: &mut Overlay,
@@ -207,7 +208,7 @@ pub fn go_down<P: RoutePolicy, V: OriginStates, L: Ledger>(
     requires ranks { (a : ℕ) → IsRank (what graph.now) a (rank_at ranks.now a) }
     requires order { IsRankOrder (has graph.now) (rank_at ranks.now) order.now }
     requires reached { (a : ℕ) → is_reached reached.now a ≡ false → IsQuiet (setting P.meaning graph.now book.now (V.state_of states.now (prefix_of table.now))) (routing_of pool.old table.now overlay.old) a }
-    requires named { AreNamed (is_named named.now) (seeds_of pool.old seeds.now) }
+    requires named { AreNamed (is_among named.now) (seeds_of pool.old seeds.now) }
     requires up { AfterUp (setting P.meaning graph.now book.now (V.state_of states.now (prefix_of table.now))) (seeds_of pool.old seeds.now) order.now (routing_of pool.old table.now overlay.old) }
     requires room { CanGo pool.old seeds.now table.now overlay.old order.now }
     ensures cost { steps.new ≤ steps.old + length order.now }

@@ -13,7 +13,7 @@ use Rattle.stability_laws.specs.Stable.{IsLawful}
 use Rattle.route_choice.specs.declared.choice.Part.TheVariants.{Whole}
 use Rattle.route_choice.specs.Routings.{routing_of, seeds_of}
 use Rattle.route_choice.specs.Tables.{prefix_of}
-use Rattle.three_pass.specs.Naming.{is_named}
+use Rattle.three_pass.specs.AsnSets.{is_among}
 use Rattle.three_pass.specs.Progress.{AfterWhole}
 use Rattle.three_pass.proofs.InOrder.{turn, down_same, down_more, down_fresh, no_loops_downwards, all_right}
 use Rattle.three_pass.proofs.Quiet.{still_quiet}
@@ -67,7 +67,7 @@ step_down-requires-clause-no_loops g c =
     let within : i < length xs = omega (arith, c.loop-left.invariant.within) in
     let more : take (i + 1) xs ≡ take i xs ++ a ∷ [] = take_more xs i a within ∙ ap (λ t. take i xs ++ t ∷ []) (sym c.index-order-left.is) in
     no_loops_downwards here lawful (what_mutual w) (what_self w) seeds (rank_at c.args.ranks.now) falls xs c.requires.order
-    (is_named c.args.named.now) c.requires.named i a a f within c.index-order-left.is more (subst (λ k. AfterWhole here seeds (take k xs) f) (sym back) c.loop-left.invariant.so_far)
+    (is_among c.args.named.now) c.requires.named i a a f within c.index-order-left.is more (subst (λ k. AfterWhole here seeds (take k xs) f) (sym back) c.loop-left.invariant.so_far)
 
 pub loop-left-init : goal.loop-left-init
 loop-left-init g c =

@@ -12,7 +12,7 @@ use Rattle.stability_laws.specs.Stable.{IsLawful}
 use Rattle.route_choice.specs.declared.choice.Part.TheVariants.{Up}
 use Rattle.route_choice.specs.Routings.{entry_of, routing_of, seeds_of}
 use Rattle.route_choice.specs.Tables.{prefix_of}
-use Rattle.three_pass.specs.Naming.{is_named}
+use Rattle.three_pass.specs.AsnSets.{is_among}
 use Rattle.three_pass.specs.Reached.{is_reached}
 use Rattle.three_pass.proofs.InOrder.{in_more, none_yet, up_more, up_fresh, no_loops_upwards}
 use Rattle.three_pass.proofs.Quiet.{quiet_from}
@@ -55,7 +55,7 @@ step_up-requires-clause-no_loops g c =
     let xs = c.args.order.now in
     let i = c.loop-place.place in
     no_loops_upwards here lawful (what_mutual w) (what_self w) (seeds_of c.args.pool.now c.args.seeds.now) (rank_at c.args.ranks.now) falls xs c.requires.order
-    (is_named c.args.named.now) c.requires.named (take i xs) (routing_of c.loop-place.pool c.args.table.now c.loop-place.overlay) c.loop-place.invariant.so_far (slice_index xs i)
+    (is_among c.args.named.now) c.requires.named (take i xs) (routing_of c.loop-place.pool c.args.table.now c.loop-place.overlay) c.loop-place.invariant.so_far (slice_index xs i)
 
 pub step_up-requires-clause-quiet : goal.step_up-requires-clause-quiet
 step_up-requires-clause-quiet g c =

@@ -14,7 +14,7 @@ use Rattle.stability_laws.specs.World.{setting}
 use Rattle.route_choice.specs.Routings.{entry_of, routing_of, seed_of, seeds_of}
 use Rattle.route_choice.specs.Tables.{prefix_of, seed_at}
 use Rattle.route_choice.specs.declared.choice.Part.TheVariants.{Up}
-use Rattle.three_pass.specs.Naming.{is_named}
+use Rattle.three_pass.specs.AsnSets.{is_among}
 use Rattle.three_pass.specs.Spending.{CanGo, HasSpent}
 use Rattle.route_choice.specs.Loops.{HasNoLoops}
 use Rattle.three_pass.specs.Reached.{is_reached}
@@ -33,7 +33,7 @@ visit-requires-clause-no_loops g c = λ out.
     let read = get_or_read c.args.order.now c.args.place c.index-order-place.result c.requires.inside c.index-order-place.is 0 in
     let f = routing_of c.args.pool.now c.args.table.now c.args.overlay.now in
     subst (HasNoLoops Up (what c.args.graph.now) (λ n. meaning (policy_at c.args.book.now n)) f) (sym read)
-    (c.requires.no_loops (ap (is_named c.args.named.now) (sym read) ∙ sym c.has-may_loop.ensures ∙ out))
+    (c.requires.no_loops (ap (is_among c.args.named.now) (sym read) ∙ sym c.has-may_loop.ensures ∙ out))
 
 pub returns-then-has_none_to_take-clause-step : goal.returns-then-has_none_to_take-clause-step
 returns-then-has_none_to_take-clause-step g c =
