@@ -1,5 +1,5 @@
 -- Lists of AS numbers.
-use Rattle.std.proofs.Common.{◌≡◌, ℕ, zero, suc, ◌<◌, ◌||◌, ◌==◌, true, false, nat_eq, List, [], ◌∷◌, length, take, slice_index_or, refl, ◌∙◌, ap, arith}
+use Rattle.std.proofs.Common.{◌≡◌, ℕ, zero, suc, ◌<◌, ◌||◌, ◌==◌, false, nat_eq, List, [], ◌∷◌, length, take, slice_index_or, refl, ◌∙◌, ap, arith}
 use Rattle.std.specs.List.{IsDistinct, AllByRecursion}
 use Rattle.net_names.specs.Numbers.{occurs}
 
