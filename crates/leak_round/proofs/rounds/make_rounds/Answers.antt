@@ -12,6 +12,13 @@ use Rattle.leak_round.proofs.Keeping.{grows_on}
 use Rattle.leak_round.proofs.AllRounds.{AreRoundsSoFar, rounds_more}
 use Rattle.leak_round.proofs.rounds.make_rounds.Goals as goal
 
+-- the cost stays within the bound of all rounds where a round has ended, also with an error
+pub returns-in_err-next-clause-cost : goal.returns-in_err-next-clause-cost
+returns-in_err-next-clause-cost g c = cost_more c.args.steps.now c.loop-past.steps c.make_round.new.steps (2 * as_count c.args.graph.now * length (prefixes_of c.args.plan.now)) c.loop-past.past c.args.rounds c.loop-past.invariant.cost c.make_round.ensures.cost (omega arith)
+
+pub returns-in-Err-clause-cost : goal.returns-in-Err-clause-cost
+returns-in-Err-clause-cost g c = cost_more c.args.steps.now c.loop-past.steps c.make_round.new.steps (2 * as_count c.args.graph.now * length (prefixes_of c.args.plan.now)) c.loop-past.past c.args.rounds c.loop-past.invariant.cost c.make_round.ensures.cost (omega arith)
+
 pub loop-past-preserved : goal.loop-past-preserved
 loop-past-preserved g c =
     let at = λ (p : PrefixValue). setting g.P.RoutePolicy.meaning c.args.graph.now c.args.book.now (g.V.OriginStates.state_of c.args.states.now p) in
