@@ -1,6 +1,7 @@
 -- The text of a path that is made cell by cell.
 use Rattle.std.proofs.Common.{◌≡◌, ℕ, ◌<◌, ◌≤◌, List, [], ◌∷◌, ◌++◌, length, drop, decimal, sym, ap, subst, ◌∙◌, append_assoc, append-nil, arith}
 use Rattle.std.proofs.lemmas.List.Concat.{flat_map-cons}
+use Rattle.std.specs.Prelude.{Result, Ok, Err, OnErr}
 use Rattle.net_names.specs.Numbers.{first_or}
 use Rattle.reports.specs.Growth.{Grows}
 use Rattle.reports.specs.Rows.{more_numbers}
@@ -8,6 +9,15 @@ use Rattle.reports.specs.Rows.{more_numbers}
 -- what grows twice has grown
 pub Grows-trans : (a b c : List ℕ) → Grows a b → Grows b c → Grows a c
 Grows-trans a b c g h = record { more = g.more ++ h.more; is = h.is ∙ ap (λ (x : List ℕ). x ++ h.more) g.is ∙ append_assoc a g.more h.more }
+
+-- what grows after a text has grown
+pub grown : (a b c text : List ℕ) → b ≡ a ++ text → Grows b c → Grows a c
+grown a b c text is g = Grows-trans a b c (record { more = text; is = is }) g
+
+-- so it has where there is an error
+pub grown_on : {X E : Type 0} (r : Result X E) (a b c text : List ℕ) → b ≡ a ++ text → Grows b c → OnErr r (Grows a c)
+grown_on (Ok x) a b c text is g = tt
+grown_on (Err e) a b c text is g = grown a b c text is g
 
 -- one more number of the path
 pub told_next : (xs ys : List ℕ) (first n : ℕ) (out new goal : List ℕ) → xs ≡ first ∷ ys → 0 < length ys → n ≡ first_or 0 ys → new ≡ out ++ (32 ∷ decimal n)
