@@ -1,7 +1,8 @@
 -- The text of a path that is made cell by cell.
-use Rattle.std.proofs.Common.{◌≡◌, ℕ, ◌<◌, ◌≤◌, List, [], ◌∷◌, ◌++◌, length, drop, decimal, sym, ap, subst, ◌∙◌, append_assoc, append-nil, arith}
+use Rattle.std.proofs.Common.{◌≡◌, ℕ, ◌<◌, ◌≤◌, true, List, [], ◌∷◌, ◌++◌, length, take, drop, decimal, sym, ap, subst, ◌∙◌, append_assoc, append-nil, arith}
 use Rattle.std.proofs.lemmas.List.Concat.{flat_map-cons}
-use Rattle.std.specs.Prelude.{Result, Ok, Err, OnErr}
+use Rattle.std.proofs.Math.Seq.{take-append_seam}
+use Rattle.std.specs.Prelude.{Result, Ok, Err, OnErr, is_err}
 use Rattle.net_names.specs.Numbers.{first_or}
 use Rattle.reports.specs.Growth.{Grows}
 use Rattle.reports.specs.Rows.{more_numbers}
@@ -18,6 +19,11 @@ grown a b c text is g = Grows-trans a b c (record { more = text; is = is }) g
 pub grown_on : {X E : Type 0} (r : Result X E) (a b c text : List ℕ) → b ≡ a ++ text → Grows b c → OnErr r (Grows a c)
 grown_on (Ok x) a b c text is g = tt
 grown_on (Err e) a b c text is g = grown a b c text is g
+
+-- where there was an error, what is cut back to its length is as it was
+pub cut_back : {X E : Type 0} (r : Result X E) (a b c text : List ℕ) → is_err r ≡ true → b ≡ a ++ text → OnErr r (Grows b c) → take (length a) c ≡ a
+cut_back (Ok x) a b c text e is g = cc e
+cut_back (Err x) a b c text e is g = let h = grown a b c text is g in ap (take (length a)) h.is ∙ take-append_seam a h.more
 
 -- one more number of the path
 pub told_next : (xs ys : List ℕ) (first n : ℕ) (out new goal : List ℕ) → xs ≡ first ∷ ys → 0 < length ys → n ≡ first_or 0 ys → new ≡ out ++ (32 ∷ decimal n)
