@@ -1,3 +1,4 @@
+pub mod Keeping
 pub mod Appending
 pub mod FileLemmas
 pub mod RoomLemmas
