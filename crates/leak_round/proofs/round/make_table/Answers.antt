@@ -11,6 +11,9 @@ pub propagate-requires-clause-seeds : goal.propagate-requires-clause-seeds
 propagate-requires-clause-seeds g c =
     seeds_live c.args.pool.now c.args.plan.now c.args.announced.now c.args.earlier.now c.args.round c.args.prefix c.requires.announced c.requires.earlier c.requires.round c.in_ok-seeds.seeds c.leak_all.new.seeds c.in_ok-seeds.ensures c.in_ok-leak_all.ensures
 
+pub propagate-requires-clause-counts : goal.propagate-requires-clause-counts
+propagate-requires-clause-counts g c = λ k. omega (arith, c.requires.room.counts k)
+
 pub propagate-requires-clause-room : goal.propagate-requires-clause-room
 propagate-requires-clause-room g c = omega (arith, c.requires.room.cells, c.as_count-count.ensures.few)
 
@@ -32,3 +35,9 @@ returns-in-Ok-clause-grows g c =
       counts = λ k. omega (arith, h.counts k, few);
       limit = c.in-Ok.ensures.limit;
     }
+
+pub returns-in-Ok-clause-keeps : goal.returns-in-Ok-clause-keeps
+returns-in-Ok-clause-keeps g c = record { live = c.in-Ok.ensures.kept.live; lists = c.in-Ok.ensures.kept.lists }
+
+pub returns-in-Ok-clause-holds : goal.returns-in-Ok-clause-holds
+returns-in-Ok-clause-holds g c = c.in-Ok.ensures.holds

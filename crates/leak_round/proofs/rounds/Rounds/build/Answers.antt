@@ -1,13 +1,21 @@
-use Rattle.std.proofs.Common.{◌-◌, ◌≤◌, arith, ◌∙◌}
+use Rattle.std.proofs.Common.{◌-◌, ◌≤◌, arith, sym, subst, ◌∙◌}
 use Rattle.net_names.specs.Prefixes.{PrefixValue}
 use Rattle.path_pool.specs.Pool.{live_count}
+use Rattle.leak_round.specs.Announced.{AreAnnounced}
 use Rattle.leak_round.specs.Entries.{of_rounds}
 use Rattle.leak_round.specs.Limits.{numbers_of}
 use Rattle.leak_round.specs.Tables.{kept_in}
-use Rattle.leak_round.proofs.Built.{all_room}
+use Rattle.leak_round.proofs.Built.{all_announced, all_room}
 use Rattle.leak_round.proofs.Counting.{fewer_entries}
+use Rattle.leak_round.proofs.Keeping.{announced_kept}
 use Rattle.leak_round.proofs.Numbers.{numbers_counted}
 use Rattle.leak_round.proofs.rounds.Rounds.build.Goals as goal
+
+pub make_rounds-requires-clause-announced : goal.make_rounds-requires-clause-announced
+make_rounds-requires-clause-announced g c =
+    let plan = c.args.plan in
+    let pool = c.announce_all.new.pool in
+    subst (AreAnnounced pool plan) (sym c.deref.ensures.value) (all_announced pool plan c.in_ok-announced.announced.items c.in_ok-announced.ensures.so_far c.in_ok-announced.ensures.whole)
 
 pub make_rounds-requires-clause-room : goal.make_rounds-requires-clause-room
 make_rounds-requires-clause-room g c =
@@ -26,3 +34,14 @@ returns-clause-cells g c =
     let counted = numbers_counted plan in
     let few : live_count c.announce_all.new.pool ≤ numbers_of plan = omega (arith, counted, c.in_ok-announced.ensures.cells, c.new-pool.ensures.live) in
     fewer_entries (of_rounds (kept_in c.make_rounds.new.pool c.in_ok-tables.tables.items)) (live_count c.make_rounds.new.pool - numbers_of plan) (live_count c.make_rounds.new.pool - live_count c.announce_all.new.pool) c.in_ok-tables.ensures.cells (omega (arith, few))
+
+pub invariant_of-result : goal.invariant_of-result
+invariant_of-result g c =
+    let plan = c.args.plan in
+    let pool = c.announce_all.new.pool in
+    let xs = c.in_ok-announced.announced.items in
+    record {
+      announcements = announced_kept pool c.make_rounds.new.pool c.in_ok-tables.ensures.keeps plan xs (all_announced pool plan xs c.in_ok-announced.ensures.so_far c.in_ok-announced.ensures.whole);
+      full = c.in_ok-tables.ensures.full;
+      held = λ k. omega (arith, c.in_ok-tables.ensures.holds k, c.in_ok-announced.ensures.so_far.holds k);
+    }
