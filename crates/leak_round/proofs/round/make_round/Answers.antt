@@ -11,9 +11,12 @@ use Rattle.route_choice.specs.RoundTables.{table_at, PutsTable}
 use Rattle.route_choice.specs.Routings.{table_routing}
 use Rattle.leak_round.specs.Tables.{kept_in}
 use Rattle.leak_round.proofs.Listing.{cost_more}
-use Rattle.leak_round.proofs.Keeping.{rounds_full_kept, all_kept, room_left}
+use Rattle.leak_round.proofs.Keeping.{announced_kept, rounds_full_kept, all_kept, room_left}
 use Rattle.leak_round.proofs.Rounding.{none_yet, round_more, round_full, round_stable}
 use Rattle.leak_round.proofs.round.make_round.Goals as goal
+
+pub make_table-requires-clause-announced : goal.make_table-requires-clause-announced
+make_table-requires-clause-announced g c = announced_kept c.args.pool.now c.prefixes.pool c.prefixes.invariant.so_far.keeps c.args.plan.now c.args.announced.now c.requires.announced
 
 pub make_table-requires-clause-earlier : goal.make_table-requires-clause-earlier
 make_table-requires-clause-earlier g c = rounds_full_kept c.args.pool.now c.prefixes.pool c.prefixes.invariant.so_far.keeps c.args.plan.now c.args.earlier.now c.requires.earlier
@@ -72,3 +75,18 @@ pub returns-clause-full : goal.returns-clause-full
 returns-clause-full g c =
     let at = λ (p : PrefixValue). setting g.P.RoutePolicy.meaning c.args.graph.now c.args.book.now (g.V.OriginStates.state_of c.args.states.now p) in
     round_full at c.args.plan.now c.args.round (kept_in c.args.pool.now c.args.earlier.now (length c.args.earlier.now)) c.args.pool.now c.prefixes.pool c.prefixes.tables c.prefixes.place c.prefixes.invariant.so_far c.prefix_at.ensures.listed (sym c.prefix_at.ensures.value ∙ c.in_default.is)
+
+pub returns-clause-holds : goal.returns-clause-holds
+returns-clause-holds g c = c.prefixes.invariant.so_far.holds
+
+pub returns-clause-cells : goal.returns-clause-cells
+returns-clause-cells g c = c.prefixes.invariant.so_far.cells
+
+pub returns-clause-keeps : goal.returns-clause-keeps
+returns-clause-keeps g c = c.prefixes.invariant.so_far.keeps
+
+pub returns-clause-grows : goal.returns-clause-grows
+returns-clause-grows g c =
+    let h = c.prefixes.invariant.so_far.grows in
+    let few = c.prefixes.invariant.within in
+    record { cells = omega (arith, h.cells, few); counts = λ k. omega (arith, h.counts k, few); limit = h.limit }
