@@ -47,6 +47,7 @@ fn a_path_is_read_from_its_head(rt: HostRuntime) -> Result<(), Fail> {
     let path = pool.cons(two, Some(end));
     pool.hold(path);
     assert_eq!(rt; pool.head(path), two);
+    assert_eq!(rt; (pool.last(path), pool.last(end)), (four, four));
     assert_eq!(rt; pool.tail(path), Some(end));
     assert_eq!(rt; pool.tail(end), None);
     assert_eq!(rt; pool.length(path), 2);
