@@ -1,4 +1,5 @@
-use Rattle.std.proofs.Common.{◌≡◌, ℕ, suc, ◌+◌, ◌*◌, ◌++◌, ◌∷◌, [], List, length, sym, ap, subst, ◌∙◌, arith}
+use Rattle.std.proofs.Common.{◌≡◌, ℕ, suc, ◌+◌, ◌*◌, ◌≤◌, ◌++◌, ◌∷◌, [], List, length, sym, ap, subst, ◌∙◌, arith}
+use Rattle.std.proofs.Math.Nat.{mul-le-mul_right}
 use Rattle.std.proofs.lemmas.List.{length-append}
 use Rattle.as_graph.specs.Topology.{as_count}
 use Rattle.net_names.specs.Prefixes.{PrefixValue}
@@ -8,9 +9,19 @@ use Rattle.route_choice.specs.declared.round_tables.RoundTables.{RoundTables}
 use Rattle.route_choice.specs.RoundTables.{round_routing}
 use Rattle.leak_round.specs.Tables.{kept_in, IsRound}
 use Rattle.leak_round.proofs.Listing.{cost_more}
-use Rattle.leak_round.proofs.Keeping.{grows_on}
+use Rattle.leak_round.proofs.Keeping.{announced_kept, room_left, grows_on}
 use Rattle.leak_round.proofs.AllRounds.{AreRoundsSoFar, rounds_more}
 use Rattle.leak_round.proofs.rounds.make_rounds.Goals as goal
+
+pub make_round-requires-clause-announced : goal.make_round-requires-clause-announced
+make_round-requires-clause-announced g c = announced_kept c.args.pool.now c.loop-past.pool c.loop-past.invariant.so_far.keeps c.args.plan.now c.args.announced.now c.requires.announced
+
+pub make_round-requires-clause-room : goal.make_round-requires-clause-room
+make_round-requires-clause-room g c =
+    let size = length (prefixes_of c.args.plan.now) in
+    let next : c.loop-past.past + 1 ≤ c.args.rounds = omega arith in
+    let within : (c.loop-past.past + 1) * size ≤ c.args.rounds * size = mul-le-mul_right size next in
+    room_left c.args.pool.now c.loop-past.pool (c.loop-past.past * size) size (c.args.rounds * size) c.loop-past.invariant.grows c.requires.room (omega (arith, within))
 
 -- the cost stays within the bound of all rounds where a round has ended, also with an error
 pub returns-in_err-next-clause-cost : goal.returns-in_err-next-clause-cost
@@ -42,3 +53,15 @@ loop-past-preserved g c =
       grows = grows_on first c.loop-past.pool next (150000 * (c.loop-past.past * size)) (150000 * size) (150000 * ((c.loop-past.past + 1) * size)) old.grows now.grows (omega arith);
       cost = cost_more c.args.steps.now c.loop-past.steps c.make_round.new.steps (2 * as_count c.args.graph.now * size) c.loop-past.past (c.loop-past.past + 1) old.cost c.make_round.ensures.cost (omega arith);
     }
+
+pub returns-clause-full : goal.returns-clause-full
+returns-clause-full g c = c.loop-past.invariant.so_far.full
+
+pub returns-clause-holds : goal.returns-clause-holds
+returns-clause-holds g c = c.loop-past.invariant.so_far.holds
+
+pub returns-clause-cells : goal.returns-clause-cells
+returns-clause-cells g c = c.loop-past.invariant.so_far.cells
+
+pub returns-clause-keeps : goal.returns-clause-keeps
+returns-clause-keeps g c = c.loop-past.invariant.so_far.keeps
