@@ -1,39 +1,63 @@
 //! Paths in a pool, worked by hand.
+ghost use Rattle.path_pool.specs.Pool.{IsLive};
+
 use super::worlds::number;
-use path_pool::{PathPool, PoolError};
+use net_names::Asn;
+use path_pool::{PathId, PathPool, PoolError};
+use std::alloc::Global;
+use std::process::Abort;
 use std::test::Fail;
+
+// The path has these numbers when it is copied out.
+fn expect_path(
+    rt: &impl Abort,
+    alloc: Global,
+    pool: &PathPool,
+    id: PathId,
+    expected: &[Asn],
+) -> Result<(), Fail>
+    requires { IsLive pool.now id.0 }
+{
+    let path = pool.copy_out(alloc, id)?;
+    assert_eq!(rt; path.as_slice(), expected);
+    Ok(())
+}
 
 #[test]
 fn paths_share_their_ends_and_give_them_back(rt: HostRuntime) -> Result<(), Fail> {
     let (two, three, four) = (number(2)?, number(3)?, number(4)?);
     let mut pool = PathPool::new(rt.alloc(), 3);
-    assert_eq!(rt;
-        pool.reserve(4),
-        Err(PoolError::Full {
-            live: 0,
-            asked: 4,
-            limit: 3
-        })
-    );
     pool.reserve(3)?;
     let a = pool.cons(four, None);
     let b = pool.cons(two, Some(a));
     let c = pool.cons(three, Some(a));
     assert_eq!(rt; pool.live(), 3);
-    assert_eq!(rt;
-        pool.reserve(1),
-        Err(PoolError::Full {
-            live: 3,
-            asked: 1,
-            limit: 3
-        })
-    );
-    let path = pool.copy_out(rt.alloc(), b)?;
-    assert_eq!(rt; path.as_slice(), [two, four].as_slice());
+    expect_path(&rt, rt.alloc(), &pool, b, &[two, four])?;
     assert_eq!(rt; pool.release(a), 0);
     assert_eq!(rt; pool.release(b), 1);
     assert_eq!(rt; pool.release(c), 2);
     assert_eq!(rt; pool.live(), 0);
+    Ok(())
+}
+
+#[test]
+fn cells_past_the_limit_are_refused(rt: HostRuntime) -> Result<(), Fail> {
+    let four = number(4)?;
+    let mut pool = PathPool::new(rt.alloc(), 3);
+    let none = PoolError::Full {
+        live: 0,
+        asked: 4,
+        limit: 3,
+    };
+    assert_eq!(rt; pool.reserve(4), Err(none));
+    pool.reserve(3)?;
+    let _ = pool.cons(four, None);
+    let one = PoolError::Full {
+        live: 1,
+        asked: 3,
+        limit: 3,
+    };
+    assert_eq!(rt; pool.reserve(3), Err(one));
     Ok(())
 }
 
@@ -46,16 +70,11 @@ fn a_path_is_read_from_its_head(rt: HostRuntime) -> Result<(), Fail> {
     let end = pool.cons(four, None);
     let path = pool.cons(two, Some(end));
     pool.hold(path);
-    assert_eq!(rt; pool.head(path), two);
-    assert_eq!(rt; (pool.last(path), pool.last(end)), (four, four));
-    assert_eq!(rt; pool.tail(path), Some(end));
-    assert_eq!(rt; pool.tail(end), None);
-    assert_eq!(rt; pool.length(path), 2);
-    assert_eq!(rt;
-        (pool.contains(path, four), pool.contains(end, two)),
-        (true, false)
-    );
-    assert_eq!(rt; (pool.count(path), pool.count(end)), (2, 2));
+    assert!(rt; pool.head(path) == two && pool.length(path) == 2);
+    assert!(rt; pool.last(path) == four && pool.last(end) == four);
+    assert!(rt; pool.tail(path) == Some(end) && pool.tail(end).is_none());
+    assert!(rt; pool.contains(path, four) && !pool.contains(end, two));
+    assert!(rt; pool.count(path) == 2 && pool.count(end) == 2);
     Ok(())
 }
 
@@ -65,12 +84,10 @@ fn a_path_that_is_copied_in_goes_with_its_one_hold(rt: HostRuntime) -> Result<()
     let mut pool = PathPool::new(rt.alloc(), 3);
     pool.reserve(3)?;
     let path = pool.copy_in(&[two, four]);
-    assert_eq!(rt; (pool.live(), pool.spare()), (2, 1));
-    let copy = pool.copy_out(rt.alloc(), path)?;
-    assert_eq!(rt; copy.as_slice(), [two, four].as_slice());
+    assert!(rt; pool.live() == 2 && pool.spare() == 1);
+    expect_path(&rt, rt.alloc(), &pool, path, &[two, four])?;
     let longer = pool.lengthen(three, path);
-    let copy = pool.copy_out(rt.alloc(), longer)?;
-    assert_eq!(rt; copy.as_slice(), [three, two, four].as_slice());
+    expect_path(&rt, rt.alloc(), &pool, longer, &[three, two, four])?;
     assert_eq!(rt; pool.release(longer), 3);
     Ok(())
 }

@@ -3,7 +3,9 @@
 ghost use Rattle.std.specs.Prelude.{◌≡◌, ◌<◌, ◌≤◌, IfOk};
 ghost use Rattle.leak_round.specs.Limits.{IsWithinLimits};
 
-use super::worlds::{ACROSS, DOWN, graph_of, main_prefix, number, ranks_of, routes_text};
+use super::worlds::{
+    ACROSS, DOWN, expect_text, graph_of, main_prefix, number, ranks_of, routes_text,
+};
 use as_graph::Graph;
 use leak_round::Rounds;
 use net_names::{Asn, Path};
@@ -35,11 +37,21 @@ fn plan_of(rt: &impl Abort, alloc: Global, leakers: &[(u32, u32)]) -> Result<See
     Ok(plan)
 }
 
-// The lines of the ASes that hold a route of the prefix in a round.
-fn text(alloc: Global, graph: &Graph, rounds: &Rounds, round: u32) -> Result<Vec<u8>, Fail> {
+// The ASes that hold a route of the prefix in a round have these lines.
+fn expect_round(
+    rt: &impl Abort,
+    alloc: Global,
+    graph: &Graph,
+    rounds: &Rounds,
+    round: u32,
+    expected: &[u8],
+) -> Result<(), Fail> {
+    let prefix = main_prefix()?;
     let tables = rounds.round(round).ok_or("a round")?;
-    let table = tables.table(main_prefix()?).ok_or("a table")?;
-    routes_text(alloc, graph, rounds.pool(), table)
+    let table = tables.table(prefix).ok_or("a table")?;
+    let text = routes_text(alloc, graph, rounds.pool(), table)?;
+    expect_text(rt, text.as_slice(), expected);
+    Ok(())
 }
 
 // The rounds over these links in which these ASes leak.
@@ -72,12 +84,10 @@ fn a_provider_route_leaks_in_the_rounds_of_its_leaker(rt: HostRuntime) -> Result
     let rounds = rounds_of::<Brand>(&rt, rt.alloc(), &graph, &[(2, 3), (4, 3)], 4, Blank::new(1))?;
     let plain = b"1 customer 1 5\n2 peer 2 1 5\n3 provider 3 1 5\n5 origin 5\n".as_slice();
     let leaked = b"1 customer 1 5\n2 customer 2 3 1 5\n3 origin 3 1 5\n5 origin 5\n".as_slice();
-    assert!(rt; text(rt.alloc(), &graph, &rounds, 1)?.as_slice() == plain);
-    assert!(rt; text(rt.alloc(), &graph, &rounds, 2)?.as_slice() == leaked);
-    assert!(rt; text(rt.alloc(), &graph, &rounds, 3)?.as_slice() == plain);
-    assert!(rt; text(rt.alloc(), &graph, &rounds, 4)?.as_slice() == leaked);
-    assert!(rt; rounds.round(0).is_none());
-    assert!(rt; rounds.round(5).is_none());
+    for (round, expected) in [(1, plain), (2, leaked), (3, plain), (4, leaked)] {
+        expect_round(&rt, rt.alloc(), &graph, &rounds, round, expected)?;
+    }
+    assert!(rt; rounds.round(0).is_none() && rounds.round(5).is_none());
     assert!(rt; rounds.pool().live() <= 17);
     assert_eq!(rt; rounds.seed_plan().leaker_at(4, 0), Asn::new(3));
     Ok(())
@@ -96,10 +106,12 @@ fn two_leakers_lean_on_each_other(rt: HostRuntime) -> Result<(), Fail> {
     ];
     let graph = graph_of(&rt, rt.alloc(), &links)?;
     let rounds = rounds_of::<Brand>(&rt, rt.alloc(), &graph, &[(2, 3), (2, 4)], 2, Blank::new(1))?;
-    let text = text(rt.alloc(), &graph, &rounds, 2)?;
-    assert!(rt;
-        text.as_slice()
-            == b"1 customer 1 6 4 2 5\n2 customer 2 3 1 5\n3 origin 3 1 5\n4 origin 4 2 5\n5 origin 5\n6 customer 6 4 2 5\n".as_slice()
-    );
-    Ok(())
+    expect_round(
+        &rt,
+        rt.alloc(),
+        &graph,
+        &rounds,
+        2,
+        b"1 customer 1 6 4 2 5\n2 customer 2 3 1 5\n3 origin 3 1 5\n4 origin 4 2 5\n5 origin 5\n6 customer 6 4 2 5\n",
+    )
 }

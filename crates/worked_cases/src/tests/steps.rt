@@ -7,7 +7,7 @@ use super::worlds::{
     ACROSS, DOWN, expect_text, graph_of, main_prefix, number, prefix, routes_text,
 };
 use as_graph::Graph;
-use net_names::{Asn, Class};
+use net_names::{Asn, Class, Prefix};
 use path_pool::PathPool;
 use policy_kinds::Kind;
 use policy_laws::NoStates;
@@ -219,63 +219,84 @@ fn a_seed_is_chosen_and_nothing_where_nobody_offers(rt: HostRuntime) -> Result<(
 }
 
 #[test]
-fn changes_stand_in_the_order_put_and_are_undone(rt: HostRuntime) -> Result<(), Fail> {
-    let alloc = rt.alloc();
+fn the_seed_of_an_as_is_found(rt: HostRuntime) -> Result<(), Fail> {
     let (two, four) = (number(2)?, number(4)?);
-    let mut pool = PathPool::new(alloc, 3);
+    let mut pool = PathPool::new(rt.alloc(), 1);
+    pool.reserve(1)?;
+    let seed = SeedHeld {
+        path: pool.cons(four, None),
+        otc: Some(two),
+    };
+    let mut seeds = SeedIds::new(rt.alloc());
+    seeds.put(four, seed)?;
+    assert!(rt; seeds.get(four) == Some(seed) && seeds.get(two).is_none());
+    Ok(())
+}
+
+#[test]
+fn changes_stand_in_the_order_put_and_are_undone(rt: HostRuntime) -> Result<(), Fail> {
+    let (two, four) = (number(2)?, number(4)?);
+    let mut pool = PathPool::new(rt.alloc(), 3);
     pool.reserve(1)?;
     let held = Held {
         class: Class::Origin,
         path: pool.cons(four, None),
         otc: None,
     };
-    let mut seeds = SeedIds::new(alloc);
-    seeds.put(
-        four,
-        SeedHeld {
-            path: held.path,
-            otc: Some(two),
-        },
-    )?;
-    assert!(rt; seeds.get(four).is_some() && seeds.get(two).is_none());
-    let mut overlay = Overlay::new(alloc);
+    let mut overlay = Overlay::new(rt.alloc());
     overlay.room(2)?;
     overlay.put(four, None);
     overlay.put(four, Some(held));
     assert_eq!(rt; overlay.len(), 1);
-    assert_eq!(rt; (overlay.at(0), overlay.at(1)), (Some(four), None));
+    assert!(rt; overlay.at(0) == Some(four) && overlay.at(1).is_none());
     assert!(rt; overlay.get(four) == Some(Some(held)) && overlay.get(two).is_none());
     overlay.undo(&mut pool);
     assert_eq!(rt; pool.live(), 0);
     Ok(())
 }
 
+// The table of the prefix in which only this AS holds something, its own route.
+fn one_holds(alloc: Global, prefix: Prefix, asn: Asn, held: Held) -> Result<Table, Fail> {
+    let mut overlay = Overlay::new(alloc);
+    overlay.room(1)?;
+    overlay.put(asn, Some(held));
+    Ok(Table::from_changes(prefix, overlay))
+}
+
+fn expect_table(
+    rt: &impl Abort,
+    tables: &RoundTables,
+    prefix: Prefix,
+    asn: Asn,
+    held: Option<Held>,
+) {
+    match tables.table(prefix) {
+        None => assert!(rt; false),
+        Some(table) => assert!(rt; table.prefix() == prefix && table.get(asn) == held),
+    }
+}
+
 #[test]
 fn each_prefix_has_a_table_of_its_own(rt: HostRuntime) -> Result<(), Fail> {
-    let alloc = rt.alloc();
     let (one, other) = (main_prefix()?, prefix(b"2001:db8::/32")?);
     let four = number(4)?;
-    let mut pool = PathPool::new(alloc, 3);
+    let mut pool = PathPool::new(rt.alloc(), 1);
     pool.reserve(1)?;
     let held = Held {
         class: Class::Origin,
         path: pool.cons(four, None),
         otc: None,
     };
-    let mut overlay = Overlay::new(alloc);
-    overlay.room(1)?;
-    overlay.put(four, Some(held));
-    let mut tables = RoundTables::new(alloc);
-    tables.push(Table::new(alloc, one))?;
+    let changed = one_holds(rt.alloc(), other, four, held)?;
+    let mut tables = RoundTables::new(rt.alloc());
+    tables.push(Table::new(rt.alloc(), one))?;
     assert!(rt; tables.table(other).is_none());
-    tables.push(Table::new(alloc, other))?;
-    let Some(table) = tables.table_mut(other) else {
-        return Err("a table".into());
-    };
-    *table = Table::from_changes(other, overlay);
-    let table = tables.table(other).ok_or("the changed table")?;
-    assert!(rt; table.prefix() == other && table.get(four) == Some(held));
-    let table = tables.table(one).ok_or("the table that stays")?;
-    assert!(rt; table.prefix() == one && table.get(four).is_none());
+    tables.push(Table::new(rt.alloc(), other))?;
+    match tables.table_mut(other) {
+        None => assert!(rt; false),
+        Some(table) => *table = changed,
+    }
+    expect_table(&rt, &tables, other, four, Some(held));
+    expect_table(&rt, &tables, one, four, None);
     Ok(())
 }

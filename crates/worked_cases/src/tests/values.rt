@@ -1,8 +1,9 @@
 //! Ranges of numbers, addresses and payloads, what prefixes cover and hold, paths and links.
-use super::worlds::{number, payload, prefix};
+use super::worlds::{Row, number, payload, prefix};
 use net_names::{
     Addr, Asn, Family, Link, Links, Path, Rel, Vrp, covers, holds, read_addr, read_prefix,
 };
+use std::process::Abort;
 use std::test::Fail;
 
 #[test]
@@ -75,24 +76,30 @@ fn link(lo: u32, hi: u32, rel: Rel) -> Option<Link> {
     })
 }
 
+// Sets the link, which is then seen from both ends.
+fn set(rt: &impl Abort, links: &mut Links, row: Row) -> Result<(), Fail> {
+    let (a, b) = (number(row.0)?, number(row.1)?);
+    assert!(rt; a != b);
+    links.set(a, b, row.2)?;
+    assert_eq!(rt; links.get(a, b), Some(row.2));
+    assert_eq!(rt; links.get(b, a), Some(row.2.converse()));
+    Ok(())
+}
+
 #[test]
 fn links_stand_in_rising_order_and_are_seen_from_both_ends(rt: HostRuntime) -> Result<(), Fail> {
+    let (one, four) = (number(1)?, number(4)?);
     let mut links = Links::new(rt.alloc());
     assert!(rt; links.is_empty());
-    for (a, b, rel) in [
+    for row in [
         (1, 2, Rel::Peer),
         (1, 3, Rel::Customer),
         (4, 3, Rel::Provider),
         (3, 2, Rel::Peer),
         (2, 1, Rel::Provider),
     ] {
-        let (a, b) = (number(a)?, number(b)?);
-        assert!(rt; a != b);
-        links.set(a, b, rel)?;
-        assert_eq!(rt; links.get(a, b), Some(rel));
-        assert_eq!(rt; links.get(b, a), Some(rel.converse()));
+        set(&rt, &mut links, row)?;
     }
-    assert_eq!(rt; links.len(), 4);
     for (place, link) in [
         (0, link(1, 2, Rel::Customer)),
         (1, link(1, 3, Rel::Customer)),
@@ -102,7 +109,8 @@ fn links_stand_in_rising_order_and_are_seen_from_both_ends(rt: HostRuntime) -> R
     ] {
         assert!(rt; links.at(place) == link);
     }
-    assert!(rt; links.get(number(1)?, number(4)?).is_none());
-    assert!(rt; links.get(number(1)?, number(1)?).is_none());
+    assert!(rt;
+        links.len() == 4 && links.get(one, four).is_none() && links.get(one, one).is_none()
+    );
     Ok(())
 }
