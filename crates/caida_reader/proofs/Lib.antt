@@ -1,4 +1,5 @@
 pub mod Cutting
+pub mod DigitLemmas
 pub mod PairLemmas
 pub mod MarkLemmas
 pub mod RunLemmas

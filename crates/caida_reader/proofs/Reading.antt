@@ -6,7 +6,9 @@ use Rattle.caida_reader.specs.Lines.{IsOneLine}
 use Rattle.caida_reader.specs.Says.{says}
 use Rattle.caida_reader.specs.Value.{FirstMap, said_in, fault_at, unless, links_of}
 use Rattle.caida_reader.specs.Firsts.{with_said, relations, Judges}
-use Rattle.caida_reader.specs.Progress.{Progress, outcome, value_from, Gives, Fails, UnlessMemory, joined}
+use Rattle.caida_reader.specs.Progress.{Progress, outcome, value_from, EndsLine, Gives, Fails, UnlessMemory, joined}
+use Rattle.caida_reader.specs.Plain.{BeginsWithLine}
+use Rattle.caida_reader.specs.declared.line.Said.{Said}
 use Rattle.caida_reader.specs.declared.errors.RelError.{RelError}
 use Rattle.caida_reader.specs.declared.errors.RelError.TheVariants as fault
 use Rattle.caida_reader.proofs.Cutting.{lines-ended, lines-last}
@@ -59,6 +61,19 @@ line_ended p new end rest failed r goes one judges empty is = rw (empty, is) (fo
     ∙ ap (λ text. value_from p.table p.line (said_in text)) (append_assoc p.rest end (10 ∷ more))
     ∙ ap (λ f. unless f (value_from p.table p.line (said_in (p.rest ++ (end ++ 10 ∷ more))))) (sym goes))
     (judged p.table new p.line (p.rest ++ end) (λ table. value_from table (p.line + 1) (said_in more)) r judges)))
+
+-- the same of a line that lies whole in a text
+pub whole_line_ended : (p : Progress) (new : FirstMap) (text rest : List ℕ) (said : Said) (failed : Option RelError) (r : Result (Unit {0}) RelError) → p.failed ≡ None → p.rest ≡ []
+    → BeginsWithLine text said rest → Judges p.table new p.line said r → failed ≡ result_err r → EndsLine p (record { table = new; line = p.line + 1; rest = p.rest; failed = failed }) text rest
+whole_line_ended p new text rest said failed r goes empty begins judges is =
+    let here : begins.line ≡ p.rest ++ begins.line = sym (ap (λ l. l ++ begins.line) empty) in
+    record {
+      line = begins.line;
+      whole = begins.whole;
+      goes_on = line_ended p new begins.line p.rest failed r goes (subst IsOneLine here begins.one_line)
+          (subst (λ s. Judges p.table new p.line s r) (begins.value ∙ ap says here) judges) empty is;
+      number = refl;
+    }
 
 -- a fault that is known is what the file comes to
 known : (e : RelError) (value : Result LinkMap RelError) → UnlessMemory (Some e) (Err e ≡ value) → Fails e value

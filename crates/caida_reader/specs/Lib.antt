@@ -2,6 +2,7 @@ pub mod Lines
 pub mod Says
 pub mod Value
 pub mod Firsts
+pub mod Plain
 pub mod Marks
 pub mod Runs
 pub mod Progress

@@ -25,6 +25,18 @@ value_from before line (said ∷ more) = unless (fault_at before line said) (val
 abbrev pub outcome : Progress → List ℕ → Result LinkMap RelError
 outcome p more = unless p.failed (value_from p.table p.line (said_in (p.rest ++ more)))
 
+-- The fact holds, unless memory ran out (own rule).
+abbrev pub UnlessMemory : Option RelError → Type 0 → Type 0
+UnlessMemory (Some fault.Memory) fact = Unit {0}
+UnlessMemory _ fact = fact
+
+-- The first line of the text is judged, and this stands behind its line feed: whatever follows, the file goes on from here (own rule).
+pub record EndsLine (old new : Progress) (text rest : List ℕ) : Type 0 where
+  pub line : List ℕ
+  pub whole : text ≡ line ++ 10 ∷ rest
+  pub goes_on : UnlessMemory new.failed ((more : List ℕ) → outcome new more ≡ outcome old (line ++ 10 ∷ more))
+  pub number : new.line ≡ old.line + 1
+
 -- The file comes to this fault, unless it is want of memory (own rule).
 abbrev pub Fails : RelError → Result LinkMap RelError → Type 0
 Fails fault.Memory value = Unit {0}
@@ -34,11 +46,6 @@ Fails e value = value ≡ Err e
 abbrev pub Gives : {T : Type 0} → (T → LinkMap) → Result T RelError → Result LinkMap RelError → Type 0
 Gives view (Ok x) value = value ≡ Ok (view x)
 Gives view (Err e) value = Fails e value
-
--- The fact holds, unless memory ran out (own rule).
-abbrev pub UnlessMemory : Option RelError → Type 0 → Type 0
-UnlessMemory (Some fault.Memory) fact = Unit {0}
-UnlessMemory _ fact = fact
 
 -- The bytes of pieces, one after the other (own rule).
 abbrev pub joined : List (Vec ℕ Global) → List ℕ

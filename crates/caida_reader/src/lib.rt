@@ -7,6 +7,7 @@
 //! ([`links_are_those_given`]).
 #![tactic(auto)]
 
+mod digits;
 mod errors;
 mod firsts;
 mod laws;

@@ -1,8 +1,11 @@
 // One line of a relationship file.
-ghost use Rattle.std.specs.Prelude.{◌≡◌, ◌∷◌, ℕ, List};
+ghost use Rattle.std.specs.Prelude.{◌≡◌, ◌∷◌, ◌≤◌, ℕ, List, Some, IfSome};
 ghost use Rattle.net_names.specs.Texts.{fields};
-ghost use Rattle.caida_reader.specs.Says.{rel_of, link, said_by, says, IsRising};
+ghost use Rattle.caida_reader.specs.Lines.{without_cr};
+ghost use Rattle.caida_reader.specs.Plain.{BeginsWithLine};
+ghost use Rattle.caida_reader.specs.Says.{rel_of, link, link_of, said_by, says, IsRising};
 
+use crate::digits::read_asn_field;
 use net_names::{Asn, Rel, cut, read_asn};
 
 /// What a line says: nothing where it is skipped, and else a link, unless it is faulty by itself.
@@ -42,6 +45,22 @@ fn make_link(a: Asn, b: Asn, rel: Rel) -> Said
     }
 }
 
+// The link of two numbers, of which the second is this to the first, where it is known what.
+fn make_said(a: u32, b: u32, rel: Option<Rel>) -> Said
+    requires first { 1 ≤ a }
+    requires second { 1 ≤ b }
+    ensures value { result ≡ link_of (Some a) (Some b) rel }
+    ensures rising { IsRising result }
+{
+    let Some(rel) = rel else {
+        return Said::Unreadable;
+    };
+    let (Some(a), Some(b)) = (Asn::new(a), Asn::new(b)) else {
+        unreachable!();
+    };
+    make_link(a, b, rel)
+}
+
 // The field before the first `|`, or the whole text where there is none.
 #[tactic(auto, using(crate::proofs::Cutting::cutting))]
 fn first_field(text: &[u8]) -> &[u8]
@@ -74,17 +93,37 @@ fn read_fields(text: &[u8]) -> Said
     }
 }
 
+// A line without a carriage return at its end.
+fn strip_cr(line: &[u8]) -> &[u8]
+    ensures { result.now ≡ without_cr line.now }
+{
+    match line {
+        [front @ .., b'\r'] => front,
+        _ => line,
+    }
+}
+
 /// What a line says.
 pub(crate) fn read_line(line: &[u8]) -> Said
     ensures value { result ≡ says line.now }
     ensures rising { IsRising result }
 {
-    let text = match line {
-        [front @ .., b'\r'] => front,
-        _ => line,
-    };
+    let text = strip_cr(line);
     match text {
         [] | [b'#', ..] => Said::Nothing,
         _ => read_fields(text),
     }
+}
+
+/// What the first line of a text says, and what stands behind its line feed. `None` where the line doesn't begin with two AS
+/// numbers, and where no line feed ends it.
+pub(crate) fn read_first_link(text: &[u8]) -> Option<(Said, &[u8])>
+    ensures line { IfSome result (λ p. BeginsWithLine text.now p.0 p.1.now) }
+    ensures rising { IfSome result (λ p. IsRising p.0) }
+{
+    let (first, one) = read_asn_field(text)?;
+    let (second, two) = read_asn_field(one)?;
+    let (end, rest) = cut(two, b'\n')?;
+    let rel = read_rel(first_field(strip_cr(end)));
+    Some((make_said(first, second, rel), rest))
 }

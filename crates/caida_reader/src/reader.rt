@@ -1,14 +1,14 @@
 // A relationship file, read in pieces.
-ghost use Rattle.std.specs.Prelude.{◌≡◌, ◌+◌, ◌<◌, ◌≤◌, ◌^◌, ◌++◌, ◌∷◌, [], ℕ, List, None, length, IfErr, IfSome, OnOk};
+ghost use Rattle.std.specs.Prelude.{◌≡◌, ◌+◌, ◌<◌, ◌≤◌, ◌^◌, ◌++◌, ◌∷◌, [], ℕ, List, None, length, IfErr, IfSome, IfNone, OnOk};
 ghost use Rattle.caida_reader.specs.Lines.{IsOneLine};
 ghost use Rattle.caida_reader.specs.Says.{says, IsRising};
 ghost use Rattle.caida_reader.specs.Value.{links_of};
 ghost use Rattle.caida_reader.specs.Firsts.{Judges};
-ghost use Rattle.caida_reader.specs.Progress.{outcome, Gives, Fails, UnlessMemory, joined};
+ghost use Rattle.caida_reader.specs.Progress.{outcome, EndsLine, Gives, Fails, UnlessMemory, joined};
 
 use crate::RelError;
 use crate::firsts::Firsts;
-use crate::line::{Said, read_line};
+use crate::line::{Said, read_first_link, read_line};
 use net_names::{Links, cut};
 use std::alloc::Global;
 use std::marker::Model;
@@ -101,6 +101,28 @@ impl Reader {
         self.line += 1;
     }
 
+    // Judges the first line of a text, where a line feed ends it, and gives what stands behind that.
+    fn end_first<'a>(&mut self, text: &'a [u8]) -> Option<&'a [u8]>
+        requires goes { self.old.failed ≡ None }
+        requires numbers { self.old.line + length text.now < 2 ^ 64 }
+        ensures some { IfSome result (λ rest. EndsLine self.old self.new text.now rest.now) }
+        ensures none { IfNone result (IsOneLine text.now × (self.new ≡ self.old)) }
+    {
+        if self.rest.is_empty() {
+            match read_first_link(text) {
+                Some(first) => {
+                    self.failed = self.table.judge(self.line, first.0).err();
+                    self.line += 1;
+                    return Some(first.1);
+                }
+                None => {}
+            }
+        }
+        let (line, rest) = cut(text, b'\n')?;
+        self.end_line(line);
+        Some(rest)
+    }
+
     /// Takes the next piece, and judges each line that a line feed has ended.
     ///
     /// The error is the first fault of the first faulty line. After any error the reader answers that error to every later
@@ -126,8 +148,7 @@ impl Reader {
             None => {}
         }
         let mut left = piece;
-        'lines: while let Some((line, rest)) = cut(left, b'\n') {
-            self.end_line(line);
+        'lines: while let Some(rest) = self.end_first(left) {
             match self.failed {
                 Some(error) => return Err(error),
                 None => {}
