@@ -1,7 +1,12 @@
-mod Places
+pub mod Places
 mod Descents
-mod Walking
-mod Neighbours
-mod Looking
 mod Turning
-mod Ranked
+mod Falling
+pub mod Listing
+mod Tallies
+mod Stages
+mod Regions
+mod Ways
+mod Carrying
+mod Filling
+mod Told

@@ -7,7 +7,7 @@ use Rattle.net_names.specs.declared.routes.Rel.{Rel}
 use Rattle.net_names.specs.declared.routes.Rel.TheVariants.{Customer}
 use Rattle.net_names.specs.Numbers.{occurs, IsDistinct, first_or, last_or}
 use Rattle.as_graph.specs.Hierarchy.{IsDescent, IsProviderCycle}
-use Rattle.cycle_check.specs.Marks.{place_in}
+use Rattle.cycle_check.specs.Places.{place_in}
 use Rattle.cycle_check.specs.Cycles.{IsCycleFromLowest, IsTurned}
 use Rattle.cycle_check.proofs.Descents.{distinct_push, last_or_push, descent_push}
 

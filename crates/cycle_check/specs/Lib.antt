@@ -1,5 +1,8 @@
+pub mod Places
+pub mod Rows
+pub mod Stages
+pub mod Ways
 pub mod Cycles
+pub mod Counting
+pub mod Providers
 pub mod Rankings
-pub mod Marks
-pub mod Looks
-pub mod Walks

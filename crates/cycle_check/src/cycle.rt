@@ -1,13 +1,6 @@
-//! A provider cycle, told from its lowest number on.
-ghost use Rattle.std.specs.Prelude.{◌≡◌, ℕ, ◌<◌, ◌≤◌, ◌++◌, true, length, drop, IfOk, OnOk};
-ghost use Rattle.std.specs.List.{IsFirstBest};
-ghost use Rattle.std.specs.Prelude.{nat_lt};
-ghost use Rattle.net_names.specs.Numbers.{occurs};
-ghost use Rattle.cycle_check.specs.Marks.{place_in};
-ghost use Rattle.cycle_check.specs.Walks.{asns_of};
-ghost use Rattle.cycle_check.specs.Cycles.{IsTurned};
+//! A provider cycle.
+ghost use Rattle.std.specs.Prelude.{◌≡◌, ℕ, ◌<◌, length, map, slice_index, IfOk};
 
-use crate::walk::Visit;
 use net_names::{Asn, NoMemory};
 use std::alloc::Global;
 use std::marker::Model;
@@ -36,70 +29,17 @@ impl Cycle {
     }
 }
 
-// The place of the first lowest number.
-fn lowest_place(numbers: &[Asn]) -> usize
-    requires { 0 < length numbers.now }
-    ensures { IsFirstBest nat_lt numbers.now (length numbers.now) result }
+/// The ASes at the places of a cycle.
+pub fn cycle_at(alloc: Global, ases: &[Asn], places: &[u32]) -> Result<Cycle, NoMemory>
+    requires { (k : ℕ) → k < length places.now → slice_index places.now k < length ases.now }
+    ensures { IfOk result (λ c. c ≡ map (slice_index ases.now) places.now) }
 {
-    let mut best = 0;
-    for place in 1..numbers.len() {
-        if numbers[place].get() < numbers[best].get() {
-            best = place;
+    let mut numbers = Vec::new(alloc);
+    for place in places {
+        match numbers.push(ases[*place as usize]) {
+            Ok(()) => {}
+            Err(_) => return Err(NoMemory),
         }
     }
-    best
-}
-
-// The list turned so that it begins with its lowest number.
-fn turned(alloc: Global, numbers: &[Asn]) -> Result<Cycle, NoMemory>
-    requires { 0 < length numbers.now }
-    ensures { IfOk result (IsTurned numbers.now) }
-{
-    let place = lowest_place(numbers);
-    let mut turned = Vec::new(alloc);
-    append(&mut turned, &numbers[place..])?;
-    append(&mut turned, &numbers[..place])?;
-    Ok(Cycle { numbers: turned })
-}
-
-fn append(list: &mut Vec<Asn>, more: &[Asn]) -> Result<(), NoMemory>
-    ensures { OnOk result (list.new.items ≡ list.old.items ++ more.now) }
-{
-    match list.extend_from_slice(more) {
-        Ok(()) => Ok(()),
-        Err(_) => Err(NoMemory),
-    }
-}
-
-// The first place of a number in a list, or the list's length where it isn't there.
-fn place_of(numbers: &[Asn], asn: Asn) -> usize
-    ensures place { result ≡ place_in numbers.now asn }
-    ensures inside { result ≤ length numbers.now }
-{
-    for (place, number) in numbers.iter().enumerate() {
-        if *number == asn {
-            return place;
-        }
-    }
-    numbers.len()
-}
-
-// The numbers of a way down.
-fn numbers_of(alloc: Global, path: &[Visit]) -> Result<Vec<Asn>, NoMemory>
-    ensures { IfOk result (λ v. v.items ≡ asns_of path.now) }
-{
-    match path.iter().map(|visit| visit.asn).collect(alloc) {
-        Ok(numbers) => Ok(numbers),
-        Err(_) => Err(NoMemory),
-    }
-}
-
-// The part of a way down from an AS on it, as a cycle.
-pub fn cycle_from(alloc: Global, path: &[Visit], asn: Asn) -> Result<Cycle, NoMemory>
-    requires { occurs asn (asns_of path.now) ≡ true }
-    ensures { IfOk result (IsTurned (drop (place_in (asns_of path.now) asn) (asns_of path.now))) }
-{
-    let numbers = numbers_of(alloc, path)?;
-    let place = place_of(&numbers, asn);
-    turned(alloc, &numbers[place..])
+    Ok(Cycle { numbers })
 }

@@ -1,15 +1,22 @@
-//! Provider cycles and ranks, by one walk down the provider links.
+//! Provider cycles and ranks, by counting customers.
 //!
 //! `find_cycle` gives a provider cycle, from its lowest number on, exactly where a graph has one.
-//! `rank_ases` gives such a cycle or, where there is none, the rank of each AS.
-//! The walk keeps its way down in a list, so neither the depth nor the shape of a graph matters: it
-//! looks at each link a bounded number of times.
+//! `rank_ases` gives such a cycle or, where there is none, the rank of each AS and the ASes by rising
+//! rank. Each AS waits for its customers; one for which none is left to wait gets its rank and tells
+//! its providers. So neither the depth nor the shape of a graph matters: each list of providers is
+//! looked at a bounded number of times.
 #![tactic(auto)]
 
+mod counting;
 mod cycle;
-mod marks;
+mod lowest_first;
+mod placing;
+mod provider_rows;
 mod ranking;
-mod walk;
+mod row;
+mod telling;
+mod way;
 
 pub use cycle::Cycle;
-pub use ranking::{RankedAs, Ranking, find_cycle, rank_ases};
+pub use placing::{place_in, place_near};
+pub use ranking::{Ranked, RankedAs, Ranking, find_cycle, rank_ases};

@@ -1,15 +1,14 @@
 //! The ranks of a graph's ASes, or a provider cycle.
-ghost use Rattle.std.specs.Prelude.{◌≡◌, ◌↔◌, ℕ, ◌<◌, length, map, replicate, IfOk, IfSome, IsNone};
+ghost use Rattle.std.specs.Prelude.{◌≡◌, ◌↔◌, ℕ, ◌<◌, length, map, IfOk, IfSome, IsNone};
 ghost use Rattle.as_graph.specs.Topology.{what};
 ghost use Rattle.as_graph.specs.Hierarchy.{HasNoProviderCycle};
 ghost use Rattle.cycle_check.specs.Cycles.{IsCycleFromLowest};
-ghost use Rattle.cycle_check.specs.Rankings.{IsRanking, AreRanksOf, rank_of, rank_in};
-ghost use Rattle.cycle_check.specs.Marks.{mark_of};
+ghost use Rattle.cycle_check.specs.Rankings.{IsRanking, numbers_of, ranks_of};
 
-use crate::cycle::{Cycle, cycle_from};
-use crate::marks::Mark;
-use crate::walk::walk_all;
-use as_graph::{Graph, fitting_are_ranks, links_are_sound};
+use crate::counting::{Counted, count_ranks};
+use crate::cycle::{Cycle, cycle_at};
+use crate::provider_rows::provider_rows;
+use as_graph::{Graph, fitting_are_ranks};
 use net_names::{Asn, NoMemory};
 use std::alloc::Global;
 
@@ -20,73 +19,64 @@ pub struct RankedAs {
     pub rank: u32,
 }
 
-/// What one walk over a graph finds.
+/// The ASes of a graph with their ranks.
+#[derive(Drop)]
+pub struct Ranked {
+    /// The ASes in rising number, each with its rank.
+    pub ases: Vec<RankedAs>,
+    /// Their places in this list, by rising rank.
+    pub order: Vec<u32>,
+}
+
+/// What counting finds.
 #[derive(Drop)]
 pub enum Ranking {
-    /// There is no provider cycle: the ASes in rising number, each with its rank.
-    Ranks(Vec<RankedAs>),
+    /// There is no provider cycle.
+    Ranks(Ranked),
     /// A provider cycle, from its lowest number on.
     Cycle(Cycle),
 }
 
-// The rank that a mark tells, 0 where it tells none.
-fn rank_of(mark: Mark) -> u32
-    ensures { result ≡ rank_of mark }
+// The ASes, each with the rank at its place.
+fn with_ranks(alloc: Global, ases: &[Asn], ranks: &[u32]) -> Result<Vec<RankedAs>, NoMemory>
+    requires { length ranks.now ≡ length ases.now }
+    ensures asns { IfOk result (λ v. numbers_of v.items ≡ ases.now) }
+    ensures ranks { IfOk result (λ v. ranks_of v.items ≡ ranks.now) }
 {
-    match mark {
-        Mark::Unseen | Mark::Open => 0,
-        Mark::Ranked(rank) => rank,
-    }
-}
-
-// Marks for so many ASes, of which none was met.
-fn unseen(alloc: Global, count: usize) -> Result<Vec<Mark>, NoMemory>
-    ensures { IfOk result (λ v. v.items ≡ replicate count Mark.Unseen) }
-{
-    match Vec::from_elem(alloc, Mark::Unseen, count) {
-        Ok(marks) => Ok(marks),
-        Err(_) => Err(NoMemory),
-    }
-}
-
-// The ASes, each with the rank that its mark tells.
-fn ranks_of(alloc: Global, ases: &[Asn], marks: &[Mark]) -> Result<Vec<RankedAs>, NoMemory>
-    requires { length marks.now ≡ length ases.now }
-    ensures { IfOk result (λ v. AreRanksOf ases.now marks.now v.items) }
-{
-    let mut ranks = Vec::new(alloc);
+    let mut ranked = match Vec::with_capacity(alloc, ases.len()) {
+        Ok(ranked) => ranked,
+        Err(_) => return Err(NoMemory),
+    };
     for place in 0..ases.len() {
-        let ranked = RankedAs {
+        let one = RankedAs {
             asn: ases[place],
-            rank: rank_of(marks[place]),
+            rank: ranks[place],
         };
-        match ranks.push(ranked) {
+        match ranked.push(one) {
             Ok(()) => {}
             Err(_) => return Err(NoMemory),
         }
     }
-    Ok(ranks)
+    Ok(ranked)
 }
 
-/// The rank of each AS (the number of provider links on the longest way down from it), or a
-/// provider cycle where the graph has one.
+/// The rank of each AS (the number of provider links on the longest way down from it) and the order
+/// by rank, or a provider cycle where the graph has one.
 ///
-/// The only refusal is want of memory. The time is bounded by the ASes and links, with one search
-/// by number for a provider link.
+/// The only refusal is want of memory. The time is bounded by the ASes and links.
 pub fn rank_ases(alloc: Global, graph: &Graph) -> Result<Ranking, NoMemory>
     ensures { IfOk result (IsRanking graph.now) }
 {
-    links_are_sound();
     fitting_are_ranks();
     let ases = graph.ases();
     let _count = graph.as_count();
-    let mut unseen = unseen(alloc, ases.len())?;
-    let marks = unseen.as_mut_slice();
-    let mut path = Vec::new(alloc);
-    let back = walk_all(graph, ases, marks, &mut path)?;
-    match back {
-        None => Ok(Ranking::Ranks(ranks_of(alloc, ases, marks)?)),
-        Some(asn) => Ok(Ranking::Cycle(cycle_from(alloc, &path, asn)?)),
+    let rows = provider_rows(alloc, graph, ases)?;
+    match count_ranks(alloc, &rows.starts, &rows.items)? {
+        Counted::Ranks(found) => Ok(Ranking::Ranks(Ranked {
+            ases: with_ranks(alloc, ases, &found.ranks)?,
+            order: found.order,
+        })),
+        Counted::Cycle(places) => Ok(Ranking::Cycle(cycle_at(alloc, ases, &places)?)),
     }
 }
 

@@ -1,6 +1,6 @@
 -- Ranks by number, and an order by them.
 use Rattle.std.specs.Prelude.{◌≡◌, ℕ, Bool, Option, List, unwrap_or, nat_eq, refl, ⊤}
-use Rattle.std.specs.List.{IsDistinct}
+use Rattle.std.specs.List.{IsDistinct, zip}
 use Rattle.std.specs.List.Sorted.{IsNonDecreasingBy, IsPermutation}
 use Rattle.std.specs.Ordering.{nat_cmp}
 use Rattle.std.specs.Coded.{Coded, code_by, coded×, coded_ℕ}
@@ -14,6 +14,10 @@ use Rattle.rank_order.specs.declared.ranks.RankError.TheVariants.{Memory, Provid
 -- a rank for each of finitely many ASes (own rule)
 abbrev pub RankMap : Type 0
 RankMap = map.FinMap nat_cmp ℕ
+
+-- the map from each AS to the rank at its place (own rule)
+abbrev pub rank_map : List ℕ → List ℕ → RankMap
+rank_map ases ranks = map.from_entries (zip ases ranks)
 
 -- the rank that a map gives to an AS, 0 where it gives none (own rule)
 abbrev pub rank_by : RankMap → ℕ → ℕ

@@ -1,5 +1,5 @@
 //! The ASes by rising rank.
-ghost use Rattle.std.specs.Prelude.{◌≡◌, length, map, IfOk};
+ghost use Rattle.std.specs.Prelude.{◌≡◌, ℕ, ◌<◌, length, map, slice_index, IfOk};
 ghost use Rattle.as_graph.specs.Topology.{has, as_count};
 ghost use Rattle.rank_order.specs.Ranks.{rank_at, IsRankOrder, IsSortedOut};
 ghost use Rattle.rank_order.specs.Placed.{asns_of};
@@ -62,13 +62,58 @@ fn sorted(
     })
 }
 
+// The ASes at these places among the ASes, each with the place of its row.
+pub(crate) fn order_at(
+    alloc: Global,
+    graph: &Graph,
+    ases: &[Asn],
+    by_rank: &[u32],
+) -> Result<RankOrder, AllocError>
+    requires { (k : ℕ) → k < length by_rank.now → slice_index by_rank.now k < length ases.now }
+    ensures { IfOk result (λ o. o.ases.items ≡ map (slice_index ases.now) by_rank.now) }
+{
+    let mut order = Vec::with_capacity(alloc, by_rank.len())?;
+    let mut places = Vec::with_capacity(alloc, by_rank.len())?;
+    for place in by_rank {
+        let asn = ases[*place as usize];
+        order.push(asn)?;
+        places.push(u32::try_from(graph.place_near(asn, *place as usize)).unwrap_or(0))?;
+    }
+    Ok(RankOrder {
+        ases: order,
+        places,
+    })
+}
+
+// A copy of an order.
+fn copied(alloc: Global, order: &RankOrder) -> Result<RankOrder, AllocError>
+    ensures { IfOk result (λ o. o.ases.items ≡ order.now.ases.items) }
+{
+    Ok(RankOrder {
+        ases: Vec::from_slice(alloc, order.ases.as_slice())?,
+        places: Vec::from_slice(alloc, order.places.as_slice())?,
+    })
+}
+
+// The ASes of the graph by rising rank: a copy of the order that stands ready, if it is theirs.
+fn ready_or_sorted(alloc: Global, graph: &Graph, ranks: &Ranks) -> Result<RankOrder, AllocError>
+    ensures order { IfOk result (λ o. IsRankOrder (has graph.now) (rank_at ranks.now) o.ases.items) }
+    ensures count { IfOk result (λ o. length o.ases.items ≡ as_count graph.now) }
+{
+    let ases = graph.ases();
+    match ranks.order_over(ases) {
+        Some(order) => Ok(copied(alloc, order)?),
+        None => Ok(sorted(alloc, graph, ases, ranks)?),
+    }
+}
+
 /// The ASes of the graph, each once, by rising rank, with a place for each. With the graph's own
 /// ranks each AS comes behind all its customers. The only refusal is want of memory.
 pub fn placed_by_rank(alloc: Global, graph: &Graph, ranks: &Ranks) -> Result<RankOrder, NoMemory>
     ensures order { IfOk result (λ o. IsRankOrder (has graph.now) (rank_at ranks.now) o.ases.items) }
     ensures count { IfOk result (λ o. length o.ases.items ≡ as_count graph.now) }
 {
-    match sorted(alloc, graph, graph.ases(), ranks) {
+    match ready_or_sorted(alloc, graph, ranks) {
         Ok(order) => Ok(order),
         Err(_) => Err(NoMemory),
     }

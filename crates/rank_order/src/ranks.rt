@@ -1,18 +1,21 @@
 //! The ranks by number.
-ghost use Rattle.std.specs.Prelude.{◌≡◌, ℕ, is_some, nat_eq, IfOk, IfErr, OnOk};
+ghost use Rattle.std.specs.Prelude.{◌≡◌, ◌<◌, ◌≤◌, ℕ, List, true, length, map, is_some, slice_index, IfOk, IfErr, IfSome, OnOk};
+ghost use Rattle.std.proofs.Props.{props};
 ghost use Rattle.std.specs.List.Sorted.{IsStrictlyIncreasing};
 ghost use Rattle.std.specs.FinMap as map;
-ghost use Rattle.indexmap.specs.IndexMap.{get};
+ghost use Rattle.net_names.specs.Numbers.{occurs};
 ghost use Rattle.as_graph.specs.Topology.{what, has};
 ghost use Rattle.as_graph.specs.Hierarchy.{HasNoProviderCycle, IsRank};
-ghost use Rattle.cycle_check.specs.Rankings.{numbers_of, rank_told};
-ghost use Rattle.rank_order.specs.Ranks.{rank_at, IsRankRefusal};
+ghost use Rattle.cycle_check.specs.Counting.{ArePlacesByRank};
+ghost use Rattle.cycle_check.specs.Providers.{rank_by};
+ghost use Rattle.cycle_check.specs.Rankings.{numbers_of, ranks_of, rank_told};
+ghost use Rattle.rank_order.specs.Ranks.{rank_at, IsRankOrder, IsRankRefusal};
 
+use crate::order::{RankOrder, order_at};
 use as_graph::Graph;
-use cycle_check::{Cycle, RankedAs, Ranking, rank_ases};
-use indexmap::IndexMap;
-use net_names::{Asn, NoMemory};
-use std::alloc::Global;
+use cycle_check::{Cycle, RankedAs, Ranking, place_in, place_near, rank_ases};
+use net_names::Asn;
+use std::alloc::{AllocError, Global};
 use std::marker::Model;
 
 /// Why a graph gets no ranks.
@@ -24,23 +27,29 @@ pub enum RankError {
     ProviderCycle(Cycle),
 }
 
-/// A rank for each AS of a graph. Contracts see the finite map from the AS to its rank, and for how
-/// many more ASes there is room without memory.
+/// A rank for each AS of a graph, and the ASes by rising rank. Contracts see the finite map from the
+/// AS to its rank, and for how many more ASes there is room without memory.
 #[derive(Drop)]
 pub struct Ranks {
-    ranks: IndexMap<Asn, u32>,
+    ases: Vec<Asn>,
+    ranks: Vec<u32>,
+    order: RankOrder,
+    // for each row of the graph, the place of its AS: these are hints
+    places: Vec<u32>,
+    ghost each: { length ranks.items ≡ length ases.items },
+    ghost rising: { IsStrictlyIncreasing ases.items },
+    ghost by_rank: { IsRankOrder (λ a. occurs a ases.items) (rank_by ases.items ranks.items) order.ases.items } by { Prim.hlevel props },
 }
 
 impl Model for Ranks {
-    ghost use Rattle.std.specs.FinMap as map;
-    ghost use Rattle.indexmap.specs.IndexMap.{spare as spare_of};
-    ghost use Rattle.rank_order.specs.Ranks.{KeptRanks, kept_ranks_code};
+    ghost use Rattle.std.specs.Prelude.{◌-◌};
+    ghost use Rattle.rank_order.specs.Ranks.{KeptRanks, kept_ranks_code, rank_map};
 
     ghost Value = { KeptRanks };
 
     ghost coded = { kept_ranks_code };
 
-    ghost view = { λ r. record { by_as = map.from_entries r.ranks.entries; spare = spare_of r.ranks } };
+    ghost view = { λ r. record { by_as = rank_map r.ases.items r.ranks.items; spare = r.ases.cap - r.ases.len } };
 }
 
 impl Ranks {
@@ -56,8 +65,13 @@ impl Ranks {
         ensures cycle { IfErr result (IsRankRefusal (what graph.now)) }
     {
         match rank_ases(alloc, graph) {
-            Ok(Ranking::Ranks(ranked)) => match stored(alloc, &ranked) {
-                Ok(ranks) => Ok(Ranks { ranks }),
+            Ok(Ranking::Ranks(ranked)) => match Ranks::keep(
+                alloc,
+                graph,
+                &ranked.ases,
+                &ranked.order,
+            ) {
+                Ok(ranks) => Ok(ranks),
                 Err(_) => Err(RankError::Memory),
             },
             Ok(Ranking::Cycle(cycle)) => Err(RankError::ProviderCycle(cycle)),
@@ -65,41 +79,88 @@ impl Ranks {
         }
     }
 
+    // The ranks of the list, and the order by its places.
+    fn keep(
+        alloc: Global,
+        graph: &Graph,
+        ranked: &[RankedAs],
+        by_rank: &[u32],
+    ) -> Result<Ranks, AllocError>
+        requires rising { IsStrictlyIncreasing (numbers_of ranked.now) }
+        requires by_rank { ArePlacesByRank (length ranked.now) (ranks_of ranked.now) by_rank.now }
+        ensures told { IfOk result (λ r. (a : ℕ) → map.get r.by_as a ≡ rank_told ranked.now a) }
+    {
+        let ases = numbers(alloc, ranked)?;
+        let ranks = ranks_in(alloc, ranked)?;
+        let order = order_at(alloc, graph, &ases, by_rank)?;
+        let places = places_of_rows(alloc, graph, &ases)?;
+        Ok(Ranks {
+            ases,
+            ranks,
+            order,
+            places,
+        })
+    }
+
     /// The rank of an AS, 0 for one that is not there.
     pub fn rank(&self, asn: Asn) -> u32
         ensures { result ≡ rank_at self.now asn }
     {
-        match self.ranks.get(&asn) {
-            Some(rank) => *rank,
-            None => 0,
-        }
+        rank_of(&self.ranks, place_in(&self.ases, asn))
     }
 
     /// The rank of an AS, as `rank` gives it, sought first at a place, which is a hint.
     pub fn rank_near(&self, asn: Asn, place: usize) -> u32
         ensures { result ≡ rank_at self.now asn }
     {
-        match self.ranks.get_index(place) {
-            Some((found, rank)) if *found == asn => *rank,
-            _ => self.rank(asn),
+        let near = match self.places.get(place) {
+            Some(near) => *near as usize,
+            None => 0,
+        };
+        rank_of(&self.ranks, place_near(&self.ases, asn, near))
+    }
+
+    // The order of these ASes by rising rank, if they are just those that have a rank, in rising
+    // number. It was made once, when the ranks were.
+    pub(crate) fn order_over(&self, ases: &[Asn]) -> Option<&RankOrder>
+        ensures order { IfSome result (λ o. IsRankOrder (λ a. occurs a ases.now) (rank_at self.now) o.now.ases.items) }
+    {
+        if self.ases.as_slice() == ases {
+            Some(&self.order)
+        } else {
+            None
         }
     }
 }
 
-// The ranks as a map.
-fn stored(alloc: Global, ranked: &[RankedAs]) -> Result<IndexMap<Asn, u32>, NoMemory>
-    requires { IsStrictlyIncreasing (numbers_of ranked.now) }
-    ensures { IfOk result (λ m. (a : ℕ) → get nat_eq m a ≡ rank_told ranked.now a) }
+// The numbers of the ASes.
+fn numbers(alloc: Global, ranked: &[RankedAs]) -> Result<Vec<Asn>, AllocError>
+    ensures { IfOk result (λ v. v.items ≡ numbers_of ranked.now) }
 {
-    let mut ranks = match IndexMap::with_capacity(alloc, ranked.len()) {
-        Ok(ranks) => ranks,
-        Err(_) => return Err(NoMemory),
-    };
-    for one in ranked {
-        match ranks.insert(one.asn, one.rank) {
-            Ok(_) => {}
-            Err(_) => return Err(NoMemory),
+    ranked.iter().map(|one| one.asn).collect(alloc)
+}
+
+// The ranks of the ASes.
+fn ranks_in(alloc: Global, ranked: &[RankedAs]) -> Result<Vec<u32>, AllocError>
+    ensures { IfOk result (λ v. v.items ≡ ranks_of ranked.now) }
+{
+    ranked.iter().map(|one| one.rank).collect(alloc)
+}
+
+// The rank at a place, 0 past the end.
+fn rank_of(ranks: &[u32], place: usize) -> u32
+    ensures { result ≡ slice_index ranks.now place }
+{
+    if place < ranks.len() { ranks[place] } else { 0 }
+}
+
+// For each row of the graph, the place of its AS among the ASes.
+fn places_of_rows(alloc: Global, graph: &Graph, ases: &[Asn]) -> Result<Vec<u32>, AllocError> {
+    let mut places = Vec::from_elem(alloc, 0u32, graph.rows().len())?;
+    for (place, asn) in ases.iter().enumerate() {
+        if let Some(kept) = places.get_mut(graph.place_near(*asn, place)) {
+            *kept = u32::try_from(place).unwrap_or(0);
         }
     }
-    Ok(ranks)
+    Ok(places)
 }

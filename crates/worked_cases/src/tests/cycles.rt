@@ -39,7 +39,7 @@ fn cycle_text(alloc: Global, graph: &Graph) -> Result<Vec<u8>, Fail> {
 fn rank_text(alloc: Global, graph: &Graph) -> Result<Vec<u8>, Fail> {
     match rank_ases(alloc, graph)? {
         Ranking::Cycle(_) => Ok(Vec::from_slice(alloc, b"cycle")?),
-        Ranking::Ranks(ranks) => ranks_text(alloc, ranks.as_slice()),
+        Ranking::Ranks(ranks) => ranks_text(alloc, ranks.ases.as_slice()),
     }
 }
 

@@ -1,43 +1,75 @@
-use Rattle.std.proofs.Common.{◌≡◌, List, length, option_map, drop, arith, sym, ap, ◌∙◌, subst}
-use Rattle.std.proofs.lemmas.Grind.{common_steps}
+use Rattle.std.proofs.Common.{◌≡◌, ℕ, ◌<◌, List, length, map, get_or, sym, ap, subst, ◌∙◌}
+use Rattle.std.proofs.lemmas.List.{length-map}
 use Rattle.std.specs.List.Sorted.{IsStrictlyIncreasing}
 use Rattle.net_names.specs.Numbers.{occurs}
-use Rattle.net_names.specs.declared.routes.Rel.TheVariants.{Provider}
-use Rattle.as_graph.specs.Hierarchy.{IsRank}
-use Rattle.net_names.specs.Links.{converse}
+use Rattle.as_graph.specs.Hierarchy.{IsRank, RankFits}
 use Rattle.as_graph.specs.Topology.{what}
-use Rattle.cycle_check.specs.declared.walk.Visit.{Visit}
-use Rattle.cycle_check.specs.Cycles.{IsTurned}
-use Rattle.cycle_check.specs.Rankings.{rank_of}
-use Rattle.cycle_check.specs.Marks.{place_in, mark_of}
-use Rattle.cycle_check.specs.Walks.{asns_of, IsFinished, LeadsBack, IsFinishedOr}
-use Rattle.cycle_check.proofs.Ranked.{finished_fit, fitting_no_cycle}
-use Rattle.cycle_check.proofs.Turning.{stretch_cycle, turned_cycle}
+use Rattle.cycle_check.specs.declared.ranking.RankedAs.{RankedAs}
+use Rattle.cycle_check.specs.Counting.{IsCounted, ArePlaceRanks, ArePlacesByRank}
+use Rattle.cycle_check.specs.Cycles.{IsCycleFromLowest}
+use Rattle.cycle_check.specs.Places.{place_in}
+use Rattle.cycle_check.specs.Providers.{rank_by}
+use Rattle.cycle_check.specs.Rankings.{rank_in, ranks_of}
+use Rattle.cycle_check.specs.Rows.{count_of, what as what_at}
+use Rattle.cycle_check.proofs.Carrying.{carried, cycle_inside, carried_lowest}
+use Rattle.cycle_check.proofs.Falling.{fitting_no_cycle}
+use Rattle.cycle_check.proofs.Told.{rank_in-at}
 use Rattle.cycle_check.proofs.ranking.rank_ases.Goals as goal
 
-pub returns-in-None : goal.returns-in-None
-returns-in-None c =
-    let w = c.args.graph.now in
-    let done : IsFinished (what w) c.ases-ases.result.now c.walk_all.new.marks = subst (IsFinishedOr (what w) c.ases-ases.result.now c.walk_all.new.marks c.walk_all.new.path.items) c.in-None.is c.in_ok-back.ensures in
+pub returns-in-Ranks : goal.returns-in-Ranks
+returns-in-Ranks c =
+    let w = what c.args.graph.now in
     let ases = c.ases-ases.result.now in
-    let marks = c.walk_all.new.marks in
-    let told = c.in_ok-ranks_of-in-None.ensures in
-    let marked : length marks ≡ length ases = grind (arith, common_steps) in
-    let fits = finished_fit (what w) ases marks marked done (λ a b linked. c.ases-ases.ensures.listed a ∙ c.links_are_sound.ensures.ends w b a Provider (c.links_are_sound.ensures.alike w a b ∙ ap (option_map converse) linked)) in (
-      fitting_no_cycle (what w) (λ a. rank_of (mark_of ases marks a)) fits,
+    let starts = c.in_ok-rows.rows.starts.items in
+    let items = c.in_ok-rows.rows.items.items in
+    let region = c.in_ok-rows.ensures in
+    let ranks = c.in-Ranks.found.ranks.items in
+    let order = c.in-Ranks.found.order.items in
+    let told = c.in_ok-with_ranks-in-Ranks.field-0.items in
+    let counted : ArePlaceRanks c.deref.result.now c.deref-2.result.now ranks order = subst (IsCounted c.deref.result.now c.deref-2.result.now) c.in-Ranks.is c.in_ok-found.ensures in
+    let are : ArePlaceRanks starts items ranks order =
+    subst (λ xs. ArePlaceRanks starts xs ranks order) c.deref-2.ensures.value (subst (λ xs. ArePlaceRanks xs c.deref-2.result.now ranks order) c.deref.ensures.value counted) in
+    let fits : (a : ℕ) → RankFits w (rank_by ases ranks) a = carried w ases starts items ranks region.rows region.providers are.each are.fits in
+    let asns = c.in_ok-with_ranks-in-Ranks.ensures.asns in
+    let own : ranks_of told ≡ ranks = c.in_ok-with_ranks-in-Ranks.ensures.ranks ∙ c.deref-in-Ranks.ensures.value in
+    let size : length ases ≡ length told = sym (sym (length-map told (λ (x : RankedAs). x.asn)) ∙ ap length asns) in
+    let at : (a : ℕ) → rank_in told a ≡ rank_by ases ranks a = λ a. (rank_in-at told a ∙ ap (λ rs. get_or rs (place_in (map (λ (x : RankedAs). x.asn) told) a) 0) own ∙ ap (λ xs. get_or ranks (place_in xs a) 0) asns) in (
+      fitting_no_cycle w (rank_by ases ranks) fits,
       record {
-        listed = λ a. ap (occurs a) told.asns ∙ c.ases-ases.ensures.listed a;
-        rising = subst IsStrictlyIncreasing (sym told.asns) c.ases-ases.ensures.rising;
-        ranks = λ a. subst (IsRank (what w) a) (sym (told.ranks a)) (c.fitting_are_ranks.ensures (what w) (λ b. rank_of (mark_of ases marks b)) fits a);
+        ases = record {
+          listed = λ a. ap (occurs a) asns ∙ c.ases-ases.ensures.listed a;
+          rising = subst IsStrictlyIncreasing (sym asns) c.ases-ases.ensures.rising;
+          ranks = λ a. subst (IsRank w a) (sym (at a)) (c.fitting_are_ranks.ensures w (rank_by ases ranks) fits a);
+        };
+        by_rank =
+            subst (λ n. ArePlacesByRank n (ranks_of told) order) (region.providers.places ∙ size)
+            (subst (λ rs. ArePlacesByRank (count_of starts) rs order) (sym own) are.by_rank);
       },
     )
 
+pub cycle_at-requires : goal.cycle_at-requires
+cycle_at-requires c =
+    let w = what c.args.graph.now in
+    let ases = c.ases-ases.result.now in
+    let starts = c.in_ok-rows.rows.starts.items in
+    let items = c.in_ok-rows.rows.items.items in
+    let region = c.in_ok-rows.ensures in
+    let places = c.in-Cycle.places.items in
+    let found : IsCycleFromLowest (what_at c.deref.result.now c.deref-2.result.now) places = subst (IsCounted c.deref.result.now c.deref-2.result.now) c.in-Cycle.is c.in_ok-found.ensures in
+    let cycle : IsCycleFromLowest (what_at starts items) places =
+    subst (λ xs. IsCycleFromLowest (what_at starts xs) places) c.deref-2.ensures.value (subst (λ xs. IsCycleFromLowest (what_at xs c.deref-2.result.now) places) c.deref.ensures.value found) in
+    subst (λ (xs : List ℕ). (k : ℕ) → k < length xs → get_or xs k 0 < length ases) (sym c.deref-in-Cycle.ensures.value) (cycle_inside w ases starts items region.rows region.providers places cycle.cycle)
+
 pub returns : goal.returns
 returns c =
-    let w = c.args.graph.now in
-    let path = c.walk_all.new.path.items in
-    let a = c.in-Some.asn in
-    let back : LeadsBack (what w) path a = subst (IsFinishedOr (what w) c.ases-ases.result.now c.walk_all.new.marks path) c.in-Some.is c.in_ok-back.ensures in
-    let turned : IsTurned (drop (place_in (asns_of path) a) (asns_of path)) c.in_ok-cycle_from-in-Some.field-0 =
-    subst (λ (p : List Visit). IsTurned (drop (place_in (asns_of p) a) (asns_of p)) c.in_ok-cycle_from-in-Some.field-0) c.deref.ensures.value c.in_ok-cycle_from-in-Some.ensures in
-    turned_cycle (what w) _ _ (stretch_cycle (what w) (c.links_are_sound.ensures.to_itself w) a (asns_of path) back.descends back.distinct back.on_way back.back) turned
+    let w = what c.args.graph.now in
+    let ases = c.ases-ases.result.now in
+    let starts = c.in_ok-rows.rows.starts.items in
+    let items = c.in_ok-rows.rows.items.items in
+    let region = c.in_ok-rows.ensures in
+    let places = c.in-Cycle.places.items in
+    let found : IsCycleFromLowest (what_at c.deref.result.now c.deref-2.result.now) places = subst (IsCounted c.deref.result.now c.deref-2.result.now) c.in-Cycle.is c.in_ok-found.ensures in
+    let cycle : IsCycleFromLowest (what_at starts items) places =
+    subst (λ xs. IsCycleFromLowest (what_at starts xs) places) c.deref-2.ensures.value (subst (λ xs. IsCycleFromLowest (what_at xs c.deref-2.result.now) places) c.deref.ensures.value found) in
+    let are = c.in_ok-cycle_at-in-Cycle.ensures ∙ ap (map (λ (p : ℕ). get_or ases p 0)) c.deref-in-Cycle.ensures.value in
+    subst (IsCycleFromLowest w) (sym are) (carried_lowest w ases starts items region.rows region.providers places cycle)

@@ -1,10 +1,16 @@
-use Rattle.std.proofs.Common.{Some, None, ap}
-use Rattle.rank_order.specs.Ranks.{KeptRanks}
-use Rattle.rank_order.proofs.Stored.{found}
+use Rattle.std.proofs.Common.{List, ℕ, get_or, ap, sym, ◌∙◌}
+use Rattle.cycle_check.specs.Places.{place_in}
+use Rattle.rank_order.specs.Ranks.{KeptRanks, rank_by}
+use Rattle.rank_order.proofs.Kept.{rank_kept}
 use Rattle.rank_order.proofs.ranks.Ranks.rank.Goals as goal
 
-pub returns-in-Some : goal.returns-in-Some
-returns-in-Some c = found c.self.inside.ranks.entries c.args.self.now.by_as c.args.asn (Some c.in-Some.rank.now) (ap (λ (r : KeptRanks). r.by_as) c.self.view_is) c.in-Some.ensures.value
-
-pub returns-in-None : goal.returns-in-None
-returns-in-None c = found c.self.inside.ranks.entries c.args.self.now.by_as c.args.asn None (ap (λ (r : KeptRanks). r.by_as) c.self.view_is) c.in-None.ensures.value
+pub returns : goal.returns
+returns c =
+    let inside = c.self.inside in
+    let ranks = inside.ranks.items in
+    let asn = c.args.asn in
+    c.rank_of.ensures
+    ∙ ap (λ (xs : List ℕ). get_or xs c.place_in.result 0) c.deref.ensures.value
+    ∙ ap (λ k. get_or ranks k 0) (c.place_in.ensures.place ∙ ap (λ (xs : List ℕ). place_in xs asn) c.deref-2.ensures.value)
+    ∙ sym (rank_kept inside.ases.items ranks inside.each asn)
+    ∙ ap (λ (r : KeptRanks). rank_by r.by_as asn) c.self.view_is
