@@ -60,7 +60,7 @@ abbrev pub limit_text : LimitOf → List ℕ
 limit_text limit.Announcements = codes "more than 64 announcements"
 limit_text limit.Prefixes = codes "more than 32 prefixes"
 limit_text limit.Path = codes "more than 64 numbers in a path"
-limit_text limit.Rounds = codes "more than 2 rounds"
+limit_text limit.Rounds = codes "more than 4 rounds"
 limit_text limit.Leakers = codes "more than 64 leakers in a round"
 limit_text limit.Watch = codes "more than 16 watched addresses"
 

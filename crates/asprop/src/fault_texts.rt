@@ -44,7 +44,7 @@ fn limit_text(which: LimitOf) -> &'static str
         LimitOf::Announcements => "more than 64 announcements",
         LimitOf::Prefixes => "more than 32 prefixes",
         LimitOf::Path => "more than 64 numbers in a path",
-        LimitOf::Rounds => "more than 2 rounds",
+        LimitOf::Rounds => "more than 4 rounds",
         LimitOf::Leakers => "more than 64 leakers in a round",
         LimitOf::Watch => "more than 16 watched addresses",
     }

@@ -124,13 +124,10 @@ pub fn read_payloads<I: Inputs>(
     }
 }
 
-// The first member that names something whose meaning is not built yet, if there is one.
+// The member that names something whose meaning is not built yet, if there is one.
 fn later_in(scenario: &Scenario) -> Option<Member>
     ensures { result ≡ later_member scenario.now }
 {
-    if !scenario.leaks().is_empty() {
-        return Some(Member::Leaks);
-    }
     if scenario.watch_at(0).is_some() {
         return Some(Member::Watch);
     }
@@ -177,6 +174,7 @@ fn is_answered(act: &Act) -> bool
     match act {
         Act::Query(Query::Routes { .. }) => true,
         Act::Query(Query::Route { .. }) => true,
+        Act::Query(Query::Ranks) => true,
         Act::Query(Query::Validity { .. }) => true,
         Act::Query(_) => false,
         Act::Edit(_) => false,

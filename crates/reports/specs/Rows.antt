@@ -1,4 +1,4 @@
--- The printed table of a routing: a row for each AS.
+-- Printed tables: a row for each AS.
 use Rattle.std.specs.Prelude.{◌≡◌, ℕ, Bool, Option, None, Some, List, [], ◌∷◌, ◌++◌, codes, decimal}
 use Rattle.std.specs.List.{flat_map}
 use Rattle.std.specs.List.Sorted.{IsStrictlyIncreasing}
@@ -37,15 +37,19 @@ entry_text (Some e) = class_word e.class ++ (124 ∷ (numbers_text e.path ++ otc
 abbrev pub row : ℕ → Option Entry → List ℕ
 row a held = decimal a ++ (124 ∷ (entry_text held ++ 10 ∷ []))
 
+-- the row of an AS: its number, `|`, its rank and a line feed (own format)
+abbrev pub rank_row : ℕ → ℕ → List ℕ
+rank_row a rank = decimal a ++ (124 ∷ (decimal rank ++ 10 ∷ []))
+
 -- the text has just one row for each AS, in rising number (own format)
-pub record IsTable (has : ℕ → Bool) (f : ℕ → Option Entry) (text : List ℕ) : Type 0 where
+pub record IsTable (has : ℕ → Bool) (row_of : ℕ → List ℕ) (text : List ℕ) : Type 0 where
   pub ases : List ℕ
   pub complete : (a : ℕ) → occurs a ases ≡ has a
   pub rising : IsStrictlyIncreasing ases
-  pub rows : text ≡ flat_map (λ a. row a (f a)) ases
+  pub rows : text ≡ flat_map row_of ases
 
 -- the table's text was appended
-pub record AppendsTable (has : ℕ → Bool) (f : ℕ → Option Entry) (old new : List ℕ) : Type 0 where
+pub record AppendsTable (has : ℕ → Bool) (row_of : ℕ → List ℕ) (old new : List ℕ) : Type 0 where
   pub text : List ℕ
-  pub table : IsTable has f text
+  pub table : IsTable has row_of text
   pub is : new ≡ old ++ text

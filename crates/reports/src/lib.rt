@@ -6,8 +6,10 @@
 #![tactic(auto)]
 
 mod bytes;
+mod ranks;
 mod rows;
 mod validity;
 
+pub use ranks::put_ranks;
 pub use rows::{put_numbers, put_route, put_routes};
 pub use validity::put_validity;

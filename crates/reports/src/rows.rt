@@ -164,7 +164,7 @@ pub fn put_routes(
     pool: &PathPool,
 ) -> Result<(), NoMemory>
     requires { AreEntriesLive pool.now table.now }
-    ensures ok { OnOk result (AppendsTable (has graph.now) (table_routing pool.now table.now) out.old.items out.new.items) }
+    ensures ok { OnOk result (AppendsTable (has graph.now) (λ a. row_of a (table_routing pool.now table.now a)) out.old.items out.new.items) }
     ensures err { OnErr result (out.new.items ≡ out.old.items) }
 {
     let kept = out.len();

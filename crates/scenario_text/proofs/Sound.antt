@@ -163,7 +163,7 @@ sound d s read once_ok within_ok =
     let tests = all_pass (once_in name_cmp (item (in_member Announcements)) (map name_of s.announcements)) (once_in nat_cmp (item (in_member Policies)) (map (λ p. p.0) s.policies))
     (each_from (leakers_once (in_member Leaks)) 0 s.leaks) (once_in addr_cmp (item (in_member Watch)) s.watch) once_ok in
     let limit = none_passed (nat_lt 64 (length s.announcements)) (nat_lt 32 (prefix_count s.announcements)) (list_any (λ a. nat_lt 64 (length a.path)) s.announcements)
-    (nat_lt 1 (length s.leaks)) (list_any (λ leakers. nat_lt 64 (length leakers)) s.leaks) (nat_lt 16 (length s.watch)) within_ok in
+    (nat_lt 3 (length s.leaks)) (list_any (λ leakers. nat_lt 64 (length leakers)) s.leaks) (nat_lt 16 (length s.watch)) within_ok in
     record {
       announced_once = distinct-map name_of s.announcements (distinct name_cmp name_total (item (in_member Announcements)) (map name_of s.announcements) tests.first);
       ruled_once = distinct-map (λ (p : ℕ × Kind). p.0) s.policies (distinct nat_cmp nat_cmp_total (item (in_member Policies)) (map (λ p. p.0) s.policies) tests.second);

@@ -12,12 +12,12 @@ use Rattle.scenario_text.specs.Walks.{◌>>=◌}
 abbrev pub unless_passed : LimitOf → Bool → Result (Unit {0}) ScenarioError
 unless_passed which passed = if passed then Err (Limit which) else Ok tt
 
--- the limits in their order: 64 announcements, 32 different prefixes, 64 numbers in a path, leakers of 1 round after the first, 64 leakers in a round, 16 watched addresses (own format)
+-- the limits in their order: 64 announcements, 32 different prefixes, 64 numbers in a path, 4 rounds, so that 3 lists of leakers, 64 leakers in a round, 16 watched addresses (own format)
 unfoldable pub within : ScenarioValue → Result (Unit {0}) ScenarioError
 within s = do
   _ ← unless_passed limits.Announcements (nat_lt 64 (length s.announcements))
   _ ← unless_passed limits.Prefixes (nat_lt 32 (prefix_count s.announcements))
   _ ← unless_passed limits.Path (list_any (λ a. nat_lt 64 (length a.path)) s.announcements)
-  _ ← unless_passed limits.Rounds (nat_lt 1 (length s.leaks))
+  _ ← unless_passed limits.Rounds (nat_lt 3 (length s.leaks))
   _ ← unless_passed limits.Leakers (list_any (λ leakers. nat_lt 64 (length leakers)) s.leaks)
   unless_passed limits.Watch (nat_lt 16 (length s.watch))

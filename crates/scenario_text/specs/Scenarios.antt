@@ -48,7 +48,7 @@ pub record IsScenario (s : ScenarioValue) : Type 0 where
   pub few_announcements : length s.announcements ≤ 64
   pub few_prefixes : prefix_count s.announcements ≤ 32
   pub short_paths : All (λ a. length a.path ≤ 64) s.announcements
-  pub few_rounds : length s.leaks ≤ 1
+  pub few_rounds : length s.leaks ≤ 3
   pub few_leakers : All (λ leakers. length leakers ≤ 64) s.leaks
   pub few_watched : length s.watch ≤ 16
   pub own_paths : All (λ a. StartsWith a.asn a.path) s.announcements

@@ -19,7 +19,7 @@ const MOST_PREFIXES: usize = 32;
 
 const MOST_NUMBERS: usize = 64;
 
-const MOST_LEAK_LISTS: usize = 1;
+const MOST_LEAK_LISTS: usize = 3;
 
 const MOST_LEAKERS: usize = 64;
 

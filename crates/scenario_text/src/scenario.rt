@@ -21,8 +21,8 @@ pub struct Announcement {
 /// What is announced, which AS has which policy, who leaks in each round after the first, and which addresses are
 /// watched. Contracts see the four lists.
 ///
-/// Nothing is named twice, there are at most 64 announcements of 32 different prefixes, 64 numbers in a path, leakers of
-/// 1 round, 64 leakers in a round and 16 watched addresses, and each path starts with its announcement's AS.
+/// Nothing is named twice, there are at most 64 announcements of 32 different prefixes, 64 numbers in a path, lists of
+/// leakers of 3 rounds after the first, 64 leakers in a round and 16 watched addresses, and each path starts with its announcement's AS.
 #[derive(Drop)]
 pub struct Scenario {
     announcements: Vec<Announcement>,
@@ -99,10 +99,10 @@ impl Scenario {
         }
     }
 
-    /// Puts an empty list of leakers at the end: one more round, in which nobody leaks yet. There is none so far. `Err` where
-    /// there is not enough memory; then the scenario stays as it was.
+    /// Puts an empty list of leakers at the end: one more round, in which nobody leaks yet. There are fewer than 3 so far.
+    /// `Err` where there is not enough memory; then the scenario stays as it was.
     pub fn new_round(&mut self) -> Result<(), NoMemory>
-        requires { length self.old.leaks < 1 }
+        requires { length self.old.leaks < 3 }
         ensures ok { OnOk result (self.new ≡ record self.old { leaks = self.old.leaks ++ [] ∷ [] }) }
         ensures err { OnErr result (self.new ≡ self.old) }
     {

@@ -4,7 +4,7 @@ use Rattle.scenario_text.specs.declared.acts.Query.{Query}
 use Rattle.scenario_text.specs.declared.acts.Query.TheVariants as query
 use Rattle.roa_table.specs.Cover.{covering}
 use Rattle.origin_validation.specs.Judging.{state_of}
-use Rattle.reports.specs.Rows.{IsTable, row}
+use Rattle.reports.specs.Rows.{IsTable, rank_row, row}
 use Rattle.reports.specs.Validity.{validity_text}
 use Rattle.sim_core.specs.World.{World, has_as, has_prefix, has_round}
 use Rattle.sim_core.specs.Families.{Family}
@@ -22,24 +22,26 @@ refusal_of w (query.Route round prefix a) =
     unless (has_round w round) (refused.UnknownRound round) (unless (has_prefix w prefix) (refused.UnknownPrefix prefix) (unless (has_as w a) (refused.UnknownAs a) None))
 refusal_of w _ = None
 
--- the text is the answer to a query, by the routings of the rounds and by the payloads (own format)
-abbrev pub IsAnswer : World → Family → Query → List ℕ → Type 0
-IsAnswer w g (query.Routes round prefix) text = IsTable (has_as w) (g round prefix) text
-IsAnswer w g (query.Route round prefix a) text = text ≡ row a (g round prefix a)
-IsAnswer w g (query.Validity prefix a) text = text ≡ validity_text (state_of w.payloads prefix a) (covering w.payloads prefix)
-IsAnswer w g _ text = ⊥
+-- the text is the answer to a query, by the routings of the rounds, the ranks and the payloads (own format)
+abbrev pub IsAnswer : World → Family → (ℕ → ℕ) → Query → List ℕ → Type 0
+IsAnswer w g ranks (query.Routes round prefix) text = IsTable (has_as w) (λ a. row a (g round prefix a)) text
+IsAnswer w g ranks (query.Route round prefix a) text = text ≡ row a (g round prefix a)
+IsAnswer w g ranks query.Ranks text = IsTable (has_as w) (λ a. rank_row a (ranks a)) text
+IsAnswer w g ranks (query.Validity prefix a) text = text ≡ validity_text (state_of w.payloads prefix a) (covering w.payloads prefix)
+IsAnswer w g ranks _ text = ⊥
 
 -- the queries that are answered
 abbrev pub IsAnswered : Query → Type 0
 IsAnswered (query.Routes round prefix) = Unit {0}
 IsAnswered (query.Route round prefix a) = Unit {0}
+IsAnswered query.Ranks = Unit {0}
 IsAnswered (query.Validity prefix a) = Unit {0}
 IsAnswered _ = ⊥
 
 -- the answer to the query was appended
-pub record Answers (w : World) (g : Family) (q : Query) (old new : List ℕ) : Type 0 where
+pub record Answers (w : World) (g : Family) (ranks : ℕ → ℕ) (q : Query) (old new : List ℕ) : Type 0 where
   pub text : List ℕ
-  pub answer : IsAnswer w g q text
+  pub answer : IsAnswer w g ranks q text
   pub accepted : refusal_of w q ≡ None
   pub appended : new ≡ old ++ text
 

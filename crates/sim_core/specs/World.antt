@@ -6,7 +6,7 @@ use Rattle.std.specs.FinSet as set
 use Rattle.net_names.specs.Links.{LinkMap}
 use Rattle.net_names.specs.Prefixes.{PrefixValue}
 use Rattle.as_graph.specs.Topology.{Topology, what, has}
-use Rattle.as_graph.specs.Hierarchy.{IsProviderCycle}
+use Rattle.as_graph.specs.Hierarchy.{IsProviderCycle, IsRank}
 use Rattle.policy_kinds.specs.Kinds.{kind_policy}
 use Rattle.policy_kinds.specs.declared.kind.Kind.{Kind}
 use Rattle.policy_kinds.specs.declared.kind.Kind.TheVariants.{Plain}
@@ -54,3 +54,7 @@ setting_of w prefix = record { has = has_as w; what = what (topology w); policy 
 -- there is a provider cycle among the links (Gao and Rexford 2001, the hierarchy assumption)
 abbrev pub HasCycle : World → Type 0
 HasCycle w = (cycle : List ℕ) × IsProviderCycle (what (topology w)) cycle
+
+-- the rank of each AS: how many links lead from a provider to a customer on the longest way down from it (Gao and Rexford 2001, the hierarchy assumption)
+abbrev pub AreRanks : World → (ℕ → ℕ) → Type 0
+AreRanks w ranks = (a : ℕ) → IsRank (what (topology w)) a (ranks a)

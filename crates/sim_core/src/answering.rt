@@ -5,13 +5,13 @@ ghost use Rattle.as_graph.specs.Topology.{as_count};
 ghost use Rattle.scenario_text.specs.declared.acts.Query.TheVariants as query;
 ghost use Rattle.sim_core.specs.Answers.{Answers, IsAnswered, IsQueryRefusal};
 ghost use Rattle.sim_core.specs.Parts.{IsTableOf, no_table};
-ghost use Rattle.sim_core.specs.Sims.{kept, world_seen};
+ghost use Rattle.sim_core.specs.Sims.{kept, ranks_kept, world_seen};
 ghost use Rattle.sim_core.specs.World.{topology};
 
 use crate::{QueryError, Sim};
 use net_names::{Asn, Prefix};
 use origin_validation::explain;
-use reports::{put_route, put_routes, put_validity};
+use reports::{put_ranks, put_route, put_routes, put_validity};
 use route_choice::Table;
 use scenario_text::Query;
 
@@ -32,7 +32,7 @@ impl Sim {
 
     // Appends the table of a round for a prefix.
     fn put_routes(&self, round: u32, prefix: Prefix, out: &mut Vec<u8>) -> Result<(), QueryError>
-        ensures answered { OnOk result (Answers (world_seen self.now) (kept self.now) (query.Routes round prefix) out.old.items out.new.items) }
+        ensures answered { OnOk result (Answers (world_seen self.now) (kept self.now) (ranks_kept self.now) (query.Routes round prefix) out.old.items out.new.items) }
         ensures refused { IfErr result (IsQueryRefusal (world_seen self.now) (query.Routes round prefix)) }
         ensures err { OnErr result (out.new.items ≡ out.old.items) }
     {
@@ -54,7 +54,7 @@ impl Sim {
         asn: Asn,
         out: &mut Vec<u8>,
     ) -> Result<(), QueryError>
-        ensures answered { OnOk result (Answers (world_seen self.now) (kept self.now) (query.Route round prefix asn) out.old.items out.new.items) }
+        ensures answered { OnOk result (Answers (world_seen self.now) (kept self.now) (ranks_kept self.now) (query.Route round prefix asn) out.old.items out.new.items) }
         ensures refused { IfErr result (IsQueryRefusal (world_seen self.now) (query.Route round prefix asn)) }
         ensures err { OnErr result (out.new.items ≡ out.old.items) }
     {
@@ -71,9 +71,21 @@ impl Sim {
         }
     }
 
+    // Appends the ranks of all ASes.
+    fn put_ranks(&self, out: &mut Vec<u8>) -> Result<(), QueryError>
+        ensures answered { OnOk result (Answers (world_seen self.now) (kept self.now) (ranks_kept self.now) query.Ranks out.old.items out.new.items) }
+        ensures refused { IfErr result (IsQueryRefusal (world_seen self.now) query.Ranks) }
+        ensures err { OnErr result (out.new.items ≡ out.old.items) }
+    {
+        match put_ranks(out, &self.graph, &self.ranks) {
+            Ok(()) => Ok(()),
+            Err(_) => Err(QueryError::Memory),
+        }
+    }
+
     // Appends the state of a prefix with an origin, and the payloads that cover the prefix.
     fn put_validity(&self, prefix: Prefix, origin: Asn, out: &mut Vec<u8>) -> Result<(), QueryError>
-        ensures answered { OnOk result (Answers (world_seen self.now) (kept self.now) (query.Validity prefix origin) out.old.items out.new.items) }
+        ensures answered { OnOk result (Answers (world_seen self.now) (kept self.now) (ranks_kept self.now) (query.Validity prefix origin) out.old.items out.new.items) }
         ensures refused { IfErr result (IsQueryRefusal (world_seen self.now) (query.Validity prefix origin)) }
         ensures err { OnErr result (out.new.items ≡ out.old.items) }
     {
@@ -90,10 +102,10 @@ impl Sim {
     /// not: `UnknownRound`, `UnknownPrefix` or `UnknownAs`, tested in this order among what it names.
     /// After a refusal `out` is as it was.
     ///
-    /// Traces, reports and ranks are not answered yet.
+    /// Traces and reports are not answered yet.
     pub fn answer(&self, query: &Query, out: &mut Vec<u8>) -> Result<(), QueryError>
         requires { IsAnswered query.now }
-        ensures answered { OnOk result (Answers (world_seen self.now) (kept self.now) query.now out.old.items out.new.items) }
+        ensures answered { OnOk result (Answers (world_seen self.now) (kept self.now) (ranks_kept self.now) query.now out.old.items out.new.items) }
         ensures refused { IfErr result (IsQueryRefusal (world_seen self.now) query.now) }
         ensures err { OnErr result (out.new.items ≡ out.old.items) }
     {
@@ -102,7 +114,7 @@ impl Sim {
             Query::Route { round, prefix, asn } => self.put_route(*round, *prefix, *asn, out),
             Query::Trace { .. } => unreachable!(),
             Query::Report { .. } => unreachable!(),
-            Query::Ranks => unreachable!(),
+            Query::Ranks => self.put_ranks(out),
             Query::Validity { prefix, asn } => self.put_validity(*prefix, *asn, out),
         }
     }

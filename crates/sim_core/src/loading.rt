@@ -7,8 +7,8 @@ ghost use Rattle.sim_core.specs.Families.{IsOneFamily};
 ghost use Rattle.sim_core.specs.Loaded.{world_of};
 ghost use Rattle.sim_core.specs.Loading.{IsCycleRefusal, IsLoadRefusal};
 ghost use Rattle.sim_core.specs.Parts.{AreRoundsOf};
-ghost use Rattle.sim_core.specs.Sims.{kept, world_seen};
-ghost use Rattle.sim_core.specs.World.{HasCycle, topology};
+ghost use Rattle.sim_core.specs.Sims.{kept, ranks_kept, world_seen};
+ghost use Rattle.sim_core.specs.World.{AreRanks, HasCycle, topology};
 
 use crate::naming::world_graph;
 use crate::planning::{policies, seed_plan};
@@ -76,6 +76,7 @@ fn load_world<L: Ledger>(
     requires ledger { (blank.name ≡ L.name) × (blank.parts ≡ L.parts) × (0 < L.parts) }
     ensures world { IfOk result (λ sim. world_seen sim ≡ world_of links.now vrps scenario.now) }
     ensures routings { IfOk result (λ sim. IsOneFamily (world_seen sim) (kept sim)) }
+    ensures ranks { IfOk result (λ sim. AreRanks (world_seen sim) (ranks_kept sim)) }
     ensures no_cycle { IfOk result (λ sim. HasCycle (world_seen sim) → ⊥) }
     ensures few { IfOk result (λ sim. as_count (topology (world_seen sim)) ≤ 150000) }
     ensures refused { IfErr result (IsLoadRefusal (world_of links.now vrps scenario.now)) }
@@ -94,6 +95,7 @@ fn load_world<L: Ledger>(
     match rounds_of::<L>(alloc, &graph, &ranks, &vrps, &book, scenario, blank) {
         Ok(rounds) => Ok(Sim {
             graph,
+            ranks,
             vrps,
             book,
             rounds,
@@ -104,7 +106,7 @@ fn load_world<L: Ledger>(
 
 impl Sim {
     /// The simulation of the world of these links, these payloads and this scenario. For each round and
-    /// prefix it keeps the one and only stable routing.
+    /// prefix it keeps the one and only stable routing, and for each AS its rank.
     ///
     /// `TooManyAses` comes exactly where the world has more than 150,000 ASes, and else `ProviderCycle`
     /// exactly where its links have a provider cycle (Gao and Rexford 2001), with one from its lowest
@@ -117,6 +119,7 @@ impl Sim {
     ) -> Result<Sim, LoadError>
         ensures world { IfOk result (λ sim. world_seen sim ≡ world_of links vrps scenario) }
         ensures routings { IfOk result (λ sim. IsOneFamily (world_seen sim) (kept sim)) }
+        ensures ranks { IfOk result (λ sim. AreRanks (world_seen sim) (ranks_kept sim)) }
         ensures no_cycle { IfOk result (λ sim. HasCycle (world_seen sim) → ⊥) }
         ensures few { IfOk result (λ sim. as_count (topology (world_seen sim)) ≤ 150000) }
         ensures refused { IfErr result (IsLoadRefusal (world_of links vrps scenario)) }

@@ -6,14 +6,16 @@ ghost use Rattle.sim_core.specs.World.{topology};
 use as_graph::Graph;
 use leak_round::Rounds;
 use policy_kinds::Kind;
+use rank_order::Ranks;
 use roa_table::Vrps;
 use stability_laws::Book;
 
-/// A world, and for each round and prefix the one and only stable routing. Contracts see the world and
-/// what each AS holds.
+/// A world, the ranks of its ASes, and for each round and prefix the one and only stable routing.
+/// Contracts see the world, the ranks and what each AS holds.
 #[derive(Drop)]
 pub struct Sim {
     pub(crate) graph: Graph,
+    pub(crate) ranks: Ranks,
     pub(crate) vrps: Vrps,
     pub(crate) book: Book<Kind>,
     pub(crate) rounds: Rounds,

@@ -19,7 +19,7 @@ struct Shown {
     out: &'static [u8],
 }
 
-const FILES: [Example; 12] = [
+const FILES: [Example; 15] = [
     Example {
         name: "examples/diamond",
         bytes: b"# two providers of one origin\n1|2|-1\n1|3|-1\n2|4|-1\n3|4|-1\n",
@@ -68,9 +68,21 @@ const FILES: [Example; 12] = [
         name: "examples/hijack/forged.script",
         bytes: b"validity 10.0.0.0/8 4\nroutes 1 10.0.0.0/8\nroute 1 10.0.0.0/8 9\n",
     },
+    Example {
+        name: "examples/leak/links",
+        bytes: b"1|3|-1\n2|3|-1\n1|5|-1\n1|2|0\n",
+    },
+    Example {
+        name: "examples/leak/scenario.json",
+        bytes: b"{\"announcements\": [{\"prefix\": \"10.0.0.0/8\", \"as\": 5}],\n \"leaks\": [[3]]}\n",
+    },
+    Example {
+        name: "examples/leak/script",
+        bytes: b"route 1 10.0.0.0/8 2\nroute 2 10.0.0.0/8 2\nranks\n",
+    },
 ];
 
-const COMMANDS: [Shown; 6] = [
+const COMMANDS: [Shown; 7] = [
     Shown {
         words: &["asprop", "examples/diamond", "--origin", "4"],
         status: Status::Done,
@@ -132,6 +144,18 @@ const COMMANDS: [Shown; 6] = [
         ],
         status: Status::SomeRefused,
         out: b"# 1\nstate|valid\n4|10.0.0.0/8|8\n# 2\n1|customer|1 4\n2|customer|2 6 4\n3|provider|3 1 4\n4|origin|4\n5|provider|5 2 6 4\n6|origin|6 4\n7|provider|7 3 1 4\n# 3\nrefused unknown-as 9\n",
+    },
+    Shown {
+        words: &[
+            "asprop",
+            "examples/leak/links",
+            "--scenario",
+            "examples/leak/scenario.json",
+            "--script",
+            "examples/leak/script",
+        ],
+        status: Status::Done,
+        out: b"# 1\n2|peer|2 1 5\n# 2\n2|customer|2 3 1 5\n# 3\n1|1\n2|1\n3|0\n5|0\n",
     },
 ];
 

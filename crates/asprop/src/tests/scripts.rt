@@ -8,7 +8,7 @@ const SCRIPT_WORDS: &[&str] = &["asprop", "rel", "--scenario", "sc", "--script",
 const TWO_ANNOUNCERS: &[u8] =
     b"{\"announcements\":[{\"prefix\":\"10.0.0.0/8\",\"as\":4},{\"prefix\":\"10.0.0.0/8\",\"as\":5}]}\n";
 
-const SCRIPT_CASES: [ScriptCase; 14] = [
+const SCRIPT_CASES: [ScriptCase; 15] = [
     ScriptCase {
         name: "two-ases-announce-one-prefix",
         words: SCRIPT_WORDS,
@@ -87,15 +87,37 @@ const SCRIPT_CASES: [ScriptCase; 14] = [
         err: b"asprop: sc: document: wrong shape\n",
     },
     ScriptCase {
-        name: "member-leaks-not-there-yet",
+        name: "four-rounds",
         words: SCRIPT_WORDS,
         rel: b"1|3|-1\n2|3|-1\n1|5|-1\n1|2|0\n",
         vrps: b"",
-        scenario: b"{\"announcements\":[],\"leaks\":[[3]]}",
-        script: b"",
-        status: Status::BadInput,
+        scenario: b"{\"announcements\":[{\"prefix\":\"10.0.0.0/8\",\"as\":5}],\"leaks\":[[3],[],[3]]}",
+        script: b"routes 2 10.0.0.0/8\nroutes 3 10.0.0.0/8\nroute 4 10.0.0.0/8 2\nroute 5 10.0.0.0/8 2\n",
+        status: Status::SomeRefused,
+        out: b"# 1\n1|customer|1 5\n2|customer|2 3 1 5\n3|origin|3 1 5\n5|origin|5\n# 2\n1|customer|1 5\n2|peer|2 1 5\n3|provider|3 1 5\n5|origin|5\n# 3\n2|customer|2 3 1 5\n# 4\nrefused unknown-round 5\n",
+        err: b"",
+    },
+    ScriptCase {
+        name: "five-rounds-are-too-many",
+        words: SCRIPT_WORDS,
+        rel: b"1|3|-1\n2|3|-1\n1|5|-1\n1|2|0\n",
+        vrps: b"",
+        scenario: b"{\"announcements\":[{\"prefix\":\"10.0.0.0/8\",\"as\":5}],\"leaks\":[[3],[],[3],[]]}",
+        script: b"routes 1 10.0.0.0/8\n",
+        status: Status::TooLarge,
         out: b"",
-        err: b"asprop: sc: leaks: not built yet\n",
+        err: b"asprop: sc: more than 4 rounds\n",
+    },
+    ScriptCase {
+        name: "ranks of a world with a leaker that has no link",
+        words: SCRIPT_WORDS,
+        rel: b"5|1|-1\n5|2|-1\n1|3|-1\n2|3|-1\n1|6|-1\n6|4|-1\n2|4|-1\n",
+        vrps: b"",
+        scenario: b"{\"announcements\":[],\"leaks\":[[9]]}",
+        script: b"ranks\n",
+        status: Status::Done,
+        out: b"# 1\n1|2\n2|1\n3|0\n4|0\n5|3\n6|1\n9|0\n",
+        err: b"",
     },
     ScriptCase {
         name: "member-watch-not-there-yet",
@@ -107,17 +129,6 @@ const SCRIPT_CASES: [ScriptCase; 14] = [
         status: Status::BadInput,
         out: b"",
         err: b"asprop: sc: watch: not built yet\n",
-    },
-    ScriptCase {
-        name: "leaks are named before watched addresses",
-        words: SCRIPT_WORDS,
-        rel: b"",
-        vrps: b"",
-        scenario: b"{\"announcements\":[],\"watch\":[\"10.0.0.1\"],\"leaks\":[[3]]}",
-        script: b"",
-        status: Status::BadInput,
-        out: b"",
-        err: b"asprop: sc: leaks: not built yet\n",
     },
     ScriptCase {
         name: "short-script-line-is-unreadable",

@@ -17,7 +17,7 @@ fn limit_text(which: LimitOf) -> &'static str {
         LimitOf::Announcements => "more than 64 announcements",
         LimitOf::Prefixes => "more than 32 prefixes",
         LimitOf::Path => "more than 64 numbers in a path",
-        LimitOf::Rounds => "more than 2 rounds",
+        LimitOf::Rounds => "more than 4 rounds",
         LimitOf::Leakers => "more than 64 leakers in a round",
         LimitOf::Watch => "more than 16 watched addresses",
     }
@@ -114,7 +114,7 @@ const TWICE: &str = r#"
 {"announcements":[],"policies":[{"as":3,"policy":"plain"},{"as":3,"policy":"plain"}]} => policies[1]: named twice
 {"announcements":[],"leaks":[[3,4],[4,3],[3,4,3]]} => leaks[2][2]: named twice
 {"announcements":[],"watch":["::1","10.0.0.1","0:0::1"]} => watch[2]: named twice
-{"announcements":[],"leaks":[[],[]]} => more than 2 rounds
+{"announcements":[],"leaks":[[],[],[],[]]} => more than 4 rounds
 "#;
 
 #[test]

@@ -1,0 +1,39 @@
+//! The ranks of all ASes.
+ghost use Rattle.std.specs.Prelude.{◌≡◌, ◌++◌, OnOk, OnErr};
+ghost use Rattle.as_graph.specs.Topology.{has};
+ghost use Rattle.rank_order.specs.Ranks.{rank_at};
+ghost use Rattle.reports.specs.Growth.{Grows};
+ghost use Rattle.reports.specs.Rows.{rank_row, AppendsTable};
+
+use crate::bytes::{put_bytes, put_number};
+use as_graph::Graph;
+use net_names::{Asn, NoMemory, put_asn};
+use rank_order::Ranks;
+
+// Appends the row of an AS.
+fn append_rank(out: &mut Vec<u8>, asn: Asn, rank: u32) -> Result<(), NoMemory>
+    ensures ok { OnOk result (out.new.items ≡ out.old.items ++ rank_row asn rank) }
+    ensures err { OnErr result (Grows out.old.items out.new.items) }
+{
+    put_asn(out, asn)?;
+    put_bytes(out, b"|")?;
+    put_number(out, rank)?;
+    put_bytes(out, b"\n")
+}
+
+/// Appends the ranks of a graph's ASes: for each AS, in rising number, a row with the AS, `|` and its
+/// rank. Where memory runs out, nothing changes. The format is this project's own.
+pub fn put_ranks(out: &mut Vec<u8>, graph: &Graph, ranks: &Ranks) -> Result<(), NoMemory>
+    ensures ok { OnOk result (AppendsTable (has graph.now) (λ a. rank_row a (rank_at ranks.now a)) out.old.items out.new.items) }
+    ensures err { OnErr result (out.new.items ≡ out.old.items) }
+{
+    let kept = out.len();
+    let ases = graph.ases();
+    for (place, asn) in ases.iter().enumerate() {
+        if append_rank(out, *asn, ranks.rank_near(*asn, place)).is_err() {
+            out.truncate(kept);
+            return Err(NoMemory);
+        }
+    }
+    Ok(())
+}
