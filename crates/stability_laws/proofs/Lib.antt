@@ -16,3 +16,4 @@ pub mod Activations
 pub mod Stored
 pub mod Books
 pub mod Shorts
+pub mod PathEnds

@@ -1,5 +1,5 @@
 -- What the laws say.
-use Rattle.std.specs.Prelude.{◌≡◌, ◌≢◌, ◌⊎◌, ◌↔◌, ℕ, suc, ◌<◌, ◌≤◌, IsTrue, true, false, Option, None, Some, List, length}
+use Rattle.std.specs.Prelude.{◌≡◌, ◌≢◌, ◌⊎◌, ◌↔◌, ℕ, suc, ◌<◌, ◌≤◌, IsTrue, true, false, Option, None, Some, List, length, slice_get}
 use Rattle.net_names.specs.declared.routes.Class.TheVariants as class
 use Rattle.net_names.specs.declared.routes.Rel.{Rel}
 use Rattle.net_names.specs.declared.routes.Rel.TheVariants.{Customer, Peer, Provider}
@@ -13,7 +13,7 @@ use Rattle.stability_laws.specs.Offers.{Setting, Offer, GivenBy, offer}
 use Rattle.stability_laws.specs.Stable.{IsRight, IsRightGiven, IsStable}
 use Rattle.stability_laws.specs.Book.{PolicyBook, policy_at}
 use Rattle.stability_laws.specs.World.{setting}
-use Rattle.stability_laws.specs.Plans.{Plan, has_prefix}
+use Rattle.stability_laws.specs.Plans.{Plan, IsSound, has_prefix, announces}
 use Rattle.stability_laws.specs.Rounds.{AreRounds}
 use Rattle.net_names.specs.Prefixes.{PrefixValue}
 
@@ -105,6 +105,14 @@ OneFamily {P} meaning =
     let here = λ (prefix : PrefixValue). setting meaning w book (state prefix) in
     HasNoProviderCycle (what w) → AreRounds here plan rounds g → AreRounds here plan rounds h →
     (before : ℕ) (prefix : PrefixValue) → before < rounds → IsTrue (has_prefix plan prefix) → (a : ℕ) → g (suc before) prefix a ≡ h (suc before) prefix a
+
+-- in the rounds of a plan each path starts with its AS, and where the AS does not announce the prefix the path goes on to an AS of the world (RFC 4271, section 5.1.2)
+abbrev pub PathsGoOn : {P : Type 0} → (P → Policy) → Type 0
+PathsGoOn {P} meaning =
+    (w : Topology) (book : PolicyBook P) (state : PrefixValue → ℕ → State) (plan : Plan) (rounds : ℕ) (g : ℕ → PrefixValue → ℕ → Option Entry) →
+    IsSound plan → AreRounds (λ prefix. setting meaning w book (state prefix)) plan rounds g →
+    (before : ℕ) (prefix : PrefixValue) → before < rounds → IsTrue (has_prefix plan prefix) → (a : ℕ) (e : Entry) → g (suc before) prefix a ≡ Some e →
+    (slice_get e.path 0 ≡ Some a) × (announces plan prefix a ≡ false → (b : ℕ) × (slice_get e.path 1 ≡ Some b) × (has w b ≡ true))
 
 -- the height of a world is how many ASes its longest chain of providers and customers has (Gao and Rexford 2001)
 pub record IsHeight (w : Topology) (height : ℕ) : Type 0 where

@@ -1,6 +1,6 @@
 //! Laws of offers, choices and stable routings, for every policy type. Each is a function without a
 //! body: who needs a law calls it, and has its clause.
-ghost use Rattle.stability_laws.specs.Laws.{OfferFollows, OfferNames, RightByOffers, RightFollows, OneAnswer, NothingUp, CustomersDecide, OneStableRouting, OneFamily};
+ghost use Rattle.stability_laws.specs.Laws.{OfferFollows, OfferNames, RightByOffers, RightFollows, OneAnswer, NothingUp, CustomersDecide, OneStableRouting, OneFamily, PathsGoOn};
 ghost use Rattle.stability_laws.specs.AnyOrder.{AnyOrderSettles};
 
 use policy_laws::RoutePolicy;
@@ -57,6 +57,12 @@ pub fn one_stable_routing<P: RoutePolicy>()
 /// cycle, are equal.
 pub fn one_family<P: RoutePolicy>()
     ensures { OneFamily P.meaning }
+{}
+
+/// In the rounds of a plan each path starts with its AS, and where the AS does not announce the prefix
+/// the path goes on to an AS of the world.
+pub fn paths_go_on<P: RoutePolicy>()
+    ensures { PathsGoOn P.meaning }
 {}
 
 /// From any routing, any list of activations with twice as many full pieces as the longest chain

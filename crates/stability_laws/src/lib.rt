@@ -22,7 +22,7 @@ pub use check::check_at;
 pub use entry::{Entry, Seed};
 pub use laws::{
     any_order_settles, customers_decide, nothing_up, offer_follows, offer_names, one_answer,
-    one_family, one_stable_routing, right_by_offers, right_follows,
+    one_family, one_stable_routing, paths_go_on, right_by_offers, right_follows,
 };
 pub use offers::{carried, class_from, number_sent, offered_view};
 pub use routing::{Routing, Seeds};

@@ -178,6 +178,13 @@ impl SeedPlan {
         self.prefixes.get(place).copied()
     }
 
+    /// The prefixes in their rising order of family, address and length.
+    pub fn prefixes(&self) -> &[Prefix]
+        ensures { result.now ≡ prefixes_of self.now }
+    {
+        self.prefixes.as_slice()
+    }
+
     /// The AS at a place among the distinct ASes that announce a prefix, in rising order; `None`
     /// exactly where the place is not below their number. It takes a constant time.
     pub fn announcer_at(&self, place: usize) -> Option<Asn>
