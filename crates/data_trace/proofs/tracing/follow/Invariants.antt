@@ -1,0 +1,15 @@
+use Rattle.std.proofs.Common.{◌≡◌, ℕ, ◌<◌, ◌-◌, length}
+use Rattle.route_choice.specs.RoundTables.{round_routing}
+use Rattle.data_trace.specs.Hops.{next_hop}
+use Rattle.data_trace.specs.Traces.{IsWay, IsIn, last_of}
+use Rattle.data_trace.proofs.tracing.follow.Given as goal
+
+abbrev pub invariant-steps : goal.invariant-steps
+invariant-steps l = record {
+  way : IsWay (next_hop l.forwarding.plan.now (round_routing l.forwarding.pool.now l.forwarding.tables.now) l.forwarding.addr) l.fn.asn l.ases.keys;
+  last : last_of l.ases.keys ≡ l.last;
+  small : (q : ℕ) → IsIn q l.ases.keys → q < 4294967296;
+}
+
+abbrev pub decreases-steps : goal.decreases-steps
+decreases-steps l = 4294967297 - length l.ases.keys

@@ -1,0 +1,40 @@
+-- Where an AS sends a packet.
+use Rattle.std.specs.Prelude.{ℕ, ◌&&◌, nat_lt, if◌then◌else◌, Option, None, Some, is_some, option_and_then, List, fold, filter, slice_get}
+use Rattle.net_names.specs.Addresses.{AddrValue}
+use Rattle.net_names.specs.Prefixes.{PrefixValue}
+use Rattle.net_names.specs.Coverage.{holds}
+use Rattle.stability_laws.specs.declared.entry.Entry.{Entry}
+use Rattle.stability_laws.specs.Plans.{Plan, announces, prefixes_of}
+use Rattle.data_trace.specs.declared.kinds.Hop.{Hop}
+use Rattle.data_trace.specs.declared.kinds.Hop.TheVariants.{Here, To, NoRoute}
+
+-- the longer of two prefixes, the first where they are equally long (own rule)
+abbrev pub longer : Option PrefixValue → PrefixValue → Option PrefixValue
+longer None q = Some q
+longer (Some p) q = if nat_lt p.len q.len then Some q else Some p
+
+-- the longest prefix of the list, if there is one (own rule)
+abbrev pub longest : List PrefixValue → Option PrefixValue
+longest ps = fold longer None ps
+
+-- the prefix by which an AS sends a packet: of the prefixes of the plan that hold the address and of which the AS has an entry, the longest (RFC 4632, section 5.1)
+abbrev pub sent_by : Plan → (PrefixValue → ℕ → Option Entry) → AddrValue → ℕ → Option PrefixValue
+sent_by plan held addr a = longest (filter (λ p. holds p addr && is_some (held p a)) (prefixes_of plan))
+
+-- the next hop is this AS; without one there is no route (own rule)
+abbrev pub hop_to : Option ℕ → Hop
+hop_to None = NoRoute
+hop_to (Some b) = To b
+
+-- the second AS of the path of an entry, if there is one (RFC 4271, section 5.1.2)
+abbrev pub second_of : Option Entry → Option ℕ
+second_of entry = option_and_then (λ e. slice_get e.path 1) entry
+
+-- the next hop by a prefix: here where the AS announces the prefix, whatever it holds, else the second AS of its entry's path; without a prefix there is no route (RFC 4271, section 5.1.3)
+abbrev pub hop_by : Plan → (PrefixValue → ℕ → Option Entry) → ℕ → Option PrefixValue → Hop
+hop_by plan held a None = NoRoute
+hop_by plan held a (Some p) = if announces plan p a then Here else hop_to (second_of (held p a))
+
+-- where an AS sends a packet to the address, with what the ASes hold of each prefix in one round (RFC 4632, section 5.1)
+abbrev pub next_hop : Plan → (PrefixValue → ℕ → Option Entry) → AddrValue → ℕ → Hop
+next_hop plan held addr a = hop_by plan held a (sent_by plan held addr a)

@@ -1,0 +1,5 @@
+pub mod Hops
+pub mod Traces
+pub mod Steps
+pub mod Best
+pub mod Candidates

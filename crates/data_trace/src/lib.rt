@@ -1,0 +1,18 @@
+//! Where packets go. In each round and for each address an AS has a next hop, by the longest prefix of
+//! which it has an entry; the trace of a packet follows next hops until it is delivered, has no route,
+//! or comes back to an AS. A watch keeps the end of every AS's trace for one round and address, and
+//! counts them by group.
+#![tactic(auto)]
+
+mod best;
+mod candidate;
+mod forwarding;
+mod hops;
+mod kinds;
+mod laws;
+mod tracing;
+
+pub use hops::next_hop;
+pub use kinds::{End, Hop, Trace};
+pub use laws::one_trace;
+pub use tracing::trace;
