@@ -54,6 +54,9 @@ module _ (prefixes : List PrefixValue) (announced : List Announcement) (announce
   pub prefixes_are : prefixes ≡ prefixes_of plan
   prefixes_are = sym (keys_set_of prefix_cmp prefixes w.prefixes_rise) ∙ ap prefixes_of v
 
+  pub announcers_are : announcers ≡ announcers_of plan
+  announcers_are = sym (keys_set_of nat_cmp announcers w.announcers_rise) ∙ (ap (λ m. fin.keys m) w.announcers_are ∙ ap announcers_of v)
+
   pub announcer_at_place : (i : ℕ) → slice_get announcers i ≡ slice_get (announcers_of plan) i
   announcer_at_place i = ap (λ ks. slice_get ks i) (sym (keys_set_of nat_cmp announcers w.announcers_rise)) ∙ (ap (λ m. slice_get (fin.keys m) i) w.announcers_are ∙ ap (λ (p : Plan). slice_get (announcers_of p) i) v)
 

@@ -194,6 +194,13 @@ impl SeedPlan {
         self.announcers.get(place).copied()
     }
 
+    /// The distinct ASes that announce a prefix, in rising order.
+    pub fn announcers(&self) -> &[Asn]
+        ensures { result.now ≡ announcers_of self.now }
+    {
+        self.announcers.as_slice()
+    }
+
     /// The AS at a place among the ASes that leak in that round, in rising order; `None` exactly where
     /// the place is not below their number.
     pub fn leaker_at(&self, round: u32, place: usize) -> Option<Asn>
