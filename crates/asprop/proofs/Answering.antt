@@ -10,8 +10,8 @@ use Rattle.scenario_text.specs.LineValues.{LineValue}
 use Rattle.scenario_text.specs.declared.acts.Act.{Act}
 use Rattle.scenario_text.specs.declared.acts.Act.TheVariants as act
 use Rattle.scenario_text.specs.declared.acts.Query.{Query}
-use Rattle.sim_core.specs.World.{World, AreRanks}
-use Rattle.sim_core.specs.Families.{Family, IsOneFamily}
+use Rattle.sim_core.specs.World.{World}
+use Rattle.sim_core.specs.Kept.{Kept, IsKept}
 use Rattle.net_names.specs.declared.numbers.NoMemory.{NoMemory}
 use Rattle.std.specs.List.{All}
 use Rattle.std.proofs.lemmas.List.Elements.{All-nil, All-cons, All-get_or}
@@ -115,14 +115,14 @@ pub rose_earlier : (a b c : ℕ) → a ≤ b → Rose b c → Rose a c
 rose_earlier a b c le h = rose_by (nat_lt a (2 ^ 64 - 1)) (nat_lt b (2 ^ 64 - 1)) a b c (2 ^ 64 - 1) (ltb-true a (2 ^ 64 - 1)) (ltb-false b (2 ^ 64 - 1)) le h
 
 -- a reply under a head line is an answer
-pub answered : (r : Result Bool NoMemory) (heads : Bool) (w : World) (g : Family) (ranks : ℕ → ℕ) (line : LineValue) (q : Query) (begun now : List ℕ) → begun ≡ head heads line → line.act ≡ act.Query q → IsOneFamily w g → AreRanks w ranks
-    → IfOk r (λ refused. AppendsReply w g ranks q refused begun now) → IfOk r (λ refused. Answered heads w line now refused w)
-answered (Ok refused) heads w g ranks line q begun now first asks one are h = record {
+pub answered : (r : Result Bool NoMemory) (heads : Bool) (w : World) (k : Kept) (line : LineValue) (q : Query) (begun now : List ℕ) → begun ≡ head heads line → line.act ≡ act.Query q → IsKept w k
+    → IfOk r (λ refused. AppendsReply w k q refused begun now) → IfOk r (λ refused. Answered heads w line now refused w)
+answered (Ok refused) heads w k line q begun now first asks is h = record {
   answer = h.text;
-  answers = record { routings = g; one = one; ranks = ranks; are_ranks = are; told = subst (λ (a : Act). Tells w g ranks a h.text refused) (sym asks) h.reply; stays = refl };
+  answers = record { kept = k; is_kept = is; told = subst (λ (a : Act). Tells w k a h.text refused) (sym asks) h.reply; stays = refl };
   text_is = h.appended ∙ ap (λ l. l ++ h.text) first;
 }
-answered (Err e) heads w g ranks line q begun now first asks one are h = h
+answered (Err e) heads w k line q begun now first asks is h = h
 
 -- each line is answered where none is unanswered
 none_unanswered : (t : Bool) (line : LineValue) (rest : Option ℕ) → is_answered line.act ≡ t → cond t rest (Some line.number) ≡ None → (is_answered line.act ≡ true) × (rest ≡ None)

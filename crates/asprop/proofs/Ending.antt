@@ -49,7 +49,6 @@ by_fault form (fault.Scenario (scenario.Shape place)) old new rose h = record { 
 by_fault form (fault.Scenario (scenario.Value place)) old new rose h = record { ends = (refl, h); explains = refl }
 by_fault form (fault.Scenario (scenario.Twice place)) old new rose h = record { ends = (refl, h); explains = refl }
 by_fault form (fault.Scenario (scenario.Limit which)) old new rose h = record { ends = (refl, h); explains = refl }
-by_fault form (fault.Later member) old new rose h = record { ends = (refl, h); explains = refl }
 by_fault form (fault.Script script.Memory) old new rose h = record { ends = (refl, h); explains = refl }
 by_fault form (fault.Script (script.Unreadable n)) old new rose h = record { ends = (refl, h); explains = refl }
 by_fault form (fault.Script (script.TooMany n)) old new rose h = record { ends = (refl, h); explains = refl }

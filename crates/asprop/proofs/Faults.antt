@@ -8,15 +8,13 @@ use Rattle.caida_reader.specs.declared.errors.RelError.TheVariants as rel
 use Rattle.roa_table.specs.Files.{payloads_in}
 use Rattle.roa_table.specs.declared.errors.VrpError.{VrpError}
 use Rattle.roa_table.specs.declared.errors.VrpError.TheVariants as vrp
-use Rattle.scenario_text.specs.Scenarios.{ScenarioValue}
 use Rattle.scenario_text.specs.LineValues.{LineValue}
-use Rattle.scenario_text.specs.declared.places.Member.{Member}
 use Rattle.scenario_text.specs.declared.faults.ScenarioError.{ScenarioError}
 use Rattle.scenario_text.specs.declared.faults.ScenarioError.TheVariants as scenario
 use Rattle.scenario_text.specs.declared.script.ScriptError.{ScriptError}
 use Rattle.scenario_text.specs.declared.script.ScriptError.TheVariants as script
 use Rattle.asprop.specs.Texts.{status_of}
-use Rattle.asprop.specs.Task.{Task, Reads, asked, task_of_form, origin_task, script_task, relations, payloads_by, scenario_by, script_lines, later_in, unless_later, without_later, first_unanswered, unless_unanswered, all_answered, read_as, or_fault, bytes_of, within_limits, ◌>>=◌}
+use Rattle.asprop.specs.Task.{Task, Reads, asked, task_of_form, origin_task, script_task, relations, payloads_by, scenario_by, script_lines, first_unanswered, unless_unanswered, all_answered, read_as, or_fault, bytes_of, within_limits, ◌>>=◌}
 use Rattle.asprop.specs.Words.{Form, origin_form, script_form}
 use Rattle.asprop.specs.declared.types.File.{File}
 use Rattle.asprop.specs.declared.types.File.TheVariants as file
@@ -102,17 +100,9 @@ module _ (form : Option Form) (reads : Reads) where
   of_payloads None e h = cc
   of_payloads (Some name) e h = of_read file.Payloads fault.Payload payloads_in other_payload e h
 
-  of_member : (found : Option Member) (s : ScenarioValue) (e : Fault) → unless_later found s ≡ Err e → Stopped form reads e
-  of_member None s e h = cc
-  of_member (Some member) s e h = let is : fault.Later member ≡ e = cc in subst (Stopped form reads) is (by_value (fault.Later member) (bad _ refl))
-
   of_scenario : (name : Option (List ℕ)) (e : Fault) → scenario_by name (reads file.Scenario) ≡ Err e → Stopped form reads e
   of_scenario None e h = cc
-  of_scenario (Some name) e h =
-      elim (bind_err (read_as file.Scenario fault.Scenario scenario_of_bytes (reads file.Scenario)) without_later e h) [
-        | inl early ↦ of_read file.Scenario fault.Scenario scenario_of_bytes other_scenario e early
-        | inr late ↦ of_member (later_in late.0) late.0 e late.2
-      ]
+  of_scenario (Some name) e h = of_read file.Scenario fault.Scenario scenario_of_bytes other_scenario e h
 
   of_unanswered : (found : Option ℕ) (lines : List LineValue) (e : Fault) → unless_unanswered found lines ≡ Err e → Stopped form reads e
   of_unanswered None lines e h = cc

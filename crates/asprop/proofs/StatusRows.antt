@@ -55,7 +55,6 @@ write_only (Err (fault.TooLong which)) old new rose h = cc
 write_only (Err (fault.Relation e)) old new rose h = absurd ((other_relation e).write h.0)
 write_only (Err (fault.Payload e)) old new rose h = absurd ((other_payload e).write h.0)
 write_only (Err (fault.Scenario e)) old new rose h = absurd ((other_scenario e).write h.0)
-write_only (Err (fault.Later member)) old new rose h = cc
 write_only (Err (fault.Script e)) old new rose h = absurd ((other_script e).write h.0)
 write_only (Err fault.TooManyAses) old new rose h = cc
 

@@ -14,8 +14,6 @@ use Rattle.scenario_text.specs.Script.{script_of}
 use Rattle.scenario_text.specs.declared.acts.Act.{Act}
 use Rattle.scenario_text.specs.declared.acts.Act.TheVariants as act
 use Rattle.scenario_text.specs.declared.acts.Query.TheVariants as query
-use Rattle.scenario_text.specs.declared.places.Member.{Member}
-use Rattle.scenario_text.specs.declared.places.Member.TheVariants.{Watch}
 use Rattle.scenario_text.specs.declared.script.ScriptError.TheVariants as script
 use Rattle.sim_core.specs.World.{World, topology}
 use Rattle.sim_core.specs.Loaded.{world_of}
@@ -71,27 +69,16 @@ abbrev pub payloads_by : Option (List ℕ) → Option (List ℕ) → Result Payl
 payloads_by None read = Ok no_payloads
 payloads_by (Some name) read = read_as file.Payloads fault.Payload payloads_in read
 
--- the member of a scenario that names something whose meaning is not built yet: watched addresses (own rule)
-abbrev pub later_in : ScenarioValue → Option Member
-later_in s = elim s.watch [ (addr ∷ addrs) ↦ Some Watch | [] ↦ None ]
-
--- the scenario, if it names nothing whose meaning is not built yet (own rule)
-abbrev pub unless_later : Option Member → ScenarioValue → Result ScenarioValue Fault
-unless_later None s = Ok s
-unless_later (Some member) s = Err (fault.Later member)
-
-abbrev pub without_later : ScenarioValue → Result ScenarioValue Fault
-without_later s = unless_later (later_in s) s
-
 -- the scenario of the file of this name; without a name it is the empty one (own rule)
 abbrev pub scenario_by : Option (List ℕ) → Option (List ℕ) → Result ScenarioValue Fault
 scenario_by None read = Ok nothing
-scenario_by (Some name) read = read_as file.Scenario fault.Scenario scenario_of_bytes read >>= without_later
+scenario_by (Some name) read = read_as file.Scenario fault.Scenario scenario_of_bytes read
 
 -- what is asked is answered; the other lines are not built yet (own rule)
 abbrev pub is_answered : Act → Bool
 is_answered (act.Query (query.Routes round prefix)) = true
 is_answered (act.Query (query.Route round prefix asn)) = true
+is_answered (act.Query (query.Trace round asn addr)) = true
 is_answered (act.Query query.Ranks) = true
 is_answered (act.Query (query.Validity prefix asn)) = true
 is_answered _ = false

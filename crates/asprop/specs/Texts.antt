@@ -4,7 +4,6 @@ use Rattle.caida_reader.specs.declared.errors.RelError.{RelError}
 use Rattle.caida_reader.specs.declared.errors.RelError.TheVariants as rel
 use Rattle.roa_table.specs.declared.errors.VrpError.{VrpError}
 use Rattle.roa_table.specs.declared.errors.VrpError.TheVariants as vrp
-use Rattle.scenario_text.specs.Places.{in_member}
 use Rattle.scenario_text.specs.PlaceTexts.{place_text}
 use Rattle.scenario_text.specs.declared.faults.LimitOf.{LimitOf}
 use Rattle.scenario_text.specs.declared.faults.LimitOf.TheVariants as limit
@@ -94,7 +93,6 @@ fault_text form (fault.TooLong which) = of_file (shown form which) (length_text 
 fault_text form (fault.Relation e) = of_file (shown form file.Relations) (rel_text e)
 fault_text form (fault.Payload e) = of_file (shown form file.Payloads) (vrp_text e)
 fault_text form (fault.Scenario e) = of_file (shown form file.Scenario) (scenario_text e)
-fault_text form (fault.Later member) = of_file (shown form file.Scenario) (place_text (in_member member) ++ codes ": not built yet")
 fault_text form (fault.Script e) = of_file (shown form file.Script) (script_text e)
 fault_text form fault.TooManyAses = message (codes "more than 150000 ASes")
 
@@ -126,7 +124,6 @@ status_of (fault.TooLong which) = status.TooLarge
 status_of (fault.Relation e) = rel_status e
 status_of (fault.Payload e) = vrp_status e
 status_of (fault.Scenario e) = scenario_status e
-status_of (fault.Later member) = status.BadInput
 status_of (fault.Script e) = script_status e
 status_of fault.TooManyAses = status.TooLarge
 

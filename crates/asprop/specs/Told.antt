@@ -4,35 +4,33 @@ use Rattle.scenario_text.specs.LineValues.{LineValue}
 use Rattle.scenario_text.specs.declared.acts.Act.{Act}
 use Rattle.scenario_text.specs.declared.acts.Act.TheVariants as act
 use Rattle.scenario_text.specs.declared.acts.Query.{Query}
-use Rattle.sim_core.specs.World.{World, AreRanks}
-use Rattle.sim_core.specs.Families.{Family, IsOneFamily}
+use Rattle.sim_core.specs.World.{World}
+use Rattle.sim_core.specs.Kept.{Kept, IsKept}
 use Rattle.sim_core.specs.Answers.{IsAnswer, refusal_of}
 use Rattle.sim_core.specs.declared.errors.QueryError.{QueryError}
 use Rattle.asprop.specs.Refusals.{refusal_text}
 
 -- the text is the answer, or where there is a reason to refuse the text of the refusal (own format)
-abbrev pub IsReply : World → Family → (ℕ → ℕ) → Query → Option QueryError → List ℕ → Bool → Type 0
-IsReply w routings ranks q None text refused = IsAnswer w routings ranks q text × (refused ≡ false)
-IsReply w routings ranks q (Some e) text refused = (text ≡ refusal_text e) × (refused ≡ true)
+abbrev pub IsReply : World → Kept → Query → Option QueryError → List ℕ → Bool → Type 0
+IsReply w kept q None text refused = IsAnswer w kept q text × (refused ≡ false)
+IsReply w kept q (Some e) text refused = (text ≡ refusal_text e) × (refused ≡ true)
 
 -- the reply to a query was appended (own format)
-pub record AppendsReply (w : World) (routings : Family) (ranks : ℕ → ℕ) (q : Query) (refused : Bool) (old new : List ℕ) : Type 0 where
+pub record AppendsReply (w : World) (kept : Kept) (q : Query) (refused : Bool) (old new : List ℕ) : Type 0 where
   pub text : List ℕ
-  pub reply : IsReply w routings ranks q (refusal_of w q) text refused
+  pub reply : IsReply w kept q (refusal_of w q) text refused
   pub appended : new ≡ old ++ text
 
 -- the text is what is told for what a line asks; an edit has no text yet (own format)
-abbrev pub Tells : World → Family → (ℕ → ℕ) → Act → List ℕ → Bool → Type 0
-Tells w routings ranks (act.Query q) text refused = IsReply w routings ranks q (refusal_of w q) text refused
-Tells w routings ranks (act.Edit e) text refused = ⊥
+abbrev pub Tells : World → Kept → Act → List ℕ → Bool → Type 0
+Tells w kept (act.Query q) text refused = IsReply w kept q (refusal_of w q) text refused
+Tells w kept (act.Edit e) text refused = ⊥
 
 -- the text answers the line by the one and only stable routings of the world's rounds and by the ranks of its ASes, and the world stays as it is (Gao and Rexford 2001)
 pub record Answers (w : World) (line : LineValue) (text : List ℕ) (refused : Bool) (after : World) : Type 0 where
-  pub routings : Family
-  pub one : IsOneFamily w routings
-  pub ranks : ℕ → ℕ
-  pub are_ranks : AreRanks w ranks
-  pub told : Tells w routings ranks line.act text refused
+  pub kept : Kept
+  pub is_kept : IsKept w kept
+  pub told : Tells w kept line.act text refused
   pub stays : after ≡ w
 
 -- the head line of an answer: `# ` and the line's number (own format)

@@ -2,9 +2,8 @@
 ghost use Rattle.std.specs.Prelude.{◌≡◌, ◌++◌, true, IfOk, OnOk};
 ghost use Rattle.io_edge.specs.Faults.{Rose};
 ghost use Rattle.sim_core.specs.Answers.{IsAnswered};
-ghost use Rattle.sim_core.specs.Families.{IsOneFamily};
-ghost use Rattle.sim_core.specs.Sims.{kept, ranks_kept, world_seen};
-ghost use Rattle.sim_core.specs.World.{AreRanks};
+ghost use Rattle.sim_core.specs.Kept.{IsKept};
+ghost use Rattle.sim_core.specs.Sims.{kept, world_seen};
 ghost use Rattle.asprop.specs.Task.{is_answered, AreAnswered};
 ghost use Rattle.asprop.specs.Told.{Answered, AppendsReply, head, head_line};
 ghost use Rattle.asprop.specs.Written.{Answering};
@@ -28,7 +27,7 @@ fn put_head(alloc: Global, number: u32, text: &mut Vec<u8>) -> Result<(), AllocE
 // Appends the answer to a query, or the text of its refusal, and says whether it is refused.
 fn put_reply(sim: &Sim, query: &Query, text: &mut Vec<u8>) -> Result<bool, NoMemory>
     requires { IsAnswered query.now }
-    ensures { IfOk result (λ refused. AppendsReply (world_seen sim.now) (kept sim.now) (ranks_kept sim.now) query.now refused text.old.items text.new.items) }
+    ensures { IfOk result (λ refused. AppendsReply (world_seen sim.now) (kept sim.now) query.now refused text.old.items text.new.items) }
 {
     match sim.answer(query, text) {
         Ok(()) => Ok(false),
@@ -63,8 +62,7 @@ fn answer_line(
     text: &mut Vec<u8>,
 ) -> Result<bool, NoMemory>
     requires answered { is_answered line.now.act ≡ true }
-    requires routings { IsOneFamily (world_seen sim.now) (kept sim.now) }
-    requires ranks { AreRanks (world_seen sim.now) (ranks_kept sim.now) }
+    requires kept { IsKept (world_seen sim.now) (kept sim.now) }
     ensures { IfOk result (λ refused. Answered heads (world_seen sim.now) line.now text.new.items refused (world_seen sim.now)) }
 {
     begin_text(alloc, heads, line, text)?;
@@ -83,8 +81,7 @@ pub fn answer_all<O: Sink>(
     out: &mut O,
 ) -> Result<bool, Stop>
     requires answered { AreAnswered lines.now }
-    requires routings { IsOneFamily (world_seen sim.now) (kept sim.now) }
-    requires ranks { AreRanks (world_seen sim.now) (ranks_kept sim.now) }
+    requires kept { IsKept (world_seen sim.now) (kept sim.now) }
     ensures { Answering heads (world_seen sim.now) lines.now result (O.written out.old) (O.written out.new) (Rose (O.faults out.old) (O.faults out.new)) }
 {
     let mut text: Vec<u8> = Vec::new(alloc);

@@ -14,7 +14,7 @@ use io_edge::{Sink, write_all};
 use net_names::NoMemory;
 use reports::put_numbers;
 use roa_table::VrpError;
-use scenario_text::{Place, ScenarioError, ScriptError, place_string};
+use scenario_text::{ScenarioError, ScriptError};
 use std::alloc::{AllocError, Global};
 
 const USAGE: &str =
@@ -63,11 +63,6 @@ fn fault_message(
             let text = scenario_text(alloc, error)?;
             format!(in alloc; "asprop: {name}: {text}\n")
         }
-        Fault::Later(member) => {
-            let name = file_name(form, File::Scenario);
-            let text = place_string(alloc, Place::member(member))?;
-            format!(in alloc; "asprop: {name}: {text}: not built yet\n")
-        }
         Fault::Script(error) => {
             let name = file_name(form, File::Script);
             let text = script_text(alloc, error)?;
@@ -105,7 +100,6 @@ fn fault_status(fault: Fault) -> Status
         Fault::Payload(_) => Status::BadInput,
         Fault::Scenario(ScenarioError::Limit { which: _ }) => Status::TooLarge,
         Fault::Scenario(_) => Status::BadInput,
-        Fault::Later(_) => Status::BadInput,
         Fault::Script(ScriptError::TooMany { line: _ }) => Status::TooLarge,
         Fault::Script(_) => Status::BadInput,
         Fault::TooManyAses => Status::TooLarge,

@@ -1,7 +1,7 @@
 //! The files of a run: each is read to its end, or to one byte past its limit, before it is judged.
 ghost use Rattle.std.specs.Prelude.{◌≡◌, ◌<◌, length};
 ghost use Rattle.io_edge.specs.Faults.{Rose, KeepsNames};
-ghost use Rattle.asprop.specs.Task.{all_answered as lines_if_answered, bytes_of, first_unanswered as first_unanswered_in, is_answered as answers_act, later_in as later_member, most_bytes, payloads_by, relations, scenario_by, script_lines, without_later as with_nothing_later};
+ghost use Rattle.asprop.specs.Task.{all_answered as lines_if_answered, bytes_of, first_unanswered as first_unanswered_in, is_answered as answers_act, most_bytes, payloads_by, relations, scenario_by, script_lines};
 ghost use Rattle.asprop.specs.Files.{Finds, ReadsAs, ReadsTo};
 ghost use Rattle.asprop.specs.Words.{text_seen};
 
@@ -11,9 +11,7 @@ use caida_reader::Reader;
 use io_edge::{Failed, Inputs, ReadAllError, read_all};
 use net_names::Links;
 use roa_table::Vrps;
-use scenario_text::{
-    Act, Line, Lines, Member, Query, Scenario, ScriptError, read_scenario, read_script,
-};
+use scenario_text::{Act, Line, Lines, Query, Scenario, ScriptError, read_scenario, read_script};
 use std::alloc::Global;
 
 // The most bytes of a relationship file.
@@ -124,26 +122,6 @@ pub fn read_payloads<I: Inputs>(
     }
 }
 
-// The member that names something whose meaning is not built yet, if there is one.
-fn later_in(scenario: &Scenario) -> Option<Member>
-    ensures { result ≡ later_member scenario.now }
-{
-    if scenario.watch_at(0).is_some() {
-        return Some(Member::Watch);
-    }
-    None
-}
-
-// The scenario, if it names nothing whose meaning is not built yet.
-fn without_later(scenario: Scenario) -> Result<Scenario, Stop>
-    ensures { Finds (λ scenario. scenario) result (with_nothing_later scenario) }
-{
-    match later_in(&scenario) {
-        Some(member) => Err(Stop::Fault(Fault::Later(member))),
-        None => Ok(scenario),
-    }
-}
-
 /// Reads the scenario of the file of this name; without a name it is the empty one.
 pub fn read_plan<I: Inputs>(
     alloc: Global,
@@ -162,7 +140,7 @@ pub fn read_plan<I: Inputs>(
         Err(stop) => return Err(stop),
     };
     match read_scenario(alloc, &bytes) {
-        Ok(scenario) => without_later(scenario),
+        Ok(scenario) => Ok(scenario),
         Err(error) => Err(scenario_stop(error)),
     }
 }
@@ -174,6 +152,7 @@ fn is_answered(act: &Act) -> bool
     match act {
         Act::Query(Query::Routes { .. }) => true,
         Act::Query(Query::Route { .. }) => true,
+        Act::Query(Query::Trace { .. }) => true,
         Act::Query(Query::Ranks) => true,
         Act::Query(Query::Validity { .. }) => true,
         Act::Query(_) => false,

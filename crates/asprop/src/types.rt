@@ -2,7 +2,7 @@
 use caida_reader::RelError;
 use cycle_check::Cycle;
 use roa_table::VrpError;
-use scenario_text::{Member, ScenarioError, ScriptError};
+use scenario_text::{ScenarioError, ScriptError};
 
 /// The part that a file has in a run.
 #[derive(Clone, Copy, Debug, PartialEq, Eq)]
@@ -32,8 +32,6 @@ pub enum Fault {
     Payload(VrpError),
     /// The scenario has this fault.
     Scenario(ScenarioError),
-    /// The scenario names something in this member, whose meaning is not built yet.
-    Later(Member),
     /// The script has this fault.
     Script(ScriptError),
     /// The world has more than 150,000 ASes.

@@ -2,3 +2,4 @@ pub mod Rows
 pub mod Growth
 pub mod Held
 pub mod Validity
+pub mod Traces

@@ -8,8 +8,10 @@
 mod bytes;
 mod ranks;
 mod rows;
+mod trace;
 mod validity;
 
 pub use ranks::put_ranks;
 pub use rows::{put_numbers, put_route, put_routes};
+pub use trace::put_trace;
 pub use validity::put_validity;

@@ -216,4 +216,12 @@ impl Scenario {
     {
         self.leaks.as_slice()
     }
+
+    /// The watched addresses in their order.
+    pub fn watched(&self) -> &[Addr]
+        ensures value { result.now ≡ self.now.watch }
+        ensures scenario { IsScenario self.now }
+    {
+        self.watch.as_slice()
+    }
 }

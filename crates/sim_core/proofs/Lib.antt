@@ -4,3 +4,4 @@ pub mod Topologies
 pub mod Plans
 pub mod Within
 pub mod Loads
+pub mod Hops

@@ -1,6 +1,8 @@
 -- What was loaded is the world, and the routings that are kept are its only ones.
-use Rattle.std.proofs.Common.{◌≡◌, ℕ, suc, ◌+◌, ◌<◌, ◌≤◌, IsTrue, length, unwrap_or, sym, ap, ◌∙◌, subst}
+use Rattle.std.proofs.Common.{◌≡◌, ℕ, List, suc, ◌+◌, ◌<◌, ◌≤◌, IsTrue, length, unwrap_or, sym, ap, ◌∙◌, subst}
 use Rattle.std.specs.FinMap as fin
+use Rattle.std.specs.FinSet as set
+use Rattle.net_names.specs.Addresses.{AddrValue}
 use Rattle.net_names.specs.Links.{LinkMap}
 use Rattle.net_names.specs.Prefixes.{PrefixValue}
 use Rattle.as_graph.specs.Topology.{Topology, as_count, has, unmarked, what}
@@ -46,13 +48,13 @@ cyclic_world links payloads s graph (load_error.ProviderCycle cycle) is few h =
     let same : graph ≡ topology (world_of links payloads s) = is ∙ sym (topology-world_of links payloads s) in
     (subst (λ (g : Topology). as_count g ≤ 150000) same few, subst (λ (g : Topology). IsCycleFromLowest (what g) cycle) same h)
 
-module _ (links : LinkMap) (payloads : Payloads) (s : ScenarioValue) (graph : Topology) (book : PolicyBook Kind) (rounds : Rounds) (is : graph ≡ marked (unmarked links) (names_in s)) (named : book.named ≡ kinds_of s.policies) (planned : plan_kept rounds ≡ plan_of s) (counted : round_count rounds ≡ length s.leaks + 1) where
-  pub world_is : world_by graph payloads book rounds ≡ world_of links payloads s
+module _ (links : LinkMap) (payloads : Payloads) (s : ScenarioValue) (graph : Topology) (book : PolicyBook Kind) (rounds : Rounds) (is : graph ≡ marked (unmarked links) (names_in s)) (named : book.named ≡ kinds_of s.policies) (planned : plan_kept rounds ≡ plan_of s) (counted : round_count rounds ≡ length s.leaks + 1) (watched : List AddrValue) (watching : watched ≡ s.watch) where
+  pub world_is : world_by graph payloads book rounds watched ≡ world_of links payloads s
   world_is =
       let same : graph.links ≡ links = ap (λ (g : Topology). g.links) is ∙ links-marked (unmarked links) (names_in s) in
-      λ i. record { links = same i; payloads = payloads; kinds = named i; plan = planned i; rounds = counted i }
+      λ i. record { links = same i; payloads = payloads; kinds = named i; plan = planned i; rounds = counted i; watched = set.from_list (watching i) }
 
-  pub graph_is : graph ≡ topology (world_by graph payloads book rounds)
+  pub graph_is : graph ≡ topology (world_by graph payloads book rounds watched)
   graph_is = is ∙ sym (topology-world_of links payloads s) ∙ ap topology (sym world_is)
 
 -- the settings, the plan and the number of rounds of which the routings are the only ones
@@ -74,12 +76,12 @@ are_rounds graph payloads book s rounds known plan count same planned counted ke
     record { plan = kept_plan ∙ planned; count = kept_count ∙ counted; stable = both.0; only = both.1 }
 
 -- the routings that are kept are the only ones of the world
-pub only_ones : (graph : Topology) (payloads : Payloads) (book : PolicyBook Kind) (s : ScenarioValue) (rounds : Rounds) → graph ≡ topology (world_by graph payloads book rounds) → book.rest ≡ Plain → AreRoundsOf graph payloads book s rounds
-    → IsOneFamily (world_by graph payloads book rounds) (kept rounds)
-only_ones graph payloads book s rounds is rest are =
-    let settings : (λ (p : PrefixValue). setting kind_policy graph book (state_of payloads p)) ≡ setting_of (world_by graph payloads book rounds) =
+pub only_ones : (graph : Topology) (payloads : Payloads) (book : PolicyBook Kind) (s : ScenarioValue) (rounds : Rounds) (watched : List AddrValue) → graph ≡ topology (world_by graph payloads book rounds watched) → book.rest ≡ Plain → AreRoundsOf graph payloads book s rounds
+    → IsOneFamily (world_by graph payloads book rounds watched) (kept rounds)
+only_ones graph payloads book s rounds watched is rest are =
+    let settings : (λ (p : PrefixValue). setting kind_policy graph book (state_of payloads p)) ≡ setting_of (world_by graph payloads book rounds watched) =
     λ i p. record { has = has (is i); what = what (is i); policy = λ a. kind_policy (unwrap_or (fin.get book.named a) (rest i)); state = state_of payloads p } in
-    let ground : ◌≡◌ {A = Ground} ((λ p. setting kind_policy graph book (state_of payloads p)), (plan_of s, length s.leaks + 1)) (setting_of (world_by graph payloads book rounds), (plan_kept rounds, round_count rounds)) =
+    let ground : ◌≡◌ {A = Ground} ((λ p. setting kind_policy graph book (state_of payloads p)), (plan_of s, length s.leaks + 1)) (setting_of (world_by graph payloads book rounds watched), (plan_kept rounds, round_count rounds)) =
     λ i. (settings i, (sym are.plan i, sym are.count i)) in
-    let both : AreOnly (kept rounds) (setting_of (world_by graph payloads book rounds), (plan_kept rounds, round_count rounds)) = subst (AreOnly (kept rounds)) ground (are.stable, are.only) in
+    let both : AreOnly (kept rounds) (setting_of (world_by graph payloads book rounds watched), (plan_kept rounds, round_count rounds)) = subst (AreOnly (kept rounds)) ground (are.stable, are.only) in
     record { is = both.0; only = both.1 }

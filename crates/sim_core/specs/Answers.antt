@@ -4,10 +4,15 @@ use Rattle.scenario_text.specs.declared.acts.Query.{Query}
 use Rattle.scenario_text.specs.declared.acts.Query.TheVariants as query
 use Rattle.roa_table.specs.Cover.{covering}
 use Rattle.origin_validation.specs.Judging.{state_of}
+use Rattle.data_trace.specs.Hops.{next_hop}
+use Rattle.data_trace.specs.Traces.{IsTrace}
+use Rattle.data_trace.specs.declared.kinds.End.{End}
+use Rattle.data_trace.specs.declared.kinds.Hop.{Hop}
 use Rattle.reports.specs.Rows.{IsTable, rank_row, row}
+use Rattle.reports.specs.Traces.{trace_text}
 use Rattle.reports.specs.Validity.{validity_text}
 use Rattle.sim_core.specs.World.{World, has_as, has_prefix, has_round}
-use Rattle.sim_core.specs.Families.{Family}
+use Rattle.sim_core.specs.Kept.{Kept}
 use Rattle.sim_core.specs.declared.errors.QueryError.{QueryError}
 use Rattle.sim_core.specs.declared.errors.QueryError.TheVariants as refused
 
@@ -20,28 +25,38 @@ abbrev pub refusal_of : World → Query → Option QueryError
 refusal_of w (query.Routes round prefix) = unless (has_round w round) (refused.UnknownRound round) (unless (has_prefix w prefix) (refused.UnknownPrefix prefix) None)
 refusal_of w (query.Route round prefix a) =
     unless (has_round w round) (refused.UnknownRound round) (unless (has_prefix w prefix) (refused.UnknownPrefix prefix) (unless (has_as w a) (refused.UnknownAs a) None))
+refusal_of w (query.Trace round a addr) = unless (has_round w round) (refused.UnknownRound round) (unless (has_as w a) (refused.UnknownAs a) None)
 refusal_of w _ = None
 
--- the text is the answer to a query, by the routings of the rounds, the ranks and the payloads (own format)
-abbrev pub IsAnswer : World → Family → (ℕ → ℕ) → Query → List ℕ → Type 0
-IsAnswer w g ranks (query.Routes round prefix) text = IsTable (has_as w) (λ a. row a (g round prefix a)) text
-IsAnswer w g ranks (query.Route round prefix a) text = text ≡ row a (g round prefix a)
-IsAnswer w g ranks query.Ranks text = IsTable (has_as w) (λ a. rank_row a (ranks a)) text
-IsAnswer w g ranks (query.Validity prefix a) text = text ≡ validity_text (state_of w.payloads prefix a) (covering w.payloads prefix)
-IsAnswer w g ranks _ text = ⊥
+-- the text is the line of the trace from the AS, where each AS has this next hop (own format)
+pub record IsTraceLine (next : ℕ → Hop) (a : ℕ) (text : List ℕ) : Type 0 where
+  pub walk : List ℕ
+  pub end : End
+  pub trace : IsTrace next a walk end
+  pub is : text ≡ trace_text walk end
+
+-- the text is the answer to a query, by what is kept of the world and by its payloads (own format)
+abbrev pub IsAnswer : World → Kept → Query → List ℕ → Type 0
+IsAnswer w k (query.Routes round prefix) text = IsTable (has_as w) (λ a. row a (k.routings round prefix a)) text
+IsAnswer w k (query.Route round prefix a) text = text ≡ row a (k.routings round prefix a)
+IsAnswer w k (query.Trace round a addr) text = IsTraceLine (next_hop w.plan (k.routings round) addr) a text
+IsAnswer w k query.Ranks text = IsTable (has_as w) (λ a. rank_row a (k.ranks a)) text
+IsAnswer w k (query.Validity prefix a) text = text ≡ validity_text (state_of w.payloads prefix a) (covering w.payloads prefix)
+IsAnswer w k _ text = ⊥
 
 -- the queries that are answered
 abbrev pub IsAnswered : Query → Type 0
 IsAnswered (query.Routes round prefix) = Unit {0}
 IsAnswered (query.Route round prefix a) = Unit {0}
+IsAnswered (query.Trace round a addr) = Unit {0}
 IsAnswered query.Ranks = Unit {0}
 IsAnswered (query.Validity prefix a) = Unit {0}
 IsAnswered _ = ⊥
 
 -- the answer to the query was appended
-pub record Answers (w : World) (g : Family) (ranks : ℕ → ℕ) (q : Query) (old new : List ℕ) : Type 0 where
+pub record Answers (w : World) (k : Kept) (q : Query) (old new : List ℕ) : Type 0 where
   pub text : List ℕ
-  pub answer : IsAnswer w g ranks q text
+  pub answer : IsAnswer w k q text
   pub accepted : refusal_of w q ≡ None
   pub appended : new ≡ old ++ text
 

@@ -1,6 +1,7 @@
 pub mod Marking
 pub mod World
 pub mod Families
+pub mod Kept
 pub mod Loaded
 pub mod Loading
 pub mod Answers

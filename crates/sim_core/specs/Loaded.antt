@@ -2,6 +2,7 @@
 use Rattle.std.specs.Prelude.{ℕ, suc, ◌+◌, Bool, true, false, List, [], ◌∷◌, ◌++◌, map, filter, flat_map, length}
 use Rattle.std.specs.Ordering.{nat_cmp}
 use Rattle.std.specs.FinMap as fin
+use Rattle.std.specs.FinSet as set
 use Rattle.net_names.specs.Links.{LinkMap}
 use Rattle.policy_kinds.specs.declared.kind.Kind.{Kind}
 use Rattle.policy_kinds.specs.declared.kind.Kind.TheVariants as kind
@@ -38,7 +39,7 @@ kinds_of policies = fin.from_entries (filter is_other policies)
 
 -- the world of these links, payloads and this scenario: one round more than it has lists of leakers (own rule)
 abbrev pub world_of : LinkMap → Payloads → ScenarioValue → World
-world_of links payloads s = record { links = links; payloads = payloads; kinds = kinds_of s.policies; plan = plan_of s; rounds = length s.leaks + 1 }
+world_of links payloads s = record { links = links; payloads = payloads; kinds = kinds_of s.policies; plan = plan_of s; rounds = length s.leaks + 1; watched = set.from_list s.watch }
 
 -- the ASes that a scenario names by an announcement, a leak or a policy other than the plain one, some twice (own format)
 abbrev pub names_in : ScenarioValue → List ℕ

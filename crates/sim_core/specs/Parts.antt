@@ -1,6 +1,8 @@
 -- What a simulation is made of.
-use Rattle.std.specs.Prelude.{◌≡◌, ◌<◌, ◌+◌, ℕ, suc, true, IsTrue, length, Option, None}
+use Rattle.std.specs.Prelude.{◌≡◌, ◌<◌, ◌+◌, ℕ, suc, true, IsTrue, List, length, Option, None}
+use Rattle.std.specs.FinSet as set
 use Rattle.as_graph.specs.Topology.{Topology}
+use Rattle.net_names.specs.Addresses.{AddrValue}
 use Rattle.net_names.specs.Prefixes.{PrefixValue}
 use Rattle.policy_kinds.specs.declared.kind.Kind.{Kind}
 use Rattle.policy_kinds.specs.Kinds.{kind_policy}
@@ -14,6 +16,8 @@ use Rattle.stability_laws.specs.World.{setting}
 use Rattle.route_choice.specs.declared.table.Table.{Table}
 use Rattle.route_choice.specs.Resources.{AreEntriesLive}
 use Rattle.route_choice.specs.Routings.{table_routing}
+use Rattle.route_choice.specs.RoundTables.{AreAllLive, round_routing}
+use Rattle.route_choice.specs.declared.round_tables.RoundTables.{RoundTables}
 use Rattle.leak_round.specs.declared.rounds.Rounds.{Rounds}
 use Rattle.leak_round.specs.Rounds.{kept as kept_rounds, plan_of, pool_of, round_count}
 use Rattle.sim_core.specs.World.{World, has_round, has_prefix as has_world_prefix}
@@ -23,9 +27,9 @@ use Rattle.sim_core.specs.Loaded.{plan_of as plan_in}
 use Rattle.sim_core.specs.declared.errors.QueryError.{QueryError}
 use Rattle.sim_core.specs.declared.errors.QueryError.TheVariants as refused
 
--- the world of a graph, payloads, a book of policies and rounds (own rule)
-abbrev pub world_by : Topology → Payloads → PolicyBook Kind → Rounds → World
-world_by graph payloads book rounds = record { links = graph.links; payloads = payloads; kinds = book.named; plan = plan_of rounds; rounds = round_count rounds }
+-- the world of a graph, payloads, a book of policies, rounds and watched addresses (own rule)
+abbrev pub world_by : Topology → Payloads → PolicyBook Kind → Rounds → List AddrValue → World
+world_by graph payloads book rounds watched = record { links = graph.links; payloads = payloads; kinds = book.named; plan = plan_of rounds; rounds = round_count rounds; watched = set.from_list watched }
 
 -- the tables are the stable routings of the rounds of a graph, payloads, policies and a scenario, and there are no others (Gao and Rexford 2001; RFC 7908, section 3)
 pub record AreRoundsOf (graph : Topology) (payloads : Payloads) (book : PolicyBook Kind) (s : ScenarioValue) (rounds : Rounds) : Type 0 where
@@ -41,6 +45,16 @@ pub record IsTableOf (w : World) (rounds : Rounds) (round : ℕ) (prefix : Prefi
   pub live : AreEntriesLive (pool_of rounds) table
   pub routing : (a : ℕ) → table_routing (pool_of rounds) table a ≡ kept_rounds rounds round prefix a
 
+-- the tables are those of a round that is there, and the paths of their entries can be read (own rule)
+pub record AreTablesOf (w : World) (rounds : Rounds) (round : ℕ) (tables : RoundTables) : Type 0 where
+  pub round_there : has_round w round ≡ true
+  pub live : AreAllLive (pool_of rounds) tables
+  pub routing : (prefix : PrefixValue) (a : ℕ) → round_routing (pool_of rounds) tables prefix a ≡ kept_rounds rounds round prefix a
+
 -- why there is no such table: the round or the prefix is not there (own rule)
 abbrev pub no_table : World → ℕ → PrefixValue → Option QueryError
 no_table w round prefix = unless (has_round w round) (refused.UnknownRound round) (unless (has_world_prefix w prefix) (refused.UnknownPrefix prefix) None)
+
+-- why there are no such tables: the round is not there (own rule)
+abbrev pub no_round : World → ℕ → Option QueryError
+no_round w round = unless (has_round w round) (refused.UnknownRound round) None

@@ -3,6 +3,7 @@ use Rattle.std.specs.Prelude.{ℕ, Bool, ◌&&◌, nat_le, List, map, ◌++◌, 
 use Rattle.std.specs.Ordering.{nat_cmp}
 use Rattle.std.specs.FinMap as fin
 use Rattle.std.specs.FinSet as set
+use Rattle.net_names.specs.Addresses.{AddrValue, addr_cmp}
 use Rattle.net_names.specs.Links.{LinkMap}
 use Rattle.net_names.specs.Prefixes.{PrefixValue}
 use Rattle.as_graph.specs.Topology.{Topology, what, has}
@@ -15,13 +16,14 @@ use Rattle.origin_validation.specs.Judging.{state_of}
 use Rattle.stability_laws.specs.Offers.{Setting}
 use Rattle.stability_laws.specs.Plans.{Plan, announcers_of, has_prefix as plans_prefix}
 
--- the links between ASes, the validated payloads, the policies of the ASes that have another than the plain one, what is announced and leaked, and how many rounds there are (own rule)
+-- the links between ASes, the validated payloads, the policies of the ASes that have another than the plain one, what is announced and leaked, how many rounds there are, and which addresses are watched (own rule)
 pub record World : Type 0 where
   pub links : LinkMap
   pub payloads : Payloads
   pub kinds : fin.FinMap nat_cmp Kind
   pub plan : Plan
   pub rounds : ℕ
+  pub watched : set.FinSet addr_cmp
 
 -- the ASes that leak in some round (RFC 7908, section 3)
 abbrev pub leakers : Plan → List ℕ

@@ -2,18 +2,22 @@
 ghost use Rattle.std.specs.Prelude.{◌≡◌, ◌≤◌, Some, IfOk, IfErr, OnOk, OnErr};
 ghost use Rattle.std.specs.FinMap as fin;
 ghost use Rattle.as_graph.specs.Topology.{as_count};
+ghost use Rattle.data_trace.specs.Hops.{next_hop};
+ghost use Rattle.data_trace.specs.Traces.{IsTrace};
 ghost use Rattle.scenario_text.specs.declared.acts.Query.TheVariants as query;
 ghost use Rattle.sim_core.specs.Answers.{Answers, IsAnswered, IsQueryRefusal};
-ghost use Rattle.sim_core.specs.Parts.{IsTableOf, no_table};
-ghost use Rattle.sim_core.specs.Sims.{kept, ranks_kept, world_seen};
+ghost use Rattle.sim_core.specs.Parts.{AreTablesOf, IsTableOf, no_round, no_table};
+ghost use Rattle.sim_core.specs.Sims.{kept, world_seen};
 ghost use Rattle.sim_core.specs.World.{topology};
 
 use crate::{QueryError, Sim};
-use net_names::{Asn, Prefix};
+use data_trace::{Trace, trace};
+use net_names::{Addr, Asn, NoMemory, Prefix};
 use origin_validation::explain;
-use reports::{put_ranks, put_route, put_routes, put_validity};
-use route_choice::Table;
+use reports::{put_ranks, put_route, put_routes, put_trace, put_validity};
+use route_choice::{RoundTables, Table};
 use scenario_text::Query;
+use std::alloc::Global;
 
 impl Sim {
     // The table of a round for a prefix.
@@ -32,7 +36,7 @@ impl Sim {
 
     // Appends the table of a round for a prefix.
     fn put_routes(&self, round: u32, prefix: Prefix, out: &mut Vec<u8>) -> Result<(), QueryError>
-        ensures answered { OnOk result (Answers (world_seen self.now) (kept self.now) (ranks_kept self.now) (query.Routes round prefix) out.old.items out.new.items) }
+        ensures answered { OnOk result (Answers (world_seen self.now) (kept self.now) (query.Routes round prefix) out.old.items out.new.items) }
         ensures refused { IfErr result (IsQueryRefusal (world_seen self.now) (query.Routes round prefix)) }
         ensures err { OnErr result (out.new.items ≡ out.old.items) }
     {
@@ -54,7 +58,7 @@ impl Sim {
         asn: Asn,
         out: &mut Vec<u8>,
     ) -> Result<(), QueryError>
-        ensures answered { OnOk result (Answers (world_seen self.now) (kept self.now) (ranks_kept self.now) (query.Route round prefix asn) out.old.items out.new.items) }
+        ensures answered { OnOk result (Answers (world_seen self.now) (kept self.now) (query.Route round prefix asn) out.old.items out.new.items) }
         ensures refused { IfErr result (IsQueryRefusal (world_seen self.now) (query.Route round prefix asn)) }
         ensures err { OnErr result (out.new.items ≡ out.old.items) }
     {
@@ -71,9 +75,65 @@ impl Sim {
         }
     }
 
+    // The tables of a round.
+    fn tables_of(&self, round: u32) -> Result<&RoundTables, QueryError>
+        ensures found { IfOk result (λ t. AreTablesOf (world_seen self.now) self.now.rounds round t.now) }
+        ensures refused { IfErr result (λ e. no_round (world_seen self.now) round ≡ Some e) }
+    {
+        match self.rounds.round(round) {
+            Some(tables) => Ok(tables),
+            None => Err(QueryError::UnknownRound { round }),
+        }
+    }
+
+    // The trace from an AS to an address, over the tables of a round.
+    fn trace_of(
+        &self,
+        alloc: Global,
+        _round: u32,
+        tables: &RoundTables,
+        asn: Asn,
+        addr: Addr,
+    ) -> Result<Trace, NoMemory>
+        requires { AreTablesOf (world_seen self.now) self.now.rounds _round tables.now }
+        ensures { IfOk result (λ t. IsTrace (next_hop (world_seen self.now).plan ((kept self.now).routings _round) addr) asn t.walk t.end) }
+    {
+        let (pool, plan) = (self.rounds.pool(), self.rounds.seed_plan());
+        trace(alloc, tables, pool, plan, asn, addr)
+    }
+
+    // Appends the trace from an AS to an address.
+    fn put_trace(
+        &self,
+        round: u32,
+        asn: Asn,
+        addr: Addr,
+        out: &mut Vec<u8>,
+    ) -> Result<(), QueryError>
+        ensures answered { OnOk result (Answers (world_seen self.now) (kept self.now) (query.Trace round asn addr) out.old.items out.new.items) }
+        ensures refused { IfErr result (IsQueryRefusal (world_seen self.now) (query.Trace round asn addr)) }
+        ensures err { OnErr result (out.new.items ≡ out.old.items) }
+    {
+        let tables = match self.tables_of(round) {
+            Ok(tables) => tables,
+            Err(error) => return Err(error),
+        };
+        let known = self.graph.has(asn);
+        if !known {
+            return Err(QueryError::UnknownAs { asn });
+        }
+        let Ok(trace) = self.trace_of(*out.allocator(), round, tables, asn, addr) else {
+            return Err(QueryError::Memory);
+        };
+        match put_trace(out, &trace) {
+            Ok(()) => Ok(()),
+            Err(_) => Err(QueryError::Memory),
+        }
+    }
+
     // Appends the ranks of all ASes.
     fn put_ranks(&self, out: &mut Vec<u8>) -> Result<(), QueryError>
-        ensures answered { OnOk result (Answers (world_seen self.now) (kept self.now) (ranks_kept self.now) query.Ranks out.old.items out.new.items) }
+        ensures answered { OnOk result (Answers (world_seen self.now) (kept self.now) query.Ranks out.old.items out.new.items) }
         ensures refused { IfErr result (IsQueryRefusal (world_seen self.now) query.Ranks) }
         ensures err { OnErr result (out.new.items ≡ out.old.items) }
     {
@@ -85,7 +145,7 @@ impl Sim {
 
     // Appends the state of a prefix with an origin, and the payloads that cover the prefix.
     fn put_validity(&self, prefix: Prefix, origin: Asn, out: &mut Vec<u8>) -> Result<(), QueryError>
-        ensures answered { OnOk result (Answers (world_seen self.now) (kept self.now) (ranks_kept self.now) (query.Validity prefix origin) out.old.items out.new.items) }
+        ensures answered { OnOk result (Answers (world_seen self.now) (kept self.now) (query.Validity prefix origin) out.old.items out.new.items) }
         ensures refused { IfErr result (IsQueryRefusal (world_seen self.now) (query.Validity prefix origin)) }
         ensures err { OnErr result (out.new.items ≡ out.old.items) }
     {
@@ -102,17 +162,17 @@ impl Sim {
     /// not: `UnknownRound`, `UnknownPrefix` or `UnknownAs`, tested in this order among what it names.
     /// After a refusal `out` is as it was.
     ///
-    /// Traces and reports are not answered yet.
+    /// Reports are not answered yet.
     pub fn answer(&self, query: &Query, out: &mut Vec<u8>) -> Result<(), QueryError>
         requires { IsAnswered query.now }
-        ensures answered { OnOk result (Answers (world_seen self.now) (kept self.now) (ranks_kept self.now) query.now out.old.items out.new.items) }
+        ensures answered { OnOk result (Answers (world_seen self.now) (kept self.now) query.now out.old.items out.new.items) }
         ensures refused { IfErr result (IsQueryRefusal (world_seen self.now) query.now) }
         ensures err { OnErr result (out.new.items ≡ out.old.items) }
     {
         match query {
             Query::Routes { round, prefix } => self.put_routes(*round, *prefix, out),
             Query::Route { round, prefix, asn } => self.put_route(*round, *prefix, *asn, out),
-            Query::Trace { .. } => unreachable!(),
+            Query::Trace { round, asn, addr } => self.put_trace(*round, *asn, *addr, out),
             Query::Report { .. } => unreachable!(),
             Query::Ranks => self.put_ranks(out),
             Query::Validity { prefix, asn } => self.put_validity(*prefix, *asn, out),

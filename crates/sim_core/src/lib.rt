@@ -1,4 +1,4 @@
-//! A simulation: a world, and the routings of all its rounds.
+//! A simulation: a world, the ranks of its ASes, and the routings of all its rounds.
 //!
 //! [`Sim::load`] makes the world of links, validated payloads and a scenario, and keeps for each round and
 //! prefix the one and only stable routing. [`Sim::answer`] appends the answer to a query about it, or refuses
@@ -12,6 +12,7 @@ mod naming;
 mod planning;
 mod sim;
 mod validating;
+mod watching;
 
 pub use errors::{LoadError, QueryError};
 pub use sim::Sim;

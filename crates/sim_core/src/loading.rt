@@ -3,16 +3,17 @@ ghost use Rattle.std.specs.Prelude.{◌≡◌, ◌<◌, ◌≤◌, ℕ, IfOk, If
 ghost use Rattle.as_graph.specs.Topology.{as_count, what};
 ghost use Rattle.as_graph.specs.Hierarchy.{HasNoProviderCycle, IsRank};
 ghost use Rattle.rank_order.specs.Ranks.{rank_at};
-ghost use Rattle.sim_core.specs.Families.{IsOneFamily};
 ghost use Rattle.sim_core.specs.Loaded.{world_of};
 ghost use Rattle.sim_core.specs.Loading.{IsCycleRefusal, IsLoadRefusal};
 ghost use Rattle.sim_core.specs.Parts.{AreRoundsOf};
-ghost use Rattle.sim_core.specs.Sims.{kept, ranks_kept, world_seen};
-ghost use Rattle.sim_core.specs.World.{AreRanks, HasCycle, topology};
+ghost use Rattle.sim_core.specs.Kept.{IsKept};
+ghost use Rattle.sim_core.specs.Sims.{kept, world_seen};
+ghost use Rattle.sim_core.specs.World.{HasCycle, topology};
 
 use crate::naming::world_graph;
 use crate::planning::{policies, seed_plan};
 use crate::validating::known_states;
+use crate::watching::watched_addrs;
 use crate::{LoadError, Sim};
 use as_graph::Graph;
 use leak_round::Rounds;
@@ -75,8 +76,7 @@ fn load_world<L: Ledger>(
 ) -> Result<Sim, LoadError>
     requires ledger { (blank.name ≡ L.name) × (blank.parts ≡ L.parts) × (0 < L.parts) }
     ensures world { IfOk result (λ sim. world_seen sim ≡ world_of links.now vrps scenario.now) }
-    ensures routings { IfOk result (λ sim. IsOneFamily (world_seen sim) (kept sim)) }
-    ensures ranks { IfOk result (λ sim. AreRanks (world_seen sim) (ranks_kept sim)) }
+    ensures kept { IfOk result (λ sim. IsKept (world_seen sim) (kept sim)) }
     ensures no_cycle { IfOk result (λ sim. HasCycle (world_seen sim) → ⊥) }
     ensures few { IfOk result (λ sim. as_count (topology (world_seen sim)) ≤ 150000) }
     ensures refused { IfErr result (IsLoadRefusal (world_of links.now vrps scenario.now)) }
@@ -92,6 +92,9 @@ fn load_world<L: Ledger>(
     let Ok(book) = policies(alloc, scenario) else {
         return Err(LoadError::Memory);
     };
+    let Ok(watched) = watched_addrs(alloc, scenario) else {
+        return Err(LoadError::Memory);
+    };
     match rounds_of::<L>(alloc, &graph, &ranks, &vrps, &book, scenario, blank) {
         Ok(rounds) => Ok(Sim {
             graph,
@@ -99,6 +102,7 @@ fn load_world<L: Ledger>(
             vrps,
             book,
             rounds,
+            watched,
         }),
         Err(_) => Err(LoadError::Memory),
     }
@@ -118,8 +122,7 @@ impl Sim {
         scenario: Scenario,
     ) -> Result<Sim, LoadError>
         ensures world { IfOk result (λ sim. world_seen sim ≡ world_of links vrps scenario) }
-        ensures routings { IfOk result (λ sim. IsOneFamily (world_seen sim) (kept sim)) }
-        ensures ranks { IfOk result (λ sim. AreRanks (world_seen sim) (ranks_kept sim)) }
+        ensures kept { IfOk result (λ sim. IsKept (world_seen sim) (kept sim)) }
         ensures no_cycle { IfOk result (λ sim. HasCycle (world_seen sim) → ⊥) }
         ensures few { IfOk result (λ sim. as_count (topology (world_seen sim)) ≤ 150000) }
         ensures refused { IfErr result (IsLoadRefusal (world_of links vrps scenario)) }

@@ -5,6 +5,7 @@ ghost use Rattle.sim_core.specs.World.{topology};
 
 use as_graph::Graph;
 use leak_round::Rounds;
+use net_names::Addr;
 use policy_kinds::Kind;
 use rank_order::Ranks;
 use roa_table::Vrps;
@@ -19,5 +20,6 @@ pub struct Sim {
     pub(crate) vrps: Vrps,
     pub(crate) book: Book<Kind>,
     pub(crate) rounds: Rounds,
-    ghost named: { graph ≡ topology (world_by graph vrps book rounds) },
+    pub(crate) watched: Vec<Addr>,
+    ghost named: { graph ≡ topology (world_by graph vrps book rounds watched.items) },
 }

@@ -8,7 +8,7 @@ const SCRIPT_WORDS: &[&str] = &["asprop", "rel", "--scenario", "sc", "--script",
 const TWO_ANNOUNCERS: &[u8] =
     b"{\"announcements\":[{\"prefix\":\"10.0.0.0/8\",\"as\":4},{\"prefix\":\"10.0.0.0/8\",\"as\":5}]}\n";
 
-const SCRIPT_CASES: [ScriptCase; 15] = [
+const SCRIPT_CASES: [ScriptCase; 14] = [
     ScriptCase {
         name: "two-ases-announce-one-prefix",
         words: SCRIPT_WORDS,
@@ -118,17 +118,6 @@ const SCRIPT_CASES: [ScriptCase; 15] = [
         status: Status::Done,
         out: b"# 1\n1|2\n2|1\n3|0\n4|0\n5|3\n6|1\n9|0\n",
         err: b"",
-    },
-    ScriptCase {
-        name: "member-watch-not-there-yet",
-        words: SCRIPT_WORDS,
-        rel: b"1|3|-1\n2|3|-1\n1|5|-1\n1|2|0\n",
-        vrps: b"",
-        scenario: b"{\"announcements\":[],\"watch\":[\"10.0.0.1\"]}",
-        script: b"",
-        status: Status::BadInput,
-        out: b"",
-        err: b"asprop: sc: watch: not built yet\n",
     },
     ScriptCase {
         name: "short-script-line-is-unreadable",

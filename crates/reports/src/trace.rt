@@ -1,0 +1,45 @@
+//! The line of a trace.
+ghost use Rattle.std.specs.Prelude.{◌≡◌, ◌++◌, OnOk, OnErr};
+ghost use Rattle.reports.specs.Growth.{Grows};
+ghost use Rattle.reports.specs.Traces.{end_word, trace_text};
+
+use crate::bytes::put_bytes;
+use crate::rows::put_numbers;
+use data_trace::{End, Trace};
+use net_names::{Asn, NoMemory};
+
+fn end_name(end: End) -> &'static str
+    ensures { result.now ≡ end_word end }
+{
+    match end {
+        End::At(_) => "delivered",
+        End::NoRoute => "no-route",
+        End::Loop => "loop",
+    }
+}
+
+// Appends the line of a trace.
+fn append_trace(out: &mut Vec<u8>, walk: &[Asn], end: End) -> Result<(), NoMemory>
+    ensures ok { OnOk result (out.new.items ≡ out.old.items ++ trace_text walk.now end) }
+    ensures err { OnErr result (Grows out.old.items out.new.items) }
+{
+    put_bytes(out, end_name(end).as_bytes())?;
+    put_bytes(out, b"|")?;
+    put_numbers(out, walk)?;
+    put_bytes(out, b"\n")
+}
+
+/// Appends a trace: `delivered`, `no-route` or `loop`, `|`, and the numbers of the ASes that the packet
+/// passes with one space between. Where memory runs out, nothing changes. The format is this project's
+/// own.
+pub fn put_trace(out: &mut Vec<u8>, trace: &Trace) -> Result<(), NoMemory>
+    ensures ok { OnOk result (out.new.items ≡ out.old.items ++ trace_text trace.now.walk trace.now.end) }
+    ensures err { OnErr result (out.new.items ≡ out.old.items) }
+{
+    let kept = out.len();
+    if append_trace(out, trace.walk.as_slice(), trace.end).is_err() {
+        out.truncate(kept);
+        return Err(NoMemory);
+    }
+    Ok(())
+}
