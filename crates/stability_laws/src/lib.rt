@@ -26,5 +26,5 @@ pub use laws::{
 };
 pub use offers::{carried, class_from, number_sent, offered_view};
 pub use routing::{Routing, Seeds};
-pub use seed_plan::SeedPlan;
+pub use seed_plan::{SeedPlan, plans_are_sound};
 pub use wrong::Wrong;

@@ -89,6 +89,14 @@ fn leaker_in(leakers: &[(u32, Asn)], round: u32, place: usize) -> Option<Asn>
     }
 }
 
+/// What holds of every plan: each announced path starts with its AS and has at most 4294967294 numbers,
+/// its prefix is one of the plan's, and there are leakers in rounds from 2 on alone.
+pub fn plans_are_sound(plan: &SeedPlan)
+    ensures { IsSound plan.now }
+{
+    let _announcers = plan.announcers.as_slice();
+}
+
 impl SeedPlan {
     /// The plan in which nobody announces or leaks anything.
     pub fn new(alloc: Global) -> SeedPlan
