@@ -41,7 +41,7 @@ ends_loops next S onwards x h = λ n. go n x h
 
 -- ---- what is reached from a set that no packet leaves is in the set
 
-ends_in : (next : ℕ → Hop) (S : ℕ → Type 0) → ((x y : ℕ) → S x → next x ≡ To y → S y) → (n x c : ℕ) → S x → reached next n x ≡ Some c → S c
+pub ends_in : (next : ℕ → Hop) (S : ℕ → Type 0) → ((x y : ℕ) → S x → next x ≡ To y → S y) → (n x c : ℕ) → S x → reached next n x ≡ Some c → S c
 ends_in next S closed zero x c s r = let e : x ≡ c = cc in subst S e s
 ends_in next S closed (suc n) x c s r = by (next x) refl r (λ y t q. ends_in next S closed n y c t q)
   where

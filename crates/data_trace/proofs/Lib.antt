@@ -1,3 +1,12 @@
 pub mod Ends
 pub mod Traces
 pub mod Prefixes
+pub mod Walking
+pub mod ListLemmas
+pub mod Joining
+pub mod Building
+pub mod Summing
+pub mod Naming
+pub mod Seen
+pub mod Totals
+pub mod Inside

@@ -3,3 +3,10 @@ pub mod Traces
 pub mod Steps
 pub mod Best
 pub mod Candidates
+pub mod Marks
+pub mod Lists
+pub mod Watches
+pub mod Totals
+pub mod Sums
+pub mod Columns
+pub mod Views

@@ -31,3 +31,14 @@ pub struct Trace {
     /// How it ends.
     pub end: End,
 }
+
+/// A group of ASes that are counted together.
+#[derive(Clone, Copy, Debug, PartialEq, Eq)]
+pub enum Which {
+    /// All ASes.
+    All,
+    /// The ASes without customers.
+    Stub,
+    /// The ASes whose policies have this number.
+    Label(u8),
+}

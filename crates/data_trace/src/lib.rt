@@ -6,13 +6,22 @@
 
 mod best;
 mod candidate;
+mod columns;
+mod counting;
 mod forwarding;
 mod hops;
 mod kinds;
 mod laws;
+mod linked;
+mod lists;
+mod places;
+mod sums;
 mod tracing;
+mod walks;
+mod watch;
 
 pub use hops::next_hop;
-pub use kinds::{End, Hop, Trace};
+pub use kinds::{End, Hop, Trace, Which};
 pub use laws::one_trace;
 pub use tracing::trace;
+pub use watch::Watch;

@@ -1,0 +1,31 @@
+-- Next hops stay inside the graph.
+use Rattle.std.proofs.Common.{◌≡◌, ℕ, Bool, true, false, Option, Some, None, refl, cond, ap}
+use Rattle.std.specs.Prelude.{Result, Ok, Err, IfOk}
+use Rattle.net_names.specs.Addresses.{AddrValue}
+use Rattle.net_names.specs.Prefixes.{PrefixValue}
+use Rattle.as_graph.specs.Topology.{Topology, has}
+use Rattle.stability_laws.specs.declared.entry.Entry.{Entry}
+use Rattle.stability_laws.specs.Plans.{Plan, announces}
+use Rattle.data_trace.specs.declared.kinds.Hop.TheVariants.{Here, To}
+use Rattle.data_trace.specs.Hops.{hop_to, second_of, hop_by, sent_by, next_hop}
+use Rattle.data_trace.specs.Watches.{StaysInside}
+
+to_some : (o : Option ℕ) (b : ℕ) → hop_to o ≡ To b → o ≡ Some b
+to_some None b e = cc
+to_some (Some c) b e = let k : c ≡ b = cc in ap Some k
+
+pub next_inside : (g : Topology) (plan : Plan) (held : PrefixValue → ℕ → Option Entry) (addr : AddrValue) → StaysInside g plan held → (a b : ℕ) → next_hop plan held addr a ≡ To b → has g b ≡ true
+next_inside g plan held addr inside a b e = by (sent_by plan held addr a) e
+  where
+    at : (p : PrefixValue) (v : Bool) → announces plan p a ≡ v → cond v Here (hop_to (second_of (held p a))) ≡ To b → has g b ≡ true
+    at p true q e = cc
+    at p false q e = inside p a b q (to_some (second_of (held p a)) b e)
+
+    by : (o : Option PrefixValue) → hop_by plan held a o ≡ To b → has g b ≡ true
+    by None e = cc
+    by (Some p) e = at p (announces plan p a) refl e
+
+-- three facts of a value, if there is one, give a fourth
+pub if_ok : {T E : Type 0} (P Q R S : T → Type 0) (r : Result T E) → ((t : T) → P t → Q t → R t → S t) → IfOk r P → IfOk r Q → IfOk r R → IfOk r S
+if_ok P Q R S (Ok t) f p q r = f t p q r
+if_ok P Q R S (Err e) f p q r = tt

@@ -1,0 +1,12 @@
+use Rattle.std.proofs.Common.{Bool, IsTrue, sym, ◌∙◌, ap, subst}
+use Rattle.std.specs.Prelude.{◌↔◌}
+use Rattle.as_graph.specs.Topology.{what}
+use Rattle.data_trace.specs.Watches.{IsStub}
+use Rattle.data_trace.proofs.Naming.{stub_is}
+use Rattle.data_trace.proofs.columns.group_of.Goals as goal
+
+pub returns : goal.returns
+returns g c = record {
+  stub = subst (λ (b : Bool). IsTrue b ↔ IsStub (what c.args.graph.now) c.args.asn) (sym c.is_stub.ensures) (stub_is (what c.args.graph.now) c.args.asn c.neighbours_near.result.now c.neighbours_near.ensures);
+  label_is = c.label.ensures ∙ ap g.P.Labelled.label_of c.policy.ensures;
+}

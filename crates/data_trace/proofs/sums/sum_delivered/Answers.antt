@@ -1,0 +1,14 @@
+use Rattle.std.proofs.Common.{ℕ, Bool, sym, arith}
+use Rattle.data_trace.specs.Watches.{in_group}
+use Rattle.data_trace.proofs.Summing.{sum_more, sum_fits}
+use Rattle.data_trace.proofs.sums.sum_delivered.Goals as goal
+
+pub overflow_add-sum : goal.overflow_add-sum
+overflow_add-sum c =
+    let p : ℕ × Bool × ℕ → Bool = λ k. in_group c.args.which k.1 k.2 in
+    omega (arith, c.requires, sum_fits p c.args.counts.now.entries c.loop-place.place (c.in-Some.key.now, c.in-Some.count.now) c.loop-place.sum c.weigh-sum.result (sym c.in-Some.ensures.entry) c.loop-place.invariant c.weigh-sum.ensures)
+
+pub loop-place-preserved : goal.loop-place-preserved
+loop-place-preserved c =
+    let p : ℕ × Bool × ℕ → Bool = λ k. in_group c.args.which k.1 k.2 in
+    sum_more p c.args.counts.now.entries c.loop-place.place (c.in-Some.key.now, c.in-Some.count.now) c.loop-place.sum c.weigh-sum.result (sym c.in-Some.ensures.entry) c.loop-place.invariant c.weigh-sum.ensures

@@ -1,0 +1,119 @@
+//! The columns of a watch, of which each has an entry for each place.
+ghost use Rattle.std.specs.Prelude.{◌≡◌, ℕ, ◌<◌, not, length, IfOk, List};
+ghost use Rattle.std.specs.List.{list_any};
+ghost use Rattle.route_choice.specs.RoundTables.{round_routing};
+ghost use Rattle.stability_laws.specs.Book.{policy_at};
+ghost use Rattle.data_trace.specs.Hops.{next_hop as next_hop_of};
+ghost use Rattle.data_trace.specs.Columns.{named, is_customer, AreAses, AreHops, AreGroups, IsGroup, IsAmong};
+ghost use Rattle.data_trace.specs.declared.places.PlaceHop.TheVariants as APlaceHop;
+
+use crate::Hop;
+use crate::forwarding::Forwarding;
+use crate::places::{Group, PlaceHop};
+use as_graph::{Graph, Neighbour};
+use indexmap::IndexSet;
+use net_names::{Asn, NoMemory, Rel};
+use policy_laws::Labelled;
+use stability_laws::Book;
+use std::alloc::Global;
+
+/// The ASes of the graph, each at its place.
+pub fn ases_of(alloc: Global, graph: &Graph) -> Result<IndexSet<Asn>, NoMemory>
+    ensures { IfOk result (λ s. AreAses graph.now s.keys) }
+{
+    let count = graph.as_count();
+    let Ok(mut ases) = IndexSet::with_capacity(alloc, count) else {
+        return Err(NoMemory);
+    };
+    for asn in graph.ases() {
+        if ases.insert(*asn).is_err() {
+            return Err(NoMemory);
+        }
+    }
+    Ok(ases)
+}
+
+// The next hop, with the place in place of its AS.
+fn place_of(ases: &IndexSet<Asn>, hop: Hop) -> PlaceHop
+    requires among { IsAmong ases.now.keys hop }
+    requires few { length ases.now.keys < 4294967296 }
+    ensures named { named ases.now.keys result ≡ hop }
+    ensures within { (y : ℕ) → result ≡ APlaceHop.To y → y < length ases.now.keys }
+{
+    match hop {
+        Hop::Here => PlaceHop::Here,
+        Hop::NoRoute => PlaceHop::NoRoute,
+        Hop::To(asn) => match ases.get_index_of(&asn) {
+            Some(place) => PlaceHop::To(place as u32),
+            None => unreachable!(),
+        },
+    }
+}
+
+/// The next hop of each place.
+pub fn hops_of(
+    alloc: Global,
+    forwarding: &Forwarding<'_>,
+    ases: &IndexSet<Asn>,
+) -> Result<Vec<PlaceHop>, NoMemory>
+    requires among { (a : ℕ) → IsAmong ases.now.keys (next_hop_of forwarding.now.plan.now (round_routing forwarding.now.pool.now forwarding.now.tables.now) forwarding.now.addr a) }
+    requires few { length ases.now.keys < 4294967296 }
+    ensures { IfOk result (λ v. AreHops (next_hop_of forwarding.now.plan.now (round_routing forwarding.now.pool.now forwarding.now.tables.now) forwarding.now.addr) ases.now.keys v.items) }
+{
+    let numbers = ases.as_slice();
+    let Ok(mut hops) = Vec::with_capacity(alloc, numbers.len()) else {
+        return Err(NoMemory);
+    };
+    for place in 0..numbers.len() {
+        let hop = place_of(ases, forwarding.next(numbers[place], place));
+        if hops.push(hop).is_err() {
+            return Err(NoMemory);
+        }
+    }
+    Ok(hops)
+}
+
+// Whether no neighbour is a customer.
+fn is_stub(neighbours: &[Neighbour]) -> bool
+    ensures { result ≡ not (list_any (λ n. is_customer n.rel) neighbours.now) }
+{
+    for neighbour in neighbours {
+        if neighbour.rel == Rel::Customer {
+            return false;
+        }
+    }
+    true
+}
+
+// The groups of an AS, whose row is sought first at a place.
+fn group_of<P: Labelled>(graph: &Graph, book: &Book<P>, asn: Asn, place: usize) -> Group
+    ensures { IsGroup graph.now (λ a. P.label_of (policy_at book.now a)) asn result }
+{
+    Group {
+        stub: is_stub(graph.neighbours_near(asn, place)),
+        label: book.policy(asn).label(),
+    }
+}
+
+/// The groups of each place.
+pub fn groups_of<P: Labelled>(
+    alloc: Global,
+    graph: &Graph,
+    book: &Book<P>,
+    ases: &[Asn],
+) -> Result<Vec<Group>, NoMemory>
+    ensures { IfOk result (λ v. AreGroups graph.now (λ a. P.label_of (policy_at book.now a)) ases.now v.items) }
+{
+    let Ok(mut groups) = Vec::with_capacity(alloc, ases.len()) else {
+        return Err(NoMemory);
+    };
+    for place in 0..ases.len() {
+        if groups
+            .push(group_of(graph, book, ases[place], place))
+            .is_err()
+        {
+            return Err(NoMemory);
+        }
+    }
+    Ok(groups)
+}
