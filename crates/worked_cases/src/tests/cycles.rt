@@ -56,51 +56,49 @@ fn expect_found(
     Ok(())
 }
 
-#[test]
-fn a_cycle_is_told_from_its_lowest_number_on(rt: HostRuntime) -> Result<(), Fail> {
-    let ring = [(1, 2, DOWN), (2, 3, DOWN), (3, 1, DOWN)];
-    let other_way = [(2, 1, DOWN), (3, 2, DOWN), (1, 3, DOWN)];
-    let with_tails = [
-        (1, 9, DOWN),
-        (9, 5, DOWN),
-        (5, 7, DOWN),
-        (7, 6, DOWN),
-        (6, 5, DOWN),
-        (6, 2, DOWN),
-        (2, 8, ACROSS),
-    ];
-    let table: [(&[Row], &[u8]); 3] = [
-        (&ring, b"1 2 3 "),
-        (&other_way, b"1 3 2 "),
-        (&with_tails, b"5 7 6 "),
-    ];
-    for row in &table {
-        let graph = graph_of(&rt, rt.alloc(), row.0)?;
-        expect_found(&rt, rt.alloc(), &graph, row.1, b"cycle")?;
-    }
-    Ok(())
-}
+const RING: [Row; 3] = [(1, 2, DOWN), (2, 3, DOWN), (3, 1, DOWN)];
+
+const OTHER_WAY: [Row; 3] = [(2, 1, DOWN), (3, 2, DOWN), (1, 3, DOWN)];
+
+const WITH_TAILS: [Row; 7] = [
+    (1, 9, DOWN),
+    (9, 5, DOWN),
+    (5, 7, DOWN),
+    (7, 6, DOWN),
+    (6, 5, DOWN),
+    (6, 2, DOWN),
+    (2, 8, ACROSS),
+];
+
+const CHAIN_AND_PEERS: [Row; 3] = [(1, 2, DOWN), (2, 3, DOWN), (3, 1, ACROSS)];
+
+const TWO_WAYS: [Row; 7] = [
+    (5, 1, DOWN),
+    (5, 2, DOWN),
+    (1, 3, DOWN),
+    (2, 3, DOWN),
+    (1, 6, DOWN),
+    (6, 4, DOWN),
+    (2, 4, DOWN),
+];
+
+// Links, their cycle and their ranks.
+const TABLE: [(&[Row], &[u8], &[u8]); 6] = [
+    (&RING, b"1 2 3 ", b"cycle"),
+    (&OTHER_WAY, b"1 3 2 ", b"cycle"),
+    (&WITH_TAILS, b"5 7 6 ", b"cycle"),
+    (&[], b"none", b""),
+    (&CHAIN_AND_PEERS, b"none", b"1:2 2:1 3:0 "),
+    (&TWO_WAYS, b"none", b"1:2 2:1 3:0 4:0 5:3 6:1 "),
+];
 
 #[test]
-fn without_a_cycle_each_as_has_its_rank(rt: HostRuntime) -> Result<(), Fail> {
-    let across = [(1, 2, DOWN), (2, 3, DOWN), (3, 1, ACROSS)];
-    let two_ways = [
-        (5, 1, DOWN),
-        (5, 2, DOWN),
-        (1, 3, DOWN),
-        (2, 3, DOWN),
-        (1, 6, DOWN),
-        (6, 4, DOWN),
-        (2, 4, DOWN),
-    ];
-    let table: [(&[Row], &[u8]); 3] = [
-        (&[], b""),
-        (&across, b"1:2 2:1 3:0 "),
-        (&two_ways, b"1:2 2:1 3:0 4:0 5:3 6:1 "),
-    ];
-    for row in &table {
+fn a_cycle_is_told_from_its_lowest_number_on_or_each_as_has_its_rank(
+    rt: HostRuntime,
+) -> Result<(), Fail> {
+    for row in &TABLE {
         let graph = graph_of(&rt, rt.alloc(), row.0)?;
-        expect_found(&rt, rt.alloc(), &graph, b"none", row.1)?;
+        expect_found(&rt, rt.alloc(), &graph, row.1, row.2)?;
     }
     Ok(())
 }

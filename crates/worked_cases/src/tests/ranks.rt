@@ -39,29 +39,34 @@ fn order_text(alloc: Global, graph: &Graph) -> Result<Vec<u8>, Fail> {
     }
 }
 
+const TWO_WAYS: [Row; 8] = [
+    (5, 1, DOWN),
+    (5, 2, DOWN),
+    (1, 3, DOWN),
+    (2, 3, DOWN),
+    (1, 6, DOWN),
+    (6, 4, DOWN),
+    (2, 4, DOWN),
+    (4, 3, ACROSS),
+];
+
+const CHAIN_AND_PEERS: [Row; 3] = [(1, 2, DOWN), (2, 3, DOWN), (3, 1, ACROSS)];
+
+const RING: [Row; 4] = [(9, 3, DOWN), (2, 3, DOWN), (3, 1, DOWN), (1, 2, DOWN)];
+
+const TABLE: [(&[Row], &[u8]); 4] = [
+    (&[], b""),
+    (&TWO_WAYS, b"3:0 4:0 2:1 6:1 1:2 5:3 "),
+    (&CHAIN_AND_PEERS, b"3:0 2:1 1:2 "),
+    (&RING, b"cycle 1 2 3 "),
+];
+
 #[test]
 fn each_as_comes_behind_its_customers(rt: HostRuntime) -> Result<(), Fail> {
-    let two_ways = [
-        (5, 1, DOWN),
-        (5, 2, DOWN),
-        (1, 3, DOWN),
-        (2, 3, DOWN),
-        (1, 6, DOWN),
-        (6, 4, DOWN),
-        (2, 4, DOWN),
-        (4, 3, ACROSS),
-    ];
-    let across = [(1, 2, DOWN), (2, 3, DOWN), (3, 1, ACROSS)];
-    let ring = [(9, 3, DOWN), (2, 3, DOWN), (3, 1, DOWN), (1, 2, DOWN)];
-    let table: [(&[Row], &[u8]); 4] = [
-        (&[], b""),
-        (&two_ways, b"3:0 4:0 2:1 6:1 1:2 5:3 "),
-        (&across, b"3:0 2:1 1:2 "),
-        (&ring, b"cycle 1 2 3 "),
-    ];
-    for row in &table {
+    for row in &TABLE {
         let graph = graph_of(&rt, rt.alloc(), row.0)?;
-        expect_text(&rt, order_text(rt.alloc(), &graph)?.as_slice(), row.1);
+        let text = order_text(rt.alloc(), &graph)?;
+        expect_text(&rt, text.as_slice(), row.1);
     }
     Ok(())
 }

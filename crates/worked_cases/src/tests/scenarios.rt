@@ -1,7 +1,7 @@
 //! Scenarios from outside, and scenarios that are built.
 ghost use Rattle.std.specs.Prelude.{◌≡◌, ◌∷◌, [], IfOk};
 
-use super::worlds::{number, prefix};
+use super::worlds::prefix;
 use net_names::{Asn, NoMemory, Path, Prefix, read_addr, read_prefix};
 use policy_kinds::Kind;
 use scenario_text::{
@@ -220,8 +220,8 @@ fn announcement(alloc: Global, prefix: Prefix, asn: Asn) -> Result<Announcement,
 #[test]
 fn a_scenario_is_built_call_by_call(rt: HostRuntime) -> Result<(), Fail> {
     let alloc = rt.alloc();
-    let asn = number(4)?;
-    let other = number(5)?;
+    let asn = Asn::new(4).ok_or("a number")?;
+    let other = Asn::new(5).ok_or("a number")?;
     let prefix = prefix(b"0.0.0.0/0")?;
     let addr = read_addr(b"10.0.0.1").ok_or("an address")?;
     let mut scenario = Scenario::new(alloc);

@@ -9,8 +9,8 @@ undo-requires g c = λ k.
     let held : Held = record { class = class.Origin; path = c.cons.result; otc = None } in
     omega (
       arith,
-      c.put-3.ensures.uses k,
       c.put-2.ensures.uses k,
+      c.put.ensures.uses k,
       c.in_ok-room.ensures.uses k,
       c.new-overlay.ensures.uses k,
       one_use c.cons.new.self held k (omega (arith, c.cons.ensures.made.one_hold)),
