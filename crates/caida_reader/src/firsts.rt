@@ -179,7 +179,10 @@ impl Firsts {
             Ok(()) => {}
             Err(_) => return Err(NoMemory),
         }
-        match links.sort_by_key(|link| (link.lo, link.hi)) {
+        // One number holds both ends, so that two links are compared at once.
+        match links.sort_by_key(|link| link.lo.get() as u64 * 0x1_0000_0000
+            + link.hi.get() as u64)
+        {
             Ok(()) => Ok(links),
             Err(_) => Err(NoMemory),
         }
