@@ -1,9 +1,8 @@
-use Rattle.std.proofs.Common.{◌≡◌, ◌==◌, ℕ, List, length, nat_eq, sym, subst, ap, ◌∙◌}
+use Rattle.std.proofs.Common.{◌==◌, ℕ, List, length, nat_eq, sym, subst, ap, ◌∙◌}
 use Rattle.std.proofs.lemmas.List.Sorted.{list_any-IsPermutation, length_permutation}
 use Rattle.std.proofs.lemmas.Cmp.{nat_eq_equiv}
 use Rattle.std.proofs.lemmas.Map.Keys.{IsDistinct-IsPermutation}
-use Rattle.net_names.specs.Numbers.{occurs}
-use Rattle.as_graph.specs.Topology.{Topology, has, as_count}
+use Rattle.as_graph.specs.Topology.{has}
 use Rattle.as_graph.proofs.RowAses.{as_count-listed}
 use Rattle.rank_order.specs.Ranks.{rank_at, IsRankOrder}
 use Rattle.rank_order.proofs.order.ready_or_sorted.Goals as goal
