@@ -122,10 +122,7 @@ impl Graph {
     /// These are hints: no contract says what they are, and whoever uses one compares the number
     /// that stands there.
     pub fn neighbour_places(&self, place: usize) -> &[u32] {
-        match self.places.get(place) {
-            Some(places) => places.as_slice(),
-            None => &[],
-        }
+        self.places.of_row(place)
     }
 
     /// Where the row of an AS stands among the rows, sought first at a place. It is a hint, as in

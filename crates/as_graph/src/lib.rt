@@ -8,6 +8,7 @@
 mod build;
 mod ends;
 mod error;
+mod finder;
 mod graph;
 mod laws;
 mod neighbour;

@@ -1,122 +1,79 @@
 //! Where the rows of neighbours stand. A place is a hint: no contract says what it is, and whoever
 //! uses it compares the number that stands there with the wanted one, which is looked up where they
 //! differ.
-ghost use Rattle.std.specs.Prelude.{◌≤◌, ◌<◌, length};
+ghost use Rattle.std.specs.Prelude.{◌≤◌};
 ghost use Rattle.indexmap.specs.IndexMap.{index_map_len};
 
+use crate::finder::Finder;
 use crate::neighbour::Neighbour;
 use crate::row::Row;
 use indexmap::IndexMap;
 use net_names::Asn;
-use smallvec::SmallVec;
 use std::alloc::{AllocError, Global};
 
-/// For each row, in the order of the rows, the places of its neighbours' rows, in their order.
-pub type Places = Vec<SmallVec<u32, 2>>;
-
-// How many groups of numbers there are.
-const GROUPS: u32 = 65_536;
-
-// Where the numbers of a group stand: from the first place on, and before the second.
-#[derive(Clone, Copy)]
-struct Group {
-    from: u32,
-    to: u32,
-}
-
-// Finds numbers in a rising list, each in the group of the numbers that are about as large.
+/// For each row, in the order of the rows, the places of its neighbours' rows, in their order. The
+/// lists stand in one region, each where the one before it ends.
 #[derive(Drop)]
-struct Finder<'a> {
-    numbers: &'a [Asn],
-    groups: Vec<Group>,
-    width: u32,
-    ghost some: { 0 < width },
+pub struct Places {
+    starts: Vec<u32>,
+    items: Vec<u32>,
 }
 
-// How many numbers fall into a group, so that all groups reach up to the last number.
-fn width_for(numbers: &[Asn]) -> u32
-    ensures { 0 < result }
-{
-    match numbers.last() {
-        Some(asn) => asn.get() / GROUPS + 1,
-        None => 1,
-    }
-}
-
-// Puts a place into its group.
-fn put_place(groups: &mut [Group], group: usize, place: u32)
-    requires { place ≤ 150000 }
-{
-    if let Some(group) = groups.get_mut(group) {
-        if group.to == 0 {
-            group.from = place;
-        }
-        group.to = place + 1;
-    }
-}
-
-impl<'a> Finder<'a> {
-    // A finder in a list that rises.
-    fn new(alloc: Global, numbers: &'a [Asn]) -> Result<Finder<'a>, AllocError>
-        requires { length numbers.now ≤ 150000 }
-    {
-        let width = width_for(numbers);
-        let mut groups = Vec::from_elem(alloc, Group { from: 0, to: 0 }, GROUPS as usize)?;
-        for (place, asn) in numbers.iter().enumerate() {
-            put_place(&mut groups, (asn.get() / width) as usize, place as u32);
-        }
-        Ok(Finder {
-            numbers,
-            groups,
-            width,
-        })
-    }
-
-    // The place of a number, if it is in the list.
-    fn place(&self, asn: Asn) -> Option<u32> {
-        let group = self.groups.get((asn.get() / self.width) as usize)?;
-        let among = self.numbers.get(group.from as usize..group.to as usize)?;
-        match among.binary_search(&asn) {
-            Ok(at) => Some(group.from.wrapping_add(at as u32)),
-            Err(_) => None,
+impl Places {
+    /// The places of the neighbours of the row at a place.
+    pub fn of_row(&self, place: usize) -> &[u32] {
+        let (Some(start), Some(end)) = (
+            self.starts.get(place),
+            self.starts.get(place.saturating_add(1)),
+        ) else {
+            return &[];
+        };
+        match self.items.get(*start as usize..*end as usize) {
+            Some(places) => places,
+            None => &[],
         }
     }
 }
 
-// A list for each row, with room for its neighbours.
-fn empty_lists(alloc: Global, rows: &IndexMap<Asn, Row>) -> Result<Places, AllocError> {
-    let mut lists = Vec::with_capacity(alloc, rows.len())?;
+// Where the list of each row begins, and at the end where the last one ends.
+fn starts_of(alloc: Global, rows: &IndexMap<Asn, Row>) -> Result<Vec<u32>, AllocError> {
+    let mut starts = Vec::with_capacity(alloc, rows.len().saturating_add(1))?;
+    let mut end = 0u32;
+    starts.push(end)?;
     for row in rows.values() {
-        lists.push(SmallVec::with_capacity(alloc, row.as_slice().len())?)?;
+        end = end.wrapping_add(u32::try_from(row.as_slice().len()).unwrap_or(0));
+        starts.push(end)?;
     }
-    Ok(lists)
+    Ok(starts)
 }
 
-// Puts a place at the end of the list at another place.
-fn put_at(lists: &mut Places, at: u32, place: u32) -> Result<(), AllocError> {
-    if let Some(list) = lists.get_mut(at as usize) {
-        list.push(place)?;
+// Puts a place into the list at another place, behind those that it got before.
+fn put_at(items: &mut [u32], next: &mut [u32], at: u32, place: u32) {
+    if let Some(next) = next.get_mut(at as usize) {
+        if let Some(item) = items.get_mut(*next as usize) {
+            *item = place;
+            *next = next.wrapping_add(1);
+        }
     }
-    Ok(())
 }
 
 // Puts the places of the higher neighbours into the row's list, and that of the row into theirs.
 fn put_higher(
-    lists: &mut Places,
+    items: &mut [u32],
+    next: &mut [u32],
     finder: &Finder<'_>,
     place: u32,
     asn: Asn,
     neighbours: &[Neighbour],
-) -> Result<(), AllocError> {
+) {
     for neighbour in neighbours {
         if neighbour.asn > asn {
             if let Some(higher) = finder.place(neighbour.asn) {
-                put_at(lists, place, higher)?;
-                put_at(lists, higher, place)?;
+                put_at(items, next, place, higher);
+                put_at(items, next, higher, place);
             }
         }
     }
-    Ok(())
 }
 
 /// The places of the neighbours of all rows, which stand in rising order of their ASes. Each link
@@ -125,9 +82,22 @@ pub fn places_of(alloc: Global, rows: &IndexMap<Asn, Row>) -> Result<Places, All
     requires { index_map_len rows.now ≤ 150000 }
 {
     let finder = Finder::new(alloc, rows.keys().as_slice())?;
-    let mut lists = empty_lists(alloc, rows)?;
+    let starts = starts_of(alloc, rows)?;
+    let mut next = Vec::from_slice(alloc, starts.as_slice())?;
+    let count = match starts.last() {
+        Some(end) => *end as usize,
+        None => 0,
+    };
+    let mut items = Vec::from_elem(alloc, 0u32, count)?;
     for (place, (asn, row)) in rows.iter().enumerate() {
-        put_higher(&mut lists, &finder, place as u32, *asn, row.as_slice())?;
+        put_higher(
+            &mut items,
+            &mut next,
+            &finder,
+            place as u32,
+            *asn,
+            row.as_slice(),
+        );
     }
-    Ok(lists)
+    Ok(Places { starts, items })
 }

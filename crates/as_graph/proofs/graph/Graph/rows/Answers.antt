@@ -1,5 +1,5 @@
-use Rattle.std.proofs.Common.{◌≡◌, nat_eq, Some, true, refl, ap, sym, ◌∙◌}
-use Rattle.indexmap.specs.IndexMap.{get, keys}
+use Rattle.std.proofs.Common.{◌≡◌, nat_eq, true, refl, ap, ◌∙◌}
+use Rattle.indexmap.specs.IndexMap.{get}
 use Rattle.net_names.specs.Numbers.{occurs}
 use Rattle.as_graph.specs.Graphs.{is_there}
 use Rattle.as_graph.proofs.Kept.{has_read}
