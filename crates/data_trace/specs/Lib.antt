@@ -10,3 +10,4 @@ pub mod Totals
 pub mod Sums
 pub mod Columns
 pub mod Views
+pub mod Rounds
