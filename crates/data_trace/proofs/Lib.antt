@@ -10,3 +10,4 @@ pub mod Naming
 pub mod Seen
 pub mod Totals
 pub mod Inside
+pub mod Longest

@@ -1,5 +1,6 @@
 -- Where an AS sends a packet.
-use Rattle.std.specs.Prelude.{ℕ, ◌&&◌, nat_lt, if◌then◌else◌, Option, None, Some, is_some, option_and_then, List, fold, filter, slice_get}
+use Rattle.std.specs.Prelude.{◌≡◌, ℕ, ◌≤◌, IsTrue, ◌&&◌, nat_lt, if◌then◌else◌, Option, None, Some, is_some, option_and_then, List, fold, filter, slice_get}
+use Rattle.std.specs.List.{Contains}
 use Rattle.net_names.specs.Addresses.{AddrValue}
 use Rattle.net_names.specs.Prefixes.{PrefixValue}
 use Rattle.net_names.specs.Coverage.{holds}
@@ -38,3 +39,15 @@ hop_by plan held a (Some p) = if announces plan p a then Here else hop_to (secon
 -- where an AS sends a packet to the address, with what the ASes hold of each prefix in one round (RFC 4632, section 5.1)
 abbrev pub next_hop : Plan → (PrefixValue → ℕ → Option Entry) → AddrValue → ℕ → Hop
 next_hop plan held addr a = hop_by plan held a (sent_by plan held addr a)
+
+-- an AS can send a packet by the prefix: it is one of the plan, it holds the address, and the AS has an entry of it (RFC 4632, section 5.1)
+pub record CanSendBy (plan : Plan) (held : PrefixValue → ℕ → Option Entry) (addr : AddrValue) (a : ℕ) (p : PrefixValue) : Type 0 where
+  pub known : Contains (prefixes_of plan) p
+  pub holds_it : IsTrue (holds p addr)
+  pub entry : IsTrue (is_some (held p a))
+
+-- an AS sends a packet by the longest prefix by which it can, and by none exactly where there is none (RFC 4632, section 5.1)
+abbrev pub LongestIsSent : Type 0
+LongestIsSent = (plan : Plan) (held : PrefixValue → ℕ → Option Entry) (addr : AddrValue) (a : ℕ) →
+    ((p : PrefixValue) → sent_by plan held addr a ≡ Some p → CanSendBy plan held addr a p × ((q : PrefixValue) → CanSendBy plan held addr a q → q.len ≤ p.len))
+    × (sent_by plan held addr a ≡ None → (q : PrefixValue) → CanSendBy plan held addr a q → ⊥)

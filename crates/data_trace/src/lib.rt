@@ -22,6 +22,6 @@ mod watch;
 
 pub use hops::next_hop;
 pub use kinds::{End, Hop, Trace, Which};
-pub use laws::{one_trace, rounds_stay_inside};
+pub use laws::{longest_is_sent, one_trace, rounds_stay_inside};
 pub use tracing::trace;
 pub use watch::Watch;
