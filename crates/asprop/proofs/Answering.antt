@@ -15,7 +15,7 @@ use Rattle.sim_core.specs.Kept.{Kept, IsKept}
 use Rattle.net_names.specs.declared.numbers.NoMemory.{NoMemory}
 use Rattle.std.specs.List.{All}
 use Rattle.std.proofs.lemmas.List.Elements.{All-nil, All-cons, All-get_or}
-use Rattle.asprop.specs.Task.{AreAnswered, all_answered, first_unanswered, is_answered, unless_unanswered, ◌>>=◌}
+use Rattle.asprop.specs.Task.{AreQueries, without_edits, first_edit, is_query, unless_edit, ◌>>=◌}
 use Rattle.asprop.specs.declared.types.Fault.{Fault}
 use Rattle.asprop.specs.Told.{Answered, AppendsReply, Tells, Told, head}
 use Rattle.asprop.specs.Written.{WroteAll, WroteWhole, WroteFront}
@@ -124,25 +124,25 @@ answered (Ok refused) heads w k line q begun now first asks is h = record {
 }
 answered (Err e) heads w k line q begun now first asks is h = h
 
--- each line is answered where none is unanswered
-none_unanswered : (t : Bool) (line : LineValue) (rest : Option ℕ) → is_answered line.act ≡ t → cond t rest (Some line.number) ≡ None → (is_answered line.act ≡ true) × (rest ≡ None)
-none_unanswered true line rest is h = (is, h)
-none_unanswered false line rest is h = cc
+-- each line asks a question where none asks for an edit
+none_edit : (t : Bool) (line : LineValue) (rest : Option ℕ) → is_query line.act ≡ t → cond t rest (Some line.number) ≡ None → (is_query line.act ≡ true) × (rest ≡ None)
+none_edit true line rest is h = (is, h)
+none_edit false line rest is h = cc
 
-all_answer : (lines : List LineValue) → AreAnswered lines → All (λ l. is_answered l.act ≡ true) lines
-all_answer [] h = All-nil (λ l. is_answered l.act ≡ true)
-all_answer (line ∷ lines) h =
-    let both = none_unanswered (is_answered line.act) line (first_unanswered lines) refl h in
-    All-cons (λ l. is_answered l.act ≡ true) line lines both.0 (all_answer lines both.1)
+all_queries : (lines : List LineValue) → AreQueries lines → All (λ l. is_query l.act ≡ true) lines
+all_queries [] h = All-nil (λ l. is_query l.act ≡ true)
+all_queries (line ∷ lines) h =
+    let both = none_edit (is_query line.act) line (first_edit lines) refl h in
+    All-cons (λ l. is_query l.act ≡ true) line lines both.0 (all_queries lines both.1)
 
-pub one_answer : (lines : List LineValue) (i : ℕ) (line : LineValue) → AreAnswered lines → i < length lines → line ≡ get_or lines i line → is_answered line.act ≡ true
-one_answer lines i line h inside here = subst (λ (l : LineValue). is_answered l.act ≡ true) (sym here) (All-get_or (λ l. is_answered l.act ≡ true) lines i line inside (all_answer lines h))
+pub one_query : (lines : List LineValue) (i : ℕ) (line : LineValue) → AreQueries lines → i < length lines → line ≡ get_or lines i line → is_query line.act ≡ true
+one_query lines i line h inside here = subst (λ (l : LineValue). is_query l.act ≡ true) (sym here) (All-get_or (λ l. is_query l.act ≡ true) lines i line inside (all_queries lines h))
 
--- lines that were taken are all answered
-taken_answer : (found : Option ℕ) (lines taken : List LineValue) → first_unanswered lines ≡ found → unless_unanswered found lines ≡ Ok taken → AreAnswered taken
-taken_answer None lines taken none is = cc
-taken_answer (Some number) lines taken some is = cc
+-- lines that were taken all ask questions
+taken_queries : (found : Option ℕ) (lines taken : List LineValue) → first_edit lines ≡ found → unless_edit found lines ≡ Ok taken → AreQueries taken
+taken_queries None lines taken none is = cc
+taken_queries (Some number) lines taken some is = cc
 
-pub are_answered : (read : Result (List LineValue) Fault) (taken : List LineValue) → (read >>= all_answered) ≡ Ok taken → AreAnswered taken
-are_answered (Ok lines) taken is = taken_answer (first_unanswered lines) lines taken refl is
-are_answered (Err fault) taken is = cc
+pub are_queries : (read : Result (List LineValue) Fault) (taken : List LineValue) → (read >>= without_edits) ≡ Ok taken → AreQueries taken
+are_queries (Ok lines) taken is = taken_queries (first_edit lines) lines taken refl is
+are_queries (Err fault) taken is = cc

@@ -74,35 +74,31 @@ abbrev pub scenario_by : Option (List ℕ) → Option (List ℕ) → Result Scen
 scenario_by None read = Ok nothing
 scenario_by (Some name) read = read_as file.Scenario fault.Scenario scenario_of_bytes read
 
--- what is asked is answered; the other lines are not built yet (own rule)
-abbrev pub is_answered : Act → Bool
-is_answered (act.Query (query.Routes round prefix)) = true
-is_answered (act.Query (query.Route round prefix asn)) = true
-is_answered (act.Query (query.Trace round asn addr)) = true
-is_answered (act.Query query.Ranks) = true
-is_answered (act.Query (query.Validity prefix asn)) = true
-is_answered _ = false
+-- the line asks a question; edits are not built yet (own rule)
+abbrev pub is_query : Act → Bool
+is_query (act.Query q) = true
+is_query (act.Edit e) = false
 
--- the number of the first line that isn't answered (own rule)
-abbrev pub first_unanswered : List LineValue → Option ℕ
-first_unanswered [] = None
-first_unanswered (line ∷ lines) = if is_answered line.act then first_unanswered lines else Some line.number
+-- the number of the first line that asks for an edit (own rule)
+abbrev pub first_edit : List LineValue → Option ℕ
+first_edit [] = None
+first_edit (line ∷ lines) = if is_query line.act then first_edit lines else Some line.number
 
--- the lines, if all of them are answered; the first that isn't counts as unreadable (own rule)
-abbrev pub unless_unanswered : Option ℕ → List LineValue → Result (List LineValue) Fault
-unless_unanswered None lines = Ok lines
-unless_unanswered (Some number) lines = Err (fault.Script (script.Unreadable number))
+-- the lines, if none of them asks for an edit; the first that does counts as unreadable (own rule)
+abbrev pub unless_edit : Option ℕ → List LineValue → Result (List LineValue) Fault
+unless_edit None lines = Ok lines
+unless_edit (Some number) lines = Err (fault.Script (script.Unreadable number))
 
-abbrev pub all_answered : List LineValue → Result (List LineValue) Fault
-all_answered lines = unless_unanswered (first_unanswered lines) lines
+abbrev pub without_edits : List LineValue → Result (List LineValue) Fault
+without_edits lines = unless_edit (first_edit lines) lines
 
--- each of the lines is answered (own rule)
-abbrev pub AreAnswered : List LineValue → Type 0
-AreAnswered lines = first_unanswered lines ≡ None
+-- each of the lines asks a question (own rule)
+abbrev pub AreQueries : List LineValue → Type 0
+AreQueries lines = first_edit lines ≡ None
 
 -- the lines of the script (own format)
 abbrev pub script_lines : Option (List ℕ) → Result (List LineValue) Fault
-script_lines read = read_as file.Script fault.Script script_of read >>= all_answered
+script_lines read = read_as file.Script fault.Script script_of read >>= without_edits
 
 -- the prefix that holds every IPv4 address, 0.0.0.0/0 (RFC 4632, section 3.1)
 abbrev pub all_addresses : PrefixValue

@@ -1,10 +1,9 @@
 //! Answers to lines.
 ghost use Rattle.std.specs.Prelude.{◌≡◌, ◌++◌, true, IfOk, OnOk};
 ghost use Rattle.io_edge.specs.Faults.{Rose};
-ghost use Rattle.sim_core.specs.Answers.{IsAnswered};
 ghost use Rattle.sim_core.specs.Kept.{IsKept};
 ghost use Rattle.sim_core.specs.Sims.{kept, world_seen};
-ghost use Rattle.asprop.specs.Task.{is_answered, AreAnswered};
+ghost use Rattle.asprop.specs.Task.{is_query, AreQueries};
 ghost use Rattle.asprop.specs.Told.{Answered, AppendsReply, head, head_line};
 ghost use Rattle.asprop.specs.Written.{Answering};
 
@@ -26,7 +25,6 @@ fn put_head(alloc: Global, number: u32, text: &mut Vec<u8>) -> Result<(), AllocE
 
 // Appends the answer to a query, or the text of its refusal, and says whether it is refused.
 fn put_reply(sim: &Sim, query: &Query, text: &mut Vec<u8>) -> Result<bool, NoMemory>
-    requires { IsAnswered query.now }
     ensures { IfOk result (λ refused. AppendsReply (world_seen sim.now) (kept sim.now) query.now refused text.old.items text.new.items) }
 {
     match sim.answer(query, text) {
@@ -61,7 +59,7 @@ fn answer_line(
     line: &Line,
     text: &mut Vec<u8>,
 ) -> Result<bool, NoMemory>
-    requires answered { is_answered line.now.act ≡ true }
+    requires asks { is_query line.now.act ≡ true }
     requires kept { IsKept (world_seen sim.now) (kept sim.now) }
     ensures { IfOk result (λ refused. Answered heads (world_seen sim.now) line.now text.new.items refused (world_seen sim.now)) }
 {
@@ -80,7 +78,7 @@ pub fn answer_all<O: Sink>(
     lines: &[Line],
     out: &mut O,
 ) -> Result<bool, Stop>
-    requires answered { AreAnswered lines.now }
+    requires ask { AreQueries lines.now }
     requires kept { IsKept (world_seen sim.now) (kept sim.now) }
     ensures { Answering heads (world_seen sim.now) lines.now result (O.written out.old) (O.written out.new) (Rose (O.faults out.old) (O.faults out.new)) }
 {

@@ -1,7 +1,7 @@
 //! From the form of the words and the files to what is asked.
 ghost use Rattle.std.specs.Prelude.{◌≡◌, ◌∷◌, [], IfOk, option_map, Some};
 ghost use Rattle.io_edge.specs.Faults.{Rose};
-ghost use Rattle.asprop.specs.Task.{AreAnswered, all_addresses, announced_by, origin_line};
+ghost use Rattle.asprop.specs.Task.{AreQueries, all_addresses, announced_by, origin_line};
 ghost use Rattle.asprop.specs.Files.{Prepares};
 ghost use Rattle.asprop.specs.Seen.{task_seen};
 ghost use Rattle.asprop.specs.Words.{form_seen, origin_form, script_form, text_seen};
@@ -73,7 +73,7 @@ fn ask_origin<I: Inputs>(
 ) -> Result<Asked, Stop>
     ensures task { Prepares (I.holds inputs.old) (I.is_sound inputs.old) (Rose (I.faults inputs.old) (I.faults inputs.new))
         (Some (origin_form rel.now origin)) task_seen result }
-    ensures answered { IfOk result (λ asked. AreAnswered asked.lines) }
+    ensures ask { IfOk result (λ asked. AreQueries asked.lines) }
 {
     let links = match read_relations(alloc, inputs, rel) {
         Ok(links) => links,
@@ -105,7 +105,7 @@ fn ask_script<I: Inputs>(
 ) -> Result<Asked, Stop>
     ensures task { Prepares (I.holds inputs.old) (I.is_sound inputs.old) (Rose (I.faults inputs.old) (I.faults inputs.new))
         (Some (script_form rel.now (text_seen vrps.entry) (text_seen scenario.entry) (text_seen script.entry))) task_seen result }
-    ensures answered { IfOk result (λ asked. AreAnswered asked.lines) }
+    ensures ask { IfOk result (λ asked. AreQueries asked.lines) }
 {
     let links = match read_relations(alloc, inputs, rel) {
         Ok(links) => links,
@@ -141,7 +141,7 @@ pub fn ask<I: Inputs>(
 ) -> Result<Asked, Stop>
     ensures task { Prepares (I.holds inputs.old) (I.is_sound inputs.old) (Rose (I.faults inputs.old) (I.faults inputs.new))
         (option_map form_seen form.now) task_seen result }
-    ensures answered { IfOk result (λ asked. AreAnswered asked.lines) }
+    ensures ask { IfOk result (λ asked. AreQueries asked.lines) }
 {
     let Some(form) = form else {
         return Err(Stop::Fault(Fault::Usage));

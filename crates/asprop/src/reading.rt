@@ -1,7 +1,7 @@
 //! The files of a run: each is read to its end, or to one byte past its limit, before it is judged.
 ghost use Rattle.std.specs.Prelude.{◌≡◌, ◌<◌, length};
 ghost use Rattle.io_edge.specs.Faults.{Rose, KeepsNames};
-ghost use Rattle.asprop.specs.Task.{all_answered as lines_if_answered, bytes_of, first_unanswered as first_unanswered_in, is_answered as answers_act, most_bytes, payloads_by, relations, scenario_by, script_lines};
+ghost use Rattle.asprop.specs.Task.{bytes_of, first_edit as first_edit_in, is_query as asks_query, most_bytes, payloads_by, relations, scenario_by, script_lines, without_edits as lines_without_edits};
 ghost use Rattle.asprop.specs.Files.{Finds, ReadsAs, ReadsTo};
 ghost use Rattle.asprop.specs.Words.{text_seen};
 
@@ -11,7 +11,7 @@ use caida_reader::Reader;
 use io_edge::{Failed, Inputs, ReadAllError, read_all};
 use net_names::Links;
 use roa_table::Vrps;
-use scenario_text::{Act, Line, Lines, Query, Scenario, ScriptError, read_scenario, read_script};
+use scenario_text::{Act, Line, Lines, Scenario, ScriptError, read_scenario, read_script};
 use std::alloc::Global;
 
 // The most bytes of a relationship file.
@@ -145,38 +145,33 @@ pub fn read_plan<I: Inputs>(
     }
 }
 
-// Whether what is asked is answered.
-fn is_answered(act: &Act) -> bool
-    ensures { result ≡ answers_act act.now }
+// Whether a line asks a question.
+fn is_query(act: &Act) -> bool
+    ensures { result ≡ asks_query act.now }
 {
     match act {
-        Act::Query(Query::Routes { .. }) => true,
-        Act::Query(Query::Route { .. }) => true,
-        Act::Query(Query::Trace { .. }) => true,
-        Act::Query(Query::Ranks) => true,
-        Act::Query(Query::Validity { .. }) => true,
-        Act::Query(_) => false,
+        Act::Query(_) => true,
         Act::Edit(_) => false,
     }
 }
 
-// The number of the first line that is not answered yet, if there is one.
-fn first_unanswered(lines: &[Line]) -> Option<u32>
-    ensures { result ≡ first_unanswered_in lines.now }
+// The number of the first line that asks for an edit, if there is one.
+fn first_edit(lines: &[Line]) -> Option<u32>
+    ensures { result ≡ first_edit_in lines.now }
 {
     for line in lines {
-        if !is_answered(&line.act) {
+        if !is_query(&line.act) {
             return Some(line.number);
         }
     }
     None
 }
 
-// The lines, if each is answered.
-fn all_answered(lines: Lines) -> Result<Lines, Stop>
-    ensures { Finds (λ lines. lines) result (lines_if_answered lines) }
+// The lines, if none asks for an edit.
+fn without_edits(lines: Lines) -> Result<Lines, Stop>
+    ensures { Finds (λ lines. lines) result (lines_without_edits lines) }
 {
-    match first_unanswered(lines.as_slice()) {
+    match first_edit(lines.as_slice()) {
         Some(line) => Err(Stop::Fault(Fault::Script(ScriptError::Unreadable { line }))),
         None => Ok(lines),
     }
@@ -200,7 +195,7 @@ pub fn read_lines<I: Inputs>(
         Err(stop) => return Err(stop),
     };
     match read_script(alloc, &bytes) {
-        Ok(lines) => all_answered(lines),
+        Ok(lines) => without_edits(lines),
         Err(error) => Err(script_stop(error)),
     }
 }

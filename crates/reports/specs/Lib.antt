@@ -3,3 +3,4 @@ pub mod Growth
 pub mod Held
 pub mod Validity
 pub mod Traces
+pub mod Counts

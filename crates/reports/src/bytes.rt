@@ -17,7 +17,7 @@ pub(crate) fn put_bytes(out: &mut Vec<u8>, bytes: &[u8]) -> Result<(), NoMemory>
 }
 
 // Appends the number in decimal digits.
-pub(crate) fn put_number(out: &mut Vec<u8>, number: u32) -> Result<(), NoMemory>
+pub(crate) fn put_number(out: &mut Vec<u8>, number: u64) -> Result<(), NoMemory>
     ensures ok { OnOk result (out.new.items ≡ out.old.items ++ decimal number) }
     ensures err { OnErr result (Grows out.old.items out.new.items) }
 {

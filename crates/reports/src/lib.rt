@@ -6,12 +6,15 @@
 #![tactic(auto)]
 
 mod bytes;
+mod group;
 mod ranks;
+mod report;
 mod rows;
 mod trace;
 mod validity;
 
 pub use ranks::put_ranks;
+pub use report::put_report;
 pub use rows::{put_numbers, put_route, put_routes};
 pub use trace::put_trace;
 pub use validity::put_validity;

@@ -17,7 +17,7 @@ fn append_rank(out: &mut Vec<u8>, asn: Asn, rank: u32) -> Result<(), NoMemory>
 {
     put_asn(out, asn)?;
     put_bytes(out, b"|")?;
-    put_number(out, rank)?;
+    put_number(out, u64::from(rank))?;
     put_bytes(out, b"\n")
 }
 

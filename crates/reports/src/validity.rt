@@ -23,7 +23,7 @@ fn append_max(out: &mut Vec<u8>, max: u8) -> Result<(), NoMemory>
     ensures err { OnErr result (Grows out.old.items out.new.items) }
 {
     put_bytes(out, b"|")?;
-    put_number(out, u32::from(max))?;
+    put_number(out, u64::from(max))?;
     put_bytes(out, b"\n")
 }
 
@@ -32,7 +32,7 @@ fn append_payload(out: &mut Vec<u8>, vrp: Vrp) -> Result<(), NoMemory>
     ensures ok { OnOk result (out.new.items ≡ out.old.items ++ payload_row vrp) }
     ensures err { OnErr result (Grows out.old.items out.new.items) }
 {
-    put_number(out, vrp.asn())?;
+    put_number(out, u64::from(vrp.asn()))?;
     put_bytes(out, b"|")?;
     put_prefix(out, vrp.prefix())?;
     append_max(out, vrp.max())

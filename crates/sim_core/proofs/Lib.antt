@@ -5,3 +5,4 @@ pub mod Plans
 pub mod Within
 pub mod Loads
 pub mod Hops
+pub mod Watches

@@ -8,10 +8,12 @@ use Rattle.data_trace.specs.Hops.{next_hop}
 use Rattle.data_trace.specs.Traces.{IsTrace}
 use Rattle.data_trace.specs.declared.kinds.End.{End}
 use Rattle.data_trace.specs.declared.kinds.Hop.{Hop}
+use Rattle.stability_laws.specs.Plans.{announcers_of}
+use Rattle.reports.specs.Counts.{report_text}
 use Rattle.reports.specs.Rows.{IsTable, rank_row, row}
 use Rattle.reports.specs.Traces.{trace_text}
 use Rattle.reports.specs.Validity.{validity_text}
-use Rattle.sim_core.specs.World.{World, has_as, has_prefix, has_round}
+use Rattle.sim_core.specs.World.{World, has_as, has_prefix, has_round, is_watched}
 use Rattle.sim_core.specs.Kept.{Kept}
 use Rattle.sim_core.specs.declared.errors.QueryError.{QueryError}
 use Rattle.sim_core.specs.declared.errors.QueryError.TheVariants as refused
@@ -20,13 +22,15 @@ use Rattle.sim_core.specs.declared.errors.QueryError.TheVariants as refused
 abbrev pub unless : Bool → QueryError → Option QueryError → Option QueryError
 unless there e others = if there then others else Some e
 
--- why a query is refused: the first thing in the order round, prefix, AS that it names and that the world has not (own rule)
+-- why a query is refused: the first thing in the order round, prefix, AS, watched address that it names and that the world has not (own rule)
 abbrev pub refusal_of : World → Query → Option QueryError
 refusal_of w (query.Routes round prefix) = unless (has_round w round) (refused.UnknownRound round) (unless (has_prefix w prefix) (refused.UnknownPrefix prefix) None)
 refusal_of w (query.Route round prefix a) =
     unless (has_round w round) (refused.UnknownRound round) (unless (has_prefix w prefix) (refused.UnknownPrefix prefix) (unless (has_as w a) (refused.UnknownAs a) None))
 refusal_of w (query.Trace round a addr) = unless (has_round w round) (refused.UnknownRound round) (unless (has_as w a) (refused.UnknownAs a) None)
-refusal_of w _ = None
+refusal_of w (query.Report round addr) = unless (has_round w round) (refused.UnknownRound round) (unless (is_watched w addr) (refused.NotWatched addr) None)
+refusal_of w query.Ranks = None
+refusal_of w (query.Validity prefix a) = None
 
 -- the text is the line of the trace from the AS, where each AS has this next hop (own format)
 pub record IsTraceLine (next : ℕ → Hop) (a : ℕ) (text : List ℕ) : Type 0 where
@@ -40,18 +44,9 @@ abbrev pub IsAnswer : World → Kept → Query → List ℕ → Type 0
 IsAnswer w k (query.Routes round prefix) text = IsTable (has_as w) (λ a. row a (k.routings round prefix a)) text
 IsAnswer w k (query.Route round prefix a) text = text ≡ row a (k.routings round prefix a)
 IsAnswer w k (query.Trace round a addr) text = IsTraceLine (next_hop w.plan (k.routings round) addr) a text
+IsAnswer w k (query.Report round addr) text = text ≡ report_text (k.rows round addr) (announcers_of w.plan)
 IsAnswer w k query.Ranks text = IsTable (has_as w) (λ a. rank_row a (k.ranks a)) text
 IsAnswer w k (query.Validity prefix a) text = text ≡ validity_text (state_of w.payloads prefix a) (covering w.payloads prefix)
-IsAnswer w k _ text = ⊥
-
--- the queries that are answered
-abbrev pub IsAnswered : Query → Type 0
-IsAnswered (query.Routes round prefix) = Unit {0}
-IsAnswered (query.Route round prefix a) = Unit {0}
-IsAnswered (query.Trace round a addr) = Unit {0}
-IsAnswered query.Ranks = Unit {0}
-IsAnswered (query.Validity prefix a) = Unit {0}
-IsAnswered _ = ⊥
 
 -- the answer to the query was appended
 pub record Answers (w : World) (k : Kept) (q : Query) (old new : List ℕ) : Type 0 where

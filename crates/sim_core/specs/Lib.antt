@@ -5,5 +5,6 @@ pub mod Kept
 pub mod Loaded
 pub mod Loading
 pub mod Answers
+pub mod Watching
 pub mod Parts
 pub mod Sims

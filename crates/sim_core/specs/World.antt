@@ -45,6 +45,10 @@ has_prefix w prefix = plans_prefix w.plan prefix
 abbrev pub has_round : World → ℕ → Bool
 has_round w round = nat_le 1 round && nat_le round w.rounds
 
+-- the address is watched (own rule)
+abbrev pub is_watched : World → AddrValue → Bool
+is_watched w addr = set.contains w.watched addr
+
 -- the policy of an AS; an AS that none is named for has the plain one (own rule)
 abbrev pub kind_at : World → ℕ → Kind
 kind_at w a = unwrap_or (fin.get w.kinds a) Plain

@@ -1,20 +1,22 @@
 //! Answers of a simulation.
-ghost use Rattle.std.specs.Prelude.{◌≡◌, ◌≤◌, Some, IfOk, IfErr, OnOk, OnErr};
+ghost use Rattle.std.specs.Prelude.{◌≡◌, ◌≤◌, true, Some, IfOk, IfErr, OnOk, OnErr};
 ghost use Rattle.std.specs.FinMap as fin;
 ghost use Rattle.as_graph.specs.Topology.{as_count};
 ghost use Rattle.data_trace.specs.Hops.{next_hop};
 ghost use Rattle.data_trace.specs.Traces.{IsTrace};
 ghost use Rattle.scenario_text.specs.declared.acts.Query.TheVariants as query;
-ghost use Rattle.sim_core.specs.Answers.{Answers, IsAnswered, IsQueryRefusal};
+ghost use Rattle.sim_core.specs.Answers.{Answers, IsQueryRefusal};
 ghost use Rattle.sim_core.specs.Parts.{AreTablesOf, IsTableOf, no_round, no_table};
+ghost use Rattle.sim_core.specs.Watching.{IsPlace, IsWatchOf, no_watch};
 ghost use Rattle.sim_core.specs.Sims.{kept, world_seen};
-ghost use Rattle.sim_core.specs.World.{topology};
+ghost use Rattle.sim_core.specs.World.{has_round, topology};
 
+use crate::watching::place_of_addr;
 use crate::{QueryError, Sim};
-use data_trace::{Trace, trace};
+use data_trace::{Trace, Watch, trace};
 use net_names::{Addr, Asn, NoMemory, Prefix};
 use origin_validation::explain;
-use reports::{put_ranks, put_route, put_routes, put_trace, put_validity};
+use reports::{put_ranks, put_report, put_route, put_routes, put_trace, put_validity};
 use route_choice::{RoundTables, Table};
 use scenario_text::Query;
 use std::alloc::Global;
@@ -131,6 +133,46 @@ impl Sim {
         }
     }
 
+    // The watch of a round and of the address at a place.
+    fn watch_at(&self, round: u32, _addr: Addr, place: usize) -> &Watch
+        requires round { has_round (world_seen self.now) round ≡ true }
+        requires place { IsPlace self.now.watched.items _addr place }
+        ensures { IsWatchOf (world_seen self.now) (kept self.now) round _addr result.now }
+    {
+        &self.watches[round as usize - 1].watches[place]
+    }
+
+    // The watch of a round and an address.
+    fn watch_of(&self, round: u32, addr: Addr) -> Result<&Watch, QueryError>
+        ensures found { IfOk result (λ w. IsWatchOf (world_seen self.now) (kept self.now) round addr w.now) }
+        ensures refused { IfErr result (λ e. no_watch (world_seen self.now) round addr ≡ Some e) }
+    {
+        match self.tables_of(round) {
+            Ok(_) => {}
+            Err(error) => return Err(error),
+        }
+        match place_of_addr(self.watched.as_slice(), addr) {
+            Some(place) => Ok(self.watch_at(round, addr, place)),
+            None => Err(QueryError::NotWatched { addr }),
+        }
+    }
+
+    // Appends the counts of a watched address.
+    fn put_report(&self, round: u32, addr: Addr, out: &mut Vec<u8>) -> Result<(), QueryError>
+        ensures answered { OnOk result (Answers (world_seen self.now) (kept self.now) (query.Report round addr) out.old.items out.new.items) }
+        ensures refused { IfErr result (IsQueryRefusal (world_seen self.now) (query.Report round addr)) }
+        ensures err { OnErr result (out.new.items ≡ out.old.items) }
+    {
+        let watch = match self.watch_of(round, addr) {
+            Ok(watch) => watch,
+            Err(error) => return Err(error),
+        };
+        match put_report(out, self.rounds.seed_plan(), watch) {
+            Ok(()) => Ok(()),
+            Err(_) => Err(QueryError::Memory),
+        }
+    }
+
     // Appends the ranks of all ASes.
     fn put_ranks(&self, out: &mut Vec<u8>) -> Result<(), QueryError>
         ensures answered { OnOk result (Answers (world_seen self.now) (kept self.now) query.Ranks out.old.items out.new.items) }
@@ -159,12 +201,9 @@ impl Sim {
     }
 
     /// Appends the answer to a query. It is refused exactly where it names something that the world has
-    /// not: `UnknownRound`, `UnknownPrefix` or `UnknownAs`, tested in this order among what it names.
-    /// After a refusal `out` is as it was.
-    ///
-    /// Reports are not answered yet.
+    /// not: `UnknownRound`, `UnknownPrefix`, `UnknownAs` or `NotWatched`, tested in this order among what
+    /// it names. After a refusal `out` is as it was.
     pub fn answer(&self, query: &Query, out: &mut Vec<u8>) -> Result<(), QueryError>
-        requires { IsAnswered query.now }
         ensures answered { OnOk result (Answers (world_seen self.now) (kept self.now) query.now out.old.items out.new.items) }
         ensures refused { IfErr result (IsQueryRefusal (world_seen self.now) query.now) }
         ensures err { OnErr result (out.new.items ≡ out.old.items) }
@@ -173,7 +212,7 @@ impl Sim {
             Query::Routes { round, prefix } => self.put_routes(*round, *prefix, out),
             Query::Route { round, prefix, asn } => self.put_route(*round, *prefix, *asn, out),
             Query::Trace { round, asn, addr } => self.put_trace(*round, *asn, *addr, out),
-            Query::Report { .. } => unreachable!(),
+            Query::Report { round, addr } => self.put_report(*round, *addr, out),
             Query::Ranks => self.put_ranks(out),
             Query::Validity { prefix, asn } => self.put_validity(*prefix, *asn, out),
         }

@@ -1,6 +1,6 @@
 //! Why a world is not loaded, and why a query is refused.
 use cycle_check::Cycle;
-use net_names::{Asn, Prefix};
+use net_names::{Addr, Asn, Prefix};
 use thiserror::Error;
 
 /// Why a world is not loaded.
@@ -40,5 +40,11 @@ pub enum QueryError {
     UnknownAs {
         /// The AS.
         asn: Asn,
+    },
+    /// The address is not watched.
+    #[error("not watched")]
+    NotWatched {
+        /// The address.
+        addr: Addr,
     },
 }

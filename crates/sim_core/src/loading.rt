@@ -13,7 +13,7 @@ ghost use Rattle.sim_core.specs.World.{HasCycle, topology};
 use crate::naming::world_graph;
 use crate::planning::{policies, seed_plan};
 use crate::validating::known_states;
-use crate::watching::watched_addrs;
+use crate::watching::{watch_rounds, watched_addrs};
 use crate::{LoadError, Sim};
 use as_graph::Graph;
 use leak_round::Rounds;
@@ -95,14 +95,18 @@ fn load_world<L: Ledger>(
     let Ok(watched) = watched_addrs(alloc, scenario) else {
         return Err(LoadError::Memory);
     };
-    match rounds_of::<L>(alloc, &graph, &ranks, &vrps, &book, scenario, blank) {
-        Ok(rounds) => Ok(Sim {
+    let Ok(rounds) = rounds_of::<L>(alloc, &graph, &ranks, &vrps, &book, scenario, blank) else {
+        return Err(LoadError::Memory);
+    };
+    match watch_rounds(alloc, &graph, &rounds, &book, scenario, &watched) {
+        Ok(watches) => Ok(Sim {
             graph,
             ranks,
             vrps,
             book,
             rounds,
             watched,
+            watches,
         }),
         Err(_) => Err(LoadError::Memory),
     }
@@ -110,7 +114,8 @@ fn load_world<L: Ledger>(
 
 impl Sim {
     /// The simulation of the world of these links, these payloads and this scenario. For each round and
-    /// prefix it keeps the one and only stable routing, and for each AS its rank.
+    /// prefix it keeps the one and only stable routing, for each AS its rank, and for each round and
+    /// watched address where the packets of all ASes end.
     ///
     /// `TooManyAses` comes exactly where the world has more than 150,000 ASes, and else `ProviderCycle`
     /// exactly where its links have a provider cycle (Gao and Rexford 2001), with one from its lowest

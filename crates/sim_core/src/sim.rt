@@ -1,8 +1,11 @@
 //! A simulation.
-ghost use Rattle.std.specs.Prelude.{◌≡◌};
+ghost use Rattle.std.specs.Prelude.{◌≡◌, length};
+ghost use Rattle.leak_round.specs.Rounds.{round_count};
 ghost use Rattle.sim_core.specs.Parts.{world_by};
+ghost use Rattle.sim_core.specs.Watching.{HasWatches};
 ghost use Rattle.sim_core.specs.World.{topology};
 
+use crate::watching::RoundWatches;
 use as_graph::Graph;
 use leak_round::Rounds;
 use net_names::Addr;
@@ -11,8 +14,9 @@ use rank_order::Ranks;
 use roa_table::Vrps;
 use stability_laws::Book;
 
-/// A world, the ranks of its ASes, and for each round and prefix the one and only stable routing.
-/// Contracts see the world, the ranks and what each AS holds.
+/// A world, the ranks of its ASes, for each round and prefix the one and only stable routing, and for
+/// each round and watched address the ends of all traces. Contracts see the world, the ranks, what each
+/// AS holds, and the rows of the watches.
 #[derive(Drop)]
 pub struct Sim {
     pub(crate) graph: Graph,
@@ -21,5 +25,7 @@ pub struct Sim {
     pub(crate) book: Book<Kind>,
     pub(crate) rounds: Rounds,
     pub(crate) watched: Vec<Addr>,
+    pub(crate) watches: Vec<RoundWatches>,
     ghost named: { graph ≡ topology (world_by graph vrps book rounds watched.items) },
+    ghost watching: { HasWatches (round_count rounds) (length watched.items) watches.items },
 }

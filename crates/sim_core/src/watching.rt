@@ -1,13 +1,98 @@
-//! The watched addresses.
-ghost use Rattle.std.specs.Prelude.{◌≡◌, IfOk};
+//! The watched addresses, and for each round a watch for each of them.
+ghost use Rattle.std.specs.Prelude.{◌≡◌, ◌≤◌, IfOk, position};
+ghost use Rattle.std.specs.Ordering.{eq_by_cmp};
+ghost use Rattle.leak_round.specs.Rounds.{kept as kept_rounds, plan_of, round_count};
+ghost use Rattle.roa_table.specs.Sets.{Payloads};
+ghost use Rattle.sim_core.specs.Parts.{AreRoundsOf};
+ghost use Rattle.sim_core.specs.Watching.{AreRoundWatches, AreWatches, GoesOnInside, IsPlaceOrNone};
 
-use net_names::Addr;
+use as_graph::Graph;
+use data_trace::Watch;
+use leak_round::Rounds;
+use net_names::{Addr, NoMemory};
+use policy_kinds::Kind;
 use scenario_text::Scenario;
+use stability_laws::{Book, paths_go_on, plans_are_sound};
 use std::alloc::{AllocError, Global};
+
+/// The watches of a round, one for each watched address in their order.
+#[derive(Drop)]
+pub struct RoundWatches {
+    pub watches: Vec<Watch>,
+}
 
 /// The addresses that a scenario watches, in its order.
 pub fn watched_addrs(alloc: Global, scenario: &Scenario) -> Result<Vec<Addr>, AllocError>
     ensures { IfOk result (λ v. v.items ≡ scenario.now.watch) }
 {
     scenario.watched().iter().copied().collect(alloc)
+}
+
+// The place of a key in a list, if it stands there.
+fn place_of<K: Ord>(keys: &[K], key: &K) -> Option<usize>
+    ensures { result ≡ position (λ k. eq_by_cmp K.cmp key.now k) keys.now }
+{
+    keys.iter().position(|k| key.cmp(k).is_eq())
+}
+
+/// The place of an address in a list, if it stands there.
+pub fn place_of_addr(addrs: &[Addr], addr: Addr) -> Option<usize>
+    ensures { IsPlaceOrNone addrs.now addr result }
+{
+    place_of(addrs, &addr)
+}
+
+// The watches of a round.
+fn watch_round(
+    alloc: Global,
+    graph: &Graph,
+    rounds: &Rounds,
+    book: &Book<Kind>,
+    addrs: &[Addr],
+    round: u32,
+) -> Result<RoundWatches, NoMemory>
+    requires from { 1 ≤ round }
+    requires to { round ≤ round_count rounds.now }
+    requires inside { GoesOnInside graph.now (plan_of rounds.now) (kept_rounds rounds.now round) }
+    ensures { IfOk result (λ one. AreWatches graph.now (plan_of rounds.now) (kept_rounds rounds.now round) book.now addrs.now one.watches.items) }
+{
+    let Some(tables) = rounds.round(round) else {
+        unreachable!();
+    };
+    let (pool, plan) = (rounds.pool(), rounds.seed_plan());
+    let mut watches = Vec::new(alloc);
+    for addr in addrs {
+        let watch = Watch::build(alloc, graph, tables, pool, plan, book, *addr)?;
+        match watches.push(watch) {
+            Ok(()) => {}
+            Err(_) => return Err(NoMemory),
+        }
+    }
+    Ok(RoundWatches { watches })
+}
+
+/// The watches of all rounds of a scenario, for these addresses.
+pub fn watch_rounds(
+    alloc: Global,
+    graph: &Graph,
+    rounds: &Rounds,
+    book: &Book<Kind>,
+    scenario: &Scenario,
+    addrs: &[Addr],
+) -> Result<Vec<RoundWatches>, NoMemory>
+    requires { (payloads : Payloads) × AreRoundsOf graph.now payloads book.now scenario.now rounds.now }
+    ensures { IfOk result (λ all. AreRoundWatches graph.now (plan_of rounds.now) (kept_rounds rounds.now) book.now addrs.now (round_count rounds.now) all.items) }
+{
+    paths_go_on::<Kind>();
+    plans_are_sound(rounds.seed_plan());
+    let count = scenario.leak_lists() as u32 + 1;
+    let mut all = Vec::new(alloc);
+    for past in 0..count {
+        let one = watch_round(alloc, graph, rounds, book, addrs, past + 1)?;
+        match all.push(one) {
+            Ok(()) => {}
+            Err(_) => return Err(NoMemory),
+        }
+    }
+    Ok(all)
 }

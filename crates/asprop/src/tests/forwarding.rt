@@ -16,7 +16,7 @@ const ALL_WORDS: &[&str] = &[
     "cmds",
 ];
 
-const FORWARDING_CASES: [ScriptCase; 7] = [
+const FORWARDING_CASES: [ScriptCase; 10] = [
     ScriptCase {
         name: "a packet ends at the forger",
         words: ALL_WORDS,
@@ -70,6 +70,39 @@ const FORWARDING_CASES: [ScriptCase; 7] = [
         script: b"trace 1 1 2001:db8::1\ntrace 1 2 2001:db9::1\ntrace 1 2 10.0.0.1\n",
         status: Status::Done,
         out: b"# 1\ndelivered|1 2\n# 2\nno-route|2\n# 3\ndelivered|2 1\n",
+        err: b"",
+    },
+    ScriptCase {
+        name: "report-counts-by-destination",
+        words: WORDS,
+        rel: b"1|4|-1\n1|5|-1\n2|5|-1\n1|2|0\n",
+        vrps: b"",
+        scenario: b"{\"announcements\":[{\"prefix\":\"10.0.0.0/8\",\"as\":4},{\"prefix\":\"10.0.0.0/8\",\"as\":5}],\"watch\":[\"10.0.0.1\"]}",
+        script: b"report 1 10.0.0.1\nreport 1 10.9.9.9\nreport 2 10.9.9.9\n",
+        status: Status::SomeRefused,
+        out: b"# 1\ntotal|ases|4\ntotal|to 4|2\ntotal|to 5|2\ntotal|no-route|0\ntotal|loop|0\nstub|ases|2\nstub|to 4|1\nstub|to 5|1\nstub|no-route|0\nstub|loop|0\nplain|ases|4\nplain|to 4|2\nplain|to 5|2\nplain|no-route|0\nplain|loop|0\n# 2\nrefused not-watched 10.9.9.9\n# 3\nrefused unknown-round 2\n",
+        err: b"",
+    },
+    ScriptCase {
+        name: "packets in a loop are counted in the round of the leak",
+        words: WORDS,
+        rel: b"5|1|-1\n5|2|-1\n1|3|-1\n2|3|-1\n1|6|-1\n6|4|-1\n2|4|-1\n",
+        vrps: b"",
+        scenario: b"{\"announcements\":[{\"prefix\":\"10.0.0.0/8\",\"as\":5}],\"leaks\":[[3,4]],\"watch\":[\"::1\",\"10.0.0.1\"]}",
+        script: b"report 2 10.0.0.1\n",
+        status: Status::Done,
+        out: b"# 1\ntotal|ases|6\ntotal|to 5|1\ntotal|no-route|0\ntotal|loop|5\nstub|ases|2\nstub|no-route|0\nstub|loop|2\nplain|ases|6\nplain|to 5|1\nplain|no-route|0\nplain|loop|5\n",
+        err: b"",
+    },
+    ScriptCase {
+        name: "each policy that some AS has is a group",
+        words: WORDS,
+        rel: b"",
+        vrps: b"",
+        scenario: b"{\"announcements\":[{\"prefix\":\"10.0.0.0/8\",\"as\":6}],\"policies\":[{\"as\":3,\"policy\":\"otc\"},{\"as\":4,\"policy\":\"plain\"}],\"watch\":[\"10.0.0.1\",\"11.0.0.1\"]}",
+        script: b"report 1 10.0.0.1\nreport 1 11.0.0.1\n",
+        status: Status::Done,
+        out: b"# 1\ntotal|ases|2\ntotal|to 6|1\ntotal|no-route|1\ntotal|loop|0\nstub|ases|2\nstub|to 6|1\nstub|no-route|1\nstub|loop|0\nplain|ases|1\nplain|to 6|1\nplain|no-route|0\nplain|loop|0\notc|ases|1\notc|no-route|1\notc|loop|0\n# 2\ntotal|ases|2\ntotal|no-route|2\ntotal|loop|0\nstub|ases|2\nstub|no-route|2\nstub|loop|0\nplain|ases|1\nplain|no-route|1\nplain|loop|0\notc|ases|1\notc|no-route|1\notc|loop|0\n",
         err: b"",
     },
     ScriptCase {

@@ -19,7 +19,7 @@ struct Shown {
     out: &'static [u8],
 }
 
-const FILES: [Example; 15] = [
+const FILES: [Example; 18] = [
     Example {
         name: "examples/diamond",
         bytes: b"# two providers of one origin\n1|2|-1\n1|3|-1\n2|4|-1\n3|4|-1\n",
@@ -34,7 +34,7 @@ const FILES: [Example; 15] = [
     },
     Example {
         name: "examples/hijack/two-origins.json",
-        bytes: b"{\"announcements\": [{\"prefix\": \"10.0.0.0/8\", \"as\": 4},\n                   {\"prefix\": \"10.0.0.0/8\", \"as\": 6}]}\n",
+        bytes: b"{\"announcements\": [{\"prefix\": \"10.0.0.0/8\", \"as\": 4},\n                   {\"prefix\": \"10.0.0.0/8\", \"as\": 6}],\n \"watch\": [\"10.128.0.1\"]}\n",
     },
     Example {
         name: "examples/hijack/two-origins.script",
@@ -42,7 +42,7 @@ const FILES: [Example; 15] = [
     },
     Example {
         name: "examples/hijack/sub-prefix.json",
-        bytes: b"{\"announcements\": [{\"prefix\": \"10.0.0.0/8\", \"as\": 4},\n                   {\"prefix\": \"10.128.0.0/9\", \"as\": 6}]}\n",
+        bytes: b"{\"announcements\": [{\"prefix\": \"10.0.0.0/8\", \"as\": 4},\n                   {\"prefix\": \"10.128.0.0/9\", \"as\": 6}],\n \"watch\": [\"10.128.0.1\"]}\n",
     },
     Example {
         name: "examples/hijack/sub-prefix.script",
@@ -54,7 +54,7 @@ const FILES: [Example; 15] = [
     },
     Example {
         name: "examples/hijack/validation.json",
-        bytes: b"{\"announcements\": [{\"prefix\": \"10.0.0.0/8\", \"as\": 4},\n                   {\"prefix\": \"10.128.0.0/9\", \"as\": 6}],\n \"policies\": [{\"as\": 1, \"policy\": \"drop-invalid\"}]}\n",
+        bytes: b"{\"announcements\": [{\"prefix\": \"10.0.0.0/8\", \"as\": 4},\n                   {\"prefix\": \"10.128.0.0/9\", \"as\": 6}],\n \"policies\": [{\"as\": 1, \"policy\": \"drop-invalid\"}],\n \"watch\": [\"10.128.0.1\"]}\n",
     },
     Example {
         name: "examples/hijack/validation.script",
@@ -67,6 +67,18 @@ const FILES: [Example; 15] = [
     Example {
         name: "examples/hijack/forged.script",
         bytes: b"validity 10.0.0.0/8 4\nroutes 1 10.0.0.0/8\nroute 1 10.0.0.0/8 9\n",
+    },
+    Example {
+        name: "examples/hijack/report.script",
+        bytes: b"report 1 10.128.0.1\n",
+    },
+    Example {
+        name: "examples/hijack/low-validation.json",
+        bytes: b"{\"announcements\": [{\"prefix\": \"10.0.0.0/8\", \"as\": 4},\n                   {\"prefix\": \"10.128.0.0/9\", \"as\": 6}],\n \"policies\": [{\"as\": 3, \"policy\": \"drop-invalid\"}],\n \"watch\": [\"10.128.0.1\"]}\n",
+    },
+    Example {
+        name: "examples/hijack/low-validation.script",
+        bytes: b"route 1 10.128.0.0/9 3\ntrace 1 3 10.128.0.1\nreport 1 10.128.0.1\n",
     },
     Example {
         name: "examples/leak/links",
@@ -82,7 +94,7 @@ const FILES: [Example; 15] = [
     },
 ];
 
-const COMMANDS: [Shown; 7] = [
+const COMMANDS: [Shown; 11] = [
     Shown {
         words: &["asprop", "examples/diamond", "--origin", "4"],
         status: Status::Done,
@@ -144,6 +156,58 @@ const COMMANDS: [Shown; 7] = [
         ],
         status: Status::SomeRefused,
         out: b"# 1\nstate|valid\n4|10.0.0.0/8|8\n# 2\n1|customer|1 4\n2|customer|2 6 4\n3|provider|3 1 4\n4|origin|4\n5|provider|5 2 6 4\n6|origin|6 4\n7|provider|7 3 1 4\n# 3\nrefused unknown-as 9\n",
+    },
+    Shown {
+        words: &[
+            "asprop",
+            "examples/hijack/links",
+            "--scenario",
+            "examples/hijack/two-origins.json",
+            "--script",
+            "examples/hijack/report.script",
+        ],
+        status: Status::Done,
+        out: b"# 1\ntotal|ases|7\ntotal|to 4|4\ntotal|to 6|3\ntotal|no-route|0\ntotal|loop|0\nstub|ases|4\nstub|to 4|2\nstub|to 6|2\nstub|no-route|0\nstub|loop|0\nplain|ases|7\nplain|to 4|4\nplain|to 6|3\nplain|no-route|0\nplain|loop|0\n",
+    },
+    Shown {
+        words: &[
+            "asprop",
+            "examples/hijack/links",
+            "--scenario",
+            "examples/hijack/sub-prefix.json",
+            "--script",
+            "examples/hijack/report.script",
+        ],
+        status: Status::Done,
+        out: b"# 1\ntotal|ases|7\ntotal|to 6|7\ntotal|no-route|0\ntotal|loop|0\nstub|ases|4\nstub|to 6|4\nstub|no-route|0\nstub|loop|0\nplain|ases|7\nplain|to 6|7\nplain|no-route|0\nplain|loop|0\n",
+    },
+    Shown {
+        words: &[
+            "asprop",
+            "examples/hijack/links",
+            "--vrps",
+            "examples/hijack/payloads.csv",
+            "--scenario",
+            "examples/hijack/validation.json",
+            "--script",
+            "examples/hijack/report.script",
+        ],
+        status: Status::Done,
+        out: b"# 1\ntotal|ases|7\ntotal|to 4|4\ntotal|to 6|3\ntotal|no-route|0\ntotal|loop|0\nstub|ases|4\nstub|to 4|2\nstub|to 6|2\nstub|no-route|0\nstub|loop|0\nplain|ases|6\nplain|to 4|3\nplain|to 6|3\nplain|no-route|0\nplain|loop|0\ndrop-invalid|ases|1\ndrop-invalid|to 4|1\ndrop-invalid|no-route|0\ndrop-invalid|loop|0\n",
+    },
+    Shown {
+        words: &[
+            "asprop",
+            "examples/hijack/links",
+            "--vrps",
+            "examples/hijack/payloads.csv",
+            "--scenario",
+            "examples/hijack/low-validation.json",
+            "--script",
+            "examples/hijack/low-validation.script",
+        ],
+        status: Status::Done,
+        out: b"# 1\n3|none|\n# 2\ndelivered|3 1 2 6\n# 3\ntotal|ases|7\ntotal|to 6|7\ntotal|no-route|0\ntotal|loop|0\nstub|ases|4\nstub|to 6|4\nstub|no-route|0\nstub|loop|0\nplain|ases|6\nplain|to 6|6\nplain|no-route|0\nplain|loop|0\ndrop-invalid|ases|1\ndrop-invalid|to 6|1\ndrop-invalid|no-route|0\ndrop-invalid|loop|0\n",
     },
     Shown {
         words: &[

@@ -131,7 +131,7 @@ const SCRIPT_CASES: [ScriptCase; 14] = [
         err: b"asprop: cmds: line 2: unreadable\n",
     },
     ScriptCase {
-        name: "a line that isn't answered yet",
+        name: "an edit",
         words: SCRIPT_WORDS,
         rel: b"",
         vrps: b"",

@@ -2,7 +2,7 @@ use Rattle.std.proofs.Common.{◌≡◌, ◌||◌, arith, inl, inr, subst}
 use Rattle.scenario_text.specs.LineValues.{LineValue}
 use Rattle.sim_core.specs.Sims.{world_seen}
 use Rattle.asprop.specs.Told.{Answered}
-use Rattle.asprop.proofs.Answering.{whole, all, next, one_answer, part, either, rose_earlier}
+use Rattle.asprop.proofs.Answering.{whole, all, next, one_query, part, either, rose_earlier}
 use Rattle.asprop.proofs.answers.answer_all.Goals as goal
 use Rattle.asprop.proofs.answers.answer_all.Goals.{then-first, else-first}
 
@@ -29,5 +29,5 @@ lines-preserved g c =
       so_far = rw refused (next _ _ _ _ _ _ c.line-item.result _ _ _ _ _ _ c.lines-test.true c.lines.invariant.so_far (subst P c.line-item.is c.in-Ok.ensures) (rw c.deref.ensures.value at c.in-Ok-write_all.ensures.whole));
     }
 
-pub answer_line-requires-clause-answered : goal.answer_line-requires-clause-answered
-answer_line-requires-clause-answered g c = one_answer c.args.lines.now c.lines.line-index c.line-item.result c.requires.answered c.lines-test.true c.line-item.is
+pub answer_line-requires-clause-asks : goal.answer_line-requires-clause-asks
+answer_line-requires-clause-asks g c = one_query c.args.lines.now c.lines.line-index c.line-item.result c.requires.ask c.lines-test.true c.line-item.is

@@ -3,7 +3,7 @@ use Rattle.scenario_text.specs.Script.{script_of}
 use Rattle.asprop.specs.Task.{read_as}
 use Rattle.asprop.specs.declared.types.File.TheVariants as file
 use Rattle.asprop.specs.declared.types.Fault.TheVariants as fault
-use Rattle.asprop.proofs.Answering.{are_answered}
+use Rattle.asprop.proofs.Answering.{are_queries}
 use Rattle.asprop.proofs.Preparing.{no_links}
 use Rattle.asprop.proofs.InOrder.{payloads_stop, scenario_stop, lines_stop, all_found}
 use Rattle.asprop.proofs.asking.ask_script.Goals as goal
@@ -26,9 +26,9 @@ returns-in-Ok-read_lines-clause-task g c =
     c.in-Ok.links c.in-Ok-read_payloads.vrps c.in-Ok-read_plan.scenario c.in-Ok-read_lines.lines _
     c.in-Ok.ensures.found c.in-Ok-read_payloads.ensures.found c.in-Ok-read_plan.ensures.found c.in-Ok-read_lines.ensures.found refl
 
-pub returns-in-Ok-read_lines-clause-answered : goal.returns-in-Ok-read_lines-clause-answered
-returns-in-Ok-read_lines-clause-answered g c =
-    are_answered (read_as file.Script fault.Script script_of c.in-Ok-read_lines.ensures.found.read) c.in-Ok-read_lines.lines c.in-Ok-read_lines.ensures.found.finds
+pub returns-in-Ok-read_lines-clause-ask : goal.returns-in-Ok-read_lines-clause-ask
+returns-in-Ok-read_lines-clause-ask g c =
+    are_queries (read_as file.Script fault.Script script_of c.in-Ok-read_lines.ensures.found.read) c.in-Ok-read_lines.lines c.in-Ok-read_lines.ensures.found.finds
 
 pub returns-in-Err-read_lines-clause-task : goal.returns-in-Err-read_lines-clause-task
 returns-in-Err-read_lines-clause-task g c =

@@ -1,0 +1,33 @@
+use Rattle.std.proofs.Common.{◌≡◌, ◌∙◌, ◌+◌, ◌<◌, ◌++◌, ◌∷◌, [], ℕ, suc, ap, sym, subst, length, List, arith}
+use Rattle.policy_kinds.specs.Kinds.{kind_policy}
+use Rattle.origin_validation.specs.Judging.{state_of}
+use Rattle.stability_laws.specs.Plans.{Plan, IsSound}
+use Rattle.stability_laws.specs.Rounds.{AreRounds}
+use Rattle.stability_laws.specs.World.{setting}
+use Rattle.leak_round.specs.Rounds.{kept, plan_of}
+use Rattle.sim_core.specs.Watching.{AreRoundWatches, AreWatches, GoesOnInside}
+use Rattle.sim_core.specs.declared.watching.RoundWatches.{RoundWatches}
+use Rattle.sim_core.proofs.Hops.{goes_on_inside}
+use Rattle.sim_core.proofs.Watches.{one_round_more}
+use Rattle.sim_core.proofs.watching.watch_rounds.Goals as goal
+
+pub watch_round-requires-clause-inside : goal.watch_round-requires-clause-inside
+watch_round-requires-clause-inside c =
+    let (payloads, are) = c.requires in
+    let plan = plan_of c.args.rounds.now in
+    let sound : IsSound plan = subst IsSound c.seed_plan.ensures c.plans_are_sound.ensures in
+    let P : Plan → Type 0 = λ p. AreRounds (λ q. setting kind_policy c.args.graph.now c.args.book.now (state_of payloads q)) p (length c.args.scenario.now.leaks + 1) (kept c.args.rounds.now) in
+    let rounds : P plan = subst P (sym are.plan) are.stable in
+    let within : c.loop-past.past < length c.args.scenario.now.leaks + 1 = omega (arith, c.loop-past-test.true, c.leak_lists.ensures.value) in
+    let next : suc c.loop-past.past ≡ c.loop-past.past + 1 = omega arith in
+    let Q : ℕ → Type 0 = λ r. GoesOnInside c.args.graph.now plan (kept c.args.rounds.now r) in
+    subst Q next (goes_on_inside c.paths_go_on.ensures c.args.graph.now c.args.book.now payloads plan (length c.args.scenario.now.leaks + 1) (kept c.args.rounds.now) sound rounds c.loop-past.past within)
+
+pub loop-past-preserved : goal.loop-past-preserved
+loop-past-preserved c =
+    let plan = plan_of c.args.rounds.now in
+    let next : c.loop-past.past + 1 ≡ suc c.loop-past.past = omega arith in
+    let P : ℕ → Type 0 = λ r. AreWatches c.args.graph.now plan (kept c.args.rounds.now r) c.args.book.now c.args.addrs.now c.in_ok-one.one.watches.items in
+    let Q : List RoundWatches → Type 0 = λ all. AreRoundWatches c.args.graph.now plan (kept c.args.rounds.now) c.args.book.now c.args.addrs.now (c.loop-past.past + 1) all in
+    subst Q (sym c.in-Ok.ensures.items)
+    (one_round_more c.args.graph.now plan (kept c.args.rounds.now) c.args.book.now c.args.addrs.now c.loop-past.past c.loop-past.all.items c.in_ok-one.one c.loop-past.invariant (subst P next c.in_ok-one.ensures))

@@ -1,0 +1,76 @@
+-- The watches of a simulation: for each round one for each watched address.
+use Rattle.std.specs.Prelude.{◌≡◌, ℕ, true, false, IsTrue, ◌<◌, suc, ◌-◌, Option, None, Some, option_and_then, List, [], length, slice_get}
+use Rattle.std.specs.List.{position_or_len}
+use Rattle.std.specs.FinSet as set
+use Rattle.std.specs.Ordering.{eq_by_cmp}
+use Rattle.as_graph.specs.Topology.{Topology, has}
+use Rattle.net_names.specs.Addresses.{AddrValue, addr_cmp}
+use Rattle.net_names.specs.Prefixes.{PrefixValue}
+use Rattle.policy_kinds.specs.Kinds.{label}
+use Rattle.policy_kinds.specs.declared.kind.Kind.{Kind}
+use Rattle.stability_laws.specs.Book.{PolicyBook, policy_at}
+use Rattle.stability_laws.specs.Plans.{Plan, announces, has_prefix}
+use Rattle.stability_laws.specs.declared.entry.Entry.{Entry}
+use Rattle.data_trace.specs.Hops.{next_hop, second_of}
+use Rattle.data_trace.specs.Views.{rows_of}
+use Rattle.data_trace.specs.Watches.{AreRows, Row}
+use Rattle.data_trace.specs.declared.watch.Watch.{Watch}
+use Rattle.sim_core.specs.declared.errors.QueryError.{QueryError}
+use Rattle.sim_core.specs.declared.errors.QueryError.TheVariants as refused
+use Rattle.sim_core.specs.declared.watching.RoundWatches.{RoundWatches}
+use Rattle.sim_core.specs.World.{World, has_round, is_watched}
+use Rattle.sim_core.specs.Answers.{unless}
+use Rattle.sim_core.specs.Kept.{Kept}
+
+-- where an AS does not announce a prefix of the plan, the second AS of its entry's path is an AS of the graph (own rule)
+abbrev pub GoesOnInside : Topology → Plan → (PrefixValue → ℕ → Option Entry) → Type 0
+GoesOnInside g plan held = (p : PrefixValue) (a b : ℕ) → IsTrue (has_prefix plan p) → announces plan p a ≡ false → second_of (held p a) ≡ Some b → has g b ≡ true
+
+-- the watches of a round are those of the addresses, in their order: each has the row of each AS (own rule)
+pub record AreWatches (g : Topology) (plan : Plan) (held : PrefixValue → ℕ → Option Entry) (book : PolicyBook Kind) (addrs : List AddrValue) (watches : List Watch) : Type 0 where
+  pub count : length watches ≡ length addrs
+  pub rows : (place : ℕ) (addr : AddrValue) (watch : Watch) → slice_get addrs place ≡ Some addr → slice_get watches place ≡ Some watch → AreRows g (next_hop plan held addr) (λ a. label (policy_at book a)) (rows_of watch)
+
+-- so are those of each round, of which the first of the list is round 1 (own rule)
+pub record AreRoundWatches (g : Topology) (plan : Plan) (held : ℕ → PrefixValue → ℕ → Option Entry) (book : PolicyBook Kind) (addrs : List AddrValue) (rounds : ℕ) (all : List RoundWatches) : Type 0 where
+  pub count : length all ≡ rounds
+  pub each : (before : ℕ) (one : RoundWatches) → slice_get all before ≡ Some one → AreWatches g plan (held (suc before)) book addrs one.watches.items
+
+-- there are so many rounds, and so many watches in each (own rule)
+pub record HasWatches (rounds addrs : ℕ) (all : List RoundWatches) : Type 0 where
+  pub count : length all ≡ rounds
+  pub each : (before : ℕ) (one : RoundWatches) → slice_get all before ≡ Some one → length one.watches.items ≡ addrs
+
+-- the place of an address in a list, or the list's length where it does not stand there (own rule)
+abbrev pub place_in : List AddrValue → AddrValue → ℕ
+place_in addrs addr = position_or_len (eq_by_cmp addr_cmp addr) addrs
+
+-- the place is that of an address that stands in the list (own rule)
+pub record IsPlace (addrs : List AddrValue) (addr : AddrValue) (place : ℕ) : Type 0 where
+  pub watched : set.contains (set.from_list {R = addr_cmp} addrs) addr ≡ true
+  pub is : place ≡ place_in addrs addr
+  pub within : place_in addrs addr < length addrs
+
+-- the place of an address, or none where it does not stand in the list (own rule)
+abbrev pub IsPlaceOrNone : List AddrValue → AddrValue → Option ℕ → Type 0
+IsPlaceOrNone addrs addr None = set.contains (set.from_list {R = addr_cmp} addrs) addr ≡ false
+IsPlaceOrNone addrs addr (Some place) = IsPlace addrs addr place
+
+-- the watch of a round and an address, if there is one (own rule)
+abbrev pub watch_at : List RoundWatches → List AddrValue → ℕ → AddrValue → Option Watch
+watch_at all addrs round addr = option_and_then (λ (one : RoundWatches). slice_get one.watches.items (place_in addrs addr)) (slice_get all (round - 1))
+
+-- the rows of a watch, if there is one (own rule)
+abbrev pub rows_in : Option Watch → List Row
+rows_in None = []
+rows_in (Some watch) = rows_of watch
+
+-- the watch is that of a round and an address that are there (own rule)
+pub record IsWatchOf (w : World) (k : Kept) (round : ℕ) (addr : AddrValue) (watch : Watch) : Type 0 where
+  pub round_there : has_round w round ≡ true
+  pub watched : is_watched w addr ≡ true
+  pub rows : k.rows round addr ≡ rows_of watch
+
+-- why there is no such watch: the round is not there, or the address is not watched (own rule)
+abbrev pub no_watch : World → ℕ → AddrValue → Option QueryError
+no_watch w round addr = unless (has_round w round) (refused.UnknownRound round) (unless (is_watched w addr) (refused.NotWatched addr) None)
