@@ -1,18 +1,17 @@
 -- Traces and watches over tables are those of what the tables stand for.
-use Rattle.std.proofs.Common.{◌≡◌, ℕ, suc, ◌<◌, true, false, Bool, IsTrue, is_some, List, Option, Some, None, Result, Ok, Err, IfOk, refl, sym, ap, subst, ◌∙◌}
-use Rattle.std.specs.Prelude.{slice_get}
+use Rattle.std.proofs.Common.{◌≡◌, ℕ, suc, ◌<◌, true, is_some, List, Option, Some, None, Result, Ok, Err, IfOk, refl, sym, ap, subst, ◌∙◌}
 use Rattle.as_graph.specs.Topology.{Topology, has}
 use Rattle.net_names.specs.Addresses.{AddrValue}
 use Rattle.net_names.specs.Prefixes.{PrefixValue}
 use Rattle.path_pool.specs.declared.pool.PathPool.{PathPool}
-use Rattle.policy_kinds.specs.Kinds.{kind_policy, label}
+use Rattle.policy_kinds.specs.Kinds.{kind_policy}
 use Rattle.policy_kinds.specs.declared.kind.Kind.{Kind}
 use Rattle.roa_table.specs.Sets.{Payloads}
 use Rattle.origin_validation.specs.Judging.{state_of}
 use Rattle.route_choice.specs.declared.table.Table.{Table}
 use Rattle.route_choice.specs.declared.round_tables.RoundTables.{RoundTables}
 use Rattle.route_choice.specs.RoundTables.{round_routing, table_at}
-use Rattle.stability_laws.specs.Book.{PolicyBook, policy_at}
+use Rattle.stability_laws.specs.Book.{PolicyBook}
 use Rattle.stability_laws.specs.Laws.{PathsGoOn}
 use Rattle.stability_laws.specs.Plans.{Plan, IsSound, announces, has_prefix}
 use Rattle.stability_laws.specs.Rounds.{AreRounds}

@@ -1,5 +1,5 @@
 -- The watches that are kept are those of the rounds and the watched addresses.
-use Rattle.std.proofs.Common.{◌≡◌, ℕ, zero, suc, ◌+◌, ◌-◌, ◌<◌, ◌≤◌, ◌&&◌, ◌||◌, not, Bool, true, false, cond, nat_lt, nat_le, IsTrue, Option, Some, None, List, [], ◌∷◌, ◌++◌, length, take, get_or, unwrap_or, refl, sym, ap, subst, ◌∙◌, arith, length-append}
+use Rattle.std.proofs.Common.{◌≡◌, ℕ, zero, suc, ◌+◌, ◌-◌, ◌<◌, ◌≤◌, ◌&&◌, ◌||◌, not, Bool, true, false, cond, nat_lt, nat_le, Option, Some, None, List, [], ◌∷◌, ◌++◌, length, get_or, unwrap_or, refl, sym, ap, subst, ◌∙◌, arith, length-append}
 use Rattle.std.specs.Prelude.{position, slice_get}
 use Rattle.std.specs.List.{list_any, position_or_len}
 use Rattle.std.specs.Ordering.{eq_by_cmp, is_eq, nat_cmp}
@@ -11,7 +11,7 @@ use Rattle.std.proofs.lemmas.Bool.{leb-true, ltb-true}
 use Rattle.std.proofs.lemmas.Bool.Decides.{nat_tests}
 use Rattle.std.proofs.lemmas.List.Sums.{passes_at_first}
 use Rattle.std.proofs.lemmas.Map.Lookups.{CmpEqualImpliesEq, exact_pairs, exact_unsigned}
-use Rattle.std.proofs.lemmas.Option.{slice_get_within, slice_get-get_or}
+use Rattle.std.proofs.lemmas.Option.{slice_get-get_or}
 use Rattle.net_names.specs.Addresses.{AddrValue, addr_cmp, family_place}
 use Rattle.net_names.specs.Prefixes.{PrefixValue}
 use Rattle.net_names.specs.declared.addresses.Family.{Family}
@@ -35,7 +35,7 @@ use Rattle.sim_core.specs.declared.watching.RoundWatches.{RoundWatches}
 use Rattle.sim_core.specs.Watching.{AreRoundWatches, AreWatches, HasWatches, IsPlaceOrNone, place_in, rows_in, watch_at}
 use Rattle.sim_core.specs.Kept.{AreWatchRows}
 use Rattle.sim_core.specs.Parts.{world_by}
-use Rattle.sim_core.specs.World.{has_round, is_watched, topology}
+use Rattle.sim_core.specs.World.{topology}
 
 -- ---- lists
 

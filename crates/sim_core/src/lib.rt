@@ -1,8 +1,9 @@
-//! A simulation: a world, the ranks of its ASes, and the routings of all its rounds.
+//! A simulation: a world, the ranks of its ASes, the routings of all its rounds, and where packets end.
 //!
 //! [`Sim::load`] makes the world of links, validated payloads and a scenario, and keeps for each round and
-//! prefix the one and only stable routing. [`Sim::answer`] appends the answer to a query about it, or refuses
-//! a query that names a round, a prefix or an AS that the world has not.
+//! prefix the one and only stable routing, and for each round and watched address the end of every trace.
+//! [`Sim::answer`] appends the answer to a query about it, or refuses a query that names a round, a prefix, an
+//! AS or a watched address that the world has not.
 #![tactic(auto)]
 
 mod answering;

@@ -1,4 +1,4 @@
-use Rattle.std.proofs.Common.{◌≡◌, ℕ, ◌∙◌, subst}
+use Rattle.std.proofs.Common.{◌≡◌, ℕ, subst}
 use Rattle.as_graph.specs.Hierarchy.{IsRank}
 use Rattle.as_graph.specs.Topology.{Topology, what}
 use Rattle.rank_order.specs.Ranks.{rank_at}

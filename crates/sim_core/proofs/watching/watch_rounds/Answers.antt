@@ -1,4 +1,4 @@
-use Rattle.std.proofs.Common.{◌≡◌, ◌∙◌, ◌+◌, ◌<◌, ◌++◌, ◌∷◌, [], ℕ, suc, ap, sym, subst, length, List, arith}
+use Rattle.std.proofs.Common.{◌≡◌, ◌+◌, ◌<◌, ℕ, suc, sym, subst, length, List, arith}
 use Rattle.policy_kinds.specs.Kinds.{kind_policy}
 use Rattle.origin_validation.specs.Judging.{state_of}
 use Rattle.stability_laws.specs.Plans.{Plan, IsSound}
