@@ -2,6 +2,7 @@
 mod answers;
 mod cycles;
 mod files;
+mod forwarding;
 mod graphs;
 mod kinds;
 mod narrow_policy;

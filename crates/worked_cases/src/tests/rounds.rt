@@ -1,18 +1,24 @@
 //! Rounds of small worlds, worked by hand.
 
-ghost use Rattle.std.specs.Prelude.{◌≡◌, ◌<◌, ◌≤◌, IfOk};
+ghost use Rattle.std.specs.Prelude.{◌≡◌, ℕ, suc, ◌<◌, ◌≤◌, IfOk, Option};
+ghost use Rattle.net_names.specs.Prefixes.{PrefixValue};
+ghost use Rattle.stability_laws.specs.declared.entry.Entry.{Entry as AnEntry};
+ghost use Rattle.data_trace.specs.Rounds.{IsHeldInRound};
+ghost use Rattle.data_trace.specs.Watches.{StaysInside};
 ghost use Rattle.leak_round.specs.Limits.{IsWithinLimits};
+ghost use Rattle.leak_round.specs.Rounds.{kept, plan_of as planned};
 
 use super::worlds::{
     ACROSS, DOWN, expect_text, graph_of, main_prefix, number, ranks_of, routes_text,
 };
 use as_graph::Graph;
+use data_trace::rounds_stay_inside;
 use leak_round::Rounds;
 use net_names::{Asn, Path};
 use policy_kinds::Kind;
 use policy_laws::NoStates;
 use route_choice::Steps;
-use stability_laws::{Book, SeedPlan};
+use stability_laws::{Book, SeedPlan, plans_are_sound};
 use std::alloc::Global;
 use std::marker::Brand;
 use std::process::Abort;
@@ -55,7 +61,7 @@ fn expect_round(
 }
 
 // The rounds over these links in which these ASes leak.
-fn rounds_of<L: Ledger>(
+pub(super) fn rounds_of<L: Ledger>(
     rt: &impl Abort,
     alloc: Global,
     graph: &Graph,
@@ -67,8 +73,11 @@ fn rounds_of<L: Ledger>(
     requires name { blank.name ≡ L.name }
     requires parts { blank.parts ≡ L.parts }
     requires some { 0 < L.parts }
+    ensures inside { IfOk result (λ r. (before : ℕ) → before < rounds → (held : PrefixValue → ℕ → Option AnEntry) → IsHeldInRound (planned r) (kept r (suc before)) held → StaysInside graph.now (planned r) held) }
 {
+    rounds_stay_inside::<Kind>();
     let plan = plan_of(rt, alloc, leakers)?;
+    plans_are_sound(&plan);
     let ranks = ranks_of(alloc, graph)?;
     let book = Book::new(alloc, Kind::Plain);
     let mut steps = Steps::<L>::new(blank);
