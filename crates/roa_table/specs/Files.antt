@@ -44,7 +44,7 @@ abbrev pub fault_at : Payloads → ℕ → Result VrpValue Wrong → Option VrpE
 fault_at before n (Err w) = Some (fault_in n w)
 fault_at before n (Ok v) = if has before v || nat_lt (count before) 2000000 then None else Some (fault.TooMany n)
 
--- the fault of a row behind others; the header is row 1
+-- the fault of a row behind others; rows are counted from the header on, which is the first
 abbrev pub fault_after : List Row → Row → Option VrpError
 fault_after before row = fault_at (payloads_given before) (length before + 2) (payload_of row)
 
