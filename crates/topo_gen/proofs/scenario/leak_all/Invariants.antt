@@ -1,0 +1,6 @@
+use Rattle.std.proofs.Common.{◌≡◌, [], ◌∷◌, filter}
+use Rattle.topo_gen.specs.Scenarios.{leaks, up_to}
+use Rattle.topo_gen.proofs.scenario.leak_all.Given as goal
+
+abbrev pub invariant-ases : goal.invariant-ases
+invariant-ases l = l.scenario ≡ record l.fn.scenario { leaks = filter leaks (up_to l.k) ∷ [] }

@@ -1,0 +1,4 @@
+pub mod Draws
+pub mod Drawn
+pub mod Scenarios
+pub mod Lines

@@ -1,0 +1,123 @@
+//! The links of a generated input.
+ghost use Rattle.std.specs.Prelude.{◌≡◌, ◌≢◌, ◌-◌, ◌<◌, ◌≤◌, OnOk, IfOk, min};
+ghost use Rattle.topo_gen.specs.Drawn.{below, first_peers, joined, drawn_links, peers_below, with_as, with_peer, with_providers};
+
+use crate::draw::draw;
+use net_names::{Asn, Links, NoMemory, Rel};
+use rand_xoshiro::SplitMix64;
+use rand_xoshiro::rand_core::SeedableRng;
+use std::alloc::Global;
+
+/// The AS of a number that isn't 0.
+pub fn as_of(number: u32) -> Asn
+    requires { 1 ≤ number }
+    ensures { result ≡ number }
+{
+    let Some(asn) = Asn::new(number) else {
+        unreachable!();
+    };
+    asn
+}
+
+// Joins the pair, unless it has a link: `b` becomes this to `a`.
+fn join(links: &mut Links, a: u32, b: u32, rel: Rel) -> Result<(), NoMemory>
+    requires first { 1 ≤ a }
+    requires second { 1 ≤ b }
+    requires apart { a ≢ b }
+    ensures { OnOk result (links.new ≡ joined a b rel links.old) }
+{
+    let (a, b) = (as_of(a), as_of(b));
+    if links.get(a, b).is_some() {
+        return Ok(());
+    }
+    match links.set(a, b, rel) {
+        Ok(()) => Ok(()),
+        Err(_) => Err(NoMemory),
+    }
+}
+
+// Makes the ASes below `a` its peers.
+fn join_below(links: &mut Links, a: u32) -> Result<(), NoMemory>
+    requires { 1 ≤ a }
+    ensures { OnOk result (links.new ≡ peers_below a (a - 1) links.old) }
+{
+    'below: for k in 0..a - 1 {
+        join(links, k + 1, a, Rel::Peer)?;
+    }
+    Ok(())
+}
+
+// Makes peers of all pairs of the first ASes.
+fn first_links(alloc: Global, count: u32) -> Result<Links, NoMemory>
+    requires { count ≤ 8 }
+    ensures { IfOk result (λ links. links ≡ first_peers count) }
+{
+    let mut links = Links::new(alloc);
+    'first: for k in 0..count {
+        join_below(&mut links, k + 1)?;
+    }
+    Ok(links)
+}
+
+// The AS below `a` that a word picks.
+fn pick(a: u32, word: u64) -> u32
+    requires { 2 ≤ a }
+    ensures value { result ≡ below a word }
+    ensures least { 1 ≤ result }
+    ensures most { result < a }
+{
+    1 + (word % u64::from(a - 1)) as u32
+}
+
+// Draws providers of `a`.
+fn join_providers(
+    links: &mut Links,
+    rng: &mut SplitMix64,
+    a: u32,
+    count: u64,
+) -> Result<(), NoMemory>
+    requires least { 2 ≤ a }
+    requires few { count ≤ 3 }
+    ensures { OnOk result (record { links = links.new; state = rng.new } ≡ with_providers a count (record { links = links.old; state = rng.old })) }
+{
+    'providers: for _k in 0..count {
+        let word = draw(rng);
+        join(links, pick(a, word), a, Rel::Customer)?;
+    }
+    Ok(())
+}
+
+// Draws a peer of `a`, or none.
+fn join_peer(links: &mut Links, rng: &mut SplitMix64, a: u32) -> Result<(), NoMemory>
+    requires { 2 ≤ a }
+    ensures { OnOk result (record { links = links.new; state = rng.new } ≡ with_peer a (record { links = links.old; state = rng.old })) }
+{
+    if draw(rng) % 4 != 0 {
+        return Ok(());
+    }
+    let word = draw(rng);
+    join(links, pick(a, word), a, Rel::Peer)
+}
+
+// Draws the links of one more AS.
+fn join_as(links: &mut Links, rng: &mut SplitMix64, a: u32) -> Result<(), NoMemory>
+    requires { 2 ≤ a }
+    ensures { OnOk result (record { links = links.new; state = rng.new } ≡ with_as a (record { links = links.old; state = rng.old })) }
+{
+    let count = 1 + draw(rng) % 3;
+    join_providers(links, rng, a, count)?;
+    join_peer(links, rng, a)
+}
+
+/// The links of a generated input of so many ASes.
+pub fn generate_links(alloc: Global, n: u32) -> Result<Links, NoMemory>
+    requires { n ≤ 20000 }
+    ensures { IfOk result (λ links. links ≡ drawn_links n) }
+{
+    let mut links = first_links(alloc, n.min(8))?;
+    let mut rng = SplitMix64::seed_from_u64(u64::from(n));
+    'ases: for k in 0..n.saturating_sub(8) {
+        join_as(&mut links, &mut rng, k + 9)?;
+    }
+    Ok(links)
+}
