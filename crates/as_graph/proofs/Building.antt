@@ -1,5 +1,5 @@
 -- Rows that have all links of a graph.
-use Rattle.std.proofs.Common.{◌≡◌, ℕ, ◌≤◌, nat_eq, is_some, List, length, sym, ◌∙◌, ap}
+use Rattle.std.proofs.Common.{◌≡◌, ℕ, ◌≤◌, nat_eq, is_some, None, List, length, sym, ◌∙◌, ap}
 use Rattle.std.proofs.lemmas.Cmp.{nat_cmp_total}
 use Rattle.std.specs.Ordering.{nat_cmp}
 use Rattle.std.specs.List.Sorted.{IsStrictlyIncreasing}
@@ -20,7 +20,7 @@ from_entries-entries links = map.same_map pairs_total exact_pair _ _ (λ q. map.
 pub topology_of-built : (m : Rows) (links : LinkMap) → IsBuilt m (map.entries links) → topology_of m ≡ unmarked links
 topology_of-built m links built =
     let no_marks : (topology_of m).marked ≡ set.empty = set.same_set nat_cmp_total set.nat_cmp-IsAntisymmetric _ _ (λ q. contains-marked m built.graph.unique q ∙ built.unmarked q ∙ sym (set.contains-empty nat_cmp q)) in
-    λ i. record { links = (built.links ∙ from_entries-entries links) i; marked = no_marks i }
+    λ i. record { links = (built.links ∙ from_entries-entries links) i; marked = no_marks i; room = None }
 
 -- and with the order of their numbers they are kept
 pub kept-built : (m : Rows) (links : LinkMap) (order : List ℕ) (count : ℕ) → IsBuilt m (map.entries links) → ((a : ℕ) → occurs a order ≡ is_some (get nat_eq m a)) → IsStrictlyIncreasing order →

@@ -14,7 +14,7 @@ use Rattle.as_graph.specs.Edits.{with_link, LinksAreSound, LinksAreSet}
 use Rattle.as_graph.proofs.Links.{is_equal, what_mutual, what_self, linked_end}
 
 -- the pair with this value, lower first
-put_pair : Topology → ℕ → ℕ → Rel → Topology
+unfoldable pub put_pair : Topology → ℕ → ℕ → Rel → Topology
 put_pair w lo hi v = record w { links = map.insert w.links (lo, hi) v }
 
 at_pair : (w : Topology) (lo hi : ℕ) (v : Rel) → map.get (map.insert w.links (lo, hi) v) (lo, hi) ≡ Some v
@@ -36,16 +36,16 @@ put_off w lo hi v x y straight turned =
     λ i. cond (nat_lt x y) (off_pair w lo hi v (x, y) (λ e. straight (ap (λ (p : ℕ × ℕ). p.0) e, ap (λ (p : ℕ × ℕ). p.1) e)) i)
     (cond (nat_lt y x) (option_map converse (off_pair w lo hi v (y, x) (λ e. turned (ap (λ (p : ℕ × ℕ). p.1) e, ap (λ (p : ℕ × ℕ). p.0) e)) i)) None)
 
-twice_one : (r : Rel) → converse (converse r) ≡ r
+pub twice_one : (r : Rel) → converse (converse r) ≡ r
 twice_one Customer = refl
 twice_one Peer = refl
 twice_one Provider = refl
 
-is_put : (w : Topology) (a b : ℕ) (r : Rel) → nat_lt a b ≡ true → with_link w a b r ≡ put_pair w a b r
+pub is_put : (w : Topology) (a b : ℕ) (r : Rel) → nat_lt a b ≡ true → with_link w a b r ≡ put_pair w a b r
 unfolding put_pair
 is_put w a b r e = ap (λ t. record w { links = cond t (map.insert w.links (a, b) r) (map.insert w.links (b, a) (converse r)) }) e
 
-is_put_turned : (w : Topology) (a b : ℕ) (r : Rel) → nat_lt a b ≡ false → with_link w a b r ≡ put_pair w b a (converse r)
+pub is_put_turned : (w : Topology) (a b : ℕ) (r : Rel) → nat_lt a b ≡ false → with_link w a b r ≡ put_pair w b a (converse r)
 unfolding put_pair
 is_put_turned w a b r e = ap (λ t. record w { links = cond t (map.insert w.links (a, b) r) (map.insert w.links (b, a) (converse r)) }) e
 

@@ -1,5 +1,5 @@
 -- What the rows, the order and the count of a graph tell of its topology.
-use Rattle.std.proofs.Common.{◌≡◌, ℕ, ◌<◌, ◌≤◌, arith, slice_index_or, slice_index, false, nat_eq, Option, Some, None, List, length, sym, ◌∙◌, ap}
+use Rattle.std.proofs.Common.{◌≡◌, ◌≢◌, ℕ, ◌<◌, ◌≤◌, arith, slice_index_or, slice_index, false, nat_eq, Option, Some, None, List, length, refl, sym, ◌∙◌, ap}
 use Rattle.std.specs.List.{IsDistinct}
 use Rattle.std.specs.Option.{option_map_or}
 use Rattle.std.specs.FinMap as map
@@ -13,7 +13,7 @@ use Rattle.as_graph.specs.Neighbours.{AreNeighbours}
 use Rattle.as_graph.specs.Following.{IsAbove, IsNext}
 use Rattle.as_graph.specs.Order.{IsStart}
 use Rattle.as_graph.specs.Rows.{rel_in, IsRising}
-use Rattle.as_graph.specs.Graphs.{Rows, is_needed, topology_of, IsKept}
+use Rattle.as_graph.specs.Graphs.{Rows, rel_of, is_needed, graph_of, IsKept}
 use Rattle.as_graph.proofs.RowLemmas.{rising_asns, found_each, found_occurs}
 use Rattle.as_graph.proofs.RowLinks.{items_at, what-topology_of}
 use Rattle.as_graph.proofs.RowAses.{has-topology_of, rising_distinct, as_count-listed}
@@ -31,10 +31,16 @@ pub items_rise : (o : Option Row) → IsRising (items_at o)
 items_rise None i j lt h = absurd (omega arith)
 items_rise (Some r) i j lt h = r.rising i j lt h
 
-module _ (m : Rows) (order : List ℕ) (count : ℕ) (kept : IsKept m order count) (g : Topology) (seen : topology_of m ≡ g) where
+module _ (m : Rows) (order : List ℕ) (count : ℕ) (kept : IsKept m order count) (g : Topology) (room : Option (ℕ × ℕ)) (seen : graph_of m room ≡ g) where
   -- by the row of a
   pub what_read : (a b : ℕ) (o : Option Row) → o ≡ get nat_eq m a → what g a b ≡ rel_in (items_at o) b
   what_read a b o e = sym (ap (λ h. what h a b) seen) ∙ what-topology_of m kept.graph a b ∙ sym (ap (λ t. rel_in (items_at t) b) e)
+
+  pub rel_read : (a b : ℕ) → what g a b ≡ rel_of m a b
+  rel_read a b = what_read a b (get nat_eq m a) refl
+
+  pub linked_rows : (a b : ℕ) → what g a b ≢ None → rel_of m a b ≢ None
+  linked_rows a b some none = some (rel_read a b ∙ none)
 
   pub neighbours_read : (a : ℕ) (o : Option Row) → o ≡ get nat_eq m a → AreNeighbours (what g) a (items_at o)
   neighbours_read a o e = row_neighbours (what g) a (items_at o) (items_rise o) (λ b. what_read a b o e)

@@ -3,7 +3,10 @@ pub mod Ranks
 pub mod Links
 pub mod Fitting
 pub mod EditsLemmas
+pub mod TakenLinks
+pub mod EditedAses
 pub mod RowLemmas
+pub mod RowEdits
 pub mod RowLinks
 pub mod RowAses
 pub mod Building
@@ -11,6 +14,9 @@ pub mod OrderLemmas
 pub mod Kept
 pub mod RowWrites
 pub mod Marking
+pub mod LinkWrites
+pub mod LinkTopology
+pub mod GraphEdits
 pub mod EndLemmas
 pub mod Gathering
 pub mod RowsOfLinks

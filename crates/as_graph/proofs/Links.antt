@@ -14,7 +14,7 @@ use Rattle.net_names.specs.Numbers.{occurs}
 use Rattle.as_graph.specs.Topology.{Topology, what, ends_of, ases}
 use Rattle.as_graph.proofs.Chains.{IsMutual, AreLinks}
 
-twice : (r : Option Rel) → r ≡ option_map converse (option_map converse r)
+pub twice : (r : Option Rel) → r ≡ option_map converse (option_map converse r)
 twice None = refl
 twice (Some Customer) = refl
 twice (Some Peer) = refl
@@ -35,7 +35,7 @@ is_equal Equal e = refl
 is_equal Greater e = cc
 
 -- a pair that has an entry is of two ends
-found : (es : List ((ℕ × ℕ) × Rel)) (q : ℕ × ℕ) (r : Rel) → map.find pair_cmp q es ≡ Some r → (occurs q.0 (ends_of es) ≡ true) × (occurs q.1 (ends_of es) ≡ true)
+pub found : (es : List ((ℕ × ℕ) × Rel)) (q : ℕ × ℕ) (r : Rel) → map.find pair_cmp q es ≡ Some r → (occurs q.0 (ends_of es) ≡ true) × (occurs q.1 (ends_of es) ≡ true)
 found [] q r h = cc
 found (e ∷ es) q r h = by (eq_by_cmp pair_cmp q e.0) refl (found es q r)
   where

@@ -1,13 +1,13 @@
 -- Places in a list of numbers that rise.
-use Rattle.std.proofs.Common.{◌≡◌, ℕ, zero, suc, ◌+◌, ◌<◌, ◌≤◌, true, false, ◌==◌, List, [], ◌∷◌, length, get_or, Option, None, Some, Result, Ok, Err, refl, sym, ap, ◌∙◌, ◌||◌, ◌-◌, subst, arith, inl, inr}
+use Rattle.std.proofs.Common.{◌≡◌, ℕ, ◌≢◌, zero, suc, ◌+◌, ◌<◌, ◌≤◌, true, false, ◌==◌, List, [], ◌∷◌, length, get_or, Option, None, Some, Result, Ok, Err, is_ok, refl, sym, ap, ◌∙◌, ◌||◌, ◌-◌, subst, arith, inl, inr}
 use Rattle.std.specs.List.Sorted.{IsSearchInRange, IsBinarySearchResult, IsNonDecreasingBy, IsStrictlyIncreasing}
 use Rattle.std.specs.Ordering.{nat_cmp, ordering_index}
 use Rattle.std.proofs.lemmas.Cmp.{ranked}
 use Rattle.std.proofs.lemmas.List.Kept.{AllPairs-from_increasing}
 use Rattle.std.proofs.lemmas.List.Sorted.{IsNonDecreasingBy-from_default, list_any-IsPermutation, IsPermutation-insert}
-use Rattle.std.proofs.lemmas.List.Edits.{length-insert, get_or-insert_below, get_or-insert_at, get_or-insert_above}
-use Rattle.std.specs.List.{insert}
-use Rattle.std.proofs.lemmas.Bool.{cases_eq, cases_lt, eq-eqb, eqb-true, or_cases, or_left, or_right, false≢true, false_from_ne_true}
+use Rattle.std.proofs.lemmas.List.Edits.{length-insert, get_or-insert_below, get_or-insert_at, get_or-insert_above, length-remove, get_or-remove_below, get_or-remove_above}
+use Rattle.std.specs.List.{insert, remove}
+use Rattle.std.proofs.lemmas.Bool.{cases_eq, cases_lt, eq-eqb, ne_eqb, eqb-true, or_cases, or_left, or_right, false≢true, false_from_ne_true}
 use Rattle.std.proofs.lemmas.Bool.Decides.{nat_tests}
 use Rattle.net_names.specs.Numbers.{occurs}
 use Rattle.as_graph.specs.Following.{IsAbove}
@@ -114,3 +114,57 @@ module _ (ns : List ℕ) (rising : IsStrictlyIncreasing ns) (x at : ℕ) (start 
         | inl e ↦ absurd (false≢true (sym absent ∙ ap (λ y. occurs y ns) (sym e) ∙ occurs_at ns i (omega arith)))
         | inr n ↦ elim (cases_lt x (get_or ns i 0)) [ inl up ↦ absurd (not_above up) | inr down ↦ omega (arith, n, down) ]
       ]
+
+-- ---- a number is found or not
+
+pub searched_listed : (ns : List ℕ) → IsStrictlyIncreasing ns → (k : ℕ) (r : Result ℕ ℕ) → IsSearchInRange r (length ns) → IsBinarySearchResult (λ n. nat_cmp n k) ns r → is_ok r ≡ occurs k ns
+searched_listed ns rising k (Ok at) in_range equal =
+    let here : get_or ns at 0 ≡ k = ranked _ k _ (sym (equal 0)) in
+    sym (ap (λ x. occurs x ns) (sym here) ∙ occurs_at ns at in_range)
+searched_listed ns rising k (Err at) in_range parted = sym (false_from_ne_true (occurs k ns) (λ h.
+    let (i, lt, is) = place_of ns k h in
+    elim (cases_lt i at) [
+      | inl low ↦
+          let small : get_or ns i 0 < k = ranked _ k _ (sym ((parted (comparisons_rise ns rising k)).0 i 0 (omega arith) low)) in
+          omega (arith, is, small)
+      | inr high ↦
+          let great : k < get_or ns i 0 = ranked _ k _ (sym ((parted (comparisons_rise ns rising k)).1 i 0 high lt)) in
+          omega (arith, is, great)
+    ]))
+
+-- ---- a number is taken out
+
+occurs_off : (ns : List ℕ) (at a : ℕ) → at < length ns → get_or ns at 0 ≢ a → occurs a (remove ns at) ≡ occurs a ns
+occurs_off [] at a h ne = absurd (omega (arith, h))
+occurs_off (n ∷ ns) zero a h ne = sym (ap (λ t. t || occurs a ns) (ne_eqb n a ne))
+occurs_off (n ∷ ns) (suc at) a h ne = ap (λ t. n == a || t) (occurs_off ns at a (omega (arith, h)) ne)
+
+module _ (ns : List ℕ) (rising : IsStrictlyIncreasing ns) (x at : ℕ) (within : at < length ns) (here : get_or ns at 0 ≡ x) where
+  pub occurs-remove : (a : ℕ) → a ≢ x → occurs a (remove ns at) ≡ occurs a ns
+  occurs-remove a ne = occurs_off ns at a within (λ e. ne (sym e ∙ here))
+
+  len : length (remove ns at) + 1 ≡ length ns
+  len = length-remove ns at within
+
+  below : (i : ℕ) → i < at → get_or (remove ns at) i 0 ≡ get_or ns i 0
+  below i lt = get_or-remove_below ns at 0 i lt within
+
+  above : (i : ℕ) → at ≤ i → get_or (remove ns at) i 0 ≡ get_or ns (i + 1) 0
+  above i le = get_or-remove_above ns at 0 i le within
+
+  pub gone-remove : occurs x (remove ns at) ≡ false
+  gone-remove = false_from_ne_true (occurs x (remove ns at)) (λ h.
+      let (i, lt, is) = place_of (remove ns at) x h in
+      elim (cases_lt i at) [
+        | inl low ↦ omega (arith, is, here, below i low, rises ns rising i at low within)
+        | inr high ↦ omega (arith, is, here, above i high, rises ns rising at (i + 1) (omega (arith, high)) (omega (arith, lt, len)))
+      ])
+
+  pub rising_remove : IsStrictlyIncreasing (remove ns at)
+  rising_remove k h = elim (cases_lt (k + 1) at) [
+    | inl low ↦ omega (arith, below k (omega (arith, low)), below (k + 1) low, rising k (omega (arith, h, len)))
+    | inr high ↦ elim (cases_lt k at) [
+      | inl low ↦ omega (arith, below k low, above (k + 1) high, rises ns rising k (k + 1 + 1) (omega arith) (omega (arith, h, len)))
+      | inr up ↦ omega (arith, above k up, above (k + 1) high, rising (k + 1) (omega (arith, h, len)))
+    ]
+  ]

@@ -74,10 +74,10 @@ occurs-append a [] ys = refl
 occurs-append a (x ∷ xs) ys = ap (λ b. x == a || b) (occurs-append a xs ys) ∙ or_assoc (x == a) (occurs a xs) (occurs a ys)
 
 -- an end of links is that of a pair that is found
-abbrev IsEndFound : List ((ℕ × ℕ) × Rel) → ℕ → Type 0
+abbrev pub IsEndFound : List ((ℕ × ℕ) × Rel) → ℕ → Type 0
 IsEndFound es a = (q : ℕ × ℕ) × (r : Rel) × (map.find pair_cmp q es ≡ Some r) × ((q.0 ≡ a) ⊎ (q.1 ≡ a))
 
-end_found : (es : List ((ℕ × ℕ) × Rel)) (a : ℕ) → occurs a (ends_of es) ≡ true → IsEndFound es a
+pub end_found : (es : List ((ℕ × ℕ) × Rel)) (a : ℕ) → occurs a (ends_of es) ≡ true → IsEndFound es a
 end_found [] a h = cc
 end_found (e ∷ es) a h = elim (or_cases (e.0.0 == a) (e.0.1 == a || occurs a (ends_of es)) h) [
   | inl this ↦ (e.0, e.1, here, inl (eqb-true e.0.0 a this))
@@ -149,11 +149,11 @@ has-topology_of m graph a = same_test _ _ needed counted
 
 -- ---- how many there are
 
-any_none : (ks : List ℕ) (k : ℕ) → AllByRecursion (λ y. nat_eq k y ≡ false) ks → occurs k ks ≡ false
+pub any_none : (ks : List ℕ) (k : ℕ) → AllByRecursion (λ y. nat_eq k y ≡ false) ks → occurs k ks ≡ false
 any_none [] k h = refl
 any_none (x ∷ ks) k h = let differs : (x == k) ≡ false = sym (grind (arith, nat_tests, h.0)) in ap (λ b. b || occurs k ks) differs ∙ any_none ks k h.1
 
-len-from_list : (ks : List ℕ) → IsDistinct nat_eq ks → set.len (set.from_list {R = nat_cmp} ks) ≡ length ks
+pub len-from_list : (ks : List ℕ) → IsDistinct nat_eq ks → set.len (set.from_list {R = nat_cmp} ks) ≡ length ks
 len-from_list [] d = set.len-empty nat_cmp
 len-from_list (k ∷ ks) d =
     let new : set.contains (set.from_list {R = nat_cmp} ks) k ≡ false = set.contains-from_list_nat ks k ∙ any_none ks k (IsDistinct-head nat_eq k ks d) in
@@ -183,7 +183,7 @@ occurs-keys (e ∷ es) a = by (nat_eq a e.0) refl (occurs-keys es a)
         last false ih = ih
 
 -- distinct members of a set are at most as many as it has
-distinct_len : (ks : List ℕ) → IsDistinct nat_eq ks → (s : set.FinSet nat_cmp) → ((x : ℕ) → occurs x ks ≡ true → set.contains s x ≡ true) → length ks ≤ set.len s
+pub distinct_len : (ks : List ℕ) → IsDistinct nat_eq ks → (s : set.FinSet nat_cmp) → ((x : ℕ) → occurs x ks ≡ true → set.contains s x ≡ true) → length ks ≤ set.len s
 distinct_len [] d s h = omega arith
 distinct_len (k ∷ ks) d s h =
     let there : set.contains s k ≡ true = h k (or_left (k == k) (occurs k ks) (eq-eqb k k refl)) in

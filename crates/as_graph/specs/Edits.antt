@@ -1,9 +1,10 @@
--- A graph with a link more or less, and what its links say.
-use Rattle.std.specs.Prelude.{◌≡◌, ◌≢◌, ℕ, true, nat_lt, if◌then◌else◌, None, Some, option_map}
+-- A graph with a link or a mark more or less, and what it says.
+use Rattle.std.specs.Prelude.{◌≡◌, ◌≢◌, ℕ, true, false, ◌||◌, ◌==◌, nat_lt, if◌then◌else◌, None, Some, option_map}
 use Rattle.std.specs.FinMap as map
+use Rattle.std.specs.FinSet as set
 use Rattle.net_names.specs.declared.routes.Rel.{Rel}
 use Rattle.net_names.specs.Links.{converse}
-use Rattle.as_graph.specs.Topology.{Topology, what, has}
+use Rattle.as_graph.specs.Topology.{Topology, what, has, with_mark}
 
 -- the pair has this link, in place of any earlier one: b is r to a (own rule)
 abbrev pub with_link : Topology → ℕ → ℕ → Rel → Topology
@@ -12,6 +13,10 @@ with_link w a b r = record w { links = if nat_lt a b then map.insert w.links (a,
 -- the pair has no link (own rule)
 abbrev pub without_link : Topology → ℕ → ℕ → Topology
 without_link w a b = record w { links = if nat_lt a b then map.remove w.links (a, b) else map.remove w.links (b, a) }
+
+-- the graph without a mark on a, and all else as before (own rule)
+abbrev pub without_mark : Topology → ℕ → Topology
+without_mark w a = record w { marked = set.remove w.marked a }
 
 -- a link is seen alike from both ends, joins ASes of the graph, and none joins an AS with itself (own rule)
 pub record LinksAreSound : Type 0 where
@@ -23,3 +28,31 @@ pub record LinksAreSound : Type 0 where
 pub record LinksAreSet : Type 0 where
   pub at : (w : Topology) (a b : ℕ) (r : Rel) → a ≢ b → what (with_link w a b r) a b ≡ Some r
   pub others : (w : Topology) (a b : ℕ) (r : Rel) (x y : ℕ) → a ≢ b → ((x ≡ a) × (y ≡ b) → ⊥) → ((x ≡ b) × (y ≡ a) → ⊥) → what (with_link w a b r) x y ≡ what w x y
+
+-- without its link a pair has none, and every other pair keeps what it had (own rule)
+pub record LinksAreTaken : Type 0 where
+  pub at : (w : Topology) (a b : ℕ) → what (without_link w a b) a b ≡ None
+  pub back : (w : Topology) (a b : ℕ) → what (without_link w a b) b a ≡ None
+  pub others : (w : Topology) (a b x y : ℕ) → ((x ≡ a) × (y ≡ b) → ⊥) → ((x ≡ b) × (y ≡ a) → ⊥) → what (without_link w a b) x y ≡ what w x y
+
+-- an edit that puts back what the pair or the AS had undoes the one before it (own rule)
+pub record EditsAreUndone : Type 0 where
+  pub new_link : (w : Topology) (a b : ℕ) (r : Rel) → a ≢ b → what w a b ≡ None → without_link (with_link w a b r) a b ≡ w
+  pub other_link : (w : Topology) (a b : ℕ) (r s : Rel) → a ≢ b → what w a b ≡ Some s → with_link (with_link w a b r) a b s ≡ w
+  pub lost_link : (w : Topology) (a b : ℕ) (r : Rel) → a ≢ b → what w a b ≡ Some r → with_link (without_link w a b) a b r ≡ w
+  pub new_mark : (w : Topology) (a : ℕ) → set.contains w.marked a ≡ false → without_mark (with_mark w a) a ≡ w
+  pub lost_mark : (w : Topology) (a : ℕ) → set.contains w.marked a ≡ true → with_mark (without_mark w a) a ≡ w
+
+-- which ASes there are after an edit (own rule)
+pub record AsesAreKept : Type 0 where
+  pub linked : (w : Topology) (a b : ℕ) (r : Rel) (x : ℕ) → has (with_link w a b r) x ≡ (x == a || (x == b || has w x))
+  pub unlinked : (w : Topology) (a b x : ℕ) → has (without_link w a b) x ≡ true → has w x ≡ true
+  pub other_ends : (w : Topology) (a b x : ℕ) → x ≢ a → x ≢ b → has (without_link w a b) x ≡ has w x
+  pub marked : (w : Topology) (a x : ℕ) → has (with_mark w a) x ≡ (x == a || has w x)
+  pub unmarked : (w : Topology) (a x : ℕ) → has (without_mark w a) x ≡ true → has w x ≡ true
+  pub other_marks : (w : Topology) (a x : ℕ) → x ≢ a → has (without_mark w a) x ≡ has w x
+
+-- marks change no links (own rule)
+pub record MarksKeepLinks : Type 0 where
+  pub after_mark : (w : Topology) (a x y : ℕ) → what (with_mark w a) x y ≡ what w x y
+  pub after_unmark : (w : Topology) (a x y : ℕ) → what (without_mark w a) x y ≡ what w x y

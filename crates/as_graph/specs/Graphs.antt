@@ -60,7 +60,11 @@ links_of m = map.from_entries (row_links m.entries)
 
 -- the links and the marks that the rows make (own rule)
 abbrev pub topology_of : Rows → Topology
-topology_of m = record { links = links_of m; marked = set.from_list (marked_rows m.entries) }
+topology_of m = record { links = links_of m; marked = set.from_list (marked_rows m.entries); room = None }
+
+-- the same, with the room that there is (own rule)
+abbrev pub graph_of : Rows → Option (ℕ × ℕ) → Topology
+graph_of m room = record (topology_of m) { room = room }
 
 -- each AS has one row, each link stands at both ends, and joins two ASes (own rule)
 pub record IsGraph (m : Rows) : Type 0 where
@@ -83,15 +87,3 @@ pub record IsBuilt (m : Rows) (entries : List ((ℕ × ℕ) × Rel)) : Type 0 wh
   pub links : links_of m ≡ map.from_entries entries
   pub unmarked : (a : ℕ) → is_marked m a ≡ false
   pub needed : (a : ℕ) → is_some (get nat_eq m a) ≡ is_there m a
-
--- a has a row, and its neighbours and mark, and each other row, are as before (own rule)
-pub record MakesRow (old new : Rows) (a : ℕ) : Type 0 where
-  pub neighbours : neighbours_of new a ≡ neighbours_of old a
-  pub mark : is_marked new a ≡ is_marked old a
-  pub others : (j : ℕ) → j ≢ a → get nat_eq new j ≡ get nat_eq old j
-
--- a has a mark, and nothing else has changed (own rule)
-pub record MarksOnly (old new : Rows) (a : ℕ) : Type 0 where
-  pub this : is_marked new a ≡ true
-  pub others : (j : ℕ) → j ≢ a → is_marked new j ≡ is_marked old j
-  pub neighbours : (j : ℕ) → neighbours_of new j ≡ neighbours_of old j

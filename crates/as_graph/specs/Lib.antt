@@ -1,6 +1,7 @@
 pub mod Topology
 pub mod Hierarchy
 pub mod Neighbours
+pub mod Room
 pub mod Edits
 pub mod Following
 pub mod Refusals
@@ -8,4 +9,5 @@ pub mod Order
 pub mod Rows
 pub mod Ends
 pub mod Graphs
+pub mod Writes
 pub mod Gathering

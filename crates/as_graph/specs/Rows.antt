@@ -1,5 +1,5 @@
 -- The neighbours of one AS, as they are kept.
-use Rattle.std.specs.Prelude.{◌≡◌, ℕ, ◌<◌, ◌≤◌, List, [], ◌∷◌, length, if◌then◌else◌, ◌==◌, slice_index_or, Some, None, Option}
+use Rattle.std.specs.Prelude.{◌≡◌, ◌≢◌, ℕ, ◌<◌, ◌≤◌, List, [], ◌∷◌, length, if◌then◌else◌, ◌==◌, slice_index_or, Some, None, Option}
 use Rattle.net_names.specs.declared.routes.Rel.{Rel}
 use Rattle.net_names.specs.declared.routes.Rel.TheVariants.{Customer}
 use Rattle.as_graph.specs.declared.neighbour.Neighbour.{Neighbour}
@@ -35,3 +35,8 @@ pub record IsGapFor (ns : List Neighbour) (b i : ℕ) : Type 0 where
   pub in_range : i ≤ length ns
   pub smaller_before : (j : ℕ) → j < i → asn_at ns j < b
   pub greater_after : (j : ℕ) → i ≤ j → j < length ns → b < asn_at ns j
+
+-- the new list has this relation at b, and at every other number what the old one has (own rule)
+pub record SetsRel (old new : List Neighbour) (b : ℕ) (rel : Option Rel) : Type 0 where
+  pub this : rel_in new b ≡ rel
+  pub others : (k : ℕ) → k ≢ b → rel_in new k ≡ rel_in old k

@@ -1,6 +1,6 @@
 -- A graph of ASes: its links, its marked ASes, and which ASes it has.
-use Rattle.std.specs.Prelude.{ℕ, Bool, Option, List, [], ◌∷◌, ◌++◌, refl}
-use Rattle.std.specs.Coded.{Coded, code_by, coded×, coded_ℕ}
+use Rattle.std.specs.Prelude.{ℕ, Bool, Option, None, List, [], ◌∷◌, ◌++◌, refl}
+use Rattle.std.specs.Coded.{Coded, code_by, coded×, coded_ℕ, coded_option}
 use Rattle.std.specs.Ordering.{nat_cmp}
 use Rattle.std.specs.FinMap as map
 use Rattle.std.specs.FinSet as set
@@ -8,15 +8,18 @@ use Rattle.net_names.specs.declared.routes.Rel.{Rel}
 use Rattle.net_names.specs.Links.{LinkMap, link_map_code, between}
 use Rattle.net_names.specs.Numbers.{occurs}
 
--- the links, and the marked ASes, which are there without a link too (own rule)
+-- the links, and the marked ASes, which are there without a link too; and the pair of ASes for which
+-- there is room without memory, if there is any (own rule)
 pub record Topology : Type 0 where
   pub links : LinkMap
   pub marked : set.FinSet nat_cmp
+  pub room : Option (ℕ × ℕ)
 
--- stored as the pair of its fields (own rule)
+-- stored as its fields (own rule)
 abbrev pub topology_code : Coded Topology
 topology_code =
-    code_by (LinkMap × set.FinSet nat_cmp) (coded× link_map_code (set.code coded_ℕ)) (λ g. (g.links, g.marked)) (λ p. record { links = p.0; marked = p.1 }) (λ _. refl)
+    code_by (LinkMap × (set.FinSet nat_cmp × Option (ℕ × ℕ))) (coded× link_map_code (coded× (set.code coded_ℕ) (coded_option (coded× coded_ℕ coded_ℕ)))) (λ g. (g.links, (g.marked, g.room)))
+    (λ p. record { links = p.0; marked = p.1.0; room = p.1.1 }) (λ _. refl)
 
 -- what b is to a: customer, peer, provider or nothing (RFC 9234, section 4)
 abbrev pub what : Topology → ℕ → ℕ → Option Rel
@@ -39,9 +42,9 @@ has g a = occurs a (ases g)
 abbrev pub as_count : Topology → ℕ
 as_count g = set.len (set.from_list {R = nat_cmp} (ases g))
 
--- the graph with these links and no marks (own rule)
+-- the graph with these links, no marks and no room (own rule)
 abbrev pub unmarked : LinkMap → Topology
-unmarked links = record { links = links; marked = set.empty }
+unmarked links = record { links = links; marked = set.empty; room = None }
 
 -- the graph with a mark on a, and all else as before (own rule)
 abbrev pub with_mark : Topology → ℕ → Topology

@@ -10,7 +10,7 @@ ghost use Rattle.as_graph.specs.Refusals.{IsBuildRefusal};
 ghost use Rattle.as_graph.specs.Rows.{IsRising};
 ghost use Rattle.as_graph.specs.Ends.{ends_at, AreByAs};
 ghost use Rattle.as_graph.specs.Gathering.{AreGathered, IsGatherRefusal};
-ghost use Rattle.as_graph.specs.Graphs.{IsBuilt, MakesRow, MarksOnly};
+ghost use Rattle.as_graph.specs.Graphs.{IsBuilt};
 
 use crate::ends::{End, higher_side, lower_side, next_end, row_for, take_run};
 use crate::error::GraphError;
@@ -21,35 +21,6 @@ use std::alloc::{AllocError, Global};
 
 /// The most ASes that a graph has.
 pub const MOST_ASES: usize = 150_000;
-
-/// Makes a row for an AS that has none.
-pub fn make_row(rows: &mut IndexMap<Asn, Row>, alloc: Global, asn: Asn) -> Result<(), AllocError>
-    requires { IsUnique nat_eq rows.old }
-    ensures makes { OnOk result (MakesRow rows.old rows.new asn) }
-    ensures there { OnOk result (ContainsKey nat_eq rows.new asn) }
-    ensures err { OnErr result (rows.new.entries ≡ rows.old.entries) }
-    ensures unique { IsUnique nat_eq rows.new }
-{
-    match rows.get_index_of(&asn) {
-        Some(_) => Ok(()),
-        None => {
-            rows.insert(asn, Row::new(alloc))?;
-            Ok(())
-        }
-    }
-}
-
-/// Marks the AS of a row.
-pub fn set_mark(rows: &mut IndexMap<Asn, Row>, asn: Asn)
-    requires { ContainsKey nat_eq rows.old asn }
-    ensures marks { MarksOnly rows.old rows.new asn }
-    ensures unique { IsUnique nat_eq rows.new }
-{
-    let Some(row) = rows.get_mut(&asn) else {
-        unreachable!();
-    };
-    row.mark();
-}
 
 /// The rows of the ASes at the ends: first the neighbours at its higher ends, then those at its lower
 /// ends.

@@ -30,3 +30,7 @@ impl<T: Drop> From<AllocFailed<T>> for GraphError {
         GraphError::Memory
     }
 }
+
+/// There is no such link.
+#[derive(Clone, Copy, Debug, PartialEq, Eq)]
+pub struct Absent;

@@ -6,13 +6,13 @@ ghost use Rattle.std.specs.FinMap as map;
 ghost use Rattle.std.specs.FinSet as set;
 ghost use Rattle.net_names.specs.Numbers.{occurs};
 ghost use Rattle.as_graph.specs.Neighbours.{AreNeighbours};
-ghost use Rattle.as_graph.specs.Topology.{what, has, as_count, unmarked, with_mark};
+ghost use Rattle.as_graph.specs.Topology.{what, has, as_count, unmarked};
 ghost use Rattle.as_graph.specs.Following.{IsAbove, IsNext};
 
-use crate::build::{MOST_ASES, make_row, order_of, rows_of, set_mark};
+use crate::build::{order_of, rows_of};
 use crate::error::GraphError;
 use crate::neighbour::Neighbour;
-use crate::order::{put_in_order, start_above};
+use crate::order::start_above;
 use crate::places::{Places, places_of};
 use crate::row::Row;
 use indexmap::IndexMap;
@@ -20,9 +20,12 @@ use net_names::{Asn, Links, Rel};
 use std::alloc::Global;
 use std::marker::Model;
 
-/// Links between ASes, and marked ASes. Contracts see the finite map of the links and the set of the
-/// marked ASes. The ASes of the graph are the ends of its links and the marked ASes, at most 150,000;
-/// the links are at most 1,500,000.
+mod edits;
+mod links;
+
+/// Links between ASes, and marked ASes. Contracts see the finite map of the links, the set of the
+/// marked ASes, and the pair of ASes for which there is room, if there is any. The ASes of the graph
+/// are the ends of its links and the marked ASes, at most 150,000; the links are at most 1,500,000.
 #[derive(Drop)]
 pub struct Graph {
     alloc: Global,
@@ -30,6 +33,7 @@ pub struct Graph {
     order: Vec<Asn>,
     links: usize,
     places: Places,
+    room: Option<(Asn, Asn)>,
 }
 
 impl Model for Graph {
@@ -39,15 +43,17 @@ impl Model for Graph {
 
     ghost coded = { topology_code };
 
-    ghost use Rattle.as_graph.specs.Graphs.{topology_of, IsKept};
+    ghost use Rattle.std.specs.Prelude.{vec_capacity};
+    ghost use Rattle.as_graph.specs.Graphs.{graph_of, IsKept};
+    ghost use Rattle.as_graph.specs.Writes.{IsRoomy};
 
-    ghost view = { λ g. topology_of g.rows };
+    ghost view = { λ g. graph_of g.rows g.room };
 
-    ghost invariant = { λ g. IsKept g.rows g.order.items g.links };
+    ghost invariant = { λ g. IsKept g.rows g.order.items g.links × IsRoomy g.rows (vec_capacity g.order) g.room };
 }
 
 impl Graph {
-    ghost use Rattle.as_graph.specs.Refusals.{IsBuildRefusal, IsMarkRefusal};
+    ghost use Rattle.as_graph.specs.Refusals.{IsBuildRefusal};
 
     /// The graph with just these links and no marks. `TooManyAses` exactly where their ends are more
     /// than 150,000, unless there is not enough memory.
@@ -65,30 +71,8 @@ impl Graph {
             order,
             links: links.len(),
             places,
+            room: None,
         })
-    }
-
-    /// Marks an AS, so that it is an AS of the graph even without a link. A marked AS may be marked
-    /// again. `TooManyAses` exactly where the AS is new and there are 150,000, unless there is not
-    /// enough memory for a new AS. After a refusal the graph is as it was.
-    pub fn mark(&mut self, asn: Asn) -> Result<(), GraphError>
-        ensures ok { OnOk result (self.new ≡ with_mark self.old asn) }
-        ensures few { OnOk result (has self.old asn ≡ false → as_count self.old < 150000) }
-        ensures err { OnErr result (self.new ≡ self.old) }
-        ensures refused { IfErr result (IsMarkRefusal self.old asn) }
-    {
-        if self.has(asn) {
-            set_mark(&mut self.rows, asn);
-            return Ok(());
-        }
-        if self.order.len() >= MOST_ASES {
-            return Err(GraphError::TooManyAses);
-        }
-        self.order.reserve(1)?;
-        make_row(&mut self.rows, self.alloc, asn)?;
-        put_in_order(&mut self.order, asn);
-        set_mark(&mut self.rows, asn);
-        Ok(())
     }
 
     /// What `b` is to `a`; `None` exactly where they have no link.

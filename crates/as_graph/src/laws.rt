@@ -1,5 +1,5 @@
 //! What follows from the definitions of links, provider cycles and ranks.
-ghost use Rattle.as_graph.specs.Edits.{LinksAreSound, LinksAreSet};
+ghost use Rattle.as_graph.specs.Edits.{LinksAreSound, LinksAreSet, LinksAreTaken, EditsAreUndone, AsesAreKept, MarksKeepLinks};
 ghost use Rattle.as_graph.specs.Hierarchy.{FittingAreRanks, RanksFit, OneRank};
 
 /// Numbers are the ranks where each is 0 at an AS without customers, and else one more than the
@@ -26,4 +26,25 @@ pub fn links_are_sound()
 /// A new link of two ASes is what it says, and every other pair keeps what it had.
 pub fn links_are_set()
     ensures { LinksAreSet }
+{}
+
+/// Without its link a pair has none, and every other pair keeps what it had.
+pub fn links_are_taken()
+    ensures { LinksAreTaken }
+{}
+
+/// An edit that puts back what there was undoes the one before it.
+pub fn edits_are_undone()
+    ensures { EditsAreUndone }
+{}
+
+/// Which ASes there are after an edit: the ends of a new link and a marked AS are there, and an edit
+/// takes away or brings no other AS.
+pub fn ases_are_kept()
+    ensures { AsesAreKept }
+{}
+
+/// Marks change no links.
+pub fn marks_keep_links()
+    ensures { MarksKeepLinks }
 {}

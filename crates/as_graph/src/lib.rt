@@ -1,7 +1,7 @@
 //! The graph of ASes: links between customers, peers and providers, and marked ASes.
 //!
-//! Contracts see a graph as a finite map of links and a finite set of marked ASes. Its ASes are the
-//! ends of its links and the marked ones. The neighbours of an AS, and the ASes, come in rising order
+//! Contracts see a graph as a finite map of links and a finite set of marked ASes, and see the pair of
+//! ASes whose edits take no memory. Its ASes are the ends of its links and the marked ones. The neighbours of an AS, and the ASes, come in rising order
 //! of their numbers. The laws say what provider cycles and ranks are, for any graph.
 #![tactic(auto)]
 
@@ -15,8 +15,12 @@ mod neighbour;
 mod order;
 mod places;
 mod row;
+mod writes;
 
-pub use error::GraphError;
+pub use error::{Absent, GraphError};
 pub use graph::Graph;
-pub use laws::{fitting_are_ranks, links_are_set, links_are_sound, one_rank, ranks_fit};
+pub use laws::{
+    ases_are_kept, edits_are_undone, fitting_are_ranks, links_are_set, links_are_sound,
+    links_are_taken, marks_keep_links, one_rank, ranks_fit,
+};
 pub use neighbour::Neighbour;

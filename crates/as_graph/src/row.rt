@@ -1,5 +1,5 @@
 //! The neighbours of one AS.
-ghost use Rattle.std.specs.Prelude.{◌≡◌, ◌<◌, ◌≤◌, ◌+◌, ◌++◌, ◌∷◌, [], ◌||◌, nat_lt, length, Bool, true, false, IfOk, IfErr, OnOk, OnErr};
+ghost use Rattle.std.specs.Prelude.{◌≡◌, ◌≢◌, ◌<◌, ◌≤◌, ◌+◌, ◌++◌, ◌∷◌, [], ◌||◌, nat_lt, length, Bool, true, false, None, Some, IsOk, IfOk, IfErr, OnOk, OnErr};
 ghost use Rattle.as_graph.specs.Rows.{IsRising};
 
 use crate::neighbour::Neighbour;
@@ -16,8 +16,8 @@ pub struct Row {
 }
 
 impl Row {
-    ghost use Rattle.as_graph.specs.Rows.{rel_in, IsAt, IsGapFor, AreBelow};
-    ghost use Rattle.smallvec.specs.SmallVec.{small_vec_len};
+    ghost use Rattle.as_graph.specs.Rows.{rel_in, IsAt, IsGapFor, AreBelow, SetsRel};
+    ghost use Rattle.as_graph.specs.Writes.{has_room};
 
     /// The row of an AS without neighbours and without a mark.
     pub fn new(alloc: Global) -> Row
@@ -57,12 +57,12 @@ impl Row {
         self.marked || !self.neighbours.is_empty()
     }
 
-    /// Marks the AS.
-    pub fn mark(&mut self)
-        ensures marked { self.new.marked ≡ true }
-        ensures same { self.new.neighbours.items ≡ self.old.neighbours.items }
+    /// Marks the AS, or takes its mark away.
+    pub fn set_mark(&mut self, mark: bool)
+        ensures marked { self.new.marked ≡ mark }
+        ensures same { self.new.neighbours ≡ self.old.neighbours }
     {
-        self.marked = true;
+        self.marked = mark;
     }
 
     // Where the number is, or where it would go.
@@ -95,5 +95,52 @@ impl Row {
         ensures marked { self.new.marked ≡ self.old.marked }
     {
         Ok(self.neighbours.push(Neighbour { asn, rel })?)
+    }
+
+    /// Makes room for one more neighbour.
+    pub fn reserve(&mut self) -> Result<(), AllocError>
+        ensures room { OnOk result (has_room self.new ≡ true) }
+        ensures succeeds { has_room self.old ≡ true → IsOk result }
+        ensures kept { has_room self.old ≡ true → has_room self.new ≡ true }
+        ensures same { self.new.neighbours.items ≡ self.old.neighbours.items }
+        ensures marked { self.new.marked ≡ self.old.marked }
+    {
+        self.neighbours.reserve(1)
+    }
+
+    /// Sets what a neighbour is, in the room that there is. Returns the place of a new neighbour.
+    pub fn put(&mut self, asn: Asn, rel: Rel) -> Option<usize>
+        requires { rel_in self.old.neighbours.items asn ≡ None → has_room self.old ≡ true }
+        ensures sets { SetsRel self.old.neighbours.items self.new.neighbours.items asn (Some rel) }
+        ensures marked { self.new.marked ≡ self.old.marked }
+    {
+        match self.search(asn) {
+            Ok(at) => {
+                let all = self.neighbours.as_mut_slice();
+                all[at] = Neighbour { asn, rel };
+                None
+            }
+            Err(at) => match self.neighbours.insert(at, Neighbour { asn, rel }) {
+                Ok(()) => Some(at),
+                Err(_) => unreachable!(),
+            },
+        }
+    }
+
+    /// Takes a neighbour away. Returns the place where it was.
+    pub fn take(&mut self, asn: Asn) -> Option<usize>
+        ensures sets { SetsRel self.old.neighbours.items self.new.neighbours.items asn None }
+        ensures kept { has_room self.old ≡ true → has_room self.new ≡ true }
+        ensures freed { rel_in self.old.neighbours.items asn ≢ None → has_room self.new ≡ true }
+        ensures marked { self.new.marked ≡ self.old.marked }
+    {
+        match self.search(asn) {
+            Ok(at) => {
+                prove!(self.neighbours.len() <= self.neighbours.capacity());
+                let _gone = self.neighbours.remove(at);
+                Some(at)
+            }
+            Err(_) => None,
+        }
     }
 }
