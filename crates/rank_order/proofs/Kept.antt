@@ -18,7 +18,7 @@ use Rattle.cycle_check.proofs.Listing.{occurs_cons, occurs_head, occurs_rest, oc
 use Rattle.cycle_check.proofs.Places.{place_less, place_none, place_at, at_place}
 use Rattle.rank_order.specs.Ranks.{rank_map, rank_by, IsRankOrder}
 
-same_sides : (a q : ℕ) → (q == a) ≡ (a == q)
+pub same_sides : (a q : ℕ) → (q == a) ≡ (a == q)
 same_sides a q = by (a == q) refl
   where
     by : (b : Bool) → (a == q) ≡ b → (q == a) ≡ b
@@ -33,7 +33,7 @@ told_more : (b : Bool) (ases ranks : List ℕ) (r a : ℕ) → cond b (Some r) (
 told_more true ases ranks r a = refl
 told_more false ases ranks r a = refl
 
-find_zip : (ases ranks : List ℕ) → length ranks ≡ length ases → (a : ℕ) → map.find nat_cmp a (zip ases ranks) ≡ told ases ranks a
+pub find_zip : (ases ranks : List ℕ) → length ranks ≡ length ases → (a : ℕ) → map.find nat_cmp a (zip ases ranks) ≡ told ases ranks a
 find_zip [] ranks e a = refl
 find_zip (x ∷ xs) [] e a = absurd (omega (arith, e))
 find_zip (x ∷ xs) (r ∷ rs) e a =
@@ -60,7 +60,7 @@ rank_kept ases ranks e a = ap (λ r. unwrap_or r 0) (get_kept ases ranks e a) �
       ∙ sym (get_or_past ranks (place_in ases a) 0 (omega (arith, place_none ases a away, e)))
 ]
 
-told_is : (xs : List RankedAs) (a : ℕ) → rank_told xs a ≡ told (numbers_of xs) (ranks_of xs) a
+pub told_is : (xs : List RankedAs) (a : ℕ) → rank_told xs a ≡ told (numbers_of xs) (ranks_of xs) a
 told_is [] a = refl
 told_is (x ∷ xs) a = ap (cond (x.asn == a) (Some x.rank)) (told_is xs a) ∙ told_more (x.asn == a) (numbers_of xs) (ranks_of xs) x.rank a
 

@@ -1,5 +1,5 @@
 -- Ranks by number, and an order by them.
-use Rattle.std.specs.Prelude.{◌≡◌, ℕ, Bool, Option, List, unwrap_or, nat_eq, refl, ⊤}
+use Rattle.std.specs.Prelude.{◌≡◌, ℕ, Bool, true, false, Option, List, is_some, unwrap_or, nat_eq, refl, ⊤}
 use Rattle.std.specs.List.{IsDistinct, zip}
 use Rattle.std.specs.List.Sorted.{IsNonDecreasingBy, IsPermutation}
 use Rattle.std.specs.Ordering.{nat_cmp}
@@ -52,3 +52,8 @@ pub record IsSortedOut (rank : ℕ → ℕ) (xs ys : List ℕ) : Type 0 where
 abbrev pub IsRankRefusal : (ℕ → ℕ → Option Rel) → RankError → Type 0
 IsRankRefusal what Memory = ⊤
 IsRankRefusal what (ProviderCycle cycle) = IsCycleFromLowest what cycle
+
+-- the AS is one of the list, and has no rank (own rule)
+pub record Lacks (ranks : KeptRanks) (xs : List ℕ) (a : ℕ) : Type 0 where
+  pub listed : occurs a xs ≡ true
+  pub missing : is_some (map.get ranks.by_as a) ≡ false

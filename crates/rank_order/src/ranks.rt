@@ -1,5 +1,5 @@
 //! The ranks by number.
-ghost use Rattle.std.specs.Prelude.{◌≡◌, ◌<◌, ◌≤◌, ℕ, List, true, length, map, is_some, slice_index, IfOk, IfErr, IfSome, OnOk};
+ghost use Rattle.std.specs.Prelude.{◌≡◌, ◌<◌, ◌≤◌, ◌+◌, ◌==◌, if◌then◌else◌, ℕ, List, None, Some, true, false, length, map, is_some, slice_index, IfOk, IfErr, IfSome, OnOk};
 ghost use Rattle.std.proofs.Props.{props};
 ghost use Rattle.std.specs.List.Sorted.{IsStrictlyIncreasing};
 ghost use Rattle.std.specs.FinMap as map;
@@ -11,6 +11,7 @@ ghost use Rattle.cycle_check.specs.Providers.{rank_by};
 ghost use Rattle.cycle_check.specs.Rankings.{numbers_of, ranks_of, rank_told};
 ghost use Rattle.rank_order.specs.Ranks.{rank_at, IsRankOrder, IsRankRefusal};
 
+use crate::list::{put_in, take_in};
 use crate::order::{RankOrder, order_at};
 use as_graph::Graph;
 use cycle_check::{Cycle, RankedAs, Ranking, place_in, place_near, rank_ases};
@@ -34,22 +35,24 @@ pub struct Ranks {
     ases: Vec<Asn>,
     ranks: Vec<u32>,
     order: RankOrder,
+    // whether the order is that of the ranks: none has changed since it was made
+    in_order: bool,
     // for each row of the graph, the place of its AS: these are hints
     places: Vec<u32>,
     ghost each: { length ranks.items ≡ length ases.items },
     ghost rising: { IsStrictlyIncreasing ases.items },
-    ghost by_rank: { IsRankOrder (λ a. occurs a ases.items) (rank_by ases.items ranks.items) order.ases.items } by { Prim.hlevel props },
+    ghost by_rank: { in_order ≡ true → IsRankOrder (λ a. occurs a ases.items) (rank_by ases.items ranks.items) order.ases.items } by { Prim.hlevel props },
 }
 
 impl Model for Ranks {
-    ghost use Rattle.std.specs.Prelude.{◌-◌};
     ghost use Rattle.rank_order.specs.Ranks.{KeptRanks, kept_ranks_code, rank_map};
+    ghost use Rattle.rank_order.specs.Lists.{spare_in};
 
     ghost Value = { KeptRanks };
 
     ghost coded = { kept_ranks_code };
 
-    ghost view = { λ r. record { by_as = rank_map r.ases.items r.ranks.items; spare = r.ases.cap - r.ases.len } };
+    ghost view = { λ r. record { by_as = rank_map r.ases.items r.ranks.items; spare = spare_in r.ases r.ranks } };
 }
 
 impl Ranks {
@@ -98,6 +101,7 @@ impl Ranks {
             ases,
             ranks,
             order,
+            in_order: true,
             places,
         })
     }
@@ -121,34 +125,63 @@ impl Ranks {
     }
 
     // The order of these ASes by rising rank, if they are just those that have a rank, in rising
-    // number. It was made once, when the ranks were.
+    // number, and none has changed since the order was made.
     pub(crate) fn order_over(&self, ases: &[Asn]) -> Option<&RankOrder>
         ensures order { IfSome result (λ o. IsRankOrder (λ a. occurs a ases.now) (rank_at self.now) o.now.ases.items) }
     {
-        if self.ases.as_slice() == ases {
+        if self.in_order && self.ases.as_slice() == ases {
             Some(&self.order)
         } else {
             None
         }
     }
+
+    // Gives an AS a rank. One that has none takes up room, of which there is enough.
+    pub(crate) fn put(&mut self, asn: Asn, rank: u32)
+        requires { is_some (map.get self.old.by_as asn) ≡ false → 0 < self.old.spare }
+        ensures entries { (a : ℕ) → map.get self.new.by_as a ≡ (if asn == a then Some rank else map.get self.old.by_as a) }
+        ensures spare { self.old.spare ≤ self.new.spare + 1 }
+        ensures kept { is_some (map.get self.old.by_as asn) ≡ true → self.old.spare ≤ self.new.spare }
+    {
+        self.in_order = false;
+        put_in(&mut self.ases, &mut self.ranks, asn, rank);
+    }
+
+    // Takes an AS out, if it is there.
+    pub(crate) fn take(&mut self, asn: Asn)
+        ensures { (a : ℕ) → map.get self.new.by_as a ≡ (if asn == a then None else map.get self.old.by_as a) }
+    {
+        self.in_order = false;
+        take_in(&mut self.ases, &mut self.ranks, asn);
+    }
+
+    // Makes room for so many more ASes.
+    pub(crate) fn make_room(&mut self, count: usize) -> Result<(), AllocError>
+        ensures same { self.new.by_as ≡ self.old.by_as }
+        ensures room { OnOk result (count ≤ self.new.spare) }
+    {
+        self.ases.reserve(count)?;
+        self.ranks.reserve(count)?;
+        Ok(())
+    }
 }
 
 // The numbers of the ASes.
-fn numbers(alloc: Global, ranked: &[RankedAs]) -> Result<Vec<Asn>, AllocError>
+pub(crate) fn numbers(alloc: Global, ranked: &[RankedAs]) -> Result<Vec<Asn>, AllocError>
     ensures { IfOk result (λ v. v.items ≡ numbers_of ranked.now) }
 {
     ranked.iter().map(|one| one.asn).collect(alloc)
 }
 
 // The ranks of the ASes.
-fn ranks_in(alloc: Global, ranked: &[RankedAs]) -> Result<Vec<u32>, AllocError>
+pub(crate) fn ranks_in(alloc: Global, ranked: &[RankedAs]) -> Result<Vec<u32>, AllocError>
     ensures { IfOk result (λ v. v.items ≡ ranks_of ranked.now) }
 {
     ranked.iter().map(|one| one.rank).collect(alloc)
 }
 
 // The rank at a place, 0 past the end.
-fn rank_of(ranks: &[u32], place: usize) -> u32
+pub(crate) fn rank_of(ranks: &[u32], place: usize) -> u32
     ensures { result ≡ slice_index ranks.now place }
 {
     if place < ranks.len() { ranks[place] } else { 0 }

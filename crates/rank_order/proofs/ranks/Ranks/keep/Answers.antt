@@ -37,7 +37,7 @@ invariant_of-result c =
       (
         rising,
         (
-          subst (λ ys. IsRankOrder (λ a. occurs a ases) (rank_by_place ases ranks) ys)
+          λ _. subst (λ ys. IsRankOrder (λ a. occurs a ases) (rank_by_place ases ranks) ys)
               (sym (c.in_ok-order.ensures ∙ ap (λ (ys : List ℕ). map (λ (p : ℕ). get_or ys p 0) places) c.deref.ensures.value))
               (numbers_by_rank ases ranks rising places by),
           tt,

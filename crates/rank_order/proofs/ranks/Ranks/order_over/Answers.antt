@@ -14,12 +14,13 @@ returns-then-eq c =
     let order = inside.order.ases.items in
     let same : ases ≡ c.args.ases.now = sym c.as_slice.ensures.value ∙ same_text c.as_slice.result.now c.args.ases.now (sym c.if-eq.true ∙ c.eq.ensures) in
     let at : (a : ℕ) → rank_at c.args.self.now a ≡ rank_by_place ases ranks a = λ a. (ap (λ (r : KeptRanks). rank_by r.by_as a) (sym c.self.view_is) ∙ rank_kept ases ranks inside.each a) in
+    let by_rank = inside.by_rank c.if-self.true in
     record {
       order = record {
-        complete = λ a. inside.by_rank.complete a ∙ ap (occurs a) same;
-        apart = inside.by_rank.apart;
+        complete = λ a. by_rank.complete a ∙ ap (occurs a) same;
+        apart = by_rank.apart;
         rising = λ i j d le less. (
-            let rises = inside.by_rank.rising i j d le less in
+            let rises = by_rank.rising i j d le less in
             omega (arith, rises, at (get_or order i d), at (get_or order j d)));
       };
     }

@@ -1,0 +1,71 @@
+//! Plans: what ranks become with a graph that was edited.
+ghost use Rattle.std.specs.Prelude.{◌≡◌, ℕ, length, None, Some, if◌then◌else◌};
+ghost use Rattle.std.specs.List.Sorted.{IsStrictlyIncreasing};
+ghost use Rattle.net_names.specs.Numbers.{occurs};
+ghost use Rattle.cycle_check.specs.Providers.{rank_by};
+
+use crate::ranks::{Ranks, rank_of};
+use cycle_check::place_in;
+use net_names::Asn;
+
+/// What ranks become with a graph that was edited: new ranks of some ASes, and which ASes come and
+/// go. Beside the ranks that it was made of, contracts see the map from each AS of the new graph to
+/// its rank.
+#[derive(Drop)]
+pub struct RankPlan {
+    // the ASes that have new ranks, in rising number
+    pub(crate) ases: Vec<Asn>,
+    // their ranks
+    pub(crate) ranks: Vec<u32>,
+    // the ASes whose links changed: those without a new rank are not in the new graph
+    pub(crate) ends: Vec<Asn>,
+    ghost each: { length ranks.items ≡ length ases.items },
+    ghost rising: { IsStrictlyIncreasing ases.items },
+}
+
+impl RankPlan {
+    ghost use Rattle.rank_order.specs.Plans.{is_numbered, rank_after};
+
+    // The rank that the plan itself tells of an AS, if it tells one.
+    fn told(&self, asn: Asn) -> Option<u32>
+        ensures { result ≡ (if is_numbered self.now asn then Some (rank_by self.now.ases.items self.now.ranks.items asn) else if occurs asn self.now.ends.items then Some 0 else None) }
+    {
+        let place = place_in(&self.ases, asn);
+        if place < self.ases.len() {
+            return Some(rank_of(&self.ranks, place));
+        }
+        if self.ends.contains(&asn) {
+            Some(0)
+        } else {
+            None
+        }
+    }
+
+    // Whether the plan has a new rank for an AS.
+    pub(crate) fn is_numbered(&self, asn: Asn) -> bool
+        ensures { result ≡ is_numbered self.now asn }
+    {
+        place_in(&self.ases, asn) < self.ases.len()
+    }
+
+    /// The rank of an AS in the new graph, 0 for one that is not there. The ranks are those of which
+    /// the plan was made. Takes no memory.
+    pub fn rank(&self, ranks: &Ranks, asn: Asn) -> u32
+        ensures { result ≡ rank_after ranks.now self.now asn }
+    {
+        match self.told(asn) {
+            Some(rank) => rank,
+            None => ranks.rank(asn),
+        }
+    }
+
+    /// The rank of an AS in the new graph, as `rank` gives it, sought first at a place, which is a hint.
+    pub fn rank_near(&self, ranks: &Ranks, asn: Asn, place: usize) -> u32
+        ensures { result ≡ rank_after ranks.now self.now asn }
+    {
+        match self.told(asn) {
+            Some(rank) => rank,
+            None => ranks.rank_near(asn, place),
+        }
+    }
+}
