@@ -17,3 +17,4 @@ pub mod Stored
 pub mod Books
 pub mod Shorts
 pub mod PathEnds
+pub mod OfferPathLemmas

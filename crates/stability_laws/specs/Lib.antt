@@ -8,6 +8,7 @@ pub mod Book
 pub mod Rows
 pub mod World
 pub mod Laws
+pub mod OfferPaths
 pub mod Carried
 pub mod BestView
 pub mod Short

@@ -11,6 +11,7 @@ mod book;
 mod check;
 mod entry;
 mod laws;
+mod offer_paths;
 mod offers;
 mod routing;
 mod same;
@@ -24,6 +25,7 @@ pub use laws::{
     any_order_settles, customers_decide, nothing_up, offer_follows, offer_names, one_answer,
     one_family, one_stable_routing, paths_go_on, right_by_offers, right_follows,
 };
+pub use offer_paths::offer_path;
 pub use offers::{carried, class_from, number_sent, offered_view};
 pub use routing::{Routing, Seeds};
 pub use seed_plan::{SeedPlan, plans_are_sound};

@@ -1,0 +1,9 @@
+use Rattle.as_graph.specs.Topology.{what}
+use Rattle.stability_laws.specs.Book.{policy_at}
+use Rattle.stability_laws.proofs.OfferPathLemmas.{path_given}
+use Rattle.stability_laws.proofs.offer_paths.offer_path.Goals as goal
+
+pub returns : goal.returns
+returns t c = λ w book state f n a e o made is.
+    let m = t.P.RoutePolicy.meaning in
+    path_given (m (policy_at book n)) (m (policy_at book a)) state n a (what w a n) (f n) e o is made
