@@ -18,6 +18,7 @@ mod slots;
 mod stepping;
 mod steps;
 mod table;
+mod views;
 
 pub use choice::{Choice, ChoiceNear, Part};
 pub use choosing::{evaluate, evaluate_near};
@@ -29,3 +30,4 @@ pub use settling::{settle, settle_near};
 pub use stepping::visit;
 pub use steps::Steps;
 pub use table::Table;
+pub use views::view_but_for_loops;

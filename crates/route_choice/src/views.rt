@@ -1,0 +1,55 @@
+//! What an AS would see of an offer, before its path is walked.
+
+ghost use Rattle.std.specs.Prelude.{◌≡◌, ℕ, Option, Some, None, option_map, if◌then◌else◌};
+ghost use Rattle.as_graph.specs.Topology.{Topology, what};
+ghost use Rattle.path_pool.specs.Pool.{IsLive};
+ghost use Rattle.stability_laws.specs.declared.entry.Entry.{Entry as AnEntry};
+ghost use Rattle.stability_laws.specs.Offers.{offer};
+ghost use Rattle.stability_laws.specs.World.{setting};
+ghost use Rattle.route_choice.specs.declared.held.Held.{Held as AHeld};
+ghost use Rattle.route_choice.specs.Routings.{entry_of};
+ghost use Rattle.route_choice.specs.Views.{goes_through};
+
+use crate::Held;
+use net_names::{Asn, Prefix, Rel};
+use path_pool::PathPool;
+use policy_laws::{OriginStates, RoutePolicy, View};
+use stability_laws::{Book, number_sent};
+
+/// The view of the offer that `giver`, which is `rel` to the receiver, makes of what it holds. There is
+/// none where it holds nothing, where its policy does not export the entry, and where the policy of the
+/// receiver does not accept the view. Whether the path goes through the receiver is not asked: then
+/// there is no offer. Walks along no path, and takes no memory.
+pub fn view_but_for_loops<P: RoutePolicy, V: OriginStates>(
+    book: &Book<P>,
+    states: &V,
+    prefix: Prefix,
+    pool: &PathPool,
+    giver: Asn,
+    receiver: Asn,
+    rel: Rel,
+    given: Option<Held>,
+) -> Option<View>
+    requires live { (h : AHeld) → given ≡ Some h → IsLive pool.now h.path.0 }
+    ensures { (w : Topology) (f : ℕ → Option AnEntry) → what w receiver giver ≡ Some rel → f giver ≡ option_map (entry_of pool.now) given
+        → option_map (λ o. o.view) (offer (setting P.meaning w book.now (V.state_of states.now prefix)) f giver receiver) ≡ (if goes_through (f giver) receiver then None else result) }
+{
+    let held = given?;
+    let sender = book.policy(giver);
+    let to = rel.converse();
+    if !sender.exports(held.class, held.otc, to) {
+        return None;
+    }
+    let view = View {
+        rel,
+        neighbour: giver,
+        length: pool.length(held.path) + 1,
+        state: states.state(prefix, pool.last(held.path)),
+        otc: number_sent(sender.marks(), giver, to, held.otc),
+    };
+    if book.policy(receiver).accepts(&view) {
+        Some(view)
+    } else {
+        None
+    }
+}
