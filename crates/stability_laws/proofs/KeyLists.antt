@@ -96,7 +96,7 @@ module _ {K : Type 0} {R : K → K → Ordering} (o : IsTotalOrder R) (exact : C
   eq_same q k e = subst (λ (x : K). eq_by_cmp R q x ≡ true) e (ap is_eq (tied_itself o q))
 
   -- putting in what is there changes nothing
-  insert_there : (s : fin.FinMap R (Unit {0})) (k : K) → fin.get s k ≡ Some tt → fin.insert s k tt ≡ s
+  pub insert_there : (s : fin.FinMap R (Unit {0})) (k : K) → fin.get s k ≡ Some tt → fin.insert s k tt ≡ s
   insert_there s k h = fin.same_map o exact _ _ (λ q. fin.get-insert o s k tt q ∙ by q (eq_by_cmp R q k) refl)
     where
       by : (q : K) (b : Bool) → eq_by_cmp R q k ≡ b → cond b (Some tt) (fin.get s q) ≡ fin.get s q

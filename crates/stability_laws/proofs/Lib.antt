@@ -3,6 +3,7 @@ pub mod KeyLists
 pub mod Announcements
 pub mod PlanReads
 pub mod PlanListings
+pub mod PlanEdits
 pub mod Local
 pub mod OneRouting
 pub mod LocalLaws

@@ -3,6 +3,7 @@ pub mod Offers
 pub mod Stable
 pub mod Plans
 pub mod PlanLists
+pub mod SeedEdits
 pub mod Rounds
 pub mod Book
 pub mod Rows

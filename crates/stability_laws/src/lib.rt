@@ -28,5 +28,5 @@ pub use laws::{
 pub use offer_paths::offer_path;
 pub use offers::{carried, class_from, number_sent, offered_view};
 pub use routing::{Routing, Seeds};
-pub use seed_plan::{SeedPlan, plans_are_sound};
+pub use seed_plan::{SeedEdit, SeedPlan, plans_are_sound};
 pub use wrong::Wrong;

@@ -9,6 +9,9 @@ ghost use Rattle.net_names.specs.Prefixes.{prefix_cmp};
 ghost use Rattle.stability_laws.specs.Plans.{announcement_cmp, announces, announced_path, announcer_of, empty_plan, with_announcement, with_leaker, has_prefix, leaks_in, prefixes_of, announcers_of, in_round, leakers_of, IsAnnouncer, IsSound, ListsRising};
 ghost use Rattle.stability_laws.specs.PlanLists.{set_of, IsRising};
 
+mod edits;
+
+pub use edits::SeedEdit;
 use net_names::{Asn, NoMemory, Path, Prefix};
 use std::alloc::Global;
 use std::marker::Model;
