@@ -1,16 +1,15 @@
 -- What a plan makes of the ranks.
-use Rattle.std.proofs.Common.{◌≡◌, inl, inr, ℕ, ◌<◌, ◌≤◌, Bool, true, false, cond, Option, Some, None, is_some, unwrap_or, List, length, refl, sym, ap, subst, arith, ◌∙◌}
-use Rattle.std.proofs.lemmas.Bool.{cases_Bool, false_from_ne_true}
+use Rattle.std.proofs.Common.{◌≡◌, inl, inr, ℕ, ◌≤◌, true, false, cond, Some, None, is_some, unwrap_or, List, length, sym, ap, arith, ◌∙◌}
+use Rattle.std.proofs.lemmas.Bool.{cases_Bool}
 use Rattle.std.specs.FinMap as map_of
-use Rattle.net_names.specs.Numbers.{occurs, IsDistinct}
-use Rattle.as_graph.specs.Topology.{Topology, what, has}
+use Rattle.net_names.specs.Numbers.{occurs}
 use Rattle.as_graph.proofs.Chains.{distinct_le}
 use Rattle.cycle_check.specs.declared.ranking.RankedAs.{RankedAs}
 use Rattle.cycle_check.specs.Providers.{rank_by as rank_by_place}
 use Rattle.cycle_check.specs.Rankings.{numbers_of, ranks_of, rank_told, rank_in}
 use Rattle.rank_order.specs.declared.plan.RankPlan.{RankPlan}
 use Rattle.rank_order.specs.Ranks.{KeptRanks, RankMap, rank_at}
-use Rattle.rank_order.specs.Plans.{is_numbered, entry_after, rank_after, ComesBy, IsLastPlan, IsPlanFor}
+use Rattle.rank_order.specs.Plans.{is_numbered, entry_after, rank_after, ComesBy, IsLastPlan}
 use Rattle.rank_order.proofs.Kept.{told, told_is}
 
 module _ (ranks : KeptRanks) (p : RankPlan) where

@@ -1,13 +1,13 @@
 -- What holds while ASes are put in and taken out one by one.
-use Rattle.std.proofs.Common.{◌≡◌, ◌≢◌, inl, inr, ℕ, suc, ◌+◌, ◌<◌, ◌≤◌, Bool, true, false, ◌==◌, ◌||◌, ◌++◌, cond, Option, Some, None, is_some, List, [], ◌∷◌, length, get_or, refl, sym, ap, subst, arith, ◌∙◌}
+use Rattle.std.proofs.Common.{◌≡◌, ◌≢◌, inl, inr, ℕ, ◌+◌, ◌<◌, ◌≤◌, Bool, true, false, ◌==◌, cond, Option, Some, None, is_some, List, ◌∷◌, length, get_or, refl, sym, ap, subst, arith, ◌∙◌}
 use Rattle.std.proofs.lemmas.Bool.{cases_Bool, cases_eq, eq-eqb, ne_eqb, eqb-true, false_from_ne_true}
 use Rattle.std.proofs.lemmas.List.Kept.{AllPairs-from_increasing}
 use Rattle.std.specs.List.Sorted.{IsStrictlyIncreasing}
 use Rattle.std.specs.FinMap as map_of
-use Rattle.net_names.specs.Numbers.{occurs, IsDistinct}
+use Rattle.net_names.specs.Numbers.{occurs}
 use Rattle.cycle_check.specs.Places.{place_in}
 use Rattle.cycle_check.specs.Providers.{rank_by as rank_by_place}
-use Rattle.cycle_check.proofs.Listing.{occurs_get, occurs_cons, occurs_head}
+use Rattle.cycle_check.proofs.Listing.{occurs_get, occurs_cons}
 use Rattle.cycle_check.proofs.Places.{place_less, at_place}
 use Rattle.rank_order.specs.Lists.{AreAtMost}
 use Rattle.rank_order.specs.Ranks.{KeptRanks, RankMap, Lacks}

@@ -1,10 +1,10 @@
 //! Plans made for a graph.
 ghost use Rattle.std.specs.Prelude.{◌≡◌, ℕ, true, false, is_some, IfOk, IfSome, OnOk};
 ghost use Rattle.std.specs.FinMap as map;
+ghost use Rattle.std.specs.List.Sorted.{IsStrictlyIncreasing};
 ghost use Rattle.net_names.specs.Numbers.{occurs};
 ghost use Rattle.as_graph.specs.Topology.{what, has};
 ghost use Rattle.as_graph.specs.Hierarchy.{HasNoProviderCycle, RankFits, IsRank};
-ghost use Rattle.std.specs.List.Sorted.{IsStrictlyIncreasing};
 ghost use Rattle.cycle_check.specs.Rankings.{numbers_of, ranks_of};
 ghost use Rattle.rank_order.specs.Ranks.{rank_at};
 ghost use Rattle.rank_order.specs.Plans.{IsLastPlan, IsPlanFor, entry_after, rank_after};
@@ -89,7 +89,7 @@ fn whole_plan(
     }
 }
 
-// The plan for a graph: a small one if that suffices, and else that which numbers all ASes.
+// The plan for a graph: a small one if that suffices, and else the one that numbers all ASes.
 fn plan_for(alloc: Global, graph: &Graph, ranks: &Ranks, ends: &[Asn]) -> Result<RankPlan, NoMemory>
     requires no_cycle { HasNoProviderCycle (what graph.now) }
     requires fits { (a : ℕ) → has graph.now a ≡ true → occurs a ends.now ≡ false → RankFits (what graph.now) (rank_at ranks.now) a }
@@ -110,7 +110,8 @@ impl Ranks {
     /// customer), and none but the ASes of the graph and of `ends` has a rank above 0.
     ///
     /// The ranks stay as they are, and get room for what the plan adds. The only refusal is want of
-    /// memory. The work is that of the ends and of those above them whose ranks change.
+    /// memory. The work is that of the ends, of those above them whose ranks change, and of the
+    /// neighbours of these; where ranks change again and again on the way, it is that of `build`.
     pub fn plan(&mut self, alloc: Global, graph: &Graph, ends: &[Asn]) -> Result<RankPlan, NoMemory>
         requires no_cycle { HasNoProviderCycle (what graph.now) }
         requires fits { (a : ℕ) → has graph.now a ≡ true → occurs a ends.now ≡ false → RankFits (what graph.now) (rank_at self.old) a }

@@ -1,4 +1,4 @@
-use Rattle.std.proofs.Common.{◌≡◌, ℕ, ◌<◌, true, false, cond, nat_lt, Some, None, List, length, get_or, sym, ap, subst, arith, ◌∙◌}
+use Rattle.std.proofs.Common.{◌≡◌, ℕ, ◌<◌, true, false, cond, Some, None, List, length, get_or, sym, ap, arith, ◌∙◌}
 use Rattle.std.proofs.lemmas.Bool.{lt-ltb, false_from_ne_true, ltb-true}
 use Rattle.net_names.specs.Numbers.{occurs}
 use Rattle.cycle_check.specs.Places.{place_in}
