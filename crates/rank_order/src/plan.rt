@@ -1,5 +1,5 @@
 //! Plans: what ranks become with a graph that was edited.
-ghost use Rattle.std.specs.Prelude.{◌≡◌, ℕ, length, None, Some, if◌then◌else◌};
+ghost use Rattle.std.specs.Prelude.{◌≡◌, length, None, Some, if◌then◌else◌};
 ghost use Rattle.std.specs.List.Sorted.{IsStrictlyIncreasing};
 ghost use Rattle.net_names.specs.Numbers.{occurs};
 ghost use Rattle.cycle_check.specs.Providers.{rank_by};
