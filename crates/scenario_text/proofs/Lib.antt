@@ -6,3 +6,4 @@ pub mod Repeats
 pub mod Orders
 pub mod Sound
 pub mod Texts
+pub mod TwoEnds

@@ -1,5 +1,6 @@
 //! The lines of a script.
 ghost use Rattle.std.specs.Prelude.{◌≡◌, [], ◌∷◌, ◌++◌, OnOk, OnErr, option_copied, slice_get};
+ghost use Rattle.scenario_text.specs.LineValues.{IsSoundAct, AreSoundLines};
 
 use crate::acts::Act;
 use net_names::NoMemory;
@@ -25,7 +26,8 @@ impl Model for Line {
     ghost inverse = { λ l. record { number = l.number; act = l.act } };
 }
 
-/// The lines of a script that aren't skipped, in their order. Contracts see the list of them.
+/// The lines of a script that aren't skipped, in their order. Contracts see the list of them. A link that one of them
+/// makes has two different ends.
 #[derive(Drop)]
 pub struct Lines {
     items: Vec<Line>,
@@ -37,7 +39,11 @@ impl Model for Lines {
 
     ghost Value = { List LineValue };
 
+    ghost use Rattle.scenario_text.specs.LineValues.{AreSoundLines};
+
     ghost view = { λ l. l.items.items };
+
+    ghost invariant = { λ l. AreSoundLines l.items.items };
 }
 
 impl Lines {
@@ -50,8 +56,10 @@ impl Lines {
         }
     }
 
-    /// Puts a line at the end. `Err` where there is not enough memory; then the list stays as it was.
+    /// Puts a line at the end, which makes no link of an AS with itself. `Err` where there is not enough memory; then the
+    /// list stays as it was.
     pub fn push(&mut self, line: Line) -> Result<(), NoMemory>
+        requires { IsSoundAct line.act }
         ensures ok { OnOk result (self.new ≡ self.old ++ line ∷ []) }
         ensures err { OnErr result (self.new ≡ self.old) }
     {
@@ -70,7 +78,8 @@ impl Lines {
 
     /// The lines in their order.
     pub fn as_slice(&self) -> &[Line]
-        ensures { result.now ≡ self.now }
+        ensures value { result.now ≡ self.now }
+        ensures sound { AreSoundLines self.now }
     {
         self.items.as_slice()
     }

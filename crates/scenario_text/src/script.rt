@@ -1,6 +1,7 @@
 //! Reading a script.
-ghost use Rattle.std.specs.Prelude.{◌≡◌, ℕ, ◌<◌, ◌≤◌, ◌∷◌, length};
+ghost use Rattle.std.specs.Prelude.{◌≡◌, ℕ, ◌<◌, ◌≤◌, ◌∷◌, length, IfOk};
 ghost use Rattle.scenario_text.specs.Lines.{is_skipped, without_cr, texts, kept_from};
+ghost use Rattle.scenario_text.specs.LineValues.{IsSoundAct};
 ghost use Rattle.scenario_text.specs.Script.{Gives, command, script_of};
 
 use crate::forms::act;
@@ -59,7 +60,8 @@ fn skips(line: &[u8]) -> bool
 
 // What a line says that isn't skipped, where so many others stand before it.
 fn command_of(line: &[u8], number: u32, before: u32) -> Result<Line, ScriptError>
-    ensures { Gives result (command before (number, line.now)) }
+    ensures gives { Gives result (command before (number, line.now)) }
+    ensures sound { IfOk result (λ l. IsSoundAct l.act) }
 {
     match act(line) {
         None => Err(ScriptError::Unreadable { line: number }),

@@ -1,5 +1,5 @@
 //! The lines of a generated input.
-ghost use Rattle.std.specs.Prelude.{◌≡◌, ◌≤◌, ◌++◌, ◌∷◌, [], ◌+◌, ◌*◌, ◌%◌, slice_get, option_map, Some, IfOk, OnOk};
+ghost use Rattle.std.specs.Prelude.{◌≡◌, ◌<◌, ◌≤◌, ◌++◌, ◌∷◌, [], ◌+◌, ◌*◌, ◌%◌, slice_get, option_map, Some, IfOk, IfSome, OnOk};
 ghost use Rattle.net_names.specs.LinkLists.{entry_of};
 ghost use Rattle.std.specs.FinMap as map;
 ghost use Rattle.topo_gen.specs.Lines.{cut_and_join, drawn_lines, edits, report};
@@ -22,7 +22,8 @@ fn push_report(lines: &mut Lines, number: u32, round: u32, addr: Addr) -> Result
 // The link at every 37th place, round and round.
 fn link_at(links: &Links, i: u32) -> Option<Link>
     requires { i ≤ 10 }
-    ensures { option_map entry_of result ≡ slice_get (map.entries links.now) (37 * i % map.len links.now) }
+    ensures link { option_map entry_of result ≡ slice_get (map.entries links.now) (37 * i % map.len links.now) }
+    ensures ends { IfSome result (λ l. l.lo < l.hi) }
 {
     let count = links.len();
     if count == 0 {
@@ -33,7 +34,8 @@ fn link_at(links: &Links, i: u32) -> Option<Link>
 
 // Cuts a link and joins it again.
 fn push_edits(lines: &mut Lines, number: u32, link: Link) -> Result<(), NoMemory>
-    requires { number ≤ 100 }
+    requires small { number ≤ 100 }
+    requires ends { link.lo < link.hi }
     ensures { OnOk result (lines.new ≡ lines.old ++ cut_and_join number (Some (entry_of link))) }
 {
     let (a, b) = (link.lo, link.hi);

@@ -16,11 +16,11 @@ loop-rest-init c = record {
 pub returns-in_err-next : goal.returns-in_err-next
 returns-in_err-next c =
     let p = err_from_is_err_and c.from_residual.result c.from_residual.ensures.1 in
-    rw (p.1, p.2) (fails_at c.loop-rest.count c.in_err-next.field-0.0 c.loop-rest.lines c.loop-rest.number c.loop-rest.rest.now c.next_line.result.0.now c.next_line.result.1.now _ c.loop-rest.invariant.count c.next_line.ensures.lines c.if-not-skips.ensures c.in_err-next.ensures c.loop-rest.invariant.so_far)
+    rw (p.1, p.2) (fails_at c.loop-rest.count c.in_err-next.field-0.0 c.loop-rest.lines c.loop-rest.number c.loop-rest.rest.now c.next_line.result.0.now c.next_line.result.1.now _ c.loop-rest.invariant.count c.next_line.ensures.lines c.if-not-skips.ensures c.in_err-next.ensures.gives c.loop-rest.invariant.so_far)
 
 pub loop-rest-preserved-in-Ok : goal.loop-rest-preserved-in-Ok
 loop-rest-preserved-in-Ok c = record {
-  so_far = rw c.in-Ok.ensures.ok (keeps_at c.loop-rest.count c.loop-rest.lines c.loop-rest.number c.loop-rest.rest.now c.next_line.result.0.now c.next_line.result.1.now c.in_ok-next.next _ c.loop-rest.invariant.count c.next_line.ensures.lines c.if-not-skips.ensures c.in_ok-next.ensures c.loop-rest.invariant.so_far);
+  so_far = rw c.in-Ok.ensures.ok (keeps_at c.loop-rest.count c.loop-rest.lines c.loop-rest.number c.loop-rest.rest.now c.next_line.result.0.now c.next_line.result.1.now c.in_ok-next.next _ c.loop-rest.invariant.count c.next_line.ensures.lines c.if-not-skips.ensures c.in_ok-next.ensures.gives c.loop-rest.invariant.so_far);
   count = rw c.in-Ok.ensures.ok (omega (arith, length-append c.loop-rest.lines (c.in_ok-next.next ∷ []), c.loop-rest.invariant.count));
   number = omega (arith, c.loop-rest.invariant.number, c.next_line.ensures.shorter);
   few = omega (arith, c.loop-rest.invariant.few);
