@@ -1,10 +1,9 @@
 -- Which ASes there are after an edit, and how many.
-use Rattle.std.proofs.Common.{◌≡◌, ◌≢◌, ◌⊎◌, inl, inr, ℕ, ◌+◌, Bool, true, false, ◌||◌, ◌&&◌, not, ◌==◌, cond, nat_lt, Option, Some, None, refl, sym, ◌∙◌, ap, arith}
+use Rattle.std.proofs.Common.{◌≡◌, ◌≢◌, ◌⊎◌, inl, inr, ℕ, ◌+◌, Bool, true, false, ◌||◌, ◌&&◌, not, ◌==◌, cond, nat_lt, Some, None, refl, sym, ◌∙◌, ap, arith}
 use Rattle.std.proofs.lemmas.Bool.{cases_Bool, or_cases, or_left, or_right, eqb-true, eq-eqb, ne_eqb}
-use Rattle.std.proofs.lemmas.Bool.Decides.{nat_tests}
 use Rattle.std.proofs.lemmas.Cmp.{nat_cmp_total}
 use Rattle.std.specs.Ordering.{nat_cmp, eq_by_cmp}
-use Rattle.std.specs.Cmp.{unsigned_tied, nat_eq_equiv}
+use Rattle.std.specs.Cmp.{unsigned_tied}
 use Rattle.std.specs.FinMap as map
 use Rattle.std.specs.FinSet as set
 use Rattle.net_names.specs.declared.routes.Rel.{Rel}
@@ -14,7 +13,7 @@ use Rattle.net_names.proofs.Pairs.{pairs_total}
 use Rattle.as_graph.specs.Topology.{Topology, ends_of, ases, has, as_count, with_mark}
 use Rattle.as_graph.specs.Edits.{with_link, without_link, without_mark, AsesAreKept}
 use Rattle.as_graph.proofs.Links.{found}
-use Rattle.as_graph.proofs.RowAses.{same_test, occurs-items, occurs-append, IsEndFound, end_found}
+use Rattle.as_graph.proofs.RowAses.{same_test, occurs-items, occurs-append, end_found}
 use Rattle.as_graph.proofs.EditsLemmas.{put_pair, is_put, is_put_turned}
 use Rattle.as_graph.proofs.TakenLinks.{same_pair, pair_itself, take_pair, is_taken, is_taken_turned}
 

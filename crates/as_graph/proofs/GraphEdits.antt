@@ -5,25 +5,24 @@ use Rattle.std.specs.Cmp.{nat_eq_equiv}
 use Rattle.std.specs.List.Sorted.{IsStrictlyIncreasing}
 use Rattle.std.specs.Option.{option_map_or}
 use Rattle.std.specs.FinMap as map
-use Rattle.std.specs.FinSet as set
-use Rattle.indexmap.specs.IndexMap.{get, index_map_len}
+use Rattle.indexmap.specs.IndexMap.{get}
 use Rattle.net_names.specs.declared.routes.Rel.{Rel}
 use Rattle.net_names.specs.Links.{pair_cmp, between, converse}
 use Rattle.net_names.specs.Numbers.{occurs}
 use Rattle.as_graph.specs.declared.neighbour.Neighbour.{Neighbour}
 use Rattle.as_graph.specs.declared.row.Row.{Row}
-use Rattle.as_graph.specs.Topology.{Topology, what, has, as_count, with_mark}
+use Rattle.as_graph.specs.Topology.{Topology, as_count, with_mark}
 use Rattle.as_graph.specs.Room.{is_room_for, is_room_with, with_room, only_room_for, only_room_with}
 use Rattle.as_graph.specs.Edits.{with_link, without_link, without_mark}
 use Rattle.as_graph.specs.Rows.{rel_in}
 use Rattle.as_graph.specs.Graphs.{Rows, neighbours_of, rel_of, is_marked, is_needed, is_there, links_of, topology_of, graph_of, IsGraph, IsKept}
-use Rattle.as_graph.specs.Writes.{has_room_at, HasRoomFor, KeepsRows, SetsLink, SetsMark}
+use Rattle.as_graph.specs.Writes.{HasRoomFor, KeepsRows, SetsLink, SetsMark}
 use Rattle.as_graph.proofs.Links.{linked_end, what_mutual}
 use Rattle.as_graph.proofs.RowLinks.{what-topology_of}
 use Rattle.as_graph.proofs.RowAses.{mark_at, contains-marked, has-topology_of, as_count-listed, rising_distinct}
 use Rattle.as_graph.proofs.TakenLinks.{mark_absent}
-use Rattle.as_graph.proofs.Marking.{there_is, kept_row, topology_of-kept, kept-kept, topology_of-marked, topology_of-unmarked, there_others, there_new, kept-marked}
-use Rattle.as_graph.proofs.LinkTopology.{topology_of-linked, topology_of-unlinked, len-linked, len-unlinked, there-linked, there-off, both_false, some_from, row_of_room}
+use Rattle.as_graph.proofs.Marking.{there_is, kept_row, topology_of-kept, kept-kept, there_others, there_new, kept-marked}
+use Rattle.as_graph.proofs.LinkTopology.{topology_of-linked, len-linked, len-unlinked, there-linked, there-off, both_false, some_from, row_of_room}
 
 -- what holds anyway holds after a refusal
 pub on_err : {T E : Type 0} (r : Result T E) (P : Type 0) → P → OnErr r P

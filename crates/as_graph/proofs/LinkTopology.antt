@@ -1,6 +1,6 @@
 -- The topology of rows in which a link is set or taken away.
 use Rattle.std.proofs.Common.{◌≡◌, ◌≢◌, ◌⊎◌, inl, inr, ℕ, ◌+◌, ◌-◌, ◌<◌, ◌≤◌, Bool, true, false, ◌||◌, ◌&&◌, ◌==◌, cond, nat_lt, nat_eq, Option, Some, None, is_some, unwrap_or, option_map, List, [], ◌∷◌, length, refl, sym, ◌∙◌, ap, subst, arith}
-use Rattle.std.proofs.lemmas.Bool.{cases_Bool, cases_eq, ltb-true, ltb-false, lt-ltb, eqb-true, eq-eqb, ne_eqb, or_cases, false_from_ne_true, true≢false}
+use Rattle.std.proofs.lemmas.Bool.{cases_Bool, ltb-true, ltb-false, lt-ltb, eqb-true, eq-eqb, or_cases, true≢false}
 use Rattle.std.proofs.lemmas.Cmp.{nat_cmp_total}
 use Rattle.std.proofs.lemmas.List.{length-map}
 use Rattle.std.specs.Ordering.{nat_cmp, eq_by_cmp}
@@ -18,13 +18,13 @@ use Rattle.net_names.specs.Links.{pair_cmp, converse}
 use Rattle.net_names.specs.Numbers.{occurs}
 use Rattle.net_names.proofs.Pairs.{pairs_total, exact_pair}
 use Rattle.as_graph.specs.declared.row.Row.{Row}
-use Rattle.as_graph.specs.Topology.{Topology, what, has, as_count}
-use Rattle.as_graph.specs.Room.{is_room_for, is_room_with}
+use Rattle.as_graph.specs.Topology.{has}
+use Rattle.as_graph.specs.Room.{is_room_for}
 use Rattle.as_graph.specs.Edits.{with_link, without_link}
-use Rattle.as_graph.specs.Graphs.{Rows, rel_of, is_there, is_needed, links_of, topology_of, IsGraph, IsKept}
+use Rattle.as_graph.specs.Graphs.{Rows, rel_of, is_there, is_needed, links_of, topology_of, IsGraph}
 use Rattle.as_graph.specs.Writes.{has_room, has_room_at, HasRoomFor, IsRoomy, SetsLink}
-use Rattle.as_graph.proofs.RowLinks.{pair_tied, get-links_of, what-topology_of}
-use Rattle.as_graph.proofs.RowAses.{contains-marked, has-topology_of, as_count-listed, rising_distinct, distinct_len, len-from_list, any_none, occurs-keys}
+use Rattle.as_graph.proofs.RowLinks.{pair_tied, get-links_of}
+use Rattle.as_graph.proofs.RowAses.{contains-marked, has-topology_of, rising_distinct, distinct_len, len-from_list, occurs-keys}
 use Rattle.as_graph.proofs.TakenLinks.{same_pair}
 use Rattle.as_graph.proofs.EditedAses.{has-with_link}
 
@@ -189,7 +189,7 @@ roomy-new m places a b ordered both = record {
   ordered = ordered;
   paired = λ x y is none. (
     ap (has_room_at m) (sym (ap (λ (o : Option (ℕ × ℕ)). (unwrap_or o (0, 0)).0) is)) ∙ both.0,
-    ap (has_room_at m) (sym (ap (λ (o : Option (ℕ × ℕ)). (unwrap_or o (0, 0)).1) is)) ∙ both.1
+    ap (has_room_at m) (sym (ap (λ (o : Option (ℕ × ℕ)). (unwrap_or o (0, 0)).1) is)) ∙ both.1,
   );
 }
 

@@ -1,11 +1,11 @@
 -- What a link that is set or taken away at both its ends changes.
-use Rattle.std.proofs.Common.{◌≡◌, ◌≢◌, ◌⊎◌, ◌≤◌, inl, inr, ℕ, true, false, nat_eq, Option, Some, None, option_map, refl, sym, ◌∙◌, ap, subst, arith}
+use Rattle.std.proofs.Common.{◌≡◌, ◌≢◌, ◌⊎◌, ◌≤◌, inl, inr, ℕ, true, nat_eq, Option, None, option_map, refl, sym, ◌∙◌, ap, subst, arith}
 use Rattle.std.proofs.lemmas.Bool.{cases_eq}
 use Rattle.indexmap.specs.IndexMap.{get}
 use Rattle.net_names.specs.declared.routes.Rel.{Rel}
 use Rattle.net_names.specs.Links.{converse}
 use Rattle.as_graph.specs.Rows.{rel_in}
-use Rattle.as_graph.specs.Graphs.{Rows, rel_of, is_marked, is_there, IsGraph}
+use Rattle.as_graph.specs.Graphs.{Rows, rel_of, is_marked, IsGraph}
 use Rattle.as_graph.specs.Writes.{has_room_at, HasRoomFor, IsRoomy, SetsEnd, SetsLink}
 use Rattle.as_graph.proofs.Links.{twice}
 use Rattle.as_graph.proofs.RowLinks.{items_at}

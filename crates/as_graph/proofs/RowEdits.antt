@@ -1,5 +1,5 @@
 -- What edits of a row change of what its look-ups find.
-use Rattle.std.proofs.Common.{List, ◌≡◌, ◌≢◌, ℕ, zero, suc, ◌+◌, ◌-◌, ◌<◌, ◌≤◌, eqb, [], ◌∷◌, length, get_or, set, if◌then◌else◌, Some, None, refl, sym, ap, subst, arith, inl, inr}
+use Rattle.std.proofs.Common.{List, ◌≡◌, ◌≢◌, ℕ, zero, suc, ◌+◌, ◌-◌, ◌<◌, ◌≤◌, eqb, [], ◌∷◌, length, set, if◌then◌else◌, Some, None, refl, ap, subst, arith, inl, inr}
 use Rattle.std.specs.List.{insert, remove}
 use Rattle.std.proofs.lemmas.Bool.{cases_lt}
 use Rattle.std.proofs.lemmas.Bool.Decides.{nat_tests}
@@ -8,7 +8,7 @@ use Rattle.std.proofs.lemmas.List.Edits.{length-insert, get_or-insert_below, get
 use Rattle.net_names.specs.declared.routes.Rel.{Rel}
 use Rattle.as_graph.specs.declared.neighbour.Neighbour.{Neighbour}
 use Rattle.as_graph.specs.Rows.{rel_in, asn_at, blank, IsRising, IsAt, IsGapFor, SetsRel}
-use Rattle.as_graph.proofs.RowLemmas.{rel_in-absent, rel_in-gap}
+use Rattle.as_graph.proofs.RowLemmas.{rel_in-absent}
 
 -- no neighbour before place i has the key
 abbrev pub NoKeyBefore : List Neighbour → ℕ → ℕ → Type 0
@@ -99,9 +99,9 @@ module _ (l : List Neighbour) (sorted : IsRising l) (k at : ℕ) (is_at : IsAt l
       let below : (i : ℕ) → i < at → asn_at (remove l at) i ≡ asn_at l i = λ i b. ap asn (get_or-remove_below l at blank i b is_at.in_range) in
       let above : (i : ℕ) → at ≤ i → asn_at (remove l at) i ≡ asn_at l (i + 1) = λ i b. ap asn (get_or-remove_above l at blank i b is_at.in_range) in
       elim (cases_lt j at) [
-        inl jb ↦ omega (arith, below i (omega (arith, jb, lt)), below j jb, sorted i j lt (omega (arith, in_range, len)))
-      | inr ja ↦ elim (cases_lt i at) [
-          inl ib ↦ omega (arith, below i ib, above j ja, sorted i (j + 1) (omega (arith, lt)) (omega (arith, in_range, len)))
-        | inr ia ↦ omega (arith, above i ia, above j ja, sorted (i + 1) (j + 1) (omega (arith, lt)) (omega (arith, in_range, len)))
+        | inl jb ↦ omega (arith, below i (omega (arith, jb, lt)), below j jb, sorted i j lt (omega (arith, in_range, len)))
+        | inr ja ↦ elim (cases_lt i at) [
+          | inl ib ↦ omega (arith, below i ib, above j ja, sorted i (j + 1) (omega (arith, lt)) (omega (arith, in_range, len)))
+          | inr ia ↦ omega (arith, above i ia, above j ja, sorted (i + 1) (j + 1) (omega (arith, lt)) (omega (arith, in_range, len)))
         ]
       ]

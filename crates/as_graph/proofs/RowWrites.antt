@@ -9,7 +9,7 @@ use Rattle.net_names.specs.declared.routes.Rel.{Rel}
 use Rattle.as_graph.specs.declared.neighbour.Neighbour.{Neighbour}
 use Rattle.as_graph.specs.declared.row.Row.{Row}
 use Rattle.as_graph.specs.Rows.{rel_in, SetsRel}
-use Rattle.as_graph.specs.Graphs.{Rows, neighbours_of, rel_of, is_marked}
+use Rattle.as_graph.specs.Graphs.{Rows, neighbours_of, is_marked}
 use Rattle.as_graph.specs.Writes.{has_room, has_room_at, KeepsRows, SetsEnd, SetsMark}
 use Rattle.as_graph.proofs.RowLinks.{items_at}
 use Rattle.as_graph.proofs.RowAses.{mark_at}

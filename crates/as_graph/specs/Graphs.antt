@@ -1,5 +1,5 @@
 -- The rows that a graph keeps, one for each AS that it has met, and the topology that they make.
-use Rattle.std.specs.Prelude.{◌≡◌, ◌≢◌, ◌||◌, ℕ, Bool, true, false, nat_eq, nat_lt, ◌≤◌, length, if◌then◌else◌, Option, None, is_some, option_map, List, [], ◌∷◌, ◌++◌}
+use Rattle.std.specs.Prelude.{◌≡◌, ◌||◌, ℕ, Bool, false, nat_eq, nat_lt, ◌≤◌, length, if◌then◌else◌, Option, None, is_some, option_map, List, [], ◌∷◌, ◌++◌}
 use Rattle.std.specs.Option.{option_map_or}
 use Rattle.std.specs.List.Sorted.{IsStrictlyIncreasing}
 use Rattle.std.specs.FinMap as map

@@ -1,5 +1,5 @@
 -- What a write of the rows changes, and the room that they have for more neighbours.
-use Rattle.std.specs.Prelude.{◌≡◌, ◌≢◌, ℕ, ◌+◌, ◌≤◌, nat_le, Bool, true, false, nat_eq, length, is_some, Option, Some, None, option_map}
+use Rattle.std.specs.Prelude.{◌≡◌, ◌≢◌, ℕ, ◌+◌, ◌≤◌, nat_le, Bool, true, false, nat_eq, length, Option, Some, None}
 use Rattle.std.specs.Option.{option_map_or}
 use Rattle.indexmap.specs.IndexMap.{get, IsUnique, index_map_len}
 use Rattle.net_names.specs.declared.routes.Rel.{Rel}

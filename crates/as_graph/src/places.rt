@@ -169,9 +169,7 @@ impl Places {
             .min(self.items.len());
         let from = start.saturating_add(at);
         if from < end {
-            self.items
-                .as_mut_slice()
-                .copy_within(from + 1..end, from);
+            self.items.as_mut_slice().copy_within(from + 1..end, from);
         }
     }
 

@@ -1,4 +1,4 @@
-use Rattle.std.proofs.Common.{rules, ◌≡◌, ◌≤◌, ◌<◌, ◌||◌, ◌==◌, ◌+◌, ℕ, List, length, false, nat_eq, None, refl, sym, subst, ◌∙◌, ap, arith}
+use Rattle.std.proofs.Common.{rules, ◌≡◌, ◌≤◌, ◌||◌, ◌==◌, ◌+◌, ℕ, List, length, false, None, sym, subst, ◌∙◌, ap, arith}
 use Rattle.std.proofs.lemmas.Bool.{false≢true, false_from_ne_true}
 use Rattle.std.specs.List.Sorted.{IsStrictlyIncreasing}
 use Rattle.indexmap.specs.IndexMap.{index_map_len}
@@ -61,8 +61,8 @@ invariant_of-self-2 c =
     let few : as_count (with_link (topology_of c.self.inside.rows) c.args.a c.args.b c.args.rel) ≤ 150000 = subst (λ n. n ≤ 150000) (c.as_count_with.ensures c.args.rel ∙ sym same) c.if-as_count_with-gt-MOST_ASES.false in
     let ordered = c.make_ends.ensures.places c.self.invariant.1.ordered in (
       kept-added c.self.inside.rows c.make_ends.new.rows c.put_link.new.rows c.self.inside.order.items c.list-2.new.order.items c.self.inside.links c.args.a c.args.b c.args.rel c.self.invariant.0 c.make_ends.ensures.keeps c.requires.differ c.put_link.ensures
-      (λ j. c.list-2.ensures.listed j ∙ ap (λ t. c.args.b == j || t) (c.list.ensures.listed j ∙ ap (λ (l : List ℕ). c.args.a == j || occurs j l) c.make_ends.ensures.order))
-      c.list-2.ensures.rising few new c.if-self-ge-MOST_LINKS.false,
+          (λ j. c.list-2.ensures.listed j ∙ ap (λ t. c.args.b == j || t) (c.list.ensures.listed j ∙ ap (λ (l : List ℕ). c.args.a == j || occurs j l) c.make_ends.ensures.order))
+          c.list-2.ensures.rising few new c.if-self-ge-MOST_LINKS.false,
       roomy-linked c.make_ends.new.rows c.put_link.new.rows c.args.a c.args.b c.args.rel _ 0 c.self.inside.room c.room_for-self-inside.result c.put_link.ensures (omega (arith, ordered, c.list.ensures.places, c.list-2.ensures.places)) c.room_for-self-inside.ensures,
     )
 

@@ -7,7 +7,7 @@ use Rattle.as_graph.proofs.graph.Graph.build.Goals as goal
 pub invariant_of-result : goal.invariant_of-result
 invariant_of-result c = (
   kept-built c.in_ok-rows.rows c.args.links.now c.in_ok-order.order.items c.len.result c.in_ok-rows.ensures.built c.in_ok-order.ensures.listed c.in_ok-order.ensures.rising
-    (omega (arith, c.in_ok-order.ensures.len, c.in_ok-rows.ensures.few)) c.len.ensures.value c.len.ensures.few,
+      (omega (arith, c.in_ok-order.ensures.len, c.in_ok-rows.ensures.few)) c.len.ensures.value c.len.ensures.few,
   record { ordered = (let fits = c.in_ok-order.order.ok in let same = c.in_ok-order.ensures.len in omega (arith, fits.0, fits.1, same)); paired = λ a b no. absurd (not_some (a, b) no) },
 )
   where

@@ -1,4 +1,4 @@
-use Rattle.std.proofs.Common.{rules, ◌≡◌, ◌≤◌, ◌||◌, ◌==◌, ◌+◌, ℕ, List, length, true, false, nat_eq, is_some, refl, sym, subst, ◌∙◌, ap, arith}
+use Rattle.std.proofs.Common.{rules, ◌≡◌, ◌≤◌, ◌||◌, ◌==◌, ◌+◌, ℕ, List, length, true, false, nat_eq, refl, sym, subst, ◌∙◌, ap, arith}
 use Rattle.std.proofs.lemmas.Bool.{false≢true, false_from_ne_true}
 use Rattle.std.specs.List.Sorted.{IsStrictlyIncreasing}
 use Rattle.indexmap.specs.IndexMap.{get, index_map_len}
@@ -24,7 +24,7 @@ invariant_of-self c =
     let there : is_there c.self.inside.rows c.args.asn ≡ true = has_read c.self.inside.rows c.self.inside.order.items c.self.inside.links c.self.invariant.0 c.args.self.now c.self.inside.room c.self.view_is c.args.asn (get nat_eq c.self.inside.rows c.args.asn) refl ∙ sym c.has.ensures ∙ c.if-has.true in (
       kept-marked-there c.self.inside.rows c.set_mark.new.rows c.self.inside.order.items c.self.inside.links c.args.asn c.set_mark.ensures c.self.invariant.0 there,
       roomy-marked c.self.inside.rows c.set_mark.new.rows c.args.asn true c.set_mark.ensures _ _ c.self.inside.room c.room_with-self-inside.result c.self.invariant.1 c.self.invariant.1.ordered
-      (λ a b is. (room_stays (λ o. is_room_with o c.args.asn) c.self.inside.room (a, b) (sym c.room_with-self-inside.ensures ∙ is)).0),
+          (λ a b is. (room_stays (λ o. is_room_with o c.args.asn) c.self.inside.room (a, b) (sym c.room_with-self-inside.ensures ∙ is)).0),
     )
 
 pub returns-then-has-clause-ok : goal.returns-then-has-clause-ok
@@ -73,10 +73,10 @@ invariant_of-self-2 c =
     let same : length c.make_row.new.order.items ≡ length c.self.inside.order.items = ap (λ (l : List ℕ). length l) order in
     let ordered = c.make_row.ensures.places c.self.invariant.1.ordered in (
       kept-marked-new c.self.inside.rows c.make_row.new.rows c.set_mark-2.new.rows c.self.inside.order.items c.list.new.order.items c.self.inside.links c.args.asn keeps c.set_mark-2.ensures c.self.invariant.0
-      (λ j. c.list.ensures.listed j ∙ ap (λ (l : List ℕ). c.args.asn == j || occurs j l) order) c.list.ensures.rising (omega (arith, len, same, c.list.ensures.len, c.if-len-ge-MOST_ASES.false)),
+          (λ j. c.list.ensures.listed j ∙ ap (λ (l : List ℕ). c.args.asn == j || occurs j l) order) c.list.ensures.rising (omega (arith, len, same, c.list.ensures.len, c.if-len-ge-MOST_ASES.false)),
       roomy-marked c.make_row.new.rows c.set_mark-2.new.rows c.args.asn true c.set_mark-2.ensures _ _ c.self.inside.room c.room_with-self-inside-2.result
-      (roomy-kept c.self.inside.rows c.make_row.new.rows keeps _ c.self.inside.room _ c.self.invariant.1 ordered) (omega (arith, ordered, c.list.ensures.places))
-      (λ a b is. (room_stays (λ o. is_room_with o c.args.asn) c.self.inside.room (a, b) (sym c.room_with-self-inside-2.ensures ∙ is)).0),
+          (roomy-kept c.self.inside.rows c.make_row.new.rows keeps _ c.self.inside.room _ c.self.invariant.1 ordered) (omega (arith, ordered, c.list.ensures.places))
+          (λ a b is. (room_stays (λ o. is_room_with o c.args.asn) c.self.inside.room (a, b) (sym c.room_with-self-inside-2.ensures ∙ is)).0),
     )
 
 pub returns-clause-ok : goal.returns-clause-ok

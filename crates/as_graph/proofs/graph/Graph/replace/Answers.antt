@@ -1,4 +1,4 @@
-use Rattle.std.proofs.Common.{◌≤◌, sym, subst, ap, refl, Some}
+use Rattle.std.proofs.Common.{◌≤◌, subst, refl, Some}
 use Rattle.as_graph.specs.Topology.{Topology, as_count}
 use Rattle.as_graph.specs.Edits.{with_link}
 use Rattle.as_graph.proofs.Kept.{linked_rows}

@@ -1,4 +1,4 @@
-use Rattle.std.proofs.Common.{rules, ◌≡◌, ◌≢◌, ◌≤◌, ◌+◌, ◌-◌, None, refl, arith}
+use Rattle.std.proofs.Common.{rules, ◌≢◌, ◌≤◌, ◌-◌, None, refl, arith}
 use Rattle.as_graph.specs.Topology.{what}
 use Rattle.as_graph.proofs.Kept.{linked_rows}
 use Rattle.as_graph.proofs.LinkWrites.{linked_apart, roomy-taken}
@@ -23,10 +23,10 @@ invariant_of-self c =
     let ne = linked_apart c.self.inside.rows c.args.a c.args.b c.self.invariant.0.graph some in
     let count : 1 ≤ c.self.inside.links = some_links c.self.inside.rows c.self.inside.order.items c.self.inside.links c.args.a c.args.b c.self.invariant.0 some in (
       kept-removed c.self.inside.rows c.take_link.new.rows c.self.inside.order.items c.unlist_lone.new.order.items c.unlist_lone-2.new.order.items c.self.inside.links c.args.a c.args.b c.self.invariant.0 some ne c.take_link.ensures.sets
-      c.unlist_lone.ensures.this c.unlist_lone.ensures.others c.unlist_lone-2.ensures.this c.unlist_lone-2.ensures.others
-      c.unlist_lone-2.ensures.rising (omega (arith, c.unlist_lone.ensures.len, c.unlist_lone-2.ensures.len)) (c.self.inside.links - 1) (omega (arith, count)),
+          c.unlist_lone.ensures.this c.unlist_lone.ensures.others c.unlist_lone-2.ensures.this c.unlist_lone-2.ensures.others
+          c.unlist_lone-2.ensures.rising (omega (arith, c.unlist_lone.ensures.len, c.unlist_lone-2.ensures.len)) (c.self.inside.links - 1) (omega (arith, count)),
       roomy-taken c.self.inside.rows c.take_link.new.rows c.args.a c.args.b c.take_link.ensures.sets c.take_link.ensures.first c.take_link.ensures.second _ _ c.self.inside.room c.self.invariant.1
-      (omega (arith, c.unlist_lone.ensures.places, c.unlist_lone-2.ensures.places)),
+          (omega (arith, c.unlist_lone.ensures.places, c.unlist_lone-2.ensures.places)),
     )
 
 pub returns-clause-ok : goal.returns-clause-ok

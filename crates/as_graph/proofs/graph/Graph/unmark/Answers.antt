@@ -1,4 +1,4 @@
-use Rattle.std.proofs.Common.{sym, ◌∙◌, ◌≡◌, ◌≤◌, false, arith}
+use Rattle.std.proofs.Common.{sym, ◌∙◌, false, arith}
 use Rattle.as_graph.proofs.RowWrites.{none_from}
 use Rattle.as_graph.proofs.Marking.{topology_of-unmarked, roomy-marked}
 use Rattle.as_graph.proofs.GraphEdits.{seen_unmarked, seen_unmarked_none, kept-unmarked}

@@ -3,9 +3,9 @@ use Rattle.std.proofs.lemmas.Bool.{leb-true, false≢true}
 use Rattle.smallvec.proofs.SmallVecLemmas.{items-with_items}
 use Rattle.std.specs.List.{refill}
 use Rattle.as_graph.specs.declared.neighbour.Neighbour.{Neighbour}
-use Rattle.as_graph.specs.Rows.{IsRising, SetsRel}
+use Rattle.as_graph.specs.Rows.{SetsRel}
 use Rattle.as_graph.proofs.RowLemmas.{rel_in-gap}
-use Rattle.as_graph.proofs.RowEdits.{sets_only_set, sorted_set, sets_only_insert, sorted_insert}
+use Rattle.as_graph.proofs.RowEdits.{sets_only_set, sets_only_insert}
 use Rattle.as_graph.proofs.row.Row.put.Goals as goal
 
 pub unreachable-requires : goal.unreachable-requires
