@@ -1,5 +1,5 @@
 -- The graph in which the named ASes are marked.
-use Rattle.std.proofs.Common.{◌≡◌, ℕ, Bool, true, false, ◌||◌, ◌==◌, List, [], ◌∷◌, refl, sym, ap, ◌∙◌}
+use Rattle.std.proofs.Common.{◌≡◌, ℕ, Bool, true, false, ◌||◌, ◌==◌, List, [], ◌∷◌, None, refl, sym, ap, ◌∙◌}
 use Rattle.std.proofs.lemmas.Cmp.{nat_cmp_total}
 use Rattle.std.specs.Ordering.{nat_cmp, eq_by_cmp}
 use Rattle.std.specs.FinSet as set
@@ -18,6 +18,10 @@ pub links-marked : (g : Topology) (names : List ℕ) → (marked g names).links 
 links-marked g [] = refl
 links-marked g (a ∷ names) = links-marked (with_mark g a) names
 
+room-marked : (g : Topology) (names : List ℕ) → (marked g names).room ≡ g.room
+room-marked g [] = refl
+room-marked g (a ∷ names) = room-marked (with_mark g a) names
+
 is_mark : (q a : ℕ) → eq_by_cmp nat_cmp q a ≡ (a == q)
 is_mark q a = unsigned_tied q a ∙ nat_eq_equiv.symm q a
 
@@ -33,11 +37,11 @@ or_false true = refl
 or_false false = refl
 
 -- the marks are those of any list with the same numbers
-pub marked_are : (links : LinkMap) (names others : List ℕ) → ((q : ℕ) → occurs q others ≡ occurs q names) → marked (unmarked links) names ≡ record { links = links; marked = set.from_list others }
+pub marked_are : (links : LinkMap) (names others : List ℕ) → ((q : ℕ) → occurs q others ≡ occurs q names) → marked (unmarked links) names ≡ record { links = links; marked = set.from_list others; room = None }
 marked_are links names others alike =
     let marks : (marked (unmarked links) names).marked ≡ set.from_list others = set.same_set nat_cmp_total set.nat_cmp-IsAntisymmetric _ _ (λ q.
     contains-marked (unmarked links) names q
     ∙ ap (λ b. occurs q names || b) (set.contains-empty nat_cmp q)
     ∙ or_false (occurs q names)
     ∙ sym (set.contains-from_list_nat others q ∙ alike q)) in
-    λ i. record { links = links-marked (unmarked links) names i; marked = marks i }
+    λ i. record { links = links-marked (unmarked links) names i; marked = marks i; room = room-marked (unmarked links) names i }

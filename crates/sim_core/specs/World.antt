@@ -1,5 +1,5 @@
 -- A world: what a simulation rests on.
-use Rattle.std.specs.Prelude.{ℕ, Bool, ◌&&◌, nat_le, List, map, ◌++◌, unwrap_or}
+use Rattle.std.specs.Prelude.{ℕ, Bool, ◌&&◌, None, nat_le, List, map, ◌++◌, unwrap_or}
 use Rattle.std.specs.Ordering.{nat_cmp}
 use Rattle.std.specs.FinMap as fin
 use Rattle.std.specs.FinSet as set
@@ -29,9 +29,9 @@ pub record World : Type 0 where
 abbrev pub leakers : Plan → List ℕ
 leakers plan = map (λ e. e.1) (fin.keys plan.leakers)
 
--- the graph of a world: its links, and the ASes that an announcement, a leak or a policy names, which are there without a link too (own rule)
+-- the graph of a world: its links, and the ASes that an announcement, a leak or a policy names, which are there without a link too; it has no room (own rule)
 abbrev pub topology : World → Topology
-topology w = record { links = w.links; marked = set.from_list (announcers_of w.plan ++ (leakers w.plan ++ fin.keys w.kinds)) }
+topology w = record { links = w.links; marked = set.from_list (announcers_of w.plan ++ (leakers w.plan ++ fin.keys w.kinds)); room = None }
 
 -- an AS of the world (own rule)
 abbrev pub has_as : World → ℕ → Bool

@@ -1,5 +1,5 @@
 //! The graph of a world: its links, and the ASes that the scenario names.
-ghost use Rattle.std.specs.Prelude.{◌≡◌, ◌≤◌, ◌∷◌, ◌++◌, [], ℕ, map, filter, flat_map, IfOk, OnOk, IfErr};
+ghost use Rattle.std.specs.Prelude.{◌≡◌, ◌≤◌, ◌∷◌, ◌++◌, [], ℕ, map, filter, flat_map, None, IfOk, OnOk, IfErr};
 ghost use Rattle.as_graph.specs.Topology.{as_count};
 ghost use Rattle.scenario_text.specs.declared.scenario.Announcement.{Announcement as AnAnnouncement};
 ghost use Rattle.sim_core.specs.Loaded.{is_other as is_other_policy, names_in};
@@ -12,8 +12,9 @@ use policy_kinds::Kind;
 use scenario_text::{Announcement, Leakers, Scenario};
 use std::alloc::Global;
 
-// Marks an AS.
+// Marks an AS of a graph without room.
 fn mark(graph: &mut Graph, asn: Asn) -> Result<(), LoadError>
+    requires { graph.old.room ≡ None }
     ensures ok { OnOk result (graph.new ≡ marked graph.old (asn ∷ [])) }
     ensures few { OnOk result (as_count graph.old ≤ 150000 → as_count graph.new ≤ 150000) }
     ensures refused { IfErr result (IsMarksRefusal graph.old (asn ∷ [])) }
@@ -26,8 +27,9 @@ fn mark(graph: &mut Graph, asn: Asn) -> Result<(), LoadError>
     }
 }
 
-// Marks the ASes.
+// Marks the ASes of a graph without room.
 fn mark_all(graph: &mut Graph, names: &[Asn]) -> Result<(), LoadError>
+    requires { graph.old.room ≡ None }
     ensures ok { OnOk result (graph.new ≡ marked graph.old names.now) }
     ensures few { OnOk result (as_count graph.old ≤ 150000 → as_count graph.new ≤ 150000) }
     ensures refused { IfErr result (IsMarksRefusal graph.old names.now) }
