@@ -1,5 +1,5 @@
 -- The path of an offer.
-use Rattle.std.proofs.Common.{◌≡◌, ℕ, Option, Some, None, ◌∷◌, sym, ◌∙◌, ap}
+use Rattle.std.proofs.Common.{◌≡◌, ℕ, Option, Some, None, ◌∷◌, refl, sym, ap}
 use Rattle.net_names.specs.declared.routes.Rel.{Rel}
 use Rattle.net_names.specs.declared.routes.State.{State}
 use Rattle.policy_laws.specs.Policy.{Policy}
@@ -7,10 +7,9 @@ use Rattle.stability_laws.specs.declared.entry.Entry.{Entry}
 use Rattle.stability_laws.specs.Offers.{Offer, offer_given, passes, view_of}
 use Rattle.stability_laws.proofs.Local.{given_when}
 
-pub path_given : (s r : Policy) (st : ℕ → State) (n a : ℕ) (what : Option Rel) (held : Option Entry) (e : Entry) (o : Offer) → held ≡ Some e → offer_given s r st n a what held ≡ Some o → o.entry.path ≡ a ∷ e.path
-path_given s r st n a None held e o is made = cc
-path_given s r st n a (Some from) None e o is made = cc
-path_given s r st n a (Some from) (Some d) e o is made =
-    let offered = given_when (passes s.exports r a from d (view_of s.marks st n from d)) _ o made in
-    let same : d ≡ e = cc in
-    sym (ap (λ (t : Offer). t.entry.path) offered) ∙ ap (λ (t : Entry). a ∷ t.path) same
+pub path_given : (s r : Policy) (st : ℕ → State) (n a : ℕ) (what : Option Rel) (held : Option Entry) (o : Offer) → offer_given s r st n a what held ≡ Some o → (e : Entry) × (held ≡ Some e) × (o.entry.path ≡ a ∷ e.path)
+path_given s r st n a None held o made = cc
+path_given s r st n a (Some from) None o made = cc
+path_given s r st n a (Some from) (Some e) o made =
+    let offered = given_when (passes s.exports r a from e (view_of s.marks st n from e)) _ o made in
+    (e, refl, sym (ap (λ (t : Offer). t.entry.path) offered))

@@ -3,7 +3,7 @@ ghost use Rattle.stability_laws.specs.OfferPaths.{OfferPath};
 
 use policy_laws::RoutePolicy;
 
-/// The path of an offer is the receiver and then the path that the giver holds.
+/// An offer is of an entry that the giver holds, and its path is the receiver and then that entry's path.
 pub fn offer_path<P: RoutePolicy>()
     ensures { OfferPath P.meaning }
 {}

@@ -1,0 +1,12 @@
+pub mod QueueLemmas
+pub mod TurnLemmas
+pub mod Befores
+pub mod Parts
+pub mod Working
+pub mod Turning
+pub mod Loops
+pub mod Going
+pub mod Ways
+pub mod RoomLemmas
+pub mod ChosenLemmas
+pub mod LeftLemmas

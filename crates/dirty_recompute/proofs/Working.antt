@@ -1,0 +1,284 @@
+-- Turns over two queues: each keeps what holds between turns. Nothing here knows what `right` is.
+use Rattle.std.proofs.Common.{◌≡◌, ◌≢◌, ◌⊎◌, inl, inr, ℕ, Bool, true, false, ◌==◌, ◌||◌, true≢false, Option, Some, None, List, [], ◌∷◌, refl, sym, ◌∙◌, ap, subst}
+use Rattle.std.proofs.lemmas.Bool.{cases_eq, eqb-true, eq-eqb}
+use Rattle.net_names.specs.declared.routes.Rel.{Rel}
+use Rattle.net_names.specs.declared.routes.Rel.TheVariants.{Customer, Provider}
+use Rattle.net_names.specs.Numbers.{occurs, IsDistinct}
+use Rattle.stability_laws.specs.declared.entry.Entry.{Entry}
+use Rattle.stability_laws.specs.Steps.{low}
+use Rattle.dirty_recompute.specs.Exact.{IsCounted}
+use Rattle.dirty_recompute.specs.Work.{IsInOrder, IsUpWork, IsWholeWork}
+
+-- one turn upwards
+pub record IsUpStep (LowRight Right : (ℕ → Option Entry) → ℕ → Type 0) (what : ℕ → ℕ → Option Rel) (a : ℕ) (f : ℕ → Option Entry) (overlay up whole : ℕ → Bool) (g : ℕ → Option Entry) (overlay' up' whole' : ℕ → Bool) : Type 0 where
+  pub others : (b : ℕ) → b ≢ a → g b ≡ f b
+  pub changed_others : (b : ℕ) → b ≢ a → overlay' b ≡ overlay b
+  pub settled : ((g a ≡ f a) × (overlay' a ≡ overlay a)) ⊎ ((low (g a) ≢ low (f a)) × (overlay' a ≡ true) × (low (g a) ≡ g a))
+  pub now_low : LowRight g a
+  pub now_right : whole' a ≡ false → Right g a
+  pub stay_low : (b : ℕ) → b ≢ a → up' b ≡ false → (up b ≡ false) × (LowRight f b → LowRight g b)
+  pub stay : (b : ℕ) → b ≢ a → up' b ≡ false → whole' b ≡ false → (whole b ≡ false) × (Right f b → Right g b)
+  pub from : (b : ℕ) → up' b ≡ true → (b ≢ a) × ((up b ≡ true) ⊎ ((what b a ≡ Some Customer) × (overlay' a ≡ true)))
+  pub from_whole : (b : ℕ) → whole' b ≡ true → (whole b ≡ true) ⊎ ((b ≡ a) ⊎ ((r : Rel) × (what b a ≡ Some r) × (overlay' a ≡ true)))
+
+-- one turn downwards
+pub record IsWholeStep (LowRight Right : (ℕ → Option Entry) → ℕ → Type 0) (what : ℕ → ℕ → Option Rel) (a : ℕ) (f : ℕ → Option Entry) (overlay whole : ℕ → Bool) (g : ℕ → Option Entry) (overlay' whole' : ℕ → Bool) : Type 0 where
+  pub others : (b : ℕ) → b ≢ a → g b ≡ f b
+  pub changed_others : (b : ℕ) → b ≢ a → overlay' b ≡ overlay b
+  pub settled : ((g a ≡ f a) × (overlay' a ≡ overlay a)) ⊎ ((g a ≢ f a) × (overlay' a ≡ true))
+  pub low_kept : low (g a) ≡ low (f a)
+  pub now_low : LowRight g a
+  pub now_right : Right g a
+  pub stay_low : (b : ℕ) → b ≢ a → LowRight f b → LowRight g b
+  pub stay : (b : ℕ) → b ≢ a → whole' b ≡ false → (whole b ≡ false) × (Right f b → Right g b)
+  pub from : (b : ℕ) → whole' b ≡ true → (b ≢ a) × ((whole b ≡ true) ⊎ ((what b a ≡ Some Provider) × (overlay' a ≡ true)))
+
+both : (b : Bool) → b ≡ true → b ≡ false → ⊥
+both b t f = true≢false (sym t ∙ f)
+
+either : (b : Bool) → (b ≡ true) ⊎ (b ≡ false)
+either true = inl refl
+either false = inr refl
+
+occurs_cases : (b a : ℕ) (xs : List ℕ) → occurs b (a ∷ xs) ≡ true → (a ≡ b) ⊎ (occurs b xs ≡ true)
+occurs_cases b a xs e = by (a == b) refl e
+  where
+    by : (t : Bool) → (a == b) ≡ t → (t || occurs b xs) ≡ true → (a ≡ b) ⊎ (occurs b xs ≡ true)
+    by true is e = inl (eqb-true a b is)
+    by false is e = inr e
+
+occurs_neither : (b a : ℕ) (xs : List ℕ) → b ≢ a → occurs b xs ≡ false → occurs b (a ∷ xs) ≡ false
+occurs_neither b a xs ne e = by (a == b) refl
+  where
+    by : (t : Bool) → (a == b) ≡ t → (t || occurs b xs) ≡ false
+    by true is = absurd (ne (sym (eqb-true a b is)))
+    by false is = e
+
+occurs_here : (a : ℕ) (xs : List ℕ) → occurs a (a ∷ xs) ≡ true
+occurs_here a xs = ap (λ t. t || occurs a xs) (eq-eqb a a refl)
+
+occurs_there : (b a : ℕ) (xs : List ℕ) → occurs b xs ≡ true → occurs b (a ∷ xs) ≡ true
+occurs_there b a xs e = by (a == b)
+  where
+    by : (t : Bool) → (t || occurs b xs) ≡ true
+    by true = refl
+    by false = e
+
+not_later : (b a : ℕ) (xs : List ℕ) → occurs b (a ∷ xs) ≡ false → (b ≢ a) × (occurs b xs ≡ false)
+not_later b a xs e = (away, rest)
+  where
+    away : b ≢ a
+    away x = both (occurs b (a ∷ xs)) (subst (λ t. occurs b (t ∷ xs) ≡ true) x (occurs_here b xs)) e
+
+    rest : occurs b xs ≡ false
+    rest = by (occurs b xs) refl
+      where
+        by : (t : Bool) → occurs b xs ≡ t → occurs b xs ≡ false
+        by true is = absurd (both (occurs b (a ∷ xs)) (occurs_there b a xs is) e)
+        by false is = is
+
+-- a turn of one of the first keeps the order, if only later ones are put in
+pub in_order : (le : ℕ → ℕ → Type 0) → ((x y z : ℕ) → le x y → le y z → le x z) → (a : ℕ) (queue queue' : ℕ → Bool) (taken : List ℕ) → queue a ≡ true → ((b : ℕ) → queue b ≡ true → le a b) →
+    ((b : ℕ) → queue' b ≡ true → (b ≢ a) × ((queue b ≡ true) ⊎ (le a b × (le b a → ⊥)))) → IsInOrder le queue taken → IsInOrder le queue' (a ∷ taken)
+in_order le trans a queue queue' taken is least from was = record { ahead = ahead; fresh = fresh; distinct = (was.fresh a is, was.distinct) }
+  where
+    after : (b : ℕ) → queue' b ≡ true → le a b
+    after b q = elim (from b q).1 [ inl old ↦ least b old | inr new ↦ new.0 ]
+
+    ahead : (b c : ℕ) → queue' b ≡ true → occurs c (a ∷ taken) ≡ true → le c b
+    ahead b c q t = elim (occurs_cases c a taken t) [
+      | inl e ↦ subst (λ x. le x b) e (after b q)
+      | inr old ↦ trans c a b (was.ahead a c is old) (after b q)
+    ]
+
+    fresh : (b : ℕ) → queue' b ≡ true → occurs b (a ∷ taken) ≡ false
+    fresh b q = occurs_neither b a taken (from b q).0 (by (from b q).1 (occurs b taken) refl)
+      where
+        by : (queue b ≡ true) ⊎ (le a b × (le b a → ⊥)) → (x : Bool) → occurs b taken ≡ x → occurs b taken ≡ false
+        by (inl old) x e = was.fresh b old
+        by (inr new) true e = absurd (new.1 (was.ahead a b is e))
+        by (inr new) false e = e
+
+-- what is counted stays so, as the overlay grows
+counted_on : (what : ℕ → ℕ → Option Rel) (touched overlay overlay' : ℕ → Bool) (b : ℕ) → ((c : ℕ) → overlay c ≡ true → overlay' c ≡ true) → IsCounted what touched overlay b → IsCounted what touched overlay' b
+counted_on what touched o o' b grows (inl t) = inl t
+counted_on what touched o o' b grows (inr (c, r, linked, is)) = inr (c, r, linked, grows c is)
+
+module _ (LowRight Right : (ℕ → Option Entry) → ℕ → Type 0) (le : ℕ → ℕ → Type 0) (trans : (x y z : ℕ) → le x y → le y z → le x z) (what : ℕ → ℕ → Option Rel) (touched : ℕ → Bool) (table : ℕ → Option Entry) where
+  -- nothing was done yet
+  pub up_start : ((b : ℕ) → touched b ≡ false → Right table b) → ((b : ℕ) → Right table b → LowRight table b) → IsUpWork LowRight Right le what touched table table (λ _. false) touched (λ _. false) []
+  up_start right lower = record {
+    low_right = λ b n. lower b (right b n);
+    right = λ b n _. right b n;
+    same = λ b _. refl;
+    differs = λ b t. absurd (true≢false (sym t));
+    put = λ b t. absurd (true≢false (sym t));
+    put_low = λ b t. absurd (true≢false (sym t));
+    order = record { ahead = λ b c q t. absurd (true≢false (sym t)); fresh = λ b q. refl; distinct = tt };
+    queued = λ b t. inl t;
+    queued_whole = λ b t. absurd (true≢false (sym t));
+    done = λ b t. absurd (true≢false (sym t));
+  }
+
+  module _ (above : (a b : ℕ) → what b a ≡ Some Customer → le a b × (le b a → ⊥)) (a : ℕ) (f : ℕ → Option Entry) (overlay up whole : ℕ → Bool) (taken : List ℕ) (g : ℕ → Option Entry) (overlay' up' whole' : ℕ → Bool) where
+    pub up_step : up a ≡ true → ((b : ℕ) → up b ≡ true → le a b) → IsUpWork LowRight Right le what touched table f overlay up whole taken → IsUpStep LowRight Right what a f overlay up whole g overlay' up' whole' → IsUpWork LowRight Right le what touched table g overlay' up' whole' (a ∷ taken)
+    up_step is least was step = record {
+      low_right = λ b n. elim (cases_eq b a) [
+        | inl e ↦ subst (λ t. LowRight g t) (sym e) step.now_low
+        | inr ne ↦ (step.stay_low b ne n).1 (was.low_right b (step.stay_low b ne n).0)
+      ];
+      right = λ b n m. elim (cases_eq b a) [
+        | inl e ↦ subst (λ t. Right g t) (sym e) (step.now_right (ap whole' (sym e) ∙ m))
+        | inr ne ↦ (step.stay b ne n m).1 (was.right b (step.stay_low b ne n).0 (step.stay b ne n m).0)
+      ];
+      same = λ b n. elim (cases_eq b a) [
+        | inl e ↦ subst (λ t. g t ≡ table t) (sym e) (same_here step.settled (ap overlay' (sym e) ∙ n))
+        | inr ne ↦ step.others b ne ∙ was.same b (sym (step.changed_others b ne) ∙ n)
+      ];
+      differs = λ b t. elim (cases_eq b a) [
+        | inl e ↦ subst (λ x. low (g x) ≢ low (table x)) (sym e) (differs_here step.settled (ap overlay' (sym e) ∙ t))
+        | inr ne ↦ λ x. was.differs b (sym (step.changed_others b ne) ∙ t) (ap low (sym (step.others b ne)) ∙ x)
+      ];
+      put_low = λ b t. elim (cases_eq b a) [
+        | inl e ↦ subst (λ x. low (g x) ≡ g x) (sym e) (low_here step.settled (ap overlay' (sym e) ∙ t))
+        | inr ne ↦ ap low (step.others b ne) ∙ was.put_low b (sym (step.changed_others b ne) ∙ t) ∙ sym (step.others b ne)
+      ];
+      put = λ b t. elim (cases_eq b a) [
+        | inl e ↦ subst (λ x. occurs x (a ∷ taken) ≡ true) (sym e) (occurs_here a taken)
+        | inr ne ↦ occurs_there b a taken (was.put b (sym (step.changed_others b ne) ∙ t))
+      ];
+      order = in_order le trans a up up' taken is least (λ b q. ((step.from b q).0, later b (step.from b q).1)) was.order;
+      queued = λ b q. queued b (step.from b q).1;
+      queued_whole = λ b q. queued_whole b (step.from_whole b q);
+      done = λ b t. elim (occurs_cases b a taken t) [
+        | inl e ↦ subst (λ x. IsCounted what touched overlay' x) e (on a (was.queued a is))
+        | inr old ↦ on b (was.done b old)
+      ];
+    }
+      where
+        grows : (c : ℕ) → overlay c ≡ true → overlay' c ≡ true
+        grows c t = elim (cases_eq c a) [
+          | inl e ↦ elim step.settled [ inl s ↦ ap overlay' e ∙ s.1 ∙ ap overlay (sym e) ∙ t | inr s ↦ ap overlay' e ∙ s.1 ]
+          | inr ne ↦ step.changed_others c ne ∙ t
+        ]
+
+        on : (b : ℕ) → IsCounted what touched overlay b → IsCounted what touched overlay' b
+        on b c = counted_on what touched overlay overlay' b grows c
+
+        not_put : overlay a ≡ false
+        not_put = by (overlay a) refl
+          where
+            by : (x : Bool) → overlay a ≡ x → overlay a ≡ false
+            by true e = absurd (both (occurs a taken) (was.put a e) (was.order.fresh a is))
+            by false e = e
+
+        same_here : ((g a ≡ f a) × (overlay' a ≡ overlay a)) ⊎ ((low (g a) ≢ low (f a)) × (overlay' a ≡ true) × (low (g a) ≡ g a)) → overlay' a ≡ false → g a ≡ table a
+        same_here (inl s) n = s.0 ∙ was.same a not_put
+        same_here (inr s) n = absurd (both (overlay' a) s.1 n)
+
+        differs_here : ((g a ≡ f a) × (overlay' a ≡ overlay a)) ⊎ ((low (g a) ≢ low (f a)) × (overlay' a ≡ true) × (low (g a) ≡ g a)) → overlay' a ≡ true → low (g a) ≢ low (table a)
+        differs_here (inl s) t = absurd (both (overlay' a) t (s.1 ∙ not_put))
+        differs_here (inr s) t = λ x. s.0 (x ∙ ap low (sym (was.same a not_put)))
+
+        low_here : ((g a ≡ f a) × (overlay' a ≡ overlay a)) ⊎ ((low (g a) ≢ low (f a)) × (overlay' a ≡ true) × (low (g a) ≡ g a)) → overlay' a ≡ true → low (g a) ≡ g a
+        low_here (inl s) t = absurd (both (overlay' a) t (s.1 ∙ not_put))
+        low_here (inr s) t = s.2
+
+        later : (b : ℕ) → (up b ≡ true) ⊎ ((what b a ≡ Some Customer) × (overlay' a ≡ true)) → (up b ≡ true) ⊎ (le a b × (le b a → ⊥))
+        later b (inl q) = inl q
+        later b (inr (link, t)) = inr (above a b link)
+
+        queued : (b : ℕ) → (up b ≡ true) ⊎ ((what b a ≡ Some Customer) × (overlay' a ≡ true)) → IsCounted what touched overlay' b
+        queued b (inl q) = on b (was.queued b q)
+        queued b (inr (link, t)) = inr (a, Customer, link, t)
+
+        queued_whole : (b : ℕ) → (whole b ≡ true) ⊎ ((b ≡ a) ⊎ ((r : Rel) × (what b a ≡ Some r) × (overlay' a ≡ true))) → IsCounted what touched overlay' b
+        queued_whole b (inl q) = on b (was.queued_whole b q)
+        queued_whole b (inr (inl e)) = subst (λ x. IsCounted what touched overlay' x) (sym e) (on a (was.queued a is))
+        queued_whole b (inr (inr (r, link, t))) = inr (a, r, link, t)
+
+-- with nobody left to take a turn upwards, the way downwards begins
+pub turn : (LowRight Right : (ℕ → Option Entry) → ℕ → Type 0) (le ge : ℕ → ℕ → Type 0) (what : ℕ → ℕ → Option Rel) (touched : ℕ → Bool) (table : ℕ → Option Entry) (f : ℕ → Option Entry) (overlay up whole : ℕ → Bool) (taken : List ℕ) → ((b : ℕ) → up b ≡ false) →
+    IsUpWork LowRight Right le what touched table f overlay up whole taken → IsWholeWork LowRight Right ge what touched table f overlay whole taken []
+turn LowRight Right le ge what touched table f overlay up whole taken empty was = record {
+  low_right = λ b. was.low_right b (empty b);
+  right = λ b n. was.right b (empty b) n;
+  same = was.same;
+  differs = λ b t x. was.differs b t (ap low x);
+  differs_low = λ b t _. was.differs b t;
+  put_low = λ b t _. was.put_low b t;
+  order = record { ahead = λ b c q t. absurd (true≢false (sym t)); fresh = λ b q. refl; distinct = tt };
+  queued = was.queued_whole;
+  done_up = was.done;
+  done = λ b t. absurd (true≢false (sym t));
+  distinct_up = was.order.distinct;
+}
+
+module _ (LowRight Right : (ℕ → Option Entry) → ℕ → Type 0) (le : ℕ → ℕ → Type 0) (trans : (x y z : ℕ) → le x y → le y z → le x z) (what : ℕ → ℕ → Option Rel) (touched : ℕ → Bool) (table : ℕ → Option Entry) where
+  module _ (below : (a b : ℕ) → what b a ≡ Some Provider → le a b × (le b a → ⊥)) (a : ℕ) (f : ℕ → Option Entry) (overlay whole : ℕ → Bool) (earlier taken : List ℕ) (g : ℕ → Option Entry) (overlay' whole' : ℕ → Bool) where
+    pub whole_step : whole a ≡ true → ((b : ℕ) → whole b ≡ true → le a b) → IsWholeWork LowRight Right le what touched table f overlay whole earlier taken → IsWholeStep LowRight Right what a f overlay whole g overlay' whole' → IsWholeWork LowRight Right le what touched table g overlay' whole' earlier (a ∷ taken)
+    whole_step is least was step = record {
+      low_right = λ b. elim (cases_eq b a) [
+        | inl e ↦ subst (λ t. LowRight g t) (sym e) step.now_low
+        | inr ne ↦ step.stay_low b ne (was.low_right b)
+      ];
+      right = λ b n. elim (cases_eq b a) [
+        | inl e ↦ subst (λ t. Right g t) (sym e) step.now_right
+        | inr ne ↦ (step.stay b ne n).1 (was.right b (step.stay b ne n).0)
+      ];
+      same = λ b n. elim (cases_eq b a) [
+        | inl e ↦ subst (λ t. g t ≡ table t) (sym e) (same_here step.settled (ap overlay' (sym e) ∙ n))
+        | inr ne ↦ step.others b ne ∙ was.same b (sym (step.changed_others b ne) ∙ n)
+      ];
+      differs = λ b t. elim (cases_eq b a) [
+        | inl e ↦ subst (λ x. g x ≢ table x) (sym e) (differs_here step.settled (ap overlay' (sym e) ∙ t))
+        | inr ne ↦ λ x. was.differs b (sym (step.changed_others b ne) ∙ t) (sym (step.others b ne) ∙ x)
+      ];
+      differs_low = λ b t n x.
+          let later = not_later b a taken n in
+          was.differs_low b (sym (step.changed_others b later.0) ∙ t) later.1 (ap low (sym (step.others b later.0)) ∙ x);
+      put_low = λ b t n.
+          let later = not_later b a taken n in
+          ap low (step.others b later.0) ∙ was.put_low b (sym (step.changed_others b later.0) ∙ t) later.1 ∙ sym (step.others b later.0);
+      order = in_order le trans a whole whole' taken is least (λ b q. ((step.from b q).0, later b (step.from b q).1)) was.order;
+      queued = λ b q. queued b (step.from b q).1;
+      done_up = λ b t. on b (was.done_up b t);
+      done = λ b t. elim (occurs_cases b a taken t) [
+        | inl e ↦ subst (λ x. IsCounted what touched overlay' x) e (on a (was.queued a is))
+        | inr old ↦ on b (was.done b old)
+      ];
+      distinct_up = was.distinct_up;
+    }
+      where
+        grows : (c : ℕ) → overlay c ≡ true → overlay' c ≡ true
+        grows c t = elim (cases_eq c a) [
+          | inl e ↦ elim step.settled [ inl s ↦ ap overlay' e ∙ s.1 ∙ ap overlay (sym e) ∙ t | inr s ↦ ap overlay' e ∙ s.1 ]
+          | inr ne ↦ step.changed_others c ne ∙ t
+        ]
+
+        on : (b : ℕ) → IsCounted what touched overlay b → IsCounted what touched overlay' b
+        on b c = counted_on what touched overlay overlay' b grows c
+
+        same_here : ((g a ≡ f a) × (overlay' a ≡ overlay a)) ⊎ ((g a ≢ f a) × (overlay' a ≡ true)) → overlay' a ≡ false → g a ≡ table a
+        same_here (inl s) n = s.0 ∙ was.same a (sym s.1 ∙ n)
+        same_here (inr s) n = absurd (both (overlay' a) s.1 n)
+
+        differs_here : ((g a ≡ f a) × (overlay' a ≡ overlay a)) ⊎ ((g a ≢ f a) × (overlay' a ≡ true)) → overlay' a ≡ true → g a ≢ table a
+        differs_here (inl s) t x = was.differs a (sym s.1 ∙ t) (sym s.0 ∙ x)
+        differs_here (inr s) t x = elim (either (overlay a)) [
+          | inl old ↦ was.differs_low a old (was.order.fresh a is) (sym step.low_kept ∙ ap low x)
+          | inr new ↦ s.0 (x ∙ sym (was.same a new))
+        ]
+
+        later : (b : ℕ) → (whole b ≡ true) ⊎ ((what b a ≡ Some Provider) × (overlay' a ≡ true)) → (whole b ≡ true) ⊎ (le a b × (le b a → ⊥))
+        later b (inl q) = inl q
+        later b (inr (link, t)) = inr (below a b link)
+
+        queued : (b : ℕ) → (whole b ≡ true) ⊎ ((what b a ≡ Some Provider) × (overlay' a ≡ true)) → IsCounted what touched overlay' b
+        queued b (inl q) = on b (was.queued b q)
+        queued b (inr (link, t)) = inr (a, Provider, link, t)
+
+-- an AS of the overlay that changes downwards held nothing: so each AS of the overlay is given an entry at most once
+pub put_once : (LowRight Right : (ℕ → Option Entry) → ℕ → Type 0) (le : ℕ → ℕ → Type 0) (what : ℕ → ℕ → Option Rel) (touched : ℕ → Bool) (table f : ℕ → Option Entry) (overlay whole : ℕ → Bool) (earlier taken : List ℕ) (a : ℕ) →
+    IsWholeWork LowRight Right le what touched table f overlay whole earlier taken → whole a ≡ true → overlay a ≡ true → low (f a) ≡ None → f a ≡ None
+put_once LowRight Right le what touched table f overlay whole earlier taken a was q o none = sym (was.put_low a o (was.order.fresh a q)) ∙ none

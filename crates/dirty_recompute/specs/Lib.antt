@@ -1,0 +1,9 @@
+pub mod Exact
+pub mod Steps
+pub mod Resources
+pub mod Queues
+pub mod Turns
+pub mod Work
+pub mod NewRanks
+pub mod Giving
+pub mod Spared

@@ -1,0 +1,136 @@
+//! An AS is given an entry, or none. Room is made first, so that after a refusal all ASes hold what
+//! they held.
+
+ghost use Rattle.std.specs.Prelude.{◌≡◌, ◌≢◌, ℕ, ◌<◌, ◌≤◌, Some, None, IsTrue, IsSome, true, false, OnOk, OnErr, IfOk};
+ghost use Rattle.path_pool.specs.Pool.{SamePaths, limit_of, spare_of};
+ghost use Rattle.stability_laws.specs.Book.{policy_at};
+ghost use Rattle.route_choice.specs.declared.held.Held.{Held as AHeld};
+ghost use Rattle.route_choice.specs.Choices.{named_by};
+ghost use Rattle.route_choice.specs.Resources.{CanStep, IsNameable};
+ghost use Rattle.route_choice.specs.Routings.{routing_of, seeds_of};
+ghost use Rattle.route_choice.specs.Tables.{change_at, joined, overlay_uses};
+ghost use Rattle.dirty_recompute.specs.Resources.{CanTurn, IsKept, has_change};
+ghost use Rattle.dirty_recompute.specs.Giving.{GivesUpNone, IsGiven, SameHeld};
+
+use net_names::{Asn, NoMemory};
+use path_pool::PathPool;
+use policy_laws::RoutePolicy;
+use route_choice::{Choice, ChoiceNear, Held, Overlay, SeedIds, Table, settle_near};
+use stability_laws::Book;
+
+/// What an AS holds, with the changes in place, sought first at a place.
+pub(crate) fn held_near(table: &Table, overlay: &Overlay, asn: Asn, place: usize) -> Option<Held>
+    ensures { result ≡ joined table.now overlay.now asn }
+{
+    match overlay.get_near(asn, place) {
+        Some(change) => change,
+        None => table.get_near(asn, place),
+    }
+}
+
+// Makes room for one more cell. The paths and the holds stay.
+fn reserve_cell(pool: &mut PathPool) -> Result<(), NoMemory>
+    ensures same { SamePaths pool.old pool.new }
+    ensures limit { limit_of pool.new ≡ limit_of pool.old }
+    ensures room { OnOk result (0 < spare_of pool.new) }
+{
+    match pool.reserve(1) {
+        Ok(()) => Ok(()),
+        Err(_) => Err(NoMemory),
+    }
+}
+
+// Makes room for one more entry. All ASes hold what they held.
+fn make_room(
+    seeds: &SeedIds,
+    pool: &mut PathPool,
+    table: &Table,
+    overlay: &mut Overlay,
+) -> Result<(), NoMemory>
+    requires { CanTurn pool.old seeds.now table.now overlay.old }
+    ensures can { OnOk result (CanStep pool.new seeds.now table.now overlay.new 1) }
+    ensures same { SameHeld pool.old pool.new table.now overlay.old overlay.new }
+    ensures paths { SamePaths pool.old pool.new }
+    ensures kept { IsKept pool.old pool.new seeds.now overlay.old overlay.new }
+{
+    overlay.room(1)?;
+    reserve_cell(pool)?;
+    Ok(())
+}
+
+// Gives an AS the entry that a choice names, which is its seed's or an offer's.
+fn give_entry<P: RoutePolicy>(
+    book: &Book<P>,
+    seeds: &SeedIds,
+    pool: &mut PathPool,
+    table: &Table,
+    overlay: &mut Overlay,
+    asn: Asn,
+    place: usize,
+    chosen: ChoiceNear,
+) -> Result<bool, NoMemory>
+    requires can { CanTurn pool.old seeds.now table.now overlay.old }
+    requires choice { IsNameable seeds.now table.now overlay.old asn chosen.choice }
+    requires some { IsSome (named_by (λ n. P.meaning (policy_at book.now n)) (seeds_of pool.old seeds.now asn) (routing_of pool.old table.now overlay.old) asn chosen.choice) }
+    requires kept { GivesUpNone pool.old table.now overlay.old asn (named_by (λ n. P.meaning (policy_at book.now n)) (seeds_of pool.old seeds.now asn) (routing_of pool.old table.now overlay.old) asn chosen.choice) }
+    ensures given { IfOk result (IsGiven pool.old pool.new table.now overlay.old overlay.new asn (named_by (λ n. P.meaning (policy_at book.now n)) (seeds_of pool.old seeds.now asn) (routing_of pool.old table.now overlay.old) asn chosen.choice)) }
+    ensures err { OnErr result (SameHeld pool.old pool.new table.now overlay.old overlay.new) }
+    ensures kept { IsKept pool.old pool.new seeds.now overlay.old overlay.new }
+{
+    make_room(seeds, pool, table, overlay)?;
+    Ok(settle_near(book, seeds, pool, table, overlay, asn, place, chosen))
+}
+
+// Takes away what an AS holds, which is an entry of the table, if anything. Answers whether there was
+// anything.
+fn take_away(
+    table: &Table,
+    overlay: &mut Overlay,
+    asn: Asn,
+    before: &Option<Held>,
+) -> Result<bool, NoMemory>
+    requires before { before.now ≡ joined table.now overlay.old asn }
+    requires fresh { (h : AHeld) → before.now ≡ Some h → change_at overlay.old asn ≡ None }
+    ensures none { OnOk result (joined table.now overlay.new asn ≡ None) }
+    ensures others { (a : ℕ) → a ≢ asn → change_at overlay.new a ≡ change_at overlay.old a }
+    ensures changed { IfOk result (λ b. IsTrue b → (joined table.now overlay.old asn ≢ None) × (has_change overlay.new asn ≡ true)) }
+    ensures unchanged { IfOk result (λ b. b ≡ false → overlay.new ≡ overlay.old) }
+    ensures err { OnErr result (change_at overlay.new asn ≡ change_at overlay.old asn) }
+    ensures uses { (k : ℕ) → overlay_uses overlay.new k ≡ overlay_uses overlay.old k }
+{
+    let Some(_) = before else {
+        return Ok(false);
+    };
+    overlay.room(1)?;
+    overlay.put(asn, None);
+    Ok(true)
+}
+
+/// Gives an AS what a choice names: its seed's entry, or an offer's, or none. Answers whether it is
+/// another one than it held before.
+pub(crate) fn give_chosen<P: RoutePolicy>(
+    book: &Book<P>,
+    seeds: &SeedIds,
+    pool: &mut PathPool,
+    table: &Table,
+    overlay: &mut Overlay,
+    asn: Asn,
+    place: usize,
+    before: &Option<Held>,
+    chosen: ChoiceNear,
+) -> Result<bool, NoMemory>
+    requires can { CanTurn pool.old seeds.now table.now overlay.old }
+    requires choice { IsNameable seeds.now table.now overlay.old asn chosen.choice }
+    requires before { before.now ≡ joined table.now overlay.old asn }
+    requires kept { GivesUpNone pool.old table.now overlay.old asn (named_by (λ n. P.meaning (policy_at book.now n)) (seeds_of pool.old seeds.now asn) (routing_of pool.old table.now overlay.old) asn chosen.choice) }
+    ensures given { IfOk result (IsGiven pool.old pool.new table.now overlay.old overlay.new asn (named_by (λ n. P.meaning (policy_at book.now n)) (seeds_of pool.old seeds.now asn) (routing_of pool.old table.now overlay.old) asn chosen.choice)) }
+    ensures err { OnErr result (SameHeld pool.old pool.new table.now overlay.old overlay.new) }
+    ensures kept { IsKept pool.old pool.new seeds.now overlay.old overlay.new }
+{
+    match chosen.choice {
+        Choice::Nothing => take_away(table, overlay, asn, before),
+        Choice::Seed | Choice::Via { .. } => {
+            give_entry(book, seeds, pool, table, overlay, asn, place, chosen)
+        }
+    }
+}

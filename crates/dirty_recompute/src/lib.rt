@@ -1,0 +1,17 @@
+//! Edits by affected ASes: after an edit only the ASes whose entries may be wrong choose anew.
+//!
+//! First upwards by rising rank: an AS takes its seed or the best of its customers' offers. Then downwards
+//! by falling rank, over all offers. Whoever changes makes those of its neighbours choose anew for whom
+//! its new offer may matter. The changes that are left are exact, and the steps are at most two for each
+//! AS that was touched or has a neighbour that changed.
+#![tactic(auto)]
+
+mod giving;
+mod new_ranks;
+mod plan;
+mod queue;
+mod spared;
+mod stepping;
+mod turns;
+
+pub use plan::plan_edit;

@@ -1,0 +1,243 @@
+//! Who changes after an edit.
+
+ghost use Rattle.std.specs.Prelude.{◌≡◌, ℕ, suc, ◌+◌, ◌*◌, ◌≤◌, length, true, false, None, Some, OnOk, OnErr, IfOk};
+ghost use Rattle.net_names.specs.Numbers.{occurs};
+ghost use Rattle.net_names.specs.declared.routes.Rel.TheVariants.{Customer};
+ghost use Rattle.as_graph.specs.Topology.{what, has, as_count};
+ghost use Rattle.as_graph.specs.Hierarchy.{HasNoProviderCycle, IsRank};
+ghost use Rattle.path_pool.specs.declared.pool.PathPool.{PathPool as APool};
+ghost use Rattle.path_pool.specs.Pool.{holds_of, count_of, live_count, limit_of};
+ghost use Rattle.rank_order.specs.Plans.{rank_after, IsLastPlan};
+ghost use Rattle.stability_laws.specs.Stable.{IsRight};
+ghost use Rattle.stability_laws.specs.World.{setting};
+ghost use Rattle.route_choice.specs.Resources.{AreEntriesLive, AreSeedsLive, Keeps};
+ghost use Rattle.route_choice.specs.Routings.{routing_of, seeds_of, table_routing};
+ghost use Rattle.route_choice.specs.Tables.{change_at, held_at, overlay_uses, places_of, prefix_of, seed_at, table_spare, table_uses};
+ghost use Rattle.dirty_recompute.specs.Exact.{IsExact, AreEnough};
+ghost use Rattle.dirty_recompute.specs.NewRanks.{rank_of};
+ghost use Rattle.dirty_recompute.specs.Queues.{waits, HasRanks};
+ghost use Rattle.dirty_recompute.specs.Resources.{has_change, FewNewCells, IsKept, IsUndone, SameTable};
+ghost use Rattle.dirty_recompute.specs.Work.{HasGoneUp, HasGoneDown, CanGoOn};
+
+use crate::new_ranks::NewRanks;
+use crate::queue::{add_all, pop_highest, pop_lowest};
+use crate::turns::{turn_down, turn_up};
+use as_graph::{Graph, ranks_fit};
+use net_names::{Asn, NoMemory};
+use path_pool::PathPool;
+use policy_laws::{OriginStates, RoutePolicy};
+use rank_order::{RankPlan, Ranks};
+use route_choice::{Overlay, SeedIds, Steps, Table};
+use stability_laws::{
+    Book, customers_decide, nothing_up, offer_follows, offer_names, one_stable_routing,
+    right_by_offers,
+};
+use std::alloc::Global;
+use std::collections::BTreeSet;
+use std::sync::ledger::Ledger;
+
+// The touched ASes, each under its rank.
+fn queue_of(
+    alloc: Global,
+    ranks: &NewRanks,
+    touched: &[Asn],
+) -> Result<BTreeSet<(u32, Asn)>, NoMemory>
+    ensures touched { IfOk result (λ q. (b : ℕ) → waits (rank_of ranks.now) q b ≡ occurs b touched.now) }
+    ensures ranks { IfOk result (HasRanks (rank_of ranks.now)) }
+{
+    let mut queue: BTreeSet<(u32, Asn)> = BTreeSet::new(alloc);
+    add_all(ranks, touched, &mut queue)?;
+    Ok(queue)
+}
+
+// From the touched ASes upwards, by rising rank. Answers who is to choose among all offers.
+fn go_up<P: RoutePolicy, V: OriginStates, L: Ledger>(
+    alloc: Global,
+    graph: &Graph,
+    ranks: &NewRanks,
+    book: &Book<P>,
+    states: &V,
+    seeds: &SeedIds,
+    pool: &mut PathPool,
+    table: &Table,
+    overlay: &mut Overlay,
+    touched: &[Asn],
+    steps: &mut Steps<L>,
+) -> Result<BTreeSet<(u32, Asn)>, NoMemory>
+    requires falls { (a b : ℕ) → what graph.now a b ≡ Some Customer → suc (rank_of ranks.now b) ≤ rank_of ranks.now a }
+    requires few { as_count graph.now ≤ 150000 }
+    requires seeds { (b : ℕ) → has graph.now b ≡ false → seed_at seeds.now b ≡ None }
+    requires fresh { (b : ℕ) → change_at overlay.old b ≡ None }
+    requires entries { (b : ℕ) → has graph.now b ≡ false → occurs b touched.now ≡ false → held_at table.now b ≡ None }
+    requires right { (b : ℕ) → has graph.now b ≡ true → occurs b touched.now ≡ false → IsRight (setting P.meaning graph.now book.now (V.state_of states.now (prefix_of table.now))) (seeds_of pool.old seeds.now) (table_routing pool.old table.now) b }
+    requires can { (first : APool) × CanGoOn (has graph.now) first pool.old seeds.now table.now overlay.old }
+    ensures done { IfOk result (λ q. (n : ℕ) × (steps.new ≡ steps.old + n) × HasGoneDown (setting P.meaning graph.now book.now (V.state_of states.now (prefix_of table.now))) (rank_of ranks.now) touched.now pool.new seeds.now table.now overlay.new q n 0) }
+    ensures can { OnOk result ((first : APool) → CanGoOn (has graph.now) first pool.old seeds.now table.now overlay.old → CanGoOn (has graph.now) first pool.new seeds.now table.now overlay.new) }
+    ensures kept { IsKept pool.old pool.new seeds.now overlay.old overlay.new }
+{
+    offer_names::<P>();
+    offer_follows::<P>();
+    right_by_offers::<P>();
+    nothing_up::<P>();
+    customers_decide::<P>();
+    one_stable_routing::<P>();
+    let mut up = queue_of(alloc, ranks, touched)?;
+    let mut whole: BTreeSet<(u32, Asn)> = BTreeSet::new(alloc);
+    while let Some(asn) = pop_lowest(&mut up) {
+        turn_up(
+            graph, ranks, book, states, seeds, pool, table, overlay, asn, &mut up, &mut whole,
+            steps,
+        )?;
+    }
+    Ok(whole)
+}
+
+// And then downwards, by falling rank.
+fn go_down<P: RoutePolicy, V: OriginStates, L: Ledger>(
+    graph: &Graph,
+    ranks: &NewRanks,
+    book: &Book<P>,
+    states: &V,
+    seeds: &SeedIds,
+    pool: &mut PathPool,
+    table: &Table,
+    overlay: &mut Overlay,
+    touched: &[Asn],
+    whole: &mut BTreeSet<(u32, Asn)>,
+    steps: &mut Steps<L>,
+) -> Result<(), NoMemory>
+    requires no_cycle { HasNoProviderCycle (what graph.now) }
+    requires falls { (a b : ℕ) → what graph.now a b ≡ Some Customer → suc (rank_of ranks.now b) ≤ rank_of ranks.now a }
+    requires few { as_count graph.now ≤ 150000 }
+    requires seeds { (b : ℕ) → has graph.now b ≡ false → seed_at seeds.now b ≡ None }
+    requires work { (n : ℕ) × HasGoneDown (setting P.meaning graph.now book.now (V.state_of states.now (prefix_of table.now))) (rank_of ranks.now) touched.now pool.old seeds.now table.now overlay.old whole.old n 0 }
+    requires can { (first : APool) × CanGoOn (has graph.now) first pool.old seeds.now table.now overlay.old }
+    ensures exact { OnOk result (IsExact (setting P.meaning graph.now book.now (V.state_of states.now (prefix_of table.now))) (seeds_of pool.new seeds.now) (table_routing pool.new table.now) (routing_of pool.new table.now overlay.new) (has_change overlay.new)) }
+    ensures enough { OnOk result ((first n : ℕ) → steps.old ≡ first + n → HasGoneDown (setting P.meaning graph.now book.now (V.state_of states.now (prefix_of table.now))) (rank_of ranks.now) touched.now pool.old seeds.now table.now overlay.old whole.old n 0 → AreEnough (what graph.now) (λ b. occurs b touched.now) (has_change overlay.new) first steps.new) }
+    ensures can { OnOk result ((first : APool) → CanGoOn (has graph.now) first pool.old seeds.now table.now overlay.old → CanGoOn (has graph.now) first pool.new seeds.now table.now overlay.new) }
+    ensures kept { IsKept pool.old pool.new seeds.now overlay.old overlay.new }
+{
+    offer_names::<P>();
+    offer_follows::<P>();
+    right_by_offers::<P>();
+    nothing_up::<P>();
+    customers_decide::<P>();
+    one_stable_routing::<P>();
+    while let Some(asn) = pop_highest(whole) {
+        turn_down(
+            graph, ranks, book, states, seeds, pool, table, overlay, asn, whole, steps,
+        )?;
+    }
+    Ok(())
+}
+
+// Puts the changes into an overlay that has none, and makes room for them in the table.
+fn put_changes<P: RoutePolicy, V: OriginStates, L: Ledger>(
+    alloc: Global,
+    graph: &Graph,
+    ranks: &NewRanks,
+    book: &Book<P>,
+    states: &V,
+    seeds: &SeedIds,
+    pool: &mut PathPool,
+    table: &mut Table,
+    overlay: &mut Overlay,
+    touched: &[Asn],
+    steps: &mut Steps<L>,
+) -> Result<(), NoMemory>
+    requires no_cycle { HasNoProviderCycle (what graph.now) }
+    requires falls { (a b : ℕ) → what graph.now a b ≡ Some Customer → suc (rank_of ranks.now b) ≤ rank_of ranks.now a }
+    requires seeds { (b : ℕ) → has graph.now b ≡ false → seed_at seeds.now b ≡ None }
+    requires fresh { (b : ℕ) → change_at overlay.old b ≡ None }
+    requires entries { (b : ℕ) → has graph.now b ≡ false → occurs b touched.now ≡ false → held_at table.old b ≡ None }
+    requires right { (b : ℕ) → has graph.now b ≡ true → occurs b touched.now ≡ false → IsRight (setting P.meaning graph.now book.now (V.state_of states.now (prefix_of table.old))) (seeds_of pool.old seeds.now) (table_routing pool.old table.old) b }
+    requires can { CanGoOn (has graph.now) pool.old pool.old seeds.now table.old overlay.old }
+    ensures exact { OnOk result (IsExact (setting P.meaning graph.now book.now (V.state_of states.now (prefix_of table.old))) (seeds_of pool.new seeds.now) (table_routing pool.new table.old) (routing_of pool.new table.new overlay.new) (has_change overlay.new)) }
+    ensures enough { OnOk result (AreEnough (what graph.now) (λ b. occurs b touched.now) (has_change overlay.new) steps.old steps.new) }
+    ensures can { OnOk result (CanGoOn (has graph.now) pool.old pool.new seeds.now table.old overlay.new) }
+    ensures kept { IsKept pool.old pool.new seeds.now overlay.old overlay.new }
+    ensures table { SameTable table.old table.new }
+    ensures spare { OnOk result (length (places_of overlay.new) ≤ table_spare table.new) }
+{
+    let _ = graph.as_count();
+    let mut whole = go_up(
+        alloc, graph, ranks, book, states, seeds, pool, table, overlay, touched, steps,
+    )?;
+    go_down(
+        graph, ranks, book, states, seeds, pool, table, overlay, touched, &mut whole, steps,
+    )?;
+    table.room(overlay.len())?;
+    Ok(())
+}
+
+/// The changes of a table that an edit brings. The graph, the policies, the states and the seeds are
+/// those after the edit, and `touched` has the ASes that may hold something else than what is
+/// right there: the ends of an edited link, the AS of an edited policy, and who reads an edited state
+/// or has an edited seed. With the changes in place the table stands for the stable routing, which is
+/// the only one, and the overlay has just the ASes at which the two differ. It takes at most two steps
+/// for each AS that is in `touched` or has a neighbour in the overlay.
+///
+/// The graph has no provider cycle, and `plan` is the last plan of the ranks and gives its ranks. The table holds entries only for its ASes
+/// and those in `touched`, and the seeds stand only at its ASes. The table owns one hold for each of its
+/// entries, the paths of these and of the seeds are live, no count of the pool is above 4,000,000,000, and the pool's limit
+/// leaves two cells for each AS beside the live ones. The overlay owns one hold for each of its entries;
+/// for each of them at most one cell more is live. What was live keeps its path, and the table is as
+/// before and has room for the changes. Its only refusal is want of memory, and then the holds are as
+/// before, and so is each path that is held.
+pub fn plan_edit<P: RoutePolicy, V: OriginStates, L: Ledger>(
+    alloc: Global,
+    graph: &Graph,
+    ranks: &Ranks,
+    plan: &RankPlan,
+    book: &Book<P>,
+    states: &V,
+    seeds: &SeedIds,
+    pool: &mut PathPool,
+    table: &mut Table,
+    touched: &[Asn],
+    steps: &mut Steps<L>,
+) -> Result<Overlay, NoMemory>
+    requires no_cycle { HasNoProviderCycle (what graph.now) }
+    requires plan { IsLastPlan ranks.now plan.now }
+    requires ranks { (a : ℕ) → IsRank (what graph.now) a (rank_after ranks.now plan.now a) }
+    requires entries { (b : ℕ) → has graph.now b ≡ false → occurs b touched.now ≡ false → held_at table.old b ≡ None }
+    requires right { (b : ℕ) → has graph.now b ≡ true → occurs b touched.now ≡ false → IsRight (setting P.meaning graph.now book.now (V.state_of states.now (prefix_of table.old))) (seeds_of pool.old seeds.now) (table_routing pool.old table.old) b }
+    requires seeds { (b : ℕ) → has graph.now b ≡ false → seed_at seeds.now b ≡ None }
+    requires seeds_live { AreSeedsLive pool.old seeds.now }
+    requires entries_live { AreEntriesLive pool.old table.old }
+    requires held { (k : ℕ) → table_uses table.old k ≤ holds_of pool.old k }
+    requires counts { (k : ℕ) → count_of pool.old k ≤ 4000000000 }
+    requires room { live_count pool.old + 2 * as_count graph.now ≤ limit_of pool.old }
+    ensures exact { IfOk result (λ o. IsExact (setting P.meaning graph.now book.now (V.state_of states.now (prefix_of table.old))) (seeds_of pool.old seeds.now) (table_routing pool.old table.old) (routing_of pool.new table.new o) (has_change o)) }
+    ensures enough { IfOk result (λ o. AreEnough (what graph.now) (λ b. occurs b touched.now) (has_change o) steps.old steps.new) }
+    ensures table { SameTable table.old table.new }
+    ensures spare { IfOk result (λ o. length (places_of o) ≤ table_spare table.new) }
+    ensures holds { IfOk result (λ o. (k : ℕ) → holds_of pool.new k ≡ holds_of pool.old k + overlay_uses o k) }
+    ensures cells { IfOk result (FewNewCells pool.old pool.new) }
+    ensures kept { OnOk result (Keeps pool.old pool.new seeds.now) }
+    ensures limit { limit_of pool.new ≡ limit_of pool.old }
+    ensures err { OnErr result (IsUndone pool.old pool.new) }
+{
+    ranks_fit();
+    let ranks = NewRanks { ranks, plan };
+    let mut overlay = Overlay::new(alloc);
+    match put_changes(
+        alloc,
+        graph,
+        &ranks,
+        book,
+        states,
+        seeds,
+        pool,
+        table,
+        &mut overlay,
+        touched,
+        steps,
+    ) {
+        Ok(()) => Ok(overlay),
+        Err(_) => {
+            overlay.undo(pool);
+            Err(NoMemory)
+        }
+    }
+}

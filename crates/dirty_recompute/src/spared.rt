@@ -1,0 +1,120 @@
+//! Whether what a neighbour holds shows that it need not choose anew.
+
+ghost use Rattle.std.specs.Prelude.{◌≡◌, ◌≢◌, ℕ, Some, IsTrue, true, false, ◌∷◌, option_map};
+ghost use Rattle.as_graph.specs.Topology.{what};
+ghost use Rattle.path_pool.specs.Pool.{IsLive, list_of};
+ghost use Rattle.stability_laws.specs.Book.{policy_at};
+ghost use Rattle.stability_laws.specs.World.{setting};
+ghost use Rattle.route_choice.specs.declared.held.Held.{Held as AHeld};
+ghost use Rattle.route_choice.specs.Resources.{AreHeld};
+ghost use Rattle.route_choice.specs.Routings.{entry_of, routing_of};
+ghost use Rattle.route_choice.specs.Tables.{prefix_of};
+ghost use Rattle.route_choice.specs.Views.{goes_through};
+ghost use Rattle.dirty_recompute.specs.Spared.{HasRival};
+
+use crate::giving::held_near;
+use as_graph::Graph;
+use net_names::Asn;
+use path_pool::{PathPool, paths_are_not_empty};
+use policy_laws::{OriginStates, RoutePolicy, View};
+use route_choice::{Held, Overlay, Table, view_but_for_loops};
+use stability_laws::Book;
+
+/// How many ASes of a path are looked at, at most, before a neighbour is made to choose anew: so none
+/// costs more than a fixed time.
+const MOST_LOOKED_AT: u32 = 64;
+
+/// Whether the path of the one entry may be an AS and then the path of the other. It looks at the second
+/// AS of the one path and the first of the other.
+pub(crate) fn may_be_over(pool: &PathPool, have: &Option<Held>, before: &Option<Held>) -> bool
+    requires have { (h : AHeld) → have.now ≡ Some h → IsLive pool.now h.path.0 }
+    requires before { (k : AHeld) → before.now ≡ Some k → IsLive pool.now k.path.0 }
+    ensures { result ≡ false → (b : ℕ) (h k : AHeld) → have.now ≡ Some h → before.now ≡ Some k → list_of pool.now h.path.0 ≢ b ∷ list_of pool.now k.path.0 }
+{
+    paths_are_not_empty(pool);
+    let Some(one) = have else {
+        return false;
+    };
+    let Some(other) = before else {
+        return false;
+    };
+    match pool.tail(one.path) {
+        Some(rest) => pool.head(rest) == pool.head(other.path),
+        None => false,
+    }
+}
+
+// Whether an entry is held whose path is short, and does not go through the AS.
+fn is_clear(pool: &PathPool, held: &Option<Held>, asn: Asn) -> bool
+    requires { (h : AHeld) → held.now ≡ Some h → IsLive pool.now h.path.0 }
+    ensures { IsTrue result → goes_through (option_map (entry_of pool.now) held.now) asn ≡ false }
+{
+    match held {
+        Some(entry) => {
+            pool.length(entry.path) <= MOST_LOOKED_AT && !pool.contains(entry.path, asn)
+        }
+        None => false,
+    }
+}
+
+// Whether an AS other than `asn` makes the neighbour an offer which its policy puts before the view.
+fn is_rival<P: RoutePolicy, V: OriginStates>(
+    graph: &Graph,
+    book: &Book<P>,
+    states: &V,
+    pool: &PathPool,
+    table: &Table,
+    overlay: &Overlay,
+    asn: Asn,
+    neighbour: Asn,
+    other: Asn,
+    view: &View,
+) -> bool
+    requires held { AreHeld pool.now table.now overlay.now }
+    ensures { IsTrue result → HasRival (setting P.meaning graph.now book.now (V.state_of states.now (prefix_of table.now))) (routing_of pool.now table.now overlay.now) asn neighbour view.now }
+{
+    if other == asn {
+        return false;
+    }
+    let Some(rel) = graph.rel(neighbour, other) else {
+        return false;
+    };
+    let given = held_near(table, overlay, other, 0);
+    let prefix = table.prefix();
+    match view_but_for_loops(book, states, prefix, pool, other, neighbour, rel, given) {
+        Some(offered) => {
+            book.policy(neighbour).before(&offered, view) && is_clear(pool, &given, neighbour)
+        }
+        None => false,
+    }
+}
+
+/// Whether the AS that comes second on the path of what the neighbour holds makes it an offer which its
+/// policy puts before the view.
+pub(crate) fn has_rival<P: RoutePolicy, V: OriginStates>(
+    graph: &Graph,
+    book: &Book<P>,
+    states: &V,
+    pool: &PathPool,
+    table: &Table,
+    overlay: &Overlay,
+    asn: Asn,
+    neighbour: Asn,
+    have: &Option<Held>,
+    view: &View,
+) -> bool
+    requires held { AreHeld pool.now table.now overlay.now }
+    requires have { (h : AHeld) → have.now ≡ Some h → IsLive pool.now h.path.0 }
+    ensures { IsTrue result → HasRival (setting P.meaning graph.now book.now (V.state_of states.now (prefix_of table.now))) (routing_of pool.now table.now overlay.now) asn neighbour view.now }
+{
+    let Some(entry) = have else {
+        return false;
+    };
+    let Some(rest) = pool.tail(entry.path) else {
+        return false;
+    };
+    let other = pool.head(rest);
+    is_rival(
+        graph, book, states, pool, table, overlay, asn, neighbour, other, view,
+    )
+}

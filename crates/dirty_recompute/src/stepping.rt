@@ -1,0 +1,214 @@
+//! One step of an AS whose entry may be wrong after an edit, and which of its neighbours may be left
+//! alone after it.
+
+ghost use Rattle.std.specs.Prelude.{◌≡◌, ◌≢◌, ◌⊎◌, ℕ, ◌+◌, ◌≤◌, Option, ◌↔◌, IsTrue, IsSome, None, true, false, OnOk, IfOk, option_map};
+ghost use Rattle.as_graph.specs.Topology.{what, has};
+ghost use Rattle.stability_laws.specs.declared.entry.Entry.{Entry as AnEntry};
+ghost use Rattle.stability_laws.specs.Book.{policy_at};
+ghost use Rattle.stability_laws.specs.Offers.{offer};
+ghost use Rattle.path_pool.specs.declared.pool.PathPool.{PathPool as APool};
+ghost use Rattle.stability_laws.specs.Steps.{low};
+ghost use Rattle.stability_laws.specs.Stable.{IsRight, IsRightGiven};
+ghost use Rattle.stability_laws.specs.World.{setting};
+ghost use Rattle.route_choice.specs.Resources.{AreHeld, AreSeedsLive};
+ghost use Rattle.route_choice.specs.Routings.{entry_of, routing_of, seeds_of};
+ghost use Rattle.route_choice.specs.Tables.{change_at, prefix_of};
+ghost use Rattle.dirty_recompute.specs.Steps.{ChangesOnly, IsChosenUp, IsLeft, without_low};
+ghost use Rattle.dirty_recompute.specs.Resources.{has_change, CanTurn, IsKept, IsPaidFor, IsBefore};
+
+use crate::giving::{give_chosen, held_near};
+use crate::spared::{has_rival, may_be_over};
+use as_graph::{Graph, links_are_sound};
+use net_names::{Asn, Class, NoMemory};
+use path_pool::PathPool;
+use policy_laws::{OriginStates, RoutePolicy};
+use route_choice::{
+    Choice, Held, Overlay, Part, SeedIds, Steps, Table, evaluate_near, view_but_for_loops,
+};
+use stability_laws::{Book, offer_path, one_answer};
+use std::sync::ledger::Ledger;
+
+/// What a step came to.
+#[derive(Clone, Copy)]
+pub(crate) struct Stepped {
+    /// The AS holds another entry than before.
+    pub changed: bool,
+    /// In a step upwards: it has no seed, and no customer makes it an offer.
+    pub nothing: bool,
+    /// What it held before.
+    pub before: Option<Held>,
+}
+
+// Whether a choice is to hold nothing.
+fn is_nothing(choice: Choice) -> bool
+    ensures { IsTrue result ↔ (choice ≡ Choice.Nothing) }
+{
+    match choice {
+        Choice::Nothing => true,
+        Choice::Seed | Choice::Via { .. } => false,
+    }
+}
+
+// Whether an entry is held that no customer and no seed gave.
+fn is_high(held: &Option<Held>) -> bool
+    ensures stays { result ≡ true → (p : APool) → low (option_map (entry_of p) held.now) ≡ None }
+    ensures goes { result ≡ false → (p : APool) → without_low (low (option_map (entry_of p) held.now)) (option_map (entry_of p) held.now) ≡ None }
+{
+    match held {
+        Some(entry) => match entry.class {
+            Class::Origin | Class::Customer => false,
+            Class::Peer | Class::Provider => true,
+        },
+        None => false,
+    }
+}
+
+/// A step upwards: the AS takes its seed or the best of its customers' offers. Where there is none, it
+/// gives up an Origin or Customer entry, and keeps another one. After a refusal it holds what it held.
+pub(crate) fn step_up<P: RoutePolicy, V: OriginStates, L: Ledger>(
+    graph: &Graph,
+    book: &Book<P>,
+    states: &V,
+    seeds: &SeedIds,
+    pool: &mut PathPool,
+    table: &Table,
+    overlay: &mut Overlay,
+    asn: Asn,
+    steps: &mut Steps<L>,
+) -> Result<Stepped, NoMemory>
+    requires can { CanTurn pool.old seeds.now table.now overlay.old }
+    requires fresh { change_at overlay.old asn ≡ None }
+    ensures chosen { IfOk result (λ r. IsChosenUp (setting P.meaning graph.now book.now (V.state_of states.now (prefix_of table.now))) (seeds_of pool.old seeds.now) asn (routing_of pool.old table.now overlay.old) (routing_of pool.new table.now overlay.new) r.nothing) }
+    ensures only { OnOk result (ChangesOnly asn (routing_of pool.old table.now overlay.old) (routing_of pool.new table.now overlay.new) (has_change overlay.old) (has_change overlay.new)) }
+    ensures changed { IfOk result (λ r. IsTrue r.changed → has_change overlay.new asn ≡ true) }
+    ensures unchanged { IfOk result (λ r. r.changed ≡ false → routing_of pool.new table.now overlay.new asn ≡ routing_of pool.old table.now overlay.old asn) }
+    ensures before { IfOk result (λ r. IsBefore pool.new table.now overlay.new asn r.before (routing_of pool.old table.now overlay.old)) }
+    ensures cost { OnOk result (steps.new ≡ steps.old + 1) }
+    ensures paid { OnOk result (IsPaidFor pool.old pool.new (routing_of pool.old table.now overlay.old) (routing_of pool.new table.now overlay.new) asn) }
+    ensures kept { IsKept pool.old pool.new seeds.now overlay.old overlay.new }
+{
+    let place = graph.place_near(asn, 0);
+    let before = held_near(table, overlay, asn, place);
+    let chosen = evaluate_near(
+        graph,
+        book,
+        states,
+        seeds,
+        pool,
+        table,
+        overlay,
+        asn,
+        place,
+        true,
+        Part::Up,
+        steps,
+    );
+    let nothing = is_nothing(chosen.choice);
+    if nothing && is_high(&before) {
+        return Ok(Stepped {
+            changed: false,
+            nothing,
+            before,
+        });
+    }
+    let changed = give_chosen(
+        book, seeds, pool, table, overlay, asn, place, &before, chosen,
+    )?;
+    Ok(Stepped {
+        changed,
+        nothing,
+        before,
+    })
+}
+
+/// A step over all offers: the AS takes its seed, or the best offer, or nothing. After a refusal it holds
+/// what it held.
+pub(crate) fn step_whole<P: RoutePolicy, V: OriginStates, L: Ledger>(
+    graph: &Graph,
+    book: &Book<P>,
+    states: &V,
+    seeds: &SeedIds,
+    pool: &mut PathPool,
+    table: &Table,
+    overlay: &mut Overlay,
+    asn: Asn,
+    steps: &mut Steps<L>,
+) -> Result<Stepped, NoMemory>
+    requires can { CanTurn pool.old seeds.now table.now overlay.old }
+    requires settled { has_change overlay.old asn ≡ true → (routing_of pool.old table.now overlay.old asn ≡ None) ⊎ IsRight (setting P.meaning graph.now book.now (V.state_of states.now (prefix_of table.now))) (seeds_of pool.old seeds.now) (routing_of pool.old table.now overlay.old) asn }
+    ensures chosen { OnOk result (IsRightGiven (P.meaning (policy_at book.now asn)) (seeds_of pool.old seeds.now asn) (λ n. offer (setting P.meaning graph.now book.now (V.state_of states.now (prefix_of table.now))) (routing_of pool.old table.now overlay.old) n asn) (routing_of pool.new table.now overlay.new asn)) }
+    ensures only { OnOk result (ChangesOnly asn (routing_of pool.old table.now overlay.old) (routing_of pool.new table.now overlay.new) (has_change overlay.old) (has_change overlay.new)) }
+    ensures changed { IfOk result (λ r. IsTrue r.changed → has_change overlay.new asn ≡ true) }
+    ensures unchanged { IfOk result (λ r. r.changed ≡ false → routing_of pool.new table.now overlay.new asn ≡ routing_of pool.old table.now overlay.old asn) }
+    ensures before { IfOk result (λ r. IsBefore pool.new table.now overlay.new asn r.before (routing_of pool.old table.now overlay.old)) }
+    ensures cost { OnOk result (steps.new ≡ steps.old + 1) }
+    ensures paid { OnOk result (IsPaidFor pool.old pool.new (routing_of pool.old table.now overlay.old) (routing_of pool.new table.now overlay.new) asn) }
+    ensures kept { IsKept pool.old pool.new seeds.now overlay.old overlay.new }
+{
+    one_answer::<P>();
+    let place = graph.place_near(asn, 0);
+    let before = held_near(table, overlay, asn, place);
+    let chosen = evaluate_near(
+        graph,
+        book,
+        states,
+        seeds,
+        pool,
+        table,
+        overlay,
+        asn,
+        place,
+        true,
+        Part::Whole,
+        steps,
+    );
+    let changed = give_chosen(
+        book, seeds, pool, table, overlay, asn, place, &before, chosen,
+    )?;
+    Ok(Stepped {
+        changed,
+        nothing: false,
+        before,
+    })
+}
+
+/// Whether a neighbour of an AS that held `before`, and has made a step, need not choose anew. It takes no
+/// memory.
+pub(crate) fn is_left<P: RoutePolicy, V: OriginStates>(
+    graph: &Graph,
+    book: &Book<P>,
+    states: &V,
+    seeds: &SeedIds,
+    pool: &PathPool,
+    table: &Table,
+    overlay: &Overlay,
+    asn: Asn,
+    before: Option<Held>,
+    neighbour: Asn,
+) -> bool
+    requires held { AreHeld pool.now table.now overlay.now }
+    requires seeds { AreSeedsLive pool.now seeds.now }
+    requires live { (f : ℕ → Option AnEntry) × IsBefore pool.now table.now overlay.now asn before f }
+    ensures { IsTrue result → (f : ℕ → Option AnEntry) → IsBefore pool.now table.now overlay.now asn before f → IsLeft (setting P.meaning graph.now book.now (V.state_of states.now (prefix_of table.now))) (seeds_of pool.now seeds.now) f (routing_of pool.now table.now overlay.now) asn neighbour }
+{
+    offer_path::<P>();
+    links_are_sound();
+    if seeds.get(neighbour).is_some() {
+        return true;
+    }
+    let have = held_near(table, overlay, neighbour, 0);
+    if may_be_over(pool, &have, &before) {
+        return false;
+    }
+    let Some(rel) = graph.rel(neighbour, asn) else {
+        return true;
+    };
+    let now = held_near(table, overlay, asn, 0);
+    let prefix = table.prefix();
+    match view_but_for_loops(book, states, prefix, pool, asn, neighbour, rel, now) {
+        Some(view) => has_rival(
+            graph, book, states, pool, table, overlay, asn, neighbour, &have, &view,
+        ),
+        None => true,
+    }
+}
