@@ -1,7 +1,7 @@
 -- A list whose front rises, and the numbers behind it.
 use Rattle.std.proofs.Common.{◌≡◌, ◌+◌, ◌<◌, false, ◌==◌, ◌++◌, ◌∷◌, [], ℕ, List, Some, None, is_some, option_map, length, get_or, take, drop, nat_eq, if◌then◌else◌, sym, ◌∙◌, ap, subst, true≢false, arith, length-append}
 use Rattle.std.proofs.lemmas.Bool.{eq-eqb, eqb-true, false_from_ne_true, or_parts}
-use Rattle.std.proofs.lemmas.List.{get_or_default, get_or-drop, get_or-take, length-drop, length-take-le, take_more, take-append-drop, take-append-le, drop-append-le}
+use Rattle.std.proofs.lemmas.List.{get_or_default, get_or-drop, get_or-take, length-drop, length-take-le, take_all, take_more, take-append-drop, take-append-le, drop-append-le}
 use Rattle.std.proofs.lemmas.List.Folds.{list_any-append}
 use Rattle.std.proofs.lemmas.List.Folds.{list_any_none}
 use Rattle.std.proofs.lemmas.Map.Keys.{IsDistinct-from_apart, apart_from_distinct}
@@ -39,6 +39,10 @@ module _ (numbers : List ℕ) (front : ℕ) (behind : List ℕ) (kept : AreKept 
       ap (λ l. place_of l a) (sym whole)
       ∙ place_append (take front numbers) (drop front numbers) a (away none)
       ∙ ap (option_map (λ k. length (take front numbers) + k)) (place_position (drop front numbers) a ∙ ap (position (nat_eq a)) (sym kept.others) ∙ e)
+
+  -- where the front is all, there is none behind it
+  pub place_missing : place_of (take front numbers) a ≡ None → front ≡ length numbers → place_of numbers a ≡ None
+  place_missing none all = ap (λ l. place_of l a) (sym (take_all front numbers (omega (arith, all)))) ∙ none
 
   -- one more number goes behind the others
   pub kept_push : (numbers' behind' : List ℕ) → occurs a numbers ≡ false → numbers' ≡ numbers ++ a ∷ [] → behind' ≡ (if list_any (nat_eq a) behind then behind else behind ++ a ∷ []) → AreKept numbers' front behind'

@@ -37,6 +37,17 @@ impl Model for AsPlaces {
 }
 
 impl AsPlaces {
+    /// No number. Takes no memory.
+    pub fn new(alloc: Global) -> AsPlaces
+        ensures { result.ases ≡ [] }
+    {
+        AsPlaces {
+            numbers: Vec::new(alloc),
+            front: 0,
+            behind: IndexSet::new(alloc),
+        }
+    }
+
     /// These numbers, each at its index.
     pub fn of(alloc: Global, ases: &[Asn]) -> Result<AsPlaces, NoMemory>
         requires { IsDistinct nat_eq ases.now }
@@ -84,6 +95,7 @@ impl AsPlaces {
     {
         match place_in(&self.numbers[..self.front], asn) {
             Some(place) => Some(place),
+            None if self.front == self.numbers.len() => None,
             None => match self.behind.get_index_of(&asn) {
                 Some(index) => Some(self.front + index),
                 None => None,
