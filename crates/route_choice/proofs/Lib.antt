@@ -5,4 +5,4 @@ pub mod Chosen
 pub mod Unread
 pub mod Room
 pub mod RoundLemmas
-pub mod Writes
+pub mod RowLemmas

@@ -1,5 +1,5 @@
 -- Room for steps.
-use Rattle.std.proofs.Common.{◌≡◌, ℕ, ◌≤◌, Bool, true, false, cond, Option, Some, None, List, refl, ap, ◌∙◌, arith}
+use Rattle.std.proofs.Common.{◌≡◌, ℕ, ◌≤◌, Bool, true, false, cond, Some, None, List, refl, ap, ◌∙◌, arith}
 use Rattle.net_names.specs.Numbers.{occurs}
 use Rattle.route_choice.specs.Slots.{over}
 use Rattle.route_choice.specs.Tables.{held_at, change_at, joined}

@@ -9,18 +9,17 @@ use Rattle.std.proofs.lemmas.Map.Entries.{sum_by-set_value}
 use Rattle.std.proofs.lemmas.Bool.{cases_eq, eq-eqb, ne_eqb, or_right}
 use Rattle.std.proofs.lemmas.List.{get_or-map, take_all, length-map}
 use Rattle.std.proofs.lemmas.List.Folds.{list_any_more}
-use Rattle.indexmap.specs.IndexMap.{get, keys, values, spare}
 use Rattle.path_pool.specs.declared.pool.PathPool.{PathPool}
 use Rattle.path_pool.specs.Pool.{holds_of}
 use Rattle.route_choice.specs.declared.held.Held.{Held}
-use Rattle.route_choice.specs.Slots.{Slots, entry_at, over, use_of, uses_of}
+use Rattle.route_choice.specs.Slots.{Slots, slot_at, entry_at, keys, over, use_of, uses_of}
 use Rattle.route_choice.specs.Holds.{GivesBack}
 
 -- an entry that stands at an AS is one of the uses
 pub use_of-le : (m : Slots) (a k : ℕ) → use_of k (entry_at m a) ≤ uses_of m k
-use_of-le m a k = by (get nat_eq m a) refl
+use_of-le m a k = by (slot_at m a) refl
   where
-    by : (o : Option (Option Held)) → get nat_eq m a ≡ o → use_of k (unwrap_or o None) ≤ uses_of m k
+    by : (o : Option (Option Held)) → slot_at m a ≡ o → use_of k (unwrap_or o None) ≤ uses_of m k
     by None e = omega arith
     by (Some v) e = omega (arith, sum_by-set_value (use_of k) (nat_eq a) m.entries v None e)
 
@@ -36,7 +35,7 @@ read_at (x ∷ xs) (suc n) e h = let r = read_at xs n e h in (omega (arith, r.0)
 
 -- how often the first n entries use the path
 abbrev pub uses_before : Slots → ℕ → ℕ → ℕ
-uses_before m n k = sum_by (use_of k) (take n (values m))
+uses_before m n k = sum_by (use_of k) (take n (values_of m.entries))
 
 -- whether an AS is among the first n
 abbrev pub is_before : Slots → ℕ → ℕ → Bool
@@ -51,10 +50,10 @@ uses_before-more m n a k entry read =
     sum_by_more (use_of k) (values_of es) n entry inside ∙ ap (λ v. uses_before m n k + use_of k v) value
 
 pub uses_before-le : (m : Slots) (n k : ℕ) → uses_before m n k ≤ uses_of m k
-uses_before-le m n k = sum_by-take-le (use_of k) (values m) n
+uses_before-le m n k = sum_by-take-le (use_of k) (values_of m.entries) n
 
 pub uses_before-all : (m : Slots) (n k : ℕ) → length m.entries ≤ n → uses_before m n k ≡ uses_of m k
-uses_before-all m n k l = ap (sum_by (use_of k)) (take_all n (values m) (omega (arith, l, length-map m.entries (λ (e : ℕ × Option Held). e.1))))
+uses_before-all m n k l = ap (sum_by (use_of k)) (take_all n (values_of m.entries) (omega (arith, l, length-map m.entries (λ (e : ℕ × Option Held). e.1))))
 
 pub is_before-more : (m : Slots) (n a b : ℕ) (entry : Option Held) → slice_get m.entries n ≡ Some (a, entry) → is_before m (n + 1) b ≡ (is_before m n b || nat_eq b a)
 is_before-more m n a b entry read =
@@ -75,7 +74,7 @@ found_when (e ∷ es) a o = by (nat_eq a e.0) (found_when es a o)
     by true h = refl
     by false h = h
 
-pub is_before-all : (m : Slots) (n a : ℕ) (o : Option Held) → length m.entries ≤ n → cond (is_before m n a) (entry_at m a) o ≡ over (get nat_eq m a) o
+pub is_before-all : (m : Slots) (n a : ℕ) (o : Option Held) → length m.entries ≤ n → cond (is_before m n a) (entry_at m a) o ≡ over (slot_at m a) o
 is_before-all m n a o l =
     ap (λ ks. cond (list_any (nat_eq a) ks) (entry_at m a) o) (take_all n (keys m) (omega (arith, l, length-map m.entries (λ (e : ℕ × Option Held). e.0))))
     ∙ found_when m.entries a o
@@ -98,16 +97,16 @@ pub record IsReplacing (before now changes : Slots) (old new : PathPool) (n : �
   pub entries : (a : ℕ) → entry_at now a ≡ cond (is_before changes n a) (entry_at changes a) (entry_at before a)
   pub holds : (k : ℕ) → uses_of now k + holds_of old k ≡ uses_of before k + uses_before changes n k + holds_of new k
   pub back : GivesBack old new
-  pub room : length changes.entries ≤ spare now + n
+  pub room : length changes.entries ≤ now.spare + n
 
 pub replacing_more : (before now after changes : Slots) (old mid new : PathPool) (n asn : ℕ) (entry : Option Held) →
     IsReplacing before now changes old mid n →
     slice_get changes.entries n ≡ Some (asn, entry) →
-    get nat_eq changes asn ≡ Some entry →
-    get nat_eq after asn ≡ Some entry →
-    ((a : ℕ) → a ≢ asn → get nat_eq after a ≡ get nat_eq now a) →
+    slot_at changes asn ≡ Some entry →
+    slot_at after asn ≡ Some entry →
+    ((a : ℕ) → a ≢ asn → slot_at after a ≡ slot_at now a) →
     ((k : ℕ) → uses_of after k + holds_of mid k ≡ uses_of now k + holds_of new k + use_of k entry) →
-    GivesBack mid new → spare now ≤ spare after + 1 →
+    GivesBack mid new → now.spare ≤ after.spare + 1 →
     IsReplacing before after changes old new (n + 1)
 replacing_more before now after changes old mid new n asn entry w read here this others holds back room =
     let at : (k : ℕ) → uses_before changes (n + 1) k ≡ uses_before changes n k + use_of k entry = λ k. uses_before-more changes n asn k entry read in

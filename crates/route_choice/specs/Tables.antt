@@ -1,14 +1,14 @@
 -- What contracts see of a table, of changes of it, and of seeds: what stands at each AS, how often each path is used, and
 -- for how many more ASes there is room.
 use Rattle.std.specs.Prelude.{ℕ, ◌⊎◌, ◌<◌, IsSome, List, Option, nat_eq}
-use Rattle.indexmap.specs.IndexMap.{get, keys, spare}
+use Rattle.indexmap.specs.IndexMap.{get}
 use Rattle.net_names.specs.Prefixes.{PrefixValue as Prefix}
 use Rattle.route_choice.specs.declared.held.Held.{Held}
 use Rattle.route_choice.specs.declared.held.SeedHeld.{SeedHeld}
 use Rattle.route_choice.specs.declared.table.Table.{Table}
 use Rattle.route_choice.specs.declared.overlay.Overlay.{Overlay}
 use Rattle.route_choice.specs.declared.seeds.SeedIds.{SeedIds}
-use Rattle.route_choice.specs.Slots.{entry_at, over, uses_of}
+use Rattle.route_choice.specs.Slots.{slot_at, entry_at, keys, over, uses_of}
 
 -- The prefix of a table.
 abbrev pub prefix_of : Table → Prefix
@@ -24,11 +24,11 @@ table_uses t k = uses_of t.slots k
 
 -- For how many more ASes a table has room.
 abbrev pub table_spare : Table → ℕ
-table_spare t = spare t.slots
+table_spare t = t.slots.spare
 
 -- The change at an AS, if there is one: a new entry, or none.
 abbrev pub change_at : Overlay → ℕ → Option (Option Held)
-change_at o a = get nat_eq o.changes a
+change_at o a = slot_at o.changes a
 
 -- The ASes that have a change, in the order in which they were first put.
 abbrev pub places_of : Overlay → List ℕ
@@ -40,7 +40,7 @@ overlay_uses o k = uses_of o.changes k
 
 -- For how many more ASes an overlay has room.
 abbrev pub overlay_spare : Overlay → ℕ
-overlay_spare o = spare o.changes
+overlay_spare o = o.changes.spare
 
 -- The seed of an AS, if it has one.
 abbrev pub seed_at : SeedIds → ℕ → Option SeedHeld

@@ -198,7 +198,7 @@ fn look_at<P: RoutePolicy, V: OriginStates>(
         may_loop,
         neighbour,
         place,
-        given,
+        &given,
         best,
     );
 }

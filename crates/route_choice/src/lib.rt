@@ -5,6 +5,7 @@
 //! that they can be made, and learns what each leaves: the routing, the holds and the room.
 #![tactic(auto)]
 
+mod beside;
 mod best;
 mod choice;
 mod choosing;
@@ -14,6 +15,7 @@ mod overlay;
 mod round_tables;
 mod seeds;
 mod settling;
+mod slot;
 mod slots;
 mod stepping;
 mod steps;

@@ -1,7 +1,6 @@
 //! What ASes hold, sought first where they may stand.
 
 ghost use Rattle.std.specs.Prelude.{◌≡◌};
-ghost use Rattle.std.specs.Option.{option_copied};
 ghost use Rattle.route_choice.specs.Tables.{joined};
 
 use crate::{Held, Overlay, Table};
@@ -9,16 +8,11 @@ use net_names::Asn;
 
 /// What an AS holds, with the changes in place, sought first at a place.
 #[inline(always)]
-pub(crate) fn held_near<'a>(
-    table: &'a Table,
-    overlay: &'a Overlay,
-    asn: Asn,
-    place: usize,
-) -> Option<&'a Held>
-    ensures { option_copied result ≡ joined table.now overlay.now asn }
+pub(crate) fn held_near(table: &Table, overlay: &Overlay, asn: Asn, place: usize) -> Option<Held>
+    ensures { result ≡ joined table.now overlay.now asn }
 {
     match overlay.slot_near(asn, place) {
-        Some(change) => change.as_ref(),
+        Some(change) => change,
         None => table.held_near(asn, place),
     }
 }

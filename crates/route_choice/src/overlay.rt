@@ -2,12 +2,10 @@
 
 ghost use Rattle.std.specs.Prelude.{◌≡◌, ◌≢◌, ◌⊎◌, ℕ, ◌+◌, ◌<◌, ◌≤◌, [], ◌∷◌, ◌++◌, length, slice_get, Some, None, IsSome, IsOk, OnOk, is_some, nat_eq, unwrap_or, IfOk, if◌then◌else◌};
 ghost use Rattle.std.specs.List.{IsDistinct};
-ghost use Rattle.std.specs.Option.{option_copied};
 ghost use Rattle.net_names.specs.Numbers.{occurs};
 
 use crate::Held;
-use crate::slots::{blank_slots, exchange_near, find_near, let_all_go};
-use indexmap::IndexMap;
+use crate::slots::{Slots, let_all_go};
 use net_names::{Asn, NoMemory};
 use path_pool::PathPool;
 use std::alloc::Global;
@@ -16,7 +14,7 @@ use std::alloc::Global;
 /// entries.
 #[derive(Drop)]
 pub struct Overlay {
-    pub(crate) changes: IndexMap<Asn, Option<Held>>,
+    pub(crate) changes: Slots,
 }
 
 impl Overlay {
@@ -32,7 +30,7 @@ impl Overlay {
         ensures uses { (k : ℕ) → overlay_uses result k ≡ 0 }
     {
         Overlay {
-            changes: IndexMap::new(alloc),
+            changes: Slots::new(alloc),
         }
     }
 
@@ -45,7 +43,7 @@ impl Overlay {
         ensures room { IfOk result (λ o. n ≤ overlay_spare o) }
     {
         Ok(Overlay {
-            changes: blank_slots(alloc, ases, n)?,
+            changes: Slots::blank(alloc, ases, n)?,
         })
     }
 
@@ -58,32 +56,29 @@ impl Overlay {
         ensures places { places_of self.new ≡ places_of self.old }
         ensures uses { (k : ℕ) → overlay_uses self.new k ≡ overlay_uses self.old k }
     {
-        match self.changes.reserve(n) {
-            Ok(()) => Ok(()),
-            Err(_) => Err(NoMemory),
-        }
+        self.changes.room(n)
     }
 
     /// The change at an AS, if there is one: a new entry, or none.
     pub fn get(&self, asn: Asn) -> Option<Option<Held>>
         ensures { result ≡ change_at self.now asn }
     {
-        self.changes.get(&asn).copied()
+        self.get_near(asn, 0)
     }
 
     /// The change at an AS, as `get` gives it, sought first at a place, which is a hint.
     pub fn get_near(&self, asn: Asn, place: usize) -> Option<Option<Held>>
         ensures { result ≡ change_at self.now asn }
     {
-        self.slot_near(asn, place).copied()
+        self.slot_near(asn, place)
     }
 
     // The change at an AS, sought first at a place.
     #[inline(always)]
-    pub(crate) fn slot_near(&self, asn: Asn, place: usize) -> Option<&Option<Held>>
-        ensures { option_copied result ≡ change_at self.now asn }
+    pub(crate) fn slot_near(&self, asn: Asn, place: usize) -> Option<Option<Held>>
+        ensures { result ≡ change_at self.now asn }
     {
-        find_near(&self.changes, asn, place)
+        self.changes.get_near(asn, place)
     }
 
     /// Puts a change at an AS, in place of the one that it had. The caller gives the hold of the
@@ -119,7 +114,7 @@ impl Overlay {
         ensures new_place { change_at self.old asn ≡ None → places_of self.new ≡ places_of self.old ++ asn ∷ [] }
         ensures kept_spare { IsSome (change_at self.old asn) → overlay_spare self.new ≡ overlay_spare self.old }
     {
-        exchange_near(&mut self.changes, asn, place, held)
+        self.changes.exchange_near(asn, place, held)
     }
 
     /// How many ASes have a change. Each stands at one place.
@@ -135,8 +130,8 @@ impl Overlay {
     pub fn at(&self, place: usize) -> Option<Asn>
         ensures { result ≡ slice_get (places_of self.now) place }
     {
-        match self.changes.get_index(place) {
-            Some((asn, _)) => Some(*asn),
+        match self.changes.at(place) {
+            Some((asn, _)) => Some(asn),
             None => None,
         }
     }

@@ -208,7 +208,7 @@ pub fn settle_near<P: RoutePolicy>(
         chosen.choice,
         chosen.place,
     );
-    let have = held_near(table, overlay, asn, place).copied();
+    let have = held_near(table, overlay, asn, place);
     if is_held(pool, asn, &have, &wanted) {
         return false;
     }

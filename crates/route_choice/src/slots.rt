@@ -1,134 +1,149 @@
 //! Entries by AS, and the holds of their paths.
 
-ghost use Rattle.std.specs.Prelude.{◌≡◌, ◌≢◌, ◌⊎◌, ℕ, ◌+◌, ◌<◌, ◌≤◌, [], ◌∷◌, ◌++◌, length, Some, None, IsSome, IfOk, nat_eq, unwrap_or};
+ghost use Rattle.std.specs.Prelude.{◌≡◌, ◌≢◌, ◌⊎◌, ℕ, ◌+◌, ◌<◌, ◌≤◌, [], ◌∷◌, ◌++◌, length, slice_get, Some, None, IsSome, IsOk, IfOk, IfSome, OnOk, nat_eq, unwrap_or};
 ghost use Rattle.std.specs.List.{IsDistinct};
-ghost use Rattle.std.specs.Option.{option_copied};
-ghost use Rattle.indexmap.specs.IndexMap.{get, keys, spare};
 ghost use Rattle.path_pool.specs.Pool.{holds_of};
-ghost use Rattle.route_choice.specs.Slots.{entry_at, over, use_of, uses_of, IsBlank};
+ghost use Rattle.route_choice.specs.Slots.{slot_at, entry_at, keys, over, use_of, uses_of, IsBlank};
 ghost use Rattle.route_choice.specs.Holds.{GivesBack};
 
 use crate::Held;
+use crate::beside::exchange;
+use crate::slot::Slot;
+use as_places::AsPlaces;
 use indexmap::IndexMap;
 use net_names::{Asn, NoMemory};
 use path_pool::PathPool;
 use std::alloc::Global;
+use std::marker::Model;
 
-// Puts an entry, or none, at an AS. Returns what stood there.
-pub(crate) fn exchange(
-    slots: &mut IndexMap<Asn, Option<Held>>,
-    asn: Asn,
-    entry: Option<Held>,
-) -> Option<Held>
-    requires { IsSome (get nat_eq slots.old asn) ⊎ (0 < spare slots.old) }
-    ensures old { result ≡ unwrap_or (get nat_eq slots.old asn) None }
-    ensures this { get nat_eq slots.new asn ≡ Some entry }
-    ensures others { (a : ℕ) → a ≢ asn → get nat_eq slots.new a ≡ get nat_eq slots.old a }
-    ensures uses { (k : ℕ) → uses_of slots.new k + use_of k result ≡ uses_of slots.old k + use_of k entry }
-    ensures spare { spare slots.old ≤ spare slots.new + 1 }
-    ensures kept { IsSome (get nat_eq slots.old asn) → keys slots.new ≡ keys slots.old }
-    ensures kept_spare { IsSome (get nat_eq slots.old asn) → spare slots.new ≡ spare slots.old }
-    ensures new_place { get nat_eq slots.old asn ≡ None → keys slots.new ≡ keys slots.old ++ asn ∷ [] }
-{
-    match slots.get_mut(&asn) {
-        Some(place) => {
-            let old = *place;
-            *place = entry;
-            old
+/// At some ASes an entry, or none. Contracts see the pairs in their order, and for how many more ASes
+/// there is room.
+///
+/// ASes that were there from the start have places, and each place a slot. Those that came later
+/// stand beside, in a hash table.
+#[derive(Drop)]
+pub(crate) struct Slots {
+    ases: AsPlaces,
+    rows: Vec<Slot>,
+    beside: IndexMap<Asn, Option<Held>>,
+}
+
+impl Model for Slots {
+    ghost use Rattle.std.specs.Prelude.{◌++◌};
+    ghost use Rattle.indexmap.specs.IndexMap.{spare as spare_beside};
+    ghost use Rattle.route_choice.specs.Slots.{Slots as SlotList};
+
+    ghost Value = { SlotList };
+
+    ghost use Rattle.route_choice.specs.Rows.{entries_at, AreByPlace};
+
+    ghost view = { λ s. record { entries = entries_at s.ases.ases s.rows.items ++ s.beside.entries; spare = spare_beside s.beside } };
+
+    ghost invariant = { λ s. AreByPlace s.ases.ases s.rows.items s.beside.entries };
+}
+
+impl Slots {
+    /// No AS.
+    pub(crate) fn new(alloc: Global) -> Slots
+        ensures { result.entries ≡ [] }
+    {
+        Slots {
+            ases: AsPlaces::new(alloc),
+            rows: Vec::new(alloc),
+            beside: IndexMap::new(alloc),
         }
-        None => {
-            add(slots, asn, entry);
-            None
+    }
+
+    /// No entry at each of these ASes, and room for so many more.
+    pub(crate) fn blank(alloc: Global, ases: &[Asn], more: usize) -> Result<Slots, NoMemory>
+        requires { IsDistinct nat_eq ases.now }
+        ensures { IfOk result (IsBlank ases.now more) }
+    {
+        let places = AsPlaces::of(alloc, ases)?;
+        let Ok(rows) = Vec::from_elem(alloc, Slot::Empty, ases.len()) else {
+            return Err(NoMemory);
+        };
+        let Ok(beside) = IndexMap::with_capacity(alloc, more) else {
+            return Err(NoMemory);
+        };
+        Ok(Slots {
+            ases: places,
+            rows,
+            beside,
+        })
+    }
+
+    /// How many ASes there are.
+    pub(crate) fn len(&self) -> usize
+        ensures count { result ≡ length self.now.entries }
+        ensures apart { IsDistinct nat_eq (keys self.now) }
+    {
+        self.rows.len() + self.beside.len()
+    }
+
+    /// Makes room for `n` more ASes. The entries stay, also after a refusal.
+    pub(crate) fn room(&mut self, n: usize) -> Result<(), NoMemory>
+        ensures room { OnOk result (n ≤ self.new.spare) }
+        ensures more { self.old.spare ≤ self.new.spare }
+        ensures succeeds { n ≤ self.old.spare → IsOk result }
+        ensures same { self.new.entries ≡ self.old.entries }
+    {
+        match self.beside.reserve(n) {
+            Ok(()) => Ok(()),
+            Err(_) => Err(NoMemory),
         }
     }
-}
 
-// No entry at each of these ASes, and room for so many more.
-pub(crate) fn blank_slots(
-    alloc: Global,
-    ases: &[Asn],
-    more: usize,
-) -> Result<IndexMap<Asn, Option<Held>>, NoMemory>
-    requires { IsDistinct nat_eq ases.now }
-    ensures { IfOk result (IsBlank ases.now more) }
-{
-    let Some(room) = ases.len().checked_add(more) else {
-        return Err(NoMemory);
-    };
-    let mut slots = IndexMap::new(alloc);
-    if slots.reserve(room).is_err() {
-        return Err(NoMemory);
+    /// The AS at a place, and what stands at it.
+    pub(crate) fn at(&self, place: usize) -> Option<(Asn, Option<Held>)>
+        ensures entry { result ≡ slice_get self.now.entries place }
+        ensures value { IfSome result (λ e. slot_at self.now e.0 ≡ Some e.1) }
+    {
+        match self.ases.at(place) {
+            Some(asn) => Some((asn, self.rows[place].entry())),
+            None => match self.beside.get_index(place - self.rows.len()) {
+                Some((asn, entry)) => Some((*asn, *entry)),
+                None => None,
+            },
+        }
     }
-    for asn in ases {
-        add(&mut slots, *asn, None);
+
+    /// What stands at an AS, sought first at a place.
+    #[inline(always)]
+    pub(crate) fn get_near(&self, asn: Asn, place: usize) -> Option<Option<Held>>
+        ensures { result ≡ slot_at self.now asn }
+    {
+        match self.ases.place_near(asn, place) {
+            Some(found) => Some(self.rows[found].entry()),
+            None => self.beside.get(&asn).copied(),
+        }
     }
-    Ok(slots)
-}
 
-// What stands at an AS.
-#[inline(never)]
-fn find(slots: &IndexMap<Asn, Option<Held>>, asn: Asn) -> Option<&Option<Held>>
-    ensures { option_copied result ≡ get nat_eq slots.now asn }
-{
-    slots.get(&asn)
-}
-
-// What stands at an AS, sought first at a place.
-#[inline(always)]
-pub(crate) fn find_near(
-    slots: &IndexMap<Asn, Option<Held>>,
-    asn: Asn,
-    place: usize,
-) -> Option<&Option<Held>>
-    ensures { option_copied result ≡ get nat_eq slots.now asn }
-{
-    match slots.get_index(place) {
-        Some((found, entry)) if *found == asn => Some(entry),
-        _ => find(slots, asn),
-    }
-}
-
-// Puts an entry, or none, at an AS, sought first at a place. Returns what stood there.
-pub(crate) fn exchange_near(
-    slots: &mut IndexMap<Asn, Option<Held>>,
-    asn: Asn,
-    place: usize,
-    entry: Option<Held>,
-) -> Option<Held>
-    requires { IsSome (get nat_eq slots.old asn) ⊎ (0 < spare slots.old) }
-    ensures old { result ≡ unwrap_or (get nat_eq slots.old asn) None }
-    ensures this { get nat_eq slots.new asn ≡ Some entry }
-    ensures others { (a : ℕ) → a ≢ asn → get nat_eq slots.new a ≡ get nat_eq slots.old a }
-    ensures uses { (k : ℕ) → uses_of slots.new k + use_of k result ≡ uses_of slots.old k + use_of k entry }
-    ensures spare { spare slots.old ≤ spare slots.new + 1 }
-    ensures kept { IsSome (get nat_eq slots.old asn) → keys slots.new ≡ keys slots.old }
-    ensures kept_spare { IsSome (get nat_eq slots.old asn) → spare slots.new ≡ spare slots.old }
-    ensures new_place { get nat_eq slots.old asn ≡ None → keys slots.new ≡ keys slots.old ++ asn ∷ [] }
-{
-    let old = match slots.get_index(place) {
-        Some((found, old)) if *found == asn => *old,
-        _ => return exchange(slots, asn, entry),
-    };
-    let Some(slot) = slots.get_index_mut(place) else {
-        unreachable!();
-    };
-    *slot = entry;
-    old
-}
-
-// Puts an entry, or none, at an AS at which there is nothing yet.
-fn add(slots: &mut IndexMap<Asn, Option<Held>>, asn: Asn, entry: Option<Held>)
-    requires absent { get nat_eq slots.old asn ≡ None }
-    requires room { 0 < spare slots.old }
-    ensures this { get nat_eq slots.new asn ≡ Some entry }
-    ensures others { (a : ℕ) → a ≢ asn → get nat_eq slots.new a ≡ get nat_eq slots.old a }
-    ensures uses { (k : ℕ) → uses_of slots.new k ≡ uses_of slots.old k + use_of k entry }
-    ensures spare { spare slots.old ≤ spare slots.new + 1 }
-    ensures new_place { keys slots.new ≡ keys slots.old ++ asn ∷ [] }
-{
-    match slots.insert(asn, entry) {
-        Ok(_) => {}
-        Err(_) => unreachable!(),
+    /// Puts an entry, or none, at an AS, sought first at a place. Returns what stood there.
+    pub(crate) fn exchange_near(
+        &mut self,
+        asn: Asn,
+        place: usize,
+        entry: Option<Held>,
+    ) -> Option<Held>
+        requires { IsSome (slot_at self.old asn) ⊎ (0 < self.old.spare) }
+        ensures old { result ≡ unwrap_or (slot_at self.old asn) None }
+        ensures this { slot_at self.new asn ≡ Some entry }
+        ensures others { (a : ℕ) → a ≢ asn → slot_at self.new a ≡ slot_at self.old a }
+        ensures uses { (k : ℕ) → uses_of self.new k + use_of k result ≡ uses_of self.old k + use_of k entry }
+        ensures spare { self.old.spare ≤ self.new.spare + 1 }
+        ensures kept { IsSome (slot_at self.old asn) → keys self.new ≡ keys self.old }
+        ensures kept_spare { IsSome (slot_at self.old asn) → self.new.spare ≡ self.old.spare }
+        ensures new_place { slot_at self.old asn ≡ None → keys self.new ≡ keys self.old ++ asn ∷ [] }
+    {
+        match self.ases.place_near(asn, place) {
+            Some(found) => {
+                let old = self.rows[found].entry();
+                self.rows[found] = Slot::of(entry);
+                old
+            }
+            None => exchange(&mut self.beside, asn, entry),
+        }
     }
 }
 
@@ -145,54 +160,45 @@ pub(crate) fn let_go(pool: &mut PathPool, entry: Option<Held>)
 }
 
 // Puts an entry, or none, at an AS, and gives back the hold of what stood there.
-fn replace(
-    slots: &mut IndexMap<Asn, Option<Held>>,
-    pool: &mut PathPool,
-    asn: Asn,
-    entry: Option<Held>,
-)
-    requires room { IsSome (get nat_eq slots.old asn) ⊎ (0 < spare slots.old) }
+fn replace(slots: &mut Slots, pool: &mut PathPool, asn: Asn, entry: Option<Held>)
+    requires room { IsSome (slot_at slots.old asn) ⊎ (0 < slots.old.spare) }
     requires held { (k : ℕ) → uses_of slots.old k ≤ holds_of pool.old k }
-    ensures this { get nat_eq slots.new asn ≡ Some entry }
-    ensures others { (a : ℕ) → a ≢ asn → get nat_eq slots.new a ≡ get nat_eq slots.old a }
+    ensures this { slot_at slots.new asn ≡ Some entry }
+    ensures others { (a : ℕ) → a ≢ asn → slot_at slots.new a ≡ slot_at slots.old a }
     ensures holds { (k : ℕ) → uses_of slots.new k + holds_of pool.old k ≡ uses_of slots.old k + holds_of pool.new k + use_of k entry }
     ensures back { GivesBack pool.old pool.new }
-    ensures spare { spare slots.old ≤ spare slots.new + 1 }
+    ensures spare { slots.old.spare ≤ slots.new.spare + 1 }
 {
-    let old = exchange(slots, asn, entry);
+    let old = slots.exchange_near(asn, 0, entry);
     let_go(pool, old);
 }
 
 // Puts all changes in place, and gives back the holds of what stood there.
-pub(crate) fn replace_all(
-    slots: &mut IndexMap<Asn, Option<Held>>,
-    changes: &IndexMap<Asn, Option<Held>>,
-    pool: &mut PathPool,
-)
-    requires room { length (keys changes.now) ≤ spare slots.old }
+pub(crate) fn replace_all(slots: &mut Slots, changes: &Slots, pool: &mut PathPool)
+    requires room { length (keys changes.now) ≤ slots.old.spare }
     requires held { (k : ℕ) → uses_of slots.old k + uses_of changes.now k ≤ holds_of pool.old k }
-    ensures entries { (a : ℕ) → entry_at slots.new a ≡ over (get nat_eq changes.now a) (entry_at slots.old a) }
+    ensures entries { (a : ℕ) → entry_at slots.new a ≡ over (slot_at changes.now a) (entry_at slots.old a) }
     ensures holds { (k : ℕ) → uses_of slots.new k + holds_of pool.old k ≡ uses_of slots.old k + uses_of changes.now k + holds_of pool.new k }
     ensures back { GivesBack pool.old pool.new }
 {
     for place in 0..changes.len() {
-        let Some((asn, entry)) = changes.get_index(place) else {
+        let Some(pair) = changes.at(place) else {
             unreachable!();
         };
-        replace(slots, pool, *asn, *entry);
+        replace(slots, pool, pair.0, pair.1);
     }
 }
 
 // Gives back the holds of all entries.
-pub(crate) fn let_all_go(slots: &IndexMap<Asn, Option<Held>>, pool: &mut PathPool)
+pub(crate) fn let_all_go(slots: &Slots, pool: &mut PathPool)
     requires { (k : ℕ) → uses_of slots.now k ≤ holds_of pool.old k }
     ensures holds { (k : ℕ) → holds_of pool.new k + uses_of slots.now k ≡ holds_of pool.old k }
     ensures back { GivesBack pool.old pool.new }
 {
     for place in 0..slots.len() {
-        let Some((_, entry)) = slots.get_index(place) else {
+        let Some(pair) = slots.at(place) else {
             unreachable!();
         };
-        let_go(pool, *entry);
+        let_go(pool, pair.1);
     }
 }

@@ -1,11 +1,9 @@
 //! The routing of one prefix and one round.
 
 ghost use Rattle.std.specs.Prelude.{◌≡◌, ℕ, ◌+◌, ◌≤◌, length, None, IsOk, OnOk, unwrap_or};
-ghost use Rattle.std.specs.Option.{option_copied};
 
-use crate::slots::{find_near, replace_all};
+use crate::slots::{Slots, replace_all};
 use crate::{Held, Overlay};
-use indexmap::IndexMap;
 use net_names::{Asn, NoMemory, Prefix};
 use path_pool::PathPool;
 use std::alloc::Global;
@@ -15,7 +13,7 @@ use std::alloc::Global;
 #[derive(Drop)]
 pub struct Table {
     prefix: Prefix,
-    slots: IndexMap<Asn, Option<Held>>,
+    slots: Slots,
 }
 
 impl Table {
@@ -32,7 +30,7 @@ impl Table {
     {
         Table {
             prefix,
-            slots: IndexMap::new(alloc),
+            slots: Slots::new(alloc),
         }
     }
 
@@ -60,26 +58,23 @@ impl Table {
     pub fn get(&self, asn: Asn) -> Option<Held>
         ensures { result ≡ held_at self.now asn }
     {
-        match self.slots.get(&asn) {
-            Some(entry) => *entry,
-            None => None,
-        }
+        self.get_near(asn, 0)
     }
 
     /// What an AS holds, as `get` gives it, sought first at a place, which is a hint.
     pub fn get_near(&self, asn: Asn, place: usize) -> Option<Held>
         ensures { result ≡ held_at self.now asn }
     {
-        self.held_near(asn, place).copied()
+        self.held_near(asn, place)
     }
 
     // What an AS holds, sought first at a place.
     #[inline(always)]
-    pub(crate) fn held_near(&self, asn: Asn, place: usize) -> Option<&Held>
-        ensures { option_copied result ≡ held_at self.now asn }
+    pub(crate) fn held_near(&self, asn: Asn, place: usize) -> Option<Held>
+        ensures { result ≡ held_at self.now asn }
     {
-        match find_near(&self.slots, asn, place) {
-            Some(entry) => entry.as_ref(),
+        match self.slots.get_near(asn, place) {
+            Some(entry) => entry,
             None => None,
         }
     }
@@ -92,10 +87,7 @@ impl Table {
         ensures same { (a : ℕ) → held_at self.new a ≡ held_at self.old a }
         ensures uses { (k : ℕ) → table_uses self.new k ≡ table_uses self.old k }
     {
-        match self.slots.reserve(n) {
-            Ok(()) => Ok(()),
-            Err(_) => Err(NoMemory),
-        }
+        self.slots.room(n)
     }
 
     /// Puts the changes in place, and gives back the holds of the entries that are replaced or
@@ -109,7 +101,7 @@ impl Table {
         ensures holds { (k : ℕ) → table_uses self.new k + holds_of pool.old k ≡ table_uses self.old k + overlay_uses overlay k + holds_of pool.new k }
         ensures back { GivesBack pool.old pool.new }
     {
-        if self.slots.is_empty() {
+        if self.slots.len() == 0 {
             self.slots = overlay.changes;
         } else {
             replace_all(&mut self.slots, &overlay.changes, pool);

@@ -4,7 +4,7 @@ use Rattle.route_choice.proofs.settling.settle_near.Goals as goal
 
 pub is_held-requires-clause-have : goal.is_held-requires-clause-have
 is_held-requires-clause-have g c = λ h e.
-    joined_live c.args.pool.now c.args.table.now c.args.overlay.now c.requires.pool.held c.args.asn h (sym c.held_near.ensures ∙ sym c.copied-have.ensures ∙ e)
+    joined_live c.args.pool.now c.args.table.now c.args.overlay.now c.requires.pool.held c.args.asn h (sym c.held_near-have.ensures ∙ e)
 
 pub is_held-requires-clause-wanted : goal.is_held-requires-clause-wanted
 is_held-requires-clause-wanted g c =

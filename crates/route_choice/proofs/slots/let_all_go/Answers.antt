@@ -9,7 +9,7 @@ let_go-requires c = λ k.
       c.loop-place.invariant.holds k,
       c.requires k,
       uses_before-le c.args.slots.now (c.loop-place.place + 1) k,
-      uses_before-more c.args.slots.now c.loop-place.place c.in-Some.field-0-0.now k c.in-Some.entry.now (sym c.in-Some.ensures.entry),
+      uses_before-more c.args.slots.now c.loop-place.place c.in-Some.pair.0 k c.in-Some.pair.1 (sym c.in-Some.ensures.entry),
     )
 
 pub loop-place-preserved : goal.loop-place-preserved
@@ -18,7 +18,7 @@ loop-place-preserved c = record {
     arith,
     c.loop-place.invariant.holds k,
     c.let_go.ensures.holds k,
-    uses_before-more c.args.slots.now c.loop-place.place c.in-Some.field-0-0.now k c.in-Some.entry.now (sym c.in-Some.ensures.entry),
+    uses_before-more c.args.slots.now c.loop-place.place c.in-Some.pair.0 k c.in-Some.pair.1 (sym c.in-Some.ensures.entry),
   );
   back = back_more c.args.pool.now c.loop-place.pool c.let_go.new.pool c.loop-place.invariant.back c.let_go.ensures.back;
 }

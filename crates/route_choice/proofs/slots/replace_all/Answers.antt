@@ -6,10 +6,10 @@ use Rattle.route_choice.proofs.slots.replace_all.Goals as goal
 pub loop-place-preserved : goal.loop-place-preserved
 loop-place-preserved c =
     replacing_more c.args.slots.now c.loop-place.slots c.replace.new.slots c.args.changes.now c.args.pool.now c.loop-place.pool c.replace.new.pool
-    c.loop-place.place c.in-Some.asn.now c.in-Some.entry.now c.loop-place.invariant (sym c.in-Some.ensures.entry) c.in-Some.ensures.value
+    c.loop-place.place c.in-Some.pair.0 c.in-Some.pair.1 c.loop-place.invariant (sym c.in-Some.ensures.entry) c.in-Some.ensures.value
     c.replace.ensures.this c.replace.ensures.others c.replace.ensures.holds c.replace.ensures.back c.replace.ensures.spare
 
 pub returns-clause-entries : goal.returns-clause-entries
 returns-clause-entries c = λ a.
-    let past : length c.args.changes.now.entries ≤ c.loop-place.place = omega (arith, c.loop-place-test.false, c.len-place-end.ensures.len) in
+    let past : length c.args.changes.now.entries ≤ c.loop-place.place = omega (arith, c.loop-place-test.false, c.len-place-end.ensures.count) in
     c.loop-place.invariant.entries a ∙ is_before-all c.args.changes.now c.loop-place.place a (entry_at c.args.slots.now a) past

@@ -5,8 +5,8 @@ use Rattle.route_choice.specs.Routings.{entry_of}
 use Rattle.route_choice.proofs.Lists.{back_same}
 use Rattle.route_choice.proofs.table.Table.commit.Goals as goal
 
-pub returns-else-is_empty-clause-routing : goal.returns-else-is_empty-clause-routing
-returns-else-is_empty-clause-routing c = λ a.
+pub returns-else-len-eq0-clause-routing : goal.returns-else-len-eq0-clause-routing
+returns-else-len-eq0-clause-routing c = λ a.
     let held : (k : ℕ) → uses_of c.replace_all.new.slots k ≤ holds_of c.replace_all.new.pool k = λ k. omega (arith, c.replace_all.ensures.holds k, c.requires.held k) in
     back_same c.args.pool.now c.replace_all.new.pool c.replace_all.new.slots c.replace_all.ensures.back held a
     ∙ ap (option_map (entry_of c.args.pool.now)) (c.replace_all.ensures.entries a)
