@@ -1,7 +1,7 @@
 //! The two passes. For each AS of the order they get the place where its row was last found in the
 //! graph, which is a hint.
 
-ghost use Rattle.std.specs.Prelude.{◌≡◌, ◌≢◌, ◌↔◌, ◌⊎◌, ℕ, IsTrue, true, false, Some, None, length, slice_index, ◌<◌, ◌≤◌, ◌+◌, if◌then◌else◌};
+ghost use Rattle.std.specs.Prelude.{◌≡◌, ◌≢◌, ◌↔◌, ◌⊎◌, ℕ, IsTrue, IsSome, true, false, Some, None, length, slice_index, ◌<◌, ◌≤◌, ◌+◌, if◌then◌else◌};
 ghost use Rattle.net_names.specs.Numbers.{occurs};
 ghost use Rattle.net_names.specs.declared.routes.Rel.{Rel as ARel};
 ghost use Rattle.net_names.specs.declared.routes.Rel.TheVariants.{Customer};
@@ -11,7 +11,7 @@ ghost use Rattle.rank_order.specs.Ranks.{rank_at, IsRankOrder};
 ghost use Rattle.stability_laws.specs.Book.{policy_at};
 ghost use Rattle.stability_laws.specs.Stable.{IsStable};
 ghost use Rattle.stability_laws.specs.World.{setting};
-ghost use Rattle.route_choice.specs.Tables.{joined, prefix_of, seed_at};
+ghost use Rattle.route_choice.specs.Tables.{change_at, joined, prefix_of, seed_at};
 ghost use Rattle.route_choice.specs.Choices.{IsStepOf};
 ghost use Rattle.route_choice.specs.Loops.{HasNoLoops};
 ghost use Rattle.route_choice.specs.Routings.{routing_of, seeds_of};
@@ -174,6 +174,7 @@ fn step_down<P: RoutePolicy, V: OriginStates, L: Ledger>(
     ensures step { IsStepOf Part.Whole (setting P.meaning graph.now book.now (V.state_of states.now (prefix_of table.now))) (seeds_of pool.old seeds.now) (routing_of pool.old table.now overlay.old) asn (routing_of pool.new table.now overlay.new) }
     ensures changed { IsTrue result ↔ (routing_of pool.new table.now overlay.new asn ≢ routing_of pool.old table.now overlay.old asn) }
     ensures unchanged { result ≡ false → (pool.new ≡ pool.old) × (overlay.new ≡ overlay.old) }
+    ensures put { IsTrue result → IsSome (change_at overlay.new asn) }
     ensures spent { Spends pool.old pool.new overlay.old overlay.new asn }
     ensures kept { GivesUpNothing overlay.old (routing_of pool.old table.now overlay.old) (routing_of pool.new table.now overlay.new) asn → Keeps pool.old pool.new seeds.now }
 {

@@ -113,7 +113,7 @@ loop-left-preserved g c =
     let step = step_seeds Whole here (seeds_of c.loop-left.pool c.args.seeds.now) seeds f a f' c.step_down.ensures.step (c.loop-left.invariant.spent.keeps.same_seeds a) in
     let fresh = down_fresh here lawful (what_mutual w) (what_self w) seeds (rank_at c.args.ranks.now) falls xs c.requires.order i a a f f' within c.index-order-left.is more step so_far in
     let both = visited c.args.pool.now c.loop-left.pool c.step_down.new.pool c.args.seeds.now c.args.table.now c.args.overlay.now c.loop-left.overlay c.step_down.new.overlay xs a c.step_down.result
-    c.requires.order.apart there c.loop-left.invariant.room c.loop-left.invariant.spent c.step_down.ensures.changed c.step_down.ensures.unchanged step.others c.step_down.ensures.spent c.step_down.ensures.kept fresh in
+    c.requires.order.apart there c.loop-left.invariant.room c.loop-left.invariant.spent c.step_down.ensures.changed c.step_down.ensures.unchanged step.others c.step_down.ensures.spent c.step_down.ensures.kept c.step_down.ensures.put fresh in
     record {
       within = omega (arith, c.loop-left.invariant.within);
       steps = omega (arith, c.step_down.ensures.cost, c.loop-left.invariant.steps);

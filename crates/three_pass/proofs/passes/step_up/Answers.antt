@@ -65,7 +65,7 @@ both g c =
     let none = ap (routing_of c.args.pool.now c.args.table.now c.args.overlay.now) read ∙ c.requires.nothing in
     visited c.args.pool.now c.args.pool.now c.visit.new.pool c.args.seeds.now c.args.table.now c.args.overlay.now c.args.overlay.now c.visit.new.overlay xs a c.visit.result
     c.requires.order.apart there c.requires.room (spent_nothing c.args.pool.now c.args.seeds.now c.args.table.now c.args.overlay.now xs)
-    c.visit.ensures.changed c.visit.ensures.unchanged c.visit.ensures.step.others c.visit.ensures.spent c.visit.ensures.kept (inl none)
+    c.visit.ensures.changed c.visit.ensures.unchanged c.visit.ensures.step.others c.visit.ensures.spent c.visit.ensures.kept c.visit.ensures.put (inl none)
 
 pub returns-clause-room : goal.returns-clause-room
 returns-clause-room g c = (both g c).0
