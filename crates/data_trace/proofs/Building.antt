@@ -1,37 +1,37 @@
--- A watch is built from no lists.
-use Rattle.std.proofs.Common.{◌≡◌, ⊎_elim, ℕ, ◌<◌, ◌≤◌, Bool, true, false, eqb, Option, Some, None, List, [], length, get_or, refl, sym, ◌∙◌, ap, subst, arith, cond}
+-- Lists are built from no lists.
+use Rattle.std.proofs.Common.{◌≡◌, ◌≢◌, ⊎_elim, ℕ, zero, suc, ◌+◌, ◌<◌, ◌≤◌, Bool, true, false, ◌||◌, Option, Some, None, List, length, refl, sym, ◌∙◌, ap, arith, cond}
 use Rattle.std.specs.Prelude.{nat_eq}
-use Rattle.std.specs.List.{list_any, IsDistinct}
-use Rattle.std.proofs.lemmas.Bool.{cases_lt, cases_Bool, eqb-true}
-use Rattle.std.proofs.lemmas.List.{get_or_past, ext_get_or, get_or_default}
-use Rattle.std.proofs.lemmas.Map.Keys.{IsDistinct-from_apart}
+use Rattle.std.specs.List.{list_any, range_with_len}
+use Rattle.std.proofs.lemmas.Bool.{cases_lt, cases_eq, or_right, eq-eqb}
+use Rattle.std.proofs.lemmas.List.{get_or_past}
 use Rattle.data_trace.specs.declared.places.PlaceHop.{PlaceHop}
 use Rattle.data_trace.specs.declared.places.PlaceHop.TheVariants.{NoRoute}
 use Rattle.data_trace.specs.Traces.{IsIn}
 use Rattle.data_trace.specs.Marks.{hop_at}
-use Rattle.data_trace.specs.Lists.{link_at, target, AreLists, HasLists, owner_but, AreNumbers, AreNone}
-use Rattle.data_trace.proofs.Traces.{at_in}
+use Rattle.data_trace.specs.Lists.{link_at, target, AreLists, HasLists, owner_but, AreNone}
+use Rattle.data_trace.proofs.ListLemmas.{eqb_no}
 
-pub numbers_below : (xs : List ℕ) (n : ℕ) → AreNumbers xs n → (k : ℕ) → k < length xs → get_or xs k 0 < n
-numbers_below xs n h k l = omega (arith, h.each k (omega (arith, l, h.len)), l, h.len)
+-- which numbers are among those from a on
+pub range_in : (a n x : ℕ) → a ≤ x → x < a + n → IsIn x (range_with_len a n)
+range_in a zero x l m = absurd (omega arith)
+range_in a (suc n) x l m = ⊎_elim (λ (e : x ≡ a). ap (λ v. v || list_any (nat_eq x) (range_with_len (a + 1) n)) (eq-eqb x a e))
+    (λ (ne : x ≢ a). or_right (nat_eq x a) (list_any (nat_eq x) (range_with_len (a + 1) n)) (range_in (a + 1) n x (⊎_elim (λ (k : a < x). omega (arith, k)) (λ (k : x ≤ a). absurd (ne (omega (arith, k, l)))) (cases_lt a x)) (omega (arith, m)))) (cases_eq x a)
 
-pub numbers_distinct : (xs : List ℕ) (n : ℕ) → AreNumbers xs n → IsDistinct nat_eq xs
-numbers_distinct xs n h = IsDistinct-from_apart nat_eq xs (λ i j d l m. ⊎_elim (λ (e : eqb (get_or xs i d) (get_or xs j d) ≡ true). absurd (no i j d l m (eqb-true _ _ e))) (λ e. e) (cases_Bool (eqb (get_or xs i d) (get_or xs j d))))
-  where
-    no : (i j d : ℕ) → i < j → j < length xs → get_or xs i d ≡ get_or xs j d → ⊥
-    no i j d l m e =
-        let a : get_or xs i d ≡ i = get_or_default xs i d 0 (omega (arith, l, m)) ∙ h.each i (omega (arith, l, m, h.len)) in
-        let b : get_or xs j d ≡ j = get_or_default xs j d 0 m ∙ h.each j (omega (arith, m, h.len)) in
-        absurd (omega (arith, a, b, e, l))
+pub range_all : (n x : ℕ) → x < n → IsIn x (range_with_len 0 n)
+range_all n x l = range_in 0 n x (omega arith) (omega (arith, l))
 
-pub numbers_in : (xs : List ℕ) (n : ℕ) → AreNumbers xs n → (x : ℕ) → x < n → IsIn x xs
-numbers_in xs n h x l = subst (λ t. IsIn t xs) (h.each x l) (at_in xs x (omega (arith, l, h.len)))
+pub range_apart : (a n x : ℕ) → x < a → list_any (nat_eq x) (range_with_len a n) ≡ false
+range_apart a zero x l = refl
+range_apart a (suc n) x l =
+    let ne : x ≢ a = λ e. absurd (omega (arith, l, e)) in
+    ap (λ v. v || list_any (nat_eq x) (range_with_len (a + 1) n)) (eqb_no x a ne) ∙ range_apart (a + 1) n x (omega (arith, l))
 
 none_some : (x : ℕ) → None ≡ Some x → ⊥
 none_some x e = cc
 
-pub no_lists : (hops : List PlaceHop) (places : List ℕ) (first before after : List (Option ℕ)) → AreNumbers places (length hops) → AreNone first (length hops) → AreNone before (length hops) → AreNone after (length hops) → HasLists hops places first before after
-no_lists hops places first before after h f b a = record {
+-- before any place has joined a list
+pub no_lists : (hops : List PlaceHop) (first before after : List (Option ℕ)) → AreNone first (length hops) → AreNone before (length hops) → AreNone after (length hops) → HasLists hops (range_with_len 0 (length hops)) first before after
+no_lists hops first before after f b a = record {
   first_len = f.len;
   before_len = b.len;
   after_len = a.len;
@@ -40,25 +40,17 @@ no_lists hops places first before after h f b a = record {
   after_below = λ x y e. absurd (none_some y (sym (a.each x) ∙ e));
   lists = ∣ (λ x. 0, lists) ∣₁;
 } where
-  none : (x : ℕ) → owner_but hops places x ≡ None
-  none x = ⊎_elim (λ (l : x < length hops). ap (λ v. cond v None (target (hop_at hops x))) (numbers_in places _ h x l)) (λ (g : length hops ≤ x). past g (list_any (nat_eq x) places)) (cases_lt x (length hops))
+  none : (x : ℕ) → owner_but hops (range_with_len 0 (length hops)) x ≡ None
+  none x = ⊎_elim (λ (l : x < length hops). ap (λ v. cond v None (target (hop_at hops x))) (range_all (length hops) x l)) (λ (g : length hops ≤ x). past g (list_any (nat_eq x) (range_with_len 0 (length hops)))) (cases_lt x (length hops))
     where
       past : length hops ≤ x → (v : Bool) → cond v None (target (hop_at hops x)) ≡ None
       past g true = refl
       past g false = ap target (get_or_past hops x NoRoute g)
 
-  lists : AreLists (owner_but hops places) (link_at first) (link_at before) (link_at after) (λ x. 0)
+  lists : AreLists (owner_but hops (range_with_len 0 (length hops))) (link_at first) (link_at before) (link_at after) (λ x. 0)
   lists = record {
     front = λ x y o n. absurd (none_some y (sym (none x) ∙ o));
     behind = λ x y p o n. absurd (none_some y (sym (none x) ∙ o));
     starts = λ x y e. absurd (none_some x (sym (f.each y) ∙ e));
     goes_on = λ x y z o e. absurd (none_some y (sym (none x) ∙ o));
   }
-
-pub all_hops : (hops next : List PlaceHop) (places : List ℕ) → length hops ≡ length next → AreNumbers places (length hops) → ((x : ℕ) → IsIn x places → hop_at hops x ≡ hop_at next x) → hops ≡ next
-all_hops hops next places len h same = ext_get_or NoRoute hops next len (λ x l. same x (numbers_in places _ h x l))
-
-pub lists_along : (hops hops' : List PlaceHop) (first first' before before' after after' : List (Option ℕ)) → hops' ≡ hops → first' ≡ first → before' ≡ before → after' ≡ after → HasLists hops [] first before after → HasLists hops' [] first' before' after'
-lists_along hops hops' first first' before before' after after' h f b a l =
-    subst (λ t. HasLists t [] first' before' after') (sym h) (subst (λ t. HasLists hops [] t before' after') (sym f)
-    (subst (λ t. HasLists hops [] first t after') (sym b) (subst (λ t. HasLists hops [] first before t) (sym a) l)))

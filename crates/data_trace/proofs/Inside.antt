@@ -29,3 +29,8 @@ next_inside g plan held addr inside a b e = by (sent_by plan held addr a) e
 pub if_ok : {T E : Type 0} (P Q R S : T → Type 0) (r : Result T E) → ((t : T) → P t → Q t → R t → S t) → IfOk r P → IfOk r Q → IfOk r R → IfOk r S
 if_ok P Q R S (Ok t) f p q r = f t p q r
 if_ok P Q R S (Err e) f p q r = tt
+
+-- a fact of a value, if there is one, gives another
+pub ok_gives : {T E : Type 0} (P Q : T → Type 0) (r : Result T E) → ((t : T) → P t → Q t) → IfOk r P → IfOk r Q
+ok_gives P Q (Ok t) f p = f t p
+ok_gives P Q (Err e) f p = tt

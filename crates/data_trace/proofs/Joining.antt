@@ -1,12 +1,12 @@
 -- Places join the lists of the places that they send to.
-use Rattle.std.proofs.Common.{◌≡◌, ◌≢◌, ◌⊎◌, inl, inr, ⊎_elim, ℕ, ◌+◌, ◌<◌, false, ◌||◌, eqb, Option, Some, None, List, ◌∷◌, length, get_or, set, drop, refl, sym, ◌∙◌, ap, subst, arith, cond, true≢false}
+use Rattle.std.proofs.Common.{◌≡◌, ◌≢◌, ◌⊎◌, inl, inr, ⊎_elim, ℕ, ◌+◌, ◌<◌, Bool, true, false, ◌||◌, eqb, Option, Some, None, List, ◌∷◌, length, get_or, drop, refl, sym, ◌∙◌, ap, subst, arith, cond, true≢false}
 use Rattle.std.specs.Prelude.{nat_eq}
 use Rattle.std.proofs.Math.Logic.{∥∥₁_map}
 use Rattle.std.specs.List.{list_any, IsDistinct}
 use Rattle.std.proofs.lemmas.Map.Keys.{apart_from_distinct}
 use Rattle.data_trace.proofs.Traces.{in_at}
 use Rattle.std.proofs.lemmas.Bool.{cases_eq, cases_Bool, eq-eqb}
-use Rattle.std.proofs.lemmas.List.{length-set, get_or-set_same, get_or-set_other, length-drop, get_or-drop}
+use Rattle.std.proofs.lemmas.List.{length-drop, get_or-drop}
 use Rattle.data_trace.specs.declared.places.PlaceHop.{PlaceHop}
 use Rattle.data_trace.specs.declared.places.PlaceHop.TheVariants.{Here, To, NoRoute}
 use Rattle.data_trace.specs.Traces.{IsIn}
@@ -23,57 +23,53 @@ lists_same owner other first before after rank e h = record {
 }
 
 -- an AS without an owner stands in no list
-no_owner : (owner : ℕ → Option ℕ) (a : ℕ) (o : Option ℕ) → owner a ≡ o → (x : ℕ) → owner_with owner a o x ≡ owner x
+pub no_owner : (owner : ℕ → Option ℕ) (a : ℕ) (o : Option ℕ) → owner a ≡ o → (x : ℕ) → owner_with owner a o x ≡ owner x
 no_owner owner a o e x = ⊎_elim (λ (q : x ≡ a). ap (owner_with owner a o) q ∙ owner_same owner a o ∙ sym e ∙ ap owner (sym q)) (λ (q : x ≢ a). owner_other owner a x o q) (cases_eq x a)
 
 -- ---- a place joins the list of its next hop
 
-owner_set : (hops : List PlaceHop) (rest : List ℕ) (a : ℕ) (hop : PlaceHop) (x : ℕ) → a < length hops → list_any (nat_eq a) rest ≡ false → owner_but (set hops a hop) rest x ≡ owner_with (owner_but hops (a ∷ rest)) a (target hop) x
-owner_set hops rest a hop x l out = ⊎_elim here there (cases_eq x a)
+owner_joins : (hops : List PlaceHop) (rest : List ℕ) (a x : ℕ) → list_any (nat_eq a) rest ≡ false → owner_but hops rest x ≡ owner_with (owner_but hops (a ∷ rest)) a (target (hop_at hops a)) x
+owner_joins hops rest a x out = ⊎_elim here there (cases_eq x a)
   where
-    here : x ≡ a → owner_but (set hops a hop) rest x ≡ owner_with (owner_but hops (a ∷ rest)) a (target hop) x
-    here e = ap (owner_but (set hops a hop) rest) e ∙ ap (λ b. cond b None (target (hop_at (set hops a hop) a))) out ∙ ap target (get_or-set_same hops a hop NoRoute l)
-        ∙ sym (ap (owner_with (owner_but hops (a ∷ rest)) a (target hop)) e ∙ owner_same (owner_but hops (a ∷ rest)) a (target hop))
+    here : x ≡ a → owner_but hops rest x ≡ owner_with (owner_but hops (a ∷ rest)) a (target (hop_at hops a)) x
+    here e = ap (owner_but hops rest) e ∙ ap (λ b. cond b None (target (hop_at hops a))) out
+        ∙ sym (ap (owner_with (owner_but hops (a ∷ rest)) a (target (hop_at hops a))) e ∙ owner_same (owner_but hops (a ∷ rest)) a (target (hop_at hops a)))
 
-    there : x ≢ a → owner_but (set hops a hop) rest x ≡ owner_with (owner_but hops (a ∷ rest)) a (target hop) x
-    there ne = ap (λ t. cond (list_any (nat_eq x) rest) None (target t)) (get_or-set_other hops a x hop NoRoute ne)
-        ∙ sym (owner_other (owner_but hops (a ∷ rest)) a x (target hop) ne ∙ ap (λ b. cond (b || list_any (nat_eq x) rest) None (target (hop_at hops x))) (eqb_no x a ne))
+    there : x ≢ a → owner_but hops rest x ≡ owner_with (owner_but hops (a ∷ rest)) a (target (hop_at hops a)) x
+    there ne = sym (owner_other (owner_but hops (a ∷ rest)) a x (target (hop_at hops a)) ne ∙ ap (λ b. cond (b || list_any (nat_eq x) rest) None (target (hop_at hops x))) (eqb_no x a ne))
 
-module _ (hops : List PlaceHop) (rest : List ℕ) (first before after first' before' after' : List (Option ℕ)) (a : ℕ) (hop : PlaceHop) (h : HasLists hops (a ∷ rest) first before after) (l : a < length hops) (out : list_any (nat_eq a) rest ≡ false) where
+module _ (hops : List PlaceHop) (rest : List ℕ) (first before after first' before' after' : List (Option ℕ)) (a : ℕ) (h : HasLists hops (a ∷ rest) first before after) (l : a < length hops) (out : list_any (nat_eq a) rest ≡ false) where
   no_list : owner_but hops (a ∷ rest) a ≡ None
   no_list = ap (λ b. cond (b || list_any (nat_eq a) rest) None (target (hop_at hops a))) (eq-eqb a a refl)
 
-  len : length (set hops a hop) ≡ length hops
-  len = length-set hops a hop
-
-  pub join_none : target hop ≡ None → HasLists (set hops a hop) rest first before after
+  pub join_none : target (hop_at hops a) ≡ None → HasLists hops rest first before after
   join_none t = record {
-    first_len = h.first_len ∙ sym len;
-    before_len = h.before_len ∙ sym len;
-    after_len = h.after_len ∙ sym len;
-    first_below = λ x y e. subst (λ n. y < n) (sym len) (h.first_below x y e);
-    before_below = λ x y e. subst (λ n. y < n) (sym len) (h.before_below x y e);
-    after_below = λ x y e. subst (λ n. y < n) (sym len) (h.after_below x y e);
+    first_len = h.first_len;
+    before_len = h.before_len;
+    after_len = h.after_len;
+    first_below = h.first_below;
+    before_below = h.before_below;
+    after_below = h.after_below;
     lists = ∥∥₁_map h.lists (λ r. (
       r.0,
-      lists_same (owner_but hops (a ∷ rest)) (owner_but (set hops a hop) rest) (link_at first) (link_at before) (link_at after) r.0
-          (λ x. owner_set hops rest a hop x l out ∙ no_owner (owner_but hops (a ∷ rest)) a (target hop) (no_list ∙ sym t) x) r.1,
+      lists_same (owner_but hops (a ∷ rest)) (owner_but hops rest) (link_at first) (link_at before) (link_at after) r.0
+          (λ x. owner_joins hops rest a x out ∙ no_owner (owner_but hops (a ∷ rest)) a (target (hop_at hops a)) (no_list ∙ sym t) x) r.1,
     ));
   }
 
-  pub join_to : (b : ℕ) → hop ≡ To b → length first' ≡ length first → length before' ≡ length before → length after' ≡ length after →
-      LinksFirst (link_at first) (link_at before) (link_at after) (link_at first') (link_at before') (link_at after') a b (link_at first b) → HasLists (set hops a hop) rest first' before' after'
+  pub join_to : (b : ℕ) → hop_at hops a ≡ To b → length first' ≡ length first → length before' ≡ length before → length after' ≡ length after →
+      LinksFirst (link_at first) (link_at before) (link_at after) (link_at first') (link_at before') (link_at after') a b (link_at first b) → HasLists hops rest first' before' after'
   join_to b t fl bl al u = record {
-    first_len = fl ∙ h.first_len ∙ sym len;
-    before_len = bl ∙ h.before_len ∙ sym len;
-    after_len = al ∙ h.after_len ∙ sym len;
-    first_below = λ x y e. subst (λ n. y < n) (sym len) (first_below x y e (cases_eq x b));
-    before_below = λ x y e. subst (λ n. y < n) (sym len) (before_below x y e (is_this (link_at first b) x) (cases_eq x a));
-    after_below = λ x y e. subst (λ n. y < n) (sym len) (after_below x y e (cases_eq x a));
+    first_len = fl ∙ h.first_len;
+    before_len = bl ∙ h.before_len;
+    after_len = al ∙ h.after_len;
+    first_below = λ x y e. first_below x y e (cases_eq x b);
+    before_below = λ x y e. before_below x y e (is_this (link_at first b) x) (cases_eq x a);
+    after_below = λ x y e. after_below x y e (cases_eq x a);
     lists = ∥∥₁_map h.lists (λ r. (
       rank_with r.0 a,
-      lists_same (owner_with (owner_but hops (a ∷ rest)) a (Some b)) (owner_but (set hops a hop) rest) (link_at first') (link_at before') (link_at after') (rank_with r.0 a)
-          (λ x. owner_set hops rest a hop x l out ∙ ap (λ t. owner_with (owner_but hops (a ∷ rest)) a (target t) x) t)
+      lists_same (owner_with (owner_but hops (a ∷ rest)) a (Some b)) (owner_but hops rest) (link_at first') (link_at before') (link_at after') (rank_with r.0 a)
+          (λ x. owner_joins hops rest a x out ∙ ap (λ t. owner_with (owner_but hops (a ∷ rest)) a (target t) x) t)
           (linked (owner_but hops (a ∷ rest)) (link_at first) (link_at before) (link_at after) (link_at first') (link_at before') (link_at after') r.0 a b r.1 no_list u),
     ));
   } where
@@ -92,6 +88,22 @@ module _ (hops : List PlaceHop) (rest : List ℕ) (first before after first' bef
     after_below : (x y : ℕ) → link_at after' x ≡ Some y → (x ≡ a) ⊎ (x ≢ a) → y < length hops
     after_below x y e (inl q) = h.first_below b y (sym u.after_a ∙ ap (link_at after') (sym q) ∙ e)
     after_below x y e (inr q) = h.after_below x y (sym (u.after_other x q) ∙ e)
+
+-- the lists stay where only places of the queue get other next hops
+pub lists_rewritten : (hops hops' : List PlaceHop) (queue : List ℕ) (first before after : List (Option ℕ)) → length hops' ≡ length hops → ((x : ℕ) → list_any (nat_eq x) queue ≡ false → hop_at hops' x ≡ hop_at hops x) →
+    HasLists hops queue first before after → HasLists hops' queue first before after
+lists_rewritten hops hops' queue first before after len same h = record {
+  first_len = h.first_len ∙ sym len;
+  before_len = h.before_len ∙ sym len;
+  after_len = h.after_len ∙ sym len;
+  first_below = λ x y e. subst (λ n. y < n) (sym len) (h.first_below x y e);
+  before_below = λ x y e. subst (λ n. y < n) (sym len) (h.before_below x y e);
+  after_below = λ x y e. subst (λ n. y < n) (sym len) (h.after_below x y e);
+  lists = ∥∥₁_map h.lists (λ r. (r.0, lists_same (owner_but hops queue) (owner_but hops' queue) (link_at first) (link_at before) (link_at after) r.0 (λ x. owner x (list_any (nat_eq x) queue) refl) r.1));
+} where
+  owner : (x : ℕ) (v : Bool) → list_any (nat_eq x) queue ≡ v → cond v None (target (hop_at hops' x)) ≡ cond v None (target (hop_at hops x))
+  owner x true e = refl
+  owner x false e = ap target (same x e)
 
 pub target_none : (h : PlaceHop) → ((b : ℕ) → h ≡ To b → ⊥) → target h ≡ None
 target_none Here n = refl

@@ -15,7 +15,7 @@ use Rattle.data_trace.specs.declared.places.PlaceHop.TheVariants.{NoRoute, To}
 use Rattle.data_trace.specs.declared.places.Group.{Group}
 use Rattle.data_trace.specs.Marks.{hop_at}
 use Rattle.data_trace.specs.Watches.{IsStub}
-use Rattle.data_trace.specs.Columns.{name_at, named, group_at, is_customer}
+use Rattle.data_trace.specs.Columns.{name_at, named, group_at, gone, is_customer}
 
 eqb_turned : (a b : ℕ) → eqb a b ≡ eqb b a
 eqb_turned a b = ⊎_elim (λ (e : eqb a b ≡ true). e ∙ sym (eq-eqb b a (sym (eqb-true a b e)))) (λ (f : eqb a b ≡ false). f ∙ sym (back f)) (cases_Bool (eqb a b))
@@ -47,7 +47,7 @@ module _ (ases : List ℕ) (next : ℕ → Hop) (hops : List PlaceHop) (h : Plac
 
 pub each_push : (P : ℕ → Group → Type 0) (groups : List Group) (g : Group) (n : ℕ) → length groups ≡ n → ((x : ℕ) → x < n → P x (group_at groups x)) → P n g → (x : ℕ) → x < n + 1 → P x (group_at (groups ++ g ∷ []) x)
 each_push P groups g n len old new x l =
-    let d : Group = record { stub = false; label = 0 } in
+    let d : Group = gone in
     ⊎_elim (λ (b : x < n). subst (P x) (sym (get_or_append_left groups (g ∷ []) d x (omega (arith, b, len)))) (old x b))
     (λ (q : n ≤ x). let e : n ≡ x = omega (arith, q, l) in subst (P x) (sym (get_or_push groups g d x (omega (arith, e, len)))) (subst (λ k. P k g) e new)) (cases_lt x n)
 

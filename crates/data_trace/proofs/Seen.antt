@@ -1,17 +1,12 @@
 -- The rows that the columns of a watch make are right.
-use Rattle.std.proofs.Common.{◌≡◌, ◌⊎◌, inl, inr, ⊎_elim, ℕ, zero, suc, ◌+◌, ◌<◌, ◌≤◌, true, false, Option, Some, None, List, [], ◌∷◌, length, get_or, map, refl, sym, ◌∙◌, ap, subst, arith, true≢false}
-use Rattle.std.specs.Prelude.{nat_eq, slice_get, is_some, option_map}
-use Rattle.std.specs.List.{list_any, range_with_len, position, IsDistinct}
+use Rattle.std.proofs.Common.{◌≡◌, ◌⊎◌, inl, inr, ⊎_elim, ℕ, zero, suc, ◌+◌, ◌<◌, ◌≤◌, true, Option, Some, None, List, length, refl, sym, ◌∙◌, ap, subst, arith, cond}
+use Rattle.std.specs.Prelude.{is_some, option_map}
 use Rattle.std.proofs.Math.Logic.{∥∥₁_elim}
 use mathlib.Core.HLevel.{⊥_prop}
 use Rattle.std.proofs.Math.Nat.{ℕ_set}
-use Rattle.std.proofs.lemmas.Bool.{cases_lt, eqb-true}
+use Rattle.std.proofs.lemmas.Bool.{cases_lt}
 use Rattle.std.proofs.lemmas.List.{get_or_past}
-use Rattle.std.proofs.lemmas.List.FromFn.{length-map-range_with_len, get_or-map-range_with_len, fill_by_all}
-use Rattle.std.proofs.lemmas.List.Quantifiers.{position-Some}
-use Rattle.std.proofs.lemmas.Option.{slice_get_within, get_or_from_slice_get, slice_get-get_or}
-use Rattle.net_names.specs.Numbers.{occurs}
-use Rattle.as_graph.specs.Topology.{Topology, what, has}
+use Rattle.as_graph.specs.Topology.{Topology, has}
 use Rattle.data_trace.specs.declared.kinds.Hop.{Hop}
 use Rattle.data_trace.specs.declared.kinds.Hop.TheVariants as hop
 use Rattle.data_trace.specs.declared.kinds.End.{End}
@@ -21,16 +16,14 @@ use Rattle.data_trace.specs.declared.places.PlaceHop.TheVariants as place_hop
 use Rattle.data_trace.specs.declared.places.PlaceEnd.{PlaceEnd}
 use Rattle.data_trace.specs.declared.places.PlaceEnd.TheVariants as place_end
 use Rattle.data_trace.specs.declared.places.Mark.{Mark}
-use Rattle.data_trace.specs.declared.places.Mark.TheVariants.{Unknown, Known}
-use Rattle.data_trace.specs.declared.places.Group.{Group}
+use Rattle.data_trace.specs.declared.places.Mark.TheVariants.{Unknown, Walked, Known}
 use Rattle.data_trace.specs.Traces.{IsIn, IsTrace, HasEnd}
 use Rattle.data_trace.specs.Steps.{onward, reached, Ends}
 use Rattle.data_trace.specs.Marks.{as_hop, as_end, hop_at, next_of, mark_of, AreEnds}
-use Rattle.data_trace.specs.Watches.{Row, IsRow, AreRows, IsRowOf}
-use Rattle.data_trace.specs.Columns.{name_at, named, named_end, told, row, rows, AreAses, AreHops, AreGroups}
-use Rattle.data_trace.proofs.Ends.{one_end, ends_in}
-use Rattle.data_trace.proofs.Traces.{HasTrace, trace_exists, trace_ends, at_in}
-use Rattle.data_trace.proofs.Naming.{occurs_in}
+use Rattle.data_trace.specs.Columns.{name_at, named, named_end, told, fresh, AreHops}
+use Rattle.data_trace.specs.Counted.{kept_end}
+use Rattle.data_trace.proofs.Ends.{one_end, ends_in, ends_same}
+use Rattle.data_trace.proofs.Traces.{HasTrace, trace_exists, trace_ends}
 
 -- ---- ends over places are ends over ASes
 
@@ -44,7 +37,7 @@ no_route_is place_hop.NoRoute e = refl
 no_route_is place_hop.Here e = cc
 no_route_is (place_hop.To y) e = cc
 
-to_is : (h : PlaceHop) (y : ℕ) → as_hop h ≡ hop.To y → h ≡ place_hop.To y
+pub to_is : (h : PlaceHop) (y : ℕ) → as_hop h ≡ hop.To y → h ≡ place_hop.To y
 to_is place_hop.NoRoute y e = cc
 to_is place_hop.Here y e = cc
 to_is (place_hop.To z) y e = let k : z ≡ y = cc in ap place_hop.To k
@@ -86,12 +79,12 @@ module _ (next : ℕ → Hop) (ases : List ℕ) (hops : List PlaceHop) (h : AreH
 
 -- ---- known ends are those of the traces
 
-key : End → ℕ
+pub key : End → ℕ
 key (the_end.At a) = a + 2
 key the_end.NoRoute = 0
 key the_end.Loop = 1
 
-key_same : (d e : End) → key d ≡ key e → d ≡ e
+pub key_same : (d e : End) → key d ≡ key e → d ≡ e
 unfolding key
 key_same (the_end.At a) (the_end.At b) h = let q : a ≡ b = omega (arith, h) in ap the_end.At q
 key_same (the_end.At a) the_end.NoRoute h = absurd (omega (arith, h))
@@ -103,13 +96,13 @@ key_same the_end.Loop (the_end.At b) h = absurd (omega (arith, h))
 key_same the_end.Loop the_end.NoRoute h = absurd (omega (arith, h))
 key_same the_end.Loop the_end.Loop h = refl
 
-pub end_told_is : (next : ℕ → Hop) (ases : List ℕ) (hops : List PlaceHop) (marks : List Mark) → AreHops next ases hops → ((a b : ℕ) → next a ≡ hop.To b → IsIn b ases) → AreEnds (next_of hops) (length hops) marks →
-    (x : ℕ) → x < length hops → HasEnd next (name_at ases x) (told ases (mark_of marks x))
-end_told_is next ases hops marks h closed ends x l =
+pub end_told_is : (next : ℕ → Hop) (ases : List ℕ) (hops : List PlaceHop) (marks : List Mark) (x : ℕ) → ((a b : ℕ) → next a ≡ hop.To b → IsIn b ases) → AreEnds (next_of hops) (length hops) marks →
+    ((e : PlaceEnd) → Ends (next_of hops) x (as_end e) → Ends next (name_at ases x) (named_end ases e)) → x < length hops → HasEnd next (name_at ases x) (told ases (mark_of marks x))
+end_told_is next ases hops marks x closed ends carried l =
     let a : ℕ = name_at ases x in
     let t : HasTrace next a = trace_exists next ases closed a in
     let k : key t.1 ≡ key (told ases (mark_of marks x)) = ∥∥₁_elim (ends.ends x l) (ℕ_set (key t.1) (key (told ases (mark_of marks x))))
-    (λ r. ap key (one_end next a (named_end ases r.0) t.1 (ends_named next ases hops h x r.0 l r.2) (trace_ends next a t.0 t.1 t.2) ∙ sym (ap (told ases) r.1))) in
+    (λ r. ap key (one_end next a (named_end ases r.0) t.1 (carried r.0 r.2) (trace_ends next a t.0 t.1 t.2) ∙ sym (ap (told ases) r.1))) in
     (t.0, subst (λ d. IsTrace next a t.0 d) (key_same t.1 (told ases (mark_of marks x)) k) t.2)
 
 pub end_below : (hops : List PlaceHop) (marks : List Mark) → AreEnds (next_of hops) (length hops) marks → (x y : ℕ) → mark_of marks x ≡ Known (place_end.At y) → y < length hops
@@ -128,55 +121,28 @@ end_below hops marks ends x y m = ⊎_elim (λ l. l) (λ (g : length hops ≤ y)
     at g (inl l) = ∥∥₁_elim (ends.ends x l) ⊥_prop (λ r. by g r.0 (same r.0 (place_end.At y) (sym r.1 ∙ m)) r.2)
     at g (inr q) = never (sym (get_or_past marks x Unknown (omega (arith, q, ends.len))) ∙ m)
 
--- ---- rows
+-- ---- the next hops of the ASes of the graph
 
-map_map : {A B C : Type 0} (f : B → C) (g : A → B) (xs : List A) → map f (map g xs) ≡ map (λ x. f (g x)) xs
-map_map f g [] = refl
-map_map f g (x ∷ xs) = ap (λ ys. f (g x) ∷ ys) (map_map f g xs)
+module _ (g : Topology) (next : ℕ → Hop) (inside : (a b : ℕ) → next a ≡ hop.To b → has g b ≡ true) where
+  pub fresh_is : (a : ℕ) → has g a ≡ true → fresh g next a ≡ next a
+  fresh_is a e = ap (λ v. cond v (next a) hop.NoRoute) e
 
-module _ (ases : List ℕ) (hops : List PlaceHop) (marks : List Mark) (groups : List Group) where
-  pub names : map (λ (r : Row). r.asn) (rows ases hops marks groups) ≡ ases
-  names = map_map (λ (r : Row). r.asn) (row ases hops marks groups) (range_with_len 0 (length ases)) ∙ sym (fill_by_all (name_at ases) ases (length ases) 0 refl (λ k l. refl))
+  -- an AS of the graph ends as it does where other ASes have no route
+  pub fresh_ends : (a : ℕ) (e : End) → has g a ≡ true → Ends (fresh g next) a e → Ends next a e
+  fresh_ends a e here q = ends_same (fresh g next) next (λ y. has g y ≡ true) (λ y k. sym (fresh_is y k)) (λ y z k f. inside y z (sym (fresh_is y k) ∙ f)) a here e q
 
-  row_at : (place : ℕ) (r : Row) → slice_get (rows ases hops marks groups) place ≡ Some r → (place < length ases) × (row ases hops marks groups place ≡ r)
-  row_at place r e =
-      let l : place < length ases = omega (arith, slice_get_within (rows ases hops marks groups) place r e, length-map-range_with_len (row ases hops marks groups) 0 (length ases)) in
-      (l, sym (get_or-map-range_with_len (row ases hops marks groups) 0 (length ases) place place r l (omega arith)) ∙ get_or_from_slice_get (rows ases hops marks groups) place r r e)
+-- ---- a place whose end is known
 
-  pub row_there : (place : ℕ) → place < length ases → slice_get (rows ases hops marks groups) place ≡ Some (row ases hops marks groups place)
-  row_there place l =
-      let d : Row = row ases hops marks groups place in
-      slice_get-get_or (rows ases hops marks groups) place d (omega (arith, l, length-map-range_with_len (row ases hops marks groups) 0 (length ases))) ∙ ap Some (get_or-map-range_with_len (row ases hops marks groups) 0 (length ases) place place d l (omega arith))
+pub kept_known : (ases : List ℕ) (hops : List PlaceHop) (marks : List Mark) (x : ℕ) → AreEnds (next_of hops) (length hops) marks → x < length hops → kept_end ases (mark_of marks x) ≡ Some (told ases (mark_of marks x))
+kept_known ases hops marks x ends l = by (mark_of marks x) (λ q. ∥∥₁_elim (ends.ends x l) ⊥_prop (λ r. unknown r.0 (sym q ∙ r.1))) (λ q. ∥∥₁_elim (ends.ends x l) ⊥_prop (λ r. walked r.0 (sym q ∙ r.1)))
+  where
+    unknown : (e : PlaceEnd) → Unknown ≡ Known e → ⊥
+    unknown e q = cc
 
-  -- the row of the AS at a place that was sought
-  pub row_found : (a place : ℕ) → position (nat_eq a) ases ≡ Some place → IsRowOf (rows ases hops marks groups) a (row ases hops marks groups place)
-  row_found a place e =
-      let q = position-Some (nat_eq a) ases place 0 e in
-      record { place = place; there = row_there place q.0; asn = sym (eqb-true a (get_or ases place 0) q.1) }
+    walked : (e : PlaceEnd) → Walked ≡ Known e → ⊥
+    walked e q = cc
 
-  -- no row is that of an AS which is not listed
-  pub none_found : (a : ℕ) → list_any (nat_eq a) ases ≡ false → (r : Row) → IsRowOf (rows ases hops marks groups) a r → ⊥
-  none_found a f r is =
-      let q : (is.place < length ases) × (row ases hops marks groups is.place ≡ r) = row_at is.place r is.there in
-      let e : name_at ases is.place ≡ a = ap (λ (t : Row). t.asn) q.1 ∙ is.asn in
-      true≢false (sym (subst (λ t. IsIn t ases) e (at_in ases is.place q.0)) ∙ f)
-
-module _ (g : Topology) (next : ℕ → Hop) (label : ℕ → ℕ) (ases : List ℕ) (hops : List PlaceHop) (marks : List Mark) (groups : List Group)
-    (are : AreAses g ases) (h : AreHops next ases hops) (inside : (a b : ℕ) → next a ≡ hop.To b → has g b ≡ true) (gs : AreGroups g label ases groups) (ends : AreEnds (next_of hops) (length hops) marks) where
-  closed : (a b : ℕ) → next a ≡ hop.To b → IsIn b ases
-  closed a b e = sym (occurs_in b ases) ∙ are.listed b ∙ inside a b e
-
-  right : (x : ℕ) → x < length ases → IsRow (what g) next label (row ases hops marks groups x)
-  right x l = let group = gs.each x l in record {
-    next_hop = h.follows x l;
-    trace = end_told_is next ases hops marks h closed ends x (omega (arith, l, h.len));
-    stub = group.stub;
-    group = group.label_is;
-  }
-
-  pub are_rows : AreRows g next label (rows ases hops marks groups)
-  are_rows = record {
-    listed = λ a. ap (occurs a) (names ases hops marks groups) ∙ are.listed a;
-    apart = subst (IsDistinct nat_eq) (sym (names ases hops marks groups)) are.apart;
-    right = λ place r e. let q : (place < length ases) × (row ases hops marks groups place ≡ r) = row_at ases hops marks groups place r e in subst (IsRow (what g) next label) q.1 (right place q.0);
-  }
+    by : (m : Mark) → (m ≡ Unknown → ⊥) → (m ≡ Walked → ⊥) → kept_end ases m ≡ Some (told ases m)
+    by Unknown u w = absurd (u refl)
+    by Walked u w = absurd (w refl)
+    by (Known e) u w = refl

@@ -12,7 +12,7 @@ use Rattle.data_trace.specs.declared.places.Mark.{Mark}
 use Rattle.data_trace.specs.declared.places.Mark.TheVariants.{Unknown, Walked, Known}
 use Rattle.data_trace.specs.Traces.{IsIn}
 use Rattle.data_trace.specs.Steps.{Ends}
-use Rattle.data_trace.specs.Marks.{mark_of, is_unknown, AreRight, IsWalk, IsWalked, Settles, IsSettling, AreEnds, as_end}
+use Rattle.data_trace.specs.Marks.{mark_of, end_in, is_unknown, AreRight, IsWalk, IsWalked, Settles, IsSettling, AreEnds, as_end}
 use Rattle.data_trace.specs.declared.kinds.Hop.{Hop}
 use Rattle.data_trace.specs.declared.kinds.Hop.TheVariants as hop
 use Rattle.data_trace.specs.declared.kinds.End.{End}
@@ -59,6 +59,10 @@ count_less marks at l u =
     let one : ℕ = 1 in
     let q : cond (is_unknown (mark_of marks at)) one 0 ≡ one = ap (λ (m : Mark). cond (is_unknown m) one 0) u in
     omega (arith, h, q)
+
+-- a place that becomes a walked one tells as little as before
+pub walked_same : (marks : List Mark) (at x : ℕ) → at < length marks → mark_of marks at ≡ Unknown → end_in (mark_of (set marks at Walked) x) ≡ end_in (mark_of marks x)
+walked_same marks at x l u = ⊎_elim (λ (e : x ≡ at). ap end_in (ap (mark_of (set marks at Walked)) e ∙ mark_same marks at Walked l) ∙ sym (ap end_in (ap (mark_of marks) e ∙ u))) (λ (ne : x ≢ at). ap end_in (mark_other marks at x Walked ne)) (cases_eq x at)
 
 -- ---- the path
 

@@ -6,8 +6,12 @@ pub mod Candidates
 pub mod Marks
 pub mod Lists
 pub mod Watches
-pub mod Totals
+pub mod Spreads
 pub mod Sums
 pub mod Columns
+pub mod Counted
 pub mod Views
+pub mod Kept
+pub mod Comes
+pub mod Sources
 pub mod Rounds

@@ -26,6 +26,15 @@ pub record AreLists (owner first before after : ℕ → Option ℕ) (rank : ℕ 
 abbrev pub AreBelow : List (Option ℕ) → ℕ → Type 0
 AreBelow links n = (a b : ℕ) → link_at links a ≡ Some b → b < n
 
+-- a place leaves the list of b: p was before it, and c after it
+pub record Unlinks (first before after first' before' after' : ℕ → Option ℕ) (b : ℕ) (p c : Option ℕ) : Type 0 where
+  pub first_b : p ≡ None → first' b ≡ c
+  pub first_other : (y : ℕ) → (p ≡ None → y ≢ b) → first' y ≡ first y
+  pub after_p : (x : ℕ) → p ≡ Some x → after' x ≡ c
+  pub after_other : (x : ℕ) → p ≢ Some x → after' x ≡ after x
+  pub before_c : (x : ℕ) → c ≡ Some x → before' x ≡ p
+  pub before_other : (x : ℕ) → c ≢ Some x → before' x ≡ before x
+
 -- a becomes the first in the list of b, before c
 pub record LinksFirst (first before after first' before' after' : ℕ → Option ℕ) (a b : ℕ) (c : Option ℕ) : Type 0 where
   pub first_b : first' b ≡ Some a

@@ -1,5 +1,5 @@
 -- What is known of the ends of places while they are sought (own rules).
-use Rattle.std.specs.Prelude.{◌≡◌, ◌≢◌, ◌⊎◌, ℕ, ◌+◌, ◌<◌, ◌≤◌, Bool, true, false, List, length, slice_index_or, nat_eq}
+use Rattle.std.specs.Prelude.{◌≡◌, ◌≢◌, ◌⊎◌, ℕ, ◌+◌, ◌<◌, ◌≤◌, Bool, true, false, not, Option, Some, None, List, length, slice_index_or, nat_eq}
 use Rattle.std.specs.List.{count_by, list_any}
 use Rattle.data_trace.specs.declared.places.PlaceHop.{PlaceHop}
 use Rattle.data_trace.specs.declared.places.PlaceHop.TheVariants.{Here, To, NoRoute}
@@ -45,6 +45,16 @@ abbrev pub is_unknown : Mark → Bool
 is_unknown Unknown = true
 is_unknown Walked = false
 is_unknown (Known e) = false
+
+-- whether the mark tells anything, which is cleared where an end is sought anew
+abbrev pub is_known : Mark → Bool
+is_known m = not (is_unknown m)
+
+-- the end that a mark tells, if it tells one
+abbrev pub end_in : Mark → Option PlaceEnd
+end_in Unknown = None
+end_in Walked = None
+end_in (Known e) = Some e
 
 -- between two walks: known ends are right
 pub record AreRight (next : ℕ → Hop) (marks : List Mark) : Type 0 where

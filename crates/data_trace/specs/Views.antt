@@ -1,5 +1,6 @@
 -- What contracts see of a watch.
-use Rattle.std.specs.Prelude.{List}
+use Rattle.std.specs.Prelude.{ℕ, List}
+use Rattle.net_names.specs.Addresses.{AddrValue}
 use Rattle.data_trace.specs.declared.watch.Watch.{Watch}
 use Rattle.data_trace.specs.Watches.{Row}
 use Rattle.data_trace.specs.Columns.{rows}
@@ -7,3 +8,11 @@ use Rattle.data_trace.specs.Columns.{rows}
 -- the rows of a watch, one for each AS (own rule)
 abbrev pub rows_of : Watch → List Row
 rows_of w = rows w.ases.keys w.hops.items w.marks.items w.groups.items
+
+-- the watched address (own rule)
+abbrev pub addr_of : Watch → AddrValue
+addr_of w = w.addr
+
+-- how many ASes a graph may have of which the watch can keep all without memory (own rule)
+abbrev pub spare_of : Watch → ℕ
+spare_of w = w.spare

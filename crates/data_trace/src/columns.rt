@@ -1,15 +1,17 @@
 //! The columns of a watch, of which each has an entry for each place.
-ghost use Rattle.std.specs.Prelude.{◌≡◌, ℕ, ◌<◌, not, length, IfOk, List};
-ghost use Rattle.std.specs.List.{list_any};
+ghost use Rattle.std.specs.Prelude.{◌≡◌, ℕ, ◌<◌, ◌≤◌, true, not, length, IfOk, List, nat_eq, vec_capacity};
+ghost use Rattle.std.specs.List.{list_any, IsDistinct};
+ghost use Rattle.net_names.specs.Numbers.{occurs};
+ghost use Rattle.as_graph.specs.Topology.{has};
 ghost use Rattle.route_choice.specs.RoundTables.{round_routing};
 ghost use Rattle.stability_laws.specs.Book.{policy_at};
 ghost use Rattle.data_trace.specs.Hops.{next_hop as next_hop_of};
-ghost use Rattle.data_trace.specs.Columns.{named, is_customer, AreAses, AreHops, AreGroups, IsGroup, IsAmong};
+ghost use Rattle.data_trace.specs.Columns.{named, name_at, is_customer, is_here as is_here_standing, is_stub as is_stub_standing, AreHops, AreGroups, IsGroup, IsAmong};
 ghost use Rattle.data_trace.specs.declared.places.PlaceHop.TheVariants as APlaceHop;
 
 use crate::Hop;
 use crate::forwarding::Forwarding;
-use crate::places::{Group, PlaceHop};
+use crate::places::{Group, PlaceHop, Standing};
 use as_graph::{Graph, Neighbour};
 use indexmap::IndexSet;
 use net_names::{Asn, NoMemory, Rel};
@@ -19,7 +21,9 @@ use std::alloc::Global;
 
 /// The ASes of the graph, each at its place.
 pub fn ases_of(alloc: Global, graph: &Graph) -> Result<IndexSet<Asn>, NoMemory>
-    ensures { IfOk result (λ s. AreAses graph.now s.keys) }
+    ensures listed { IfOk result (λ s. (a : ℕ) → occurs a s.keys ≡ has graph.now a) }
+    ensures few { IfOk result (λ s. length s.keys ≤ 150000) }
+    ensures apart { IfOk result (λ s. IsDistinct nat_eq s.keys) }
 {
     let count = graph.as_count();
     let Ok(mut ases) = IndexSet::with_capacity(alloc, count) else {
@@ -33,8 +37,8 @@ pub fn ases_of(alloc: Global, graph: &Graph) -> Result<IndexSet<Asn>, NoMemory>
     Ok(ases)
 }
 
-// The next hop, with the place in place of its AS.
-fn place_of(ases: &IndexSet<Asn>, hop: Hop) -> PlaceHop
+/// The next hop, with the place in place of its AS.
+pub fn place_of(ases: &IndexSet<Asn>, hop: Hop) -> PlaceHop
     requires among { IsAmong ases.now.keys hop }
     requires few { length ases.now.keys < 4294967296 }
     ensures named { named ases.now.keys result ≡ hop }
@@ -58,7 +62,8 @@ pub fn hops_of(
 ) -> Result<Vec<PlaceHop>, NoMemory>
     requires among { (a : ℕ) → IsAmong ases.now.keys (next_hop_of forwarding.now.plan.now (round_routing forwarding.now.pool.now forwarding.now.tables.now) forwarding.now.addr a) }
     requires few { length ases.now.keys < 4294967296 }
-    ensures { IfOk result (λ v. AreHops (next_hop_of forwarding.now.plan.now (round_routing forwarding.now.pool.now forwarding.now.tables.now) forwarding.now.addr) ases.now.keys v.items) }
+    ensures hops { IfOk result (λ v. AreHops (next_hop_of forwarding.now.plan.now (round_routing forwarding.now.pool.now forwarding.now.tables.now) forwarding.now.addr) ases.now.keys v.items) }
+    ensures room { IfOk result (λ v. length ases.now.keys ≤ vec_capacity v) }
 {
     let numbers = ases.as_slice();
     let Ok(mut hops) = Vec::with_capacity(alloc, numbers.len()) else {
@@ -85,13 +90,51 @@ fn is_stub(neighbours: &[Neighbour]) -> bool
     true
 }
 
-// The groups of an AS, whose row is sought first at a place.
+/// Whether the AS of a place is there.
+pub fn is_here(standing: Standing) -> bool
+    ensures { result ≡ is_here_standing standing }
+{
+    match standing {
+        Standing::Gone => false,
+        Standing::Stub => true,
+        Standing::Transit => true,
+    }
+}
+
+// What an AS of the graph is, by its neighbours.
+fn standing(neighbours: &[Neighbour]) -> Standing
+    ensures here { is_here_standing result ≡ true }
+    ensures stub { is_stub_standing result ≡ not (list_any (λ n. is_customer n.rel) neighbours.now) }
+{
+    if is_stub(neighbours) {
+        Standing::Stub
+    } else {
+        Standing::Transit
+    }
+}
+
+// The groups of an AS of the graph, whose row is sought first at a place.
 fn group_of<P: Labelled>(graph: &Graph, book: &Book<P>, asn: Asn, place: usize) -> Group
+    requires { has graph.now asn ≡ true }
     ensures { IsGroup graph.now (λ a. P.label_of (policy_at book.now a)) asn result }
 {
     Group {
-        stub: is_stub(graph.neighbours_near(asn, place)),
+        standing: standing(graph.neighbours_near(asn, place)),
         label: book.policy(asn).label(),
+    }
+}
+
+/// The groups of an AS, be it in the graph or not.
+pub fn group_now<P: Labelled>(graph: &Graph, book: &Book<P>, asn: Asn) -> Group
+    ensures { IsGroup graph.now (λ a. P.label_of (policy_at book.now a)) asn result }
+{
+    if graph.has(asn) {
+        group_of(graph, book, asn, 0)
+    } else {
+        Group {
+            standing: Standing::Gone,
+            label: 0,
+        }
     }
 }
 
@@ -102,7 +145,9 @@ pub fn groups_of<P: Labelled>(
     book: &Book<P>,
     ases: &[Asn],
 ) -> Result<Vec<Group>, NoMemory>
-    ensures { IfOk result (λ v. AreGroups graph.now (λ a. P.label_of (policy_at book.now a)) ases.now v.items) }
+    requires { (x : ℕ) → x < length ases.now → has graph.now (name_at ases.now x) ≡ true }
+    ensures groups { IfOk result (λ v. AreGroups graph.now (λ a. P.label_of (policy_at book.now a)) ases.now v.items) }
+    ensures room { IfOk result (λ v. length ases.now ≤ vec_capacity v) }
 {
     let Ok(mut groups) = Vec::with_capacity(alloc, ases.len()) else {
         return Err(NoMemory);

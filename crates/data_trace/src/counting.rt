@@ -1,54 +1,127 @@
-//! The sums of the places of a watch.
-ghost use Rattle.std.specs.Prelude.{◌≡◌, ℕ, ◌<◌, Bool, List, length, IfOk};
-ghost use Rattle.std.specs.List.{count_by};
+//! Marks and groups of places, with the sums that count them.
+ghost use Rattle.std.specs.Prelude.{◌≡◌, ℕ, ◌+◌, ◌<◌, ◌≤◌, Bool, true, List, length, slice_set, Option, IfOk};
 ghost use Rattle.data_trace.specs.declared.kinds.End.{End as AnEnd};
-ghost use Rattle.data_trace.specs.declared.places.PlaceHop.{PlaceHop as APlaceHop};
 ghost use Rattle.data_trace.specs.declared.places.PlaceEnd.TheVariants as APlaceEnd;
 ghost use Rattle.data_trace.specs.declared.places.Mark.TheVariants as AMark;
 ghost use Rattle.data_trace.specs.Marks.{mark_of};
-ghost use Rattle.data_trace.specs.Columns.{told, rows};
-ghost use Rattle.data_trace.specs.Sums.{total};
+ghost use Rattle.data_trace.specs.Sums.{total, room_of};
+ghost use Rattle.data_trace.specs.Counted.{kept_end, adds, AreCounted};
 
 use crate::End;
-use crate::places::{Group, Mark, PlaceEnd};
+use crate::places::{Group, Mark, PlaceEnd, Standing};
 use crate::sums::Sums;
-use net_names::{Asn, NoMemory};
-use std::alloc::Global;
+use net_names::Asn;
+use std::alloc::{AllocError, Global};
 
-/// The end that a mark tells, with the AS in place of its place.
-pub fn end_told(ases: &[Asn], mark: Mark) -> End
+/// The end that a mark tells, if it tells one, with the AS in place of its place.
+pub fn end_told(ases: &[Asn], mark: Mark) -> Option<End>
     requires { (y : ℕ) → mark ≡ AMark.Known (APlaceEnd.At y) → y < length ases.now }
-    ensures { result ≡ told ases.now mark }
+    ensures { result ≡ kept_end ases.now mark }
 {
     match mark {
         Mark::Known(end) => match end {
-            PlaceEnd::At(place) => End::At(ases[place as usize]),
-            PlaceEnd::NoRoute => End::NoRoute,
-            PlaceEnd::Loop => End::Loop,
+            PlaceEnd::At(place) => Some(End::At(ases[place as usize])),
+            PlaceEnd::NoRoute => Some(End::NoRoute),
+            PlaceEnd::Loop => Some(End::Loop),
         },
-        Mark::Unknown => End::NoRoute,
-        Mark::Walked => End::NoRoute,
+        Mark::Unknown => None,
+        Mark::Walked => None,
     }
 }
 
-/// How many places have each end and group.
-pub fn sums_of(
+// Counts an AS with this end and these groups.
+fn join(sums: &mut Sums, end: Option<End>, group: Group)
+    requires room { total (λ e s l. true) sums.old + adds (λ e s l. true) end group ≤ room_of sums.old }
+    requires few { total (λ e s l. true) sums.old + adds (λ e s l. true) end group < 4294967296 }
+    ensures added { (p : AnEnd → Bool → ℕ → Bool) → total p sums.new ≡ total p sums.old + adds p end group }
+    ensures room { room_of sums.old ≤ room_of sums.new }
+{
+    let Some(end) = end else {
+        return;
+    };
+    match group.standing {
+        Standing::Gone => {}
+        Standing::Stub => sums.add(end, true, group.label),
+        Standing::Transit => sums.add(end, false, group.label),
+    }
+}
+
+// Counts an AS with this end and these groups no more.
+fn leave(sums: &mut Sums, end: Option<End>, group: Group)
+    requires { (p : AnEnd → Bool → ℕ → Bool) → adds p end group ≤ total p sums.old }
+    ensures taken { (p : AnEnd → Bool → ℕ → Bool) → total p sums.new + adds p end group ≡ total p sums.old }
+    ensures room { room_of sums.old ≤ room_of sums.new }
+{
+    let Some(end) = end else {
+        return;
+    };
+    match group.standing {
+        Standing::Gone => {}
+        Standing::Stub => sums.take(end, true, group.label),
+        Standing::Transit => sums.take(end, false, group.label),
+    }
+}
+
+/// Marks a place.
+pub fn put_mark(
+    sums: &mut Sums,
+    ases: &[Asn],
+    marks: &mut [Mark],
+    groups: &[Group],
+    place: u32,
+    mark: Mark,
+)
+    requires inside { place < length ases.now }
+    requires few { length ases.now < 4294967296 }
+    requires below { (y : ℕ) → mark ≡ AMark.Known (APlaceEnd.At y) → y < length ases.now }
+    requires counted { AreCounted sums.old ases.now marks.old groups.now }
+    requires room { length ases.now ≤ room_of sums.old }
+    ensures marks { marks.new ≡ slice_set marks.old place mark }
+    ensures counted { AreCounted sums.new ases.now marks.new groups.now }
+    ensures room { room_of sums.old ≤ room_of sums.new }
+{
+    let group = groups[place as usize];
+    leave(sums, end_told(ases, marks[place as usize]), group);
+    marks[place as usize] = mark;
+    join(sums, end_told(ases, mark), group);
+}
+
+/// Puts a place into its groups.
+pub fn put_group(
+    sums: &mut Sums,
+    ases: &[Asn],
+    marks: &[Mark],
+    groups: &mut [Group],
+    place: u32,
+    group: Group,
+)
+    requires inside { place < length ases.now }
+    requires few { length ases.now < 4294967296 }
+    requires counted { AreCounted sums.old ases.now marks.now groups.old }
+    requires room { length ases.now ≤ room_of sums.old }
+    ensures groups { groups.new ≡ slice_set groups.old place group }
+    ensures counted { AreCounted sums.new ases.now marks.now groups.new }
+    ensures room { room_of sums.old ≤ room_of sums.new }
+{
+    let end = end_told(ases, marks[place as usize]);
+    leave(sums, end, groups[place as usize]);
+    groups[place as usize] = group;
+    let end = end_told(ases, marks[place as usize]);
+    join(sums, end, groups[place as usize]);
+}
+
+/// The sums of places of which no end is known, with room for all of them.
+pub fn no_sums(
     alloc: Global,
     ases: &[Asn],
     marks: &[Mark],
     groups: &[Group],
-) -> Result<Sums, NoMemory>
-    requires few { length ases.now < 4294967296 }
+) -> Result<Sums, AllocError>
+    requires unknown { (x : ℕ) → mark_of marks.now x ≡ AMark.Unknown }
     requires marks_len { length marks.now ≡ length ases.now }
     requires groups_len { length groups.now ≡ length ases.now }
-    requires below { (x y : ℕ) → mark_of marks.now x ≡ AMark.Known (APlaceEnd.At y) → y < length ases.now }
-    ensures { IfOk result (λ s. (hops : List APlaceHop) (p : AnEnd → Bool → ℕ → Bool) → total p s ≡ count_by (λ r. p r.end r.stub r.label) (rows ases.now hops marks.now groups.now)) }
+    ensures counted { IfOk result (λ s. AreCounted s ases.now marks.now groups.now) }
+    ensures room { IfOk result (λ s. length ases.now ≤ room_of s) }
 {
-    let mut sums = Sums::new(alloc);
-    for place in 0..ases.len() {
-        let end = end_told(ases, marks[place]);
-        let group = groups[place];
-        sums.add(end, group.stub, group.label)?;
-    }
-    Ok(sums)
+    Sums::with_room(alloc, ases.len())
 }

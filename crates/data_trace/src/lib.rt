@@ -6,15 +6,19 @@
 
 mod best;
 mod candidate;
+mod cell;
 mod columns;
 mod counting;
 mod forwarding;
 mod hops;
 mod kinds;
 mod laws;
-mod linked;
+mod leaving;
 mod lists;
 mod places;
+mod renewal;
+mod source;
+mod spreading;
 mod sums;
 mod tracing;
 mod walks;

@@ -33,11 +33,22 @@ pub enum Mark {
     Known(PlaceEnd),
 }
 
+/// What the AS at a place is.
+#[derive(Clone, Copy, Debug, PartialEq, Eq)]
+pub enum Standing {
+    /// No AS of the graph.
+    Gone,
+    /// An AS without customers.
+    Stub,
+    /// An AS with customers.
+    Transit,
+}
+
 /// The groups of an AS.
 #[derive(Clone, Copy, Debug, PartialEq, Eq)]
 pub struct Group {
-    /// Whether it has no customers.
-    pub stub: bool,
+    /// What it is.
+    pub standing: Standing,
     /// The number of its policy's group.
     pub label: u8,
 }

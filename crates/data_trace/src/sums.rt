@@ -1,21 +1,20 @@
 //! How many ASes there are of each end and group.
-ghost use Rattle.std.specs.Prelude.{◌≡◌, ℕ, ◌+◌, ◌<◌, ◌^◌, Bool, true, ◌==◌, ◌&&◌, if◌then◌else◌, OnOk};
+ghost use Rattle.std.specs.Prelude.{◌≡◌, ℕ, ◌+◌, ◌<◌, ◌≤◌, ◌^◌, Bool, true, false, ◌&&◌, if◌then◌else◌, length, slice_index_or, IfSome, IfNone, IfOk, OnOk};
+ghost use Rattle.std.specs.List.{list_any, sum_by};
 ghost use Rattle.data_trace.specs.Watches.{in_group as is_in_group, is_end};
-ghost use Rattle.data_trace.specs.Totals.{total_of};
+ghost use Rattle.data_trace.specs.Sums.{part, is_same_flag, is_counted as counts};
 ghost use Rattle.data_trace.specs.declared.kinds.End.{End as AnEnd};
+ghost use Rattle.data_trace.specs.declared.cell.Cell.{Cell as ACell};
 
+use crate::cell::Cell;
 use crate::{End, Which};
-use indexmap::IndexMap;
-use net_names::{Asn, NoMemory};
-use std::alloc::Global;
+use std::alloc::{AllocError, Global};
 
-/// How many ASes there are of each end and group. Each number stands at a stub flag and a number of a
-/// policy's group, and where ASes are delivered also at the AS that delivers.
+/// How many ASes there are of each end and group, in a cell for each end, stub flag and number of a
+/// policy's group that some AS has. A cell that counts no AS is free for others.
 #[derive(Drop)]
 pub struct Sums {
-    at: IndexMap<(Asn, bool, u8), u64>,
-    no_route: IndexMap<(bool, u8), u64>,
-    loops: IndexMap<(bool, u8), u64>,
+    cells: Vec<Cell>,
 }
 
 // Whether an AS is one of the group.
@@ -29,126 +28,154 @@ fn in_group(which: Which, stub: bool, label: u8) -> bool
     }
 }
 
-// One more at these groups.
-fn add_group(counts: &mut IndexMap<(bool, u8), u64>, stub: bool, label: u8) -> Result<(), NoMemory>
-    requires { total_of (λ k. true) counts.old.entries < 2 ^ 63 }
-    ensures { OnOk result ((p : Bool × ℕ → Bool) → total_of p counts.new.entries ≡ total_of p counts.old.entries + (if p (stub, label) then 1 else 0)) }
+// Whether two ends are the same.
+fn same_end(a: &End, b: &End) -> bool
+    ensures { result ≡ is_end a.now b.now }
 {
-    let count = counts.get(&(stub, label)).copied().unwrap_or(0);
-    match counts.insert((stub, label), count + 1) {
-        Ok(_) => Ok(()),
-        Err(_) => Err(NoMemory),
+    match a {
+        End::At(x) => match b {
+            End::At(y) => *x == *y,
+            _ => false,
+        },
+        End::NoRoute => match b {
+            End::NoRoute => true,
+            _ => false,
+        },
+        End::Loop => match b {
+            End::Loop => true,
+            _ => false,
+        },
     }
 }
 
-// One more at this AS and these groups.
-fn add_at(
-    counts: &mut IndexMap<(Asn, bool, u8), u64>,
-    asn: Asn,
-    stub: bool,
-    label: u8,
-) -> Result<(), NoMemory>
-    requires { total_of (λ k. true) counts.old.entries < 2 ^ 63 }
-    ensures { OnOk result ((p : ℕ × Bool × ℕ → Bool) → total_of p counts.new.entries ≡ total_of p counts.old.entries + (if p (asn, stub, label) then 1 else 0)) }
+// Whether two flags are the same.
+fn same_flag(a: bool, b: bool) -> bool
+    ensures { result ≡ is_same_flag a b }
 {
-    let count = counts.get(&(asn, stub, label)).copied().unwrap_or(0);
-    match counts.insert((asn, stub, label), count + 1) {
-        Ok(_) => Ok(()),
-        Err(_) => Err(NoMemory),
-    }
+    if a { b } else { !b }
 }
 
-// The number of these groups, if they are in the group.
-fn weigh(which: Which, stub: bool, label: u8, count: u64) -> u64
-    ensures { result ≡ (if is_in_group which stub label then count else 0) }
+// Whether the cell counts ASes of this end and these groups.
+fn is_counted(cell: &Cell, end: &End, stub: bool, label: u8) -> bool
+    ensures { result ≡ counts end.now stub label cell.now }
 {
-    if in_group(which, stub, label) {
-        count
+    cell.count > 0 && same_end(&cell.end, end) && same_flag(cell.stub, stub) && cell.label == label
+}
+
+// The place of the cell that counts ASes of this end and these groups, if there is one.
+fn find(cells: &[Cell], end: &End, stub: bool, label: u8) -> Option<usize>
+    ensures some { IfSome result (λ i. (i < length cells.now) × ((d : ACell) → counts end.now stub label (slice_index_or cells.now i d) ≡ true)) }
+    ensures none { IfNone result (list_any (counts end.now stub label) cells.now ≡ false) }
+{
+    for place in 0..cells.len() {
+        if is_counted(&cells[place], end, stub, label) {
+            return Some(place);
+        }
+    }
+    None
+}
+
+// The place of a cell that counts no AS, if there is one.
+fn free(cells: &[Cell]) -> Option<usize>
+    ensures some { IfSome result (λ i. (i < length cells.now) × ((d : ACell) → (slice_index_or cells.now i d).count ≡ 0)) }
+    ensures none { IfNone result (length cells.now ≤ sum_by (part (λ e s l. true)) cells.now) }
+{
+    for place in 0..cells.len() {
+        if cells[place].count == 0 {
+            return Some(place);
+        }
+    }
+    None
+}
+
+// The ASes of the cell, if they are in the group.
+fn weigh(which: Which, cell: &Cell) -> u64
+    ensures { result ≡ part (λ e s l. is_in_group which s l) cell.now }
+{
+    if in_group(which, cell.stub, cell.label) {
+        cell.count as u64
     } else {
         0
     }
 }
 
-// The number of an AS and these groups, if they are in the group and it is that AS.
-fn weigh_at(which: Which, asn: Asn, key: (Asn, bool, u8), count: u64) -> u64
-    ensures { result ≡ (if is_in_group which key.1 key.2 && key.0 == asn then count else 0) }
+// The ASes of the cell, if they are in the group and have this end.
+fn weigh_end(which: Which, end: &End, cell: &Cell) -> u64
+    ensures { result ≡ part (λ e s l. is_in_group which s l && is_end e end.now) cell.now }
 {
-    if key.0 == asn {
-        weigh(which, key.1, key.2, count)
+    if in_group(which, cell.stub, cell.label) && same_end(&cell.end, end) {
+        cell.count as u64
     } else {
         0
     }
-}
-
-// How many there are in the group.
-fn sum_groups(counts: &IndexMap<(bool, u8), u64>, which: Which) -> u64
-    requires { total_of (λ k. true) counts.now.entries < 2 ^ 63 }
-    ensures { result ≡ total_of (λ k. is_in_group which k.0 k.1) counts.now.entries }
-{
-    let mut sum = 0;
-    for place in 0..counts.len() {
-        let Some((key, count)) = counts.get_index(place) else {
-            unreachable!();
-        };
-        sum += weigh(which, key.0, key.1, *count);
-    }
-    sum
-}
-
-// How many there are in the group at all ASes.
-fn sum_delivered(counts: &IndexMap<(Asn, bool, u8), u64>, which: Which) -> u64
-    requires { total_of (λ k. true) counts.now.entries < 2 ^ 63 }
-    ensures { result ≡ total_of (λ k. is_in_group which k.1 k.2) counts.now.entries }
-{
-    let mut sum = 0;
-    for place in 0..counts.len() {
-        let Some((key, count)) = counts.get_index(place) else {
-            unreachable!();
-        };
-        sum += weigh(which, key.1, key.2, *count);
-    }
-    sum
-}
-
-// How many there are in the group at the AS.
-fn sum_at(counts: &IndexMap<(Asn, bool, u8), u64>, which: Which, asn: Asn) -> u64
-    requires { total_of (λ k. true) counts.now.entries < 2 ^ 63 }
-    ensures { result ≡ total_of (λ k. is_in_group which k.1 k.2 && k.0 == asn) counts.now.entries }
-{
-    let mut sum = 0;
-    for place in 0..counts.len() {
-        let Some((key, count)) = counts.get_index(place) else {
-            unreachable!();
-        };
-        sum += weigh_at(which, asn, *key, *count);
-    }
-    sum
 }
 
 impl Sums {
-    ghost use Rattle.data_trace.specs.Sums.{total};
+    ghost use Rattle.data_trace.specs.Sums.{total, room_of};
 
-    /// The sums of no AS.
-    pub fn new(alloc: Global) -> Sums
-        ensures { (p : AnEnd → Bool → ℕ → Bool) → total p result ≡ 0 }
+    /// The sums of no AS, with room for so many cells.
+    pub fn with_room(alloc: Global, cells: usize) -> Result<Sums, AllocError>
+        ensures none { IfOk result (λ s. (p : AnEnd → Bool → ℕ → Bool) → total p s ≡ 0) }
+        ensures room { IfOk result (λ s. cells ≤ room_of s) }
     {
-        Sums {
-            at: IndexMap::new(alloc),
-            no_route: IndexMap::new(alloc),
-            loops: IndexMap::new(alloc),
+        let cells = Vec::with_capacity(alloc, cells)?;
+        Ok(Sums { cells })
+    }
+
+    /// Makes room for so many cells in all.
+    pub fn reserve(&mut self, cells: usize) -> Result<(), AllocError>
+        ensures same { (p : AnEnd → Bool → ℕ → Bool) → total p self.new ≡ total p self.old }
+        ensures room { OnOk result (cells ≤ room_of self.new) }
+        ensures more { room_of self.old ≤ room_of self.new }
+    {
+        self.cells.reserve(cells)
+    }
+
+    // A cell for one AS.
+    fn open(&mut self, end: End, stub: bool, label: u8)
+        requires room { total (λ e s l. true) self.old < room_of self.old }
+        ensures added { (p : AnEnd → Bool → ℕ → Bool) → total p self.new ≡ total p self.old + (if p end stub label then 1 else 0) }
+        ensures room { room_of self.old ≤ room_of self.new }
+    {
+        let cell = Cell {
+            end,
+            stub,
+            label,
+            count: 1,
+        };
+        match free(&self.cells) {
+            Some(place) => self.cells[place] = cell,
+            None => {
+                if self.cells.push(cell).is_err() {
+                    unreachable!();
+                }
+            }
         }
     }
 
-    /// One AS more.
-    pub fn add(&mut self, end: End, stub: bool, label: u8) -> Result<(), NoMemory>
-        requires { total (λ e s l. true) self.old < 2 ^ 63 }
-        ensures { OnOk result ((p : AnEnd → Bool → ℕ → Bool) → total p self.new ≡ total p self.old + (if p end stub label then 1 else 0)) }
+    /// One AS more. It takes no memory.
+    pub fn add(&mut self, end: End, stub: bool, label: u8)
+        requires room { total (λ e s l. true) self.old < room_of self.old }
+        requires few { total (λ e s l. true) self.old < 4294967295 }
+        ensures added { (p : AnEnd → Bool → ℕ → Bool) → total p self.new ≡ total p self.old + (if p end stub label then 1 else 0) }
+        ensures room { room_of self.old ≤ room_of self.new }
     {
-        match end {
-            End::At(asn) => add_at(&mut self.at, asn, stub, label),
-            End::NoRoute => add_group(&mut self.no_route, stub, label),
-            End::Loop => add_group(&mut self.loops, stub, label),
+        match find(&self.cells, &end, stub, label) {
+            Some(place) => self.cells[place].count += 1,
+            None => self.open(end, stub, label),
         }
+    }
+
+    /// One AS less, which is counted.
+    pub fn take(&mut self, end: End, stub: bool, label: u8)
+        requires { (p : AnEnd → Bool → ℕ → Bool) → p end stub label ≡ true → 1 ≤ total p self.old }
+        ensures taken { (p : AnEnd → Bool → ℕ → Bool) → total p self.new + (if p end stub label then 1 else 0) ≡ total p self.old }
+        ensures room { room_of self.old ≤ room_of self.new }
+    {
+        let Some(place) = find(&self.cells, &end, stub, label) else {
+            unreachable!();
+        };
+        self.cells[place].count -= 1;
     }
 
     /// How many ASes of the group there are.
@@ -156,10 +183,11 @@ impl Sums {
         requires { total (λ e s l. true) self.now < 2 ^ 63 }
         ensures { result ≡ total (λ e s l. is_in_group which s l) self.now }
     {
-        let at = sum_delivered(&self.at, which);
-        let no_route = sum_groups(&self.no_route, which);
-        let loops = sum_groups(&self.loops, which);
-        at + no_route + loops
+        let mut sum = 0;
+        for cell in self.cells.as_slice() {
+            sum += weigh(which, cell);
+        }
+        sum
     }
 
     /// How many ASes of the group there are whose traces have this end.
@@ -167,10 +195,10 @@ impl Sums {
         requires { total (λ e s l. true) self.now < 2 ^ 63 }
         ensures { result ≡ total (λ e s l. is_in_group which s l && is_end e end) self.now }
     {
-        match end {
-            End::At(asn) => sum_at(&self.at, which, asn),
-            End::NoRoute => sum_groups(&self.no_route, which),
-            End::Loop => sum_groups(&self.loops, which),
+        let mut sum = 0;
+        for cell in self.cells.as_slice() {
+            sum += weigh_end(which, &end, cell);
         }
+        sum
     }
 }

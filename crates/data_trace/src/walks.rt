@@ -1,10 +1,15 @@
 //! The ends of all places, by walks that mark what they pass.
-ghost use Rattle.std.specs.Prelude.{◌≡◌, ◌≢◌, ℕ, ◌<◌, ◌≤◌, [], length, vec_capacity, IfOk};
-ghost use Rattle.data_trace.specs.Marks.{next_of, mark_of, IsWithin, AreRight, IsWalked, Settles, AreEnds};
+ghost use Rattle.std.specs.Prelude.{◌≡◌, ◌≢◌, ℕ, ◌<◌, ◌≤◌, [], length, slice_index, vec_capacity};
+ghost use Rattle.data_trace.specs.Marks.{next_of, mark_of, end_in, IsWithin, AreRight, IsWalked, Settles};
+ghost use Rattle.data_trace.specs.declared.places.PlaceEnd.TheVariants as APlaceEnd;
+ghost use Rattle.data_trace.specs.Sums.{room_of};
+ghost use Rattle.data_trace.specs.Counted.{AreCounted};
 ghost use Rattle.data_trace.specs.declared.places.Mark.TheVariants as AMark;
 
-use crate::places::{Mark, PlaceEnd, PlaceHop};
-use std::alloc::{AllocError, Global};
+use crate::counting::put_mark;
+use crate::places::{Group, Mark, PlaceEnd, PlaceHop};
+use crate::sums::Sums;
+use net_names::Asn;
 
 // Walks from `from` to a place whose end is known, and says which end that is.
 fn walk(hops: &[PlaceHop], marks: &mut [Mark], path: &mut Vec<u32>, from: u32) -> PlaceEnd
@@ -14,7 +19,10 @@ fn walk(hops: &[PlaceHop], marks: &mut [Mark], path: &mut Vec<u32>, from: u32) -
     requires right { AreRight (next_of hops.now) marks.old }
     requires empty { path.old.items ≡ [] }
     requires room { length hops.now ≤ vec_capacity path.old }
+    requires below { (x y : ℕ) → mark_of marks.old x ≡ AMark.Known (APlaceEnd.At y) → y < length hops.now }
     ensures walked { IsWalked (next_of hops.now) marks.old marks.new path.new.items from result }
+    ensures same { (x : ℕ) → end_in (mark_of marks.new x) ≡ end_in (mark_of marks.old x) }
+    ensures below { (y : ℕ) → result ≡ APlaceEnd.At y → y < length hops.now }
     ensures room { vec_capacity path.old ≤ vec_capacity path.new }
 {
     let mut at = from;
@@ -38,52 +46,89 @@ fn walk(hops: &[PlaceHop], marks: &mut [Mark], path: &mut Vec<u32>, from: u32) -
 }
 
 // Finds the end of `from`, and of all that it passes.
-fn settle(hops: &[PlaceHop], marks: &mut [Mark], path: &mut Vec<u32>, from: u32)
+fn settle(
+    sums: &mut Sums,
+    ases: &[Asn],
+    hops: &[PlaceHop],
+    marks: &mut [Mark],
+    groups: &[Group],
+    path: &mut Vec<u32>,
+    from: u32,
+)
     requires within { IsWithin hops.now }
     requires len { length marks.old ≡ length hops.now }
     requires inside { from < length hops.now }
     requires right { AreRight (next_of hops.now) marks.old }
     requires room { length hops.now ≤ vec_capacity path.old }
+    requires few { length ases.now < 4294967296 }
+    requires counted { AreCounted sums.old ases.now marks.old groups.now }
+    requires sums_room { length ases.now ≤ room_of sums.old }
     ensures settles { Settles (next_of hops.now) marks.old marks.new from }
+    ensures counted { AreCounted sums.new ases.now marks.new groups.now }
     ensures room { vec_capacity path.old ≤ vec_capacity path.new }
+    ensures sums_room { room_of sums.old ≤ room_of sums.new }
 {
     path.clear();
     let end = walk(hops, marks, path, from);
     'path: for at in path.as_slice() {
-        marks[*at as usize] = Mark::Known(end);
+        put_mark(sums, ases, marks, groups, *at, Mark::Known(end));
     }
 }
 
-// Finds the end of each place that is still unknown.
-fn settle_all(hops: &[PlaceHop], marks: &mut [Mark], path: &mut Vec<u32>)
+/// Finds the ends of these places, and of all that their packets pass.
+pub fn settle_each(
+    sums: &mut Sums,
+    ases: &[Asn],
+    hops: &[PlaceHop],
+    marks: &mut [Mark],
+    groups: &[Group],
+    path: &mut Vec<u32>,
+    places: &[u32],
+)
+    requires within { IsWithin hops.now }
+    requires len { length marks.old ≡ length hops.now }
+    requires places { (k : ℕ) → k < length places.now → slice_index places.now k < length hops.now }
+    requires right { AreRight (next_of hops.now) marks.old }
+    requires room { length hops.now ≤ vec_capacity path.old }
+    requires few { length ases.now < 4294967296 }
+    requires counted { AreCounted sums.old ases.now marks.old groups.now }
+    requires sums_room { length ases.now ≤ room_of sums.old }
+    ensures right { AreRight (next_of hops.now) marks.new }
+    ensures kept { (x : ℕ) → mark_of marks.old x ≢ AMark.Unknown → mark_of marks.new x ≡ mark_of marks.old x }
+    ensures known { (k : ℕ) → k < length places.now → mark_of marks.new (slice_index places.now k) ≢ AMark.Unknown }
+    ensures counted { AreCounted sums.new ases.now marks.new groups.now }
+    ensures room { vec_capacity path.old ≤ vec_capacity path.new }
+    ensures sums_room { room_of sums.old ≤ room_of sums.new }
+{
+    'places: for place in places {
+        settle(sums, ases, hops, marks, groups, path, *place);
+    }
+}
+
+/// Finds the ends of all places.
+pub fn settle_all(
+    sums: &mut Sums,
+    ases: &[Asn],
+    hops: &[PlaceHop],
+    marks: &mut [Mark],
+    groups: &[Group],
+    path: &mut Vec<u32>,
+)
     requires within { IsWithin hops.now }
     requires small { length hops.now ≤ 4294967296 }
     requires len { length marks.old ≡ length hops.now }
     requires right { AreRight (next_of hops.now) marks.old }
     requires room { length hops.now ≤ vec_capacity path.old }
+    requires few { length ases.now < 4294967296 }
+    requires counted { AreCounted sums.old ases.now marks.old groups.now }
+    requires sums_room { length ases.now ≤ room_of sums.old }
     ensures right { AreRight (next_of hops.now) marks.new }
-    ensures kept { (x : ℕ) → mark_of marks.old x ≢ AMark.Unknown → mark_of marks.new x ≡ mark_of marks.old x }
     ensures all_known { (x : ℕ) → x < length hops.now → mark_of marks.new x ≢ AMark.Unknown }
+    ensures counted { AreCounted sums.new ases.now marks.new groups.now }
     ensures room { vec_capacity path.old ≤ vec_capacity path.new }
+    ensures sums_room { room_of sums.old ≤ room_of sums.new }
 {
     'places: for from in 0..hops.len() {
-        settle(hops, marks, path, from as u32);
+        settle(sums, ases, hops, marks, groups, path, from as u32);
     }
-}
-
-/// The end of each place, by where each sends.
-pub fn ends_of(
-    alloc: Global,
-    hops: &[PlaceHop],
-    path: &mut Vec<u32>,
-) -> Result<Vec<Mark>, AllocError>
-    requires within { IsWithin hops.now }
-    requires small { length hops.now ≤ 4294967296 }
-    requires room { length hops.now ≤ vec_capacity path.old }
-    ensures ends { IfOk result (λ v. AreEnds (next_of hops.now) (length hops.now) v.items) }
-    ensures room { vec_capacity path.old ≤ vec_capacity path.new }
-{
-    let mut marks = vec![in alloc; Mark::Unknown; hops.len()]?;
-    settle_all(hops, marks.as_mut_slice(), path);
-    Ok(marks)
 }

@@ -7,6 +7,7 @@ use Rattle.data_trace.proofs.columns.group_of.Goals as goal
 
 pub returns : goal.returns
 returns g c = record {
-  stub = subst (λ (b : Bool). IsTrue b ↔ IsStub (what c.args.graph.now) c.args.asn) (sym c.is_stub.ensures) (stub_is (what c.args.graph.now) c.args.asn c.neighbours_near.result.now c.neighbours_near.ensures);
-  label_is = c.label.ensures ∙ ap g.P.Labelled.label_of c.policy.ensures;
+  here = c.standing.ensures.here ∙ sym c.requires;
+  stub = λ h. subst (λ (b : Bool). IsTrue b ↔ IsStub (what c.args.graph.now) c.args.asn) (sym c.standing.ensures.stub) (stub_is (what c.args.graph.now) c.args.asn c.neighbours_near.result.now c.neighbours_near.ensures);
+  label_is = λ h. c.label.ensures ∙ ap g.P.Labelled.label_of c.policy.ensures;
 }

@@ -1,11 +1,11 @@
-use Rattle.std.proofs.Common.{rules, ◌≡◌, ◌<◌, length, ◌++◌, ◌∷◌, [], slice_set, sym, ap, subst, arith}
+use Rattle.std.proofs.Common.{rules, ◌≡◌, ◌<◌, length, ◌++◌, ◌∷◌, [], slice_set, sym, ◌∙◌, ap, subst, arith}
 use Rattle.data_trace.specs.declared.places.PlaceHop.TheVariants.{Here, To, NoRoute}
 use Rattle.data_trace.specs.declared.places.PlaceEnd.TheVariants.{At, NoRoute as Lost}
 use Rattle.data_trace.specs.declared.places.Mark.TheVariants.{Unknown, Walked}
 use Rattle.data_trace.specs.Marks.{next_of, hop_at, as_hop, mark_of, IsWalk, IsWalked}
 use Rattle.data_trace.specs.declared.kinds.Hop.TheVariants as hop
 use Rattle.data_trace.proofs.Ends.{ends_here, ends_lost}
-use Rattle.data_trace.proofs.Walking.{walk_step, walk_stop, walk_loops}
+use Rattle.data_trace.proofs.Walking.{walk_step, walk_stop, walk_loops, walked_same}
 use Rattle.data_trace.proofs.walks.walk.Goals as goal
 
 pub returns-in-Walked-clause-walked : goal.returns-in-Walked-clause-walked
@@ -39,5 +39,6 @@ steps-preserved c =
     record {
       walk = subst (λ p. IsWalk (next_of c.args.hops.now) c.args.marks.now (slice_set c.steps.marks c.steps.at Walked) p c.args.from c.in-To.next) (sym e)
           (walk_step (next_of c.args.hops.now) c.args.marks.now c.steps.marks c.steps.path.items c.args.from c.steps.at c.steps.invariant.walk c.in-To.next u h b);
+      same = λ x. walked_same c.steps.marks c.steps.at x (omega (arith, c.steps.invariant.walk.inside)) u ∙ c.steps.invariant.same x;
       room = omega (arith, c.steps.invariant.room, c.push.ensures.capacity);
     }

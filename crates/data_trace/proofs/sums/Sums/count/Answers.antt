@@ -1,16 +1,25 @@
-use Rattle.std.proofs.Common.{◌∙◌, ap, sym}
-use Rattle.std.specs.Prelude.{◌&&◌}
-use Rattle.data_trace.specs.declared.kinds.End.{End}
+use Rattle.std.proofs.Common.{◌&&◌, refl, ◌∙◌, ap, arith}
+use Rattle.std.specs.List.{sum_by}
+use Rattle.std.proofs.lemmas.List.{take_all}
 use Rattle.data_trace.specs.Watches.{in_group, is_end}
-use Rattle.data_trace.specs.Sums.{total}
-use Rattle.data_trace.proofs.Summing.{counts_at, counts_no_route, counts_loops}
+use Rattle.data_trace.specs.Sums.{part}
+use Rattle.data_trace.proofs.Summing.{Test, all, sum_more, sum_fits}
 use Rattle.data_trace.proofs.sums.Sums.count.Goals as goal
 
-pub returns-in-At : goal.returns-in-At
-returns-in-At c = c.sum_at.ensures ∙ counts_at c.args.which c.args.self.now c.in-At.asn ∙ ap (λ (x : End). total (λ e s l. in_group c.args.which s l && is_end e x) c.args.self.now) (sym c.in-At.is)
+pub loop-cell-init : goal.loop-cell-init
+loop-cell-init c = refl
 
-pub returns-in-NoRoute : goal.returns-in-NoRoute
-returns-in-NoRoute c = c.sum_groups.ensures ∙ counts_no_route c.args.which c.args.self.now ∙ ap (λ (x : End). total (λ e s l. in_group c.args.which s l && is_end e x) c.args.self.now) (sym c.in-NoRoute.is)
+pub overflow_add-sum : goal.overflow_add-sum
+overflow_add-sum c =
+    let p : Test = λ e s l. in_group c.args.which s l && is_end e c.args.end in
+    omega (arith, c.requires, ap (sum_by (part all)) c.as_slice-cell-items.ensures.value, sum_fits p c.as_slice-cell-items.result.now c.loop-cell.cell-index c.cell-item.result c.loop-cell.sum c.weigh_end-sum.result c.loop-cell-test.true c.cell-item.is c.loop-cell.invariant c.weigh_end-sum.ensures)
 
-pub returns-in-Loop : goal.returns-in-Loop
-returns-in-Loop c = c.sum_groups-in-Loop.ensures ∙ counts_loops c.args.which c.args.self.now ∙ ap (λ (x : End). total (λ e s l. in_group c.args.which s l && is_end e x) c.args.self.now) (sym c.in-Loop.is)
+pub loop-cell-preserved : goal.loop-cell-preserved
+loop-cell-preserved c =
+    let p : Test = λ e s l. in_group c.args.which s l && is_end e c.args.end in
+    sum_more p c.as_slice-cell-items.result.now c.loop-cell.cell-index c.cell-item.result c.loop-cell.sum c.weigh_end-sum.result c.loop-cell-test.true c.cell-item.is c.loop-cell.invariant c.weigh_end-sum.ensures
+
+pub returns : goal.returns
+returns c =
+    let p : Test = λ e s l. in_group c.args.which s l && is_end e c.args.end in
+    c.loop-cell.invariant ∙ ap (sum_by (part p)) (take_all c.loop-cell.cell-index c.as_slice-cell-items.result.now c.loop-cell-test.false ∙ c.as_slice-cell-items.ensures.value)

@@ -1,24 +1,28 @@
-use Rattle.std.proofs.Common.{◌≡◌, ℕ, List, sym, ◌∙◌, ap, subst}
+use Rattle.std.proofs.Common.{◌≡◌, ℕ, ◌<◌, true, List, length, sym, ◌∙◌, ap, subst}
 use Rattle.path_pool.specs.declared.pool.PathPool.{PathPool}
 use Rattle.net_names.specs.Addresses.{AddrValue}
+use Rattle.as_graph.specs.Topology.{has}
 use Rattle.stability_laws.specs.Plans.{Plan}
 use Rattle.stability_laws.specs.Book.{policy_at}
 use Rattle.route_choice.specs.declared.round_tables.RoundTables.{RoundTables}
 use Rattle.route_choice.specs.RoundTables.{round_routing}
 use Rattle.data_trace.specs.declared.kinds.Hop.{Hop}
+use Rattle.data_trace.specs.declared.kinds.Hop.TheVariants as hop
 use Rattle.data_trace.specs.declared.places.PlaceHop.{PlaceHop}
 use Rattle.data_trace.specs.declared.places.Group.{Group}
 use Rattle.data_trace.specs.declared.watch.Watch.{Watch}
 use Rattle.data_trace.specs.Hops.{next_hop}
 use Rattle.data_trace.specs.Watches.{AreRows}
-use Rattle.data_trace.specs.Columns.{AreAses, AreHops, AreGroups}
+use Rattle.data_trace.specs.Columns.{name_at, fresh, AreAses, AreHops, AreGroups}
 use Rattle.data_trace.specs.Views.{rows_of}
-use Rattle.data_trace.proofs.Seen.{are_rows}
+use Rattle.data_trace.proofs.Placing.{occurs_at}
+use Rattle.data_trace.proofs.Seen.{fresh_is}
+use Rattle.data_trace.proofs.Rows.{are_rows}
 use Rattle.data_trace.proofs.Inside.{next_inside, if_ok}
 use Rattle.data_trace.proofs.watch.Watch.build.Goals as goal
 
-pub returns : goal.returns
-returns g c =
+pub returns-clause-rows : goal.returns-clause-rows
+returns-clause-rows g c =
     let graph = c.args.graph.now in
     let f = c.in_ok-forwarding.forwarding in
     let label : ℕ → ℕ = λ a. g.P.Labelled.label_of (policy_at c.args.book.now a) in
@@ -29,15 +33,17 @@ returns g c =
     ∙ ap (λ (q : RoundTables). next_hop c.args.plan.now (round_routing c.args.pool.now q) f.addr) c.in_ok-forwarding.ensures.tables
     ∙ ap (λ (q : AddrValue). next_hop c.args.plan.now (round_routing c.args.pool.now c.args.tables.now) q) c.in_ok-forwarding.ensures.addr in
     let keys : List ℕ = c.in_ok-ases.ases.keys in
-    let ases : AreAses graph keys = c.in_ok-ases.ensures in
-    let hops : AreHops next keys c.deref.result.now =
-    subst (λ (hs : List PlaceHop). AreHops next keys hs) (sym c.deref.ensures.value) (subst (λ n. AreHops n keys c.in_ok-next.next.items) same c.in_ok-next.ensures) in
-    let groups : AreGroups graph label keys c.in_ok-groups.groups.items = subst (λ (ks : List ℕ). AreGroups graph label ks c.in_ok-groups.groups.items) c.as_slice.ensures.keys c.in_ok-groups.ensures in
-    if_ok (λ (w : Watch). w.ases ≡ c.in_ok-ases.ases) (λ w. w.hops.items ≡ c.deref.result.now) (λ w. w.groups ≡ c.in_ok-groups.groups) (λ w. AreRows graph next label (rows_of w)) c.over.result
+    let inside : (a b : ℕ) → next a ≡ hop.To b → has graph b ≡ true = next_inside graph c.args.plan.now (round_routing c.args.pool.now c.args.tables.now) c.args.addr c.requires.inside in
+    let here : (x : ℕ) → x < length keys → has graph (name_at keys x) ≡ true = λ x l. sym (c.in_ok-ases.ensures.listed (name_at keys x)) ∙ occurs_at keys x l in
+    let ases : AreAses graph keys = record { listed = λ a h. c.in_ok-ases.ensures.listed a ∙ h; apart = c.in_ok-ases.ensures.apart } in
+    let plain : AreHops next keys c.in_ok-next.next.items = subst (λ n. AreHops n keys c.in_ok-next.next.items) same c.in_ok-next.ensures.hops in
+    let hops : AreHops (fresh graph next) keys c.in_ok-next.next.items = record { len = plain.len; within = plain.within; follows = λ x l. plain.follows x l ∙ sym (fresh_is graph next inside (name_at keys x) (here x l)) } in
+    let groups : AreGroups graph label keys c.in_ok-groups.groups.items = subst (λ (ks : List ℕ). AreGroups graph label ks c.in_ok-groups.groups.items) c.as_slice.ensures.keys c.in_ok-groups.ensures.groups in
+    if_ok (λ (w : Watch). w.ases.keys ≡ keys) (λ w. w.hops.items ≡ c.in_ok-next.next.items) (λ w. w.groups.items ≡ c.in_ok-groups.groups.items) (λ w. AreRows graph next label (rows_of w)) c.over.result
     (λ w a h s. are_rows graph next label w.ases.keys w.hops.items w.marks.items w.groups.items
-    (subst (AreAses graph) (sym (ap (λ t. t.keys) a)) ases)
-    (subst (λ (ks : List ℕ). AreHops next ks w.hops.items) (sym (ap (λ t. t.keys) a)) (subst (λ (hs : List PlaceHop). AreHops next keys hs) (sym h) hops))
-    (next_inside graph c.args.plan.now (round_routing c.args.pool.now c.args.tables.now) c.args.addr c.requires.inside)
-    (subst (λ (ks : List ℕ). AreGroups graph label ks w.groups.items) (sym (ap (λ t. t.keys) a)) (subst (λ (gs : List Group). AreGroups graph label keys gs) (sym (ap (λ t. t.items) s)) groups))
+    (subst (λ (ks : List ℕ). AreAses graph ks) (sym a) ases)
+    (subst (λ (ks : List ℕ). AreHops (fresh graph next) ks w.hops.items) (sym a) (subst (λ (hs : List PlaceHop). AreHops (fresh graph next) keys hs) (sym h) hops))
+    inside
+    (subst (λ (ks : List ℕ). AreGroups graph label ks w.groups.items) (sym a) (subst (λ (gs : List Group). AreGroups graph label keys gs) (sym s) groups))
     w.ends)
     c.over.ensures.ases c.over.ensures.hops c.over.ensures.groups

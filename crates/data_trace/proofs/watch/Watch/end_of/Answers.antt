@@ -1,13 +1,17 @@
-use Rattle.std.proofs.Common.{◌≡◌, ℕ, false, List, length, Option, sym, ◌∙◌, ap, subst, arith}
-use Rattle.std.specs.Prelude.{nat_eq, IfNone}
+use Rattle.std.proofs.Common.{◌≡◌, ℕ, ◌<◌, false, true, List, length, Option, Some, refl, sym, ◌∙◌, ap, subst, arith}
+use Rattle.std.specs.Prelude.{nat_eq, IfSome, IfNone}
 use Rattle.std.specs.List.{list_any}
-use Rattle.data_trace.specs.declared.places.Mark.{Mark}
 use Rattle.data_trace.specs.declared.kinds.End.{End}
+use Rattle.data_trace.specs.declared.places.Mark.{Mark}
+use Rattle.data_trace.specs.declared.places.Group.{Group}
 use Rattle.data_trace.specs.Marks.{mark_of}
 use Rattle.data_trace.specs.Watches.{Row, IsRowOf}
 use Rattle.data_trace.specs.Views.{rows_of}
-use Rattle.data_trace.specs.Columns.{row, told}
-use Rattle.data_trace.proofs.Seen.{row_found, none_found, end_below}
+use Rattle.data_trace.specs.Columns.{row, told, group_at, here_at, is_here}
+use Rattle.data_trace.specs.Counted.{kept_end}
+use Rattle.data_trace.proofs.Placing.{found_at}
+use Rattle.data_trace.proofs.Seen.{kept_known}
+use Rattle.data_trace.proofs.Rows.{none_found, gone_found, row_found}
 use Rattle.data_trace.proofs.watch.Watch.end_of.Goals as goal
 
 pub returns-in_err-place-clause-none : goal.returns-in_err-place-clause-none
@@ -16,18 +20,28 @@ returns-in_err-place-clause-none c =
     let f : false ≡ list_any (nat_eq c.args.asn) w.ases.keys = c.in_err-place.ensures.found in
     subst (λ (o : Option End). IfNone o ((r : Row) → IsRowOf (rows_of w) c.args.asn r → ⊥)) (sym c.from_residual.ensures) (none_found w.ases.keys w.hops.items w.marks.items w.groups.items c.args.asn (sym f))
 
-pub end_told-requires : goal.end_told-requires
-end_told-requires c = λ y e.
+pub returns-then-not-is_here-clause-none : goal.returns-then-not-is_here-clause-none
+returns-then-not-is_here-clause-none c =
     let w = c.args.self.now in
-    let m : mark_of w.marks.items c.in_ok-place.place ≡ _ = ap (λ (ms : List Mark). mark_of ms c.in_ok-place.place) (sym c.as_slice.ensures.value) ∙ e in
-    omega (arith, end_below w.hops.items w.marks.items w.ends c.in_ok-place.place y m, w.hops_len, ap length c.as_slice-2.ensures.keys)
+    let h : here_at w.groups.items c.in_ok-place.place ≡ false = ap (λ (gs : List Group). is_here (group_at gs c.in_ok-place.place).standing) (sym c.as_slice.ensures.value) ∙ sym c.is_here.ensures ∙ c.if-not-is_here.true in
+    gone_found w.ases.keys w.hops.items w.marks.items w.groups.items c.args.asn c.in_ok-place.place w.apart (sym c.in_ok-place.ensures.index) h
 
 pub returns-clause-some : goal.returns-clause-some
 returns-clause-some c =
     let w = c.args.self.now in
-    let e : told c.as_slice-2.result.now (mark_of c.as_slice.result.now c.in_ok-place.place) ≡ told w.ases.keys (mark_of w.marks.items c.in_ok-place.place) =
-    ap (λ (ks : List ℕ). told ks (mark_of c.as_slice.result.now c.in_ok-place.place)) c.as_slice-2.ensures.keys ∙ ap (λ (ms : List Mark). told w.ases.keys (mark_of ms c.in_ok-place.place)) c.as_slice.ensures.value in (
-      row w.ases.keys w.hops.items w.marks.items w.groups.items c.in_ok-place.place,
-      row_found w.ases.keys w.hops.items w.marks.items w.groups.items c.args.asn c.in_ok-place.place (sym c.in_ok-place.ensures.index),
-      sym (c.end_told.ensures ∙ e),
-    )
+    let p : ℕ = c.in_ok-place.place in
+    let h : here_at w.groups.items p ≡ true = ap (λ (gs : List Group). is_here (group_at gs p).standing) (sym c.as_slice.ensures.value) ∙ sym c.is_here.ensures ∙ c.if-not-is_here.false in
+    let l : (p < length w.ases.keys) = (found_at w.ases.keys c.args.asn p (sym c.in_ok-place.ensures.index)).0 in
+    let e : c.end_told.result ≡ Some (told w.ases.keys (mark_of w.marks.items p)) = c.end_told.ensures ∙ ap (λ (ks : List ℕ). kept_end ks (mark_of c.as_slice-3.result.now p)) c.as_slice-2.ensures.keys
+    ∙ ap (λ (ms : List Mark). kept_end w.ases.keys (mark_of ms p)) c.as_slice-3.ensures.value ∙ kept_known w.ases.keys w.hops.items w.marks.items p w.ends (omega (arith, l, w.hops_len)) in
+    subst (λ (o : Option End). IfSome o (λ e. (r : Row) × IsRowOf (rows_of w) c.args.asn r × (r.end ≡ e))) (sym e)
+    (row w.ases.keys w.hops.items w.marks.items w.groups.items p, row_found w.ases.keys w.hops.items w.marks.items w.groups.items c.args.asn p (sym c.in_ok-place.ensures.index) h, refl)
+
+pub returns-clause-none : goal.returns-clause-none
+returns-clause-none c =
+    let w = c.args.self.now in
+    let p : ℕ = c.in_ok-place.place in
+    let l : (p < length w.ases.keys) = (found_at w.ases.keys c.args.asn p (sym c.in_ok-place.ensures.index)).0 in
+    let e : c.end_told.result ≡ Some (told w.ases.keys (mark_of w.marks.items p)) = c.end_told.ensures ∙ ap (λ (ks : List ℕ). kept_end ks (mark_of c.as_slice-3.result.now p)) c.as_slice-2.ensures.keys
+    ∙ ap (λ (ms : List Mark). kept_end w.ases.keys (mark_of ms p)) c.as_slice-3.ensures.value ∙ kept_known w.ases.keys w.hops.items w.marks.items p w.ends (omega (arith, l, w.hops_len)) in
+    subst (λ (o : Option End). IfNone o ((r : Row) → IsRowOf (rows_of w) c.args.asn r → ⊥)) (sym e) tt

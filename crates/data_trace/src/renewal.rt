@@ -1,0 +1,108 @@
+//! New next hops, and the ends that they change.
+ghost use Rattle.std.specs.Prelude.{◌≡◌, ℕ, ◌<◌, ◌≤◌, [], true, false, length, vec_capacity};
+ghost use Rattle.net_names.specs.Numbers.{occurs};
+ghost use Rattle.as_graph.specs.Topology.{has};
+ghost use Rattle.stability_laws.specs.Book.{policy_at};
+ghost use Rattle.data_trace.specs.Marks.{next_of, hop_at, IsWithin, AreEnds};
+ghost use Rattle.data_trace.specs.Lists.{HasLists};
+ghost use Rattle.data_trace.specs.Sums.{room_of};
+ghost use Rattle.data_trace.specs.Counted.{AreCounted};
+ghost use Rattle.data_trace.specs.Columns.{named, name_at, group_at, AreHops, IsGroup};
+ghost use Rattle.data_trace.specs.Sources.{sends};
+
+use crate::columns::group_now;
+use crate::counting::put_group;
+use crate::leaving::detach;
+use crate::lists::relink;
+use crate::places::{Group, Mark, PlaceHop};
+use crate::source::Source;
+use crate::spreading::spread;
+use crate::sums::Sums;
+use crate::walks::settle_each;
+use as_graph::Graph;
+use indexmap::IndexSet;
+use net_names::Asn;
+use policy_laws::Labelled;
+use stability_laws::Book;
+
+/// Puts the places of these ASes into their groups. An AS without a place is passed over.
+pub fn regroup<P: Labelled>(
+    sums: &mut Sums,
+    ases: &IndexSet<Asn>,
+    marks: &[Mark],
+    groups: &mut [Group],
+    graph: &Graph,
+    book: &Book<P>,
+    regrouped: &[Asn],
+)
+    requires few { length ases.now.keys < 4294967296 }
+    requires counted { AreCounted sums.old ases.now.keys marks.now groups.old }
+    requires sums_room { length ases.now.keys ≤ room_of sums.old }
+    ensures regrouped { (x : ℕ) → x < length ases.now.keys → occurs (name_at ases.now.keys x) regrouped.now ≡ true →
+        IsGroup graph.now (λ a. P.label_of (policy_at book.now a)) (name_at ases.now.keys x) (group_at groups.new x) }
+    ensures others { (x : ℕ) → x < length ases.now.keys → occurs (name_at ases.now.keys x) regrouped.now ≡ false → group_at groups.new x ≡ group_at groups.old x }
+    ensures counted { AreCounted sums.new ases.now.keys marks.now groups.new }
+    ensures sums_room { room_of sums.old ≤ room_of sums.new }
+{
+    'regrouped: for asn in regrouped {
+        let Some(place) = ases.get_index_of(asn) else {
+            continue 'regrouped;
+        };
+        let group = group_now(graph, book, *asn);
+        put_group(sums, ases.as_slice(), marks, groups, place as u32, group);
+    }
+}
+
+/// Gives the places of these ASes their new next hops, and finds the ends that this may change.
+pub fn renew(
+    source: &Source,
+    sums: &mut Sums,
+    ases: &IndexSet<Asn>,
+    hops: &mut [PlaceHop],
+    marks: &mut [Mark],
+    groups: &[Group],
+    first: &mut [Option<u32>],
+    before: &mut [Option<u32>],
+    after: &mut [Option<u32>],
+    queue: &mut Vec<u32>,
+    path: &mut Vec<u32>,
+    changed: &[Asn],
+    regrouped: &[Asn],
+)
+    requires few { length ases.now.keys < 4294967296 }
+    requires listed { (a : ℕ) → has source.now.graph.now a ≡ true → occurs a ases.now.keys ≡ true }
+    requires len { length hops.old ≡ length ases.now.keys }
+    requires within { IsWithin hops.old }
+    requires others { (x : ℕ) → x < length ases.now.keys → occurs (name_at ases.now.keys x) changed.now ≡ false → occurs (name_at ases.now.keys x) regrouped.now ≡ false →
+        named ases.now.keys (hop_at hops.old x) ≡ sends source.now (name_at ases.now.keys x) }
+    requires ends { AreEnds (next_of hops.old) (length hops.old) marks.old }
+    requires lists { HasLists hops.old [] first.old before.old after.old }
+    requires counted { AreCounted sums.old ases.now.keys marks.old groups.now }
+    requires sums_room { length ases.now.keys ≤ room_of sums.old }
+    requires queue_room { length hops.old ≤ vec_capacity queue.old }
+    requires path_room { length hops.old ≤ vec_capacity path.old }
+    ensures hops { AreHops (sends source.now) ases.now.keys hops.new }
+    ensures within { IsWithin hops.new }
+    ensures ends { AreEnds (next_of hops.new) (length hops.new) marks.new }
+    ensures lists { HasLists hops.new [] first.new before.new after.new }
+    ensures counted { AreCounted sums.new ases.now.keys marks.new groups.now }
+    ensures sums_room { room_of sums.old ≤ room_of sums.new }
+    ensures queue_room { vec_capacity queue.old ≤ vec_capacity queue.new }
+    ensures path_room { vec_capacity path.old ≤ vec_capacity path.new }
+{
+    queue.clear();
+    detach(
+        hops, first, before, after, sums, ases, marks, groups, queue, changed,
+    );
+    detach(
+        hops, first, before, after, sums, ases, marks, groups, queue, regrouped,
+    );
+    let count = queue.len();
+    let numbers = ases.as_slice();
+    spread(sums, numbers, marks, groups, first, after, queue);
+    let places = queue.as_slice();
+    let roots = &places[..count];
+    source.rewrite(ases, hops, roots);
+    relink(hops, first, before, after, roots);
+    settle_each(sums, numbers, hops, marks, groups, path, places);
+}

@@ -1,0 +1,69 @@
+//! The next hops of the ASes of a graph, as places.
+ghost use Rattle.std.specs.Prelude.{◌≡◌, ℕ, ◌<◌, true, false, length, List, nat_eq, slice_index};
+ghost use Rattle.std.specs.List.{list_any};
+ghost use Rattle.net_names.specs.Numbers.{occurs};
+ghost use Rattle.as_graph.specs.Topology.{has};
+ghost use Rattle.route_choice.specs.RoundTables.{round_routing, AreAllLive};
+ghost use Rattle.data_trace.specs.declared.places.PlaceHop.TheVariants as APlaceHop;
+ghost use Rattle.data_trace.specs.Traces.{IsIn};
+ghost use Rattle.data_trace.specs.Marks.{hop_at, IsWithin};
+ghost use Rattle.data_trace.specs.Watches.{StaysInside};
+ghost use Rattle.data_trace.specs.Columns.{named, name_at};
+
+use crate::columns::place_of;
+use crate::hops::next_hop;
+use crate::places::PlaceHop;
+use as_graph::Graph;
+use indexmap::IndexSet;
+use net_names::{Addr, Asn};
+use path_pool::PathPool;
+use route_choice::RoundTables;
+use stability_laws::SeedPlan;
+
+/// The tables of a round over a graph, and a watched address.
+#[derive(Drop)]
+pub struct Source<'a> {
+    pub graph: &'a Graph,
+    pub tables: &'a RoundTables,
+    pub pool: &'a PathPool,
+    pub plan: &'a SeedPlan,
+    pub addr: Addr,
+    pub ghost live: { AreAllLive pool.now tables.now },
+    pub ghost inside: { StaysInside graph.now plan.now (round_routing pool.now tables.now) },
+}
+
+impl<'a> Source<'a> {
+    ghost use Rattle.data_trace.specs.Sources.{sends};
+
+    // Where an AS of the graph sends, and no route of others.
+    fn hop(&self, ases: &IndexSet<Asn>, asn: Asn) -> PlaceHop
+        requires few { length ases.now.keys < 4294967296 }
+        requires listed { (a : ℕ) → has self.now.graph.now a ≡ true → occurs a ases.now.keys ≡ true }
+        ensures named { named ases.now.keys result ≡ sends self.now asn }
+        ensures within { (y : ℕ) → result ≡ APlaceHop.To y → y < length ases.now.keys }
+    {
+        if !self.graph.has(asn) {
+            return PlaceHop::NoRoute;
+        }
+        let hop = next_hop(self.tables, self.pool, self.plan, asn, self.addr);
+        place_of(ases, hop)
+    }
+
+    /// Gives the places of `roots` their next hops.
+    pub fn rewrite(&self, ases: &IndexSet<Asn>, hops: &mut [PlaceHop], roots: &[u32])
+        requires few { length ases.now.keys < 4294967296 }
+        requires listed { (a : ℕ) → has self.now.graph.now a ≡ true → occurs a ases.now.keys ≡ true }
+        requires len { length hops.old ≡ length ases.now.keys }
+        requires within { IsWithin hops.old }
+        requires roots { (k : ℕ) → k < length roots.now → slice_index roots.now k < length hops.old }
+        ensures within { IsWithin hops.new }
+        ensures changed { (x : ℕ) → IsIn x roots.now → named ases.now.keys (hop_at hops.new x) ≡ sends self.now (name_at ases.now.keys x) }
+        ensures others { (x : ℕ) → list_any (nat_eq x) roots.now ≡ false → hop_at hops.new x ≡ hop_at hops.old x }
+    {
+        let numbers = ases.as_slice();
+        'roots: for place in roots {
+            let asn = numbers[*place as usize];
+            hops[*place as usize] = self.hop(ases, asn);
+        }
+    }
+}
