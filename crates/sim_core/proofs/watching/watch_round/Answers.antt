@@ -19,7 +19,7 @@ loop-addr-preserved c =
     let plan = plan_of c.args.rounds.now in
     let held = kept c.args.rounds.now c.args.round in
     let rows = same_rows c.in_ok-watch.watch c.args.graph.now (λ a. label (policy_at c.args.book.now a)) c.seed_plan-plan.result.now plan (round_routing c.pool-pool.result.now c.in-Some.tables.now) held c.addr-item.result
-    c.seed_plan-plan.ensures (λ p b. ap (λ (pool : PathPool). round_routing pool c.in-Some.tables.now p b) c.pool-pool.ensures.value ∙ c.in-Some.ensures.routing p b) c.in_ok-watch.ensures in
+    c.seed_plan-plan.ensures (λ p b. ap (λ (pool : PathPool). round_routing pool c.in-Some.tables.now p b) c.pool-pool.ensures.value ∙ c.in-Some.ensures.routing p b) c.in_ok-watch.ensures.rows in
     let more = one_watch_more c.args.graph.now plan held c.args.book.now (take c.loop-addr.addr-index c.args.addrs.now) c.loop-addr.watches.items c.addr-item.result c.in_ok-watch.watch c.loop-addr.invariant rows in
     let longer : take (c.loop-addr.addr-index + 1) c.args.addrs.now ≡ take c.loop-addr.addr-index c.args.addrs.now ++ c.addr-item.result ∷ [] =
     take_more c.args.addrs.now c.loop-addr.addr-index c.addr-item.result c.loop-addr-test.true ∙ ap (λ a. take c.loop-addr.addr-index c.args.addrs.now ++ a ∷ []) (sym c.addr-item.is) in
