@@ -10,3 +10,8 @@ mod Ways
 mod Carrying
 mod Filling
 mod Told
+pub mod Closings
+pub mod Reaching
+pub mod Reversing
+pub mod Wanting
+pub mod Ending

@@ -49,7 +49,7 @@ module _ (what : ℕ → ℕ → Option Rel) where
     closes = subst (λ t. what t y ≡ Some Customer) (sym (last_or_push 0 (y ∷ ys) x)) h.descends.0;
   }
 
-  turns : (xs ys : List ℕ) → IsProviderCycle what (xs ++ ys) → IsProviderCycle what (ys ++ xs)
+  pub turns : (xs ys : List ℕ) → IsProviderCycle what (xs ++ ys) → IsProviderCycle what (ys ++ xs)
   turns [] ys h = subst (IsProviderCycle what) (sym (append-nil ys)) h
   turns (x ∷ xs) ys h =
       let turned : IsProviderCycle what (xs ++ (ys ++ x ∷ [])) = subst (IsProviderCycle what) (append_assoc xs ys (x ∷ [])) (one_turn x (xs ++ ys) h) in

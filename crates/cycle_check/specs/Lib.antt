@@ -6,3 +6,4 @@ pub mod Cycles
 pub mod Counting
 pub mod Providers
 pub mod Rankings
+pub mod Searches

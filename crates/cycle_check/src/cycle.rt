@@ -29,6 +29,13 @@ impl Cycle {
     }
 }
 
+/// These ASes as a cycle.
+pub fn cycle_of(numbers: Vec<Asn>) -> Cycle
+    ensures { result ≡ numbers.items }
+{
+    Cycle { numbers }
+}
+
 /// The ASes at the places of a cycle.
 pub fn cycle_at(alloc: Global, ases: &[Asn], places: &[u32]) -> Result<Cycle, NoMemory>
     requires { (k : ℕ) → k < length places.now → slice_index places.now k < length ases.now }
