@@ -1,16 +1,14 @@
 -- What turns leave of the pool, the table and the overlay.
-use Rattle.std.proofs.Common.{nat_eq, ◌≡◌, ◌≢◌, ◌⊎◌, inl, inr, ℕ, suc, ◌+◌, ◌<◌, ◌≤◌, Bool, true, false, ◌||◌, ◌==◌, true≢false, IsSome, is_some, Option, Some, None, option_map, List, [], ◌∷◌, length, refl, sym, ◌∙◌, ap, subst, arith}
+use Rattle.std.proofs.Common.{nat_eq, ◌≡◌, ◌≢◌, ◌⊎◌, inl, inr, ℕ, ◌+◌, ◌≤◌, Bool, true, false, ◌||◌, ◌==◌, true≢false, IsSome, is_some, Option, Some, None, option_map, List, [], ◌∷◌, refl, sym, ◌∙◌, subst, arith}
 use Rattle.std.specs.List.{AllByRecursion, IsDistinct as AreApart}
-use Rattle.std.proofs.lemmas.Bool.{cases_eq, cases_Bool, or_cases, or_right, eqb-true, eq-eqb}
+use Rattle.std.proofs.lemmas.Bool.{cases_eq, cases_Bool, or_cases, eqb-true}
 use Rattle.std.proofs.lemmas.Cmp.{nat_eq_equiv}
-use Rattle.std.proofs.lemmas.Map.Keys.{IsDistinct-cons}
 use Rattle.net_names.specs.Numbers.{occurs, IsDistinct}
 use Rattle.as_graph.specs.Topology.{Topology, has, as_count}
 use Rattle.as_graph.proofs.RowAses.{length-le-as_count}
 use Rattle.path_pool.specs.declared.pool.PathPool.{PathPool}
-use Rattle.path_pool.specs.Pool.{IsLive, count_of, holds_of, live_count}
+use Rattle.path_pool.specs.Pool.{IsLive, count_of, holds_of}
 use Rattle.stability_laws.specs.declared.entry.Entry.{Entry}
-use Rattle.stability_laws.specs.declared.entry.Seed.{Seed}
 use Rattle.route_choice.specs.declared.held.Held.{Held}
 use Rattle.route_choice.specs.declared.overlay.Overlay.{Overlay}
 use Rattle.route_choice.specs.declared.seeds.SeedIds.{SeedIds}

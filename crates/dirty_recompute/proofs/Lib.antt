@@ -1,3 +1,4 @@
+pub mod NewRanks
 pub mod QueueLemmas
 pub mod TurnLemmas
 pub mod Befores

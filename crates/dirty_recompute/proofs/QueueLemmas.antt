@@ -112,14 +112,6 @@ IsAmongBelow k neighbours wanted b = (i : ℕ) × (n : Neighbour) × (i < k) × 
 pub queued_none : (rank : ℕ → ℕ) (queue : Queue) (who left : ℕ → Type 0) → ((b : ℕ) → who b → left b) → AreQueued rank queue queue who left
 queued_none rank queue who left all = record { ranks = λ r. r; kept = λ b t. t; put = λ b is. inr (all b is); from = λ b t. inl t }
 
-pub queued_added : (rank : ℕ → ℕ) (q0 q1 : Queue) (p who left : ℕ → Type 0) → ((b : ℕ) → who b → p b) → ((b : ℕ) → p b → who b) → IsAdded rank q0 q1 p → AreQueued rank q0 q1 who left
-queued_added rank q0 q1 p who left to back x = record {
-  ranks = x.ranks;
-  kept = x.kept;
-  put = λ b is. inl (x.put b (to b is));
-  from = λ b t. elim (x.from b t) [ inl old ↦ inl old | inr h ↦ inr (back b h) ];
-}
-
 pub queued_both : (rank : ℕ → ℕ) (q0 q1 q2 : Queue) (p q who left : ℕ → Type 0) → ((b : ℕ) → who b → p b ⊎ q b) → ((b : ℕ) → p b ⊎ q b → who b) → AreQueued rank q0 q1 p left → AreQueued rank q1 q2 q left → AreQueued rank q0 q2 who left
 queued_both rank q0 q1 q2 p q who left split join x y = record {
   ranks = λ r. y.ranks (x.ranks r);

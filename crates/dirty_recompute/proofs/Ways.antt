@@ -8,12 +8,11 @@ use Rattle.policy_laws.specs.Policy.{Policy}
 use Rattle.as_graph.specs.Topology.{Topology, what, has, ases}
 use Rattle.path_pool.specs.declared.pool.PathPool.{PathPool}
 use Rattle.stability_laws.specs.declared.entry.Entry.{Entry}
-use Rattle.stability_laws.specs.declared.entry.Seed.{Seed}
-use Rattle.stability_laws.specs.Book.{PolicyBook, policy_at}
+use Rattle.stability_laws.specs.Book.{PolicyBook}
 use Rattle.stability_laws.specs.World.{setting}
-use Rattle.stability_laws.specs.Offers.{Setting, Offer, offer}
-use Rattle.stability_laws.specs.Stable.{IsRight, IsRightGiven}
-use Rattle.stability_laws.specs.Laws.{IsForCustomersOnly, customer_offer}
+use Rattle.stability_laws.specs.Offers.{Setting, offer}
+use Rattle.stability_laws.specs.Stable.{IsRight}
+use Rattle.stability_laws.specs.Laws.{customer_offer}
 use Rattle.stability_laws.specs.Steps.{low}
 use Rattle.route_choice.specs.declared.held.Held.{Held}
 use Rattle.route_choice.specs.declared.overlay.Overlay.{Overlay}

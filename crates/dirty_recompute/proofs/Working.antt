@@ -3,7 +3,7 @@ use Rattle.std.proofs.Common.{◌≡◌, ◌≢◌, ◌⊎◌, inl, inr, ℕ, Bo
 use Rattle.std.proofs.lemmas.Bool.{cases_eq, eqb-true, eq-eqb}
 use Rattle.net_names.specs.declared.routes.Rel.{Rel}
 use Rattle.net_names.specs.declared.routes.Rel.TheVariants.{Customer, Provider}
-use Rattle.net_names.specs.Numbers.{occurs, IsDistinct}
+use Rattle.net_names.specs.Numbers.{occurs}
 use Rattle.stability_laws.specs.declared.entry.Entry.{Entry}
 use Rattle.stability_laws.specs.Steps.{low}
 use Rattle.dirty_recompute.specs.Exact.{IsCounted}
@@ -105,21 +105,6 @@ counted_on what touched o o' b grows (inl t) = inl t
 counted_on what touched o o' b grows (inr (c, r, linked, is)) = inr (c, r, linked, grows c is)
 
 module _ (LowRight Right : (ℕ → Option Entry) → ℕ → Type 0) (le : ℕ → ℕ → Type 0) (trans : (x y z : ℕ) → le x y → le y z → le x z) (what : ℕ → ℕ → Option Rel) (touched : ℕ → Bool) (table : ℕ → Option Entry) where
-  -- nothing was done yet
-  pub up_start : ((b : ℕ) → touched b ≡ false → Right table b) → ((b : ℕ) → Right table b → LowRight table b) → IsUpWork LowRight Right le what touched table table (λ _. false) touched (λ _. false) []
-  up_start right lower = record {
-    low_right = λ b n. lower b (right b n);
-    right = λ b n _. right b n;
-    same = λ b _. refl;
-    differs = λ b t. absurd (true≢false (sym t));
-    put = λ b t. absurd (true≢false (sym t));
-    put_low = λ b t. absurd (true≢false (sym t));
-    order = record { ahead = λ b c q t. absurd (true≢false (sym t)); fresh = λ b q. refl; distinct = tt };
-    queued = λ b t. inl t;
-    queued_whole = λ b t. absurd (true≢false (sym t));
-    done = λ b t. absurd (true≢false (sym t));
-  }
-
   module _ (above : (a b : ℕ) → what b a ≡ Some Customer → le a b × (le b a → ⊥)) (a : ℕ) (f : ℕ → Option Entry) (overlay up whole : ℕ → Bool) (taken : List ℕ) (g : ℕ → Option Entry) (overlay' up' whole' : ℕ → Bool) where
     pub up_step : up a ≡ true → ((b : ℕ) → up b ≡ true → le a b) → IsUpWork LowRight Right le what touched table f overlay up whole taken → IsUpStep LowRight Right what a f overlay up whole g overlay' up' whole' → IsUpWork LowRight Right le what touched table g overlay' up' whole' (a ∷ taken)
     up_step is least was step = record {
@@ -277,8 +262,3 @@ module _ (LowRight Right : (ℕ → Option Entry) → ℕ → Type 0) (le : ℕ 
         queued : (b : ℕ) → (whole b ≡ true) ⊎ ((what b a ≡ Some Provider) × (overlay' a ≡ true)) → IsCounted what touched overlay' b
         queued b (inl q) = on b (was.queued b q)
         queued b (inr (link, t)) = inr (a, Provider, link, t)
-
--- an AS of the overlay that changes downwards held nothing: so each AS of the overlay is given an entry at most once
-pub put_once : (LowRight Right : (ℕ → Option Entry) → ℕ → Type 0) (le : ℕ → ℕ → Type 0) (what : ℕ → ℕ → Option Rel) (touched : ℕ → Bool) (table f : ℕ → Option Entry) (overlay whole : ℕ → Bool) (earlier taken : List ℕ) (a : ℕ) →
-    IsWholeWork LowRight Right le what touched table f overlay whole earlier taken → whole a ≡ true → overlay a ≡ true → low (f a) ≡ None → f a ≡ None
-put_once LowRight Right le what touched table f overlay whole earlier taken a was q o none = sym (was.put_low a o (was.order.fresh a q)) ∙ none

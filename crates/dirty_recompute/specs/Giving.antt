@@ -20,7 +20,7 @@ pub record IsGiven (old new : PathPool) (table : Table) (before after : Overlay)
   pub changed : IsTrue answer ↔ (routing_of new table after a ≢ routing_of old table before a)
   pub paid : IsPaidFor old new (routing_of old table before) (routing_of new table after) a
 
--- the ASes hold what they held, and no more cells are live and no count has risen (own rule)
+-- the ASes hold what they held, and the overlay has the changes that it had (own rule)
 pub record SameHeld (old new : PathPool) (table : Table) (before after : Overlay) : Type 0 where
   pub routing : (n : ℕ) → routing_of new table after n ≡ routing_of old table before n
   pub changes : (n : ℕ) → change_at after n ≡ change_at before n

@@ -4,5 +4,5 @@ use Rattle.rank_order.specs.Plans.{rank_after}
 use Rattle.dirty_recompute.specs.declared.new_ranks.NewRanks.{NewRanks}
 
 -- the rank of an AS after the edit (own rule)
-abbrev pub rank_of : NewRanks → ℕ → ℕ
+unfoldable pub rank_of : NewRanks → ℕ → ℕ
 rank_of r a = rank_after r.ranks.now r.plan.now a

@@ -17,6 +17,7 @@ pub(crate) struct NewRanks<'a> {
 
 impl<'a> NewRanks<'a> {
     /// The rank of an AS.
+    #[tactic(auto, unfolding(crate::specs::NewRanks::rank_of))]
     pub fn rank(&self, asn: Asn) -> u32
         ensures { result ≡ rank_of self.now asn }
     {

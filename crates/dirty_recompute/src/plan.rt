@@ -92,7 +92,7 @@ fn go_up<P: RoutePolicy, V: OriginStates, L: Ledger>(
     Ok(whole)
 }
 
-// And then downwards, by falling rank.
+// And then downwards, by falling rank. `touched` has the ASes with which the way upwards began.
 fn go_down<P: RoutePolicy, V: OriginStates, L: Ledger>(
     graph: &Graph,
     ranks: &NewRanks,
@@ -159,6 +159,7 @@ fn put_changes<P: RoutePolicy, V: OriginStates, L: Ledger>(
     ensures table { SameTable table.old table.new }
     ensures spare { OnOk result (length (places_of overlay.new) ≤ table_spare table.new) }
 {
+    // there are few ASes, so no count of the pool can grow too great
     let _ = graph.as_count();
     let mut whole = go_up(
         alloc, graph, ranks, book, states, seeds, pool, table, overlay, touched, steps,
@@ -171,19 +172,21 @@ fn put_changes<P: RoutePolicy, V: OriginStates, L: Ledger>(
 }
 
 /// The changes of a table that an edit brings. The graph, the policies, the states and the seeds are
-/// those after the edit, and `touched` has the ASes that may hold something else than what is
-/// right there: the ends of an edited link, the AS of an edited policy, and who reads an edited state
-/// or has an edited seed. With the changes in place the table stands for the stable routing, which is
-/// the only one, and the overlay has just the ASes at which the two differ. It takes at most two steps
-/// for each AS that is in `touched` or has a neighbour in the overlay.
+/// those after the edit, and `touched` has the ASes that may hold something else than what is right
+/// there: the ends of an edited link, the AS of an edited policy, and who reads an edited state or has
+/// an edited seed. With the changes in place the table stands for the stable routing, which is the only
+/// one, and the overlay has just the ASes at which the two differ. It takes at most two steps for each
+/// AS that is in `touched` or has a neighbour in the overlay.
 ///
-/// The graph has no provider cycle, and `plan` is the last plan of the ranks and gives its ranks. The table holds entries only for its ASes
-/// and those in `touched`, and the seeds stand only at its ASes. The table owns one hold for each of its
-/// entries, the paths of these and of the seeds are live, no count of the pool is above 4,000,000,000, and the pool's limit
-/// leaves two cells for each AS beside the live ones. The overlay owns one hold for each of its entries;
-/// for each of them at most one cell more is live. What was live keeps its path, and the table is as
-/// before and has room for the changes. Its only refusal is want of memory, and then the holds are as
-/// before, and so is each path that is held.
+/// The graph has no provider cycle, and `plan` is the last plan of the ranks and gives its ranks. The
+/// table holds entries only for its ASes and those in `touched`, and is right at all ASes that are not in
+/// `touched`; the seeds stand only at its ASes. The table owns one hold for each of its entries, the
+/// paths of these and of the seeds are live, no count of the pool is above 4,000,000,000, and the pool's
+/// limit leaves two cells for each AS beside the live ones.
+///
+/// The overlay owns one hold for each of its entries, and for each of them at most one cell more is live.
+/// What was live keeps its path, and the table is as before and has room for the changes. Its only
+/// refusal is want of memory, and then the holds are as before, and so is each path that is held.
 pub fn plan_edit<P: RoutePolicy, V: OriginStates, L: Ledger>(
     alloc: Global,
     graph: &Graph,

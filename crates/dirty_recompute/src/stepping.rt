@@ -1,7 +1,7 @@
 //! One step of an AS whose entry may be wrong after an edit, and which of its neighbours may be left
 //! alone after it.
 
-ghost use Rattle.std.specs.Prelude.{◌≡◌, ◌≢◌, ◌⊎◌, ℕ, ◌+◌, ◌≤◌, Option, ◌↔◌, IsTrue, IsSome, None, true, false, OnOk, IfOk, option_map};
+ghost use Rattle.std.specs.Prelude.{◌≡◌, ◌≢◌, ◌⊎◌, ℕ, ◌+◌, ◌≤◌, Option, ◌↔◌, IsTrue, IsSome, None, true, false, OnOk, OnErr, IfOk, option_map};
 ghost use Rattle.as_graph.specs.Topology.{what, has};
 ghost use Rattle.stability_laws.specs.declared.entry.Entry.{Entry as AnEntry};
 ghost use Rattle.stability_laws.specs.Book.{policy_at};
@@ -14,6 +14,7 @@ ghost use Rattle.route_choice.specs.Resources.{AreHeld, AreSeedsLive};
 ghost use Rattle.route_choice.specs.Routings.{entry_of, routing_of, seeds_of};
 ghost use Rattle.route_choice.specs.Tables.{change_at, prefix_of};
 ghost use Rattle.dirty_recompute.specs.Steps.{ChangesOnly, IsChosenUp, IsLeft, without_low};
+ghost use Rattle.dirty_recompute.specs.Giving.{SameHeld};
 ghost use Rattle.dirty_recompute.specs.Resources.{has_change, CanTurn, IsKept, IsPaidFor, IsBefore};
 
 use crate::giving::{give_chosen, held_near};
@@ -86,6 +87,7 @@ pub(crate) fn step_up<P: RoutePolicy, V: OriginStates, L: Ledger>(
     ensures cost { OnOk result (steps.new ≡ steps.old + 1) }
     ensures paid { OnOk result (IsPaidFor pool.old pool.new (routing_of pool.old table.now overlay.old) (routing_of pool.new table.now overlay.new) asn) }
     ensures kept { IsKept pool.old pool.new seeds.now overlay.old overlay.new }
+    ensures refused { OnErr result (SameHeld pool.old pool.new table.now overlay.old overlay.new) }
 {
     let place = graph.place_near(asn, 0);
     let before = held_near(table, overlay, asn, place);
@@ -144,6 +146,7 @@ pub(crate) fn step_whole<P: RoutePolicy, V: OriginStates, L: Ledger>(
     ensures cost { OnOk result (steps.new ≡ steps.old + 1) }
     ensures paid { OnOk result (IsPaidFor pool.old pool.new (routing_of pool.old table.now overlay.old) (routing_of pool.new table.now overlay.new) asn) }
     ensures kept { IsKept pool.old pool.new seeds.now overlay.old overlay.new }
+    ensures refused { OnErr result (SameHeld pool.old pool.new table.now overlay.old overlay.new) }
 {
     one_answer::<P>();
     let place = graph.place_near(asn, 0);

@@ -139,16 +139,49 @@ fn queue_around<P: RoutePolicy, V: OriginStates>(
     if changed {
         let near = graph.neighbours(asn);
         queue_those(
-            graph, ranks, book, states, seeds, pool, table, overlay, asn, before, near,
-            Rel::Provider, up,
+            graph,
+            ranks,
+            book,
+            states,
+            seeds,
+            pool,
+            table,
+            overlay,
+            asn,
+            before,
+            near,
+            Rel::Provider,
+            up,
         )?;
         queue_those(
-            graph, ranks, book, states, seeds, pool, table, overlay, asn, before, near,
-            Rel::Peer, whole,
+            graph,
+            ranks,
+            book,
+            states,
+            seeds,
+            pool,
+            table,
+            overlay,
+            asn,
+            before,
+            near,
+            Rel::Peer,
+            whole,
         )?;
         queue_those(
-            graph, ranks, book, states, seeds, pool, table, overlay, asn, before, near,
-            Rel::Customer, whole,
+            graph,
+            ranks,
+            book,
+            states,
+            seeds,
+            pool,
+            table,
+            overlay,
+            asn,
+            before,
+            near,
+            Rel::Customer,
+            whole,
         )?;
     }
     Ok(())
@@ -177,8 +210,19 @@ fn queue_customers<P: RoutePolicy, V: OriginStates>(
     if changed {
         let near = graph.neighbours(asn);
         queue_those(
-            graph, ranks, book, states, seeds, pool, table, overlay, asn, before, near,
-            Rel::Customer, whole,
+            graph,
+            ranks,
+            book,
+            states,
+            seeds,
+            pool,
+            table,
+            overlay,
+            asn,
+            before,
+            near,
+            Rel::Customer,
+            whole,
         )?;
     }
     Ok(())
@@ -207,9 +251,7 @@ pub(crate) fn turn_up<P: RoutePolicy, V: OriginStates, L: Ledger>(
     ensures paid { OnOk result (IsPaidFor pool.old pool.new (routing_of pool.old table.now overlay.old) (routing_of pool.new table.now overlay.new) asn) }
     ensures kept { IsKept pool.old pool.new seeds.now overlay.old overlay.new }
 {
-    let seen = step_up(
-        graph, book, states, seeds, pool, table, overlay, asn, steps,
-    )?;
+    let seen = step_up(graph, book, states, seeds, pool, table, overlay, asn, steps)?;
     queue_itself(ranks, whole, asn, seen.nothing)?;
     queue_around(
         graph,
@@ -251,9 +293,7 @@ pub(crate) fn turn_down<P: RoutePolicy, V: OriginStates, L: Ledger>(
     ensures paid { OnOk result (IsPaidFor pool.old pool.new (routing_of pool.old table.now overlay.old) (routing_of pool.new table.now overlay.new) asn) }
     ensures kept { IsKept pool.old pool.new seeds.now overlay.old overlay.new }
 {
-    let seen = step_whole(
-        graph, book, states, seeds, pool, table, overlay, asn, steps,
-    )?;
+    let seen = step_whole(graph, book, states, seeds, pool, table, overlay, asn, steps)?;
     queue_customers(
         graph,
         ranks,

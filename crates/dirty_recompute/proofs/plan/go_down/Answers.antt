@@ -1,4 +1,4 @@
-use Rattle.std.proofs.Common.{◌≡◌, ◌+◌, ◌-◌, ◌<◌, ◌≤◌, ◌++◌, ℕ, false, None, option_map, ap, length, arith}
+use Rattle.std.proofs.Common.{◌≡◌, ◌+◌, ◌-◌, ◌<◌, ◌≤◌, ◌++◌, option_map, ap, length, arith}
 use Rattle.as_graph.specs.Topology.{what, has, ases}
 use Rattle.stability_laws.specs.World.{setting}
 use Rattle.route_choice.specs.Routings.{routing_of, seed_of, seeds_of, table_routing}

@@ -1,6 +1,5 @@
-use Rattle.std.proofs.Common.{◌≡◌, ◌+◌, ◌-◌, ◌<◌, ◌≤◌, ◌++◌, ℕ, false, None, option_map, ap, length, arith}
-use Rattle.as_graph.specs.Topology.{what, has, ases}
-use Rattle.stability_laws.specs.World.{setting}
+use Rattle.std.proofs.Common.{◌≡◌, ◌+◌, ◌-◌, ◌<◌, ◌≤◌, ◌++◌, option_map, ap, length, arith}
+use Rattle.as_graph.specs.Topology.{ases}
 use Rattle.route_choice.specs.Routings.{routing_of, seed_of, seeds_of, table_routing}
 use Rattle.route_choice.specs.Tables.{prefix_of}
 use Rattle.dirty_recompute.specs.NewRanks.{rank_of}
@@ -63,6 +62,9 @@ returns-clause-done g c =
     let rank = rank_of c.args.ranks.now in
     let state = g.V.OriginStates.state_of c.args.states.now (prefix_of c.args.table.now) in
     let was = c.loop-asn.invariant in
-    let pool = c.loop-asn.pool in
-    (was.turns, was.count, halfway g.P.RoutePolicy.meaning laws c.args.graph.now c.args.book.now state (seeds_of pool c.args.seeds.now) rank c.args.touched.now (table_routing pool c.args.table.now) (routing_of pool c.args.table.now c.loop-asn.overlay) (has_change c.loop-asn.overlay)
-    c.loop-asn.up c.loop-asn.whole was.turns (c.in_default.ensures.none rank) was.work)
+    let pool = c.loop-asn.pool in (
+      was.turns,
+      was.count,
+      halfway g.P.RoutePolicy.meaning laws c.args.graph.now c.args.book.now state (seeds_of pool c.args.seeds.now) rank c.args.touched.now (table_routing pool c.args.table.now) (routing_of pool c.args.table.now c.loop-asn.overlay) (has_change c.loop-asn.overlay)
+          c.loop-asn.up c.loop-asn.whole was.turns (c.in_default.ensures.none rank) was.work,
+    )

@@ -1,15 +1,15 @@
-use Rattle.std.proofs.Common.{◌≡◌, ◌+◌, ◌≤◌, ℕ, arith}
+use Rattle.std.proofs.Common.{◌≡◌, arith}
 use Rattle.stability_laws.specs.World.{setting}
 use Rattle.route_choice.specs.Routings.{routing_of, seeds_of, table_routing}
 use Rattle.route_choice.specs.Tables.{prefix_of}
 use Rattle.dirty_recompute.specs.Exact.{IsExact}
-use Rattle.dirty_recompute.specs.NewRanks.{rank_of}
+use Rattle.dirty_recompute.proofs.NewRanks.{they_fall}
 use Rattle.dirty_recompute.specs.Resources.{has_change}
 use Rattle.dirty_recompute.proofs.Going.{can_start, few_new_cells, seeds_same, table_same, undone}
 use Rattle.dirty_recompute.proofs.plan.plan_edit.Goals as goal
 
 pub put_changes-requires-clause-falls : goal.put_changes-requires-clause-falls
-put_changes-requires-clause-falls g c = λ a b link. (c.ranks_fit.ensures c.args.graph.now _ c.requires.no_cycle c.requires.ranks a).above b link
+put_changes-requires-clause-falls g c = they_fall _ c.args.graph.now c.ranks_fit.ensures c.requires.no_cycle c.requires.ranks
 
 pub put_changes-requires-clause-can : goal.put_changes-requires-clause-can
 put_changes-requires-clause-can g c = can_start c.args.graph.now c.args.seeds.now c.args.table.now c.args.pool.now c.new-overlay.result c.requires.counts c.requires.held c.new-overlay.ensures.uses c.requires.entries_live c.requires.seeds_live

@@ -1,6 +1,5 @@
-use Rattle.std.proofs.Common.{◌≡◌, ℕ, Option}
+use Rattle.std.proofs.Common.{◌≡◌}
 use Rattle.stability_laws.specs.World.{setting}
-use Rattle.stability_laws.specs.declared.entry.Entry.{Entry}
 use Rattle.route_choice.specs.Routings.{routing_of, seeds_of, table_routing}
 use Rattle.route_choice.specs.Tables.{prefix_of}
 use Rattle.dirty_recompute.specs.Exact.{IsExact}

@@ -17,14 +17,14 @@ returns-in_ok-queue_those-3-clause-up g c =
     let w = what c.args.graph.now in let a = c.args.asn in let xs = c.neighbours-near.result.now in let are = c.neighbours-near.ensures in
     let rank = rank_of c.args.ranks.now in
     let left : ℕ → Type 0 = λ b. IsLeft (setting g.P.RoutePolicy.meaning c.args.graph.now c.args.book.now (g.V.OriginStates.state_of c.args.states.now (prefix_of c.args.table.now))) (seeds_of c.args.pool.now c.args.seeds.now) (as_before c.args.pool.now c.args.table.now c.args.overlay.now a c.args.before.now) (routing_of c.args.pool.now c.args.table.now c.args.overlay.now) a b in
-    queued_by rank c.args.up.now c.queue_those.new.queue (IsAmong xs rel.Provider) (λ b. (w a b ≡ Some rel.Provider) × (c.args.changed ≡ true)) left (λ b is. among_to w a xs rel.Provider are b is.0) (λ b is. (among_back w a xs rel.Provider are b is, c.if-changed.true)) c.in_ok-queue_those.ensures
+    queued_by rank c.args.up.now _ (IsAmong xs rel.Provider) (λ b. (w a b ≡ Some rel.Provider) × (c.args.changed ≡ true)) left (λ b is. among_to w a xs rel.Provider are b is.0) (λ b is. (among_back w a xs rel.Provider are b is, c.if-changed.true)) c.in_ok-queue_those.ensures
 
 pub returns-in_ok-queue_those-3-clause-whole : goal.returns-in_ok-queue_those-3-clause-whole
 returns-in_ok-queue_those-3-clause-whole g c =
     let w = what c.args.graph.now in let a = c.args.asn in let xs = c.neighbours-near.result.now in let are = c.neighbours-near.ensures in
     let rank = rank_of c.args.ranks.now in
     let left : ℕ → Type 0 = λ b. IsLeft (setting g.P.RoutePolicy.meaning c.args.graph.now c.args.book.now (g.V.OriginStates.state_of c.args.states.now (prefix_of c.args.table.now))) (seeds_of c.args.pool.now c.args.seeds.now) (as_before c.args.pool.now c.args.table.now c.args.overlay.now a c.args.before.now) (routing_of c.args.pool.now c.args.table.now c.args.overlay.now) a b in
-    queued_both rank c.args.whole.now c.queue_those-2.new.queue c.queue_those-3.new.queue (IsAmong xs rel.Peer) (IsAmong xs rel.Customer) (λ b. ((w a b ≡ Some rel.Customer) ⊎ (w a b ≡ Some rel.Peer)) × (c.args.changed ≡ true)) left
+    queued_both rank c.args.whole.now _ _ (IsAmong xs rel.Peer) (IsAmong xs rel.Customer) (λ b. ((w a b ≡ Some rel.Customer) ⊎ (w a b ≡ Some rel.Peer)) × (c.args.changed ≡ true)) left
     (λ b is. elim is.0 [ inl x ↦ inr (among_to w a xs rel.Customer are b x) | inr x ↦ inl (among_to w a xs rel.Peer are b x) ])
     (λ b is. elim is [ inl x ↦ (inr (among_back w a xs rel.Peer are b x), c.if-changed.true) | inr x ↦ (inl (among_back w a xs rel.Customer are b x), c.if-changed.true) ])
     c.in_ok-queue_those-2.ensures c.in_ok-queue_those-3.ensures

@@ -1,4 +1,4 @@
-use Rattle.std.proofs.Common.{◌≡◌, refl, ℕ, Option}
+use Rattle.std.proofs.Common.{◌≡◌, refl}
 use Rattle.stability_laws.specs.World.{setting}
 use Rattle.route_choice.specs.Routings.{routing_of, seeds_of}
 use Rattle.route_choice.specs.Tables.{prefix_of}
