@@ -37,7 +37,7 @@ pub returns-in-None-clause-none : goal.returns-in-None-clause-none
 returns-in-None-clause-none c =
     let told = ap (λ l. place_of (take c.self.inside.front l) c.args.asn) (sym c.deref.ensures.value) ∙ sym c.place_in.ensures ∙ c.in-None.is in
     let nowhere =
-        ap (λ (v : PlacedAses). place_of v.ases c.args.asn) (sym c.self.view_is)
-        ∙ place_missing c.self.inside.numbers.items c.self.inside.front c.self.inside.behind.keys c.self.invariant c.args.asn told
-            (omega (arith, c.if-self-len.true, c.len.ensures)) in
+    ap (λ (v : PlacedAses). place_of v.ases c.args.asn) (sym c.self.view_is)
+    ∙ place_missing c.self.inside.numbers.items c.self.inside.front c.self.inside.behind.keys c.self.invariant c.args.asn told
+    (omega (arith, c.if-self-len.true, c.len.ensures)) in
     sym (has_place c.args.self.now.ases c.args.asn) ∙ ap is_some nowhere
