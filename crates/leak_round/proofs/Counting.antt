@@ -14,12 +14,12 @@ use Rattle.stability_laws.specs.declared.entry.Entry.{Entry}
 use Rattle.three_pass.specs.Spending.{FewNewCells}
 use Rattle.leak_round.specs.Entries.{StandsIn, AreApart, HasEntries}
 
-stands_occurs : (xs : List ℕ) (a : ℕ) → StandsIn a xs → occurs a xs ≡ true
+pub stands_occurs : (xs : List ℕ) (a : ℕ) → StandsIn a xs → occurs a xs ≡ true
 stands_occurs [] a h = absurd h
 stands_occurs (x ∷ xs) a (inl e) = or_left (x == a) (occurs a xs) (eq-eqb x a (sym e))
 stands_occurs (x ∷ xs) a (inr h) = or_right (x == a) (occurs a xs) (stands_occurs xs a h)
 
-apart_numbers : (xs : List ℕ) → IsDistinct xs → AreApart xs
+pub apart_numbers : (xs : List ℕ) → IsDistinct xs → AreApart xs
 apart_numbers [] d = tt
 apart_numbers (x ∷ xs) d = (λ h. (let t = stands_occurs xs x h in let f = d.0 in cc), apart_numbers xs d.1)
 
@@ -33,21 +33,21 @@ table_entries old new f h = record {
 }
 
 module _ {X Y : Type 0} (into : Y → X) (one : (y z : Y) → into y ≡ into z → y ≡ z) where
-  from_mapped : (ys : List Y) (x : X) → StandsIn x (map into ys) → (y : Y) × StandsIn y ys × (x ≡ into y)
+  pub from_mapped : (ys : List Y) (x : X) → StandsIn x (map into ys) → (y : Y) × StandsIn y ys × (x ≡ into y)
   from_mapped [] x h = absurd h
   from_mapped (y ∷ ys) x (inl e) = (y, inl refl, e)
   from_mapped (y ∷ ys) x (inr h) = let (z, s, e) = from_mapped ys x h in (z, inr s, e)
 
-  apart_mapped : (ys : List Y) → AreApart ys → AreApart (map into ys)
+  pub apart_mapped : (ys : List Y) → AreApart ys → AreApart (map into ys)
   apart_mapped [] a = tt
   apart_mapped (y ∷ ys) a = (λ h. (let (z, s, e) = from_mapped ys (into y) h in a.0 (subst (λ (t : Y). StandsIn t ys) (sym (one y z e)) s)), apart_mapped ys a.1)
 
-from_appended : {X : Type 0} (xs ys : List X) (x : X) → StandsIn x (xs ++ ys) → StandsIn x xs ⊎ StandsIn x ys
+pub from_appended : {X : Type 0} (xs ys : List X) (x : X) → StandsIn x (xs ++ ys) → StandsIn x xs ⊎ StandsIn x ys
 from_appended [] ys x h = inr h
 from_appended (z ∷ xs) ys x (inl e) = inl (inl e)
 from_appended (z ∷ xs) ys x (inr h) = elim (from_appended xs ys x h) [ inl l ↦ inl (inr l) | inr r ↦ inr r ]
 
-apart_appended : {X : Type 0} (xs ys : List X) → AreApart xs → AreApart ys → ((x : X) → StandsIn x xs → StandsIn x ys → ⊥) → AreApart (xs ++ ys)
+pub apart_appended : {X : Type 0} (xs ys : List X) → AreApart xs → AreApart ys → ((x : X) → StandsIn x xs → StandsIn x ys → ⊥) → AreApart (xs ++ ys)
 apart_appended [] ys a b never = b
 apart_appended (x ∷ xs) ys a b never = (
   λ h. elim (from_appended xs ys x h) [ inl l ↦ a.0 l | inr r ↦ never x (inl refl) r ],

@@ -52,7 +52,7 @@ module _ (old new : PathPool) (keeps : KeepsPaths old new) where
 
   module _ (plan : Plan) where
     pub full_kept : (tables : RoundTables) → AreFull old plan tables → AreFull new plan tables
-    full_kept tables h = record { there = h.there; by_prefix = h.by_prefix; live = live_kept tables h.live }
+    full_kept tables h = record { there = h.there; by_prefix = h.by_prefix; live = live_kept tables h.live; size = h.size }
 
     pub rounds_full_kept : (rounds : List RoundTables) → AreRoundsFull old plan rounds → AreRoundsFull new plan rounds
     rounds_full_kept rounds h round tables at = full_kept tables (h round tables at)

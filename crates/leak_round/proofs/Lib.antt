@@ -4,7 +4,13 @@ mod Leaking
 mod Seeding
 mod Counting
 mod Keeping
+mod Sums
 mod Rounding
 mod AllRounds
 mod Numbers
 mod Built
+mod Holding
+mod Laying
+mod Committing
+mod Telling
+mod Closing

@@ -1,7 +1,7 @@
 -- The tables of a round, one by one.
-use Rattle.std.proofs.Common.{◌≡◌, ◌≢◌, ◌⊎◌, inl, inr, ℕ, ◌+◌, ◌-◌, ◌*◌, ◌<◌, Bool, true, false, Option, Some, None, option_map, unwrap_or, refl, sym, ap, subst, ◌∙◌, arith}
+use Rattle.std.proofs.Common.{◌≡◌, ◌≢◌, ◌⊎◌, inl, inr, ℕ, ◌+◌, ◌-◌, ◌*◌, ◌<◌, ◌≤◌, Bool, true, false, Option, Some, None, option_map, unwrap_or, refl, sym, ap, subst, ◌∙◌, arith}
 use Rattle.std.specs.Prelude.{IsSome, IsTrue, is_some, slice_get, option_and_then}
-use Rattle.std.proofs.lemmas.Bool.{cases_Bool}
+use Rattle.std.proofs.lemmas.Bool.{cases_Bool, cases_lt}
 use Rattle.std.specs.Ordering.{eq_by_cmp}
 use Rattle.net_names.specs.Prefixes.{PrefixValue, prefix_cmp}
 use Rattle.path_pool.specs.declared.pool.PathPool.{PathPool}
@@ -21,16 +21,40 @@ use Rattle.route_choice.specs.RoundTables.{table_at, tables_uses, uses_at, round
 use Rattle.route_choice.specs.Tables.{table_uses}
 use Rattle.leak_round.specs.Entries.{HasEntries}
 use Rattle.leak_round.specs.Growth.{KeepsPaths, GrowsBy}
-use Rattle.leak_round.specs.Tables.{AreFull, IsRound}
+use Rattle.leak_round.specs.Tables.{AreFull, AreOfSize, IsRound}
 use Rattle.leak_round.proofs.Counting.{more_entries, no_entries, none_some}
 use Rattle.leak_round.proofs.Keeping.{keeps_itself, keeps_on, grows_on, round_kept, live_kept}
 use Rattle.leak_round.proofs.Listing.{at_next}
+use Rattle.leak_round.proofs.Sums.{sum_by-zero, sum_by-change}
 
 pub same_or_not : (p q : PrefixValue) → (p ≡ q) ⊎ (p ≢ q)
 same_or_not p q = elim (cases_Bool (eq_by_cmp prefix_cmp p q)) [
   | inl e ↦ inl (eq_is prefixes_total exact_prefix p q e)
   | inr e ↦ inr (λ same. (let t = eq_same prefixes_total exact_prefix p q same in cc))
 ]
+
+-- one table more, or another one, of at most so many entries with one path
+pub sized : (plan : Plan) → ListsRising prefix_cmp (λ p. IsTrue (has_prefix plan p)) (prefixes_of plan) → (old new : RoundTables) (prefix : PrefixValue) (t : Table) (place : ℕ) → slice_get (prefixes_of plan) place ≡ Some prefix
+    → PutsTable old new prefix t → AreOfSize plan old → ((k : ℕ) → table_uses t k ≤ 150000) → AreOfSize plan new
+sized plan listed old new prefix t place at puts size small = record {
+  sums = λ k. (let sum = sum_by-change (λ p. uses_at old p k) (λ p. uses_at new p k) (prefixes_of plan) place prefix at (λ j q is ne. other q k (apart j q is ne)) in omega (arith, puts.uses k, size.sums k, this k, sum));
+  small = λ p k. elim (same_or_not p prefix) [
+    | inl e ↦ subst (λ q. uses_at new q k ≤ 150000) (sym e) (omega (arith, this k, small k))
+    | inr ne ↦ omega (arith, other p k ne, size.small p k)
+  ];
+}
+  where
+    this : (k : ℕ) → uses_at new prefix k ≡ table_uses t k
+    this k = ap (λ o. unwrap_or (option_map (λ (x : Table). table_uses x k) o) 0) puts.this
+
+    other : (p : PrefixValue) (k : ℕ) → p ≢ prefix → uses_at new p k ≡ uses_at old p k
+    other p k ne = ap (λ o. unwrap_or (option_map (λ (x : Table). table_uses x k) o) 0) (puts.others p ne)
+
+    apart : (j : ℕ) (q : PrefixValue) → slice_get (prefixes_of plan) j ≡ Some q → j ≢ place → q ≢ prefix
+    apart j q is ne = elim (cases_lt j place) [
+      | inl less ↦ apart_later prefix_cmp prefixes_total (λ p. IsTrue (has_prefix plan p)) (prefixes_of plan) listed j place q prefix less is at
+      | inr more ↦ λ e. apart_later prefix_cmp prefixes_total (λ p. IsTrue (has_prefix plan p)) (prefixes_of plan) listed place j prefix q (omega (arith, more, ne)) at is (sym e)
+    ]
 
 -- the tables of the prefixes before a place: since the round began, the pool keeps its paths and grows by so many tables
 pub record IsRoundSoFar (setting : PrefixValue → Setting) (plan : Plan) (round : ℕ) (before : PrefixValue → ℕ → Option Entry) (first pool : PathPool) (tables : RoundTables) (place : ℕ) : Type 0 where
@@ -43,6 +67,7 @@ pub record IsRoundSoFar (setting : PrefixValue → Setting) (plan : Plan) (round
   pub only : (p : PrefixValue) → IsSome (table_at tables p) → (i : ℕ) × (i < place) × (slice_get (prefixes_of plan) i ≡ Some p)
   pub put : (i : ℕ) (p : PrefixValue) → i < place → slice_get (prefixes_of plan) i ≡ Some p → IsSome (table_at tables p)
   pub cells : HasEntries (λ (x : PrefixValue × ℕ). round_routing pool tables x.0 x.1) (live_count pool - live_count first)
+  pub size : AreOfSize plan tables
 
 module _ (setting : PrefixValue → Setting) (plan : Plan) (round : ℕ) (before : PrefixValue → ℕ → Option Entry) (first : PathPool) where
   -- no table yet
@@ -57,7 +82,14 @@ module _ (setting : PrefixValue → Setting) (plan : Plan) (round : ℕ) (before
     only = λ p h. absurd (none_some (table_at tables p) (none p) h);
     put = λ i p less at. absurd (omega (arith, less));
     cells = no_entries (λ (x : PrefixValue × ℕ). round_routing first tables x.0 x.1) (live_count first - live_count first) (omega arith);
+    size = record {
+      sums = λ k. unused k ∙ sym (sum_by-zero (λ p. uses_at tables p k) (prefixes_of plan) (λ p. unused_at p k));
+      small = λ p k. omega (arith, unused_at p k);
+    };
   }
+    where
+      unused_at : (p : PrefixValue) (k : ℕ) → uses_at tables p k ≡ 0
+      unused_at p k = ap (λ o. unwrap_or (option_map (λ (x : Table). table_uses x k) o) 0) (none p)
 
   module _ (pool next : PathPool) (tables more : RoundTables) (place : ℕ) (prefix : PrefixValue) (t : Table) (so_far : IsRoundSoFar setting plan round before first pool tables place) (listed : ListsRising prefix_cmp (λ p. IsTrue (has_prefix plan p)) (prefixes_of plan)) (at : slice_get (prefixes_of plan) place ≡ Some prefix) where
     -- a prefix has no table before its turn
@@ -71,7 +103,7 @@ module _ (setting : PrefixValue → Setting) (plan : Plan) (round : ℕ) (before
             absurd (apart_later prefix_cmp prefixes_total (λ p. IsTrue (has_prefix plan p)) (prefixes_of plan) listed i place prefix prefix less is at refl)
 
     module _ (keeps : KeepsPaths pool next) (grows : GrowsBy pool next 150000) (holds : (k : ℕ) → holds_of next k ≡ holds_of pool k + table_uses t k) (live : AreEntriesLive next t)
-        (stable : IsStable (setting prefix) (seeds_of plan round prefix (before prefix)) (table_routing next t)) (cells : HasEntries (table_routing next t) (live_count next - live_count pool)) (puts : PutsTable tables more prefix t) (by_prefix : AreByPrefix tables → AreByPrefix more) where
+        (stable : IsStable (setting prefix) (seeds_of plan round prefix (before prefix)) (table_routing next t)) (cells : HasEntries (table_routing next t) (live_count next - live_count pool)) (puts : PutsTable tables more prefix t) (by_prefix : AreByPrefix tables → AreByPrefix more) (small : (k : ℕ) → table_uses t k ≤ 150000) where
       here : (p : PrefixValue) → p ≡ prefix → (a : ℕ) → round_routing next more p a ≡ table_routing next t a
       here p e a = ap (λ q. round_routing next more q a) e ∙ ap (option_and_then (λ (x : Table). table_routing next x a)) puts.this
 
@@ -119,6 +151,7 @@ module _ (setting : PrefixValue → Setting) (plan : Plan) (round : ℕ) (before
         cells = more_entries (λ (x : PrefixValue × ℕ). round_routing pool tables x.0 x.1) (λ (x : PrefixValue × ℕ). round_routing next more x.0 x.1) (table_routing next t) (λ a. (prefix, a)) (λ a b e. ap (λ (x : PrefixValue × ℕ). x.1) e)
             (λ a. ap (option_and_then (λ (y : Table). table_routing pool y a)) none_yet) (λ x h. entry_still x (same_or_not x.0 prefix) h) (λ a h. subst IsSome (sym (here prefix refl a)) h)
             (live_count pool - live_count first) (live_count next - live_count pool) so_far.cells cells (live_count next - live_count first) (omega arith);
+        size = sized plan listed tables more prefix t place at puts so_far.size small;
       }
 
   module _ (pool : PathPool) (tables : RoundTables) (end : ℕ) (so_far : IsRoundSoFar setting plan round before first pool tables end) (listed : ListsRising prefix_cmp (λ p. IsTrue (has_prefix plan p)) (prefixes_of plan)) (past : slice_get (prefixes_of plan) end ≡ None) where
@@ -127,7 +160,7 @@ module _ (setting : PrefixValue → Setting) (plan : Plan) (round : ℕ) (before
 
     -- all tables of the round are there
     pub round_full : AreFull pool plan tables
-    round_full = record { there = λ p. by p (has_prefix plan p) refl (is_some (table_at tables p)) refl; by_prefix = so_far.by_prefix; live = so_far.live }
+    round_full = record { there = λ p. by p (has_prefix plan p) refl (is_some (table_at tables p)) refl; by_prefix = so_far.by_prefix; live = so_far.live; size = so_far.size }
       where
         by : (p : PrefixValue) (b : Bool) → has_prefix plan p ≡ b → (d : Bool) → is_some (table_at tables p) ≡ d → d ≡ b
         by p true known true is = refl

@@ -5,4 +5,8 @@ pub mod Growth
 pub mod Entries
 pub mod Changes
 pub mod Tables
+pub mod Touched
+pub mod Overlays
+pub mod Edited
 pub mod Rounds
+pub mod Plans

@@ -1,5 +1,5 @@
 -- What contracts see of rounds: the plan, the pool, and what each AS holds of each prefix in each round.
-use Rattle.std.specs.Prelude.{ℕ, ◌+◌, Option, List, length}
+use Rattle.std.specs.Prelude.{ℕ, ◌+◌, Bool, Option, List, length}
 use Rattle.net_names.specs.Prefixes.{PrefixValue}
 use Rattle.path_pool.specs.declared.pool.PathPool.{PathPool}
 use Rattle.stability_laws.specs.declared.entry.Entry.{Entry}
@@ -12,6 +12,10 @@ use Rattle.leak_round.specs.Tables.{kept_in, entry_uses}
 -- who announces what, and who leaks in which round (own rule)
 abbrev pub plan_of : Rounds → Plan
 plan_of r = r.plan
+
+-- a plan of changes is open (own rule)
+abbrev pub is_open : Rounds → Bool
+is_open r = r.planned
 
 -- the pool in which the paths stand (own rule)
 abbrev pub pool_of : Rounds → PathPool

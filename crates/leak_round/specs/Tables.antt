@@ -1,15 +1,15 @@
 -- What the tables of rounds stand for.
-use Rattle.std.specs.Prelude.{◌≡◌, ℕ, zero, suc, IsTrue, Option, None, Some, is_some, option_and_then, List, slice_get}
+use Rattle.std.specs.Prelude.{◌≡◌, ℕ, ◌≤◌, zero, suc, IsTrue, Option, None, Some, is_some, option_and_then, List, slice_get}
 use Rattle.std.specs.List.{sum_by}
 use Rattle.net_names.specs.Prefixes.{PrefixValue}
 use Rattle.path_pool.specs.declared.pool.PathPool.{PathPool}
 use Rattle.stability_laws.specs.declared.entry.Entry.{Entry}
 use Rattle.stability_laws.specs.Offers.{Setting}
 use Rattle.stability_laws.specs.Stable.{IsStable}
-use Rattle.stability_laws.specs.Plans.{Plan, has_prefix}
+use Rattle.stability_laws.specs.Plans.{Plan, has_prefix, prefixes_of}
 use Rattle.stability_laws.specs.Rounds.{seeds_of}
 use Rattle.route_choice.specs.declared.round_tables.RoundTables.{RoundTables}
-use Rattle.route_choice.specs.RoundTables.{table_at, tables_uses, round_routing, AreAllLive, AreByPrefix}
+use Rattle.route_choice.specs.RoundTables.{table_at, tables_uses, uses_at, round_routing, AreAllLive, AreByPrefix}
 
 -- the tables of a round, where round 1 is the first of the list (own rule)
 abbrev pub tables_in : List RoundTables → ℕ → Option RoundTables
@@ -24,11 +24,17 @@ kept_in pool rounds round prefix a = option_and_then (λ tables. round_routing p
 abbrev pub entry_uses : List RoundTables → ℕ → ℕ
 entry_uses rounds k = sum_by (λ tables. tables_uses tables k) rounds
 
+-- the uses of the tables of all prefixes of the plan are all uses, and no table has more than 150,000 entries with one path (own rule)
+pub record AreOfSize (plan : Plan) (tables : RoundTables) : Type 0 where
+  pub sums : (k : ℕ) → tables_uses tables k ≡ sum_by (λ prefix. uses_at tables prefix k) (prefixes_of plan)
+  pub small : (prefix : PrefixValue) (k : ℕ) → uses_at tables prefix k ≤ 150000
+
 -- there is a table for just the prefixes of the plan, each at its own, and the paths of all entries are live (own rule)
 pub record AreFull (pool : PathPool) (plan : Plan) (tables : RoundTables) : Type 0 where
   pub there : (prefix : PrefixValue) → is_some (table_at tables prefix) ≡ has_prefix plan prefix
   pub by_prefix : AreByPrefix tables
   pub live : AreAllLive pool tables
+  pub size : AreOfSize plan tables
 
 -- so are the tables of each round (own rule)
 abbrev pub AreRoundsFull : PathPool → Plan → List RoundTables → Type 0

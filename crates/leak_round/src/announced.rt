@@ -1,13 +1,16 @@
 //! The announced paths, as paths of a pool.
 
-ghost use Rattle.std.specs.Prelude.{◌≡◌, ℕ, ◌+◌, ◌≤◌, None, [], length, option_map, IsTrue, IfOk, OnOk};
+ghost use Rattle.std.specs.Prelude.{◌≡◌, ℕ, ◌+◌, ◌<◌, ◌≤◌, None, Some, [], length, slice_get, option_map, IsTrue, IfOk, OnOk};
 ghost use Rattle.std.specs.List.{sum_by};
 ghost use Rattle.net_names.specs.Prefixes.{PrefixValue};
-ghost use Rattle.path_pool.specs.Pool.{live_count, limit_of};
+ghost use Rattle.path_pool.specs.Pool.{IsLive, holds_of, count_of, live_count, limit_of};
 ghost use Rattle.stability_laws.specs.Plans.{has_prefix, prefixes_of, announcers_of};
 ghost use Rattle.route_choice.specs.Tables.{seed_at};
 ghost use Rattle.leak_round.specs.Limits.{announced_length};
-ghost use Rattle.leak_round.specs.Announced.{own_path, own_seed, IsAnnouncing, KeepsAnnounced, HasAnnounced};
+ghost use Rattle.route_choice.specs.Holds.{GivesBack};
+ghost use Rattle.leak_round.specs.declared.announced.Announced.{Announced as AnAnnouncement};
+ghost use Rattle.leak_round.specs.Growth.{KeepsPaths};
+ghost use Rattle.leak_round.specs.Announced.{own_path, own_seed, announced_uses, IsAnnouncing, KeepsAnnounced, HasAnnounced};
 
 use net_names::{Asn, NoMemory, Prefix};
 use path_pool::{PathId, PathPool};
@@ -118,4 +121,30 @@ pub fn announced_seeds(
         }
     }
     Ok(seeds)
+}
+
+// Takes one hold more of each announced path.
+pub fn hold_all(announced: &[Announced], pool: &mut PathPool)
+    requires live { (place : ℕ) (x : AnAnnouncement) → slice_get announced.now place ≡ Some x → IsLive pool.old x.path.0 }
+    requires counts { (k : ℕ) → count_of pool.old k + length announced.now < 4294967295 }
+    ensures holds { (k : ℕ) → holds_of pool.new k ≡ holds_of pool.old k + announced_uses announced.now k }
+    ensures keeps { KeepsPaths pool.old pool.new }
+    ensures counts { (k : ℕ) → count_of pool.new k ≤ count_of pool.old k + length announced.now }
+    ensures cells { live_count pool.new ≡ live_count pool.old }
+    ensures limit { limit_of pool.new ≡ limit_of pool.old }
+{
+    for one in announced {
+        pool.hold(one.path);
+    }
+}
+
+// Gives back one hold of each announced path.
+pub fn release_all(announced: &[Announced], pool: &mut PathPool)
+    requires { (k : ℕ) → announced_uses announced.now k ≤ holds_of pool.old k }
+    ensures holds { (k : ℕ) → holds_of pool.new k + announced_uses announced.now k ≡ holds_of pool.old k }
+    ensures back { GivesBack pool.old pool.new }
+{
+    for one in announced {
+        let _freed = pool.release(one.path);
+    }
 }

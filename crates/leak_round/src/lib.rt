@@ -6,8 +6,14 @@
 #![tactic(auto)]
 
 mod announced;
+mod changes;
+mod edited;
 mod leaked;
+mod plans;
 mod round;
 mod rounds;
+mod touched;
 
+pub use plans::{RoundsDone, RoundsPlan};
 pub use rounds::Rounds;
+pub use touched::Touched;

@@ -25,7 +25,7 @@ use net_names::{NoMemory, Prefix};
 use path_pool::PathPool;
 use policy_laws::{OriginStates, RoutePolicy};
 use rank_order::Ranks;
-use route_choice::{RoundTables, Steps, Table};
+use route_choice::{RoundTables, Steps, Table, uses_are_counted};
 use stability_laws::{Book, SeedPlan};
 use std::alloc::Global;
 use std::sync::ledger::Ledger;
@@ -61,6 +61,7 @@ fn make_table<P: RoutePolicy, V: OriginStates, L: Ledger>(
     ensures cells { IfOk result (λ t. HasEntries (table_routing pool.new t) (live_count pool.new - live_count pool.old)) }
     ensures keeps { OnOk result (KeepsPaths pool.old pool.new) }
     ensures grows { OnOk result (GrowsBy pool.old pool.new 150000) }
+    ensures small { IfOk result (λ t. (k : ℕ) → table_uses t k ≤ 150000) }
 {
     let _count = graph.as_count();
     let mut seeds = announced_seeds(alloc, announced, prefix)?;
@@ -68,7 +69,10 @@ fn make_table<P: RoutePolicy, V: OriginStates, L: Ledger>(
     match propagate(
         alloc, graph, ranks, book, states, prefix, &seeds, pool, steps,
     ) {
-        Ok(table) => Ok(table),
+        Ok(table) => {
+            uses_are_counted(&table);
+            Ok(table)
+        }
         Err(_) => Err(NoMemory),
     }
 }

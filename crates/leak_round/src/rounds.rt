@@ -1,11 +1,11 @@
 //! The tables of all rounds.
 
-ghost use Rattle.std.specs.Prelude.{◌≡◌, ◌↔◌, ℕ, suc, ◌+◌, ◌-◌, ◌*◌, ◌<◌, ◌≤◌, IsTrue, IsSome, IfSome, IfOk, OnOk, Option, length, is_some};
+ghost use Rattle.std.specs.Prelude.{◌≡◌, ◌↔◌, ℕ, suc, ◌+◌, ◌-◌, ◌*◌, ◌<◌, ◌≤◌, false, IsTrue, IsSome, IfSome, IfOk, OnOk, Option, length, is_some};
 ghost use Rattle.net_names.specs.Prefixes.{PrefixValue};
 ghost use Rattle.as_graph.specs.Topology.{what, as_count};
 ghost use Rattle.as_graph.specs.Hierarchy.{HasNoProviderCycle, IsRank};
 ghost use Rattle.rank_order.specs.Ranks.{rank_at};
-ghost use Rattle.path_pool.specs.Pool.{holds_of, live_count};
+ghost use Rattle.path_pool.specs.Pool.{holds_of, live_count, limit_of};
 ghost use Rattle.stability_laws.specs.declared.entry.Entry.{Entry as AnEntry};
 ghost use Rattle.stability_laws.specs.World.{setting};
 ghost use Rattle.stability_laws.specs.Plans.{has_prefix, prefixes_of};
@@ -16,6 +16,8 @@ ghost use Rattle.leak_round.specs.Announced.{AreAnnounced, announced_uses};
 ghost use Rattle.leak_round.specs.Entries.{HasEntries, of_rounds};
 ghost use Rattle.leak_round.specs.Growth.{KeepsPaths, HasRoomFor};
 ghost use Rattle.leak_round.specs.Tables.{kept_in, entry_uses, AreRoundsFull};
+
+mod commits;
 
 use crate::announced::{Announced, announce_all};
 use crate::round::make_round;
@@ -40,9 +42,15 @@ pub struct Rounds {
     plan: SeedPlan,
     announced: Vec<Announced>,
     tables: Vec<RoundTables>,
+    // A plan is open.
+    planned: bool,
     ghost announcements: { AreAnnounced pool plan announced.items },
     ghost full: { AreRoundsFull pool plan tables.items },
-    ghost held: { (k : ℕ) → holds_of pool k ≡ entry_uses tables.items k + announced_uses announced.items k },
+    ghost held: { (k : ℕ) → entry_uses tables.items k + announced_uses announced.items k ≤ holds_of pool k },
+    ghost closed: { planned ≡ false → (k : ℕ) → holds_of pool k ≡ entry_uses tables.items k + announced_uses announced.items k },
+    ghost limits: { IsWithinLimits plan },
+    ghost few: { length tables.items ≤ 4 },
+    ghost cells: { limit_of pool ≡ 40000000 },
 }
 
 // The tables of the rounds, one after the other.
@@ -70,6 +78,7 @@ fn make_rounds<P: RoutePolicy, V: OriginStates, L: Ledger>(
     ensures holds { IfOk result (λ v. (k : ℕ) → holds_of pool.new k ≡ holds_of pool.old k + entry_uses v.items k) }
     ensures cells { IfOk result (λ v. HasEntries (of_rounds (kept_in pool.new v.items)) (live_count pool.new - live_count pool.old)) }
     ensures keeps { OnOk result (KeepsPaths pool.old pool.new) }
+    ensures limit { OnOk result (limit_of pool.new ≡ limit_of pool.old) }
 {
     let mut tables = Vec::new(alloc);
     for past in 0..rounds {
@@ -95,7 +104,7 @@ fn make_rounds<P: RoutePolicy, V: OriginStates, L: Ledger>(
 }
 
 impl Rounds {
-    ghost use Rattle.leak_round.specs.Rounds.{plan_of, pool_of, round_count, kept, announced_of, uses_of};
+    ghost use Rattle.leak_round.specs.Rounds.{is_open, plan_of, pool_of, round_count, kept, announced_of, uses_of};
 
     /// The tables of the rounds from 1 to `rounds`, at most 4. For each round and prefix of the plan it
     /// is the one stable routing of that round's seeds: the announced paths and, from round 2 on, what
@@ -120,6 +129,7 @@ impl Rounds {
         requires limits { IsWithinLimits plan }
         requires rounds { rounds ≤ 4 }
         ensures cost { steps.new ≤ steps.old + 2 * as_count graph.now * length (prefixes_of plan) * rounds }
+        ensures closed { IfOk result (λ r. is_open r ≡ false) }
         ensures plan { IfOk result (λ r. plan_of r ≡ plan) }
         ensures count { IfOk result (λ r. round_count r ≡ rounds) }
         ensures stable { IfOk result (λ r. AreRounds (λ p. setting P.meaning graph.now book.now (V.state_of states.now p)) plan rounds (kept r)) }
@@ -137,6 +147,7 @@ impl Rounds {
             plan,
             announced,
             tables,
+            planned: false,
         })
     }
 
@@ -155,11 +166,11 @@ impl Rounds {
         self.tables.get(round as usize - 1)
     }
 
-    /// The pool in which the paths of all tables stand. Each of its outside holds is that of an entry or
-    /// of an announced path.
+    /// The pool in which the paths of all tables stand. While no plan is open each of its outside holds
+    /// is that of an entry or of an announced path.
     pub fn pool(&self) -> &PathPool
         ensures value { result.now ≡ pool_of self.now }
-        ensures held { (k : ℕ) → holds_of result.now k ≡ uses_of self.now k }
+        ensures held { is_open self.now ≡ false → (k : ℕ) → holds_of result.now k ≡ uses_of self.now k }
         ensures announced { AreAnnounced result.now (plan_of self.now) (announced_of self.now) }
     {
         &self.pool

@@ -4,3 +4,4 @@ pub mod ConsLemmas
 pub mod ReleaseLemmas
 pub mod GrowLemmas
 pub mod Needed
+pub mod Counts

@@ -6,3 +6,4 @@ pub mod Unread
 pub mod Room
 pub mod RoundLemmas
 pub mod RowLemmas
+pub mod Counted

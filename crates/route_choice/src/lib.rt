@@ -31,5 +31,5 @@ pub use seeds::SeedIds;
 pub use settling::{settle, settle_near};
 pub use stepping::visit;
 pub use steps::Steps;
-pub use table::Table;
+pub use table::{Table, uses_are_counted};
 pub use views::view_but_for_loops;

@@ -2,6 +2,10 @@
 
 ghost use Rattle.std.specs.Prelude.{◌≡◌, ℕ, ◌+◌, ◌≤◌, length, None, IsOk, OnOk, unwrap_or};
 
+mod counted;
+
+pub use counted::uses_are_counted;
+
 use crate::slots::{Slots, replace_all};
 use crate::{Held, Overlay};
 use net_names::{Asn, NoMemory, Prefix};

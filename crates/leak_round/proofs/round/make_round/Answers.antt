@@ -12,7 +12,7 @@ use Rattle.route_choice.specs.Routings.{table_routing}
 use Rattle.leak_round.specs.Tables.{kept_in}
 use Rattle.leak_round.proofs.Listing.{cost_more}
 use Rattle.leak_round.proofs.Keeping.{announced_kept, rounds_full_kept, all_kept, room_left}
-use Rattle.leak_round.proofs.Rounding.{none_yet, round_more, round_full, round_stable}
+use Rattle.leak_round.proofs.Rounding.{round_start, none_yet, round_more, round_full, round_stable}
 use Rattle.leak_round.proofs.round.make_round.Goals as goal
 
 pub make_table-requires-clause-announced : goal.make_table-requires-clause-announced
@@ -61,7 +61,7 @@ prefixes-preserved g c =
     record {
       so_far = round_more at plan c.args.round (kept_in first earlier (length earlier)) first c.prefixes.pool c.make_table.new.pool c.prefixes.tables c.push.new.self c.prefixes.place p c.in_ok-table.table c.prefixes.invariant.so_far c.in-Some.ensures.listed (sym c.in-Some.ensures.value)
           table.keeps table.grows table.holds table.live (subst F (λ i a. same a i) table.stable) table.cells
-          (subst (λ q. PutsTable c.prefixes.tables c.push.new.self q c.in_ok-table.table) table.prefix c.in_ok-push.ensures.ok) c.in_ok-push.ensures.by_prefix;
+          (subst (λ q. PutsTable c.prefixes.tables c.push.new.self q c.in_ok-table.table) table.prefix c.in_ok-push.ensures.ok) c.in_ok-push.ensures.by_prefix table.small;
       within = omega (arith, within);
       cost = cost_more c.args.steps.now c.prefixes.steps c.make_table.new.steps (2 * as_count c.args.graph.now) c.prefixes.place (c.prefixes.place + 1) c.prefixes.invariant.cost c.make_table.ensures.cost (omega arith);
     }
@@ -90,3 +90,12 @@ returns-clause-grows g c =
     let h = c.prefixes.invariant.so_far.grows in
     let few = c.prefixes.invariant.within in
     record { cells = omega (arith, h.cells, few); counts = λ k. omega (arith, h.counts k, few); limit = h.limit }
+
+pub prefixes-init : goal.prefixes-init
+prefixes-init g c =
+    let at = λ (p : PrefixValue). setting g.P.RoutePolicy.meaning c.args.graph.now c.args.book.now (g.V.OriginStates.state_of c.args.states.now p) in
+    record {
+      so_far = round_start at c.args.plan.now c.args.round (kept_in c.args.pool.now c.args.earlier.now (length c.args.earlier.now)) c.args.pool.now c.new-tables.result c.new-tables.ensures.none c.new-tables.ensures.uses;
+      within = omega arith;
+      cost = omega arith;
+    }

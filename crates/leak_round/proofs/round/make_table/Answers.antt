@@ -1,11 +1,19 @@
-use Rattle.std.proofs.Common.{ℕ, ◌≤◌, Option, length, subst, arith}
+use Rattle.std.proofs.Common.{ℕ, ◌≤◌, Option, None, Some, option_map, length, refl, subst, arith}
+use Rattle.std.specs.Prelude.{IsSome}
 use Rattle.stability_laws.specs.declared.entry.Seed.{Seed}
 use Rattle.stability_laws.specs.Stable.{IsStable}
 use Rattle.stability_laws.specs.World.{setting}
-use Rattle.route_choice.specs.Routings.{table_routing}
+use Rattle.route_choice.specs.declared.held.Held.{Held}
+use Rattle.route_choice.specs.Routings.{entry_of, table_routing}
+use Rattle.route_choice.specs.Tables.{held_at}
+use Rattle.path_pool.specs.declared.pool.PathPool.{PathPool}
 use Rattle.leak_round.proofs.Seeding.{seeds_are, seeds_live}
 use Rattle.leak_round.proofs.Counting.{table_entries, few_entries}
 use Rattle.leak_round.proofs.round.make_table.Goals as goal
+
+routed : (pool : PathPool) (o : Option Held) → IsSome o → IsSome (option_map (entry_of pool) o)
+routed pool None h = h
+routed pool (Some x) h = refl
 
 pub propagate-requires-clause-seeds : goal.propagate-requires-clause-seeds
 propagate-requires-clause-seeds g c =
@@ -41,3 +49,10 @@ returns-in-Ok-clause-keeps g c = record { live = c.in-Ok.ensures.kept.live; list
 
 pub returns-in-Ok-clause-holds : goal.returns-in-Ok-clause-holds
 returns-in-Ok-clause-holds g c = c.in-Ok.ensures.holds
+
+pub returns-in-Ok-clause-small : goal.returns-in-Ok-clause-small
+returns-in-Ok-clause-small g c = λ k.
+    let u = c.uses_are_counted.ensures k in
+    let f = table_routing c.propagate.new.pool c.in-Ok.table in
+    let n = few_entries c.args.graph.now f u.ases u.distinct (λ a o. routed c.propagate.new.pool (held_at c.in-Ok.table a) (u.entries a o)) c.in-Ok.ensures.stable.only_ases in
+    omega (arith, n, u.enough, c.as_count-count.ensures.value, c.as_count-count.ensures.few)

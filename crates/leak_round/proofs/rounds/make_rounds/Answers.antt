@@ -7,7 +7,7 @@ use Rattle.stability_laws.specs.World.{setting}
 use Rattle.stability_laws.specs.Plans.{prefixes_of}
 use Rattle.route_choice.specs.declared.round_tables.RoundTables.{RoundTables}
 use Rattle.route_choice.specs.RoundTables.{round_routing}
-use Rattle.leak_round.specs.Tables.{kept_in, IsRound}
+use Rattle.leak_round.specs.Tables.{kept_in, IsRound, AreRoundsFull}
 use Rattle.leak_round.proofs.Listing.{cost_more}
 use Rattle.leak_round.proofs.Keeping.{announced_kept, room_left, grows_on}
 use Rattle.leak_round.proofs.AllRounds.{AreRoundsSoFar, rounds_more}
@@ -65,3 +65,9 @@ returns-clause-cells g c = c.loop-past.invariant.so_far.cells
 
 pub returns-clause-keeps : goal.returns-clause-keeps
 returns-clause-keeps g c = c.loop-past.invariant.so_far.keeps
+
+pub make_round-requires-clause-earlier : goal.make_round-requires-clause-earlier
+make_round-requires-clause-earlier g c = subst (AreRoundsFull c.loop-past.pool c.args.plan.now) (sym c.as_slice.ensures.value) c.loop-past.invariant.so_far.full
+
+pub returns-clause-limit : goal.returns-clause-limit
+returns-clause-limit g c = c.loop-past.invariant.grows.limit

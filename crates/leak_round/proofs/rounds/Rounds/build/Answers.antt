@@ -44,4 +44,8 @@ invariant_of-result g c =
       announcements = announced_kept pool c.make_rounds.new.pool c.in_ok-tables.ensures.keeps plan xs (all_announced pool plan xs c.in_ok-announced.ensures.so_far c.in_ok-announced.ensures.whole);
       full = c.in_ok-tables.ensures.full;
       held = λ k. omega (arith, c.in_ok-tables.ensures.holds k, c.in_ok-announced.ensures.so_far.holds k);
+      closed = λ shut k. omega (arith, c.in_ok-tables.ensures.holds k, c.in_ok-announced.ensures.so_far.holds k);
+      limits = c.requires.limits;
+      few = omega (arith, c.in_ok-tables.ensures.count, c.requires.rounds);
+      cells = c.in_ok-tables.ensures.limit ∙ c.announce_all.ensures.limit ∙ c.new-pool.ensures.limit;
     }

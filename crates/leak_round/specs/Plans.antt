@@ -1,0 +1,67 @@
+-- What contracts see of a plan for rounds, and when it is the open one.
+use Rattle.std.specs.Prelude.{◌≡◌, ◌≢◌, ◌⊎◌, ℕ, suc, zero, ◌+◌, ◌≤◌, Bool, true, IsTrue, Option, None, Some, is_some, option_map, unwrap_or, List, []}
+use Rattle.std.specs.List.{slice_get}
+use Rattle.std.specs.Option.{option_map_or}
+use Rattle.std.specs.Ordering.{nat_cmp}
+use Rattle.std.specs.FinMap as fin
+use Rattle.net_names.specs.declared.numbers.Asn.{Asn}
+use Rattle.net_names.specs.Prefixes.{PrefixValue}
+use Rattle.path_pool.specs.declared.pool.PathPool.{PathPool}
+use Rattle.path_pool.specs.Pool.{holds_of, live_count}
+use Rattle.stability_laws.specs.declared.entry.Entry.{Entry}
+use Rattle.stability_laws.specs.Plans.{Plan, ListsRising}
+use Rattle.leak_round.specs.declared.plans.RoundsPlan.{RoundsPlan}
+use Rattle.leak_round.specs.declared.plans.RoundsDone.{RoundsDone}
+use Rattle.leak_round.specs.declared.rounds.Rounds.{Rounds}
+use Rattle.leak_round.specs.Edited.{edited_uses, AreEdited}
+use Rattle.leak_round.specs.Overlays.{change_in, laid_in, changes_uses, changes_count, AreChangesOf, AreFew}
+use Rattle.leak_round.specs.Rounds.{is_open, plan_of, pool_of, round_count, kept, announced_of, uses_of}
+
+-- what the plan has at the AS for the prefix in the round is a change (own rule)
+abbrev pub is_changed : RoundsPlan → ℕ → PrefixValue → ℕ → Bool
+is_changed p round prefix a = is_some (change_in p.changes.items round prefix a)
+
+-- what an AS holds of a prefix in a round with the plan's changes in place (own rule)
+abbrev pub kept_with : Rounds → RoundsPlan → ℕ → PrefixValue → ℕ → Option Entry
+kept_with r p round prefix a = laid_in r.pool r.tables.items p.changes.items round prefix a
+
+-- who announces what, and who leaks in which round, after the plan (own rule)
+abbrev pub plan_after : Rounds → RoundsPlan → Plan
+plan_after r p = option_map_or (λ e. e.plan) p.edited r.plan
+
+-- the AS whose announcement the plan edits, if it edits one (own rule)
+abbrev pub asn_edited : RoundsPlan → Option ℕ
+asn_edited p = option_map (λ e. e.asn) p.edited
+
+-- how many numbers the newly announced path has (own rule)
+abbrev pub numbers_added : RoundsPlan → ℕ
+numbers_added p = option_map_or (λ e. e.numbers) p.edited 0
+
+-- how many cells were live before the plan (own rule)
+abbrev pub cells_before : RoundsPlan → ℕ
+cells_before p = p.before
+
+-- how many entries changed, as it is told (own rule)
+abbrev pub count_told : RoundsDone → ℕ
+count_told d = d.count
+
+-- the ASes with a changed entry of a round, as they are told; none of a round that is not there (own rule)
+abbrev pub ases_told : RoundsDone → ℕ → List ℕ
+ases_told d zero = []
+ases_told d (suc before) = option_map_or (λ v. v.items) (slice_get d.changed.items before) []
+
+-- the AS has a changed entry of the round, or its announcement is edited (own rule)
+abbrev pub IsTold : RoundsPlan → ℕ → ℕ → Type 0
+IsTold p round a = ((prefix : PrefixValue) × IsTrue (is_changed p round prefix a)) ⊎ (asn_edited p ≡ Some a)
+
+-- the plan is the open one of the rounds: the pool has just the holds of both, each change has its table and differs from what is kept, and what is told of the changes is so (own rule)
+pub record IsOpenPlan (r : Rounds) (p : RoundsPlan) : Type 0 where
+  pub planned : is_open r ≡ true
+  pub holds : (k : ℕ) → holds_of (pool_of r) k ≡ uses_of r k + (changes_uses p.changes.items k + edited_uses p.edited k)
+  pub changes : AreChangesOf r.tables.items p.changes.items
+  pub differs : (round : ℕ) (prefix : PrefixValue) (a : ℕ) → IsTrue (is_changed p round prefix a) → kept_with r p round prefix a ≢ kept r round prefix a
+  pub few : (round : ℕ) (prefix : PrefixValue) → AreFew (kept_with r p round prefix)
+  pub edited : AreEdited (pool_of r) (plan_of r) p.edited
+  pub count : count_told p.done ≡ changes_count p.changes.items
+  pub told : (round : ℕ) → 1 ≤ round → round ≤ round_count r → ListsRising nat_cmp (IsTold p round) (ases_told p.done round)
+  pub cells : live_count (pool_of r) ≤ cells_before p + count_told p.done + numbers_added p
