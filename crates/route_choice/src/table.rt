@@ -4,10 +4,9 @@ ghost use Rattle.std.specs.Prelude.{◌≡◌, ℕ, ◌+◌, ◌≤◌, length, 
 
 mod counted;
 
-pub use counted::uses_are_counted;
-
 use crate::slots::{Slots, replace_all};
 use crate::{Held, Overlay};
+pub use counted::uses_are_counted;
 use net_names::{Asn, NoMemory, Prefix};
 use path_pool::PathPool;
 use std::alloc::Global;
