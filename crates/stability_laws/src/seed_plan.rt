@@ -16,6 +16,8 @@ use net_names::{Asn, NoMemory, Path, Prefix};
 use std::alloc::Global;
 use std::marker::Model;
 
+mod copied;
+
 // A path, with the prefix and the AS that announce it.
 #[derive(Drop)]
 struct Announcement {
