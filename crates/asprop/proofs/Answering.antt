@@ -9,16 +9,18 @@ use Rattle.io_edge.proofs.Appending.{Appends-nil, Appends-trans}
 use Rattle.scenario_text.specs.LineValues.{LineValue}
 use Rattle.scenario_text.specs.declared.acts.Act.{Act}
 use Rattle.scenario_text.specs.declared.acts.Act.TheVariants as act
+use Rattle.scenario_text.specs.declared.acts.Edit.{Edit}
 use Rattle.scenario_text.specs.declared.acts.Query.{Query}
 use Rattle.sim_core.specs.World.{World}
 use Rattle.sim_core.specs.Kept.{Kept, IsKept}
 use Rattle.net_names.specs.declared.numbers.NoMemory.{NoMemory}
-use Rattle.std.specs.List.{All}
-use Rattle.std.proofs.lemmas.List.Elements.{All-nil, All-cons, All-get_or}
-use Rattle.asprop.specs.Task.{AreQueries, without_edits, first_edit, is_query, unless_edit, ◌>>=◌}
-use Rattle.asprop.specs.declared.types.Fault.{Fault}
-use Rattle.asprop.specs.Told.{Answered, AppendsReply, Tells, Told, head}
-use Rattle.asprop.specs.Written.{WroteAll, WroteWhole, WroteFront}
+use Rattle.sim_core.specs.Edits.{IsEditRefusal, IsReason}
+use Rattle.sim_core.specs.declared.errors.EditError.{EditError}
+use Rattle.sim_core.specs.declared.errors.EditError.TheVariants as refused
+use Rattle.asprop.specs.Told.{Answered, AppendsEditReply, AppendsReply, Tells, Told, head}
+use Rattle.asprop.specs.Written.{Answering, WroteAll, WroteWhole, WroteFront}
+use Rattle.asprop.specs.declared.types.Stop.{Stop}
+use Rattle.asprop.specs.declared.types.Stop.TheVariants as stop
 
 -- What follows is told of the lines that follow, and so of all.
 pub record SoFar (heads : Bool) (start now : World) (lines : List LineValue) (refused : Bool) (old new : Option (List ℕ)) : Type 0 where
@@ -57,7 +59,7 @@ or_false true = refl
 or_false false = refl
 
 -- nothing follows
-pub ended : (heads : Bool) (start now : World) (lines : List LineValue) (refused : Bool) (old new : Option (List ℕ)) → SoFar heads start now lines refused old new → WroteAll heads start lines refused old new
+pub ended : (heads : Bool) (start now : World) (lines : List LineValue) (refused : Bool) (old new : Option (List ℕ)) → SoFar heads start now lines refused old new → WroteAll [] heads start lines refused old new
 ended heads start now lines refused old new so = record {
   text = so.text;
   told = rw (append-nil lines, append-nil so.text, or_false refused) at (so.told [] [] false (refl, refl));
@@ -81,10 +83,10 @@ pub either : (refused first after : Bool) → ((first ≡ true) × (after ≡ tr
 either refused first after (inl h) = or_first refused first after h.0 h.1
 either refused first after (inr h) = or_other refused first after h.0 h.1
 
-pub whole : (heads : Bool) (start now : World) (lines : List LineValue) (i : ℕ) (refused : Bool) (old new : Option (List ℕ)) → SoFar heads start now (take i lines) refused old new → WroteWhole heads start lines old new
-whole heads start now lines i refused old new so = record { count = i; refused = refused; wrote = ended heads start now (take i lines) refused old new so }
+pub whole : (heads : Bool) (start now : World) (lines : List LineValue) (i : ℕ) (refused : Bool) (old new : Option (List ℕ)) → SoFar heads start now (take i lines) refused old new → WroteWhole [] heads start lines old new
+whole heads start now lines i refused old new so = inr (record { count = i; refused = refused; wrote = ended heads start now (take i lines) refused old new so })
 
-pub all : (heads : Bool) (start now : World) (lines : List LineValue) (i : ℕ) (refused : Bool) (old new : Option (List ℕ)) → SoFar heads start now (take i lines) refused old new → length lines ≤ i → WroteAll heads start lines refused old new
+pub all : (heads : Bool) (start now : World) (lines : List LineValue) (i : ℕ) (refused : Bool) (old new : Option (List ℕ)) → SoFar heads start now (take i lines) refused old new → length lines ≤ i → WroteAll [] heads start lines refused old new
 all heads start now lines i refused old new so h = rw (take_all i lines h) at (ended heads start now (take i lines) refused old new so)
 
 pub next : (heads : Bool) (start now after : World) (lines : List LineValue) (i : ℕ) (d : LineValue) (refused first : Bool) (old mid new : Option (List ℕ)) (front : List ℕ) → i < length lines
@@ -96,7 +98,7 @@ next heads start now after lines i d refused first old mid new front l so answer
 -- the answer to one more line was written in part
 pub part : (heads : Bool) (start now after : World) (lines : List LineValue) (i : ℕ) (d : LineValue) (refused first : Bool) (old mid new : Option (List ℕ)) (front : List ℕ) → i < length lines
     → SoFar heads start now (take i lines) refused old mid → Answered heads now (get_or lines i d) front first after → AppendsFront mid new front
-    → WroteFront heads start lines old new
+    → WroteFront [] heads start lines old new
 part heads start now after lines i d refused first old mid new front l so answered appends =
     let told : Told heads start (take (i + 1) lines) (so.text ++ front) (refused || first) =
     rw (take_more lines i d l)
@@ -119,30 +121,43 @@ pub answered : (r : Result Bool NoMemory) (heads : Bool) (w : World) (k : Kept) 
     → IfOk r (λ refused. AppendsReply w k q refused begun now) → IfOk r (λ refused. Answered heads w line now refused w)
 answered (Ok refused) heads w k line q begun now first asks is h = record {
   answer = h.text;
-  answers = record { kept = k; is_kept = is; told = subst (λ (a : Act). Tells w k a h.text refused) (sym asks) h.reply; stays = refl };
+  answers = record { kept = k; is_kept = is; told = subst (λ (a : Act). Tells w k a h.text refused w) (sym asks) (h.reply, refl) };
   text_is = h.appended ∙ ap (λ l. l ++ h.text) first;
 }
 answered (Err e) heads w k line q begun now first asks is h = h
 
--- each line asks a question where none asks for an edit
-none_edit : (t : Bool) (line : LineValue) (rest : Option ℕ) → is_query line.act ≡ t → cond t rest (Some line.number) ≡ None → (is_query line.act ≡ true) × (rest ≡ None)
-none_edit true line rest is h = (is, h)
-none_edit false line rest is h = cc
+-- so is a reply to an edit
+pub answered_edit : (r : Result Bool NoMemory) (heads : Bool) (w after : World) (k : Kept) (line : LineValue) (e : Edit) (begun now : List ℕ) → begun ≡ head heads line → line.act ≡ act.Edit e → IsKept w k
+    → IfOk r (λ refused. AppendsEditReply w k e refused begun now after) → IfOk r (λ refused. Answered heads w line now refused after)
+answered_edit (Ok refused) heads w after k line e begun now first asks is h = record {
+  answer = h.text;
+  answers = record { kept = k; is_kept = is; told = subst (λ (a : Act). Tells w k a h.text refused after) (sym asks) h.reply };
+  text_is = h.appended ∙ ap (λ l. l ++ h.text) first;
+}
+answered_edit (Err e) heads w after k line edit begun now first asks is h = h
 
-all_queries : (lines : List LineValue) → AreQueries lines → All (λ l. is_query l.act ≡ true) lines
-all_queries [] h = All-nil (λ l. is_query l.act ≡ true)
-all_queries (line ∷ lines) h =
-    let both = none_edit (is_query line.act) line (first_edit lines) refl h in
-    All-cons (λ l. is_query l.act ≡ true) line lines both.0 (all_queries lines both.1)
+-- a refusal that is none for want of memory has a reason
+pub reason_of : (w : World) (e : Edit) (error : EditError) → (error ≡ refused.Memory → ⊥) → IsEditRefusal w e error → IsReason w e error
+reason_of w e refused.Memory other h = absurd (other refl)
+reason_of w e (refused.AbsentLink lo hi) other h = h
+reason_of w e (refused.AbsentVrp vrp) other h = h
+reason_of w e (refused.Limit which) other h = h
+reason_of w e (refused.ProviderCycle cycle) other h = h
 
-pub one_query : (lines : List LineValue) (i : ℕ) (line : LineValue) → AreQueries lines → i < length lines → line ≡ get_or lines i line → is_query line.act ≡ true
-one_query lines i line h inside here = subst (λ (l : LineValue). is_query l.act ≡ true) (sym here) (All-get_or (λ l. is_query l.act ≡ true) lines i line inside (all_queries lines h))
+-- answers that follow what comes first
+pub after_first : (first : List ℕ) (heads : Bool) (w : World) (lines : List LineValue) (result : Result Bool Stop) (old mid new : Option (List ℕ)) (later rose : Type 0) → (later → rose)
+    → Appends old mid first → Answering [] heads w lines result mid new later → Answering first heads w lines result old new rose
+after_first first heads w lines (Ok refused) old mid new later rose r a h = record { text = h.text; told = h.told; appends = Appends-trans old mid new first h.text a h.appends }
+after_first first heads w lines (Err stop.Memory) old mid new later rose r a (inl h) =
+    inr (record { count = 0; refused = false; wrote = record { text = []; told = (refl, refl); appends = Appends-trans old mid new first [] a h } })
+after_first first heads w lines (Err stop.Memory) old mid new later rose r a (inr h) =
+    inr (record { count = h.count; refused = h.refused; wrote = record { text = h.wrote.text; told = h.wrote.told; appends = Appends-trans old mid new first h.wrote.text a h.wrote.appends } })
+after_first first heads w lines (Err stop.Write) old mid new later rose r a h =
+    (r h.0, record { count = h.1.count; text = h.1.text; refused = h.1.refused; told = h.1.told; appends = Appends-front old mid new first h.1.text a h.1.appends })
+after_first first heads w lines (Err (stop.Cycle cycle)) old mid new later rose r a h = h
+after_first first heads w lines (Err (stop.Fault f)) old mid new later rose r a h = h
 
--- lines that were taken all ask questions
-taken_queries : (found : Option ℕ) (lines taken : List LineValue) → first_edit lines ≡ found → unless_edit found lines ≡ Ok taken → AreQueries taken
-taken_queries None lines taken none is = cc
-taken_queries (Some number) lines taken some is = cc
-
-pub are_queries : (read : Result (List LineValue) Fault) (taken : List LineValue) → (read >>= without_edits) ≡ Ok taken → AreQueries taken
-are_queries (Ok lines) taken is = taken_queries (first_edit lines) lines taken refl is
-are_queries (Err fault) taken is = cc
+-- a front of what comes first
+pub front_of_first : (first : List ℕ) (heads : Bool) (w : World) (lines : List LineValue) (old new : Option (List ℕ)) → AppendsFront old new first → WroteFront first heads w lines old new
+front_of_first first heads w lines old new h =
+    record { count = 0; text = []; refused = false; told = (refl, refl); appends = subst (λ (l : List ℕ). AppendsFront old new l) (sym (append-nil first)) h }

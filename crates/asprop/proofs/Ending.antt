@@ -9,7 +9,7 @@ use Rattle.io_edge.proofs.Appending.{Appends-nil}
 use Rattle.asprop.specs.Files.{IsStop, Prepares}
 use Rattle.asprop.proofs.Preparing.{none_read}
 use Rattle.asprop.specs.Words.{Form, form_of}
-use Rattle.asprop.specs.Task.{Task, asked, task_of, within_limits, ◌>>=◌}
+use Rattle.asprop.specs.Task.{Task, asked, first_text, preface, task_of, within_limits, ◌>>=◌}
 use Rattle.asprop.specs.Texts.{status_of, fault_text}
 use Rattle.asprop.specs.Ran.{IsCycle, Works, Ends, Explains, Explained, Reports, Ran, Worked, stop_status, stop_text}
 use Rattle.asprop.specs.declared.types.Stop.{Stop}
@@ -68,7 +68,7 @@ by_stop form (Err f) (stop.Fault found) old new rose w = rw w.0 (by_fault form f
 by_memory : (form : Option Form) (task : Result Task Fault) (reason : Stop) (old new : Option (List ℕ)) (rose : Type 0) → (reason ≡ stop.Write → ⊥) → Works task (Err reason) old new rose → Ended form task status.NoMemory old new rose (stop_text form stop.Memory)
 by_memory form (Ok task) stop.Memory old new rose not_write w = record { ends = w; explains = refl }
 by_memory form (Ok task) stop.Write old new rose not_write w = absurd (not_write refl)
-by_memory form (Ok task) (stop.Cycle cycle) old new rose not_write w = record { ends = (record { count = 0; refused = false; wrote = record { text = []; told = (refl, refl); appends = w.1 } }, λ _. w.1); explains = refl }
+by_memory form (Ok task) (stop.Cycle cycle) old new rose not_write w = record { ends = (inl w.1, λ _. w.1); explains = refl }
 by_memory form (Ok task) (stop.Fault f) old new rose not_write w = absurd w
 by_memory form (Err f) stop.Memory old new rose not_write w = record { ends = w; explains = refl }
 by_memory form (Err f) stop.Write old new rose not_write w = absurd w
@@ -104,7 +104,7 @@ module _ {holds : List ℕ → Option (List ℕ)} {sound : List ℕ → Type 0} 
 
 -- nothing was written where memory ran out
 idle : (task : Result Task Fault) (old : Option (List ℕ)) (rose : Type 0) → Works task (Err stop.Memory) old old rose
-idle (Ok task) old rose = (record { count = 0; refused = false; wrote = record { text = []; told = (refl, refl); appends = Appends-nil old } }, λ _. Appends-nil old)
+idle (Ok task) old rose = (inl (Appends-nil old), λ _. Appends-nil old)
 idle (Err f) old rose = Appends-nil old
 
 -- memory ran out before the words were read
@@ -143,7 +143,7 @@ many_ases : (task : Task) → 150000 < as_count (topology task.world) → within
 many_ases task many = rw (lt-ltb 150000 (as_count (topology task.world)) many) refl
 
 -- what was written of the answers, in a world without a provider cycle
-answering : (task : Task) (result : Result Bool Stop) (old new : Option (List ℕ)) (rose : Type 0) → (HasCycle task.world → ⊥) → Answering task.heads task.world task.lines result old new rose → Works (Ok task) result old new rose
+answering : (task : Task) (result : Result Bool Stop) (old new : Option (List ℕ)) (rose : Type 0) → (HasCycle task.world → ⊥) → Answering (preface task) task.heads task.world task.lines result old new rose → Works (Ok task) result old new rose
 answering task (Ok refused) old new rose none h = (none, h)
 answering task (Err stop.Memory) old new rose none h = (h, λ cycle. absurd (none cycle))
 answering task (Err stop.Write) old new rose none h = (h.0, none, h.1)
@@ -172,10 +172,10 @@ module _ {holds : List ℕ → Option (List ℕ)} {sound : List ℕ → Type 0} 
 
   -- answers were written
   pub worked : (x : X) (w : World) (result : Result Bool Stop) → Prepares holds sound read_rose form view (Ok x) → w ≡ (view x).world → as_count (topology w) ≤ 150000 → (HasCycle w → ⊥)
-      → Answering (view x).heads w (view x).lines result old new out_rose → Worked holds sound read_rose form result old new out_rose
+      → Answering (first_text (view x).counts w) (view x).heads w (view x).lines result old new out_rose → Worked holds sound read_rose form result old new out_rose
   worked x w result p is few none h =
       on_task x p result (subst (λ (w : World). as_count (topology w) ≤ 150000) is few)
-      (answering (view x) result old new out_rose (subst (λ (w : World). HasCycle w → ⊥) is none) (subst (λ (w : World). Answering (view x).heads w (view x).lines result old new out_rose) is h))
+      (answering (view x) result old new out_rose (subst (λ (w : World). HasCycle w → ⊥) is none) (subst (λ (w : World). Answering (first_text (view x).counts w) (view x).heads w (view x).lines result old new out_rose) is h))
 
 module _ {holds : List ℕ → Option (List ℕ)} {sound : List ℕ → Type 0} {read_rose : Type 0} {form : Option Form} {X : Type 0} {view : X → Task} {old : Option (List ℕ)} {out_rose : Type 0} where
   -- the world has a provider cycle

@@ -14,8 +14,8 @@ use Rattle.scenario_text.specs.declared.faults.ScenarioError.TheVariants as scen
 use Rattle.scenario_text.specs.declared.script.ScriptError.{ScriptError}
 use Rattle.scenario_text.specs.declared.script.ScriptError.TheVariants as script
 use Rattle.asprop.specs.Texts.{status_of}
-use Rattle.asprop.specs.Task.{Task, Reads, asked, task_of_form, origin_task, script_task, relations, payloads_by, scenario_by, script_lines, first_edit, unless_edit, without_edits, read_as, or_fault, bytes_of, within_limits, ◌>>=◌}
-use Rattle.asprop.specs.Words.{Form, origin_form, script_form}
+use Rattle.asprop.specs.Task.{Task, Reads, asked, task_of_form, origin_task, script_task, relations, payloads_by, scenario_by, script_lines, read_as, or_fault, bytes_of, within_limits, ◌>>=◌}
+use Rattle.asprop.specs.Words.{Form, origin_form, script_form, demo_form}
 use Rattle.asprop.specs.declared.types.File.{File}
 use Rattle.asprop.specs.declared.types.File.TheVariants as file
 use Rattle.asprop.specs.declared.types.Fault.{Fault}
@@ -104,22 +104,15 @@ module _ (form : Option Form) (reads : Reads) where
   of_scenario None e h = cc
   of_scenario (Some name) e h = of_read file.Scenario fault.Scenario scenario_of_bytes other_scenario e h
 
-  of_edit : (found : Option ℕ) (lines : List LineValue) (e : Fault) → unless_edit found lines ≡ Err e → Stopped form reads e
-  of_edit None lines e h = cc
-  of_edit (Some number) lines e h = (let is : fault.Script (script.Unreadable number) ≡ e = cc in subst (Stopped form reads) is (by_value (fault.Script (script.Unreadable number)) (bad _ refl)))
-
   of_lines : (e : Fault) → script_lines (reads file.Script) ≡ Err e → Stopped form reads e
-  of_lines e h =
-      elim (bind_err (read_as file.Script fault.Script script_of (reads file.Script)) without_edits e h) [
-        | inl early ↦ of_read file.Script fault.Script script_of other_script e early
-        | inr late ↦ of_edit (first_edit late.0) late.0 e late.2
-      ]
+  of_lines e h = of_read file.Script fault.Script script_of other_script e h
 
   of_limits : (task : Task) (e : Fault) → within_limits task ≡ Err e → Stopped form reads e
   of_limits task e h = subst (Stopped form reads) (chosen_err _ _ e task h) (by_value fault.TooManyAses (large _ refl))
 
 of_asked : (form : Option Form) (reads : Reads) (e : Fault) → asked form reads ≡ Err e → Stopped form reads e
 of_asked None reads e h = let is : fault.Usage ≡ e = cc in subst (Stopped None reads) is (no_form refl)
+of_asked (Some (demo_form size)) reads e h = cc
 of_asked (Some (origin_form rel origin)) reads e h =
     elim (bind_err (relations (reads file.Relations)) (λ links. Ok (origin_task links origin)) e h) [
       | inl early ↦ of_read _ reads file.Relations fault.Relation links_of other_relation e early

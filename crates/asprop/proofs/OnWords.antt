@@ -3,7 +3,7 @@ use Rattle.std.proofs.Common.{◌≡◌, refl, [], ◌∷◌, codes, Some, None}
 use Rattle.clap.proofs.OnLiterals.{clap_on_literals}
 use Rattle.net_names.specs.Texts.{asn_of, numeral}
 use Rattle.asprop.specs.Command.{asprop_command, faults_in, rows_in}
-use Rattle.asprop.specs.Words.{form_of, script_form, origin_form}
+use Rattle.asprop.specs.Words.{form_of, script_form, origin_form, demo_form, size_of}
 
 rel_alone : form_of (codes "asprop" ∷ codes "rel" ∷ []) ≡ Some (script_form (codes "rel") None None None)
 unfolding clap_on_literals faults_in rows_in asprop_command
@@ -36,3 +36,15 @@ origin_and_payloads = refl
 help : form_of (codes "asprop" ∷ codes "rel" ∷ codes "--help" ∷ []) ≡ None
 unfolding clap_on_literals faults_in rows_in asprop_command
 help = refl
+
+generated : form_of (codes "asprop" ∷ codes "--demo" ∷ codes "00004" ∷ []) ≡ Some (demo_form 4)
+unfolding clap_on_literals faults_in rows_in asprop_command size_of numeral
+generated = refl
+
+generated_too_small : form_of (codes "asprop" ∷ codes "--demo" ∷ codes "3" ∷ []) ≡ None
+unfolding clap_on_literals faults_in rows_in asprop_command size_of numeral
+generated_too_small = refl
+
+generated_and_relations : form_of (codes "asprop" ∷ codes "rel" ∷ codes "--demo" ∷ codes "4" ∷ []) ≡ None
+unfolding clap_on_literals faults_in rows_in asprop_command
+generated_and_relations = refl

@@ -4,8 +4,8 @@ use Rattle.net_names.specs.Links.{LinkMap}
 use Rattle.roa_table.specs.Sets.{Payloads}
 use Rattle.scenario_text.specs.Scenarios.{ScenarioValue}
 use Rattle.scenario_text.specs.LineValues.{LineValue}
-use Rattle.asprop.specs.Words.{Form, script_form, origin_form, name_by}
-use Rattle.asprop.specs.Task.{Task, Reads, asked, origin_task, script_task, relations, payloads_by, scenario_by, script_lines, ◌>>=◌}
+use Rattle.asprop.specs.Words.{Form, script_form, origin_form, demo_form, name_by}
+use Rattle.asprop.specs.Task.{Task, Reads, asked, origin_task, script_task, demo_task, relations, payloads_by, scenario_by, script_lines, ◌>>=◌}
 use Rattle.asprop.specs.Files.{IsRead, IsReadAs, AreReads, IsStop, Finds, ReadsTo, Prepares}
 use Rattle.asprop.specs.declared.types.File.TheVariants as file
 use Rattle.asprop.specs.declared.types.Stop.{Stop}
@@ -28,6 +28,11 @@ alone read = four read (Some []) (Some []) (Some [])
 -- something was read of each file
 pub none_read : (holds : List ℕ → Option (List ℕ)) (sound : List ℕ → Type 0) (rose : Type 0) (form : Option Form) → (reads : Reads) × AreReads holds sound rose form reads
 none_read holds sound rose form = (λ which. (some_read_as holds sound rose (name_by form which)).0, λ which. (some_read_as holds sound rose (name_by form which)).1)
+
+-- the generated input needs no file
+pub demo_found : {holds : List ℕ → Option (List ℕ)} {sound : List ℕ → Type 0} {rose : Type 0} {X : Type 0} {view : X → Task} (size : ℕ) (result : Result X Stop) → Finds view result (Ok (demo_task size))
+    → Prepares holds sound rose (Some (demo_form size)) view result
+demo_found size result h = record { reads = λ file. Some []; are_read = λ file. refl; finds = h }
 
 module _ (holds : List ℕ → Option (List ℕ)) (sound : List ℕ → Type 0) (rose : Type 0) (rel : List ℕ) where
   one_read : (origin : ℕ) (read : Option (List ℕ)) → IsRead (holds rel) (sound rel) rose read → AreReads holds sound rose (Some (origin_form rel origin)) (alone read)

@@ -4,3 +4,17 @@ use Rattle.std.proofs.Common.{◌≡◌, ℕ, List, [], ◌∷◌, ◌++◌, Res
 pub three_pieces : {T E : Type 0} (r : Result T E) (old front text now last : List ℕ) → now ≡ (old ++ front) ++ text → OnOk r (last ≡ now ++ 10 ∷ []) → OnOk r (last ≡ old ++ (front ++ (text ++ 10 ∷ [])))
 three_pieces (Ok x) old front text now last is h = h ∙ ap (λ l. l ++ 10 ∷ []) is ∙ append_assoc (old ++ front) text (10 ∷ []) ∙ append_assoc old front (text ++ 10 ∷ [])
 three_pieces (Err e) old front text now last is h = h
+
+-- pieces with a blank between
+pub six_pieces : {T E : Type 0} (r : Result T E) (old front number prefix max : List ℕ) (one two three four five last : List ℕ)
+    → one ≡ (old ++ front) ++ number → two ≡ one ++ 32 ∷ [] → three ≡ two ++ prefix → four ≡ three ++ 32 ∷ [] → five ≡ four ++ max → OnOk r (last ≡ five ++ 10 ∷ [])
+    → OnOk r (last ≡ old ++ (front ++ (number ++ (32 ∷ [] ++ (prefix ++ (32 ∷ [] ++ (max ++ 10 ∷ [])))))))
+six_pieces (Ok x) old front number prefix max one two three four five last a b c d e h =
+    h ∙ ap (λ l. l ++ 10 ∷ []) (e ∙ ap (λ l. l ++ max) (d ∙ ap (λ l. l ++ 32 ∷ []) (c ∙ ap (λ l. l ++ prefix) (b ∙ ap (λ l. l ++ 32 ∷ []) a))))
+    ∙ append_assoc ((((((old ++ front) ++ number) ++ 32 ∷ []) ++ prefix) ++ 32 ∷ [])) max (10 ∷ [])
+    ∙ append_assoc (((((old ++ front) ++ number) ++ 32 ∷ []) ++ prefix)) (32 ∷ []) (max ++ 10 ∷ [])
+    ∙ append_assoc ((((old ++ front) ++ number) ++ 32 ∷ [])) prefix (32 ∷ [] ++ (max ++ 10 ∷ []))
+    ∙ append_assoc (((old ++ front) ++ number)) (32 ∷ []) (prefix ++ (32 ∷ [] ++ (max ++ 10 ∷ [])))
+    ∙ append_assoc (old ++ front) number (32 ∷ [] ++ (prefix ++ (32 ∷ [] ++ (max ++ 10 ∷ []))))
+    ∙ append_assoc old front (number ++ (32 ∷ [] ++ (prefix ++ (32 ∷ [] ++ (max ++ 10 ∷ [])))))
+six_pieces (Err x) old front number prefix max one two three four five last a b c d e h = h

@@ -5,7 +5,7 @@ use Rattle.as_graph.specs.Topology.{what}
 use Rattle.cycle_check.specs.Cycles.{IsCycleFromLowest}
 use Rattle.sim_core.specs.World.{World, HasCycle, topology}
 use Rattle.asprop.specs.Words.{Form, form_of}
-use Rattle.asprop.specs.Task.{Task, Reads, task_of, task_of_form}
+use Rattle.asprop.specs.Task.{preface, Task, Reads, task_of, task_of_form}
 use Rattle.asprop.specs.Texts.{status_of, fault_text, message, cycle_text}
 use Rattle.asprop.specs.Files.{AreReads}
 use Rattle.asprop.specs.Written.{WroteAll, WroteWhole, WroteFront}
@@ -19,11 +19,11 @@ use Rattle.asprop.specs.declared.types.Status.TheVariants as status
 abbrev pub Ends : Result Task Fault → Status → Option (List ℕ) → Option (List ℕ) → Type 0 → Type 0
 Ends (Err fault) status.NoMemory old new rose = Appends old new []
 Ends (Err fault) s old new rose = (s ≡ status_of fault) × Appends old new []
-Ends (Ok task) status.Done old new rose = (HasCycle task.world → ⊥) × WroteAll task.heads task.world task.lines false old new
-Ends (Ok task) status.SomeRefused old new rose = (HasCycle task.world → ⊥) × WroteAll task.heads task.world task.lines true old new
+Ends (Ok task) status.Done old new rose = (HasCycle task.world → ⊥) × WroteAll (preface task) task.heads task.world task.lines false old new
+Ends (Ok task) status.SomeRefused old new rose = (HasCycle task.world → ⊥) × WroteAll (preface task) task.heads task.world task.lines true old new
 Ends (Ok task) status.BadInput old new rose = HasCycle task.world × Appends old new []
-Ends (Ok task) status.WriteFault old new rose = rose × (HasCycle task.world → ⊥) × WroteFront task.heads task.world task.lines old new
-Ends (Ok task) status.NoMemory old new rose = WroteWhole task.heads task.world task.lines old new × (HasCycle task.world → Appends old new [])
+Ends (Ok task) status.WriteFault old new rose = rose × (HasCycle task.world → ⊥) × WroteFront (preface task) task.heads task.world task.lines old new
+Ends (Ok task) status.NoMemory old new rose = WroteWhole (preface task) task.heads task.world task.lines old new × (HasCycle task.world → Appends old new [])
 Ends (Ok task) s old new rose = ⊥
 
 -- the cycle is a provider cycle of the world, told from its lowest number on
@@ -55,9 +55,9 @@ pub record Ran (holds : List ℕ → Option (List ℕ)) (sound : List ℕ → Ty
 
 -- how the work before the report ends
 abbrev pub Works : Result Task Fault → Result Bool Stop → Option (List ℕ) → Option (List ℕ) → Type 0 → Type 0
-Works (Ok task) (Ok refused) old new rose = (HasCycle task.world → ⊥) × WroteAll task.heads task.world task.lines refused old new
-Works (Ok task) (Err stop.Memory) old new rose = WroteWhole task.heads task.world task.lines old new × (HasCycle task.world → Appends old new [])
-Works (Ok task) (Err stop.Write) old new rose = rose × (HasCycle task.world → ⊥) × WroteFront task.heads task.world task.lines old new
+Works (Ok task) (Ok refused) old new rose = (HasCycle task.world → ⊥) × WroteAll (preface task) task.heads task.world task.lines refused old new
+Works (Ok task) (Err stop.Memory) old new rose = WroteWhole (preface task) task.heads task.world task.lines old new × (HasCycle task.world → Appends old new [])
+Works (Ok task) (Err stop.Write) old new rose = rose × (HasCycle task.world → ⊥) × WroteFront (preface task) task.heads task.world task.lines old new
 Works (Ok task) (Err (stop.Cycle cycle)) old new rose = IsCycle task.world cycle × Appends old new []
 Works (Ok task) (Err (stop.Fault fault)) old new rose = ⊥
 Works (Err fault) (Err stop.Memory) old new rose = Appends old new []

@@ -1,6 +1,11 @@
--- The texts of refused queries.
+-- The texts of refused queries, and of edits.
 use Rattle.std.specs.Prelude.{ℕ, List, [], ◌∷◌, ◌++◌, codes, decimal}
 use Rattle.net_names.specs.Texts.{addr_text, prefix_text}
+use Rattle.reports.specs.Rows.{numbers_text}
+use Rattle.sim_core.specs.declared.errors.EditError.{EditError}
+use Rattle.sim_core.specs.declared.errors.EditError.TheVariants as edit
+use Rattle.sim_core.specs.declared.errors.EditLimit.{EditLimit}
+use Rattle.sim_core.specs.declared.errors.EditLimit.TheVariants as limit
 use Rattle.sim_core.specs.declared.errors.QueryError.{QueryError}
 use Rattle.sim_core.specs.declared.errors.QueryError.TheVariants as refused
 
@@ -11,3 +16,21 @@ refusal_text (refused.UnknownRound round) = codes "refused unknown-round " ++ (d
 refusal_text (refused.UnknownPrefix prefix) = codes "refused unknown-prefix " ++ (prefix_text prefix ++ 10 ∷ [])
 refusal_text (refused.UnknownAs asn) = codes "refused unknown-as " ++ (decimal asn ++ 10 ∷ [])
 refusal_text (refused.NotWatched addr) = codes "refused not-watched " ++ (addr_text addr ++ 10 ∷ [])
+
+-- the text of an edit that was done: how many entries differ (own format)
+abbrev pub done_text : ℕ → List ℕ
+done_text routes = codes "ok " ++ (decimal routes ++ 10 ∷ [])
+
+-- the name of a limit (own format)
+abbrev pub limit_name : EditLimit → List ℕ
+limit_name limit.Links = codes "links"
+limit_name limit.Ases = codes "ases"
+limit_name limit.Vrps = codes "payloads"
+
+-- the text of a refused edit: what is not there, the limit, or the provider cycle from the new link on (own format)
+abbrev pub edit_refusal_text : EditError → List ℕ
+edit_refusal_text edit.Memory = []
+edit_refusal_text (edit.AbsentLink lo hi) = codes "refused absent-link " ++ (decimal lo ++ (124 ∷ [] ++ (decimal hi ++ 10 ∷ [])))
+edit_refusal_text (edit.AbsentVrp vrp) = codes "refused absent-vrp " ++ (decimal vrp.asn ++ (32 ∷ [] ++ (prefix_text vrp.prefix ++ (32 ∷ [] ++ (decimal vrp.max ++ 10 ∷ [])))))
+edit_refusal_text (edit.Limit which) = codes "refused limit " ++ (limit_name which ++ 10 ∷ [])
+edit_refusal_text (edit.ProviderCycle cycle) = codes "refused provider-cycle " ++ (numbers_text cycle ++ 10 ∷ [])

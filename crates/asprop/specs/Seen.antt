@@ -5,4 +5,4 @@ use Rattle.asprop.specs.declared.asking.Asked.{Asked}
 
 -- what was asked for (own rule)
 abbrev pub task_seen : Asked → Task
-task_seen a = record { world = world_of a.links a.vrps a.scenario; lines = a.lines; heads = a.heads }
+task_seen a = record { world = world_of a.links a.vrps a.scenario; lines = a.lines; heads = a.heads; counts = a.counts }

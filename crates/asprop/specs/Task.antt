@@ -1,5 +1,6 @@
 -- The task that the words and the files ask for, or the first fault.
-use Rattle.std.specs.Prelude.{ℕ, ◌≡◌, Bool, true, false, nat_lt, List, [], ◌∷◌, length, Option, None, Some, Result, Ok, Err, if◌then◌else◌}
+use Rattle.std.specs.Prelude.{ℕ, ◌≡◌, Bool, true, false, nat_lt, List, [], ◌∷◌, ◌++◌, codes, decimal, length, Option, None, Some, Result, Ok, Err, if◌then◌else◌}
+use Rattle.std.specs.FinMap as fin
 use Rattle.net_names.specs.Links.{LinkMap}
 use Rattle.net_names.specs.Prefixes.{PrefixValue}
 use Rattle.net_names.specs.declared.addresses.Family.TheVariants.{V4}
@@ -14,20 +15,35 @@ use Rattle.scenario_text.specs.Script.{script_of}
 use Rattle.scenario_text.specs.declared.acts.Act.{Act}
 use Rattle.scenario_text.specs.declared.acts.Act.TheVariants as act
 use Rattle.scenario_text.specs.declared.acts.Query.TheVariants as query
-use Rattle.scenario_text.specs.declared.script.ScriptError.TheVariants as script
 use Rattle.sim_core.specs.World.{World, topology}
 use Rattle.sim_core.specs.Loaded.{world_of}
-use Rattle.asprop.specs.Words.{Form, script_form, origin_form, form_of}
+use Rattle.topo_gen.specs.Drawn.{drawn_links}
+use Rattle.topo_gen.specs.Scenarios.{drawn_payloads, drawn_scenario}
+use Rattle.topo_gen.specs.Lines.{drawn_lines}
+use Rattle.asprop.specs.Words.{Form, script_form, origin_form, demo_form, form_of}
 use Rattle.asprop.specs.declared.types.File.{File}
 use Rattle.asprop.specs.declared.types.File.TheVariants as file
 use Rattle.asprop.specs.declared.types.Fault.{Fault}
 use Rattle.asprop.specs.declared.types.Fault.TheVariants as fault
 
--- a world, the lines that are answered in it one after the other, and whether each answer has a head line (own rule)
+-- a world, the lines that are answered in it one after the other, whether each answer has a head line, and whether the numbers of ASes and links come first (own rule)
 pub record Task : Type 0 where
   pub world : World
   pub lines : List LineValue
   pub heads : Bool
+  pub counts : Bool
+
+-- the numbers of ASes and links of a world (own format)
+abbrev pub counts_text : World → List ℕ
+counts_text w = codes "ases|" ++ (decimal (as_count (topology w)) ++ 10 ∷ (codes "links|" ++ (decimal (fin.len w.links) ++ 10 ∷ [])))
+
+-- what comes before the answers: those numbers, if they do (own format)
+abbrev pub first_text : Bool → World → List ℕ
+first_text counts w = if counts then counts_text w else []
+
+-- so of a task (own format)
+abbrev pub preface : Task → List ℕ
+preface task = first_text task.counts task.world
 
 -- what was read of each file: its bytes, or nothing where a read failed (own rule)
 abbrev pub Reads : Type 0
@@ -74,31 +90,9 @@ abbrev pub scenario_by : Option (List ℕ) → Option (List ℕ) → Result Scen
 scenario_by None read = Ok nothing
 scenario_by (Some name) read = read_as file.Scenario fault.Scenario scenario_of_bytes read
 
--- the line asks a question; edits are not built yet (own rule)
-abbrev pub is_query : Act → Bool
-is_query (act.Query q) = true
-is_query (act.Edit e) = false
-
--- the number of the first line that asks for an edit (own rule)
-abbrev pub first_edit : List LineValue → Option ℕ
-first_edit [] = None
-first_edit (line ∷ lines) = if is_query line.act then first_edit lines else Some line.number
-
--- the lines, if none of them asks for an edit; the first that does counts as unreadable (own rule)
-abbrev pub unless_edit : Option ℕ → List LineValue → Result (List LineValue) Fault
-unless_edit None lines = Ok lines
-unless_edit (Some number) lines = Err (fault.Script (script.Unreadable number))
-
-abbrev pub without_edits : List LineValue → Result (List LineValue) Fault
-without_edits lines = unless_edit (first_edit lines) lines
-
--- each of the lines asks a question (own rule)
-abbrev pub AreQueries : List LineValue → Type 0
-AreQueries lines = first_edit lines ≡ None
-
 -- the lines of the script (own format)
 abbrev pub script_lines : Option (List ℕ) → Result (List LineValue) Fault
-script_lines read = read_as file.Script fault.Script script_of read >>= without_edits
+script_lines = read_as file.Script fault.Script script_of
 
 -- the prefix that holds every IPv4 address, 0.0.0.0/0 (RFC 4632, section 3.1)
 abbrev pub all_addresses : PrefixValue
@@ -118,15 +112,21 @@ origin_task links origin = record {
   world = world_of links no_payloads (announced_by origin);
   lines = origin_line ∷ [];
   heads = false;
+  counts = false;
 }
 
 -- the answers to a script, with a head line each (own rule)
 abbrev pub script_task : LinkMap → Payloads → ScenarioValue → List LineValue → Task
-script_task links payloads scenario lines = record { world = world_of links payloads scenario; lines = lines; heads = true }
+script_task links payloads scenario lines = record { world = world_of links payloads scenario; lines = lines; heads = true; counts = false }
+
+-- the answers to the lines of the generated input of so many ASes, after the numbers of its ASes and links (own format)
+abbrev pub demo_task : ℕ → Task
+demo_task n = record { world = world_of (drawn_links n) (drawn_payloads n) (drawn_scenario n); lines = drawn_lines (drawn_links n); heads = true; counts = true }
 
 -- what the form and the files ask for; words without a form are the first fault (own rule)
 abbrev pub asked : Option Form → Reads → Result Task Fault
 asked None reads = Err fault.Usage
+asked (Some (demo_form size)) reads = Ok (demo_task size)
 asked (Some (origin_form rel origin)) reads = relations (reads file.Relations) >>= λ links. Ok (origin_task links origin)
 asked (Some (script_form rel vrps scenario script)) reads =
     relations (reads file.Relations) >>= λ links. payloads_by vrps (reads file.Payloads) >>= λ payloads. scenario_by scenario (reads file.Scenario) >>= λ plan. script_lines (reads file.Script) >>= λ lines. Ok (script_task links payloads plan lines)

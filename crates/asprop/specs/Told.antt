@@ -3,12 +3,15 @@ use Rattle.std.specs.Prelude.{◌≡◌, ◌||◌, ℕ, Bool, true, false, Optio
 use Rattle.scenario_text.specs.LineValues.{LineValue}
 use Rattle.scenario_text.specs.declared.acts.Act.{Act}
 use Rattle.scenario_text.specs.declared.acts.Act.TheVariants as act
+use Rattle.scenario_text.specs.declared.acts.Edit.{Edit}
 use Rattle.scenario_text.specs.declared.acts.Query.{Query}
 use Rattle.sim_core.specs.World.{World}
 use Rattle.sim_core.specs.Kept.{Kept, IsKept}
 use Rattle.sim_core.specs.Answers.{IsAnswer, refusal_of}
+use Rattle.sim_core.specs.Edits.{HasChanged, IsAllowed, IsReason, edited}
+use Rattle.sim_core.specs.declared.errors.EditError.{EditError}
 use Rattle.sim_core.specs.declared.errors.QueryError.{QueryError}
-use Rattle.asprop.specs.Refusals.{refusal_text}
+use Rattle.asprop.specs.Refusals.{done_text, edit_refusal_text, refusal_text}
 
 -- the text is the answer, or where there is a reason to refuse the text of the refusal (own format)
 abbrev pub IsReply : World → Kept → Query → Option QueryError → List ℕ → Bool → Type 0
@@ -21,17 +24,44 @@ pub record AppendsReply (w : World) (kept : Kept) (q : Query) (refused : Bool) (
   pub reply : IsReply w kept q (refusal_of w q) text refused
   pub appended : new ≡ old ++ text
 
--- the text is what is told for what a line asks; an edit has no text yet (own format)
-abbrev pub Tells : World → Kept → Act → List ℕ → Bool → Type 0
-Tells w kept (act.Query q) text refused = IsReply w kept q (refusal_of w q) text refused
-Tells w kept (act.Edit e) text refused = ⊥
+-- the edit is allowed: the world after it is the edited one, and the text says how many entries of the one family of routings differ from those of the one family after it (own format)
+pub record IsDone (w : World) (kept : Kept) (e : Edit) (text : List ℕ) (after : World) : Type 0 where
+  pub allowed : IsAllowed w e
+  pub edits : after ≡ edited w e
+  pub now : Kept
+  pub is_kept : IsKept after now
+  pub routes : ℕ
+  pub changed : HasChanged after kept.routings now.routings routes
+  pub says : text ≡ done_text routes
 
--- the text answers the line by the one and only stable routings of the world's rounds and by the ranks of its ASes, and the world stays as it is (Gao and Rexford 2001)
+-- the edit is refused: the text says why, and the world stays as it is (own format)
+pub record IsRefused (w : World) (e : Edit) (text : List ℕ) (after : World) : Type 0 where
+  pub error : EditError
+  pub reason : IsReason w e error
+  pub says : text ≡ edit_refusal_text error
+  pub stays : after ≡ w
+
+-- the text is what is told for an edit, which is refused or not (own format)
+abbrev pub IsEditReply : World → Kept → Edit → List ℕ → World → Bool → Type 0
+IsEditReply w kept e text after false = IsDone w kept e text after
+IsEditReply w kept e text after true = IsRefused w e text after
+
+-- the reply to an edit was appended (own format)
+pub record AppendsEditReply (w : World) (kept : Kept) (e : Edit) (refused : Bool) (old new : List ℕ) (after : World) : Type 0 where
+  pub text : List ℕ
+  pub reply : IsEditReply w kept e text after refused
+  pub appended : new ≡ old ++ text
+
+-- the text is what is told for what a line asks; a query leaves the world as it is (own format)
+abbrev pub Tells : World → Kept → Act → List ℕ → Bool → World → Type 0
+Tells w kept (act.Query q) text refused after = IsReply w kept q (refusal_of w q) text refused × (after ≡ w)
+Tells w kept (act.Edit e) text refused after = IsEditReply w kept e text after refused
+
+-- the text answers the line by the one and only stable routings of the world's rounds and by the ranks of its ASes, and leaves this world (Gao and Rexford 2001)
 pub record Answers (w : World) (line : LineValue) (text : List ℕ) (refused : Bool) (after : World) : Type 0 where
   pub kept : Kept
   pub is_kept : IsKept w kept
-  pub told : Tells w kept line.act text refused
-  pub stays : after ≡ w
+  pub told : Tells w kept line.act text refused after
 
 -- the head line of an answer: `# ` and the line's number (own format)
 abbrev pub head_line : ℕ → List ℕ

@@ -1,9 +1,10 @@
 -- The words of the command line, the program's name first, and the form that they have.
-use Rattle.std.specs.Prelude.{ℕ, List, [], ◌∷◌, codes, Option, Some, None, option_map}
+use Rattle.std.specs.Prelude.{ℕ, ◌≤◌, ◌&&◌, nat_le, if◌then◌else◌, List, [], ◌∷◌, codes, Option, Some, None, option_map}
 use Rattle.std.specs.Borrow.{Bor}
 use Rattle.clap.specs.Kinds.{Kinds}
 use Rattle.clap.specs.Walk.{Row, Text, first_of}
-use Rattle.net_names.specs.Texts.{asn_of}
+use Rattle.net_names.specs.Steps.{◌>>=◌}
+use Rattle.net_names.specs.Texts.{asn_of, numeral}
 use Rattle.asprop.specs.Command.{faults_in, rows_in}
 use Rattle.asprop.specs.declared.types.File.{File}
 use Rattle.asprop.specs.declared.types.File.TheVariants.{Relations, Payloads, Scenario, Script as ScriptFile}
@@ -20,6 +21,8 @@ pub data Form : Type 0 where
   script_form : (rel : Text) (vrps scenario script : Option Text) → Form
   -- the routes of all ASes to one origin, over a relationship file
   origin_form : (rel : Text) (origin : ℕ) → Form
+  -- the generated input of so many ASes
+  demo_form : (size : ℕ) → Form
 
 -- which of the options that say what to do stand, one with its value (own format)
 pub data Asked : Type 0 where
@@ -38,11 +41,23 @@ also job (Some value) several = several
 abbrev pub asked_by : Option Text → Option Text → Option Text → Asked
 asked_by script origin demo = also Demo demo (also Origin origin (also Script script nothing))
 
+-- a size is 1 to 5 digits, from 4 to 20000 (own format)
+unfoldable pub size_of : List ℕ → Option ℕ
+size_of text = numeral 10 5 text >>= λ n. if nat_le 4 n && nat_le n 20000 then Some n else None
+
+-- the size of a generated input is from 4 to 20000 (own format)
+abbrev pub HasSize : Option Form → Type 0
+HasSize None = Unit {0}
+HasSize (Some (script_form rel vrps scenario script)) = Unit {0}
+HasSize (Some (origin_form rel origin)) = Unit {0}
+HasSize (Some (demo_form size)) = (4 ≤ size) × (size ≤ 20000)
+
 -- the table of the forms, by the relationship file, the payloads, the scenario and what is asked (own format)
 abbrev pub form_by : Option Text → Option Text → Option Text → Asked → Option Form
 form_by (Some rel) vrps scenario nothing = Some (script_form rel vrps scenario None)
 form_by (Some rel) vrps scenario (only Script name) = Some (script_form rel vrps scenario (Some name))
 form_by (Some rel) None None (only Origin number) = option_map (λ origin. origin_form rel origin) (asn_of number)
+form_by None None None (only Demo number) = option_map (λ size. demo_form size) (size_of number)
 form_by _ _ _ _ = None
 
 -- the form that these values of the options and of the word have (own format)
@@ -67,6 +82,7 @@ name_of (script_form rel vrps scenario script) Scenario = scenario
 name_of (script_form rel vrps scenario script) ScriptFile = script
 name_of (origin_form rel origin) Relations = Some rel
 name_of (origin_form rel origin) file = None
+name_of (demo_form size) file = None
 
 -- the name that a form gives to a file; without a form there is none
 abbrev pub name_by : Option Form → File → Option Text
@@ -85,6 +101,7 @@ text_seen = option_map (λ text. text.now)
 abbrev pub form_seen : WordForm → Form
 form_seen (form.Script rel vrps scenario script) = script_form rel.now (text_seen vrps) (text_seen scenario) (text_seen script)
 form_seen (form.Origin rel origin) = origin_form rel.now origin
+form_seen (form.Demo size) = demo_form size
 
 -- what the program keeps of the options that say what to do
 abbrev pub jobs_seen : Jobs → Asked

@@ -1,19 +1,24 @@
 //! Answers to lines.
-ghost use Rattle.std.specs.Prelude.{◌≡◌, ◌++◌, true, IfOk, OnOk};
+ghost use Rattle.std.specs.Prelude.{◌≡◌, ◌<◌, ◌++◌, [], string_bytes, IfOk, OnOk};
 ghost use Rattle.io_edge.specs.Faults.{Rose};
 ghost use Rattle.sim_core.specs.Kept.{IsKept};
 ghost use Rattle.sim_core.specs.Sims.{kept, world_seen};
-ghost use Rattle.asprop.specs.Task.{is_query, AreQueries};
-ghost use Rattle.asprop.specs.Told.{Answered, AppendsReply, head, head_line};
+ghost use Rattle.sim_core.specs.World.{HasCycle};
+ghost use Rattle.scenario_text.specs.LineValues.{AreSoundLines, HasTwoEnds, IsSoundAct};
+ghost use Rattle.asprop.specs.Task.{counts_text, first_text};
+ghost use Rattle.asprop.specs.Told.{Answered, AppendsEditReply, AppendsReply, head, head_line};
 ghost use Rattle.asprop.specs.Written.{Answering};
 
-use crate::refusals::put_refusal;
+use crate::refusals::{put_done, put_edit_refusal, put_refusal};
 use crate::types::Stop;
 use io_edge::{Failed, Sink, write_all};
 use net_names::NoMemory;
-use scenario_text::{Act, Line, Query};
+use route_choice::Steps;
+use scenario_text::{Act, Edit, Line, Query};
 use sim_core::{QueryError, Sim};
 use std::alloc::{AllocError, Global};
+use std::marker::Brand;
+use std::sync::ledger::{Blank, Ledger};
 
 // Appends the head line.
 fn put_head(alloc: Global, number: u32, text: &mut Vec<u8>) -> Result<(), AllocError>
@@ -51,36 +56,70 @@ fn begin_text(alloc: Global, heads: bool, line: &Line, text: &mut Vec<u8>) -> Re
     }
 }
 
+// Edits the world, appends how many entries differ, or the text of the refusal, and says whether it is refused.
+fn put_edit<L: Ledger>(
+    alloc: Global,
+    sim: &mut Sim,
+    edit: &Edit,
+    text: &mut Vec<u8>,
+    blank: Blank,
+) -> Result<bool, NoMemory>
+    requires ledger { (blank.name ≡ L.name) × (blank.parts ≡ L.parts) × (0 < L.parts) }
+    requires ends { HasTwoEnds edit.now }
+    requires kept { IsKept (world_seen sim.old) (kept sim.old) }
+    requires no_cycle { HasCycle (world_seen sim.old) → ⊥ }
+    ensures reply { IfOk result (λ refused. AppendsEditReply (world_seen sim.old) (kept sim.old) edit.now refused text.old.items text.new.items (world_seen sim.new)) }
+    ensures kept { OnOk result (IsKept (world_seen sim.new) (kept sim.new)) }
+    ensures no_cycle { OnOk result (HasCycle (world_seen sim.new) → ⊥) }
+{
+    let mut steps = Steps::<L>::new(blank);
+    match sim.edit(alloc, edit, &mut steps) {
+        Ok(changed) => {
+            put_done(text, changed.routes)?;
+            Ok(false)
+        }
+        Err(error) => {
+            put_edit_refusal(text, &error)?;
+            Ok(true)
+        }
+    }
+}
+
 // Makes the head line, if there are head lines, and the answer, and says whether it is a refusal.
 fn answer_line(
     alloc: Global,
-    sim: &Sim,
+    sim: &mut Sim,
     heads: bool,
     line: &Line,
     text: &mut Vec<u8>,
 ) -> Result<bool, NoMemory>
-    requires asks { is_query line.now.act ≡ true }
-    requires kept { IsKept (world_seen sim.now) (kept sim.now) }
-    ensures { IfOk result (λ refused. Answered heads (world_seen sim.now) line.now text.new.items refused (world_seen sim.now)) }
+    requires sound { IsSoundAct line.now.act }
+    requires kept { IsKept (world_seen sim.old) (kept sim.old) }
+    requires no_cycle { HasCycle (world_seen sim.old) → ⊥ }
+    ensures answered { IfOk result (λ refused. Answered heads (world_seen sim.old) line.now text.new.items refused (world_seen sim.new)) }
+    ensures kept { OnOk result (IsKept (world_seen sim.new) (kept sim.new)) }
+    ensures no_cycle { OnOk result (HasCycle (world_seen sim.new) → ⊥) }
 {
     begin_text(alloc, heads, line, text)?;
     match &line.act {
         Act::Query(query) => put_reply(sim, query, text),
-        Act::Edit(_) => unreachable!(),
+        Act::Edit(edit) => put_edit::<Brand>(alloc, sim, edit, text, Blank::new(1)),
     }
 }
 
-/// Writes the answers to the lines one after the other, each made whole before, and says whether one is a refusal.
-pub fn answer_all<O: Sink>(
+// Writes the answers to the lines one after the other, each in the world that the lines before it leave
+// and made whole before, and says whether one is a refusal.
+fn answer_all<O: Sink>(
     alloc: Global,
-    sim: &Sim,
+    sim: &mut Sim,
     heads: bool,
     lines: &[Line],
     out: &mut O,
 ) -> Result<bool, Stop>
-    requires ask { AreQueries lines.now }
-    requires kept { IsKept (world_seen sim.now) (kept sim.now) }
-    ensures { Answering heads (world_seen sim.now) lines.now result (O.written out.old) (O.written out.new) (Rose (O.faults out.old) (O.faults out.new)) }
+    requires sound { AreSoundLines lines.now }
+    requires kept { IsKept (world_seen sim.old) (kept sim.old) }
+    requires no_cycle { HasCycle (world_seen sim.old) → ⊥ }
+    ensures { Answering [] heads (world_seen sim.old) lines.now result (O.written out.old) (O.written out.new) (Rose (O.faults out.old) (O.faults out.new)) }
 {
     let mut text: Vec<u8> = Vec::new(alloc);
     let mut refused = false;
@@ -99,4 +138,40 @@ pub fn answer_all<O: Sink>(
         }
     }
     Ok(refused)
+}
+
+// The numbers of ASes and links, if they come first.
+fn first_lines(alloc: Global, sim: &Sim, counts: bool) -> Result<String, AllocError>
+    ensures { IfOk result (λ text. string_bytes text ≡ first_text counts (world_seen sim.now)) }
+{
+    if !counts {
+        return Ok(String::new(alloc));
+    }
+    let (ases, links) = (sim.as_count(), sim.link_count());
+    format!(in alloc; "ases|{ases}\nlinks|{links}\n")
+}
+
+/// Writes the numbers of ASes and links, if they come first, and then the answers to the lines, one after the other,
+/// each in the world that the lines before it leave and made whole before. It says whether an answer is a refusal.
+pub fn write_answers<O: Sink>(
+    alloc: Global,
+    sim: &mut Sim,
+    counts: bool,
+    heads: bool,
+    lines: &[Line],
+    out: &mut O,
+) -> Result<bool, Stop>
+    requires sound { AreSoundLines lines.now }
+    requires kept { IsKept (world_seen sim.old) (kept sim.old) }
+    requires no_cycle { HasCycle (world_seen sim.old) → ⊥ }
+    ensures { Answering (first_text counts (world_seen sim.old)) heads (world_seen sim.old) lines.now result (O.written out.old) (O.written out.new) (Rose (O.faults out.old) (O.faults out.new)) }
+{
+    let Ok(first) = first_lines(alloc, sim, counts) else {
+        return Err(Stop::Memory);
+    };
+    match write_all(out, first.as_bytes()) {
+        Err(Failed) => return Err(Stop::Write),
+        Ok(()) => {}
+    }
+    answer_all(alloc, sim, heads, lines, out)
 }

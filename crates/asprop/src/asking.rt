@@ -1,10 +1,10 @@
 //! From the form of the words and the files to what is asked.
-ghost use Rattle.std.specs.Prelude.{◌≡◌, ◌∷◌, [], IfOk, option_map, Some};
+ghost use Rattle.std.specs.Prelude.{◌≡◌, ◌≤◌, ◌∷◌, [], IfOk, option_map, Some};
 ghost use Rattle.io_edge.specs.Faults.{Rose};
-ghost use Rattle.asprop.specs.Task.{AreQueries, all_addresses, announced_by, origin_line};
+ghost use Rattle.asprop.specs.Task.{all_addresses, announced_by, origin_line};
 ghost use Rattle.asprop.specs.Files.{Prepares};
 ghost use Rattle.asprop.specs.Seen.{task_seen};
-ghost use Rattle.asprop.specs.Words.{form_seen, origin_form, script_form, text_seen};
+ghost use Rattle.asprop.specs.Words.{HasSize, demo_form, form_seen, origin_form, script_form, text_seen};
 
 use crate::reading::{read_lines, read_payloads, read_plan, read_relations};
 use crate::types::{Fault, Stop};
@@ -14,6 +14,7 @@ use net_names::{Asn, Family, Links, NoMemory, Path, Prefix};
 use roa_table::Vrps;
 use scenario_text::{Act, Announcement, Line, Lines, Query, Scenario};
 use std::alloc::Global;
+use topo_gen::{Demo, generate};
 
 /// The links, the payloads and the scenario of a world, and the lines to be answered in it, with a
 /// head line each or without.
@@ -24,6 +25,7 @@ pub struct Asked {
     pub scenario: Scenario,
     pub lines: Lines,
     pub heads: bool,
+    pub counts: bool,
 }
 
 // 0.0.0.0/0.
@@ -71,9 +73,8 @@ fn ask_origin<I: Inputs>(
     origin: Asn,
     inputs: &mut I,
 ) -> Result<Asked, Stop>
-    ensures task { Prepares (I.holds inputs.old) (I.is_sound inputs.old) (Rose (I.faults inputs.old) (I.faults inputs.new))
+    ensures { Prepares (I.holds inputs.old) (I.is_sound inputs.old) (Rose (I.faults inputs.old) (I.faults inputs.new))
         (Some (origin_form rel.now origin)) task_seen result }
-    ensures ask { IfOk result (λ asked. AreQueries asked.lines) }
 {
     let links = match read_relations(alloc, inputs, rel) {
         Ok(links) => links,
@@ -91,6 +92,7 @@ fn ask_origin<I: Inputs>(
         scenario,
         lines,
         heads: false,
+        counts: false,
     })
 }
 
@@ -103,9 +105,8 @@ fn ask_script<I: Inputs>(
     script: Option<&str>,
     inputs: &mut I,
 ) -> Result<Asked, Stop>
-    ensures task { Prepares (I.holds inputs.old) (I.is_sound inputs.old) (Rose (I.faults inputs.old) (I.faults inputs.new))
+    ensures { Prepares (I.holds inputs.old) (I.is_sound inputs.old) (Rose (I.faults inputs.old) (I.faults inputs.new))
         (Some (script_form rel.now (text_seen vrps.entry) (text_seen scenario.entry) (text_seen script.entry))) task_seen result }
-    ensures ask { IfOk result (λ asked. AreQueries asked.lines) }
 {
     let links = match read_relations(alloc, inputs, rel) {
         Ok(links) => links,
@@ -126,9 +127,38 @@ fn ask_script<I: Inputs>(
             scenario,
             lines,
             heads: true,
+            counts: false,
         }),
         Err(stop) => Err(stop),
     }
+}
+
+// The generated input of so many ASes. It reads no file.
+fn ask_demo<I: Inputs>(alloc: Global, size: u32, _inputs: &mut I) -> Result<Asked, Stop>
+    requires least { 4 ≤ size }
+    requires most { size ≤ 20000 }
+    ensures { Prepares (I.holds _inputs.old) (I.is_sound _inputs.old) (Rose (I.faults _inputs.old) (I.faults _inputs.new))
+        (Some (demo_form size)) task_seen result }
+{
+    let Ok(
+        Demo {
+            links,
+            vrps,
+            scenario,
+            lines,
+        },
+    ) = generate(alloc, size)
+    else {
+        return Err(Stop::Memory);
+    };
+    Ok(Asked {
+        links,
+        vrps,
+        scenario,
+        lines,
+        heads: true,
+        counts: true,
+    })
 }
 
 /// Reads the files that the form names. The first fault is answered, in this order: the form, the
@@ -139,9 +169,9 @@ pub fn ask<I: Inputs>(
     form: &Option<WordForm<'_>>,
     inputs: &mut I,
 ) -> Result<Asked, Stop>
-    ensures task { Prepares (I.holds inputs.old) (I.is_sound inputs.old) (Rose (I.faults inputs.old) (I.faults inputs.new))
+    requires sized { HasSize (option_map form_seen form.now) }
+    ensures { Prepares (I.holds inputs.old) (I.is_sound inputs.old) (Rose (I.faults inputs.old) (I.faults inputs.new))
         (option_map form_seen form.now) task_seen result }
-    ensures ask { IfOk result (λ asked. AreQueries asked.lines) }
 {
     let Some(form) = form else {
         return Err(Stop::Fault(Fault::Usage));
@@ -154,5 +184,6 @@ pub fn ask<I: Inputs>(
             scenario,
             script,
         } => ask_script(alloc, rel, *vrps, *scenario, *script, inputs),
+        WordForm::Demo { size } => ask_demo(alloc, *size, inputs),
     }
 }

@@ -1,8 +1,8 @@
 //! The files of a run: each is read to its end, or to one byte past its limit, before it is judged.
 ghost use Rattle.std.specs.Prelude.{◌≡◌, ◌<◌, length};
 ghost use Rattle.io_edge.specs.Faults.{Rose, KeepsNames};
-ghost use Rattle.asprop.specs.Task.{bytes_of, first_edit as first_edit_in, is_query as asks_query, most_bytes, payloads_by, relations, scenario_by, script_lines, without_edits as lines_without_edits};
-ghost use Rattle.asprop.specs.Files.{Finds, ReadsAs, ReadsTo};
+ghost use Rattle.asprop.specs.Task.{bytes_of, most_bytes, payloads_by, relations, scenario_by, script_lines};
+ghost use Rattle.asprop.specs.Files.{ReadsAs, ReadsTo};
 ghost use Rattle.asprop.specs.Words.{text_seen};
 
 use crate::stops::{payload_stop, relation_stop, scenario_stop, script_stop};
@@ -11,7 +11,7 @@ use caida_reader::Reader;
 use io_edge::{Failed, Inputs, ReadAllError, read_all};
 use net_names::Links;
 use roa_table::Vrps;
-use scenario_text::{Act, Line, Lines, Scenario, ScriptError, read_scenario, read_script};
+use scenario_text::{Lines, Scenario, read_scenario, read_script};
 use std::alloc::Global;
 
 // The most bytes of a relationship file.
@@ -145,38 +145,6 @@ pub fn read_plan<I: Inputs>(
     }
 }
 
-// Whether a line asks a question.
-fn is_query(act: &Act) -> bool
-    ensures { result ≡ asks_query act.now }
-{
-    match act {
-        Act::Query(_) => true,
-        Act::Edit(_) => false,
-    }
-}
-
-// The number of the first line that asks for an edit, if there is one.
-fn first_edit(lines: &[Line]) -> Option<u32>
-    ensures { result ≡ first_edit_in lines.now }
-{
-    for line in lines {
-        if !is_query(&line.act) {
-            return Some(line.number);
-        }
-    }
-    None
-}
-
-// The lines, if none asks for an edit.
-fn without_edits(lines: Lines) -> Result<Lines, Stop>
-    ensures { Finds (λ lines. lines) result (lines_without_edits lines) }
-{
-    match first_edit(lines.as_slice()) {
-        Some(line) => Err(Stop::Fault(Fault::Script(ScriptError::Unreadable { line }))),
-        None => Ok(lines),
-    }
-}
-
 /// Reads the lines of the script of this name; without a name there are none.
 pub fn read_lines<I: Inputs>(
     alloc: Global,
@@ -195,7 +163,7 @@ pub fn read_lines<I: Inputs>(
         Err(stop) => return Err(stop),
     };
     match read_script(alloc, &bytes) {
-        Ok(lines) => without_edits(lines),
+        Ok(lines) => Ok(lines),
         Err(error) => Err(script_stop(error)),
     }
 }

@@ -3,9 +3,9 @@ ghost use Rattle.std.specs.Prelude.{map, option_map, string_bytes};
 ghost use Rattle.io_edge.specs.Faults.{Rose};
 ghost use Rattle.asprop.specs.Ran.{Ran, Worked};
 ghost use Rattle.asprop.specs.Statuses.{IsComplete, ReadFaultRow, RunsAsTold, UsageRow, WriteFaultRow};
-ghost use Rattle.asprop.specs.Words.{form_seen};
+ghost use Rattle.asprop.specs.Words.{HasSize, form_seen};
 
-use crate::answers::answer_all;
+use crate::answers::write_answers;
 use crate::asking::{Asked, ask};
 use crate::explain::explain;
 use crate::types::{Fault, Status, Stop};
@@ -21,6 +21,7 @@ fn work<I: Inputs, O: Sink>(
     inputs: &mut I,
     out: &mut O,
 ) -> Result<bool, Stop>
+    requires sized { HasSize (option_map form_seen form.now) }
     ensures { Worked (I.holds inputs.old) (I.is_sound inputs.old) (Rose (I.faults inputs.old) (I.faults inputs.new)) (option_map form_seen form.now) result
         (O.written out.old) (O.written out.new) (Rose (O.faults out.old) (O.faults out.new)) }
 {
@@ -30,12 +31,13 @@ fn work<I: Inputs, O: Sink>(
         scenario,
         lines,
         heads,
+        counts,
     } = match ask(alloc, form, inputs) {
         Ok(asked) => asked,
         Err(stop) => return Err(stop),
     };
     match Sim::load(alloc, links, vrps, scenario) {
-        Ok(sim) => answer_all(alloc, &sim, heads, lines.as_slice(), out),
+        Ok(mut sim) => write_answers(alloc, &mut sim, counts, heads, lines.as_slice(), out),
         Err(LoadError::Memory) => Err(Stop::Memory),
         Err(LoadError::TooManyAses) => Err(Stop::Fault(Fault::TooManyAses)),
         Err(LoadError::ProviderCycle(cycle)) => Err(Stop::Cycle(cycle)),

@@ -8,7 +8,9 @@ use std::alloc::{AllocError, Global};
 use std::process::Abort;
 use std::test::Fail;
 
+mod edits;
 mod forwarding;
+mod generated;
 mod origins;
 mod payloads;
 mod readme;

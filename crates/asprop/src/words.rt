@@ -1,11 +1,11 @@
 //! The words of the command line.
-ghost use Rattle.std.specs.Prelude.{◌≡◌, IfOk, map, option_map, string_bytes};
-ghost use Rattle.asprop.specs.Words.{also, asked_by, form_by, form_of, form_seen, jobs_seen, name_of, text_seen};
+ghost use Rattle.std.specs.Prelude.{◌≡◌, ◌≤◌, IfOk, IfSome, map, option_map, string_bytes};
+ghost use Rattle.asprop.specs.Words.{HasSize, also, asked_by, form_by, form_of, form_seen, jobs_seen, name_of, size_of, text_seen};
 
 use crate::command::new_command;
 use crate::types::File;
 use clap::error::ErrorKind;
-use net_names::{Asn, NoMemory, read_asn};
+use net_names::{Asn, NoMemory, number, read_asn};
 use std::alloc::Global;
 
 #[cfg(test)]
@@ -32,6 +32,11 @@ pub enum WordForm<'a> {
         /// The AS that announces.
         origin: Asn,
     },
+    /// `asprop --demo N`.
+    Demo {
+        /// How many ASes the generated input has, from 4 to 20,000.
+        size: u32,
+    },
 }
 
 impl<'a> WordForm<'a> {
@@ -46,6 +51,7 @@ impl<'a> WordForm<'a> {
             (WordForm::Script { script, .. }, File::Script) => *script,
             (WordForm::Origin { rel, .. }, File::Relations) => Some(rel),
             (WordForm::Origin { .. }, _) => None,
+            (WordForm::Demo { .. }, _) => None,
         }
     }
 }
@@ -95,6 +101,20 @@ fn asked_by<'a>(script: Option<&'a str>, origin: Option<&'a str>, demo: Option<&
     also(Job::Demo, demo, jobs)
 }
 
+// The size of a generated input.
+#[tactic(auto, unfolding(crate::specs::Words::size_of))]
+fn size(text: &[u8]) -> Option<u32>
+    ensures value { result ≡ size_of text.now }
+    ensures range { IfSome result (λ n. (4 ≤ n) × (n ≤ 20000)) }
+{
+    let n = number(text, 10, 5)?;
+    if n >= 4 && n <= 20_000 {
+        Some(n as u32)
+    } else {
+        None
+    }
+}
+
 // The table of the forms.
 fn form_by<'a>(
     rel: Option<&'a str>,
@@ -102,7 +122,8 @@ fn form_by<'a>(
     scenario: Option<&'a str>,
     jobs: Jobs<'a>,
 ) -> Option<WordForm<'a>>
-    ensures { option_map form_seen result ≡ form_by (text_seen rel.entry) (text_seen vrps.entry) (text_seen scenario.entry) (jobs_seen jobs.entry) }
+    ensures form { option_map form_seen result ≡ form_by (text_seen rel.entry) (text_seen vrps.entry) (text_seen scenario.entry) (jobs_seen jobs.entry) }
+    ensures sized { HasSize (option_map form_seen result) }
 {
     match (rel, vrps, scenario, jobs) {
         (Some(rel), vrps, scenario, Jobs::Nothing) => Some(WordForm::Script {
@@ -123,13 +144,18 @@ fn form_by<'a>(
                 None => None,
             }
         }
+        (None, None, None, Jobs::Only(Job::Demo, number)) => match size(number.as_bytes()) {
+            Some(size) => Some(WordForm::Demo { size }),
+            None => None,
+        },
         _ => None,
     }
 }
 
 /// The form of the words, the program's name first; `None` exactly where the command doesn't take them or they have no form.
 pub fn read_words<'a>(alloc: Global, words: &'a [String]) -> Result<Option<WordForm<'a>>, NoMemory>
-    ensures { IfOk result (λ form. option_map form_seen form ≡ form_of (map string_bytes words.now)) }
+    ensures form { IfOk result (λ form. option_map form_seen form ≡ form_of (map string_bytes words.now)) }
+    ensures sized { IfOk result (λ form. HasSize (option_map form_seen form)) }
 {
     let command = match new_command(alloc) {
         Ok(command) => command,

@@ -6,3 +6,11 @@ pub mod Within
 pub mod Loads
 pub mod Hops
 pub mod Watches
+pub mod Listing
+pub mod Counts
+pub mod Remade
+pub mod CycleLemmas
+pub mod LinkEdits
+pub mod PolicyEdits
+pub mod Given
+pub mod PayloadEdits

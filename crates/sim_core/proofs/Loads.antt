@@ -20,12 +20,12 @@ use Rattle.stability_laws.specs.World.{setting}
 use Rattle.leak_round.specs.declared.rounds.Rounds.{Rounds}
 use Rattle.leak_round.specs.Rounds.{kept, plan_of as plan_kept, round_count}
 use Rattle.scenario_text.specs.Scenarios.{ScenarioValue}
-use Rattle.sim_core.specs.World.{setting_of, topology}
+use Rattle.sim_core.specs.World.{graph_of, setting_of, topology}
 use Rattle.sim_core.specs.Families.{Family, IsOneFamily}
 use Rattle.sim_core.specs.Loaded.{kinds_of, names_in, plan_of, world_of}
 use Rattle.sim_core.specs.Loading.{IsCycleRefusal, IsLoadRefusal}
 use Rattle.sim_core.specs.Marking.{IsMarksRefusal, marked}
-use Rattle.sim_core.specs.Parts.{AreRoundsOf, world_by}
+use Rattle.sim_core.specs.Parts.{AreRoundsOf, IsNamed, world_by}
 use Rattle.sim_core.specs.declared.errors.LoadError.{LoadError}
 use Rattle.sim_core.specs.declared.errors.LoadError.TheVariants as load_error
 use Rattle.sim_core.proofs.Topologies.{links-marked, marked_are}
@@ -54,8 +54,8 @@ module _ (links : LinkMap) (payloads : Payloads) (s : ScenarioValue) (graph : To
       let same : graph.links ≡ links = ap (λ (g : Topology). g.links) is ∙ links-marked (unmarked links) (names_in s) in
       λ i. record { links = same i; payloads = payloads; kinds = named i; plan = planned i; rounds = counted i; watched = set.from_list (watching i) }
 
-  pub graph_is : graph ≡ topology (world_by graph payloads book rounds watched)
-  graph_is = is ∙ sym (topology-world_of links payloads s) ∙ ap topology (sym world_is)
+  pub marks_are : IsNamed graph book rounds
+  marks_are = ap (λ (g : Topology). graph_of graph.links g.marked) (is ∙ sym (topology-world_of links payloads s) ∙ ap topology (sym world_is))
 
 -- the settings, the plan and the number of rounds of which the routings are the only ones
 abbrev Ground : Type 0
@@ -67,21 +67,27 @@ AreOnly g t =
     × ((other : Family) → AreRounds t.0 t.1.0 t.1.1 other → (before : ℕ) (prefix : PrefixValue) → before < t.1.1 → IsTrue (has_prefix t.1.0 prefix) → (a : ℕ) → other (suc before) prefix a ≡ g (suc before) prefix a)
 
 -- the tables that were built are those of the payloads and the scenario
-pub are_rounds : (graph : Topology) (payloads : Payloads) (book : PolicyBook Kind) (s : ScenarioValue) (rounds : Rounds) (known : Payloads) (plan : Plan) (count : ℕ) → known ≡ payloads → plan ≡ plan_of s → count ≡ length s.leaks + 1
-    → plan_kept rounds ≡ plan → round_count rounds ≡ count → AreOnly (kept rounds) ((λ p. setting kind_policy graph book (state_of known p)), (plan, count)) → AreRoundsOf graph payloads book s rounds
-are_rounds graph payloads book s rounds known plan count same planned counted kept_plan kept_count only =
-    let ground : ◌≡◌ {A = Ground} ((λ p. setting kind_policy graph book (state_of known p)), (plan, count)) ((λ p. setting kind_policy graph book (state_of payloads p)), (plan_of s, length s.leaks + 1)) =
+pub are_rounds : (graph : Topology) (payloads : Payloads) (book : PolicyBook Kind) (meant : Plan) (wanted : ℕ) (rounds : Rounds) (known : Payloads) (plan : Plan) (count : ℕ) → known ≡ payloads → plan ≡ meant → count ≡ wanted
+    → plan_kept rounds ≡ plan → round_count rounds ≡ count → AreOnly (kept rounds) ((λ p. setting kind_policy graph book (state_of known p)), (plan, count)) → AreRoundsOf graph payloads book meant wanted rounds
+are_rounds graph payloads book meant wanted rounds known plan count same planned counted kept_plan kept_count only =
+    let ground : ◌≡◌ {A = Ground} ((λ p. setting kind_policy graph book (state_of known p)), (plan, count)) ((λ p. setting kind_policy graph book (state_of payloads p)), (meant, wanted)) =
     λ i. ((λ p. setting kind_policy graph book (state_of (same i) p)), (planned i, counted i)) in
-    let both : AreOnly (kept rounds) ((λ p. setting kind_policy graph book (state_of payloads p)), (plan_of s, length s.leaks + 1)) = subst (AreOnly (kept rounds)) ground only in
-    record { plan = kept_plan ∙ planned; count = kept_count ∙ counted; stable = both.0; only = both.1 }
+    let both : AreOnly (kept rounds) ((λ p. setting kind_policy graph book (state_of payloads p)), (meant, wanted)) = subst (AreOnly (kept rounds)) ground only in
+    record { plan_is = kept_plan ∙ planned; count_is = kept_count ∙ counted; stable = both.0; only = both.1 }
+
+-- so are they in the rounds' own words
+pub stable_rounds : (graph : Topology) (payloads : Payloads) (book : PolicyBook Kind) (plan : Plan) (count : ℕ) (rounds : Rounds) → AreRoundsOf graph payloads book plan count rounds
+    → AreRounds (λ p. setting kind_policy graph book (state_of payloads p)) (plan_kept rounds) (round_count rounds) (kept rounds)
+stable_rounds graph payloads book plan count rounds are =
+    subst (λ (t : Plan × ℕ). AreRounds (λ p. setting kind_policy graph book (state_of payloads p)) t.0 t.1 (kept rounds)) (λ i. (sym are.plan_is i, sym are.count_is i)) are.stable
 
 -- the routings that are kept are the only ones of the world
-pub only_ones : (graph : Topology) (payloads : Payloads) (book : PolicyBook Kind) (s : ScenarioValue) (rounds : Rounds) (watched : List AddrValue) → graph ≡ topology (world_by graph payloads book rounds watched) → book.rest ≡ Plain → AreRoundsOf graph payloads book s rounds
+pub only_ones : (graph : Topology) (payloads : Payloads) (book : PolicyBook Kind) (plan : Plan) (count : ℕ) (rounds : Rounds) (watched : List AddrValue) → IsNamed graph book rounds → book.rest ≡ Plain → AreRoundsOf graph payloads book plan count rounds
     → IsOneFamily (world_by graph payloads book rounds watched) (kept rounds)
-only_ones graph payloads book s rounds watched is rest are =
+only_ones graph payloads book plan count rounds watched is rest are =
     let settings : (λ (p : PrefixValue). setting kind_policy graph book (state_of payloads p)) ≡ setting_of (world_by graph payloads book rounds watched) =
-    λ i p. record { has = has (is i); what = what (is i); policy = λ a. kind_policy (unwrap_or (fin.get book.named a) (rest i)); state = state_of payloads p } in
-    let ground : ◌≡◌ {A = Ground} ((λ p. setting kind_policy graph book (state_of payloads p)), (plan_of s, length s.leaks + 1)) (setting_of (world_by graph payloads book rounds watched), (plan_kept rounds, round_count rounds)) =
-    λ i. (settings i, (sym are.plan i, sym are.count i)) in
+    λ i p. record { has = has (is i); what = what graph; policy = λ a. kind_policy (unwrap_or (fin.get book.named a) (rest i)); state = state_of payloads p } in
+    let ground : ◌≡◌ {A = Ground} ((λ p. setting kind_policy graph book (state_of payloads p)), (plan, count)) (setting_of (world_by graph payloads book rounds watched), (plan_kept rounds, round_count rounds)) =
+    λ i. (settings i, (sym are.plan_is i, sym are.count_is i)) in
     let both : AreOnly (kept rounds) (setting_of (world_by graph payloads book rounds watched), (plan_kept rounds, round_count rounds)) = subst (AreOnly (kept rounds)) ground (are.stable, are.only) in
     record { is = both.0; only = both.1 }

@@ -66,7 +66,7 @@ few_by true n few new = few
 few_by false n few new = omega (arith, new refl)
 
 -- after a mark that was made there are at most 150,000 ASes
-pub few_marked : (g made : Topology) (a : ℕ) → made ≡ with_mark g a → (has g a ≡ false → as_count g < 150000) → as_count g ≤ 150000 → as_count made ≤ 150000
+pub few_marked : (g made : Topology) (a : ℕ) → as_count made ≡ as_count (with_mark g a) → (has g a ≡ false → as_count g < 150000) → as_count g ≤ 150000 → as_count made ≤ 150000
 few_marked g made a is new few = rw (is, as_count-with_mark g a) (few_by (has g a) (as_count g) few new)
 
 -- more ends than that are too many ASes, with the marks too

@@ -17,6 +17,7 @@ use Rattle.net_names.specs.Links.{pair_cmp}
 use Rattle.net_names.specs.Prefixes.{PrefixValue}
 use Rattle.net_names.proofs.Pairs.{pairs_total}
 use Rattle.policy_kinds.specs.declared.kind.Kind.{Kind}
+use Rattle.policy_kinds.specs.declared.kind.Kind.TheVariants.{Plain}
 use Rattle.stability_laws.specs.Plans.{Plan, announcement_cmp, announcer_of, announces, with_announcement, with_leaker}
 use Rattle.stability_laws.proofs.PlanOrders.{exact_prefix, prefixes_total, exact_announcement, announcements_total}
 use Rattle.scenario_text.specs.Scenarios.{ScenarioValue, IsScenario, StartsWith, name_of}
@@ -138,6 +139,28 @@ named_too before p old new others is so made =
     made ∙ ap (λ (m : fin.FinMap nat_cmp Kind). fin.insert m p.0 p.1) so
     ∙ sym (fin.from_entries_push nat_cmp_total fin.nat_cmp-IsAntisymmetric (filter is_other before) p.0 p.1 (unfound_kept fin.nat_cmp-IsAntisymmetric is_other p.0 before others))
     ∙ ap (λ es. fin.from_entries {R = nat_cmp} es) (sym (filter_push is_other before p ∙ ap (λ b. filter is_other before ++ cond b (p ∷ []) []) is))
+
+-- what is found is the first one or one of the others
+plain_first : (a : ℕ) (p : ℕ × Kind) (es : List (ℕ × Kind)) → find nat_cmp a es ≢ Some Plain → (b : Bool) → is_other p ≡ true → cond b (Some p.1) (find nat_cmp a es) ≢ Some Plain
+plain_first a p es none true so found =
+    let same : p.1 ≡ Plain = cc in
+    let other : is_other (p.0, Plain) ≡ true = subst (λ (k : Kind). is_other (p.0, k) ≡ true) same so in
+    cc
+plain_first a p es none false so found = none found
+
+first_unfound : (a : ℕ) (p : ℕ × Kind) (policies : List (ℕ × Kind)) → find nat_cmp a (filter is_other policies) ≢ Some Plain → (b : Bool) → is_other p ≡ b → find nat_cmp a (cond b (p ∷ filter is_other policies) (filter is_other policies)) ≢ Some Plain
+first_unfound a p policies none true so found = plain_first a p (filter is_other policies) none (eq_by_cmp nat_cmp a p.0) so found
+first_unfound a p policies none false so found = none found
+
+-- whom the plain policy names is not found
+plain_unfound : (a : ℕ) (policies : List (ℕ × Kind)) → find nat_cmp a (filter is_other policies) ≢ Some Plain
+plain_unfound a [] is = cc
+plain_unfound a (p ∷ policies) is = first_unfound a p policies (plain_unfound a policies) (is_other p) refl is
+
+-- no AS is named with the plain policy
+pub kinds_are_other : (policies : List (ℕ × Kind)) (named : fin.FinMap nat_cmp Kind) → named ≡ kinds_of policies → (a : ℕ) → fin.get named a ≢ Some Plain
+kinds_are_other policies named is a found =
+    plain_unfound a policies (sym (fin.get-from_entries nat_cmp_total (filter is_other policies) a) ∙ ap (λ (m : fin.FinMap nat_cmp Kind). fin.get m a) (sym is) ∙ found)
 
 -- the plain policy names nobody
 pub unnamed : (before : List (ℕ × Kind)) (p : ℕ × Kind) → is_other p ≡ false → kinds_of before ≡ kinds_of (before ++ p ∷ [])

@@ -34,8 +34,8 @@ use Rattle.leak_round.specs.Rounds.{kept as kept_rounds, plan_of, round_count}
 use Rattle.sim_core.specs.declared.watching.RoundWatches.{RoundWatches}
 use Rattle.sim_core.specs.Watching.{AreRoundWatches, AreWatches, HasWatches, IsPlaceOrNone, place_in, rows_in, watch_at}
 use Rattle.sim_core.specs.Kept.{AreWatchRows}
-use Rattle.sim_core.specs.Parts.{world_by}
-use Rattle.sim_core.specs.World.{topology}
+use Rattle.sim_core.specs.Parts.{IsNamed, world_by}
+use Rattle.sim_core.specs.World.{graph_of}
 
 -- ---- lists
 
@@ -127,7 +127,7 @@ both true true h = (refl, refl)
 both true false h = cc
 both false b h = cc
 
-module _ (graph : Topology) (payloads : Payloads) (book : PolicyBook Kind) (rounds : Rounds) (addrs : List AddrValue) (all : List RoundWatches) (is : graph ≡ topology (world_by graph payloads book rounds addrs)) (rest : book.rest ≡ Plain) where
+module _ (graph : Topology) (payloads : Payloads) (book : PolicyBook Kind) (rounds : Rounds) (addrs : List AddrValue) (all : List RoundWatches) (is : IsNamed graph book rounds) (rest : book.rest ≡ Plain) where
   -- the rows that are kept are those of the watched addresses
   pub rows_right : AreRoundWatches graph (plan_of rounds) (kept_rounds rounds) book addrs (round_count rounds) all → AreWatchRows (world_by graph payloads book rounds addrs) (kept_rounds rounds) (λ round addr. rows_in (watch_at all addrs round addr))
   rows_right are round addr there watched =
@@ -140,7 +140,8 @@ module _ (graph : Topology) (payloads : Payloads) (book : PolicyBook Kind) (roun
       let rows : AreRows graph (next_hop (plan_of rounds) (kept_rounds rounds (suc (round - 1))) addr) (λ a. label (policy_at book a)) (rows_of f.watch) = (are.each (round - 1) f.one f.in_round).rows (place_in addrs addr) addr f.watch (stands addrs addr less) f.here in
       let now : AreRows graph (next_hop (plan_of rounds) (kept_rounds rounds round) addr) (λ a. label (policy_at book a)) (rows_of f.watch) = subst (λ r. AreRows graph (next_hop (plan_of rounds) (kept_rounds rounds r) addr) (λ a. label (policy_at book a)) (rows_of f.watch)) before rows in
       let kinds : (λ (a : ℕ). label (policy_at book a)) ≡ (λ a. label (unwrap_or (fin.get book.named a) Plain)) = λ i a. label (unwrap_or (fin.get book.named a) (rest i)) in
-      rw f.is (subst (λ (t : Topology × (ℕ → ℕ)). AreRows t.0 (next_hop (plan_of rounds) (kept_rounds rounds round) addr) t.1 (rows_of f.watch)) (λ i. (is i, kinds i)) now)
+      let plainly : AreRows (graph_of graph.links graph.marked) (next_hop (plan_of rounds) (kept_rounds rounds round) addr) (λ a. label (policy_at book a)) (rows_of f.watch) = record { listed = now.listed; apart = now.apart; right = now.right } in
+      rw f.is (subst (λ (t : Topology × (ℕ → ℕ)). AreRows t.0 (next_hop (plan_of rounds) (kept_rounds rounds round) addr) t.1 (rows_of f.watch)) (λ i. (is i, kinds i)) plainly)
 
 -- one watch more
 pub one_watch_more : (g : Topology) (plan : Plan) (held : PrefixValue → ℕ → Option Entry) (book : PolicyBook Kind) (addrs : List AddrValue) (watches : List Watch) (addr : AddrValue) (watch : Watch) → AreWatches g plan held book addrs watches

@@ -4,7 +4,11 @@ pub mod Families
 pub mod Kept
 pub mod Loaded
 pub mod Loading
+pub mod Counting
+pub mod Edits
 pub mod Answers
 pub mod Watching
 pub mod Parts
+pub mod Remaking
 pub mod Sims
+pub mod Editing

@@ -8,9 +8,8 @@ use Rattle.policy_kinds.specs.declared.kind.Kind.{Kind}
 use Rattle.policy_kinds.specs.Kinds.{kind_policy}
 use Rattle.roa_table.specs.Sets.{Payloads}
 use Rattle.origin_validation.specs.Judging.{state_of}
-use Rattle.scenario_text.specs.Scenarios.{ScenarioValue}
 use Rattle.stability_laws.specs.Book.{PolicyBook}
-use Rattle.stability_laws.specs.Plans.{has_prefix}
+use Rattle.stability_laws.specs.Plans.{Plan, has_prefix}
 use Rattle.stability_laws.specs.Rounds.{AreRounds}
 use Rattle.stability_laws.specs.World.{setting}
 use Rattle.route_choice.specs.declared.table.Table.{Table}
@@ -20,10 +19,9 @@ use Rattle.route_choice.specs.RoundTables.{AreAllLive, round_routing}
 use Rattle.route_choice.specs.declared.round_tables.RoundTables.{RoundTables}
 use Rattle.leak_round.specs.declared.rounds.Rounds.{Rounds}
 use Rattle.leak_round.specs.Rounds.{kept as kept_rounds, plan_of, pool_of, round_count}
-use Rattle.sim_core.specs.World.{World, has_round, has_prefix as has_world_prefix}
+use Rattle.sim_core.specs.World.{World, graph_of, named, has_round, has_prefix as has_world_prefix}
 use Rattle.sim_core.specs.Answers.{unless}
 use Rattle.sim_core.specs.Families.{Family}
-use Rattle.sim_core.specs.Loaded.{plan_of as plan_in}
 use Rattle.sim_core.specs.declared.errors.QueryError.{QueryError}
 use Rattle.sim_core.specs.declared.errors.QueryError.TheVariants as refused
 
@@ -31,12 +29,16 @@ use Rattle.sim_core.specs.declared.errors.QueryError.TheVariants as refused
 abbrev pub world_by : Topology → Payloads → PolicyBook Kind → Rounds → List AddrValue → World
 world_by graph payloads book rounds watched = record { links = graph.links; payloads = payloads; kinds = book.named; plan = plan_of rounds; rounds = round_count rounds; watched = set.from_list watched }
 
--- the tables are the stable routings of the rounds of a graph, payloads, policies and a scenario, and there are no others (Gao and Rexford 2001; RFC 7908, section 3)
-pub record AreRoundsOf (graph : Topology) (payloads : Payloads) (book : PolicyBook Kind) (s : ScenarioValue) (rounds : Rounds) : Type 0 where
-  pub plan : plan_of rounds ≡ plan_in s
-  pub count : round_count rounds ≡ length s.leaks + 1
-  pub stable : AreRounds (λ p. setting kind_policy graph book (state_of payloads p)) (plan_in s) (length s.leaks + 1) (kept_rounds rounds)
-  pub only : (other : Family) → AreRounds (λ p. setting kind_policy graph book (state_of payloads p)) (plan_in s) (length s.leaks + 1) other → (before : ℕ) (prefix : PrefixValue) → before < length s.leaks + 1 → IsTrue (has_prefix (plan_in s) prefix) → (a : ℕ) → other (suc before) prefix a ≡ kept_rounds rounds (suc before) prefix a
+-- the marks of the graph are the ASes that an announcement, a leak or a policy names (own rule)
+abbrev pub IsNamed : Topology → PolicyBook Kind → Rounds → Type 0
+IsNamed graph book rounds = graph_of graph.links graph.marked ≡ graph_of graph.links (set.from_list (named (plan_of rounds) book.named))
+
+-- the tables are the stable routings of so many rounds of a graph, payloads, policies and a plan, and there are no others (Gao and Rexford 2001; RFC 7908, section 3)
+pub record AreRoundsOf (graph : Topology) (payloads : Payloads) (book : PolicyBook Kind) (plan : Plan) (count : ℕ) (rounds : Rounds) : Type 0 where
+  pub plan_is : plan_of rounds ≡ plan
+  pub count_is : round_count rounds ≡ count
+  pub stable : AreRounds (λ p. setting kind_policy graph book (state_of payloads p)) plan count (kept_rounds rounds)
+  pub only : (other : Family) → AreRounds (λ p. setting kind_policy graph book (state_of payloads p)) plan count other → (before : ℕ) (prefix : PrefixValue) → before < count → IsTrue (has_prefix plan prefix) → (a : ℕ) → other (suc before) prefix a ≡ kept_rounds rounds (suc before) prefix a
 
 -- the table is that of a round and a prefix that are there, and the paths of its entries can be read (own rule)
 pub record IsTableOf (w : World) (rounds : Rounds) (round : ℕ) (prefix : PrefixValue) (table : Table) : Type 0 where

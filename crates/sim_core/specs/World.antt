@@ -29,9 +29,17 @@ pub record World : Type 0 where
 abbrev pub leakers : Plan → List ℕ
 leakers plan = map (λ e. e.1) (fin.keys plan.leakers)
 
--- the graph of a world: its links, and the ASes that an announcement, a leak or a policy names, which are there without a link too; it has no room (own rule)
+-- the ASes that an announcement, a leak or a policy names, some twice (own rule)
+abbrev pub named : Plan → fin.FinMap nat_cmp Kind → List ℕ
+named plan kinds = announcers_of plan ++ (leakers plan ++ fin.keys kinds)
+
+-- the graph of these links and these marks; it has no room (own rule)
+abbrev pub graph_of : LinkMap → set.FinSet nat_cmp → Topology
+graph_of links marks = record { links = links; marked = marks; room = None }
+
+-- the graph of a world: its links, and the ASes that an announcement, a leak or a policy names, which are there without a link too (own rule)
 abbrev pub topology : World → Topology
-topology w = record { links = w.links; marked = set.from_list (announcers_of w.plan ++ (leakers w.plan ++ fin.keys w.kinds)); room = None }
+topology w = graph_of w.links (set.from_list (named w.plan w.kinds))
 
 -- an AS of the world (own rule)
 abbrev pub has_as : World → ℕ → Bool

@@ -1,6 +1,6 @@
-//! Why a world is not loaded, and why a query is refused.
+//! Why a world is not loaded, why an edit is refused, and why a query is.
 use cycle_check::Cycle;
-use net_names::{Addr, Asn, Prefix};
+use net_names::{Addr, Asn, Prefix, Vrp};
 use thiserror::Error;
 
 /// Why a world is not loaded.
@@ -13,6 +13,48 @@ pub enum LoadError {
     #[error("more than 150000 ASes")]
     TooManyAses,
     /// The links have this provider cycle.
+    #[error("provider cycle")]
+    ProviderCycle(Cycle),
+}
+
+/// A limit that an edited world would pass.
+#[derive(Clone, Copy, Debug, PartialEq, Eq)]
+pub enum EditLimit {
+    /// It would have more than 1,500,000 links.
+    Links,
+    /// It would have more than 150,000 ASes.
+    Ases,
+    /// It would have more than 2,000,000 payloads.
+    Vrps,
+}
+
+/// Why an edit is refused: the first reason in the order of the variants.
+#[derive(Debug, Drop, Error)]
+pub enum EditError {
+    /// Memory ran out.
+    #[error("out of memory")]
+    Memory,
+    /// The pair has no link.
+    #[error("absent link")]
+    AbsentLink {
+        /// The lower number.
+        lo: Asn,
+        /// The higher number.
+        hi: Asn,
+    },
+    /// The payload is not there.
+    #[error("absent payload")]
+    AbsentVrp {
+        /// The payload.
+        vrp: Vrp,
+    },
+    /// The edited world would pass a limit.
+    #[error("limit")]
+    Limit {
+        /// Which limit.
+        which: EditLimit,
+    },
+    /// The new link would close this provider cycle, which begins with the link's provider and customer.
     #[error("provider cycle")]
     ProviderCycle(Cycle),
 }

@@ -2,18 +2,28 @@
 //!
 //! [`Sim::load`] makes the world of links, validated payloads and a scenario, and keeps for each round and
 //! prefix the one and only stable routing, and for each round and watched address the end of every trace.
+//! [`Sim::edit`] changes the world, and says how many entries differ then, or refuses an edit and changes nothing.
 //! [`Sim::answer`] appends the answer to a query about it, or refuses a query that names a round, a prefix, an
 //! AS or a watched address that the world has not.
 #![tactic(auto)]
 
 mod answering;
+mod changing;
+mod counting;
+mod editing;
 mod errors;
+mod linking;
+mod links;
 mod loading;
 mod naming;
+mod payloads;
 mod planning;
+mod policies;
+mod remaking;
 mod sim;
 mod validating;
 mod watching;
 
-pub use errors::{LoadError, QueryError};
+pub use editing::Changed;
+pub use errors::{EditError, EditLimit, LoadError, QueryError};
 pub use sim::Sim;

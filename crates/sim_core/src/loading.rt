@@ -1,9 +1,9 @@
 //! Making a simulation.
-ghost use Rattle.std.specs.Prelude.{◌≡◌, ◌<◌, ◌≤◌, ℕ, IfOk, IfErr, OnOk};
+ghost use Rattle.std.specs.Prelude.{◌≡◌, ◌+◌, ◌<◌, ◌≤◌, ℕ, length, IfOk, IfErr, OnOk};
 ghost use Rattle.as_graph.specs.Topology.{as_count, what};
 ghost use Rattle.as_graph.specs.Hierarchy.{HasNoProviderCycle, IsRank};
 ghost use Rattle.rank_order.specs.Ranks.{rank_at};
-ghost use Rattle.sim_core.specs.Loaded.{world_of};
+ghost use Rattle.sim_core.specs.Loaded.{plan_of, world_of};
 ghost use Rattle.sim_core.specs.Loading.{IsCycleRefusal, IsLoadRefusal};
 ghost use Rattle.sim_core.specs.Parts.{AreRoundsOf};
 ghost use Rattle.sim_core.specs.Kept.{IsKept};
@@ -54,7 +54,7 @@ fn rounds_of<L: Ledger>(
     requires ledger { (blank.name ≡ L.name) × (blank.parts ≡ L.parts) × (0 < L.parts) }
     requires no_cycle { HasNoProviderCycle (what graph.now) }
     requires ranks { (a : ℕ) → IsRank (what graph.now) a (rank_at ranks.now a) }
-    ensures { IfOk result (λ rounds. AreRoundsOf graph.now vrps.now book.now scenario.now rounds) }
+    ensures { IfOk result (λ rounds. AreRoundsOf graph.now vrps.now book.now (plan_of scenario.now) (length scenario.now.leaks + 1) rounds) }
 {
     let states = known_states(alloc, vrps, scenario)?;
     let plan = seed_plan(alloc, scenario)?;
@@ -98,7 +98,8 @@ fn load_world<L: Ledger>(
     let Ok(rounds) = rounds_of::<L>(alloc, &graph, &ranks, &vrps, &book, scenario, blank) else {
         return Err(LoadError::Memory);
     };
-    match watch_rounds(alloc, &graph, &rounds, &book, scenario, &watched) {
+    let count = scenario.leak_lists() as u32 + 1;
+    match watch_rounds(alloc, &graph, &rounds, &book, &watched, count) {
         Ok(watches) => Ok(Sim {
             graph,
             ranks,

@@ -1,9 +1,11 @@
 //! A simulation.
-ghost use Rattle.std.specs.Prelude.{◌≡◌, length};
-ghost use Rattle.leak_round.specs.Rounds.{round_count};
-ghost use Rattle.sim_core.specs.Parts.{world_by};
+ghost use Rattle.std.specs.Prelude.{◌≡◌, ◌≢◌, ◌≤◌, ℕ, Some, length};
+ghost use Rattle.std.specs.FinMap as fin;
+ghost use Rattle.leak_round.specs.Limits.{IsWithinLimits};
+ghost use Rattle.leak_round.specs.Rounds.{plan_of, round_count};
+ghost use Rattle.policy_kinds.specs.declared.kind.Kind.TheVariants.{Plain};
+ghost use Rattle.sim_core.specs.Parts.{IsNamed};
 ghost use Rattle.sim_core.specs.Watching.{HasWatches};
-ghost use Rattle.sim_core.specs.World.{topology};
 
 use crate::watching::RoundWatches;
 use as_graph::Graph;
@@ -26,6 +28,10 @@ pub struct Sim {
     pub(crate) rounds: Rounds,
     pub(crate) watched: Vec<Addr>,
     pub(crate) watches: Vec<RoundWatches>,
-    ghost named: { graph ≡ topology (world_by graph vrps book rounds watched.items) },
+    ghost named: { IsNamed graph book rounds },
+    ghost plain: { book.rest ≡ Plain },
+    ghost other: { (a : ℕ) → fin.get book.named a ≢ Some Plain },
+    ghost small: { IsWithinLimits (plan_of rounds) },
+    ghost few: { round_count rounds ≤ 4 },
     ghost watching: { HasWatches (round_count rounds) (length watched.items) watches.items },
 }

@@ -3,7 +3,10 @@ ghost use Rattle.std.specs.Prelude.{◌≡◌, ◌≤◌, IfOk, position};
 ghost use Rattle.std.specs.Ordering.{eq_by_cmp};
 ghost use Rattle.leak_round.specs.Rounds.{kept as kept_rounds, plan_of, round_count};
 ghost use Rattle.roa_table.specs.Sets.{Payloads};
-ghost use Rattle.sim_core.specs.Parts.{AreRoundsOf};
+ghost use Rattle.policy_kinds.specs.Kinds.{kind_policy};
+ghost use Rattle.origin_validation.specs.Judging.{state_of};
+ghost use Rattle.stability_laws.specs.Rounds.{AreRounds};
+ghost use Rattle.stability_laws.specs.World.{setting};
 ghost use Rattle.sim_core.specs.Watching.{AreRoundWatches, AreWatches, GoesOnInside, IsPlaceOrNone};
 
 use as_graph::Graph;
@@ -71,21 +74,21 @@ fn watch_round(
     Ok(RoundWatches { watches })
 }
 
-/// The watches of all rounds of a scenario, for these addresses.
+/// The watches of all rounds, of which there are so many, for these addresses.
 pub fn watch_rounds(
     alloc: Global,
     graph: &Graph,
     rounds: &Rounds,
     book: &Book<Kind>,
-    scenario: &Scenario,
     addrs: &[Addr],
+    count: u32,
 ) -> Result<Vec<RoundWatches>, NoMemory>
-    requires { (payloads : Payloads) × AreRoundsOf graph.now payloads book.now scenario.now rounds.now }
+    requires count { count ≡ round_count rounds.now }
+    requires stable { (payloads : Payloads) × AreRounds (λ p. setting kind_policy graph.now book.now (state_of payloads p)) (plan_of rounds.now) (round_count rounds.now) (kept_rounds rounds.now) }
     ensures { IfOk result (λ all. AreRoundWatches graph.now (plan_of rounds.now) (kept_rounds rounds.now) book.now addrs.now (round_count rounds.now) all.items) }
 {
     paths_go_on::<Kind>();
     plans_are_sound(rounds.seed_plan());
-    let count = scenario.leak_lists() as u32 + 1;
     let mut all = Vec::new(alloc);
     for past in 0..count {
         let one = watch_round(alloc, graph, rounds, book, addrs, past + 1)?;

@@ -10,7 +10,7 @@ struct Worded {
     form: &'static str,
 }
 
-const WORDED: [Worded; 35] = [
+const WORDED: [Worded; 42] = [
     Worded {
         words: &["asprop", "rel"],
         form: r#"script "rel" None None None"#,
@@ -153,6 +153,34 @@ const WORDED: [Worded; 35] = [
     },
     Worded {
         words: &["asprop", "--demo", "4"],
+        form: "demo 4",
+    },
+    Worded {
+        words: &["asprop", "--demo=20000"],
+        form: "demo 20000",
+    },
+    Worded {
+        words: &["asprop", "--demo", "00007"],
+        form: "demo 7",
+    },
+    Worded {
+        words: &["asprop", "--demo", "000007"],
+        form: "usage",
+    },
+    Worded {
+        words: &["asprop", "--demo", "3"],
+        form: "usage",
+    },
+    Worded {
+        words: &["asprop", "--demo", "20001"],
+        form: "usage",
+    },
+    Worded {
+        words: &["asprop", "--demo", "4", "--script", "cmds"],
+        form: "usage",
+    },
+    Worded {
+        words: &["asprop", "--demo", "4", "--origin", "4"],
         form: "usage",
     },
     Worded {
@@ -176,6 +204,7 @@ fn form_text(alloc: Global, form: &Option<WordForm<'_>>) -> Result<String, Alloc
             let number = origin.get();
             format!(in alloc; "origin {rel:?} {number}")
         }
+        Some(WordForm::Demo { size }) => format!(in alloc; "demo {size}"),
         None => String::from_str(alloc, "usage"),
     }
 }

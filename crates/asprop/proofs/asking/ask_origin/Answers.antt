@@ -4,14 +4,14 @@ use Rattle.asprop.specs.declared.types.Stop.TheVariants as stop
 use Rattle.asprop.proofs.Preparing.{origin_stopped, origin_found}
 use Rattle.asprop.proofs.asking.ask_origin.Goals as goal
 
-pub returns-in-Err-clause-task : goal.returns-in-Err-clause-task
-returns-in-Err-clause-task g c = origin_stopped _ _ (λ (links : LinkMap). links) c.in-Err.stop c.in-Err.ensures.found
+pub returns-in-Err : goal.returns-in-Err
+returns-in-Err g c = origin_stopped _ _ (λ (links : LinkMap). links) c.in-Err.stop c.in-Err.ensures.found
 
-pub returns-in_default-clause-task : goal.returns-in_default-clause-task
-returns-in_default-clause-task g c = origin_found _ _ (λ (links : LinkMap). links) c.in-Ok.links (Err stop.Memory) c.in-Ok.ensures.found tt
+pub returns-in_default : goal.returns-in_default
+returns-in_default g c = origin_found _ _ (λ (links : LinkMap). links) c.in-Ok.links (Err stop.Memory) c.in-Ok.ensures.found tt
 
-pub returns-in_default-origin_lines-clause-task : goal.returns-in_default-origin_lines-clause-task
-returns-in_default-origin_lines-clause-task g c = origin_found _ _ (λ (links : LinkMap). links) c.in-Ok.links (Err stop.Memory) c.in-Ok.ensures.found tt
+pub returns-in_default-origin_lines : goal.returns-in_default-origin_lines
+returns-in_default-origin_lines g c = origin_found _ _ (λ (links : LinkMap). links) c.in-Ok.links (Err stop.Memory) c.in-Ok.ensures.found tt
 
-pub returns-clause-task : goal.returns-clause-task
-returns-clause-task g c = origin_found _ _ (λ (links : LinkMap). links) c.in-Ok.links (Ok _) c.in-Ok.ensures.found (rw (c.new.ensures, c.in-Ok-origin_scenario.ensures, c.in-Ok-origin_lines.ensures) refl)
+pub returns : goal.returns
+returns g c = origin_found _ _ (λ (links : LinkMap). links) c.in-Ok.links (Ok _) c.in-Ok.ensures.found (rw (c.new.ensures, c.in-Ok-origin_scenario.ensures, c.in-Ok-origin_lines.ensures) refl)

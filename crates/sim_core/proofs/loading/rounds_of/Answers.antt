@@ -9,6 +9,6 @@ build-requires-clause-limits g c = subst IsWithinLimits (sym c.in_ok-plan.ensure
 
 pub returns-in-Ok : goal.returns-in-Ok
 returns-in-Ok g c =
-    are_rounds c.args.graph.now c.args.vrps.now c.args.book.now c.args.scenario.now c.in-Ok.rounds _ _ _
+    are_rounds c.args.graph.now c.args.vrps.now c.args.book.now _ _ c.in-Ok.rounds _ _ _
     c.in_ok-states.ensures c.in_ok-plan.ensures (ap (λ n. n + 1) c.leak_lists.ensures.value)
     c.in-Ok.ensures.plan c.in-Ok.ensures.count (c.in-Ok.ensures.stable, c.in-Ok.ensures.only)

@@ -1,10 +1,6 @@
-use Rattle.std.proofs.Common.{◌≡◌, ◌+◌, ◌<◌, ℕ, suc, sym, subst, length, List, arith}
-use Rattle.policy_kinds.specs.Kinds.{kind_policy}
-use Rattle.origin_validation.specs.Judging.{state_of}
-use Rattle.stability_laws.specs.Plans.{Plan, IsSound}
-use Rattle.stability_laws.specs.Rounds.{AreRounds}
-use Rattle.stability_laws.specs.World.{setting}
-use Rattle.leak_round.specs.Rounds.{kept, plan_of}
+use Rattle.std.proofs.Common.{◌≡◌, ◌+◌, ◌<◌, ℕ, suc, sym, subst, List, arith}
+use Rattle.stability_laws.specs.Plans.{IsSound}
+use Rattle.leak_round.specs.Rounds.{kept, plan_of, round_count}
 use Rattle.sim_core.specs.Watching.{AreRoundWatches, AreWatches, GoesOnInside}
 use Rattle.sim_core.specs.declared.watching.RoundWatches.{RoundWatches}
 use Rattle.sim_core.proofs.Hops.{goes_on_inside}
@@ -13,15 +9,13 @@ use Rattle.sim_core.proofs.watching.watch_rounds.Goals as goal
 
 pub watch_round-requires-clause-inside : goal.watch_round-requires-clause-inside
 watch_round-requires-clause-inside c =
-    let (payloads, are) = c.requires in
+    let (payloads, stable) = c.requires.stable in
     let plan = plan_of c.args.rounds.now in
     let sound : IsSound plan = subst IsSound c.seed_plan.ensures c.plans_are_sound.ensures in
-    let P : Plan → Type 0 = λ p. AreRounds (λ q. setting kind_policy c.args.graph.now c.args.book.now (state_of payloads q)) p (length c.args.scenario.now.leaks + 1) (kept c.args.rounds.now) in
-    let rounds : P plan = subst P (sym are.plan) are.stable in
-    let within : c.loop-past.past < length c.args.scenario.now.leaks + 1 = omega (arith, c.loop-past-test.true, c.leak_lists.ensures.value) in
+    let within : c.loop-past.past < round_count c.args.rounds.now = omega (arith, c.loop-past-test.true, c.requires.count) in
     let next : suc c.loop-past.past ≡ c.loop-past.past + 1 = omega arith in
     let Q : ℕ → Type 0 = λ r. GoesOnInside c.args.graph.now plan (kept c.args.rounds.now r) in
-    subst Q next (goes_on_inside c.paths_go_on.ensures c.args.graph.now c.args.book.now payloads plan (length c.args.scenario.now.leaks + 1) (kept c.args.rounds.now) sound rounds c.loop-past.past within)
+    subst Q next (goes_on_inside c.paths_go_on.ensures c.args.graph.now c.args.book.now payloads plan (round_count c.args.rounds.now) (kept c.args.rounds.now) sound stable c.loop-past.past within)
 
 pub loop-past-preserved : goal.loop-past-preserved
 loop-past-preserved c =

@@ -1,0 +1,216 @@
+-- Edits of links.
+use Rattle.std.proofs.Common.{◌≡◌, ◌≢◌, ◌⊎◌, inl, inr, ◌<◌, ◌≤◌, ◌+◌, ◌==◌, ◌||◌, ℕ, Bool, true, false, cond, nat_lt, is_some, Option, None, Some, List, ◌∷◌, Result, Ok, Err, OnOk, OnErr, refl, sym, ap, subst, ◌∙◌, arith}
+use Rattle.std.specs.Prelude.{IfNone, IfSome}
+use Rattle.std.specs.Option.{option_map}
+use Rattle.std.proofs.lemmas.Bool.{cases_Bool, true≢false}
+use Rattle.std.proofs.lemmas.Bool.Decides.{nat_tests}
+use Rattle.std.specs.FinMap as fin
+use Rattle.std.specs.FinSet as set
+use Rattle.net_names.specs.Links.{LinkMap, between, converse, pair_cmp}
+use Rattle.net_names.specs.declared.routes.Rel.{Rel}
+use Rattle.net_names.specs.declared.routes.Rel.TheVariants.{Customer}
+use Rattle.net_names.specs.Numbers.{occurs}
+use Rattle.net_names.proofs.Pairs.{pairs_total}
+use Rattle.as_graph.specs.declared.error.GraphError.{GraphError}
+use Rattle.as_graph.specs.declared.error.GraphError.TheVariants as graph_error
+use Rattle.as_graph.specs.Edits.{AsesAreKept, EditsAreUndone, LinksAreSet, LinksAreSound, LinksAreTaken, with_link, without_link}
+use Rattle.as_graph.specs.Hierarchy.{HasNoProviderCycle, IsProviderCycle}
+use Rattle.as_graph.specs.Refusals.{IsLinkRefusal}
+use Rattle.as_graph.specs.Topology.{Topology, as_count, has, what}
+use Rattle.leak_round.specs.Rounds.{plan_of, round_count}
+use Rattle.leak_round.specs.declared.rounds.Rounds.{Rounds}
+use Rattle.scenario_text.specs.declared.acts.Edit.{Edit}
+use Rattle.scenario_text.specs.declared.acts.Edit.TheVariants.{Link, Unlink}
+use Rattle.sim_core.specs.Editing.{HasLinks, IsSmall, IsUndone, KeepsRest, links_with}
+use Rattle.sim_core.specs.Edits.{IsEditRefusal, edited, over_limit, passed_limit, refusal_of_edit}
+use Rattle.sim_core.specs.Kept.{IsKept}
+use Rattle.sim_core.specs.Remaking.{HoldIn, HoldOnly, IsLinkStop}
+use Rattle.sim_core.specs.Sims.{kept, world_seen}
+use Rattle.sim_core.specs.World.{World, HasCycle, graph_of, topology}
+use Rattle.sim_core.specs.declared.errors.EditError.{EditError}
+use Rattle.sim_core.specs.declared.errors.EditError.TheVariants as refused
+use Rattle.sim_core.specs.declared.errors.EditLimit.TheVariants.{Links, Ases}
+use Rattle.sim_core.specs.declared.sim.Sim.{Sim}
+use Rattle.sim_core.proofs.CycleLemmas.{new_below, none_below, without_below}
+use Rattle.sim_core.proofs.Remade.{hold_in, rest_kept}
+
+-- the world with these links
+pub links_world : (old new : Sim) (a b : ℕ) (links : LinkMap) → HasLinks old new a b links → world_seen new ≡ record (world_seen old) { links = links }
+links_world old new a b links h = λ i. record {
+  links = h.are i;
+  payloads = h.vrps i;
+  kinds = (h.book i).named;
+  plan = plan_of (h.rest.rounds i);
+  rounds = round_count (h.rest.rounds i);
+  watched = set.from_list (ap (λ w. w.items) h.rest.watched i);
+}
+
+-- ---- limits
+
+pub over : (n most : ℕ) → most < n → nat_lt most n ≡ true
+over n most h = grind (arith, nat_tests, h)
+
+pub within : (n most : ℕ) → n ≤ most → nat_lt most n ≡ false
+within n most h = grind (arith, nat_tests, h)
+
+unfound : {X : Type 0} (o : Option X) → o ≡ None → is_some o ≡ false
+unfound o e = ap is_some e
+
+of_map : (o : Option Rel) → option_map converse o ≡ None → o ≡ None
+of_map None h = refl
+of_map (Some r) h = cc
+
+-- a new link is one more
+pub len_new : (g : Topology) (a b : ℕ) (r : Rel) → a ≢ b → what g a b ≡ None → fin.len (with_link g a b r).links ≡ fin.len g.links + 1
+len_new g a b r apart none = elim (cases_Bool (nat_lt a b)) [
+  | inl less ↦ ap fin.len (ap (λ t. cond t (fin.insert g.links (a, b) r) (fin.insert g.links (b, a) (converse r))) less) ∙ one (a, b) r (sym (ap (λ t. cond t (fin.get g.links (a, b)) (cond (nat_lt b a) (option_map converse (fin.get g.links (b, a))) None)) less) ∙ none)
+  | inr more ↦ (let above : nat_lt b a ≡ true = over_apart a b apart more in
+      ap fin.len (ap (λ t. cond t (fin.insert g.links (a, b) r) (fin.insert g.links (b, a) (converse r))) more) ∙ one (b, a) (converse r) (of_map (fin.get g.links (b, a))
+      (sym ((λ i. cond (more i) (fin.get g.links (a, b)) (cond (above i) (option_map converse (fin.get g.links (b, a))) None))) ∙ none)))
+]
+  where
+    one : (k : ℕ × ℕ) (s : Rel) → fin.get g.links k ≡ None → fin.len (fin.insert g.links k s) ≡ fin.len g.links + 1
+    one k s e = fin.len-insert pairs_total g.links k s ∙ ap (λ t. cond t (fin.len g.links) (fin.len g.links + 1)) (unfound (fin.get g.links k) e)
+
+    over_apart : (a b : ℕ) → a ≢ b → nat_lt a b ≡ false → nat_lt b a ≡ true
+    over_apart a b apart h = grind (arith, nat_tests, apart, h)
+
+pub seen_linked : (s : Sim) (a b : ℕ) (r : Rel) → as_count (with_link s.graph a b r) ≡ as_count (topology (edited (world_seen s) (Link a b r)))
+seen_linked s a b r = ap (λ (g : Topology). as_count (with_link g a b r)) s.named
+
+pub too_many_links : (s : Sim) (a b : ℕ) (r : Rel) → a ≢ b → what s.graph a b ≡ None → 1500000 ≤ fin.len s.graph.links → refusal_of_edit (world_seen s) (Link a b r) ≡ Some (refused.Limit Links)
+too_many_links s a b r apart none many =
+    let more : 1500000 < fin.len (edited (world_seen s) (Link a b r)).links = omega (arith, len_new s.graph a b r apart none, many) in
+    rw (over (fin.len (edited (world_seen s) (Link a b r)).links) 1500000 more) refl
+
+pub too_many_ases : (s : Sim) (a b : ℕ) (r : Rel) → a ≢ b → what s.graph a b ≡ None → fin.len s.graph.links < 1500000 → 150000 < as_count (with_link s.graph a b r) → refusal_of_edit (world_seen s) (Link a b r) ≡ Some (refused.Limit Ases)
+too_many_ases s a b r apart none few many =
+    let links : fin.len (edited (world_seen s) (Link a b r)).links ≤ 1500000 = omega (arith, len_new s.graph a b r apart none, few) in
+    let ases : 150000 < as_count (topology (edited (world_seen s) (Link a b r))) = subst (λ n. 150000 < n) (seen_linked s a b r) many in
+    rw (within (fin.len (edited (world_seen s) (Link a b r)).links) 1500000 links, over (as_count (topology (edited (world_seen s) (Link a b r)))) 150000 ases) refl
+
+-- ---- undoing
+
+-- nothing but the links is looked at
+pub back_linked : EditsAreUndone → (g : Topology) (a b : ℕ) (r : Rel) → a ≢ b → (mid : Topology) → mid.links ≡ (with_link g a b r).links → (o : Option Rel) → what g a b ≡ o → links_with mid a b o ≡ g.links
+back_linked undone g a b r apart mid are None is =
+    ap (λ (l : LinkMap). (without_link (graph_of l mid.marked) a b).links) are ∙ ap (λ (t : Topology). t.links) (undone.new_link g a b r apart is)
+back_linked undone g a b r apart mid are (Some s) is =
+    ap (λ (l : LinkMap). (with_link (graph_of l mid.marked) a b s).links) are ∙ ap (λ (t : Topology). t.links) (undone.other_link g a b r s apart is)
+
+pub back_cut : EditsAreUndone → (g : Topology) (a b : ℕ) (r : Rel) → a ≢ b → (mid : Topology) → mid.links ≡ (without_link g a b).links → what g a b ≡ Some r → links_with mid a b (Some r) ≡ g.links
+back_cut undone g a b r apart mid are is =
+    ap (λ (l : LinkMap). (with_link (graph_of l mid.marked) a b r).links) are ∙ ap (λ (t : Topology). t.links) (undone.lost_link g a b r apart is)
+
+pub rest_both : (old mid new : Sim) → KeepsRest old mid → KeepsRest mid new → KeepsRest old new
+rest_both old mid new p q = record { ranks = q.ranks ∙ p.ranks; rounds = q.rounds ∙ p.rounds; watched = q.watched ∙ p.watched; watches = q.watches ∙ p.watches }
+
+-- links that were changed and changed back
+pub links_undone : (old mid new : Sim) (a b : ℕ) (links back : LinkMap) → HasLinks old mid a b links → HasLinks mid new a b back → back ≡ old.graph.links → IsUndone old new
+links_undone old mid new a b links back first second same = record {
+  world = λ i. record {
+    links = (second.are ∙ same) i;
+    payloads = (second.vrps ∙ first.vrps) i;
+    kinds = ((second.book ∙ first.book) i).named;
+    plan = plan_of ((second.rest.rounds ∙ first.rest.rounds) i);
+    rounds = round_count ((second.rest.rounds ∙ first.rest.rounds) i);
+    watched = set.from_list (ap (λ w. w.items) (second.rest.watched ∙ first.rest.watched) i);
+  };
+  same_kept = rest_kept old new (rest_both old mid new first.rest second.rest);
+}
+
+-- a pair with a link takes another one
+pub fits_linked : (g : Topology) (a b : ℕ) (r : Rel) → what g a b ≡ Some r → (s : Rel) (e : GraphError) → IsLinkRefusal g a b s e → ⊥
+fits_linked g a b r is s graph_error.Memory h = (let e : None ≡ Some r = sym h.0 ∙ is in cc)
+fits_linked g a b r is s graph_error.TooManyLinks h = (let e : None ≡ Some r = sym h.0 ∙ is in cc)
+fits_linked g a b r is s graph_error.TooManyAses h = (let e : None ≡ Some r = sym h.0 ∙ is in cc)
+
+pub fits_any : (g : Topology) (a b : ℕ) (r : Rel) → what g a b ≡ Some r → (o : Option Rel) → IfSome o (λ s. (e : GraphError) → IsLinkRefusal g a b s e → ⊥)
+fits_any g a b r is None = tt
+fits_any g a b r is (Some s) = fits_linked g a b r is s
+
+-- ---- a new link
+
+-- a link that is not kept is refused
+pub link_stopped : (w : World) (graph : Topology) (a b : ℕ) (r : Rel) (e : EditError) → refusal_of_edit w (Link a b r) ≡ None → what graph ≡ what (topology (edited w (Link a b r))) → IsLinkStop graph a b r e → IsEditRefusal w (Link a b r) e
+link_stopped w graph a b r refused.Memory none same h = tt
+link_stopped w graph a b r (refused.AbsentLink lo hi) none same h = absurd h
+link_stopped w graph a b r (refused.AbsentVrp vrp) none same h = absurd h
+link_stopped w graph a b r (refused.Limit which) none same h = absurd h
+link_stopped w graph a b r (refused.ProviderCycle cycle) none same h = (none, record { closes = subst (λ v. IsProviderCycle v cycle) same h.0; begins = h.1 })
+
+-- ASes of a graph are those of its links and marks
+pub has_by : (g h : Topology) → h.links ≡ g.links → h.marked ≡ g.marked → (a : ℕ) → has h a ≡ has g a
+has_by g h links marked a = λ i. has (graph_of (links i) (marked i)) a
+
+off_pair : (t s u : Bool) → (t || (s || u)) ≡ false → u ≡ false
+off_pair true s u h = cc
+off_pair false true u h = cc
+off_pair false false u h = h
+
+pub hold_linked : AsesAreKept → (old mid : Sim) (a b : ℕ) (r : Rel) → IsKept (world_seen old) (kept old) → HasLinks old mid a b (links_with old.graph a b (Some r)) → HoldIn mid.rounds mid.graph
+hold_linked ases old mid a b r is h =
+    subst (λ (x : Rounds). HoldIn x mid.graph) (sym h.rest.rounds)
+    (hold_in old mid.graph is (λ x none. off_pair (x == a) (x == b) (has old.graph x) (sym (ases.linked old.graph a b r x) ∙ (sym (has_by (with_link old.graph a b r) mid.graph h.are h.marked x) ∙ none))))
+
+-- without its link the pair takes it again
+pub fits_cut : EditsAreUndone → (old mid : Sim) (a b : ℕ) → a ≢ b → HasLinks old mid a b (links_with old.graph a b None) → what mid.graph a b ≡ None → IsSmall old.graph old.vrps → (r : Rel) → what old.graph a b ≡ Some r → (e : GraphError) → IsLinkRefusal mid.graph a b r e → ⊥
+fits_cut undone old mid a b apart h none small r is graph_error.Memory refusal = true≢false (sym h.room ∙ refusal.1)
+fits_cut undone old mid a b apart h none small r is graph_error.TooManyLinks refusal =
+    let back = ap fin.len (back_cut undone old.graph a b r apart mid.graph h.are is) in
+    let one = len_new mid.graph a b r apart none in
+    let many : 1500000 ≤ fin.len mid.graph.links = refusal.1 in
+    omega (arith, back, one, many, small.links)
+fits_cut undone old mid a b apart h none small r is graph_error.TooManyAses refusal =
+    let same : as_count (with_link mid.graph a b r) ≡ as_count old.graph = λ i. as_count (graph_of (back_cut undone old.graph a b r apart mid.graph h.are is i) (h.marked i)) in
+    let many : 150000 < as_count (with_link mid.graph a b r) = refusal.2 in
+    omega (arith, same, many, small.ases)
+
+pub fits_back : EditsAreUndone → (old mid : Sim) (a b : ℕ) → a ≢ b → HasLinks old mid a b (links_with old.graph a b None) → what mid.graph a b ≡ None → IsSmall old.graph old.vrps → (o : Option Rel) → what old.graph a b ≡ o → IfSome o (λ r. (e : GraphError) → IsLinkRefusal mid.graph a b r e → ⊥)
+fits_back undone old mid a b apart h none small None is = tt
+fits_back undone old mid a b apart h none small (Some r) is = fits_cut undone old mid a b apart h none small r is
+
+pub back_any : EditsAreUndone → (g : Topology) (a b : ℕ) → a ≢ b → (mid : Topology) → mid.links ≡ (without_link g a b).links → what g a b ≢ None → (o : Option Rel) → what g a b ≡ o → links_with mid a b o ≡ g.links
+back_any undone g a b apart mid are there None is = absurd (there is)
+back_any undone g a b apart mid are there (Some r) is = back_cut undone g a b r apart mid are is
+
+pub cut_none : LinksAreTaken → (old mid : Sim) (a b : ℕ) → HasLinks old mid a b (links_with old.graph a b None) → what mid.graph a b ≡ None
+cut_none taken old mid a b h = ap (λ (l : LinkMap). what (graph_of l mid.graph.marked) a b) h.are ∙ taken.at old.graph a b
+
+pub absent_cut : (o : Option Rel) (e : EditError) → o ≢ None → cond (is_some o) None (Some e) ≡ None
+absent_cut None e there = absurd (there refl)
+absent_cut (Some r) e there = refl
+
+pub if_none_any : {P : Type 0} (o : Option Rel) → P → IfNone o P
+if_none_any None h = h
+if_none_any (Some r) h = tt
+
+pub if_none_some : (P : Type 0) (o other : Option Rel) → other ≢ None → other ≡ o → IfNone o P
+if_none_some P None other there is = absurd (there is)
+if_none_some P (Some r) other there is = tt
+
+pub from_none : {P : Type 0} (o : Option Rel) → IfNone o P → o ≡ None → P
+from_none None h is = h
+from_none (Some r) h is = cc
+
+pub unlinked : {E : Type 0} (r : Result (Unit {0}) E) (g new : Topology) (a b : ℕ) → OnOk r (new ≡ without_link g a b) → OnErr r (what g a b ≡ None) → what g a b ≢ None → new ≡ without_link g a b
+unlinked (Ok x) g new a b ok absent there = ok
+unlinked (Err e) g new a b ok absent there = absurd (there absent)
+
+-- who is no AS of the old graph holds nothing
+pub hold_only : (old mid : Sim) (names : List ℕ) → IsKept (world_seen old) (kept old) → KeepsRest old mid → ((a : ℕ) → occurs a names ≡ has old.graph a) → HoldOnly mid.rounds names
+hold_only old mid names is rest listed = subst (λ (x : Rounds). HoldOnly x names) (sym rest.rounds) (λ before prefix a within known none. hold_in old old.graph is (λ x e. e) before prefix a within known (sym (listed a) ∙ none))
+
+-- a graph with a new link has no provider cycle without the pair's link
+pub there_none : LinksAreSound → LinksAreSet → LinksAreTaken → (old mid : Sim) (a b : ℕ) (r : Rel) → a ≢ b → (p c : ℕ) → ((p ≡ a) × (c ≡ b)) ⊎ ((p ≡ b) × (c ≡ a)) → HasLinks old mid a b (links_with old.graph a b (Some r)) → (HasCycle (world_seen old) → ⊥) → HasNoProviderCycle (what (without_link mid.graph p c))
+there_none sound setting taken old mid a b r apart p c pair h none =
+    none_below (what (without_link mid.graph p c)) (what old.graph)
+    (λ x y e. new_below sound setting taken old.graph a b p c r apart pair x y (subst (λ (l : LinkMap). what (without_link (graph_of l mid.graph.marked) p c) x y ≡ Some Customer) h.are e))
+    (λ xs is. none (xs, is))
+
+-- so has a graph that lost a link
+pub cut_no_cycle : LinksAreSound → LinksAreSet → LinksAreTaken → (old mid : Sim) (a b : ℕ) → HasLinks old mid a b (links_with old.graph a b None) → (HasCycle (world_seen old) → ⊥) → HasNoProviderCycle (what mid.graph)
+cut_no_cycle sound setting taken old mid a b h none =
+    none_below (what mid.graph) (what old.graph)
+    (λ x y e. without_below sound setting taken old.graph a b x y (subst (λ (l : LinkMap). what (graph_of l mid.graph.marked) x y ≡ Some Customer) h.are e))
+    (λ xs is. none (xs, is))

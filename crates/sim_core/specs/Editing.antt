@@ -1,0 +1,84 @@
+-- What an edit does to a simulation.
+use Rattle.std.specs.Prelude.{◌≡◌, ◌≤◌, ℕ, true, false, IsTrue, Option, None, Some, Result, Ok, Err}
+use Rattle.std.specs.FinMap as fin
+use Rattle.std.specs.FinSet as set
+use Rattle.net_names.specs.Links.{LinkMap}
+use Rattle.net_names.specs.declared.routes.Rel.{Rel}
+use Rattle.as_graph.specs.Edits.{with_link, without_link}
+use Rattle.as_graph.specs.Room.{is_room_for, is_room_with}
+use Rattle.as_graph.specs.Topology.{Topology, as_count, has}
+use Rattle.policy_kinds.specs.declared.kind.Kind.{Kind}
+use Rattle.roa_table.specs.Sets.{Payloads, count}
+use Rattle.scenario_text.specs.declared.acts.Edit.{Edit}
+use Rattle.sim_core.specs.Edits.{HasChanged, IsAllowed, IsEditRefusal, edited, with_kind}
+use Rattle.sim_core.specs.Loaded.{is_other}
+use Rattle.sim_core.specs.Kept.{IsKept}
+use Rattle.sim_core.specs.Sims.{kept, world_seen}
+use Rattle.sim_core.specs.declared.editing.Changed.{Changed}
+use Rattle.sim_core.specs.declared.errors.EditError.{EditError}
+use Rattle.sim_core.specs.declared.sim.Sim.{Sim}
+
+-- the edit is done: the world is the edited one, what is kept is that of it, and so many entries differ (own rule)
+pub record IsDone (old new : Sim) (e : Edit) (routes : ℕ) : Type 0 where
+  pub world : world_seen new ≡ edited (world_seen old) e
+  pub allowed : IsAllowed (world_seen old) e
+  pub is_kept : IsKept (world_seen new) (kept new)
+  pub changed : HasChanged (world_seen new) (kept old).routings (kept new).routings routes
+
+-- the world, and what is kept of it, are as they were (own rule)
+pub record IsUndone (old new : Sim) : Type 0 where
+  pub world : world_seen new ≡ world_seen old
+  pub same_kept : kept new ≡ kept old
+
+-- the edit is done, or refused and nothing has changed (own rule)
+abbrev pub IsEdited : Sim → Sim → Edit → Result Changed EditError → Type 0
+IsEdited old new e (Ok changed) = IsDone old new e changed.routes
+IsEdited old new e (Err error) = IsEditRefusal (world_seen old) e error × IsUndone old new
+
+-- what is kept, and which addresses are watched, stand as they were (own rule)
+pub record KeepsRest (old new : Sim) : Type 0 where
+  pub ranks : new.ranks ≡ old.ranks
+  pub rounds : new.rounds ≡ old.rounds
+  pub watched : new.watched ≡ old.watched
+  pub watches : new.watches ≡ old.watches
+
+-- the graph has these links and room for the pair, and all else stands as it was (own rule)
+pub record HasLinks (old new : Sim) (a b : ℕ) (links : LinkMap) : Type 0 where
+  pub are : new.graph.links ≡ links
+  pub marked : new.graph.marked ≡ old.graph.marked
+  pub room : is_room_for new.graph.room a b ≡ true
+  pub vrps : new.vrps ≡ old.vrps
+  pub book : new.book ≡ old.book
+  pub rest : KeepsRest old new
+
+-- the links of a graph in which the pair has this link or none (own rule)
+abbrev pub links_with : Topology → ℕ → ℕ → Option Rel → LinkMap
+links_with g a b None = (without_link g a b).links
+links_with g a b (Some r) = (with_link g a b r).links
+
+-- no limit is passed (own rule)
+pub record IsSmall (graph : Topology) (payloads : Payloads) : Type 0 where
+  pub links : fin.len graph.links ≤ 1500000
+  pub ases : as_count graph ≤ 150000
+  pub payloads_in : count payloads ≤ 2000000
+
+-- the AS has this kind of policy and is marked as that asks, and all else stands as it was (own rule)
+pub record IsGiven (old new : Sim) (a : ℕ) (kind : Kind) : Type 0 where
+  pub links : new.graph.links ≡ old.graph.links
+  pub room : new.graph.room ≡ old.graph.room
+  pub more : is_other (a, kind) ≡ true → (x : ℕ) → has old.graph x ≡ true → has new.graph x ≡ true
+  pub less : is_other (a, kind) ≡ false → (x : ℕ) → has new.graph x ≡ true → has old.graph x ≡ true
+  pub named : new.book.named ≡ with_kind old.book.named a kind
+  pub book_room : new.book.room ≡ old.book.room
+  pub vrps : new.vrps ≡ old.vrps
+  pub rest : KeepsRest old new
+
+-- there is room for an edit of the AS's policy, and all else stands as it was (own rule)
+pub record IsRoomed (old new : Sim) (a : ℕ) : Type 0 where
+  pub links : new.graph.links ≡ old.graph.links
+  pub marked : new.graph.marked ≡ old.graph.marked
+  pub graph_room : is_room_with new.graph.room a ≡ true
+  pub named : new.book.named ≡ old.book.named
+  pub book_room : IsTrue (set.contains new.book.room a)
+  pub vrps : new.vrps ≡ old.vrps
+  pub rest : KeepsRest old new

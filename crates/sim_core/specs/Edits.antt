@@ -1,0 +1,96 @@
+-- Edited worlds: what an edit makes of a world, and why it is refused.
+use Rattle.std.specs.Prelude.{◌≡◌, ℕ, nat_lt, if◌then◌else◌, is_some, List, ◌∷◌, Option, None, Some}
+use Rattle.std.specs.Ordering.{nat_cmp}
+use Rattle.std.specs.FinMap as fin
+use Rattle.net_names.specs.declared.routes.Rel.TheVariants.{Customer, Peer, Provider}
+use Rattle.as_graph.specs.Topology.{as_count, what}
+use Rattle.as_graph.specs.Hierarchy.{IsProviderCycle}
+use Rattle.as_graph.specs.Edits.{with_link, without_link}
+use Rattle.policy_kinds.specs.declared.kind.Kind.{Kind}
+use Rattle.roa_table.specs.Sets.{added, count, has, taken}
+use Rattle.leak_round.specs.Changes.{HasChanges}
+use Rattle.scenario_text.specs.declared.acts.Edit.{Edit}
+use Rattle.scenario_text.specs.declared.acts.Edit.TheVariants as edit
+use Rattle.sim_core.specs.World.{World, HasCycle, topology}
+use Rattle.sim_core.specs.Families.{Family}
+use Rattle.sim_core.specs.Loaded.{is_other}
+use Rattle.sim_core.specs.declared.errors.EditError.{EditError}
+use Rattle.sim_core.specs.declared.errors.EditError.TheVariants as refused
+use Rattle.sim_core.specs.declared.errors.EditLimit.{EditLimit}
+use Rattle.sim_core.specs.declared.errors.EditLimit.TheVariants.{Links, Ases, Vrps}
+
+-- the policies in which the AS has this kind; nobody is named for the plain one (own rule)
+abbrev pub with_kind : fin.FinMap nat_cmp Kind → ℕ → Kind → fin.FinMap nat_cmp Kind
+with_kind kinds a kind = if is_other (a, kind) then fin.insert kinds a kind else fin.remove kinds a
+
+-- the edited world: the pair has this link in place of any earlier one, or none; the AS has this kind; the payload is in the set, or not (own rule)
+abbrev pub edited : World → Edit → World
+edited w (edit.Link a b rel) = record w { links = (with_link (topology w) a b rel).links }
+edited w (edit.Unlink a b) = record w { links = (without_link (topology w) a b).links }
+edited w (edit.Policy a kind) = record w { kinds = with_kind w.kinds a kind }
+edited w (edit.VrpAdd vrp) = record w { payloads = added w.payloads vrp }
+edited w (edit.VrpTake vrp) = record w { payloads = taken w.payloads vrp }
+
+-- a pair without a link, the lower number first (own rule)
+abbrev pub absent_link : ℕ → ℕ → EditError
+absent_link a b = if nat_lt a b then refused.AbsentLink a b else refused.AbsentLink b a
+
+-- what the edit takes away and the world has not: the link of the pair, or the payload (own rule)
+abbrev pub absent : World → Edit → Option EditError
+absent w (edit.Unlink a b) = if is_some (what (topology w) a b) then None else Some (absent_link a b)
+absent w (edit.VrpTake vrp) = if has w.payloads vrp then None else Some (refused.AbsentVrp vrp)
+absent w e = None
+
+-- the first limit that a world passes: 1,500,000 links, 150,000 ASes, 2,000,000 payloads (own rule)
+abbrev pub passed_limit : World → Option EditLimit
+passed_limit w =
+    if nat_lt 1500000 (fin.len w.links) then Some Links else (if nat_lt 150000 (as_count (topology w)) then Some Ases else (if nat_lt 2000000 (count w.payloads) then Some Vrps else None))
+
+-- the limit that is passed, as a refusal (own rule)
+abbrev pub over_limit : Option EditLimit → Option EditError
+over_limit None = None
+over_limit (Some which) = Some (refused.Limit which)
+
+-- the first reason, or else the second (own rule)
+abbrev pub or_else : Option EditError → Option EditError → Option EditError
+or_else (Some e) other = Some e
+or_else None other = other
+
+-- why an edit is refused, but for provider cycles: what it takes away is not there, or else the edited world passes a limit (own rule)
+abbrev pub refusal_of_edit : World → Edit → Option EditError
+refusal_of_edit w e = or_else (absent w e) (over_limit (passed_limit (edited w e)))
+
+-- the list begins with these two (own rule)
+abbrev pub Begins : ℕ → ℕ → List ℕ → Type 0
+Begins a b xs = (rest : List ℕ) × (xs ≡ a ∷ b ∷ rest)
+
+-- the list begins with the new link: its provider and then its customer (own rule)
+abbrev pub BeginsWithLink : Edit → List ℕ → Type 0
+BeginsWithLink (edit.Link a b Customer) xs = Begins a b xs
+BeginsWithLink (edit.Link a b Provider) xs = Begins b a xs
+BeginsWithLink e xs = ⊥
+
+-- the cycle is a provider cycle of the edited world that begins with the new link (Gao and Rexford 2001, the hierarchy assumption)
+pub record IsClosed (w : World) (e : Edit) (cycle : List ℕ) : Type 0 where
+  pub closes : IsProviderCycle (what (topology (edited w e))) cycle
+  pub begins : BeginsWithLink e cycle
+
+-- the edit is allowed: there is no reason to refuse it, and the edited world has no provider cycle (own rule)
+pub record IsAllowed (w : World) (e : Edit) : Type 0 where
+  pub accepted : refusal_of_edit w e ≡ None
+  pub no_cycle : HasCycle (edited w e) → ⊥
+
+-- the edit is refused for this reason: it is the first one; or there is none, and the edited world has this provider cycle (own rule)
+abbrev pub IsReason : World → Edit → EditError → Type 0
+IsReason w e refused.Memory = ⊥
+IsReason w e (refused.ProviderCycle cycle) = (refusal_of_edit w e ≡ None) × IsClosed w e cycle
+IsReason w e error = refusal_of_edit w e ≡ Some error
+
+-- memory is wanting, or the edit is refused for this reason (own rule)
+abbrev pub IsEditRefusal : World → Edit → EditError → Type 0
+IsEditRefusal w e refused.Memory = Unit {0}
+IsEditRefusal w e error = IsReason w e error
+
+-- so many entries of the rounds and prefixes of the world differ between the two families (own rule)
+abbrev pub HasChanged : World → Family → Family → ℕ → Type 0
+HasChanged w old new n = HasChanges w.plan w.rounds old new n

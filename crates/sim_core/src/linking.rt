@@ -1,0 +1,196 @@
+//! Edits of links.
+ghost use Rattle.std.specs.Prelude.{◌≡◌, ◌≢◌, ℕ, true, Some, None, IfOk, IfErr, OnOk, OnErr, IfNone, IfSome};
+ghost use Rattle.as_graph.specs.declared.error.GraphError.{GraphError as AGraphError};
+ghost use Rattle.as_graph.specs.Hierarchy.{HasNoProviderCycle};
+ghost use Rattle.as_graph.specs.Refusals.{IsLinkRefusal};
+ghost use Rattle.as_graph.specs.Room.{is_room_for};
+ghost use Rattle.as_graph.specs.Topology.{what};
+ghost use Rattle.cycle_check.specs.Cycles.{without_pair};
+ghost use Rattle.scenario_text.specs.declared.acts.Edit.TheVariants.{Link, Unlink};
+ghost use Rattle.sim_core.specs.Editing.{HasLinks, IsEdited, IsUndone, links_with};
+ghost use Rattle.sim_core.specs.Edits.{IsEditRefusal, absent_link as absent_link_of};
+ghost use Rattle.sim_core.specs.Kept.{IsKept};
+ghost use Rattle.sim_core.specs.Remaking.{HoldIn, IsLinkStop, IsRemade};
+ghost use Rattle.sim_core.specs.Sims.{kept, world_seen};
+ghost use Rattle.sim_core.specs.World.{HasCycle};
+
+use crate::links::{closed_by, relink};
+use crate::remaking::Remade;
+use crate::{Changed, EditError, EditLimit, Sim};
+use as_graph::{
+    GraphError, ases_are_kept, edits_are_undone, links_are_set, links_are_sound, links_are_taken,
+};
+use net_names::{Asn, Rel};
+use route_choice::Steps;
+use std::alloc::Global;
+use std::sync::ledger::Ledger;
+
+// The refusal of a pair without a link.
+fn absent_link(a: Asn, b: Asn) -> EditError
+    ensures { result ≡ absent_link_of a b }
+{
+    if a < b {
+        EditError::AbsentLink { lo: a, hi: b }
+    } else {
+        EditError::AbsentLink { lo: b, hi: a }
+    }
+}
+
+impl Sim {
+    // Sets a link of two ASes, for whose pair there is room from then on.
+    fn set_link(&mut self, a: Asn, b: Asn, rel: Rel) -> Result<(), EditError>
+        requires { a ≢ b }
+        ensures ok { OnOk result (HasLinks self.old self.new a b (links_with self.old.graph a b (Some rel))) }
+        ensures err { OnErr result (IsUndone self.old self.new) }
+        ensures refused { IfErr result (IsEditRefusal (world_seen self.old) (Link a b rel)) }
+    {
+        self.is_small();
+        match self.graph.room(a, b) {
+            Ok(()) => {}
+            Err(_) => return Err(EditError::Memory),
+        }
+        match self.graph.link(a, b, rel) {
+            Ok(()) => Ok(()),
+            Err(GraphError::Memory) => Err(EditError::Memory),
+            Err(GraphError::TooManyLinks) => Err(EditError::Limit {
+                which: EditLimit::Links,
+            }),
+            Err(GraphError::TooManyAses) => Err(EditError::Limit {
+                which: EditLimit::Ases,
+            }),
+        }
+    }
+
+    // Gives a pair, for which there is room, the link that it had, or none.
+    fn set_back(&mut self, a: Asn, b: Asn, old: Option<Rel>)
+        requires apart { a ≢ b }
+        requires room { is_room_for self.old.graph.room a b ≡ true }
+        requires there { IfNone old (what self.old.graph a b ≢ None) }
+        requires fits { IfSome old (λ r. (e : AGraphError) → IsLinkRefusal self.old.graph a b r e → ⊥) }
+        ensures { HasLinks self.old self.new a b (links_with self.old.graph a b old) }
+    {
+        match old {
+            Some(rel) => relink(&mut self.graph, a, b, rel),
+            None => {
+                let _ = self.graph.unlink(a, b);
+            }
+        }
+    }
+
+    // Makes what belongs to the graph with a new link, unless the link closes a provider cycle.
+    fn plan_link<L: Ledger>(
+        &self,
+        alloc: Global,
+        a: Asn,
+        b: Asn,
+        rel: Rel,
+        steps: &mut Steps<L>,
+    ) -> Result<Remade, EditError>
+        requires apart { a ≢ b }
+        requires linked { what self.now.graph a b ≡ Some rel }
+        requires there { HasNoProviderCycle (without_pair self.now.graph a b) }
+        requires back { HasNoProviderCycle (without_pair self.now.graph b a) }
+        requires old { HoldIn self.now.rounds self.now.graph }
+        ensures made { IfOk result (IsRemade self.now.graph self.now.vrps self.now.book self.now.rounds self.now.watched.items) }
+        ensures no_cycle { OnOk result (HasNoProviderCycle (what self.now.graph)) }
+        ensures refused { IfErr result (IsLinkStop self.now.graph a b rel) }
+    {
+        match closed_by(alloc, &self.graph, a, b, rel) {
+            Ok(None) => {}
+            Ok(Some(cycle)) => return Err(EditError::ProviderCycle(cycle)),
+            Err(_) => return Err(EditError::Memory),
+        }
+        match self.remade_within(alloc, steps) {
+            Ok(made) => Ok(made),
+            Err(_) => Err(EditError::Memory),
+        }
+    }
+
+    // Sets a link of two ASes that differ.
+    pub(crate) fn edit_link<L: Ledger>(
+        &mut self,
+        alloc: Global,
+        a: Asn,
+        b: Asn,
+        rel: Rel,
+        steps: &mut Steps<L>,
+    ) -> Result<Changed, EditError>
+        requires apart { a ≢ b }
+        requires kept { IsKept (world_seen self.old) (kept self.old) }
+        requires no_cycle { HasCycle (world_seen self.old) → ⊥ }
+        ensures { IsEdited self.old self.new (Link a b rel) result }
+    {
+        links_are_sound();
+        links_are_set();
+        links_are_taken();
+        edits_are_undone();
+        ases_are_kept();
+        let old = self.graph.rel(a, b);
+        match self.set_link(a, b, rel) {
+            Ok(()) => {}
+            Err(error) => return Err(error),
+        }
+        self.is_small();
+        match self.plan_link(alloc, a, b, rel, steps) {
+            Ok(made) => Ok(self.put(made)),
+            Err(error) => {
+                self.set_back(a, b, old);
+                Err(error)
+            }
+        }
+    }
+
+    // Takes the link of a pair away, if it has one; there is room for it from then on.
+    fn cut_link(&mut self, a: Asn, b: Asn) -> Result<(), EditError>
+        ensures ok { OnOk result (HasLinks self.old self.new a b (links_with self.old.graph a b None)) }
+        ensures there { OnOk result (what self.old.graph a b ≢ None) }
+        ensures err { OnErr result (IsUndone self.old self.new) }
+        ensures refused { IfErr result (IsEditRefusal (world_seen self.old) (Unlink a b)) }
+    {
+        if self.graph.rel(a, b).is_none() {
+            return Err(absent_link(a, b));
+        }
+        match self.graph.room(a, b) {
+            Ok(()) => {}
+            Err(_) => return Err(EditError::Memory),
+        }
+        let _ = self.graph.unlink(a, b);
+        Ok(())
+    }
+
+    // Takes a link of two ASes away.
+    pub(crate) fn edit_unlink<L: Ledger>(
+        &mut self,
+        alloc: Global,
+        a: Asn,
+        b: Asn,
+        steps: &mut Steps<L>,
+    ) -> Result<Changed, EditError>
+        requires kept { IsKept (world_seen self.old) (kept self.old) }
+        requires no_cycle { HasCycle (world_seen self.old) → ⊥ }
+        ensures { IsEdited self.old self.new (Unlink a b) result }
+    {
+        links_are_sound();
+        links_are_set();
+        links_are_taken();
+        edits_are_undone();
+        ases_are_kept();
+        let link = self.graph.rel(a, b);
+        self.is_small();
+        let Ok(names) = Vec::from_slice(alloc, self.graph.ases()) else {
+            return Err(EditError::Memory);
+        };
+        match self.cut_link(a, b) {
+            Ok(()) => {}
+            Err(error) => return Err(error),
+        }
+        self.is_small();
+        match self.remade(alloc, &names, steps) {
+            Ok(made) => Ok(self.put(made)),
+            Err(_) => {
+                self.set_back(a, b, link);
+                Err(EditError::Memory)
+            }
+        }
+    }
+}
