@@ -1,5 +1,5 @@
 -- Counts of differing entries, one AS, one prefix and one round after the other.
-use Rattle.std.proofs.Common.{◌≡◌, ◌≢◌, ◌⊎◌, ◌↔◌, inl, inr, ℕ, zero, suc, ◌+◌, ◌<◌, ◌≤◌, ◌==◌, ◌||◌, Bool, true, false, cond, IsTrue, nat_eq, List, [], ◌∷◌, ◌++◌, take, length, get_or, Option, Some, None, Result, Ok, Err, IfOk, refl, sym, ap, subst, ◌∙◌, arith}
+use Rattle.std.proofs.Common.{◌≡◌, ◌≢◌, ◌⊎◌, ◌↔◌, inl, inr, ℕ, zero, suc, ◌+◌, ◌<◌, ◌≤◌, ◌==◌, ◌||◌, Bool, true, false, cond, IsTrue, nat_eq, List, [], ◌∷◌, ◌++◌, take, length, get_or, Option, Some, Result, Ok, Err, IfOk, refl, sym, ap, subst, ◌∙◌, arith}
 use Rattle.std.specs.List.{IsDistinct}
 use Rattle.std.proofs.lemmas.Bool.{eqb-true, eq-eqb, true≢false}
 use Rattle.std.proofs.lemmas.List.{take_more}
@@ -16,7 +16,7 @@ use Rattle.stability_laws.proofs.PlanOrders.{prefixes_total}
 use Rattle.stability_laws.specs.Plans.{ListsRising, Plan, has_prefix, prefixes_of}
 use Rattle.stability_laws.specs.declared.entry.Entry.{Entry}
 use Rattle.leak_round.specs.Changes.{HasChanges, IsChanged}
-use Rattle.leak_round.specs.Entries.{AreApart, StandsIn}
+use Rattle.leak_round.specs.Entries.{StandsIn}
 use Rattle.leak_round.specs.Rounds.{kept, plan_of}
 use Rattle.leak_round.specs.declared.rounds.Rounds.{Rounds}
 use Rattle.sim_core.specs.Counting.{DiffersAt, HasListed}

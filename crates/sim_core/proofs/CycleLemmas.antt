@@ -1,5 +1,5 @@
 -- Provider cycles of graphs with a link more or less.
-use Rattle.std.proofs.Common.{◌≡◌, ◌≢◌, ◌⊎◌, inl, inr, ℕ, true, false, Bool, List, [], ◌∷◌, Option, Some, None, Result, Ok, Err, IfOk, ◌↔◌, refl, sym, ap, subst, ◌∙◌}
+use Rattle.std.proofs.Common.{◌≡◌, ◌≢◌, ◌⊎◌, inl, inr, ℕ, List, [], ◌∷◌, Option, Some, None, Result, Ok, Err, IfOk, ◌↔◌, refl, sym, ap, subst, ◌∙◌}
 use Rattle.std.specs.Prelude.{IfNone, IfSome, IsNone}
 use Rattle.cycle_check.specs.Cycles.{IsClosedBy, with_provider}
 use Rattle.std.proofs.lemmas.Bool.Decides.{eqb_tells}

@@ -1,22 +1,21 @@
 -- What an edit of a policy makes of a simulation.
-use Rattle.std.proofs.Common.{◌≡◌, ◌<◌, ◌≤◌, ◌+◌, ◌==◌, ◌||◌, ℕ, Bool, true, false, cond, Option, None, Some, unwrap_or, refl, sym, ap, subst, ◌∙◌, arith}
+use Rattle.std.proofs.Common.{◌≡◌, ◌<◌, ◌≤◌, ℕ, Bool, true, false, None, Some, unwrap_or, refl, sym, ap, subst, ◌∙◌}
 use Rattle.std.specs.FinMap as fin
 use Rattle.std.specs.FinSet as set
 use Rattle.as_graph.specs.Hierarchy.{HasNoProviderCycle}
-use Rattle.as_graph.specs.Topology.{Topology, as_count, has, what, with_mark}
+use Rattle.as_graph.specs.Topology.{as_count, has, what, with_mark}
 use Rattle.policy_kinds.specs.declared.kind.Kind.{Kind}
 use Rattle.policy_kinds.specs.declared.kind.Kind.TheVariants.{Plain}
 use Rattle.stability_laws.specs.Book.{policy_at}
 use Rattle.leak_round.specs.Rounds.{plan_of, round_count}
 use Rattle.leak_round.specs.declared.rounds.Rounds.{Rounds}
-use Rattle.scenario_text.specs.declared.acts.Edit.{Edit}
 use Rattle.scenario_text.specs.declared.acts.Edit.TheVariants.{Policy}
 use Rattle.sim_core.specs.Editing.{IsGiven, IsRoomed, IsSmall, IsUndone, KeepsRest}
 use Rattle.sim_core.specs.Edits.{edited, over_limit, passed_limit, refusal_of_edit, with_kind}
 use Rattle.sim_core.specs.Kept.{IsKept}
 use Rattle.sim_core.specs.Remaking.{HoldIn}
 use Rattle.sim_core.specs.Sims.{kept, world_seen}
-use Rattle.sim_core.specs.World.{World, HasCycle, graph_of, topology}
+use Rattle.sim_core.specs.World.{HasCycle, graph_of, topology}
 use Rattle.sim_core.specs.Loaded.{is_other}
 use Rattle.net_names.specs.Links.{LinkMap}
 use Rattle.sim_core.specs.declared.errors.EditError.{EditError}

@@ -1,12 +1,12 @@
 -- Edits of links.
-use Rattle.std.proofs.Common.{◌≡◌, ◌≢◌, ◌⊎◌, inl, inr, ◌<◌, ◌≤◌, ◌+◌, ◌==◌, ◌||◌, ℕ, Bool, true, false, cond, nat_lt, is_some, Option, None, Some, List, ◌∷◌, Result, Ok, Err, OnOk, OnErr, refl, sym, ap, subst, ◌∙◌, arith}
+use Rattle.std.proofs.Common.{◌≡◌, ◌≢◌, ◌⊎◌, inl, inr, ◌<◌, ◌≤◌, ◌+◌, ◌==◌, ◌||◌, ℕ, Bool, true, false, cond, nat_lt, is_some, Option, None, Some, List, Result, Ok, Err, OnOk, OnErr, refl, sym, ap, subst, ◌∙◌, arith}
 use Rattle.std.specs.Prelude.{IfNone, IfSome}
 use Rattle.std.specs.Option.{option_map}
 use Rattle.std.proofs.lemmas.Bool.{cases_Bool, true≢false}
 use Rattle.std.proofs.lemmas.Bool.Decides.{nat_tests}
 use Rattle.std.specs.FinMap as fin
 use Rattle.std.specs.FinSet as set
-use Rattle.net_names.specs.Links.{LinkMap, between, converse, pair_cmp}
+use Rattle.net_names.specs.Links.{LinkMap, converse}
 use Rattle.net_names.specs.declared.routes.Rel.{Rel}
 use Rattle.net_names.specs.declared.routes.Rel.TheVariants.{Customer}
 use Rattle.net_names.specs.Numbers.{occurs}
@@ -19,10 +19,9 @@ use Rattle.as_graph.specs.Refusals.{IsLinkRefusal}
 use Rattle.as_graph.specs.Topology.{Topology, as_count, has, what}
 use Rattle.leak_round.specs.Rounds.{plan_of, round_count}
 use Rattle.leak_round.specs.declared.rounds.Rounds.{Rounds}
-use Rattle.scenario_text.specs.declared.acts.Edit.{Edit}
-use Rattle.scenario_text.specs.declared.acts.Edit.TheVariants.{Link, Unlink}
+use Rattle.scenario_text.specs.declared.acts.Edit.TheVariants.{Link}
 use Rattle.sim_core.specs.Editing.{HasLinks, IsSmall, IsUndone, KeepsRest, links_with}
-use Rattle.sim_core.specs.Edits.{IsEditRefusal, edited, over_limit, passed_limit, refusal_of_edit}
+use Rattle.sim_core.specs.Edits.{IsEditRefusal, edited, refusal_of_edit}
 use Rattle.sim_core.specs.Kept.{IsKept}
 use Rattle.sim_core.specs.Remaking.{HoldIn, HoldOnly, IsLinkStop}
 use Rattle.sim_core.specs.Sims.{kept, world_seen}

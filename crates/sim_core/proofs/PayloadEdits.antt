@@ -1,5 +1,5 @@
 -- Edits of payloads.
-use Rattle.std.proofs.Common.{◌≡◌, ◌≢◌, ◌<◌, ◌≤◌, ◌+◌, ℕ, Bool, true, false, cond, is_some, Option, None, Some, refl, sym, ap, subst, ◌∙◌, arith}
+use Rattle.std.proofs.Common.{◌≡◌, ◌<◌, ◌≤◌, ◌+◌, Bool, true, false, cond, is_some, Option, None, Some, refl, sym, ap, subst, ◌∙◌, arith}
 use Rattle.std.specs.FinMap as fin
 use Rattle.std.specs.FinSet as set
 use Rattle.std.specs.Ordering.{eq_by_cmp, is_eq}
@@ -15,9 +15,8 @@ use Rattle.leak_round.specs.Rounds.{plan_of, round_count}
 use Rattle.scenario_text.specs.declared.acts.Edit.{Edit}
 use Rattle.scenario_text.specs.declared.acts.Edit.TheVariants.{VrpAdd}
 use Rattle.sim_core.specs.Editing.{IsDone, IsSmall, IsUndone, KeepsRest}
-use Rattle.sim_core.specs.Edits.{absent, edited, over_limit, passed_limit, refusal_of_edit}
-use Rattle.sim_core.specs.Kept.{IsKept}
-use Rattle.sim_core.specs.Sims.{kept, world_seen}
+use Rattle.sim_core.specs.Edits.{absent, edited, refusal_of_edit}
+use Rattle.sim_core.specs.Sims.{world_seen}
 use Rattle.sim_core.specs.World.{World, HasCycle, topology}
 use Rattle.sim_core.specs.declared.errors.EditError.TheVariants as refused
 use Rattle.sim_core.specs.declared.errors.EditLimit.TheVariants.{Vrps}

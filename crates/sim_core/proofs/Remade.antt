@@ -1,16 +1,15 @@
 -- What was made anew is what belongs to the edited world.
-use Rattle.std.proofs.Common.{◌≡◌, ◌<◌, ◌≤◌, ℕ, suc, Bool, true, false, IsTrue, nat_lt, List, None, refl, sym, ap, subst, ◌∙◌, arith}
+use Rattle.std.proofs.Common.{◌≡◌, ◌≤◌, ℕ, false, nat_lt, List, None, refl, sym, ap, subst, ◌∙◌, arith}
 use Rattle.std.proofs.lemmas.Bool.Decides.{nat_tests}
 use Rattle.std.specs.FinMap as fin
 use Rattle.std.specs.FinSet as set
 use Rattle.std.specs.Ordering.{nat_cmp}
 use Rattle.net_names.specs.Addresses.{AddrValue, addr_cmp}
 use Rattle.net_names.specs.Links.{LinkMap}
-use Rattle.net_names.specs.Prefixes.{PrefixValue}
 use Rattle.as_graph.specs.Hierarchy.{HasNoProviderCycle, IsProviderCycle, IsRank}
 use Rattle.as_graph.specs.Topology.{Topology, as_count, has, what}
 use Rattle.rank_order.specs.Ranks.{KeptRanks, rank_at}
-use Rattle.stability_laws.specs.Plans.{Plan, has_prefix}
+use Rattle.stability_laws.specs.Plans.{Plan}
 use Rattle.leak_round.specs.Changes.{HasChanges}
 use Rattle.leak_round.specs.Rounds.{kept as kept_rounds, plan_of, round_count}
 use Rattle.leak_round.specs.declared.rounds.Rounds.{Rounds}
@@ -20,7 +19,7 @@ use Rattle.roa_table.specs.Sets.{Payloads, count}
 use Rattle.stability_laws.specs.Book.{PolicyBook}
 use Rattle.sim_core.specs.Editing.{IsDone, IsSmall, KeepsRest}
 use Rattle.sim_core.specs.Edits.{IsAllowed, absent, edited, over_limit, passed_limit}
-use Rattle.sim_core.specs.Kept.{IsKept, Kept}
+use Rattle.sim_core.specs.Kept.{IsKept}
 use Rattle.sim_core.specs.Parts.{AreRoundsOf, IsNamed}
 use Rattle.sim_core.specs.Remaking.{HoldIn, IsRemade}
 use Rattle.sim_core.specs.Sims.{kept, world_seen}

@@ -2,7 +2,7 @@
 use Rattle.std.specs.Prelude.{◌≡◌, ℕ, nat_lt, if◌then◌else◌, is_some, List, ◌∷◌, Option, None, Some}
 use Rattle.std.specs.Ordering.{nat_cmp}
 use Rattle.std.specs.FinMap as fin
-use Rattle.net_names.specs.declared.routes.Rel.TheVariants.{Customer, Peer, Provider}
+use Rattle.net_names.specs.declared.routes.Rel.TheVariants.{Customer, Provider}
 use Rattle.as_graph.specs.Topology.{as_count, what}
 use Rattle.as_graph.specs.Hierarchy.{IsProviderCycle}
 use Rattle.as_graph.specs.Edits.{with_link, without_link}

@@ -1,5 +1,5 @@
 -- What a simulation is made of.
-use Rattle.std.specs.Prelude.{◌≡◌, ◌<◌, ◌+◌, ℕ, suc, true, IsTrue, List, length, Option, None}
+use Rattle.std.specs.Prelude.{◌≡◌, ◌<◌, ℕ, suc, true, IsTrue, List, Option, None}
 use Rattle.std.specs.FinSet as set
 use Rattle.as_graph.specs.Topology.{Topology}
 use Rattle.net_names.specs.Addresses.{AddrValue}

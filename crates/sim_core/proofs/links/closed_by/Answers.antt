@@ -1,7 +1,7 @@
-use Rattle.std.proofs.Common.{◌≡◌, ◌∙◌, sym, ap, subst, Some}
+use Rattle.std.proofs.Common.{◌∙◌, sym, ap, subst, Some}
 use Rattle.net_names.specs.declared.routes.Rel.{Rel}
-use Rattle.net_names.specs.declared.routes.Rel.TheVariants.{Customer, Peer, Provider}
-use Rattle.as_graph.specs.Edits.{with_link, without_link}
+use Rattle.net_names.specs.declared.routes.Rel.TheVariants.{Customer}
+use Rattle.as_graph.specs.Edits.{without_link}
 use Rattle.as_graph.specs.Topology.{what}
 use Rattle.scenario_text.specs.declared.acts.Edit.TheVariants.{Link}
 use Rattle.sim_core.specs.Edits.{BeginsWithLink}

@@ -1,9 +1,5 @@
-use Rattle.std.proofs.Common.{◌≡◌, ◌+◌, ◌∙◌, ◌≤◌, ℕ, length, sym, ap, subst, arith}
-use Rattle.as_graph.specs.Hierarchy.{IsRank}
-use Rattle.as_graph.specs.Topology.{what}
+use Rattle.std.proofs.Common.{◌+◌, ◌∙◌, sym, ap, subst, arith}
 use Rattle.leak_round.specs.Limits.{IsWithinLimits}
-use Rattle.rank_order.specs.Ranks.{rank_at}
-use Rattle.sim_core.specs.Loaded.{plan_of}
 use Rattle.sim_core.proofs.Plans.{kinds_are_other}
 use Rattle.sim_core.proofs.Watches.{has_watches, rows_right}
 use Rattle.sim_core.proofs.Within.{within}

@@ -1,4 +1,4 @@
-use Rattle.std.proofs.Common.{◌≡◌, ◌∙◌, ℕ, Err, refl, sym, ap, subst}
+use Rattle.std.proofs.Common.{◌∙◌, ℕ, Err, refl, sym, ap, subst}
 use Rattle.as_graph.specs.Topology.{Topology}
 use Rattle.policy_kinds.specs.declared.kind.Kind.{Kind}
 use Rattle.roa_table.specs.Sets.{Payloads}

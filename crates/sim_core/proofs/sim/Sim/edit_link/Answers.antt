@@ -2,7 +2,7 @@ use Rattle.std.proofs.Common.{◌≡◌, ◌∙◌, ℕ, inl, inr, None, refl, s
 use Rattle.net_names.specs.Links.{LinkMap}
 use Rattle.as_graph.specs.Topology.{what}
 use Rattle.scenario_text.specs.declared.acts.Edit.TheVariants.{Link}
-use Rattle.sim_core.specs.Editing.{IsDone, links_with}
+use Rattle.sim_core.specs.Editing.{IsDone}
 use Rattle.sim_core.specs.Edits.{over_limit, passed_limit, refusal_of_edit}
 use Rattle.sim_core.specs.Sims.{world_seen}
 use Rattle.sim_core.specs.World.{graph_of}

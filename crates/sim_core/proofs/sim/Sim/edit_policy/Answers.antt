@@ -1,4 +1,4 @@
-use Rattle.std.proofs.Common.{◌≡◌, ◌∙◌, ℕ, refl, sym, ap, subst}
+use Rattle.std.proofs.Common.{◌∙◌, ℕ, refl, sym, ap, subst}
 use Rattle.net_names.specs.Numbers.{occurs}
 use Rattle.scenario_text.specs.declared.acts.Edit.TheVariants.{Policy}
 use Rattle.sim_core.specs.Editing.{IsDone}

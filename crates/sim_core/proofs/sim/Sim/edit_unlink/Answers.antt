@@ -1,8 +1,8 @@
-use Rattle.std.proofs.Common.{◌≡◌, ◌≢◌, ◌∙◌, ℕ, None, refl, sym, ap, subst}
+use Rattle.std.proofs.Common.{◌≡◌, ◌∙◌, ℕ, None, sym, ap, subst}
 use Rattle.net_names.specs.Numbers.{occurs}
-use Rattle.as_graph.specs.Topology.{has, what}
+use Rattle.as_graph.specs.Topology.{what}
 use Rattle.scenario_text.specs.declared.acts.Edit.TheVariants.{Unlink}
-use Rattle.sim_core.specs.Editing.{IsDone, links_with}
+use Rattle.sim_core.specs.Editing.{IsDone}
 use Rattle.sim_core.specs.Edits.{absent_link}
 use Rattle.sim_core.specs.Sims.{world_seen}
 use Rattle.sim_core.proofs.LinkEdits.{absent_cut, back_any, cut_no_cycle, cut_none, fits_back, hold_only, if_none_some, links_undone, links_world}

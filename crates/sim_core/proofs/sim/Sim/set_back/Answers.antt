@@ -1,4 +1,4 @@
-use Rattle.std.proofs.Common.{◌≡◌, ◌∙◌, refl, sym, ap}
+use Rattle.std.proofs.Common.{◌∙◌, refl, sym, ap}
 use Rattle.as_graph.specs.Room.{is_room_for}
 use Rattle.as_graph.specs.Topology.{Topology}
 use Rattle.sim_core.specs.Editing.{links_with}

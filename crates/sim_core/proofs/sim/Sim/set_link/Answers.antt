@@ -1,4 +1,4 @@
-use Rattle.std.proofs.Common.{◌≡◌, ◌∙◌, ◌<◌, ◌≤◌, sym, ap, subst}
+use Rattle.std.proofs.Common.{◌∙◌, ◌<◌, ◌≤◌, sym, ap, subst}
 use Rattle.std.specs.FinMap as fin
 use Rattle.as_graph.specs.Edits.{with_link}
 use Rattle.as_graph.specs.Refusals.{IsLinkRefusal}

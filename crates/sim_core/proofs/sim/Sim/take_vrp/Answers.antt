@@ -1,8 +1,7 @@
-use Rattle.std.proofs.Common.{◌≡◌, ◌∙◌, ℕ, Some, None, cond, refl, sym, ap, subst}
+use Rattle.std.proofs.Common.{◌∙◌, ℕ, Some, None, cond, refl, sym, ap, subst}
 use Rattle.roa_table.specs.Sets.{Payloads, taken}
 use Rattle.scenario_text.specs.declared.acts.Edit.TheVariants.{VrpTake}
 use Rattle.sim_core.specs.Editing.{IsDone, IsSmall}
-use Rattle.sim_core.specs.Sims.{world_seen}
 use Rattle.sim_core.specs.declared.errors.EditError.TheVariants as refused
 use Rattle.sim_core.proofs.PayloadEdits.{payload_done}
 use Rattle.sim_core.proofs.Remade.{hold_in}
