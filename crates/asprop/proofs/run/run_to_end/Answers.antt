@@ -5,10 +5,10 @@ pub returns-in-Err : goal.returns-in-Err
 returns-in-Err g c = unformed _ c.explain.ensures
 
 pub returns-in-Ok-true : goal.returns-in-Ok-true
-returns-in-Ok-true g c = with_refusal (rw c.in-Ok.ensures at (rw c.in-Ok-true.field-0-test at c.in-Ok-true.ensures))
+returns-in-Ok-true g c = with_refusal (rw c.in-Ok.ensures.form at (rw c.in-Ok-true.field-0-test at c.in-Ok-true.ensures))
 
 pub returns-in-Ok-false : goal.returns-in-Ok-false
-returns-in-Ok-false g c = without_refusal (rw c.in-Ok.ensures at (rw c.in-Ok-false.field-0-test at c.in-Ok-false.ensures))
+returns-in-Ok-false g c = without_refusal (rw c.in-Ok.ensures.form at (rw c.in-Ok-false.field-0-test at c.in-Ok-false.ensures))
 
 pub returns-in-Err-work : goal.returns-in-Err-work
-returns-in-Err-work g c = explained _ _ (rw c.in-Ok.ensures at c.in-Err-work.ensures) (rw c.in-Ok.ensures at c.explain-in-Err-work.ensures)
+returns-in-Err-work g c = explained _ _ (rw c.in-Ok.ensures.form at c.in-Err-work.ensures) (rw c.in-Ok.ensures.form at c.explain-in-Err-work.ensures)
