@@ -4,7 +4,7 @@ ghost use Rattle.io_edge.specs.Faults.{Rose};
 ghost use Rattle.sim_core.specs.Kept.{IsKept};
 ghost use Rattle.sim_core.specs.Sims.{kept, world_seen};
 ghost use Rattle.sim_core.specs.World.{HasCycle};
-ghost use Rattle.scenario_text.specs.LineValues.{AreSoundLines, HasTwoEnds, IsSoundAct};
+ghost use Rattle.scenario_text.specs.LineValues.{AreSoundLines, IsWellFormed, IsSoundAct};
 ghost use Rattle.asprop.specs.Task.{counts_text, first_text};
 ghost use Rattle.asprop.specs.Told.{Answered, AppendsEditReply, AppendsReply, head, head_line};
 ghost use Rattle.asprop.specs.Written.{Answering};
@@ -65,7 +65,7 @@ fn put_edit<L: Ledger>(
     blank: Blank,
 ) -> Result<bool, NoMemory>
     requires ledger { (blank.name ≡ L.name) × (blank.parts ≡ L.parts) × (0 < L.parts) }
-    requires ends { HasTwoEnds edit.now }
+    requires ends { IsWellFormed edit.now }
     requires kept { IsKept (world_seen sim.old) (kept sim.old) }
     requires no_cycle { HasCycle (world_seen sim.old) → ⊥ }
     ensures reply { IfOk result (λ refused. AppendsEditReply (world_seen sim.old) (kept sim.old) edit.now refused text.old.items text.new.items (world_seen sim.new)) }

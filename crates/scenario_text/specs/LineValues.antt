@@ -1,5 +1,5 @@
 -- A line of a script, as contracts see it.
-use Rattle.std.specs.Prelude.{◌≢◌, ℕ, List, All}
+use Rattle.std.specs.Prelude.{◌≢◌, ◌≤◌, ℕ, List, All, length}
 use Rattle.scenario_text.specs.declared.acts.Act.{Act}
 use Rattle.scenario_text.specs.declared.acts.Act.TheVariants as act
 use Rattle.scenario_text.specs.declared.acts.Edit.{Edit}
@@ -10,14 +10,15 @@ pub record LineValue : Type 0 where
   pub number : ℕ
   pub act : Act
 
--- a link that an edit makes has two different ends (own format)
-abbrev pub HasTwoEnds : Edit → Type 0
-HasTwoEnds (edit.Link a b rel) = a ≢ b
-HasTwoEnds e = Unit {0}
+-- the two ASes of a link differ, and an announced path has 1 to 64 numbers (own format)
+abbrev pub IsWellFormed : Edit → Type 0
+IsWellFormed (edit.Link a b rel) = a ≢ b
+IsWellFormed (edit.Announce prefix path) = (1 ≤ length path) × (length path ≤ 64)
+IsWellFormed e = Unit {0}
 
--- what a line asks for can be done: a link that it makes has two ends (own format)
+-- what a line asks for is no edit, or one that is well formed (own format)
 abbrev pub IsSoundAct : Act → Type 0
-IsSoundAct (act.Edit e) = HasTwoEnds e
+IsSoundAct (act.Edit e) = IsWellFormed e
 IsSoundAct (act.Query q) = Unit {0}
 
 -- so of all lines (own format)

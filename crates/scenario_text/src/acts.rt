@@ -1,9 +1,9 @@
 //! What the lines of a script ask for.
-use net_names::{Addr, Asn, Prefix, Rel, Vrp};
+use net_names::{Addr, Asn, Path, Prefix, Rel, Vrp};
 use policy_kinds::Kind;
 
 /// A change of a world.
-#[derive(Debug, PartialEq, Eq, Drop)]
+#[derive(Drop)]
 pub enum Edit {
     /// The pair's link becomes this one; `rel` is what `b` is to `a`. The two ASes of a line differ.
     Link {
@@ -37,6 +37,20 @@ pub enum Edit {
     VrpTake {
         /// The payload.
         vrp: Vrp,
+    },
+    /// The first AS of the path announces the prefix with this path from now on. The path of a line has 1 to 64 numbers.
+    Announce {
+        /// The prefix.
+        prefix: Prefix,
+        /// The path.
+        path: Path,
+    },
+    /// The AS doesn't announce the prefix any more.
+    Withdraw {
+        /// The prefix.
+        prefix: Prefix,
+        /// The AS.
+        asn: Asn,
     },
 }
 
@@ -87,7 +101,7 @@ pub enum Query {
 }
 
 /// What a line asks for.
-#[derive(Debug, PartialEq, Eq, Drop)]
+#[derive(Drop)]
 pub enum Act {
     /// A change.
     Edit(Edit),

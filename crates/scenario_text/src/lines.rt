@@ -8,7 +8,7 @@ use std::alloc::Global;
 use std::marker::Model;
 
 /// A line of a script that isn't skipped. Contracts see its two fields.
-#[derive(Debug, PartialEq, Eq, Drop)]
+#[derive(Drop)]
 pub struct Line {
     /// The number of the line in its file, where the first line has number 1 and skipped lines count.
     pub number: u32,
@@ -27,7 +27,7 @@ impl Model for Line {
 }
 
 /// The lines of a script that aren't skipped, in their order. Contracts see the list of them. A link that one of them
-/// makes has two different ends.
+/// makes has two different ends, and a path that one of them announces has 1 to 64 numbers.
 #[derive(Drop)]
 pub struct Lines {
     items: Vec<Line>,
@@ -56,8 +56,8 @@ impl Lines {
         }
     }
 
-    /// Puts a line at the end, which makes no link of an AS with itself. `Err` where there is not enough memory; then the
-    /// list stays as it was.
+    /// Puts a line at the end, which makes no link of an AS with itself, and announces no path but of 1 to 64 numbers. `Err`
+    /// where there is not enough memory; then the list stays as it was.
     pub fn push(&mut self, line: Line) -> Result<(), NoMemory>
         requires { IsSoundAct line.act }
         ensures ok { OnOk result (self.new ≡ self.old ++ line ∷ []) }

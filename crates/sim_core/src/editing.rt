@@ -1,6 +1,6 @@
 //! Edits of a simulation.
 ghost use Rattle.std.specs.Prelude.{◌≡◌, IfOk, IfErr, OnOk, OnErr};
-ghost use Rattle.scenario_text.specs.LineValues.{HasTwoEnds};
+ghost use Rattle.scenario_text.specs.LineValues.{IsWellFormed};
 ghost use Rattle.sim_core.specs.Edits.{HasChanged, IsAllowed, IsEditRefusal, edited};
 ghost use Rattle.sim_core.specs.Kept.{IsKept};
 ghost use Rattle.sim_core.specs.Sims.{kept, world_seen};
@@ -34,7 +34,7 @@ impl Sim {
         edit: &Edit,
         steps: &mut Steps<L>,
     ) -> Result<Changed, EditError>
-        requires ends { HasTwoEnds edit.now }
+        requires ends { IsWellFormed edit.now }
         requires kept { IsKept (world_seen self.old) (kept self.old) }
         requires no_cycle { HasCycle (world_seen self.old) → ⊥ }
         ensures world { OnOk result (world_seen self.new ≡ edited (world_seen self.old) edit.now) }
