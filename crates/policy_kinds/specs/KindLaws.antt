@@ -1,29 +1,32 @@
 -- Each kind meets the laws of every policy; the laws of the implementation cite these lemmas.
 use Rattle.std.specs.Prelude.{◌≡◌, ◌≢◌, true, false, refl}
-use Rattle.std.proofs.Common.{sym, ◌∙◌}
+use Rattle.std.proofs.Common.{sym}
 use Rattle.std.proofs.lemmas.Bool.{and_parts}
 use Rattle.std.specs.declared.cmp.Ordering.{Ordering}
 use Rattle.std.specs.declared.cmp.Ordering.TheVariants.{Equal}
 use Rattle.std.specs.Ordering.{nat_cmp, ordering_then, is_lt}
 use Rattle.std.proofs.lemmas.Cmp.{ranked, nat_cmp_total, on_total, then_total}
-use Rattle.net_names.specs.declared.routes.Class.{Class}
-use Rattle.net_names.specs.declared.routes.Class.TheVariants as class
 use Rattle.net_names.specs.declared.routes.Rel.{Rel}
 use Rattle.net_names.specs.declared.routes.Rel.TheVariants.{Customer, Peer, Provider}
 use Rattle.policy_laws.specs.Policy.{RanksOffers, PrefersCustomers, ExportsDownOnly, IgnoresState}
 use Rattle.policy_laws.specs.Ranking.{ranks_by, last_tied}
 use Rattle.policy_kinds.specs.declared.kind.Kind.{Kind}
 use Rattle.policy_kinds.specs.declared.kind.Kind.TheVariants.{Plain, DropInvalid, PreferValid, ProviderFirst, Otc, DropInvalidOtc}
-use Rattle.policy_kinds.specs.Kinds.{plain_exports, kind_policy, kind_cmp, class_place, valid_place, prefers_valid}
+use Rattle.policy_kinds.specs.declared.rows.Row.{Row}
+use Rattle.policy_kinds.specs.Kinds.{row, class_place, valid_place, offer_cmp, is_customer, policy_by, kind_policy}
+
+row_ranks_offers : (r : Row) → RanksOffers (policy_by r)
+row_ranks_offers r = ranks_by (policy_by r) (offer_cmp r) (λ x y. refl)
+    (then_total (on_total (λ x. class_place r x.rel) nat_cmp_total)
+    (then_total (on_total (λ x. valid_place r.prefers_valid x.state) nat_cmp_total)
+    (then_total (on_total (λ x. x.length) nat_cmp_total) (on_total (λ x. x.neighbour) nat_cmp_total))))
+    (λ x y e. ranked x.neighbour y.neighbour Equal (sym (last_tied (nat_cmp x.length y.length) _ (last_tied (nat_cmp (valid_place r.prefers_valid x.state) (valid_place r.prefers_valid y.state)) _ (last_tied (nat_cmp (class_place r x.rel) (class_place r y.rel)) _ e)))))
 
 pub kind_ranks_offers : (k : Kind) → RanksOffers (kind_policy k)
-kind_ranks_offers k = ranks_by (kind_policy k) (kind_cmp k) (λ x y. refl)
-    (then_total (on_total (λ x. class_place k x.rel) nat_cmp_total)
-    (then_total (on_total (λ x. valid_place (prefers_valid k) x.state) nat_cmp_total)
-    (then_total (on_total (λ x. x.length) nat_cmp_total) (on_total (λ x. x.neighbour) nat_cmp_total))))
-    (λ x y e. ranked x.neighbour y.neighbour Equal (sym (last_tied (nat_cmp x.length y.length) _ (last_tied (nat_cmp (valid_place (prefers_valid k) x.state) (valid_place (prefers_valid k) y.state)) _ (last_tied (nat_cmp (class_place k x.rel) (class_place k y.rel)) _ e)))))
+kind_ranks_offers k = row_ranks_offers (row k)
 
-first_lower : (k : Kind) (b : Rel) (r : Ordering) → b ≢ Customer → is_lt (ordering_then (nat_cmp (class_place k Customer) (class_place k b)) r) ≡ true
+-- in each row peers and providers come after customers
+first_lower : (k : Kind) (b : Rel) (r : Ordering) → b ≢ Customer → is_lt (ordering_then (nat_cmp 0 (class_place (row k) b)) r) ≡ true
 first_lower k Customer r n = absurd (n refl)
 first_lower Plain Peer r n = refl
 first_lower Plain Provider r n = refl
@@ -41,20 +44,15 @@ first_lower DropInvalidOtc Provider r n = refl
 pub kind_prefers_customers : (k : Kind) → PrefersCustomers (kind_policy k)
 kind_prefers_customers k x y e n = rw e (first_lower k y.rel _ n)
 
-down_only : (c : Class) (to : Rel) → ((r : Rel) → plain_exports c r ≡ plain_exports class.Peer r) → plain_exports c to ≡ true → to ≡ Customer
-down_only c Customer same h = refl
-down_only c Peer same h = let e : false ≡ true = sym (same Peer) ∙ h in cc
-down_only c Provider same h = let e : false ≡ true = sym (same Provider) ∙ h in cc
-
-as_peer : (r : Rel) → plain_exports class.Provider r ≡ plain_exports class.Peer r
-as_peer Customer = refl
-as_peer Peer = refl
-as_peer Provider = refl
+to_customer : (to : Rel) → is_customer to ≡ true → to ≡ Customer
+to_customer Customer h = refl
+to_customer Peer h = let e : false ≡ true = h in cc
+to_customer Provider h = let e : false ≡ true = h in cc
 
 pub kind_exports_down_only : (k : Kind) → ExportsDownOnly (kind_policy k)
 kind_exports_down_only k = record {
-  from_peer = λ otc to h. down_only class.Peer to (λ r. refl) (and_parts _ _ h).0;
-  from_provider = λ otc to h. down_only class.Provider to as_peer (and_parts _ _ h).0;
+  from_peer = λ otc to h. to_customer to (and_parts _ _ h).0;
+  from_provider = λ otc to h. to_customer to (and_parts _ _ h).0;
 }
 
 pub kind_ignores_state : (k : Kind) → IgnoresState (kind_policy k)

@@ -1,7 +1,8 @@
 //! The kinds and their answers.
 ghost use Rattle.std.specs.Prelude.{◌≡◌};
-ghost use Rattle.policy_kinds.specs.Kinds.{plain_exports as exports_plainly, class_place as place_of_class, valid_place as place_of_state, prefers_valid as is_preferring, drops_invalid as is_dropping, marks as is_marking, state_passes as passes_state, number_passes as passes_number, number_goes as goes_number};
+ghost use Rattle.policy_kinds.specs.Kinds.{is_customer as is_to_customer, plain_exports as exports_plainly, state_passes as passes_state, number_passes as passes_number, number_goes as goes_number};
 
+use crate::rows::Row;
 use net_names::{Asn, Class, Rel, State};
 use policy_laws::{Labelled, RoutePolicy, View};
 
@@ -24,57 +25,6 @@ pub enum Kind {
     DropInvalidOtc,
 }
 
-impl Kind {
-    fn drops_invalid(self) -> bool
-        ensures { result ≡ is_dropping self }
-    {
-        match self {
-            Kind::DropInvalid | Kind::DropInvalidOtc => true,
-            Kind::Plain | Kind::PreferValid | Kind::ProviderFirst | Kind::Otc => false,
-        }
-    }
-
-    fn prefers_valid(self) -> bool
-        ensures { result ≡ is_preferring self }
-    {
-        match self {
-            Kind::PreferValid => true,
-            _ => false,
-        }
-    }
-
-    fn marks_routes(self) -> bool
-        ensures { result ≡ is_marking self }
-    {
-        match self {
-            Kind::Otc | Kind::DropInvalidOtc => true,
-            _ => false,
-        }
-    }
-
-    fn class_place(self, rel: Rel) -> u8
-        ensures { result ≡ place_of_class self rel }
-    {
-        match (self, rel) {
-            (_, Rel::Customer) => 0,
-            (Kind::ProviderFirst, Rel::Provider) => 1,
-            (Kind::ProviderFirst, Rel::Peer) => 2,
-            (_, Rel::Peer) => 1,
-            (_, Rel::Provider) => 2,
-        }
-    }
-
-    fn valid_place(self, state: State) -> u8
-        ensures { result ≡ place_of_state (is_preferring self) state }
-    {
-        if self.prefers_valid() && state != State::Valid {
-            1
-        } else {
-            0
-        }
-    }
-}
-
 fn state_passes(drops: bool, state: State) -> bool
     ensures { result ≡ passes_state drops state }
 {
@@ -94,10 +44,16 @@ fn number_passes(looks: bool, from: Rel, neighbour: Asn, otc: Option<Asn>) -> bo
     }
 }
 
+fn is_customer(to: Rel) -> bool
+    ensures { result ≡ is_to_customer to }
+{
+    to == Rel::Customer
+}
+
 fn number_goes(looks: bool, otc: Option<Asn>, to: Rel) -> bool
     ensures { result ≡ goes_number looks otc to }
 {
-    !looks || otc.is_none() || to == Rel::Customer
+    !looks || otc.is_none() || is_customer(to)
 }
 
 fn plain_exports(held: Class, to: Rel) -> bool
@@ -105,7 +61,7 @@ fn plain_exports(held: Class, to: Rel) -> bool
 {
     match held {
         Class::Origin | Class::Customer => true,
-        Class::Peer | Class::Provider => to == Rel::Customer,
+        Class::Peer | Class::Provider => is_customer(to),
     }
 }
 
@@ -116,26 +72,29 @@ impl RoutePolicy for Kind {
     ghost meaning = { kind_policy };
 
     fn accepts(&self, v: &View) -> bool {
-        state_passes(self.drops_invalid(), v.state)
-            && number_passes(self.marks_routes(), v.rel, v.neighbour, v.otc)
+        let row = Row::of(*self);
+        state_passes(row.drops_invalid, v.state)
+            && number_passes(row.marks, v.rel, v.neighbour, v.otc)
     }
 
     fn before(&self, x: &View, y: &View) -> bool {
-        let (class_x, class_y) = (self.class_place(x.rel), self.class_place(y.rel));
-        let (state_x, state_y) = (self.valid_place(x.state), self.valid_place(y.state));
+        let row = Row::of(*self);
+        let (class_x, class_y) = (row.class_place(x.rel), row.class_place(y.rel));
+        let (state_x, state_y) = (row.valid_place(x.state), row.valid_place(y.state));
         (class_x, state_x, x.length, x.neighbour) < (class_y, state_y, y.length, y.neighbour)
     }
 
     fn exports(&self, held: Class, otc: Option<Asn>, to: Rel) -> bool {
-        plain_exports(held, to) && number_goes(self.marks_routes(), otc, to)
+        plain_exports(held, to) && number_goes(Row::of(*self).marks, otc, to)
     }
 
     fn reads_state(&self) -> bool {
-        self.drops_invalid() || self.prefers_valid()
+        let row = Row::of(*self);
+        row.drops_invalid || row.prefers_valid
     }
 
     fn marks(&self) -> bool {
-        self.marks_routes()
+        Row::of(*self).marks
     }
 
     ghost ranks_offers = { kind_ranks_offers };
@@ -153,13 +112,6 @@ impl Labelled for Kind {
     ghost label_of = { label };
 
     fn label(&self) -> u8 {
-        match self {
-            Kind::Plain => 0,
-            Kind::DropInvalid => 1,
-            Kind::PreferValid => 2,
-            Kind::ProviderFirst => 3,
-            Kind::Otc => 4,
-            Kind::DropInvalidOtc => 5,
-        }
+        Row::of(*self).label
     }
 }

@@ -1,10 +1,12 @@
 //! The six kinds of routing policy.
 //!
 //! Each kind answers as its row of the table in `specs/Kinds.antt` says, meets the laws of every
-//! policy, and has a name of its own, which is read and printed, and a number for counting.
+//! policy, and has a name of its own, which is read and printed. Another kind is a row there, a row in
+//! `rows.rt` and a name.
 #![tactic(auto)]
 
 mod kind;
+mod rows;
 mod texts;
 
 pub use kind::Kind;
