@@ -2,6 +2,7 @@
 use Rattle.std.proofs.Common.{◌≡◌, ℕ, ◌≤◌, false, is_some, List, [], ◌∷◌, map, length, get_or, sym, ap, subst, ◌∙◌, arith, Some, None, Result, Ok, Err, slice_get}
 use Rattle.std.specs.Prelude.{is_ok}
 use Rattle.std.proofs.lemmas.Bool.{true≢false}
+use Rattle.std.proofs.lemmas.List.{length-map}
 use Rattle.std.specs.List.{insert}
 use Rattle.std.specs.List.Sorted.{IsSearchInRange, IsBinarySearchResult}
 use Rattle.std.specs.Ordering.{nat_cmp}
@@ -53,6 +54,12 @@ module _ (prefixes : List PrefixValue) (announced : List Announcement) (announce
 
   pub prefixes_are : prefixes ≡ prefixes_of plan
   prefixes_are = sym (keys_set_of prefix_cmp prefixes w.prefixes_rise) ∙ ap prefixes_of v
+
+  -- as many as stand in the list
+  pub announcement_count : length announced ≡ fin.len plan.announced
+  announcement_count =
+      sym (length-map announced entry_of) ∙ ap (λ (es : List ((PrefixValue × ℕ) × List ℕ)). length es) (sym (fin.entries-from_sorted announcement_cmp (map entry_of announced) w.announced_rise))
+      ∙ sym (fin.len-entries (fin.from_sorted (map entry_of announced))) ∙ ap (λ (p : Plan). fin.len p.announced) v
 
   pub announcers_are : announcers ≡ announcers_of plan
   announcers_are = sym (keys_set_of nat_cmp announcers w.announcers_rise) ∙ (ap (λ m. fin.keys m) w.announcers_are ∙ ap announcers_of v)

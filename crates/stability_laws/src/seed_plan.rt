@@ -2,7 +2,8 @@
 ghost use Rattle.std.specs.Prelude.{◌≡◌, ℕ, ◌≤◌, ◌<◌, false, IsTrue, length, slice_get, option_copied, OnOk, OnErr, IsOk, vec_len, vec_capacity};
 ghost use Rattle.std.specs.FinMap as fin;
 ghost use Rattle.std.specs.FinMap.{IsAntisymmetric};
-ghost use Rattle.std.specs.Ordering.{nat_cmp};
+ghost use Rattle.std.specs.Ordering.{eq_by_cmp, nat_cmp};
+ghost use Rattle.std.specs.List.{list_any};
 ghost use Rattle.std.specs.List.Sorted.{IsSearchInRange, IsBinarySearchResult};
 ghost use Rattle.net_names.specs.Links.{pair_cmp};
 ghost use Rattle.net_names.specs.Prefixes.{prefix_cmp};
@@ -94,6 +95,13 @@ fn leaker_in(leakers: &[(u32, Asn)], round: u32, place: usize) -> Option<Asn>
     }
 }
 
+// Whether the prefix stands in the list.
+fn stands_in(prefixes: &[Prefix], prefix: Prefix) -> bool
+    ensures { result ≡ list_any (eq_by_cmp prefix_cmp prefix) prefixes.now }
+{
+    prefixes.iter().any(|one| prefix.cmp(one).is_eq())
+}
+
 /// What holds of every plan: each announced path starts with its AS and has at most 4294967294 numbers,
 /// its prefix is one of the plan's, and there are leakers in rounds from 2 on alone.
 pub fn plans_are_sound(plan: &SeedPlan)
@@ -168,6 +176,20 @@ impl SeedPlan {
         ensures sound { IsSound self.now }
     {
         place_of(self.announced.as_slice(), prefix, asn).is_ok()
+    }
+
+    /// Whether the prefix is one of the plan.
+    pub fn has_prefix(&self, prefix: Prefix) -> bool
+        ensures { result ≡ has_prefix self.now prefix }
+    {
+        stands_in(self.prefixes(), prefix)
+    }
+
+    /// How many announcements the plan has: one for each prefix and AS that announces it.
+    pub fn announcement_count(&self) -> usize
+        ensures { result ≡ fin.len self.now.announced }
+    {
+        self.announced.len()
     }
 
     /// The path that the AS announces of the prefix; `None` exactly where it does not announce it. It
