@@ -1,6 +1,7 @@
 -- A pool that begins without paths.
 use Rattle.std.proofs.Common.{◌≡◌, ℕ, zero, suc, ◌-◌, ◌*◌, ◌<◌, ◌≤◌, Bor, Option, Some, None, option_map, List, [], length, is_some, refl, sym, ap, ◌∙◌, arith}
 use Rattle.std.specs.Prelude.{IsSome, IfSome, IsTrue, slice_get}
+use Rattle.std.specs.FinMap as fin
 use Rattle.std.specs.Option.{option_copied}
 use Rattle.net_names.specs.Prefixes.{PrefixValue}
 use Rattle.path_pool.specs.declared.path_id.PathId.{PathId}
@@ -27,8 +28,8 @@ nothing_announced pool plan dead = record {
 }
 
 -- all that is announced stands in the pool
-pub all_announced : (pool : PathPool) (plan : Plan) (xs : List Announced) → IsAnnouncing pool plan xs → ((prefix : PrefixValue) (a : ℕ) → IsTrue (has_prefix plan prefix) → HasAnnounced plan xs prefix a) → AreAnnounced pool plan xs
-all_announced pool plan xs h whole = record { live = h.live; each = h.each; paths = λ prefix a known. by prefix a known (own_path xs prefix a) refl (announced_path plan prefix a) refl }
+pub all_announced : (pool : PathPool) (plan : Plan) (xs : List Announced) → IsAnnouncing pool plan xs → ((prefix : PrefixValue) (a : ℕ) → IsTrue (has_prefix plan prefix) → HasAnnounced plan xs prefix a) → length xs ≤ fin.len plan.announced → AreAnnounced pool plan xs
+all_announced pool plan xs h whole few = record { live = h.live; each = h.each; few = few; paths = λ prefix a known. by prefix a known (own_path xs prefix a) refl (announced_path plan prefix a) refl }
   where
     by : (prefix : PrefixValue) (a : ℕ) → IsTrue (has_prefix plan prefix) → (o : Option PathId) → own_path xs prefix a ≡ o → (p : Option (List ℕ)) → announced_path plan prefix a ≡ p → option_map (λ (id : PathId). list_of pool id.0) o ≡ p
     by prefix a known (Some id) e p is = sym (h.sound prefix a id e) ∙ is

@@ -68,6 +68,7 @@ module _ (old new : PathPool) (plan : Plan) (xs : List Announced) (h : AreAnnoun
     live = own_live;
     each = λ i x at. (let (alive, own) = h.each i x at in (one_live i x at, own ∙ ap (λ (l : List ℕ). Some l) (sym (back.lists x.path.0 (one_live i x at)))));
     paths = λ prefix a known. by prefix a (own_path xs prefix a) refl ∙ h.paths prefix a known;
+    few = h.few;
   }
     where
       by : (prefix : PrefixValue) (a : ℕ) (o : Option PathId) → own_path xs prefix a ≡ o → option_map (λ id. list_of new id.0) o ≡ option_map (λ id. list_of old id.0) o

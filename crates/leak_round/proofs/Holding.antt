@@ -10,12 +10,21 @@ use Rattle.leak_round.specs.declared.announced.Announced.{Announced}
 use Rattle.leak_round.specs.Announced.{announced_uses}
 use Rattle.leak_round.specs.Growth.{KeepsPaths}
 use Rattle.leak_round.proofs.Listing.{sum_next}
+use Rattle.leak_round.proofs.Sums.{sum_by-most}
 
 pub uses_next : (xs : List Announced) (i : ℕ) (x : Announced) → slice_get xs i ≡ Some x → (k : ℕ) → announced_uses (take (i + 1) xs) k ≡ announced_uses (take i xs) k + cond (x.path.0 == k) 1 0
 uses_next xs i x at k = sum_next (λ (y : Announced). cond (y.path.0 == k) 1 0) xs i x at
 
 pub uses_most : (xs : List Announced) (i k : ℕ) → announced_uses (take i xs) k ≤ announced_uses xs k
 uses_most xs i k = sum_by-take-le (λ (y : Announced). cond (y.path.0 == k) 1 0) xs i
+
+-- no path is used more often than there are announcements
+pub uses_few : (xs : List Announced) (k : ℕ) → announced_uses xs k ≤ length xs
+uses_few xs k = omega (arith, sum_by-most (λ (y : Announced). cond (y.path.0 == k) 1 0) 1 xs (λ i y at. at_most_one (y.path.0 == k)))
+  where
+    at_most_one : (b : Bool) → cond b 1 0 ≤ 1
+    at_most_one true = omega arith
+    at_most_one false = omega arith
 
 pub one_of_itself : (id : ℕ) → ◌≡◌ {A = ℕ} (cond (id == id) 1 0) 1
 one_of_itself id = ap {B = ℕ} (λ (b : Bool). cond b 1 0) (eq-eqb id id refl)

@@ -69,6 +69,7 @@ module _ (old new : PathPool) (keeps : KeepsPaths old new) where
       live = λ prefix a id e. keeps.live id.0 (h.live prefix a id e);
       each = λ place x at. (let (alive, own) = h.each place x at in (keeps.live x.path.0 alive, own ∙ ap (λ (l : List ℕ). Some l) (sym (keeps.lists x.path.0 alive))));
       paths = λ prefix a known. by prefix a (own_path xs prefix a) refl ∙ h.paths prefix a known;
+      few = h.few;
     }
       where
         by : (prefix : PrefixValue) (a : ℕ) (o : Option PathId) → own_path xs prefix a ≡ o → option_map (λ id. list_of new id.0) o ≡ option_map (λ id. list_of old id.0) o

@@ -12,13 +12,14 @@ use Rattle.std.proofs.lemmas.Cmp.{nat_cmp_total}
 use Rattle.std.proofs.lemmas.List.Sums.{sum_by-cons, sum_by-le}
 use Rattle.std.proofs.lemmas.Option.{slice_get-get_or}
 use Rattle.net_names.specs.Prefixes.{PrefixValue, prefix_cmp}
-use Rattle.stability_laws.specs.Plans.{Plan, IsAnnouncer, announcement_cmp, has_prefix, prefixes_of, announcers_of}
+use Rattle.stability_laws.specs.Plans.{Plan, IsAnnouncer, announcement_cmp, announced_path, has_prefix, prefixes_of, announcers_of}
 use Rattle.stability_laws.proofs.KeyLists.{is_less, left, right, apart_later, eq_is, eq_same, keys_listed}
 use Rattle.stability_laws.proofs.PlanListings.{announcers_listed}
 use Rattle.stability_laws.proofs.PlanOrders.{exact_prefix, exact_announcement, prefixes_total, announcements_total}
-use Rattle.leak_round.specs.Limits.{IsWithinLimits, numbers_of, announced_length}
+use Rattle.leak_round.specs.Limits.{IsWithinLimits, numbers_of, announced_length, announced_count}
 use Rattle.leak_round.specs.Entries.{StandsIn, AreApart}
 use Rattle.leak_round.proofs.Rounding.{same_or_not}
+use Rattle.leak_round.proofs.Sums.{sum_by-most}
 
 abbrev Announcements : Type 0
 Announcements = List ((PrefixValue × ℕ) × List ℕ)
@@ -52,73 +53,84 @@ apart_places (x ∷ xs) h = (
   apart_places xs (λ i j y z less at at'. h (suc i) (suc j) y z (omega arith) at at'),
 )
 
--- how many numbers the path has, if there is one
-length_of : Option (List ℕ) → ℕ
-length_of o = option_map_or (λ (path : List ℕ). length path) o 0
+-- what a path counts, if there is one
+module _ (weight : List ℕ → ℕ) where
+  weight_of : Option (List ℕ) → ℕ
+  weight_of o = option_map_or weight o 0
 
-found : Announcements → PrefixValue → ℕ → ℕ
-found es p a = length_of (fin.find announcement_cmp (p, a) es)
+  found : Announcements → PrefixValue → ℕ → ℕ
+  found es p a = weight_of (fin.find announcement_cmp (p, a) es)
 
-if_same : PrefixValue × ℕ → List ℕ → PrefixValue → ℕ → ℕ
-if_same key path p a = cond (eq_by_cmp announcement_cmp (p, a) key) (length path) 0
+  if_same : PrefixValue × ℕ → List ℕ → PrefixValue → ℕ → ℕ
+  if_same key path p a = cond (eq_by_cmp announcement_cmp (p, a) key) (weight path) 0
 
-found_more : (e : (PrefixValue × ℕ) × List ℕ) (es : Announcements) (p : PrefixValue) (a : ℕ) → found (e ∷ es) p a ≤ if_same e.0 e.1 p a + found es p a
-unfolding found if_same length_of
-found_more e es p a = by (eq_by_cmp announcement_cmp (p, a) e.0)
-  where
-    by : (b : Bool) → length_of (cond b (Some e.1) (fin.find announcement_cmp (p, a) es)) ≤ cond b (length e.1) 0 + length_of (fin.find announcement_cmp (p, a) es)
-    by true = omega arith
-    by false = omega arith
-
-module _ (prefixes : List PrefixValue) (ases : List ℕ) (prefixes_apart : AreApart prefixes) (ases_apart : AreApart ases) where
-  all : (PrefixValue → ℕ → ℕ) → ℕ
-  all f = sum_by (λ p. sum_by (f p) ases) prefixes
-
-  -- one announcement counts once
-  all-one : (key : PrefixValue × ℕ) (path : List ℕ) → all (if_same key path) ≤ length path
-  unfolding all if_same
-  all-one key path = sum_by-one (λ p. sum_by (if_same key path p) ases) (length path) key.0 (λ p. same_or_not p key.0) few none prefixes prefixes_apart
+  found_more : (e : (PrefixValue × ℕ) × List ℕ) (es : Announcements) (p : PrefixValue) (a : ℕ) → found (e ∷ es) p a ≤ if_same e.0 e.1 p a + found es p a
+  unfolding found if_same weight_of
+  found_more e es p a = by (eq_by_cmp announcement_cmp (p, a) e.0)
     where
-      other : (p : PrefixValue) (a : ℕ) → ((p, a) ≡ key → ⊥) → if_same key path p a ≡ 0
-      other p a ne = by (eq_by_cmp announcement_cmp (p, a) key) refl
-        where
-          by : (b : Bool) → eq_by_cmp announcement_cmp (p, a) key ≡ b → cond b (length path) 0 ≡ 0
-          by true e = absurd (ne (eq_is announcements_total exact_announcement (p, a) key e))
-          by false e = refl
+      by : (b : Bool) → weight_of (cond b (Some e.1) (fin.find announcement_cmp (p, a) es)) ≤ cond b (weight e.1) 0 + weight_of (fin.find announcement_cmp (p, a) es)
+      by true = omega arith
+      by false = omega arith
 
-      most : (p : PrefixValue) (a : ℕ) → if_same key path p a ≤ length path
-      most p a = by (eq_by_cmp announcement_cmp (p, a) key)
-        where
-          by : (b : Bool) → cond b (length path) 0 ≤ length path
-          by true = omega arith
-          by false = omega arith
+  module _ (prefixes : List PrefixValue) (ases : List ℕ) (prefixes_apart : AreApart prefixes) (ases_apart : AreApart ases) where
+    all : (PrefixValue → ℕ → ℕ) → ℕ
+    all f = sum_by (λ p. sum_by (f p) ases) prefixes
 
-      few : (p : PrefixValue) → sum_by (if_same key path p) ases ≤ length path
-      few p = sum_by-one (if_same key path p) (length path) key.1 (λ a. cases_eq a key.1) (most p) (λ a ne. other p a (λ e. ne (ap (λ (x : PrefixValue × ℕ). x.1) e))) ases ases_apart
+    -- one announcement counts once
+    all-one : (key : PrefixValue × ℕ) (path : List ℕ) → all (if_same key path) ≤ weight path
+    unfolding all if_same
+    all-one key path = sum_by-one (λ p. sum_by (if_same key path p) ases) (weight path) key.0 (λ p. same_or_not p key.0) few none prefixes prefixes_apart
+      where
+        other : (p : PrefixValue) (a : ℕ) → ((p, a) ≡ key → ⊥) → if_same key path p a ≡ 0
+        other p a ne = by (eq_by_cmp announcement_cmp (p, a) key) refl
+          where
+            by : (b : Bool) → eq_by_cmp announcement_cmp (p, a) key ≡ b → cond b (weight path) 0 ≡ 0
+            by true e = absurd (ne (eq_is announcements_total exact_announcement (p, a) key e))
+            by false e = refl
 
-      none : (p : PrefixValue) → p ≢ key.0 → sum_by (if_same key path p) ases ≡ 0
-      none p ne = sum_by-none (if_same key path p) ases (λ a s. other p a (λ e. ne (ap (λ (x : PrefixValue × ℕ). x.0) e)))
+        most : (p : PrefixValue) (a : ℕ) → if_same key path p a ≤ weight path
+        most p a = by (eq_by_cmp announcement_cmp (p, a) key)
+          where
+            by : (b : Bool) → cond b (weight path) 0 ≤ weight path
+            by true = omega arith
+            by false = omega arith
 
-  -- all announcements count once each
-  all-found : (es : Announcements) → all (found es) ≤ sum_by (λ e. length e.1) es
-  unfolding all found length_of
-  all-found [] = omega (arith, sum_by-none (λ p. sum_by (found [] p) ases) prefixes (λ p s. sum_by-none (found [] p) ases (λ a t. refl)))
-  all-found (e ∷ es) =
-      let both = sum_by-both (λ p. sum_by (found (e ∷ es) p) ases) (λ p. sum_by (if_same e.0 e.1 p) ases) (λ p. sum_by (found es p) ases)
-      (λ p. sum_by-both (found (e ∷ es) p) (if_same e.0 e.1 p) (found es p) (found_more e es p) ases) prefixes in
-      omega (arith, both, all-one e.0 e.1, all-found es, sum_by-cons (λ (x : (PrefixValue × ℕ) × List ℕ). length x.1) e es)
+        few : (p : PrefixValue) → sum_by (if_same key path p) ases ≤ weight path
+        few p = sum_by-one (if_same key path p) (weight path) key.1 (λ a. cases_eq a key.1) (most p) (λ a ne. other p a (λ e. ne (ap (λ (x : PrefixValue × ℕ). x.1) e))) ases ases_apart
+
+        none : (p : PrefixValue) → p ≢ key.0 → sum_by (if_same key path p) ases ≡ 0
+        none p ne = sum_by-none (if_same key path p) ases (λ a s. other p a (λ e. ne (ap (λ (x : PrefixValue × ℕ). x.0) e)))
+
+    -- all announcements count once each
+    all-found : (es : Announcements) → all (found es) ≤ sum_by (λ e. weight e.1) es
+    unfolding all found weight_of
+    all-found [] = omega (arith, sum_by-none (λ p. sum_by (found [] p) ases) prefixes (λ p s. sum_by-none (found [] p) ases (λ a t. refl)))
+    all-found (e ∷ es) =
+        let both = sum_by-both (λ p. sum_by (found (e ∷ es) p) ases) (λ p. sum_by (if_same e.0 e.1 p) ases) (λ p. sum_by (found es p) ases)
+        (λ p. sum_by-both (found (e ∷ es) p) (if_same e.0 e.1 p) (found es p) (found_more e es p) ases) prefixes in
+        omega (arith, both, all-one e.0 e.1, all-found es, sum_by-cons (λ (x : (PrefixValue × ℕ) × List ℕ). weight x.1) e es)
+
+  -- the announced paths, prefix by prefix and AS by AS, count no more than all together
+  all-counted : (plan : Plan) → sum_by (λ prefix. sum_by (λ a. option_map_or weight (announced_path plan prefix a) 0) (announcers_of plan)) (prefixes_of plan) ≤ sum_by (λ e. weight e.1) (fin.entries plan.announced)
+  unfolding all found weight_of
+  all-counted plan =
+      let es = fin.entries plan.announced in
+      let prefixes_apart = apart_places (prefixes_of plan) (λ i j x y. apart_later prefix_cmp prefixes_total (λ p. IsTrue (has_prefix plan p)) (prefixes_of plan) (keys_listed prefixes_total exact_prefix plan.prefixes) i j x y) in
+      let ases_apart = apart_places (announcers_of plan) (λ i j x y. apart_later nat_cmp nat_cmp_total (IsAnnouncer plan) (announcers_of plan) (announcers_listed plan) i j x y) in
+      let whole = all-found (prefixes_of plan) (announcers_of plan) prefixes_apart ases_apart es in
+      let same = λ (p : PrefixValue) (a : ℕ). ap weight_of (sym (fin.get-entries plan.announced (p, a))) in
+      let F : (PrefixValue → ℕ → ℕ) → Type 0 = λ f. sum_by (λ p. sum_by (f p) (announcers_of plan)) (prefixes_of plan) ≤ sum_by (λ (e : (PrefixValue × ℕ) × List ℕ). weight e.1) es in
+      subst F (λ i p a. same p a i) whole
 
 -- the announced paths, prefix by prefix and AS by AS, have no more numbers than all together
 pub numbers_counted : (plan : Plan) → sum_by (λ prefix. sum_by (announced_length plan prefix) (announcers_of plan)) (prefixes_of plan) ≤ numbers_of plan
-unfolding all found length_of
-numbers_counted plan =
+numbers_counted plan = all-counted (λ (path : List ℕ). length path) plan
+
+-- there are no more of them than announcements of the plan
+pub announcements_counted : (plan : Plan) → sum_by (λ prefix. sum_by (announced_count plan prefix) (announcers_of plan)) (prefixes_of plan) ≤ fin.len plan.announced
+announcements_counted plan =
     let es = fin.entries plan.announced in
-    let prefixes_apart = apart_places (prefixes_of plan) (λ i j x y. apart_later prefix_cmp prefixes_total (λ p. IsTrue (has_prefix plan p)) (prefixes_of plan) (keys_listed prefixes_total exact_prefix plan.prefixes) i j x y) in
-    let ases_apart = apart_places (announcers_of plan) (λ i j x y. apart_later nat_cmp nat_cmp_total (IsAnnouncer plan) (announcers_of plan) (announcers_listed plan) i j x y) in
-    let whole = all-found (prefixes_of plan) (announcers_of plan) prefixes_apart ases_apart es in
-    let same = λ (p : PrefixValue) (a : ℕ). ap length_of (sym (fin.get-entries plan.announced (p, a))) in
-    let F : (PrefixValue → ℕ → ℕ) → Type 0 = λ f. sum_by (λ p. sum_by (f p) (announcers_of plan)) (prefixes_of plan) ≤ numbers_of plan in
-    subst F (λ i p a. same p a i) whole
+    omega (arith, all-counted (λ (path : List ℕ). 1) plan, sum_by-most (λ (e : (PrefixValue × ℕ) × List ℕ). 1) 1 es (λ i e at. omega arith), fin.len-entries plan.announced)
 
 below_later : (k : PrefixValue × ℕ) (es : Announcements) (i : ℕ) (e : (PrefixValue × ℕ) × List ℕ) → T (below_all announcement_cmp k es) → slice_get es i ≡ Some e → announcement_cmp k e.0 ≡ Less
 below_later k [] i e h at = cc

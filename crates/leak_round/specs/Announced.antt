@@ -1,5 +1,6 @@
 -- The announced paths in a pool.
-use Rattle.std.specs.Prelude.{◌≡◌, ℕ, ◌≤◌, Bool, ◌&&◌, ◌==◌, if◌then◌else◌, Option, None, Some, IsSome, IsTrue, option_map, List, fold, count_by, slice_get}
+use Rattle.std.specs.Prelude.{◌≡◌, ℕ, ◌≤◌, Bool, ◌&&◌, ◌==◌, if◌then◌else◌, Option, None, Some, IsSome, IsTrue, option_map, List, length, fold, count_by, slice_get}
+use Rattle.std.specs.FinMap as fin
 use Rattle.net_names.specs.Prefixes.{PrefixValue}
 use Rattle.net_names.specs.contracts.prefixes.PrefixPartialEq.TheImpl as same_prefix
 use Rattle.path_pool.specs.declared.path_id.PathId.{PathId}
@@ -45,8 +46,9 @@ KeepsAnnounced old new = (prefix : PrefixValue) (a : ℕ) → IsSome (own_path o
 abbrev pub HasAnnounced : Plan → List Announced → PrefixValue → ℕ → Type 0
 HasAnnounced plan xs prefix a = IsSome (announced_path plan prefix a) → IsSome (own_path xs prefix a)
 
--- the announcements are just those that the plan has of its prefixes, with their paths, which are live (own rule)
+-- the announcements are just those that the plan has of its prefixes, with their paths, which are live, and they are no more than those of the plan (own rule)
 pub record AreAnnounced (pool : PathPool) (plan : Plan) (xs : List Announced) : Type 0 where
   pub live : (prefix : PrefixValue) (a : ℕ) (id : PathId) → own_path xs prefix a ≡ Some id → IsLive pool id.0
   pub each : AreOfPlan pool plan xs
   pub paths : (prefix : PrefixValue) (a : ℕ) → IsTrue (has_prefix plan prefix) → option_map (λ id. list_of pool id.0) (own_path xs prefix a) ≡ announced_path plan prefix a
+  pub few : length xs ≤ fin.len plan.announced

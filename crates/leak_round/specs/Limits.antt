@@ -19,3 +19,7 @@ numbers_of plan = sum_by (λ e. length e.1) (fin.entries plan.announced)
 -- how many numbers the path has that the AS announces of the prefix (own rule)
 abbrev pub announced_length : Plan → PrefixValue → ℕ → ℕ
 announced_length plan prefix a = option_map_or (λ (path : List ℕ). length path) (announced_path plan prefix a) 0
+
+-- 1 where the AS announces the prefix, else 0 (own rule)
+abbrev pub announced_count : Plan → PrefixValue → ℕ → ℕ
+announced_count plan prefix a = option_map_or (λ (path : List ℕ). 1) (announced_path plan prefix a) 0

@@ -2,11 +2,12 @@
 
 ghost use Rattle.std.specs.Prelude.{◌≡◌, ℕ, ◌+◌, ◌<◌, ◌≤◌, None, Some, [], length, slice_get, option_map, IsTrue, IfOk, OnOk};
 ghost use Rattle.std.specs.List.{sum_by};
+ghost use Rattle.std.specs.FinMap as fin;
 ghost use Rattle.net_names.specs.Prefixes.{PrefixValue};
 ghost use Rattle.path_pool.specs.Pool.{IsLive, holds_of, count_of, live_count, limit_of};
 ghost use Rattle.stability_laws.specs.Plans.{has_prefix, prefixes_of, announcers_of};
 ghost use Rattle.route_choice.specs.Tables.{seed_at};
-ghost use Rattle.leak_round.specs.Limits.{announced_length};
+ghost use Rattle.leak_round.specs.Limits.{announced_length, announced_count};
 ghost use Rattle.route_choice.specs.Holds.{GivesBack};
 ghost use Rattle.leak_round.specs.declared.announced.Announced.{Announced as AnAnnouncement};
 ghost use Rattle.leak_round.specs.Growth.{KeepsPaths};
@@ -38,6 +39,7 @@ fn announce(
     ensures so_far { OnOk result (IsAnnouncing pool.new plan.now announced.new.items) }
     ensures more { OnOk result (KeepsAnnounced announced.old.items announced.new.items) }
     ensures this { OnOk result (HasAnnounced plan.now announced.new.items prefix asn) }
+    ensures few { OnOk result (length announced.new.items ≤ length announced.old.items + announced_count plan.now prefix asn) }
     ensures cells { OnOk result (live_count pool.new ≤ live_count pool.old + announced_length plan.now prefix asn) }
     ensures limit { limit_of pool.new ≡ limit_of pool.old }
 {
@@ -67,6 +69,7 @@ fn announce_prefix(
     ensures so_far { OnOk result (IsAnnouncing pool.new plan.now announced.new.items) }
     ensures more { OnOk result (KeepsAnnounced announced.old.items announced.new.items) }
     ensures whole { OnOk result ((a : ℕ) → HasAnnounced plan.now announced.new.items prefix a) }
+    ensures few { OnOk result (length announced.new.items ≤ length announced.old.items + sum_by (announced_count plan.now prefix) (announcers_of plan.now)) }
     ensures cells { OnOk result (live_count pool.new ≤ live_count pool.old + sum_by (announced_length plan.now prefix) (announcers_of plan.now)) }
     ensures limit { limit_of pool.new ≡ limit_of pool.old }
 {
@@ -90,6 +93,7 @@ pub fn announce_all(
     requires so_far { IsAnnouncing pool.old plan.now [] }
     ensures so_far { IfOk result (λ v. IsAnnouncing pool.new plan.now v.items) }
     ensures whole { IfOk result (λ v. (prefix : PrefixValue) (a : ℕ) → IsTrue (has_prefix plan.now prefix) → HasAnnounced plan.now v.items prefix a) }
+    ensures few { IfOk result (λ v. length v.items ≤ fin.len plan.now.announced) }
     ensures cells { OnOk result (live_count pool.new ≤ live_count pool.old + sum_by (λ prefix. sum_by (announced_length plan.now prefix) (announcers_of plan.now)) (prefixes_of plan.now)) }
     ensures limit { limit_of pool.new ≡ limit_of pool.old }
 {

@@ -4,7 +4,7 @@ use Rattle.std.proofs.lemmas.Option.{slice_get_within}
 use Rattle.std.specs.Ordering.{nat_cmp}
 use Rattle.stability_laws.specs.Plans.{announced_path, announcers_of, IsAnnouncer}
 use Rattle.stability_laws.proofs.KeyLists.{seen_before_end}
-use Rattle.leak_round.specs.Limits.{announced_length}
+use Rattle.leak_round.specs.Limits.{announced_length, announced_count}
 use Rattle.leak_round.specs.Announced.{HasAnnounced}
 use Rattle.leak_round.proofs.Listing.{at_next, sum_next, place_le, some_of}
 use Rattle.leak_round.proofs.announced.announce_prefix.Goals as goal
@@ -35,6 +35,7 @@ announcers-preserved c =
       so_far = now.so_far;
       more = λ p b h. now.more p b (old.more p b h);
       put = at_next xs i a (HasAnnounced plan ys prefix) at now.this (λ j b less is h. now.more prefix b (old.put j b less is h));
+      few = (let next = sum_next (announced_count plan prefix) xs i a at in omega (arith, next, now.few, old.few));
       within = (let within = slice_get_within xs i a at in omega (arith, within));
       cells = (let next = sum_next (announced_length plan prefix) xs i a at in omega (arith, next, now.cells, old.cells));
       limit = now.limit ∙ old.limit;

@@ -3,7 +3,7 @@ use Rattle.std.specs.Prelude.{slice_get}
 use Rattle.std.specs.List.{sum_by}
 use Rattle.path_pool.specs.Pool.{live_count, limit_of}
 use Rattle.stability_laws.specs.Plans.{announcers_of}
-use Rattle.leak_round.specs.Limits.{announced_length}
+use Rattle.leak_round.specs.Limits.{announced_length, announced_count}
 use Rattle.leak_round.specs.Announced.{IsAnnouncing, KeepsAnnounced, HasAnnounced}
 use Rattle.leak_round.proofs.announced.announce_prefix.Given as goal
 
@@ -12,6 +12,7 @@ invariant-announcers l = record {
   so_far : IsAnnouncing l.pool l.plan l.announced.items;
   more : KeepsAnnounced l.fn.announced.items l.announced.items;
   put : (i a : ℕ) → i < l.place → slice_get (announcers_of l.plan) i ≡ Some a → HasAnnounced l.plan l.announced.items l.prefix a;
+  few : length l.announced.items ≤ length l.fn.announced.items + sum_by (announced_count l.plan l.prefix) (take l.place (announcers_of l.plan));
   within : l.place ≤ length (announcers_of l.plan);
   cells : live_count l.pool ≤ live_count l.fn.pool + sum_by (announced_length l.plan l.prefix) (take l.place (announcers_of l.plan));
   limit : limit_of l.pool ≡ limit_of l.fn.pool;

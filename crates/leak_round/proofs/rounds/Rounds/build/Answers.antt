@@ -15,7 +15,7 @@ pub make_rounds-requires-clause-announced : goal.make_rounds-requires-clause-ann
 make_rounds-requires-clause-announced g c =
     let plan = c.args.plan in
     let pool = c.announce_all.new.pool in
-    subst (AreAnnounced pool plan) (sym c.deref.ensures.value) (all_announced pool plan c.in_ok-announced.announced.items c.in_ok-announced.ensures.so_far c.in_ok-announced.ensures.whole)
+    subst (AreAnnounced pool plan) (sym c.deref.ensures.value) (all_announced pool plan c.in_ok-announced.announced.items c.in_ok-announced.ensures.so_far c.in_ok-announced.ensures.whole c.in_ok-announced.ensures.few)
 
 pub make_rounds-requires-clause-room : goal.make_rounds-requires-clause-room
 make_rounds-requires-clause-room g c =
@@ -41,7 +41,7 @@ invariant_of-result g c =
     let pool = c.announce_all.new.pool in
     let xs = c.in_ok-announced.announced.items in
     record {
-      announcements = announced_kept pool c.make_rounds.new.pool c.in_ok-tables.ensures.keeps plan xs (all_announced pool plan xs c.in_ok-announced.ensures.so_far c.in_ok-announced.ensures.whole);
+      announcements = announced_kept pool c.make_rounds.new.pool c.in_ok-tables.ensures.keeps plan xs (all_announced pool plan xs c.in_ok-announced.ensures.so_far c.in_ok-announced.ensures.whole c.in_ok-announced.ensures.few);
       full = c.in_ok-tables.ensures.full;
       held = λ k. omega (arith, c.in_ok-tables.ensures.holds k, c.in_ok-announced.ensures.so_far.holds k);
       closed = λ shut k. omega (arith, c.in_ok-tables.ensures.holds k, c.in_ok-announced.ensures.so_far.holds k);
