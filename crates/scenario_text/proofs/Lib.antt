@@ -6,4 +6,5 @@ pub mod Repeats
 pub mod Orders
 pub mod Sound
 pub mod Texts
-pub mod TwoEnds
+pub mod Paths
+pub mod WellFormed

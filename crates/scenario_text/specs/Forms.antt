@@ -1,12 +1,12 @@
 -- The forms of a script's line, a row each; a later form is a further row (own format).
 -- A line's words have exactly one space between, since no word's grammar has a space in it or an empty text.
-use Rattle.std.specs.Prelude.{ℕ, ◌==◌, List, [], ◌∷◌, codes, Option, Some, None, if◌then◌else◌}
+use Rattle.std.specs.Prelude.{ℕ, ◌==◌, List, [], ◌∷◌, ◌++◌, length, map, nat_le, codes, Option, Some, None, if◌then◌else◌}
 use Rattle.std.specs.Str.{bytes_eq}
 use Rattle.net_names.specs.declared.routes.Rel.{Rel}
 use Rattle.net_names.specs.declared.routes.Rel.TheVariants.{Customer, Peer}
 use Rattle.net_names.specs.Payloads.{VrpValue, vrp_at}
 use Rattle.net_names.specs.Steps.{◌>>=◌}
-use Rattle.net_names.specs.Texts.{after, cut_at, numeral, asn_of, vrp_asn_of, prefix_of, addr_of}
+use Rattle.net_names.specs.Texts.{after, all_some, cut_at, fields, numeral, asn_of, vrp_asn_of, prefix_of, addr_of}
 use Rattle.policy_kinds.specs.Names.{kind_named}
 use Rattle.scenario_text.specs.declared.acts.Act.{Act}
 use Rattle.scenario_text.specs.declared.acts.Act.TheVariants as act
@@ -38,6 +38,12 @@ vrp_of text = do
   prefix ← prefix_of p.0
   max ← numeral 10 3 p.1
   vrp_at prefix max asn
+
+-- a path is 1 to 64 AS numbers with one space between (own format)
+unfoldable pub path_of : List ℕ → Option (List ℕ)
+path_of text = do
+  path ← all_some (map asn_of (fields 32 text))
+  if nat_le (length path) 64 then Some path else None
 
 -- A|B|-1: A becomes the provider of B; A|B|0: they become peers; A and B differ (own format)
 unfoldable pub link : List ℕ → Option Act
@@ -76,6 +82,22 @@ unfoldable pub vrp_take : List ℕ → Option Act
 vrp_take text = do
   vrp ← vrp_of text
   Some (act.Edit (edit.VrpTake vrp))
+
+-- P A B ..: the first AS of the path A B .. announces P with this path (own format)
+unfoldable pub announce : List ℕ → Option Act
+announce text = do
+  w ← word text
+  prefix ← prefix_of w.0
+  path ← path_of w.1
+  Some (act.Edit (edit.Announce prefix path))
+
+-- P A: A doesn't announce P any more (own format)
+unfoldable pub withdraw : List ℕ → Option Act
+withdraw text = do
+  w ← word text
+  prefix ← prefix_of w.0
+  asn ← asn_of w.1
+  Some (act.Edit (edit.Withdraw prefix asn))
 
 -- R P: the table of round R and prefix P (own format)
 unfoldable pub routes : List ℕ → Option Act
@@ -130,14 +152,20 @@ validity text = do
 abbrev pub Form : Type 0
 Form = List ℕ × (List ℕ → Option Act)
 
--- all forms (own format)
-abbrev pub forms : List Form
-forms =
+-- the forms of edits (own format)
+abbrev pub edit_forms : List Form
+edit_forms =
     (codes "link ", link) ∷
     (codes "unlink ", unlink) ∷
     (codes "policy ", policy) ∷
     (codes "vrp-add ", vrp_add) ∷
     (codes "vrp-take ", vrp_take) ∷
+    (codes "announce ", announce) ∷
+    (codes "withdraw ", withdraw) ∷ []
+
+-- the forms of queries (own format)
+abbrev pub query_forms : List Form
+query_forms =
     (codes "routes ", routes) ∷
     (codes "route ", route) ∷
     (codes "trace ", trace) ∷
@@ -152,4 +180,4 @@ by_forms (form ∷ more) line = elim (after form.0 line) [ None ↦ by_forms mor
 
 -- what a line asks for, where it has one of the forms (own format)
 unfoldable pub act_of : List ℕ → Option Act
-act_of = by_forms forms
+act_of = by_forms (edit_forms ++ query_forms)

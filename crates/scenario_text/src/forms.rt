@@ -1,10 +1,13 @@
 //! The forms of a script's line.
-ghost use Rattle.std.specs.Prelude.{◌≡◌};
-ghost use Rattle.scenario_text.specs.Forms.{round_of, rel_of, vrp_of, link, unlink, policy, vrp_add, vrp_take, routes, route, trace, report, ranks, validity, act_of};
+ghost use Rattle.std.specs.Prelude.{◌≡◌, IfOk};
+ghost use Rattle.scenario_text.specs.Forms.{round_of, rel_of, vrp_of, path_of, link, unlink, policy, vrp_add, vrp_take, announce, withdraw, routes, route, trace, report, ranks, validity, by_forms, query_forms, act_of};
 
 use crate::acts::{Act, Edit, Query};
-use net_names::{Rel, Vrp, cut, number, read_addr, read_asn, read_prefix, read_vrp_asn, strip};
+use net_names::{
+    NoMemory, Path, Rel, Vrp, cut, number, read_addr, read_asn, read_prefix, read_vrp_asn, strip,
+};
 use policy_kinds::read_kind;
+use std::alloc::Global;
 
 fn round(text: &[u8]) -> Option<u32>
     ensures { result ≡ round_of text.now }
@@ -42,6 +45,35 @@ fn vrp(text: &[u8]) -> Option<Vrp>
         return None;
     }
     Vrp::new(prefix, max as u8, asn)
+}
+
+const MOST_NUMBERS: usize = 64;
+
+// The ASes of a path.
+fn path(alloc: Global, text: &[u8]) -> Result<Option<Path>, NoMemory>
+    ensures { IfOk result (λ path. path ≡ path_of text.now) }
+{
+    let mut path = Path::new(alloc);
+    let mut rest = text;
+    for _i in 0..MOST_NUMBERS {
+        match cut(rest, b' ') {
+            None => {
+                let Some(asn) = read_asn(rest) else {
+                    return Ok(None);
+                };
+                path.push(asn)?;
+                return Ok(Some(path));
+            }
+            Some((word, more)) => {
+                let Some(asn) = read_asn(word) else {
+                    return Ok(None);
+                };
+                path.push(asn)?;
+                rest = more;
+            }
+        }
+    }
+    Ok(None)
 }
 
 #[tactic(auto, unfolding(crate::specs::Forms::link))]
@@ -98,6 +130,33 @@ fn vrp_take_act(text: &[u8]) -> Option<Act>
 {
     let vrp = vrp(text)?;
     Some(Act::Edit(Edit::VrpTake { vrp }))
+}
+
+#[tactic(auto, unfolding(crate::specs::Forms::announce))]
+fn announce_act(alloc: Global, text: &[u8]) -> Result<Option<Act>, NoMemory>
+    ensures { IfOk result (λ act. act ≡ announce text.now) }
+{
+    let Some((w, rest)) = cut(text, b' ') else {
+        return Ok(None);
+    };
+    let Some(prefix) = read_prefix(w) else {
+        return Ok(None);
+    };
+    match path(alloc, rest) {
+        Ok(Some(path)) => Ok(Some(Act::Edit(Edit::Announce { prefix, path }))),
+        Ok(None) => Ok(None),
+        Err(_) => Err(NoMemory),
+    }
+}
+
+#[tactic(auto, unfolding(crate::specs::Forms::withdraw))]
+fn withdraw_act(text: &[u8]) -> Option<Act>
+    ensures { result ≡ withdraw text.now }
+{
+    let (w, rest) = cut(text, b' ')?;
+    let prefix = read_prefix(w)?;
+    let asn = read_asn(rest)?;
+    Some(Act::Edit(Edit::Withdraw { prefix, asn }))
 }
 
 #[tactic(auto, unfolding(crate::specs::Forms::routes))]
@@ -164,26 +223,10 @@ fn validity_act(text: &[u8]) -> Option<Act>
     Some(Act::Query(Query::Validity { prefix, asn }))
 }
 
-/// What a line asks for; `None` exactly where it has none of the forms.
-#[tactic(auto, unfolding(crate::specs::Forms::act_of))]
-pub(crate) fn act(line: &[u8]) -> Option<Act>
-    ensures { result ≡ act_of line.now }
+// What a line asks for that has the form of a query.
+fn query_act(line: &[u8]) -> Option<Act>
+    ensures { result ≡ by_forms query_forms line.now }
 {
-    if let Some(rest) = strip(line, b"link ") {
-        return link_act(rest);
-    }
-    if let Some(rest) = strip(line, b"unlink ") {
-        return unlink_act(rest);
-    }
-    if let Some(rest) = strip(line, b"policy ") {
-        return policy_act(rest);
-    }
-    if let Some(rest) = strip(line, b"vrp-add ") {
-        return vrp_add_act(rest);
-    }
-    if let Some(rest) = strip(line, b"vrp-take ") {
-        return vrp_take_act(rest);
-    }
     if let Some(rest) = strip(line, b"routes ") {
         return routes_act(rest);
     }
@@ -203,4 +246,33 @@ pub(crate) fn act(line: &[u8]) -> Option<Act>
         return validity_act(rest);
     }
     None
+}
+
+/// What a line asks for; `None` exactly where it has none of the forms. `Err` where there is not enough memory.
+#[tactic(auto, unfolding(crate::specs::Forms::act_of))]
+pub(crate) fn act(alloc: Global, line: &[u8]) -> Result<Option<Act>, NoMemory>
+    ensures { IfOk result (λ act. act ≡ act_of line.now) }
+{
+    if let Some(rest) = strip(line, b"link ") {
+        return Ok(link_act(rest));
+    }
+    if let Some(rest) = strip(line, b"unlink ") {
+        return Ok(unlink_act(rest));
+    }
+    if let Some(rest) = strip(line, b"policy ") {
+        return Ok(policy_act(rest));
+    }
+    if let Some(rest) = strip(line, b"vrp-add ") {
+        return Ok(vrp_add_act(rest));
+    }
+    if let Some(rest) = strip(line, b"vrp-take ") {
+        return Ok(vrp_take_act(rest));
+    }
+    if let Some(rest) = strip(line, b"announce ") {
+        return announce_act(alloc, rest);
+    }
+    if let Some(rest) = strip(line, b"withdraw ") {
+        return Ok(withdraw_act(rest));
+    }
+    Ok(query_act(line))
 }

@@ -59,13 +59,14 @@ fn skips(line: &[u8]) -> bool
 }
 
 // What a line says that isn't skipped, where so many others stand before it.
-fn command_of(line: &[u8], number: u32, before: u32) -> Result<Line, ScriptError>
+fn command_of(alloc: Global, line: &[u8], number: u32, before: u32) -> Result<Line, ScriptError>
     ensures gives { Gives result (command before (number, line.now)) }
     ensures sound { IfOk result (λ l. IsSoundAct l.act) }
 {
-    match act(line) {
-        None => Err(ScriptError::Unreadable { line: number }),
-        Some(act) => {
+    match act(alloc, line) {
+        Err(_) => Err(ScriptError::Memory),
+        Ok(None) => Err(ScriptError::Unreadable { line: number }),
+        Ok(Some(act)) => {
             if before < MOST_COMMANDS {
                 Ok(Line { number, act })
             } else {
@@ -93,7 +94,7 @@ pub fn read_script(alloc: Global, bytes: &[u8]) -> Result<Lines, ScriptError>
         rest = more;
         number += 1;
         if !skips(line) {
-            let next = command_of(line, number, count)?;
+            let next = command_of(alloc, line, number, count)?;
             count += 1;
             match lines.push(next) {
                 Ok(()) => {}

@@ -1,5 +1,5 @@
--- What a line asks for makes no link of an AS with itself.
-use Rattle.std.proofs.Common.{◌≡◌, ◌==◌, ℕ, Bool, true, false, List, [], ◌∷◌, Option, None, Some, cond, refl}
+-- What a line asks for makes no link of an AS with itself, and announces a path of 1 to 64 numbers.
+use Rattle.std.proofs.Common.{◌≡◌, ◌≤◌, ◌==◌, ℕ, Bool, true, false, List, [], ◌∷◌, ◌++◌, length, Option, None, Some, IfSome, cond, refl}
 use Rattle.std.proofs.lemmas.Bool.{eqb-false}
 use Rattle.net_names.specs.Steps.{◌>>=◌}
 use Rattle.net_names.specs.declared.routes.Rel.{Rel}
@@ -9,7 +9,8 @@ use Rattle.scenario_text.specs.declared.acts.Edit.TheVariants as edit
 use Rattle.scenario_text.specs.LineValues.{IsSoundAct}
 use Rattle.net_names.specs.Texts.{after, asn_of, prefix_of, addr_of}
 use Rattle.policy_kinds.specs.Names.{kind_named}
-use Rattle.scenario_text.specs.Forms.{Form, word, end, round_of, rel_of, vrp_of, act_of, by_forms, forms, link, unlink, policy, vrp_add, vrp_take, routes, route, trace, report, ranks, validity}
+use Rattle.scenario_text.specs.Forms.{Form, word, end, round_of, rel_of, vrp_of, path_of, act_of, by_forms, edit_forms, query_forms, link, unlink, policy, vrp_add, vrp_take, announce, withdraw, routes, route, trace, report, ranks, validity}
+use Rattle.scenario_text.proofs.Paths.{path_of-length}
 
 -- the act, if there is one, is sound
 abbrev pub IsSoundOption : Option Act → Type 0
@@ -22,6 +23,10 @@ pub record Gives (o : Option Act) : Type 0 where
 through : {X : Type 0} (m : Option X) (f : X → Option Act) → ((x : X) → Gives (f x)) → Gives (m >>= f)
 through None f h = record { sound = tt }
 through (Some x) f h = h x
+
+through_if : {X : Type 0} (m : Option X) (P : X → Type 0) (f : X → Option Act) → IfSome m P → ((x : X) → P x → Gives (f x)) → Gives (m >>= f)
+through_if None P f is h = record { sound = tt }
+through_if (Some x) P f is h = h x is
 
 linked : (t : Bool) (a b : ℕ) (r : Rel) → (a == b) ≡ t → Gives (cond t None (Some (act.Edit (edit.Link a b r))))
 linked true a b r is = record { sound = tt }
@@ -50,6 +55,15 @@ add_sound text = through (vrp_of text) _ (λ v. record { sound = tt })
 take_sound : (text : List ℕ) → Gives (vrp_take text)
 unfolding vrp_take
 take_sound text = through (vrp_of text) _ (λ v. record { sound = tt })
+
+announce_sound : (text : List ℕ) → Gives (announce text)
+unfolding announce
+announce_sound text =
+    through (word text) _ (λ w. through (prefix_of w.0) _ (λ p. through_if (path_of w.1) (λ path. (1 ≤ length path) × (length path ≤ 64)) _ (path_of-length w.1) (λ path h. record { sound = h })))
+
+withdraw_sound : (text : List ℕ) → Gives (withdraw text)
+unfolding withdraw
+withdraw_sound text = through (word text) _ (λ w. through (prefix_of w.0) _ (λ p. through (asn_of w.1) _ (λ a. record { sound = tt })))
 
 routes_sound : (text : List ℕ) → Gives (routes text)
 unfolding routes
@@ -93,4 +107,5 @@ by_sound (form ∷ more) line h = either (after form.0 line) form.1 (by_forms mo
 pub act_sound : (line : List ℕ) → Gives (act_of line)
 unfolding act_of
 act_sound line =
-    by_sound forms line (link_sound, (unlink_sound, (policy_sound, (add_sound, (take_sound, (routes_sound, (route_sound, (trace_sound, (report_sound, (ranks_sound, (validity_sound, tt)))))))))))
+    by_sound (edit_forms ++ query_forms) line
+    (link_sound, (unlink_sound, (policy_sound, (add_sound, (take_sound, (announce_sound, (withdraw_sound, (routes_sound, (route_sound, (trace_sound, (report_sound, (ranks_sound, (validity_sound, tt)))))))))))))

@@ -1,0 +1,89 @@
+-- The numbers of an announced path, one after the other.
+use Rattle.std.proofs.Common.{◌≡◌, ℕ, ◌+◌, ◌<◌, ◌≤◌, Bool, true, false, List, [], ◌∷◌, ◌++◌, length, map, Option, Some, None, IfSome, cond, refl, sym, ◌∙◌, append_assoc, arith, length-append}
+use Rattle.std.specs.Prelude.{nat_le, if◌then◌else◌}
+use Rattle.std.proofs.lemmas.Bool.{leb-true, le-leb, lt-leb}
+use Rattle.net_names.specs.Steps.{◌>>=◌}
+use Rattle.net_names.specs.Texts.{all_some, asn_of, cut_at, fields}
+use Rattle.net_names.proofs.Cuts.{fields_uncut, fields_cut}
+use Rattle.scenario_text.specs.Forms.{path_of}
+
+-- the numbers that the rest of the text writes, behind those so far, where all are at most 64
+abbrev pub path_on : List ℕ → Option (List ℕ) → Option (List ℕ)
+path_on front numbers = numbers >>= λ ns. if nat_le (length front + length ns) 64 then Some (front ++ ns) else None
+
+-- the numbers that a text writes, however many they are
+abbrev pub numbers_of : List ℕ → Option (List ℕ)
+numbers_of text = all_some (map asn_of (fields 32 text))
+
+starts_with : (os : Option (List ℕ)) → path_on [] os ≡ (os >>= λ ns. if nat_le (length ns) 64 then Some ns else None)
+starts_with None = refl
+starts_with (Some ns) = let e : 0 + length ns ≡ length ns = omega arith in rw e refl
+
+pub starts : (text : List ℕ) → path_on [] (numbers_of text) ≡ path_of text
+unfolding path_of
+starts text = starts_with (numbers_of text)
+
+push : (front : List ℕ) (n : ℕ) (os : Option (List ℕ)) → path_on front (os >>= λ ns. Some (n ∷ ns)) ≡ path_on (front ++ n ∷ []) os
+push front n None = refl
+push front n (Some ns) = let e : length (front ++ n ∷ []) + length ns ≡ length front + length (n ∷ ns) = omega (arith, length-append front (n ∷ [])) in rw (e, append_assoc front (n ∷ []) ns) refl
+
+pub goes_on : (front rest word more : List ℕ) (n : ℕ) (whole : Option (List ℕ)) → Some (word, more) ≡ cut_at 32 rest → Some n ≡ asn_of word
+    → path_on front (numbers_of rest) ≡ whole → path_on (front ++ n ∷ []) (numbers_of more) ≡ whole
+goes_on front rest word more n whole c e so_far =
+    let f = fields_cut 32 rest word more (sym c) in
+    let one : path_on front (numbers_of rest) ≡ path_on front (numbers_of more >>= λ ns. Some (n ∷ ns)) = rw (f, ← e) refl in
+    sym (push front n (numbers_of more)) ∙ sym one ∙ so_far
+
+pub stops : (front rest word more : List ℕ) (whole : Option (List ℕ)) → Some (word, more) ≡ cut_at 32 rest → None ≡ asn_of word
+    → path_on front (numbers_of rest) ≡ whole → None ≡ whole
+stops front rest word more whole c e so_far =
+    let f = fields_cut 32 rest word more (sym c) in
+    let one : path_on front (numbers_of rest) ≡ None = rw (f, ← e) refl in
+    sym one ∙ so_far
+
+pub unread : (front rest : List ℕ) (whole : Option (List ℕ)) → None ≡ cut_at 32 rest → None ≡ asn_of rest → path_on front (numbers_of rest) ≡ whole → None ≡ whole
+unread front rest whole c e so_far =
+    let f = fields_uncut 32 rest (sym c) in
+    let one : path_on front (numbers_of rest) ≡ None = rw (f, ← e) refl in
+    sym one ∙ so_far
+
+pub last : (front rest : List ℕ) (n : ℕ) (whole : Option (List ℕ)) → None ≡ cut_at 32 rest → Some n ≡ asn_of rest → length front < 64
+    → path_on front (numbers_of rest) ≡ whole → Some (front ++ n ∷ []) ≡ whole
+last front rest n whole c e short so_far =
+    let f = fields_uncut 32 rest (sym c) in
+    let t : nat_le (length front + 1) 64 ≡ true = le-leb (length front + 1) 64 (omega (arith, short)) in
+    let one : path_on front (numbers_of rest) ≡ Some (front ++ n ∷ []) = rw (f, ← e, t) refl in
+    sym one ∙ so_far
+
+too_many : (front : List ℕ) (o : Option ℕ) (os : Option (List ℕ)) → length front ≡ 64 → path_on front (o >>= λ n. os >>= λ ns. Some (n ∷ ns)) ≡ None
+too_many front None os e = refl
+too_many front (Some n) None e = refl
+too_many front (Some n) (Some ns) e = let t : nat_le (length front + length (n ∷ ns)) 64 ≡ false = lt-leb _ _ (omega (arith, e)) in rw t refl
+
+pub full : (front rest : List ℕ) (whole : Option (List ℕ)) → length front ≡ 64 → path_on front (numbers_of rest) ≡ whole → None ≡ whole
+full front rest whole e so_far =
+    (elim (cut_at 32 rest) as (λ v. cut_at 32 rest ≡ v → None ≡ whole) [
+      | None ↦ λ c. let one : path_on front (numbers_of rest) ≡ None = rw (fields_uncut 32 rest c) (too_many front (asn_of rest) (Some []) e) in sym one ∙ so_far
+      | Some p ↦ λ c. let one : path_on front (numbers_of rest) ≡ None = rw (fields_cut 32 rest p.0 p.1 c) (too_many front (asn_of p.0) (numbers_of p.1) e) in sym one ∙ so_far
+    ]) refl
+
+-- a path is none, or has 1 to 64 numbers
+abbrev IsPathOption : Option (List ℕ) → Type 0
+IsPathOption o = IfSome o (λ path. (1 ≤ length path) × (length path ≤ 64))
+
+few : (t : Bool) (n : ℕ) (ns : List ℕ) → nat_le (length (n ∷ ns)) 64 ≡ t → IsPathOption (cond t (Some (n ∷ ns)) None)
+few true n ns e = (omega arith, leb-true _ _ e)
+few false n ns e = tt
+
+some_and_few : (o : Option ℕ) (os : Option (List ℕ)) → IsPathOption (path_on [] (o >>= λ n. os >>= λ ns. Some (n ∷ ns)))
+some_and_few None os = tt
+some_and_few (Some n) None = tt
+some_and_few (Some n) (Some ns) = let e : 0 + length (n ∷ ns) ≡ length (n ∷ ns) = omega arith in rw e (few (nat_le (length (n ∷ ns)) 64) n ns refl)
+
+pub path_of-length : (text : List ℕ) → IfSome (path_of text) (λ path. (1 ≤ length path) × (length path ≤ 64))
+path_of-length text =
+    rw (← starts text)
+    ((elim (cut_at 32 text) as (λ v. cut_at 32 text ≡ v → IsPathOption (path_on [] (numbers_of text))) [
+      | None ↦ λ c. rw (fields_uncut 32 text c) (some_and_few (asn_of text) (Some []))
+      | Some p ↦ λ c. rw (fields_cut 32 text p.0 p.1 c) (some_and_few (asn_of p.0) (numbers_of p.1))
+    ]) refl)
