@@ -1,5 +1,6 @@
 pub mod Faults
 pub mod Bytes
+pub mod Streams
 pub mod Whole
 pub mod Files
 pub mod Calls

@@ -1,5 +1,7 @@
 // The real files. What they hold is told nowhere, and no name is sound.
-ghost use Rattle.std.specs.Prelude.{◌≡◌, ◌≤◌, ℕ, None, length, IfSome};
+ghost use Rattle.std.specs.Prelude.{◌≡◌, None, Some, []};
+ghost use Rattle.std.specs.Io.{ReadsAtMost};
+ghost use Rattle.std.specs.Io.KnownBytes.{ReadConsumes};
 
 use crate::{Failed, Inputs};
 use std::fs;
@@ -9,7 +11,8 @@ use std::rt::Files;
 
 /// Files of the system, by path.
 ///
-/// Contracts see it as its count of faults, and know nothing of what a file holds.
+/// Contracts see it as its count of faults and what is left of the file that was begun, where its type of files tells that.
+/// Files of the system tell nothing.
 #[derive(Drop)]
 pub struct DirInputs<R: Files + Drop>
 where
@@ -24,11 +27,11 @@ impl<R: Files + Drop> Model for DirInputs<R>
 where
     R::File: Drop,
 {
-    ghost use Rattle.std.specs.Prelude.{ℕ};
+    ghost use Rattle.io_edge.specs.Streams.{Reading, left_of};
 
-    ghost Value = { ℕ };
+    ghost Value = { Reading };
 
-    ghost view = { λ a. a.faults };
+    ghost view = { λ a. record { left = left_of R.File.remaining a.file; faults = a.faults } };
 }
 
 impl<R: Files + Drop> DirInputs<R>
@@ -37,7 +40,7 @@ where
 {
     /// Files of this runtime, of which none is begun.
     pub fn new(rt: R) -> DirInputs<R>
-        ensures { result ≡ 0 }
+        ensures { result ≡ record { left = Some []; faults = 0 } }
     {
         DirInputs {
             rt,
@@ -53,9 +56,9 @@ where
 {
     ghost holds = { λ _ _. None };
 
-    ghost left = { λ _. None };
+    ghost left = { λ s. s.left };
 
-    ghost faults = { λ count. count };
+    ghost faults = { λ s. s.faults };
 
     ghost is_sound = { λ _ _. ⊥ };
 
@@ -80,8 +83,8 @@ where
             return Ok(0);
         };
         match read_some(file, room) {
-            Some(count) => Ok(count),
-            None => {
+            Ok(count) => Ok(count),
+            Err(Failed) => {
                 self.faults = self.faults.saturating_add(1);
                 Err(Failed)
             }
@@ -90,12 +93,13 @@ where
 }
 
 // Reads again where a signal came between.
-fn read_some<F: Read>(file: &mut F, room: &mut [u8]) -> Option<usize>
-    ensures { IfSome result (λ n. n ≤ length room.new) }
+fn read_some<F: Read>(file: &mut F, room: &mut [u8]) -> Result<usize, Failed>
+    ensures bound { ReadsAtMost result room.new }
+    ensures bytes { ReadConsumes (F.remaining file.old) (F.remaining file.new) result room.new }
 {
-    for _ in 0..u64::MAX {
+    'tries: for _ in 0..u64::MAX {
         match file.read(room) {
-            Ok(count) => return Some(count),
+            Ok(count) => return Ok(count),
             Err(error) => {
                 if error.kind() != ErrorKind::Interrupted {
                     break;
@@ -103,5 +107,5 @@ fn read_some<F: Read>(file: &mut F, room: &mut [u8]) -> Option<usize>
             }
         }
     }
-    None
+    Err(Failed)
 }

@@ -4,7 +4,7 @@
 //! from an answer that gives up by itself. [`read_all`] answers the whole file, or why not; [`write_all`] appends the whole
 //! piece, or a front of it where the sink failed. [`CleanInputs`] and [`CleanSink`] never fail, [`MemInputs`] and
 //! [`MemSink`] fail at exactly the calls that their user names, [`DirInputs`] and [`StdSink`] are the real files and
-//! streams, of whose content nothing is proved.
+//! streams: they pass on what a file or a stream gives and takes, and those of the system tell nothing of that.
 #![tactic(auto)]
 
 mod calls;
