@@ -18,11 +18,11 @@ use Rattle.leak_round.proofs.Listing.{got_either}
 pub own_path-push : (xs : List Announced) (x : Announced) (prefix : PrefixValue) (a : ℕ) → own_path (xs ++ x ∷ []) prefix a ≡ cond (is_of prefix a x) (Some x.path) (own_path xs prefix a)
 own_path-push xs x prefix a = fold-append (λ (found : Option PathId) (y : Announced). cond (is_of prefix a y) (Some y.path) found) None xs (x ∷ [])
 
-announced_uses-push : (xs : List Announced) (x : Announced) (k : ℕ) → announced_uses (xs ++ x ∷ []) k ≡ announced_uses xs k + cond (x.path.0 == k) 1 0
+pub announced_uses-push : (xs : List Announced) (x : Announced) (k : ℕ) → announced_uses (xs ++ x ∷ []) k ≡ announced_uses xs k + cond (x.path.0 == k) 1 0
 announced_uses-push xs x k = sum_by_push (λ (y : Announced). cond (y.path.0 == k) 1 0) xs x
 
 -- the announcement is that of its prefix by its AS
-is_of-itself : (x : Announced) (prefix : PrefixValue) (a : ℕ) → is_of prefix a x ≡ true → (x.prefix ≡ prefix) × (x.asn ≡ a)
+pub is_of-itself : (x : Announced) (prefix : PrefixValue) (a : ℕ) → is_of prefix a x ≡ true → (x.prefix ≡ prefix) × (x.asn ≡ a)
 is_of-itself x prefix a e = let parts = and_parts ((same_prefix.ghosts).eq x.prefix prefix) (x.asn == a) e in (same_prefixes x.prefix prefix parts.0, eqb-true x.asn a parts.1)
 
 pub keeps_announced : (xs : List Announced) (x : Announced) → KeepsAnnounced xs (xs ++ x ∷ [])

@@ -158,7 +158,7 @@ kept_is pool rounds round prefix a = by (tables_in rounds round)
     by None = refl
     by (Some r) = at_table (table_at r prefix)
 
-itself_at : (f : Family) (b l : ℕ) → (let p : PrefixValue = record { family = f; addr = b; len = l } in (same_prefix.ghosts).eq p p ≡ true)
+pub itself_at : (f : Family) (b l : ℕ) → (let p : PrefixValue = record { family = f; addr = b; len = l } in (same_prefix.ghosts).eq p p ≡ true)
 itself_at V4 b l = grind (arith, common_steps)
 itself_at V6 b l = grind (arith, common_steps)
 

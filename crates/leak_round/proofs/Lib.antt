@@ -14,3 +14,4 @@ mod Laying
 mod Committing
 mod Telling
 mod Closing
+mod Editing

@@ -1,11 +1,15 @@
 -- Another plan of seeds beside that of the rounds.
-use Rattle.std.specs.Prelude.{◌≡◌, ℕ, Option, Some, List}
+use Rattle.std.specs.Prelude.{◌≡◌, ℕ, ◌+◌, ◌≤◌, not, Option, Some, List, [], ◌∷◌, ◌++◌, filter}
 use Rattle.std.specs.Option.{option_map_or}
+use Rattle.net_names.specs.Prefixes.{PrefixValue}
+use Rattle.path_pool.specs.declared.path_id.PathId.{PathId}
 use Rattle.path_pool.specs.declared.pool.PathPool.{PathPool}
-use Rattle.stability_laws.specs.Plans.{Plan}
+use Rattle.path_pool.specs.Pool.{IsLive, list_of, holds_of, count_of, live_count}
+use Rattle.stability_laws.specs.Plans.{Plan, announcer_of}
 use Rattle.leak_round.specs.declared.announced.Announced.{Announced}
 use Rattle.leak_round.specs.declared.edited.EditedSeeds.{EditedSeeds}
-use Rattle.leak_round.specs.Announced.{announced_uses, AreAnnounced}
+use Rattle.leak_round.specs.Announced.{is_of, announced_uses, AreAnnounced}
+use Rattle.leak_round.specs.Growth.{KeepsPaths}
 use Rattle.leak_round.specs.Limits.{IsWithinLimits}
 
 -- how often an announced path of the plan of seeds after it is used (own rule)
@@ -29,3 +33,29 @@ pub record AreSeedsOf (pool : PathPool) (plan : Plan) (e : EditedSeeds) : Type 0
 -- so it is, where there is another plan of seeds (own rule)
 abbrev pub AreEdited : PathPool → Plan → Option EditedSeeds → Type 0
 AreEdited pool plan edited = (e : EditedSeeds) → edited ≡ Some e → AreSeedsOf pool plan e
+
+-- the announcements but that of the prefix by the AS (own rule)
+abbrev pub others_of : PrefixValue → ℕ → List Announced → List Announced
+others_of prefix a xs = filter (λ x. not (is_of prefix a x)) xs
+
+-- each of the announcements has one hold more, each path that was live is live and the same, at most n cells more are live, and no count rises by more than 129 (own rule)
+pub record AreHeldToo (old new : PathPool) (xs : List Announced) (n : ℕ) : Type 0 where
+  pub holds : (k : ℕ) → holds_of new k ≡ holds_of old k + announced_uses xs k
+  pub keeps : KeepsPaths old new
+  pub cells : live_count new ≤ live_count old + n
+  pub counts : (k : ℕ) → count_of new k ≤ count_of old k + 129
+
+-- behind the announcements that were there stands one of the prefix by the first AS of the path, which stands in the pool (own rule)
+pub record EndsWithPath (pool : PathPool) (prefix : PrefixValue) (path : List ℕ) (before after : List Announced) : Type 0 where
+  pub id : PathId
+  pub items : after ≡ before ++ record { prefix = prefix; asn = announcer_of path; path = id } ∷ []
+  pub live : IsLive pool id.0
+  pub list : list_of pool id.0 ≡ path
+
+-- this is another plan of seeds, with its announced paths in the pool, for an edit of the AS (own rule)
+pub record AreMade (old new : PathPool) (plan after : Plan) (a : ℕ) (e : EditedSeeds) : Type 0 where
+  pub seeds : AreSeedsOf new plan e
+  pub plan_is : e.plan ≡ after
+  pub asn_is : e.asn ≡ a
+  pub few : e.numbers ≤ 64
+  pub held : AreHeldToo old new e.announced.items e.numbers

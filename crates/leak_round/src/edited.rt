@@ -1,16 +1,23 @@
 //! Another plan of seeds beside that of the rounds.
 
-ghost use Rattle.std.specs.Prelude.{◌≡◌, ℕ, ◌+◌, ◌≤◌};
+ghost use Rattle.std.specs.Prelude.{◌≡◌, ℕ, ◌+◌, ◌≤◌, length, slice_get, IsTrue, Some, IfOk, OnOk, OnErr};
 ghost use Rattle.std.specs.Option.{option_map_or};
-ghost use Rattle.path_pool.specs.Pool.{holds_of};
+ghost use Rattle.path_pool.specs.Pool.{IsLive, SamePaths, holds_of, count_of, live_count, limit_of};
+ghost use Rattle.stability_laws.specs.Plans.{announcer_of, has_prefix, with_announcement};
+ghost use Rattle.stability_laws.specs.SeedEdits.{edit_asn, edited, without_announcement, IsEditOf, IsEditWithin};
 ghost use Rattle.route_choice.specs.Holds.{GivesBack};
-ghost use Rattle.leak_round.specs.Announced.{announced_uses};
-ghost use Rattle.leak_round.specs.Edited.{edited_uses, given_up};
+ghost use Rattle.dirty_recompute.specs.Resources.{IsUndone};
+ghost use Rattle.leak_round.specs.declared.announced.Announced.{Announced as AnAnnouncement};
+ghost use Rattle.leak_round.specs.Limits.{IsWithinLimits};
+ghost use Rattle.leak_round.specs.Announced.{is_of, announced_uses, AreAnnounced};
+ghost use Rattle.leak_round.specs.Growth.{KeepsPaths};
+ghost use Rattle.leak_round.specs.Edited.{edited_uses, given_up, others_of, AreHeldToo, EndsWithPath, AreSeedsOf, AreMade};
 
-use crate::announced::{Announced, release_all};
-use net_names::Asn;
+use crate::announced::{Announced, hold_all, release_all};
+use net_names::{Asn, NoMemory, Path, Prefix};
 use path_pool::PathPool;
-use stability_laws::SeedPlan;
+use stability_laws::{SeedEdit, SeedPlan};
+use std::alloc::Global;
 
 /// Another plan of seeds, with its announced paths in a pool. It owns one hold of each.
 #[derive(Drop)]
@@ -56,5 +63,171 @@ pub fn drop_seeds(edited: Option<EditedSeeds>, pool: &mut PathPool)
     match edited {
         Some(seeds) => release_all(seeds.announced.as_slice(), pool),
         None => {}
+    }
+}
+
+// Whether the announcement is that of the prefix by the AS.
+fn is_of(one: &Announced, prefix: Prefix, asn: Asn) -> bool
+    ensures { result ≡ is_of prefix asn one.now }
+{
+    one.prefix == prefix && one.asn == asn
+}
+
+// The announcements but that of the prefix by the AS.
+fn others_of(
+    alloc: Global,
+    announced: &[Announced],
+    prefix: Prefix,
+    asn: Asn,
+) -> Result<Vec<Announced>, NoMemory>
+    ensures { IfOk result (λ v. v.items ≡ others_of prefix asn announced.now) }
+{
+    let mut others = Vec::new(alloc);
+    for one in announced {
+        if !is_of(one, prefix, asn) {
+            match others.push(*one) {
+                Ok(()) => {}
+                Err(_) => return Err(NoMemory),
+            }
+        }
+    }
+    Ok(others)
+}
+
+// Puts a path into the pool, and its announcement behind the others, of each of which it takes one hold
+// more.
+fn add_path(
+    prefix: Prefix,
+    path: &Path,
+    announced: &mut Vec<Announced>,
+    pool: &mut PathPool,
+) -> Result<(), NoMemory>
+    requires some { 1 ≤ length path.now }
+    requires live { (place : ℕ) (x : AnAnnouncement) → slice_get announced.old.items place ≡ Some x → IsLive pool.old x.path.0 }
+    requires few { length announced.old.items ≤ 64 }
+    requires counts { (k : ℕ) → count_of pool.old k ≤ 4000000000 }
+    ensures last { OnOk result (EndsWithPath pool.new prefix path.now announced.old.items announced.new.items) }
+    ensures held { OnOk result (AreHeldToo pool.old pool.new announced.new.items (length path.now)) }
+    ensures err { OnErr result (SamePaths pool.old pool.new) }
+    ensures limit { limit_of pool.new ≡ limit_of pool.old }
+{
+    let numbers = path.as_slice();
+    match announced.reserve(1) {
+        Ok(()) => {}
+        Err(_) => return Err(NoMemory),
+    }
+    match pool.reserve(numbers.len()) {
+        Ok(()) => {}
+        Err(_) => return Err(NoMemory),
+    }
+    let path = pool.copy_in(numbers);
+    hold_all(announced.as_slice(), pool);
+    let _ = announced.push(Announced {
+        prefix,
+        asn: numbers[0],
+        path,
+    });
+    Ok(())
+}
+
+// The seeds after a path is announced, in place of an earlier one of the prefix by its AS.
+fn announce_anew(
+    alloc: Global,
+    plan: &SeedPlan,
+    after: SeedPlan,
+    announced: &[Announced],
+    prefix: Prefix,
+    path: &Path,
+    pool: &mut PathPool,
+) -> Result<EditedSeeds, NoMemory>
+    requires known { IsTrue (has_prefix plan.now prefix) }
+    requires some { 1 ≤ length path.now }
+    requires short { length path.now ≤ 64 }
+    requires after { after ≡ with_announcement plan.now prefix path.now }
+    requires limits { IsWithinLimits after }
+    requires announced { AreAnnounced pool.old plan.now announced.now }
+    requires counts { (k : ℕ) → count_of pool.old k ≤ 4000000000 }
+    ensures made { IfOk result (AreMade pool.old pool.new plan.now after (announcer_of path.now)) }
+    ensures err { OnErr result (IsUndone pool.old pool.new) }
+    ensures limit { limit_of pool.new ≡ limit_of pool.old }
+{
+    let numbers = path.as_slice();
+    let asn = numbers[0];
+    let mut others = others_of(alloc, announced, prefix, asn)?;
+    match add_path(prefix, path, &mut others, pool) {
+        Ok(()) => Ok(EditedSeeds {
+            plan: after,
+            announced: others,
+            asn,
+            numbers: numbers.len(),
+        }),
+        Err(_) => Err(NoMemory),
+    }
+}
+
+// The seeds after the AS does not announce the prefix any more.
+fn withdraw(
+    alloc: Global,
+    plan: &SeedPlan,
+    after: SeedPlan,
+    announced: &[Announced],
+    prefix: Prefix,
+    asn: Asn,
+    pool: &mut PathPool,
+) -> Result<EditedSeeds, NoMemory>
+    requires known { IsTrue (has_prefix plan.now prefix) }
+    requires after { after ≡ without_announcement plan.now prefix asn }
+    requires limits { IsWithinLimits after }
+    requires announced { AreAnnounced pool.old plan.now announced.now }
+    requires counts { (k : ℕ) → count_of pool.old k ≤ 4000000000 }
+    ensures made { IfOk result (AreMade pool.old pool.new plan.now after asn) }
+    ensures err { OnErr result (IsUndone pool.old pool.new) }
+    ensures limit { limit_of pool.new ≡ limit_of pool.old }
+{
+    let others = others_of(alloc, announced, prefix, asn)?;
+    hold_all(others.as_slice(), pool);
+    Ok(EditedSeeds {
+        plan: after,
+        announced: others,
+        asn,
+        numbers: 0,
+    })
+}
+
+// The seeds after an edit of who announces what. The announcements that stay keep their places in the
+// pool, and each gets one hold more; a new path is put in. `Err` where there is not enough memory; then
+// the holds are as before.
+pub fn edit_seeds(
+    alloc: Global,
+    plan: &SeedPlan,
+    announced: &[Announced],
+    edit: &SeedEdit,
+    pool: &mut PathPool,
+) -> Result<EditedSeeds, NoMemory>
+    requires known { IsEditOf plan.now edit.now }
+    requires within { IsEditWithin 64 edit.now }
+    requires limits { IsWithinLimits (edited plan.now edit.now) }
+    requires announced { AreAnnounced pool.old plan.now announced.now }
+    requires room { live_count pool.old + 64 ≤ limit_of pool.old }
+    requires counts { (k : ℕ) → count_of pool.old k ≤ 4000000000 }
+    ensures seeds { IfOk result (λ e. AreSeedsOf pool.new plan.now e) }
+    ensures plan { IfOk result (λ e. e.plan ≡ edited plan.now edit.now) }
+    ensures asn { IfOk result (λ e. e.asn ≡ edit_asn edit.now) }
+    ensures few { IfOk result (λ e. e.numbers ≤ 64) }
+    ensures holds { IfOk result (λ e. (k : ℕ) → holds_of pool.new k ≡ holds_of pool.old k + announced_uses e.announced.items k) }
+    ensures keeps { OnOk result (KeepsPaths pool.old pool.new) }
+    ensures cells { IfOk result (λ e. live_count pool.new ≤ live_count pool.old + e.numbers) }
+    ensures counts { OnOk result ((k : ℕ) → count_of pool.new k ≤ count_of pool.old k + 129) }
+    ensures limit { limit_of pool.new ≡ limit_of pool.old }
+    ensures err { OnErr result (IsUndone pool.old pool.new) }
+{
+    let after = plan.edited(alloc, edit)?;
+    match edit {
+        SeedEdit::Announce { prefix, path } => {
+            announce_anew(alloc, plan, after, announced, *prefix, path, pool)
+        }
+        SeedEdit::Withdraw { prefix, asn } => {
+            withdraw(alloc, plan, after, announced, *prefix, *asn, pool)
+        }
     }
 }

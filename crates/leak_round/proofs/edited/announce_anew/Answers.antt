@@ -1,0 +1,36 @@
+use Rattle.std.proofs.Common.{List, length, refl, sym, ap, subst, ◌∙◌, arith}
+use Rattle.std.specs.Prelude.{slice_get}
+use Rattle.stability_laws.proofs.PlanEdits.{announcer_is}
+use Rattle.leak_round.specs.declared.announced.Announced.{Announced}
+use Rattle.leak_round.specs.declared.edited.EditedSeeds.{EditedSeeds}
+use Rattle.leak_round.specs.Edited.{others_of, AreHeldToo}
+use Rattle.leak_round.specs.Limits.{IsWithinLimits}
+use Rattle.leak_round.proofs.Editing.{announced_without, others_fit, seeds_instead}
+use Rattle.leak_round.proofs.edited.announce_anew.Goals as goal
+
+pub add_path-requires-clause-live : goal.add_path-requires-clause-live
+add_path-requires-clause-live c = λ place x at.
+    ((announced_without c.args.prefix c.index-numbers-0.result c.args.pool.now c.args.plan.now c.args.announced.now c.requires.announced c.requires.known).each place x (sym (ap (λ (ys : List Announced). slice_get ys place) c.in_ok-others.ensures) ∙ at)).0
+
+pub add_path-requires-clause-few : goal.add_path-requires-clause-few
+add_path-requires-clause-few c =
+    let first = announcer_is c.args.path.now c.as_slice-numbers.result.now c.index-numbers-0.result c.requires.some c.as_slice-numbers.ensures c.index-numbers-0.is in
+    let are = c.in_ok-others.ensures ∙ ap (λ a. others_of c.args.prefix a c.args.announced.now) first in
+    let fit = others_fit c.args.pool.now c.args.plan.now c.args.announced.now c.requires.announced c.args.prefix c.args.path.now c.requires.known (subst IsWithinLimits c.requires.after c.requires.limits) in
+    omega (arith, fit, ap (λ (ys : List Announced). length ys) are)
+
+pub returns-in-Ok-clause-made : goal.returns-in-Ok-clause-made
+returns-in-Ok-clause-made c =
+    let old = c.args.pool.now in
+    let new = c.add_path.new.pool in
+    let numbers = c.as_slice-numbers.result.now in
+    let first = announcer_is c.args.path.now numbers c.index-numbers-0.result c.requires.some c.as_slice-numbers.ensures c.index-numbers-0.is in
+    let are = c.in_ok-others.ensures ∙ ap (λ a. others_of c.args.prefix a c.args.announced.now) first in
+    let e : EditedSeeds = record { plan = c.args.after; announced = c.add_path.new.announced; asn = c.index-numbers-0.result; numbers = length numbers } in
+    record {
+      seeds = seeds_instead old new c.args.plan.now c.args.announced.now c.requires.announced c.in-Ok.ensures.held.keeps c.args.prefix c.requires.known e c.requires.limits c.args.path.now c.in_ok-others.others.items are c.requires.after c.in-Ok.ensures.last;
+      plan_is = refl;
+      asn_is = first;
+      few = omega (arith, c.requires.short, ap length c.as_slice-numbers.ensures);
+      held = subst (AreHeldToo old new c.add_path.new.announced.items) (sym (ap length c.as_slice-numbers.ensures)) c.in-Ok.ensures.held;
+    }
