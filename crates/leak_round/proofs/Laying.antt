@@ -168,7 +168,7 @@ here_true x = rw (eq-eqb x.round x.round refl, itself_at x.prefix.family x.prefi
 pub is_at-true : (round : ℕ) (prefix : PrefixValue) (x : Change) → is_at round prefix x ≡ true → (x.round ≡ round) × (x.prefix ≡ prefix)
 is_at-true round prefix x e = let parts = and_parts (x.round == round) ((same_prefix.ghosts).eq x.prefix prefix) e in (eqb-true x.round round parts.0, same_prefixes x.prefix prefix parts.1)
 
-apart_false : (round : ℕ) (prefix : PrefixValue) (x : Change) → (x.round ≢ round) ⊎ (x.prefix ≢ prefix) → is_at round prefix x ≡ false
+pub apart_false : (round : ℕ) (prefix : PrefixValue) (x : Change) → (x.round ≢ round) ⊎ (x.prefix ≢ prefix) → is_at round prefix x ≡ false
 apart_false round prefix x apart = by (is_at round prefix x) refl
   where
     by : (b : Bool) → is_at round prefix x ≡ b → b ≡ false

@@ -15,3 +15,4 @@ mod Committing
 mod Telling
 mod Closing
 mod Editing
+mod Ordering

@@ -10,3 +10,4 @@ pub mod Overlays
 pub mod Edited
 pub mod Rounds
 pub mod Plans
+pub mod Told

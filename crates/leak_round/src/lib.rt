@@ -12,6 +12,7 @@ mod leaked;
 mod plans;
 mod round;
 mod rounds;
+mod told;
 mod touched;
 
 pub use plans::{RoundsDone, RoundsPlan};
