@@ -16,3 +16,4 @@ mod Telling
 mod Closing
 mod Editing
 mod Ordering
+mod Tidying
