@@ -3,6 +3,7 @@ mod answers;
 mod cycles;
 mod files;
 mod forwarding;
+mod graph_edits;
 mod graphs;
 mod kinds;
 mod narrow_policy;

@@ -111,12 +111,15 @@ fn disjoint(rt: &impl Abort, alloc: Global, count: u32) -> Result<Links, Fail>
 }
 
 #[test]
-fn no_as_is_marked_past_150000(rt: HostRuntime) -> Result<(), Fail> {
+fn no_as_is_marked_or_linked_past_150000(rt: HostRuntime) -> Result<(), Fail> {
     let new = number(150_001)?;
     let links = disjoint(&rt, rt.alloc(), 75_000)?;
     let mut graph = Graph::build(rt.alloc(), &links)?;
     assert_eq!(rt; graph.as_count(), 150_000);
     assert!(rt; graph.mark(new) == Err(GraphError::TooManyAses));
+    let one = number(1)?;
+    assert!(rt; one != new);
+    assert!(rt; graph.link(one, new, DOWN) == Err(GraphError::TooManyAses));
     Ok(())
 }
 
