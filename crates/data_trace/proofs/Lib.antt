@@ -18,5 +18,6 @@ pub mod Inside
 pub mod Longest
 pub mod Placing
 pub mod Extending
+pub mod Staying
 pub mod Updating
 pub mod Coming

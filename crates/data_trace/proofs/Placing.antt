@@ -1,10 +1,10 @@
 -- Places of ASes, and lists of ASes that are gone through.
 use Rattle.std.proofs.Common.{◌≡◌, ◌≢◌, ◌⊎◌, inl, inr, ⊎_elim, ℕ, ◌+◌, ◌<◌, ◌≤◌, true, false, eqb, Some, List, length, get_or, take, sym, ◌∙◌, subst, arith, true≢false}
 use Rattle.std.specs.Prelude.{nat_eq}
-use Rattle.std.specs.List.{list_any, position, IsDistinct}
-use Rattle.std.proofs.lemmas.Bool.{cases_eq, cases_lt, eqb-true, eq-eqb}
+use Rattle.std.specs.List.{list_any, slice_get, IsDistinct}
+use Rattle.std.proofs.lemmas.Bool.{cases_eq, cases_lt, eq-eqb}
 use Rattle.std.proofs.lemmas.List.{take_more}
-use Rattle.std.proofs.lemmas.List.Quantifiers.{position-Some}
+use Rattle.std.proofs.lemmas.Option.{slice_get_within, get_or_from_slice_get}
 use Rattle.std.proofs.lemmas.Map.Keys.{apart_from_distinct}
 use Rattle.net_names.specs.Numbers.{occurs}
 use Rattle.data_trace.specs.Traces.{IsIn}
@@ -22,10 +22,10 @@ one_place keys x y d l m e = ⊎_elim (λ (q : x ≡ y). q) (λ (q : x ≢ y). �
     less y x k q = ⊎_elim (λ (l : y < x). l) (λ (l : x ≤ y). absurd (q (omega (arith, k, l)))) (cases_lt y x)
 
 -- the place that was sought is that of the AS
-pub found_at : (keys : List ℕ) (a place : ℕ) → position (nat_eq a) keys ≡ Some place → (place < length keys) × (name_at keys place ≡ a)
-found_at keys a place e = let q = position-Some (nat_eq a) keys place 0 e in (q.0, sym (eqb-true a (get_or keys place 0) q.1))
+pub found_at : (keys : List ℕ) (a place : ℕ) → slice_get keys place ≡ Some a → (place < length keys) × (name_at keys place ≡ a)
+found_at keys a place e = (slice_get_within keys place a e, get_or_from_slice_get keys place a 0 e)
 
-pub found_only : (keys : List ℕ) (a place x : ℕ) → IsDistinct nat_eq keys → position (nat_eq a) keys ≡ Some place → x < length keys → name_at keys x ≡ a → x ≡ place
+pub found_only : (keys : List ℕ) (a place x : ℕ) → IsDistinct nat_eq keys → slice_get keys place ≡ Some a → x < length keys → name_at keys x ≡ a → x ≡ place
 found_only keys a place x d e l n = let q : (place < length keys) × (name_at keys place ≡ a) = found_at keys a place e in one_place keys x place d l q.0 (n ∙ sym q.1)
 
 pub occurs_at : (keys : List ℕ) (x : ℕ) → x < length keys → occurs (name_at keys x) keys ≡ true

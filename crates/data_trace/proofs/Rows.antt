@@ -1,7 +1,7 @@
 -- The rows that the columns of a watch make are right.
 use Rattle.std.proofs.Common.{◌≡◌, ◌⊎◌, inl, inr, ℕ, zero, suc, ◌+◌, ◌<◌, ◌^◌, Bool, true, false, ◌||◌, ◌&&◌, eqb, Some, None, List, [], ◌∷◌, length, get_or, map, refl, sym, ◌∙◌, ap, subst, arith, cond, true≢false}
 use Rattle.std.specs.Prelude.{nat_eq, slice_get, filter}
-use Rattle.std.specs.List.{list_any, range_with_len, count_by, sum_by, position, IsDistinct, AllByRecursion}
+use Rattle.std.specs.List.{list_any, range_with_len, count_by, sum_by, IsDistinct, AllByRecursion}
 use Rattle.std.proofs.lemmas.Bool.{cases_Bool, eqb-true, eq-eqb, or_right}
 use Rattle.std.proofs.lemmas.List.Sums.{sum_by-cons}
 use Rattle.std.proofs.lemmas.List.FromFn.{length-range_with_len, get_or-range_with_len, fill_by_all, sum_by-map-range_with_len_more}
@@ -131,21 +131,21 @@ module _ (ases : List ℕ) (hops : List PlaceHop) (marks : List Mark) (groups : 
 
 module _ (ases : List ℕ) (hops : List PlaceHop) (marks : List Mark) (groups : List Group) where
   -- no row is that of an AS which has no place
-  pub none_found : (a : ℕ) → list_any (nat_eq a) ases ≡ false → (r : Row) → IsRowOf (rows ases hops marks groups) a r → ⊥
+  pub none_found : (a : ℕ) → occurs a ases ≡ false → (r : Row) → IsRowOf (rows ases hops marks groups) a r → ⊥
   none_found a f r is =
       let q : (x : ℕ) × (x < length ases) × (here_at groups x ≡ true) × (row ases hops marks groups x ≡ r) = row_at ases hops marks groups is.place r is.there in
       let e : name_at ases q.0 ≡ a = ap (λ (t : Row). t.asn) q.3 ∙ is.asn in
-      true≢false (sym (subst (λ t. IsIn t ases) e (at_in ases q.0 q.1)) ∙ f)
+      true≢false (sym (subst (λ t. IsIn t ases) e (at_in ases q.0 q.1)) ∙ sym (occurs_in a ases) ∙ f)
 
   -- nor that of an AS which is gone
-  pub gone_found : (a place : ℕ) → IsDistinct nat_eq ases → position (nat_eq a) ases ≡ Some place → here_at groups place ≡ false → (r : Row) → IsRowOf (rows ases hops marks groups) a r → ⊥
+  pub gone_found : (a place : ℕ) → IsDistinct nat_eq ases → slice_get ases place ≡ Some a → here_at groups place ≡ false → (r : Row) → IsRowOf (rows ases hops marks groups) a r → ⊥
   gone_found a place d p f r is =
       let q : (x : ℕ) × (x < length ases) × (here_at groups x ≡ true) × (row ases hops marks groups x ≡ r) = row_at ases hops marks groups is.place r is.there in
       let e : name_at ases q.0 ≡ a = ap (λ (t : Row). t.asn) q.3 ∙ is.asn in
       true≢false (sym q.2 ∙ ap (here_at groups) (found_only ases a place q.0 d p q.1 e) ∙ f)
 
   -- the row of the AS at a place that was sought
-  pub row_found : (a place : ℕ) → position (nat_eq a) ases ≡ Some place → here_at groups place ≡ true → IsRowOf (rows ases hops marks groups) a (row ases hops marks groups place)
+  pub row_found : (a place : ℕ) → slice_get ases place ≡ Some a → here_at groups place ≡ true → IsRowOf (rows ases hops marks groups) a (row ases hops marks groups place)
   row_found a place p h = let q : (place < length ases) × (name_at ases place ≡ a) = found_at ases a place p in
       subst (λ b. IsRowOf (rows ases hops marks groups) b (row ases hops marks groups place)) q.1 (row_there ases hops marks groups place q.0 h)
 

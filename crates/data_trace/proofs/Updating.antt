@@ -1,5 +1,5 @@
 -- After an update the rows are right.
-use Rattle.std.proofs.Common.{◌≡◌, ◌⊎◌, inl, inr, ⊎_elim, ℕ, ◌<◌, ◌≤◌, true, false, List, length, refl, sym, ◌∙◌, ap, subst, arith, cond, true≢false}
+use Rattle.std.proofs.Common.{◌≡◌, ◌⊎◌, inl, inr, ⊎_elim, ℕ, ◌<◌, ◌≤◌, true, false, Some, None, List, [], ◌∷◌, length, refl, sym, ◌∙◌, ap, subst, arith, cond, true≢false}
 use Rattle.std.specs.Prelude.{nat_eq}
 use Rattle.std.specs.List.{IsDistinct}
 use Rattle.std.proofs.lemmas.Bool.{cases_lt, cases_Bool}
@@ -13,7 +13,7 @@ use Rattle.data_trace.specs.declared.places.PlaceHop.TheVariants.{NoRoute, Here,
 use Rattle.data_trace.specs.declared.places.Mark.{Mark}
 use Rattle.data_trace.specs.declared.places.Group.{Group}
 use Rattle.data_trace.specs.Marks.{hop_at, next_of, IsWithin, AreEnds}
-use Rattle.data_trace.specs.Watches.{AreRows, IsRowOf}
+use Rattle.data_trace.specs.Watches.{Row, AreRows, IsRowOf}
 use Rattle.data_trace.specs.Columns.{name_at, named, fresh, group_at, here_at, row, rows, AreHops, AreGroups, IsGroup}
 use Rattle.data_trace.specs.Kept.{KeepsHops, KeepsGroups}
 use Rattle.data_trace.specs.Comes.{Comes}
@@ -31,6 +31,20 @@ pub named_none : (keys : List ℕ) (h : PlaceHop) → named keys h ≡ hop.NoRou
 named_none keys NoRoute e = refl
 named_none keys Here e = cc
 named_none keys (To y) e = cc
+
+-- a graph that has no AS
+pub none_there : (g : Topology) (all : List ℕ) → length all ≡ 0 → ((a : ℕ) → occurs a all ≡ has g a) → (a : ℕ) → has g a ≡ false
+none_there g [] n listed a = sym (listed a)
+none_there g (x ∷ xs) n listed a = absurd (omega (arith, n))
+
+none_some : (r : Row) → None ≡ Some r → ⊥
+none_some r e = cc
+
+-- without places there are no rows
+pub no_rows : (g : Topology) (next : ℕ → Hop) (label : ℕ → ℕ) (ases : List ℕ) (hops : List PlaceHop) (marks : List Mark) (groups : List Group) → ases ≡ [] → ((a : ℕ) → has g a ≡ false) → AreRows g next label (rows ases hops marks groups)
+unfolding IsDistinct
+no_rows g next label ases hops marks groups e none =
+    subst (λ (ks : List ℕ). AreRows g next label (rows ks hops marks groups)) (sym e) (record { listed = λ a. sym (none a); apart = tt; right = λ place r q. absurd (none_some r q) })
 
 module _ (g : Topology) (next : ℕ → Hop) (label : ℕ → ℕ) (changed regrouped : List ℕ) (inside : (a b : ℕ) → next a ≡ hop.To b → has g b ≡ true)
     (old new : List ℕ) (hops hops' : List PlaceHop) (marks : List Mark) (groups groups' groups'' : List Group)

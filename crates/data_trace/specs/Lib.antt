@@ -5,6 +5,7 @@ pub mod Best
 pub mod Candidates
 pub mod Marks
 pub mod Lists
+pub mod Keeping
 pub mod Watches
 pub mod Spreads
 pub mod Sums

@@ -1,5 +1,5 @@
 -- What contracts see of a watch.
-use Rattle.std.specs.Prelude.{ℕ, List}
+use Rattle.std.specs.Prelude.{◌≡◌, ℕ, List}
 use Rattle.net_names.specs.Addresses.{AddrValue}
 use Rattle.data_trace.specs.declared.watch.Watch.{Watch}
 use Rattle.data_trace.specs.Watches.{Row}
@@ -7,7 +7,7 @@ use Rattle.data_trace.specs.Columns.{rows}
 
 -- the rows of a watch, one for each AS (own rule)
 abbrev pub rows_of : Watch → List Row
-rows_of w = rows w.ases.keys w.hops.items w.marks.items w.groups.items
+rows_of w = rows w.ases.ases w.hops.items w.marks.items w.groups.items
 
 -- the watched address (own rule)
 abbrev pub addr_of : Watch → AddrValue
@@ -16,3 +16,11 @@ addr_of w = w.addr
 -- how many ASes a graph may have of which the watch can keep all without memory (own rule)
 abbrev pub spare_of : Watch → ℕ
 spare_of w = w.spare
+
+-- the two watches have the same ASes, next hops, ends and groups, and the same address (own rule)
+pub record SameColumns (old new : Watch) : Type 0 where
+  pub ases : new.ases.ases ≡ old.ases.ases
+  pub hops : new.hops.items ≡ old.hops.items
+  pub marks : new.marks.items ≡ old.marks.items
+  pub groups : new.groups.items ≡ old.groups.items
+  pub addr : new.addr ≡ old.addr

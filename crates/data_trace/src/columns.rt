@@ -11,43 +11,36 @@ ghost use Rattle.data_trace.specs.declared.places.PlaceHop.TheVariants as APlace
 
 use crate::Hop;
 use crate::forwarding::Forwarding;
+use crate::hints::Hints;
 use crate::places::{Group, PlaceHop, Standing};
 use as_graph::{Graph, Neighbour};
-use indexmap::IndexSet;
+use as_places::AsPlaces;
 use net_names::{Asn, NoMemory, Rel};
 use policy_laws::Labelled;
 use stability_laws::Book;
 use std::alloc::Global;
 
 /// The ASes of the graph, each at its place.
-pub fn ases_of(alloc: Global, graph: &Graph) -> Result<IndexSet<Asn>, NoMemory>
-    ensures listed { IfOk result (λ s. (a : ℕ) → occurs a s.keys ≡ has graph.now a) }
-    ensures few { IfOk result (λ s. length s.keys ≤ 150000) }
-    ensures apart { IfOk result (λ s. IsDistinct nat_eq s.keys) }
+pub fn ases_of(alloc: Global, graph: &Graph) -> Result<AsPlaces, NoMemory>
+    ensures listed { IfOk result (λ p. (a : ℕ) → occurs a p.ases ≡ has graph.now a) }
+    ensures few { IfOk result (λ p. length p.ases ≤ 150000) }
+    ensures apart { IfOk result (λ p. IsDistinct nat_eq p.ases) }
 {
-    let count = graph.as_count();
-    let Ok(mut ases) = IndexSet::with_capacity(alloc, count) else {
-        return Err(NoMemory);
-    };
-    for asn in graph.ases() {
-        if ases.insert(*asn).is_err() {
-            return Err(NoMemory);
-        }
-    }
-    Ok(ases)
+    let _count = graph.as_count();
+    AsPlaces::of(alloc, graph.ases())
 }
 
-/// The next hop, with the place in place of its AS.
-pub fn place_of(ases: &IndexSet<Asn>, hop: Hop) -> PlaceHop
-    requires among { IsAmong ases.now.keys hop }
-    requires few { length ases.now.keys < 4294967296 }
-    ensures named { named ases.now.keys result ≡ hop }
-    ensures within { (y : ℕ) → result ≡ APlaceHop.To y → y < length ases.now.keys }
+/// The next hop, with the place in place of its AS, which is sought first at a place.
+pub fn place_of(ases: &AsPlaces, hop: Hop, near: usize) -> PlaceHop
+    requires among { IsAmong ases.now.ases hop }
+    requires few { length ases.now.ases < 4294967296 }
+    ensures named { named ases.now.ases result ≡ hop }
+    ensures within { (y : ℕ) → result ≡ APlaceHop.To y → y < length ases.now.ases }
 {
     match hop {
         Hop::Here => PlaceHop::Here,
         Hop::NoRoute => PlaceHop::NoRoute,
-        Hop::To(asn) => match ases.get_index_of(&asn) {
+        Hop::To(asn) => match ases.place_near(asn, near) {
             Some(place) => PlaceHop::To(place as u32),
             None => unreachable!(),
         },
@@ -58,20 +51,25 @@ pub fn place_of(ases: &IndexSet<Asn>, hop: Hop) -> PlaceHop
 pub fn hops_of(
     alloc: Global,
     forwarding: &Forwarding<'_>,
-    ases: &IndexSet<Asn>,
+    ases: &AsPlaces,
 ) -> Result<Vec<PlaceHop>, NoMemory>
-    requires among { (a : ℕ) → IsAmong ases.now.keys (next_hop_of forwarding.now.plan.now (round_routing forwarding.now.pool.now forwarding.now.tables.now) forwarding.now.addr a) }
-    requires few { length ases.now.keys < 4294967296 }
-    ensures hops { IfOk result (λ v. AreHops (next_hop_of forwarding.now.plan.now (round_routing forwarding.now.pool.now forwarding.now.tables.now) forwarding.now.addr) ases.now.keys v.items) }
-    ensures room { IfOk result (λ v. length ases.now.keys ≤ vec_capacity v) }
+    requires among { (a : ℕ) → IsAmong ases.now.ases (next_hop_of forwarding.now.plan.now (round_routing forwarding.now.pool.now forwarding.now.tables.now) forwarding.now.addr a) }
+    requires few { length ases.now.ases ≤ 150000 }
+    ensures hops { IfOk result (λ v. AreHops (next_hop_of forwarding.now.plan.now (round_routing forwarding.now.pool.now forwarding.now.tables.now) forwarding.now.addr) ases.now.ases v.items) }
+    ensures room { IfOk result (λ v. length ases.now.ases ≤ vec_capacity v) }
 {
     let numbers = ases.as_slice();
+    let Ok(hints) = Hints::of(alloc, numbers) else {
+        return Err(NoMemory);
+    };
     let Ok(mut hops) = Vec::with_capacity(alloc, numbers.len()) else {
         return Err(NoMemory);
     };
     for place in 0..numbers.len() {
-        let hop = place_of(ases, forwarding.next(numbers[place], place));
-        if hops.push(hop).is_err() {
+        let hop = forwarding.next(numbers[place], place);
+        let near = hints.near(&hop);
+        let placed = place_of(ases, hop, near);
+        if hops.push(placed).is_err() {
             return Err(NoMemory);
         }
     }

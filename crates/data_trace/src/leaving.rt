@@ -15,7 +15,7 @@ use crate::lists::put_link;
 use crate::places::{Group, Mark, PlaceHop};
 use crate::spreading::forget_place;
 use crate::sums::Sums;
-use indexmap::IndexSet;
+use as_places::AsPlaces;
 use net_names::Asn;
 
 // Takes `a` out of the list of `b`.
@@ -106,31 +106,31 @@ pub fn detach(
     before: &mut [Option<u32>],
     after: &mut [Option<u32>],
     sums: &mut Sums,
-    ases: &IndexSet<Asn>,
+    ases: &AsPlaces,
     marks: &mut [Mark],
     groups: &[Group],
     queue: &mut Vec<u32>,
     changed: &[Asn],
 )
-    requires places { length hops.now ≡ length ases.now.keys }
+    requires places { length hops.now ≡ length ases.now.ases }
     requires within { IsWithin hops.now }
     requires len { length marks.old ≡ length hops.now }
     requires front { (old : List AMark.the_data) × IsFront old marks.old queue.old.items }
     requires lists { HasLists hops.now queue.old.items first.old before.old after.old }
     requires room { length hops.now ≤ vec_capacity queue.old }
-    requires few { length ases.now.keys < 4294967296 }
-    requires counted { AreCounted sums.old ases.now.keys marks.old groups.now }
-    requires sums_room { length ases.now.keys ≤ room_of sums.old }
+    requires few { length ases.now.ases < 4294967296 }
+    requires counted { AreCounted sums.old ases.now.ases marks.old groups.now }
+    requires sums_room { length ases.now.ases ≤ room_of sums.old }
     ensures front { (old : List AMark.the_data) → IsFront old marks.old queue.old.items → IsFront old marks.new queue.new.items }
     ensures lists { HasLists hops.now queue.new.items first.new before.new after.new }
-    ensures changed { (x : ℕ) → x < length ases.now.keys → occurs (name_at ases.now.keys x) changed.now ≡ true → IsIn x queue.new.items }
+    ensures changed { (x : ℕ) → x < length ases.now.ases → occurs (name_at ases.now.ases x) changed.now ≡ true → IsIn x queue.new.items }
     ensures more { (x : ℕ) → IsIn x queue.old.items → IsIn x queue.new.items }
-    ensures counted { AreCounted sums.new ases.now.keys marks.new groups.now }
+    ensures counted { AreCounted sums.new ases.now.ases marks.new groups.now }
     ensures room { vec_capacity queue.old ≤ vec_capacity queue.new }
     ensures sums_room { room_of sums.old ≤ room_of sums.new }
 {
     'changed: for asn in changed {
-        let Some(place) = ases.get_index_of(asn) else {
+        let Some(place) = ases.place(*asn) else {
             continue 'changed;
         };
         detach_place(

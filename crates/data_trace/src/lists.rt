@@ -1,5 +1,5 @@
 //! Which places send to which, in lists through the places.
-ghost use Rattle.std.specs.Prelude.{◌≡◌, ◌≢◌, ℕ, ◌<◌, ◌≤◌, [], ◌∷◌, length, List, slice_index, nat_eq, false, IfOk, IfSome, Some};
+ghost use Rattle.std.specs.Prelude.{◌≡◌, ◌≢◌, ℕ, ◌<◌, ◌≤◌, [], ◌∷◌, ◌++◌, length, List, slice_index, nat_eq, false, vec_capacity, IfOk, IfSome, Some};
 ghost use Rattle.std.specs.List.{list_any, IsDistinct};
 ghost use Rattle.data_trace.specs.Marks.{IsWithin};
 ghost use Rattle.data_trace.specs.Lists.{link_at, AreBelow, LinksFirst, HasLists, AreNone};
@@ -94,6 +94,17 @@ pub fn link_all(
 {
     'places: for place in 0..hops.len() {
         join(hops, first, before, after, place as u32);
+    }
+}
+
+/// Puts a value at the end, for which there is room.
+pub fn put_last<T: Copy>(values: &mut Vec<T>, value: T)
+    requires { length values.old.items < vec_capacity values.old }
+    ensures items { values.new.items ≡ values.old.items ++ value ∷ [] }
+    ensures room { vec_capacity values.old ≤ vec_capacity values.new }
+{
+    if values.push(value).is_err() {
+        unreachable!();
     }
 }
 

@@ -5,6 +5,7 @@ ghost use Rattle.as_graph.specs.Topology.{has};
 ghost use Rattle.stability_laws.specs.Book.{policy_at};
 ghost use Rattle.data_trace.specs.Marks.{next_of, hop_at, IsWithin, AreEnds};
 ghost use Rattle.data_trace.specs.Lists.{HasLists};
+ghost use Rattle.data_trace.specs.Keeping.{HasRoom, AreKept};
 ghost use Rattle.data_trace.specs.Sums.{room_of};
 ghost use Rattle.data_trace.specs.Counted.{AreCounted};
 ghost use Rattle.data_trace.specs.Columns.{named, name_at, group_at, AreHops, IsGroup};
@@ -12,6 +13,7 @@ ghost use Rattle.data_trace.specs.Sources.{sends};
 
 use crate::columns::group_now;
 use crate::counting::put_group;
+use crate::keeping::Lists;
 use crate::leaving::detach;
 use crate::lists::relink;
 use crate::places::{Group, Mark, PlaceHop};
@@ -20,7 +22,7 @@ use crate::spreading::spread;
 use crate::sums::Sums;
 use crate::walks::settle_each;
 use as_graph::Graph;
-use indexmap::IndexSet;
+use as_places::AsPlaces;
 use net_names::Asn;
 use policy_laws::Labelled;
 use stability_laws::Book;
@@ -28,24 +30,24 @@ use stability_laws::Book;
 /// Puts the places of these ASes into their groups. An AS without a place is passed over.
 pub fn regroup<P: Labelled>(
     sums: &mut Sums,
-    ases: &IndexSet<Asn>,
+    ases: &AsPlaces,
     marks: &[Mark],
     groups: &mut [Group],
     graph: &Graph,
     book: &Book<P>,
     regrouped: &[Asn],
 )
-    requires few { length ases.now.keys < 4294967296 }
-    requires counted { AreCounted sums.old ases.now.keys marks.now groups.old }
-    requires sums_room { length ases.now.keys ≤ room_of sums.old }
-    ensures regrouped { (x : ℕ) → x < length ases.now.keys → occurs (name_at ases.now.keys x) regrouped.now ≡ true →
-        IsGroup graph.now (λ a. P.label_of (policy_at book.now a)) (name_at ases.now.keys x) (group_at groups.new x) }
-    ensures others { (x : ℕ) → x < length ases.now.keys → occurs (name_at ases.now.keys x) regrouped.now ≡ false → group_at groups.new x ≡ group_at groups.old x }
-    ensures counted { AreCounted sums.new ases.now.keys marks.now groups.new }
+    requires few { length ases.now.ases < 4294967296 }
+    requires counted { AreCounted sums.old ases.now.ases marks.now groups.old }
+    requires sums_room { length ases.now.ases ≤ room_of sums.old }
+    ensures regrouped { (x : ℕ) → x < length ases.now.ases → occurs (name_at ases.now.ases x) regrouped.now ≡ true →
+        IsGroup graph.now (λ a. P.label_of (policy_at book.now a)) (name_at ases.now.ases x) (group_at groups.new x) }
+    ensures others { (x : ℕ) → x < length ases.now.ases → occurs (name_at ases.now.ases x) regrouped.now ≡ false → group_at groups.new x ≡ group_at groups.old x }
+    ensures counted { AreCounted sums.new ases.now.ases marks.now groups.new }
     ensures sums_room { room_of sums.old ≤ room_of sums.new }
 {
     'regrouped: for asn in regrouped {
-        let Some(place) = ases.get_index_of(asn) else {
+        let Some(place) = ases.place(*asn) else {
             continue 'regrouped;
         };
         let group = group_now(graph, book, *asn);
@@ -53,11 +55,11 @@ pub fn regroup<P: Labelled>(
     }
 }
 
-/// Gives the places of these ASes their new next hops, and finds the ends that this may change.
-pub fn renew(
+// Gives the places of these ASes their new next hops, and finds the ends that this may change.
+fn renew(
     source: &Source,
     sums: &mut Sums,
-    ases: &IndexSet<Asn>,
+    ases: &AsPlaces,
     hops: &mut [PlaceHop],
     marks: &mut [Mark],
     groups: &[Group],
@@ -69,23 +71,23 @@ pub fn renew(
     changed: &[Asn],
     regrouped: &[Asn],
 )
-    requires few { length ases.now.keys < 4294967296 }
-    requires listed { (a : ℕ) → has source.now.graph.now a ≡ true → occurs a ases.now.keys ≡ true }
-    requires len { length hops.old ≡ length ases.now.keys }
+    requires few { length ases.now.ases < 4294967296 }
+    requires listed { (a : ℕ) → has source.now.graph.now a ≡ true → occurs a ases.now.ases ≡ true }
+    requires len { length hops.old ≡ length ases.now.ases }
     requires within { IsWithin hops.old }
-    requires others { (x : ℕ) → x < length ases.now.keys → occurs (name_at ases.now.keys x) changed.now ≡ false → occurs (name_at ases.now.keys x) regrouped.now ≡ false →
-        named ases.now.keys (hop_at hops.old x) ≡ sends source.now (name_at ases.now.keys x) }
+    requires others { (x : ℕ) → x < length ases.now.ases → occurs (name_at ases.now.ases x) changed.now ≡ false → occurs (name_at ases.now.ases x) regrouped.now ≡ false →
+        named ases.now.ases (hop_at hops.old x) ≡ sends source.now (name_at ases.now.ases x) }
     requires ends { AreEnds (next_of hops.old) (length hops.old) marks.old }
     requires lists { HasLists hops.old [] first.old before.old after.old }
-    requires counted { AreCounted sums.old ases.now.keys marks.old groups.now }
-    requires sums_room { length ases.now.keys ≤ room_of sums.old }
+    requires counted { AreCounted sums.old ases.now.ases marks.old groups.now }
+    requires sums_room { length ases.now.ases ≤ room_of sums.old }
     requires queue_room { length hops.old ≤ vec_capacity queue.old }
     requires path_room { length hops.old ≤ vec_capacity path.old }
-    ensures hops { AreHops (sends source.now) ases.now.keys hops.new }
+    ensures hops { AreHops (sends source.now) ases.now.ases hops.new }
     ensures within { IsWithin hops.new }
     ensures ends { AreEnds (next_of hops.new) (length hops.new) marks.new }
     ensures lists { HasLists hops.new [] first.new before.new after.new }
-    ensures counted { AreCounted sums.new ases.now.keys marks.new groups.now }
+    ensures counted { AreCounted sums.new ases.now.ases marks.new groups.now }
     ensures sums_room { room_of sums.old ≤ room_of sums.new }
     ensures queue_room { vec_capacity queue.old ≤ vec_capacity queue.new }
     ensures path_room { vec_capacity path.old ≤ vec_capacity path.new }
@@ -105,4 +107,52 @@ pub fn renew(
     source.rewrite(ases, hops, roots);
     relink(hops, first, before, after, roots);
     settle_each(sums, numbers, hops, marks, groups, path, places);
+}
+
+/// Gives the places of these ASes their new next hops, and finds the ends that this may change.
+pub fn renew_all(
+    source: &Source,
+    sums: &mut Sums,
+    ases: &AsPlaces,
+    hops: &mut Vec<PlaceHop>,
+    marks: &mut Vec<Mark>,
+    groups: &[Group],
+    lists: &mut Lists,
+    changed: &[Asn],
+    regrouped: &[Asn],
+)
+    requires few { length ases.now.ases < 4294967296 }
+    requires listed { (a : ℕ) → has source.now.graph.now a ≡ true → occurs a ases.now.ases ≡ true }
+    requires len { length hops.old.items ≡ length ases.now.ases }
+    requires within { IsWithin hops.old.items }
+    requires others { (x : ℕ) → x < length ases.now.ases → occurs (name_at ases.now.ases x) changed.now ≡ false → occurs (name_at ases.now.ases x) regrouped.now ≡ false →
+        named ases.now.ases (hop_at hops.old.items x) ≡ sends source.now (name_at ases.now.ases x) }
+    requires ends { AreEnds (next_of hops.old.items) (length hops.old.items) marks.old.items }
+    requires lists { AreKept hops.old.items (length ases.now.ases) lists.old }
+    requires counted { AreCounted sums.old ases.now.ases marks.old.items groups.now }
+    requires sums_room { length ases.now.ases ≤ room_of sums.old }
+    ensures hops { AreHops (sends source.now) ases.now.ases hops.new.items }
+    ensures within { IsWithin hops.new.items }
+    ensures ends { AreEnds (next_of hops.new.items) (length hops.new.items) marks.new.items }
+    ensures lists { (n : ℕ) → HasRoom n lists.old → AreKept hops.new.items n lists.new }
+    ensures counted { AreCounted sums.new ases.now.ases marks.new.items groups.now }
+    ensures sums_room { room_of sums.old ≤ room_of sums.new }
+    ensures hops_room { vec_capacity hops.new ≡ vec_capacity hops.old }
+    ensures marks_room { vec_capacity marks.new ≡ vec_capacity marks.old }
+{
+    renew(
+        source,
+        sums,
+        ases,
+        hops.as_mut_slice(),
+        marks.as_mut_slice(),
+        groups,
+        lists.first.as_mut_slice(),
+        lists.before.as_mut_slice(),
+        lists.after.as_mut_slice(),
+        &mut lists.queue,
+        &mut lists.path,
+        changed,
+        regrouped,
+    );
 }

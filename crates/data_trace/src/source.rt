@@ -14,7 +14,7 @@ use crate::columns::place_of;
 use crate::hops::next_hop;
 use crate::places::PlaceHop;
 use as_graph::Graph;
-use indexmap::IndexSet;
+use as_places::AsPlaces;
 use net_names::{Addr, Asn};
 use path_pool::PathPool;
 use route_choice::RoundTables;
@@ -36,28 +36,28 @@ impl<'a> Source<'a> {
     ghost use Rattle.data_trace.specs.Sources.{sends};
 
     // Where an AS of the graph sends, and no route of others.
-    fn hop(&self, ases: &IndexSet<Asn>, asn: Asn) -> PlaceHop
-        requires few { length ases.now.keys < 4294967296 }
-        requires listed { (a : ℕ) → has self.now.graph.now a ≡ true → occurs a ases.now.keys ≡ true }
-        ensures named { named ases.now.keys result ≡ sends self.now asn }
-        ensures within { (y : ℕ) → result ≡ APlaceHop.To y → y < length ases.now.keys }
+    fn hop(&self, ases: &AsPlaces, asn: Asn) -> PlaceHop
+        requires few { length ases.now.ases < 4294967296 }
+        requires listed { (a : ℕ) → has self.now.graph.now a ≡ true → occurs a ases.now.ases ≡ true }
+        ensures named { named ases.now.ases result ≡ sends self.now asn }
+        ensures within { (y : ℕ) → result ≡ APlaceHop.To y → y < length ases.now.ases }
     {
         if !self.graph.has(asn) {
             return PlaceHop::NoRoute;
         }
         let hop = next_hop(self.tables, self.pool, self.plan, asn, self.addr);
-        place_of(ases, hop)
+        place_of(ases, hop, 0)
     }
 
     /// Gives the places of `roots` their next hops.
-    pub fn rewrite(&self, ases: &IndexSet<Asn>, hops: &mut [PlaceHop], roots: &[u32])
-        requires few { length ases.now.keys < 4294967296 }
-        requires listed { (a : ℕ) → has self.now.graph.now a ≡ true → occurs a ases.now.keys ≡ true }
-        requires len { length hops.old ≡ length ases.now.keys }
+    pub fn rewrite(&self, ases: &AsPlaces, hops: &mut [PlaceHop], roots: &[u32])
+        requires few { length ases.now.ases < 4294967296 }
+        requires listed { (a : ℕ) → has self.now.graph.now a ≡ true → occurs a ases.now.ases ≡ true }
+        requires len { length hops.old ≡ length ases.now.ases }
         requires within { IsWithin hops.old }
         requires roots { (k : ℕ) → k < length roots.now → slice_index roots.now k < length hops.old }
         ensures within { IsWithin hops.new }
-        ensures changed { (x : ℕ) → IsIn x roots.now → named ases.now.keys (hop_at hops.new x) ≡ sends self.now (name_at ases.now.keys x) }
+        ensures changed { (x : ℕ) → IsIn x roots.now → named ases.now.ases (hop_at hops.new x) ≡ sends self.now (name_at ases.now.ases x) }
         ensures others { (x : ℕ) → list_any (nat_eq x) roots.now ≡ false → hop_at hops.new x ≡ hop_at hops.old x }
     {
         let numbers = ases.as_slice();

@@ -113,6 +113,15 @@ fn weigh_end(which: Which, end: &End, cell: &Cell) -> u64
 impl Sums {
     ghost use Rattle.data_trace.specs.Sums.{total, room_of};
 
+    /// The sums of no AS. Takes no memory.
+    pub fn none(alloc: Global) -> Sums
+        ensures { (p : AnEnd → Bool → ℕ → Bool) → total p result ≡ 0 }
+    {
+        Sums {
+            cells: Vec::new(alloc),
+        }
+    }
+
     /// The sums of no AS, with room for so many cells.
     pub fn with_room(alloc: Global, cells: usize) -> Result<Sums, AllocError>
         ensures none { IfOk result (λ s. (p : AnEnd → Bool → ℕ → Bool) → total p s ≡ 0) }

@@ -2,7 +2,6 @@
 ghost use Rattle.std.specs.Prelude.{◌≡◌, ℕ, ◌+◌, ◌<◌, ◌≤◌, [], ◌∷◌, ◌++◌, true, false, length, vec_capacity, nat_eq, IfOk, OnOk, IfSome, IfNone};
 ghost use Rattle.std.specs.List.{IsDistinct};
 ghost use Rattle.std.proofs.Props.{props};
-ghost use Rattle.indexmap.specs.IndexSet.{spare as set_spare};
 ghost use Rattle.net_names.specs.Numbers.{occurs};
 ghost use Rattle.as_graph.specs.Topology.{as_count};
 ghost use Rattle.route_choice.specs.RoundTables.{round_routing, AreAllLive};
@@ -11,7 +10,7 @@ ghost use Rattle.data_trace.specs.Hops.{next_hop as next_hop_of};
 ghost use Rattle.data_trace.specs.declared.places.Mark.TheVariants as AMark;
 ghost use Rattle.data_trace.specs.declared.places.PlaceHop.TheVariants as APlaceHop;
 ghost use Rattle.data_trace.specs.Marks.{hop_at, next_of, mark_of, IsWithin, AreEnds};
-ghost use Rattle.data_trace.specs.Lists.{HasLists, AreNone};
+ghost use Rattle.data_trace.specs.Keeping.{AreKept};
 ghost use Rattle.data_trace.specs.Watches.{Row, AreRows, IsRowOf, StaysInside, size_of, count_of};
 ghost use Rattle.data_trace.specs.Columns.{here_at, group_at, gone};
 ghost use Rattle.data_trace.specs.Sums.{room_of};
@@ -22,15 +21,17 @@ ghost use Rattle.data_trace.specs.Comes.{Comes};
 use crate::columns::{ases_of, groups_of, hops_of, is_here};
 use crate::counting::{end_told, no_sums};
 use crate::forwarding::Forwarding;
-use crate::lists::{link_all, none_links};
+use crate::growing::reserve_all;
+use crate::keeping::Lists;
+use crate::lists::put_last;
 use crate::places::{Group, Mark, PlaceEnd, PlaceHop, Standing};
-use crate::renewal::{regroup, renew};
+use crate::renewal::{regroup, renew_all};
 use crate::source::Source;
 use crate::sums::Sums;
 use crate::walks::settle_all;
 use crate::{End, Which};
 use as_graph::Graph;
-use indexmap::IndexSet;
+use as_places::AsPlaces;
 use net_names::{Addr, Asn, NoMemory};
 use path_pool::PathPool;
 use policy_laws::Labelled;
@@ -41,54 +42,38 @@ use std::alloc::{AllocError, Global};
 /// Of each AS of a graph its next hop, the end of its trace and its groups, for one round and one
 /// address. Contracts see a row for each AS, the address, and how many ASes a graph may have of which
 /// the watch can keep all without memory. ASes stand at places, and the place of an AS that goes stays;
-/// which places send to which is kept in lists, and how many ASes each group has with each end in sums.
+/// how many ASes each group has with each end is kept in sums. Which places send to which is kept in
+/// lists from the first `room` on.
 #[derive(Drop)]
 pub struct Watch {
+    alloc: Global,
     addr: Addr,
-    ases: IndexSet<Asn>,
+    ases: AsPlaces,
     spare: usize,
     hops: Vec<PlaceHop>,
     marks: Vec<Mark>,
     groups: Vec<Group>,
-    first: Vec<Option<u32>>,
-    before: Vec<Option<u32>>,
-    after: Vec<Option<u32>>,
-    queue: Vec<u32>,
-    path: Vec<u32>,
     sums: Sums,
-    ghost few: { length ases.keys + spare < 4294967296 },
-    ghost apart: { IsDistinct nat_eq ases.keys } by { Prim.hlevel props },
-    ghost hops_len: { length hops.items ≡ length ases.keys },
+    has_lists: bool,
+    lists: Lists,
+    ghost few: { length ases.ases + spare < 4294967296 },
+    ghost apart: { IsDistinct nat_eq ases.ases } by { Prim.hlevel props },
+    ghost hops_len: { length hops.items ≡ length ases.ases },
     ghost within: { IsWithin hops.items },
-    ghost lists: { HasLists hops.items [] first.items before.items after.items },
     ghost ends: { AreEnds (next_of hops.items) (length hops.items) marks.items },
-    ghost counted: { AreCounted sums ases.keys marks.items groups.items },
+    ghost counted: { AreCounted sums ases.ases marks.items groups.items },
     ghost absent: { (x : ℕ) → here_at groups.items x ≡ false → hop_at hops.items x ≡ APlaceHop.NoRoute },
-    ghost ases_room: { spare ≤ set_spare ases },
-    ghost hops_room: { length ases.keys + spare ≤ vec_capacity hops },
-    ghost marks_room: { length ases.keys + spare ≤ vec_capacity marks },
-    ghost groups_room: { length ases.keys + spare ≤ vec_capacity groups },
-    ghost first_room: { length ases.keys + spare ≤ vec_capacity first },
-    ghost before_room: { length ases.keys + spare ≤ vec_capacity before },
-    ghost after_room: { length ases.keys + spare ≤ vec_capacity after },
-    ghost queue_room: { length ases.keys + spare ≤ vec_capacity queue },
-    ghost path_room: { length ases.keys + spare ≤ vec_capacity path },
-    ghost sums_room: { length ases.keys + spare ≤ room_of sums },
-}
-
-// Puts a value at the end, for which there is room.
-fn put_last<T: Copy>(values: &mut Vec<T>, value: T)
-    requires { length values.old.items < vec_capacity values.old }
-    ensures items { values.new.items ≡ values.old.items ++ value ∷ [] }
-    ensures room { vec_capacity values.old ≤ vec_capacity values.new }
-{
-    if values.push(value).is_err() {
-        unreachable!();
-    }
+    ghost kept: { has_lists ≡ true → AreKept hops.items (length ases.ases + spare) lists },
+    ghost ready: { 0 < spare → has_lists ≡ true },
+    ghost ases_room: { spare ≤ ases.spare },
+    ghost hops_room: { length ases.ases + spare ≤ vec_capacity hops },
+    ghost marks_room: { length ases.ases + spare ≤ vec_capacity marks },
+    ghost groups_room: { length ases.ases + spare ≤ vec_capacity groups },
+    ghost sums_room: { length ases.ases + spare ≤ room_of sums },
 }
 
 impl Watch {
-    ghost use Rattle.data_trace.specs.Views.{rows_of, addr_of, spare_of};
+    ghost use Rattle.data_trace.specs.Views.{rows_of, addr_of, spare_of, SameColumns};
 
     /// The next hops, ends and groups of all ASes of the graph, in the round of the tables and for the
     /// address. The label of an AS is that of its policy.
@@ -121,19 +106,17 @@ impl Watch {
     fn over(
         alloc: Global,
         addr: Addr,
-        ases: IndexSet<Asn>,
+        ases: AsPlaces,
         hops: Vec<PlaceHop>,
         groups: Vec<Group>,
     ) -> Result<Watch, NoMemory>
-        requires few { length ases.keys < 4294967296 }
-        requires apart { IsDistinct nat_eq ases.keys }
-        requires len { length hops.items ≡ length ases.keys }
-        requires groups_len { length groups.items ≡ length ases.keys }
+        requires few { length ases.ases < 4294967296 }
+        requires apart { IsDistinct nat_eq ases.ases }
+        requires len { length hops.items ≡ length ases.ases }
+        requires groups_len { length groups.items ≡ length ases.ases }
         requires within { IsWithin hops.items }
-        requires here { (x : ℕ) → x < length ases.keys → here_at groups.items x ≡ true }
-        requires hops_room { length ases.keys ≤ vec_capacity hops }
-        requires groups_room { length ases.keys ≤ vec_capacity groups }
-        ensures ases { IfOk result (λ w. w.ases.keys ≡ ases.keys) }
+        requires here { (x : ℕ) → x < length ases.ases → here_at groups.items x ≡ true }
+        ensures ases { IfOk result (λ w. w.ases.ases ≡ ases.ases) }
         ensures hops { IfOk result (λ w. w.hops.items ≡ hops.items) }
         ensures groups { IfOk result (λ w. w.groups.items ≡ groups.items) }
         ensures addr { IfOk result (λ w. w.addr ≡ addr) }
@@ -148,70 +131,49 @@ impl Watch {
     fn columns(
         alloc: Global,
         addr: Addr,
-        ases: IndexSet<Asn>,
+        ases: AsPlaces,
         hops: Vec<PlaceHop>,
         groups: Vec<Group>,
     ) -> Result<Watch, AllocError>
-        requires few { length ases.keys < 4294967296 }
-        requires apart { IsDistinct nat_eq ases.keys }
-        requires len { length hops.items ≡ length ases.keys }
-        requires groups_len { length groups.items ≡ length ases.keys }
+        requires few { length ases.ases < 4294967296 }
+        requires apart { IsDistinct nat_eq ases.ases }
+        requires len { length hops.items ≡ length ases.ases }
+        requires groups_len { length groups.items ≡ length ases.ases }
         requires within { IsWithin hops.items }
-        requires here { (x : ℕ) → x < length ases.keys → here_at groups.items x ≡ true }
-        requires hops_room { length ases.keys ≤ vec_capacity hops }
-        requires groups_room { length ases.keys ≤ vec_capacity groups }
-        ensures ases { IfOk result (λ w. w.ases.keys ≡ ases.keys) }
+        requires here { (x : ℕ) → x < length ases.ases → here_at groups.items x ≡ true }
+        ensures ases { IfOk result (λ w. w.ases.ases ≡ ases.ases) }
         ensures hops { IfOk result (λ w. w.hops.items ≡ hops.items) }
         ensures groups { IfOk result (λ w. w.groups.items ≡ groups.items) }
         ensures addr { IfOk result (λ w. w.addr ≡ addr) }
     {
         let count = hops.len();
         let marks = vec![in alloc; Mark::Unknown; count]?;
-        let first = none_links(alloc, count)?;
-        let before = none_links(alloc, count)?;
-        let after = none_links(alloc, count)?;
-        let queue = Vec::with_capacity(alloc, count)?;
         let path = Vec::with_capacity(alloc, count)?;
         let sums = no_sums(alloc, ases.as_slice(), &marks, &groups)?;
-        Ok(Watch::filled(
-            addr, ases, hops, marks, groups, first, before, after, queue, path, sums,
-        ))
+        Ok(Watch::filled(alloc, addr, ases, hops, marks, groups, sums, path))
     }
 
-    // The watch of these columns, with its ends and its lists.
+    // The watch of these columns, with its ends. It goes along the path.
     fn filled(
+        alloc: Global,
         addr: Addr,
-        ases: IndexSet<Asn>,
+        ases: AsPlaces,
         hops: Vec<PlaceHop>,
         mut marks: Vec<Mark>,
         groups: Vec<Group>,
-        mut first: Vec<Option<u32>>,
-        mut before: Vec<Option<u32>>,
-        mut after: Vec<Option<u32>>,
-        queue: Vec<u32>,
-        mut path: Vec<u32>,
         mut sums: Sums,
+        mut path: Vec<u32>,
     ) -> Watch
-        requires few { length ases.keys < 4294967296 }
-        requires apart { IsDistinct nat_eq ases.keys }
-        requires len { length hops.items ≡ length ases.keys }
+        requires few { length ases.ases < 4294967296 }
+        requires apart { IsDistinct nat_eq ases.ases }
+        requires len { length hops.items ≡ length ases.ases }
         requires within { IsWithin hops.items }
-        requires here { (x : ℕ) → x < length ases.keys → here_at groups.items x ≡ true }
+        requires here { (x : ℕ) → x < length ases.ases → here_at groups.items x ≡ true }
         requires unknown { (x : ℕ) → mark_of marks.items x ≡ AMark.Unknown }
-        requires first { AreNone first.items (length hops.items) }
-        requires before { AreNone before.items (length hops.items) }
-        requires after { AreNone after.items (length hops.items) }
-        requires counted { AreCounted sums ases.keys marks.items groups.items }
-        requires hops_room { length ases.keys ≤ vec_capacity hops }
-        requires marks_room { length ases.keys ≤ vec_capacity marks }
-        requires groups_room { length ases.keys ≤ vec_capacity groups }
-        requires first_room { length ases.keys ≤ vec_capacity first }
-        requires before_room { length ases.keys ≤ vec_capacity before }
-        requires after_room { length ases.keys ≤ vec_capacity after }
-        requires queue_room { length ases.keys ≤ vec_capacity queue }
-        requires path_room { length ases.keys ≤ vec_capacity path }
-        requires sums_room { length ases.keys ≤ room_of sums }
-        ensures ases { result.ases.keys ≡ ases.keys }
+        requires counted { AreCounted sums ases.ases marks.items groups.items }
+        requires sums_room { length ases.ases ≤ room_of sums }
+        requires path_room { length ases.ases ≤ vec_capacity path }
+        ensures ases { result.ases.ases ≡ ases.ases }
         ensures hops { result.hops.items ≡ hops.items }
         ensures groups { result.groups.items ≡ groups.items }
         ensures addr { result.addr ≡ addr }
@@ -224,51 +186,81 @@ impl Watch {
             groups.as_slice(),
             &mut path,
         );
-        link_all(
-            hops.as_slice(),
-            first.as_mut_slice(),
-            before.as_mut_slice(),
-            after.as_mut_slice(),
-        );
         Watch {
+            alloc,
             addr,
             ases,
             spare: 0,
             hops,
             marks,
             groups,
-            first,
-            before,
-            after,
-            queue,
-            path,
             sums,
+            has_lists: false,
+            lists: Lists::none(alloc),
+        }
+    }
+
+    // The watch of no AS. Takes no memory.
+    fn of_none(alloc: Global, addr: Addr) -> Watch
+        ensures ases { result.ases.ases ≡ [] }
+        ensures addr { result.addr ≡ addr }
+    {
+        let ases = AsPlaces::new(alloc);
+        let marks = Vec::new(alloc);
+        let groups = Vec::new(alloc);
+        let sums = Sums::none(alloc);
+        Watch::filled(
+            alloc,
+            addr,
+            ases,
+            Vec::new(alloc),
+            marks,
+            groups,
+            sums,
+            Vec::new(alloc),
+        )
+    }
+
+    // Makes the lists of all places, unless they are there.
+    fn list_all(&mut self) -> Result<(), NoMemory>
+        ensures same { SameColumns self.old self.new }
+        ensures lists { OnOk result (self.new.has_lists ≡ true) }
+    {
+        if self.has_lists {
+            return Ok(());
+        }
+        match Lists::of(self.alloc, self.hops.as_slice()) {
+            Ok(lists) => {
+                self.lists = lists;
+                self.has_lists = true;
+                Ok(())
+            }
+            Err(_) => Err(NoMemory),
         }
     }
 
     // Makes room in all columns for so many places more.
-    fn reserve(&mut self, count: usize) -> Result<(), AllocError>
-        requires few { length self.old.ases.keys + count < 4294967296 }
-        ensures ases { self.new.ases.keys ≡ self.old.ases.keys }
-        ensures hops { self.new.hops.items ≡ self.old.hops.items }
-        ensures marks { self.new.marks.items ≡ self.old.marks.items }
-        ensures groups { self.new.groups.items ≡ self.old.groups.items }
-        ensures addr { self.new.addr ≡ self.old.addr }
-        ensures spare { OnOk result (self.new.spare ≡ count) }
+    fn reserve(&mut self, more: usize) -> Result<(), NoMemory>
+        requires few { length self.old.ases.ases + more < 4294967296 }
+        requires lists { self.old.has_lists ≡ true }
+        ensures same { SameColumns self.old self.new }
+        ensures spare { OnOk result (self.new.spare ≡ more) }
     {
-        let places = self.ases.len();
-        self.ases.reserve(count)?;
-        self.hops.reserve(count)?;
-        self.marks.reserve(count)?;
-        self.groups.reserve(count)?;
-        self.first.reserve(count)?;
-        self.before.reserve(count)?;
-        self.after.reserve(count)?;
-        self.queue.reserve(places + count)?;
-        self.path.reserve(places + count)?;
-        self.sums.reserve(places + count)?;
-        self.spare = count;
-        Ok(())
+        match reserve_all(
+            &mut self.ases,
+            &mut self.hops,
+            &mut self.marks,
+            &mut self.groups,
+            &mut self.sums,
+            &mut self.lists,
+            more,
+        ) {
+            Ok(()) => {
+                self.spare = more;
+                Ok(())
+            }
+            Err(_) => Err(NoMemory),
+        }
     }
 
     /// Makes room for all ASes of the graph, so that an update can keep them without memory. Its only
@@ -285,25 +277,22 @@ impl Watch {
         if self.ases.len() + count > u32::MAX as usize {
             return Err(NoMemory);
         }
-        match self.reserve(count) {
-            Ok(()) => Ok(()),
-            Err(_) => Err(NoMemory),
-        }
+        self.list_all()?;
+        self.reserve(count)
     }
 
     // A place for an AS, which is not there yet.
     fn add_place(&mut self, asn: Asn)
-        requires new { occurs asn self.old.ases.keys ≡ false }
+        requires new { occurs asn self.old.ases.ases ≡ false }
         requires spare { 0 < self.old.spare }
-        ensures ases { self.new.ases.keys ≡ self.old.ases.keys ++ asn ∷ [] }
+        ensures ases { self.new.ases.ases ≡ self.old.ases.ases ++ asn ∷ [] }
         ensures spare { self.new.spare + 1 ≡ self.old.spare }
         ensures addr { self.new.addr ≡ self.old.addr }
         ensures hops { self.new.hops.items ≡ self.old.hops.items ++ APlaceHop.NoRoute ∷ [] }
         ensures groups { self.new.groups.items ≡ self.old.groups.items ++ gone ∷ [] }
+        ensures lists { self.new.has_lists ≡ self.old.has_lists }
     {
-        let Ok(_) = self.ases.insert(asn) else {
-            unreachable!();
-        };
+        self.ases.add(asn);
         put_last(&mut self.hops, PlaceHop::NoRoute);
         put_last(&mut self.marks, Mark::Known(PlaceEnd::NoRoute));
         let gone = Group {
@@ -311,27 +300,27 @@ impl Watch {
             label: 0,
         };
         put_last(&mut self.groups, gone);
-        put_last(&mut self.first, None);
-        put_last(&mut self.before, None);
-        put_last(&mut self.after, None);
+        self.lists.add();
         self.spare -= 1;
     }
 
     // A place for each AS of the list that is in the graph and has none.
     fn come(&mut self, graph: &Graph, coming: &[Asn])
         requires { as_count graph.now ≤ self.old.spare }
-        ensures comes { Comes graph.now coming.now self.old.ases.keys self.new.ases.keys }
+        ensures comes { Comes graph.now coming.now self.old.ases.ases self.new.ases.ases }
         ensures addr { self.new.addr ≡ self.old.addr }
         ensures hops { (x : ℕ) → hop_at self.new.hops.items x ≡ hop_at self.old.hops.items x }
         ensures groups { (x : ℕ) → group_at self.new.groups.items x ≡ group_at self.old.groups.items x }
+        ensures lists { self.new.has_lists ≡ self.old.has_lists }
     {
         let _all = graph.ases();
         'coming: for asn in coming {
             if !graph.has(*asn) {
                 continue 'coming;
             }
-            if self.ases.contains(asn) {
-                continue 'coming;
+            match self.ases.place(*asn) {
+                Some(_) => continue 'coming,
+                None => {}
             }
             self.add_place(*asn);
         }
@@ -364,6 +353,11 @@ impl Watch {
         ensures rows { AreRows graph.now (next_hop_of plan.now (round_routing pool.now tables.now) (addr_of self.old)) (λ a. P.label_of (policy_at book.now a)) (rows_of self.new) }
         ensures addr { addr_of self.new ≡ addr_of self.old }
     {
+        if graph.as_count() == 0 {
+            let _all = graph.ases();
+            *self = Watch::of_none(self.alloc, self.addr);
+            return;
+        }
         self.come(graph, regrouped);
         regroup(
             &mut self.sums,
@@ -381,18 +375,14 @@ impl Watch {
             plan,
             addr: self.addr,
         };
-        renew(
+        renew_all(
             &source,
             &mut self.sums,
             &self.ases,
-            self.hops.as_mut_slice(),
-            self.marks.as_mut_slice(),
+            &mut self.hops,
+            &mut self.marks,
             self.groups.as_slice(),
-            self.first.as_mut_slice(),
-            self.before.as_mut_slice(),
-            self.after.as_mut_slice(),
-            &mut self.queue,
-            &mut self.path,
+            &mut self.lists,
             changed,
             regrouped,
         );
@@ -403,7 +393,7 @@ impl Watch {
         ensures some { IfSome result (λ e. (r : Row) × IsRowOf (rows_of self.now) asn r × (r.end ≡ e)) }
         ensures none { IfNone result ((r : Row) → IsRowOf (rows_of self.now) asn r → ⊥) }
     {
-        let place = self.ases.get_index_of(&asn)?;
+        let place = self.ases.place(asn)?;
         let group = self.groups.as_slice()[place];
         if !is_here(group.standing) {
             return None;

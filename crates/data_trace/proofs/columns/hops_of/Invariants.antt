@@ -9,6 +9,6 @@ use Rattle.data_trace.proofs.columns.hops_of.Given as goal
 abbrev pub invariant-loop-place : goal.invariant-loop-place
 invariant-loop-place l = record {
   len : length l.hops.items ≡ l.place;
-  within : (x y : ℕ) → hop_at l.hops.items x ≡ To y → y < length l.ases.keys;
-  follows : (x : ℕ) → x < l.place → named l.ases.keys (hop_at l.hops.items x) ≡ next_hop l.forwarding.plan.now (round_routing l.forwarding.pool.now l.forwarding.tables.now) l.forwarding.addr (name_at l.ases.keys x);
+  within : (x y : ℕ) → hop_at l.hops.items x ≡ To y → y < length l.ases.ases;
+  follows : (x : ℕ) → x < l.place → named l.ases.ases (hop_at l.hops.items x) ≡ next_hop l.forwarding.plan.now (round_routing l.forwarding.pool.now l.forwarding.tables.now) l.forwarding.addr (name_at l.ases.ases x);
 }

@@ -9,17 +9,17 @@ use Rattle.data_trace.proofs.leaving.detach.Goals as goal
 
 pub changed-preserved : goal.changed-preserved
 changed-preserved c =
-    let keys : List ℕ = c.args.ases.now.keys in
+    let keys : List ℕ = c.args.ases.now.ases in
     let xs : List ℕ = c.args.changed.now in
     let i : ℕ = c.changed.asn-index in
     let asn : c.asn-item.result ≡ get_or xs i 0 = c.asn-item.is ∙ get_or_default xs i c.asn-item.result 0 c.changed-test.true in
     record {
       front = λ old w. c.detach_place.ensures.front old (c.changed.invariant.front old w);
       lists = c.detach_place.ensures.lists;
-      done = λ x l o. ⊎_elim (λ (e : name_at keys x ≡ get_or xs i 0). subst (λ y. IsIn y c.detach_place.new.queue.items) (sym (found_only keys c.asn-item.result c.in-Some.place x c.as_slice.ensures.unique (sym c.in-Some.ensures.index) l (e ∙ sym asn))) c.detach_place.ensures.here)
+      done = λ x l o. ⊎_elim (λ (e : name_at keys x ≡ get_or xs i 0). subst (λ y. IsIn y c.detach_place.new.queue.items) (sym (found_only keys c.asn-item.result c.in-Some.place x c.as_slice.ensures.apart c.in-Some.ensures.found l (e ∙ sym asn))) c.detach_place.ensures.here)
           (λ (q : occurs (name_at keys x) (take i xs) ≡ true). c.detach_place.ensures.more x (c.changed.invariant.done x l q)) (occurs_more (name_at keys x) xs i c.changed-test.true o);
       more = λ x h. c.detach_place.ensures.more x (c.changed.invariant.more x h);
-      counted = subst (λ (ks : List ℕ). AreCounted c.detach_place.new.sums ks c.detach_place.new.marks c.args.groups.now) c.as_slice.ensures.keys c.detach_place.ensures.counted;
+      counted = subst (λ (ks : List ℕ). AreCounted c.detach_place.new.sums ks c.detach_place.new.marks c.args.groups.now) c.as_slice.ensures.list c.detach_place.ensures.counted;
       room = omega (arith, c.changed.invariant.room, c.detach_place.ensures.room);
       sums_room = omega (arith, c.changed.invariant.sums_room, c.detach_place.ensures.sums_room);
     }

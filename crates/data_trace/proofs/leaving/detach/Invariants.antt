@@ -13,9 +13,9 @@ abbrev pub invariant-changed : goal.invariant-changed
 invariant-changed l = record {
   front : (old : List Mark) → IsFront old l.fn.marks l.fn.queue.items → IsFront old l.marks l.queue.items;
   lists : HasLists l.hops l.queue.items l.first l.before l.after;
-  done : (x : ℕ) → x < length l.ases.keys → occurs (name_at l.ases.keys x) (take l.asn-index l.changed) ≡ true → IsIn x l.queue.items;
+  done : (x : ℕ) → x < length l.ases.ases → occurs (name_at l.ases.ases x) (take l.asn-index l.changed) ≡ true → IsIn x l.queue.items;
   more : (x : ℕ) → IsIn x l.fn.queue.items → IsIn x l.queue.items;
-  counted : AreCounted l.sums l.ases.keys l.marks l.groups;
+  counted : AreCounted l.sums l.ases.ases l.marks l.groups;
   room : vec_capacity l.fn.queue ≤ vec_capacity l.queue;
   sums_room : room_of l.fn.sums ≤ room_of l.sums;
 }

@@ -19,12 +19,12 @@ roots-preserved c =
     let xs : List ℕ = c.args.roots.now in
     let i : ℕ = c.roots.place-index in
     let a : ℕ = get_or xs i 0 in
-    let keys : List ℕ = c.args.ases.now.keys in
+    let keys : List ℕ = c.args.ases.now.ases in
     let l : a < length c.roots.hops = omega (arith, c.requires.roots i c.roots-test.true, c.roots.auto.hops) in
     let k : a < length keys = omega (arith, l, c.roots.auto.hops, c.requires.len) in
     let here : hop_at (slice_set c.roots.hops a c.hop.result) a ≡ c.hop.result = get_or-set_same c.roots.hops a c.hop.result NoRoute l in
     let there : (x : ℕ) → x ≢ a → hop_at (slice_set c.roots.hops a c.hop.result) x ≡ hop_at c.roots.hops x = λ x ne. get_or-set_other c.roots.hops a x c.hop.result NoRoute ne in
-    let asn : c.index-numbers-place.result ≡ name_at keys a = c.index-numbers-place.is ∙ ap (λ (ks : List ℕ). get_or ks a c.index-numbers-place.result) c.as_slice-numbers.ensures.keys ∙ get_or_default keys a c.index-numbers-place.result 0 k in
+    let asn : c.index-numbers-place.result ≡ name_at keys a = c.index-numbers-place.is ∙ ap (λ (ks : List ℕ). get_or ks a c.index-numbers-place.result) c.as_slice-numbers.ensures.list ∙ get_or_default keys a c.index-numbers-place.result 0 k in
     let new : named keys c.hop.result ≡ sends c.args.self.now (name_at keys a) = c.hop.ensures.named ∙ ap (sends c.args.self.now) asn in
     record {
       within = λ x y e. ⊎_elim (λ (q : x ≡ a). omega (arith, c.hop.ensures.within y (sym here ∙ ap (hop_at (slice_set c.roots.hops a c.hop.result)) (sym q) ∙ e), c.requires.len, c.roots.auto.hops, length-set c.roots.hops a c.hop.result))

@@ -10,6 +10,6 @@ use Rattle.data_trace.proofs.source.Source.rewrite.Given as goal
 abbrev pub invariant-roots : goal.invariant-roots
 invariant-roots l = record {
   within : IsWithin l.hops;
-  changed : (x : ℕ) → IsIn x (take l.place-index l.roots) → named l.ases.keys (hop_at l.hops x) ≡ sends l.self (name_at l.ases.keys x);
+  changed : (x : ℕ) → IsIn x (take l.place-index l.roots) → named l.ases.ases (hop_at l.hops x) ≡ sends l.self (name_at l.ases.ases x);
   others : (x : ℕ) → list_any (nat_eq x) (take l.place-index l.roots) ≡ false → hop_at l.hops x ≡ hop_at l.fn.hops x;
 }

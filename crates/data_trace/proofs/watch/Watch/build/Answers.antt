@@ -32,15 +32,15 @@ returns-clause-rows g c =
     ∙ ap (λ (q : PathPool). next_hop c.args.plan.now (round_routing q f.tables.now) f.addr) c.in_ok-forwarding.ensures.pool
     ∙ ap (λ (q : RoundTables). next_hop c.args.plan.now (round_routing c.args.pool.now q) f.addr) c.in_ok-forwarding.ensures.tables
     ∙ ap (λ (q : AddrValue). next_hop c.args.plan.now (round_routing c.args.pool.now c.args.tables.now) q) c.in_ok-forwarding.ensures.addr in
-    let keys : List ℕ = c.in_ok-ases.ases.keys in
+    let keys : List ℕ = c.in_ok-ases.ases.ases in
     let inside : (a b : ℕ) → next a ≡ hop.To b → has graph b ≡ true = next_inside graph c.args.plan.now (round_routing c.args.pool.now c.args.tables.now) c.args.addr c.requires.inside in
     let here : (x : ℕ) → x < length keys → has graph (name_at keys x) ≡ true = λ x l. sym (c.in_ok-ases.ensures.listed (name_at keys x)) ∙ occurs_at keys x l in
     let ases : AreAses graph keys = record { listed = λ a h. c.in_ok-ases.ensures.listed a ∙ h; apart = c.in_ok-ases.ensures.apart } in
     let plain : AreHops next keys c.in_ok-next.next.items = subst (λ n. AreHops n keys c.in_ok-next.next.items) same c.in_ok-next.ensures.hops in
     let hops : AreHops (fresh graph next) keys c.in_ok-next.next.items = record { len = plain.len; within = plain.within; follows = λ x l. plain.follows x l ∙ sym (fresh_is graph next inside (name_at keys x) (here x l)) } in
-    let groups : AreGroups graph label keys c.in_ok-groups.groups.items = subst (λ (ks : List ℕ). AreGroups graph label ks c.in_ok-groups.groups.items) c.as_slice.ensures.keys c.in_ok-groups.ensures.groups in
-    if_ok (λ (w : Watch). w.ases.keys ≡ keys) (λ w. w.hops.items ≡ c.in_ok-next.next.items) (λ w. w.groups.items ≡ c.in_ok-groups.groups.items) (λ w. AreRows graph next label (rows_of w)) c.over.result
-    (λ w a h s. are_rows graph next label w.ases.keys w.hops.items w.marks.items w.groups.items
+    let groups : AreGroups graph label keys c.in_ok-groups.groups.items = subst (λ (ks : List ℕ). AreGroups graph label ks c.in_ok-groups.groups.items) c.as_slice.ensures.list c.in_ok-groups.ensures.groups in
+    if_ok (λ (w : Watch). w.ases.ases ≡ keys) (λ w. w.hops.items ≡ c.in_ok-next.next.items) (λ w. w.groups.items ≡ c.in_ok-groups.groups.items) (λ w. AreRows graph next label (rows_of w)) c.over.result
+    (λ w a h s. are_rows graph next label w.ases.ases w.hops.items w.marks.items w.groups.items
     (subst (λ (ks : List ℕ). AreAses graph ks) (sym a) ases)
     (subst (λ (ks : List ℕ). AreHops (fresh graph next) ks w.hops.items) (sym a) (subst (λ (hs : List PlaceHop). AreHops (fresh graph next) keys hs) (sym h) hops))
     inside

@@ -6,8 +6,9 @@ use Rattle.data_trace.proofs.watch.Watch.come.Given as goal
 
 abbrev pub invariant-coming : goal.invariant-coming
 invariant-coming l = record {
-  comes : Comes l.graph (take l.asn-index l.coming) l.fn.self.ases.keys l.self.ases.keys;
-  spare : length l.self.ases.keys + l.self.spare ≡ length l.fn.self.ases.keys + l.fn.self.spare;
+  comes : Comes l.graph (take l.asn-index l.coming) l.fn.self.ases.ases l.self.ases.ases;
+  spare : length l.self.ases.ases + l.self.spare ≡ length l.fn.self.ases.ases + l.fn.self.spare;
+  lists : l.self.has_lists ≡ l.fn.self.has_lists;
   addr : l.self.addr ≡ l.fn.self.addr;
   hops : (x : ℕ) → hop_at l.self.hops.items x ≡ hop_at l.fn.self.hops.items x;
   groups : (x : ℕ) → group_at l.self.groups.items x ≡ group_at l.fn.self.groups.items x;
