@@ -1,10 +1,12 @@
 -- Another plan of seeds beside that of the rounds.
-use Rattle.std.specs.Prelude.{◌≡◌, ℕ, ◌+◌, ◌≤◌, not, Option, Some, List, [], ◌∷◌, ◌++◌, filter}
+use Rattle.std.specs.Prelude.{◌≡◌, ℕ, ◌+◌, ◌≤◌, not, Option, Some, List, [], ◌∷◌, ◌++◌, filter, length}
 use Rattle.std.specs.Option.{option_map_or}
 use Rattle.net_names.specs.Prefixes.{PrefixValue}
 use Rattle.path_pool.specs.declared.path_id.PathId.{PathId}
 use Rattle.path_pool.specs.declared.pool.PathPool.{PathPool}
 use Rattle.path_pool.specs.Pool.{IsLive, list_of, holds_of, count_of, live_count}
+use Rattle.stability_laws.specs.declared.seed_plan.edits.SeedEdit.{SeedEdit}
+use Rattle.stability_laws.specs.declared.seed_plan.edits.SeedEdit.TheVariants.{Announce, Withdraw}
 use Rattle.stability_laws.specs.Plans.{Plan, announcer_of}
 use Rattle.leak_round.specs.declared.announced.Announced.{Announced}
 use Rattle.leak_round.specs.declared.edited.EditedSeeds.{EditedSeeds}
@@ -52,10 +54,16 @@ pub record EndsWithPath (pool : PathPool) (prefix : PrefixValue) (path : List �
   pub live : IsLive pool id.0
   pub list : list_of pool id.0 ≡ path
 
--- this is another plan of seeds, with its announced paths in the pool, for an edit of the AS (own rule)
-pub record AreMade (old new : PathPool) (plan after : Plan) (a : ℕ) (e : EditedSeeds) : Type 0 where
+-- how many numbers the newly announced path of an edit has; none where an announcement goes (own rule)
+abbrev pub edit_numbers : SeedEdit → ℕ
+edit_numbers (Announce prefix path) = length path
+edit_numbers (Withdraw prefix a) = 0
+
+-- this is another plan of seeds, with its announced paths in the pool, for an edit of the AS by which a path of so many numbers is announced (own rule)
+pub record AreMade (old new : PathPool) (plan after : Plan) (a n : ℕ) (e : EditedSeeds) : Type 0 where
   pub seeds : AreSeedsOf new plan e
   pub plan_is : e.plan ≡ after
   pub asn_is : e.asn ≡ a
+  pub numbers_is : e.numbers ≡ n
   pub few : e.numbers ≤ 64
   pub held : AreHeldToo old new e.announced.items e.numbers

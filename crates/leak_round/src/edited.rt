@@ -11,7 +11,7 @@ ghost use Rattle.leak_round.specs.declared.announced.Announced.{Announced as AnA
 ghost use Rattle.leak_round.specs.Limits.{IsWithinLimits};
 ghost use Rattle.leak_round.specs.Announced.{is_of, announced_uses, AreAnnounced};
 ghost use Rattle.leak_round.specs.Growth.{KeepsPaths};
-ghost use Rattle.leak_round.specs.Edited.{edited_uses, given_up, others_of, AreHeldToo, EndsWithPath, AreSeedsOf, AreMade};
+ghost use Rattle.leak_round.specs.Edited.{edited_uses, given_up, others_of, AreHeldToo, EndsWithPath, AreSeedsOf, edit_numbers, AreMade};
 
 use crate::announced::{Announced, hold_all, release_all};
 use net_names::{Asn, NoMemory, Path, Prefix};
@@ -147,7 +147,7 @@ fn announce_anew(
     requires limits { IsWithinLimits after }
     requires announced { AreAnnounced pool.old plan.now announced.now }
     requires counts { (k : ℕ) → count_of pool.old k ≤ 4000000000 }
-    ensures made { IfOk result (AreMade pool.old pool.new plan.now after (announcer_of path.now)) }
+    ensures made { IfOk result (AreMade pool.old pool.new plan.now after (announcer_of path.now) (length path.now)) }
     ensures err { OnErr result (IsUndone pool.old pool.new) }
     ensures limit { limit_of pool.new ≡ limit_of pool.old }
 {
@@ -180,7 +180,7 @@ fn withdraw(
     requires limits { IsWithinLimits after }
     requires announced { AreAnnounced pool.old plan.now announced.now }
     requires counts { (k : ℕ) → count_of pool.old k ≤ 4000000000 }
-    ensures made { IfOk result (AreMade pool.old pool.new plan.now after asn) }
+    ensures made { IfOk result (AreMade pool.old pool.new plan.now after asn 0) }
     ensures err { OnErr result (IsUndone pool.old pool.new) }
     ensures limit { limit_of pool.new ≡ limit_of pool.old }
 {
@@ -213,6 +213,7 @@ pub fn edit_seeds(
     ensures seeds { IfOk result (λ e. AreSeedsOf pool.new plan.now e) }
     ensures plan { IfOk result (λ e. e.plan ≡ edited plan.now edit.now) }
     ensures asn { IfOk result (λ e. e.asn ≡ edit_asn edit.now) }
+    ensures numbers { IfOk result (λ e. e.numbers ≡ edit_numbers edit.now) }
     ensures few { IfOk result (λ e. e.numbers ≤ 64) }
     ensures holds { IfOk result (λ e. (k : ℕ) → holds_of pool.new k ≡ holds_of pool.old k + announced_uses e.announced.items k) }
     ensures keeps { OnOk result (KeepsPaths pool.old pool.new) }

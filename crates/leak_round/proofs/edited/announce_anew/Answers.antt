@@ -31,6 +31,7 @@ returns-in-Ok-clause-made c =
       seeds = seeds_instead old new c.args.plan.now c.args.announced.now c.requires.announced c.in-Ok.ensures.held.keeps c.args.prefix c.requires.known e c.requires.limits c.args.path.now c.in_ok-others.others.items are c.requires.after c.in-Ok.ensures.last;
       plan_is = refl;
       asn_is = first;
+      numbers_is = ap length c.as_slice-numbers.ensures;
       few = omega (arith, c.requires.short, ap length c.as_slice-numbers.ensures);
       held = subst (AreHeldToo old new c.add_path.new.announced.items) (sym (ap length c.as_slice-numbers.ensures)) c.in-Ok.ensures.held;
     }

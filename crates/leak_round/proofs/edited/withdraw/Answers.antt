@@ -27,6 +27,7 @@ returns-clause-made c =
       seeds = seeds_without old c.hold_all.new.pool c.args.plan.now c.args.announced.now c.requires.announced held.keeps c.args.prefix c.requires.known e c.requires.limits c.args.asn c.in_ok-others.ensures c.requires.after;
       plan_is = refl;
       asn_is = refl;
+      numbers_is = refl;
       few = omega arith;
       held = record {
         holds = λ k. held.holds k ∙ ap (λ (ys : List Announced). holds_of old k + announced_uses ys k) c.as_slice.ensures.value;
