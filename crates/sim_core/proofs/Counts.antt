@@ -1,6 +1,8 @@
 -- Counts of differing entries, one AS, one prefix and one round after the other.
 use Rattle.std.proofs.Common.{◌≡◌, ◌≢◌, ◌⊎◌, ◌↔◌, inl, inr, ℕ, zero, suc, ◌+◌, ◌<◌, ◌≤◌, ◌==◌, ◌||◌, Bool, true, false, cond, IsTrue, nat_eq, List, [], ◌∷◌, ◌++◌, take, length, get_or, Option, Some, Result, Ok, Err, IfOk, refl, sym, ap, subst, ◌∙◌, arith}
 use Rattle.std.specs.List.{IsDistinct}
+use Rattle.std.specs.FinMap as fin
+use Rattle.std.specs.FinSet as set
 use Rattle.std.proofs.lemmas.Bool.{eqb-true, eq-eqb, true≢false}
 use Rattle.std.proofs.lemmas.List.{take_more}
 use Rattle.net_names.specs.Numbers.{occurs}
@@ -144,8 +146,18 @@ round_more plan past old new Q n m listed more there back =
 pub none_changed : (plan : Plan) (old new : ℕ → PrefixValue → ℕ → Option Entry) → HasListed (IsChanged plan 0 old new) 0
 none_changed plan old new = listed_none (IsChanged plan 0 old new) (λ x h. absurd (omega (arith, h.from, h.to)))
 
-pub all_rounds : (plan : Plan) (rounds : ℕ) (old new : ℕ → PrefixValue → ℕ → Option Entry) (n : ℕ) → HasListed (IsChanged plan rounds old new) n → HasChanges plan rounds old new n
-all_rounds plan rounds old new n h = record { triples = h.list; apart = h.apart; whole = h.whole; only = h.only; number = h.number }
+-- a change is one under another plan with the same prefixes too
+changed_by : (plan other : Plan) → plan.prefixes ≡ other.prefixes → (rounds : ℕ) (old new : ℕ → PrefixValue → ℕ → Option Entry) (x : ℕ × (PrefixValue × ℕ)) → IsChanged plan rounds old new x → IsChanged other rounds old new x
+changed_by plan other same rounds old new x h = record { from = h.from; to = h.to; known = subst (λ (ps : set.FinSet prefix_cmp). IsTrue (fin.contains_key ps x.1.0)) same h.known; differs = h.differs }
+
+pub all_rounds : (plan other : Plan) → plan.prefixes ≡ other.prefixes → (rounds : ℕ) (old new : ℕ → PrefixValue → ℕ → Option Entry) (n : ℕ) → HasListed (IsChanged plan rounds old new) n → HasChanges other rounds old new n
+all_rounds plan other same rounds old new n h = record {
+  triples = h.list;
+  apart = h.apart;
+  whole = λ x d. h.whole x (changed_by other plan (sym same) rounds old new x d);
+  only = λ x s. changed_by plan other same rounds old new x (h.only x s);
+  number = h.number;
+}
 
 -- ---- the prefixes of a plan
 

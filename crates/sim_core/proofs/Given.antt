@@ -22,9 +22,9 @@ use Rattle.sim_core.specs.declared.errors.EditError.{EditError}
 use Rattle.sim_core.specs.declared.errors.EditError.TheVariants as refused
 use Rattle.sim_core.specs.declared.errors.EditLimit.TheVariants.{Ases}
 use Rattle.sim_core.specs.declared.sim.Sim.{Sim}
-use Rattle.sim_core.proofs.LinkEdits.{has_by, over, rest_both, within}
+use Rattle.sim_core.proofs.LinkEdits.{has_by, limit_ases, rest_both}
 use Rattle.sim_core.proofs.PolicyEdits.{given_back}
-use Rattle.sim_core.proofs.Remade.{hold_in, rest_kept, small_world}
+use Rattle.sim_core.proofs.Remade.{hold_in, never, rest_kept, small_world}
 
 pub roomed_world : (old new : Sim) (a : ℕ) → IsRoomed old new a → world_seen new ≡ world_seen old
 roomed_world old new a h = λ i. record {
@@ -56,7 +56,7 @@ begun_rest old mid new a k roomed given = rest_both old mid new roomed.rest give
 pub too_many_named : (s : Sim) (a : ℕ) (k : Kind) → fin.len s.graph.links ≤ 1500000 → as_count (topology (edited (world_seen s) (Policy a k))) ≡ as_count (with_mark s.graph a) → 150000 < as_count (with_mark s.graph a) → refusal_of_edit (world_seen s) (Policy a k) ≡ Some (refused.Limit Ases)
 too_many_named s a k links same many =
     let ases : 150000 < as_count (topology (edited (world_seen s) (Policy a k))) = subst (λ n. 150000 < n) (sym same) many in
-    rw (within (fin.len s.graph.links) 1500000 links, over (as_count (topology (edited (world_seen s) (Policy a k)))) 150000 ases) refl
+    limit_ases (world_seen s) (Policy a k) refl links s.small.announcements ases
 
 -- the policy that the AS had, given back, gives back the world
 pub back_world : (old mid new : Sim) (a : ℕ) (k was : Kind) → was ≡ policy_at old.book a → IsRoomed old mid a → IsGiven mid new a k → edited (world_seen new) (Policy a was) ≡ world_seen old
@@ -86,11 +86,6 @@ policy_undone old mid new last a k was is roomed given back = record {
 }
 
 -- who is no AS after a policy other than the plain one was given was none before
-never : (t s : Bool) → (t ≡ true → s ≡ true) → s ≡ false → t ≡ false
-never true true h e = cc
-never true false h e = (let no : false ≡ true = h refl in cc)
-never false s h e = refl
-
 pub hold_given : (old mid new : Sim) (a : ℕ) (k : Kind) → IsKept (world_seen old) (kept old) → IsRoomed old mid a → IsGiven mid new a k → is_other (a, k) ≡ true → HoldIn new.rounds new.graph
 hold_given old mid new a k is roomed given other =
     subst (λ (x : Rounds). HoldIn x new.graph) (sym (given.rest.rounds ∙ roomed.rest.rounds))

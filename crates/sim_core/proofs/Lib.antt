@@ -14,3 +14,6 @@ pub mod LinkEdits
 pub mod PolicyEdits
 pub mod Given
 pub mod PayloadEdits
+pub mod SeedEdits
+pub mod SeedMarks
+pub mod Reseeded

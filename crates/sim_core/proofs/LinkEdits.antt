@@ -19,16 +19,17 @@ use Rattle.as_graph.specs.Refusals.{IsLinkRefusal}
 use Rattle.as_graph.specs.Topology.{Topology, as_count, has, what}
 use Rattle.leak_round.specs.Rounds.{plan_of, round_count}
 use Rattle.leak_round.specs.declared.rounds.Rounds.{Rounds}
+use Rattle.scenario_text.specs.declared.acts.Edit.{Edit}
 use Rattle.scenario_text.specs.declared.acts.Edit.TheVariants.{Link}
 use Rattle.sim_core.specs.Editing.{HasLinks, IsSmall, IsUndone, KeepsRest, links_with}
-use Rattle.sim_core.specs.Edits.{IsEditRefusal, edited, refusal_of_edit}
+use Rattle.sim_core.specs.Edits.{IsEditRefusal, absent, edited, refusal_of_edit}
 use Rattle.sim_core.specs.Kept.{IsKept}
 use Rattle.sim_core.specs.Remaking.{HoldIn, HoldOnly, IsLinkStop}
 use Rattle.sim_core.specs.Sims.{kept, world_seen}
 use Rattle.sim_core.specs.World.{World, HasCycle, graph_of, topology}
 use Rattle.sim_core.specs.declared.errors.EditError.{EditError}
 use Rattle.sim_core.specs.declared.errors.EditError.TheVariants as refused
-use Rattle.sim_core.specs.declared.errors.EditLimit.TheVariants.{Links, Ases}
+use Rattle.sim_core.specs.declared.errors.EditLimit.TheVariants.{Links, Announcements, Ases}
 use Rattle.sim_core.specs.declared.sim.Sim.{Sim}
 use Rattle.sim_core.proofs.CycleLemmas.{new_below, none_below, without_below}
 use Rattle.sim_core.proofs.Remade.{hold_in, rest_kept}
@@ -51,6 +52,14 @@ over n most h = grind (arith, nat_tests, h)
 
 pub within : (n most : ℕ) → n ≤ most → nat_lt most n ≡ false
 within n most h = grind (arith, nat_tests, h)
+
+-- the first limit that is passed is that of ASes
+pub limit_ases : (w : World) (e : Edit) → absent w e ≡ None → fin.len (edited w e).links ≤ 1500000 → fin.len (edited w e).plan.announced ≤ 64 → 150000 < as_count (topology (edited w e)) → refusal_of_edit w e ≡ Some (refused.Limit Ases)
+limit_ases w e there links announcements ases =
+    rw (there, within (fin.len (edited w e).links) 1500000 links, within (fin.len (edited w e).plan.announced) 64 announcements, over (as_count (topology (edited w e))) 150000 ases) refl
+
+pub limit_announcements : (w : World) (e : Edit) → absent w e ≡ None → fin.len (edited w e).links ≤ 1500000 → nat_lt 64 (fin.len (edited w e).plan.announced) ≡ true → refusal_of_edit w e ≡ Some (refused.Limit Announcements)
+limit_announcements w e there links more = rw (there, within (fin.len (edited w e).links) 1500000 links, more) refl
 
 unfound : {X : Type 0} (o : Option X) → o ≡ None → is_some o ≡ false
 unfound o e = ap is_some e
@@ -86,7 +95,7 @@ pub too_many_ases : (s : Sim) (a b : ℕ) (r : Rel) → a ≢ b → what s.graph
 too_many_ases s a b r apart none few many =
     let links : fin.len (edited (world_seen s) (Link a b r)).links ≤ 1500000 = omega (arith, len_new s.graph a b r apart none, few) in
     let ases : 150000 < as_count (topology (edited (world_seen s) (Link a b r))) = subst (λ n. 150000 < n) (seen_linked s a b r) many in
-    rw (within (fin.len (edited (world_seen s) (Link a b r)).links) 1500000 links, over (as_count (topology (edited (world_seen s) (Link a b r)))) 150000 ases) refl
+    limit_ases (world_seen s) (Link a b r) refl links s.small.announcements ases
 
 -- ---- undoing
 
@@ -135,6 +144,8 @@ pub link_stopped : (w : World) (graph : Topology) (a b : ℕ) (r : Rel) (e : Edi
 link_stopped w graph a b r refused.Memory none same h = tt
 link_stopped w graph a b r (refused.AbsentLink lo hi) none same h = absurd h
 link_stopped w graph a b r (refused.AbsentVrp vrp) none same h = absurd h
+link_stopped w graph a b r (refused.UnknownPrefix prefix) none same h = absurd h
+link_stopped w graph a b r (refused.AbsentAnnouncement prefix x) none same h = absurd h
 link_stopped w graph a b r (refused.Limit which) none same h = absurd h
 link_stopped w graph a b r (refused.ProviderCycle cycle) none same h = (none, record { closes = subst (λ v. IsProviderCycle v cycle) same h.0; begins = h.1 })
 

@@ -35,7 +35,7 @@ absent_none : {X : Type 0} (o : Option X) → is_some o ≡ false → o ≡ None
 absent_none None h = refl
 absent_none (Some x) h = cc
 
-there_unit : (o : Option (Unit {0})) → is_some o ≡ true → o ≡ Some tt
+pub there_unit : (o : Option (Unit {0})) → is_some o ≡ true → o ≡ Some tt
 there_unit None h = cc
 there_unit (Some x) h = refl
 
@@ -65,7 +65,7 @@ pub too_many_payloads : (s : Sim) (v : VrpValue) → IsSmall s.graph s.vrps → 
 too_many_payloads s v small none many =
     let one : count (added s.vrps v) ≡ count s.vrps + 1 = fin.len-insert vrp_total s.vrps v tt ∙ ap (λ t. cond t (count s.vrps) (count s.vrps + 1)) none in
     let more : 2000000 < count (added s.vrps v) = omega (arith, one, many) in
-    rw (within (fin.len s.graph.links) 1500000 small.links, within (as_count (topology (world_seen s))) 150000 (subst (λ n. n ≤ 150000) (seen_count s) small.ases), over (count (added s.vrps v)) 2000000 more) refl
+    rw (within (fin.len s.graph.links) 1500000 small.links, within (fin.len (plan_of s.rounds).announced) 64 s.small.announcements, within (as_count (topology (world_seen s))) 150000 (subst (λ n. n ≤ 150000) (seen_count s) small.ases), over (count (added s.vrps v)) 2000000 more) refl
 
 -- nothing but the payloads has changed
 pub payloads_world : (old new : Sim) → new.graph.links ≡ old.graph.links → new.book.named ≡ old.book.named → KeepsRest old new → world_seen new ≡ record (world_seen old) { payloads = new.vrps }
@@ -101,10 +101,10 @@ back_vrps false s now v is there = ap (λ (x : Payloads). taken x v) is ∙ adde
 
 -- an edit of the payloads is done
 pub payload_done : (old new : Sim) (e : Edit) (m : Remade) (vrps : Payloads) → with_payloads (world_seen old) vrps ≡ edited (world_seen old) e → absent (world_seen old) e ≡ None → IsSmall old.graph vrps → (HasCycle (world_seen old) → ⊥)
-    → IsRemade old.graph vrps old.book old.rounds old.watched.items m → new.graph ≡ old.graph → new.vrps ≡ vrps → new.book ≡ old.book → new.watched ≡ old.watched → new.ranks ≡ m.ranks → new.rounds ≡ m.rounds → new.watches ≡ m.watches → IsDone old new e m.changed
+    → IsRemade old.graph vrps old.book (plan_of old.rounds) old.rounds old.watched.items m → new.graph ≡ old.graph → new.vrps ≡ vrps → new.book ≡ old.book → new.watched ≡ old.watched → new.ranks ≡ m.ranks → new.rounds ≡ m.rounds → new.watches ≡ m.watches → IsDone old new e m.changed
 payload_done old new e m vrps world there small none is graph payloads book watched ranks rounds watches =
-    edit_done old new e m
+    edit_done old new e (plan_of old.rounds) m
     ((λ i. record { links = (graph i).links; payloads = payloads i; kinds = (book i).named; plan = plan_of old.rounds; rounds = round_count old.rounds; watched = set.from_list old.watched.items }) ∙ world)
-    (allowed_by (world_seen old) (with_payloads (world_seen old) vrps) e world there (no_limit (with_payloads (world_seen old) vrps) small.links (subst (λ n. n ≤ 150000) (seen_count old) small.ases) small.payloads_in) (λ xs cycle. none (xs, cycle)))
-    (subst (λ (t : (Topology × Payloads) × PolicyBook Kind). IsRemade t.0.0 t.0.1 t.1 old.rounds old.watched.items m) (λ i. ((sym graph i, sym payloads i), sym book i)) is)
+    (allowed_by (world_seen old) (with_payloads (world_seen old) vrps) e world there (no_limit (with_payloads (world_seen old) vrps) small.links old.small.announcements (subst (λ n. n ≤ 150000) (seen_count old) small.ases) small.payloads_in) (λ xs cycle. none (xs, cycle)))
+    (subst (λ (t : (Topology × Payloads) × PolicyBook Kind). IsRemade t.0.0 t.0.1 t.1 (plan_of old.rounds) old.rounds old.watched.items m) (λ i. ((sym graph i, sym payloads i), sym book i)) is)
     ranks rounds watches watched

@@ -18,17 +18,17 @@ use Rattle.sim_core.specs.Edits.{with_kind}
 use Rattle.sim_core.specs.Loaded.{is_other}
 use Rattle.sim_core.specs.World.{graph_of, leakers, named}
 
-abbrev Kinds : Type 0
+abbrev pub Kinds : Type 0
 Kinds = fin.FinMap nat_cmp Kind
 
-is_key : (q a : ℕ) → eq_by_cmp nat_cmp q a ≡ (a == q)
+pub is_key : (q a : ℕ) → eq_by_cmp nat_cmp q a ≡ (a == q)
 is_key q a = unsigned_tied q a ∙ nat_eq_equiv.symm q a
 
 any_key : (q : ℕ) (ks : List ℕ) → list_any (eq_by_cmp nat_cmp q) ks ≡ occurs q ks
 any_key q [] = refl
 any_key q (k ∷ ks) = λ i. is_key q k i || any_key q ks i
 
-occurs_keys : (m : Kinds) (q : ℕ) → occurs q (fin.keys m) ≡ is_some (fin.get m q)
+pub occurs_keys : (m : Kinds) (q : ℕ) → occurs q (fin.keys m) ≡ is_some (fin.get m q)
 occurs_keys m q = sym (any_key q (fin.keys m)) ∙ sym (fin.contains_key-keys m q)
 
 keys_with : (m : Kinds) (a : ℕ) (k : Kind) (q : ℕ) → occurs q (fin.keys (fin.insert m a k)) ≡ ((a == q) || occurs q (fin.keys m))
@@ -49,7 +49,7 @@ keys_without m a q =
     by true o = refl
     by false o = refl
 
-named_by : (plan : Plan) (m : Kinds) (q : ℕ) → set.contains (set.from_list {R = nat_cmp} (named plan m)) q ≡ (occurs q (announcers_of plan) || (occurs q (leakers plan) || occurs q (fin.keys m)))
+pub named_by : (plan : Plan) (m : Kinds) (q : ℕ) → set.contains (set.from_list {R = nat_cmp} (named plan m)) q ≡ (occurs q (announcers_of plan) || (occurs q (leakers plan) || occurs q (fin.keys m)))
 named_by plan m q =
     set.contains-from_list_nat (named plan m) q ∙ occurs-append q (announcers_of plan) (leakers plan ++ fin.keys m)
     ∙ ap (λ b. occurs q (announcers_of plan) || b) (occurs-append q (leakers plan) (fin.keys m))
@@ -127,7 +127,7 @@ get_with m a k q = by (is_other (a, k))
     by true = fin.get-insert nat_cmp_total m a k q
     by false = fin.get-remove nat_cmp_total m a q
 
-as_other : (a : ℕ) (o : Option Kind) → o ≢ Some Plain → cond (is_other (a, unwrap_or o Plain)) (Some (unwrap_or o Plain)) None ≡ o
+pub as_other : (a : ℕ) (o : Option Kind) → o ≢ Some Plain → cond (is_other (a, unwrap_or o Plain)) (Some (unwrap_or o Plain)) None ≡ o
 as_other a None h = refl
 as_other a (Some k) h = by (is_other (a, k)) refl
   where

@@ -1,5 +1,5 @@
 -- What was made anew is what belongs to the edited world.
-use Rattle.std.proofs.Common.{◌≡◌, ◌≤◌, ℕ, false, nat_lt, List, None, refl, sym, ap, subst, ◌∙◌, arith}
+use Rattle.std.proofs.Common.{◌≡◌, ◌≤◌, ℕ, Bool, true, false, nat_lt, List, None, refl, sym, ap, subst, ◌∙◌, arith}
 use Rattle.std.proofs.lemmas.Bool.Decides.{nat_tests}
 use Rattle.std.specs.FinMap as fin
 use Rattle.std.specs.FinSet as set
@@ -31,6 +31,12 @@ use Rattle.sim_core.specs.declared.watching.RoundWatches.{RoundWatches}
 use Rattle.sim_core.proofs.Loads.{only_ones}
 use Rattle.sim_core.proofs.Watches.{rows_right}
 
+-- what holds wherever another thing does holds nowhere else
+pub never : (t s : Bool) → (t ≡ true → s ≡ true) → s ≡ false → t ≡ false
+never true true h e = cc
+never true false h e = (let no : false ≡ true = h refl in cc)
+never false s h e = refl
+
 -- the ASes of a simulation's graph are those of its world
 pub seen_has : (s : Sim) (a : ℕ) → has s.graph a ≡ has_as (world_seen s) a
 seen_has s a = ap (λ (g : Topology). has g a) s.named
@@ -51,13 +57,13 @@ abbrev pub of_parts : LinkMap → Payloads → fin.FinMap nat_cmp Kind → Plan 
 of_parts links payloads kinds plan rounds watched = record { links = links; payloads = payloads; kinds = kinds; plan = plan; rounds = rounds; watched = watched }
 
 -- an edit whose world was made anew is done
-pub edit_done : (old new : Sim) (e : Edit) (m : Remade)
-    → of_parts new.graph.links new.vrps new.book.named (plan_of old.rounds) (round_count old.rounds) (set.from_list old.watched.items) ≡ edited (world_seen old) e
-    → IsAllowed (world_seen old) e → IsRemade new.graph new.vrps new.book old.rounds old.watched.items m
+pub edit_done : (old new : Sim) (e : Edit) (plan : Plan) (m : Remade)
+    → of_parts new.graph.links new.vrps new.book.named plan (round_count old.rounds) (set.from_list old.watched.items) ≡ edited (world_seen old) e
+    → IsAllowed (world_seen old) e → IsRemade new.graph new.vrps new.book plan old.rounds old.watched.items m
     → new.ranks ≡ m.ranks → new.rounds ≡ m.rounds → new.watches ≡ m.watches → new.watched ≡ old.watched → IsDone old new e m.changed
-edit_done old new e m world allowed is ranks rounds watches watched =
-    let are : AreRoundsOf new.graph new.vrps new.book (plan_of old.rounds) (round_count old.rounds) new.rounds = subst (λ (r : Rounds). AreRoundsOf new.graph new.vrps new.book (plan_of old.rounds) (round_count old.rounds) r) (sym rounds) is.rounds in
-    let seen : world_seen new ≡ of_parts new.graph.links new.vrps new.book.named (plan_of old.rounds) (round_count old.rounds) (set.from_list old.watched.items) =
+edit_done old new e plan m world allowed is ranks rounds watches watched =
+    let are : AreRoundsOf new.graph new.vrps new.book plan (round_count old.rounds) new.rounds = subst (λ (r : Rounds). AreRoundsOf new.graph new.vrps new.book plan (round_count old.rounds) r) (sym rounds) is.rounds in
+    let seen : world_seen new ≡ of_parts new.graph.links new.vrps new.book.named plan (round_count old.rounds) (set.from_list old.watched.items) =
     λ i. record { links = new.graph.links; payloads = new.vrps; kinds = new.book.named; plan = are.plan_is i; rounds = are.count_is i; watched = set.from_list (ap (λ w. w.items) watched i) } in
     let addrs : old.watched.items ≡ new.watched.items = ap (λ w. w.items) (sym watched) in
     let items : m.watches.items ≡ new.watches.items = ap (λ w. w.items) (sym watches) in
@@ -67,7 +73,7 @@ edit_done old new e m world allowed is ranks rounds watches watched =
       world = seen ∙ world;
       allowed = allowed;
       is_kept = record {
-        routings = only_ones new.graph new.vrps new.book (plan_of old.rounds) (round_count old.rounds) new.rounds new.watched.items new.named new.plain are;
+        routings = only_ones new.graph new.vrps new.book plan (round_count old.rounds) new.rounds new.watched.items new.named new.plain are;
         ranks = subst (λ (r : KeptRanks). (a : ℕ) → IsRank (what new.graph) a (rank_at r a)) (sym ranks) is.ranks;
         rows = rows_right new.graph new.vrps new.book new.rounds new.watched.items new.watches.items new.named new.plain made;
       };
@@ -88,11 +94,12 @@ within : (n most : ℕ) → n ≤ most → nat_lt most n ≡ false
 within n most h = grind (arith, nat_tests, h)
 
 -- a world that no limit refuses
-pub no_limit : (w : World) → fin.len w.links ≤ 1500000 → as_count (topology w) ≤ 150000 → count w.payloads ≤ 2000000 → passed_limit w ≡ None
-no_limit w links ases payloads = rw (within (fin.len w.links) 1500000 links, within (as_count (topology w)) 150000 ases, within (count w.payloads) 2000000 payloads) refl
+pub no_limit : (w : World) → fin.len w.links ≤ 1500000 → fin.len w.plan.announced ≤ 64 → as_count (topology w) ≤ 150000 → count w.payloads ≤ 2000000 → passed_limit w ≡ None
+no_limit w links announcements ases payloads =
+    rw (within (fin.len w.links) 1500000 links, within (fin.len w.plan.announced) 64 announcements, within (as_count (topology w)) 150000 ases, within (count w.payloads) 2000000 payloads) refl
 
 pub small_world : (s : Sim) → IsSmall s.graph s.vrps → passed_limit (world_seen s) ≡ None
-small_world s small = no_limit (world_seen s) small.links (subst (λ n. n ≤ 150000) (seen_count s) small.ases) small.payloads_in
+small_world s small = no_limit (world_seen s) small.links s.small.announcements (subst (λ n. n ≤ 150000) (seen_count s) small.ases) small.payloads_in
 
 pub allowed_by : (w after : World) (e : Edit) → after ≡ edited w e → absent w e ≡ None → passed_limit after ≡ None → HasNoProviderCycle (what (topology after)) → IsAllowed w e
 allowed_by w after e world there small none = record {
@@ -102,12 +109,12 @@ allowed_by w after e world there small none = record {
 
 -- an edit was begun, and what belongs to its world put in place
 pub put_done : (old mid new : Sim) (e : Edit) (m : Remade) → world_seen mid ≡ edited (world_seen old) e → KeepsRest old mid → IsAllowed (world_seen old) e
-    → IsRemade mid.graph mid.vrps mid.book mid.rounds mid.watched.items m → IsPut mid new m → IsDone old new e m.changed
+    → IsRemade mid.graph mid.vrps mid.book (plan_of mid.rounds) mid.rounds mid.watched.items m → IsPut mid new m → IsDone old new e m.changed
 put_done old mid new e m world rest allowed is p =
-    edit_done old new e m
+    edit_done old new e (plan_of old.rounds) m
     ((λ i. record { links = (p.graph i).links; payloads = p.vrps i; kinds = (p.book i).named; plan = plan_of (sym rest.rounds i); rounds = round_count (sym rest.rounds i); watched = set.from_list (ap (λ w. w.items) (sym rest.watched) i) }) ∙ world)
     allowed
-    (subst (λ (t : (Topology × Payloads) × (PolicyBook Kind × (Rounds × List AddrValue))). IsRemade t.0.0 t.0.1 t.1.0 t.1.1.0 t.1.1.1 m)
+    (subst (λ (t : (Topology × Payloads) × (PolicyBook Kind × (Rounds × List AddrValue))). IsRemade t.0.0 t.0.1 t.1.0 (plan_of t.1.1.0) t.1.1.0 t.1.1.1 m)
     (λ i. ((sym p.graph i, sym p.vrps i), (sym p.book i, (rest.rounds i, ap (λ w. w.items) rest.watched i)))) is)
     p.ranks p.rounds p.watches (p.watched ∙ rest.watched)
 

@@ -10,10 +10,15 @@ use Rattle.as_graph.specs.Topology.{Topology, as_count, has}
 use Rattle.policy_kinds.specs.declared.kind.Kind.{Kind}
 use Rattle.roa_table.specs.Sets.{Payloads, count}
 use Rattle.scenario_text.specs.declared.acts.Edit.{Edit}
-use Rattle.sim_core.specs.Edits.{HasChanged, IsAllowed, IsEditRefusal, edited, with_kind}
+use Rattle.scenario_text.specs.declared.acts.Edit.TheVariants as edit
+use Rattle.stability_laws.specs.SeedEdits.{IsEditOf, IsEditWithin, edited as edited_plan}
+use Rattle.stability_laws.specs.declared.seed_plan.edits.SeedEdit.{SeedEdit}
+use Rattle.stability_laws.specs.declared.seed_plan.edits.SeedEdit.TheVariants as seeds
+use Rattle.sim_core.specs.Edits.{HasChanged, IsAllowed, IsEditRefusal, absent, edited, with_kind}
 use Rattle.sim_core.specs.Loaded.{is_other}
 use Rattle.sim_core.specs.Kept.{IsKept}
 use Rattle.sim_core.specs.Sims.{kept, world_seen}
+use Rattle.sim_core.specs.World.{World}
 use Rattle.sim_core.specs.declared.editing.Changed.{Changed}
 use Rattle.sim_core.specs.declared.errors.EditError.{EditError}
 use Rattle.sim_core.specs.declared.sim.Sim.{Sim}
@@ -34,6 +39,18 @@ pub record IsUndone (old new : Sim) : Type 0 where
 abbrev pub IsEdited : Sim → Sim → Edit → Result Changed EditError → Type 0
 IsEdited old new e (Ok changed) = IsDone old new e changed.routes
 IsEdited old new e (Err error) = IsEditRefusal (world_seen old) e error × IsUndone old new
+
+-- an edit of announcements as an edit of the world (own rule)
+abbrev pub edit_of : SeedEdit → Edit
+edit_of (seeds.Announce prefix path) = edit.Announce prefix path
+edit_of (seeds.Withdraw prefix a) = edit.Withdraw prefix a
+
+-- an edit of announcements that is not refused, unless there would be too many ASes (own rule)
+pub record IsSeedEdit (w : World) (e : SeedEdit) : Type 0 where
+  pub known : IsEditOf w.plan e
+  pub within : IsEditWithin 64 e
+  pub few : fin.len (edited_plan w.plan e).announced ≤ 64
+  pub there : absent w (edit_of e) ≡ None
 
 -- what is kept, and which addresses are watched, stand as they were (own rule)
 pub record KeepsRest (old new : Sim) : Type 0 where

@@ -8,43 +8,50 @@ use Rattle.as_graph.specs.Hierarchy.{IsProviderCycle}
 use Rattle.as_graph.specs.Edits.{with_link, without_link}
 use Rattle.policy_kinds.specs.declared.kind.Kind.{Kind}
 use Rattle.roa_table.specs.Sets.{added, count, has, taken}
+use Rattle.stability_laws.specs.Plans.{announces, with_announcement}
+use Rattle.stability_laws.specs.SeedEdits.{without_announcement}
 use Rattle.leak_round.specs.Changes.{HasChanges}
 use Rattle.scenario_text.specs.declared.acts.Edit.{Edit}
 use Rattle.scenario_text.specs.declared.acts.Edit.TheVariants as edit
-use Rattle.sim_core.specs.World.{World, HasCycle, topology}
+use Rattle.sim_core.specs.World.{World, HasCycle, has_prefix, topology}
 use Rattle.sim_core.specs.Families.{Family}
 use Rattle.sim_core.specs.Loaded.{is_other}
 use Rattle.sim_core.specs.declared.errors.EditError.{EditError}
 use Rattle.sim_core.specs.declared.errors.EditError.TheVariants as refused
 use Rattle.sim_core.specs.declared.errors.EditLimit.{EditLimit}
-use Rattle.sim_core.specs.declared.errors.EditLimit.TheVariants.{Links, Ases, Vrps}
+use Rattle.sim_core.specs.declared.errors.EditLimit.TheVariants.{Links, Announcements, Ases, Vrps}
 
 -- the policies in which the AS has this kind; nobody is named for the plain one (own rule)
 abbrev pub with_kind : fin.FinMap nat_cmp Kind → ℕ → Kind → fin.FinMap nat_cmp Kind
 with_kind kinds a kind = if is_other (a, kind) then fin.insert kinds a kind else fin.remove kinds a
 
--- the edited world: the pair has this link in place of any earlier one, or none; the AS has this kind; the payload is in the set, or not (own rule)
+-- the edited world: the pair has this link in place of any earlier one, or none; the AS has this kind; the payload is in the set, or not; the first AS of the path announces the prefix with it in place of any earlier path, or the AS does not announce the prefix, which stays (own rule)
 abbrev pub edited : World → Edit → World
 edited w (edit.Link a b rel) = record w { links = (with_link (topology w) a b rel).links }
 edited w (edit.Unlink a b) = record w { links = (without_link (topology w) a b).links }
 edited w (edit.Policy a kind) = record w { kinds = with_kind w.kinds a kind }
 edited w (edit.VrpAdd vrp) = record w { payloads = added w.payloads vrp }
 edited w (edit.VrpTake vrp) = record w { payloads = taken w.payloads vrp }
+edited w (edit.Announce prefix path) = record w { plan = with_announcement w.plan prefix path }
+edited w (edit.Withdraw prefix a) = record w { plan = without_announcement w.plan prefix a }
 
 -- a pair without a link, the lower number first (own rule)
 abbrev pub absent_link : ℕ → ℕ → EditError
 absent_link a b = if nat_lt a b then refused.AbsentLink a b else refused.AbsentLink b a
 
--- what the edit takes away and the world has not: the link of the pair, or the payload (own rule)
+-- what the edit names or takes away and the world has not: the link of the pair, the payload, the prefix, or else the AS's announcement of it (own rule)
 abbrev pub absent : World → Edit → Option EditError
 absent w (edit.Unlink a b) = if is_some (what (topology w) a b) then None else Some (absent_link a b)
 absent w (edit.VrpTake vrp) = if has w.payloads vrp then None else Some (refused.AbsentVrp vrp)
+absent w (edit.Announce prefix path) = if has_prefix w prefix then None else Some (refused.UnknownPrefix prefix)
+absent w (edit.Withdraw prefix a) = if has_prefix w prefix then (if announces w.plan prefix a then None else Some (refused.AbsentAnnouncement prefix a)) else Some (refused.UnknownPrefix prefix)
 absent w e = None
 
--- the first limit that a world passes: 1,500,000 links, 150,000 ASes, 2,000,000 payloads (own rule)
+-- the first limit that a world passes: 1,500,000 links, 64 announcements, 150,000 ASes, 2,000,000 payloads (own rule)
 abbrev pub passed_limit : World → Option EditLimit
 passed_limit w =
-    if nat_lt 1500000 (fin.len w.links) then Some Links else (if nat_lt 150000 (as_count (topology w)) then Some Ases else (if nat_lt 2000000 (count w.payloads) then Some Vrps else None))
+    if nat_lt 1500000 (fin.len w.links) then Some Links
+    else (if nat_lt 64 (fin.len w.plan.announced) then Some Announcements else (if nat_lt 150000 (as_count (topology w)) then Some Ases else (if nat_lt 2000000 (count w.payloads) then Some Vrps else None)))
 
 -- the limit that is passed, as a refusal (own rule)
 abbrev pub over_limit : Option EditLimit → Option EditError
@@ -56,7 +63,7 @@ abbrev pub or_else : Option EditError → Option EditError → Option EditError
 or_else (Some e) other = Some e
 or_else None other = other
 
--- why an edit is refused, but for provider cycles: what it takes away is not there, or else the edited world passes a limit (own rule)
+-- why an edit is refused, but for provider cycles: what it names or takes away is not there, or else the edited world passes a limit (own rule)
 abbrev pub refusal_of_edit : World → Edit → Option EditError
 refusal_of_edit w e = or_else (absent w e) (over_limit (passed_limit (edited w e)))
 

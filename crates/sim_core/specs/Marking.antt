@@ -1,5 +1,6 @@
--- Graphs with several marks.
-use Rattle.std.specs.Prelude.{◌≡◌, ◌<◌, ◌≤◌, ℕ, List, fold, Result, Ok, Err}
+-- Graphs with other marks.
+use Rattle.std.specs.Prelude.{◌≡◌, ◌<◌, ◌≤◌, ℕ, Bool, List, fold, Result, Ok, Err, if◌then◌else◌}
+use Rattle.std.specs.FinSet as set
 use Rattle.net_names.specs.Links.{LinkMap}
 use Rattle.as_graph.specs.Topology.{Topology, as_count, unmarked, with_mark}
 use Rattle.sim_core.specs.declared.errors.LoadError.{LoadError}
@@ -8,6 +9,10 @@ use Rattle.sim_core.specs.declared.errors.LoadError.TheVariants as load_error
 -- the graph with a mark on each of these ASes
 abbrev pub marked : Topology → List ℕ → Topology
 marked g names = fold with_mark g names
+
+-- the graph in which the AS is marked or not, and all else as before
+abbrev pub with_mark_if : Topology → ℕ → Bool → Topology
+with_mark_if g a is_marked = record g { marked = if is_marked then set.insert g.marked a else set.remove g.marked a }
 
 -- why the ASes get no marks: memory is wanting, or there would be more than 150,000 ASes (own rule)
 abbrev pub IsMarksRefusal : Topology → List ℕ → LoadError → Type 0

@@ -4,11 +4,12 @@ ghost use Rattle.std.specs.List.{IsDistinct};
 ghost use Rattle.as_graph.specs.Hierarchy.{HasNoProviderCycle};
 ghost use Rattle.as_graph.specs.Topology.{has, what};
 ghost use Rattle.net_names.specs.Numbers.{occurs};
+ghost use Rattle.leak_round.specs.Rounds.{plan_of};
 ghost use Rattle.roa_table.specs.Sets.{Payloads, taken};
 ghost use Rattle.sim_core.specs.Editing.{IsSmall};
 ghost use Rattle.sim_core.specs.Remaking.{HoldIn, HoldOnly, IsRemade};
 
-use crate::remaking::{Remade, remake};
+use crate::remaking::{Remade, place, remake};
 use crate::{Changed, Sim};
 use net_names::{Asn, NoMemory, Vrp};
 use origin_validation::States;
@@ -38,15 +39,17 @@ impl Sim {
         requires few { length names.now ≤ 150000 }
         requires new { (a : ℕ) → has self.now.graph a ≡ true → occurs a names.now ≡ true }
         requires old { HoldOnly self.now.rounds names.now }
-        ensures { IfOk result (IsRemade self.now.graph self.now.vrps self.now.book self.now.rounds self.now.watched.items) }
+        ensures { IfOk result (IsRemade self.now.graph self.now.vrps self.now.book (plan_of self.now.rounds) self.now.rounds self.now.watched.items) }
     {
         let states = States::of(&self.vrps);
         let count = self.watches.len() as u32;
+        let plan = self.rounds.seed_plan().copied(alloc)?;
         remake(
             alloc,
             &self.graph,
             &states,
             &self.book,
+            plan,
             &self.rounds,
             count,
             &self.watched,
@@ -63,7 +66,7 @@ impl Sim {
     ) -> Result<Remade, NoMemory>
         requires no_cycle { HasNoProviderCycle (what self.now.graph) }
         requires old { HoldIn self.now.rounds self.now.graph }
-        ensures { IfOk result (IsRemade self.now.graph self.now.vrps self.now.book self.now.rounds self.now.watched.items) }
+        ensures { IfOk result (IsRemade self.now.graph self.now.vrps self.now.book (plan_of self.now.rounds) self.now.rounds self.now.watched.items) }
     {
         self.is_small();
         self.remade(alloc, self.graph.ases(), steps)
@@ -78,16 +81,18 @@ impl Sim {
     ) -> Result<Remade, NoMemory>
         requires no_cycle { HasNoProviderCycle (what self.now.graph) }
         requires old { HoldIn self.now.rounds self.now.graph }
-        ensures { IfOk result (IsRemade self.now.graph (taken self.now.vrps vrp) self.now.book self.now.rounds self.now.watched.items) }
+        ensures { IfOk result (IsRemade self.now.graph (taken self.now.vrps vrp) self.now.book (plan_of self.now.rounds) self.now.rounds self.now.watched.items) }
     {
         self.is_small();
         let states = States::without(&self.vrps, vrp);
         let count = self.watches.len() as u32;
+        let plan = self.rounds.seed_plan().copied(alloc)?;
         remake(
             alloc,
             &self.graph,
             &states,
             &self.book,
+            plan,
             &self.rounds,
             count,
             &self.watched,
@@ -98,7 +103,7 @@ impl Sim {
 
     // Puts what was made in place.
     pub(crate) fn put(&mut self, made: Remade) -> Changed
-        requires { (payloads : Payloads) × IsRemade self.old.graph payloads self.old.book self.old.rounds self.old.watched.items made }
+        requires { (payloads : Payloads) × IsRemade self.old.graph payloads self.old.book (plan_of self.old.rounds) self.old.rounds self.old.watched.items made }
         ensures routes { result.routes ≡ made.changed }
         ensures graph { self.new.graph ≡ self.old.graph }
         ensures vrps { self.new.vrps ≡ self.old.vrps }
@@ -108,15 +113,6 @@ impl Sim {
         ensures rounds { self.new.rounds ≡ made.rounds }
         ensures watches { self.new.watches ≡ made.watches }
     {
-        let Remade {
-            ranks,
-            rounds,
-            watches,
-            changed,
-        } = made;
-        self.ranks = ranks;
-        self.rounds = rounds;
-        self.watches = watches;
-        Changed { routes: changed }
+        place(made, &mut self.ranks, &mut self.rounds, &mut self.watches)
     }
 }

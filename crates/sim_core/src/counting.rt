@@ -162,7 +162,7 @@ fn changed_in_round(
     requires from { 1 ≤ round }
     requires old_to { round ≤ round_count old.now }
     requires new_to { round ≤ round_count new.now }
-    requires plan { plan_of new.now ≡ plan_of old.now }
+    requires prefixes { (plan_of new.now).prefixes ≡ (plan_of old.now).prefixes }
     requires small { length (prefixes_of (plan_of old.now)) ≤ 32 }
     requires apart { IsDistinct nat_eq names.now }
     requires few { length names.now ≤ 150000 }
@@ -191,12 +191,12 @@ pub fn changed_entries(
     requires rounds { rounds ≤ 4 }
     requires old { round_count old.now ≡ rounds }
     requires new { round_count new.now ≡ rounds }
-    requires plan { plan_of new.now ≡ plan_of old.now }
+    requires prefixes { (plan_of new.now).prefixes ≡ (plan_of old.now).prefixes }
     requires small { length (prefixes_of (plan_of old.now)) ≤ 32 }
     requires apart { IsDistinct nat_eq names.now }
     requires few { length names.now ≤ 150000 }
     requires others { (before : ℕ) (prefix : PrefixValue) (a : ℕ) → before < rounds → IsTrue (has_prefix (plan_of old.now) prefix) → occurs a names.now ≡ false → kept new.now (suc before) prefix a ≡ kept old.now (suc before) prefix a }
-    ensures { IfOk result (HasChanges (plan_of old.now) rounds (kept old.now) (kept new.now)) }
+    ensures { IfOk result (HasChanges (plan_of new.now) rounds (kept old.now) (kept new.now)) }
 {
     let mut count = 0u64;
     for past in 0..rounds {

@@ -21,11 +21,13 @@ pub struct Changed {
 
 impl Sim {
     /// Edits the world. Every kept part is then that of the edited world, and the answer says how many
-    /// entries differ. Both ends of a link differ.
+    /// entries differ. Both ends of a link differ, and an announced path has 1 to 64 numbers. A prefix
+    /// stays in the world when its last announcement goes.
     ///
-    /// It is refused with the first reason in this order: `AbsentLink` and `AbsentVrp` exactly where what
-    /// is to be taken away is not there; `Limit` exactly where the edited world passes a limit, the first of
-    /// links, ASes and payloads; `ProviderCycle` exactly where the edited world has a provider cycle (Gao and
+    /// It is refused with the first reason in this order: `UnknownPrefix` exactly where the world has not
+    /// the prefix; `AbsentLink`, `AbsentVrp` and `AbsentAnnouncement` exactly where what is to be taken away
+    /// is not there; `Limit` exactly where the edited world passes a limit, the first of links, announcements,
+    /// ASes and payloads; `ProviderCycle` exactly where the edited world has a provider cycle (Gao and
     /// Rexford 2001), with one from the new link's provider and customer on. `Memory` may come at any
     /// point. After every refusal the world and all that is kept of it are as they were.
     pub fn edit<L: Ledger>(
@@ -34,7 +36,7 @@ impl Sim {
         edit: &Edit,
         steps: &mut Steps<L>,
     ) -> Result<Changed, EditError>
-        requires ends { IsWellFormed edit.now }
+        requires formed { IsWellFormed edit.now }
         requires kept { IsKept (world_seen self.old) (kept self.old) }
         requires no_cycle { HasCycle (world_seen self.old) → ⊥ }
         ensures world { OnOk result (world_seen self.new ≡ edited (world_seen self.old) edit.now) }
@@ -51,6 +53,8 @@ impl Sim {
             Edit::Policy { asn, kind } => self.edit_policy(alloc, *asn, *kind, steps),
             Edit::VrpAdd { vrp } => self.add_vrp(alloc, *vrp, steps),
             Edit::VrpTake { vrp } => self.take_vrp(alloc, *vrp, steps),
+            Edit::Announce { prefix, path } => self.announce(alloc, *prefix, path, steps),
+            Edit::Withdraw { prefix, asn } => self.withdraw(alloc, *prefix, *asn, steps),
         }
     }
 }

@@ -22,6 +22,8 @@ pub enum LoadError {
 pub enum EditLimit {
     /// It would have more than 1,500,000 links.
     Links,
+    /// It would have more than 64 announcements.
+    Announcements,
     /// It would have more than 150,000 ASes.
     Ases,
     /// It would have more than 2,000,000 payloads.
@@ -47,6 +49,20 @@ pub enum EditError {
     AbsentVrp {
         /// The payload.
         vrp: Vrp,
+    },
+    /// The world has no such prefix.
+    #[error("unknown prefix")]
+    UnknownPrefix {
+        /// The prefix.
+        prefix: Prefix,
+    },
+    /// The AS does not announce the prefix, which the world has.
+    #[error("absent announcement")]
+    AbsentAnnouncement {
+        /// The prefix.
+        prefix: Prefix,
+        /// The AS.
+        asn: Asn,
     },
     /// The edited world would pass a limit.
     #[error("limit")]

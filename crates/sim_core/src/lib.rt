@@ -7,6 +7,7 @@
 //! AS or a watched address that the world has not.
 #![tactic(auto)]
 
+mod announcements;
 mod answering;
 mod changing;
 mod counting;
@@ -15,6 +16,7 @@ mod errors;
 mod linking;
 mod links;
 mod loading;
+mod marking;
 mod naming;
 mod payloads;
 mod planning;

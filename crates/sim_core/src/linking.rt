@@ -6,6 +6,7 @@ ghost use Rattle.as_graph.specs.Refusals.{IsLinkRefusal};
 ghost use Rattle.as_graph.specs.Room.{is_room_for};
 ghost use Rattle.as_graph.specs.Topology.{what};
 ghost use Rattle.cycle_check.specs.Cycles.{without_pair};
+ghost use Rattle.leak_round.specs.Rounds.{plan_of};
 ghost use Rattle.scenario_text.specs.declared.acts.Edit.TheVariants.{Link, Unlink};
 ghost use Rattle.sim_core.specs.Editing.{HasLinks, IsEdited, IsUndone, links_with};
 ghost use Rattle.sim_core.specs.Edits.{IsEditRefusal, absent_link as absent_link_of};
@@ -91,7 +92,7 @@ impl Sim {
         requires there { HasNoProviderCycle (without_pair self.now.graph a b) }
         requires back { HasNoProviderCycle (without_pair self.now.graph b a) }
         requires old { HoldIn self.now.rounds self.now.graph }
-        ensures made { IfOk result (IsRemade self.now.graph self.now.vrps self.now.book self.now.rounds self.now.watched.items) }
+        ensures made { IfOk result (IsRemade self.now.graph self.now.vrps self.now.book (plan_of self.now.rounds) self.now.rounds self.now.watched.items) }
         ensures no_cycle { OnOk result (HasNoProviderCycle (what self.now.graph)) }
         ensures refused { IfErr result (IsLinkStop self.now.graph a b rel) }
     {

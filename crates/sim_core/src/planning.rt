@@ -13,8 +13,8 @@ use scenario_text::{Announcement, Scenario};
 use stability_laws::{Book, SeedPlan};
 use std::alloc::Global;
 
-// The same path once more.
-fn copy_of(alloc: Global, path: &Path) -> Result<Path, NoMemory>
+/// The same path once more.
+pub fn copy_of(alloc: Global, path: &Path) -> Result<Path, NoMemory>
     ensures { IfOk result (λ p. p ≡ path.now) }
 {
     let mut copy = Path::new(alloc);

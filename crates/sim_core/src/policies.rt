@@ -7,6 +7,7 @@ ghost use Rattle.as_graph.specs.Room.{is_room_with};
 ghost use Rattle.as_graph.specs.Topology.{has, what};
 ghost use Rattle.as_graph.specs.Hierarchy.{HasNoProviderCycle};
 ghost use Rattle.net_names.specs.Numbers.{occurs};
+ghost use Rattle.leak_round.specs.Rounds.{plan_of};
 ghost use Rattle.scenario_text.specs.declared.acts.Edit.TheVariants.{Policy};
 ghost use Rattle.sim_core.specs.Editing.{IsEdited, IsGiven, IsRoomed, IsUndone};
 ghost use Rattle.sim_core.specs.Edits.{edited, refusal_of_edit};
@@ -115,7 +116,7 @@ impl Sim {
     }
 
     // The policy of an AS.
-    fn kind_of(&self, asn: Asn) -> Kind
+    pub(crate) fn kind_of(&self, asn: Asn) -> Kind
         ensures { result ≡ policy_at self.now.book asn }
     {
         *self.book.policy(asn)
@@ -135,7 +136,7 @@ impl Sim {
         requires within { is_other_policy (0, kind) ≡ true → HoldIn self.now.rounds self.now.graph }
         requires less { is_other_policy (0, kind) ≡ false → (a : ℕ) → has self.now.graph a ≡ true → occurs a before.now ≡ true }
         requires before { is_other_policy (0, kind) ≡ false → HoldOnly self.now.rounds before.now }
-        ensures { IfOk result (IsRemade self.now.graph self.now.vrps self.now.book self.now.rounds self.now.watched.items) }
+        ensures { IfOk result (IsRemade self.now.graph self.now.vrps self.now.book (plan_of self.now.rounds) self.now.rounds self.now.watched.items) }
     {
         if is_other(kind) {
             self.remade_within(alloc, steps)

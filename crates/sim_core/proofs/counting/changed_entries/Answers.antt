@@ -1,4 +1,4 @@
-use Rattle.std.proofs.Common.{◌≡◌, ◌+◌, ℕ, subst, arith}
+use Rattle.std.proofs.Common.{◌≡◌, ◌+◌, ℕ, sym, subst, arith}
 use Rattle.leak_round.specs.Changes.{IsChanged}
 use Rattle.leak_round.specs.Rounds.{kept, plan_of}
 use Rattle.sim_core.specs.Counting.{DiffersAt, HasListed}
@@ -18,5 +18,5 @@ loop-past-preserved c = record {
 pub returns : goal.returns
 returns c =
     let end : c.loop-past.past ≡ c.args.rounds = omega (arith, c.loop-past-test.false, c.loop-past.auto.past-end) in
-    all_rounds (plan_of c.args.old.now) c.args.rounds (kept c.args.old.now) (kept c.args.new.now) c.loop-past.count
+    all_rounds (plan_of c.args.old.now) (plan_of c.args.new.now) (sym c.requires.prefixes) c.args.rounds (kept c.args.old.now) (kept c.args.new.now) c.loop-past.count
     (subst (λ (n : ℕ). HasListed (IsChanged (plan_of c.args.old.now) n (kept c.args.old.now) (kept c.args.new.now)) c.loop-past.count) end c.loop-past.invariant.counted)

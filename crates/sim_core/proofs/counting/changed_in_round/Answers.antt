@@ -1,5 +1,7 @@
 use Rattle.std.proofs.Common.{◌≡◌, ◌≢◌, ◌<◌, ◌≤◌, ◌∙◌, IsTrue, List, length, get_or, sym, ap, subst, arith}
 use Rattle.std.proofs.lemmas.List.{take_all}
+use Rattle.std.specs.FinMap as fin
+use Rattle.std.specs.FinSet as set
 use Rattle.net_names.specs.Prefixes.{PrefixValue, prefix_cmp}
 use Rattle.leak_round.specs.Rounds.{kept, plan_of}
 use Rattle.stability_laws.specs.Plans.{ListsRising, Plan, has_prefix, prefixes_of}
@@ -20,7 +22,7 @@ pub changed_of_prefix-requires-clause-new_known : goal.changed_of_prefix-require
 changed_of_prefix-requires-clause-new_known c =
     let items : c.prefixes-prefix-items.result.now ≡ prefixes_of (plan_of c.args.old.now) = c.prefixes-prefix-items.ensures ∙ ap prefixes_of c.seed_plan-plan.ensures in
     let listed = subst (λ (p : Plan). ListsRising prefix_cmp (λ prefix. IsTrue (has_prefix p prefix)) (prefixes_of p)) c.seed_plan-plan.ensures c.prefix_at-first.ensures.listed in
-    subst (λ (p : Plan). IsTrue (has_prefix p c.prefix-item.result)) (sym c.requires.plan)
+    subst (λ (ps : set.FinSet prefix_cmp). IsTrue (fin.contains_key ps c.prefix-item.result)) (sym c.requires.prefixes)
     (prefix_known (plan_of c.args.old.now) listed c.loop-prefix.prefix-index c.prefix-item.result (subst (λ (xs : List PrefixValue). c.loop-prefix.prefix-index < length xs) items c.loop-prefix-test.true)
     (c.prefix-item.is ∙ ap (λ (xs : List PrefixValue). get_or xs c.loop-prefix.prefix-index c.prefix-item.result) items))
 

@@ -1,0 +1,202 @@
+//! Edits of announcements.
+ghost use Rattle.std.specs.Prelude.{◌≡◌, ◌≤◌, ℕ, true, false, length, nat_eq, nat_lt};
+ghost use Rattle.std.specs.List.{IsDistinct};
+ghost use Rattle.std.specs.FinMap as fin;
+ghost use Rattle.std.specs.FinSet as set;
+ghost use Rattle.std.specs.Ordering.{nat_cmp};
+ghost use Rattle.as_graph.specs.Topology.{as_count, has};
+ghost use Rattle.net_names.specs.Numbers.{occurs};
+ghost use Rattle.leak_round.specs.Rounds.{plan_of};
+ghost use Rattle.scenario_text.specs.declared.acts.Edit.TheVariants.{Announce, Withdraw};
+ghost use Rattle.stability_laws.specs.Plans.{with_announcement};
+ghost use Rattle.stability_laws.specs.SeedEdits.{IsEditWithin, edit_asn, edited};
+ghost use Rattle.sim_core.specs.Editing.{IsEdited, IsSeedEdit, edit_of};
+ghost use Rattle.sim_core.specs.Kept.{IsKept};
+ghost use Rattle.sim_core.specs.Remaking.{AreAses, AreNames};
+ghost use Rattle.sim_core.specs.Sims.{kept, world_seen};
+ghost use Rattle.sim_core.specs.World.{HasCycle, named};
+
+use crate::marking::{set_mark, set_mark_back};
+use crate::naming::is_other;
+use crate::planning::copy_of;
+use crate::remaking::{place, remake};
+use crate::{Changed, EditError, EditLimit, Sim};
+use as_graph::{Graph, ases_are_kept};
+use net_names::{Asn, Path, Prefix};
+use origin_validation::States;
+use route_choice::Steps;
+use stability_laws::{SeedEdit, SeedPlan};
+use std::alloc::Global;
+use std::sync::ledger::Ledger;
+
+/// The most announcements of a world.
+const MOST_ANNOUNCEMENTS: usize = 64;
+
+// The AS whose announcement is edited.
+fn asn_of(edit: &SeedEdit) -> Asn
+    requires { IsEditWithin 64 edit.now }
+    ensures { result ≡ edit_asn edit.now }
+{
+    match edit {
+        SeedEdit::Announce { prefix: _, path } => path.as_slice()[0],
+        SeedEdit::Withdraw { prefix: _, asn } => *asn,
+    }
+}
+
+// The ASes of a graph that has all ASes of before, or else those before.
+fn names_with<'a>(graph: &'a Graph, has_all: bool, before: &'a [Asn]) -> &'a [Asn]
+    requires apart { IsDistinct nat_eq before.now }
+    requires few { length before.now ≤ 150000 }
+    requires all { has_all ≡ true → (a : ℕ) → occurs a before.now ≡ true → has graph.now a ≡ true }
+    requires fewer { has_all ≡ false → (a : ℕ) → has graph.now a ≡ true → occurs a before.now ≡ true }
+    ensures names { AreNames graph.now before.now result.now }
+    ensures ases { as_count graph.now ≤ 150000 }
+{
+    let _count = graph.as_count();
+    if has_all { graph.ases() } else { before }
+}
+
+impl Sim {
+    // Whether an announcement or a leak of the plan, or a policy, names the AS.
+    fn is_named(&self, plan: &SeedPlan, asn: Asn) -> bool
+        ensures { result ≡ set.contains (set.from_list {R = nat_cmp} (named plan.now self.now.book.named)) asn }
+    {
+        let by_plan = plan.names(asn);
+        by_plan | is_other(self.kind_of(asn))
+    }
+
+    // Takes the plan of seeds that an edit makes, where these were the ASes before.
+    fn take_plan<L: Ledger>(
+        &mut self,
+        alloc: Global,
+        edit: &SeedEdit,
+        plan: SeedPlan,
+        before: &[Asn],
+        steps: &mut Steps<L>,
+    ) -> Result<Changed, EditError>
+        requires accepted { IsSeedEdit (world_seen self.old) edit.now }
+        requires plan { plan ≡ edited (plan_of self.old.rounds) edit.now }
+        requires before { AreAses self.old.graph before.now }
+        requires kept { IsKept (world_seen self.old) (kept self.old) }
+        requires no_cycle { HasCycle (world_seen self.old) → ⊥ }
+        ensures { IsEdited self.old self.new (edit_of edit.now) result }
+    {
+        ases_are_kept();
+        self.is_small();
+        let asn = asn_of(edit);
+        let was = self.is_named(self.rounds.seed_plan(), asn);
+        let is = self.is_named(&plan, asn);
+        let count = self.watches.len() as u32;
+        match self.graph.room(asn, asn) {
+            Ok(()) => {}
+            Err(_) => return Err(EditError::Memory),
+        }
+        match set_mark(&mut self.graph, asn, is) {
+            Ok(()) => {}
+            Err(error) => return Err(error),
+        }
+        let states = States::of(&self.vrps);
+        let names = names_with(&self.graph, is, before);
+        match remake(
+            alloc,
+            &self.graph,
+            &states,
+            &self.book,
+            plan,
+            &self.rounds,
+            count,
+            &self.watched,
+            names,
+            steps,
+        ) {
+            Ok(made) => Ok(place(made, &mut self.ranks, &mut self.rounds, &mut self.watches)),
+            Err(_) => {
+                set_mark_back(&mut self.graph, asn, was);
+                Err(EditError::Memory)
+            }
+        }
+    }
+
+    // Edits an announcement.
+    fn edit_announcement<L: Ledger>(
+        &mut self,
+        alloc: Global,
+        edit: &SeedEdit,
+        steps: &mut Steps<L>,
+    ) -> Result<Changed, EditError>
+        requires accepted { IsSeedEdit (world_seen self.old) edit.now }
+        requires kept { IsKept (world_seen self.old) (kept self.old) }
+        requires no_cycle { HasCycle (world_seen self.old) → ⊥ }
+        ensures { IsEdited self.old self.new (edit_of edit.now) result }
+    {
+        self.is_small();
+        let Ok(before) = Vec::from_slice(alloc, self.graph.ases()) else {
+            return Err(EditError::Memory);
+        };
+        let Ok(plan) = self.rounds.seed_plan().edited(alloc, edit) else {
+            return Err(EditError::Memory);
+        };
+        self.take_plan(alloc, edit, plan, &before, steps)
+    }
+
+    // Whether there are too many announcements with this one.
+    fn is_one_too_many(&self, prefix: Prefix, path: &Path) -> bool
+        requires { 1 ≤ length path.now }
+        ensures { result ≡ nat_lt 64 (fin.len (with_announcement (plan_of self.now.rounds) prefix path.now).announced) }
+    {
+        let plan = self.rounds.seed_plan();
+        let known = plan.announces(prefix, path.as_slice()[0]);
+        !known && plan.announcement_count() >= MOST_ANNOUNCEMENTS
+    }
+
+    // Announces a prefix with a path.
+    pub(crate) fn announce<L: Ledger>(
+        &mut self,
+        alloc: Global,
+        prefix: Prefix,
+        path: &Path,
+        steps: &mut Steps<L>,
+    ) -> Result<Changed, EditError>
+        requires some { 1 ≤ length path.now }
+        requires short { length path.now ≤ 64 }
+        requires kept { IsKept (world_seen self.old) (kept self.old) }
+        requires no_cycle { HasCycle (world_seen self.old) → ⊥ }
+        ensures { IsEdited self.old self.new (Announce prefix path.now) result }
+    {
+        self.is_small();
+        if !self.rounds.seed_plan().has_prefix(prefix) {
+            return Err(EditError::UnknownPrefix { prefix });
+        }
+        if self.is_one_too_many(prefix, path) {
+            return Err(EditError::Limit {
+                which: EditLimit::Announcements,
+            });
+        }
+        let Ok(path) = copy_of(alloc, path) else {
+            return Err(EditError::Memory);
+        };
+        self.edit_announcement(alloc, &SeedEdit::Announce { prefix, path }, steps)
+    }
+
+    // Takes an AS's announcement of a prefix away.
+    pub(crate) fn withdraw<L: Ledger>(
+        &mut self,
+        alloc: Global,
+        prefix: Prefix,
+        asn: Asn,
+        steps: &mut Steps<L>,
+    ) -> Result<Changed, EditError>
+        requires kept { IsKept (world_seen self.old) (kept self.old) }
+        requires no_cycle { HasCycle (world_seen self.old) → ⊥ }
+        ensures { IsEdited self.old self.new (Withdraw prefix asn) result }
+    {
+        let plan = self.rounds.seed_plan();
+        if !plan.has_prefix(prefix) {
+            return Err(EditError::UnknownPrefix { prefix });
+        }
+        if !plan.announces(prefix, asn) {
+            return Err(EditError::AbsentAnnouncement { prefix, asn });
+        }
+        self.edit_announcement(alloc, &SeedEdit::Withdraw { prefix, asn }, steps)
+    }
+}

@@ -1,0 +1,44 @@
+//! Marks of ASes that a graph has room for.
+ghost use Rattle.std.specs.Prelude.{◌≡◌, ◌<◌, ◌≤◌, true, IfErr, OnOk, OnErr};
+ghost use Rattle.as_graph.specs.Room.{is_room_with};
+ghost use Rattle.as_graph.specs.Topology.{as_count};
+ghost use Rattle.sim_core.specs.Marking.{with_mark_if};
+ghost use Rattle.sim_core.specs.declared.errors.EditError.TheVariants as refused;
+ghost use Rattle.sim_core.specs.declared.errors.EditLimit.TheVariants.{Ases};
+
+use crate::{EditError, EditLimit};
+use as_graph::{Graph, GraphError};
+use net_names::Asn;
+
+/// Marks an AS, or takes its mark away.
+pub fn set_mark(graph: &mut Graph, asn: Asn, is_marked: bool) -> Result<(), EditError>
+    requires { is_room_with graph.old.room asn ≡ true }
+    ensures ok { OnOk result (graph.new ≡ with_mark_if graph.old asn is_marked) }
+    ensures err { OnErr result (graph.new ≡ graph.old) }
+    ensures limit { IfErr result (λ e. e ≡ refused.Limit Ases) }
+    ensures many { OnErr result (150000 < as_count (with_mark_if graph.old asn is_marked)) }
+{
+    if !is_marked {
+        graph.unmark(asn);
+        return Ok(());
+    }
+    match graph.mark(asn) {
+        Ok(()) => Ok(()),
+        Err(GraphError::TooManyAses) => Err(EditError::Limit {
+            which: EditLimit::Ases,
+        }),
+        Err(_) => unreachable!(),
+    }
+}
+
+/// Gives an AS the mark back that it had, or takes it away again.
+pub fn set_mark_back(graph: &mut Graph, asn: Asn, was_marked: bool)
+    requires room { is_room_with graph.old.room asn ≡ true }
+    requires few { as_count (with_mark_if graph.old asn was_marked) ≤ 150000 }
+    ensures { graph.new ≡ with_mark_if graph.old asn was_marked }
+{
+    match set_mark(graph, asn, was_marked) {
+        Ok(()) => {}
+        Err(_) => unreachable!(),
+    }
+}
