@@ -141,6 +141,8 @@ pub reason_of : (w : World) (e : Edit) (error : EditError) → (error ≡ refuse
 reason_of w e refused.Memory other h = absurd (other refl)
 reason_of w e (refused.AbsentLink lo hi) other h = h
 reason_of w e (refused.AbsentVrp vrp) other h = h
+reason_of w e (refused.UnknownPrefix prefix) other h = h
+reason_of w e (refused.AbsentAnnouncement prefix asn) other h = h
 reason_of w e (refused.Limit which) other h = h
 reason_of w e (refused.ProviderCycle cycle) other h = h
 

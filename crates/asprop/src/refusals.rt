@@ -1,8 +1,8 @@
 //! The texts of refused queries, and of edits.
 ghost use Rattle.std.specs.Prelude.{◌≡◌, ◌≢◌, ◌++◌, OnOk, decimal};
-ghost use Rattle.sim_core.specs.declared.errors.QueryError.TheVariants.{NotWatched, UnknownAs, UnknownPrefix, UnknownRound};
-ghost use Rattle.sim_core.specs.declared.errors.EditError.TheVariants.{AbsentLink, AbsentVrp, Limit, Memory, ProviderCycle};
-ghost use Rattle.asprop.specs.Refusals.{done_text, edit_refusal_text, limit_name as limit_name_of, refusal_text};
+ghost use Rattle.sim_core.specs.declared.errors.QueryError.TheVariants.{NotWatched, UnknownAs, UnknownRound};
+ghost use Rattle.sim_core.specs.declared.errors.EditError.TheVariants.{AbsentAnnouncement, AbsentLink, AbsentVrp, Limit, Memory, ProviderCycle};
+ghost use Rattle.asprop.specs.Refusals.{done_text, edit_refusal_text, limit_name as limit_name_of, refusal_text, unknown_prefix_text};
 
 use cycle_check::Cycle;
 use net_names::{Addr, Asn, NoMemory, Prefix, Vrp, put_addr, put_asn, put_prefix};
@@ -29,7 +29,7 @@ fn put_unknown_round(out: &mut Vec<u8>, round: u32) -> Result<(), NoMemory>
 }
 
 fn put_unknown_prefix(out: &mut Vec<u8>, prefix: Prefix) -> Result<(), NoMemory>
-    ensures { OnOk result (out.new.items ≡ out.old.items ++ refusal_text (UnknownPrefix prefix)) }
+    ensures { OnOk result (out.new.items ≡ out.old.items ++ unknown_prefix_text prefix) }
 {
     put_bytes(out, b"refused unknown-prefix ")?;
     put_prefix(out, prefix)?;
@@ -108,11 +108,22 @@ fn put_absent_vrp(out: &mut Vec<u8>, vrp: Vrp) -> Result<(), NoMemory>
     put_bytes(out, b"\n")
 }
 
+fn put_absent_announcement(out: &mut Vec<u8>, prefix: Prefix, asn: Asn) -> Result<(), NoMemory>
+    ensures { OnOk result (out.new.items ≡ out.old.items ++ edit_refusal_text (AbsentAnnouncement prefix asn)) }
+{
+    put_bytes(out, b"refused absent-announcement ")?;
+    put_prefix(out, prefix)?;
+    put_bytes(out, b" ")?;
+    put_asn(out, asn)?;
+    put_bytes(out, b"\n")
+}
+
 fn limit_name(which: EditLimit) -> &'static str
     ensures { result.now ≡ limit_name_of which }
 {
     match which {
         EditLimit::Links => "links",
+        EditLimit::Announcements => "announcements",
         EditLimit::Ases => "ases",
         EditLimit::Vrps => "payloads",
     }
@@ -146,6 +157,10 @@ pub fn put_edit_refusal(out: &mut Vec<u8>, error: &EditError) -> Result<(), NoMe
         EditError::Memory => Err(NoMemory),
         EditError::AbsentLink { lo, hi } => put_absent_link(out, *lo, *hi),
         EditError::AbsentVrp { vrp } => put_absent_vrp(out, *vrp),
+        EditError::UnknownPrefix { prefix } => put_unknown_prefix(out, *prefix),
+        EditError::AbsentAnnouncement { prefix, asn } => {
+            put_absent_announcement(out, *prefix, *asn)
+        }
         EditError::Limit { which } => put_limit(out, *which),
         EditError::ProviderCycle(cycle) => put_cycle(out, cycle),
     }

@@ -71,8 +71,9 @@ fn run_to_end<I: Inputs, O: Sink, E: Sink>(
 ///
 /// The first word is the program's name. The order of the work is: the words, the relationship file,
 /// the payload file, the scenario, the script, the number of ASes, the provider cycle, the answers, line by
-/// line, each made whole before it is written. Nothing is written to `out` before all files have been
-/// read and judged.
+/// line, each made whole before it is written. A line that edits the world, by a link, a policy, a payload
+/// or an announcement, changes it for the lines after it, unless it is refused. Nothing is written to
+/// `out` before all files have been read and judged.
 pub fn run<I: Inputs, O: Sink, E: Sink>(
     alloc: Global,
     words: &[String],

@@ -8,6 +8,7 @@ use std::alloc::{AllocError, Global};
 use std::process::Abort;
 use std::test::Fail;
 
+mod announcements;
 mod edits;
 mod forwarding;
 mod generated;
@@ -69,6 +70,12 @@ fn run_script(
     inputs.file("cmds", case.script)?;
     inputs.fail_at(fails)?;
     inputs.most(most);
+    run_in_memory(alloc, texts, inputs)
+}
+
+// Runs the program with these words over these files.
+fn run_in_memory(alloc: Global, texts: &[&str], files: MemInputs) -> Result<Left, Fail> {
+    let mut inputs = files;
     let mut out = MemSink::new(alloc, room(alloc)?);
     let mut err = MemSink::new(alloc, room(alloc)?);
     let all = words(alloc, texts)?;

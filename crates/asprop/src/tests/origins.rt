@@ -262,9 +262,10 @@ fn over_clean_inputs_and_sinks_the_table_is_written(rt: HostRuntime) -> Result<(
 #[test]
 fn words_of_no_form_are_usage(rt: HostRuntime) -> Result<(), Fail> {
     let alloc = rt.alloc();
-    let all: [&[&str]; 5] = [
+    let all: [&[&str]; 6] = [
         &[],
         &["asprop"],
+        &["asprop", "rel", "--origin", "0"],
         &["asprop", "rel", "--origin", "4", "--script", "cmds"],
         &["asprop", "rel", "--origin", "4", "--vrps", "vrps"],
         &["asprop", "--demo", "3"],

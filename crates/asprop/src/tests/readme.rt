@@ -19,7 +19,7 @@ struct Shown {
     out: &'static [u8],
 }
 
-const FILES: [Example; 18] = [
+const FILES: [Example; 19] = [
     Example {
         name: "examples/diamond",
         bytes: b"# two providers of one origin\n1|2|-1\n1|3|-1\n2|4|-1\n3|4|-1\n",
@@ -92,9 +92,13 @@ const FILES: [Example; 18] = [
         name: "examples/leak/script",
         bytes: b"route 1 10.0.0.0/8 2\nroute 2 10.0.0.0/8 2\nranks\n",
     },
+    Example {
+        name: "examples/leak/otc.script",
+        bytes: b"# the leaker itself marks and heeds marks\npolicy 3 otc\nroutes 2 10.0.0.0/8\n# it doesn't, but the AS that gave it the route does\npolicy 3 plain\npolicy 1 otc\nroute 2 10.0.0.0/8 2\n# and so does the AS to which it leaks\npolicy 2 otc\nroutes 2 10.0.0.0/8\n",
+    },
 ];
 
-const COMMANDS: [Shown; 11] = [
+const COMMANDS: [Shown; 12] = [
     Shown {
         words: &["asprop", "examples/diamond", "--origin", "4"],
         status: Status::Done,
@@ -220,6 +224,18 @@ const COMMANDS: [Shown; 11] = [
         ],
         status: Status::Done,
         out: b"# 1\n2|peer|2 1 5\n# 2\n2|customer|2 3 1 5\n# 3\n1|1\n2|1\n3|0\n5|0\n",
+    },
+    Shown {
+        words: &[
+            "asprop",
+            "examples/leak/links",
+            "--scenario",
+            "examples/leak/scenario.json",
+            "--script",
+            "examples/leak/otc.script",
+        ],
+        status: Status::Done,
+        out: b"# 2\nok 3\n# 3\n1|customer|1 5\n2|peer|2 1 5\n3|origin|3 1 5|otc 1\n5|origin|5\n# 5\nok 3\n# 6\nok 4\n# 7\n2|customer|2 3 1 5|otc 1\n# 9\nok 1\n# 10\n1|customer|1 5\n2|peer|2 1 5|otc 1\n3|origin|3 1 5|otc 1\n5|origin|5\n",
     },
 ];
 

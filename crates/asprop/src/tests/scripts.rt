@@ -3,12 +3,12 @@ use super::{ScriptCase, check_cases, run_script};
 use crate::types::Status;
 use std::test::Fail;
 
-const SCRIPT_WORDS: &[&str] = &["asprop", "rel", "--scenario", "sc", "--script", "cmds"];
+pub(super) const SCRIPT_WORDS: &[&str] = &["asprop", "rel", "--scenario", "sc", "--script", "cmds"];
 
 const TWO_ANNOUNCERS: &[u8] =
     b"{\"announcements\":[{\"prefix\":\"10.0.0.0/8\",\"as\":4},{\"prefix\":\"10.0.0.0/8\",\"as\":5}]}\n";
 
-const SCRIPT_CASES: [ScriptCase; 14] = [
+const SCRIPT_CASES: [ScriptCase; 15] = [
     ScriptCase {
         name: "two-ases-announce-one-prefix",
         words: SCRIPT_WORDS,
@@ -121,6 +121,17 @@ const SCRIPT_CASES: [ScriptCase; 14] = [
     },
     ScriptCase {
         name: "short-script-line-is-unreadable",
+        words: &["asprop", "rel", "--script", "cmds"],
+        rel: b"1|2|-1\n",
+        vrps: b"",
+        scenario: b"",
+        script: b"route 1\n",
+        status: Status::BadInput,
+        out: b"",
+        err: b"asprop: cmds: line 1: unreadable\n",
+    },
+    ScriptCase {
+        name: "a readable line before an unreadable one isn't answered",
         words: SCRIPT_WORDS,
         rel: b"",
         vrps: b"",

@@ -1,5 +1,5 @@
 //! Scripts from outside.
-use super::worlds::{number, payload, prefix};
+use super::worlds::{number, path_of, payload, prefix};
 use net_names::{Rel, read_addr, read_asn};
 use policy_kinds::Kind;
 use scenario_text::{Act, Edit, Line, Lines, Query, ScriptError, read_script};
@@ -42,7 +42,22 @@ ranks
  ranks
 Ranks
 validity 10.0.0.0/8 AS4
-announce";
+announce
+announce 10.0.0.0/8
+announce 10.0.0.0/8 
+announce 10.0.0.1/8 4
+announce 10.0.0.0/8 4  5
+announce  10.0.0.0/8 4
+announce 10.0.0.0/8 4 
+announce 10.0.0.0/8 4 AS5
+announce 10.0.0.0/8 0
+announce 10.0.0.0/8 4 5 4294967296
+withdraw 10.0.0.0/8
+withdraw 10.0.0.0/8 
+withdraw 10.0.0.0/8 4 5
+withdraw 10.0.0.0/8 0
+withdraw 10.0.0.0/8 4 
+withdraw 4 10.0.0.0/8";
 
 #[test]
 fn a_line_without_one_of_the_forms_is_unreadable(rt: HostRuntime) -> Result<(), Fail> {
@@ -62,6 +77,48 @@ fn link(a: u32, b: u32, rel: Rel) -> Result<Act, Fail> {
     Ok(Act::Edit(Edit::Link { a, b, rel }))
 }
 
+fn announce(alloc: Global, text: &[u8], numbers: &[u32]) -> Result<Act, Fail> {
+    let prefix = prefix(text)?;
+    let path = path_of(alloc, numbers)?;
+    Ok(Act::Edit(Edit::Announce { prefix, path }))
+}
+
+fn is_same_edit(found: &Edit, wanted: &Edit) -> bool {
+    match (found, wanted) {
+        (
+            Edit::Link { a, b, rel },
+            Edit::Link {
+                a: c,
+                b: d,
+                rel: other,
+            },
+        ) => { a == c && b == d && rel == other }
+        (Edit::Unlink { a, b }, Edit::Unlink { a: c, b: d }) => a == c && b == d,
+        (Edit::Policy { asn, kind }, Edit::Policy { asn: a, kind: k }) => asn == a && kind == k,
+        (Edit::VrpAdd { vrp }, Edit::VrpAdd { vrp: other }) => vrp == other,
+        (Edit::VrpTake { vrp }, Edit::VrpTake { vrp: other }) => vrp == other,
+        (
+            Edit::Announce { prefix, path },
+            Edit::Announce {
+                prefix: p,
+                path: other,
+            },
+        ) => { prefix == p && path.as_slice() == other.as_slice() }
+        (Edit::Withdraw { prefix, asn }, Edit::Withdraw { prefix: p, asn: a }) => {
+            prefix == p && asn == a
+        }
+        _ => false,
+    }
+}
+
+fn is_same_act(found: &Act, wanted: &Act) -> bool {
+    match (found, wanted) {
+        (Act::Edit(edit), Act::Edit(other)) => is_same_edit(edit, other),
+        (Act::Query(query), Act::Query(other)) => query == other,
+        _ => false,
+    }
+}
+
 fn expect_acts(
     rt: &impl Abort,
     alloc: Global,
@@ -71,7 +128,10 @@ fn expect_acts(
     let lines = read(alloc, text)?;
     assert_eq!(rt; lines.as_slice().len(), expected.len());
     for (line, (number, act)) in lines.as_slice().iter().zip(expected) {
-        assert!(rt; line.number == *number && line.act == *act, "line {number}");
+        assert!(rt;
+            line.number == *number && is_same_act(&line.act, act),
+            "line {number}"
+        );
     }
     Ok(())
 }
@@ -79,7 +139,7 @@ fn expect_acts(
 #[test]
 fn lines_of_edits_are_what_they_say(rt: HostRuntime) -> Result<(), Fail> {
     let text =
-        b"link 1|2|-1\n\nlink 02|1|0\r\n#\xff\nunlink 3|1\npolicy 4 prefer-valid\nvrp-add AS09 10.0.0.0/8 008\n\r\nvrp-take 0 2001:DB8::/32 128";
+        b"link 1|2|-1\n\nlink 02|1|0\r\n#\xff\nunlink 3|1\npolicy 4 prefer-valid\nvrp-add AS09 10.0.0.0/8 008\n\r\nvrp-take 0 2001:DB8::/32 128\nannounce 10.0.0.0/8 4 05 4294967295\nannounce 2001:DB8::/32 3\nwithdraw 10.0.0.0/8 1";
     let a = number(3)?;
     let b = number(1)?;
     let asn = number(4)?;
@@ -93,6 +153,18 @@ fn lines_of_edits_are_what_they_say(rt: HostRuntime) -> Result<(), Fail> {
         (6, Act::Edit(Edit::Policy { asn, kind })),
         (7, Act::Edit(Edit::VrpAdd { vrp: added })),
         (9, Act::Edit(Edit::VrpTake { vrp: taken })),
+        (
+            10,
+            announce(rt.alloc(), b"10.0.0.0/8", &[4, 5, 4_294_967_295])?,
+        ),
+        (11, announce(rt.alloc(), b"2001:db8::/32", &[3])?),
+        (
+            12,
+            Act::Edit(Edit::Withdraw {
+                prefix: prefix(b"10.0.0.0/8")?,
+                asn: b,
+            }),
+        ),
     ];
     expect_acts(&rt, rt.alloc(), text, &acts)
 }
