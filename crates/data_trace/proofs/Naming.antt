@@ -7,12 +7,18 @@ use Rattle.std.proofs.lemmas.List.{length_push, get_or_push, get_or_append_left,
 use Rattle.net_names.specs.declared.routes.Rel.{Rel}
 use Rattle.net_names.specs.declared.routes.Rel.TheVariants.{Customer, Peer, Provider}
 use Rattle.net_names.specs.Numbers.{occurs}
+use Rattle.net_names.specs.Addresses.{AddrValue}
+use Rattle.path_pool.specs.declared.pool.PathPool.{PathPool}
+use Rattle.stability_laws.specs.Plans.{Plan}
+use Rattle.route_choice.specs.declared.round_tables.RoundTables.{RoundTables}
+use Rattle.route_choice.specs.RoundTables.{round_routing}
 use Rattle.as_graph.specs.declared.neighbour.Neighbour.{Neighbour}
 use Rattle.as_graph.specs.Neighbours.{AreNeighbours, asns}
 use Rattle.data_trace.specs.declared.kinds.Hop.{Hop}
 use Rattle.data_trace.specs.declared.places.PlaceHop.{PlaceHop}
 use Rattle.data_trace.specs.declared.places.PlaceHop.TheVariants.{NoRoute, To}
 use Rattle.data_trace.specs.declared.places.Group.{Group}
+use Rattle.data_trace.specs.Hops.{next_hop}
 use Rattle.data_trace.specs.Marks.{hop_at}
 use Rattle.data_trace.specs.Watches.{IsStub}
 use Rattle.data_trace.specs.Columns.{name_at, named, group_at, gone, is_customer}
@@ -27,6 +33,15 @@ eqb_turned a b = ⊎_elim (λ (e : eqb a b ≡ true). e ∙ sym (eq-eqb b a (sym
 pub occurs_in : (a : ℕ) (xs : List ℕ) → occurs a xs ≡ list_any (nat_eq a) xs
 occurs_in a [] = refl
 occurs_in a (x ∷ xs) = ap (λ b. b || occurs a xs) (eqb_turned x a) ∙ ap (λ b. eqb a x || b) (occurs_in a xs)
+
+-- next hops are the same by the same plan, tables, pool and address
+pub next_same : (plan plan' : Plan) (pool pool' : PathPool) (tables tables' : RoundTables) (addr addr' : AddrValue) → plan ≡ plan' → pool ≡ pool' → tables ≡ tables' → addr ≡ addr' →
+    next_hop plan (round_routing pool tables) addr ≡ next_hop plan' (round_routing pool' tables') addr'
+next_same plan plan' pool pool' tables tables' addr addr' p q t a =
+    ap (λ (x : Plan). next_hop x (round_routing pool tables) addr) p
+    ∙ ap (λ (x : PathPool). next_hop plan' (round_routing x tables) addr) q
+    ∙ ap (λ (x : RoundTables). next_hop plan' (round_routing pool' x) addr) t
+    ∙ ap (λ (x : AddrValue). next_hop plan' (round_routing pool' tables') x) a
 
 -- ---- one place more
 

@@ -11,6 +11,7 @@ pub mod Spreads
 pub mod Sums
 pub mod Columns
 pub mod Counted
+pub mod Blank
 pub mod Views
 pub mod Kept
 pub mod Comes

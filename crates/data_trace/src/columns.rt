@@ -1,9 +1,9 @@
 //! The columns of a watch, of which each has an entry for each place.
-ghost use Rattle.std.specs.Prelude.{◌≡◌, ℕ, ◌<◌, ◌≤◌, true, not, length, IfOk, List, nat_eq, vec_capacity};
+ghost use Rattle.std.specs.Prelude.{◌≡◌, ℕ, ◌<◌, ◌≤◌, true, not, length, IfOk, List, nat_eq};
 ghost use Rattle.std.specs.List.{list_any, IsDistinct};
 ghost use Rattle.net_names.specs.Numbers.{occurs};
 ghost use Rattle.as_graph.specs.Topology.{has};
-ghost use Rattle.route_choice.specs.RoundTables.{round_routing};
+ghost use Rattle.route_choice.specs.RoundTables.{round_routing, AreAllLive};
 ghost use Rattle.stability_laws.specs.Book.{policy_at};
 ghost use Rattle.data_trace.specs.Hops.{next_hop as next_hop_of};
 ghost use Rattle.data_trace.specs.Columns.{named, name_at, is_customer, is_here as is_here_standing, is_stub as is_stub_standing, AreHops, AreGroups, IsGroup, IsAmong};
@@ -15,9 +15,11 @@ use crate::hints::Hints;
 use crate::places::{Group, PlaceHop, Standing};
 use as_graph::{Graph, Neighbour};
 use as_places::AsPlaces;
-use net_names::{Asn, NoMemory, Rel};
+use net_names::{Addr, Asn, NoMemory, Rel};
+use path_pool::PathPool;
 use policy_laws::Labelled;
-use stability_laws::Book;
+use route_choice::RoundTables;
+use stability_laws::{Book, SeedPlan};
 use std::alloc::Global;
 
 /// The ASes of the graph, each at its place.
@@ -47,16 +49,15 @@ pub fn place_of(ases: &AsPlaces, hop: Hop, near: usize) -> PlaceHop
     }
 }
 
-/// The next hop of each place.
-pub fn hops_of(
+// The next hop of each place.
+fn hops_of(
     alloc: Global,
     forwarding: &Forwarding<'_>,
     ases: &AsPlaces,
 ) -> Result<Vec<PlaceHop>, NoMemory>
     requires among { (a : ℕ) → IsAmong ases.now.ases (next_hop_of forwarding.now.plan.now (round_routing forwarding.now.pool.now forwarding.now.tables.now) forwarding.now.addr a) }
     requires few { length ases.now.ases ≤ 150000 }
-    ensures hops { IfOk result (λ v. AreHops (next_hop_of forwarding.now.plan.now (round_routing forwarding.now.pool.now forwarding.now.tables.now) forwarding.now.addr) ases.now.ases v.items) }
-    ensures room { IfOk result (λ v. length ases.now.ases ≤ vec_capacity v) }
+    ensures { IfOk result (λ v. AreHops (next_hop_of forwarding.now.plan.now (round_routing forwarding.now.pool.now forwarding.now.tables.now) forwarding.now.addr) ases.now.ases v.items) }
 {
     let numbers = ases.as_slice();
     let Ok(hints) = Hints::of(alloc, numbers) else {
@@ -74,6 +75,24 @@ pub fn hops_of(
         }
     }
     Ok(hops)
+}
+
+/// The next hop of each place, in the round of the tables and to the address.
+pub fn next_hops(
+    alloc: Global,
+    tables: &RoundTables,
+    pool: &PathPool,
+    plan: &SeedPlan,
+    addr: Addr,
+    ases: &AsPlaces,
+) -> Result<Vec<PlaceHop>, NoMemory>
+    requires live { AreAllLive pool.now tables.now }
+    requires among { (a : ℕ) → IsAmong ases.now.ases (next_hop_of plan.now (round_routing pool.now tables.now) addr a) }
+    requires few { length ases.now.ases ≤ 150000 }
+    ensures { IfOk result (λ v. AreHops (next_hop_of plan.now (round_routing pool.now tables.now) addr) ases.now.ases v.items) }
+{
+    let forwarding = Forwarding::new(alloc, tables, pool, plan, addr)?;
+    hops_of(alloc, &forwarding, ases)
 }
 
 // Whether no neighbour is a customer.
@@ -144,8 +163,7 @@ pub fn groups_of<P: Labelled>(
     ases: &[Asn],
 ) -> Result<Vec<Group>, NoMemory>
     requires { (x : ℕ) → x < length ases.now → has graph.now (name_at ases.now x) ≡ true }
-    ensures groups { IfOk result (λ v. AreGroups graph.now (λ a. P.label_of (policy_at book.now a)) ases.now v.items) }
-    ensures room { IfOk result (λ v. length ases.now ≤ vec_capacity v) }
+    ensures { IfOk result (λ v. AreGroups graph.now (λ a. P.label_of (policy_at book.now a)) ases.now v.items) }
 {
     let Ok(mut groups) = Vec::with_capacity(alloc, ases.len()) else {
         return Err(NoMemory);

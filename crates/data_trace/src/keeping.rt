@@ -1,7 +1,7 @@
 //! The lists of a watch, and room for what an update goes through.
 ghost use Rattle.std.specs.Prelude.{◌≡◌, ℕ, ◌+◌, ◌<◌, ◌≤◌, [], ◌∷◌, ◌++◌, None, length, vec_capacity, IfOk, OnOk};
 ghost use Rattle.data_trace.specs.Marks.{IsWithin};
-ghost use Rattle.data_trace.specs.Lists.{HasLists, AreNone};
+ghost use Rattle.data_trace.specs.Lists.{AreNone};
 
 use crate::lists::{link_all, none_links, put_last};
 use crate::places::PlaceHop;

@@ -5,6 +5,7 @@
 #![tactic(auto)]
 
 mod best;
+mod blank;
 mod candidate;
 mod cell;
 mod columns;

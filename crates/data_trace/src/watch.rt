@@ -18,9 +18,9 @@ ghost use Rattle.data_trace.specs.Counted.{AreCounted};
 ghost use Rattle.data_trace.specs.Kept.{KeepsHops, KeepsGroups};
 ghost use Rattle.data_trace.specs.Comes.{Comes};
 
-use crate::columns::{ases_of, groups_of, hops_of, is_here};
-use crate::counting::{end_told, no_sums};
-use crate::forwarding::Forwarding;
+use crate::blank::Blank;
+use crate::columns::{ases_of, groups_of, is_here, next_hops};
+use crate::counting::end_told;
 use crate::growing::reserve_all;
 use crate::keeping::Lists;
 use crate::lists::put_last;
@@ -37,7 +37,7 @@ use path_pool::PathPool;
 use policy_laws::Labelled;
 use route_choice::RoundTables;
 use stability_laws::{Book, SeedPlan};
-use std::alloc::{AllocError, Global};
+use std::alloc::Global;
 
 /// Of each AS of a graph its next hop, the end of its trace and its groups, for one round and one
 /// address. Contracts see a row for each AS, the address, and how many ASes a graph may have of which
@@ -96,8 +96,7 @@ impl Watch {
         ensures addr { IfOk result (λ w. addr_of w ≡ addr) }
     {
         let ases = ases_of(alloc, graph)?;
-        let forwarding = Forwarding::new(alloc, tables, pool, plan, addr)?;
-        let next = hops_of(alloc, &forwarding, &ases)?;
+        let next = next_hops(alloc, tables, pool, plan, addr, &ases)?;
         let groups = groups_of(alloc, graph, book, ases.as_slice())?;
         Watch::over(alloc, addr, ases, next, groups)
     }
@@ -121,36 +120,19 @@ impl Watch {
         ensures groups { IfOk result (λ w. w.groups.items ≡ groups.items) }
         ensures addr { IfOk result (λ w. w.addr ≡ addr) }
     {
-        match Watch::columns(alloc, addr, ases, hops, groups) {
-            Ok(watch) => Ok(watch),
+        match Blank::of(alloc, ases.as_slice(), groups.as_slice()) {
+            Ok(blank) => Ok(Watch::filled(
+                alloc,
+                addr,
+                ases,
+                hops,
+                blank.marks,
+                groups,
+                blank.sums,
+                blank.path,
+            )),
             Err(_) => Err(NoMemory),
         }
-    }
-
-    // The further columns.
-    fn columns(
-        alloc: Global,
-        addr: Addr,
-        ases: AsPlaces,
-        hops: Vec<PlaceHop>,
-        groups: Vec<Group>,
-    ) -> Result<Watch, AllocError>
-        requires few { length ases.ases < 4294967296 }
-        requires apart { IsDistinct nat_eq ases.ases }
-        requires len { length hops.items ≡ length ases.ases }
-        requires groups_len { length groups.items ≡ length ases.ases }
-        requires within { IsWithin hops.items }
-        requires here { (x : ℕ) → x < length ases.ases → here_at groups.items x ≡ true }
-        ensures ases { IfOk result (λ w. w.ases.ases ≡ ases.ases) }
-        ensures hops { IfOk result (λ w. w.hops.items ≡ hops.items) }
-        ensures groups { IfOk result (λ w. w.groups.items ≡ groups.items) }
-        ensures addr { IfOk result (λ w. w.addr ≡ addr) }
-    {
-        let count = hops.len();
-        let marks = vec![in alloc; Mark::Unknown; count]?;
-        let path = Vec::with_capacity(alloc, count)?;
-        let sums = no_sums(alloc, ases.as_slice(), &marks, &groups)?;
-        Ok(Watch::filled(alloc, addr, ases, hops, marks, groups, sums, path))
     }
 
     // The watch of these columns, with its ends. It goes along the path.

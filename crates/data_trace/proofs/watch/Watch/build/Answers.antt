@@ -1,10 +1,6 @@
-use Rattle.std.proofs.Common.{◌≡◌, ℕ, ◌<◌, true, List, length, sym, ◌∙◌, ap, subst}
-use Rattle.path_pool.specs.declared.pool.PathPool.{PathPool}
-use Rattle.net_names.specs.Addresses.{AddrValue}
+use Rattle.std.proofs.Common.{◌≡◌, ℕ, ◌<◌, true, List, length, sym, ◌∙◌, subst}
 use Rattle.as_graph.specs.Topology.{has}
-use Rattle.stability_laws.specs.Plans.{Plan}
 use Rattle.stability_laws.specs.Book.{policy_at}
-use Rattle.route_choice.specs.declared.round_tables.RoundTables.{RoundTables}
 use Rattle.route_choice.specs.RoundTables.{round_routing}
 use Rattle.data_trace.specs.declared.kinds.Hop.{Hop}
 use Rattle.data_trace.specs.declared.kinds.Hop.TheVariants as hop
@@ -21,24 +17,22 @@ use Rattle.data_trace.proofs.Rows.{are_rows}
 use Rattle.data_trace.proofs.Inside.{next_inside, if_ok}
 use Rattle.data_trace.proofs.watch.Watch.build.Goals as goal
 
+pub next_hops-requires-clause-among : goal.next_hops-requires-clause-among
+next_hops-requires-clause-among g c = λ a b e.
+    c.in_ok-ases.ensures.listed b ∙ next_inside c.args.graph.now c.args.plan.now (round_routing c.args.pool.now c.args.tables.now) c.args.addr c.requires.inside a b e
+
 pub returns-clause-rows : goal.returns-clause-rows
 returns-clause-rows g c =
     let graph = c.args.graph.now in
-    let f = c.in_ok-forwarding.forwarding in
     let label : ℕ → ℕ = λ a. g.P.Labelled.label_of (policy_at c.args.book.now a) in
     let next : ℕ → Hop = next_hop c.args.plan.now (round_routing c.args.pool.now c.args.tables.now) c.args.addr in
-    let same : next_hop f.plan.now (round_routing f.pool.now f.tables.now) f.addr ≡ next =
-    ap (λ (q : Plan). next_hop q (round_routing f.pool.now f.tables.now) f.addr) c.in_ok-forwarding.ensures.plan
-    ∙ ap (λ (q : PathPool). next_hop c.args.plan.now (round_routing q f.tables.now) f.addr) c.in_ok-forwarding.ensures.pool
-    ∙ ap (λ (q : RoundTables). next_hop c.args.plan.now (round_routing c.args.pool.now q) f.addr) c.in_ok-forwarding.ensures.tables
-    ∙ ap (λ (q : AddrValue). next_hop c.args.plan.now (round_routing c.args.pool.now c.args.tables.now) q) c.in_ok-forwarding.ensures.addr in
     let keys : List ℕ = c.in_ok-ases.ases.ases in
     let inside : (a b : ℕ) → next a ≡ hop.To b → has graph b ≡ true = next_inside graph c.args.plan.now (round_routing c.args.pool.now c.args.tables.now) c.args.addr c.requires.inside in
     let here : (x : ℕ) → x < length keys → has graph (name_at keys x) ≡ true = λ x l. sym (c.in_ok-ases.ensures.listed (name_at keys x)) ∙ occurs_at keys x l in
     let ases : AreAses graph keys = record { listed = λ a h. c.in_ok-ases.ensures.listed a ∙ h; apart = c.in_ok-ases.ensures.apart } in
-    let plain : AreHops next keys c.in_ok-next.next.items = subst (λ n. AreHops n keys c.in_ok-next.next.items) same c.in_ok-next.ensures.hops in
+    let plain : AreHops next keys c.in_ok-next.next.items = c.in_ok-next.ensures in
     let hops : AreHops (fresh graph next) keys c.in_ok-next.next.items = record { len = plain.len; within = plain.within; follows = λ x l. plain.follows x l ∙ sym (fresh_is graph next inside (name_at keys x) (here x l)) } in
-    let groups : AreGroups graph label keys c.in_ok-groups.groups.items = subst (λ (ks : List ℕ). AreGroups graph label ks c.in_ok-groups.groups.items) c.as_slice.ensures.list c.in_ok-groups.ensures.groups in
+    let groups : AreGroups graph label keys c.in_ok-groups.groups.items = subst (λ (ks : List ℕ). AreGroups graph label ks c.in_ok-groups.groups.items) c.as_slice.ensures.list c.in_ok-groups.ensures in
     if_ok (λ (w : Watch). w.ases.ases ≡ keys) (λ w. w.hops.items ≡ c.in_ok-next.next.items) (λ w. w.groups.items ≡ c.in_ok-groups.groups.items) (λ w. AreRows graph next label (rows_of w)) c.over.result
     (λ w a h s. are_rows graph next label w.ases.ases w.hops.items w.marks.items w.groups.items
     (subst (λ (ks : List ℕ). AreAses graph ks) (sym a) ases)

@@ -1,0 +1,30 @@
+//! Columns before any end is sought.
+ghost use Rattle.std.specs.Prelude.{◌≡◌, length, IfOk};
+ghost use Rattle.data_trace.specs.Blank.{IsBlank};
+
+use crate::counting::no_sums;
+use crate::places::{Group, Mark};
+use crate::sums::Sums;
+use net_names::Asn;
+use std::alloc::{AllocError, Global};
+
+/// The marks of places of which no end is known, the sums that count none, and room for a walk.
+#[derive(Drop)]
+pub struct Blank {
+    pub marks: Vec<Mark>,
+    pub sums: Sums,
+    pub path: Vec<u32>,
+}
+
+impl Blank {
+    /// Those of these places.
+    pub fn of(alloc: Global, ases: &[Asn], groups: &[Group]) -> Result<Blank, AllocError>
+        requires { length groups.now ≡ length ases.now }
+        ensures { IfOk result (λ b. IsBlank ases.now groups.now b) }
+    {
+        let marks = vec![in alloc; Mark::Unknown; ases.len()]?;
+        let path = Vec::with_capacity(alloc, ases.len())?;
+        let sums = no_sums(alloc, ases, &marks, groups)?;
+        Ok(Blank { marks, sums, path })
+    }
+}
