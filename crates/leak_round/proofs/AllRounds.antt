@@ -21,7 +21,7 @@ use Rattle.leak_round.proofs.Counting.{more_entries, no_entries, none_some}
 use Rattle.leak_round.proofs.Listing.{got_either}
 use Rattle.leak_round.proofs.Keeping.{keeps_itself, keeps_on, full_kept, all_kept}
 
-got_before : {X : Type 0} (xs : List X) (x : X) (i : ℕ) → i < length xs → slice_get (xs ++ x ∷ []) i ≡ slice_get xs i
+pub got_before : {X : Type 0} (xs : List X) (x : X) (i : ℕ) → i < length xs → slice_get (xs ++ x ∷ []) i ≡ slice_get xs i
 got_before [] x i less = absurd (omega arith)
 got_before (y ∷ xs) x zero less = refl
 got_before (y ∷ xs) x (suc i) less = got_before xs x i (omega arith)

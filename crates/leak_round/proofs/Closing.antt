@@ -1,20 +1,20 @@
 -- What stands once a plan for rounds is put in place or given up.
-use Rattle.std.proofs.Common.{◌≡◌, ◌≢◌, ◌⊎◌, inl, inr, ℕ, suc, ◌+◌, ◌-◌, ◌<◌, ◌≤◌, Bool, true, false, ◌==◌, ◌&&◌, cond, Option, Some, None, option_map, List, [], ◌∷◌, length, refl, sym, ap, subst, ◌∙◌, arith}
-use Rattle.std.specs.Prelude.{IsSome, IsTrue, is_some, slice_get, option_and_then, fold}
+use Rattle.std.proofs.Common.{◌≡◌, ◌⊎◌, inl, inr, ℕ, suc, ◌+◌, ◌-◌, ◌≤◌, Bool, true, false, ◌==◌, cond, Option, Some, None, option_map, List, [], ◌∷◌, refl, sym, ap, subst, ◌∙◌, arith}
+use Rattle.std.specs.Prelude.{IsTrue, is_some, slice_get, fold}
 use Rattle.std.specs.Option.{option_map_or}
 use Rattle.std.specs.FinMap as fin
 use Rattle.std.proofs.lemmas.Option.{slice_get_within}
 use Rattle.net_names.specs.Prefixes.{PrefixValue}
 use Rattle.path_pool.specs.declared.path_id.PathId.{PathId}
 use Rattle.path_pool.specs.declared.pool.PathPool.{PathPool}
-use Rattle.path_pool.specs.Pool.{IsLive, holds_of, list_of, live_count}
+use Rattle.path_pool.specs.Pool.{IsLive, holds_of, list_of}
 use Rattle.stability_laws.specs.declared.entry.Entry.{Entry}
-use Rattle.stability_laws.specs.Plans.{Plan, has_prefix, prefixes_of, announced_path}
+use Rattle.stability_laws.specs.Plans.{Plan, has_prefix}
 use Rattle.route_choice.specs.declared.held.Held.{Held}
 use Rattle.route_choice.specs.declared.round_tables.RoundTables.{RoundTables}
 use Rattle.route_choice.specs.Holds.{GivesBack}
 use Rattle.route_choice.specs.Routings.{entry_of}
-use Rattle.route_choice.specs.RoundTables.{tables_uses, uses_at}
+use Rattle.route_choice.specs.RoundTables.{uses_at}
 use Rattle.route_choice.specs.Slots.{over}
 use Rattle.std.specs.List.{sum_by}
 use Rattle.route_choice.proofs.Lists.{entries_same, held_live}
@@ -28,11 +28,11 @@ use Rattle.leak_round.specs.declared.rounds.Rounds.{Rounds}
 use Rattle.leak_round.specs.Announced.{is_of, own_path, announced_uses, AreAnnounced}
 use Rattle.leak_round.specs.Changes.{IsChanged, HasChanges}
 use Rattle.leak_round.specs.Limits.{IsWithinLimits}
-use Rattle.leak_round.specs.Overlays.{change_in, held_of, held_with, laid_in, changes_uses, AreChangesOf, IsLaid}
+use Rattle.leak_round.specs.Overlays.{change_in, held_of, held_with, laid_in, changes_uses, IsLaid}
 use Rattle.leak_round.specs.Edited.{announced_after, edited_uses, given_up, AreEdited}
-use Rattle.leak_round.specs.Plans.{kept_with, plan_after, count_told, is_changed, IsOpenPlan}
+use Rattle.leak_round.specs.Plans.{kept_with, plan_after, count_told, IsOpenPlan}
 use Rattle.leak_round.specs.Rounds.{plan_of, kept, round_count}
-use Rattle.leak_round.specs.Tables.{tables_in, kept_in, entry_uses, AreFull, AreRoundsFull}
+use Rattle.leak_round.specs.Tables.{kept_in, entry_uses, AreRoundsFull}
 use Rattle.leak_round.proofs.Committing.{change_from, held_with-live}
 use Rattle.leak_round.proofs.Holding.{one_of_itself}
 use Rattle.leak_round.proofs.Laying.{kept_is, uses_in, tables_there, round_place, is_at-true}
@@ -52,7 +52,7 @@ found_among prefix a id (y ∷ xs) before e = by (is_of prefix a y) refl (found_
     by true is (inl e) = inr (0, y, refl, (let both : Some y.path ≡ Some id = sym (ap (λ c. cond c (Some y.path) before) is) ∙ e in cc))
     by false is (inl e) = inl (sym (ap (λ c. cond c (Some y.path) before) is) ∙ e)
 
-module _ (old new : PathPool) (plan : Plan) (xs : List Announced) (h : AreAnnounced old plan xs) (back : GivesBack old new) (held : (k : ℕ) → announced_uses xs k ≤ holds_of new k) where
+module _ (old new : PathPool) (plan : Plan) (xs : List Announced) (h : AreAnnounced old plan xs) (lists : (k : ℕ) → IsLive old k → IsLive new k → list_of new k ≡ list_of old k) (held : (k : ℕ) → announced_uses xs k ≤ holds_of new k) where
   one_live : (i : ℕ) (x : Announced) → slice_get xs i ≡ Some x → IsLive new x.path.0
   one_live i x at = held_live new x.path.0 (omega (arith, held x.path.0, sum_by-one-le (λ (y : Announced). cond (y.path.0 == x.path.0) 1 0) xs i x at, one_of_itself x.path.0))
 
@@ -66,14 +66,14 @@ module _ (old new : PathPool) (plan : Plan) (xs : List Announced) (h : AreAnnoun
   pub announced_back : AreAnnounced new plan xs
   announced_back = record {
     live = own_live;
-    each = λ i x at. (let (alive, own) = h.each i x at in (one_live i x at, own ∙ ap (λ (l : List ℕ). Some l) (sym (back.lists x.path.0 (one_live i x at)))));
+    each = λ i x at. (let (alive, own) = h.each i x at in (one_live i x at, own ∙ ap (λ (l : List ℕ). Some l) (sym (lists x.path.0 alive (one_live i x at)))));
     paths = λ prefix a known. by prefix a (own_path xs prefix a) refl ∙ h.paths prefix a known;
     few = h.few;
   }
     where
       by : (prefix : PrefixValue) (a : ℕ) (o : Option PathId) → own_path xs prefix a ≡ o → option_map (λ id. list_of new id.0) o ≡ option_map (λ id. list_of old id.0) o
       by prefix a None e = refl
-      by prefix a (Some id) e = ap (λ (l : List ℕ). Some l) (back.lists id.0 (own_live prefix a id e))
+      by prefix a (Some id) e = ap (λ (l : List ℕ). Some l) (lists id.0 (h.live prefix a id e) (own_live prefix a id e))
 
 -- what is kept is the same in a pool that kept the holds
 pub laid_back : (old new : PathPool) (rounds : List RoundTables) (xs : List Change) → GivesBack old new → ((k : ℕ) → entry_uses rounds k + changes_uses xs k ≤ holds_of new k) → (round : ℕ) (prefix : PrefixValue) (a : ℕ) → laid_in new rounds xs round prefix a ≡ laid_in old rounds xs round prefix a
@@ -182,7 +182,7 @@ module _ (r : Rounds) (p : RoundsPlan) (open_plan : IsOpenPlan r p) where
     holds_done k = omega (arith, holds k, done.holds k, uses_taken r.pool r.plan r.announced.items r.limits r.announcements p.edited open_plan.edited k)
 
     pub announced_done : AreAnnounced second (plan_after r p) (announced_after p.edited r.announced.items)
-    announced_done = announced_back r.pool second (plan_after r p) (announced_after p.edited r.announced.items) (announced_taken r.pool r.plan r.announced.items r.limits r.announcements p.edited open_plan.edited) (back_more r.pool first second back back') (λ k. omega (arith, holds_done k))
+    announced_done = announced_back r.pool second (plan_after r p) (announced_after p.edited r.announced.items) (announced_taken r.pool r.plan r.announced.items r.limits r.announcements p.edited open_plan.edited) (λ k was is. (back_more r.pool first second back back').lists k is) (λ k. omega (arith, holds_done k))
 
     pub full_done : AreRoundsFull second (plan_after r p) tables
     full_done = full_back first second r.plan (plan_after r p) tables (prefixes_taken r.pool r.plan r.announced.items r.limits r.announcements p.edited open_plan.edited) (λ k. omega (arith, holds_done k)) done.full
@@ -196,7 +196,7 @@ module _ (r : Rounds) (p : RoundsPlan) (open_plan : IsOpenPlan r p) where
     holds_undone k = omega (arith, holds k, holds' k, open_plan.holds k)
 
     pub announced_undone : AreAnnounced second r.plan r.announced.items
-    announced_undone = announced_back r.pool second r.plan r.announced.items r.announcements (back_more r.pool first second back back') (λ k. omega (arith, holds_undone k))
+    announced_undone = announced_back r.pool second r.plan r.announced.items r.announcements (λ k was is. (back_more r.pool first second back back').lists k is) (λ k. omega (arith, holds_undone k))
 
     pub full_undone : AreRoundsFull second r.plan r.tables.items
     full_undone = full_back r.pool second r.plan r.plan r.tables.items refl (λ k. omega (arith, holds_undone k)) r.full

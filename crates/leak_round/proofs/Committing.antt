@@ -1,5 +1,5 @@
 -- Changes are put in place, the last of those that are left first.
-use Rattle.std.proofs.Common.{◌≡◌, ◌≢◌, ◌⊎◌, inl, inr, ℕ, suc, ◌+◌, ◌<◌, ◌≤◌, Bool, true, false, cond, Option, Some, None, option_map, List, [], ◌∷◌, ◌++◌, length, refl, sym, ap, subst, ◌∙◌, arith}
+use Rattle.std.proofs.Common.{◌≡◌, ◌≢◌, ◌⊎◌, inl, inr, ℕ, suc, ◌+◌, ◌≤◌, Bool, true, false, cond, Option, Some, None, option_map, List, [], ◌∷◌, ◌++◌, refl, sym, ap, subst, ◌∙◌, arith}
 use Rattle.std.specs.Prelude.{IsSome, IsTrue, is_some, slice_get, option_and_then}
 use Rattle.std.proofs.lemmas.Bool.{cases_eq}
 use Rattle.std.proofs.lemmas.List.Sums.{sum_by_push}
@@ -22,7 +22,7 @@ use Rattle.route_choice.proofs.RoundLemmas.{tables_live}
 use Rattle.leak_round.specs.declared.changes.Change.{Change}
 use Rattle.leak_round.specs.Tables.{tables_in, entry_uses, AreFull, AreRoundsFull}
 use Rattle.leak_round.specs.Overlays.{table_in, held_of, is_at, change_in, held_with, laid_in, changes_uses, IsCommitted, AreFew, IsLaid}
-use Rattle.leak_round.proofs.Laying.{tables_there, uses_in, table_uses_in, change_in-none, others_apart, table_now, table_was, held_same, left_changes, here_true}
+use Rattle.leak_round.proofs.Laying.{uses_in, table_uses_in, change_in-none, others_apart, table_now, held_same, left_changes, here_true}
 use Rattle.leak_round.proofs.Rounding.{same_or_not, sized}
 use Rattle.leak_round.proofs.Sums.{sum_by-one-le}
 

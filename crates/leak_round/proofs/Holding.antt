@@ -1,5 +1,5 @@
 -- Holds of announced paths, one taken or given back after the other.
-use Rattle.std.proofs.Common.{◌≡◌, ℕ, ◌+◌, ◌≤◌, Bool, true, false, ◌==◌, cond, Some, List, length, take, inl, inr, refl, ap, sym, subst, ◌∙◌, arith}
+use Rattle.std.proofs.Common.{◌≡◌, ℕ, ◌+◌, ◌≤◌, Bool, true, false, ◌==◌, cond, Some, List, length, take, inl, inr, refl, ap, sym, subst, arith}
 use Rattle.std.specs.Prelude.{slice_get}
 use Rattle.std.proofs.lemmas.Bool.{cases_eq, eq-eqb, ne_eqb}
 use Rattle.std.proofs.lemmas.List.Sums.{sum_by-take-le}
@@ -8,7 +8,6 @@ use Rattle.path_pool.specs.Pool.{GainsHold, LosesHold, holds_of, live_count, spa
 use Rattle.route_choice.specs.Holds.{GivesBack}
 use Rattle.leak_round.specs.declared.announced.Announced.{Announced}
 use Rattle.leak_round.specs.Announced.{announced_uses}
-use Rattle.leak_round.specs.Growth.{KeepsPaths}
 use Rattle.leak_round.proofs.Listing.{sum_next}
 use Rattle.leak_round.proofs.Sums.{sum_by-most}
 

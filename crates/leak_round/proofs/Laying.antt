@@ -1,11 +1,10 @@
 -- Changes of tables, one put in place after the other.
-use Rattle.std.proofs.Common.{◌≡◌, ◌≢◌, ◌⊎◌, inl, inr, ℕ, zero, suc, ◌+◌, ◌-◌, ◌<◌, ◌≤◌, Bool, true, false, ◌&&◌, ◌==◌, cond, Option, Some, None, option_map, unwrap_or, List, [], ◌∷◌, ◌++◌, length, get_or, set, refl, sym, ap, subst, ◌∙◌, arith}
-use Rattle.std.specs.Prelude.{IsSome, is_some, slice_get, option_and_then}
-use Rattle.std.specs.List.{sum_by}
-use Rattle.std.proofs.lemmas.Bool.{true≢false, and_parts, cases_eq, cases_lt, eq-eqb, eqb-true, ne_eqb}
+use Rattle.std.proofs.Common.{◌≡◌, ◌≢◌, ◌⊎◌, inl, inr, ℕ, zero, suc, ◌+◌, ◌-◌, ◌<◌, ◌≤◌, Bool, true, false, ◌==◌, cond, Option, Some, None, option_map, unwrap_or, List, [], ◌∷◌, ◌++◌, length, get_or, set, refl, sym, ap, ◌∙◌, arith}
+use Rattle.std.specs.Prelude.{slice_get, option_and_then}
+use Rattle.std.proofs.lemmas.Bool.{true≢false, and_parts, cases_eq, eq-eqb, eqb-true}
 use Rattle.std.proofs.lemmas.List.{length-set}
-use Rattle.std.proofs.lemmas.List.Sums.{sum_by-set, sum_by_push}
-use Rattle.std.proofs.lemmas.Option.{slice_get-get_or, slice_get_within, get_or_from_slice_get}
+use Rattle.std.proofs.lemmas.List.Sums.{sum_by-set}
+use Rattle.std.proofs.lemmas.Option.{slice_get_within, get_or_from_slice_get}
 use Rattle.std.proofs.lemmas.Grind.{common_steps}
 use Rattle.net_names.specs.declared.addresses.Family.{Family}
 use Rattle.net_names.specs.declared.addresses.Family.TheVariants.{V4, V6}
@@ -13,29 +12,24 @@ use Rattle.net_names.specs.Prefixes.{PrefixValue}
 use Rattle.net_names.specs.contracts.prefixes.PrefixPartialEq.TheImpl as same_prefix
 use Rattle.path_pool.specs.declared.pool.PathPool.{PathPool}
 use Rattle.path_pool.specs.Pool.{holds_of}
-use Rattle.stability_laws.specs.declared.entry.Entry.{Entry}
-use Rattle.route_choice.specs.declared.held.Held.{Held}
-use Rattle.route_choice.specs.declared.overlay.Overlay.{Overlay}
 use Rattle.route_choice.specs.declared.round_tables.RoundTables.{RoundTables}
 use Rattle.route_choice.specs.declared.table.Table.{Table}
 use Rattle.route_choice.specs.Routings.{entry_of, table_routing}
-use Rattle.route_choice.specs.RoundTables.{table_at, tables_uses, uses_at, round_routing, PutsTable}
+use Rattle.route_choice.specs.RoundTables.{table_at, tables_uses, uses_at, round_routing}
 use Rattle.route_choice.specs.Slots.{over}
-use Rattle.route_choice.specs.Tables.{held_at, joined, change_at, places_of, overlay_uses, table_uses, table_spare}
-use Rattle.route_choice.proofs.RoundLemmas.{same_prefixes, apart_prefixes, uses_at-le}
+use Rattle.route_choice.specs.Tables.{held_at, change_at, overlay_uses, table_uses}
+use Rattle.route_choice.proofs.RoundLemmas.{same_prefixes, uses_at-le}
 use Rattle.leak_round.specs.declared.changes.Change.{Change}
 use Rattle.leak_round.specs.Tables.{tables_in, kept_in, entry_uses}
-use Rattle.leak_round.specs.Overlays.{table_in, held_of, is_at, change_in, held_with, laid_in, changes_uses, FitsIn, CanPut, IsPut, AreChangesOf, IsCommitted}
-use Rattle.leak_round.proofs.Listing.{got_either}
-use Rattle.leak_round.proofs.Rounding.{same_or_not}
+use Rattle.leak_round.specs.Overlays.{table_in, held_of, is_at, change_in, held_with, FitsIn, CanPut, IsPut, AreChangesOf, IsCommitted}
 use Rattle.leak_round.proofs.Sums.{sum_by-one-le}
 
-got_set : {X : Type 0} (xs : List X) (i : ℕ) (x : X) → i < length xs → slice_get (set xs i x) i ≡ Some x
+pub got_set : {X : Type 0} (xs : List X) (i : ℕ) (x : X) → i < length xs → slice_get (set xs i x) i ≡ Some x
 got_set [] i x less = absurd (omega arith)
 got_set (y ∷ xs) zero x less = refl
 got_set (y ∷ xs) (suc i) x less = got_set xs i x (omega arith)
 
-got_other : {X : Type 0} (xs : List X) (i j : ℕ) (x : X) → j ≢ i → slice_get (set xs i x) j ≡ slice_get xs j
+pub got_other : {X : Type 0} (xs : List X) (i j : ℕ) (x : X) → j ≢ i → slice_get (set xs i x) j ≡ slice_get xs j
 got_other [] i j x ne = refl
 got_other (y ∷ xs) zero zero x ne = absurd (ne refl)
 got_other (y ∷ xs) zero (suc j) x ne = refl
@@ -79,7 +73,7 @@ place_round rounds (suc n) some = ap (slice_get rounds) (let same : n ≡ suc n 
 pub uses_in : (rounds : List RoundTables) (round : ℕ) (r : RoundTables) → tables_in rounds round ≡ Some r → (k : ℕ) → tables_uses r k ≤ entry_uses rounds k
 uses_in rounds round r at k = sum_by-one-le (λ (t : RoundTables). tables_uses t k) rounds (round - 1) r (round_place rounds round r at).1
 
-uses_there : (r : RoundTables) (prefix : PrefixValue) (t : Table) → table_at r prefix ≡ Some t → (k : ℕ) → uses_at r prefix k ≡ table_uses t k
+pub uses_there : (r : RoundTables) (prefix : PrefixValue) (t : Table) → table_at r prefix ≡ Some t → (k : ℕ) → uses_at r prefix k ≡ table_uses t k
 uses_there r prefix t at k = ap (λ o. unwrap_or (option_map (λ (x : Table). table_uses x k) o) 0) at
 
 pub table_uses_in : (rounds : List RoundTables) (round : ℕ) (prefix : PrefixValue) (t : Table) → table_in rounds round prefix ≡ Some t → (k : ℕ) → table_uses t k ≤ entry_uses rounds k
@@ -181,12 +175,12 @@ change_in-none [] round prefix none a = refl
 change_in-none (y ∷ xs) round prefix none a =
     ap (λ b. cond b (change_at y.overlay a) (change_in xs round prefix a)) (none 0 y refl) ∙ change_in-none xs round prefix (λ i z at. none (suc i) z at) a
 
-change_in-last : (xs : List Change) (x : Change) (round : ℕ) (prefix : PrefixValue) → ((i : ℕ) (y : Change) → slice_get xs i ≡ Some y → is_at round prefix y ≡ false) → (a : ℕ) → change_in (xs ++ x ∷ []) round prefix a ≡ cond (is_at round prefix x) (change_at x.overlay a) None
+pub change_in-last : (xs : List Change) (x : Change) (round : ℕ) (prefix : PrefixValue) → ((i : ℕ) (y : Change) → slice_get xs i ≡ Some y → is_at round prefix y ≡ false) → (a : ℕ) → change_in (xs ++ x ∷ []) round prefix a ≡ cond (is_at round prefix x) (change_at x.overlay a) None
 change_in-last [] x round prefix none a = refl
 change_in-last (y ∷ xs) x round prefix none a =
     ap (λ b. cond b (change_at y.overlay a) (change_in (xs ++ x ∷ []) round prefix a)) (none 0 y refl) ∙ change_in-last xs x round prefix (λ i z at. none (suc i) z at) a
 
-change_in-first : (xs : List Change) (x : Change) (round : ℕ) (prefix : PrefixValue) (a : ℕ) → is_at round prefix x ≡ false → change_in (xs ++ x ∷ []) round prefix a ≡ change_in xs round prefix a
+pub change_in-first : (xs : List Change) (x : Change) (round : ℕ) (prefix : PrefixValue) (a : ℕ) → is_at round prefix x ≡ false → change_in (xs ++ x ∷ []) round prefix a ≡ change_in xs round prefix a
 change_in-first [] x round prefix a other = ap (λ b. cond b (change_at x.overlay a) None) other
 change_in-first (y ∷ xs) x round prefix a other = ap (λ o. cond (is_at round prefix y) (change_at y.overlay a) o) (change_in-first xs x round prefix a other)
 

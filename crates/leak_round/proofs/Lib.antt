@@ -1,7 +1,6 @@
 mod Listing
 mod Announcing
 mod Leaking
-mod Seeding
 mod Counting
 mod Keeping
 mod Sums
@@ -11,9 +10,19 @@ mod Numbers
 mod Built
 mod Holding
 mod Laying
+mod Seeding
+mod Roomed
+mod Paying
 mod Committing
+mod Changing
+mod Planned
+mod Turns
 mod Telling
 mod Closing
 mod Editing
 mod Ordering
 mod Tidying
+mod Sizes
+mod Opening
+mod Undoing
+mod Starting

@@ -1,7 +1,7 @@
 -- The seeds of a round, as paths of the pool, are those of the plan.
-use Rattle.std.proofs.Common.{◌≡◌, ℕ, suc, ◌-◌, Bool, true, false, ◌&&◌, nat_lt, Option, Some, None, option_map, List, [], ◌∷◌, length, refl, sym, ap, subst, ◌∙◌, arith}
-use Rattle.std.specs.Prelude.{IsTrue, option_and_then, slice_get}
-use Rattle.std.proofs.lemmas.Bool.{lt-ltb}
+use Rattle.std.proofs.Common.{◌≡◌, inl, inr, ℕ, suc, ◌-◌, Bool, true, false, ◌&&◌, nat_lt, Option, Some, None, option_map, List, [], length, refl, sym, ap, subst, ◌∙◌, arith}
+use Rattle.std.specs.Prelude.{IsTrue, option_and_then}
+use Rattle.std.proofs.lemmas.Bool.{cases_lt, lt-ltb}
 use Rattle.net_names.specs.Prefixes.{PrefixValue}
 use Rattle.net_names.specs.declared.routes.Class.{Class}
 use Rattle.net_names.specs.declared.routes.Class.TheVariants.{Origin, Customer, Peer, Provider}
@@ -15,32 +15,18 @@ use Rattle.route_choice.specs.declared.round_tables.RoundTables.{RoundTables}
 use Rattle.route_choice.specs.declared.seeds.SeedIds.{SeedIds}
 use Rattle.route_choice.specs.declared.table.Table.{Table}
 use Rattle.route_choice.specs.Resources.{AreSeedsLive}
-use Rattle.route_choice.specs.Routings.{entry_of, seed_of, seeds_of, table_routing}
-use Rattle.route_choice.specs.RoundTables.{table_at, round_routing}
-use Rattle.route_choice.specs.Tables.{held_at, seed_at}
+use Rattle.route_choice.specs.Routings.{entry_of, seed_of, seeds_of}
+use Rattle.route_choice.specs.RoundTables.{table_at}
+use Rattle.route_choice.specs.Tables.{held_at}
 use Rattle.leak_round.specs.declared.announced.Announced.{Announced}
+use Rattle.leak_round.specs.declared.changes.Change.{Change}
 use Rattle.leak_round.specs.Announced.{own_path, own_seed, AreAnnounced}
-use Rattle.leak_round.specs.Leaked.{held_in, held_last, last_round, leaked_of, own_or_leaked}
+use Rattle.leak_round.specs.Leaked.{leaked_of, own_or_leaked, AreSeedsWith}
+use Rattle.leak_round.specs.Overlays.{held_of, held_with, laid_in}
 use Rattle.leak_round.specs.Tables.{tables_in, kept_in, AreRoundsFull}
-
--- the last round is that of the highest number
-last_is : (rounds : List RoundTables) → last_round rounds ≡ tables_in rounds (length rounds)
-last_is [] = refl
-last_is (t ∷ ts) = ap (slice_get (t ∷ ts)) (let less : length (t ∷ ts) - 1 ≡ length ts = omega arith in less)
+use Rattle.leak_round.proofs.Laying.{kept_is}
 
 module _ (pool : PathPool) where
-  held_entry : (prefix : PrefixValue) (a : ℕ) (o : Option RoundTables) → option_map (entry_of pool) (option_and_then (λ t. held_in t prefix a) o) ≡ option_and_then (λ t. round_routing pool t prefix a) o
-  held_entry prefix a None = refl
-  held_entry prefix a (Some t) = by (table_at t prefix)
-    where
-      by : (o : Option Table) → option_map (entry_of pool) (option_and_then (λ table. held_at table a) o) ≡ option_and_then (λ table. table_routing pool table a) o
-      by None = refl
-      by (Some table) = refl
-
-  -- what is held in the last round is what is kept in it
-  held_is : (rounds : List RoundTables) (prefix : PrefixValue) (a : ℕ) → option_map (entry_of pool) (held_last rounds prefix a) ≡ kept_in pool rounds (length rounds) prefix a
-  held_is rounds prefix a = held_entry prefix a (last_round rounds) ∙ ap (option_and_then (λ (t : RoundTables). round_routing pool t prefix a)) (last_is rounds)
-
   leaked_is : (c : Class) (h : Held) → option_map (seed_of pool) (leaked_of c h) ≡ leaked_class c (entry_of pool h)
   leaked_is Origin h = refl
   leaked_is Customer h = refl
@@ -61,52 +47,57 @@ unread None true false = refl
 unread None false true = refl
 unread None false false = refl
 
-module _ (pool : PathPool) (plan : Plan) (xs : List Announced) (rounds : List RoundTables) (round : ℕ) (prefix : PrefixValue) (announced : AreAnnounced pool plan xs) (full : AreRoundsFull pool plan rounds) (number : round ≡ suc (length rounds)) where
-  -- the round is read in which leakers look up
-  leaks_then : (path : Option (List ℕ)) (leaks : Bool) (a : ℕ) → seed_given path leaks (kept_in pool rounds (length rounds) prefix a) ≡ seed_given path (nat_lt 1 round && leaks) (kept_in pool rounds (length rounds) prefix a)
-  leaks_then path leaks a = by rounds number
+module _ (pool : PathPool) (plan : Plan) (xs : List Announced) (rounds : List RoundTables) (cs : List Change) (round : ℕ) (prefix : PrefixValue) (seeds : SeedIds) (put : AreSeedsWith plan xs rounds cs round prefix seeds) (announced : AreAnnounced pool plan xs) where
+  -- in round 1 none leaks, since nothing is held in the round before
+  leaks_then : ((a : ℕ) → held_with rounds cs 0 prefix a ≡ None) → (path : Option (List ℕ)) (leaks : Bool) (a : ℕ) → seed_given path leaks (laid_in pool rounds cs (round - 1) prefix a) ≡ seed_given path (nat_lt 1 round && leaks) (laid_in pool rounds cs (round - 1) prefix a)
+  leaks_then none path leaks a = elim (cases_lt 1 round) [
+    | inl later ↦ ap (λ (b : Bool). seed_given path (b && leaks) (laid_in pool rounds cs (round - 1) prefix a)) (sym (lt-ltb 1 round later))
+    | inr first ↦
+        let zero_is : round - 1 ≡ 0 = omega (arith, first) in
+        let held : laid_in pool rounds cs (round - 1) prefix a ≡ None = ap (λ n. laid_in pool rounds cs n prefix a) zero_is ∙ ap (option_map (entry_of pool)) (none a) in
+        ap (seed_given path leaks) held ∙ unread path leaks (nat_lt 1 round && leaks) ∙ sym (ap (seed_given path (nat_lt 1 round && leaks)) held)
+  ]
+
+  -- the seeds are those of the plan
+  pub seeds_are : ((a : ℕ) → held_with rounds cs 0 prefix a ≡ None) → IsTrue (has_prefix plan prefix) → (a : ℕ) → seeds_of pool seeds a ≡ seeds_in plan round prefix (laid_in pool rounds cs (round - 1) prefix) a
+  seeds_are none known a =
+      let leaks = leaks_in plan round a in
+      let held = held_with rounds cs (round - 1) prefix a in
+      ap (option_map (seed_of pool)) (put a)
+      ∙ seed_is pool (own_path xs prefix a) leaks held
+      ∙ ap (λ path. seed_given path leaks (option_map (entry_of pool) held)) (announced.paths prefix a known)
+      ∙ leaks_then none (announced_path plan prefix a) leaks a
+
+  -- the seeds' paths are live where those are that are held in the round before
+  pub seeds_live : ((a : ℕ) (h : Held) → held_with rounds cs (round - 1) prefix a ≡ Some h → IsLive pool h.path.0) → AreSeedsLive pool seeds
+  seeds_live held_live a s e = by (own_path xs prefix a) refl (leaks_in plan round a) (held_with rounds cs (round - 1) prefix a) refl (sym (put a) ∙ e)
     where
-      by : (ts : List RoundTables) → round ≡ suc (length ts) → seed_given path leaks (kept_in pool ts (length ts) prefix a) ≡ seed_given path (nat_lt 1 round && leaks) (kept_in pool ts (length ts) prefix a)
-      by [] e = unread path leaks (nat_lt 1 round && leaks)
-      by (t ∷ ts) e = ap (λ (b : Bool). seed_given path (b && leaks) (kept_in pool (t ∷ ts) (length (t ∷ ts)) prefix a)) (sym (lt-ltb 1 round (omega (arith, e))))
+      by_class : (h : Held) → held_with rounds cs (round - 1) prefix a ≡ Some h → (c : Class) → leaked_of c h ≡ Some s → IsLive pool s.path.0
+      by_class h at Origin e = cc
+      by_class h at Customer e = cc
+      by_class h at Peer e = let same : h.path ≡ s.path = cc in subst (λ (i : PathId). IsLive pool i.0) same (held_live a h at)
+      by_class h at Provider e = let same : h.path ≡ s.path = cc in subst (λ (i : PathId). IsLive pool i.0) same (held_live a h at)
 
-  module _ (own seeds : SeedIds) (given : (a : ℕ) → seed_at own a ≡ option_map own_seed (own_path xs prefix a)) (leaked : (a : ℕ) → seed_at seeds a ≡ own_or_leaked (seed_at own a) (leaks_in plan round a) (held_last rounds prefix a)) where
-    seed_put : (a : ℕ) → seed_at seeds a ≡ own_or_leaked (option_map own_seed (own_path xs prefix a)) (leaks_in plan round a) (held_last rounds prefix a)
-    seed_put a = leaked a ∙ ap (λ o. own_or_leaked o (leaks_in plan round a) (held_last rounds prefix a)) (given a)
+      by : (o : Option PathId) → own_path xs prefix a ≡ o → (leaks : Bool) (held : Option Held) → held_with rounds cs (round - 1) prefix a ≡ held → own_or_leaked (option_map own_seed o) leaks held ≡ Some s → IsLive pool s.path.0
+      by (Some id) is leaks held at e = let same : id ≡ s.path = cc in subst (λ (i : PathId). IsLive pool i.0) same (announced.live prefix a id is)
+      by None is false held at e = cc
+      by None is true None at e = cc
+      by None is true (Some h) at e = by_class h at h.class e
 
-    -- the seeds are those of the plan
-    pub seeds_are : IsTrue (has_prefix plan prefix) → (a : ℕ) → seeds_of pool seeds a ≡ seeds_in plan round prefix (kept_in pool rounds (length rounds) prefix) a
-    seeds_are known a =
-        let leaks = leaks_in plan round a in
-        ap (option_map (seed_of pool)) (seed_put a)
-        ∙ seed_is pool (own_path xs prefix a) leaks (held_last rounds prefix a)
-        ∙ ap (λ path. seed_given path leaks (option_map (entry_of pool) (held_last rounds prefix a))) (announced.paths prefix a known)
-        ∙ ap (seed_given (announced_path plan prefix a) leaks) (held_is pool rounds prefix a)
-        ∙ leaks_then (announced_path plan prefix a) leaks a
+-- the paths of what is held in the tables of a round are live
+pub held_of-live : (pool : PathPool) (plan : Plan) (rounds : List RoundTables) → AreRoundsFull pool plan rounds → (round : ℕ) (prefix : PrefixValue) (a : ℕ) (h : Held) → held_of rounds round prefix a ≡ Some h → IsLive pool h.path.0
+held_of-live pool plan rounds full round prefix a h e = by (tables_in rounds round) refl e
+  where
+    in_table : (t : RoundTables) → tables_in rounds round ≡ Some t → (o : Option Table) → table_at t prefix ≡ o → option_and_then (λ table. held_at table a) o ≡ Some h → IsLive pool h.path.0
+    in_table t at None is e = cc
+    in_table t at (Some table) is e = (full round t at).live prefix table is a h e
 
-    held_live : (a : ℕ) (h : Held) → held_last rounds prefix a ≡ Some h → IsLive pool h.path.0
-    held_live a h e = by (last_round rounds) (sym (last_is rounds)) e
-      where
-        in_table : (t : RoundTables) → tables_in rounds (length rounds) ≡ Some t → (o : Option Table) → table_at t prefix ≡ o → option_and_then (λ table. held_at table a) o ≡ Some h → IsLive pool h.path.0
-        in_table t at None is e = cc
-        in_table t at (Some table) is e = (full (length rounds) t at).live prefix table is a h e
+    by : (o : Option RoundTables) → tables_in rounds round ≡ o → option_and_then (λ table. held_at table a) (option_and_then (λ t. table_at t prefix) o) ≡ Some h → IsLive pool h.path.0
+    by None at e = cc
+    by (Some t) at e = in_table t at (table_at t prefix) refl e
 
-        by : (o : Option RoundTables) → tables_in rounds (length rounds) ≡ o → option_and_then (λ t. held_in t prefix a) o ≡ Some h → IsLive pool h.path.0
-        by None at e = cc
-        by (Some t) at e = in_table t at (table_at t prefix) refl e
-
-    -- the seeds' paths are live
-    pub seeds_live : AreSeedsLive pool seeds
-    seeds_live a s e = by (own_path xs prefix a) refl (leaks_in plan round a) (held_last rounds prefix a) refl (sym (seed_put a) ∙ e)
-      where
-        by_class : (h : Held) → held_last rounds prefix a ≡ Some h → (c : Class) → leaked_of c h ≡ Some s → IsLive pool s.path.0
-        by_class h at Origin e = cc
-        by_class h at Customer e = cc
-        by_class h at Peer e = let same : h.path ≡ s.path = cc in subst (λ (i : PathId). IsLive pool i.0) same (held_live a h at)
-        by_class h at Provider e = let same : h.path ≡ s.path = cc in subst (λ (i : PathId). IsLive pool i.0) same (held_live a h at)
-
-        by : (o : Option PathId) → own_path xs prefix a ≡ o → (leaks : Bool) (held : Option Held) → held_last rounds prefix a ≡ held → own_or_leaked (option_map own_seed o) leaks held ≡ Some s → IsLive pool s.path.0
-        by (Some id) is leaks held at e = let same : id ≡ s.path = cc in subst (λ (i : PathId). IsLive pool i.0) same (announced.live prefix a id is)
-        by None is false held at e = cc
-        by None is true None at e = cc
-        by None is true (Some h) at e = by_class h at h.class e
+-- without changes the seeds follow from what is kept of the last round
+pub seeds_kept : (pool : PathPool) (plan : Plan) (rounds : List RoundTables) (round : ℕ) (prefix : PrefixValue) → round ≡ suc (length rounds) → (a : ℕ) → seeds_in plan round prefix (laid_in pool rounds [] (round - 1) prefix) a ≡ seeds_in plan round prefix (kept_in pool rounds (length rounds) prefix) a
+seeds_kept pool plan rounds round prefix number a =
+    let last : round - 1 ≡ length rounds = omega (arith, number) in
+    ap (seed_given (announced_path plan prefix a) (nat_lt 1 round && leaks_in plan round a)) (ap (λ n. laid_in pool rounds [] n prefix a) last ∙ sym (kept_is pool rounds (length rounds) prefix a))

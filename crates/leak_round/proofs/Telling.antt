@@ -1,6 +1,6 @@
 -- The triples of round, prefix and AS at which there is a change.
-use Rattle.std.proofs.Common.{◌≡◌, ◌≢◌, ◌⊎◌, inl, inr, ℕ, zero, suc, ◌+◌, ◌<◌, ◌≤◌, Bool, true, false, ◌==◌, cond, Option, Some, None, option_map, nat_eq, List, [], ◌∷◌, ◌++◌, map, length, refl, sym, ap, subst, ◌∙◌, arith}
-use Rattle.std.specs.Prelude.{IsTrue, IsSome, is_some, slice_get}
+use Rattle.std.proofs.Common.{◌≡◌, inl, inr, ℕ, suc, Bool, true, false, ◌==◌, cond, Option, Some, None, nat_eq, List, [], ◌∷◌, ◌++◌, map, length, refl, sym, ap, subst, ◌∙◌, arith}
+use Rattle.std.specs.Prelude.{is_some}
 use Rattle.std.specs.List.{AllByRecursion, IsDistinct as AreDistinct}
 use Rattle.std.proofs.lemmas.Bool.{true≢false, or_cases, eqb-true}
 use Rattle.std.proofs.lemmas.Cmp.{nat_eq_equiv}
@@ -13,7 +13,7 @@ use Rattle.route_choice.specs.declared.round_tables.RoundTables.{RoundTables}
 use Rattle.route_choice.specs.Tables.{change_at, places_of}
 use Rattle.leak_round.specs.declared.changes.Change.{Change}
 use Rattle.leak_round.specs.Entries.{StandsIn, AreApart}
-use Rattle.leak_round.specs.Overlays.{is_at, change_in, changes_count, AreChangesOf, IsListed}
+use Rattle.leak_round.specs.Overlays.{is_at, change_in, changes_count, AreChangesOf}
 use Rattle.leak_round.proofs.Committing.{change_from}
 use Rattle.leak_round.proofs.Counting.{stands_occurs, apart_numbers, from_mapped, apart_mapped, from_appended, apart_appended}
 use Rattle.leak_round.proofs.Laying.{here_true, is_at-true}

@@ -1,5 +1,5 @@
 -- Another plan of seeds beside that of the rounds.
-use Rattle.std.specs.Prelude.{◌≡◌, ℕ, ◌+◌, ◌≤◌, not, Option, Some, List, [], ◌∷◌, ◌++◌, filter, length}
+use Rattle.std.specs.Prelude.{◌≡◌, ℕ, ◌+◌, ◌≤◌, not, Option, Some, option_map, List, [], ◌∷◌, ◌++◌, filter, length}
 use Rattle.std.specs.Option.{option_map_or}
 use Rattle.net_names.specs.Prefixes.{PrefixValue}
 use Rattle.path_pool.specs.declared.path_id.PathId.{PathId}
@@ -8,6 +8,7 @@ use Rattle.path_pool.specs.Pool.{IsLive, list_of, holds_of, count_of, live_count
 use Rattle.stability_laws.specs.declared.seed_plan.edits.SeedEdit.{SeedEdit}
 use Rattle.stability_laws.specs.declared.seed_plan.edits.SeedEdit.TheVariants.{Announce, Withdraw}
 use Rattle.stability_laws.specs.Plans.{Plan, announcer_of}
+use Rattle.stability_laws.specs.SeedEdits.{edited, edit_asn}
 use Rattle.leak_round.specs.declared.announced.Announced.{Announced}
 use Rattle.leak_round.specs.declared.edited.EditedSeeds.{EditedSeeds}
 use Rattle.leak_round.specs.Announced.{is_of, announced_uses, AreAnnounced}
@@ -67,3 +68,27 @@ pub record AreMade (old new : PathPool) (plan after : Plan) (a n : ℕ) (e : Edi
   pub numbers_is : e.numbers ≡ n
   pub few : e.numbers ≤ 64
   pub held : AreHeldToo old new e.announced.items e.numbers
+
+-- the plan of seeds after another one has taken its place, where there is one (own rule)
+abbrev pub seeds_after : Option EditedSeeds → Plan → Plan
+seeds_after edited plan = option_map_or (λ e. e.plan) edited plan
+
+-- the plan of seeds after the edit, where there is one (own rule)
+abbrev pub plan_edited : Option SeedEdit → Plan → Plan
+plan_edited edit plan = option_map_or (λ e. edited plan e) edit plan
+
+-- how many numbers the newly announced path has, where there is one (own rule)
+abbrev pub new_numbers : Option EditedSeeds → ℕ
+new_numbers edited = option_map_or (λ e. e.numbers) edited 0
+
+-- the seeds after an edit, where there is one: its announced paths stand in the pool, each with a hold more, and each path that was live is live and the same (own rule)
+pub record IsEdited (old new : PathPool) (plan : Plan) (edit : Option SeedEdit) (o : Option EditedSeeds) : Type 0 where
+  pub seeds : AreEdited new plan o
+  pub plan_is : seeds_after o plan ≡ plan_edited edit plan
+  pub asn_is : option_map (λ e. e.asn) o ≡ option_map edit_asn edit
+  pub numbers_is : new_numbers o ≡ option_map_or edit_numbers edit 0
+  pub few : new_numbers o ≤ 64
+  pub holds : (k : ℕ) → holds_of new k ≡ holds_of old k + edited_uses o k
+  pub keeps : KeepsPaths old new
+  pub cells : live_count new ≤ live_count old + new_numbers o
+  pub counts : (k : ℕ) → count_of new k ≤ count_of old k + 129

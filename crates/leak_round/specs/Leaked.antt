@@ -1,25 +1,18 @@
 -- What leakers put in.
-use Rattle.std.specs.Prelude.{ℕ, ◌-◌, Bool, true, false, Option, None, Some, option_and_then, List, length, slice_get}
+use Rattle.std.specs.Prelude.{◌≡◌, ℕ, ◌-◌, Bool, true, false, Option, None, Some, option_map, List}
 use Rattle.net_names.specs.Prefixes.{PrefixValue}
 use Rattle.net_names.specs.declared.routes.Class.{Class}
 use Rattle.net_names.specs.declared.routes.Class.TheVariants.{Origin, Customer, Peer, Provider}
+use Rattle.stability_laws.specs.Plans.{Plan, leaks_in}
 use Rattle.route_choice.specs.declared.held.Held.{Held}
 use Rattle.route_choice.specs.declared.held.SeedHeld.{SeedHeld}
 use Rattle.route_choice.specs.declared.round_tables.RoundTables.{RoundTables}
-use Rattle.route_choice.specs.Tables.{held_at}
-use Rattle.route_choice.specs.RoundTables.{table_at}
-
--- what an AS holds of a prefix in the tables of a round (own rule)
-abbrev pub held_in : RoundTables → PrefixValue → ℕ → Option Held
-held_in tables prefix a = option_and_then (λ table. held_at table a) (table_at tables prefix)
-
--- the tables of the last round, if there is one (own rule)
-abbrev pub last_round : List RoundTables → Option RoundTables
-last_round rounds = slice_get rounds (length rounds - 1)
-
--- what an AS holds of a prefix in the last round, if there is one (own rule)
-abbrev pub held_last : List RoundTables → PrefixValue → ℕ → Option Held
-held_last rounds prefix a = option_and_then (λ tables. held_in tables prefix a) (last_round rounds)
+use Rattle.route_choice.specs.declared.seeds.SeedIds.{SeedIds}
+use Rattle.route_choice.specs.Tables.{seed_at}
+use Rattle.leak_round.specs.declared.announced.Announced.{Announced}
+use Rattle.leak_round.specs.declared.changes.Change.{Change}
+use Rattle.leak_round.specs.Announced.{own_path, own_seed}
+use Rattle.leak_round.specs.Overlays.{held_with}
 
 -- what a leaker puts in of an entry of this class: its path and number, where a peer or a provider gave it (RFC 7908, section 3)
 abbrev pub leaked_of : Class → Held → Option SeedHeld
@@ -38,3 +31,8 @@ abbrev pub own_or_leaked : Option SeedHeld → Bool → Option Held → Option S
 own_or_leaked (Some s) leaks held = Some s
 own_or_leaked None false held = None
 own_or_leaked None true held = leaked_by held
+
+-- the seeds of a prefix in a round: the announced paths, and what each leaker leaks of what it holds in the round before with the changes in place, unless it announces the prefix (RFC 7908, section 3)
+abbrev pub AreSeedsWith : Plan → List Announced → List RoundTables → List Change → ℕ → PrefixValue → SeedIds → Type 0
+AreSeedsWith plan announced rounds changes round prefix seeds =
+    (a : ℕ) → seed_at seeds a ≡ own_or_leaked (option_map own_seed (own_path announced prefix a)) (leaks_in plan round a) (held_with rounds changes (round - 1) prefix a)

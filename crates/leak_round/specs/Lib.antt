@@ -1,12 +1,15 @@
 pub mod Limits
 pub mod Announced
-pub mod Leaked
 pub mod Growth
 pub mod Entries
 pub mod Changes
 pub mod Tables
 pub mod Touched
 pub mod Overlays
+pub mod Leaked
+pub mod Differing
+pub mod Bounds
+pub mod Planning
 pub mod Edited
 pub mod Rounds
 pub mod Plans

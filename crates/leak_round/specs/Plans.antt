@@ -1,21 +1,19 @@
 -- What contracts see of a plan for rounds, and when it is the open one.
-use Rattle.std.specs.Prelude.{◌≡◌, ◌≢◌, ◌⊎◌, ℕ, suc, zero, ◌+◌, ◌≤◌, Bool, true, IsTrue, Option, None, Some, is_some, option_map, unwrap_or, List, []}
+use Rattle.std.specs.Prelude.{◌≡◌, ◌≢◌, ◌⊎◌, ℕ, suc, zero, ◌+◌, ◌≤◌, Bool, true, IsTrue, Option, Some, is_some, option_map, List, []}
 use Rattle.std.specs.List.{slice_get}
 use Rattle.std.specs.Option.{option_map_or}
 use Rattle.std.specs.Ordering.{nat_cmp}
-use Rattle.std.specs.FinMap as fin
-use Rattle.net_names.specs.declared.numbers.Asn.{Asn}
 use Rattle.net_names.specs.Prefixes.{PrefixValue}
-use Rattle.path_pool.specs.declared.pool.PathPool.{PathPool}
 use Rattle.path_pool.specs.Pool.{holds_of, live_count}
 use Rattle.stability_laws.specs.declared.entry.Entry.{Entry}
 use Rattle.stability_laws.specs.Plans.{Plan, ListsRising}
 use Rattle.leak_round.specs.declared.plans.RoundsPlan.{RoundsPlan}
 use Rattle.leak_round.specs.declared.plans.RoundsDone.{RoundsDone}
 use Rattle.leak_round.specs.declared.rounds.Rounds.{Rounds}
+use Rattle.leak_round.specs.Bounds.{Course}
 use Rattle.leak_round.specs.Edited.{edited_uses, AreEdited}
 use Rattle.leak_round.specs.Overlays.{change_in, laid_in, changes_uses, changes_count, AreChangesOf, AreFew}
-use Rattle.leak_round.specs.Rounds.{is_open, plan_of, pool_of, round_count, kept, announced_of, uses_of}
+use Rattle.leak_round.specs.Rounds.{is_open, plan_of, pool_of, round_count, kept, uses_of}
 
 -- what the plan has at the AS for the prefix in the round is a change (own rule)
 abbrev pub is_changed : RoundsPlan → ℕ → PrefixValue → ℕ → Bool
@@ -65,3 +63,7 @@ pub record IsOpenPlan (r : Rounds) (p : RoundsPlan) : Type 0 where
   pub count : count_told p.done ≡ changes_count p.changes.items
   pub told : (round : ℕ) → 1 ≤ round → round ≤ round_count r → ListsRising nat_cmp (IsTold p round) (ases_told p.done round)
   pub cells : live_count (pool_of r) ≤ cells_before p + count_told p.done + numbers_added p
+
+-- the edit as the plan has it: the plans of seeds, and what is kept before it and with it (own rule)
+abbrev pub course : Rounds → RoundsPlan → (PrefixValue → ℕ → Bool) → Course
+course r p touched = record { plan = plan_of r; after = plan_after r p; old = kept r; new = kept_with r p; touched = touched; changed = is_changed p }

@@ -18,8 +18,8 @@ ghost use Rattle.leak_round.specs.Entries.{HasEntries, of_round};
 ghost use Rattle.leak_round.specs.Growth.{KeepsPaths, GrowsBy, HasRoomFor};
 ghost use Rattle.leak_round.specs.Tables.{kept_in, AreFull, AreRoundsFull, IsRound};
 
-use crate::announced::{Announced, announced_seeds};
-use crate::leaked::leak_all;
+use crate::announced::Announced;
+use crate::round_seeds::seeds_with;
 use as_graph::Graph;
 use net_names::{NoMemory, Prefix};
 use path_pool::PathPool;
@@ -64,8 +64,7 @@ fn make_table<P: RoutePolicy, V: OriginStates, L: Ledger>(
     ensures small { IfOk result (λ t. (k : ℕ) → table_uses t k ≤ 150000) }
 {
     let _count = graph.as_count();
-    let mut seeds = announced_seeds(alloc, announced, prefix)?;
-    leak_all(plan, prefix, round, earlier, &mut seeds)?;
+    let seeds = seeds_with(alloc, plan, announced, earlier, &[], round, prefix)?;
     match propagate(
         alloc, graph, ranks, book, states, prefix, &seeds, pool, steps,
     ) {

@@ -18,6 +18,7 @@ ghost use Rattle.leak_round.specs.Growth.{KeepsPaths, HasRoomFor};
 ghost use Rattle.leak_round.specs.Tables.{kept_in, entry_uses, AreRoundsFull};
 
 mod commits;
+mod planning;
 mod tidying;
 
 use crate::announced::{Announced, announce_all};

@@ -1,4 +1,4 @@
-use Rattle.std.proofs.Common.{◌≡◌, ℕ, ◌+◌, ◌≤◌, take}
+use Rattle.std.proofs.Common.{◌≡◌, ℕ, ◌+◌, take}
 use Rattle.path_pool.specs.Pool.{holds_of}
 use Rattle.route_choice.specs.Holds.{GivesBack}
 use Rattle.leak_round.specs.Announced.{announced_uses}

@@ -1,9 +1,10 @@
-use Rattle.std.proofs.Common.{◌≡◌, ◌<◌, ◌≤◌, Some, length, sym, ap, ◌∙◌, arith}
+use Rattle.std.proofs.Common.{◌≡◌, ◌-◌, ◌<◌, ◌≤◌, Some, length, sym, ap, ◌∙◌, arith}
 use Rattle.std.specs.Prelude.{slice_get, IsTrue}
 use Rattle.std.proofs.lemmas.Option.{slice_get_within}
 use Rattle.stability_laws.specs.Plans.{leaks_in, leakers_of}
 use Rattle.route_choice.specs.Tables.{seed_at}
-use Rattle.leak_round.specs.Leaked.{held_last, own_or_leaked}
+use Rattle.leak_round.specs.Leaked.{own_or_leaked}
+use Rattle.leak_round.specs.Overlays.{held_with}
 use Rattle.leak_round.proofs.Listing.{place_le}
 use Rattle.leak_round.proofs.Leaking.{occurs-listed, leaked_more}
 use Rattle.leak_round.proofs.leaked.leak_all.Goals as goal
@@ -25,7 +26,7 @@ leakers-preserved c =
     let xs = leakers_of c.args.plan.now c.args.round in
     let at : slice_get xs c.leakers.place ≡ Some c.in-Some.asn = sym c.in-Some.ensures.value in
     record {
-      so_far = leaked_more (seed_at c.args.seeds.now) (seed_at c.leakers.seeds) (seed_at c.leak.new.seeds) (held_last c.args.earlier.now c.args.prefix) xs c.leakers.place c.in-Some.asn at c.leakers.invariant.so_far c.in_ok-leak.ensures.this c.in_ok-leak.ensures.others;
+      so_far = leaked_more (seed_at c.args.seeds.now) (seed_at c.leakers.seeds) (seed_at c.leak.new.seeds) (held_with c.args.tables.now c.args.changes.now (c.args.round - 1) c.args.prefix) xs c.leakers.place c.in-Some.asn at c.leakers.invariant.so_far c.in_ok-leak.ensures.this c.in_ok-leak.ensures.others;
       within = (let within = slice_get_within xs c.leakers.place c.in-Some.asn at in omega (arith, within));
     }
 
@@ -33,5 +34,5 @@ pub returns : goal.returns
 returns c = λ a.
     let xs = leakers_of c.args.plan.now c.args.round in
     c.leakers.invariant.so_far a
-    ∙ ap (λ b. own_or_leaked (seed_at c.args.seeds.now a) b (held_last c.args.earlier.now c.args.prefix a))
+    ∙ ap (λ b. own_or_leaked (seed_at c.args.seeds.now a) b (held_with c.args.tables.now c.args.changes.now (c.args.round - 1) c.args.prefix a))
     (occurs-listed (leaks_in c.args.plan.now c.args.round) xs c.leaker_at.ensures.listed c.leakers.place (sym c.leaker_at.ensures.value ∙ c.in_default.is) a)

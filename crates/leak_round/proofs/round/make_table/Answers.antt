@@ -1,4 +1,4 @@
-use Rattle.std.proofs.Common.{ℕ, ◌≤◌, Option, None, Some, option_map, length, refl, subst, arith}
+use Rattle.std.proofs.Common.{ℕ, ◌-◌, ◌≤◌, Option, None, Some, option_map, [], length, refl, subst, ◌∙◌, arith}
 use Rattle.std.specs.Prelude.{IsSome}
 use Rattle.stability_laws.specs.declared.entry.Seed.{Seed}
 use Rattle.stability_laws.specs.Stable.{IsStable}
@@ -7,7 +7,7 @@ use Rattle.route_choice.specs.declared.held.Held.{Held}
 use Rattle.route_choice.specs.Routings.{entry_of, table_routing}
 use Rattle.route_choice.specs.Tables.{held_at}
 use Rattle.path_pool.specs.declared.pool.PathPool.{PathPool}
-use Rattle.leak_round.proofs.Seeding.{seeds_are, seeds_live}
+use Rattle.leak_round.proofs.Seeding.{held_of-live, seeds_are, seeds_kept, seeds_live}
 use Rattle.leak_round.proofs.Counting.{table_entries, few_entries}
 use Rattle.leak_round.proofs.round.make_table.Goals as goal
 
@@ -17,7 +17,8 @@ routed pool (Some x) h = refl
 
 pub propagate-requires-clause-seeds : goal.propagate-requires-clause-seeds
 propagate-requires-clause-seeds g c =
-    seeds_live c.args.pool.now c.args.plan.now c.args.announced.now c.args.earlier.now c.args.round c.args.prefix c.requires.announced c.requires.earlier c.requires.round c.in_ok-seeds.seeds c.leak_all.new.seeds c.in_ok-seeds.ensures c.in_ok-leak_all.ensures
+    seeds_live c.args.pool.now c.args.plan.now c.args.announced.now c.args.earlier.now [] c.args.round c.args.prefix c.in_ok-seeds.seeds c.in_ok-seeds.ensures c.requires.announced
+    (λ a h e. held_of-live c.args.pool.now c.args.plan.now c.args.earlier.now c.requires.earlier (c.args.round - 1) c.args.prefix a h e)
 
 pub propagate-requires-clause-counts : goal.propagate-requires-clause-counts
 propagate-requires-clause-counts g c = λ k. omega (arith, c.requires.room.counts k)
@@ -27,7 +28,9 @@ propagate-requires-clause-room g c = omega (arith, c.requires.room.cells, c.as_c
 
 pub returns-in-Ok-clause-stable : goal.returns-in-Ok-clause-stable
 returns-in-Ok-clause-stable g c =
-    let same = seeds_are c.args.pool.now c.args.plan.now c.args.announced.now c.args.earlier.now c.args.round c.args.prefix c.requires.announced c.requires.earlier c.requires.round c.in_ok-seeds.seeds c.leak_all.new.seeds c.in_ok-seeds.ensures c.in_ok-leak_all.ensures c.requires.known in
+    let pool = c.args.pool.now in let plan = c.args.plan.now in let earlier = c.args.earlier.now in
+    let same = λ (a : ℕ). seeds_are pool plan c.args.announced.now earlier [] c.args.round c.args.prefix c.in_ok-seeds.seeds c.in_ok-seeds.ensures c.requires.announced (λ b. refl) c.requires.known a
+    ∙ seeds_kept pool plan earlier c.args.round c.args.prefix c.requires.round a in
     let F : (ℕ → Option Seed) → Type 0 = λ s. IsStable (setting g.P.RoutePolicy.meaning c.args.graph.now c.args.book.now (g.V.OriginStates.state_of c.args.states.now c.args.prefix)) s (table_routing c.propagate.new.pool c.in-Ok.table) in
     subst F (λ i a. same a i) c.in-Ok.ensures.stable
 

@@ -1,5 +1,4 @@
-use Rattle.std.proofs.Common.{◌≡◌, ℕ, ◌+◌, List, sym, ap, subst, ◌∙◌, arith}
-use Rattle.net_names.specs.Prefixes.{PrefixValue}
+use Rattle.std.proofs.Common.{◌≡◌, ℕ, List, sym, ap, subst, ◌∙◌, arith}
 use Rattle.stability_laws.specs.Plans.{Plan}
 use Rattle.stability_laws.proofs.KeyLists.{keys_listed}
 use Rattle.stability_laws.proofs.PlanOrders.{prefixes_total, exact_prefix}

@@ -1,0 +1,41 @@
+use Rattle.std.proofs.Common.{◌+◌, ◌*◌, [], List, length, sym, subst, arith}
+use Rattle.net_names.specs.Prefixes.{PrefixValue}
+use Rattle.stability_laws.specs.World.{setting}
+use Rattle.stability_laws.specs.Plans.{prefixes_of}
+use Rattle.leak_round.specs.declared.changes.Change.{Change}
+use Rattle.leak_round.specs.Planning.{ArePlanned, AreRoundsPlanned, IsPaid}
+use Rattle.leak_round.specs.Touched.{touches}
+use Rattle.leak_round.proofs.Paying.{paid_itself, paid_on}
+use Rattle.leak_round.proofs.Roomed.{same_itself, same_on}
+use Rattle.leak_round.proofs.Turns.{can_still, none_planned, planned_none}
+use Rattle.leak_round.proofs.planning.plan_rounds.Goals as goal
+
+pub loop-past-init : goal.loop-past-init
+loop-past-init g c =
+    let w = (λ (p : PrefixValue). setting g.P.RoutePolicy.meaning c.args.graph.now c.args.book.now (g.V.OriginStates.state_of c.args.states.now p)) in
+    let none = sym c.requires.none in
+    record {
+      planned = subst (λ (zs : List Change). ArePlanned w c.args.graph.now (touches c.args.touched.now) c.args.plan.now c.args.after.now c.args.pool.now c.args.tables.now.items zs c.args.steps.now c.args.steps.now) none
+          (planned_none w c.args.graph.now (touches c.args.touched.now) c.args.plan.now c.args.after.now c.args.pool.now c.args.tables.now.items c.args.steps.now);
+      past_planned = subst (λ (zs : List Change). AreRoundsPlanned c.args.plan.now zs 0) none (none_planned c.args.plan.now);
+      paid = subst (λ (zs : List Change). IsPaid c.args.pool.now c.args.pool.now [] zs (0 * length (prefixes_of c.args.plan.now))) none (paid_itself c.args.pool.now [] (0 * length (prefixes_of c.args.plan.now)));
+      same = same_itself c.args.tables.now.items;
+    }
+
+pub plan_round-requires-clause-can : goal.plan_round-requires-clause-can
+plan_round-requires-clause-can g c = can_still (λ (p : PrefixValue). setting g.P.RoutePolicy.meaning c.args.graph.now c.args.book.now (g.V.OriginStates.state_of c.args.states.now p)) c.args.graph.now (touches c.args.touched.now) c.args.plan.now c.args.after.now c.args.announced.now c.args.announced_after.now c.args.pool.now c.loop-past.pool c.args.tables.now.items c.loop-past.tables.items c.requires.can c.loop-past.invariant.paid.keeps c.loop-past.invariant.same
+
+pub returns-in_err-plan_round-clause-same : goal.returns-in_err-plan_round-clause-same
+returns-in_err-plan_round-clause-same g c = same_on c.args.tables.now.items c.loop-past.tables.items c.plan_round.new.tables.items c.loop-past.invariant.same c.plan_round.ensures.same
+
+pub loop-past-preserved : goal.loop-past-preserved
+loop-past-preserved g c =
+    let size = length (prefixes_of c.args.plan.now) in
+    let old = c.loop-past.invariant in
+    let now = c.in_ok-plan_round.ensures in
+    record {
+      planned = now.planned c.args.steps.now old.planned;
+      past_planned = now.more;
+      paid = paid_on c.args.pool.now c.loop-past.pool c.plan_round.new.pool [] c.loop-past.changes.items c.plan_round.new.changes.items (c.loop-past.past * size) size ((c.loop-past.past + 1) * size) old.paid now.paid (omega arith);
+      same = same_on c.args.tables.now.items c.loop-past.tables.items c.plan_round.new.tables.items old.same now.same;
+    }

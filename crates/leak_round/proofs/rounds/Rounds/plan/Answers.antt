@@ -1,0 +1,183 @@
+use Rattle.std.proofs.Common.{List, refl, sym, subst, ◌∙◌, arith}
+use Rattle.std.specs.Option.{option_copied}
+use Rattle.std.proofs.lemmas.Bool.{true≢false}
+use Rattle.net_names.specs.Prefixes.{PrefixValue}
+use Rattle.stability_laws.specs.World.{setting}
+use Rattle.leak_round.specs.declared.announced.Announced.{Announced}
+use Rattle.leak_round.specs.Announced.{AreAnnounced}
+use Rattle.leak_round.specs.Edited.{announced_after, seeds_after}
+use Rattle.leak_round.specs.Planning.{CanPlan, AreRoundsPlanned}
+use Rattle.leak_round.specs.Touched.{touches}
+use Rattle.leak_round.proofs.Keeping.{announced_kept, keeps_on, rounds_full_kept}
+use Rattle.leak_round.proofs.Opening.{few_laid, laid_differs, rounds_stable, steps_enough}
+use Rattle.leak_round.proofs.Roomed.{kept_same, same_itself}
+use Rattle.leak_round.proofs.Sizes.{changes_room, counts_few}
+use Rattle.leak_round.proofs.Starting.{can_start, edited_kept, prefixes_stay}
+use Rattle.leak_round.proofs.Undoing.{all_undone, announced_stay, full_stay, holds_stay, kept_stays}
+use Rattle.leak_round.proofs.rounds.Rounds.plan.Goals as goal
+
+pub edit_if_any-requires-clause-announced : goal.edit_if_any-requires-clause-announced
+edit_if_any-requires-clause-announced g c = subst (AreAnnounced c.args.self.now.pool c.args.self.now.plan) (sym c.deref.ensures.value) c.args.self.now.announcements
+
+pub edit_if_any-requires-clause-counts : goal.edit_if_any-requires-clause-counts
+edit_if_any-requires-clause-counts g c =
+    let r = c.args.self.now in
+    λ k. (let few = counts_few r.pool r.plan r.announced.items r.tables.items r.limits r.announcements r.full r.few (r.closed c.requires.closed) c.requires.few_cells k in omega (arith, few))
+
+pub plan_and_tell-requires-clause-can : goal.plan_and_tell-requires-clause-can
+plan_and_tell-requires-clause-can g c =
+    let r = c.args.self.now in
+    let w = (λ (p : PrefixValue). setting g.P.RoutePolicy.meaning c.args.graph.now c.args.book.now (g.V.OriginStates.state_of c.args.states.now p)) in
+    subst (λ (xs : List Announced). CanPlan w c.args.graph.now (touches c.args.touched.now) r.plan (seeds_after c.in_ok-edited.edited r.plan) xs (announced_after c.in_ok-edited.edited xs) c.edit_if_any.new.pool r.tables.items) (sym c.deref-2.ensures.value)
+    (can_start r.plan r.announced.items r.pool c.edit_if_any.new.pool r.limits r.announcements (option_copied c.args.edit) c.in_ok-edited.edited c.in_ok-edited.ensures.made w c.args.graph.now (touches c.args.touched.now) r.tables.items r.full (λ p b. refl) c.requires.announcers c.requires.entries c.requires.right)
+
+pub plan_and_tell-requires-clause-room : goal.plan_and_tell-requires-clause-room
+plan_and_tell-requires-clause-room g c =
+    let r = c.args.self.now in
+    let made = c.in_ok-edited.ensures.made in
+    changes_room r.pool r.plan r.announced.items r.tables.items r.limits r.announcements r.full r.few (r.closed c.requires.closed) c.requires.few_cells c.edit_if_any.new.pool (c.edit_if_any.ensures.limit ∙ r.cells) (omega (arith, made.cells, made.few)) made.counts
+
+pub plan_and_tell-requires-clause-held : goal.plan_and_tell-requires-clause-held
+plan_and_tell-requires-clause-held g c = λ k. omega (arith, c.in_ok-edited.ensures.made.holds k, c.args.self.now.held k)
+
+pub invariant_of-self-in-Ok : goal.invariant_of-self-in-Ok
+invariant_of-self-in-Ok g c =
+    let r = c.args.self.now in
+    let made = c.in_ok-edited.ensures.made in
+    let next = c.edit_if_any.new.pool in
+    let pool = c.plan_and_tell.new.pool in
+    let now = c.in-Ok.ensures in
+    record {
+      announcements = announced_kept r.pool pool (keeps_on r.pool next pool made.keeps now.paid.keeps) r.plan r.announced.items r.announcements;
+      full = now.same.full pool r.plan (rounds_full_kept r.pool pool (keeps_on r.pool next pool made.keeps now.paid.keeps) r.plan r.tables.items r.full);
+      held = λ k. omega (arith, now.paid.holds k, made.holds k, r.closed c.requires.closed k, now.same.uses k);
+      closed = λ shut. absurd (true≢false shut);
+      limits = r.limits;
+      few = omega (arith, r.few, now.same.count);
+      cells = now.paid.grows.limit ∙ c.edit_if_any.ensures.limit ∙ r.cells;
+    }
+
+pub returns-in-Ok-clause-open : goal.returns-in-Ok-clause-open
+returns-in-Ok-clause-open g c =
+    let r = c.args.self.now in
+    let made = c.in_ok-edited.ensures.made in
+    let next = c.edit_if_any.new.pool in
+    let pool = c.plan_and_tell.new.pool in
+    let now = c.in-Ok.ensures in
+    let full = (now.same.full pool r.plan (rounds_full_kept r.pool pool (keeps_on r.pool next pool made.keeps now.paid.keeps) r.plan r.tables.items r.full)) in
+    let more = (subst (AreRoundsPlanned r.plan c.plan_and_tell.new.changes.items) (sym now.same.count) now.more) in
+    record {
+      planned = refl;
+      holds = λ k. omega (arith, now.paid.holds k, made.holds k, r.closed c.requires.closed k, now.same.uses k);
+      changes = now.planned.changes;
+      differs = laid_differs (λ (p : PrefixValue). setting g.P.RoutePolicy.meaning c.args.graph.now c.args.book.now (g.V.OriginStates.state_of c.args.states.now p)) c.args.graph.now (touches c.args.touched.now) r.plan (seeds_after c.in_ok-edited.edited r.plan) pool c.plan_and_tell.new.tables.items c.plan_and_tell.new.changes.items c.args.steps.now c.plan_and_tell.new.steps now.planned more full;
+      few = few_laid (λ (p : PrefixValue). setting g.P.RoutePolicy.meaning c.args.graph.now c.args.book.now (g.V.OriginStates.state_of c.args.states.now p)) c.args.graph.now (touches c.args.touched.now) r.plan (seeds_after c.in_ok-edited.edited r.plan) pool c.plan_and_tell.new.tables.items c.plan_and_tell.new.changes.items c.args.steps.now c.plan_and_tell.new.steps now.planned more full (omega (arith, c.as_count-count.ensures.value, c.as_count-count.ensures.few)) (λ p b. refl);
+      edited = edited_kept next pool r.plan c.in_ok-edited.edited now.paid.keeps made.seeds;
+      count = now.count;
+      told = λ round from to. now.told round from (omega (arith, to, now.same.count));
+      cells = omega (arith, now.paid.cells, made.cells, now.count, c.live-before.ensures.value);
+    }
+
+pub returns-in-Ok-clause-edited : goal.returns-in-Ok-clause-edited
+returns-in-Ok-clause-edited g c = c.in_ok-edited.ensures.made.plan_is
+
+pub returns-in-Ok-clause-asn : goal.returns-in-Ok-clause-asn
+returns-in-Ok-clause-asn g c = c.in_ok-edited.ensures.made.asn_is
+
+pub returns-in-Ok-clause-numbers : goal.returns-in-Ok-clause-numbers
+returns-in-Ok-clause-numbers g c = c.in_ok-edited.ensures.made.numbers_is
+
+pub returns-in-Ok-clause-stable : goal.returns-in-Ok-clause-stable
+returns-in-Ok-clause-stable g c =
+    let r = c.args.self.now in
+    let made = c.in_ok-edited.ensures.made in
+    let next = c.edit_if_any.new.pool in
+    let pool = c.plan_and_tell.new.pool in
+    let now = c.in-Ok.ensures in
+    let full = (now.same.full pool r.plan (rounds_full_kept r.pool pool (keeps_on r.pool next pool made.keeps now.paid.keeps) r.plan r.tables.items r.full)) in
+    rounds_stable (λ (p : PrefixValue). setting g.P.RoutePolicy.meaning c.args.graph.now c.args.book.now (g.V.OriginStates.state_of c.args.states.now p)) c.args.graph.now (touches c.args.touched.now) r.plan (seeds_after c.in_ok-edited.edited r.plan) pool c.plan_and_tell.new.tables.items c.plan_and_tell.new.changes.items c.args.steps.now c.plan_and_tell.new.steps now.planned (subst (AreRoundsPlanned r.plan c.plan_and_tell.new.changes.items) (sym now.same.count) now.more) full (prefixes_stay r.plan r.announced.items r.pool next r.limits r.announcements (option_copied c.args.edit) c.in_ok-edited.edited made)
+
+pub returns-in-Ok-clause-enough : goal.returns-in-Ok-clause-enough
+returns-in-Ok-clause-enough g c =
+    let r = c.args.self.now in
+    let made = c.in_ok-edited.ensures.made in
+    let next = c.edit_if_any.new.pool in
+    let pool = c.plan_and_tell.new.pool in
+    let now = c.in-Ok.ensures in
+    let full = (now.same.full pool r.plan (rounds_full_kept r.pool pool (keeps_on r.pool next pool made.keeps now.paid.keeps) r.plan r.tables.items r.full)) in
+    steps_enough (λ (p : PrefixValue). setting g.P.RoutePolicy.meaning c.args.graph.now c.args.book.now (g.V.OriginStates.state_of c.args.states.now p)) c.args.graph.now (touches c.args.touched.now) r.plan (seeds_after c.in_ok-edited.edited r.plan) pool c.plan_and_tell.new.tables.items c.plan_and_tell.new.changes.items c.args.steps.now c.plan_and_tell.new.steps now.planned (subst (AreRoundsPlanned r.plan c.plan_and_tell.new.changes.items) (sym now.same.count) now.more) full
+
+pub returns-in-Ok-clause-rounds : goal.returns-in-Ok-clause-rounds
+returns-in-Ok-clause-rounds g c = c.in-Ok.ensures.same.count
+
+pub returns-in-Ok-clause-kept : goal.returns-in-Ok-clause-kept
+returns-in-Ok-clause-kept g c =
+    let r = c.args.self.now in
+    let made = c.in_ok-edited.ensures.made in
+    let next = c.edit_if_any.new.pool in
+    let pool = c.plan_and_tell.new.pool in
+    let now = c.in-Ok.ensures in
+    kept_same r.plan r.pool pool r.tables.items c.plan_and_tell.new.tables.items (keeps_on r.pool next pool made.keeps now.paid.keeps) now.same r.full
+
+pub undo_changes-requires : goal.undo_changes-requires
+undo_changes-requires g c = λ k. omega (arith, c.plan_and_tell.ensures.cut.holds k)
+
+pub drop_seeds-requires : goal.drop_seeds-requires
+drop_seeds-requires g c = λ k. omega (arith, c.undo_changes.ensures.holds k, c.plan_and_tell.ensures.cut.holds k, c.in_ok-edited.ensures.made.holds k)
+
+pub invariant_of-self-in-Err : goal.invariant_of-self-in-Err
+invariant_of-self-in-Err g c =
+    let r = c.args.self.now in
+    let made = c.in_ok-edited.ensures.made in
+    let cut = c.plan_and_tell.ensures.cut in
+    let same = c.plan_and_tell.ensures.same in
+    let pool = c.drop_seeds.new.pool in
+    let undone = all_undone r.pool c.edit_if_any.new.pool c.plan_and_tell.new.pool c.undo_changes.new.pool pool c.plan_and_tell.new.changes.items c.in_ok-edited.edited made.keeps made.holds cut c.undo_changes.ensures.back c.undo_changes.ensures.holds c.drop_seeds.ensures.back c.drop_seeds.ensures.holds in
+    let holds = holds_stay r.pool pool r.plan r.announced.items r.tables.items c.plan_and_tell.new.tables.items undone same (r.closed c.requires.closed) in
+    record {
+      announcements = announced_stay r.pool pool r.plan r.announced.items r.tables.items c.plan_and_tell.new.tables.items undone same (r.closed c.requires.closed) r.announcements;
+      full = full_stay r.pool pool r.plan r.announced.items r.tables.items c.plan_and_tell.new.tables.items undone same (r.closed c.requires.closed) r.full;
+      held = λ k. omega (arith, holds k);
+      closed = λ shut k. holds k;
+      limits = r.limits;
+      few = omega (arith, r.few, same.count);
+      cells = c.drop_seeds.ensures.back.limit ∙ c.undo_changes.ensures.back.limit ∙ cut.limit ∙ c.edit_if_any.ensures.limit ∙ r.cells;
+    }
+
+pub returns-in-Err-clause-kept : goal.returns-in-Err-clause-kept
+returns-in-Err-clause-kept g c =
+    let r = c.args.self.now in
+    let made = c.in_ok-edited.ensures.made in
+    let cut = c.plan_and_tell.ensures.cut in
+    let same = c.plan_and_tell.ensures.same in
+    let pool = c.drop_seeds.new.pool in
+    let undone = all_undone r.pool c.edit_if_any.new.pool c.plan_and_tell.new.pool c.undo_changes.new.pool pool c.plan_and_tell.new.changes.items c.in_ok-edited.edited made.keeps made.holds cut c.undo_changes.ensures.back c.undo_changes.ensures.holds c.drop_seeds.ensures.back c.drop_seeds.ensures.holds in
+    kept_stays r.pool pool r.plan r.announced.items r.tables.items c.plan_and_tell.new.tables.items undone same (r.closed c.requires.closed)
+
+pub returns-in-Err-clause-rounds : goal.returns-in-Err-clause-rounds
+returns-in-Err-clause-rounds g c = c.plan_and_tell.ensures.same.count
+
+pub invariant_of-self : goal.invariant_of-self
+invariant_of-self g c =
+    let r = c.args.self.now in
+    let pool = c.edit_if_any.new.pool in
+    let same = same_itself r.tables.items in
+    let undone = c.in_err-edited.ensures.err in
+    let holds = holds_stay r.pool pool r.plan r.announced.items r.tables.items r.tables.items undone same (r.closed c.requires.closed) in
+    record {
+      announcements = announced_stay r.pool pool r.plan r.announced.items r.tables.items r.tables.items undone same (r.closed c.requires.closed) r.announcements;
+      full = full_stay r.pool pool r.plan r.announced.items r.tables.items r.tables.items undone same (r.closed c.requires.closed) r.full;
+      held = λ k. omega (arith, holds k);
+      closed = λ shut k. holds k;
+      limits = r.limits;
+      few = omega (arith, r.few, same.count);
+      cells = c.edit_if_any.ensures.limit ∙ r.cells;
+    }
+
+pub returns-in_err-edited-clause-kept : goal.returns-in_err-edited-clause-kept
+returns-in_err-edited-clause-kept g c =
+    let r = c.args.self.now in
+    let pool = c.edit_if_any.new.pool in
+    let same = same_itself r.tables.items in
+    let undone = c.in_err-edited.ensures.err in
+    kept_stays r.pool pool r.plan r.announced.items r.tables.items r.tables.items undone same (r.closed c.requires.closed)

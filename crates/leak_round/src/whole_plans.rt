@@ -1,0 +1,175 @@
+//! The changes of all tables after an edit, also of who announces what.
+
+ghost use Rattle.std.specs.Prelude.{◌≡◌, ℕ, ◌+◌, ◌*◌, ◌≤◌, [], Some, length, option_map, IfOk, OnOk, OnErr};
+ghost use Rattle.std.specs.Option.{option_copied};
+ghost use Rattle.std.specs.Ordering.{nat_cmp};
+ghost use Rattle.as_graph.specs.Topology.{what};
+ghost use Rattle.as_graph.specs.Hierarchy.{HasNoProviderCycle, IsRank};
+ghost use Rattle.path_pool.specs.Pool.{holds_of, count_of, live_count, limit_of};
+ghost use Rattle.rank_order.specs.Plans.{rank_after, IsLastPlan};
+ghost use Rattle.stability_laws.specs.declared.seed_plan.edits.SeedEdit.{SeedEdit as AnEdit};
+ghost use Rattle.stability_laws.specs.Plans.{ListsRising, prefixes_of};
+ghost use Rattle.stability_laws.specs.SeedEdits.{edited, IsEditOf, IsEditWithin};
+ghost use Rattle.stability_laws.specs.World.{setting};
+ghost use Rattle.dirty_recompute.specs.Resources.{IsUndone};
+ghost use Rattle.leak_round.specs.Announced.{AreAnnounced};
+ghost use Rattle.leak_round.specs.Edited.{announced_after, seeds_after, IsEdited};
+ghost use Rattle.leak_round.specs.Growth.{HasRoomFor};
+ghost use Rattle.leak_round.specs.Limits.{IsWithinLimits};
+ghost use Rattle.leak_round.specs.Overlays.{changes_count};
+ghost use Rattle.leak_round.specs.Planning.{CanPlan, ArePlanned, AreRoundsPlanned, AreSame, IsCutOff, IsPaid};
+ghost use Rattle.leak_round.specs.Plans.{count_told, ases_told};
+ghost use Rattle.leak_round.specs.Tables.{entry_uses};
+ghost use Rattle.leak_round.specs.Told.{IsToldOf};
+ghost use Rattle.leak_round.specs.Touched.{touches};
+
+use crate::announced::Announced;
+use crate::changes::Change;
+use crate::edited::{EditedSeeds, edit_seeds};
+use crate::planning::plan_rounds;
+use crate::plans::RoundsDone;
+use crate::told::listed;
+use crate::touched::Touched;
+use as_graph::Graph;
+use net_names::{Asn, NoMemory};
+use path_pool::PathPool;
+use policy_laws::{OriginStates, RoutePolicy};
+use rank_order::{RankPlan, Ranks};
+use route_choice::{RoundTables, Steps};
+use stability_laws::{Book, SeedEdit, SeedPlan};
+use std::alloc::Global;
+use std::sync::ledger::Ledger;
+
+// The seeds after an edit of who announces what, where there is one.
+pub fn edit_if_any(
+    alloc: Global,
+    plan: &SeedPlan,
+    announced: &[Announced],
+    edit: Option<&SeedEdit>,
+    pool: &mut PathPool,
+) -> Result<Option<EditedSeeds>, NoMemory>
+    requires known { (e : AnEdit) → option_copied edit ≡ Some e → IsEditOf plan.now e }
+    requires within { (e : AnEdit) → option_copied edit ≡ Some e → IsEditWithin 64 e }
+    requires limits { (e : AnEdit) → option_copied edit ≡ Some e → IsWithinLimits (edited plan.now e) }
+    requires announced { AreAnnounced pool.old plan.now announced.now }
+    requires room { live_count pool.old + 64 ≤ limit_of pool.old }
+    requires counts { (k : ℕ) → count_of pool.old k ≤ 4000000000 }
+    ensures made { IfOk result (IsEdited pool.old pool.new plan.now (option_copied edit.entry)) }
+    ensures limit { limit_of pool.new ≡ limit_of pool.old }
+    ensures err { OnErr result (IsUndone pool.old pool.new) }
+{
+    match edit {
+        Some(one) => {
+            let seeds = edit_seeds(alloc, plan, announced, one, pool)?;
+            Ok(Some(seeds))
+        }
+        None => Ok(None),
+    }
+}
+
+// The AS whose announcement is edited, if there is one.
+fn edited_asn(edited: &Option<EditedSeeds>) -> Option<Asn>
+    ensures { result ≡ option_map (λ e. e.asn) edited.now }
+{
+    match edited {
+        Some(seeds) => Some(seeds.asn),
+        None => None,
+    }
+}
+
+// Plans the changes of the tables of all rounds, with the seeds after an edit where there is one.
+fn plan_changes<P: RoutePolicy, V: OriginStates, L: Ledger>(
+    alloc: Global,
+    graph: &Graph,
+    ranks: &Ranks,
+    rank_plan: &RankPlan,
+    book: &Book<P>,
+    states: &V,
+    plan: &SeedPlan,
+    announced: &[Announced],
+    edited: &Option<EditedSeeds>,
+    touched: &Touched,
+    tables: &mut Vec<RoundTables>,
+    changes: &mut Vec<Change>,
+    pool: &mut PathPool,
+    steps: &mut Steps<L>,
+) -> Result<(), NoMemory>
+    requires no_cycle { HasNoProviderCycle (what graph.now) }
+    requires last { IsLastPlan ranks.now rank_plan.now }
+    requires ranks { (a : ℕ) → IsRank (what graph.now) a (rank_after ranks.now rank_plan.now a) }
+    requires can { CanPlan (λ p. setting P.meaning graph.now book.now (V.state_of states.now p)) graph.now (touches touched.now) plan.now (seeds_after edited.now plan.now) announced.now (announced_after edited.now announced.now) pool.old tables.old.items }
+    requires held { (k : ℕ) → entry_uses tables.old.items k ≤ holds_of pool.old k }
+    requires few { length tables.old.items ≤ 4 }
+    requires room { HasRoomFor pool.old (length tables.old.items * length (prefixes_of plan.now)) }
+    requires none { changes.old.items ≡ [] }
+    ensures planned { OnOk result (ArePlanned (λ p. setting P.meaning graph.now book.now (V.state_of states.now p)) graph.now (touches touched.now) plan.now (seeds_after edited.now plan.now) pool.new tables.new.items changes.new.items steps.old steps.new) }
+    ensures more { OnOk result (AreRoundsPlanned plan.now changes.new.items (length tables.old.items)) }
+    ensures paid { OnOk result (IsPaid pool.old pool.new [] changes.new.items (length tables.old.items * length (prefixes_of plan.now))) }
+    ensures cut { IsCutOff pool.old pool.new [] changes.new.items }
+    ensures same { AreSame tables.old.items tables.new.items }
+{
+    match edited {
+        Some(seeds) => plan_rounds(
+            alloc,
+            graph,
+            ranks,
+            rank_plan,
+            book,
+            states,
+            plan,
+            announced,
+            &seeds.plan,
+            seeds.announced.as_slice(),
+            touched,
+            tables,
+            changes,
+            pool,
+            steps,
+        ),
+        None => plan_rounds(
+            alloc, graph, ranks, rank_plan, book, states, plan, announced, plan, announced,
+            touched, tables, changes, pool, steps,
+        ),
+    }
+}
+
+// Plans the changes of the tables of all rounds, and tells of them.
+pub fn plan_and_tell<P: RoutePolicy, V: OriginStates, L: Ledger>(
+    alloc: Global,
+    graph: &Graph,
+    ranks: &Ranks,
+    rank_plan: &RankPlan,
+    book: &Book<P>,
+    states: &V,
+    plan: &SeedPlan,
+    announced: &[Announced],
+    edited: &Option<EditedSeeds>,
+    touched: &Touched,
+    tables: &mut Vec<RoundTables>,
+    changes: &mut Vec<Change>,
+    pool: &mut PathPool,
+    steps: &mut Steps<L>,
+) -> Result<RoundsDone, NoMemory>
+    requires no_cycle { HasNoProviderCycle (what graph.now) }
+    requires last { IsLastPlan ranks.now rank_plan.now }
+    requires ranks { (a : ℕ) → IsRank (what graph.now) a (rank_after ranks.now rank_plan.now a) }
+    requires can { CanPlan (λ p. setting P.meaning graph.now book.now (V.state_of states.now p)) graph.now (touches touched.now) plan.now (seeds_after edited.now plan.now) announced.now (announced_after edited.now announced.now) pool.old tables.old.items }
+    requires held { (k : ℕ) → entry_uses tables.old.items k ≤ holds_of pool.old k }
+    requires few { length tables.old.items ≤ 4 }
+    requires room { HasRoomFor pool.old (length tables.old.items * length (prefixes_of plan.now)) }
+    requires none { changes.old.items ≡ [] }
+    ensures planned { OnOk result (ArePlanned (λ p. setting P.meaning graph.now book.now (V.state_of states.now p)) graph.now (touches touched.now) plan.now (seeds_after edited.now plan.now) pool.new tables.new.items changes.new.items steps.old steps.new) }
+    ensures more { OnOk result (AreRoundsPlanned plan.now changes.new.items (length tables.old.items)) }
+    ensures paid { OnOk result (IsPaid pool.old pool.new [] changes.new.items (length tables.old.items * length (prefixes_of plan.now))) }
+    ensures cut { IsCutOff pool.old pool.new [] changes.new.items }
+    ensures same { AreSame tables.old.items tables.new.items }
+    ensures count { IfOk result (λ d. count_told d ≡ changes_count changes.new.items) }
+    ensures told { IfOk result (λ d. (round : ℕ) → 1 ≤ round → round ≤ length tables.old.items → ListsRising nat_cmp (IsToldOf changes.new.items (option_map (λ e. e.asn) edited.now) round) (ases_told d round)) }
+{
+    let rounds = tables.len();
+    plan_changes(
+        alloc, graph, ranks, rank_plan, book, states, plan, announced, edited, touched, tables,
+        changes, pool, steps,
+    )?;
+    listed(alloc, rounds, changes.as_slice(), edited_asn(edited))
+}
