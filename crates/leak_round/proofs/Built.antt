@@ -1,5 +1,5 @@
 -- A pool that begins without paths.
-use Rattle.std.proofs.Common.{◌≡◌, ℕ, zero, suc, ◌-◌, ◌*◌, ◌<◌, ◌≤◌, Bor, Option, Some, None, option_map, List, [], length, is_some, refl, sym, ap, ◌∙◌, arith}
+use Rattle.std.proofs.Common.{◌+◌, ◌≡◌, ℕ, zero, suc, ◌-◌, ◌*◌, ◌<◌, ◌≤◌, Bor, Option, Some, None, option_map, List, [], length, is_some, refl, sym, ap, ◌∙◌, arith}
 use Rattle.std.specs.Prelude.{IsSome, IfSome, IsTrue, slice_get}
 use Rattle.std.specs.FinMap as fin
 use Rattle.std.specs.Option.{option_copied}
@@ -49,6 +49,14 @@ all_room pool plan rounds h few live counts limit =
       cells = omega (arith, one, most, live, limit, h.prefixes);
       counts = λ k. omega (arith, one, most, live, counts k, h.prefixes);
     }
+
+-- all tables with all announced paths have few cells
+pub few_cells : (old new : PathPool) (plan : Plan) (rounds : ℕ) → IsWithinLimits plan → rounds ≤ 4 → live_count old ≤ numbers_of plan → live_count new ≤ live_count old + 150000 * (rounds * length (prefixes_of plan)) → live_count new ≤ 20000000
+few_cells old new plan rounds h few live more =
+    let n = length (prefixes_of plan) in
+    let one : rounds * n ≤ 4 * n = mul-le-mul_right n few in
+    let most : numbers_of plan ≤ 4096 = few_numbers plan h in
+    omega (arith, one, most, live, more, h.prefixes)
 
 -- the tables of a round stand at the place before its number
 tables_at : (rounds : List RoundTables) (round : ℕ) → 0 < round → tables_in rounds round ≡ slice_get rounds (round - 1)

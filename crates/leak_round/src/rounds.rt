@@ -14,7 +14,7 @@ ghost use Rattle.route_choice.specs.RoundTables.{table_at, round_routing, AreAll
 ghost use Rattle.leak_round.specs.Limits.{IsWithinLimits, numbers_of};
 ghost use Rattle.leak_round.specs.Announced.{AreAnnounced, announced_uses};
 ghost use Rattle.leak_round.specs.Entries.{HasEntries, of_rounds};
-ghost use Rattle.leak_round.specs.Growth.{KeepsPaths, HasRoomFor};
+ghost use Rattle.leak_round.specs.Growth.{GrowsBy, KeepsPaths, HasRoomFor};
 ghost use Rattle.leak_round.specs.Tables.{kept_in, entry_uses, AreRoundsFull};
 
 mod commits;
@@ -80,7 +80,7 @@ fn make_rounds<P: RoutePolicy, V: OriginStates, L: Ledger>(
     ensures holds { IfOk result (λ v. (k : ℕ) → holds_of pool.new k ≡ holds_of pool.old k + entry_uses v.items k) }
     ensures cells { IfOk result (λ v. HasEntries (of_rounds (kept_in pool.new v.items)) (live_count pool.new - live_count pool.old)) }
     ensures keeps { OnOk result (KeepsPaths pool.old pool.new) }
-    ensures limit { OnOk result (limit_of pool.new ≡ limit_of pool.old) }
+    ensures grows { OnOk result (GrowsBy pool.old pool.new (150000 * (rounds * length (prefixes_of plan.now)))) }
 {
     let mut tables = Vec::new(alloc);
     for past in 0..rounds {
@@ -114,7 +114,8 @@ impl Rounds {
     /// round just before (RFC 7908, section 3).
     ///
     /// The graph has no provider cycle, and the ranks are its ranks. It takes at most two steps for each
-    /// AS, prefix and round, and at most one cell for each entry and each number of an announced path.
+    /// AS, prefix and round, and at most one cell for each entry and each number of an announced path,
+    /// which are never more than 20,000,000.
     /// Its only refusal is want of memory.
     pub fn build<P: RoutePolicy, V: OriginStates, L: Ledger>(
         alloc: Global,
@@ -137,6 +138,7 @@ impl Rounds {
         ensures stable { IfOk result (λ r. AreRounds (λ p. setting P.meaning graph.now book.now (V.state_of states.now p)) plan rounds (kept r)) }
         ensures only { IfOk result (λ r. (other : ℕ → PrefixValue → ℕ → Option AnEntry) → AreRounds (λ p. setting P.meaning graph.now book.now (V.state_of states.now p)) plan rounds other → (before : ℕ) (prefix : PrefixValue) → before < rounds → IsTrue (has_prefix plan prefix) → (a : ℕ) → other (suc before) prefix a ≡ kept r (suc before) prefix a) }
         ensures cells { IfOk result (λ r. HasEntries (of_rounds (kept r)) (live_count (pool_of r) - numbers_of plan)) }
+        ensures few { IfOk result (λ r. live_count (pool_of r) ≤ 20000000) }
     {
         one_family::<P>();
         let mut pool = PathPool::new(alloc, MAX_CELLS);

@@ -1,30 +1,39 @@
 -- What an edit of a policy makes of a simulation.
-use Rattle.std.proofs.Common.{◌≡◌, ◌<◌, ◌≤◌, ℕ, true, None, Some, unwrap_or, refl, sym, ap, subst, ◌∙◌}
+use Rattle.std.proofs.Common.{◌≡◌, ◌≢◌, ◌⊎◌, inl, inr, ◌<◌, ◌≤◌, ◌==◌, ◌||◌, ℕ, Bool, true, false, IsTrue, cond, option_map, [], ◌∷◌, None, Some, unwrap_or, refl, sym, ap, subst, ◌∙◌}
+use Rattle.std.specs.Ordering.{eq_by_cmp, nat_cmp}
+use Rattle.std.proofs.lemmas.Bool.{eq-eqb, eqb-true, true≢false}
 use Rattle.std.specs.FinMap as fin
 use Rattle.std.specs.FinSet as set
 use Rattle.as_graph.specs.Hierarchy.{HasNoProviderCycle}
-use Rattle.as_graph.specs.Topology.{as_count, has, what, with_mark}
+use Rattle.as_graph.specs.Topology.{as_count, what, with_mark}
 use Rattle.policy_kinds.specs.declared.kind.Kind.{Kind}
 use Rattle.policy_kinds.specs.declared.kind.Kind.TheVariants.{Plain}
 use Rattle.stability_laws.specs.Book.{policy_at}
 use Rattle.leak_round.specs.Rounds.{plan_of, round_count}
 use Rattle.leak_round.specs.declared.rounds.Rounds.{Rounds}
 use Rattle.scenario_text.specs.declared.acts.Edit.TheVariants.{Policy}
-use Rattle.sim_core.specs.Editing.{IsGiven, IsRoomed, IsSmall, IsUndone, KeepsRest}
+use Rattle.sim_core.specs.Editing.{IsGiven, IsRoomed, IsSmall, IsUnchanged, IsUndone, KeepsRest, ground_of}
 use Rattle.sim_core.specs.Edits.{edited, over_limit, passed_limit, refusal_of_edit, with_kind}
-use Rattle.sim_core.specs.Kept.{IsKept}
-use Rattle.sim_core.specs.Remaking.{HoldIn}
-use Rattle.sim_core.specs.Sims.{kept, world_seen}
+use Rattle.sim_core.specs.Ground.{DiffersAround}
+use Rattle.sim_core.specs.Sims.{world_seen}
 use Rattle.sim_core.specs.World.{HasCycle, graph_of, topology}
 use Rattle.sim_core.specs.Loaded.{is_other}
-use Rattle.net_names.specs.Links.{LinkMap}
+use Rattle.net_names.specs.Links.{LinkMap, converse}
+use Rattle.net_names.specs.Numbers.{occurs}
+use Rattle.net_names.specs.Prefixes.{PrefixValue}
+use Rattle.net_names.specs.declared.routes.Rel.{Rel}
+use Rattle.as_graph.specs.Edits.{LinksAreSound}
+use Rattle.origin_validation.specs.Judging.{state_of}
+use Rattle.policy_kinds.specs.Kinds.{kind_policy}
+use Rattle.roa_table.specs.Sets.{Payloads}
+use Rattle.stability_laws.specs.Plans.{has_prefix}
 use Rattle.sim_core.specs.declared.errors.EditError.{EditError}
 use Rattle.sim_core.specs.declared.errors.EditError.TheVariants as refused
 use Rattle.sim_core.specs.declared.errors.EditLimit.TheVariants.{Ases}
 use Rattle.sim_core.specs.declared.sim.Sim.{Sim}
 use Rattle.sim_core.proofs.LinkEdits.{has_by, limit_ases, rest_both}
-use Rattle.sim_core.proofs.PolicyEdits.{given_back}
-use Rattle.sim_core.proofs.Remade.{hold_in, never, rest_kept, small_world}
+use Rattle.sim_core.proofs.PolicyEdits.{get_with, given_back, is_key, kind_is}
+use Rattle.sim_core.proofs.Doing.{all_undone, small_world, unchanged_world}
 
 pub roomed_world : (old new : Sim) (a : ℕ) → IsRoomed old new a → world_seen new ≡ world_seen old
 roomed_world old new a h = λ i. record {
@@ -74,22 +83,87 @@ back_world old mid new a k was is roomed given =
     }
 
 -- so it is never refused
-pub back_accepted : (old mid new : Sim) (a : ℕ) (k was : Kind) (e : EditError) → was ≡ policy_at old.book a → IsSmall old.graph old.vrps → IsRoomed old mid a → IsGiven mid new a k → refusal_of_edit (world_seen new) (Policy a was) ≡ Some e → ⊥
-back_accepted old mid new a k was e is small roomed given refusal =
-    let none : refusal_of_edit (world_seen new) (Policy a was) ≡ None = ap over_limit (ap passed_limit (back_world old mid new a k was is roomed given) ∙ small_world old small) in
+pub back_accepted : (old mid new same : Sim) (a : ℕ) (k was : Kind) (e : EditError) → was ≡ policy_at old.book a → IsSmall old.graph old.vrps → IsRoomed old mid a → IsGiven mid new a k → IsUnchanged new same → refusal_of_edit (world_seen same) (Policy a was) ≡ Some e → ⊥
+back_accepted old mid new same a k was e is small roomed given alike refusal =
+    let back = ap (λ w. edited w (Policy a was)) (unchanged_world new same alike) ∙ back_world old mid new a k was is roomed given in
+    let none : refusal_of_edit (world_seen same) (Policy a was) ≡ None = ap over_limit (ap passed_limit back ∙ small_world old small) in
     (let no : None ≡ Some e = sym none ∙ refusal in cc)
 
-pub policy_undone : (old mid new last : Sim) (a : ℕ) (k was : Kind) → was ≡ policy_at old.book a → IsRoomed old mid a → IsGiven mid new a k → IsGiven new last a was → IsUndone old last
-policy_undone old mid new last a k was is roomed given back = record {
-  world = given_world new last a was back ∙ back_world old mid new a k was is roomed given;
-  same_kept = rest_kept old last (rest_both old new last (begun_rest old mid new a k roomed given) back.rest);
-}
+pub policy_undone : (old mid new same last : Sim) (a : ℕ) (k was : Kind) → was ≡ policy_at old.book a → IsRoomed old mid a → IsGiven mid new a k → IsUnchanged new same → IsGiven same last a was → IsUndone old last
+policy_undone old mid new same last a k was is roomed given alike back =
+    all_undone old new same last (begun_rest old mid new a k roomed given) alike back.rest
+    (given_world same last a was back ∙ ap (λ w. edited w (Policy a was)) (unchanged_world new same alike) ∙ back_world old mid new a k was is roomed given)
 
--- who is no AS after a policy other than the plain one was given was none before
-pub hold_given : (old mid new : Sim) (a : ℕ) (k : Kind) → IsKept (world_seen old) (kept old) → IsRoomed old mid a → IsGiven mid new a k → is_other (a, k) ≡ true → HoldIn new.rounds new.graph
-hold_given old mid new a k is roomed given other =
-    subst (λ (x : Rounds). HoldIn x new.graph) (sym (given.rest.rounds ∙ roomed.rest.rounds))
-    (hold_in old new.graph is (λ x none. sym (has_by old.graph mid.graph roomed.links roomed.marked x) ∙ never (has mid.graph x) (has new.graph x) (given.more other x) none))
+-- ---- who is touched
+
+apart_one : (a x : ℕ) → occurs x (a ∷ []) ≡ false → x ≢ a
+apart_one a x free e = true≢false (sym (own_one a x e) ∙ free)
+  where
+    own_one : (a x : ℕ) → x ≡ a → ((a == x) || false) ≡ true
+    own_one a x e = ap (λ t. t || false) (eq-eqb a x (sym e))
+
+same_or : (x y : Bool) → (x ≡ y) ⊎ (x ≢ y)
+same_or true true = inl refl
+same_or true false = inr true≢false
+same_or false true = inr (λ e. true≢false (sym e))
+same_or false false = inl refl
+
+-- only the AS differs, and where it begins or ceases to mark its neighbours are touched too
+pub policy_differs : LinksAreSound → (old mid new : Sim) (a : ℕ) (k : Kind) (touched : PrefixValue → ℕ → Bool) → IsRoomed old mid a → IsGiven mid new a k → ((prefix : PrefixValue) → IsTrue (has_prefix (plan_of old.rounds) prefix) → touched prefix a ≡ true)
+    → ((prefix : PrefixValue) (n : ℕ) (r : Rel) → IsTrue (has_prefix (plan_of old.rounds) prefix) → (kind_policy k).marks ≢ (kind_policy (policy_at old.book a)).marks → what old.graph a n ≡ Some r → touched prefix n ≡ true) → DiffersAround (ground_of old) (ground_of new) (plan_of new.rounds) (a ∷ []) touched
+policy_differs sound old mid new a k touched roomed given own around = record {
+  presence = λ x free. given.others x (apart_one a x free) ∙ has_by old.graph mid.graph roomed.links roomed.marked x;
+  links = λ x n free. same_links x n;
+  policies = λ x free. same_policy x (apart_one a x free);
+  ends_touched = λ prefix x known end. subst (λ y. touched prefix y ≡ true) (end_is x end) (own prefix (before prefix known));
+  marks = λ prefix x n r known free at. marks_at prefix x n r known free at (a == n) refl;
+  states = λ prefix x known free there. inr (λ origin. ap (λ (v : Payloads). state_of v prefix origin) (given.vrps ∙ roomed.vrps));
+}
+  where
+    before : (prefix : PrefixValue) → IsTrue (has_prefix (plan_of new.rounds) prefix) → IsTrue (has_prefix (plan_of old.rounds) prefix)
+    before prefix known = ap (λ (r : Rounds). has_prefix (plan_of r) prefix) (sym (begun_rest old mid new a k roomed given).rounds) ∙ known
+
+    same_links : (x n : ℕ) → what new.graph x n ≡ what old.graph x n
+    same_links x n = ap (λ (l : LinkMap). what (graph_of l new.graph.marked) x n) (given.links ∙ roomed.links)
+
+    end_is : (x : ℕ) → occurs x (a ∷ []) ≡ true → a ≡ x
+    end_is x end = by (a == x) refl end
+      where
+        by : (t : Bool) → (a == x) ≡ t → (t || false) ≡ true → a ≡ x
+        by true e h = eqb-true a x e
+        by false e h = cc
+
+    kinds : new.book.named ≡ with_kind old.book.named a k
+    kinds = given.named ∙ ap (λ m. with_kind m a k) roomed.named
+
+    same_policy : (x : ℕ) → x ≢ a → policy_at new.book x ≡ policy_at old.book x
+    same_policy x other =
+        let off : eq_by_cmp nat_cmp x a ≡ false = is_key x a ∙ apart_key (a == x) refl in
+        let get : fin.get new.book.named x ≡ fin.get old.book.named x = ap (λ m. fin.get m x) kinds ∙ get_with old.book.named a k x ∙ ap (λ t. cond t (cond (is_other (a, k)) (Some k) None) (fin.get old.book.named x)) off in
+        λ i. unwrap_or (get i) ((new.plain ∙ sym old.plain) i)
+      where
+        apart_key : (t : Bool) → (a == x) ≡ t → (a == x) ≡ false
+        apart_key false e = e
+        apart_key true e = absurd (other (sym (eqb-true a x e)))
+
+    own_policy : policy_at new.book a ≡ k
+    own_policy =
+        let on : eq_by_cmp nat_cmp a a ≡ true = is_key a a ∙ eq-eqb a a refl in
+        let get : fin.get new.book.named a ≡ cond (is_other (a, k)) (Some k) None = ap (λ m. fin.get m a) kinds ∙ get_with old.book.named a k a ∙ ap (λ t. cond t (cond (is_other (a, k)) (Some k) None) (fin.get old.book.named a)) on in
+        (λ i. unwrap_or (get i) (new.plain i)) ∙ kind_is a k
+
+    marks_at : (prefix : PrefixValue) (x n : ℕ) (r : Rel) → IsTrue (has_prefix (plan_of new.rounds) prefix) → touched prefix x ≡ false → what new.graph x n ≡ Some r → (t : Bool) → (a == n) ≡ t → (kind_policy (policy_at new.book n)).marks ≡ (kind_policy (policy_at old.book n)).marks
+    marks_at prefix x n r known free at false off = ap (λ j. (kind_policy j).marks) (same_policy n (λ e. true≢false (sym (eq-eqb a n (sym e)) ∙ off)))
+    marks_at prefix x n r known free at true on =
+        let here : a ≡ n = eqb-true a n on in
+        subst (λ m. (kind_policy (policy_at new.book m)).marks ≡ (kind_policy (policy_at old.book m)).marks) here
+        (ap (λ j. (kind_policy j).marks) own_policy ∙ elim (same_or (kind_policy k).marks (kind_policy (policy_at old.book a)).marks) [
+          | inl same ↦ same
+          | inr differ ↦ (
+              let link : what old.graph x a ≡ Some r = subst (λ m. what old.graph x m ≡ Some r) (sym here) (sym (same_links x n) ∙ at) in
+              let back : what old.graph a x ≡ Some (converse r) = sound.alike old.graph x a ∙ ap (option_map converse) link in
+              absurd (true≢false (sym (around prefix x (converse r) (before prefix known) differ back) ∙ free)))
+        ])
 
 pub given_no_cycle : (old mid new : Sim) (a : ℕ) (k : Kind) → IsRoomed old mid a → IsGiven mid new a k → (HasCycle (world_seen old) → ⊥) → HasNoProviderCycle (what new.graph)
 given_no_cycle old mid new a k roomed given none = subst (λ (l : LinkMap). HasNoProviderCycle (what (graph_of l new.graph.marked))) (sym (given.links ∙ roomed.links)) (λ xs is. none (xs, is))

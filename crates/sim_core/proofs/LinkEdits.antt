@@ -1,8 +1,9 @@
 -- Edits of links.
-use Rattle.std.proofs.Common.{◌≡◌, ◌≢◌, ◌⊎◌, inl, inr, ◌<◌, ◌≤◌, ◌+◌, ◌==◌, ◌||◌, ℕ, Bool, true, false, cond, nat_lt, is_some, Option, None, Some, List, Result, Ok, Err, OnOk, OnErr, refl, sym, ap, subst, ◌∙◌, arith}
+use Rattle.std.proofs.Common.{◌≡◌, ◌≢◌, ◌⊎◌, inl, inr, ◌<◌, ◌≤◌, ◌+◌, ◌==◌, ◌||◌, ℕ, Bool, true, false, IsTrue, cond, nat_lt, is_some, Option, None, Some, [], ◌∷◌, Result, Ok, Err, OnOk, OnErr, refl, sym, ap, subst, ◌∙◌, arith}
 use Rattle.std.specs.Prelude.{IfNone, IfSome}
 use Rattle.std.specs.Option.{option_map}
-use Rattle.std.proofs.lemmas.Bool.{cases_Bool, true≢false}
+use Rattle.std.proofs.lemmas.Bool.{cases_Bool, eq-eqb, eqb-true, true≢false}
+use Rattle.std.specs.Ordering.{nat_cmp}
 use Rattle.std.proofs.lemmas.Bool.Decides.{nat_tests}
 use Rattle.std.specs.FinMap as fin
 use Rattle.std.specs.FinSet as set
@@ -17,22 +18,28 @@ use Rattle.as_graph.specs.Edits.{AsesAreKept, EditsAreUndone, LinksAreSet, Links
 use Rattle.as_graph.specs.Hierarchy.{HasNoProviderCycle, IsProviderCycle}
 use Rattle.as_graph.specs.Refusals.{IsLinkRefusal}
 use Rattle.as_graph.specs.Topology.{Topology, as_count, has, what}
+use Rattle.net_names.specs.Prefixes.{PrefixValue}
+use Rattle.origin_validation.specs.Judging.{state_of}
+use Rattle.policy_kinds.specs.Kinds.{kind_policy}
+use Rattle.policy_kinds.specs.declared.kind.Kind.{Kind}
+use Rattle.roa_table.specs.Sets.{Payloads}
+use Rattle.stability_laws.specs.Book.{PolicyBook, policy_at}
+use Rattle.stability_laws.specs.Plans.{has_prefix}
 use Rattle.leak_round.specs.Rounds.{plan_of, round_count}
 use Rattle.leak_round.specs.declared.rounds.Rounds.{Rounds}
 use Rattle.scenario_text.specs.declared.acts.Edit.{Edit}
 use Rattle.scenario_text.specs.declared.acts.Edit.TheVariants.{Link}
-use Rattle.sim_core.specs.Editing.{HasLinks, IsSmall, IsUndone, KeepsRest, links_with}
+use Rattle.sim_core.specs.Editing.{HasLinks, IsLinkStop, IsSmall, IsUnchanged, IsUndone, KeepsRest, ground_of, links_with}
 use Rattle.sim_core.specs.Edits.{IsEditRefusal, absent, edited, refusal_of_edit}
-use Rattle.sim_core.specs.Kept.{IsKept}
-use Rattle.sim_core.specs.Remaking.{HoldIn, HoldOnly, IsLinkStop}
-use Rattle.sim_core.specs.Sims.{kept, world_seen}
+use Rattle.sim_core.specs.Ground.{DiffersAround}
+use Rattle.sim_core.specs.Sims.{world_seen}
 use Rattle.sim_core.specs.World.{World, HasCycle, graph_of, topology}
 use Rattle.sim_core.specs.declared.errors.EditError.{EditError}
 use Rattle.sim_core.specs.declared.errors.EditError.TheVariants as refused
 use Rattle.sim_core.specs.declared.errors.EditLimit.TheVariants.{Links, Announcements, Ases}
 use Rattle.sim_core.specs.declared.sim.Sim.{Sim}
 use Rattle.sim_core.proofs.CycleLemmas.{new_below, none_below, without_below}
-use Rattle.sim_core.proofs.Remade.{hold_in, rest_kept}
+use Rattle.sim_core.proofs.Doing.{all_undone, unchanged_world}
 
 -- the world with these links
 pub links_world : (old new : Sim) (a b : ℕ) (links : LinkMap) → HasLinks old new a b links → world_seen new ≡ record (world_seen old) { links = links }
@@ -114,18 +121,10 @@ pub rest_both : (old mid new : Sim) → KeepsRest old mid → KeepsRest mid new 
 rest_both old mid new p q = record { ranks = q.ranks ∙ p.ranks; rounds = q.rounds ∙ p.rounds; watched = q.watched ∙ p.watched; watches = q.watches ∙ p.watches }
 
 -- links that were changed and changed back
-pub links_undone : (old mid new : Sim) (a b : ℕ) (links back : LinkMap) → HasLinks old mid a b links → HasLinks mid new a b back → back ≡ old.graph.links → IsUndone old new
-links_undone old mid new a b links back first second same = record {
-  world = λ i. record {
-    links = (second.are ∙ same) i;
-    payloads = (second.vrps ∙ first.vrps) i;
-    kinds = ((second.book ∙ first.book) i).named;
-    plan = plan_of ((second.rest.rounds ∙ first.rest.rounds) i);
-    rounds = round_count ((second.rest.rounds ∙ first.rest.rounds) i);
-    watched = set.from_list (ap (λ w. w.items) (second.rest.watched ∙ first.rest.watched) i);
-  };
-  same_kept = rest_kept old new (rest_both old mid new first.rest second.rest);
-}
+pub links_undone : (old mid same new : Sim) (a b : ℕ) (links back : LinkMap) → HasLinks old mid a b links → IsUnchanged mid same → HasLinks same new a b back → back ≡ old.graph.links → IsUndone old new
+links_undone old mid same new a b links back first alike second is =
+    all_undone old mid same new first.rest alike second.rest
+    (links_world same new a b back second ∙ (λ i. record (world_seen same) { links = is i }) ∙ ap (λ (w : World). record w { links = old.graph.links }) (unchanged_world mid same alike) ∙ ap (λ (w : World). record w { links = old.graph.links }) (links_world old mid a b links first))
 
 -- a pair with a link takes another one
 pub fits_linked : (g : Topology) (a b : ℕ) (r : Rel) → what g a b ≡ Some r → (s : Rel) (e : GraphError) → IsLinkRefusal g a b s e → ⊥
@@ -153,15 +152,45 @@ link_stopped w graph a b r (refused.ProviderCycle cycle) none same h = (none, re
 pub has_by : (g h : Topology) → h.links ≡ g.links → h.marked ≡ g.marked → (a : ℕ) → has h a ≡ has g a
 has_by g h links marked a = λ i. has (graph_of (links i) (marked i)) a
 
-off_pair : (t s u : Bool) → (t || (s || u)) ≡ false → u ≡ false
-off_pair true s u h = cc
-off_pair false true u h = cc
-off_pair false false u h = h
+-- who is none of the pair
+off_pair : (t s : Bool) → (t || (s || false)) ≡ false → (t ≡ false) × (s ≡ false)
+off_pair true s h = cc
+off_pair false true h = cc
+off_pair false false h = (refl, refl)
 
-pub hold_linked : AsesAreKept → (old mid : Sim) (a b : ℕ) (r : Rel) → IsKept (world_seen old) (kept old) → HasLinks old mid a b (links_with old.graph a b (Some r)) → HoldIn mid.rounds mid.graph
-hold_linked ases old mid a b r is h =
-    subst (λ (x : Rounds). HoldIn x mid.graph) (sym h.rest.rounds)
-    (hold_in old mid.graph is (λ x none. off_pair (x == a) (x == b) (has old.graph x) (sym (ases.linked old.graph a b r x) ∙ (sym (has_by (with_link old.graph a b r) mid.graph h.are h.marked x) ∙ none))))
+apart_pair : (a b x : ℕ) → occurs x (a ∷ b ∷ []) ≡ false → (x ≢ a) × (x ≢ b)
+apart_pair a b x free =
+    let off = off_pair (a == x) (b == x) free in
+    ((λ e. true≢false (sym (eq-eqb a x (sym e)) ∙ off.0)), (λ e. true≢false (sym (eq-eqb b x (sym e)) ∙ off.1)))
+
+-- an edit of a pair's link changes nothing at other ASes
+pair_links : LinksAreSet → LinksAreTaken → (g : Topology) (a b : ℕ) (o : Option Rel) → a ≢ b → (x n : ℕ) → x ≢ a → x ≢ b → (links : LinkMap) → links ≡ links_with g a b o → what (graph_of links g.marked) x n ≡ what g x n
+pair_links setting taken g a b None apart x n not_a not_b links is = ap (λ (l : LinkMap). what (graph_of l g.marked) x n) is ∙ taken.others g a b x n (λ p. not_a p.0) (λ p. not_b p.0)
+pair_links setting taken g a b (Some r) apart x n not_a not_b links is = ap (λ (l : LinkMap). what (graph_of l g.marked) x n) is ∙ setting.others g a b r x n apart (λ p. not_a p.0) (λ p. not_b p.0)
+
+pair_ases : AsesAreKept → (g : Topology) (a b : ℕ) (o : Option Rel) (x : ℕ) → x ≢ a → x ≢ b → (links : LinkMap) → links ≡ links_with g a b o → has (graph_of links g.marked) x ≡ has g x
+pair_ases ases g a b None x not_a not_b links is = ap (λ (l : LinkMap). has (graph_of l g.marked) x) is ∙ ases.other_ends g a b x not_a not_b
+pair_ases ases g a b (Some r) x not_a not_b links is =
+    ap (λ (l : LinkMap). has (graph_of l g.marked) x) is ∙ (ases.linked g a b r x ∙ (λ i. unlike x a not_a i || (unlike x b not_b i || has g x)))
+  where
+    unlike : (u v : ℕ) → u ≢ v → (u == v) ≡ false
+    unlike u v other = by (u == v) refl
+      where
+        by : (t : Bool) → (u == v) ≡ t → t ≡ false
+        by true e = absurd (other (eqb-true u v e))
+        by false e = refl
+
+-- so that only the pair differs, and is touched
+pub link_differs : LinksAreSet → LinksAreTaken → AsesAreKept → (old mid : Sim) (a b : ℕ) (o : Option Rel) (touched : PrefixValue → ℕ → Bool) → a ≢ b → HasLinks old mid a b (links_with old.graph a b o)
+    → ((prefix : PrefixValue) (x : ℕ) → IsTrue (has_prefix (plan_of old.rounds) prefix) → occurs x (a ∷ b ∷ []) ≡ true → touched prefix x ≡ true) → DiffersAround (ground_of old) (ground_of mid) (plan_of mid.rounds) (a ∷ b ∷ []) touched
+link_differs setting taken ases old mid a b o touched apart h touches = record {
+  presence = λ x free. (let off = apart_pair a b x free in ap (λ (m : set.FinSet nat_cmp). has (graph_of mid.graph.links m) x) h.marked ∙ pair_ases ases old.graph a b o x off.0 off.1 mid.graph.links h.are);
+  links = λ x n free. (let off = apart_pair a b x free in pair_links setting taken old.graph a b o apart x n off.0 off.1 mid.graph.links h.are);
+  policies = λ x free. ap (λ (k : PolicyBook Kind). policy_at k x) h.book;
+  ends_touched = λ prefix x known end. touches prefix x (ap (λ (r : Rounds). has_prefix (plan_of r) prefix) (sym h.rest.rounds) ∙ known) end;
+  marks = λ prefix x n r known free at. ap (λ (k : PolicyBook Kind). (kind_policy (policy_at k n)).marks) h.book;
+  states = λ prefix x known free there. inr (λ origin. ap (λ (v : Payloads). state_of v prefix origin) h.vrps);
+}
 
 -- without its link the pair takes it again
 pub fits_cut : EditsAreUndone → (old mid : Sim) (a b : ℕ) → a ≢ b → HasLinks old mid a b (links_with old.graph a b None) → what mid.graph a b ≡ None → IsSmall old.graph old.vrps → (r : Rel) → what old.graph a b ≡ Some r → (e : GraphError) → IsLinkRefusal mid.graph a b r e → ⊥
@@ -207,10 +236,6 @@ pub unlinked : {E : Type 0} (r : Result (Unit {0}) E) (g new : Topology) (a b : 
 unlinked (Ok x) g new a b ok absent there = ok
 unlinked (Err e) g new a b ok absent there = absurd (there absent)
 
--- who is no AS of the old graph holds nothing
-pub hold_only : (old mid : Sim) (names : List ℕ) → IsKept (world_seen old) (kept old) → KeepsRest old mid → ((a : ℕ) → occurs a names ≡ has old.graph a) → HoldOnly mid.rounds names
-hold_only old mid names is rest listed = subst (λ (x : Rounds). HoldOnly x names) (sym rest.rounds) (λ before prefix a within known none. hold_in old old.graph is (λ x e. e) before prefix a within known (sym (listed a) ∙ none))
-
 -- a graph with a new link has no provider cycle without the pair's link
 pub there_none : LinksAreSound → LinksAreSet → LinksAreTaken → (old mid : Sim) (a b : ℕ) (r : Rel) → a ≢ b → (p c : ℕ) → ((p ≡ a) × (c ≡ b)) ⊎ ((p ≡ b) × (c ≡ a)) → HasLinks old mid a b (links_with old.graph a b (Some r)) → (HasCycle (world_seen old) → ⊥) → HasNoProviderCycle (what (without_link mid.graph p c))
 there_none sound setting taken old mid a b r apart p c pair h none =
@@ -224,3 +249,7 @@ cut_no_cycle sound setting taken old mid a b h none =
     none_below (what mid.graph) (what old.graph)
     (λ x y e. without_below sound setting taken old.graph a b x y (subst (λ (l : LinkMap). what (graph_of l mid.graph.marked) x y ≡ Some Customer) h.are e))
     (λ xs is. none (xs, is))
+
+-- a pair with a link is two ASes
+pub cut_apart : LinksAreSound → (s : Sim) (a b : ℕ) → what s.graph a b ≢ None → a ≢ b
+cut_apart sound s a b there same = there (subst (λ (x : ℕ). what s.graph a x ≡ None) same (sound.to_itself s.graph a))

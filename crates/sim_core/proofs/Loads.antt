@@ -1,5 +1,5 @@
 -- What was loaded is the world, and the routings that are kept are its only ones.
-use Rattle.std.proofs.Common.{◌≡◌, ℕ, List, suc, ◌+◌, ◌<◌, ◌≤◌, IsTrue, length, unwrap_or, sym, ap, ◌∙◌, subst}
+use Rattle.std.proofs.Common.{◌≡◌, ℕ, List, suc, ◌+◌, ◌<◌, ◌≤◌, IsTrue, length, unwrap_or, refl, sym, ap, ◌∙◌, subst}
 use Rattle.std.specs.FinMap as fin
 use Rattle.std.specs.FinSet as set
 use Rattle.net_names.specs.Addresses.{AddrValue}
@@ -91,3 +91,12 @@ only_ones graph payloads book plan count rounds watched is rest are =
     λ i. (settings i, (sym are.plan_is i, sym are.count_is i)) in
     let both : AreOnly (kept rounds) (setting_of (world_by graph payloads book rounds watched), (plan_kept rounds, round_count rounds)) = subst (AreOnly (kept rounds)) ground (are.stable, are.only) in
     record { is = both.0; only = both.1 }
+
+-- and the only ones of the world are those of its graph, payloads and policies
+pub ones_of_world : (graph : Topology) (payloads : Payloads) (book : PolicyBook Kind) (rounds : Rounds) (watched : List AddrValue) → IsNamed graph book rounds → book.rest ≡ Plain → IsOneFamily (world_by graph payloads book rounds watched) (kept rounds)
+    → AreRoundsOf graph payloads book (plan_kept rounds) (round_count rounds) rounds
+ones_of_world graph payloads book rounds watched is rest one =
+    let settings : (λ (p : PrefixValue). setting kind_policy graph book (state_of payloads p)) ≡ setting_of (world_by graph payloads book rounds watched) =
+    λ i p. record { has = has (is i); what = what graph; policy = λ a. kind_policy (unwrap_or (fin.get book.named a) (rest i)); state = state_of payloads p } in
+    let both : AreOnly (kept rounds) ((λ p. setting kind_policy graph book (state_of payloads p)), (plan_kept rounds, round_count rounds)) = subst (AreOnly (kept rounds)) (λ i. (sym settings i, (plan_kept rounds, round_count rounds))) (one.is, one.only) in
+    record { plan_is = refl; count_is = refl; stable = both.0; only = both.1 }

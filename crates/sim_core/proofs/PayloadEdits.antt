@@ -1,30 +1,37 @@
 -- Edits of payloads.
-use Rattle.std.proofs.Common.{◌≡◌, ◌<◌, ◌≤◌, ◌+◌, Bool, true, false, cond, is_some, Option, None, Some, refl, sym, ap, subst, ◌∙◌, arith}
+use Rattle.std.proofs.Common.{◌≡◌, ◌⊎◌, inl, inr, ◌<◌, ◌≤◌, ◌+◌, ◌-◌, ℕ, Bool, true, false, IsTrue, cond, is_some, Option, None, Some, List, [], ◌∷◌, map, refl, sym, ap, subst, ◌∙◌, arith}
+use Rattle.std.specs.List.{filter}
+use Rattle.std.specs.FinMap.Entries.{by_order}
+use Rattle.std.proofs.lemmas.Bool.{true≢false}
 use Rattle.std.specs.FinMap as fin
 use Rattle.std.specs.FinSet as set
 use Rattle.std.specs.Ordering.{eq_by_cmp, is_eq}
 use Rattle.std.specs.declared.cmp.Ordering.{Ordering}
 use Rattle.std.specs.declared.cmp.Ordering.TheVariants.{Less, Equal, Greater}
-use Rattle.as_graph.specs.Topology.{Topology, as_count}
+use Rattle.net_names.specs.Coverage.{covers}
+use Rattle.net_names.specs.Prefixes.{PrefixValue}
+use Rattle.as_graph.specs.Topology.{Topology, as_count, has as has_as, what}
+use Rattle.origin_validation.specs.Judging.{state_among, state_of}
+use Rattle.policy_kinds.specs.Kinds.{kind_policy}
+use Rattle.stability_laws.specs.Plans.{Plan, has_prefix}
 use Rattle.policy_kinds.specs.declared.kind.Kind.{Kind}
-use Rattle.stability_laws.specs.Book.{PolicyBook}
+use Rattle.stability_laws.specs.Book.{PolicyBook, policy_at}
 use Rattle.net_names.specs.Orders.{vrp_total, exact_vrp}
 use Rattle.net_names.specs.Payloads.{VrpValue, vrp_cmp}
 use Rattle.roa_table.specs.Sets.{Payloads, added, count, has, taken}
 use Rattle.leak_round.specs.Rounds.{plan_of, round_count}
 use Rattle.scenario_text.specs.declared.acts.Edit.{Edit}
 use Rattle.scenario_text.specs.declared.acts.Edit.TheVariants.{VrpAdd}
-use Rattle.sim_core.specs.Editing.{IsDone, IsSmall, IsUndone, KeepsRest}
-use Rattle.sim_core.specs.Edits.{absent, edited, refusal_of_edit}
+use Rattle.sim_core.specs.Editing.{IsSmall, IsUndone, KeepsRest}
+use Rattle.sim_core.specs.Edits.{IsAllowed, absent, edited, refusal_of_edit}
 use Rattle.sim_core.specs.Sims.{world_seen}
 use Rattle.sim_core.specs.World.{World, HasCycle, topology}
 use Rattle.sim_core.specs.declared.errors.EditError.TheVariants as refused
 use Rattle.sim_core.specs.declared.errors.EditLimit.TheVariants.{Vrps}
-use Rattle.sim_core.specs.Remaking.{IsRemade}
-use Rattle.sim_core.specs.declared.remaking.Remade.{Remade}
+use Rattle.sim_core.specs.Ground.{DiffersAround, Ground, policy_on}
 use Rattle.sim_core.specs.declared.sim.Sim.{Sim}
 use Rattle.sim_core.proofs.LinkEdits.{over, within}
-use Rattle.sim_core.proofs.Remade.{allowed_by, edit_done, no_limit, rest_kept, seen_count}
+use Rattle.sim_core.proofs.Doing.{allowed_by, no_limit, rest_kept, seen_count}
 
 tied : (o : Ordering) → is_eq o ≡ true → o ≡ Equal
 tied Less h = cc
@@ -99,12 +106,59 @@ pub back_vrps : (t : Bool) (s now : Payloads) (v : VrpValue) → now ≡ added s
 back_vrps true s now v is there = is ∙ added_again s v (sym there)
 back_vrps false s now v is there = ap (λ (x : Payloads). taken x v) is ∙ added_taken s v (sym there)
 
--- an edit of the payloads is done
-pub payload_done : (old new : Sim) (e : Edit) (m : Remade) (vrps : Payloads) → with_payloads (world_seen old) vrps ≡ edited (world_seen old) e → absent (world_seen old) e ≡ None → IsSmall old.graph vrps → (HasCycle (world_seen old) → ⊥)
-    → IsRemade old.graph vrps old.book (plan_of old.rounds) old.rounds old.watched.items m → new.graph ≡ old.graph → new.vrps ≡ vrps → new.book ≡ old.book → new.watched ≡ old.watched → new.ranks ≡ m.ranks → new.rounds ≡ m.rounds → new.watches ≡ m.watches → IsDone old new e m.changed
-payload_done old new e m vrps world there small none is graph payloads book watched ranks rounds watches =
-    edit_done old new e (plan_of old.rounds) m
-    ((λ i. record { links = (graph i).links; payloads = payloads i; kinds = (book i).named; plan = plan_of old.rounds; rounds = round_count old.rounds; watched = set.from_list old.watched.items }) ∙ world)
-    (allowed_by (world_seen old) (with_payloads (world_seen old) vrps) e world there (no_limit (with_payloads (world_seen old) vrps) small.links old.small.announcements (subst (λ n. n ≤ 150000) (seen_count old) small.ases) small.payloads_in) (λ xs cycle. none (xs, cycle)))
-    (subst (λ (t : (Topology × Payloads) × PolicyBook Kind). IsRemade t.0.0 t.0.1 t.1 (plan_of old.rounds) old.rounds old.watched.items m) (λ i. ((sym graph i, sym payloads i), sym book i)) is)
-    ranks rounds watches watched
+-- ---- the states that a payload changes
+
+by_order_keys : (f : VrpValue → Bool) (o : Ordering) (v w : VrpValue) (ws more : List (VrpValue × Unit {0})) → f v ≡ false → filter f (map (λ e. e.0) more) ≡ filter f (map (λ e. e.0) ws) → filter f (map (λ e. e.0) (by_order o ((v, tt) ∷ (w, tt) ∷ ws) ((w, tt) ∷ ws) ((w, tt) ∷ more))) ≡ filter f (map (λ e. e.0) ((w, tt) ∷ ws))
+by_order_keys f Less v w ws more free same = ap (λ t. cond t (v ∷ filter f (w ∷ map (λ e. e.0) ws)) (filter f (w ∷ map (λ e. e.0) ws))) free
+by_order_keys f Equal v w ws more free same = refl
+by_order_keys f Greater v w ws more free same = ap (λ xs. cond (f w) (w ∷ xs) xs) same
+
+-- who does not pass does not stand among those who pass
+put_keys : (f : VrpValue → Bool) (v : VrpValue) (es : List (VrpValue × Unit {0})) → f v ≡ false → filter f (map (λ e. e.0) (fin.put vrp_cmp v tt es)) ≡ filter f (map (λ e. e.0) es)
+put_keys f v [] free = ap (λ t. cond t (v ∷ []) []) free
+put_keys f v ((w, u) ∷ es) free = by_order_keys f (vrp_cmp v w) v w es (fin.put vrp_cmp v tt es) free (put_keys f v es free)
+
+-- a payload changes no state of a prefix that it does not cover
+pub state_elsewhere : (s : Payloads) (v : VrpValue) (p : PrefixValue) (origin : ℕ) → covers v.prefix p ≡ false → state_of (added s v) p origin ≡ state_of s p origin
+state_elsewhere s v p origin free = ap (state_among p origin) (ap (λ es. filter (λ w. covers w.prefix p) (map (λ e. e.0) es)) (fin.entries-insert vrp_total s v tt) ∙ put_keys (λ w. covers w.prefix p) v (fin.entries s) free)
+
+-- a payload that was taken, put in again
+pub taken_added : (s : Payloads) (v : VrpValue) → has s v ≡ true → added (taken s v) v ≡ s
+taken_added s v there = fin.same_map vrp_total exact_vrp _ _ (λ q.
+    fin.get-insert vrp_total (taken s v) v tt q ∙ ap (cond (eq_by_cmp vrp_cmp q v) (Some tt)) (fin.get-remove vrp_total s v q)
+    ∙ back (eq_by_cmp vrp_cmp q v) (fin.get s q) (λ e. at_key s v q e ∙ there_unit (fin.get s v) there))
+  where
+    back : (t : Bool) (o : Option (Unit {0})) → (t ≡ true → o ≡ Some tt) → cond t (Some tt) (cond t None o) ≡ o
+    back true o h = sym (h refl)
+    back false o h = refl
+
+-- only the states of covered prefixes differ, and who reads these is touched
+pub payload_differs : (g h : Ground) (plan : Plan) (v : VrpValue) (touched : PrefixValue → ℕ → Bool) → h.graph ≡ g.graph → h.book ≡ g.book → ((p : PrefixValue) (origin : ℕ) → covers v.prefix p ≡ false → state_of h.payloads p origin ≡ state_of g.payloads p origin)
+    → ((p : PrefixValue) (a : ℕ) → IsTrue (has_prefix plan p) → covers v.prefix p ≡ true → has_as g.graph a ≡ true → (policy_on g a).reads_state ≡ true → touched p a ≡ true) → DiffersAround g h plan [] touched
+payload_differs g h plan v touched graph book elsewhere touches = record {
+  presence = λ a free. ap (λ (x : Topology). has_as x a) graph;
+  links = λ a n free. ap (λ (x : Topology). what x a n) graph;
+  policies = λ a free. ap (λ (b : PolicyBook Kind). policy_at b a) book;
+  ends_touched = λ p a known end. absurd (true≢false (sym end));
+  marks = λ p a n r known free at. ap (λ (b : PolicyBook Kind). (kind_policy (policy_at b n)).marks) book;
+  states = λ p a known free there. by p a known free (ap (λ (x : Topology). has_as x a) (sym graph) ∙ there) (covers v.prefix p) refl (policy_on h a).reads_state refl;
+}
+  where
+    by : (p : PrefixValue) (a : ℕ) → IsTrue (has_prefix plan p) → touched p a ≡ false → has_as g.graph a ≡ true → (c : Bool) → covers v.prefix p ≡ c → (r : Bool) → (policy_on h a).reads_state ≡ r
+        → ((policy_on h a).reads_state ≡ false) ⊎ ((origin : ℕ) → state_of h.payloads p origin ≡ state_of g.payloads p origin)
+    by p a known free there false covered r reads = inr (λ origin. elsewhere p origin covered)
+    by p a known free there true covered false reads = inl reads
+    by p a known free there true covered true reads =
+        absurd (true≢false (sym (touches p a known covered there (ap (λ (b : PolicyBook Kind). (kind_policy (policy_at b a)).reads_state) (sym book) ∙ reads)) ∙ free))
+
+-- the world with other payloads is allowed
+pub payload_allowed : (old : Sim) (e : Edit) (vrps : Payloads) → with_payloads (world_seen old) vrps ≡ edited (world_seen old) e → absent (world_seen old) e ≡ None → IsSmall old.graph vrps → (HasCycle (world_seen old) → ⊥) → IsAllowed (world_seen old) e
+payload_allowed old e vrps world there small none =
+    allowed_by (world_seen old) (with_payloads (world_seen old) vrps) e world there (no_limit (with_payloads (world_seen old) vrps) small.links old.small.announcements (subst (λ n. n ≤ 150000) (seen_count old) small.ases) small.payloads_in) (λ xs cycle. none (xs, cycle))
+
+pub small_taken : (g : Topology) (s : Payloads) (v : VrpValue) → IsSmall g s → IsSmall g (taken s v)
+small_taken g s v small = record { links = small.links; ases = small.ases; payloads_in = subst (λ n. n ≤ 2000000) (sym (fin.len-remove vrp_total s v)) (by (has s v)) }
+  where
+    by : (b : Bool) → cond b (count s - 1) (count s) ≤ 2000000
+    by true = omega (arith, small.payloads_in)
+    by false = small.payloads_in

@@ -120,28 +120,36 @@ pub taken_other : (m : Kinds) (a : ℕ) → AreOther m → AreOther (fin.remove 
 taken_other m a are q e = other_gone (eq_by_cmp nat_cmp q a) (fin.get m q) (are q) (sym (fin.get-remove nat_cmp_total m a q) ∙ e)
 
 -- the policy that the AS had, given back
-get_with : (m : Kinds) (a : ℕ) (k : Kind) (q : ℕ) → fin.get (with_kind m a k) q ≡ cond (eq_by_cmp nat_cmp q a) (cond (is_other (a, k)) (Some k) None) (fin.get m q)
+pub get_with : (m : Kinds) (a : ℕ) (k : Kind) (q : ℕ) → fin.get (with_kind m a k) q ≡ cond (eq_by_cmp nat_cmp q a) (cond (is_other (a, k)) (Some k) None) (fin.get m q)
 get_with m a k q = by (is_other (a, k))
   where
     by : (t : Bool) → fin.get (cond t (fin.insert m a k) (fin.remove m a)) q ≡ cond (eq_by_cmp nat_cmp q a) (cond t (Some k) None) (fin.get m q)
     by true = fin.get-insert nat_cmp_total m a k q
     by false = fin.get-remove nat_cmp_total m a q
 
+other_plain : (a : ℕ) (k : Kind) → is_other (a, k) ≡ false → k ≡ Plain
+other_plain a Plain e = refl
+other_plain a DropInvalid e = cc
+other_plain a PreferValid e = cc
+other_plain a ProviderFirst e = cc
+other_plain a Otc e = cc
+other_plain a DropInvalidOtc e = cc
+
 pub as_other : (a : ℕ) (o : Option Kind) → o ≢ Some Plain → cond (is_other (a, unwrap_or o Plain)) (Some (unwrap_or o Plain)) None ≡ o
 as_other a None h = refl
 as_other a (Some k) h = by (is_other (a, k)) refl
   where
-    plain : (k : Kind) → is_other (a, k) ≡ false → k ≡ Plain
-    plain Plain e = refl
-    plain DropInvalid e = cc
-    plain PreferValid e = cc
-    plain ProviderFirst e = cc
-    plain Otc e = cc
-    plain DropInvalidOtc e = cc
-
     by : (t : Bool) → is_other (a, k) ≡ t → cond t (Some k) None ≡ Some k
     by true e = refl
-    by false e = absurd (h (ap (λ x. Some x) (plain k e)))
+    by false e = absurd (h (ap (λ x. Some x) (other_plain a k e)))
+
+-- the policy that an AS has when it was given
+pub kind_is : (a : ℕ) (k : Kind) → unwrap_or (cond (is_other (a, k)) (Some k) None) Plain ≡ k
+kind_is a k = by (is_other (a, k)) refl
+  where
+    by : (t : Bool) → is_other (a, k) ≡ t → unwrap_or (cond t (Some k) None) Plain ≡ k
+    by true e = refl
+    by false e = sym (other_plain a k e)
 
 twice : (t : Bool) (x y o : Option Kind) → (t ≡ true → x ≡ o) → cond t x (cond t y o) ≡ o
 twice true x y o h = h refl

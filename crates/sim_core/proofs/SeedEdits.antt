@@ -36,14 +36,14 @@ apart q prefix x a other = by (eq_by_cmp announcement_cmp (q, x) (prefix, a)) re
     by true e = absurd (other (ap (λ (t : PrefixValue × ℕ). t.1) (eq_is announcements_total exact_announcement (q, x) (prefix, a) e)))
 
 -- what the other ASes announce
-other_paths : (p : Plan) (e : SeedEdit) (x : ℕ) → x ≢ edit_asn e → (q : PrefixValue) → announced_path (edited p e) q x ≡ announced_path p q x
+pub other_paths : (p : Plan) (e : SeedEdit) (x : ℕ) → x ≢ edit_asn e → (q : PrefixValue) → announced_path (edited p e) q x ≡ announced_path p q x
 other_paths p (Announce prefix path) x other q =
     fin.get-insert announcements_total p.announced (prefix, announcer_of path) path (q, x) ∙ ap (λ b. cond b (Some path) (fin.get p.announced (q, x))) (apart q prefix x (announcer_of path) other)
 other_paths p (Withdraw prefix a) x other q = fin.get-remove announcements_total p.announced (prefix, a) (q, x) ∙ ap (λ b. cond b None (fin.get p.announced (q, x))) (apart q prefix x a other)
 
 -- ---- who announces
 
-stands : (x i : ℕ) (xs : List ℕ) → slice_get xs i ≡ Some x → occurs x xs ≡ true
+pub stands : (x i : ℕ) (xs : List ℕ) → slice_get xs i ≡ Some x → occurs x xs ≡ true
 stands x i [] h = cc
 stands x zero (y ∷ ys) h = (let same : y ≡ x = cc in or_left (y == x) (occurs x ys) (eq-eqb y x same))
 stands x (suc i) (y ∷ ys) h = or_right (y == x) (occurs x ys) (stands x i ys h)

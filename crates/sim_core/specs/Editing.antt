@@ -1,12 +1,17 @@
 -- What an edit does to a simulation.
-use Rattle.std.specs.Prelude.{◌≡◌, ◌≤◌, ℕ, true, false, IsTrue, Option, None, Some, Result, Ok, Err}
+use Rattle.std.specs.Prelude.{◌≡◌, ◌≢◌, ◌≤◌, ℕ, true, IsTrue, Option, None, Some, Result, Ok, Err}
 use Rattle.std.specs.FinMap as fin
 use Rattle.std.specs.FinSet as set
 use Rattle.net_names.specs.Links.{LinkMap}
 use Rattle.net_names.specs.declared.routes.Rel.{Rel}
 use Rattle.as_graph.specs.Edits.{with_link, without_link}
+use Rattle.as_graph.specs.Hierarchy.{IsProviderCycle}
 use Rattle.as_graph.specs.Room.{is_room_for, is_room_with}
-use Rattle.as_graph.specs.Topology.{Topology, as_count, has}
+use Rattle.as_graph.specs.Topology.{Topology, as_count, has, what}
+use Rattle.net_names.specs.Payloads.{VrpValue}
+use Rattle.origin_validation.specs.Leaving.{less}
+use Rattle.leak_round.specs.Changes.{HasChanges}
+use Rattle.leak_round.specs.Rounds.{kept as kept_rounds, plan_of, round_count}
 use Rattle.policy_kinds.specs.declared.kind.Kind.{Kind}
 use Rattle.roa_table.specs.Sets.{Payloads, count}
 use Rattle.scenario_text.specs.declared.acts.Edit.{Edit}
@@ -14,13 +19,14 @@ use Rattle.scenario_text.specs.declared.acts.Edit.TheVariants as edit
 use Rattle.stability_laws.specs.SeedEdits.{IsEditOf, IsEditWithin, edited as edited_plan}
 use Rattle.stability_laws.specs.declared.seed_plan.edits.SeedEdit.{SeedEdit}
 use Rattle.stability_laws.specs.declared.seed_plan.edits.SeedEdit.TheVariants as seeds
-use Rattle.sim_core.specs.Edits.{HasChanged, IsAllowed, IsEditRefusal, absent, edited, with_kind}
-use Rattle.sim_core.specs.Loaded.{is_other}
+use Rattle.sim_core.specs.Edits.{BeginsWithLink, HasChanged, IsAllowed, IsEditRefusal, absent, edited, with_kind}
+use Rattle.sim_core.specs.Ground.{AreSeenAlike, BelongTo, Ground}
 use Rattle.sim_core.specs.Kept.{IsKept}
 use Rattle.sim_core.specs.Sims.{kept, world_seen}
 use Rattle.sim_core.specs.World.{World}
 use Rattle.sim_core.specs.declared.editing.Changed.{Changed}
 use Rattle.sim_core.specs.declared.errors.EditError.{EditError}
+use Rattle.sim_core.specs.declared.errors.EditError.TheVariants as refused
 use Rattle.sim_core.specs.declared.sim.Sim.{Sim}
 
 -- the edit is done: the world is the edited one, what is kept is that of it, and so many entries differ (own rule)
@@ -73,6 +79,39 @@ abbrev pub links_with : Topology → ℕ → ℕ → Option Rel → LinkMap
 links_with g a b None = (without_link g a b).links
 links_with g a b (Some r) = (with_link g a b r).links
 
+-- what the routings of a simulation rest on, without one payload, if one is left out (own rule)
+abbrev pub ground_less : Sim → Option VrpValue → Ground
+ground_less sim but = record { graph = sim.graph; payloads = less sim.vrps but; book = sim.book }
+
+-- what the routings of a simulation rest on (own rule)
+abbrev pub ground_of : Sim → Ground
+ground_of sim = record { graph = sim.graph; payloads = sim.vrps; book = sim.book }
+
+-- what is kept belongs to the ground without the payload, if one is left out; so many entries differ, and all else stands as it was (own rule)
+pub record IsChanged (old new : Sim) (but : Option VrpValue) (routes : ℕ) : Type 0 where
+  pub graph : new.graph ≡ old.graph
+  pub vrps : new.vrps ≡ old.vrps
+  pub book : new.book ≡ old.book
+  pub watched : new.watched ≡ old.watched
+  pub belong : BelongTo (ground_less old but) new.ranks new.rounds new.watches.items
+  pub plan : plan_of new.rounds ≡ plan_of old.rounds
+  pub count : round_count new.rounds ≡ round_count old.rounds
+  pub changed : HasChanges (plan_of new.rounds) (round_count new.rounds) (kept_rounds old.rounds) (kept_rounds new.rounds) routes
+
+-- a simulation is seen as it was (own rule)
+pub record IsUnchanged (old new : Sim) : Type 0 where
+  pub graph : new.graph ≡ old.graph
+  pub vrps : new.vrps ≡ old.vrps
+  pub book : new.book ≡ old.book
+  pub watched : new.watched ≡ old.watched
+  pub alike : AreSeenAlike old.ranks new.ranks old.rounds new.rounds old.watches.items new.watches.items
+
+-- why a link is not kept: memory is wanting, or the graph has this provider cycle, which begins with the link (own rule)
+abbrev pub IsLinkStop : Topology → ℕ → ℕ → Rel → EditError → Type 0
+IsLinkStop graph a b rel refused.Memory = Unit {0}
+IsLinkStop graph a b rel (refused.ProviderCycle cycle) = IsProviderCycle (what graph) cycle × BeginsWithLink (edit.Link a b rel) cycle
+IsLinkStop graph a b rel e = ⊥
+
 -- no limit is passed (own rule)
 pub record IsSmall (graph : Topology) (payloads : Payloads) : Type 0 where
   pub links : fin.len graph.links ≤ 1500000
@@ -83,8 +122,7 @@ pub record IsSmall (graph : Topology) (payloads : Payloads) : Type 0 where
 pub record IsGiven (old new : Sim) (a : ℕ) (kind : Kind) : Type 0 where
   pub links : new.graph.links ≡ old.graph.links
   pub room : new.graph.room ≡ old.graph.room
-  pub more : is_other (a, kind) ≡ true → (x : ℕ) → has old.graph x ≡ true → has new.graph x ≡ true
-  pub less : is_other (a, kind) ≡ false → (x : ℕ) → has new.graph x ≡ true → has old.graph x ≡ true
+  pub others : (x : ℕ) → x ≢ a → has new.graph x ≡ has old.graph x
   pub named : new.book.named ≡ with_kind old.book.named a kind
   pub book_room : new.book.room ≡ old.book.room
   pub vrps : new.vrps ≡ old.vrps

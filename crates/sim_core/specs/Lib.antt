@@ -4,11 +4,11 @@ pub mod Families
 pub mod Kept
 pub mod Loaded
 pub mod Loading
-pub mod Counting
 pub mod Edits
 pub mod Answers
 pub mod Watching
 pub mod Parts
-pub mod Remaking
+pub mod Renewing
+pub mod Ground
 pub mod Sims
 pub mod Editing

@@ -1,5 +1,5 @@
 -- The watches of a simulation: for each round one for each watched address.
-use Rattle.std.specs.Prelude.{◌≡◌, ℕ, true, false, IsTrue, ◌<◌, suc, ◌-◌, Option, None, Some, option_and_then, List, [], length, slice_get}
+use Rattle.std.specs.Prelude.{◌≡◌, ℕ, true, false, IsTrue, ◌<◌, suc, ◌-◌, Option, None, Some, option_and_then, List, [], length, map, slice_get}
 use Rattle.std.specs.List.{position_or_len}
 use Rattle.std.specs.FinSet as set
 use Rattle.std.specs.Ordering.{eq_by_cmp}
@@ -12,7 +12,7 @@ use Rattle.stability_laws.specs.Book.{PolicyBook, policy_at}
 use Rattle.stability_laws.specs.Plans.{Plan, announces, has_prefix}
 use Rattle.stability_laws.specs.declared.entry.Entry.{Entry}
 use Rattle.data_trace.specs.Hops.{next_hop, second_of}
-use Rattle.data_trace.specs.Views.{rows_of}
+use Rattle.data_trace.specs.Views.{addr_of, rows_of}
 use Rattle.data_trace.specs.Watches.{AreRows, Row}
 use Rattle.data_trace.specs.declared.watch.Watch.{Watch}
 use Rattle.sim_core.specs.declared.errors.QueryError.{QueryError}
@@ -26,20 +26,31 @@ use Rattle.sim_core.specs.Kept.{Kept}
 abbrev pub GoesOnInside : Topology → Plan → (PrefixValue → ℕ → Option Entry) → Type 0
 GoesOnInside g plan held = (p : PrefixValue) (a b : ℕ) → IsTrue (has_prefix plan p) → announces plan p a ≡ false → second_of (held p a) ≡ Some b → has g b ≡ true
 
--- the watches of a round are those of the addresses, in their order: each has the row of each AS (own rule)
-pub record AreWatches (g : Topology) (plan : Plan) (held : PrefixValue → ℕ → Option Entry) (book : PolicyBook Kind) (addrs : List AddrValue) (watches : List Watch) : Type 0 where
-  pub count : length watches ≡ length addrs
-  pub rows : (place : ℕ) (addr : AddrValue) (watch : Watch) → slice_get addrs place ≡ Some addr → slice_get watches place ≡ Some watch → AreRows g (next_hop plan held addr) (λ a. label (policy_at book a)) (rows_of watch)
+-- what contracts see of a watch: its address and its rows (own rule)
+abbrev pub seen_of : Watch → AddrValue × List Row
+seen_of w = (addr_of w, rows_of w)
 
--- so are those of each round, of which the first of the list is round 1 (own rule)
-pub record AreRoundWatches (g : Topology) (plan : Plan) (held : ℕ → PrefixValue → ℕ → Option Entry) (book : PolicyBook Kind) (addrs : List AddrValue) (rounds : ℕ) (all : List RoundWatches) : Type 0 where
-  pub count : length all ≡ rounds
-  pub each : (before : ℕ) (one : RoundWatches) → slice_get all before ≡ Some one → AreWatches g plan (held (suc before)) book addrs one.watches.items
+-- the same of each watch of a round, in their order (own rule)
+abbrev pub seen_in : RoundWatches → List (AddrValue × List Row)
+seen_in one = map seen_of one.watches.items
 
--- there are so many rounds, and so many watches in each (own rule)
-pub record HasWatches (rounds addrs : ℕ) (all : List RoundWatches) : Type 0 where
+-- the addresses of the watches of a round, in their order (own rule)
+abbrev pub addrs_in : RoundWatches → List AddrValue
+addrs_in one = map addr_of one.watches.items
+
+-- the watches of a round have the row of each AS (own rule)
+abbrev pub AreWatches : Topology → Plan → (PrefixValue → ℕ → Option Entry) → PolicyBook Kind → List (AddrValue × List Row) → Type 0
+AreWatches g plan held book seen = (place : ℕ) (s : AddrValue × List Row) → slice_get seen place ≡ Some s → AreRows g (next_hop plan held s.0) (λ a. label (policy_at book a)) s.1
+
+-- so have those of each round, of which the first of the list is round 1 (own rule)
+pub record AreRoundWatches (g : Topology) (plan : Plan) (held : ℕ → PrefixValue → ℕ → Option Entry) (book : PolicyBook Kind) (rounds : ℕ) (all : List (List (AddrValue × List Row))) : Type 0 where
   pub count : length all ≡ rounds
-  pub each : (before : ℕ) (one : RoundWatches) → slice_get all before ≡ Some one → length one.watches.items ≡ addrs
+  pub each : (before : ℕ) (seen : List (AddrValue × List Row)) → slice_get all before ≡ Some seen → AreWatches g plan (held (suc before)) book seen
+
+-- there are so many rounds, and in each the watches of these addresses, in their order (own rule)
+pub record HasWatches (rounds : ℕ) (addrs : List AddrValue) (all : List RoundWatches) : Type 0 where
+  pub count : length all ≡ rounds
+  pub each : (before : ℕ) (one : RoundWatches) → slice_get all before ≡ Some one → addrs_in one ≡ addrs
 
 -- the place of an address in a list, or the list's length where it does not stand there (own rule)
 abbrev pub place_in : List AddrValue → AddrValue → ℕ

@@ -1,27 +1,25 @@
 //! Edits of announcements.
-ghost use Rattle.std.specs.Prelude.{◌≡◌, ◌≤◌, ℕ, true, false, length, nat_eq, nat_lt};
-ghost use Rattle.std.specs.List.{IsDistinct};
+ghost use Rattle.std.specs.Prelude.{◌≡◌, ◌≤◌, length, nat_lt};
 ghost use Rattle.std.specs.FinMap as fin;
 ghost use Rattle.std.specs.FinSet as set;
 ghost use Rattle.std.specs.Ordering.{nat_cmp};
-ghost use Rattle.as_graph.specs.Topology.{as_count, has};
-ghost use Rattle.net_names.specs.Numbers.{occurs};
-ghost use Rattle.leak_round.specs.Rounds.{plan_of};
+ghost use Rattle.leak_round.specs.Rounds.{plan_of, pool_of};
+ghost use Rattle.path_pool.specs.Pool.{live_count};
 ghost use Rattle.scenario_text.specs.declared.acts.Edit.TheVariants.{Announce, Withdraw};
 ghost use Rattle.stability_laws.specs.Plans.{with_announcement};
 ghost use Rattle.stability_laws.specs.SeedEdits.{IsEditWithin, edit_asn, edited};
 ghost use Rattle.sim_core.specs.Editing.{IsEdited, IsSeedEdit, edit_of};
 ghost use Rattle.sim_core.specs.Kept.{IsKept};
-ghost use Rattle.sim_core.specs.Remaking.{AreAses, AreNames};
 ghost use Rattle.sim_core.specs.Sims.{kept, world_seen};
 ghost use Rattle.sim_core.specs.World.{HasCycle, named};
 
+use crate::changing::change;
 use crate::marking::{set_mark, set_mark_back};
 use crate::naming::is_other;
 use crate::planning::copy_of;
-use crate::remaking::{place, remake};
+use crate::touching::touched_ases;
 use crate::{Changed, EditError, EditLimit, Sim};
-use as_graph::{Graph, ases_are_kept};
+use as_graph::ases_are_kept;
 use net_names::{Asn, Path, Prefix};
 use origin_validation::States;
 use route_choice::Steps;
@@ -43,19 +41,6 @@ fn asn_of(edit: &SeedEdit) -> Asn
     }
 }
 
-// The ASes of a graph that has all ASes of before, or else those before.
-fn names_with<'a>(graph: &'a Graph, has_all: bool, before: &'a [Asn]) -> &'a [Asn]
-    requires apart { IsDistinct nat_eq before.now }
-    requires few { length before.now ≤ 150000 }
-    requires all { has_all ≡ true → (a : ℕ) → occurs a before.now ≡ true → has graph.now a ≡ true }
-    requires fewer { has_all ≡ false → (a : ℕ) → has graph.now a ≡ true → occurs a before.now ≡ true }
-    ensures names { AreNames graph.now before.now result.now }
-    ensures ases { as_count graph.now ≤ 150000 }
-{
-    let _count = graph.as_count();
-    if has_all { graph.ases() } else { before }
-}
-
 impl Sim {
     // Whether an announcement or a leak of the plan, or a policy, names the AS.
     fn is_named(&self, plan: &SeedPlan, asn: Asn) -> bool
@@ -65,18 +50,17 @@ impl Sim {
         by_plan | is_other(self.kind_of(asn))
     }
 
-    // Takes the plan of seeds that an edit makes, where these were the ASes before.
+    // Takes what is kept to the plan of seeds that an edit makes.
     fn take_plan<L: Ledger>(
         &mut self,
         alloc: Global,
         edit: &SeedEdit,
-        plan: SeedPlan,
-        before: &[Asn],
+        plan: &SeedPlan,
         steps: &mut Steps<L>,
     ) -> Result<Changed, EditError>
         requires accepted { IsSeedEdit (world_seen self.old) edit.now }
-        requires plan { plan ≡ edited (plan_of self.old.rounds) edit.now }
-        requires before { AreAses self.old.graph before.now }
+        requires plan { plan.now ≡ edited (plan_of self.old.rounds) edit.now }
+        requires few_cells { live_count (pool_of self.old.rounds) ≤ 20000000 }
         requires kept { IsKept (world_seen self.old) (kept self.old) }
         requires no_cycle { HasCycle (world_seen self.old) → ⊥ }
         ensures { IsEdited self.old self.new (edit_of edit.now) result }
@@ -85,8 +69,10 @@ impl Sim {
         self.is_small();
         let asn = asn_of(edit);
         let was = self.is_named(self.rounds.seed_plan(), asn);
-        let is = self.is_named(&plan, asn);
-        let count = self.watches.len() as u32;
+        let is = self.is_named(plan, asn);
+        let Ok(touched) = touched_ases(alloc, self.rounds.seed_plan(), &[asn]) else {
+            return Err(EditError::Memory);
+        };
         match self.graph.room(asn, asn) {
             Ok(()) => {}
             Err(_) => return Err(EditError::Memory),
@@ -95,21 +81,22 @@ impl Sim {
             Ok(()) => {}
             Err(error) => return Err(error),
         }
+        let _count = self.graph.as_count();
         let states = States::of(&self.vrps);
-        let names = names_with(&self.graph, is, before);
-        match remake(
+        match change(
             alloc,
             &self.graph,
-            &states,
             &self.book,
-            plan,
-            &self.rounds,
-            count,
-            &self.watched,
-            names,
+            &states,
+            &[asn],
+            &touched,
+            Some(edit),
+            &mut self.ranks,
+            &mut self.rounds,
+            &mut self.watches,
             steps,
         ) {
-            Ok(made) => Ok(place(made, &mut self.ranks, &mut self.rounds, &mut self.watches)),
+            Ok(changed) => Ok(changed),
             Err(_) => {
                 set_mark_back(&mut self.graph, asn, was);
                 Err(EditError::Memory)
@@ -125,18 +112,15 @@ impl Sim {
         steps: &mut Steps<L>,
     ) -> Result<Changed, EditError>
         requires accepted { IsSeedEdit (world_seen self.old) edit.now }
+        requires few_cells { live_count (pool_of self.old.rounds) ≤ 20000000 }
         requires kept { IsKept (world_seen self.old) (kept self.old) }
         requires no_cycle { HasCycle (world_seen self.old) → ⊥ }
         ensures { IsEdited self.old self.new (edit_of edit.now) result }
     {
-        self.is_small();
-        let Ok(before) = Vec::from_slice(alloc, self.graph.ases()) else {
-            return Err(EditError::Memory);
-        };
         let Ok(plan) = self.rounds.seed_plan().edited(alloc, edit) else {
             return Err(EditError::Memory);
         };
-        self.take_plan(alloc, edit, plan, &before, steps)
+        self.take_plan(alloc, edit, &plan, steps)
     }
 
     // Whether there are too many announcements with this one.
@@ -159,6 +143,7 @@ impl Sim {
     ) -> Result<Changed, EditError>
         requires some { 1 ≤ length path.now }
         requires short { length path.now ≤ 64 }
+        requires few_cells { live_count (pool_of self.old.rounds) ≤ 20000000 }
         requires kept { IsKept (world_seen self.old) (kept self.old) }
         requires no_cycle { HasCycle (world_seen self.old) → ⊥ }
         ensures { IsEdited self.old self.new (Announce prefix path.now) result }
@@ -186,6 +171,7 @@ impl Sim {
         asn: Asn,
         steps: &mut Steps<L>,
     ) -> Result<Changed, EditError>
+        requires few_cells { live_count (pool_of self.old.rounds) ≤ 20000000 }
         requires kept { IsKept (world_seen self.old) (kept self.old) }
         requires no_cycle { HasCycle (world_seen self.old) → ⊥ }
         ensures { IsEdited self.old self.new (Withdraw prefix asn) result }

@@ -1,21 +1,94 @@
-//! What belongs to an edited world, made and put in place.
-ghost use Rattle.std.specs.Prelude.{◌≡◌, ◌≤◌, ℕ, true, IfOk, length, nat_eq};
-ghost use Rattle.std.specs.List.{IsDistinct};
+//! What belongs to an edited world: planned with all memory, and then put in place without any.
+ghost use Rattle.std.specs.Prelude.{◌≡◌, ◌≤◌, ℕ, false, true, Some, IfOk, OnOk, OnErr, length, map};
+ghost use Rattle.std.specs.Option.{option_copied};
 ghost use Rattle.as_graph.specs.Hierarchy.{HasNoProviderCycle};
-ghost use Rattle.as_graph.specs.Topology.{has, what};
-ghost use Rattle.net_names.specs.Numbers.{occurs};
-ghost use Rattle.leak_round.specs.Rounds.{plan_of};
-ghost use Rattle.roa_table.specs.Sets.{Payloads, taken};
-ghost use Rattle.sim_core.specs.Editing.{IsSmall};
-ghost use Rattle.sim_core.specs.Remaking.{HoldIn, HoldOnly, IsRemade};
+ghost use Rattle.as_graph.specs.Topology.{what};
+ghost use Rattle.origin_validation.specs.Leaving.{less};
+ghost use Rattle.path_pool.specs.Pool.{live_count};
+ghost use Rattle.leak_round.specs.Changes.{HasChanges};
+ghost use Rattle.leak_round.specs.Edited.{plan_edited};
+ghost use Rattle.leak_round.specs.Rounds.{is_open, kept as kept_rounds, plan_of, pool_of, round_count};
+ghost use Rattle.leak_round.specs.Touched.{touches};
+ghost use Rattle.sim_core.specs.Editing.{IsChanged, IsSmall, IsUnchanged, ground_less};
+ghost use Rattle.sim_core.specs.Ground.{AreSeenAlike, BelongTo, DiffersAround, Ground as AGround, IsSeedChange};
+ghost use Rattle.sim_core.specs.Watching.{addrs_in};
 
-use crate::remaking::{Remade, place, remake};
+use crate::renewing::{make_room, renew};
+use crate::watching::RoundWatches;
 use crate::{Changed, Sim};
+use as_graph::{Graph, links_are_sound, ranks_fit};
+use leak_round::{Rounds, Touched};
 use net_names::{Asn, NoMemory, Vrp};
 use origin_validation::States;
+use policy_kinds::Kind;
+use rank_order::Ranks;
 use route_choice::Steps;
+use stability_laws::{Book, SeedEdit, one_family, paths_go_on, plans_are_sound, right_follows};
 use std::alloc::Global;
 use std::sync::ledger::Ledger;
+
+/// Takes ranks, rounds and watches to an edited graph, policies and states, and to an edit of
+/// announcements, if there is one. The ends are the ASes whose presence, links, policy or announcement
+/// is edited, and the touched ASes those whose entries may be wrong. It says how many entries differ.
+pub fn change<L: Ledger>(
+    alloc: Global,
+    graph: &Graph,
+    book: &Book<Kind>,
+    states: &States<'_>,
+    ends: &[Asn],
+    touched: &Touched,
+    edit: Option<&SeedEdit>,
+    ranks: &mut Ranks,
+    rounds: &mut Rounds,
+    watches: &mut Vec<RoundWatches>,
+    steps: &mut Steps<L>,
+) -> Result<Changed, NoMemory>
+    requires closed { is_open rounds.old ≡ false }
+    requires few_cells { live_count (pool_of rounds.old) ≤ 20000000 }
+    requires few { round_count rounds.old ≤ 4 }
+    requires no_cycle { HasNoProviderCycle (what graph.now) }
+    requires seeds { IsSeedChange (plan_of rounds.old) graph.now ends.now (option_copied edit) }
+    requires from { (old : AGround) × BelongTo old ranks.old rounds.old watches.old.items × DiffersAround old (record { graph = graph.now; payloads = states.now; book = book.now }) (plan_of rounds.old) ends.now (touches touched.now) }
+    ensures belong { OnOk result (BelongTo (record { graph = graph.now; payloads = states.now; book = book.now }) ranks.new rounds.new watches.new.items) }
+    ensures changed { IfOk result (λ c. HasChanges (plan_of rounds.new) (round_count rounds.new) (kept_rounds rounds.old) (kept_rounds rounds.new) c.routes) }
+    ensures plan { OnOk result (plan_of rounds.new ≡ plan_edited (option_copied edit.entry) (plan_of rounds.old)) }
+    ensures count { round_count rounds.new ≡ round_count rounds.old }
+    ensures closed { is_open rounds.new ≡ false }
+    ensures addrs { map addrs_in watches.new.items ≡ map addrs_in watches.old.items }
+    ensures err { OnErr result (AreSeenAlike ranks.old ranks.new rounds.old rounds.new watches.old.items watches.new.items) }
+{
+    links_are_sound();
+    ranks_fit();
+    right_follows::<Kind>();
+    one_family::<Kind>();
+    paths_go_on::<Kind>();
+    make_room(graph, watches)?;
+    let Ok(rank_plan) = ranks.plan(alloc, graph, ends) else {
+        return Err(NoMemory);
+    };
+    let Ok(plan) = rounds.plan(
+        alloc, graph, ranks, &rank_plan, book, states, touched, edit, steps,
+    ) else {
+        return Err(NoMemory);
+    };
+    ranks.commit(rank_plan);
+    let done = rounds.commit(plan);
+    plans_are_sound(rounds.seed_plan());
+    renew(graph, rounds, book, &done, ends, watches);
+    Ok(Changed {
+        routes: done.count(),
+    })
+}
+
+// The states over all payloads, or over all but one.
+fn states_but<'a>(vrps: &'a roa_table::Vrps, but: Option<Vrp>) -> States<'a>
+    ensures { result ≡ less vrps.now but }
+{
+    match but {
+        None => States::of(vrps),
+        Some(vrp) => States::without(vrps, vrp),
+    }
+}
 
 impl Sim {
     // What holds of every simulation: no limit is passed.
@@ -27,92 +100,35 @@ impl Sim {
         let _vrps = self.vrps.len();
     }
 
-    // The ranks, rounds and watches of the graph, the policies and the payloads as they are now.
-    pub(crate) fn remade<L: Ledger>(
-        &self,
+    // Takes what is kept to the graph and the policies as they are now, and to all payloads, or to all
+    // but one. The ends are the ASes whose presence, links or policy differ.
+    pub(crate) fn change_at<L: Ledger>(
+        &mut self,
         alloc: Global,
-        names: &[Asn],
+        ends: &[Asn],
+        touched: &Touched,
+        but: Option<Vrp>,
         steps: &mut Steps<L>,
-    ) -> Result<Remade, NoMemory>
-        requires no_cycle { HasNoProviderCycle (what self.now.graph) }
-        requires apart { IsDistinct nat_eq names.now }
-        requires few { length names.now ≤ 150000 }
-        requires new { (a : ℕ) → has self.now.graph a ≡ true → occurs a names.now ≡ true }
-        requires old { HoldOnly self.now.rounds names.now }
-        ensures { IfOk result (IsRemade self.now.graph self.now.vrps self.now.book (plan_of self.now.rounds) self.now.rounds self.now.watched.items) }
+    ) -> Result<Changed, NoMemory>
+        requires few_cells { live_count (pool_of self.old.rounds) ≤ 20000000 }
+        requires no_cycle { HasNoProviderCycle (what self.old.graph) }
+        requires from { (old : AGround) × BelongTo old self.old.ranks self.old.rounds self.old.watches.items × DiffersAround old (ground_less self.old but) (plan_of self.old.rounds) ends.now (touches touched.now) }
+        ensures changed { IfOk result (λ c. IsChanged self.old self.new but c.routes) }
+        ensures err { OnErr result (IsUnchanged self.old self.new) }
     {
-        let states = States::of(&self.vrps);
-        let count = self.watches.len() as u32;
-        let plan = self.rounds.seed_plan().copied(alloc)?;
-        remake(
+        let states = states_but(&self.vrps, but);
+        change(
             alloc,
             &self.graph,
-            &states,
             &self.book,
-            plan,
-            &self.rounds,
-            count,
-            &self.watched,
-            names,
+            &states,
+            ends,
+            touched,
+            None,
+            &mut self.ranks,
+            &mut self.rounds,
+            &mut self.watches,
             steps,
         )
-    }
-
-    // The same, for a graph whose ASes alone hold something.
-    pub(crate) fn remade_within<L: Ledger>(
-        &self,
-        alloc: Global,
-        steps: &mut Steps<L>,
-    ) -> Result<Remade, NoMemory>
-        requires no_cycle { HasNoProviderCycle (what self.now.graph) }
-        requires old { HoldIn self.now.rounds self.now.graph }
-        ensures { IfOk result (IsRemade self.now.graph self.now.vrps self.now.book (plan_of self.now.rounds) self.now.rounds self.now.watched.items) }
-    {
-        self.is_small();
-        self.remade(alloc, self.graph.ases(), steps)
-    }
-
-    // The same, without a payload.
-    pub(crate) fn remade_less<L: Ledger>(
-        &self,
-        alloc: Global,
-        vrp: Vrp,
-        steps: &mut Steps<L>,
-    ) -> Result<Remade, NoMemory>
-        requires no_cycle { HasNoProviderCycle (what self.now.graph) }
-        requires old { HoldIn self.now.rounds self.now.graph }
-        ensures { IfOk result (IsRemade self.now.graph (taken self.now.vrps vrp) self.now.book (plan_of self.now.rounds) self.now.rounds self.now.watched.items) }
-    {
-        self.is_small();
-        let states = States::without(&self.vrps, vrp);
-        let count = self.watches.len() as u32;
-        let plan = self.rounds.seed_plan().copied(alloc)?;
-        remake(
-            alloc,
-            &self.graph,
-            &states,
-            &self.book,
-            plan,
-            &self.rounds,
-            count,
-            &self.watched,
-            self.graph.ases(),
-            steps,
-        )
-    }
-
-    // Puts what was made in place.
-    pub(crate) fn put(&mut self, made: Remade) -> Changed
-        requires { (payloads : Payloads) × IsRemade self.old.graph payloads self.old.book (plan_of self.old.rounds) self.old.rounds self.old.watched.items made }
-        ensures routes { result.routes ≡ made.changed }
-        ensures graph { self.new.graph ≡ self.old.graph }
-        ensures vrps { self.new.vrps ≡ self.old.vrps }
-        ensures book { self.new.book ≡ self.old.book }
-        ensures watched { self.new.watched ≡ self.old.watched }
-        ensures ranks { self.new.ranks ≡ made.ranks }
-        ensures rounds { self.new.rounds ≡ made.rounds }
-        ensures watches { self.new.watches ≡ made.watches }
-    {
-        place(made, &mut self.ranks, &mut self.rounds, &mut self.watches)
     }
 }

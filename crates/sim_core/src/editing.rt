@@ -1,12 +1,17 @@
 //! Edits of a simulation.
-ghost use Rattle.std.specs.Prelude.{◌≡◌, IfOk, IfErr, OnOk, OnErr};
+ghost use Rattle.std.specs.Prelude.{◌≡◌, ◌≤◌, IfOk, IfErr, OnOk, OnErr};
+ghost use Rattle.leak_round.specs.Rounds.{pool_of};
+ghost use Rattle.path_pool.specs.Pool.{live_count};
 ghost use Rattle.scenario_text.specs.LineValues.{IsWellFormed};
+ghost use Rattle.sim_core.specs.Editing.{IsEdited, IsUnchanged};
 ghost use Rattle.sim_core.specs.Edits.{HasChanged, IsAllowed, IsEditRefusal, edited};
 ghost use Rattle.sim_core.specs.Kept.{IsKept};
 ghost use Rattle.sim_core.specs.Sims.{kept, world_seen};
 ghost use Rattle.sim_core.specs.World.{HasCycle};
 
 use crate::{EditError, Sim};
+use net_names::NoMemory;
+use origin_validation::States;
 use route_choice::Steps;
 use scenario_text::Edit;
 use std::alloc::Global;
@@ -19,7 +24,48 @@ pub struct Changed {
     pub routes: u64,
 }
 
+/// The most live cells of a pool at which an edit begins.
+const MOST_CELLS: usize = 20_000_000;
+
 impl Sim {
+    // Makes the pool of the paths anew where too many of its cells are live.
+    fn tidied<L: Ledger>(&mut self, alloc: Global, steps: &mut Steps<L>) -> Result<(), NoMemory>
+        requires kept { IsKept (world_seen self.old) (kept self.old) }
+        requires no_cycle { HasCycle (world_seen self.old) → ⊥ }
+        ensures unchanged { IsUnchanged self.old self.new }
+        ensures few_cells { OnOk result (live_count (pool_of self.new.rounds) ≤ 20000000) }
+    {
+        if self.rounds.pool().live() <= MOST_CELLS {
+            return Ok(());
+        }
+        let states = States::of(&self.vrps);
+        self.rounds.tidy(alloc, &self.graph, &self.ranks, &self.book, &states, steps)
+    }
+
+    // Edits the world, where few cells are live.
+    fn edit_tidied<L: Ledger>(
+        &mut self,
+        alloc: Global,
+        edit: &Edit,
+        steps: &mut Steps<L>,
+    ) -> Result<Changed, EditError>
+        requires formed { IsWellFormed edit.now }
+        requires few_cells { live_count (pool_of self.old.rounds) ≤ 20000000 }
+        requires kept { IsKept (world_seen self.old) (kept self.old) }
+        requires no_cycle { HasCycle (world_seen self.old) → ⊥ }
+        ensures { IsEdited self.old self.new edit.now result }
+    {
+        match edit {
+            Edit::Link { a, b, rel } => self.edit_link(alloc, *a, *b, *rel, steps),
+            Edit::Unlink { a, b } => self.edit_unlink(alloc, *a, *b, steps),
+            Edit::Policy { asn, kind } => self.edit_policy(alloc, *asn, *kind, steps),
+            Edit::VrpAdd { vrp } => self.add_vrp(alloc, *vrp, steps),
+            Edit::VrpTake { vrp } => self.take_vrp(alloc, *vrp, steps),
+            Edit::Announce { prefix, path } => self.announce(alloc, *prefix, path, steps),
+            Edit::Withdraw { prefix, asn } => self.withdraw(alloc, *prefix, *asn, steps),
+        }
+    }
+
     /// Edits the world. Every kept part is then that of the edited world, and the answer says how many
     /// entries differ. Both ends of a link differ, and an announced path has 1 to 64 numbers. A prefix
     /// stays in the world when its last announcement goes.
@@ -47,14 +93,10 @@ impl Sim {
         ensures same_world { OnErr result (world_seen self.new ≡ world_seen self.old) }
         ensures same_kept { OnErr result (kept self.new ≡ kept self.old) }
     {
-        match edit {
-            Edit::Link { a, b, rel } => self.edit_link(alloc, *a, *b, *rel, steps),
-            Edit::Unlink { a, b } => self.edit_unlink(alloc, *a, *b, steps),
-            Edit::Policy { asn, kind } => self.edit_policy(alloc, *asn, *kind, steps),
-            Edit::VrpAdd { vrp } => self.add_vrp(alloc, *vrp, steps),
-            Edit::VrpTake { vrp } => self.take_vrp(alloc, *vrp, steps),
-            Edit::Announce { prefix, path } => self.announce(alloc, *prefix, path, steps),
-            Edit::Withdraw { prefix, asn } => self.withdraw(alloc, *prefix, *asn, steps),
+        match self.tidied(alloc, steps) {
+            Ok(()) => {}
+            Err(_) => return Err(EditError::Memory),
         }
+        self.edit_tidied(alloc, edit, steps)
     }
 }

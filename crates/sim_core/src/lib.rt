@@ -10,7 +10,6 @@
 mod announcements;
 mod answering;
 mod changing;
-mod counting;
 mod editing;
 mod errors;
 mod linking;
@@ -21,8 +20,9 @@ mod naming;
 mod payloads;
 mod planning;
 mod policies;
-mod remaking;
+mod renewing;
 mod sim;
+mod touching;
 mod validating;
 mod watching;
 

@@ -1,26 +1,29 @@
 //! Edits of links.
-ghost use Rattle.std.specs.Prelude.{◌≡◌, ◌≢◌, ℕ, true, Some, None, IfOk, IfErr, OnOk, OnErr, IfNone, IfSome};
+ghost use Rattle.std.specs.Prelude.{◌≡◌, ◌≢◌, ◌≤◌, ℕ, true, Some, None, [], ◌∷◌, IfOk, IfErr, OnOk, OnErr, IfNone, IfSome};
 ghost use Rattle.as_graph.specs.declared.error.GraphError.{GraphError as AGraphError};
 ghost use Rattle.as_graph.specs.Hierarchy.{HasNoProviderCycle};
 ghost use Rattle.as_graph.specs.Refusals.{IsLinkRefusal};
 ghost use Rattle.as_graph.specs.Room.{is_room_for};
 ghost use Rattle.as_graph.specs.Topology.{what};
 ghost use Rattle.cycle_check.specs.Cycles.{without_pair};
-ghost use Rattle.leak_round.specs.Rounds.{plan_of};
+ghost use Rattle.leak_round.specs.Rounds.{plan_of, pool_of};
+ghost use Rattle.leak_round.specs.Touched.{touches};
+ghost use Rattle.path_pool.specs.Pool.{live_count};
 ghost use Rattle.scenario_text.specs.declared.acts.Edit.TheVariants.{Link, Unlink};
-ghost use Rattle.sim_core.specs.Editing.{HasLinks, IsEdited, IsUndone, links_with};
+ghost use Rattle.sim_core.specs.Editing.{HasLinks, IsChanged, IsEdited, IsLinkStop, IsUnchanged, IsUndone, ground_of, links_with};
 ghost use Rattle.sim_core.specs.Edits.{IsEditRefusal, absent_link as absent_link_of};
+ghost use Rattle.sim_core.specs.Ground.{BelongTo, DiffersAround, Ground as AGround};
 ghost use Rattle.sim_core.specs.Kept.{IsKept};
-ghost use Rattle.sim_core.specs.Remaking.{HoldIn, IsLinkStop, IsRemade};
 ghost use Rattle.sim_core.specs.Sims.{kept, world_seen};
 ghost use Rattle.sim_core.specs.World.{HasCycle};
 
 use crate::links::{closed_by, relink};
-use crate::remaking::Remade;
+use crate::touching::touched_ases;
 use crate::{Changed, EditError, EditLimit, Sim};
 use as_graph::{
     GraphError, ases_are_kept, edits_are_undone, links_are_set, links_are_sound, links_are_taken,
 };
+use leak_round::Touched;
 use net_names::{Asn, Rel};
 use route_choice::Steps;
 use std::alloc::Global;
@@ -78,31 +81,34 @@ impl Sim {
         }
     }
 
-    // Makes what belongs to the graph with a new link, unless the link closes a provider cycle.
-    fn plan_link<L: Ledger>(
-        &self,
+    // Takes what is kept to the graph with a new link, unless the link closes a provider cycle.
+    fn change_linked<L: Ledger>(
+        &mut self,
         alloc: Global,
         a: Asn,
         b: Asn,
         rel: Rel,
+        touched: &Touched,
         steps: &mut Steps<L>,
-    ) -> Result<Remade, EditError>
+    ) -> Result<Changed, EditError>
         requires apart { a ≢ b }
-        requires linked { what self.now.graph a b ≡ Some rel }
-        requires there { HasNoProviderCycle (without_pair self.now.graph a b) }
-        requires back { HasNoProviderCycle (without_pair self.now.graph b a) }
-        requires old { HoldIn self.now.rounds self.now.graph }
-        ensures made { IfOk result (IsRemade self.now.graph self.now.vrps self.now.book (plan_of self.now.rounds) self.now.rounds self.now.watched.items) }
-        ensures no_cycle { OnOk result (HasNoProviderCycle (what self.now.graph)) }
-        ensures refused { IfErr result (IsLinkStop self.now.graph a b rel) }
+        requires linked { what self.old.graph a b ≡ Some rel }
+        requires there { HasNoProviderCycle (without_pair self.old.graph a b) }
+        requires back { HasNoProviderCycle (without_pair self.old.graph b a) }
+        requires few_cells { live_count (pool_of self.old.rounds) ≤ 20000000 }
+        requires from { (old : AGround) × BelongTo old self.old.ranks self.old.rounds self.old.watches.items × DiffersAround old (ground_of self.old) (plan_of self.old.rounds) (a ∷ b ∷ []) (touches touched.now) }
+        ensures changed { IfOk result (λ c. IsChanged self.old self.new None c.routes) }
+        ensures no_cycle { OnOk result (HasNoProviderCycle (what self.old.graph)) }
+        ensures err { OnErr result (IsUnchanged self.old self.new) }
+        ensures refused { IfErr result (IsLinkStop self.old.graph a b rel) }
     {
         match closed_by(alloc, &self.graph, a, b, rel) {
             Ok(None) => {}
             Ok(Some(cycle)) => return Err(EditError::ProviderCycle(cycle)),
             Err(_) => return Err(EditError::Memory),
         }
-        match self.remade_within(alloc, steps) {
-            Ok(made) => Ok(made),
+        match self.change_at(alloc, &[a, b], touched, None, steps) {
+            Ok(changed) => Ok(changed),
             Err(_) => Err(EditError::Memory),
         }
     }
@@ -117,6 +123,7 @@ impl Sim {
         steps: &mut Steps<L>,
     ) -> Result<Changed, EditError>
         requires apart { a ≢ b }
+        requires few_cells { live_count (pool_of self.old.rounds) ≤ 20000000 }
         requires kept { IsKept (world_seen self.old) (kept self.old) }
         requires no_cycle { HasCycle (world_seen self.old) → ⊥ }
         ensures { IsEdited self.old self.new (Link a b rel) result }
@@ -127,13 +134,16 @@ impl Sim {
         edits_are_undone();
         ases_are_kept();
         let old = self.graph.rel(a, b);
+        let Ok(touched) = touched_ases(alloc, self.rounds.seed_plan(), &[a, b]) else {
+            return Err(EditError::Memory);
+        };
         match self.set_link(a, b, rel) {
             Ok(()) => {}
             Err(error) => return Err(error),
         }
         self.is_small();
-        match self.plan_link(alloc, a, b, rel, steps) {
-            Ok(made) => Ok(self.put(made)),
+        match self.change_linked(alloc, a, b, rel, &touched, steps) {
+            Ok(changed) => Ok(changed),
             Err(error) => {
                 self.set_back(a, b, old);
                 Err(error)
@@ -167,6 +177,7 @@ impl Sim {
         b: Asn,
         steps: &mut Steps<L>,
     ) -> Result<Changed, EditError>
+        requires few_cells { live_count (pool_of self.old.rounds) ≤ 20000000 }
         requires kept { IsKept (world_seen self.old) (kept self.old) }
         requires no_cycle { HasCycle (world_seen self.old) → ⊥ }
         ensures { IsEdited self.old self.new (Unlink a b) result }
@@ -178,7 +189,7 @@ impl Sim {
         ases_are_kept();
         let link = self.graph.rel(a, b);
         self.is_small();
-        let Ok(names) = Vec::from_slice(alloc, self.graph.ases()) else {
+        let Ok(touched) = touched_ases(alloc, self.rounds.seed_plan(), &[a, b]) else {
             return Err(EditError::Memory);
         };
         match self.cut_link(a, b) {
@@ -186,8 +197,8 @@ impl Sim {
             Err(error) => return Err(error),
         }
         self.is_small();
-        match self.remade(alloc, &names, steps) {
-            Ok(made) => Ok(self.put(made)),
+        match self.change_at(alloc, &[a, b], &touched, None, steps) {
+            Ok(changed) => Ok(changed),
             Err(_) => {
                 self.set_back(a, b, link);
                 Err(EditError::Memory)

@@ -1,8 +1,9 @@
 //! Making a simulation.
-ghost use Rattle.std.specs.Prelude.{◌≡◌, ◌+◌, ◌<◌, ◌≤◌, ℕ, length, IfOk, IfErr, OnOk};
+ghost use Rattle.std.specs.Prelude.{◌≡◌, ◌+◌, ◌<◌, ◌≤◌, ℕ, false, length, IfOk, IfErr, OnOk};
 ghost use Rattle.as_graph.specs.Topology.{as_count, what};
 ghost use Rattle.as_graph.specs.Hierarchy.{HasNoProviderCycle, IsRank};
 ghost use Rattle.rank_order.specs.Ranks.{rank_at};
+ghost use Rattle.leak_round.specs.Rounds.{is_open};
 ghost use Rattle.sim_core.specs.Loaded.{plan_of, world_of};
 ghost use Rattle.sim_core.specs.Loading.{IsCycleRefusal, IsLoadRefusal};
 ghost use Rattle.sim_core.specs.Parts.{AreRoundsOf};
@@ -54,7 +55,8 @@ fn rounds_of<L: Ledger>(
     requires ledger { (blank.name ≡ L.name) × (blank.parts ≡ L.parts) × (0 < L.parts) }
     requires no_cycle { HasNoProviderCycle (what graph.now) }
     requires ranks { (a : ℕ) → IsRank (what graph.now) a (rank_at ranks.now a) }
-    ensures { IfOk result (λ rounds. AreRoundsOf graph.now vrps.now book.now (plan_of scenario.now) (length scenario.now.leaks + 1) rounds) }
+    ensures rounds { IfOk result (λ rounds. AreRoundsOf graph.now vrps.now book.now (plan_of scenario.now) (length scenario.now.leaks + 1) rounds) }
+    ensures closed { IfOk result (λ rounds. is_open rounds ≡ false) }
 {
     let states = known_states(alloc, vrps, scenario)?;
     let plan = seed_plan(alloc, scenario)?;

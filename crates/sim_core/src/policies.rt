@@ -1,31 +1,35 @@
 //! Edits of policies.
-ghost use Rattle.std.specs.Prelude.{◌≡◌, ◌≤◌, ℕ, true, false, Some, None, IsTrue, IfOk, IfErr, OnOk, OnErr, if◌then◌else◌, length, nat_eq};
+ghost use Rattle.std.specs.Prelude.{◌≡◌, ◌≢◌, ◌≤◌, ℕ, true, false, Some, IsTrue, IfOk, IfErr, OnOk, OnErr, if◌then◌else◌};
 ghost use Rattle.std.specs.FinSet as set;
-ghost use Rattle.std.specs.List.{IsDistinct};
 ghost use Rattle.as_graph.specs.Edits.{without_mark};
 ghost use Rattle.as_graph.specs.Room.{is_room_with};
-ghost use Rattle.as_graph.specs.Topology.{has, what};
-ghost use Rattle.as_graph.specs.Hierarchy.{HasNoProviderCycle};
+ghost use Rattle.as_graph.specs.Topology.{what};
 ghost use Rattle.net_names.specs.Numbers.{occurs};
-ghost use Rattle.leak_round.specs.Rounds.{plan_of};
+ghost use Rattle.net_names.specs.Prefixes.{PrefixValue};
+ghost use Rattle.net_names.specs.declared.routes.Rel.{Rel as ARel};
+ghost use Rattle.leak_round.specs.Rounds.{plan_of, pool_of};
+ghost use Rattle.leak_round.specs.Touched.{touches};
+ghost use Rattle.path_pool.specs.Pool.{live_count};
+ghost use Rattle.policy_kinds.specs.Kinds.{kind_policy};
 ghost use Rattle.scenario_text.specs.declared.acts.Edit.TheVariants.{Policy};
 ghost use Rattle.sim_core.specs.Editing.{IsEdited, IsGiven, IsRoomed, IsUndone};
 ghost use Rattle.sim_core.specs.Edits.{edited, refusal_of_edit};
 ghost use Rattle.sim_core.specs.Kept.{IsKept};
 ghost use Rattle.sim_core.specs.Loaded.{is_other as is_other_policy};
-ghost use Rattle.sim_core.specs.Remaking.{HoldIn, HoldOnly, IsRemade};
 ghost use Rattle.sim_core.specs.Sims.{kept, world_seen};
 ghost use Rattle.sim_core.specs.World.{HasCycle};
 ghost use Rattle.sim_core.specs.declared.errors.EditError.{EditError as AnEditError};
 ghost use Rattle.stability_laws.specs.Book.{policy_at};
+ghost use Rattle.stability_laws.specs.Plans.{has_prefix};
 
 use crate::naming::is_other;
-use crate::remaking::Remade;
+use crate::touching::touched_ases;
 use crate::{Changed, EditError, EditLimit, Sim};
-use as_graph::{Graph, GraphError, ases_are_kept};
+use as_graph::{Graph, GraphError, ases_are_kept, links_are_sound};
+use leak_round::Touched;
 use net_names::{Asn, NoMemory};
-use origin_validation::States;
 use policy_kinds::Kind;
+use policy_laws::RoutePolicy;
 use route_choice::Steps;
 use std::alloc::Global;
 use std::sync::ledger::Ledger;
@@ -37,6 +41,20 @@ fn unmark_unless(graph: &mut Graph, named: bool, asn: Asn)
     if !named {
         graph.unmark(asn);
     }
+}
+
+// Puts the neighbours of an AS behind the others.
+fn push_neighbours(graph: &Graph, asn: Asn, ases: &mut Vec<Asn>) -> Result<(), NoMemory>
+    ensures neighbours { OnOk result ((n : ℕ) (r : ARel) → what graph.now asn n ≡ Some r → occurs n ases.new.items ≡ true) }
+    ensures more { (a : ℕ) → occurs a ases.old.items ≡ true → occurs a ases.new.items ≡ true }
+{
+    for neighbour in graph.neighbours(asn) {
+        match ases.push(neighbour.asn) {
+            Ok(()) => {}
+            Err(_) => return Err(NoMemory),
+        }
+    }
+    Ok(())
 }
 
 impl Sim {
@@ -122,27 +140,21 @@ impl Sim {
         *self.book.policy(asn)
     }
 
-    // What belongs to the graph after an AS got this kind, where these were the ASes before.
-    fn remade_given<L: Ledger>(
-        &self,
-        alloc: Global,
-        before: &[Asn],
-        kind: Kind,
-        steps: &mut Steps<L>,
-    ) -> Result<Remade, NoMemory>
-        requires no_cycle { HasNoProviderCycle (what self.now.graph) }
-        requires apart { IsDistinct nat_eq before.now }
-        requires few { length before.now ≤ 150000 }
-        requires within { is_other_policy (0, kind) ≡ true → HoldIn self.now.rounds self.now.graph }
-        requires less { is_other_policy (0, kind) ≡ false → (a : ℕ) → has self.now.graph a ≡ true → occurs a before.now ≡ true }
-        requires before { is_other_policy (0, kind) ≡ false → HoldOnly self.now.rounds before.now }
-        ensures { IfOk result (IsRemade self.now.graph self.now.vrps self.now.book (plan_of self.now.rounds) self.now.rounds self.now.watched.items) }
+    // The ASes whose entries may be wrong where the policy of an AS becomes another: that AS, and where
+    // it begins or ceases to mark, its neighbours too.
+    fn touched_with(&self, alloc: Global, asn: Asn, kind: Kind) -> Result<Touched, NoMemory>
+        ensures own { IfOk result (λ t. (prefix : PrefixValue) → IsTrue (has_prefix (plan_of self.now.rounds) prefix) → touches t prefix asn ≡ true) }
+        ensures neighbours { IfOk result (λ t. (prefix : PrefixValue) (n : ℕ) (r : ARel) → IsTrue (has_prefix (plan_of self.now.rounds) prefix) → (kind_policy kind).marks ≢ (kind_policy (policy_at self.now.book asn)).marks → what self.now.graph asn n ≡ Some r → touches t prefix n ≡ true) }
     {
-        if is_other(kind) {
-            self.remade_within(alloc, steps)
-        } else {
-            self.remade(alloc, before, steps)
+        let mut ases = Vec::new(alloc);
+        match ases.push(asn) {
+            Ok(()) => {}
+            Err(_) => return Err(NoMemory),
         }
+        if kind.marks() != self.kind_of(asn).marks() {
+            push_neighbours(&self.graph, asn, &mut ases)?;
+        }
+        touched_ases(alloc, self.rounds.seed_plan(), &ases)
     }
 
     // Gives an AS a policy.
@@ -153,14 +165,15 @@ impl Sim {
         kind: Kind,
         steps: &mut Steps<L>,
     ) -> Result<Changed, EditError>
+        requires few_cells { live_count (pool_of self.old.rounds) ≤ 20000000 }
         requires kept { IsKept (world_seen self.old) (kept self.old) }
         requires no_cycle { HasCycle (world_seen self.old) → ⊥ }
         ensures { IsEdited self.old self.new (Policy asn kind) result }
     {
-        ases_are_kept();
+        links_are_sound();
         let was = self.kind_of(asn);
         self.is_small();
-        let Ok(before) = Vec::from_slice(alloc, self.graph.ases()) else {
+        let Ok(touched) = self.touched_with(alloc, asn, kind) else {
             return Err(EditError::Memory);
         };
         match self.make_room(asn) {
@@ -172,8 +185,8 @@ impl Sim {
             Err(error) => return Err(error),
         }
         self.is_small();
-        match self.remade_given(alloc, &before, kind, steps) {
-            Ok(made) => Ok(self.put(made)),
+        match self.change_at(alloc, &[asn], &touched, None, steps) {
+            Ok(changed) => Ok(changed),
             Err(_) => {
                 self.give_back(asn, was);
                 Err(EditError::Memory)

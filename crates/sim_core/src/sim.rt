@@ -1,8 +1,9 @@
 //! A simulation.
-ghost use Rattle.std.specs.Prelude.{◌≡◌, ◌≢◌, ◌≤◌, ℕ, Some, length};
+ghost use Rattle.std.specs.Prelude.{◌≡◌, ◌≢◌, ◌≤◌, ℕ, false, Some};
+ghost use Rattle.std.specs.List.{AllPairs};
 ghost use Rattle.std.specs.FinMap as fin;
 ghost use Rattle.leak_round.specs.Limits.{IsWithinLimits};
-ghost use Rattle.leak_round.specs.Rounds.{plan_of, round_count};
+ghost use Rattle.leak_round.specs.Rounds.{is_open, plan_of, round_count};
 ghost use Rattle.policy_kinds.specs.declared.kind.Kind.TheVariants.{Plain};
 ghost use Rattle.sim_core.specs.Parts.{IsNamed};
 ghost use Rattle.sim_core.specs.Watching.{HasWatches};
@@ -33,5 +34,7 @@ pub struct Sim {
     ghost other: { (a : ℕ) → fin.get book.named a ≢ Some Plain },
     ghost small: { IsWithinLimits (plan_of rounds) },
     ghost few: { round_count rounds ≤ 4 },
-    ghost watching: { HasWatches (round_count rounds) (length watched.items) watches.items },
+    ghost closed: { is_open rounds ≡ false },
+    ghost once: { AllPairs (λ a b. a ≢ b) watched.items },
+    ghost watching: { HasWatches (round_count rounds) watched.items watches.items },
 }

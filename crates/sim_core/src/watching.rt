@@ -1,5 +1,6 @@
 //! The watched addresses, and for each round a watch for each of them.
-ghost use Rattle.std.specs.Prelude.{◌≡◌, ◌≤◌, IfOk, position};
+ghost use Rattle.std.specs.Prelude.{◌≡◌, ◌≢◌, ◌≤◌, IfOk, map, position};
+ghost use Rattle.std.specs.List.{AllPairs};
 ghost use Rattle.std.specs.Ordering.{eq_by_cmp};
 ghost use Rattle.leak_round.specs.Rounds.{kept as kept_rounds, plan_of, round_count};
 ghost use Rattle.roa_table.specs.Sets.{Payloads};
@@ -7,7 +8,7 @@ ghost use Rattle.policy_kinds.specs.Kinds.{kind_policy};
 ghost use Rattle.origin_validation.specs.Judging.{state_of};
 ghost use Rattle.stability_laws.specs.Rounds.{AreRounds};
 ghost use Rattle.stability_laws.specs.World.{setting};
-ghost use Rattle.sim_core.specs.Watching.{AreRoundWatches, AreWatches, GoesOnInside, IsPlaceOrNone};
+ghost use Rattle.sim_core.specs.Watching.{AreRoundWatches, AreWatches, GoesOnInside, HasWatches, IsPlaceOrNone, addrs_in, seen_in};
 
 use as_graph::Graph;
 use data_trace::Watch;
@@ -26,7 +27,8 @@ pub struct RoundWatches {
 
 /// The addresses that a scenario watches, in its order.
 pub fn watched_addrs(alloc: Global, scenario: &Scenario) -> Result<Vec<Addr>, AllocError>
-    ensures { IfOk result (λ v. v.items ≡ scenario.now.watch) }
+    ensures value { IfOk result (λ v. v.items ≡ scenario.now.watch) }
+    ensures once { AllPairs (λ a b. a ≢ b) scenario.now.watch }
 {
     scenario.watched().iter().copied().collect(alloc)
 }
@@ -57,7 +59,8 @@ fn watch_round(
     requires from { 1 ≤ round }
     requires to { round ≤ round_count rounds.now }
     requires inside { GoesOnInside graph.now (plan_of rounds.now) (kept_rounds rounds.now round) }
-    ensures { IfOk result (λ one. AreWatches graph.now (plan_of rounds.now) (kept_rounds rounds.now round) book.now addrs.now one.watches.items) }
+    ensures rows { IfOk result (λ one. AreWatches graph.now (plan_of rounds.now) (kept_rounds rounds.now round) book.now (seen_in one)) }
+    ensures addrs { IfOk result (λ one. addrs_in one ≡ addrs.now) }
 {
     let Some(tables) = rounds.round(round) else {
         unreachable!();
@@ -85,7 +88,8 @@ pub fn watch_rounds(
 ) -> Result<Vec<RoundWatches>, NoMemory>
     requires count { count ≡ round_count rounds.now }
     requires stable { (payloads : Payloads) × AreRounds (λ p. setting kind_policy graph.now book.now (state_of payloads p)) (plan_of rounds.now) (round_count rounds.now) (kept_rounds rounds.now) }
-    ensures { IfOk result (λ all. AreRoundWatches graph.now (plan_of rounds.now) (kept_rounds rounds.now) book.now addrs.now (round_count rounds.now) all.items) }
+    ensures rows { IfOk result (λ all. AreRoundWatches graph.now (plan_of rounds.now) (kept_rounds rounds.now) book.now (round_count rounds.now) (map seen_in all.items)) }
+    ensures addrs { IfOk result (λ all. HasWatches (round_count rounds.now) addrs.now all.items) }
 {
     paths_go_on::<Kind>();
     plans_are_sound(rounds.seed_plan());

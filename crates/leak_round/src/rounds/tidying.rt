@@ -25,7 +25,7 @@ use std::sync::ledger::Ledger;
 
 impl Rounds {
     /// Makes the pool anew, where no plan is open. Afterwards no more cells are live than all tables have
-    /// entries and the announced paths have numbers. What each AS holds stays, and so does the plan of
+    /// entries and the announced paths have numbers, which are at most 20,000,000. What each AS holds stays, and so does the plan of
     /// seeds.
     ///
     /// The graph has no provider cycle, the ranks are its ranks, and the tables stand for the graph, the
@@ -50,6 +50,7 @@ impl Rounds {
         ensures count { round_count self.new ≡ round_count self.old }
         ensures kept { (round : ℕ) (prefix : PrefixValue) (a : ℕ) → kept self.new round prefix a ≡ kept self.old round prefix a }
         ensures cells { OnOk result (HasEntries (of_rounds (kept self.new)) (live_count (pool_of self.new) - numbers_of (plan_of self.new))) }
+        ensures few { OnOk result (live_count (pool_of self.new) ≤ 20000000) }
         ensures err { OnErr result (self.new ≡ self.old) }
     {
         let plan = self.plan.copied(alloc)?;

@@ -7,6 +7,7 @@ use Rattle.stability_laws.specs.World.{setting}
 use Rattle.stability_laws.specs.Plans.{prefixes_of}
 use Rattle.route_choice.specs.declared.round_tables.RoundTables.{RoundTables}
 use Rattle.route_choice.specs.RoundTables.{round_routing}
+use Rattle.leak_round.specs.Growth.{GrowsBy}
 use Rattle.leak_round.specs.Tables.{kept_in, IsRound, AreRoundsFull}
 use Rattle.leak_round.proofs.Listing.{cost_more}
 use Rattle.leak_round.proofs.Keeping.{announced_kept, room_left, grows_on}
@@ -69,5 +70,7 @@ returns-clause-keeps g c = c.loop-past.invariant.so_far.keeps
 pub make_round-requires-clause-earlier : goal.make_round-requires-clause-earlier
 make_round-requires-clause-earlier g c = subst (AreRoundsFull c.loop-past.pool c.args.plan.now) (sym c.as_slice.ensures.value) c.loop-past.invariant.so_far.full
 
-pub returns-clause-limit : goal.returns-clause-limit
-returns-clause-limit g c = c.loop-past.invariant.grows.limit
+pub returns-clause-grows : goal.returns-clause-grows
+returns-clause-grows g c =
+    let whole : c.loop-past.past ≡ c.args.rounds = omega arith in
+    subst (λ (n : ℕ). GrowsBy c.args.pool.now c.loop-past.pool (150000 * (n * length (prefixes_of c.args.plan.now)))) whole c.loop-past.invariant.grows

@@ -1,7 +1,8 @@
-use Rattle.std.proofs.Common.{◌+◌, ◌∙◌, sym, ap, subst, arith}
+use Rattle.std.proofs.Common.{◌≢◌, ◌+◌, ◌∙◌, sym, ap, subst, arith}
+use Rattle.std.specs.List.{AllPairs}
 use Rattle.leak_round.specs.Limits.{IsWithinLimits}
 use Rattle.sim_core.proofs.Plans.{kinds_are_other}
-use Rattle.sim_core.proofs.Watches.{has_watches, rows_right}
+use Rattle.sim_core.proofs.Watches.{rows_right}
 use Rattle.sim_core.proofs.Within.{within}
 use Rattle.sim_core.proofs.Loads.{unmarked_world, cyclic_world, world_is, marks_are, only_ones, stable_rounds}
 use Rattle.sim_core.proofs.loading.load_world.Goals as goal
@@ -13,30 +14,32 @@ pub returns-in-Err-ranks_of-clause-refused : goal.returns-in-Err-ranks_of-clause
 returns-in-Err-ranks_of-clause-refused g c = cyclic_world c.args.links.now c.args.vrps c.args.scenario.now c.in-Ok.graph c.in-Err-ranks_of.error c.in-Ok.ensures.0 c.in-Ok.ensures.1 c.in-Err-ranks_of.ensures.refused
 
 pub watch_rounds-requires-clause-count : goal.watch_rounds-requires-clause-count
-watch_rounds-requires-clause-count g c = ap (λ n. n + 1) c.leak_lists.ensures.value ∙ sym c.in-Ok-rounds_of.ensures.count_is
+watch_rounds-requires-clause-count g c = ap (λ n. n + 1) c.leak_lists.ensures.value ∙ sym c.in-Ok-rounds_of.ensures.rounds.count_is
 
 pub watch_rounds-requires-clause-stable : goal.watch_rounds-requires-clause-stable
-watch_rounds-requires-clause-stable g c = (c.args.vrps, stable_rounds c.in-Ok.graph c.args.vrps c.in-Ok-policies.book _ _ c.in-Ok-rounds_of.rounds c.in-Ok-rounds_of.ensures)
+watch_rounds-requires-clause-stable g c = (c.args.vrps, stable_rounds c.in-Ok.graph c.args.vrps c.in-Ok-policies.book _ _ c.in-Ok-rounds_of.rounds c.in-Ok-rounds_of.ensures.rounds)
 
 pub invariant_of-result : goal.invariant_of-result
 invariant_of-result g c = record {
-  watching = has_watches _ _ _ _ _ _ _ (rw c.deref.ensures.value at c.in-Ok-watch_rounds.ensures);
-  named = marks_are c.args.links.now c.args.vrps c.args.scenario.now c.in-Ok.graph c.in-Ok-policies.book c.in-Ok-rounds_of.rounds c.in-Ok.ensures.0 c.in-Ok-policies.ensures.named c.in-Ok-rounds_of.ensures.plan_is c.in-Ok-rounds_of.ensures.count_is c.in-Ok-watched_addrs.watched.items c.in-Ok-watched_addrs.ensures;
+  watching = rw c.deref.ensures.value at c.in-Ok-watch_rounds.ensures.addrs;
+  closed = c.in-Ok-rounds_of.ensures.closed;
+  once = subst (AllPairs (λ a b. a ≢ b)) (sym c.in-Ok-watched_addrs.ensures.value) c.in-Ok-watched_addrs.ensures.once;
+  named = marks_are c.args.links.now c.args.vrps c.args.scenario.now c.in-Ok.graph c.in-Ok-policies.book c.in-Ok-rounds_of.rounds c.in-Ok.ensures.0 c.in-Ok-policies.ensures.named c.in-Ok-rounds_of.ensures.rounds.plan_is c.in-Ok-rounds_of.ensures.rounds.count_is c.in-Ok-watched_addrs.watched.items c.in-Ok-watched_addrs.ensures.value;
   plain = c.in-Ok-policies.ensures.rest;
   other = kinds_are_other c.args.scenario.now.policies c.in-Ok-policies.book.named c.in-Ok-policies.ensures.named;
-  small = subst IsWithinLimits (sym c.in-Ok-rounds_of.ensures.plan_is) (within c.args.scenario.now c.leak_lists.ensures.scenario);
-  few = omega (arith, c.in-Ok-rounds_of.ensures.count_is, c.leak_lists.ensures.scenario.few_rounds);
+  small = subst IsWithinLimits (sym c.in-Ok-rounds_of.ensures.rounds.plan_is) (within c.args.scenario.now c.leak_lists.ensures.scenario);
+  few = omega (arith, c.in-Ok-rounds_of.ensures.rounds.count_is, c.leak_lists.ensures.scenario.few_rounds);
 }
 
 pub returns-in-Ok-watch_rounds-clause-world : goal.returns-in-Ok-watch_rounds-clause-world
 returns-in-Ok-watch_rounds-clause-world g c =
-    world_is c.args.links.now c.args.vrps c.args.scenario.now c.in-Ok.graph c.in-Ok-policies.book c.in-Ok-rounds_of.rounds c.in-Ok.ensures.0 c.in-Ok-policies.ensures.named c.in-Ok-rounds_of.ensures.plan_is c.in-Ok-rounds_of.ensures.count_is c.in-Ok-watched_addrs.watched.items c.in-Ok-watched_addrs.ensures
+    world_is c.args.links.now c.args.vrps c.args.scenario.now c.in-Ok.graph c.in-Ok-policies.book c.in-Ok-rounds_of.rounds c.in-Ok.ensures.0 c.in-Ok-policies.ensures.named c.in-Ok-rounds_of.ensures.rounds.plan_is c.in-Ok-rounds_of.ensures.rounds.count_is c.in-Ok-watched_addrs.watched.items c.in-Ok-watched_addrs.ensures.value
 
 pub returns-in-Ok-watch_rounds-clause-kept : goal.returns-in-Ok-watch_rounds-clause-kept
 returns-in-Ok-watch_rounds-clause-kept g c =
-    let is = marks_are c.args.links.now c.args.vrps c.args.scenario.now c.in-Ok.graph c.in-Ok-policies.book c.in-Ok-rounds_of.rounds c.in-Ok.ensures.0 c.in-Ok-policies.ensures.named c.in-Ok-rounds_of.ensures.plan_is c.in-Ok-rounds_of.ensures.count_is c.in-Ok-watched_addrs.watched.items c.in-Ok-watched_addrs.ensures in
+    let is = marks_are c.args.links.now c.args.vrps c.args.scenario.now c.in-Ok.graph c.in-Ok-policies.book c.in-Ok-rounds_of.rounds c.in-Ok.ensures.0 c.in-Ok-policies.ensures.named c.in-Ok-rounds_of.ensures.rounds.plan_is c.in-Ok-rounds_of.ensures.rounds.count_is c.in-Ok-watched_addrs.watched.items c.in-Ok-watched_addrs.ensures.value in
     record {
-      routings = only_ones c.in-Ok.graph c.args.vrps c.in-Ok-policies.book _ _ c.in-Ok-rounds_of.rounds c.in-Ok-watched_addrs.watched.items is c.in-Ok-policies.ensures.rest c.in-Ok-rounds_of.ensures;
-      rows = rows_right c.in-Ok.graph c.args.vrps c.in-Ok-policies.book c.in-Ok-rounds_of.rounds c.in-Ok-watched_addrs.watched.items c.in-Ok-watch_rounds.watches.items is c.in-Ok-policies.ensures.rest (rw c.deref.ensures.value at c.in-Ok-watch_rounds.ensures);
+      routings = only_ones c.in-Ok.graph c.args.vrps c.in-Ok-policies.book _ _ c.in-Ok-rounds_of.rounds c.in-Ok-watched_addrs.watched.items is c.in-Ok-policies.ensures.rest c.in-Ok-rounds_of.ensures.rounds;
+      rows = rows_right c.in-Ok.graph c.args.vrps c.in-Ok-policies.book c.in-Ok-rounds_of.rounds c.in-Ok-watched_addrs.watched.items c.in-Ok-watch_rounds.watches.items is c.in-Ok-policies.ensures.rest (rw c.deref.ensures.value at c.in-Ok-watch_rounds.ensures.addrs) c.in-Ok-watch_rounds.ensures.rows;
       ranks = c.in-Ok-ranks_of.ensures.ranks;
     }

@@ -1,10 +1,10 @@
-use Rattle.std.proofs.Common.{◌≡◌, ◌+◌, ◌<◌, ℕ, suc, sym, subst, List, arith}
+use Rattle.std.proofs.Common.{◌≡◌, ◌+◌, ◌<◌, ℕ, suc, sym, subst, map, List, arith}
 use Rattle.stability_laws.specs.Plans.{IsSound}
 use Rattle.leak_round.specs.Rounds.{kept, plan_of, round_count}
-use Rattle.sim_core.specs.Watching.{AreRoundWatches, AreWatches, GoesOnInside}
+use Rattle.sim_core.specs.Watching.{AreRoundWatches, AreWatches, GoesOnInside, HasWatches, seen_in}
 use Rattle.sim_core.specs.declared.watching.RoundWatches.{RoundWatches}
 use Rattle.sim_core.proofs.Hops.{goes_on_inside}
-use Rattle.sim_core.proofs.Watches.{one_round_more}
+use Rattle.sim_core.proofs.Watches.{one_round_longer, one_round_more}
 use Rattle.sim_core.proofs.watching.watch_rounds.Goals as goal
 
 pub watch_round-requires-clause-inside : goal.watch_round-requires-clause-inside
@@ -20,8 +20,10 @@ watch_round-requires-clause-inside c =
 pub loop-past-preserved : goal.loop-past-preserved
 loop-past-preserved c =
     let plan = plan_of c.args.rounds.now in
+    let one = c.in_ok-one.one in
     let next : c.loop-past.past + 1 ≡ suc c.loop-past.past = omega arith in
-    let P : ℕ → Type 0 = λ r. AreWatches c.args.graph.now plan (kept c.args.rounds.now r) c.args.book.now c.args.addrs.now c.in_ok-one.one.watches.items in
-    let Q : List RoundWatches → Type 0 = λ all. AreRoundWatches c.args.graph.now plan (kept c.args.rounds.now) c.args.book.now c.args.addrs.now (c.loop-past.past + 1) all in
-    subst Q (sym c.in-Ok.ensures.items)
-    (one_round_more c.args.graph.now plan (kept c.args.rounds.now) c.args.book.now c.args.addrs.now c.loop-past.past c.loop-past.all.items c.in_ok-one.one c.loop-past.invariant (subst P next c.in_ok-one.ensures))
+    let here = subst (λ r. AreWatches c.args.graph.now plan (kept c.args.rounds.now r) c.args.book.now (seen_in one)) next c.in_ok-one.ensures.rows in
+    subst
+    (λ (all : List RoundWatches). AreRoundWatches c.args.graph.now plan (kept c.args.rounds.now) c.args.book.now (c.loop-past.past + 1) (map seen_in all) × HasWatches (c.loop-past.past + 1) c.args.addrs.now all)
+    (sym c.in-Ok.ensures.items)
+    (one_round_more c.args.graph.now plan (kept c.args.rounds.now) c.args.book.now c.loop-past.past c.loop-past.all.items one c.loop-past.invariant.0 here, one_round_longer c.args.addrs.now c.loop-past.past c.loop-past.all.items one c.loop-past.invariant.1 c.in_ok-one.ensures.addrs)

@@ -5,7 +5,7 @@ use Rattle.leak_round.specs.Announced.{AreAnnounced}
 use Rattle.leak_round.specs.Entries.{of_rounds}
 use Rattle.leak_round.specs.Limits.{numbers_of}
 use Rattle.leak_round.specs.Tables.{kept_in}
-use Rattle.leak_round.proofs.Built.{all_announced, all_room}
+use Rattle.leak_round.proofs.Built.{all_announced, all_room, few_cells}
 use Rattle.leak_round.proofs.Counting.{fewer_entries}
 use Rattle.leak_round.proofs.Keeping.{announced_kept}
 use Rattle.leak_round.proofs.Numbers.{numbers_counted}
@@ -35,6 +35,13 @@ returns-clause-cells g c =
     let few : live_count c.announce_all.new.pool ≤ numbers_of plan = omega (arith, counted, c.in_ok-announced.ensures.cells, c.new-pool.ensures.live) in
     fewer_entries (of_rounds (kept_in c.make_rounds.new.pool c.in_ok-tables.tables.items)) (live_count c.make_rounds.new.pool - numbers_of plan) (live_count c.make_rounds.new.pool - live_count c.announce_all.new.pool) c.in_ok-tables.ensures.cells (omega (arith, few))
 
+pub returns-clause-few : goal.returns-clause-few
+returns-clause-few g c =
+    let plan = c.args.plan in
+    let counted = numbers_counted plan in
+    let few : live_count c.announce_all.new.pool ≤ numbers_of plan = omega (arith, counted, c.in_ok-announced.ensures.cells, c.new-pool.ensures.live) in
+    few_cells c.announce_all.new.pool c.make_rounds.new.pool plan c.args.rounds c.requires.limits c.requires.rounds few c.in_ok-tables.ensures.grows.cells
+
 pub invariant_of-result : goal.invariant_of-result
 invariant_of-result g c =
     let plan = c.args.plan in
@@ -47,5 +54,5 @@ invariant_of-result g c =
       closed = λ shut k. omega (arith, c.in_ok-tables.ensures.holds k, c.in_ok-announced.ensures.so_far.holds k);
       limits = c.requires.limits;
       few = omega (arith, c.in_ok-tables.ensures.count, c.requires.rounds);
-      cells = c.in_ok-tables.ensures.limit ∙ c.announce_all.ensures.limit ∙ c.new-pool.ensures.limit;
+      cells = c.in_ok-tables.ensures.grows.limit ∙ c.announce_all.ensures.limit ∙ c.new-pool.ensures.limit;
     }

@@ -1,53 +1,58 @@
-use Rattle.std.proofs.Common.{◌≡◌, ◌∙◌, ℕ, inl, inr, None, refl, sym, ap, subst}
+use Rattle.std.proofs.Common.{◌≡◌, ◌∙◌, inl, inr, None, Some, refl, sym, ap}
 use Rattle.net_names.specs.Links.{LinkMap}
-use Rattle.as_graph.specs.Topology.{what}
+use Rattle.as_graph.specs.Topology.{Topology, what}
+use Rattle.leak_round.specs.Touched.{touches}
 use Rattle.scenario_text.specs.declared.acts.Edit.TheVariants.{Link}
-use Rattle.sim_core.specs.Editing.{IsDone}
+use Rattle.stability_laws.specs.Plans.{Plan, has_prefix}
+use Rattle.sim_core.specs.Editing.{ground_of}
 use Rattle.sim_core.specs.Edits.{over_limit, passed_limit, refusal_of_edit}
 use Rattle.sim_core.specs.Sims.{world_seen}
 use Rattle.sim_core.specs.World.{graph_of}
-use Rattle.sim_core.proofs.CycleLemmas.{none_some}
-use Rattle.sim_core.proofs.LinkEdits.{back_linked, hold_linked, if_none_any, link_stopped, links_undone, links_world, there_none}
-use Rattle.sim_core.proofs.Remade.{allowed_by, put_done, small_world}
+use Rattle.sim_core.proofs.Doing.{allowed_by, begun_belongs, changed_done, small_world}
+use Rattle.sim_core.proofs.LinkEdits.{back_linked, link_differs, link_stopped, links_undone, links_world, there_none}
 use Rattle.sim_core.proofs.sim.Sim.edit_link.Goals as goal
 
-pub plan_link-requires-clause-there : goal.plan_link-requires-clause-there
-plan_link-requires-clause-there g c =
-    there_none c.links_are_sound.ensures c.links_are_set.ensures c.links_are_taken.ensures c.args.self.now c.set_link.new.self c.args.a c.args.b c.args.rel c.requires.apart c.args.a c.args.b (inl (refl, refl)) c.in-Ok.ensures.ok c.requires.no_cycle
+pub change_linked-requires-clause-there : goal.change_linked-requires-clause-there
+change_linked-requires-clause-there g c =
+    there_none c.links_are_sound.ensures c.links_are_set.ensures c.links_are_taken.ensures c.args.self.now c.set_link.new.self c.args.a c.args.b c.args.rel c.requires.apart c.args.a c.args.b (inl (refl, refl)) c.in-Ok-set_link.ensures.ok c.requires.no_cycle
 
-pub plan_link-requires-clause-back : goal.plan_link-requires-clause-back
-plan_link-requires-clause-back g c =
-    there_none c.links_are_sound.ensures c.links_are_set.ensures c.links_are_taken.ensures c.args.self.now c.set_link.new.self c.args.a c.args.b c.args.rel c.requires.apart c.args.b c.args.a (inr (refl, refl)) c.in-Ok.ensures.ok c.requires.no_cycle
+pub change_linked-requires-clause-back : goal.change_linked-requires-clause-back
+change_linked-requires-clause-back g c =
+    there_none c.links_are_sound.ensures c.links_are_set.ensures c.links_are_taken.ensures c.args.self.now c.set_link.new.self c.args.a c.args.b c.args.rel c.requires.apart c.args.b c.args.a (inr (refl, refl)) c.in-Ok-set_link.ensures.ok c.requires.no_cycle
 
-pub plan_link-requires-clause-old : goal.plan_link-requires-clause-old
-plan_link-requires-clause-old g c = hold_linked c.ases_are_kept.ensures c.args.self.now c.set_link.new.self c.args.a c.args.b c.args.rel c.requires.kept c.in-Ok.ensures.ok
+pub change_linked-requires-clause-from : goal.change_linked-requires-clause-from
+change_linked-requires-clause-from g c =
+    let old = c.args.self.now in
+    let mid = c.set_link.new.self in
+    let h = c.in-Ok-set_link.ensures.ok in (
+      ground_of old,
+      begun_belongs old mid c.requires.kept c.requires.no_cycle h.rest,
+      link_differs c.links_are_set.ensures c.links_are_taken.ensures c.ases_are_kept.ensures old mid c.args.a c.args.b (Some c.args.rel) (touches c.in-Ok.touched) c.requires.apart h
+          (λ prefix x known end. c.in-Ok.ensures prefix x (ap (λ (p : Plan). has_prefix p prefix) c.seed_plan.ensures ∙ known) end),
+    )
 
-pub returns-in-Ok-plan_link : goal.returns-in-Ok-plan_link
-returns-in-Ok-plan_link g c =
+pub returns-in-Ok-change_linked : goal.returns-in-Ok-change_linked
+returns-in-Ok-change_linked g c =
     let e = Link c.args.a c.args.b c.args.rel in
     let old = c.args.self.now in
     let mid = c.set_link.new.self in
-    let world = links_world old mid c.args.a c.args.b _ c.in-Ok.ensures.ok in
-    subst (λ (n : ℕ). IsDone old c.put.new.self e n) (sym c.put.ensures.routes)
-    (put_done old mid c.put.new.self e c.in-Ok-plan_link.made world c.in-Ok.ensures.ok.rest
-    (allowed_by (world_seen old) (world_seen mid) e world refl (small_world mid c.is_small.ensures) c.in-Ok-plan_link.ensures.no_cycle)
-    c.in-Ok-plan_link.ensures.made
-    (record { graph = c.put.ensures.graph; vrps = c.put.ensures.vrps; book = c.put.ensures.book; watched = c.put.ensures.watched; ranks = c.put.ensures.ranks; rounds = c.put.ensures.rounds; watches = c.put.ensures.watches }))
+    let h = c.in-Ok-set_link.ensures.ok in
+    let world = links_world old mid c.args.a c.args.b _ h in
+    changed_done old mid c.change_linked.new.self e c.in-Ok-change_linked.changed.routes world h.rest
+    (allowed_by (world_seen old) (world_seen mid) e world refl (small_world mid c.is_small.ensures) c.in-Ok-change_linked.ensures.no_cycle)
+    c.in-Ok-change_linked.ensures.changed
 
-pub set_back-requires-clause-there : goal.set_back-requires-clause-there
-set_back-requires-clause-there g c =
-    if_none_any c.rel-old.result (λ none. none_some (what c.set_link.new.self.graph c.args.a c.args.b) c.args.rel none
-    (ap (λ (l : LinkMap). what (graph_of l c.set_link.new.self.graph.marked) c.args.a c.args.b) c.in-Ok.ensures.ok.are ∙ c.links_are_set.ensures.at c.args.self.now.graph c.args.a c.args.b c.args.rel c.requires.apart))
-
-pub returns-in-Err-plan_link : goal.returns-in-Err-plan_link
-returns-in-Err-plan_link g c =
+pub returns : goal.returns
+returns g c =
     let e = Link c.args.a c.args.b c.args.rel in
     let old = c.args.self.now in
     let mid = c.set_link.new.self in
-    let h = c.in-Ok.ensures.ok in
+    let same = c.change_linked.new.self in
+    let h = c.in-Ok-set_link.ensures.ok in
+    let alike = c.in-Err-change_linked.ensures.err in
     let world = links_world old mid c.args.a c.args.b _ h in
     let accepted : refusal_of_edit (world_seen old) e ≡ None = ap over_limit (ap passed_limit (sym world) ∙ small_world mid c.is_small.ensures) in (
-      link_stopped (world_seen old) mid.graph c.args.a c.args.b c.args.rel c.in-Err-plan_link.error accepted (ap (λ (l : LinkMap). what (graph_of l mid.graph.marked)) h.are) c.in-Err-plan_link.ensures.refused,
-      links_undone old mid c.set_back.new.self c.args.a c.args.b _ _ h c.set_back.ensures
-          (back_linked c.edits_are_undone.ensures old.graph c.args.a c.args.b c.args.rel c.requires.apart mid.graph h.are c.rel-old.result (sym c.rel-old.ensures)),
+      link_stopped (world_seen old) mid.graph c.args.a c.args.b c.args.rel c.in-Err-change_linked.error accepted (ap (λ (l : LinkMap). what (graph_of l mid.graph.marked)) h.are) c.in-Err-change_linked.ensures.refused,
+      links_undone old mid same c.set_back.new.self c.args.a c.args.b _ _ h alike c.set_back.ensures
+          (back_linked c.edits_are_undone.ensures old.graph c.args.a c.args.b c.args.rel c.requires.apart same.graph (ap (λ (t : Topology). t.links) alike.graph ∙ h.are) c.rel-old.result (sym c.rel-old.ensures)),
     )

@@ -27,6 +27,8 @@ invariant_of-self c =
       other = subst AreOther (sym set_is) (given_other s.book.named c.args.asn c.args.kind s.other c.requires.other);
       small = s.small;
       few = s.few;
+      closed = s.closed;
+      once = s.once;
       watching = s.watching;
     }
 

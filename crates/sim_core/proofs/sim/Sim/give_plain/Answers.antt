@@ -40,5 +40,7 @@ invariant_of-self c =
       other = subst AreOther (sym cleared) (taken_other s.book.named a s.other);
       small = s.small;
       few = s.few;
+      closed = s.closed;
+      once = s.once;
       watching = s.watching;
     }

@@ -1,25 +1,23 @@
-use Rattle.std.proofs.Common.{◌≡◌, ◌≤◌, ◌∙◌, ℕ, List, length, refl, sym, ap, subst}
+use Rattle.std.proofs.Common.{◌≡◌, ◌≤◌, ◌∙◌, ◌∷◌, [], ℕ, Some, refl, sym, ap, subst, arith}
 use Rattle.std.specs.Ordering.{nat_cmp}
 use Rattle.std.specs.FinSet as set
 use Rattle.as_graph.specs.Topology.{Topology, as_count}
 use Rattle.leak_round.specs.Limits.{IsWithinLimits}
 use Rattle.leak_round.specs.Rounds.{plan_of, round_count}
-use Rattle.leak_round.specs.declared.rounds.Rounds.{Rounds}
-use Rattle.net_names.specs.Addresses.{AddrValue}
+use Rattle.leak_round.specs.Touched.{touches}
 use Rattle.roa_table.specs.Sets.{Payloads}
-use Rattle.stability_laws.specs.Plans.{Plan}
-use Rattle.sim_core.specs.Editing.{edit_of}
+use Rattle.stability_laws.specs.Plans.{Plan, has_prefix}
+use Rattle.sim_core.specs.Editing.{edit_of, ground_of}
 use Rattle.sim_core.specs.Edits.{IsEditRefusal}
+use Rattle.sim_core.specs.Ground.{BelongTo, DiffersAround}
 use Rattle.sim_core.specs.Marking.{with_mark_if}
-use Rattle.sim_core.specs.Remaking.{IsRemade}
 use Rattle.sim_core.specs.Sims.{world_seen}
 use Rattle.sim_core.specs.Watching.{HasWatches}
 use Rattle.sim_core.specs.World.{graph_of, named}
 use Rattle.sim_core.specs.declared.errors.EditError.{EditError}
-use Rattle.sim_core.specs.declared.watching.RoundWatches.{RoundWatches}
+use Rattle.sim_core.proofs.Doing.{belongs, edit_done, seen_undone}
 use Rattle.sim_core.proofs.PayloadEdits.{vrps_undone}
-use Rattle.sim_core.proofs.Remade.{edit_done}
-use Rattle.sim_core.proofs.Reseeded.{done_by, graph_back, hold_names, new_allowed, new_limits, new_links, new_named, new_no_cycle, new_prefixes, new_refused, new_world}
+use Rattle.sim_core.proofs.Reseeded.{graph_back, new_allowed, new_differs, new_limits, new_links, new_named, new_no_cycle, new_refused, new_seeds, new_world}
 use Rattle.sim_core.proofs.Watches.{has_watches}
 use Rattle.sim_core.proofs.sim.Sim.take_plan.Goals as goal
 
@@ -30,90 +28,104 @@ returns-in-Err-set_mark g c =
     let a = c.asn_of-asn.result in
     let t = c.is_named-is.result in (
       subst (λ (x : EditError). IsEditRefusal (world_seen s) (edit_of e) x) (sym c.in-Err-set_mark.ensures.limit)
-          (new_refused s e c.args.plan a t (with_mark_if c.room.new.self a t) c.requires.accepted c.requires.plan c.asn_of-asn.ensures c.is_named-is.ensures (ap (λ (x : Topology). with_mark_if x a t) c.in-Ok.ensures.ok) c.is_small.ensures c.in-Err-set_mark.ensures.many),
-      vrps_undone s _ (ap (λ (x : Topology). x.links) (c.in-Err-set_mark.ensures.err ∙ c.in-Ok.ensures.ok)) refl refl (record { ranks = refl; rounds = refl; watched = refl; watches = refl }),
+          (new_refused s e c.args.plan.now a t (with_mark_if c.room.new.self a t) c.requires.accepted c.requires.plan c.asn_of-asn.ensures c.is_named-is.ensures (ap (λ (x : Topology). with_mark_if x a t) c.in-Ok-room.ensures.ok) c.is_small.ensures c.in-Err-set_mark.ensures.many),
+      vrps_undone s _ (ap (λ (x : Topology). x.links) (c.in-Err-set_mark.ensures.err ∙ c.in-Ok-room.ensures.ok)) refl refl (record { ranks = refl; rounds = refl; watched = refl; watches = refl }),
     )
 
-pub remake-requires-clause-no_cycle : goal.remake-requires-clause-no_cycle
-remake-requires-clause-no_cycle g c =
+pub change-requires-clause-no_cycle : goal.change-requires-clause-no_cycle
+change-requires-clause-no_cycle g c =
     let a = c.asn_of-asn.result in
     let t = c.is_named-is.result in
-    let graph = c.in-Ok-set_mark.ensures.ok ∙ ap (λ (x : Topology). with_mark_if x a t) c.in-Ok.ensures.ok in
-    new_no_cycle c.args.self.now c.args.edit.now c.args.plan a t c.set_mark.new.graph c.requires.accepted c.requires.plan c.asn_of-asn.ensures c.is_named-is.ensures graph c.requires.no_cycle
+    let graph = c.in-Ok-set_mark.ensures.ok ∙ ap (λ (x : Topology). with_mark_if x a t) c.in-Ok-room.ensures.ok in
+    new_no_cycle c.args.self.now c.args.edit.now c.args.plan.now a t c.set_mark.new.graph c.requires.accepted c.requires.plan c.asn_of-asn.ensures c.is_named-is.ensures graph c.requires.no_cycle
 
-pub remake-requires-clause-small : goal.remake-requires-clause-small
-remake-requires-clause-small g c =
+pub change-requires-clause-seeds : goal.change-requires-clause-seeds
+change-requires-clause-seeds g c =
     let a = c.asn_of-asn.result in
     let t = c.is_named-is.result in
-    let graph = c.in-Ok-set_mark.ensures.ok ∙ ap (λ (x : Topology). with_mark_if x a t) c.in-Ok.ensures.ok in
-    new_limits c.args.self.now c.args.edit.now c.args.plan a t c.set_mark.new.graph c.requires.accepted c.requires.plan c.asn_of-asn.ensures c.is_named-is.ensures graph
+    let graph = c.in-Ok-set_mark.ensures.ok ∙ ap (λ (x : Topology). with_mark_if x a t) c.in-Ok-room.ensures.ok in
+    new_seeds c.args.self.now c.args.edit.now c.args.plan.now a t c.set_mark.new.graph c.requires.accepted c.requires.plan c.asn_of-asn.ensures c.is_named-is.ensures graph (Some c.args.edit.now) refl
 
-pub remake-requires-clause-prefixes : goal.remake-requires-clause-prefixes
-remake-requires-clause-prefixes g c =
-    let a = c.asn_of-asn.result in
-    let t = c.is_named-is.result in
-    let graph = c.in-Ok-set_mark.ensures.ok ∙ ap (λ (x : Topology). with_mark_if x a t) c.in-Ok.ensures.ok in
-    new_prefixes c.args.self.now c.args.edit.now c.args.plan a t c.set_mark.new.graph c.requires.accepted c.requires.plan c.asn_of-asn.ensures c.is_named-is.ensures graph
-
-pub remake-requires-clause-old : goal.remake-requires-clause-old
-remake-requires-clause-old g c = hold_names c.args.self.now c.args.before.now c.names_with-names.result.now c.requires.kept c.requires.before.listed c.names_with-names.ensures.names.old
-
-pub invariant_of-self-in-Ok-remake : goal.invariant_of-self-in-Ok-remake
-invariant_of-self-in-Ok-remake g c =
+pub change-requires-clause-from : goal.change-requires-clause-from
+change-requires-clause-from g c =
     let s = c.args.self.now in
     let a = c.asn_of-asn.result in
     let t = c.is_named-is.result in
-    let graph = c.in-Ok-set_mark.ensures.ok ∙ ap (λ (x : Topology). with_mark_if x a t) c.in-Ok.ensures.ok in
-    let is = c.in-Ok-remake.ensures in
-    let plan : plan_of c.place.new.rounds ≡ c.args.plan = ap plan_of c.place.ensures.rounds ∙ is.rounds.plan_is in
-    let count : round_count c.place.new.rounds ≡ round_count s.rounds = ap round_count c.place.ensures.rounds ∙ is.rounds.count_is in
+    let graph = c.in-Ok-set_mark.ensures.ok ∙ ap (λ (x : Topology). with_mark_if x a t) c.in-Ok-room.ensures.ok in
+    let differs = new_differs s c.args.edit.now c.args.plan.now a t c.set_mark.new.graph c.requires.accepted c.requires.plan c.asn_of-asn.ensures c.is_named-is.ensures graph c.ases_are_kept.ensures (touches c.in-Ok.touched)
+    (λ prefix x known end. c.in-Ok.ensures prefix x (ap (λ (p : Plan). has_prefix p prefix) c.seed_plan-2.ensures ∙ known) end) in
+    (ground_of s, belongs s c.requires.kept c.requires.no_cycle, subst (λ (v : Payloads). DiffersAround (ground_of s) (record { graph = c.set_mark.new.graph; payloads = v; book = s.book }) (plan_of s.rounds) (a ∷ []) (touches c.in-Ok.touched)) (sym c.of-states.ensures) differs)
+
+pub invariant_of-self-in-Ok-change : goal.invariant_of-self-in-Ok-change
+invariant_of-self-in-Ok-change g c =
+    let s = c.args.self.now in
+    let a = c.asn_of-asn.result in
+    let t = c.is_named-is.result in
+    let graph = c.in-Ok-set_mark.ensures.ok ∙ ap (λ (x : Topology). with_mark_if x a t) c.in-Ok-room.ensures.ok in
+    let plan : plan_of c.change.new.rounds ≡ c.args.plan.now = c.in-Ok-change.ensures.plan ∙ sym c.requires.plan in
     record {
-      named = new_named s c.args.edit.now c.args.plan a t c.set_mark.new.graph c.requires.accepted c.requires.plan c.asn_of-asn.ensures c.is_named-is.ensures graph
+      named = new_named s c.args.edit.now c.args.plan.now a t c.set_mark.new.graph c.requires.accepted c.requires.plan c.asn_of-asn.ensures c.is_named-is.ensures graph
           ∙ ap (λ (p : Plan). graph_of c.set_mark.new.graph.links (set.from_list {R = nat_cmp} (named p s.book.named))) (sym plan);
       plain = s.plain;
       other = s.other;
-      small = subst IsWithinLimits (sym plan) (new_limits s c.args.edit.now c.args.plan a t c.set_mark.new.graph c.requires.accepted c.requires.plan c.asn_of-asn.ensures c.is_named-is.ensures graph);
-      few = subst (λ (n : ℕ). n ≤ 4) (sym count) s.few;
-      watching = subst (λ (x : (Rounds × List AddrValue) × List RoundWatches). HasWatches (round_count x.0.0) (length x.0.1) x.1) (λ i. ((sym c.place.ensures.rounds i, c.deref.ensures.value i), ap (λ w. w.items) (sym c.place.ensures.watches) i))
-          (has_watches _ _ _ _ _ _ _ is.watches);
+      small = subst IsWithinLimits (sym plan) (new_limits s c.args.edit.now c.args.plan.now a t c.set_mark.new.graph c.requires.accepted c.requires.plan c.asn_of-asn.ensures c.is_named-is.ensures graph);
+      few = subst (λ (n : ℕ). n ≤ 4) (sym c.change.ensures.count) s.few;
+      closed = c.change.ensures.closed;
+      once = s.once;
+      watching = subst (λ (n : ℕ). HasWatches n s.watched.items c.change.new.watches.items) (sym c.change.ensures.count) (has_watches (round_count s.rounds) s.watched.items s.watches.items c.change.new.watches.items c.change.ensures.addrs s.watching);
     }
 
 pub set_mark_back-requires-clause-few : goal.set_mark_back-requires-clause-few
 set_mark_back-requires-clause-few g c =
     let s = c.args.self.now in
     let a = c.asn_of-asn.result in
-    let graph = c.in-Ok-set_mark.ensures.ok ∙ ap (λ (x : Topology). with_mark_if x a c.is_named-is.result) c.in-Ok.ensures.ok in
+    let graph = c.in-Ok-set_mark.ensures.ok ∙ ap (λ (x : Topology). with_mark_if x a c.is_named-is.result) c.in-Ok-room.ensures.ok in
     let was = c.is_named-was.ensures ∙ ap (λ (p : Plan). set.contains (set.from_list {R = nat_cmp} (named p s.book.named)) a) c.seed_plan.ensures in
     subst (λ (x : Topology). as_count x ≤ 150000) (sym (graph_back s a c.is_named-is.result c.is_named-was.result c.set_mark.new.graph (with_mark_if c.set_mark.new.graph a c.is_named-was.result) was graph refl)) c.is_small.ensures.ases
 
-pub invariant_of-self-in-Err-remake : goal.invariant_of-self-in-Err-remake
-invariant_of-self-in-Err-remake g c =
+pub invariant_of-self-in-Err-change : goal.invariant_of-self-in-Err-change
+invariant_of-self-in-Err-change g c =
     let s = c.args.self.now in
     let a = c.asn_of-asn.result in
-    let graph = c.in-Ok-set_mark.ensures.ok ∙ ap (λ (x : Topology). with_mark_if x a c.is_named-is.result) c.in-Ok.ensures.ok in
+    let alike = c.in-Err-change.ensures.err in
+    let graph = c.in-Ok-set_mark.ensures.ok ∙ ap (λ (x : Topology). with_mark_if x a c.is_named-is.result) c.in-Ok-room.ensures.ok in
     let was = c.is_named-was.ensures ∙ ap (λ (p : Plan). set.contains (set.from_list {R = nat_cmp} (named p s.book.named)) a) c.seed_plan.ensures in
     let back = graph_back s a c.is_named-is.result c.is_named-was.result c.set_mark.new.graph c.set_mark_back.new.graph was graph c.set_mark_back.ensures in
     record {
-      named = subst (λ (x : Topology). graph_of x.links x.marked ≡ graph_of x.links (set.from_list {R = nat_cmp} (named (plan_of s.rounds) s.book.named))) (sym back) s.named;
+      named = subst (λ (x : Topology × Plan). graph_of x.0.links x.0.marked ≡ graph_of x.0.links (set.from_list {R = nat_cmp} (named x.1 s.book.named))) (λ i. (sym back i, sym alike.plan i)) s.named;
       plain = s.plain;
       other = s.other;
-      small = s.small;
-      few = s.few;
-      watching = s.watching;
+      small = subst IsWithinLimits (sym alike.plan) s.small;
+      few = subst (λ (n : ℕ). n ≤ 4) (sym alike.count) s.few;
+      closed = c.change.ensures.closed;
+      once = s.once;
+      watching = subst (λ (n : ℕ). HasWatches n s.watched.items c.change.new.watches.items) (sym alike.count) (has_watches (round_count s.rounds) s.watched.items s.watches.items c.change.new.watches.items c.change.ensures.addrs s.watching);
     }
 
-pub returns-in-Ok-remake : goal.returns-in-Ok-remake
-returns-in-Ok-remake g c =
+pub returns-in-Ok-change : goal.returns-in-Ok-change
+returns-in-Ok-change g c =
     let s = c.args.self.now in
     let e = c.args.edit.now in
     let a = c.asn_of-asn.result in
     let t = c.is_named-is.result in
-    let graph = c.in-Ok-set_mark.ensures.ok ∙ ap (λ (x : Topology). with_mark_if x a t) c.in-Ok.ensures.ok in
-    let links = new_links s e c.args.plan a t c.set_mark.new.graph c.requires.accepted c.requires.plan c.asn_of-asn.ensures c.is_named-is.ensures graph in
-    let world = new_world s e c.args.plan a t c.set_mark.new.graph c.requires.accepted c.requires.plan c.asn_of-asn.ensures c.is_named-is.ensures graph in
-    let allowed = new_allowed s e c.args.plan a t c.set_mark.new.graph c.requires.accepted c.requires.plan c.asn_of-asn.ensures c.is_named-is.ensures graph c.is_small.ensures c.names_with-names.ensures.ases c.requires.no_cycle in
-    let is = subst (λ (x : Payloads × List AddrValue). IsRemade c.set_mark.new.graph x.0 s.book c.args.plan s.rounds x.1 c.in-Ok-remake.made) (λ i. (c.of-states.ensures i, c.deref.ensures.value i)) c.in-Ok-remake.ensures in
-    done_by s _ (edit_of e) c.place.result.routes c.in-Ok-remake.made.changed c.place.ensures.routes
-    (edit_done s _ (edit_of e) c.args.plan c.in-Ok-remake.made
-    ((λ i. record { links = links i; payloads = s.vrps; kinds = s.book.named; plan = c.args.plan; rounds = round_count s.rounds; watched = set.from_list s.watched.items }) ∙ world)
-    allowed is c.place.ensures.ranks c.place.ensures.rounds c.place.ensures.watches refl)
+    let now = c.set_mark.new.graph in
+    let graph = c.in-Ok-set_mark.ensures.ok ∙ ap (λ (x : Topology). with_mark_if x a t) c.in-Ok-room.ensures.ok in
+    let links = new_links s e c.args.plan.now a t now c.requires.accepted c.requires.plan c.asn_of-asn.ensures c.is_named-is.ensures graph in
+    let world = new_world s e c.args.plan.now a t now c.requires.accepted c.requires.plan c.asn_of-asn.ensures c.is_named-is.ensures graph in
+    let few : as_count now ≤ 150000 = omega (arith, c.as_count-count.ensures.value, c.as_count-count.ensures.few) in
+    let allowed = new_allowed s e c.args.plan.now a t now c.requires.accepted c.requires.plan c.asn_of-asn.ensures c.is_named-is.ensures graph c.is_small.ensures few c.requires.no_cycle in
+    let plan : plan_of c.change.new.rounds ≡ c.args.plan.now = c.in-Ok-change.ensures.plan ∙ sym c.requires.plan in
+    edit_done s _ (edit_of e) c.in-Ok-change.changed.routes
+    ((λ i. record { links = links i; payloads = s.vrps; kinds = s.book.named; plan = plan i; rounds = c.change.ensures.count i; watched = set.from_list s.watched.items }) ∙ world)
+    allowed
+    (subst (λ (v : Payloads). BelongTo (record { graph = now; payloads = v; book = s.book }) c.change.new.ranks c.change.new.rounds c.change.new.watches.items) c.of-states.ensures c.in-Ok-change.ensures.belong)
+    c.in-Ok-change.ensures.changed
+
+pub returns : goal.returns
+returns g c =
+    let s = c.args.self.now in
+    let a = c.asn_of-asn.result in
+    let graph = c.in-Ok-set_mark.ensures.ok ∙ ap (λ (x : Topology). with_mark_if x a c.is_named-is.result) c.in-Ok-room.ensures.ok in
+    let was = c.is_named-was.ensures ∙ ap (λ (p : Plan). set.contains (set.from_list {R = nat_cmp} (named p s.book.named)) a) c.seed_plan.ensures in
+    let back = graph_back s a c.is_named-is.result c.is_named-was.result c.set_mark.new.graph c.set_mark_back.new.graph was graph c.set_mark_back.ensures in
+    (tt, seen_undone s _ (ap (λ (t : Topology). t.links) back) refl refl refl c.in-Err-change.ensures.err)

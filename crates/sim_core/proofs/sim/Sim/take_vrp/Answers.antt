@@ -1,20 +1,39 @@
-use Rattle.std.proofs.Common.{◌∙◌, ℕ, Some, None, cond, refl, sym, ap, subst}
+use Rattle.std.proofs.Common.{◌≡◌, ◌∙◌, Some, None, cond, refl, sym, ap, subst}
+use Rattle.std.specs.FinSet as set
 use Rattle.roa_table.specs.Sets.{Payloads, taken}
+use Rattle.origin_validation.specs.Judging.{state_of}
+use Rattle.leak_round.specs.Rounds.{plan_of}
+use Rattle.leak_round.specs.Touched.{touches}
 use Rattle.scenario_text.specs.declared.acts.Edit.TheVariants.{VrpTake}
-use Rattle.sim_core.specs.Editing.{IsDone, IsSmall}
+use Rattle.sim_core.specs.Editing.{ground_of}
+use Rattle.sim_core.specs.Ground.{BelongTo, Ground}
 use Rattle.sim_core.specs.declared.errors.EditError.TheVariants as refused
-use Rattle.sim_core.proofs.PayloadEdits.{payload_done}
-use Rattle.sim_core.proofs.Remade.{hold_in}
+use Rattle.sim_core.proofs.Doing.{belongs, edit_done, unchanged_kept, unchanged_world}
+use Rattle.sim_core.proofs.PayloadEdits.{payload_allowed, payload_differs, small_taken, state_elsewhere, taken_added}
 use Rattle.sim_core.proofs.sim.Sim.take_vrp.Goals as goal
 
-pub remade_less-requires-clause-old : goal.remade_less-requires-clause-old
-remade_less-requires-clause-old g c = hold_in c.args.self.now c.args.self.now.graph c.requires.kept (λ a e. e)
+pub change_at-requires-clause-from : goal.change_at-requires-clause-from
+change_at-requires-clause-from g c =
+    let s = c.args.self.now in
+    let now : Ground = record { graph = s.graph; payloads = taken s.vrps c.args.vrp; book = s.book } in (
+      ground_of s,
+      belongs s c.requires.kept c.requires.no_cycle,
+      payload_differs (ground_of s) now (plan_of s.rounds) c.args.vrp (touches c.in-Ok.touched) refl refl
+          (λ p origin off. sym (state_elsewhere (taken s.vrps c.args.vrp) c.args.vrp p origin off) ∙ ap (λ (v : Payloads). state_of v p origin) (taken_added s.vrps c.args.vrp (sym c.if-not-has.ensures))) c.in-Ok.ensures,
+    )
+
+pub returns-in-Err : goal.returns-in-Err
+returns-in-Err g c = (tt, record { world = unchanged_world c.args.self.now c.change_at.new.self c.in-Err.ensures.err; same_kept = unchanged_kept c.args.self.now c.change_at.new.self c.in-Err.ensures.err })
 
 pub returns : goal.returns
 returns g c =
-    let old = c.args.self.now in
+    let s = c.args.self.now in
+    let mid = c.change_at.new.self in
     let e = VrpTake c.args.vrp in
-    subst (λ (n : ℕ). IsDone old c.put.new.self e n) (sym c.put.ensures.routes)
-    (payload_done old c.put.new.self e c.in-Ok.made (taken old.vrps c.args.vrp) refl (ap (λ t. cond t None (Some (refused.AbsentVrp c.args.vrp))) (sym c.if-not-has.ensures))
-    (subst (λ (p : Payloads). IsSmall old.graph p) c.take.ensures.gone c.is_small.ensures) c.requires.no_cycle c.in-Ok.ensures
-    c.put.ensures.graph (c.put.ensures.vrps ∙ c.take.ensures.gone) c.put.ensures.book c.put.ensures.watched c.put.ensures.ranks c.put.ensures.rounds c.put.ensures.watches)
+    let is = c.in-Ok-change_at.ensures.changed in
+    let vrps : c.take.new.self ≡ taken s.vrps c.args.vrp = c.take.ensures.gone ∙ ap (λ (v : Payloads). taken v c.args.vrp) is.vrps in
+    edit_done s _ e c.in-Ok-change_at.changed.routes
+    (λ i. record { links = (is.graph i).links; payloads = vrps i; kinds = (is.book i).named; plan = is.plan i; rounds = is.count i; watched = set.from_list (ap (λ w. w.items) is.watched i) })
+    (payload_allowed s e (taken s.vrps c.args.vrp) refl (ap (λ t. cond t None (Some (refused.AbsentVrp c.args.vrp))) (sym c.if-not-has.ensures)) (small_taken s.graph s.vrps c.args.vrp c.is_small.ensures) c.requires.no_cycle)
+    (subst (λ (g : Ground). BelongTo g mid.ranks mid.rounds mid.watches.items) (λ i. record { graph = sym is.graph i; payloads = sym vrps i; book = sym is.book i }) is.belong)
+    is.changed

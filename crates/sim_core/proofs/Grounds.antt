@@ -1,0 +1,188 @@
+-- What an edit leaves of ranks, rounds and watches, and what belongs to the edited world.
+use Rattle.std.proofs.Common.{◌≡◌, ◌≢◌, ◌⊎◌, inl, inr, ℕ, suc, ◌-◌, ◌<◌, ◌≤◌, ◌&&◌, Bool, true, false, IsTrue, cond, is_some, Option, None, Some, option_map, List, refl, sym, ap, subst, ◌∙◌, arith}
+use Rattle.std.specs.Prelude.{◌↔◌, option_and_then, slice_get}
+use Rattle.std.specs.List.{filter}
+use Rattle.std.specs.FinMap as fin
+use Rattle.std.specs.Ordering.{nat_cmp}
+use Rattle.std.proofs.lemmas.Bool.{true≢false}
+use Rattle.net_names.specs.Addresses.{AddrValue}
+use Rattle.net_names.specs.Coverage.{holds}
+use Rattle.net_names.specs.Links.{converse}
+use Rattle.net_names.specs.Numbers.{occurs}
+use Rattle.net_names.specs.Prefixes.{PrefixValue}
+use Rattle.net_names.specs.declared.routes.Rel.{Rel}
+use Rattle.net_names.specs.declared.routes.Rel.TheVariants.{Customer}
+use Rattle.as_graph.specs.Edits.{LinksAreSound}
+use Rattle.as_graph.specs.Hierarchy.{HasNoProviderCycle, RankFits, RanksFit}
+use Rattle.as_graph.specs.Topology.{Topology, has, what}
+use Rattle.origin_validation.specs.Judging.{state_of}
+use Rattle.path_pool.specs.declared.pool.PathPool.{PathPool}
+use Rattle.policy_kinds.specs.Kinds.{kind_policy, label, number_goes, plain_exports}
+use Rattle.policy_kinds.specs.declared.kind.Kind.{Kind}
+use Rattle.rank_order.specs.Ranks.{KeptRanks, rank_at}
+use Rattle.route_choice.specs.Routings.{entry_of}
+use Rattle.route_choice.specs.RoundTables.{round_routing, table_at}
+use Rattle.route_choice.specs.Slots.{over}
+use Rattle.route_choice.specs.Tables.{held_at}
+use Rattle.route_choice.specs.declared.held.Held.{Held}
+use Rattle.route_choice.specs.declared.round_tables.RoundTables.{RoundTables}
+use Rattle.route_choice.specs.declared.table.Table.{Table}
+use Rattle.stability_laws.specs.Book.{policy_at}
+use Rattle.stability_laws.specs.Laws.{OneFamily, RightFollows}
+use Rattle.stability_laws.specs.Plans.{ListsRising, Plan, announces, has_prefix}
+use Rattle.stability_laws.specs.Rounds.{AreRounds, seeds_of}
+use Rattle.stability_laws.specs.Stable.{IsRight}
+use Rattle.stability_laws.specs.World.{setting}
+use Rattle.stability_laws.specs.declared.entry.Entry.{Entry}
+use Rattle.stability_laws.specs.declared.seed_plan.edits.SeedEdit.{SeedEdit}
+use Rattle.data_trace.specs.Hops.{hop_by, hop_to, longest, next_hop, second_of, sent_by}
+use Rattle.data_trace.specs.Watches.{Row}
+use Rattle.data_trace.specs.declared.kinds.Hop.TheVariants.{Here}
+use Rattle.leak_round.specs.Edited.{plan_edited}
+use Rattle.leak_round.specs.Overlays.{change_in, held_of}
+use Rattle.leak_round.specs.Plans.{IsTold, kept_with}
+use Rattle.leak_round.specs.Rounds.{kept as kept_rounds, plan_of, round_count}
+use Rattle.leak_round.specs.Tables.{kept_in, tables_in}
+use Rattle.leak_round.specs.declared.plans.RoundsPlan.{RoundsPlan}
+use Rattle.leak_round.specs.declared.rounds.Rounds.{Rounds}
+use Rattle.sim_core.specs.Families.{Family}
+use Rattle.sim_core.specs.Ground.{BelongTo, DiffersAround, Ground, IsSeedChange}
+use Rattle.sim_core.specs.Parts.{AreRoundsOf}
+use Rattle.sim_core.specs.Renewing.{CanAllFollow}
+use Rattle.sim_core.specs.Watching.{AreRoundWatches}
+use Rattle.sim_core.specs.declared.watching.RoundWatches.{RoundWatches}
+use Rattle.sim_core.proofs.SeedEdits.{edited_prefixes, other_paths, stands}
+
+-- what a kind exports follows from whether it marks
+pub same_exports : (k j : Kind) → (kind_policy k).marks ≡ (kind_policy j).marks → (kind_policy k).exports ≡ (kind_policy j).exports
+same_exports k j same = λ i held otc to. plain_exports held to && number_goes (same i) otc to
+
+-- who has a customer is an AS of the graph
+seller : LinksAreSound → (g : Topology) (a b : ℕ) (r : Rel) → what g a b ≡ Some r → has g a ≡ true
+seller sound g a b r is = sound.ends g b a (converse r) (sound.alike g a b ∙ ap (option_map converse) is)
+
+module _ (old new : Ground) (ranks : KeptRanks) (rounds : Rounds) (watches : List RoundWatches) (ends : List ℕ) (touched : PrefixValue → ℕ → Bool) (belong : BelongTo old ranks rounds watches) (d : DiffersAround old new (plan_of rounds) ends touched) where
+  -- who is not touched is no end
+  no_end : (prefix : PrefixValue) (a : ℕ) → IsTrue (has_prefix (plan_of rounds) prefix) → touched prefix a ≡ false → occurs a ends ≡ false
+  no_end prefix a known free = by (occurs a ends) refl
+    where
+      by : (b : Bool) → occurs a ends ≡ b → b ≡ false
+      by false is = refl
+      by true is = absurd (true≢false (sym (d.ends_touched prefix a known is) ∙ free))
+
+  -- the ranks fit but at the ends
+  pub still_fits : RanksFit → (a : ℕ) → has new.graph a ≡ true → occurs a ends ≡ false → RankFits (what new.graph) (rank_at ranks) a
+  still_fits fit a there other =
+      let f = fit old.graph (rank_at ranks) belong.no_cycle belong.ranks_are a in
+      subst (λ (g : ℕ → Option Rel). ((b : ℕ) → g b ≡ Some Customer → suc (rank_at ranks b) ≤ rank_at ranks a) × ((rank_at ranks a ≡ 0) ⊎ ((b : ℕ) × (g b ≡ Some Customer) × (rank_at ranks a ≡ suc (rank_at ranks b)))) → RankFits (what new.graph) (rank_at ranks) a)
+      (λ i b. d.links a b other i) (λ p. record { above = p.0; reached = p.1 }) (f.above, f.reached)
+
+  -- who is no AS has rank 0
+  pub no_rank : RanksFit → LinksAreSound → (a : ℕ) → has new.graph a ≡ false → occurs a ends ≡ false → rank_at ranks a ≡ 0
+  no_rank fit sound a none other = elim (fit old.graph (rank_at ranks) belong.no_cycle belong.ranks_are a).reached [
+    | inl zero ↦ zero
+    | inr (b, sells, rank) ↦ absurd (true≢false (sym (seller sound old.graph a b Customer sells) ∙ (sym (d.presence a other) ∙ none)))
+  ]
+
+  -- who is no AS holds nothing
+  pub no_entry : (round : ℕ) (prefix : PrefixValue) (b : ℕ) → 1 ≤ round → round ≤ round_count rounds → IsTrue (has_prefix (plan_of rounds) prefix) → has new.graph b ≡ false → touched prefix b ≡ false → kept_rounds rounds round prefix b ≡ None
+  no_entry round prefix b low high known none free =
+      let before : suc (round - 1) ≡ round = omega (arith, low) in
+      let less : round - 1 < round_count rounds = omega (arith, low, high) in
+      subst (λ (r : ℕ). kept_rounds rounds r prefix b ≡ None) before
+      ((belong.rounds_are.stable (round - 1) prefix less known).only_ases b (sym (d.presence b (no_end prefix b known free)) ∙ none))
+
+  -- what is kept is right where nothing is touched
+  pub still_right : RightFollows kind_policy → (before : ℕ) (prefix : PrefixValue) (b : ℕ) → before < round_count rounds → IsTrue (has_prefix (plan_of rounds) prefix) → has new.graph b ≡ true → touched prefix b ≡ false
+      → IsRight (setting kind_policy new.graph new.book (state_of new.payloads prefix)) (seeds_of (plan_of rounds) (suc before) prefix (kept_rounds rounds before prefix)) (kept_rounds rounds (suc before) prefix) b
+  still_right law before prefix b less known there free =
+      let other = no_end prefix b known free in
+      let was = (belong.rounds_are.stable before prefix less known).right b (sym (d.presence b other) ∙ there) in
+      let seeds = seeds_of (plan_of rounds) (suc before) prefix (kept_rounds rounds before prefix) in
+      let f = kept_rounds rounds (suc before) prefix in
+      law old.graph new.graph old.book new.book (state_of old.payloads prefix) (state_of new.payloads prefix) seeds seeds f f b
+      (record {
+        links = λ n. sym (d.links b n other);
+        policy = ap kind_policy (sym (d.policies b other));
+        exports = λ n r at. same_exports (policy_at old.book n) (policy_at new.book n) (sym (d.marks prefix b n r known free at));
+        marks = λ n r at. sym (d.marks prefix b n r known free at);
+        states = elim (d.states prefix b known free there) [ inl reads ↦ inl reads | inr same ↦ inr (λ origin. sym (same origin)) ];
+        entries = λ n r at. refl;
+      })
+      refl refl was
+
+-- ---- seeds after an edit
+
+pub seeds_elsewhere : (plan : Plan) (g : Topology) (ends : List ℕ) (edit : Option SeedEdit) → IsSeedChange plan g ends edit → (a : ℕ) → occurs a ends ≡ false → (p : PrefixValue) → announces (plan_edited edit plan) p a ≡ announces plan p a
+seeds_elsewhere plan g ends None is a other p = refl
+seeds_elsewhere plan g ends (Some e) is a other p = ap is_some (other_paths plan e a (λ same. true≢false (sym (subst (λ (x : ℕ). occurs x ends ≡ true) (sym same) (is.by_end e refl)) ∙ other)) p)
+
+pub seeds_prefixes : (plan : Plan) (g : Topology) (ends : List ℕ) (edit : Option SeedEdit) → IsSeedChange plan g ends edit → (plan_edited edit plan).prefixes ≡ plan.prefixes
+seeds_prefixes plan g ends None is = refl
+seeds_prefixes plan g ends (Some e) is = edited_prefixes plan e (is.known e refl)
+
+-- ---- what is told of changes
+
+kept_as_held : (pool : PathPool) (tables : List RoundTables) (round : ℕ) (prefix : PrefixValue) (a : ℕ) → option_map (entry_of pool) (held_of tables round prefix a) ≡ kept_in pool tables round prefix a
+kept_as_held pool tables round prefix a = of_round (tables_in tables round)
+  where
+    of_table : (t : Option Table) → option_map (entry_of pool) (option_and_then (λ x. held_at x a) t) ≡ option_and_then (λ x. option_map (entry_of pool) (held_at x a)) t
+    of_table None = refl
+    of_table (Some t) = refl
+
+    of_round : (o : Option RoundTables) → option_map (entry_of pool) (option_and_then (λ x. held_at x a) (option_and_then (λ (t : RoundTables). table_at t prefix) o)) ≡ option_and_then (λ (t : RoundTables). round_routing pool t prefix a) o
+    of_round None = refl
+    of_round (Some t) = of_table (table_at t prefix)
+
+-- who is not told of keeps its entries
+pub not_told : (r : Rounds) (p : RoundsPlan) (round a : ℕ) (told : List ℕ) → ListsRising nat_cmp (IsTold p round) told → occurs a told ≡ false → (prefix : PrefixValue) → kept_with r p round prefix a ≡ kept_rounds r round prefix a
+not_told r p round a told lists free prefix = by (change_in p.changes.items round prefix a) refl
+  where
+    by : (c : Option (Option Held)) → change_in p.changes.items round prefix a ≡ c → kept_with r p round prefix a ≡ kept_rounds r round prefix a
+    by None is = ap (λ c. option_map (entry_of r.pool) (over c (held_of r.tables.items round prefix a))) is ∙ kept_as_held r.pool r.tables.items round prefix a
+    by (Some c) is = absurd (let (place, at) = lists.whole a (inl (prefix, ap is_some is)) in true≢false (sym (stands a place told at) ∙ free))
+
+-- ---- watches
+
+same_hop : (plan other : Plan) (held now : PrefixValue → ℕ → Option Entry) (addr : AddrValue) (a : ℕ) → other.prefixes ≡ plan.prefixes → ((p : PrefixValue) → announces other p a ≡ announces plan p a) → ((p : PrefixValue) → now p a ≡ held p a) → next_hop plan held addr a ≡ next_hop other now addr a
+same_hop plan other held now addr a prefixes announced entries =
+    by (sent_by plan held addr a)
+    ∙ ap (hop_by other now a) (λ i. longest (filter (λ p. holds p addr && is_some (sym (entries p) i)) (fin.keys (sym prefixes i))))
+  where
+    by : (o : Option PrefixValue) → hop_by plan held a o ≡ hop_by other now a o
+    by None = refl
+    by (Some p) = λ i. cond (sym (announced p) i) Here (hop_to (second_of (sym (entries p) i)))
+
+module _ (old new : Ground) (plan other : Plan) (count : ℕ) (held now : Family) (changed : ℕ → List ℕ) (ends : List ℕ) (touched : PrefixValue → ℕ → Bool) (d : DiffersAround old new plan ends touched) (prefixes : other.prefixes ≡ plan.prefixes) (announced : (a : ℕ) → occurs a ends ≡ false → (p : PrefixValue) → announces other p a ≡ announces plan p a)
+    (same : (round a : ℕ) → 1 ≤ round → round ≤ count → occurs a (changed round) ≡ false → (p : PrefixValue) → now round p a ≡ held round p a) where
+  -- what is seen of the watches is right where nothing changed
+  pub can_follow : (all : List (List (AddrValue × List Row))) → AreRoundWatches old.graph plan held old.book count all → ((before : ℕ) (seen : List (AddrValue × List Row)) → slice_get all before ≡ Some seen → suc before ≤ count) → CanAllFollow new.graph other now new.book changed ends all
+  can_follow all are within before seen at place s here =
+      let rows = are.each before seen at place s here in
+      record {
+        hops = λ a r there still apart row.
+            (rows.right row.place r row.there).next_hop ∙ ap (next_hop plan (held (suc before)) s.0) row.asn
+            ∙ same_hop plan other (held (suc before)) (now (suc before)) s.0 a prefixes (announced a apart) (same (suc before) a (omega arith) (within before seen at) still);
+        groups = record {
+          presence = λ a apart. rows.listed a ∙ sym (d.presence a apart);
+          stub = λ a r apart row.
+              subst (λ (f : ℕ → Option Rel). IsTrue r.stub ↔ ((b : ℕ) → f b ≢ Some Customer)) (ap (what old.graph) row.asn ∙ (λ i b. sym (d.links a b apart) i)) (rows.right row.place r row.there).stub;
+          group = λ a r apart row. (rows.right row.place r row.there).group ∙ ap (λ x. label (policy_at old.book x)) row.asn ∙ ap label (sym (d.policies a apart));
+        };
+      }
+
+-- ---- what belongs to the edited world
+
+-- the rounds are the only stable ones
+pub only_rounds : OneFamily kind_policy → (g : Ground) (rounds : Rounds) → HasNoProviderCycle (what g.graph) → AreRounds (λ p. setting kind_policy g.graph g.book (state_of g.payloads p)) (plan_of rounds) (round_count rounds) (kept_rounds rounds) → AreRoundsOf g.graph g.payloads g.book (plan_of rounds) (round_count rounds) rounds
+only_rounds law g rounds none stable = record {
+  plan_is = refl;
+  count_is = refl;
+  stable = stable;
+  only = λ other are before prefix less known a. law g.graph g.book (λ p. state_of g.payloads p) (plan_of rounds) (round_count rounds) other (kept_rounds rounds) none are stable before prefix less known a;
+}
+
+-- rounds of another plan and with other entries, where these are the same
+pub rounds_as : (g : Ground) (plan other : Plan) (count number : ℕ) (held now : Family) → other ≡ plan → number ≡ count → ((round : ℕ) (p : PrefixValue) (a : ℕ) → now round p a ≡ held round p a) → AreRounds (λ p. setting kind_policy g.graph g.book (state_of g.payloads p)) plan count held → AreRounds (λ p. setting kind_policy g.graph g.book (state_of g.payloads p)) other number now
+rounds_as g plan other count number held now plans counts entries are =
+    subst (λ (t : Plan × (ℕ × Family)). AreRounds (λ p. setting kind_policy g.graph g.book (state_of g.payloads p)) t.0 t.1.0 t.1.1) (λ i. (sym plans i, (sym counts i, λ r p a. sym (entries r p a) i))) are

@@ -1,0 +1,95 @@
+use Rattle.std.proofs.Common.{◌≡◌, ◌<◌, ℕ, length, map, unwrap_or, sym, ap, subst, ◌∙◌, arith}
+use Rattle.std.specs.Option.{option_copied}
+use Rattle.std.proofs.lemmas.Option.{slice_get_within}
+use Rattle.as_graph.specs.Hierarchy.{IsRank}
+use Rattle.as_graph.specs.Topology.{what}
+use Rattle.stability_laws.specs.Plans.{IsSound, Plan, announces}
+use Rattle.leak_round.specs.Changes.{HasChanges}
+use Rattle.leak_round.specs.Edited.{plan_edited}
+use Rattle.leak_round.specs.Plans.{ases_told, kept_with, plan_after}
+use Rattle.leak_round.specs.Rounds.{kept, plan_of, round_count}
+use Rattle.leak_round.specs.Touched.{touches}
+use Rattle.sim_core.specs.Families.{Family}
+use Rattle.sim_core.specs.Ground.{Ground}
+use Rattle.sim_core.specs.Watching.{AreRoundWatches, seen_in}
+use Rattle.sim_core.proofs.Grounds.{can_follow, no_entry, no_rank, not_told, only_rounds, rounds_as, seeds_elsewhere, seeds_prefixes, still_fits, still_right}
+use Rattle.sim_core.proofs.Hops.{goes_on_inside}
+use Rattle.sim_core.proofs.Watches.{seen_addrs}
+use Rattle.sim_core.proofs.changing.change.Goals as goal
+
+pub returns-in_err-make_room-clause-addrs : goal.returns-in_err-make_room-clause-addrs
+returns-in_err-make_room-clause-addrs g c = seen_addrs c.args.watches.now.items c.make_room.new.all.items c.make_room.ensures.seen
+
+pub plan-requires-clause-fits : goal.plan-requires-clause-fits
+plan-requires-clause-fits g c =
+    let (old, belong, differs) = c.requires.from in
+    still_fits old (record { graph = c.args.graph.now; payloads = c.args.states.now; book = c.args.book.now }) c.args.ranks.now c.args.rounds.now c.args.watches.now.items c.args.ends.now (touches c.args.touched.now) belong differs c.ranks_fit.ensures
+
+pub plan-requires-clause-only : goal.plan-requires-clause-only
+plan-requires-clause-only g c =
+    let (old, belong, differs) = c.requires.from in
+    no_rank old (record { graph = c.args.graph.now; payloads = c.args.states.now; book = c.args.book.now }) c.args.ranks.now c.args.rounds.now c.args.watches.now.items c.args.ends.now (touches c.args.touched.now) belong differs c.ranks_fit.ensures c.links_are_sound.ensures
+
+pub returns-in_default-clause-addrs : goal.returns-in_default-clause-addrs
+returns-in_default-clause-addrs g c = seen_addrs c.args.watches.now.items c.make_room.new.all.items c.make_room.ensures.seen
+
+pub plan-requires-2-clause-entries : goal.plan-requires-2-clause-entries
+plan-requires-2-clause-entries g c =
+    let (old, belong, differs) = c.requires.from in
+    no_entry old (record { graph = c.args.graph.now; payloads = c.args.states.now; book = c.args.book.now }) c.args.ranks.now c.args.rounds.now c.args.watches.now.items c.args.ends.now (touches c.args.touched.now) belong differs
+
+pub plan-requires-2-clause-right : goal.plan-requires-2-clause-right
+plan-requires-2-clause-right g c =
+    let (old, belong, differs) = c.requires.from in
+    still_right old (record { graph = c.args.graph.now; payloads = c.args.states.now; book = c.args.book.now }) c.args.ranks.now c.args.rounds.now c.args.watches.now.items c.args.ends.now (touches c.args.touched.now) belong differs c.right_follows.ensures
+
+pub returns-in_default-plan-clause-addrs : goal.returns-in_default-plan-clause-addrs
+returns-in_default-plan-clause-addrs g c = seen_addrs c.args.watches.now.items c.make_room.new.all.items c.make_room.ensures.seen
+
+pub renew-requires-clause-inside : goal.renew-requires-clause-inside
+renew-requires-clause-inside g c =
+    let new : Ground = record { graph = c.args.graph.now; payloads = c.args.states.now; book = c.args.book.now } in
+    let rounds = c.commit-done.new.self in
+    let stable = rounds_as new (plan_after c.plan-2.new.self c.in-Ok-plan.plan) (plan_of rounds) (round_count c.plan-2.new.self) (round_count rounds) (kept_with c.plan-2.new.self c.in-Ok-plan.plan) (kept rounds) c.commit-done.ensures.plan c.commit-done.ensures.rounds c.commit-done.ensures.kept c.in-Ok-plan.ensures.stable in
+    let sound : IsSound (plan_of rounds) = subst IsSound c.seed_plan.ensures c.plans_are_sound.ensures in
+    goes_on_inside c.paths_go_on.ensures c.args.graph.now c.args.book.now c.args.states.now (plan_of rounds) (round_count rounds) (kept rounds) sound stable
+
+pub renew-requires-clause-follow : goal.renew-requires-clause-follow
+renew-requires-clause-follow g c =
+    let new : Ground = record { graph = c.args.graph.now; payloads = c.args.states.now; book = c.args.book.now } in
+    let (old, belong, differs) = c.requires.from in
+    let rounds = c.commit-done.new.self in
+    let was = c.args.rounds.now in
+    let edit = option_copied c.args.edit in
+    let plan : plan_of rounds ≡ plan_edited edit (plan_of was) = c.commit-done.ensures.plan ∙ c.in-Ok-plan.ensures.edited in
+    let count : round_count rounds ≡ round_count was = c.commit-done.ensures.rounds ∙ c.plan-2.ensures.rounds in
+    let items = map seen_in c.make_room.new.all.items in
+    can_follow old new (plan_of was) (plan_of rounds) (round_count was) (kept was) (kept rounds) (ases_told c.commit-done.result) c.args.ends.now (touches c.args.touched.now) differs
+    (ap (λ (p : Plan). p.prefixes) plan ∙ seeds_prefixes (plan_of was) c.args.graph.now c.args.ends.now edit c.requires.seeds)
+    (λ a other p. ap (λ (q : Plan). announces q p a) plan ∙ seeds_elsewhere (plan_of was) c.args.graph.now c.args.ends.now edit c.requires.seeds a other p)
+    (λ round a low high still p.
+    c.commit-done.ensures.kept round p a
+    ∙ not_told c.plan-2.new.self c.in-Ok-plan.plan round a (ases_told c.commit-done.result round) (c.commit-done.ensures.told round low (omega (arith, high, count))) still p
+    ∙ c.plan-2.ensures.kept round p a)
+    items (subst (AreRoundWatches old.graph (plan_of was) (kept was) old.book (round_count was)) (sym c.make_room.ensures.seen) belong.watching)
+    (λ before seen at. (let within : before < length items = slice_get_within items before seen at in omega (arith, within, ap length c.make_room.ensures.seen, belong.watching.count)))
+
+pub returns-clause-belong : goal.returns-clause-belong
+returns-clause-belong g c =
+    let new : Ground = record { graph = c.args.graph.now; payloads = c.args.states.now; book = c.args.book.now } in
+    let rounds = c.commit-done.new.self in
+    let stable = rounds_as new (plan_after c.plan-2.new.self c.in-Ok-plan.plan) (plan_of rounds) (round_count c.plan-2.new.self) (round_count rounds) (kept_with c.plan-2.new.self c.in-Ok-plan.plan) (kept rounds) c.commit-done.ensures.plan c.commit-done.ensures.rounds c.commit-done.ensures.kept c.in-Ok-plan.ensures.stable in
+    record {
+      no_cycle = c.requires.no_cycle;
+      ranks_are = λ a. subst (IsRank (what c.args.graph.now) a) (sym (ap (λ o. unwrap_or o 0) (c.commit.ensures a))) (c.in-Ok.ensures.ranks a);
+      rounds_are = only_rounds c.one_family.ensures new rounds c.requires.no_cycle stable;
+      watching = c.renew.ensures.rows;
+    }
+
+pub returns-clause-changed : goal.returns-clause-changed
+returns-clause-changed g c =
+    let rounds = c.commit-done.new.self in
+    subst (λ (t : Family × ℕ). HasChanges (plan_of rounds) (round_count rounds) t.0 (kept rounds) t.1) (λ i. ((λ r p a. c.plan-2.ensures.kept r p a i), sym c.count.ensures i)) c.commit-done.ensures.count
+
+pub returns-clause-addrs : goal.returns-clause-addrs
+returns-clause-addrs g c = c.renew.ensures.addrs ∙ seen_addrs c.args.watches.now.items c.make_room.new.all.items c.make_room.ensures.seen

@@ -1,0 +1,40 @@
+use Rattle.std.proofs.Common.{subst, sym}
+use Rattle.sim_core.specs.Kept.{IsKept, Kept}
+use Rattle.sim_core.specs.World.{HasCycle, World}
+use Rattle.sim_core.proofs.Doing.{edited_from, if_done, if_refused, on_done, on_undone, unchanged_kept, unchanged_world}
+use Rattle.sim_core.proofs.sim.Sim.edit.Goals as goal
+
+pub returns-in-Err-clause-same_world : goal.returns-in-Err-clause-same_world
+returns-in-Err-clause-same_world g c = unchanged_world c.args.self.now c.tidied.new.self c.tidied.ensures.unchanged
+
+pub returns-in-Err-clause-same_kept : goal.returns-in-Err-clause-same_kept
+returns-in-Err-clause-same_kept g c = unchanged_kept c.args.self.now c.tidied.new.self c.tidied.ensures.unchanged
+
+pub edit_tidied-requires-clause-kept : goal.edit_tidied-requires-clause-kept
+edit_tidied-requires-clause-kept g c =
+    let same = c.tidied.ensures.unchanged in
+    subst (λ (t : World × Kept). IsKept t.0 t.1) (λ i. (sym (unchanged_world c.args.self.now c.tidied.new.self same) i, sym (unchanged_kept c.args.self.now c.tidied.new.self same) i)) c.requires.kept
+
+pub edit_tidied-requires-clause-no_cycle : goal.edit_tidied-requires-clause-no_cycle
+edit_tidied-requires-clause-no_cycle g c = subst (λ (w : World). HasCycle w → ⊥) (sym (unchanged_world c.args.self.now c.tidied.new.self c.tidied.ensures.unchanged)) c.requires.no_cycle
+
+pub returns-clause-world : goal.returns-clause-world
+returns-clause-world g c = on_done c.args.self.now c.edit_tidied.new.self c.args.edit.now c.edit_tidied.result (edited_from c.args.self.now c.tidied.new.self c.edit_tidied.new.self c.args.edit.now c.edit_tidied.result c.tidied.ensures.unchanged c.edit_tidied.ensures) (λ routes h. h.world)
+
+pub returns-clause-allowed : goal.returns-clause-allowed
+returns-clause-allowed g c = on_done c.args.self.now c.edit_tidied.new.self c.args.edit.now c.edit_tidied.result (edited_from c.args.self.now c.tidied.new.self c.edit_tidied.new.self c.args.edit.now c.edit_tidied.result c.tidied.ensures.unchanged c.edit_tidied.ensures) (λ routes h. h.allowed)
+
+pub returns-clause-kept : goal.returns-clause-kept
+returns-clause-kept g c = on_done c.args.self.now c.edit_tidied.new.self c.args.edit.now c.edit_tidied.result (edited_from c.args.self.now c.tidied.new.self c.edit_tidied.new.self c.args.edit.now c.edit_tidied.result c.tidied.ensures.unchanged c.edit_tidied.ensures) (λ routes h. h.is_kept)
+
+pub returns-clause-changed : goal.returns-clause-changed
+returns-clause-changed g c = if_done c.args.self.now c.edit_tidied.new.self c.args.edit.now c.edit_tidied.result (edited_from c.args.self.now c.tidied.new.self c.edit_tidied.new.self c.args.edit.now c.edit_tidied.result c.tidied.ensures.unchanged c.edit_tidied.ensures)
+
+pub returns-clause-refused : goal.returns-clause-refused
+returns-clause-refused g c = if_refused c.args.self.now c.edit_tidied.new.self c.args.edit.now c.edit_tidied.result (edited_from c.args.self.now c.tidied.new.self c.edit_tidied.new.self c.args.edit.now c.edit_tidied.result c.tidied.ensures.unchanged c.edit_tidied.ensures)
+
+pub returns-clause-same_world : goal.returns-clause-same_world
+returns-clause-same_world g c = on_undone c.args.self.now c.edit_tidied.new.self c.args.edit.now c.edit_tidied.result (edited_from c.args.self.now c.tidied.new.self c.edit_tidied.new.self c.args.edit.now c.edit_tidied.result c.tidied.ensures.unchanged c.edit_tidied.ensures) (λ h. h.world)
+
+pub returns-clause-same_kept : goal.returns-clause-same_kept
+returns-clause-same_kept g c = on_undone c.args.self.now c.edit_tidied.new.self c.args.edit.now c.edit_tidied.result (edited_from c.args.self.now c.tidied.new.self c.edit_tidied.new.self c.args.edit.now c.edit_tidied.result c.tidied.ensures.unchanged c.edit_tidied.ensures) (λ h. h.same_kept)

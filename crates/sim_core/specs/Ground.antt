@@ -1,0 +1,66 @@
+-- What the routings of a world rest on, and where an edit changes it.
+use Rattle.std.specs.Prelude.{◌≡◌, ◌⊎◌, ℕ, Bool, true, false, IsTrue, Option, Some, List, map}
+use Rattle.net_names.specs.declared.routes.Rel.{Rel}
+use Rattle.net_names.specs.Numbers.{occurs}
+use Rattle.net_names.specs.Prefixes.{PrefixValue}
+use Rattle.as_graph.specs.Hierarchy.{HasNoProviderCycle, IsRank}
+use Rattle.as_graph.specs.Topology.{Topology, has, what}
+use Rattle.policy_laws.specs.Policy.{Policy}
+use Rattle.policy_kinds.specs.Kinds.{kind_policy}
+use Rattle.policy_kinds.specs.declared.kind.Kind.{Kind}
+use Rattle.roa_table.specs.Sets.{Payloads}
+use Rattle.origin_validation.specs.Judging.{state_of}
+use Rattle.rank_order.specs.Ranks.{KeptRanks, rank_at}
+use Rattle.stability_laws.specs.Book.{PolicyBook, policy_at}
+use Rattle.stability_laws.specs.Plans.{Plan, announces, has_prefix}
+use Rattle.stability_laws.specs.SeedEdits.{IsEditOf, IsEditWithin, edit_asn, edited}
+use Rattle.stability_laws.specs.declared.seed_plan.edits.SeedEdit.{SeedEdit}
+use Rattle.leak_round.specs.Edited.{plan_edited}
+use Rattle.leak_round.specs.Limits.{IsWithinLimits}
+use Rattle.leak_round.specs.declared.rounds.Rounds.{Rounds}
+use Rattle.leak_round.specs.Rounds.{kept as kept_rounds, plan_of, round_count}
+use Rattle.sim_core.specs.Parts.{AreRoundsOf}
+use Rattle.sim_core.specs.Watching.{AreRoundWatches, seen_in}
+use Rattle.sim_core.specs.declared.watching.RoundWatches.{RoundWatches}
+
+-- what routings rest on beside the seeds: the graph, the payloads and the policies (own rule)
+pub record Ground : Type 0 where
+  pub graph : Topology
+  pub payloads : Payloads
+  pub book : PolicyBook Kind
+
+-- the policy of an AS (own rule)
+abbrev pub policy_on : Ground → ℕ → Policy
+policy_on g a = kind_policy (policy_at g.book a)
+
+-- the ranks, the rounds and the watches are those of the ground, which has no provider cycle (Gao and Rexford 2001)
+pub record BelongTo (g : Ground) (ranks : KeptRanks) (rounds : Rounds) (watches : List RoundWatches) : Type 0 where
+  pub no_cycle : HasNoProviderCycle (what g.graph)
+  pub ranks_are : (a : ℕ) → IsRank (what g.graph) a (rank_at ranks a)
+  pub rounds_are : AreRoundsOf g.graph g.payloads g.book (plan_of rounds) (round_count rounds) rounds
+  pub watching : AreRoundWatches g.graph (plan_of rounds) (kept_rounds rounds) g.book (round_count rounds) (map seen_in watches)
+
+-- between two grounds only the ends differ in presence, links and policy; and who is not touched for a prefix has neighbours of which none begins or ceases to mark, and does not read the states of the prefix, or these are the same (own rule)
+pub record DiffersAround (old new : Ground) (plan : Plan) (ends : List ℕ) (touched : PrefixValue → ℕ → Bool) : Type 0 where
+  pub presence : (a : ℕ) → occurs a ends ≡ false → has new.graph a ≡ has old.graph a
+  pub links : (a n : ℕ) → occurs a ends ≡ false → what new.graph a n ≡ what old.graph a n
+  pub policies : (a : ℕ) → occurs a ends ≡ false → policy_at new.book a ≡ policy_at old.book a
+  pub ends_touched : (prefix : PrefixValue) (a : ℕ) → IsTrue (has_prefix plan prefix) → occurs a ends ≡ true → touched prefix a ≡ true
+  pub marks : (prefix : PrefixValue) (a n : ℕ) (r : Rel) → IsTrue (has_prefix plan prefix) → touched prefix a ≡ false → what new.graph a n ≡ Some r → (policy_on new n).marks ≡ (policy_on old n).marks
+  pub states : (prefix : PrefixValue) (a : ℕ) → IsTrue (has_prefix plan prefix) → touched prefix a ≡ false → has new.graph a ≡ true → ((policy_on new a).reads_state ≡ false) ⊎ ((origin : ℕ) → state_of new.payloads prefix origin ≡ state_of old.payloads prefix origin)
+
+-- an edit of announcements, if there is one, is one of the plan within the limits, by one of the ends; and who announces something after it is an AS of the graph (own rule)
+pub record IsSeedChange (plan : Plan) (g : Topology) (ends : List ℕ) (edit : Option SeedEdit) : Type 0 where
+  pub known : (e : SeedEdit) → edit ≡ Some e → IsEditOf plan e
+  pub within : (e : SeedEdit) → edit ≡ Some e → IsEditWithin 64 e
+  pub limits : (e : SeedEdit) → edit ≡ Some e → IsWithinLimits (edited plan e)
+  pub by_end : (e : SeedEdit) → edit ≡ Some e → occurs (edit_asn e) ends ≡ true
+  pub announcers : (prefix : PrefixValue) (a : ℕ) → IsTrue (announces (plan_edited edit plan) prefix a) → has g a ≡ true
+
+-- ranks, rounds and watches are seen as they were (own rule)
+pub record AreSeenAlike (old_ranks new_ranks : KeptRanks) (old_rounds new_rounds : Rounds) (old_watches new_watches : List RoundWatches) : Type 0 where
+  pub ranks : new_ranks.by_as ≡ old_ranks.by_as
+  pub plan : plan_of new_rounds ≡ plan_of old_rounds
+  pub count : round_count new_rounds ≡ round_count old_rounds
+  pub routings : (round : ℕ) (prefix : PrefixValue) (a : ℕ) → kept_rounds new_rounds round prefix a ≡ kept_rounds old_rounds round prefix a
+  pub watches : map seen_in new_watches ≡ map seen_in old_watches
