@@ -10,6 +10,7 @@ use std::test::Fail;
 
 mod announcements;
 mod edits;
+mod faults;
 mod forwarding;
 mod generated;
 mod origins;
@@ -53,14 +54,7 @@ struct ScriptCase {
 }
 
 // Runs the program with these words over the files of a case, which are taken at most so many bytes at a time.
-// The call of this number fails; 0 for none.
-fn run_script(
-    alloc: Global,
-    texts: &[&str],
-    case: &ScriptCase,
-    most: usize,
-    fails: u64,
-) -> Result<Left, Fail>
+fn run_script(alloc: Global, texts: &[&str], case: &ScriptCase, most: usize) -> Result<Left, Fail>
     requires { 1 ≤ most }
 {
     let mut inputs = MemInputs::new(alloc);
@@ -68,7 +62,6 @@ fn run_script(
     inputs.file("vrps", case.vrps)?;
     inputs.file("sc", case.scenario)?;
     inputs.file("cmds", case.script)?;
-    inputs.fail_at(fails)?;
     inputs.most(most);
     run_in_memory(alloc, texts, inputs)
 }
@@ -87,7 +80,7 @@ fn run_in_memory(alloc: Global, texts: &[&str], files: MemInputs) -> Result<Left
 fn check_cases(rt: &impl Abort, alloc: Global, cases: &[ScriptCase]) -> Result<(), Fail> {
     for case in cases {
         for most in 1..4usize {
-            let left = run_script(alloc, case.words, case, most, 0)?;
+            let left = run_script(alloc, case.words, case, most)?;
             let name = case.name;
             assert_eq!(rt; left.status, case.status, "{name}, {most} at a time");
             assert_eq!(rt; left.out.bytes(), case.out, "{name}, {most} at a time");

@@ -291,13 +291,7 @@ fn each_payload_file_decides_the_answers_or_has_its_fault(rt: HostRuntime) -> Re
 #[test]
 fn without_the_option_there_are_no_payloads(rt: HostRuntime) -> Result<(), Fail> {
     let case = &PAYLOAD_CASES[7];
-    let left = run_script(
-        rt.alloc(),
-        &["asprop", "rel", "--script", "cmds"],
-        case,
-        64,
-        0,
-    )?;
+    let left = run_script(rt.alloc(), &["asprop", "rel", "--script", "cmds"], case, 64)?;
     assert_eq!(rt; left.status, Status::Done);
     assert_eq!(rt;
         left.out.bytes(),
@@ -312,40 +306,17 @@ fn a_payload_file_that_is_not_there_is_named_after_the_relationship_file(
 ) -> Result<(), Fail> {
     let alloc = rt.alloc();
     let texts = ["asprop", "rel", "--vrps", "other", "--scenario", "sc"];
-    let absent = run_script(alloc, &texts, &PAYLOAD_CASES[21], 64, 0)?;
+    let absent = run_script(alloc, &texts, &PAYLOAD_CASES[21], 64)?;
     assert_eq!(rt; absent.status, Status::ReadFault);
     assert_eq!(rt;
         absent.err.bytes(),
         b"asprop: other: read fault\n".as_slice()
     );
-    let bad = run_script(alloc, &texts, &PAYLOAD_CASES[23], 64, 0)?;
+    let bad = run_script(alloc, &texts, &PAYLOAD_CASES[23], 64)?;
     assert_eq!(rt; bad.status, Status::BadInput);
     assert_eq!(rt;
         bad.err.bytes(),
         b"asprop: rel: line 1: unreadable\n".as_slice()
     );
-    Ok(())
-}
-
-#[test]
-fn the_failing_read_names_its_file(rt: HostRuntime) -> Result<(), Fail> {
-    let alloc = rt.alloc();
-    let case = &PAYLOAD_CASES[0];
-    // A `begin`, a `take` for the bytes and one at the end, for each file.
-    let texts: [&[u8]; 4] = [
-        b"asprop: rel: read fault\n",
-        b"asprop: vrps: read fault\n",
-        b"asprop: sc: read fault\n",
-        b"asprop: cmds: read fault\n",
-    ];
-    for call in 1..13u64 {
-        let left = run_script(alloc, ALL_WORDS, case, 4096, call)?;
-        let text = texts[(call as usize - 1) / 3];
-        assert_eq!(rt; left.status, Status::ReadFault, "call {call}");
-        assert_eq!(rt; left.out.bytes(), b"".as_slice(), "call {call}");
-        assert_eq!(rt; left.err.bytes(), text, "call {call}");
-    }
-    let left = run_script(alloc, ALL_WORDS, case, 4096, 13)?;
-    assert_eq!(rt; left.status, Status::Done);
     Ok(())
 }

@@ -185,13 +185,13 @@ fn each_script_gives_its_answers_or_the_first_fault(rt: HostRuntime) -> Result<(
 fn a_file_that_is_not_named_is_empty(rt: HostRuntime) -> Result<(), Fail> {
     let alloc = rt.alloc();
     let case = &SCRIPT_CASES[1];
-    let left = run_script(alloc, &["asprop", "rel"], case, 64, 0)?;
+    let left = run_script(alloc, &["asprop", "rel"], case, 64)?;
     assert_eq!(rt; left.status, Status::Done);
     assert_eq!(rt; left.out.bytes(), b"".as_slice());
-    let left = run_script(alloc, &["asprop", "rel", "--scenario", "sc"], case, 64, 0)?;
+    let left = run_script(alloc, &["asprop", "rel", "--scenario", "sc"], case, 64)?;
     assert_eq!(rt; left.status, Status::Done);
     assert_eq!(rt; left.out.bytes(), b"".as_slice());
-    let left = run_script(alloc, &["asprop", "rel", "--script", "cmds"], case, 64, 0)?;
+    let left = run_script(alloc, &["asprop", "rel", "--script", "cmds"], case, 64)?;
     assert_eq!(rt; left.status, Status::SomeRefused);
     assert_eq!(rt;
         left.out.bytes(),
