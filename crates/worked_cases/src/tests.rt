@@ -1,6 +1,7 @@
 //! The cases by subject, each in a module of its own. What several of them build stands in `worlds`.
 mod answers;
 mod cycles;
+mod edges;
 mod files;
 mod forwarding;
 mod graph_edits;
