@@ -7,6 +7,7 @@ pub mod InOrder
 pub mod Answering
 pub mod RefusalPieces
 pub mod Ending
+pub mod Starting
 pub mod StatusLemmas
 pub mod Faults
 pub mod StatusRows

@@ -9,3 +9,4 @@ pub mod Written
 pub mod Ran
 pub mod Statuses
 pub mod Seen
+pub mod Started

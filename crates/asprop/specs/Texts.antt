@@ -1,4 +1,4 @@
--- The texts of faults, and their statuses.
+-- The texts of faults, their statuses, and the numbers of statuses.
 use Rattle.std.specs.Prelude.{ℕ, List, [], ◌∷◌, ◌++◌, codes, Option, unwrap_or, decimal}
 use Rattle.caida_reader.specs.declared.errors.RelError.{RelError}
 use Rattle.caida_reader.specs.declared.errors.RelError.TheVariants as rel
@@ -126,6 +126,17 @@ status_of (fault.Payload e) = vrp_status e
 status_of (fault.Scenario e) = scenario_status e
 status_of (fault.Script e) = script_status e
 status_of fault.TooManyAses = status.TooLarge
+
+-- the number with which the program ends (own format)
+abbrev pub number_of : Status → ℕ
+number_of status.Done = 0
+number_of status.SomeRefused = 1
+number_of status.Usage = 2
+number_of status.BadInput = 3
+number_of status.ReadFault = 4
+number_of status.WriteFault = 5
+number_of status.NoMemory = 6
+number_of status.TooLarge = 7
 
 -- the text for a provider cycle: its numbers, the lowest first (own format)
 abbrev pub cycle_text : List ℕ → List ℕ

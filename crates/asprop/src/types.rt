@@ -1,4 +1,7 @@
 //! What a run is about.
+ghost use Rattle.std.specs.Prelude.{◌≡◌};
+ghost use Rattle.asprop.specs.Texts.{number_of};
+
 use caida_reader::RelError;
 use cycle_check::Cycle;
 use roa_table::VrpError;
@@ -38,25 +41,43 @@ pub enum Fault {
     TooManyAses,
 }
 
-/// How a run ended. The number is the program's exit status.
+/// How a run ended.
 #[derive(Clone, Copy, Debug, PartialEq, Eq)]
 pub enum Status {
     /// All answers were written, and none is a refusal.
-    Done = 0,
+    Done,
     /// All answers were written, and at least one is a refusal.
-    SomeRefused = 1,
+    SomeRefused,
     /// The words have none of the forms.
-    Usage = 2,
+    Usage,
     /// A file is refused, or the links have a provider cycle.
-    BadInput = 3,
+    BadInput,
     /// A read of a file failed.
-    ReadFault = 4,
+    ReadFault,
     /// A write of the answers failed.
-    WriteFault = 5,
+    WriteFault,
     /// Memory ran out.
-    NoMemory = 6,
+    NoMemory,
     /// A file is too long, or a counted limit is passed.
-    TooLarge = 7,
+    TooLarge,
+}
+
+impl Status {
+    /// The number with which the program ends.
+    pub fn number(self) -> u8
+        ensures { result ≡ number_of self }
+    {
+        match self {
+            Status::Done => 0,
+            Status::SomeRefused => 1,
+            Status::Usage => 2,
+            Status::BadInput => 3,
+            Status::ReadFault => 4,
+            Status::WriteFault => 5,
+            Status::NoMemory => 6,
+            Status::TooLarge => 7,
+        }
+    }
 }
 
 /// Why the work stopped.

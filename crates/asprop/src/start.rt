@@ -1,0 +1,73 @@
+//! The step from the program's arguments to a run over its words.
+ghost use Rattle.std.specs.Prelude.{◌≡◌};
+ghost use Rattle.std.specs.Process.{exit_status};
+ghost use Rattle.io_edge.specs.Faults.{Rose};
+ghost use Rattle.asprop.specs.Started.{IsWordsOf, Started, Starts, reason_of};
+
+use crate::explain::explain;
+use crate::run::run;
+use crate::types::{Fault, Status, Stop};
+use io_edge::{Inputs, Sink};
+use std::alloc::Global;
+use std::env::Args;
+use std::io;
+use std::io::ErrorKind;
+use std::process::ExitCode;
+
+// Why the arguments give no words.
+fn reason(error: &io::Error) -> Stop
+    ensures { result ≡ reason_of error.now }
+{
+    match error.kind() {
+        ErrorKind::OutOfMemory => Stop::Memory,
+        _ => Stop::Fault(Fault::Usage),
+    }
+}
+
+// All words that the arguments give, or why there are none.
+fn words_of(alloc: Global, args: io::Result<Args>) -> Result<Vec<String>, Stop>
+    ensures { IsWordsOf args result }
+{
+    match args {
+        Ok(args) => match args.collect::<Vec<String>>(alloc) {
+            Ok(words) => Ok(words),
+            Err(_) => Err(Stop::Memory),
+        },
+        Err(error) => Err(reason(&error)),
+    }
+}
+
+// Runs over the words of the arguments, or says why there are none.
+fn run_by<I: Inputs, O: Sink, E: Sink>(
+    alloc: Global,
+    args: io::Result<Args>,
+    inputs: &mut I,
+    out: &mut O,
+    err: &mut E,
+) -> Status
+    ensures { Starts (I.holds inputs.old) (I.is_sound inputs.old) (Rose (I.faults inputs.old) (I.faults inputs.new)) args result
+        (O.written out.old) (O.written out.new) (Rose (O.faults out.old) (O.faults out.new))
+        (E.written err.old) (E.written err.new) (Rose (E.faults err.old) (E.faults err.new)) }
+{
+    match words_of(alloc, args) {
+        Ok(words) => run(alloc, &words, inputs, out, err),
+        Err(stop) => explain(alloc, &None, &stop, err),
+    }
+}
+
+/// The whole program: `run` over its arguments, the program's name first, and the number of the run's status.
+///
+/// An argument that is no text has no form, so that it is answered as a faulty command line is.
+pub fn start<I: Inputs, O: Sink, E: Sink>(
+    alloc: Global,
+    args: io::Result<Args>,
+    inputs: &mut I,
+    out: &mut O,
+    err: &mut E,
+) -> ExitCode
+    ensures { Started (I.holds inputs.old) (I.is_sound inputs.old) (Rose (I.faults inputs.old) (I.faults inputs.new)) args (exit_status result)
+        (O.written out.old) (O.written out.new) (Rose (O.faults out.old) (O.faults out.new))
+        (E.written err.old) (E.written err.new) (Rose (E.faults err.old) (E.faults err.new)) }
+{
+    ExitCode::from(run_by(alloc, args, inputs, out, err).number())
+}
