@@ -8,7 +8,6 @@ use Rattle.caida_reader.specs.declared.errors.RelError.TheVariants as rel
 use Rattle.roa_table.specs.Files.{payloads_in}
 use Rattle.roa_table.specs.declared.errors.VrpError.{VrpError}
 use Rattle.roa_table.specs.declared.errors.VrpError.TheVariants as vrp
-use Rattle.scenario_text.specs.LineValues.{LineValue}
 use Rattle.scenario_text.specs.declared.faults.ScenarioError.{ScenarioError}
 use Rattle.scenario_text.specs.declared.faults.ScenarioError.TheVariants as scenario
 use Rattle.scenario_text.specs.declared.script.ScriptError.{ScriptError}

@@ -1,6 +1,6 @@
-use Rattle.std.proofs.Common.{List, ℕ, refl, sym, subst}
+use Rattle.std.proofs.Common.{refl, sym, subst}
 use Rattle.sim_core.specs.Kept.{Kept, IsKept}
-use Rattle.sim_core.specs.Sims.{kept, world_seen}
+use Rattle.sim_core.specs.Sims.{world_seen}
 use Rattle.sim_core.specs.World.{World, HasCycle}
 use Rattle.asprop.specs.Refusals.{edit_refusal_text}
 use Rattle.asprop.proofs.Answering.{reason_of}
