@@ -17,6 +17,7 @@ struct Shown {
     words: &'static [&'static str],
     status: Status,
     out: &'static [u8],
+    err: &'static [u8],
 }
 
 const FILES: [Example; 19] = [
@@ -98,16 +99,18 @@ const FILES: [Example; 19] = [
     },
 ];
 
-const COMMANDS: [Shown; 12] = [
+const COMMANDS: [Shown; 15] = [
     Shown {
         words: &["asprop", "examples/diamond", "--origin", "4"],
         status: Status::Done,
         out: b"1|customer|1 2 4\n2|customer|2 4\n3|customer|3 4\n4|origin|4\n",
+        err: b"",
     },
     Shown {
         words: &["asprop", "examples/peers", "--origin", "40"],
         status: Status::Done,
         out: b"10|customer|10 30 40\n20|customer|20 30 40\n30|customer|30 40\n40|origin|40\n50|provider|50 20 30 40\n",
+        err: b"",
     },
     Shown {
         words: &[
@@ -120,6 +123,7 @@ const COMMANDS: [Shown; 12] = [
         ],
         status: Status::Done,
         out: b"# 1\n1|customer|1 4\n2|customer|2 6\n3|provider|3 1 4\n4|origin|4\n5|provider|5 2 6\n6|origin|6\n7|provider|7 3 1 4\n",
+        err: b"",
     },
     Shown {
         words: &[
@@ -132,6 +136,7 @@ const COMMANDS: [Shown; 12] = [
         ],
         status: Status::Done,
         out: b"# 2\n1|customer|1 4\n2|peer|2 1 4\n3|provider|3 1 4\n4|origin|4\n5|provider|5 2 1 4\n6|provider|6 2 1 4\n7|provider|7 3 1 4\n# 3\n1|peer|1 2 6\n2|customer|2 6\n3|provider|3 1 2 6\n4|provider|4 1 2 6\n5|provider|5 2 6\n6|origin|6\n7|provider|7 3 1 2 6\n",
+        err: b"",
     },
     Shown {
         words: &[
@@ -146,6 +151,7 @@ const COMMANDS: [Shown; 12] = [
         ],
         status: Status::Done,
         out: b"# 1\nstate|invalid\n4|10.0.0.0/8|8\n# 2\n1|none|\n2|customer|2 6\n3|none|\n4|none|\n5|provider|5 2 6\n6|origin|6\n7|none|\n",
+        err: b"",
     },
     Shown {
         words: &[
@@ -160,6 +166,7 @@ const COMMANDS: [Shown; 12] = [
         ],
         status: Status::SomeRefused,
         out: b"# 1\nstate|valid\n4|10.0.0.0/8|8\n# 2\n1|customer|1 4\n2|customer|2 6 4\n3|provider|3 1 4\n4|origin|4\n5|provider|5 2 6 4\n6|origin|6 4\n7|provider|7 3 1 4\n# 3\nrefused unknown-as 9\n",
+        err: b"",
     },
     Shown {
         words: &[
@@ -172,6 +179,7 @@ const COMMANDS: [Shown; 12] = [
         ],
         status: Status::Done,
         out: b"# 1\ntotal|ases|7\ntotal|to 4|4\ntotal|to 6|3\ntotal|no-route|0\ntotal|loop|0\nstub|ases|4\nstub|to 4|2\nstub|to 6|2\nstub|no-route|0\nstub|loop|0\nplain|ases|7\nplain|to 4|4\nplain|to 6|3\nplain|no-route|0\nplain|loop|0\n",
+        err: b"",
     },
     Shown {
         words: &[
@@ -184,6 +192,7 @@ const COMMANDS: [Shown; 12] = [
         ],
         status: Status::Done,
         out: b"# 1\ntotal|ases|7\ntotal|to 6|7\ntotal|no-route|0\ntotal|loop|0\nstub|ases|4\nstub|to 6|4\nstub|no-route|0\nstub|loop|0\nplain|ases|7\nplain|to 6|7\nplain|no-route|0\nplain|loop|0\n",
+        err: b"",
     },
     Shown {
         words: &[
@@ -198,6 +207,7 @@ const COMMANDS: [Shown; 12] = [
         ],
         status: Status::Done,
         out: b"# 1\ntotal|ases|7\ntotal|to 4|4\ntotal|to 6|3\ntotal|no-route|0\ntotal|loop|0\nstub|ases|4\nstub|to 4|2\nstub|to 6|2\nstub|no-route|0\nstub|loop|0\nplain|ases|6\nplain|to 4|3\nplain|to 6|3\nplain|no-route|0\nplain|loop|0\ndrop-invalid|ases|1\ndrop-invalid|to 4|1\ndrop-invalid|no-route|0\ndrop-invalid|loop|0\n",
+        err: b"",
     },
     Shown {
         words: &[
@@ -212,6 +222,7 @@ const COMMANDS: [Shown; 12] = [
         ],
         status: Status::Done,
         out: b"# 1\n3|none|\n# 2\ndelivered|3 1 2 6\n# 3\ntotal|ases|7\ntotal|to 6|7\ntotal|no-route|0\ntotal|loop|0\nstub|ases|4\nstub|to 6|4\nstub|no-route|0\nstub|loop|0\nplain|ases|6\nplain|to 6|6\nplain|no-route|0\nplain|loop|0\ndrop-invalid|ases|1\ndrop-invalid|to 6|1\ndrop-invalid|no-route|0\ndrop-invalid|loop|0\n",
+        err: b"",
     },
     Shown {
         words: &[
@@ -224,6 +235,7 @@ const COMMANDS: [Shown; 12] = [
         ],
         status: Status::Done,
         out: b"# 1\n2|peer|2 1 5\n# 2\n2|customer|2 3 1 5\n# 3\n1|1\n2|1\n3|0\n5|0\n",
+        err: b"",
     },
     Shown {
         words: &[
@@ -236,6 +248,30 @@ const COMMANDS: [Shown; 12] = [
         ],
         status: Status::Done,
         out: b"# 2\nok 3\n# 3\n1|customer|1 5\n2|peer|2 1 5\n3|origin|3 1 5|otc 1\n5|origin|5\n# 5\nok 3\n# 6\nok 4\n# 7\n2|customer|2 3 1 5|otc 1\n# 9\nok 1\n# 10\n1|customer|1 5\n2|peer|2 1 5|otc 1\n3|origin|3 1 5|otc 1\n5|origin|5\n",
+        err: b"",
+    },
+    Shown {
+        words: &["asprop", "examples/diamond", "--origin", "0"],
+        status: Status::Usage,
+        out: b"",
+        err: b"usage: asprop REL [--vrps FILE] [--scenario FILE] [--script FILE]\n       asprop REL --origin N\n       asprop --demo N\n",
+    },
+    Shown {
+        words: &["asprop", "examples/hijack/report.script", "--origin", "4"],
+        status: Status::BadInput,
+        out: b"",
+        err: b"asprop: examples/hijack/report.script: line 1: unreadable\n",
+    },
+    Shown {
+        words: &[
+            "asprop",
+            "examples/diamond",
+            "--scenario",
+            "examples/absent",
+        ],
+        status: Status::ReadFault,
+        out: b"",
+        err: b"asprop: examples/absent: read fault\n",
     },
 ];
 
@@ -258,7 +294,7 @@ fn each_command_of_the_readme_prints_what_it_shows(rt: HostRuntime) -> Result<()
         let status = run(alloc, &all, &mut inputs, &mut out, &mut err);
         assert_eq!(rt; status, shown.status);
         assert_eq!(rt; out.bytes(), shown.out);
-        assert_eq!(rt; err.bytes(), b"".as_slice());
+        assert_eq!(rt; err.bytes(), shown.err);
     }
     Ok(())
 }
