@@ -13,7 +13,7 @@ use Rattle.sim_core.specs.World.{graph_of, named}
 use Rattle.sim_core.proofs.PolicyEdits.{Kinds, named_by}
 use Rattle.sim_core.proofs.SeedEdits.{stands}
 
-is_announcer : (plan : Plan) (p : PrefixValue) (a : ℕ) → IsTrue (announces plan p a) → occurs a (announcers_of plan) ≡ true
+pub is_announcer : (plan : Plan) (p : PrefixValue) (a : ℕ) → IsTrue (announces plan p a) → occurs a (announcers_of plan) ≡ true
 is_announcer plan p a h = by (announced_path plan p a) refl h
   where
     by : (o : Option _) → announced_path plan p a ≡ o → IsTrue (is_some o) → occurs a (announcers_of plan) ≡ true

@@ -16,6 +16,7 @@ use Rattle.sim_core.specs.Editing.{IsGiven, IsRoomed, IsSmall, IsUnchanged, IsUn
 use Rattle.sim_core.specs.Edits.{edited, over_limit, passed_limit, refusal_of_edit, with_kind}
 use Rattle.sim_core.specs.Ground.{DiffersAround}
 use Rattle.sim_core.specs.Sims.{world_seen}
+use Rattle.sim_core.specs.Steps.{IsTouched}
 use Rattle.sim_core.specs.World.{HasCycle, graph_of, topology}
 use Rattle.sim_core.specs.Loaded.{is_other}
 use Rattle.net_names.specs.Links.{LinkMap, converse}
@@ -110,12 +111,12 @@ same_or false false = inl refl
 
 -- only the AS differs, and where it begins or ceases to mark its neighbours are touched too
 pub policy_differs : LinksAreSound → (old mid new : Sim) (a : ℕ) (k : Kind) (touched : PrefixValue → ℕ → Bool) → IsRoomed old mid a → IsGiven mid new a k → ((prefix : PrefixValue) → IsTrue (has_prefix (plan_of old.rounds) prefix) → touched prefix a ≡ true)
-    → ((prefix : PrefixValue) (n : ℕ) (r : Rel) → IsTrue (has_prefix (plan_of old.rounds) prefix) → (kind_policy k).marks ≢ (kind_policy (policy_at old.book a)).marks → what old.graph a n ≡ Some r → touched prefix n ≡ true) → DiffersAround (ground_of old) (ground_of new) (plan_of new.rounds) (a ∷ []) touched
+    → ((prefix : PrefixValue) (n : ℕ) (r : Rel) → IsTrue (has_prefix (plan_of old.rounds) prefix) → (kind_policy k).marks ≢ (kind_policy (policy_at old.book a)).marks → what old.graph a n ≡ Some r → touched prefix n ≡ true) → DiffersAround (ground_of old) (ground_of new) new.rounds (a ∷ []) touched
 policy_differs sound old mid new a k touched roomed given own around = record {
   presence = λ x free. given.others x (apart_one a x free) ∙ has_by old.graph mid.graph roomed.links roomed.marked x;
   links = λ x n free. same_links x n;
   policies = λ x free. same_policy x (apart_one a x free);
-  ends_touched = λ prefix x known end. subst (λ y. touched prefix y ≡ true) (end_is x end) (own prefix (before prefix known));
+  at_ends = λ prefix x known end. inl (subst (λ y. touched prefix y ≡ true) (end_is x end) (own prefix (before prefix known)));
   marks = λ prefix x n r known free at. marks_at prefix x n r known free at (a == n) refl;
   states = λ prefix x known free there. inr (λ origin. ap (λ (v : Payloads). state_of v prefix origin) (given.vrps ∙ roomed.vrps));
 }
@@ -167,3 +168,7 @@ policy_differs sound old mid new a k touched roomed given own around = record {
 
 pub given_no_cycle : (old mid new : Sim) (a : ℕ) (k : Kind) → IsRoomed old mid a → IsGiven mid new a k → (HasCycle (world_seen old) → ⊥) → HasNoProviderCycle (what new.graph)
 given_no_cycle old mid new a k roomed given none = subst (λ (l : LinkMap). HasNoProviderCycle (what (graph_of l new.graph.marked))) (sym (given.links ∙ roomed.links)) (λ xs is. none (xs, is))
+
+pub touched_policy : (s : Sim) (a : ℕ) (k : Kind) (p : PrefixValue) (x : ℕ) → (x ≡ a) ⊎ (((kind_policy k).marks ≢ (kind_policy (policy_at s.book a)).marks) × (r : Rel) × (what s.graph a x ≡ Some r)) → IsTouched (world_seen s) (Policy a k) p x
+touched_policy s a k p x (inl same) = inl same
+touched_policy s a k p x (inr (differ, r, link)) = inr ((λ e. differ (e ∙ ap (λ j. (kind_policy j).marks) (ap (unwrap_or (fin.get s.book.named a)) (sym s.plain)))), r, link)

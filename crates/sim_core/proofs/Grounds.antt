@@ -1,5 +1,5 @@
 -- What an edit leaves of ranks, rounds and watches, and what belongs to the edited world.
-use Rattle.std.proofs.Common.{◌≡◌, ◌≢◌, ◌⊎◌, inl, inr, ℕ, suc, ◌-◌, ◌<◌, ◌≤◌, ◌&&◌, Bool, true, false, IsTrue, cond, is_some, Option, None, Some, option_map, List, refl, sym, ap, subst, ◌∙◌, arith}
+use Rattle.std.proofs.Common.{◌≡◌, ◌≢◌, ◌⊎◌, inl, inr, ℕ, suc, ◌-◌, ◌<◌, ◌≤◌, ◌&&◌, Bool, true, false, IsTrue, cond, is_some, Option, None, Some, option_map, List, refl, sym, ap, subst, ◌∙◌, arith, Result, OnOk}
 use Rattle.std.specs.Prelude.{◌↔◌, option_and_then, slice_get}
 use Rattle.std.specs.List.{filter}
 use Rattle.std.specs.FinMap as fin
@@ -38,17 +38,25 @@ use Rattle.stability_laws.specs.declared.seed_plan.edits.SeedEdit.{SeedEdit}
 use Rattle.data_trace.specs.Hops.{hop_by, hop_to, longest, next_hop, second_of, sent_by}
 use Rattle.data_trace.specs.Watches.{Row}
 use Rattle.data_trace.specs.declared.kinds.Hop.TheVariants.{Here}
+use Rattle.leak_round.specs.Bounds.{AreEnoughFor, IsCounted}
 use Rattle.leak_round.specs.Edited.{plan_edited}
 use Rattle.leak_round.specs.Overlays.{change_in, held_of}
-use Rattle.leak_round.specs.Plans.{IsTold, kept_with}
+use Rattle.leak_round.specs.Plans.{IsOpenPlan, IsTold, course, kept_with, plan_after}
 use Rattle.leak_round.specs.Rounds.{kept as kept_rounds, plan_of, round_count}
 use Rattle.leak_round.specs.Tables.{kept_in, tables_in}
 use Rattle.leak_round.specs.declared.plans.RoundsPlan.{RoundsPlan}
 use Rattle.leak_round.specs.declared.rounds.Rounds.{Rounds}
 use Rattle.sim_core.specs.Families.{Family}
-use Rattle.sim_core.specs.Ground.{BelongTo, DiffersAround, Ground, IsSeedChange}
+use Rattle.sim_core.specs.Ground.{BelongTo, DiffersAround, Ground, IsRightOn, IsSeedChange}
 use Rattle.sim_core.specs.Parts.{AreRoundsOf}
 use Rattle.sim_core.specs.Renewing.{CanAllFollow}
+use Rattle.sim_core.specs.Sims.{kept, world_seen}
+use Rattle.sim_core.specs.Steps.{AreFewSteps, Counts, IsQuick, IsTouched}
+use Rattle.sim_core.specs.World.{World, topology}
+use Rattle.sim_core.specs.declared.editing.Changed.{Changed}
+use Rattle.sim_core.specs.declared.errors.EditError.{EditError}
+use Rattle.sim_core.specs.declared.sim.Sim.{Sim}
+use Rattle.scenario_text.specs.declared.acts.Edit.{Edit}
 use Rattle.sim_core.specs.Watching.{AreRoundWatches}
 use Rattle.sim_core.specs.declared.watching.RoundWatches.{RoundWatches}
 use Rattle.sim_core.proofs.SeedEdits.{edited_prefixes, other_paths, stands}
@@ -58,17 +66,17 @@ pub same_exports : (k j : Kind) → (kind_policy k).marks ≡ (kind_policy j).ma
 same_exports k j same = λ i held otc to. plain_exports held to && number_goes (same i) otc to
 
 -- who has a customer is an AS of the graph
-seller : LinksAreSound → (g : Topology) (a b : ℕ) (r : Rel) → what g a b ≡ Some r → has g a ≡ true
+pub seller : LinksAreSound → (g : Topology) (a b : ℕ) (r : Rel) → what g a b ≡ Some r → has g a ≡ true
 seller sound g a b r is = sound.ends g b a (converse r) (sound.alike g a b ∙ ap (option_map converse) is)
 
-module _ (old new : Ground) (ranks : KeptRanks) (rounds : Rounds) (watches : List RoundWatches) (ends : List ℕ) (touched : PrefixValue → ℕ → Bool) (belong : BelongTo old ranks rounds watches) (d : DiffersAround old new (plan_of rounds) ends touched) where
-  -- who is not touched is no end
-  no_end : (prefix : PrefixValue) (a : ℕ) → IsTrue (has_prefix (plan_of rounds) prefix) → touched prefix a ≡ false → occurs a ends ≡ false
+module _ (old new : Ground) (ranks : KeptRanks) (rounds : Rounds) (watches : List RoundWatches) (ends : List ℕ) (touched : PrefixValue → ℕ → Bool) (belong : BelongTo old ranks rounds watches) (d : DiffersAround old new rounds ends touched) where
+  -- who is not touched is no end, or still right
+  no_end : (prefix : PrefixValue) (a : ℕ) → IsTrue (has_prefix (plan_of rounds) prefix) → touched prefix a ≡ false → (occurs a ends ≡ false) ⊎ IsRightOn new rounds prefix a
   no_end prefix a known free = by (occurs a ends) refl
     where
-      by : (b : Bool) → occurs a ends ≡ b → b ≡ false
-      by false is = refl
-      by true is = absurd (true≢false (sym (d.ends_touched prefix a known is) ∙ free))
+      by : (b : Bool) → occurs a ends ≡ b → (occurs a ends ≡ false) ⊎ IsRightOn new rounds prefix a
+      by false is = inl is
+      by true is = elim (d.at_ends prefix a known is) [ inl there ↦ absurd (true≢false (sym there ∙ free)) | inr right ↦ inr right ]
 
   -- the ranks fit but at the ends
   pub still_fits : RanksFit → (a : ℕ) → has new.graph a ≡ true → occurs a ends ≡ false → RankFits (what new.graph) (rank_at ranks) a
@@ -89,27 +97,31 @@ module _ (old new : Ground) (ranks : KeptRanks) (rounds : Rounds) (watches : Lis
   no_entry round prefix b low high known none free =
       let before : suc (round - 1) ≡ round = omega (arith, low) in
       let less : round - 1 < round_count rounds = omega (arith, low, high) in
-      subst (λ (r : ℕ). kept_rounds rounds r prefix b ≡ None) before
-      ((belong.rounds_are.stable (round - 1) prefix less known).only_ases b (sym (d.presence b (no_end prefix b known free)) ∙ none))
+      subst (λ (r : ℕ). kept_rounds rounds r prefix b ≡ None) before (elim (no_end prefix b known free) [
+        | inl other ↦ (belong.rounds_are.stable (round - 1) prefix less known).only_ases b (sym (d.presence b other) ∙ none)
+        | inr right ↦ right.none (round - 1) less none
+      ])
 
   -- what is kept is right where nothing is touched
   pub still_right : RightFollows kind_policy → (before : ℕ) (prefix : PrefixValue) (b : ℕ) → before < round_count rounds → IsTrue (has_prefix (plan_of rounds) prefix) → has new.graph b ≡ true → touched prefix b ≡ false
       → IsRight (setting kind_policy new.graph new.book (state_of new.payloads prefix)) (seeds_of (plan_of rounds) (suc before) prefix (kept_rounds rounds before prefix)) (kept_rounds rounds (suc before) prefix) b
-  still_right law before prefix b less known there free =
-      let other = no_end prefix b known free in
-      let was = (belong.rounds_are.stable before prefix less known).right b (sym (d.presence b other) ∙ there) in
-      let seeds = seeds_of (plan_of rounds) (suc before) prefix (kept_rounds rounds before prefix) in
-      let f = kept_rounds rounds (suc before) prefix in
-      law old.graph new.graph old.book new.book (state_of old.payloads prefix) (state_of new.payloads prefix) seeds seeds f f b
-      (record {
-        links = λ n. sym (d.links b n other);
-        policy = ap kind_policy (sym (d.policies b other));
-        exports = λ n r at. same_exports (policy_at old.book n) (policy_at new.book n) (sym (d.marks prefix b n r known free at));
-        marks = λ n r at. sym (d.marks prefix b n r known free at);
-        states = elim (d.states prefix b known free there) [ inl reads ↦ inl reads | inr same ↦ inr (λ origin. sym (same origin)) ];
-        entries = λ n r at. refl;
-      })
-      refl refl was
+  still_right law before prefix b less known there free = elim (no_end prefix b known free) [
+    | inr right ↦ right.right before less there
+    | inl other ↦ (
+        let was = (belong.rounds_are.stable before prefix less known).right b (sym (d.presence b other) ∙ there) in
+        let seeds = seeds_of (plan_of rounds) (suc before) prefix (kept_rounds rounds before prefix) in
+        let f = kept_rounds rounds (suc before) prefix in
+        law old.graph new.graph old.book new.book (state_of old.payloads prefix) (state_of new.payloads prefix) seeds seeds f f b
+        (record {
+          links = λ n. sym (d.links b n other);
+          policy = ap kind_policy (sym (d.policies b other));
+          exports = λ n r at. same_exports (policy_at old.book n) (policy_at new.book n) (sym (d.marks prefix b n r known free at));
+          marks = λ n r at. sym (d.marks prefix b n r known free at);
+          states = elim (d.states prefix b known free there) [ inl reads ↦ inl reads | inr same ↦ inr (λ origin. sym (same origin)) ];
+          entries = λ n r at. refl;
+        })
+        refl refl was)
+  ]
 
 -- ---- seeds after an edit
 
@@ -153,7 +165,7 @@ same_hop plan other held now addr a prefixes announced entries =
     by None = refl
     by (Some p) = λ i. cond (sym (announced p) i) Here (hop_to (second_of (sym (entries p) i)))
 
-module _ (old new : Ground) (plan other : Plan) (count : ℕ) (held now : Family) (changed : ℕ → List ℕ) (ends : List ℕ) (touched : PrefixValue → ℕ → Bool) (d : DiffersAround old new plan ends touched) (prefixes : other.prefixes ≡ plan.prefixes) (announced : (a : ℕ) → occurs a ends ≡ false → (p : PrefixValue) → announces other p a ≡ announces plan p a)
+module _ (old new : Ground) (was : Rounds) (plan other : Plan) (count : ℕ) (held now : Family) (changed : ℕ → List ℕ) (ends : List ℕ) (touched : PrefixValue → ℕ → Bool) (d : DiffersAround old new was ends touched) (prefixes : other.prefixes ≡ plan.prefixes) (announced : (a : ℕ) → occurs a ends ≡ false → (p : PrefixValue) → announces other p a ≡ announces plan p a)
     (same : (round a : ℕ) → 1 ≤ round → round ≤ count → occurs a (changed round) ≡ false → (p : PrefixValue) → now round p a ≡ held round p a) where
   -- what is seen of the watches is right where nothing changed
   pub can_follow : (all : List (List (AddrValue × List Row))) → AreRoundWatches old.graph plan held old.book count all → ((before : ℕ) (seen : List (AddrValue × List Row)) → slice_get all before ≡ Some seen → suc before ≤ count) → CanAllFollow new.graph other now new.book changed ends all
@@ -186,3 +198,62 @@ only_rounds law g rounds none stable = record {
 pub rounds_as : (g : Ground) (plan other : Plan) (count number : ℕ) (held now : Family) → other ≡ plan → number ≡ count → ((round : ℕ) (p : PrefixValue) (a : ℕ) → now round p a ≡ held round p a) → AreRounds (λ p. setting kind_policy g.graph g.book (state_of g.payloads p)) plan count held → AreRounds (λ p. setting kind_policy g.graph g.book (state_of g.payloads p)) other number now
 rounds_as g plan other count number held now plans counts entries are =
     subst (λ (t : Plan × (ℕ × Family)). AreRounds (λ p. setting kind_policy g.graph g.book (state_of g.payloads p)) t.0 t.1.0 t.1.1) (λ i. (sym plans i, (sym counts i, λ r p a. sym (entries r p a) i))) are
+
+-- ---- steps
+
+-- a triple that counts for a plan counts for what is kept before it and with it
+counted_by : (links : ℕ → ℕ → Option Rel) (mid : Rounds) (p : RoundsPlan) (touched : PrefixValue → ℕ → Bool) → IsOpenPlan mid p → (x : ℕ × (PrefixValue × ℕ)) → IsCounted links (course mid p touched) (round_count mid) x
+    → Counts links (plan_of mid) (plan_after mid p) (kept_rounds mid) (kept_with mid p) (λ q a. touched q a ≡ true) (round_count mid) x
+counted_by links mid p touched opened x c = record {
+  from = c.from;
+  to = c.to;
+  known = c.known;
+  counts = elim c.counts [
+    | inl there ↦ inl there
+    | inr (inl seeds) ↦ inr (inl seeds)
+    | inr (inr (n, r, link, changed)) ↦ inr (inr (n, r, link, opened.differs x.0 x.1.0 n changed))
+  ];
+}
+
+few_by : (links : ℕ → ℕ → Option Rel) (mid : Rounds) (p : RoundsPlan) (touched : PrefixValue → ℕ → Bool) (first last : ℕ) → IsOpenPlan mid p → AreEnoughFor links (course mid p touched) (round_count mid) first last
+    → AreFewSteps links (plan_of mid) (plan_after mid p) (kept_rounds mid) (kept_with mid p) (λ q a. touched q a ≡ true) (round_count mid) first last
+few_by links mid p touched first last opened few = record { triples = few.triples; apart = few.apart; counted = λ x stands. counted_by links mid p touched opened x (few.counted x stands); enough = few.enough }
+
+-- what a plan of rounds takes, told of what is kept before and after it
+pub plan_quick : (links : ℕ → ℕ → Option Rel) (was mid now : Rounds) (p : RoundsPlan) (touched : PrefixValue → ℕ → Bool) (first last : ℕ) → IsOpenPlan mid p → AreEnoughFor links (course mid p touched) (round_count mid) first last
+    → plan_of mid ≡ plan_of was → plan_of now ≡ plan_after mid p → round_count mid ≡ round_count was → ((round : ℕ) (q : PrefixValue) (a : ℕ) → kept_rounds mid round q a ≡ kept_rounds was round q a) → ((round : ℕ) (q : PrefixValue) (a : ℕ) → kept_rounds now round q a ≡ kept_with mid p round q a)
+    → AreFewSteps links (plan_of was) (plan_of now) (kept_rounds was) (kept_rounds now) (λ q a. touched q a ≡ true) (round_count was) first last
+plan_quick links was mid now p touched first last opened few plans after counts before later =
+    subst (λ (t : (Plan × Plan) × ((Family × Family) × ℕ)). AreFewSteps links t.0.0 t.0.1 t.1.0.0 t.1.0.1 (λ q a. touched q a ≡ true) t.1.1 first last)
+    (λ i. ((plans i, sym after i), (((λ r q a. before r q a i), (λ r q a. sym (later r q a) i)), counts i))) (few_by links mid p touched first last opened few)
+
+-- steps that are few where these triples count are few where others do
+map_count : (links : ℕ → ℕ → Option Rel) (plan after : Plan) (old new : Family) (T U : PrefixValue → ℕ → Type 0) (rounds : ℕ)
+    → ((x : ℕ × (PrefixValue × ℕ)) → Counts links plan after old new T rounds x → T x.1.0 x.1.1 → Counts links plan after old new U rounds x) → (x : ℕ × (PrefixValue × ℕ)) → Counts links plan after old new T rounds x → Counts links plan after old new U rounds x
+map_count links plan after old new T U rounds other x c = elim c.counts [
+  | inl there ↦ other x c there
+  | inr (inl seeds) ↦ record { from = c.from; to = c.to; known = c.known; counts = inr (inl seeds) }
+  | inr (inr near) ↦ record { from = c.from; to = c.to; known = c.known; counts = inr (inr near) }
+]
+
+pub steps_map : (links : ℕ → ℕ → Option Rel) (plan after : Plan) (old new : Family) (T U : PrefixValue → ℕ → Type 0) (rounds first last : ℕ)
+    → ((x : ℕ × (PrefixValue × ℕ)) → Counts links plan after old new T rounds x → T x.1.0 x.1.1 → Counts links plan after old new U rounds x) → AreFewSteps links plan after old new T rounds first last → AreFewSteps links plan after old new U rounds first last
+steps_map links plan after old new T U rounds first last other few = record { triples = few.triples; apart = few.apart; counted = λ x stands. map_count links plan after old new T U rounds other x (few.counted x stands); enough = few.enough }
+
+-- so are those of an edit that touches no other ASes
+pub quick_by : (old : Sim) (now : Rounds) (links other : ℕ → ℕ → Option Rel) (e : Edit) (first last : ℕ) (T : PrefixValue → ℕ → Type 0) → links ≡ other
+    → ((x : ℕ × (PrefixValue × ℕ)) → Counts links (plan_of old.rounds) (plan_of now) (kept_rounds old.rounds) (kept_rounds now) T (round_count old.rounds) x → T x.1.0 x.1.1 → Counts links (plan_of old.rounds) (plan_of now) (kept_rounds old.rounds) (kept_rounds now) (IsTouched (world_seen old) e) (round_count old.rounds) x)
+    → AreFewSteps links (plan_of old.rounds) (plan_of now) (kept_rounds old.rounds) (kept_rounds now) T (round_count old.rounds) first last → AreFewSteps other (plan_of old.rounds) (plan_of now) (kept_rounds old.rounds) (kept_rounds now) (IsTouched (world_seen old) e) (round_count old.rounds) first last
+quick_by old now links other e first last T graph map few =
+    coe 0 1 (i. AreFewSteps (graph i) (plan_of old.rounds) (plan_of now) (kept_rounds old.rounds) (kept_rounds now) (IsTouched (world_seen old) e) (round_count old.rounds) first last)
+    (steps_map links (plan_of old.rounds) (plan_of now) (kept_rounds old.rounds) (kept_rounds now) T (IsTouched (world_seen old) e) (round_count old.rounds) first last map few)
+
+pub quick_done : (old mid new : Sim) (e : Edit) (touched : PrefixValue → ℕ → Bool) (first last : ℕ) → AreFewSteps (what mid.graph) (plan_of mid.rounds) (plan_of new.rounds) (kept_rounds mid.rounds) (kept_rounds new.rounds) (λ p a. touched p a ≡ true) (round_count mid.rounds) first last
+    → mid.rounds ≡ old.rounds → new.graph ≡ mid.graph → ((p : PrefixValue) (a : ℕ) → touched p a ≡ true → IsTouched (world_seen old) e p a) → IsQuick (world_seen old) (world_seen new) e (kept old).routings (kept new).routings first last
+quick_done old mid new e touched first last few rounds graph only =
+    quick_by old new.rounds (what mid.graph) (what (topology (world_seen new))) e first last (λ p a. touched p a ≡ true) (ap what (sym graph)) (λ x c there. record { from = c.from; to = c.to; known = c.known; counts = inl (only x.1.0 x.1.1 there) })
+    (coe 0 1 (i. AreFewSteps (what mid.graph) (plan_of (rounds i)) (plan_of new.rounds) (kept_rounds (rounds i)) (kept_rounds new.rounds) (λ p a. touched p a ≡ true) (round_count (rounds i)) first last) few)
+
+-- the same edit
+pub quick_is : (w after : World) (old new : Family) (first last : ℕ) (d e : Edit) (r : Result Changed EditError) → e ≡ d → OnOk r (IsQuick w after d old new first last) → OnOk r (IsQuick w after e old new first last)
+quick_is w after old new first last d e r same h = subst (λ (x : Edit). OnOk r (IsQuick w after x old new first last)) (sym same) h

@@ -7,6 +7,8 @@ pub mod Loads
 pub mod Hops
 pub mod Working
 pub mod Watches
+pub mod Pushing
+pub mod Readers
 pub mod Renewals
 pub mod SeedEdits
 pub mod Grounds
@@ -18,4 +20,5 @@ pub mod Announcers
 pub mod Given
 pub mod PayloadEdits
 pub mod SeedMarks
+pub mod Unnamed
 pub mod Reseeded

@@ -182,12 +182,12 @@ pair_ases ases g a b (Some r) x not_a not_b links is =
 
 -- so that only the pair differs, and is touched
 pub link_differs : LinksAreSet → LinksAreTaken → AsesAreKept → (old mid : Sim) (a b : ℕ) (o : Option Rel) (touched : PrefixValue → ℕ → Bool) → a ≢ b → HasLinks old mid a b (links_with old.graph a b o)
-    → ((prefix : PrefixValue) (x : ℕ) → IsTrue (has_prefix (plan_of old.rounds) prefix) → occurs x (a ∷ b ∷ []) ≡ true → touched prefix x ≡ true) → DiffersAround (ground_of old) (ground_of mid) (plan_of mid.rounds) (a ∷ b ∷ []) touched
+    → ((prefix : PrefixValue) (x : ℕ) → IsTrue (has_prefix (plan_of old.rounds) prefix) → occurs x (a ∷ b ∷ []) ≡ true → touched prefix x ≡ true) → DiffersAround (ground_of old) (ground_of mid) mid.rounds (a ∷ b ∷ []) touched
 link_differs setting taken ases old mid a b o touched apart h touches = record {
   presence = λ x free. (let off = apart_pair a b x free in ap (λ (m : set.FinSet nat_cmp). has (graph_of mid.graph.links m) x) h.marked ∙ pair_ases ases old.graph a b o x off.0 off.1 mid.graph.links h.are);
   links = λ x n free. (let off = apart_pair a b x free in pair_links setting taken old.graph a b o apart x n off.0 off.1 mid.graph.links h.are);
   policies = λ x free. ap (λ (k : PolicyBook Kind). policy_at k x) h.book;
-  ends_touched = λ prefix x known end. touches prefix x (ap (λ (r : Rounds). has_prefix (plan_of r) prefix) (sym h.rest.rounds) ∙ known) end;
+  at_ends = λ prefix x known end. inl (touches prefix x (ap (λ (r : Rounds). has_prefix (plan_of r) prefix) (sym h.rest.rounds) ∙ known) end);
   marks = λ prefix x n r known free at. ap (λ (k : PolicyBook Kind). (kind_policy (policy_at k n)).marks) h.book;
   states = λ prefix x known free there. inr (λ origin. ap (λ (v : Payloads). state_of v prefix origin) h.vrps);
 }
@@ -253,3 +253,11 @@ cut_no_cycle sound setting taken old mid a b h none =
 -- a pair with a link is two ASes
 pub cut_apart : LinksAreSound → (s : Sim) (a b : ℕ) → what s.graph a b ≢ None → a ≢ b
 cut_apart sound s a b there same = there (subst (λ (x : ℕ). what s.graph a x ≡ None) same (sound.to_itself s.graph a))
+
+pub pair_end : (a b x : ℕ) → occurs x (a ∷ b ∷ []) ≡ true → (x ≡ a) ⊎ (x ≡ b)
+pair_end a b x there = by (a == x) refl (b == x) refl there
+  where
+    by : (t : Bool) → (a == x) ≡ t → (s : Bool) → (b == x) ≡ s → (t || (s || false)) ≡ true → (x ≡ a) ⊎ (x ≡ b)
+    by true e s f h = inl (sym (eqb-true a x e))
+    by false e true f h = inr (sym (eqb-true b x f))
+    by false e false f h = cc

@@ -1,5 +1,5 @@
 -- Edits of payloads.
-use Rattle.std.proofs.Common.{◌≡◌, ◌⊎◌, inl, inr, ◌<◌, ◌≤◌, ◌+◌, ◌-◌, ℕ, Bool, true, false, IsTrue, cond, is_some, Option, None, Some, List, [], ◌∷◌, map, refl, sym, ap, subst, ◌∙◌, arith}
+use Rattle.std.proofs.Common.{◌≡◌, ◌⊎◌, inl, inr, ◌<◌, ◌≤◌, ◌+◌, ◌-◌, ℕ, Bool, true, false, IsTrue, cond, is_some, Option, None, Some, List, [], ◌∷◌, map, unwrap_or, refl, sym, ap, subst, ◌∙◌, arith}
 use Rattle.std.specs.List.{filter}
 use Rattle.std.specs.FinMap.Entries.{by_order}
 use Rattle.std.proofs.lemmas.Bool.{true≢false}
@@ -13,19 +13,20 @@ use Rattle.net_names.specs.Prefixes.{PrefixValue}
 use Rattle.as_graph.specs.Topology.{Topology, as_count, has as has_as, what}
 use Rattle.origin_validation.specs.Judging.{state_among, state_of}
 use Rattle.policy_kinds.specs.Kinds.{kind_policy}
-use Rattle.stability_laws.specs.Plans.{Plan, has_prefix}
+use Rattle.stability_laws.specs.Plans.{has_prefix}
 use Rattle.policy_kinds.specs.declared.kind.Kind.{Kind}
 use Rattle.stability_laws.specs.Book.{PolicyBook, policy_at}
 use Rattle.net_names.specs.Orders.{vrp_total, exact_vrp}
 use Rattle.net_names.specs.Payloads.{VrpValue, vrp_cmp}
 use Rattle.roa_table.specs.Sets.{Payloads, added, count, has, taken}
 use Rattle.leak_round.specs.Rounds.{plan_of, round_count}
+use Rattle.leak_round.specs.declared.rounds.Rounds.{Rounds}
 use Rattle.scenario_text.specs.declared.acts.Edit.{Edit}
 use Rattle.scenario_text.specs.declared.acts.Edit.TheVariants.{VrpAdd}
 use Rattle.sim_core.specs.Editing.{IsSmall, IsUndone, KeepsRest}
 use Rattle.sim_core.specs.Edits.{IsAllowed, absent, edited, refusal_of_edit}
 use Rattle.sim_core.specs.Sims.{world_seen}
-use Rattle.sim_core.specs.World.{World, HasCycle, topology}
+use Rattle.sim_core.specs.World.{World, HasCycle, kind_at, topology}
 use Rattle.sim_core.specs.declared.errors.EditError.TheVariants as refused
 use Rattle.sim_core.specs.declared.errors.EditLimit.TheVariants.{Vrps}
 use Rattle.sim_core.specs.Ground.{DiffersAround, Ground, policy_on}
@@ -133,18 +134,18 @@ taken_added s v there = fin.same_map vrp_total exact_vrp _ _ (λ q.
     back false o h = refl
 
 -- only the states of covered prefixes differ, and who reads these is touched
-pub payload_differs : (g h : Ground) (plan : Plan) (v : VrpValue) (touched : PrefixValue → ℕ → Bool) → h.graph ≡ g.graph → h.book ≡ g.book → ((p : PrefixValue) (origin : ℕ) → covers v.prefix p ≡ false → state_of h.payloads p origin ≡ state_of g.payloads p origin)
-    → ((p : PrefixValue) (a : ℕ) → IsTrue (has_prefix plan p) → covers v.prefix p ≡ true → has_as g.graph a ≡ true → (policy_on g a).reads_state ≡ true → touched p a ≡ true) → DiffersAround g h plan [] touched
-payload_differs g h plan v touched graph book elsewhere touches = record {
+pub payload_differs : (g h : Ground) (rounds : Rounds) (v : VrpValue) (touched : PrefixValue → ℕ → Bool) → h.graph ≡ g.graph → h.book ≡ g.book → ((p : PrefixValue) (origin : ℕ) → covers v.prefix p ≡ false → state_of h.payloads p origin ≡ state_of g.payloads p origin)
+    → ((p : PrefixValue) (a : ℕ) → IsTrue (has_prefix (plan_of rounds) p) → covers v.prefix p ≡ true → has_as g.graph a ≡ true → (policy_on g a).reads_state ≡ true → touched p a ≡ true) → DiffersAround g h rounds [] touched
+payload_differs g h rounds v touched graph book elsewhere touches = record {
   presence = λ a free. ap (λ (x : Topology). has_as x a) graph;
   links = λ a n free. ap (λ (x : Topology). what x a n) graph;
   policies = λ a free. ap (λ (b : PolicyBook Kind). policy_at b a) book;
-  ends_touched = λ p a known end. absurd (true≢false (sym end));
+  at_ends = λ p a known end. absurd (true≢false (sym end));
   marks = λ p a n r known free at. ap (λ (b : PolicyBook Kind). (kind_policy (policy_at b n)).marks) book;
   states = λ p a known free there. by p a known free (ap (λ (x : Topology). has_as x a) (sym graph) ∙ there) (covers v.prefix p) refl (policy_on h a).reads_state refl;
 }
   where
-    by : (p : PrefixValue) (a : ℕ) → IsTrue (has_prefix plan p) → touched p a ≡ false → has_as g.graph a ≡ true → (c : Bool) → covers v.prefix p ≡ c → (r : Bool) → (policy_on h a).reads_state ≡ r
+    by : (p : PrefixValue) (a : ℕ) → IsTrue (has_prefix (plan_of rounds) p) → touched p a ≡ false → has_as g.graph a ≡ true → (c : Bool) → covers v.prefix p ≡ c → (r : Bool) → (policy_on h a).reads_state ≡ r
         → ((policy_on h a).reads_state ≡ false) ⊎ ((origin : ℕ) → state_of h.payloads p origin ≡ state_of g.payloads p origin)
     by p a known free there false covered r reads = inr (λ origin. elsewhere p origin covered)
     by p a known free there true covered false reads = inl reads
@@ -162,3 +163,10 @@ small_taken g s v small = record { links = small.links; ases = small.ases; paylo
     by : (b : Bool) → cond b (count s - 1) (count s) ≤ 2000000
     by true = omega (arith, small.payloads_in)
     by false = small.payloads_in
+
+-- the policy of an AS in a world is that of the simulation
+pub kind_seen : (s : Sim) (a : ℕ) → policy_at s.book a ≡ kind_at (world_seen s) a
+kind_seen s a = ap (unwrap_or (fin.get s.book.named a)) s.plain
+
+pub reads_kind : (s : Sim) (a : ℕ) → (kind_policy (policy_at s.book a)).reads_state ≡ true → (kind_policy (kind_at (world_seen s) a)).reads_state ≡ true
+reads_kind s a h = ap (λ k. (kind_policy k).reads_state) (sym (kind_seen s a)) ∙ h

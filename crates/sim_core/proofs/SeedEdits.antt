@@ -8,10 +8,10 @@ use Rattle.std.specs.FinSet as set
 use Rattle.net_names.specs.Numbers.{occurs}
 use Rattle.net_names.specs.Prefixes.{PrefixValue, prefix_cmp}
 use Rattle.stability_laws.specs.Plans.{Plan, announced_path, announcement_cmp, announcer_of, announcers_of, announces, with_announcement}
-use Rattle.stability_laws.specs.SeedEdits.{IsEditOf, IsEditWithin, edit_asn, edited, without_announcement}
+use Rattle.stability_laws.specs.SeedEdits.{IsEditOf, IsEditWithin, edit_asn, edit_prefix, edited, without_announcement}
 use Rattle.stability_laws.specs.declared.seed_plan.edits.SeedEdit.{SeedEdit}
 use Rattle.stability_laws.specs.declared.seed_plan.edits.SeedEdit.TheVariants.{Announce, Withdraw}
-use Rattle.stability_laws.proofs.KeyLists.{eq_is, insert_there}
+use Rattle.stability_laws.proofs.KeyLists.{eq_is, eq_same, insert_there}
 use Rattle.stability_laws.proofs.PlanListings.{announcers_listed}
 use Rattle.stability_laws.proofs.PlanOrders.{announcements_total, exact_announcement, exact_prefix, prefixes_total}
 use Rattle.leak_round.specs.Limits.{IsWithinLimits}
@@ -35,11 +35,24 @@ apart q prefix x a other = by (eq_by_cmp announcement_cmp (q, x) (prefix, a)) re
     by false e = refl
     by true e = absurd (other (ap (λ (t : PrefixValue × ℕ). t.1) (eq_is announcements_total exact_announcement (q, x) (prefix, a) e)))
 
+apart_prefix : (q prefix : PrefixValue) (x a : ℕ) → eq_by_cmp prefix_cmp q prefix ≡ false → eq_by_cmp announcement_cmp (q, x) (prefix, a) ≡ false
+apart_prefix q prefix x a other = by (eq_by_cmp announcement_cmp (q, x) (prefix, a)) refl
+  where
+    by : (b : Bool) → eq_by_cmp announcement_cmp (q, x) (prefix, a) ≡ b → b ≡ false
+    by false e = refl
+    by true e = absurd (true≢false (sym (eq_same prefixes_total exact_prefix q prefix (ap (λ (t : PrefixValue × ℕ). t.0) (eq_is announcements_total exact_announcement (q, x) (prefix, a) e))) ∙ other))
+
 -- what the other ASes announce
 pub other_paths : (p : Plan) (e : SeedEdit) (x : ℕ) → x ≢ edit_asn e → (q : PrefixValue) → announced_path (edited p e) q x ≡ announced_path p q x
 other_paths p (Announce prefix path) x other q =
     fin.get-insert announcements_total p.announced (prefix, announcer_of path) path (q, x) ∙ ap (λ b. cond b (Some path) (fin.get p.announced (q, x))) (apart q prefix x (announcer_of path) other)
 other_paths p (Withdraw prefix a) x other q = fin.get-remove announcements_total p.announced (prefix, a) (q, x) ∙ ap (λ b. cond b None (fin.get p.announced (q, x))) (apart q prefix x a other)
+
+-- what is announced of other prefixes
+pub other_prefixes : (p : Plan) (e : SeedEdit) (q : PrefixValue) → eq_by_cmp prefix_cmp q (edit_prefix e) ≡ false → (x : ℕ) → announced_path (edited p e) q x ≡ announced_path p q x
+other_prefixes p (Announce prefix path) q other x =
+    fin.get-insert announcements_total p.announced (prefix, announcer_of path) path (q, x) ∙ ap (λ b. cond b (Some path) (fin.get p.announced (q, x))) (apart_prefix q prefix x (announcer_of path) other)
+other_prefixes p (Withdraw prefix a) q other x = fin.get-remove announcements_total p.announced (prefix, a) (q, x) ∙ ap (λ b. cond b None (fin.get p.announced (q, x))) (apart_prefix q prefix x a other)
 
 -- ---- who announces
 

@@ -1,5 +1,5 @@
 -- What the routings of a world rest on, and where an edit changes it.
-use Rattle.std.specs.Prelude.{◌≡◌, ◌⊎◌, ℕ, Bool, true, false, IsTrue, Option, Some, List, map}
+use Rattle.std.specs.Prelude.{◌≡◌, ◌⊎◌, ◌<◌, ℕ, suc, Bool, true, false, IsTrue, Option, None, Some, List, map}
 use Rattle.net_names.specs.declared.routes.Rel.{Rel}
 use Rattle.net_names.specs.Numbers.{occurs}
 use Rattle.net_names.specs.Prefixes.{PrefixValue}
@@ -13,6 +13,9 @@ use Rattle.origin_validation.specs.Judging.{state_of}
 use Rattle.rank_order.specs.Ranks.{KeptRanks, rank_at}
 use Rattle.stability_laws.specs.Book.{PolicyBook, policy_at}
 use Rattle.stability_laws.specs.Plans.{Plan, announces, has_prefix}
+use Rattle.stability_laws.specs.Rounds.{seeds_of}
+use Rattle.stability_laws.specs.Stable.{IsRight}
+use Rattle.stability_laws.specs.World.{setting}
 use Rattle.stability_laws.specs.SeedEdits.{IsEditOf, IsEditWithin, edit_asn, edited}
 use Rattle.stability_laws.specs.declared.seed_plan.edits.SeedEdit.{SeedEdit}
 use Rattle.leak_round.specs.Edited.{plan_edited}
@@ -40,14 +43,19 @@ pub record BelongTo (g : Ground) (ranks : KeptRanks) (rounds : Rounds) (watches 
   pub rounds_are : AreRoundsOf g.graph g.payloads g.book (plan_of rounds) (round_count rounds) rounds
   pub watching : AreRoundWatches g.graph (plan_of rounds) (kept_rounds rounds) g.book (round_count rounds) (map seen_in watches)
 
--- between two grounds only the ends differ in presence, links and policy; and who is not touched for a prefix has neighbours of which none begins or ceases to mark, and does not read the states of the prefix, or these are the same (own rule)
-pub record DiffersAround (old new : Ground) (plan : Plan) (ends : List ℕ) (touched : PrefixValue → ℕ → Bool) : Type 0 where
+-- what an AS holds of a prefix is right on the ground in each round, and nothing where it is no AS of it (own rule)
+pub record IsRightOn (g : Ground) (rounds : Rounds) (prefix : PrefixValue) (a : ℕ) : Type 0 where
+  pub right : (before : ℕ) → before < round_count rounds → has g.graph a ≡ true → IsRight (setting kind_policy g.graph g.book (state_of g.payloads prefix)) (seeds_of (plan_of rounds) (suc before) prefix (kept_rounds rounds before prefix)) (kept_rounds rounds (suc before) prefix) a
+  pub none : (before : ℕ) → before < round_count rounds → has g.graph a ≡ false → kept_rounds rounds (suc before) prefix a ≡ None
+
+-- between two grounds only the ends differ in presence, links and policy; and who is not touched for a prefix is no end, or still right; has neighbours of which none begins or ceases to mark; and does not read the states of the prefix, or these are the same (own rule)
+pub record DiffersAround (old new : Ground) (rounds : Rounds) (ends : List ℕ) (touched : PrefixValue → ℕ → Bool) : Type 0 where
   pub presence : (a : ℕ) → occurs a ends ≡ false → has new.graph a ≡ has old.graph a
   pub links : (a n : ℕ) → occurs a ends ≡ false → what new.graph a n ≡ what old.graph a n
   pub policies : (a : ℕ) → occurs a ends ≡ false → policy_at new.book a ≡ policy_at old.book a
-  pub ends_touched : (prefix : PrefixValue) (a : ℕ) → IsTrue (has_prefix plan prefix) → occurs a ends ≡ true → touched prefix a ≡ true
-  pub marks : (prefix : PrefixValue) (a n : ℕ) (r : Rel) → IsTrue (has_prefix plan prefix) → touched prefix a ≡ false → what new.graph a n ≡ Some r → (policy_on new n).marks ≡ (policy_on old n).marks
-  pub states : (prefix : PrefixValue) (a : ℕ) → IsTrue (has_prefix plan prefix) → touched prefix a ≡ false → has new.graph a ≡ true → ((policy_on new a).reads_state ≡ false) ⊎ ((origin : ℕ) → state_of new.payloads prefix origin ≡ state_of old.payloads prefix origin)
+  pub at_ends : (prefix : PrefixValue) (a : ℕ) → IsTrue (has_prefix (plan_of rounds) prefix) → occurs a ends ≡ true → (touched prefix a ≡ true) ⊎ IsRightOn new rounds prefix a
+  pub marks : (prefix : PrefixValue) (a n : ℕ) (r : Rel) → IsTrue (has_prefix (plan_of rounds) prefix) → touched prefix a ≡ false → what new.graph a n ≡ Some r → (policy_on new n).marks ≡ (policy_on old n).marks
+  pub states : (prefix : PrefixValue) (a : ℕ) → IsTrue (has_prefix (plan_of rounds) prefix) → touched prefix a ≡ false → has new.graph a ≡ true → ((policy_on new a).reads_state ≡ false) ⊎ ((origin : ℕ) → state_of new.payloads prefix origin ≡ state_of old.payloads prefix origin)
 
 -- an edit of announcements, if there is one, is one of the plan within the limits, by one of the ends; and who announces something after it is an AS of the graph (own rule)
 pub record IsSeedChange (plan : Plan) (g : Topology) (ends : List ℕ) (edit : Option SeedEdit) : Type 0 where

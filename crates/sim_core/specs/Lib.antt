@@ -10,5 +10,6 @@ pub mod Watching
 pub mod Parts
 pub mod Renewing
 pub mod Ground
+pub mod Steps
 pub mod Sims
 pub mod Editing

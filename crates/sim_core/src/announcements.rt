@@ -1,29 +1,33 @@
 //! Edits of announcements.
-ghost use Rattle.std.specs.Prelude.{◌≡◌, ◌≤◌, length, nat_lt};
+ghost use Rattle.std.specs.Prelude.{◌≡◌, ◌≤◌, ℕ, true, false, IfOk, OnOk, length, nat_lt};
 ghost use Rattle.std.specs.FinMap as fin;
 ghost use Rattle.std.specs.FinSet as set;
 ghost use Rattle.std.specs.Ordering.{nat_cmp};
+ghost use Rattle.net_names.specs.Prefixes.{PrefixValue};
 ghost use Rattle.leak_round.specs.Rounds.{plan_of, pool_of};
+ghost use Rattle.leak_round.specs.Touched.{touches};
 ghost use Rattle.path_pool.specs.Pool.{live_count};
 ghost use Rattle.scenario_text.specs.declared.acts.Edit.TheVariants.{Announce, Withdraw};
 ghost use Rattle.stability_laws.specs.Plans.{with_announcement};
-ghost use Rattle.stability_laws.specs.SeedEdits.{IsEditWithin, edit_asn, edited};
+ghost use Rattle.stability_laws.specs.SeedEdits.{IsEditWithin, edit_asn, edit_prefix, edited};
 ghost use Rattle.sim_core.specs.Editing.{IsEdited, IsSeedEdit, edit_of};
 ghost use Rattle.sim_core.specs.Kept.{IsKept};
 ghost use Rattle.sim_core.specs.Sims.{kept, world_seen};
+ghost use Rattle.sim_core.specs.Steps.{IsQuick};
 ghost use Rattle.sim_core.specs.World.{HasCycle, named};
 
 use crate::changing::change;
 use crate::marking::{set_mark, set_mark_back};
 use crate::naming::is_other;
 use crate::planning::copy_of;
-use crate::touching::touched_ases;
 use crate::{Changed, EditError, EditLimit, Sim};
-use as_graph::ases_are_kept;
-use net_names::{Asn, Path, Prefix};
+use as_graph::{ases_are_kept, links_are_sound};
+use leak_round::Touched;
+use net_names::{Asn, NoMemory, Path, Prefix};
 use origin_validation::States;
+use policy_kinds::Kind;
 use route_choice::Steps;
-use stability_laws::{SeedEdit, SeedPlan};
+use stability_laws::{SeedEdit, SeedPlan, right_follows};
 use std::alloc::Global;
 use std::sync::ledger::Ledger;
 
@@ -39,6 +43,33 @@ fn asn_of(edit: &SeedEdit) -> Asn
         SeedEdit::Announce { prefix: _, path } => path.as_slice()[0],
         SeedEdit::Withdraw { prefix: _, asn } => *asn,
     }
+}
+
+// The prefix whose announcement is edited.
+fn prefix_of(edit: &SeedEdit) -> Prefix
+    ensures { result ≡ edit_prefix edit.now }
+{
+    match edit {
+        SeedEdit::Announce { prefix, path: _ } => *prefix,
+        SeedEdit::Withdraw { prefix, asn: _ } => *prefix,
+    }
+}
+
+// The AS for the prefix whose announcement is edited, where nothing names the AS any more, and else none.
+fn touched_unless(
+    alloc: Global,
+    edit: &SeedEdit,
+    asn: Asn,
+    is_named: bool,
+) -> Result<Touched, NoMemory>
+    ensures this { is_named ≡ false → IfOk result (λ t. touches t (edit_prefix edit.now) asn ≡ true) }
+    ensures only { IfOk result (λ t. (p : PrefixValue) (a : ℕ) → touches t p a ≡ true → (is_named ≡ false) × (p ≡ edit_prefix edit.now) × (a ≡ asn)) }
+{
+    let mut touched = Touched::new(alloc);
+    if !is_named {
+        touched.add(prefix_of(edit), asn)?;
+    }
+    Ok(touched)
 }
 
 impl Sim {
@@ -63,14 +94,17 @@ impl Sim {
         requires few_cells { live_count (pool_of self.old.rounds) ≤ 20000000 }
         requires kept { IsKept (world_seen self.old) (kept self.old) }
         requires no_cycle { HasCycle (world_seen self.old) → ⊥ }
-        ensures { IsEdited self.old self.new (edit_of edit.now) result }
+        ensures edited { IsEdited self.old self.new (edit_of edit.now) result }
+        ensures quick { OnOk result (IsQuick (world_seen self.old) (world_seen self.new) (edit_of edit.now) (kept self.old).routings (kept self.new).routings steps.old steps.new) }
     {
         ases_are_kept();
+        links_are_sound();
+        right_follows::<Kind>();
         self.is_small();
         let asn = asn_of(edit);
         let was = self.is_named(self.rounds.seed_plan(), asn);
         let is = self.is_named(plan, asn);
-        let Ok(touched) = touched_ases(alloc, self.rounds.seed_plan(), &[asn]) else {
+        let Ok(touched) = touched_unless(alloc, edit, asn, is) else {
             return Err(EditError::Memory);
         };
         match self.graph.room(asn, asn) {
@@ -115,7 +149,8 @@ impl Sim {
         requires few_cells { live_count (pool_of self.old.rounds) ≤ 20000000 }
         requires kept { IsKept (world_seen self.old) (kept self.old) }
         requires no_cycle { HasCycle (world_seen self.old) → ⊥ }
-        ensures { IsEdited self.old self.new (edit_of edit.now) result }
+        ensures edited { IsEdited self.old self.new (edit_of edit.now) result }
+        ensures quick { OnOk result (IsQuick (world_seen self.old) (world_seen self.new) (edit_of edit.now) (kept self.old).routings (kept self.new).routings steps.old steps.new) }
     {
         let Ok(plan) = self.rounds.seed_plan().edited(alloc, edit) else {
             return Err(EditError::Memory);
@@ -146,7 +181,8 @@ impl Sim {
         requires few_cells { live_count (pool_of self.old.rounds) ≤ 20000000 }
         requires kept { IsKept (world_seen self.old) (kept self.old) }
         requires no_cycle { HasCycle (world_seen self.old) → ⊥ }
-        ensures { IsEdited self.old self.new (Announce prefix path.now) result }
+        ensures edited { IsEdited self.old self.new (Announce prefix path.now) result }
+        ensures quick { OnOk result (IsQuick (world_seen self.old) (world_seen self.new) (Announce prefix path.now) (kept self.old).routings (kept self.new).routings steps.old steps.new) }
     {
         self.is_small();
         if !self.rounds.seed_plan().has_prefix(prefix) {
@@ -174,7 +210,8 @@ impl Sim {
         requires few_cells { live_count (pool_of self.old.rounds) ≤ 20000000 }
         requires kept { IsKept (world_seen self.old) (kept self.old) }
         requires no_cycle { HasCycle (world_seen self.old) → ⊥ }
-        ensures { IsEdited self.old self.new (Withdraw prefix asn) result }
+        ensures edited { IsEdited self.old self.new (Withdraw prefix asn) result }
+        ensures quick { OnOk result (IsQuick (world_seen self.old) (world_seen self.new) (Withdraw prefix asn) (kept self.old).routings (kept self.new).routings steps.old steps.new) }
     {
         let plan = self.rounds.seed_plan();
         if !plan.has_prefix(prefix) {

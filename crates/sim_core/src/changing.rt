@@ -11,6 +11,7 @@ ghost use Rattle.leak_round.specs.Rounds.{is_open, kept as kept_rounds, plan_of,
 ghost use Rattle.leak_round.specs.Touched.{touches};
 ghost use Rattle.sim_core.specs.Editing.{IsChanged, IsSmall, IsUnchanged, ground_less};
 ghost use Rattle.sim_core.specs.Ground.{AreSeenAlike, BelongTo, DiffersAround, Ground as AGround, IsSeedChange};
+ghost use Rattle.sim_core.specs.Steps.{AreFewSteps};
 ghost use Rattle.sim_core.specs.Watching.{addrs_in};
 
 use crate::renewing::{make_room, renew};
@@ -48,10 +49,11 @@ pub fn change<L: Ledger>(
     requires few { round_count rounds.old ≤ 4 }
     requires no_cycle { HasNoProviderCycle (what graph.now) }
     requires seeds { IsSeedChange (plan_of rounds.old) graph.now ends.now (option_copied edit) }
-    requires from { (old : AGround) × BelongTo old ranks.old rounds.old watches.old.items × DiffersAround old (record { graph = graph.now; payloads = states.now; book = book.now }) (plan_of rounds.old) ends.now (touches touched.now) }
+    requires from { (old : AGround) × BelongTo old ranks.old rounds.old watches.old.items × DiffersAround old (record { graph = graph.now; payloads = states.now; book = book.now }) rounds.old ends.now (touches touched.now) }
     ensures belong { OnOk result (BelongTo (record { graph = graph.now; payloads = states.now; book = book.now }) ranks.new rounds.new watches.new.items) }
     ensures changed { IfOk result (λ c. HasChanges (plan_of rounds.new) (round_count rounds.new) (kept_rounds rounds.old) (kept_rounds rounds.new) c.routes) }
     ensures plan { OnOk result (plan_of rounds.new ≡ plan_edited (option_copied edit.entry) (plan_of rounds.old)) }
+    ensures quick { OnOk result (AreFewSteps (what graph.now) (plan_of rounds.old) (plan_of rounds.new) (kept_rounds rounds.old) (kept_rounds rounds.new) (λ p a. touches touched.now p a ≡ true) (round_count rounds.old) steps.old steps.new) }
     ensures count { round_count rounds.new ≡ round_count rounds.old }
     ensures closed { is_open rounds.new ≡ false }
     ensures addrs { map addrs_in watches.new.items ≡ map addrs_in watches.old.items }
@@ -112,8 +114,9 @@ impl Sim {
     ) -> Result<Changed, NoMemory>
         requires few_cells { live_count (pool_of self.old.rounds) ≤ 20000000 }
         requires no_cycle { HasNoProviderCycle (what self.old.graph) }
-        requires from { (old : AGround) × BelongTo old self.old.ranks self.old.rounds self.old.watches.items × DiffersAround old (ground_less self.old but) (plan_of self.old.rounds) ends.now (touches touched.now) }
+        requires from { (old : AGround) × BelongTo old self.old.ranks self.old.rounds self.old.watches.items × DiffersAround old (ground_less self.old but) self.old.rounds ends.now (touches touched.now) }
         ensures changed { IfOk result (λ c. IsChanged self.old self.new but c.routes) }
+        ensures quick { OnOk result (AreFewSteps (what self.old.graph) (plan_of self.old.rounds) (plan_of self.new.rounds) (kept_rounds self.old.rounds) (kept_rounds self.new.rounds) (λ p a. touches touched.now p a ≡ true) (round_count self.old.rounds) steps.old steps.new) }
         ensures err { OnErr result (IsUnchanged self.old self.new) }
     {
         let states = states_but(&self.vrps, but);

@@ -7,6 +7,7 @@ ghost use Rattle.sim_core.specs.Editing.{IsEdited, IsUnchanged};
 ghost use Rattle.sim_core.specs.Edits.{HasChanged, IsAllowed, IsEditRefusal, edited};
 ghost use Rattle.sim_core.specs.Kept.{IsKept};
 ghost use Rattle.sim_core.specs.Sims.{kept, world_seen};
+ghost use Rattle.sim_core.specs.Steps.{IsQuick};
 ghost use Rattle.sim_core.specs.World.{HasCycle};
 
 use crate::{EditError, Sim};
@@ -34,6 +35,7 @@ impl Sim {
         requires no_cycle { HasCycle (world_seen self.old) → ⊥ }
         ensures unchanged { IsUnchanged self.old self.new }
         ensures few_cells { OnOk result (live_count (pool_of self.new.rounds) ≤ 20000000) }
+        ensures idle { live_count (pool_of self.old.rounds) ≤ 20000000 → steps.new ≡ steps.old }
     {
         if self.rounds.pool().live() <= MOST_CELLS {
             return Ok(());
@@ -53,7 +55,8 @@ impl Sim {
         requires few_cells { live_count (pool_of self.old.rounds) ≤ 20000000 }
         requires kept { IsKept (world_seen self.old) (kept self.old) }
         requires no_cycle { HasCycle (world_seen self.old) → ⊥ }
-        ensures { IsEdited self.old self.new edit.now result }
+        ensures edited { IsEdited self.old self.new edit.now result }
+        ensures quick { OnOk result (IsQuick (world_seen self.old) (world_seen self.new) edit.now (kept self.old).routings (kept self.new).routings steps.old steps.new) }
     {
         match edit {
             Edit::Link { a, b, rel } => self.edit_link(alloc, *a, *b, *rel, steps),
@@ -69,6 +72,12 @@ impl Sim {
     /// Edits the world. Every kept part is then that of the edited world, and the answer says how many
     /// entries differ. Both ends of a link differ, and an announced path has 1 to 64 numbers. A prefix
     /// stays in the world when its last announcement goes.
+    ///
+    /// It takes at most two steps for each round, prefix and AS that the edit touches, whose seed differs, or
+    /// that has a neighbour whose entry differs; more only where more than 20,000,000 cells of the pool are
+    /// live, which is then made anew first. Touched are the ends of a link; the AS of a policy and, where it
+    /// begins or ceases to mark, its neighbours; and where a payload covers the prefix, the ASes whose policy
+    /// reads the states.
     ///
     /// It is refused with the first reason in this order: `UnknownPrefix` exactly where the world has not
     /// the prefix; `AbsentLink`, `AbsentVrp` and `AbsentAnnouncement` exactly where what is to be taken away
@@ -89,6 +98,7 @@ impl Sim {
         ensures allowed { OnOk result (IsAllowed (world_seen self.old) edit.now) }
         ensures kept { OnOk result (IsKept (world_seen self.new) (kept self.new)) }
         ensures changed { IfOk result (λ c. HasChanged (world_seen self.new) (kept self.old).routings (kept self.new).routings c.routes) }
+        ensures quick { live_count (pool_of self.old.rounds) ≤ 20000000 → OnOk result (IsQuick (world_seen self.old) (world_seen self.new) edit.now (kept self.old).routings (kept self.new).routings steps.old steps.new) }
         ensures refused { IfErr result (IsEditRefusal (world_seen self.old) edit.now) }
         ensures same_world { OnErr result (world_seen self.new ≡ world_seen self.old) }
         ensures same_kept { OnErr result (kept self.new ≡ kept self.old) }

@@ -6,7 +6,7 @@ ghost use Rattle.as_graph.specs.Refusals.{IsLinkRefusal};
 ghost use Rattle.as_graph.specs.Room.{is_room_for};
 ghost use Rattle.as_graph.specs.Topology.{what};
 ghost use Rattle.cycle_check.specs.Cycles.{without_pair};
-ghost use Rattle.leak_round.specs.Rounds.{plan_of, pool_of};
+ghost use Rattle.leak_round.specs.Rounds.{kept as kept_rounds, plan_of, pool_of, round_count};
 ghost use Rattle.leak_round.specs.Touched.{touches};
 ghost use Rattle.path_pool.specs.Pool.{live_count};
 ghost use Rattle.scenario_text.specs.declared.acts.Edit.TheVariants.{Link, Unlink};
@@ -15,6 +15,7 @@ ghost use Rattle.sim_core.specs.Edits.{IsEditRefusal, absent_link as absent_link
 ghost use Rattle.sim_core.specs.Ground.{BelongTo, DiffersAround, Ground as AGround};
 ghost use Rattle.sim_core.specs.Kept.{IsKept};
 ghost use Rattle.sim_core.specs.Sims.{kept, world_seen};
+ghost use Rattle.sim_core.specs.Steps.{AreFewSteps, IsQuick};
 ghost use Rattle.sim_core.specs.World.{HasCycle};
 
 use crate::links::{closed_by, relink};
@@ -96,8 +97,9 @@ impl Sim {
         requires there { HasNoProviderCycle (without_pair self.old.graph a b) }
         requires back { HasNoProviderCycle (without_pair self.old.graph b a) }
         requires few_cells { live_count (pool_of self.old.rounds) ≤ 20000000 }
-        requires from { (old : AGround) × BelongTo old self.old.ranks self.old.rounds self.old.watches.items × DiffersAround old (ground_of self.old) (plan_of self.old.rounds) (a ∷ b ∷ []) (touches touched.now) }
+        requires from { (old : AGround) × BelongTo old self.old.ranks self.old.rounds self.old.watches.items × DiffersAround old (ground_of self.old) self.old.rounds (a ∷ b ∷ []) (touches touched.now) }
         ensures changed { IfOk result (λ c. IsChanged self.old self.new None c.routes) }
+        ensures quick { OnOk result (AreFewSteps (what self.old.graph) (plan_of self.old.rounds) (plan_of self.new.rounds) (kept_rounds self.old.rounds) (kept_rounds self.new.rounds) (λ p x. touches touched.now p x ≡ true) (round_count self.old.rounds) steps.old steps.new) }
         ensures no_cycle { OnOk result (HasNoProviderCycle (what self.old.graph)) }
         ensures err { OnErr result (IsUnchanged self.old self.new) }
         ensures refused { IfErr result (IsLinkStop self.old.graph a b rel) }
@@ -126,7 +128,8 @@ impl Sim {
         requires few_cells { live_count (pool_of self.old.rounds) ≤ 20000000 }
         requires kept { IsKept (world_seen self.old) (kept self.old) }
         requires no_cycle { HasCycle (world_seen self.old) → ⊥ }
-        ensures { IsEdited self.old self.new (Link a b rel) result }
+        ensures edited { IsEdited self.old self.new (Link a b rel) result }
+        ensures quick { OnOk result (IsQuick (world_seen self.old) (world_seen self.new) (Link a b rel) (kept self.old).routings (kept self.new).routings steps.old steps.new) }
     {
         links_are_sound();
         links_are_set();
@@ -180,7 +183,8 @@ impl Sim {
         requires few_cells { live_count (pool_of self.old.rounds) ≤ 20000000 }
         requires kept { IsKept (world_seen self.old) (kept self.old) }
         requires no_cycle { HasCycle (world_seen self.old) → ⊥ }
-        ensures { IsEdited self.old self.new (Unlink a b) result }
+        ensures edited { IsEdited self.old self.new (Unlink a b) result }
+        ensures quick { OnOk result (IsQuick (world_seen self.old) (world_seen self.new) (Unlink a b) (kept self.old).routings (kept self.new).routings steps.old steps.new) }
     {
         links_are_sound();
         links_are_set();

@@ -1,5 +1,5 @@
 //! Edits of payloads.
-ghost use Rattle.std.specs.Prelude.{◌≡◌, ◌≤◌, ℕ, true, IsTrue, IfOk, if◌then◌else◌};
+ghost use Rattle.std.specs.Prelude.{◌≡◌, ◌≤◌, ℕ, true, IsTrue, IfOk, OnOk, if◌then◌else◌};
 ghost use Rattle.as_graph.specs.Topology.{has};
 ghost use Rattle.leak_round.specs.Rounds.{plan_of, pool_of};
 ghost use Rattle.leak_round.specs.Touched.{touches};
@@ -14,6 +14,7 @@ ghost use Rattle.scenario_text.specs.declared.acts.Edit.TheVariants.{VrpAdd, Vrp
 ghost use Rattle.sim_core.specs.Editing.{IsEdited, KeepsRest};
 ghost use Rattle.sim_core.specs.Kept.{IsKept};
 ghost use Rattle.sim_core.specs.Sims.{kept, world_seen};
+ghost use Rattle.sim_core.specs.Steps.{IsQuick};
 ghost use Rattle.sim_core.specs.World.{HasCycle};
 
 use crate::touching::touched_readers;
@@ -28,7 +29,8 @@ use std::sync::ledger::Ledger;
 impl Sim {
     // The ASes whose policy reads states that the payload may change.
     fn touched_by(&self, alloc: Global, vrp: Vrp) -> Result<Touched, NoMemory>
-        ensures { IfOk result (λ t. (prefix : PrefixValue) (a : ℕ) → IsTrue (has_prefix (plan_of self.now.rounds) prefix) → covers vrp.prefix prefix ≡ true → has self.now.graph a ≡ true → (kind_policy (policy_at self.now.book a)).reads_state ≡ true → touches t prefix a ≡ true) }
+        ensures only { IfOk result (λ t. (prefix : PrefixValue) (a : ℕ) → touches t prefix a ≡ true → (covers vrp.prefix prefix ≡ true) × ((kind_policy (policy_at self.now.book a)).reads_state ≡ true)) }
+        ensures these { IfOk result (λ t. (prefix : PrefixValue) (a : ℕ) → IsTrue (has_prefix (plan_of self.now.rounds) prefix) → covers vrp.prefix prefix ≡ true → has self.now.graph a ≡ true → (kind_policy (policy_at self.now.book a)).reads_state ≡ true → touches t prefix a ≡ true) }
     {
         touched_readers(
             alloc,
@@ -61,7 +63,8 @@ impl Sim {
         requires few_cells { live_count (pool_of self.old.rounds) ≤ 20000000 }
         requires kept { IsKept (world_seen self.old) (kept self.old) }
         requires no_cycle { HasCycle (world_seen self.old) → ⊥ }
-        ensures { IsEdited self.old self.new (VrpAdd vrp) result }
+        ensures edited { IsEdited self.old self.new (VrpAdd vrp) result }
+        ensures quick { OnOk result (IsQuick (world_seen self.old) (world_seen self.new) (VrpAdd vrp) (kept self.old).routings (kept self.new).routings steps.old steps.new) }
     {
         self.is_small();
         let Ok(touched) = self.touched_by(alloc, vrp) else {
@@ -97,7 +100,8 @@ impl Sim {
         requires few_cells { live_count (pool_of self.old.rounds) ≤ 20000000 }
         requires kept { IsKept (world_seen self.old) (kept self.old) }
         requires no_cycle { HasCycle (world_seen self.old) → ⊥ }
-        ensures { IsEdited self.old self.new (VrpTake vrp) result }
+        ensures edited { IsEdited self.old self.new (VrpTake vrp) result }
+        ensures quick { OnOk result (IsQuick (world_seen self.old) (world_seen self.new) (VrpTake vrp) (kept self.old).routings (kept self.new).routings steps.old steps.new) }
     {
         if !self.vrps.has(vrp) {
             return Err(EditError::AbsentVrp { vrp });

@@ -1,5 +1,5 @@
 //! Edits of policies.
-ghost use Rattle.std.specs.Prelude.{◌≡◌, ◌≢◌, ◌≤◌, ℕ, true, false, Some, IsTrue, IfOk, IfErr, OnOk, OnErr, if◌then◌else◌};
+ghost use Rattle.std.specs.Prelude.{◌≡◌, ◌≢◌, ◌⊎◌, ◌≤◌, ℕ, true, false, Some, IsTrue, IfOk, IfErr, OnOk, OnErr, if◌then◌else◌};
 ghost use Rattle.std.specs.FinSet as set;
 ghost use Rattle.as_graph.specs.Edits.{without_mark};
 ghost use Rattle.as_graph.specs.Room.{is_room_with};
@@ -17,6 +17,7 @@ ghost use Rattle.sim_core.specs.Edits.{edited, refusal_of_edit};
 ghost use Rattle.sim_core.specs.Kept.{IsKept};
 ghost use Rattle.sim_core.specs.Loaded.{is_other as is_other_policy};
 ghost use Rattle.sim_core.specs.Sims.{kept, world_seen};
+ghost use Rattle.sim_core.specs.Steps.{IsQuick};
 ghost use Rattle.sim_core.specs.World.{HasCycle};
 ghost use Rattle.sim_core.specs.declared.errors.EditError.{EditError as AnEditError};
 ghost use Rattle.stability_laws.specs.Book.{policy_at};
@@ -47,6 +48,7 @@ fn unmark_unless(graph: &mut Graph, named: bool, asn: Asn)
 fn push_neighbours(graph: &Graph, asn: Asn, ases: &mut Vec<Asn>) -> Result<(), NoMemory>
     ensures neighbours { OnOk result ((n : ℕ) (r : ARel) → what graph.now asn n ≡ Some r → occurs n ases.new.items ≡ true) }
     ensures more { (a : ℕ) → occurs a ases.old.items ≡ true → occurs a ases.new.items ≡ true }
+    ensures only { (a : ℕ) → occurs a ases.new.items ≡ true → occurs a ases.old.items ≡ false → (r : ARel) × (what graph.now asn a ≡ Some r) }
 {
     for neighbour in graph.neighbours(asn) {
         match ases.push(neighbour.asn) {
@@ -143,6 +145,7 @@ impl Sim {
     // The ASes whose entries may be wrong where the policy of an AS becomes another: that AS, and where
     // it begins or ceases to mark, its neighbours too.
     fn touched_with(&self, alloc: Global, asn: Asn, kind: Kind) -> Result<Touched, NoMemory>
+        ensures only { IfOk result (λ t. (prefix : PrefixValue) (x : ℕ) → touches t prefix x ≡ true → (x ≡ asn) ⊎ (((kind_policy kind).marks ≢ (kind_policy (policy_at self.now.book asn)).marks) × (r : ARel) × (what self.now.graph asn x ≡ Some r))) }
         ensures own { IfOk result (λ t. (prefix : PrefixValue) → IsTrue (has_prefix (plan_of self.now.rounds) prefix) → touches t prefix asn ≡ true) }
         ensures neighbours { IfOk result (λ t. (prefix : PrefixValue) (n : ℕ) (r : ARel) → IsTrue (has_prefix (plan_of self.now.rounds) prefix) → (kind_policy kind).marks ≢ (kind_policy (policy_at self.now.book asn)).marks → what self.now.graph asn n ≡ Some r → touches t prefix n ≡ true) }
     {
@@ -168,7 +171,8 @@ impl Sim {
         requires few_cells { live_count (pool_of self.old.rounds) ≤ 20000000 }
         requires kept { IsKept (world_seen self.old) (kept self.old) }
         requires no_cycle { HasCycle (world_seen self.old) → ⊥ }
-        ensures { IsEdited self.old self.new (Policy asn kind) result }
+        ensures edited { IsEdited self.old self.new (Policy asn kind) result }
+        ensures quick { OnOk result (IsQuick (world_seen self.old) (world_seen self.new) (Policy asn kind) (kept self.old).routings (kept self.new).routings steps.old steps.new) }
     {
         links_are_sound();
         let was = self.kind_of(asn);

@@ -1,5 +1,5 @@
 //! The ASes whose entries may be wrong after an edit.
-ghost use Rattle.std.specs.Prelude.{◌≡◌, ℕ, true, IsTrue, IfOk, OnOk, slice_get, Some};
+ghost use Rattle.std.specs.Prelude.{◌≡◌, ℕ, true, false, IsTrue, IfOk, OnOk};
 ghost use Rattle.as_graph.specs.Topology.{has};
 ghost use Rattle.net_names.specs.Coverage.{covers as covers_it};
 ghost use Rattle.net_names.specs.Numbers.{occurs};
@@ -21,6 +21,7 @@ use std::alloc::Global;
 fn touch(touched: &mut Touched, prefix: Prefix, ases: &[Asn]) -> Result<(), NoMemory>
     ensures these { OnOk result ((a : ℕ) → occurs a ases.now ≡ true → touches touched.new prefix a ≡ true) }
     ensures more { (p : PrefixValue) (a : ℕ) → touches touched.old p a ≡ true → touches touched.new p a ≡ true }
+    ensures only { (p : PrefixValue) (a : ℕ) → touches touched.new p a ≡ true → touches touched.old p a ≡ false → (p ≡ prefix) × (occurs a ases.now ≡ true) }
 {
     for asn in ases {
         touched.add(prefix, *asn)?;
@@ -30,7 +31,8 @@ fn touch(touched: &mut Touched, prefix: Prefix, ases: &[Asn]) -> Result<(), NoMe
 
 /// These ASes, for each prefix of the plan.
 pub fn touched_ases(alloc: Global, plan: &SeedPlan, ases: &[Asn]) -> Result<Touched, NoMemory>
-    ensures { IfOk result (λ t. (prefix : PrefixValue) (a : ℕ) → IsTrue (has_prefix plan.now prefix) → occurs a ases.now ≡ true → touches t prefix a ≡ true) }
+    ensures these { IfOk result (λ t. (prefix : PrefixValue) (a : ℕ) → IsTrue (has_prefix plan.now prefix) → occurs a ases.now ≡ true → touches t prefix a ≡ true) }
+    ensures only { IfOk result (λ t. (prefix : PrefixValue) (a : ℕ) → touches t prefix a ≡ true → occurs a ases.now ≡ true) }
 {
     let _first = plan.prefix_at(0);
     let mut touched = Touched::new(alloc);
@@ -49,6 +51,7 @@ fn touch_readers(
 ) -> Result<(), NoMemory>
     ensures these { OnOk result ((a : ℕ) → has graph.now a ≡ true → (kind_policy (policy_at book.now a)).reads_state ≡ true → touches touched.new prefix a ≡ true) }
     ensures more { (p : PrefixValue) (a : ℕ) → touches touched.old p a ≡ true → touches touched.new p a ≡ true }
+    ensures only { (p : PrefixValue) (a : ℕ) → touches touched.new p a ≡ true → touches touched.old p a ≡ false → (p ≡ prefix) × ((kind_policy (policy_at book.now a)).reads_state ≡ true) }
 {
     for asn in graph.ases() {
         if book.policy(*asn).reads_state() {
@@ -56,6 +59,25 @@ fn touch_readers(
         }
     }
     Ok(())
+}
+
+// Touches the ASes whose policy reads the states, for a prefix that the other one covers.
+fn touch_covered(
+    touched: &mut Touched,
+    graph: &Graph,
+    book: &Book<Kind>,
+    outer: Prefix,
+    prefix: Prefix,
+) -> Result<(), NoMemory>
+    ensures these { OnOk result ((a : ℕ) → covers_it outer prefix ≡ true → has graph.now a ≡ true → (kind_policy (policy_at book.now a)).reads_state ≡ true → touches touched.new prefix a ≡ true) }
+    ensures more { (p : PrefixValue) (a : ℕ) → touches touched.old p a ≡ true → touches touched.new p a ≡ true }
+    ensures only { (p : PrefixValue) (a : ℕ) → touches touched.new p a ≡ true → touches touched.old p a ≡ false → (covers_it outer p ≡ true) × ((kind_policy (policy_at book.now a)).reads_state ≡ true) }
+{
+    if covers(outer, prefix) {
+        touch_readers(touched, graph, book, prefix)
+    } else {
+        Ok(())
+    }
 }
 
 /// The ASes whose policy reads the states, for each prefix of the plan that this one covers.
@@ -66,14 +88,13 @@ pub fn touched_readers(
     plan: &SeedPlan,
     outer: Prefix,
 ) -> Result<Touched, NoMemory>
-    ensures { IfOk result (λ t. (prefix : PrefixValue) (a : ℕ) → IsTrue (has_prefix plan.now prefix) → covers_it outer prefix ≡ true → has graph.now a ≡ true → (kind_policy (policy_at book.now a)).reads_state ≡ true → touches t prefix a ≡ true) }
+    ensures these { IfOk result (λ t. (prefix : PrefixValue) (a : ℕ) → IsTrue (has_prefix plan.now prefix) → covers_it outer prefix ≡ true → has graph.now a ≡ true → (kind_policy (policy_at book.now a)).reads_state ≡ true → touches t prefix a ≡ true) }
+    ensures only { IfOk result (λ t. (prefix : PrefixValue) (a : ℕ) → touches t prefix a ≡ true → (covers_it outer prefix ≡ true) × ((kind_policy (policy_at book.now a)).reads_state ≡ true)) }
 {
     let _first = plan.prefix_at(0);
     let mut touched = Touched::new(alloc);
     for prefix in plan.prefixes() {
-        if covers(outer, *prefix) {
-            touch_readers(&mut touched, graph, book, *prefix)?;
-        }
+        touch_covered(&mut touched, graph, book, outer, *prefix)?;
     }
     Ok(touched)
 }

@@ -12,7 +12,7 @@ use Rattle.leak_round.specs.Touched.{touches}
 use Rattle.sim_core.specs.Families.{Family}
 use Rattle.sim_core.specs.Ground.{Ground}
 use Rattle.sim_core.specs.Watching.{AreRoundWatches, seen_in}
-use Rattle.sim_core.proofs.Grounds.{can_follow, no_entry, no_rank, not_told, only_rounds, rounds_as, seeds_elsewhere, seeds_prefixes, still_fits, still_right}
+use Rattle.sim_core.proofs.Grounds.{can_follow, no_entry, no_rank, not_told, only_rounds, plan_quick, rounds_as, seeds_elsewhere, seeds_prefixes, still_fits, still_right}
 use Rattle.sim_core.proofs.Hops.{goes_on_inside}
 use Rattle.sim_core.proofs.Watches.{seen_addrs}
 use Rattle.sim_core.proofs.changing.change.Goals as goal
@@ -64,7 +64,7 @@ renew-requires-clause-follow g c =
     let plan : plan_of rounds ≡ plan_edited edit (plan_of was) = c.commit-done.ensures.plan ∙ c.in-Ok-plan.ensures.edited in
     let count : round_count rounds ≡ round_count was = c.commit-done.ensures.rounds ∙ c.plan-2.ensures.rounds in
     let items = map seen_in c.make_room.new.all.items in
-    can_follow old new (plan_of was) (plan_of rounds) (round_count was) (kept was) (kept rounds) (ases_told c.commit-done.result) c.args.ends.now (touches c.args.touched.now) differs
+    can_follow old new was (plan_of was) (plan_of rounds) (round_count was) (kept was) (kept rounds) (ases_told c.commit-done.result) c.args.ends.now (touches c.args.touched.now) differs
     (ap (λ (p : Plan). p.prefixes) plan ∙ seeds_prefixes (plan_of was) c.args.graph.now c.args.ends.now edit c.requires.seeds)
     (λ a other p. ap (λ (q : Plan). announces q p a) plan ∙ seeds_elsewhere (plan_of was) c.args.graph.now c.args.ends.now edit c.requires.seeds a other p)
     (λ round a low high still p.
@@ -93,3 +93,8 @@ returns-clause-changed g c =
 
 pub returns-clause-addrs : goal.returns-clause-addrs
 returns-clause-addrs g c = c.renew.ensures.addrs ∙ seen_addrs c.args.watches.now.items c.make_room.new.all.items c.make_room.ensures.seen
+
+pub returns-clause-quick : goal.returns-clause-quick
+returns-clause-quick g c =
+    plan_quick (what c.args.graph.now) c.args.rounds.now c.plan-2.new.self c.commit-done.new.self c.in-Ok-plan.plan (touches c.args.touched.now) c.args.steps.now c.plan-2.new.steps c.in-Ok-plan.ensures.open c.in-Ok-plan.ensures.enough
+    c.plan-2.ensures.plan c.commit-done.ensures.plan c.plan-2.ensures.rounds c.plan-2.ensures.kept c.commit-done.ensures.kept

@@ -9,4 +9,7 @@ use Rattle.leak_round.specs.Touched.{touches}
 use Rattle.sim_core.proofs.touching.touched_readers.Given as goal
 
 abbrev pub invariant-loop-prefix : goal.invariant-loop-prefix
-invariant-loop-prefix l = (place : ℕ) (p : PrefixValue) (a : ℕ) → place < l.prefix-index → slice_get l.prefix-items place ≡ Some p → covers l.outer p ≡ true → has l.graph a ≡ true → (kind_policy (policy_at l.book a)).reads_state ≡ true → touches l.touched p a ≡ true
+invariant-loop-prefix l = record {
+  only : (p : PrefixValue) (a : ℕ) → touches l.touched p a ≡ true → (covers l.outer p ≡ true) × ((kind_policy (policy_at l.book a)).reads_state ≡ true);
+  these : (place : ℕ) (p : PrefixValue) (a : ℕ) → place < l.prefix-index → slice_get l.prefix-items place ≡ Some p → covers l.outer p ≡ true → has l.graph a ≡ true → (kind_policy (policy_at l.book a)).reads_state ≡ true → touches l.touched p a ≡ true;
+}

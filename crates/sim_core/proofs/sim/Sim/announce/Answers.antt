@@ -8,8 +8,8 @@ use Rattle.sim_core.proofs.LinkEdits.{limit_announcements}
 use Rattle.sim_core.proofs.PayloadEdits.{vrps_undone}
 use Rattle.sim_core.proofs.sim.Sim.announce.Goals as goal
 
-pub returns-then-is_one_too_many : goal.returns-then-is_one_too_many
-returns-then-is_one_too_many g c =
+pub returns-then-is_one_too_many-clause-edited : goal.returns-then-is_one_too_many-clause-edited
+returns-then-is_one_too_many-clause-edited g c =
     let s = c.args.self.now in
     let known : has_prefix (plan_of s.rounds) c.args.prefix ≡ true = ap (λ (p : Plan). has_prefix p c.args.prefix) (sym c.seed_plan.ensures) ∙ sym c.if-not-has_prefix.ensures in (
       limit_announcements (world_seen s) (Announce c.args.prefix c.args.path.now) (λ i. cond (known i) None (Some (refused.UnknownPrefix c.args.prefix))) c.is_small.ensures.links (sym c.if-is_one_too_many.ensures),

@@ -26,7 +26,7 @@ pub change-requires-clause-from : goal.change-requires-clause-from
 change-requires-clause-from g c =
     let s = c.args.self.now in
     let (old, belong, differs) = c.requires.from in
-    (old, belong, subst (λ (v : Payloads). DiffersAround old (record { graph = s.graph; payloads = v; book = s.book }) (plan_of s.rounds) c.args.ends.now (touches c.args.touched.now)) (sym c.states_but-states.ensures) differs)
+    (old, belong, subst (λ (v : Payloads). DiffersAround old (record { graph = s.graph; payloads = v; book = s.book }) s.rounds c.args.ends.now (touches c.args.touched.now)) (sym c.states_but-states.ensures) differs)
 
 either : {T E P Q : Type 0} (r : Result T E) → OnOk r P → OnErr r Q → (Q → P) → P
 either (Ok x) ok err from = ok

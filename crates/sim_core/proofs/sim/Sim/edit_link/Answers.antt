@@ -9,7 +9,8 @@ use Rattle.sim_core.specs.Edits.{over_limit, passed_limit, refusal_of_edit}
 use Rattle.sim_core.specs.Sims.{world_seen}
 use Rattle.sim_core.specs.World.{graph_of}
 use Rattle.sim_core.proofs.Doing.{allowed_by, begun_belongs, changed_done, small_world}
-use Rattle.sim_core.proofs.LinkEdits.{back_linked, link_differs, link_stopped, links_undone, links_world, there_none}
+use Rattle.sim_core.proofs.Grounds.{quick_done}
+use Rattle.sim_core.proofs.LinkEdits.{pair_end, back_linked, link_differs, link_stopped, links_undone, links_world, there_none}
 use Rattle.sim_core.proofs.sim.Sim.edit_link.Goals as goal
 
 pub change_linked-requires-clause-there : goal.change_linked-requires-clause-there
@@ -28,11 +29,11 @@ change_linked-requires-clause-from g c =
       ground_of old,
       begun_belongs old mid c.requires.kept c.requires.no_cycle h.rest,
       link_differs c.links_are_set.ensures c.links_are_taken.ensures c.ases_are_kept.ensures old mid c.args.a c.args.b (Some c.args.rel) (touches c.in-Ok.touched) c.requires.apart h
-          (λ prefix x known end. c.in-Ok.ensures prefix x (ap (λ (p : Plan). has_prefix p prefix) c.seed_plan.ensures ∙ known) end),
+          (λ prefix x known end. c.in-Ok.ensures.these prefix x (ap (λ (p : Plan). has_prefix p prefix) c.seed_plan.ensures ∙ known) end),
     )
 
-pub returns-in-Ok-change_linked : goal.returns-in-Ok-change_linked
-returns-in-Ok-change_linked g c =
+pub returns-in-Ok-change_linked-clause-edited : goal.returns-in-Ok-change_linked-clause-edited
+returns-in-Ok-change_linked-clause-edited g c =
     let e = Link c.args.a c.args.b c.args.rel in
     let old = c.args.self.now in
     let mid = c.set_link.new.self in
@@ -42,8 +43,8 @@ returns-in-Ok-change_linked g c =
     (allowed_by (world_seen old) (world_seen mid) e world refl (small_world mid c.is_small.ensures) c.in-Ok-change_linked.ensures.no_cycle)
     c.in-Ok-change_linked.ensures.changed
 
-pub returns : goal.returns
-returns g c =
+pub returns-clause-edited : goal.returns-clause-edited
+returns-clause-edited g c =
     let e = Link c.args.a c.args.b c.args.rel in
     let old = c.args.self.now in
     let mid = c.set_link.new.self in
@@ -56,3 +57,8 @@ returns g c =
       links_undone old mid same c.set_back.new.self c.args.a c.args.b _ _ h alike c.set_back.ensures
           (back_linked c.edits_are_undone.ensures old.graph c.args.a c.args.b c.args.rel c.requires.apart same.graph (ap (λ (t : Topology). t.links) alike.graph ∙ h.are) c.rel-old.result (sym c.rel-old.ensures)),
     )
+
+pub returns-in-Ok-change_linked-clause-quick : goal.returns-in-Ok-change_linked-clause-quick
+returns-in-Ok-change_linked-clause-quick g c =
+    quick_done c.args.self.now c.set_link.new.self c.change_linked.new.self (Link c.args.a c.args.b c.args.rel) (touches c.in-Ok.touched) c.args.steps.now c.change_linked.new.steps c.in-Ok-change_linked.ensures.quick c.in-Ok-set_link.ensures.ok.rest.rounds c.in-Ok-change_linked.ensures.changed.graph
+    (λ p x there. pair_end c.args.a c.args.b x (c.in-Ok.ensures.only p x there))

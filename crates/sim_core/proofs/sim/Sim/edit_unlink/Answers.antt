@@ -7,7 +7,8 @@ use Rattle.sim_core.specs.Editing.{ground_of}
 use Rattle.sim_core.specs.Edits.{absent_link}
 use Rattle.sim_core.specs.Sims.{world_seen}
 use Rattle.sim_core.proofs.Doing.{allowed_by, begun_belongs, changed_done, small_world}
-use Rattle.sim_core.proofs.LinkEdits.{absent_cut, back_any, cut_apart, cut_no_cycle, cut_none, fits_back, if_none_some, link_differs, links_undone, links_world}
+use Rattle.sim_core.proofs.Grounds.{quick_done}
+use Rattle.sim_core.proofs.LinkEdits.{pair_end, absent_cut, back_any, cut_apart, cut_no_cycle, cut_none, fits_back, if_none_some, link_differs, links_undone, links_world}
 use Rattle.std.specs.Prelude.{IfSome}
 use Rattle.as_graph.specs.Refusals.{IsLinkRefusal}
 use Rattle.as_graph.specs.declared.error.GraphError.{GraphError}
@@ -24,11 +25,11 @@ change_at-requires-clause-from g c =
       ground_of old,
       begun_belongs old mid c.requires.kept c.requires.no_cycle h.rest,
       link_differs c.links_are_set.ensures c.links_are_taken.ensures c.ases_are_kept.ensures old mid c.args.a c.args.b None (touches c.in-Ok.touched) (cut_apart c.links_are_sound.ensures old c.args.a c.args.b c.in-Ok-cut_link.ensures.there) h
-          (λ prefix x known end. c.in-Ok.ensures prefix x (ap (λ (p : Plan). has_prefix p prefix) c.seed_plan.ensures ∙ known) end),
+          (λ prefix x known end. c.in-Ok.ensures.these prefix x (ap (λ (p : Plan). has_prefix p prefix) c.seed_plan.ensures ∙ known) end),
     )
 
-pub returns-in-Ok-change_at : goal.returns-in-Ok-change_at
-returns-in-Ok-change_at g c =
+pub returns-in-Ok-change_at-clause-edited : goal.returns-in-Ok-change_at-clause-edited
+returns-in-Ok-change_at-clause-edited g c =
     let e = Unlink c.args.a c.args.b in
     let old = c.args.self.now in
     let mid = c.cut_link.new.self in
@@ -54,8 +55,8 @@ set_back-requires-clause-fits g c =
     coe 1 0 (i. IfSome c.rel-link.result (λ r. (e : GraphError) → IsLinkRefusal (alike.graph i) c.args.a c.args.b r e → ⊥))
     (fits_back c.edits_are_undone.ensures old mid c.args.a c.args.b (cut_apart c.links_are_sound.ensures old c.args.a c.args.b there) c.in-Ok-cut_link.ensures.ok (cut_none c.links_are_taken.ensures old mid c.args.a c.args.b c.in-Ok-cut_link.ensures.ok) c.is_small.ensures c.rel-link.result (sym c.rel-link.ensures))
 
-pub returns : goal.returns
-returns g c =
+pub returns-clause-edited : goal.returns-clause-edited
+returns-clause-edited g c =
     let old = c.args.self.now in
     let mid = c.cut_link.new.self in
     let same = c.change_at.new.self in
@@ -66,3 +67,8 @@ returns g c =
       links_undone old mid same c.set_back.new.self c.args.a c.args.b _ _ h alike c.set_back.ensures
           (back_any c.edits_are_undone.ensures old.graph c.args.a c.args.b (cut_apart c.links_are_sound.ensures old c.args.a c.args.b there) same.graph (ap (λ (t : Topology). t.links) alike.graph ∙ h.are) there c.rel-link.result (sym c.rel-link.ensures)),
     )
+
+pub returns-in-Ok-change_at-clause-quick : goal.returns-in-Ok-change_at-clause-quick
+returns-in-Ok-change_at-clause-quick g c =
+    quick_done c.args.self.now c.cut_link.new.self c.change_at.new.self (Unlink c.args.a c.args.b) (touches c.in-Ok.touched) c.args.steps.now c.change_at.new.steps c.in-Ok-change_at.ensures.quick c.in-Ok-cut_link.ensures.ok.rest.rounds c.in-Ok-change_at.ensures.changed.graph
+    (λ p x there. pair_end c.args.a c.args.b x (c.in-Ok.ensures.only p x there))

@@ -1,12 +1,13 @@
-use Rattle.std.proofs.Common.{◌≡◌, ◌≤◌, ◌∙◌, ◌∷◌, [], ℕ, Some, refl, sym, ap, subst, arith}
+use Rattle.std.proofs.Common.{◌≡◌, ◌≢◌, ◌≤◌, ◌-◌, ◌∙◌, ◌∷◌, [], ℕ, inl, inr, true, Some, refl, sym, ap, subst, arith}
 use Rattle.std.specs.Ordering.{nat_cmp}
 use Rattle.std.specs.FinSet as set
-use Rattle.as_graph.specs.Topology.{Topology, as_count}
+use Rattle.as_graph.specs.Topology.{Topology, as_count, what}
 use Rattle.leak_round.specs.Limits.{IsWithinLimits}
-use Rattle.leak_round.specs.Rounds.{plan_of, round_count}
+use Rattle.leak_round.specs.Rounds.{kept as kept_rounds, plan_of, round_count}
 use Rattle.leak_round.specs.Touched.{touches}
 use Rattle.roa_table.specs.Sets.{Payloads}
-use Rattle.stability_laws.specs.Plans.{Plan, has_prefix}
+use Rattle.stability_laws.specs.Plans.{Plan}
+use Rattle.stability_laws.specs.Rounds.{seeds_of}
 use Rattle.sim_core.specs.Editing.{edit_of, ground_of}
 use Rattle.sim_core.specs.Edits.{IsEditRefusal}
 use Rattle.sim_core.specs.Ground.{BelongTo, DiffersAround}
@@ -16,13 +17,14 @@ use Rattle.sim_core.specs.Watching.{HasWatches}
 use Rattle.sim_core.specs.World.{graph_of, named}
 use Rattle.sim_core.specs.declared.errors.EditError.{EditError}
 use Rattle.sim_core.proofs.Doing.{belongs, edit_done, seen_undone}
+use Rattle.sim_core.proofs.Grounds.{quick_by}
 use Rattle.sim_core.proofs.PayloadEdits.{vrps_undone}
-use Rattle.sim_core.proofs.Reseeded.{graph_back, new_allowed, new_differs, new_limits, new_links, new_named, new_no_cycle, new_refused, new_seeds, new_world}
+use Rattle.sim_core.proofs.Reseeded.{graph_back, new_allowed, new_differs, new_limits, new_links, new_named, new_no_cycle, new_refused, new_seeds, new_world, seed_differs}
 use Rattle.sim_core.proofs.Watches.{has_watches}
 use Rattle.sim_core.proofs.sim.Sim.take_plan.Goals as goal
 
-pub returns-in-Err-set_mark : goal.returns-in-Err-set_mark
-returns-in-Err-set_mark g c =
+pub returns-in-Err-set_mark-clause-edited : goal.returns-in-Err-set_mark-clause-edited
+returns-in-Err-set_mark-clause-edited g c =
     let s = c.args.self.now in
     let e = c.args.edit.now in
     let a = c.asn_of-asn.result in
@@ -52,9 +54,9 @@ change-requires-clause-from g c =
     let a = c.asn_of-asn.result in
     let t = c.is_named-is.result in
     let graph = c.in-Ok-set_mark.ensures.ok ∙ ap (λ (x : Topology). with_mark_if x a t) c.in-Ok-room.ensures.ok in
-    let differs = new_differs s c.args.edit.now c.args.plan.now a t c.set_mark.new.graph c.requires.accepted c.requires.plan c.asn_of-asn.ensures c.is_named-is.ensures graph c.ases_are_kept.ensures (touches c.in-Ok.touched)
-    (λ prefix x known end. c.in-Ok.ensures prefix x (ap (λ (p : Plan). has_prefix p prefix) c.seed_plan-2.ensures ∙ known) end) in
-    (ground_of s, belongs s c.requires.kept c.requires.no_cycle, subst (λ (v : Payloads). DiffersAround (ground_of s) (record { graph = c.set_mark.new.graph; payloads = v; book = s.book }) (plan_of s.rounds) (a ∷ []) (touches c.in-Ok.touched)) (sym c.of-states.ensures) differs)
+    let belong = belongs s c.requires.kept c.requires.no_cycle in
+    let differs = new_differs s c.args.edit.now c.args.plan.now a t c.set_mark.new.graph c.requires.accepted c.requires.plan c.asn_of-asn.ensures c.is_named-is.ensures graph c.ases_are_kept.ensures c.right_follows.ensures c.links_are_sound.ensures belong (touches c.in-Ok.touched) c.in-Ok.ensures.this in
+    (ground_of s, belong, subst (λ (v : Payloads). DiffersAround (ground_of s) (record { graph = c.set_mark.new.graph; payloads = v; book = s.book }) s.rounds (a ∷ []) (touches c.in-Ok.touched)) (sym c.of-states.ensures) differs)
 
 pub invariant_of-self-in-Ok-change : goal.invariant_of-self-in-Ok-change
 invariant_of-self-in-Ok-change g c =
@@ -102,8 +104,8 @@ invariant_of-self-in-Err-change g c =
       watching = subst (λ (n : ℕ). HasWatches n s.watched.items c.change.new.watches.items) (sym alike.count) (has_watches (round_count s.rounds) s.watched.items s.watches.items c.change.new.watches.items c.change.ensures.addrs s.watching);
     }
 
-pub returns-in-Ok-change : goal.returns-in-Ok-change
-returns-in-Ok-change g c =
+pub returns-in-Ok-change-clause-edited : goal.returns-in-Ok-change-clause-edited
+returns-in-Ok-change-clause-edited g c =
     let s = c.args.self.now in
     let e = c.args.edit.now in
     let a = c.asn_of-asn.result in
@@ -121,11 +123,32 @@ returns-in-Ok-change g c =
     (subst (λ (v : Payloads). BelongTo (record { graph = now; payloads = v; book = s.book }) c.change.new.ranks c.change.new.rounds c.change.new.watches.items) c.of-states.ensures c.in-Ok-change.ensures.belong)
     c.in-Ok-change.ensures.changed
 
-pub returns : goal.returns
-returns g c =
+pub returns-clause-edited : goal.returns-clause-edited
+returns-clause-edited g c =
     let s = c.args.self.now in
     let a = c.asn_of-asn.result in
     let graph = c.in-Ok-set_mark.ensures.ok ∙ ap (λ (x : Topology). with_mark_if x a c.is_named-is.result) c.in-Ok-room.ensures.ok in
     let was = c.is_named-was.ensures ∙ ap (λ (p : Plan). set.contains (set.from_list {R = nat_cmp} (named p s.book.named)) a) c.seed_plan.ensures in
     let back = graph_back s a c.is_named-is.result c.is_named-was.result c.set_mark.new.graph c.set_mark_back.new.graph was graph c.set_mark_back.ensures in
     (tt, seen_undone s _ (ap (λ (t : Topology). t.links) back) refl refl refl c.in-Err-change.ensures.err)
+
+pub returns-in-Ok-change-clause-quick : goal.returns-in-Ok-change-clause-quick
+returns-in-Ok-change-clause-quick g c =
+    let s = c.args.self.now in
+    let e = c.args.edit.now in
+    let a = c.asn_of-asn.result in
+    let t = c.is_named-is.result in
+    let now = c.set_mark.new.graph in
+    let graph = c.in-Ok-set_mark.ensures.ok ∙ ap (λ (x : Topology). with_mark_if x a t) c.in-Ok-room.ensures.ok in
+    let plan : plan_of c.change.new.rounds ≡ c.args.plan.now = c.in-Ok-change.ensures.plan ∙ sym c.requires.plan in
+    quick_by s c.change.new.rounds (what now) (what now) (edit_of e) c.args.steps.now c.change.new.steps (λ p x. touches c.in-Ok.touched p x ≡ true) refl
+    (λ x n there.
+    let (out, prefix_is, asn_is) = c.in-Ok.ensures.only x.1.0 x.1.1 there in
+    record {
+      from = n.from;
+      to = n.to;
+      known = n.known;
+      counts = inr (inl (subst (λ (q : Plan). seeds_of q x.0 x.1.0 (kept_rounds c.change.new.rounds (x.0 - 1) x.1.0) x.1.1 ≢ seeds_of (plan_of s.rounds) x.0 x.1.0 (kept_rounds s.rounds (x.0 - 1) x.1.0) x.1.1) (sym plan)
+          (seed_differs s e c.args.plan.now a t now c.requires.accepted c.requires.plan c.asn_of-asn.ensures c.is_named-is.ensures graph x.0 (kept_rounds c.change.new.rounds (x.0 - 1) x.1.0) (kept_rounds s.rounds (x.0 - 1) x.1.0) x.1.0 x.1.1 out prefix_is asn_is)));
+    })
+    c.in-Ok-change.ensures.quick

@@ -1,0 +1,19 @@
+-- Lists of numbers with one more at the end, and places below one more.
+use Rattle.std.proofs.Common.{◌≡◌, ◌⊎◌, inl, inr, ◌==◌, ◌||◌, ℕ, Bool, true, false, List, [], ◌∷◌, ◌++◌, refl, sym, ◌∙◌}
+use Rattle.std.proofs.lemmas.Bool.{eq-eqb, eqb-true, or_left, or_right}
+use Rattle.net_names.specs.Numbers.{occurs}
+use Rattle.as_graph.proofs.RowAses.{occurs-append}
+
+pub pushed_more : (n : ℕ) (xs : List ℕ) (y : ℕ) → occurs n xs ≡ true → occurs n (xs ++ y ∷ []) ≡ true
+pushed_more n xs y h = occurs-append n xs (y ∷ []) ∙ or_left (occurs n xs) (occurs n (y ∷ [])) h
+
+pub pushed_own : (xs : List ℕ) (y : ℕ) → occurs y (xs ++ y ∷ []) ≡ true
+pushed_own xs y = occurs-append y xs (y ∷ []) ∙ or_right (occurs y xs) (occurs y (y ∷ [])) (or_left (y == y) false (eq-eqb y y refl))
+
+pub pushed_split : (n : ℕ) (xs : List ℕ) (y : ℕ) → occurs n (xs ++ y ∷ []) ≡ true → (occurs n xs ≡ true) ⊎ (y ≡ n)
+pushed_split n xs y h = by (occurs n xs) refl (y == n) refl (sym (occurs-append n xs (y ∷ [])) ∙ h)
+  where
+    by : (t : Bool) → occurs n xs ≡ t → (s : Bool) → (y == n) ≡ s → (t || (s || false)) ≡ true → (occurs n xs ≡ true) ⊎ (y ≡ n)
+    by true e s f k = inl e
+    by false e true f k = inr (eqb-true y n f)
+    by false e false f k = cc
