@@ -118,7 +118,7 @@ policy_differs sound old mid new a k touched roomed given own around = record {
   policies = λ x free. same_policy x (apart_one a x free);
   at_ends = λ prefix x known end. inl (subst (λ y. touched prefix y ≡ true) (end_is x end) (own prefix (before prefix known)));
   marks = λ prefix x n r known free at. marks_at prefix x n r known free at (a == n) refl;
-  states = λ prefix x known free there. inr (λ origin. ap (λ (v : Payloads). state_of v prefix origin) (given.vrps ∙ roomed.vrps));
+  states = λ prefix x known free there. inr (λ origin is. ap (λ (v : Payloads). state_of v prefix origin) (given.vrps ∙ roomed.vrps));
 }
   where
     before : (prefix : PrefixValue) → IsTrue (has_prefix (plan_of new.rounds) prefix) → IsTrue (has_prefix (plan_of old.rounds) prefix)

@@ -1,5 +1,5 @@
 -- What an edit leaves of ranks, rounds and watches, and what belongs to the edited world.
-use Rattle.std.proofs.Common.{◌≡◌, ◌≢◌, ◌⊎◌, inl, inr, ℕ, suc, ◌-◌, ◌<◌, ◌≤◌, ◌&&◌, Bool, true, false, IsTrue, cond, is_some, Option, None, Some, option_map, List, refl, sym, ap, subst, ◌∙◌, arith, Result, OnOk}
+use Rattle.std.proofs.Common.{◌≡◌, ◌≢◌, ◌⊎◌, inl, inr, ℕ, suc, ◌-◌, ◌<◌, ◌≤◌, ◌&&◌, Bool, true, false, IsTrue, cond, is_some, Option, None, Some, option_map, List, refl, sym, ap, subst, ◌∙◌, arith, Result, Ok, Err, OnOk, length, ◌+◌}
 use Rattle.std.specs.Prelude.{◌↔◌, option_and_then, slice_get}
 use Rattle.std.specs.List.{filter}
 use Rattle.std.specs.FinMap as fin
@@ -8,7 +8,7 @@ use Rattle.std.proofs.lemmas.Bool.{true≢false}
 use Rattle.net_names.specs.Addresses.{AddrValue}
 use Rattle.net_names.specs.Coverage.{holds}
 use Rattle.net_names.specs.Links.{converse}
-use Rattle.net_names.specs.Numbers.{occurs}
+use Rattle.net_names.specs.Numbers.{last_or, occurs}
 use Rattle.net_names.specs.Prefixes.{PrefixValue}
 use Rattle.net_names.specs.declared.routes.Rel.{Rel}
 use Rattle.net_names.specs.declared.routes.Rel.TheVariants.{Customer}
@@ -28,8 +28,13 @@ use Rattle.route_choice.specs.declared.held.Held.{Held}
 use Rattle.route_choice.specs.declared.round_tables.RoundTables.{RoundTables}
 use Rattle.route_choice.specs.declared.table.Table.{Table}
 use Rattle.stability_laws.specs.Book.{policy_at}
-use Rattle.stability_laws.specs.Laws.{OneFamily, RightFollows}
-use Rattle.stability_laws.specs.Plans.{ListsRising, Plan, announces, has_prefix}
+use Rattle.stability_laws.specs.Laws.{OneFamily, PathsGoOn, RightByOffers, RightFollows}
+use Rattle.stability_laws.specs.OfferPaths.{OfferPath}
+use Rattle.stability_laws.specs.Offers.{Offer, number_sent, offer_given, passed_on, passes}
+use Rattle.policy_laws.specs.Policy.{Policy}
+use Rattle.policy_laws.specs.declared.policy.View.{View}
+use Rattle.net_names.specs.declared.routes.State.{State}
+use Rattle.stability_laws.specs.Plans.{IsSound, ListsRising, Plan, announces, has_prefix}
 use Rattle.stability_laws.specs.Rounds.{AreRounds, seeds_of}
 use Rattle.stability_laws.specs.Stable.{IsRight}
 use Rattle.stability_laws.specs.World.{setting}
@@ -47,7 +52,7 @@ use Rattle.leak_round.specs.Tables.{kept_in, tables_in}
 use Rattle.leak_round.specs.declared.plans.RoundsPlan.{RoundsPlan}
 use Rattle.leak_round.specs.declared.rounds.Rounds.{Rounds}
 use Rattle.sim_core.specs.Families.{Family}
-use Rattle.sim_core.specs.Ground.{BelongTo, DiffersAround, Ground, IsRightOn, IsSeedChange}
+use Rattle.sim_core.specs.Ground.{BelongTo, DiffersAround, Ground, IsRightOn, IsSeedChange, policy_on}
 use Rattle.sim_core.specs.Parts.{AreRoundsOf}
 use Rattle.sim_core.specs.Renewing.{CanAllFollow}
 use Rattle.sim_core.specs.Sims.{kept, world_seen}
@@ -59,6 +64,7 @@ use Rattle.sim_core.specs.declared.sim.Sim.{Sim}
 use Rattle.scenario_text.specs.declared.acts.Edit.{Edit}
 use Rattle.sim_core.specs.Watching.{AreRoundWatches}
 use Rattle.sim_core.specs.declared.watching.RoundWatches.{RoundWatches}
+use Rattle.sim_core.proofs.Origins.{ends_announced}
 use Rattle.sim_core.proofs.SeedEdits.{edited_prefixes, other_paths, stands}
 
 -- what a kind exports follows from whether it marks
@@ -68,6 +74,17 @@ same_exports k j same = λ i held otc to. plain_exports held to && number_goes (
 -- who has a customer is an AS of the graph
 pub seller : LinksAreSound → (g : Topology) (a b : ℕ) (r : Rel) → what g a b ≡ Some r → has g a ≡ true
 seller sound g a b r is = sound.ends g b a (converse r) (sound.alike g a b ∙ ap (option_map converse) is)
+
+-- an offer is the same where the state of its path's last number is
+same_state_offer : (p q : Policy) (s t : ℕ → State) (n a : ℕ) (from : Option Rel) (held : Option Entry) → ((e : Entry) → held ≡ Some e → s (last_or 0 e.path) ≡ t (last_or 0 e.path)) → offer_given p q s n a from held ≡ offer_given p q t n a from held
+same_state_offer p q s t n a None held same = refl
+same_state_offer p q s t n a (Some from) None same = refl
+same_state_offer p q s t n a (Some from) (Some e) same = ap by_state (same e refl)
+  where
+    by_state : State → Option Offer
+    by_state state =
+        let view : View = record { rel = from; neighbour = n; length = length e.path + 1; state = state; otc = number_sent p.marks n (converse from) e.otc } in
+        cond (passes p.exports q a from e view) (Some (record { view = view; entry = passed_on p.marks q.marks n a from e })) None
 
 module _ (old new : Ground) (ranks : KeptRanks) (rounds : Rounds) (watches : List RoundWatches) (ends : List ℕ) (touched : PrefixValue → ℕ → Bool) (belong : BelongTo old ranks rounds watches) (d : DiffersAround old new rounds ends touched) where
   -- who is not touched is no end, or still right
@@ -102,25 +119,40 @@ module _ (old new : Ground) (ranks : KeptRanks) (rounds : Rounds) (watches : Lis
         | inr right ↦ right.none (round - 1) less none
       ])
 
-  -- what is kept is right where nothing is touched
-  pub still_right : RightFollows kind_policy → (before : ℕ) (prefix : PrefixValue) (b : ℕ) → before < round_count rounds → IsTrue (has_prefix (plan_of rounds) prefix) → has new.graph b ≡ true → touched prefix b ≡ false
+  -- what is kept is right where nothing is touched, with the states of before
+  right_before : RightFollows kind_policy → (before : ℕ) (prefix : PrefixValue) (b : ℕ) → before < round_count rounds → IsTrue (has_prefix (plan_of rounds) prefix) → has new.graph b ≡ true → touched prefix b ≡ false → occurs b ends ≡ false
+      → (state : ℕ → State) → ((policy_on new b).reads_state ≡ false) ⊎ ((origin : ℕ) → state origin ≡ state_of old.payloads prefix origin)
+      → IsRight (setting kind_policy new.graph new.book state) (seeds_of (plan_of rounds) (suc before) prefix (kept_rounds rounds before prefix)) (kept_rounds rounds (suc before) prefix) b
+  right_before law before prefix b less known there free other state states =
+      let was = (belong.rounds_are.stable before prefix less known).right b (sym (d.presence b other) ∙ there) in
+      let seeds = seeds_of (plan_of rounds) (suc before) prefix (kept_rounds rounds before prefix) in
+      let f = kept_rounds rounds (suc before) prefix in
+      law old.graph new.graph old.book new.book (state_of old.payloads prefix) state seeds seeds f f b
+      (record {
+        links = λ n. sym (d.links b n other);
+        policy = ap kind_policy (sym (d.policies b other));
+        exports = λ n r at. same_exports (policy_at old.book n) (policy_at new.book n) (sym (d.marks prefix b n r known free at));
+        marks = λ n r at. sym (d.marks prefix b n r known free at);
+        states = elim states [ inl reads ↦ inl reads | inr same ↦ inr (λ origin. sym (same origin)) ];
+        entries = λ n r at. refl;
+      })
+      refl refl was
+
+  -- so it is with those of after, since all paths end with origins
+  pub still_right : RightFollows kind_policy → RightByOffers kind_policy → OfferPath kind_policy → PathsGoOn kind_policy → IsSound (plan_of rounds) → (before : ℕ) (prefix : PrefixValue) (b : ℕ) → before < round_count rounds → IsTrue (has_prefix (plan_of rounds) prefix) → has new.graph b ≡ true → touched prefix b ≡ false
       → IsRight (setting kind_policy new.graph new.book (state_of new.payloads prefix)) (seeds_of (plan_of rounds) (suc before) prefix (kept_rounds rounds before prefix)) (kept_rounds rounds (suc before) prefix) b
-  still_right law before prefix b less known there free = elim (no_end prefix b known free) [
+  still_right law by_offers paths goes sound before prefix b less known there free = elim (no_end prefix b known free) [
     | inr right ↦ right.right before less there
-    | inl other ↦ (
-        let was = (belong.rounds_are.stable before prefix less known).right b (sym (d.presence b other) ∙ there) in
-        let seeds = seeds_of (plan_of rounds) (suc before) prefix (kept_rounds rounds before prefix) in
-        let f = kept_rounds rounds (suc before) prefix in
-        law old.graph new.graph old.book new.book (state_of old.payloads prefix) (state_of new.payloads prefix) seeds seeds f f b
-        (record {
-          links = λ n. sym (d.links b n other);
-          policy = ap kind_policy (sym (d.policies b other));
-          exports = λ n r at. same_exports (policy_at old.book n) (policy_at new.book n) (sym (d.marks prefix b n r known free at));
-          marks = λ n r at. sym (d.marks prefix b n r known free at);
-          states = elim (d.states prefix b known free there) [ inl reads ↦ inl reads | inr same ↦ inr (λ origin. sym (same origin)) ];
-          entries = λ n r at. refl;
-        })
-        refl refl was)
+    | inl other ↦ elim (d.states prefix b known free there) [
+      | inl reads ↦ right_before law before prefix b less known there free other (state_of new.payloads prefix) (inl reads)
+      | inr same ↦ (
+          let seeds = seeds_of (plan_of rounds) (suc before) prefix (kept_rounds rounds before prefix) in
+          let f = kept_rounds rounds (suc before) prefix in
+          by_offers new.graph new.graph new.book new.book (state_of old.payloads prefix) (state_of new.payloads prefix) seeds seeds f f b refl refl refl
+          (λ n. same_state_offer (policy_on new n) (policy_on new b) (state_of old.payloads prefix) (state_of new.payloads prefix) n b (what new.graph b n) (f n)
+          (λ e at. sym (same (last_or 0 e.path) (ends_announced paths goes old.graph old.book (λ p. state_of old.payloads p) (plan_of rounds) (round_count rounds) (kept_rounds rounds) sound belong.rounds_are.stable prefix known before less n e at))))
+          (right_before law before prefix b less known there free other (state_of old.payloads prefix) (inr (λ origin. refl))))
+    ]
   ]
 
 -- ---- seeds after an edit
@@ -257,3 +289,8 @@ quick_done old mid new e touched first last few rounds graph only =
 -- the same edit
 pub quick_is : (w after : World) (old new : Family) (first last : ℕ) (d e : Edit) (r : Result Changed EditError) → e ≡ d → OnOk r (IsQuick w after d old new first last) → OnOk r (IsQuick w after e old new first last)
 quick_is w after old new first last d e r same h = subst (λ (x : Edit). OnOk r (IsQuick w after x old new first last)) (sym same) h
+
+-- what follows of an answer
+pub on_map : {T E P Q : Type 0} (r : Result T E) → (P → Q) → OnOk r P → OnOk r Q
+on_map (Ok x) f h = f h
+on_map (Err e) f h = tt

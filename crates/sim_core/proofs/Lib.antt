@@ -11,6 +11,7 @@ pub mod Pushing
 pub mod Readers
 pub mod Renewals
 pub mod SeedEdits
+pub mod Origins
 pub mod Grounds
 pub mod Doing
 pub mod CycleLemmas

@@ -189,7 +189,7 @@ link_differs setting taken ases old mid a b o touched apart h touches = record {
   policies = λ x free. ap (λ (k : PolicyBook Kind). policy_at k x) h.book;
   at_ends = λ prefix x known end. inl (touches prefix x (ap (λ (r : Rounds). has_prefix (plan_of r) prefix) (sym h.rest.rounds) ∙ known) end);
   marks = λ prefix x n r known free at. ap (λ (k : PolicyBook Kind). (kind_policy (policy_at k n)).marks) h.book;
-  states = λ prefix x known free there. inr (λ origin. ap (λ (v : Payloads). state_of v prefix origin) h.vrps);
+  states = λ prefix x known free there. inr (λ origin is. ap (λ (v : Payloads). state_of v prefix origin) h.vrps);
 }
 
 -- without its link the pair takes it again

@@ -13,23 +13,26 @@ use Rattle.net_names.specs.Prefixes.{PrefixValue}
 use Rattle.as_graph.specs.Topology.{Topology, as_count, has as has_as, what}
 use Rattle.origin_validation.specs.Judging.{state_among, state_of}
 use Rattle.policy_kinds.specs.Kinds.{kind_policy}
-use Rattle.stability_laws.specs.Plans.{has_prefix}
+use Rattle.stability_laws.specs.Plans.{Plan, has_prefix}
 use Rattle.policy_kinds.specs.declared.kind.Kind.{Kind}
 use Rattle.stability_laws.specs.Book.{PolicyBook, policy_at}
 use Rattle.net_names.specs.Orders.{vrp_total, exact_vrp}
 use Rattle.net_names.specs.Payloads.{VrpValue, vrp_cmp}
 use Rattle.roa_table.specs.Sets.{Payloads, added, count, has, taken}
+use Rattle.leak_round.specs.Changes.{HasChanges}
 use Rattle.leak_round.specs.Rounds.{plan_of, round_count}
 use Rattle.leak_round.specs.declared.rounds.Rounds.{Rounds}
 use Rattle.scenario_text.specs.declared.acts.Edit.{Edit}
 use Rattle.scenario_text.specs.declared.acts.Edit.TheVariants.{VrpAdd}
 use Rattle.sim_core.specs.Editing.{IsSmall, IsUndone, KeepsRest}
 use Rattle.sim_core.specs.Edits.{IsAllowed, absent, edited, refusal_of_edit}
+use Rattle.sim_core.specs.Families.{Family}
 use Rattle.sim_core.specs.Sims.{world_seen}
+use Rattle.sim_core.specs.Steps.{IsQuick}
 use Rattle.sim_core.specs.World.{World, HasCycle, kind_at, topology}
 use Rattle.sim_core.specs.declared.errors.EditError.TheVariants as refused
 use Rattle.sim_core.specs.declared.errors.EditLimit.TheVariants.{Vrps}
-use Rattle.sim_core.specs.Ground.{DiffersAround, Ground, policy_on}
+use Rattle.sim_core.specs.Ground.{DiffersAround, Ground, IsOrigin, policy_on}
 use Rattle.sim_core.specs.declared.sim.Sim.{Sim}
 use Rattle.sim_core.proofs.LinkEdits.{over, within}
 use Rattle.sim_core.proofs.Doing.{allowed_by, no_limit, rest_kept, seen_count}
@@ -133,24 +136,41 @@ taken_added s v there = fin.same_map vrp_total exact_vrp _ _ (λ q.
     back true o h = sym (h refl)
     back false o h = refl
 
--- only the states of covered prefixes differ, and who reads these is touched
-pub payload_differs : (g h : Ground) (rounds : Rounds) (v : VrpValue) (touched : PrefixValue → ℕ → Bool) → h.graph ≡ g.graph → h.book ≡ g.book → ((p : PrefixValue) (origin : ℕ) → covers v.prefix p ≡ false → state_of h.payloads p origin ≡ state_of g.payloads p origin)
-    → ((p : PrefixValue) (a : ℕ) → IsTrue (has_prefix (plan_of rounds) p) → covers v.prefix p ≡ true → has_as g.graph a ≡ true → (policy_on g a).reads_state ≡ true → touched p a ≡ true) → DiffersAround g h rounds [] touched
-payload_differs g h rounds v touched graph book elsewhere touches = record {
+-- a payload that goes changes no state of a prefix that it does not cover
+pub taken_elsewhere : (s : Payloads) (v : VrpValue) (p : PrefixValue) (origin : ℕ) → covers v.prefix p ≡ false → state_of (taken s v) p origin ≡ state_of s p origin
+taken_elsewhere s v p origin free = by (has s v) refl
+  where
+    stays : (t : Bool) (o : Option (Unit {0})) → (t ≡ true → o ≡ None) → cond t None o ≡ o
+    stays true o h = sym (h refl)
+    stays false o h = refl
+
+    by : (b : Bool) → has s v ≡ b → state_of (taken s v) p origin ≡ state_of s p origin
+    by true there = sym (state_elsewhere (taken s v) v p origin free) ∙ ap (λ (x : Payloads). state_of x p origin) (taken_added s v there)
+    by false none = ap (λ (x : Payloads). state_of x p origin) (fin.same_map vrp_total exact_vrp (taken s v) s (λ q. fin.get-remove vrp_total s v q ∙ stays (eq_by_cmp vrp_cmp q v) (fin.get s q) (λ e. at_key s v q e ∙ absent_none (fin.get s v) none)))
+
+-- only states of origins differ that readers see, and these are touched
+pub payload_differs : (g h : Ground) (rounds : Rounds) (touched : PrefixValue → ℕ → Bool) → h.graph ≡ g.graph → h.book ≡ g.book
+    → ((p : PrefixValue) → IsTrue (has_prefix (plan_of rounds) p) → (a : ℕ) → has_as h.graph a ≡ true → (policy_on h a).reads_state ≡ true → touched p a ≡ false → (origin : ℕ) → IsOrigin (plan_of rounds) p origin → state_of h.payloads p origin ≡ state_of g.payloads p origin) → DiffersAround g h rounds [] touched
+payload_differs g h rounds touched graph book touches = record {
   presence = λ a free. ap (λ (x : Topology). has_as x a) graph;
   links = λ a n free. ap (λ (x : Topology). what x a n) graph;
   policies = λ a free. ap (λ (b : PolicyBook Kind). policy_at b a) book;
   at_ends = λ p a known end. absurd (true≢false (sym end));
   marks = λ p a n r known free at. ap (λ (b : PolicyBook Kind). (kind_policy (policy_at b n)).marks) book;
-  states = λ p a known free there. by p a known free (ap (λ (x : Topology). has_as x a) (sym graph) ∙ there) (covers v.prefix p) refl (policy_on h a).reads_state refl;
+  states = λ p a known free there. by p a known free there (policy_on h a).reads_state refl;
 }
   where
-    by : (p : PrefixValue) (a : ℕ) → IsTrue (has_prefix (plan_of rounds) p) → touched p a ≡ false → has_as g.graph a ≡ true → (c : Bool) → covers v.prefix p ≡ c → (r : Bool) → (policy_on h a).reads_state ≡ r
-        → ((policy_on h a).reads_state ≡ false) ⊎ ((origin : ℕ) → state_of h.payloads p origin ≡ state_of g.payloads p origin)
-    by p a known free there false covered r reads = inr (λ origin. elsewhere p origin covered)
-    by p a known free there true covered false reads = inl reads
-    by p a known free there true covered true reads =
-        absurd (true≢false (sym (touches p a known covered there (ap (λ (b : PolicyBook Kind). (kind_policy (policy_at b a)).reads_state) (sym book) ∙ reads)) ∙ free))
+    by : (p : PrefixValue) (a : ℕ) → IsTrue (has_prefix (plan_of rounds) p) → touched p a ≡ false → has_as h.graph a ≡ true → (r : Bool) → (policy_on h a).reads_state ≡ r
+        → ((policy_on h a).reads_state ≡ false) ⊎ ((origin : ℕ) → IsOrigin (plan_of rounds) p origin → state_of h.payloads p origin ≡ state_of g.payloads p origin)
+    by p a known free there false reads = inl reads
+    by p a known free there true reads = inr (touches p known a there reads free)
+
+-- nothing differs
+pub no_changes : (plan : Plan) (rounds : ℕ) (f : Family) → HasChanges plan rounds f f 0
+no_changes plan rounds f = record { triples = []; apart = tt; whole = λ x is. absurd (is.differs refl); only = λ x h. absurd h; number = refl }
+
+pub no_steps : (w after : World) (e : Edit) (old new : Family) (n : ℕ) → IsQuick w after e old new n n
+no_steps w after e old new n = record { triples = []; apart = tt; counted = λ x h. absurd h; enough = omega arith }
 
 -- the world with other payloads is allowed
 pub payload_allowed : (old : Sim) (e : Edit) (vrps : Payloads) → with_payloads (world_seen old) vrps ≡ edited (world_seen old) e → absent (world_seen old) e ≡ None → IsSmall old.graph vrps → (HasCycle (world_seen old) → ⊥) → IsAllowed (world_seen old) e

@@ -1,7 +1,12 @@
 -- The ASes that are touched prefix by prefix.
 use Rattle.std.proofs.Common.{◌≡◌, ◌∙◌, ◌⊎◌, inl, inr, ◌<◌, ◌+◌, ℕ, zero, suc, Bool, true, false, List, Some, refl, sym, ap, subst, arith}
 use Rattle.std.specs.Prelude.{slice_get}
-use Rattle.as_graph.specs.Topology.{Topology, has}
+use Rattle.std.proofs.lemmas.Bool.{true≢false}
+use Rattle.as_graph.specs.Topology.{Topology}
+use Rattle.net_names.specs.Payloads.{VrpValue}
+use Rattle.roa_table.specs.Sets.{Payloads}
+use Rattle.stability_laws.specs.Plans.{Plan}
+use Rattle.sim_core.specs.Ground.{AreReadersTouched}
 use Rattle.net_names.specs.Coverage.{covers}
 use Rattle.net_names.specs.Prefixes.{PrefixValue}
 use Rattle.policy_kinds.specs.Kinds.{kind_policy}
@@ -23,20 +28,23 @@ more_read old new outer book before later p a h = by (touches old p a) refl
     by false e = later p a h e
 
 -- a place below one more is below, or the last
-last_or : (k n : ℕ) → k < n + 1 → (k < n) ⊎ (k ≡ n)
-last_or zero zero h = inr refl
-last_or zero (suc n) h = inl (omega arith)
-last_or (suc k) zero h = absurd (omega (arith, h))
-last_or (suc k) (suc n) h = elim (last_or k n (omega (arith, h))) [ inl l ↦ inl (omega (arith, l)) | inr s ↦ inr (ap suc s) ]
+pub place_or : (k n : ℕ) → k < n + 1 → (k < n) ⊎ (k ≡ n)
+place_or zero zero h = inr refl
+place_or zero (suc n) h = inl (omega arith)
+place_or (suc k) zero h = absurd (omega (arith, h))
+place_or (suc k) (suc n) h = elim (place_or k n (omega (arith, h))) [ inl l ↦ inl (omega (arith, l)) | inr s ↦ inr (ap suc s) ]
 
-pub more_covered : (g : Topology) (book : PolicyBook Kind) (outer : PrefixValue) (xs : List PrefixValue) (i : ℕ) (q : PrefixValue) (old new : Touched) → slice_get xs i ≡ Some q
-    → ((place : ℕ) (p : PrefixValue) (a : ℕ) → place < i → slice_get xs place ≡ Some p → covers outer p ≡ true → has g a ≡ true → Reads book a → touches old p a ≡ true) → ((p : PrefixValue) (a : ℕ) → touches old p a ≡ true → touches new p a ≡ true)
-    → ((a : ℕ) → covers outer q ≡ true → has g a ≡ true → Reads book a → touches new q a ≡ true)
-    → (place : ℕ) (p : PrefixValue) (a : ℕ) → place < i + 1 → slice_get xs place ≡ Some p → covers outer p ≡ true → has g a ≡ true → Reads book a → touches new p a ≡ true
-more_covered g book outer xs i q old new at before more here place p a less there covered present reads = elim (last_or place i less) [
-  | inl earlier ↦ more p a (before place p a earlier there covered present reads)
+pub more_covered : (g : Topology) (book : PolicyBook Kind) (vrps : Payloads) (v : VrpValue) (plan : Plan) (xs : List PrefixValue) (i : ℕ) (q : PrefixValue) (old new : Touched) → slice_get xs i ≡ Some q
+    → ((place : ℕ) (p : PrefixValue) → place < i → slice_get xs place ≡ Some p → AreReadersTouched g book vrps v plan p (touches old p)) → ((p : PrefixValue) (a : ℕ) → touches old p a ≡ true → touches new p a ≡ true)
+    → AreReadersTouched g book vrps v plan q (touches new q) → (place : ℕ) (p : PrefixValue) → place < i + 1 → slice_get xs place ≡ Some p → AreReadersTouched g book vrps v plan p (touches new p)
+more_covered g book vrps v plan xs i q old new at before more here place p less there = elim (place_or place i less) [
+  | inl earlier ↦ (λ a present reads free origin is. before place p earlier there a present reads (untouched (touches old p a) a refl free) origin is)
   | inr last ↦ (
       let one : Some q ≡ Some p = sym at ∙ (ap (slice_get xs) (sym last) ∙ there) in
       let same : q ≡ p = cc in
-      subst (λ (r : PrefixValue). touches new r a ≡ true) same (here a (ap (covers outer) same ∙ covered) present reads))
+      subst (λ (r : PrefixValue). AreReadersTouched g book vrps v plan r (touches new r)) same here)
 ]
+  where
+    untouched : (t : Bool) → (a : ℕ) → touches old p a ≡ t → touches new p a ≡ false → touches old p a ≡ false
+    untouched false a e free = e
+    untouched true a e free = absurd (true≢false (sym (more p a e) ∙ free))

@@ -197,7 +197,7 @@ module _ (s : Sim) (e : SeedEdit) (plan : Plan) (a : ℕ) (t : Bool) (graph : To
     policies = λ x free. refl;
     at_ends = λ prefix x known end. end_at prefix x known (end_is x end) t refl (eq_by_cmp prefix_cmp prefix (edit_prefix e)) refl;
     marks = λ prefix x n r known free at. refl;
-    states = λ prefix x known free there. inr (λ origin. refl);
+    states = λ prefix x known free there. inr (λ origin is. refl);
   }
     where
       end_is : (x : ℕ) → occurs x (a ∷ []) ≡ true → a ≡ x

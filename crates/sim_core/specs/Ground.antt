@@ -1,18 +1,19 @@
 -- What the routings of a world rest on, and where an edit changes it.
 use Rattle.std.specs.Prelude.{◌≡◌, ◌⊎◌, ◌<◌, ℕ, suc, Bool, true, false, IsTrue, Option, None, Some, List, map}
 use Rattle.net_names.specs.declared.routes.Rel.{Rel}
-use Rattle.net_names.specs.Numbers.{occurs}
+use Rattle.net_names.specs.Numbers.{last_or, occurs}
 use Rattle.net_names.specs.Prefixes.{PrefixValue}
 use Rattle.as_graph.specs.Hierarchy.{HasNoProviderCycle, IsRank}
 use Rattle.as_graph.specs.Topology.{Topology, has, what}
 use Rattle.policy_laws.specs.Policy.{Policy}
 use Rattle.policy_kinds.specs.Kinds.{kind_policy}
 use Rattle.policy_kinds.specs.declared.kind.Kind.{Kind}
-use Rattle.roa_table.specs.Sets.{Payloads}
+use Rattle.net_names.specs.Payloads.{VrpValue}
+use Rattle.roa_table.specs.Sets.{Payloads, taken}
 use Rattle.origin_validation.specs.Judging.{state_of}
 use Rattle.rank_order.specs.Ranks.{KeptRanks, rank_at}
 use Rattle.stability_laws.specs.Book.{PolicyBook, policy_at}
-use Rattle.stability_laws.specs.Plans.{Plan, announces, has_prefix}
+use Rattle.stability_laws.specs.Plans.{Plan, announced_path, announces, has_prefix}
 use Rattle.stability_laws.specs.Rounds.{seeds_of}
 use Rattle.stability_laws.specs.Stable.{IsRight}
 use Rattle.stability_laws.specs.World.{setting}
@@ -43,19 +44,31 @@ pub record BelongTo (g : Ground) (ranks : KeptRanks) (rounds : Rounds) (watches 
   pub rounds_are : AreRoundsOf g.graph g.payloads g.book (plan_of rounds) (round_count rounds) rounds
   pub watching : AreRoundWatches g.graph (plan_of rounds) (kept_rounds rounds) g.book (round_count rounds) (map seen_in watches)
 
+-- the number ends a path that is announced of the prefix: it is an origin of it (RFC 6811, section 2)
+pub record IsOrigin (plan : Plan) (prefix : PrefixValue) (origin : ℕ) : Type 0 where
+  pub asn : ℕ
+  pub path : List ℕ
+  pub announced : announced_path plan prefix asn ≡ Some path
+  pub last : last_or 0 path ≡ origin
+
+-- an AS of the graph whose policy reads the states is touched, unless the states of all origins of the prefix are the same without the payload (own rule)
+abbrev pub AreReadersTouched : Topology → PolicyBook Kind → Payloads → VrpValue → Plan → PrefixValue → (ℕ → Bool) → Type 0
+AreReadersTouched g book vrps v plan prefix touched =
+    (a : ℕ) → has g a ≡ true → (kind_policy (policy_at book a)).reads_state ≡ true → touched a ≡ false → (origin : ℕ) → IsOrigin plan prefix origin → state_of (taken vrps v) prefix origin ≡ state_of vrps prefix origin
+
 -- what an AS holds of a prefix is right on the ground in each round, and nothing where it is no AS of it (own rule)
 pub record IsRightOn (g : Ground) (rounds : Rounds) (prefix : PrefixValue) (a : ℕ) : Type 0 where
   pub right : (before : ℕ) → before < round_count rounds → has g.graph a ≡ true → IsRight (setting kind_policy g.graph g.book (state_of g.payloads prefix)) (seeds_of (plan_of rounds) (suc before) prefix (kept_rounds rounds before prefix)) (kept_rounds rounds (suc before) prefix) a
   pub none : (before : ℕ) → before < round_count rounds → has g.graph a ≡ false → kept_rounds rounds (suc before) prefix a ≡ None
 
--- between two grounds only the ends differ in presence, links and policy; and who is not touched for a prefix is no end, or still right; has neighbours of which none begins or ceases to mark; and does not read the states of the prefix, or these are the same (own rule)
+-- between two grounds only the ends differ in presence, links and policy; and who is not touched for a prefix is no end, or still right; has neighbours of which none begins or ceases to mark; and does not read the states of the prefix, or these are the same for its origins (own rule)
 pub record DiffersAround (old new : Ground) (rounds : Rounds) (ends : List ℕ) (touched : PrefixValue → ℕ → Bool) : Type 0 where
   pub presence : (a : ℕ) → occurs a ends ≡ false → has new.graph a ≡ has old.graph a
   pub links : (a n : ℕ) → occurs a ends ≡ false → what new.graph a n ≡ what old.graph a n
   pub policies : (a : ℕ) → occurs a ends ≡ false → policy_at new.book a ≡ policy_at old.book a
   pub at_ends : (prefix : PrefixValue) (a : ℕ) → IsTrue (has_prefix (plan_of rounds) prefix) → occurs a ends ≡ true → (touched prefix a ≡ true) ⊎ IsRightOn new rounds prefix a
   pub marks : (prefix : PrefixValue) (a n : ℕ) (r : Rel) → IsTrue (has_prefix (plan_of rounds) prefix) → touched prefix a ≡ false → what new.graph a n ≡ Some r → (policy_on new n).marks ≡ (policy_on old n).marks
-  pub states : (prefix : PrefixValue) (a : ℕ) → IsTrue (has_prefix (plan_of rounds) prefix) → touched prefix a ≡ false → has new.graph a ≡ true → ((policy_on new a).reads_state ≡ false) ⊎ ((origin : ℕ) → state_of new.payloads prefix origin ≡ state_of old.payloads prefix origin)
+  pub states : (prefix : PrefixValue) (a : ℕ) → IsTrue (has_prefix (plan_of rounds) prefix) → touched prefix a ≡ false → has new.graph a ≡ true → ((policy_on new a).reads_state ≡ false) ⊎ ((origin : ℕ) → IsOrigin (plan_of rounds) prefix origin → state_of new.payloads prefix origin ≡ state_of old.payloads prefix origin)
 
 -- an edit of announcements, if there is one, is one of the plan within the limits, by one of the ends; and who announces something after it is an AS of the graph (own rule)
 pub record IsSeedChange (plan : Plan) (g : Topology) (ends : List ℕ) (edit : Option SeedEdit) : Type 0 where

@@ -24,7 +24,10 @@ use origin_validation::States;
 use policy_kinds::Kind;
 use rank_order::Ranks;
 use route_choice::Steps;
-use stability_laws::{Book, SeedEdit, one_family, paths_go_on, plans_are_sound, right_follows};
+use stability_laws::{
+    Book, SeedEdit, offer_path, one_family, paths_go_on, plans_are_sound, right_by_offers,
+    right_follows,
+};
 use std::alloc::Global;
 use std::sync::ledger::Ledger;
 
@@ -62,8 +65,11 @@ pub fn change<L: Ledger>(
     links_are_sound();
     ranks_fit();
     right_follows::<Kind>();
+    right_by_offers::<Kind>();
+    offer_path::<Kind>();
     one_family::<Kind>();
     paths_go_on::<Kind>();
+    plans_are_sound(rounds.seed_plan());
     make_room(graph, watches)?;
     let Ok(rank_plan) = ranks.plan(alloc, graph, ends) else {
         return Err(NoMemory);

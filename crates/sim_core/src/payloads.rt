@@ -1,7 +1,8 @@
 //! Edits of payloads.
-ghost use Rattle.std.specs.Prelude.{◌≡◌, ◌≤◌, ℕ, true, IsTrue, IfOk, OnOk, if◌then◌else◌};
-ghost use Rattle.as_graph.specs.Topology.{has};
-ghost use Rattle.leak_round.specs.Rounds.{plan_of, pool_of};
+ghost use Rattle.std.specs.Prelude.{◌≡◌, ◌≤◌, ℕ, true, IsTrue, IfOk, None, OnErr, OnOk, Some};
+ghost use Rattle.as_graph.specs.Hierarchy.{HasNoProviderCycle};
+ghost use Rattle.as_graph.specs.Topology.{what};
+ghost use Rattle.leak_round.specs.Rounds.{kept as kept_rounds, plan_of, pool_of, round_count};
 ghost use Rattle.leak_round.specs.Touched.{touches};
 ghost use Rattle.net_names.specs.Coverage.{covers};
 ghost use Rattle.net_names.specs.Prefixes.{PrefixValue};
@@ -9,12 +10,12 @@ ghost use Rattle.path_pool.specs.Pool.{live_count};
 ghost use Rattle.policy_kinds.specs.Kinds.{kind_policy};
 ghost use Rattle.stability_laws.specs.Book.{policy_at};
 ghost use Rattle.stability_laws.specs.Plans.{has_prefix};
-ghost use Rattle.roa_table.specs.Sets.{taken};
 ghost use Rattle.scenario_text.specs.declared.acts.Edit.TheVariants.{VrpAdd, VrpTake};
-ghost use Rattle.sim_core.specs.Editing.{IsEdited, KeepsRest};
+ghost use Rattle.sim_core.specs.Editing.{IsChanged, IsEdited, IsUnchanged, ground_less};
+ghost use Rattle.sim_core.specs.Ground.{AreReadersTouched, BelongTo};
 ghost use Rattle.sim_core.specs.Kept.{IsKept};
 ghost use Rattle.sim_core.specs.Sims.{kept, world_seen};
-ghost use Rattle.sim_core.specs.Steps.{IsQuick};
+ghost use Rattle.sim_core.specs.Steps.{AreFewSteps, IsQuick};
 ghost use Rattle.sim_core.specs.World.{HasCycle};
 
 use crate::touching::touched_readers;
@@ -27,30 +28,37 @@ use std::alloc::Global;
 use std::sync::ledger::Ledger;
 
 impl Sim {
-    // The ASes whose policy reads states that the payload may change.
+    // The ASes whose policy reads states that differ with the payload and without it.
     fn touched_by(&self, alloc: Global, vrp: Vrp) -> Result<Touched, NoMemory>
         ensures only { IfOk result (λ t. (prefix : PrefixValue) (a : ℕ) → touches t prefix a ≡ true → (covers vrp.prefix prefix ≡ true) × ((kind_policy (policy_at self.now.book a)).reads_state ≡ true)) }
-        ensures these { IfOk result (λ t. (prefix : PrefixValue) (a : ℕ) → IsTrue (has_prefix (plan_of self.now.rounds) prefix) → covers vrp.prefix prefix ≡ true → has self.now.graph a ≡ true → (kind_policy (policy_at self.now.book a)).reads_state ≡ true → touches t prefix a ≡ true) }
+        ensures these { IfOk result (λ t. (prefix : PrefixValue) → IsTrue (has_prefix (plan_of self.now.rounds) prefix) → AreReadersTouched self.now.graph self.now.book self.now.vrps vrp (plan_of self.now.rounds) prefix (touches t prefix)) }
     {
         touched_readers(
             alloc,
             &self.graph,
             &self.book,
+            &self.vrps,
+            vrp,
             self.rounds.seed_plan(),
-            vrp.prefix(),
         )
     }
 
-    // Takes a payload out again, unless it was there before.
-    fn take_back(&mut self, vrp: Vrp, known: bool)
-        ensures vrps { self.new.vrps ≡ (if known then self.old.vrps else taken self.old.vrps vrp) }
-        ensures graph { self.new.graph ≡ self.old.graph }
-        ensures book { self.new.book ≡ self.old.book }
-        ensures rest { KeepsRest self.old self.new }
+    // Takes what is kept, which is that without the payload, to all payloads.
+    fn change_with<L: Ledger>(
+        &mut self,
+        alloc: Global,
+        vrp: Vrp,
+        steps: &mut Steps<L>,
+    ) -> Result<Changed, NoMemory>
+        requires few_cells { live_count (pool_of self.old.rounds) ≤ 20000000 }
+        requires no_cycle { HasNoProviderCycle (what self.old.graph) }
+        requires from { BelongTo (ground_less self.old (Some vrp)) self.old.ranks self.old.rounds self.old.watches.items }
+        ensures changed { IfOk result (λ c. IsChanged self.old self.new None c.routes) }
+        ensures quick { OnOk result (AreFewSteps (what self.old.graph) (plan_of self.old.rounds) (plan_of self.new.rounds) (kept_rounds self.old.rounds) (kept_rounds self.new.rounds) (λ p a. (covers vrp.prefix p ≡ true) × ((kind_policy (policy_at self.old.book a)).reads_state ≡ true)) (round_count self.old.rounds) steps.old steps.new) }
+        ensures err { OnErr result (IsUnchanged self.old self.new) }
     {
-        if !known {
-            let _ = self.vrps.take(vrp);
-        }
+        let touched = self.touched_by(alloc, vrp)?;
+        self.change_at(alloc, &[], &touched, None, steps)
     }
 
     // Puts a payload in.
@@ -67,10 +75,9 @@ impl Sim {
         ensures quick { OnOk result (IsQuick (world_seen self.old) (world_seen self.new) (VrpAdd vrp) (kept self.old).routings (kept self.new).routings steps.old steps.new) }
     {
         self.is_small();
-        let Ok(touched) = self.touched_by(alloc, vrp) else {
-            return Err(EditError::Memory);
-        };
-        let known = self.vrps.has(vrp);
+        if self.vrps.has(vrp) {
+            return Ok(Changed { routes: 0 });
+        }
         match self.vrps.add(vrp) {
             Ok(_) => {}
             Err(AddError::Memory) => return Err(EditError::Memory),
@@ -81,10 +88,10 @@ impl Sim {
             }
         }
         self.is_small();
-        match self.change_at(alloc, &[], &touched, None, steps) {
+        match self.change_with(alloc, vrp, steps) {
             Ok(changed) => Ok(changed),
             Err(_) => {
-                self.take_back(vrp, known);
+                let _ = self.vrps.take(vrp);
                 Err(EditError::Memory)
             }
         }

@@ -1,19 +1,25 @@
 //! The ASes whose entries may be wrong after an edit.
-ghost use Rattle.std.specs.Prelude.{◌≡◌, ℕ, true, false, IsTrue, IfOk, OnOk};
+ghost use Rattle.std.specs.Prelude.{◌≡◌, ℕ, true, false, IsTrue, IfOk, OnOk, None, Some, List, if◌then◌else◌};
 ghost use Rattle.as_graph.specs.Topology.{has};
 ghost use Rattle.net_names.specs.Coverage.{covers as covers_it};
-ghost use Rattle.net_names.specs.Numbers.{occurs};
+ghost use Rattle.net_names.specs.Numbers.{last_or, occurs};
+ghost use Rattle.origin_validation.specs.Judging.{state_of};
+ghost use Rattle.roa_table.specs.Sets.{taken};
 ghost use Rattle.net_names.specs.Prefixes.{PrefixValue};
 ghost use Rattle.policy_kinds.specs.Kinds.{kind_policy};
 ghost use Rattle.stability_laws.specs.Book.{policy_at};
-ghost use Rattle.stability_laws.specs.Plans.{has_prefix};
+ghost use Rattle.stability_laws.specs.Offers.{is_empty};
+ghost use Rattle.stability_laws.specs.Plans.{announced_path, has_prefix};
 ghost use Rattle.leak_round.specs.Touched.{touches};
+ghost use Rattle.sim_core.specs.Ground.{AreReadersTouched, IsOrigin};
 
 use as_graph::Graph;
 use leak_round::Touched;
-use net_names::{Asn, NoMemory, Prefix, covers};
+use net_names::{Asn, NoMemory, Prefix, Vrp, covers};
+use origin_validation::States;
 use policy_kinds::Kind;
-use policy_laws::RoutePolicy;
+use policy_laws::{OriginStates, RoutePolicy};
+use roa_table::Vrps;
 use stability_laws::{Book, SeedPlan};
 use std::alloc::Global;
 
@@ -61,40 +67,90 @@ fn touch_readers(
     Ok(())
 }
 
-// Touches the ASes whose policy reads the states, for a prefix that the other one covers.
+// The last number of a path, where it has one.
+fn last_of(path: &[Asn]) -> Option<Asn>
+    ensures { result ≡ (if is_empty path.now then None else Some (last_or 0 path.now)) }
+{
+    path.last().copied()
+}
+
+// The last number of the path that an AS announces of a prefix, if it announces it.
+fn origin_of(plan: &SeedPlan, prefix: Prefix, asn: Asn) -> Option<Asn>
+    ensures { (path : List ℕ) → announced_path plan.now prefix asn ≡ Some path → result ≡ Some (last_or 0 path) }
+{
+    match plan.path(prefix, asn) {
+        Some(path) => last_of(path.as_slice()),
+        None => None,
+    }
+}
+
+// Whether the state of an origin differs with the payload and without it.
+fn differs(vrps: &Vrps, vrp: Vrp, prefix: Prefix, origin: Option<Asn>) -> bool
+    ensures { (o : ℕ) → origin ≡ Some o → result ≡ false → state_of (taken vrps.now vrp) prefix o ≡ state_of vrps.now prefix o }
+{
+    match origin {
+        Some(origin) => {
+            States::of(vrps).state(prefix, origin)
+                != States::without(vrps, vrp).state(prefix, origin)
+        }
+        None => false,
+    }
+}
+
+// Whether the state of an announced origin of the prefix differs with the payload and without it.
+fn differs_at(vrps: &Vrps, vrp: Vrp, plan: &SeedPlan, prefix: Prefix) -> bool
+    ensures { result ≡ false → (origin : ℕ) → IsOrigin plan.now prefix origin → state_of (taken vrps.now vrp) prefix origin ≡ state_of vrps.now prefix origin }
+{
+    let _first = plan.announcer_at(0);
+    for asn in plan.announcers() {
+        if differs(vrps, vrp, prefix, origin_of(plan, prefix, *asn)) {
+            return true;
+        }
+    }
+    false
+}
+
+// Touches the ASes whose policy reads the states, for a prefix that the payload covers and of which the
+// state of an announced origin differs with it and without it.
 fn touch_covered(
     touched: &mut Touched,
     graph: &Graph,
     book: &Book<Kind>,
-    outer: Prefix,
+    vrps: &Vrps,
+    vrp: Vrp,
+    plan: &SeedPlan,
     prefix: Prefix,
 ) -> Result<(), NoMemory>
-    ensures these { OnOk result ((a : ℕ) → covers_it outer prefix ≡ true → has graph.now a ≡ true → (kind_policy (policy_at book.now a)).reads_state ≡ true → touches touched.new prefix a ≡ true) }
+    ensures these { OnOk result (AreReadersTouched graph.now book.now vrps.now vrp plan.now prefix (touches touched.new prefix)) }
     ensures more { (p : PrefixValue) (a : ℕ) → touches touched.old p a ≡ true → touches touched.new p a ≡ true }
-    ensures only { (p : PrefixValue) (a : ℕ) → touches touched.new p a ≡ true → touches touched.old p a ≡ false → (covers_it outer p ≡ true) × ((kind_policy (policy_at book.now a)).reads_state ≡ true) }
+    ensures only { (p : PrefixValue) (a : ℕ) → touches touched.new p a ≡ true → touches touched.old p a ≡ false → (covers_it vrp.prefix p ≡ true) × ((kind_policy (policy_at book.now a)).reads_state ≡ true) }
 {
-    if covers(outer, prefix) {
-        touch_readers(touched, graph, book, prefix)
-    } else {
-        Ok(())
+    if !covers(vrp.prefix(), prefix) {
+        return Ok(());
     }
+    if !differs_at(vrps, vrp, plan, prefix) {
+        return Ok(());
+    }
+    touch_readers(touched, graph, book, prefix)
 }
 
-/// The ASes whose policy reads the states, for each prefix of the plan that this one covers.
+/// The ASes whose policy reads the states, for each prefix of the plan that the payload covers and of
+/// which the state of an announced origin differs with it and without it.
 pub fn touched_readers(
     alloc: Global,
     graph: &Graph,
     book: &Book<Kind>,
+    vrps: &Vrps,
+    vrp: Vrp,
     plan: &SeedPlan,
-    outer: Prefix,
 ) -> Result<Touched, NoMemory>
-    ensures these { IfOk result (λ t. (prefix : PrefixValue) (a : ℕ) → IsTrue (has_prefix plan.now prefix) → covers_it outer prefix ≡ true → has graph.now a ≡ true → (kind_policy (policy_at book.now a)).reads_state ≡ true → touches t prefix a ≡ true) }
-    ensures only { IfOk result (λ t. (prefix : PrefixValue) (a : ℕ) → touches t prefix a ≡ true → (covers_it outer prefix ≡ true) × ((kind_policy (policy_at book.now a)).reads_state ≡ true)) }
+    ensures these { IfOk result (λ t. (prefix : PrefixValue) → IsTrue (has_prefix plan.now prefix) → AreReadersTouched graph.now book.now vrps.now vrp plan.now prefix (touches t prefix)) }
+    ensures only { IfOk result (λ t. (prefix : PrefixValue) (a : ℕ) → touches t prefix a ≡ true → (covers_it vrp.prefix prefix ≡ true) × ((kind_policy (policy_at book.now a)).reads_state ≡ true)) }
 {
     let _first = plan.prefix_at(0);
     let mut touched = Touched::new(alloc);
     for prefix in plan.prefixes() {
-        touch_covered(&mut touched, graph, book, outer, *prefix)?;
+        touch_covered(&mut touched, graph, book, vrps, vrp, plan, *prefix)?;
     }
     Ok(touched)
 }

@@ -41,7 +41,7 @@ plan-requires-2-clause-entries g c =
 pub plan-requires-2-clause-right : goal.plan-requires-2-clause-right
 plan-requires-2-clause-right g c =
     let (old, belong, differs) = c.requires.from in
-    still_right old (record { graph = c.args.graph.now; payloads = c.args.states.now; book = c.args.book.now }) c.args.ranks.now c.args.rounds.now c.args.watches.now.items c.args.ends.now (touches c.args.touched.now) belong differs c.right_follows.ensures
+    still_right old (record { graph = c.args.graph.now; payloads = c.args.states.now; book = c.args.book.now }) c.args.ranks.now c.args.rounds.now c.args.watches.now.items c.args.ends.now (touches c.args.touched.now) belong differs c.right_follows.ensures c.right_by_offers.ensures c.offer_path.ensures c.paths_go_on.ensures (subst IsSound c.seed_plan.ensures c.plans_are_sound.ensures)
 
 pub returns-in_default-plan-clause-addrs : goal.returns-in_default-plan-clause-addrs
 returns-in_default-plan-clause-addrs g c = seen_addrs c.args.watches.now.items c.make_room.new.all.items c.make_room.ensures.seen
@@ -51,7 +51,7 @@ renew-requires-clause-inside g c =
     let new : Ground = record { graph = c.args.graph.now; payloads = c.args.states.now; book = c.args.book.now } in
     let rounds = c.commit-done.new.self in
     let stable = rounds_as new (plan_after c.plan-2.new.self c.in-Ok-plan.plan) (plan_of rounds) (round_count c.plan-2.new.self) (round_count rounds) (kept_with c.plan-2.new.self c.in-Ok-plan.plan) (kept rounds) c.commit-done.ensures.plan c.commit-done.ensures.rounds c.commit-done.ensures.kept c.in-Ok-plan.ensures.stable in
-    let sound : IsSound (plan_of rounds) = subst IsSound c.seed_plan.ensures c.plans_are_sound.ensures in
+    let sound : IsSound (plan_of rounds) = subst IsSound c.seed_plan-2.ensures c.plans_are_sound-2.ensures in
     goes_on_inside c.paths_go_on.ensures c.args.graph.now c.args.book.now c.args.states.now (plan_of rounds) (round_count rounds) (kept rounds) sound stable
 
 pub renew-requires-clause-follow : goal.renew-requires-clause-follow

@@ -1,7 +1,6 @@
 use Rattle.std.proofs.Common.{◌≡◌, ◌∙◌, Some, None, cond, refl, sym, ap, subst}
 use Rattle.std.specs.FinSet as set
 use Rattle.roa_table.specs.Sets.{Payloads, taken}
-use Rattle.origin_validation.specs.Judging.{state_of}
 use Rattle.leak_round.specs.Touched.{touches}
 use Rattle.scenario_text.specs.declared.acts.Edit.TheVariants.{VrpTake}
 use Rattle.sim_core.specs.Editing.{ground_of}
@@ -9,18 +8,14 @@ use Rattle.sim_core.specs.Ground.{BelongTo, Ground}
 use Rattle.sim_core.specs.declared.errors.EditError.TheVariants as refused
 use Rattle.sim_core.proofs.Doing.{belongs, edit_done, unchanged_kept, unchanged_world}
 use Rattle.sim_core.proofs.Grounds.{quick_done}
-use Rattle.sim_core.proofs.PayloadEdits.{reads_kind, payload_allowed, payload_differs, small_taken, state_elsewhere, taken_added}
+use Rattle.sim_core.proofs.PayloadEdits.{reads_kind, payload_allowed, payload_differs, small_taken}
 use Rattle.sim_core.proofs.sim.Sim.take_vrp.Goals as goal
 
 pub change_at-requires-clause-from : goal.change_at-requires-clause-from
 change_at-requires-clause-from g c =
     let s = c.args.self.now in
-    let now : Ground = record { graph = s.graph; payloads = taken s.vrps c.args.vrp; book = s.book } in (
-      ground_of s,
-      belongs s c.requires.kept c.requires.no_cycle,
-      payload_differs (ground_of s) now s.rounds c.args.vrp (touches c.in-Ok.touched) refl refl
-          (λ p origin off. sym (state_elsewhere (taken s.vrps c.args.vrp) c.args.vrp p origin off) ∙ ap (λ (v : Payloads). state_of v p origin) (taken_added s.vrps c.args.vrp (sym c.if-not-has.ensures))) c.in-Ok.ensures.these,
-    )
+    let now : Ground = record { graph = s.graph; payloads = taken s.vrps c.args.vrp; book = s.book } in
+    (ground_of s, belongs s c.requires.kept c.requires.no_cycle, payload_differs (ground_of s) now s.rounds (touches c.in-Ok.touched) refl refl c.in-Ok.ensures.these)
 
 pub returns-in-Err-clause-edited : goal.returns-in-Err-clause-edited
 returns-in-Err-clause-edited g c = (tt, record { world = unchanged_world c.args.self.now c.change_at.new.self c.in-Err.ensures.err; same_kept = unchanged_kept c.args.self.now c.change_at.new.self c.in-Err.ensures.err })
