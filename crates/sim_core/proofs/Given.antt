@@ -23,6 +23,7 @@ use Rattle.net_names.specs.Links.{LinkMap, converse}
 use Rattle.net_names.specs.Numbers.{occurs}
 use Rattle.net_names.specs.Prefixes.{PrefixValue}
 use Rattle.net_names.specs.declared.routes.Rel.{Rel}
+use Rattle.as_places.specs.Places.{PlacedAses}
 use Rattle.as_graph.specs.Edits.{LinksAreSound}
 use Rattle.origin_validation.specs.Judging.{state_of}
 use Rattle.policy_kinds.specs.Kinds.{kind_policy}
@@ -172,3 +173,8 @@ given_no_cycle old mid new a k roomed given none = subst (λ (l : LinkMap). HasN
 pub touched_policy : (s : Sim) (a : ℕ) (k : Kind) (p : PrefixValue) (x : ℕ) → (x ≡ a) ⊎ (((kind_policy k).marks ≢ (kind_policy (policy_at s.book a)).marks) × (r : Rel) × (what s.graph a x ≡ Some r)) → IsTouched (world_seen s) (Policy a k) p x
 touched_policy s a k p x (inl same) = inl same
 touched_policy s a k p x (inr (differ, r, link)) = inr ((λ e. differ (e ∙ ap (λ j. (kind_policy j).marks) (ap (unwrap_or (fin.get s.book.named a)) (sym s.plain)))), r, link)
+
+-- a reader that there was is listed still
+pub still_listed : (old mid new same : Sim) (a : ℕ) (k was : Kind) → was ≡ policy_at old.book a → IsRoomed old mid a → IsGiven mid new a k → IsUnchanged new same → (kind_policy was).reads_state ≡ true → occurs a same.readers.ases ≡ true
+still_listed old mid new same a k was is roomed given alike reads =
+    subst (λ (r : PlacedAses). occurs a r.ases ≡ true) (sym (alike.readers ∙ given.readers)) (roomed.readers a (old.reading a (ap (λ j. (kind_policy j).reads_state) (sym is) ∙ reads)))

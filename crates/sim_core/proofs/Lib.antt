@@ -8,7 +8,6 @@ pub mod Hops
 pub mod Working
 pub mod Watches
 pub mod Pushing
-pub mod Readers
 pub mod Renewals
 pub mod SeedEdits
 pub mod Origins
@@ -23,3 +22,4 @@ pub mod PayloadEdits
 pub mod SeedMarks
 pub mod Unnamed
 pub mod Reseeded
+pub mod Listed

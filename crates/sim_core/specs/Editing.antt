@@ -8,6 +8,7 @@ use Rattle.as_graph.specs.Edits.{with_link, without_link}
 use Rattle.as_graph.specs.Hierarchy.{IsProviderCycle}
 use Rattle.as_graph.specs.Room.{is_room_for, is_room_with}
 use Rattle.as_graph.specs.Topology.{Topology, as_count, has, what}
+use Rattle.net_names.specs.Numbers.{occurs}
 use Rattle.net_names.specs.Payloads.{VrpValue}
 use Rattle.origin_validation.specs.Leaving.{less}
 use Rattle.leak_round.specs.Changes.{HasChanges}
@@ -104,6 +105,7 @@ pub record IsUnchanged (old new : Sim) : Type 0 where
   pub vrps : new.vrps ≡ old.vrps
   pub book : new.book ≡ old.book
   pub watched : new.watched ≡ old.watched
+  pub readers : new.readers ≡ old.readers
   pub alike : AreSeenAlike old.ranks new.ranks old.rounds new.rounds old.watches.items new.watches.items
 
 -- why a link is not kept: memory is wanting, or the graph has this provider cycle, which begins with the link (own rule)
@@ -125,6 +127,7 @@ pub record IsGiven (old new : Sim) (a : ℕ) (kind : Kind) : Type 0 where
   pub others : (x : ℕ) → x ≢ a → has new.graph x ≡ has old.graph x
   pub named : new.book.named ≡ with_kind old.book.named a kind
   pub book_room : new.book.room ≡ old.book.room
+  pub readers : new.readers ≡ old.readers
   pub vrps : new.vrps ≡ old.vrps
   pub rest : KeepsRest old new
 
@@ -135,5 +138,6 @@ pub record IsRoomed (old new : Sim) (a : ℕ) : Type 0 where
   pub graph_room : is_room_with new.graph.room a ≡ true
   pub named : new.book.named ≡ old.book.named
   pub book_room : IsTrue (set.contains new.book.room a)
+  pub readers : (x : ℕ) → occurs x old.readers.ases ≡ true → occurs x new.readers.ases ≡ true
   pub vrps : new.vrps ≡ old.vrps
   pub rest : KeepsRest old new

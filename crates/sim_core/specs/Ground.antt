@@ -51,10 +51,10 @@ pub record IsOrigin (plan : Plan) (prefix : PrefixValue) (origin : ℕ) : Type 0
   pub announced : announced_path plan prefix asn ≡ Some path
   pub last : last_or 0 path ≡ origin
 
--- an AS of the graph whose policy reads the states is touched, unless the states of all origins of the prefix are the same without the payload (own rule)
-abbrev pub AreReadersTouched : Topology → PolicyBook Kind → Payloads → VrpValue → Plan → PrefixValue → (ℕ → Bool) → Type 0
-AreReadersTouched g book vrps v plan prefix touched =
-    (a : ℕ) → has g a ≡ true → (kind_policy (policy_at book a)).reads_state ≡ true → touched a ≡ false → (origin : ℕ) → IsOrigin plan prefix origin → state_of (taken vrps v) prefix origin ≡ state_of vrps prefix origin
+-- one of the ASes whose policy reads the states is touched, unless the states of all origins of the prefix are the same without the payload (own rule)
+abbrev pub AreReadersTouched : List ℕ → PolicyBook Kind → Payloads → VrpValue → Plan → PrefixValue → (ℕ → Bool) → Type 0
+AreReadersTouched readers book vrps v plan prefix touched =
+    (a : ℕ) → occurs a readers ≡ true → (kind_policy (policy_at book a)).reads_state ≡ true → touched a ≡ false → (origin : ℕ) → IsOrigin plan prefix origin → state_of (taken vrps v) prefix origin ≡ state_of vrps prefix origin
 
 -- what an AS holds of a prefix is right on the ground in each round, and nothing where it is no AS of it (own rule)
 pub record IsRightOn (g : Ground) (rounds : Rounds) (prefix : PrefixValue) (a : ℕ) : Type 0 where

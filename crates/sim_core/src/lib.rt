@@ -20,6 +20,7 @@ mod naming;
 mod payloads;
 mod planning;
 mod policies;
+mod readers;
 mod renewing;
 mod sim;
 mod touching;

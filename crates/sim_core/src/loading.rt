@@ -13,6 +13,7 @@ ghost use Rattle.sim_core.specs.World.{HasCycle, topology};
 
 use crate::naming::world_graph;
 use crate::planning::{policies, seed_plan};
+use crate::readers::readers_of;
 use crate::validating::known_states;
 use crate::watching::{watch_rounds, watched_addrs};
 use crate::{LoadError, Sim};
@@ -94,6 +95,9 @@ fn load_world<L: Ledger>(
     let Ok(book) = policies(alloc, scenario) else {
         return Err(LoadError::Memory);
     };
+    let Ok(readers) = readers_of(alloc, &graph, &book) else {
+        return Err(LoadError::Memory);
+    };
     let Ok(watched) = watched_addrs(alloc, scenario) else {
         return Err(LoadError::Memory);
     };
@@ -108,6 +112,7 @@ fn load_world<L: Ledger>(
             vrps,
             book,
             rounds,
+            readers,
             watched,
             watches,
         }),

@@ -31,11 +31,11 @@ impl Sim {
     // The ASes whose policy reads states that differ with the payload and without it.
     fn touched_by(&self, alloc: Global, vrp: Vrp) -> Result<Touched, NoMemory>
         ensures only { IfOk result (λ t. (prefix : PrefixValue) (a : ℕ) → touches t prefix a ≡ true → (covers vrp.prefix prefix ≡ true) × ((kind_policy (policy_at self.now.book a)).reads_state ≡ true)) }
-        ensures these { IfOk result (λ t. (prefix : PrefixValue) → IsTrue (has_prefix (plan_of self.now.rounds) prefix) → AreReadersTouched self.now.graph self.now.book self.now.vrps vrp (plan_of self.now.rounds) prefix (touches t prefix)) }
+        ensures these { IfOk result (λ t. (prefix : PrefixValue) → IsTrue (has_prefix (plan_of self.now.rounds) prefix) → AreReadersTouched self.now.readers.ases self.now.book self.now.vrps vrp (plan_of self.now.rounds) prefix (touches t prefix)) }
     {
         touched_readers(
             alloc,
-            &self.graph,
+            self.readers.as_slice(),
             &self.book,
             &self.vrps,
             vrp,

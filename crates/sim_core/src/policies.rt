@@ -24,6 +24,7 @@ ghost use Rattle.stability_laws.specs.Book.{policy_at};
 ghost use Rattle.stability_laws.specs.Plans.{has_prefix};
 
 use crate::naming::is_other;
+use crate::readers::list_if_reads;
 use crate::touching::touched_ases;
 use crate::{Changed, EditError, EditLimit, Sim};
 use as_graph::{Graph, GraphError, ases_are_kept, links_are_sound};
@@ -60,11 +61,13 @@ fn push_neighbours(graph: &Graph, asn: Asn, ases: &mut Vec<Asn>) -> Result<(), N
 }
 
 impl Sim {
-    // Makes room for an edit of the policy of an AS.
-    fn make_room(&mut self, asn: Asn) -> Result<(), NoMemory>
+    // Makes room for an edit of the policy of an AS, and lists the AS where the policy reads the states.
+    fn make_room(&mut self, asn: Asn, kind: Kind) -> Result<(), NoMemory>
         ensures ok { OnOk result (IsRoomed self.old self.new asn) }
+        ensures listed { OnOk result ((kind_policy kind).reads_state ≡ true → occurs asn self.new.readers.ases ≡ true) }
         ensures err { OnErr result (IsUndone self.old self.new) }
     {
+        list_if_reads(&mut self.readers, asn, kind)?;
         self.book.room(asn)?;
         match self.graph.room(asn, asn) {
             Ok(()) => Ok(()),
@@ -75,6 +78,7 @@ impl Sim {
     // Gives an AS a policy other than the plain one, for which there is room.
     fn give_other(&mut self, asn: Asn, kind: Kind) -> Result<(), EditError>
         requires other { is_other_policy (asn, kind) ≡ true }
+        requires listed { (kind_policy kind).reads_state ≡ true → occurs asn self.old.readers.ases ≡ true }
         requires graph { is_room_with self.old.graph.room asn ≡ true }
         requires book { IsTrue (set.contains self.old.book.room asn) }
         ensures ok { OnOk result (IsGiven self.old self.new asn kind) }
@@ -108,6 +112,7 @@ impl Sim {
 
     // Gives an AS a policy, for which there is room.
     fn give(&mut self, asn: Asn, kind: Kind) -> Result<(), EditError>
+        requires listed { (kind_policy kind).reads_state ≡ true → occurs asn self.old.readers.ases ≡ true }
         requires graph { is_room_with self.old.graph.room asn ≡ true }
         requires book { IsTrue (set.contains self.old.book.room asn) }
         ensures ok { OnOk result (IsGiven self.old self.new asn kind) }
@@ -124,6 +129,7 @@ impl Sim {
 
     // Gives an AS a policy that it can have.
     fn give_back(&mut self, asn: Asn, kind: Kind)
+        requires listed { (kind_policy kind).reads_state ≡ true → occurs asn self.old.readers.ases ≡ true }
         requires graph { is_room_with self.old.graph.room asn ≡ true }
         requires book { IsTrue (set.contains self.old.book.room asn) }
         requires fits { (e : AnEditError) → refusal_of_edit (world_seen self.old) (Policy asn kind) ≡ Some e → ⊥ }
@@ -180,7 +186,7 @@ impl Sim {
         let Ok(touched) = self.touched_with(alloc, asn, kind) else {
             return Err(EditError::Memory);
         };
-        match self.make_room(asn) {
+        match self.make_room(asn, kind) {
             Ok(()) => {}
             Err(_) => return Err(EditError::Memory),
         }

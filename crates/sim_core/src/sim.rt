@@ -1,15 +1,19 @@
 //! A simulation.
-ghost use Rattle.std.specs.Prelude.{◌≡◌, ◌≢◌, ◌≤◌, ℕ, false, Some};
+ghost use Rattle.std.specs.Prelude.{◌≡◌, ◌≢◌, ◌≤◌, ℕ, true, false, Some};
 ghost use Rattle.std.specs.List.{AllPairs};
 ghost use Rattle.std.specs.FinMap as fin;
 ghost use Rattle.leak_round.specs.Limits.{IsWithinLimits};
 ghost use Rattle.leak_round.specs.Rounds.{is_open, plan_of, round_count};
+ghost use Rattle.net_names.specs.Numbers.{occurs};
+ghost use Rattle.policy_kinds.specs.Kinds.{kind_policy};
+ghost use Rattle.stability_laws.specs.Book.{policy_at};
 ghost use Rattle.policy_kinds.specs.declared.kind.Kind.TheVariants.{Plain};
 ghost use Rattle.sim_core.specs.Parts.{IsNamed};
 ghost use Rattle.sim_core.specs.Watching.{HasWatches};
 
 use crate::watching::RoundWatches;
 use as_graph::Graph;
+use as_places::AsPlaces;
 use leak_round::Rounds;
 use net_names::Addr;
 use policy_kinds::Kind;
@@ -27,6 +31,8 @@ pub struct Sim {
     pub(crate) vrps: Vrps,
     pub(crate) book: Book<Kind>,
     pub(crate) rounds: Rounds,
+    // All ASes whose policy reads the states, and perhaps others.
+    pub(crate) readers: AsPlaces,
     pub(crate) watched: Vec<Addr>,
     pub(crate) watches: Vec<RoundWatches>,
     ghost named: { IsNamed graph book rounds },
@@ -35,6 +41,7 @@ pub struct Sim {
     ghost small: { IsWithinLimits (plan_of rounds) },
     ghost few: { round_count rounds ≤ 4 },
     ghost closed: { is_open rounds ≡ false },
+    ghost reading: { (a : ℕ) → (kind_policy (policy_at book a)).reads_state ≡ true → occurs a readers.ases ≡ true },
     ghost once: { AllPairs (λ a b. a ≢ b) watched.items },
     ghost watching: { HasWatches (round_count rounds) watched.items watches.items },
 }

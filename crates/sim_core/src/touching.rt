@@ -1,6 +1,5 @@
 //! The ASes whose entries may be wrong after an edit.
 ghost use Rattle.std.specs.Prelude.{◌≡◌, ℕ, true, false, IsTrue, IfOk, OnOk, None, Some, List, if◌then◌else◌};
-ghost use Rattle.as_graph.specs.Topology.{has};
 ghost use Rattle.net_names.specs.Coverage.{covers as covers_it};
 ghost use Rattle.net_names.specs.Numbers.{last_or, occurs};
 ghost use Rattle.origin_validation.specs.Judging.{state_of};
@@ -13,7 +12,6 @@ ghost use Rattle.stability_laws.specs.Plans.{announced_path, has_prefix};
 ghost use Rattle.leak_round.specs.Touched.{touches};
 ghost use Rattle.sim_core.specs.Ground.{AreReadersTouched, IsOrigin};
 
-use as_graph::Graph;
 use leak_round::Touched;
 use net_names::{Asn, NoMemory, Prefix, Vrp, covers};
 use origin_validation::States;
@@ -48,18 +46,18 @@ pub fn touched_ases(alloc: Global, plan: &SeedPlan, ases: &[Asn]) -> Result<Touc
     Ok(touched)
 }
 
-// Touches the ASes whose policy reads the states, for a prefix.
+// Touches those of the ASes whose policy reads the states, for a prefix.
 fn touch_readers(
     touched: &mut Touched,
-    graph: &Graph,
+    readers: &[Asn],
     book: &Book<Kind>,
     prefix: Prefix,
 ) -> Result<(), NoMemory>
-    ensures these { OnOk result ((a : ℕ) → has graph.now a ≡ true → (kind_policy (policy_at book.now a)).reads_state ≡ true → touches touched.new prefix a ≡ true) }
+    ensures these { OnOk result ((a : ℕ) → occurs a readers.now ≡ true → (kind_policy (policy_at book.now a)).reads_state ≡ true → touches touched.new prefix a ≡ true) }
     ensures more { (p : PrefixValue) (a : ℕ) → touches touched.old p a ≡ true → touches touched.new p a ≡ true }
     ensures only { (p : PrefixValue) (a : ℕ) → touches touched.new p a ≡ true → touches touched.old p a ≡ false → (p ≡ prefix) × ((kind_policy (policy_at book.now a)).reads_state ≡ true) }
 {
-    for asn in graph.ases() {
+    for asn in readers {
         if book.policy(*asn).reads_state() {
             touched.add(prefix, *asn)?;
         }
@@ -110,18 +108,18 @@ fn differs_at(vrps: &Vrps, vrp: Vrp, plan: &SeedPlan, prefix: Prefix) -> bool
     false
 }
 
-// Touches the ASes whose policy reads the states, for a prefix that the payload covers and of which the
+// Touches those of the ASes whose policy reads the states, for a prefix that the payload covers and of which the
 // state of an announced origin differs with it and without it.
 fn touch_covered(
     touched: &mut Touched,
-    graph: &Graph,
+    readers: &[Asn],
     book: &Book<Kind>,
     vrps: &Vrps,
     vrp: Vrp,
     plan: &SeedPlan,
     prefix: Prefix,
 ) -> Result<(), NoMemory>
-    ensures these { OnOk result (AreReadersTouched graph.now book.now vrps.now vrp plan.now prefix (touches touched.new prefix)) }
+    ensures these { OnOk result (AreReadersTouched readers.now book.now vrps.now vrp plan.now prefix (touches touched.new prefix)) }
     ensures more { (p : PrefixValue) (a : ℕ) → touches touched.old p a ≡ true → touches touched.new p a ≡ true }
     ensures only { (p : PrefixValue) (a : ℕ) → touches touched.new p a ≡ true → touches touched.old p a ≡ false → (covers_it vrp.prefix p ≡ true) × ((kind_policy (policy_at book.now a)).reads_state ≡ true) }
 {
@@ -131,26 +129,26 @@ fn touch_covered(
     if !differs_at(vrps, vrp, plan, prefix) {
         return Ok(());
     }
-    touch_readers(touched, graph, book, prefix)
+    touch_readers(touched, readers, book, prefix)
 }
 
-/// The ASes whose policy reads the states, for each prefix of the plan that the payload covers and of
+/// Those of the ASes whose policy reads the states, for each prefix of the plan that the payload covers and of
 /// which the state of an announced origin differs with it and without it.
 pub fn touched_readers(
     alloc: Global,
-    graph: &Graph,
+    readers: &[Asn],
     book: &Book<Kind>,
     vrps: &Vrps,
     vrp: Vrp,
     plan: &SeedPlan,
 ) -> Result<Touched, NoMemory>
-    ensures these { IfOk result (λ t. (prefix : PrefixValue) → IsTrue (has_prefix plan.now prefix) → AreReadersTouched graph.now book.now vrps.now vrp plan.now prefix (touches t prefix)) }
+    ensures these { IfOk result (λ t. (prefix : PrefixValue) → IsTrue (has_prefix plan.now prefix) → AreReadersTouched readers.now book.now vrps.now vrp plan.now prefix (touches t prefix)) }
     ensures only { IfOk result (λ t. (prefix : PrefixValue) (a : ℕ) → touches t prefix a ≡ true → (covers_it vrp.prefix prefix ≡ true) × ((kind_policy (policy_at book.now a)).reads_state ≡ true)) }
 {
     let _first = plan.prefix_at(0);
     let mut touched = Touched::new(alloc);
     for prefix in plan.prefixes() {
-        touch_covered(&mut touched, graph, book, vrps, vrp, plan, *prefix)?;
+        touch_covered(&mut touched, readers, book, vrps, vrp, plan, *prefix)?;
     }
     Ok(touched)
 }

@@ -1,6 +1,8 @@
 use Rattle.std.proofs.Common.{◌≢◌, ◌+◌, ◌∙◌, sym, ap, subst, arith}
 use Rattle.std.specs.List.{AllPairs}
+use Rattle.leak_round.specs.Rounds.{plan_of}
 use Rattle.leak_round.specs.Limits.{IsWithinLimits}
+use Rattle.sim_core.proofs.Listed.{reader_there}
 use Rattle.sim_core.proofs.Plans.{kinds_are_other}
 use Rattle.sim_core.proofs.Watches.{rows_right}
 use Rattle.sim_core.proofs.Within.{within}
@@ -22,6 +24,7 @@ watch_rounds-requires-clause-stable g c = (c.args.vrps, stable_rounds c.in-Ok.gr
 pub invariant_of-result : goal.invariant_of-result
 invariant_of-result g c = record {
   watching = rw c.deref.ensures.value at c.in-Ok-watch_rounds.ensures.addrs;
+  reading = λ a reads. c.in-Ok-readers_of.ensures a (reader_there c.in-Ok.graph (plan_of c.in-Ok-rounds_of.rounds) c.in-Ok-policies.book a (marks_are c.args.links.now c.args.vrps c.args.scenario.now c.in-Ok.graph c.in-Ok-policies.book c.in-Ok-rounds_of.rounds c.in-Ok.ensures.0 c.in-Ok-policies.ensures.named c.in-Ok-rounds_of.ensures.rounds.plan_is c.in-Ok-rounds_of.ensures.rounds.count_is c.in-Ok-watched_addrs.watched.items c.in-Ok-watched_addrs.ensures.value) c.in-Ok-policies.ensures.rest reads) reads;
   closed = c.in-Ok-rounds_of.ensures.closed;
   once = subst (AllPairs (λ a b. a ≢ b)) (sym c.in-Ok-watched_addrs.ensures.value) c.in-Ok-watched_addrs.ensures.once;
   named = marks_are c.args.links.now c.args.vrps c.args.scenario.now c.in-Ok.graph c.in-Ok-policies.book c.in-Ok-rounds_of.rounds c.in-Ok.ensures.0 c.in-Ok-policies.ensures.named c.in-Ok-rounds_of.ensures.rounds.plan_is c.in-Ok-rounds_of.ensures.rounds.count_is c.in-Ok-watched_addrs.watched.items c.in-Ok-watched_addrs.ensures.value;

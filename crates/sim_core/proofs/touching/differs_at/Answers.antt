@@ -5,7 +5,7 @@ use Rattle.net_names.specs.Numbers.{last_or}
 use Rattle.origin_validation.specs.Judging.{state_of}
 use Rattle.roa_table.specs.Sets.{taken}
 use Rattle.stability_laws.specs.Plans.{announced_path}
-use Rattle.sim_core.proofs.Readers.{place_or}
+use Rattle.sim_core.proofs.Listed.{place_or}
 use Rattle.sim_core.proofs.Renewals.{read_at}
 use Rattle.sim_core.proofs.touching.differs_at.Goals as goal
 

@@ -2,7 +2,7 @@ use Rattle.std.proofs.Common.{◌≡◌, ◌∙◌, ◌<◌, List, Some, length,
 use Rattle.std.specs.Prelude.{slice_get}
 use Rattle.std.proofs.lemmas.Option.{slice_get_within}
 use Rattle.net_names.specs.Prefixes.{PrefixValue}
-use Rattle.sim_core.proofs.Readers.{more_covered, more_read}
+use Rattle.sim_core.proofs.Listed.{more_covered, more_read}
 use Rattle.sim_core.proofs.Renewals.{read_at}
 use Rattle.sim_core.proofs.touching.touched_readers.Goals as goal
 
@@ -14,7 +14,7 @@ loop-prefix-preserved c =
     let inv = c.loop-prefix.invariant in
     record {
       only = more_read c.loop-prefix.touched c.touch_covered.new.touched c.args.vrp.prefix c.args.book.now inv.only c.touch_covered.ensures.only;
-      these = more_covered c.args.graph.now c.args.book.now c.args.vrps.now c.args.vrp c.args.plan.now xs i p c.loop-prefix.touched c.touch_covered.new.touched (read_at xs i p c.loop-prefix-test.true c.prefix-item.is) inv.these c.touch_covered.ensures.more c.in_ok-touch_covered.ensures.these;
+      these = more_covered c.args.readers.now c.args.book.now c.args.vrps.now c.args.vrp c.args.plan.now xs i p c.loop-prefix.touched c.touch_covered.new.touched (read_at xs i p c.loop-prefix-test.true c.prefix-item.is) inv.these c.touch_covered.ensures.more c.in_ok-touch_covered.ensures.these;
     }
 
 pub returns-clause-these : goal.returns-clause-these

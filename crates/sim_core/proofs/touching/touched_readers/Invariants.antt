@@ -11,5 +11,5 @@ use Rattle.sim_core.proofs.touching.touched_readers.Given as goal
 abbrev pub invariant-loop-prefix : goal.invariant-loop-prefix
 invariant-loop-prefix l = record {
   only : (p : PrefixValue) (a : ℕ) → touches l.touched p a ≡ true → (covers l.vrp.prefix p ≡ true) × ((kind_policy (policy_at l.book a)).reads_state ≡ true);
-  these : (place : ℕ) (p : PrefixValue) → place < l.prefix-index → slice_get l.prefix-items place ≡ Some p → AreReadersTouched l.graph l.book l.vrps l.vrp l.plan p (touches l.touched p);
+  these : (place : ℕ) (p : PrefixValue) → place < l.prefix-index → slice_get l.prefix-items place ≡ Some p → AreReadersTouched l.readers l.book l.vrps l.vrp l.plan p (touches l.touched p);
 }

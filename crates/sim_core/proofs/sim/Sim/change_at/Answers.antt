@@ -43,6 +43,7 @@ invariant_of-self g c =
       small = subst IsWithinLimits (sym plan) s.small;
       few = subst (λ (n : ℕ). n ≤ 4) (sym c.change.ensures.count) s.few;
       closed = c.change.ensures.closed;
+      reading = s.reading;
       once = s.once;
       watching = subst (λ (n : ℕ). HasWatches n s.watched.items c.change.new.watches.items) (sym c.change.ensures.count) (has_watches (round_count s.rounds) s.watched.items s.watches.items c.change.new.watches.items c.change.ensures.addrs s.watching);
     }

@@ -18,7 +18,7 @@ change_at-requires-clause-from g c =
       ground_less s (Some c.args.vrp),
       c.requires.from,
       payload_differs (ground_less s (Some c.args.vrp)) (ground_less s None) s.rounds (touches c.in_ok-touched.touched) refl refl
-          (λ p known a there reads free origin is. sym (c.in_ok-touched.ensures.these p known a there reads free origin is)),
+          (λ p known a there reads free origin is. sym (c.in_ok-touched.ensures.these p known a (s.reading a reads) reads free origin is)),
     )
 
 pub returns-clause-quick : goal.returns-clause-quick

@@ -5,7 +5,7 @@ use Rattle.sim_core.specs.Editing.{ground_of}
 use Rattle.sim_core.specs.Sims.{world_seen}
 use Rattle.sim_core.proofs.Doing.{allowed_by, begun_belongs, changed_done, small_world}
 use Rattle.sim_core.proofs.Grounds.{quick_done}
-use Rattle.sim_core.proofs.Given.{touched_policy, back_accepted, begun_rest, begun_world, given_no_cycle, policy_differs, policy_undone}
+use Rattle.sim_core.proofs.Given.{touched_policy, back_accepted, begun_rest, begun_world, given_no_cycle, policy_differs, policy_undone, still_listed}
 use Rattle.sim_core.proofs.sim.Sim.edit_policy.Goals as goal
 
 pub change_at-requires-clause-no_cycle : goal.change_at-requires-clause-no_cycle
@@ -45,3 +45,6 @@ returns-in-Ok-change_at-clause-quick g c =
     quick_done c.args.self.now c.give.new.self c.change_at.new.self (Policy c.args.asn c.args.kind) (touches c.in-Ok.touched) c.args.steps.now c.change_at.new.steps c.in-Ok-change_at.ensures.quick
     (begun_rest c.args.self.now c.make_room.new.self c.give.new.self c.args.asn c.args.kind c.in-Ok-make_room.ensures.ok c.in-Ok-give.ensures.ok).rounds c.in-Ok-change_at.ensures.changed.graph
     (λ p x there. touched_policy c.args.self.now c.args.asn c.args.kind p x (c.in-Ok.ensures.only p x there))
+
+pub give_back-requires-clause-listed : goal.give_back-requires-clause-listed
+give_back-requires-clause-listed g c = still_listed c.args.self.now c.make_room.new.self c.give.new.self c.change_at.new.self c.args.asn c.args.kind c.kind_of-was.result c.kind_of-was.ensures c.in-Ok-make_room.ensures.ok c.in-Ok-give.ensures.ok c.in-Err-change_at.ensures.err

@@ -1,4 +1,4 @@
-use Rattle.std.proofs.Common.{◌≡◌, ◌∙◌, cond, sym, ap, subst}
+use Rattle.std.proofs.Common.{◌≡◌, ◌∙◌, cond, unwrap_or, sym, ap, subst}
 use Rattle.std.specs.Ordering.{nat_cmp}
 use Rattle.std.specs.FinMap as fin
 use Rattle.std.specs.FinSet as set
@@ -7,11 +7,13 @@ use Rattle.as_graph.specs.Refusals.{IsMarkRefusal}
 use Rattle.as_graph.specs.Topology.{Topology, as_count}
 use Rattle.as_graph.specs.declared.error.GraphError.{GraphError}
 use Rattle.leak_round.specs.Rounds.{plan_of}
+use Rattle.policy_kinds.specs.Kinds.{kind_policy}
 use Rattle.policy_kinds.specs.declared.kind.Kind.{Kind}
 use Rattle.stability_laws.specs.Book.{PolicyBook}
 use Rattle.sim_core.specs.World.{graph_of, named}
 use Rattle.sim_core.proofs.Given.{too_many_named}
 use Rattle.sim_core.proofs.Marks.{one_too_many}
+use Rattle.sim_core.proofs.Listed.{reading_with}
 use Rattle.sim_core.proofs.PolicyEdits.{AreOther, given_other, named_other}
 use Rattle.sim_core.proofs.sim.Sim.give_other.Goals as goal
 
@@ -28,6 +30,7 @@ invariant_of-self c =
       small = s.small;
       few = s.few;
       closed = s.closed;
+      reading = λ a reads. reading_with s.book.named c.set.new.self.named s.book.rest c.args.asn c.args.kind s.readers.ases set_is s.reading c.requires.listed a (ap (λ (r : Kind). (kind_policy (unwrap_or (fin.get c.set.new.self.named a) r)).reads_state) (sym (ap (λ (b : PolicyBook Kind). b.rest) c.set.ensures)) ∙ reads);
       once = s.once;
       watching = s.watching;
     }

@@ -1,4 +1,4 @@
-use Rattle.std.proofs.Common.{◌≡◌, ◌∙◌, ◌||◌, ℕ, Bool, true, false, cond, refl, sym, ap, subst}
+use Rattle.std.proofs.Common.{◌≡◌, ◌∙◌, ◌||◌, ℕ, Bool, true, false, cond, unwrap_or, refl, sym, ap, subst}
 use Rattle.std.specs.Ordering.{nat_cmp}
 use Rattle.std.specs.FinMap as fin
 use Rattle.std.specs.FinSet as set
@@ -7,10 +7,12 @@ use Rattle.net_names.specs.Numbers.{occurs}
 use Rattle.as_graph.specs.Edits.{without_mark}
 use Rattle.as_graph.specs.Topology.{Topology}
 use Rattle.leak_round.specs.Rounds.{plan_of}
+use Rattle.policy_kinds.specs.Kinds.{kind_policy}
 use Rattle.policy_kinds.specs.declared.kind.Kind.{Kind}
 use Rattle.stability_laws.specs.Book.{PolicyBook}
 use Rattle.stability_laws.specs.Plans.{Plan, announcers_of}
 use Rattle.sim_core.specs.World.{graph_of, leakers, named}
+use Rattle.sim_core.proofs.Listed.{reading_without}
 use Rattle.sim_core.proofs.PolicyEdits.{AreOther, named_plain, taken_other}
 use Rattle.sim_core.proofs.sim.Sim.give_plain.Goals as goal
 
@@ -41,6 +43,7 @@ invariant_of-self c =
       small = s.small;
       few = s.few;
       closed = s.closed;
+      reading = λ x reads. reading_without s.book.named c.clear.new.self.named s.book.rest a s.readers.ases cleared s.plain s.reading x (ap (λ (r : Kind). (kind_policy (unwrap_or (fin.get c.clear.new.self.named x) r)).reads_state) (sym (ap (λ (b : PolicyBook Kind). b.rest) c.clear.ensures)) ∙ reads);
       once = s.once;
       watching = s.watching;
     }

@@ -18,7 +18,7 @@ own a = ap (λ t. t || (a == a)) (eq-eqb a a refl)
 
 pub returns-in_err-room-clause-err : goal.returns-in_err-room-clause-err
 returns-in_err-room-clause-err c =
-    on_err c.from_residual.result (vrps_undone c.args.self.now _ refl (ap (λ (b : PolicyBook Kind). b.named) c.in_err-room.ensures.err) refl (record { ranks = refl; rounds = refl; watched = refl; watches = refl }))
+    on_err c.from_residual-in_err-room.result (vrps_undone c.args.self.now _ refl (ap (λ (b : PolicyBook Kind). b.named) c.in_err-room.ensures.err) refl (record { ranks = refl; rounds = refl; watched = refl; watches = refl }))
 
 pub returns-in-Ok-clause-ok : goal.returns-in-Ok-clause-ok
 returns-in-Ok-clause-ok c = record {
@@ -27,6 +27,10 @@ returns-in-Ok-clause-ok c = record {
   graph_room = ap (λ (t : Topology). is_room_with t.room c.args.asn) c.in-Ok.ensures.ok ∙ own c.args.asn;
   named = ap (λ (b : PolicyBook Kind). b.named) c.in_ok-room.ensures.ok;
   book_room = subst (λ (b : PolicyBook Kind). IsTrue (set.contains b.room c.args.asn)) (sym c.in_ok-room.ensures.ok) (has_room c.args.self.now.book.room c.args.asn);
+  readers = c.list_if_reads.ensures.more;
   vrps = refl;
   rest = record { ranks = refl; rounds = refl; watched = refl; watches = refl };
 }
+
+pub returns-in_err-list_if_reads-clause-err : goal.returns-in_err-list_if_reads-clause-err
+returns-in_err-list_if_reads-clause-err c = on_err c.from_residual.result (vrps_undone c.args.self.now _ refl refl refl (record { ranks = refl; rounds = refl; watched = refl; watches = refl }))

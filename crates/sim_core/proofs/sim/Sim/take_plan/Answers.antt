@@ -73,6 +73,7 @@ invariant_of-self-in-Ok-change g c =
       small = subst IsWithinLimits (sym plan) (new_limits s c.args.edit.now c.args.plan.now a t c.set_mark.new.graph c.requires.accepted c.requires.plan c.asn_of-asn.ensures c.is_named-is.ensures graph);
       few = subst (λ (n : ℕ). n ≤ 4) (sym c.change.ensures.count) s.few;
       closed = c.change.ensures.closed;
+      reading = s.reading;
       once = s.once;
       watching = subst (λ (n : ℕ). HasWatches n s.watched.items c.change.new.watches.items) (sym c.change.ensures.count) (has_watches (round_count s.rounds) s.watched.items s.watches.items c.change.new.watches.items c.change.ensures.addrs s.watching);
     }
@@ -100,6 +101,7 @@ invariant_of-self-in-Err-change g c =
       small = subst IsWithinLimits (sym alike.plan) s.small;
       few = subst (λ (n : ℕ). n ≤ 4) (sym alike.count) s.few;
       closed = c.change.ensures.closed;
+      reading = s.reading;
       once = s.once;
       watching = subst (λ (n : ℕ). HasWatches n s.watched.items c.change.new.watches.items) (sym alike.count) (has_watches (round_count s.rounds) s.watched.items s.watches.items c.change.new.watches.items c.change.ensures.addrs s.watching);
     }

@@ -15,7 +15,7 @@ pub change_at-requires-clause-from : goal.change_at-requires-clause-from
 change_at-requires-clause-from g c =
     let s = c.args.self.now in
     let now : Ground = record { graph = s.graph; payloads = taken s.vrps c.args.vrp; book = s.book } in
-    (ground_of s, belongs s c.requires.kept c.requires.no_cycle, payload_differs (ground_of s) now s.rounds (touches c.in-Ok.touched) refl refl c.in-Ok.ensures.these)
+    (ground_of s, belongs s c.requires.kept c.requires.no_cycle, payload_differs (ground_of s) now s.rounds (touches c.in-Ok.touched) refl refl (λ p known a there reads. c.in-Ok.ensures.these p known a (s.reading a reads) reads))
 
 pub returns-in-Err-clause-edited : goal.returns-in-Err-clause-edited
 returns-in-Err-clause-edited g c = (tt, record { world = unchanged_world c.args.self.now c.change_at.new.self c.in-Err.ensures.err; same_kept = unchanged_kept c.args.self.now c.change_at.new.self c.in-Err.ensures.err })
