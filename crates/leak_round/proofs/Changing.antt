@@ -25,7 +25,7 @@ use Rattle.route_choice.specs.Tables.{held_at, seed_at}
 use Rattle.leak_round.specs.declared.announced.Announced.{Announced}
 use Rattle.leak_round.specs.declared.changes.Change.{Change}
 use Rattle.leak_round.specs.Announced.{own_path, own_seed}
-use Rattle.leak_round.specs.Differing.{AreWrong}
+use Rattle.leak_round.specs.Differing.{AreWrong, AreWrongIn}
 use Rattle.leak_round.specs.Leaked.{leaked_by, own_or_leaked, AreSeedsWith}
 use Rattle.leak_round.specs.Overlays.{change_in, held_of, held_with, laid_in, table_in, changes_uses}
 use Rattle.leak_round.specs.Planning.{CanPlan, CanPlanTable, ArePlanned, IsTurn}
@@ -53,6 +53,13 @@ module _ (w : PrefixValue → Setting) (g : Topology) (touched : PrefixValue →
           let some = positive rounds y.round y.prefix f.table f.at in
           absurd (omega (arith, parts.0, some))
 
+  -- the paths of the seeds before the edit are live, and so are those of the seeds after it
+  pub live_before : (round : ℕ) (prefix : PrefixValue) (seeds : SeedIds) → AreSeedsWith plan xs rounds [] round prefix seeds → AreSeedsLive pool seeds
+  live_before round prefix seeds put = seeds_live pool plan xs rounds [] round prefix seeds put can.announced (λ a h e. held_of-live pool plan rounds can.full (round - 1) prefix a h e)
+
+  pub live_after : (round : ℕ) (prefix : PrefixValue) (seeds : SeedIds) → AreSeedsWith after ys rounds cs round prefix seeds → AreSeedsLive pool seeds
+  live_after round prefix seeds put = seeds_live pool after ys rounds cs round prefix seeds put can.announced_after (λ a h e. held_with-live pool rounds cs held (round - 1) prefix a h e)
+
   module _ (round : ℕ) (prefix : PrefixValue) (turn : IsTurn plan (length rounds) cs round prefix) (was seeds : SeedIds) (was_put : AreSeedsWith plan xs rounds [] round prefix was) (put : AreSeedsWith after ys rounds cs round prefix seeds) where
     known_after : IsTrue (has_prefix after prefix)
     known_after = can.prefixes prefix ∙ turn.known
@@ -66,12 +73,6 @@ module _ (w : PrefixValue → Setting) (g : Topology) (touched : PrefixValue →
     -- the seeds after the edit
     pub now_are : (a : ℕ) → seeds_of pool seeds a ≡ seeds_in after round prefix (laid_in pool rounds cs (round - 1) prefix) a
     now_are a = seeds_are pool after ys rounds cs round prefix seeds put can.announced_after (none_first prefix) known_after a
-
-    pub was_live : AreSeedsLive pool was
-    was_live = seeds_live pool plan xs rounds [] round prefix was was_put can.announced (λ a h e. held_of-live pool plan rounds can.full (round - 1) prefix a h e)
-
-    pub now_live : AreSeedsLive pool seeds
-    now_live = seeds_live pool after ys rounds cs round prefix seeds put can.announced_after (λ a h e. held_with-live pool rounds cs held (round - 1) prefix a h e)
 
     away : (b : ℕ) → has g b ≡ false → held_with rounds cs (round - 1) prefix b ≡ None
     away b not = elim (cases_lt 1 round) [
@@ -111,7 +112,15 @@ module _ (w : PrefixValue → Setting) (g : Topology) (touched : PrefixValue →
               entries = λ b not out. unmapped (entry_of pool) (held_at t b) (kept_here b ∙ can.entries round prefix b turn.from turn.to turn.known not (wrong.untouched b out));
               right = right_at;
               at_ases = nowhere;
-              seeds_live = now_live;
+              seeds_live = live_after round prefix seeds put;
               entries_live = (can.full round r is).live prefix t here;
               held = λ k. omega (arith, held k, table_uses_in rounds round prefix t at k);
             }
+
+-- so it can with the ASes that were found to be wrong
+pub can_found : (w : PrefixValue → Setting) (g : Topology) (touched : PrefixValue → ℕ → Bool) (plan after : Plan) (xs ys : List Announced) (pool : PathPool) (rounds : List RoundTables) (cs : List Change) (first last : ℕ)
+    → CanPlan w g touched plan after xs ys pool rounds → ((k : ℕ) → entry_uses rounds k + changes_uses cs k ≤ holds_of pool k) → ArePlanned w g touched plan after pool rounds cs first last
+    → (round : ℕ) (prefix : PrefixValue) → IsTurn plan (length rounds) cs round prefix → (seeds : SeedIds) (ases : List ℕ) → AreWrongIn plan after xs ys rounds cs round prefix (touched prefix) pool seeds ases
+    → (t : Table) → table_in rounds round prefix ≡ Some t → CanPlanTable (w prefix) g prefix seeds ases pool t
+can_found w g touched plan after xs ys pool rounds cs first last can held so_far round prefix turn seeds ases wrong t at =
+    can_table w g touched plan after xs ys pool rounds cs first last can held so_far round prefix turn wrong.was seeds wrong.was_put wrong.put t at ases wrong.wrong

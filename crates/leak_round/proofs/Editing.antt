@@ -69,7 +69,7 @@ module _ (prefix : PrefixValue) (a : ℕ) where
       by true is rest = rest
       by false is rest = ap (λ c. fold (step prefix a) (cond c (Some x.path) before) (others_of prefix a xs)) is ∙ rest
 
-  others_own : (p : PrefixValue) (b : ℕ) → ((x : Announced) → is_of prefix a x ≡ true → is_of p b x ≡ false) → (xs : List Announced) (before : Option PathId) → fold (step p b) before (others_of prefix a xs) ≡ fold (step p b) before xs
+  pub others_own : (p : PrefixValue) (b : ℕ) → ((x : Announced) → is_of prefix a x ≡ true → is_of p b x ≡ false) → (xs : List Announced) (before : Option PathId) → fold (step p b) before (others_of prefix a xs) ≡ fold (step p b) before xs
   others_own p b apart [] before = refl
   others_own p b apart (x ∷ xs) before = by (is_of prefix a x) refl (λ found. others_own p b apart xs found)
     where

@@ -20,6 +20,7 @@ mod Turns
 mod Telling
 mod Closing
 mod Editing
+mod Owning
 mod Ordering
 mod Tidying
 mod Sizes

@@ -28,11 +28,11 @@ use Rattle.route_choice.proofs.Lists.{entries_same}
 use Rattle.leak_round.specs.declared.announced.Announced.{Announced}
 use Rattle.leak_round.specs.declared.changes.Change.{Change}
 use Rattle.leak_round.specs.Bounds.{IsCountedAt, IsCountedIn}
-use Rattle.leak_round.specs.Differing.{AreWrong}
+use Rattle.leak_round.specs.Differing.{AreWrong, AreWrongIn}
 use Rattle.leak_round.specs.Entries.{StandsIn}
 use Rattle.leak_round.specs.Leaked.{AreSeedsWith}
 use Rattle.leak_round.specs.Overlays.{is_at, change_in, held_of, held_with, laid_in, changes_uses, FitsIn, IsListed, AreChangesOf}
-use Rattle.leak_round.specs.Planning.{CanPlan, ArePlanned, AreRoomed, AreSame, IsAdded, IsDone, IsPaid, IsTablePlanned, IsTurn, is_changed_in, course_of, is_planned}
+use Rattle.leak_round.specs.Planning.{CanPlan, ArePlanned, AreRoomed, AreSame, IsAdded, IsDone, IsPaid, IsTableAdded, IsTablePlanned, IsTurn, is_changed_in, course_of, is_planned}
 use Rattle.leak_round.specs.Tables.{kept_in, entry_uses}
 use Rattle.leak_round.proofs.AllRounds.{got_before}
 use Rattle.leak_round.proofs.Changing.{kept_here, now_are, was_are}
@@ -218,6 +218,16 @@ module _ (w : PrefixValue → Setting) (g : Topology) (touched : PrefixValue →
     ];
     enough = omega (arith, planned.enough.enough, so_far.enough, length-append (map triple planned.enough.ases) so_far.triples, length-map planned.enough.ases triple);
   }
+
+-- so it is where the changes of the table stand behind the others
+pub planned_added : (w : PrefixValue → Setting) (g : Topology) (touched : PrefixValue → ℕ → Bool) (plan after : Plan) (xs ys : List Announced) (pool : PathPool) (rounds : List RoundTables) (cs : List Change) (first last : ℕ)
+    → CanPlan w g touched plan after xs ys pool rounds → ((k : ℕ) → entry_uses rounds k + changes_uses cs k ≤ holds_of pool k) → ArePlanned w g touched plan after pool rounds cs first last
+    → (round : ℕ) (prefix : PrefixValue) → IsTurn plan (length rounds) cs round prefix → (seeds : SeedIds) (ases : List ℕ) → AreWrongIn plan after xs ys rounds cs round prefix (touched prefix) pool seeds ases
+    → (pool' : PathPool) (rounds' : List RoundTables) (cs' : List Change) (next : ℕ) → AreSame rounds rounds' → IsTableAdded (w prefix) g seeds ases pool pool' rounds rounds' cs cs' round prefix last next → ArePlanned w g touched plan after pool' rounds' cs' first next
+planned_added w g touched plan after xs ys pool rounds cs first last can held so_far round prefix turn seeds ases wrong pool' rounds' cs' next same made =
+    let x : Change = record { round = round; prefix = prefix; overlay = made.overlay } in
+    subst (λ (zs : List Change). ArePlanned w g touched plan after pool' rounds' zs first next) (sym made.items)
+    (planned_more w g touched plan after xs ys pool rounds cs first last can held so_far x turn wrong.was seeds wrong.was_put wrong.put pool' rounds' ases wrong.wrong made.roomed same next made.planned)
 
 -- and what they cost
 pub paid_more : (w : Setting) (g : Topology) (seeds : SeedIds) (ases : List ℕ) (pool pool' : PathPool) (t t' : Table) (first last : ℕ) (cs : List Change) (x : Change) → IsTablePlanned w g seeds ases pool pool' t t' first last x.overlay → IsPaid pool pool' cs (cs ++ x ∷ []) 1

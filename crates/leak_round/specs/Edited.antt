@@ -92,3 +92,7 @@ pub record IsEdited (old new : PathPool) (plan : Plan) (edit : Option SeedEdit) 
   pub keeps : KeepsPaths old new
   pub cells : live_count new ≤ live_count old + new_numbers o
   pub counts : (k : ℕ) → count_of new k ≤ count_of old k + 129
+
+-- the prefix of which an announcement is edited, if one is (own rule)
+abbrev pub prefix_edited : Option EditedSeeds → Option PrefixValue
+prefix_edited edited = option_map (λ e. e.prefix) edited

@@ -6,6 +6,7 @@ pub mod Changes
 pub mod Tables
 pub mod Touched
 pub mod Overlays
+pub mod OwnSeeds
 pub mod Leaked
 pub mod Differing
 pub mod Bounds

@@ -1,5 +1,5 @@
 -- What a plan of rounds needs, and what it has come to so far.
-use Rattle.std.specs.Prelude.{◌≡◌, ◌≢◌, ◌⊎◌, ℕ, ◌+◌, ◌-◌, ◌*◌, ◌≤◌, Bool, true, false, IsTrue, is_some, Option, None, Some, List, length}
+use Rattle.std.specs.Prelude.{◌≡◌, ◌≢◌, ◌⊎◌, ℕ, ◌+◌, ◌-◌, ◌*◌, ◌≤◌, Bool, true, false, IsTrue, is_some, Option, None, Some, List, [], ◌∷◌, ◌++◌, length}
 use Rattle.std.specs.List.{list_any}
 use Rattle.net_names.specs.Numbers.{occurs}
 use Rattle.net_names.specs.Prefixes.{PrefixValue}
@@ -145,3 +145,10 @@ pub record IsAdded (old new : List Change) (round : ℕ) (prefix : PrefixValue) 
   pub this : is_planned new round prefix ≡ true
   pub kept : (r : ℕ) (p : PrefixValue) → is_planned old r p ≡ true → is_planned new r p ≡ true
   pub only : (r : ℕ) (p : PrefixValue) → is_planned new r p ≡ true → (is_planned old r p ≡ true) ⊎ ((r ≡ round) × (p ≡ prefix))
+
+-- the changes of the table of the prefix in the round stand behind the others: it is planned for these seeds and ASes, and the other tables are as before (own rule)
+pub record IsTableAdded (w : Setting) (g : Topology) (seeds : SeedIds) (ases : List ℕ) (pool pool' : PathPool) (rounds rounds' : List RoundTables) (xs ys : List Change) (round : ℕ) (prefix : PrefixValue) (first last : ℕ) : Type 0 where
+  pub overlay : Overlay
+  pub items : ys ≡ xs ++ record { round = round; prefix = prefix; overlay = overlay } ∷ []
+  pub roomed : AreRoomed rounds rounds' round prefix
+  pub planned : IsTablePlanned w g seeds ases pool pool' roomed.was roomed.now first last overlay

@@ -1,17 +1,23 @@
 //! Which ASes may hold something wrong after an edit: the touched ones, and those whose seed differs.
 
-ghost use Rattle.std.specs.Prelude.{◌≡◌, ◌↔◌, IsTrue, Some, IfOk, OnOk, option_map};
+ghost use Rattle.std.specs.Prelude.{◌≡◌, ◌↔◌, ◌≤◌, IsTrue, Some, [], IfOk, OnOk, option_map};
 ghost use Rattle.path_pool.specs.Pool.{IsLive, list_of};
 ghost use Rattle.route_choice.specs.declared.held.SeedHeld.{SeedHeld as ASeed};
+ghost use Rattle.route_choice.specs.declared.seeds.SeedIds.{SeedIds as SomeSeeds};
 ghost use Rattle.route_choice.specs.Resources.{AreSeedsLive};
 ghost use Rattle.route_choice.specs.Routings.{seed_of};
 ghost use Rattle.leak_round.specs.Touched.{touches};
-ghost use Rattle.leak_round.specs.Differing.{AddsDiffering, AreWrong};
+ghost use Rattle.leak_round.specs.Differing.{AddsDiffering, AreWrong, AreWrongIn};
+ghost use Rattle.leak_round.specs.Leaked.{AreSeedsWith};
 
+use crate::announced::Announced;
+use crate::changes::Change;
+use crate::round_seeds::seeds_with;
 use crate::touched::Touched;
 use net_names::{Asn, NoMemory, Prefix};
 use path_pool::{PathId, PathPool};
-use route_choice::{SeedHeld, SeedIds};
+use route_choice::{RoundTables, SeedHeld, SeedIds};
+use stability_laws::SeedPlan;
 use std::alloc::Global;
 
 fn same_numbers(a: &[Asn], b: &[Asn]) -> bool
@@ -95,7 +101,7 @@ fn add_differing(
 }
 
 // The ASes that are touched for a prefix, and those whose seeds differ before and after.
-pub fn wrong_ases(
+fn wrong_ases(
     alloc: Global,
     pool: &PathPool,
     touched: &Touched,
@@ -111,4 +117,38 @@ pub fn wrong_ases(
     add_differing(alloc, pool, old, new, old.ases(), &mut ases)?;
     add_differing(alloc, pool, old, new, new.ases(), &mut ases)?;
     Ok(ases)
+}
+
+// The seeds of a prefix in a round after an edit, and the ASes that are touched for the prefix or had
+// another seed before.
+pub fn seeds_and_wrong(
+    alloc: Global,
+    plan: &SeedPlan,
+    announced: &[Announced],
+    after: &SeedPlan,
+    announced_after: &[Announced],
+    touched: &Touched,
+    tables: &[RoundTables],
+    changes: &[Change],
+    round: u32,
+    prefix: Prefix,
+    pool: &PathPool,
+) -> Result<(SeedIds, Vec<Asn>), NoMemory>
+    requires from { 1 ≤ round }
+    requires before { (seeds : SomeSeeds) → AreSeedsWith plan.now announced.now tables.now [] round prefix seeds → AreSeedsLive pool.now seeds }
+    requires after { (seeds : SomeSeeds) → AreSeedsWith after.now announced_after.now tables.now changes.now round prefix seeds → AreSeedsLive pool.now seeds }
+    ensures { IfOk result (λ r. AreWrongIn plan.now after.now announced.now announced_after.now tables.now changes.now round prefix (touches touched.now prefix) pool.now r.0 r.1.items) }
+{
+    let before = seeds_with(alloc, plan, announced, tables, &[], round, prefix)?;
+    let seeds = seeds_with(
+        alloc,
+        after,
+        announced_after,
+        tables,
+        changes,
+        round,
+        prefix,
+    )?;
+    let ases = wrong_ases(alloc, pool, touched, prefix, &before, &seeds)?;
+    Ok((seeds, ases))
 }

@@ -11,11 +11,13 @@ ghost use Rattle.leak_round.specs.declared.announced.Announced.{Announced as AnA
 ghost use Rattle.leak_round.specs.Limits.{IsWithinLimits};
 ghost use Rattle.leak_round.specs.Announced.{is_of, announced_uses, AreAnnounced};
 ghost use Rattle.leak_round.specs.Growth.{KeepsPaths};
+ghost use Rattle.leak_round.specs.OwnSeeds.{AreOwnSeeds, AreOthersKept};
 ghost use Rattle.leak_round.specs.Edited.{edited_uses, given_up, others_of, AreHeldToo, EndsWithPath, AreSeedsOf, edit_numbers, AreMade};
 
 use crate::announced::{Announced, hold_all, release_all};
 use net_names::{Asn, NoMemory, Path, Prefix};
 use path_pool::PathPool;
+use route_choice::SeedIds;
 use stability_laws::{SeedEdit, SeedPlan};
 use std::alloc::Global;
 
@@ -24,23 +26,28 @@ use std::alloc::Global;
 pub struct EditedSeeds {
     pub plan: SeedPlan,
     pub announced: Vec<Announced>,
+    /// The prefix of which an announcement is edited.
+    pub prefix: Prefix,
     /// The AS whose announcement is edited.
     pub asn: Asn,
     /// How many numbers the newly announced path has; 0 where an announcement goes.
     pub numbers: usize,
 }
 
-// Takes the other plan of seeds, where there is one, in place of this one, and gives back the holds of the
-// paths that this one announces.
+// Takes the other plan of seeds, where there is one, in place of this one, gives back the holds of the
+// paths that this one announces, and forgets the seeds that its announcements make.
 pub fn take_seeds(
     edited: Option<EditedSeeds>,
     plan: &mut SeedPlan,
     announced: &mut Vec<Announced>,
+    own: &mut Vec<SeedIds>,
     pool: &mut PathPool,
 )
-    requires { (k : ℕ) → announced_uses announced.old.items k ≤ holds_of pool.old k }
+    requires held { (k : ℕ) → announced_uses announced.old.items k ≤ holds_of pool.old k }
+    requires own { AreOwnSeeds plan.old announced.old.items own.old.items }
     ensures plan { plan.new ≡ option_map_or (λ e. e.plan) edited plan.old }
     ensures announced { announced.new.items ≡ option_map_or (λ e. e.announced.items) edited announced.old.items }
+    ensures own { AreOwnSeeds plan.new announced.new.items own.new.items }
     ensures holds { (k : ℕ) → holds_of pool.new k + given_up edited announced.old.items k ≡ holds_of pool.old k }
     ensures back { GivesBack pool.old pool.new }
 {
@@ -49,6 +56,7 @@ pub fn take_seeds(
             release_all(announced.as_slice(), pool);
             *plan = seeds.plan;
             *announced = seeds.announced;
+            own.clear();
         }
         None => {}
     }
@@ -148,6 +156,7 @@ fn announce_anew(
     requires announced { AreAnnounced pool.old plan.now announced.now }
     requires counts { (k : ℕ) → count_of pool.old k ≤ 4000000000 }
     ensures made { IfOk result (AreMade pool.old pool.new plan.now after (announcer_of path.now) (length path.now)) }
+    ensures others { IfOk result (λ e. AreOthersKept (Some e.prefix) announced.now e.announced.items) }
     ensures err { OnErr result (IsUndone pool.old pool.new) }
     ensures limit { limit_of pool.new ≡ limit_of pool.old }
 {
@@ -158,6 +167,7 @@ fn announce_anew(
         Ok(()) => Ok(EditedSeeds {
             plan: after,
             announced: others,
+            prefix,
             asn,
             numbers: numbers.len(),
         }),
@@ -181,6 +191,7 @@ fn withdraw(
     requires announced { AreAnnounced pool.old plan.now announced.now }
     requires counts { (k : ℕ) → count_of pool.old k ≤ 4000000000 }
     ensures made { IfOk result (AreMade pool.old pool.new plan.now after asn 0) }
+    ensures others { IfOk result (λ e. AreOthersKept (Some e.prefix) announced.now e.announced.items) }
     ensures err { OnErr result (IsUndone pool.old pool.new) }
     ensures limit { limit_of pool.new ≡ limit_of pool.old }
 {
@@ -189,6 +200,7 @@ fn withdraw(
     Ok(EditedSeeds {
         plan: after,
         announced: others,
+        prefix,
         asn,
         numbers: 0,
     })
@@ -211,6 +223,7 @@ pub fn edit_seeds(
     requires room { live_count pool.old + 64 ≤ limit_of pool.old }
     requires counts { (k : ℕ) → count_of pool.old k ≤ 4000000000 }
     ensures seeds { IfOk result (λ e. AreSeedsOf pool.new plan.now e) }
+    ensures others { IfOk result (λ e. AreOthersKept (Some e.prefix) announced.now e.announced.items) }
     ensures plan { IfOk result (λ e. e.plan ≡ edited plan.now edit.now) }
     ensures asn { IfOk result (λ e. e.asn ≡ edit_asn edit.now) }
     ensures numbers { IfOk result (λ e. e.numbers ≡ edit_numbers edit.now) }

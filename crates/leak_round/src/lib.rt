@@ -11,6 +11,7 @@ mod changes;
 mod differing;
 mod edited;
 mod leaked;
+mod own_seeds;
 mod planning;
 mod plans;
 mod round;

@@ -1,6 +1,6 @@
 //! The changes of the tables of all rounds after an edit, table by table.
 
-ghost use Rattle.std.specs.Prelude.{◌≡◌, ℕ, ◌+◌, ◌-◌, ◌*◌, ◌<◌, ◌≤◌, [], ◌∷◌, ◌++◌, length, OnOk};
+ghost use Rattle.std.specs.Prelude.{◌≡◌, ℕ, ◌+◌, ◌-◌, ◌*◌, ◌<◌, ◌≤◌, Some, IsSome, [], ◌∷◌, ◌++◌, length, slice_get, OnOk};
 ghost use Rattle.std.specs.Vec.{vec_capacity};
 ghost use Rattle.as_graph.specs.Topology.{what};
 ghost use Rattle.as_graph.specs.Hierarchy.{HasNoProviderCycle, IsRank};
@@ -8,24 +8,26 @@ ghost use Rattle.path_pool.specs.Pool.{holds_of};
 ghost use Rattle.rank_order.specs.Plans.{rank_after, IsLastPlan};
 ghost use Rattle.stability_laws.specs.World.{setting};
 ghost use Rattle.stability_laws.specs.Plans.{prefixes_of};
+ghost use Rattle.route_choice.specs.declared.table.Table.{Table as ATable};
 ghost use Rattle.leak_round.specs.Growth.{HasRoomFor};
-ghost use Rattle.leak_round.specs.Overlays.{changes_uses};
-ghost use Rattle.leak_round.specs.Planning.{CanPlan, ArePlanned, AreRoundsPlanned, AreSame, IsAdded, IsCutOff, IsPaid, IsTurn};
+ghost use Rattle.leak_round.specs.Overlays.{changes_uses, table_in};
+ghost use Rattle.leak_round.specs.OwnSeeds.{AreOwnSeeds, AreOthersKept};
+ghost use Rattle.leak_round.specs.Planning.{CanPlan, CanPlanTable, ArePlanned, AreRoundsPlanned, AreSame, IsAdded, IsCutOff, IsPaid, IsTableAdded, IsTurn};
 ghost use Rattle.leak_round.specs.Tables.{entry_uses};
 ghost use Rattle.leak_round.specs.Touched.{touches};
 
 use crate::announced::Announced;
 use crate::changes::Change;
-use crate::differing::wrong_ases;
-use crate::round_seeds::seeds_with;
+use crate::differing::seeds_and_wrong;
+use crate::own_seeds::unchanged_seeds;
 use crate::table_plans::plan_in_rounds;
 use crate::touched::Touched;
 use as_graph::Graph;
-use net_names::{NoMemory, Prefix};
+use net_names::{Asn, NoMemory, Prefix};
 use path_pool::PathPool;
 use policy_laws::{OriginStates, RoutePolicy};
 use rank_order::{RankPlan, Ranks};
-use route_choice::{RoundTables, Steps};
+use route_choice::{RoundTables, SeedIds, Steps};
 use stability_laws::{Book, SeedPlan};
 use std::alloc::Global;
 use std::sync::ledger::Ledger;
@@ -49,19 +51,17 @@ fn add_change(changes: &mut Vec<Change>, change: Change)
     let _ = changes.push(change);
 }
 
-// Plans the changes of the table of a prefix in a round.
-fn plan_change<P: RoutePolicy, V: OriginStates, L: Ledger>(
+// Plans the changes of the table of a prefix in a round, for these seeds, where these ASes may hold
+// something wrong.
+fn plan_with_seeds<P: RoutePolicy, V: OriginStates, L: Ledger>(
     alloc: Global,
     graph: &Graph,
     ranks: &Ranks,
     rank_plan: &RankPlan,
     book: &Book<P>,
     states: &V,
-    plan: &SeedPlan,
-    announced: &[Announced],
-    after: &SeedPlan,
-    announced_after: &[Announced],
-    touched: &Touched,
+    seeds: &SeedIds,
+    ases: &[Asn],
     tables: &mut Vec<RoundTables>,
     changes: &mut Vec<Change>,
     round: u32,
@@ -72,50 +72,18 @@ fn plan_change<P: RoutePolicy, V: OriginStates, L: Ledger>(
     requires no_cycle { HasNoProviderCycle (what graph.now) }
     requires last { IsLastPlan ranks.now rank_plan.now }
     requires ranks { (a : ℕ) → IsRank (what graph.now) a (rank_after ranks.now rank_plan.now a) }
-    requires can { CanPlan (λ p. setting P.meaning graph.now book.now (V.state_of states.now p)) graph.now (touches touched.now) plan.now after.now announced.now announced_after.now pool.old tables.old.items }
-    requires held { (k : ℕ) → entry_uses tables.old.items k + changes_uses changes.old.items k ≤ holds_of pool.old k }
+    requires there { IsSome (table_in tables.old.items round prefix) }
+    requires can { (t : ATable) → table_in tables.old.items round prefix ≡ Some t → CanPlanTable (setting P.meaning graph.now book.now (V.state_of states.now prefix)) graph.now prefix seeds.now ases.now pool.old t }
     requires room { HasRoomFor pool.old 1 }
-    requires so_far { (first : ℕ) × ArePlanned (λ p. setting P.meaning graph.now book.now (V.state_of states.now p)) graph.now (touches touched.now) plan.now after.now pool.old tables.old.items changes.old.items first steps.old }
-    requires turn { IsTurn plan.now (length tables.old.items) changes.old.items round prefix }
-    ensures planned { OnOk result ((first : ℕ) → ArePlanned (λ p. setting P.meaning graph.now book.now (V.state_of states.now p)) graph.now (touches touched.now) plan.now after.now pool.old tables.old.items changes.old.items first steps.old → ArePlanned (λ p. setting P.meaning graph.now book.now (V.state_of states.now p)) graph.now (touches touched.now) plan.now after.now pool.new tables.new.items changes.new.items first steps.new) }
+    ensures added { OnOk result (IsTableAdded (setting P.meaning graph.now book.now (V.state_of states.now prefix)) graph.now seeds.now ases.now pool.old pool.new tables.old.items tables.new.items changes.old.items changes.new.items round prefix steps.old steps.new) }
     ensures more { OnOk result (IsAdded changes.old.items changes.new.items round prefix) }
     ensures paid { OnOk result (IsPaid pool.old pool.new changes.old.items changes.new.items 1) }
     ensures cut { IsCutOff pool.old pool.new changes.old.items changes.new.items }
     ensures same { AreSame tables.old.items tables.new.items }
 {
-    let before = seeds_with(
-        alloc,
-        plan,
-        announced,
-        tables.as_slice(),
-        &[],
-        round,
-        prefix,
-    )?;
-    let seeds = seeds_with(
-        alloc,
-        after,
-        announced_after,
-        tables.as_slice(),
-        changes.as_slice(),
-        round,
-        prefix,
-    )?;
-    let ases = wrong_ases(alloc, pool, touched, prefix, &before, &seeds)?;
     make_place(changes)?;
     let overlay = plan_in_rounds(
-        alloc,
-        graph,
-        ranks,
-        rank_plan,
-        book,
-        states,
-        &seeds,
-        tables,
-        round,
-        prefix,
-        ases.as_slice(),
-        pool,
+        alloc, graph, ranks, rank_plan, book, states, seeds, tables, round, prefix, ases, pool,
         steps,
     )?;
     add_change(
@@ -127,6 +95,100 @@ fn plan_change<P: RoutePolicy, V: OriginStates, L: Ledger>(
         },
     );
     Ok(())
+}
+
+// Plans the changes of the table of the prefix at a place in a round.
+fn plan_change<P: RoutePolicy, V: OriginStates, L: Ledger>(
+    alloc: Global,
+    graph: &Graph,
+    ranks: &Ranks,
+    rank_plan: &RankPlan,
+    book: &Book<P>,
+    states: &V,
+    plan: &SeedPlan,
+    announced: &[Announced],
+    after: &SeedPlan,
+    announced_after: &[Announced],
+    own: &[SeedIds],
+    edited: &Option<Prefix>,
+    touched: &Touched,
+    tables: &mut Vec<RoundTables>,
+    changes: &mut Vec<Change>,
+    round: u32,
+    place: usize,
+    prefix: Prefix,
+    pool: &mut PathPool,
+    steps: &mut Steps<L>,
+) -> Result<(), NoMemory>
+    requires no_cycle { HasNoProviderCycle (what graph.now) }
+    requires last { IsLastPlan ranks.now rank_plan.now }
+    requires ranks { (a : ℕ) → IsRank (what graph.now) a (rank_after ranks.now rank_plan.now a) }
+    requires can { CanPlan (λ p. setting P.meaning graph.now book.now (V.state_of states.now p)) graph.now (touches touched.now) plan.now after.now announced.now announced_after.now pool.old tables.old.items }
+    requires own { AreOwnSeeds plan.now announced.now own.now }
+    requires others { AreOthersKept edited.now announced.now announced_after.now }
+    requires at { slice_get (prefixes_of plan.now) place ≡ Some prefix }
+    requires held { (k : ℕ) → entry_uses tables.old.items k + changes_uses changes.old.items k ≤ holds_of pool.old k }
+    requires room { HasRoomFor pool.old 1 }
+    requires so_far { (first : ℕ) × ArePlanned (λ p. setting P.meaning graph.now book.now (V.state_of states.now p)) graph.now (touches touched.now) plan.now after.now pool.old tables.old.items changes.old.items first steps.old }
+    requires turn { IsTurn plan.now (length tables.old.items) changes.old.items round prefix }
+    ensures planned { OnOk result ((first : ℕ) → ArePlanned (λ p. setting P.meaning graph.now book.now (V.state_of states.now p)) graph.now (touches touched.now) plan.now after.now pool.old tables.old.items changes.old.items first steps.old → ArePlanned (λ p. setting P.meaning graph.now book.now (V.state_of states.now p)) graph.now (touches touched.now) plan.now after.now pool.new tables.new.items changes.new.items first steps.new) }
+    ensures more { OnOk result (IsAdded changes.old.items changes.new.items round prefix) }
+    ensures paid { OnOk result (IsPaid pool.old pool.new changes.old.items changes.new.items 1) }
+    ensures cut { IsCutOff pool.old pool.new changes.old.items changes.new.items }
+    ensures same { AreSame tables.old.items tables.new.items }
+{
+    match unchanged_seeds(own, plan, after, edited, round, place, prefix) {
+        Some(seeds) => {
+            let ases = touched.ases(alloc, prefix)?;
+            plan_with_seeds(
+                alloc,
+                graph,
+                ranks,
+                rank_plan,
+                book,
+                states,
+                seeds,
+                ases.as_slice(),
+                tables,
+                changes,
+                round,
+                prefix,
+                pool,
+                steps,
+            )
+        }
+        None => {
+            let found = seeds_and_wrong(
+                alloc,
+                plan,
+                announced,
+                after,
+                announced_after,
+                touched,
+                tables.as_slice(),
+                changes.as_slice(),
+                round,
+                prefix,
+                pool,
+            )?;
+            plan_with_seeds(
+                alloc,
+                graph,
+                ranks,
+                rank_plan,
+                book,
+                states,
+                &found.0,
+                found.1.as_slice(),
+                tables,
+                changes,
+                round,
+                prefix,
+                pool,
+                steps,
+            )
+        }
+    }
 }
 
 // Plans the changes of the tables of a round, prefix by prefix.
@@ -141,6 +203,8 @@ fn plan_round<P: RoutePolicy, V: OriginStates, L: Ledger>(
     announced: &[Announced],
     after: &SeedPlan,
     announced_after: &[Announced],
+    own: &[SeedIds],
+    edited: &Option<Prefix>,
     touched: &Touched,
     tables: &mut Vec<RoundTables>,
     changes: &mut Vec<Change>,
@@ -152,6 +216,8 @@ fn plan_round<P: RoutePolicy, V: OriginStates, L: Ledger>(
     requires last { IsLastPlan ranks.now rank_plan.now }
     requires ranks { (a : ℕ) → IsRank (what graph.now) a (rank_after ranks.now rank_plan.now a) }
     requires can { CanPlan (λ p. setting P.meaning graph.now book.now (V.state_of states.now p)) graph.now (touches touched.now) plan.now after.now announced.now announced_after.now pool.old tables.old.items }
+    requires own { AreOwnSeeds plan.now announced.now own.now }
+    requires others { AreOthersKept edited.now announced.now announced_after.now }
     requires held { (k : ℕ) → entry_uses tables.old.items k + changes_uses changes.old.items k ≤ holds_of pool.old k }
     requires room { HasRoomFor pool.old (length (prefixes_of plan.now)) }
     requires so_far { (first : ℕ) × ArePlanned (λ p. setting P.meaning graph.now book.now (V.state_of states.now p)) graph.now (touches touched.now) plan.now after.now pool.old tables.old.items changes.old.items first steps.old }
@@ -177,10 +243,13 @@ fn plan_round<P: RoutePolicy, V: OriginStates, L: Ledger>(
             announced,
             after,
             announced_after,
+            own,
+            edited,
             touched,
             tables,
             changes,
             round,
+            place,
             prefix,
             pool,
             steps,
@@ -202,6 +271,8 @@ pub fn plan_rounds<P: RoutePolicy, V: OriginStates, L: Ledger>(
     announced: &[Announced],
     after: &SeedPlan,
     announced_after: &[Announced],
+    own: &[SeedIds],
+    edited: &Option<Prefix>,
     touched: &Touched,
     tables: &mut Vec<RoundTables>,
     changes: &mut Vec<Change>,
@@ -212,6 +283,8 @@ pub fn plan_rounds<P: RoutePolicy, V: OriginStates, L: Ledger>(
     requires last { IsLastPlan ranks.now rank_plan.now }
     requires ranks { (a : ℕ) → IsRank (what graph.now) a (rank_after ranks.now rank_plan.now a) }
     requires can { CanPlan (λ p. setting P.meaning graph.now book.now (V.state_of states.now p)) graph.now (touches touched.now) plan.now after.now announced.now announced_after.now pool.old tables.old.items }
+    requires own { AreOwnSeeds plan.now announced.now own.now }
+    requires others { AreOthersKept edited.now announced.now announced_after.now }
     requires held { (k : ℕ) → entry_uses tables.old.items k ≤ holds_of pool.old k }
     requires few { length tables.old.items ≤ 4 }
     requires room { HasRoomFor pool.old (length tables.old.items * length (prefixes_of plan.now)) }
@@ -235,6 +308,8 @@ pub fn plan_rounds<P: RoutePolicy, V: OriginStates, L: Ledger>(
             announced,
             after,
             announced_after,
+            own,
+            edited,
             touched,
             tables,
             changes,

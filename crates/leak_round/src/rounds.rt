@@ -15,6 +15,7 @@ ghost use Rattle.leak_round.specs.Limits.{IsWithinLimits, numbers_of};
 ghost use Rattle.leak_round.specs.Announced.{AreAnnounced, announced_uses};
 ghost use Rattle.leak_round.specs.Entries.{HasEntries, of_rounds};
 ghost use Rattle.leak_round.specs.Growth.{GrowsBy, KeepsPaths, HasRoomFor};
+ghost use Rattle.leak_round.specs.OwnSeeds.{AreOwnSeeds};
 ghost use Rattle.leak_round.specs.Tables.{kept_in, entry_uses, AreRoundsFull};
 
 mod commits;
@@ -28,7 +29,7 @@ use net_names::NoMemory;
 use path_pool::PathPool;
 use policy_laws::{OriginStates, RoutePolicy};
 use rank_order::Ranks;
-use route_choice::{RoundTables, Steps};
+use route_choice::{RoundTables, SeedIds, Steps};
 use stability_laws::{Book, SeedPlan, one_family};
 use std::alloc::Global;
 use std::sync::ledger::Ledger;
@@ -43,10 +44,13 @@ pub struct Rounds {
     pool: PathPool,
     plan: SeedPlan,
     announced: Vec<Announced>,
+    // The seeds that the announcements make, prefix by prefix. They are made when a plan needs them.
+    own: Vec<SeedIds>,
     tables: Vec<RoundTables>,
     // A plan is open.
     planned: bool,
     ghost announcements: { AreAnnounced pool plan announced.items },
+    ghost own_seeds: { AreOwnSeeds plan announced.items own.items },
     ghost full: { AreRoundsFull pool plan tables.items },
     ghost held: { (k : ℕ) → entry_uses tables.items k + announced_uses announced.items k ≤ holds_of pool k },
     ghost closed: { planned ≡ false → (k : ℕ) → holds_of pool k ≡ entry_uses tables.items k + announced_uses announced.items k },
@@ -150,6 +154,7 @@ impl Rounds {
             pool,
             plan,
             announced,
+            own: Vec::new(alloc),
             tables,
             planned: false,
         })

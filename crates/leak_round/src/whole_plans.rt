@@ -13,10 +13,11 @@ ghost use Rattle.stability_laws.specs.SeedEdits.{edited, IsEditOf, IsEditWithin}
 ghost use Rattle.stability_laws.specs.World.{setting};
 ghost use Rattle.dirty_recompute.specs.Resources.{IsUndone};
 ghost use Rattle.leak_round.specs.Announced.{AreAnnounced};
-ghost use Rattle.leak_round.specs.Edited.{announced_after, seeds_after, IsEdited};
+ghost use Rattle.leak_round.specs.Edited.{announced_after, prefix_edited, seeds_after, IsEdited};
 ghost use Rattle.leak_round.specs.Growth.{HasRoomFor};
 ghost use Rattle.leak_round.specs.Limits.{IsWithinLimits};
 ghost use Rattle.leak_round.specs.Overlays.{changes_count};
+ghost use Rattle.leak_round.specs.OwnSeeds.{AreOwnSeeds, AreOthersKept};
 ghost use Rattle.leak_round.specs.Planning.{CanPlan, ArePlanned, AreRoundsPlanned, AreSame, IsCutOff, IsPaid};
 ghost use Rattle.leak_round.specs.Plans.{count_told, ases_told};
 ghost use Rattle.leak_round.specs.Tables.{entry_uses};
@@ -35,7 +36,7 @@ use net_names::{Asn, NoMemory};
 use path_pool::PathPool;
 use policy_laws::{OriginStates, RoutePolicy};
 use rank_order::{RankPlan, Ranks};
-use route_choice::{RoundTables, Steps};
+use route_choice::{RoundTables, SeedIds, Steps};
 use stability_laws::{Book, SeedEdit, SeedPlan};
 use std::alloc::Global;
 use std::sync::ledger::Ledger;
@@ -55,6 +56,7 @@ pub fn edit_if_any(
     requires room { live_count pool.old + 64 ≤ limit_of pool.old }
     requires counts { (k : ℕ) → count_of pool.old k ≤ 4000000000 }
     ensures made { IfOk result (IsEdited pool.old pool.new plan.now (option_copied edit.entry)) }
+    ensures others { IfOk result (λ o. AreOthersKept (prefix_edited o) announced.now (announced_after o announced.now)) }
     ensures limit { limit_of pool.new ≡ limit_of pool.old }
     ensures err { OnErr result (IsUndone pool.old pool.new) }
 {
@@ -88,6 +90,7 @@ fn plan_changes<P: RoutePolicy, V: OriginStates, L: Ledger>(
     plan: &SeedPlan,
     announced: &[Announced],
     edited: &Option<EditedSeeds>,
+    own: &[SeedIds],
     touched: &Touched,
     tables: &mut Vec<RoundTables>,
     changes: &mut Vec<Change>,
@@ -98,6 +101,8 @@ fn plan_changes<P: RoutePolicy, V: OriginStates, L: Ledger>(
     requires last { IsLastPlan ranks.now rank_plan.now }
     requires ranks { (a : ℕ) → IsRank (what graph.now) a (rank_after ranks.now rank_plan.now a) }
     requires can { CanPlan (λ p. setting P.meaning graph.now book.now (V.state_of states.now p)) graph.now (touches touched.now) plan.now (seeds_after edited.now plan.now) announced.now (announced_after edited.now announced.now) pool.old tables.old.items }
+    requires own { AreOwnSeeds plan.now announced.now own.now }
+    requires others { AreOthersKept (prefix_edited edited.now) announced.now (announced_after edited.now announced.now) }
     requires held { (k : ℕ) → entry_uses tables.old.items k ≤ holds_of pool.old k }
     requires few { length tables.old.items ≤ 4 }
     requires room { HasRoomFor pool.old (length tables.old.items * length (prefixes_of plan.now)) }
@@ -120,6 +125,8 @@ fn plan_changes<P: RoutePolicy, V: OriginStates, L: Ledger>(
             announced,
             &seeds.plan,
             seeds.announced.as_slice(),
+            own,
+            &Some(seeds.prefix),
             touched,
             tables,
             changes,
@@ -127,8 +134,8 @@ fn plan_changes<P: RoutePolicy, V: OriginStates, L: Ledger>(
             steps,
         ),
         None => plan_rounds(
-            alloc, graph, ranks, rank_plan, book, states, plan, announced, plan, announced,
-            touched, tables, changes, pool, steps,
+            alloc, graph, ranks, rank_plan, book, states, plan, announced, plan, announced, own,
+            &None, touched, tables, changes, pool, steps,
         ),
     }
 }
@@ -144,6 +151,7 @@ pub fn plan_and_tell<P: RoutePolicy, V: OriginStates, L: Ledger>(
     plan: &SeedPlan,
     announced: &[Announced],
     edited: &Option<EditedSeeds>,
+    own: &[SeedIds],
     touched: &Touched,
     tables: &mut Vec<RoundTables>,
     changes: &mut Vec<Change>,
@@ -154,6 +162,8 @@ pub fn plan_and_tell<P: RoutePolicy, V: OriginStates, L: Ledger>(
     requires last { IsLastPlan ranks.now rank_plan.now }
     requires ranks { (a : ℕ) → IsRank (what graph.now) a (rank_after ranks.now rank_plan.now a) }
     requires can { CanPlan (λ p. setting P.meaning graph.now book.now (V.state_of states.now p)) graph.now (touches touched.now) plan.now (seeds_after edited.now plan.now) announced.now (announced_after edited.now announced.now) pool.old tables.old.items }
+    requires own { AreOwnSeeds plan.now announced.now own.now }
+    requires others { AreOthersKept (prefix_edited edited.now) announced.now (announced_after edited.now announced.now) }
     requires held { (k : ℕ) → entry_uses tables.old.items k ≤ holds_of pool.old k }
     requires few { length tables.old.items ≤ 4 }
     requires room { HasRoomFor pool.old (length tables.old.items * length (prefixes_of plan.now)) }
@@ -168,8 +178,8 @@ pub fn plan_and_tell<P: RoutePolicy, V: OriginStates, L: Ledger>(
 {
     let rounds = tables.len();
     plan_changes(
-        alloc, graph, ranks, rank_plan, book, states, plan, announced, edited, touched, tables,
-        changes, pool, steps,
+        alloc, graph, ranks, rank_plan, book, states, plan, announced, edited, own, touched,
+        tables, changes, pool, steps,
     )?;
     listed(alloc, rounds, changes.as_slice(), edited_asn(edited))
 }

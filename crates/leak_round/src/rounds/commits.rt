@@ -35,7 +35,13 @@ impl Rounds {
             before: _,
         } = plan;
         commit_changes(&mut self.tables, changes, &mut self.pool);
-        take_seeds(edited, &mut self.plan, &mut self.announced, &mut self.pool);
+        take_seeds(
+            edited,
+            &mut self.plan,
+            &mut self.announced,
+            &mut self.own,
+            &mut self.pool,
+        );
         self.planned = false;
         done
     }

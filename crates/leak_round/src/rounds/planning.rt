@@ -23,6 +23,7 @@ ghost use Rattle.leak_round.specs.Touched.{touches};
 use super::Rounds;
 use crate::changes::undo_changes;
 use crate::edited::drop_seeds;
+use crate::own_seeds::fill_own_seeds;
 use crate::plans::RoundsPlan;
 use crate::touched::Touched;
 use crate::whole_plans::{edit_if_any, plan_and_tell};
@@ -87,6 +88,7 @@ impl Rounds {
         ensures err { OnErr result (is_open self.new ≡ false) }
     {
         let _count = graph.as_count();
+        fill_own_seeds(alloc, &self.plan, &self.announced, &mut self.own)?;
         let before = self.pool.live();
         let edited = edit_if_any(alloc, &self.plan, &self.announced, edit, &mut self.pool)?;
         let mut changes = Vec::new(alloc);
@@ -100,6 +102,7 @@ impl Rounds {
             &self.plan,
             &self.announced,
             &edited,
+            &self.own,
             touched,
             &mut self.tables,
             &mut changes,

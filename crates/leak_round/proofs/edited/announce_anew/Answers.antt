@@ -3,9 +3,10 @@ use Rattle.std.specs.Prelude.{slice_get}
 use Rattle.stability_laws.proofs.PlanEdits.{announcer_is}
 use Rattle.leak_round.specs.declared.announced.Announced.{Announced}
 use Rattle.leak_round.specs.declared.edited.EditedSeeds.{EditedSeeds}
-use Rattle.leak_round.specs.Edited.{others_of, AreHeldToo}
+use Rattle.leak_round.specs.Edited.{others_of, AreHeldToo, EndsWithPath}
 use Rattle.leak_round.specs.Limits.{IsWithinLimits}
 use Rattle.leak_round.proofs.Editing.{announced_without, others_fit, seeds_instead}
+use Rattle.leak_round.proofs.Owning.{others_instead}
 use Rattle.leak_round.proofs.edited.announce_anew.Goals as goal
 
 pub add_path-requires-clause-live : goal.add_path-requires-clause-live
@@ -26,7 +27,7 @@ returns-in-Ok-clause-made c =
     let numbers = c.as_slice-numbers.result.now in
     let first = announcer_is c.args.path.now numbers c.index-numbers-0.result c.requires.some c.as_slice-numbers.ensures c.index-numbers-0.is in
     let are = c.in_ok-others.ensures ∙ ap (λ a. others_of c.args.prefix a c.args.announced.now) first in
-    let e : EditedSeeds = record { plan = c.args.after; announced = c.add_path.new.announced; asn = c.index-numbers-0.result; numbers = length numbers } in
+    let e : EditedSeeds = record { plan = c.args.after; announced = c.add_path.new.announced; prefix = c.args.prefix; asn = c.index-numbers-0.result; numbers = length numbers } in
     record {
       seeds = seeds_instead old new c.args.plan.now c.args.announced.now c.requires.announced c.in-Ok.ensures.held.keeps c.args.prefix c.requires.known e c.requires.limits c.args.path.now c.in_ok-others.others.items are c.requires.after c.in-Ok.ensures.last;
       plan_is = refl;
@@ -35,3 +36,8 @@ returns-in-Ok-clause-made c =
       few = omega (arith, c.requires.short, ap length c.as_slice-numbers.ensures);
       held = subst (AreHeldToo old new c.add_path.new.announced.items) (sym (ap length c.as_slice-numbers.ensures)) c.in-Ok.ensures.held;
     }
+
+pub returns-in-Ok-clause-others : goal.returns-in-Ok-clause-others
+returns-in-Ok-clause-others c =
+    others_instead c.add_path.new.pool c.args.prefix c.args.path.now c.index-numbers-0.result c.args.announced.now c.add_path.new.announced.items
+    (subst (λ (zs : List Announced). EndsWithPath c.add_path.new.pool c.args.prefix c.args.path.now zs c.add_path.new.announced.items) c.in_ok-others.ensures c.in-Ok.ensures.last)

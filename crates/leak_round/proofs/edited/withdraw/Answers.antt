@@ -1,11 +1,13 @@
-use Rattle.std.proofs.Common.{◌+◌, List, length, refl, sym, ap, subst, ◌∙◌, arith}
+use Rattle.std.proofs.Common.{◌+◌, Some, List, length, refl, sym, ap, subst, ◌∙◌, arith}
 use Rattle.std.specs.Prelude.{slice_get}
 use Rattle.path_pool.specs.Pool.{holds_of}
 use Rattle.leak_round.specs.declared.announced.Announced.{Announced}
 use Rattle.leak_round.specs.declared.edited.EditedSeeds.{EditedSeeds}
 use Rattle.leak_round.specs.Announced.{announced_uses}
+use Rattle.leak_round.specs.OwnSeeds.{AreOthersKept}
 use Rattle.leak_round.specs.Limits.{IsWithinLimits}
 use Rattle.leak_round.proofs.Editing.{announced_without, left_fit, seeds_without}
+use Rattle.leak_round.proofs.Owning.{others_without}
 use Rattle.leak_round.proofs.edited.withdraw.Goals as goal
 
 pub hold_all-requires-clause-live : goal.hold_all-requires-clause-live
@@ -22,7 +24,7 @@ returns-clause-made c =
     let old = c.args.pool.now in
     let held = c.hold_all.ensures in
     let few = left_fit old c.args.plan.now c.args.announced.now c.requires.announced c.args.prefix c.args.asn c.requires.known (subst IsWithinLimits c.requires.after c.requires.limits) in
-    let e : EditedSeeds = record { plan = c.args.after; announced = c.in_ok-others.others; asn = c.args.asn; numbers = 0 } in
+    let e : EditedSeeds = record { plan = c.args.after; announced = c.in_ok-others.others; prefix = c.args.prefix; asn = c.args.asn; numbers = 0 } in
     record {
       seeds = seeds_without old c.hold_all.new.pool c.args.plan.now c.args.announced.now c.requires.announced held.keeps c.args.prefix c.requires.known e c.requires.limits c.args.asn c.in_ok-others.ensures c.requires.after;
       plan_is = refl;
@@ -36,3 +38,7 @@ returns-clause-made c =
         counts = λ k. omega (arith, held.counts k, few, ap (λ (ys : List Announced). length ys) (c.as_slice.ensures.value ∙ c.in_ok-others.ensures));
       };
     }
+
+pub returns-clause-others : goal.returns-clause-others
+returns-clause-others c =
+    subst (AreOthersKept (Some c.args.prefix) c.args.announced.now) (sym c.in_ok-others.ensures) (others_without c.args.prefix c.args.asn c.args.announced.now)

@@ -14,6 +14,9 @@ use Rattle.leak_round.proofs.planning.plan_round.Goals as goal
 pub plan_change-requires-clause-can : goal.plan_change-requires-clause-can
 plan_change-requires-clause-can g c = can_still (λ (p : PrefixValue). setting g.P.RoutePolicy.meaning c.args.graph.now c.args.book.now (g.V.OriginStates.state_of c.args.states.now p)) c.args.graph.now (touches c.args.touched.now) c.args.plan.now c.args.after.now c.args.announced.now c.args.announced_after.now c.args.pool.now c.prefixes.pool c.args.tables.now.items c.prefixes.tables.items c.requires.can c.prefixes.invariant.paid.keeps c.prefixes.invariant.same
 
+pub plan_change-requires-clause-at : goal.plan_change-requires-clause-at
+plan_change-requires-clause-at g c = sym c.in-Some.ensures.value
+
 pub plan_change-requires-clause-room : goal.plan_change-requires-clause-room
 plan_change-requires-clause-room g c =
     let within = slice_get_within (prefixes_of c.args.plan.now) c.prefixes.place c.in-Some.prefix (sym c.in-Some.ensures.value) in

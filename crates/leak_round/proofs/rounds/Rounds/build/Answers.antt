@@ -9,6 +9,7 @@ use Rattle.leak_round.proofs.Built.{all_announced, all_room, few_cells}
 use Rattle.leak_round.proofs.Counting.{fewer_entries}
 use Rattle.leak_round.proofs.Keeping.{announced_kept}
 use Rattle.leak_round.proofs.Numbers.{numbers_counted}
+use Rattle.leak_round.proofs.Owning.{own_none}
 use Rattle.leak_round.proofs.rounds.Rounds.build.Goals as goal
 
 pub make_rounds-requires-clause-announced : goal.make_rounds-requires-clause-announced
@@ -49,6 +50,7 @@ invariant_of-result g c =
     let xs = c.in_ok-announced.announced.items in
     record {
       announcements = announced_kept pool c.make_rounds.new.pool c.in_ok-tables.ensures.keeps plan xs (all_announced pool plan xs c.in_ok-announced.ensures.so_far c.in_ok-announced.ensures.whole c.in_ok-announced.ensures.few);
+      own_seeds = own_none plan xs c.new.result.items c.new.ensures.items;
       full = c.in_ok-tables.ensures.full;
       held = λ k. omega (arith, c.in_ok-tables.ensures.holds k, c.in_ok-announced.ensures.so_far.holds k);
       closed = λ shut k. omega (arith, c.in_ok-tables.ensures.holds k, c.in_ok-announced.ensures.so_far.holds k);

@@ -12,8 +12,8 @@ use Rattle.leak_round.specs.Tables.{kept_in, AreRoundsFull}
 use Rattle.leak_round.proofs.Closing.{prefixes_taken, limits_taken, others, laid_first, enough_first, holds_done, announced_done, full_done, kept_done, has_changes}
 use Rattle.leak_round.proofs.rounds.Rounds.commit.Goals as goal
 
-pub take_seeds-requires : goal.take_seeds-requires
-take_seeds-requires c = enough_first c.args.self.now c.args.plan c.requires c.commit_changes.new.pool c.commit_changes.new.tables.items (c.commit_changes.ensures.laid c.args.self.now.plan (kept_with c.args.self.now c.args.plan) (others c.args.self.now c.args.plan c.requires) (keys_listed prefixes_total exact_prefix c.args.self.now.plan.prefixes) c.requires.few (laid_first c.args.self.now c.args.plan c.requires))
+pub take_seeds-requires-clause-held : goal.take_seeds-requires-clause-held
+take_seeds-requires-clause-held c = enough_first c.args.self.now c.args.plan c.requires c.commit_changes.new.pool c.commit_changes.new.tables.items (c.commit_changes.ensures.laid c.args.self.now.plan (kept_with c.args.self.now c.args.plan) (others c.args.self.now c.args.plan c.requires) (keys_listed prefixes_total exact_prefix c.args.self.now.plan.prefixes) c.requires.few (laid_first c.args.self.now c.args.plan c.requires))
 
 pub invariant_of-self : goal.invariant_of-self
 invariant_of-self c =
@@ -24,6 +24,7 @@ invariant_of-self c =
     let uses : (k : ℕ) → announced_uses c.take_seeds.new.announced.items k ≡ announced_uses (announced_after c.args.plan.edited r.announced.items) k = λ k. ap (λ (xs : List Announced). announced_uses xs k) seeds.announced in
     record {
       announcements = coe 1 0 (i. AreAnnounced pool (seeds.plan i) (seeds.announced i)) (announced_done c.args.self.now c.args.plan c.requires c.commit_changes.new.pool c.take_seeds.new.pool c.commit_changes.new.tables.items (c.commit_changes.ensures.laid c.args.self.now.plan (kept_with c.args.self.now c.args.plan) (others c.args.self.now c.args.plan c.requires) (keys_listed prefixes_total exact_prefix c.args.self.now.plan.prefixes) c.requires.few (laid_first c.args.self.now c.args.plan c.requires)) c.commit_changes.ensures.back c.take_seeds.ensures.back c.take_seeds.ensures.holds);
+      own_seeds = seeds.own;
       full = subst (λ (q : Plan). AreRoundsFull pool q c.commit_changes.new.tables.items) (sym seeds.plan) (full_done c.args.self.now c.args.plan c.requires c.commit_changes.new.pool c.take_seeds.new.pool c.commit_changes.new.tables.items (c.commit_changes.ensures.laid c.args.self.now.plan (kept_with c.args.self.now c.args.plan) (others c.args.self.now c.args.plan c.requires) (keys_listed prefixes_total exact_prefix c.args.self.now.plan.prefixes) c.requires.few (laid_first c.args.self.now c.args.plan c.requires)) c.commit_changes.ensures.back c.take_seeds.ensures.back c.take_seeds.ensures.holds);
       held = λ k. omega (arith, held k, uses k);
       closed = λ shut k. omega (arith, held k, uses k);

@@ -5,7 +5,8 @@ use Rattle.net_names.specs.Prefixes.{PrefixValue}
 use Rattle.stability_laws.specs.World.{setting}
 use Rattle.leak_round.specs.declared.announced.Announced.{Announced}
 use Rattle.leak_round.specs.Announced.{AreAnnounced}
-use Rattle.leak_round.specs.Edited.{announced_after, seeds_after}
+use Rattle.leak_round.specs.Edited.{announced_after, prefix_edited, seeds_after}
+use Rattle.leak_round.specs.OwnSeeds.{AreOwnSeeds, AreOthersKept}
 use Rattle.leak_round.specs.Planning.{CanPlan, AreRoundsPlanned}
 use Rattle.leak_round.specs.Touched.{touches}
 use Rattle.leak_round.proofs.Keeping.{announced_kept, keeps_on, rounds_full_kept}
@@ -17,7 +18,7 @@ use Rattle.leak_round.proofs.Undoing.{all_undone, announced_stay, full_stay, hol
 use Rattle.leak_round.proofs.rounds.Rounds.plan.Goals as goal
 
 pub edit_if_any-requires-clause-announced : goal.edit_if_any-requires-clause-announced
-edit_if_any-requires-clause-announced g c = subst (AreAnnounced c.args.self.now.pool c.args.self.now.plan) (sym c.deref.ensures.value) c.args.self.now.announcements
+edit_if_any-requires-clause-announced g c = subst (AreAnnounced c.args.self.now.pool c.args.self.now.plan) (sym c.deref-2.ensures.value) c.args.self.now.announcements
 
 pub edit_if_any-requires-clause-counts : goal.edit_if_any-requires-clause-counts
 edit_if_any-requires-clause-counts g c =
@@ -28,8 +29,17 @@ pub plan_and_tell-requires-clause-can : goal.plan_and_tell-requires-clause-can
 plan_and_tell-requires-clause-can g c =
     let r = c.args.self.now in
     let w = (λ (p : PrefixValue). setting g.P.RoutePolicy.meaning c.args.graph.now c.args.book.now (g.V.OriginStates.state_of c.args.states.now p)) in
-    subst (λ (xs : List Announced). CanPlan w c.args.graph.now (touches c.args.touched.now) r.plan (seeds_after c.in_ok-edited.edited r.plan) xs (announced_after c.in_ok-edited.edited xs) c.edit_if_any.new.pool r.tables.items) (sym c.deref-2.ensures.value)
+    subst (λ (xs : List Announced). CanPlan w c.args.graph.now (touches c.args.touched.now) r.plan (seeds_after c.in_ok-edited.edited r.plan) xs (announced_after c.in_ok-edited.edited xs) c.edit_if_any.new.pool r.tables.items) (sym c.deref-3.ensures.value)
     (can_start r.plan r.announced.items r.pool c.edit_if_any.new.pool r.limits r.announcements (option_copied c.args.edit) c.in_ok-edited.edited c.in_ok-edited.ensures.made w c.args.graph.now (touches c.args.touched.now) r.tables.items r.full (λ p b. refl) c.requires.announcers c.requires.entries c.requires.right)
+
+pub plan_and_tell-requires-clause-own : goal.plan_and_tell-requires-clause-own
+plan_and_tell-requires-clause-own g c =
+    let r = c.args.self.now in
+    coe 1 0 (i. AreOwnSeeds r.plan (c.deref-3.ensures.value i) (c.deref-4.ensures.value i)) (subst (λ (xs : List Announced). AreOwnSeeds r.plan xs c.fill_own_seeds.new.own.items) c.deref.ensures.value c.fill_own_seeds.ensures)
+
+pub plan_and_tell-requires-clause-others : goal.plan_and_tell-requires-clause-others
+plan_and_tell-requires-clause-others g c =
+    subst (λ (xs : List Announced). AreOthersKept (prefix_edited c.in_ok-edited.edited) xs (announced_after c.in_ok-edited.edited xs)) (c.deref-2.ensures.value ∙ sym c.deref-3.ensures.value) c.in_ok-edited.ensures.others
 
 pub plan_and_tell-requires-clause-room : goal.plan_and_tell-requires-clause-room
 plan_and_tell-requires-clause-room g c =
@@ -49,6 +59,7 @@ invariant_of-self-in-Ok g c =
     let now = c.in-Ok.ensures in
     record {
       announcements = announced_kept r.pool pool (keeps_on r.pool next pool made.keeps now.paid.keeps) r.plan r.announced.items r.announcements;
+      own_seeds = subst (λ (xs : List Announced). AreOwnSeeds r.plan xs c.fill_own_seeds.new.own.items) c.deref.ensures.value c.fill_own_seeds.ensures;
       full = now.same.full pool r.plan (rounds_full_kept r.pool pool (keeps_on r.pool next pool made.keeps now.paid.keeps) r.plan r.tables.items r.full);
       held = λ k. omega (arith, now.paid.holds k, made.holds k, r.closed c.requires.closed k, now.same.uses k);
       closed = λ shut. absurd (true≢false shut);
@@ -136,6 +147,7 @@ invariant_of-self-in-Err g c =
     let holds = holds_stay r.pool pool r.plan r.announced.items r.tables.items c.plan_and_tell.new.tables.items undone same (r.closed c.requires.closed) in
     record {
       announcements = announced_stay r.pool pool r.plan r.announced.items r.tables.items c.plan_and_tell.new.tables.items undone same (r.closed c.requires.closed) r.announcements;
+      own_seeds = subst (λ (xs : List Announced). AreOwnSeeds r.plan xs c.fill_own_seeds.new.own.items) c.deref.ensures.value c.fill_own_seeds.ensures;
       full = full_stay r.pool pool r.plan r.announced.items r.tables.items c.plan_and_tell.new.tables.items undone same (r.closed c.requires.closed) r.full;
       held = λ k. omega (arith, holds k);
       closed = λ shut k. holds k;
@@ -157,8 +169,8 @@ returns-in-Err-clause-kept g c =
 pub returns-in-Err-clause-rounds : goal.returns-in-Err-clause-rounds
 returns-in-Err-clause-rounds g c = c.plan_and_tell.ensures.same.count
 
-pub invariant_of-self : goal.invariant_of-self
-invariant_of-self g c =
+pub invariant_of-self-in-Break-branch-2 : goal.invariant_of-self-in-Break-branch-2
+invariant_of-self-in-Break-branch-2 g c =
     let r = c.args.self.now in
     let pool = c.edit_if_any.new.pool in
     let same = same_itself r.tables.items in
@@ -166,6 +178,7 @@ invariant_of-self g c =
     let holds = holds_stay r.pool pool r.plan r.announced.items r.tables.items r.tables.items undone same (r.closed c.requires.closed) in
     record {
       announcements = announced_stay r.pool pool r.plan r.announced.items r.tables.items r.tables.items undone same (r.closed c.requires.closed) r.announcements;
+      own_seeds = subst (λ (xs : List Announced). AreOwnSeeds r.plan xs c.fill_own_seeds.new.own.items) c.deref.ensures.value c.fill_own_seeds.ensures;
       full = full_stay r.pool pool r.plan r.announced.items r.tables.items r.tables.items undone same (r.closed c.requires.closed) r.full;
       held = λ k. omega (arith, holds k);
       closed = λ shut k. holds k;
@@ -181,3 +194,17 @@ returns-in_err-edited-clause-kept g c =
     let same = same_itself r.tables.items in
     let undone = c.in_err-edited.ensures.err in
     kept_stays r.pool pool r.plan r.announced.items r.tables.items r.tables.items undone same (r.closed c.requires.closed)
+
+pub invariant_of-self : goal.invariant_of-self
+invariant_of-self g c =
+    let r = c.args.self.now in
+    record {
+      announcements = r.announcements;
+      own_seeds = subst (λ (xs : List Announced). AreOwnSeeds r.plan xs c.fill_own_seeds.new.own.items) c.deref.ensures.value c.fill_own_seeds.ensures;
+      full = r.full;
+      held = r.held;
+      closed = r.closed;
+      limits = r.limits;
+      few = r.few;
+      cells = r.cells;
+    }

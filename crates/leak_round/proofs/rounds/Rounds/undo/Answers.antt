@@ -9,6 +9,7 @@ invariant_of-self c =
     let held = holds_undone c.args.self.now c.args.plan c.requires c.undo_changes.new.pool c.drop_seeds.new.pool c.undo_changes.ensures.back c.drop_seeds.ensures.back c.undo_changes.ensures.holds c.drop_seeds.ensures.holds in
     record {
       announcements = announced_undone c.args.self.now c.args.plan c.requires c.undo_changes.new.pool c.drop_seeds.new.pool c.undo_changes.ensures.back c.drop_seeds.ensures.back c.undo_changes.ensures.holds c.drop_seeds.ensures.holds;
+      own_seeds = r.own_seeds;
       full = full_undone c.args.self.now c.args.plan c.requires c.undo_changes.new.pool c.drop_seeds.new.pool c.undo_changes.ensures.back c.drop_seeds.ensures.back c.undo_changes.ensures.holds c.drop_seeds.ensures.holds;
       held = λ k. omega (arith, held k);
       closed = λ shut k. held k;

@@ -1,0 +1,42 @@
+use Rattle.std.proofs.Common.{◌≡◌, ◌++◌, ◌∷◌, [], List, sym, ap, subst, ◌∙◌}
+use Rattle.stability_laws.specs.World.{setting}
+use Rattle.leak_round.specs.declared.changes.Change.{Change}
+use Rattle.leak_round.specs.Planning.{IsAdded, IsCutOff, IsPaid}
+use Rattle.leak_round.proofs.Paying.{cut_paid, cut_undone}
+use Rattle.leak_round.proofs.Planned.{added, paid_more}
+use Rattle.leak_round.proofs.planning.plan_with_seeds.Goals as goal
+
+pub returns-in_err-overlay-clause-cut : goal.returns-in_err-overlay-clause-cut
+returns-in_err-overlay-clause-cut g c = subst (IsCutOff c.args.pool.now c.plan_in_rounds.new.pool c.args.changes.now.items) (sym c.make_place.ensures.same) (cut_undone c.args.pool.now c.plan_in_rounds.new.pool c.args.changes.now.items c.in_err-overlay.ensures.err c.plan_in_rounds.ensures.limit)
+
+pub returns-clause-added : goal.returns-clause-added
+returns-clause-added g c =
+    let roomed = c.plan_in_rounds.ensures.roomed in
+    record {
+      overlay = c.in_ok-overlay.overlay;
+      items = c.add_change.ensures ∙ ap (λ (zs : List Change). zs ++ record { round = c.args.round; prefix = c.args.prefix; overlay = c.in_ok-overlay.overlay } ∷ []) c.make_place.ensures.same;
+      roomed = roomed;
+      planned = c.in_ok-overlay.ensures.planned roomed.was roomed.now roomed.was_at roomed.now_at;
+    }
+
+pub returns-clause-more : goal.returns-clause-more
+returns-clause-more g c =
+    let x : Change = record { round = c.args.round; prefix = c.args.prefix; overlay = c.in_ok-overlay.overlay } in
+    let items : c.add_change.new.changes.items ≡ c.args.changes.now.items ++ x ∷ [] = c.add_change.ensures ∙ ap (λ (zs : List Change). zs ++ x ∷ []) c.make_place.ensures.same in
+    subst (λ (zs : List Change). IsAdded c.args.changes.now.items zs c.args.round c.args.prefix) (sym items) (added c.args.changes.now.items x)
+
+pub returns-clause-paid : goal.returns-clause-paid
+returns-clause-paid g c =
+    let x : Change = record { round = c.args.round; prefix = c.args.prefix; overlay = c.in_ok-overlay.overlay } in
+    let roomed = c.plan_in_rounds.ensures.roomed in
+    let made = c.in_ok-overlay.ensures.planned roomed.was roomed.now roomed.was_at roomed.now_at in
+    let items : c.add_change.new.changes.items ≡ c.args.changes.now.items ++ x ∷ [] = c.add_change.ensures ∙ ap (λ (zs : List Change). zs ++ x ∷ []) c.make_place.ensures.same in
+    subst (λ (zs : List Change). IsPaid c.args.pool.now c.plan_in_rounds.new.pool c.args.changes.now.items zs 1) (sym items) (paid_more (setting g.P.RoutePolicy.meaning c.args.graph.now c.args.book.now (g.V.OriginStates.state_of c.args.states.now c.args.prefix)) c.args.graph.now c.args.seeds.now c.args.ases.now c.args.pool.now c.plan_in_rounds.new.pool roomed.was roomed.now c.args.steps.now c.plan_in_rounds.new.steps c.args.changes.now.items x made)
+
+pub returns-clause-cut : goal.returns-clause-cut
+returns-clause-cut g c =
+    let x : Change = record { round = c.args.round; prefix = c.args.prefix; overlay = c.in_ok-overlay.overlay } in
+    let roomed = c.plan_in_rounds.ensures.roomed in
+    let made = c.in_ok-overlay.ensures.planned roomed.was roomed.now roomed.was_at roomed.now_at in
+    let items : c.add_change.new.changes.items ≡ c.args.changes.now.items ++ x ∷ [] = c.add_change.ensures ∙ ap (λ (zs : List Change). zs ++ x ∷ []) c.make_place.ensures.same in
+    subst (λ (zs : List Change). IsCutOff c.args.pool.now c.plan_in_rounds.new.pool c.args.changes.now.items zs) (sym items) (cut_paid c.args.pool.now c.plan_in_rounds.new.pool c.args.changes.now.items (c.args.changes.now.items ++ x ∷ []) 1 (paid_more (setting g.P.RoutePolicy.meaning c.args.graph.now c.args.book.now (g.V.OriginStates.state_of c.args.states.now c.args.prefix)) c.args.graph.now c.args.seeds.now c.args.ases.now c.args.pool.now c.plan_in_rounds.new.pool roomed.was roomed.now c.args.steps.now c.plan_in_rounds.new.steps c.args.changes.now.items x made))

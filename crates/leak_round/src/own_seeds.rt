@@ -1,0 +1,71 @@
+//! The seeds that announcements make, kept prefix by prefix from one edit to the next.
+
+ghost use Rattle.std.specs.Prelude.{◌≡◌, ◌≢◌, ℕ, Some, false, List, [], slice_get, IfSome};
+ghost use Rattle.stability_laws.specs.Plans.{leaks_in, prefixes_of};
+ghost use Rattle.route_choice.specs.declared.round_tables.RoundTables.{RoundTables as SomeTables};
+ghost use Rattle.leak_round.specs.declared.announced.Announced.{Announced as AnAnnouncement};
+ghost use Rattle.leak_round.specs.declared.changes.Change.{Change as AChange};
+ghost use Rattle.leak_round.specs.Leaked.{AreSeedsWith};
+ghost use Rattle.leak_round.specs.OwnSeeds.{AreOwnSeeds, AreOthersKept};
+
+use crate::announced::{Announced, announced_seeds};
+use net_names::{NoMemory, Prefix};
+use route_choice::SeedIds;
+use stability_laws::SeedPlan;
+use std::alloc::Global;
+
+// Adds the seeds of the prefixes that have none in the list yet.
+pub fn fill_own_seeds(
+    alloc: Global,
+    plan: &SeedPlan,
+    announced: &[Announced],
+    own: &mut Vec<SeedIds>,
+) -> Result<(), NoMemory>
+    requires { AreOwnSeeds plan.now announced.now own.old.items }
+    ensures { AreOwnSeeds plan.now announced.now own.new.items }
+{
+    'prefixes: while let Some(prefix) = plan.prefix_at(own.len()) {
+        let seeds = announced_seeds(alloc, announced, prefix)?;
+        match own.push(seeds) {
+            Ok(()) => {}
+            Err(_) => return Err(NoMemory),
+        }
+    }
+    Ok(())
+}
+
+// Whether an AS leaks in a round.
+fn has_leakers(plan: &SeedPlan, round: u32) -> bool
+    ensures { result ≡ false → (a : ℕ) → leaks_in plan.now round a ≡ false }
+{
+    plan.leaker_at(round, 0).is_some()
+}
+
+// Whether this is the prefix of which an announcement is edited.
+fn is_edited(edited: &Option<Prefix>, prefix: Prefix) -> bool
+    ensures { result ≡ false → edited.now ≢ Some prefix }
+{
+    match edited {
+        Some(one) => *one == prefix,
+        None => false,
+    }
+}
+
+// The seeds of the prefix at a place in a round, if they are kept: no announcement of the prefix is
+// edited, and nobody leaks in the round. Then they are the same before and after the edit.
+pub fn unchanged_seeds<'a>(
+    own: &'a [SeedIds],
+    plan: &SeedPlan,
+    after: &SeedPlan,
+    edited: &Option<Prefix>,
+    round: u32,
+    place: usize,
+    prefix: Prefix,
+) -> Option<&'a SeedIds>
+    ensures { IfSome result (λ s. (xs ys : List AnAnnouncement) (rounds : List SomeTables) (changes : List AChange) → AreOwnSeeds plan.now xs own.now → slice_get (prefixes_of plan.now) place ≡ Some prefix → AreOthersKept edited.now xs ys → AreSeedsWith plan.now xs rounds [] round prefix s.now × AreSeedsWith after.now ys rounds changes round prefix s.now) }
+{
+    if is_edited(edited, prefix) || has_leakers(plan, round) || has_leakers(after, round) {
+        return None;
+    }
+    own.get(place)
+}
