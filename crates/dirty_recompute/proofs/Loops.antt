@@ -1,10 +1,8 @@
 -- The two loops: what each iteration keeps.
 use Rattle.std.proofs.Common.{◌≡◌, ◌≢◌, ◌⊎◌, inl, inr, ℕ, zero, suc, ◌≤◌, ◌+◌, Bool, true, false, ◌||◌, ◌==◌, true≢false, Option, Some, None, List, [], ◌∷◌, ◌++◌, length, refl, sym, ◌∙◌, ap, subst, arith}
 use Rattle.std.proofs.lemmas.Bool.{eq-eqb, eqb-true, or_right}
-use Rattle.std.specs.List.{slice_get, list_any}
-use Rattle.std.specs.BTreeMap.{is_at}
-use Rattle.dirty_recompute.specs.Queues.{key_cmp, IsIn}
-use Rattle.dirty_recompute.proofs.QueueLemmas.{none_waits}
+use Rattle.std.specs.List.{slice_get}
+use Rattle.dirty_recompute.specs.Queues.{IsIn}
 use Rattle.net_names.specs.declared.routes.Rel.{Rel}
 use Rattle.net_names.specs.declared.routes.Rel.TheVariants.{Customer, Provider}
 use Rattle.policy_laws.specs.Policy.{Policy, RanksOffers, PrefersCustomers}
@@ -28,7 +26,8 @@ use Rattle.dirty_recompute.specs.Work.{IsUpLoop, IsWholeLoop}
 use Rattle.dirty_recompute.proofs.Parts.{right_low}
 use Rattle.dirty_recompute.proofs.Working.{IsUpStep, IsWholeStep, up_step, turn, whole_step}
 use Rattle.dirty_recompute.proofs.Turning.{up_turn, whole_turn, right_outside, exact}
-use Rattle.dirty_recompute.specs.Queues.{Queue, waits, HasRanks, IsAdded, IsTaken}
+use Rattle.dirty_recompute.specs.declared.queue.Queue.{Queue}
+use Rattle.dirty_recompute.specs.Queues.{contains, waits, HasRanks, IsAdded, IsTaken}
 use Rattle.dirty_recompute.specs.Turns.{IsTurnUp, IsTurnDown}
 use Rattle.dirty_recompute.proofs.TurnLemmas.{turned}
 
@@ -190,17 +189,17 @@ occurs_in (x ∷ xs) b e = by (x == b) refl e (occurs_in xs b)
     by false is e ih = let (i, at) = ih e in (suc i, at)
 
 -- what was put into an empty queue
-pub just_in : (rank : ℕ → ℕ) (queue after : Queue) (xs : List ℕ) → queue.keys ≡ [] → IsAdded rank queue after (IsIn xs) → (b : ℕ) → waits rank after b ≡ occurs b xs
+pub just_in : (rank : ℕ → ℕ) (queue after : Queue) (xs : List ℕ) → ((k : ℕ × ℕ) → contains queue k ≡ false) → IsAdded rank queue after (IsIn xs) → (b : ℕ) → waits rank after b ≡ occurs b xs
 just_in rank queue after xs empty added b = by (waits rank after b) (occurs b xs) refl refl
   where
     by : (s t : Bool) → waits rank after b ≡ s → occurs b xs ≡ t → s ≡ t
     by true true x y = refl
     by false false x y = refl
-    by true false x y = elim (added.from b x) [ inl old ↦ absurd (true≢false (sym old ∙ none_waits rank queue empty b)) | inr (i, at) ↦ absurd (true≢false (sym (in_occurs xs b i at) ∙ y)) ]
+    by true false x y = elim (added.from b x) [ inl old ↦ absurd (true≢false (sym old ∙ empty (rank b, b))) | inr (i, at) ↦ absurd (true≢false (sym (in_occurs xs b i at) ∙ y)) ]
     by false true x y = absurd (true≢false (sym (added.put b (occurs_in xs b y)) ∙ x))
 
-pub no_ranks : (rank : ℕ → ℕ) (queue : Queue) → queue.keys ≡ [] → HasRanks rank queue
-no_ranks rank queue empty k t = absurd (true≢false (sym t ∙ ap (list_any (is_at (key_cmp k))) empty))
+pub no_ranks : (rank : ℕ → ℕ) (queue : Queue) → ((k : ℕ × ℕ) → contains queue k ≡ false) → HasRanks rank queue
+no_ranks rank queue empty k t = absurd (true≢false (sym t ∙ empty k))
 
 pub enough_from : (what : ℕ → ℕ → Option Rel) (touched changed : ℕ → Bool) (steps first last : ℕ) → last ≡ first + steps → AreEnough what touched changed 0 steps → AreEnough what touched changed first last
 enough_from what touched changed steps first last is enough = record { ases = enough.ases; distinct = enough.distinct; counted = enough.counted; enough = omega (arith, is, enough.enough) }

@@ -6,6 +6,7 @@ use Rattle.std.specs.List.{slice_get}
 use Rattle.net_names.specs.declared.routes.Rel.{Rel}
 use Rattle.as_graph.specs.declared.neighbour.Neighbour.{Neighbour}
 use Rattle.std.specs.List.{list_any}
+use Rattle.std.specs.Prelude.{◌||◌, None}
 use Rattle.std.proofs.lemmas.Bool.{cases_order}
 use Rattle.std.proofs.lemmas.Cmp.{nat_cmp_total, on_total, then_total, tied_itself}
 use Rattle.std.proofs.lemmas.Map.Lookups.{exact_pairs, exact_unsigned}
@@ -15,7 +16,8 @@ use Rattle.std.specs.Cmp.{IsTotalOrder}
 use Rattle.std.specs.BTreeSet as keys
 use Rattle.std.specs.BTreeMap.{is_at}
 use Rattle.as_graph.proofs.Links.{is_equal}
-use Rattle.dirty_recompute.specs.Queues.{Queue, key_cmp, waits, HasRanks, IsAdded, IsTaken, IsLowest, IsHighest, AreQueued}
+use Rattle.dirty_recompute.specs.declared.queue.Queue.{Queue}
+use Rattle.dirty_recompute.specs.Queues.{key_cmp, is_one, contains, waits, HasRanks, HasTurned, IsAdded, IsTaken, IsLowest, IsHighest, AreQueued}
 
 keys_total : IsTotalOrder key_cmp
 keys_total = then_total (on_total (λ (p : ℕ × ℕ). p.0) nat_cmp_total) (on_total (λ (p : ℕ × ℕ). p.1) nat_cmp_total)
@@ -30,24 +32,24 @@ either : (b : Bool) → (b ≡ true) ⊎ (b ≡ false)
 either true = inl refl
 either false = inr refl
 
-pub added : (rank : ℕ → ℕ) (before after : Queue) (a : ℕ) → keys.Updates key_cmp before after (rank a, a) true → IsAdded rank before after (λ b. b ≡ a)
+pub added : (rank : ℕ → ℕ) (before after : Queue) (a : ℕ) → HasTurned before after (rank a, a) true → IsAdded rank before after (λ b. b ≡ a)
 added rank before after a up = record {
   ranks = ranks;
-  kept = λ b t. elim (either (is_at (key_cmp k) (rank b, b))) [ inl e ↦ at (rank b, b) ∙ ap (λ x. cond x true (keys.contains key_cmp before (rank b, b))) e | inr e ↦ at (rank b, b) ∙ ap (λ x. cond x true (keys.contains key_cmp before (rank b, b))) e ∙ t ];
-  put = λ b is. at (rank b, b) ∙ ap (λ x. cond x true (keys.contains key_cmp before (rank b, b))) (subst (λ t. is_at (key_cmp k) (rank t, t) ≡ true) (sym is) (key_at k));
-  from = λ b t. elim (either (is_at (key_cmp k) (rank b, b))) [ inl e ↦ inr (sym (ap (λ (p : ℕ × ℕ). p.1) (key_is k (rank b, b) e))) | inr e ↦ inl (sym (at (rank b, b) ∙ ap (λ x. cond x true (keys.contains key_cmp before (rank b, b))) e) ∙ t) ];
+  kept = λ b t. elim (either (is_at (key_cmp k) (rank b, b))) [ inl e ↦ at (rank b, b) ∙ ap (λ x. cond x true (contains before (rank b, b))) e | inr e ↦ at (rank b, b) ∙ ap (λ x. cond x true (contains before (rank b, b))) e ∙ t ];
+  put = λ b is. at (rank b, b) ∙ ap (λ x. cond x true (contains before (rank b, b))) (subst (λ t. is_at (key_cmp k) (rank t, t) ≡ true) (sym is) (key_at k));
+  from = λ b t. elim (either (is_at (key_cmp k) (rank b, b))) [ inl e ↦ inr (sym (ap (λ (p : ℕ × ℕ). p.1) (key_is k (rank b, b) e))) | inr e ↦ inl (sym (at (rank b, b) ∙ ap (λ x. cond x true (contains before (rank b, b))) e) ∙ t) ];
 }
   where
     k : ℕ × ℕ
     k = (rank a, a)
 
-    at : (q : ℕ × ℕ) → keys.contains key_cmp after q ≡ cond (is_at (key_cmp k) q) true (keys.contains key_cmp before q)
-    at q = up.0 q
+    at : (q : ℕ × ℕ) → contains after q ≡ cond (is_at (key_cmp k) q) true (contains before q)
+    at q = up q
 
     ranks : HasRanks rank before → HasRanks rank after
     ranks was q t = elim (either (is_at (key_cmp k) q)) [
       | inl e ↦ subst (λ (p : ℕ × ℕ). p.0 ≡ rank p.1) (key_is k q e) refl
-      | inr e ↦ was q (sym (at q ∙ ap (λ x. cond x true (keys.contains key_cmp before q)) e) ∙ t)
+      | inr e ↦ was q (sym (at q ∙ ap (λ x. cond x true (contains before q)) e) ∙ t)
     ]
 
 first_le : (x y : ℕ) (o : Ordering) → is_gt (ordering_then (nat_cmp x y) o) ≡ false → x ≤ y
@@ -56,26 +58,26 @@ first_le x y o e = elim (cases_order x y) [ inl is ↦ omega arith | inr (inl lt
 first_ge : (x y : ℕ) (o : Ordering) → is_lt (ordering_then (nat_cmp x y) o) ≡ false → y ≤ x
 first_ge x y o e = elim (cases_order x y) [ inl is ↦ omega arith | inr (inl lt) ↦ grind (arith) | inr (inr gt) ↦ omega arith ]
 
-pub taken : (rank : ℕ → ℕ) (before after : Queue) (k : ℕ × ℕ) → HasRanks rank before → IsTrue (keys.contains key_cmp before k) → keys.Updates key_cmp before after k false → IsTaken rank before after k.1
+pub taken : (rank : ℕ → ℕ) (before after : Queue) (k : ℕ × ℕ) → HasRanks rank before → IsTrue (contains before k) → HasTurned before after k false → IsTaken rank before after k.1
 taken rank before after k was member up = record { waited = waited; gone = gone; kept = kept; from = from; ranks = ranks }
   where
     is : k ≡ (rank k.1, k.1)
     is = ap (λ x. (x, k.1)) (was k member)
 
-    at : (q : ℕ × ℕ) → keys.contains key_cmp after q ≡ cond (is_at (key_cmp k) q) false (keys.contains key_cmp before q)
-    at q = up.0 q
+    at : (q : ℕ × ℕ) → contains after q ≡ cond (is_at (key_cmp k) q) false (contains before q)
+    at q = up q
 
     waited : waits rank before k.1 ≡ true
-    waited = subst (λ q. keys.contains key_cmp before q ≡ true) is member
+    waited = subst (λ q. contains before q ≡ true) is member
 
     gone : waits rank after k.1 ≡ false
-    gone = at (rank k.1, k.1) ∙ ap (λ x. cond x false (keys.contains key_cmp before (rank k.1, k.1))) (subst (λ q. is_at (key_cmp k) q ≡ true) is (key_at k))
+    gone = at (rank k.1, k.1) ∙ ap (λ x. cond x false (contains before (rank k.1, k.1))) (subst (λ q. is_at (key_cmp k) q ≡ true) is (key_at k))
 
-    old : (q : ℕ × ℕ) → is_at (key_cmp k) q ≡ false → keys.contains key_cmp after q ≡ keys.contains key_cmp before q
-    old q e = at q ∙ ap (λ x. cond x false (keys.contains key_cmp before q)) e
+    old : (q : ℕ × ℕ) → is_at (key_cmp k) q ≡ false → contains after q ≡ contains before q
+    old q e = at q ∙ ap (λ x. cond x false (contains before q)) e
 
-    none : (q : ℕ × ℕ) → is_at (key_cmp k) q ≡ true → keys.contains key_cmp after q ≡ false
-    none q e = at q ∙ ap (λ x. cond x false (keys.contains key_cmp before q)) e
+    none : (q : ℕ × ℕ) → is_at (key_cmp k) q ≡ true → contains after q ≡ false
+    none q e = at q ∙ ap (λ x. cond x false (contains before q)) e
 
     kept : (b : ℕ) → b ≢ k.1 → waits rank before b ≡ true → waits rank after b ≡ true
     kept b ne t = elim (either (is_at (key_cmp k) (rank b, b))) [
@@ -95,15 +97,19 @@ taken rank before after k was member up = record { waited = waited; gone = gone;
       | inr e ↦ was q (sym (old q e) ∙ t)
     ]
 
-pub lowest : (rank : ℕ → ℕ) (before : Queue) (k : ℕ × ℕ) → k.0 ≡ rank k.1 → keys.IsLowerBound key_cmp before k → (b : ℕ) → waits rank before b ≡ true → rank k.1 ≤ rank b
+-- no pair of the queue is below the pair
+abbrev pub IsLeast : Queue → ℕ × ℕ → Type 0
+IsLeast queue k = (q : ℕ × ℕ) → contains queue q ≡ true → is_gt (key_cmp k q) ≡ false
+
+-- no pair of the queue is above the pair
+abbrev pub IsGreatest : Queue → ℕ × ℕ → Type 0
+IsGreatest queue k = (q : ℕ × ℕ) → contains queue q ≡ true → is_lt (key_cmp k q) ≡ false
+
+pub lowest : (rank : ℕ → ℕ) (before : Queue) (k : ℕ × ℕ) → k.0 ≡ rank k.1 → IsLeast before k → (b : ℕ) → waits rank before b ≡ true → rank k.1 ≤ rank b
 lowest rank before k is least b t = subst (λ x. x ≤ rank b) is (first_le k.0 (rank b) _ (least (rank b, b) t))
 
-pub highest : (rank : ℕ → ℕ) (before : Queue) (k : ℕ × ℕ) → k.0 ≡ rank k.1 → keys.IsUpperBound key_cmp before k → (b : ℕ) → waits rank before b ≡ true → rank b ≤ rank k.1
+pub highest : (rank : ℕ → ℕ) (before : Queue) (k : ℕ × ℕ) → k.0 ≡ rank k.1 → IsGreatest before k → (b : ℕ) → waits rank before b ≡ true → rank b ≤ rank k.1
 highest rank before k is greatest b t = subst (λ x. rank b ≤ x) is (first_ge k.0 (rank b) _ (greatest (rank b, b) t))
-
--- an empty set has none
-pub none_waits : (rank : ℕ → ℕ) (queue : Queue) → queue.keys ≡ [] → (b : ℕ) → waits rank queue b ≡ false
-none_waits rank queue e b = ap (list_any (is_at (key_cmp (rank b, b)))) e
 
 -- b is one of the first neighbours, and is this
 abbrev pub IsAmongBelow : ℕ → List Neighbour → Rel → ℕ → Type 0
@@ -176,8 +182,57 @@ added_next_in rank q0 q1 q2 k xs n at x y = added_both rank q0 q1 q2 (IsInBelow 
     join b (inl (i, lt, got)) = (i, (omega arith), got)
     join b (inr is) = (k, (omega arith), at ∙ ap Some (sym is))
 
-pub is_lowest : (rank : ℕ → ℕ) (before after : Queue) (k : ℕ × ℕ) → HasRanks rank before → IsTrue (keys.contains key_cmp before k) → keys.IsLowerBound key_cmp before k → keys.Updates key_cmp before after k false → IsLowest rank before after k.1
+pub is_lowest : (rank : ℕ → ℕ) (before after : Queue) (k : ℕ × ℕ) → HasRanks rank before → IsTrue (contains before k) → IsLeast before k → HasTurned before after k false → IsLowest rank before after k.1
 is_lowest rank before after k was member least up = record { taken = taken rank before after k was member up; least = lowest rank before k (was k member) least }
 
-pub is_highest : (rank : ℕ → ℕ) (before after : Queue) (k : ℕ × ℕ) → HasRanks rank before → IsTrue (keys.contains key_cmp before k) → keys.IsUpperBound key_cmp before k → keys.Updates key_cmp before after k false → IsHighest rank before after k.1
+pub is_highest : (rank : ℕ → ℕ) (before after : Queue) (k : ℕ × ℕ) → HasRanks rank before → IsTrue (contains before k) → IsGreatest before k → HasTurned before after k false → IsHighest rank before after k.1
 is_highest rank before after k was member greatest up = record { taken = taken rank before after k was member up; greatest = highest rank before k (was k member) greatest }
+
+-- which pairs a queue of one has, and one of many
+module _ (queue : Queue) where
+  only_one : (x : ℕ × ℕ) → queue.one ≡ Some x → queue.many.keys ≡ [] → (q : ℕ × ℕ) → contains queue q ≡ is_at (key_cmp x) q
+  only_one x one none q = (λ i. is_one (one i) q || list_any (is_at (key_cmp q)) (none i)) ∙ or_false (is_at (key_cmp x) q)
+    where
+      or_false : (b : Bool) → (b || false) ≡ b
+      or_false true = refl
+      or_false false = refl
+
+  only_many : queue.one ≡ None → (q : ℕ × ℕ) → contains queue q ≡ keys.contains key_cmp queue.many q
+  only_many none q = ap (λ o. is_one o q || keys.contains key_cmp queue.many q) none
+
+-- a queue of no pair
+contains-none : (queue : Queue) → queue.one ≡ None → queue.many.keys ≡ [] → (k : ℕ × ℕ) → contains queue k ≡ false
+contains-none queue one none k = only_many queue one k ∙ ap (list_any (is_at (key_cmp k))) none
+
+-- a pair comes into a queue of many, or goes
+put_many : (before after : Queue) (k : ℕ × ℕ) (b : Bool) → before.one ≡ None → after.one ≡ None → keys.Updates key_cmp before.many after.many k b → HasTurned before after k b
+put_many before after k b was is up q = only_many after is q ∙ up.0 q ∙ sym (ap (cond (is_at (key_cmp k) q) b) (only_many before was q))
+
+-- the one goes
+module _ (before after : Queue) (x : ℕ × ℕ) (one : before.one ≡ Some x) (alone : before.many.keys ≡ []) (is : after.one ≡ None) (same : after.many.keys ≡ []) where
+  here : contains before x ≡ true
+  here = only_one before x one alone x ∙ key_at x
+
+  it_is : (q : ℕ × ℕ) → contains before q ≡ true → x ≡ q
+  it_is q t = key_is x q (sym (only_one before x one alone q) ∙ t)
+
+  turned : HasTurned before after x false
+  turned q = contains-none after is same q ∙ sym (ap (cond (is_at (key_cmp x) q) false) (only_one before x one alone q) ∙ by (is_at (key_cmp x) q))
+    where
+      by : (b : Bool) → cond b false b ≡ false
+      by true = refl
+      by false = refl
+
+  pub one_lowest : (rank : ℕ → ℕ) → HasRanks rank before → IsLowest rank before after x.1
+  one_lowest rank was = is_lowest rank before after x was here (λ q t. subst (λ p. is_gt (key_cmp x p) ≡ false) (it_is q t) (ap is_gt (tied_itself keys_total x))) turned
+
+  pub one_highest : (rank : ℕ → ℕ) → HasRanks rank before → IsHighest rank before after x.1
+  one_highest rank was = is_highest rank before after x was here (λ q t. subst (λ p. is_lt (key_cmp x p) ≡ false) (it_is q t) (ap is_lt (tied_itself keys_total x))) turned
+
+-- one of the many goes
+module _ (before after : Queue) (k : ℕ × ℕ) (was : before.one ≡ None) (is : after.one ≡ None) (member : keys.contains key_cmp before.many k ≡ true) (up : keys.Updates key_cmp before.many after.many k false) where
+  pub many_lowest : keys.IsLowerBound key_cmp before.many k → (rank : ℕ → ℕ) → HasRanks rank before → IsLowest rank before after k.1
+  many_lowest least rank ranks = is_lowest rank before after k ranks (only_many before was k ∙ member) (λ q t. least q (sym (only_many before was q) ∙ t)) (put_many before after k false was is up)
+
+  pub many_highest : keys.IsUpperBound key_cmp before.many k → (rank : ℕ → ℕ) → HasRanks rank before → IsHighest rank before after k.1
+  many_highest greatest rank ranks = is_highest rank before after k ranks (only_many before was k ∙ member) (λ q t. greatest q (sym (only_many before was q) ∙ t)) (put_many before after k false was is up)

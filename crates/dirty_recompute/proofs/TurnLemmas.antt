@@ -16,7 +16,8 @@ use Rattle.stability_laws.specs.declared.entry.Seed.{Seed}
 use Rattle.stability_laws.specs.Offers.{Setting, offer}
 use Rattle.stability_laws.specs.Stable.{IsRightGiven}
 use Rattle.dirty_recompute.specs.Steps.{ChangesOnly, IsChosenUp, IsLeft}
-use Rattle.dirty_recompute.specs.Queues.{Queue, waits, IsAdded, AreQueued, IsAmong}
+use Rattle.dirty_recompute.specs.declared.queue.Queue.{Queue}
+use Rattle.dirty_recompute.specs.Queues.{waits, IsAdded, AreQueued, IsAmong}
 use Rattle.dirty_recompute.specs.Turns.{IsTurnUp, IsTurnDown}
 
 element : (xs : List Neighbour) (b : ℕ) → occurs b (asns xs) ≡ true → (i : ℕ) × (n : Neighbour) × (slice_get xs i ≡ Some n) × (n.asn ≡ b)

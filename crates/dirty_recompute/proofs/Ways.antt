@@ -22,7 +22,8 @@ use Rattle.route_choice.specs.Routings.{entry_of, seed_of, routing_of, seeds_of,
 use Rattle.route_choice.specs.Tables.{change_at, held_at, seed_at}
 use Rattle.route_choice.specs.Slots.{over}
 use Rattle.route_choice.proofs.Lists.{nothing_there}
-use Rattle.dirty_recompute.specs.Queues.{Queue, waits, HasRanks, IsTaken}
+use Rattle.dirty_recompute.specs.declared.queue.Queue.{Queue}
+use Rattle.dirty_recompute.specs.Queues.{waits, HasRanks, IsTaken}
 use Rattle.dirty_recompute.specs.Resources.{has_change, IsKept, IsPaidFor}
 use Rattle.dirty_recompute.specs.Turns.{IsTurnUp, IsTurnDown}
 use Rattle.dirty_recompute.specs.Work.{IsUpLoop, IsWholeLoop, HasGoneUp, HasGoneDown, CanGoOn}

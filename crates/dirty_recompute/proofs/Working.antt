@@ -1,5 +1,5 @@
 -- Turns over two queues: each keeps what holds between turns. Nothing here knows what `right` is.
-use Rattle.std.proofs.Common.{◌≡◌, ◌≢◌, ◌⊎◌, inl, inr, ℕ, Bool, true, false, ◌==◌, ◌||◌, true≢false, Option, Some, None, List, [], ◌∷◌, refl, sym, ◌∙◌, ap, subst}
+use Rattle.std.proofs.Common.{◌≡◌, ◌≢◌, ◌⊎◌, inl, inr, ℕ, Bool, true, false, ◌==◌, ◌||◌, true≢false, Option, Some, List, [], ◌∷◌, refl, sym, ◌∙◌, ap, subst}
 use Rattle.std.proofs.lemmas.Bool.{cases_eq, eqb-true, eq-eqb}
 use Rattle.net_names.specs.declared.routes.Rel.{Rel}
 use Rattle.net_names.specs.declared.routes.Rel.TheVariants.{Customer, Provider}

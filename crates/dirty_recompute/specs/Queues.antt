@@ -1,28 +1,38 @@
 -- Queues of ASes by rank: who waits, who is taken out, and who is put in.
-use Rattle.std.specs.Prelude.{◌≡◌, ◌≢◌, ◌⊎◌, ◌≤◌, ℕ, Bool, true, false, Some, List}
+use Rattle.std.specs.Prelude.{◌≡◌, ◌≢◌, ◌⊎◌, ◌≤◌, ℕ, Bool, true, false, ◌||◌, if◌then◌else◌, Option, None, Some, List}
 use Rattle.std.specs.List.{slice_get}
 use Rattle.std.specs.declared.cmp.Ordering.{Ordering}
 use Rattle.std.specs.Ordering.{nat_cmp, ordering_then}
 use Rattle.std.specs.BTreeSet as keys
-use Rattle.std.specs.BTreeSet.{BTreeSet}
+use Rattle.std.specs.BTreeMap.{is_at}
 use Rattle.net_names.specs.declared.routes.Rel.{Rel}
 use Rattle.as_graph.specs.declared.neighbour.Neighbour.{Neighbour}
-
--- a queue is a set of pairs, each an AS under its rank (own rule)
-abbrev pub Queue : Type 0
-Queue = BTreeSet (ℕ × ℕ)
+use Rattle.dirty_recompute.specs.declared.queue.Queue.{Queue}
 
 -- the order of the pairs: by rank, and then by number (own rule)
 abbrev pub key_cmp : ℕ × ℕ → ℕ × ℕ → Ordering
 key_cmp x y = ordering_then (nat_cmp x.0 y.0) (nat_cmp x.1 y.1)
 
+-- the pair is the one, if there is one (own rule)
+abbrev pub is_one : Option (ℕ × ℕ) → ℕ × ℕ → Bool
+is_one None k = false
+is_one (Some x) k = is_at (key_cmp x) k
+
+-- the queue has the pair, of a rank and an AS (own rule)
+abbrev pub contains : Queue → ℕ × ℕ → Bool
+contains queue k = is_one queue.one k || keys.contains key_cmp queue.many k
+
+-- the queue has the pair afterwards or has it not, as `there` says, and no other pair comes or goes (own rule)
+abbrev pub HasTurned : Queue → Queue → ℕ × ℕ → Bool → Type 0
+HasTurned before after k there = (q : ℕ × ℕ) → contains after q ≡ (if is_at (key_cmp k) q then there else contains before q)
+
 -- b waits in the queue, under its rank (own rule)
 abbrev pub waits : (ℕ → ℕ) → Queue → ℕ → Bool
-waits rank queue b = keys.contains key_cmp queue (rank b, b)
+waits rank queue b = contains queue (rank b, b)
 
 -- each pair of the queue is an AS under its rank (own rule)
 abbrev pub HasRanks : (ℕ → ℕ) → Queue → Type 0
-HasRanks rank queue = (k : ℕ × ℕ) → keys.contains key_cmp queue k ≡ true → k.0 ≡ rank k.1
+HasRanks rank queue = (k : ℕ × ℕ) → contains queue k ≡ true → k.0 ≡ rank k.1
 
 -- just these ASes came into the queue, and all that waited wait on (own rule)
 pub record IsAdded (rank : ℕ → ℕ) (before after : Queue) (who : ℕ → Type 0) : Type 0 where

@@ -7,7 +7,8 @@ use Rattle.stability_laws.specs.declared.entry.Seed.{Seed}
 use Rattle.stability_laws.specs.Offers.{Setting, offer}
 use Rattle.stability_laws.specs.Stable.{IsRightGiven}
 use Rattle.dirty_recompute.specs.Steps.{ChangesOnly, IsChosenUp, IsLeft}
-use Rattle.dirty_recompute.specs.Queues.{Queue, waits, HasRanks}
+use Rattle.dirty_recompute.specs.declared.queue.Queue.{Queue}
+use Rattle.dirty_recompute.specs.Queues.{waits, HasRanks}
 
 -- after a turn upwards of a: its providers wait in the queue upwards, its peers and customers in one of the two queues, but such as may be left; a itself waits in the queue downwards where it has nothing from below; and nobody else came in (own rule)
 pub record AreQueuedUp (w : Setting) (seeds : ℕ → Option Seed) (a : ℕ) (f g : ℕ → Option Entry) (changed nothing : Bool) (up up' whole whole' : ℕ → Bool) : Type 0 where

@@ -16,7 +16,8 @@ use Rattle.route_choice.specs.Resources.{AreHeld, AreEntriesLive, AreSeedsLive}
 use Rattle.route_choice.specs.Routings.{routing_of, seeds_of, table_routing}
 use Rattle.dirty_recompute.specs.Exact.{IsCounted}
 use Rattle.dirty_recompute.specs.Steps.{IsRightLow}
-use Rattle.dirty_recompute.specs.Queues.{Queue, waits, HasRanks}
+use Rattle.dirty_recompute.specs.declared.queue.Queue.{Queue}
+use Rattle.dirty_recompute.specs.Queues.{waits, HasRanks}
 use Rattle.dirty_recompute.specs.Resources.{has_change}
 
 -- nobody who had a turn waits again, or comes before one who waits, or had two turns (own rule)

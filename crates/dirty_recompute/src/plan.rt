@@ -20,7 +20,7 @@ ghost use Rattle.dirty_recompute.specs.Resources.{has_change, FewNewCells, IsKep
 ghost use Rattle.dirty_recompute.specs.Work.{HasGoneUp, HasGoneDown, CanGoOn};
 
 use crate::new_ranks::NewRanks;
-use crate::queue::{add_all, pop_highest, pop_lowest};
+use crate::queue::Queue;
 use crate::turns::{turn_down, turn_up};
 use as_graph::{Graph, ranks_fit};
 use net_names::{Asn, NoMemory};
@@ -33,20 +33,15 @@ use stability_laws::{
     right_by_offers,
 };
 use std::alloc::Global;
-use std::collections::BTreeSet;
 use std::sync::ledger::Ledger;
 
 // The touched ASes, each under its rank.
-fn queue_of(
-    alloc: Global,
-    ranks: &NewRanks,
-    touched: &[Asn],
-) -> Result<BTreeSet<(u32, Asn)>, NoMemory>
+fn queue_of(alloc: Global, ranks: &NewRanks, touched: &[Asn]) -> Result<Queue, NoMemory>
     ensures touched { IfOk result (λ q. (b : ℕ) → waits (rank_of ranks.now) q b ≡ occurs b touched.now) }
     ensures ranks { IfOk result (HasRanks (rank_of ranks.now)) }
 {
-    let mut queue: BTreeSet<(u32, Asn)> = BTreeSet::new(alloc);
-    add_all(ranks, touched, &mut queue)?;
+    let mut queue = Queue::new(alloc);
+    queue.add_all(ranks, touched)?;
     Ok(queue)
 }
 
@@ -63,7 +58,7 @@ fn go_up<P: RoutePolicy, V: OriginStates, L: Ledger>(
     overlay: &mut Overlay,
     touched: &[Asn],
     steps: &mut Steps<L>,
-) -> Result<BTreeSet<(u32, Asn)>, NoMemory>
+) -> Result<Queue, NoMemory>
     requires falls { (a b : ℕ) → what graph.now a b ≡ Some Customer → suc (rank_of ranks.now b) ≤ rank_of ranks.now a }
     requires few { as_count graph.now ≤ 150000 }
     requires seeds { (b : ℕ) → has graph.now b ≡ false → seed_at seeds.now b ≡ None }
@@ -82,8 +77,8 @@ fn go_up<P: RoutePolicy, V: OriginStates, L: Ledger>(
     customers_decide::<P>();
     one_stable_routing::<P>();
     let mut up = queue_of(alloc, ranks, touched)?;
-    let mut whole: BTreeSet<(u32, Asn)> = BTreeSet::new(alloc);
-    while let Some(asn) = pop_lowest(&mut up) {
+    let mut whole = Queue::new(alloc);
+    while let Some(asn) = up.pop_lowest() {
         turn_up(
             graph, ranks, book, states, seeds, pool, table, overlay, asn, &mut up, &mut whole,
             steps,
@@ -103,7 +98,7 @@ fn go_down<P: RoutePolicy, V: OriginStates, L: Ledger>(
     table: &Table,
     overlay: &mut Overlay,
     touched: &[Asn],
-    whole: &mut BTreeSet<(u32, Asn)>,
+    whole: &mut Queue,
     steps: &mut Steps<L>,
 ) -> Result<(), NoMemory>
     requires no_cycle { HasNoProviderCycle (what graph.now) }
@@ -123,7 +118,7 @@ fn go_down<P: RoutePolicy, V: OriginStates, L: Ledger>(
     nothing_up::<P>();
     customers_decide::<P>();
     one_stable_routing::<P>();
-    while let Some(asn) = pop_highest(whole) {
+    while let Some(asn) = whole.pop_highest() {
         turn_down(
             graph, ranks, book, states, seeds, pool, table, overlay, asn, whole, steps,
         )?;

@@ -1,59 +1,118 @@
 //! Queues of ASes by rank.
 
-ghost use Rattle.std.specs.Prelude.{◌≡◌, ℕ, false, OnOk, IfSome, IfNone};
-ghost use Rattle.dirty_recompute.specs.NewRanks.{rank_of};
-ghost use Rattle.dirty_recompute.specs.Queues.{waits, HasRanks, IsAdded, IsIn, IsLowest, IsHighest};
+ghost use Rattle.std.specs.Prelude.{◌≡◌, ℕ, Some, []};
 
 use crate::new_ranks::NewRanks;
 use net_names::{Asn, NoMemory};
+use std::alloc::Global;
 use std::collections::BTreeSet;
 
-// Puts an AS into the queue, under its rank.
-pub(crate) fn add(
-    ranks: &NewRanks,
-    queue: &mut BTreeSet<(u32, Asn)>,
-    asn: Asn,
-) -> Result<(), NoMemory>
-    ensures { OnOk result (IsAdded (rank_of ranks.now) queue.old queue.new (λ b. b ≡ asn)) }
-{
-    match queue.insert((ranks.rank(asn), asn)) {
-        Ok(_) => Ok(()),
-        Err(_) => Err(NoMemory),
-    }
+/// ASes that wait, each under its rank. A queue of one AS takes no memory.
+#[derive(Drop)]
+pub(crate) struct Queue {
+    // The one that waits, where there is just one.
+    one: Option<(u32, Asn)>,
+    // All that wait, where there are more.
+    many: BTreeSet<(u32, Asn)>,
+    ghost alone: { (k : ℕ × ℕ) → one ≡ Some k → many.keys ≡ [] },
 }
 
-// Puts the ASes into the queue.
-pub(crate) fn add_all(
-    ranks: &NewRanks,
-    asns: &[Asn],
-    queue: &mut BTreeSet<(u32, Asn)>,
-) -> Result<(), NoMemory>
-    ensures { OnOk result (IsAdded (rank_of ranks.now) queue.old queue.new (IsIn asns.now)) }
-{
-    for asn in asns {
-        add(ranks, queue, *asn)?;
-    }
-    Ok(())
-}
+impl Queue {
+    ghost use Rattle.std.specs.Prelude.{true, false, OnOk, OnErr, IfSome, IfNone};
+    ghost use Rattle.std.specs.BTreeSet as keys;
+    ghost use Rattle.dirty_recompute.specs.NewRanks.{rank_of};
+    ghost use Rattle.dirty_recompute.specs.Queues.{key_cmp, contains, waits, HasRanks, HasTurned, IsAdded, IsIn, IsLowest, IsHighest};
 
-// Takes the AS of the lowest rank out of the queue.
-pub(crate) fn pop_lowest(queue: &mut BTreeSet<(u32, Asn)>) -> Option<Asn>
-    ensures taken { (rank : ℕ → ℕ) → HasRanks rank queue.old → IfSome result (IsLowest rank queue.old queue.new) }
-    ensures none { (rank : ℕ → ℕ) → IfNone result ((b : ℕ) → waits rank queue.old b ≡ false) }
-{
-    match queue.pop_first() {
-        Some((_, asn)) => Some(asn),
-        None => None,
+    /// Nobody waits.
+    pub(crate) fn new(alloc: Global) -> Queue
+        ensures { (k : ℕ × ℕ) → contains result k ≡ false }
+    {
+        Queue {
+            one: None,
+            many: BTreeSet::new(alloc),
+        }
     }
-}
 
-// Takes the AS of the highest rank out of the queue.
-pub(crate) fn pop_highest(queue: &mut BTreeSet<(u32, Asn)>) -> Option<Asn>
-    ensures taken { (rank : ℕ → ℕ) → HasRanks rank queue.old → IfSome result (IsHighest rank queue.old queue.new) }
-    ensures none { (rank : ℕ → ℕ) → IfNone result ((b : ℕ) → waits rank queue.old b ≡ false) }
-{
-    match queue.pop_last() {
-        Some((_, asn)) => Some(asn),
-        None => None,
+    // Puts an AS under its rank into a set.
+    fn put_in(many: &mut BTreeSet<(u32, Asn)>, key: (u32, Asn)) -> Result<(), NoMemory>
+        ensures ok { OnOk result (keys.Updates key_cmp many.old many.new key true) }
+        ensures err { OnErr result (many.new.keys ≡ many.old.keys) }
+    {
+        match many.insert(key) {
+            Ok(_) => Ok(()),
+            Err(_) => Err(NoMemory),
+        }
+    }
+
+    // Puts an AS under its rank into the queue.
+    fn put(&mut self, key: (u32, Asn)) -> Result<(), NoMemory>
+        ensures { OnOk result (HasTurned self.old self.new key true) }
+    {
+        match self.one {
+            Some(one) => {
+                Queue::put_in(&mut self.many, one)?;
+                self.one = None;
+                Queue::put_in(&mut self.many, key)
+            }
+            None => {
+                if self.many.is_empty() {
+                    self.one = Some(key);
+                    Ok(())
+                } else {
+                    Queue::put_in(&mut self.many, key)
+                }
+            }
+        }
+    }
+
+    /// Puts an AS into the queue, under its rank.
+    pub(crate) fn add(&mut self, ranks: &NewRanks, asn: Asn) -> Result<(), NoMemory>
+        ensures { OnOk result (IsAdded (rank_of ranks.now) self.old self.new (λ b. b ≡ asn)) }
+    {
+        self.put((ranks.rank(asn), asn))
+    }
+
+    /// Puts ASes into the queue.
+    pub(crate) fn add_all(&mut self, ranks: &NewRanks, asns: &[Asn]) -> Result<(), NoMemory>
+        ensures { OnOk result (IsAdded (rank_of ranks.now) self.old self.new (IsIn asns.now)) }
+    {
+        for asn in asns {
+            self.add(ranks, *asn)?;
+        }
+        Ok(())
+    }
+
+    /// Takes the AS of the lowest rank out of the queue.
+    pub(crate) fn pop_lowest(&mut self) -> Option<Asn>
+        ensures taken { (rank : ℕ → ℕ) → HasRanks rank self.old → IfSome result (IsLowest rank self.old self.new) }
+        ensures none { (rank : ℕ → ℕ) → IfNone result ((b : ℕ) → waits rank self.old b ≡ false) }
+    {
+        match self.one {
+            Some((_, asn)) => {
+                self.one = None;
+                Some(asn)
+            }
+            None => match self.many.pop_first() {
+                Some((_, asn)) => Some(asn),
+                None => None,
+            },
+        }
+    }
+
+    /// Takes the AS of the highest rank out of the queue.
+    pub(crate) fn pop_highest(&mut self) -> Option<Asn>
+        ensures taken { (rank : ℕ → ℕ) → HasRanks rank self.old → IfSome result (IsHighest rank self.old self.new) }
+        ensures none { (rank : ℕ → ℕ) → IfNone result ((b : ℕ) → waits rank self.old b ≡ false) }
+    {
+        match self.one {
+            Some((_, asn)) => {
+                self.one = None;
+                Some(asn)
+            }
+            None => match self.many.pop_last() {
+                Some((_, asn)) => Some(asn),
+                None => None,
+            },
+        }
     }
 }

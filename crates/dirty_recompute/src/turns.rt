@@ -17,7 +17,7 @@ ghost use Rattle.dirty_recompute.specs.Steps.{IsLeft};
 ghost use Rattle.dirty_recompute.specs.Turns.{IsTurnUp, IsTurnDown};
 
 use crate::new_ranks::NewRanks;
-use crate::queue::add;
+use crate::queue::Queue;
 use crate::stepping::{is_left, step_up, step_whole};
 use as_graph::{Graph, Neighbour};
 use net_names::{Asn, NoMemory, Rel};
@@ -25,7 +25,6 @@ use path_pool::PathPool;
 use policy_laws::{OriginStates, RoutePolicy};
 use route_choice::{Held, Overlay, SeedIds, Steps, Table};
 use stability_laws::Book;
-use std::collections::BTreeSet;
 use std::sync::ledger::Ledger;
 
 // Puts the neighbour into the queue if it is this to the AS, and may not be left.
@@ -42,7 +41,7 @@ fn queue_one<P: RoutePolicy, V: OriginStates>(
     before: &Option<Held>,
     neighbour: Neighbour,
     wanted: Rel,
-    queue: &mut BTreeSet<(u32, Asn)>,
+    queue: &mut Queue,
 ) -> Result<(), NoMemory>
     requires held { AreHeld pool.now table.now overlay.now }
     requires seeds { AreSeedsLive pool.now seeds.now }
@@ -62,7 +61,7 @@ fn queue_one<P: RoutePolicy, V: OriginStates>(
             *before,
             neighbour.asn,
         ) {
-            add(ranks, queue, neighbour.asn)?;
+            queue.add(ranks, neighbour.asn)?;
         }
     }
     Ok(())
@@ -82,7 +81,7 @@ fn queue_those<P: RoutePolicy, V: OriginStates>(
     before: &Option<Held>,
     neighbours: &[Neighbour],
     wanted: Rel,
-    queue: &mut BTreeSet<(u32, Asn)>,
+    queue: &mut Queue,
 ) -> Result<(), NoMemory>
     requires held { AreHeld pool.now table.now overlay.now }
     requires seeds { AreSeedsLive pool.now seeds.now }
@@ -101,14 +100,14 @@ fn queue_those<P: RoutePolicy, V: OriginStates>(
 // Puts the AS into the queue downwards, if it has no seed and no offer of a customer.
 fn queue_itself(
     ranks: &NewRanks,
-    queue: &mut BTreeSet<(u32, Asn)>,
+    queue: &mut Queue,
     asn: Asn,
     nothing: bool,
 ) -> Result<(), NoMemory>
     ensures { OnOk result (IsAdded (rank_of ranks.now) queue.old queue.new (λ b. (b ≡ asn) × (nothing ≡ true))) }
 {
     if nothing {
-        add(ranks, queue, asn)?;
+        queue.add(ranks, asn)?;
     }
     Ok(())
 }
@@ -127,8 +126,8 @@ fn queue_around<P: RoutePolicy, V: OriginStates>(
     asn: Asn,
     before: &Option<Held>,
     changed: bool,
-    up: &mut BTreeSet<(u32, Asn)>,
-    whole: &mut BTreeSet<(u32, Asn)>,
+    up: &mut Queue,
+    whole: &mut Queue,
 ) -> Result<(), NoMemory>
     requires held { AreHeld pool.now table.now overlay.now }
     requires seeds { AreSeedsLive pool.now seeds.now }
@@ -200,7 +199,7 @@ fn queue_customers<P: RoutePolicy, V: OriginStates>(
     asn: Asn,
     before: &Option<Held>,
     changed: bool,
-    whole: &mut BTreeSet<(u32, Asn)>,
+    whole: &mut Queue,
 ) -> Result<(), NoMemory>
     requires held { AreHeld pool.now table.now overlay.now }
     requires seeds { AreSeedsLive pool.now seeds.now }
@@ -240,8 +239,8 @@ pub(crate) fn turn_up<P: RoutePolicy, V: OriginStates, L: Ledger>(
     table: &Table,
     overlay: &mut Overlay,
     asn: Asn,
-    up: &mut BTreeSet<(u32, Asn)>,
-    whole: &mut BTreeSet<(u32, Asn)>,
+    up: &mut Queue,
+    whole: &mut Queue,
     steps: &mut Steps<L>,
 ) -> Result<(), NoMemory>
     requires can { CanTurn pool.old seeds.now table.now overlay.old }
@@ -283,7 +282,7 @@ pub(crate) fn turn_down<P: RoutePolicy, V: OriginStates, L: Ledger>(
     table: &Table,
     overlay: &mut Overlay,
     asn: Asn,
-    whole: &mut BTreeSet<(u32, Asn)>,
+    whole: &mut Queue,
     steps: &mut Steps<L>,
 ) -> Result<(), NoMemory>
     requires can { CanTurn pool.old seeds.now table.now overlay.old }

@@ -29,7 +29,7 @@ turn_down-requires-clause-settled g c =
     let (n, began) = c.requires.work in
     let work = c.loop-asn.invariant.work n began in
     settled g.P.RoutePolicy.meaning laws c.args.graph.now c.args.book.now state rank c.args.touched.now c.args.seeds.now c.args.table.now c.requires.falls c.args.pool.now c.loop-asn.pool c.loop-asn.pool c.args.overlay.now c.loop-asn.overlay c.loop-asn.overlay c.args.steps.now c.loop-asn.steps c.loop-asn.steps c.in-Some.asn
-    (λ b out. ap (option_map (seed_of c.loop-asn.pool)) (c.requires.seeds b out)) first could c.loop-asn.whole c.pop_highest.new.queue n c.loop-asn.invariant.turns work (c.in-Some.ensures.taken rank work.ranks).taken
+    (λ b out. ap (option_map (seed_of c.loop-asn.pool)) (c.requires.seeds b out)) first could c.loop-asn.whole c.pop_highest.new.self n c.loop-asn.invariant.turns work (c.in-Some.ensures.taken rank work.ranks).taken
 
 pub loop-asn-preserved : goal.loop-asn-preserved
 loop-asn-preserved g c =
@@ -40,7 +40,7 @@ loop-asn-preserved g c =
     let (n, began) = c.requires.work in
     let out = c.in-Some.ensures.taken rank (c.loop-asn.invariant.work n began).ranks in
     downward_next g.P.RoutePolicy.meaning laws c.args.graph.now c.args.book.now state rank c.args.touched.now c.args.seeds.now c.args.table.now c.requires.falls c.args.pool.now c.loop-asn.pool c.turn_down.new.pool c.args.overlay.now c.loop-asn.overlay c.turn_down.new.overlay c.args.steps.now c.loop-asn.steps c.turn_down.new.steps c.in-Some.asn
-    (λ b out. ap (option_map (seed_of c.loop-asn.pool)) (c.requires.seeds b out)) first could c.args.whole.now c.loop-asn.whole c.pop_highest.new.queue c.turn_down.new.whole n began
+    (λ b out. ap (option_map (seed_of c.loop-asn.pool)) (c.requires.seeds b out)) first could c.args.whole.now c.loop-asn.whole c.pop_highest.new.self c.turn_down.new.whole n began
     c.loop-asn.invariant out.taken out.greatest c.in_ok-turn_down.ensures.turn c.in_ok-turn_down.ensures.paid c.in_ok-turn_down.ensures.kept c.in_ok-turn_down.ensures.cost
 
 pub loop-asn-smaller : goal.loop-asn-smaller

@@ -5,7 +5,6 @@ use Rattle.route_choice.specs.Tables.{prefix_of}
 use Rattle.dirty_recompute.specs.NewRanks.{rank_of}
 use Rattle.dirty_recompute.specs.Resources.{has_change}
 use Rattle.dirty_recompute.proofs.Going.{can_turn}
-use Rattle.dirty_recompute.proofs.QueueLemmas.{none_waits}
 use Rattle.dirty_recompute.proofs.Loops.{AreLaws, halfway, no_ranks}
 use Rattle.dirty_recompute.proofs.Ways.{upward_start, upward_next, fresh, unchanged, few_turns_up}
 use Rattle.dirty_recompute.proofs.plan.go_up.Goals as goal
@@ -16,7 +15,7 @@ loop-asn-init g c =
     let rank = rank_of c.args.ranks.now in
     let state = g.V.OriginStates.state_of c.args.states.now (prefix_of c.args.table.now) in
     upward_start g.P.RoutePolicy.meaning laws c.args.graph.now c.args.book.now state rank c.args.touched.now c.args.seeds.now c.args.table.now c.requires.falls c.args.pool.now c.args.overlay.now c.in_ok-up.up c.new-whole.result c.args.steps.now
-    c.requires.fresh c.in_ok-up.ensures.touched (none_waits rank c.new-whole.result c.new-whole.ensures.empty) c.in_ok-up.ensures.ranks (no_ranks rank c.new-whole.result c.new-whole.ensures.empty)
+    c.requires.fresh c.in_ok-up.ensures.touched (λ b. c.new-whole.ensures (rank b, b)) c.in_ok-up.ensures.ranks (no_ranks rank c.new-whole.result c.new-whole.ensures)
     c.requires.entries c.requires.seeds c.requires.right
 
 pub turn_up-requires-clause-can : goal.turn_up-requires-clause-can
@@ -30,7 +29,7 @@ turn_up-requires-clause-fresh g c =
     let rank = rank_of c.args.ranks.now in
     let state = g.V.OriginStates.state_of c.args.states.now (prefix_of c.args.table.now) in
     unchanged c.loop-asn.overlay c.in-Some.asn
-    (fresh g.P.RoutePolicy.meaning laws c.args.graph.now c.args.book.now state rank c.args.touched.now c.args.seeds.now c.args.table.now c.requires.falls c.loop-asn.pool c.loop-asn.overlay c.loop-asn.up c.loop-asn.whole c.pop_lowest.new.queue c.loop-asn.invariant.turns c.in-Some.asn
+    (fresh g.P.RoutePolicy.meaning laws c.args.graph.now c.args.book.now state rank c.args.touched.now c.args.seeds.now c.args.table.now c.requires.falls c.loop-asn.pool c.loop-asn.overlay c.loop-asn.up c.loop-asn.whole c.pop_lowest.new.self c.loop-asn.invariant.turns c.in-Some.asn
     c.loop-asn.invariant.work (c.in-Some.ensures.taken rank c.loop-asn.invariant.work.ranks).taken)
 
 pub loop-asn-preserved : goal.loop-asn-preserved
@@ -41,7 +40,7 @@ loop-asn-preserved g c =
     let (first, could) = c.requires.can in
     let out = c.in-Some.ensures.taken rank c.loop-asn.invariant.work.ranks in
     upward_next g.P.RoutePolicy.meaning laws c.args.graph.now c.args.book.now state rank c.args.touched.now c.args.seeds.now c.args.table.now c.requires.falls c.args.pool.now c.loop-asn.pool c.turn_up.new.pool c.args.overlay.now c.loop-asn.overlay c.turn_up.new.overlay c.args.steps.now c.loop-asn.steps c.turn_up.new.steps c.in-Some.asn
-    (λ b out. ap (option_map (seed_of c.loop-asn.pool)) (c.requires.seeds b out)) first could c.loop-asn.up c.pop_lowest.new.queue c.turn_up.new.up c.loop-asn.whole c.turn_up.new.whole
+    (λ b out. ap (option_map (seed_of c.loop-asn.pool)) (c.requires.seeds b out)) first could c.loop-asn.up c.pop_lowest.new.self c.turn_up.new.up c.loop-asn.whole c.turn_up.new.whole
     c.loop-asn.invariant out.taken out.least c.in_ok-turn_up.ensures.turn c.in_ok-turn_up.ensures.paid c.in_ok-turn_up.ensures.kept c.in_ok-turn_up.ensures.cost
 
 pub loop-asn-smaller : goal.loop-asn-smaller

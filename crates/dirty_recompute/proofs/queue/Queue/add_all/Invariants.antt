@@ -1,7 +1,7 @@
 use Rattle.dirty_recompute.specs.NewRanks.{rank_of}
 use Rattle.dirty_recompute.specs.Queues.{IsAdded}
 use Rattle.dirty_recompute.proofs.QueueLemmas.{IsInBelow}
-use Rattle.dirty_recompute.proofs.queue.add_all.Given as goal
+use Rattle.dirty_recompute.proofs.queue.Queue.add_all.Given as goal
 
 abbrev pub invariant-loop-asn : goal.invariant-loop-asn
-invariant-loop-asn l = IsAdded (rank_of l.ranks) l.initial.queue l.queue (IsInBelow l.asn-index l.asns)
+invariant-loop-asn l = IsAdded (rank_of l.ranks) l.initial.self l.self (IsInBelow l.asn-index l.asns)
