@@ -5,6 +5,7 @@ pub mod Walking
 pub mod ListLemmas
 pub mod Joining
 pub mod Departing
+pub mod Detaching
 pub mod Building
 pub mod Queues
 pub mod Naming

@@ -1,18 +1,21 @@
-//! Places that leave the lists of the places that they send to.
+//! Places whose next hops change, and that leave the lists of the places that they send to.
 ghost use Rattle.std.specs.Prelude.{◌≡◌, ℕ, ◌<◌, ◌≤◌, [], ◌∷◌, ◌++◌, List, length, nat_eq, true, false, vec_capacity};
 ghost use Rattle.std.specs.List.{list_any};
 ghost use Rattle.net_names.specs.Numbers.{occurs};
 ghost use Rattle.data_trace.specs.declared.places.Mark.TheVariants as AMark;
-ghost use Rattle.data_trace.specs.Marks.{IsWithin};
+ghost use Rattle.as_graph.specs.Topology.{has};
+ghost use Rattle.data_trace.specs.Marks.{mark_of, IsWithin};
 ghost use Rattle.data_trace.specs.Traces.{IsIn};
 ghost use Rattle.data_trace.specs.Lists.{link_at, AreBelow, Unlinks, HasLists};
 ghost use Rattle.data_trace.specs.Spreads.{IsFront};
 ghost use Rattle.data_trace.specs.Sums.{room_of};
 ghost use Rattle.data_trace.specs.Counted.{AreCounted};
 ghost use Rattle.data_trace.specs.Columns.{name_at};
+ghost use Rattle.data_trace.specs.Sources.{HasHop, HopsChange};
 
 use crate::lists::put_link;
 use crate::places::{Group, Mark, PlaceHop};
+use crate::source::Source;
 use crate::spreading::forget_place;
 use crate::sums::Sums;
 use as_places::AsPlaces;
@@ -61,85 +64,125 @@ fn leave(
     unlink(first, before, after, a, b);
 }
 
-// Takes `a` out of its list, and forgets its end, unless that is done.
+// Whether two next hops are the same.
+fn same_hop(a: PlaceHop, b: PlaceHop) -> bool
+    ensures { result ≡ true → a ≡ b }
+{
+    match a {
+        PlaceHop::NoRoute => match b {
+            PlaceHop::NoRoute => true,
+            _ => false,
+        },
+        PlaceHop::Here => match b {
+            PlaceHop::Here => true,
+            _ => false,
+        },
+        PlaceHop::To(x) => match b {
+            PlaceHop::To(y) => x == y,
+            _ => false,
+        },
+    }
+}
+
+// Gives `a` the next hop of its AS. Where that differs from the one that is kept, takes it out of its
+// list and forgets its end.
 fn detach_place(
-    hops: &[PlaceHop],
+    source: &Source,
+    ases: &AsPlaces,
+    hops: &mut [PlaceHop],
     first: &mut [Option<u32>],
     before: &mut [Option<u32>],
     after: &mut [Option<u32>],
     sums: &mut Sums,
-    ases: &[Asn],
     marks: &mut [Mark],
     groups: &[Group],
     queue: &mut Vec<u32>,
     a: u32,
 )
-    requires inside { a < length hops.now }
-    requires within { IsWithin hops.now }
-    requires len { length marks.old ≡ length hops.now }
+    requires inside { a < length hops.old }
+    requires places { length hops.old ≡ length ases.now.ases }
+    requires listed { (x : ℕ) → has source.now.graph.now x ≡ true → occurs x ases.now.ases ≡ true }
+    requires within { IsWithin hops.old }
+    requires len { length marks.old ≡ length hops.old }
     requires front { (old : List AMark.the_data) × IsFront old marks.old queue.old.items }
-    requires lists { HasLists hops.now queue.old.items first.old before.old after.old }
-    requires room { length hops.now ≤ vec_capacity queue.old }
-    requires few { length ases.now < 4294967296 }
-    requires counted { AreCounted sums.old ases.now marks.old groups.now }
-    requires sums_room { length ases.now ≤ room_of sums.old }
+    requires lists { HasLists hops.old queue.old.items first.old before.old after.old }
+    requires unknown { (x : ℕ) → x < length hops.old → mark_of marks.old x ≡ AMark.Unknown → HasHop source.now ases.now.ases hops.old x }
+    requires room { length hops.old ≤ vec_capacity queue.old }
+    requires few { length ases.now.ases < 4294967296 }
+    requires counted { AreCounted sums.old ases.now.ases marks.old groups.now }
+    requires sums_room { length ases.now.ases ≤ room_of sums.old }
     ensures front { (old : List AMark.the_data) → IsFront old marks.old queue.old.items → IsFront old marks.new queue.new.items }
-    ensures lists { HasLists hops.now queue.new.items first.new before.new after.new }
-    ensures here { IsIn a queue.new.items }
-    ensures more { (x : ℕ) → IsIn x queue.old.items → IsIn x queue.new.items }
-    ensures counted { AreCounted sums.new ases.now marks.new groups.now }
+    ensures lists { HasLists hops.new queue.new.items first.new before.new after.new }
+    ensures within { IsWithin hops.new }
+    ensures unknown { (x : ℕ) → x < length hops.new → mark_of marks.new x ≡ AMark.Unknown → HasHop source.now ases.now.ases hops.new x }
+    ensures here { HasHop source.now ases.now.ases hops.new a }
+    ensures change { HopsChange source.now ases.now.ases hops.old hops.new queue.old.items queue.new.items }
+    ensures counted { AreCounted sums.new ases.now.ases marks.new groups.now }
     ensures room { vec_capacity queue.old ≤ vec_capacity queue.new }
     ensures sums_room { room_of sums.old ≤ room_of sums.new }
 {
     if let Mark::Unknown = marks[a as usize] {
         return;
     }
+    let numbers = ases.as_slice();
+    let hop = source.hop(ases, numbers[a as usize]);
+    if same_hop(hop, hops[a as usize]) {
+        return;
+    }
     leave(hops, first, before, after, a);
-    forget_place(sums, ases, marks, groups, queue, a);
+    hops[a as usize] = hop;
+    forget_place(sums, numbers, marks, groups, queue, a);
 }
 
-/// Takes the places of the changed ASes out of their lists, and forgets their ends. An AS without a
-/// place is passed over.
+/// Gives the places of these ASes the next hops of their ASes. Takes those out of their lists whose next
+/// hops differ, and forgets their ends. An AS without a place is passed over.
 pub fn detach(
-    hops: &[PlaceHop],
+    source: &Source,
+    ases: &AsPlaces,
+    hops: &mut [PlaceHop],
     first: &mut [Option<u32>],
     before: &mut [Option<u32>],
     after: &mut [Option<u32>],
     sums: &mut Sums,
-    ases: &AsPlaces,
     marks: &mut [Mark],
     groups: &[Group],
     queue: &mut Vec<u32>,
     changed: &[Asn],
 )
-    requires places { length hops.now ≡ length ases.now.ases }
-    requires within { IsWithin hops.now }
-    requires len { length marks.old ≡ length hops.now }
+    requires places { length hops.old ≡ length ases.now.ases }
+    requires listed { (x : ℕ) → has source.now.graph.now x ≡ true → occurs x ases.now.ases ≡ true }
+    requires within { IsWithin hops.old }
+    requires len { length marks.old ≡ length hops.old }
     requires front { (old : List AMark.the_data) × IsFront old marks.old queue.old.items }
-    requires lists { HasLists hops.now queue.old.items first.old before.old after.old }
-    requires room { length hops.now ≤ vec_capacity queue.old }
+    requires lists { HasLists hops.old queue.old.items first.old before.old after.old }
+    requires unknown { (x : ℕ) → x < length hops.old → mark_of marks.old x ≡ AMark.Unknown → HasHop source.now ases.now.ases hops.old x }
+    requires room { length hops.old ≤ vec_capacity queue.old }
     requires few { length ases.now.ases < 4294967296 }
     requires counted { AreCounted sums.old ases.now.ases marks.old groups.now }
     requires sums_room { length ases.now.ases ≤ room_of sums.old }
     ensures front { (old : List AMark.the_data) → IsFront old marks.old queue.old.items → IsFront old marks.new queue.new.items }
-    ensures lists { HasLists hops.now queue.new.items first.new before.new after.new }
-    ensures changed { (x : ℕ) → x < length ases.now.ases → occurs (name_at ases.now.ases x) changed.now ≡ true → IsIn x queue.new.items }
-    ensures more { (x : ℕ) → IsIn x queue.old.items → IsIn x queue.new.items }
+    ensures lists { HasLists hops.new queue.new.items first.new before.new after.new }
+    ensures within { IsWithin hops.new }
+    ensures unknown { (x : ℕ) → x < length hops.new → mark_of marks.new x ≡ AMark.Unknown → HasHop source.now ases.now.ases hops.new x }
+    ensures changed { (x : ℕ) → x < length ases.now.ases → occurs (name_at ases.now.ases x) changed.now ≡ true → HasHop source.now ases.now.ases hops.new x }
+    ensures change { HopsChange source.now ases.now.ases hops.old hops.new queue.old.items queue.new.items }
     ensures counted { AreCounted sums.new ases.now.ases marks.new groups.now }
     ensures room { vec_capacity queue.old ≤ vec_capacity queue.new }
     ensures sums_room { room_of sums.old ≤ room_of sums.new }
 {
+    let _numbers = ases.as_slice();
     'changed: for asn in changed {
         let Some(place) = ases.place(*asn) else {
             continue 'changed;
         };
         detach_place(
+            source,
+            ases,
             hops,
             first,
             before,
             after,
             sums,
-            ases.as_slice(),
             marks,
             groups,
             queue,

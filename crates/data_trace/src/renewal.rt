@@ -94,17 +94,16 @@ fn renew(
 {
     queue.clear();
     detach(
-        hops, first, before, after, sums, ases, marks, groups, queue, changed,
+        source, ases, hops, first, before, after, sums, marks, groups, queue, changed,
     );
     detach(
-        hops, first, before, after, sums, ases, marks, groups, queue, regrouped,
+        source, ases, hops, first, before, after, sums, marks, groups, queue, regrouped,
     );
     let count = queue.len();
     let numbers = ases.as_slice();
     spread(sums, numbers, marks, groups, first, after, queue);
     let places = queue.as_slice();
     let roots = &places[..count];
-    source.rewrite(ases, hops, roots);
     relink(hops, first, before, after, roots);
     settle_each(sums, numbers, hops, marks, groups, path, places);
 }

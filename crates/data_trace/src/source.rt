@@ -1,14 +1,11 @@
 //! The next hops of the ASes of a graph, as places.
-ghost use Rattle.std.specs.Prelude.{◌≡◌, ℕ, ◌<◌, true, false, length, List, nat_eq, slice_index};
-ghost use Rattle.std.specs.List.{list_any};
+ghost use Rattle.std.specs.Prelude.{◌≡◌, ℕ, ◌<◌, true, length};
 ghost use Rattle.net_names.specs.Numbers.{occurs};
 ghost use Rattle.as_graph.specs.Topology.{has};
 ghost use Rattle.route_choice.specs.RoundTables.{round_routing, AreAllLive};
 ghost use Rattle.data_trace.specs.declared.places.PlaceHop.TheVariants as APlaceHop;
-ghost use Rattle.data_trace.specs.Traces.{IsIn};
-ghost use Rattle.data_trace.specs.Marks.{hop_at, IsWithin};
 ghost use Rattle.data_trace.specs.Watches.{StaysInside};
-ghost use Rattle.data_trace.specs.Columns.{named, name_at};
+ghost use Rattle.data_trace.specs.Columns.{named};
 
 use crate::columns::place_of;
 use crate::hops::next_hop;
@@ -35,8 +32,8 @@ pub struct Source<'a> {
 impl<'a> Source<'a> {
     ghost use Rattle.data_trace.specs.Sources.{sends};
 
-    // Where an AS of the graph sends, and no route of others.
-    fn hop(&self, ases: &AsPlaces, asn: Asn) -> PlaceHop
+    /// Where an AS of the graph sends, and no route of others.
+    pub fn hop(&self, ases: &AsPlaces, asn: Asn) -> PlaceHop
         requires few { length ases.now.ases < 4294967296 }
         requires listed { (a : ℕ) → has self.now.graph.now a ≡ true → occurs a ases.now.ases ≡ true }
         ensures named { named ases.now.ases result ≡ sends self.now asn }
@@ -47,23 +44,5 @@ impl<'a> Source<'a> {
         }
         let hop = next_hop(self.tables, self.pool, self.plan, asn, self.addr);
         place_of(ases, hop, 0)
-    }
-
-    /// Gives the places of `roots` their next hops.
-    pub fn rewrite(&self, ases: &AsPlaces, hops: &mut [PlaceHop], roots: &[u32])
-        requires few { length ases.now.ases < 4294967296 }
-        requires listed { (a : ℕ) → has self.now.graph.now a ≡ true → occurs a ases.now.ases ≡ true }
-        requires len { length hops.old ≡ length ases.now.ases }
-        requires within { IsWithin hops.old }
-        requires roots { (k : ℕ) → k < length roots.now → slice_index roots.now k < length hops.old }
-        ensures within { IsWithin hops.new }
-        ensures changed { (x : ℕ) → IsIn x roots.now → named ases.now.ases (hop_at hops.new x) ≡ sends self.now (name_at ases.now.ases x) }
-        ensures others { (x : ℕ) → list_any (nat_eq x) roots.now ≡ false → hop_at hops.new x ≡ hop_at hops.old x }
-    {
-        let numbers = ases.as_slice();
-        'roots: for place in roots {
-            let asn = numbers[*place as usize];
-            hops[*place as usize] = self.hop(ases, asn);
-        }
     }
 }

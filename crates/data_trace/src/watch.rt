@@ -316,7 +316,8 @@ impl Watch {
     /// The watch can keep the ASes of the graph without memory. At every AS of the graph that is in
     /// neither list, the kept next hop is right already; at every AS that is not in `regrouped`, so
     /// are its presence and its groups. Of the tables it wants what `build` wants. It takes no memory,
-    /// and time by the lists and by the number of ASes whose packets pass an AS of the lists.
+    /// and time by the lists and by the number of ASes whose packets pass an AS with another next hop
+    /// than before. An AS whose groups alone differ is only counted anew.
     pub fn update<P: Labelled>(
         &mut self,
         graph: &Graph,

@@ -1,9 +1,9 @@
 use Rattle.std.proofs.Common.{◌≡◌, ⊎_elim, ℕ, true, List, get_or, take, sym, ◌∙◌, subst, arith}
 use Rattle.std.proofs.lemmas.List.{get_or_default}
 use Rattle.net_names.specs.Numbers.{occurs}
-use Rattle.data_trace.specs.Traces.{IsIn}
-use Rattle.data_trace.specs.Counted.{AreCounted}
 use Rattle.data_trace.specs.Columns.{name_at}
+use Rattle.data_trace.specs.Sources.{HasHop}
+use Rattle.data_trace.proofs.Detaching.{change_then}
 use Rattle.data_trace.proofs.Placing.{found_only, occurs_more}
 use Rattle.data_trace.proofs.leaving.detach.Goals as goal
 
@@ -16,10 +16,12 @@ changed-preserved c =
     record {
       front = λ old w. c.detach_place.ensures.front old (c.changed.invariant.front old w);
       lists = c.detach_place.ensures.lists;
-      done = λ x l o. ⊎_elim (λ (e : name_at keys x ≡ get_or xs i 0). subst (λ y. IsIn y c.detach_place.new.queue.items) (sym (found_only keys c.asn-item.result c.in-Some.place x c.as_slice.ensures.apart c.in-Some.ensures.found l (e ∙ sym asn))) c.detach_place.ensures.here)
-          (λ (q : occurs (name_at keys x) (take i xs) ≡ true). c.detach_place.ensures.more x (c.changed.invariant.done x l q)) (occurs_more (name_at keys x) xs i c.changed-test.true o);
-      more = λ x h. c.detach_place.ensures.more x (c.changed.invariant.more x h);
-      counted = subst (λ (ks : List ℕ). AreCounted c.detach_place.new.sums ks c.detach_place.new.marks c.args.groups.now) c.as_slice.ensures.list c.detach_place.ensures.counted;
+      within = c.detach_place.ensures.within;
+      unknown = c.detach_place.ensures.unknown;
+      done = λ x l o. ⊎_elim (λ (e : name_at keys x ≡ get_or xs i 0). subst (HasHop c.args.source.now keys c.detach_place.new.hops) (sym (found_only keys c.asn-item.result c.in-Some.place x c.as_slice-numbers.ensures.apart c.in-Some.ensures.found l (e ∙ sym asn))) c.detach_place.ensures.here)
+          (λ (q : occurs (name_at keys x) (take i xs) ≡ true). c.detach_place.ensures.change.right x (c.changed.invariant.done x l q)) (occurs_more (name_at keys x) xs i c.changed-test.true o);
+      change = change_then c.args.source.now keys _ _ _ _ _ _ c.changed.invariant.change c.detach_place.ensures.change;
+      counted = c.detach_place.ensures.counted;
       room = omega (arith, c.changed.invariant.room, c.detach_place.ensures.room);
       sums_room = omega (arith, c.changed.invariant.sums_room, c.detach_place.ensures.sums_room);
     }
