@@ -3,6 +3,7 @@ ghost use Rattle.std.specs.Prelude.{◌≡◌, length, IfOk};
 ghost use Rattle.data_trace.specs.Blank.{IsBlank};
 
 use crate::counting::no_sums;
+use crate::packed::PackedMark;
 use crate::places::{Group, Mark};
 use crate::sums::Sums;
 use net_names::Asn;
@@ -11,7 +12,7 @@ use std::alloc::{AllocError, Global};
 /// The marks of places of which no end is known, the sums that count none, and room for a walk.
 #[derive(Drop)]
 pub struct Blank {
-    pub marks: Vec<Mark>,
+    pub marks: Vec<PackedMark>,
     pub sums: Sums,
     pub path: Vec<u32>,
 }
@@ -22,7 +23,7 @@ impl Blank {
         requires { length groups.now ≡ length ases.now }
         ensures { IfOk result (λ b. IsBlank ases.now groups.now b) }
     {
-        let marks = vec![in alloc; Mark::Unknown; ases.len()]?;
+        let marks = vec![in alloc; PackedMark::of(Mark::Unknown); ases.len()]?;
         let path = Vec::with_capacity(alloc, ases.len())?;
         let sums = no_sums(alloc, ases, &marks, groups)?;
         Ok(Blank { marks, sums, path })

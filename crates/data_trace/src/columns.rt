@@ -12,6 +12,7 @@ ghost use Rattle.data_trace.specs.declared.places.PlaceHop.TheVariants as APlace
 use crate::Hop;
 use crate::forwarding::Forwarding;
 use crate::hints::Hints;
+use crate::packed::PackedHop;
 use crate::places::{Group, PlaceHop, Standing};
 use as_graph::{Graph, Neighbour};
 use as_places::AsPlaces;
@@ -35,7 +36,7 @@ pub fn ases_of(alloc: Global, graph: &Graph) -> Result<AsPlaces, NoMemory>
 /// The next hop, with the place in place of its AS, which is sought first at a place.
 pub fn place_of(ases: &AsPlaces, hop: Hop, near: usize) -> PlaceHop
     requires among { IsAmong ases.now.ases hop }
-    requires few { length ases.now.ases < 4294967296 }
+    requires few { length ases.now.ases < 4294967292 }
     ensures named { named ases.now.ases result ≡ hop }
     ensures within { (y : ℕ) → result ≡ APlaceHop.To y → y < length ases.now.ases }
 {
@@ -54,7 +55,7 @@ fn hops_of(
     alloc: Global,
     forwarding: &Forwarding<'_>,
     ases: &AsPlaces,
-) -> Result<Vec<PlaceHop>, NoMemory>
+) -> Result<Vec<PackedHop>, NoMemory>
     requires among { (a : ℕ) → IsAmong ases.now.ases (next_hop_of forwarding.now.plan.now (round_routing forwarding.now.pool.now forwarding.now.tables.now) forwarding.now.addr a) }
     requires few { length ases.now.ases ≤ 150000 }
     ensures { IfOk result (λ v. AreHops (next_hop_of forwarding.now.plan.now (round_routing forwarding.now.pool.now forwarding.now.tables.now) forwarding.now.addr) ases.now.ases v.items) }
@@ -70,7 +71,7 @@ fn hops_of(
         let hop = forwarding.next(numbers[place], place);
         let near = hints.near(&hop);
         let placed = place_of(ases, hop, near);
-        if hops.push(placed).is_err() {
+        if hops.push(PackedHop::of(placed)).is_err() {
             return Err(NoMemory);
         }
     }
@@ -85,7 +86,7 @@ pub fn next_hops(
     plan: &SeedPlan,
     addr: Addr,
     ases: &AsPlaces,
-) -> Result<Vec<PlaceHop>, NoMemory>
+) -> Result<Vec<PackedHop>, NoMemory>
     requires live { AreAllLive pool.now tables.now }
     requires among { (a : ℕ) → IsAmong ases.now.ases (next_hop_of plan.now (round_routing pool.now tables.now) addr a) }
     requires few { length ases.now.ases ≤ 150000 }

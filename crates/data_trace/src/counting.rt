@@ -8,6 +8,7 @@ ghost use Rattle.data_trace.specs.Sums.{total, room_of};
 ghost use Rattle.data_trace.specs.Counted.{kept_end, adds, AreCounted};
 
 use crate::End;
+use crate::packed::{PackedMark, mark_in, write_mark};
 use crate::places::{Group, Mark, PlaceEnd, Standing};
 use crate::sums::Sums;
 use net_names::Asn;
@@ -32,7 +33,7 @@ pub fn end_told(ases: &[Asn], mark: Mark) -> Option<End>
 // Counts an AS with this end and these groups.
 fn join(sums: &mut Sums, end: Option<End>, group: Group)
     requires room { total (λ e s l. true) sums.old + adds (λ e s l. true) end group ≤ room_of sums.old }
-    requires few { total (λ e s l. true) sums.old + adds (λ e s l. true) end group < 4294967296 }
+    requires few { total (λ e s l. true) sums.old + adds (λ e s l. true) end group < 4294967292 }
     ensures added { (p : AnEnd → Bool → ℕ → Bool) → total p sums.new ≡ total p sums.old + adds p end group }
     ensures room { room_of sums.old ≤ room_of sums.new }
 {
@@ -66,13 +67,13 @@ fn leave(sums: &mut Sums, end: Option<End>, group: Group)
 pub fn put_mark(
     sums: &mut Sums,
     ases: &[Asn],
-    marks: &mut [Mark],
+    marks: &mut [PackedMark],
     groups: &[Group],
     place: u32,
     mark: Mark,
 )
     requires inside { place < length ases.now }
-    requires few { length ases.now < 4294967296 }
+    requires few { length ases.now < 4294967292 }
     requires below { (y : ℕ) → mark ≡ AMark.Known (APlaceEnd.At y) → y < length ases.now }
     requires counted { AreCounted sums.old ases.now marks.old groups.now }
     requires room { length ases.now ≤ room_of sums.old }
@@ -81,8 +82,8 @@ pub fn put_mark(
     ensures room { room_of sums.old ≤ room_of sums.new }
 {
     let group = groups[place as usize];
-    leave(sums, end_told(ases, marks[place as usize]), group);
-    marks[place as usize] = mark;
+    leave(sums, end_told(ases, mark_in(marks, place)), group);
+    write_mark(marks, place, mark);
     join(sums, end_told(ases, mark), group);
 }
 
@@ -90,23 +91,23 @@ pub fn put_mark(
 pub fn put_group(
     sums: &mut Sums,
     ases: &[Asn],
-    marks: &[Mark],
+    marks: &[PackedMark],
     groups: &mut [Group],
     place: u32,
     group: Group,
 )
     requires inside { place < length ases.now }
-    requires few { length ases.now < 4294967296 }
+    requires few { length ases.now < 4294967292 }
     requires counted { AreCounted sums.old ases.now marks.now groups.old }
     requires room { length ases.now ≤ room_of sums.old }
     ensures groups { groups.new ≡ slice_set groups.old place group }
     ensures counted { AreCounted sums.new ases.now marks.now groups.new }
     ensures room { room_of sums.old ≤ room_of sums.new }
 {
-    let end = end_told(ases, marks[place as usize]);
+    let end = end_told(ases, mark_in(marks, place));
     leave(sums, end, groups[place as usize]);
     groups[place as usize] = group;
-    let end = end_told(ases, marks[place as usize]);
+    let end = end_told(ases, mark_in(marks, place));
     join(sums, end, groups[place as usize]);
 }
 
@@ -114,7 +115,7 @@ pub fn put_group(
 pub fn no_sums(
     alloc: Global,
     ases: &[Asn],
-    marks: &[Mark],
+    marks: &[PackedMark],
     groups: &[Group],
 ) -> Result<Sums, AllocError>
     requires unknown { (x : ℕ) → mark_of marks.now x ≡ AMark.Unknown }

@@ -5,7 +5,8 @@ ghost use Rattle.data_trace.specs.Sums.{total, room_of};
 ghost use Rattle.data_trace.specs.Keeping.{HasRoom};
 
 use crate::keeping::Lists;
-use crate::places::{Group, Mark, PlaceHop};
+use crate::packed::{PackedHop, PackedMark};
+use crate::places::Group;
 use crate::sums::Sums;
 use as_places::AsPlaces;
 use net_names::NoMemory;
@@ -13,14 +14,14 @@ use std::alloc::AllocError;
 
 // Makes room in these columns, which have so many places, for more.
 fn reserve_columns(
-    hops: &mut Vec<PlaceHop>,
-    marks: &mut Vec<Mark>,
+    hops: &mut Vec<PackedHop>,
+    marks: &mut Vec<PackedMark>,
     groups: &mut Vec<Group>,
     sums: &mut Sums,
     places: usize,
     more: usize,
 ) -> Result<(), AllocError>
-    requires few { places + more < 4294967296 }
+    requires few { places + more < 4294967292 }
     requires hops_len { length hops.old.items ≡ places }
     requires marks_len { length marks.old.items ≡ places }
     requires groups_len { length groups.old.items ≡ places }
@@ -46,14 +47,14 @@ fn reserve_columns(
 /// Makes room in all columns of a watch for so many places more. All else stays, whatever the result.
 pub fn reserve_all(
     ases: &mut AsPlaces,
-    hops: &mut Vec<PlaceHop>,
-    marks: &mut Vec<Mark>,
+    hops: &mut Vec<PackedHop>,
+    marks: &mut Vec<PackedMark>,
     groups: &mut Vec<Group>,
     sums: &mut Sums,
     lists: &mut Lists,
     more: usize,
 ) -> Result<(), NoMemory>
-    requires few { length ases.old.ases + more < 4294967296 }
+    requires few { length ases.old.ases + more < 4294967292 }
     requires hops_len { length hops.old.items ≡ length ases.old.ases }
     requires marks_len { length marks.old.items ≡ length ases.old.ases }
     requires groups_len { length groups.old.items ≡ length ases.old.ases }

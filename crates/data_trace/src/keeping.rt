@@ -4,7 +4,7 @@ ghost use Rattle.data_trace.specs.Marks.{IsWithin};
 ghost use Rattle.data_trace.specs.Lists.{AreNone};
 
 use crate::lists::{link_all, none_links, put_last};
-use crate::places::PlaceHop;
+use crate::packed::PackedHop;
 use std::alloc::{AllocError, Global};
 
 /// For each place the places that send to it, in lists that go through the places, and room for the
@@ -33,9 +33,9 @@ impl Lists {
     }
 
     /// The lists of all places.
-    pub fn of(alloc: Global, hops: &[PlaceHop]) -> Result<Lists, AllocError>
+    pub fn of(alloc: Global, hops: &[PackedHop]) -> Result<Lists, AllocError>
         requires within { IsWithin hops.now }
-        requires few { length hops.now < 4294967296 }
+        requires few { length hops.now < 4294967292 }
         ensures { IfOk result (λ l. AreKept hops.now (length hops.now) l) }
     {
         let count = hops.len();
@@ -49,7 +49,7 @@ impl Lists {
 
     // The lists of all places, in these columns.
     fn linked(
-        hops: &[PlaceHop],
+        hops: &[PackedHop],
         mut first: Vec<Option<u32>>,
         mut before: Vec<Option<u32>>,
         mut after: Vec<Option<u32>>,
@@ -57,7 +57,7 @@ impl Lists {
         path: Vec<u32>,
     ) -> Lists
         requires within { IsWithin hops.now }
-        requires few { length hops.now < 4294967296 }
+        requires few { length hops.now < 4294967292 }
         requires first { AreNone first.items (length hops.now) }
         requires before { AreNone before.items (length hops.now) }
         requires after { AreNone after.items (length hops.now) }
@@ -82,7 +82,7 @@ impl Lists {
 
     /// Makes room for so many places more.
     pub fn reserve(&mut self, places: usize, more: usize) -> Result<(), AllocError>
-        requires few { places + more < 4294967296 }
+        requires few { places + more < 4294967292 }
         requires first { length self.old.first.items ≡ places }
         requires before { length self.old.before.items ≡ places }
         requires after { length self.old.after.items ≡ places }

@@ -14,6 +14,7 @@ ghost use Rattle.data_trace.specs.Columns.{name_at};
 ghost use Rattle.data_trace.specs.Sources.{HasHop, HopsChange};
 
 use crate::lists::put_link;
+use crate::packed::{PackedHop, PackedMark, hop_in, mark_in, put_hop};
 use crate::places::{Group, Mark, PlaceHop};
 use crate::source::Source;
 use crate::spreading::forget_place;
@@ -46,7 +47,7 @@ fn unlink(
 
 // Takes `a` out of its list, if it stands in one.
 fn leave(
-    hops: &[PlaceHop],
+    hops: &[PackedHop],
     first: &mut [Option<u32>],
     before: &mut [Option<u32>],
     after: &mut [Option<u32>],
@@ -58,7 +59,7 @@ fn leave(
     ensures { (queue : List ℕ) → HasLists hops.now queue first.old before.old after.old → list_any (nat_eq a) queue ≡ false →
         HasLists hops.now (queue ++ a ∷ []) first.new before.new after.new }
 {
-    let PlaceHop::To(b) = hops[a as usize] else {
+    let PlaceHop::To(b) = hop_in(hops, a) else {
         return;
     };
     unlink(first, before, after, a, b);
@@ -89,12 +90,12 @@ fn same_hop(a: PlaceHop, b: PlaceHop) -> bool
 fn detach_place(
     source: &Source,
     ases: &AsPlaces,
-    hops: &mut [PlaceHop],
+    hops: &mut [PackedHop],
     first: &mut [Option<u32>],
     before: &mut [Option<u32>],
     after: &mut [Option<u32>],
     sums: &mut Sums,
-    marks: &mut [Mark],
+    marks: &mut [PackedMark],
     groups: &[Group],
     queue: &mut Vec<u32>,
     a: u32,
@@ -108,7 +109,7 @@ fn detach_place(
     requires lists { HasLists hops.old queue.old.items first.old before.old after.old }
     requires unknown { (x : ℕ) → x < length hops.old → mark_of marks.old x ≡ AMark.Unknown → HasHop source.now ases.now.ases hops.old x }
     requires room { length hops.old ≤ vec_capacity queue.old }
-    requires few { length ases.now.ases < 4294967296 }
+    requires few { length ases.now.ases < 4294967292 }
     requires counted { AreCounted sums.old ases.now.ases marks.old groups.now }
     requires sums_room { length ases.now.ases ≤ room_of sums.old }
     ensures front { (old : List AMark.the_data) → IsFront old marks.old queue.old.items → IsFront old marks.new queue.new.items }
@@ -121,16 +122,16 @@ fn detach_place(
     ensures room { vec_capacity queue.old ≤ vec_capacity queue.new }
     ensures sums_room { room_of sums.old ≤ room_of sums.new }
 {
-    if let Mark::Unknown = marks[a as usize] {
+    if let Mark::Unknown = mark_in(marks, a) {
         return;
     }
     let numbers = ases.as_slice();
     let hop = source.hop(ases, numbers[a as usize]);
-    if same_hop(hop, hops[a as usize]) {
+    if same_hop(hop, hop_in(hops, a)) {
         return;
     }
     leave(hops, first, before, after, a);
-    hops[a as usize] = hop;
+    put_hop(hops, a, hop);
     forget_place(sums, numbers, marks, groups, queue, a);
 }
 
@@ -139,12 +140,12 @@ fn detach_place(
 pub fn detach(
     source: &Source,
     ases: &AsPlaces,
-    hops: &mut [PlaceHop],
+    hops: &mut [PackedHop],
     first: &mut [Option<u32>],
     before: &mut [Option<u32>],
     after: &mut [Option<u32>],
     sums: &mut Sums,
-    marks: &mut [Mark],
+    marks: &mut [PackedMark],
     groups: &[Group],
     queue: &mut Vec<u32>,
     changed: &[Asn],
@@ -157,7 +158,7 @@ pub fn detach(
     requires lists { HasLists hops.old queue.old.items first.old before.old after.old }
     requires unknown { (x : ℕ) → x < length hops.old → mark_of marks.old x ≡ AMark.Unknown → HasHop source.now ases.now.ases hops.old x }
     requires room { length hops.old ≤ vec_capacity queue.old }
-    requires few { length ases.now.ases < 4294967296 }
+    requires few { length ases.now.ases < 4294967292 }
     requires counted { AreCounted sums.old ases.now.ases marks.old groups.now }
     requires sums_room { length ases.now.ases ≤ room_of sums.old }
     ensures front { (old : List AMark.the_data) → IsFront old marks.old queue.old.items → IsFront old marks.new queue.new.items }

@@ -19,6 +19,7 @@ mod kinds;
 mod laws;
 mod leaving;
 mod lists;
+mod packed;
 mod places;
 mod renewal;
 mod source;

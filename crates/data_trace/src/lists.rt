@@ -4,6 +4,7 @@ ghost use Rattle.std.specs.List.{list_any, IsDistinct};
 ghost use Rattle.data_trace.specs.Marks.{IsWithin};
 ghost use Rattle.data_trace.specs.Lists.{link_at, AreBelow, LinksFirst, HasLists, AreNone};
 
+use crate::packed::{PackedHop, hop_in};
 use crate::places::PlaceHop;
 use std::alloc::{AllocError, Global};
 
@@ -41,7 +42,7 @@ fn link(
 
 // Puts `a` into the list of the place that it sends to, if there is one.
 fn join(
-    hops: &[PlaceHop],
+    hops: &[PackedHop],
     first: &mut [Option<u32>],
     before: &mut [Option<u32>],
     after: &mut [Option<u32>],
@@ -53,7 +54,7 @@ fn join(
     ensures { (rest : List ℕ) → HasLists hops.now (a ∷ rest) first.old before.old after.old → list_any (nat_eq a) rest ≡ false →
         HasLists hops.now rest first.new before.new after.new }
 {
-    let PlaceHop::To(b) = hops[a as usize] else {
+    let PlaceHop::To(b) = hop_in(hops, a) else {
         return;
     };
     link(first, before, after, a, b);
@@ -61,7 +62,7 @@ fn join(
 
 /// Puts the places of `roots`, which are in no list, into the lists of the places that they send to.
 pub fn relink(
-    hops: &[PlaceHop],
+    hops: &[PackedHop],
     first: &mut [Option<u32>],
     before: &mut [Option<u32>],
     after: &mut [Option<u32>],
@@ -80,13 +81,13 @@ pub fn relink(
 
 /// Puts all places, which are in no list, into the lists of the places that they send to.
 pub fn link_all(
-    hops: &[PlaceHop],
+    hops: &[PackedHop],
     first: &mut [Option<u32>],
     before: &mut [Option<u32>],
     after: &mut [Option<u32>],
 )
     requires within { IsWithin hops.now }
-    requires few { length hops.now < 4294967296 }
+    requires few { length hops.now < 4294967292 }
     requires first { AreNone first.old (length hops.now) }
     requires before { AreNone before.old (length hops.now) }
     requires after { AreNone after.old (length hops.now) }

@@ -16,7 +16,8 @@ use crate::counting::put_group;
 use crate::keeping::Lists;
 use crate::leaving::detach;
 use crate::lists::relink;
-use crate::places::{Group, Mark, PlaceHop};
+use crate::packed::{PackedHop, PackedMark};
+use crate::places::Group;
 use crate::source::Source;
 use crate::spreading::spread;
 use crate::sums::Sums;
@@ -31,13 +32,13 @@ use stability_laws::Book;
 pub fn regroup<P: Labelled>(
     sums: &mut Sums,
     ases: &AsPlaces,
-    marks: &[Mark],
+    marks: &[PackedMark],
     groups: &mut [Group],
     graph: &Graph,
     book: &Book<P>,
     regrouped: &[Asn],
 )
-    requires few { length ases.now.ases < 4294967296 }
+    requires few { length ases.now.ases < 4294967292 }
     requires counted { AreCounted sums.old ases.now.ases marks.now groups.old }
     requires sums_room { length ases.now.ases ≤ room_of sums.old }
     ensures regrouped { (x : ℕ) → x < length ases.now.ases → occurs (name_at ases.now.ases x) regrouped.now ≡ true →
@@ -60,8 +61,8 @@ fn renew(
     source: &Source,
     sums: &mut Sums,
     ases: &AsPlaces,
-    hops: &mut [PlaceHop],
-    marks: &mut [Mark],
+    hops: &mut [PackedHop],
+    marks: &mut [PackedMark],
     groups: &[Group],
     first: &mut [Option<u32>],
     before: &mut [Option<u32>],
@@ -71,7 +72,7 @@ fn renew(
     changed: &[Asn],
     regrouped: &[Asn],
 )
-    requires few { length ases.now.ases < 4294967296 }
+    requires few { length ases.now.ases < 4294967292 }
     requires listed { (a : ℕ) → has source.now.graph.now a ≡ true → occurs a ases.now.ases ≡ true }
     requires len { length hops.old ≡ length ases.now.ases }
     requires within { IsWithin hops.old }
@@ -113,14 +114,14 @@ pub fn renew_all(
     source: &Source,
     sums: &mut Sums,
     ases: &AsPlaces,
-    hops: &mut Vec<PlaceHop>,
-    marks: &mut Vec<Mark>,
+    hops: &mut Vec<PackedHop>,
+    marks: &mut Vec<PackedMark>,
     groups: &[Group],
     lists: &mut Lists,
     changed: &[Asn],
     regrouped: &[Asn],
 )
-    requires few { length ases.now.ases < 4294967296 }
+    requires few { length ases.now.ases < 4294967292 }
     requires listed { (a : ℕ) → has source.now.graph.now a ≡ true → occurs a ases.now.ases ≡ true }
     requires len { length hops.old.items ≡ length ases.now.ases }
     requires within { IsWithin hops.old.items }

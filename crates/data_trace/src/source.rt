@@ -34,7 +34,7 @@ impl<'a> Source<'a> {
 
     /// Where an AS of the graph sends, and no route of others.
     pub fn hop(&self, ases: &AsPlaces, asn: Asn) -> PlaceHop
-        requires few { length ases.now.ases < 4294967296 }
+        requires few { length ases.now.ases < 4294967292 }
         requires listed { (a : ℕ) → has self.now.graph.now a ≡ true → occurs a ases.now.ases ≡ true }
         ensures named { named ases.now.ases result ≡ sends self.now asn }
         ensures within { (y : ℕ) → result ≡ APlaceHop.To y → y < length ases.now.ases }

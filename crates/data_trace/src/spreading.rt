@@ -7,6 +7,7 @@ ghost use Rattle.data_trace.specs.Sums.{room_of};
 ghost use Rattle.data_trace.specs.Counted.{AreCounted};
 
 use crate::counting::put_mark;
+use crate::packed::{PackedMark, mark_in};
 use crate::places::{Group, Mark};
 use crate::sums::Sums;
 use net_names::Asn;
@@ -15,14 +16,14 @@ use net_names::Asn;
 pub fn forget_place(
     sums: &mut Sums,
     ases: &[Asn],
-    marks: &mut [Mark],
+    marks: &mut [PackedMark],
     groups: &[Group],
     queue: &mut Vec<u32>,
     x: u32,
 )
     requires inside { x < length marks.old }
     requires queued { length queue.old.items + count_by is_known marks.old ≤ vec_capacity queue.old }
-    requires few { length ases.now < 4294967296 }
+    requires few { length ases.now < 4294967292 }
     requires counted { AreCounted sums.old ases.now marks.old groups.now }
     requires sums_room { length ases.now ≤ room_of sums.old }
     ensures forgets { Forgets (Some x) marks.old queue.old.items marks.new queue.new.items }
@@ -30,7 +31,7 @@ pub fn forget_place(
     ensures room { vec_capacity queue.old ≤ vec_capacity queue.new }
     ensures sums_room { room_of sums.old ≤ room_of sums.new }
 {
-    let is_new = marks[x as usize] != Mark::Unknown;
+    let is_new = mark_in(marks, x) != Mark::Unknown;
     put_mark(sums, ases, marks, groups, x, Mark::Unknown);
     if is_new && queue.push(x).is_err() {
         unreachable!();
@@ -41,14 +42,14 @@ pub fn forget_place(
 fn forget(
     sums: &mut Sums,
     ases: &[Asn],
-    marks: &mut [Mark],
+    marks: &mut [PackedMark],
     groups: &[Group],
     queue: &mut Vec<u32>,
     x: Option<u32>,
 )
     requires inside { IfSome x (λ a. a < length marks.old) }
     requires queued { length queue.old.items + count_by is_known marks.old ≤ vec_capacity queue.old }
-    requires few { length ases.now < 4294967296 }
+    requires few { length ases.now < 4294967292 }
     requires counted { AreCounted sums.old ases.now marks.old groups.now }
     requires sums_room { length ases.now ≤ room_of sums.old }
     ensures forgets { Forgets x marks.old queue.old.items marks.new queue.new.items }
@@ -73,7 +74,7 @@ fn behind(after: &[Option<u32>], at: usize, is_root: bool) -> Option<u32>
 pub fn spread(
     sums: &mut Sums,
     ases: &[Asn],
-    marks: &mut [Mark],
+    marks: &mut [PackedMark],
     groups: &[Group],
     first: &[Option<u32>],
     after: &[Option<u32>],
@@ -85,7 +86,7 @@ pub fn spread(
     requires after_len { length after.now ≡ length marks.old }
     requires front { IsFront marks.old marks.old queue.old.items }
     requires room { length marks.old ≤ vec_capacity queue.old }
-    requires few { length ases.now < 4294967296 }
+    requires few { length ases.now < 4294967292 }
     requires counted { AreCounted sums.old ases.now marks.old groups.now }
     requires sums_room { length ases.now ≤ room_of sums.old }
     ensures front { IsFront marks.old marks.new queue.new.items }

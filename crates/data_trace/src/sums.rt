@@ -131,6 +131,14 @@ impl Sums {
         Ok(Sums { cells })
     }
 
+    /// The same sums, with room for no further cell.
+    pub fn copied(&self, alloc: Global) -> Result<Sums, AllocError>
+        ensures { IfOk result (λ s. (p : AnEnd → Bool → ℕ → Bool) → total p s ≡ total p self.now) }
+    {
+        let cells = Vec::from_slice(alloc, &self.cells)?;
+        Ok(Sums { cells })
+    }
+
     /// Makes room for so many cells in all.
     pub fn reserve(&mut self, cells: usize) -> Result<(), AllocError>
         ensures same { (p : AnEnd → Bool → ℕ → Bool) → total p self.new ≡ total p self.old }

@@ -7,12 +7,13 @@ ghost use Rattle.data_trace.specs.Counted.{AreCounted};
 ghost use Rattle.data_trace.specs.declared.places.Mark.TheVariants as AMark;
 
 use crate::counting::put_mark;
+use crate::packed::{PackedHop, PackedMark, hop_in, mark_in, write_mark};
 use crate::places::{Group, Mark, PlaceEnd, PlaceHop};
 use crate::sums::Sums;
 use net_names::Asn;
 
 // Walks from `from` to a place whose end is known, and says which end that is.
-fn walk(hops: &[PlaceHop], marks: &mut [Mark], path: &mut Vec<u32>, from: u32) -> PlaceEnd
+fn walk(hops: &[PackedHop], marks: &mut [PackedMark], path: &mut Vec<u32>, from: u32) -> PlaceEnd
     requires within { IsWithin hops.now }
     requires len { length marks.old ≡ length hops.now }
     requires inside { from < length hops.now }
@@ -27,15 +28,15 @@ fn walk(hops: &[PlaceHop], marks: &mut [Mark], path: &mut Vec<u32>, from: u32) -
 {
     let mut at = from;
     'steps: loop {
-        match marks[at as usize] {
+        match mark_in(marks, at) {
             Mark::Known(end) => return end,
             Mark::Walked => return PlaceEnd::Loop,
             Mark::Unknown => {
-                marks[at as usize] = Mark::Walked;
+                write_mark(marks, at, Mark::Walked);
                 if path.push(at).is_err() {
                     unreachable!();
                 }
-                match hops[at as usize] {
+                match hop_in(hops, at) {
                     PlaceHop::Here => return PlaceEnd::At(at),
                     PlaceHop::NoRoute => return PlaceEnd::NoRoute,
                     PlaceHop::To(next) => at = next,
@@ -49,8 +50,8 @@ fn walk(hops: &[PlaceHop], marks: &mut [Mark], path: &mut Vec<u32>, from: u32) -
 fn settle(
     sums: &mut Sums,
     ases: &[Asn],
-    hops: &[PlaceHop],
-    marks: &mut [Mark],
+    hops: &[PackedHop],
+    marks: &mut [PackedMark],
     groups: &[Group],
     path: &mut Vec<u32>,
     from: u32,
@@ -60,7 +61,7 @@ fn settle(
     requires inside { from < length hops.now }
     requires right { AreRight (next_of hops.now) marks.old }
     requires room { length hops.now ≤ vec_capacity path.old }
-    requires few { length ases.now < 4294967296 }
+    requires few { length ases.now < 4294967292 }
     requires counted { AreCounted sums.old ases.now marks.old groups.now }
     requires sums_room { length ases.now ≤ room_of sums.old }
     ensures settles { Settles (next_of hops.now) marks.old marks.new from }
@@ -79,8 +80,8 @@ fn settle(
 pub fn settle_each(
     sums: &mut Sums,
     ases: &[Asn],
-    hops: &[PlaceHop],
-    marks: &mut [Mark],
+    hops: &[PackedHop],
+    marks: &mut [PackedMark],
     groups: &[Group],
     path: &mut Vec<u32>,
     places: &[u32],
@@ -90,7 +91,7 @@ pub fn settle_each(
     requires places { (k : ℕ) → k < length places.now → slice_index places.now k < length hops.now }
     requires right { AreRight (next_of hops.now) marks.old }
     requires room { length hops.now ≤ vec_capacity path.old }
-    requires few { length ases.now < 4294967296 }
+    requires few { length ases.now < 4294967292 }
     requires counted { AreCounted sums.old ases.now marks.old groups.now }
     requires sums_room { length ases.now ≤ room_of sums.old }
     ensures right { AreRight (next_of hops.now) marks.new }
@@ -109,8 +110,8 @@ pub fn settle_each(
 pub fn settle_all(
     sums: &mut Sums,
     ases: &[Asn],
-    hops: &[PlaceHop],
-    marks: &mut [Mark],
+    hops: &[PackedHop],
+    marks: &mut [PackedMark],
     groups: &[Group],
     path: &mut Vec<u32>,
 )
@@ -119,7 +120,7 @@ pub fn settle_all(
     requires len { length marks.old ≡ length hops.now }
     requires right { AreRight (next_of hops.now) marks.old }
     requires room { length hops.now ≤ vec_capacity path.old }
-    requires few { length ases.now < 4294967296 }
+    requires few { length ases.now < 4294967292 }
     requires counted { AreCounted sums.old ases.now marks.old groups.now }
     requires sums_room { length ases.now ≤ room_of sums.old }
     ensures right { AreRight (next_of hops.now) marks.new }

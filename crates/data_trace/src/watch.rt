@@ -24,6 +24,7 @@ use crate::counting::end_told;
 use crate::growing::reserve_all;
 use crate::keeping::Lists;
 use crate::lists::put_last;
+use crate::packed::{PackedHop, PackedMark, mark_in};
 use crate::places::{Group, Mark, PlaceEnd, PlaceHop, Standing};
 use crate::renewal::{regroup, renew_all};
 use crate::source::Source;
@@ -39,6 +40,9 @@ use route_choice::RoundTables;
 use stability_laws::{Book, SeedPlan};
 use std::alloc::Global;
 
+// A watch has fewer places than this, so that each next hop and each end fits in four bytes.
+const MOST_PLACES: usize = 4_294_967_291;
+
 /// Of each AS of a graph its next hop, the end of its trace and its groups, for one round and one
 /// address. Contracts see a row for each AS, the address, and how many ASes a graph may have of which
 /// the watch can keep all without memory. ASes stand at places, and the place of an AS that goes stays;
@@ -50,13 +54,13 @@ pub struct Watch {
     addr: Addr,
     ases: AsPlaces,
     spare: usize,
-    hops: Vec<PlaceHop>,
-    marks: Vec<Mark>,
+    hops: Vec<PackedHop>,
+    marks: Vec<PackedMark>,
     groups: Vec<Group>,
     sums: Sums,
     has_lists: bool,
     lists: Lists,
-    ghost few: { length ases.ases + spare < 4294967296 },
+    ghost few: { length ases.ases + spare < 4294967292 },
     ghost apart: { IsDistinct nat_eq ases.ases } by { Prim.hlevel props },
     ghost hops_len: { length hops.items ≡ length ases.ases },
     ghost within: { IsWithin hops.items },
@@ -69,7 +73,7 @@ pub struct Watch {
     ghost hops_room: { length ases.ases + spare ≤ vec_capacity hops },
     ghost marks_room: { length ases.ases + spare ≤ vec_capacity marks },
     ghost groups_room: { length ases.ases + spare ≤ vec_capacity groups },
-    ghost sums_room: { length ases.ases + spare ≤ room_of sums },
+    ghost sums_room: { has_lists ≡ true → length ases.ases + spare ≤ room_of sums },
 }
 
 impl Watch {
@@ -106,10 +110,10 @@ impl Watch {
         alloc: Global,
         addr: Addr,
         ases: AsPlaces,
-        hops: Vec<PlaceHop>,
+        hops: Vec<PackedHop>,
         groups: Vec<Group>,
     ) -> Result<Watch, NoMemory>
-        requires few { length ases.ases < 4294967296 }
+        requires few { length ases.ases < 4294967292 }
         requires apart { IsDistinct nat_eq ases.ases }
         requires len { length hops.items ≡ length ases.ases }
         requires groups_len { length groups.items ≡ length ases.ases }
@@ -121,16 +125,20 @@ impl Watch {
         ensures addr { IfOk result (λ w. w.addr ≡ addr) }
     {
         match Blank::of(alloc, ases.as_slice(), groups.as_slice()) {
-            Ok(blank) => Ok(Watch::filled(
-                alloc,
-                addr,
-                ases,
-                hops,
-                blank.marks,
-                groups,
-                blank.sums,
-                blank.path,
-            )),
+            Ok(blank) => {
+                let mut watch = Watch::filled(
+                    alloc,
+                    addr,
+                    ases,
+                    hops,
+                    blank.marks,
+                    groups,
+                    blank.sums,
+                    blank.path,
+                );
+                watch.trim()?;
+                Ok(watch)
+            }
             Err(_) => Err(NoMemory),
         }
     }
@@ -140,13 +148,13 @@ impl Watch {
         alloc: Global,
         addr: Addr,
         ases: AsPlaces,
-        hops: Vec<PlaceHop>,
-        mut marks: Vec<Mark>,
+        hops: Vec<PackedHop>,
+        mut marks: Vec<PackedMark>,
         groups: Vec<Group>,
         mut sums: Sums,
         mut path: Vec<u32>,
     ) -> Watch
-        requires few { length ases.ases < 4294967296 }
+        requires few { length ases.ases < 4294967292 }
         requires apart { IsDistinct nat_eq ases.ases }
         requires len { length hops.items ≡ length ases.ases }
         requires within { IsWithin hops.items }
@@ -159,6 +167,7 @@ impl Watch {
         ensures hops { result.hops.items ≡ hops.items }
         ensures groups { result.groups.items ≡ groups.items }
         ensures addr { result.addr ≡ addr }
+        ensures lists { result.has_lists ≡ false }
     {
         settle_all(
             &mut sums,
@@ -179,6 +188,20 @@ impl Watch {
             sums,
             has_lists: false,
             lists: Lists::none(alloc),
+        }
+    }
+
+    // Gives up the room in the sums for further cells, which they get again with the lists.
+    fn trim(&mut self) -> Result<(), NoMemory>
+        requires { self.old.has_lists ≡ false }
+        ensures { SameColumns self.old self.new }
+    {
+        match self.sums.copied(self.alloc) {
+            Ok(sums) => {
+                self.sums = sums;
+                Ok(())
+            }
+            Err(_) => Err(NoMemory),
         }
     }
 
@@ -203,13 +226,17 @@ impl Watch {
         )
     }
 
-    // Makes the lists of all places, unless they are there.
+    // Makes the lists of all places, and room in the sums for a cell for each place, unless they are there.
     fn list_all(&mut self) -> Result<(), NoMemory>
         ensures same { SameColumns self.old self.new }
         ensures lists { OnOk result (self.new.has_lists ≡ true) }
     {
         if self.has_lists {
             return Ok(());
+        }
+        match self.sums.reserve(self.ases.len() + self.spare) {
+            Ok(()) => {}
+            Err(_) => return Err(NoMemory),
         }
         match Lists::of(self.alloc, self.hops.as_slice()) {
             Ok(lists) => {
@@ -223,7 +250,7 @@ impl Watch {
 
     // Makes room in all columns for so many places more.
     fn reserve(&mut self, more: usize) -> Result<(), NoMemory>
-        requires few { length self.old.ases.ases + more < 4294967296 }
+        requires few { length self.old.ases.ases + more < 4294967292 }
         requires lists { self.old.has_lists ≡ true }
         ensures same { SameColumns self.old self.new }
         ensures spare { OnOk result (self.new.spare ≡ more) }
@@ -256,7 +283,7 @@ impl Watch {
         if count <= self.spare {
             return Ok(());
         }
-        if self.ases.len() + count > u32::MAX as usize {
+        if self.ases.len() + count > MOST_PLACES {
             return Err(NoMemory);
         }
         self.list_all()?;
@@ -275,8 +302,11 @@ impl Watch {
         ensures lists { self.new.has_lists ≡ self.old.has_lists }
     {
         self.ases.add(asn);
-        put_last(&mut self.hops, PlaceHop::NoRoute);
-        put_last(&mut self.marks, Mark::Known(PlaceEnd::NoRoute));
+        put_last(&mut self.hops, PackedHop::of(PlaceHop::NoRoute));
+        put_last(
+            &mut self.marks,
+            PackedMark::of(Mark::Known(PlaceEnd::NoRoute)),
+        );
         let gone = Group {
             standing: Standing::Gone,
             label: 0,
@@ -381,7 +411,10 @@ impl Watch {
         if !is_here(group.standing) {
             return None;
         }
-        end_told(self.ases.as_slice(), self.marks.as_slice()[place])
+        end_told(
+            self.ases.as_slice(),
+            mark_in(self.marks.as_slice(), place as u32),
+        )
     }
 
     /// How many ASes the group has. It takes no memory, and no time by the number of ASes.

@@ -1,12 +1,12 @@
-use Rattle.std.proofs.Common.{rules}
-use Rattle.data_trace.specs.Marks.{hop_at}
+use Rattle.std.proofs.Common.{rules, sym, ◌∙◌, ap}
+use Rattle.data_trace.specs.Lists.{target}
 use Rattle.data_trace.proofs.Departing.{leave_none, leave_to}
 use Rattle.data_trace.proofs.Joining.{target_none}
 use Rattle.data_trace.proofs.leaving.leave.Goals as goal
 
 pub returns-in_default : goal.returns-in_default
 returns-in_default c = λ queue h out.
-    leave_none c.args.hops.now queue c.args.first.now c.args.before.now c.args.after.now c.args.first.now c.args.before.now c.args.after.now c.args.a h out (target_none (hop_at c.args.hops.now c.args.a) (λ b e. c.in_default.not-To b e))
+    leave_none c.args.hops.now queue c.args.first.now c.args.before.now c.args.after.now c.args.first.now c.args.before.now c.args.after.now c.args.a h out (ap target (sym c.hop_in.ensures) ∙ target_none c.hop_in.result (λ b e. c.in_default.not-To b e))
 
 pub returns : goal.returns
 returns c = λ queue h out.

@@ -17,8 +17,8 @@ returns-in-Here-clause-walked c =
     let u : mark_of c.steps.marks c.steps.at ≡ Unknown = search rules in
     let h0 : hop_at c.args.hops.now c.steps.at ≡ Here = search rules in
     let h : next_of c.args.hops.now c.steps.at ≡ hop.Here = ap as_hop h0 in
-    subst (λ p. IsWalked (next_of c.args.hops.now) c.args.marks.now (slice_set c.steps.marks c.steps.at Walked) p c.args.from (At c.steps.at)) (sym e)
-    (walk_stop (next_of c.args.hops.now) c.args.marks.now c.steps.marks c.steps.path.items c.args.from c.steps.at c.steps.invariant.walk (At c.steps.at) u (ends_here (next_of c.args.hops.now) c.steps.at h))
+    rw c.write_mark.ensures (subst (λ p. IsWalked (next_of c.args.hops.now) c.args.marks.now (slice_set c.steps.marks c.steps.at Walked) p c.args.from (At c.steps.at)) (sym e)
+    (walk_stop (next_of c.args.hops.now) c.args.marks.now c.steps.marks c.steps.path.items c.args.from c.steps.at c.steps.invariant.walk (At c.steps.at) u (ends_here (next_of c.args.hops.now) c.steps.at h)))
 
 pub returns-in-NoRoute-clause-walked : goal.returns-in-NoRoute-clause-walked
 returns-in-NoRoute-clause-walked c =
@@ -26,8 +26,8 @@ returns-in-NoRoute-clause-walked c =
     let u : mark_of c.steps.marks c.steps.at ≡ Unknown = search rules in
     let h0 : hop_at c.args.hops.now c.steps.at ≡ NoRoute = search rules in
     let h : next_of c.args.hops.now c.steps.at ≡ hop.NoRoute = ap as_hop h0 in
-    subst (λ p. IsWalked (next_of c.args.hops.now) c.args.marks.now (slice_set c.steps.marks c.steps.at Walked) p c.args.from Lost) (sym e)
-    (walk_stop (next_of c.args.hops.now) c.args.marks.now c.steps.marks c.steps.path.items c.args.from c.steps.at c.steps.invariant.walk Lost u (ends_lost (next_of c.args.hops.now) c.steps.at h))
+    rw c.write_mark.ensures (subst (λ p. IsWalked (next_of c.args.hops.now) c.args.marks.now (slice_set c.steps.marks c.steps.at Walked) p c.args.from Lost) (sym e)
+    (walk_stop (next_of c.args.hops.now) c.args.marks.now c.steps.marks c.steps.path.items c.args.from c.steps.at c.steps.invariant.walk Lost u (ends_lost (next_of c.args.hops.now) c.steps.at h)))
 
 pub steps-preserved : goal.steps-preserved
 steps-preserved c =
@@ -36,9 +36,9 @@ steps-preserved c =
     let h0 : hop_at c.args.hops.now c.steps.at ≡ To c.in-To.next = search rules in
     let h : next_of c.args.hops.now c.steps.at ≡ hop.To c.in-To.next = ap as_hop h0 in
     let b : c.in-To.next < length c.steps.marks = omega (arith, c.requires.within c.steps.at c.in-To.next h0, c.steps.invariant.walk.len, c.requires.len) in
-    record {
+    rw c.write_mark.ensures (record {
       walk = subst (λ p. IsWalk (next_of c.args.hops.now) c.args.marks.now (slice_set c.steps.marks c.steps.at Walked) p c.args.from c.in-To.next) (sym e)
           (walk_step (next_of c.args.hops.now) c.args.marks.now c.steps.marks c.steps.path.items c.args.from c.steps.at c.steps.invariant.walk c.in-To.next u h b);
       same = λ x. walked_same c.steps.marks c.steps.at x (omega (arith, c.steps.invariant.walk.inside)) u ∙ c.steps.invariant.same x;
       room = omega (arith, c.steps.invariant.room, c.push.ensures.capacity);
-    }
+    })
