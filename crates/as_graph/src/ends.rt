@@ -4,6 +4,7 @@ ghost use Rattle.std.specs.FinMap as map;
 ghost use Rattle.as_graph.specs.Rows.{IsRising};
 ghost use Rattle.as_graph.specs.Ends.{lower_ends, higher_ends, ends_at, at_of, AreTurned, AreByAs, IsRun, IsNextEnd};
 
+use crate::dealing::deal_by_as;
 use crate::neighbour::Neighbour;
 use crate::row::Row;
 use net_names::{Asn, Links};
@@ -55,6 +56,8 @@ pub fn higher_side(alloc: Global, links: &Links) -> Result<Vec<End>, AllocError>
             },
         })?;
     }
+    // What is dealt so is sorted up to number 1,048,575, and then the sort only looks through it.
+    deal_by_as(alloc, &mut ends)?;
     ends.sort_by_key(|end| end.at)?;
     Ok(ends)
 }

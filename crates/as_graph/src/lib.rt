@@ -6,6 +6,7 @@
 #![tactic(auto)]
 
 mod build;
+mod dealing;
 mod ends;
 mod error;
 mod finder;
