@@ -192,66 +192,31 @@ fn spans_of(alloc: Global, rows: &IndexMap<Asn, Row>) -> Result<Vec<Span>, Alloc
     Ok(spans)
 }
 
-// Where each list begins.
-fn starts_of(alloc: Global, spans: &[Span]) -> Result<Vec<u32>, AllocError> {
-    let mut starts = Vec::with_capacity(alloc, spans.len())?;
-    for span in spans {
-        starts.push(span.start)?;
-    }
-    Ok(starts)
-}
-
-// Puts a place into the list at another place, behind those that it got before.
-fn put_at(items: &mut [u32], next: &mut [u32], at: u32, place: u32) {
-    if let Some(next) = next.get_mut(at as usize) {
-        if let Some(item) = items.get_mut(*next as usize) {
-            *item = place;
-            *next = next.wrapping_add(1);
-        }
-    }
-}
-
-// Puts the places of the higher neighbours into the row's list, and that of the row into theirs.
-fn put_higher(
-    items: &mut [u32],
-    next: &mut [u32],
+// Puts the places of a row's neighbours behind those of the rows before it.
+fn put_row(
+    items: &mut Vec<u32>,
     finder: &Finder<'_>,
-    place: u32,
-    asn: Asn,
     neighbours: &[Neighbour],
-) {
+) -> Result<(), AllocError> {
     for neighbour in neighbours {
-        if neighbour.asn > asn {
-            if let Some(higher) = finder.place(neighbour.asn) {
-                put_at(items, next, place, higher);
-                put_at(items, next, higher, place);
-            }
-        }
+        items.push(finder.place(neighbour.asn).unwrap_or(0))?;
     }
+    Ok(())
 }
 
-/// The places of the neighbours of all rows, which stand in rising order of their ASes. Each link
-/// is looked up once, at its lower end: so the lists fill in the order of the neighbours.
+/// The places of the neighbours of all rows, which stand in rising order of their ASes.
 pub fn places_of(alloc: Global, rows: &IndexMap<Asn, Row>) -> Result<Places, AllocError>
     requires { index_map_len rows.now ≤ 150000 }
 {
     let finder = Finder::new(alloc, rows.keys().as_slice())?;
     let spans = spans_of(alloc, rows)?;
-    let mut next = starts_of(alloc, spans.as_slice())?;
     let count = match spans.last() {
         Some(span) => span.start.wrapping_add(span.len) as usize,
         None => 0,
     };
-    let mut items = Vec::from_elem(alloc, 0u32, count)?;
-    for (place, (asn, row)) in rows.iter().enumerate() {
-        put_higher(
-            &mut items,
-            &mut next,
-            &finder,
-            place as u32,
-            *asn,
-            row.as_slice(),
-        );
+    let mut items = Vec::with_capacity(alloc, count)?;
+    for row in rows.values() {
+        put_row(&mut items, &finder, row.as_slice())?;
     }
     Ok(Places {
         spans,
