@@ -10,10 +10,10 @@ use Rattle.stability_laws.specs.Laws.{if_customer}
 use Rattle.stability_laws.proofs.Local.{given_by}
 use Rattle.stability_laws.proofs.Verdicts.{entry_of}
 use Rattle.route_choice.specs.declared.choice.Part.{Part}
-use Rattle.route_choice.specs.declared.choice.Part.TheVariants.{Up, Down, Whole}
+use Rattle.route_choice.specs.declared.choice.Part.TheVariants.{Up, Whole}
 use Rattle.route_choice.specs.declared.choice.Choice.{Choice}
 use Rattle.route_choice.specs.declared.choice.Choice.TheVariants as choice
-use Rattle.route_choice.specs.Choices.{offers_of, if_provider, IsChoice, named_by}
+use Rattle.route_choice.specs.Choices.{offers_of, IsChoice, named_by}
 
 -- an offer that the part looks at is an offer
 pub made_of : (part : Part) (w : Setting) (f : ℕ → Option Entry) (a n : ℕ) (o : Offer) → offers_of part w f a n ≡ Some o → offer w f n a ≡ Some o
@@ -25,13 +25,6 @@ made_of Up w f a n o made = by (w.what a n) made
     by (Some Customer) e = e
     by (Some Peer) e = cc
     by (Some Provider) e = cc
-made_of Down w f a n o made = by (w.what a n) made
-  where
-    by : (r : Option Rel) → if_provider r (offer w f n a) ≡ Some o → offer w f n a ≡ Some o
-    by None e = cc
-    by (Some Customer) e = cc
-    by (Some Peer) e = cc
-    by (Some Provider) e = e
 
 pub given_in_part : (part : Part) (w : Setting) (f : ℕ → Option Entry) (a n : ℕ) (o : Offer) → offers_of part w f a n ≡ Some o → GivenBy (w.what a n) n o
 given_in_part part w f a n o made = given_by (w.policy n) (w.policy a) w.state n a (w.what a n) (f n) o (made_of part w f a n o made)

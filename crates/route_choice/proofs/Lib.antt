@@ -2,6 +2,7 @@ pub mod Uses
 pub mod Lists
 pub mod Numbers
 pub mod Chosen
+pub mod Givers
 pub mod Unread
 pub mod Room
 pub mod RoundLemmas

@@ -17,9 +17,9 @@ use Rattle.stability_laws.specs.Stable.{IsBest}
 use Rattle.stability_laws.specs.BestView.{IsBestView}
 use Rattle.stability_laws.specs.Laws.{if_customer}
 use Rattle.route_choice.specs.declared.choice.Part.{Part}
-use Rattle.route_choice.specs.declared.choice.Part.TheVariants.{Up, Down, Whole}
+use Rattle.route_choice.specs.declared.choice.Part.TheVariants.{Up, Whole}
 use Rattle.route_choice.specs.declared.choice.Choice.TheVariants as choice
-use Rattle.route_choice.specs.Choices.{offers_of, if_provider, IsChoice, state_seen}
+use Rattle.route_choice.specs.Choices.{offers_of, IsChoice, state_seen}
 
 -- An offer like o is made: its view differs in the state at most.
 record IsMade (made : Option Offer) (o : Offer) : Type 0 where
@@ -51,17 +51,12 @@ restated s p ignores unread st st' n a (Some from) (Some e) o h =
       view = ap (λ (t : Offer). with_state t.view (st' (last_or 0 e.path))) through.1;
     }
 
-of_customer : (r : Option Rel) (x : Option Offer) (o : Offer) → if_customer r x ≡ Some o → (r ≡ Some Customer) × (x ≡ Some o)
+-- an offer that is looked at where the giver is a customer
+pub of_customer : (r : Option Rel) (x : Option Offer) (o : Offer) → if_customer r x ≡ Some o → (r ≡ Some Customer) × (x ≡ Some o)
 of_customer None x o h = cc
 of_customer (Some Customer) x o h = (refl, h)
 of_customer (Some Peer) x o h = cc
 of_customer (Some Provider) x o h = cc
-
-of_provider : (r : Option Rel) (x : Option Offer) (o : Offer) → if_provider r x ≡ Some o → (r ≡ Some Provider) × (x ≡ Some o)
-of_provider None x o h = cc
-of_provider (Some Customer) x o h = cc
-of_provider (Some Peer) x o h = cc
-of_provider (Some Provider) x o h = (refl, h)
 
 module _ {P : Type 0} (meaning : P → Policy) (graph : Topology) (book : PolicyBook P) (f : ℕ → Option Entry) (a : ℕ) (ignores : IgnoresState (meaning (policy_at book a))) (unread : (meaning (policy_at book a)).reads_state ≡ false) where
   abbrev offers_in : Part → (ℕ → State) → ℕ → Option Offer
@@ -75,11 +70,6 @@ module _ {P : Type 0} (meaning : P → Policy) (graph : Topology) (book : Policy
       let made : IsMade (offer (setting meaning graph book st') f n a) o =
       restated (meaning (policy_at book n)) (meaning (policy_at book a)) ignores unread st st' n a ((setting meaning graph book st).what a n) (f n) o from.1 in
       record { like = made.like; is = ap (λ r. if_customer r (offer (setting meaning graph book st') f n a)) from.0 ∙ made.is; state = made.state; view = made.view }
-  restated_part Down st st' n o h =
-      let from = of_provider ((setting meaning graph book st).what a n) (offer (setting meaning graph book st) f n a) o h in
-      let made : IsMade (offer (setting meaning graph book st') f n a) o =
-      restated (meaning (policy_at book n)) (meaning (policy_at book a)) ignores unread st st' n a ((setting meaning graph book st).what a n) (f n) o from.1 in
-      record { like = made.like; is = ap (λ r. if_provider r (offer (setting meaning graph book st') f n a)) from.0 ∙ made.is; state = made.state; view = made.view }
 
   none_too : (part : Part) (st st' : ℕ → State) (n : ℕ) → offers_in part st n ≡ None → offers_in part st' n ≡ None
   none_too part st st' n h = by (offers_in part st' n) refl

@@ -13,7 +13,7 @@ use Rattle.stability_laws.specs.Stable.{IsBest}
 use Rattle.stability_laws.specs.Laws.{customer_offer}
 use Rattle.stability_laws.specs.Steps.{IsStep}
 use Rattle.route_choice.specs.declared.choice.Part.{Part}
-use Rattle.route_choice.specs.declared.choice.Part.TheVariants.{Up, Down, Whole}
+use Rattle.route_choice.specs.declared.choice.Part.TheVariants.{Up, Whole}
 use Rattle.route_choice.specs.declared.choice.Choice.{Choice}
 use Rattle.route_choice.specs.declared.choice.Choice.TheVariants as choice
 
@@ -22,22 +22,11 @@ abbrev pub is_looked_at : Part → Rel → Bool
 is_looked_at Up Customer = true
 is_looked_at Up Peer = false
 is_looked_at Up Provider = false
-is_looked_at Down Customer = false
-is_looked_at Down Peer = false
-is_looked_at Down Provider = true
 is_looked_at Whole r = true
-
--- the offer, where the giver is a provider
-abbrev pub if_provider : Option Rel → Option Offer → Option Offer
-if_provider None o = None
-if_provider (Some Customer) o = None
-if_provider (Some Peer) o = None
-if_provider (Some Provider) o = o
 
 -- the offers that the part looks at
 abbrev pub offers_of : Part → Setting → (ℕ → Option Entry) → ℕ → ℕ → Option Offer
 offers_of Up w f a n = customer_offer w f n a
-offers_of Down w f a n = if_provider (w.what a n) (offer w f n a)
 offers_of Whole w f a n = offer w f n a
 
 -- the seed, or else the best of the offers, or nothing where there is none

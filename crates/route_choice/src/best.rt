@@ -4,7 +4,6 @@ ghost use Rattle.std.specs.Prelude.{◌≡◌, ℕ, ◌<◌, true, false, None, 
 ghost use Rattle.as_graph.specs.Topology.{what};
 ghost use Rattle.net_names.specs.Numbers.{occurs, last_or};
 ghost use Rattle.net_names.specs.Links.{converse};
-ghost use Rattle.as_graph.specs.Neighbours.{AreNeighbours};
 ghost use Rattle.path_pool.specs.Pool.{IsLive, list_of};
 ghost use Rattle.stability_laws.specs.Book.{policy_at};
 ghost use Rattle.stability_laws.specs.Offers.{offer_given};
@@ -13,6 +12,7 @@ ghost use Rattle.stability_laws.specs.World.{setting};
 ghost use Rattle.route_choice.specs.Tables.{prefix_of};
 ghost use Rattle.route_choice.specs.Routings.{entry_of, routing_of};
 ghost use Rattle.route_choice.specs.Choices.{is_looked_at, offers_of, state_seen};
+ghost use Rattle.route_choice.specs.Givers.{AreGivers};
 ghost use Rattle.route_choice.specs.Loops.{HasNoLoops};
 ghost use Rattle.route_choice.specs.Resources.{AreLive};
 
@@ -30,7 +30,6 @@ fn looks_at(part: Part, rel: Rel) -> bool
 {
     match part {
         Part::Up => rel == Rel::Customer,
-        Part::Down => rel == Rel::Provider,
         Part::Whole => true,
     }
 }
@@ -203,8 +202,8 @@ fn look_at<P: RoutePolicy, V: OriginStates>(
     );
 }
 
-/// The view of the best offer of the part, if there is an offer. The places, in the order of the
-/// neighbours, are hints. Where `reads` is not set, no state is asked for, and where `may_loop` is not
+/// The view of the best offer of the part, if there is an offer, where all that make one are among these
+/// neighbours. The places, in the order of the neighbours, are hints. Where `reads` is not set, no state is asked for, and where `may_loop` is not
 /// set, no path is walked in search of the AS.
 pub(crate) fn best_view<P: RoutePolicy, V: OriginStates>(
     graph: &Graph,
@@ -220,7 +219,7 @@ pub(crate) fn best_view<P: RoutePolicy, V: OriginStates>(
     may_loop: bool,
     part: Part,
 ) -> Best
-    requires neighbours { AreNeighbours (what graph.now) asn neighbours.now }
+    requires givers { AreGivers part (what graph.now) (λ n. P.meaning (policy_at book.now n)) (routing_of pool.now table.now overlay.now) asn neighbours.now }
     requires live { AreLive pool.now table.now overlay.now }
     requires no_loops { may_loop ≡ false → HasNoLoops part (what graph.now) (λ n. P.meaning (policy_at book.now n)) (routing_of pool.now table.now overlay.now) asn }
     ensures { IsBestView (P.meaning (policy_at book.now asn)) (λ n. offers_of part (setting P.meaning graph.now book.now (state_seen reads (V.state_of states.now (prefix_of table.now)))) (routing_of pool.now table.now overlay.now) asn n) result.view }

@@ -5,8 +5,6 @@ use net_names::{Asn, Rel};
 pub enum Part {
     /// Those of customers.
     Up,
-    /// Those of providers.
-    Down,
     /// All.
     Whole,
 }

@@ -7,17 +7,68 @@ ghost use Rattle.stability_laws.specs.World.{setting};
 ghost use Rattle.route_choice.specs.Tables.{prefix_of};
 ghost use Rattle.route_choice.specs.Routings.{routing_of, seeds_of};
 ghost use Rattle.route_choice.specs.Choices.{offers_of, IsChoice};
+ghost use Rattle.route_choice.specs.Givers.{AreGivers};
 ghost use Rattle.route_choice.specs.Loops.{HasNoLoops};
 ghost use Rattle.route_choice.specs.Resources.{AreLive};
 
 use crate::best::{Best, best_view};
 use crate::{Choice, ChoiceNear, Overlay, Part, SeedIds, Steps, Table};
-use as_graph::Graph;
+use as_graph::{Graph, Neighbour};
 use net_names::Asn;
 use path_pool::PathPool;
 use policy_laws::{OriginStates, RoutePolicy};
 use stability_laws::Book;
 use std::sync::ledger::Ledger;
+
+// What an AS chooses, in one step, where all that make it an offer of the part are among these neighbours.
+// The places, in the order of the neighbours, are hints. Where `may_loop` is not set, no path is walked in
+// search of the AS.
+pub(crate) fn evaluate_among<P: RoutePolicy, V: OriginStates, L: Ledger>(
+    graph: &Graph,
+    book: &Book<P>,
+    states: &V,
+    seeds: &SeedIds,
+    pool: &PathPool,
+    table: &Table,
+    overlay: &Overlay,
+    asn: Asn,
+    neighbours: &[Neighbour],
+    places: &[u32],
+    may_loop: bool,
+    part: Part,
+    steps: &mut Steps<L>,
+) -> ChoiceNear
+    requires live { AreLive pool.now table.now overlay.now }
+    requires givers { AreGivers part (what graph.now) (λ n. P.meaning (policy_at book.now n)) (routing_of pool.now table.now overlay.now) asn neighbours.now }
+    requires no_loops { may_loop ≡ false → HasNoLoops part (what graph.now) (λ n. P.meaning (policy_at book.now n)) (routing_of pool.now table.now overlay.now) asn }
+    ensures choice { IsChoice (P.meaning (policy_at book.now asn)) (seeds_of pool.now seeds.now asn) (λ n. offers_of part (setting P.meaning graph.now book.now (V.state_of states.now (prefix_of table.now))) (routing_of pool.now table.now overlay.now) asn n) result.choice }
+    ensures cost { steps.new ≡ steps.old + 1 }
+{
+    steps.tick();
+    if seeds.get(asn).is_some() {
+        return ChoiceNear {
+            choice: Choice::Seed,
+            place: 0,
+        };
+    }
+    let reads = book.policy(asn).reads_state();
+    let Best { view, place } = best_view(
+        graph, neighbours, places, book, states, reads, pool, table, overlay, asn, may_loop, part,
+    );
+    match view {
+        Some(view) => ChoiceNear {
+            choice: Choice::Via {
+                neighbour: view.neighbour,
+                rel: view.rel,
+            },
+            place,
+        },
+        None => ChoiceNear {
+            choice: Choice::Nothing,
+            place,
+        },
+    }
+}
 
 /// What an AS chooses, in one step: its seed, or else the best offer of the part, or nothing. The
 /// offers are those of the table with the changes in place. The place where the row of the AS was
@@ -42,32 +93,12 @@ pub fn evaluate_near<P: RoutePolicy, V: OriginStates, L: Ledger>(
     ensures choice { IsChoice (P.meaning (policy_at book.now asn)) (seeds_of pool.now seeds.now asn) (λ n. offers_of part (setting P.meaning graph.now book.now (V.state_of states.now (prefix_of table.now))) (routing_of pool.now table.now overlay.now) asn n) result.choice }
     ensures cost { steps.new ≡ steps.old + 1 }
 {
-    steps.tick();
-    if seeds.get(asn).is_some() {
-        return ChoiceNear {
-            choice: Choice::Seed,
-            place: 0,
-        };
-    }
-    let reads = book.policy(asn).reads_state();
     let neighbours = graph.neighbours_near(asn, place);
     let places = graph.neighbour_places(place);
-    let Best { view, place } = best_view(
-        graph, neighbours, places, book, states, reads, pool, table, overlay, asn, may_loop, part,
-    );
-    match view {
-        Some(view) => ChoiceNear {
-            choice: Choice::Via {
-                neighbour: view.neighbour,
-                rel: view.rel,
-            },
-            place,
-        },
-        None => ChoiceNear {
-            choice: Choice::Nothing,
-            place,
-        },
-    }
+    evaluate_among(
+        graph, book, states, seeds, pool, table, overlay, asn, neighbours, places, may_loop, part,
+        steps,
+    )
 }
 
 /// What an AS chooses, in one step: its seed, or else the best offer of the part, or nothing. The

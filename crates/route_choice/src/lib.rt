@@ -29,7 +29,7 @@ pub use overlay::Overlay;
 pub use round_tables::RoundTables;
 pub use seeds::SeedIds;
 pub use settling::{settle, settle_near};
-pub use stepping::visit;
+pub use stepping::{visit, visit_among};
 pub use steps::Steps;
 pub use table::{Table, uses_are_counted};
 pub use views::view_but_for_loops;

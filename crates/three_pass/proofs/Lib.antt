@@ -8,3 +8,7 @@ pub mod Idle
 pub mod Reaching
 pub mod Quiet
 pub mod Settled
+pub mod ListLemmas
+pub mod Elements
+pub mod Noted
+pub mod Chains

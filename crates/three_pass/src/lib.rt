@@ -7,9 +7,13 @@
 #![tactic(auto)]
 
 mod asn_set;
+mod course;
+mod lists;
+mod looks;
 mod named;
 mod passes;
-mod reached;
 mod stable;
+mod told;
 
-pub use stable::propagate;
+pub use course::Course;
+pub use stable::{propagate, propagate_along};

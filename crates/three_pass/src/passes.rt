@@ -1,13 +1,12 @@
-//! The two passes. For each AS of the order they get the place where its row was last found in the
-//! graph, which is a hint.
+//! The two passes along a course. The places of rows that it has are hints.
 
-ghost use Rattle.std.specs.Prelude.{◌≡◌, ◌≢◌, ◌↔◌, ◌⊎◌, ℕ, IsTrue, IsSome, true, false, Some, None, length, slice_index, ◌<◌, ◌≤◌, ◌+◌, if◌then◌else◌};
+ghost use Rattle.std.specs.Prelude.{◌≡◌, ◌≢◌, ◌↔◌, ℕ, IsTrue, IsSome, true, false, Some, None, length, slice_index, ◌<◌, ◌≤◌, ◌+◌, Option, All};
 ghost use Rattle.net_names.specs.Numbers.{occurs};
 ghost use Rattle.net_names.specs.declared.routes.Rel.{Rel as ARel};
-ghost use Rattle.net_names.specs.declared.routes.Rel.TheVariants.{Customer};
-ghost use Rattle.as_graph.specs.Topology.{what, has};
-ghost use Rattle.as_graph.specs.Hierarchy.{HasNoProviderCycle, IsRank};
-ghost use Rattle.rank_order.specs.Ranks.{rank_at, IsRankOrder};
+ghost use Rattle.net_names.specs.declared.routes.Rel.TheVariants.{Customer, Provider as AProvider};
+ghost use Rattle.as_graph.specs.Topology.{what};
+ghost use Rattle.as_graph.specs.Hierarchy.{HasNoProviderCycle};
+ghost use Rattle.as_graph.specs.Neighbours.{asns};
 ghost use Rattle.stability_laws.specs.Book.{policy_at};
 ghost use Rattle.stability_laws.specs.Stable.{IsStable};
 ghost use Rattle.stability_laws.specs.World.{setting};
@@ -17,19 +16,22 @@ ghost use Rattle.route_choice.specs.Loops.{HasNoLoops};
 ghost use Rattle.route_choice.specs.Routings.{routing_of, seeds_of};
 ghost use Rattle.route_choice.specs.Resources.{CanStep, Spends, GivesUpNothing, Keeps};
 ghost use Rattle.three_pass.specs.AsnSets.{is_among};
+ghost use Rattle.three_pass.specs.Courses.{AreAbove, IsCourse};
 ghost use Rattle.three_pass.specs.Naming.{AreNamed};
-ghost use Rattle.three_pass.specs.Progress.{AfterUp, AfterWhole};
-ghost use Rattle.three_pass.specs.Reached.{is_reached, IsQuiet};
+ghost use Rattle.three_pass.specs.Progress.{AfterUp};
 ghost use Rattle.three_pass.specs.Spending.{CanGo, HasSpent};
+ghost use Rattle.three_pass.specs.Telling.{HaveTold};
+ghost use Rattle.three_pass.specs.Told.{AreTrue, IsTold};
 
 use crate::asn_set::AsnSet;
-use crate::reached::{Reached, holds};
+use crate::course::Course;
+use crate::looks::Looks;
+use crate::told::{Told, holds};
 use as_graph::Graph;
 use net_names::Asn;
 use path_pool::PathPool;
 use policy_laws::{OriginStates, RoutePolicy};
-use rank_order::Ranks;
-use route_choice::{Overlay, Part, SeedIds, Steps, Table, visit};
+use route_choice::{Overlay, Part, SeedIds, Steps, Table, visit, visit_among};
 use stability_laws::Book;
 use std::sync::ledger::Ledger;
 
@@ -41,57 +43,122 @@ fn row_at(rows: &[u32], place: usize) -> usize {
     }
 }
 
-// Whether an AS has no seed, and no customers, by its rank, or none that holds anything.
-fn has_none_to_take(ranks: &Ranks, seeds: &SeedIds, reached: &Reached, asn: Asn, row: usize) -> bool
-    ensures { result ≡ true → ((rank_at ranks.now asn ≡ 0) ⊎ (is_reached reached.now asn ≡ false)) × (seed_at seeds.now asn ≡ None) }
+// Whether an AS has no seed, and no customer and no peer of it told it that it holds something.
+fn has_none_to_take(told: &Told, named: &AsnSet, asn: Asn, row: usize) -> bool
+    ensures { result ≡ true → (is_among named.now asn ≡ false) × ((b : ℕ) → ¬ IsTold told.now asn b) }
 {
-    (ranks.rank_near(asn, row) == 0 || !reached.has(asn)) && seeds.get(asn).is_none()
+    told.is_untold(asn, row) && !named.has(asn)
 }
 
-// The step upwards of the AS at a place of the order, and whom it reaches. Who has no seed, and no
-// customer that holds anything, takes none.
+// Puts into the list those that may make an AS an offer of the part: who told it that it holds something
+// and, where the part is the whole, its providers. The answer is whether all of them are there.
+fn gather(course: &Course, told: &Told, asn: Asn, row: usize, part: Part, looks: &mut Looks) -> bool
+    ensures each { result ≡ true → (w : ℕ → ℕ → Option ARel) → AreAbove w course.now.rows.items course.now.above → AreTrue w told.now → All (λ x. w asn x.asn ≡ Some x.rel) looks.new.neighbours.items }
+    ensures told { result ≡ true → (b : ℕ) → IsTold told.now asn b → occurs b (asns looks.new.neighbours.items) ≡ true }
+    ensures above { result ≡ true → part ≡ Part.Whole → (w : ℕ → ℕ → Option ARel) → AreAbove w course.now.rows.items course.now.above → (n : ℕ) → w asn n ≡ Some AProvider → occurs n (asns looks.new.neighbours.items) ≡ true }
+{
+    looks.clear();
+    match part {
+        Part::Up => told.put_tellers(asn, row, looks),
+        Part::Whole => {
+            course.put_providers(asn, row, looks) && told.put_tellers(asn, row, looks)
+        }
+    }
+}
+
+// A step of an AS, as `visit` makes it, that looks only at its providers and at those that told it that
+// they hold something, where these are known.
+fn step<P: RoutePolicy, V: OriginStates, L: Ledger>(
+    graph: &Graph,
+    course: &Course,
+    book: &Book<P>,
+    states: &V,
+    seeds: &SeedIds,
+    told: &Told,
+    looks: &mut Looks,
+    pool: &mut PathPool,
+    table: &Table,
+    overlay: &mut Overlay,
+    asn: Asn,
+    row: usize,
+    may_loop: bool,
+    part: Part,
+    steps: &mut Steps<L>,
+) -> bool
+    requires can { CanStep pool.old seeds.now table.now overlay.old 1 }
+    requires above { AreAbove (what graph.now) course.now.rows.items course.now.above }
+    requires true_notes { AreTrue (what graph.now) told.now }
+    requires told { HaveTold (IsTold told.now) (setting P.meaning graph.now book.now (V.state_of states.now (prefix_of table.now))) (routing_of pool.old table.now overlay.old) asn }
+    requires no_loops { may_loop ≡ false → HasNoLoops part (what graph.now) (λ n. P.meaning (policy_at book.now n)) (routing_of pool.old table.now overlay.old) asn }
+    ensures cost { steps.new ≡ steps.old + 1 }
+    ensures step { IsStepOf part (setting P.meaning graph.now book.now (V.state_of states.now (prefix_of table.now))) (seeds_of pool.old seeds.now) (routing_of pool.old table.now overlay.old) asn (routing_of pool.new table.now overlay.new) }
+    ensures changed { IsTrue result ↔ (routing_of pool.new table.now overlay.new asn ≢ routing_of pool.old table.now overlay.old asn) }
+    ensures unchanged { result ≡ false → (pool.new ≡ pool.old) × (overlay.new ≡ overlay.old) }
+    ensures put { IsTrue result → IsSome (change_at overlay.new asn) }
+    ensures spent { Spends pool.old pool.new overlay.old overlay.new asn }
+    ensures kept { GivesUpNothing overlay.old (routing_of pool.old table.now overlay.old) (routing_of pool.new table.now overlay.new) asn → Keeps pool.old pool.new seeds.now }
+{
+    if gather(course, told, asn, row, part, looks) {
+        let neighbours = looks.neighbours.as_slice();
+        let places = looks.places.as_slice();
+        visit_among(
+            graph, book, states, seeds, pool, table, overlay, asn, row, neighbours, places,
+            may_loop, part, steps,
+        )
+    } else {
+        visit(
+            graph, book, states, seeds, pool, table, overlay, asn, row, may_loop, part, steps,
+        )
+    }
+}
+
+// The step upwards of the AS at a place of the order, which tells its peers and its providers if it holds
+// something then. Who has no seed, and was told nothing, takes none.
 fn step_up<P: RoutePolicy, V: OriginStates, L: Ledger>(
     graph: &Graph,
-    ranks: &Ranks,
-    order: &[Asn],
-    rows: &[u32],
+    course: &Course,
     place: usize,
     book: &Book<P>,
     states: &V,
     seeds: &SeedIds,
     named: &AsnSet,
+    told: &mut Told,
+    looks: &mut Looks,
     pool: &mut PathPool,
     table: &Table,
     overlay: &mut Overlay,
-    reached: &mut Reached,
     steps: &mut Steps<L>,
 )
-    requires no_cycle { HasNoProviderCycle (what graph.now) }
-    requires ranks { (a : ℕ) → IsRank (what graph.now) a (rank_at ranks.now a) }
-    requires order { IsRankOrder (has graph.now) (rank_at ranks.now) order.now }
-    requires inside { place < length order.now }
-    requires nothing { routing_of pool.old table.now overlay.old (slice_index order.now place) ≡ None }
-    requires quiet { is_reached reached.old (slice_index order.now place) ≡ false → IsQuiet (setting P.meaning graph.now book.now (V.state_of states.now (prefix_of table.now))) (routing_of pool.old table.now overlay.old) (slice_index order.now place) }
-    requires no_loops { is_among named.now (slice_index order.now place) ≡ false → HasNoLoops Part.Up (what graph.now) (λ n. P.meaning (policy_at book.now n)) (routing_of pool.old table.now overlay.old) (slice_index order.now place) }
-    requires room { CanGo pool.old seeds.now table.now overlay.old order.now }
+    requires course { IsCourse graph.now course.now }
+    requires inside { place < length course.now.order.ases.items }
+    requires nothing { routing_of pool.old table.now overlay.old (slice_index course.now.order.ases.items place) ≡ None }
+    requires unnamed { is_among named.now (slice_index course.now.order.ases.items place) ≡ false → seed_at seeds.now (slice_index course.now.order.ases.items place) ≡ None }
+    requires true_notes { AreTrue (what graph.now) told.old }
+    requires told { HaveTold (IsTold told.old) (setting P.meaning graph.now book.now (V.state_of states.now (prefix_of table.now))) (routing_of pool.old table.now overlay.old) (slice_index course.now.order.ases.items place) }
+    requires no_loops { is_among named.now (slice_index course.now.order.ases.items place) ≡ false → HasNoLoops Part.Up (what graph.now) (λ n. P.meaning (policy_at book.now n)) (routing_of pool.old table.now overlay.old) (slice_index course.now.order.ases.items place) }
+    requires room { CanGo pool.old seeds.now table.now overlay.old course.now.order.ases.items }
     ensures cost { steps.new ≤ steps.old + 1 }
-    ensures step { IsStepOf Part.Up (setting P.meaning graph.now book.now (V.state_of states.now (prefix_of table.now))) (seeds_of pool.old seeds.now) (routing_of pool.old table.now overlay.old) (slice_index order.now place) (routing_of pool.new table.now overlay.new) }
-    ensures around { routing_of pool.new table.now overlay.new (slice_index order.now place) ≢ None → (n : ℕ) (r : ARel) → what graph.now (slice_index order.now place) n ≡ Some r → r ≢ Customer → is_reached reached.new n ≡ true }
-    ensures others { (a : ℕ) → is_reached reached.old a ≡ true → is_reached reached.new a ≡ true }
-    ensures room { CanGo pool.new seeds.now table.now overlay.new order.now }
-    ensures spent { HasSpent pool.old pool.new seeds.now table.now overlay.old overlay.new order.now }
+    ensures step { IsStepOf Part.Up (setting P.meaning graph.now book.now (V.state_of states.now (prefix_of table.now))) (seeds_of pool.old seeds.now) (routing_of pool.old table.now overlay.old) (slice_index course.now.order.ases.items place) (routing_of pool.new table.now overlay.new) }
+    ensures around { routing_of pool.new table.now overlay.new (slice_index course.now.order.ases.items place) ≢ None → (n : ℕ) (r : ARel) → what graph.now (slice_index course.now.order.ases.items place) n ≡ Some r → r ≢ Customer → IsTold told.new n (slice_index course.now.order.ases.items place) }
+    ensures others { (a b : ℕ) → IsTold told.old a b → IsTold told.new a b }
+    ensures true_notes { AreTrue (what graph.now) told.new }
+    ensures room { CanGo pool.new seeds.now table.now overlay.new course.now.order.ases.items }
+    ensures spent { HasSpent pool.old pool.new seeds.now table.now overlay.old overlay.new course.now.order.ases.items }
 {
-    let asn = order[place];
-    let row = row_at(rows, place);
-    if has_none_to_take(ranks, seeds, reached, asn, row) {
+    let asn = course.order.ases[place];
+    let row = row_at(&course.order.places, place);
+    if has_none_to_take(told, named, asn, row) {
         return;
     }
     let may_loop = named.has(asn);
-    visit(
+    step(
         graph,
+        course,
         book,
         states,
         seeds,
+        told,
+        looks,
         pool,
         table,
         overlay,
@@ -101,74 +168,68 @@ fn step_up<P: RoutePolicy, V: OriginStates, L: Ledger>(
         Part::Up,
         steps,
     );
-    reached.add_holder(graph, asn, row, table, overlay);
+    told.add_holder(graph, asn, row, table, overlay);
 }
 
-// Customers' routes go up, and reach the peers and the providers of who holds one.
+// Customers' routes go up, and who holds one tells its peers and its providers.
 pub fn go_up<P: RoutePolicy, V: OriginStates, L: Ledger>(
     graph: &Graph,
-    ranks: &Ranks,
-    order: &[Asn],
-    rows: &[u32],
+    course: &Course,
     book: &Book<P>,
     states: &V,
     seeds: &SeedIds,
     named: &AsnSet,
+    told: &mut Told,
+    looks: &mut Looks,
     pool: &mut PathPool,
     table: &Table,
     overlay: &mut Overlay,
-    reached: &mut Reached,
     steps: &mut Steps<L>,
 )
     requires no_cycle { HasNoProviderCycle (what graph.now) }
-    requires ranks { (a : ℕ) → IsRank (what graph.now) a (rank_at ranks.now a) }
-    requires order { IsRankOrder (has graph.now) (rank_at ranks.now) order.now }
+    requires course { IsCourse graph.now course.now }
     requires empty { (a : ℕ) → joined table.now overlay.old a ≡ None }
     requires named { AreNamed (is_among named.now) (seeds_of pool.old seeds.now) }
-    requires room { CanGo pool.old seeds.now table.now overlay.old order.now }
-    ensures cost { steps.new ≤ steps.old + length order.now }
-    ensures done { AfterUp (setting P.meaning graph.now book.now (V.state_of states.now (prefix_of table.now))) (seeds_of pool.old seeds.now) order.now (routing_of pool.new table.now overlay.new) }
-    ensures reached { (b n : ℕ) (r : ARel) → occurs b order.now ≡ true → routing_of pool.new table.now overlay.new b ≢ None → what graph.now b n ≡ Some r → r ≢ Customer → is_reached reached.new n ≡ true }
-    ensures room { CanGo pool.new seeds.now table.now overlay.new order.now }
-    ensures spent { HasSpent pool.old pool.new seeds.now table.now overlay.old overlay.new order.now }
+    requires unnamed { (a : ℕ) → is_among named.now a ≡ false → seed_at seeds.now a ≡ None }
+    requires true_notes { AreTrue (what graph.now) told.old }
+    requires room { CanGo pool.old seeds.now table.now overlay.old course.now.order.ases.items }
+    ensures cost { steps.new ≤ steps.old + length course.now.order.ases.items }
+    ensures done { AfterUp (setting P.meaning graph.now book.now (V.state_of states.now (prefix_of table.now))) (seeds_of pool.old seeds.now) course.now.order.ases.items (routing_of pool.new table.now overlay.new) }
+    ensures told { (b n : ℕ) (r : ARel) → occurs b course.now.order.ases.items ≡ true → routing_of pool.new table.now overlay.new b ≢ None → what graph.now b n ≡ Some r → r ≢ Customer → IsTold told.new n b }
+    ensures true_notes { AreTrue (what graph.now) told.new }
+    ensures room { CanGo pool.new seeds.now table.now overlay.new course.now.order.ases.items }
+    ensures spent { HasSpent pool.old pool.new seeds.now table.now overlay.old overlay.new course.now.order.ases.items }
 {
-    for place in 0..order.len() {
+    for place in 0..course.order.ases.len() {
         step_up(
-            graph, ranks, order, rows, place, book, states, seeds, named, pool, table, overlay,
-            reached, steps,
+            graph, course, place, book, states, seeds, named, told, looks, pool, table, overlay,
+            steps,
         );
-    }
-}
-
-// The offers that an AS looks at downwards: all where another than a provider may make it one.
-fn part_for(reached: &Reached, asn: Asn) -> Part
-    ensures { result ≡ (if is_reached reached.now asn then Part.Whole else Part.Down) }
-{
-    if reached.has(asn) {
-        Part::Whole
-    } else {
-        Part::Down
     }
 }
 
 // The step downwards of an AS. Who holds something, and is right with it, takes none.
 fn step_down<P: RoutePolicy, V: OriginStates, L: Ledger>(
     graph: &Graph,
+    course: &Course,
     book: &Book<P>,
     states: &V,
     seeds: &SeedIds,
     named: &AsnSet,
+    told: &Told,
+    looks: &mut Looks,
     pool: &mut PathPool,
     table: &Table,
     overlay: &mut Overlay,
     asn: Asn,
     row: usize,
-    reached: &Reached,
     steps: &mut Steps<L>,
 ) -> bool
     requires can { CanStep pool.old seeds.now table.now overlay.old 1 }
+    requires course { IsCourse graph.now course.now }
     requires held { routing_of pool.old table.now overlay.old asn ≢ None → IsStepOf Part.Whole (setting P.meaning graph.now book.now (V.state_of states.now (prefix_of table.now))) (seeds_of pool.old seeds.now) (routing_of pool.old table.now overlay.old) asn (routing_of pool.old table.now overlay.old) }
-    requires quiet { is_reached reached.now asn ≡ false → IsQuiet (setting P.meaning graph.now book.now (V.state_of states.now (prefix_of table.now))) (routing_of pool.old table.now overlay.old) asn }
+    requires true_notes { AreTrue (what graph.now) told.now }
+    requires told { HaveTold (IsTold told.now) (setting P.meaning graph.now book.now (V.state_of states.now (prefix_of table.now))) (routing_of pool.old table.now overlay.old) asn }
     requires no_loops { routing_of pool.old table.now overlay.old asn ≡ None → is_among named.now asn ≡ false → HasNoLoops Part.Whole (what graph.now) (λ n. P.meaning (policy_at book.now n)) (routing_of pool.old table.now overlay.old) asn }
     ensures cost { steps.new ≤ steps.old + 1 }
     ensures step { IsStepOf Part.Whole (setting P.meaning graph.now book.now (V.state_of states.now (prefix_of table.now))) (seeds_of pool.old seeds.now) (routing_of pool.old table.now overlay.old) asn (routing_of pool.new table.now overlay.new) }
@@ -181,56 +242,59 @@ fn step_down<P: RoutePolicy, V: OriginStates, L: Ledger>(
     if holds(table, overlay, asn, row) {
         return false;
     }
-    let part = part_for(reached, asn);
     let may_loop = named.has(asn);
-    visit(
-        graph, book, states, seeds, pool, table, overlay, asn, row, may_loop, part, steps,
+    step(
+        graph,
+        course,
+        book,
+        states,
+        seeds,
+        told,
+        looks,
+        pool,
+        table,
+        overlay,
+        asn,
+        row,
+        may_loop,
+        Part::Whole,
+        steps,
     )
 }
 
-// Peers' routes go across and providers' routes down, to those that hold nothing yet. Who is not reached
-// looks at its providers alone.
+// Peers' routes go across and providers' routes down, to those that hold nothing yet.
 pub fn go_down<P: RoutePolicy, V: OriginStates, L: Ledger>(
     graph: &Graph,
-    ranks: &Ranks,
-    order: &[Asn],
-    rows: &[u32],
-    reached: &Reached,
+    course: &Course,
     book: &Book<P>,
     states: &V,
     seeds: &SeedIds,
     named: &AsnSet,
+    told: &Told,
+    looks: &mut Looks,
     pool: &mut PathPool,
     table: &Table,
     overlay: &mut Overlay,
     steps: &mut Steps<L>,
 )
     requires no_cycle { HasNoProviderCycle (what graph.now) }
-    requires ranks { (a : ℕ) → IsRank (what graph.now) a (rank_at ranks.now a) }
-    requires order { IsRankOrder (has graph.now) (rank_at ranks.now) order.now }
-    requires reached { (a : ℕ) → is_reached reached.now a ≡ false → IsQuiet (setting P.meaning graph.now book.now (V.state_of states.now (prefix_of table.now))) (routing_of pool.old table.now overlay.old) a }
+    requires course { IsCourse graph.now course.now }
+    requires true_notes { AreTrue (what graph.now) told.now }
+    requires told { (a : ℕ) → HaveTold (IsTold told.now) (setting P.meaning graph.now book.now (V.state_of states.now (prefix_of table.now))) (routing_of pool.old table.now overlay.old) a }
     requires named { AreNamed (is_among named.now) (seeds_of pool.old seeds.now) }
-    requires up { AfterUp (setting P.meaning graph.now book.now (V.state_of states.now (prefix_of table.now))) (seeds_of pool.old seeds.now) order.now (routing_of pool.old table.now overlay.old) }
-    requires room { CanGo pool.old seeds.now table.now overlay.old order.now }
-    ensures cost { steps.new ≤ steps.old + length order.now }
+    requires up { AfterUp (setting P.meaning graph.now book.now (V.state_of states.now (prefix_of table.now))) (seeds_of pool.old seeds.now) course.now.order.ases.items (routing_of pool.old table.now overlay.old) }
+    requires room { CanGo pool.old seeds.now table.now overlay.old course.now.order.ases.items }
+    ensures cost { steps.new ≤ steps.old + length course.now.order.ases.items }
     ensures done { IsStable (setting P.meaning graph.now book.now (V.state_of states.now (prefix_of table.now))) (seeds_of pool.old seeds.now) (routing_of pool.new table.now overlay.new) }
-    ensures spent { HasSpent pool.old pool.new seeds.now table.now overlay.old overlay.new order.now }
+    ensures spent { HasSpent pool.old pool.new seeds.now table.now overlay.old overlay.new course.now.order.ases.items }
 {
-    let mut left = order.len();
+    let mut left = course.order.ases.len();
     while left > 0 {
         left -= 1;
+        let asn = course.order.ases[left];
+        let row = row_at(&course.order.places, left);
         step_down(
-            graph,
-            book,
-            states,
-            seeds,
-            named,
-            pool,
-            table,
-            overlay,
-            order[left],
-            row_at(rows, left),
-            reached,
+            graph, course, book, states, seeds, named, told, looks, pool, table, overlay, asn, row,
             steps,
         );
     }

@@ -1,9 +1,8 @@
 use Rattle.std.proofs.Common.{◌≡◌, ℕ, ◌+◌, ◌⊎◌, true, sym, subst, refl, option_map, take, take_all}
 use Rattle.net_names.specs.Numbers.{occurs}
 use Rattle.as_graph.specs.Neighbours.{asns}
-use Rattle.as_graph.specs.Topology.{what}
 use Rattle.stability_laws.specs.Book.{policy_at}
-use Rattle.stability_laws.specs.Offers.{Offer, GivenBy}
+use Rattle.stability_laws.specs.Offers.{Offer}
 use Rattle.stability_laws.specs.BestView.{IsBestViewOf}
 use Rattle.stability_laws.specs.World.{setting}
 use Rattle.stability_laws.proofs.BestViews.{among_more, one_more, best_of_all}
@@ -11,6 +10,7 @@ use Rattle.route_choice.specs.Tables.{prefix_of}
 use Rattle.route_choice.specs.Routings.{routing_of}
 use Rattle.route_choice.specs.Choices.{offers_of, state_seen}
 use Rattle.route_choice.proofs.Chosen.{given_in_part}
+use Rattle.route_choice.proofs.Givers.{Giver, giver}
 use Rattle.route_choice.proofs.best.best_view.Goals as goal
 
 pub loop-index-preserved : goal.loop-index-preserved
@@ -33,8 +33,10 @@ returns g c =
     let own = policy_at c.args.book.now c.args.asn in
     let offers = λ (n : ℕ). offers_of c.args.part here (routing_of c.args.pool.now c.args.table.now c.args.overlay.now) c.args.asn n in
     let given = λ (n : ℕ). given_in_part c.args.part here (routing_of c.args.pool.now c.args.table.now c.args.overlay.now) c.args.asn n in
+    let f = routing_of c.args.pool.now c.args.table.now c.args.overlay.now in
     let xs = c.args.neighbours.now in
     let i = c.loop-index.index in
     best_of_all (here.policy c.args.asn) (g.met.P.RoutePolicy.ranks_offers own) offers (λ n o e. (given n o e).neighbour)
-    (asns xs) (λ n o e. let from : GivenBy (what c.args.graph.now c.args.asn n) n o = given n o e in c.requires.neighbours.complete n from.from from.linked)
+    (asns xs) (λ n o e. let by : Giver c.args.part here f c.args.asn n = giver c.args.part here f c.args.asn n o e in
+    c.requires.givers.complete n by.exports.from by.exports.entry by.exports.linked by.looked by.exports.is by.exports.exported)
     c.loop-index.best.view (subst (λ ys. IsBestViewOf (here.policy c.args.asn) offers (asns ys) c.loop-index.best.view) (take_all i xs c.loop-index-test.false) c.loop-index.invariant)

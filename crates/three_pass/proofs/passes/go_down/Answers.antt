@@ -6,7 +6,6 @@ use Rattle.net_names.specs.Numbers.{occurs}
 use Rattle.as_graph.specs.Topology.{what, ases}
 use Rattle.as_graph.proofs.Links.{what_mutual, what_self, topology-AreLinks}
 use Rattle.as_graph.proofs.Ranks.{ranks_fall}
-use Rattle.rank_order.specs.Ranks.{rank_at}
 use Rattle.stability_laws.specs.Book.{policy_at}
 use Rattle.stability_laws.specs.World.{setting}
 use Rattle.stability_laws.specs.Stable.{IsLawful}
@@ -16,16 +15,17 @@ use Rattle.route_choice.specs.Tables.{prefix_of}
 use Rattle.three_pass.specs.AsnSets.{is_among}
 use Rattle.three_pass.specs.Progress.{AfterWhole}
 use Rattle.three_pass.proofs.InOrder.{turn, down_same, down_more, down_fresh, no_loops_downwards, all_right}
-use Rattle.three_pass.proofs.Quiet.{still_quiet}
+use Rattle.three_pass.specs.Told.{IsTold}
+use Rattle.three_pass.proofs.Quiet.{still_told}
 use Rattle.three_pass.proofs.Settled.{settled}
 use Rattle.three_pass.proofs.Spending.{can_step, spent_nothing, visited, step_seeds}
 use Rattle.three_pass.proofs.passes.go_down.Goals as goal
 
 pub step_down-requires-clause-can : goal.step_down-requires-clause-can
-step_down-requires-clause-can g c = can_step c.loop-left.pool c.args.seeds.now c.args.table.now c.loop-left.overlay c.args.order.now c.loop-left.invariant.room (omega (arith, c.loop-left-test.true, c.loop-left.invariant.within))
+step_down-requires-clause-can g c = can_step c.loop-left.pool c.args.seeds.now c.args.table.now c.loop-left.overlay c.args.course.now.order.ases.items c.loop-left.invariant.room (omega (arith, c.loop-left-test.true, c.loop-left.invariant.within))
 
-pub step_down-requires-clause-quiet : goal.step_down-requires-clause-quiet
-step_down-requires-clause-quiet g c = c.loop-left.invariant.quiet c.index-order-left.result
+pub step_down-requires-clause-told : goal.step_down-requires-clause-told
+step_down-requires-clause-told g c = c.loop-left.invariant.told c.index-asn.result.now
 
 pub step_down-requires-clause-held : goal.step_down-requires-clause-held
 step_down-requires-clause-held g c = λ some.
@@ -34,19 +34,19 @@ step_down-requires-clause-held g c = λ some.
     let here = setting meaning w c.args.book.now (g.V.OriginStates.state_of c.args.states.now (prefix_of c.args.table.now)) in
     let lawful = λ (a : ℕ). (let p = policy_at c.args.book.now a in
     let is : IsLawful (meaning p) = record { ranks_offers = g.met.P.RoutePolicy.ranks_offers p; prefers_customers = g.met.P.RoutePolicy.prefers_customers p; exports_down_only = g.met.P.RoutePolicy.exports_down_only p } in is) in
-    let xs = c.args.order.now in
+    let xs = c.args.course.now.order.ases.items in
     let i = c.loop-left.left - 1 in
-    let a = c.index-order-left.result in
+    let a = c.index-asn.result.now in
     let left = c.loop-left-test.true in
     let seeds = seeds_of c.args.pool.now c.args.seeds.now in
     let f = routing_of c.loop-left.pool c.args.table.now c.loop-left.overlay in
     let back : i + 1 ≡ c.loop-left.left = omega arith in
     let within : i < length xs = omega (arith, c.loop-left.invariant.within) in
-    let more : take (i + 1) xs ≡ take i xs ++ a ∷ [] = take_more xs i a within ∙ ap (λ t. take i xs ++ t ∷ []) (sym c.index-order-left.is) in
-    let there : occurs a xs ≡ true = list_any_at (λ y. y == a) xs i a within (eq-eqb _ a (sym c.index-order-left.is)) in
+    let more : take (i + 1) xs ≡ take i xs ++ a ∷ [] = take_more xs i a within ∙ ap (λ t. take i xs ++ t ∷ []) (sym c.index-asn.ensures) in
+    let there : occurs a xs ≡ true = list_any_at (λ y. y == a) xs i a within (eq-eqb _ a (sym c.index-asn.ensures)) in
     let still : occurs a (take c.loop-left.left xs) ≡ true = ap (λ k. occurs a (take k xs)) (sym back) ∙ ap (occurs a) more ∙ list_any-append (λ y. y == a) (take i xs) (a ∷ []) ∙ or_right (occurs a (take i xs)) _ (ap (λ t. t || false) (eq-eqb a a refl)) in
     step_seeds Whole here seeds (seeds_of c.loop-left.pool c.args.seeds.now) f a f
-    (settled here lawful f a seeds some (c.loop-left.invariant.so_far.still a still) (c.loop-left.invariant.so_far.low a (sym (c.requires.order.complete a) ∙ there)))
+    (settled here lawful f a seeds some (c.loop-left.invariant.so_far.still a still) (c.loop-left.invariant.so_far.low a (sym (c.requires.course.order.complete a) ∙ there)))
     (sym (c.loop-left.invariant.spent.keeps.same_seeds a))
 
 pub step_down-requires-clause-no_loops : goal.step_down-requires-clause-no_loops
@@ -56,18 +56,18 @@ step_down-requires-clause-no_loops g c =
     let here = setting meaning w c.args.book.now (g.V.OriginStates.state_of c.args.states.now (prefix_of c.args.table.now)) in
     let lawful = λ (a : ℕ). (let p = policy_at c.args.book.now a in
     let is : IsLawful (meaning p) = record { ranks_offers = g.met.P.RoutePolicy.ranks_offers p; prefers_customers = g.met.P.RoutePolicy.prefers_customers p; exports_down_only = g.met.P.RoutePolicy.exports_down_only p } in is) in
-    let falls = (ranks_fall (what w) (ases w) (topology-AreLinks w) c.requires.no_cycle (rank_at c.args.ranks.now) c.requires.ranks).falls in
-    let xs = c.args.order.now in
+    let falls = (ranks_fall (what w) (ases w) (topology-AreLinks w) c.requires.no_cycle c.requires.course.rank c.requires.course.ranks).falls in
+    let xs = c.args.course.now.order.ases.items in
     let i = c.loop-left.left - 1 in
-    let a = c.index-order-left.result in
+    let a = c.index-asn.result.now in
     let left = c.loop-left-test.true in
     let seeds = seeds_of c.args.pool.now c.args.seeds.now in
     let f = routing_of c.loop-left.pool c.args.table.now c.loop-left.overlay in
     let back : i + 1 ≡ c.loop-left.left = omega arith in
     let within : i < length xs = omega (arith, c.loop-left.invariant.within) in
-    let more : take (i + 1) xs ≡ take i xs ++ a ∷ [] = take_more xs i a within ∙ ap (λ t. take i xs ++ t ∷ []) (sym c.index-order-left.is) in
-    no_loops_downwards here lawful (what_mutual w) (what_self w) seeds (rank_at c.args.ranks.now) falls xs c.requires.order
-    (is_among c.args.named.now) c.requires.named i a a f within c.index-order-left.is more (subst (λ k. AfterWhole here seeds (take k xs) f) (sym back) c.loop-left.invariant.so_far)
+    let more : take (i + 1) xs ≡ take i xs ++ a ∷ [] = take_more xs i a within ∙ ap (λ t. take i xs ++ t ∷ []) (sym c.index-asn.ensures) in
+    no_loops_downwards here lawful (what_mutual w) (what_self w) seeds c.requires.course.rank falls xs c.requires.course.order
+    (is_among c.args.named.now) c.requires.named i a a f within c.index-asn.ensures more (subst (λ k. AfterWhole here seeds (take k xs) f) (sym back) c.loop-left.invariant.so_far)
 
 pub loop-left-init : goal.loop-left-init
 loop-left-init g c =
@@ -76,16 +76,16 @@ loop-left-init g c =
     let here = setting meaning w c.args.book.now (g.V.OriginStates.state_of c.args.states.now (prefix_of c.args.table.now)) in
     let lawful = λ (a : ℕ). (let p = policy_at c.args.book.now a in
     let is : IsLawful (meaning p) = record { ranks_offers = g.met.P.RoutePolicy.ranks_offers p; prefers_customers = g.met.P.RoutePolicy.prefers_customers p; exports_down_only = g.met.P.RoutePolicy.exports_down_only p } in is) in
-    let falls = (ranks_fall (what w) (ases w) (topology-AreLinks w) c.requires.no_cycle (rank_at c.args.ranks.now) c.requires.ranks).falls in
-    let xs = c.args.order.now in
+    let falls = (ranks_fall (what w) (ases w) (topology-AreLinks w) c.requires.no_cycle c.requires.course.rank c.requires.course.ranks).falls in
+    let xs = c.args.course.now.order.ases.items in
     let seeds = seeds_of c.args.pool.now c.args.seeds.now in
     let f = routing_of c.args.pool.now c.args.table.now c.args.overlay.now in
     record {
-      within = omega arith;
-      steps = omega arith;
-      so_far = subst (λ ys. AfterWhole here seeds ys f) (sym (take_all (length xs) xs (omega arith)))
-          (turn here lawful (what_mutual w) (what_self w) seeds (rank_at c.args.ranks.now) falls xs c.requires.order f c.requires.up);
-      quiet = c.requires.reached;
+      within = omega (arith, c.len-left.ensures);
+      steps = omega (arith, c.len-left.ensures);
+      so_far = subst (λ ys. AfterWhole here seeds ys f) (sym (take_all c.len-left.result xs (omega (arith, c.len-left.ensures))))
+          (turn here lawful (what_mutual w) (what_self w) seeds c.requires.course.rank falls xs c.requires.course.order f c.requires.up);
+      told = c.requires.told;
       room = c.requires.room;
       spent = spent_nothing c.args.pool.now c.args.seeds.now c.args.table.now c.args.overlay.now xs;
     }
@@ -97,28 +97,28 @@ loop-left-preserved g c =
     let here = setting meaning w c.args.book.now (g.V.OriginStates.state_of c.args.states.now (prefix_of c.args.table.now)) in
     let lawful = λ (a : ℕ). (let p = policy_at c.args.book.now a in
     let is : IsLawful (meaning p) = record { ranks_offers = g.met.P.RoutePolicy.ranks_offers p; prefers_customers = g.met.P.RoutePolicy.prefers_customers p; exports_down_only = g.met.P.RoutePolicy.exports_down_only p } in is) in
-    let falls = (ranks_fall (what w) (ases w) (topology-AreLinks w) c.requires.no_cycle (rank_at c.args.ranks.now) c.requires.ranks).falls in
-    let xs = c.args.order.now in
+    let falls = (ranks_fall (what w) (ases w) (topology-AreLinks w) c.requires.no_cycle c.requires.course.rank c.requires.course.ranks).falls in
+    let xs = c.args.course.now.order.ases.items in
     let i = c.loop-left.left - 1 in
-    let a = c.index-order-left.result in
+    let a = c.index-asn.result.now in
     let some = c.loop-left-test.true in
     let seeds = seeds_of c.args.pool.now c.args.seeds.now in
     let f = routing_of c.loop-left.pool c.args.table.now c.loop-left.overlay in
     let f' = routing_of c.step_down.new.pool c.args.table.now c.step_down.new.overlay in
     let back : i + 1 ≡ c.loop-left.left = omega arith in
     let within : i < length xs = omega (arith, c.loop-left.invariant.within) in
-    let more : take (i + 1) xs ≡ take i xs ++ a ∷ [] = take_more xs i a within ∙ ap (λ t. take i xs ++ t ∷ []) (sym c.index-order-left.is) in
-    let there : occurs a xs ≡ true = list_any_at (λ y. y == a) xs i a within (eq-eqb _ a (sym c.index-order-left.is)) in
+    let more : take (i + 1) xs ≡ take i xs ++ a ∷ [] = take_more xs i a within ∙ ap (λ t. take i xs ++ t ∷ []) (sym c.index-asn.ensures) in
+    let there : occurs a xs ≡ true = list_any_at (λ y. y == a) xs i a within (eq-eqb _ a (sym c.index-asn.ensures)) in
     let so_far = subst (λ k. AfterWhole here seeds (take k xs) f) (sym back) c.loop-left.invariant.so_far in
     let step = step_seeds Whole here (seeds_of c.loop-left.pool c.args.seeds.now) seeds f a f' c.step_down.ensures.step (c.loop-left.invariant.spent.keeps.same_seeds a) in
-    let fresh = down_fresh here lawful (what_mutual w) (what_self w) seeds (rank_at c.args.ranks.now) falls xs c.requires.order i a a f f' within c.index-order-left.is more step so_far in
+    let fresh = down_fresh here lawful (what_mutual w) (what_self w) seeds c.requires.course.rank falls xs c.requires.course.order i a a f f' within c.index-asn.ensures more step so_far in
     let both = visited c.args.pool.now c.loop-left.pool c.step_down.new.pool c.args.seeds.now c.args.table.now c.args.overlay.now c.loop-left.overlay c.step_down.new.overlay xs a c.step_down.result
-    c.requires.order.apart there c.loop-left.invariant.room c.loop-left.invariant.spent c.step_down.ensures.changed c.step_down.ensures.unchanged step.others c.step_down.ensures.spent c.step_down.ensures.kept c.step_down.ensures.put fresh in
+    c.requires.course.order.apart there c.loop-left.invariant.room c.loop-left.invariant.spent c.step_down.ensures.changed c.step_down.ensures.unchanged step.others c.step_down.ensures.spent c.step_down.ensures.kept c.step_down.ensures.put fresh in
     record {
       within = omega (arith, c.loop-left.invariant.within);
       steps = omega (arith, c.step_down.ensures.cost, c.loop-left.invariant.steps);
-      so_far = down_more here lawful (what_mutual w) (what_self w) seeds (rank_at c.args.ranks.now) falls xs c.requires.order i a a f f' within c.index-order-left.is more step so_far;
-      quiet = λ b out. still_quiet here f f' b (down_same here lawful (what_mutual w) (what_self w) seeds (rank_at c.args.ranks.now) falls xs c.requires.order i a a f f' within c.index-order-left.is step so_far) (c.loop-left.invariant.quiet b out);
+      so_far = down_more here lawful (what_mutual w) (what_self w) seeds c.requires.course.rank falls xs c.requires.course.order i a a f f' within c.index-asn.ensures more step so_far;
+      told = λ b. still_told (IsTold c.args.told.now) here f f' b (down_same here lawful (what_mutual w) (what_self w) seeds c.requires.course.rank falls xs c.requires.course.order i a a f f' within c.index-asn.ensures step so_far) (c.loop-left.invariant.told b);
       room = both.0;
       spent = both.1;
     }
@@ -126,7 +126,7 @@ loop-left-preserved g c =
 pub returns-clause-done : goal.returns-clause-done
 returns-clause-done g c =
     let here = setting g.P.RoutePolicy.meaning c.args.graph.now c.args.book.now (g.V.OriginStates.state_of c.args.states.now (prefix_of c.args.table.now)) in
-    let xs = c.args.order.now in
+    let xs = c.args.course.now.order.ases.items in
     let seeds = seeds_of c.args.pool.now c.args.seeds.now in
     let f = routing_of c.loop-left.pool c.args.table.now c.loop-left.overlay in
     let over : c.loop-left.left ≡ 0 = omega arith in

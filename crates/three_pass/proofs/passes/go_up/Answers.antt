@@ -1,11 +1,10 @@
-use Rattle.std.proofs.Common.{arith, inl, inr, ◌≡◌, ℕ, ◌+◌, ◌∷◌, ◌++◌, ◌∙◌, [], slice_index, refl, sym, option_map, take, ap}
+use Rattle.std.proofs.Common.{arith, inl, inr, ◌≡◌, ℕ, ◌+◌, ◌∷◌, ◌++◌, ◌∙◌, [], slice_index, length, ◌<◌, refl, sym, option_map, take, ap, subst}
 use Rattle.std.proofs.lemmas.Bool.{cases_eq}
 use Rattle.std.proofs.lemmas.List.{take_more, take_all}
 use Rattle.net_names.specs.Numbers.{occurs}
 use Rattle.as_graph.specs.Topology.{what, ases}
 use Rattle.as_graph.proofs.Links.{what_mutual, what_self, topology-AreLinks}
 use Rattle.as_graph.proofs.Ranks.{ranks_fall}
-use Rattle.rank_order.specs.Ranks.{rank_at}
 use Rattle.stability_laws.specs.Book.{policy_at}
 use Rattle.stability_laws.specs.World.{setting}
 use Rattle.stability_laws.specs.Stable.{IsLawful}
@@ -13,9 +12,9 @@ use Rattle.route_choice.specs.declared.choice.Part.TheVariants.{Up}
 use Rattle.route_choice.specs.Routings.{entry_of, routing_of, seeds_of}
 use Rattle.route_choice.specs.Tables.{prefix_of}
 use Rattle.three_pass.specs.AsnSets.{is_among}
-use Rattle.three_pass.specs.Reached.{is_reached}
+use Rattle.three_pass.specs.Told.{IsTold}
 use Rattle.three_pass.proofs.InOrder.{in_more, none_yet, up_more, up_fresh, no_loops_upwards}
-use Rattle.three_pass.proofs.Quiet.{quiet_from}
+use Rattle.three_pass.proofs.Quiet.{told_from}
 use Rattle.three_pass.proofs.Spending.{spent_nothing, spent_more, step_seeds}
 use Rattle.three_pass.proofs.passes.go_up.Goals as goal
 
@@ -27,8 +26,9 @@ loop-place-init g c =
       steps = omega arith;
       so_far = none_yet here (seeds_of pool c.args.seeds.now) (routing_of pool c.args.table.now c.args.overlay.now) (λ a. ap (option_map (entry_of pool)) (c.requires.empty a));
       holders = λ b n r there some linked other. cc;
+      true_notes = c.requires.true_notes;
       room = c.requires.room;
-      spent = spent_nothing pool c.args.seeds.now c.args.table.now c.args.overlay.now c.args.order.now;
+      spent = spent_nothing pool c.args.seeds.now c.args.table.now c.args.overlay.now c.args.course.now.order.ases.items;
     }
 
 pub step_up-requires-clause-nothing : goal.step_up-requires-clause-nothing
@@ -38,11 +38,11 @@ step_up-requires-clause-nothing g c =
     let here = setting meaning w c.args.book.now (g.V.OriginStates.state_of c.args.states.now (prefix_of c.args.table.now)) in
     let lawful = λ (a : ℕ). (let p = policy_at c.args.book.now a in
     let is : IsLawful (meaning p) = record { ranks_offers = g.met.P.RoutePolicy.ranks_offers p; prefers_customers = g.met.P.RoutePolicy.prefers_customers p; exports_down_only = g.met.P.RoutePolicy.exports_down_only p } in is) in
-    let falls = (ranks_fall (what w) (ases w) (topology-AreLinks w) c.requires.no_cycle (rank_at c.args.ranks.now) c.requires.ranks).falls in
-    let xs = c.args.order.now in
+    let falls = (ranks_fall (what w) (ases w) (topology-AreLinks w) c.requires.no_cycle c.requires.course.rank c.requires.course.ranks).falls in
+    let xs = c.args.course.now.order.ases.items in
     let i = c.loop-place.place in
-    up_fresh here lawful (what_mutual w) (what_self w) (seeds_of c.args.pool.now c.args.seeds.now) (rank_at c.args.ranks.now) falls xs c.requires.order
-    i 0 (slice_index xs i) (routing_of c.loop-place.pool c.args.table.now c.loop-place.overlay) c.loop-place-test.true refl c.loop-place.invariant.so_far
+    up_fresh here lawful (what_mutual w) (what_self w) (seeds_of c.args.pool.now c.args.seeds.now) c.requires.course.rank falls xs c.requires.course.order
+    i 0 (slice_index xs i) (routing_of c.loop-place.pool c.args.table.now c.loop-place.overlay) (omega (arith, c.loop-place-test.true, c.len-place-end.ensures)) refl c.loop-place.invariant.so_far
 
 pub step_up-requires-clause-no_loops : goal.step_up-requires-clause-no_loops
 step_up-requires-clause-no_loops g c =
@@ -51,18 +51,18 @@ step_up-requires-clause-no_loops g c =
     let here = setting meaning w c.args.book.now (g.V.OriginStates.state_of c.args.states.now (prefix_of c.args.table.now)) in
     let lawful = λ (a : ℕ). (let p = policy_at c.args.book.now a in
     let is : IsLawful (meaning p) = record { ranks_offers = g.met.P.RoutePolicy.ranks_offers p; prefers_customers = g.met.P.RoutePolicy.prefers_customers p; exports_down_only = g.met.P.RoutePolicy.exports_down_only p } in is) in
-    let falls = (ranks_fall (what w) (ases w) (topology-AreLinks w) c.requires.no_cycle (rank_at c.args.ranks.now) c.requires.ranks).falls in
-    let xs = c.args.order.now in
+    let falls = (ranks_fall (what w) (ases w) (topology-AreLinks w) c.requires.no_cycle c.requires.course.rank c.requires.course.ranks).falls in
+    let xs = c.args.course.now.order.ases.items in
     let i = c.loop-place.place in
-    no_loops_upwards here lawful (what_mutual w) (what_self w) (seeds_of c.args.pool.now c.args.seeds.now) (rank_at c.args.ranks.now) falls xs c.requires.order
+    no_loops_upwards here lawful (what_mutual w) (what_self w) (seeds_of c.args.pool.now c.args.seeds.now) c.requires.course.rank falls xs c.requires.course.order
     (is_among c.args.named.now) c.requires.named (take i xs) (routing_of c.loop-place.pool c.args.table.now c.loop-place.overlay) c.loop-place.invariant.so_far (slice_index xs i)
 
-pub step_up-requires-clause-quiet : goal.step_up-requires-clause-quiet
-step_up-requires-clause-quiet g c =
+pub step_up-requires-clause-told : goal.step_up-requires-clause-told
+step_up-requires-clause-told g c =
     let here = setting g.P.RoutePolicy.meaning c.args.graph.now c.args.book.now (g.V.OriginStates.state_of c.args.states.now (prefix_of c.args.table.now)) in
-    let xs = c.args.order.now in
+    let xs = c.args.course.now.order.ases.items in
     let i = c.loop-place.place in
-    quiet_from here (routing_of c.loop-place.pool c.args.table.now c.loop-place.overlay) (take i xs) (is_reached c.loop-place.reached) (what_mutual c.args.graph.now)
+    told_from (IsTold c.loop-place.told) here (routing_of c.loop-place.pool c.args.table.now c.loop-place.overlay) (take i xs) (what_mutual c.args.graph.now)
     c.loop-place.invariant.so_far.rest c.loop-place.invariant.holders (slice_index xs i)
 
 pub loop-place-preserved : goal.loop-place-preserved
@@ -72,29 +72,31 @@ loop-place-preserved g c =
     let here = setting meaning w c.args.book.now (g.V.OriginStates.state_of c.args.states.now (prefix_of c.args.table.now)) in
     let lawful = λ (a : ℕ). (let p = policy_at c.args.book.now a in
     let is : IsLawful (meaning p) = record { ranks_offers = g.met.P.RoutePolicy.ranks_offers p; prefers_customers = g.met.P.RoutePolicy.prefers_customers p; exports_down_only = g.met.P.RoutePolicy.exports_down_only p } in is) in
-    let falls = (ranks_fall (what w) (ases w) (topology-AreLinks w) c.requires.no_cycle (rank_at c.args.ranks.now) c.requires.ranks).falls in
-    let xs = c.args.order.now in
+    let falls = (ranks_fall (what w) (ases w) (topology-AreLinks w) c.requires.no_cycle c.requires.course.rank c.requires.course.ranks).falls in
+    let xs = c.args.course.now.order.ases.items in
     let i = c.loop-place.place in
     let a = slice_index xs i in
     let seeds = seeds_of c.args.pool.now c.args.seeds.now in
     let f = routing_of c.loop-place.pool c.args.table.now c.loop-place.overlay in
     let f' = routing_of c.step_up.new.pool c.args.table.now c.step_up.new.overlay in
-    let more : take (i + 1) xs ≡ take i xs ++ a ∷ [] = take_more xs i 0 c.loop-place-test.true in
+    let inside : i < length xs = omega (arith, c.loop-place-test.true, c.len-place-end.ensures) in
+    let more : take (i + 1) xs ≡ take i xs ++ a ∷ [] = take_more xs i 0 inside in
     let step = step_seeds Up here (seeds_of c.loop-place.pool c.args.seeds.now) seeds f a f' c.step_up.ensures.step (c.loop-place.invariant.spent.keeps.same_seeds a) in
     record {
       steps = omega (arith, c.step_up.ensures.cost, c.loop-place.invariant.steps);
-      so_far = up_more here lawful (what_mutual w) (what_self w) seeds (rank_at c.args.ranks.now) falls xs c.requires.order i 0 a f f' c.loop-place-test.true refl more step c.loop-place.invariant.so_far;
+      so_far = up_more here lawful (what_mutual w) (what_self w) seeds c.requires.course.rank falls xs c.requires.course.order i 0 a f f' inside refl more step c.loop-place.invariant.so_far;
       holders = λ b n r there some linked other. elim (cases_eq b a) [
-        | inl e ↦ c.step_up.ensures.around (λ none. some (ap f' e ∙ none)) n r (ap (λ t. what w t n) (sym e) ∙ linked) other
+        | inl e ↦ subst (IsTold c.step_up.new.told n) (sym e) (c.step_up.ensures.around (λ none. some (ap f' e ∙ none)) n r (ap (λ t. what w t n) (sym e) ∙ linked) other)
         | inr ne ↦ elim (in_more b a (take i xs) (take (i + 1) xs) more there) [
           | inl e ↦ absurd (ne (sym e))
-          | inr e ↦ c.step_up.ensures.others n (c.loop-place.invariant.holders b n r e (λ none. some (step.others b ne ∙ none)) linked other)
+          | inr e ↦ c.step_up.ensures.others n b (c.loop-place.invariant.holders b n r e (λ none. some (step.others b ne ∙ none)) linked other)
         ]
       ];
+      true_notes = c.step_up.ensures.true_notes;
       room = c.step_up.ensures.room;
       spent = spent_more c.args.pool.now c.loop-place.pool c.step_up.new.pool c.args.seeds.now c.args.table.now c.args.overlay.now c.loop-place.overlay c.step_up.new.overlay xs c.loop-place.invariant.spent c.step_up.ensures.spent;
     }
 
-pub returns-clause-reached : goal.returns-clause-reached
-returns-clause-reached g c = λ b n r there some linked other.
-    c.loop-place.invariant.holders b n r (ap (occurs b) (take_all c.loop-place.place c.args.order.now (omega arith)) ∙ there) some linked other
+pub returns-clause-told : goal.returns-clause-told
+returns-clause-told g c = λ b n r there some linked other.
+    c.loop-place.invariant.holders b n r (ap (occurs b) (take_all c.loop-place.place c.args.course.now.order.ases.items (omega (arith, c.loop-place-test.false, c.len-place-end.ensures))) ∙ there) some linked other

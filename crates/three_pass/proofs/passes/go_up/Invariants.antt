@@ -7,15 +7,16 @@ use Rattle.stability_laws.specs.World.{setting}
 use Rattle.route_choice.specs.Routings.{routing_of, seeds_of}
 use Rattle.route_choice.specs.Tables.{prefix_of}
 use Rattle.three_pass.specs.Progress.{AfterUp}
-use Rattle.three_pass.specs.Reached.{is_reached}
+use Rattle.three_pass.specs.Told.{AreTrue, IsTold}
 use Rattle.three_pass.specs.Spending.{CanGo, HasSpent}
 use Rattle.three_pass.proofs.passes.go_up.Given as goal
 
 abbrev pub invariant-loop-place : goal.invariant-loop-place
 invariant-loop-place g l = record {
   steps : l.steps ≤ l.initial.steps + l.place;
-  so_far : AfterUp (setting g.P.RoutePolicy.meaning l.graph l.book (g.V.OriginStates.state_of l.states (prefix_of l.table))) (seeds_of l.initial.pool l.seeds) (take l.place l.order) (routing_of l.pool l.table l.overlay);
-  holders : (b n : ℕ) (r : Rel) → occurs b (take l.place l.order) ≡ true → routing_of l.pool l.table l.overlay b ≢ None → what l.graph b n ≡ Some r → r ≢ Customer → is_reached l.reached n ≡ true;
-  room : CanGo l.pool l.seeds l.table l.overlay l.order;
-  spent : HasSpent l.initial.pool l.pool l.seeds l.table l.initial.overlay l.overlay l.order;
+  so_far : AfterUp (setting g.P.RoutePolicy.meaning l.graph l.book (g.V.OriginStates.state_of l.states (prefix_of l.table))) (seeds_of l.initial.pool l.seeds) (take l.place l.course.order.ases.items) (routing_of l.pool l.table l.overlay);
+  holders : (b n : ℕ) (r : Rel) → occurs b (take l.place l.course.order.ases.items) ≡ true → routing_of l.pool l.table l.overlay b ≢ None → what l.graph b n ≡ Some r → r ≢ Customer → IsTold l.told n b;
+  true_notes : AreTrue (what l.graph) l.told;
+  room : CanGo l.pool l.seeds l.table l.overlay l.course.order.ases.items;
+  spent : HasSpent l.initial.pool l.pool l.seeds l.table l.initial.overlay l.overlay l.course.order.ases.items;
 }

@@ -5,7 +5,7 @@ use Rattle.route_choice.specs.Tables.{prefix_of, seed_at}
 use Rattle.route_choice.specs.Routings.{routing_of, seeds_of}
 use Rattle.route_choice.proofs.Lists.{seed_there}
 use Rattle.route_choice.proofs.Unread.{choice_seen, nothing_seen}
-use Rattle.route_choice.proofs.choosing.evaluate_near.Goals as goal
+use Rattle.route_choice.proofs.choosing.evaluate_among.Goals as goal
 
 pub returns-in-Some-clause-choice : goal.returns-in-Some-clause-choice
 returns-in-Some-clause-choice g c =

@@ -1,0 +1,10 @@
+use Rattle.std.proofs.Common.{◌≡◌, ℕ, ◌<◌, slice_index}
+use Rattle.as_graph.specs.Topology.{what}
+use Rattle.three_pass.specs.Lists.{AreProviders, count_of, list_at}
+use Rattle.three_pass.proofs.course.providers_of.Given as goal
+
+abbrev pub invariant-loop-row : goal.invariant-loop-row
+invariant-loop-row l = record {
+  count : count_of l.lists ≡ l.row;
+  each : (k : ℕ) → k < l.row → AreProviders (what l.graph) (slice_index l.rows k) (list_at l.lists k);
+}
