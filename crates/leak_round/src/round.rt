@@ -2,8 +2,8 @@
 
 ghost use Rattle.std.specs.Prelude.{◌≡◌, ℕ, suc, ◌+◌, ◌-◌, ◌*◌, ◌≤◌, length, IsTrue, IfOk, OnOk};
 ghost use Rattle.as_graph.specs.Topology.{what, as_count};
-ghost use Rattle.as_graph.specs.Hierarchy.{HasNoProviderCycle, IsRank};
-ghost use Rattle.rank_order.specs.Ranks.{rank_at};
+ghost use Rattle.as_graph.specs.Hierarchy.{HasNoProviderCycle};
+ghost use Rattle.three_pass.specs.Courses.{IsCourse};
 ghost use Rattle.path_pool.specs.Pool.{holds_of, live_count};
 ghost use Rattle.stability_laws.specs.Stable.{IsStable};
 ghost use Rattle.stability_laws.specs.World.{setting};
@@ -24,18 +24,17 @@ use as_graph::Graph;
 use net_names::{NoMemory, Prefix};
 use path_pool::PathPool;
 use policy_laws::{OriginStates, RoutePolicy};
-use rank_order::Ranks;
 use route_choice::{RoundTables, Steps, Table, uses_are_counted};
 use stability_laws::{Book, SeedPlan};
 use std::alloc::Global;
 use std::sync::ledger::Ledger;
-use three_pass::propagate;
+use three_pass::{Course, propagate_along};
 
 // The table of a prefix in a round.
 fn make_table<P: RoutePolicy, V: OriginStates, L: Ledger>(
     alloc: Global,
     graph: &Graph,
-    ranks: &Ranks,
+    course: &Course,
     book: &Book<P>,
     states: &V,
     plan: &SeedPlan,
@@ -47,7 +46,7 @@ fn make_table<P: RoutePolicy, V: OriginStates, L: Ledger>(
     steps: &mut Steps<L>,
 ) -> Result<Table, NoMemory>
     requires no_cycle { HasNoProviderCycle (what graph.now) }
-    requires ranks { (a : ℕ) → IsRank (what graph.now) a (rank_at ranks.now a) }
+    requires course { IsCourse graph.now course.now }
     requires announced { AreAnnounced pool.old plan.now announced.now }
     requires earlier { AreRoundsFull pool.old plan.now earlier.now }
     requires round { round ≡ suc (length earlier.now) }
@@ -65,8 +64,8 @@ fn make_table<P: RoutePolicy, V: OriginStates, L: Ledger>(
 {
     let _count = graph.as_count();
     let seeds = seeds_with(alloc, plan, announced, earlier, &[], round, prefix)?;
-    match propagate(
-        alloc, graph, ranks, book, states, prefix, &seeds, pool, steps,
+    match propagate_along(
+        alloc, graph, course, book, states, prefix, &seeds, pool, steps,
     ) {
         Ok(table) => {
             uses_are_counted(&table);
@@ -80,7 +79,7 @@ fn make_table<P: RoutePolicy, V: OriginStates, L: Ledger>(
 pub fn make_round<P: RoutePolicy, V: OriginStates, L: Ledger>(
     alloc: Global,
     graph: &Graph,
-    ranks: &Ranks,
+    course: &Course,
     book: &Book<P>,
     states: &V,
     plan: &SeedPlan,
@@ -91,7 +90,7 @@ pub fn make_round<P: RoutePolicy, V: OriginStates, L: Ledger>(
     steps: &mut Steps<L>,
 ) -> Result<RoundTables, NoMemory>
     requires no_cycle { HasNoProviderCycle (what graph.now) }
-    requires ranks { (a : ℕ) → IsRank (what graph.now) a (rank_at ranks.now a) }
+    requires course { IsCourse graph.now course.now }
     requires few { length (prefixes_of plan.now) ≤ 32 }
     requires announced { AreAnnounced pool.old plan.now announced.now }
     requires earlier { AreRoundsFull pool.old plan.now earlier.now }
@@ -109,7 +108,8 @@ pub fn make_round<P: RoutePolicy, V: OriginStates, L: Ledger>(
     let mut place = 0;
     'prefixes: while let Some(prefix) = plan.prefix_at(place) {
         let table = make_table(
-            alloc, graph, ranks, book, states, plan, announced, earlier, round, prefix, pool, steps,
+            alloc, graph, course, book, states, plan, announced, earlier, round, prefix, pool,
+            steps,
         )?;
         tables.push(table)?;
         place += 1;

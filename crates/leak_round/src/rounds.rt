@@ -5,6 +5,7 @@ ghost use Rattle.net_names.specs.Prefixes.{PrefixValue};
 ghost use Rattle.as_graph.specs.Topology.{what, as_count};
 ghost use Rattle.as_graph.specs.Hierarchy.{HasNoProviderCycle, IsRank};
 ghost use Rattle.rank_order.specs.Ranks.{rank_at};
+ghost use Rattle.three_pass.specs.Courses.{IsCourse};
 ghost use Rattle.path_pool.specs.Pool.{holds_of, live_count, limit_of};
 ghost use Rattle.stability_laws.specs.declared.entry.Entry.{Entry as AnEntry};
 ghost use Rattle.stability_laws.specs.World.{setting};
@@ -33,6 +34,7 @@ use route_choice::{RoundTables, SeedIds, Steps};
 use stability_laws::{Book, SeedPlan, one_family};
 use std::alloc::Global;
 use std::sync::ledger::Ledger;
+use three_pass::Course;
 
 // The most cells of a pool. The entries of four rounds of 32 prefixes and the announced paths have fewer.
 const MAX_CELLS: usize = 40_000_000;
@@ -63,7 +65,7 @@ pub struct Rounds {
 fn make_rounds<P: RoutePolicy, V: OriginStates, L: Ledger>(
     alloc: Global,
     graph: &Graph,
-    ranks: &Ranks,
+    course: &Course,
     book: &Book<P>,
     states: &V,
     plan: &SeedPlan,
@@ -73,7 +75,7 @@ fn make_rounds<P: RoutePolicy, V: OriginStates, L: Ledger>(
     steps: &mut Steps<L>,
 ) -> Result<Vec<RoundTables>, NoMemory>
     requires no_cycle { HasNoProviderCycle (what graph.now) }
-    requires ranks { (a : ℕ) → IsRank (what graph.now) a (rank_at ranks.now a) }
+    requires course { IsCourse graph.now course.now }
     requires few { length (prefixes_of plan.now) ≤ 32 }
     requires announced { AreAnnounced pool.old plan.now announced.now }
     requires room { HasRoomFor pool.old (rounds * length (prefixes_of plan.now)) }
@@ -91,7 +93,7 @@ fn make_rounds<P: RoutePolicy, V: OriginStates, L: Ledger>(
         let next = make_round(
             alloc,
             graph,
-            ranks,
+            course,
             book,
             states,
             plan,
@@ -147,8 +149,9 @@ impl Rounds {
         one_family::<P>();
         let mut pool = PathPool::new(alloc, MAX_CELLS);
         let announced = announce_all(alloc, &plan, &mut pool)?;
+        let course = Course::of(alloc, graph, ranks)?;
         let tables = make_rounds(
-            alloc, graph, ranks, book, states, &plan, &announced, rounds, &mut pool, steps,
+            alloc, graph, &course, book, states, &plan, &announced, rounds, &mut pool, steps,
         )?;
         Ok(Rounds {
             pool,

@@ -15,32 +15,32 @@ routed : (pool : PathPool) (o : Option Held) → IsSome o → IsSome (option_map
 routed pool None h = h
 routed pool (Some x) h = refl
 
-pub propagate-requires-clause-seeds : goal.propagate-requires-clause-seeds
-propagate-requires-clause-seeds g c =
+pub propagate_along-requires-clause-seeds : goal.propagate_along-requires-clause-seeds
+propagate_along-requires-clause-seeds g c =
     seeds_live c.args.pool.now c.args.plan.now c.args.announced.now c.args.earlier.now [] c.args.round c.args.prefix c.in_ok-seeds.seeds c.in_ok-seeds.ensures c.requires.announced
     (λ a h e. held_of-live c.args.pool.now c.args.plan.now c.args.earlier.now c.requires.earlier (c.args.round - 1) c.args.prefix a h e)
 
-pub propagate-requires-clause-counts : goal.propagate-requires-clause-counts
-propagate-requires-clause-counts g c = λ k. omega (arith, c.requires.room.counts k)
+pub propagate_along-requires-clause-counts : goal.propagate_along-requires-clause-counts
+propagate_along-requires-clause-counts g c = λ k. omega (arith, c.requires.room.counts k)
 
-pub propagate-requires-clause-room : goal.propagate-requires-clause-room
-propagate-requires-clause-room g c = omega (arith, c.requires.room.cells, c.as_count-count.ensures.few)
+pub propagate_along-requires-clause-room : goal.propagate_along-requires-clause-room
+propagate_along-requires-clause-room g c = omega (arith, c.requires.room.cells, c.as_count-count.ensures.few)
 
 pub returns-in-Ok-clause-stable : goal.returns-in-Ok-clause-stable
 returns-in-Ok-clause-stable g c =
     let pool = c.args.pool.now in let plan = c.args.plan.now in let earlier = c.args.earlier.now in
     let same = λ (a : ℕ). seeds_are pool plan c.args.announced.now earlier [] c.args.round c.args.prefix c.in_ok-seeds.seeds c.in_ok-seeds.ensures c.requires.announced (λ b. refl) c.requires.known a
     ∙ seeds_kept pool plan earlier c.args.round c.args.prefix c.requires.round a in
-    let F : (ℕ → Option Seed) → Type 0 = λ s. IsStable (setting g.P.RoutePolicy.meaning c.args.graph.now c.args.book.now (g.V.OriginStates.state_of c.args.states.now c.args.prefix)) s (table_routing c.propagate.new.pool c.in-Ok.table) in
+    let F : (ℕ → Option Seed) → Type 0 = λ s. IsStable (setting g.P.RoutePolicy.meaning c.args.graph.now c.args.book.now (g.V.OriginStates.state_of c.args.states.now c.args.prefix)) s (table_routing c.propagate_along.new.pool c.in-Ok.table) in
     subst F (λ i a. same a i) c.in-Ok.ensures.stable
 
 pub returns-in-Ok-clause-cells : goal.returns-in-Ok-clause-cells
-returns-in-Ok-clause-cells g c = table_entries c.args.pool.now c.propagate.new.pool (table_routing c.propagate.new.pool c.in-Ok.table) c.in-Ok.ensures.cells
+returns-in-Ok-clause-cells g c = table_entries c.args.pool.now c.propagate_along.new.pool (table_routing c.propagate_along.new.pool c.in-Ok.table) c.in-Ok.ensures.cells
 
 pub returns-in-Ok-clause-grows : goal.returns-in-Ok-clause-grows
 returns-in-Ok-clause-grows g c =
     let h = c.in-Ok.ensures.cells in
-    let few : length h.ases ≤ 150000 = (let n = few_entries c.args.graph.now (table_routing c.propagate.new.pool c.in-Ok.table) h.ases h.distinct h.entries c.in-Ok.ensures.stable.only_ases in omega (arith, n, c.as_count-count.ensures.value, c.as_count-count.ensures.few)) in
+    let few : length h.ases ≤ 150000 = (let n = few_entries c.args.graph.now (table_routing c.propagate_along.new.pool c.in-Ok.table) h.ases h.distinct h.entries c.in-Ok.ensures.stable.only_ases in omega (arith, n, c.as_count-count.ensures.value, c.as_count-count.ensures.few)) in
     record {
       cells = omega (arith, h.few, few);
       counts = λ k. omega (arith, h.counts k, few);
@@ -56,6 +56,6 @@ returns-in-Ok-clause-holds g c = c.in-Ok.ensures.holds
 pub returns-in-Ok-clause-small : goal.returns-in-Ok-clause-small
 returns-in-Ok-clause-small g c = λ k.
     let u = c.uses_are_counted.ensures k in
-    let f = table_routing c.propagate.new.pool c.in-Ok.table in
-    let n = few_entries c.args.graph.now f u.ases u.distinct (λ a o. routed c.propagate.new.pool (held_at c.in-Ok.table a) (u.entries a o)) c.in-Ok.ensures.stable.only_ases in
+    let f = table_routing c.propagate_along.new.pool c.in-Ok.table in
+    let n = few_entries c.args.graph.now f u.ases u.distinct (λ a o. routed c.propagate_along.new.pool (held_at c.in-Ok.table a) (u.entries a o)) c.in-Ok.ensures.stable.only_ases in
     omega (arith, n, u.enough, c.as_count-count.ensures.value, c.as_count-count.ensures.few)
