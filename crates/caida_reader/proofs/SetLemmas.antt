@@ -1,5 +1,5 @@
 -- Links that are put in one after the other, in any order.
-use Rattle.std.proofs.Common.{◌≡◌, ℕ, ◌+◌, ◌<◌, Bool, true, false, ◌||◌, cond, List, [], ◌∷◌, ◌++◌, length, take, get_or, All, Option, Some, None, IsSome, refl, sym, ap, ◌∙◌, if◌then◌else◌}
+use Rattle.std.proofs.Common.{◌≡◌, ℕ, ◌+◌, ◌<◌, Bool, true, false, ◌||◌, cond, List, [], ◌∷◌, ◌++◌, length, map, take, get_or, All, Contains, Option, Some, None, IsSome, refl, sym, ap, ◌∙◌, if◌then◌else◌}
 use Rattle.std.specs.Cmp.{tied_itself}
 use Rattle.std.specs.List.{list_any}
 use Rattle.std.specs.List.Sorted.{IsPermutation}
@@ -16,6 +16,8 @@ use Rattle.net_names.proofs.Pairs.{exact_pair, pairs_total}
 use Rattle.caida_reader.specs.Value.{FirstMap}
 use Rattle.caida_reader.specs.Firsts.{relations, ArePairs}
 use Rattle.caida_reader.specs.Runs.{Lists}
+use Rattle.net_names.specs.LinkLists.{entry_of, map_of, AreLinks}
+use Rattle.caida_reader.proofs.Given.{Contains-here, Contains-there}
 use Rattle.caida_reader.proofs.PairLemmas.{same_pair}
 use Rattle.caida_reader.proofs.LinkLemmas.{get-relations}
 use Rattle.caida_reader.proofs.ListLemmas.{some_rel}
@@ -68,3 +70,18 @@ module _ (xs : List Link) (m : FirstMap) (lists : Lists xs m) where
   -- all links
   pub all_set : (links : LinkMap) → ((pair : ℕ × ℕ) → fin.get links pair ≡ cond (is_among pair xs) (fin.get (relations m) pair) None) → links ≡ relations m
   all_set links so_far = fin.same_map pairs_total exact_pair _ _ (λ pair. so_far pair ∙ at_end (is_among pair xs) (fin.get (relations m) pair) (λ some. among pair (fin.get (relations m) pair) refl some))
+
+-- ---- a list whose pairs rise
+
+in_front : (t b : Bool) (rel : Rel) (o : Option Rel) → (t ≡ true → o ≡ Some rel) → cond t (Some rel) (cond b o None) ≡ cond (t || b) o None
+in_front true b rel o is = sym (is refl)
+in_front false b rel o is = refl
+
+find_among : (xs : List Link) (m : FirstMap) → ((l : Link) → Contains xs l → fin.get (relations m) (l.lo, l.hi) ≡ Some l.rel) → (pair : ℕ × ℕ) → fin.find pair_cmp pair (map entry_of xs) ≡ cond (is_among pair xs) (fin.get (relations m) pair) None
+find_among [] m says pair = refl
+find_among (x ∷ xs) m says pair =
+    ap (cond (eq_by_cmp pair_cmp pair (x.lo, x.hi)) (Some x.rel)) (find_among xs m (λ l h. says l (Contains-there x l xs h)) pair)
+    ∙ in_front (eq_by_cmp pair_cmp pair (x.lo, x.hi)) (is_among pair xs) x.rel (fin.get (relations m) pair) (λ t. ap (fin.get (relations m)) (same_pair pair (x.lo, x.hi) t) ∙ says x (Contains-here x xs))
+
+pub all_rising : (xs : List Link) (m : FirstMap) → Lists xs m → AreLinks xs → map_of xs ≡ relations m
+all_rising xs m lists w = all_set xs m lists (map_of xs) (λ pair. fin.get-from_sorted pair_cmp (map entry_of xs) pair w.rising ∙ find_among xs m (λ l h. (lists l.lo l.hi l.rel).1 h) pair)

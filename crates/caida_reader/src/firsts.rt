@@ -2,7 +2,7 @@
 ghost use Rattle.std.specs.Prelude.{◌≡◌, ◌<◌, All, Ok, Err, IfOk, OnOk, OnErr, unwrap_or, if◌then◌else◌};
 ghost use Rattle.std.specs.FinMap as fin;
 ghost use Rattle.caida_reader.specs.Says.{IsRising};
-ghost use Rattle.caida_reader.specs.Value.{same_rel};
+ghost use Rattle.caida_reader.specs.Value.{FirstMap, same_rel};
 ghost use Rattle.caida_reader.specs.Firsts.{with_first, Judges, relations};
 ghost use Rattle.caida_reader.specs.Runs.{AreApart, Puts, Lists};
 
@@ -167,6 +167,20 @@ impl Firsts {
     }
 }
 
+// The links of a list, put in one after the other.
+fn put_all(alloc: Global, gathered: &[Link]) -> Result<Links, NoMemory>
+    requires { All (λ l. l.lo < l.hi) gathered.now }
+    ensures { IfOk result (λ links. (pairs : FirstMap) → Lists gathered.now pairs → links ≡ relations pairs) }
+{
+    let mut links = Links::new(alloc);
+    'links: for link in gathered {
+        if links.set(link.lo, link.hi, link.rel).is_err() {
+            return Err(NoMemory);
+        }
+    }
+    Ok(links)
+}
+
 impl Firsts {
     // The links of the pairs, in rising order.
     fn gather(&self, alloc: Global) -> Result<Vec<Link>, NoMemory>
@@ -188,17 +202,13 @@ impl Firsts {
         }
     }
 
-    /// The links of the pairs. They are put in in rising order, so each comes to the end.
+    /// The links of the pairs.
     pub(crate) fn links(&self, alloc: Global) -> Result<Links, NoMemory>
         ensures { IfOk result (λ links. links ≡ relations self.now) }
     {
-        let gathered = self.gather(alloc)?;
-        let mut links = Links::new(alloc);
-        'links: for link in &gathered {
-            if links.set(link.lo, link.hi, link.rel).is_err() {
-                return Err(NoMemory);
-            }
+        match Links::from_rising(self.gather(alloc)?) {
+            Ok(links) => Ok(links),
+            Err(gathered) => put_all(alloc, &gathered),
         }
-        Ok(links)
     }
 }

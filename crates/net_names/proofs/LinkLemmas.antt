@@ -1,11 +1,11 @@
 -- Links in rising order as a finite map: what a search, an insertion and a change say of the map.
-use Rattle.std.proofs.Common.{◌≡◌, ℕ, ◌≤◌, ◌<◌, Bool, List, [], ◌∷◌, map, length, get_or, set, refl, sym, ap, subst, ◌∙◌, arith, Ok, Err, Option, Some, None, option_map, length-set, zero, suc}
+use Rattle.std.proofs.Common.{◌≡◌, ℕ, ◌+◌, ◌≤◌, ◌<◌, Bool, List, [], ◌∷◌, ◌++◌, map, length, take, get_or, set, refl, sym, ap, subst, ◌∙◌, arith, Ok, Err, Option, Some, None, option_map, length-set, zero, suc}
 use Rattle.std.specs.Prelude.{nat_lt, slice_get}
 use Rattle.std.specs.List.{insert}
 use Rattle.std.specs.declared.cmp.Ordering.TheVariants.{Equal}
 use Rattle.std.specs.List.Sorted.{IsSearchInRange, IsBinarySearchResult}
-use Rattle.std.proofs.lemmas.List.{length-map}
-use Rattle.std.proofs.lemmas.List.Edits.{length-insert}
+use Rattle.std.proofs.lemmas.List.{length-map, length-take-le, take_more}
+use Rattle.std.proofs.lemmas.List.Edits.{length-insert, insert_end}
 use Rattle.std.proofs.lemmas.Bool.{lt-ltb, ltb-true}
 use Rattle.std.proofs.lemmas.Option.{slice_get_past}
 use Rattle.std.specs.FinMap as fin
@@ -123,3 +123,17 @@ at_none xs w m v i le = ap (λ (o : Option Link). option_map entry_of o) (sym (s
 
 pub at_lower : (xs : List Link) (w : AreLinks xs) (i : ℕ) (d : Link) → i < length xs → d ≡ get_or xs i d → d.lo < d.hi
 at_lower xs w i d lt is = ltb-true d.lo d.hi (ap (λ (l : Link). nat_lt l.lo l.hi) is ∙ rising.all_at ordered xs i d w.lower lt)
+
+-- ---- a list that is looked through
+
+pub are_none : AreLinks []
+are_none = record { rising = tt; lower = refl; few = omega arith }
+
+-- the next link is above those before it
+pub one_more : (xs : List Link) (i at : ℕ) (l : Link) (s : List Link) → length xs ≤ 1500000 → i < length xs → l ≡ get_or xs i l → s ≡ take i xs → AreLinks (take i xs) → l.lo < l.hi → at ≡ i
+    → IsSearchInRange (Err at) (length s) → IsBinarySearchResult (λ k. pair_cmp (k.lo, k.hi) (l.lo, l.hi)) s (Err at) → AreLinks (take (i + 1) xs)
+one_more xs i at l s few lt is e w lower here bound position =
+    let len : length (take i xs) ≡ i = length-take-le i xs (omega (arith, lt)) in
+    let more : take (i + 1) xs ≡ take i xs ++ l ∷ [] = take_more xs i l lt ∙ ap (λ (d : Link). take i xs ++ d ∷ []) (sym is) in
+    let put : insert (take i xs) at l ≡ take i xs ++ l ∷ [] = ap (λ n. insert (take i xs) n l) (here ∙ sym len) ∙ insert_end (take i xs) l in
+    subst AreLinks (put ∙ sym more) (inserted (take i xs) s e w (map_of (take i xs)) refl l.lo l.hi at l.rel lower (bound, position) (λ full. omega (arith, full, len, lt, few)))

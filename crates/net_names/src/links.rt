@@ -1,11 +1,11 @@
 //! Links between ASes.
-ghost use Rattle.std.specs.Prelude.{◌≡◌, ◌≢◌, ◌<◌, ◌≤◌, ◌↔◌, ◌-◌, IsTrue, length, slice_get, option_map, OnOk, OnErr, IfSome};
+ghost use Rattle.std.specs.Prelude.{◌≡◌, ◌≢◌, ◌<◌, ◌≤◌, ◌↔◌, ◌-◌, IsTrue, length, slice_get, option_map, IfOk, IfErr, OnOk, OnErr, IfSome};
 ghost use Rattle.std.specs.FinMap as map;
 ghost use Rattle.std.specs.declared.cmp.Ordering.TheVariants.{Less};
 ghost use Rattle.std.specs.List.{HoldsAt};
 ghost use Rattle.std.specs.List.Sorted.{IsSearchInRange, IsBinarySearchResult};
 ghost use Rattle.net_names.specs.Links.{pair_cmp, between, with_relation};
-ghost use Rattle.net_names.specs.LinkLists.{entry_of};
+ghost use Rattle.net_names.specs.LinkLists.{entry_of, map_of, AreLinks};
 
 use crate::numbers::Asn;
 use crate::routes::Rel;
@@ -76,6 +76,27 @@ fn place_of(links: &[Link], lo: Asn, hi: Asn) -> Result<usize, usize>
     links.binary_search_by_key(&(lo, hi), |l| (l.lo, l.hi))
 }
 
+/// Whether the links are at most 1,500,000, each has its lower end first, and their pairs rise.
+fn are_rising(links: &[Link]) -> bool
+    ensures { IsTrue result → AreLinks links.now }
+{
+    if links.len() > MOST_LINKS {
+        return false;
+    }
+    let mut count = 0usize;
+    while count < links.len() {
+        let link = links[count];
+        let Err(at) = place_of(&links[..count], link.lo, link.hi) else {
+            return false;
+        };
+        if at != count || link.lo >= link.hi {
+            return false;
+        }
+        count += 1;
+    }
+    true
+}
+
 impl Links {
     /// No links.
     pub fn new(alloc: Global) -> Links
@@ -83,6 +104,20 @@ impl Links {
     {
         Links {
             items: Vec::new(alloc),
+        }
+    }
+
+    /// The links of a list, where they are at most 1,500,000, each has its lower end first, and their
+    /// pairs rise; else the list again. It takes no memory.
+    pub fn from_rising(links: Vec<Link>) -> Result<Links, Vec<Link>>
+        ensures ok { IfOk result (λ made. made ≡ map_of links.items) }
+        ensures rising { OnOk result (AreLinks links.items) }
+        ensures err { IfErr result (λ again. again ≡ links) }
+    {
+        if are_rising(links.as_slice()) {
+            Ok(Links { items: links })
+        } else {
+            Err(links)
         }
     }
 

@@ -1,34 +1,15 @@
-use Rattle.std.proofs.Common.{◌<◌, All, sym, ap, subst, ◌∙◌, arith, cond, None}
-use Rattle.std.specs.FinMap as fin
-use Rattle.std.proofs.lemmas.List.{take_all}
+use Rattle.std.proofs.Common.{◌∙◌, List, ap, sym, subst}
+use Rattle.std.proofs.lemmas.Result.{IfOk-weaker}
 use Rattle.net_names.specs.declared.links.Link.{Link}
-use Rattle.net_names.specs.Links.{LinkMap, pair_cmp}
-use Rattle.caida_reader.specs.Firsts.{relations}
 use Rattle.caida_reader.specs.Runs.{Lists}
-use Rattle.caida_reader.proofs.PairLemmas.{ok_by_test}
-use Rattle.caida_reader.proofs.SetLemmas.{is_among, one_set, all_set}
+use Rattle.caida_reader.proofs.SetLemmas.{all_rising}
 use Rattle.caida_reader.proofs.firsts.Firsts.links.Goals as goal
 
-pub links-init : goal.links-init
-links-init c = λ pair. ap (λ (m : LinkMap). fin.get m pair) c.new-links.ensures ∙ fin.get-empty pair_cmp pair
+pub returns-in-Ok : goal.returns-in-Ok
+returns-in-Ok c = c.in-Ok.ensures.ok ∙ all_rising c.in_ok-gather.field-0.items c.args.self.now c.in_ok-gather.ensures.all c.in-Ok.ensures.rising
 
-pub set-requires : goal.set-requires
-set-requires c =
-    let lower = subst (All (λ (l : Link). l.lo < l.hi)) (sym c.deref-link-items.ensures.value) c.in_ok-gathered.ensures.lower in
-    let here : c.link-item.result.lo < c.link-item.result.hi = subst (λ (l : Link). l.lo < l.hi) (sym c.link-item.is) (lower c.links.link-index c.link-item.result c.links-test.true) in
-    λ same. omega (arith, here, same)
-
-pub links-preserved : goal.links-preserved
-links-preserved c = λ pair.
-    let xs = c.deref-link-items.result.now in
-    let lower = subst (All (λ (l : Link). l.lo < l.hi)) (sym c.deref-link-items.ensures.value) c.in_ok-gathered.ensures.lower in
-    let here = subst (λ (l : Link). l.lo < l.hi) (sym c.link-item.is) (lower c.links.link-index c.link-item.result c.links-test.true) in
-    let lists = subst (λ links. Lists links c.args.self.now) (sym c.deref-link-items.ensures.value) c.in_ok-gathered.ensures.all in
-    ap (λ (m : LinkMap). fin.get m pair) (ok_by_test c.set.result _ c.if-is_err.ensures.negation c.set.ensures.ok)
-    ∙ one_set xs c.args.self.now lists c.links.links c.links.link-index c.link-item.result c.links-test.true c.link-item.is here c.links.invariant pair
-
-pub returns : goal.returns
-returns c =
-    let xs = c.deref-link-items.result.now in
-    let lists = subst (λ links. Lists links c.args.self.now) (sym c.deref-link-items.ensures.value) c.in_ok-gathered.ensures.all in
-    all_set xs c.args.self.now lists c.links.links (λ pair. c.links.invariant pair ∙ ap (λ links. cond (is_among pair links) (fin.get (relations c.args.self.now) pair) None) (take_all c.links.link-index xs c.links-test.false))
+pub returns-in-Err : goal.returns-in-Err
+returns-in-Err c =
+    let same = c.deref.ensures.value ∙ ap (λ v. v.items) c.in-Err.ensures.err in
+    let lists = subst (λ (xs : List Link). Lists xs c.args.self.now) (sym same) c.in_ok-gather.ensures.all in
+    IfOk-weaker c.put_all.result _ _ (λ links h. h c.args.self.now lists) c.put_all.ensures
