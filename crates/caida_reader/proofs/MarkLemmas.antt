@@ -17,16 +17,25 @@ kept_bits a n m h = same_from_bits _ _ (λ i.
     (sym (bit_at_and a m i) ∙ ap (λ x. bit_at x i) h))
 
 pub still_marked : (words : List ℕ) (at w bits : ℕ) → w ≡ get_or words at w → at < length words → (pair : ℕ × ℕ) → IsMarked words pair → IsMarked (set words at (bit_or w bits)) pair
-still_marked words at w bits is inside pair h within = by_word (nat_eq (word_of pair) at) refl
+still_marked words at w bits is inside pair h within = by_word (nat_eq place at) refl
   where
-    was : bit_and (get_or words (word_of pair) 0) (bits_of pair) ≡ bits_of pair
-    was = h (rw length-set at within)
+    place : ℕ
+    place = word_of (length words) pair
 
-    by_word : (b : Bool) → nat_eq (word_of pair) at ≡ b → bit_and (get_or (set words at (bit_or w bits)) (word_of pair) 0) (bits_of pair) ≡ bits_of pair
+    same_place : word_of (length (set words at (bit_or w bits))) pair ≡ place
+    same_place = ap (λ n. word_of n pair) (length-set words at (bit_or w bits))
+
+    was : bit_and (get_or words place 0) (bits_of pair) ≡ bits_of pair
+    was = h (rw (← same_place, ← length-set words at (bit_or w bits)) within)
+
+    by_word : (b : Bool) → nat_eq place at ≡ b → bit_and (get_or (set words at (bit_or w bits)) (word_of (length (set words at (bit_or w bits))) pair) 0) (bits_of pair) ≡ bits_of pair
     by_word true e =
-        let same : word_of pair ≡ at = eqb-true _ _ e in
+        let same : place ≡ at = eqb-true _ _ e in
         let here : get_or words at 0 ≡ w = get_or_default words at 0 w inside ∙ sym is in
-        rw (same, get_or-set_same) (kept_bits w bits (bits_of pair) (rw (same, here) at was))
+        ap (λ k. bit_and (get_or (set words at (bit_or w bits)) k 0) (bits_of pair)) (same_place ∙ same)
+        ∙ ap (λ x. bit_and x (bits_of pair)) (get_or-set_same words at (bit_or w bits) 0 inside)
+        ∙ kept_bits w bits (bits_of pair) (rw (same, here) at was)
     by_word false e =
         let other = eqb-false _ _ e in
-        rw get_or-set_other was
+        ap (λ k. bit_and (get_or (set words at (bit_or w bits)) k 0) (bits_of pair)) same_place
+        ∙ ap (λ x. bit_and x (bits_of pair)) (get_or-set_other words at place (bit_or w bits) 0 other) ∙ was

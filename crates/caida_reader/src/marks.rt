@@ -7,8 +7,8 @@ use net_names::{Asn, NoMemory};
 use std::alloc::Global;
 use std::marker::Model;
 
-/// How many words there are. Where 1,500,000 pairs are marked, one in fourteen of the others seems to be too.
-const WORDS: usize = 131_072;
+/// For how many pairs there is a word when the marks are made.
+const PAIRS_A_WORD: usize = 4;
 
 /// Marks of pairs: at first all pairs, and then those that were marked, and a few others.
 #[derive(Drop)]
@@ -32,23 +32,24 @@ struct Spot {
 }
 
 #[tactic(auto, unfolding(crate::specs::Marks::word_of, crate::specs::Marks::bits_of))]
-fn spot_of(lo: Asn, hi: Asn) -> Spot
-    ensures word { result.word ≡ word_of (lo, hi) }
+fn spot_of(count: usize, lo: Asn, hi: Asn) -> Spot
+    ensures word { result.word ≡ word_of count (lo, hi) }
     ensures bits { result.bits ≡ bits_of (lo, hi) }
 {
-    let pair = lo.get() as u64 * 0x1_0000_0000 + hi.get() as u64;
-    let mixed = pair.wrapping_mul(0x9e37_79b9_7f4a_7c15);
+    let mixed_lo = (lo.get() as u64).wrapping_mul(0x9e37_79b9_7f4a_7c15);
+    let group = (mixed_lo >> 32).wrapping_mul(count as u64 / 8);
+    let mixed_hi = (hi.get() as u64).wrapping_mul(0x9e37_79b9_7f4a_7c15);
     Spot {
-        word: (mixed >> 47) as usize,
-        bits: (1 << ((mixed >> 41) % 64))
-            | (1 << ((mixed >> 35) % 64))
-            | (1 << ((mixed >> 29) % 64)),
+        word: (group >> 32) as usize * 8 + (hi.get() % 8) as usize,
+        bits: (1 << ((mixed_hi >> 58) % 64))
+            | (1 << ((mixed_hi >> 52) % 64))
+            | (1 << ((mixed_hi >> 46) % 64)),
     }
 }
 
 // Words without a mark.
-fn make_words(alloc: Global) -> Result<Vec<u64>, NoMemory> {
-    match vec![in alloc; 0; WORDS] {
+fn make_words(alloc: Global, count: usize) -> Result<Vec<u64>, NoMemory> {
+    match vec![in alloc; 0; count] {
         Ok(words) => Ok(words),
         Err(_) => Err(NoMemory),
     }
@@ -68,7 +69,7 @@ impl Marks {
     pub(crate) fn has(&self, lo: Asn, hi: Asn) -> bool
         ensures { IsTrue result ↔ IsMarked self.now (lo, hi) }
     {
-        let spot = spot_of(lo, hi);
+        let spot = spot_of(self.words.len(), lo, hi);
         if spot.word >= self.words.len() {
             return true;
         }
@@ -80,7 +81,7 @@ impl Marks {
         ensures marked { IsMarked self.new (lo, hi) }
         ensures kept { (pair : ℕ × ℕ) → IsMarked self.old pair → IsMarked self.new pair }
     {
-        let spot = spot_of(lo, hi);
+        let spot = spot_of(self.words.len(), lo, hi);
         if spot.word < self.words.len() {
             self.words[spot.word] |= spot.bits;
         }
@@ -91,7 +92,7 @@ impl Marks {
         ensures marked { OnOk result (All (λ e. IsMarked self.new e.0) entries.now) }
         ensures err { OnErr result (self.new ≡ self.old) }
     {
-        self.words = make_words(*self.words.allocator())?;
+        self.words = make_words(*self.words.allocator(), entries.len() / PAIRS_A_WORD)?;
         'entries: for entry in entries {
             self.mark(entry.0.0, entry.0.1);
         }

@@ -10,7 +10,8 @@ use net_names::{Asn, Link, NoMemory};
 use std::alloc::{AllocError, Global};
 use std::marker::Model;
 
-/// As many pairs as a run has before they are marked.
+/// As many pairs as a run has before they are marked. They are marked anew, among twice the words, whenever it has grown to
+/// twice the length.
 const LONG: usize = 4096;
 
 /// Pairs, each with its first line. In a file whose lines rise, the pairs of lines with the lower number first rise, and
@@ -42,7 +43,8 @@ fn mark_long(run: &Run, marks: &mut Marks) -> Result<(), NoMemory>
     requires { AreMarked run.now marks.old }
     ensures { AreMarked run.now marks.new }
 {
-    if run.as_slice().len() != LONG {
+    let len = run.as_slice().len();
+    if len < LONG || !len.is_power_of_two() {
         return Ok(());
     }
     marks.mark_only(run.as_slice())
