@@ -6,36 +6,36 @@ use Rattle.net_names.specs.declared.routes.Rel.{Rel}
 use Rattle.net_names.specs.Links.{converse}
 use Rattle.as_graph.specs.Topology.{Topology, what, has, with_mark}
 
--- the pair has this link, in place of any earlier one: b is r to a (own rule)
+-- the pair has this link, in place of any earlier one: b is r to a
 abbrev pub with_link : Topology → ℕ → ℕ → Rel → Topology
 with_link w a b r = record w { links = if nat_lt a b then map.insert w.links (a, b) r else map.insert w.links (b, a) (converse r) }
 
--- the pair has no link (own rule)
+-- the pair has no link
 abbrev pub without_link : Topology → ℕ → ℕ → Topology
 without_link w a b = record w { links = if nat_lt a b then map.remove w.links (a, b) else map.remove w.links (b, a) }
 
--- the graph without a mark on a, and all else as before (own rule)
+-- the graph without a mark on a, and all else as before
 abbrev pub without_mark : Topology → ℕ → Topology
 without_mark w a = record w { marked = set.remove w.marked a }
 
--- a link is seen alike from both ends, joins ASes of the graph, and none joins an AS with itself (own rule)
+-- a link is seen alike from both ends, joins ASes of the graph, and none joins an AS with itself
 pub record LinksAreSound : Type 0 where
   pub alike : (w : Topology) (a b : ℕ) → what w b a ≡ option_map converse (what w a b)
   pub ends : (w : Topology) (a b : ℕ) (r : Rel) → what w a b ≡ Some r → has w b ≡ true
   pub to_itself : (w : Topology) (a : ℕ) → what w a a ≡ None
 
--- a new link is what it says, and every other pair keeps what it had (own rule)
+-- a new link is what it says, and every other pair keeps what it had
 pub record LinksAreSet : Type 0 where
   pub at : (w : Topology) (a b : ℕ) (r : Rel) → a ≢ b → what (with_link w a b r) a b ≡ Some r
   pub others : (w : Topology) (a b : ℕ) (r : Rel) (x y : ℕ) → a ≢ b → ((x ≡ a) × (y ≡ b) → ⊥) → ((x ≡ b) × (y ≡ a) → ⊥) → what (with_link w a b r) x y ≡ what w x y
 
--- without its link a pair has none, and every other pair keeps what it had (own rule)
+-- without its link a pair has none, and every other pair keeps what it had
 pub record LinksAreTaken : Type 0 where
   pub at : (w : Topology) (a b : ℕ) → what (without_link w a b) a b ≡ None
   pub back : (w : Topology) (a b : ℕ) → what (without_link w a b) b a ≡ None
   pub others : (w : Topology) (a b x y : ℕ) → ((x ≡ a) × (y ≡ b) → ⊥) → ((x ≡ b) × (y ≡ a) → ⊥) → what (without_link w a b) x y ≡ what w x y
 
--- an edit that puts back what the pair or the AS had undoes the one before it (own rule)
+-- an edit that puts back what the pair or the AS had undoes the one before it
 pub record EditsAreUndone : Type 0 where
   pub new_link : (w : Topology) (a b : ℕ) (r : Rel) → a ≢ b → what w a b ≡ None → without_link (with_link w a b r) a b ≡ w
   pub other_link : (w : Topology) (a b : ℕ) (r s : Rel) → a ≢ b → what w a b ≡ Some s → with_link (with_link w a b r) a b s ≡ w
@@ -43,7 +43,7 @@ pub record EditsAreUndone : Type 0 where
   pub new_mark : (w : Topology) (a : ℕ) → set.contains w.marked a ≡ false → without_mark (with_mark w a) a ≡ w
   pub lost_mark : (w : Topology) (a : ℕ) → set.contains w.marked a ≡ true → with_mark (without_mark w a) a ≡ w
 
--- which ASes there are after an edit (own rule)
+-- which ASes there are after an edit
 pub record AsesAreKept : Type 0 where
   pub linked : (w : Topology) (a b : ℕ) (r : Rel) (x : ℕ) → has (with_link w a b r) x ≡ (x == a || (x == b || has w x))
   pub unlinked : (w : Topology) (a b x : ℕ) → has (without_link w a b) x ≡ true → has w x ≡ true
@@ -52,7 +52,7 @@ pub record AsesAreKept : Type 0 where
   pub unmarked : (w : Topology) (a x : ℕ) → has (without_mark w a) x ≡ true → has w x ≡ true
   pub other_marks : (w : Topology) (a x : ℕ) → x ≢ a → has (without_mark w a) x ≡ has w x
 
--- marks change no links (own rule)
+-- marks change no links
 pub record MarksKeepLinks : Type 0 where
   pub after_mark : (w : Topology) (a x y : ℕ) → what (with_mark w a) x y ≡ what w x y
   pub after_unmark : (w : Topology) (a x y : ℕ) → what (without_mark w a) x y ≡ what w x y

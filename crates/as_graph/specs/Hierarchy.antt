@@ -23,31 +23,31 @@ pub record IsProviderCycle (what : ℕ → ℕ → Option Rel) (xs : List ℕ) :
 abbrev pub HasNoProviderCycle : (ℕ → ℕ → Option Rel) → Type 0
 HasNoProviderCycle what = (xs : List ℕ) → IsProviderCycle what xs → ⊥
 
--- a chain from a: distinct ASes, a the first, each a provider of the next (own rule)
+-- a chain from a: distinct ASes, a the first, each a provider of the next
 pub record IsChainFrom (what : ℕ → ℕ → Option Rel) (a : ℕ) (xs : List ℕ) : Type 0 where
   pub starts : (rest : List ℕ) × (xs ≡ a ∷ rest)
   pub distinct : IsDistinct xs
   pub descends : IsDescent what xs
 
--- the rank of a: one less than the length of the longest chain from a (own rule)
+-- the rank of a: one less than the length of the longest chain from a
 pub record IsRank (what : ℕ → ℕ → Option Rel) (a rank : ℕ) : Type 0 where
   pub longest : (xs : List ℕ) × IsChainFrom what a xs × (length xs ≡ rank + 1)
   pub most : (xs : List ℕ) → IsChainFrom what a xs → length xs ≤ rank + 1
 
 -- numbers fit at a: a has 0 where it has no customer, else one more than the greatest number of
--- its customers (own rule)
+-- its customers
 pub record RankFits (what : ℕ → ℕ → Option Rel) (rank : ℕ → ℕ) (a : ℕ) : Type 0 where
   pub above : (b : ℕ) → what a b ≡ Some Customer → suc (rank b) ≤ rank a
   pub reached : (rank a ≡ 0) ⊎ ((b : ℕ) × (what a b ≡ Some Customer) × (rank a ≡ suc (rank b)))
 
--- numbers that fit at every AS are the ranks (own rule)
+-- numbers that fit at every AS are the ranks
 abbrev pub FittingAreRanks : Type 0
 FittingAreRanks = (what : ℕ → ℕ → Option Rel) (rank : ℕ → ℕ) → ((a : ℕ) → RankFits what rank a) → (a : ℕ) → IsRank what a (rank a)
 
--- in a graph without a provider cycle, ranks fit at every AS (own rule)
+-- in a graph without a provider cycle, ranks fit at every AS
 abbrev pub RanksFit : Type 0
 RanksFit = (w : Topology) (rank : ℕ → ℕ) → HasNoProviderCycle (what w) → ((a : ℕ) → IsRank (what w) a (rank a)) → (a : ℕ) → RankFits (what w) rank a
 
--- an AS has at most one rank (own rule)
+-- an AS has at most one rank
 abbrev pub OneRank : Type 0
 OneRank = (what : ℕ → ℕ → Option Rel) (a r s : ℕ) → IsRank what a r → IsRank what a s → r ≡ s

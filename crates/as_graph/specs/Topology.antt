@@ -9,13 +9,13 @@ use Rattle.net_names.specs.Links.{LinkMap, link_map_code, between}
 use Rattle.net_names.specs.Numbers.{occurs}
 
 -- the links, and the marked ASes, which are there without a link too; and the pair of ASes for which
--- there is room without memory, if there is any (own rule)
+-- there is room without memory, if there is any
 pub record Topology : Type 0 where
   pub links : LinkMap
   pub marked : set.FinSet nat_cmp
   pub room : Option (ℕ × ℕ)
 
--- stored as its fields (own rule)
+-- stored as its fields
 abbrev pub topology_code : Coded Topology
 topology_code =
     code_by (LinkMap × (set.FinSet nat_cmp × Option (ℕ × ℕ))) (coded× link_map_code (coded× (set.code coded_ℕ) (coded_option (coded× coded_ℕ coded_ℕ)))) (λ g. (g.links, (g.marked, g.room)))
@@ -25,27 +25,27 @@ topology_code =
 abbrev pub what : Topology → ℕ → ℕ → Option Rel
 what g a b = between g.links a b
 
--- both ends of each link (own rule)
+-- both ends of each link
 abbrev pub ends_of : List ((ℕ × ℕ) × Rel) → List ℕ
 ends_of [] = []
 ends_of (e ∷ es) = e.0.0 ∷ e.0.1 ∷ ends_of es
 
--- the marked ASes and the ends of links, some twice (own rule)
+-- the marked ASes and the ends of links, some twice
 abbrev pub ases : Topology → List ℕ
 ases g = set.items g.marked ++ ends_of (map.entries g.links)
 
--- a is an AS of the graph: it is marked, or an end of a link (own rule)
+-- a is an AS of the graph: it is marked, or an end of a link
 abbrev pub has : Topology → ℕ → Bool
 has g a = occurs a (ases g)
 
--- how many ASes the graph has, each counted once (own rule)
+-- how many ASes the graph has, each counted once
 abbrev pub as_count : Topology → ℕ
 as_count g = set.len (set.from_list {R = nat_cmp} (ases g))
 
--- the graph with these links, no marks and no room (own rule)
+-- the graph with these links, no marks and no room
 abbrev pub unmarked : LinkMap → Topology
 unmarked links = record { links = links; marked = set.empty; room = None }
 
--- the graph with a mark on a, and all else as before (own rule)
+-- the graph with a mark on a, and all else as before
 abbrev pub with_mark : Topology → ℕ → Topology
 with_mark g a = record g { marked = set.insert g.marked a }

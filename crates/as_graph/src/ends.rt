@@ -1,5 +1,5 @@
 //! The two ends of each link, by the AS that stands there.
-ghost use Rattle.std.specs.Prelude.{◌≡◌, ◌<◌, ◌≤◌, ◌++◌, ℕ, length, [], false, slice_get, drop, slice_index_or, IfOk, OnOk, IfSome, IfNone};
+ghost use Rattle.std.specs.Prelude.{◌≡◌, ◌<◌, ◌≤◌, ◌++◌, ℕ, length, [], false, drop, slice_index_or, IfOk, OnOk, IfSome, IfNone};
 ghost use Rattle.std.specs.FinMap as map;
 ghost use Rattle.as_graph.specs.Rows.{IsRising};
 ghost use Rattle.as_graph.specs.Ends.{lower_ends, higher_ends, ends_at, at_of, AreTurned, AreByAs, IsRun, IsNextEnd};

@@ -18,36 +18,36 @@ use Rattle.asprop.specs.declared.types.Status.{Status}
 use Rattle.asprop.specs.declared.types.Stop.{Stop}
 use Rattle.asprop.specs.declared.types.Stop.TheVariants as stop
 
--- The arguments, or why they can't be had (own rule).
+-- The arguments, or why they can't be had.
 abbrev pub Args : Type 0
 Args = Result (IntoIter (String Global) Global) Error
 
--- These are all that the arguments give, one after the other (own rule).
+-- These are all that the arguments give, one after the other.
 abbrev pub Gives : IntoIter (String Global) Global → List (String Global) → Type 0
 Gives args words = DrainsIf into_iter_steps ⊤ args words
 
--- Memory ran out, or else an argument is no text, and such words have no form (own rule).
+-- Memory ran out, or else an argument is no text, and such words have no form.
 abbrev pub reason_by : ErrorKind → Stop
 reason_by OutOfMemory = stop.Memory
 reason_by _ = stop.Fault fault.Usage
 
--- why the arguments give no words (own rule)
+-- why the arguments give no words
 abbrev pub reason_of : Error → Stop
 reason_of error = reason_by (error_kind error)
 
--- The words are those that the arguments give, or the stop says why there are none (own rule).
+-- The words are those that the arguments give, or the stop says why there are none.
 abbrev pub IsWordsOf : Args → Result (Vec (String Global) Global) Stop → Type 0
 IsWordsOf (Ok args) (Ok words) = Gives args words.items
 IsWordsOf (Ok args) (Err reason) = reason ≡ stop.Memory
 IsWordsOf (Err error) (Ok words) = ⊥
 IsWordsOf (Err error) (Err reason) = reason ≡ reason_of error
 
--- Without words nothing is written to standard output, and standard error has the reason (own rule).
+-- Without words nothing is written to standard output, and standard error has the reason.
 abbrev pub NoWords : Stop → Status → Option (List ℕ) → Option (List ℕ) → Option (List ℕ) → Option (List ℕ) → Type 0 → Type 0
 NoWords reason s out_old out_new err_old err_new err_rose = Explained None reason s err_old err_new err_rose × Appends out_old out_new []
 
 module _ (holds : List ℕ → Option (List ℕ)) (sound : List ℕ → Type 0) (read_rose : Type 0) where
-  -- the run over all words that the arguments give, or what is said where there are none (own rule)
+  -- the run over all words that the arguments give, or what is said where there are none
   abbrev pub Starts : Args → Status → Option (List ℕ) → Option (List ℕ) → Type 0 → Option (List ℕ) → Option (List ℕ) → Type 0 → Type 0
   Starts (Ok args) s out_old out_new out_rose err_old err_new err_rose =
       ((words : List (String Global)) × Gives args words × Ran holds sound read_rose (map string_bytes words) s out_old out_new out_rose err_old err_new err_rose)

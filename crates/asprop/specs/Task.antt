@@ -25,7 +25,7 @@ use Rattle.asprop.specs.declared.types.File.TheVariants as file
 use Rattle.asprop.specs.declared.types.Fault.{Fault}
 use Rattle.asprop.specs.declared.types.Fault.TheVariants as fault
 
--- a world, the lines that are answered in it one after the other, whether each answer has a head line, and whether the numbers of ASes and links come first (own rule)
+-- a world, the lines that are answered in it one after the other, whether each answer has a head line, and whether the numbers of ASes and links come first
 pub record Task : Type 0 where
   pub world : World
   pub lines : List LineValue
@@ -44,34 +44,34 @@ first_text counts w = if counts then counts_text w else []
 abbrev pub preface : Task → List ℕ
 preface task = first_text task.counts task.world
 
--- what was read of each file: its bytes, or nothing where a read failed (own rule)
+-- what was read of each file: its bytes, or nothing where a read failed
 abbrev pub Reads : Type 0
 Reads = File → Option (List ℕ)
 
--- the value of the first step goes into the second, and a fault of the first is the fault of both (own rule)
+-- the value of the first step goes into the second, and a fault of the first is the fault of both
 infixl 10 ◌>>=◌
 abbrev pub ◌>>=◌ : {A B : Type 0} → Result A Fault → (A → Result B Fault) → Result B Fault
 (Ok x) >>= f = f x
 (Err e) >>= f = Err e
 
--- the most bytes of a file (own rule)
+-- the most bytes of a file
 abbrev pub most_bytes : File → ℕ
 most_bytes file.Relations = 268435456
 most_bytes file.Payloads = 268435456
 most_bytes file.Scenario = 16777216
 most_bytes file.Script = 16777216
 
--- the file's bytes, where they are no more than it may have (own rule)
+-- the file's bytes, where they are no more than it may have
 abbrev pub bytes_of : File → Option (List ℕ) → Result (List ℕ) Fault
 bytes_of which None = Err (fault.Unread which)
 bytes_of which (Some bytes) = if nat_lt (most_bytes which) (length bytes) then Err (fault.TooLong which) else Ok bytes
 
--- the value that was read, or its fault as one of the task (own rule)
+-- the value that was read, or its fault as one of the task
 abbrev pub or_fault : {A E : Type 0} → (E → Fault) → Result A E → Result A Fault
 or_fault as_fault (Ok x) = Ok x
 or_fault as_fault (Err e) = Err (as_fault e)
 
--- the value that the bytes of a file say (own rule)
+-- the value that the bytes of a file say
 abbrev pub read_as : {A E : Type 0} → File → (E → Fault) → (List ℕ → Result A E) → Option (List ℕ) → Result A Fault
 read_as which as_fault value read = bytes_of which read >>= λ bytes. or_fault as_fault (value bytes)
 
@@ -79,12 +79,12 @@ read_as which as_fault value read = bytes_of which read >>= λ bytes. or_fault a
 abbrev pub relations : Option (List ℕ) → Result LinkMap Fault
 relations = read_as file.Relations fault.Relation links_of
 
--- the payloads of the file of this name; without a name there are none (own rule)
+-- the payloads of the file of this name; without a name there are none
 abbrev pub payloads_by : Option (List ℕ) → Option (List ℕ) → Result Payloads Fault
 payloads_by None read = Ok no_payloads
 payloads_by (Some name) read = read_as file.Payloads fault.Payload payloads_in read
 
--- the scenario of the file of this name; without a name it is the empty one (own rule)
+-- the scenario of the file of this name; without a name it is the empty one
 abbrev pub scenario_by : Option (List ℕ) → Option (List ℕ) → Result ScenarioValue Fault
 scenario_by None read = Ok nothing
 scenario_by (Some name) read = read_as file.Scenario fault.Scenario scenario_of_bytes read
@@ -97,15 +97,15 @@ script_lines = read_as file.Script fault.Script script_of
 abbrev pub all_addresses : PrefixValue
 all_addresses = record { family = V4; addr = 0; len = 0 }
 
--- the AS announces 0.0.0.0/0 with its own number as the path, and there is nothing else (own rule)
+-- the AS announces 0.0.0.0/0 with its own number as the path, and there is nothing else
 abbrev pub announced_by : ℕ → ScenarioValue
 announced_by origin = record nothing { announcements = record { prefix = all_addresses; asn = origin; path = origin ∷ [] } ∷ [] }
 
--- the line that asks for the routes of 0.0.0.0/0 in round 1 (own rule)
+-- the line that asks for the routes of 0.0.0.0/0 in round 1
 abbrev pub origin_line : LineValue
 origin_line = record { number = 1; act = act.Query (query.Routes 1 all_addresses) }
 
--- the routes of all ASes to one origin, without payloads: one line without a head line (own rule)
+-- the routes of all ASes to one origin, without payloads: one line without a head line
 abbrev pub origin_task : LinkMap → ℕ → Task
 origin_task links origin = record {
   world = world_of links no_payloads (announced_by origin);
@@ -114,7 +114,7 @@ origin_task links origin = record {
   counts = false;
 }
 
--- the answers to a script, with a head line each (own rule)
+-- the answers to a script, with a head line each
 abbrev pub script_task : LinkMap → Payloads → ScenarioValue → List LineValue → Task
 script_task links payloads scenario lines = record { world = world_of links payloads scenario; lines = lines; heads = true; counts = false }
 
@@ -122,7 +122,7 @@ script_task links payloads scenario lines = record { world = world_of links payl
 abbrev pub demo_task : ℕ → Task
 demo_task n = record { world = world_of (drawn_links n) (drawn_payloads n) (drawn_scenario n); lines = drawn_lines (drawn_links n); heads = true; counts = true }
 
--- what the form and the files ask for; words without a form are the first fault (own rule)
+-- what the form and the files ask for; words without a form are the first fault
 abbrev pub asked : Option Form → Reads → Result Task Fault
 asked None reads = Err fault.Usage
 asked (Some (demo_form size)) reads = Ok (demo_task size)
@@ -130,14 +130,14 @@ asked (Some (origin_form rel origin)) reads = relations (reads file.Relations) >
 asked (Some (script_form rel vrps scenario script)) reads =
     relations (reads file.Relations) >>= λ links. payloads_by vrps (reads file.Payloads) >>= λ payloads. scenario_by scenario (reads file.Scenario) >>= λ plan. script_lines (reads file.Script) >>= λ lines. Ok (script_task links payloads plan lines)
 
--- the task, if its world has at most 150000 ASes (own rule)
+-- the task, if its world has at most 150000 ASes
 abbrev pub within_limits : Task → Result Task Fault
 within_limits task = if nat_lt 150000 (as_count (topology task.world)) then Err fault.TooManyAses else Ok task
 
--- the task of a form and of what was read of the files (own rule)
+-- the task of a form and of what was read of the files
 abbrev pub task_of_form : Option Form → Reads → Result Task Fault
 task_of_form form reads = asked form reads >>= within_limits
 
--- the task of the words and of what was read of the files, or the first fault in the order in which they are judged (own rule)
+-- the task of the words and of what was read of the files, or the first fault in the order in which they are judged
 abbrev pub task_of : List (List ℕ) → Reads → Result Task Fault
 task_of words reads = task_of_form (form_of words) reads

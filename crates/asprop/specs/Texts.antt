@@ -96,27 +96,27 @@ fault_text form (fault.Scenario e) = of_file (shown form file.Scenario) (scenari
 fault_text form (fault.Script e) = of_file (shown form file.Script) (script_text e)
 fault_text form fault.TooManyAses = message (codes "more than 150000 ASes")
 
--- a fault of a relationship file is bad input, but for a passed limit (own rule)
+-- a fault of a relationship file is bad input, but for a passed limit
 abbrev pub rel_status : RelError → Status
 rel_status (rel.TooManyLinks line) = status.TooLarge
 rel_status _ = status.BadInput
 
--- a fault of a payload file is bad input, but for a passed limit (own rule)
+-- a fault of a payload file is bad input, but for a passed limit
 abbrev pub vrp_status : VrpError → Status
 vrp_status (vrp.TooMany row) = status.TooLarge
 vrp_status _ = status.BadInput
 
--- a fault of a scenario is bad input, but for a passed limit (own rule)
+-- a fault of a scenario is bad input, but for a passed limit
 abbrev pub scenario_status : ScenarioError → Status
 scenario_status (scenario.Limit which) = status.TooLarge
 scenario_status _ = status.BadInput
 
--- a fault of a script is bad input, but for a passed limit (own rule)
+-- a fault of a script is bad input, but for a passed limit
 abbrev pub script_status : ScriptError → Status
 script_status (script.TooMany line) = status.TooLarge
 script_status _ = status.BadInput
 
--- the status for a fault of the words and the files (own rule)
+-- the status for a fault of the words and the files
 abbrev pub status_of : Fault → Status
 status_of fault.Usage = status.Usage
 status_of (fault.Unread which) = status.ReadFault

@@ -13,34 +13,34 @@ use Rattle.caida_reader.specs.contracts.firsts.First as first
 use Rattle.caida_reader.specs.declared.errors.RelError.{RelError}
 use Rattle.caida_reader.specs.declared.errors.RelError.TheVariants as fault
 
--- How such a map is stored as a value (own rule).
+-- How such a map is stored as a value.
 abbrev pub first_map_code : Coded FirstMap
 first_map_code = fin.code (coded× coded_ℕ coded_ℕ) first.the_row.coded
 
--- The pairs with one more, unless it stands already (own rule).
+-- The pairs with one more, unless it stands already.
 abbrev pub with_first : FirstMap → ℕ × ℕ → First → FirstMap
 with_first before pair given = if is_some (fin.get before pair) then before else fin.insert before pair given
 
--- The pairs after a line of this number (own rule).
+-- The pairs after a line of this number.
 abbrev pub with_said : FirstMap → ℕ → Said → FirstMap
 with_said before line (Link lo hi rel) = with_first before (lo, hi) (record { rel = rel; line = line })
 with_said before line said = before
 
--- The line has no fault, and these are the pairs after it; or it has this fault; or memory ran out (own rule).
+-- The line has no fault, and these are the pairs after it; or it has this fault; or memory ran out.
 abbrev pub Judges : FirstMap → FirstMap → ℕ → Said → Result (Unit {0}) RelError → Type 0
 Judges old new line said (Ok _) = (fault_at old line said ≡ None) × (new ≡ with_said old line said)
 Judges old new line said (Err fault.Memory) = Unit {0}
 Judges old new line said (Err e) = fault_at old line said ≡ Some e
 
--- A pair with its relation, without the line (own rule).
+-- A pair with its relation, without the line.
 abbrev pub link_at : (ℕ × ℕ) × First → (ℕ × ℕ) × Rel
 link_at entry = (entry.0, entry.1.rel)
 
--- The links of the pairs, without their lines (own rule).
+-- The links of the pairs, without their lines.
 abbrev pub relations : FirstMap → LinkMap
 relations pairs = fin.from_entries (map link_at (fin.entries pairs))
 
--- Each pair begins with the lower AS, so many pairs stand, and they are 1,500,000 at most (own rule).
+-- Each pair begins with the lower AS, so many pairs stand, and they are 1,500,000 at most.
 pub record ArePairs (pairs : FirstMap) (count : ℕ) : Type 0 where
   pub lower : (pair : ℕ × ℕ) → IsSome (fin.get pairs pair) → pair.0 < pair.1
   pub counted : count ≡ fin.len pairs

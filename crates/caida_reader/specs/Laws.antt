@@ -1,4 +1,4 @@
--- What the links of a file are, said of all its lines at once (own rules).
+-- What the links of a file are, said of all its lines at once.
 use Rattle.std.specs.Prelude.{◌≡◌, ◌≢◌, ℕ, ◌-◌, ◌<◌, ◌≤◌, ◌↔◌, List, length, take, All, Contains, IsPermutation, slice_get, Some, Ok, Err, IsOk}
 use Rattle.std.specs.FinMap as fin
 use Rattle.net_names.specs.Links.{LinkMap}
@@ -10,26 +10,26 @@ use Rattle.caida_reader.specs.declared.line.Said.TheVariants.{Unreadable, Itself
 use Rattle.caida_reader.specs.declared.errors.RelError.{RelError}
 use Rattle.caida_reader.specs.declared.errors.RelError.TheVariants as fault
 
--- Lines that have links: each that isn't skipped has the form, each link joins two ASes, no two lines give one pair two relations, and 1,500,000 pairs are given at most (own rule).
+-- Lines that have links: each that isn't skipped has the form, each link joins two ASes, no two lines give one pair two relations, and 1,500,000 pairs are given at most.
 pub record HasLinks (said : List Said) : Type 0 where
   pub readable : All (λ line. line ≢ Unreadable) said
   pub apart : All (λ line. line ≢ Itself) said
   pub agree : (lo hi : ℕ) (rel other : Rel) → Contains said (Link lo hi rel) → Contains said (Link lo hi other) → rel ≡ other
   pub few : fin.len (links_in said) ≤ 1500000
 
--- A file is accepted exactly where its lines have links (own rule).
+-- A file is accepted exactly where its lines have links.
 abbrev pub AcceptedExactly : Type 0
 AcceptedExactly = (bytes : List ℕ) → IsOk (links_of bytes) ↔ HasLinks (said_in bytes)
 
--- Among the links of an accepted file, a pair has a relation exactly where some line gives it (own rule).
+-- Among the links of an accepted file, a pair has a relation exactly where some line gives it.
 abbrev pub GivenExactly : Type 0
 GivenExactly = (bytes : List ℕ) (links : LinkMap) → links_of bytes ≡ Ok links → (lo hi : ℕ) (rel : Rel) → (fin.get links (lo, hi) ≡ Some rel) ↔ Contains (said_in bytes) (Link lo hi rel)
 
--- A file with the lines of an accepted file in another order has the same links (own rule).
+-- A file with the lines of an accepted file in another order has the same links.
 abbrev pub AnyOrder : Type 0
 AnyOrder = (bytes others : List ℕ) (links : LinkMap) → IsPermutation (lines bytes) (lines others) → links_of bytes ≡ Ok links → links_of others ≡ Ok links
 
--- The number of the line that a fault names; want of memory names none (own rule).
+-- The number of the line that a fault names; want of memory names none.
 abbrev pub line_of : RelError → ℕ
 line_of fault.Memory = 0
 line_of (fault.Unreadable line) = line
@@ -37,25 +37,25 @@ line_of (fault.SelfLink line) = line
 line_of (fault.Conflict line earlier) = line
 line_of (fault.TooManyLinks line) = line
 
--- The fault's line is the first one at which the lines up to it have no links (own rule).
+-- The fault's line is the first one at which the lines up to it have no links.
 pub record IsFirstFaulty (said : List Said) (e : RelError) : Type 0 where
   pub inside : line_of e ≤ length said
   pub before : (line : ℕ) → line < line_of e → IsOk (value_of (take line said))
   pub here : value_of (take (line_of e) said) ≡ Err e
 
--- The fault of a file names its first faulty line (own rule).
+-- The fault of a file names its first faulty line.
 abbrev pub FirstFaulty : Type 0
 FirstFaulty = (bytes : List ℕ) (e : RelError) → links_of bytes ≡ Err e → IsFirstFaulty (said_in bytes) e
 
--- The line of this number says this; lines are numbered from 1 (own rule).
+-- The line of this number says this; lines are numbered from 1.
 abbrev pub SaysAt : List Said → ℕ → Said → Type 0
 SaysAt said line what = (1 ≤ line) × (slice_get said (line - 1) ≡ Some what)
 
--- No line before this one gives the pair (own rule).
+-- No line before this one gives the pair.
 abbrev pub NoneBefore : List Said → ℕ → ℕ → ℕ → Type 0
 NoneBefore said line lo hi = (earlier : ℕ) (rel : Rel) → earlier < line → SaysAt said earlier (Link lo hi rel) → ⊥
 
--- A conflict: the line gives another relation than the first line of its pair, which is the earlier one (own rule).
+-- A conflict: the line gives another relation than the first line of its pair, which is the earlier one.
 pub record IsConflict (said : List Said) (line earlier : ℕ) : Type 0 where
   pub lo : ℕ
   pub hi : ℕ
@@ -67,7 +67,7 @@ pub record IsConflict (said : List Said) (line earlier : ℕ) : Type 0 where
   pub before : earlier < line
   pub differ : rel ≢ other
 
--- A pair too many: no line before this one gives its pair, and those lines give 1,500,000 others (own rule).
+-- A pair too many: no line before this one gives its pair, and those lines give 1,500,000 others.
 pub record IsOneTooMany (said : List Said) (line : ℕ) : Type 0 where
   pub lo : ℕ
   pub hi : ℕ
@@ -76,7 +76,7 @@ pub record IsOneTooMany (said : List Said) (line : ℕ) : Type 0 where
   pub new : NoneBefore said line lo hi
   pub full : fin.len (links_in (take (line - 1) said)) ≡ 1500000
 
--- What a fault says of the lines (own rule).
+-- What a fault says of the lines.
 abbrev pub IsCause : List Said → RelError → Type 0
 IsCause said fault.Memory = ⊥
 IsCause said (fault.Unreadable line) = SaysAt said line Unreadable
@@ -84,6 +84,6 @@ IsCause said (fault.SelfLink line) = SaysAt said line Itself
 IsCause said (fault.Conflict line earlier) = IsConflict said line earlier
 IsCause said (fault.TooManyLinks line) = IsOneTooMany said line
 
--- The fault of a file is one that its lines have (own rule).
+-- The fault of a file is one that its lines have.
 abbrev pub HasCause : Type 0
 HasCause = (bytes : List ℕ) (e : RelError) → links_of bytes ≡ Err e → IsCause (said_in bytes) e

@@ -13,11 +13,11 @@ use Rattle.caida_reader.specs.declared.line.Said.TheVariants.{Nothing, Unreadabl
 abbrev pub rel_of : List ℕ → Option Rel
 rel_of text = if bytes_eq text (45 ∷ 49 ∷ []) then Some Customer else if bytes_eq text (48 ∷ []) then Some Peer else None
 
--- The link of a and b, of which b is this to a: the pair with the lower number first, and what the higher AS is to the lower one. Equal numbers make no link (own rule).
+-- The link of a and b, of which b is this to a: the pair with the lower number first, and what the higher AS is to the lower one. Equal numbers make no link.
 abbrev pub link : ℕ → ℕ → Rel → Said
 link a b rel = if a == b then Itself else if nat_lt a b then Link a b rel else Link b a (converse rel)
 
--- The link of two numbers and a relation, where all three are readable (own rule).
+-- The link of two numbers and a relation, where all three are readable.
 abbrev pub link_of : Option ℕ → Option ℕ → Option Rel → Said
 link_of (Some a) (Some b) (Some rel) = link a b rel
 link_of _ _ _ = Unreadable
@@ -27,15 +27,15 @@ abbrev pub said_by : List (List ℕ) → Said
 said_by (first ∷ second ∷ third ∷ further) = link_of (asn_of first) (asn_of second) (rel_of third)
 said_by _ = Unreadable
 
--- What a text without its carriage return says: nothing where it is skipped, and else what its fields between `|` say (own rule).
+-- What a text without its carriage return says: nothing where it is skipped, and else what its fields between `|` say.
 abbrev pub said_of : List ℕ → Said
 said_of text = if is_skipped text then Nothing else said_by (fields 124 text)
 
--- What a line says (own rule).
+-- What a line says.
 abbrev pub says : List ℕ → Said
 says line = said_of (without_cr line)
 
--- A link's first AS is the lower one (own rule).
+-- A link's first AS is the lower one.
 abbrev pub IsRising : Said → Type 0
 IsRising (Link lo hi rel) = lo < hi
 IsRising said = Unit {0}

@@ -8,13 +8,13 @@ use Rattle.cycle_check.specs.Cycles.{IsCycleFromLowest}
 use Rattle.cycle_check.specs.declared.counting.Counted.{Counted}
 use Rattle.cycle_check.specs.declared.counting.Counted.TheVariants.{Ranks, Cycle}
 
--- each number below a bound once, by rising rank (own rule)
+-- each number below a bound once, by rising rank
 pub record ArePlacesByRank (n : ℕ) (ranks order : List ℕ) : Type 0 where
   pub complete : (a : ℕ) → occurs a order ≡ nat_lt a n
   pub apart : IsDistinct order
   pub rising : IsNonDecreasingBy (slice_index ranks) order
 
--- numbers that fit at each place, and the places by rising rank (own rule)
+-- numbers that fit at each place, and the places by rising rank
 pub record ArePlaceRanks (starts items ranks order : List ℕ) : Type 0 where
   pub fits : (a : ℕ) → RankFits (what starts items) (slice_index ranks) a
   pub each : length ranks ≡ count_of starts

@@ -11,30 +11,30 @@ use Rattle.cycle_check.specs.declared.ranking.Ranking.TheVariants.{Ranks, Cycle}
 use Rattle.cycle_check.specs.Counting.{ArePlacesByRank}
 use Rattle.cycle_check.specs.Cycles.{IsCycleFromLowest}
 
--- the rank that the list tells of an AS, if it tells one (own rule)
+-- the rank that the list tells of an AS, if it tells one
 abbrev pub rank_told : List RankedAs → ℕ → Option ℕ
 rank_told [] a = None
 rank_told (x ∷ xs) a = if x.asn == a then Some x.rank else rank_told xs a
 
--- the rank that the list gives to an AS, 0 where it tells none (own rule)
+-- the rank that the list gives to an AS, 0 where it tells none
 abbrev pub rank_in : List RankedAs → ℕ → ℕ
 rank_in xs a = unwrap_or (rank_told xs a) 0
 
--- the numbers of the ASes in the list (own rule)
+-- the numbers of the ASes in the list
 abbrev pub numbers_of : List RankedAs → List ℕ
 numbers_of xs = map (λ x. x.asn) xs
 
--- the ranks in the list (own rule)
+-- the ranks in the list
 abbrev pub ranks_of : List RankedAs → List ℕ
 ranks_of xs = map (λ x. x.rank) xs
 
--- just the ASes of the world in rising number, each with its rank (own rule)
+-- just the ASes of the world in rising number, each with its rank
 pub record AreRanks (g : Topology) (xs : List RankedAs) : Type 0 where
   pub listed : (a : ℕ) → occurs a (numbers_of xs) ≡ has g a
   pub rising : IsStrictlyIncreasing (numbers_of xs)
   pub ranks : (a : ℕ) → IsRank (what g) a (rank_in xs a)
 
--- the ASes with their ranks, and their places in this list by rising rank (own rule)
+-- the ASes with their ranks, and their places in this list by rising rank
 pub record AreRanked (g : Topology) (r : Ranked) : Type 0 where
   pub ases : AreRanks g r.ases.items
   pub by_rank : ArePlacesByRank (length r.ases.items) (ranks_of r.ases.items) r.order.items

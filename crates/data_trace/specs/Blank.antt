@@ -1,4 +1,4 @@
--- Columns before any end is sought (own rules).
+-- Columns before any end is sought.
 use Rattle.std.specs.Prelude.{◌≡◌, ℕ, ◌≤◌, List, length, vec_capacity}
 use Rattle.data_trace.specs.declared.places.Mark.TheVariants.{Unknown}
 use Rattle.data_trace.specs.declared.places.Group.{Group}

@@ -5,6 +5,6 @@ use Rattle.data_trace.specs.declared.best.Best.{Best}
 use Rattle.data_trace.specs.declared.candidate.Candidate.{Candidate}
 use Rattle.data_trace.specs.Best.{better_of}
 
--- the best entry of an AS in these tables (own rule)
+-- the best entry of an AS in these tables
 abbrev pub best_among : List Candidate → ℕ → Option Best
 best_among xs a = fold (λ best c. better_of best c.prefix (held_at c.table.now a)) None xs

@@ -1,4 +1,4 @@
--- The columns of a watch, and the rows that they make (own rules).
+-- The columns of a watch, and the rows that they make.
 use Rattle.std.specs.Prelude.{◌≡◌, ℕ, ◌<◌, ◌↔◌, Bool, true, false, IsTrue, if◌then◌else◌, nat_eq, List, length, map, filter, slice_index, slice_index_or}
 use Rattle.std.specs.List.{range_with_len, IsDistinct}
 use Rattle.net_names.specs.declared.routes.Rel.{Rel}

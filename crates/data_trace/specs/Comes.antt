@@ -1,4 +1,4 @@
--- ASes come to the places (own rules).
+-- ASes come to the places.
 use Rattle.std.specs.Prelude.{◌≡◌, ℕ, ◌<◌, ◌≤◌, true, List, length}
 use Rattle.net_names.specs.Numbers.{occurs}
 use Rattle.as_graph.specs.Topology.{Topology, has}

@@ -1,4 +1,4 @@
--- The sums of a watch count its places (own rules).
+-- The sums of a watch count its places.
 use Rattle.std.specs.Prelude.{◌≡◌, ℕ, zero, suc, ◌+◌, ◌<◌, Bool, ◌&&◌, if◌then◌else◌, Option, None, Some, option_map, List, length}
 use Rattle.data_trace.specs.declared.kinds.End.{End}
 use Rattle.data_trace.specs.declared.places.PlaceEnd.TheVariants as place_end

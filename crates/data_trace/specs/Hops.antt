@@ -9,12 +9,12 @@ use Rattle.stability_laws.specs.Plans.{Plan, announces, prefixes_of}
 use Rattle.data_trace.specs.declared.kinds.Hop.{Hop}
 use Rattle.data_trace.specs.declared.kinds.Hop.TheVariants.{Here, To, NoRoute}
 
--- the longer of two prefixes, the first where they are equally long (own rule)
+-- the longer of two prefixes, the first where they are equally long
 abbrev pub longer : Option PrefixValue → PrefixValue → Option PrefixValue
 longer None q = Some q
 longer (Some p) q = if nat_lt p.len q.len then Some q else Some p
 
--- the longest prefix of the list, if there is one (own rule)
+-- the longest prefix of the list, if there is one
 abbrev pub longest : List PrefixValue → Option PrefixValue
 longest ps = fold longer None ps
 
@@ -22,7 +22,7 @@ longest ps = fold longer None ps
 abbrev pub sent_by : Plan → (PrefixValue → ℕ → Option Entry) → AddrValue → ℕ → Option PrefixValue
 sent_by plan held addr a = longest (filter (λ p. holds p addr && is_some (held p a)) (prefixes_of plan))
 
--- the next hop is this AS; without one there is no route (own rule)
+-- the next hop is this AS; without one there is no route
 abbrev pub hop_to : Option ℕ → Hop
 hop_to None = NoRoute
 hop_to (Some b) = To b

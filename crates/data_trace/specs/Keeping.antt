@@ -1,4 +1,4 @@
--- The lists that a watch keeps for its updates (own rules).
+-- The lists that a watch keeps for its updates.
 use Rattle.std.specs.Prelude.{ℕ, ◌≤◌, List, [], vec_capacity}
 use Rattle.data_trace.specs.declared.places.PlaceHop.{PlaceHop}
 use Rattle.data_trace.specs.declared.keeping.Lists.{Lists}

@@ -5,11 +5,11 @@ use Rattle.as_graph.specs.Topology.{Topology, what, has}
 use Rattle.data_trace.specs.declared.kinds.Hop.{Hop}
 use Rattle.data_trace.specs.Watches.{Row, IsRowOf, IsStub}
 
--- the kept next hops are these at every AS of the graph that is in neither list (own rule)
+-- the kept next hops are these at every AS of the graph that is in neither list
 abbrev pub KeepsHops : Topology → (ℕ → Hop) → List ℕ → List ℕ → List Row → Type 0
 KeepsHops g next changed regrouped rows = (a : ℕ) (r : Row) → has g a ≡ true → occurs a changed ≡ false → occurs a regrouped ≡ false → IsRowOf rows a r → r.next ≡ next a
 
--- at every AS that is not in the list, the kept presence, stub flag and policy's number are those of this graph and these policies (own rule)
+-- at every AS that is not in the list, the kept presence, stub flag and policy's number are those of this graph and these policies
 pub record KeepsGroups (g : Topology) (label : ℕ → ℕ) (regrouped : List ℕ) (rows : List Row) : Type 0 where
   pub presence : (a : ℕ) → occurs a regrouped ≡ false → occurs a (map (λ r. r.asn) rows) ≡ has g a
   pub stub : (a : ℕ) (r : Row) → occurs a regrouped ≡ false → IsRowOf rows a r → IsTrue r.stub ↔ IsStub (what g) a

@@ -1,4 +1,4 @@
--- For each place the list of the places that send to it, linked in both directions (own rules).
+-- For each place the list of the places that send to it, linked in both directions.
 use Rattle.std.specs.Prelude.{◌≡◌, ◌≢◌, ℕ, ◌<◌, List, length, slice_index_or, Option, Some, None, if◌then◌else◌, nat_eq, ◌==◌}
 use Rattle.std.specs.List.{list_any}
 use Rattle.data_trace.specs.declared.places.PlaceHop.{PlaceHop}

@@ -1,4 +1,4 @@
--- What is known of the ends of places while they are sought (own rules).
+-- What is known of the ends of places while they are sought.
 use Rattle.std.specs.Prelude.{◌≡◌, ◌≢◌, ◌⊎◌, ℕ, ◌+◌, ◌<◌, ◌≤◌, Bool, true, false, not, Option, Some, None, List, length, slice_index_or, nat_eq}
 use Rattle.std.specs.List.{count_by, list_any}
 use Rattle.data_trace.specs.declared.places.PlaceHop.{PlaceHop}

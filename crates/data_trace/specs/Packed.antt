@@ -1,4 +1,4 @@
--- Next hops and marks as numbers (own rules).
+-- Next hops and marks as numbers.
 use Rattle.std.specs.Prelude.{◌≡◌, ℕ, zero, suc, refl}
 use Rattle.data_trace.specs.declared.places.PlaceHop.{PlaceHop}
 use Rattle.data_trace.specs.declared.places.PlaceHop.TheVariants as hop

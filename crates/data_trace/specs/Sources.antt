@@ -1,4 +1,4 @@
--- Where the ASes of a graph send, and no route of others (own rules).
+-- Where the ASes of a graph send, and no route of others.
 use Rattle.std.specs.Prelude.{◌≡◌, ℕ, false, List, nat_eq}
 use Rattle.std.specs.List.{list_any}
 use Rattle.route_choice.specs.RoundTables.{round_routing}

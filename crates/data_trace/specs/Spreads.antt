@@ -1,4 +1,4 @@
--- Places whose ends are sought anew, in a queue (own rules).
+-- Places whose ends are sought anew, in a queue.
 use Rattle.std.specs.Prelude.{◌≡◌, ◌≢◌, ℕ, ◌+◌, ◌<◌, ◌≤◌, List, [], ◌∷◌, ◌++◌, length, slice_index_or, slice_set, Option, Some, None, if◌then◌else◌, nat_eq}
 use Rattle.std.specs.List.{count_by, IsDistinct}
 use Rattle.data_trace.specs.declared.places.Mark.{Mark}

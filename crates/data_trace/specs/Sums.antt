@@ -1,4 +1,4 @@
--- The sums of ASes by end and group (own rules).
+-- The sums of ASes by end and group.
 use Rattle.std.specs.Prelude.{ℕ, Bool, true, false, not, ◌&&◌, ◌==◌, if◌then◌else◌, vec_capacity, nat_lt}
 use Rattle.std.specs.List.{sum_by}
 use Rattle.data_trace.specs.declared.kinds.End.{End}

@@ -6,36 +6,36 @@ use Rattle.data_trace.specs.declared.kinds.Hop.TheVariants.{Here, To, NoRoute}
 use Rattle.data_trace.specs.declared.kinds.End.{End}
 use Rattle.data_trace.specs.declared.kinds.End.TheVariants as the_end
 
--- the AS stands in the list (own rule)
+-- the AS stands in the list
 abbrev pub IsIn : ℕ → List ℕ → Type 0
 IsIn a xs = list_any (nat_eq a) xs ≡ true
 
--- a way from an AS: distinct ASes, the first of them that AS, each of which sends the packet to the next one (own rule)
+-- a way from an AS: distinct ASes, the first of them that AS, each of which sends the packet to the next one
 pub record IsWay (next : ℕ → Hop) (a : ℕ) (xs : List ℕ) : Type 0 where
   pub starts : slice_get xs 0 ≡ Some a
   pub sends : (i : ℕ) → i + 1 < length xs → next (slice_index xs i) ≡ To (slice_index xs (i + 1))
   pub distinct : IsDistinct nat_eq xs
 
--- how a way ends whose last AS has this next hop: delivered there, without a route, or as a loop, where the packet comes back to an AS of the way (own rule)
+-- how a way ends whose last AS has this next hop: delivered there, without a route, or as a loop, where the packet comes back to an AS of the way
 abbrev pub EndsBy : Hop → ℕ → List ℕ → End → Type 0
 EndsBy Here last xs e = e ≡ the_end.At last
 EndsBy NoRoute last xs e = e ≡ the_end.NoRoute
 EndsBy (To b) last xs e = IsIn b xs × (e ≡ the_end.Loop)
 
--- the last AS of a way (own rule)
+-- the last AS of a way
 abbrev pub last_of : List ℕ → ℕ
 last_of xs = slice_index xs (length xs - 1)
 
--- the trace of an AS: a way from it that goes on to no further AS, and how that ends; no way from the AS is longer (own rule)
+-- the trace of an AS: a way from it that goes on to no further AS, and how that ends; no way from the AS is longer
 pub record IsTrace (next : ℕ → Hop) (a : ℕ) (xs : List ℕ) (e : End) : Type 0 where
   pub way : IsWay next a xs
   pub ends : EndsBy (next (last_of xs)) (last_of xs) xs e
 
--- the trace of the AS ends so (own rule)
+-- the trace of the AS ends so
 abbrev pub HasEnd : (ℕ → Hop) → ℕ → End → Type 0
 HasEnd next a e = (xs : List ℕ) × IsTrace next a xs e
 
--- among finitely many ASes each has exactly one trace, and no way from it is longer (own rule)
+-- among finitely many ASes each has exactly one trace, and no way from it is longer
 abbrev pub OneTrace : Type 0
 OneTrace = (next : ℕ → Hop) (ases : List ℕ) → ((a b : ℕ) → next a ≡ To b → IsIn b ases) → (a : ℕ) →
     (xs : List ℕ) × (e : End) × IsTrace next a xs e × ((ys : List ℕ) (other : End) → IsTrace next a ys other → (ys ≡ xs) × (other ≡ e))

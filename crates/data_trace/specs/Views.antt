@@ -5,19 +5,19 @@ use Rattle.data_trace.specs.declared.watch.Watch.{Watch}
 use Rattle.data_trace.specs.Watches.{Row}
 use Rattle.data_trace.specs.Columns.{rows}
 
--- the rows of a watch, one for each AS (own rule)
+-- the rows of a watch, one for each AS
 abbrev pub rows_of : Watch → List Row
 rows_of w = rows w.ases.ases w.hops.items w.marks.items w.groups.items
 
--- the watched address (own rule)
+-- the watched address
 abbrev pub addr_of : Watch → AddrValue
 addr_of w = w.addr
 
--- how many ASes a graph may have of which the watch can keep all without memory (own rule)
+-- how many ASes a graph may have of which the watch can keep all without memory
 abbrev pub spare_of : Watch → ℕ
 spare_of w = w.spare
 
--- the two watches have the same ASes, next hops, ends and groups, and the same address (own rule)
+-- the two watches have the same ASes, next hops, ends and groups, and the same address
 pub record SameColumns (old new : Watch) : Type 0 where
   pub ases : new.ases.ases ≡ old.ases.ases
   pub hops : new.hops.items ≡ old.hops.items

@@ -5,7 +5,6 @@ ghost use Rattle.net_names.specs.Numbers.{occurs};
 ghost use Rattle.data_trace.specs.declared.places.Mark.TheVariants as AMark;
 ghost use Rattle.as_graph.specs.Topology.{has};
 ghost use Rattle.data_trace.specs.Marks.{mark_of, IsWithin};
-ghost use Rattle.data_trace.specs.Traces.{IsIn};
 ghost use Rattle.data_trace.specs.Lists.{link_at, AreBelow, Unlinks, HasLists};
 ghost use Rattle.data_trace.specs.Spreads.{IsFront};
 ghost use Rattle.data_trace.specs.Sums.{room_of};

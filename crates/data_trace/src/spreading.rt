@@ -1,5 +1,5 @@
 //! Places whose ends are sought anew, and all whose packets pass them.
-ghost use Rattle.std.specs.Prelude.{◌≡◌, ℕ, ◌+◌, ◌<◌, ◌≤◌, count_by, take, length, vec_capacity, IfSome, Some, None, if◌then◌else◌};
+ghost use Rattle.std.specs.Prelude.{◌≡◌, ◌+◌, ◌<◌, ◌≤◌, count_by, take, length, vec_capacity, IfSome, Some, None, if◌then◌else◌};
 ghost use Rattle.data_trace.specs.Marks.{is_known};
 ghost use Rattle.data_trace.specs.Lists.{link_at, AreBelow};
 ghost use Rattle.data_trace.specs.Spreads.{IsFront, HasSpread, Forgets};

@@ -40,7 +40,7 @@ use route_choice::RoundTables;
 use stability_laws::{Book, SeedPlan};
 use std::alloc::Global;
 
-// A watch has fewer places than this, so that each next hop and each end fits in four bytes.
+// A watch has at most so many places, so that each next hop and each end fits in four bytes.
 const MOST_PLACES: usize = 4_294_967_291;
 
 /// Of each AS of a graph its next hop, the end of its trace and its groups, for one round and one

@@ -9,18 +9,18 @@ use Rattle.route_choice.specs.Tables.{change_at}
 use Rattle.dirty_recompute.specs.Resources.{has_change, IsPaidFor}
 use Rattle.dirty_recompute.specs.Steps.{ChangesOnly}
 
--- nothing that the overlay holds is given up where a gets this: the overlay has no change at a, or a holds nothing, or it holds this (own rule)
+-- nothing that the overlay holds is given up where a gets this: the overlay has no change at a, or a holds nothing, or it holds this
 abbrev pub GivesUpNone : PathPool → Table → Overlay → ℕ → Option Entry → Type 0
 GivesUpNone pool table overlay a new = (change_at overlay a ≡ None) ⊎ ((routing_of pool table overlay a ≡ None) ⊎ (new ≡ routing_of pool table overlay a))
 
--- a holds this, `answer` says whether it is another entry than before, and nothing else has changed (own rule)
+-- a holds this, `answer` says whether it is another entry than before, and nothing else has changed
 pub record IsGiven (old new : PathPool) (table : Table) (before after : Overlay) (a : ℕ) (entry : Option Entry) (answer : Bool) : Type 0 where
   pub at : routing_of new table after a ≡ entry
   pub only : ChangesOnly a (routing_of old table before) (routing_of new table after) (has_change before) (has_change after)
   pub changed : IsTrue answer ↔ (routing_of new table after a ≢ routing_of old table before a)
   pub paid : IsPaidFor old new (routing_of old table before) (routing_of new table after) a
 
--- the ASes hold what they held, and the overlay has the changes that it had (own rule)
+-- the ASes hold what they held, and the overlay has the changes that it had
 pub record SameHeld (old new : PathPool) (table : Table) (before after : Overlay) : Type 0 where
   pub routing : (n : ℕ) → routing_of new table after n ≡ routing_of old table before n
   pub changes : (n : ℕ) → change_at after n ≡ change_at before n

@@ -3,6 +3,6 @@ use Rattle.std.specs.Prelude.{ℕ}
 use Rattle.rank_order.specs.Plans.{rank_after}
 use Rattle.dirty_recompute.specs.declared.new_ranks.NewRanks.{NewRanks}
 
--- the rank of an AS after the edit (own rule)
+-- the rank of an AS after the edit
 unfoldable pub rank_of : NewRanks → ℕ → ℕ
 rank_of r a = rank_after r.ranks.now r.plan.now a

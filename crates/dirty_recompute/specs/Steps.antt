@@ -7,17 +7,17 @@ use Rattle.stability_laws.specs.Stable.{IsRightGiven}
 use Rattle.stability_laws.specs.Laws.{customer_offer}
 use Rattle.stability_laws.specs.Steps.{low}
 
--- nothing, where what is held has an Origin or Customer part (own rule)
+-- nothing, where what is held has an Origin or Customer part
 abbrev pub without_low : Option Entry → Option Entry → Option Entry
 without_low None held = held
 without_low (Some e) held = None
 
--- what a step upwards leaves of what is held, given the seed's entry or the best of the customers' offers: that entry; or, where there is none, what is held, unless it is an Origin or Customer entry (own rule)
+-- what a step upwards leaves of what is held, given the seed's entry or the best of the customers' offers: that entry; or, where there is none, what is held, unless it is an Origin or Customer entry
 abbrev pub after_up : Option Entry → Option Entry → Option Entry
 after_up (Some e) held = Some e
 after_up None held = without_low (low held) held
 
--- the Origin or Customer part of what a holds is right by its customers' offers alone (own rule)
+-- the Origin or Customer part of what a holds is right by its customers' offers alone
 abbrev pub IsRightLow : Setting → (ℕ → Option Seed) → (ℕ → Option Entry) → ℕ → Type 0
 IsRightLow w seeds f a = IsRightGiven (w.policy a) (seeds a) (λ n. customer_offer w f n a) (low (f a))
 
@@ -26,11 +26,11 @@ pub record IsSpared (w : Setting) (f g : ℕ → Option Entry) (a b : ℕ) : Typ
   pub not_held : (o : Offer) → offer w f a b ≡ Some o → f b ≢ Some o.entry
   pub beaten : (offer w g a b ≡ None) ⊎ ((m : ℕ) × (q : Offer) × (n : Offer) × (m ≢ a) × (offer w f m b ≡ Some q) × (offer w g a b ≡ Some n) × IsTrue ((w.policy b).before q.view n.view))
 
--- b need not choose anew when a's entry goes from that in f to that in g: it has a seed, or a makes it the same offer, or it is spared (own rule)
+-- b need not choose anew when a's entry goes from that in f to that in g: it has a seed, or a makes it the same offer, or it is spared
 abbrev pub IsLeft : Setting → (ℕ → Option Seed) → (ℕ → Option Entry) → (ℕ → Option Entry) → ℕ → ℕ → Type 0
 IsLeft w seeds f g a b = ((s : Seed) × (seeds b ≡ Some s)) ⊎ ((offer w f a b ≡ offer w g a b) ⊎ IsSpared w f g a b)
 
--- from f to g only a's entry may change, and where it does a is among the changed ASes afterwards (own rule)
+-- from f to g only a's entry may change, and where it does a is among the changed ASes afterwards
 pub record ChangesOnly (a : ℕ) (f g : ℕ → Option Entry) (changed changed' : ℕ → Bool) : Type 0 where
   pub others : (b : ℕ) → b ≢ a → g b ≡ f b
   pub changed_others : (b : ℕ) → b ≢ a → changed' b ≡ changed b

@@ -10,7 +10,7 @@ use Rattle.dirty_recompute.specs.Steps.{ChangesOnly, IsChosenUp, IsLeft}
 use Rattle.dirty_recompute.specs.declared.queue.Queue.{Queue}
 use Rattle.dirty_recompute.specs.Queues.{waits, HasRanks}
 
--- after a turn upwards of a: its providers wait in the queue upwards, its peers and customers in one of the two queues, but such as may be left; a itself waits in the queue downwards where it has nothing from below; and nobody else came in (own rule)
+-- after a turn upwards of a: its providers wait in the queue upwards, its peers and customers in one of the two queues, but such as may be left; a itself waits in the queue downwards where it has nothing from below; and nobody else came in
 pub record AreQueuedUp (w : Setting) (seeds : ℕ → Option Seed) (a : ℕ) (f g : ℕ → Option Entry) (changed nothing : Bool) (up up' whole whole' : ℕ → Bool) : Type 0 where
   pub kept : (b : ℕ) → up b ≡ true → up' b ≡ true
   pub kept_whole : (b : ℕ) → whole b ≡ true → whole' b ≡ true
@@ -20,13 +20,13 @@ pub record AreQueuedUp (w : Setting) (seeds : ℕ → Option Seed) (a : ℕ) (f 
   pub from : (b : ℕ) → up' b ≡ true → (up b ≡ true) ⊎ ((w.what b a ≡ Some Customer) × (changed ≡ true))
   pub from_whole : (b : ℕ) → whole' b ≡ true → (whole b ≡ true) ⊎ ((b ≡ a) ⊎ ((r : Rel) × (w.what b a ≡ Some r) × (changed ≡ true)))
 
--- after a turn downwards of a: its customers wait in the queue, but such as may be left, and nobody else came in (own rule)
+-- after a turn downwards of a: its customers wait in the queue, but such as may be left, and nobody else came in
 pub record AreQueuedDown (w : Setting) (seeds : ℕ → Option Seed) (a : ℕ) (f g : ℕ → Option Entry) (changed : Bool) (whole whole' : ℕ → Bool) : Type 0 where
   pub kept : (b : ℕ) → whole b ≡ true → whole' b ≡ true
   pub asked : (b : ℕ) → b ≢ a → (whole' b ≡ true) ⊎ ((w.what b a ≢ Some Provider) ⊎ IsLeft w seeds f g a b)
   pub from : (b : ℕ) → whole' b ≡ true → (whole b ≡ true) ⊎ ((w.what b a ≡ Some Provider) × (changed ≡ true))
 
--- a turn upwards of an AS that is out of the queue already (own rule)
+-- a turn upwards of an AS that is out of the queue already
 pub record IsTurnUp (w : Setting) (seeds : ℕ → Option Seed) (rank : ℕ → ℕ) (a : ℕ) (f g : ℕ → Option Entry) (changed changed' : ℕ → Bool) (up up' whole whole' : Queue) : Type 0 where
   pub nothing : Bool
   pub only : ChangesOnly a f g changed changed'
@@ -35,7 +35,7 @@ pub record IsTurnUp (w : Setting) (seeds : ℕ → Option Seed) (rank : ℕ → 
   pub ranks : HasRanks rank up → HasRanks rank up'
   pub ranks_whole : HasRanks rank whole → HasRanks rank whole'
 
--- a turn downwards of an AS that is out of the queue already (own rule)
+-- a turn downwards of an AS that is out of the queue already
 pub record IsTurnDown (w : Setting) (seeds : ℕ → Option Seed) (rank : ℕ → ℕ) (a : ℕ) (f g : ℕ → Option Entry) (changed changed' : ℕ → Bool) (whole whole' : Queue) : Type 0 where
   pub only : ChangesOnly a f g changed changed'
   pub chosen : IsRightGiven (w.policy a) (seeds a) (λ n. offer w f n a) (g a)

@@ -20,13 +20,13 @@ use Rattle.dirty_recompute.specs.declared.queue.Queue.{Queue}
 use Rattle.dirty_recompute.specs.Queues.{waits, HasRanks}
 use Rattle.dirty_recompute.specs.Resources.{has_change}
 
--- nobody who had a turn waits again, or comes before one who waits, or had two turns (own rule)
+-- nobody who had a turn waits again, or comes before one who waits, or had two turns
 pub record IsInOrder (le : ℕ → ℕ → Type 0) (queue : ℕ → Bool) (taken : List ℕ) : Type 0 where
   pub ahead : (b c : ℕ) → queue b ≡ true → occurs c taken ≡ true → le c b
   pub fresh : (b : ℕ) → queue b ≡ true → occurs b taken ≡ false
   pub distinct : IsDistinct taken
 
--- on the way upwards: who waits in neither queue is right, and who doesn't wait upwards is so by its customers' offers; the changed ASes differ in their Origin and Customer entries from what they held before, and each had its turn; whoever waits or had a turn counts (own rule)
+-- on the way upwards: who waits in neither queue is right, and who doesn't wait upwards is so by its customers' offers; the changed ASes differ in their Origin and Customer entries from what they held before, and each had its turn; whoever waits or had a turn counts
 pub record IsUpWork (LowRight Right : (ℕ → Option Entry) → ℕ → Type 0) (le : ℕ → ℕ → Type 0) (what : ℕ → ℕ → Option Rel) (touched : ℕ → Bool) (before f : ℕ → Option Entry) (changed up whole : ℕ → Bool) (taken : List ℕ) : Type 0 where
   pub low_right : (b : ℕ) → up b ≡ false → LowRight f b
   pub right : (b : ℕ) → up b ≡ false → whole b ≡ false → Right f b
@@ -39,7 +39,7 @@ pub record IsUpWork (LowRight Right : (ℕ → Option Entry) → ℕ → Type 0)
   pub queued_whole : (b : ℕ) → whole b ≡ true → IsCounted what touched changed b
   pub done : (b : ℕ) → occurs b taken ≡ true → IsCounted what touched changed b
 
--- on the way downwards: who doesn't wait is right, and all are so by their customers' offers; the changed ASes differ from what they held before, and those that had no turn on this way do so in their Origin and Customer entries; whoever waits or had a turn counts (own rule)
+-- on the way downwards: who doesn't wait is right, and all are so by their customers' offers; the changed ASes differ from what they held before, and those that had no turn on this way do so in their Origin and Customer entries; whoever waits or had a turn counts
 pub record IsWholeWork (LowRight Right : (ℕ → Option Entry) → ℕ → Type 0) (le : ℕ → ℕ → Type 0) (what : ℕ → ℕ → Option Rel) (touched : ℕ → Bool) (before f : ℕ → Option Entry) (changed whole : ℕ → Bool) (earlier taken : List ℕ) : Type 0 where
   pub low_right : (b : ℕ) → LowRight f b
   pub right : (b : ℕ) → whole b ≡ false → Right f b
@@ -53,7 +53,7 @@ pub record IsWholeWork (LowRight Right : (ℕ → Option Entry) → ℕ → Type
   pub done : (b : ℕ) → occurs b taken ≡ true → IsCounted what touched changed b
   pub distinct_up : IsDistinct earlier
 
--- after so many turns upwards (own rule)
+-- after so many turns upwards
 pub record IsUpLoop (w : Setting) (seeds : ℕ → Option Seed) (rank : ℕ → ℕ) (touched : List ℕ) (before f : ℕ → Option Entry) (changed : ℕ → Bool) (up whole : Queue) (turns : ℕ) : Type 0 where
   pub taken : List ℕ
   pub work : IsUpWork (IsRightLow w seeds) (IsRight w seeds) (λ x y. rank x ≤ rank y) w.what (λ b. occurs b touched) before f changed (waits rank up) (waits rank whole) taken
@@ -61,7 +61,7 @@ pub record IsUpLoop (w : Setting) (seeds : ℕ → Option Seed) (rank : ℕ → 
   pub ranks_whole : HasRanks rank whole
   pub count : length taken ≡ turns
 
--- after so many turns upwards, and so many downwards (own rule)
+-- after so many turns upwards, and so many downwards
 pub record IsWholeLoop (w : Setting) (seeds : ℕ → Option Seed) (rank : ℕ → ℕ) (touched : List ℕ) (before f : ℕ → Option Entry) (changed : ℕ → Bool) (whole : Queue) (turns_up turns : ℕ) : Type 0 where
   pub earlier : List ℕ
   pub taken : List ℕ
@@ -70,17 +70,17 @@ pub record IsWholeLoop (w : Setting) (seeds : ℕ → Option Seed) (rank : ℕ �
   pub count_earlier : length earlier ≡ turns_up
   pub count : length taken ≡ turns
 
--- the same of what a table and changes of it stand for with the paths of a pool: after so many turns upwards (own rule)
+-- the same of what a table and changes of it stand for with the paths of a pool: after so many turns upwards
 abbrev pub HasGoneUp : Setting → (ℕ → ℕ) → List ℕ → PathPool → SeedIds → Table → Overlay → Queue → Queue → ℕ → Type 0
 HasGoneUp w rank touched pool seeds table overlay up whole turns =
     IsUpLoop w (seeds_of pool seeds) rank touched (table_routing pool table) (routing_of pool table overlay) (has_change overlay) up whole turns
 
--- and after so many upwards and so many downwards (own rule)
+-- and after so many upwards and so many downwards
 abbrev pub HasGoneDown : Setting → (ℕ → ℕ) → List ℕ → PathPool → SeedIds → Table → Overlay → Queue → ℕ → ℕ → Type 0
 HasGoneDown w rank touched pool seeds table overlay whole turns_up turns =
     IsWholeLoop w (seeds_of pool seeds) rank touched (table_routing pool table) (routing_of pool table overlay) (has_change overlay) whole turns_up turns
 
--- from the first pool on, for each AS of the graph that is changed and holds an entry at most one cell more is live, and no count has risen by more than one; no count was above 4,000,000,000, the entries are held, and the paths of the table's entries and the seeds are live (own rule)
+-- from the first pool on, for each AS of the graph that is changed and holds an entry at most one cell more is live, and no count has risen by more than one; no count was above 4,000,000,000, the entries are held, and the paths of the table's entries and the seeds are live
 pub record CanGoOn (has : ℕ → Bool) (first pool : PathPool) (seeds : SeedIds) (table : Table) (overlay : Overlay) : Type 0 where
   pub ases : List ℕ
   pub distinct : IsDistinct ases

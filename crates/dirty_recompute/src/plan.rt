@@ -17,7 +17,7 @@ ghost use Rattle.dirty_recompute.specs.Exact.{IsExact, AreEnough};
 ghost use Rattle.dirty_recompute.specs.NewRanks.{rank_of};
 ghost use Rattle.dirty_recompute.specs.Queues.{waits, HasRanks};
 ghost use Rattle.dirty_recompute.specs.Resources.{has_change, FewNewCells, IsKept, IsUndone, SameTable};
-ghost use Rattle.dirty_recompute.specs.Work.{HasGoneUp, HasGoneDown, CanGoOn};
+ghost use Rattle.dirty_recompute.specs.Work.{HasGoneDown, CanGoOn};
 
 use crate::new_ranks::NewRanks;
 use crate::queue::Queue;

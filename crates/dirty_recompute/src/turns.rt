@@ -1,6 +1,6 @@
 //! One turn of an AS: its step, and the neighbours that are to choose anew after it.
 
-ghost use Rattle.std.specs.Prelude.{◌≡◌, ◌⊎◌, ℕ, ◌+◌, true, None, Some, OnOk};
+ghost use Rattle.std.specs.Prelude.{◌≡◌, ◌⊎◌, ◌+◌, true, None, Some, OnOk};
 ghost use Rattle.net_names.specs.declared.routes.Rel.TheVariants as rel;
 ghost use Rattle.as_graph.specs.Topology.{what};
 ghost use Rattle.path_pool.specs.Pool.{IsLive};

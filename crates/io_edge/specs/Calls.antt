@@ -2,24 +2,24 @@
 use Rattle.std.specs.Prelude.{ℕ, ◌+◌, ◌-◌, ◌^◌, ◌<◌, ◌≤◌, List, All, Contains}
 use Rattle.io_edge.specs.Faults.{one_more}
 
--- The numbers of the calls that are to fail, how many calls were made, and how many faults were counted (own rule).
+-- The numbers of the calls that are to fail, how many calls were made, and how many faults were counted.
 pub record Calls : Type 0 where
   pub fails : List ℕ
   pub made : ℕ
   pub faults : ℕ
 
--- The next call is one of the list. Once the number of calls stands at its last value, none is (own rule).
+-- The next call is one of the list. Once the number of calls stands at its last value, none is.
 abbrev pub FailsNext : Calls → Type 0
 FailsNext calls = (calls.made < 2 ^ 64 - 1) × Contains calls.fails (calls.made + 1)
 
--- No number of the list is above the number of calls made (own rule).
+-- No number of the list is above the number of calls made.
 abbrev pub IsPast : Calls → Type 0
 IsPast calls = All (λ call. call ≤ calls.made) calls.fails
 
--- The calls after one more (own rule).
+-- The calls after one more.
 abbrev pub after_call : Calls → Calls
 after_call calls = record calls { made = one_more calls.made }
 
--- The calls after one more, which failed (own rule).
+-- The calls after one more, which failed.
 abbrev pub after_fault : Calls → Calls
 after_fault calls = record calls { made = one_more calls.made; faults = one_more calls.faults }

@@ -1,20 +1,20 @@
 -- How a failure is told from an answer that gives up by itself: each object counts its faults.
 use Rattle.std.specs.Prelude.{ℕ, ◌+◌, ◌-◌, ◌^◌, ◌≤◌, ◌≡◌, List, Option, nat_lt, if◌then◌else◌, OnErr, Result}
 
--- A count after one more. It is kept in 64 bits, and stays at its last value (own rule).
+-- A count after one more. It is kept in 64 bits, and stays at its last value.
 abbrev pub one_more : ℕ → ℕ
 one_more count = if nat_lt count (2 ^ 64 - 1) then count + 1 else count
 
--- The count has risen. One that stands at its last value has risen too (own rule).
+-- The count has risen. One that stands at its last value has risen too.
 abbrev pub Rose : ℕ → ℕ → Type 0
 Rose before now = one_more before ≤ now
 
--- The count of faults doesn't fall, and an error comes only where it rose (own rule).
+-- The count of faults doesn't fall, and an error comes only where it rose.
 pub record HasCause {T E : Type 0} (before now : ℕ) (result : Result T E) : Type 0 where
   pub later : before ≤ now
   pub failed : OnErr result (Rose before now)
 
--- What the names hold stays, a sound name stays sound, and the count of faults doesn't fall (own rule).
+-- What the names hold stays, a sound name stays sound, and the count of faults doesn't fall.
 pub record KeepsNames {I : Type 0} (holds : I → List ℕ → Option (List ℕ)) (is_sound : I → List ℕ → Type 0) (faults : I → ℕ) (old new : I) : Type 0 where
   pub holds_same : (name : List ℕ) → holds new name ≡ holds old name
   pub sound : (name : List ℕ) → is_sound old name → is_sound new name

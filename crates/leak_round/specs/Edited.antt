@@ -15,52 +15,52 @@ use Rattle.leak_round.specs.Announced.{is_of, announced_uses, AreAnnounced}
 use Rattle.leak_round.specs.Growth.{KeepsPaths}
 use Rattle.leak_round.specs.Limits.{IsWithinLimits}
 
--- how often an announced path of the plan of seeds after it is used (own rule)
+-- how often an announced path of the plan of seeds after it is used
 abbrev pub edited_uses : Option EditedSeeds → ℕ → ℕ
 edited_uses edited k = option_map_or (λ e. announced_uses e.announced.items k) edited 0
 
--- how often an announced path is used that another plan of seeds replaces (own rule)
+-- how often an announced path is used that another plan of seeds replaces
 abbrev pub given_up : Option EditedSeeds → List Announced → ℕ → ℕ
 given_up edited xs k = option_map_or (λ e. announced_uses xs k) edited 0
 
--- the announcements after the plan, with their paths in the pool (own rule)
+-- the announcements after the plan, with their paths in the pool
 abbrev pub announced_after : Option EditedSeeds → List Announced → List Announced
 announced_after edited xs = option_map_or (λ e. e.announced.items) edited xs
 
--- another plan of seeds has the same prefixes and is within the limits, and its announced paths stand in the pool (own rule)
+-- another plan of seeds has the same prefixes and is within the limits, and its announced paths stand in the pool
 pub record AreSeedsOf (pool : PathPool) (plan : Plan) (e : EditedSeeds) : Type 0 where
   pub prefixes : e.plan.prefixes ≡ plan.prefixes
   pub limits : IsWithinLimits e.plan
   pub announced : AreAnnounced pool e.plan e.announced.items
 
--- so it is, where there is another plan of seeds (own rule)
+-- so it is, where there is another plan of seeds
 abbrev pub AreEdited : PathPool → Plan → Option EditedSeeds → Type 0
 AreEdited pool plan edited = (e : EditedSeeds) → edited ≡ Some e → AreSeedsOf pool plan e
 
--- the announcements but that of the prefix by the AS (own rule)
+-- the announcements but that of the prefix by the AS
 abbrev pub others_of : PrefixValue → ℕ → List Announced → List Announced
 others_of prefix a xs = filter (λ x. not (is_of prefix a x)) xs
 
--- each of the announcements has one hold more, each path that was live is live and the same, at most n cells more are live, and no count rises by more than 129 (own rule)
+-- each of the announcements has one hold more, each path that was live is live and the same, at most n cells more are live, and no count rises by more than 129
 pub record AreHeldToo (old new : PathPool) (xs : List Announced) (n : ℕ) : Type 0 where
   pub holds : (k : ℕ) → holds_of new k ≡ holds_of old k + announced_uses xs k
   pub keeps : KeepsPaths old new
   pub cells : live_count new ≤ live_count old + n
   pub counts : (k : ℕ) → count_of new k ≤ count_of old k + 129
 
--- behind the announcements that were there stands one of the prefix by the first AS of the path, which stands in the pool (own rule)
+-- behind the announcements that were there stands one of the prefix by the first AS of the path, which stands in the pool
 pub record EndsWithPath (pool : PathPool) (prefix : PrefixValue) (path : List ℕ) (before after : List Announced) : Type 0 where
   pub id : PathId
   pub items : after ≡ before ++ record { prefix = prefix; asn = announcer_of path; path = id } ∷ []
   pub live : IsLive pool id.0
   pub list : list_of pool id.0 ≡ path
 
--- how many numbers the newly announced path of an edit has; none where an announcement goes (own rule)
+-- how many numbers the newly announced path of an edit has; none where an announcement goes
 abbrev pub edit_numbers : SeedEdit → ℕ
 edit_numbers (Announce prefix path) = length path
 edit_numbers (Withdraw prefix a) = 0
 
--- this is another plan of seeds, with its announced paths in the pool, for an edit of the AS by which a path of so many numbers is announced (own rule)
+-- this is another plan of seeds, with its announced paths in the pool, for an edit of the AS by which a path of so many numbers is announced
 pub record AreMade (old new : PathPool) (plan after : Plan) (a n : ℕ) (e : EditedSeeds) : Type 0 where
   pub seeds : AreSeedsOf new plan e
   pub plan_is : e.plan ≡ after
@@ -69,19 +69,19 @@ pub record AreMade (old new : PathPool) (plan after : Plan) (a n : ℕ) (e : Edi
   pub few : e.numbers ≤ 64
   pub held : AreHeldToo old new e.announced.items e.numbers
 
--- the plan of seeds after another one has taken its place, where there is one (own rule)
+-- the plan of seeds after another one has taken its place, where there is one
 abbrev pub seeds_after : Option EditedSeeds → Plan → Plan
 seeds_after edited plan = option_map_or (λ e. e.plan) edited plan
 
--- the plan of seeds after the edit, where there is one (own rule)
+-- the plan of seeds after the edit, where there is one
 abbrev pub plan_edited : Option SeedEdit → Plan → Plan
 plan_edited edit plan = option_map_or (λ e. edited plan e) edit plan
 
--- how many numbers the newly announced path has, where there is one (own rule)
+-- how many numbers the newly announced path has, where there is one
 abbrev pub new_numbers : Option EditedSeeds → ℕ
 new_numbers edited = option_map_or (λ e. e.numbers) edited 0
 
--- the seeds after an edit, where there is one: its announced paths stand in the pool, each with a hold more, and each path that was live is live and the same (own rule)
+-- the seeds after an edit, where there is one: its announced paths stand in the pool, each with a hold more, and each path that was live is live and the same
 pub record IsEdited (old new : PathPool) (plan : Plan) (edit : Option SeedEdit) (o : Option EditedSeeds) : Type 0 where
   pub seeds : AreEdited new plan o
   pub plan_is : seeds_after o plan ≡ plan_edited edit plan
@@ -93,6 +93,6 @@ pub record IsEdited (old new : PathPool) (plan : Plan) (edit : Option SeedEdit) 
   pub cells : live_count new ≤ live_count old + new_numbers o
   pub counts : (k : ℕ) → count_of new k ≤ count_of old k + 129
 
--- the prefix of which an announcement is edited, if one is (own rule)
+-- the prefix of which an announcement is edited, if one is
 abbrev pub prefix_edited : Option EditedSeeds → Option PrefixValue
 prefix_edited edited = option_map (λ e. e.prefix) edited

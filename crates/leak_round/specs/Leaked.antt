@@ -21,12 +21,12 @@ leaked_of Customer h = None
 leaked_of Peer h = Some (record { path = h.path; otc = h.otc })
 leaked_of Provider h = Some (record { path = h.path; otc = h.otc })
 
--- what a leaker puts in of what it holds (own rule)
+-- what a leaker puts in of what it holds
 abbrev pub leaked_by : Option Held → Option SeedHeld
 leaked_by None = None
 leaked_by (Some h) = leaked_of h.class h
 
--- the seed that an AS has already, or what it leaks if it leaks (own rule)
+-- the seed that an AS has already, or what it leaks if it leaks
 abbrev pub own_or_leaked : Option SeedHeld → Bool → Option Held → Option SeedHeld
 own_or_leaked (Some s) leaks held = Some s
 own_or_leaked None false held = None

@@ -7,14 +7,14 @@ use Rattle.route_choice.specs.Tables.{seed_at}
 use Rattle.leak_round.specs.declared.announced.Announced.{Announced}
 use Rattle.leak_round.specs.Announced.{own_path, own_seed}
 
--- the seeds are those that the announcements of the prefix make (own rule)
+-- the seeds are those that the announcements of the prefix make
 abbrev pub AreOwn : List Announced → PrefixValue → SeedIds → Type 0
 AreOwn announced prefix seeds = (a : ℕ) → seed_at seeds a ≡ option_map own_seed (own_path announced prefix a)
 
--- of the first prefixes of the plan, in their order, these are the seeds that the announcements make (own rule)
+-- of the first prefixes of the plan, in their order, these are the seeds that the announcements make
 abbrev pub AreOwnSeeds : Plan → List Announced → List SeedIds → Type 0
 AreOwnSeeds plan announced own = (i : ℕ) (prefix : PrefixValue) (seeds : SeedIds) → slice_get (prefixes_of plan) i ≡ Some prefix → slice_get own i ≡ Some seeds → AreOwn announced prefix seeds
 
--- of each prefix but the edited one, if one is edited, the same is announced (own rule)
+-- of each prefix but the edited one, if one is edited, the same is announced
 abbrev pub AreOthersKept : Option PrefixValue → List Announced → List Announced → Type 0
 AreOthersKept edited before after = (prefix : PrefixValue) → edited ≢ Some prefix → (a : ℕ) → own_path after prefix a ≡ own_path before prefix a

@@ -30,7 +30,7 @@ use Rattle.leak_round.specs.Growth.{KeepsPaths, GrowsBy}
 use Rattle.leak_round.specs.Overlays.{is_at, change_in, laid_in, held_of, table_in, changes_uses, changes_count, IsListed, AreChangesOf}
 use Rattle.leak_round.specs.Tables.{kept_in, entry_uses, AreRoundsFull}
 
--- a table of the prefix can be planned: it is right where no AS of the list is, and entries and seeds stand where they may and are live (own rule)
+-- a table of the prefix can be planned: it is right where no AS of the list is, and entries and seeds stand where they may and are live
 pub record CanPlanTable (w : Setting) (g : Topology) (prefix : PrefixValue) (seeds : SeedIds) (ases : List ℕ) (pool : PathPool) (t : Table) : Type 0 where
   pub prefix_is : prefix_of t ≡ prefix
   pub entries : (b : ℕ) → has g b ≡ false → occurs b ases ≡ false → held_at t b ≡ None
@@ -40,7 +40,7 @@ pub record CanPlanTable (w : Setting) (g : Topology) (prefix : PrefixValue) (see
   pub entries_live : AreEntriesLive pool t
   pub held : (k : ℕ) → table_uses t k ≤ holds_of pool k
 
--- the changes of a table are planned: with them in place it stands for the one stable routing, and they are paid for (own rule)
+-- the changes of a table are planned: with them in place it stands for the one stable routing, and they are paid for
 pub record IsTablePlanned (w : Setting) (g : Topology) (seeds : SeedIds) (ases : List ℕ) (pool pool' : PathPool) (t t' : Table) (first last : ℕ) (o : Overlay) : Type 0 where
   pub exact : IsExact w (seeds_of pool seeds) (table_routing pool t) (routing_of pool' t' o) (has_change o)
   pub enough : AreEnough (what g) (λ b. occurs b ases) (has_change o) first last
@@ -51,7 +51,7 @@ pub record IsTablePlanned (w : Setting) (g : Topology) (seeds : SeedIds) (ases :
   pub grows : GrowsBy pool pool' 150000
   pub cells : live_count pool' ≤ live_count pool + length (places_of o)
 
--- one table has perhaps more room, and the others are as before (own rule)
+-- one table has perhaps more room, and the others are as before
 pub record IsRoomed (old new : RoundTables) (prefix : PrefixValue) : Type 0 where
   pub was : Table
   pub now : Table
@@ -59,7 +59,7 @@ pub record IsRoomed (old new : RoundTables) (prefix : PrefixValue) : Type 0 wher
   pub puts : PutsTable old new prefix now
   pub same : SameTable was now
 
--- so it is in a round, and the tables of the other rounds are as before (own rule)
+-- so it is in a round, and the tables of the other rounds are as before
 pub record AreRoomed (old new : List RoundTables) (round : ℕ) (prefix : PrefixValue) : Type 0 where
   pub was : Table
   pub now : Table
@@ -68,31 +68,31 @@ pub record AreRoomed (old new : List RoundTables) (round : ℕ) (prefix : Prefix
   pub same : SameTable was now
   pub others : (r : ℕ) (p : PrefixValue) → (r ≢ round) ⊎ (p ≢ prefix) → table_in new r p ≡ table_in old r p
 
--- all tables have the entries that they had (own rule)
+-- all tables have the entries that they had
 pub record AreSame (old new : List RoundTables) : Type 0 where
   pub count : length new ≡ length old
   pub entries : (round : ℕ) (prefix : PrefixValue) (a : ℕ) → held_of new round prefix a ≡ held_of old round prefix a
   pub uses : (k : ℕ) → entry_uses new k ≡ entry_uses old k
   pub full : (pool : PathPool) (plan : Plan) → AreRoundsFull pool plan old → AreRoundsFull pool plan new
 
--- changes of the table of the prefix in the round are planned, perhaps none (own rule)
+-- changes of the table of the prefix in the round are planned, perhaps none
 abbrev pub is_planned : List Change → ℕ → PrefixValue → Bool
 is_planned xs round prefix = list_any (is_at round prefix) xs
 
--- the AS has a change for the prefix in the round (own rule)
+-- the AS has a change for the prefix in the round
 abbrev pub is_changed_in : List Change → ℕ → PrefixValue → ℕ → Bool
 is_changed_in xs round prefix a = is_some (change_in xs round prefix a)
 
--- with the changes in place the table is stable for its seeds, and where it has a change it holds something else than before (own rule)
+-- with the changes in place the table is stable for its seeds, and where it has a change it holds something else than before
 pub record IsDone (w : Setting) (after : Plan) (round : ℕ) (prefix : PrefixValue) (old before now : ℕ → Option Entry) (changed : ℕ → Bool) : Type 0 where
   pub stable : IsStable w (seeds_in after round prefix before) now
   pub differs : (a : ℕ) → changed a ≡ true → now a ≢ old a
 
--- the edit as it is planned so far (own rule)
+-- the edit as it is planned so far
 abbrev pub course_of : Plan → Plan → (PrefixValue → ℕ → Bool) → PathPool → List RoundTables → List Change → Course
 course_of plan after touched pool rounds xs = record { plan = plan; after = after; old = kept_in pool rounds; new = laid_in pool rounds xs; touched = touched; changed = is_changed_in xs }
 
--- the changes so far: each table of which changes are planned is done, and for each two steps there is a triple of such a table that counts (own rule)
+-- the changes so far: each table of which changes are planned is done, and for each two steps there is a triple of such a table that counts
 pub record ArePlanned (w : PrefixValue → Setting) (g : Topology) (touched : PrefixValue → ℕ → Bool) (plan after : Plan) (pool : PathPool) (rounds : List RoundTables) (xs : List Change) (first last : ℕ) : Type 0 where
   pub changes : AreChangesOf rounds xs
   pub done : (round : ℕ) (prefix : PrefixValue) → is_planned xs round prefix ≡ true → IsDone (w prefix) after round prefix (kept_in pool rounds round prefix) (laid_in pool rounds xs (round - 1) prefix) (laid_in pool rounds xs round prefix) (is_changed_in xs round prefix)
@@ -102,20 +102,20 @@ pub record ArePlanned (w : PrefixValue → Setting) (g : Topology) (touched : Pr
   pub counted : (x : ℕ × (PrefixValue × ℕ)) → StandsIn x triples → IsCountedIn (what g) (course_of plan after touched pool rounds xs) x
   pub enough : last ≤ first + 2 * length triples
 
--- the pool keeps its paths and has the holds of the new changes, and for each changed entry at most one cell more is live (own rule)
+-- the pool keeps its paths and has the holds of the new changes, and for each changed entry at most one cell more is live
 pub record IsPaid (old new : PathPool) (xs ys : List Change) (tables : ℕ) : Type 0 where
   pub keeps : KeepsPaths old new
   pub holds : (k : ℕ) → holds_of new k + changes_uses xs k ≡ holds_of old k + changes_uses ys k
   pub grows : GrowsBy old new (150000 * tables)
   pub cells : live_count new + changes_count xs ≤ live_count old + changes_count ys
 
--- the pool has the holds of the new changes, and what is live still keeps its path (own rule)
+-- the pool has the holds of the new changes, and what is live still keeps its path
 pub record IsCutOff (old new : PathPool) (xs ys : List Change) : Type 0 where
   pub holds : (k : ℕ) → holds_of new k + changes_uses xs k ≡ holds_of old k + changes_uses ys k
   pub lists : (k : ℕ) → IsLive old k → IsLive new k → list_of new k ≡ list_of old k
   pub limit : limit_of new ≡ limit_of old
 
--- the tables can be planned: announced paths stand in the pool for both plans of seeds, announcing ASes are there, and each table is right but at touched ASes (own rule)
+-- the tables can be planned: announced paths stand in the pool for both plans of seeds, announcing ASes are there, and each table is right but at touched ASes
 pub record CanPlan (w : PrefixValue → Setting) (g : Topology) (touched : PrefixValue → ℕ → Bool) (plan after : Plan) (xs ys : List Announced) (pool : PathPool) (rounds : List RoundTables) : Type 0 where
   pub prefixes : (prefix : PrefixValue) → has_prefix after prefix ≡ has_prefix plan prefix
   pub announced : AreAnnounced pool plan xs
@@ -126,12 +126,12 @@ pub record CanPlan (w : PrefixValue → Setting) (g : Topology) (touched : Prefi
   pub right : (round : ℕ) (prefix : PrefixValue) (b : ℕ) → 1 ≤ round → round ≤ length rounds → IsTrue (has_prefix plan prefix) → has g b ≡ true → touched prefix b ≡ false → IsRight (w prefix) (seeds_in plan round prefix (kept_in pool rounds (round - 1) prefix)) (kept_in pool rounds round prefix) b
   pub only_ases : (prefix : PrefixValue) (b : ℕ) → (w prefix).has b ≡ has g b
 
--- of so many rounds, and no later one, the changes of each table are planned (own rule)
+-- of so many rounds, and no later one, the changes of each table are planned
 pub record AreRoundsPlanned (plan : Plan) (xs : List Change) (rounds : ℕ) : Type 0 where
   pub only : (round : ℕ) (prefix : PrefixValue) → is_planned xs round prefix ≡ true → round ≤ rounds
   pub whole : (round : ℕ) (prefix : PrefixValue) → 1 ≤ round → round ≤ rounds → IsTrue (has_prefix plan prefix) → is_planned xs round prefix ≡ true
 
--- it is the turn of the table of the prefix in the round: its changes are not planned yet, those of its table in the round before are, and none of a later round (own rule)
+-- it is the turn of the table of the prefix in the round: its changes are not planned yet, those of its table in the round before are, and none of a later round
 pub record IsTurn (plan : Plan) (rounds : ℕ) (xs : List Change) (round : ℕ) (prefix : PrefixValue) : Type 0 where
   pub from : 1 ≤ round
   pub to : round ≤ rounds
@@ -140,13 +140,13 @@ pub record IsTurn (plan : Plan) (rounds : ℕ) (xs : List Change) (round : ℕ) 
   pub latest : (r : ℕ) (p : PrefixValue) → is_planned xs r p ≡ true → r ≤ round
   pub before : 2 ≤ round → is_planned xs (round - 1) prefix ≡ true
 
--- the changes of one table more are planned (own rule)
+-- the changes of one table more are planned
 pub record IsAdded (old new : List Change) (round : ℕ) (prefix : PrefixValue) : Type 0 where
   pub this : is_planned new round prefix ≡ true
   pub kept : (r : ℕ) (p : PrefixValue) → is_planned old r p ≡ true → is_planned new r p ≡ true
   pub only : (r : ℕ) (p : PrefixValue) → is_planned new r p ≡ true → (is_planned old r p ≡ true) ⊎ ((r ≡ round) × (p ≡ prefix))
 
--- the changes of the table of the prefix in the round stand behind the others: it is planned for these seeds and ASes, and the other tables are as before (own rule)
+-- the changes of the table of the prefix in the round stand behind the others: it is planned for these seeds and ASes, and the other tables are as before
 pub record IsTableAdded (w : Setting) (g : Topology) (seeds : SeedIds) (ases : List ℕ) (pool pool' : PathPool) (rounds rounds' : List RoundTables) (xs ys : List Change) (round : ℕ) (prefix : PrefixValue) (first last : ℕ) : Type 0 where
   pub overlay : Overlay
   pub items : ys ≡ xs ++ record { round = round; prefix = prefix; overlay = overlay } ∷ []

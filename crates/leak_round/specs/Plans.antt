@@ -15,44 +15,44 @@ use Rattle.leak_round.specs.Edited.{edited_uses, AreEdited}
 use Rattle.leak_round.specs.Overlays.{change_in, laid_in, changes_uses, changes_count, AreChangesOf, AreFew}
 use Rattle.leak_round.specs.Rounds.{is_open, plan_of, pool_of, round_count, kept, uses_of}
 
--- what the plan has at the AS for the prefix in the round is a change (own rule)
+-- what the plan has at the AS for the prefix in the round is a change
 abbrev pub is_changed : RoundsPlan → ℕ → PrefixValue → ℕ → Bool
 is_changed p round prefix a = is_some (change_in p.changes.items round prefix a)
 
--- what an AS holds of a prefix in a round with the plan's changes in place (own rule)
+-- what an AS holds of a prefix in a round with the plan's changes in place
 abbrev pub kept_with : Rounds → RoundsPlan → ℕ → PrefixValue → ℕ → Option Entry
 kept_with r p round prefix a = laid_in r.pool r.tables.items p.changes.items round prefix a
 
--- who announces what, and who leaks in which round, after the plan (own rule)
+-- who announces what, and who leaks in which round, after the plan
 abbrev pub plan_after : Rounds → RoundsPlan → Plan
 plan_after r p = option_map_or (λ e. e.plan) p.edited r.plan
 
--- the AS whose announcement the plan edits, if it edits one (own rule)
+-- the AS whose announcement the plan edits, if it edits one
 abbrev pub asn_edited : RoundsPlan → Option ℕ
 asn_edited p = option_map (λ e. e.asn) p.edited
 
--- how many numbers the newly announced path has (own rule)
+-- how many numbers the newly announced path has
 abbrev pub numbers_added : RoundsPlan → ℕ
 numbers_added p = option_map_or (λ e. e.numbers) p.edited 0
 
--- how many cells were live before the plan (own rule)
+-- how many cells were live before the plan
 abbrev pub cells_before : RoundsPlan → ℕ
 cells_before p = p.before
 
--- how many entries changed, as it is told (own rule)
+-- how many entries changed, as it is told
 abbrev pub count_told : RoundsDone → ℕ
 count_told d = d.count
 
--- the ASes with a changed entry of a round, as they are told; none of a round that is not there (own rule)
+-- the ASes with a changed entry of a round, as they are told; none of a round that is not there
 abbrev pub ases_told : RoundsDone → ℕ → List ℕ
 ases_told d zero = []
 ases_told d (suc before) = option_map_or (λ v. v.items) (slice_get d.changed.items before) []
 
--- the AS has a changed entry of the round, or its announcement is edited (own rule)
+-- the AS has a changed entry of the round, or its announcement is edited
 abbrev pub IsTold : RoundsPlan → ℕ → ℕ → Type 0
 IsTold p round a = ((prefix : PrefixValue) × IsTrue (is_changed p round prefix a)) ⊎ (asn_edited p ≡ Some a)
 
--- the plan is the open one of the rounds: the pool has just the holds of both, each change has its table and differs from what is kept, and what is told of the changes is so (own rule)
+-- the plan is the open one of the rounds: the pool has just the holds of both, each change has its table and differs from what is kept, and what is told of the changes is so
 pub record IsOpenPlan (r : Rounds) (p : RoundsPlan) : Type 0 where
   pub planned : is_open r ≡ true
   pub holds : (k : ℕ) → holds_of (pool_of r) k ≡ uses_of r k + (changes_uses p.changes.items k + edited_uses p.edited k)
@@ -64,6 +64,6 @@ pub record IsOpenPlan (r : Rounds) (p : RoundsPlan) : Type 0 where
   pub told : (round : ℕ) → 1 ≤ round → round ≤ round_count r → ListsRising nat_cmp (IsTold p round) (ases_told p.done round)
   pub cells : live_count (pool_of r) ≤ cells_before p + count_told p.done + numbers_added p
 
--- the edit as the plan has it: the plans of seeds, and what is kept before it and with it (own rule)
+-- the edit as the plan has it: the plans of seeds, and what is kept before it and with it
 abbrev pub course : Rounds → RoundsPlan → (PrefixValue → ℕ → Bool) → Course
 course r p touched = record { plan = plan_of r; after = plan_after r p; old = kept r; new = kept_with r p; touched = touched; changed = is_changed p }

@@ -9,30 +9,30 @@ use Rattle.leak_round.specs.declared.rounds.Rounds.{Rounds}
 use Rattle.leak_round.specs.Announced.{announced_uses}
 use Rattle.leak_round.specs.Tables.{kept_in, entry_uses}
 
--- who announces what, and who leaks in which round (own rule)
+-- who announces what, and who leaks in which round
 abbrev pub plan_of : Rounds → Plan
 plan_of r = r.plan
 
--- a plan of changes is open (own rule)
+-- a plan of changes is open
 abbrev pub is_open : Rounds → Bool
 is_open r = r.planned
 
--- the pool in which the paths stand (own rule)
+-- the pool in which the paths stand
 abbrev pub pool_of : Rounds → PathPool
 pool_of r = r.pool
 
--- how many rounds there are (own rule)
+-- how many rounds there are
 abbrev pub round_count : Rounds → ℕ
 round_count r = length r.tables.items
 
--- what an AS holds of a prefix in a round; nothing in a round that is not there (own rule)
+-- what an AS holds of a prefix in a round; nothing in a round that is not there
 abbrev pub kept : Rounds → ℕ → PrefixValue → ℕ → Option Entry
 kept r round prefix a = kept_in r.pool r.tables.items round prefix a
 
--- the announcements, with their paths in the pool (own rule)
+-- the announcements, with their paths in the pool
 abbrev pub announced_of : Rounds → List Announced
 announced_of r = r.announced.items
 
--- how many entries of the tables and how many announcements have the path (own rule)
+-- how many entries of the tables and how many announcements have the path
 abbrev pub uses_of : Rounds → ℕ → ℕ
 uses_of r k = entry_uses r.tables.items k + announced_uses r.announced.items k

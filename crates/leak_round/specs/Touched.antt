@@ -5,10 +5,10 @@ use Rattle.net_names.specs.Prefixes.{PrefixValue}
 use Rattle.net_names.specs.contracts.prefixes.PrefixPartialEq.TheImpl as same_prefix
 use Rattle.leak_round.specs.declared.touched.Touched.{Touched}
 
--- the touched ASes of a prefix (own rule)
+-- the touched ASes of a prefix
 abbrev pub ases_in : List (PrefixValue × ℕ) → PrefixValue → List ℕ
 ases_in pairs prefix = map (λ x. x.1) (filter (λ x. (same_prefix.ghosts).eq x.0 prefix) pairs)
 
--- the AS is touched for the prefix (own rule)
+-- the AS is touched for the prefix
 abbrev pub touches : Touched → PrefixValue → ℕ → Bool
 touches t prefix a = occurs a (ases_in t.pairs.items prefix)

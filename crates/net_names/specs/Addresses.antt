@@ -19,15 +19,15 @@ pub record AddrValue : Type 0 where
 abbrev pub FitsFamily : Family → ℕ → Type 0
 FitsFamily family bits = bits < 2 ^ width family
 
--- the address of that family and number, where the number fits the family (own rule)
+-- the address of that family and number, where the number fits the family
 abbrev pub addr_at : Family → ℕ → Option AddrValue
 addr_at family bits = if nat_lt bits (2 ^ width family) then Some (record { family = family; bits = bits }) else None
 
--- IPv4 comes before IPv6 (own rule)
+-- IPv4 comes before IPv6
 abbrev pub family_place : Family → ℕ
 family_place V4 = 0
 family_place V6 = 1
 
--- addresses are ordered by family, and then by number (own rule)
+-- addresses are ordered by family, and then by number
 abbrev pub addr_cmp : AddrValue → AddrValue → Ordering
 addr_cmp a b = ordering_then (nat_cmp (family_place a.family) (family_place b.family)) (nat_cmp a.bits b.bits)

@@ -8,7 +8,7 @@ use Rattle.net_names.specs.Prefixes.{PrefixValue}
 abbrev pub first_bits : Family → ℕ → ℕ → ℕ
 first_bits family addr bits = addr / 2 ^ (width family - bits)
 
--- both are of one family (own rule)
+-- both are of one family
 abbrev pub same_family : Family → Family → Bool
 same_family f g = family_place f == family_place g
 

@@ -8,15 +8,15 @@ use Rattle.net_names.specs.declared.routes.Rel.{Rel}
 use Rattle.net_names.specs.declared.routes.Rel.TheVariants.{Customer, Peer, Provider}
 use Rattle.net_names.specs.contracts.routes.Rel as rel
 
--- pairs of numbers are ordered by the first, and where it is the same by the second (own rule)
+-- pairs of numbers are ordered by the first, and where it is the same by the second
 abbrev pub pair_cmp : ℕ × ℕ → ℕ × ℕ → Ordering
 pair_cmp a b = ordering_then (nat_cmp a.0 b.0) (nat_cmp a.1 b.1)
 
--- at the pair of a lower and a higher AS stands what the higher one is to the lower one (own rule)
+-- at the pair of a lower and a higher AS stands what the higher one is to the lower one
 abbrev pub LinkMap : Type 0
 LinkMap = map.FinMap pair_cmp Rel
 
--- how such a map is stored as a value (own rule)
+-- how such a map is stored as a value
 abbrev pub link_map_code : Coded LinkMap
 link_map_code = map.code (coded× coded_ℕ coded_ℕ) rel.the_row.coded
 
@@ -26,10 +26,10 @@ converse Customer = Provider
 converse Peer = Peer
 converse Provider = Customer
 
--- what b is to a, where they have a link; an AS has none with itself (own rule)
+-- what b is to a, where they have a link; an AS has none with itself
 abbrev pub between : LinkMap → ℕ → ℕ → Option Rel
 between links a b = if nat_lt a b then map.get links (a, b) else (if nat_lt b a then option_map converse (map.get links (b, a)) else None)
 
--- b is this to a, in place of what it was, and each other pair stays (own rule)
+-- b is this to a, in place of what it was, and each other pair stays
 abbrev pub with_relation : LinkMap → ℕ → ℕ → Rel → LinkMap
 with_relation links a b r = if nat_lt a b then map.insert links (a, b) r else map.insert links (b, a) (converse r)

@@ -13,7 +13,7 @@ pub record VrpValue : Type 0 where
   pub max : ℕ
   pub asn : ℕ
 
--- stored as the triple of its fields (own rule)
+-- stored as the triple of its fields
 abbrev pub vrp_code : Coded VrpValue
 vrp_code =
     code_by (PrefixValue × (ℕ × ℕ)) (coded× prefix_code (coded× coded_ℕ coded_ℕ))
@@ -32,6 +32,6 @@ pub record IsVrp (f : Family) (a l m : ℕ) : Type 0 where
 abbrev pub vrp_at : PrefixValue → ℕ → ℕ → Option VrpValue
 vrp_at p max asn = if nat_lt max p.len || nat_lt (width p.family) max then None else Some (record { prefix = p; max = max; asn = asn })
 
--- payloads are ordered by prefix, then by maximum length, then by number (own rule)
+-- payloads are ordered by prefix, then by maximum length, then by number
 abbrev pub vrp_cmp : VrpValue → VrpValue → Ordering
 vrp_cmp v w = ordering_then (prefix_cmp v.prefix w.prefix) (ordering_then (nat_cmp v.max w.max) (nat_cmp v.asn w.asn))

@@ -14,7 +14,7 @@ pub record PrefixValue : Type 0 where
   pub addr : ℕ
   pub len : ℕ
 
--- stored as the triple of its fields (own rule)
+-- stored as the triple of its fields
 abbrev pub prefix_code : Coded PrefixValue
 prefix_code =
     code_by (Family × (ℕ × ℕ)) (coded× family.the_row.coded (coded× coded_ℕ coded_ℕ))
@@ -26,12 +26,12 @@ pub record IsPrefix (f : Family) (a l : ℕ) : Type 0 where
   pub short : l ≤ width f
   pub clear : a % 2 ^ (width f - l) ≡ 0
 
--- the prefix of that family, address and length, where they are one (own rule)
+-- the prefix of that family, address and length, where they are one
 abbrev pub prefix_at : Family → ℕ → ℕ → Option PrefixValue
 prefix_at family addr len =
     if nat_lt addr (2 ^ width family) && (nat_le len (width family) && (addr % 2 ^ (width family - len) == 0))
     then Some (record { family = family; addr = addr; len = len }) else None
 
--- prefixes are ordered by family, then by address, then by length (own rule)
+-- prefixes are ordered by family, then by address, then by length
 abbrev pub prefix_cmp : PrefixValue → PrefixValue → Ordering
 prefix_cmp p q = ordering_then (nat_cmp (family_place p.family) (family_place q.family)) (ordering_then (nat_cmp p.addr q.addr) (nat_cmp p.len q.len))

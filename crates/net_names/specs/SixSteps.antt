@@ -1,9 +1,9 @@
--- An IPv6 address as one number, group by group (own rule; private clauses cite it, and it is proved to be what the grammar says).
+-- An IPv6 address as one number, group by group (proved to be what the grammar says).
 use Rattle.std.specs.Prelude.{ℕ, ◌+◌, ◌-◌, ◌*◌, ◌^◌, ◌==◌, nat_lt, List, Option, Some, None, if◌then◌else◌, fold, replicate}
 use Rattle.net_names.specs.Steps.{◌>>=◌}
 use Rattle.net_names.specs.Texts.{cut_pair, groups_of, groups_on}
 
--- the number with so many groups of 0 behind it (own rule)
+-- the number with so many groups of 0 behind it
 abbrev pub zeros : ℕ → ℕ → ℕ
 zeros x k = fold (λ n g. n * 2 ^ 16 + g) x (replicate k 0)
 

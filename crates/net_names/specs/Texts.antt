@@ -10,21 +10,21 @@ use Rattle.net_names.specs.Addresses.{width, AddrValue}
 use Rattle.net_names.specs.Prefixes.{PrefixValue, prefix_at}
 use Rattle.net_names.specs.Steps.{◌>>=◌, either}
 
--- the text before the first such byte, and the text after it, where the byte stands in the text (own rule)
+-- the text before the first such byte, and the text after it, where the byte stands in the text
 abbrev pub cut_at : ℕ → List ℕ → Option (List ℕ × List ℕ)
 cut_at byte text = option_map (λ i. (take i text, drop (i + 1) text)) (position (λ b. b == byte) text)
 
--- the parts of the text between such bytes (own rule)
+-- the parts of the text between such bytes
 abbrev pub fields : ℕ → List ℕ → List (List ℕ)
 fields byte = slice_split (λ b. b == byte)
 
--- the number that the text writes in the radix, where it is one digit or more, up to `most` (own rule)
+-- the number that the text writes in the radix, where it is one digit or more, up to `most`
 unfoldable pub numeral : ℕ → ℕ → List ℕ → Option ℕ
 numeral radix most text =
     if nat_lt 0 (length text) && (nat_le (length text) most && list_all (λ c. is_digit c radix) text)
     then Some (digits_value radix text) else None
 
--- the number that 1 to 3 decimal digits write, without a leading zero unless it is the digit 0, where it is at most the limit (own rule)
+-- the number that 1 to 3 decimal digits write, without a leading zero unless it is the digit 0, where it is at most the limit
 abbrev pub plain_at_most : ℕ → List ℕ → Option ℕ
 plain_at_most limit text = do
   n ← numeral 10 3 text
@@ -48,15 +48,15 @@ v4_of text = do
   d ← plain_at_most 255 y.1
   Some (a * 2 ^ 24 + b * 2 ^ 16 + c * 2 ^ 8 + d)
 
--- the place of the first such byte that another one follows (own rule)
+-- the place of the first such byte that another one follows
 abbrev pub pair_place : ℕ → List ℕ → Option ℕ
 pair_place byte text = position (λ p. (p.0 == byte) && (p.1 == byte)) (zip text (drop 1 text))
 
--- what stands before the first pair of such bytes, and what stands after it (own rule)
+-- what stands before the first pair of such bytes, and what stands after it
 abbrev pub cut_pair : ℕ → List ℕ → Option (List ℕ × List ℕ)
 cut_pair byte text = option_map (λ i. (take i text, drop (i + 2) text)) (pair_place byte text)
 
--- all values of the list, where each is there (own rule)
+-- all values of the list, where each is there
 abbrev pub all_some : {A : Type 0} → List (Option A) → Option (List A)
 all_some [] = Some []
 all_some (o ∷ os) = do
@@ -73,7 +73,7 @@ groups_of (b ∷ bs) = all_some (map (numeral 16 4) (fields 58 (b ∷ bs)))
 abbrev pub bits_of_groups : List ℕ → ℕ
 bits_of_groups = fold (λ n g. n * 2 ^ 16 + g) 0
 
--- a number of so many groups with these groups behind it, and how many groups that makes, where they are eight at most (own rule)
+-- a number of so many groups with these groups behind it, and how many groups that makes, where they are eight at most
 abbrev pub groups_on : ℕ → ℕ → Option (List ℕ) → Option (ℕ × ℕ)
 groups_on bits count read = do
   gs ← read
@@ -97,7 +97,7 @@ v6_groups_of text = groups_at text (cut_pair 58 text)
 unfoldable pub v6_of : List ℕ → Option ℕ
 v6_of text = option_map bits_of_groups (v6_groups_of text)
 
--- the places of the eight groups of an IPv6 address (own rule)
+-- the places of the eight groups of an IPv6 address
 abbrev pub eight_places : List ℕ
 eight_places = 0 ∷ 1 ∷ 2 ∷ 3 ∷ 4 ∷ 5 ∷ 6 ∷ 7 ∷ []
 
@@ -109,15 +109,15 @@ groups bits = map (λ i. bits / 2 ^ (16 * (7 - i)) % 2 ^ 16) eight_places
 abbrev pub hex_text : List ℕ → List ℕ
 hex_text gs = join_with_byte 58 (map (digits 16 false) gs)
 
--- how many groups of 0 the list begins with (own rule)
+-- how many groups of 0 the list begins with
 abbrev pub zeros_before : List ℕ → ℕ
 zeros_before gs = unwrap_or (position (λ g. not (g == 0)) gs) (length gs)
 
--- how many groups of 0 stand together from this place on (own rule)
+-- how many groups of 0 stand together from this place on
 abbrev pub zeros_at : List ℕ → ℕ → ℕ
 zeros_at gs i = zeros_before (drop i gs)
 
--- the first place whose number no other number of the list exceeds (own rule)
+-- the first place whose number no other number of the list exceeds
 abbrev pub first_greatest : List ℕ → ℕ
 first_greatest ns = position_or_len (λ n. list_all (λ m. nat_le m n) ns) ns
 
@@ -166,11 +166,11 @@ prefix_of text = do
   l ← plain_at_most (width a.family) p.1
   prefix_at a.family a.bits l
 
--- what stands after these bytes, where the text begins with them (own rule)
+-- what stands after these bytes, where the text begins with them
 abbrev pub after : List ℕ → List ℕ → Option (List ℕ)
 after front text = if starts_with nat_eq text front then Some (drop (length front) text) else None
 
--- the number of a payload, at most 4294967295, that 1 to 10 decimal digits write, before which the letters `AS` may stand (own rule)
+-- the number of a payload, at most 4294967295, that 1 to 10 decimal digits write, before which the letters `AS` may stand
 unfoldable pub vrp_asn_of : List ℕ → Option ℕ
 vrp_asn_of text = do
   n ← numeral 10 10 (unwrap_or (after (65 ∷ 83 ∷ []) text) text)

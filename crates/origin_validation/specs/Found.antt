@@ -6,7 +6,7 @@ use Rattle.roa_table.specs.Sets.{Payloads}
 use Rattle.origin_validation.specs.Judging.{state_of}
 use Rattle.origin_validation.specs.declared.known.Found.{Found}
 
--- the prefix and the origin of a state that is kept (own rule)
+-- the prefix and the origin of a state that is kept
 abbrev pub route_of : Found → PrefixValue × ℕ
 route_of f = (f.prefix, f.origin)
 

@@ -14,7 +14,7 @@ use Rattle.policy_kinds.specs.declared.kind.Kind.{Kind}
 use Rattle.policy_kinds.specs.declared.kind.Kind.TheVariants.{Plain, DropInvalid, PreferValid, ProviderFirst, Otc, DropInvalidOtc}
 use Rattle.policy_kinds.specs.declared.rows.Row.{Row}
 
--- the row of the plain kind. A row has the number under which the ASes of a kind are counted; the places of peers and of providers in its order, in which customers have place 0 (Gao and Rexford 2001, Guideline A, has customers first; the rest is an own rule); whether it takes no offer whose state is Invalid, and whether it puts Valid offers of a class before the others (RFC 6811, section 3); and whether it marks routes and looks at marks (RFC 9234, section 5)
+-- the row of the plain kind. A row has the number under which the ASes of a kind are counted; the places of peers and of providers in its order, in which customers have place 0 (Gao and Rexford 2001, Guideline A); whether it takes no offer whose state is Invalid, and whether it puts Valid offers of a class before the others (RFC 6811, section 3); and whether it marks routes and looks at marks (RFC 9234, section 5)
 abbrev pub plain : Row
 plain = record { label = 0; peer = 1; provider = 2; drops_invalid = false; prefers_valid = false; marks = false }
 
@@ -27,7 +27,7 @@ row ProviderFirst = record plain { label = 3; peer = 2; provider = 1 }
 row Otc = record plain { label = 4; marks = true }
 row DropInvalidOtc = record plain { label = 5; drops_invalid = true; marks = true }
 
--- the place of a class in the row's order (own rule)
+-- the place of a class in the row's order
 abbrev pub class_place : Row → Rel → ℕ
 class_place r Customer = 0
 class_place r Peer = r.peer
@@ -39,7 +39,7 @@ valid_place false s = 0
 valid_place true Valid = 0
 valid_place true s = 1
 
--- offers are compared by class, then by validation state, then by the length of the path, then by the neighbour's number (RFC 4271, section 9.1.2, has the length; the rest is an own rule)
+-- offers are compared by class, then by validation state, then by the length of the path, then by the neighbour's number (RFC 4271, section 9.1.2)
 abbrev pub offer_cmp : Row → View → View → Ordering
 offer_cmp r x y =
     ordering_then (nat_cmp (class_place r x.rel) (class_place r y.rel))
@@ -87,6 +87,6 @@ policy_by r = record {
 abbrev pub kind_policy : Kind → Policy
 kind_policy k = policy_by (row k)
 
--- the number under which the ASes of a kind are counted (own rule)
+-- the number under which the ASes of a kind are counted
 abbrev pub label : Kind → ℕ
 label k = (row k).label

@@ -1,4 +1,4 @@
--- The names of the kinds (own rule).
+-- The names of the kinds.
 use Rattle.std.specs.Prelude.{ℕ, ◌==◌, List, [], ◌∷◌, Option, find, codes}
 use Rattle.std.specs.Cmp.Lexicographic.{pointwise}
 use Rattle.policy_kinds.specs.declared.kind.Kind.{Kind}

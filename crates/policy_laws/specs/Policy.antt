@@ -34,7 +34,7 @@ pub record ExportsDownOnly (p : Policy) : Type 0 where
   pub from_peer : (otc : Option ℕ) (to : Rel) → IsTrue (p.exports class.Peer otc to) → to ≡ Customer
   pub from_provider : (otc : Option ℕ) (to : Rel) → IsTrue (p.exports class.Provider otc to) → to ≡ Customer
 
--- a policy that does not read the validation state answers alike whatever the state is (own rule)
+-- a policy that does not read the validation state answers alike whatever the state is
 pub record IgnoresState (p : Policy) : Type 0 where
   pub accepts : p.reads_state ≡ false → (x : View) (s : State) → p.accepts (with_state x s) ≡ p.accepts x
   pub before : p.reads_state ≡ false → (x y : View) (s t : State) → p.before (with_state x s) (with_state y t) ≡ p.before x y

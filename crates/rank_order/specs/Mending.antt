@@ -6,37 +6,37 @@ use Rattle.as_graph.specs.declared.neighbour.Neighbour.{Neighbour}
 use Rattle.as_graph.specs.Rows.{blank}
 use Rattle.as_graph.specs.Hierarchy.{RankFits}
 
--- the neighbour at a place of a list (own rule)
+-- the neighbour at a place of a list
 abbrev pub neighbour_at : List Neighbour → ℕ → Neighbour
 neighbour_at ns k = slice_index_or ns k blank
 
--- the greater of a number and one more than that of a neighbour, if the neighbour is a customer (own rule)
+-- the greater of a number and one more than that of a neighbour, if the neighbour is a customer
 abbrev pub grown : Rel → ℕ → ℕ → ℕ
 grown Customer k n = max n (suc k)
 grown Peer k n = n
 grown Provider k n = n
 
--- the neighbour at the place is a customer of this number (own rule)
+-- the neighbour at the place is a customer of this number
 pub record IsCustomerAt (number : ℕ → ℕ) (ns : List Neighbour) (k n : ℕ) : Type 0 where
   pub inside : k < length ns
   pub customer : (neighbour_at ns k).rel ≡ Customer
   pub number_is : number (neighbour_at ns k).asn ≡ n
 
--- n is 0, or one more than the number of a customer in the list, and above those of the customers among the first i (own rule)
+-- n is 0, or one more than the number of a customer in the list, and above those of the customers among the first i
 pub record IsNumberOver (number : ℕ → ℕ) (ns : List Neighbour) (i n : ℕ) : Type 0 where
   pub above : (k : ℕ) → k < i → (neighbour_at ns k).rel ≡ Customer → suc (number (neighbour_at ns k).asn) ≤ n
   pub reached : (n ≡ 0) ⊎ ((k : ℕ) × (m : ℕ) × IsCustomerAt number ns k m × (n ≡ suc m))
 
 -- where the number of a customer of p changes from `before` to `later`, p is numbered anew too, or its old number is above
--- the new one and was not one more than the old one (own rule)
+-- the new one and was not one more than the old one
 abbrev pub Bears : (ℕ → Bool) → (ℕ → ℕ) → ℕ → ℕ → ℕ → Type 0
 Bears numbered old before later p = (numbered p ≡ true) ⊎ ((suc later ≤ old p) × (suc before ≢ old p))
 
--- each provider among the first i of the list bears the change (own rule)
+-- each provider among the first i of the list bears the change
 abbrev pub AllBear : (ℕ → Bool) → (ℕ → ℕ) → ℕ → ℕ → List Neighbour → ℕ → Type 0
 AllBear numbered old before later ns i = (k : ℕ) → k < i → (neighbour_at ns k).rel ≡ Provider → Bears numbered old before later (neighbour_at ns k).asn
 
--- the new number fits at a, and each provider of a bears its change, if there is one (own rule)
+-- the new number fits at a, and each provider of a bears its change, if there is one
 pub record IsMended (what : ℕ → ℕ → Option Rel) (numbered : ℕ → Bool) (old new : ℕ → ℕ) (a : ℕ) : Type 0 where
   pub fits : RankFits what new a
   pub providers : (new a ≡ old a) ⊎ ((p : ℕ) → what p a ≡ Some Customer → Bears numbered old (old a) (new a) p)

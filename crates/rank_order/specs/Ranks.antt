@@ -11,19 +11,19 @@ use Rattle.cycle_check.specs.Cycles.{IsCycleFromLowest}
 use Rattle.rank_order.specs.declared.ranks.RankError.{RankError}
 use Rattle.rank_order.specs.declared.ranks.RankError.TheVariants.{Memory, ProviderCycle}
 
--- a rank for each of finitely many ASes (own rule)
+-- a rank for each of finitely many ASes
 abbrev pub RankMap : Type 0
 RankMap = map.FinMap nat_cmp ℕ
 
--- the map from each AS to the rank at its place (own rule)
+-- the map from each AS to the rank at its place
 abbrev pub rank_map : List ℕ → List ℕ → RankMap
 rank_map ases ranks = map.from_entries (zip ases ranks)
 
--- the rank that a map gives to an AS, 0 where it gives none (own rule)
+-- the rank that a map gives to an AS, 0 where it gives none
 abbrev pub rank_by : RankMap → ℕ → ℕ
 rank_by ranks a = unwrap_or (map.get ranks a) 0
 
--- ranks are a map from AS to rank, and for how many more ASes there is room without memory (own rule)
+-- ranks are a map from AS to rank, and for how many more ASes there is room without memory
 pub record KeptRanks : Type 0 where
   pub by_as : RankMap
   pub spare : ℕ
@@ -33,17 +33,17 @@ abbrev pub kept_ranks_code : Coded KeptRanks
 kept_ranks_code =
     code_by (RankMap × ℕ) (coded× (map.code coded_ℕ coded_ℕ) coded_ℕ) (λ r. (r.by_as, r.spare)) (λ p. record { by_as = p.0; spare = p.1 }) (λ _. refl)
 
--- the rank of an AS, 0 where none is given (own rule)
+-- the rank of an AS, 0 where none is given
 abbrev pub rank_at : KeptRanks → ℕ → ℕ
 rank_at ranks a = rank_by ranks.by_as a
 
--- just the ASes, each once, by rising rank (own rule)
+-- just the ASes, each once, by rising rank
 pub record IsRankOrder (has : ℕ → Bool) (rank : ℕ → ℕ) (xs : List ℕ) : Type 0 where
   pub complete : (a : ℕ) → occurs a xs ≡ has a
   pub apart : IsDistinct nat_eq xs
   pub rising : IsNonDecreasingBy rank xs
 
--- the same numbers, by rising rank (own rule)
+-- the same numbers, by rising rank
 pub record IsSortedOut (rank : ℕ → ℕ) (xs ys : List ℕ) : Type 0 where
   pub same : IsPermutation xs ys
   pub rising : IsNonDecreasingBy rank ys
@@ -53,7 +53,7 @@ abbrev pub IsRankRefusal : (ℕ → ℕ → Option Rel) → RankError → Type 0
 IsRankRefusal what Memory = ⊤
 IsRankRefusal what (ProviderCycle cycle) = IsCycleFromLowest what cycle
 
--- the AS is one of the list, and has no rank (own rule)
+-- the AS is one of the list, and has no rank
 pub record Lacks (ranks : KeptRanks) (xs : List ℕ) (a : ℕ) : Type 0 where
   pub listed : occurs a xs ≡ true
   pub missing : is_some (map.get ranks.by_as a) ≡ false

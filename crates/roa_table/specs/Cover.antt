@@ -16,7 +16,7 @@ of_prefix vrps p = filter (λ v. eq_by_cmp prefix_cmp v.prefix p) (items vrps)
 abbrev pub covering : Payloads → PrefixValue → List VrpValue
 covering vrps p = filter (λ v. covers v.prefix p) (items vrps)
 
--- payloads are listed by prefix length, then by maximum length, then by number (own rule)
+-- payloads are listed by prefix length, then by maximum length, then by number
 abbrev pub cover_cmp : VrpValue → VrpValue → Ordering
 cover_cmp v w = ordering_then (nat_cmp v.prefix.len w.prefix.len) (ordering_then (nat_cmp v.max w.max) (nat_cmp v.asn w.asn))
 

@@ -7,7 +7,7 @@ use Rattle.net_names.specs.Payloads.{VrpValue, vrp_at}
 use Rattle.roa_table.specs.declared.record.Wrong.{Wrong}
 use Rattle.roa_table.specs.declared.record.Wrong.TheVariants as wrong
 
--- the maximum length that a text says: the prefix's own length where it is empty, and else a number of 1 to 3 digits (own rule, after the files of the usual validators)
+-- the maximum length that a text says: the prefix's own length where it is empty, and else a number of 1 to 3 digits (after the files of the usual validators)
 abbrev pub max_of : PrefixValue → List ℕ → Option ℕ
 max_of p [] = Some p.len
 max_of p (b ∷ more) = numeral 10 3 (b ∷ more)
@@ -25,7 +25,7 @@ with_prefix asn p max = or_wrong (max_of p max >>= λ m. vrp_at p m asn) wrong.M
 abbrev pub vrp_of : List ℕ → List ℕ → List ℕ → Result VrpValue Wrong
 vrp_of asn prefix max = or_wrong (vrp_asn_of asn) wrong.Asn (λ n. or_wrong (prefix_of prefix) wrong.Prefix (λ p. with_prefix n p max))
 
--- the payload of a record, by its first three fields; further ones are not read (own rule, for the columns of the usual validators)
+-- the payload of a record, by its first three fields; further ones are not read (for the columns of the usual validators)
 abbrev pub payload_of : List (List ℕ) → Result VrpValue Wrong
 payload_of (asn ∷ (prefix ∷ (max ∷ more))) = vrp_of asn prefix max
 payload_of _ = Err wrong.Fields

@@ -5,7 +5,7 @@ use Rattle.std.specs.FinMap as fin
 use Rattle.std.specs.FinSet as set
 use Rattle.net_names.specs.Payloads.{VrpValue, IsVrp, vrp_cmp, vrp_code}
 
--- a finite set of payloads: a finite map with nothing at each (own rule)
+-- a finite set of payloads: a finite map with nothing at each
 abbrev pub Payloads : Type 0
 Payloads = fin.FinMap vrp_cmp (Unit {0})
 

@@ -1,14 +1,14 @@
--- Faults of a scenario, and what a call answers of a reading (own rule).
+-- Faults of a scenario, and what a call answers of a reading.
 use Rattle.std.specs.Prelude.{◌≡◌, Option, Some, None, Result, Ok, Err}
 use Rattle.scenario_text.specs.declared.faults.ScenarioError.{ScenarioError}
 use Rattle.scenario_text.specs.declared.faults.ScenarioError.TheVariants as fault
 
--- the value, or this fault where there is none (own rule)
+-- the value, or this fault where there is none
 abbrev pub or_fault : {A : Type 0} → ScenarioError → Option A → Result A ScenarioError
 or_fault e None = Err e
 or_fault e (Some x) = Ok x
 
--- a reading fails in this way; want of memory says nothing of it (own rule)
+-- a reading fails in this way; want of memory says nothing of it
 abbrev pub Fails : {X : Type 0} → ScenarioError → Result X ScenarioError → Type 0
 Fails fault.Memory reading = Unit {0}
 Fails fault.NotJson reading = reading ≡ Err fault.NotJson
@@ -17,11 +17,11 @@ Fails (fault.Value place) reading = reading ≡ Err (fault.Value place)
 Fails (fault.Twice place) reading = reading ≡ Err (fault.Twice place)
 Fails (fault.Limit which) reading = reading ≡ Err (fault.Limit which)
 
--- what was returned, seen so, is what the reading gives, unless memory ran out (own rule)
+-- what was returned, seen so, is what the reading gives, unless memory ran out
 abbrev pub GivesBy : {X Y : Type 0} → (X → Y) → Result X ScenarioError → Result Y ScenarioError → Type 0
 GivesBy view (Ok x) reading = reading ≡ Ok (view x)
 GivesBy view (Err e) reading = Fails e reading
 
--- what was returned is what the reading gives, unless memory ran out (own rule)
+-- what was returned is what the reading gives, unless memory ran out
 abbrev pub Gives : {X : Type 0} → Result X ScenarioError → Result X ScenarioError → Type 0
 Gives result reading = GivesBy (λ x. x) result reading

@@ -18,13 +18,13 @@ command before line = elim (act_of line.1) [
 unfoldable pub script_of : List ℕ → Result (List LineValue) ScriptError
 script_of bytes = each_from command 0 (kept_from 1 (texts bytes))
 
--- a reading fails in this way; want of memory says nothing of it (own rule)
+-- a reading fails in this way; want of memory says nothing of it
 abbrev pub Fails : {X : Type 0} → ScriptError → Result X ScriptError → Type 0
 Fails Memory reading = Unit {0}
 Fails (Unreadable line) reading = reading ≡ Err (Unreadable line)
 Fails (TooMany line) reading = reading ≡ Err (TooMany line)
 
--- what was returned is what the reading gives, unless memory ran out (own rule)
+-- what was returned is what the reading gives, unless memory ran out
 abbrev pub Gives : {X : Type 0} → Result X ScriptError → Result X ScriptError → Type 0
 Gives (Ok x) reading = reading ≡ Ok x
 Gives (Err e) reading = Fails e reading

@@ -22,7 +22,7 @@ use Rattle.scenario_text.specs.Walks.{◌>>=◌, each_from}
 abbrev pub text_at : Place → Data → Result (List ℕ) ScenarioError
 text_at p d = or_fault (Shape p) (as_str d)
 
--- the number that stands at the place: an integer from 0 to 2^64 - 1, written without a fraction, an exponent or a sign (RFC 8259, section 6; the range is an own rule)
+-- the number that stands at the place: an integer from 0 to 2^64 - 1, written without a fraction, an exponent or a sign (RFC 8259, section 6)
 abbrev pub number_at : Place → Data → Result ℕ ScenarioError
 number_at p d = or_fault (Shape p) (option_and_then as_u64 (as_number d))
 

@@ -28,7 +28,7 @@ abbrev pub at_repeat : (ℕ → Place) → Option ℕ → Result (Unit {0}) Scen
 at_repeat place None = Ok tt
 at_repeat place (Some i) = Err (Twice (place i))
 
--- prefixes with ASes are ordered by the prefix, and then by the AS (own rule)
+-- prefixes with ASes are ordered by the prefix, and then by the AS
 abbrev pub name_cmp : (PrefixValue × ℕ) → (PrefixValue × ℕ) → Ordering
 name_cmp a b = ordering_then (prefix_cmp a.0 b.0) (nat_cmp a.1 b.1)
 

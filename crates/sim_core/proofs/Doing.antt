@@ -5,7 +5,7 @@ use Rattle.std.specs.FinMap as fin
 use Rattle.std.specs.FinSet as set
 use Rattle.net_names.specs.Addresses.{AddrValue}
 use Rattle.as_graph.specs.Hierarchy.{HasNoProviderCycle, IsProviderCycle}
-use Rattle.as_graph.specs.Topology.{Topology, as_count, has, what}
+use Rattle.as_graph.specs.Topology.{as_count, what}
 use Rattle.roa_table.specs.Sets.{count}
 use Rattle.leak_round.specs.Changes.{HasChanges}
 use Rattle.leak_round.specs.Rounds.{kept as kept_rounds, plan_of, round_count}
@@ -17,7 +17,7 @@ use Rattle.sim_core.specs.Ground.{AreSeenAlike, BelongTo, Ground}
 use Rattle.sim_core.specs.Kept.{IsKept, Kept}
 use Rattle.sim_core.specs.Sims.{kept, world_seen}
 use Rattle.sim_core.specs.Watching.{rows_in, watch_at}
-use Rattle.sim_core.specs.World.{World, HasCycle, has_as, topology}
+use Rattle.sim_core.specs.World.{World, HasCycle, topology}
 use Rattle.sim_core.specs.declared.editing.Changed.{Changed}
 use Rattle.sim_core.specs.declared.errors.EditError.{EditError}
 use Rattle.sim_core.specs.declared.sim.Sim.{Sim}
@@ -25,9 +25,6 @@ use Rattle.sim_core.proofs.Loads.{ones_of_world, only_ones}
 use Rattle.sim_core.proofs.Watches.{rows_kept, rows_right, seen_rows}
 
 -- the ASes of a simulation's graph are those of its world
-pub seen_has : (s : Sim) (a : ℕ) → has s.graph a ≡ has_as (world_seen s) a
-seen_has s a = ap (λ (g : Topology). has g a) s.named
-
 pub seen_count : (s : Sim) → as_count s.graph ≡ as_count (topology (world_seen s))
 seen_count s = ap as_count s.named
 

@@ -1,5 +1,5 @@
 -- The ASes that are touched prefix by prefix.
-use Rattle.std.proofs.Common.{◌≡◌, ◌∙◌, ◌⊎◌, inl, inr, ◌<◌, ◌+◌, ℕ, zero, suc, Bool, true, false, List, Some, refl, sym, ap, subst, arith, ◌==◌, Option, None, is_some, unwrap_or, cond, [], ◌∷◌, ◌++◌}
+use Rattle.std.proofs.Common.{◌≡◌, ◌∙◌, ◌⊎◌, inl, inr, ◌<◌, ◌+◌, ℕ, zero, suc, Bool, true, false, List, Some, refl, sym, ap, subst, arith, ◌==◌, Option, None, is_some, unwrap_or, cond}
 use Rattle.std.specs.Prelude.{slice_get}
 use Rattle.std.specs.FinMap as fin
 use Rattle.std.specs.FinSet as set
@@ -10,7 +10,6 @@ use Rattle.as_graph.specs.Topology.{Topology, has}
 use Rattle.policy_kinds.specs.declared.kind.Kind.TheVariants.{Plain}
 use Rattle.sim_core.specs.World.{graph_of, leakers, named}
 use Rattle.sim_core.proofs.PolicyEdits.{Kinds, is_key, named_by, occurs_keys}
-use Rattle.sim_core.proofs.Pushing.{pushed_more, pushed_own}
 use Rattle.sim_core.proofs.Unnamed.{named_there}
 use Rattle.net_names.specs.Payloads.{VrpValue}
 use Rattle.roa_table.specs.Sets.{Payloads}
@@ -57,10 +56,6 @@ more_covered readers book vrps v plan xs i q old new at before more here place p
     untouched : (t : Bool) → (a : ℕ) → touches old p a ≡ t → touches new p a ≡ false → touches old p a ≡ false
     untouched false a e free = e
     untouched true a e free = absurd (true≢false (sym (more p a e) ∙ free))
-
--- a list with one more, or as it was
-pub listed_more : (old new : List ℕ) (asn : ℕ) → new ≡ old ++ asn ∷ [] → ((x : ℕ) → occurs x old ≡ true → occurs x new ≡ true) × (occurs asn new ≡ true)
-listed_more old new asn is = ((λ x h. subst (λ (l : List ℕ). occurs x l ≡ true) (sym is) (pushed_more x old asn h)), subst (λ (l : List ℕ). occurs asn l ≡ true) (sym is) (pushed_own old asn))
 
 -- who reads the states is named, so that a graph with the marks of all who are has it
 pub reader_there : (graph : Topology) (plan : Plan) (book : PolicyBook Kind) (a : ℕ) → graph_of graph.links graph.marked ≡ graph_of graph.links (set.from_list (named plan book.named)) → book.rest ≡ Plain → Reads book a → has graph a ≡ true

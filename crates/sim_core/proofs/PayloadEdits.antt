@@ -78,17 +78,6 @@ too_many_payloads s v small none many =
     let more : 2000000 < count (added s.vrps v) = omega (arith, one, many) in
     rw (within (fin.len s.graph.links) 1500000 small.links, within (fin.len (plan_of s.rounds).announced) 64 s.small.announcements, within (as_count (topology (world_seen s))) 150000 (subst (λ n. n ≤ 150000) (seen_count s) small.ases), over (count (added s.vrps v)) 2000000 more) refl
 
--- nothing but the payloads has changed
-pub payloads_world : (old new : Sim) → new.graph.links ≡ old.graph.links → new.book.named ≡ old.book.named → KeepsRest old new → world_seen new ≡ record (world_seen old) { payloads = new.vrps }
-payloads_world old new links named rest = λ i. record {
-  links = links i;
-  payloads = new.vrps;
-  kinds = named i;
-  plan = plan_of (rest.rounds i);
-  rounds = round_count (rest.rounds i);
-  watched = set.from_list (ap (λ w. w.items) rest.watched i);
-}
-
 abbrev pub with_payloads : World → Payloads → World
 with_payloads w payloads = record w { payloads = payloads }
 

@@ -43,7 +43,7 @@ use Rattle.sim_core.proofs.Doing.{allowed_by, no_limit}
 use Rattle.sim_core.proofs.Grounds.{seller}
 use Rattle.sim_core.proofs.PolicyEdits.{Kinds, named_by}
 use Rattle.sim_core.proofs.Unnamed.{is_named, gone_unnamed, lone_nothing, lone_right, unannounced, unleaked, unseeded}
-use Rattle.sim_core.proofs.SeedEdits.{other_prefixes, edited_leakers, edited_prefixes, edited_within, other_announcers}
+use Rattle.sim_core.proofs.SeedEdits.{other_prefixes, edited_leakers, edited_within, other_announcers}
 use Rattle.sim_core.proofs.SeedMarks.{marks_back, marks_seeded}
 
 -- the world with this plan of seeds
@@ -100,9 +100,6 @@ withdrawn_announced w (Withdraw p b) a there a_is other = ap (announces w.plan p
 
 module _ (s : Sim) (e : SeedEdit) (plan : Plan) (a : ℕ) (t : Bool) (graph : Topology) (accepted : IsSeedEdit (world_seen s) e) (plan_is : plan ≡ edited_plan (plan_of s.rounds) e) (a_is : a ≡ edit_asn e)
     (t_is : t ≡ set.contains (set.from_list {R = nat_cmp} (named plan s.book.named)) a) (graph_is : graph ≡ with_mark_if (with_room s.graph a a) a t) where
-  pub new_prefixes : plan.prefixes ≡ (plan_of s.rounds).prefixes
-  new_prefixes = ap (λ (p : Plan). p.prefixes) plan_is ∙ edited_prefixes (plan_of s.rounds) e accepted.known
-
   pub new_limits : IsWithinLimits plan
   new_limits = subst IsWithinLimits (sym plan_is) (edited_within (plan_of s.rounds) e s.small accepted.known accepted.within accepted.few)
 

@@ -22,7 +22,7 @@ use Rattle.sim_core.specs.declared.errors.QueryError.TheVariants as refused
 abbrev pub unless : Bool → QueryError → Option QueryError → Option QueryError
 unless there e others = if there then others else Some e
 
--- why a query is refused: the first thing in the order round, prefix, AS, watched address that it names and that the world has not (own rule)
+-- why a query is refused: the first thing in the order round, prefix, AS, watched address that it names and that the world has not
 abbrev pub refusal_of : World → Query → Option QueryError
 refusal_of w (query.Routes round prefix) = unless (has_round w round) (refused.UnknownRound round) (unless (has_prefix w prefix) (refused.UnknownPrefix prefix) None)
 refusal_of w (query.Route round prefix a) =
@@ -55,7 +55,7 @@ pub record Answers (w : World) (k : Kept) (q : Query) (old new : List ℕ) : Typ
   pub accepted : refusal_of w q ≡ None
   pub appended : new ≡ old ++ text
 
--- memory is wanting, or this is the reason to refuse the query (own rule)
+-- memory is wanting, or this is the reason to refuse the query
 abbrev pub IsQueryRefusal : World → Query → QueryError → Type 0
 IsQueryRefusal w q refused.Memory = Unit {0}
 IsQueryRefusal w q e = refusal_of w q ≡ Some e

@@ -30,43 +30,43 @@ use Rattle.sim_core.specs.declared.errors.EditError.{EditError}
 use Rattle.sim_core.specs.declared.errors.EditError.TheVariants as refused
 use Rattle.sim_core.specs.declared.sim.Sim.{Sim}
 
--- the edit is done: the world is the edited one, what is kept is that of it, and so many entries differ (own rule)
+-- the edit is done: the world is the edited one, what is kept is that of it, and so many entries differ
 pub record IsDone (old new : Sim) (e : Edit) (routes : ℕ) : Type 0 where
   pub world : world_seen new ≡ edited (world_seen old) e
   pub allowed : IsAllowed (world_seen old) e
   pub is_kept : IsKept (world_seen new) (kept new)
   pub changed : HasChanged (world_seen new) (kept old).routings (kept new).routings routes
 
--- the world, and what is kept of it, are as they were (own rule)
+-- the world, and what is kept of it, are as they were
 pub record IsUndone (old new : Sim) : Type 0 where
   pub world : world_seen new ≡ world_seen old
   pub same_kept : kept new ≡ kept old
 
--- the edit is done, or refused and nothing has changed (own rule)
+-- the edit is done, or refused and nothing has changed
 abbrev pub IsEdited : Sim → Sim → Edit → Result Changed EditError → Type 0
 IsEdited old new e (Ok changed) = IsDone old new e changed.routes
 IsEdited old new e (Err error) = IsEditRefusal (world_seen old) e error × IsUndone old new
 
--- an edit of announcements as an edit of the world (own rule)
+-- an edit of announcements as an edit of the world
 abbrev pub edit_of : SeedEdit → Edit
 edit_of (seeds.Announce prefix path) = edit.Announce prefix path
 edit_of (seeds.Withdraw prefix a) = edit.Withdraw prefix a
 
--- an edit of announcements that is not refused, unless there would be too many ASes (own rule)
+-- an edit of announcements that is not refused, unless there would be too many ASes
 pub record IsSeedEdit (w : World) (e : SeedEdit) : Type 0 where
   pub known : IsEditOf w.plan e
   pub within : IsEditWithin 64 e
   pub few : fin.len (edited_plan w.plan e).announced ≤ 64
   pub there : absent w (edit_of e) ≡ None
 
--- what is kept, and which addresses are watched, stand as they were (own rule)
+-- what is kept, and which addresses are watched, stand as they were
 pub record KeepsRest (old new : Sim) : Type 0 where
   pub ranks : new.ranks ≡ old.ranks
   pub rounds : new.rounds ≡ old.rounds
   pub watched : new.watched ≡ old.watched
   pub watches : new.watches ≡ old.watches
 
--- the graph has these links and room for the pair, and all else stands as it was (own rule)
+-- the graph has these links and room for the pair, and all else stands as it was
 pub record HasLinks (old new : Sim) (a b : ℕ) (links : LinkMap) : Type 0 where
   pub are : new.graph.links ≡ links
   pub marked : new.graph.marked ≡ old.graph.marked
@@ -75,20 +75,20 @@ pub record HasLinks (old new : Sim) (a b : ℕ) (links : LinkMap) : Type 0 where
   pub book : new.book ≡ old.book
   pub rest : KeepsRest old new
 
--- the links of a graph in which the pair has this link or none (own rule)
+-- the links of a graph in which the pair has this link or none
 abbrev pub links_with : Topology → ℕ → ℕ → Option Rel → LinkMap
 links_with g a b None = (without_link g a b).links
 links_with g a b (Some r) = (with_link g a b r).links
 
--- what the routings of a simulation rest on, without one payload, if one is left out (own rule)
+-- what the routings of a simulation rest on, without one payload, if one is left out
 abbrev pub ground_less : Sim → Option VrpValue → Ground
 ground_less sim but = record { graph = sim.graph; payloads = less sim.vrps but; book = sim.book }
 
--- what the routings of a simulation rest on (own rule)
+-- what the routings of a simulation rest on
 abbrev pub ground_of : Sim → Ground
 ground_of sim = record { graph = sim.graph; payloads = sim.vrps; book = sim.book }
 
--- what is kept belongs to the ground without the payload, if one is left out; so many entries differ, and all else stands as it was (own rule)
+-- what is kept belongs to the ground without the payload, if one is left out; so many entries differ, and all else stands as it was
 pub record IsChanged (old new : Sim) (but : Option VrpValue) (routes : ℕ) : Type 0 where
   pub graph : new.graph ≡ old.graph
   pub vrps : new.vrps ≡ old.vrps
@@ -99,7 +99,7 @@ pub record IsChanged (old new : Sim) (but : Option VrpValue) (routes : ℕ) : Ty
   pub count : round_count new.rounds ≡ round_count old.rounds
   pub changed : HasChanges (plan_of new.rounds) (round_count new.rounds) (kept_rounds old.rounds) (kept_rounds new.rounds) routes
 
--- a simulation is seen as it was (own rule)
+-- a simulation is seen as it was
 pub record IsUnchanged (old new : Sim) : Type 0 where
   pub graph : new.graph ≡ old.graph
   pub vrps : new.vrps ≡ old.vrps
@@ -108,19 +108,19 @@ pub record IsUnchanged (old new : Sim) : Type 0 where
   pub readers : new.readers ≡ old.readers
   pub alike : AreSeenAlike old.ranks new.ranks old.rounds new.rounds old.watches.items new.watches.items
 
--- why a link is not kept: memory is wanting, or the graph has this provider cycle, which begins with the link (own rule)
+-- why a link is not kept: memory is wanting, or the graph has this provider cycle, which begins with the link
 abbrev pub IsLinkStop : Topology → ℕ → ℕ → Rel → EditError → Type 0
 IsLinkStop graph a b rel refused.Memory = Unit {0}
 IsLinkStop graph a b rel (refused.ProviderCycle cycle) = IsProviderCycle (what graph) cycle × BeginsWithLink (edit.Link a b rel) cycle
 IsLinkStop graph a b rel e = ⊥
 
--- no limit is passed (own rule)
+-- no limit is passed
 pub record IsSmall (graph : Topology) (payloads : Payloads) : Type 0 where
   pub links : fin.len graph.links ≤ 1500000
   pub ases : as_count graph ≤ 150000
   pub payloads_in : count payloads ≤ 2000000
 
--- the AS has this kind of policy and is marked as that asks, and all else stands as it was (own rule)
+-- the AS has this kind of policy and is marked as that asks, and all else stands as it was
 pub record IsGiven (old new : Sim) (a : ℕ) (kind : Kind) : Type 0 where
   pub links : new.graph.links ≡ old.graph.links
   pub room : new.graph.room ≡ old.graph.room
@@ -131,7 +131,7 @@ pub record IsGiven (old new : Sim) (a : ℕ) (kind : Kind) : Type 0 where
   pub vrps : new.vrps ≡ old.vrps
   pub rest : KeepsRest old new
 
--- there is room for an edit of the AS's policy, and all else stands as it was (own rule)
+-- there is room for an edit of the AS's policy, and all else stands as it was
 pub record IsRoomed (old new : Sim) (a : ℕ) : Type 0 where
   pub links : new.graph.links ≡ old.graph.links
   pub marked : new.graph.marked ≡ old.graph.marked

@@ -21,11 +21,11 @@ use Rattle.sim_core.specs.declared.errors.EditError.TheVariants as refused
 use Rattle.sim_core.specs.declared.errors.EditLimit.{EditLimit}
 use Rattle.sim_core.specs.declared.errors.EditLimit.TheVariants.{Links, Announcements, Ases, Vrps}
 
--- the policies in which the AS has this kind; nobody is named for the plain one (own rule)
+-- the policies in which the AS has this kind; nobody is named for the plain one
 abbrev pub with_kind : fin.FinMap nat_cmp Kind → ℕ → Kind → fin.FinMap nat_cmp Kind
 with_kind kinds a kind = if is_other (a, kind) then fin.insert kinds a kind else fin.remove kinds a
 
--- the edited world: the pair has this link in place of any earlier one, or none; the AS has this kind; the payload is in the set, or not; the first AS of the path announces the prefix with it in place of any earlier path, or the AS does not announce the prefix, which stays (own rule)
+-- the edited world: the pair has this link in place of any earlier one, or none; the AS has this kind; the payload is in the set, or not; the first AS of the path announces the prefix with it in place of any earlier path, or the AS does not announce the prefix, which stays
 abbrev pub edited : World → Edit → World
 edited w (edit.Link a b rel) = record w { links = (with_link (topology w) a b rel).links }
 edited w (edit.Unlink a b) = record w { links = (without_link (topology w) a b).links }
@@ -35,11 +35,11 @@ edited w (edit.VrpTake vrp) = record w { payloads = taken w.payloads vrp }
 edited w (edit.Announce prefix path) = record w { plan = with_announcement w.plan prefix path }
 edited w (edit.Withdraw prefix a) = record w { plan = without_announcement w.plan prefix a }
 
--- a pair without a link, the lower number first (own rule)
+-- a pair without a link, the lower number first
 abbrev pub absent_link : ℕ → ℕ → EditError
 absent_link a b = if nat_lt a b then refused.AbsentLink a b else refused.AbsentLink b a
 
--- what the edit names or takes away and the world has not: the link of the pair, the payload, the prefix, or else the AS's announcement of it (own rule)
+-- what the edit names or takes away and the world has not: the link of the pair, the payload, the prefix, or else the AS's announcement of it
 abbrev pub absent : World → Edit → Option EditError
 absent w (edit.Unlink a b) = if is_some (what (topology w) a b) then None else Some (absent_link a b)
 absent w (edit.VrpTake vrp) = if has w.payloads vrp then None else Some (refused.AbsentVrp vrp)
@@ -47,31 +47,31 @@ absent w (edit.Announce prefix path) = if has_prefix w prefix then None else Som
 absent w (edit.Withdraw prefix a) = if has_prefix w prefix then (if announces w.plan prefix a then None else Some (refused.AbsentAnnouncement prefix a)) else Some (refused.UnknownPrefix prefix)
 absent w e = None
 
--- the first limit that a world passes: 1,500,000 links, 64 announcements, 150,000 ASes, 2,000,000 payloads (own rule)
+-- the first limit that a world passes: 1,500,000 links, 64 announcements, 150,000 ASes, 2,000,000 payloads
 abbrev pub passed_limit : World → Option EditLimit
 passed_limit w =
     if nat_lt 1500000 (fin.len w.links) then Some Links
     else (if nat_lt 64 (fin.len w.plan.announced) then Some Announcements else (if nat_lt 150000 (as_count (topology w)) then Some Ases else (if nat_lt 2000000 (count w.payloads) then Some Vrps else None)))
 
--- the limit that is passed, as a refusal (own rule)
+-- the limit that is passed, as a refusal
 abbrev pub over_limit : Option EditLimit → Option EditError
 over_limit None = None
 over_limit (Some which) = Some (refused.Limit which)
 
--- the first reason, or else the second (own rule)
+-- the first reason, or else the second
 abbrev pub or_else : Option EditError → Option EditError → Option EditError
 or_else (Some e) other = Some e
 or_else None other = other
 
--- why an edit is refused, but for provider cycles: what it names or takes away is not there, or else the edited world passes a limit (own rule)
+-- why an edit is refused, but for provider cycles: what it names or takes away is not there, or else the edited world passes a limit
 abbrev pub refusal_of_edit : World → Edit → Option EditError
 refusal_of_edit w e = or_else (absent w e) (over_limit (passed_limit (edited w e)))
 
--- the list begins with these two (own rule)
+-- the list begins with these two
 abbrev pub Begins : ℕ → ℕ → List ℕ → Type 0
 Begins a b xs = (rest : List ℕ) × (xs ≡ a ∷ b ∷ rest)
 
--- the list begins with the new link: its provider and then its customer (own rule)
+-- the list begins with the new link: its provider and then its customer
 abbrev pub BeginsWithLink : Edit → List ℕ → Type 0
 BeginsWithLink (edit.Link a b Customer) xs = Begins a b xs
 BeginsWithLink (edit.Link a b Provider) xs = Begins b a xs
@@ -82,22 +82,22 @@ pub record IsClosed (w : World) (e : Edit) (cycle : List ℕ) : Type 0 where
   pub closes : IsProviderCycle (what (topology (edited w e))) cycle
   pub begins : BeginsWithLink e cycle
 
--- the edit is allowed: there is no reason to refuse it, and the edited world has no provider cycle (own rule)
+-- the edit is allowed: there is no reason to refuse it, and the edited world has no provider cycle
 pub record IsAllowed (w : World) (e : Edit) : Type 0 where
   pub accepted : refusal_of_edit w e ≡ None
   pub no_cycle : HasCycle (edited w e) → ⊥
 
--- the edit is refused for this reason: it is the first one; or there is none, and the edited world has this provider cycle (own rule)
+-- the edit is refused for this reason: it is the first one; or there is none, and the edited world has this provider cycle
 abbrev pub IsReason : World → Edit → EditError → Type 0
 IsReason w e refused.Memory = ⊥
 IsReason w e (refused.ProviderCycle cycle) = (refusal_of_edit w e ≡ None) × IsClosed w e cycle
 IsReason w e error = refusal_of_edit w e ≡ Some error
 
--- memory is wanting, or the edit is refused for this reason (own rule)
+-- memory is wanting, or the edit is refused for this reason
 abbrev pub IsEditRefusal : World → Edit → EditError → Type 0
 IsEditRefusal w e refused.Memory = Unit {0}
 IsEditRefusal w e error = IsReason w e error
 
--- so many entries of the rounds and prefixes of the world differ between the two families (own rule)
+-- so many entries of the rounds and prefixes of the world differ between the two families
 abbrev pub HasChanged : World → Family → Family → ℕ → Type 0
 HasChanged w old new n = HasChanges w.plan w.rounds old new n

@@ -27,13 +27,13 @@ use Rattle.sim_core.specs.Parts.{AreRoundsOf}
 use Rattle.sim_core.specs.Watching.{AreRoundWatches, seen_in}
 use Rattle.sim_core.specs.declared.watching.RoundWatches.{RoundWatches}
 
--- what routings rest on beside the seeds: the graph, the payloads and the policies (own rule)
+-- what routings rest on beside the seeds: the graph, the payloads and the policies
 pub record Ground : Type 0 where
   pub graph : Topology
   pub payloads : Payloads
   pub book : PolicyBook Kind
 
--- the policy of an AS (own rule)
+-- the policy of an AS
 abbrev pub policy_on : Ground → ℕ → Policy
 policy_on g a = kind_policy (policy_at g.book a)
 
@@ -51,17 +51,17 @@ pub record IsOrigin (plan : Plan) (prefix : PrefixValue) (origin : ℕ) : Type 0
   pub announced : announced_path plan prefix asn ≡ Some path
   pub last : last_or 0 path ≡ origin
 
--- one of the ASes whose policy reads the states is touched, unless the states of all origins of the prefix are the same without the payload (own rule)
+-- one of the ASes whose policy reads the states is touched, unless the states of all origins of the prefix are the same without the payload
 abbrev pub AreReadersTouched : List ℕ → PolicyBook Kind → Payloads → VrpValue → Plan → PrefixValue → (ℕ → Bool) → Type 0
 AreReadersTouched readers book vrps v plan prefix touched =
     (a : ℕ) → occurs a readers ≡ true → (kind_policy (policy_at book a)).reads_state ≡ true → touched a ≡ false → (origin : ℕ) → IsOrigin plan prefix origin → state_of (taken vrps v) prefix origin ≡ state_of vrps prefix origin
 
--- what an AS holds of a prefix is right on the ground in each round, and nothing where it is no AS of it (own rule)
+-- what an AS holds of a prefix is right on the ground in each round, and nothing where it is no AS of it
 pub record IsRightOn (g : Ground) (rounds : Rounds) (prefix : PrefixValue) (a : ℕ) : Type 0 where
   pub right : (before : ℕ) → before < round_count rounds → has g.graph a ≡ true → IsRight (setting kind_policy g.graph g.book (state_of g.payloads prefix)) (seeds_of (plan_of rounds) (suc before) prefix (kept_rounds rounds before prefix)) (kept_rounds rounds (suc before) prefix) a
   pub none : (before : ℕ) → before < round_count rounds → has g.graph a ≡ false → kept_rounds rounds (suc before) prefix a ≡ None
 
--- between two grounds only the ends differ in presence, links and policy; and who is not touched for a prefix is no end, or still right; has neighbours of which none begins or ceases to mark; and does not read the states of the prefix, or these are the same for its origins (own rule)
+-- between two grounds only the ends differ in presence, links and policy; and who is not touched for a prefix is no end, or still right; has neighbours of which none begins or ceases to mark; and does not read the states of the prefix, or these are the same for its origins
 pub record DiffersAround (old new : Ground) (rounds : Rounds) (ends : List ℕ) (touched : PrefixValue → ℕ → Bool) : Type 0 where
   pub presence : (a : ℕ) → occurs a ends ≡ false → has new.graph a ≡ has old.graph a
   pub links : (a n : ℕ) → occurs a ends ≡ false → what new.graph a n ≡ what old.graph a n
@@ -70,7 +70,7 @@ pub record DiffersAround (old new : Ground) (rounds : Rounds) (ends : List ℕ) 
   pub marks : (prefix : PrefixValue) (a n : ℕ) (r : Rel) → IsTrue (has_prefix (plan_of rounds) prefix) → touched prefix a ≡ false → what new.graph a n ≡ Some r → (policy_on new n).marks ≡ (policy_on old n).marks
   pub states : (prefix : PrefixValue) (a : ℕ) → IsTrue (has_prefix (plan_of rounds) prefix) → touched prefix a ≡ false → has new.graph a ≡ true → ((policy_on new a).reads_state ≡ false) ⊎ ((origin : ℕ) → IsOrigin (plan_of rounds) prefix origin → state_of new.payloads prefix origin ≡ state_of old.payloads prefix origin)
 
--- an edit of announcements, if there is one, is one of the plan within the limits, by one of the ends; and who announces something after it is an AS of the graph (own rule)
+-- an edit of announcements, if there is one, is one of the plan within the limits, by one of the ends; and who announces something after it is an AS of the graph
 pub record IsSeedChange (plan : Plan) (g : Topology) (ends : List ℕ) (edit : Option SeedEdit) : Type 0 where
   pub known : (e : SeedEdit) → edit ≡ Some e → IsEditOf plan e
   pub within : (e : SeedEdit) → edit ≡ Some e → IsEditWithin 64 e
@@ -78,7 +78,7 @@ pub record IsSeedChange (plan : Plan) (g : Topology) (ends : List ℕ) (edit : O
   pub by_end : (e : SeedEdit) → edit ≡ Some e → occurs (edit_asn e) ends ≡ true
   pub announcers : (prefix : PrefixValue) (a : ℕ) → IsTrue (announces (plan_edited edit plan) prefix a) → has g a ≡ true
 
--- ranks, rounds and watches are seen as they were (own rule)
+-- ranks, rounds and watches are seen as they were
 pub record AreSeenAlike (old_ranks new_ranks : KeptRanks) (old_rounds new_rounds : Rounds) (old_watches new_watches : List RoundWatches) : Type 0 where
   pub ranks : new_ranks.by_as ≡ old_ranks.by_as
   pub plan : plan_of new_rounds ≡ plan_of old_rounds

@@ -29,15 +29,15 @@ planned announcements leaks = record {
 abbrev pub plan_of : ScenarioValue → Plan
 plan_of s = planned s.announcements (leaks_from 2 s.leaks)
 
--- the policy is another than the plain one (own rule)
+-- the policy is another than the plain one
 abbrev pub is_other : ℕ × Kind → Bool
 is_other p = elim p.1 [ kind.Plain ↦ false | _ ↦ true ]
 
--- the ASes that a scenario gives another policy than the plain one (own rule)
+-- the ASes that a scenario gives another policy than the plain one
 abbrev pub kinds_of : List (ℕ × Kind) → fin.FinMap nat_cmp Kind
 kinds_of policies = fin.from_entries (filter is_other policies)
 
--- the world of these links, payloads and this scenario: one round more than it has lists of leakers (own rule)
+-- the world of these links, payloads and this scenario: one round more than it has lists of leakers
 abbrev pub world_of : LinkMap → Payloads → ScenarioValue → World
 world_of links payloads s = record { links = links; payloads = payloads; kinds = kinds_of s.policies; plan = plan_of s; rounds = length s.leaks + 1; watched = set.from_list s.watch }
 

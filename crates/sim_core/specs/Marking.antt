@@ -14,13 +14,13 @@ marked g names = fold with_mark g names
 abbrev pub with_mark_if : Topology → ℕ → Bool → Topology
 with_mark_if g a is_marked = record g { marked = if is_marked then set.insert g.marked a else set.remove g.marked a }
 
--- why the ASes get no marks: memory is wanting, or there would be more than 150,000 ASes (own rule)
+-- why the ASes get no marks: memory is wanting, or there would be more than 150,000 ASes
 abbrev pub IsMarksRefusal : Topology → List ℕ → LoadError → Type 0
 IsMarksRefusal g names load_error.Memory = Unit {0}
 IsMarksRefusal g names load_error.TooManyAses = 150000 < as_count (marked g names)
 IsMarksRefusal g names (load_error.ProviderCycle cycle) = ⊥
 
--- the graph is made, and has at most 150,000 ASes; or it would have more; or memory ran out (own rule)
+-- the graph is made, and has at most 150,000 ASes; or it would have more; or memory ran out
 abbrev pub MakesGraph : LinkMap → List ℕ → Result Topology LoadError → Type 0
 MakesGraph links names (Ok graph) = (graph ≡ marked (unmarked links) names) × (as_count graph ≤ 150000)
 MakesGraph links names (Err e) = IsMarksRefusal (unmarked links) names e

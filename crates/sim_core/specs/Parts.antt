@@ -25,11 +25,11 @@ use Rattle.sim_core.specs.Families.{Family}
 use Rattle.sim_core.specs.declared.errors.QueryError.{QueryError}
 use Rattle.sim_core.specs.declared.errors.QueryError.TheVariants as refused
 
--- the world of a graph, payloads, a book of policies, rounds and watched addresses (own rule)
+-- the world of a graph, payloads, a book of policies, rounds and watched addresses
 abbrev pub world_by : Topology → Payloads → PolicyBook Kind → Rounds → List AddrValue → World
 world_by graph payloads book rounds watched = record { links = graph.links; payloads = payloads; kinds = book.named; plan = plan_of rounds; rounds = round_count rounds; watched = set.from_list watched }
 
--- the marks of the graph are the ASes that an announcement, a leak or a policy names (own rule)
+-- the marks of the graph are the ASes that an announcement, a leak or a policy names
 abbrev pub IsNamed : Topology → PolicyBook Kind → Rounds → Type 0
 IsNamed graph book rounds = graph_of graph.links graph.marked ≡ graph_of graph.links (set.from_list (named (plan_of rounds) book.named))
 
@@ -40,23 +40,23 @@ pub record AreRoundsOf (graph : Topology) (payloads : Payloads) (book : PolicyBo
   pub stable : AreRounds (λ p. setting kind_policy graph book (state_of payloads p)) plan count (kept_rounds rounds)
   pub only : (other : Family) → AreRounds (λ p. setting kind_policy graph book (state_of payloads p)) plan count other → (before : ℕ) (prefix : PrefixValue) → before < count → IsTrue (has_prefix plan prefix) → (a : ℕ) → other (suc before) prefix a ≡ kept_rounds rounds (suc before) prefix a
 
--- the table is that of a round and a prefix that are there, and the paths of its entries can be read (own rule)
+-- the table is that of a round and a prefix that are there, and the paths of its entries can be read
 pub record IsTableOf (w : World) (rounds : Rounds) (round : ℕ) (prefix : PrefixValue) (table : Table) : Type 0 where
   pub round_there : has_round w round ≡ true
   pub prefix_there : has_world_prefix w prefix ≡ true
   pub live : AreEntriesLive (pool_of rounds) table
   pub routing : (a : ℕ) → table_routing (pool_of rounds) table a ≡ kept_rounds rounds round prefix a
 
--- the tables are those of a round that is there, and the paths of their entries can be read (own rule)
+-- the tables are those of a round that is there, and the paths of their entries can be read
 pub record AreTablesOf (w : World) (rounds : Rounds) (round : ℕ) (tables : RoundTables) : Type 0 where
   pub round_there : has_round w round ≡ true
   pub live : AreAllLive (pool_of rounds) tables
   pub routing : (prefix : PrefixValue) (a : ℕ) → round_routing (pool_of rounds) tables prefix a ≡ kept_rounds rounds round prefix a
 
--- why there is no such table: the round or the prefix is not there (own rule)
+-- why there is no such table: the round or the prefix is not there
 abbrev pub no_table : World → ℕ → PrefixValue → Option QueryError
 no_table w round prefix = unless (has_round w round) (refused.UnknownRound round) (unless (has_world_prefix w prefix) (refused.UnknownPrefix prefix) None)
 
--- why there are no such tables: the round is not there (own rule)
+-- why there are no such tables: the round is not there
 abbrev pub no_round : World → ℕ → Option QueryError
 no_round w round = unless (has_round w round) (refused.UnknownRound round) None

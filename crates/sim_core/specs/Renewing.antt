@@ -15,23 +15,23 @@ use Rattle.data_trace.specs.Watches.{Row}
 use Rattle.data_trace.specs.declared.watch.Watch.{Watch}
 use Rattle.sim_core.specs.declared.watching.RoundWatches.{RoundWatches}
 
--- each watch of a round can keep all ASes of the graph without memory (own rule)
+-- each watch of a round can keep all ASes of the graph without memory
 abbrev pub AreRoomy : Topology → RoundWatches → Type 0
 AreRoomy g one = (place : ℕ) (w : Watch) → slice_get one.watches.items place ≡ Some w → as_count g ≤ spare_of w
 
--- so can those of each round (own rule)
+-- so can those of each round
 abbrev pub AreRoundsRoomy : Topology → List RoundWatches → Type 0
 AreRoundsRoomy g all = (before : ℕ) (one : RoundWatches) → slice_get all before ≡ Some one → AreRoomy g one
 
--- what is seen of a watch is right but at these ASes: where neither entries, announcements nor policy, customers or presence changed (own rule)
+-- what is seen of a watch is right but at these ASes: where neither entries, announcements nor policy, customers or presence changed
 pub record IsRightBut (g : Topology) (plan : Plan) (held : PrefixValue → ℕ → Option Entry) (book : PolicyBook Kind) (changed ends : List ℕ) (s : AddrValue × List Row) : Type 0 where
   pub hops : KeepsHops g (next_hop plan held s.0) changed ends s.1
   pub groups : KeepsGroups g (λ a. label (policy_at book a)) ends s.1
 
--- so is each of a round (own rule)
+-- so is each of a round
 abbrev pub CanFollow : Topology → Plan → (PrefixValue → ℕ → Option Entry) → PolicyBook Kind → List ℕ → List ℕ → List (AddrValue × List Row) → Type 0
 CanFollow g plan held book changed ends seen = (place : ℕ) (s : AddrValue × List Row) → slice_get seen place ≡ Some s → IsRightBut g plan held book changed ends s
 
--- so is each of all rounds, of which the first of the list is round 1 (own rule)
+-- so is each of all rounds, of which the first of the list is round 1
 abbrev pub CanAllFollow : Topology → Plan → (ℕ → PrefixValue → ℕ → Option Entry) → PolicyBook Kind → (ℕ → List ℕ) → List ℕ → List (List (AddrValue × List Row)) → Type 0
 CanAllFollow g plan held book changed ends all = (before : ℕ) (seen : List (AddrValue × List Row)) → slice_get all before ≡ Some seen → CanFollow g plan (held (suc before)) book (changed (suc before)) ends seen

@@ -7,10 +7,10 @@ use Rattle.sim_core.specs.Parts.{world_by}
 use Rattle.sim_core.specs.Watching.{rows_in, watch_at}
 use Rattle.sim_core.specs.declared.sim.Sim.{Sim}
 
--- the world of a simulation (own rule)
+-- the world of a simulation
 abbrev pub world_seen : Sim → World
 world_seen sim = world_by sim.graph sim.vrps sim.book sim.rounds sim.watched.items
 
--- what a simulation keeps: for each round and prefix what each AS holds, the ranks, and the rows of the watches (own rule)
+-- what a simulation keeps: for each round and prefix what each AS holds, the ranks, and the rows of the watches
 abbrev pub kept : Sim → Kept
 kept sim = record { routings = kept_rounds sim.rounds; ranks = rank_at sim.ranks; rows = λ round addr. rows_in (watch_at sim.watches.items sim.watched.items round addr) }

@@ -22,66 +22,66 @@ use Rattle.sim_core.specs.World.{World, has_round, is_watched}
 use Rattle.sim_core.specs.Answers.{unless}
 use Rattle.sim_core.specs.Kept.{Kept}
 
--- where an AS does not announce a prefix of the plan, the second AS of its entry's path is an AS of the graph (own rule)
+-- where an AS does not announce a prefix of the plan, the second AS of its entry's path is an AS of the graph
 abbrev pub GoesOnInside : Topology → Plan → (PrefixValue → ℕ → Option Entry) → Type 0
 GoesOnInside g plan held = (p : PrefixValue) (a b : ℕ) → IsTrue (has_prefix plan p) → announces plan p a ≡ false → second_of (held p a) ≡ Some b → has g b ≡ true
 
--- what contracts see of a watch: its address and its rows (own rule)
+-- what contracts see of a watch: its address and its rows
 abbrev pub seen_of : Watch → AddrValue × List Row
 seen_of w = (addr_of w, rows_of w)
 
--- the same of each watch of a round, in their order (own rule)
+-- the same of each watch of a round, in their order
 abbrev pub seen_in : RoundWatches → List (AddrValue × List Row)
 seen_in one = map seen_of one.watches.items
 
--- the addresses of the watches of a round, in their order (own rule)
+-- the addresses of the watches of a round, in their order
 abbrev pub addrs_in : RoundWatches → List AddrValue
 addrs_in one = map addr_of one.watches.items
 
--- the watches of a round have the row of each AS (own rule)
+-- the watches of a round have the row of each AS
 abbrev pub AreWatches : Topology → Plan → (PrefixValue → ℕ → Option Entry) → PolicyBook Kind → List (AddrValue × List Row) → Type 0
 AreWatches g plan held book seen = (place : ℕ) (s : AddrValue × List Row) → slice_get seen place ≡ Some s → AreRows g (next_hop plan held s.0) (λ a. label (policy_at book a)) s.1
 
--- so have those of each round, of which the first of the list is round 1 (own rule)
+-- so have those of each round, of which the first of the list is round 1
 pub record AreRoundWatches (g : Topology) (plan : Plan) (held : ℕ → PrefixValue → ℕ → Option Entry) (book : PolicyBook Kind) (rounds : ℕ) (all : List (List (AddrValue × List Row))) : Type 0 where
   pub count : length all ≡ rounds
   pub each : (before : ℕ) (seen : List (AddrValue × List Row)) → slice_get all before ≡ Some seen → AreWatches g plan (held (suc before)) book seen
 
--- there are so many rounds, and in each the watches of these addresses, in their order (own rule)
+-- there are so many rounds, and in each the watches of these addresses, in their order
 pub record HasWatches (rounds : ℕ) (addrs : List AddrValue) (all : List RoundWatches) : Type 0 where
   pub count : length all ≡ rounds
   pub each : (before : ℕ) (one : RoundWatches) → slice_get all before ≡ Some one → addrs_in one ≡ addrs
 
--- the place of an address in a list, or the list's length where it does not stand there (own rule)
+-- the place of an address in a list, or the list's length where it does not stand there
 abbrev pub place_in : List AddrValue → AddrValue → ℕ
 place_in addrs addr = position_or_len (eq_by_cmp addr_cmp addr) addrs
 
--- the place is that of an address that stands in the list (own rule)
+-- the place is that of an address that stands in the list
 pub record IsPlace (addrs : List AddrValue) (addr : AddrValue) (place : ℕ) : Type 0 where
   pub watched : set.contains (set.from_list {R = addr_cmp} addrs) addr ≡ true
   pub is : place ≡ place_in addrs addr
   pub within : place_in addrs addr < length addrs
 
--- the place of an address, or none where it does not stand in the list (own rule)
+-- the place of an address, or none where it does not stand in the list
 abbrev pub IsPlaceOrNone : List AddrValue → AddrValue → Option ℕ → Type 0
 IsPlaceOrNone addrs addr None = set.contains (set.from_list {R = addr_cmp} addrs) addr ≡ false
 IsPlaceOrNone addrs addr (Some place) = IsPlace addrs addr place
 
--- the watch of a round and an address, if there is one (own rule)
+-- the watch of a round and an address, if there is one
 abbrev pub watch_at : List RoundWatches → List AddrValue → ℕ → AddrValue → Option Watch
 watch_at all addrs round addr = option_and_then (λ (one : RoundWatches). slice_get one.watches.items (place_in addrs addr)) (slice_get all (round - 1))
 
--- the rows of a watch, if there is one (own rule)
+-- the rows of a watch, if there is one
 abbrev pub rows_in : Option Watch → List Row
 rows_in None = []
 rows_in (Some watch) = rows_of watch
 
--- the watch is that of a round and an address that are there (own rule)
+-- the watch is that of a round and an address that are there
 pub record IsWatchOf (w : World) (k : Kept) (round : ℕ) (addr : AddrValue) (watch : Watch) : Type 0 where
   pub round_there : has_round w round ≡ true
   pub watched : is_watched w addr ≡ true
   pub rows : k.rows round addr ≡ rows_of watch
 
--- why there is no such watch: the round is not there, or the address is not watched (own rule)
+-- why there is no such watch: the round is not there, or the address is not watched
 abbrev pub no_watch : World → ℕ → AddrValue → Option QueryError
 no_watch w round addr = unless (has_round w round) (refused.UnknownRound round) (unless (is_watched w addr) (refused.NotWatched addr) None)

@@ -16,7 +16,7 @@ use Rattle.origin_validation.specs.Judging.{state_of}
 use Rattle.stability_laws.specs.Offers.{Setting}
 use Rattle.stability_laws.specs.Plans.{Plan, announcers_of, has_prefix as plans_prefix}
 
--- the links between ASes, the validated payloads, the policies of the ASes that have another than the plain one, what is announced and leaked, how many rounds there are, and which addresses are watched (own rule)
+-- the links between ASes, the validated payloads, the policies of the ASes that have another than the plain one, what is announced and leaked, how many rounds there are, and which addresses are watched
 pub record World : Type 0 where
   pub links : LinkMap
   pub payloads : Payloads
@@ -29,35 +29,35 @@ pub record World : Type 0 where
 abbrev pub leakers : Plan → List ℕ
 leakers plan = map (λ e. e.1) (fin.keys plan.leakers)
 
--- the ASes that an announcement, a leak or a policy names, some twice (own rule)
+-- the ASes that an announcement, a leak or a policy names, some twice
 abbrev pub named : Plan → fin.FinMap nat_cmp Kind → List ℕ
 named plan kinds = announcers_of plan ++ (leakers plan ++ fin.keys kinds)
 
--- the graph of these links and these marks; it has no room (own rule)
+-- the graph of these links and these marks; it has no room
 abbrev pub graph_of : LinkMap → set.FinSet nat_cmp → Topology
 graph_of links marks = record { links = links; marked = marks; room = None }
 
--- the graph of a world: its links, and the ASes that an announcement, a leak or a policy names, which are there without a link too (own rule)
+-- the graph of a world: its links, and the ASes that an announcement, a leak or a policy names, which are there without a link too
 abbrev pub topology : World → Topology
 topology w = graph_of w.links (set.from_list (named w.plan w.kinds))
 
--- an AS of the world (own rule)
+-- an AS of the world
 abbrev pub has_as : World → ℕ → Bool
 has_as w = has (topology w)
 
--- a prefix of the world is one that the scenario announces (own rule)
+-- a prefix of the world is one that the scenario announces
 abbrev pub has_prefix : World → PrefixValue → Bool
 has_prefix w prefix = plans_prefix w.plan prefix
 
--- rounds are counted from 1 (own rule)
+-- rounds are counted from 1
 abbrev pub has_round : World → ℕ → Bool
 has_round w round = nat_le 1 round && nat_le round w.rounds
 
--- the address is watched (own rule)
+-- the address is watched
 abbrev pub is_watched : World → AddrValue → Bool
 is_watched w addr = set.contains w.watched addr
 
--- the policy of an AS; an AS that none is named for has the plain one (own rule)
+-- the policy of an AS; an AS that none is named for has the plain one
 abbrev pub kind_at : World → ℕ → Kind
 kind_at w a = unwrap_or (fin.get w.kinds a) Plain
 

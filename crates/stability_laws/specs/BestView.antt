@@ -1,4 +1,4 @@
--- The best offer, by its view (own rule; private clauses cite these words).
+-- The best offer, by its view.
 use Rattle.std.specs.Prelude.{◌≡◌, ◌≢◌, ℕ, true, IsTrue, if◌then◌else◌, Option, None, Some, List}
 use Rattle.policy_laws.specs.declared.policy.View.{View}
 use Rattle.policy_laws.specs.Policy.{Policy}

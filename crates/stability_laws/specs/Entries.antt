@@ -12,6 +12,6 @@ class_of Customer = class.Customer
 class_of Peer = class.Peer
 class_of Provider = class.Provider
 
--- what an AS with the seed holds: its own path with its number, as class Origin (own rule)
+-- what an AS with the seed holds: its own path with its number, as class Origin
 abbrev pub seed_entry : Seed → Entry
 seed_entry s = record { class = class.Origin; path = s.path; otc = s.otc }

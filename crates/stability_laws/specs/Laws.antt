@@ -17,7 +17,7 @@ use Rattle.stability_laws.specs.Plans.{Plan, IsSound, has_prefix, announces}
 use Rattle.stability_laws.specs.Rounds.{AreRounds}
 use Rattle.net_names.specs.Prefixes.{PrefixValue}
 
--- two settings and routings are alike around AS a: its links, its policy, what its neighbours export and whether they mark, what they hold, and, where its policy reads them, the states (own rule)
+-- two settings and routings are alike around AS a: its links, its policy, what its neighbours export and whether they mark, what they hold, and, where its policy reads them, the states
 pub record SameAround (v w : Setting) (f g : ℕ → Option Entry) (a : ℕ) : Type 0 where
   pub links : (n : ℕ) → v.what a n ≡ w.what a n
   pub policy : v.policy a ≡ w.policy a
@@ -31,18 +31,18 @@ abbrev pub IsForCustomersOnly : Option Entry → Type 0
 IsForCustomersOnly None = Unit {0}
 IsForCustomersOnly (Some e) = (e.class ≡ class.Peer) ⊎ (e.class ≡ class.Provider)
 
--- the offer, where the giver is a customer (own rule)
+-- the offer, where the giver is a customer
 abbrev pub if_customer : Option Rel → Option Offer → Option Offer
 if_customer None o = None
 if_customer (Some Customer) o = o
 if_customer (Some Peer) o = None
 if_customer (Some Provider) o = None
 
--- the offer that n makes to a, where n is a customer of a (own rule)
+-- the offer that n makes to a, where n is a customer of a
 abbrev pub customer_offer : Setting → (ℕ → Option Entry) → ℕ → ℕ → Option Offer
 customer_offer w f n a = if_customer (w.what a n) (offer w f n a)
 
--- the offer that n makes to a follows from their link, what n exports and whether it marks, the policy of a, the states, and the entry at n (own rule)
+-- the offer that n makes to a follows from their link, what n exports and whether it marks, the policy of a, the states, and the entry at n
 abbrev pub OfferFollows : {P : Type 0} → (P → Policy) → Type 0
 OfferFollows {P} meaning =
     (v w : Topology) (book other_book : PolicyBook P) (state : ℕ → State) (f g : ℕ → Option Entry) (n a : ℕ) →
@@ -50,13 +50,13 @@ OfferFollows {P} meaning =
     what v a n ≡ what w a n → p.exports ≡ q.exports → p.marks ≡ q.marks → meaning (policy_at book a) ≡ meaning (policy_at other_book a) → f n ≡ g n →
     offer (setting meaning v book state) f n a ≡ offer (setting meaning w other_book state) g n a
 
--- an offer comes over a link, and its view and its class name what the giver is (own rule)
+-- an offer comes over a link, and its view and its class name what the giver is
 abbrev pub OfferNames : {P : Type 0} → (P → Policy) → Type 0
 OfferNames {P} meaning =
     (w : Topology) (book : PolicyBook P) (state : ℕ → State) (f : ℕ → Option Entry) (n a : ℕ) (o : Offer) →
     offer (setting meaning w book state) f n a ≡ Some o → GivenBy (what w a n) n o
 
--- whether a routing is right at an AS follows from its policy, its seed, its entry and the offers made to it (own rule)
+-- whether a routing is right at an AS follows from its policy, its seed, its entry and the offers made to it
 abbrev pub RightByOffers : {P : Type 0} → (P → Policy) → Type 0
 RightByOffers {P} meaning =
     (v w : Topology) (book other_book : PolicyBook P) (state other_state : ℕ → State) (seeds other_seeds : ℕ → Option Seed) (f g : ℕ → Option Entry) (a : ℕ) →
@@ -64,7 +64,7 @@ RightByOffers {P} meaning =
     ((n : ℕ) → offer (setting meaning v book state) f n a ≡ offer (setting meaning w other_book other_state) g n a) →
     IsRight (setting meaning v book state) seeds f a → IsRight (setting meaning w other_book other_state) other_seeds g a
 
--- whether a routing is right at an AS follows from what is around it (own rule)
+-- whether a routing is right at an AS follows from what is around it
 abbrev pub RightFollows : {P : Type 0} → (P → Policy) → Type 0
 RightFollows {P} meaning =
     (v w : Topology) (book other_book : PolicyBook P) (state other_state : ℕ → State) (seeds other_seeds : ℕ → Option Seed) (f g : ℕ → Option Entry) (a : ℕ) →
@@ -98,7 +98,7 @@ OneStableRouting {P} meaning =
     (w : Topology) (book : PolicyBook P) (state : ℕ → State) (seeds : ℕ → Option Seed) (f g : ℕ → Option Entry) →
     HasNoProviderCycle (what w) → IsStable (setting meaning w book state) seeds f → IsStable (setting meaning w book state) seeds g → (a : ℕ) → f a ≡ g a
 
--- two families of stable routings of one world without a provider cycle are equal (own rule)
+-- two families of stable routings of one world without a provider cycle are equal
 abbrev pub OneFamily : {P : Type 0} → (P → Policy) → Type 0
 OneFamily {P} meaning =
     (w : Topology) (book : PolicyBook P) (state : PrefixValue → ℕ → State) (plan : Plan) (rounds : ℕ) (g h : ℕ → PrefixValue → ℕ → Option Entry) →

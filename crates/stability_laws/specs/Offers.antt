@@ -11,7 +11,7 @@ use Rattle.net_names.specs.Numbers.{occurs, last_or}
 use Rattle.stability_laws.specs.declared.entry.Entry.{Entry}
 use Rattle.stability_laws.specs.Entries.{class_of}
 
--- what stability at one prefix reads of a world: which numbers are ASes, what the second AS is to the first, the policy of each AS, and the state of the prefix with each origin (own rule)
+-- what stability at one prefix reads of a world: which numbers are ASes, what the second AS is to the first, the policy of each AS, and the state of the prefix with each origin
 pub record Setting : Type 0 where
   pub has : ℕ → Bool
   pub what : ℕ → ℕ → Option Rel
@@ -55,7 +55,7 @@ passed_on n_marks a_marks n a from e = record {
   otc = number_kept a_marks n from (number_sent n_marks n (converse from) e.otc);
 }
 
--- the list has no number (own rule)
+-- the list has no number
 abbrev pub is_empty : List ℕ → Bool
 is_empty [] = true
 is_empty (x ∷ xs) = false
@@ -79,7 +79,7 @@ offer_given sender receiver state n a (Some from) (Some e) =
 abbrev pub offer : Setting → (ℕ → Option Entry) → ℕ → ℕ → Option Offer
 offer w f n a = offer_given (w.policy n) (w.policy a) w.state n a (w.what a n) (f n)
 
--- an offer of n comes over a link, and its view and its class name what n is (own rule)
+-- an offer of n comes over a link, and its view and its class name what n is
 pub record GivenBy (what : Option Rel) (n : ℕ) (o : Offer) : Type 0 where
   pub from : Rel
   pub linked : what ≡ Some from

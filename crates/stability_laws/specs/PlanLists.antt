@@ -1,4 +1,4 @@
--- Lists in rising order as a plan (own rule).
+-- Lists in rising order as a plan.
 use Rattle.std.specs.Prelude.{◌≡◌, ℕ, T, List, map}
 use Rattle.std.specs.Ordering.{nat_cmp}
 use Rattle.std.specs.declared.cmp.Ordering.{Ordering}
@@ -9,23 +9,23 @@ use Rattle.net_names.specs.Links.{pair_cmp}
 use Rattle.stability_laws.specs.declared.seed_plan.Announcement.{Announcement}
 use Rattle.stability_laws.specs.Plans.{announcement_cmp, Plan, announcing_set, IsSound}
 
--- the keys as the entries of a set (own rule)
+-- the keys as the entries of a set
 abbrev pub marks : {K : Type 0} → List K → List (K × Unit {0})
 marks = map (λ k. (k, tt))
 
--- the set of the keys, where they rise (own rule)
+-- the set of the keys, where they rise
 abbrev pub set_of : {K : Type 0} (cmp : K → K → Ordering) → List K → set.FinSet cmp
 set_of cmp keys = fin.from_sorted (marks keys)
 
--- the keys rise (own rule)
+-- the keys rise
 abbrev pub IsRising : {K : Type 0} → (K → K → Ordering) → List K → Type 0
 IsRising cmp keys = T (fin.is_sorted cmp (marks keys))
 
--- the entry that an announcement makes: at its prefix and AS, its path (own rule)
+-- the entry that an announcement makes: at its prefix and AS, its path
 abbrev pub entry_of : Announcement → (PrefixValue × ℕ) × List ℕ
 entry_of x = ((x.prefix, x.asn), x.path)
 
--- the plan that the lists make (own rule)
+-- the plan that the lists make
 abbrev pub plan_of : List PrefixValue → List Announcement → List (ℕ × ℕ) → Plan
 plan_of prefixes announced leakers = record {
   prefixes = set_of prefix_cmp prefixes;
@@ -33,7 +33,7 @@ plan_of prefixes announced leakers = record {
   leakers = set_of pair_cmp leakers;
 }
 
--- the lists rise, the plan that they make is sound, and the announcers are the ASes that announce in it (own rule)
+-- the lists rise, the plan that they make is sound, and the announcers are the ASes that announce in it
 pub record ArePlan (prefixes : List PrefixValue) (announced : List Announcement) (announcers : List ℕ) (leakers : List (ℕ × ℕ)) : Type 0 where
   pub prefixes_rise : IsRising prefix_cmp prefixes
   pub announced_rise : T (fin.is_sorted announcement_cmp (map entry_of announced))

@@ -10,40 +10,40 @@ use Rattle.net_names.specs.Numbers.{first_or}
 use Rattle.net_names.specs.Prefixes.{PrefixValue, prefix_code, prefix_cmp}
 use Rattle.net_names.specs.Links.{pair_cmp}
 
--- announcements are ordered by prefix, and then by AS (own rule)
+-- announcements are ordered by prefix, and then by AS
 abbrev pub announcement_cmp : PrefixValue × ℕ → PrefixValue × ℕ → Ordering
 announcement_cmp a b = ordering_then (prefix_cmp a.0 b.0) (nat_cmp a.1 b.1)
 
--- a plan has the prefixes, the path that an AS announces of a prefix, and which AS leaks in which round (own rule)
+-- a plan has the prefixes, the path that an AS announces of a prefix, and which AS leaks in which round
 pub record Plan : Type 0 where
   pub prefixes : set.FinSet prefix_cmp
   pub announced : fin.FinMap announcement_cmp (List ℕ)
   pub leakers : set.FinSet pair_cmp
 
--- a plan is stored as the triple of its members (own rule)
+-- a plan is stored as the triple of its members
 abbrev pub plan_code : Coded Plan
 plan_code =
     code_by (set.FinSet prefix_cmp × (fin.FinMap announcement_cmp (List ℕ) × set.FinSet pair_cmp))
     (coded× (set.code prefix_code) (coded× (fin.code (coded× prefix_code coded_ℕ) (coded_list coded_ℕ)) (set.code (coded× coded_ℕ coded_ℕ))))
     (λ p. (p.prefixes, (p.announced, p.leakers))) (λ t. record { prefixes = t.0; announced = t.1.0; leakers = t.1.1 }) (λ _. refl)
 
--- the plan has the prefix (own rule)
+-- the plan has the prefix
 abbrev pub has_prefix : Plan → PrefixValue → Bool
 has_prefix plan prefix = fin.contains_key plan.prefixes prefix
 
--- the path that the AS announces of the prefix, where it announces it (own rule)
+-- the path that the AS announces of the prefix, where it announces it
 abbrev pub announced_path : Plan → PrefixValue → ℕ → Option (List ℕ)
 announced_path plan prefix a = fin.get plan.announced (prefix, a)
 
--- the AS announces the prefix (own rule)
+-- the AS announces the prefix
 abbrev pub announces : Plan → PrefixValue → ℕ → Bool
 announces plan prefix a = is_some (announced_path plan prefix a)
 
--- the AS leaks in the round (own rule)
+-- the AS leaks in the round
 abbrev pub leaks_in : Plan → ℕ → ℕ → Bool
 leaks_in plan round a = fin.contains_key plan.leakers (round, a)
 
--- the plan in which nobody announces or leaks anything (own rule)
+-- the plan in which nobody announces or leaks anything
 abbrev pub empty_plan : Plan
 empty_plan = record { prefixes = fin.empty; announced = fin.empty; leakers = fin.empty }
 
@@ -51,48 +51,48 @@ empty_plan = record { prefixes = fin.empty; announced = fin.empty; leakers = fin
 abbrev pub announcer_of : List ℕ → ℕ
 announcer_of path = first_or 0 path
 
--- the plan in which the first AS of the path announces the path of the prefix too (own rule)
+-- the plan in which the first AS of the path announces the path of the prefix too
 abbrev pub with_announcement : Plan → PrefixValue → List ℕ → Plan
 with_announcement plan prefix path = record plan { prefixes = fin.insert plan.prefixes prefix tt; announced = fin.insert plan.announced (prefix, announcer_of path) path }
 
--- the plan in which the AS leaks in the round too (own rule)
+-- the plan in which the AS leaks in the round too
 abbrev pub with_leaker : Plan → ℕ → ℕ → Plan
 with_leaker plan round a = record plan { leakers = fin.insert plan.leakers (round, a) tt }
 
--- each announced path starts with its AS and has at most 4294967294 numbers, its prefix is one of the plan's, and there are leakers in rounds from 2 on alone (own rule)
+-- each announced path starts with its AS and has at most 4294967294 numbers, its prefix is one of the plan's, and there are leakers in rounds from 2 on alone
 pub record IsSound (plan : Plan) : Type 0 where
   pub starts : (prefix : PrefixValue) (a : ℕ) (path : List ℕ) → announced_path plan prefix a ≡ Some path → slice_get path 0 ≡ Some a
   pub short : (prefix : PrefixValue) (a : ℕ) (path : List ℕ) → announced_path plan prefix a ≡ Some path → length path ≤ 4294967294
   pub known : (prefix : PrefixValue) (a : ℕ) (path : List ℕ) → announced_path plan prefix a ≡ Some path → IsTrue (has_prefix plan prefix)
   pub later : (round a : ℕ) → IsTrue (leaks_in plan round a) → 2 ≤ round
 
--- the prefixes of the plan in their order (own rule)
+-- the prefixes of the plan in their order
 abbrev pub prefixes_of : Plan → List PrefixValue
 prefixes_of plan = fin.keys plan.prefixes
 
--- the set of the ASes that announce a prefix (own rule)
+-- the set of the ASes that announce a prefix
 abbrev pub announcing_set : Plan → set.FinSet nat_cmp
 announcing_set plan = fin.from_entries (map (λ x. (x.1, tt)) (fin.keys plan.announced))
 
--- the ASes that announce a prefix, in rising order (own rule)
+-- the ASes that announce a prefix, in rising order
 abbrev pub announcers_of : Plan → List ℕ
 announcers_of plan = fin.keys (announcing_set plan)
 
--- of pairs of a round and an AS, the ASes of that round (own rule)
+-- of pairs of a round and an AS, the ASes of that round
 abbrev pub in_round : ℕ → List (ℕ × ℕ) → List ℕ
 in_round round pairs = map (λ x. x.1) (filter (λ x. x.0 == round) pairs)
 
--- the ASes that leak in the round, in rising order (own rule)
+-- the ASes that leak in the round, in rising order
 abbrev pub leakers_of : Plan → ℕ → List ℕ
 leakers_of plan round = in_round round (fin.keys plan.leakers)
 
--- the AS announces a prefix of the plan (own rule)
+-- the AS announces a prefix of the plan
 pub record IsAnnouncer (plan : Plan) (a : ℕ) : Type 0 where
   pub prefix : PrefixValue
   pub path : List ℕ
   pub announced : announced_path plan prefix a ≡ Some path
 
--- the list has all that is meant, nothing else, and rises, so that nothing stands twice (own rule)
+-- the list has all that is meant, nothing else, and rises, so that nothing stands twice
 pub record ListsRising {K : Type 0} (cmp : K → K → Ordering) (IsMeant : K → Type 0) (xs : List K) : Type 0 where
   pub whole : (k : K) → IsMeant k → (place : ℕ) × (slice_get xs place ≡ Some k)
   pub only : (place : ℕ) (k : K) → slice_get xs place ≡ Some k → IsMeant k

@@ -17,18 +17,18 @@ leaked_class Customer e = None
 leaked_class Peer e = Some (record { path = e.path; otc = e.otc })
 leaked_class Provider e = Some (record { path = e.path; otc = e.otc })
 
--- the seed of an AS: the path that it announces, without a number; else, at a leaker, what it leaks of what it held in the round before (own rule)
+-- the seed of an AS: the path that it announces, without a number; else, at a leaker, what it leaks of what it held in the round before
 abbrev pub seed_given : Option (List ℕ) → Bool → Option Entry → Option Seed
 seed_given (Some path) leaks held = Some (record { path = path; otc = None })
 seed_given None false held = None
 seed_given None true None = None
 seed_given None true (Some e) = leaked_class e.class e
 
--- the seeds of a round and a prefix, given the routing of the round before, in which leakers look up what they leak; in round 1 none leaks (own rule)
+-- the seeds of a round and a prefix, given the routing of the round before, in which leakers look up what they leak; in round 1 none leaks
 abbrev pub seeds_of : Plan → ℕ → PrefixValue → (ℕ → Option Entry) → ℕ → Option Seed
 seeds_of plan round prefix before a = seed_given (announced_path plan prefix a) (nat_lt 1 round && leaks_in plan round a) (before a)
 
--- each round's routing of each prefix is stable for the seeds of that round, which follow from the routing of the round before (own rule)
+-- each round's routing of each prefix is stable for the seeds of that round, which follow from the routing of the round before
 abbrev pub AreRounds : (PrefixValue → Setting) → Plan → ℕ → (ℕ → PrefixValue → ℕ → Option Entry) → Type 0
 AreRounds setting plan rounds g =
     (before : ℕ) (prefix : PrefixValue) → before < rounds → IsTrue (has_prefix plan prefix) →

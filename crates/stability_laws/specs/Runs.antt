@@ -7,11 +7,11 @@ abbrev pub IsRunBy : {S : Type 0} → (S → ℕ → S → Type 0) → List ℕ 
 IsRunBy {S} step [] f g = f ≡ g
 IsRunBy {S} step (x ∷ xs) f g = (h : S) × step f x h × IsRunBy step xs h g
 
--- each AS stands in the list (own rule)
+-- each AS stands in the list
 abbrev pub HasAll : (ℕ → Bool) → List ℕ → Type 0
 HasAll has xs = (a : ℕ) → has a ≡ true → occurs a xs ≡ true
 
--- only ASes stand in the list (own rule)
+-- only ASes stand in the list
 abbrev pub HasOnly : (ℕ → Bool) → List ℕ → Type 0
 HasOnly has xs = (a : ℕ) → occurs a xs ≡ true → has a ≡ true
 

@@ -9,19 +9,19 @@ use Rattle.stability_laws.specs.Offers.{Setting, Offer, offer}
 use Rattle.stability_laws.specs.Stable.{IsRightGiven}
 use Rattle.stability_laws.specs.Laws.{customer_offer}
 
--- the entry, where its class is Origin or Customer (own rule)
+-- the entry, where its class is Origin or Customer
 abbrev pub low_by : Class → Entry → Option Entry
 low_by class.Origin e = Some e
 low_by class.Customer e = Some e
 low_by class.Peer e = None
 low_by class.Provider e = None
 
--- what is held, where it is of class Origin or Customer (own rule)
+-- what is held, where it is of class Origin or Customer
 abbrev pub low : Option Entry → Option Entry
 low None = None
 low (Some e) = low_by e.class e
 
--- the routing's Origin and Customer entries alone (own rule)
+-- the routing's Origin and Customer entries alone
 abbrev pub lows : (ℕ → Option Entry) → ℕ → Option Entry
 lows f n = low (f n)
 
@@ -30,7 +30,7 @@ pub record IsStep (p : Policy) (seed : Option Seed) (offers : ℕ → Option Off
   pub others : (n : ℕ) → n ≢ a → g n ≡ f n
   pub right : IsRightGiven p seed offers (g a)
 
--- a step of a in which it looks at its customers' offers alone (own rule)
+-- a step of a in which it looks at its customers' offers alone
 abbrev pub IsStepUp : Setting → (ℕ → Option Seed) → (ℕ → Option Entry) → ℕ → (ℕ → Option Entry) → Type 0
 IsStepUp w seeds f a g = IsStep (w.policy a) (seeds a) (λ n. customer_offer w f n a) f a g
 
@@ -38,6 +38,6 @@ IsStepUp w seeds f a g = IsStep (w.policy a) (seeds a) (λ n. customer_offer w f
 abbrev pub IsStepWhole : Setting → (ℕ → Option Seed) → (ℕ → Option Entry) → ℕ → (ℕ → Option Entry) → Type 0
 IsStepWhole w seeds f a g = IsStep (w.policy a) (seeds a) (λ n. offer w f n a) f a g
 
--- what a holds is right with its customers' offers alone (own rule)
+-- what a holds is right with its customers' offers alone
 abbrev pub IsRightUp : Setting → (ℕ → Option Seed) → (ℕ → Option Entry) → ℕ → Type 0
 IsRightUp w seeds f a = IsRightGiven (w.policy a) (seeds a) (λ n. customer_offer w f n a) (f a)

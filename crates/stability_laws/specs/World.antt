@@ -6,6 +6,6 @@ use Rattle.as_graph.specs.Topology.{Topology, what, has}
 use Rattle.stability_laws.specs.Book.{PolicyBook, policy_at}
 use Rattle.stability_laws.specs.Offers.{Setting}
 
--- what stability reads of a graph, a book of policies whose meanings are known, and the states of the prefix (own rule)
+-- what stability reads of a graph, a book of policies whose meanings are known, and the states of the prefix
 abbrev pub setting : {P : Type 0} → (P → Policy) → Topology → PolicyBook P → (ℕ → State) → Setting
 setting meaning g book state = record { has = has g; what = what g; policy = λ a. meaning (policy_at book a); state = state }

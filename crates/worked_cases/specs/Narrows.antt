@@ -15,11 +15,11 @@ class_place Customer = 0
 class_place Peer = 1
 class_place Provider = 1
 
--- offers are compared by class, then by the length of the path, and then the higher neighbour comes first (RFC 4271, section 9.1.2, has the length; the rest is an own rule)
+-- offers are compared by class, then by the length of the path, and then the higher neighbour comes first (RFC 4271, section 9.1.2)
 abbrev pub narrow_cmp : View → View → Ordering
 narrow_cmp x y = ordering_then (nat_cmp (class_place x.rel) (class_place y.rel)) (ordering_then (nat_cmp x.length y.length) (nat_cmp y.neighbour x.neighbour))
 
--- own routes are exported to every neighbour, customers' routes to customers and peers, peers' and providers' routes to customers (own rule)
+-- own routes are exported to every neighbour, customers' routes to customers and peers, peers' and providers' routes to customers
 abbrev pub narrow_exports : Class → Rel → Bool
 narrow_exports class.Origin to = true
 narrow_exports class.Customer Customer = true
@@ -32,7 +32,7 @@ narrow_exports class.Provider Customer = true
 narrow_exports class.Provider Peer = false
 narrow_exports class.Provider Provider = false
 
--- the narrow policy accepts paths of at most three numbers, reads no state, looks at no mark, and marks nothing (own rule)
+-- the narrow policy accepts paths of at most three numbers, reads no state, looks at no mark, and marks nothing
 abbrev pub narrow_policy : Policy
 narrow_policy = record {
   accepts = λ v. nat_le v.length 3;
