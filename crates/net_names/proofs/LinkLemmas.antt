@@ -1,12 +1,12 @@
 -- Links in rising order as a finite map: what a search, an insertion and a change say of the map.
-use Rattle.std.proofs.Common.{◌≡◌, ℕ, ◌+◌, ◌≤◌, ◌<◌, Bool, List, [], ◌∷◌, ◌++◌, map, length, take, get_or, set, refl, sym, ap, subst, ◌∙◌, arith, Ok, Err, Option, Some, None, option_map, length-set, zero, suc}
+use Rattle.std.proofs.Common.{◌≡◌, ℕ, ◌+◌, ◌≤◌, ◌<◌, Bool, List, [], ◌∷◌, ◌++◌, map, length, take, get_or, set, refl, sym, ap, subst, ◌∙◌, arith, get_or-take, inl, inr, Ok, Err, Option, Some, None, option_map, length-set, zero, suc}
 use Rattle.std.specs.Prelude.{nat_lt, slice_get}
 use Rattle.std.specs.List.{insert}
-use Rattle.std.specs.declared.cmp.Ordering.TheVariants.{Equal}
+use Rattle.std.specs.declared.cmp.Ordering.TheVariants.{Less, Equal, Greater}
 use Rattle.std.specs.List.Sorted.{IsSearchInRange, IsBinarySearchResult}
 use Rattle.std.proofs.lemmas.List.{length-map, length-take-le, take_more}
 use Rattle.std.proofs.lemmas.List.Edits.{length-insert, insert_end}
-use Rattle.std.proofs.lemmas.Bool.{lt-ltb, ltb-true}
+use Rattle.std.proofs.lemmas.Bool.{lt-ltb, ltb-true, cases_lt}
 use Rattle.std.proofs.lemmas.Option.{slice_get_past}
 use Rattle.std.specs.FinMap as fin
 use Rattle.net_names.specs.declared.routes.Rel.{Rel}
@@ -137,3 +137,27 @@ one_more xs i at l s few lt is e w lower here bound position =
     let more : take (i + 1) xs ≡ take i xs ++ l ∷ [] = take_more xs i l lt ∙ ap (λ (d : Link). take i xs ++ d ∷ []) (sym is) in
     let put : insert (take i xs) at l ≡ take i xs ++ l ∷ [] = ap (λ n. insert (take i xs) n l) (here ∙ sym len) ∙ insert_end (take i xs) l in
     subst AreLinks (put ∙ sym more) (inserted (take i xs) s e w (map_of (take i xs)) refl l.lo l.hi at l.rel lower (bound, position) (λ full. omega (arith, full, len, lt, few)))
+
+-- where all links rise, each stands behind those before it
+module _ (xs : List Link) (i at : ℕ) (l : Link) (s : List Link) (lt : i < length xs) (is : l ≡ get_or xs i l) (e : s ≡ take i xs) (w : AreLinks (take i xs)) (all : AreLinks xs) where
+  len : length (take i xs) ≡ i
+  len = length-take-le i xs (omega (arith, lt))
+
+  below : at < i → pair_cmp (key (get_or (take i xs) at l)) (l.lo, l.hi) ≡ Less
+  below less =
+      let same : get_or (take i xs) at l ≡ get_or xs at l = get_or-take i xs at l less in
+      ap (λ (d : Link). pair_cmp (key d) (l.lo, l.hi)) same ∙ (ap (λ (d : Link). pair_cmp (key (get_or xs at l)) (key d)) is ∙ rising.earlier_below pair_cmp key rel_of xs at i l all.rising less lt)
+
+  pub not_found : Found (take i xs) s e w (map_of (take i xs)) refl l.lo l.hi at → ⊥
+  not_found h =
+      let p = place (take i xs) s e w (map_of (take i xs)) refl l.lo l.hi at h in
+      let x : Less ≡ Equal = sym (below (omega (arith, p.inside, len))) ∙ p.here l in
+      cc
+
+  pub at_the_end : Missed (take i xs) s e w (map_of (take i xs)) refl l.lo l.hi at → at ≡ i
+  at_the_end h =
+      let g = gap (take i xs) s e w (map_of (take i xs)) refl l.lo l.hi at h in
+      elim (cases_lt at i) [
+        | inl less ↦ (let x : Less ≡ Greater = sym (below less) ∙ g.above at l (omega arith) (omega (arith, less, len)) in cc)
+        | inr not_less ↦ omega (arith, not_less, g.inside, len)
+      ]

@@ -96,6 +96,13 @@ module _ {L K X : Type 0} (R : K → K → Ordering) (key : L → K) (value : L 
   below_at x (y ∷ ys) zero d h lt = less (R x (key y)) (left _ _ h)
   below_at x (y ∷ ys) (suc j) d h lt = below_at x ys j d (right _ _ h) (omega (arith, lt))
 
+  -- of two elements the earlier is below the later
+  pub earlier_below : (xs : List L) (i j : ℕ) (d : L) → IsRising xs → i < j → j < length xs → R (key (get_or xs i d)) (key (get_or xs j d)) ≡ Less
+  earlier_below [] i j d h lt in_l = absurd (omega (arith, in_l))
+  earlier_below (x ∷ xs) i zero d h lt in_l = absurd (omega (arith, lt))
+  earlier_below (x ∷ xs) zero (suc j) d h lt in_l = below_at (key x) xs j d (left _ _ h) (omega (arith, in_l))
+  earlier_below (x ∷ xs) (suc i) (suc j) d h lt in_l = earlier_below xs i j d (right _ _ h) (omega (arith, lt)) (omega (arith, in_l))
+
   module _ (o : IsTotalOrder R) (exact : CmpEqualImpliesEq R) where
     turned : (x y : K) (r : Ordering) → R x y ≡ r → R y x ≡ ordering_reverse r
     turned x y r e = o.antisymm y x ∙ ap ordering_reverse e

@@ -78,7 +78,7 @@ fn place_of(links: &[Link], lo: Asn, hi: Asn) -> Result<usize, usize>
 
 /// Whether the links are at most 1,500,000, each has its lower end first, and their pairs rise.
 fn are_rising(links: &[Link]) -> bool
-    ensures { IsTrue result → AreLinks links.now }
+    ensures { IsTrue result ↔ AreLinks links.now }
 {
     if links.len() > MOST_LINKS {
         return false;
@@ -86,11 +86,16 @@ fn are_rising(links: &[Link]) -> bool
     let mut count = 0usize;
     while count < links.len() {
         let link = links[count];
-        let Err(at) = place_of(&links[..count], link.lo, link.hi) else {
+        if link.lo >= link.hi {
             return false;
-        };
-        if at != count || link.lo >= link.hi {
-            return false;
+        }
+        match place_of(&links[..count], link.lo, link.hi) {
+            Ok(_) => return false,
+            Err(at) => {
+                if at != count {
+                    return false;
+                }
+            }
         }
         count += 1;
     }
@@ -107,12 +112,12 @@ impl Links {
         }
     }
 
-    /// The links of a list, where they are at most 1,500,000, each has its lower end first, and their
-    /// pairs rise; else the list again. It takes no memory.
+    /// The links of a list, exactly where they are at most 1,500,000, each has its lower end first, and
+    /// their pairs rise; else the list again. It takes no memory.
     pub fn from_rising(links: Vec<Link>) -> Result<Links, Vec<Link>>
         ensures ok { IfOk result (λ made. made ≡ map_of links.items) }
         ensures rising { OnOk result (AreLinks links.items) }
-        ensures err { IfErr result (λ again. again ≡ links) }
+        ensures err { IfErr result (λ again. (again ≡ links) × (AreLinks links.items → ⊥)) }
     {
         if are_rising(links.as_slice()) {
             Ok(Links { items: links })
