@@ -2,7 +2,9 @@ pub mod Cutting
 pub mod DigitLemmas
 pub mod PairLemmas
 pub mod MarkLemmas
+pub mod MergeLemmas
 pub mod RunLemmas
+pub mod EntryLemmas
 pub mod LinkLemmas
 pub mod Values
 pub mod JoinLemmas

@@ -1,5 +1,5 @@
 -- Pairs with their first lines as a finite map, whose entries the program keeps in order.
-use Rattle.std.proofs.Common.{◌≡◌, ℕ, ◌+◌, ◌<◌, Bool, true, false, cond, List, [], ◌∷◌, Option, Some, None, IsSome, Result, Ok, Err, OnOk, OnErr, refl, sym, ap, ◌∙◌, arith}
+use Rattle.std.proofs.Common.{◌≡◌, ℕ, ◌+◌, ◌<◌, Bool, true, false, cond, List, [], ◌∷◌, Option, Some, None, IsSome, Result, Ok, Err, OnOk, OnErr, refl, sym, ap, ◌∙◌, arith, if◌then◌else◌}
 use Rattle.std.specs.Cmp.{eq_by_cmp_equiv, tied_itself}
 use Rattle.std.specs.Ordering.{eq_by_cmp, is_eq}
 use Rattle.std.specs.declared.cmp.Ordering.{Ordering}
@@ -89,3 +89,7 @@ stands_put m s given = get-insert pairs_total m s given s ∙ ap (λ r. cond (is
 pub ok_by_test : {T E : Type 0} (r : Result T E) (P : Type 0) → is_ok r ≡ true → OnOk r P → P
 ok_by_test (Ok x) P is ok = ok
 ok_by_test (Err e) P is ok = cc
+
+-- what a list is after a growth that is tested to be no error
+pub ok_items : {T E X : Type 0} (r : Result T E) (xs ys zs : List X) → is_ok r ≡ true → xs ≡ (if is_ok r then ys else zs) → xs ≡ ys
+ok_items r xs ys zs is e = e ∙ ap (λ b. if b then ys else zs) is

@@ -1,9 +1,8 @@
--- Entries whose pairs rise, as a map.
-use Rattle.std.proofs.Common.{◌≡◌, ℕ, ◌-◌, ◌<◌, List, [], ◌∷◌, ◌++◌, length, get_or, refl, sym, ap, subst, ◌∙◌, arith, T, Result, Ok, Err, OnOk, OnErr, Some, None, IsSome, cond, All, Bool, true, false, ◌&&◌}
+-- Pairs that rise, each with its first line, as a map.
+use Rattle.std.proofs.Common.{◌≡◌, ℕ, List, [], ◌∷◌, length, get_or, refl, sym, ap, subst, ◌∙◌, arith, T, Result, Ok, Err, OnOk, OnErr, Some, None, IsSome, cond, All, Bool, true, false, ◌&&◌}
 use Rattle.std.specs.FinMap as fin
-use Rattle.std.specs.List.{insert, HoldsAt, AllByRecursion}
+use Rattle.std.specs.List.{AllByRecursion}
 use Rattle.std.specs.Map.{keys_of}
-use Rattle.std.proofs.lemmas.List.Edits.{insert_end}
 use Rattle.std.proofs.lemmas.Map.Keys.{sorted_head, sorted_tail}
 use Rattle.std.specs.Ordering.{eq_by_cmp, is_eq, ordering_reverse}
 use Rattle.std.proofs.lemmas.List.Elements.{All-tail}
@@ -51,42 +50,11 @@ module _ (es : List Entry) (sorted : T (fin.is_sorted pair_cmp es)) where
   pub entries-run_of : fin.entries (run_of es) ≡ es
   entries-run_of = fin.entries-from_sorted pair_cmp es sorted
 
-  gap : (k : ℕ × ℕ) (at : ℕ) → IsSearchInRange (Err at) (length es) → IsBinarySearchResult (λ e. pair_cmp e.0 k) es (Err at) → rising.IsGap pair_cmp key first_of es k at
-  gap k at inside here = rising.gap_by pair_cmp key first_of pairs_total exact_pair es k at rises inside here
-
-  none : (k : ℕ × ℕ) (at : ℕ) → rising.IsGap pair_cmp key first_of es k at → fin.get (run_of es) k ≡ None
-  none k at g = ap (λ fs. fin.get (run_of fs) k) (sym (itself es)) ∙ rising.get_gap pair_cmp key first_of pairs_total exact_pair es k at rises g
-
-  -- a pair above the last one
-  pub past : (k : ℕ × ℕ) → (0 < length es → HoldsAt (λ e. pair_cmp e.0 k ≡ Less) es (length es - 1)) → IsPast (run_of es) k
-  past k last = rw entries-run_of (λ j d lt. (gap k (length es) (omega arith) (rising.all_below (λ (e : Entry). pair_cmp e.0 k) es (last (omega (arith, lt))))).below j d lt lt)
-
   -- what a search finds
   pub found : (k : ℕ × ℕ) (at : ℕ) (d : Entry) → IsSearchInRange (Ok at) (length es) → IsBinarySearchResult (λ e. pair_cmp e.0 k) es (Ok at) → fin.get (run_of es) k ≡ Some (get_or es at d).1
   found k at d inside here =
       ap (λ fs. fin.get (run_of fs) k) (sym (itself es))
       ∙ rising.get_place pair_cmp key first_of pairs_total exact_pair es k at d rises (rising.place_by pair_cmp key first_of pairs_total exact_pair es k at inside here)
-
-  pub missed : (k : ℕ × ℕ) (at : ℕ) → IsSearchInRange (Err at) (length es) → IsBinarySearchResult (λ e. pair_cmp e.0 k) es (Err at) → fin.get (run_of es) k ≡ None
-  missed k at inside here = none k at (gap k at inside here)
-
-  module _ (k : ℕ × ℕ) (is_past : IsPast (run_of es) k) where
-    at_end : rising.IsGap pair_cmp key first_of es k (length es)
-    at_end = record { inside = omega arith; below = λ j d lt inside. (rw entries-run_of at is_past) j d inside; above = λ j d le inside. absurd (omega (arith, le, inside)) }
-
-    pushed : (first : First) → rising.pairs pair_cmp key first_of (insert es (length es) (k, first)) ≡ es ++ (k, first) ∷ []
-    pushed first = itself (insert es (length es) (k, first)) ∙ insert_end es (k, first)
-
-    pub sorted-push : (first : First) → T (fin.is_sorted pair_cmp (es ++ (k, first) ∷ []))
-    sorted-push first = subst (λ fs. T (fin.is_sorted pair_cmp fs)) (pushed first) (rising.rising_insert pair_cmp key first_of pairs_total exact_pair es (k, first) (length es) rises at_end)
-
-    pub run_of-push : (first : First) → run_of (es ++ (k, first) ∷ []) ≡ fin.insert (run_of es) k first
-    run_of-push first =
-        ap run_of (sym (pushed first)) ∙ rising.map_insert pair_cmp key first_of pairs_total exact_pair es (k, first) (length es) rises at_end
-        ∙ ap (λ fs. fin.insert (run_of fs) k first) (itself es)
-
-pub run_of-nothing : run_of [] ≡ fin.empty
-run_of-nothing = fin.empty_of_len (run_of []) (fin.len-entries (run_of []) ∙ ap (λ (es : List Entry). length es) (entries-run_of [] tt))
 
 pub run_of-entries : (m : FirstMap) → run_of (fin.entries m) ≡ m
 run_of-entries m = fin.same_entries_map _ _ (entries-run_of (fin.entries m) (fin.entries_sorted m))

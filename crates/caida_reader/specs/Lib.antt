@@ -3,6 +3,7 @@ pub mod Says
 pub mod Value
 pub mod Firsts
 pub mod Plain
+pub mod Entries
 pub mod Marks
 pub mod Runs
 pub mod Progress

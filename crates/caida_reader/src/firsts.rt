@@ -187,19 +187,8 @@ impl Firsts {
         ensures all { IfOk result (λ links. Lists links.items self.now) }
         ensures lower { IfOk result (λ links. All (λ l. l.lo < l.hi) links.items) }
     {
-        let mut links = self.runs.links(alloc)?;
         let others = self.others.links(alloc)?;
-        match links.extend_from_slice(&others) {
-            Ok(()) => {}
-            Err(_) => return Err(NoMemory),
-        }
-        // One number holds both ends, so that two links are compared at once.
-        match links.sort_by_key(|link| link.lo.get() as u64 * 0x1_0000_0000
-            + link.hi.get() as u64)
-        {
-            Ok(()) => Ok(links),
-            Err(_) => Err(NoMemory),
-        }
+        self.runs.links(alloc, &others)
     }
 
     /// The links of the pairs.

@@ -8,11 +8,13 @@
 #![tactic(auto)]
 
 mod digits;
+mod entry;
 mod errors;
 mod firsts;
 mod laws;
 mod line;
 mod marks;
+mod merge;
 mod others;
 mod reader;
 mod run;

@@ -2,7 +2,7 @@
 ghost use Rattle.std.specs.Prelude.{◌≡◌, ◌↔◌, ℕ, All, IsTrue, OnOk, OnErr};
 ghost use Rattle.caida_reader.specs.Marks.{word_of, bits_of, IsMarked};
 
-use crate::firsts::First;
+use crate::entry::Entry;
 use net_names::{Asn, NoMemory};
 use std::alloc::Global;
 use std::marker::Model;
@@ -88,13 +88,13 @@ impl Marks {
     }
 
     /// Marks these pairs, in place of what was marked.
-    pub(crate) fn mark_only(&mut self, entries: &[((Asn, Asn), First)]) -> Result<(), NoMemory>
-        ensures marked { OnOk result (All (λ e. IsMarked self.new e.0) entries.now) }
+    pub(crate) fn mark_only(&mut self, entries: &[Entry]) -> Result<(), NoMemory>
+        ensures marked { OnOk result (All (λ e. IsMarked self.new (e.a, e.b)) entries.now) }
         ensures err { OnErr result (self.new ≡ self.old) }
     {
         self.words = make_words(*self.words.allocator(), entries.len() / PAIRS_A_WORD)?;
         'entries: for entry in entries {
-            self.mark(entry.0.0, entry.0.1);
+            self.mark(entry.a, entry.b);
         }
         Ok(())
     }

@@ -1,12 +1,14 @@
 // Pairs that come in rising order.
-ghost use Rattle.std.specs.Prelude.{◌≡◌, ◌<◌, ◌-◌, IsTrue, OnOk, OnErr, length};
+ghost use Rattle.std.specs.Prelude.{◌≡◌, ◌<◌, ◌-◌, ◌^◌, IsTrue, OnOk, OnErr, length, map};
 ghost use Rattle.std.specs.FinMap as fin;
 ghost use Rattle.std.specs.List.{HoldsAt};
 ghost use Rattle.std.specs.List.Sorted.{IsSearchInRange, IsBinarySearchResult};
 ghost use Rattle.std.specs.declared.cmp.Ordering.TheVariants.{Less};
 ghost use Rattle.net_names.specs.Links.{pair_cmp};
+ghost use Rattle.caida_reader.specs.Entries.{entry_of};
 ghost use Rattle.caida_reader.specs.Runs.{IsPast};
 
+use crate::entry::Entry;
 use crate::firsts::First;
 use net_names::{Asn, NoMemory};
 use std::alloc::Global;
@@ -15,41 +17,42 @@ use std::marker::Model;
 /// Pairs, each with its first line. A pair above all others is put in at once.
 #[derive(Drop)]
 pub(crate) struct Run {
-    entries: Vec<((Asn, Asn), First)>,
+    entries: Vec<Entry>,
 }
 
 impl Model for Run {
-    ghost use Rattle.std.specs.Prelude.{T};
+    ghost use Rattle.std.specs.Prelude.{T, map};
     ghost use Rattle.std.specs.FinMap as fin;
     ghost use Rattle.net_names.specs.Links.{pair_cmp};
     ghost use Rattle.caida_reader.specs.Value.{FirstMap};
     ghost use Rattle.caida_reader.specs.Firsts.{first_map_code};
+    ghost use Rattle.caida_reader.specs.Entries.{entry_of};
 
     ghost Value = { FirstMap };
 
     ghost coded = { first_map_code };
 
-    ghost view = { λ a. fin.from_sorted a.entries.items };
+    ghost view = { λ a. fin.from_sorted (map entry_of a.entries.items) };
 
-    ghost invariant = { λ a. T (fin.is_sorted pair_cmp a.entries.items) };
+    ghost invariant = { λ a. T (fin.is_sorted pair_cmp (map entry_of a.entries.items)) };
 }
 
 // Whether a pair is above the last one, where there is one.
-fn is_past_last(entries: &[((Asn, Asn), First)], a: Asn, b: Asn) -> bool
-    ensures { IsTrue result → 0 < length entries.now → HoldsAt (λ e. pair_cmp e.0 (a, b) ≡ Less) entries.now (length entries.now - 1) }
+fn is_past_last(entries: &[Entry], a: Asn, b: Asn) -> bool
+    ensures { IsTrue result → 0 < length entries.now → HoldsAt (λ e. pair_cmp (e.a, e.b) (a, b) ≡ Less) entries.now (length entries.now - 1) }
 {
     match entries.last() {
-        Some(last) => last.0 < (a, b),
+        Some(last) => (last.a, last.b) < (a, b),
         None => true,
     }
 }
 
 // Where a pair stands, or where it would have to be put in.
-fn search(entries: &[((Asn, Asn), First)], a: Asn, b: Asn) -> Result<usize, usize>
+fn search(entries: &[Entry], a: Asn, b: Asn) -> Result<usize, usize>
     ensures bound { IsSearchInRange result (length entries.now) }
-    ensures position { IsBinarySearchResult (λ e. pair_cmp e.0 (a, b)) entries.now result }
+    ensures position { IsBinarySearchResult (λ e. pair_cmp (e.a, e.b) (a, b)) entries.now result }
 {
-    entries.binary_search_by_key(&(a, b), |entry| entry.0)
+    entries.binary_search_by_key(&(a, b), |entry| (entry.a, entry.b))
 }
 
 impl Run {
@@ -63,8 +66,8 @@ impl Run {
     }
 
     /// The pairs in rising order, each with its first line.
-    pub(crate) fn as_slice(&self) -> &[((Asn, Asn), First)]
-        ensures { result.now ≡ fin.entries self.now }
+    pub(crate) fn as_slice(&self) -> &[Entry]
+        ensures { map entry_of result.now ≡ fin.entries self.now }
     {
         self.entries.as_slice()
     }
@@ -84,18 +87,20 @@ impl Run {
             return None;
         }
         match search(self.entries.as_slice(), a, b) {
-            Ok(at) => Some(self.entries[at].1),
+            Ok(at) => Some(self.entries[at].first()),
             Err(_) => None,
         }
     }
 
-    /// Puts in a pair that is above all.
+    /// Puts in a pair that is above all, with a line that fits into an entry.
     pub(crate) fn push(&mut self, a: Asn, b: Asn, first: First) -> Result<(), NoMemory>
-        requires { IsPast self.old (a, b) }
+        requires past { IsPast self.old (a, b) }
+        requires fits { first.line < 2 ^ 30 }
         ensures ok { OnOk result (self.new ≡ fin.insert self.old (a, b) first) }
         ensures err { OnErr result (self.new ≡ self.old) }
     {
-        match self.entries.push(((a, b), first)) {
+        let entry = Entry::new(a, b, first);
+        match self.entries.push(entry) {
             Ok(()) => {}
             Err(_) => return Err(NoMemory),
         }

@@ -1,13 +1,17 @@
 // Pairs in two runs.
 ghost use Rattle.std.specs.Prelude.{◌≡◌, ◌++◌, None, IfOk, OnErr, map, if◌then◌else◌};
 ghost use Rattle.std.specs.FinMap as fin;
-ghost use Rattle.caida_reader.specs.Runs.{link_of, turned, AreMarked, Lists};
+ghost use Rattle.caida_reader.specs.Value.{FirstMap};
+ghost use Rattle.caida_reader.specs.Entries.{entry_of};
+ghost use Rattle.caida_reader.specs.Runs.{link_of, turned, joined, AreApart, AreMarked, Lists};
 
+use crate::entry::{Entry, LINES};
 use crate::firsts::First;
 use crate::marks::Marks;
+use crate::merge::{both_ends, merge};
 use crate::run::Run;
 use net_names::{Asn, Link, NoMemory};
-use std::alloc::{AllocError, Global};
+use std::alloc::Global;
 use std::marker::Model;
 
 /// As many pairs as a run has before they are marked. They are marked anew, among twice the words, whenever it has grown to
@@ -61,25 +65,22 @@ fn get_marked(run: &Run, marks: &Marks, lo: Asn, hi: Asn) -> Option<First>
     run.get(lo, hi)
 }
 
-// The links of rising entries, and those of entries whose ends are exchanged.
-fn gather(
-    alloc: Global,
-    rising: &[((Asn, Asn), First)],
-    exchanged: &[((Asn, Asn), First)],
-) -> Result<Vec<Link>, AllocError>
-    ensures { IfOk result (λ links. links.items ≡ map link_of rising.now ++ map (λ e. link_of (turned e)) exchanged.now) }
+// The links of entries whose ends are exchanged, and further ones.
+fn gather_back(alloc: Global, exchanged: &[Entry], further: &[Link]) -> Result<Vec<Link>, NoMemory>
+    ensures { IfOk result (λ links. links.items ≡ map (λ e. link_of (turned (entry_of e))) exchanged.now ++ further.now) }
 {
-    let front = rising.iter().map(|e| Link {
-        lo: e.0.0,
-        hi: e.0.1,
-        rel: e.1.rel,
-    });
-    let back = exchanged.iter().map(|e| Link {
-        lo: e.0.1,
-        hi: e.0.0,
-        rel: e.1.rel,
-    });
-    front.chain(back).collect(alloc)
+    let Ok(mut links) = Vec::with_capacity(alloc, exchanged.len()) else {
+        return Err(NoMemory);
+    };
+    'exchanged: for entry in exchanged {
+        if links.push(entry.turned_link()).is_err() {
+            return Err(NoMemory);
+        }
+    }
+    match links.extend_from_slice(further) {
+        Ok(()) => Ok(links),
+        Err(_) => Err(NoMemory),
+    }
 }
 
 impl Runs {
@@ -115,6 +116,9 @@ impl Runs {
         ensures ok { IfOk result (λ put. self.new ≡ (if put then fin.insert self.old (lo, hi) first else self.old)) }
         ensures err { OnErr result (self.new ≡ self.old) }
     {
+        if first.line >= LINES {
+            return Ok(false);
+        }
         if self.rising.is_past(lo, hi) {
             mark_long(&self.rising, &mut self.marks)?;
             self.marks.mark(lo, hi);
@@ -128,13 +132,12 @@ impl Runs {
         Ok(false)
     }
 
-    /// The links of the pairs.
-    pub(crate) fn links(&self, alloc: Global) -> Result<Vec<Link>, NoMemory>
-        ensures { IfOk result (λ links. Lists links.items self.now) }
+    /// The links of the pairs and further ones: in rising order where the further ones are links too.
+    pub(crate) fn links(&self, alloc: Global, further: &[Link]) -> Result<Vec<Link>, NoMemory>
+        ensures { IfOk result (λ links. (more : FirstMap) → AreApart self.now more → Lists further.now more → Lists links.items (joined self.now more)) }
     {
-        match gather(alloc, self.rising.as_slice(), self.turned.as_slice()) {
-            Ok(links) => Ok(links),
-            Err(_) => Err(NoMemory),
-        }
+        let mut back = gather_back(alloc, self.turned.as_slice(), further)?;
+        back.sort_unstable_by_key(|link| both_ends(link.lo, link.hi));
+        merge(alloc, self.rising.as_slice(), &back)
     }
 }

@@ -10,6 +10,6 @@ returns-in-Ok c = c.in-Ok.ensures.ok ∙ all_rising c.in_ok-gather.field-0.items
 
 pub returns-in-Err : goal.returns-in-Err
 returns-in-Err c =
-    let same = c.deref.ensures.value ∙ ap (λ v. v.items) c.in-Err.ensures.err in
+    let same = c.deref.ensures.value ∙ ap (λ v. v.items) c.in-Err.ensures.err.0 in
     let lists = subst (λ (xs : List Link). Lists xs c.args.self.now) (sym same) c.in_ok-gather.ensures.all in
     IfOk-weaker c.put_all.result _ _ (λ links h. h c.args.self.now lists) c.put_all.ensures

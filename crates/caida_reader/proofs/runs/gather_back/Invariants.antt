@@ -1,0 +1,8 @@
+use Rattle.std.proofs.Common.{◌≡◌, map, take}
+use Rattle.caida_reader.specs.Entries.{entry_of}
+use Rattle.caida_reader.specs.Runs.{link_of, turned}
+use Rattle.caida_reader.specs.declared.entry.Entry.{Entry}
+use Rattle.caida_reader.proofs.runs.gather_back.Given as goal
+
+abbrev pub invariant-exchanged : goal.invariant-exchanged
+invariant-exchanged l = l.links.items ≡ map (λ (e : Entry). link_of (turned (entry_of e))) (take l.entry-index l.exchanged)
