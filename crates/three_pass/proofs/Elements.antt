@@ -2,11 +2,10 @@
 use Rattle.std.proofs.Common.{◌≡◌, inl, inr, ℕ, zero, suc, ◌+◌, ◌<◌, ◌++◌, ◌||◌, ◌==◌, true, List, [], ◌∷◌, length, map, get_or, slice_index_or, refl, sym, ◌∙◌, ap, subst, arith}
 use Rattle.std.specs.Prelude.{All}
 use Rattle.std.proofs.lemmas.Bool.{cases_lt, eq-eqb, or_right}
-use Rattle.std.proofs.lemmas.List.{get_or_read, get_or-map, length-map, map-append}
+use Rattle.std.proofs.lemmas.List.{get_or_read, map-append}
 use Rattle.std.proofs.lemmas.List.Elements.{All-append}
 use Rattle.std.proofs.lemmas.List.Folds.{list_any-append}
 use Rattle.net_names.specs.Numbers.{occurs}
-use Rattle.three_pass.proofs.InOrder.{place}
 
 -- what holds of the elements before a place and of the one there holds of those before the next
 pub one_more : {X : Type 0} (xs : List X) (i : ℕ) (x : X) → x ≡ slice_index_or xs i x → i < length xs → (F : X → Type 0) → ((k : ℕ) → k < i → (d : X) → F (slice_index_or xs k d)) → F x → (k : ℕ) → k < i + 1 → (d : X) → F (slice_index_or xs k d)
@@ -14,13 +13,6 @@ one_more xs i x is inside F so_far here k less d = elim (cases_lt k i) [
   | inl before ↦ so_far k before d
   | inr past ↦ (let e : i ≡ k = omega (arith, less, past) in subst F (get_or_read xs i x inside is d ∙ ap (λ n. get_or xs n d) e) here)
 ]
-
--- what holds of each element holds of the one with a number
-pub at_number : {X : Type 0} (number : X → ℕ) (xs : List X) (n : ℕ) (e : X) → occurs n (map number xs) ≡ true → (F : ℕ → Type 0) → ((k : ℕ) → k < length xs → F (number (slice_index_or xs k e))) → F n
-at_number number xs n e there F each =
-    let (j, less, is) = place (number e) n (map number xs) there in
-    let inside : j < length xs = omega (arith, less, length-map xs number) in
-    subst F (sym (get_or-map number xs j e (number e) inside) ∙ is) (each j inside)
 
 all_one : {X : Type 0} (P : X → Type 0) (x : X) → P x → All P (x ∷ [])
 all_one P x p zero d less = p

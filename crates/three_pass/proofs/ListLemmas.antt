@@ -2,9 +2,9 @@
 use Rattle.std.proofs.Common.{◌≡◌, ◌<◌, ◌≤◌, ◌+◌, ◌-◌, ◌++◌, ℕ, List, [], ◌∷◌, length, take, drop, get_or, refl, arith}
 use Rattle.std.proofs.lemmas.List.{get_or_append_left, take-append-le, drop-append-le, length-drop}
 use Rattle.three_pass.specs.Starts.{AreStarts}
-use Rattle.three_pass.specs.declared.lists.Provider.{Provider}
+use Rattle.as_graph.specs.declared.neighbour.Neighbour.{Neighbour}
 
-pub kept : (starts : List ℕ) (items row : List Provider) (n k : ℕ) → AreStarts starts (length items) → k < length starts - 1
+pub kept : (starts : List ℕ) (items row : List Neighbour) (n k : ℕ) → AreStarts starts (length items) → k < length starts - 1
     → take (get_or (starts ++ n ∷ []) (k + 1) 0 - get_or (starts ++ n ∷ []) k 0) (drop (get_or (starts ++ n ∷ []) k 0) (items ++ row))
     ≡ take (get_or starts (k + 1) 0 - get_or starts k 0) (drop (get_or starts k 0) items)
 kept starts items row n k are lt =

@@ -10,12 +10,12 @@ use Rattle.three_pass.specs.declared.course.Course.{Course}
 use Rattle.three_pass.specs.declared.lists.ProviderLists.{ProviderLists}
 use Rattle.three_pass.specs.Lists.{AreProviders, count_of, list_at}
 
--- the lists have, one for each AS of the row list, its providers
-pub record AreAbove (what : ℕ → ℕ → Option Rel) (rows : List ℕ) (lists : ProviderLists) : Type 0 where
-  pub count : count_of lists ≡ length rows
-  pub each : (k : ℕ) → k < length rows → AreProviders what (slice_index rows k) (list_at lists k)
+-- the lists have, one for each of the ASes in their order, its providers
+pub record AreAbove (what : ℕ → ℕ → Option Rel) (ases : List ℕ) (lists : ProviderLists) : Type 0 where
+  pub count : count_of lists ≡ length ases
+  pub each : (k : ℕ) → k < length ases → AreProviders what (slice_index ases k) (list_at lists k)
 
--- the order is one of the graph's ASes by rising rank, all of them are among the rows, which differ, and the providers are those of the graph
+-- the order is one of the graph's ASes by rising rank, the providers of each are those of the graph, and all ASes are among the rows, which differ
 pub record IsCourse (g : Topology) (c : Course) : Type 0 where
   pub rank : ℕ → ℕ
   pub ranks : (a : ℕ) → IsRank (what g) a (rank a)
@@ -23,4 +23,4 @@ pub record IsCourse (g : Topology) (c : Course) : Type 0 where
   pub count : length c.order.ases.items ≡ as_count g
   pub complete : (a : ℕ) → has g a ≡ true → occurs a c.rows.items ≡ true
   pub apart : IsDistinct nat_eq c.rows.items
-  pub above : AreAbove (what g) c.rows.items c.above
+  pub above : AreAbove (what g) c.order.ases.items c.above

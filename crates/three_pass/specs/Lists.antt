@@ -1,9 +1,10 @@
 -- Lists of providers in one region.
-use Rattle.std.specs.Prelude.{◌≡◌, ℕ, true, ◌+◌, ◌-◌, List, Option, Some, All, length, map, take, drop, slice_index}
+use Rattle.std.specs.Prelude.{◌≡◌, ℕ, true, ◌+◌, ◌-◌, List, Option, Some, All, length, take, drop, slice_index}
 use Rattle.net_names.specs.Numbers.{occurs}
 use Rattle.net_names.specs.declared.routes.Rel.{Rel}
-use Rattle.net_names.specs.declared.routes.Rel.TheVariants as rel
-use Rattle.three_pass.specs.declared.lists.Provider.{Provider}
+use Rattle.net_names.specs.declared.routes.Rel.TheVariants.{Provider}
+use Rattle.as_graph.specs.declared.neighbour.Neighbour.{Neighbour}
+use Rattle.as_graph.specs.Neighbours.{asns}
 use Rattle.three_pass.specs.declared.lists.ProviderLists.{ProviderLists}
 
 -- how many lists there are
@@ -11,14 +12,10 @@ abbrev pub count_of : ProviderLists → ℕ
 count_of l = length l.starts.items - 1
 
 -- the list at a place
-abbrev pub list_at : ProviderLists → ℕ → List Provider
+abbrev pub list_at : ProviderLists → ℕ → List Neighbour
 list_at l k = take (slice_index l.starts.items (k + 1) - slice_index l.starts.items k) (drop (slice_index l.starts.items k) l.items.items)
 
--- the numbers of the providers
-abbrev pub numbers : List Provider → List ℕ
-numbers xs = map (λ p. p.asn) xs
-
--- the list has just the providers of the AS
-pub record AreProviders (what : ℕ → ℕ → Option Rel) (a : ℕ) (xs : List Provider) : Type 0 where
-  pub each : All (λ p. what a p.asn ≡ Some rel.Provider) xs
-  pub complete : (n : ℕ) → what a n ≡ Some rel.Provider → occurs n (numbers xs) ≡ true
+-- the list has neighbours of the AS, each with what it is to the AS, and among them all of its providers
+pub record AreProviders (what : ℕ → ℕ → Option Rel) (a : ℕ) (xs : List Neighbour) : Type 0 where
+  pub each : All (λ x. what a x.asn ≡ Some x.rel) xs
+  pub complete : (n : ℕ) → what a n ≡ Some Provider → occurs n (asns xs) ≡ true

@@ -9,43 +9,37 @@ ghost use Rattle.as_graph.specs.Hierarchy.{IsRank};
 ghost use Rattle.as_graph.specs.Neighbours.{asns};
 ghost use Rattle.rank_order.specs.Ranks.{rank_at};
 ghost use Rattle.three_pass.specs.Courses.{AreAbove, IsCourse};
-ghost use Rattle.three_pass.specs.Lists.{AreProviders, numbers};
+ghost use Rattle.three_pass.specs.Lists.{AreProviders};
 
-use crate::lists::{Provider, ProviderLists};
+use crate::lists::ProviderLists;
 use crate::looks::Looks;
 use as_graph::{Graph, Neighbour};
 use net_names::{Asn, NoMemory, Rel};
 use rank_order::{RankOrder, Ranks, placed_by_rank};
 use std::alloc::Global;
 
-/// The ASes of a graph by rising rank, and for each row of the graph the providers of its AS. It is the
-/// same for all prefixes and rounds.
+/// The ASes of a graph by rising rank, for each of them, in this order, its providers, and the ASes of the
+/// rows of the graph. It is the same for all prefixes and rounds.
 #[derive(Drop)]
 pub struct Course {
     pub(crate) order: RankOrder,
-    pub(crate) rows: Vec<Asn>,
     pub(crate) above: ProviderLists,
+    pub(crate) rows: Vec<Asn>,
 }
 
 // Puts a neighbour behind the list, if it is a provider.
-fn put_if_provider(
-    list: &mut Vec<Provider>,
-    neighbour: &Neighbour,
-    place: u32,
-) -> Result<(), NoMemory>
-    ensures each { OnOk result ((w : ℕ → ℕ → Option ARel) (a : ℕ) → w a neighbour.now.asn ≡ Some neighbour.now.rel → All (λ p. w a p.asn ≡ Some AProvider) list.old.items → All (λ p. w a p.asn ≡ Some AProvider) list.new.items) }
-    ensures this { OnOk result (neighbour.now.rel ≡ AProvider → occurs neighbour.now.asn (numbers list.new.items) ≡ true) }
-    ensures others { OnOk result ((n : ℕ) → occurs n (numbers list.old.items) ≡ true → occurs n (numbers list.new.items) ≡ true) }
+fn put_if_provider(list: &mut Looks, neighbour: &Neighbour, place: u32) -> Result<(), NoMemory>
+    ensures each { OnOk result ((w : ℕ → ℕ → Option ARel) (a : ℕ) → w a neighbour.now.asn ≡ Some neighbour.now.rel → All (λ x. w a x.asn ≡ Some x.rel) list.old.neighbours.items → All (λ x. w a x.asn ≡ Some x.rel) list.new.neighbours.items) }
+    ensures this { OnOk result (neighbour.now.rel ≡ AProvider → occurs neighbour.now.asn (asns list.new.neighbours.items) ≡ true) }
+    ensures others { OnOk result ((n : ℕ) → occurs n (asns list.old.neighbours.items) ≡ true → occurs n (asns list.new.neighbours.items) ≡ true) }
 {
     if neighbour.rel != Rel::Provider {
         return Ok(());
     }
-    match list.push(Provider {
-        asn: neighbour.asn,
-        place,
-    }) {
-        Ok(()) => Ok(()),
-        Err(_) => Err(NoMemory),
+    if list.push(*neighbour, place) {
+        Ok(())
+    } else {
+        Err(NoMemory)
     }
 }
 
@@ -62,7 +56,7 @@ pub(crate) fn stands_at(rows: &[Asn], row: usize, asn: Asn) -> bool
 }
 
 // The place at an index, or the first one where there is none.
-fn place_at(places: &[u32], index: usize) -> u32 {
+pub(crate) fn place_at(places: &[u32], index: usize) -> u32 {
     match places.get(index) {
         Some(place) => *place,
         None => 0,
@@ -70,14 +64,9 @@ fn place_at(places: &[u32], index: usize) -> u32 {
 }
 
 // Puts the providers among the neighbours of an AS into an empty list.
-fn put_providers(
-    list: &mut Vec<Provider>,
-    graph: &Graph,
-    asn: Asn,
-    row: usize,
-) -> Result<(), NoMemory>
-    requires { list.old.items ≡ [] }
-    ensures { OnOk result (AreProviders (what graph.now) asn list.new.items) }
+fn put_providers(list: &mut Looks, graph: &Graph, asn: Asn, row: usize) -> Result<(), NoMemory>
+    requires { list.old.neighbours.items ≡ [] }
+    ensures { OnOk result (AreProviders (what graph.now) asn list.new.neighbours.items) }
 {
     let neighbours = graph.neighbours_near(asn, row);
     let places = graph.neighbour_places(row);
@@ -87,16 +76,21 @@ fn put_providers(
     Ok(())
 }
 
-// The providers of each of these ASes, whose rows stand in this order.
-fn providers_of(alloc: Global, graph: &Graph, rows: &[Asn]) -> Result<ProviderLists, NoMemory>
-    ensures { IfOk result (λ l. AreAbove (what graph.now) rows.now l) }
+// The providers of each of these ASes, in their order. The places of their rows are hints.
+fn providers_of(
+    alloc: Global,
+    graph: &Graph,
+    ases: &[Asn],
+    rows: &[u32],
+) -> Result<ProviderLists, NoMemory>
+    ensures { IfOk result (λ l. AreAbove (what graph.now) ases.now l) }
 {
     let mut lists = ProviderLists::none(alloc)?;
-    let mut list = Vec::new(alloc);
-    for (row, asn) in rows.iter().enumerate() {
+    let mut list = Looks::none(alloc);
+    for (place, asn) in ases.iter().enumerate() {
         list.clear();
-        put_providers(&mut list, graph, *asn, row)?;
-        lists.push(list.as_slice())?;
+        put_providers(&mut list, graph, *asn, place_at(rows, place) as usize)?;
+        lists.push(&list)?;
     }
     Ok(lists)
 }
@@ -118,33 +112,8 @@ impl Course {
         ensures { IfOk result (IsCourse graph.now) }
     {
         let order = placed_by_rank(alloc, graph, ranks)?;
+        let above = providers_of(alloc, graph, &order.ases, &order.places)?;
         let rows = copied(alloc, graph.rows())?;
-        let above = providers_of(alloc, graph, rows.as_slice())?;
-        Ok(Course { order, rows, above })
-    }
-
-    /// Puts the providers of an AS, whose row is sought at a place, behind a list. The answer is whether
-    /// all of them are there.
-    pub fn put_providers(&self, asn: Asn, row: usize, looks: &mut Looks) -> bool
-        ensures all { result ≡ true → (w : ℕ → ℕ → Option ARel) → AreAbove w self.now.rows.items self.now.above → (n : ℕ) → w asn n ≡ Some AProvider → occurs n (asns looks.new.neighbours.items) ≡ true }
-        ensures each { result ≡ true → (w : ℕ → ℕ → Option ARel) → AreAbove w self.now.rows.items self.now.above → All (λ x. w asn x.asn ≡ Some x.rel) looks.old.neighbours.items → All (λ x. w asn x.asn ≡ Some x.rel) looks.new.neighbours.items }
-    {
-        if !stands_at(&self.rows, row, asn) {
-            return false;
-        }
-        if row >= self.above.len() {
-            return false;
-        }
-        let list = self.above.list(row);
-        for provider in list {
-            let neighbour = Neighbour {
-                asn: provider.asn,
-                rel: Rel::Provider,
-            };
-            if !looks.push(neighbour, provider.place) {
-                return false;
-            }
-        }
-        true
+        Ok(Course { order, above, rows })
     }
 }

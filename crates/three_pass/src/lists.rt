@@ -3,23 +3,18 @@
 ghost use Rattle.std.specs.Prelude.{◌≡◌, ◌<◌, ◌+◌, ℕ, length, OnOk, IfOk};
 ghost use Rattle.three_pass.specs.Starts.{AreStarts};
 
-use net_names::{Asn, NoMemory};
+use crate::looks::Looks;
+use as_graph::Neighbour;
+use net_names::NoMemory;
 use std::alloc::{AllocError, Global};
-
-/// A provider of an AS, and where its row was last found in the graph, which is a hint.
-#[derive(Clone, Copy)]
-pub struct Provider {
-    /// The provider.
-    pub asn: Asn,
-    /// The place of its row.
-    pub place: u32,
-}
 
 /// Lists of providers: each begins where the one before it ends.
 #[derive(Drop)]
 pub struct ProviderLists {
     starts: Vec<usize>,
-    items: Vec<Provider>,
+    items: Vec<Neighbour>,
+    // for each item, where its row was last found in the graph
+    places: Vec<u32>,
     ghost starts_are: { AreStarts starts.items (length items.items) },
 }
 
@@ -34,34 +29,40 @@ impl ProviderLists {
             Ok(starts) => Ok(ProviderLists {
                 starts,
                 items: Vec::new(alloc),
+                places: Vec::new(alloc),
             }),
             Err(_) => Err(NoMemory),
         }
     }
 
-    /// How many lists there are.
-    pub fn len(&self) -> usize
-        ensures { result ≡ count_of self.now }
-    {
-        self.starts.len() - 1
-    }
-
     /// The list at a place.
-    pub fn list(&self, place: usize) -> &[Provider]
+    pub fn list(&self, place: usize) -> &[Neighbour]
         requires { place < count_of self.now }
         ensures { result.now ≡ list_at self.now place }
     {
         &self.items[self.starts[place]..self.starts[place + 1]]
     }
 
+    /// Where the rows of the providers of the list at a place were last found in the graph, in their
+    /// order. These are hints.
+    pub fn places(&self, place: usize) -> &[u32]
+        requires { place < count_of self.now }
+    {
+        match self.places.get(self.starts[place]..self.starts[place + 1]) {
+            Some(places) => places,
+            None => &[],
+        }
+    }
+
     // One more list, behind the others, which stay.
-    fn push_list(&mut self, list: &[Provider]) -> Result<(), AllocError>
+    fn push_list(&mut self, list: &Looks) -> Result<(), AllocError>
         ensures count { OnOk result (count_of self.new ≡ count_of self.old + 1) }
         ensures others { OnOk result ((k : ℕ) → k < count_of self.old → list_at self.new k ≡ list_at self.old k) }
-        ensures this { OnOk result (list_at self.new (count_of self.old) ≡ list.now) }
+        ensures this { OnOk result (list_at self.new (count_of self.old) ≡ list.now.neighbours.items) }
     {
         self.starts.reserve(1)?;
-        self.items.extend_from_slice(list)?;
+        self.places.extend_from_slice(list.places.as_slice())?;
+        self.items.extend_from_slice(list.neighbours.as_slice())?;
         match self.starts.push(self.items.len()) {
             Ok(()) => Ok(()),
             Err(_) => unreachable!(),
@@ -69,10 +70,10 @@ impl ProviderLists {
     }
 
     /// Puts one more list behind the others, which stay.
-    pub fn push(&mut self, list: &[Provider]) -> Result<(), NoMemory>
+    pub fn push(&mut self, list: &Looks) -> Result<(), NoMemory>
         ensures count { OnOk result (count_of self.new ≡ count_of self.old + 1) }
         ensures others { OnOk result ((k : ℕ) → k < count_of self.old → list_at self.new k ≡ list_at self.old k) }
-        ensures this { OnOk result (list_at self.new (count_of self.old) ≡ list.now) }
+        ensures this { OnOk result (list_at self.new (count_of self.old) ≡ list.now.neighbours.items) }
     {
         match self.push_list(list) {
             Ok(()) => Ok(()),

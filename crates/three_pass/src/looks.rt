@@ -37,4 +37,13 @@ impl Looks {
     {
         self.neighbours.push(neighbour).is_ok() && self.places.push(place).is_ok()
     }
+
+    /// Puts neighbours, with a place for each, behind the others. The answer is whether there was enough
+    /// memory.
+    pub fn put_all(&mut self, neighbours: &[Neighbour], places: &[u32]) -> bool
+        ensures { result ≡ true → self.new.neighbours.items ≡ self.old.neighbours.items ++ neighbours.now }
+    {
+        self.neighbours.extend_from_slice(neighbours).is_ok()
+            && self.places.extend_from_slice(places).is_ok()
+    }
 }

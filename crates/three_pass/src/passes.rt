@@ -3,7 +3,7 @@
 ghost use Rattle.std.specs.Prelude.{◌≡◌, ◌≢◌, ◌↔◌, ℕ, IsTrue, IsSome, true, false, Some, None, length, slice_index, ◌<◌, ◌≤◌, ◌+◌, Option, All};
 ghost use Rattle.net_names.specs.Numbers.{occurs};
 ghost use Rattle.net_names.specs.declared.routes.Rel.{Rel as ARel};
-ghost use Rattle.net_names.specs.declared.routes.Rel.TheVariants.{Customer, Provider as AProvider};
+ghost use Rattle.net_names.specs.declared.routes.Rel.TheVariants.{Customer};
 ghost use Rattle.as_graph.specs.Topology.{what};
 ghost use Rattle.as_graph.specs.Hierarchy.{HasNoProviderCycle};
 ghost use Rattle.as_graph.specs.Neighbours.{asns};
@@ -16,7 +16,8 @@ ghost use Rattle.route_choice.specs.Loops.{HasNoLoops};
 ghost use Rattle.route_choice.specs.Routings.{routing_of, seeds_of};
 ghost use Rattle.route_choice.specs.Resources.{CanStep, Spends, GivesUpNothing, Keeps};
 ghost use Rattle.three_pass.specs.AsnSets.{is_among};
-ghost use Rattle.three_pass.specs.Courses.{AreAbove, IsCourse};
+ghost use Rattle.three_pass.specs.Courses.{IsCourse};
+ghost use Rattle.three_pass.specs.Lists.{AreProviders, count_of, list_at};
 ghost use Rattle.three_pass.specs.Naming.{AreNamed};
 ghost use Rattle.three_pass.specs.Progress.{AfterUp};
 ghost use Rattle.three_pass.specs.Spending.{CanGo, HasSpent};
@@ -24,7 +25,7 @@ ghost use Rattle.three_pass.specs.Telling.{HaveTold};
 ghost use Rattle.three_pass.specs.Told.{AreTrue, IsTold};
 
 use crate::asn_set::AsnSet;
-use crate::course::Course;
+use crate::course::{Course, place_at};
 use crate::looks::Looks;
 use crate::told::{Told, holds};
 use as_graph::Graph;
@@ -35,14 +36,6 @@ use route_choice::{Overlay, Part, SeedIds, Steps, Table, visit, visit_among};
 use stability_laws::Book;
 use std::sync::ledger::Ledger;
 
-// Where the row of the AS at a place of the order was last found, or the first row.
-fn row_at(rows: &[u32], place: usize) -> usize {
-    match rows.get(place) {
-        Some(row) => *row as usize,
-        None => 0,
-    }
-}
-
 // Whether an AS has no seed, and no customer and no peer of it told it that it holds something.
 fn has_none_to_take(told: &Told, named: &AsnSet, asn: Asn, row: usize) -> bool
     ensures { result ≡ true → (is_among named.now asn ≡ false) × ((b : ℕ) → ¬ IsTold told.now asn b) }
@@ -50,27 +43,32 @@ fn has_none_to_take(told: &Told, named: &AsnSet, asn: Asn, row: usize) -> bool
     told.is_untold(asn, row) && !named.has(asn)
 }
 
-// Puts into the list those that may make an AS an offer of the part: who told it that it holds something
-// and, where the part is the whole, its providers. The answer is whether all of them are there.
-fn gather(course: &Course, told: &Told, asn: Asn, row: usize, part: Part, looks: &mut Looks) -> bool
-    ensures each { result ≡ true → (w : ℕ → ℕ → Option ARel) → AreAbove w course.now.rows.items course.now.above → AreTrue w told.now → All (λ x. w asn x.asn ≡ Some x.rel) looks.new.neighbours.items }
+// Puts into the list those that may make the AS at a place of the order an offer: its providers, and who
+// told it that it holds something. The answer is whether all of them are there.
+fn gather(
+    course: &Course,
+    place: usize,
+    told: &Told,
+    asn: Asn,
+    row: usize,
+    looks: &mut Looks,
+) -> bool
+    requires { place < count_of course.now.above }
+    ensures each { result ≡ true → (w : ℕ → ℕ → Option ARel) → AreTrue w told.now → All (λ x. w asn x.asn ≡ Some x.rel) (list_at course.now.above place) → All (λ x. w asn x.asn ≡ Some x.rel) looks.new.neighbours.items }
     ensures told { result ≡ true → (b : ℕ) → IsTold told.now asn b → occurs b (asns looks.new.neighbours.items) ≡ true }
-    ensures above { result ≡ true → part ≡ Part.Whole → (w : ℕ → ℕ → Option ARel) → AreAbove w course.now.rows.items course.now.above → (n : ℕ) → w asn n ≡ Some AProvider → occurs n (asns looks.new.neighbours.items) ≡ true }
+    ensures above { result ≡ true → (n : ℕ) → occurs n (asns (list_at course.now.above place)) ≡ true → occurs n (asns looks.new.neighbours.items) ≡ true }
 {
     looks.clear();
-    match part {
-        Part::Up => told.put_tellers(asn, row, looks),
-        Part::Whole => {
-            course.put_providers(asn, row, looks) && told.put_tellers(asn, row, looks)
-        }
-    }
+    looks.put_all(course.above.list(place), course.above.places(place))
+        && told.put_tellers(asn, row, looks)
 }
 
-// A step of an AS, as `visit` makes it, that looks only at its providers and at those that told it that
-// they hold something, where these are known.
+// A step of the AS at a place of the order, as `visit` makes it, that looks only at its providers and at
+// those that told it that they hold something, where these are known. Most are told nothing.
 fn step<P: RoutePolicy, V: OriginStates, L: Ledger>(
     graph: &Graph,
     course: &Course,
+    place: usize,
     book: &Book<P>,
     states: &V,
     seeds: &SeedIds,
@@ -86,7 +84,8 @@ fn step<P: RoutePolicy, V: OriginStates, L: Ledger>(
     steps: &mut Steps<L>,
 ) -> bool
     requires can { CanStep pool.old seeds.now table.now overlay.old 1 }
-    requires above { AreAbove (what graph.now) course.now.rows.items course.now.above }
+    requires inside { place < count_of course.now.above }
+    requires above { AreProviders (what graph.now) asn (list_at course.now.above place) }
     requires true_notes { AreTrue (what graph.now) told.now }
     requires told { HaveTold (IsTold told.now) (setting P.meaning graph.now book.now (V.state_of states.now (prefix_of table.now))) (routing_of pool.old table.now overlay.old) asn }
     requires no_loops { may_loop ≡ false → HasNoLoops part (what graph.now) (λ n. P.meaning (policy_at book.now n)) (routing_of pool.old table.now overlay.old) asn }
@@ -98,7 +97,27 @@ fn step<P: RoutePolicy, V: OriginStates, L: Ledger>(
     ensures spent { Spends pool.old pool.new overlay.old overlay.new asn }
     ensures kept { GivesUpNothing overlay.old (routing_of pool.old table.now overlay.old) (routing_of pool.new table.now overlay.new) asn → Keeps pool.old pool.new seeds.now }
 {
-    if gather(course, told, asn, row, part, looks) {
+    if told.is_untold(asn, row) {
+        let above = course.above.list(place);
+        let above_places = course.above.places(place);
+        return visit_among(
+            graph,
+            book,
+            states,
+            seeds,
+            pool,
+            table,
+            overlay,
+            asn,
+            row,
+            above,
+            above_places,
+            may_loop,
+            part,
+            steps,
+        );
+    }
+    if gather(course, place, told, asn, row, looks) {
         let neighbours = looks.neighbours.as_slice();
         let places = looks.places.as_slice();
         visit_among(
@@ -146,7 +165,7 @@ fn step_up<P: RoutePolicy, V: OriginStates, L: Ledger>(
     ensures spent { HasSpent pool.old pool.new seeds.now table.now overlay.old overlay.new course.now.order.ases.items }
 {
     let asn = course.order.ases[place];
-    let row = row_at(&course.order.places, place);
+    let row = place_at(&course.order.places, place) as usize;
     if has_none_to_take(told, named, asn, row) {
         return;
     }
@@ -154,6 +173,7 @@ fn step_up<P: RoutePolicy, V: OriginStates, L: Ledger>(
     step(
         graph,
         course,
+        place,
         book,
         states,
         seeds,
@@ -208,10 +228,11 @@ pub fn go_up<P: RoutePolicy, V: OriginStates, L: Ledger>(
     }
 }
 
-// The step downwards of an AS. Who holds something, and is right with it, takes none.
+// The step downwards of the AS at a place of the order. Who holds something, and is right with it, takes none.
 fn step_down<P: RoutePolicy, V: OriginStates, L: Ledger>(
     graph: &Graph,
     course: &Course,
+    place: usize,
     book: &Book<P>,
     states: &V,
     seeds: &SeedIds,
@@ -226,7 +247,8 @@ fn step_down<P: RoutePolicy, V: OriginStates, L: Ledger>(
     steps: &mut Steps<L>,
 ) -> bool
     requires can { CanStep pool.old seeds.now table.now overlay.old 1 }
-    requires course { IsCourse graph.now course.now }
+    requires inside { place < count_of course.now.above }
+    requires above { AreProviders (what graph.now) asn (list_at course.now.above place) }
     requires held { routing_of pool.old table.now overlay.old asn ≢ None → IsStepOf Part.Whole (setting P.meaning graph.now book.now (V.state_of states.now (prefix_of table.now))) (seeds_of pool.old seeds.now) (routing_of pool.old table.now overlay.old) asn (routing_of pool.old table.now overlay.old) }
     requires true_notes { AreTrue (what graph.now) told.now }
     requires told { HaveTold (IsTold told.now) (setting P.meaning graph.now book.now (V.state_of states.now (prefix_of table.now))) (routing_of pool.old table.now overlay.old) asn }
@@ -246,6 +268,7 @@ fn step_down<P: RoutePolicy, V: OriginStates, L: Ledger>(
     step(
         graph,
         course,
+        place,
         book,
         states,
         seeds,
@@ -292,10 +315,10 @@ pub fn go_down<P: RoutePolicy, V: OriginStates, L: Ledger>(
     while left > 0 {
         left -= 1;
         let asn = course.order.ases[left];
-        let row = row_at(&course.order.places, left);
+        let row = place_at(&course.order.places, left) as usize;
         step_down(
-            graph, course, book, states, seeds, named, told, looks, pool, table, overlay, asn, row,
-            steps,
+            graph, course, left, book, states, seeds, named, told, looks, pool, table, overlay,
+            asn, row, steps,
         );
     }
 }

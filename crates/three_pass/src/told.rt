@@ -12,7 +12,7 @@ ghost use Rattle.as_graph.specs.Neighbours.{asns};
 ghost use Rattle.route_choice.specs.Tables.{joined};
 ghost use Rattle.three_pass.specs.Notes.{befores, tos, IsChained};
 
-use crate::course::stands_at;
+use crate::course::{place_at, stands_at};
 use crate::looks::Looks;
 use as_graph::{Graph, Neighbour, links_are_sound};
 use net_names::{Asn, NoMemory, Rel};
@@ -147,7 +147,8 @@ impl<'a> Told<'a> {
         let places = graph.neighbour_places(place);
         let here = u32::try_from(place).unwrap_or(0);
         for (index, neighbour) in neighbours.iter().enumerate() {
-            self.tell_if_above(neighbour, place_at(places, index), asn, here);
+            let row = place_at(places, index) as usize;
+            self.tell_if_above(neighbour, row, asn, here);
         }
     }
 
@@ -193,14 +194,6 @@ impl<'a> Told<'a> {
             at = note.before;
         }
         true
-    }
-}
-
-// The place at an index, or the first one where there is none.
-fn place_at(places: &[u32], index: usize) -> usize {
-    match places.get(index) {
-        Some(place) => *place as usize,
-        None => 0,
     }
 }
 

@@ -3,8 +3,8 @@ use Rattle.as_graph.specs.Topology.{what}
 use Rattle.three_pass.specs.Lists.{AreProviders, count_of, list_at}
 use Rattle.three_pass.proofs.course.providers_of.Given as goal
 
-abbrev pub invariant-loop-row : goal.invariant-loop-row
-invariant-loop-row l = record {
-  count : count_of l.lists ≡ l.row;
-  each : (k : ℕ) → k < l.row → AreProviders (what l.graph) (slice_index l.rows k) (list_at l.lists k);
+abbrev pub invariant-loop-place : goal.invariant-loop-place
+invariant-loop-place l = record {
+  count : count_of l.lists ≡ l.place;
+  each : (k : ℕ) → k < l.place → AreProviders (what l.graph) (slice_index l.ases k) (list_at l.lists k);
 }

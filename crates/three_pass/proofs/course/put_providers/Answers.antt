@@ -3,7 +3,7 @@ use Rattle.net_names.specs.Numbers.{occurs}
 use Rattle.net_names.specs.declared.routes.Rel.TheVariants.{Provider}
 use Rattle.as_graph.specs.Topology.{what}
 use Rattle.as_graph.specs.declared.neighbour.Neighbour.{Neighbour}
-use Rattle.three_pass.specs.Lists.{numbers}
+use Rattle.as_graph.specs.Neighbours.{asns}
 use Rattle.three_pass.proofs.Elements.{one_more}
 use Rattle.three_pass.proofs.Reaching.{around}
 use Rattle.three_pass.proofs.course.put_providers.Goals as goal
@@ -16,7 +16,7 @@ loop-index-preserved c =
     let linked : what c.args.graph.now c.args.asn x.asn ≡ Some x.rel = subst (λ (t : Neighbour). what c.args.graph.now c.args.asn t.asn ≡ Some t.rel) (sym c.index-neighbours-index.is) (c.neighbours_near-neighbours.ensures.each i x c.loop-index-test.true) in
     record {
       each = c.in_ok-put_if_provider.ensures.each (what c.args.graph.now) c.args.asn linked c.loop-index.invariant.each;
-      so_far = one_more xs i x c.index-neighbours-index.is c.loop-index-test.true (λ (t : Neighbour). t.rel ≡ Provider → occurs t.asn (numbers c.put_if_provider.new.list.items) ≡ true)
+      so_far = one_more xs i x c.index-neighbours-index.is c.loop-index-test.true (λ (t : Neighbour). t.rel ≡ Provider → occurs t.asn (asns c.put_if_provider.new.list.neighbours.items) ≡ true)
           (λ k less d is. c.in_ok-put_if_provider.ensures.others (slice_index_or xs k d).asn (c.loop-index.invariant.so_far k less d is))
           c.in_ok-put_if_provider.ensures.this;
     }
@@ -24,6 +24,6 @@ loop-index-preserved c =
 pub returns : goal.returns
 returns c = record {
   each = c.loop-index.invariant.each;
-  complete = λ n linked. around (what c.args.graph.now) c.args.asn c.neighbours_near-neighbours.result.now c.neighbours_near-neighbours.ensures (λ r. r ≡ Provider) (λ n. occurs n (numbers c.loop-index.list.items) ≡ true)
+  complete = λ n linked. around (what c.args.graph.now) c.args.asn c.neighbours_near-neighbours.result.now c.neighbours_near-neighbours.ensures (λ r. r ≡ Provider) (λ n. occurs n (asns c.loop-index.list.neighbours.items) ≡ true)
       (λ k less d is. c.loop-index.invariant.so_far k (omega (arith, less, c.loop-index-test.false)) d is) n Provider linked refl;
 }

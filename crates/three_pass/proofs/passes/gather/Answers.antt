@@ -1,20 +1,19 @@
-use Rattle.std.proofs.Common.{◌≡◌, Some, sym, subst}
+use Rattle.std.proofs.Common.{◌≡◌, ◌++◌, true, List, Some, sym, ◌∙◌, ap, subst}
 use Rattle.std.specs.Prelude.{All}
-use Rattle.std.proofs.lemmas.List.Elements.{All-nil}
+use Rattle.net_names.specs.Numbers.{occurs}
 use Rattle.as_graph.specs.declared.neighbour.Neighbour.{Neighbour}
+use Rattle.as_graph.specs.Neighbours.{asns}
+use Rattle.three_pass.specs.Lists.{list_at}
 use Rattle.three_pass.proofs.passes.gather.Goals as goal
 
-pub returns-in-Up-clause-each : goal.returns-in-Up-clause-each
-returns-in-Up-clause-each c = λ t w above are.
-    let P : Neighbour → Type 0 = λ x. w c.args.asn x.asn ≡ Some x.rel in
-    c.put_tellers.ensures.each t w are (subst (All P) (sym c.clear.ensures) (All-nil P))
+-- the providers stand in the list
+providers : (c : goal.After-put_tellers) → c.put_all.new.self.neighbours.items ≡ list_at c.args.course.now.above c.args.place
+providers c = c.put_all.ensures c.if-put_all.true ∙ ap (λ xs. xs ++ c.list.result.now) c.clear.ensures ∙ c.list.ensures
 
-pub returns-then-put_providers-clause-each : goal.returns-then-put_providers-clause-each
-returns-then-put_providers-clause-each c = λ t w above are.
+pub returns-then-put_all-clause-each : goal.returns-then-put_all-clause-each
+returns-then-put_all-clause-each c = λ t w are each.
     let P : Neighbour → Type 0 = λ x. w c.args.asn x.asn ≡ Some x.rel in
-    c.put_tellers-then-put_providers.ensures.each t w are
-    (c.put_providers.ensures.each c.if-put_providers.true w above (subst (All P) (sym c.clear.ensures) (All-nil P)))
+    c.put_tellers.ensures.each t w are (subst (All P) (sym (providers c)) each)
 
-pub returns-then-put_providers-clause-above : goal.returns-then-put_providers-clause-above
-returns-then-put_providers-clause-above c = λ t whole w above n linked.
-    c.put_tellers-then-put_providers.ensures.others t n (c.put_providers.ensures.all c.if-put_providers.true w above n linked)
+pub returns-then-put_all-clause-above : goal.returns-then-put_all-clause-above
+returns-then-put_all-clause-above c = λ t n there. c.put_tellers.ensures.others t n (subst (λ (xs : List Neighbour). occurs n (asns xs) ≡ true) (sym (providers c)) there)

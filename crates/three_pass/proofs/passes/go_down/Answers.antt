@@ -1,6 +1,6 @@
 use Rattle.std.proofs.Common.{arith, true, false, ◌||◌, refl, ◌≡◌, ◌==◌, ℕ, ◌+◌, ◌-◌, ◌<◌, ◌∷◌, ◌++◌, [], length, take, sym, subst, ap, ◌∙◌}
 use Rattle.std.proofs.lemmas.Bool.{eq-eqb, or_right}
-use Rattle.std.proofs.lemmas.List.{take_more, take_all}
+use Rattle.std.proofs.lemmas.List.{get_or_read, take_more, take_all}
 use Rattle.std.proofs.lemmas.List.Folds.{list_any-append, list_any_at}
 use Rattle.net_names.specs.Numbers.{occurs}
 use Rattle.as_graph.specs.Topology.{what, ases}
@@ -13,6 +13,7 @@ use Rattle.route_choice.specs.declared.choice.Part.TheVariants.{Whole}
 use Rattle.route_choice.specs.Routings.{routing_of, seeds_of}
 use Rattle.route_choice.specs.Tables.{prefix_of}
 use Rattle.three_pass.specs.AsnSets.{is_among}
+use Rattle.three_pass.specs.Lists.{AreProviders, list_at}
 use Rattle.three_pass.specs.Progress.{AfterWhole}
 use Rattle.three_pass.proofs.InOrder.{turn, down_same, down_more, down_fresh, no_loops_downwards, all_right}
 use Rattle.three_pass.specs.Told.{IsTold}
@@ -23,6 +24,18 @@ use Rattle.three_pass.proofs.passes.go_down.Goals as goal
 
 pub step_down-requires-clause-can : goal.step_down-requires-clause-can
 step_down-requires-clause-can g c = can_step c.loop-left.pool c.args.seeds.now c.args.table.now c.loop-left.overlay c.args.course.now.order.ases.items c.loop-left.invariant.room (omega (arith, c.loop-left-test.true, c.loop-left.invariant.within))
+
+pub step_down-requires-clause-inside : goal.step_down-requires-clause-inside
+step_down-requires-clause-inside g c = omega (arith, c.loop-left-test.true, c.loop-left.invariant.within, c.requires.course.above.count)
+
+pub step_down-requires-clause-above : goal.step_down-requires-clause-above
+step_down-requires-clause-above g c =
+    let xs = c.args.course.now.order.ases.items in
+    let i = c.loop-left.left - 1 in
+    let left = c.loop-left-test.true in
+    let within : i < length xs = omega (arith, c.loop-left.invariant.within) in
+    let read = get_or_read xs i c.index-asn.result.now within c.index-asn.ensures 0 in
+    subst (λ (a : ℕ). AreProviders (what c.args.graph.now) a (list_at c.args.course.now.above i)) (sym read) (c.requires.course.above.each i within)
 
 pub step_down-requires-clause-told : goal.step_down-requires-clause-told
 step_down-requires-clause-told g c = c.loop-left.invariant.told c.index-asn.result.now

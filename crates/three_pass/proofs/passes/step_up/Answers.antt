@@ -11,6 +11,7 @@ use Rattle.route_choice.specs.Routings.{entry_of, routing_of, seed_of, seeds_of}
 use Rattle.route_choice.specs.Tables.{prefix_of}
 use Rattle.route_choice.specs.declared.choice.Part.TheVariants.{Up}
 use Rattle.three_pass.specs.AsnSets.{is_among}
+use Rattle.three_pass.specs.Lists.{AreProviders, list_at}
 use Rattle.three_pass.specs.Spending.{CanGo, HasSpent}
 use Rattle.route_choice.specs.Loops.{HasNoLoops}
 use Rattle.three_pass.specs.Told.{IsTold}
@@ -23,6 +24,14 @@ use Rattle.three_pass.proofs.passes.step_up.Goals as goal
 
 pub step-requires-clause-can : goal.step-requires-clause-can
 step-requires-clause-can g c = can_step c.args.pool.now c.args.seeds.now c.args.table.now c.args.overlay.now c.args.course.now.order.ases.items c.requires.room (let inside = c.requires.inside in omega arith)
+
+pub step-requires-clause-inside : goal.step-requires-clause-inside
+step-requires-clause-inside g c = omega (arith, c.requires.inside, c.requires.course.above.count)
+
+pub step-requires-clause-above : goal.step-requires-clause-above
+step-requires-clause-above g c =
+    let read = get_or_read c.args.course.now.order.ases.items c.args.place c.index-asn.result.now c.requires.inside c.index-asn.ensures 0 in
+    subst (λ (a : ℕ). AreProviders (what c.args.graph.now) a (list_at c.args.course.now.above c.args.place)) (sym read) (c.requires.course.above.each c.args.place c.requires.inside)
 
 pub step-requires-clause-no_loops : goal.step-requires-clause-no_loops
 step-requires-clause-no_loops g c = λ out.
