@@ -1,3 +1,4 @@
+pub mod ColumnLemmas
 pub mod RegionLemmas
 pub mod HoldLemmas
 pub mod ConsLemmas
