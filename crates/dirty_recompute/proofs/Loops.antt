@@ -189,7 +189,7 @@ occurs_in (x ∷ xs) b e = by (x == b) refl e (occurs_in xs b)
     by false is e ih = let (i, at) = ih e in (suc i, at)
 
 -- what was put into an empty queue
-pub just_in : (rank : ℕ → ℕ) (queue after : Queue) (xs : List ℕ) → ((k : ℕ × ℕ) → contains queue k ≡ false) → IsAdded rank queue after (IsIn xs) → (b : ℕ) → waits rank after b ≡ occurs b xs
+pub just_in : (rank : ℕ → ℕ) (queue after : Queue) (xs : List ℕ) → ((k : ℕ × ℕ) → contains rank queue k ≡ false) → IsAdded rank queue after (IsIn xs) → (b : ℕ) → waits rank after b ≡ occurs b xs
 just_in rank queue after xs empty added b = by (waits rank after b) (occurs b xs) refl refl
   where
     by : (s t : Bool) → waits rank after b ≡ s → occurs b xs ≡ t → s ≡ t
@@ -198,7 +198,7 @@ just_in rank queue after xs empty added b = by (waits rank after b) (occurs b xs
     by true false x y = elim (added.from b x) [ inl old ↦ absurd (true≢false (sym old ∙ empty (rank b, b))) | inr (i, at) ↦ absurd (true≢false (sym (in_occurs xs b i at) ∙ y)) ]
     by false true x y = absurd (true≢false (sym (added.put b (occurs_in xs b y)) ∙ x))
 
-pub no_ranks : (rank : ℕ → ℕ) (queue : Queue) → ((k : ℕ × ℕ) → contains queue k ≡ false) → HasRanks rank queue
+pub no_ranks : (rank : ℕ → ℕ) (queue : Queue) → ((k : ℕ × ℕ) → contains rank queue k ≡ false) → HasRanks rank queue
 no_ranks rank queue empty k t = absurd (true≢false (sym t ∙ empty k))
 
 pub enough_from : (what : ℕ → ℕ → Option Rel) (touched changed : ℕ → Bool) (steps first last : ℕ) → last ≡ first + steps → AreEnough what touched changed 0 steps → AreEnough what touched changed first last

@@ -32,24 +32,24 @@ either : (b : Bool) → (b ≡ true) ⊎ (b ≡ false)
 either true = inl refl
 either false = inr refl
 
-pub added : (rank : ℕ → ℕ) (before after : Queue) (a : ℕ) → HasTurned before after (rank a, a) true → IsAdded rank before after (λ b. b ≡ a)
+pub added : (rank : ℕ → ℕ) (before after : Queue) (a : ℕ) → HasTurned rank before after (rank a, a) true → IsAdded rank before after (λ b. b ≡ a)
 added rank before after a up = record {
   ranks = ranks;
-  kept = λ b t. elim (either (is_at (key_cmp k) (rank b, b))) [ inl e ↦ at (rank b, b) ∙ ap (λ x. cond x true (contains before (rank b, b))) e | inr e ↦ at (rank b, b) ∙ ap (λ x. cond x true (contains before (rank b, b))) e ∙ t ];
-  put = λ b is. at (rank b, b) ∙ ap (λ x. cond x true (contains before (rank b, b))) (subst (λ t. is_at (key_cmp k) (rank t, t) ≡ true) (sym is) (key_at k));
-  from = λ b t. elim (either (is_at (key_cmp k) (rank b, b))) [ inl e ↦ inr (sym (ap (λ (p : ℕ × ℕ). p.1) (key_is k (rank b, b) e))) | inr e ↦ inl (sym (at (rank b, b) ∙ ap (λ x. cond x true (contains before (rank b, b))) e) ∙ t) ];
+  kept = λ b t. elim (either (is_at (key_cmp k) (rank b, b))) [ inl e ↦ at (rank b, b) ∙ ap (λ x. cond x true (contains rank before (rank b, b))) e | inr e ↦ at (rank b, b) ∙ ap (λ x. cond x true (contains rank before (rank b, b))) e ∙ t ];
+  put = λ b is. at (rank b, b) ∙ ap (λ x. cond x true (contains rank before (rank b, b))) (subst (λ t. is_at (key_cmp k) (rank t, t) ≡ true) (sym is) (key_at k));
+  from = λ b t. elim (either (is_at (key_cmp k) (rank b, b))) [ inl e ↦ inr (sym (ap (λ (p : ℕ × ℕ). p.1) (key_is k (rank b, b) e))) | inr e ↦ inl (sym (at (rank b, b) ∙ ap (λ x. cond x true (contains rank before (rank b, b))) e) ∙ t) ];
 }
   where
     k : ℕ × ℕ
     k = (rank a, a)
 
-    at : (q : ℕ × ℕ) → contains after q ≡ cond (is_at (key_cmp k) q) true (contains before q)
+    at : (q : ℕ × ℕ) → contains rank after q ≡ cond (is_at (key_cmp k) q) true (contains rank before q)
     at q = up q
 
     ranks : HasRanks rank before → HasRanks rank after
     ranks was q t = elim (either (is_at (key_cmp k) q)) [
       | inl e ↦ subst (λ (p : ℕ × ℕ). p.0 ≡ rank p.1) (key_is k q e) refl
-      | inr e ↦ was q (sym (at q ∙ ap (λ x. cond x true (contains before q)) e) ∙ t)
+      | inr e ↦ was q (sym (at q ∙ ap (λ x. cond x true (contains rank before q)) e) ∙ t)
     ]
 
 first_le : (x y : ℕ) (o : Ordering) → is_gt (ordering_then (nat_cmp x y) o) ≡ false → x ≤ y
@@ -58,26 +58,26 @@ first_le x y o e = elim (cases_order x y) [ inl is ↦ omega arith | inr (inl lt
 first_ge : (x y : ℕ) (o : Ordering) → is_lt (ordering_then (nat_cmp x y) o) ≡ false → y ≤ x
 first_ge x y o e = elim (cases_order x y) [ inl is ↦ omega arith | inr (inl lt) ↦ grind (arith) | inr (inr gt) ↦ omega arith ]
 
-pub taken : (rank : ℕ → ℕ) (before after : Queue) (k : ℕ × ℕ) → HasRanks rank before → IsTrue (contains before k) → HasTurned before after k false → IsTaken rank before after k.1
+pub taken : (rank : ℕ → ℕ) (before after : Queue) (k : ℕ × ℕ) → HasRanks rank before → IsTrue (contains rank before k) → HasTurned rank before after k false → IsTaken rank before after k.1
 taken rank before after k was member up = record { waited = waited; gone = gone; kept = kept; from = from; ranks = ranks }
   where
     is : k ≡ (rank k.1, k.1)
     is = ap (λ x. (x, k.1)) (was k member)
 
-    at : (q : ℕ × ℕ) → contains after q ≡ cond (is_at (key_cmp k) q) false (contains before q)
+    at : (q : ℕ × ℕ) → contains rank after q ≡ cond (is_at (key_cmp k) q) false (contains rank before q)
     at q = up q
 
     waited : waits rank before k.1 ≡ true
-    waited = subst (λ q. contains before q ≡ true) is member
+    waited = subst (λ q. contains rank before q ≡ true) is member
 
     gone : waits rank after k.1 ≡ false
-    gone = at (rank k.1, k.1) ∙ ap (λ x. cond x false (contains before (rank k.1, k.1))) (subst (λ q. is_at (key_cmp k) q ≡ true) is (key_at k))
+    gone = at (rank k.1, k.1) ∙ ap (λ x. cond x false (contains rank before (rank k.1, k.1))) (subst (λ q. is_at (key_cmp k) q ≡ true) is (key_at k))
 
-    old : (q : ℕ × ℕ) → is_at (key_cmp k) q ≡ false → contains after q ≡ contains before q
-    old q e = at q ∙ ap (λ x. cond x false (contains before q)) e
+    old : (q : ℕ × ℕ) → is_at (key_cmp k) q ≡ false → contains rank after q ≡ contains rank before q
+    old q e = at q ∙ ap (λ x. cond x false (contains rank before q)) e
 
-    none : (q : ℕ × ℕ) → is_at (key_cmp k) q ≡ true → contains after q ≡ false
-    none q e = at q ∙ ap (λ x. cond x false (contains before q)) e
+    none : (q : ℕ × ℕ) → is_at (key_cmp k) q ≡ true → contains rank after q ≡ false
+    none q e = at q ∙ ap (λ x. cond x false (contains rank before q)) e
 
     kept : (b : ℕ) → b ≢ k.1 → waits rank before b ≡ true → waits rank after b ≡ true
     kept b ne t = elim (either (is_at (key_cmp k) (rank b, b))) [
@@ -98,17 +98,17 @@ taken rank before after k was member up = record { waited = waited; gone = gone;
     ]
 
 -- no pair of the queue is below the pair
-abbrev pub IsLeast : Queue → ℕ × ℕ → Type 0
-IsLeast queue k = (q : ℕ × ℕ) → contains queue q ≡ true → is_gt (key_cmp k q) ≡ false
+abbrev pub IsLeast : (ℕ → ℕ) → Queue → ℕ × ℕ → Type 0
+IsLeast rank queue k = (q : ℕ × ℕ) → contains rank queue q ≡ true → is_gt (key_cmp k q) ≡ false
 
 -- no pair of the queue is above the pair
-abbrev pub IsGreatest : Queue → ℕ × ℕ → Type 0
-IsGreatest queue k = (q : ℕ × ℕ) → contains queue q ≡ true → is_lt (key_cmp k q) ≡ false
+abbrev pub IsGreatest : (ℕ → ℕ) → Queue → ℕ × ℕ → Type 0
+IsGreatest rank queue k = (q : ℕ × ℕ) → contains rank queue q ≡ true → is_lt (key_cmp k q) ≡ false
 
-pub lowest : (rank : ℕ → ℕ) (before : Queue) (k : ℕ × ℕ) → k.0 ≡ rank k.1 → IsLeast before k → (b : ℕ) → waits rank before b ≡ true → rank k.1 ≤ rank b
+pub lowest : (rank : ℕ → ℕ) (before : Queue) (k : ℕ × ℕ) → k.0 ≡ rank k.1 → IsLeast rank before k → (b : ℕ) → waits rank before b ≡ true → rank k.1 ≤ rank b
 lowest rank before k is least b t = subst (λ x. x ≤ rank b) is (first_le k.0 (rank b) _ (least (rank b, b) t))
 
-pub highest : (rank : ℕ → ℕ) (before : Queue) (k : ℕ × ℕ) → k.0 ≡ rank k.1 → IsGreatest before k → (b : ℕ) → waits rank before b ≡ true → rank b ≤ rank k.1
+pub highest : (rank : ℕ → ℕ) (before : Queue) (k : ℕ × ℕ) → k.0 ≡ rank k.1 → IsGreatest rank before k → (b : ℕ) → waits rank before b ≡ true → rank b ≤ rank k.1
 highest rank before k is greatest b t = subst (λ x. rank b ≤ x) is (first_ge k.0 (rank b) _ (greatest (rank b, b) t))
 
 -- b is one of the first neighbours, and is this
@@ -182,57 +182,60 @@ added_next_in rank q0 q1 q2 k xs n at x y = added_both rank q0 q1 q2 (IsInBelow 
     join b (inl (i, lt, got)) = (i, (omega arith), got)
     join b (inr is) = (k, (omega arith), at ∙ ap Some (sym is))
 
-pub is_lowest : (rank : ℕ → ℕ) (before after : Queue) (k : ℕ × ℕ) → HasRanks rank before → IsTrue (contains before k) → IsLeast before k → HasTurned before after k false → IsLowest rank before after k.1
+pub is_lowest : (rank : ℕ → ℕ) (before after : Queue) (k : ℕ × ℕ) → HasRanks rank before → IsTrue (contains rank before k) → IsLeast rank before k → HasTurned rank before after k false → IsLowest rank before after k.1
 is_lowest rank before after k was member least up = record { taken = taken rank before after k was member up; least = lowest rank before k (was k member) least }
 
-pub is_highest : (rank : ℕ → ℕ) (before after : Queue) (k : ℕ × ℕ) → HasRanks rank before → IsTrue (contains before k) → IsGreatest before k → HasTurned before after k false → IsHighest rank before after k.1
+pub is_highest : (rank : ℕ → ℕ) (before after : Queue) (k : ℕ × ℕ) → HasRanks rank before → IsTrue (contains rank before k) → IsGreatest rank before k → HasTurned rank before after k false → IsHighest rank before after k.1
 is_highest rank before after k was member greatest up = record { taken = taken rank before after k was member up; greatest = highest rank before k (was k member) greatest }
 
 -- which pairs a queue of one has, and one of many
-module _ (queue : Queue) where
-  only_one : (x : ℕ × ℕ) → queue.one ≡ Some x → queue.many.keys ≡ [] → (q : ℕ × ℕ) → contains queue q ≡ is_at (key_cmp x) q
-  only_one x one none q = (λ i. is_one (one i) q || list_any (is_at (key_cmp q)) (none i)) ∙ or_false (is_at (key_cmp x) q)
+module _ (rank : ℕ → ℕ) (queue : Queue) where
+  only_one : (a : ℕ) → queue.one ≡ Some a → queue.many.keys ≡ [] → (q : ℕ × ℕ) → contains rank queue q ≡ is_at (key_cmp (rank a, a)) q
+  only_one a one none q = (λ i. is_one rank (one i) q || list_any (is_at (key_cmp q)) (none i)) ∙ or_false (is_at (key_cmp (rank a, a)) q)
     where
       or_false : (b : Bool) → (b || false) ≡ b
       or_false true = refl
       or_false false = refl
 
-  only_many : queue.one ≡ None → (q : ℕ × ℕ) → contains queue q ≡ keys.contains key_cmp queue.many q
-  only_many none q = ap (λ o. is_one o q || keys.contains key_cmp queue.many q) none
+  only_many : queue.one ≡ None → (q : ℕ × ℕ) → contains rank queue q ≡ keys.contains key_cmp queue.many q
+  only_many none q = ap (λ o. is_one rank o q || keys.contains key_cmp queue.many q) none
 
 -- a queue of no pair
-contains-none : (queue : Queue) → queue.one ≡ None → queue.many.keys ≡ [] → (k : ℕ × ℕ) → contains queue k ≡ false
-contains-none queue one none k = only_many queue one k ∙ ap (list_any (is_at (key_cmp k))) none
+contains-none : (rank : ℕ → ℕ) (queue : Queue) → queue.one ≡ None → queue.many.keys ≡ [] → (k : ℕ × ℕ) → contains rank queue k ≡ false
+contains-none rank queue one none k = only_many rank queue one k ∙ ap (list_any (is_at (key_cmp k))) none
 
 -- a pair comes into a queue of many, or goes
-put_many : (before after : Queue) (k : ℕ × ℕ) (b : Bool) → before.one ≡ None → after.one ≡ None → keys.Updates key_cmp before.many after.many k b → HasTurned before after k b
-put_many before after k b was is up q = only_many after is q ∙ up.0 q ∙ sym (ap (cond (is_at (key_cmp k) q) b) (only_many before was q))
+put_many : (rank : ℕ → ℕ) (before after : Queue) (k : ℕ × ℕ) (b : Bool) → before.one ≡ None → after.one ≡ None → keys.Updates key_cmp before.many after.many k b → HasTurned rank before after k b
+put_many rank before after k b was is up q = only_many rank after is q ∙ up.0 q ∙ sym (ap (cond (is_at (key_cmp k) q) b) (only_many rank before was q))
 
 -- the one goes
-module _ (before after : Queue) (x : ℕ × ℕ) (one : before.one ≡ Some x) (alone : before.many.keys ≡ []) (is : after.one ≡ None) (same : after.many.keys ≡ []) where
-  here : contains before x ≡ true
-  here = only_one before x one alone x ∙ key_at x
+module _ (rank : ℕ → ℕ) (before after : Queue) (a : ℕ) (one : before.one ≡ Some a) (alone : before.many.keys ≡ []) (is : after.one ≡ None) (same : after.many.keys ≡ []) where
+  abbrev key : ℕ × ℕ
+  key = (rank a, a)
 
-  it_is : (q : ℕ × ℕ) → contains before q ≡ true → x ≡ q
-  it_is q t = key_is x q (sym (only_one before x one alone q) ∙ t)
+  here : contains rank before key ≡ true
+  here = only_one rank before a one alone key ∙ key_at key
 
-  turned : HasTurned before after x false
-  turned q = contains-none after is same q ∙ sym (ap (cond (is_at (key_cmp x) q) false) (only_one before x one alone q) ∙ by (is_at (key_cmp x) q))
+  it_is : (q : ℕ × ℕ) → contains rank before q ≡ true → key ≡ q
+  it_is q t = key_is key q (sym (only_one rank before a one alone q) ∙ t)
+
+  turned : HasTurned rank before after key false
+  turned q = contains-none rank after is same q ∙ sym (ap (cond (is_at (key_cmp key) q) false) (only_one rank before a one alone q) ∙ by (is_at (key_cmp key) q))
     where
       by : (b : Bool) → cond b false b ≡ false
       by true = refl
       by false = refl
 
-  pub one_lowest : (rank : ℕ → ℕ) → HasRanks rank before → IsLowest rank before after x.1
-  one_lowest rank was = is_lowest rank before after x was here (λ q t. subst (λ p. is_gt (key_cmp x p) ≡ false) (it_is q t) (ap is_gt (tied_itself keys_total x))) turned
+  pub one_lowest : HasRanks rank before → IsLowest rank before after a
+  one_lowest was = is_lowest rank before after key was here (λ q t. subst (λ p. is_gt (key_cmp key p) ≡ false) (it_is q t) (ap is_gt (tied_itself keys_total key))) turned
 
-  pub one_highest : (rank : ℕ → ℕ) → HasRanks rank before → IsHighest rank before after x.1
-  one_highest rank was = is_highest rank before after x was here (λ q t. subst (λ p. is_lt (key_cmp x p) ≡ false) (it_is q t) (ap is_lt (tied_itself keys_total x))) turned
+  pub one_highest : HasRanks rank before → IsHighest rank before after a
+  one_highest was = is_highest rank before after key was here (λ q t. subst (λ p. is_lt (key_cmp key p) ≡ false) (it_is q t) (ap is_lt (tied_itself keys_total key))) turned
 
 -- one of the many goes
-module _ (before after : Queue) (k : ℕ × ℕ) (was : before.one ≡ None) (is : after.one ≡ None) (member : keys.contains key_cmp before.many k ≡ true) (up : keys.Updates key_cmp before.many after.many k false) where
-  pub many_lowest : keys.IsLowerBound key_cmp before.many k → (rank : ℕ → ℕ) → HasRanks rank before → IsLowest rank before after k.1
-  many_lowest least rank ranks = is_lowest rank before after k ranks (only_many before was k ∙ member) (λ q t. least q (sym (only_many before was q) ∙ t)) (put_many before after k false was is up)
+module _ (rank : ℕ → ℕ) (before after : Queue) (k : ℕ × ℕ) (was : before.one ≡ None) (is : after.one ≡ None) (member : keys.contains key_cmp before.many k ≡ true) (up : keys.Updates key_cmp before.many after.many k false) where
+  pub many_lowest : keys.IsLowerBound key_cmp before.many k → HasRanks rank before → IsLowest rank before after k.1
+  many_lowest least ranks = is_lowest rank before after k ranks (only_many rank before was k ∙ member) (λ q t. least q (sym (only_many rank before was q) ∙ t)) (put_many rank before after k false was is up)
 
-  pub many_highest : keys.IsUpperBound key_cmp before.many k → (rank : ℕ → ℕ) → HasRanks rank before → IsHighest rank before after k.1
-  many_highest greatest rank ranks = is_highest rank before after k ranks (only_many before was k ∙ member) (λ q t. greatest q (sym (only_many before was q) ∙ t)) (put_many before after k false was is up)
+  pub many_highest : keys.IsUpperBound key_cmp before.many k → HasRanks rank before → IsHighest rank before after k.1
+  many_highest greatest ranks = is_highest rank before after k ranks (only_many rank before was k ∙ member) (λ q t. greatest q (sym (only_many rank before was q) ∙ t)) (put_many rank before after k false was is up)

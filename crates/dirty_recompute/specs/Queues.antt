@@ -13,26 +13,26 @@ use Rattle.dirty_recompute.specs.declared.queue.Queue.{Queue}
 abbrev pub key_cmp : ℕ × ℕ → ℕ × ℕ → Ordering
 key_cmp x y = ordering_then (nat_cmp x.0 y.0) (nat_cmp x.1 y.1)
 
--- the pair is the one, if there is one
-abbrev pub is_one : Option (ℕ × ℕ) → ℕ × ℕ → Bool
-is_one None k = false
-is_one (Some x) k = is_at (key_cmp x) k
+-- the pair is the one AS under its rank, if there is one
+abbrev pub is_one : (ℕ → ℕ) → Option ℕ → ℕ × ℕ → Bool
+is_one rank None k = false
+is_one rank (Some a) k = is_at (key_cmp (rank a, a)) k
 
 -- the queue has the pair, of a rank and an AS
-abbrev pub contains : Queue → ℕ × ℕ → Bool
-contains queue k = is_one queue.one k || keys.contains key_cmp queue.many k
+abbrev pub contains : (ℕ → ℕ) → Queue → ℕ × ℕ → Bool
+contains rank queue k = is_one rank queue.one k || keys.contains key_cmp queue.many k
 
 -- the queue has the pair afterwards or has it not, as `there` says, and no other pair comes or goes
-abbrev pub HasTurned : Queue → Queue → ℕ × ℕ → Bool → Type 0
-HasTurned before after k there = (q : ℕ × ℕ) → contains after q ≡ (if is_at (key_cmp k) q then there else contains before q)
+abbrev pub HasTurned : (ℕ → ℕ) → Queue → Queue → ℕ × ℕ → Bool → Type 0
+HasTurned rank before after k there = (q : ℕ × ℕ) → contains rank after q ≡ (if is_at (key_cmp k) q then there else contains rank before q)
 
 -- b waits in the queue, under its rank
 abbrev pub waits : (ℕ → ℕ) → Queue → ℕ → Bool
-waits rank queue b = contains queue (rank b, b)
+waits rank queue b = contains rank queue (rank b, b)
 
 -- each pair of the queue is an AS under its rank
 abbrev pub HasRanks : (ℕ → ℕ) → Queue → Type 0
-HasRanks rank queue = (k : ℕ × ℕ) → contains queue k ≡ true → k.0 ≡ rank k.1
+HasRanks rank queue = (k : ℕ × ℕ) → contains rank queue k ≡ true → k.0 ≡ rank k.1
 
 -- just these ASes came into the queue, and all that waited wait on
 pub record IsAdded (rank : ℕ → ℕ) (before after : Queue) (who : ℕ → Type 0) : Type 0 where

@@ -7,14 +7,14 @@ use net_names::{Asn, NoMemory};
 use std::alloc::Global;
 use std::collections::BTreeSet;
 
-/// ASes that wait, each under its rank. A queue of one AS takes no memory.
+/// ASes that wait, each under its rank. A queue of one AS takes no memory, and asks for no rank.
 #[derive(Drop)]
 pub(crate) struct Queue {
     // The one that waits, where there is just one.
-    one: Option<(u32, Asn)>,
+    one: Option<Asn>,
     // All that wait, where there are more.
     many: BTreeSet<(u32, Asn)>,
-    ghost alone: { (k : ℕ × ℕ) → one ≡ Some k → many.keys ≡ [] },
+    ghost alone: { (a : ℕ) → one ≡ Some a → many.keys ≡ [] },
 }
 
 impl Queue {
@@ -25,7 +25,7 @@ impl Queue {
 
     /// Nobody waits.
     pub(crate) fn new(alloc: Global) -> Queue
-        ensures { (k : ℕ × ℕ) → contains result k ≡ false }
+        ensures { (rank : ℕ → ℕ) (k : ℕ × ℕ) → contains rank result k ≡ false }
     {
         Queue {
             one: None,
@@ -45,21 +45,21 @@ impl Queue {
     }
 
     // Puts an AS under its rank into the queue.
-    fn put(&mut self, key: (u32, Asn)) -> Result<(), NoMemory>
-        ensures { OnOk result (HasTurned self.old self.new key true) }
+    fn put(&mut self, ranks: &NewRanks, asn: Asn) -> Result<(), NoMemory>
+        ensures { OnOk result (HasTurned (rank_of ranks.now) self.old self.new (rank_of ranks.now asn, asn) true) }
     {
         match self.one {
             Some(one) => {
-                Queue::put_in(&mut self.many, one)?;
+                Queue::put_in(&mut self.many, (ranks.rank(one), one))?;
                 self.one = None;
-                Queue::put_in(&mut self.many, key)
+                Queue::put_in(&mut self.many, (ranks.rank(asn), asn))
             }
             None => {
                 if self.many.is_empty() {
-                    self.one = Some(key);
+                    self.one = Some(asn);
                     Ok(())
                 } else {
-                    Queue::put_in(&mut self.many, key)
+                    Queue::put_in(&mut self.many, (ranks.rank(asn), asn))
                 }
             }
         }
@@ -69,7 +69,7 @@ impl Queue {
     pub(crate) fn add(&mut self, ranks: &NewRanks, asn: Asn) -> Result<(), NoMemory>
         ensures { OnOk result (IsAdded (rank_of ranks.now) self.old self.new (λ b. b ≡ asn)) }
     {
-        self.put((ranks.rank(asn), asn))
+        self.put(ranks, asn)
     }
 
     /// Puts ASes into the queue.
@@ -88,7 +88,7 @@ impl Queue {
         ensures none { (rank : ℕ → ℕ) → IfNone result ((b : ℕ) → waits rank self.old b ≡ false) }
     {
         match self.one {
-            Some((_, asn)) => {
+            Some(asn) => {
                 self.one = None;
                 Some(asn)
             }
@@ -105,7 +105,7 @@ impl Queue {
         ensures none { (rank : ℕ → ℕ) → IfNone result ((b : ℕ) → waits rank self.old b ≡ false) }
     {
         match self.one {
-            Some((_, asn)) => {
+            Some(asn) => {
                 self.one = None;
                 Some(asn)
             }

@@ -15,7 +15,7 @@ loop-asn-init g c =
     let rank = rank_of c.args.ranks.now in
     let state = g.V.OriginStates.state_of c.args.states.now (prefix_of c.args.table.now) in
     upward_start g.P.RoutePolicy.meaning laws c.args.graph.now c.args.book.now state rank c.args.touched.now c.args.seeds.now c.args.table.now c.requires.falls c.args.pool.now c.args.overlay.now c.in_ok-up.up c.new-whole.result c.args.steps.now
-    c.requires.fresh c.in_ok-up.ensures.touched (λ b. c.new-whole.ensures (rank b, b)) c.in_ok-up.ensures.ranks (no_ranks rank c.new-whole.result c.new-whole.ensures)
+    c.requires.fresh c.in_ok-up.ensures.touched (λ b. c.new-whole.ensures rank (rank b, b)) c.in_ok-up.ensures.ranks (no_ranks rank c.new-whole.result (c.new-whole.ensures rank))
     c.requires.entries c.requires.seeds c.requires.right
 
 pub turn_up-requires-clause-can : goal.turn_up-requires-clause-can
