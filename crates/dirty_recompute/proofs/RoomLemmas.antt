@@ -121,3 +121,12 @@ before_is p q seeds t x z a before held keeps is others = record {
   others = λ n ne. sym (others n ne);
   live = λ h e. keeps.live h.path.0 (joined_live p t x held a h (sym is ∙ e));
 }
+
+-- an AS that holds already what it is to get is given nothing
+pub given_already : (p : PathPool) (t : Table) (x : Overlay) (a : ℕ) (new : Option Entry) → new ≡ routing_of p t x a → IsGiven p p t x x a new false
+given_already p t x a new same = record {
+  at = sym same;
+  only = record { others = λ n ne. refl; changed_others = λ n ne. refl; settled = inl (refl, refl) };
+  changed = (λ t. cc, λ ne. absurd (ne refl));
+  paid = inl (omega arith, λ k. omega arith);
+}

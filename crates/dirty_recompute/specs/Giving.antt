@@ -1,6 +1,9 @@
 -- What it leaves when an AS is given an entry, or none.
-use Rattle.std.specs.Prelude.{◌≡◌, ◌≢◌, ◌⊎◌, ◌↔◌, ℕ, Bool, IsTrue, Option, None}
+use Rattle.std.specs.Prelude.{◌≡◌, ◌≢◌, ◌⊎◌, ◌↔◌, ℕ, Bool, IsTrue, Option, None, ◌∷◌}
+use Rattle.net_names.specs.declared.routes.Class.{Class}
+use Rattle.path_pool.specs.declared.path_id.PathId.{PathId}
 use Rattle.path_pool.specs.declared.pool.PathPool.{PathPool}
+use Rattle.path_pool.specs.Pool.{list_of}
 use Rattle.stability_laws.specs.declared.entry.Entry.{Entry}
 use Rattle.route_choice.specs.declared.overlay.Overlay.{Overlay}
 use Rattle.route_choice.specs.declared.table.Table.{Table}
@@ -8,6 +11,10 @@ use Rattle.route_choice.specs.Routings.{routing_of}
 use Rattle.route_choice.specs.Tables.{change_at}
 use Rattle.dirty_recompute.specs.Resources.{has_change, IsPaidFor}
 use Rattle.dirty_recompute.specs.Steps.{ChangesOnly}
+
+-- the entry of this class and number whose path is a and then the path of that cell
+abbrev pub with_first : PathPool → ℕ → Class → PathId → Option ℕ → Entry
+with_first pool a class rest otc = record { class = class; path = a ∷ list_of pool rest.0; otc = otc }
 
 -- nothing that the overlay holds is given up where a gets this: the overlay has no change at a, or a holds nothing, or it holds this
 abbrev pub GivesUpNone : PathPool → Table → Overlay → ℕ → Option Entry → Type 0

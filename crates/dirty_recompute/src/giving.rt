@@ -1,22 +1,23 @@
 //! An AS is given an entry, or none. Room is made first, so that after a refusal all ASes hold what
 //! they held.
 
-ghost use Rattle.std.specs.Prelude.{◌≡◌, ◌≢◌, ℕ, ◌<◌, ◌≤◌, Some, None, IsTrue, IsSome, true, false, OnOk, OnErr, IfOk};
-ghost use Rattle.path_pool.specs.Pool.{SamePaths, limit_of, spare_of};
+ghost use Rattle.std.specs.Prelude.{◌≡◌, ◌≢◌, ℕ, ◌<◌, ◌≤◌, Some, None, IsTrue, IsSome, true, false, OnOk, OnErr, IfOk, Option};
+ghost use Rattle.path_pool.specs.Pool.{IsLive, SamePaths, limit_of, spare_of};
 ghost use Rattle.stability_laws.specs.Book.{policy_at};
+ghost use Rattle.stability_laws.specs.declared.entry.Seed.{Seed as ASeed};
 ghost use Rattle.route_choice.specs.declared.held.Held.{Held as AHeld};
 ghost use Rattle.route_choice.specs.Choices.{named_by};
-ghost use Rattle.route_choice.specs.Resources.{CanStep, IsNameable};
-ghost use Rattle.route_choice.specs.Routings.{routing_of, seeds_of};
+ghost use Rattle.route_choice.specs.Resources.{AreHeld, CanStep, IsNameable};
+ghost use Rattle.route_choice.specs.Routings.{entry_of, routing_of, seeds_of};
 ghost use Rattle.route_choice.specs.Tables.{change_at, joined, overlay_uses};
 ghost use Rattle.dirty_recompute.specs.Resources.{CanTurn, IsKept, has_change};
-ghost use Rattle.dirty_recompute.specs.Giving.{GivesUpNone, IsGiven, SameHeld};
+ghost use Rattle.dirty_recompute.specs.Giving.{with_first, GivesUpNone, IsGiven, SameHeld};
 
-use net_names::{Asn, NoMemory};
-use path_pool::PathPool;
+use net_names::{Asn, Class, NoMemory};
+use path_pool::{PathId, PathPool};
 use policy_laws::RoutePolicy;
 use route_choice::{Choice, ChoiceNear, Held, Overlay, SeedIds, Table, settle_near};
-use stability_laws::Book;
+use stability_laws::{Book, carried, class_from};
 
 /// What an AS holds, with the changes in place, sought first at a place.
 pub(crate) fn held_near(table: &Table, overlay: &Overlay, asn: Asn, place: usize) -> Option<Held>
@@ -25,6 +26,61 @@ pub(crate) fn held_near(table: &Table, overlay: &Overlay, asn: Asn, place: usize
     match overlay.get_near(asn, place) {
         Some(change) => change,
         None => table.get_near(asn, place),
+    }
+}
+
+// Whether the entry is of this class and number, and its path is the AS and then the path of that cell, by
+// the first cell of its path.
+fn is_with_first(
+    pool: &PathPool,
+    have: &Held,
+    asn: Asn,
+    class: Class,
+    rest: PathId,
+    otc: Option<Asn>,
+) -> bool
+    requires { IsLive pool.now have.now.path.0 }
+    ensures { IsTrue result → entry_of pool.now have.now ≡ with_first pool.now asn class rest otc }
+{
+    if have.class != class || have.otc != otc || pool.head(have.path) != asn {
+        return false;
+    }
+    match pool.tail(have.path) {
+        Some(tail) => tail == rest,
+        None => false,
+    }
+}
+
+// Whether the choice is an offer that gives an AS the entry that it holds, by the first cell of its path. The
+// place where the neighbour may stand is a hint.
+fn is_held_by_offer<P: RoutePolicy>(
+    book: &Book<P>,
+    pool: &PathPool,
+    table: &Table,
+    overlay: &Overlay,
+    asn: Asn,
+    before: &Option<Held>,
+    choice: Choice,
+    from: usize,
+) -> bool
+    requires held { AreHeld pool.now table.now overlay.now }
+    requires before { before.now ≡ joined table.now overlay.now asn }
+    ensures { IsTrue result → (seed : Option ASeed) → named_by (λ n. P.meaning (policy_at book.now n)) seed (routing_of pool.now table.now overlay.now) asn choice ≡ routing_of pool.now table.now overlay.now asn }
+{
+    let Some(have) = before else {
+        return false;
+    };
+    match choice {
+        Choice::Nothing | Choice::Seed => false,
+        Choice::Via { neighbour, rel } => match held_near(table, overlay, neighbour, from) {
+            Some(given) => {
+                let sender = book.policy(neighbour);
+                let receiver = book.policy(asn);
+                let otc = carried(sender, receiver, neighbour, rel.converse(), given.otc);
+                is_with_first(pool, have, asn, class_from(rel), given.path, otc)
+            }
+            None => false,
+        },
     }
 }
 
@@ -127,6 +183,10 @@ pub(crate) fn give_chosen<P: RoutePolicy>(
     ensures err { OnErr result (SameHeld pool.old pool.new table.now overlay.old overlay.new) }
     ensures kept { IsKept pool.old pool.new seeds.now overlay.old overlay.new }
 {
+    let from = chosen.place;
+    if is_held_by_offer(book, pool, table, overlay, asn, before, chosen.choice, from) {
+        return Ok(false);
+    }
     match chosen.choice {
         Choice::Nothing => take_away(table, overlay, asn, before),
         Choice::Seed | Choice::Via { .. } => {
