@@ -1,16 +1,19 @@
 -- The seeds that announcements make.
-use Rattle.std.proofs.Common.{◌≡◌, ◌⊎◌, inl, inr, ℕ, zero, suc, Bool, true, false, cond, Some, None, List, [], ◌∷◌, ◌++◌, length, refl, sym, ap, ◌∙◌}
-use Rattle.std.specs.Prelude.{slice_get}
+use Rattle.std.proofs.Common.{◌≡◌, ◌≢◌, ◌⊎◌, inl, inr, ℕ, zero, suc, ◌<◌, Bool, true, false, cond, Some, None, option_map, List, [], ◌∷◌, ◌++◌, length, set, refl, sym, ap, ◌∙◌}
+use Rattle.std.specs.Prelude.{slice_get, IsTrue}
+use Rattle.std.proofs.lemmas.Bool.{cases_eq, cases_order}
 use Rattle.net_names.specs.Numbers.{occurs}
-use Rattle.net_names.specs.Prefixes.{PrefixValue}
+use Rattle.net_names.specs.Prefixes.{PrefixValue, prefix_cmp}
 use Rattle.path_pool.specs.declared.pool.PathPool.{PathPool}
-use Rattle.stability_laws.specs.Plans.{Plan, announcer_of, prefixes_of}
+use Rattle.stability_laws.specs.Plans.{Plan, announcer_of, has_prefix, prefixes_of}
+use Rattle.stability_laws.proofs.KeyLists.{apart_later, keys_listed}
+use Rattle.stability_laws.proofs.PlanOrders.{prefixes_total, exact_prefix}
 use Rattle.route_choice.specs.declared.round_tables.RoundTables.{RoundTables}
 use Rattle.route_choice.specs.declared.seeds.SeedIds.{SeedIds}
 use Rattle.leak_round.specs.declared.announced.Announced.{Announced}
 use Rattle.leak_round.specs.declared.changes.Change.{Change}
 use Rattle.leak_round.specs.declared.touched.Touched.{Touched}
-use Rattle.leak_round.specs.Announced.{is_of, own_path}
+use Rattle.leak_round.specs.Announced.{is_of, own_path, own_seed}
 use Rattle.leak_round.specs.Differing.{AreWrongIn}
 use Rattle.leak_round.specs.Edited.{others_of, EndsWithPath}
 use Rattle.leak_round.specs.Leaked.{AreSeedsWith}
@@ -18,6 +21,7 @@ use Rattle.leak_round.specs.OwnSeeds.{AreOwn, AreOwnSeeds, AreOthersKept}
 use Rattle.leak_round.specs.Touched.{ases_in, touches}
 use Rattle.leak_round.proofs.Announcing.{is_of-itself, own_path-push}
 use Rattle.leak_round.proofs.Editing.{others_own}
+use Rattle.leak_round.proofs.Laying.{got_other, got_set}
 
 -- what stands in a list with one more at the end, and where
 got_at : {X : Type 0} (xs : List X) (x : X) (i : ℕ) (y : X) → slice_get (xs ++ x ∷ []) i ≡ Some y → (slice_get xs i ≡ Some y) ⊎ ((i ≡ length xs) × (x ≡ y))
@@ -39,6 +43,28 @@ own_more plan xs own prefix seeds was at are i p s here got = elim (got_at own s
       let both : Some prefix ≡ Some p = sym at ∙ ap (slice_get (prefixes_of plan)) (sym last.0) ∙ here in
       let one : prefix ≡ p = cc in
       coe 0 1 (i. AreOwn xs (one i) (last.1 i)) are
+]
+
+-- no prefix stands at two places of the plan
+place_apart : (plan : Plan) (i j : ℕ) (p q : PrefixValue) → j ≢ i → slice_get (prefixes_of plan) i ≡ Some p → slice_get (prefixes_of plan) j ≡ Some q → p ≢ q
+place_apart plan i j p q ne here there = elim (cases_order i j) [
+  | inl same ↦ absurd (ne (sym same))
+  | inr (inl less) ↦ apart_later prefix_cmp prefixes_total (λ r. IsTrue (has_prefix plan r)) (prefixes_of plan) (keys_listed prefixes_total exact_prefix plan.prefixes) i j p q less here there
+  | inr (inr more) ↦ λ same. apart_later prefix_cmp prefixes_total (λ r. IsTrue (has_prefix plan r)) (prefixes_of plan) (keys_listed prefixes_total exact_prefix plan.prefixes) j i q p more there here (sym same)
+]
+
+-- other seeds of one prefix
+pub own_put : (plan : Plan) (xs ys : List Announced) (own : List SeedIds) (i : ℕ) (prefix : PrefixValue) (seeds : SeedIds) → AreOwnSeeds plan xs own → AreOthersKept (Some prefix) xs ys → AreOwn ys prefix seeds → slice_get (prefixes_of plan) i ≡ Some prefix → i < length own → AreOwnSeeds plan ys (set own i seeds)
+own_put plan xs ys own i prefix seeds was others are at less j p s here got = elim (cases_eq j i) [
+  | inl e ↦
+      let both : Some prefix ≡ Some p = sym at ∙ ap (slice_get (prefixes_of plan)) (sym e) ∙ here in
+      let one : prefix ≡ p = cc in
+      let put : Some seeds ≡ Some s = sym (got_set own i seeds less) ∙ ap (slice_get (set own i seeds)) (sym e) ∙ got in
+      let same : seeds ≡ s = cc in
+      coe 0 1 (k. AreOwn ys (one k) (same k)) are
+  | inr ne ↦
+      let other : p ≢ prefix = place_apart plan j i p prefix (λ e. ne (sym e)) here at in
+      λ a. was j p s here (sym (got_other own i j seeds ne) ∙ got) a ∙ ap (option_map own_seed) (sym (others p (λ e. (let same : prefix ≡ p = cc in other (sym same))) a))
 ]
 
 -- where an announcement of a prefix goes, what is announced of other prefixes stays

@@ -11,7 +11,8 @@ use Rattle.leak_round.specs.declared.plans.RoundsPlan.{RoundsPlan}
 use Rattle.leak_round.specs.declared.plans.RoundsDone.{RoundsDone}
 use Rattle.leak_round.specs.declared.rounds.Rounds.{Rounds}
 use Rattle.leak_round.specs.Bounds.{Course}
-use Rattle.leak_round.specs.Edited.{edited_uses, AreEdited}
+use Rattle.leak_round.specs.Edited.{announced_after, edited_uses, prefix_edited, AreEdited}
+use Rattle.leak_round.specs.OwnSeeds.{AreOthersKept, AreOwnEdited}
 use Rattle.leak_round.specs.Overlays.{change_in, laid_in, changes_uses, changes_count, AreChangesOf, AreFew}
 use Rattle.leak_round.specs.Rounds.{is_open, plan_of, pool_of, round_count, kept, uses_of}
 
@@ -52,7 +53,7 @@ ases_told d (suc before) = option_map_or (λ v. v.items) (slice_get d.changed.it
 abbrev pub IsTold : RoundsPlan → ℕ → ℕ → Type 0
 IsTold p round a = ((prefix : PrefixValue) × IsTrue (is_changed p round prefix a)) ⊎ (asn_edited p ≡ Some a)
 
--- the plan is the open one of the rounds: the pool has just the holds of both, each change has its table and differs from what is kept, and what is told of the changes is so
+-- the plan is the open one of the rounds: the pool has just the holds of both, each change has its table and differs from what is kept, of each prefix but the edited one the same is announced, and what is told of the changes is so
 pub record IsOpenPlan (r : Rounds) (p : RoundsPlan) : Type 0 where
   pub planned : is_open r ≡ true
   pub holds : (k : ℕ) → holds_of (pool_of r) k ≡ uses_of r k + (changes_uses p.changes.items k + edited_uses p.edited k)
@@ -60,6 +61,8 @@ pub record IsOpenPlan (r : Rounds) (p : RoundsPlan) : Type 0 where
   pub differs : (round : ℕ) (prefix : PrefixValue) (a : ℕ) → IsTrue (is_changed p round prefix a) → kept_with r p round prefix a ≢ kept r round prefix a
   pub few : (round : ℕ) (prefix : PrefixValue) → AreFew (kept_with r p round prefix)
   pub edited : AreEdited (pool_of r) (plan_of r) p.edited
+  pub others : AreOthersKept (prefix_edited p.edited) r.announced.items (announced_after p.edited r.announced.items)
+  pub own : AreOwnEdited p.edited
   pub count : count_told p.done ≡ changes_count p.changes.items
   pub told : (round : ℕ) → 1 ≤ round → round ≤ round_count r → ListsRising nat_cmp (IsTold p round) (ases_told p.done round)
   pub cells : live_count (pool_of r) ≤ cells_before p + count_told p.done + numbers_added p

@@ -11,10 +11,11 @@ ghost use Rattle.leak_round.specs.declared.announced.Announced.{Announced as AnA
 ghost use Rattle.leak_round.specs.Limits.{IsWithinLimits};
 ghost use Rattle.leak_round.specs.Announced.{is_of, announced_uses, AreAnnounced};
 ghost use Rattle.leak_round.specs.Growth.{KeepsPaths};
-ghost use Rattle.leak_round.specs.OwnSeeds.{AreOwnSeeds, AreOthersKept};
-ghost use Rattle.leak_round.specs.Edited.{edited_uses, given_up, others_of, AreHeldToo, EndsWithPath, AreSeedsOf, edit_numbers, AreMade};
+ghost use Rattle.leak_round.specs.OwnSeeds.{AreOwn, AreOwnEdited, AreOwnSeeds, AreOthersKept};
+ghost use Rattle.leak_round.specs.Edited.{announced_after, edited_uses, given_up, others_of, prefix_edited, seeds_after, AreHeldToo, EndsWithPath, AreSeedsOf, edit_numbers, AreMade};
 
-use crate::announced::{Announced, hold_all, release_all};
+use crate::announced::{Announced, announced_seeds, hold_all, release_all};
+use crate::own_seeds::put_own_seeds;
 use net_names::{Asn, NoMemory, Path, Prefix};
 use path_pool::PathPool;
 use route_choice::SeedIds;
@@ -26,6 +27,8 @@ use std::alloc::Global;
 pub struct EditedSeeds {
     pub plan: SeedPlan,
     pub announced: Vec<Announced>,
+    /// The seeds that the announcements of the edited prefix make.
+    pub own: SeedIds,
     /// The prefix of which an announcement is edited.
     pub prefix: Prefix,
     /// The AS whose announcement is edited.
@@ -34,8 +37,8 @@ pub struct EditedSeeds {
     pub numbers: usize,
 }
 
-// Takes the other plan of seeds, where there is one, in place of this one, gives back the holds of the
-// paths that this one announces, and forgets the seeds that its announcements make.
+// Takes the other plan of seeds, where there is one, in place of this one, and gives back the holds of the
+// paths that this one announces. Of the kept seeds only those of the edited prefix become others.
 pub fn take_seeds(
     edited: Option<EditedSeeds>,
     plan: &mut SeedPlan,
@@ -45,6 +48,9 @@ pub fn take_seeds(
 )
     requires held { (k : ℕ) → announced_uses announced.old.items k ≤ holds_of pool.old k }
     requires own { AreOwnSeeds plan.old announced.old.items own.old.items }
+    requires prefixes { (seeds_after edited plan.old).prefixes ≡ plan.old.prefixes }
+    requires others { AreOthersKept (prefix_edited edited) announced.old.items (announced_after edited announced.old.items) }
+    requires fresh { AreOwnEdited edited }
     ensures plan { plan.new ≡ option_map_or (λ e. e.plan) edited plan.old }
     ensures announced { announced.new.items ≡ option_map_or (λ e. e.announced.items) edited announced.old.items }
     ensures own { AreOwnSeeds plan.new announced.new.items own.new.items }
@@ -54,9 +60,9 @@ pub fn take_seeds(
     match edited {
         Some(seeds) => {
             release_all(announced.as_slice(), pool);
+            put_own_seeds(plan, seeds.prefix, seeds.own, own);
             *plan = seeds.plan;
             *announced = seeds.announced;
-            own.clear();
         }
         None => {}
     }
@@ -138,6 +144,30 @@ fn add_path(
     Ok(())
 }
 
+// The seeds that the announcements of a prefix make. `Err` where there is not enough memory; then one hold
+// of each announced path is given back.
+fn seeds_or_release(
+    alloc: Global,
+    announced: &[Announced],
+    prefix: Prefix,
+    pool: &mut PathPool,
+) -> Result<SeedIds, NoMemory>
+    requires { (k : ℕ) → announced_uses announced.now k ≤ holds_of pool.old k }
+    ensures own { IfOk result (AreOwn announced.now prefix) }
+    ensures ok { OnOk result (pool.new ≡ pool.old) }
+    ensures holds { OnErr result ((k : ℕ) → holds_of pool.new k + announced_uses announced.now k ≡ holds_of pool.old k) }
+    ensures back { OnErr result (GivesBack pool.old pool.new) }
+    ensures limit { limit_of pool.new ≡ limit_of pool.old }
+{
+    match announced_seeds(alloc, announced, prefix) {
+        Ok(seeds) => Ok(seeds),
+        Err(_) => {
+            release_all(announced, pool);
+            Err(NoMemory)
+        }
+    }
+}
+
 // The seeds after a path is announced, in place of an earlier one of the prefix by its AS.
 fn announce_anew(
     alloc: Global,
@@ -157,6 +187,7 @@ fn announce_anew(
     requires counts { (k : ℕ) → count_of pool.old k ≤ 4000000000 }
     ensures made { IfOk result (AreMade pool.old pool.new plan.now after (announcer_of path.now) (length path.now)) }
     ensures others { IfOk result (λ e. AreOthersKept (Some e.prefix) announced.now e.announced.items) }
+    ensures own { IfOk result (λ e. AreOwn e.announced.items e.prefix e.own) }
     ensures err { OnErr result (IsUndone pool.old pool.new) }
     ensures limit { limit_of pool.new ≡ limit_of pool.old }
 {
@@ -164,15 +195,21 @@ fn announce_anew(
     let asn = numbers[0];
     let mut others = others_of(alloc, announced, prefix, asn)?;
     match add_path(prefix, path, &mut others, pool) {
-        Ok(()) => Ok(EditedSeeds {
-            plan: after,
-            announced: others,
-            prefix,
-            asn,
-            numbers: numbers.len(),
-        }),
-        Err(_) => Err(NoMemory),
+        Ok(()) => {}
+        Err(_) => return Err(NoMemory),
     }
+    let own = match seeds_or_release(alloc, others.as_slice(), prefix, pool) {
+        Ok(own) => own,
+        Err(_) => return Err(NoMemory),
+    };
+    Ok(EditedSeeds {
+        plan: after,
+        announced: others,
+        own,
+        prefix,
+        asn,
+        numbers: numbers.len(),
+    })
 }
 
 // The seeds after the AS does not announce the prefix any more.
@@ -192,14 +229,17 @@ fn withdraw(
     requires counts { (k : ℕ) → count_of pool.old k ≤ 4000000000 }
     ensures made { IfOk result (AreMade pool.old pool.new plan.now after asn 0) }
     ensures others { IfOk result (λ e. AreOthersKept (Some e.prefix) announced.now e.announced.items) }
+    ensures own { IfOk result (λ e. AreOwn e.announced.items e.prefix e.own) }
     ensures err { OnErr result (IsUndone pool.old pool.new) }
     ensures limit { limit_of pool.new ≡ limit_of pool.old }
 {
     let others = others_of(alloc, announced, prefix, asn)?;
+    let own = announced_seeds(alloc, others.as_slice(), prefix)?;
     hold_all(others.as_slice(), pool);
     Ok(EditedSeeds {
         plan: after,
         announced: others,
+        own,
         prefix,
         asn,
         numbers: 0,
@@ -224,6 +264,7 @@ pub fn edit_seeds(
     requires counts { (k : ℕ) → count_of pool.old k ≤ 4000000000 }
     ensures seeds { IfOk result (λ e. AreSeedsOf pool.new plan.now e) }
     ensures others { IfOk result (λ e. AreOthersKept (Some e.prefix) announced.now e.announced.items) }
+    ensures own { IfOk result (λ e. AreOwn e.announced.items e.prefix e.own) }
     ensures plan { IfOk result (λ e. e.plan ≡ edited plan.now edit.now) }
     ensures asn { IfOk result (λ e. e.asn ≡ edit_asn edit.now) }
     ensures numbers { IfOk result (λ e. e.numbers ≡ edit_numbers edit.now) }

@@ -6,7 +6,7 @@ ghost use Rattle.route_choice.specs.declared.round_tables.RoundTables.{RoundTabl
 ghost use Rattle.leak_round.specs.declared.announced.Announced.{Announced as AnAnnouncement};
 ghost use Rattle.leak_round.specs.declared.changes.Change.{Change as AChange};
 ghost use Rattle.leak_round.specs.Leaked.{AreSeedsWith};
-ghost use Rattle.leak_round.specs.OwnSeeds.{AreOwnSeeds, AreOthersKept};
+ghost use Rattle.leak_round.specs.OwnSeeds.{AreOwn, AreOwnSeeds, AreOthersKept};
 
 use crate::announced::{Announced, announced_seeds};
 use net_names::{NoMemory, Prefix};
@@ -32,6 +32,28 @@ pub fn fill_own_seeds(
         }
     }
     Ok(())
+}
+
+// The place of a prefix in a list, if it stands there.
+fn place_of(prefixes: &[Prefix], prefix: Prefix) -> Option<usize>
+    ensures { IfSome result (λ i. slice_get prefixes.now i ≡ Some prefix) }
+{
+    for (place, one) in prefixes.iter().enumerate() {
+        if *one == prefix {
+            return Some(place);
+        }
+    }
+    None
+}
+
+// Puts other seeds of a prefix in place of those that are kept of it.
+pub fn put_own_seeds(plan: &SeedPlan, prefix: Prefix, seeds: SeedIds, own: &mut Vec<SeedIds>)
+    ensures { (xs ys : List AnAnnouncement) → AreOwnSeeds plan.now xs own.old.items → AreOthersKept (Some prefix) xs ys → AreOwn ys prefix seeds → AreOwnSeeds plan.now ys own.new.items }
+{
+    match place_of(plan.prefixes(), prefix) {
+        Some(place) if place < own.len() => own[place] = seeds,
+        _ => own.clear(),
+    }
 }
 
 // Whether an AS leaks in a round.

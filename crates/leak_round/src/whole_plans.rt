@@ -17,7 +17,7 @@ ghost use Rattle.leak_round.specs.Edited.{announced_after, prefix_edited, seeds_
 ghost use Rattle.leak_round.specs.Growth.{HasRoomFor};
 ghost use Rattle.leak_round.specs.Limits.{IsWithinLimits};
 ghost use Rattle.leak_round.specs.Overlays.{changes_count};
-ghost use Rattle.leak_round.specs.OwnSeeds.{AreOwnSeeds, AreOthersKept};
+ghost use Rattle.leak_round.specs.OwnSeeds.{AreOwnSeeds, AreOthersKept, AreOwnEdited};
 ghost use Rattle.leak_round.specs.Planning.{CanPlan, ArePlanned, AreRoundsPlanned, AreSame, IsCutOff, IsPaid};
 ghost use Rattle.leak_round.specs.Plans.{count_told, ases_told};
 ghost use Rattle.leak_round.specs.Tables.{entry_uses};
@@ -57,6 +57,7 @@ pub fn edit_if_any(
     requires counts { (k : ℕ) → count_of pool.old k ≤ 4000000000 }
     ensures made { IfOk result (IsEdited pool.old pool.new plan.now (option_copied edit.entry)) }
     ensures others { IfOk result (λ o. AreOthersKept (prefix_edited o) announced.now (announced_after o announced.now)) }
+    ensures own { IfOk result AreOwnEdited }
     ensures limit { limit_of pool.new ≡ limit_of pool.old }
     ensures err { OnErr result (IsUndone pool.old pool.new) }
 {

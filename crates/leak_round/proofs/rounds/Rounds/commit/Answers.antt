@@ -15,6 +15,15 @@ use Rattle.leak_round.proofs.rounds.Rounds.commit.Goals as goal
 pub take_seeds-requires-clause-held : goal.take_seeds-requires-clause-held
 take_seeds-requires-clause-held c = enough_first c.args.self.now c.args.plan c.requires c.commit_changes.new.pool c.commit_changes.new.tables.items (c.commit_changes.ensures.laid c.args.self.now.plan (kept_with c.args.self.now c.args.plan) (others c.args.self.now c.args.plan c.requires) (keys_listed prefixes_total exact_prefix c.args.self.now.plan.prefixes) c.requires.few (laid_first c.args.self.now c.args.plan c.requires))
 
+pub take_seeds-requires-clause-prefixes : goal.take_seeds-requires-clause-prefixes
+take_seeds-requires-clause-prefixes c = prefixes_taken c.args.self.now.pool c.args.self.now.plan c.args.self.now.announced.items c.args.self.now.limits c.args.self.now.announcements c.args.plan.edited c.requires.edited
+
+pub take_seeds-requires-clause-others : goal.take_seeds-requires-clause-others
+take_seeds-requires-clause-others c = c.requires.others
+
+pub take_seeds-requires-clause-fresh : goal.take_seeds-requires-clause-fresh
+take_seeds-requires-clause-fresh c = c.requires.own
+
 pub invariant_of-self : goal.invariant_of-self
 invariant_of-self c =
     let r = c.args.self.now in
