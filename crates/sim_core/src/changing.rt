@@ -23,6 +23,7 @@ use net_names::{Asn, NoMemory, Vrp};
 use origin_validation::States;
 use policy_kinds::Kind;
 use rank_order::Ranks;
+use roa_table::Vrps;
 use route_choice::Steps;
 use stability_laws::{
     Book, SeedEdit, offer_path, one_family, paths_go_on, plans_are_sound, right_by_offers,
@@ -89,7 +90,7 @@ pub fn change<L: Ledger>(
 }
 
 // The states over all payloads, or over all but one.
-fn states_but<'a>(vrps: &'a roa_table::Vrps, but: Option<Vrp>) -> States<'a>
+fn states_but<'a>(vrps: &'a Vrps, but: Option<Vrp>) -> States<'a>
     ensures { result ≡ less vrps.now but }
 {
     match but {
