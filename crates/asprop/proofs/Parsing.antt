@@ -7,7 +7,7 @@ use Rattle.clap.specs.declared.error.kind.ErrorKind.TheVariants.{OutOfMemory}
 use Rattle.clap.specs.declared.parser.matches.ArgMatches.{ArgMatches}
 use Rattle.clap.proofs.WalkLemmas.{first_value-rows}
 use Rattle.asprop.specs.Command.{asprop_command, faults_in, rows_in}
-use Rattle.asprop.specs.Words.{Asked, Form, asked_by, form_by, form_of, form_unless}
+use Rattle.asprop.specs.Words.{Form, form_by, form_in, form_of}
 
 -- the command is one of those whose faults and matches are told
 simple_and_free : is_simple_and_free asprop_command ≡ true
@@ -33,10 +33,10 @@ pub found : (app : App) (words : List Text) (m : ArgMatches) → app ≡ asprop_
 unfolding rows_in
 found app words m is has = (has (ap is_simple is ∙ simple)).0 ∙ ap (λ (a : App). matches_of a words) is
 
-refused_by : (kinds : Kinds) (e : Error) (form : Option Form) → HasKind kinds e → (kind_of e ≡ OutOfMemory → ⊥) → None ≡ form_unless kinds form
-refused_by [] e form (inl memory) other = absurd (other memory)
-refused_by [] e form (inr none) other = elim none [ ]
-refused_by (k ∷ ks) e form has other = refl
+refused_by : (kinds : Kinds) (e : Error) (rows : List Row) → HasKind kinds e → (kind_of e ≡ OutOfMemory → ⊥) → None ≡ form_in kinds rows
+refused_by [] e rows (inl memory) other = absurd (other memory)
+refused_by [] e rows (inr none) other = elim none [ ]
+refused_by (k ∷ ks) e rows has other = refl
 
 -- words with an error that isn't want of memory have no form
 pub refused : (words : List Text) (e : Error) → HasKind (faults_in words) e → (kind_of e ≡ OutOfMemory → ⊥) → None ≡ form_of words
@@ -47,9 +47,9 @@ pub stands : (m : ArgMatches) (rows : List Row) (id : Text) → rows_of (found_o
 stands m rows id is = first_value-rows (found_of m) id ∙ ap (first_of id) is
 
 -- words without a fault have the form of their values
-pub accepted : (words : List Text) (rel vrps scenario script origin demo : Option Text) (asked : Asked) (form : Option Form) → faults_in words ≡ []
+pub accepted : (words : List Text) (rel vrps scenario script origin demo : Option Text) (form : Option Form) → faults_in words ≡ []
     → rel ≡ first_of (codes "rel") (rows_in words) → vrps ≡ first_of (codes "vrps") (rows_in words) → scenario ≡ first_of (codes "scenario") (rows_in words)
     → script ≡ first_of (codes "script") (rows_in words) → origin ≡ first_of (codes "origin") (rows_in words) → demo ≡ first_of (codes "demo") (rows_in words)
-    → asked ≡ asked_by script origin demo → form ≡ form_by rel vrps scenario asked → form ≡ form_of words
-accepted words rel vrps scenario script origin demo asked form takes rel_is vrps_is scenario_is script_is origin_is demo_is asked_is form_is =
-    rw (takes, form_is, asked_is, rel_is, vrps_is, scenario_is, script_is, origin_is, demo_is) refl
+    → form ≡ form_by rel vrps scenario script origin demo → form ≡ form_of words
+accepted words rel vrps scenario script origin demo form takes rel_is vrps_is scenario_is script_is origin_is demo_is form_is =
+    rw (takes, form_is, rel_is, vrps_is, scenario_is, script_is, origin_is, demo_is) refl

@@ -1,6 +1,6 @@
 //! The words of the command line.
-ghost use Rattle.std.specs.Prelude.{◌≡◌, ◌≤◌, IfOk, IfSome, map, option_map, string_bytes};
-ghost use Rattle.asprop.specs.Words.{HasSize, also, asked_by, form_by, form_of, form_seen, jobs_seen, name_of, size_of, text_seen};
+ghost use Rattle.std.specs.Prelude.{◌≡◌, ◌≤◌, IfOk, IfSome, Some, map, option_map, string_bytes};
+ghost use Rattle.asprop.specs.Words.{HasSize, form_by, form_of, form_seen, name_by, size_of, text_seen};
 
 use crate::command::new_command;
 use crate::types::File;
@@ -42,7 +42,7 @@ pub enum WordForm<'a> {
 impl<'a> WordForm<'a> {
     /// The name that the form gives to a file, if it names one.
     pub fn name(&self, file: File) -> Option<&'a str>
-        ensures { text_seen result ≡ name_of (form_seen self.now) file }
+        ensures { text_seen result ≡ name_by (Some (form_seen self.now)) file }
     {
         match (self, file) {
             (WordForm::Script { rel, .. }, File::Relations) => Some(rel),
@@ -54,51 +54,6 @@ impl<'a> WordForm<'a> {
             (WordForm::Demo { .. }, _) => None,
         }
     }
-}
-
-/// An option that says what to do.
-#[derive(Clone, Copy)]
-pub enum Job {
-    /// `--script FILE`.
-    Script,
-    /// `--origin N`.
-    Origin,
-    /// `--demo N`.
-    Demo,
-}
-
-/// Which of these options stand, one with its value.
-#[derive(Clone, Copy)]
-pub enum Jobs<'a> {
-    /// None of them.
-    Nothing,
-    /// This one, with this value.
-    Only(Job, &'a str),
-    /// More than one.
-    Several,
-}
-
-// One more option that may stand.
-fn also<'a>(job: Job, value: Option<&'a str>, jobs: Jobs<'a>) -> Jobs<'a>
-    ensures { jobs_seen result ≡ also job (text_seen value.entry) (jobs_seen jobs.entry) }
-{
-    let Some(value) = value else {
-        return jobs;
-    };
-    match jobs {
-        Jobs::Nothing => Jobs::Only(job, value),
-        Jobs::Only(_, _) => Jobs::Several,
-        Jobs::Several => Jobs::Several,
-    }
-}
-
-// Which of the options that say what to do stand.
-fn asked_by<'a>(script: Option<&'a str>, origin: Option<&'a str>, demo: Option<&'a str>) -> Jobs<'a>
-    ensures { jobs_seen result ≡ asked_by (text_seen script.entry) (text_seen origin.entry) (text_seen demo.entry) }
-{
-    let jobs = also(Job::Script, script, Jobs::Nothing);
-    let jobs = also(Job::Origin, origin, jobs);
-    also(Job::Demo, demo, jobs)
 }
 
 // The size of a generated input.
@@ -120,31 +75,26 @@ fn form_by<'a>(
     rel: Option<&'a str>,
     vrps: Option<&'a str>,
     scenario: Option<&'a str>,
-    jobs: Jobs<'a>,
+    script: Option<&'a str>,
+    origin: Option<&'a str>,
+    demo: Option<&'a str>,
 ) -> Option<WordForm<'a>>
-    ensures form { option_map form_seen result ≡ form_by (text_seen rel.entry) (text_seen vrps.entry) (text_seen scenario.entry) (jobs_seen jobs.entry) }
+    ensures form { option_map form_seen result ≡ form_by (text_seen rel.entry) (text_seen vrps.entry) (text_seen scenario.entry)
+        (text_seen script.entry) (text_seen origin.entry) (text_seen demo.entry) }
     ensures sized { HasSize (option_map form_seen result) }
 {
-    match (rel, vrps, scenario, jobs) {
-        (Some(rel), vrps, scenario, Jobs::Nothing) => Some(WordForm::Script {
+    match (rel, vrps, scenario, script, origin, demo) {
+        (Some(rel), vrps, scenario, script, None, None) => Some(WordForm::Script {
             rel,
             vrps,
             scenario,
-            script: None,
+            script,
         }),
-        (Some(rel), vrps, scenario, Jobs::Only(Job::Script, name)) => Some(WordForm::Script {
-            rel,
-            vrps,
-            scenario,
-            script: Some(name),
-        }),
-        (Some(rel), None, None, Jobs::Only(Job::Origin, number)) => {
-            match read_asn(number.as_bytes()) {
-                Some(origin) => Some(WordForm::Origin { rel, origin }),
-                None => None,
-            }
-        }
-        (None, None, None, Jobs::Only(Job::Demo, number)) => match size(number.as_bytes()) {
+        (Some(rel), None, None, None, Some(number), None) => match read_asn(number.as_bytes()) {
+            Some(origin) => Some(WordForm::Origin { rel, origin }),
+            None => None,
+        },
+        (None, None, None, None, None, Some(number)) => match size(number.as_bytes()) {
             Some(size) => Some(WordForm::Demo { size }),
             None => None,
         },
@@ -170,15 +120,12 @@ pub fn read_words<'a>(alloc: Global, words: &'a [String]) -> Result<Option<WordF
             return Ok(None);
         }
     };
-    let jobs = asked_by(
-        matches.get_str("script"),
-        matches.get_str("origin"),
-        matches.get_str("demo"),
-    );
     Ok(form_by(
         matches.get_str("rel"),
         matches.get_str("vrps"),
         matches.get_str("scenario"),
-        jobs,
+        matches.get_str("script"),
+        matches.get_str("origin"),
+        matches.get_str("demo"),
     ))
 }
