@@ -1,13 +1,14 @@
 -- The lines of a script, one after the other.
 use Rattle.std.proofs.Common.{◌≡◌, ℕ, suc, ◌+◌, true, false, List, [], ◌∷◌, ◌++◌, length, Some, None, Result, Ok, Err, refl, ap, sym, ◌∙◌, arith}
 use Rattle.std.proofs.lemmas.List.{length-append, append-nil}
+use Rattle.std.specs.Str.Lines.{strip_carriage_return}
 use Rattle.net_names.specs.Texts.{cut_at}
 use Rattle.net_names.proofs.Cuts.{fields_uncut, fields_cut}
 use Rattle.scenario_text.specs.LineValues.{LineValue}
 use Rattle.scenario_text.specs.declared.script.ScriptError.{ScriptError}
 use Rattle.scenario_text.specs.declared.script.ScriptError.TheVariants.{Memory, Unreadable, TooMany}
 use Rattle.scenario_text.specs.Walks.{◌>>=◌, each_from}
-use Rattle.scenario_text.specs.Lines.{without_cr, texts, is_skipped, kept_from}
+use Rattle.scenario_text.specs.Lines.{texts, is_skipped, kept_from}
 use Rattle.scenario_text.specs.Script.{Fails, command, script_of}
 use Rattle.scenario_text.proofs.Walking.{with_front, with_front-nil, with_front-cons}
 
@@ -15,15 +16,15 @@ use Rattle.scenario_text.proofs.Walking.{with_front, with_front-nil, with_front-
 abbrev pub IsLineAndRest : List ℕ → List ℕ → List ℕ → Type 0
 IsLineAndRest bytes line rest = (number : ℕ) → kept_from number (texts bytes) ≡ kept_from number (line ∷ texts rest)
 
-pub texts_cut : (bytes line rest : List ℕ) → Some (line, rest) ≡ cut_at 10 bytes → IsLineAndRest bytes (without_cr line) rest
+pub texts_cut : (bytes line rest : List ℕ) → Some (line, rest) ≡ cut_at 10 bytes → IsLineAndRest bytes (strip_carriage_return line) rest
 texts_cut bytes line rest c number = rw (fields_cut 10 bytes line rest (sym c)) refl
 
 last_line : (number : ℕ) (line : List ℕ) → kept_from number (line ∷ []) ≡ kept_from number (line ∷ [] ∷ [])
 last_line number [] = refl
 last_line number (byte ∷ rest) = refl
 
-pub texts_uncut : (bytes : List ℕ) → None ≡ cut_at 10 bytes → IsLineAndRest bytes (without_cr bytes) []
-texts_uncut bytes c number = rw (fields_uncut 10 bytes (sym c)) (last_line number (without_cr bytes))
+pub texts_uncut : (bytes : List ℕ) → None ≡ cut_at 10 bytes → IsLineAndRest bytes (strip_carriage_return bytes) []
+texts_uncut bytes c number = rw (fields_uncut 10 bytes (sym c)) (last_line number (strip_carriage_return bytes))
 
 -- the lines so far, and then what the rest of the bytes gives, behind so many lines
 abbrev pub script_on : List LineValue → ℕ → List ℕ → Result (List LineValue) ScriptError

@@ -7,4 +7,3 @@ pub mod Orders
 pub mod Sound
 pub mod Texts
 pub mod Paths
-pub mod WellFormed

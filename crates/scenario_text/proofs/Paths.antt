@@ -1,5 +1,5 @@
 -- The numbers of an announced path, one after the other.
-use Rattle.std.proofs.Common.{◌≡◌, ℕ, ◌+◌, ◌<◌, ◌≤◌, Bool, true, false, List, [], ◌∷◌, ◌++◌, length, map, Option, Some, None, IfSome, cond, refl, sym, ◌∙◌, append_assoc, arith, length-append}
+use Rattle.std.proofs.Common.{◌≡◌, ℕ, ◌+◌, ◌<◌, Bool, true, false, List, [], ◌∷◌, ◌++◌, length, map, Option, Some, None, refl, sym, ◌∙◌, append_assoc, arith, length-append}
 use Rattle.std.specs.Prelude.{nat_le, if◌then◌else◌}
 use Rattle.std.proofs.lemmas.Bool.{leb-true, le-leb, lt-leb}
 use Rattle.net_names.specs.Steps.{◌>>=◌}
@@ -66,24 +66,3 @@ full front rest whole e so_far =
       | None ↦ λ c. let one : path_on front (numbers_of rest) ≡ None = rw (fields_uncut 32 rest c) (too_many front (asn_of rest) (Some []) e) in sym one ∙ so_far
       | Some p ↦ λ c. let one : path_on front (numbers_of rest) ≡ None = rw (fields_cut 32 rest p.0 p.1 c) (too_many front (asn_of p.0) (numbers_of p.1) e) in sym one ∙ so_far
     ]) refl
-
--- a path is none, or has 1 to 64 numbers
-abbrev IsPathOption : Option (List ℕ) → Type 0
-IsPathOption o = IfSome o (λ path. (1 ≤ length path) × (length path ≤ 64))
-
-few : (t : Bool) (n : ℕ) (ns : List ℕ) → nat_le (length (n ∷ ns)) 64 ≡ t → IsPathOption (cond t (Some (n ∷ ns)) None)
-few true n ns e = (omega arith, leb-true _ _ e)
-few false n ns e = tt
-
-some_and_few : (o : Option ℕ) (os : Option (List ℕ)) → IsPathOption (path_on [] (o >>= λ n. os >>= λ ns. Some (n ∷ ns)))
-some_and_few None os = tt
-some_and_few (Some n) None = tt
-some_and_few (Some n) (Some ns) = let e : 0 + length (n ∷ ns) ≡ length (n ∷ ns) = omega arith in rw e (few (nat_le (length (n ∷ ns)) 64) n ns refl)
-
-pub path_of-length : (text : List ℕ) → IfSome (path_of text) (λ path. (1 ≤ length path) × (length path ≤ 64))
-path_of-length text =
-    rw (← starts text)
-    ((elim (cut_at 32 text) as (λ v. cut_at 32 text ≡ v → IsPathOption (path_on [] (numbers_of text))) [
-      | None ↦ λ c. rw (fields_uncut 32 text c) (some_and_few (asn_of text) (Some []))
-      | Some p ↦ λ c. rw (fields_cut 32 text p.0 p.1 c) (some_and_few (asn_of p.0) (numbers_of p.1))
-    ]) refl)

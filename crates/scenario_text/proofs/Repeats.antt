@@ -11,6 +11,7 @@ use Rattle.std.specs.Ordering.{eq_by_cmp}
 use Rattle.scenario_text.specs.declared.places.Place.{Place}
 use Rattle.scenario_text.specs.declared.faults.ScenarioError.{ScenarioError}
 use Rattle.scenario_text.specs.declared.faults.ScenarioError.TheVariants.{Twice}
+use Rattle.scenario_text.specs.Places.{item}
 use Rattle.scenario_text.specs.Walks.{◌>>=◌, each_from}
 use Rattle.scenario_text.specs.Twice.{once_at, once_in}
 
@@ -23,7 +24,7 @@ passed-cons x (Ok xs) = refl
 passed-cons x (Err e) = refl
 
 -- what is still to be tested from this place on
-abbrev pub rest_once : {K : Type 0} → (K → K → Ordering) → (ℕ → Place) → List K → ℕ → Result (Unit {0}) ScenarioError
+abbrev pub rest_once : {K : Type 0} → (K → K → Ordering) → Place → List K → ℕ → Result (Unit {0}) ScenarioError
 rest_once cmp place keys i = passed (each_from (once_at cmp place keys) i (drop i keys))
 
 not_new : (b : Bool) → not b ≡ false → b ≡ true
@@ -34,7 +35,7 @@ is_new : (b : Bool) → not b ≡ true → b ≡ false
 is_new true e = absurd (cc)
 is_new false e = refl
 
-module _ {K : Type 0} (cmp : K → K → Ordering) (place : ℕ → Place) (keys : List K) (i : ℕ) (key : K) (found : Bool) where
+module _ {K : Type 0} (cmp : K → K → Ordering) (place : Place) (keys : List K) (i : ℕ) (key : K) (found : Bool) where
   pub goes_on : key ≡ get_or keys i key → i < length keys → found ≡ list_any (eq_by_cmp cmp key) (take i keys) → not found ≡ true
       → rest_once cmp place keys i ≡ once_in cmp place keys → rest_once cmp place keys (i + 1) ≡ once_in cmp place keys
   unfolding each_from
@@ -44,13 +45,13 @@ module _ {K : Type 0} (cmp : K → K → Ordering) (place : ℕ → Place) (keys
       rw add-one (sym one ∙ so_far)
 
   pub stops : key ≡ get_or keys i key → i < length keys → found ≡ list_any (eq_by_cmp cmp key) (take i keys) → not found ≡ false
-      → rest_once cmp place keys i ≡ once_in cmp place keys → once_in cmp place keys ≡ Err (Twice (place i))
+      → rest_once cmp place keys i ≡ once_in cmp place keys → once_in cmp place keys ≡ Err (Twice (item place i))
   unfolding each_from
   stops is lt told old so_far =
       let one_before : list_any (eq_by_cmp cmp key) (take i keys) ≡ true = sym told ∙ not_new found old in
-      let one : rest_once cmp place keys i ≡ Err (Twice (place i)) = rw (drop-cons keys i key, ← is, one_before) refl in sym so_far ∙ one
+      let one : rest_once cmp place keys i ≡ Err (Twice (item place i)) = rw (drop-cons keys i key, ← is, one_before) refl in sym so_far ∙ one
 
-pub ends : {K : Type 0} (cmp : K → K → Ordering) (place : ℕ → Place) (keys : List K) (i : ℕ) → length keys ≤ i → rest_once cmp place keys i ≡ once_in cmp place keys → once_in cmp place keys ≡ Ok tt
+pub ends : {K : Type 0} (cmp : K → K → Ordering) (place : Place) (keys : List K) (i : ℕ) → length keys ≤ i → rest_once cmp place keys i ≡ once_in cmp place keys → once_in cmp place keys ≡ Ok tt
 unfolding each_from
 ends cmp place keys i le so_far =
     let one : rest_once cmp place keys i ≡ Ok tt = rw (drop_of_length-le keys {i = i} le) refl in sym so_far ∙ one

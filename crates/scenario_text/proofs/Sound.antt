@@ -1,8 +1,8 @@
 -- A document that stands all tests is a scenario.
-use Rattle.std.proofs.Common.{◌≡◌, ◌≢◌, ℕ, zero, suc, ◌+◌, ◌<◌, true, false, Bool, List, [], ◌∷◌, length, get_or, take, map, All, Result, Ok, Err, Some, refl, sym, ◌∙◌, ap, subst, arith, nat_lt}
-use Rattle.std.specs.Prelude.{if◌then◌else◌}
+use Rattle.std.proofs.Common.{◌≡◌, ◌≢◌, ℕ, zero, suc, ◌+◌, ◌<◌, true, false, Bool, List, [], ◌∷◌, length, get_or, take, map, All, Result, Ok, Err, Some, refl, sym, ◌∙◌, ap, subst, arith, nat_lt, nat_eq}
+use Rattle.std.specs.Prelude.{◌&&◌, if◌then◌else◌, ok_or}
 use Rattle.std.specs.Cmp.{IsTotalOrder, tied_itself, nat_cmp_total}
-use Rattle.std.specs.List.{list_any, AllPairs}
+use Rattle.std.specs.List.{list_any, starts_with, AllPairs}
 use Rattle.std.specs.declared.cmp.Ordering.{Ordering}
 use Rattle.std.specs.Ordering.{nat_cmp, eq_by_cmp, is_eq}
 use Rattle.std.proofs.lemmas.Bool.{ltb-false, eqb-true}
@@ -22,13 +22,12 @@ use Rattle.scenario_text.specs.declared.places.PartOf.TheVariants as parts
 use Rattle.scenario_text.specs.declared.places.Place.{Place}
 use Rattle.scenario_text.specs.declared.scenario.Announcement.{Announcement}
 use Rattle.scenario_text.specs.Documents.{DocumentValue}
-use Rattle.scenario_text.specs.Faults.{or_fault}
 use Rattle.scenario_text.specs.Limits.{unless_passed, within}
-use Rattle.scenario_text.specs.Places.{in_member, item, in_part, second_item}
+use Rattle.scenario_text.specs.Places.{in_member, item, in_part}
 use Rattle.scenario_text.specs.Scenarios.{ScenarioValue, IsScenario, StartsWith, name_of, prefix_count}
-use Rattle.scenario_text.specs.Twice.{once_at, once_in, leakers_once, name_cmp, once}
-use Rattle.scenario_text.specs.Values.{asn_at, path_asn_at, is_own_path, announcement_of, policy_of, leakers_of, watched_of, lists_of}
-use Rattle.scenario_text.specs.Walks.{◌>>=◌, each_from}
+use Rattle.scenario_text.specs.Twice.{once_at, once_in, name_cmp, once}
+use Rattle.scenario_text.specs.Values.{asn_at, announcement_of, policy_of, address_of, lists_of}
+use Rattle.scenario_text.specs.Walks.{◌>>=◌, each_from, each_at}
 use Rattle.scenario_text.proofs.Orders.{name_total, addr_total}
 
 -- what the first of two steps gave, where both gave something
@@ -36,17 +35,17 @@ first_step : {A B E : Type 0} (r : Result A E) (f : A → Result B E) (y : B) �
 first_step (Ok x) f y e = (x, refl, e)
 first_step (Err e) f y h = absurd (cc)
 
-each_at : {A B E : Type 0} (f : ℕ → A → Result B E) (i : ℕ) (xs : List A) (ys : List B) → each_from f i xs ≡ Ok ys → (k : ℕ) (d : A) → k < length xs → (y : B) × (f (i + k) (get_or xs k d) ≡ Ok y)
+read_at : {A B E : Type 0} (f : ℕ → A → Result B E) (i : ℕ) (xs : List A) (ys : List B) → each_from f i xs ≡ Ok ys → (k : ℕ) (d : A) → k < length xs → (y : B) × (f (i + k) (get_or xs k d) ≡ Ok y)
 unfolding each_from
-each_at f i [] ys h k d lt = absurd (omega arith)
-each_at f i (x ∷ xs) ys h zero d lt =
+read_at f i [] ys h k d lt = absurd (omega arith)
+read_at f i (x ∷ xs) ys h zero d lt =
     let a = first_step (f i x) (λ y. each_from f (suc i) xs >>= λ zs. Ok (y ∷ zs)) ys h in
     let e : i + 0 ≡ i = omega arith in (a.0, rw e a.1)
-each_at f i (x ∷ xs) ys h (suc k) d lt =
+read_at f i (x ∷ xs) ys h (suc k) d lt =
     let a = first_step (f i x) (λ y. each_from f (suc i) xs >>= λ zs. Ok (y ∷ zs)) ys h in
     let b = first_step (each_from f (suc i) xs) (λ zs. Ok (a.0 ∷ zs)) ys a.2 in
     let e : i + suc k ≡ suc i + k = omega arith in
-    rw e (each_at f (suc i) xs b.0 b.1 k d (omega arith))
+    rw e (read_at f (suc i) xs b.0 b.1 k d (omega arith))
 
 each_gives : {A B E : Type 0} (P : B → Type 0) (f : ℕ → A → Result B E) → ((j : ℕ) (x : A) (y : B) → f j x ≡ Ok y → P y) → (i : ℕ) (xs : List A) (ys : List B) → each_from f i xs ≡ Ok ys → All P ys
 unfolding each_from
@@ -58,13 +57,13 @@ each_gives {B = B} P f gives i (x ∷ xs) ys h =
     subst (λ (zs : List B). All P zs) e (All-cons P a.0 b.0 (gives i x a.0 a.1) (each_gives P f gives (suc i) xs b.0 b.1))
 
 -- items that are tested are named once
-once_at-Ok : {K : Type 0} (cmp : K → K → Ordering) (place : ℕ → Place) (keys : List K) (j : ℕ) (key : K) (u : Unit {0}) → once_at cmp place keys j key ≡ Ok u → list_any (eq_by_cmp cmp key) (take j keys) ≡ true → ⊥
+once_at-Ok : {K : Type 0} (cmp : K → K → Ordering) (place : Place) (keys : List K) (j : ℕ) (key : K) (u : Unit {0}) → once_at cmp place keys j key ≡ Ok u → list_any (eq_by_cmp cmp key) (take j keys) ≡ true → ⊥
 once_at-Ok cmp place keys j key u h found = let k = rw found at h in absurd (cc)
 
-pub distinct : {K : Type 0} (cmp : K → K → Ordering) → IsTotalOrder cmp → (place : ℕ → Place) (keys : List K) → once_in cmp place keys ≡ Ok tt → AllPairs (λ a b. a ≢ b) keys
+pub distinct : {K : Type 0} (cmp : K → K → Ordering) → IsTotalOrder cmp → (place : Place) (keys : List K) → once_in cmp place keys ≡ Ok tt → AllPairs (λ a b. a ≢ b) keys
 distinct {K = K} cmp o place keys h i j d lt lj same =
     let a = first_step (each_from (once_at cmp place keys) 0 keys) (λ us. Ok tt) tt h in
-    let b = each_at (once_at cmp place keys) 0 keys a.0 a.1 j d lj in
+    let b = read_at (once_at cmp place keys) 0 keys a.0 a.1 j d lj in
     let e : 0 + j ≡ j = omega arith in
     let test = rw e at b.1 in
     let before : i < length (take j keys) = omega (arith, length-take-le j keys) in
@@ -85,9 +84,13 @@ none_at p xs h k d lt =
       | false ↦ λ e. e
     ]) refl
 
-own_path : (asn : ℕ) (path : List ℕ) → is_own_path asn path ≡ true → StartsWith asn path
+first_true : (a b : Bool) → (a && b) ≡ true → a ≡ true
+first_true true b h = refl
+first_true false b h = absurd (cc)
+
+own_path : (asn : ℕ) (path : List ℕ) → starts_with nat_eq path (asn ∷ []) ≡ true → StartsWith asn path
 own_path asn [] h = absurd (cc)
-own_path asn (n ∷ ns) h = ap (λ (m : ℕ). Some m) (eqb-true n asn h)
+own_path asn (n ∷ ns) h = ap (λ (m : ℕ). Some m) (sym (eqb-true asn n (first_true (nat_eq asn n) _ h)))
 
 own_or_not : (e : ScenarioError) (a b : Announcement) (test : Bool) → (if test then Ok a else Err e) ≡ Ok b → (test ≡ true) × (a ≡ b)
 own_or_not e a b true h = (refl, cc)
@@ -95,19 +98,19 @@ own_or_not e a b false h = absurd (cc)
 
 -- three steps, and then the test of the path
 steps_own : (prefix : Result PrefixValue ScenarioError) (asn : Result ℕ ScenarioError) (path : Result (List ℕ) ScenarioError) (e : ScenarioError) (b : Announcement)
-    → (prefix >>= λ p. asn >>= λ n. path >>= λ ns. if is_own_path n ns then Ok (record { prefix = p; asn = n; path = ns }) else Err e) ≡ Ok b → StartsWith b.asn b.path
+    → (prefix >>= λ p. asn >>= λ n. path >>= λ ns. if starts_with nat_eq ns (n ∷ []) then Ok (record { prefix = p; asn = n; path = ns }) else Err e) ≡ Ok b → StartsWith b.asn b.path
 steps_own (Ok p) (Ok n) (Ok ns) e b h =
-    let own = own_or_not e (record { prefix = p; asn = n; path = ns }) b (is_own_path n ns) h in
+    let own = own_or_not e (record { prefix = p; asn = n; path = ns }) b (starts_with nat_eq ns (n ∷ [])) h in
     subst (λ (c : Announcement). StartsWith c.asn c.path) own.1 (own_path n ns own.0)
 steps_own (Ok p) (Ok n) (Err f) e b h = absurd (cc)
 steps_own (Ok p) (Err f) path e b h = absurd (cc)
 steps_own (Err f) asn path e b h = absurd (cc)
 
-announcement_own : (list : Place) (i : ℕ) (a : AnnouncementText) (b : Announcement) → announcement_of list i a ≡ Ok b → StartsWith b.asn b.path
+announcement_own : (p : Place) (a : AnnouncementText) (b : Announcement) → announcement_of p a ≡ Ok b → StartsWith b.asn b.path
 unfolding announcement_of
-announcement_own list i a b h =
-    steps_own (or_fault (Value (in_part (item list i) parts.Prefix)) (prefix_of a.prefix)) (asn_at (in_part (item list i) parts.Number) a.number)
-    (each_from (path_asn_at (in_part (item list i) parts.Path)) 0 a.path) (Value (in_part (item list i) parts.Path)) b h
+announcement_own p a b h =
+    steps_own (ok_or (prefix_of a.prefix) (Value (in_part p parts.Prefix))) (asn_at (in_part p parts.Number) a.number)
+    (each_at asn_at (in_part p parts.Path) a.path) (Value (in_part p parts.Path)) b h
 
 first_list : (a : Result (List Announcement) ScenarioError) (p : Result (List (ℕ × Kind)) ScenarioError) (l : Result (List (List ℕ)) ScenarioError) (w : Result (List AddrValue) ScenarioError) (s : ScenarioValue)
     → (a >>= λ announcements. p >>= λ policies. l >>= λ leaks. w >>= λ watch. Ok (record { announcements = announcements; policies = policies; leaks = leaks; watch = watch })) ≡ Ok s → a ≡ Ok s.announcements
@@ -120,9 +123,9 @@ first_list (Err e) p l w s h = absurd (cc)
 lists_own : (d : DocumentValue) (s : ScenarioValue) → lists_of d ≡ Ok s → All (λ a. StartsWith a.asn a.path) s.announcements
 unfolding lists_of
 lists_own d s h =
-    let read = first_list (each_from (announcement_of (in_member Announcements)) 0 d.announcements) (each_from (policy_of (in_member Policies)) 0 d.policies)
-    (each_from (leakers_of (in_member Leaks)) 0 d.leaks) (each_from (watched_of (in_member Watch)) 0 d.watch) s h in
-    each_gives (λ a. StartsWith a.asn a.path) (announcement_of (in_member Announcements)) (announcement_own (in_member Announcements)) 0 d.announcements s.announcements read
+    let read = first_list (each_at announcement_of (in_member Announcements) d.announcements) (each_at policy_of (in_member Policies) d.policies)
+    (each_at (each_at asn_at) (in_member Leaks) d.leaks) (each_at address_of (in_member Watch) d.watch) s h in
+    each_gives (λ a. StartsWith a.asn a.path) (λ i. announcement_of (item (in_member Announcements) i)) (λ i. announcement_own (item (in_member Announcements) i)) 0 d.announcements s.announcements read
 
 -- four tests that all pass
 record AllPass (a b : Result (Unit {0}) ScenarioError) (c : Result (List (Unit {0})) ScenarioError) (d : Result (Unit {0}) ScenarioError) : Type 0 where
@@ -160,17 +163,17 @@ none_passed false false false false false false h = record { first = refl; secon
 pub sound : (d : DocumentValue) (s : ScenarioValue) → lists_of d ≡ Ok s → once s ≡ Ok tt → within s ≡ Ok tt → IsScenario s
 unfolding once within
 sound d s read once_ok within_ok =
-    let tests = all_pass (once_in name_cmp (item (in_member Announcements)) (map name_of s.announcements)) (once_in nat_cmp (item (in_member Policies)) (map (λ p. p.0) s.policies))
-    (each_from (leakers_once (in_member Leaks)) 0 s.leaks) (once_in addr_cmp (item (in_member Watch)) s.watch) once_ok in
+    let tests = all_pass (once_in name_cmp (in_member Announcements) (map name_of s.announcements)) (once_in nat_cmp (in_member Policies) (map (λ p. p.0) s.policies))
+    (each_at (once_in nat_cmp) (in_member Leaks) s.leaks) (once_in addr_cmp (in_member Watch) s.watch) once_ok in
     let limit = none_passed (nat_lt 64 (length s.announcements)) (nat_lt 32 (prefix_count s.announcements)) (list_any (λ a. nat_lt 64 (length a.path)) s.announcements)
     (nat_lt 3 (length s.leaks)) (list_any (λ leakers. nat_lt 64 (length leakers)) s.leaks) (nat_lt 16 (length s.watch)) within_ok in
     record {
-      announced_once = distinct-map name_of s.announcements (distinct name_cmp name_total (item (in_member Announcements)) (map name_of s.announcements) tests.first);
-      ruled_once = distinct-map (λ (p : ℕ × Kind). p.0) s.policies (distinct nat_cmp nat_cmp_total (item (in_member Policies)) (map (λ p. p.0) s.policies) tests.second);
+      announced_once = distinct-map name_of s.announcements (distinct name_cmp name_total (in_member Announcements) (map name_of s.announcements) tests.first);
+      ruled_once = distinct-map (λ (p : ℕ × Kind). p.0) s.policies (distinct nat_cmp nat_cmp_total (in_member Policies) (map (λ p. p.0) s.policies) tests.second);
       leaking_once = λ k ns lt.
-          let one = each_at (leakers_once (in_member Leaks)) 0 s.leaks tests.third.0 tests.third.1 k ns lt in
-          distinct nat_cmp nat_cmp_total (second_item (item (in_member Leaks) (0 + k))) (get_or s.leaks k ns) one.1;
-      watched_once = distinct addr_cmp addr_total (item (in_member Watch)) s.watch tests.fourth;
+          let one = read_at (λ i. once_in nat_cmp (item (in_member Leaks) i)) 0 s.leaks tests.third.0 tests.third.1 k ns lt in
+          distinct nat_cmp nat_cmp_total (item (in_member Leaks) (0 + k)) (get_or s.leaks k ns) one.1;
+      watched_once = distinct addr_cmp addr_total (in_member Watch) s.watch tests.fourth;
       few_announcements = ltb-false _ _ limit.first;
       few_prefixes = ltb-false _ _ limit.second;
       short_paths = λ k a lt. ltb-false _ _ (none_at (λ b. nat_lt 64 (length b.path)) s.announcements limit.third k a lt);

@@ -1,12 +1,7 @@
 -- Faults of a scenario, and what a call answers of a reading.
-use Rattle.std.specs.Prelude.{◌≡◌, Option, Some, None, Result, Ok, Err}
+use Rattle.std.specs.Prelude.{◌≡◌, Result, Ok, Err}
 use Rattle.scenario_text.specs.declared.faults.ScenarioError.{ScenarioError}
 use Rattle.scenario_text.specs.declared.faults.ScenarioError.TheVariants as fault
-
--- the value, or this fault where there is none
-abbrev pub or_fault : {A : Type 0} → ScenarioError → Option A → Result A ScenarioError
-or_fault e None = Err e
-or_fault e (Some x) = Ok x
 
 -- a reading fails in this way; want of memory says nothing of it
 abbrev pub Fails : {X : Type 0} → ScenarioError → Result X ScenarioError → Type 0

@@ -12,14 +12,10 @@ document = record { member = None; first = None; part = None; second = None }
 abbrev pub in_member : Member → Place
 in_member m = record { member = Some m; first = None; part = None; second = None }
 
--- the item at a position, counted from 0, of the member's list (own format)
+-- the item at a position, counted from 0, of the list that stands there: a member's list, or a list within one of its items (own format)
 abbrev pub item : Place → ℕ → Place
-item p i = record p { first = Some i }
+item p i = elim p.first [ None ↦ record p { first = Some i } | Some j ↦ record p { second = Some i } ]
 
 -- a member of the object that stands there (own format)
 abbrev pub in_part : Place → PartOf → Place
 in_part p part = record p { part = Some part }
-
--- the item at a position, counted from 0, of the list that stands there (own format)
-abbrev pub second_item : Place → ℕ → Place
-second_item p j = record p { second = Some j }

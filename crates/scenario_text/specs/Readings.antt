@@ -1,11 +1,10 @@
 -- The scenario of a text (own format, over RFC 8259).
-use Rattle.std.specs.Prelude.{ℕ, List, Option, None, Result, Ok, if◌then◌else◌}
+use Rattle.std.specs.Prelude.{ℕ, List, Option, None, ok_or, Result, Ok, if◌then◌else◌}
 use Rattle.std.specs.Str.{is_utf8}
 use Rattle.serde_json.specs.Data.{Data}
 use Rattle.serde_json.specs.Read.{read}
 use Rattle.scenario_text.specs.declared.faults.ScenarioError.{ScenarioError}
 use Rattle.scenario_text.specs.declared.faults.ScenarioError.TheVariants.{NotJson}
-use Rattle.scenario_text.specs.Faults.{or_fault}
 use Rattle.scenario_text.specs.Limits.{within}
 use Rattle.scenario_text.specs.Scenarios.{ScenarioValue}
 use Rattle.scenario_text.specs.Shapes.{document_of}
@@ -17,17 +16,12 @@ use Rattle.scenario_text.specs.Walks.{◌>>=◌}
 unfoldable pub json_of : List ℕ → Option Data
 json_of bytes = if is_utf8 bytes then read bytes else None
 
--- the scenario of a JSON value: the first fault of the first pass that finds one, or the four lists (own format)
-unfoldable pub scenario_of : Data → Result ScenarioValue ScenarioError
-scenario_of d = do
-  document ← document_of d
+-- the scenario of a text: the text has to be JSON, and then the first fault of the first pass that finds one, or the four lists (own format)
+unfoldable pub scenario_of_bytes : List ℕ → Result ScenarioValue ScenarioError
+scenario_of_bytes bytes = do
+  value ← ok_or (json_of bytes) NotJson
+  document ← document_of value
   lists ← lists_of document
   _ ← once lists
   _ ← within lists
   Ok lists
-
--- the scenario of a text: the text has to be JSON before anything else is judged (own format)
-unfoldable pub scenario_of_bytes : List ℕ → Result ScenarioValue ScenarioError
-scenario_of_bytes bytes = do
-  d ← or_fault NotJson (json_of bytes)
-  scenario_of d

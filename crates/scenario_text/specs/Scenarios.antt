@@ -25,7 +25,7 @@ name_of a = (a.prefix, a.asn)
 
 -- how many different prefixes are announced (own format)
 abbrev pub prefix_count : List Announcement → ℕ
-prefix_count announcements = distinct_count (eq_by_cmp prefix_cmp) (map (λ a. a.prefix) announcements)
+prefix_count list = distinct_count (eq_by_cmp prefix_cmp) (map (λ a. a.prefix) list)
 
 -- the last list of leakers, empty where there is none (own format)
 abbrev pub last_leakers : List (List ℕ) → List ℕ

@@ -1,18 +1,17 @@
 -- A script: its lines, or the fault of its first faulty line (own format).
-use Rattle.std.specs.Prelude.{◌≡◌, ℕ, List, nat_lt, Some, None, Result, Ok, Err, if◌then◌else◌}
+use Rattle.std.specs.Prelude.{◌≡◌, ℕ, List, nat_lt, ok_or, Result, Ok, Err, if◌then◌else◌}
 use Rattle.scenario_text.specs.LineValues.{LineValue}
 use Rattle.scenario_text.specs.declared.script.ScriptError.{ScriptError}
 use Rattle.scenario_text.specs.declared.script.ScriptError.TheVariants.{Memory, Unreadable, TooMany}
-use Rattle.scenario_text.specs.Walks.{each_from}
+use Rattle.scenario_text.specs.Walks.{◌>>=◌, each_from}
 use Rattle.scenario_text.specs.Forms.{act_of}
 use Rattle.scenario_text.specs.Lines.{texts, kept_from}
 
 -- what a line says that isn't skipped, given with its number, where so many others stand before it: its form is judged first, and then that fewer than 100,000 stand before it (own format)
 abbrev pub command : ℕ → (ℕ × List ℕ) → Result LineValue ScriptError
-command before line = elim (act_of line.1) [
-  | None ↦ Err (Unreadable line.0)
-  | Some act ↦ if nat_lt before 100000 then Ok (record { number = line.0; act = act }) else Err (TooMany line.0)
-]
+command before line = do
+  act ← ok_or (act_of line.1) (Unreadable line.0)
+  if nat_lt before 100000 then Ok (record { number = line.0; act = act }) else Err (TooMany line.0)
 
 -- the lines of a script, or the fault of its first faulty line (own format)
 unfoldable pub script_of : List ℕ → Result (List LineValue) ScriptError

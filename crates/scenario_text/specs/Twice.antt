@@ -1,5 +1,5 @@
 -- The third pass: nothing is named twice (own format).
-use Rattle.std.specs.Prelude.{ℕ, List, take, map, Option, Some, None, Result, Ok, Err, if◌then◌else◌}
+use Rattle.std.specs.Prelude.{ℕ, List, take, map, Result, Ok, Err, if◌then◌else◌}
 use Rattle.std.specs.List.{list_any}
 use Rattle.std.specs.declared.cmp.Ordering.{Ordering}
 use Rattle.std.specs.Ordering.{nat_cmp, ordering_then, eq_by_cmp}
@@ -9,37 +9,26 @@ use Rattle.scenario_text.specs.declared.places.Member.TheVariants.{Announcements
 use Rattle.scenario_text.specs.declared.places.Place.{Place}
 use Rattle.scenario_text.specs.declared.faults.ScenarioError.{ScenarioError}
 use Rattle.scenario_text.specs.declared.faults.ScenarioError.TheVariants.{Twice}
-use Rattle.scenario_text.specs.Places.{in_member, item, second_item}
+use Rattle.scenario_text.specs.Places.{in_member, item}
 use Rattle.scenario_text.specs.Scenarios.{ScenarioValue, name_of}
-use Rattle.scenario_text.specs.Walks.{◌>>=◌, each_from}
+use Rattle.scenario_text.specs.Walks.{◌>>=◌, Reader, each_from, each_at}
 
 -- an item is named twice where an equal one stands before it in the list (own format)
-abbrev pub once_at : {K : Type 0} → (K → K → Ordering) → (ℕ → Place) → List K → ℕ → K → Result (Unit {0}) ScenarioError
-once_at cmp place keys i key = if list_any (eq_by_cmp cmp key) (take i keys) then Err (Twice (place i)) else Ok tt
+abbrev pub once_at : {K : Type 0} → (K → K → Ordering) → Place → List K → ℕ → K → Result (Unit {0}) ScenarioError
+once_at cmp p keys i key = if list_any (eq_by_cmp cmp key) (take i keys) then Err (Twice (item p i)) else Ok tt
 
 -- no item of the list is named twice, or the first that is (own format)
-abbrev pub once_in : {K : Type 0} → (K → K → Ordering) → (ℕ → Place) → List K → Result (Unit {0}) ScenarioError
-once_in cmp place keys = do
-  _ ← each_from (once_at cmp place keys) 0 keys
-  Ok tt
-
--- the fault of the item at this position, if there is one (own format)
-abbrev pub at_repeat : (ℕ → Place) → Option ℕ → Result (Unit {0}) ScenarioError
-at_repeat place None = Ok tt
-at_repeat place (Some i) = Err (Twice (place i))
+abbrev pub once_in : {K : Type 0} → (K → K → Ordering) → Reader (List K) (Unit {0})
+once_in cmp p keys = each_from (once_at cmp p keys) 0 keys >>= λ _. Ok tt
 
 -- prefixes with ASes are ordered by the prefix, and then by the AS
 abbrev pub name_cmp : (PrefixValue × ℕ) → (PrefixValue × ℕ) → Ordering
 name_cmp a b = ordering_then (prefix_cmp a.0 b.0) (nat_cmp a.1 b.1)
 
--- no leaker of a round is named twice (own format)
-abbrev pub leakers_once : Place → ℕ → List ℕ → Result (Unit {0}) ScenarioError
-leakers_once list i leakers = once_in nat_cmp (second_item (item list i)) leakers
-
 -- announcements are named by prefix and AS, policies by their AS, leakers within their round (own format)
 unfoldable pub once : ScenarioValue → Result (Unit {0}) ScenarioError
 once s = do
-  _ ← once_in name_cmp (item (in_member Announcements)) (map name_of s.announcements)
-  _ ← once_in nat_cmp (item (in_member Policies)) (map (λ p. p.0) s.policies)
-  _ ← each_from (leakers_once (in_member Leaks)) 0 s.leaks
-  once_in addr_cmp (item (in_member Watch)) s.watch
+  _ ← once_in name_cmp (in_member Announcements) (map name_of s.announcements)
+  _ ← once_in nat_cmp (in_member Policies) (map (λ p. p.0) s.policies)
+  _ ← each_at (once_in nat_cmp) (in_member Leaks) s.leaks
+  once_in addr_cmp (in_member Watch) s.watch

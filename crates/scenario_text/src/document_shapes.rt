@@ -2,9 +2,9 @@
 ghost use Rattle.std.specs.Prelude.{◌≡◌, ◌∷◌, [], codes};
 ghost use Rattle.serde_json.specs.View.{view};
 ghost use Rattle.scenario_text.specs.Faults.{Gives, GivesBy};
-ghost use Rattle.scenario_text.specs.Shapes.{text_at, number_at, path_number_at, list_of, needed, optional, announcement_at, policy_at, leakers_at, watched_at, document_of};
+ghost use Rattle.scenario_text.specs.Shapes.{text_at, number_at, list_of, needed, optional, announcement_at, policy_at, document_of};
 
-use crate::documents::{AnnouncementText, Document, Numbers, Object, PolicyText, Text};
+use crate::documents::{AnnouncementText, Document, Numbers, PolicyText, Text};
 use crate::faults::ScenarioError;
 use crate::places::{Member, PartOf, Place};
 use crate::shapes::{Shape, list, number, object, text};
@@ -16,20 +16,15 @@ struct NumberShape;
 impl Shape for NumberShape {
     type To = u64;
 
-    ghost reads = { path_number_at };
+    ghost reads = { number_at };
 
-    fn shape(
-        _alloc: Global,
-        list: Place,
-        index: usize,
-        value: &Value,
-    ) -> Result<u64, ScenarioError> {
-        number(list.second_item(index), value)
+    fn shape(_alloc: Global, place: Place, value: &Value) -> Result<u64, ScenarioError> {
+        number(place, value)
     }
 }
 
 fn numbers(alloc: Global, place: Place, value: &Value) -> Result<Numbers, ScenarioError>
-    ensures { Gives result (list_of path_number_at place (view value.now)) }
+    ensures { Gives result (list_of number_at place (view value.now)) }
 {
     let numbers = list::<NumberShape>(alloc, place, value)?;
     Ok(Numbers { numbers })
@@ -41,7 +36,7 @@ fn needed_text(
     name: &str,
     value: &Value,
 ) -> Result<Text, ScenarioError>
-    ensures { Gives result (needed text_at place name.now (view value.now)) }
+    ensures { Gives result (needed name.now text_at place (view value.now)) }
 {
     match value.get(name) {
         Some(value) => text(alloc, place, value),
@@ -50,7 +45,7 @@ fn needed_text(
 }
 
 fn needed_number(place: Place, name: &str, value: &Value) -> Result<u64, ScenarioError>
-    ensures { Gives result (needed number_at place name.now (view value.now)) }
+    ensures { Gives result (needed name.now number_at place (view value.now)) }
 {
     match value.get(name) {
         Some(value) => number(place, value),
@@ -60,7 +55,7 @@ fn needed_number(place: Place, name: &str, value: &Value) -> Result<u64, Scenari
 
 // The path, or the list of this number alone where there is none.
 fn path(alloc: Global, place: Place, asn: u64, value: &Value) -> Result<Numbers, ScenarioError>
-    ensures { Gives result (optional (list_of path_number_at) (asn ∷ []) place (codes "path") (view value.now)) }
+    ensures { Gives result (optional (codes "path") (list_of number_at) (asn ∷ []) place (view value.now)) }
 {
     match value.get("path") {
         Some(value) => numbers(alloc, place, value),
@@ -84,12 +79,10 @@ impl Shape for AnnouncementShape {
     #[tactic(auto, unfolding(crate::specs::Shapes::announcement_at))]
     fn shape(
         alloc: Global,
-        list: Place,
-        index: usize,
+        place: Place,
         value: &Value,
     ) -> Result<AnnouncementText, ScenarioError> {
-        let place = list.item(index);
-        object(Object::Announcement, place, value)?;
+        object(&["prefix", "as", "path"], place, value)?;
         let prefix = needed_text(alloc, place.part(PartOf::Prefix), "prefix", value)?;
         let number = needed_number(place.part(PartOf::Number), "as", value)?;
         let path = path(alloc, place.part(PartOf::Path), number, value)?;
@@ -109,14 +102,8 @@ impl Shape for PolicyShape {
     ghost reads = { policy_at };
 
     #[tactic(auto, unfolding(crate::specs::Shapes::policy_at))]
-    fn shape(
-        alloc: Global,
-        list: Place,
-        index: usize,
-        value: &Value,
-    ) -> Result<PolicyText, ScenarioError> {
-        let place = list.item(index);
-        object(Object::Policy, place, value)?;
+    fn shape(alloc: Global, place: Place, value: &Value) -> Result<PolicyText, ScenarioError> {
+        object(&["as", "policy"], place, value)?;
         let number = needed_number(place.part(PartOf::Number), "as", value)?;
         let policy = needed_text(alloc, place.part(PartOf::Policy), "policy", value)?;
         Ok(PolicyText { number, policy })
@@ -128,15 +115,10 @@ struct LeakersShape;
 impl Shape for LeakersShape {
     type To = Numbers;
 
-    ghost reads = { leakers_at };
+    ghost reads = { list_of number_at };
 
-    fn shape(
-        alloc: Global,
-        list: Place,
-        index: usize,
-        value: &Value,
-    ) -> Result<Numbers, ScenarioError> {
-        numbers(alloc, list.item(index), value)
+    fn shape(alloc: Global, place: Place, value: &Value) -> Result<Numbers, ScenarioError> {
+        numbers(alloc, place, value)
     }
 }
 
@@ -145,15 +127,10 @@ struct WatchedShape;
 impl Shape for WatchedShape {
     type To = Text;
 
-    ghost reads = { watched_at };
+    ghost reads = { text_at };
 
-    fn shape(
-        alloc: Global,
-        list: Place,
-        index: usize,
-        value: &Value,
-    ) -> Result<Text, ScenarioError> {
-        text(alloc, list.item(index), value)
+    fn shape(alloc: Global, place: Place, value: &Value) -> Result<Text, ScenarioError> {
+        text(alloc, place, value)
     }
 }
 
@@ -163,7 +140,7 @@ fn needed_list<S: Shape>(
     name: &str,
     value: &Value,
 ) -> Result<Vec<S::To>, ScenarioError>
-    ensures { GivesBy (λ v. v.items) result (needed (list_of S.reads) place name.now (view value.now)) }
+    ensures { GivesBy (λ v. v.items) result (needed name.now (list_of S.reads) place (view value.now)) }
 {
     match value.get(name) {
         Some(value) => list::<S>(alloc, place, value),
@@ -177,7 +154,7 @@ fn optional_list<S: Shape>(
     name: &str,
     value: &Value,
 ) -> Result<Vec<S::To>, ScenarioError>
-    ensures { GivesBy (λ v. v.items) result (optional (list_of S.reads) [] place name.now (view value.now)) }
+    ensures { GivesBy (λ v. v.items) result (optional name.now (list_of S.reads) [] place (view value.now)) }
 {
     match value.get(name) {
         Some(value) => list::<S>(alloc, place, value),
@@ -190,7 +167,11 @@ fn optional_list<S: Shape>(
 pub(crate) fn document(alloc: Global, value: &Value) -> Result<Document, ScenarioError>
     ensures { Gives result (document_of (view value.now)) }
 {
-    object(Object::Document, Place::document(), value)?;
+    object(
+        &["announcements", "policies", "leaks", "watch"],
+        Place::document(),
+        value,
+    )?;
     let announcements = needed_list::<AnnouncementShape>(
         alloc,
         Place::member(Member::Announcements),

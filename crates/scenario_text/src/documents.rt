@@ -3,17 +3,6 @@ ghost use Rattle.std.specs.Prelude.{◌≡◌};
 
 use std::marker::Model;
 
-/// The objects of a document.
-#[derive(Clone, Copy)]
-pub(crate) enum Object {
-    /// The document itself.
-    Document,
-    /// An announcement.
-    Announcement,
-    /// A policy.
-    Policy,
-}
-
 /// A text of a document. Contracts see its bytes.
 #[derive(Drop)]
 pub(crate) struct Text {

@@ -1,57 +1,24 @@
 //! The forms of a script's line.
-ghost use Rattle.std.specs.Prelude.{◌≡◌, IfOk};
-ghost use Rattle.scenario_text.specs.Forms.{round_of, rel_of, vrp_of, path_of, link, unlink, policy, vrp_add, vrp_take, announce, withdraw, routes, route, trace, report, ranks, validity, by_forms, query_forms, act_of};
+ghost use Rattle.std.specs.Prelude.{◌≡◌, ◌≤◌, length, Some, IfOk, IfSome, codes, option_and_then};
+ghost use Rattle.net_names.specs.Texts.{after, prefix_of};
+ghost use Rattle.scenario_text.specs.declared.acts.Edit.TheVariants.{Announce as AnAnnounce};
+ghost use Rattle.scenario_text.specs.LineValues.{IsWellFormed, IsSoundAct};
+ghost use Rattle.scenario_text.specs.Forms.{path_of, spaced, row, edit_of, query_of, act_of};
 
 use crate::acts::{Act, Edit, Query};
-use net_names::{
-    NoMemory, Path, Rel, Vrp, cut, number, read_addr, read_asn, read_prefix, read_vrp_asn, strip,
+use crate::fields::{
+    AddrField, AsnField, Barred, Field, KindField, PrefixField, RelField, RoundField, Spaced,
+    VrpField,
 };
-use policy_kinds::read_kind;
+use net_names::{NoMemory, Path, cut, read_asn, read_prefix, strip};
 use std::alloc::Global;
-
-fn round(text: &[u8]) -> Option<u32>
-    ensures { result ≡ round_of text.now }
-{
-    match number(text, 10, 9) {
-        Some(n) => Some(n as u32),
-        None => None,
-    }
-}
-
-// What the second AS is to the first.
-#[tactic(auto, unfolding(crate::specs::Forms::rel_of))]
-fn rel(text: &[u8]) -> Option<Rel>
-    ensures { result ≡ rel_of text.now }
-{
-    if text == b"-1".as_slice() {
-        Some(Rel::Customer)
-    } else if text == b"0".as_slice() {
-        Some(Rel::Peer)
-    } else {
-        None
-    }
-}
-
-#[tactic(auto, unfolding(crate::specs::Forms::vrp_of))]
-fn vrp(text: &[u8]) -> Option<Vrp>
-    ensures { result ≡ vrp_of text.now }
-{
-    let (n, rest) = cut(text, b' ')?;
-    let (p, m) = cut(rest, b' ')?;
-    let asn = read_vrp_asn(n)?;
-    let prefix = read_prefix(p)?;
-    let max = number(m, 10, 3)?;
-    if max > 128 {
-        return None;
-    }
-    Vrp::new(prefix, max as u8, asn)
-}
 
 const MOST_NUMBERS: usize = 64;
 
 // The ASes of a path.
 fn path(alloc: Global, text: &[u8]) -> Result<Option<Path>, NoMemory>
-    ensures { IfOk result (λ path. path ≡ path_of text.now) }
+    ensures gives { IfOk result (λ path. path ≡ path_of text.now) }
+    ensures few { IfOk result (λ path. IfSome path (λ ns. (1 ≤ length ns) × (length ns ≤ 64))) }
 {
     let mut path = Path::new(alloc);
     let mut rest = text;
@@ -76,203 +43,114 @@ fn path(alloc: Global, text: &[u8]) -> Result<Option<Path>, NoMemory>
     Ok(None)
 }
 
-#[tactic(auto, unfolding(crate::specs::Forms::link))]
-fn link_act(text: &[u8]) -> Option<Act>
-    ensures { result ≡ link text.now }
+// The fields of a line that begins with this word.
+fn behind<F: Field>(line: &[u8], word: &[u8]) -> Option<F::To>
+    ensures { result ≡ option_and_then F.says (after word.now line.now) }
 {
-    let (x, rest) = cut(text, b'|')?;
-    let (y, z) = cut(rest, b'|')?;
-    let a = read_asn(x)?;
-    let b = read_asn(y)?;
-    let rel = rel(z)?;
-    if a == b {
-        None
-    } else {
-        Some(Act::Edit(Edit::Link { a, b, rel }))
-    }
+    let rest = strip(line, word)?;
+    F::read(rest)
 }
 
-#[tactic(auto, unfolding(crate::specs::Forms::unlink))]
-fn unlink_act(text: &[u8]) -> Option<Act>
-    ensures { result ≡ unlink text.now }
+// What a line asks for that announces.
+#[tactic(auto, unfolding(crate::specs::Forms::parted))]
+fn announcement(alloc: Global, line: &[u8]) -> Result<Option<Edit>, NoMemory>
+    ensures gives { IfOk result (λ edit. edit ≡ row (codes "announce ") (spaced prefix_of path_of) (λ x. Some (AnAnnounce x.0 x.1)) line.now) }
+    ensures sound { IfOk result (λ edit. IfSome edit IsWellFormed) }
 {
-    let (x, y) = cut(text, b'|')?;
-    let a = read_asn(x)?;
-    let b = read_asn(y)?;
-    if a == b {
-        None
-    } else {
-        Some(Act::Edit(Edit::Unlink { a, b }))
-    }
-}
-
-#[tactic(auto, unfolding(crate::specs::Forms::policy))]
-fn policy_act(text: &[u8]) -> Option<Act>
-    ensures { result ≡ policy text.now }
-{
-    let (w, rest) = cut(text, b' ')?;
-    let asn = read_asn(w)?;
-    let kind = read_kind(rest)?;
-    Some(Act::Edit(Edit::Policy { asn, kind }))
-}
-
-#[tactic(auto, unfolding(crate::specs::Forms::vrp_add))]
-fn vrp_add_act(text: &[u8]) -> Option<Act>
-    ensures { result ≡ vrp_add text.now }
-{
-    let vrp = vrp(text)?;
-    Some(Act::Edit(Edit::VrpAdd { vrp }))
-}
-
-#[tactic(auto, unfolding(crate::specs::Forms::vrp_take))]
-fn vrp_take_act(text: &[u8]) -> Option<Act>
-    ensures { result ≡ vrp_take text.now }
-{
-    let vrp = vrp(text)?;
-    Some(Act::Edit(Edit::VrpTake { vrp }))
-}
-
-#[tactic(auto, unfolding(crate::specs::Forms::announce))]
-fn announce_act(alloc: Global, text: &[u8]) -> Result<Option<Act>, NoMemory>
-    ensures { IfOk result (λ act. act ≡ announce text.now) }
-{
-    let Some((w, rest)) = cut(text, b' ') else {
+    let Some(rest) = strip(line, b"announce ") else {
         return Ok(None);
     };
-    let Some(prefix) = read_prefix(w) else {
+    let Some((word, numbers)) = cut(rest, b' ') else {
         return Ok(None);
     };
-    match path(alloc, rest) {
-        Ok(Some(path)) => Ok(Some(Act::Edit(Edit::Announce { prefix, path }))),
+    let Some(prefix) = read_prefix(word) else {
+        return Ok(None);
+    };
+    match path(alloc, numbers) {
+        Ok(Some(path)) => Ok(Some(Edit::Announce { prefix, path })),
         Ok(None) => Ok(None),
         Err(_) => Err(NoMemory),
     }
 }
 
-#[tactic(auto, unfolding(crate::specs::Forms::withdraw))]
-fn withdraw_act(text: &[u8]) -> Option<Act>
-    ensures { result ≡ withdraw text.now }
+// What a line asks for that has the form of an edit.
+#[tactic(auto, unfolding(crate::specs::Forms::edit_of))]
+fn edit(alloc: Global, line: &[u8]) -> Result<Option<Edit>, NoMemory>
+    ensures gives { IfOk result (λ edit. edit ≡ edit_of line.now) }
+    ensures sound { IfOk result (λ edit. IfSome edit IsWellFormed) }
 {
-    let (w, rest) = cut(text, b' ')?;
-    let prefix = read_prefix(w)?;
-    let asn = read_asn(rest)?;
-    Some(Act::Edit(Edit::Withdraw { prefix, asn }))
-}
-
-#[tactic(auto, unfolding(crate::specs::Forms::routes))]
-fn routes_act(text: &[u8]) -> Option<Act>
-    ensures { result ≡ routes text.now }
-{
-    let (w, rest) = cut(text, b' ')?;
-    let round = round(w)?;
-    let prefix = read_prefix(rest)?;
-    Some(Act::Query(Query::Routes { round, prefix }))
-}
-
-#[tactic(auto, unfolding(crate::specs::Forms::route))]
-fn route_act(text: &[u8]) -> Option<Act>
-    ensures { result ≡ route text.now }
-{
-    let (w, rest) = cut(text, b' ')?;
-    let (x, y) = cut(rest, b' ')?;
-    let round = round(w)?;
-    let prefix = read_prefix(x)?;
-    let asn = read_asn(y)?;
-    Some(Act::Query(Query::Route { round, prefix, asn }))
-}
-
-#[tactic(auto, unfolding(crate::specs::Forms::trace))]
-fn trace_act(text: &[u8]) -> Option<Act>
-    ensures { result ≡ trace text.now }
-{
-    let (w, rest) = cut(text, b' ')?;
-    let (x, y) = cut(rest, b' ')?;
-    let round = round(w)?;
-    let asn = read_asn(x)?;
-    let addr = read_addr(y)?;
-    Some(Act::Query(Query::Trace { round, asn, addr }))
-}
-
-#[tactic(auto, unfolding(crate::specs::Forms::report))]
-fn report_act(text: &[u8]) -> Option<Act>
-    ensures { result ≡ report text.now }
-{
-    let (w, rest) = cut(text, b' ')?;
-    let round = round(w)?;
-    let addr = read_addr(rest)?;
-    Some(Act::Query(Query::Report { round, addr }))
-}
-
-#[tactic(auto, unfolding(crate::specs::Forms::ranks))]
-fn ranks_act(text: &[u8]) -> Option<Act>
-    ensures { result ≡ ranks text.now }
-{
-    match text {
-        [] => Some(Act::Query(Query::Ranks)),
-        _ => None,
+    if let Some((a, (b, rel))) = behind::<Barred<AsnField, Barred<AsnField, RelField>>>(
+        line, b"link ",
+    ) {
+        if a != b {
+            return Ok(Some(Edit::Link { a, b, rel }));
+        }
     }
-}
-
-#[tactic(auto, unfolding(crate::specs::Forms::validity))]
-fn validity_act(text: &[u8]) -> Option<Act>
-    ensures { result ≡ validity text.now }
-{
-    let (w, rest) = cut(text, b' ')?;
-    let prefix = read_prefix(w)?;
-    let asn = read_asn(rest)?;
-    Some(Act::Query(Query::Validity { prefix, asn }))
+    if let Some((a, b)) = behind::<Barred<AsnField, AsnField>>(line, b"unlink ") {
+        if a != b {
+            return Ok(Some(Edit::Unlink { a, b }));
+        }
+    }
+    if let Some((asn, kind)) = behind::<Spaced<AsnField, KindField>>(line, b"policy ") {
+        return Ok(Some(Edit::Policy { asn, kind }));
+    }
+    if let Some(vrp) = behind::<VrpField>(line, b"vrp-add ") {
+        return Ok(Some(Edit::VrpAdd { vrp }));
+    }
+    if let Some(vrp) = behind::<VrpField>(line, b"vrp-take ") {
+        return Ok(Some(Edit::VrpTake { vrp }));
+    }
+    if let Some(edit) = announcement(alloc, line)? {
+        return Ok(Some(edit));
+    }
+    match behind::<Spaced<PrefixField, AsnField>>(line, b"withdraw ") {
+        Some((prefix, asn)) => Ok(Some(Edit::Withdraw { prefix, asn })),
+        None => Ok(None),
+    }
 }
 
 // What a line asks for that has the form of a query.
-fn query_act(line: &[u8]) -> Option<Act>
-    ensures { result ≡ by_forms query_forms line.now }
+#[tactic(auto, unfolding(crate::specs::Forms::query_of))]
+fn query(line: &[u8]) -> Option<Query>
+    ensures { result ≡ query_of line.now }
 {
-    if let Some(rest) = strip(line, b"routes ") {
-        return routes_act(rest);
+    if let Some((round, prefix)) = behind::<Spaced<RoundField, PrefixField>>(line, b"routes ") {
+        return Some(Query::Routes { round, prefix });
     }
-    if let Some(rest) = strip(line, b"route ") {
-        return route_act(rest);
+    if let Some((round, (prefix, asn))) = behind::<
+        Spaced<RoundField, Spaced<PrefixField, AsnField>>,
+    >(line, b"route ")
+    {
+        return Some(Query::Route { round, prefix, asn });
     }
-    if let Some(rest) = strip(line, b"trace ") {
-        return trace_act(rest);
+    if let Some((round, (asn, addr))) = behind::<Spaced<RoundField, Spaced<AsnField, AddrField>>>(
+        line, b"trace ",
+    ) {
+        return Some(Query::Trace { round, asn, addr });
     }
-    if let Some(rest) = strip(line, b"report ") {
-        return report_act(rest);
+    if let Some((round, addr)) = behind::<Spaced<RoundField, AddrField>>(line, b"report ") {
+        return Some(Query::Report { round, addr });
     }
-    if let Some(rest) = strip(line, b"ranks") {
-        return ranks_act(rest);
+    if line == b"ranks".as_slice() {
+        return Some(Query::Ranks);
     }
-    if let Some(rest) = strip(line, b"validity ") {
-        return validity_act(rest);
+    match behind::<Spaced<PrefixField, AsnField>>(line, b"validity ") {
+        Some((prefix, asn)) => Some(Query::Validity { prefix, asn }),
+        None => None,
     }
-    None
 }
 
 /// What a line asks for; `None` exactly where it has none of the forms. `Err` where there is not enough memory.
 #[tactic(auto, unfolding(crate::specs::Forms::act_of))]
 pub(crate) fn act(alloc: Global, line: &[u8]) -> Result<Option<Act>, NoMemory>
-    ensures { IfOk result (λ act. act ≡ act_of line.now) }
+    ensures gives { IfOk result (λ act. act ≡ act_of line.now) }
+    ensures sound { IfOk result (λ act. IfSome act IsSoundAct) }
 {
-    if let Some(rest) = strip(line, b"link ") {
-        return Ok(link_act(rest));
+    match edit(alloc, line)? {
+        Some(edit) => Ok(Some(Act::Edit(edit))),
+        None => match query(line) {
+            Some(query) => Ok(Some(Act::Query(query))),
+            None => Ok(None),
+        },
     }
-    if let Some(rest) = strip(line, b"unlink ") {
-        return Ok(unlink_act(rest));
-    }
-    if let Some(rest) = strip(line, b"policy ") {
-        return Ok(policy_act(rest));
-    }
-    if let Some(rest) = strip(line, b"vrp-add ") {
-        return Ok(vrp_add_act(rest));
-    }
-    if let Some(rest) = strip(line, b"vrp-take ") {
-        return Ok(vrp_take_act(rest));
-    }
-    if let Some(rest) = strip(line, b"announce ") {
-        return announce_act(alloc, rest);
-    }
-    if let Some(rest) = strip(line, b"withdraw ") {
-        return Ok(withdraw_act(rest));
-    }
-    Ok(query_act(line))
 }

@@ -10,6 +10,7 @@ mod acts;
 mod document_shapes;
 mod documents;
 mod faults;
+mod fields;
 mod forms;
 mod limits;
 mod lines;

@@ -41,7 +41,7 @@ pub struct Place {
 
 impl Place {
     ghost use Rattle.std.specs.Prelude.{◌≡◌};
-    ghost use Rattle.scenario_text.specs.Places.{document, in_member, item, in_part, second_item};
+    ghost use Rattle.scenario_text.specs.Places.{document, in_member, item, in_part};
 
     /// The document itself.
     pub fn document() -> Place
@@ -67,13 +67,19 @@ impl Place {
         }
     }
 
-    /// The item at this position of the member's list.
+    /// The item at this position of the list that stands there: a member's list, or a list within one of its items.
     pub fn item(self, index: usize) -> Place
         ensures { result ≡ item self index }
     {
-        Place {
-            first: Some(index),
-            ..self
+        match self.first {
+            None => Place {
+                first: Some(index),
+                ..self
+            },
+            Some(_) => Place {
+                second: Some(index),
+                ..self
+            },
         }
     }
 
@@ -83,16 +89,6 @@ impl Place {
     {
         Place {
             part: Some(part),
-            ..self
-        }
-    }
-
-    /// The item at this position of the list that stands there.
-    pub fn second_item(self, index: usize) -> Place
-        ensures { result ≡ second_item self index }
-    {
-        Place {
-            second: Some(index),
             ..self
         }
     }

@@ -1,9 +1,9 @@
 //! Reading a scenario.
-ghost use Rattle.std.specs.Prelude.{◌≡◌, ◌≤◌, length};
+ghost use Rattle.std.specs.Prelude.{◌≡◌, ◌≤◌, length, ok_or};
 ghost use Rattle.serde_json.specs.View.{view};
 ghost use Rattle.scenario_text.specs.declared.faults.ScenarioError.TheVariants.{NotJson};
-ghost use Rattle.scenario_text.specs.Faults.{Gives, GivesBy, or_fault};
-ghost use Rattle.scenario_text.specs.Readings.{json_of, scenario_of, scenario_of_bytes};
+ghost use Rattle.scenario_text.specs.Faults.{Gives, GivesBy};
+ghost use Rattle.scenario_text.specs.Readings.{json_of, scenario_of_bytes};
 
 use crate::document_shapes::document;
 use crate::faults::ScenarioError;
@@ -15,7 +15,7 @@ use serde_json::Value;
 use std::alloc::Global;
 
 fn json(alloc: Global, bytes: &[u8]) -> Result<Value, ScenarioError>
-    ensures { GivesBy view result (or_fault NotJson (json_of bytes.now)) }
+    ensures { GivesBy view result (ok_or (json_of bytes.now) NotJson) }
 {
     match Value::from_slice(alloc, bytes) {
         Ok(value) => Ok(value),
@@ -27,18 +27,6 @@ fn json(alloc: Global, bytes: &[u8]) -> Result<Value, ScenarioError>
             }
         }
     }
-}
-
-// The scenario, or the first fault of the first pass that finds one.
-#[tactic(auto, unfolding(crate::specs::Readings::scenario_of))]
-fn scenario(alloc: Global, value: &Value) -> Result<Scenario, ScenarioError>
-    ensures { Gives result (scenario_of (view value.now)) }
-{
-    let document = document(alloc, value)?;
-    let lists = lists(alloc, &document)?;
-    test_once(alloc, &lists)?;
-    test_limits(alloc, &lists)?;
-    Ok(Scenario::from_lists(lists))
 }
 
 /// The scenario that a text of at most 16,777,216 bytes says. The text is a JSON object (RFC 8259): `announcements` is a
@@ -56,5 +44,9 @@ pub fn read_scenario(alloc: Global, bytes: &[u8]) -> Result<Scenario, ScenarioEr
     ensures { Gives result (scenario_of_bytes bytes.now) }
 {
     let value = json(alloc, bytes)?;
-    scenario(alloc, &value)
+    let document = document(alloc, &value)?;
+    let lists = lists(alloc, &document)?;
+    test_once(alloc, &lists)?;
+    test_limits(alloc, &lists)?;
+    Ok(Scenario::from_lists(lists))
 }

@@ -1,6 +1,7 @@
 //! Reading a script.
 ghost use Rattle.std.specs.Prelude.{◌≡◌, ℕ, ◌<◌, ◌≤◌, ◌∷◌, length, IfOk};
-ghost use Rattle.scenario_text.specs.Lines.{is_skipped, without_cr, texts, kept_from};
+ghost use Rattle.scenario_text.specs.Lines.{is_skipped, texts, kept_from};
+ghost use Rattle.std.specs.Str.Lines.{strip_carriage_return};
 ghost use Rattle.scenario_text.specs.LineValues.{IsSoundAct};
 ghost use Rattle.scenario_text.specs.Script.{Gives, command, script_of};
 
@@ -31,7 +32,7 @@ const MOST_COMMANDS: u32 = 100_000;
 
 // One carriage return at the end doesn't count.
 fn drop_cr(line: &[u8]) -> &[u8]
-    ensures { result.now ≡ without_cr line.now }
+    ensures { result.now ≡ strip_carriage_return line.now }
 {
     if !line.is_empty() && line[line.len() - 1] == b'\r' {
         &line[..line.len() - 1]

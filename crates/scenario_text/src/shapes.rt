@@ -1,39 +1,34 @@
 //! The types of single values.
-ghost use Rattle.std.specs.Prelude.{◌≡◌, ℕ, Result, string_bytes};
-ghost use Rattle.std.specs.List.{list_all};
+ghost use Rattle.std.specs.Prelude.{◌≡◌, bytes_eq, false, map, option_map, string_bytes, unwrap_or};
+ghost use Rattle.std.specs.List.{list_all, list_any};
 ghost use Rattle.std.specs.BTreeMap.{keys};
 ghost use Rattle.serde_json.specs.Data.{Data};
+ghost use Rattle.serde_json.specs.Find.{as_object};
 ghost use Rattle.serde_json.specs.View.{view};
-ghost use Rattle.scenario_text.specs.declared.places.Place.{Place as APlace};
-ghost use Rattle.scenario_text.specs.declared.faults.ScenarioError.{ScenarioError as AnError};
 ghost use Rattle.scenario_text.specs.Faults.{Gives, GivesBy};
-ghost use Rattle.scenario_text.specs.Shapes.{text_at, number_at, list_of, is_known, is_object, object_at};
+ghost use Rattle.scenario_text.specs.Shapes.{text_at, number_at, list_of, all_known, object_at};
+ghost use Rattle.scenario_text.specs.Walks.{Reader};
 
-use crate::documents::{Object, Text};
+use crate::documents::Text;
 use crate::faults::ScenarioError;
 use crate::places::Place;
 use crate::walks::{Reading, each};
 use serde_json::{Map, Value};
 use std::alloc::Global;
 
-/// How an item of a document's list is read.
+/// How a value of a document is read.
 pub(crate) trait Shape {
     /// What it is read as.
     type To: Drop;
 
-    ghost reads: { APlace → ℕ → Data → Result Self.To AnError };
+    ghost reads: { Reader Data Self.To };
 
-    /// What the value at this position of the list at this place is read as, or its first fault.
-    fn shape(
-        alloc: Global,
-        list: Place,
-        index: usize,
-        value: &Value,
-    ) -> Result<Self::To, ScenarioError>
-        ensures { Gives result (reads list index (view value.now)) };
+    /// What the value at this place is read as, or its first fault.
+    fn shape(alloc: Global, place: Place, value: &Value) -> Result<Self::To, ScenarioError>
+        ensures { Gives result (reads place (view value.now)) };
 }
 
-/// The same as a reading of an item.
+/// The same as a reading.
 pub(crate) struct ByShape<S> {
     shape: S,
 }
@@ -43,15 +38,10 @@ impl<S: Shape> Reading for ByShape<S> {
 
     type To = S::To;
 
-    ghost gives = { λ p i v. S.reads p i (view v) };
+    ghost gives = { λ p v. S.reads p (view v) };
 
-    fn read(
-        alloc: Global,
-        place: Place,
-        index: usize,
-        from: &Value,
-    ) -> Result<S::To, ScenarioError> {
-        S::shape(alloc, place, index, from)
+    fn read(alloc: Global, place: Place, from: &Value) -> Result<S::To, ScenarioError> {
+        S::shape(alloc, place, from)
     }
 }
 
@@ -92,38 +82,32 @@ pub(crate) fn list<S: Shape>(
     }
 }
 
-fn is_known_name(object: Object, name: &str) -> bool
-    ensures { result ≡ is_known object name.now }
+fn is_known(known: &[&str], name: &str) -> bool
+    ensures { result ≡ list_any (λ k. bytes_eq name.now k.now) known.now }
 {
-    match object {
-        Object::Document => {
-            name == "announcements" || name == "policies" || name == "leaks" || name == "watch"
-        }
-        Object::Announcement => name == "prefix" || name == "as" || name == "path",
-        Object::Policy => name == "as" || name == "policy",
-    }
+    known.iter().any(|k| name == *k)
 }
 
-fn all_known_in(object: Object, map: &Map<String, Value>) -> bool
-    ensures { result ≡ list_all (λ k. is_known object (string_bytes k)) (keys map.now) }
+fn all_known_in(known: &[&str], members: &Map<String, Value>) -> bool
+    ensures { result ≡ list_all (λ n. list_any (λ k. bytes_eq (string_bytes n) k.now) known.now) (keys members.now) }
 {
-    map.keys().all(|name| is_known_name(object, name.as_str()))
+    members.keys().all(|name| is_known(known, name.as_str()))
 }
 
-fn has_known(object: Object, value: &Value) -> bool
-    ensures { result ≡ is_object object (view value.now) }
+fn has_known(known: &[&str], value: &Value) -> bool
+    ensures { result ≡ unwrap_or (option_map (all_known (map (λ k. k.now) known.now)) (as_object (view value.now))) false }
 {
     match value.as_object() {
-        Some(map) => all_known_in(object, map),
+        Some(members) => all_known_in(known, members),
         None => false,
     }
 }
 
-/// Tests that the value is an object all of whose members are known.
-pub(crate) fn object(object: Object, place: Place, value: &Value) -> Result<(), ScenarioError>
-    ensures { Gives result (object_at object place (view value.now)) }
+/// Tests that the value is an object each of whose members has one of these names.
+pub(crate) fn object(known: &[&str], place: Place, value: &Value) -> Result<(), ScenarioError>
+    ensures { Gives result (object_at (map (λ k. k.now) known.now) place (view value.now)) }
 {
-    if has_known(object, value) {
+    if has_known(known, value) {
         Ok(())
     } else {
         Err(ScenarioError::Shape { place })

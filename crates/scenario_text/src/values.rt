@@ -1,7 +1,9 @@
 //! The second pass over a document: its numbers and texts by their grammars.
-ghost use Rattle.std.specs.Prelude.{◌≡◌};
+ghost use Rattle.std.specs.Prelude.{◌≡◌, ◌==◌ as nat_eq, ◌∷◌, []};
+ghost use Rattle.std.specs.List.{starts_with};
 ghost use Rattle.scenario_text.specs.Faults.{Gives};
-ghost use Rattle.scenario_text.specs.Values.{asn_at, path_asn_at, is_own_path, announcement_of, policy_of, leakers_of, watched_of, lists_of};
+ghost use Rattle.scenario_text.specs.Values.{asn_at, announcement_of, policy_of, address_of, lists_of};
+ghost use Rattle.scenario_text.specs.Walks.{each_at};
 
 use crate::documents::{AnnouncementText, Document, Numbers, PolicyText, Text};
 use crate::faults::ScenarioError;
@@ -32,19 +34,19 @@ impl Reading for AsnValue {
 
     type To = Asn;
 
-    ghost gives = { path_asn_at };
+    ghost gives = { asn_at };
 
-    fn read(_alloc: Global, list: Place, index: usize, from: &u64) -> Result<Asn, ScenarioError> {
-        asn_value(list.second_item(index), *from)
+    fn read(_alloc: Global, place: Place, from: &u64) -> Result<Asn, ScenarioError> {
+        asn_value(place, *from)
     }
 }
 
-fn starts_with(path: &[Asn], asn: Asn) -> bool
-    ensures { result ≡ is_own_path asn path.now }
+fn is_own(path: &[Asn], asn: Asn) -> bool
+    ensures { result ≡ starts_with nat_eq path.now (asn ∷ []) }
 {
     match path {
         [] => false,
-        [first, ..] => *first == asn,
+        [first, ..] => asn == *first,
     }
 }
 
@@ -60,11 +62,9 @@ impl Reading for AnnouncementValue {
     #[tactic(auto, unfolding(crate::specs::Values::announcement_of))]
     fn read(
         alloc: Global,
-        list: Place,
-        index: usize,
+        place: Place,
         from: &AnnouncementText,
     ) -> Result<Announcement, ScenarioError> {
-        let place = list.item(index);
         let Some(prefix) = read_prefix(from.prefix.as_bytes()) else {
             return Err(ScenarioError::Value {
                 place: place.part(PartOf::Prefix),
@@ -72,7 +72,7 @@ impl Reading for AnnouncementValue {
         };
         let asn = asn_value(place.part(PartOf::Number), from.number)?;
         let path = each::<AsnValue>(alloc, place.part(PartOf::Path), from.path.as_slice())?;
-        if starts_with(path.as_slice(), asn) {
+        if is_own(path.as_slice(), asn) {
             Ok(Announcement {
                 prefix,
                 asn,
@@ -96,13 +96,7 @@ impl Reading for PolicyValue {
     ghost gives = { policy_of };
 
     #[tactic(auto, unfolding(crate::specs::Values::policy_of))]
-    fn read(
-        _alloc: Global,
-        list: Place,
-        index: usize,
-        from: &PolicyText,
-    ) -> Result<(Asn, Kind), ScenarioError> {
-        let place = list.item(index);
+    fn read(_alloc: Global, place: Place, from: &PolicyText) -> Result<(Asn, Kind), ScenarioError> {
         let asn = asn_value(place.part(PartOf::Number), from.number)?;
         match read_kind(from.policy.as_bytes()) {
             Some(kind) => Ok((asn, kind)),
@@ -120,15 +114,10 @@ impl Reading for LeakersValue {
 
     type To = Leakers;
 
-    ghost gives = { leakers_of };
+    ghost gives = { each_at asn_at };
 
-    fn read(
-        alloc: Global,
-        list: Place,
-        index: usize,
-        from: &Numbers,
-    ) -> Result<Leakers, ScenarioError> {
-        let numbers = each::<AsnValue>(alloc, list.item(index), from.as_slice())?;
+    fn read(alloc: Global, place: Place, from: &Numbers) -> Result<Leakers, ScenarioError> {
+        let numbers = each::<AsnValue>(alloc, place, from.as_slice())?;
         Ok(Leakers { numbers })
     }
 }
@@ -140,14 +129,12 @@ impl Reading for WatchedValue {
 
     type To = Addr;
 
-    ghost gives = { watched_of };
+    ghost gives = { address_of };
 
-    fn read(_alloc: Global, list: Place, index: usize, from: &Text) -> Result<Addr, ScenarioError> {
+    fn read(_alloc: Global, place: Place, from: &Text) -> Result<Addr, ScenarioError> {
         match read_addr(from.as_bytes()) {
             Some(addr) => Ok(addr),
-            None => Err(ScenarioError::Value {
-                place: list.item(index),
-            }),
+            None => Err(ScenarioError::Value { place }),
         }
     }
 }

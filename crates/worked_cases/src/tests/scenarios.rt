@@ -251,7 +251,7 @@ fn places_have_their_texts(rt: HostRuntime) -> Result<(), Fail> {
             Place::member(Member::Announcements)
                 .item(0)
                 .part(PartOf::Path)
-                .second_item(3),
+                .item(3),
             "announcements[0].path[3]",
         ),
         (
@@ -261,7 +261,7 @@ fn places_have_their_texts(rt: HostRuntime) -> Result<(), Fail> {
             "policies[10].policy",
         ),
         (
-            Place::member(Member::Leaks).item(0).second_item(2),
+            Place::member(Member::Leaks).item(0).item(2),
             "leaks[0][2]",
         ),
         (Place::member(Member::Watch).item(1), "watch[1]"),

@@ -9,14 +9,14 @@ loop-i-init c = record {
   count = rw c.new-path.ensures (omega arith);
 }
 
-pub returns-in_default : goal.returns-in_default
-returns-in_default c = unread c.loop-i.path c.loop-i.rest.now _ c.in-None.ensures c.in_default.ensures c.loop-i.invariant.so_far
+pub returns-in_default-clause-gives : goal.returns-in_default-clause-gives
+returns-in_default-clause-gives c = unread c.loop-i.path c.loop-i.rest.now _ c.in-None.ensures c.in_default.ensures c.loop-i.invariant.so_far
 
-pub returns-in-None : goal.returns-in-None
-returns-in-None c = rw c.in_ok-push-in-None.ensures.ok (last c.loop-i.path c.loop-i.rest.now c.in-Some-read_asn.asn _ c.in-None.ensures c.in-Some-read_asn.ensures (omega arith) c.loop-i.invariant.so_far)
+pub returns-in-None-clause-gives : goal.returns-in-None-clause-gives
+returns-in-None-clause-gives c = rw c.in_ok-push-in-None.ensures.ok (last c.loop-i.path c.loop-i.rest.now c.in-Some-read_asn.asn _ c.in-None.ensures c.in-Some-read_asn.ensures (omega arith) c.loop-i.invariant.so_far)
 
-pub returns-in_default-read_asn : goal.returns-in_default-read_asn
-returns-in_default-read_asn c = stops c.loop-i.path c.loop-i.rest.now c.in-Some.word.now c.in-Some.more.now _ c.in-Some.ensures c.in_default-read_asn.ensures c.loop-i.invariant.so_far
+pub returns-in_default-read_asn-clause-gives : goal.returns-in_default-read_asn-clause-gives
+returns-in_default-read_asn-clause-gives c = stops c.loop-i.path c.loop-i.rest.now c.in-Some.word.now c.in-Some.more.now _ c.in-Some.ensures c.in_default-read_asn.ensures c.loop-i.invariant.so_far
 
 pub loop-i-preserved : goal.loop-i-preserved
 loop-i-preserved c = record {
@@ -24,5 +24,8 @@ loop-i-preserved c = record {
   count = rw c.in_ok-push-in-Some.ensures.ok (omega (arith, length-append c.loop-i.path (c.in-Some-read_asn-2.asn ∷ []), c.loop-i.invariant.count));
 }
 
-pub returns : goal.returns
-returns c = full c.loop-i.path c.loop-i.rest.now _ (omega (arith, c.loop-i.invariant.count)) c.loop-i.invariant.so_far
+pub returns-clause-gives : goal.returns-clause-gives
+returns-clause-gives c = full c.loop-i.path c.loop-i.rest.now _ (omega (arith, c.loop-i.invariant.count)) c.loop-i.invariant.so_far
+
+pub returns-in-None-clause-few : goal.returns-in-None-clause-few
+returns-in-None-clause-few c = rw c.in_ok-push-in-None.ensures.ok (omega (arith, length-append c.loop-i.path (c.in-Some-read_asn.asn ∷ []), c.loop-i.invariant.count), omega (arith, length-append c.loop-i.path (c.in-Some-read_asn.asn ∷ []), c.loop-i.invariant.count))
