@@ -18,6 +18,7 @@ use Rattle.asprop.specs.declared.types.Status.{Status}
 use Rattle.asprop.specs.declared.types.Status.TheVariants as status
 use Rattle.asprop.specs.declared.types.Fault.{Fault}
 use Rattle.asprop.specs.declared.types.Fault.TheVariants as fault
+use Rattle.asprop.specs.declared.types.Cause.TheVariants as cause
 use Rattle.caida_reader.specs.declared.errors.RelError.TheVariants as rel
 use Rattle.roa_table.specs.declared.errors.VrpError.TheVariants as vrp
 use Rattle.scenario_text.specs.declared.faults.ScenarioError.TheVariants as scenario
@@ -30,28 +31,28 @@ record Ended (form : Option Form) (task : Result Task Fault) (s : Status) (old n
 
 by_fault : (form : Option Form) (f : Fault) (old new : Option (List ℕ)) (rose : Type 0) → Appends old new [] → Ended form (Err f) (status_of f) old new rose (fault_text form f)
 by_fault form fault.Usage old new rose h = record { ends = (refl, h); explains = refl }
-by_fault form (fault.Unread file) old new rose h = record { ends = (refl, h); explains = refl }
-by_fault form (fault.TooLong file) old new rose h = record { ends = (refl, h); explains = refl }
-by_fault form (fault.Relation rel.Memory) old new rose h = record { ends = (refl, h); explains = refl }
-by_fault form (fault.Relation (rel.Unreadable n)) old new rose h = record { ends = (refl, h); explains = refl }
-by_fault form (fault.Relation (rel.SelfLink n)) old new rose h = record { ends = (refl, h); explains = refl }
-by_fault form (fault.Relation (rel.Conflict n m)) old new rose h = record { ends = (refl, h); explains = refl }
-by_fault form (fault.Relation (rel.TooManyLinks n)) old new rose h = record { ends = (refl, h); explains = refl }
-by_fault form (fault.Payload vrp.Memory) old new rose h = record { ends = (refl, h); explains = refl }
-by_fault form (fault.Payload (vrp.Fields n)) old new rose h = record { ends = (refl, h); explains = refl }
-by_fault form (fault.Payload (vrp.BadAsn n)) old new rose h = record { ends = (refl, h); explains = refl }
-by_fault form (fault.Payload (vrp.BadPrefix n)) old new rose h = record { ends = (refl, h); explains = refl }
-by_fault form (fault.Payload (vrp.BadMax n)) old new rose h = record { ends = (refl, h); explains = refl }
-by_fault form (fault.Payload (vrp.TooMany n)) old new rose h = record { ends = (refl, h); explains = refl }
-by_fault form (fault.Scenario scenario.Memory) old new rose h = record { ends = (refl, h); explains = refl }
-by_fault form (fault.Scenario scenario.NotJson) old new rose h = record { ends = (refl, h); explains = refl }
-by_fault form (fault.Scenario (scenario.Shape place)) old new rose h = record { ends = (refl, h); explains = refl }
-by_fault form (fault.Scenario (scenario.Value place)) old new rose h = record { ends = (refl, h); explains = refl }
-by_fault form (fault.Scenario (scenario.Twice place)) old new rose h = record { ends = (refl, h); explains = refl }
-by_fault form (fault.Scenario (scenario.Limit which)) old new rose h = record { ends = (refl, h); explains = refl }
-by_fault form (fault.Script script.Memory) old new rose h = record { ends = (refl, h); explains = refl }
-by_fault form (fault.Script (script.Unreadable n)) old new rose h = record { ends = (refl, h); explains = refl }
-by_fault form (fault.Script (script.TooMany n)) old new rose h = record { ends = (refl, h); explains = refl }
+by_fault form (fault.InFile which cause.Unread) old new rose h = record { ends = (refl, h); explains = refl }
+by_fault form (fault.InFile which (cause.TooLong most)) old new rose h = record { ends = (refl, h); explains = refl }
+by_fault form (fault.InFile which (cause.Relation rel.Memory)) old new rose h = record { ends = (refl, h); explains = refl }
+by_fault form (fault.InFile which (cause.Relation (rel.Unreadable n))) old new rose h = record { ends = (refl, h); explains = refl }
+by_fault form (fault.InFile which (cause.Relation (rel.SelfLink n))) old new rose h = record { ends = (refl, h); explains = refl }
+by_fault form (fault.InFile which (cause.Relation (rel.Conflict n m))) old new rose h = record { ends = (refl, h); explains = refl }
+by_fault form (fault.InFile which (cause.Relation (rel.TooManyLinks n))) old new rose h = record { ends = (refl, h); explains = refl }
+by_fault form (fault.InFile which (cause.Payload vrp.Memory)) old new rose h = record { ends = (refl, h); explains = refl }
+by_fault form (fault.InFile which (cause.Payload (vrp.Fields n))) old new rose h = record { ends = (refl, h); explains = refl }
+by_fault form (fault.InFile which (cause.Payload (vrp.BadAsn n))) old new rose h = record { ends = (refl, h); explains = refl }
+by_fault form (fault.InFile which (cause.Payload (vrp.BadPrefix n))) old new rose h = record { ends = (refl, h); explains = refl }
+by_fault form (fault.InFile which (cause.Payload (vrp.BadMax n))) old new rose h = record { ends = (refl, h); explains = refl }
+by_fault form (fault.InFile which (cause.Payload (vrp.TooMany n))) old new rose h = record { ends = (refl, h); explains = refl }
+by_fault form (fault.InFile which (cause.Scenario scenario.Memory)) old new rose h = record { ends = (refl, h); explains = refl }
+by_fault form (fault.InFile which (cause.Scenario scenario.NotJson)) old new rose h = record { ends = (refl, h); explains = refl }
+by_fault form (fault.InFile which (cause.Scenario (scenario.Shape place))) old new rose h = record { ends = (refl, h); explains = refl }
+by_fault form (fault.InFile which (cause.Scenario (scenario.Value place))) old new rose h = record { ends = (refl, h); explains = refl }
+by_fault form (fault.InFile which (cause.Scenario (scenario.Twice place))) old new rose h = record { ends = (refl, h); explains = refl }
+by_fault form (fault.InFile which (cause.Scenario (scenario.Limit limit))) old new rose h = record { ends = (refl, h); explains = refl }
+by_fault form (fault.InFile which (cause.Script script.Memory)) old new rose h = record { ends = (refl, h); explains = refl }
+by_fault form (fault.InFile which (cause.Script (script.Unreadable n))) old new rose h = record { ends = (refl, h); explains = refl }
+by_fault form (fault.InFile which (cause.Script (script.TooMany n))) old new rose h = record { ends = (refl, h); explains = refl }
 by_fault form fault.TooManyAses old new rose h = record { ends = (refl, h); explains = refl }
 
 by_stop : (form : Option Form) (task : Result Task Fault) (reason : Stop) (old new : Option (List ℕ)) (rose : Type 0) → Works task (Err reason) old new rose → Ended form task (stop_status reason) old new rose (stop_text form reason)

@@ -13,12 +13,14 @@ use Rattle.scenario_text.specs.declared.faults.ScenarioError.TheVariants as scen
 use Rattle.scenario_text.specs.declared.script.ScriptError.{ScriptError}
 use Rattle.scenario_text.specs.declared.script.ScriptError.TheVariants as script
 use Rattle.asprop.specs.Texts.{status_of}
-use Rattle.asprop.specs.Task.{Task, Reads, asked, task_of_form, origin_task, script_task, relations, payloads_by, scenario_by, script_lines, read_as, or_fault, bytes_of, within_limits, ◌>>=◌}
+use Rattle.asprop.specs.Task.{Task, Reads, asked, task_of_form, origin_task, script_task, relations, payloads_by, scenario_by, script_lines, read_as, or_fault, bytes_of, most_bytes, within_limits, ◌>>=◌}
 use Rattle.asprop.specs.Words.{Form, origin_form, script_form, demo_form}
 use Rattle.asprop.specs.declared.types.File.{File}
 use Rattle.asprop.specs.declared.types.File.TheVariants as file
 use Rattle.asprop.specs.declared.types.Fault.{Fault}
 use Rattle.asprop.specs.declared.types.Fault.TheVariants as fault
+use Rattle.asprop.specs.declared.types.Cause.{Cause}
+use Rattle.asprop.specs.declared.types.Cause.TheVariants as cause
 use Rattle.asprop.specs.declared.types.Status.{Status}
 use Rattle.asprop.specs.declared.types.Status.TheVariants as status
 
@@ -45,66 +47,67 @@ bad f is = other f status.BadInput is (λ h. cc) (λ h. cc) (λ h. cc)
 large : (f : Fault) → status_of f ≡ status.TooLarge → IsOther f
 large f is = other f status.TooLarge is (λ h. cc) (λ h. cc) (λ h. cc)
 
-pub other_relation : (e : RelError) → IsOther (fault.Relation e)
-other_relation rel.Memory = bad _ refl
-other_relation (rel.Unreadable n) = bad _ refl
-other_relation (rel.SelfLink n) = bad _ refl
-other_relation (rel.Conflict n m) = bad _ refl
-other_relation (rel.TooManyLinks n) = large _ refl
+pub other_relation : (which : File) (e : RelError) → IsOther (fault.InFile which (cause.Relation e))
+other_relation which rel.Memory = bad _ refl
+other_relation which (rel.Unreadable n) = bad _ refl
+other_relation which (rel.SelfLink n) = bad _ refl
+other_relation which (rel.Conflict n m) = bad _ refl
+other_relation which (rel.TooManyLinks n) = large _ refl
 
-pub other_payload : (e : VrpError) → IsOther (fault.Payload e)
-other_payload vrp.Memory = bad _ refl
-other_payload (vrp.Fields n) = bad _ refl
-other_payload (vrp.BadAsn n) = bad _ refl
-other_payload (vrp.BadPrefix n) = bad _ refl
-other_payload (vrp.BadMax n) = bad _ refl
-other_payload (vrp.TooMany n) = large _ refl
+pub other_payload : (which : File) (e : VrpError) → IsOther (fault.InFile which (cause.Payload e))
+other_payload which vrp.Memory = bad _ refl
+other_payload which (vrp.Fields n) = bad _ refl
+other_payload which (vrp.BadAsn n) = bad _ refl
+other_payload which (vrp.BadPrefix n) = bad _ refl
+other_payload which (vrp.BadMax n) = bad _ refl
+other_payload which (vrp.TooMany n) = large _ refl
 
-pub other_scenario : (e : ScenarioError) → IsOther (fault.Scenario e)
-other_scenario scenario.Memory = bad _ refl
-other_scenario scenario.NotJson = bad _ refl
-other_scenario (scenario.Shape place) = bad _ refl
-other_scenario (scenario.Value place) = bad _ refl
-other_scenario (scenario.Twice place) = bad _ refl
-other_scenario (scenario.Limit which) = large _ refl
+pub other_scenario : (which : File) (e : ScenarioError) → IsOther (fault.InFile which (cause.Scenario e))
+other_scenario which scenario.Memory = bad _ refl
+other_scenario which scenario.NotJson = bad _ refl
+other_scenario which (scenario.Shape place) = bad _ refl
+other_scenario which (scenario.Value place) = bad _ refl
+other_scenario which (scenario.Twice place) = bad _ refl
+other_scenario which (scenario.Limit limit) = large _ refl
 
-pub other_script : (e : ScriptError) → IsOther (fault.Script e)
-other_script script.Memory = bad _ refl
-other_script (script.Unreadable n) = bad _ refl
-other_script (script.TooMany n) = large _ refl
+pub other_script : (which : File) (e : ScriptError) → IsOther (fault.InFile which (cause.Script e))
+other_script which script.Memory = bad _ refl
+other_script which (script.Unreadable n) = bad _ refl
+other_script which (script.TooMany n) = large _ refl
 
 -- why the words and the files give no task
 pub data Stopped (form : Option Form) (reads : Reads) : Fault → Type 0 where
   no_form : form ≡ None → Stopped form reads fault.Usage
-  unread : (which : File) → reads which ≡ None → Stopped form reads (fault.Unread which)
+  unread : (which : File) → reads which ≡ None → Stopped form reads (fault.InFile which cause.Unread)
   by_value : (f : Fault) → IsOther f → Stopped form reads f
 
 module _ (form : Option Form) (reads : Reads) where
-  of_value : {A E : Type 0} (as_fault : E → Fault) → ((e : E) → IsOther (as_fault e)) → (r : Result A E) (e : Fault) → or_fault as_fault r ≡ Err e → Stopped form reads e
-  of_value as_fault others (Ok x) e h = cc
-  of_value as_fault others (Err d) e h = let is : as_fault d ≡ e = cc in subst (Stopped form reads) is (by_value (as_fault d) (others d))
+  of_value : {A E : Type 0} (which : File) (as_cause : E → Cause) → ((e : E) → IsOther (fault.InFile which (as_cause e))) → (r : Result A E) (e : Fault) → or_fault which as_cause r ≡ Err e → Stopped form reads e
+  of_value which as_cause others (Ok x) e h = cc
+  of_value which as_cause others (Err d) e h =
+      let is : fault.InFile which (as_cause d) ≡ e = cc in subst (Stopped form reads) is (by_value (fault.InFile which (as_cause d)) (others d))
 
   of_bytes : (which : File) (read : Option (List ℕ)) → reads which ≡ read → (e : Fault) → bytes_of which read ≡ Err e → Stopped form reads e
-  of_bytes which None none e h = let is : fault.Unread which ≡ e = cc in subst (Stopped form reads) is (unread which none)
-  of_bytes which (Some bytes) some e h = subst (Stopped form reads) (chosen_err _ _ e bytes h) (by_value (fault.TooLong which) (large _ refl))
+  of_bytes which None none e h = let is : fault.InFile which cause.Unread ≡ e = cc in subst (Stopped form reads) is (unread which none)
+  of_bytes which (Some bytes) some e h = subst (Stopped form reads) (chosen_err _ _ e bytes h) (by_value (fault.InFile which (cause.TooLong (most_bytes which))) (large _ refl))
 
-  of_read : {A E : Type 0} (which : File) (as_fault : E → Fault) (value : List ℕ → Result A E) → ((e : E) → IsOther (as_fault e)) → (e : Fault) → read_as which as_fault value (reads which) ≡ Err e → Stopped form reads e
-  of_read which as_fault value others e h =
-      elim (bind_err (bytes_of which (reads which)) (λ bytes. or_fault as_fault (value bytes)) e h) [
+  of_read : {A E : Type 0} (which : File) (as_cause : E → Cause) (value : List ℕ → Result A E) → ((e : E) → IsOther (fault.InFile which (as_cause e))) → (e : Fault) → read_as which as_cause value reads ≡ Err e → Stopped form reads e
+  of_read which as_cause value others e h =
+      elim (bind_err (bytes_of which (reads which)) (λ bytes. or_fault which as_cause (value bytes)) e h) [
         | inl early ↦ of_bytes which (reads which) refl e early
-        | inr late ↦ of_value as_fault others (value late.0) e late.2
+        | inr late ↦ of_value which as_cause others (value late.0) e late.2
       ]
 
   of_payloads : (name : Option (List ℕ)) (e : Fault) → payloads_by name (reads file.Payloads) ≡ Err e → Stopped form reads e
   of_payloads None e h = cc
-  of_payloads (Some name) e h = of_read file.Payloads fault.Payload payloads_in other_payload e h
+  of_payloads (Some name) e h = of_read file.Payloads cause.Payload payloads_in (other_payload file.Payloads) e h
 
   of_scenario : (name : Option (List ℕ)) (e : Fault) → scenario_by name (reads file.Scenario) ≡ Err e → Stopped form reads e
   of_scenario None e h = cc
-  of_scenario (Some name) e h = of_read file.Scenario fault.Scenario scenario_of_bytes other_scenario e h
+  of_scenario (Some name) e h = of_read file.Scenario cause.Scenario scenario_of_bytes (other_scenario file.Scenario) e h
 
   of_lines : (e : Fault) → script_lines (reads file.Script) ≡ Err e → Stopped form reads e
-  of_lines e h = of_read file.Script fault.Script script_of other_script e h
+  of_lines e h = of_read file.Script cause.Script script_of (other_script file.Script) e h
 
   of_limits : (task : Task) (e : Fault) → within_limits task ≡ Err e → Stopped form reads e
   of_limits task e h = subst (Stopped form reads) (chosen_err _ _ e task h) (by_value fault.TooManyAses (large _ refl))
@@ -114,12 +117,12 @@ of_asked None reads e h = let is : fault.Usage ≡ e = cc in subst (Stopped None
 of_asked (Some (demo_form size)) reads e h = cc
 of_asked (Some (origin_form rel origin)) reads e h =
     elim (bind_err (relations (reads file.Relations)) (λ links. Ok (origin_task links origin)) e h) [
-      | inl early ↦ of_read _ reads file.Relations fault.Relation links_of other_relation e early
+      | inl early ↦ of_read _ reads file.Relations cause.Relation links_of (other_relation file.Relations) e early
       | inr late ↦ cc
     ]
 of_asked (Some (script_form rel vrps scenario script)) reads e h =
     elim (bind_err (relations (reads file.Relations)) (λ links. payloads_by vrps (reads file.Payloads) >>= λ payloads. scenario_by scenario (reads file.Scenario) >>= λ plan. script_lines (reads file.Script) >>= λ lines. Ok (script_task links payloads plan lines)) e h) [
-      | inl early ↦ of_read _ reads file.Relations fault.Relation links_of other_relation e early
+      | inl early ↦ of_read _ reads file.Relations cause.Relation links_of (other_relation file.Relations) e early
       | inr links ↦ elim (bind_err (payloads_by vrps (reads file.Payloads)) (λ payloads. scenario_by scenario (reads file.Scenario) >>= λ plan. script_lines (reads file.Script) >>= λ lines. Ok (script_task links.0 payloads plan lines)) e links.2) [
         | inl early ↦ of_payloads _ reads vrps e early
         | inr payloads ↦ elim (bind_err (scenario_by scenario (reads file.Scenario)) (λ plan. script_lines (reads file.Script) >>= λ lines. Ok (script_task links.0 payloads.0 plan lines)) e payloads.2) [

@@ -13,15 +13,16 @@ use Rattle.asprop.specs.declared.types.File.TheVariants as file
 use Rattle.asprop.specs.declared.types.Stop.{Stop}
 use Rattle.asprop.specs.declared.types.Stop.TheVariants as stop
 use Rattle.asprop.specs.declared.types.Fault.TheVariants as fault
+use Rattle.asprop.specs.declared.types.Cause.TheVariants as cause
 use Rattle.asprop.proofs.ReadLemmas.{whole, too_long}
 
 -- a relationship file within its limit
-whole_links : (bytes : List ℕ) → length bytes ≤ 268435456 → relations (Some bytes) ≡ or_fault fault.Relation (links_of bytes)
-whole_links bytes h = ap (λ r. r >>= λ b. or_fault fault.Relation (links_of b)) (whole file.Relations bytes h)
+whole_links : (bytes : List ℕ) → length bytes ≤ 268435456 → relations (Some bytes) ≡ or_fault file.Relations cause.Relation (links_of bytes)
+whole_links bytes h = ap (λ r. r >>= λ b. or_fault file.Relations cause.Relation (links_of b)) (whole file.Relations bytes h)
 
 -- a relationship file that is longer
-long_links : (bytes : List ℕ) → 268435456 < length bytes → relations (Some bytes) ≡ Err (fault.TooLong file.Relations)
-long_links bytes h = ap (λ r. r >>= λ b. or_fault fault.Relation (links_of b)) (too_long file.Relations bytes h)
+long_links : (bytes : List ℕ) → 268435456 < length bytes → relations (Some bytes) ≡ Err (fault.InFile file.Relations (cause.TooLong 268435456))
+long_links bytes h = ap (λ r. r >>= λ b. or_fault file.Relations cause.Relation (links_of b)) (too_long file.Relations bytes h)
 
 -- What was taken so far, and what the reader knows of it.
 pub record Fed (held left : Option (List ℕ)) (reader : Progress) (taken : ℕ) : Type 0 where
@@ -90,7 +91,7 @@ known_err (Some (rel.TooManyLinks n)) e rest value h is = subst (Fails e) h is
 at_end : (p : Progress) (bytes : List ℕ) → UnlessMemory p.failed ((more : List ℕ) → outcome p more ≡ links_of (bytes ++ more)) → UnlessMemory p.failed (outcome p [] ≡ links_of bytes)
 at_end p bytes h = unless p.failed _ _ (λ on. on [] ∙ ap links_of (append-nil bytes)) h
 
-taken_long : (held left : Option (List ℕ)) (bytes : List ℕ) (sound rose : Type 0) → Consumes held left bytes → 268435456 < length bytes → ReadsTo held sound rose (λ (links : LinkMap). links) (Err (stop.Fault (fault.TooLong file.Relations))) relations
+taken_long : (held left : Option (List ℕ)) (bytes : List ℕ) (sound rose : Type 0) → Consumes held left bytes → 268435456 < length bytes → ReadsTo held sound rose (λ (links : LinkMap). links) (Err (stop.Fault (fault.InFile file.Relations (cause.TooLong 268435456)))) relations
 taken_long None left bytes sound rose took many = record { read = Some bytes; is_read = tt; finds = long_links bytes many }
 taken_long (Some x) None bytes sound rose took many = absurd took
 taken_long (Some x) (Some y) bytes sound rose took many =
@@ -103,11 +104,11 @@ module _ {held left : Option (List ℕ)} {sound rose : Type 0} {reader : Progres
   ends_ok now links took end few is = record {
     read = Some fed.bytes;
     is_read = whole_bytes held now fed.bytes (rw append-nil at (Consumes-trans held left now fed.bytes [] fed.took took)) end;
-    finds = whole_links fed.bytes (omega (arith, fed.long, few)) ∙ ap (or_fault fault.Relation) (known_ok reader.failed _ _ links (at_end reader fed.bytes fed.goes_on) is);
+    finds = whole_links fed.bytes (omega (arith, fed.long, few)) ∙ ap (or_fault file.Relations cause.Relation) (known_ok reader.failed _ _ links (at_end reader fed.bytes fed.goes_on) is);
   }
 
   pub ends_err : (now : Option (List ℕ)) (e : RelError) (s : Stop) → Consumes left now [] → IsAtEnd now → taken ≤ 268435456 → Fails e (outcome reader [])
-      → ((value : Result LinkMap RelError) → Fails e value → IsStop s (or_fault fault.Relation value)) → ReadsTo held sound rose (λ (links : LinkMap). links) (Err s) relations
+      → ((value : Result LinkMap RelError) → Fails e value → IsStop s (or_fault file.Relations cause.Relation value)) → ReadsTo held sound rose (λ (links : LinkMap). links) (Err s) relations
   ends_err now e s took end few is stops = record {
     read = Some fed.bytes;
     is_read = whole_bytes held now fed.bytes (rw append-nil at (Consumes-trans held left now fed.bytes [] fed.took took)) end;
@@ -115,5 +116,5 @@ module _ {held left : Option (List ℕ)} {sound rose : Type 0} {reader : Progres
   }
 
   -- more was taken than a file may have
-  pub ends_long : 268435456 < taken → ReadsTo held sound rose (λ (links : LinkMap). links) (Err (stop.Fault (fault.TooLong file.Relations))) relations
+  pub ends_long : 268435456 < taken → ReadsTo held sound rose (λ (links : LinkMap). links) (Err (stop.Fault (fault.InFile file.Relations (cause.TooLong 268435456)))) relations
   ends_long many = taken_long held left fed.bytes sound rose fed.took (omega (arith, fed.long, many))

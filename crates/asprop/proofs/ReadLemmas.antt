@@ -11,6 +11,7 @@ use Rattle.asprop.specs.declared.types.Fault.{Fault}
 use Rattle.asprop.specs.declared.types.Stop.{Stop}
 use Rattle.asprop.specs.declared.types.Stop.TheVariants as stop
 use Rattle.asprop.specs.declared.types.Fault.TheVariants as fault
+use Rattle.asprop.specs.declared.types.Cause.TheVariants as cause
 use Rattle.asprop.proofs.Answering.{rose_earlier}
 
 -- something was read of each file
@@ -26,7 +27,7 @@ some_read_as holds sound rose (Some name) = some_read (holds name) (sound name) 
 pub no_room : {X A : Type 0} {held : Option (List ℕ)} {sound rose : Type 0} {view : X → A} {value : Option (List ℕ) → Result A Fault} → ReadsTo held sound rose view (Err stop.Memory) value
 no_room {X} {A} {held} {sound} {rose} {view} {value} = let r = some_read held sound rose in record { read = r.0; is_read = r.1; finds = tt }
 
-pub too_long : (which : File) (bytes : List ℕ) → most_bytes which < length bytes → bytes_of which (Some bytes) ≡ Err (fault.TooLong which)
+pub too_long : (which : File) (bytes : List ℕ) → most_bytes which < length bytes → bytes_of which (Some bytes) ≡ Err (fault.InFile which (cause.TooLong (most_bytes which)))
 too_long which bytes h = rw (lt-ltb (most_bytes which) (length bytes) h) refl
 
 -- a file within its limit
@@ -38,11 +39,11 @@ pub read_whole : (which : File) (held : Option (List ℕ)) (sound rose : Type 0)
 read_whole which held sound rose X view x h = record { read = Some (view x); is_read = h.1; finds = whole which (view x) h.0 }
 
 -- a read of the file failed
-pub read_failed : (which : File) (held : Option (List ℕ)) (sound rose : Type 0) (X : Type 0) (view : X → List ℕ) → rose × (sound → ⊥) → ReadsTo held sound rose view (Err (stop.Fault (fault.Unread which))) (bytes_of which)
+pub read_failed : (which : File) (held : Option (List ℕ)) (sound rose : Type 0) (X : Type 0) (view : X → List ℕ) → rose × (sound → ⊥) → ReadsTo held sound rose view (Err (stop.Fault (fault.InFile which cause.Unread))) (bytes_of which)
 read_failed which held sound rose X view h = record { read = None; is_read = h; finds = refl }
 
 -- the file is longer than it may be
-pub read_long : (which : File) (held : Option (List ℕ)) (sound rose : Type 0) (X : Type 0) (view : X → List ℕ) → IfSome held (λ file. most_bytes which < length file) → ReadsTo held sound rose view (Err (stop.Fault (fault.TooLong which))) (bytes_of which)
+pub read_long : (which : File) (held : Option (List ℕ)) (sound rose : Type 0) (X : Type 0) (view : X → List ℕ) → IfSome held (λ file. most_bytes which < length file) → ReadsTo held sound rose view (Err (stop.Fault (fault.InFile which (cause.TooLong (most_bytes which))))) (bytes_of which)
 read_long which None sound rose X view h =
     let long : List ℕ = replicate (most_bytes which + 1) 0 in
     record { read = Some long; is_read = tt; finds = too_long which long (omega (arith, length-replicate {A = ℕ} (most_bytes which + 1) 0)) }

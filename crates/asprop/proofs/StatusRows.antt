@@ -9,6 +9,7 @@ use Rattle.asprop.specs.Statuses.{UsageRow, ReadFaultRow, WriteFaultRow}
 use Rattle.asprop.specs.declared.types.File.{File}
 use Rattle.asprop.specs.declared.types.Fault.{Fault}
 use Rattle.asprop.specs.declared.types.Fault.TheVariants as fault
+use Rattle.asprop.specs.declared.types.Cause.TheVariants as cause
 use Rattle.asprop.specs.declared.types.Status.{Status}
 use Rattle.asprop.specs.declared.types.Status.TheVariants as status
 use Rattle.asprop.proofs.Faults.{Stopped, no_form, unread, by_value, other_payload, other_relation, other_scenario, other_script, of_task}
@@ -50,12 +51,12 @@ unsound holds sound rose (Some n) (Some bytes) h is = cc
 write_only : (task : Result Task Fault) (old new : Option (List ℕ)) (rose : Type 0) → Ends task status.WriteFault old new rose → rose
 write_only (Ok task) old new rose h = h.0
 write_only (Err fault.Usage) old new rose h = cc
-write_only (Err (fault.Unread which)) old new rose h = cc
-write_only (Err (fault.TooLong which)) old new rose h = cc
-write_only (Err (fault.Relation e)) old new rose h = absurd ((other_relation e).write h.0)
-write_only (Err (fault.Payload e)) old new rose h = absurd ((other_payload e).write h.0)
-write_only (Err (fault.Scenario e)) old new rose h = absurd ((other_scenario e).write h.0)
-write_only (Err (fault.Script e)) old new rose h = absurd ((other_script e).write h.0)
+write_only (Err (fault.InFile which cause.Unread)) old new rose h = cc
+write_only (Err (fault.InFile which (cause.TooLong most))) old new rose h = cc
+write_only (Err (fault.InFile which (cause.Relation e))) old new rose h = absurd ((other_relation which e).write h.0)
+write_only (Err (fault.InFile which (cause.Payload e))) old new rose h = absurd ((other_payload which e).write h.0)
+write_only (Err (fault.InFile which (cause.Scenario e))) old new rose h = absurd ((other_scenario which e).write h.0)
+write_only (Err (fault.InFile which (cause.Script e))) old new rose h = absurd ((other_script which e).write h.0)
 write_only (Err fault.TooManyAses) old new rose h = cc
 
 module _ {holds : List ℕ → Option (List ℕ)} {sound : List ℕ → Type 0} {read_rose : Type 0} {words : List (List ℕ)} {s : Status} {out_old out_new : Option (List ℕ)} {out_rose : Type 0} {err_old err_new : Option (List ℕ)} {err_rose : Type 0} where

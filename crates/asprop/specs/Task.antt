@@ -22,6 +22,8 @@ use Rattle.topo_gen.specs.Lines.{drawn_lines}
 use Rattle.asprop.specs.Words.{Form, script_form, origin_form, demo_form, form_of}
 use Rattle.asprop.specs.declared.types.File.{File}
 use Rattle.asprop.specs.declared.types.File.TheVariants as file
+use Rattle.asprop.specs.declared.types.Cause.{Cause}
+use Rattle.asprop.specs.declared.types.Cause.TheVariants as cause
 use Rattle.asprop.specs.declared.types.Fault.{Fault}
 use Rattle.asprop.specs.declared.types.Fault.TheVariants as fault
 
@@ -58,40 +60,43 @@ abbrev pub ◌>>=◌ : {A B : Type 0} → Result A Fault → (A → Result B Fau
 abbrev pub most_bytes : File → ℕ
 most_bytes file.Relations = 268435456
 most_bytes file.Payloads = 268435456
-most_bytes file.Scenario = 16777216
-most_bytes file.Script = 16777216
+most_bytes _ = 16777216
 
 -- the file's bytes, where they are no more than it may have
 abbrev pub bytes_of : File → Option (List ℕ) → Result (List ℕ) Fault
-bytes_of which None = Err (fault.Unread which)
-bytes_of which (Some bytes) = if nat_lt (most_bytes which) (length bytes) then Err (fault.TooLong which) else Ok bytes
+bytes_of which None = Err (fault.InFile which cause.Unread)
+bytes_of which (Some bytes) =
+    if nat_lt (most_bytes which) (length bytes) then Err (fault.InFile which (cause.TooLong (most_bytes which))) else Ok bytes
 
--- the value that was read, or its fault as one of the task
-abbrev pub or_fault : {A E : Type 0} → (E → Fault) → Result A E → Result A Fault
-or_fault as_fault (Ok x) = Ok x
-or_fault as_fault (Err e) = Err (as_fault e)
+-- the value that was read, or its fault as one of the file
+abbrev pub or_fault : {A E : Type 0} → File → (E → Cause) → Result A E → Result A Fault
+or_fault which as_cause (Ok x) = Ok x
+or_fault which as_cause (Err e) = Err (fault.InFile which (as_cause e))
 
 -- the value that the bytes of a file say
-abbrev pub read_as : {A E : Type 0} → File → (E → Fault) → (List ℕ → Result A E) → Option (List ℕ) → Result A Fault
-read_as which as_fault value read = bytes_of which read >>= λ bytes. or_fault as_fault (value bytes)
+abbrev pub read_as : {A E : Type 0} → File → (E → Cause) → (List ℕ → Result A E) → Reads → Result A Fault
+read_as which as_cause value reads = bytes_of which (reads which) >>= λ bytes. or_fault which as_cause (value bytes)
+
+-- the value of a file that is named, and else this one
+abbrev pub if_named : {A : Type 0} → Option (List ℕ) → A → Result A Fault → Result A Fault
+if_named None other value = Ok other
+if_named (Some name) other value = value
 
 -- the links of the relationship file (CAIDA AS Relationships, serial-1)
 abbrev pub relations : Option (List ℕ) → Result LinkMap Fault
-relations = read_as file.Relations fault.Relation links_of
+relations read = read_as file.Relations cause.Relation links_of (λ _. read)
 
 -- the payloads of the file of this name; without a name there are none
 abbrev pub payloads_by : Option (List ℕ) → Option (List ℕ) → Result Payloads Fault
-payloads_by None read = Ok no_payloads
-payloads_by (Some name) read = read_as file.Payloads fault.Payload payloads_in read
+payloads_by name read = if_named name no_payloads (read_as file.Payloads cause.Payload payloads_in (λ _. read))
 
 -- the scenario of the file of this name; without a name it is the empty one
 abbrev pub scenario_by : Option (List ℕ) → Option (List ℕ) → Result ScenarioValue Fault
-scenario_by None read = Ok nothing
-scenario_by (Some name) read = read_as file.Scenario fault.Scenario scenario_of_bytes read
+scenario_by name read = if_named name nothing (read_as file.Scenario cause.Scenario scenario_of_bytes (λ _. read))
 
 -- the lines of the script (own format)
 abbrev pub script_lines : Option (List ℕ) → Result (List LineValue) Fault
-script_lines = read_as file.Script fault.Script script_of
+script_lines read = read_as file.Script cause.Script script_of (λ _. read)
 
 -- the prefix that holds every IPv4 address, 0.0.0.0/0 (RFC 4632, section 3.1)
 abbrev pub all_addresses : PrefixValue
@@ -107,12 +112,9 @@ origin_line = record { number = 1; act = act.Query (query.Routes 1 all_addresses
 
 -- the routes of all ASes to one origin, without payloads: one line without a head line
 abbrev pub origin_task : LinkMap → ℕ → Task
-origin_task links origin = record {
-  world = world_of links no_payloads (announced_by origin);
-  lines = origin_line ∷ [];
-  heads = false;
-  counts = false;
-}
+origin_task links origin =
+    let w : World = world_of links no_payloads (announced_by origin) in
+    record { world = w; lines = origin_line ∷ []; heads = false; counts = false }
 
 -- the answers to a script, with a head line each
 abbrev pub script_task : LinkMap → Payloads → ScenarioValue → List LineValue → Task
@@ -126,9 +128,14 @@ demo_task n = record { world = world_of (drawn_links n) (drawn_payloads n) (draw
 abbrev pub asked : Option Form → Reads → Result Task Fault
 asked None reads = Err fault.Usage
 asked (Some (demo_form size)) reads = Ok (demo_task size)
-asked (Some (origin_form rel origin)) reads = relations (reads file.Relations) >>= λ links. Ok (origin_task links origin)
+asked (Some (origin_form rel origin)) reads =
+    read_as file.Relations cause.Relation links_of reads >>= λ links. Ok (origin_task links origin)
 asked (Some (script_form rel vrps scenario script)) reads =
-    relations (reads file.Relations) >>= λ links. payloads_by vrps (reads file.Payloads) >>= λ payloads. scenario_by scenario (reads file.Scenario) >>= λ plan. script_lines (reads file.Script) >>= λ lines. Ok (script_task links payloads plan lines)
+    read_as file.Relations cause.Relation links_of reads >>= λ links.
+    if_named vrps no_payloads (read_as file.Payloads cause.Payload payloads_in reads) >>= λ payloads.
+    if_named scenario nothing (read_as file.Scenario cause.Scenario scenario_of_bytes reads) >>= λ plan.
+    read_as file.Script cause.Script script_of reads >>= λ lines.
+    Ok (record { world = world_of links payloads plan; lines = lines; heads = true; counts = false })
 
 -- the task, if its world has at most 150000 ASes
 abbrev pub within_limits : Task → Result Task Fault

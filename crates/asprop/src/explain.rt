@@ -1,12 +1,12 @@
 //! What is said of a fault.
 ghost use Rattle.std.specs.Prelude.{◌≡◌, ◌++◌, IfOk, option_map, string_bytes};
 ghost use Rattle.io_edge.specs.Faults.{Rose};
-ghost use Rattle.asprop.specs.Texts.{cycle_text, fault_text, shown, status_of};
+ghost use Rattle.asprop.specs.Texts.{cause_of, cycle_text, fault_text, shown, status_of};
 ghost use Rattle.asprop.specs.Ran.{Explained, Reports};
 ghost use Rattle.asprop.specs.Words.{form_seen};
 
-use crate::fault_texts::{length_text, payload_text, relation_text, scenario_text, script_text};
-use crate::types::{Fault, File, Status, Stop};
+use crate::fault_texts::cause_text;
+use crate::types::{Cause, Fault, File, Status, Stop};
 use crate::words::WordForm;
 use caida_reader::RelError;
 use cycle_check::Cycle;
@@ -39,36 +39,12 @@ fn fault_message(
 {
     match fault {
         Fault::Usage => String::from_str(alloc, USAGE),
-        Fault::Unread(file) => {
-            let name = file_name(form, file);
-            format!(in alloc; "asprop: {name}: read fault\n")
-        }
-        Fault::TooLong(file) => {
-            let name = file_name(form, file);
-            let text = length_text(file);
-            format!(in alloc; "asprop: {name}: {text}\n")
-        }
-        Fault::Relation(error) => {
-            let name = file_name(form, File::Relations);
-            let text = relation_text(alloc, error)?;
-            format!(in alloc; "asprop: {name}: {text}\n")
-        }
-        Fault::Payload(error) => {
-            let name = file_name(form, File::Payloads);
-            let text = payload_text(alloc, error)?;
-            format!(in alloc; "asprop: {name}: {text}\n")
-        }
-        Fault::Scenario(error) => {
-            let name = file_name(form, File::Scenario);
-            let text = scenario_text(alloc, error)?;
-            format!(in alloc; "asprop: {name}: {text}\n")
-        }
-        Fault::Script(error) => {
-            let name = file_name(form, File::Script);
-            let text = script_text(alloc, error)?;
-            format!(in alloc; "asprop: {name}: {text}\n")
-        }
         Fault::TooManyAses => String::from_str(alloc, "asprop: more than 150000 ASes\n"),
+        Fault::InFile(file, cause) => {
+            let name = file_name(form, file);
+            let text = cause_text(alloc, cause)?;
+            format!(in alloc; "asprop: {name}: {text}\n")
+        }
     }
 }
 
@@ -87,22 +63,30 @@ fn cycle_message(alloc: Global, cycle: &Cycle) -> Result<Vec<u8>, NoMemory>
     }
 }
 
+fn cause_status(cause: Cause) -> Status
+    ensures { result ≡ (cause_of cause).0 }
+{
+    match cause {
+        Cause::Unread => Status::ReadFault,
+        Cause::TooLong(_) => Status::TooLarge,
+        Cause::Relation(RelError::TooManyLinks { line: _ }) => Status::TooLarge,
+        Cause::Relation(_) => Status::BadInput,
+        Cause::Payload(VrpError::TooMany { row: _ }) => Status::TooLarge,
+        Cause::Payload(_) => Status::BadInput,
+        Cause::Scenario(ScenarioError::Limit { which: _ }) => Status::TooLarge,
+        Cause::Scenario(_) => Status::BadInput,
+        Cause::Script(ScriptError::TooMany { line: _ }) => Status::TooLarge,
+        Cause::Script(_) => Status::BadInput,
+    }
+}
+
 fn fault_status(fault: Fault) -> Status
     ensures { result ≡ status_of fault }
 {
     match fault {
         Fault::Usage => Status::Usage,
-        Fault::Unread(_) => Status::ReadFault,
-        Fault::TooLong(_) => Status::TooLarge,
-        Fault::Relation(RelError::TooManyLinks { line: _ }) => Status::TooLarge,
-        Fault::Relation(_) => Status::BadInput,
-        Fault::Payload(VrpError::TooMany { row: _ }) => Status::TooLarge,
-        Fault::Payload(_) => Status::BadInput,
-        Fault::Scenario(ScenarioError::Limit { which: _ }) => Status::TooLarge,
-        Fault::Scenario(_) => Status::BadInput,
-        Fault::Script(ScriptError::TooMany { line: _ }) => Status::TooLarge,
-        Fault::Script(_) => Status::BadInput,
         Fault::TooManyAses => Status::TooLarge,
+        Fault::InFile(_, cause) => cause_status(cause),
     }
 }
 

@@ -1,15 +1,15 @@
 //! The texts of faults of files.
 ghost use Rattle.std.specs.Prelude.{◌≡◌, IfOk, string_bytes};
-ghost use Rattle.asprop.specs.Texts.{length_text as length_text_of, limit_text as limit_text_of, rel_text, scenario_text as scenario_text_of, script_text as script_text_of, vrp_text};
+ghost use Rattle.asprop.specs.Texts.{cause_of, limit_text as limit_text_of};
 
-use crate::types::File;
+use crate::types::Cause;
 use caida_reader::RelError;
 use roa_table::VrpError;
 use scenario_text::{LimitOf, ScenarioError, ScriptError, place_string};
 use std::alloc::{AllocError, Global};
 
-pub fn relation_text(alloc: Global, error: RelError) -> Result<String, AllocError>
-    ensures { IfOk result (λ text. string_bytes text ≡ rel_text error) }
+fn relation_text(alloc: Global, error: RelError) -> Result<String, AllocError>
+    ensures { IfOk result (λ text. string_bytes text ≡ (cause_of (Cause.Relation error)).1) }
 {
     match error {
         RelError::Memory => Ok(String::new(alloc)),
@@ -24,8 +24,8 @@ pub fn relation_text(alloc: Global, error: RelError) -> Result<String, AllocErro
     }
 }
 
-pub fn payload_text(alloc: Global, error: VrpError) -> Result<String, AllocError>
-    ensures { IfOk result (λ text. string_bytes text ≡ vrp_text error) }
+fn payload_text(alloc: Global, error: VrpError) -> Result<String, AllocError>
+    ensures { IfOk result (λ text. string_bytes text ≡ (cause_of (Cause.Payload error)).1) }
 {
     match error {
         VrpError::Memory => Ok(String::new(alloc)),
@@ -50,8 +50,8 @@ fn limit_text(which: LimitOf) -> &'static str
     }
 }
 
-pub fn scenario_text(alloc: Global, error: ScenarioError) -> Result<String, AllocError>
-    ensures { IfOk result (λ text. string_bytes text ≡ scenario_text_of error) }
+fn scenario_text(alloc: Global, error: ScenarioError) -> Result<String, AllocError>
+    ensures { IfOk result (λ text. string_bytes text ≡ (cause_of (Cause.Scenario error)).1) }
 {
     match error {
         ScenarioError::Memory => Ok(String::new(alloc)),
@@ -72,8 +72,8 @@ pub fn scenario_text(alloc: Global, error: ScenarioError) -> Result<String, Allo
     }
 }
 
-pub fn script_text(alloc: Global, error: ScriptError) -> Result<String, AllocError>
-    ensures { IfOk result (λ text. string_bytes text ≡ script_text_of error) }
+fn script_text(alloc: Global, error: ScriptError) -> Result<String, AllocError>
+    ensures { IfOk result (λ text. string_bytes text ≡ (cause_of (Cause.Script error)).1) }
 {
     match error {
         ScriptError::Memory => Ok(String::new(alloc)),
@@ -84,12 +84,16 @@ pub fn script_text(alloc: Global, error: ScriptError) -> Result<String, AllocErr
     }
 }
 
-/// What is said of a file that is longer than it may be.
-pub fn length_text(file: File) -> &'static str
-    ensures { result.now ≡ length_text_of file }
+/// What is said of a file that isn't taken, with the place in it.
+pub fn cause_text(alloc: Global, cause: Cause) -> Result<String, AllocError>
+    ensures { IfOk result (λ text. string_bytes text ≡ (cause_of cause).1) }
 {
-    match file {
-        File::Relations | File::Payloads => "more than 268435456 bytes",
-        File::Scenario | File::Script => "more than 16777216 bytes",
+    match cause {
+        Cause::Unread => String::from_str(alloc, "read fault"),
+        Cause::TooLong(most) => format!(in alloc; "more than {most} bytes"),
+        Cause::Relation(error) => relation_text(alloc, error),
+        Cause::Payload(error) => payload_text(alloc, error),
+        Cause::Scenario(error) => scenario_text(alloc, error),
+        Cause::Script(error) => script_text(alloc, error),
     }
 }

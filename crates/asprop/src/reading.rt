@@ -6,7 +6,7 @@ ghost use Rattle.asprop.specs.Files.{ReadsAs, ReadsTo};
 ghost use Rattle.asprop.specs.Words.{text_seen};
 
 use crate::stops::{payload_stop, relation_stop, scenario_stop, script_stop};
-use crate::types::{Fault, File, Stop};
+use crate::types::{Cause, Fault, File, Stop};
 use caida_reader::Reader;
 use io_edge::{Failed, Inputs, ReadAllError, read_all};
 use net_names::Links;
@@ -43,7 +43,7 @@ fn read_pieces<I: Inputs>(
     ensures keeps { KeepsNames I.holds I.is_sound I.faults inputs.old inputs.new }
 {
     if inputs.begin(name).is_err() {
-        return Err(Stop::Fault(Fault::Unread(File::Relations)));
+        return Err(Stop::Fault(Fault::InFile(File::Relations, Cause::Unread)));
     }
     let mut reader = Reader::new(alloc);
     let most = room.len();
@@ -51,7 +51,7 @@ fn read_pieces<I: Inputs>(
     'pieces: while taken <= MAX_RELATION_BYTES {
         let want = (MAX_RELATION_BYTES + 1 - taken).min(most);
         match inputs.take(&mut room[..want]) {
-            Err(Failed) => return Err(Stop::Fault(Fault::Unread(File::Relations))),
+            Err(Failed) => return Err(Stop::Fault(Fault::InFile(File::Relations, Cause::Unread))),
             Ok(0) => {
                 return match reader.finish() {
                     Ok(links) => Ok(links),
@@ -65,7 +65,7 @@ fn read_pieces<I: Inputs>(
             }
         }
     }
-    Err(Stop::Fault(Fault::TooLong(File::Relations)))
+    Err(Stop::Fault(Fault::InFile(File::Relations, Cause::TooLong(MAX_RELATION_BYTES))))
 }
 
 /// Reads the relationship file.
@@ -91,11 +91,12 @@ fn read_bytes<I: Inputs>(
         (λ bytes. bytes.items) result (bytes_of file) }
     ensures keeps { KeepsNames I.holds I.is_sound I.faults inputs.old inputs.new }
 {
-    match read_all(alloc, inputs, name, limit_of(file)) {
+    let most = limit_of(file);
+    match read_all(alloc, inputs, name, most) {
         Ok(bytes) => Ok(bytes),
         Err(ReadAllError::Memory) => Err(Stop::Memory),
-        Err(ReadAllError::ReadFault) => Err(Stop::Fault(Fault::Unread(file))),
-        Err(ReadAllError::TooLong) => Err(Stop::Fault(Fault::TooLong(file))),
+        Err(ReadAllError::ReadFault) => Err(Stop::Fault(Fault::InFile(file, Cause::Unread))),
+        Err(ReadAllError::TooLong) => Err(Stop::Fault(Fault::InFile(file, Cause::TooLong(most)))),
     }
 }
 

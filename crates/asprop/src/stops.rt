@@ -14,64 +14,110 @@ ghost use Rattle.scenario_text.specs.declared.faults.ScenarioError.{ScenarioErro
 ghost use Rattle.scenario_text.specs.declared.script.ScriptError.{ScriptError as AScriptError};
 ghost use Rattle.asprop.specs.Task.{or_fault};
 ghost use Rattle.asprop.specs.Files.{IsStop};
-ghost use Rattle.asprop.specs.declared.types.Fault.TheVariants as fault;
+ghost use Rattle.asprop.specs.declared.types.File.TheVariants as file;
+ghost use Rattle.asprop.specs.declared.types.Cause.TheVariants as cause;
 
-use crate::types::{Fault, Stop};
+use crate::types::{Cause, Fault, File, Stop};
 use caida_reader::RelError;
 use roa_table::VrpError;
 use scenario_text::{ScenarioError, ScriptError};
 
 /// The stop for a fault of the relationship file.
 pub fn relation_stop(error: RelError) -> Stop
-    ensures { (value : Result LinkMap ARelError) → RelationFails error value → IsStop result (or_fault fault.Relation value) }
+    ensures { (value : Result LinkMap ARelError) → RelationFails error value → IsStop result (or_fault file.Relations cause.Relation value) }
 {
     match error {
         RelError::Memory => Stop::Memory,
-        RelError::Unreadable { line: _ } => Stop::Fault(Fault::Relation(error)),
-        RelError::SelfLink { line: _ } => Stop::Fault(Fault::Relation(error)),
+        RelError::Unreadable { line: _ } => Stop::Fault(Fault::InFile(
+            File::Relations,
+            Cause::Relation(error),
+        )),
+        RelError::SelfLink { line: _ } => Stop::Fault(Fault::InFile(
+            File::Relations,
+            Cause::Relation(error),
+        )),
         RelError::Conflict {
             line: _,
             earlier: _,
-        } => Stop::Fault(Fault::Relation(error)),
-        RelError::TooManyLinks { line: _ } => Stop::Fault(Fault::Relation(error)),
+        } => Stop::Fault(Fault::InFile(File::Relations, Cause::Relation(error))),
+        RelError::TooManyLinks { line: _ } => Stop::Fault(Fault::InFile(
+            File::Relations,
+            Cause::Relation(error),
+        )),
     }
 }
 
 /// The stop for a fault of the payload file.
 pub fn payload_stop(error: VrpError) -> Stop
-    ensures { (value : Result Payloads AVrpError) → Gives (Err error) value → IsStop result (or_fault fault.Payload value) }
+    ensures { (value : Result Payloads AVrpError) → Gives (Err error) value → IsStop result (or_fault file.Payloads cause.Payload value) }
 {
     match error {
         VrpError::Memory => Stop::Memory,
-        VrpError::Fields { row: _ } => Stop::Fault(Fault::Payload(error)),
-        VrpError::BadAsn { row: _ } => Stop::Fault(Fault::Payload(error)),
-        VrpError::BadPrefix { row: _ } => Stop::Fault(Fault::Payload(error)),
-        VrpError::BadMax { row: _ } => Stop::Fault(Fault::Payload(error)),
-        VrpError::TooMany { row: _ } => Stop::Fault(Fault::Payload(error)),
+        VrpError::Fields { row: _ } => Stop::Fault(Fault::InFile(
+            File::Payloads,
+            Cause::Payload(error),
+        )),
+        VrpError::BadAsn { row: _ } => Stop::Fault(Fault::InFile(
+            File::Payloads,
+            Cause::Payload(error),
+        )),
+        VrpError::BadPrefix { row: _ } => Stop::Fault(Fault::InFile(
+            File::Payloads,
+            Cause::Payload(error),
+        )),
+        VrpError::BadMax { row: _ } => Stop::Fault(Fault::InFile(
+            File::Payloads,
+            Cause::Payload(error),
+        )),
+        VrpError::TooMany { row: _ } => Stop::Fault(Fault::InFile(
+            File::Payloads,
+            Cause::Payload(error),
+        )),
     }
 }
 
 /// The stop for a fault of the scenario.
 pub fn scenario_stop(error: ScenarioError) -> Stop
-    ensures { (value : Result ScenarioValue AScenarioError) → ScenarioFails error value → IsStop result (or_fault fault.Scenario value) }
+    ensures { (value : Result ScenarioValue AScenarioError) → ScenarioFails error value → IsStop result (or_fault file.Scenario cause.Scenario value) }
 {
     match error {
         ScenarioError::Memory => Stop::Memory,
-        ScenarioError::NotJson => Stop::Fault(Fault::Scenario(error)),
-        ScenarioError::Shape { place: _ } => Stop::Fault(Fault::Scenario(error)),
-        ScenarioError::Value { place: _ } => Stop::Fault(Fault::Scenario(error)),
-        ScenarioError::Twice { place: _ } => Stop::Fault(Fault::Scenario(error)),
-        ScenarioError::Limit { which: _ } => Stop::Fault(Fault::Scenario(error)),
+        ScenarioError::NotJson => Stop::Fault(Fault::InFile(
+            File::Scenario,
+            Cause::Scenario(error),
+        )),
+        ScenarioError::Shape { place: _ } => Stop::Fault(Fault::InFile(
+            File::Scenario,
+            Cause::Scenario(error),
+        )),
+        ScenarioError::Value { place: _ } => Stop::Fault(Fault::InFile(
+            File::Scenario,
+            Cause::Scenario(error),
+        )),
+        ScenarioError::Twice { place: _ } => Stop::Fault(Fault::InFile(
+            File::Scenario,
+            Cause::Scenario(error),
+        )),
+        ScenarioError::Limit { which: _ } => Stop::Fault(Fault::InFile(
+            File::Scenario,
+            Cause::Scenario(error),
+        )),
     }
 }
 
 /// The stop for a fault of the script.
 pub fn script_stop(error: ScriptError) -> Stop
-    ensures { (value : Result (List LineValue) AScriptError) → ScriptFails error value → IsStop result (or_fault fault.Script value) }
+    ensures { (value : Result (List LineValue) AScriptError) → ScriptFails error value → IsStop result (or_fault file.Script cause.Script value) }
 {
     match error {
         ScriptError::Memory => Stop::Memory,
-        ScriptError::Unreadable { line: _ } => Stop::Fault(Fault::Script(error)),
-        ScriptError::TooMany { line: _ } => Stop::Fault(Fault::Script(error)),
+        ScriptError::Unreadable { line: _ } => Stop::Fault(Fault::InFile(
+            File::Script,
+            Cause::Script(error),
+        )),
+        ScriptError::TooMany { line: _ } => Stop::Fault(Fault::InFile(
+            File::Script,
+            Cause::Script(error),
+        )),
     }
 }

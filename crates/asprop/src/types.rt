@@ -25,10 +25,19 @@ pub enum File {
 pub enum Fault {
     /// The words have none of the forms.
     Usage,
-    /// A read of the file failed.
-    Unread(File),
-    /// The file has more bytes than its limit.
-    TooLong(File),
+    /// This file isn't taken, for this cause.
+    InFile(File, Cause),
+    /// The world has more than 150,000 ASes.
+    TooManyAses,
+}
+
+/// Why a file isn't taken.
+#[derive(Clone, Copy, Debug, PartialEq, Eq)]
+pub enum Cause {
+    /// A read of it failed.
+    Unread,
+    /// It has more than this many bytes.
+    TooLong(usize),
     /// The relationship file has this fault.
     Relation(RelError),
     /// The payload file has this fault.
@@ -37,8 +46,6 @@ pub enum Fault {
     Scenario(ScenarioError),
     /// The script has this fault.
     Script(ScriptError),
-    /// The world has more than 150,000 ASes.
-    TooManyAses,
 }
 
 /// How a run ended.
