@@ -260,10 +260,7 @@ fn places_have_their_texts(rt: HostRuntime) -> Result<(), Fail> {
                 .part(PartOf::Policy),
             "policies[10].policy",
         ),
-        (
-            Place::member(Member::Leaks).item(0).item(2),
-            "leaks[0][2]",
-        ),
+        (Place::member(Member::Leaks).item(0).item(2), "leaks[0][2]"),
         (Place::member(Member::Watch).item(1), "watch[1]"),
     ];
     for (place, text) in cases {
