@@ -1,7 +1,7 @@
 -- What `cons` and `lengthen` leave.
 use Rattle.std.proofs.Common.{◌≡◌, ◌≢◌, ℕ, suc, ◌+◌, ◌-◌, ◌<◌, List, [], ◌∷◌, length, set, refl, ap, sym, ◌∙◌, subst, arith, inl, inr}
 use Rattle.std.proofs.lemmas.Bool.{cases_eq}
-use Rattle.path_pool.specs.declared.cells.Cell.{Cell}
+use Rattle.path_pool.specs.declared.pool.Cell.{Cell}
 use Rattle.path_pool.specs.Region.{cell_at, walk, list_of, IsLive, cells_above, holds_of, IsRegion, CanFollow, GainsCell, PassesHold, GainsCells}
 use Rattle.path_pool.proofs.RegionLemmas.{at_same, at_other, live_inside, take_above_other, take_above_tail, take_lists_at}
 use Rattle.path_pool.proofs.HoldLemmas.{rehold_kind, rehold_above, rehold_at, rehold_region, rehold_lists}

@@ -1,8 +1,8 @@
 -- How often a path may be needed.
-use Rattle.std.proofs.Common.{ℕ, ◌+◌, ◌≤◌, Bool, true, false, cond, ◌&&◌, ◌==◌, nat_lt, List, [], ◌∷◌, arith}
+use Rattle.std.proofs.Common.{◌≡◌, ℕ, ◌+◌, ◌≤◌, Bool, true, false, cond, ◌&&◌, ◌==◌, nat_lt, List, [], ◌∷◌, ap, arith}
 use Rattle.std.specs.List.{count_by}
 use Rattle.std.proofs.lemmas.List.Sums.{sum_by-cons}
-use Rattle.path_pool.specs.declared.cells.Cell.{Cell}
+use Rattle.path_pool.specs.declared.pool.Cell.{Cell}
 use Rattle.path_pool.specs.declared.pool.PathPool.{PathPool}
 use Rattle.path_pool.specs.Pool.{count_of, holds_of, live_count}
 use Rattle.path_pool.specs.Region.{is_live, is_above}
@@ -23,4 +23,4 @@ above-le i (x ∷ xs) = omega (arith, sum_by-cons (λ c. cond (is_above i c) 1 0
 
 -- a path is needed no more often than it is held and cells are live
 pub count_of-le : (p : PathPool) (k : ℕ) → count_of p k ≤ holds_of p k + live_count p
-count_of-le p k = omega (arith, above-le k p.cells)
+count_of-le p k = omega (arith, above-le k p.cells.items)

@@ -5,7 +5,7 @@ use Rattle.std.proofs.lemmas.Bool.{cases_eq, cases_lt, le-ltb, eq-eqb, ne_eqb}
 use Rattle.std.proofs.lemmas.List.{get_or_append_left, get_or_at, get_or_past}
 use Rattle.std.proofs.lemmas.List.Sums.{sum_by_push}
 use Rattle.net_names.specs.Numbers.{first_or, last_or}
-use Rattle.path_pool.specs.declared.cells.Cell.{Cell}
+use Rattle.path_pool.specs.declared.pool.Cell.{Cell}
 use Rattle.path_pool.specs.Region.{blank, cell_at, list_of, walk, IsLive, is_live, is_above, cells_above, live_count, IsLinked, IsRegion, SameCells}
 use Rattle.path_pool.proofs.RegionLemmas.{live_inside, one_if, not_above, kind_same, lists_same, linked_same}
 

@@ -1,7 +1,7 @@
 -- What one more or one less hold of a cell leaves.
 use Rattle.std.proofs.Common.{◌≡◌, ◌≢◌, ℕ, ◌+◌, ◌<◌, ◌≤◌, ◌&&◌, ltb, eqb, List, length, set, ap, sym, ◌∙◌, subst, arith, length-set, inl, inr}
 use Rattle.std.proofs.lemmas.Bool.{cases_eq, cases_lt, lt-ltb}
-use Rattle.path_pool.specs.declared.cells.Cell.{Cell}
+use Rattle.path_pool.specs.declared.pool.Cell.{Cell}
 use Rattle.path_pool.specs.Region.{cell_at, list_of, IsLive, is_live, is_above, cells_above, live_count, IsRegion, GainsHold}
 use Rattle.path_pool.proofs.RegionLemmas.{one_if, count-set, at_same, at_other, live_inside, SameKind, kind_same, lists_same, linked_same}
 

@@ -1,4 +1,3 @@
-pub mod ColumnLemmas
 pub mod RegionLemmas
 pub mod HoldLemmas
 pub mod ConsLemmas

@@ -1,11 +1,11 @@
 -- What a write to one cell does to the lists, the holds and the soundness of a region.
-use Rattle.std.proofs.Common.{◌≡◌, ◌≢◌, ℕ, zero, suc, ◌+◌, ◌-◌, ◌<◌, ◌≤◌, Bool, true, false, ◌&&◌, ltb, leb, eqb, cond, List, [], ◌∷◌, length, set, refl, ap, sym, ◌∙◌, subst, arith, length-set, get_or-set_same, get_or-set_other}
+use Rattle.std.proofs.Common.{◌≡◌, ◌≢◌, ℕ, zero, suc, ◌+◌, ◌-◌, ◌<◌, ◌≤◌, Bool, true, false, ◌&&◌, ltb, leb, eqb, cond, List, [], ◌∷◌, length, get_or, set, refl, ap, sym, ◌∙◌, subst, arith, length-set, get_or-set_same, get_or-set_other}
 use Rattle.std.specs.List.{count_by}
 use Rattle.std.proofs.lemmas.List.Sums.{sum_by-set, sum_by-cons, get_or-le-sum_by, sum_by-le-sum_by}
 use Rattle.std.proofs.lemmas.Bool.{cases_eq, cases_lt, lt-ltb, le-ltb, eq-eqb, ltb-true, eqb-true, and_parts, false_from_ne_true, false≢true, both_ways, and_from, and_right, le-leb, lt-leb, leb-true}
-use Rattle.std.proofs.lemmas.List.{get_or_past}
+use Rattle.std.proofs.lemmas.List.{get_or_past, get_or_default}
 use Rattle.std.proofs.Common.{inl, inr}
-use Rattle.path_pool.specs.declared.cells.Cell.{Cell}
+use Rattle.path_pool.specs.declared.pool.Cell.{Cell}
 use Rattle.path_pool.specs.Region.{blank, cell_at, walk, list_of, IsLive, is_live, is_above, cells_above, live_count, IsLinked, IsRegion, CanFollow}
 
 pub length-walk : (cells : List Cell) (n i : ℕ) → length (walk cells n i) ≡ n
@@ -152,6 +152,10 @@ some_cons p x xs false e h rest =
 pub count_some : (p : Cell → Bool) (xs : List Cell) → 0 < count_by p xs → (j : ℕ) × (j < length xs) × (p (cell_at xs j) ≡ true)
 count_some p [] h = absurd (omega arith)
 count_some p (x ∷ xs) h = some_cons p x xs (p x) refl h (count_some p xs)
+
+-- what a read gave is the cell
+pub cell_read : (xs : List Cell) (i : ℕ) (v : Cell) → i < length xs → v ≡ get_or xs i v → v ≡ cell_at xs i
+cell_read xs i v l e = e ∙ get_or_default xs i v blank l
 
 pub zero_or : (n : ℕ) → (0 < n → ⊥) → n ≡ 0
 zero_or n h = elim (cases_lt 0 n) [ inl l ↦ absurd (h l) | inr g ↦ omega (arith, g) ]

@@ -1,7 +1,7 @@
 -- What one step of a release leaves.
 use Rattle.std.proofs.Common.{◌≡◌, ◌≢◌, ℕ, ◌+◌, ◌<◌, ◌≤◌, Bool, true, false, ◌&&◌, ltb, eqb, List, length, set, refl, ap, sym, ◌∙◌, subst, arith, length-set, inl, inr}
 use Rattle.std.proofs.lemmas.Bool.{cases_eq, lt-ltb, eq-eqb, ne_eqb, ltb-true, false≢true}
-use Rattle.path_pool.specs.declared.cells.Cell.{Cell}
+use Rattle.path_pool.specs.declared.pool.Cell.{Cell}
 use Rattle.path_pool.specs.Region.{cell_at, list_of, IsLive, is_above, cells_above, holds_of, IsRegion, LosesHold}
 use Rattle.path_pool.proofs.RegionLemmas.{at_same, at_other, live_inside, one_if, drop_above, drop_lists}
 use Rattle.path_pool.proofs.HoldLemmas.{rehold_kind, rehold_above, rehold_at, rehold_lists}

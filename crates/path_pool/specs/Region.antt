@@ -1,7 +1,7 @@
 -- A region of cells: the path of a cell, who needs a cell, and when a region is sound.
 -- Paths that share their ends are the nodes of a forest whose edges point towards the root.
 use Rattle.std.specs.Prelude.{◌≡◌, ◌≢◌, ℕ, suc, zero, ◌+◌, ◌-◌, ◌<◌, ◌≤◌, Bool, ◌&&◌, ◌==◌, nat_lt, List, [], ◌∷◌, length, slice_index_or, count_by, Option, None, Some, if◌then◌else◌}
-use Rattle.path_pool.specs.declared.cells.Cell.{Cell}
+use Rattle.path_pool.specs.declared.pool.Cell.{Cell}
 use Rattle.path_pool.specs.declared.path_id.PathId.{PathId}
 
 -- What is read past the last cell: a cell that nothing needs.

@@ -5,7 +5,6 @@
 //! is reserved no call takes memory.
 #![tactic(auto)]
 
-mod cells;
 mod error;
 mod laws;
 mod path_id;

@@ -6,19 +6,32 @@ ghost use Rattle.std.specs.Prelude.{◌≡◌, ◌≢◌, ℕ, ◌+◌, ◌<◌,
 
 mod reads;
 
-use crate::cells::{Cell, Cells};
 use crate::{PathId, PoolError};
 use net_names::Asn;
 use std::alloc::{AllocError, Global};
 
+/// One AS of a path, and where the rest of the path stands. A cell that is not live belongs to no
+/// path: its tail is the next such cell.
+#[derive(Clone, Copy)]
+pub struct Cell {
+    head: Asn,
+    tail: u32,
+    /// How many cells hang together from here on.
+    len: u32,
+    /// The outside holds and the live cells whose tail this is.
+    count: u32,
+    /// The last AS of the path.
+    last: Asn,
+}
+
 /// A region of cells. A live cell stands for the path of its AS and of the cells below it.
 #[derive(Drop)]
 pub struct PathPool {
-    cells: Cells,
+    cells: Vec<Cell>,
     free: u32,
     spare: usize,
     limit: usize,
-    ghost region: { IsRegion cells free spare limit },
+    ghost region: { IsRegion cells.items free spare limit },
 }
 
 impl PathPool {
@@ -34,7 +47,7 @@ impl PathPool {
         ensures limit { limit_of result ≡ limit }
     {
         PathPool {
-            cells: Cells::new(alloc),
+            cells: Vec::new(alloc),
             free: 0,
             spare: 0,
             limit,
@@ -97,7 +110,7 @@ impl PathPool {
         ensures spare { spare_of self.new + 1 ≡ spare_of self.old }
         ensures limit { limit_of self.new ≡ limit_of self.old }
     {
-        let cell = self.cells.at(rest.0);
+        let cell = self.cells[rest.0 as usize];
         self.take_cell(head, rest.0, cell.len + 1, cell.last)
     }
 
@@ -147,7 +160,7 @@ impl PathPool {
         let mut at = id.0;
         let mut more = true;
         'cells: while more {
-            let cell = self.cells.at(at);
+            let cell = self.cells[at as usize];
             if cell.count > 1 {
                 self.set_count(PathId(at), cell.count - 1);
                 more = false;
@@ -170,7 +183,7 @@ impl PathPool {
         ensures spare { spare_of self.new + 1 ≡ spare_of self.old }
         ensures limit { limit_of self.new ≡ limit_of self.old }
     {
-        let cell = self.cells.at(tail.0);
+        let cell = self.cells[tail.0 as usize];
         self.set_count(tail, cell.count + 1);
         self.take_cell(head, tail.0, cell.len + 1, cell.last)
     }
@@ -179,68 +192,63 @@ impl PathPool {
     fn set_count(&mut self, id: PathId, count: u32)
         requires live { IsLive self.old id.0 }
         requires some { 0 < count }
-        requires enough { cells_above self.old.cells id.0 ≤ count }
-        ensures cells { self.new.cells ≡ slice_set self.old.cells id.0 (record (cell_at self.old.cells id.0) { count = count }) }
+        requires enough { cells_above self.old.cells.items id.0 ≤ count }
+        ensures cells { self.new.cells.items ≡ slice_set self.old.cells.items id.0 (record (cell_at self.old.cells.items id.0) { count = count }) }
         ensures free { self.new.free ≡ self.old.free }
         ensures spare { spare_of self.new ≡ spare_of self.old }
         ensures limit { limit_of self.new ≡ limit_of self.old }
     {
-        self.cells.put_count(id.0, count);
+        let cell = &mut self.cells[id.0 as usize];
+        cell.count = count;
     }
 
     // Takes the first free cell for a new path.
     fn take_cell(&mut self, head: Asn, tail: u32, len: u32, last: Asn) -> PathId
         requires spare { 0 < spare_of self.old }
-        requires follows { CanFollow self.old.cells (record { head = head; tail = tail; len = len; count = 1; last = last }) }
+        requires follows { CanFollow self.old.cells.items (record { head = head; tail = tail; len = len; count = 1; last = last }) }
         ensures which { result.0 ≡ self.old.free }
-        ensures cells { self.new.cells ≡ slice_set self.old.cells self.old.free (record { head = head; tail = tail; len = len; count = 1; last = last }) }
+        ensures cells { self.new.cells.items ≡ slice_set self.old.cells.items self.old.free (record { head = head; tail = tail; len = len; count = 1; last = last }) }
         ensures spare { spare_of self.new + 1 ≡ spare_of self.old }
         ensures limit { limit_of self.new ≡ limit_of self.old }
     {
         let at = self.free;
-        self.free = self.cells.at(at).tail;
+        self.free = self.cells[at as usize].tail;
         self.spare -= 1;
-        self.cells.put(
-            at,
-            Cell {
-                head,
-                tail,
-                len,
-                count: 1,
-                last,
-            },
-        );
+        self.cells[at as usize] = Cell {
+            head,
+            tail,
+            len,
+            count: 1,
+            last,
+        };
         PathId(at)
     }
 
     // Puts a cell that nothing needs any more before the free ones.
     fn free_cell(&mut self, id: PathId, head: Asn)
         requires live { IsLive self.old id.0 }
-        requires none { cells_above self.old.cells id.0 ≡ 0 }
-        ensures cells { self.new.cells ≡ slice_set self.old.cells id.0 (record { head = head; tail = self.old.free; len = spare_of self.old + 1; count = 0; last = head }) }
+        requires none { cells_above self.old.cells.items id.0 ≡ 0 }
+        ensures cells { self.new.cells.items ≡ slice_set self.old.cells.items id.0 (record { head = head; tail = self.old.free; len = spare_of self.old + 1; count = 0; last = head }) }
         ensures spare { spare_of self.new ≡ spare_of self.old + 1 }
         ensures limit { limit_of self.new ≡ limit_of self.old }
     {
         let next = self.free;
         self.spare += 1;
-        self.cells.put(
-            id.0,
-            Cell {
-                head,
-                tail: next,
-                len: self.spare as u32,
-                count: 0,
-                last: head,
-            },
-        );
+        self.cells[id.0 as usize] = Cell {
+            head,
+            tail: next,
+            len: self.spare as u32,
+            count: 0,
+            last: head,
+        };
         self.free = id.0;
     }
 
     // One more free cell.
     fn add_cell(&mut self) -> Result<(), AllocError>
-        requires { length self.old.cells < limit_of self.old }
+        requires { length self.old.cells.items < limit_of self.old }
         ensures ok { OnOk result (SamePaths self.old self.new) }
-        ensures err { OnErr result (self.new.cells ≡ self.old.cells) }
+        ensures err { OnErr result (self.new.cells.items ≡ self.old.cells.items) }
         ensures more { OnOk result (spare_of self.new ≡ spare_of self.old + 1) }
         ensures err_spare { OnErr result (spare_of self.new ≡ spare_of self.old) }
         ensures limit { limit_of self.new ≡ limit_of self.old }

@@ -31,7 +31,7 @@ impl PathPool {
         requires { IsLive self.now id.0 }
         ensures { result ≡ count_of self.now id.0 }
     {
-        self.cells.at(id.0).count
+        self.cells[id.0 as usize].count
     }
 
     /// The first AS of the path.
@@ -40,7 +40,7 @@ impl PathPool {
         ensures value { result ≡ head_of self.now id.0 }
         ensures first { result ≡ first_or 0 (list_of self.now id.0) }
     {
-        self.cells.at(id.0).head
+        self.cells[id.0 as usize].head
     }
 
     /// The last AS of the path. Walks along no path.
@@ -48,7 +48,7 @@ impl PathPool {
         requires { IsLive self.now id.0 }
         ensures { result ≡ last_or 0 (list_of self.now id.0) }
     {
-        self.cells.at(id.0).last
+        self.cells[id.0 as usize].last
     }
 
     /// The path after its first AS. There is none where that AS is the only one.
@@ -58,7 +58,7 @@ impl PathPool {
         ensures list { list_of self.now id.0 ≡ head_of self.now id.0 ∷ tail_list self.now result }
         ensures live { IfSome result (λ t. IsLive self.now t.0) }
     {
-        let cell = self.cells.at(id.0);
+        let cell = &self.cells[id.0 as usize];
         if cell.len > 1 {
             Some(PathId(cell.tail))
         } else {
@@ -75,7 +75,7 @@ impl PathPool {
         ensures short { result ≤ live_count self.now }
         ensures fits { result < 4294967295 }
     {
-        self.cells.len_at(id.0)
+        self.cells[id.0 as usize].len
     }
 
     /// Whether the path has the AS. Walks along the path as far as that AS.
@@ -84,9 +84,9 @@ impl PathPool {
         ensures { result ≡ occurs asn (list_of self.now id.0) }
     {
         let mut at = id.0;
-        let mut left = self.cells.len_at(at);
+        let mut left = self.cells[at as usize].len;
         'cells: while left > 0 {
-            let cell = self.cells.at(at);
+            let cell = &self.cells[at as usize];
             if cell.head == asn {
                 return true;
             }
@@ -103,9 +103,9 @@ impl PathPool {
     {
         let mut path = Path::new(alloc);
         let mut at = id.0;
-        let mut left = self.cells.len_at(at);
+        let mut left = self.cells[at as usize].len;
         'cells: while left > 0 {
-            let cell = self.cells.at(at);
+            let cell = &self.cells[at as usize];
             path.push(cell.head)?;
             at = cell.tail;
             left -= 1;

@@ -4,4 +4,4 @@ use Rattle.path_pool.proofs.laws.paths_are_not_empty.Goals as goal
 
 pub returns : goal.returns
 returns c = λ k live.
-    omega (arith, length-list_of c.args.pool.now.cells k, (c.args.pool.now.region.linked k (live_inside c.args.pool.now.cells k live)).some)
+    omega (arith, length-list_of c.args.pool.now.cells.items k, (c.args.pool.now.region.linked k (live_inside c.args.pool.now.cells.items k live)).some)

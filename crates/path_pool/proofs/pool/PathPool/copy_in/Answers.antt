@@ -14,8 +14,8 @@ numbers-preserved c =
     drop-cons xs i h within ∙ ap (λ x. x ∷ drop (suc i) xs) (sym c.index-numbers-left-in-numbers.is) ∙ ap (λ k. h ∷ drop k xs) next in
     record {
       inside = within;
-      made = subst (GainsCells c.args.self.now.cells c.lengthen-path.new.self.cells c.lengthen-path.result.0) (sym whole)
-          (gains_longer c.args.self.now.cells c.numbers.self.cells c.lengthen-path.new.self.cells c.numbers.path.0 c.lengthen-path.result.0 h (drop c.numbers.left xs) c.numbers.invariant.made c.lengthen-path.ensures.made);
+      made = subst (GainsCells c.args.self.now.cells.items c.lengthen-path.new.self.cells.items c.lengthen-path.result.0) (sym whole)
+          (gains_longer c.args.self.now.cells.items c.numbers.self.cells.items c.lengthen-path.new.self.cells.items c.numbers.path.0 c.lengthen-path.result.0 h (drop c.numbers.left xs) c.numbers.invariant.made c.lengthen-path.ensures.made);
       live = omega (arith, c.lengthen-path.ensures.live, c.numbers.invariant.live, c.numbers-test.true);
       spare = omega (arith, c.lengthen-path.ensures.spare, c.numbers.invariant.spare, c.numbers-test.true);
       limit = c.lengthen-path.ensures.limit ∙ c.numbers.invariant.limit;

@@ -5,8 +5,8 @@ use Rattle.path_pool.proofs.pool.PathPool.copy_out.Given as goal
 
 abbrev pub invariant-cells : goal.invariant-cells
 invariant-cells l = record {
-  walking : IsWalking l.self.cells l.left l.at;
-  same : l.path ++ walk l.self.cells l.left l.at ≡ list_of l.self.cells l.fn.id.0;
+  walking : IsWalking l.self.cells.items l.left l.at;
+  same : l.path ++ walk l.self.cells.items l.left l.at ≡ list_of l.self.cells.items l.fn.id.0;
 }
 
 abbrev pub decreases-cells : goal.decreases-cells

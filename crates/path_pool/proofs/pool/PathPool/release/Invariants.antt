@@ -5,10 +5,10 @@ use Rattle.path_pool.proofs.pool.PathPool.release.Given as goal
 
 abbrev pub invariant-cells : goal.invariant-cells
 invariant-cells l = record {
-  releasing : IsReleasing l.fn.self.cells l.self.cells l.fn.id.0 l.at l.more;
+  releasing : IsReleasing l.fn.self.cells.items l.self.cells.items l.fn.id.0 l.at l.more;
   limit : l.self.limit ≡ l.fn.self.limit;
   spare : l.before ≤ l.self.spare;
 }
 
 abbrev pub decreases-cells : goal.decreases-cells
-decreases-cells l = cond l.more (cell_at l.self.cells l.at).len 0
+decreases-cells l = cond l.more (cell_at l.self.cells.items l.at).len 0
