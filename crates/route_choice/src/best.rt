@@ -122,8 +122,7 @@ fn is_better<P: RoutePolicy>(
 }
 
 // Puts the view of what a neighbour holds and exports in place of the best one so far, if it is
-// better. Few of the entries that are looked at come here.
-#[inline(never)]
+// better.
 fn weigh<P: RoutePolicy, V: OriginStates>(
     own: &P,
     sender: &P,
