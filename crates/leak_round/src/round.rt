@@ -4,6 +4,7 @@ ghost use Rattle.std.specs.Prelude.{◌≡◌, ℕ, suc, ◌+◌, ◌-◌, ◌*�
 ghost use Rattle.as_graph.specs.Topology.{what, as_count};
 ghost use Rattle.as_graph.specs.Hierarchy.{HasNoProviderCycle};
 ghost use Rattle.three_pass.specs.Courses.{IsCourse};
+ghost use Rattle.three_pass.specs.Scratches.{IsScratch};
 ghost use Rattle.path_pool.specs.Pool.{holds_of, live_count};
 ghost use Rattle.stability_laws.specs.Stable.{IsStable};
 ghost use Rattle.stability_laws.specs.World.{setting};
@@ -24,13 +25,13 @@ use as_graph::Graph;
 use net_names::{NoMemory, Prefix};
 use path_pool::PathPool;
 use policy_laws::{OriginStates, RoutePolicy};
-use route_choice::{RoundTables, Steps, Table, uses_are_counted};
+use route_choice::{Overlay, RoundTables, Steps, Table, uses_are_counted};
 use stability_laws::{Book, SeedPlan};
 use std::alloc::Global;
 use std::sync::ledger::Ledger;
 use three_pass::{Course, propagate_along};
 
-// The table of a prefix in a round.
+// The table of a prefix in a round. It is made in an overlay for the course.
 fn make_table<P: RoutePolicy, V: OriginStates, L: Ledger>(
     alloc: Global,
     graph: &Graph,
@@ -43,10 +44,12 @@ fn make_table<P: RoutePolicy, V: OriginStates, L: Ledger>(
     round: u32,
     prefix: Prefix,
     pool: &mut PathPool,
+    scratch: &mut Overlay,
     steps: &mut Steps<L>,
 ) -> Result<Table, NoMemory>
     requires no_cycle { HasNoProviderCycle (what graph.now) }
     requires course { IsCourse graph.now course.now }
+    requires scratch { IsScratch course.now scratch.old }
     requires announced { AreAnnounced pool.old plan.now announced.now }
     requires earlier { AreRoundsFull pool.old plan.now earlier.now }
     requires round { round ≡ suc (length earlier.now) }
@@ -60,12 +63,13 @@ fn make_table<P: RoutePolicy, V: OriginStates, L: Ledger>(
     ensures cells { IfOk result (λ t. HasEntries (table_routing pool.new t) (live_count pool.new - live_count pool.old)) }
     ensures keeps { OnOk result (KeepsPaths pool.old pool.new) }
     ensures grows { OnOk result (GrowsBy pool.old pool.new 150000) }
+    ensures scratch { OnOk result (IsScratch course.now scratch.new) }
     ensures small { IfOk result (λ t. (k : ℕ) → table_uses t k ≤ 150000) }
 {
     let _count = graph.as_count();
     let seeds = seeds_with(alloc, plan, announced, earlier, &[], round, prefix)?;
     match propagate_along(
-        alloc, graph, course, book, states, prefix, &seeds, pool, steps,
+        alloc, graph, course, book, states, prefix, &seeds, pool, scratch, steps,
     ) {
         Ok(table) => {
             uses_are_counted(&table);
@@ -75,7 +79,7 @@ fn make_table<P: RoutePolicy, V: OriginStates, L: Ledger>(
     }
 }
 
-// The tables of a round, one for each prefix.
+// The tables of a round, one for each prefix. They are made in an overlay for the course.
 pub fn make_round<P: RoutePolicy, V: OriginStates, L: Ledger>(
     alloc: Global,
     graph: &Graph,
@@ -87,10 +91,12 @@ pub fn make_round<P: RoutePolicy, V: OriginStates, L: Ledger>(
     earlier: &[RoundTables],
     round: u32,
     pool: &mut PathPool,
+    scratch: &mut Overlay,
     steps: &mut Steps<L>,
 ) -> Result<RoundTables, NoMemory>
     requires no_cycle { HasNoProviderCycle (what graph.now) }
     requires course { IsCourse graph.now course.now }
+    requires scratch { IsScratch course.now scratch.old }
     requires few { length (prefixes_of plan.now) ≤ 32 }
     requires announced { AreAnnounced pool.old plan.now announced.now }
     requires earlier { AreRoundsFull pool.old plan.now earlier.now }
@@ -103,13 +109,14 @@ pub fn make_round<P: RoutePolicy, V: OriginStates, L: Ledger>(
     ensures cells { IfOk result (λ t. HasEntries (of_round (round_routing pool.new t)) (live_count pool.new - live_count pool.old)) }
     ensures keeps { OnOk result (KeepsPaths pool.old pool.new) }
     ensures grows { OnOk result (GrowsBy pool.old pool.new (150000 * length (prefixes_of plan.now))) }
+    ensures scratch { OnOk result (IsScratch course.now scratch.new) }
 {
     let mut tables = RoundTables::new(alloc);
     let mut place = 0;
     'prefixes: while let Some(prefix) = plan.prefix_at(place) {
         let table = make_table(
             alloc, graph, course, book, states, plan, announced, earlier, round, prefix, pool,
-            steps,
+            scratch, steps,
         )?;
         tables.push(table)?;
         place += 1;

@@ -6,6 +6,7 @@ ghost use Rattle.as_graph.specs.Topology.{what, as_count};
 ghost use Rattle.as_graph.specs.Hierarchy.{HasNoProviderCycle, IsRank};
 ghost use Rattle.rank_order.specs.Ranks.{rank_at};
 ghost use Rattle.three_pass.specs.Courses.{IsCourse};
+ghost use Rattle.three_pass.specs.Scratches.{IsScratch};
 ghost use Rattle.path_pool.specs.Pool.{holds_of, live_count, limit_of};
 ghost use Rattle.stability_laws.specs.declared.entry.Entry.{Entry as AnEntry};
 ghost use Rattle.stability_laws.specs.World.{setting};
@@ -30,7 +31,7 @@ use net_names::NoMemory;
 use path_pool::PathPool;
 use policy_laws::{OriginStates, RoutePolicy};
 use rank_order::Ranks;
-use route_choice::{RoundTables, SeedIds, Steps};
+use route_choice::{Overlay, RoundTables, SeedIds, Steps};
 use stability_laws::{Book, SeedPlan, one_family};
 use std::alloc::Global;
 use std::sync::ledger::Ledger;
@@ -61,7 +62,7 @@ pub struct Rounds {
     ghost cells: { limit_of pool ≡ 40000000 },
 }
 
-// The tables of the rounds, one after the other.
+// The tables of the rounds, one after the other. They are made in an overlay for the course.
 fn make_rounds<P: RoutePolicy, V: OriginStates, L: Ledger>(
     alloc: Global,
     graph: &Graph,
@@ -72,10 +73,12 @@ fn make_rounds<P: RoutePolicy, V: OriginStates, L: Ledger>(
     announced: &[Announced],
     rounds: u32,
     pool: &mut PathPool,
+    scratch: &mut Overlay,
     steps: &mut Steps<L>,
 ) -> Result<Vec<RoundTables>, NoMemory>
     requires no_cycle { HasNoProviderCycle (what graph.now) }
     requires course { IsCourse graph.now course.now }
+    requires scratch { IsScratch course.now scratch.old }
     requires few { length (prefixes_of plan.now) ≤ 32 }
     requires announced { AreAnnounced pool.old plan.now announced.now }
     requires room { HasRoomFor pool.old (rounds * length (prefixes_of plan.now)) }
@@ -101,6 +104,7 @@ fn make_rounds<P: RoutePolicy, V: OriginStates, L: Ledger>(
             tables.as_slice(),
             past + 1,
             pool,
+            scratch,
             steps,
         )?;
         match tables.push(next) {
@@ -150,8 +154,19 @@ impl Rounds {
         let mut pool = PathPool::new(alloc, MAX_CELLS);
         let announced = announce_all(alloc, &plan, &mut pool)?;
         let course = Course::of(alloc, graph, ranks)?;
+        let mut scratch = course.scratch(alloc)?;
         let tables = make_rounds(
-            alloc, graph, &course, book, states, &plan, &announced, rounds, &mut pool, steps,
+            alloc,
+            graph,
+            &course,
+            book,
+            states,
+            &plan,
+            &announced,
+            rounds,
+            &mut pool,
+            &mut scratch,
+            steps,
         )?;
         Ok(Rounds {
             pool,

@@ -97,13 +97,9 @@ impl Overlay {
         let _ = self.exchange_near(asn, 0, held);
     }
 
-    // Puts a change at an AS, sought first at a place. Returns the entry of the replaced one.
-    pub(crate) fn exchange_near(
-        &mut self,
-        asn: Asn,
-        place: usize,
-        held: Option<Held>,
-    ) -> Option<Held>
+    /// Puts a change at an AS, as `put` does it, sought first at a place, which is a hint. Returns the entry
+    /// of the replaced one.
+    pub fn exchange_near(&mut self, asn: Asn, place: usize, held: Option<Held>) -> Option<Held>
         requires { HasPlace self.old asn }
         ensures old { result ≡ unwrap_or (change_at self.old asn) None }
         ensures this { change_at self.new asn ≡ Some held }

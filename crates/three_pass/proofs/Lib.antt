@@ -12,3 +12,4 @@ pub mod ListLemmas
 pub mod Elements
 pub mod Noted
 pub mod Chains
+pub mod Emptied

@@ -1,6 +1,8 @@
 //! What the passes go along, for every prefix alike: the ASes by rising rank, and the providers of each.
+//! An AS stands at its place in this order, which is near those of its providers, and at its row of the graph.
 
-ghost use Rattle.std.specs.Prelude.{◌≡◌, ℕ, ◌<◌, [], true, length, slice_index, IfOk, OnOk, All, Some, Option};
+ghost use Rattle.std.specs.Prelude.{◌≡◌, ℕ, ◌<◌, [], true, length, slice_index, IfOk, OnOk, All, Some, Option, nat_eq};
+ghost use Rattle.std.specs.List.{IsDistinct};
 ghost use Rattle.net_names.specs.Numbers.{occurs};
 ghost use Rattle.net_names.specs.declared.routes.Rel.{Rel as ARel};
 ghost use Rattle.net_names.specs.declared.routes.Rel.TheVariants.{Provider as AProvider};
@@ -10,21 +12,25 @@ ghost use Rattle.as_graph.specs.Neighbours.{asns};
 ghost use Rattle.rank_order.specs.Ranks.{rank_at};
 ghost use Rattle.three_pass.specs.Courses.{AreAbove, IsCourse};
 ghost use Rattle.three_pass.specs.Lists.{AreProviders};
+ghost use Rattle.three_pass.specs.Scratches.{IsScratch};
 
 use crate::lists::ProviderLists;
 use crate::looks::Looks;
 use as_graph::{Graph, Neighbour};
 use net_names::{Asn, NoMemory, Rel};
 use rank_order::{RankOrder, Ranks, placed_by_rank};
+use route_choice::Overlay;
 use std::alloc::Global;
 
 /// The ASes of a graph by rising rank, for each of them, in this order, its providers, and the ASes of the
-/// rows of the graph. It is the same for all prefixes and rounds.
+/// rows of the graph. It is the same for all prefixes and rounds. Places and rows of ASes are hints.
 #[derive(Drop)]
 pub struct Course {
     pub(crate) order: RankOrder,
     pub(crate) above: ProviderLists,
     pub(crate) rows: Vec<Asn>,
+    // for each row the place of its AS in the order
+    pub(crate) places: Vec<u32>,
 }
 
 // Puts a neighbour behind the list, if it is a provider.
@@ -64,24 +70,32 @@ pub(crate) fn place_at(places: &[u32], index: usize) -> u32 {
 }
 
 // Puts the providers among the neighbours of an AS into an empty list.
-fn put_providers(list: &mut Looks, graph: &Graph, asn: Asn, row: usize) -> Result<(), NoMemory>
+fn put_providers(
+    list: &mut Looks,
+    graph: &Graph,
+    asn: Asn,
+    row: usize,
+    places: &[u32],
+) -> Result<(), NoMemory>
     requires { list.old.neighbours.items ≡ [] }
     ensures { OnOk result (AreProviders (what graph.now) asn list.new.neighbours.items) }
 {
     let neighbours = graph.neighbours_near(asn, row);
-    let places = graph.neighbour_places(row);
+    let rows = graph.neighbour_places(row);
     for (index, neighbour) in neighbours.iter().enumerate() {
-        put_if_provider(list, neighbour, place_at(places, index))?;
+        let place = place_at(places, place_at(rows, index) as usize);
+        put_if_provider(list, neighbour, place)?;
     }
     Ok(())
 }
 
-// The providers of each of these ASes, in their order. The places of their rows are hints.
+// The providers of each of these ASes, in their order.
 fn providers_of(
     alloc: Global,
     graph: &Graph,
     ases: &[Asn],
     rows: &[u32],
+    places: &[u32],
 ) -> Result<ProviderLists, NoMemory>
     ensures { IfOk result (λ l. AreAbove (what graph.now) ases.now l) }
 {
@@ -89,10 +103,24 @@ fn providers_of(
     let mut list = Looks::none(alloc);
     for (place, asn) in ases.iter().enumerate() {
         list.clear();
-        put_providers(&mut list, graph, *asn, place_at(rows, place) as usize)?;
+        let row = place_at(rows, place) as usize;
+        put_providers(&mut list, graph, *asn, row, places)?;
         lists.push(&list)?;
     }
     Ok(lists)
+}
+
+// For each row the place in the order of the AS that has it, where these are the rows in the order.
+fn places_by_row(alloc: Global, count: usize, rows: &[u32]) -> Result<Vec<u32>, NoMemory> {
+    let Ok(mut places) = Vec::from_elem(alloc, 0u32, count) else {
+        return Err(NoMemory);
+    };
+    for (place, row) in rows.iter().enumerate() {
+        if let Some(kept) = places.get_mut(*row as usize) {
+            *kept = u32::try_from(place).unwrap_or(0);
+        }
+    }
+    Ok(places)
 }
 
 // A copy of a list of ASes.
@@ -112,8 +140,24 @@ impl Course {
         ensures { IfOk result (IsCourse graph.now) }
     {
         let order = placed_by_rank(alloc, graph, ranks)?;
-        let above = providers_of(alloc, graph, &order.ases, &order.places)?;
         let rows = copied(alloc, graph.rows())?;
-        Ok(Course { order, above, rows })
+        let places = places_by_row(alloc, rows.len(), &order.places)?;
+        let above = providers_of(alloc, graph, &order.ases, &order.places, &places)?;
+        Ok(Course {
+            order,
+            above,
+            rows,
+            places,
+        })
+    }
+
+    /// An overlay for propagation along the course, which can serve all prefixes one after the other. The
+    /// ASes of the course differ, as those of each course of a graph do. The only refusal is want of memory.
+    pub fn scratch(&self, alloc: Global) -> Result<Overlay, NoMemory>
+        requires { IsDistinct nat_eq self.now.order.ases.items }
+        ensures { IfOk result (IsScratch self.now) }
+    {
+        let overlay = Overlay::blank(alloc, self.order.ases.as_slice(), 1)?;
+        Ok(overlay)
     }
 }

@@ -13,6 +13,7 @@ mod lists;
 mod looks;
 mod named;
 mod passes;
+mod scratch;
 mod stable;
 mod told;
 

@@ -1,4 +1,4 @@
-//! The two passes along a course. The places of rows that it has are hints.
+//! The two passes along a course. The rows and places of ASes are hints.
 
 ghost use Rattle.std.specs.Prelude.{◌≡◌, ◌≢◌, ◌↔◌, ℕ, IsTrue, IsSome, true, false, Some, None, length, slice_index, ◌<◌, ◌≤◌, ◌+◌, Option, All};
 ghost use Rattle.net_names.specs.Numbers.{occurs};
@@ -37,22 +37,15 @@ use stability_laws::Book;
 use std::sync::ledger::Ledger;
 
 // Whether an AS has no seed, and no customer and no peer of it told it that it holds something.
-fn has_none_to_take(told: &Told, named: &AsnSet, asn: Asn, row: usize) -> bool
+fn has_none_to_take(told: &Told, named: &AsnSet, asn: Asn, place: usize) -> bool
     ensures { result ≡ true → (is_among named.now asn ≡ false) × ((b : ℕ) → ¬ IsTold told.now asn b) }
 {
-    told.is_untold(asn, row) && !named.has(asn)
+    told.is_untold(asn, place) && !named.has(asn)
 }
 
 // Puts into the list those that may make the AS at a place of the order an offer: its providers, and who
 // told it that it holds something. The answer is whether all of them are there.
-fn gather(
-    course: &Course,
-    place: usize,
-    told: &Told,
-    asn: Asn,
-    row: usize,
-    looks: &mut Looks,
-) -> bool
+fn gather(course: &Course, place: usize, told: &Told, asn: Asn, looks: &mut Looks) -> bool
     requires { place < count_of course.now.above }
     ensures each { result ≡ true → (w : ℕ → ℕ → Option ARel) → AreTrue w told.now → All (λ x. w asn x.asn ≡ Some x.rel) (list_at course.now.above place) → All (λ x. w asn x.asn ≡ Some x.rel) looks.new.neighbours.items }
     ensures told { result ≡ true → (b : ℕ) → IsTold told.now asn b → occurs b (asns looks.new.neighbours.items) ≡ true }
@@ -60,7 +53,7 @@ fn gather(
 {
     looks.clear();
     looks.put_all(course.above.list(place), course.above.places(place))
-        && told.put_tellers(asn, row, looks)
+        && told.put_tellers(asn, place, looks)
 }
 
 // A step of the AS at a place of the order, as `visit` makes it, that looks only at its providers and at
@@ -97,7 +90,7 @@ fn step<P: RoutePolicy, V: OriginStates, L: Ledger>(
     ensures spent { Spends pool.old pool.new overlay.old overlay.new asn }
     ensures kept { GivesUpNothing overlay.old (routing_of pool.old table.now overlay.old) (routing_of pool.new table.now overlay.new) asn → Keeps pool.old pool.new seeds.now }
 {
-    if told.is_untold(asn, row) {
+    if told.is_untold(asn, place) {
         let above = course.above.list(place);
         let above_places = course.above.places(place);
         return visit_among(
@@ -109,7 +102,7 @@ fn step<P: RoutePolicy, V: OriginStates, L: Ledger>(
             table,
             overlay,
             asn,
-            row,
+            place,
             above,
             above_places,
             may_loop,
@@ -117,11 +110,11 @@ fn step<P: RoutePolicy, V: OriginStates, L: Ledger>(
             steps,
         );
     }
-    if gather(course, place, told, asn, row, looks) {
+    if gather(course, place, told, asn, looks) {
         let neighbours = looks.neighbours.as_slice();
         let places = looks.places.as_slice();
         visit_among(
-            graph, book, states, seeds, pool, table, overlay, asn, row, neighbours, places,
+            graph, book, states, seeds, pool, table, overlay, asn, place, neighbours, places,
             may_loop, part, steps,
         )
     } else {
@@ -166,7 +159,7 @@ fn step_up<P: RoutePolicy, V: OriginStates, L: Ledger>(
 {
     let asn = course.order.ases[place];
     let row = place_at(&course.order.places, place) as usize;
-    if has_none_to_take(told, named, asn, row) {
+    if has_none_to_take(told, named, asn, place) {
         return;
     }
     let may_loop = named.has(asn);
@@ -188,7 +181,7 @@ fn step_up<P: RoutePolicy, V: OriginStates, L: Ledger>(
         Part::Up,
         steps,
     );
-    told.add_holder(graph, asn, row, table, overlay);
+    told.add_holder(graph, asn, row, place, table, overlay);
 }
 
 // Customers' routes go up, and who holds one tells its peers and its providers.
@@ -261,7 +254,7 @@ fn step_down<P: RoutePolicy, V: OriginStates, L: Ledger>(
     ensures spent { Spends pool.old pool.new overlay.old overlay.new asn }
     ensures kept { GivesUpNothing overlay.old (routing_of pool.old table.now overlay.old) (routing_of pool.new table.now overlay.new) asn → Keeps pool.old pool.new seeds.now }
 {
-    if holds(table, overlay, asn, row) {
+    if holds(table, overlay, asn, place) {
         return false;
     }
     let may_loop = named.has(asn);
@@ -309,6 +302,7 @@ pub fn go_down<P: RoutePolicy, V: OriginStates, L: Ledger>(
     requires room { CanGo pool.old seeds.now table.now overlay.old course.now.order.ases.items }
     ensures cost { steps.new ≤ steps.old + length course.now.order.ases.items }
     ensures done { IsStable (setting P.meaning graph.now book.now (V.state_of states.now (prefix_of table.now))) (seeds_of pool.old seeds.now) (routing_of pool.new table.now overlay.new) }
+    ensures room { CanGo pool.new seeds.now table.now overlay.new course.now.order.ases.items }
     ensures spent { HasSpent pool.old pool.new seeds.now table.now overlay.old overlay.new course.now.order.ases.items }
 {
     let mut left = course.order.ases.len();

@@ -26,7 +26,7 @@ pub struct Note {
     to: Asn,
     /// Who told it, and what it is to the other.
     from: Neighbour,
-    /// Where the row of who told it was last found, which is a hint.
+    /// Where who told it was last found, which is a hint.
     place: u32,
     /// How many notes there are up to the one before to the same AS, 0 where there is none.
     before: u32,
@@ -36,28 +36,32 @@ pub struct Note {
 /// be kept, each is as if it were told by all.
 #[derive(Drop)]
 pub struct Told<'a> {
-    rows: &'a [Asn],
-    // for each row, how many notes there are up to the last one to its AS, 0 where there is none
+    order: &'a [Asn],
+    // for each row of the graph the place of its AS in the order, which is a hint
+    places: &'a [u32],
+    // for each place, how many notes there are up to the last one to its AS, 0 where there is none
     last: Vec<u32>,
     notes: Vec<Note>,
     all: bool,
-    ghost apart: { IsDistinct nat_eq rows.now } by { Prim.hlevel props },
-    ghost len: { length last.items ≡ length rows.now },
-    ghost chained: { all ≡ false → IsChained rows.now last.items (tos notes.items) (befores notes.items) },
+    ghost apart: { IsDistinct nat_eq order.now } by { Prim.hlevel props },
+    ghost len: { length last.items ≡ length order.now },
+    ghost chained: { all ≡ false → IsChained order.now last.items (tos notes.items) (befores notes.items) },
 }
 
 impl<'a> Told<'a> {
     ghost use Rattle.three_pass.specs.Told.{IsTold, AreTrue};
 
-    /// Nobody is told anything. These are the rows of the graph.
-    pub fn none(alloc: Global, rows: &'a [Asn]) -> Result<Told<'a>, NoMemory>
-        requires { IsDistinct nat_eq rows.now }
+    /// Nobody is told anything. The ASes stand in this order, and for each row of the graph this is the
+    /// place of its AS.
+    pub fn none(alloc: Global, order: &'a [Asn], places: &'a [u32]) -> Result<Told<'a>, NoMemory>
+        requires { IsDistinct nat_eq order.now }
         ensures none { IfOk result (λ t. (a b : ℕ) → ¬ IsTold t a b) }
         ensures sound { IfOk result (λ t. (w : ℕ → ℕ → Option ARel) → AreTrue w t) }
     {
-        match Vec::from_elem(alloc, 0u32, rows.len()) {
+        match Vec::from_elem(alloc, 0u32, order.len()) {
             Ok(last) => Ok(Told {
-                rows,
+                order,
+                places,
                 last,
                 notes: Vec::new(alloc),
                 all: false,
@@ -66,30 +70,30 @@ impl<'a> Told<'a> {
         }
     }
 
-    /// Whether an AS, whose row is sought at a place, was told nothing for certain.
-    pub fn is_untold(&self, asn: Asn, row: usize) -> bool
+    /// Whether an AS, which is sought at a place, was told nothing for certain.
+    pub fn is_untold(&self, asn: Asn, place: usize) -> bool
         ensures { result ≡ true → (b : ℕ) → ¬ IsTold self.now asn b }
     {
         if self.all {
             return false;
         }
-        if !stands_at(self.rows, row, asn) {
+        if !stands_at(self.order, place, asn) {
             return false;
         }
-        self.last[row] == 0
+        self.last[place] == 0
     }
 
-    // Puts a note, if the row of the AS stands at the place and there is enough memory.
-    fn put(&mut self, to: Asn, row: usize, from: Neighbour, place: u32) -> bool
+    // Puts a note, if the AS stands at the first place and there is enough memory.
+    fn put(&mut self, to: Asn, at: usize, from: Neighbour, place: u32) -> bool
         requires { self.old.all ≡ false }
         ensures this { result ≡ true → IsTold self.new to from.asn }
         ensures others { (a b : ℕ) → IsTold self.old a b → IsTold self.new a b }
         ensures sound { (w : ℕ → ℕ → Option ARel) → w to from.asn ≡ Some from.rel → AreTrue w self.old → AreTrue w self.new }
     {
-        if !stands_at(self.rows, row, to) {
+        if !stands_at(self.order, at, to) {
             return false;
         }
-        let before = self.last[row];
+        let before = self.last[at];
         let Ok(count) = u32::try_from(self.notes.len() + 1) else {
             return false;
         };
@@ -100,15 +104,15 @@ impl<'a> Told<'a> {
             before,
         }) {
             Ok(()) => {
-                self.last[row] = count;
+                self.last[at] = count;
                 true
             }
             Err(_) => false,
         }
     }
 
-    // Tells an AS, whose row is sought at a place, that a neighbour of it holds something.
-    fn tell(&mut self, to: Asn, row: usize, from: Neighbour, place: u32)
+    // Tells an AS, which is sought at the first place, that a neighbour of it holds something.
+    fn tell(&mut self, to: Asn, at: usize, from: Neighbour, place: u32)
         ensures this { IsTold self.new to from.asn }
         ensures others { (a b : ℕ) → IsTold self.old a b → IsTold self.new a b }
         ensures sound { (w : ℕ → ℕ → Option ARel) → w to from.asn ≡ Some from.rel → AreTrue w self.old → AreTrue w self.new }
@@ -116,13 +120,13 @@ impl<'a> Told<'a> {
         if self.all {
             return;
         }
-        if !self.put(to, row, from, place) {
+        if !self.put(to, at, from, place) {
             self.all = true;
         }
     }
 
     // Tells a neighbour that is a peer or a provider.
-    fn tell_if_above(&mut self, neighbour: &Neighbour, row: usize, asn: Asn, place: u32)
+    fn tell_if_above(&mut self, neighbour: &Neighbour, at: usize, asn: Asn, place: u32)
         ensures this { neighbour.now.rel ≢ Customer → IsTold self.new neighbour.now.asn asn }
         ensures others { (a b : ℕ) → IsTold self.old a b → IsTold self.new a b }
         ensures sound { (w : ℕ → ℕ → Option ARel) → w neighbour.now.asn asn ≡ Some (converse neighbour.now.rel) → AreTrue w self.old → AreTrue w self.new }
@@ -132,32 +136,33 @@ impl<'a> Told<'a> {
                 asn,
                 rel: neighbour.rel.converse(),
             };
-            self.tell(neighbour.asn, row, from, place);
+            self.tell(neighbour.asn, at, from, place);
         }
     }
 
-    // Tells the peers and the providers of an AS, whose row was last found at a place.
-    fn tell_around(&mut self, graph: &Graph, asn: Asn, place: usize)
+    // Tells the peers and the providers of an AS, which was last found at a row and at a place.
+    fn tell_around(&mut self, graph: &Graph, asn: Asn, row: usize, place: usize)
         ensures around { (n : ℕ) (r : ARel) → what graph.now asn n ≡ Some r → r ≢ Customer → IsTold self.new n asn }
         ensures others { (a b : ℕ) → IsTold self.old a b → IsTold self.new a b }
         ensures sound { AreTrue (what graph.now) self.old → AreTrue (what graph.now) self.new }
     {
         links_are_sound();
-        let neighbours = graph.neighbours_near(asn, place);
-        let places = graph.neighbour_places(place);
+        let neighbours = graph.neighbours_near(asn, row);
+        let rows = graph.neighbour_places(row);
         let here = u32::try_from(place).unwrap_or(0);
         for (index, neighbour) in neighbours.iter().enumerate() {
-            let row = place_at(places, index) as usize;
-            self.tell_if_above(neighbour, row, asn, here);
+            let at = place_at(self.places, place_at(rows, index) as usize) as usize;
+            self.tell_if_above(neighbour, at, asn, here);
         }
     }
 
-    /// Has an AS that holds something, and whose row was last found at a place, tell its peers and its
+    /// Has an AS that holds something, and was last found at a row and at a place, tell its peers and its
     /// providers.
     pub fn add_holder(
         &mut self,
         graph: &Graph,
         asn: Asn,
+        row: usize,
         place: usize,
         table: &Table,
         overlay: &Overlay,
@@ -167,13 +172,13 @@ impl<'a> Told<'a> {
         ensures sound { AreTrue (what graph.now) self.old → AreTrue (what graph.now) self.new }
     {
         if holds(table, overlay, asn, place) {
-            self.tell_around(graph, asn, place);
+            self.tell_around(graph, asn, row, place);
         }
     }
 
-    /// Puts those that told an AS, whose row is sought at a place, behind a list. The answer is whether
-    /// all of them are there.
-    pub fn put_tellers(&self, asn: Asn, row: usize, looks: &mut Looks) -> bool
+    /// Puts those that told an AS, which is sought at a place, behind a list. The answer is whether all of
+    /// them are there.
+    pub fn put_tellers(&self, asn: Asn, at: usize, looks: &mut Looks) -> bool
         ensures told { result ≡ true → (b : ℕ) → IsTold self.now asn b → occurs b (asns looks.new.neighbours.items) ≡ true }
         ensures others { result ≡ true → (b : ℕ) → occurs b (asns looks.old.neighbours.items) ≡ true → occurs b (asns looks.new.neighbours.items) ≡ true }
         ensures each { result ≡ true → (w : ℕ → ℕ → Option ARel) → AreTrue w self.now → All (λ x. w asn x.asn ≡ Some x.rel) looks.old.neighbours.items → All (λ x. w asn x.asn ≡ Some x.rel) looks.new.neighbours.items }
@@ -181,28 +186,28 @@ impl<'a> Told<'a> {
         if self.all {
             return false;
         }
-        if !stands_at(self.rows, row, asn) {
+        if !stands_at(self.order, at, asn) {
             return false;
         }
-        let mut at = self.last[row];
-        'notes: while at > 0 {
-            let place = at as usize - 1;
+        let mut count = self.last[at];
+        'notes: while count > 0 {
+            let place = count as usize - 1;
             let note = self.notes[place];
             if !looks.push(note.from, note.place) {
                 return false;
             }
-            at = note.before;
+            count = note.before;
         }
         true
     }
 }
 
 /// Whether an AS, whose entry was last found at a place, holds something.
-pub fn holds(table: &Table, overlay: &Overlay, asn: Asn, row: usize) -> bool
+pub fn holds(table: &Table, overlay: &Overlay, asn: Asn, place: usize) -> bool
     ensures { result ≡ is_some (joined table.now overlay.now asn) }
 {
-    match overlay.get_near(asn, row) {
+    match overlay.get_near(asn, place) {
         Some(change) => change.is_some(),
-        None => table.get_near(asn, row).is_some(),
+        None => table.get_near(asn, place).is_some(),
     }
 }

@@ -63,6 +63,7 @@ prefixes-preserved g c =
           table.keeps table.grows table.holds table.live (subst F (λ i a. same a i) table.stable) table.cells
           (subst (λ q. PutsTable c.prefixes.tables c.push.new.self q c.in_ok-table.table) table.prefix c.in_ok-push.ensures.ok) c.in_ok-push.ensures.by_prefix table.small;
       within = omega (arith, within);
+      scratch = c.in_ok-table.ensures.scratch;
       cost = cost_more c.args.steps.now c.prefixes.steps c.make_table.new.steps (2 * as_count c.args.graph.now) c.prefixes.place (c.prefixes.place + 1) c.prefixes.invariant.cost c.make_table.ensures.cost (omega arith);
     }
 
@@ -97,5 +98,6 @@ prefixes-init g c =
     record {
       so_far = round_start at c.args.plan.now c.args.round (kept_in c.args.pool.now c.args.earlier.now (length c.args.earlier.now)) c.args.pool.now c.new-tables.result c.new-tables.ensures.none c.new-tables.ensures.uses;
       within = omega arith;
+      scratch = c.requires.scratch;
       cost = omega arith;
     }

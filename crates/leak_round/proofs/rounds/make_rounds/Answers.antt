@@ -52,6 +52,7 @@ loop-past-preserved g c =
       so_far = subst (AreRoundsSoFar at plan first next) (sym items) more;
       count = ap length items ∙ length-append xs (t ∷ []) ∙ ap (λ n. n + 1) old.count;
       grows = grows_on first c.loop-past.pool next (150000 * (c.loop-past.past * size)) (150000 * size) (150000 * ((c.loop-past.past + 1) * size)) old.grows now.grows (omega arith);
+      scratch = c.in_ok-next.ensures.scratch;
       cost = cost_more c.args.steps.now c.loop-past.steps c.make_round.new.steps (2 * as_count c.args.graph.now * size) c.loop-past.past (c.loop-past.past + 1) old.cost c.make_round.ensures.cost (omega arith);
     }
 

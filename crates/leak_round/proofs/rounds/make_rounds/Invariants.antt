@@ -5,6 +5,7 @@ use Rattle.stability_laws.specs.World.{setting}
 use Rattle.stability_laws.specs.Plans.{prefixes_of}
 use Rattle.leak_round.specs.Growth.{GrowsBy}
 use Rattle.leak_round.proofs.AllRounds.{AreRoundsSoFar}
+use Rattle.three_pass.specs.Scratches.{IsScratch}
 use Rattle.leak_round.proofs.rounds.make_rounds.Given as goal
 
 abbrev pub invariant-loop-past : goal.invariant-loop-past
@@ -12,5 +13,6 @@ invariant-loop-past g l = record {
   so_far : AreRoundsSoFar (λ (p : PrefixValue). setting g.P.RoutePolicy.meaning l.graph l.book (g.V.OriginStates.state_of l.states p)) l.plan l.fn.pool l.pool l.tables.items;
   count : length l.tables.items ≡ l.past;
   grows : GrowsBy l.fn.pool l.pool (150000 * (l.past * length (prefixes_of l.plan)));
+  scratch : IsScratch l.course l.scratch;
   cost : l.steps ≤ l.fn.steps + 2 * as_count l.graph * length (prefixes_of l.plan) * l.past;
 }

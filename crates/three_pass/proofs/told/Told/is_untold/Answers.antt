@@ -12,9 +12,9 @@ returns c = λ zero b told. elim told [
   | inl all ↦ (let no = c.if-self.false in cc)
   | inr h ↦
       let notes = c.args.self.now.notes.items in
-      let rows = c.args.self.now.rows.now in
+      let rows = c.args.self.now.order.now in
       let last = c.args.self.now.last.items in
-      let row = c.args.row in
+      let row = c.args.place in
       let chain = c.args.self.now.chained c.if-self.false in
       let stands : c.stands_at.result ≡ true = elim (cases_Bool c.stands_at.result) [ inl t ↦ t | inr f ↦ (let no = c.if-not-stands_at.false in cc) ] in
       let inside = c.stands_at.ensures.inside stands in

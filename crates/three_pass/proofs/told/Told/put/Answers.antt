@@ -10,9 +10,9 @@ use Rattle.three_pass.proofs.told.Told.put.Goals as goal
 
 pub invariant_of-self : goal.invariant_of-self
 invariant_of-self c =
-    let rows = c.args.self.now.rows.now in
+    let rows = c.args.self.now.order.now in
     let last = c.args.self.now.last.items in
-    let row = c.args.row in
+    let row = c.args.at in
     let old = c.args.self.now.notes.items in
     let new = c.push.new.self.items in
     let x : Note = record { to = c.args.to; from = c.args.from; place = c.args.place; before = c.index-before.result.now } in

@@ -15,14 +15,14 @@ use Rattle.three_pass.proofs.told.Told.put_tellers.Goals as goal
 pub notes-init : goal.notes-init
 notes-init c =
     let notes = c.args.self.now.notes.items in
-    let rows = c.args.self.now.rows.now in
+    let rows = c.args.self.now.order.now in
     let last = c.args.self.now.last.items in
-    let row = c.args.row in
+    let row = c.args.at in
     let chain = c.args.self.now.chained c.if-self.false in
     let stands : c.stands_at.result ≡ true = elim (cases_Bool c.stands_at.result) [ inl t ↦ t | inr f ↦ (let no = c.if-not-stands_at.false in cc) ] in
     let inside = c.stands_at.ensures.inside stands in
     let at : slice_index rows row ≡ c.args.asn = c.stands_at.ensures.there stands in
-    let read : c.index-at.result.now ≡ slice_index last row = get_or_read last row c.index-at.result.now (omega (arith, inside, c.args.self.now.len)) c.index-at.ensures 0 in
+    let read : c.index-count.result.now ≡ slice_index last row = get_or_read last row c.index-count.result.now (omega (arith, inside, c.args.self.now.len)) c.index-count.ensures 0 in
     let len = length-map notes (λ (t : Note). t.to) in
     record {
       within = omega (arith, chain.within row inside, read, len);
@@ -35,7 +35,7 @@ notes-init c =
 pub notes-smaller : goal.notes-smaller
 notes-smaller c =
     let notes = c.args.self.now.notes.items in
-    let i = c.notes.at - 1 in
+    let i = c.notes.count - 1 in
     let note = c.index-note.result.now in
     let inside : i < length notes = omega (arith, c.notes.invariant.within, c.notes-test.true) in
     let read : note ≡ slice_index_or notes i note = c.index-note.ensures in
@@ -46,7 +46,7 @@ notes-smaller c =
 pub notes-preserved : goal.notes-preserved
 notes-preserved c =
     let notes = c.args.self.now.notes.items in
-    let i = c.notes.at - 1 in
+    let i = c.notes.count - 1 in
     let note = c.index-note.result.now in
     let test = c.notes-test.true in
     let inside : i < length notes = omega (arith, c.notes.invariant.within, test) in
