@@ -14,16 +14,20 @@ to_some : (o : Option ℕ) (b : ℕ) → hop_to o ≡ To b → o ≡ Some b
 to_some None b e = cc
 to_some (Some c) b e = let k : c ≡ b = cc in ap Some k
 
-pub next_inside : (g : Topology) (plan : Plan) (held : PrefixValue → ℕ → Option Entry) (addr : AddrValue) → StaysInside g plan held → (a b : ℕ) → next_hop plan held addr a ≡ To b → has g b ≡ true
-next_inside g plan held addr inside a b e = by (sent_by plan held addr a) e
+-- a next hop that is an AS is one of those where paths go on
+pub next_there : (there : ℕ → Bool) (plan : Plan) (held : PrefixValue → ℕ → Option Entry) (addr : AddrValue) → ((p : PrefixValue) (a b : ℕ) → announces plan p a ≡ false → second_of (held p a) ≡ Some b → there b ≡ true) → (a b : ℕ) → next_hop plan held addr a ≡ To b → there b ≡ true
+next_there there plan held addr inside a b e = by (sent_by plan held addr a) e
   where
-    at : (p : PrefixValue) (v : Bool) → announces plan p a ≡ v → cond v Here (hop_to (second_of (held p a))) ≡ To b → has g b ≡ true
+    at : (p : PrefixValue) (v : Bool) → announces plan p a ≡ v → cond v Here (hop_to (second_of (held p a))) ≡ To b → there b ≡ true
     at p true q e = cc
     at p false q e = inside p a b q (to_some (second_of (held p a)) b e)
 
-    by : (o : Option PrefixValue) → hop_by plan held a o ≡ To b → has g b ≡ true
+    by : (o : Option PrefixValue) → hop_by plan held a o ≡ To b → there b ≡ true
     by None e = cc
     by (Some p) e = at p (announces plan p a) refl e
+
+pub next_inside : (g : Topology) (plan : Plan) (held : PrefixValue → ℕ → Option Entry) (addr : AddrValue) → StaysInside g plan held → (a b : ℕ) → next_hop plan held addr a ≡ To b → has g b ≡ true
+next_inside g plan held addr inside = next_there (has g) plan held addr inside
 
 -- three facts of a value, if there is one, give a fourth
 pub if_ok : {T E : Type 0} (P Q R S : T → Type 0) (r : Result T E) → ((t : T) → P t → Q t → R t → S t) → IfOk r P → IfOk r Q → IfOk r R → IfOk r S

@@ -16,6 +16,7 @@ pub mod Rows
 pub mod Closing
 pub mod Renewing
 pub mod Inside
+pub mod Indexing
 pub mod Longest
 pub mod Placing
 pub mod Extending

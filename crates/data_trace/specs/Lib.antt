@@ -14,6 +14,7 @@ pub mod Columns
 pub mod Counted
 pub mod Blank
 pub mod Views
+pub mod Indexes
 pub mod Kept
 pub mod Comes
 pub mod Sources

@@ -55,15 +55,13 @@ fn hops_of(
     alloc: Global,
     forwarding: &Forwarding<'_>,
     ases: &AsPlaces,
+    hints: &Hints,
 ) -> Result<Vec<PackedHop>, NoMemory>
     requires among { (a : ℕ) → IsAmong ases.now.ases (next_hop_of forwarding.now.plan.now (round_routing forwarding.now.pool.now forwarding.now.tables.now) forwarding.now.addr a) }
     requires few { length ases.now.ases ≤ 150000 }
     ensures { IfOk result (λ v. AreHops (next_hop_of forwarding.now.plan.now (round_routing forwarding.now.pool.now forwarding.now.tables.now) forwarding.now.addr) ases.now.ases v.items) }
 {
     let numbers = ases.as_slice();
-    let Ok(hints) = Hints::of(alloc, numbers) else {
-        return Err(NoMemory);
-    };
     let Ok(mut hops) = Vec::with_capacity(alloc, numbers.len()) else {
         return Err(NoMemory);
     };
@@ -78,7 +76,8 @@ fn hops_of(
     Ok(hops)
 }
 
-/// The next hop of each place, in the round of the tables and to the address.
+/// The next hop of each place, in the round of the tables and to the address. The hints are those of
+/// the ASes.
 pub fn next_hops(
     alloc: Global,
     tables: &RoundTables,
@@ -86,6 +85,7 @@ pub fn next_hops(
     plan: &SeedPlan,
     addr: Addr,
     ases: &AsPlaces,
+    hints: &Hints,
 ) -> Result<Vec<PackedHop>, NoMemory>
     requires live { AreAllLive pool.now tables.now }
     requires among { (a : ℕ) → IsAmong ases.now.ases (next_hop_of plan.now (round_routing pool.now tables.now) addr a) }
@@ -93,7 +93,7 @@ pub fn next_hops(
     ensures { IfOk result (λ v. AreHops (next_hop_of plan.now (round_routing pool.now tables.now) addr) ases.now.ases v.items) }
 {
     let forwarding = Forwarding::new(alloc, tables, pool, plan, addr)?;
-    hops_of(alloc, &forwarding, ases)
+    hops_of(alloc, &forwarding, ases, hints)
 }
 
 // Whether no neighbour is a customer.

@@ -14,6 +14,7 @@ mod forwarding;
 mod growing;
 mod hints;
 mod hops;
+mod index;
 mod keeping;
 mod kinds;
 mod laws;
@@ -30,6 +31,7 @@ mod walks;
 mod watch;
 
 pub use hops::next_hop;
+pub use index::WatchIndex;
 pub use kinds::{End, Hop, Trace, Which};
 pub use laws::{longest_is_sent, one_trace, rounds_stay_inside};
 pub use tracing::trace;

@@ -3,7 +3,7 @@ ghost use Rattle.std.specs.Prelude.{◌≡◌, ℕ, ◌+◌, ◌<◌, ◌≤◌,
 ghost use Rattle.std.specs.List.{IsDistinct};
 ghost use Rattle.std.proofs.Props.{props};
 ghost use Rattle.net_names.specs.Numbers.{occurs};
-ghost use Rattle.as_graph.specs.Topology.{as_count};
+ghost use Rattle.as_graph.specs.Topology.{Topology, as_count};
 ghost use Rattle.route_choice.specs.RoundTables.{round_routing, AreAllLive};
 ghost use Rattle.stability_laws.specs.Book.{policy_at};
 ghost use Rattle.data_trace.specs.Hops.{next_hop as next_hop_of};
@@ -19,9 +19,10 @@ ghost use Rattle.data_trace.specs.Kept.{KeepsHops, KeepsGroups};
 ghost use Rattle.data_trace.specs.Comes.{Comes};
 
 use crate::blank::Blank;
-use crate::columns::{ases_of, groups_of, is_here, next_hops};
+use crate::columns::{is_here, next_hops};
 use crate::counting::end_told;
 use crate::growing::reserve_all;
+use crate::index::WatchIndex;
 use crate::keeping::Lists;
 use crate::lists::put_last;
 use crate::packed::{PackedHop, PackedMark, mark_in};
@@ -78,6 +79,7 @@ pub struct Watch {
 
 impl Watch {
     ghost use Rattle.data_trace.specs.Views.{rows_of, addr_of, spare_of, SameColumns};
+    ghost use Rattle.data_trace.specs.Indexes.{IsIndexOf, StaysAmong};
 
     /// The next hops, ends and groups of all ASes of the graph, in the round of the tables and for the
     /// address. The label of an AS is that of its policy.
@@ -99,10 +101,34 @@ impl Watch {
         ensures rows { IfOk result (λ w. AreRows graph.now (next_hop_of plan.now (round_routing pool.now tables.now) addr) (λ a. P.label_of (policy_at book.now a)) (rows_of w)) }
         ensures addr { IfOk result (λ w. addr_of w ≡ addr) }
     {
-        let ases = ases_of(alloc, graph)?;
-        let next = next_hops(alloc, tables, pool, plan, addr, &ases)?;
-        let groups = groups_of(alloc, graph, book, ases.as_slice())?;
-        Watch::over(alloc, addr, ases, next, groups)
+        let index = WatchIndex::of(alloc, graph, book)?;
+        Watch::by_index(alloc, &index, tables, pool, plan, addr)
+    }
+
+    /// The watch that [`build`](Watch::build) makes of the graph and the book whose index is given. Who
+    /// makes several watches of them makes the index once.
+    ///
+    /// It wants of the tables what `build` wants. It takes time by the number of the ASes, times the
+    /// number of prefixes that hold the address. Its only refusal is want of memory.
+    pub fn by_index(
+        alloc: Global,
+        index: &WatchIndex,
+        tables: &RoundTables,
+        pool: &PathPool,
+        plan: &SeedPlan,
+        addr: Addr,
+    ) -> Result<Watch, NoMemory>
+        requires live { AreAllLive pool.now tables.now }
+        requires inside { StaysAmong index.now plan.now (round_routing pool.now tables.now) }
+        ensures rows { IfOk result (λ w. (g : Topology) (label : ℕ → ℕ) → IsIndexOf g label index.now → AreRows g (next_hop_of plan.now (round_routing pool.now tables.now) addr) label (rows_of w)) }
+        ensures addr { IfOk result (λ w. addr_of w ≡ addr) }
+    {
+        let next = next_hops(alloc, tables, pool, plan, addr, &index.ases, &index.hints)?;
+        let ases = AsPlaces::of(alloc, index.ases.as_slice())?;
+        match Vec::from_slice(alloc, index.groups.as_slice()) {
+            Ok(groups) => Watch::over(alloc, addr, ases, next, groups),
+            Err(_) => Err(NoMemory),
+        }
     }
 
     // A watch of these ASes, next hops and groups.

@@ -10,8 +10,8 @@ use Rattle.data_trace.specs.Columns.{named, name_at}
 use Rattle.data_trace.proofs.Naming.{within_push, follows_push}
 use Rattle.data_trace.proofs.columns.hops_of.Goals as goal
 
-pub of-requires-in-loop-place : goal.of-requires-in-loop-place
-of-requires-in-loop-place c = λ y e. omega (arith, c.place_of-placed.ensures.within y e, c.requires.few)
+pub of-requires : goal.of-requires
+of-requires c = λ y e. omega (arith, c.place_of-placed.ensures.within y e, c.requires.few)
 
 pub loop-place-preserved : goal.loop-place-preserved
 loop-place-preserved c =
