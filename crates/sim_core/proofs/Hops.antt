@@ -1,5 +1,5 @@
 -- Traces and watches over tables are those of what the tables stand for.
-use Rattle.std.proofs.Common.{◌≡◌, ℕ, suc, ◌<◌, true, is_some, List, Option, Some, None, Result, Ok, Err, IfOk, refl, sym, ap, subst, ◌∙◌}
+use Rattle.std.proofs.Common.{◌≡◌, ℕ, suc, ◌<◌, Bool, true, false, IsTrue, is_some, List, Option, Some, None, Result, Ok, Err, IfOk, refl, sym, ap, subst, ◌∙◌}
 use Rattle.as_graph.specs.Topology.{Topology, has}
 use Rattle.net_names.specs.Addresses.{AddrValue}
 use Rattle.net_names.specs.Prefixes.{PrefixValue}
@@ -36,14 +36,19 @@ pub same_rows : (watch : Watch) (g : Topology) (label_of : ℕ → ℕ) (plan ot
 same_rows watch g label_of plan other held now addr same each h =
     subst (λ (s : Plan × (PrefixValue → ℕ → Option Entry)). AreRows g (next_hop s.0 s.1 addr) label_of (rows_of watch)) (λ i. (same i, λ p b. each p b i)) h
 
--- a prefix without a table has no entries
+-- a prefix without a table has no entries, so that the entries of tables go on to ASes that are there where those of the plan's prefixes do
+pub tables_go_on : (there : ℕ → Bool) (pool : PathPool) (tables : RoundTables) (plan other : Plan) (now : PrefixValue → ℕ → Option Entry) → plan ≡ other → ((p : PrefixValue) (b : ℕ) → round_routing pool tables p b ≡ now p b) → ((p : PrefixValue) → is_some (table_at tables p) ≡ has_prefix other p)
+    → ((p : PrefixValue) (a b : ℕ) → IsTrue (has_prefix other p) → announces other p a ≡ false → second_of (now p a) ≡ Some b → there b ≡ true)
+    → (p : PrefixValue) (a b : ℕ) → announces plan p a ≡ false → second_of (round_routing pool tables p a) ≡ Some b → there b ≡ true
+tables_go_on there pool tables plan other now same each full go_on p a b free second = by (table_at tables p) refl
+  where
+    by : (t : Option Table) → table_at tables p ≡ t → there b ≡ true
+    by (Some t) is = go_on p a b (sym (full p) ∙ ap is_some is) (ap (λ (x : Plan). announces x p a) (sym same) ∙ free) (ap second_of (sym (each p a)) ∙ second)
+    by None is = absurd (let none : None ≡ Some b = sym (rw is refl) ∙ second in cc)
+
 pub inside_tables : (g : Topology) (pool : PathPool) (tables : RoundTables) (plan other : Plan) (now : PrefixValue → ℕ → Option Entry) → plan ≡ other → ((p : PrefixValue) (b : ℕ) → round_routing pool tables p b ≡ now p b) → ((p : PrefixValue) → is_some (table_at tables p) ≡ has_prefix other p)
     → GoesOnInside g other now → StaysInside g plan (round_routing pool tables)
-inside_tables g pool tables plan other now same each full inside p a b free second = by (table_at tables p) refl
-  where
-    by : (t : Option Table) → table_at tables p ≡ t → has g b ≡ true
-    by (Some t) is = inside p a b (sym (full p) ∙ ap is_some is) (ap (λ (x : Plan). announces x p a) (sym same) ∙ free) (ap second_of (sym (each p a)) ∙ second)
-    by None is = absurd (let none : None ≡ Some b = sym (rw is refl) ∙ second in cc)
+inside_tables g pool tables plan other now same each full inside = tables_go_on (has g) pool tables plan other now same each full inside
 
 -- the paths of a stable family go on inside the graph
 pub goes_on_inside : PathsGoOn kind_policy → (g : Topology) (book : PolicyBook Kind) (payloads : Payloads) (plan : Plan) (rounds : ℕ) (family : ℕ → PrefixValue → ℕ → Option Entry) → IsSound plan → AreRounds (λ p. setting kind_policy g book (state_of payloads p)) plan rounds family

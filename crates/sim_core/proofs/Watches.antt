@@ -256,6 +256,17 @@ one_round_longer addrs past all one are here = record {
   each = λ k x p. items_more (λ place (v : RoundWatches). addrs_in v ≡ addrs) all are.each one here k x p;
 }
 
+-- where no address is watched, there is no watch whose rows could be wrong
+pub none_watched : (g : Topology) (plan : Plan) (held : ℕ → PrefixValue → ℕ → Option Entry) (book : PolicyBook Kind) (rounds : ℕ) (all : List RoundWatches) → HasWatches rounds [] all → AreRoundWatches g plan held book rounds (map seen_in all)
+none_watched g plan held book rounds all has = record {
+  count = length-map all seen_in ∙ has.count;
+  each = λ before seen at place s there.
+      let (one, one_at, seen_is) = got_mapped seen_in all before seen at in
+      let (watch, in_one, s_is) = got_mapped seen_of one.watches.items place s (ap (λ xs. slice_get xs place) seen_is ∙ there) in
+      let none : slice_get [] place ≡ Some (addr_of watch) = ap (λ xs. slice_get xs place) (sym (has.each before one one_at)) ∙ map_at addr_of one.watches.items place watch in_one in
+      cc;
+}
+
 -- watches of the same addresses
 pub has_watches : (rounds : ℕ) (addrs : List AddrValue) (old new : List RoundWatches) → map addrs_in new ≡ map addrs_in old → HasWatches rounds addrs old → HasWatches rounds addrs new
 has_watches rounds addrs old new same has = record {

@@ -12,8 +12,10 @@ use Rattle.stability_laws.specs.Book.{PolicyBook, policy_at}
 use Rattle.stability_laws.specs.Plans.{Plan, announces, has_prefix}
 use Rattle.stability_laws.specs.declared.entry.Entry.{Entry}
 use Rattle.data_trace.specs.Hops.{next_hop, second_of}
+use Rattle.data_trace.specs.Indexes.{has_as}
 use Rattle.data_trace.specs.Views.{addr_of, rows_of}
 use Rattle.data_trace.specs.Watches.{AreRows, Row}
+use Rattle.data_trace.specs.declared.index.WatchIndex.{WatchIndex}
 use Rattle.data_trace.specs.declared.watch.Watch.{Watch}
 use Rattle.sim_core.specs.declared.errors.QueryError.{QueryError}
 use Rattle.sim_core.specs.declared.errors.QueryError.TheVariants as refused
@@ -25,6 +27,10 @@ use Rattle.sim_core.specs.Kept.{Kept}
 -- where an AS does not announce a prefix of the plan, the second AS of its entry's path is an AS of the graph
 abbrev pub GoesOnInside : Topology → Plan → (PrefixValue → ℕ → Option Entry) → Type 0
 GoesOnInside g plan held = (p : PrefixValue) (a b : ℕ) → IsTrue (has_prefix plan p) → announces plan p a ≡ false → second_of (held p a) ≡ Some b → has g b ≡ true
+
+-- the same of an index in place of a graph
+abbrev pub GoesOnAmong : WatchIndex → Plan → (PrefixValue → ℕ → Option Entry) → Type 0
+GoesOnAmong index plan held = (p : PrefixValue) (a b : ℕ) → IsTrue (has_prefix plan p) → announces plan p a ≡ false → second_of (held p a) ≡ Some b → has_as index b ≡ true
 
 -- what contracts see of a watch: its address and its rows
 abbrev pub seen_of : Watch → AddrValue × List Row

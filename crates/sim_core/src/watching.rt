@@ -1,17 +1,21 @@
 //! The watched addresses, and for each round a watch for each of them.
-ghost use Rattle.std.specs.Prelude.{◌≡◌, ◌≢◌, ◌≤◌, IfOk, map, position};
+ghost use Rattle.std.specs.Prelude.{◌≡◌, ◌≢◌, ◌≤◌, [], IfOk, map, position};
 ghost use Rattle.std.specs.List.{AllPairs};
 ghost use Rattle.std.specs.Ordering.{eq_by_cmp};
+ghost use Rattle.as_graph.specs.Topology.{Topology};
+ghost use Rattle.data_trace.specs.Indexes.{IsIndexOf};
 ghost use Rattle.leak_round.specs.Rounds.{kept as kept_rounds, plan_of, round_count};
 ghost use Rattle.roa_table.specs.Sets.{Payloads};
-ghost use Rattle.policy_kinds.specs.Kinds.{kind_policy};
+ghost use Rattle.policy_kinds.specs.Kinds.{kind_policy, label};
 ghost use Rattle.origin_validation.specs.Judging.{state_of};
+ghost use Rattle.policy_kinds.specs.declared.kind.Kind.{Kind as AKind};
+ghost use Rattle.stability_laws.specs.Book.{PolicyBook, policy_at};
 ghost use Rattle.stability_laws.specs.Rounds.{AreRounds};
 ghost use Rattle.stability_laws.specs.World.{setting};
-ghost use Rattle.sim_core.specs.Watching.{AreRoundWatches, AreWatches, GoesOnInside, HasWatches, IsPlaceOrNone, addrs_in, seen_in};
+ghost use Rattle.sim_core.specs.Watching.{AreRoundWatches, AreWatches, GoesOnAmong, HasWatches, IsPlaceOrNone, addrs_in, seen_in};
 
 use as_graph::Graph;
-use data_trace::Watch;
+use data_trace::{Watch, WatchIndex};
 use leak_round::Rounds;
 use net_names::{Addr, NoMemory};
 use policy_kinds::Kind;
@@ -47,19 +51,18 @@ pub fn place_of_addr(addrs: &[Addr], addr: Addr) -> Option<usize>
     place_of(addrs, &addr)
 }
 
-// The watches of a round.
+// The watches of a round, over the graph and the book of the index.
 fn watch_round(
     alloc: Global,
-    graph: &Graph,
+    index: &WatchIndex,
     rounds: &Rounds,
-    book: &Book<Kind>,
     addrs: &[Addr],
     round: u32,
 ) -> Result<RoundWatches, NoMemory>
     requires from { 1 ≤ round }
     requires to { round ≤ round_count rounds.now }
-    requires inside { GoesOnInside graph.now (plan_of rounds.now) (kept_rounds rounds.now round) }
-    ensures rows { IfOk result (λ one. AreWatches graph.now (plan_of rounds.now) (kept_rounds rounds.now round) book.now (seen_in one)) }
+    requires inside { GoesOnAmong index.now (plan_of rounds.now) (kept_rounds rounds.now round) }
+    ensures rows { IfOk result (λ one. (g : Topology) (book : PolicyBook AKind) → IsIndexOf g (λ a. label (policy_at book a)) index.now → AreWatches g (plan_of rounds.now) (kept_rounds rounds.now round) book (seen_in one)) }
     ensures addrs { IfOk result (λ one. addrs_in one ≡ addrs.now) }
 {
     let Some(tables) = rounds.round(round) else {
@@ -68,13 +71,28 @@ fn watch_round(
     let (pool, plan) = (rounds.pool(), rounds.seed_plan());
     let mut watches = Vec::new(alloc);
     for addr in addrs {
-        let watch = Watch::build(alloc, graph, tables, pool, plan, book, *addr)?;
+        let watch = Watch::by_index(alloc, index, tables, pool, plan, *addr)?;
         match watches.push(watch) {
             Ok(()) => {}
             Err(_) => return Err(NoMemory),
         }
     }
     Ok(RoundWatches { watches })
+}
+
+// No watch in each of so many rounds.
+fn watch_none(alloc: Global, count: u32) -> Result<Vec<RoundWatches>, NoMemory>
+    ensures { IfOk result (λ all. HasWatches count [] all.items) }
+{
+    let mut all = Vec::new(alloc);
+    for _past in 0..count {
+        let watches = Vec::new(alloc);
+        match all.push(RoundWatches { watches }) {
+            Ok(()) => {}
+            Err(_) => return Err(NoMemory),
+        }
+    }
+    Ok(all)
 }
 
 /// The watches of all rounds, of which there are so many, for these addresses.
@@ -91,11 +109,15 @@ pub fn watch_rounds(
     ensures rows { IfOk result (λ all. AreRoundWatches graph.now (plan_of rounds.now) (kept_rounds rounds.now) book.now (round_count rounds.now) (map seen_in all.items)) }
     ensures addrs { IfOk result (λ all. HasWatches (round_count rounds.now) addrs.now all.items) }
 {
+    if addrs.is_empty() {
+        return watch_none(alloc, count);
+    }
     paths_go_on::<Kind>();
     plans_are_sound(rounds.seed_plan());
+    let index = WatchIndex::of(alloc, graph, book)?;
     let mut all = Vec::new(alloc);
     for past in 0..count {
-        let one = watch_round(alloc, graph, rounds, book, addrs, past + 1)?;
+        let one = watch_round(alloc, &index, rounds, addrs, past + 1)?;
         match all.push(one) {
             Ok(()) => {}
             Err(_) => return Err(NoMemory),
