@@ -3,6 +3,7 @@ pub mod Traces
 pub mod Steps
 pub mod Best
 pub mod Candidates
+pub mod Announcers
 pub mod Packed
 pub mod Marks
 pub mod Lists

@@ -1,5 +1,6 @@
 //! The best entry of an AS, and the next hop by it.
-ghost use Rattle.std.specs.Prelude.{◌≡◌, slice_get, IfSome};
+ghost use Rattle.std.specs.Prelude.{◌≡◌, false, slice_get, IfSome};
+ghost use Rattle.net_names.specs.Prefixes.{PrefixValue};
 ghost use Rattle.path_pool.specs.Pool.{IsLive, list_of};
 
 use crate::Hop;
@@ -41,22 +42,42 @@ impl Best {
 impl Best {
     ghost use Rattle.data_trace.specs.Best.{hop_of};
 
-    /// Where an AS sends a packet by its best entry.
-    pub fn hop(pool: &PathPool, plan: &SeedPlan, asn: Asn, best: Option<Best>) -> Hop
-        requires { IfSome best (λ b. IsLive pool.now b.held.path.0) }
+    /// Where an AS sends a packet by its best entry. Only where it announces no prefix, `may_announce`
+    /// may be false, and then the plan is not searched.
+    pub fn hop(
+        pool: &PathPool,
+        plan: &SeedPlan,
+        asn: Asn,
+        may_announce: bool,
+        best: Option<Best>,
+    ) -> Hop
+        requires live { IfSome best (λ b. IsLive pool.now b.held.path.0) }
+        requires may { may_announce ≡ false → (p : PrefixValue) → announces plan.now p asn ≡ false }
         ensures { result ≡ hop_of pool.now plan.now asn best }
     {
         let Some(b) = best else {
             return Hop::NoRoute;
         };
-        if plan.announces(b.prefix, asn) {
+        if is_announced(plan, b.prefix, asn, may_announce) {
             return Hop::Here;
         }
         second(pool, b.held.path)
     }
 }
 
+ghost use Rattle.stability_laws.specs.Plans.{announces};
 ghost use Rattle.data_trace.specs.Hops.{hop_to};
+
+// Whether the AS announces the prefix. The plan is not searched where it announces none.
+fn is_announced(plan: &SeedPlan, prefix: Prefix, asn: Asn, may_announce: bool) -> bool
+    requires { may_announce ≡ false → (p : PrefixValue) → announces plan.now p asn ≡ false }
+    ensures { result ≡ announces plan.now prefix asn }
+{
+    if !may_announce {
+        return false;
+    }
+    plan.announces(prefix, asn)
+}
 
 // To the second AS of a path, if there is one.
 fn second(pool: &PathPool, path: PathId) -> Hop

@@ -5,8 +5,10 @@ ghost use Rattle.data_trace.specs.Hops.{next_hop as next_hop_of};
 ghost use Rattle.data_trace.specs.Best.{better_of, best_in, holding};
 ghost use Rattle.route_choice.specs.Tables.{held_at};
 ghost use Rattle.data_trace.specs.Candidates.{best_among};
+ghost use Rattle.data_trace.specs.Announcers.{AreAnnouncers};
 
 use crate::Hop;
+use crate::announcers::Announcers;
 use crate::best::Best;
 use crate::candidate::Candidate;
 use net_names::{Addr, Asn, NoMemory, Prefix, holds};
@@ -23,8 +25,10 @@ pub struct Forwarding<'a> {
     plan: &'a SeedPlan,
     addr: Addr,
     candidates: Vec<Candidate<'a>>,
+    announcers: Announcers,
     ghost live: { AreAllLive pool.now tables.now },
     ghost best: { (a : ℕ) → best_among candidates.items a ≡ best_in tables.now a (holding plan.now addr) },
+    ghost announcing: { AreAnnouncers announcers plan.now },
 }
 
 // Puts a prefix with its table, if it has one, at the end.
@@ -89,12 +93,14 @@ impl<'a> Forwarding<'a> {
         ensures addr { IfOk result (λ f. f.addr ≡ addr) }
     {
         let candidates = candidates_of(alloc, tables, plan, addr)?;
+        let announcers = Announcers::of(alloc, plan)?;
         Ok(Forwarding {
             tables,
             pool,
             plan,
             addr,
             candidates,
+            announcers,
         })
     }
 
@@ -106,6 +112,7 @@ impl<'a> Forwarding<'a> {
             self.pool,
             self.plan,
             asn,
+            self.announcers.may(asn),
             best_at(self.candidates.as_slice(), asn, place),
         )
     }

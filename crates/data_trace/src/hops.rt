@@ -42,5 +42,5 @@ pub fn next_hop(tables: &RoundTables, pool: &PathPool, plan: &SeedPlan, asn: Asn
     requires { AreAllLive pool.now tables.now }
     ensures { result ≡ next_hop_of plan.now (round_routing pool.now tables.now) addr asn }
 {
-    Best::hop(pool, plan, asn, best_of_plan(tables, plan, asn, addr))
+    Best::hop(pool, plan, asn, true, best_of_plan(tables, plan, asn, addr))
 }

@@ -4,6 +4,7 @@
 //! counts them by group.
 #![tactic(auto)]
 
+mod announcers;
 mod best;
 mod blank;
 mod candidate;

@@ -1,4 +1,5 @@
-use Rattle.std.proofs.Common.{◌≡◌, Option, sym, ◌∙◌, ap, subst}
+use Rattle.std.proofs.Common.{◌≡◌, Option, sym, ◌∙◌, ap, subst, true≢false}
+use Rattle.std.proofs.lemmas.Bool.{false_from_ne_true}
 use Rattle.std.specs.Prelude.{IfSome}
 use Rattle.path_pool.specs.Pool.{IsLive}
 use Rattle.data_trace.specs.declared.best.Best.{Best}
@@ -7,8 +8,11 @@ use Rattle.data_trace.specs.Candidates.{best_among}
 use Rattle.data_trace.proofs.Prefixes.{next_hop_is, best_live}
 use Rattle.data_trace.proofs.forwarding.Forwarding.next.Goals as goal
 
-pub hop-requires : goal.hop-requires
-hop-requires c =
+pub hop-requires-clause-may : goal.hop-requires-clause-may
+hop-requires-clause-may c = λ f p. false_from_ne_true _ (λ t. true≢false (sym (c.args.self.now.announcing p c.args.asn t) ∙ sym c.may.ensures ∙ f))
+
+pub hop-requires-clause-live : goal.hop-requires-clause-live
+hop-requires-clause-live c =
     let f = c.args.self.now in
     let e : c.best_at.result ≡ best_in f.tables.now c.args.asn (holding f.plan.now f.addr) = c.best_at.ensures ∙ ap (λ xs. best_among xs c.args.asn) c.as_slice.ensures.value ∙ f.best c.args.asn in
     subst (λ (o : Option Best). IfSome o (λ b. IsLive f.pool.now b.held.path.0)) (sym e) (best_live f.pool.now f.tables.now c.args.asn f.plan.now f.addr f.live)
