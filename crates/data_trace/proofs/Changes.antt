@@ -1,7 +1,8 @@
 -- What a change at one place does to the sums.
 use Rattle.std.proofs.Common.{◌≡◌, ◌≢◌, ⊎_elim, ℕ, zero, suc, ◌+◌, ◌<◌, ◌≤◌, Bool, true, false, ◌&&◌, Option, Some, None, List, length, set, refl, sym, ◌∙◌, ap, cond, arith}
-use Rattle.std.specs.Prelude.{option_map}
-use Rattle.std.proofs.lemmas.Bool.{cases_eq, cases_lt}
+use Rattle.std.specs.Prelude.{option_map, nat_eq}
+use Rattle.std.specs.List.{list_any}
+use Rattle.std.proofs.lemmas.Bool.{cases_Bool, cases_eq, cases_lt}
 use Rattle.std.proofs.lemmas.List.{length-set, get_or-set_same, get_or-set_other}
 use Rattle.data_trace.specs.declared.kinds.End.{End}
 use Rattle.data_trace.specs.declared.places.PlaceEnd.{PlaceEnd}
@@ -10,7 +11,7 @@ use Rattle.data_trace.specs.declared.places.Mark.{Mark}
 use Rattle.data_trace.specs.declared.places.Mark.TheVariants.{Unknown, Walked, Known}
 use Rattle.data_trace.specs.declared.places.Group.{Group}
 use Rattle.data_trace.specs.declared.sums.Sums.{Sums}
-use Rattle.data_trace.specs.Marks.{mark_of, end_in}
+use Rattle.data_trace.specs.Marks.{mark_of, end_in, IsSettling}
 use Rattle.data_trace.specs.Columns.{named_end, group_at, gone, is_here, is_stub}
 use Rattle.data_trace.specs.Sums.{total}
 use Rattle.data_trace.specs.Counted.{kept_end, adds, adds_at, summed, AreCounted}
@@ -116,14 +117,9 @@ same_counted sums ases marks other groups len same h = record {
   named_by : Option PlaceEnd → Option End
   named_by o = option_map (named_end ases) o
 
--- nothing is counted of places of which no end is known
-pub none_counted : (sums : Sums) (ases : List ℕ) (marks : List Mark) (groups : List Group) → length marks ≡ length ases → length groups ≡ length ases → ((x : ℕ) → mark_of marks x ≡ Unknown) → ((p : Test) → total p sums ≡ 0) → AreCounted sums ases marks groups
-none_counted sums ases marks groups ml gl unknown zero_is = record {
-  marks_len = ml;
-  groups_len = gl;
-  below = λ x y e. let q : Unknown ≡ Known (place_end.At y) = sym (unknown x) ∙ e in cc;
-  each = λ p. zero_is p ∙ sym (nothing (adds_at p ases marks groups) (length ases) (λ x. ap (λ t. adds p (kept_end ases t) (group_at groups x)) (unknown x)));
-} where
-  nothing : (f : ℕ → ℕ) (n : ℕ) → ((x : ℕ) → f x ≡ 0) → summed f n ≡ 0
-  nothing f zero h = refl
-  nothing f (suc n) h = omega (arith, nothing f n h, h n)
+-- ends that are known stay places while a path gets an end
+pub settled_below : (old walked marks : List Mark) (path : List ℕ) (end : PlaceEnd) (n : ℕ) → IsSettling walked marks path end → ((x : ℕ) → end_in (mark_of walked x) ≡ end_in (mark_of old x)) → ((x y : ℕ) → mark_of old x ≡ Known (place_end.At y) → y < n) → ((y : ℕ) → end ≡ place_end.At y → y < n)
+    → (x y : ℕ) → mark_of marks x ≡ Known (place_end.At y) → y < n
+settled_below old walked marks path end n s same below at x y e =
+    ⊎_elim (λ (h : list_any (nat_eq x) path ≡ true). at y (let q : Known end ≡ Known (place_end.At y) = sym (s.done x h) ∙ e in cc))
+    (λ (h : list_any (nat_eq x) path ≡ false). below x y (known_by (mark_of old x) y (sym (same x) ∙ ap end_in (sym (s.rest x h) ∙ e)))) (cases_Bool (list_any (nat_eq x) path))

@@ -2,9 +2,8 @@
 ghost use Rattle.std.specs.Prelude.{◌≡◌, length, IfOk};
 ghost use Rattle.data_trace.specs.Blank.{IsBlank};
 
-use crate::counting::no_sums;
 use crate::packed::PackedMark;
-use crate::places::{Group, Mark};
+use crate::places::Mark;
 use crate::sums::Sums;
 use net_names::Asn;
 use std::alloc::{AllocError, Global};
@@ -19,13 +18,12 @@ pub struct Blank {
 
 impl Blank {
     /// Those of these places.
-    pub fn of(alloc: Global, ases: &[Asn], groups: &[Group]) -> Result<Blank, AllocError>
-        requires { length groups.now ≡ length ases.now }
-        ensures { IfOk result (λ b. IsBlank ases.now groups.now b) }
+    pub fn of(alloc: Global, ases: &[Asn]) -> Result<Blank, AllocError>
+        ensures { IfOk result (λ b. IsBlank ases.now b) }
     {
         let marks = vec![in alloc; PackedMark::of(Mark::Unknown); ases.len()]?;
         let path = Vec::with_capacity(alloc, ases.len())?;
-        let sums = no_sums(alloc, ases, &marks, groups)?;
+        let sums = Sums::with_room(alloc, ases.len())?;
         Ok(Blank { marks, sums, path })
     }
 }

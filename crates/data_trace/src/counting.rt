@@ -12,7 +12,6 @@ use crate::packed::{PackedMark, mark_in, write_mark};
 use crate::places::{Group, Mark, PlaceEnd, Standing};
 use crate::sums::Sums;
 use net_names::Asn;
-use std::alloc::{AllocError, Global};
 
 /// The end that a mark tells, if it tells one, with the AS in place of its place.
 pub fn end_told(ases: &[Asn], mark: Mark) -> Option<End>
@@ -111,18 +110,18 @@ pub fn put_group(
     join(sums, end, groups[place as usize]);
 }
 
-/// The sums of places of which no end is known, with room for all of them.
-pub fn no_sums(
-    alloc: Global,
-    ases: &[Asn],
-    marks: &[PackedMark],
-    groups: &[Group],
-) -> Result<Sums, AllocError>
-    requires unknown { (x : ℕ) → mark_of marks.now x ≡ AMark.Unknown }
+/// Counts all places, of which none is counted yet.
+pub fn count_all(sums: &mut Sums, ases: &[Asn], marks: &[PackedMark], groups: &[Group])
+    requires few { length ases.now < 4294967292 }
     requires marks_len { length marks.now ≡ length ases.now }
     requires groups_len { length groups.now ≡ length ases.now }
-    ensures counted { IfOk result (λ s. AreCounted s ases.now marks.now groups.now) }
-    ensures room { IfOk result (λ s. length ases.now ≤ room_of s) }
+    requires below { (x y : ℕ) → mark_of marks.now x ≡ AMark.Known (APlaceEnd.At y) → y < length ases.now }
+    requires none { (p : AnEnd → Bool → ℕ → Bool) → total p sums.old ≡ 0 }
+    requires room { length ases.now ≤ room_of sums.old }
+    ensures { AreCounted sums.new ases.now marks.now groups.now }
 {
-    Sums::with_room(alloc, ases.len())
+    'places: for place in 0..ases.len() {
+        let end = end_told(ases, mark_in(marks, place as u32));
+        join(sums, end, groups[place]);
+    }
 }

@@ -106,30 +106,40 @@ pub fn settle_each(
     }
 }
 
-/// Finds the ends of all places.
-pub fn settle_all(
-    sums: &mut Sums,
-    ases: &[Asn],
-    hops: &[PackedHop],
-    marks: &mut [PackedMark],
-    groups: &[Group],
-    path: &mut Vec<u32>,
-)
+// Finds the end of `from`, and of all that it passes, of which no sums are kept.
+fn find_end(hops: &[PackedHop], marks: &mut [PackedMark], path: &mut Vec<u32>, from: u32)
     requires within { IsWithin hops.now }
-    requires small { length hops.now ≤ 4294967296 }
+    requires few { length hops.now < 4294967292 }
+    requires len { length marks.old ≡ length hops.now }
+    requires inside { from < length hops.now }
+    requires right { AreRight (next_of hops.now) marks.old }
+    requires below { (x y : ℕ) → mark_of marks.old x ≡ AMark.Known (APlaceEnd.At y) → y < length hops.now }
+    requires room { length hops.now ≤ vec_capacity path.old }
+    ensures settles { Settles (next_of hops.now) marks.old marks.new from }
+    ensures below { (x y : ℕ) → mark_of marks.new x ≡ AMark.Known (APlaceEnd.At y) → y < length hops.now }
+    ensures room { vec_capacity path.old ≤ vec_capacity path.new }
+{
+    path.clear();
+    let end = walk(hops, marks, path, from);
+    'path: for at in path.as_slice() {
+        write_mark(marks, *at, Mark::Known(end));
+    }
+}
+
+/// Finds the ends of all places.
+pub fn find_all(hops: &[PackedHop], marks: &mut [PackedMark], path: &mut Vec<u32>)
+    requires within { IsWithin hops.now }
+    requires few { length hops.now < 4294967292 }
     requires len { length marks.old ≡ length hops.now }
     requires right { AreRight (next_of hops.now) marks.old }
+    requires below { (x y : ℕ) → mark_of marks.old x ≡ AMark.Known (APlaceEnd.At y) → y < length hops.now }
     requires room { length hops.now ≤ vec_capacity path.old }
-    requires few { length ases.now < 4294967292 }
-    requires counted { AreCounted sums.old ases.now marks.old groups.now }
-    requires sums_room { length ases.now ≤ room_of sums.old }
     ensures right { AreRight (next_of hops.now) marks.new }
+    ensures len { length marks.new ≡ length hops.now }
     ensures all_known { (x : ℕ) → x < length hops.now → mark_of marks.new x ≢ AMark.Unknown }
-    ensures counted { AreCounted sums.new ases.now marks.new groups.now }
-    ensures room { vec_capacity path.old ≤ vec_capacity path.new }
-    ensures sums_room { room_of sums.old ≤ room_of sums.new }
+    ensures below { (x y : ℕ) → mark_of marks.new x ≡ AMark.Known (APlaceEnd.At y) → y < length hops.now }
 {
     'places: for from in 0..hops.len() {
-        settle(sums, ases, hops, marks, groups, path, from as u32);
+        find_end(hops, marks, path, from as u32);
     }
 }

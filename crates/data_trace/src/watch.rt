@@ -1,5 +1,5 @@
 //! The ends of all traces of one round and one address.
-ghost use Rattle.std.specs.Prelude.{◌≡◌, ℕ, ◌+◌, ◌<◌, ◌≤◌, [], ◌∷◌, ◌++◌, true, false, length, vec_capacity, nat_eq, IfOk, OnOk, IfSome, IfNone};
+ghost use Rattle.std.specs.Prelude.{◌≡◌, ℕ, ◌+◌, ◌<◌, ◌≤◌, [], ◌∷◌, ◌++◌, Bool, true, false, length, vec_capacity, nat_eq, IfOk, OnOk, IfSome, IfNone};
 ghost use Rattle.std.specs.List.{IsDistinct};
 ghost use Rattle.std.proofs.Props.{props};
 ghost use Rattle.net_names.specs.Numbers.{occurs};
@@ -7,20 +7,21 @@ ghost use Rattle.as_graph.specs.Topology.{Topology, as_count};
 ghost use Rattle.route_choice.specs.RoundTables.{round_routing, AreAllLive};
 ghost use Rattle.stability_laws.specs.Book.{policy_at};
 ghost use Rattle.data_trace.specs.Hops.{next_hop as next_hop_of};
+ghost use Rattle.data_trace.specs.declared.kinds.End.{End as AnEnd};
 ghost use Rattle.data_trace.specs.declared.places.Mark.TheVariants as AMark;
 ghost use Rattle.data_trace.specs.declared.places.PlaceHop.TheVariants as APlaceHop;
 ghost use Rattle.data_trace.specs.Marks.{hop_at, next_of, mark_of, IsWithin, AreEnds};
 ghost use Rattle.data_trace.specs.Keeping.{AreKept};
 ghost use Rattle.data_trace.specs.Watches.{Row, AreRows, IsRowOf, StaysInside, size_of, count_of};
 ghost use Rattle.data_trace.specs.Columns.{here_at, group_at, gone};
-ghost use Rattle.data_trace.specs.Sums.{room_of};
+ghost use Rattle.data_trace.specs.Sums.{room_of, total};
 ghost use Rattle.data_trace.specs.Counted.{AreCounted};
 ghost use Rattle.data_trace.specs.Kept.{KeepsHops, KeepsGroups};
 ghost use Rattle.data_trace.specs.Comes.{Comes};
 
 use crate::blank::Blank;
 use crate::columns::{is_here, next_hops};
-use crate::counting::end_told;
+use crate::counting::{count_all, end_told};
 use crate::growing::reserve_all;
 use crate::index::WatchIndex;
 use crate::keeping::Lists;
@@ -30,7 +31,7 @@ use crate::places::{Group, Mark, PlaceEnd, PlaceHop, Standing};
 use crate::renewal::{regroup, renew_all};
 use crate::source::Source;
 use crate::sums::Sums;
-use crate::walks::settle_all;
+use crate::walks::find_all;
 use crate::{End, Which};
 use as_graph::Graph;
 use as_places::AsPlaces;
@@ -150,7 +151,7 @@ impl Watch {
         ensures groups { IfOk result (λ w. w.groups.items ≡ groups.items) }
         ensures addr { IfOk result (λ w. w.addr ≡ addr) }
     {
-        match Blank::of(alloc, ases.as_slice(), groups.as_slice()) {
+        match Blank::of(alloc, ases.as_slice()) {
             Ok(blank) => {
                 let mut watch = Watch::filled(
                     alloc,
@@ -169,7 +170,7 @@ impl Watch {
         }
     }
 
-    // The watch of these columns, with its ends. It goes along the path.
+    // The watch of these columns, with its ends, which are counted at last. It goes along the path.
     fn filled(
         alloc: Global,
         addr: Addr,
@@ -186,7 +187,9 @@ impl Watch {
         requires within { IsWithin hops.items }
         requires here { (x : ℕ) → x < length ases.ases → here_at groups.items x ≡ true }
         requires unknown { (x : ℕ) → mark_of marks.items x ≡ AMark.Unknown }
-        requires counted { AreCounted sums ases.ases marks.items groups.items }
+        requires marks_len { length marks.items ≡ length ases.ases }
+        requires groups_len { length groups.items ≡ length ases.ases }
+        requires none { (p : AnEnd → Bool → ℕ → Bool) → total p sums ≡ 0 }
         requires sums_room { length ases.ases ≤ room_of sums }
         requires path_room { length ases.ases ≤ vec_capacity path }
         ensures ases { result.ases.ases ≡ ases.ases }
@@ -195,13 +198,12 @@ impl Watch {
         ensures addr { result.addr ≡ addr }
         ensures lists { result.has_lists ≡ false }
     {
-        settle_all(
+        find_all(hops.as_slice(), marks.as_mut_slice(), &mut path);
+        count_all(
             &mut sums,
             ases.as_slice(),
-            hops.as_slice(),
-            marks.as_mut_slice(),
+            marks.as_slice(),
             groups.as_slice(),
-            &mut path,
         );
         Watch {
             alloc,

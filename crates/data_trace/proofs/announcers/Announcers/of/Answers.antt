@@ -1,7 +1,6 @@
-use Rattle.std.proofs.Common.{rules, ◌≡◌, ℕ, ◌<◌, ◌%◌, Bool, true, false, Option, Some, None, is_some, List, length, get_or, refl, sym, ◌∙◌, ap, subst, arith, true≢false}
+use Rattle.std.proofs.Common.{rules, ◌≡◌, ℕ, ◌%◌, true, false, Option, Some, None, is_some, List, length, get_or, refl, sym, ◌∙◌, ap, arith, true≢false}
 use Rattle.std.specs.Vec.{with_items}
 use Rattle.std.proofs.lemmas.List.{with_items_is}
-use Rattle.std.specs.Prelude.{slice_get}
 use Rattle.stability_laws.specs.Plans.{announced_path, announcers_of, IsAnnouncer}
 use Rattle.data_trace.proofs.Placing.{found_at}
 use Rattle.data_trace.proofs.announcers.Announcers.of.Goals as goal
