@@ -1,5 +1,5 @@
 //! The next hops of one round and one address.
-ghost use Rattle.std.specs.Prelude.{◌≡◌, ℕ, OnOk, IfOk, option_and_then, option_copied};
+ghost use Rattle.std.specs.Prelude.{◌≡◌, ℕ, OnOk, IfOk, length, option_and_then, option_copied};
 ghost use Rattle.route_choice.specs.RoundTables.{round_routing, AreAllLive};
 ghost use Rattle.data_trace.specs.Hops.{next_hop as next_hop_of};
 ghost use Rattle.data_trace.specs.Best.{better_of, best_in, holding};
@@ -104,10 +104,23 @@ impl<'a> Forwarding<'a> {
         })
     }
 
+    // Where an AS sends a packet where there is one table.
+    fn next_in_one(&self, asn: Asn, place: usize) -> Hop
+        requires { length self.now.candidates.items ≡ 1 }
+        ensures { result ≡ next_hop_of self.now.plan.now (round_routing self.now.pool.now self.now.tables.now) self.now.addr asn }
+    {
+        let one = &self.candidates[0];
+        let best = Best::better(None, one.prefix, one.table.get_near(asn, place));
+        Best::hop(self.pool, self.plan, asn, self.announcers.may(asn), best)
+    }
+
     /// Where an AS sends a packet, whose entries are sought first at a place.
     pub fn next(&self, asn: Asn, place: usize) -> Hop
         ensures { result ≡ next_hop_of self.now.plan.now (round_routing self.now.pool.now self.now.tables.now) self.now.addr asn }
     {
+        if self.candidates.len() == 1 {
+            return self.next_in_one(asn, place);
+        }
         Best::hop(
             self.pool,
             self.plan,
