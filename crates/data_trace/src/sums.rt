@@ -15,6 +15,24 @@ use std::alloc::{AllocError, Global};
 #[derive(Drop)]
 pub struct Sums {
     cells: Vec<Cell>,
+    // by remainders of keys, where the cell of one of them may stand
+    near: Vec<usize>,
+}
+
+// By how many remainders keys are told apart, while many ASes are counted.
+const NEAR: usize = 1024;
+
+// The remainder of an end and groups.
+fn remainder(end: &End, stub: bool, label: u8) -> usize
+    ensures { result < 1024 }
+{
+    let number = match end {
+        End::At(asn) => asn.get() as usize,
+        End::NoRoute => 1,
+        End::Loop => 2,
+    };
+    let groups = if stub { 512 } else { 0 };
+    (number + groups + 64 * label as usize) % NEAR
 }
 
 // Whether an AS is one of the group.
@@ -75,6 +93,17 @@ fn find(cells: &[Cell], end: &End, stub: bool, label: u8) -> Option<usize>
     None
 }
 
+// The same, sought first at a place.
+fn find_near(cells: &[Cell], near: usize, end: &End, stub: bool, label: u8) -> Option<usize>
+    ensures some { IfSome result (λ i. (i < length cells.now) × ((d : ACell) → counts end.now stub label (slice_index_or cells.now i d) ≡ true)) }
+    ensures none { IfNone result (list_any (counts end.now stub label) cells.now ≡ false) }
+{
+    if near < cells.len() && is_counted(&cells[near], end, stub, label) {
+        return Some(near);
+    }
+    find(cells, end, stub, label)
+}
+
 // The place of a cell that counts no AS, if there is one.
 fn free(cells: &[Cell]) -> Option<usize>
     ensures some { IfSome result (λ i. (i < length cells.now) × ((d : ACell) → (slice_index_or cells.now i d).count ≡ 0)) }
@@ -119,16 +148,18 @@ impl Sums {
     {
         Sums {
             cells: Vec::new(alloc),
+            near: Vec::new(alloc),
         }
     }
 
-    /// The sums of no AS, with room for so many cells.
+    /// The sums of no AS, with room for so many cells, into which many ASes are to be counted.
     pub fn with_room(alloc: Global, cells: usize) -> Result<Sums, AllocError>
         ensures none { IfOk result (λ s. (p : AnEnd → Bool → ℕ → Bool) → total p s ≡ 0) }
         ensures room { IfOk result (λ s. cells ≤ room_of s) }
     {
         let cells = Vec::with_capacity(alloc, cells)?;
-        Ok(Sums { cells })
+        let near = Vec::from_elem(alloc, 0, NEAR)?;
+        Ok(Sums { cells, near })
     }
 
     /// The same sums, with room for no further cell.
@@ -136,7 +167,8 @@ impl Sums {
         ensures { IfOk result (λ s. (p : AnEnd → Bool → ℕ → Bool) → total p s ≡ total p self.now) }
     {
         let cells = Vec::from_slice(alloc, &self.cells)?;
-        Ok(Sums { cells })
+        let near = Vec::new(alloc);
+        Ok(Sums { cells, near })
     }
 
     /// Makes room for so many cells in all.
@@ -170,6 +202,23 @@ impl Sums {
         }
     }
 
+    // Where the cell of this remainder may stand.
+    fn near_at(&self, at: usize) -> usize {
+        match self.near.get(at) {
+            Some(place) => *place,
+            None => 0,
+        }
+    }
+
+    // Keeps where the cell of this remainder stands.
+    fn keep_near(&mut self, at: usize, place: usize)
+        ensures { self.new.cells ≡ self.old.cells }
+    {
+        if let Some(kept) = self.near.get_mut(at) {
+            *kept = place;
+        }
+    }
+
     /// One AS more. It takes no memory.
     pub fn add(&mut self, end: End, stub: bool, label: u8)
         requires room { total (λ e s l. true) self.old < room_of self.old }
@@ -177,8 +226,12 @@ impl Sums {
         ensures added { (p : AnEnd → Bool → ℕ → Bool) → total p self.new ≡ total p self.old + (if p end stub label then 1 else 0) }
         ensures room { room_of self.old ≤ room_of self.new }
     {
-        match find(&self.cells, &end, stub, label) {
-            Some(place) => self.cells[place].count += 1,
+        let at = remainder(&end, stub, label);
+        match find_near(&self.cells, self.near_at(at), &end, stub, label) {
+            Some(place) => {
+                self.keep_near(at, place);
+                self.cells[place].count += 1;
+            }
             None => self.open(end, stub, label),
         }
     }
