@@ -17,10 +17,20 @@ use Rattle.net_names.specs.declared.numbers.NoMemory.{NoMemory}
 use Rattle.sim_core.specs.Edits.{IsEditRefusal, IsReason}
 use Rattle.sim_core.specs.declared.errors.EditError.{EditError}
 use Rattle.sim_core.specs.declared.errors.EditError.TheVariants as refused
+use Rattle.asprop.specs.Streams.{Stream}
+use Rattle.asprop.specs.Task.{Task, first_text}
 use Rattle.asprop.specs.Told.{Answered, AppendsEditReply, AppendsReply, Tells, Told, head}
-use Rattle.asprop.specs.Written.{Answering, WroteAll, WroteWhole, WroteFront}
+use Rattle.asprop.specs.Written.{Answering, Wrote}
 use Rattle.asprop.specs.declared.types.Stop.{Stop}
 use Rattle.asprop.specs.declared.types.Stop.TheVariants as stop
+
+-- the task of these lines in this world
+abbrev pub task_of : Bool → Bool → World → List LineValue → Task
+task_of counts heads w lines = record { world = w; lines = lines; heads = heads; counts = counts }
+
+-- a sink that holds the one text before and the other after, and whose faults rose so
+abbrev pub sink_of : Option (List ℕ) → Option (List ℕ) → Type 0 → Stream
+sink_of old new rose = record { took = λ text. Appends old new text; broke = λ text. rose × AppendsFront old new text }
 
 -- What follows is told of the lines that follow, and so of all.
 pub record SoFar (heads : Bool) (start now : World) (lines : List LineValue) (refused : Bool) (old new : Option (List ℕ)) : Type 0 where
@@ -59,12 +69,10 @@ or_false true = refl
 or_false false = refl
 
 -- nothing follows
-pub ended : (heads : Bool) (start now : World) (lines : List LineValue) (refused : Bool) (old new : Option (List ℕ)) → SoFar heads start now lines refused old new → WroteAll [] heads start lines refused old new
-ended heads start now lines refused old new so = record {
-  text = so.text;
-  told = rw (append-nil lines, append-nil so.text, or_false refused) at (so.told [] [] false (refl, refl));
-  appends = so.appends;
-}
+ended : (heads : Bool) (start now : World) (lines all : List LineValue) (refused : Bool) (old new : Option (List ℕ)) → SoFar heads start now lines refused old new
+    → Wrote (task_of false heads start all) lines refused (λ text. Appends old new text)
+ended heads start now lines all refused old new so =
+    (so.text, rw (append-nil lines, append-nil so.text, or_false refused) at (so.told [] [] false (refl, refl)), so.appends)
 
 -- a front of a front
 pub Appends-front : (a b c : Option (List ℕ)) (x y : List ℕ) → Appends a b x → AppendsFront b c y → AppendsFront a c (x ++ y)
@@ -83,11 +91,14 @@ pub either : (refused first after : Bool) → ((first ≡ true) × (after ≡ tr
 either refused first after (inl h) = or_first refused first after h.0 h.1
 either refused first after (inr h) = or_other refused first after h.0 h.1
 
-pub whole : (heads : Bool) (start now : World) (lines : List LineValue) (i : ℕ) (refused : Bool) (old new : Option (List ℕ)) → SoFar heads start now (take i lines) refused old new → WroteWhole [] heads start lines old new
-whole heads start now lines i refused old new so = inr (record { count = i; refused = refused; wrote = ended heads start now (take i lines) refused old new so })
+pub whole : (heads : Bool) (start now : World) (lines : List LineValue) (i : ℕ) (refused : Bool) (old new : Option (List ℕ)) → SoFar heads start now (take i lines) refused old new
+    → Answering (task_of false heads start lines) (Err stop.Memory) (sink_of old new (Unit {0}))
+whole heads start now lines i refused old new so = inr (i, refused, ended heads start now (take i lines) lines refused old new so)
 
-pub all : (heads : Bool) (start now : World) (lines : List LineValue) (i : ℕ) (refused : Bool) (old new : Option (List ℕ)) → SoFar heads start now (take i lines) refused old new → length lines ≤ i → WroteAll [] heads start lines refused old new
-all heads start now lines i refused old new so h = rw (take_all i lines h) at (ended heads start now (take i lines) refused old new so)
+pub all : (heads : Bool) (start now : World) (lines : List LineValue) (i : ℕ) (refused : Bool) (old new : Option (List ℕ)) → SoFar heads start now (take i lines) refused old new → length lines ≤ i
+    → Answering (task_of false heads start lines) (Ok refused) (sink_of old new (Unit {0}))
+all heads start now lines i refused old new so h =
+    subst (λ (l : List LineValue). Wrote (task_of false heads start lines) l refused (λ text. Appends old new text)) (take_all i lines h) (ended heads start now (take i lines) lines refused old new so)
 
 pub next : (heads : Bool) (start now after : World) (lines : List LineValue) (i : ℕ) (d : LineValue) (refused first : Bool) (old mid new : Option (List ℕ)) (front : List ℕ) → i < length lines
     → SoFar heads start now (take i lines) refused old mid → Answered heads now (get_or lines i d) front first after → Appends mid new front
@@ -96,15 +107,15 @@ next heads start now after lines i d refused first old mid new front l so answer
     rw (take_more lines i d l) (one_more heads start now after (take i lines) (get_or lines i d) refused first old mid new front so answered appends)
 
 -- the answer to one more line was written in part
-pub part : (heads : Bool) (start now after : World) (lines : List LineValue) (i : ℕ) (d : LineValue) (refused first : Bool) (old mid new : Option (List ℕ)) (front : List ℕ) → i < length lines
+pub part : (heads : Bool) (start now after : World) (lines : List LineValue) (i : ℕ) (d : LineValue) (refused first : Bool) (old mid new : Option (List ℕ)) (rose : Type 0) (front : List ℕ) → rose → i < length lines
     → SoFar heads start now (take i lines) refused old mid → Answered heads now (get_or lines i d) front first after → AppendsFront mid new front
-    → WroteFront [] heads start lines old new
-part heads start now after lines i d refused first old mid new front l so answered appends =
+    → Answering (task_of false heads start lines) (Err stop.Write) (sink_of old new rose)
+part heads start now after lines i d refused first old mid new rose front r l so answered appends =
     let told : Told heads start (take (i + 1) lines) (so.text ++ front) (refused || first) =
     rw (take_more lines i d l)
     (rw (append-nil (take i lines ++ get_or lines i d ∷ []), append-nil (so.text ++ front), or_false (refused || first)) at
     (more_told heads start now after (take i lines) (get_or lines i d) refused first so.text front so.told answered [] [] false (refl, refl))) in
-    record { count = i + 1; text = so.text ++ front; refused = refused || first; told = told; appends = Appends-front old mid new so.text front so.appends appends }
+    (i + 1, refused || first, (so.text ++ front, told, (r, Appends-front old mid new so.text front so.appends appends)))
 
 rose_by : (x y : Bool) (a b c m : ℕ) → (x ≡ true → a < m) → (y ≡ false → m ≤ b) → a ≤ b → cond y (b + 1) b ≤ c → cond x (a + 1) a ≤ c
 rose_by true true a b c m low high le h = omega (arith, le, h)
@@ -117,23 +128,17 @@ pub rose_earlier : (a b c : ℕ) → a ≤ b → Rose b c → Rose a c
 rose_earlier a b c le h = rose_by (nat_lt a (2 ^ 64 - 1)) (nat_lt b (2 ^ 64 - 1)) a b c (2 ^ 64 - 1) (ltb-true a (2 ^ 64 - 1)) (ltb-false b (2 ^ 64 - 1)) le h
 
 -- a reply under a head line is an answer
-pub answered : (r : Result Bool NoMemory) (heads : Bool) (w : World) (k : Kept) (line : LineValue) (q : Query) (begun now : List ℕ) → begun ≡ head heads line → line.act ≡ act.Query q → IsKept w k
+pub answered : (r : Result Bool NoMemory) (heads : Bool) (w : World) (k : Kept) (line : LineValue) (q : Query) (begun now : List ℕ) → begun ≡ head heads line.number → line.act ≡ act.Query q → IsKept w k
     → IfOk r (λ refused. AppendsReply w k q refused begun now) → IfOk r (λ refused. Answered heads w line now refused w)
-answered (Ok refused) heads w k line q begun now first asks is h = record {
-  answer = h.text;
-  answers = record { kept = k; is_kept = is; told = subst (λ (a : Act). Tells w k a h.text refused w) (sym asks) (h.reply, refl) };
-  text_is = h.appended ∙ ap (λ l. l ++ h.text) first;
-}
+answered (Ok refused) heads w k line q begun now first asks is h =
+    (k, is, h.text, subst (λ (a : Act). Tells w k a h.text refused w) (sym asks) (h.reply, refl), h.appended ∙ ap (λ l. l ++ h.text) first)
 answered (Err e) heads w k line q begun now first asks is h = h
 
 -- so is a reply to an edit
-pub answered_edit : (r : Result Bool NoMemory) (heads : Bool) (w after : World) (k : Kept) (line : LineValue) (e : Edit) (begun now : List ℕ) → begun ≡ head heads line → line.act ≡ act.Edit e → IsKept w k
+pub answered_edit : (r : Result Bool NoMemory) (heads : Bool) (w after : World) (k : Kept) (line : LineValue) (e : Edit) (begun now : List ℕ) → begun ≡ head heads line.number → line.act ≡ act.Edit e → IsKept w k
     → IfOk r (λ refused. AppendsEditReply w k e refused begun now after) → IfOk r (λ refused. Answered heads w line now refused after)
-answered_edit (Ok refused) heads w after k line e begun now first asks is h = record {
-  answer = h.text;
-  answers = record { kept = k; is_kept = is; told = subst (λ (a : Act). Tells w k a h.text refused after) (sym asks) h.reply };
-  text_is = h.appended ∙ ap (λ l. l ++ h.text) first;
-}
+answered_edit (Ok refused) heads w after k line e begun now first asks is h =
+    (k, is, h.text, subst (λ (a : Act). Tells w k a h.text refused after) (sym asks) h.reply, h.appended ∙ ap (λ l. l ++ h.text) first)
 answered_edit (Err e) heads w after k line edit begun now first asks is h = h
 
 -- a refusal that is none for want of memory has a reason
@@ -147,19 +152,16 @@ reason_of w e (refused.Limit which) other h = h
 reason_of w e (refused.ProviderCycle cycle) other h = h
 
 -- answers that follow what comes first
-pub after_first : (first : List ℕ) (heads : Bool) (w : World) (lines : List LineValue) (result : Result Bool Stop) (old mid new : Option (List ℕ)) (later rose : Type 0) → (later → rose)
-    → Appends old mid first → Answering [] heads w lines result mid new later → Answering first heads w lines result old new rose
-after_first first heads w lines (Ok refused) old mid new later rose r a h = record { text = h.text; told = h.told; appends = Appends-trans old mid new first h.text a h.appends }
-after_first first heads w lines (Err stop.Memory) old mid new later rose r a (inl h) =
-    inr (record { count = 0; refused = false; wrote = record { text = []; told = (refl, refl); appends = Appends-trans old mid new first [] a h } })
-after_first first heads w lines (Err stop.Memory) old mid new later rose r a (inr h) =
-    inr (record { count = h.count; refused = h.refused; wrote = record { text = h.wrote.text; told = h.wrote.told; appends = Appends-trans old mid new first h.wrote.text a h.wrote.appends } })
-after_first first heads w lines (Err stop.Write) old mid new later rose r a h =
-    (r h.0, record { count = h.1.count; text = h.1.text; refused = h.1.refused; told = h.1.told; appends = Appends-front old mid new first h.1.text a h.1.appends })
-after_first first heads w lines (Err (stop.Cycle cycle)) old mid new later rose r a h = h
-after_first first heads w lines (Err (stop.Fault f)) old mid new later rose r a h = h
+pub after_first : (counts heads : Bool) (w : World) (lines : List LineValue) (result : Result Bool Stop) (old mid new : Option (List ℕ)) (later rose : Type 0) → (later → rose) → Appends old mid (first_text counts w)
+    → Answering (task_of false heads w lines) result (sink_of mid new later) → Answering (task_of counts heads w lines) result (sink_of old new rose)
+after_first counts heads w lines (Ok refused) old mid new later rose r a h = (h.0, h.1, Appends-trans old mid new (first_text counts w) h.0 a h.2)
+after_first counts heads w lines (Err stop.Memory) old mid new later rose r a (inl h) = inr (0, false, ([], (refl, refl), Appends-trans old mid new (first_text counts w) [] a h))
+after_first counts heads w lines (Err stop.Memory) old mid new later rose r a (inr h) = inr (h.0, h.1, (h.2.0, h.2.1, Appends-trans old mid new (first_text counts w) h.2.0 a h.2.2))
+after_first counts heads w lines (Err stop.Write) old mid new later rose r a h = (h.0, h.1, (h.2.0, h.2.1, (r h.2.2.0, Appends-front old mid new (first_text counts w) h.2.0 a h.2.2.1)))
+after_first counts heads w lines (Err (stop.Cycle cycle)) old mid new later rose r a h = h
+after_first counts heads w lines (Err (stop.Fault f)) old mid new later rose r a h = h
 
 -- a front of what comes first
-pub front_of_first : (first : List ℕ) (heads : Bool) (w : World) (lines : List LineValue) (old new : Option (List ℕ)) → AppendsFront old new first → WroteFront first heads w lines old new
-front_of_first first heads w lines old new h =
-    record { count = 0; text = []; refused = false; told = (refl, refl); appends = subst (λ (l : List ℕ). AppendsFront old new l) (sym (append-nil first)) h }
+pub front_of_first : (counts heads : Bool) (w : World) (lines : List LineValue) (old new : Option (List ℕ)) (rose : Type 0) → rose → AppendsFront old new (first_text counts w)
+    → Answering (task_of counts heads w lines) (Err stop.Write) (sink_of old new rose)
+front_of_first counts heads w lines old new rose r h = (0, false, ([], (refl, refl), (r, subst (λ (l : List ℕ). AppendsFront old new l) (sym (append-nil (first_text counts w))) h)))

@@ -1,5 +1,5 @@
 -- The faults of the words and the files.
-use Rattle.std.proofs.Common.{◌≡◌, ◌⊎◌, inl, inr, ℕ, List, Option, Some, None, Result, Ok, Err, refl, ap, subst, ◌∙◌, Bool, true, false, cond}
+use Rattle.std.proofs.Common.{◌≡◌, ◌⊎◌, inl, inr, ℕ, List, Option, Some, None, Result, Ok, Err, refl, ap, subst, ◌∙◌, Bool, true, false, cond, nat_lt, if◌then◌else◌}
 use Rattle.caida_reader.specs.Value.{links_of}
 use Rattle.caida_reader.specs.declared.errors.RelError.{RelError}
 use Rattle.scenario_text.specs.Readings.{scenario_of_bytes}
@@ -12,8 +12,9 @@ use Rattle.scenario_text.specs.declared.faults.ScenarioError.{ScenarioError}
 use Rattle.scenario_text.specs.declared.faults.ScenarioError.TheVariants as scenario
 use Rattle.scenario_text.specs.declared.script.ScriptError.{ScriptError}
 use Rattle.scenario_text.specs.declared.script.ScriptError.TheVariants as script
-use Rattle.asprop.specs.Texts.{status_of}
-use Rattle.asprop.specs.Task.{Task, Reads, asked, task_of_form, origin_task, script_task, relations, payloads_by, scenario_by, script_lines, read_as, or_fault, bytes_of, most_bytes, within_limits, ◌>>=◌}
+use Rattle.scenario_text.specs.Walks.{◌>>=◌}
+use Rattle.asprop.specs.Texts.{told_of}
+use Rattle.asprop.specs.Task.{Task, Reads, asked, task_of, relations, payloads_by, scenario_by, script_lines, read_as, bytes_of, most_bytes}
 use Rattle.asprop.specs.Words.{Form, origin_form, script_form, demo_form}
 use Rattle.asprop.specs.declared.types.File.{File}
 use Rattle.asprop.specs.declared.types.File.TheVariants as file
@@ -23,6 +24,11 @@ use Rattle.asprop.specs.declared.types.Cause.{Cause}
 use Rattle.asprop.specs.declared.types.Cause.TheVariants as cause
 use Rattle.asprop.specs.declared.types.Status.{Status}
 use Rattle.asprop.specs.declared.types.Status.TheVariants as status
+use Rattle.asprop.specs.declared.types.Stop.TheVariants as stop
+use Rattle.asprop.proofs.Preparing.{origin_task, script_task}
+use Rattle.asprop.proofs.ReadLemmas.{or_fault}
+use Rattle.as_graph.specs.Topology.{as_count}
+use Rattle.sim_core.specs.World.{topology}
 
 bind_err : {A B : Type 0} (r : Result A Fault) (f : A → Result B Fault) (e : Fault) → (r >>= f) ≡ Err e → (r ≡ Err e) ⊎ ((x : A) × (r ≡ Ok x) × (f x ≡ Err e))
 bind_err (Ok x) f e h = inr (x, refl, h)
@@ -32,66 +38,74 @@ chosen_err : {A : Type 0} (b : Bool) (d e : Fault) (x : A) → cond b (Err d) (O
 chosen_err true d e x h = cc
 chosen_err false d e x h = cc
 
+-- the status of a fault
+abbrev pub status_of : Option Form → Fault → Status
+status_of form f = (told_of form (Err (stop.Fault f))).0
+
 -- a fault that is neither one of the words nor a failed read, and that no write makes
-pub record IsOther (f : Fault) : Type 0 where
-  pub usage : status.Usage ≡ status_of f → ⊥
-  pub read : status.ReadFault ≡ status_of f → ⊥
-  pub write : status.WriteFault ≡ status_of f → ⊥
+pub record IsOther (form : Option Form) (f : Fault) : Type 0 where
+  pub usage : status.Usage ≡ status_of form f → ⊥
+  pub read : status.ReadFault ≡ status_of form f → ⊥
+  pub write : status.WriteFault ≡ status_of form f → ⊥
 
-other : (f : Fault) (s : Status) → status_of f ≡ s → (status.Usage ≡ s → ⊥) → (status.ReadFault ≡ s → ⊥) → (status.WriteFault ≡ s → ⊥) → IsOther f
-other f s is no_usage no_read no_write = record { usage = λ h. no_usage (h ∙ is); read = λ h. no_read (h ∙ is); write = λ h. no_write (h ∙ is) }
+other : (form : Option Form) (f : Fault) (s : Status) → status_of form f ≡ s → (status.Usage ≡ s → ⊥) → (status.ReadFault ≡ s → ⊥) → (status.WriteFault ≡ s → ⊥) → IsOther form f
+other form f s is no_usage no_read no_write = record { usage = λ h. no_usage (h ∙ is); read = λ h. no_read (h ∙ is); write = λ h. no_write (h ∙ is) }
 
-bad : (f : Fault) → status_of f ≡ status.BadInput → IsOther f
-bad f is = other f status.BadInput is (λ h. cc) (λ h. cc) (λ h. cc)
+bad : (form : Option Form) (f : Fault) → status_of form f ≡ status.BadInput → IsOther form f
+bad form f is = other form f status.BadInput is (λ h. cc) (λ h. cc) (λ h. cc)
 
-large : (f : Fault) → status_of f ≡ status.TooLarge → IsOther f
-large f is = other f status.TooLarge is (λ h. cc) (λ h. cc) (λ h. cc)
+large : (form : Option Form) (f : Fault) → status_of form f ≡ status.TooLarge → IsOther form f
+large form f is = other form f status.TooLarge is (λ h. cc) (λ h. cc) (λ h. cc)
 
-pub other_relation : (which : File) (e : RelError) → IsOther (fault.InFile which (cause.Relation e))
-other_relation which rel.Memory = bad _ refl
-other_relation which (rel.Unreadable n) = bad _ refl
-other_relation which (rel.SelfLink n) = bad _ refl
-other_relation which (rel.Conflict n m) = bad _ refl
-other_relation which (rel.TooManyLinks n) = large _ refl
+pub other_relation : (form : Option Form) (which : File) (e : RelError) → IsOther form (fault.InFile which (cause.Relation e))
+other_relation form which rel.Memory = bad form _ refl
+other_relation form which (rel.Unreadable n) = bad form _ refl
+other_relation form which (rel.SelfLink n) = bad form _ refl
+other_relation form which (rel.Conflict n m) = bad form _ refl
+other_relation form which (rel.TooManyLinks n) = large form _ refl
 
-pub other_payload : (which : File) (e : VrpError) → IsOther (fault.InFile which (cause.Payload e))
-other_payload which vrp.Memory = bad _ refl
-other_payload which (vrp.Fields n) = bad _ refl
-other_payload which (vrp.BadAsn n) = bad _ refl
-other_payload which (vrp.BadPrefix n) = bad _ refl
-other_payload which (vrp.BadMax n) = bad _ refl
-other_payload which (vrp.TooMany n) = large _ refl
+pub other_payload : (form : Option Form) (which : File) (e : VrpError) → IsOther form (fault.InFile which (cause.Payload e))
+other_payload form which vrp.Memory = bad form _ refl
+other_payload form which (vrp.Fields n) = bad form _ refl
+other_payload form which (vrp.BadAsn n) = bad form _ refl
+other_payload form which (vrp.BadPrefix n) = bad form _ refl
+other_payload form which (vrp.BadMax n) = bad form _ refl
+other_payload form which (vrp.TooMany n) = large form _ refl
 
-pub other_scenario : (which : File) (e : ScenarioError) → IsOther (fault.InFile which (cause.Scenario e))
-other_scenario which scenario.Memory = bad _ refl
-other_scenario which scenario.NotJson = bad _ refl
-other_scenario which (scenario.Shape place) = bad _ refl
-other_scenario which (scenario.Value place) = bad _ refl
-other_scenario which (scenario.Twice place) = bad _ refl
-other_scenario which (scenario.Limit limit) = large _ refl
+pub other_scenario : (form : Option Form) (which : File) (e : ScenarioError) → IsOther form (fault.InFile which (cause.Scenario e))
+other_scenario form which scenario.Memory = bad form _ refl
+other_scenario form which scenario.NotJson = bad form _ refl
+other_scenario form which (scenario.Shape place) = bad form _ refl
+other_scenario form which (scenario.Value place) = bad form _ refl
+other_scenario form which (scenario.Twice place) = bad form _ refl
+other_scenario form which (scenario.Limit limit) = large form _ refl
 
-pub other_script : (which : File) (e : ScriptError) → IsOther (fault.InFile which (cause.Script e))
-other_script which script.Memory = bad _ refl
-other_script which (script.Unreadable n) = bad _ refl
-other_script which (script.TooMany n) = large _ refl
+pub other_script : (form : Option Form) (which : File) (e : ScriptError) → IsOther form (fault.InFile which (cause.Script e))
+other_script form which script.Memory = bad form _ refl
+other_script form which (script.Unreadable n) = bad form _ refl
+other_script form which (script.TooMany n) = large form _ refl
+
+-- the task, if its world isn't too large
+abbrev within_limits : Task → Result Task Fault
+within_limits task = if nat_lt 150000 (as_count (topology task.world)) then Err fault.TooManyAses else Ok task
 
 -- why the words and the files give no task
 pub data Stopped (form : Option Form) (reads : Reads) : Fault → Type 0 where
   no_form : form ≡ None → Stopped form reads fault.Usage
   unread : (which : File) → reads which ≡ None → Stopped form reads (fault.InFile which cause.Unread)
-  by_value : (f : Fault) → IsOther f → Stopped form reads f
+  by_value : (f : Fault) → IsOther form f → Stopped form reads f
 
 module _ (form : Option Form) (reads : Reads) where
-  of_value : {A E : Type 0} (which : File) (as_cause : E → Cause) → ((e : E) → IsOther (fault.InFile which (as_cause e))) → (r : Result A E) (e : Fault) → or_fault which as_cause r ≡ Err e → Stopped form reads e
+  of_value : {A E : Type 0} (which : File) (as_cause : E → Cause) → ((e : E) → IsOther form (fault.InFile which (as_cause e))) → (r : Result A E) (e : Fault) → or_fault which as_cause r ≡ Err e → Stopped form reads e
   of_value which as_cause others (Ok x) e h = cc
   of_value which as_cause others (Err d) e h =
       let is : fault.InFile which (as_cause d) ≡ e = cc in subst (Stopped form reads) is (by_value (fault.InFile which (as_cause d)) (others d))
 
   of_bytes : (which : File) (read : Option (List ℕ)) → reads which ≡ read → (e : Fault) → bytes_of which read ≡ Err e → Stopped form reads e
   of_bytes which None none e h = let is : fault.InFile which cause.Unread ≡ e = cc in subst (Stopped form reads) is (unread which none)
-  of_bytes which (Some bytes) some e h = subst (Stopped form reads) (chosen_err _ _ e bytes h) (by_value (fault.InFile which (cause.TooLong (most_bytes which))) (large _ refl))
+  of_bytes which (Some bytes) some e h = subst (Stopped form reads) (chosen_err _ _ e bytes h) (by_value (fault.InFile which (cause.TooLong (most_bytes which))) (large form _ refl))
 
-  of_read : {A E : Type 0} (which : File) (as_cause : E → Cause) (value : List ℕ → Result A E) → ((e : E) → IsOther (fault.InFile which (as_cause e))) → (e : Fault) → read_as which as_cause value reads ≡ Err e → Stopped form reads e
+  of_read : {A E : Type 0} (which : File) (as_cause : E → Cause) (value : List ℕ → Result A E) → ((e : E) → IsOther form (fault.InFile which (as_cause e))) → (e : Fault) → read_as which as_cause value reads ≡ Err e → Stopped form reads e
   of_read which as_cause value others e h =
       elim (bind_err (bytes_of which (reads which)) (λ bytes. or_fault which as_cause (value bytes)) e h) [
         | inl early ↦ of_bytes which (reads which) refl e early
@@ -100,29 +114,29 @@ module _ (form : Option Form) (reads : Reads) where
 
   of_payloads : (name : Option (List ℕ)) (e : Fault) → payloads_by name (reads file.Payloads) ≡ Err e → Stopped form reads e
   of_payloads None e h = cc
-  of_payloads (Some name) e h = of_read file.Payloads cause.Payload payloads_in (other_payload file.Payloads) e h
+  of_payloads (Some name) e h = of_read file.Payloads cause.Payload payloads_in (other_payload form file.Payloads) e h
 
   of_scenario : (name : Option (List ℕ)) (e : Fault) → scenario_by name (reads file.Scenario) ≡ Err e → Stopped form reads e
   of_scenario None e h = cc
-  of_scenario (Some name) e h = of_read file.Scenario cause.Scenario scenario_of_bytes (other_scenario file.Scenario) e h
+  of_scenario (Some name) e h = of_read file.Scenario cause.Scenario scenario_of_bytes (other_scenario form file.Scenario) e h
 
   of_lines : (e : Fault) → script_lines (reads file.Script) ≡ Err e → Stopped form reads e
-  of_lines e h = of_read file.Script cause.Script script_of (other_script file.Script) e h
+  of_lines e h = of_read file.Script cause.Script script_of (other_script form file.Script) e h
 
   of_limits : (task : Task) (e : Fault) → within_limits task ≡ Err e → Stopped form reads e
-  of_limits task e h = subst (Stopped form reads) (chosen_err _ _ e task h) (by_value fault.TooManyAses (large _ refl))
+  of_limits task e h = subst (Stopped form reads) (chosen_err _ _ e task h) (by_value fault.TooManyAses (large form _ refl))
 
 of_asked : (form : Option Form) (reads : Reads) (e : Fault) → asked form reads ≡ Err e → Stopped form reads e
 of_asked None reads e h = let is : fault.Usage ≡ e = cc in subst (Stopped None reads) is (no_form refl)
 of_asked (Some (demo_form size)) reads e h = cc
 of_asked (Some (origin_form rel origin)) reads e h =
     elim (bind_err (relations (reads file.Relations)) (λ links. Ok (origin_task links origin)) e h) [
-      | inl early ↦ of_read _ reads file.Relations cause.Relation links_of (other_relation file.Relations) e early
+      | inl early ↦ of_read _ reads file.Relations cause.Relation links_of (other_relation _ file.Relations) e early
       | inr late ↦ cc
     ]
 of_asked (Some (script_form rel vrps scenario script)) reads e h =
     elim (bind_err (relations (reads file.Relations)) (λ links. payloads_by vrps (reads file.Payloads) >>= λ payloads. scenario_by scenario (reads file.Scenario) >>= λ plan. script_lines (reads file.Script) >>= λ lines. Ok (script_task links payloads plan lines)) e h) [
-      | inl early ↦ of_read _ reads file.Relations cause.Relation links_of (other_relation file.Relations) e early
+      | inl early ↦ of_read _ reads file.Relations cause.Relation links_of (other_relation _ file.Relations) e early
       | inr links ↦ elim (bind_err (payloads_by vrps (reads file.Payloads)) (λ payloads. scenario_by scenario (reads file.Scenario) >>= λ plan. script_lines (reads file.Script) >>= λ lines. Ok (script_task links.0 payloads plan lines)) e links.2) [
         | inl early ↦ of_payloads _ reads vrps e early
         | inr payloads ↦ elim (bind_err (scenario_by scenario (reads file.Scenario)) (λ plan. script_lines (reads file.Script) >>= λ lines. Ok (script_task links.0 payloads.0 plan lines)) e payloads.2) [
@@ -136,7 +150,7 @@ of_asked (Some (script_form rel vrps scenario script)) reads e h =
     ]
 
 -- each fault of a task has its reason
-pub of_task : (form : Option Form) (reads : Reads) (e : Fault) → task_of_form form reads ≡ Err e → Stopped form reads e
+pub of_task : (form : Option Form) (reads : Reads) (e : Fault) → task_of form reads ≡ Err e → Stopped form reads e
 of_task form reads e h =
     elim (bind_err (asked form reads) within_limits e h) [
       | inl early ↦ of_asked form reads e early

@@ -4,24 +4,25 @@ use Rattle.net_names.specs.Links.{LinkMap}
 use Rattle.roa_table.specs.Sets.{Payloads}
 use Rattle.scenario_text.specs.Scenarios.{ScenarioValue}
 use Rattle.scenario_text.specs.LineValues.{LineValue}
-use Rattle.io_edge.specs.Faults.{Rose, KeepsNames}
+use Rattle.io_edge.specs.Faults.{KeepsNames}
+use Rattle.asprop.specs.Streams.{source_of}
 use Rattle.asprop.specs.Words.{script_form}
-use Rattle.asprop.specs.Task.{Task, relations, payloads_by, scenario_by, script_lines, script_task}
-use Rattle.asprop.specs.Files.{IsReadAs, ReadsTo, ReadsAs, Prepares}
+use Rattle.asprop.specs.Task.{Task, relations, payloads_by, scenario_by, script_lines}
+use Rattle.asprop.specs.Files.{IsReadAs, ReadsAs, Prepares}
 use Rattle.asprop.specs.declared.types.Stop.{Stop}
 use Rattle.asprop.proofs.ReadLemmas.{read_whole_run, kept_names, kept_twice}
-use Rattle.asprop.proofs.Preparing.{no_payloads, no_scenario, no_lines, all_read}
+use Rattle.asprop.proofs.Preparing.{script_task, no_payloads, no_scenario, no_lines, all_read}
 
 -- what the first call read is read in the run
 first : {I : Type 0} {holds : I → List ℕ → Option (List ℕ)} {is_sound : I → List ℕ → Type 0} {faults : I → ℕ} (a b z : I) → KeepsNames holds is_sound faults a b → faults b ≤ faults z → (name read : Option (List ℕ))
-    → IsReadAs (holds a) (is_sound a) (Rose (faults a) (faults b)) name read → IsReadAs (holds a) (is_sound a) (Rose (faults a) (faults z)) name read
+    → IsReadAs (source_of holds is_sound faults a b) name read → IsReadAs (source_of holds is_sound faults a z) name read
 first {holds} {is_sound} {faults} a b z keeps later name read h = read_whole_run {holds = holds} {is_sound = is_sound} {faults = faults} a a b z (kept_names a) later name read h
 
 module _ {I : Type 0} {holds : I → List ℕ → Option (List ℕ)} {is_sound : I → List ℕ → Type 0} {faults : I → ℕ} {X : Type 0} {view : X → Task} where
   pub payloads_stop : {a b c : I} → KeepsNames holds is_sound faults a b → KeepsNames holds is_sound faults b c → (rel : List ℕ) (vrps scenario script : Option (List ℕ)) (links : LinkMap) (s : Stop)
-      → ReadsTo (holds a rel) (is_sound a rel) (Rose (faults a) (faults b)) (λ (links : LinkMap). links) (Ok links) relations
-      → ReadsAs (holds b) (is_sound b) (Rose (faults b) (faults c)) vrps (λ (payloads : Payloads). payloads) (Err s) (payloads_by vrps)
-      → Prepares (holds a) (is_sound a) (Rose (faults a) (faults c)) (Some (script_form rel vrps scenario script)) view (Err s)
+      → ReadsAs (source_of holds is_sound faults a b) (Some rel) (λ (links : LinkMap). links) (Ok links) relations
+      → ReadsAs (source_of holds is_sound faults b c) vrps (λ (payloads : Payloads). payloads) (Err s) (payloads_by vrps)
+      → Prepares (source_of holds is_sound faults a c) (Some (script_form rel vrps scenario script)) view (Err s)
   payloads_stop {a} {b} {c} p q rel vrps scenario script links s f g =
       no_payloads rel vrps scenario script f.read g.read links s
       (first a b c p q.later (Some rel) f.read f.is_read) f.finds
@@ -29,10 +30,10 @@ module _ {I : Type 0} {holds : I → List ℕ → Option (List ℕ)} {is_sound :
 
   pub scenario_stop : {a b c d : I} → KeepsNames holds is_sound faults a b → KeepsNames holds is_sound faults b c → KeepsNames holds is_sound faults c d
       → (rel : List ℕ) (vrps scenario script : Option (List ℕ)) (links : LinkMap) (payloads : Payloads) (s : Stop)
-      → ReadsTo (holds a rel) (is_sound a rel) (Rose (faults a) (faults b)) (λ (links : LinkMap). links) (Ok links) relations
-      → ReadsAs (holds b) (is_sound b) (Rose (faults b) (faults c)) vrps (λ (payloads : Payloads). payloads) (Ok payloads) (payloads_by vrps)
-      → ReadsAs (holds c) (is_sound c) (Rose (faults c) (faults d)) scenario (λ (plan : ScenarioValue). plan) (Err s) (scenario_by scenario)
-      → Prepares (holds a) (is_sound a) (Rose (faults a) (faults d)) (Some (script_form rel vrps scenario script)) view (Err s)
+      → ReadsAs (source_of holds is_sound faults a b) (Some rel) (λ (links : LinkMap). links) (Ok links) relations
+      → ReadsAs (source_of holds is_sound faults b c) vrps (λ (payloads : Payloads). payloads) (Ok payloads) (payloads_by vrps)
+      → ReadsAs (source_of holds is_sound faults c d) scenario (λ (plan : ScenarioValue). plan) (Err s) (scenario_by scenario)
+      → Prepares (source_of holds is_sound faults a d) (Some (script_form rel vrps scenario script)) view (Err s)
   scenario_stop {a} {b} {c} {d} p q r rel vrps scenario script links payloads s f g h =
       no_scenario rel vrps scenario script f.read g.read h.read links payloads s
       (first a b d p (omega (arith, q.later, r.later)) (Some rel) f.read f.is_read) f.finds
@@ -41,11 +42,11 @@ module _ {I : Type 0} {holds : I → List ℕ → Option (List ℕ)} {is_sound :
 
   pub lines_stop : {a b c d e : I} → KeepsNames holds is_sound faults a b → KeepsNames holds is_sound faults b c → KeepsNames holds is_sound faults c d → KeepsNames holds is_sound faults d e
       → (rel : List ℕ) (vrps scenario script : Option (List ℕ)) (links : LinkMap) (payloads : Payloads) (plan : ScenarioValue) (s : Stop)
-      → ReadsTo (holds a rel) (is_sound a rel) (Rose (faults a) (faults b)) (λ (links : LinkMap). links) (Ok links) relations
-      → ReadsAs (holds b) (is_sound b) (Rose (faults b) (faults c)) vrps (λ (payloads : Payloads). payloads) (Ok payloads) (payloads_by vrps)
-      → ReadsAs (holds c) (is_sound c) (Rose (faults c) (faults d)) scenario (λ (plan : ScenarioValue). plan) (Ok plan) (scenario_by scenario)
-      → ReadsAs (holds d) (is_sound d) (Rose (faults d) (faults e)) script (λ (lines : List LineValue). lines) (Err s) script_lines
-      → Prepares (holds a) (is_sound a) (Rose (faults a) (faults e)) (Some (script_form rel vrps scenario script)) view (Err s)
+      → ReadsAs (source_of holds is_sound faults a b) (Some rel) (λ (links : LinkMap). links) (Ok links) relations
+      → ReadsAs (source_of holds is_sound faults b c) vrps (λ (payloads : Payloads). payloads) (Ok payloads) (payloads_by vrps)
+      → ReadsAs (source_of holds is_sound faults c d) scenario (λ (plan : ScenarioValue). plan) (Ok plan) (scenario_by scenario)
+      → ReadsAs (source_of holds is_sound faults d e) script (λ (lines : List LineValue). lines) (Err s) script_lines
+      → Prepares (source_of holds is_sound faults a e) (Some (script_form rel vrps scenario script)) view (Err s)
   lines_stop {a} {b} {c} {d} {e} p q r t rel vrps scenario script links payloads plan s f g h k =
       no_lines rel vrps scenario script f.read g.read h.read k.read links payloads plan s
       (first a b e p (omega (arith, q.later, r.later, t.later)) (Some rel) f.read f.is_read) f.finds
@@ -55,12 +56,12 @@ module _ {I : Type 0} {holds : I → List ℕ → Option (List ℕ)} {is_sound :
 
   pub all_found : {a b c d e : I} → KeepsNames holds is_sound faults a b → KeepsNames holds is_sound faults b c → KeepsNames holds is_sound faults c d → KeepsNames holds is_sound faults d e
       → (rel : List ℕ) (vrps scenario script : Option (List ℕ)) (links : LinkMap) (payloads : Payloads) (plan : ScenarioValue) (lines : List LineValue) (x : X)
-      → ReadsTo (holds a rel) (is_sound a rel) (Rose (faults a) (faults b)) (λ (links : LinkMap). links) (Ok links) relations
-      → ReadsAs (holds b) (is_sound b) (Rose (faults b) (faults c)) vrps (λ (payloads : Payloads). payloads) (Ok payloads) (payloads_by vrps)
-      → ReadsAs (holds c) (is_sound c) (Rose (faults c) (faults d)) scenario (λ (plan : ScenarioValue). plan) (Ok plan) (scenario_by scenario)
-      → ReadsAs (holds d) (is_sound d) (Rose (faults d) (faults e)) script (λ (lines : List LineValue). lines) (Ok lines) script_lines
+      → ReadsAs (source_of holds is_sound faults a b) (Some rel) (λ (links : LinkMap). links) (Ok links) relations
+      → ReadsAs (source_of holds is_sound faults b c) vrps (λ (payloads : Payloads). payloads) (Ok payloads) (payloads_by vrps)
+      → ReadsAs (source_of holds is_sound faults c d) scenario (λ (plan : ScenarioValue). plan) (Ok plan) (scenario_by scenario)
+      → ReadsAs (source_of holds is_sound faults d e) script (λ (lines : List LineValue). lines) (Ok lines) script_lines
       → view x ≡ script_task links payloads plan lines
-      → Prepares (holds a) (is_sound a) (Rose (faults a) (faults e)) (Some (script_form rel vrps scenario script)) view (Ok x)
+      → Prepares (source_of holds is_sound faults a e) (Some (script_form rel vrps scenario script)) view (Ok x)
   all_found {a} {b} {c} {d} {e} p q r t rel vrps scenario script links payloads plan lines x f g h k is =
       all_read rel vrps scenario script f.read g.read h.read k.read links payloads plan lines x
       (first a b e p (omega (arith, q.later, r.later, t.later)) (Some rel) f.read f.is_read) f.finds

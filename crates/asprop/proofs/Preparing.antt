@@ -1,18 +1,36 @@
 -- What the form and the files ask for.
-use Rattle.std.proofs.Common.{◌≡◌, ℕ, List, [], Option, Some, None, Result, Ok, Err, refl, sym, ap, subst}
+use Rattle.std.proofs.Common.{◌≡◌, ℕ, true, false, List, [], ◌∷◌, Option, Some, None, Result, Ok, Err, refl, sym, ap, subst}
 use Rattle.net_names.specs.Links.{LinkMap}
-use Rattle.roa_table.specs.Sets.{Payloads}
+use Rattle.roa_table.specs.Sets.{Payloads, no_payloads as no_payload}
 use Rattle.scenario_text.specs.Scenarios.{ScenarioValue}
 use Rattle.scenario_text.specs.LineValues.{LineValue}
+use Rattle.scenario_text.specs.Walks.{◌>>=◌}
+use Rattle.sim_core.specs.Loaded.{world_of}
+use Rattle.topo_gen.specs.Drawn.{drawn_links}
+use Rattle.topo_gen.specs.Scenarios.{drawn_payloads, drawn_scenario}
+use Rattle.topo_gen.specs.Lines.{drawn_lines}
 use Rattle.asprop.specs.Words.{Form, script_form, origin_form, demo_form, name_by}
-use Rattle.asprop.specs.Task.{Task, Reads, asked, origin_task, script_task, demo_task, relations, payloads_by, scenario_by, script_lines, ◌>>=◌}
-use Rattle.asprop.specs.Files.{IsRead, IsReadAs, AreReads, IsStop, Finds, ReadsTo, Prepares}
+use Rattle.asprop.specs.Task.{Task, Reads, announced_by, asked, origin_line, relations, payloads_by, scenario_by, script_lines}
+use Rattle.asprop.specs.Files.{IsReadAs, AreReads, IsStop, Finds, ReadsAs, Prepares}
+use Rattle.asprop.specs.Streams.{Source}
 use Rattle.asprop.specs.declared.types.File.TheVariants as file
 use Rattle.asprop.specs.declared.types.Stop.{Stop}
 use Rattle.asprop.specs.declared.types.Stop.TheVariants as stop
 use Rattle.asprop.specs.declared.types.Fault.{Fault}
 use Rattle.asprop.specs.declared.types.Fault.TheVariants as fault
 use Rattle.asprop.proofs.ReadLemmas.{some_read_as, bind_stop}
+
+-- the routes of all ASes to one origin
+abbrev pub origin_task : LinkMap → ℕ → Task
+origin_task links origin = record { world = world_of links no_payload (announced_by origin); lines = origin_line ∷ []; heads = false; counts = false }
+
+-- the answers to a script
+abbrev pub script_task : LinkMap → Payloads → ScenarioValue → List LineValue → Task
+script_task links payloads scenario lines = record { world = world_of links payloads scenario; lines = lines; heads = true; counts = false }
+
+-- the answers to the lines of the generated input
+abbrev demo_task : ℕ → Task
+demo_task n = record { world = world_of (drawn_links n) (drawn_payloads n) (drawn_scenario n); lines = drawn_lines (drawn_links n); heads = true; counts = true }
 
 -- what was read of each file
 abbrev pub four : Option (List ℕ) → Option (List ℕ) → Option (List ℕ) → Option (List ℕ) → Reads
@@ -26,23 +44,23 @@ abbrev alone : Option (List ℕ) → Reads
 alone read = four read (Some []) (Some []) (Some [])
 
 -- something was read of each file
-pub none_read : (holds : List ℕ → Option (List ℕ)) (sound : List ℕ → Type 0) (rose : Type 0) (form : Option Form) → (reads : Reads) × AreReads holds sound rose form reads
-none_read holds sound rose form = (λ which. (some_read_as holds sound rose (name_by form which)).0, λ which. (some_read_as holds sound rose (name_by form which)).1)
+pub none_read : (from : Source) (form : Option Form) → (reads : Reads) × AreReads from form reads
+none_read from form = (λ which. (some_read_as from (name_by form which)).0, λ which. (some_read_as from (name_by form which)).1)
 
 -- the generated input needs no file
-pub demo_found : {holds : List ℕ → Option (List ℕ)} {sound : List ℕ → Type 0} {rose : Type 0} {X : Type 0} {view : X → Task} (size : ℕ) (result : Result X Stop) → Finds view result (Ok (demo_task size))
-    → Prepares holds sound rose (Some (demo_form size)) view result
+pub demo_found : {from : Source} {X : Type 0} {view : X → Task} (size : ℕ) (result : Result X Stop) → Finds view result (Ok (demo_task size))
+    → Prepares from (Some (demo_form size)) view result
 demo_found size result h = record { reads = λ file. Some []; are_read = λ file. refl; finds = h }
 
-module _ (holds : List ℕ → Option (List ℕ)) (sound : List ℕ → Type 0) (rose : Type 0) (rel : List ℕ) where
-  one_read : (origin : ℕ) (read : Option (List ℕ)) → IsRead (holds rel) (sound rel) rose read → AreReads holds sound rose (Some (origin_form rel origin)) (alone read)
+module _ (from : Source) (rel : List ℕ) where
+  one_read : (origin : ℕ) (read : Option (List ℕ)) → IsReadAs from (Some rel) read → AreReads from (Some (origin_form rel origin)) (alone read)
   one_read origin read h file.Relations = h
   one_read origin read h file.Payloads = refl
   one_read origin read h file.Scenario = refl
   one_read origin read h file.Script = refl
 
-  four_read : (vrps scenario script a b c d : Option (List ℕ)) → IsReadAs holds sound rose (Some rel) a → IsReadAs holds sound rose vrps b → IsReadAs holds sound rose scenario c → IsReadAs holds sound rose script d
-      → AreReads holds sound rose (Some (script_form rel vrps scenario script)) (four a b c d)
+  four_read : (vrps scenario script a b c d : Option (List ℕ)) → IsReadAs from (Some rel) a → IsReadAs from vrps b → IsReadAs from scenario c → IsReadAs from script d
+      → AreReads from (Some (script_form rel vrps scenario script)) (four a b c d)
   four_read vrps scenario script a b c d p q r t file.Relations = p
   four_read vrps scenario script a b c d p q r t file.Payloads = q
   four_read vrps scenario script a b c d p q r t file.Scenario = r
@@ -69,70 +87,70 @@ module _ {X : Type 0} (view : X → Task) (rel : List ℕ) (vrps scenario script
       → Finds view result (asked (Some (script_form rel vrps scenario script)) (four a b c d))
   by_plan payloads plan is_payloads is h = by_payloads payloads is_payloads (subst (λ (v : Result ScenarioValue Fault). Finds view result (third links payloads d v)) (sym is) h)
 
-module _ {X : Type 0} {holds : List ℕ → Option (List ℕ)} {sound : List ℕ → Type 0} {rose : Type 0} {view : X → Task} where
+module _ {X : Type 0} {from : Source} {view : X → Task} where
   -- words without a form
-  pub no_form : Prepares holds sound rose None view (Err (stop.Fault fault.Usage))
+  pub no_form : Prepares from None view (Err (stop.Fault fault.Usage))
   no_form = record { reads = λ _. Some []; are_read = λ _. refl; finds = refl }
 
   -- the routes to one origin
-  pub origin_stopped : (rel : List ℕ) (origin : ℕ) {Y : Type 0} (of_y : Y → LinkMap) (s : Stop) → ReadsTo (holds rel) (sound rel) rose of_y (Err s) relations → Prepares holds sound rose (Some (origin_form rel origin)) view (Err s)
+  pub origin_stopped : (rel : List ℕ) (origin : ℕ) {Y : Type 0} (of_y : Y → LinkMap) (s : Stop) → ReadsAs from (Some rel) of_y (Err s) relations → Prepares from (Some (origin_form rel origin)) view (Err s)
   origin_stopped rel origin of_y s found = record {
     reads = alone found.read;
-    are_read = one_read holds sound rose rel origin found.read found.is_read;
+    are_read = one_read from rel origin found.read found.is_read;
     finds = bind_stop (relations found.read) (λ links. Ok (origin_task links origin)) s found.finds;
   }
 
-  pub origin_found : (rel : List ℕ) (origin : ℕ) {Y : Type 0} (of_y : Y → LinkMap) (y : Y) (result : Result X Stop) → ReadsTo (holds rel) (sound rel) rose of_y (Ok y) relations → Finds view result (Ok (origin_task (of_y y) origin))
-      → Prepares holds sound rose (Some (origin_form rel origin)) view result
+  pub origin_found : (rel : List ℕ) (origin : ℕ) {Y : Type 0} (of_y : Y → LinkMap) (y : Y) (result : Result X Stop) → ReadsAs from (Some rel) of_y (Ok y) relations → Finds view result (Ok (origin_task (of_y y) origin))
+      → Prepares from (Some (origin_form rel origin)) view result
   origin_found rel origin of_y y result found h = record {
     reads = alone found.read;
-    are_read = one_read holds sound rose rel origin found.read found.is_read;
+    are_read = one_read from rel origin found.read found.is_read;
     finds = subst (λ (links : Result LinkMap Fault). Finds view result (links >>= λ links. Ok (origin_task links origin))) (sym found.finds) h;
   }
 
   -- the answers to a script
-  pub no_links : (rel : List ℕ) (vrps scenario script a : Option (List ℕ)) (s : Stop) → IsReadAs holds sound rose (Some rel) a → IsStop s (relations a) → Prepares holds sound rose (Some (script_form rel vrps scenario script)) view (Err s)
+  pub no_links : (rel : List ℕ) (vrps scenario script a : Option (List ℕ)) (s : Stop) → IsReadAs from (Some rel) a → IsStop s (relations a) → Prepares from (Some (script_form rel vrps scenario script)) view (Err s)
   no_links rel vrps scenario script a s p h =
-      let b = some_read_as holds sound rose vrps in
-      let c = some_read_as holds sound rose scenario in
-      let d = some_read_as holds sound rose script in
-      record { reads = four a b.0 c.0 d.0; are_read = four_read holds sound rose rel vrps scenario script a b.0 c.0 d.0 p b.1 c.1 d.1; finds = bind_stop (relations a) (λ links. second links scenario c.0 d.0 (payloads_by vrps b.0)) s h }
+      let b = some_read_as from vrps in
+      let c = some_read_as from scenario in
+      let d = some_read_as from script in
+      record { reads = four a b.0 c.0 d.0; are_read = four_read from rel vrps scenario script a b.0 c.0 d.0 p b.1 c.1 d.1; finds = bind_stop (relations a) (λ links. second links scenario c.0 d.0 (payloads_by vrps b.0)) s h }
 
-  pub no_payloads : (rel : List ℕ) (vrps scenario script a b : Option (List ℕ)) (links : LinkMap) (s : Stop) → IsReadAs holds sound rose (Some rel) a → relations a ≡ Ok links → IsReadAs holds sound rose vrps b → IsStop s (payloads_by vrps b)
-      → Prepares holds sound rose (Some (script_form rel vrps scenario script)) view (Err s)
+  pub no_payloads : (rel : List ℕ) (vrps scenario script a b : Option (List ℕ)) (links : LinkMap) (s : Stop) → IsReadAs from (Some rel) a → relations a ≡ Ok links → IsReadAs from vrps b → IsStop s (payloads_by vrps b)
+      → Prepares from (Some (script_form rel vrps scenario script)) view (Err s)
   no_payloads rel vrps scenario script a b links s p is_links q h =
-      let c = some_read_as holds sound rose scenario in
-      let d = some_read_as holds sound rose script in
+      let c = some_read_as from scenario in
+      let d = some_read_as from script in
       record {
         reads = four a b c.0 d.0;
-        are_read = four_read holds sound rose rel vrps scenario script a b c.0 d.0 p q c.1 d.1;
+        are_read = four_read from rel vrps scenario script a b c.0 d.0 p q c.1 d.1;
         finds = by_links view rel vrps scenario script a b c.0 d.0 links is_links (Err s) (bind_stop (payloads_by vrps b) (λ payloads. third links payloads d.0 (scenario_by scenario c.0)) s h);
       }
 
-  pub no_scenario : (rel : List ℕ) (vrps scenario script a b c : Option (List ℕ)) (links : LinkMap) (payloads : Payloads) (s : Stop) → IsReadAs holds sound rose (Some rel) a → relations a ≡ Ok links
-      → IsReadAs holds sound rose vrps b → payloads_by vrps b ≡ Ok payloads → IsReadAs holds sound rose scenario c → IsStop s (scenario_by scenario c) → Prepares holds sound rose (Some (script_form rel vrps scenario script)) view (Err s)
+  pub no_scenario : (rel : List ℕ) (vrps scenario script a b c : Option (List ℕ)) (links : LinkMap) (payloads : Payloads) (s : Stop) → IsReadAs from (Some rel) a → relations a ≡ Ok links
+      → IsReadAs from vrps b → payloads_by vrps b ≡ Ok payloads → IsReadAs from scenario c → IsStop s (scenario_by scenario c) → Prepares from (Some (script_form rel vrps scenario script)) view (Err s)
   no_scenario rel vrps scenario script a b c links payloads s p is_links q is_payloads r h =
-      let d = some_read_as holds sound rose script in
+      let d = some_read_as from script in
       record {
         reads = four a b c d.0;
-        are_read = four_read holds sound rose rel vrps scenario script a b c d.0 p q r d.1;
+        are_read = four_read from rel vrps scenario script a b c d.0 p q r d.1;
         finds = by_payloads view rel vrps scenario script a b c d.0 links is_links (Err s) payloads is_payloads (bind_stop (scenario_by scenario c) (λ plan. last links payloads plan (script_lines d.0)) s h);
       }
 
-  pub no_lines : (rel : List ℕ) (vrps scenario script a b c d : Option (List ℕ)) (links : LinkMap) (payloads : Payloads) (plan : ScenarioValue) (s : Stop) → IsReadAs holds sound rose (Some rel) a → relations a ≡ Ok links
-      → IsReadAs holds sound rose vrps b → payloads_by vrps b ≡ Ok payloads → IsReadAs holds sound rose scenario c → scenario_by scenario c ≡ Ok plan
-      → IsReadAs holds sound rose script d → IsStop s (script_lines d) → Prepares holds sound rose (Some (script_form rel vrps scenario script)) view (Err s)
+  pub no_lines : (rel : List ℕ) (vrps scenario script a b c d : Option (List ℕ)) (links : LinkMap) (payloads : Payloads) (plan : ScenarioValue) (s : Stop) → IsReadAs from (Some rel) a → relations a ≡ Ok links
+      → IsReadAs from vrps b → payloads_by vrps b ≡ Ok payloads → IsReadAs from scenario c → scenario_by scenario c ≡ Ok plan
+      → IsReadAs from script d → IsStop s (script_lines d) → Prepares from (Some (script_form rel vrps scenario script)) view (Err s)
   no_lines rel vrps scenario script a b c d links payloads plan s p is_links q is_payloads r is_plan t h = record {
     reads = four a b c d;
-    are_read = four_read holds sound rose rel vrps scenario script a b c d p q r t;
+    are_read = four_read from rel vrps scenario script a b c d p q r t;
     finds = by_plan view rel vrps scenario script a b c d links is_links (Err s) payloads plan is_payloads is_plan (bind_stop (script_lines d) (λ lines. Ok (script_task links payloads plan lines)) s h);
   }
 
-  pub all_read : (rel : List ℕ) (vrps scenario script a b c d : Option (List ℕ)) (links : LinkMap) (payloads : Payloads) (plan : ScenarioValue) (lines : List LineValue) (x : X) → IsReadAs holds sound rose (Some rel) a → relations a ≡ Ok links
-      → IsReadAs holds sound rose vrps b → payloads_by vrps b ≡ Ok payloads → IsReadAs holds sound rose scenario c → scenario_by scenario c ≡ Ok plan
-      → IsReadAs holds sound rose script d → script_lines d ≡ Ok lines → view x ≡ script_task links payloads plan lines → Prepares holds sound rose (Some (script_form rel vrps scenario script)) view (Ok x)
+  pub all_read : (rel : List ℕ) (vrps scenario script a b c d : Option (List ℕ)) (links : LinkMap) (payloads : Payloads) (plan : ScenarioValue) (lines : List LineValue) (x : X) → IsReadAs from (Some rel) a → relations a ≡ Ok links
+      → IsReadAs from vrps b → payloads_by vrps b ≡ Ok payloads → IsReadAs from scenario c → scenario_by scenario c ≡ Ok plan
+      → IsReadAs from script d → script_lines d ≡ Ok lines → view x ≡ script_task links payloads plan lines → Prepares from (Some (script_form rel vrps scenario script)) view (Ok x)
   all_read rel vrps scenario script a b c d links payloads plan lines x p is_links q is_payloads r is_plan t is_lines is = record {
     reads = four a b c d;
-    are_read = four_read holds sound rose rel vrps scenario script a b c d p q r t;
+    are_read = four_read from rel vrps scenario script a b c d p q r t;
     finds = by_plan view rel vrps scenario script a b c d links is_links (Ok x) payloads plan is_payloads is_plan (subst (λ (v : Result (List LineValue) Fault). Finds view (Ok x) (last links payloads plan v)) (sym is_lines) (ap Ok (sym is)));
   }

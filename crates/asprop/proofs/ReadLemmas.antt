@@ -1,31 +1,39 @@
 -- What may have been read of a file.
-use Rattle.std.proofs.Common.{◌≡◌, ◌<◌, ℕ, List, [], length, Option, Some, None, Result, Ok, Err, IfSome, refl, sym, ap, ◌∙◌, subst, arith, lt-ltb, le-ltb, ◌+◌, ◌≤◌}
+use Rattle.std.proofs.Common.{◌≡◌, ◌<◌, ℕ, List, [], length, Option, Some, None, Result, Ok, Err, IfSome, IsSomeAnd, refl, sym, ap, ◌∙◌, subst, arith, lt-ltb, le-ltb, ◌+◌, ◌≤◌}
 use Rattle.std.proofs.lemmas.List.{length-replicate}
 use Rattle.std.proofs.Common.{replicate, drop}
 use Rattle.std.specs.Io.KnownBytes.{Keeps}
+use Rattle.std.specs.Option.{option_map_or}
+use Rattle.std.specs.Result.{result_map_both}
 use Rattle.io_edge.specs.Faults.{Rose, KeepsNames}
+use Rattle.scenario_text.specs.Walks.{◌>>=◌}
+use Rattle.asprop.specs.Streams.{Source, source_of}
 use Rattle.asprop.specs.Files.{IsRead, IsReadAs, IsStop, Finds, ReadsTo}
-use Rattle.asprop.specs.Task.{bytes_of, most_bytes, ◌>>=◌}
+use Rattle.asprop.specs.Task.{bytes_of, most_bytes}
 use Rattle.asprop.specs.declared.types.File.{File}
 use Rattle.asprop.specs.declared.types.Fault.{Fault}
 use Rattle.asprop.specs.declared.types.Stop.{Stop}
 use Rattle.asprop.specs.declared.types.Stop.TheVariants as stop
 use Rattle.asprop.specs.declared.types.Fault.TheVariants as fault
+use Rattle.asprop.specs.declared.types.Cause.{Cause}
 use Rattle.asprop.specs.declared.types.Cause.TheVariants as cause
 use Rattle.asprop.proofs.Answering.{rose_earlier}
 
--- something was read of each file
-pub some_read : (held : Option (List ℕ)) (sound rose : Type 0) → (read : Option (List ℕ)) × IsRead held sound rose read
-some_read None sound rose = (Some [], tt)
-some_read (Some bytes) sound rose = (Some bytes, refl)
+-- the value that was read, or its fault as one of the file
+abbrev pub or_fault : {A E : Type 0} → File → (E → Cause) → Result A E → Result A Fault
+or_fault which as_cause value = result_map_both (λ x. x) (λ e. fault.InFile which (as_cause e)) value
 
-pub some_read_as : (holds : List ℕ → Option (List ℕ)) (sound : List ℕ → Type 0) (rose : Type 0) (name : Option (List ℕ)) → (read : Option (List ℕ)) × IsReadAs holds sound rose name read
-some_read_as holds sound rose None = (Some [], refl)
-some_read_as holds sound rose (Some name) = some_read (holds name) (sound name) rose
+-- something was read of each file
+some_read : (held : Option (List ℕ)) (fails : Type 0) → (read : Option (List ℕ)) × IsRead held fails read
+some_read None fails = (Some [], tt)
+some_read (Some bytes) fails = (Some bytes, refl)
+
+pub some_read_as : (from : Source) (name : Option (List ℕ)) → (read : Option (List ℕ)) × IsReadAs from name read
+some_read_as from name = some_read (option_map_or from.holds name (Some [])) (IsSomeAnd name from.fails)
 
 -- nothing is said of the file where memory ran out
-pub no_room : {X A : Type 0} {held : Option (List ℕ)} {sound rose : Type 0} {view : X → A} {value : Option (List ℕ) → Result A Fault} → ReadsTo held sound rose view (Err stop.Memory) value
-no_room {X} {A} {held} {sound} {rose} {view} {value} = let r = some_read held sound rose in record { read = r.0; is_read = r.1; finds = tt }
+pub no_room : {X A : Type 0} {held : Option (List ℕ)} {fails : Type 0} {view : X → A} {value : Option (List ℕ) → Result A Fault} → ReadsTo held fails view (Err stop.Memory) value
+no_room {X} {A} {held} {fails} {view} {value} = let r = some_read held fails in record { read = r.0; is_read = r.1; finds = tt }
 
 pub too_long : (which : File) (bytes : List ℕ) → most_bytes which < length bytes → bytes_of which (Some bytes) ≡ Err (fault.InFile which (cause.TooLong (most_bytes which)))
 too_long which bytes h = rw (lt-ltb (most_bytes which) (length bytes) h) refl
@@ -35,19 +43,19 @@ pub whole : (which : File) (bytes : List ℕ) → length bytes ≤ most_bytes wh
 whole which bytes h = rw (le-ltb (most_bytes which) (length bytes) h) refl
 
 -- the file was read whole
-pub read_whole : (which : File) (held : Option (List ℕ)) (sound rose : Type 0) (X : Type 0) (view : X → List ℕ) (x : X) → (length (view x) ≤ most_bytes which) × Keeps held (Some (view x)) → ReadsTo held sound rose view (Ok x) (bytes_of which)
-read_whole which held sound rose X view x h = record { read = Some (view x); is_read = h.1; finds = whole which (view x) h.0 }
+pub read_whole : (which : File) (held : Option (List ℕ)) (fails : Type 0) (X : Type 0) (view : X → List ℕ) (x : X) → (length (view x) ≤ most_bytes which) × Keeps held (Some (view x)) → ReadsTo held fails view (Ok x) (bytes_of which)
+read_whole which held fails X view x h = record { read = Some (view x); is_read = h.1; finds = whole which (view x) h.0 }
 
 -- a read of the file failed
-pub read_failed : (which : File) (held : Option (List ℕ)) (sound rose : Type 0) (X : Type 0) (view : X → List ℕ) → rose × (sound → ⊥) → ReadsTo held sound rose view (Err (stop.Fault (fault.InFile which cause.Unread))) (bytes_of which)
-read_failed which held sound rose X view h = record { read = None; is_read = h; finds = refl }
+pub read_failed : (which : File) (held : Option (List ℕ)) (fails : Type 0) (X : Type 0) (view : X → List ℕ) → fails → ReadsTo held fails view (Err (stop.Fault (fault.InFile which cause.Unread))) (bytes_of which)
+read_failed which held fails X view h = record { read = None; is_read = h; finds = refl }
 
 -- the file is longer than it may be
-pub read_long : (which : File) (held : Option (List ℕ)) (sound rose : Type 0) (X : Type 0) (view : X → List ℕ) → IfSome held (λ file. most_bytes which < length file) → ReadsTo held sound rose view (Err (stop.Fault (fault.InFile which (cause.TooLong (most_bytes which))))) (bytes_of which)
-read_long which None sound rose X view h =
+pub read_long : (which : File) (held : Option (List ℕ)) (fails : Type 0) (X : Type 0) (view : X → List ℕ) → IfSome held (λ file. most_bytes which < length file) → ReadsTo held fails view (Err (stop.Fault (fault.InFile which (cause.TooLong (most_bytes which))))) (bytes_of which)
+read_long which None fails X view h =
     let long : List ℕ = replicate (most_bytes which + 1) 0 in
     record { read = Some long; is_read = tt; finds = too_long which long (omega (arith, length-replicate {A = ℕ} (most_bytes which + 1) 0)) }
-read_long which (Some bytes) sound rose X view h = record { read = Some bytes; is_read = refl; finds = too_long which bytes h }
+read_long which (Some bytes) fails X view h = record { read = Some bytes; is_read = refl; finds = too_long which bytes h }
 
 -- a file that is longer than its limit
 pub long_file : (which : File) (held left : Option (List ℕ)) (limit : ℕ) → limit ≡ most_bytes which → IfSome held (λ bytes. (limit < length bytes) × (left ≡ Some (drop (limit + 1) bytes))) → IfSome held (λ bytes. most_bytes which < length bytes)
@@ -62,24 +70,24 @@ bind_stop value f stop.Write h = h
 bind_stop value f (stop.Cycle c) h = h
 
 -- what was found of the bytes is found of the file
-pub of_bytes : {X Y A B : Type 0} {held : Option (List ℕ)} {sound rose : Type 0} (of_y : Y → A) (view : X → B) (y : Y) (first : Option (List ℕ) → Result A Fault) (f : A → Result B Fault) (result : Result X Stop)
-    → ReadsTo held sound rose of_y (Ok y) first → Finds view result (f (of_y y)) → ReadsTo held sound rose view result (λ read. first read >>= f)
+pub of_bytes : {X Y A B : Type 0} {held : Option (List ℕ)} {fails : Type 0} (of_y : Y → A) (view : X → B) (y : Y) (first : Option (List ℕ) → Result A Fault) (f : A → Result B Fault) (result : Result X Stop)
+    → ReadsTo held fails of_y (Ok y) first → Finds view result (f (of_y y)) → ReadsTo held fails view result (λ read. first read >>= f)
 of_bytes of_y view y first f result found h = record { read = found.read; is_read = found.is_read; finds = subst (λ v. Finds view result (v >>= f)) (sym found.finds) h }
 
-pub no_bytes : {X Y A B : Type 0} {held : Option (List ℕ)} {sound rose : Type 0} (of_y : Y → A) (view : X → B) (first : Option (List ℕ) → Result A Fault) (f : A → Result B Fault) (s : Stop)
-    → ReadsTo held sound rose of_y (Err s) first → ReadsTo held sound rose view (Err s) (λ read. first read >>= f)
+pub no_bytes : {X Y A B : Type 0} {held : Option (List ℕ)} {fails : Type 0} (of_y : Y → A) (view : X → B) (first : Option (List ℕ) → Result A Fault) (f : A → Result B Fault) (s : Stop)
+    → ReadsTo held fails of_y (Err s) first → ReadsTo held fails view (Err s) (λ read. first read >>= f)
 no_bytes of_y view first f s found = record { read = found.read; is_read = found.is_read; finds = bind_stop (first found.read) f s found.finds }
 
 -- what is known of a file that was read in the middle is known of the inputs at their start and end
 module _ {I : Type 0} {holds : I → List ℕ → Option (List ℕ)} {is_sound : I → List ℕ → Type 0} {faults : I → ℕ} where
   is_read_whole : (old mid new last : I) → KeepsNames holds is_sound faults old mid → faults new ≤ faults last → (name : List ℕ) (read : Option (List ℕ))
-      → IsRead (holds mid name) (is_sound mid name) (Rose (faults mid) (faults new)) read → IsRead (holds old name) (is_sound old name) (Rose (faults old) (faults last)) read
+      → IsReadAs (source_of holds is_sound faults mid new) (Some name) read → IsReadAs (source_of holds is_sound faults old last) (Some name) read
   is_read_whole old mid new last keeps later name None h =
       (let rose : Rose (faults old) (faults new) = rose_earlier (faults old) (faults mid) (faults new) keeps.later h.0 in omega (arith, rose, later), λ sound. h.1 (keeps.sound name sound))
   is_read_whole old mid new last keeps later name (Some bytes) h = subst (λ (held : Option (List ℕ)). Keeps held (Some bytes)) (keeps.holds_same name) h
 
   pub read_whole_run : (old mid new last : I) → KeepsNames holds is_sound faults old mid → faults new ≤ faults last → (name read : Option (List ℕ))
-      → IsReadAs (holds mid) (is_sound mid) (Rose (faults mid) (faults new)) name read → IsReadAs (holds old) (is_sound old) (Rose (faults old) (faults last)) name read
+      → IsReadAs (source_of holds is_sound faults mid new) name read → IsReadAs (source_of holds is_sound faults old last) name read
   read_whole_run old mid new last keeps later None read h = h
   read_whole_run old mid new last keeps later (Some name) read h = is_read_whole old mid new last keeps later name read h
 

@@ -1,78 +1,89 @@
 -- Which statuses the words, the reads and the writes give.
-use Rattle.std.proofs.Common.{◌≡◌, ◌⊎◌, inl, inr, ℕ, List, Option, Some, None, Result, Ok, Err, refl, ap}
-use Rattle.asprop.specs.Task.{Task, Reads, task_of, task_of_form}
-use Rattle.asprop.specs.Words.{Form, form_of, name_in}
+use Rattle.std.proofs.Common.{◌≡◌, ◌⊎◌, inl, inr, ℕ, Bool, true, false, List, Option, Some, None, Result, Ok, Err, IsSomeAnd, refl, ap, sym, subst, ◌∙◌}
+use Rattle.asprop.specs.Streams.{Source, Stream}
+use Rattle.asprop.specs.Task.{Task, Reads, task_of}
+use Rattle.asprop.specs.Texts.{told_of}
+use Rattle.asprop.specs.Words.{Form, form_of, name_by}
 use Rattle.asprop.specs.Files.{IsReadAs}
-use Rattle.asprop.specs.Ran.{Ends, Ran}
-use Rattle.asprop.specs.Texts.{status_of}
-use Rattle.asprop.specs.Statuses.{UsageRow, ReadFaultRow, WriteFaultRow}
+use Rattle.asprop.specs.Ran.{Works, Ran}
 use Rattle.asprop.specs.declared.types.File.{File}
 use Rattle.asprop.specs.declared.types.Fault.{Fault}
 use Rattle.asprop.specs.declared.types.Fault.TheVariants as fault
-use Rattle.asprop.specs.declared.types.Cause.TheVariants as cause
+use Rattle.asprop.specs.declared.types.Stop.{Stop}
+use Rattle.asprop.specs.declared.types.Stop.TheVariants as stop
 use Rattle.asprop.specs.declared.types.Status.{Status}
 use Rattle.asprop.specs.declared.types.Status.TheVariants as status
-use Rattle.asprop.proofs.Faults.{Stopped, no_form, unread, by_value, other_payload, other_relation, other_scenario, other_script, of_task}
+use Rattle.asprop.proofs.Faults.{Stopped, no_form, unread, by_value, of_task, status_of}
 
-usage_stop : (form : Option Form) (reads : Reads) (f : Fault) → Stopped form reads f → status.Usage ≡ status_of f → form ≡ None
+-- the work stops by a fault only for the reason of that fault
+fault_by : (form : Option Form) (reads : Reads) (task : Result Task Fault) (f : Fault) (out : Stream) → task_of form reads ≡ task → Works task (Err (stop.Fault f)) out → Stopped form reads f
+fault_by form reads (Ok task) f out is w = absurd w
+fault_by form reads (Err e) f out is w = subst (Stopped form reads) (sym w.0) (of_task form reads e is)
+
+usage_stop : (form : Option Form) (reads : Reads) (f : Fault) → Stopped form reads f → status.Usage ≡ status_of form f → form ≡ None
 usage_stop form reads _ (no_form is) h = is
 usage_stop form reads _ (unread which is) h = cc
 usage_stop form reads _ (by_value f is) h = absurd (is.usage h)
 
-usage_only : (form : Option Form) (reads : Reads) (task : Result Task Fault) (old new : Option (List ℕ)) (rose : Type 0) → task_of_form form reads ≡ task → Ends task status.Usage old new rose → form ≡ None
-usage_only form reads (Ok task) old new rose e h = absurd h
-usage_only form reads (Err f) old new rose e h = usage_stop form reads f (of_task form reads f e) h.0
+usage_by : (form : Option Form) (reads : Reads) (result : Result Bool Stop) (out : Stream) → Works (task_of form reads) result out → status.Usage ≡ (told_of form result).0 → form ≡ None
+usage_by form reads (Ok true) out w h = cc
+usage_by form reads (Ok false) out w h = cc
+usage_by form reads (Err stop.Memory) out w h = cc
+usage_by form reads (Err stop.Write) out w h = cc
+usage_by form reads (Err (stop.Cycle cycle)) out w h = cc
+usage_by form reads (Err (stop.Fault f)) out w h = usage_stop form reads f (fault_by form reads (task_of form reads) f out refl w) h
 
-usage_there : (s : Status) (old new : Option (List ℕ)) (rose : Type 0) → Ends (Err fault.Usage) s old new rose → (s ≡ status.Usage) ⊎ (s ≡ status.NoMemory)
-usage_there status.NoMemory old new rose h = inr refl
-usage_there status.Done old new rose h = inl h.0
-usage_there status.SomeRefused old new rose h = inl h.0
-usage_there status.Usage old new rose h = inl h.0
-usage_there status.BadInput old new rose h = inl h.0
-usage_there status.ReadFault old new rose h = inl h.0
-usage_there status.WriteFault old new rose h = inl h.0
-usage_there status.TooLarge old new rose h = inl h.0
+usage_there : (form : Option Form) (result : Result Bool Stop) (out : Stream) → Works (Err fault.Usage) result out → ((told_of form result).0 ≡ status.Usage) ⊎ ((told_of form result).0 ≡ status.NoMemory)
+usage_there form (Ok refused) out w = absurd w
+usage_there form (Err stop.Memory) out w = inr refl
+usage_there form (Err stop.Write) out w = absurd w
+usage_there form (Err (stop.Cycle cycle)) out w = absurd w
+usage_there form (Err (stop.Fault f)) out w = inl (ap (status_of form) w.0)
 
-read_stop : (form : Option Form) (reads : Reads) (f : Fault) → Stopped form reads f → status.ReadFault ≡ status_of f → (which : File) × (reads which ≡ None)
+read_stop : (form : Option Form) (reads : Reads) (f : Fault) → Stopped form reads f → status.ReadFault ≡ status_of form f → (which : File) × (reads which ≡ None)
 read_stop form reads _ (no_form is) h = cc
 read_stop form reads _ (unread which is) h = (which, is)
 read_stop form reads _ (by_value f is) h = absurd (is.read h)
 
-read_only : (form : Option Form) (reads : Reads) (task : Result Task Fault) (old new : Option (List ℕ)) (rose : Type 0) → task_of_form form reads ≡ task → Ends task status.ReadFault old new rose → (which : File) × (reads which ≡ None)
-read_only form reads (Ok task) old new rose e h = absurd h
-read_only form reads (Err f) old new rose e h = read_stop form reads f (of_task form reads f e) h.0
+read_by : (form : Option Form) (reads : Reads) (result : Result Bool Stop) (out : Stream) → Works (task_of form reads) result out → status.ReadFault ≡ (told_of form result).0 → (which : File) × (reads which ≡ None)
+read_by form reads (Ok true) out w h = cc
+read_by form reads (Ok false) out w h = cc
+read_by form reads (Err stop.Memory) out w h = cc
+read_by form reads (Err stop.Write) out w h = cc
+read_by form reads (Err (stop.Cycle cycle)) out w h = cc
+read_by form reads (Err (stop.Fault f)) out w h = read_stop form reads f (fault_by form reads (task_of form reads) f out refl w) h
 
-unsound : (holds : List ℕ → Option (List ℕ)) (sound : List ℕ → Type 0) (rose : Type 0) (name : Option (List ℕ)) (read : Option (List ℕ)) → IsReadAs holds sound rose name read → read ≡ None
-    → rose × ((n : List ℕ) × (name ≡ Some n) × (sound n → ⊥))
-unsound holds sound rose None read h is = cc
-unsound holds sound rose (Some n) None h is = (h.0, (n, refl, h.1))
-unsound holds sound rose (Some n) (Some bytes) h is = cc
+write_stop : (form : Option Form) (reads : Reads) (f : Fault) → Stopped form reads f → status.WriteFault ≡ status_of form f → ⊥
+write_stop form reads _ (no_form is) h = cc
+write_stop form reads _ (unread which is) h = cc
+write_stop form reads _ (by_value f is) h = is.write h
 
-write_only : (task : Result Task Fault) (old new : Option (List ℕ)) (rose : Type 0) → Ends task status.WriteFault old new rose → rose
-write_only (Ok task) old new rose h = h.0
-write_only (Err fault.Usage) old new rose h = cc
-write_only (Err (fault.InFile which cause.Unread)) old new rose h = cc
-write_only (Err (fault.InFile which (cause.TooLong most))) old new rose h = cc
-write_only (Err (fault.InFile which (cause.Relation e))) old new rose h = absurd ((other_relation which e).write h.0)
-write_only (Err (fault.InFile which (cause.Payload e))) old new rose h = absurd ((other_payload which e).write h.0)
-write_only (Err (fault.InFile which (cause.Scenario e))) old new rose h = absurd ((other_scenario which e).write h.0)
-write_only (Err (fault.InFile which (cause.Script e))) old new rose h = absurd ((other_script which e).write h.0)
-write_only (Err fault.TooManyAses) old new rose h = cc
+broken : (task : Result Task Fault) (out : Stream) → Works task (Err stop.Write) out → (text : List ℕ) × out.broke text
+broken (Ok task) out w = (_, w.1.2.2)
+broken (Err f) out w = absurd w
 
-module _ {holds : List ℕ → Option (List ℕ)} {sound : List ℕ → Type 0} {read_rose : Type 0} {words : List (List ℕ)} {s : Status} {out_old out_new : Option (List ℕ)} {out_rose : Type 0} {err_old err_new : Option (List ℕ)} {err_rose : Type 0} where
-  pub usage_row : Ran holds sound read_rose words s out_old out_new out_rose err_old err_new err_rose → UsageRow words s
-  usage_row r = record {
-    only = λ is. usage_only (form_of words) r.reads (task_of words r.reads) out_old out_new out_rose refl (rw is at r.ends);
-    there = λ none.
-        let task : task_of words r.reads ≡ Err fault.Usage = ap (λ form. task_of_form form r.reads) none in
-        usage_there s out_old out_new out_rose (rw task at r.ends);
-  }
+write_by : (form : Option Form) (reads : Reads) (result : Result Bool Stop) (out : Stream) → Works (task_of form reads) result out → status.WriteFault ≡ (told_of form result).0 → (text : List ℕ) × out.broke text
+write_by form reads (Ok true) out w h = cc
+write_by form reads (Ok false) out w h = cc
+write_by form reads (Err stop.Memory) out w h = cc
+write_by form reads (Err stop.Write) out w h = broken (task_of form reads) out w
+write_by form reads (Err (stop.Cycle cycle)) out w h = cc
+write_by form reads (Err (stop.Fault f)) out w h = absurd (write_stop form reads f (fault_by form reads (task_of form reads) f out refl w) h)
 
-  pub read_row : Ran holds sound read_rose words s out_old out_new out_rose err_old err_new err_rose → ReadFaultRow sound read_rose words s
+module _ {from : Source} {words : List (List ℕ)} {s : Status} {out err : Stream} where
+  pub usage_row : Ran from words s out err → form_of words ≡ None → (s ≡ status.Usage) ⊎ (s ≡ status.NoMemory)
+  usage_row r none =
+      let P : Status → Type 0 = λ s. (s ≡ status.Usage) ⊎ (s ≡ status.NoMemory) in
+      let task : task_of (form_of words) r.reads ≡ Err fault.Usage = ap (λ form. task_of form r.reads) none in
+      subst P (sym r.ends.status) (usage_there (form_of words) r.ends.result out (subst (λ (t : Result Task Fault). Works t r.ends.result out) task r.ends.works))
+
+  pub usage_only : Ran from words s out err → s ≡ status.Usage → form_of words ≡ None
+  usage_only r is = usage_by (form_of words) r.reads r.ends.result out r.ends.works (sym is ∙ r.ends.status)
+
+  pub read_row : Ran from words s out err → s ≡ status.ReadFault → (file : File) × IsSomeAnd (name_by (form_of words) file) from.fails
   read_row r is =
-      let none = read_only (form_of words) r.reads (task_of words r.reads) out_old out_new out_rose refl (rw is at r.ends) in
-      let h = unsound holds sound read_rose (name_in words none.0) (r.reads none.0) (r.are_read none.0) none.1 in
-      (h.0, (none.0, h.1.0, h.1.1, h.1.2))
+      let none = read_by (form_of words) r.reads r.ends.result out r.ends.works (sym is ∙ r.ends.status) in
+      (none.0, subst (λ (read : Option (List ℕ)). IsReadAs from (name_by (form_of words) none.0) read) none.1 (r.are_read none.0))
 
-  pub write_row : Ran holds sound read_rose words s out_old out_new out_rose err_old err_new err_rose → WriteFaultRow out_rose s
-  write_row r is = write_only (task_of words r.reads) out_old out_new out_rose (rw is at r.ends)
+  pub write_row : Ran from words s out err → s ≡ status.WriteFault → (text : List ℕ) × out.broke text
+  write_row r is = write_by (form_of words) r.reads r.ends.result out r.ends.works (sym is ∙ r.ends.status)

@@ -1,3 +1,4 @@
+pub mod Streams
 pub mod Command
 pub mod Words
 pub mod Task

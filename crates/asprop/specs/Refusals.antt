@@ -22,10 +22,6 @@ refusal_text (refused.UnknownPrefix prefix) = unknown_prefix_text prefix
 refusal_text (refused.UnknownAs asn) = codes "refused unknown-as " ++ (decimal asn ++ 10 ∷ [])
 refusal_text (refused.NotWatched addr) = codes "refused not-watched " ++ (addr_text addr ++ 10 ∷ [])
 
--- the text of an edit that was done: how many entries differ (own format)
-abbrev pub done_text : ℕ → List ℕ
-done_text routes = codes "ok " ++ (decimal routes ++ 10 ∷ [])
-
 -- the name of a limit (own format)
 abbrev pub limit_name : EditLimit → List ℕ
 limit_name limit.Links = codes "links"

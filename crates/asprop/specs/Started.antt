@@ -1,5 +1,5 @@
 -- How the program goes from its arguments to a run, and with which number it ends.
-use Rattle.std.specs.Prelude.{ℕ, ◌≡◌, ◌⊎◌, List, [], map, string_bytes, ⊤, Option, None, Result, Ok, Err}
+use Rattle.std.specs.Prelude.{ℕ, ◌≡◌, ◌⊎◌, List, [], map, string_bytes, ⊤, None, Result, Ok, Err}
 use Rattle.std.specs.Iterator.{DrainsIf}
 use Rattle.std.specs.IoError.{error_kind}
 use Rattle.std.specs.Vec.Iter.{into_iter_steps}
@@ -10,7 +10,7 @@ use Rattle.std.specs.declared.io.ErrorKind.TheVariants.{OutOfMemory}
 use Rattle.std.specs.declared.string.String.{String}
 use Rattle.std.specs.declared.vec.IntoIter.{IntoIter}
 use Rattle.std.specs.declared.vec.Vec.{Vec}
-use Rattle.io_edge.specs.Bytes.{Appends}
+use Rattle.asprop.specs.Streams.{Source, Stream}
 use Rattle.asprop.specs.Ran.{Explained, Ran}
 use Rattle.asprop.specs.Texts.{number_of}
 use Rattle.asprop.specs.declared.types.Fault.TheVariants as fault
@@ -43,20 +43,18 @@ IsWordsOf (Err error) (Ok words) = ⊥
 IsWordsOf (Err error) (Err reason) = reason ≡ reason_of error
 
 -- Without words nothing is written to standard output, and standard error has the reason.
-abbrev pub NoWords : Stop → Status → Option (List ℕ) → Option (List ℕ) → Option (List ℕ) → Option (List ℕ) → Type 0 → Type 0
-NoWords reason s out_old out_new err_old err_new err_rose = Explained None reason s err_old err_new err_rose × Appends out_old out_new []
+abbrev pub NoWords : Stop → Status → Stream → Stream → Type 0
+NoWords reason s out err = Explained None reason s err × out.took []
 
-module _ (holds : List ℕ → Option (List ℕ)) (sound : List ℕ → Type 0) (read_rose : Type 0) where
-  -- the run over all words that the arguments give, or what is said where there are none
-  abbrev pub Starts : Args → Status → Option (List ℕ) → Option (List ℕ) → Type 0 → Option (List ℕ) → Option (List ℕ) → Type 0 → Type 0
-  Starts (Ok args) s out_old out_new out_rose err_old err_new err_rose =
-      ((words : List (String Global)) × Gives args words × Ran holds sound read_rose (map string_bytes words) s out_old out_new out_rose err_old err_new err_rose)
-      ⊎ NoWords stop.Memory s out_old out_new err_old err_new err_rose
-  Starts (Err error) s out_old out_new out_rose err_old err_new err_rose = NoWords (reason_of error) s out_old out_new err_old err_new err_rose
+-- the run over all words that the arguments give, or what is said where there are none
+abbrev pub Starts : Source → Args → Status → Stream → Stream → Type 0
+Starts from (Ok args) s out err =
+    ((words : List (String Global)) × Gives args words × Ran from (map string_bytes words) s out err)
+    ⊎ NoWords stop.Memory s out err
+Starts from (Err error) s out err = NoWords (reason_of error) s out err
 
 -- The program ran over its arguments, and ends with the number of the run's status.
-pub record Started (holds : List ℕ → Option (List ℕ)) (sound : List ℕ → Type 0) (read_rose : Type 0) (args : Args) (number : ℕ)
-    (out_old out_new : Option (List ℕ)) (out_rose : Type 0) (err_old err_new : Option (List ℕ)) (err_rose : Type 0) : Type 0 where
+pub record Started (from : Source) (args : Args) (number : ℕ) (out err : Stream) : Type 0 where
   pub status : Status
-  pub starts : Starts holds sound read_rose args status out_old out_new out_rose err_old err_new err_rose
+  pub starts : Starts from args status out err
   pub ends : number ≡ number_of status

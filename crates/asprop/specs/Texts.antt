@@ -1,5 +1,5 @@
--- The statuses and texts of faults, and the numbers of statuses.
-use Rattle.std.specs.Prelude.{ℕ, List, [], ◌∷◌, ◌++◌, codes, Option, unwrap_or, decimal}
+-- The statuses and texts of how a run ends, and the numbers of statuses.
+use Rattle.std.specs.Prelude.{ℕ, Bool, if◌then◌else◌, List, [], ◌∷◌, ◌++◌, codes, Option, unwrap_or, Result, Ok, Err, decimal}
 use Rattle.caida_reader.specs.declared.errors.RelError.TheVariants as rel
 use Rattle.roa_table.specs.declared.errors.VrpError.TheVariants as vrp
 use Rattle.scenario_text.specs.PlaceTexts.{place_text}
@@ -9,11 +9,11 @@ use Rattle.scenario_text.specs.declared.faults.ScenarioError.TheVariants as scen
 use Rattle.scenario_text.specs.declared.script.ScriptError.TheVariants as script
 use Rattle.reports.specs.Rows.{numbers_text}
 use Rattle.asprop.specs.Words.{Form, name_by}
-use Rattle.asprop.specs.declared.types.File.{File}
 use Rattle.asprop.specs.declared.types.Cause.{Cause}
 use Rattle.asprop.specs.declared.types.Cause.TheVariants.{Unread, TooLong, Relation, Payload, Scenario, Script}
-use Rattle.asprop.specs.declared.types.Fault.{Fault}
 use Rattle.asprop.specs.declared.types.Fault.TheVariants as fault
+use Rattle.asprop.specs.declared.types.Stop.{Stop}
+use Rattle.asprop.specs.declared.types.Stop.TheVariants as stop
 use Rattle.asprop.specs.declared.types.Status.{Status}
 use Rattle.asprop.specs.declared.types.Status.TheVariants as status
 use Rattle.asprop.specs.declared.types.Status.TheVariants.{BadInput, TooLarge}
@@ -22,18 +22,9 @@ use Rattle.asprop.specs.declared.types.Status.TheVariants.{BadInput, TooLarge}
 abbrev pub message : List ℕ → List ℕ
 message text = codes "asprop: " ++ (text ++ 10 ∷ [])
 
--- `asprop: `, the file's name, the text and a line feed (own format)
-abbrev pub of_file : List ℕ → List ℕ → List ℕ
-of_file name text = codes "asprop: " ++ (name ++ (codes ": " ++ (text ++ 10 ∷ [])))
-
 -- the forms of the words, a line each (own format)
 abbrev pub usage : List ℕ
-usage =
-    codes "usage: asprop REL [--vrps FILE] [--scenario FILE] [--script FILE]" ++ 10 ∷ codes "       asprop REL --origin N" ++ 10 ∷ codes "       asprop --demo N" ++ 10 ∷ []
-
--- the name of a file as the form gives it
-abbrev pub shown : Option Form → File → List ℕ
-shown form file = unwrap_or (name_by form file) []
+usage = codes "usage: asprop REL [--vrps FILE] [--scenario FILE] [--script FILE]" ++ 10 ∷ codes "       asprop REL --origin N" ++ 10 ∷ codes "       asprop --demo N" ++ 10 ∷ []
 
 -- the text, and before it the line where it stands (own format)
 abbrev pub line : ℕ → List ℕ → List ℕ
@@ -52,7 +43,7 @@ limit_text limit.Rounds = codes "more than 4 rounds"
 limit_text limit.Leakers = codes "more than 64 leakers in a round"
 limit_text limit.Watch = codes "more than 16 watched addresses"
 
--- the table of causes: the status and the text, with the place in the file, of each (own format)
+-- the table of causes: the status and the text, with the place in the file, of each (own format). Of a reader that memory runs out in nothing is told by this table: the run ends for want of memory, and the last row is never asked for
 abbrev pub cause_of : Cause → Status × List ℕ
 cause_of Unread = (status.ReadFault, codes "read fault")
 cause_of (TooLong most) = (TooLarge, codes "more than " ++ (decimal most ++ codes " bytes"))
@@ -74,17 +65,15 @@ cause_of (Script (script.Unreadable n)) = (BadInput, line n (codes "unreadable")
 cause_of (Script (script.TooMany n)) = (TooLarge, line n (codes "more than 100000 commands"))
 cause_of _ = (BadInput, [])
 
--- the text for a fault of the words and the files (own format)
-abbrev pub fault_text : Option Form → Fault → List ℕ
-fault_text form fault.Usage = usage
-fault_text form (fault.InFile which cause) = of_file (shown form which) (cause_of cause).1
-fault_text form fault.TooManyAses = message (codes "more than 150000 ASes")
-
--- the status for a fault of the words and the files
-abbrev pub status_of : Fault → Status
-status_of fault.Usage = status.Usage
-status_of (fault.InFile which cause) = (cause_of cause).0
-status_of fault.TooManyAses = TooLarge
+-- the table of how the work ends, each with its status and its text (own format)
+abbrev pub told_of : Option Form → Result Bool Stop → Status × List ℕ
+told_of form (Ok refused) = (if refused then status.SomeRefused else status.Done, [])
+told_of form (Err stop.Memory) = (status.NoMemory, message (codes "out of memory"))
+told_of form (Err stop.Write) = (status.WriteFault, message (codes "write fault"))
+told_of form (Err (stop.Cycle cycle)) = (BadInput, codes "asprop: provider cycle: " ++ (numbers_text cycle ++ 10 ∷ []))
+told_of form (Err (stop.Fault fault.Usage)) = (status.Usage, usage)
+told_of form (Err (stop.Fault fault.TooManyAses)) = (TooLarge, message (codes "more than 150000 ASes"))
+told_of form (Err (stop.Fault (fault.InFile which cause))) = ((cause_of cause).0, codes "asprop: " ++ (unwrap_or (name_by form which) [] ++ (codes ": " ++ ((cause_of cause).1 ++ 10 ∷ []))))
 
 -- the number with which the program ends (own format)
 abbrev pub number_of : Status → ℕ
@@ -96,7 +85,3 @@ number_of status.ReadFault = 4
 number_of status.WriteFault = 5
 number_of status.NoMemory = 6
 number_of status.TooLarge = 7
-
--- the text for a provider cycle: its numbers, the lowest first (own format)
-abbrev pub cycle_text : List ℕ → List ℕ
-cycle_text cycle = codes "asprop: provider cycle: " ++ (numbers_text cycle ++ 10 ∷ [])

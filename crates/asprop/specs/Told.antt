@@ -11,7 +11,7 @@ use Rattle.sim_core.specs.Answers.{IsAnswer, refusal_of}
 use Rattle.sim_core.specs.Edits.{HasChanged, IsAllowed, IsReason, edited}
 use Rattle.sim_core.specs.declared.errors.EditError.{EditError}
 use Rattle.sim_core.specs.declared.errors.QueryError.{QueryError}
-use Rattle.asprop.specs.Refusals.{done_text, edit_refusal_text, refusal_text}
+use Rattle.asprop.specs.Refusals.{edit_refusal_text, refusal_text}
 
 -- the text is the answer, or where there is a reason to refuse the text of the refusal (own format)
 abbrev pub IsReply : World → Kept → Query → Option QueryError → List ℕ → Bool → Type 0
@@ -32,7 +32,7 @@ pub record IsDone (w : World) (kept : Kept) (e : Edit) (text : List ℕ) (after 
   pub is_kept : IsKept after now
   pub routes : ℕ
   pub changed : HasChanged after kept.routings now.routings routes
-  pub says : text ≡ done_text routes
+  pub says : text ≡ codes "ok " ++ (decimal routes ++ 10 ∷ [])
 
 -- the edit is refused: the text says why, and the world stays as it is (own format)
 pub record IsRefused (w : World) (e : Edit) (text : List ℕ) (after : World) : Type 0 where
@@ -41,41 +41,26 @@ pub record IsRefused (w : World) (e : Edit) (text : List ℕ) (after : World) : 
   pub says : text ≡ edit_refusal_text error
   pub stays : after ≡ w
 
--- the text is what is told for an edit, which is refused or not (own format)
-abbrev pub IsEditReply : World → Kept → Edit → List ℕ → World → Bool → Type 0
-IsEditReply w kept e text after false = IsDone w kept e text after
-IsEditReply w kept e text after true = IsRefused w e text after
+-- the text is what is told for what a line asks: a query leaves the world as it is, and an edit is refused or not (own format)
+abbrev pub Tells : World → Kept → Act → List ℕ → Bool → World → Type 0
+Tells w kept (act.Query q) text refused after = IsReply w kept q (refusal_of w q) text refused × (after ≡ w)
+Tells w kept (act.Edit e) text false after = IsDone w kept e text after
+Tells w kept (act.Edit e) text true after = IsRefused w e text after
 
 -- the reply to an edit was appended (own format)
 pub record AppendsEditReply (w : World) (kept : Kept) (e : Edit) (refused : Bool) (old new : List ℕ) (after : World) : Type 0 where
   pub text : List ℕ
-  pub reply : IsEditReply w kept e text after refused
+  pub reply : Tells w kept (act.Edit e) text refused after
   pub appended : new ≡ old ++ text
 
--- the text is what is told for what a line asks; a query leaves the world as it is (own format)
-abbrev pub Tells : World → Kept → Act → List ℕ → Bool → World → Type 0
-Tells w kept (act.Query q) text refused after = IsReply w kept q (refusal_of w q) text refused × (after ≡ w)
-Tells w kept (act.Edit e) text refused after = IsEditReply w kept e text after refused
+-- the head line of an answer, if there are head lines: `# ` and the line's number (own format)
+abbrev pub head : Bool → ℕ → List ℕ
+head heads number = if heads then codes "# " ++ (decimal number ++ 10 ∷ []) else []
 
--- the text answers the line by the one and only stable routings of the world's rounds and by the ranks of its ASes, and leaves this world (Gao and Rexford 2001)
-pub record Answers (w : World) (line : LineValue) (text : List ℕ) (refused : Bool) (after : World) : Type 0 where
-  pub kept : Kept
-  pub is_kept : IsKept w kept
-  pub told : Tells w kept line.act text refused after
-
--- the head line of an answer: `# ` and the line's number (own format)
-abbrev pub head_line : ℕ → List ℕ
-head_line number = codes "# " ++ (decimal number ++ 10 ∷ [])
-
--- a head line, if there are head lines (own format)
-abbrev pub head : Bool → LineValue → List ℕ
-head heads line = if heads then head_line line.number else []
-
--- a head line, if there are head lines, and the answer (own format)
-pub record Answered (heads : Bool) (w : World) (line : LineValue) (text : List ℕ) (refused : Bool) (after : World) : Type 0 where
-  pub answer : List ℕ
-  pub answers : Answers w line answer refused after
-  pub text_is : text ≡ head heads line ++ answer
+-- the text is the head line and what is told for the line by the one and only stable routings of the world's rounds and by the ranks of its ASes, and the line leaves this world (Gao and Rexford 2001)
+abbrev pub Answered : Bool → World → LineValue → List ℕ → Bool → World → Type 0
+Answered heads w line text refused after = (kept : Kept) × IsKept w kept
+    × (answer : List ℕ) × Tells w kept line.act answer refused after × (text ≡ head heads line.number ++ answer)
 
 -- the text answers the lines one after the other, each in the world that the lines before it leave; `refused` says whether an answer is a refusal (own format)
 abbrev pub Told : Bool → World → List LineValue → List ℕ → Bool → Type 0

@@ -60,10 +60,6 @@ name_by (Some (script_form rel vrps scenario script)) Script = script
 name_by (Some (origin_form rel origin)) Relations = Some rel
 name_by _ _ = None
 
--- the name that the words give to a file
-abbrev pub name_in : List Text → File → Option Text
-name_in words file = name_by (form_of words) file
-
 -- what the program keeps of a name
 abbrev pub text_seen : Option (Bor Text) → Option Text
 text_seen = option_map (λ text. text.now)

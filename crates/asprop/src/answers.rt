@@ -1,12 +1,12 @@
 //! Answers to lines.
-ghost use Rattle.std.specs.Prelude.{◌≡◌, ◌<◌, ◌++◌, [], string_bytes, IfOk, OnOk};
-ghost use Rattle.io_edge.specs.Faults.{Rose};
+ghost use Rattle.std.specs.Prelude.{◌≡◌, ◌<◌, ◌++◌, false, true, string_bytes, IfOk, OnOk};
 ghost use Rattle.sim_core.specs.Kept.{IsKept};
 ghost use Rattle.sim_core.specs.Sims.{kept, world_seen};
 ghost use Rattle.sim_core.specs.World.{HasCycle};
 ghost use Rattle.scenario_text.specs.LineValues.{AreSoundLines, IsWellFormed, IsSoundAct};
-ghost use Rattle.asprop.specs.Task.{counts_text, first_text};
-ghost use Rattle.asprop.specs.Told.{Answered, AppendsEditReply, AppendsReply, head, head_line};
+ghost use Rattle.asprop.specs.Task.{first_text};
+ghost use Rattle.asprop.specs.Told.{Answered, AppendsEditReply, AppendsReply, head};
+ghost use Rattle.asprop.specs.Streams.{stream_of};
 ghost use Rattle.asprop.specs.Written.{Answering};
 
 use crate::refusals::{put_done, put_edit_refusal, put_refusal};
@@ -22,7 +22,7 @@ use std::sync::ledger::{Blank, Ledger};
 
 // Appends the head line.
 fn put_head(alloc: Global, number: u32, text: &mut Vec<u8>) -> Result<(), AllocError>
-    ensures { OnOk result (text.new.items ≡ text.old.items ++ head_line number) }
+    ensures { OnOk result (text.new.items ≡ text.old.items ++ head true number) }
 {
     let line = format!(in alloc; "# {number}\n")?;
     text.extend_from_slice(line.as_bytes())
@@ -44,7 +44,7 @@ fn put_reply(sim: &Sim, query: &Query, text: &mut Vec<u8>) -> Result<bool, NoMem
 
 // Begins the text of an answer: with the head line, if there are head lines, or empty.
 fn begin_text(alloc: Global, heads: bool, line: &Line, text: &mut Vec<u8>) -> Result<(), NoMemory>
-    ensures { OnOk result (text.new.items ≡ head heads line.now) }
+    ensures { OnOk result (text.new.items ≡ head heads line.now.number) }
 {
     text.clear();
     if !heads {
@@ -119,7 +119,7 @@ fn answer_all<O: Sink>(
     requires sound { AreSoundLines lines.now }
     requires kept { IsKept (world_seen sim.old) (kept sim.old) }
     requires no_cycle { HasCycle (world_seen sim.old) → ⊥ }
-    ensures { Answering [] heads (world_seen sim.old) lines.now result (O.written out.old) (O.written out.new) (Rose (O.faults out.old) (O.faults out.new)) }
+    ensures { Answering (record { world = world_seen sim.old; lines = lines.now; heads = heads; counts = false }) result (stream_of O.written O.faults out.old out.new) }
 {
     let mut text: Vec<u8> = Vec::new(alloc);
     let mut refused = false;
@@ -164,7 +164,7 @@ pub fn write_answers<O: Sink>(
     requires sound { AreSoundLines lines.now }
     requires kept { IsKept (world_seen sim.old) (kept sim.old) }
     requires no_cycle { HasCycle (world_seen sim.old) → ⊥ }
-    ensures { Answering (first_text counts (world_seen sim.old)) heads (world_seen sim.old) lines.now result (O.written out.old) (O.written out.new) (Rose (O.faults out.old) (O.faults out.new)) }
+    ensures { Answering (record { world = world_seen sim.old; lines = lines.now; heads = heads; counts = counts }) result (stream_of O.written O.faults out.old out.new) }
 {
     let Ok(first) = first_lines(alloc, sim, counts) else {
         return Err(Stop::Memory);

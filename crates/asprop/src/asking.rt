@@ -1,9 +1,9 @@
 //! From the form of the words and the files to what is asked.
 ghost use Rattle.std.specs.Prelude.{◌≡◌, ◌≤◌, ◌∷◌, [], IfOk, option_map, Some};
-ghost use Rattle.io_edge.specs.Faults.{Rose};
 ghost use Rattle.asprop.specs.Task.{all_addresses, announced_by, origin_line};
 ghost use Rattle.asprop.specs.Files.{Prepares};
 ghost use Rattle.asprop.specs.Seen.{task_seen};
+ghost use Rattle.asprop.specs.Streams.{source_of};
 ghost use Rattle.asprop.specs.Words.{HasSize, demo_form, form_seen, origin_form, script_form, text_seen};
 
 use crate::reading::{read_lines, read_payloads, read_plan, read_relations};
@@ -73,7 +73,7 @@ fn ask_origin<I: Inputs>(
     origin: Asn,
     inputs: &mut I,
 ) -> Result<Asked, Stop>
-    ensures { Prepares (I.holds inputs.old) (I.is_sound inputs.old) (Rose (I.faults inputs.old) (I.faults inputs.new))
+    ensures { Prepares (source_of I.holds I.is_sound I.faults inputs.old inputs.new)
         (Some (origin_form rel.now origin)) task_seen result }
 {
     let links = match read_relations(alloc, inputs, rel) {
@@ -105,7 +105,7 @@ fn ask_script<I: Inputs>(
     script: Option<&str>,
     inputs: &mut I,
 ) -> Result<Asked, Stop>
-    ensures { Prepares (I.holds inputs.old) (I.is_sound inputs.old) (Rose (I.faults inputs.old) (I.faults inputs.new))
+    ensures { Prepares (source_of I.holds I.is_sound I.faults inputs.old inputs.new)
         (Some (script_form rel.now (text_seen vrps.entry) (text_seen scenario.entry) (text_seen script.entry))) task_seen result }
 {
     let links = match read_relations(alloc, inputs, rel) {
@@ -137,7 +137,7 @@ fn ask_script<I: Inputs>(
 fn ask_demo<I: Inputs>(alloc: Global, size: u32, _inputs: &mut I) -> Result<Asked, Stop>
     requires least { 4 ≤ size }
     requires most { size ≤ 20000 }
-    ensures { Prepares (I.holds _inputs.old) (I.is_sound _inputs.old) (Rose (I.faults _inputs.old) (I.faults _inputs.new))
+    ensures { Prepares (source_of I.holds I.is_sound I.faults _inputs.old _inputs.new)
         (Some (demo_form size)) task_seen result }
 {
     let Ok(
@@ -170,7 +170,7 @@ pub fn ask<I: Inputs>(
     inputs: &mut I,
 ) -> Result<Asked, Stop>
     requires sized { HasSize (option_map form_seen form.now) }
-    ensures { Prepares (I.holds inputs.old) (I.is_sound inputs.old) (Rose (I.faults inputs.old) (I.faults inputs.new))
+    ensures { Prepares (source_of I.holds I.is_sound I.faults inputs.old inputs.new)
         (option_map form_seen form.now) task_seen result }
 {
     let Some(form) = form else {

@@ -1,9 +1,9 @@
 //! What is said of a fault.
-ghost use Rattle.std.specs.Prelude.{◌≡◌, ◌++◌, IfOk, option_map, string_bytes};
-ghost use Rattle.io_edge.specs.Faults.{Rose};
-ghost use Rattle.asprop.specs.Texts.{cause_of, cycle_text, fault_text, shown, status_of};
+ghost use Rattle.std.specs.Prelude.{◌≡◌, [], IfOk, Option, None, option_map, string_bytes, unwrap_or};
+ghost use Rattle.asprop.specs.Texts.{cause_of, told_of};
 ghost use Rattle.asprop.specs.Ran.{Explained, Reports};
-ghost use Rattle.asprop.specs.Words.{form_seen};
+ghost use Rattle.asprop.specs.Streams.{stream_of};
+ghost use Rattle.asprop.specs.Words.{Form, form_seen, name_by};
 
 use crate::fault_texts::cause_text;
 use crate::types::{Cause, Fault, File, Status, Stop};
@@ -22,7 +22,7 @@ const USAGE: &str =
 
 // The name of a file as the form gives it.
 fn file_name<'a>(form: &Option<WordForm<'a>>, file: File) -> &'a str
-    ensures { result.now ≡ shown (option_map form_seen form.now) file }
+    ensures { result.now ≡ unwrap_or (name_by (option_map form_seen form.now) file) [] }
 {
     match form {
         Some(form) => form.name(file).unwrap_or(""),
@@ -35,7 +35,7 @@ fn fault_message(
     form: &Option<WordForm<'_>>,
     fault: Fault,
 ) -> Result<String, AllocError>
-    ensures { IfOk result (λ text. string_bytes text ≡ fault_text (option_map form_seen form.now) fault) }
+    ensures { IfOk result (λ text. string_bytes text ≡ (told_of (option_map form_seen form.now) (Err (Stop.Fault fault))).1) }
 {
     match fault {
         Fault::Usage => String::from_str(alloc, USAGE),
@@ -50,7 +50,7 @@ fn fault_message(
 
 // The numbers of a cycle, the lowest first.
 fn cycle_message(alloc: Global, cycle: &Cycle) -> Result<Vec<u8>, NoMemory>
-    ensures { IfOk result (λ text. text.items ≡ cycle_text cycle.now) }
+    ensures { IfOk result (λ text. text.items ≡ (told_of None (Err (Stop.Cycle cycle.now))).1) }
 {
     let mut text = Vec::new(alloc);
     if text.extend_from_slice(b"asprop: provider cycle: ").is_err() {
@@ -81,7 +81,7 @@ fn cause_status(cause: Cause) -> Status
 }
 
 fn fault_status(fault: Fault) -> Status
-    ensures { result ≡ status_of fault }
+    ensures { (form : Option Form) → result ≡ (told_of form (Err (Stop.Fault fault))).0 }
 {
     match fault {
         Fault::Usage => Status::Usage,
@@ -92,7 +92,7 @@ fn fault_status(fault: Fault) -> Status
 
 // Writes a text as far as the sink takes it.
 fn report<E: Sink>(err: &mut E, text: &[u8])
-    ensures { Reports text.now (E.written err.old) (E.written err.new) (Rose (E.faults err.old) (E.faults err.new)) }
+    ensures { Reports text.now (stream_of E.written E.faults err.old err.new) }
 {
     let _ = write_all(err, text);
 }
@@ -104,7 +104,7 @@ pub fn explain<E: Sink>(
     stop: &Stop,
     err: &mut E,
 ) -> Status
-    ensures { Explained (option_map form_seen form.now) stop.now result (E.written err.old) (E.written err.new) (Rose (E.faults err.old) (E.faults err.new)) }
+    ensures { Explained (option_map form_seen form.now) stop.now result (stream_of E.written E.faults err.old err.new) }
 {
     match stop {
         Stop::Memory => {

@@ -1,8 +1,9 @@
 //! The files of a run: each is read to its end, or to one byte past its limit, before it is judged.
-ghost use Rattle.std.specs.Prelude.{◌≡◌, ◌<◌, length};
-ghost use Rattle.io_edge.specs.Faults.{Rose, KeepsNames};
+ghost use Rattle.std.specs.Prelude.{◌≡◌, ◌<◌, Some, length};
+ghost use Rattle.io_edge.specs.Faults.{KeepsNames};
 ghost use Rattle.asprop.specs.Task.{bytes_of, most_bytes, payloads_by, relations, scenario_by, script_lines};
-ghost use Rattle.asprop.specs.Files.{ReadsAs, ReadsTo};
+ghost use Rattle.asprop.specs.Files.{ReadsAs};
+ghost use Rattle.asprop.specs.Streams.{source_of};
 ghost use Rattle.asprop.specs.Words.{text_seen};
 
 use crate::stops::{payload_stop, relation_stop, scenario_stop, script_stop};
@@ -38,7 +39,7 @@ fn read_pieces<I: Inputs>(
     room: &mut [u8],
 ) -> Result<Links, Stop>
     requires { 0 < length room.old }
-    ensures found { ReadsTo (I.holds inputs.old name.now) (I.is_sound inputs.old name.now) (Rose (I.faults inputs.old) (I.faults inputs.new))
+    ensures found { ReadsAs (source_of I.holds I.is_sound I.faults inputs.old inputs.new) (Some name.now)
         (λ links. links) result relations }
     ensures keeps { KeepsNames I.holds I.is_sound I.faults inputs.old inputs.new }
 {
@@ -70,7 +71,7 @@ fn read_pieces<I: Inputs>(
 
 /// Reads the relationship file.
 pub fn read_relations<I: Inputs>(alloc: Global, inputs: &mut I, name: &str) -> Result<Links, Stop>
-    ensures found { ReadsTo (I.holds inputs.old name.now) (I.is_sound inputs.old name.now) (Rose (I.faults inputs.old) (I.faults inputs.new))
+    ensures found { ReadsAs (source_of I.holds I.is_sound I.faults inputs.old inputs.new) (Some name.now)
         (λ links. links) result relations }
     ensures keeps { KeepsNames I.holds I.is_sound I.faults inputs.old inputs.new }
 {
@@ -87,7 +88,7 @@ fn read_bytes<I: Inputs>(
     file: File,
     name: &str,
 ) -> Result<Vec<u8>, Stop>
-    ensures found { ReadsTo (I.holds inputs.old name.now) (I.is_sound inputs.old name.now) (Rose (I.faults inputs.old) (I.faults inputs.new))
+    ensures found { ReadsAs (source_of I.holds I.is_sound I.faults inputs.old inputs.new) (Some name.now)
         (λ bytes. bytes.items) result (bytes_of file) }
     ensures keeps { KeepsNames I.holds I.is_sound I.faults inputs.old inputs.new }
 {
@@ -106,7 +107,7 @@ pub fn read_payloads<I: Inputs>(
     inputs: &mut I,
     name: Option<&str>,
 ) -> Result<Vrps, Stop>
-    ensures found { ReadsAs (I.holds inputs.old) (I.is_sound inputs.old) (Rose (I.faults inputs.old) (I.faults inputs.new)) (text_seen name.entry)
+    ensures found { ReadsAs (source_of I.holds I.is_sound I.faults inputs.old inputs.new) (text_seen name.entry)
         (λ vrps. vrps) result (payloads_by (text_seen name.entry)) }
     ensures keeps { KeepsNames I.holds I.is_sound I.faults inputs.old inputs.new }
 {
@@ -129,7 +130,7 @@ pub fn read_plan<I: Inputs>(
     inputs: &mut I,
     name: Option<&str>,
 ) -> Result<Scenario, Stop>
-    ensures found { ReadsAs (I.holds inputs.old) (I.is_sound inputs.old) (Rose (I.faults inputs.old) (I.faults inputs.new)) (text_seen name.entry)
+    ensures found { ReadsAs (source_of I.holds I.is_sound I.faults inputs.old inputs.new) (text_seen name.entry)
         (λ scenario. scenario) result (scenario_by (text_seen name.entry)) }
     ensures keeps { KeepsNames I.holds I.is_sound I.faults inputs.old inputs.new }
 {
@@ -152,7 +153,7 @@ pub fn read_lines<I: Inputs>(
     inputs: &mut I,
     name: Option<&str>,
 ) -> Result<Lines, Stop>
-    ensures found { ReadsAs (I.holds inputs.old) (I.is_sound inputs.old) (Rose (I.faults inputs.old) (I.faults inputs.new)) (text_seen name.entry)
+    ensures found { ReadsAs (source_of I.holds I.is_sound I.faults inputs.old inputs.new) (text_seen name.entry)
         (λ lines. lines) result script_lines }
     ensures keeps { KeepsNames I.holds I.is_sound I.faults inputs.old inputs.new }
 {

@@ -1,8 +1,8 @@
 //! The texts of refused queries, and of edits.
-ghost use Rattle.std.specs.Prelude.{◌≡◌, ◌≢◌, ◌++◌, OnOk, decimal};
+ghost use Rattle.std.specs.Prelude.{◌≡◌, ◌≢◌, ◌++◌, [], ◌∷◌, OnOk, codes, decimal};
 ghost use Rattle.sim_core.specs.declared.errors.QueryError.TheVariants.{NotWatched, UnknownAs, UnknownRound};
 ghost use Rattle.sim_core.specs.declared.errors.EditError.TheVariants.{AbsentAnnouncement, AbsentLink, AbsentVrp, Limit, Memory, ProviderCycle};
-ghost use Rattle.asprop.specs.Refusals.{done_text, edit_refusal_text, limit_name as limit_name_of, refusal_text, unknown_prefix_text};
+ghost use Rattle.asprop.specs.Refusals.{edit_refusal_text, limit_name as limit_name_of, refusal_text, unknown_prefix_text};
 
 use cycle_check::Cycle;
 use net_names::{Addr, Asn, NoMemory, Prefix, Vrp, put_addr, put_asn, put_prefix};
@@ -67,7 +67,7 @@ pub fn put_refusal(out: &mut Vec<u8>, error: QueryError) -> Result<(), NoMemory>
 
 /// Appends how many entries an edit has changed.
 pub fn put_done(out: &mut Vec<u8>, routes: u64) -> Result<(), NoMemory>
-    ensures { OnOk result (out.new.items ≡ out.old.items ++ done_text routes) }
+    ensures { OnOk result (out.new.items ≡ out.old.items ++ (codes "ok " ++ (decimal routes ++ 10 ∷ []))) }
 {
     let alloc = *out.allocator();
     match format!(in alloc; "ok {routes}\n") {

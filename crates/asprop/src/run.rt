@@ -1,9 +1,11 @@
 //! The top call.
-ghost use Rattle.std.specs.Prelude.{map, option_map, string_bytes};
+ghost use Rattle.std.specs.Prelude.{◌≡◌, ◌⊎◌, IsSomeAnd, map, option_map, string_bytes};
 ghost use Rattle.io_edge.specs.Faults.{Rose};
 ghost use Rattle.asprop.specs.Ran.{Ran, Worked};
-ghost use Rattle.asprop.specs.Statuses.{IsComplete, ReadFaultRow, RunsAsTold, UsageRow, WriteFaultRow};
-ghost use Rattle.asprop.specs.Words.{HasSize, form_seen};
+ghost use Rattle.asprop.specs.Statuses.{IsComplete, RunsAsTold};
+ghost use Rattle.asprop.specs.Streams.{source_of, stream_of};
+ghost use Rattle.asprop.specs.Words.{HasSize, form_of, form_seen, name_by};
+ghost use Rattle.asprop.specs.declared.types.File.{File};
 
 use crate::answers::write_answers;
 use crate::asking::{Asked, ask};
@@ -22,8 +24,8 @@ fn work<I: Inputs, O: Sink>(
     out: &mut O,
 ) -> Result<bool, Stop>
     requires sized { HasSize (option_map form_seen form.now) }
-    ensures { Worked (I.holds inputs.old) (I.is_sound inputs.old) (Rose (I.faults inputs.old) (I.faults inputs.new)) (option_map form_seen form.now) result
-        (O.written out.old) (O.written out.new) (Rose (O.faults out.old) (O.faults out.new)) }
+    ensures { Worked (source_of I.holds I.is_sound I.faults inputs.old inputs.new) (option_map form_seen form.now) result
+        (stream_of O.written O.faults out.old out.new) }
 {
     let Asked {
         links,
@@ -52,9 +54,8 @@ fn run_to_end<I: Inputs, O: Sink, E: Sink>(
     out: &mut O,
     err: &mut E,
 ) -> Status
-    ensures { Ran (I.holds inputs.old) (I.is_sound inputs.old) (Rose (I.faults inputs.old) (I.faults inputs.new)) (map string_bytes words.now) result
-        (O.written out.old) (O.written out.new) (Rose (O.faults out.old) (O.faults out.new))
-        (E.written err.old) (E.written err.new) (Rose (E.faults err.old) (E.faults err.new)) }
+    ensures { Ran (source_of I.holds I.is_sound I.faults inputs.old inputs.new) (map string_bytes words.now) result
+        (stream_of O.written O.faults out.old out.new) (stream_of E.written E.faults err.old err.new) }
 {
     let form = match read_words(alloc, words) {
         Ok(form) => form,
@@ -82,18 +83,21 @@ pub fn run<I: Inputs, O: Sink, E: Sink>(
     err: &mut E,
 ) -> Status
     // What was read of the files, how the run ends, what it writes, and what it says of a fault.
-    ensures ran { Ran (I.holds inputs.old) (I.is_sound inputs.old) (Rose (I.faults inputs.old) (I.faults inputs.new)) (map string_bytes words.now) result
-        (O.written out.old) (O.written out.new) (Rose (O.faults out.old) (O.faults out.new))
-        (E.written err.old) (E.written err.new) (Rose (E.faults err.old) (E.faults err.new)) }
-    // Where no read fails, the run is that of the files as they are told.
-    ensures told { RunsAsTold (I.holds inputs.old) (I.is_sound inputs.old) (Rose (I.faults inputs.old) (I.faults inputs.new)) (map string_bytes words.now) result
-        (O.written out.old) (O.written out.new) (Rose (O.faults out.old) (O.faults out.new)) }
+    ensures ran { Ran (source_of I.holds I.is_sound I.faults inputs.old inputs.new) (map string_bytes words.now) result
+        (stream_of O.written O.faults out.old out.new) (stream_of E.written E.faults err.old err.new) }
+    // Where the bytes of the files are told and no read fails, the run is one over those bytes.
+    ensures told { RunsAsTold (source_of I.holds I.is_sound I.faults inputs.old inputs.new) (map string_bytes words.now) result
+        (stream_of O.written O.faults out.old out.new) (stream_of E.written E.faults err.old err.new) }
     // Accepted files give Done or SomeRefused, or want of memory, where neither a read nor a write fails.
-    ensures complete { IsComplete (I.holds inputs.old) (I.is_sound inputs.old) (Rose (I.faults inputs.old) (I.faults inputs.new)) (map string_bytes words.now) result
-        (Rose (O.faults out.old) (O.faults out.new)) }
-    ensures usage { UsageRow (map string_bytes words.now) result }
-    ensures read_fault { ReadFaultRow (I.is_sound inputs.old) (Rose (I.faults inputs.old) (I.faults inputs.new)) (map string_bytes words.now) result }
-    ensures write_fault { WriteFaultRow (Rose (O.faults out.old) (O.faults out.new)) result }
+    ensures complete { IsComplete (source_of I.holds I.is_sound I.faults inputs.old inputs.new) (map string_bytes words.now) result
+        (stream_of O.written O.faults out.old out.new) }
+    // Usage comes where the words have no form, and there nothing else but want of memory.
+    ensures usage { form_of (map string_bytes words.now) ≡ None → (result ≡ Status.Usage) ⊎ (result ≡ Status.NoMemory) }
+    ensures usage_only { result ≡ Status.Usage → form_of (map string_bytes words.now) ≡ None }
+    // ReadFault comes only where a read failed of a file that the words name, and WriteFault only where a write failed.
+    ensures read_fault { result ≡ Status.ReadFault → (file : File) × IsSomeAnd (name_by (form_of (map string_bytes words.now)) file)
+        (source_of I.holds I.is_sound I.faults inputs.old inputs.new).fails }
+    ensures write_fault { result ≡ Status.WriteFault → Rose (O.faults out.old) (O.faults out.new) }
 {
     run_to_end(alloc, words, inputs, out, err)
 }

@@ -1,8 +1,8 @@
 //! The step from the program's arguments to a run over its words.
 ghost use Rattle.std.specs.Prelude.{◌≡◌};
 ghost use Rattle.std.specs.Process.{exit_status};
-ghost use Rattle.io_edge.specs.Faults.{Rose};
 ghost use Rattle.asprop.specs.Started.{IsWordsOf, Started, Starts, reason_of};
+ghost use Rattle.asprop.specs.Streams.{source_of, stream_of};
 
 use crate::explain::explain;
 use crate::run::run;
@@ -45,9 +45,8 @@ fn run_by<I: Inputs, O: Sink, E: Sink>(
     out: &mut O,
     err: &mut E,
 ) -> Status
-    ensures { Starts (I.holds inputs.old) (I.is_sound inputs.old) (Rose (I.faults inputs.old) (I.faults inputs.new)) args result
-        (O.written out.old) (O.written out.new) (Rose (O.faults out.old) (O.faults out.new))
-        (E.written err.old) (E.written err.new) (Rose (E.faults err.old) (E.faults err.new)) }
+    ensures { Starts (source_of I.holds I.is_sound I.faults inputs.old inputs.new) args result
+        (stream_of O.written O.faults out.old out.new) (stream_of E.written E.faults err.old err.new) }
 {
     match words_of(alloc, args) {
         Ok(words) => run(alloc, &words, inputs, out, err),
@@ -65,9 +64,8 @@ pub fn start<I: Inputs, O: Sink, E: Sink>(
     out: &mut O,
     err: &mut E,
 ) -> ExitCode
-    ensures { Started (I.holds inputs.old) (I.is_sound inputs.old) (Rose (I.faults inputs.old) (I.faults inputs.new)) args (exit_status result)
-        (O.written out.old) (O.written out.new) (Rose (O.faults out.old) (O.faults out.new))
-        (E.written err.old) (E.written err.new) (Rose (E.faults err.old) (E.faults err.new)) }
+    ensures { Started (source_of I.holds I.is_sound I.faults inputs.old inputs.new) args (exit_status result)
+        (stream_of O.written O.faults out.old out.new) (stream_of E.written E.faults err.old err.new) }
 {
     ExitCode::from(run_by(alloc, args, inputs, out, err).number())
 }

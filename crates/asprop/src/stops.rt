@@ -1,5 +1,6 @@
 //! What the faults of files mean for the run.
 ghost use Rattle.std.specs.Prelude.{Result, List, Err};
+ghost use Rattle.std.specs.Result.{result_map_both};
 ghost use Rattle.net_names.specs.Links.{LinkMap};
 ghost use Rattle.caida_reader.specs.Progress.{Fails as RelationFails};
 ghost use Rattle.caida_reader.specs.declared.errors.RelError.{RelError as ARelError};
@@ -12,10 +13,10 @@ ghost use Rattle.scenario_text.specs.LineValues.{LineValue};
 ghost use Rattle.scenario_text.specs.Script.{Fails as ScriptFails};
 ghost use Rattle.scenario_text.specs.declared.faults.ScenarioError.{ScenarioError as AScenarioError};
 ghost use Rattle.scenario_text.specs.declared.script.ScriptError.{ScriptError as AScriptError};
-ghost use Rattle.asprop.specs.Task.{or_fault};
 ghost use Rattle.asprop.specs.Files.{IsStop};
 ghost use Rattle.asprop.specs.declared.types.File.TheVariants as file;
 ghost use Rattle.asprop.specs.declared.types.Cause.TheVariants as cause;
+ghost use Rattle.asprop.specs.declared.types.Fault.TheVariants as fault;
 
 use crate::types::{Cause, Fault, File, Stop};
 use caida_reader::RelError;
@@ -24,7 +25,7 @@ use scenario_text::{ScenarioError, ScriptError};
 
 /// The stop for a fault of the relationship file.
 pub fn relation_stop(error: RelError) -> Stop
-    ensures { (value : Result LinkMap ARelError) → RelationFails error value → IsStop result (or_fault file.Relations cause.Relation value) }
+    ensures { (value : Result LinkMap ARelError) → RelationFails error value → IsStop result (result_map_both (λ x. x) (λ e. fault.InFile file.Relations (cause.Relation e)) value) }
 {
     match error {
         RelError::Memory => Stop::Memory,
@@ -49,7 +50,7 @@ pub fn relation_stop(error: RelError) -> Stop
 
 /// The stop for a fault of the payload file.
 pub fn payload_stop(error: VrpError) -> Stop
-    ensures { (value : Result Payloads AVrpError) → Gives (Err error) value → IsStop result (or_fault file.Payloads cause.Payload value) }
+    ensures { (value : Result Payloads AVrpError) → Gives (Err error) value → IsStop result (result_map_both (λ x. x) (λ e. fault.InFile file.Payloads (cause.Payload e)) value) }
 {
     match error {
         VrpError::Memory => Stop::Memory,
@@ -78,7 +79,7 @@ pub fn payload_stop(error: VrpError) -> Stop
 
 /// The stop for a fault of the scenario.
 pub fn scenario_stop(error: ScenarioError) -> Stop
-    ensures { (value : Result ScenarioValue AScenarioError) → ScenarioFails error value → IsStop result (or_fault file.Scenario cause.Scenario value) }
+    ensures { (value : Result ScenarioValue AScenarioError) → ScenarioFails error value → IsStop result (result_map_both (λ x. x) (λ e. fault.InFile file.Scenario (cause.Scenario e)) value) }
 {
     match error {
         ScenarioError::Memory => Stop::Memory,
@@ -107,7 +108,7 @@ pub fn scenario_stop(error: ScenarioError) -> Stop
 
 /// The stop for a fault of the script.
 pub fn script_stop(error: ScriptError) -> Stop
-    ensures { (value : Result (List LineValue) AScriptError) → ScriptFails error value → IsStop result (or_fault file.Script cause.Script value) }
+    ensures { (value : Result (List LineValue) AScriptError) → ScriptFails error value → IsStop result (result_map_both (λ x. x) (λ e. fault.InFile file.Script (cause.Script e)) value) }
 {
     match error {
         ScriptError::Memory => Stop::Memory,

@@ -16,10 +16,9 @@ returns g c = all _ _ _ _ _ _ _ _ c.lines.invariant.so_far c.lines-test.false
 
 pub returns-in-Err-write_all : goal.returns-in-Err-write_all
 returns-in-Err-write_all g c =
-    let P : LineValue → Type 0 = λ line. Answered c.args.heads (world_seen c.lines.sim) line c.answer_line.new.text.items c.in-Ok.first (world_seen c.answer_line.new.sim) in (
-      rose_earlier _ _ _ c.lines.invariant.later c.in-Err-write_all.ensures.cause.failed,
-      part _ _ _ _ _ _ c.line-item.result _ _ _ _ _ _ c.lines-test.true c.lines.invariant.so_far (subst P c.line-item.is c.in-Ok.ensures.answered) (rw c.deref.ensures.value at c.in-Err-write_all.ensures.front),
-    )
+    let P : LineValue → Type 0 = λ line. Answered c.args.heads (world_seen c.lines.sim) line c.answer_line.new.text.items c.in-Ok.first (world_seen c.answer_line.new.sim) in
+    part _ _ _ _ _ _ c.line-item.result _ _ _ _ _ _ _ (rose_earlier _ _ _ c.lines.invariant.later c.in-Err-write_all.ensures.cause.failed) c.lines-test.true
+    c.lines.invariant.so_far (subst P c.line-item.is c.in-Ok.ensures.answered) (rw c.deref.ensures.value at c.in-Err-write_all.ensures.front)
 
 pub lines-preserved : goal.lines-preserved
 lines-preserved g c =

@@ -1,14 +1,16 @@
-use Rattle.asprop.proofs.Ending.{explained, with_refusal, without_refusal, unformed}
+use Rattle.std.proofs.Common.{refl, true, false}
+use Rattle.io_edge.proofs.Appending.{Appends-nil}
+use Rattle.asprop.proofs.Ending.{all_written, explained, unformed}
 use Rattle.asprop.proofs.run.run_to_end.Goals as goal
 
 pub returns-in-Err : goal.returns-in-Err
-returns-in-Err g c = unformed _ c.explain.ensures
+returns-in-Err g c = unformed _ c.explain.ensures (Appends-nil _)
 
 pub returns-in-Ok-true : goal.returns-in-Ok-true
-returns-in-Ok-true g c = with_refusal (rw c.in-Ok.ensures.form at (rw c.in-Ok-true.field-0-test at c.in-Ok-true.ensures))
+returns-in-Ok-true g c = all_written true _ refl (rw c.in-Ok.ensures.form at (rw c.in-Ok-true.field-0-test at c.in-Ok-true.ensures)) (Appends-nil _)
 
 pub returns-in-Ok-false : goal.returns-in-Ok-false
-returns-in-Ok-false g c = without_refusal (rw c.in-Ok.ensures.form at (rw c.in-Ok-false.field-0-test at c.in-Ok-false.ensures))
+returns-in-Ok-false g c = all_written false _ refl (rw c.in-Ok.ensures.form at (rw c.in-Ok-false.field-0-test at c.in-Ok-false.ensures)) (Appends-nil _)
 
 pub returns-in-Err-work : goal.returns-in-Err-work
 returns-in-Err-work g c = explained _ _ (rw c.in-Ok.ensures.form at c.in-Err-work.ensures) (rw c.in-Ok.ensures.form at c.explain-in-Err-work.ensures)
