@@ -14,7 +14,7 @@ use Rattle.scenario_text.specs.declared.script.ScriptError.{ScriptError}
 use Rattle.scenario_text.specs.declared.script.ScriptError.TheVariants as script
 use Rattle.scenario_text.specs.Walks.{◌>>=◌}
 use Rattle.asprop.specs.Texts.{told_of}
-use Rattle.asprop.specs.Task.{Task, Reads, asked, task_of, relations, payloads_by, scenario_by, script_lines, read_as, bytes_of, most_bytes}
+use Rattle.asprop.specs.Task.{Task, Reads, asked, task_of, read_as, bytes_of, most_bytes}
 use Rattle.asprop.specs.Words.{Form, origin_form, script_form, demo_form}
 use Rattle.asprop.specs.declared.types.File.{File}
 use Rattle.asprop.specs.declared.types.File.TheVariants as file
@@ -26,7 +26,7 @@ use Rattle.asprop.specs.declared.types.Status.{Status}
 use Rattle.asprop.specs.declared.types.Status.TheVariants as status
 use Rattle.asprop.specs.declared.types.Stop.TheVariants as stop
 use Rattle.asprop.proofs.Preparing.{origin_task, script_task}
-use Rattle.asprop.proofs.ReadLemmas.{or_fault}
+use Rattle.asprop.proofs.ReadLemmas.{or_fault, relations, payloads_by, scenario_by, script_lines}
 use Rattle.as_graph.specs.Topology.{as_count}
 use Rattle.sim_core.specs.World.{topology}
 

@@ -8,14 +8,13 @@ use Rattle.caida_reader.specs.Progress.{Progress, outcome, UnlessMemory, Fails}
 use Rattle.caida_reader.specs.declared.errors.RelError.{RelError}
 use Rattle.caida_reader.specs.declared.errors.RelError.TheVariants as rel
 use Rattle.scenario_text.specs.Walks.{◌>>=◌}
-use Rattle.asprop.specs.Task.{relations}
 use Rattle.asprop.specs.Files.{IsStop, ReadsTo}
 use Rattle.asprop.specs.declared.types.File.TheVariants as file
 use Rattle.asprop.specs.declared.types.Stop.{Stop}
 use Rattle.asprop.specs.declared.types.Stop.TheVariants as stop
 use Rattle.asprop.specs.declared.types.Fault.TheVariants as fault
 use Rattle.asprop.specs.declared.types.Cause.TheVariants as cause
-use Rattle.asprop.proofs.ReadLemmas.{or_fault, whole, too_long}
+use Rattle.asprop.proofs.ReadLemmas.{or_fault, relations, whole, too_long}
 
 -- a relationship file within its limit
 whole_links : (bytes : List ℕ) → length bytes ≤ 268435456 → relations (Some bytes) ≡ or_fault file.Relations cause.Relation (links_of bytes)
@@ -92,7 +91,7 @@ known_err (Some (rel.TooManyLinks n)) e rest value h is = subst (Fails e) h is
 at_end : (p : Progress) (bytes : List ℕ) → UnlessMemory p.failed ((more : List ℕ) → outcome p more ≡ links_of (bytes ++ more)) → UnlessMemory p.failed (outcome p [] ≡ links_of bytes)
 at_end p bytes h = unless p.failed _ _ (λ on. on [] ∙ ap links_of (append-nil bytes)) h
 
-taken_long : (held left : Option (List ℕ)) (bytes : List ℕ) (fails : Type 0) → Consumes held left bytes → 268435456 < length bytes → ReadsTo held fails (λ (links : LinkMap). links) (Err (stop.Fault (fault.InFile file.Relations (cause.TooLong 268435456)))) relations
+taken_long : (held left : Option (List ℕ)) (bytes : List ℕ) (fails : Type 0) → Consumes held left bytes → 268435456 < length bytes → ReadsTo held fails (λ (links : LinkMap). links) (Err (stop.Fault (fault.InFile file.Relations (cause.TooLong 268435456)))) (λ reads. relations (reads file.Relations))
 taken_long None left bytes fails took many = record { read = Some bytes; is_read = tt; finds = long_links bytes many }
 taken_long (Some x) None bytes fails took many = absurd took
 taken_long (Some x) (Some y) bytes fails took many =
@@ -101,7 +100,7 @@ taken_long (Some x) (Some y) bytes fails took many =
 
 module _ {held left : Option (List ℕ)} {fails : Type 0} {reader : Progress} {taken : ℕ} (fed : Fed held left reader taken) where
   -- what was fed is the whole file, and the reader gave its links
-  pub ends_ok : (now : Option (List ℕ)) (links : LinkMap) → Consumes left now [] → IsAtEnd now → taken ≤ 268435456 → outcome reader [] ≡ Ok links → ReadsTo held fails (λ (links : LinkMap). links) (Ok links) relations
+  pub ends_ok : (now : Option (List ℕ)) (links : LinkMap) → Consumes left now [] → IsAtEnd now → taken ≤ 268435456 → outcome reader [] ≡ Ok links → ReadsTo held fails (λ (links : LinkMap). links) (Ok links) (λ reads. relations (reads file.Relations))
   ends_ok now links took end few is = record {
     read = Some fed.bytes;
     is_read = whole_bytes held now fed.bytes (rw append-nil at (Consumes-trans held left now fed.bytes [] fed.took took)) end;
@@ -109,7 +108,7 @@ module _ {held left : Option (List ℕ)} {fails : Type 0} {reader : Progress} {t
   }
 
   pub ends_err : (now : Option (List ℕ)) (e : RelError) (s : Stop) → Consumes left now [] → IsAtEnd now → taken ≤ 268435456 → Fails e (outcome reader [])
-      → ((value : Result LinkMap RelError) → Fails e value → IsStop s (or_fault file.Relations cause.Relation value)) → ReadsTo held fails (λ (links : LinkMap). links) (Err s) relations
+      → ((value : Result LinkMap RelError) → Fails e value → IsStop s (or_fault file.Relations cause.Relation value)) → ReadsTo held fails (λ (links : LinkMap). links) (Err s) (λ reads. relations (reads file.Relations))
   ends_err now e s took end few is stops = record {
     read = Some fed.bytes;
     is_read = whole_bytes held now fed.bytes (rw append-nil at (Consumes-trans held left now fed.bytes [] fed.took took)) end;
@@ -117,5 +116,5 @@ module _ {held left : Option (List ℕ)} {fails : Type 0} {reader : Progress} {t
   }
 
   -- more was taken than a file may have
-  pub ends_long : 268435456 < taken → ReadsTo held fails (λ (links : LinkMap). links) (Err (stop.Fault (fault.InFile file.Relations (cause.TooLong 268435456)))) relations
+  pub ends_long : 268435456 < taken → ReadsTo held fails (λ (links : LinkMap). links) (Err (stop.Fault (fault.InFile file.Relations (cause.TooLong 268435456)))) (λ reads. relations (reads file.Relations))
   ends_long many = taken_long held left fed.bytes fails fed.took (omega (arith, fed.long, many))

@@ -7,10 +7,11 @@ use Rattle.scenario_text.specs.LineValues.{LineValue}
 use Rattle.io_edge.specs.Faults.{KeepsNames}
 use Rattle.asprop.specs.Streams.{source_of}
 use Rattle.asprop.specs.Words.{script_form}
-use Rattle.asprop.specs.Task.{Task, relations, payloads_by, scenario_by, script_lines}
+use Rattle.asprop.specs.Task.{Task}
 use Rattle.asprop.specs.Files.{IsReadAs, ReadsAs, Prepares}
+use Rattle.asprop.specs.declared.types.File.TheVariants as file
 use Rattle.asprop.specs.declared.types.Stop.{Stop}
-use Rattle.asprop.proofs.ReadLemmas.{read_whole_run, kept_names, kept_twice}
+use Rattle.asprop.proofs.ReadLemmas.{relations, payloads_by, scenario_by, script_lines, read_whole_run, kept_names, kept_twice}
 use Rattle.asprop.proofs.Preparing.{script_task, no_payloads, no_scenario, no_lines, all_read}
 
 -- what the first call read is read in the run
@@ -20,8 +21,8 @@ first {holds} {is_sound} {faults} a b z keeps later name read h = read_whole_run
 
 module _ {I : Type 0} {holds : I → List ℕ → Option (List ℕ)} {is_sound : I → List ℕ → Type 0} {faults : I → ℕ} {X : Type 0} {view : X → Task} where
   pub payloads_stop : {a b c : I} → KeepsNames holds is_sound faults a b → KeepsNames holds is_sound faults b c → (rel : List ℕ) (vrps scenario script : Option (List ℕ)) (links : LinkMap) (s : Stop)
-      → ReadsAs (source_of holds is_sound faults a b) (Some rel) (λ (links : LinkMap). links) (Ok links) relations
-      → ReadsAs (source_of holds is_sound faults b c) vrps (λ (payloads : Payloads). payloads) (Err s) (payloads_by vrps)
+      → ReadsAs (source_of holds is_sound faults a b) (Some rel) (λ (links : LinkMap). links) (Ok links) (λ reads. relations (reads file.Relations))
+      → ReadsAs (source_of holds is_sound faults b c) vrps (λ (payloads : Payloads). payloads) (Err s) (λ reads. payloads_by vrps (reads file.Payloads))
       → Prepares (source_of holds is_sound faults a c) (Some (script_form rel vrps scenario script)) view (Err s)
   payloads_stop {a} {b} {c} p q rel vrps scenario script links s f g =
       no_payloads rel vrps scenario script f.read g.read links s
@@ -30,9 +31,9 @@ module _ {I : Type 0} {holds : I → List ℕ → Option (List ℕ)} {is_sound :
 
   pub scenario_stop : {a b c d : I} → KeepsNames holds is_sound faults a b → KeepsNames holds is_sound faults b c → KeepsNames holds is_sound faults c d
       → (rel : List ℕ) (vrps scenario script : Option (List ℕ)) (links : LinkMap) (payloads : Payloads) (s : Stop)
-      → ReadsAs (source_of holds is_sound faults a b) (Some rel) (λ (links : LinkMap). links) (Ok links) relations
-      → ReadsAs (source_of holds is_sound faults b c) vrps (λ (payloads : Payloads). payloads) (Ok payloads) (payloads_by vrps)
-      → ReadsAs (source_of holds is_sound faults c d) scenario (λ (plan : ScenarioValue). plan) (Err s) (scenario_by scenario)
+      → ReadsAs (source_of holds is_sound faults a b) (Some rel) (λ (links : LinkMap). links) (Ok links) (λ reads. relations (reads file.Relations))
+      → ReadsAs (source_of holds is_sound faults b c) vrps (λ (payloads : Payloads). payloads) (Ok payloads) (λ reads. payloads_by vrps (reads file.Payloads))
+      → ReadsAs (source_of holds is_sound faults c d) scenario (λ (plan : ScenarioValue). plan) (Err s) (λ reads. scenario_by scenario (reads file.Scenario))
       → Prepares (source_of holds is_sound faults a d) (Some (script_form rel vrps scenario script)) view (Err s)
   scenario_stop {a} {b} {c} {d} p q r rel vrps scenario script links payloads s f g h =
       no_scenario rel vrps scenario script f.read g.read h.read links payloads s
@@ -42,10 +43,10 @@ module _ {I : Type 0} {holds : I → List ℕ → Option (List ℕ)} {is_sound :
 
   pub lines_stop : {a b c d e : I} → KeepsNames holds is_sound faults a b → KeepsNames holds is_sound faults b c → KeepsNames holds is_sound faults c d → KeepsNames holds is_sound faults d e
       → (rel : List ℕ) (vrps scenario script : Option (List ℕ)) (links : LinkMap) (payloads : Payloads) (plan : ScenarioValue) (s : Stop)
-      → ReadsAs (source_of holds is_sound faults a b) (Some rel) (λ (links : LinkMap). links) (Ok links) relations
-      → ReadsAs (source_of holds is_sound faults b c) vrps (λ (payloads : Payloads). payloads) (Ok payloads) (payloads_by vrps)
-      → ReadsAs (source_of holds is_sound faults c d) scenario (λ (plan : ScenarioValue). plan) (Ok plan) (scenario_by scenario)
-      → ReadsAs (source_of holds is_sound faults d e) script (λ (lines : List LineValue). lines) (Err s) script_lines
+      → ReadsAs (source_of holds is_sound faults a b) (Some rel) (λ (links : LinkMap). links) (Ok links) (λ reads. relations (reads file.Relations))
+      → ReadsAs (source_of holds is_sound faults b c) vrps (λ (payloads : Payloads). payloads) (Ok payloads) (λ reads. payloads_by vrps (reads file.Payloads))
+      → ReadsAs (source_of holds is_sound faults c d) scenario (λ (plan : ScenarioValue). plan) (Ok plan) (λ reads. scenario_by scenario (reads file.Scenario))
+      → ReadsAs (source_of holds is_sound faults d e) script (λ (lines : List LineValue). lines) (Err s) (λ reads. script_lines (reads file.Script))
       → Prepares (source_of holds is_sound faults a e) (Some (script_form rel vrps scenario script)) view (Err s)
   lines_stop {a} {b} {c} {d} {e} p q r t rel vrps scenario script links payloads plan s f g h k =
       no_lines rel vrps scenario script f.read g.read h.read k.read links payloads plan s
@@ -56,10 +57,10 @@ module _ {I : Type 0} {holds : I → List ℕ → Option (List ℕ)} {is_sound :
 
   pub all_found : {a b c d e : I} → KeepsNames holds is_sound faults a b → KeepsNames holds is_sound faults b c → KeepsNames holds is_sound faults c d → KeepsNames holds is_sound faults d e
       → (rel : List ℕ) (vrps scenario script : Option (List ℕ)) (links : LinkMap) (payloads : Payloads) (plan : ScenarioValue) (lines : List LineValue) (x : X)
-      → ReadsAs (source_of holds is_sound faults a b) (Some rel) (λ (links : LinkMap). links) (Ok links) relations
-      → ReadsAs (source_of holds is_sound faults b c) vrps (λ (payloads : Payloads). payloads) (Ok payloads) (payloads_by vrps)
-      → ReadsAs (source_of holds is_sound faults c d) scenario (λ (plan : ScenarioValue). plan) (Ok plan) (scenario_by scenario)
-      → ReadsAs (source_of holds is_sound faults d e) script (λ (lines : List LineValue). lines) (Ok lines) script_lines
+      → ReadsAs (source_of holds is_sound faults a b) (Some rel) (λ (links : LinkMap). links) (Ok links) (λ reads. relations (reads file.Relations))
+      → ReadsAs (source_of holds is_sound faults b c) vrps (λ (payloads : Payloads). payloads) (Ok payloads) (λ reads. payloads_by vrps (reads file.Payloads))
+      → ReadsAs (source_of holds is_sound faults c d) scenario (λ (plan : ScenarioValue). plan) (Ok plan) (λ reads. scenario_by scenario (reads file.Scenario))
+      → ReadsAs (source_of holds is_sound faults d e) script (λ (lines : List LineValue). lines) (Ok lines) (λ reads. script_lines (reads file.Script))
       → view x ≡ script_task links payloads plan lines
       → Prepares (source_of holds is_sound faults a e) (Some (script_form rel vrps scenario script)) view (Ok x)
   all_found {a} {b} {c} {d} {e} p q r t rel vrps scenario script links payloads plan lines x f g h k is =

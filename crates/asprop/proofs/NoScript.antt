@@ -2,7 +2,7 @@
 use Rattle.std.proofs.Common.{◌≡◌, [], refl, Some, Ok}
 use Rattle.scenario_text.specs.Walks.{each_from}
 use Rattle.scenario_text.specs.Script.{script_of}
-use Rattle.asprop.specs.Task.{script_lines}
+use Rattle.asprop.proofs.ReadLemmas.{script_lines}
 
 pub no_lines_read : script_lines (Some []) ≡ Ok []
 unfolding script_of each_from

@@ -10,7 +10,7 @@ use Rattle.topo_gen.specs.Drawn.{drawn_links}
 use Rattle.topo_gen.specs.Scenarios.{drawn_payloads, drawn_scenario}
 use Rattle.topo_gen.specs.Lines.{drawn_lines}
 use Rattle.asprop.specs.Words.{Form, script_form, origin_form, demo_form, name_by}
-use Rattle.asprop.specs.Task.{Task, Reads, announced_by, asked, origin_line, relations, payloads_by, scenario_by, script_lines}
+use Rattle.asprop.specs.Task.{Task, Reads, announced_by, asked, origin_line}
 use Rattle.asprop.specs.Files.{IsReadAs, AreReads, IsStop, Finds, ReadsAs, Prepares}
 use Rattle.asprop.specs.Streams.{Source}
 use Rattle.asprop.specs.declared.types.File.TheVariants as file
@@ -18,7 +18,7 @@ use Rattle.asprop.specs.declared.types.Stop.{Stop}
 use Rattle.asprop.specs.declared.types.Stop.TheVariants as stop
 use Rattle.asprop.specs.declared.types.Fault.{Fault}
 use Rattle.asprop.specs.declared.types.Fault.TheVariants as fault
-use Rattle.asprop.proofs.ReadLemmas.{some_read_as, bind_stop}
+use Rattle.asprop.proofs.ReadLemmas.{relations, payloads_by, scenario_by, script_lines, some_read_as, bind_stop}
 
 -- the routes of all ASes to one origin
 abbrev pub origin_task : LinkMap → ℕ → Task
@@ -93,14 +93,14 @@ module _ {X : Type 0} {from : Source} {view : X → Task} where
   no_form = record { reads = λ _. Some []; are_read = λ _. refl; finds = refl }
 
   -- the routes to one origin
-  pub origin_stopped : (rel : List ℕ) (origin : ℕ) {Y : Type 0} (of_y : Y → LinkMap) (s : Stop) → ReadsAs from (Some rel) of_y (Err s) relations → Prepares from (Some (origin_form rel origin)) view (Err s)
+  pub origin_stopped : (rel : List ℕ) (origin : ℕ) {Y : Type 0} (of_y : Y → LinkMap) (s : Stop) → ReadsAs from (Some rel) of_y (Err s) (λ reads. relations (reads file.Relations)) → Prepares from (Some (origin_form rel origin)) view (Err s)
   origin_stopped rel origin of_y s found = record {
     reads = alone found.read;
     are_read = one_read from rel origin found.read found.is_read;
     finds = bind_stop (relations found.read) (λ links. Ok (origin_task links origin)) s found.finds;
   }
 
-  pub origin_found : (rel : List ℕ) (origin : ℕ) {Y : Type 0} (of_y : Y → LinkMap) (y : Y) (result : Result X Stop) → ReadsAs from (Some rel) of_y (Ok y) relations → Finds view result (Ok (origin_task (of_y y) origin))
+  pub origin_found : (rel : List ℕ) (origin : ℕ) {Y : Type 0} (of_y : Y → LinkMap) (y : Y) (result : Result X Stop) → ReadsAs from (Some rel) of_y (Ok y) (λ reads. relations (reads file.Relations)) → Finds view result (Ok (origin_task (of_y y) origin))
       → Prepares from (Some (origin_form rel origin)) view result
   origin_found rel origin of_y y result found h = record {
     reads = alone found.read;

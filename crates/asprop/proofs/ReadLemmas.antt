@@ -9,7 +9,16 @@ use Rattle.io_edge.specs.Faults.{Rose, KeepsNames}
 use Rattle.scenario_text.specs.Walks.{◌>>=◌}
 use Rattle.asprop.specs.Streams.{Source, source_of}
 use Rattle.asprop.specs.Files.{IsRead, IsReadAs, IsStop, Finds, ReadsTo}
-use Rattle.asprop.specs.Task.{bytes_of, most_bytes}
+use Rattle.net_names.specs.Links.{LinkMap}
+use Rattle.caida_reader.specs.Value.{links_of}
+use Rattle.roa_table.specs.Files.{payloads_in}
+use Rattle.roa_table.specs.Sets.{Payloads, no_payloads}
+use Rattle.scenario_text.specs.LineValues.{LineValue}
+use Rattle.scenario_text.specs.Readings.{scenario_of_bytes}
+use Rattle.scenario_text.specs.Scenarios.{ScenarioValue, nothing}
+use Rattle.scenario_text.specs.Script.{script_of}
+use Rattle.asprop.specs.Task.{Reads, bytes_of, most_bytes, read_as}
+use Rattle.asprop.specs.declared.types.File.TheVariants as file
 use Rattle.asprop.specs.declared.types.File.{File}
 use Rattle.asprop.specs.declared.types.Fault.{Fault}
 use Rattle.asprop.specs.declared.types.Stop.{Stop}
@@ -23,6 +32,22 @@ use Rattle.asprop.proofs.Answering.{rose_earlier}
 abbrev pub or_fault : {A E : Type 0} → File → (E → Cause) → Result A E → Result A Fault
 or_fault which as_cause value = result_map_both (λ x. x) (λ e. fault.InFile which (as_cause e)) value
 
+-- the links of what was read
+abbrev pub relations : Option (List ℕ) → Result LinkMap Fault
+relations read = read_as file.Relations cause.Relation links_of (λ _. read)
+
+-- the payloads of what was read of the file of this name
+abbrev pub payloads_by : Option (List ℕ) → Option (List ℕ) → Result Payloads Fault
+payloads_by name read = option_map_or (λ _. read_as file.Payloads cause.Payload payloads_in (λ _. read)) name (Ok no_payloads)
+
+-- the scenario of what was read of the file of this name
+abbrev pub scenario_by : Option (List ℕ) → Option (List ℕ) → Result ScenarioValue Fault
+scenario_by name read = option_map_or (λ _. read_as file.Scenario cause.Scenario scenario_of_bytes (λ _. read)) name (Ok nothing)
+
+-- the lines of what was read
+abbrev pub script_lines : Option (List ℕ) → Result (List LineValue) Fault
+script_lines read = read_as file.Script cause.Script script_of (λ _. read)
+
 -- something was read of each file
 some_read : (held : Option (List ℕ)) (fails : Type 0) → (read : Option (List ℕ)) × IsRead held fails read
 some_read None fails = (Some [], tt)
@@ -32,7 +57,7 @@ pub some_read_as : (from : Source) (name : Option (List ℕ)) → (read : Option
 some_read_as from name = some_read (option_map_or from.holds name (Some [])) (IsSomeAnd name from.fails)
 
 -- nothing is said of the file where memory ran out
-pub no_room : {X A : Type 0} {held : Option (List ℕ)} {fails : Type 0} {view : X → A} {value : Option (List ℕ) → Result A Fault} → ReadsTo held fails view (Err stop.Memory) value
+pub no_room : {X A : Type 0} {held : Option (List ℕ)} {fails : Type 0} {view : X → A} {value : Reads → Result A Fault} → ReadsTo held fails view (Err stop.Memory) value
 no_room {X} {A} {held} {fails} {view} {value} = let r = some_read held fails in record { read = r.0; is_read = r.1; finds = tt }
 
 pub too_long : (which : File) (bytes : List ℕ) → most_bytes which < length bytes → bytes_of which (Some bytes) ≡ Err (fault.InFile which (cause.TooLong (most_bytes which)))
@@ -43,15 +68,15 @@ pub whole : (which : File) (bytes : List ℕ) → length bytes ≤ most_bytes wh
 whole which bytes h = rw (le-ltb (most_bytes which) (length bytes) h) refl
 
 -- the file was read whole
-pub read_whole : (which : File) (held : Option (List ℕ)) (fails : Type 0) (X : Type 0) (view : X → List ℕ) (x : X) → (length (view x) ≤ most_bytes which) × Keeps held (Some (view x)) → ReadsTo held fails view (Ok x) (bytes_of which)
+pub read_whole : (which : File) (held : Option (List ℕ)) (fails : Type 0) (X : Type 0) (view : X → List ℕ) (x : X) → (length (view x) ≤ most_bytes which) × Keeps held (Some (view x)) → ReadsTo held fails view (Ok x) (λ reads. bytes_of which (reads which))
 read_whole which held fails X view x h = record { read = Some (view x); is_read = h.1; finds = whole which (view x) h.0 }
 
 -- a read of the file failed
-pub read_failed : (which : File) (held : Option (List ℕ)) (fails : Type 0) (X : Type 0) (view : X → List ℕ) → fails → ReadsTo held fails view (Err (stop.Fault (fault.InFile which cause.Unread))) (bytes_of which)
+pub read_failed : (which : File) (held : Option (List ℕ)) (fails : Type 0) (X : Type 0) (view : X → List ℕ) → fails → ReadsTo held fails view (Err (stop.Fault (fault.InFile which cause.Unread))) (λ reads. bytes_of which (reads which))
 read_failed which held fails X view h = record { read = None; is_read = h; finds = refl }
 
 -- the file is longer than it may be
-pub read_long : (which : File) (held : Option (List ℕ)) (fails : Type 0) (X : Type 0) (view : X → List ℕ) → IfSome held (λ file. most_bytes which < length file) → ReadsTo held fails view (Err (stop.Fault (fault.InFile which (cause.TooLong (most_bytes which))))) (bytes_of which)
+pub read_long : (which : File) (held : Option (List ℕ)) (fails : Type 0) (X : Type 0) (view : X → List ℕ) → IfSome held (λ file. most_bytes which < length file) → ReadsTo held fails view (Err (stop.Fault (fault.InFile which (cause.TooLong (most_bytes which))))) (λ reads. bytes_of which (reads which))
 read_long which None fails X view h =
     let long : List ℕ = replicate (most_bytes which + 1) 0 in
     record { read = Some long; is_read = tt; finds = too_long which long (omega (arith, length-replicate {A = ℕ} (most_bytes which + 1) 0)) }
@@ -70,13 +95,13 @@ bind_stop value f stop.Write h = h
 bind_stop value f (stop.Cycle c) h = h
 
 -- what was found of the bytes is found of the file
-pub of_bytes : {X Y A B : Type 0} {held : Option (List ℕ)} {fails : Type 0} (of_y : Y → A) (view : X → B) (y : Y) (first : Option (List ℕ) → Result A Fault) (f : A → Result B Fault) (result : Result X Stop)
-    → ReadsTo held fails of_y (Ok y) first → Finds view result (f (of_y y)) → ReadsTo held fails view result (λ read. first read >>= f)
+pub of_bytes : {X Y A B : Type 0} {held : Option (List ℕ)} {fails : Type 0} (of_y : Y → A) (view : X → B) (y : Y) (first : Reads → Result A Fault) (f : A → Result B Fault) (result : Result X Stop)
+    → ReadsTo held fails of_y (Ok y) first → Finds view result (f (of_y y)) → ReadsTo held fails view result (λ reads. first reads >>= f)
 of_bytes of_y view y first f result found h = record { read = found.read; is_read = found.is_read; finds = subst (λ v. Finds view result (v >>= f)) (sym found.finds) h }
 
-pub no_bytes : {X Y A B : Type 0} {held : Option (List ℕ)} {fails : Type 0} (of_y : Y → A) (view : X → B) (first : Option (List ℕ) → Result A Fault) (f : A → Result B Fault) (s : Stop)
-    → ReadsTo held fails of_y (Err s) first → ReadsTo held fails view (Err s) (λ read. first read >>= f)
-no_bytes of_y view first f s found = record { read = found.read; is_read = found.is_read; finds = bind_stop (first found.read) f s found.finds }
+pub no_bytes : {X Y A B : Type 0} {held : Option (List ℕ)} {fails : Type 0} (of_y : Y → A) (view : X → B) (first : Reads → Result A Fault) (f : A → Result B Fault) (s : Stop)
+    → ReadsTo held fails of_y (Err s) first → ReadsTo held fails view (Err s) (λ reads. first reads >>= f)
+no_bytes of_y view first f s found = record { read = found.read; is_read = found.is_read; finds = bind_stop (first (λ _. found.read)) f s found.finds }
 
 -- what is known of a file that was read in the middle is known of the inputs at their start and end
 module _ {I : Type 0} {holds : I → List ℕ → Option (List ℕ)} {is_sound : I → List ℕ → Type 0} {faults : I → ℕ} where

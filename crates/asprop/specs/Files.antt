@@ -36,13 +36,13 @@ Finds view (Ok x) value = value ≡ Ok (view x)
 Finds view (Err e) value = IsStop e value
 
 -- One file was read, and what was found is the value of what was read.
-pub record ReadsTo {X A : Type 0} (held : Option Text) (fails : Type 0) (view : X → A) (result : Result X Stop) (value : Option Text → Result A Fault) : Type 0 where
+pub record ReadsTo {X A : Type 0} (held : Option Text) (fails : Type 0) (view : X → A) (result : Result X Stop) (value : Reads → Result A Fault) : Type 0 where
   pub read : Option Text
   pub is_read : IsRead held fails read
-  pub finds : Finds view result (value read)
+  pub finds : Finds view result (value (λ _. read))
 
 -- One file was read under its name, if it has one, and what was found is the value of what was read.
-abbrev pub ReadsAs : {X A : Type 0} → Source → Option Text → (X → A) → Result X Stop → (Option Text → Result A Fault) → Type 0
+abbrev pub ReadsAs : {X A : Type 0} → Source → Option Text → (X → A) → Result X Stop → (Reads → Result A Fault) → Type 0
 ReadsAs from name view result value = ReadsTo (option_map_or from.holds name (Some [])) (IsSomeAnd name from.fails) view result value
 
 -- The files were read under the names of the form, and what was found is what they ask for.

@@ -61,22 +61,6 @@ bytes_of which (Some bytes) =
 abbrev pub read_as : {A E : Type 0} → File → (E → Cause) → (List ℕ → Result A E) → Reads → Result A Fault
 read_as which as_cause value reads = bytes_of which (reads which) >>= λ bytes. result_map_both (λ x. x) (λ e. fault.InFile which (as_cause e)) (value bytes)
 
--- the links of the relationship file (CAIDA AS Relationships, serial-1)
-abbrev pub relations : Option (List ℕ) → Result LinkMap Fault
-relations read = read_as file.Relations cause.Relation links_of (λ _. read)
-
--- the payloads of the file of this name; without a name there are none
-abbrev pub payloads_by : Option (List ℕ) → Option (List ℕ) → Result Payloads Fault
-payloads_by name read = option_map_or (λ _. read_as file.Payloads cause.Payload payloads_in (λ _. read)) name (Ok no_payloads)
-
--- the scenario of the file of this name; without a name it is the empty one
-abbrev pub scenario_by : Option (List ℕ) → Option (List ℕ) → Result ScenarioValue Fault
-scenario_by name read = option_map_or (λ _. read_as file.Scenario cause.Scenario scenario_of_bytes (λ _. read)) name (Ok nothing)
-
--- the lines of the script (own format)
-abbrev pub script_lines : Option (List ℕ) → Result (List LineValue) Fault
-script_lines read = read_as file.Script cause.Script script_of (λ _. read)
-
 -- the prefix that holds every IPv4 address, 0.0.0.0/0 (RFC 4632, section 3.1)
 abbrev pub all_addresses : PrefixValue
 all_addresses = record { family = V4; addr = 0; len = 0 }

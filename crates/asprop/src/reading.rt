@@ -1,10 +1,19 @@
 //! The files of a run: each is read to its end, or to one byte past its limit, before it is judged.
 ghost use Rattle.std.specs.Prelude.{◌≡◌, ◌<◌, Some, length};
+ghost use Rattle.std.specs.Option.{option_map_or};
+ghost use Rattle.caida_reader.specs.Value.{links_of};
 ghost use Rattle.io_edge.specs.Faults.{KeepsNames};
-ghost use Rattle.asprop.specs.Task.{bytes_of, most_bytes, payloads_by, relations, scenario_by, script_lines};
+ghost use Rattle.roa_table.specs.Files.{payloads_in};
+ghost use Rattle.roa_table.specs.Sets.{no_payloads};
+ghost use Rattle.scenario_text.specs.Readings.{scenario_of_bytes};
+ghost use Rattle.scenario_text.specs.Scenarios.{nothing};
+ghost use Rattle.scenario_text.specs.Script.{script_of};
+ghost use Rattle.asprop.specs.Task.{bytes_of, most_bytes, read_as};
 ghost use Rattle.asprop.specs.Files.{ReadsAs};
 ghost use Rattle.asprop.specs.Streams.{source_of};
 ghost use Rattle.asprop.specs.Words.{text_seen};
+ghost use Rattle.asprop.specs.declared.types.File.TheVariants as files;
+ghost use Rattle.asprop.specs.declared.types.Cause.TheVariants as cause;
 
 use crate::stops::{payload_stop, relation_stop, scenario_stop, script_stop};
 use crate::types::{Cause, Fault, File, Stop};
@@ -40,7 +49,7 @@ fn read_pieces<I: Inputs>(
 ) -> Result<Links, Stop>
     requires { 0 < length room.old }
     ensures found { ReadsAs (source_of I.holds I.is_sound I.faults inputs.old inputs.new) (Some name.now)
-        (λ links. links) result relations }
+        (λ links. links) result (read_as files.Relations cause.Relation links_of) }
     ensures keeps { KeepsNames I.holds I.is_sound I.faults inputs.old inputs.new }
 {
     if inputs.begin(name).is_err() {
@@ -72,7 +81,7 @@ fn read_pieces<I: Inputs>(
 /// Reads the relationship file.
 pub fn read_relations<I: Inputs>(alloc: Global, inputs: &mut I, name: &str) -> Result<Links, Stop>
     ensures found { ReadsAs (source_of I.holds I.is_sound I.faults inputs.old inputs.new) (Some name.now)
-        (λ links. links) result relations }
+        (λ links. links) result (read_as files.Relations cause.Relation links_of) }
     ensures keeps { KeepsNames I.holds I.is_sound I.faults inputs.old inputs.new }
 {
     let Ok(mut room) = vec![in alloc; 0u8; PIECE] else {
@@ -89,7 +98,7 @@ fn read_bytes<I: Inputs>(
     name: &str,
 ) -> Result<Vec<u8>, Stop>
     ensures found { ReadsAs (source_of I.holds I.is_sound I.faults inputs.old inputs.new) (Some name.now)
-        (λ bytes. bytes.items) result (bytes_of file) }
+        (λ bytes. bytes.items) result (λ reads. bytes_of file (reads file)) }
     ensures keeps { KeepsNames I.holds I.is_sound I.faults inputs.old inputs.new }
 {
     let most = limit_of(file);
@@ -108,7 +117,7 @@ pub fn read_payloads<I: Inputs>(
     name: Option<&str>,
 ) -> Result<Vrps, Stop>
     ensures found { ReadsAs (source_of I.holds I.is_sound I.faults inputs.old inputs.new) (text_seen name.entry)
-        (λ vrps. vrps) result (payloads_by (text_seen name.entry)) }
+        (λ vrps. vrps) result (λ reads. option_map_or (λ _. read_as files.Payloads cause.Payload payloads_in reads) (text_seen name.entry) (Ok no_payloads)) }
     ensures keeps { KeepsNames I.holds I.is_sound I.faults inputs.old inputs.new }
 {
     let Some(name) = name else {
@@ -131,7 +140,7 @@ pub fn read_plan<I: Inputs>(
     name: Option<&str>,
 ) -> Result<Scenario, Stop>
     ensures found { ReadsAs (source_of I.holds I.is_sound I.faults inputs.old inputs.new) (text_seen name.entry)
-        (λ scenario. scenario) result (scenario_by (text_seen name.entry)) }
+        (λ scenario. scenario) result (λ reads. option_map_or (λ _. read_as files.Scenario cause.Scenario scenario_of_bytes reads) (text_seen name.entry) (Ok nothing)) }
     ensures keeps { KeepsNames I.holds I.is_sound I.faults inputs.old inputs.new }
 {
     let Some(name) = name else {
@@ -154,7 +163,7 @@ pub fn read_lines<I: Inputs>(
     name: Option<&str>,
 ) -> Result<Lines, Stop>
     ensures found { ReadsAs (source_of I.holds I.is_sound I.faults inputs.old inputs.new) (text_seen name.entry)
-        (λ lines. lines) result script_lines }
+        (λ lines. lines) result (read_as files.Script cause.Script script_of) }
     ensures keeps { KeepsNames I.holds I.is_sound I.faults inputs.old inputs.new }
 {
     let Some(name) = name else {
