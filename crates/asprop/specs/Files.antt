@@ -18,7 +18,7 @@ IsRead held fails None = fails
 
 -- A file was read under its name. One that isn't named counts as empty, and no read of it fails.
 abbrev pub IsReadAs : Source → Option Text → Option Text → Type 0
-IsReadAs from name read = IsRead (option_map_or from.holds name (Some [])) (IsSomeAnd name from.fails) read
+IsReadAs from name = IsRead (option_map_or from.holds name (Some [])) (IsSomeAnd name from.fails)
 
 -- each file was read under the name that the form gives it
 abbrev pub AreReads : Source → Option Form → Reads → Type 0

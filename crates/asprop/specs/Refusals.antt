@@ -1,5 +1,6 @@
 -- The texts of refused queries, and of edits.
 use Rattle.std.specs.Prelude.{ℕ, List, [], ◌∷◌, ◌++◌, codes, decimal}
+use Rattle.clap.specs.Walk.{Text}
 use Rattle.net_names.specs.Prefixes.{PrefixValue}
 use Rattle.net_names.specs.Texts.{addr_text, prefix_text}
 use Rattle.reports.specs.Rows.{numbers_text}
@@ -11,11 +12,11 @@ use Rattle.sim_core.specs.declared.errors.QueryError.{QueryError}
 use Rattle.sim_core.specs.declared.errors.QueryError.TheVariants as refused
 
 -- the text of what is refused since the world has no such prefix (own format)
-abbrev pub unknown_prefix_text : PrefixValue → List ℕ
+abbrev pub unknown_prefix_text : PrefixValue → Text
 unknown_prefix_text prefix = codes "refused unknown-prefix " ++ (prefix_text prefix ++ 10 ∷ [])
 
 -- the text of a refused query: what the world has not, or that the address is not watched (own format)
-abbrev pub refusal_text : QueryError → List ℕ
+abbrev pub refusal_text : QueryError → Text
 refusal_text refused.Memory = []
 refusal_text (refused.UnknownRound round) = codes "refused unknown-round " ++ (decimal round ++ 10 ∷ [])
 refusal_text (refused.UnknownPrefix prefix) = unknown_prefix_text prefix
@@ -23,14 +24,14 @@ refusal_text (refused.UnknownAs asn) = codes "refused unknown-as " ++ (decimal a
 refusal_text (refused.NotWatched addr) = codes "refused not-watched " ++ (addr_text addr ++ 10 ∷ [])
 
 -- the name of a limit (own format)
-abbrev pub limit_name : EditLimit → List ℕ
+abbrev pub limit_name : EditLimit → Text
 limit_name limit.Links = codes "links"
 limit_name limit.Announcements = codes "announcements"
 limit_name limit.Ases = codes "ases"
 limit_name limit.Vrps = codes "payloads"
 
 -- the text of a refused edit: what is not there, the prefix that the world has not, the limit, or the provider cycle from the new link on (own format)
-abbrev pub edit_refusal_text : EditError → List ℕ
+abbrev pub edit_refusal_text : EditError → Text
 edit_refusal_text edit.Memory = []
 edit_refusal_text (edit.AbsentLink lo hi) = codes "refused absent-link " ++ (decimal lo ++ (124 ∷ [] ++ (decimal hi ++ 10 ∷ [])))
 edit_refusal_text (edit.AbsentVrp vrp) = codes "refused absent-vrp " ++ (decimal vrp.asn ++ (32 ∷ [] ++ (prefix_text vrp.prefix ++ (32 ∷ [] ++ (decimal vrp.max ++ 10 ∷ [])))))

@@ -3,12 +3,12 @@ use Rattle.std.specs.Prelude.{ℕ, Bool, true, false, nat_lt, List, [], ◌∷�
 use Rattle.std.specs.FinMap as fin
 use Rattle.std.specs.Option.{option_map_or}
 use Rattle.std.specs.Result.{result_map_both}
-use Rattle.net_names.specs.Links.{LinkMap}
+use Rattle.clap.specs.Walk.{Text}
 use Rattle.net_names.specs.Prefixes.{PrefixValue}
 use Rattle.net_names.specs.declared.addresses.Family.TheVariants.{V4}
 use Rattle.caida_reader.specs.Value.{links_of}
 use Rattle.roa_table.specs.Files.{payloads_in}
-use Rattle.roa_table.specs.Sets.{Payloads, no_payloads}
+use Rattle.roa_table.specs.Sets.{no_payloads}
 use Rattle.as_graph.specs.Topology.{as_count}
 use Rattle.scenario_text.specs.Scenarios.{ScenarioValue, nothing}
 use Rattle.scenario_text.specs.Readings.{scenario_of_bytes}
@@ -38,12 +38,12 @@ pub record Task : Type 0 where
   pub counts : Bool
 
 -- what comes before the answers: the numbers of ASes and links of the world, if they do (own format)
-abbrev pub first_text : Bool → World → List ℕ
+abbrev pub first_text : Bool → World → Text
 first_text counts w = if counts then codes "ases|" ++ (decimal (as_count (topology w)) ++ 10 ∷ (codes "links|" ++ (decimal (fin.len w.links) ++ 10 ∷ []))) else []
 
 -- what was read of each file: its bytes, or nothing where a read failed
 abbrev pub Reads : Type 0
-Reads = File → Option (List ℕ)
+Reads = File → Option Text
 
 -- the most bytes of a file
 abbrev pub most_bytes : File → ℕ
@@ -52,13 +52,13 @@ most_bytes file.Payloads = 268435456
 most_bytes _ = 16777216
 
 -- the file's bytes, where they are no more than it may have
-abbrev pub bytes_of : File → Option (List ℕ) → Result (List ℕ) Fault
+abbrev pub bytes_of : File → Option Text → Result Text Fault
 bytes_of which None = Err (fault.InFile which cause.Unread)
 bytes_of which (Some bytes) =
     if nat_lt (most_bytes which) (length bytes) then Err (fault.InFile which (cause.TooLong (most_bytes which))) else Ok bytes
 
 -- the value that the bytes of a file say
-abbrev pub read_as : {A E : Type 0} → File → (E → Cause) → (List ℕ → Result A E) → Reads → Result A Fault
+abbrev pub read_as : {A E : Type 0} → File → (E → Cause) → (Text → Result A E) → Reads → Result A Fault
 read_as which as_cause value reads = bytes_of which (reads which) >>= λ bytes. result_map_both (λ x. x) (λ e. fault.InFile which (as_cause e)) (value bytes)
 
 -- the prefix that holds every IPv4 address, 0.0.0.0/0 (RFC 4632, section 3.1)
@@ -74,7 +74,7 @@ abbrev pub origin_line : LineValue
 origin_line = record { number = 1; act = act.Query (query.Routes 1 all_addresses) }
 
 -- what the form and the files ask for, or the first fault: the generated input, with the numbers of its ASes and links first; the routes of all ASes to one origin, without payloads and without a head line;
--- the answers to a script, in which a payload file that isn't named has no payloads, a scenario that isn't named has four empty lists, and a script that isn't named has no lines
+-- the answers to a script. A file that isn't named has no payloads, a scenario of four empty lists, or no lines
 abbrev pub asked : Option Form → Reads → Result Task Fault
 asked None reads = Err fault.Usage
 asked (Some (demo_form n)) reads =

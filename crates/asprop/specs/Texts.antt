@@ -1,5 +1,6 @@
 -- The statuses and texts of how a run ends, and the numbers of statuses.
 use Rattle.std.specs.Prelude.{ℕ, Bool, if◌then◌else◌, List, [], ◌∷◌, ◌++◌, codes, Option, unwrap_or, Result, Ok, Err, decimal}
+use Rattle.clap.specs.Walk.{Text}
 use Rattle.caida_reader.specs.declared.errors.RelError.TheVariants as rel
 use Rattle.roa_table.specs.declared.errors.VrpError.TheVariants as vrp
 use Rattle.scenario_text.specs.PlaceTexts.{place_text}
@@ -12,6 +13,7 @@ use Rattle.asprop.specs.Words.{Form, name_by}
 use Rattle.asprop.specs.declared.types.Cause.{Cause}
 use Rattle.asprop.specs.declared.types.Cause.TheVariants.{Unread, TooLong, Relation, Payload, Scenario, Script}
 use Rattle.asprop.specs.declared.types.Fault.TheVariants as fault
+use Rattle.asprop.specs.declared.types.Fault.TheVariants.{InFile, TooManyAses}
 use Rattle.asprop.specs.declared.types.Stop.{Stop}
 use Rattle.asprop.specs.declared.types.Stop.TheVariants as stop
 use Rattle.asprop.specs.declared.types.Status.{Status}
@@ -19,23 +21,23 @@ use Rattle.asprop.specs.declared.types.Status.TheVariants as status
 use Rattle.asprop.specs.declared.types.Status.TheVariants.{BadInput, TooLarge}
 
 -- `asprop: `, the text and a line feed (own format)
-abbrev pub message : List ℕ → List ℕ
+abbrev pub message : Text → Text
 message text = codes "asprop: " ++ (text ++ 10 ∷ [])
 
 -- the forms of the words, a line each (own format)
-abbrev pub usage : List ℕ
+abbrev pub usage : Text
 usage = codes "usage: asprop REL [--vrps FILE] [--scenario FILE] [--script FILE]" ++ 10 ∷ codes "       asprop REL --origin N" ++ 10 ∷ codes "       asprop --demo N" ++ 10 ∷ []
 
 -- the text, and before it the line where it stands (own format)
-abbrev pub line : ℕ → List ℕ → List ℕ
+abbrev pub line : ℕ → Text → Text
 line n text = codes "line " ++ (decimal n ++ (codes ": " ++ text))
 
 -- the text, and before it the row where it stands (own format)
-abbrev pub row : ℕ → List ℕ → List ℕ
+abbrev pub row : ℕ → Text → Text
 row n text = codes "row " ++ (decimal n ++ (codes ": " ++ text))
 
 -- the limit of a scenario that is passed (own format)
-abbrev pub limit_text : LimitOf → List ℕ
+abbrev pub limit_text : LimitOf → Text
 limit_text limit.Announcements = codes "more than 64 announcements"
 limit_text limit.Prefixes = codes "more than 32 prefixes"
 limit_text limit.Path = codes "more than 64 numbers in a path"
@@ -44,7 +46,7 @@ limit_text limit.Leakers = codes "more than 64 leakers in a round"
 limit_text limit.Watch = codes "more than 16 watched addresses"
 
 -- the table of causes: the status and the text, with the place in the file, of each (own format). Of a reader that memory runs out in nothing is told by this table: the run ends for want of memory, and the last row is never asked for
-abbrev pub cause_of : Cause → Status × List ℕ
+abbrev pub cause_of : Cause → Status × Text
 cause_of Unread = (status.ReadFault, codes "read fault")
 cause_of (TooLong most) = (TooLarge, codes "more than " ++ (decimal most ++ codes " bytes"))
 cause_of (Relation (rel.Unreadable n)) = (BadInput, line n (codes "unreadable"))
@@ -66,14 +68,14 @@ cause_of (Script (script.TooMany n)) = (TooLarge, line n (codes "more than 10000
 cause_of _ = (BadInput, [])
 
 -- the table of how the work ends, each with its status and its text (own format)
-abbrev pub told_of : Option Form → Result Bool Stop → Status × List ℕ
+abbrev pub told_of : Option Form → Result Bool Stop → Status × Text
 told_of form (Ok refused) = (if refused then status.SomeRefused else status.Done, [])
 told_of form (Err stop.Memory) = (status.NoMemory, message (codes "out of memory"))
 told_of form (Err stop.Write) = (status.WriteFault, message (codes "write fault"))
 told_of form (Err (stop.Cycle cycle)) = (BadInput, codes "asprop: provider cycle: " ++ (numbers_text cycle ++ 10 ∷ []))
 told_of form (Err (stop.Fault fault.Usage)) = (status.Usage, usage)
-told_of form (Err (stop.Fault fault.TooManyAses)) = (TooLarge, message (codes "more than 150000 ASes"))
-told_of form (Err (stop.Fault (fault.InFile which cause))) = ((cause_of cause).0, codes "asprop: " ++ (unwrap_or (name_by form which) [] ++ (codes ": " ++ ((cause_of cause).1 ++ 10 ∷ []))))
+told_of form (Err (stop.Fault TooManyAses)) = (TooLarge, message (codes "more than 150000 ASes"))
+told_of form (Err (stop.Fault (InFile which cause))) = ((cause_of cause).0, codes "asprop: " ++ (unwrap_or (name_by form which) [] ++ (codes ": " ++ ((cause_of cause).1 ++ 10 ∷ []))))
 
 -- the number with which the program ends (own format)
 abbrev pub number_of : Status → ℕ

@@ -34,9 +34,8 @@ HasSize (Some (demo_form size)) = (4 ≤ size) × (size ≤ 20000)
 -- the table of the forms, by the values of the word and of the options that stand (own format)
 abbrev pub form_by : (rel vrps scenario script origin demo : Option Text) → Option Form
 form_by (Some rel) vrps scenario script None None = Some (script_form rel vrps scenario script)
-form_by (Some rel) None None None (Some number) None =
-    option_map (λ origin. origin_form rel origin) (asn_of number)
-form_by None None None None None (Some number) = option_map (λ size. demo_form size) (size_of number)
+form_by (Some rel) None None None (Some number) None = option_map (origin_form rel) (asn_of number)
+form_by None None None None None (Some number) = option_map demo_form (size_of number)
 form_by _ _ _ _ _ _ = None
 
 -- the form that these values of the options and of the word have, unless there are faults (own format)

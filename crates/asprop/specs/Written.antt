@@ -8,13 +8,13 @@ use Rattle.asprop.specs.Told.{Told}
 use Rattle.asprop.specs.declared.types.Stop.{Stop}
 use Rattle.asprop.specs.declared.types.Stop.TheVariants as stop
 
--- what comes first, and the answers to these lines, went that way
+-- what comes first, and the answers to these lines, were written so
 abbrev pub Wrote : Task → List LineValue → Bool → (Text → Type 0) → Type 0
-Wrote task lines refused went = (text : Text) × Told task.heads task.world lines text refused × went (first_text task.counts task.world ++ text)
+Wrote task lines refused how = (text : Text) × Told task.heads task.world lines text refused × how (first_text task.counts task.world ++ text)
 
--- what comes first, and the answers to some lines in front, went that way
+-- what comes first, and the answers to some lines in front, were written so
 abbrev pub WroteSome : Task → (Text → Type 0) → Type 0
-WroteSome task went = (count : ℕ) × (refused : Bool) × Wrote task (take count task.lines) refused went
+WroteSome task how = (count : ℕ) × (refused : Bool) × Wrote task (take count task.lines) refused how
 
 -- how answering ends
 abbrev pub Answering : Task → Result Bool Stop → Stream → Type 0
