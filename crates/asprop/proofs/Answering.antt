@@ -30,7 +30,7 @@ task_of counts heads w lines = record { world = w; lines = lines; heads = heads;
 
 -- a sink that holds the one text before and the other after, and whose faults rose so
 abbrev pub sink_of : Option (List ℕ) → Option (List ℕ) → Type 0 → Stream
-sink_of old new rose = record { took = λ text. Appends old new text; broke = λ text. rose × AppendsFront old new text }
+sink_of old new rose = record { wrote = λ text. Appends old new text; failed = λ text. rose × AppendsFront old new text }
 
 -- What follows is told of the lines that follow, and so of all.
 pub record SoFar (heads : Bool) (start now : World) (lines : List LineValue) (refused : Bool) (old new : Option (List ℕ)) : Type 0 where

@@ -1,5 +1,5 @@
 -- How a run ends where the work stopped.
-use Rattle.std.proofs.Common.{◌≡◌, ◌<◌, ◌≤◌, inl, inr, ℕ, nat_lt, Bool, List, [], Option, Result, Ok, Err, None, refl, sym, ap, subst, ◌∙◌, true, false, if◌then◌else◌, lt-ltb, le-ltb}
+use Rattle.std.proofs.Common.{◌≡◌, ◌<◌, ◌≤◌, inl, inr, ℕ, nat_lt, Bool, List, [], Option, Result, Ok, Err, None, refl, sym, ap, subst, ◌∙◌, if◌then◌else◌, lt-ltb, le-ltb}
 use Rattle.as_graph.specs.Topology.{as_count, what}
 use Rattle.cycle_check.specs.Cycles.{IsCycleFromLowest}
 use Rattle.scenario_text.specs.Walks.{◌>>=◌}
@@ -9,8 +9,8 @@ use Rattle.asprop.specs.Written.{Answering}
 use Rattle.asprop.specs.Files.{IsStop, Prepares}
 use Rattle.asprop.specs.Words.{Form, form_of}
 use Rattle.asprop.specs.Task.{Task, asked, task_of}
-use Rattle.asprop.specs.Texts.{told_of}
-use Rattle.asprop.specs.Ran.{Works, Ends, Explained, Reports, Ran, Worked}
+use Rattle.asprop.specs.Texts.{ending_of}
+use Rattle.asprop.specs.Ran.{Works, Explained, Reports, Ran, Worked}
 use Rattle.asprop.specs.declared.types.Stop.{Stop}
 use Rattle.asprop.specs.declared.types.Stop.TheVariants as stop
 use Rattle.asprop.specs.declared.types.Status.{Status}
@@ -42,32 +42,32 @@ module _ {from : Source} {words : List (List ℕ)} {out err : Stream} where
       record { reads = w.reads; are_read = w.are_read; ends = record { result = Err h.told; works = works; status = h.status; says = h.says } }
 
   -- all answers were written
-  pub all_written : (refused : Bool) (s : Status) → s ≡ (told_of (form_of words) (Ok refused)).0 → Worked from (form_of words) (Ok refused) out → err.took [] → Ran from words s out err
+  pub all_written : (refused : Bool) (s : Status) → s ≡ (ending_of (form_of words) (Ok refused)).0 → Worked from (form_of words) (Ok refused) out → err.wrote [] → Ran from words s out err
   all_written refused s is w nil = record { reads = w.reads; are_read = w.are_read; ends = record { result = Ok refused; works = w.works; status = is; says = inl nil } }
 
 -- nothing was written where memory ran out
-idle : (task : Result Task Fault) (out : Stream) → out.took [] → Works task (Err stop.Memory) out
+idle : (task : Result Task Fault) (out : Stream) → out.wrote [] → Works task (Err stop.Memory) out
 idle (Ok task) out nil = (inl nil, λ _. nil)
 idle (Err f) out nil = nil
 
 -- memory ran out before the words were read
-pub unformed : {from : Source} {words : List (List ℕ)} {out err : Stream} (s : Status) → Explained None stop.Memory s err → out.took [] → Ran from words s out err
+pub unformed : {from : Source} {words : List (List ℕ)} {out err : Stream} (s : Status) → Explained None stop.Memory s err → out.wrote [] → Ran from words s out err
 unformed {from} {words} {out} {err} s h nil =
     let r = none_read from (form_of words) in
-    let told : h.told ≡ stop.Memory = elim h.is [ | inl own ↦ own | inr short ↦ short.0 ] in
+    let told : h.told ≡ stop.Memory = elim h.is [ inl own ↦ own | inr short ↦ short.0 ] in
     record {
       reads = r.0;
       are_read = r.1;
       ends = record {
         result = Err stop.Memory;
         works = idle (task_of (form_of words) r.0) out nil;
-        status = h.status ∙ ap (λ (t : Stop). (told_of None (Err t)).0) told;
-        says = subst (λ (t : Stop). Reports (told_of None (Err t)).1 err) told h.says;
+        status = h.status ∙ ap (λ (t : Stop). (ending_of None (Err t)).0) told;
+        says = subst (λ (t : Stop). Reports (ending_of None (Err t)).1 err) told h.says;
       };
     }
 
 -- the task was prepared, and memory ran out before an answer
-pub no_ranks : {from : Source} {form : Option Form} {X : Type 0} {view : X → Task} {x : X} {out : Stream} → Prepares from form view (Ok x) → out.took [] → Worked from form (Err stop.Memory) out
+pub no_ranks : {from : Source} {form : Option Form} {X : Type 0} {view : X → Task} {x : X} {out : Stream} → Prepares from form view (Ok x) → out.wrote [] → Worked from form (Err stop.Memory) out
 no_ranks {form} {out} p nil = record { reads = p.reads; are_read = p.are_read; works = idle (task_of form p.reads) out nil }
 
 -- the task, if its world isn't too large
@@ -89,13 +89,13 @@ answering task (Err (stop.Cycle cycle)) out none h = absurd h
 answering task (Err (stop.Fault f)) out none h = absurd h
 
 -- the work stopped before there was a task
-before : (task : Result Task Fault) (s : Stop) (out : Stream) → out.took [] → IsStop s task → Works task (Err s) out
+before : (task : Result Task Fault) (s : Stop) (out : Stream) → out.wrote [] → IsStop s task → Works task (Err s) out
 before task stop.Memory out nil h = idle task out nil
 before task (stop.Fault f) out nil h = subst (λ (t : Result Task Fault). Works t (Err (stop.Fault f)) out) (sym h) (refl, nil)
 before task stop.Write out nil h = absurd h
 before task (stop.Cycle cycle) out nil h = absurd h
 
-pub stopped : {from : Source} {form : Option Form} {X : Type 0} {view : X → Task} {out : Stream} (s : Stop) → Prepares from form view (Err s) → out.took [] → Worked from form (Err s) out
+pub stopped : {from : Source} {form : Option Form} {X : Type 0} {view : X → Task} {out : Stream} (s : Stop) → Prepares from form view (Err s) → out.wrote [] → Worked from form (Err s) out
 stopped {form} {out} s p nil = record { reads = p.reads; are_read = p.are_read; works = before (task_of form p.reads) s out nil (bind_stop (asked form p.reads) within_limits s p.finds) }
 
 module _ {from : Source} {form : Option Form} {X : Type 0} {view : X → Task} {out : Stream} where
@@ -115,12 +115,12 @@ module _ {from : Source} {form : Option Form} {X : Type 0} {view : X → Task} {
       (answering (view x) result out (subst (λ (w : World). HasCycle w → ⊥) is none) (subst (λ (w : World). Answering (record (view x) { world = w }) result out) is h))
 
   -- the world has a provider cycle
-  pub cyclic : (x : X) (cycle : List ℕ) → Prepares from form view (Ok x) → (as_count (topology (view x).world) ≤ 150000) × IsCycleFromLowest (what (topology (view x).world)) cycle → out.took []
+  pub cyclic : (x : X) (cycle : List ℕ) → Prepares from form view (Ok x) → (as_count (topology (view x).world) ≤ 150000) × IsCycleFromLowest (what (topology (view x).world)) cycle → out.wrote []
       → Worked from form (Err (stop.Cycle cycle)) out
   cyclic x cycle p h nil = on_task x p (Err (stop.Cycle cycle)) h.0 (h.1, nil)
 
   -- the world is too large
-  pub too_many : (x : X) → Prepares from form view (Ok x) → 150000 < as_count (topology (view x).world) → out.took [] → Worked from form (Err (stop.Fault fault.TooManyAses)) out
+  pub too_many : (x : X) → Prepares from form view (Ok x) → 150000 < as_count (topology (view x).world) → out.wrote [] → Worked from form (Err (stop.Fault fault.TooManyAses)) out
   too_many x p many nil = record {
     reads = p.reads;
     are_read = p.are_read;
@@ -128,9 +128,9 @@ module _ {from : Source} {form : Option Form} {X : Type 0} {view : X → Task} {
   }
 
 -- a stop is explained by its own text
-pub own : {form : Option Form} {s : Status} {err : Stream} (reason : Stop) → s ≡ (told_of form (Err reason)).0 → Reports (told_of form (Err reason)).1 err → Explained form reason s err
+pub own : {form : Option Form} {s : Status} {err : Stream} (reason : Stop) → s ≡ (ending_of form (Err reason)).0 → Reports (ending_of form (Err reason)).1 err → Explained form reason s err
 own reason is says = record { told = reason; is = inl refl; status = is; says = says }
 
 -- or by the text for want of memory
-pub short : {form : Option Form} {err : Stream} (reason : Stop) → (reason ≡ stop.Write → ⊥) → Reports (told_of form (Err stop.Memory)).1 err → Explained form reason status.NoMemory err
+pub short : {form : Option Form} {err : Stream} (reason : Stop) → (reason ≡ stop.Write → ⊥) → Reports (ending_of form (Err stop.Memory)).1 err → Explained form reason status.NoMemory err
 short reason not_write says = record { told = stop.Memory; is = inr (refl, not_write); status = refl; says = says }

@@ -13,7 +13,7 @@ use Rattle.scenario_text.specs.declared.faults.ScenarioError.TheVariants as scen
 use Rattle.scenario_text.specs.declared.script.ScriptError.{ScriptError}
 use Rattle.scenario_text.specs.declared.script.ScriptError.TheVariants as script
 use Rattle.scenario_text.specs.Walks.{◌>>=◌}
-use Rattle.asprop.specs.Texts.{told_of}
+use Rattle.asprop.specs.Texts.{ending_of}
 use Rattle.asprop.specs.Task.{Task, Reads, asked, task_of, read_as, bytes_of, most_bytes}
 use Rattle.asprop.specs.Words.{Form, origin_form, script_form, demo_form}
 use Rattle.asprop.specs.declared.types.File.{File}
@@ -40,7 +40,7 @@ chosen_err false d e x h = cc
 
 -- the status of a fault
 abbrev pub status_of : Option Form → Fault → Status
-status_of form f = (told_of form (Err (stop.Fault f))).0
+status_of form f = (ending_of form (Err (stop.Fault f))).0
 
 -- a fault that is neither one of the words nor a failed read, and that no write makes
 pub record IsOther (form : Option Form) (f : Fault) : Type 0 where

@@ -1,5 +1,5 @@
 -- How the program starts by what its arguments give.
-use Rattle.std.proofs.Common.{inl, inr, List, [], Ok, Err, None, String, Vec, Global, map, string_bytes, subst}
+use Rattle.std.proofs.Common.{inl, inr, [], Ok, Err, None, String, Vec, Global, map, string_bytes, subst}
 use Rattle.asprop.specs.Streams.{Source, Stream}
 use Rattle.asprop.specs.Ran.{Explained, Ran}
 use Rattle.asprop.specs.Started.{Args, IsWordsOf, Starts}
@@ -13,6 +13,6 @@ over_words (Ok args) words s given ran = inl (words.items, given, ran)
 over_words (Err error) words s given ran = absurd given
 
 -- there are no words, and the reason was told
-pub without_words : (from : Source) (out err : Stream) (args : Args) (reason : Stop) (s : Status) → IsWordsOf args (Err reason) → Explained None reason s err → out.took [] → Starts from args s out err
+pub without_words : (from : Source) (out err : Stream) (args : Args) (reason : Stop) (s : Status) → IsWordsOf args (Err reason) → Explained None reason s err → out.wrote [] → Starts from args s out err
 without_words from out err (Ok args) reason s is told nil = inr (subst (λ (r : Stop). Explained None r s err) is told, nil)
 without_words from out err (Err error) reason s is told nil = (subst (λ (r : Stop). Explained None r s err) is told, nil)

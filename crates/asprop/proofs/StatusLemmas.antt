@@ -1,10 +1,10 @@
 -- What a run says where the files are told.
-use Rattle.std.proofs.Common.{◌≡◌, ◌⊎◌, inl, inr, ℕ, Bool, true, false, List, [], Option, Some, None, Result, Ok, Err, IsSomeAnd, sym, ap, subst, ◌∙◌, refl}
+use Rattle.std.proofs.Common.{◌≡◌, ◌⊎◌, inl, inr, ℕ, Bool, true, false, List, [], Option, Some, None, Result, Ok, Err, IsSomeAnd, sym, ap, subst, refl}
 use Rattle.std.specs.Option.{option_map_or}
 use Rattle.sim_core.specs.World.{HasCycle}
 use Rattle.asprop.specs.Streams.{Source, Stream}
-use Rattle.asprop.specs.Task.{Task, Reads, task_of}
-use Rattle.asprop.specs.Texts.{told_of}
+use Rattle.asprop.specs.Task.{Task, Reads}
+use Rattle.asprop.specs.Texts.{ending_of}
 use Rattle.asprop.specs.Words.{Form, form_of, name_by}
 use Rattle.asprop.specs.Files.{IsRead}
 use Rattle.asprop.specs.Ran.{Works, Ends, Ran}
@@ -22,8 +22,8 @@ read_is held fails None bytes h told ok = absurd (ok h)
 read_is held fails (Some read) bytes h told ok = let P : Option (List ℕ) → Type 0 = λ held. IsRead held fails (Some read) in ap Some (subst P told h)
 
 -- the status of a run over a task whose world has no provider cycle, where no write fails
-succeeds : (form : Option Form) (task : Task) (result : Result Bool Stop) (out : Stream) → ((text : List ℕ) → out.broke text → ⊥) → (HasCycle task.world → ⊥) → Works (Ok task) result out
-    → ((told_of form result).0 ≡ status.Done) ⊎ (((told_of form result).0 ≡ status.SomeRefused) ⊎ ((told_of form result).0 ≡ status.NoMemory))
+succeeds : (form : Option Form) (task : Task) (result : Result Bool Stop) (out : Stream) → ((text : List ℕ) → out.failed text → ⊥) → (HasCycle task.world → ⊥) → Works (Ok task) result out
+    → ((ending_of form result).0 ≡ status.Done) ⊎ (((ending_of form result).0 ≡ status.SomeRefused) ⊎ ((ending_of form result).0 ≡ status.NoMemory))
 succeeds form task (Ok false) out quiet none w = inl refl
 succeeds form task (Ok true) out quiet none w = inr (inl refl)
 succeeds form task (Err stop.Memory) out quiet none w = inr (inr refl)

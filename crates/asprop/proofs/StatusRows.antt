@@ -1,8 +1,8 @@
 -- Which statuses the words, the reads and the writes give.
-use Rattle.std.proofs.Common.{◌≡◌, ◌⊎◌, inl, inr, ℕ, Bool, true, false, List, Option, Some, None, Result, Ok, Err, IsSomeAnd, refl, ap, sym, subst, ◌∙◌}
+use Rattle.std.proofs.Common.{◌≡◌, ◌⊎◌, inl, inr, ℕ, Bool, true, false, List, Option, None, Result, Ok, Err, IsSomeAnd, refl, ap, sym, subst, ◌∙◌}
 use Rattle.asprop.specs.Streams.{Source, Stream}
 use Rattle.asprop.specs.Task.{Task, Reads, task_of}
-use Rattle.asprop.specs.Texts.{told_of}
+use Rattle.asprop.specs.Texts.{ending_of}
 use Rattle.asprop.specs.Words.{Form, form_of, name_by}
 use Rattle.asprop.specs.Files.{IsReadAs}
 use Rattle.asprop.specs.Ran.{Works, Ran}
@@ -25,7 +25,7 @@ usage_stop form reads _ (no_form is) h = is
 usage_stop form reads _ (unread which is) h = cc
 usage_stop form reads _ (by_value f is) h = absurd (is.usage h)
 
-usage_by : (form : Option Form) (reads : Reads) (result : Result Bool Stop) (out : Stream) → Works (task_of form reads) result out → status.Usage ≡ (told_of form result).0 → form ≡ None
+usage_by : (form : Option Form) (reads : Reads) (result : Result Bool Stop) (out : Stream) → Works (task_of form reads) result out → status.Usage ≡ (ending_of form result).0 → form ≡ None
 usage_by form reads (Ok true) out w h = cc
 usage_by form reads (Ok false) out w h = cc
 usage_by form reads (Err stop.Memory) out w h = cc
@@ -33,7 +33,7 @@ usage_by form reads (Err stop.Write) out w h = cc
 usage_by form reads (Err (stop.Cycle cycle)) out w h = cc
 usage_by form reads (Err (stop.Fault f)) out w h = usage_stop form reads f (fault_by form reads (task_of form reads) f out refl w) h
 
-usage_there : (form : Option Form) (result : Result Bool Stop) (out : Stream) → Works (Err fault.Usage) result out → ((told_of form result).0 ≡ status.Usage) ⊎ ((told_of form result).0 ≡ status.NoMemory)
+usage_there : (form : Option Form) (result : Result Bool Stop) (out : Stream) → Works (Err fault.Usage) result out → ((ending_of form result).0 ≡ status.Usage) ⊎ ((ending_of form result).0 ≡ status.NoMemory)
 usage_there form (Ok refused) out w = absurd w
 usage_there form (Err stop.Memory) out w = inr refl
 usage_there form (Err stop.Write) out w = absurd w
@@ -45,7 +45,7 @@ read_stop form reads _ (no_form is) h = cc
 read_stop form reads _ (unread which is) h = (which, is)
 read_stop form reads _ (by_value f is) h = absurd (is.read h)
 
-read_by : (form : Option Form) (reads : Reads) (result : Result Bool Stop) (out : Stream) → Works (task_of form reads) result out → status.ReadFault ≡ (told_of form result).0 → (which : File) × (reads which ≡ None)
+read_by : (form : Option Form) (reads : Reads) (result : Result Bool Stop) (out : Stream) → Works (task_of form reads) result out → status.ReadFault ≡ (ending_of form result).0 → (which : File) × (reads which ≡ None)
 read_by form reads (Ok true) out w h = cc
 read_by form reads (Ok false) out w h = cc
 read_by form reads (Err stop.Memory) out w h = cc
@@ -58,11 +58,11 @@ write_stop form reads _ (no_form is) h = cc
 write_stop form reads _ (unread which is) h = cc
 write_stop form reads _ (by_value f is) h = is.write h
 
-broken : (task : Result Task Fault) (out : Stream) → Works task (Err stop.Write) out → (text : List ℕ) × out.broke text
+broken : (task : Result Task Fault) (out : Stream) → Works task (Err stop.Write) out → (text : List ℕ) × out.failed text
 broken (Ok task) out w = (_, w.1.2.2)
 broken (Err f) out w = absurd w
 
-write_by : (form : Option Form) (reads : Reads) (result : Result Bool Stop) (out : Stream) → Works (task_of form reads) result out → status.WriteFault ≡ (told_of form result).0 → (text : List ℕ) × out.broke text
+write_by : (form : Option Form) (reads : Reads) (result : Result Bool Stop) (out : Stream) → Works (task_of form reads) result out → status.WriteFault ≡ (ending_of form result).0 → (text : List ℕ) × out.failed text
 write_by form reads (Ok true) out w h = cc
 write_by form reads (Ok false) out w h = cc
 write_by form reads (Err stop.Memory) out w h = cc
@@ -85,5 +85,5 @@ module _ {from : Source} {words : List (List ℕ)} {s : Status} {out err : Strea
       let none = read_by (form_of words) r.reads r.ends.result out r.ends.works (sym is ∙ r.ends.status) in
       (none.0, subst (λ (read : Option (List ℕ)). IsReadAs from (name_by (form_of words) none.0) read) none.1 (r.are_read none.0))
 
-  pub write_row : Ran from words s out err → s ≡ status.WriteFault → (text : List ℕ) × out.broke text
+  pub write_row : Ran from words s out err → s ≡ status.WriteFault → (text : List ℕ) × out.failed text
   write_row r is = write_by (form_of words) r.reads r.ends.result out r.ends.works (sym is ∙ r.ends.status)

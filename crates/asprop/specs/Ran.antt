@@ -7,7 +7,7 @@ use Rattle.sim_core.specs.World.{HasCycle, topology}
 use Rattle.asprop.specs.Streams.{Source, Stream}
 use Rattle.asprop.specs.Words.{Form, form_of}
 use Rattle.asprop.specs.Task.{Task, Reads, task_of}
-use Rattle.asprop.specs.Texts.{told_of}
+use Rattle.asprop.specs.Texts.{ending_of}
 use Rattle.asprop.specs.Files.{AreReads}
 use Rattle.asprop.specs.Written.{Wrote, WroteSome}
 use Rattle.asprop.specs.declared.types.Fault.{Fault}
@@ -17,20 +17,20 @@ use Rattle.asprop.specs.declared.types.Status.{Status}
 
 -- What the work over a task or a fault ends with, and what it writes: all answers; or where memory ran out nothing, or whole answers to some lines in front; or where a write failed a front of such answers; or nothing, where there is a provider cycle, told from its lowest number on, or a fault.
 abbrev pub Works : Result Task Fault → Result Bool Stop → Stream → Type 0
-Works (Ok task) (Ok refused) out = (HasCycle task.world → ⊥) × Wrote task task.lines refused out.took
-Works (Ok task) (Err stop.Memory) out = (out.took [] ⊎ WroteSome task out.took) × (HasCycle task.world → out.took [])
-Works (Ok task) (Err stop.Write) out = (HasCycle task.world → ⊥) × WroteSome task out.broke
-Works (Ok task) (Err (stop.Cycle cycle)) out = IsCycleFromLowest (what (topology task.world)) cycle × out.took []
-Works (Err fault) (Err stop.Memory) out = out.took []
-Works (Err fault) (Err (stop.Fault found)) out = (found ≡ fault) × out.took []
+Works (Ok task) (Ok refused) out = (HasCycle task.world → ⊥) × Wrote task task.lines refused out.wrote
+Works (Ok task) (Err stop.Memory) out = (out.wrote [] ⊎ WroteSome task out.wrote) × (HasCycle task.world → out.wrote [])
+Works (Ok task) (Err stop.Write) out = (HasCycle task.world → ⊥) × WroteSome task out.failed
+Works (Ok task) (Err (stop.Cycle cycle)) out = IsCycleFromLowest (what (topology task.world)) cycle × out.wrote []
+Works (Err fault) (Err stop.Memory) out = out.wrote []
+Works (Err fault) (Err (stop.Fault found)) out = (found ≡ fault) × out.wrote []
 Works _ _ out = ⊥
 
 -- A run over what was read of the files: how the work ends, and the status and the text of that end; the text was written, or a front of it where the sink failed.
 pub record Ends (form : Option Form) (reads : Reads) (s : Status) (out err : Stream) : Type 0 where
   pub result : Result Bool Stop
   pub works : Works (task_of form reads) result out
-  pub status : s ≡ (told_of form result).0
-  pub says : err.took (told_of form result).1 ⊎ err.broke (told_of form result).1
+  pub status : s ≡ (ending_of form result).0
+  pub says : err.wrote (ending_of form result).1 ⊎ err.failed (ending_of form result).1
 
 -- A run: what was read of the files under the names that the words give, and the run over that.
 pub record Ran (from : Source) (words : List Text) (s : Status) (out err : Stream) : Type 0 where
@@ -46,11 +46,11 @@ pub record Worked (from : Source) (form : Option Form) (result : Result Bool Sto
 
 -- a text was written, or a front of it where the sink failed
 abbrev pub Reports : Text → Stream → Type 0
-Reports text err = err.took text ⊎ err.broke text
+Reports text err = err.wrote text ⊎ err.failed text
 
 -- how a stop is explained: by its own text, or where that can't be made by that for want of memory
 pub record Explained (form : Option Form) (reason : Stop) (s : Status) (err : Stream) : Type 0 where
   pub told : Stop
   pub is : (told ≡ reason) ⊎ ((told ≡ stop.Memory) × (reason ≡ stop.Write → ⊥))
-  pub status : s ≡ (told_of form (Err told)).0
-  pub says : Reports (told_of form (Err told)).1 err
+  pub status : s ≡ (ending_of form (Err told)).0
+  pub says : Reports (ending_of form (Err told)).1 err

@@ -44,7 +44,7 @@ IsWordsOf (Err error) (Err reason) = reason ≡ reason_of error
 
 -- Without words nothing is written to standard output, and standard error has the reason.
 abbrev pub NoWords : Stop → Status → Stream → Stream → Type 0
-NoWords reason s out err = Explained None reason s err × out.took []
+NoWords reason s out err = Explained None reason s err × out.wrote []
 
 -- the run over all words that the arguments give, or what is said where there are none
 abbrev pub Starts : Source → Args → Status → Stream → Stream → Type 0

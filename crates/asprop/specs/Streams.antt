@@ -1,5 +1,5 @@
 -- What a run reads from, and what it writes to.
-use Rattle.std.specs.Prelude.{ℕ, List, Option}
+use Rattle.std.specs.Prelude.{ℕ, Option}
 use Rattle.clap.specs.Walk.{Text}
 use Rattle.io_edge.specs.Bytes.{Appends, AppendsFront}
 use Rattle.io_edge.specs.Faults.{Rose}
@@ -15,9 +15,9 @@ source_of holds sound faults old new = record { holds = holds old; fails = λ na
 
 -- What a run writes to: that a text was appended, and that the faults rose and a front of it was appended.
 pub record Stream : Type 1 where
-  pub took : Text → Type 0
-  pub broke : Text → Type 0
+  pub wrote : Text → Type 0
+  pub failed : Text → Type 0
 
 -- A sink from one time to another.
 abbrev pub stream_of : {O : Type 0} → (O → Option Text) → (O → ℕ) → O → O → Stream
-stream_of written faults old new = record { took = Appends (written old) (written new); broke = λ text. Rose (faults old) (faults new) × AppendsFront (written old) (written new) text }
+stream_of written faults old new = record { wrote = Appends (written old) (written new); failed = λ text. Rose (faults old) (faults new) × AppendsFront (written old) (written new) text }

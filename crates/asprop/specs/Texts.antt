@@ -1,5 +1,5 @@
 -- The statuses and texts of how a run ends, and the numbers of statuses.
-use Rattle.std.specs.Prelude.{ℕ, Bool, if◌then◌else◌, List, [], ◌∷◌, ◌++◌, codes, Option, unwrap_or, Result, Ok, Err, decimal}
+use Rattle.std.specs.Prelude.{ℕ, Bool, if◌then◌else◌, [], ◌∷◌, ◌++◌, codes, Option, unwrap_or, Result, Ok, Err, decimal}
 use Rattle.clap.specs.Walk.{Text}
 use Rattle.caida_reader.specs.declared.errors.RelError.TheVariants as rel
 use Rattle.roa_table.specs.declared.errors.VrpError.TheVariants as vrp
@@ -67,15 +67,15 @@ cause_of (Script (script.Unreadable n)) = (BadInput, line n (codes "unreadable")
 cause_of (Script (script.TooMany n)) = (TooLarge, line n (codes "more than 100000 commands"))
 cause_of _ = (BadInput, [])
 
--- the table of how the work ends, each with its status and its text (own format)
-abbrev pub told_of : Option Form → Result Bool Stop → Status × Text
-told_of form (Ok refused) = (if refused then status.SomeRefused else status.Done, [])
-told_of form (Err stop.Memory) = (status.NoMemory, message (codes "out of memory"))
-told_of form (Err stop.Write) = (status.WriteFault, message (codes "write fault"))
-told_of form (Err (stop.Cycle cycle)) = (BadInput, codes "asprop: provider cycle: " ++ (numbers_text cycle ++ 10 ∷ []))
-told_of form (Err (stop.Fault fault.Usage)) = (status.Usage, usage)
-told_of form (Err (stop.Fault TooManyAses)) = (TooLarge, message (codes "more than 150000 ASes"))
-told_of form (Err (stop.Fault (InFile which cause))) = ((cause_of cause).0, codes "asprop: " ++ (unwrap_or (name_by form which) [] ++ (codes ": " ++ ((cause_of cause).1 ++ 10 ∷ []))))
+-- the table of how the work may end, each with its status and its text (own format)
+abbrev pub ending_of : Option Form → Result Bool Stop → Status × Text
+ending_of form (Ok refused) = (if refused then status.SomeRefused else status.Done, [])
+ending_of form (Err stop.Memory) = (status.NoMemory, message (codes "out of memory"))
+ending_of form (Err stop.Write) = (status.WriteFault, message (codes "write fault"))
+ending_of form (Err (stop.Cycle cycle)) = (BadInput, codes "asprop: provider cycle: " ++ (numbers_text cycle ++ 10 ∷ []))
+ending_of form (Err (stop.Fault fault.Usage)) = (status.Usage, usage)
+ending_of form (Err (stop.Fault TooManyAses)) = (TooLarge, message (codes "more than 150000 ASes"))
+ending_of form (Err (stop.Fault (InFile which cause))) = ((cause_of cause).0, codes "asprop: " ++ (unwrap_or (name_by form which) [] ++ (codes ": " ++ ((cause_of cause).1 ++ 10 ∷ []))))
 
 -- the number with which the program ends (own format)
 abbrev pub number_of : Status → ℕ

@@ -18,7 +18,7 @@ WroteSome task how = (count : ℕ) × (refused : Bool) × Wrote task (take count
 
 -- how answering ends
 abbrev pub Answering : Task → Result Bool Stop → Stream → Type 0
-Answering task (Ok refused) out = Wrote task task.lines refused out.took
-Answering task (Err stop.Memory) out = out.took [] ⊎ WroteSome task out.took
-Answering task (Err stop.Write) out = WroteSome task out.broke
+Answering task (Ok refused) out = Wrote task task.lines refused out.wrote
+Answering task (Err stop.Memory) out = out.wrote [] ⊎ WroteSome task out.wrote
+Answering task (Err stop.Write) out = WroteSome task out.failed
 Answering task (Err _) out = ⊥

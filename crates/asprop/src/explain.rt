@@ -1,6 +1,6 @@
 //! What is said of a fault.
 ghost use Rattle.std.specs.Prelude.{◌≡◌, [], IfOk, Option, None, option_map, string_bytes, unwrap_or};
-ghost use Rattle.asprop.specs.Texts.{cause_of, told_of};
+ghost use Rattle.asprop.specs.Texts.{cause_of, ending_of};
 ghost use Rattle.asprop.specs.Ran.{Explained, Reports};
 ghost use Rattle.asprop.specs.Streams.{stream_of};
 ghost use Rattle.asprop.specs.Words.{Form, form_seen, name_by};
@@ -35,7 +35,7 @@ fn fault_message(
     form: &Option<WordForm<'_>>,
     fault: Fault,
 ) -> Result<String, AllocError>
-    ensures { IfOk result (λ text. string_bytes text ≡ (told_of (option_map form_seen form.now) (Err (Stop.Fault fault))).1) }
+    ensures { IfOk result (λ text. string_bytes text ≡ (ending_of (option_map form_seen form.now) (Err (Stop.Fault fault))).1) }
 {
     match fault {
         Fault::Usage => String::from_str(alloc, USAGE),
@@ -50,7 +50,7 @@ fn fault_message(
 
 // The numbers of a cycle, the lowest first.
 fn cycle_message(alloc: Global, cycle: &Cycle) -> Result<Vec<u8>, NoMemory>
-    ensures { IfOk result (λ text. text.items ≡ (told_of None (Err (Stop.Cycle cycle.now))).1) }
+    ensures { IfOk result (λ text. text.items ≡ (ending_of None (Err (Stop.Cycle cycle.now))).1) }
 {
     let mut text = Vec::new(alloc);
     if text.extend_from_slice(b"asprop: provider cycle: ").is_err() {
@@ -81,7 +81,7 @@ fn cause_status(cause: Cause) -> Status
 }
 
 fn fault_status(fault: Fault) -> Status
-    ensures { (form : Option Form) → result ≡ (told_of form (Err (Stop.Fault fault))).0 }
+    ensures { (form : Option Form) → result ≡ (ending_of form (Err (Stop.Fault fault))).0 }
 {
     match fault {
         Fault::Usage => Status::Usage,
