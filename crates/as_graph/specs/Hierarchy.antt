@@ -1,8 +1,8 @@
 -- Provider cycles and ranks, over any function that says what the second AS is to the first.
-use Rattle.std.specs.Prelude.{◌≡◌, ◌⊎◌, ℕ, suc, ◌≤◌, Option, Some, List, [], ◌∷◌, length, ◌+◌, ⊤}
+use Rattle.std.specs.Prelude.{◌≡◌, ◌⊎◌, ℕ, suc, ◌≤◌, Option, Some, List, [], ◌∷◌, length, ◌+◌, ⊤, slice_index}
 use Rattle.net_names.specs.declared.routes.Rel.{Rel}
 use Rattle.net_names.specs.declared.routes.Rel.TheVariants.{Customer}
-use Rattle.net_names.specs.Numbers.{IsDistinct, first_or, last_or}
+use Rattle.net_names.specs.Numbers.{IsDistinct, last_or}
 use Rattle.as_graph.specs.Topology.{Topology, what}
 
 -- each AS of the list is a provider of the next (Gao and Rexford 2001)
@@ -17,7 +17,7 @@ pub record IsProviderCycle (what : ℕ → ℕ → Option Rel) (xs : List ℕ) :
   pub two : 2 ≤ length xs
   pub distinct : IsDistinct xs
   pub descends : IsDescent what xs
-  pub closes : what (last_or 0 xs) (first_or 0 xs) ≡ Some Customer
+  pub closes : what (last_or 0 xs) (slice_index xs 0) ≡ Some Customer
 
 -- no list of ASes is a provider cycle (Gao and Rexford 2001)
 abbrev pub HasNoProviderCycle : (ℕ → ℕ → Option Rel) → Type 0

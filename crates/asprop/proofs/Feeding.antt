@@ -3,8 +3,9 @@ use Rattle.std.proofs.Common.{◌≡◌, ◌+◌, ◌≤◌, ◌<◌, ℕ, List,
 use Rattle.std.specs.Io.KnownBytes.{Consumes, Keeps, IsAtEnd}
 use Rattle.std.proofs.KnownBytes.{Consumes-trans}
 use Rattle.net_names.specs.Links.{LinkMap}
-use Rattle.caida_reader.specs.Value.{links_of, unless as outcome_unless}
+use Rattle.caida_reader.specs.Value.{links_of}
 use Rattle.caida_reader.specs.Progress.{Progress, outcome, UnlessMemory, Fails}
+use Rattle.net_names.specs.Steps.{unless as outcome_unless}
 use Rattle.caida_reader.specs.declared.errors.RelError.{RelError}
 use Rattle.caida_reader.specs.declared.errors.RelError.TheVariants as rel
 use Rattle.scenario_text.specs.Walks.{◌>>=◌}

@@ -8,7 +8,6 @@ use Rattle.net_names.specs.Prefixes.{PrefixValue}
 use Rattle.net_names.specs.declared.addresses.Family.TheVariants.{V4}
 use Rattle.caida_reader.specs.Value.{links_of}
 use Rattle.roa_table.specs.Files.{payloads_in}
-use Rattle.roa_table.specs.Sets.{no_payloads}
 use Rattle.as_graph.specs.Topology.{as_count}
 use Rattle.scenario_text.specs.Scenarios.{ScenarioValue, nothing}
 use Rattle.scenario_text.specs.Readings.{scenario_of_bytes}
@@ -81,10 +80,10 @@ asked (Some (demo_form n)) reads =
     Ok (record { world = world_of (drawn_links n) (drawn_payloads n) (drawn_scenario n); lines = drawn_lines (drawn_links n); heads = true; counts = true })
 asked (Some (origin_form rel origin)) reads = do
   links ← read_as file.Relations cause.Relation links_of reads
-  Ok (record { world = world_of links no_payloads (announced_by origin); lines = origin_line ∷ []; heads = false; counts = false })
+  Ok (record { world = world_of links fin.empty (announced_by origin); lines = origin_line ∷ []; heads = false; counts = false })
 asked (Some (script_form rel vrps scenario script)) reads = do
   links ← read_as file.Relations cause.Relation links_of reads
-  payloads ← option_map_or (λ _. read_as file.Payloads cause.Payload payloads_in reads) vrps (Ok no_payloads)
+  payloads ← option_map_or (λ _. read_as file.Payloads cause.Payload payloads_in reads) vrps (Ok fin.empty)
   plan ← option_map_or (λ _. read_as file.Scenario cause.Scenario scenario_of_bytes reads) scenario (Ok nothing)
   lines ← read_as file.Script cause.Script script_of reads
   Ok (record { world = world_of links payloads plan; lines = lines; heads = true; counts = false })

@@ -3,17 +3,17 @@ use Rattle.std.proofs.Common.{◌≡◌, ◌≢◌, ℕ, ◌+◌, ◌≤◌, inl
 use Rattle.std.proofs.lemmas.List.Elements.{All-nil, All-push, All-contains, Contains-push, Contains-push_cases, Contains-append_left}
 use Rattle.std.proofs.lemmas.List.{get_or_append_left}
 use Rattle.std.specs.FinMap.{get, len, len-insert, len-empty}
-use Rattle.net_names.specs.Steps.{either}
+use Rattle.std.specs.Option.{option_or}
 use Rattle.net_names.specs.Links.{pair_cmp}
 use Rattle.net_names.proofs.Pairs.{pairs_total}
 use Rattle.net_names.specs.declared.routes.Rel.{Rel}
-use Rattle.caida_reader.specs.Value.{FirstMap, links_in, firsts, fault_after, first_fault}
-use Rattle.caida_reader.specs.Firsts.{with_first, with_said}
+use Rattle.caida_reader.specs.Value.{FirstMap, links_in, fault_after}
+use Rattle.caida_reader.specs.Firsts.{firsts, with_first, with_said}
 use Rattle.caida_reader.specs.Laws.{HasLinks}
 use Rattle.caida_reader.specs.declared.line.Said.{Said}
 use Rattle.caida_reader.specs.declared.line.Said.TheVariants.{Nothing, Unreadable, Itself, Link}
 use Rattle.caida_reader.specs.declared.firsts.First.{First}
-use Rattle.caida_reader.proofs.Values.{firsts-push}
+use Rattle.caida_reader.proofs.Values.{first_fault, firsts-push}
 use Rattle.caida_reader.proofs.Given.{len-links_in, agree_with, fine_if, few_if}
 
 -- ---- the number of pairs
@@ -106,7 +106,7 @@ nothing_has_links = record {
 }
 
 -- ---- all lines
-both_none : {A : Type 0} (f g : Option A) → either f g ≡ None → (f ≡ None) × (g ≡ None)
+both_none : {A : Type 0} (f g : Option A) → option_or f g ≡ None → (f ≡ None) × (g ≡ None)
 both_none None g h = (refl, h)
 both_none (Some e) g h = cc
 

@@ -8,9 +8,12 @@ use Rattle.std.proofs.lemmas.Option.{slice_get_within, get_or_from_slice_get}
 use Rattle.std.specs.FinMap.{find, get, len, get-from_entries}
 use Rattle.net_names.specs.Links.{pair_cmp}
 use Rattle.net_names.proofs.Pairs.{pairs_total}
+use denote.Enum.Bare.{sameb}
 use Rattle.net_names.specs.declared.routes.Rel.{Rel}
+use Rattle.net_names.specs.contracts.routes.Rel.{the_type}
 use Rattle.net_names.specs.declared.routes.Rel.TheVariants.{Customer, Peer, Provider}
-use Rattle.caida_reader.specs.Value.{links_in, numbered, firsts, same_rel, link_fault, fault_after}
+use Rattle.caida_reader.specs.Firsts.{firsts}
+use Rattle.caida_reader.specs.Value.{links_in, numbered, link_fault, fault_after}
 use Rattle.caida_reader.specs.Laws.{SaysAt, IsConflict, IsOneTooMany, IsCause}
 use Rattle.caida_reader.specs.declared.line.Said.{Said}
 use Rattle.caida_reader.specs.declared.line.Said.TheVariants.{Nothing, Unreadable, Itself, Link}
@@ -78,10 +81,10 @@ first_of n (Nothing ∷ said) lo hi first h = later n Nothing said lo hi first (
 first_of n (Unreadable ∷ said) lo hi first h = later n Unreadable said lo hi first (λ rel e. cc) (first_of (n + 1) said lo hi first h)
 first_of n (Itself ∷ said) lo hi first h = later n Itself said lo hi first (λ rel e. cc) (first_of (n + 1) said lo hi first h)
 
-not_same : (r q : Rel) → same_rel r q ≡ false → q ≢ r
-not_same Customer q h e = let f : same_rel Customer Customer ≡ false = rw e at h in cc
-not_same Peer q h e = let f : same_rel Peer Peer ≡ false = rw e at h in cc
-not_same Provider q h e = let f : same_rel Provider Provider ≡ false = rw e at h in cc
+not_same : (r q : Rel) → sameb the_type r q ≡ false → q ≢ r
+not_same Customer q h e = let f : sameb the_type Customer Customer ≡ false = rw e at h in cc
+not_same Peer q h e = let f : sameb the_type Peer Peer ≡ false = rw e at h in cc
+not_same Provider q h e = let f : sameb the_type Provider Provider ≡ false = rw e at h in cc
 
 module _ (said : List Said) (place : ℕ) (inside : place < length said) where
   abbrev front : List Said
@@ -106,7 +109,7 @@ module _ (said : List Said) (place : ℕ) (inside : place < length said) where
     full = ap (λ n. len (links_in (take n said))) (let n = number in omega (arith, n)) ∙ len-links_in front ∙ omega (arith, most, least);
   }
 
-  conflict : (lo hi : ℕ) (rel : Rel) (first : First) → slice_get said place ≡ Some (Link lo hi rel) → get (firsts front) (lo, hi) ≡ Some first → same_rel first.rel rel ≡ false → IsConflict said (length front + 1) first.line
+  conflict : (lo hi : ℕ) (rel : Rel) (first : First) → slice_get said place ≡ Some (Link lo hi rel) → get (firsts front) (lo, hi) ≡ Some first → sameb the_type first.rel rel ≡ false → IsConflict said (length front + 1) first.line
   conflict lo hi rel first is stands apart =
       let given = first_of 1 front lo hi first (sym (get-from_entries pairs_total (numbered 1 front) (lo, hi)) ∙ stands) in
       let within : given.place < length front = slice_get_within front given.place _ given.at in
@@ -132,9 +135,9 @@ module _ (said : List Said) (place : ℕ) (inside : place < length said) where
       by_room false lt h =
           let same : fault.TooManyLinks (length front + 1) ≡ e = cc in
           subst (IsCause said) same (too_many lo hi rel is none most (ltb-false _ _ lt))
-  by_first lo hi rel e is most (Some first) stands found = by_same (same_rel first.rel rel) refl found
+  by_first lo hi rel e is most (Some first) stands found = by_same (sameb the_type first.rel rel) refl found
     where
-      by_same : (b : Bool) → same_rel first.rel rel ≡ b → (if b then None else Some (fault.Conflict (length front + 1) first.line)) ≡ Some e → IsCause said e
+      by_same : (b : Bool) → sameb the_type first.rel rel ≡ b → (if b then None else Some (fault.Conflict (length front + 1) first.line)) ≡ Some e → IsCause said e
       by_same true s h = cc
       by_same false s h =
           let same : fault.Conflict (length front + 1) first.line ≡ e = cc in

@@ -8,9 +8,9 @@ use Rattle.std.proofs.lemmas.List.Splits.{slice_split_at, slice_split_none}
 use Rattle.std.specs.List.{position_or_len}
 use Rattle.std.proofs.lemmas.Bool.{ltb-false}
 use Rattle.std.proofs.lemmas.List.Sums.{fails_before_first}
-use Rattle.net_names.specs.Texts.{cut_at}
+use Rattle.net_names.specs.Texts.{cut_at, fields}
 use Rattle.net_names.proofs.Cuts.{fields_uncut, fields_cut}
-use Rattle.caida_reader.specs.Lines.{lines, IsOneLine}
+use Rattle.caida_reader.specs.Lines.{IsOneLine}
 
 pub ruleset cutting = (fields_uncut, fields_cut)
 
@@ -24,12 +24,12 @@ no_break : (text : List ℕ) → IsOneLine text → All (λ byte. (byte == 10) �
 no_break text h k d l = ne_eqb _ _ (h k d l)
 
 -- a line that a line feed ends
-pub lines-ended : (text more : List ℕ) → IsOneLine text → lines (text ++ 10 ∷ more) ≡ text ∷ lines more
+pub lines-ended : (text more : List ℕ) → IsOneLine text → fields 10 (text ++ 10 ∷ more) ≡ text ∷ fields 10 more
 lines-ended text more h = slice_split_at (λ byte. byte == 10) text 10 more (no_break text h) refl
 
 -- a line without line feed
-pub lines-last : (text : List ℕ) → IsOneLine text → lines (text ++ []) ≡ text ∷ []
-lines-last text h = ap lines (append-nil text) ∙ slice_split_none (λ byte. byte == 10) text (no_break text h)
+pub lines-last : (text : List ℕ) → IsOneLine text → fields 10 (text ++ []) ≡ text ∷ []
+lines-last text h = ap (fields 10) (append-nil text) ∙ slice_split_none (λ byte. byte == 10) text (no_break text h)
 
 abbrev Parts : Type 0
 Parts = List ℕ × List ℕ

@@ -9,11 +9,12 @@ use Rattle.std.proofs.Math.Seq.{get_or-append_right, take-append-add}
 use Rattle.std.proofs.lemmas.List.{drop_more, take_all}
 use Rattle.std.proofs.lemmas.List.Folds.{list_all_more, list_all_at}
 use Rattle.std.proofs.lemmas.List.Elements.{All-append, All-cons}
-use Rattle.net_names.specs.Texts.{fields, numeral, asn_of}
+use Rattle.std.specs.Str.Lines.{strip_carriage_return}
+use Rattle.net_names.specs.Texts.{fields, is_skipped, numeral, asn_of, rel_of}
 use Rattle.net_names.proofs.TextLaws.{cut_again}
 use Rattle.net_names.proofs.Cuts.{fields_cut}
-use Rattle.caida_reader.specs.Lines.{IsOneLine, without_cr, is_skipped}
-use Rattle.caida_reader.specs.Says.{rel_of, link_of, said_by, said_of, says}
+use Rattle.caida_reader.specs.Lines.{IsOneLine}
+use Rattle.caida_reader.specs.Says.{link_of, said_by, says}
 use Rattle.caida_reader.specs.Plain.{BeginsWithAsn, BeginsWithLine}
 use Rattle.caida_reader.specs.declared.line.Said.{Said}
 use Rattle.caida_reader.specs.declared.line.Said.TheVariants as what
@@ -58,12 +59,12 @@ one_line : (field : List ℕ) → list_all (λ c. is_digit c 10) field ≡ true 
 one_line field digits k d lt = eqb-false _ _ (free 10 refl field digits k d lt)
 
 -- what stands in front of a bar is kept where a carriage return is dropped
-without_cr-behind : (front end : List ℕ) → without_cr (front ++ 124 ∷ end) ≡ front ++ 124 ∷ without_cr end
-without_cr-behind front [] =
+strip_carriage_return-behind : (front end : List ℕ) → strip_carriage_return (front ++ 124 ∷ end) ≡ front ++ 124 ∷ strip_carriage_return end
+strip_carriage_return-behind front [] =
     let l : length (front ++ 124 ∷ []) - 1 ≡ length front = let n = length-append front (124 ∷ []) in omega (arith, n) in
     let e : get_or (front ++ 124 ∷ []) (length front) 0 ≡ 124 = get_or-append_right front (124 ∷ []) (length front) 0 (omega arith) ∙ ap (λ i. get_or (124 ∷ []) i 0) (let z : length front - length front ≡ 0 = omega arith in z) in
     rw (l, e) refl
-without_cr-behind front (b ∷ bs) =
+strip_carriage_return-behind front (b ∷ bs) =
     let m : ℕ = length bs in
     let l : length (front ++ 124 ∷ b ∷ bs) - 1 ≡ length front + suc m = let n = length-append front (124 ∷ b ∷ bs) in omega (arith, n) in
     let e : get_or (front ++ 124 ∷ b ∷ bs) (length front + suc m) 0 ≡ get_or (b ∷ bs) m 0 =
@@ -75,6 +76,10 @@ without_cr-behind front (b ∷ bs) =
     by_last : (t : Bool) → (if t then front ++ 124 ∷ take (length bs) (b ∷ bs) else front ++ 124 ∷ b ∷ bs) ≡ front ++ 124 ∷ (if t then take (length bs) (b ∷ bs) else b ∷ bs)
     by_last true = refl
     by_last false = refl
+
+-- what a text without its carriage return says
+abbrev said_of : List ℕ → Said
+said_of text = if is_skipped text then what.Nothing else said_by (fields 124 text)
 
 -- a line whose first two fields are AS numbers
 module _ (text one two end rest : List ℕ) (a b : ℕ) (first : BeginsWithAsn text a one) (second : BeginsWithAsn one b two) (cut : two ≡ end ++ 10 ∷ rest) (ended : IsOneLine end) where
@@ -90,14 +95,14 @@ module _ (text one two end rest : List ℕ) (a b : ℕ) (first : BeginsWithAsn t
   line-one_line = All-append (λ byte. byte ≢ 10) first.field _ (one_line first.field first.digits) (All-cons (λ byte. byte ≢ 10) 124 _ (λ e. cc)
       (All-append (λ byte. byte ≢ 10) second.field _ (one_line second.field second.digits) (All-cons (λ byte. byte ≢ 10) 124 end (λ e. cc) ended)))
 
-  said : (third : List ℕ) (further : List (List ℕ)) → fields 124 (without_cr end) ≡ third ∷ further → says line ≡ link_of (Some a) (Some b) (rel_of third)
+  said : (third : List ℕ) (further : List (List ℕ)) → fields 124 (strip_carriage_return end) ≡ third ∷ further → says line ≡ link_of (Some a) (Some b) (rel_of third)
   said third further is =
-      ap said_of (without_cr-behind first.field (second.field ++ 124 ∷ end) ∙ ap (λ l. first.field ++ 124 ∷ l) (without_cr-behind second.field end))
-      ∙ ap (λ (s : Bool). if s then what.Nothing else said_by (fields 124 (first.field ++ 124 ∷ (second.field ++ 124 ∷ without_cr end)))) (not_skipped first.field (124 ∷ (second.field ++ 124 ∷ without_cr end)) first.some first.digits)
-      ∙ ap said_by (fields_digits first.field (second.field ++ 124 ∷ without_cr end) first.digits ∙ ap (λ l. first.field ∷ l) (fields_digits second.field (without_cr end) second.digits ∙ ap (λ l. second.field ∷ l) is))
+      ap said_of (strip_carriage_return-behind first.field (second.field ++ 124 ∷ end) ∙ ap (λ l. first.field ++ 124 ∷ l) (strip_carriage_return-behind second.field end))
+      ∙ ap (λ (s : Bool). if s then what.Nothing else said_by (fields 124 (first.field ++ 124 ∷ (second.field ++ 124 ∷ strip_carriage_return end)))) (not_skipped first.field (124 ∷ (second.field ++ 124 ∷ strip_carriage_return end)) first.some first.digits)
+      ∙ ap said_by (fields_digits first.field (second.field ++ 124 ∷ strip_carriage_return end) first.digits ∙ ap (λ l. first.field ∷ l) (fields_digits second.field (strip_carriage_return end) second.digits ∙ ap (λ l. second.field ∷ l) is))
       ∙ ap (λ o. link_of o (asn_of second.field) (rel_of third)) first.value ∙ ap (λ o. link_of (Some a) o (rel_of third)) second.value
 
-  pub begins : (third : List ℕ) (further : List (List ℕ)) (s : Said) → fields 124 (without_cr end) ≡ third ∷ further → s ≡ link_of (Some a) (Some b) (rel_of third) → BeginsWithLine text s rest
+  pub begins : (third : List ℕ) (further : List (List ℕ)) (s : Said) → fields 124 (strip_carriage_return end) ≡ third ∷ further → s ≡ link_of (Some a) (Some b) (rel_of third) → BeginsWithLine text s rest
   begins third further s is value = record { line = line; whole = parted; one_line = line-one_line; value = value ∙ sym (said third further is) }
 
 pub asn_again : (text : List ℕ) (n : ℕ) → numeral 10 10 text ≡ Some n → 1 ≤ n → n < 2 ^ 32 → asn_of text ≡ Some n

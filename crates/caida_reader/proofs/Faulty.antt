@@ -2,15 +2,19 @@
 use Rattle.std.proofs.Common.{◌≡◌, ℕ, zero, suc, ◌+◌, ◌<◌, ◌≤◌, List, [], ◌∷◌, ◌++◌, length, length-append, take, drop, take-append-drop, append-nil, append_assoc, slice_get, Option, Some, None, refl, sym, ap, ◌∙◌, arith, if◌then◌else◌, Bool, true, false}
 use Rattle.std.specs.Prelude.{nat_lt}
 use Rattle.std.specs.FinMap.{len, get}
-use Rattle.net_names.specs.Steps.{either}
+use Rattle.std.specs.Option.{option_or}
+use denote.Enum.Bare.{sameb}
 use Rattle.net_names.specs.declared.routes.Rel.{Rel}
-use Rattle.caida_reader.specs.Value.{FirstMap, firsts, same_rel, link_fault, fault_at, fault_after, first_fault}
+use Rattle.net_names.specs.contracts.routes.Rel.{the_type}
+use Rattle.caida_reader.specs.Firsts.{firsts}
+use Rattle.caida_reader.specs.Value.{FirstMap, link_fault, fault_at, fault_after}
 use Rattle.caida_reader.specs.Laws.{line_of}
 use Rattle.caida_reader.specs.declared.line.Said.{Said}
 use Rattle.caida_reader.specs.declared.line.Said.TheVariants.{Nothing, Unreadable, Itself, Link}
 use Rattle.caida_reader.specs.declared.firsts.First.{First}
 use Rattle.caida_reader.specs.declared.errors.RelError.{RelError}
 use Rattle.caida_reader.specs.declared.errors.RelError.TheVariants as fault
+use Rattle.caida_reader.proofs.Values.{first_fault}
 
 if_some : (b : Bool) (f e : RelError) → (if b then None else Some f) ≡ Some e → f ≡ e
 if_some true f e h = cc
@@ -18,7 +22,7 @@ if_some false f e h = cc
 
 link_line : (line : ℕ) (rel : Rel) (pairs : ℕ) (o : Option First) (e : RelError) → link_fault line rel pairs o ≡ Some e → line_of e ≡ line
 link_line line rel pairs None e h = ap line_of (sym (if_some (nat_lt pairs 1500000) (fault.TooManyLinks line) e h))
-link_line line rel pairs (Some first) e h = ap line_of (sym (if_some (same_rel first.rel rel) (fault.Conflict line first.line) e h))
+link_line line rel pairs (Some first) e h = ap line_of (sym (if_some (sameb the_type first.rel rel) (fault.Conflict line first.line) e h))
 
 -- a fault names its line
 line_of-fault_at : (before : FirstMap) (line : ℕ) (said : Said) (e : RelError) → fault_at before line said ≡ Some e → line_of e ≡ line
@@ -66,7 +70,7 @@ pub at_fault : (before more : List Said) (e : RelError) → first_fault before m
 at_fault before [] e h = cc
 at_fault before (said ∷ more) e h = by_first (fault_after before said) refl h (λ found. at_fault (before ++ said ∷ []) more e found)
   where
-    by_first : (f : Option RelError) → fault_after before said ≡ f → either f (first_fault (before ++ said ∷ []) more) ≡ Some e
+    by_first : (f : Option RelError) → fault_after before said ≡ f → option_or f (first_fault (before ++ said ∷ []) more) ≡ Some e
         → (first_fault (before ++ said ∷ []) more ≡ Some e → AtFault (before ++ said ∷ []) more e) → AtFault before (said ∷ more) e
     by_first (Some f) is found later = found_here before said more e (is ∙ found)
     by_first None is found later = found_later before said more e is (later found)
@@ -76,7 +80,7 @@ pub front_faultless : (before xs ys : List Said) → first_fault before (xs ++ y
 front_faultless before [] ys h = refl
 front_faultless before (x ∷ xs) ys h = by_first (fault_after before x) refl h (λ none. front_faultless (before ++ x ∷ []) xs ys none)
   where
-    by_first : (f : Option RelError) → fault_after before x ≡ f → either f (first_fault (before ++ x ∷ []) (xs ++ ys)) ≡ None
+    by_first : (f : Option RelError) → fault_after before x ≡ f → option_or f (first_fault (before ++ x ∷ []) (xs ++ ys)) ≡ None
         → (first_fault (before ++ x ∷ []) (xs ++ ys) ≡ None → first_fault (before ++ x ∷ []) xs ≡ None) → first_fault before (x ∷ xs) ≡ None
     by_first None is none later = rw is (later none)
     by_first (Some f) is none later = cc

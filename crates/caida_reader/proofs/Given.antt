@@ -10,10 +10,12 @@ use Rattle.std.specs.FinMap.{find, get, len, entries, entries_sorted, from_sorte
 use Rattle.std.specs.FinMap.Entries.{below_all}
 use Rattle.net_names.specs.Links.{pair_cmp, LinkMap}
 use Rattle.net_names.proofs.Pairs.{exact_pair, pairs_total}
+use denote.Enum.Bare.{sameb}
 use Rattle.net_names.specs.declared.routes.Rel.{Rel}
+use Rattle.net_names.specs.contracts.routes.Rel.{the_type}
 use Rattle.net_names.specs.declared.routes.Rel.TheVariants.{Customer, Peer, Provider}
-use Rattle.caida_reader.specs.Value.{FirstMap, links_given, links_in, firsts, same_rel, link_fault}
-use Rattle.caida_reader.specs.Firsts.{with_first, relations, link_at}
+use Rattle.caida_reader.specs.Value.{FirstMap, links_in, link_fault}
+use Rattle.caida_reader.specs.Firsts.{firsts, with_first, relations, link_at}
 use Rattle.caida_reader.specs.Laws.{HasLinks}
 use Rattle.caida_reader.specs.declared.line.Said.{Said}
 use Rattle.caida_reader.specs.declared.line.Said.TheVariants.{Nothing, Unreadable, Itself, Link}
@@ -21,7 +23,7 @@ use Rattle.caida_reader.specs.declared.firsts.First.{First}
 use Rattle.caida_reader.specs.declared.errors.RelError.TheVariants as fault
 use Rattle.caida_reader.proofs.PairLemmas.{same_pair}
 use Rattle.caida_reader.proofs.LinkLemmas.{get-relations}
-use Rattle.caida_reader.proofs.Values.{relations-firsts}
+use Rattle.caida_reader.proofs.Values.{links_given, links_in-given, relations-firsts}
 
 abbrev Entries : Type 0
 Entries = List ((ℕ × ℕ) × First)
@@ -47,7 +49,7 @@ len-links_in said = ap (λ (links : LinkMap). len links) (sym (relations-firsts 
 
 -- what stands of a pair
 pub find-firsts : (said : List Said) (q : ℕ × ℕ) → find pair_cmp q (links_given said) ≡ option_map (λ (f : First). f.rel) (get (firsts said) q)
-find-firsts said q = sym (get-from_entries pairs_total (links_given said) q) ∙ ap (λ (links : LinkMap). get links q) (sym (relations-firsts said)) ∙ get-relations (firsts said) q
+find-firsts said q = sym (get-from_entries pairs_total (links_given said) q) ∙ ap (λ (links : LinkMap). get links q) (sym (links_in-given said) ∙ sym (relations-firsts said)) ∙ get-relations (firsts said) q
 
 -- ---- elements of a list
 Contains-cons_cases : {X : Type 0} (y x : X) (xs : List X) → Contains (y ∷ xs) x → (y ≡ x) ⊎ Contains xs x
@@ -99,12 +101,12 @@ missing_is_not_given (Unreadable ∷ more) lo hi rel h given = elim (Contains-co
 missing_is_not_given (Itself ∷ more) lo hi rel h given = elim (Contains-cons_cases Itself (Link lo hi rel) more given) as (λ _. ⊥) [ inl e ↦ cc | inr later ↦ missing_is_not_given more lo hi rel h later ]
 
 -- ---- one line more
-same_rel-refl : (r q : Rel) → r ≡ q → same_rel r q ≡ true
+same_rel-refl : (r q : Rel) → r ≡ q → sameb the_type r q ≡ true
 same_rel-refl Customer q e = rw (← e) refl
 same_rel-refl Peer q e = rw (← e) refl
 same_rel-refl Provider q e = rw (← e) refl
 
-same_rel-true : (r q : Rel) → same_rel r q ≡ true → r ≡ q
+same_rel-true : (r q : Rel) → sameb the_type r q ≡ true → r ≡ q
 same_rel-true Customer Customer h = refl
 same_rel-true Customer Peer h = cc
 same_rel-true Customer Provider h = cc
@@ -117,7 +119,7 @@ same_rel-true Provider Provider h = refl
 
 -- a link without a fault agrees with those before it
 agrees : (line : ℕ) (rel : Rel) (pairs : ℕ) (first : First) → link_fault line rel pairs (Some first) ≡ None → first.rel ≡ rel
-agrees line rel pairs first h = same_rel-true first.rel rel (by_test (same_rel first.rel rel) h)
+agrees line rel pairs first h = same_rel-true first.rel rel (by_test (sameb the_type first.rel rel) h)
   where
     by_test : (b : Bool) → (if b then None else Some (fault.Conflict line first.line)) ≡ None → b ≡ true
     by_test true h = refl

@@ -5,7 +5,7 @@ use Rattle.std.specs.Ordering.{nat_cmp, eq_by_cmp, is_eq, ordering_then}
 use Rattle.std.specs.declared.cmp.Ordering.{Ordering}
 use Rattle.std.specs.declared.cmp.Ordering.TheVariants.{Less, Equal, Greater}
 use Rattle.std.specs.FinMap.{find, get, entries, insert, empty, get-entries, get-empty, get-insert, get-from_entries, same_map, len}
-use Rattle.net_names.specs.Steps.{either}
+use Rattle.std.specs.Option.{option_or}
 use Rattle.net_names.specs.Links.{pair_cmp}
 use Rattle.net_names.proofs.Pairs.{exact_pair, pairs_total}
 use Rattle.caida_reader.specs.Value.{FirstMap}
@@ -16,10 +16,10 @@ use Rattle.caida_reader.specs.declared.firsts.First.{First}
 use Rattle.caida_reader.proofs.PairLemmas.{same_pair, not_some, no_pairs, one_more}
 use Rattle.caida_reader.proofs.Values.{find-append}
 
-pub get-joined : (a b : FirstMap) (q : ℕ × ℕ) → get (joined a b) q ≡ either (get a q) (get b q)
+pub get-joined : (a b : FirstMap) (q : ℕ × ℕ) → get (joined a b) q ≡ option_or (get a q) (get b q)
 get-joined a b q =
     get-from_entries pairs_total (entries a ++ entries b) q ∙ find-append (entries a) (entries b) q
-    ∙ ap (λ o. either o (find pair_cmp q (entries b))) (sym (get-entries a q)) ∙ ap (either (get a q)) (sym (get-entries b q))
+    ∙ ap (λ o. option_or o (find pair_cmp q (entries b))) (sym (get-entries a q)) ∙ ap (option_or (get a q)) (sym (get-entries b q))
 
 then-comm : (r s : Ordering) → is_eq (ordering_then r s) ≡ is_eq (ordering_then s r)
 then-comm Less Less = refl
@@ -45,25 +45,25 @@ find-turned (e ∷ es) a b =
 pub get-all_turned : (m : FirstMap) (a b : ℕ) → get (all_turned m) (a, b) ≡ get m (b, a)
 get-all_turned m a b = get-from_entries pairs_total (map turned (entries m)) (a, b) ∙ find-turned (entries m) a b ∙ sym (get-entries m (b, a))
 
-in_front : (t : Bool) (v : First) (o p : Option First) → either (cond t (Some v) o) p ≡ cond t (Some v) (either o p)
+in_front : (t : Bool) (v : First) (o p : Option First) → option_or (cond t (Some v) o) p ≡ cond t (Some v) (option_or o p)
 in_front true v o p = refl
 in_front false v o p = refl
 
-behind : (t : Bool) (v : First) (o p : Option First) → (t ≡ true → o ≡ None) → either o (cond t (Some v) p) ≡ cond t (Some v) (either o p)
+behind : (t : Bool) (v : First) (o p : Option First) → (t ≡ true → o ≡ None) → option_or o (cond t (Some v) p) ≡ cond t (Some v) (option_or o p)
 behind true v o p none = rw (none refl) refl
 behind false v o p none = refl
 
 module _ (a b : FirstMap) (k : ℕ × ℕ) (v : First) where
   pub joined-insert_front : joined (insert a k v) b ≡ insert (joined a b) k v
   joined-insert_front = same_map pairs_total exact_pair _ _ (λ q.
-      get-joined (insert a k v) b q ∙ ap (λ o. either o (get b q)) (get-insert pairs_total a k v q)
+      get-joined (insert a k v) b q ∙ ap (λ o. option_or o (get b q)) (get-insert pairs_total a k v q)
       ∙ in_front (eq_by_cmp pair_cmp q k) v (get a q) (get b q)
       ∙ sym (get-insert pairs_total (joined a b) k v q ∙ ap (cond (eq_by_cmp pair_cmp q k) (Some v)) (get-joined a b q)))
 
   module _ (none : get a k ≡ None) where
     pub joined-insert_back : joined a (insert b k v) ≡ insert (joined a b) k v
     joined-insert_back = same_map pairs_total exact_pair _ _ (λ q.
-        get-joined a (insert b k v) q ∙ ap (either (get a q)) (get-insert pairs_total b k v q)
+        get-joined a (insert b k v) q ∙ ap (option_or (get a q)) (get-insert pairs_total b k v q)
         ∙ behind (eq_by_cmp pair_cmp q k) v (get a q) (get b q) (λ t. ap (get a) (same_pair q k t) ∙ none)
         ∙ sym (get-insert pairs_total (joined a b) k v q ∙ ap (cond (eq_by_cmp pair_cmp q k) (Some v)) (get-joined a b q)))
 
@@ -74,7 +74,7 @@ module _ (a b : FirstMap) (k : ℕ × ℕ) (v : First) where
     pub joined-with_first : joined a (with_first b k v) ≡ with_first (joined a b) k v
     joined-with_first =
         by_test (is_some (get b k))
-        ∙ ap (λ o. if is_some o then joined a b else insert (joined a b) k v) (sym (get-joined a b k ∙ ap (λ o. either o (get b k)) none))
+        ∙ ap (λ o. if is_some o then joined a b else insert (joined a b) k v) (sym (get-joined a b k ∙ ap (λ o. option_or o (get b k)) none))
 
 pub all_turned-insert : (m : FirstMap) (a b : ℕ) (v : First) → all_turned (insert m (b, a) v) ≡ insert (all_turned m) (a, b) v
 all_turned-insert m a b v = same_map pairs_total exact_pair _ _ (λ q.
@@ -103,13 +103,13 @@ abbrev nothing : FirstMap
 nothing = empty
 
 pub joined-empty : joined empty empty ≡ empty
-joined-empty = same_map pairs_total exact_pair _ _ (λ q. get-joined empty empty q ∙ ap (λ o. either o (get nothing q)) (get-empty {X = First} pair_cmp q))
+joined-empty = same_map pairs_total exact_pair _ _ (λ q. get-joined empty empty q ∙ ap (λ o. option_or o (get nothing q)) (get-empty {X = First} pair_cmp q))
 
 pub all_turned-empty : all_turned empty ≡ empty
 all_turned-empty = same_map pairs_total exact_pair _ _ (λ q. get-all_turned empty q.0 q.1 ∙ get-empty {X = First} pair_cmp (q.1, q.0) ∙ sym (get-empty {X = First} pair_cmp q))
 
 -- where neither map has a pair
-none_of : (o p : Option First) → either o p ≡ None → (o ≡ None) × (p ≡ None)
+none_of : (o p : Option First) → option_or o p ≡ None → (o ≡ None) × (p ≡ None)
 none_of None p is = (refl, is)
 none_of (Some x) p is = cc
 
@@ -117,10 +117,10 @@ pub none_of_joined : (a b : FirstMap) (k : ℕ × ℕ) → get (joined a b) k �
 none_of_joined a b k is = none_of (get a k) (get b k) (sym (get-joined a b k) ∙ is)
 
 pub get_front : (a b : FirstMap) (k : ℕ × ℕ) (x : First) → get a k ≡ Some x → get (joined a b) k ≡ Some x
-get_front a b k x is = get-joined a b k ∙ ap (λ o. either o (get b k)) is
+get_front a b k x is = get-joined a b k ∙ ap (λ o. option_or o (get b k)) is
 
 pub get_back : (a b : FirstMap) (k : ℕ × ℕ) → get a k ≡ None → get (joined a b) k ≡ get b k
-get_back a b k none = get-joined a b k ∙ ap (λ o. either o (get b k)) none
+get_back a b k none = get-joined a b k ∙ ap (λ o. option_or o (get b k)) none
 
 pub no_runs : (marks : List ℕ) → AreRuns empty empty marks
 no_runs marks = record {

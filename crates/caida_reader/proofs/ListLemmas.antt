@@ -8,7 +8,7 @@ use Rattle.std.specs.Map.{keys_of}
 use Rattle.std.specs.FinMap as fin
 use Rattle.std.proofs.lemmas.List.{get_or-map, get_or_default, length-map}
 use Rattle.std.proofs.lemmas.List.Elements.{Contains-append_left, Contains-append_right, Contains-append_cases}
-use Rattle.net_names.specs.Steps.{either}
+use Rattle.std.specs.Option.{option_or}
 use Rattle.net_names.specs.Links.{pair_cmp}
 use Rattle.net_names.specs.declared.routes.Rel.{Rel}
 use Rattle.net_names.specs.declared.links.Link.{Link}
@@ -83,11 +83,11 @@ lists-all_turned m lo hi rel = (λ h. listed.0 (at_run ∙ h), λ h. sym at_run 
         (λ e is. let parts = its_ends (link_of (turned e)) (link (lo, hi) rel) is in (ap (λ (p : ℕ × ℕ). (p.1, p.0)) parts.0, parts.1))
         (fin.entries m) (fin.entries_sorted m)
 
-either_rel : (o p : Option First) → its_rel (either o p) ≡ either (its_rel o) (its_rel p)
+either_rel : (o p : Option First) → its_rel (option_or o p) ≡ option_or (its_rel o) (its_rel p)
 either_rel None p = refl
 either_rel (Some x) p = refl
 
-either_some : (o p : Option Rel) (rel : Rel) → either o p ≡ Some rel → (o ≡ Some rel) ⊎ (p ≡ Some rel)
+either_some : (o p : Option Rel) (rel : Rel) → option_or o p ≡ Some rel → (o ≡ Some rel) ⊎ (p ≡ Some rel)
 either_some None p rel h = inr h
 either_some (Some x) p rel h = inl h
 
@@ -104,10 +104,10 @@ lists-joined xs ys a b apart front back lo hi rel = (to, from)
     rel_of : FirstMap → Option Rel
     rel_of m = fin.get (relations m) (lo, hi)
 
-    both : rel_of (joined a b) ≡ either (rel_of a) (rel_of b)
+    both : rel_of (joined a b) ≡ option_or (rel_of a) (rel_of b)
     both =
         get-relations (joined a b) (lo, hi) ∙ ap its_rel (get-joined a b (lo, hi)) ∙ either_rel (fin.get a (lo, hi)) (fin.get b (lo, hi))
-        ∙ ap (λ o. either o (its_rel (fin.get b (lo, hi)))) (sym (get-relations a (lo, hi))) ∙ ap (either (rel_of a)) (sym (get-relations b (lo, hi)))
+        ∙ ap (λ o. option_or o (its_rel (fin.get b (lo, hi)))) (sym (get-relations a (lo, hi))) ∙ ap (option_or (rel_of a)) (sym (get-relations b (lo, hi)))
 
     to : rel_of (joined a b) ≡ Some rel → Contains (xs ++ ys) l
     to h = elim (either_some (rel_of a) (rel_of b) rel (sym both ∙ h)) as (λ _. Contains (xs ++ ys) l) [
@@ -117,9 +117,9 @@ lists-joined xs ys a b apart front back lo hi rel = (to, from)
 
     from : Contains (xs ++ ys) l → rel_of (joined a b) ≡ Some rel
     from h = elim (Contains-append_cases xs ys l h) as (λ _. rel_of (joined a b) ≡ Some rel) [
-      | inl in_front ↦ both ∙ ap (λ o. either o (rel_of b)) ((front lo hi rel).1 in_front)
+      | inl in_front ↦ both ∙ ap (λ o. option_or o (rel_of b)) ((front lo hi rel).1 in_front)
       | inr behind ↦
           let there = (back lo hi rel).1 behind in
           let none = apart (lo, hi) (some_rel (fin.get b (lo, hi)) rel (sym (get-relations b (lo, hi)) ∙ there)) in
-          both ∙ ap (λ o. either o (rel_of b)) (get-relations a (lo, hi) ∙ ap its_rel none) ∙ there
+          both ∙ ap (λ o. option_or o (rel_of b)) (get-relations a (lo, hi) ∙ ap its_rel none) ∙ there
     ]

@@ -1,10 +1,11 @@
 -- What a file comes to, as its lines come.
 use Rattle.std.proofs.Common.{◌≡◌, ℕ, ◌+◌, ◌<◌, List, [], ◌∷◌, ◌++◌, map, Option, Some, None, Result, Ok, Err, refl, sym, ap, ◌∙◌, append-nil, append_assoc, subst, length, get_or, drop, drop-cons, add-one, Vec, Global}
 use Rattle.std.specs.Result.{result_err}
+use Rattle.net_names.specs.Steps.{unless}
 use Rattle.net_names.specs.Links.{LinkMap}
 use Rattle.caida_reader.specs.Lines.{IsOneLine}
 use Rattle.caida_reader.specs.Says.{says}
-use Rattle.caida_reader.specs.Value.{FirstMap, said_in, fault_at, unless, links_of}
+use Rattle.caida_reader.specs.Value.{FirstMap, said_in, fault_at, links_of}
 use Rattle.caida_reader.specs.Firsts.{with_said, relations, Judges}
 use Rattle.caida_reader.specs.Progress.{Progress, outcome, value_from, EndsLine, Gives, Fails, UnlessMemory, joined}
 use Rattle.caida_reader.specs.Plain.{BeginsWithLine}

@@ -1,13 +1,15 @@
 -- What lines come to, judged one after the other, and what they stand for as a whole.
 use Rattle.std.proofs.Common.{◌≡◌, ℕ, ◌+◌, Bool, true, false, cond, List, [], ◌∷◌, ◌++◌, map, length, length-append, Option, Some, None, Result, Ok, refl, sym, ap, ◌∙◌, arith, append-nil, append_assoc, if◌then◌else◌}
 use Rattle.std.specs.Ordering.{eq_by_cmp}
-use Rattle.std.specs.Option.{is_some}
+use Rattle.std.specs.Option.{is_some, option_or}
 use Rattle.std.specs.FinMap.{find, insert, from_entries, get-from_entries, same_map, from_entries_push}
-use Rattle.net_names.specs.Steps.{either}
+use Rattle.net_names.specs.Steps as steps
+use Rattle.net_names.specs.Steps.{unless}
 use Rattle.net_names.specs.Links.{pair_cmp, LinkMap}
+use Rattle.net_names.specs.declared.routes.Rel.{Rel}
 use Rattle.net_names.proofs.Pairs.{exact_pair, pairs_total}
-use Rattle.caida_reader.specs.Value.{links_given, links_in, numbered, firsts, fault_after, first_fault, unless, value_of}
-use Rattle.caida_reader.specs.Firsts.{with_first, with_said, relations, link_at}
+use Rattle.caida_reader.specs.Value.{links_in, numbered, fault_after, value_of}
+use Rattle.caida_reader.specs.Firsts.{firsts, with_first, with_said, relations, link_at}
 use Rattle.caida_reader.specs.Progress.{value_from}
 use Rattle.caida_reader.specs.declared.line.Said.{Said}
 use Rattle.caida_reader.specs.declared.line.Said.TheVariants.{Nothing, Unreadable, Itself, Link}
@@ -20,15 +22,15 @@ abbrev Entries : Type 0
 Entries = List ((ℕ × ℕ) × First)
 
 -- what is found in front, or else behind
-or_behind : (b : Bool) (x : First) (o p : Option First) → cond b (Some x) (either o p) ≡ either (cond b (Some x) o) p
+or_behind : (b : Bool) (x : First) (o p : Option First) → cond b (Some x) (option_or o p) ≡ option_or (cond b (Some x) o) p
 or_behind true x o p = refl
 or_behind false x o p = refl
 
-pub find-append : (es fs : Entries) (q : ℕ × ℕ) → find pair_cmp q (es ++ fs) ≡ either (find pair_cmp q es) (find pair_cmp q fs)
+pub find-append : (es fs : Entries) (q : ℕ × ℕ) → find pair_cmp q (es ++ fs) ≡ option_or (find pair_cmp q es) (find pair_cmp q fs)
 find-append [] fs q = refl
 find-append (e ∷ es) fs q = ap (cond (eq_by_cmp pair_cmp q e.0) (Some e.1)) (find-append es fs q) ∙ or_behind (eq_by_cmp pair_cmp q e.0) e.1 (find pair_cmp q es) (find pair_cmp q fs)
 
-stays : (b : Bool) (o : Option First) (x v : First) → (b ≡ true → o ≡ Some x) → either o (cond b (Some v) None) ≡ o
+stays : (b : Bool) (o : Option First) (x v : First) → (b ≡ true → o ≡ Some x) → option_or o (cond b (Some v) None) ≡ o
 stays true o x v h = rw (h refl) refl
 stays false None x v h = refl
 stays false (Some y) x v h = refl
@@ -66,6 +68,12 @@ firsts-push before said = ap (λ (es : Entries). from_entries es) (numbered-appe
     by_line Unreadable m n e = ap (λ (es : Entries). from_entries es) (append-nil (numbered 1 before))
     by_line Itself m n e = ap (λ (es : Entries). from_entries es) (append-nil (numbered 1 before))
 
+-- the links that lines give, each under its pair
+abbrev pub links_given : List Said → List ((ℕ × ℕ) × Rel)
+links_given [] = []
+links_given (Link lo hi rel ∷ more) = ((lo, hi), rel) ∷ links_given more
+links_given (said ∷ more) = links_given more
+
 links-numbered : (line : ℕ) (said : List Said) → map link_at (numbered line said) ≡ links_given said
 links-numbered line [] = refl
 links-numbered line (Link lo hi rel ∷ more) = ap (λ es. ((lo, hi), rel) ∷ es) (links-numbered (line + 1) more)
@@ -73,13 +81,20 @@ links-numbered line (Nothing ∷ more) = links-numbered (line + 1) more
 links-numbered line (Unreadable ∷ more) = links-numbered (line + 1) more
 links-numbered line (Itself ∷ more) = links-numbered (line + 1) more
 
+pub links_in-given : (said : List Said) → links_in said ≡ from_entries (links_given said)
+links_in-given said = ap from_entries (links-numbered 1 said)
+
 -- the links of the first lines are those that the lines give
 pub relations-firsts : (said : List Said) → relations (firsts said) ≡ links_in said
-relations-firsts said = sym (relations-from_entries (numbered 1 said)) ∙ ap from_entries (links-numbered 1 said)
+relations-firsts said = sym (relations-from_entries (numbered 1 said))
 
-unless-either : (f g : Option RelError) (value : Result LinkMap RelError) → unless f (unless g value) ≡ unless (either f g) value
-unless-either None g value = refl
-unless-either (Some e) g value = refl
+-- the first fault of lines behind others
+abbrev pub first_fault : List Said → List Said → Option RelError
+first_fault = steps.first_fault fault_after
+
+unless-option_or : (f g : Option RelError) (value : Result LinkMap RelError) → unless f (unless g value) ≡ unless (option_or f g) value
+unless-option_or None g value = refl
+unless-option_or (Some e) g value = refl
 
 -- lines judged one after the other, behind others
 pub value_from-firsts : (before more : List Said) → value_from (firsts before) (length before + 1) more ≡ unless (first_fault before more) (Ok (links_in (before ++ more)))
@@ -91,7 +106,7 @@ value_from-firsts before (said ∷ more) =
     ∙ ap (λ line. value_from (firsts (before ++ said ∷ [])) (line + 1) more) n
     ∙ value_from-firsts (before ++ said ∷ []) more
     ∙ ap (λ all. unless (first_fault (before ++ said ∷ []) more) (Ok (links_in all))) (append_assoc before (said ∷ []) more))
-    ∙ unless-either (fault_after before said) (first_fault (before ++ said ∷ []) more) (Ok (links_in (before ++ said ∷ more)))
+    ∙ unless-option_or (fault_after before said) (first_fault (before ++ said ∷ []) more) (Ok (links_in (before ++ said ∷ more)))
 
 pub value_of_all : (said : List Said) → value_from (firsts []) 1 said ≡ value_of said
 value_of_all said = value_from-firsts [] said

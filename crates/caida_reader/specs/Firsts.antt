@@ -1,11 +1,11 @@
 -- The pairs of the lines so far, as a reader keeps them.
-use Rattle.std.specs.Prelude.{◌≡◌, ℕ, ◌<◌, ◌≤◌, map, IsSome, Some, None, Result, Ok, Err, if◌then◌else◌}
+use Rattle.std.specs.Prelude.{◌≡◌, ℕ, ◌<◌, ◌≤◌, List, map, IsSome, Some, None, Result, Ok, Err, if◌then◌else◌}
 use Rattle.std.specs.Option.{is_some}
 use Rattle.std.specs.Coded.{Coded, coded×, coded_ℕ}
 use Rattle.std.specs.FinMap as fin
 use Rattle.net_names.specs.Links.{LinkMap}
 use Rattle.net_names.specs.declared.routes.Rel.{Rel}
-use Rattle.caida_reader.specs.Value.{FirstMap, fault_at}
+use Rattle.caida_reader.specs.Value.{FirstMap, numbered, fault_at}
 use Rattle.caida_reader.specs.declared.line.Said.{Said}
 use Rattle.caida_reader.specs.declared.line.Said.TheVariants.{Link}
 use Rattle.caida_reader.specs.declared.firsts.First.{First}
@@ -16,6 +16,10 @@ use Rattle.caida_reader.specs.declared.errors.RelError.TheVariants as fault
 -- How such a map is stored as a value.
 abbrev pub first_map_code : Coded FirstMap
 first_map_code = fin.code (coded× coded_ℕ coded_ℕ) first.the_row.coded
+
+-- The pairs that lines give, each with its first line.
+abbrev pub firsts : List Said → FirstMap
+firsts said = fin.from_entries (numbered 1 said)
 
 -- The pairs with one more, unless it stands already.
 abbrev pub with_first : FirstMap → ℕ × ℕ → First → FirstMap

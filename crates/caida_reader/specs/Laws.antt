@@ -2,8 +2,8 @@
 use Rattle.std.specs.Prelude.{◌≡◌, ◌≢◌, ℕ, ◌-◌, ◌<◌, ◌≤◌, ◌↔◌, List, length, take, All, Contains, IsPermutation, slice_get, Some, Ok, Err, IsOk}
 use Rattle.std.specs.FinMap as fin
 use Rattle.net_names.specs.Links.{LinkMap}
+use Rattle.net_names.specs.Texts.{fields}
 use Rattle.net_names.specs.declared.routes.Rel.{Rel}
-use Rattle.caida_reader.specs.Lines.{lines}
 use Rattle.caida_reader.specs.Value.{said_in, links_in, value_of, links_of}
 use Rattle.caida_reader.specs.declared.line.Said.{Said}
 use Rattle.caida_reader.specs.declared.line.Said.TheVariants.{Unreadable, Itself, Link}
@@ -27,7 +27,7 @@ GivenExactly = (bytes : List ℕ) (links : LinkMap) → links_of bytes ≡ Ok li
 
 -- A file with the lines of an accepted file in another order has the same links.
 abbrev pub AnyOrder : Type 0
-AnyOrder = (bytes others : List ℕ) (links : LinkMap) → IsPermutation (lines bytes) (lines others) → links_of bytes ≡ Ok links → links_of others ≡ Ok links
+AnyOrder = (bytes others : List ℕ) (links : LinkMap) → IsPermutation (fields 10 bytes) (fields 10 others) → links_of bytes ≡ Ok links → links_of others ≡ Ok links
 
 -- The number of the line that a fault names; want of memory names none.
 abbrev pub line_of : RelError → ℕ

@@ -1,17 +1,11 @@
 -- What one line of a relationship file says (CAIDA's AS relationships, serial-1; serial-2 writes a source in the fourth field).
-use Rattle.std.specs.Prelude.{ℕ, ◌==◌, ◌<◌, nat_lt, List, [], ◌∷◌, Option, Some, None, if◌then◌else◌}
-use Rattle.std.specs.Str.{bytes_eq}
+use Rattle.std.specs.Prelude.{ℕ, ◌==◌, ◌<◌, nat_lt, List, ◌∷◌, Option, Some, if◌then◌else◌}
+use Rattle.std.specs.Str.Lines.{strip_carriage_return}
 use Rattle.net_names.specs.Links.{converse}
-use Rattle.net_names.specs.Texts.{fields, asn_of}
+use Rattle.net_names.specs.Texts.{fields, is_skipped, asn_of, rel_of}
 use Rattle.net_names.specs.declared.routes.Rel.{Rel}
-use Rattle.net_names.specs.declared.routes.Rel.TheVariants.{Customer, Peer}
-use Rattle.caida_reader.specs.Lines.{without_cr, is_skipped}
 use Rattle.caida_reader.specs.declared.line.Said.{Said}
 use Rattle.caida_reader.specs.declared.line.Said.TheVariants.{Nothing, Unreadable, Itself, Link}
-
--- What the second AS is to the first, by the third field: a customer for `-1`, a peer for `0` (CAIDA AS Relationships, serial-1).
-abbrev pub rel_of : List ℕ → Option Rel
-rel_of text = if bytes_eq text (45 ∷ 49 ∷ []) then Some Customer else if bytes_eq text (48 ∷ []) then Some Peer else None
 
 -- The link of a and b, of which b is this to a: the pair with the lower number first, and what the higher AS is to the lower one. Equal numbers make no link.
 abbrev pub link : ℕ → ℕ → Rel → Said
@@ -27,13 +21,9 @@ abbrev pub said_by : List (List ℕ) → Said
 said_by (first ∷ second ∷ third ∷ further) = link_of (asn_of first) (asn_of second) (rel_of third)
 said_by _ = Unreadable
 
--- What a text without its carriage return says: nothing where it is skipped, and else what its fields between `|` say.
-abbrev pub said_of : List ℕ → Said
-said_of text = if is_skipped text then Nothing else said_by (fields 124 text)
-
--- What a line says.
+-- What a line says, without one carriage return at its end: nothing where it is skipped, and else what its fields between `|` say.
 abbrev pub says : List ℕ → Said
-says line = said_of (without_cr line)
+says line = let text = strip_carriage_return line in if is_skipped text then Nothing else said_by (fields 124 text)
 
 -- A link's first AS is the lower one.
 abbrev pub IsRising : Said → Type 0

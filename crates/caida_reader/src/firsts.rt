@@ -2,7 +2,9 @@
 ghost use Rattle.std.specs.Prelude.{◌≡◌, ◌<◌, All, Ok, Err, IfOk, OnOk, OnErr, unwrap_or, if◌then◌else◌};
 ghost use Rattle.std.specs.FinMap as fin;
 ghost use Rattle.caida_reader.specs.Says.{IsRising};
-ghost use Rattle.caida_reader.specs.Value.{FirstMap, same_rel};
+ghost use Rattle.caida_reader.specs.Value.{FirstMap};
+ghost use Rattle.net_names.specs.contracts.routes.Rel.{the_type};
+ghost use denote.Enum.Bare.{sameb};
 ghost use Rattle.caida_reader.specs.Firsts.{with_first, Judges, relations};
 ghost use Rattle.caida_reader.specs.Runs.{AreApart, Puts, Lists};
 
@@ -106,7 +108,7 @@ impl Firsts {
 
 // A link whose pair stands: it is a conflict where the first line gives another relation.
 fn compare(first: First, given: First) -> Result<(), RelError>
-    ensures { result ≡ (if same_rel first.rel given.rel then Ok tt else Err (RelError.Conflict given.line first.line)) }
+    ensures { result ≡ (if sameb the_type first.rel given.rel then Ok tt else Err (RelError.Conflict given.line first.line)) }
 {
     if first.rel == given.rel {
         return Ok(());

@@ -1,9 +1,9 @@
 // One line of a relationship file.
 ghost use Rattle.std.specs.Prelude.{◌≡◌, ◌∷◌, ◌≤◌, ℕ, List, Some, IfSome};
-ghost use Rattle.net_names.specs.Texts.{fields};
-ghost use Rattle.caida_reader.specs.Lines.{without_cr};
+ghost use Rattle.std.specs.Str.Lines.{strip_carriage_return};
+ghost use Rattle.net_names.specs.Texts.{fields, rel_of};
 ghost use Rattle.caida_reader.specs.Plain.{BeginsWithLine};
-ghost use Rattle.caida_reader.specs.Says.{rel_of, link, link_of, said_by, says, IsRising};
+ghost use Rattle.caida_reader.specs.Says.{link, link_of, said_by, says, IsRising};
 
 use crate::digits::read_asn_field;
 use net_names::{Asn, Rel, cut, read_asn};
@@ -17,6 +17,7 @@ pub(crate) enum Said {
     Link { lo: Asn, hi: Asn, rel: Rel },
 }
 
+#[tactic(auto, unfolding(net_names::specs::Texts::rel_of))]
 fn read_rel(text: &[u8]) -> Option<Rel>
     ensures { result ≡ rel_of text.now }
 {
@@ -95,7 +96,7 @@ fn read_fields(text: &[u8]) -> Said
 
 // A line without a carriage return at its end.
 fn strip_cr(line: &[u8]) -> &[u8]
-    ensures { result.now ≡ without_cr line.now }
+    ensures { result.now ≡ strip_carriage_return line.now }
 {
     match line {
         [front @ .., b'\r'] => front,

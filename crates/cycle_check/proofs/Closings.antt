@@ -1,10 +1,10 @@
 -- Which provider cycles a new provider link closes.
-use Rattle.std.proofs.Common.{◌≡◌, ◌≢◌, ◌⊎◌, inl, inr, ℕ, ◌<◌, ◌≤◌, Bool, true, false, ◌==◌, Option, None, Some, option_map, List, [], ◌∷◌, ◌++◌, length, refl, sym, ◌∙◌, ap, subst, arith}
+use Rattle.std.proofs.Common.{◌≡◌, ◌≢◌, ◌⊎◌, inl, inr, ℕ, ◌<◌, ◌≤◌, Bool, true, false, ◌==◌, Option, None, Some, option_map, List, [], ◌∷◌, ◌++◌, length, refl, sym, ◌∙◌, ap, subst, arith, get_or}
 use Rattle.std.proofs.lemmas.Bool.{cases_Bool, cases_eq, true≢false}
 use Rattle.net_names.specs.declared.routes.Rel.{Rel}
 use Rattle.net_names.specs.declared.routes.Rel.TheVariants.{Customer, Provider}
 use Rattle.net_names.specs.Links.{converse}
-use Rattle.net_names.specs.Numbers.{occurs, IsDistinct, first_or, last_or}
+use Rattle.net_names.specs.Numbers.{occurs, IsDistinct, last_or}
 use Rattle.as_graph.specs.Topology.{Topology, what}
 use Rattle.as_graph.specs.Edits.{with_link, without_link}
 use Rattle.as_graph.specs.Hierarchy.{IsDescent, IsProviderCycle, HasNoProviderCycle}
@@ -120,7 +120,7 @@ module _ (g : Topology) (p c : ℕ) (differ : p ≢ c) where
   descent_more (a ∷ []) h = tt
   descent_more (a ∷ b ∷ xs) h = (more_links a b h.0, descent_more (b ∷ xs) h.1)
 
-  at_least_two : (xs : List ℕ) → first_or 0 xs ≡ c → last_or 0 xs ≡ p → 2 ≤ length xs
+  at_least_two : (xs : List ℕ) → get_or xs 0 0 ≡ c → last_or 0 xs ≡ p → 2 ≤ length xs
   at_least_two [] e f = absurd (differ (sym f ∙ e))
   at_least_two (x ∷ []) e f = absurd (differ (sym f ∙ e))
   at_least_two (x ∷ y ∷ xs) e f = omega arith
@@ -136,7 +136,7 @@ module _ (g : Topology) (p c : ℕ) (differ : p ≢ c) where
     closes = (λ i. with_provider g p c (h.last i) (h.first i)) ∙ new_link;
   }
 
-  begins_so : (ys : List ℕ) → first_or 0 (ys ++ p ∷ []) ≡ c → (rest : List ℕ) × (p ∷ ys ≡ p ∷ c ∷ rest)
+  begins_so : (ys : List ℕ) → get_or (ys ++ p ∷ []) 0 0 ≡ c → (rest : List ℕ) × (p ∷ ys ≡ p ∷ c ∷ rest)
   begins_so [] e = absurd (differ e)
   begins_so (y ∷ ys) e = (ys, ap (λ t. p ∷ t ∷ ys) e)
 
@@ -147,5 +147,5 @@ module _ (g : Topology) (p c : ℕ) (differ : p ≢ c) where
       let all : xs ≡ ys ++ p ∷ [] = is ∙ ap (λ t. ys ++ t ∷ []) same in
       record {
         cycle = turns (with_provider g p c) ys (p ∷ []) (subst (IsProviderCycle (with_provider g p c)) all (way_cycle xs h));
-        begins = begins_so ys (ap (first_or 0) (sym all) ∙ h.first);
+        begins = begins_so ys (ap (λ (ys : List ℕ). get_or ys 0 0) (sym all) ∙ h.first);
       }

@@ -8,7 +8,7 @@ use Rattle.std.proofs.lemmas.Map.Keys.{IsDistinct-head, IsDistinct-tail}
 use Rattle.indexmap.specs.IndexMap.{insert_entry}
 use Rattle.net_names.specs.declared.routes.Rel.{Rel}
 use Rattle.net_names.specs.declared.routes.Rel.TheVariants.{Customer}
-use Rattle.net_names.specs.Numbers.{occurs, IsDistinct, first_or, last_or}
+use Rattle.net_names.specs.Numbers.{occurs, IsDistinct, last_or}
 use Rattle.as_graph.specs.Hierarchy.{IsDescent}
 use Rattle.cycle_check.specs.Searches.{reached_at, from_at, is_reached, gains, AreReached, GoesOn, IsSearch, IsWayTo, IsBack}
 use Rattle.cycle_check.proofs.Descents.{occurs_push, distinct_push, descent_push, last_or_push}
@@ -227,9 +227,9 @@ start_reached what start es r = ap (is_reached es) (sym r.first) ∙ reached_the
 
 -- ---- the way back
 
-pub first_or_push : (d : ℕ) (xs : List ℕ) (x : ℕ) → first_or d (xs ++ x ∷ []) ≡ first_or x xs
-first_or_push d [] x = refl
-first_or_push d (y ∷ ys) x = refl
+pub first_push : (d : ℕ) (xs : List ℕ) (x : ℕ) → get_or (xs ++ x ∷ []) 0 d ≡ get_or xs 0 x
+first_push d [] x = refl
+first_push d (y ∷ ys) x = refl
 
 module _ (what : ℕ → ℕ → Option Rel) (start : ℕ) (es : List (ℕ × ℕ)) (unique : AreApart nat_eq (keys_of es)) (r : AreReached what start es) (from place : ℕ) (way : List ℕ) (b : IsBack what es from place way) (inside : place < length es) where
   absent : occurs (reached_at es place) way ≡ false
@@ -242,7 +242,7 @@ module _ (what : ℕ → ℕ → Option Rel) (start : ℕ) (es : List (ℕ × �
     descends = descent_push what way (reached_at es place) b.descends b.next;
     distinct = distinct_push way (reached_at es place) b.distinct absent;
     next = inr (ap (λ t. what t (reached_at es (from_at es place))) (last_or_push 0 way (reached_at es place)) ∙ r.linked place pos inside);
-    first = first_or_push (reached_at es (from_at es place)) way (reached_at es place) ∙ b.first;
+    first = first_push (reached_at es (from_at es place)) way (reached_at es place) ∙ b.first;
     above = λ x h. elim (occurs_push x way (reached_at es place) h) [
       | inl old ↦ let (i, above, low, is) = b.above x old in (i, omega (arith, above, r.earlier place pos inside), low, is)
       | inr e ↦ (place, r.earlier place pos inside, inside, e)
@@ -255,7 +255,7 @@ module _ (what : ℕ → ℕ → Option Rel) (start : ℕ) (es : List (ℕ × �
       subst (λ s. IsWayTo what (reached_at es from) s (way ++ s ∷ [])) is (record {
         descends = descent_push what way (reached_at es place) b.descends b.next;
         distinct = distinct_push way (reached_at es place) b.distinct absent;
-        first = first_or_push 0 way (reached_at es place) ∙ b.first;
+        first = first_push 0 way (reached_at es place) ∙ b.first;
         last = last_or_push 0 way (reached_at es place);
       })
 

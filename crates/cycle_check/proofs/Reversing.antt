@@ -1,25 +1,25 @@
 -- A way that is told from its end.
-use Rattle.std.proofs.Common.{◌≡◌, ◌⊎◌, inl, inr, ℕ, true, ◌==◌, Option, Some, List, [], ◌∷◌, ◌++◌, reverse, refl, sym, ◌∙◌, ap, subst}
+use Rattle.std.proofs.Common.{◌≡◌, ◌⊎◌, inl, inr, ℕ, true, ◌==◌, Option, Some, List, [], ◌∷◌, ◌++◌, reverse, refl, sym, ◌∙◌, ap, subst, get_or}
 use Rattle.std.proofs.lemmas.Bool.{true≢false, false_from_ne_true, or_left, or_right, eq-eqb}
 use Rattle.std.proofs.lemmas.List.{reverse-append}
 use Rattle.net_names.specs.declared.routes.Rel.{Rel}
 use Rattle.net_names.specs.declared.routes.Rel.TheVariants.{Customer}
-use Rattle.net_names.specs.Numbers.{occurs, IsDistinct, first_or, last_or}
+use Rattle.net_names.specs.Numbers.{occurs, IsDistinct, last_or}
 use Rattle.as_graph.specs.Hierarchy.{IsDescent}
 use Rattle.cycle_check.specs.Searches.{IsWayTo}
 use Rattle.cycle_check.proofs.Descents.{occurs_push, distinct_push, descent_push, last_or_push}
-use Rattle.cycle_check.proofs.Reaching.{first_or_push}
+use Rattle.cycle_check.proofs.Reaching.{first_push}
 
 turned : (x : ℕ) (xs : List ℕ) → reverse (x ∷ xs) ≡ reverse xs ++ x ∷ []
 turned x xs = reverse-append (x ∷ []) xs
 
-last_reversed : (d : ℕ) (xs : List ℕ) → last_or d (reverse xs) ≡ first_or d xs
+last_reversed : (d : ℕ) (xs : List ℕ) → last_or d (reverse xs) ≡ get_or xs 0 d
 last_reversed d [] = refl
 last_reversed d (x ∷ xs) = ap (last_or d) (turned x xs) ∙ last_or_push d (reverse xs) x
 
-first_reversed : (d : ℕ) (xs : List ℕ) → first_or d (reverse xs) ≡ last_or d xs
+first_reversed : (d : ℕ) (xs : List ℕ) → get_or (reverse xs) 0 d ≡ last_or d xs
 first_reversed d [] = refl
-first_reversed d (x ∷ xs) = ap (first_or d) (turned x xs) ∙ first_or_push d (reverse xs) x ∙ first_reversed x xs
+first_reversed d (x ∷ xs) = ap (λ (ys : List ℕ). get_or ys 0 d) (turned x xs) ∙ first_push d (reverse xs) x ∙ first_reversed x xs
 
 occurs_reversed : (z : ℕ) (xs : List ℕ) → occurs z (reverse xs) ≡ true → occurs z xs ≡ true
 occurs_reversed z [] h = h

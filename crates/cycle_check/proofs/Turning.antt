@@ -5,15 +5,15 @@ use Rattle.std.proofs.lemmas.List.{append-nil, take-append-drop, drop_more, leng
 use Rattle.std.proofs.lemmas.List.Folds.{list_any-append, Any-from_list_any}
 use Rattle.net_names.specs.declared.routes.Rel.{Rel}
 use Rattle.net_names.specs.declared.routes.Rel.TheVariants.{Customer}
-use Rattle.net_names.specs.Numbers.{occurs, IsDistinct, first_or, last_or}
+use Rattle.net_names.specs.Numbers.{occurs, IsDistinct, last_or}
 use Rattle.as_graph.specs.Hierarchy.{IsDescent, IsProviderCycle}
 use Rattle.cycle_check.specs.Places.{place_in}
 use Rattle.cycle_check.specs.Cycles.{IsCycleFromLowest, IsTurned}
 use Rattle.cycle_check.proofs.Descents.{distinct_push, last_or_push, descent_push}
 
 module _ (xs : List ℕ) (k : ℕ) (inside : k < length xs) where
-  first_of_turned : first_or 0 (drop k xs ++ take k xs) ≡ get_or xs k 0
-  first_of_turned = ap (λ ys. first_or 0 (ys ++ take k xs)) (drop_more xs k 0 inside)
+  first_of_turned : get_or (drop k xs ++ take k xs) 0 0 ≡ get_or xs k 0
+  first_of_turned = ap (λ ys. get_or (ys ++ take k xs) 0 0) (drop_more xs k 0 inside)
 
   occurs_turned : (a : ℕ) → occurs a (drop k xs ++ take k xs) ≡ true → occurs a xs ≡ true
   occurs_turned a o =

@@ -1,6 +1,6 @@
 -- Which provider cycle is given.
-use Rattle.std.specs.Prelude.{◌≡◌, ℕ, true, ◌≤◌, Option, List, ◌∷◌, ◌++◌, take, drop}
-use Rattle.net_names.specs.Numbers.{occurs, first_or}
+use Rattle.std.specs.Prelude.{◌≡◌, ℕ, true, ◌≤◌, Option, List, ◌∷◌, ◌++◌, take, drop, slice_index}
+use Rattle.net_names.specs.Numbers.{occurs}
 use Rattle.net_names.specs.declared.routes.Rel.{Rel}
 use Rattle.net_names.specs.declared.routes.Rel.TheVariants.{Customer}
 use Rattle.as_graph.specs.Topology.{Topology, what}
@@ -9,7 +9,7 @@ use Rattle.as_graph.specs.Hierarchy.{IsProviderCycle}
 
 -- no AS of the list has a lower number than the first one
 abbrev pub BeginsLowest : List ℕ → Type 0
-BeginsLowest xs = (a : ℕ) → occurs a xs ≡ true → first_or 0 xs ≤ a
+BeginsLowest xs = (a : ℕ) → occurs a xs ≡ true → slice_index xs 0 ≤ a
 
 -- a provider cycle, told from its lowest number on (Gao and Rexford 2001, the hierarchy assumption)
 pub record IsCycleFromLowest (what : ℕ → ℕ → Option Rel) (xs : List ℕ) : Type 0 where

@@ -1,10 +1,10 @@
 -- A search that goes up from an AS to its providers and theirs, or down to its customers and theirs.
-use Rattle.std.specs.Prelude.{◌≡◌, ◌⊎◌, ℕ, ◌<◌, ◌≤◌, Bool, true, false, ◌&&◌, ◌||◌, not, ◌==◌, if◌then◌else◌, nat_eq, is_some, Option, None, Some, List, [], ◌∷◌, ◌++◌, length, slice_index_or}
+use Rattle.std.specs.Prelude.{◌≡◌, ◌⊎◌, ℕ, ◌<◌, ◌≤◌, Bool, true, false, ◌&&◌, ◌||◌, not, ◌==◌, if◌then◌else◌, nat_eq, is_some, Option, None, Some, List, [], ◌∷◌, ◌++◌, length, slice_index_or, slice_index}
 use Rattle.std.specs.List.{IsDistinct as AreApart}
 use Rattle.std.specs.Map.{lookup, keys_of}
 use Rattle.net_names.specs.declared.routes.Rel.{Rel}
 use Rattle.net_names.specs.declared.routes.Rel.TheVariants.{Customer, Peer, Provider}
-use Rattle.net_names.specs.Numbers.{occurs, IsDistinct, first_or, last_or}
+use Rattle.net_names.specs.Numbers.{occurs, IsDistinct, last_or}
 use Rattle.as_graph.specs.declared.neighbour.Neighbour.{Neighbour}
 use Rattle.as_graph.specs.Hierarchy.{IsDescent}
 use Rattle.as_graph.specs.Topology.{Topology}
@@ -92,7 +92,7 @@ pub record HasMet (g : Topology) (provider customer : ℕ) (up : Bool) (es : Lis
 pub record IsWayTo (what : ℕ → ℕ → Option Rel) (from to : ℕ) (xs : List ℕ) : Type 0 where
   pub descends : IsDescent what xs
   pub distinct : IsDistinct xs
-  pub first : first_or 0 xs ≡ from
+  pub first : slice_index xs 0 ≡ from
   pub last : last_or 0 xs ≡ to
 
 -- the way back from a place is told so far: it comes to the AS at another place next
@@ -100,5 +100,5 @@ pub record IsBack (what : ℕ → ℕ → Option Rel) (es : List (ℕ × ℕ)) (
   pub descends : IsDescent what way
   pub distinct : IsDistinct way
   pub next : (way ≡ []) ⊎ (what (last_or 0 way) (reached_at es place) ≡ Some Customer)
-  pub first : first_or (reached_at es place) way ≡ reached_at es from
+  pub first : slice_index_or way 0 (reached_at es place) ≡ reached_at es from
   pub above : (x : ℕ) → occurs x way ≡ true → (i : ℕ) × (place < i) × (i < length es) × (reached_at es i ≡ x)

@@ -1,5 +1,5 @@
 -- What is printed of a number, an address or a prefix is read again.
-use Rattle.std.proofs.Common.{◌≡◌, ℕ, ◌+◌, ◌-◌, ◌/◌, ◌%◌, ◌^◌, ◌<◌, ◌≤◌, true, false, List, [], ◌∷◌, ◌++◌, length, take, drop, Some, None, refl, arith, eq-eqb, lit<}
+use Rattle.std.proofs.Common.{◌≡◌, ℕ, ◌+◌, ◌-◌, ◌/◌, ◌%◌, ◌^◌, ◌<◌, ◌≤◌, true, false, List, [], ◌∷◌, ◌++◌, length, take, drop, Some, None, refl, sym, ◌∙◌, arith, eq-eqb, lit<}
 use Rattle.std.specs.Prelude.{decimal, ◌==◌, nat_lt, nat_le}
 use Rattle.std.specs.List.{position_or_len}
 use Rattle.std.specs.Str.Parse.{IsNumeral, digits_value}
@@ -10,11 +10,12 @@ use Rattle.net_names.specs.declared.addresses.Family.{Family}
 use Rattle.net_names.specs.declared.addresses.Family.TheVariants.{V4, V6}
 use Rattle.net_names.specs.Addresses.{width, AddrValue, FitsFamily}
 use Rattle.net_names.specs.Prefixes.{PrefixValue, IsPrefix, prefix_at}
-use Rattle.net_names.specs.Texts.{numeral, cut_at, asn_of, v4_of, v4_text, v6_text, groups, groups_text, longest_run, zeros_at, hex_text, shortened, text_in, addr_of, prefix_of, prefix_text}
+use Rattle.net_names.specs.FourSteps.{v4_by_steps}
+use Rattle.net_names.specs.Texts.{numeral, cut_at, asn_of, v4_of, v4_text, v6_text, groups, longest_run, zeros_at, hex_text, shortened, addr_text, addr_of, prefix_of, prefix_text}
 use Rattle.net_names.proofs.Free.{IsFree, free-append, free_decimal}
 use Rattle.net_names.proofs.HexTexts.{AreGroups, dotless_text, slashless_text}
 use Rattle.net_names.proofs.SixLaws.{take_groups, drop_groups, are_groups, v6_again}
-use Rattle.net_names.proofs.TextLaws.{numeral_again, list_digits, plain_again, cut_again, v4_again}
+use Rattle.net_names.proofs.TextLaws.{numeral_again, list_digits, plain_again, cut_again, v4_same, v4_again}
 
 pub asn_again : (n : ℕ) → 1 ≤ n → n < 2 ^ 32 → asn_of (decimal n) ≡ Some n
 unfolding asn_of
@@ -47,11 +48,11 @@ free_shortened byte colon free gs i n h =
     ]) refl
 
 dotless_v6 : (bits : ℕ) → IsFree 46 (v6_text bits)
-unfolding groups_text
+unfolding v6_text
 dotless_v6 bits = let gs = groups bits in free_shortened 46 refl dotless_text gs (longest_run gs) (zeros_at gs (longest_run gs)) (are_groups bits)
 
-slashless_in : (family : Family) (bits : ℕ) → FitsFamily family bits → IsFree 47 (text_in family bits)
-unfolding groups_text v4_text
+slashless_in : (family : Family) (bits : ℕ) → FitsFamily family bits → IsFree 47 (addr_text (record { family = family; bits = bits }))
+unfolding v6_text v4_text
 slashless_in V4 bits small =
     let part = λ (n : ℕ) (h : n < 2 ^ 64). free_decimal 47 n (λ k. omega (arith, k)) h in
     let a = bits / 2 ^ 24 in
@@ -67,16 +68,19 @@ slashless_in V6 bits small = let gs = groups bits in free_shortened 47 refl slas
 
 -- ---- addresses and prefixes
 
-no_v4 : (text : List ℕ) → IsFree 46 text → v4_of text ≡ None
-unfolding v4_of
-no_v4 text h = rw (free_uncut 46 text h) refl
+no_steps : (text : List ℕ) → IsFree 46 text → v4_by_steps text ≡ None
+unfolding v4_by_steps
+no_steps text h = rw (free_uncut 46 text h) refl
 
-in_again : (family : Family) (bits : ℕ) → FitsFamily family bits → addr_of (text_in family bits) ≡ Some (record { family = family; bits = bits })
+no_v4 : (text : List ℕ) → IsFree 46 text → v4_of text ≡ None
+no_v4 text h = sym (v4_same text) ∙ no_steps text h
+
+in_again : (family : Family) (bits : ℕ) → FitsFamily family bits → addr_of (addr_text (record { family = family; bits = bits })) ≡ Some (record { family = family; bits = bits })
 unfolding addr_of
 in_again V4 bits small = rw (v4_again bits small) refl
 in_again V6 bits small = rw (no_v4 (v6_text bits) (dotless_v6 bits), v6_again bits small) refl
 
-pub addr_again : (a : AddrValue) → FitsFamily a.family a.bits → addr_of (text_in a.family a.bits) ≡ Some a
+pub addr_again : (a : AddrValue) → FitsFamily a.family a.bits → addr_of (addr_text a) ≡ Some a
 addr_again a small = in_again a.family a.bits small
 
 narrow : (family : Family) → width family < 1000
@@ -93,7 +97,7 @@ exact family addr len h =
 pub prefix_again : (p : PrefixValue) → IsPrefix p.family p.addr p.len → prefix_of (prefix_text p) ≡ Some p
 unfolding prefix_of
 prefix_again p h =
-    let text : List ℕ = text_in p.family p.addr in
+    let text : List ℕ = addr_text (record { family = p.family; bits = p.addr }) in
     let c = cut_again 47 text (decimal p.len) (All-from_recursion (λ x. (x == 47) ≡ false) text (slashless_in p.family p.addr h.fits)) in
     let a = in_again p.family p.addr h.fits in
     let l = plain_again (width p.family) p.len h.short (narrow p.family) in

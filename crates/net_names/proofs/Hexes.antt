@@ -4,7 +4,7 @@ use Rattle.std.proofs.Math.Seq.{take-suc}
 use Rattle.std.proofs.lemmas.List.{map-append, take_all}
 use Rattle.std.specs.Fmt.{digits}
 use Rattle.std.specs.List.{join_with_byte}
-use Rattle.net_names.specs.Texts.{hex_text, shortened, zeros_at, longest_run, groups, groups_text}
+use Rattle.net_names.specs.Texts.{hex_text, shortened, zeros_at, longest_run, groups, v6_text}
 
 join_push : (c : ℕ) (x : List ℕ) (xs : List (List ℕ)) (y : List ℕ) → join_with_byte c (x ∷ (xs ++ y ∷ [])) ≡ join_with_byte c (x ∷ xs) ++ (c ∷ y)
 join_push c x [] y = refl
@@ -25,9 +25,12 @@ hex_done first rest i le = rw (take_all i rest le) refl
 spell_at : (gs : List ℕ) (b i n : ℕ) → i ≡ b → n ≡ zeros_at gs i → shortened gs i n ≡ shortened gs b (zeros_at gs b)
 spell_at gs b i n e m = ap (λ (x : ℕ). shortened gs i x) m ∙ ap (λ (x : ℕ). shortened gs x (zeros_at gs x)) e
 
+abbrev groups_text : List ℕ → List ℕ
+groups_text gs = shortened gs (longest_run gs) (zeros_at gs (longest_run gs))
+
 text_steps : (gs : List ℕ) (i n : ℕ) → i ≡ longest_run gs → n ≡ zeros_at gs i → shortened gs i n ≡ groups_text gs
-unfolding groups_text
 text_steps gs i n e m = spell_at gs (longest_run gs) i n e m
 
-pub v6_steps : (bits : ℕ) (gs : List ℕ) (i n : ℕ) → gs ≡ groups bits → i ≡ longest_run gs → n ≡ zeros_at gs i → shortened gs i n ≡ groups_text (groups bits)
+pub v6_steps : (bits : ℕ) (gs : List ℕ) (i n : ℕ) → gs ≡ groups bits → i ≡ longest_run gs → n ≡ zeros_at gs i → shortened gs i n ≡ v6_text bits
+unfolding v6_text
 v6_steps bits gs i n h e m = text_steps gs i n e m ∙ ap (λ (x : List ℕ). groups_text x) h

@@ -12,7 +12,7 @@ use Rattle.net_names.specs.declared.addresses.Family.{Family}
 use Rattle.net_names.specs.declared.addresses.Family.TheVariants.{V4, V6}
 use Rattle.net_names.specs.Addresses.{width, family_place}
 use Rattle.net_names.specs.Prefixes.{PrefixValue, IsPrefix, prefix_cmp}
-use Rattle.net_names.specs.Coverage.{first_bits, same_family, has_bits, covers, shortened}
+use Rattle.net_names.specs.Coverage.{first_bits, has_bits, covers, shortened}
 
 -- the value of a prefix, whose bits past its length are clear
 abbrev pub IsWhole : PrefixValue → Type 0
@@ -41,7 +41,7 @@ pub cut_has_bits : (p : PrefixValue) (bits : ℕ) → IsWhole p → nat_eq p.add
 cut_has_bits p bits e = cut_alike p.addr bits (2 ^ (width p.family - p.len)) (pow_pos (width p.family - p.len)) (div-mul_whole p.addr (2 ^ (width p.family - p.len)) e.clear)
 
 -- families of one place are equal
-pub family_is : (f g : Family) → same_family f g ≡ true → f ≡ g
+pub family_is : (f g : Family) → nat_eq (family_place f) (family_place g) ≡ true → f ≡ g
 family_is V4 V4 e = refl
 family_is V4 V6 e = cc e
 family_is V6 V4 e = cc e

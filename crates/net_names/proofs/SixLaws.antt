@@ -1,11 +1,11 @@
 -- The text of an IPv6 address is read again.
 use Rattle.std.proofs.Common.{◌≡◌, ℕ, ◌+◌, ◌-◌, ◌*◌, ◌/◌, ◌%◌, ◌^◌, ◌<◌, ◌≤◌, true, false, List, [], ◌∷◌, ◌++◌, length, take, drop, replicate, Option, Some, option_map, zero, suc, one-add, refl, ap, sym, ◌∙◌, arith, eq-eqb}
-use Rattle.std.specs.Prelude.{◌==◌, nat_lt, not}
+use Rattle.std.specs.Prelude.{◌==◌, nat_lt, not, position, unwrap_or}
 use Rattle.std.specs.List.{position_or_len}
 use Rattle.std.proofs.lemmas.Bool.{eqb-true, lt-ltb, ltb-false}
 use Rattle.std.proofs.lemmas.List.{take-append-drop, drop-drop, length-take-le, length-drop}
 use Rattle.std.proofs.lemmas.List.Sums.{prefix_len-le-length}
-use Rattle.net_names.specs.Texts.{groups, hex_text, zeros_before, zeros_at, longest_run, shortened, groups_at, bits_of_groups, v6_groups_of, groups_text, v6_text, v6_of}
+use Rattle.net_names.specs.Texts.{groups, hex_text, zeros_at, longest_run, shortened, cut_pair, groups_at, bits_of_groups, v6_text, v6_of}
 use Rattle.net_names.proofs.Colons.{lone_uncut, lone_cut}
 use Rattle.net_names.proofs.HexTexts.{AreGroups, lone_text, text_read}
 
@@ -21,6 +21,10 @@ run_zeros (g ∷ gs) =
       | true ↦ λ e. let z : g ≡ 0 = eqb-true g 0 e in rw (e, one-add, z, run_zeros gs) refl
       | false ↦ λ e. rw e refl
     ]) refl
+
+-- how many groups of 0 the list begins with
+abbrev zeros_before : List ℕ → ℕ
+zeros_before gs = unwrap_or (position (λ g. not (g == 0)) gs) (length gs)
 
 zeros_run : (gs : List ℕ) → zeros_before gs ≡ run gs
 zeros_run gs =
@@ -56,6 +60,9 @@ pub drop_groups : (i : ℕ) (gs : List ℕ) → AreGroups gs → AreGroups (drop
 drop_groups zero gs h = h
 drop_groups (suc i) [] h = tt
 drop_groups (suc i) (g ∷ gs) h = drop_groups i gs h.1
+
+abbrev v6_groups_of : List ℕ → Option (List ℕ)
+v6_groups_of text = groups_at text (cut_pair 58 text)
 
 whole : (gs : List ℕ) → length gs ≡ 8 → AreGroups gs → v6_groups_of (hex_text gs) ≡ Some gs
 whole gs eight h =
@@ -109,7 +116,7 @@ number_again bits small =
     rw (a, b, c, d, e, f, g, h) refl
 
 pub v6_again : (bits : ℕ) → bits < 2 ^ 128 → v6_of (v6_text bits) ≡ Some bits
-unfolding v6_of groups_text
+unfolding v6_of v6_text
 v6_again bits small =
     let gs : List ℕ = groups bits in
     let i : ℕ = longest_run gs in

@@ -1,20 +1,21 @@
 -- A text that is read is the one text of its value, and that text is read again.
 use Rattle.std.proofs.Common.{◌≡◌, ℕ, zero, suc, ◌+◌, ◌*◌, ◌/◌, ◌%◌, ◌^◌, ◌<◌, ◌≤◌, Bool, true, false, cond, ◌&&◌, ◌||◌, List, [], ◌∷◌, ◌++◌, length, get_or, Option, Some, None, refl, ap, sym, subst, ◌∙◌, arith, eq-eqb, lit<}
-use Rattle.std.specs.Prelude.{decimal, nat_lt, nat_le, ◌==◌}
+use Rattle.std.specs.Prelude.{decimal, nat_lt, nat_le, ◌==◌, map, option_map, fold}
 use Rattle.std.specs.List.{list_all, join_with_byte, All}
 use Rattle.std.specs.Char.{is_digit, digit_value}
 use Rattle.std.specs.Str.Parse.{AllDigits, digits_value, IsNumeral}
 use Rattle.std.proofs.Math.Bool.{and-true}
-use Rattle.std.proofs.lemmas.Bool.{and_parts, ltb-true, ltb-false, leb-true, lt-ltb, le-leb, le-ltb, eqb-true}
+use Rattle.std.proofs.lemmas.Bool.{and_parts, ltb-true, ltb-false, leb-true, lt-ltb, le-leb, le-ltb, eqb-true, ne_eqb}
 use Rattle.std.proofs.lemmas.Fmt.{decimal_digit, decimal_is_IsNumeral, length-decimal-le, first_decimal, decimal-digits_value}
 use Rattle.std.proofs.lemmas.List.Elements.{All-from_recursion}
 use Rattle.std.proofs.lemmas.List.Splits.{slice_split_at, join_with_byte-slice_split}
 use Rattle.std.proofs.lemmas.Str.Parse.{IsNumeralModel, numerals_by_value, tells_digits}
 use Rattle.net_names.specs.Steps.{◌>>=◌}
-use Rattle.net_names.specs.Texts.{numeral, plain_at_most, cut_at, fields, v4_of, v4_text}
+use Rattle.net_names.specs.FourSteps.{v4_by_steps}
+use Rattle.net_names.specs.Texts.{numeral, plain_at_most, all_some, cut_at, fields, v4_of, v4_text}
 use Rattle.net_names.proofs.Numerals.{all_digits}
 use Rattle.net_names.proofs.Cuts.{fields_cut, fields_uncut}
-use Rattle.net_names.proofs.Free.{free_decimal}
+use Rattle.net_names.proofs.Free.{IsFree, free_decimal}
 
 -- ---- steps
 
@@ -168,6 +169,88 @@ third_cut w x = cut_at 46 x.1 >>= first_number w x
 abbrev second_cut : Parts → Option ℕ
 second_cut w = cut_at 46 w.1 >>= third_cut w
 
+abbrev joined_up : Option (List ℕ) → Option ℕ
+joined_up read = option_map (fold (λ bits n. bits * 2 ^ 8 + n) 0) (read >>= λ ns. cond (length ns == 4) (Some ns) None)
+
+abbrev read_parts : List (List ℕ) → Option ℕ
+read_parts parts = joined_up (all_some (map (plain_at_most 255) parts))
+
+as_many : (parts : List (List ℕ)) (ns : List ℕ) → all_some (map (plain_at_most 255) parts) ≡ Some ns → length ns ≡ length parts
+as_many [] ns e = let same : [] ≡ ns = cc in ap length (sym same)
+as_many (p ∷ ps) ns e = by (plain_at_most 255 p) (all_some (map (plain_at_most 255) ps)) refl e (as_many ps)
+  where
+    by : (o : Option ℕ) (os : Option (List ℕ)) → all_some (map (plain_at_most 255) ps) ≡ os → (o >>= λ x. os >>= λ xs. Some (x ∷ xs)) ≡ Some ns
+        → ((xs : List ℕ) → all_some (map (plain_at_most 255) ps) ≡ Some xs → length xs ≡ length ps) → length ns ≡ length (p ∷ ps)
+    by None os f g rest = absurd cc
+    by (Some x) None f g rest = absurd cc
+    by (Some x) (Some xs) f g rest =
+        let same : x ∷ xs ≡ ns = cc in
+        let more : length ns ≡ length (x ∷ xs) = ap length (sym same) in
+        let fewer : length xs ≡ length ps = rest xs f in
+        omega (arith, more, fewer)
+
+wrong_parts : (parts : List (List ℕ)) → (length parts ≡ 4 → ⊥) → read_parts parts ≡ None
+wrong_parts parts h = by (all_some (map (plain_at_most 255) parts)) refl
+  where
+    by : (o : Option (List ℕ)) → all_some (map (plain_at_most 255) parts) ≡ o → joined_up o ≡ None
+    by None e = refl
+    by (Some ns) e = let t : (length ns == 4) ≡ false = ne_eqb (length ns) 4 (λ k. h (sym (as_many parts ns e) ∙ k)) in rw t refl
+
+four_parts : (a b c d : Option ℕ) → joined_up (all_some (a ∷ b ∷ c ∷ d ∷ [])) ≡ (a >>= λ a. b >>= λ b. c >>= λ c. d >>= λ d. Some (sum_of a b c d))
+four_parts None b c d = refl
+four_parts (Some a) None c d = refl
+four_parts (Some a) (Some b) None d = refl
+four_parts (Some a) (Some b) (Some c) None = refl
+four_parts (Some a) (Some b) (Some c) (Some d) =
+    let e : (((0 * 2 ^ 8 + a) * 2 ^ 8 + b) * 2 ^ 8 + c) * 2 ^ 8 + d ≡ sum_of a b c d = omega arith in
+    ap (λ (n : ℕ). Some n) e
+
+no_last : (a b c d : Option ℕ) → d ≡ None → (a >>= λ a. b >>= λ b. c >>= λ c. d >>= λ d. Some (sum_of a b c d)) ≡ None
+no_last None b c d e = refl
+no_last (Some a) None c d e = refl
+no_last (Some a) (Some b) None d e = refl
+no_last (Some a) (Some b) (Some c) d e = rw e refl
+
+not_free : (front back : List ℕ) → IsFree 46 (front ++ (46 ∷ back)) → ⊥
+not_free [] back h = let no : true ≡ false = h.0 in cc
+not_free (x ∷ front) back h = not_free front back h.1
+
+-- no number has a dot in it
+dotted : (t : List ℕ) (p : Parts) → cut_at 46 t ≡ Some p → plain_at_most 255 t ≡ None
+dotted t p e = by (plain_at_most 255 t) refl
+  where
+    by : (o : Option ℕ) → plain_at_most 255 t ≡ o → o ≡ None
+    by None f = refl
+    by (Some n) f =
+        let found = plain_found 255 t n f (lit< tt) in
+        let spelt : decimal n ≡ p.0 ++ (46 ∷ p.1) = sym found.0 ∙ cut_found 46 t p.0 p.1 e in
+        absurd (not_free p.0 p.1 (subst (IsFree 46) spelt (free_decimal 46 n (λ k. omega (arith, k)) (omega (arith, found.1)))))
+
+third_same : (w x y : Parts) (o : Option Parts) → cut_at 46 y.1 ≡ o → first_number w x y ≡ read_parts (w.0 ∷ x.0 ∷ y.0 ∷ fields 46 y.1)
+third_same w x y None e =
+    sym (ap (λ ps. read_parts (w.0 ∷ x.0 ∷ y.0 ∷ ps)) (fields_uncut 46 y.1 e) ∙ four_parts (plain_at_most 255 w.0) (plain_at_most 255 x.0) (plain_at_most 255 y.0) (plain_at_most 255 y.1))
+third_same w x y (Some z) e =
+    let s = some_parts 46 z.1 in
+    no_last (plain_at_most 255 w.0) (plain_at_most 255 x.0) (plain_at_most 255 y.0) (plain_at_most 255 y.1) (dotted y.1 z e)
+    ∙ sym (ap (λ ps. read_parts (w.0 ∷ x.0 ∷ y.0 ∷ ps)) (fields_cut 46 y.1 z.0 z.1 e ∙ ap (λ ps. z.0 ∷ ps) s.2) ∙ wrong_parts (w.0 ∷ x.0 ∷ y.0 ∷ z.0 ∷ s.0 ∷ s.1) (λ k. omega (arith, k)))
+
+second_same : (w x : Parts) (o : Option Parts) → cut_at 46 x.1 ≡ o → (o >>= first_number w x) ≡ read_parts (w.0 ∷ x.0 ∷ fields 46 x.1)
+second_same w x None e = sym (ap (λ ps. read_parts (w.0 ∷ x.0 ∷ ps)) (fields_uncut 46 x.1 e) ∙ wrong_parts (w.0 ∷ x.0 ∷ x.1 ∷ []) (λ k. omega (arith, k)))
+second_same w x (Some y) e = third_same w x y (cut_at 46 y.1) refl ∙ sym (ap (λ ps. read_parts (w.0 ∷ x.0 ∷ ps)) (fields_cut 46 x.1 y.0 y.1 e))
+
+first_same : (w : Parts) (o : Option Parts) → cut_at 46 w.1 ≡ o → (o >>= third_cut w) ≡ read_parts (w.0 ∷ fields 46 w.1)
+first_same w None e = sym (ap (λ ps. read_parts (w.0 ∷ ps)) (fields_uncut 46 w.1 e) ∙ wrong_parts (w.0 ∷ w.1 ∷ []) (λ k. omega (arith, k)))
+first_same w (Some x) e = second_same w x (cut_at 46 x.1) refl ∙ sym (ap (λ ps. read_parts (w.0 ∷ ps)) (fields_cut 46 w.1 x.0 x.1 e))
+
+all_same : (text : List ℕ) (o : Option Parts) → cut_at 46 text ≡ o → (o >>= second_cut) ≡ read_parts (fields 46 text)
+all_same text None e = sym (ap read_parts (fields_uncut 46 text e) ∙ wrong_parts (text ∷ []) (λ k. omega (arith, k)))
+all_same text (Some w) e = first_same w (cut_at 46 w.1) refl ∙ sym (ap read_parts (fields_cut 46 text w.0 w.1 e))
+
+-- the steps give what the grammar says
+pub v4_same : (text : List ℕ) → v4_by_steps text ≡ v4_of text
+unfolding v4_by_steps v4_of
+v4_same text = all_same text (cut_at 46 text) refl
+
 same_some : (m n : ℕ) → Some m ≡ Some n → m ≡ n
 same_some m n e = cc
 
@@ -177,9 +260,9 @@ spelled : (text w r x s y z : List ℕ) (a b c d bits : ℕ) → text ≡ w ++ (
 unfolding v4_text
 spelled text w r x s y z a b c d bits t0 t1 t2 pa pb pc pd qa qb qc qd = t0 ∙ rw (t1, t2, pa, pb, pc, pd, qa, qb, qc, qd) refl
 
-pub v4_found : (text : List ℕ) (bits : ℕ) → v4_of text ≡ Some bits → (text ≡ v4_text bits) × (bits < 2 ^ 32)
-unfolding v4_of v4_text
-v4_found text bits e =
+steps_found : (text : List ℕ) (bits : ℕ) → v4_by_steps text ≡ Some bits → (text ≡ v4_text bits) × (bits < 2 ^ 32)
+unfolding v4_by_steps v4_text
+steps_found text bits e =
     let w = some_of (cut_at 46 text) second_cut bits e in
     let x = some_of (cut_at 46 w.0.1) (third_cut w.0) bits w.2 in
     let y = some_of (cut_at 46 x.0.1) (first_number w.0 x.0) bits x.2 in
@@ -201,9 +284,12 @@ v4_found text bits e =
       omega (arith, total, pa.1, pb.1, pc.1, pd.1),
     )
 
-pub v4_again : (bits : ℕ) → bits < 2 ^ 32 → v4_of (v4_text bits) ≡ Some bits
-unfolding v4_of v4_text
-v4_again bits small =
+pub v4_found : (text : List ℕ) (bits : ℕ) → v4_of text ≡ Some bits → (text ≡ v4_text bits) × (bits < 2 ^ 32)
+v4_found text bits e = steps_found text bits (v4_same text ∙ e)
+
+steps_again : (bits : ℕ) → bits < 2 ^ 32 → v4_by_steps (v4_text bits) ≡ Some bits
+unfolding v4_by_steps v4_text
+steps_again bits small =
     let a = bits / 2 ^ 24 in
     let b = bits / 2 ^ 16 % 2 ^ 8 in
     let c = bits / 2 ^ 8 % 2 ^ 8 in
@@ -217,3 +303,6 @@ v4_again bits small =
     let pd = plain_again 255 d (omega (arith, small)) (lit< tt) in
     let sum : a * 2 ^ 24 + b * 2 ^ 16 + c * 2 ^ 8 + d ≡ bits = omega (arith, small) in
     rw (ca, cb, cc', pa, pb, pc, pd) (ap (λ (n : ℕ). Some n) sum)
+
+pub v4_again : (bits : ℕ) → bits < 2 ^ 32 → v4_of (v4_text bits) ≡ Some bits
+v4_again bits small = sym (v4_same (v4_text bits)) ∙ steps_again bits small

@@ -1,9 +1,9 @@
 -- Addresses of both families.
 use Rattle.std.specs.Prelude.{ℕ, ◌^◌, ◌<◌, nat_lt, Option, Some, None, if◌then◌else◌}
 use Rattle.std.specs.declared.cmp.Ordering.{Ordering}
-use Rattle.std.specs.Ordering.{nat_cmp, ordering_then}
 use Rattle.net_names.specs.declared.addresses.Family.{Family}
 use Rattle.net_names.specs.declared.addresses.Family.TheVariants.{V4, V6}
+use Rattle.net_names.specs.Links.{pair_cmp}
 
 -- how many bits an address of the family has (RFC 791, section 3.2; RFC 4291, section 2)
 abbrev pub width : Family → ℕ
@@ -30,4 +30,4 @@ family_place V6 = 1
 
 -- addresses are ordered by family, and then by number
 abbrev pub addr_cmp : AddrValue → AddrValue → Ordering
-addr_cmp a b = ordering_then (nat_cmp (family_place a.family) (family_place b.family)) (nat_cmp a.bits b.bits)
+addr_cmp a b = pair_cmp (family_place a.family, a.bits) (family_place b.family, b.bits)

@@ -8,21 +8,17 @@ use Rattle.net_names.specs.Prefixes.{PrefixValue}
 abbrev pub first_bits : Family → ℕ → ℕ → ℕ
 first_bits family addr bits = addr / 2 ^ (width family - bits)
 
--- both are of one family
-abbrev pub same_family : Family → Family → Bool
-same_family f g = family_place f == family_place g
-
 -- the first bits of an address are those of the prefix, as many as the prefix is long (RFC 6811, section 2)
 abbrev pub has_bits : PrefixValue → ℕ → Bool
 has_bits p addr = first_bits p.family p.addr p.len == first_bits p.family addr p.len
 
 -- the outer prefix covers the inner one: of one family, no longer, and alike in as many bits as the outer one is long (RFC 6811, section 2)
 abbrev pub covers : PrefixValue → PrefixValue → Bool
-covers outer inner = same_family outer.family inner.family && (nat_le outer.len inner.len && has_bits outer inner.addr)
+covers outer inner = (family_place outer.family == family_place inner.family) && (nat_le outer.len inner.len && has_bits outer inner.addr)
 
 -- the prefix holds the address: of one family, and alike in as many bits as the prefix is long (RFC 4632, section 3.1)
 abbrev pub holds : PrefixValue → AddrValue → Bool
-holds prefix a = same_family prefix.family a.family && has_bits prefix a.bits
+holds prefix a = (family_place prefix.family == family_place a.family) && has_bits prefix a.bits
 
 -- the prefix of this length that has the same first bits (RFC 4632, section 3.1)
 abbrev pub shortened : PrefixValue → ℕ → PrefixValue

@@ -6,6 +6,8 @@ pub mod Prefixes
 pub mod Coverage
 pub mod Payloads
 pub mod Steps
+pub mod Trials
 pub mod Texts
+pub mod FourSteps
 pub mod SixSteps
 pub mod Orders

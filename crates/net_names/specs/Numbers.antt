@@ -11,11 +11,6 @@ abbrev pub IsDistinct : List ℕ → Type 0
 IsDistinct [] = ⊤
 IsDistinct (x ∷ xs) = (occurs x xs ≡ false) × IsDistinct xs
 
--- the first number of the list, or the given one where the list is empty
-abbrev pub first_or : ℕ → List ℕ → ℕ
-first_or d [] = d
-first_or d (x ∷ xs) = x
-
 -- the last number of the list, or the given one where the list is empty
 abbrev pub last_or : ℕ → List ℕ → ℕ
 last_or d [] = d

@@ -2,9 +2,10 @@
 use Rattle.std.specs.Prelude.{ℕ, ◌≤◌, ◌||◌, nat_lt, Option, Some, None, if◌then◌else◌, refl}
 use Rattle.std.specs.Coded.{Coded, code_by, coded×, coded_ℕ}
 use Rattle.std.specs.declared.cmp.Ordering.{Ordering}
-use Rattle.std.specs.Ordering.{nat_cmp, ordering_then}
+use Rattle.std.specs.Ordering.{ordering_then}
 use Rattle.net_names.specs.declared.addresses.Family.{Family}
 use Rattle.net_names.specs.Addresses.{width}
+use Rattle.net_names.specs.Links.{pair_cmp}
 use Rattle.net_names.specs.Prefixes.{PrefixValue, prefix_code, prefix_cmp, IsPrefix}
 
 -- a payload is a prefix, a maximum length and an AS number, which may be 0 (RFC 6811, section 2; RFC 6483, section 4)
@@ -34,4 +35,4 @@ vrp_at p max asn = if nat_lt max p.len || nat_lt (width p.family) max then None 
 
 -- payloads are ordered by prefix, then by maximum length, then by number
 abbrev pub vrp_cmp : VrpValue → VrpValue → Ordering
-vrp_cmp v w = ordering_then (prefix_cmp v.prefix w.prefix) (ordering_then (nat_cmp v.max w.max) (nat_cmp v.asn w.asn))
+vrp_cmp v w = ordering_then (prefix_cmp v.prefix w.prefix) (pair_cmp (v.max, v.asn) (w.max, w.asn))

@@ -1,5 +1,6 @@
--- Steps that may give nothing.
-use Rattle.std.specs.Prelude.{Option, Some, None}
+-- Steps that may give nothing, and the first fault of a list.
+use Rattle.std.specs.Prelude.{Bool, if◌then◌else◌, List, [], ◌∷◌, ◌++◌, Option, Some, None, Result, Err}
+use Rattle.std.specs.Option.{option_or}
 
 -- the next step, taken with what the first step gave, where it gave something
 infixl 10 ◌>>=◌
@@ -7,7 +8,16 @@ abbrev pub ◌>>=◌ : {A B : Type 0} → Option A → (A → Option B) → Opti
 None >>= f = None
 (Some x) >>= f = f x
 
--- what the first of two gives, or else what the second gives
-abbrev pub either : {A : Type 0} → Option A → Option A → Option A
-either None o = o
-either (Some x) o = Some x
+-- the value, where it passes the test
+abbrev pub option_filter : {A : Type 0} → (A → Bool) → Option A → Option A
+option_filter test o = o >>= λ x. if test x then Some x else None
+
+-- the value, unless there is a fault
+abbrev pub unless : {A E : Type 0} → Option E → Result A E → Result A E
+unless None value = value
+unless (Some e) value = Err e
+
+-- the first fault of items that stand behind others, where it is told which fault an item has behind those before it
+abbrev pub first_fault : {A E : Type 0} → (List A → A → Option E) → List A → List A → Option E
+first_fault fault before [] = None
+first_fault fault before (x ∷ more) = option_or (fault before x) (first_fault fault (before ++ x ∷ []) more)

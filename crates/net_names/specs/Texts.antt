@@ -1,14 +1,16 @@
 -- The texts of AS numbers, addresses and prefixes: what each text says, and how each value is printed.
-use Rattle.std.specs.Prelude.{ℕ, ◌+◌, ◌-◌, ◌*◌, ◌/◌, ◌%◌, ◌^◌, ◌&&◌, ◌||◌, ◌==◌, ◌==◌ as nat_eq, nat_lt, nat_le, not, List, [], ◌∷◌, ◌++◌, length, slice_index, decimal, Option, Some, None, option_map, if◌then◌else◌, position, zip, unwrap_or, take, drop, fold, replicate, map, false}
-use Rattle.std.specs.List.{starts_with, list_all, position_or_len, slice_split, join_with_byte}
+use Rattle.std.specs.Prelude.{ℕ, ◌+◌, ◌-◌, ◌*◌, ◌/◌, ◌%◌, ◌^◌, ◌&&◌, ◌||◌, ◌==◌, ◌==◌ as nat_eq, nat_lt, nat_le, not, List, [], ◌∷◌, ◌++◌, length, slice_index, decimal, Option, Some, None, option_map, if◌then◌else◌, position, zip, unwrap_or, take, drop, fold, replicate, map, true, false, Bool, bytes_eq, codes}
+use Rattle.std.specs.List.{starts_with, list_all, position_or_len, slice_split, join_with_byte, range_with_len}
+use Rattle.std.specs.Option.{option_or}
 use Rattle.std.specs.Fmt.{digits}
 use Rattle.std.specs.Char.{is_digit}
 use Rattle.std.specs.Str.Parse.{digits_value}
-use Rattle.net_names.specs.declared.addresses.Family.{Family}
 use Rattle.net_names.specs.declared.addresses.Family.TheVariants.{V4, V6}
+use Rattle.net_names.specs.declared.routes.Rel.{Rel}
+use Rattle.net_names.specs.declared.routes.Rel.TheVariants.{Customer, Peer}
 use Rattle.net_names.specs.Addresses.{width, AddrValue}
 use Rattle.net_names.specs.Prefixes.{PrefixValue, prefix_at}
-use Rattle.net_names.specs.Steps.{◌>>=◌, either}
+use Rattle.net_names.specs.Steps.{◌>>=◌, option_filter}
 
 -- the text before the first such byte, and the text after it, where the byte stands in the text
 abbrev pub cut_at : ℕ → List ℕ → Option (List ℕ × List ℕ)
@@ -17,6 +19,15 @@ cut_at byte text = option_map (λ i. (take i text, drop (i + 1) text)) (position
 -- the parts of the text between such bytes
 abbrev pub fields : ℕ → List ℕ → List (List ℕ)
 fields byte = slice_split (λ b. b == byte)
+
+-- a line of a file is skipped where it is empty, and where it begins with `#`
+abbrev pub is_skipped : List ℕ → Bool
+is_skipped [] = true
+is_skipped (byte ∷ rest) = byte == 35
+
+-- what the second AS of a link is to the first: a customer for `-1`, a peer for `0` (CAIDA AS Relationships, serial-1)
+unfoldable pub rel_of : List ℕ → Option Rel
+rel_of text = if bytes_eq text (codes "-1") then Some Customer else (if bytes_eq text (codes "0") then Some Peer else None)
 
 -- the number that the text writes in the radix, where it is one digit or more, up to `most`
 unfoldable pub numeral : ℕ → ℕ → List ℕ → Option ℕ
@@ -32,37 +43,20 @@ plain_at_most limit text = do
 
 -- the AS number that 1 to 10 decimal digits write, where it is from 1 to 4294967295 (RFC 5396, asplain; RFC 7607 rules out 0)
 unfoldable pub asn_of : List ℕ → Option ℕ
-asn_of text = do
-  n ← numeral 10 10 text
-  if nat_lt 0 n && nat_lt n (2 ^ 32) then Some n else None
-
--- the IPv4 address that four numbers up to 255 with dots between them write (RFC 3986, section 3.2.2, IPv4address)
-unfoldable pub v4_of : List ℕ → Option ℕ
-v4_of text = do
-  w ← cut_at 46 text
-  x ← cut_at 46 w.1
-  y ← cut_at 46 x.1
-  a ← plain_at_most 255 w.0
-  b ← plain_at_most 255 x.0
-  c ← plain_at_most 255 y.0
-  d ← plain_at_most 255 y.1
-  Some (a * 2 ^ 24 + b * 2 ^ 16 + c * 2 ^ 8 + d)
-
--- the place of the first such byte that another one follows
-abbrev pub pair_place : ℕ → List ℕ → Option ℕ
-pair_place byte text = position (λ p. (p.0 == byte) && (p.1 == byte)) (zip text (drop 1 text))
+asn_of text = option_filter (λ n. nat_lt 0 n && nat_lt n (2 ^ 32)) (numeral 10 10 text)
 
 -- what stands before the first pair of such bytes, and what stands after it
 abbrev pub cut_pair : ℕ → List ℕ → Option (List ℕ × List ℕ)
-cut_pair byte text = option_map (λ i. (take i text, drop (i + 2) text)) (pair_place byte text)
+cut_pair byte text = option_map (λ i. (take i text, drop (i + 2) text)) (position (λ p. (p.0 == byte) && (p.1 == byte)) (zip text (drop 1 text)))
 
 -- all values of the list, where each is there
 abbrev pub all_some : {A : Type 0} → List (Option A) → Option (List A)
 all_some [] = Some []
-all_some (o ∷ os) = do
-  x ← o
-  xs ← all_some os
-  Some (x ∷ xs)
+all_some (o ∷ os) = o >>= λ x. all_some os >>= λ xs. Some (x ∷ xs)
+
+-- the IPv4 address that four numbers up to 255 with dots between them write (RFC 3986, section 3.2.2, IPv4address)
+unfoldable pub v4_of : List ℕ → Option ℕ
+v4_of text = option_map (fold (λ bits n. bits * 2 ^ 8 + n) 0) (option_filter (λ ns. length ns == 4) (all_some (map (plain_at_most 255) (fields 46 text))))
 
 -- the groups of 1 to 4 hexadecimal digits with colons between them; an empty text has none (RFC 4291, section 2.2)
 unfoldable pub groups_of : List ℕ → Option (List ℕ)
@@ -81,41 +75,27 @@ groups_on bits count read = do
 
 -- the eight groups of a text: all of them, or seven at most with one pair of colons in place of the groups of 0 that are missing (RFC 4291, section 2.2)
 abbrev pub groups_at : List ℕ → Option (List ℕ × List ℕ) → Option (List ℕ)
-groups_at text None = do
-  gs ← groups_of text
-  if length gs == 8 then Some gs else None
+groups_at text None = option_filter (λ gs. length gs == 8) (groups_of text)
 groups_at text (Some p) = do
   front ← groups_of p.0
   back ← groups_of p.1
   if nat_lt (length front + length back) 8 then Some (front ++ (replicate (8 - (length front + length back)) 0 ++ back)) else None
 
--- the eight groups that the text writes (RFC 4291, section 2.2, forms 1 and 2)
-abbrev pub v6_groups_of : List ℕ → Option (List ℕ)
-v6_groups_of text = groups_at text (cut_pair 58 text)
-
 -- the IPv6 address that the text writes (RFC 4291, section 2.2, forms 1 and 2; the form with a dotted end is not read)
 unfoldable pub v6_of : List ℕ → Option ℕ
-v6_of text = option_map bits_of_groups (v6_groups_of text)
-
--- the places of the eight groups of an IPv6 address
-abbrev pub eight_places : List ℕ
-eight_places = 0 ∷ 1 ∷ 2 ∷ 3 ∷ 4 ∷ 5 ∷ 6 ∷ 7 ∷ []
+v6_of text = option_map bits_of_groups (groups_at text (cut_pair 58 text))
 
 -- the eight groups of 16 bits of an IPv6 address, the highest first (RFC 4291, section 2.2)
 unfoldable pub groups : ℕ → List ℕ
-groups bits = map (λ i. bits / 2 ^ (16 * (7 - i)) % 2 ^ 16) eight_places
+groups bits = map (λ i. bits / 2 ^ (16 * (7 - i)) % 2 ^ 16) (range_with_len 0 8)
 
 -- groups in lower case hexadecimal digits without leading zeros, with colons between them (RFC 5952, sections 4.1 and 4.3)
 abbrev pub hex_text : List ℕ → List ℕ
 hex_text gs = join_with_byte 58 (map (digits 16 false) gs)
 
--- how many groups of 0 the list begins with
-abbrev pub zeros_before : List ℕ → ℕ
-zeros_before gs = unwrap_or (position (λ g. not (g == 0)) gs) (length gs)
-
 -- how many groups of 0 stand together from this place on
 abbrev pub zeros_at : List ℕ → ℕ → ℕ
-zeros_at gs i = zeros_before (drop i gs)
+zeros_at gs i = let rest = drop i gs in unwrap_or (position (λ g. not (g == 0)) rest) (length rest)
 
 -- the first place whose number no other number of the list exceeds
 abbrev pub first_greatest : List ℕ → ℕ
@@ -123,40 +103,31 @@ first_greatest ns = position_or_len (λ n. list_all (λ m. nat_le m n) ns) ns
 
 -- where the longest run of groups of 0 begins, the first such run where several are as long (RFC 5952, section 4.2.3)
 unfoldable pub longest_run : List ℕ → ℕ
-longest_run gs = first_greatest (map (zeros_at gs) eight_places)
+longest_run gs = first_greatest (map (zeros_at gs) (range_with_len 0 8))
 
 -- groups with a pair of colons in place of the n groups of 0 from place i on, where they are two or more (RFC 5952, section 4.2.2)
 abbrev pub shortened : List ℕ → ℕ → ℕ → List ℕ
 shortened gs i n = if nat_lt n 2 then hex_text gs else hex_text (take i gs) ++ (58 ∷ 58 ∷ hex_text (drop (i + n) gs))
 
--- the text of eight groups, in which the first longest run of groups of 0 is shortened (RFC 5952, section 4.2.3)
-unfoldable pub groups_text : List ℕ → List ℕ
-groups_text gs = let i = longest_run gs in shortened gs i (zeros_at gs i)
-
--- the one text that an IPv6 address is printed as (RFC 5952, section 4)
-abbrev pub v6_text : ℕ → List ℕ
-v6_text bits = groups_text (groups bits)
+-- the one text that an IPv6 address is printed as: of its groups the first longest run of 0 is shortened (RFC 5952, section 4)
+unfoldable pub v6_text : ℕ → List ℕ
+v6_text bits = let gs = groups bits in let i = longest_run gs in shortened gs i (zeros_at gs i)
 
 -- the one text of an IPv4 address: its four bytes in decimal digits with dots between them (RFC 3986, section 3.2.2)
 unfoldable pub v4_text : ℕ → List ℕ
 v4_text bits = decimal (bits / 2 ^ 24) ++ (46 ∷ (decimal (bits / 2 ^ 16 % 2 ^ 8) ++ (46 ∷ (decimal (bits / 2 ^ 8 % 2 ^ 8) ++ (46 ∷ decimal (bits % 2 ^ 8))))))
 
--- the one text of an address of the family
-abbrev pub text_in : Family → ℕ → List ℕ
-text_in V4 bits = v4_text bits
-text_in V6 bits = v6_text bits
-
--- the one text of an address
+-- the one text of an address, by its family
 abbrev pub addr_text : AddrValue → List ℕ
-addr_text a = text_in a.family a.bits
+addr_text a = elim a.family [ V4 ↦ v4_text a.bits | V6 ↦ v6_text a.bits ]
 
 -- the one text of a prefix: its address, a slash and its length in decimal digits (RFC 4632, section 3.1; RFC 4291, section 2.3)
 abbrev pub prefix_text : PrefixValue → List ℕ
-prefix_text p = text_in p.family p.addr ++ (47 ∷ decimal p.len)
+prefix_text p = addr_text (record { family = p.family; bits = p.addr }) ++ (47 ∷ decimal p.len)
 
 -- the address of either family that the text writes
 unfoldable pub addr_of : List ℕ → Option AddrValue
-addr_of text = either (option_map (λ a. record { family = V4; bits = a }) (v4_of text)) (option_map (λ a. record { family = V6; bits = a }) (v6_of text))
+addr_of text = option_or (option_map (λ a. record { family = V4; bits = a }) (v4_of text)) (option_map (λ a. record { family = V6; bits = a }) (v6_of text))
 
 -- the prefix that an address, a slash and a length of at most the width write, where no bit past the length is set (RFC 4632, section 3.1; RFC 4291, section 2.3)
 unfoldable pub prefix_of : List ℕ → Option PrefixValue
@@ -172,6 +143,4 @@ after front text = if starts_with nat_eq text front then Some (drop (length fron
 
 -- the number of a payload, at most 4294967295, that 1 to 10 decimal digits write, before which the letters `AS` may stand
 unfoldable pub vrp_asn_of : List ℕ → Option ℕ
-vrp_asn_of text = do
-  n ← numeral 10 10 (unwrap_or (after (65 ∷ 83 ∷ []) text) text)
-  if nat_lt n (2 ^ 32) then Some n else None
+vrp_asn_of text = option_filter (λ n. nat_lt n (2 ^ 32)) (numeral 10 10 (unwrap_or (after (codes "AS") text) text))

@@ -1,5 +1,6 @@
 //! Texts to values.
 ghost use Rattle.std.specs.Prelude.{◌≡◌, ◌^◌, ◌<◌, ◌≤◌, ◌==◌, option_map, IfSome, length, position};
+ghost use Rattle.net_names.specs.FourSteps.{v4_by_steps};
 ghost use Rattle.net_names.specs.Texts.{cut_at, numeral, plain_at_most, asn_of, v4_of, addr_of, prefix_of, vrp_asn_of, after};
 
 use crate::addresses::{Addr, Family};
@@ -66,9 +67,9 @@ pub fn read_asn(text: &[u8]) -> Option<Asn>
     Asn::new(n as u32)
 }
 
-#[tactic(auto, unfolding(crate::specs::Texts::v4_of))]
-fn read_v4(text: &[u8]) -> Option<u32>
-    ensures { result ≡ v4_of text.now }
+#[tactic(auto, unfolding(crate::specs::FourSteps::v4_by_steps))]
+fn read_v4_by_steps(text: &[u8]) -> Option<u32>
+    ensures { result ≡ v4_by_steps text.now }
 {
     let (w, rest) = cut(text, b'.')?;
     let (x, rest) = cut(rest, b'.')?;
@@ -78,6 +79,12 @@ fn read_v4(text: &[u8]) -> Option<u32>
     let c = plain(y, 255)?;
     let d = plain(z, 255)?;
     Some(a as u32 * 0x100_0000 + b as u32 * 0x1_0000 + c as u32 * 0x100 + d as u32)
+}
+
+fn read_v4(text: &[u8]) -> Option<u32>
+    ensures { result ≡ v4_of text.now }
+{
+    read_v4_by_steps(text)
 }
 
 /// What stands after these bytes, where the text begins with them.

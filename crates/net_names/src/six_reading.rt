@@ -1,7 +1,7 @@
 //! Texts to IPv6 addresses.
-ghost use Rattle.std.specs.Prelude.{◌≡◌, ◌+◌, ◌-◌, ◌*◌, ◌^◌, ◌<◌, ◌≤◌, ◌==◌, ◌&&◌, option_map, IfSome, length, position, zip};
+ghost use Rattle.std.specs.Prelude.{◌≡◌, ◌+◌, ◌-◌, ◌*◌, ◌^◌, ◌<◌, ◌≤◌, ◌==◌, ◌&&◌, drop, option_map, IfSome, length, position, zip};
 ghost use Rattle.net_names.specs.SixSteps.{zeros, v6_by_steps};
-ghost use Rattle.net_names.specs.Texts.{v6_of, groups_on, groups_of, cut_pair, pair_place};
+ghost use Rattle.net_names.specs.Texts.{v6_of, groups_on, groups_of, cut_pair};
 
 use crate::reading::{cut, number};
 
@@ -45,7 +45,7 @@ fn find_both(text: &[u8], next: &[u8], byte: u8) -> Option<usize>
 }
 
 fn find_pair(text: &[u8], byte: u8) -> Option<usize>
-    ensures place { result ≡ pair_place byte text.now }
+    ensures place { result ≡ position (λ p. (p.0 == byte) && (p.1 == byte)) (zip text.now (drop 1 text.now)) }
     ensures within { IfSome result (λ i. i + 1 < length text.now) }
 {
     match text {

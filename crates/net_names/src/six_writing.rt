@@ -1,6 +1,6 @@
 //! IPv6 addresses to texts.
-ghost use Rattle.std.specs.Prelude.{◌≡◌, ◌+◌, ◌-◌, ◌*◌, ◌<◌, ◌≤◌, ◌==◌, ◌++◌, ◌∷◌, not, length, position, vec_len, vec_capacity, IfSome};
-ghost use Rattle.net_names.specs.Texts.{groups, zeros_before, zeros_at, longest_run, hex_text, v6_text, shortened};
+ghost use Rattle.std.specs.Prelude.{◌≡◌, ◌+◌, ◌-◌, ◌*◌, ◌<◌, ◌≤◌, ◌==◌, ◌++◌, ◌∷◌, not, length, position, unwrap_or, vec_len, vec_capacity, IfSome};
+ghost use Rattle.net_names.specs.Texts.{groups, zeros_at, longest_run, hex_text, v6_text, shortened};
 
 use crate::room::{put_bytes, put_hex};
 
@@ -28,7 +28,7 @@ fn first_other(gs: &[u16]) -> Option<usize>
 }
 
 fn zeros_from(gs: &[u16]) -> usize
-    ensures value { result ≡ zeros_before gs.now }
+    ensures value { result ≡ unwrap_or (position (λ g. not (g == 0)) gs.now) (length gs.now) }
     ensures within { result ≤ length gs.now }
 {
     match first_other(gs) {

@@ -2,7 +2,7 @@
 ghost use Rattle.std.specs.Prelude.{◌≡◌, ℕ, ◌^◌, ◌+◌, ◌<◌, ◌≤◌, ◌++◌, decimal, List, vec_len, vec_capacity, OnOk, OnErr, Some};
 ghost use Rattle.net_names.specs.Addresses.{AddrValue, FitsFamily};
 ghost use Rattle.net_names.specs.Prefixes.{PrefixValue, IsPrefix};
-ghost use Rattle.net_names.specs.Texts.{asn_of, addr_of, addr_text, prefix_of, prefix_text, text_in, v4_of, v4_text, v6_of, v6_text};
+ghost use Rattle.net_names.specs.Texts.{asn_of, addr_of, addr_text, prefix_of, prefix_text, v4_of, v4_text, v6_of, v6_text};
 
 use crate::addresses::{Addr, Family};
 use crate::numbers::{Asn, NoMemory};
@@ -73,7 +73,7 @@ pub fn texts_are_read_again()
 fn put_family(out: &mut Vec<u8>, family: Family, bits: u128)
     requires fits { FitsFamily family bits }
     requires room { vec_len out.old + MOST_BYTES ≤ vec_capacity out.old }
-    ensures text { out.new.items ≡ out.old.items ++ text_in family bits }
+    ensures text { out.new.items ≡ out.old.items ++ addr_text (record { family = family; bits = bits }) }
     ensures len { vec_len out.new ≤ vec_len out.old + MOST_BYTES }
     ensures capacity { vec_capacity out.old ≤ vec_capacity out.new }
 {

@@ -1,10 +1,10 @@
 -- What one more free cell leaves, and what a walk reads.
-use Rattle.std.proofs.Common.{◌≡◌, ◌≢◌, ℕ, zero, suc, ◌+◌, ◌-◌, ◌<◌, ◌≤◌, Bool, true, ◌||◌, eqb, List, [], ◌∷◌, ◌++◌, length, refl, ap, sym, ◌∙◌, subst, arith, length-append, inl, inr}
+use Rattle.std.proofs.Common.{◌≡◌, ◌≢◌, ℕ, zero, suc, ◌+◌, ◌-◌, ◌<◌, ◌≤◌, Bool, true, ◌||◌, eqb, List, [], ◌∷◌, ◌++◌, length, refl, ap, sym, ◌∙◌, subst, arith, length-append, inl, inr, get_or}
 use Rattle.std.specs.List.{count_by, list_any}
 use Rattle.std.proofs.lemmas.Bool.{cases_eq, cases_lt, le-ltb, eq-eqb, ne_eqb}
 use Rattle.std.proofs.lemmas.List.{get_or_append_left, get_or_at, get_or_past}
 use Rattle.std.proofs.lemmas.List.Sums.{sum_by_push}
-use Rattle.net_names.specs.Numbers.{first_or, last_or}
+use Rattle.net_names.specs.Numbers.{last_or}
 use Rattle.path_pool.specs.declared.pool.Cell.{Cell}
 use Rattle.path_pool.specs.Region.{blank, cell_at, list_of, walk, IsLive, is_live, is_above, cells_above, live_count, IsLinked, IsRegion, SameCells}
 use Rattle.path_pool.proofs.RegionLemmas.{live_inside, one_if, not_above, kind_same, lists_same, linked_same}
@@ -147,8 +147,8 @@ pub any_later : (cells : List Cell) (n i number : ℕ) → 0 < n → (cell_at ce
 any_later cells n i number h e = ap (list_any (λ x. eqb x number)) (walk_more cells n i h) ∙ ap (λ b. b || list_any (λ x. eqb x number) (walk cells (n - 1) (cell_at cells i).tail)) (ne_eqb (cell_at cells i).head number e)
 
 -- the first number of a path is its cell's
-pub first_or-list_of : (cells : List Cell) (i : ℕ) → 0 < (cell_at cells i).len → first_or 0 (list_of cells i) ≡ (cell_at cells i).head
-first_or-list_of cells i h = ap (first_or 0) (walk_more cells (cell_at cells i).len i h)
+pub first-list_of : (cells : List Cell) (i : ℕ) → 0 < (cell_at cells i).len → get_or (list_of cells i) 0 0 ≡ (cell_at cells i).head
+first-list_of cells i h = ap (λ (ys : List ℕ). get_or ys 0 0) (walk_more cells (cell_at cells i).len i h)
 
 last_or-walk : (cells : List Cell) (free spare limit : ℕ) → IsRegion cells free spare limit → (d n i : ℕ) → IsLive cells i → (cell_at cells i).len ≡ suc n →
     last_or d (walk cells (suc n) i) ≡ (cell_at cells i).last

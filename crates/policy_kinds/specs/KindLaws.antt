@@ -1,7 +1,6 @@
 -- Each kind meets the laws of every policy; the laws of the implementation cite these lemmas.
-use Rattle.std.specs.Prelude.{◌≡◌, ◌≢◌, true, false, refl}
+use Rattle.std.specs.Prelude.{◌≡◌, ◌≢◌, ◌||◌, true, false, refl}
 use Rattle.std.proofs.Common.{sym}
-use Rattle.std.proofs.lemmas.Bool.{and_parts}
 use Rattle.std.specs.declared.cmp.Ordering.{Ordering}
 use Rattle.std.specs.declared.cmp.Ordering.TheVariants.{Equal}
 use Rattle.std.specs.Ordering.{nat_cmp, ordering_then, is_lt}
@@ -44,15 +43,15 @@ first_lower DropInvalidOtc Provider r n = refl
 pub kind_prefers_customers : (k : Kind) → PrefersCustomers (kind_policy k)
 kind_prefers_customers k x y e n = rw e (first_lower k y.rel _ n)
 
-to_customer : (to : Rel) → is_customer to ≡ true → to ≡ Customer
+to_customer : (to : Rel) → (is_customer to || false) ≡ true → to ≡ Customer
 to_customer Customer h = refl
 to_customer Peer h = let e : false ≡ true = h in cc
 to_customer Provider h = let e : false ≡ true = h in cc
 
 pub kind_exports_down_only : (k : Kind) → ExportsDownOnly (kind_policy k)
 kind_exports_down_only k = record {
-  from_peer = λ otc to h. to_customer to (and_parts _ _ h).0;
-  from_provider = λ otc to h. to_customer to (and_parts _ _ h).0;
+  from_peer = λ otc to h. to_customer to h;
+  from_provider = λ otc to h. to_customer to h;
 }
 
 pub kind_ignores_state : (k : Kind) → IgnoresState (kind_policy k)

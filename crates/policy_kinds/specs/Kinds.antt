@@ -1,5 +1,5 @@
 -- What each kind answers: the table of the kinds.
-use Rattle.std.specs.Prelude.{ℕ, Bool, true, false, ◌==◌, ◌&&◌, ◌||◌, Option, Some}
+use Rattle.std.specs.Prelude.{ℕ, Bool, true, false, not, ◌==◌, ◌&&◌, ◌||◌, Option, Some, is_some}
 use Rattle.std.specs.declared.cmp.Ordering.{Ordering}
 use Rattle.std.specs.Ordering.{nat_cmp, ordering_then, is_lt}
 use Rattle.net_names.specs.declared.routes.Class.{Class}
@@ -62,23 +62,18 @@ abbrev pub is_customer : Rel → Bool
 is_customer Customer = true
 is_customer to = false
 
--- where marks are looked at, a marked route is exported to customers only (RFC 9234, section 5, rule 2 on sending)
-abbrev pub number_goes : Bool → Option ℕ → Rel → Bool
-number_goes true (Some number) to = is_customer to
-number_goes looks otc to = true
+-- the route is an own one, or a customer's: no peer and no provider gave it
+abbrev pub is_own_or_customers : Class → Bool
+is_own_or_customers class.Peer = false
+is_own_or_customers class.Provider = false
+is_own_or_customers held = true
 
--- own and customers' routes are exported to every neighbour, peers' and providers' routes to customers only (Gao and Rexford 2001)
-abbrev pub plain_exports : Class → Rel → Bool
-plain_exports class.Peer to = is_customer to
-plain_exports class.Provider to = is_customer to
-plain_exports held to = true
-
--- the answers of a row of the table
+-- the answers of a row of the table: every route is exported to customers, and to peers and providers own and customers' routes only (Gao and Rexford 2001), and of these no marked one where marks are looked at (RFC 9234, section 5, rule 2 on sending)
 abbrev pub policy_by : Row → Policy
 policy_by r = record {
   accepts = λ v. state_passes r.drops_invalid v.state && number_passes r.marks v.rel v.neighbour v.otc;
   before = λ x y. is_lt (offer_cmp r x y);
-  exports = λ held otc to. plain_exports held to && number_goes r.marks otc to;
+  exports = λ c otc to. is_customer to || (is_own_or_customers c && not (r.marks && is_some otc));
   reads_state = r.drops_invalid || r.prefers_valid;
   marks = r.marks;
 }

@@ -1,6 +1,6 @@
 //! The kinds and their answers.
 ghost use Rattle.std.specs.Prelude.{◌≡◌};
-ghost use Rattle.policy_kinds.specs.Kinds.{is_customer as is_to_customer, plain_exports as exports_plainly, state_passes as passes_state, number_passes as passes_number, number_goes as goes_number};
+ghost use Rattle.policy_kinds.specs.Kinds.{is_customer as is_to_customer, is_own_or_customers as is_of_own_or_customers, state_passes as passes_state, number_passes as passes_number};
 
 use crate::rows::Row;
 use net_names::{Asn, Class, Rel, State};
@@ -50,18 +50,12 @@ fn is_customer(to: Rel) -> bool
     to == Rel::Customer
 }
 
-fn number_goes(looks: bool, otc: Option<Asn>, to: Rel) -> bool
-    ensures { result ≡ goes_number looks otc to }
-{
-    !looks || otc.is_none() || is_customer(to)
-}
-
-fn plain_exports(held: Class, to: Rel) -> bool
-    ensures { result ≡ exports_plainly held to }
+fn is_own_or_customers(held: Class) -> bool
+    ensures { result ≡ is_of_own_or_customers held }
 {
     match held {
         Class::Origin | Class::Customer => true,
-        Class::Peer | Class::Provider => is_customer(to),
+        Class::Peer | Class::Provider => false,
     }
 }
 
@@ -85,7 +79,7 @@ impl RoutePolicy for Kind {
     }
 
     fn exports(&self, held: Class, otc: Option<Asn>, to: Rel) -> bool {
-        plain_exports(held, to) && number_goes(Row::of(*self).marks, otc, to)
+        is_customer(to) || is_own_or_customers(held) && !(Row::of(*self).marks && otc.is_some())
     }
 
     fn reads_state(&self) -> bool {

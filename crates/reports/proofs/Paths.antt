@@ -1,9 +1,8 @@
 -- The text of a path that is made cell by cell.
-use Rattle.std.proofs.Common.{◌≡◌, ℕ, ◌<◌, ◌≤◌, true, List, [], ◌∷◌, ◌++◌, length, take, drop, decimal, sym, ap, subst, ◌∙◌, append_assoc, append-nil, arith}
+use Rattle.std.proofs.Common.{◌≡◌, ℕ, ◌<◌, ◌≤◌, true, List, [], ◌∷◌, ◌++◌, length, take, drop, decimal, sym, ap, subst, ◌∙◌, append_assoc, append-nil, arith, get_or}
 use Rattle.std.proofs.lemmas.List.Concat.{flat_map-cons}
 use Rattle.std.proofs.Math.Seq.{take-append_seam}
 use Rattle.std.specs.Prelude.{Result, Ok, Err, OnErr, is_err}
-use Rattle.net_names.specs.Numbers.{first_or}
 use Rattle.reports.specs.Growth.{Grows}
 use Rattle.reports.specs.Rows.{more_numbers}
 
@@ -26,7 +25,7 @@ cut_back (Ok x) a b c text e is g = cc e
 cut_back (Err x) a b c text e is g = let h = grown a b c text is g in ap (take (length a)) h.is ∙ take-append_seam a h.more
 
 -- one more number of the path
-pub told_next : (xs ys : List ℕ) (first n : ℕ) (out new goal : List ℕ) → xs ≡ first ∷ ys → 0 < length ys → n ≡ first_or 0 ys → new ≡ out ++ (32 ∷ decimal n)
+pub told_next : (xs ys : List ℕ) (first n : ℕ) (out new goal : List ℕ) → xs ≡ first ∷ ys → 0 < length ys → n ≡ get_or ys 0 0 → new ≡ out ++ (32 ∷ decimal n)
     → out ++ more_numbers (drop 1 xs) ≡ goal → new ++ more_numbers (drop 1 ys) ≡ goal
 told_next xs [] first n out new goal e some is grown told = absurd (omega (arith, some))
 told_next xs (y ∷ ys) first n out new goal e some is grown told =

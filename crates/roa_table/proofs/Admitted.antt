@@ -8,13 +8,14 @@ use Rattle.std.specs.Ordering.{eq_by_cmp, match_ordering}
 use Rattle.std.specs.List.Sorted.{IsStrictlySortedBy}
 use Rattle.std.proofs.lemmas.Bool.Decides.{nat_tests}
 use Rattle.csv.specs.Reading.{records, default_config, strip_bom}
-use Rattle.net_names.specs.Steps.{either}
+use Rattle.std.specs.Option.{option_or}
+use Rattle.net_names.specs.Steps.{unless}
 use Rattle.net_names.specs.Payloads.{VrpValue, vrp_cmp}
 use Rattle.net_names.specs.Orders.{exact_vrp}
 use Rattle.roa_table.specs.Sets.{has, count, set_of}
 use Rattle.roa_table.specs.Lists.{stands_in}
 use Rattle.roa_table.specs.Records.{payload_of}
-use Rattle.roa_table.specs.Files.{Row, rows_of, given, payloads_given, fault_at, first_fault, unless, payloads_in, Gives}
+use Rattle.roa_table.specs.Files.{Row, rows_of, given, fault_at, payloads_in, Gives}
 use Rattle.roa_table.specs.Standing.{ByteReader, GoesOn}
 use Rattle.roa_table.specs.Gathering.{IsReading, Admits, Faults, IsAdmitting}
 use Rattle.roa_table.specs.declared.record.Wrong.{Wrong}
@@ -23,7 +24,7 @@ use Rattle.roa_table.specs.declared.errors.VrpError.TheVariants as fault
 use Rattle.roa_table.proofs.Rising.{rising_from_strictly}
 use Rattle.roa_table.proofs.Placed.{has_set_of, same_set_of, count_set_of}
 use Rattle.roa_table.proofs.CsvRecords.{ended, more}
-use Rattle.roa_table.proofs.Gathered.{stands_in-push, given_push}
+use Rattle.roa_table.proofs.Gathered.{payloads_given, first_fault, stands_in-push, given_push}
 use Rattle.roa_table.proofs.Reading.{begun, left_is, read_on}
 
 -- the members after a payload was put in its place
@@ -72,7 +73,7 @@ module _ (vs : List VrpValue) (ordered : IsStrictlySortedBy vrp_cmp vs) (row : �
 
 -- a file with an error has one
 pub no_value : (bytes : List ℕ) → first_fault [] (rows_of bytes) ≡ None → IsErr (payloads_in bytes) → ⊥
-no_value bytes e h = cc (subst (λ o. IsErr (unless o (payloads_given (rows_of bytes)))) e h)
+no_value bytes e h = cc (subst (λ o. IsErr (unless o (Ok (payloads_given (rows_of bytes))))) e h)
 
 pub start_admitting : (b : ByteReader) (bytes : List ℕ) (fields : Row) (vs : List VrpValue) → vs ≡ [] → GoesOn b (records default_config (strip_bom bytes)) true fields → IsAdmitting b bytes 2 vs
 unfolding begun
@@ -90,17 +91,17 @@ module _ (a b : ByteReader) (bytes : List ℕ) (row : ℕ) (vs : List VrpValue) 
     abbrev next : List Row
     next = (more b g.reading.left fields h).next
 
-    first_is : first_fault [] (rows_of bytes) ≡ either (fault_at (set_of vs) row (payload_of fields)) (first_fault (g.reading.done ++ (fields ∷ [])) next)
+    first_is : first_fault [] (rows_of bytes) ≡ option_or (fault_at (set_of vs) row (payload_of fields)) (first_fault (g.reading.done ++ (fields ∷ [])) next)
     first_is =
         g.free ∙ ap (first_fault g.reading.done) (left_is a b bytes row g.reading fields h)
-        ∙ (λ i. either (fault_at (sym (same_set_of vs (given g.reading.done) g.members) i) (sym g.reading.counted i) (payload_of fields)) (first_fault (g.reading.done ++ (fields ∷ [])) next))
+        ∙ (λ i. option_or (fault_at (sym (same_set_of vs (given g.reading.done) g.members) i) (sym g.reading.counted i) (payload_of fields)) (first_fault (g.reading.done ++ (fields ∷ [])) next))
 
     -- the row has a fault
     pub admitted_fault : (e : VrpError) → Faults e (fault_at (set_of vs) row (payload_of fields)) → Gives (Err e) (payloads_in bytes)
     admitted_fault e f = by e f
       where
         up : (e : VrpError) → fault_at (set_of vs) row (payload_of fields) ≡ Some e → payloads_in bytes ≡ Err e
-        up e f = ap (λ o. unless o (payloads_given (rows_of bytes))) (first_is ∙ ap (λ o. either o (first_fault (g.reading.done ++ (fields ∷ [])) next)) f)
+        up e f = ap (λ o. unless o (Ok (payloads_given (rows_of bytes)))) (first_is ∙ ap (λ o. option_or o (first_fault (g.reading.done ++ (fields ∷ [])) next)) f)
 
         by : (e : VrpError) → Faults e (fault_at (set_of vs) row (payload_of fields)) → Gives (Err e) (payloads_in bytes)
         by fault.Memory f = tt
@@ -119,6 +120,6 @@ module _ (a b : ByteReader) (bytes : List ℕ) (row : ℕ) (vs : List VrpValue) 
         by (Err w) e k = absurd k
         by (Ok v) e k = record {
           reading = read_on a b bytes row g.reading fields h;
-          free = first_is ∙ ap (λ o. either o (first_fault (g.reading.done ++ (fields ∷ [])) next)) (ap (fault_at (set_of vs) row) e ∙ k.0);
+          free = first_is ∙ ap (λ o. option_or o (first_fault (g.reading.done ++ (fields ∷ [])) next)) (ap (fault_at (set_of vs) row) e ∙ k.0);
           members = λ q. k.1 q ∙ ap (λ x. eq_by_cmp vrp_cmp q v || x) (g.members q) ∙ sym (ap (λ l. stands_in l q) (given_push g.reading.done fields v e) ∙ stands_in-push (given g.reading.done) v q);
         }

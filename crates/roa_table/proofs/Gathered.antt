@@ -1,18 +1,20 @@
 -- The payloads of rows, and the first fault of rows behind others.
 use Rattle.std.proofs.Common.{◌≡◌, ℕ, ◌+◌, ◌≤◌, Bool, true, false, cond, ◌||◌, List, [], ◌∷◌, ◌++◌, length, refl, sym, ap, subst, ◌∙◌, arith, Option, Some, None, Result, Ok, Err}
 use Rattle.std.specs.Prelude.{nat_lt, is_ok}
-use Rattle.std.specs.List.{list_all, dedup, dedup_from}
+use Rattle.std.specs.List.{list_all, dedup, dedup_from, cons_option}
+use Rattle.std.specs.Option.{option_or}
+use Rattle.std.specs.Result.{result_ok}
 use Rattle.std.specs.Ordering.{eq_by_cmp}
 use Rattle.std.specs.FinMap as fin
 use Rattle.std.proofs.lemmas.Bool.Decides.{nat_tests}
 use Rattle.std.proofs.lemmas.List.Folds.{list_any-append}
-use Rattle.net_names.specs.Steps.{either}
+use Rattle.net_names.specs.Steps as steps
 use Rattle.net_names.specs.Payloads.{VrpValue, vrp_cmp}
 use Rattle.net_names.specs.Orders.{vrp_total, exact_vrp}
-use Rattle.roa_table.specs.Sets.{IsSound, has, added, count, set_of}
+use Rattle.roa_table.specs.Sets.{Payloads, IsSound, has, added, count, set_of}
 use Rattle.roa_table.specs.Lists.{IsRising, stands_in}
 use Rattle.roa_table.specs.Records.{payload_of}
-use Rattle.roa_table.specs.Files.{Row, with_payload, given, payloads_given, fault_at, fault_after, first_fault}
+use Rattle.roa_table.specs.Files.{Row, given, fault_at, fault_after}
 use Rattle.roa_table.specs.Gathering.{JoinsIn}
 use Rattle.roa_table.specs.declared.record.Wrong.{Wrong}
 use Rattle.roa_table.specs.declared.errors.VrpError.{VrpError}
@@ -20,6 +22,14 @@ use Rattle.roa_table.specs.declared.errors.VrpError.TheVariants as fault
 use Rattle.roa_table.proofs.Booleans.{both}
 use Rattle.roa_table.proofs.Rising.{eq_is}
 use Rattle.roa_table.proofs.Placed.{same_set_of, count_set_of}
+
+-- the set of the payloads that rows give
+abbrev pub payloads_given : List Row → Payloads
+payloads_given rows = set_of (given rows)
+
+-- the first fault of rows behind others
+abbrev pub first_fault : List Row → List Row → Option VrpError
+first_fault = steps.first_fault fault_after
 
 -- dropping repeats keeps the members
 pub any_dedup : (E : VrpValue → VrpValue → Bool) → ((v w : VrpValue) → E v w ≡ eq_by_cmp vrp_cmp v w) → (vs : List VrpValue) (q : VrpValue) → stands_in (dedup E vs) q ≡ stands_in vs q
@@ -51,14 +61,14 @@ stands_in-push vs v q = list_any-append (eq_by_cmp vrp_cmp q) vs (v ∷ []) ∙ 
 
 given-append : (xs ys : List Row) → given (xs ++ ys) ≡ given xs ++ given ys
 given-append [] ys = refl
-given-append (x ∷ xs) ys = ap (with_payload (payload_of x)) (given-append xs ys) ∙ by (payload_of x)
+given-append (x ∷ xs) ys = ap (cons_option (result_ok (payload_of x))) (given-append xs ys) ∙ by (payload_of x)
   where
-    by : (r : Result VrpValue Wrong) → with_payload r (given xs ++ given ys) ≡ with_payload r (given xs) ++ given ys
+    by : (r : Result VrpValue Wrong) → cons_option (result_ok r) (given xs ++ given ys) ≡ cons_option (result_ok r) (given xs) ++ given ys
     by (Ok v) = refl
     by (Err w) = refl
 
 pub given_push : (xs : List Row) (x : Row) (v : VrpValue) → payload_of x ≡ Ok v → given (xs ++ (x ∷ [])) ≡ given xs ++ (v ∷ [])
-given_push xs x v e = given-append xs (x ∷ []) ∙ ap (λ r. given xs ++ with_payload r []) e
+given_push xs x v e = given-append xs (x ∷ []) ∙ ap (λ r. given xs ++ cons_option (result_ok r) []) e
 
 -- the number of payloads of lists
 count_more : (vs ws : List VrpValue) → count (set_of ws) ≤ count (set_of (vs ++ ws))
@@ -121,13 +131,13 @@ first_behind before (row ∷ done) left h few =
     let joined = rows_assoc before (row ∷ []) done in
     let fewer : count (payloads_given ((before ++ (row ∷ [])) ++ done)) ≤ 2000000 = subst (λ l. count (payloads_given l) ≤ 2000000) joined few in
     let here = no_fault before row p.0 p.1 (below _ _ (count_given (before ++ (row ∷ [])) done) fewer) in
-    ap (λ o. either o (first_fault (before ++ (row ∷ [])) (done ++ left))) here
+    ap (λ o. option_or o (first_fault (before ++ (row ∷ [])) (done ++ left))) here
     ∙ first_behind (before ++ (row ∷ [])) done left k.right fewer ∙ ap (λ l. first_fault l left) (sym joined)
   where
     below : (a b : ℕ) → a ≤ b → b ≤ 2000000 → a ≤ 2000000
     below a b h k = omega (arith, h, k)
 
-none_left : (o p : Option VrpError) → either o p ≡ None → (o ≡ None) × (p ≡ None)
+none_left : (o p : Option VrpError) → option_or o p ≡ None → (o ≡ None) × (p ≡ None)
 none_left None p e = (refl, e)
 none_left (Some x) p e = cc e
 

@@ -1,18 +1,18 @@
 -- A record with three fields at least, and one with fewer.
 use Rattle.std.proofs.Common.{◌≡◌, ℕ, List, [], ◌∷◌, Some, None, Err, refl}
 use Rattle.csv.specs.Records.{field_at}
-use Rattle.roa_table.specs.Records.{vrp_of, payload_of}
+use Rattle.roa_table.specs.Records.{payload_of}
 use Rattle.roa_table.specs.declared.record.Wrong.TheVariants as wrong
 
 some_is : (x y : List ℕ) → Some x ≡ Some y → x ≡ y
 some_is x y e = cc e
 
-pub judged : (fields : List (List ℕ)) (a p m : List ℕ) → field_at fields 0 ≡ Some a → field_at fields 1 ≡ Some p → field_at fields 2 ≡ Some m → payload_of fields ≡ vrp_of a p m
+pub judged : (fields : List (List ℕ)) (a p m : List ℕ) → field_at fields 0 ≡ Some a → field_at fields 1 ≡ Some p → field_at fields 2 ≡ Some m → payload_of fields ≡ payload_of (a ∷ p ∷ m ∷ [])
 unfolding field_at
 judged [] a p m ea ep em = cc ea
 judged (x ∷ []) a p m ea ep em = cc ep
 judged (x ∷ (y ∷ [])) a p m ea ep em = cc em
-judged (x ∷ (y ∷ (z ∷ more))) a p m ea ep em = λ i. vrp_of (some_is x a ea i) (some_is y p ep i) (some_is z m em i)
+judged (x ∷ (y ∷ (z ∷ more))) a p m ea ep em = λ i. payload_of (some_is x a ea i ∷ some_is y p ep i ∷ some_is z m em i ∷ [])
 
 pub fewer : (fields : List (List ℕ)) → field_at fields 2 ≡ None → payload_of fields ≡ Err wrong.Fields
 unfolding field_at

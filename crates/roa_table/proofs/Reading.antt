@@ -4,13 +4,14 @@ use Rattle.std.specs.Prelude.{is_ok, IsErr}
 use Rattle.std.specs.Ordering.{eq_by_cmp}
 use Rattle.std.proofs.lemmas.List.{length-append}
 use Rattle.csv.specs.Reading.{records, default_config, strip_bom}
-use Rattle.net_names.specs.Steps.{either}
+use Rattle.std.specs.Option.{option_or}
+use Rattle.net_names.specs.Steps.{unless}
 use Rattle.net_names.specs.Payloads.{VrpValue, vrp_cmp}
 use Rattle.net_names.specs.Orders.{vrp_total, exact_vrp}
 use Rattle.roa_table.specs.Sets.{IsSound, count, set_of}
 use Rattle.roa_table.specs.Lists.{stands_in}
 use Rattle.roa_table.specs.Records.{payload_of}
-use Rattle.roa_table.specs.Files.{Row, rows_of, given, payloads_given, fault_in, fault_at, first_fault, unless, payloads_in}
+use Rattle.roa_table.specs.Files.{Row, rows_of, given, fault_in, fault_at, payloads_in}
 use Rattle.roa_table.specs.Standing.{ByteReader, GoesOn}
 use Rattle.roa_table.specs.Gathering.{JoinsIn, Gathers, IsTidied, EndsWith, AreAll, Explains, IsReading, IsGathering}
 use Rattle.roa_table.specs.declared.record.Wrong.{Wrong}
@@ -21,7 +22,7 @@ use Rattle.roa_table.proofs.Booleans.{both_true, list_all_append, either_true}
 use Rattle.roa_table.proofs.Rising.{eq_is}
 use Rattle.roa_table.proofs.Placed.{same_set_of, count_set_of}
 use Rattle.roa_table.proofs.CsvRecords.{ended, more}
-use Rattle.roa_table.proofs.Gathered.{rows_assoc, stands_in-push, given_push, first_behind, few_behind}
+use Rattle.roa_table.proofs.Gathered.{payloads_given, first_fault, rows_assoc, stands_in-push, given_push, first_behind, few_behind}
 
 -- the file has no header, and so no rows
 pub no_rows : (b : ByteReader) (bytes : List ℕ) (fields : Row) → GoesOn b (records default_config (strip_bom bytes)) false fields → rows_of bytes ≡ []
@@ -72,7 +73,7 @@ module _ (a b : ByteReader) (bytes : List ℕ) (row : ℕ) (vs : List VrpValue) 
   pub crowd : 2000000 < count (set_of vs) → IsErr (payloads_in bytes)
   crowd many = by (first_fault [] (rows_of bytes)) refl
     where
-      by : (o : Option VrpError) → first_fault [] (rows_of bytes) ≡ o → IsErr (unless o (payloads_given (rows_of bytes)))
+      by : (o : Option VrpError) → first_fault [] (rows_of bytes) ≡ o → IsErr (unless o (Ok (payloads_given (rows_of bytes))))
       by (Some e) f = refl
       by None f = absurd (omega (arith, many, subst (λ s. count s ≤ 2000000) (sym set_is) (few_behind [] g.reading.done g.reading.left (sym (ap (first_fault []) g.reading.rows) ∙ f) empty)))
         where
@@ -104,9 +105,9 @@ module _ (a b : ByteReader) (bytes : List ℕ) (row : ℕ) (vs : List VrpValue) 
       gathered_fault w e is f few =
           let first : first_fault g.reading.done g.reading.left ≡ Some (fault_in row w) =
           ap (first_fault g.reading.done) (left_is a b bytes row g.reading fields h)
-          ∙ ap (λ r. either (fault_at (payloads_given g.reading.done) (length g.reading.done + 2) r) (first_fault (g.reading.done ++ (fields ∷ [])) (more b g.reading.left fields h).next)) is
+          ∙ ap (λ r. option_or (fault_at (payloads_given g.reading.done) (length g.reading.done + 2) r) (first_fault (g.reading.done ++ (fields ∷ [])) (more b g.reading.left fields h).next)) is
           ∙ ap (λ n. Some (fault_in n w)) (sym g.reading.counted) in
-          ap (λ o. unless o (payloads_given (rows_of bytes))) (first_left few ∙ first) ∙ ap (λ x. Err x) (sym f)
+          ap (λ o. unless o (Ok (payloads_given (rows_of bytes)))) (first_left few ∙ first) ∙ ap (λ x. Err x) (sym f)
 
     -- all rows have been read
     pub gathered_all : GoesOn b g.reading.left false fields → (new : List VrpValue) → IsTidied vs new → AreAll new (payloads_in bytes)
@@ -119,7 +120,7 @@ module _ (a b : ByteReader) (bytes : List ℕ) (row : ℕ) (vs : List VrpValue) 
           rising = t.rising;
           few = t.few;
           sound = λ v m. g.sound v (sym (t.members v) ∙ m);
-          is = ap (λ o. unless o (payloads_given (rows_of bytes))) (first_left few ∙ ap (first_fault g.reading.done) none) ∙ ap (λ l. Ok (payloads_given l)) all ∙ ap (λ s. Ok s) (sym (same ∙ set_is));
+          is = ap (λ o. unless o (Ok (payloads_given (rows_of bytes)))) (first_left few ∙ ap (first_fault g.reading.done) none) ∙ ap (λ l. Ok (payloads_given l)) all ∙ ap (λ s. Ok s) (sym (same ∙ set_is));
         }
       where
         append_none : (xs : List Row) → xs ++ [] ≡ xs
@@ -134,4 +135,4 @@ module _ (a b : ByteReader) (bytes : List ℕ) (row : ℕ) (vs : List VrpValue) 
 
 -- a file without rows
 pub none_read : (bytes : List ℕ) (vs : List VrpValue) → rows_of bytes ≡ [] → vs ≡ [] → AreAll vs (payloads_in bytes)
-none_read bytes vs none e = subst (λ l. AreAll l (payloads_in bytes)) (sym e) (record { rising = refl; few = omega arith; sound = λ v k. cc k; is = ap (λ l. unless (first_fault [] l) (payloads_given l)) none })
+none_read bytes vs none e = subst (λ l. AreAll l (payloads_in bytes)) (sym e) (record { rising = refl; few = omega arith; sound = λ v k. cc k; is = ap (λ l. unless (first_fault [] l) (Ok (payloads_given l))) none })

@@ -3,18 +3,19 @@ use Rattle.std.specs.Prelude.{ℕ, zero, suc, List, [], ◌++◌}
 use Rattle.std.specs.List.{filter}
 use Rattle.std.specs.declared.cmp.Ordering.{Ordering}
 use Rattle.std.specs.Ordering.{nat_cmp, ordering_then, eq_by_cmp}
+use Rattle.std.specs.FinMap as fin
 use Rattle.net_names.specs.Prefixes.{PrefixValue, prefix_cmp}
 use Rattle.net_names.specs.Coverage.{covers, shortened}
 use Rattle.net_names.specs.Payloads.{VrpValue}
-use Rattle.roa_table.specs.Sets.{Payloads, items}
+use Rattle.roa_table.specs.Sets.{Payloads}
 
 -- the payloads of this very prefix, in rising order of maximum length and number
 abbrev pub of_prefix : Payloads → PrefixValue → List VrpValue
-of_prefix vrps p = filter (λ v. eq_by_cmp prefix_cmp v.prefix p) (items vrps)
+of_prefix vrps p = filter (λ v. eq_by_cmp prefix_cmp v.prefix p) (fin.keys vrps)
 
--- the payloads whose prefix covers it (RFC 6811, section 2)
+-- the payloads whose prefix covers it, in rising order (RFC 6811, section 2)
 abbrev pub covering : Payloads → PrefixValue → List VrpValue
-covering vrps p = filter (λ v. covers v.prefix p) (items vrps)
+covering vrps p = filter (λ v. covers v.prefix p) (fin.keys vrps)
 
 -- payloads are listed by prefix length, then by maximum length, then by number
 abbrev pub cover_cmp : VrpValue → VrpValue → Ordering

@@ -6,7 +6,8 @@ use Rattle.net_names.specs.Payloads.{VrpValue, vrp_cmp}
 use Rattle.roa_table.specs.Sets.{Payloads, count, set_of, IsSound}
 use Rattle.roa_table.specs.Lists.{IsRising, stands_in}
 use Rattle.roa_table.specs.Records.{payload_of}
-use Rattle.roa_table.specs.Files.{Row, rows_of, given, fault_in, fault_at, first_fault}
+use Rattle.net_names.specs.Steps.{first_fault}
+use Rattle.roa_table.specs.Files.{Row, rows_of, given, fault_in, fault_at, fault_after}
 use Rattle.roa_table.specs.Standing.{ByteReader, Stands}
 use Rattle.roa_table.specs.declared.record.Wrong.{Wrong}
 use Rattle.roa_table.specs.declared.errors.VrpError.{VrpError}
@@ -87,5 +88,5 @@ Faults e found = found ≡ Some e
 -- the rows that have been read have no fault, and their payloads stand in the list
 pub record IsAdmitting (reader : ByteReader) (bytes : List ℕ) (row : ℕ) (vs : List VrpValue) : Type 0 where
   pub reading : IsReading reader bytes row
-  pub free : first_fault [] (rows_of bytes) ≡ first_fault reading.done reading.left
+  pub free : first_fault fault_after [] (rows_of bytes) ≡ first_fault fault_after reading.done reading.left
   pub members : (q : VrpValue) → stands_in vs q ≡ stands_in (given reading.done) q

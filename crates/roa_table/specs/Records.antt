@@ -1,6 +1,6 @@
 -- The payload that a record of a file gives, or what is wrong with it.
-use Rattle.std.specs.Prelude.{ℕ, List, [], ◌∷◌, Option, Some, None, Result, Ok, Err}
-use Rattle.net_names.specs.Steps.{◌>>=◌}
+use Rattle.std.specs.Prelude.{ℕ, List, [], ◌∷◌, Option, Some, option_and_then, ok_or, Result, Err}
+use Rattle.net_names.specs.Trials.{◌>>=◌}
 use Rattle.net_names.specs.Texts.{numeral, vrp_asn_of, prefix_of}
 use Rattle.net_names.specs.Prefixes.{PrefixValue}
 use Rattle.net_names.specs.Payloads.{VrpValue, vrp_at}
@@ -12,20 +12,10 @@ abbrev pub max_of : PrefixValue → List ℕ → Option ℕ
 max_of p [] = Some p.len
 max_of p (b ∷ more) = numeral 10 3 (b ∷ more)
 
--- what follows from a value, or what is wrong where there is none
-abbrev pub or_wrong : {A : Type 0} → Option A → Wrong → (A → Result VrpValue Wrong) → Result VrpValue Wrong
-or_wrong None w next = Err w
-or_wrong (Some x) w next = next x
-
--- the payload of a number, a prefix and a text for the maximum length, which is from the prefix's length to the family's width
-abbrev pub with_prefix : ℕ → PrefixValue → List ℕ → Result VrpValue Wrong
-with_prefix asn p max = or_wrong (max_of p max >>= λ m. vrp_at p m asn) wrong.Max (λ v. Ok v)
-
--- the payload that three texts say: the AS number, the prefix, and the maximum length
-abbrev pub vrp_of : List ℕ → List ℕ → List ℕ → Result VrpValue Wrong
-vrp_of asn prefix max = or_wrong (vrp_asn_of asn) wrong.Asn (λ n. or_wrong (prefix_of prefix) wrong.Prefix (λ p. with_prefix n p max))
-
--- the payload of a record, by its first three fields; further ones are not read (for the columns of the usual validators)
+-- the payload of a record, by its first three fields, the AS number, the prefix and the maximum length, which is from the prefix's length to the family's width; further ones are not read (for the columns of the usual validators)
 abbrev pub payload_of : List (List ℕ) → Result VrpValue Wrong
-payload_of (asn ∷ (prefix ∷ (max ∷ more))) = vrp_of asn prefix max
+payload_of (asn ∷ (prefix ∷ (max ∷ more))) = do
+  n ← ok_or (vrp_asn_of asn) wrong.Asn
+  p ← ok_or (prefix_of prefix) wrong.Prefix
+  ok_or (option_and_then (λ m. vrp_at p m n) (max_of p max)) wrong.Max
 payload_of _ = Err wrong.Fields

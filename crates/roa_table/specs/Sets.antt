@@ -1,5 +1,5 @@
 -- Finite sets of payloads.
-use Rattle.std.specs.Prelude.{◌≡◌, ℕ, Bool, true, List, [], ◌∷◌}
+use Rattle.std.specs.Prelude.{◌≡◌, ℕ, Bool, true, List, map}
 use Rattle.std.specs.Coded.{Coded}
 use Rattle.std.specs.FinMap as fin
 use Rattle.std.specs.FinSet as set
@@ -39,8 +39,7 @@ count s = fin.len s
 
 -- the set of the payloads of a list
 abbrev pub set_of : List VrpValue → Payloads
-set_of [] = no_payloads
-set_of (v ∷ vs) = added (set_of vs) v
+set_of vs = fin.from_entries (map (λ v. (v, tt)) vs)
 
 -- the payload has a prefix, and its maximum length is one of it (net_names, Payloads)
 abbrev pub IsSound : VrpValue → Type 0

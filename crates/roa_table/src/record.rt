@@ -1,7 +1,8 @@
 //! The payload of a record.
-ghost use Rattle.std.specs.Prelude.{◌≡◌, ◌<◌, IfSome};
+ghost use Rattle.std.specs.Prelude.{◌≡◌, ◌∷◌, [], option_and_then, ok_or};
 ghost use Rattle.csv.specs.Records.{fields_of};
-ghost use Rattle.roa_table.specs.Records.{max_of, with_prefix, vrp_of, payload_of};
+ghost use Rattle.roa_table.specs.Records.{max_of, payload_of};
+ghost use Rattle.net_names.specs.Payloads.{vrp_at};
 ghost use Rattle.roa_table.specs.Files.{fault_in};
 
 use crate::errors::VrpError;
@@ -34,7 +35,7 @@ fn read_max(prefix: Prefix, text: &[u8]) -> Option<u64>
 
 /// The payload of a number and a prefix with the maximum length that a text says.
 fn judge_max(asn: u32, prefix: Prefix, text: &[u8]) -> Result<Vrp, Wrong>
-    ensures { result ≡ with_prefix asn prefix text.now }
+    ensures { result ≡ ok_or (option_and_then (λ m. vrp_at prefix m asn) (max_of prefix text.now)) Wrong.Max }
 {
     match read_max(prefix, text) {
         Some(max) => {
@@ -52,7 +53,7 @@ fn judge_max(asn: u32, prefix: Prefix, text: &[u8]) -> Result<Vrp, Wrong>
 
 /// The payload that three texts say.
 fn judge_texts(asn: &[u8], prefix: &[u8], max: &[u8]) -> Result<Vrp, Wrong>
-    ensures { result ≡ vrp_of asn.now prefix.now max.now }
+    ensures { result ≡ payload_of (asn.now ∷ prefix.now ∷ max.now ∷ []) }
 {
     match read_vrp_asn(asn) {
         Some(asn) => match read_prefix(prefix) {

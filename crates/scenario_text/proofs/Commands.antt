@@ -2,13 +2,13 @@
 use Rattle.std.proofs.Common.{◌≡◌, ℕ, suc, ◌+◌, true, false, List, [], ◌∷◌, ◌++◌, length, Some, None, Result, Ok, Err, refl, ap, sym, ◌∙◌, arith}
 use Rattle.std.proofs.lemmas.List.{length-append, append-nil}
 use Rattle.std.specs.Str.Lines.{strip_carriage_return}
-use Rattle.net_names.specs.Texts.{cut_at}
+use Rattle.net_names.specs.Texts.{cut_at, is_skipped}
 use Rattle.net_names.proofs.Cuts.{fields_uncut, fields_cut}
 use Rattle.scenario_text.specs.LineValues.{LineValue}
 use Rattle.scenario_text.specs.declared.script.ScriptError.{ScriptError}
 use Rattle.scenario_text.specs.declared.script.ScriptError.TheVariants.{Memory, Unreadable, TooMany}
 use Rattle.scenario_text.specs.Walks.{◌>>=◌, each_from}
-use Rattle.scenario_text.specs.Lines.{texts, is_skipped, kept_from}
+use Rattle.scenario_text.specs.Lines.{texts, kept_from}
 use Rattle.scenario_text.specs.Script.{Fails, command, script_of}
 use Rattle.scenario_text.proofs.Walking.{with_front, with_front-nil, with_front-cons}
 

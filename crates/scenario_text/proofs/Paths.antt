@@ -1,7 +1,7 @@
 -- The numbers of an announced path, one after the other.
-use Rattle.std.proofs.Common.{◌≡◌, ℕ, ◌+◌, ◌<◌, Bool, true, false, List, [], ◌∷◌, ◌++◌, length, map, Option, Some, None, refl, sym, ◌∙◌, append_assoc, arith, length-append}
+use Rattle.std.proofs.Common.{◌≡◌, ℕ, ◌+◌, ◌<◌, true, false, List, [], ◌∷◌, ◌++◌, length, map, Option, Some, None, refl, sym, ◌∙◌, append_assoc, arith, length-append}
 use Rattle.std.specs.Prelude.{nat_le, if◌then◌else◌}
-use Rattle.std.proofs.lemmas.Bool.{leb-true, le-leb, lt-leb}
+use Rattle.std.proofs.lemmas.Bool.{le-leb, lt-leb}
 use Rattle.net_names.specs.Steps.{◌>>=◌}
 use Rattle.net_names.specs.Texts.{all_some, asn_of, cut_at, fields}
 use Rattle.net_names.proofs.Cuts.{fields_uncut, fields_cut}

@@ -3,6 +3,7 @@ use Rattle.std.proofs.Common.{◌≡◌, ℕ, suc, ◌+◌, ◌<◌, ◌≤◌, 
 use Rattle.std.proofs.Math.ListN.{drop_of_length-le}
 use Rattle.std.specs.BTreeMap.{is_at}
 use Rattle.std.specs.Cmp.{IsTotalOrder}
+use Rattle.std.specs.Prelude.{if◌then◌else◌}
 use Rattle.std.specs.List.{list_any}
 use Rattle.std.proofs.lemmas.Cmp.{eq_by_cmp_equiv}
 use Rattle.std.proofs.lemmas.List.Folds.{list_any_more}
@@ -13,7 +14,11 @@ use Rattle.scenario_text.specs.declared.faults.ScenarioError.{ScenarioError}
 use Rattle.scenario_text.specs.declared.faults.ScenarioError.TheVariants.{Twice}
 use Rattle.scenario_text.specs.Places.{item}
 use Rattle.scenario_text.specs.Walks.{◌>>=◌, each_from}
-use Rattle.scenario_text.specs.Twice.{once_at, once_in}
+use Rattle.scenario_text.specs.Twice.{once_in}
+
+-- an item is named twice where an equal one stands before it in the list
+abbrev pub once_at : {K : Type 0} → (K → K → Ordering) → Place → List K → ℕ → K → Result (Unit {0}) ScenarioError
+once_at cmp p keys i key = if list_any (eq_by_cmp cmp key) (take i keys) then Err (Twice (item p i)) else Ok tt
 
 -- the test passed, whatever it gave
 abbrev pub passed : {A E : Type 0} → Result A E → Result (Unit {0}) E

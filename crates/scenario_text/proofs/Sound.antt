@@ -11,7 +11,7 @@ use Rattle.std.proofs.lemmas.List.Elements.{All-cons, All-nil}
 use Rattle.std.proofs.lemmas.List.Folds.{list_any_at}
 use Rattle.net_names.specs.Addresses.{AddrValue, addr_cmp}
 use Rattle.net_names.specs.Prefixes.{PrefixValue}
-use Rattle.net_names.specs.Texts.{prefix_of}
+use Rattle.net_names.specs.Texts.{prefix_of, addr_of}
 use Rattle.policy_kinds.specs.declared.kind.Kind.{Kind}
 use Rattle.scenario_text.specs.declared.faults.LimitOf.TheVariants as limits
 use Rattle.scenario_text.specs.declared.faults.ScenarioError.{ScenarioError}
@@ -25,10 +25,11 @@ use Rattle.scenario_text.specs.Documents.{DocumentValue}
 use Rattle.scenario_text.specs.Limits.{unless_passed, within}
 use Rattle.scenario_text.specs.Places.{in_member, item, in_part}
 use Rattle.scenario_text.specs.Scenarios.{ScenarioValue, IsScenario, StartsWith, name_of, prefix_count}
-use Rattle.scenario_text.specs.Twice.{once_at, once_in, name_cmp, once}
-use Rattle.scenario_text.specs.Values.{asn_at, announcement_of, policy_of, address_of, lists_of}
+use Rattle.scenario_text.specs.Twice.{once_in, name_cmp, once}
+use Rattle.scenario_text.specs.Values.{asn_at, announcement_of, policy_of, lists_of}
 use Rattle.scenario_text.specs.Walks.{◌>>=◌, each_from, each_at}
 use Rattle.scenario_text.proofs.Orders.{name_total, addr_total}
+use Rattle.scenario_text.proofs.Repeats.{once_at}
 
 -- what the first of two steps gave, where both gave something
 first_step : {A B E : Type 0} (r : Result A E) (f : A → Result B E) (y : B) → (r >>= f) ≡ Ok y → (x : A) × (r ≡ Ok x) × (f x ≡ Ok y)
@@ -124,7 +125,7 @@ lists_own : (d : DocumentValue) (s : ScenarioValue) → lists_of d ≡ Ok s → 
 unfolding lists_of
 lists_own d s h =
     let read = first_list (each_at announcement_of (in_member Announcements) d.announcements) (each_at policy_of (in_member Policies) d.policies)
-    (each_at (each_at asn_at) (in_member Leaks) d.leaks) (each_at address_of (in_member Watch) d.watch) s h in
+    (each_at (each_at asn_at) (in_member Leaks) d.leaks) (each_at (λ p text. ok_or (addr_of text) (Value p)) (in_member Watch) d.watch) s h in
     each_gives (λ a. StartsWith a.asn a.path) (λ i. announcement_of (item (in_member Announcements) i)) (λ i. announcement_own (item (in_member Announcements) i)) 0 d.announcements s.announcements read
 
 -- four tests that all pass

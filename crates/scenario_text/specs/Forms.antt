@@ -2,11 +2,9 @@
 -- The fields of a line have exactly one space or one `|` between, since no field's grammar has either in it or an empty text.
 use Rattle.std.specs.Prelude.{ℕ, ◌==◌, List, [], ◌∷◌, length, map, fold, nat_le, bytes_eq, codes, Option, Some, None, option_map, option_and_then, if◌then◌else◌}
 use Rattle.std.specs.Option.{option_or, option_zip}
-use Rattle.net_names.specs.declared.routes.Rel.{Rel}
-use Rattle.net_names.specs.declared.routes.Rel.TheVariants.{Customer, Peer}
 use Rattle.net_names.specs.Payloads.{VrpValue, vrp_at}
-use Rattle.net_names.specs.Steps.{◌>>=◌}
-use Rattle.net_names.specs.Texts.{after, all_some, cut_at, fields, numeral, asn_of, vrp_asn_of, prefix_of, addr_of}
+use Rattle.net_names.specs.Steps.{◌>>=◌, option_filter}
+use Rattle.net_names.specs.Texts.{after, all_some, cut_at, fields, numeral, asn_of, vrp_asn_of, prefix_of, addr_of, rel_of}
 use Rattle.policy_kinds.specs.Names.{kind_named}
 use Rattle.scenario_text.specs.declared.acts.Act.{Act}
 use Rattle.scenario_text.specs.declared.acts.Act.TheVariants as act
@@ -15,33 +13,21 @@ use Rattle.scenario_text.specs.declared.acts.Edit.TheVariants.{Link, Unlink, Pol
 use Rattle.scenario_text.specs.declared.acts.Query.{Query}
 use Rattle.scenario_text.specs.declared.acts.Query.TheVariants.{Routes, Route, Trace, Report, Ranks, Validity}
 
--- two fields, the first of which ends at the first such byte, each by its grammar (own format)
+-- two fields, the first of which ends at the first such byte, each by its grammar: 32 is a space, and 124 is `|` (own format)
 unfoldable pub parted : {A B : Type 0} → ℕ → (List ℕ → Option A) → (List ℕ → Option B) → List ℕ → Option (A × B)
 parted byte first second text = cut_at byte text >>= λ p. option_zip (first p.0) (second p.1)
-
--- two fields with a space between (own format)
-abbrev pub spaced : {A B : Type 0} → (List ℕ → Option A) → (List ℕ → Option B) → List ℕ → Option (A × B)
-spaced = parted 32
-
--- two fields with a `|` between (own format)
-abbrev pub barred : {A B : Type 0} → (List ℕ → Option A) → (List ℕ → Option B) → List ℕ → Option (A × B)
-barred = parted 124
 
 -- a round is 1 to 9 digits; leading zeros are allowed (own format)
 abbrev pub round_of : List ℕ → Option ℕ
 round_of = numeral 10 9
 
--- what the second AS is to the first: a customer for `-1`, a peer for `0` (as CAIDA AS Relationships, serial-1)
-unfoldable pub rel_of : List ℕ → Option Rel
-rel_of text = if bytes_eq text (codes "-1") then Some Customer else (if bytes_eq text (codes "0") then Some Peer else None)
-
 -- N P M: the payload of that number, prefix and greatest length, which is 1 to 3 digits and from the prefix's length to the family's width (own format)
 unfoldable pub vrp_of : List ℕ → Option VrpValue
-vrp_of text = spaced vrp_asn_of (spaced prefix_of (numeral 10 3)) text >>= λ v. vrp_at v.1.0 v.1.1 v.0
+vrp_of text = parted 32 vrp_asn_of (parted 32 prefix_of (numeral 10 3)) text >>= λ v. vrp_at v.1.0 v.1.1 v.0
 
 -- a path is 1 to 64 AS numbers with one space between (own format)
 unfoldable pub path_of : List ℕ → Option (List ℕ)
-path_of text = all_some (map asn_of (fields 32 text)) >>= λ ns. if nat_le (length ns) 64 then Some ns else None
+path_of text = option_filter (λ ns. nat_le (length ns) 64) (all_some (map asn_of (fields 32 text)))
 
 -- a line that begins with this word, and goes on with these fields, asks for this (own format)
 abbrev pub row : {A B : Type 0} → List ℕ → (List ℕ → Option A) → (A → Option B) → List ℕ → Option B
@@ -50,23 +36,23 @@ row word fields asks line = option_and_then asks (option_and_then fields (after 
 -- the forms of edits: A|B|-1 makes A the provider of B, A|B|0 makes them peers, and A and B differ; a kind is of A; the first AS of the path A B .. announces P (own format)
 unfoldable pub edit_of : List ℕ → Option Edit
 edit_of line = fold option_or None (
-    row (codes "link ") (barred asn_of (barred asn_of rel_of)) (λ x. if x.0 == x.1.0 then None else Some (Link x.0 x.1.0 x.1.1)) line ∷
-    row (codes "unlink ") (barred asn_of asn_of) (λ x. if x.0 == x.1 then None else Some (Unlink x.0 x.1)) line ∷
-    row (codes "policy ") (spaced asn_of kind_named) (λ x. Some (Policy x.0 x.1)) line ∷
+    row (codes "link ") (parted 124 asn_of (parted 124 asn_of rel_of)) (λ x. if x.0 == x.1.0 then None else Some (Link x.0 x.1.0 x.1.1)) line ∷
+    row (codes "unlink ") (parted 124 asn_of asn_of) (λ x. if x.0 == x.1 then None else Some (Unlink x.0 x.1)) line ∷
+    row (codes "policy ") (parted 32 asn_of kind_named) (λ x. Some (Policy x.0 x.1)) line ∷
     row (codes "vrp-add ") vrp_of (λ v. Some (VrpAdd v)) line ∷
     row (codes "vrp-take ") vrp_of (λ v. Some (VrpTake v)) line ∷
-    row (codes "announce ") (spaced prefix_of path_of) (λ x. Some (Announce x.0 x.1)) line ∷
-    row (codes "withdraw ") (spaced prefix_of asn_of) (λ x. Some (Withdraw x.0 x.1)) line ∷ [])
+    row (codes "announce ") (parted 32 prefix_of path_of) (λ x. Some (Announce x.0 x.1)) line ∷
+    row (codes "withdraw ") (parted 32 prefix_of asn_of) (λ x. Some (Withdraw x.0 x.1)) line ∷ [])
 
 -- the forms of queries: of round R the table of prefix P, the row of AS A in it, the trace from A to address D, and the counts for D; all ranks; the state of P with origin A (own format)
 unfoldable pub query_of : List ℕ → Option Query
 query_of line = fold option_or None (
-    row (codes "routes ") (spaced round_of prefix_of) (λ x. Some (Routes x.0 x.1)) line ∷
-    row (codes "route ") (spaced round_of (spaced prefix_of asn_of)) (λ x. Some (Route x.0 x.1.0 x.1.1)) line ∷
-    row (codes "trace ") (spaced round_of (spaced asn_of addr_of)) (λ x. Some (Trace x.0 x.1.0 x.1.1)) line ∷
-    row (codes "report ") (spaced round_of addr_of) (λ x. Some (Report x.0 x.1)) line ∷
+    row (codes "routes ") (parted 32 round_of prefix_of) (λ x. Some (Routes x.0 x.1)) line ∷
+    row (codes "route ") (parted 32 round_of (parted 32 prefix_of asn_of)) (λ x. Some (Route x.0 x.1.0 x.1.1)) line ∷
+    row (codes "trace ") (parted 32 round_of (parted 32 asn_of addr_of)) (λ x. Some (Trace x.0 x.1.0 x.1.1)) line ∷
+    row (codes "report ") (parted 32 round_of addr_of) (λ x. Some (Report x.0 x.1)) line ∷
     (if bytes_eq line (codes "ranks") then Some Ranks else None) ∷
-    row (codes "validity ") (spaced prefix_of asn_of) (λ x. Some (Validity x.0 x.1)) line ∷ [])
+    row (codes "validity ") (parted 32 prefix_of asn_of) (λ x. Some (Validity x.0 x.1)) line ∷ [])
 
 -- what a line asks for, where it has one of the forms (own format)
 unfoldable pub act_of : List ℕ → Option Act

@@ -1,17 +1,12 @@
 -- The lines of a script, and those that count (own format).
-use Rattle.std.specs.Prelude.{ℕ, ◌==◌, not, Bool, true, List, [], ◌∷◌, map, filter}
+use Rattle.std.specs.Prelude.{ℕ, not, List, map, filter}
 use Rattle.std.specs.List.{enumerate_from}
 use Rattle.std.specs.Str.Lines.{strip_carriage_return}
-use Rattle.net_names.specs.Texts.{fields}
+use Rattle.net_names.specs.Texts.{fields, is_skipped}
 
 -- the texts of the lines: the bytes between line feeds, each without one carriage return at its end. What stands after the last line feed is a line too; where nothing stands there, that line is empty, and so it is skipped (own format)
 abbrev pub texts : List ℕ → List (List ℕ)
 texts bytes = map strip_carriage_return (fields 10 bytes)
-
--- a line is skipped where it is empty, and where it begins with `#` (own format)
-abbrev pub is_skipped : List ℕ → Bool
-is_skipped [] = true
-is_skipped (byte ∷ rest) = byte == 35
 
 -- the lines that aren't skipped, each with its number, where the first of all has this number (own format)
 abbrev pub kept_from : ℕ → List (List ℕ) → List (ℕ × List ℕ)

@@ -6,20 +6,15 @@ use Rattle.std.specs.Ordering.{nat_cmp, ordering_then, eq_by_cmp}
 use Rattle.net_names.specs.Addresses.{addr_cmp}
 use Rattle.net_names.specs.Prefixes.{PrefixValue, prefix_cmp}
 use Rattle.scenario_text.specs.declared.places.Member.TheVariants.{Announcements, Policies, Leaks, Watch}
-use Rattle.scenario_text.specs.declared.places.Place.{Place}
 use Rattle.scenario_text.specs.declared.faults.ScenarioError.{ScenarioError}
 use Rattle.scenario_text.specs.declared.faults.ScenarioError.TheVariants.{Twice}
 use Rattle.scenario_text.specs.Places.{in_member, item}
 use Rattle.scenario_text.specs.Scenarios.{ScenarioValue, name_of}
 use Rattle.scenario_text.specs.Walks.{◌>>=◌, Reader, each_from, each_at}
 
--- an item is named twice where an equal one stands before it in the list (own format)
-abbrev pub once_at : {K : Type 0} → (K → K → Ordering) → Place → List K → ℕ → K → Result (Unit {0}) ScenarioError
-once_at cmp p keys i key = if list_any (eq_by_cmp cmp key) (take i keys) then Err (Twice (item p i)) else Ok tt
-
--- no item of the list is named twice, or the first that is (own format)
+-- no item of the list is named twice, or the first that is: an equal one stands before it in the list (own format)
 abbrev pub once_in : {K : Type 0} → (K → K → Ordering) → Reader (List K) (Unit {0})
-once_in cmp p keys = each_from (once_at cmp p keys) 0 keys >>= λ _. Ok tt
+once_in cmp p keys = each_from {B = Unit {0}} (λ i key. if list_any (eq_by_cmp cmp key) (take i keys) then Err (Twice (item p i)) else Ok tt) 0 keys >>= λ _. Ok tt
 
 -- prefixes with ASes are ordered by the prefix, and then by the AS
 abbrev pub name_cmp : (PrefixValue × ℕ) → (PrefixValue × ℕ) → Ordering

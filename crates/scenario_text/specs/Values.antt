@@ -1,8 +1,7 @@
 -- The second pass over a document: each number and text is in its grammar, and each path starts with its AS (own format).
 -- The first fault is that of the first step that fails, in the order of the steps.
-use Rattle.std.specs.Prelude.{ℕ, ◌^◌, ◌&&◌, ◌==◌ as nat_eq, nat_lt, List, [], ◌∷◌, if◌then◌else◌, ok_or, Result, Ok, Err}
+use Rattle.std.specs.Prelude.{ℕ, ◌^◌, ◌&&◌, ◌==◌ as nat_eq, nat_lt, [], ◌∷◌, if◌then◌else◌, ok_or, Result, Ok, Err}
 use Rattle.std.specs.List.{starts_with}
-use Rattle.net_names.specs.Addresses.{AddrValue}
 use Rattle.net_names.specs.Texts.{prefix_of, addr_of}
 use Rattle.policy_kinds.specs.Names.{kind_named}
 use Rattle.policy_kinds.specs.declared.kind.Kind.{Kind}
@@ -37,15 +36,11 @@ policy_of p x = do
   kind ← ok_or (kind_named x.policy) (Value (in_part p parts.Policy))
   Ok (asn, kind)
 
--- an address (own format)
-abbrev pub address_of : Reader (List ℕ) AddrValue
-address_of p text = ok_or (addr_of text) (Value p)
-
 -- the four lists of a document (own format)
 unfoldable pub lists_of : DocumentValue → Result ScenarioValue ScenarioError
 lists_of d = do
   announcements ← each_at announcement_of (in_member Announcements) d.announcements
   policies ← each_at policy_of (in_member Policies) d.policies
   leaks ← each_at (each_at asn_at) (in_member Leaks) d.leaks
-  watch ← each_at address_of (in_member Watch) d.watch
+  watch ← each_at (λ p text. ok_or (addr_of text) (Value p)) (in_member Watch) d.watch
   Ok (record { announcements = announcements; policies = policies; leaks = leaks; watch = watch })

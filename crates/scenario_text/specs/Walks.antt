@@ -1,14 +1,9 @@
--- Steps that may fail, and lists that are gone through up to the first failure.
-use Rattle.std.specs.Prelude.{ℕ, suc, List, [], ◌∷◌, Result, Ok, Err}
+-- Lists that are gone through up to the first failure.
+use Rattle.std.specs.Prelude.{ℕ, suc, List, [], ◌∷◌, Result, Ok}
+pub use Rattle.net_names.specs.Trials.{◌>>=◌}
 use Rattle.scenario_text.specs.Places.{item}
 use Rattle.scenario_text.specs.declared.faults.ScenarioError.{ScenarioError}
 use Rattle.scenario_text.specs.declared.places.Place.{Place}
-
--- the next step, taken with what the first step gave, where it did not fail
-infixl 10 ◌>>=◌
-abbrev pub ◌>>=◌ : {A B E : Type 0} → Result A E → (A → Result B E) → Result B E
-(Ok x) >>= f = f x
-(Err e) >>= f = Err e
 
 -- what f gives for each item and its position, where the first item has this position; the first failure where one fails
 unfoldable pub each_from : {A B E : Type 0} → (ℕ → A → Result B E) → ℕ → List A → Result (List B) E

@@ -1,8 +1,8 @@
 //! The fields of a script's line.
 ghost use Rattle.std.specs.Prelude.{◌≡◌, ℕ, List, Option};
-ghost use Rattle.net_names.specs.Texts.{asn_of, prefix_of, addr_of, vrp_asn_of, numeral};
+ghost use Rattle.net_names.specs.Texts.{asn_of, prefix_of, addr_of, rel_of, vrp_asn_of, numeral};
 ghost use Rattle.policy_kinds.specs.Names.{kind_named};
-ghost use Rattle.scenario_text.specs.Forms.{parted, spaced, barred, round_of, rel_of, vrp_of};
+ghost use Rattle.scenario_text.specs.Forms.{parted, round_of, vrp_of};
 
 use net_names::{
     Addr, Asn, Prefix, Rel, Vrp, cut, number, read_addr, read_asn, read_prefix, read_vrp_asn,
@@ -97,7 +97,7 @@ impl Field for RelField {
 
     ghost says = { rel_of };
 
-    #[tactic(auto, unfolding(crate::specs::Forms::rel_of))]
+    #[tactic(auto, unfolding(net_names::specs::Texts::rel_of))]
     fn read(text: &[u8]) -> Option<Rel> {
         if text == b"-1".as_slice() {
             Some(Rel::Customer)
@@ -154,7 +154,7 @@ pub(crate) struct Spaced<F, G> {
 impl<F: Field, G: Field> Field for Spaced<F, G> {
     type To = (F::To, G::To);
 
-    ghost says = { spaced F.says G.says };
+    ghost says = { parted 32 F.says G.says };
 
     fn read(text: &[u8]) -> Option<(F::To, G::To)> {
         parted_at::<F, G>(b' ', text)
@@ -170,7 +170,7 @@ pub(crate) struct Barred<F, G> {
 impl<F: Field, G: Field> Field for Barred<F, G> {
     type To = (F::To, G::To);
 
-    ghost says = { barred F.says G.says };
+    ghost says = { parted 124 F.says G.says };
 
     fn read(text: &[u8]) -> Option<(F::To, G::To)> {
         parted_at::<F, G>(b'|', text)

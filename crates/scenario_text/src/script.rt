@@ -1,6 +1,7 @@
 //! Reading a script.
 ghost use Rattle.std.specs.Prelude.{◌≡◌, ℕ, ◌<◌, ◌≤◌, ◌∷◌, length, IfOk};
-ghost use Rattle.scenario_text.specs.Lines.{is_skipped, texts, kept_from};
+ghost use Rattle.net_names.specs.Texts.{is_skipped};
+ghost use Rattle.scenario_text.specs.Lines.{texts, kept_from};
 ghost use Rattle.std.specs.Str.Lines.{strip_carriage_return};
 ghost use Rattle.scenario_text.specs.LineValues.{IsSoundAct};
 ghost use Rattle.scenario_text.specs.Script.{Gives, command, script_of};

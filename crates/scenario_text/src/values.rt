@@ -1,8 +1,10 @@
 //! The second pass over a document: its numbers and texts by their grammars.
-ghost use Rattle.std.specs.Prelude.{◌≡◌, ◌==◌ as nat_eq, ◌∷◌, []};
+ghost use Rattle.std.specs.Prelude.{◌≡◌, ◌==◌ as nat_eq, ◌∷◌, [], ok_or};
 ghost use Rattle.std.specs.List.{starts_with};
+ghost use Rattle.net_names.specs.Texts.{addr_of};
+ghost use Rattle.scenario_text.specs.declared.faults.ScenarioError.TheVariants.{Value};
 ghost use Rattle.scenario_text.specs.Faults.{Gives};
-ghost use Rattle.scenario_text.specs.Values.{asn_at, announcement_of, policy_of, address_of, lists_of};
+ghost use Rattle.scenario_text.specs.Values.{asn_at, announcement_of, policy_of, lists_of};
 ghost use Rattle.scenario_text.specs.Walks.{each_at};
 
 use crate::documents::{AnnouncementText, Document, Numbers, PolicyText, Text};
@@ -129,7 +131,7 @@ impl Reading for WatchedValue {
 
     type To = Addr;
 
-    ghost gives = { address_of };
+    ghost gives = { λ p text. ok_or (addr_of text) (Value p) };
 
     fn read(_alloc: Global, place: Place, from: &Text) -> Result<Addr, ScenarioError> {
         match read_addr(from.as_bytes()) {

@@ -1,5 +1,5 @@
 -- Provider cycles of graphs with a link more or less.
-use Rattle.std.proofs.Common.{◌≡◌, ◌≢◌, ◌⊎◌, inl, inr, ℕ, List, [], ◌∷◌, Option, Some, None, Result, Ok, Err, IfOk, ◌↔◌, refl, sym, ap, subst, ◌∙◌}
+use Rattle.std.proofs.Common.{◌≡◌, ◌≢◌, ◌⊎◌, inl, inr, ℕ, List, [], ◌∷◌, Option, Some, None, Result, Ok, Err, IfOk, ◌↔◌, refl, sym, ap, subst, ◌∙◌, get_or}
 use Rattle.std.specs.Prelude.{IfNone, IfSome, IsNone}
 use Rattle.cycle_check.specs.Cycles.{IsClosedBy, with_provider}
 use Rattle.std.proofs.lemmas.Bool.Decides.{eqb_tells}
@@ -7,7 +7,7 @@ use Rattle.std.specs.Option.{option_map}
 use Rattle.net_names.specs.declared.routes.Rel.{Rel}
 use Rattle.net_names.specs.declared.routes.Rel.TheVariants.{Customer, Peer, Provider}
 use Rattle.net_names.specs.Links.{converse}
-use Rattle.net_names.specs.Numbers.{first_or, last_or}
+use Rattle.net_names.specs.Numbers.{last_or}
 use Rattle.as_graph.specs.Topology.{Topology, what}
 use Rattle.as_graph.specs.Edits.{LinksAreSet, LinksAreSound, LinksAreTaken, with_link, without_link}
 use Rattle.as_graph.specs.Hierarchy.{HasNoProviderCycle, IsDescent, IsProviderCycle}
@@ -25,7 +25,7 @@ descent_below v w below (a ∷ []) h = tt
 descent_below v w below (a ∷ b ∷ rest) h = (below a b h.0, descent_below v w below (b ∷ rest) h.1)
 
 pub cycle_below : (v w : What) → IsBelow v w → (xs : List ℕ) → IsProviderCycle v xs → IsProviderCycle w xs
-cycle_below v w below xs h = record { two = h.two; distinct = h.distinct; descends = descent_below v w below xs h.descends; closes = below (last_or 0 xs) (first_or 0 xs) h.closes }
+cycle_below v w below xs h = record { two = h.two; distinct = h.distinct; descends = descent_below v w below xs h.descends; closes = below (last_or 0 xs) (get_or xs 0 0) h.closes }
 
 pub none_below : (v w : What) → IsBelow v w → HasNoProviderCycle w → HasNoProviderCycle v
 none_below v w below none xs h = none xs (cycle_below v w below xs h)

@@ -1,5 +1,5 @@
 -- What an edit leaves of ranks, rounds and watches, and what belongs to the edited world.
-use Rattle.std.proofs.Common.{◌≡◌, ◌≢◌, ◌⊎◌, inl, inr, ℕ, suc, ◌-◌, ◌<◌, ◌≤◌, ◌&&◌, Bool, true, false, IsTrue, cond, is_some, Option, None, Some, option_map, List, refl, sym, ap, subst, ◌∙◌, arith, Result, Ok, Err, OnOk, length, ◌+◌}
+use Rattle.std.proofs.Common.{◌≡◌, ◌≢◌, ◌⊎◌, inl, inr, ℕ, suc, ◌-◌, ◌<◌, ◌≤◌, ◌&&◌, ◌||◌, not, Bool, true, false, IsTrue, cond, is_some, Option, None, Some, option_map, List, refl, sym, ap, subst, ◌∙◌, arith, Result, Ok, Err, OnOk, length, ◌+◌}
 use Rattle.std.specs.Prelude.{◌↔◌, option_and_then, slice_get}
 use Rattle.std.specs.List.{filter}
 use Rattle.std.specs.FinMap as fin
@@ -17,7 +17,7 @@ use Rattle.as_graph.specs.Hierarchy.{HasNoProviderCycle, RankFits, RanksFit}
 use Rattle.as_graph.specs.Topology.{Topology, has, what}
 use Rattle.origin_validation.specs.Judging.{state_of}
 use Rattle.path_pool.specs.declared.pool.PathPool.{PathPool}
-use Rattle.policy_kinds.specs.Kinds.{kind_policy, label, number_goes, plain_exports}
+use Rattle.policy_kinds.specs.Kinds.{kind_policy, label, is_customer, is_own_or_customers}
 use Rattle.policy_kinds.specs.declared.kind.Kind.{Kind}
 use Rattle.rank_order.specs.Ranks.{KeptRanks, rank_at}
 use Rattle.route_choice.specs.Routings.{entry_of}
@@ -69,7 +69,7 @@ use Rattle.sim_core.proofs.SeedEdits.{edited_prefixes, other_paths, stands}
 
 -- what a kind exports follows from whether it marks
 pub same_exports : (k j : Kind) → (kind_policy k).marks ≡ (kind_policy j).marks → (kind_policy k).exports ≡ (kind_policy j).exports
-same_exports k j same = λ i held otc to. plain_exports held to && number_goes (same i) otc to
+same_exports k j same = λ i held otc to. is_customer to || (is_own_or_customers held && not (same i && is_some otc))
 
 -- who has a customer is an AS of the graph
 pub seller : LinksAreSound → (g : Topology) (a b : ℕ) (r : Rel) → what g a b ≡ Some r → has g a ≡ true

@@ -7,7 +7,6 @@ use Rattle.as_graph.specs.Topology.{as_count, what}
 use Rattle.as_graph.specs.Hierarchy.{IsProviderCycle}
 use Rattle.as_graph.specs.Edits.{with_link, without_link}
 use Rattle.policy_kinds.specs.declared.kind.Kind.{Kind}
-use Rattle.roa_table.specs.Sets.{added, count, has, taken}
 use Rattle.stability_laws.specs.Plans.{announces, with_announcement}
 use Rattle.stability_laws.specs.SeedEdits.{without_announcement}
 use Rattle.leak_round.specs.Changes.{HasChanges}
@@ -30,8 +29,8 @@ abbrev pub edited : World → Edit → World
 edited w (edit.Link a b rel) = record w { links = (with_link (topology w) a b rel).links }
 edited w (edit.Unlink a b) = record w { links = (without_link (topology w) a b).links }
 edited w (edit.Policy a kind) = record w { kinds = with_kind w.kinds a kind }
-edited w (edit.VrpAdd vrp) = record w { payloads = added w.payloads vrp }
-edited w (edit.VrpTake vrp) = record w { payloads = taken w.payloads vrp }
+edited w (edit.VrpAdd vrp) = record w { payloads = fin.insert w.payloads vrp tt }
+edited w (edit.VrpTake vrp) = record w { payloads = fin.remove w.payloads vrp }
 edited w (edit.Announce prefix path) = record w { plan = with_announcement w.plan prefix path }
 edited w (edit.Withdraw prefix a) = record w { plan = without_announcement w.plan prefix a }
 
@@ -42,7 +41,7 @@ absent_link a b = if nat_lt a b then refused.AbsentLink a b else refused.AbsentL
 -- what the edit names or takes away and the world has not: the link of the pair, the payload, the prefix, or else the AS's announcement of it
 abbrev pub absent : World → Edit → Option EditError
 absent w (edit.Unlink a b) = if is_some (what (topology w) a b) then None else Some (absent_link a b)
-absent w (edit.VrpTake vrp) = if has w.payloads vrp then None else Some (refused.AbsentVrp vrp)
+absent w (edit.VrpTake vrp) = if fin.contains_key w.payloads vrp then None else Some (refused.AbsentVrp vrp)
 absent w (edit.Announce prefix path) = if has_prefix w prefix then None else Some (refused.UnknownPrefix prefix)
 absent w (edit.Withdraw prefix a) = if has_prefix w prefix then (if announces w.plan prefix a then None else Some (refused.AbsentAnnouncement prefix a)) else Some (refused.UnknownPrefix prefix)
 absent w e = None
@@ -51,7 +50,7 @@ absent w e = None
 abbrev pub passed_limit : World → Option EditLimit
 passed_limit w =
     if nat_lt 1500000 (fin.len w.links) then Some Links
-    else (if nat_lt 64 (fin.len w.plan.announced) then Some Announcements else (if nat_lt 150000 (as_count (topology w)) then Some Ases else (if nat_lt 2000000 (count w.payloads) then Some Vrps else None)))
+    else (if nat_lt 64 (fin.len w.plan.announced) then Some Announcements else (if nat_lt 150000 (as_count (topology w)) then Some Ases else (if nat_lt 2000000 (fin.len w.payloads) then Some Vrps else None)))
 
 -- the limit that is passed, as a refusal
 abbrev pub over_limit : Option EditLimit → Option EditError

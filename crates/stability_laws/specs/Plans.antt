@@ -1,12 +1,11 @@
 -- Who announces what, and who leaks in which round.
-use Rattle.std.specs.Prelude.{◌≡◌, ℕ, ◌<◌, ◌≤◌, Bool, ◌==◌, is_some, IsTrue, Option, Some, List, map, filter, length, slice_get, refl}
+use Rattle.std.specs.Prelude.{◌≡◌, ℕ, ◌<◌, ◌≤◌, Bool, ◌==◌, is_some, IsTrue, Option, Some, List, map, filter, length, slice_get, refl, slice_index}
 use Rattle.std.specs.declared.cmp.Ordering.{Ordering}
 use Rattle.std.specs.declared.cmp.Ordering.TheVariants.{Less}
 use Rattle.std.specs.Ordering.{nat_cmp, ordering_then}
 use Rattle.std.specs.FinMap as fin
 use Rattle.std.specs.FinSet as set
 use Rattle.std.specs.Coded.{Coded, code_by, coded×, coded_ℕ, coded_list}
-use Rattle.net_names.specs.Numbers.{first_or}
 use Rattle.net_names.specs.Prefixes.{PrefixValue, prefix_code, prefix_cmp}
 use Rattle.net_names.specs.Links.{pair_cmp}
 
@@ -49,7 +48,7 @@ empty_plan = record { prefixes = fin.empty; announced = fin.empty; leakers = fin
 
 -- a path is announced by its first AS (RFC 4271, section 5.1.2)
 abbrev pub announcer_of : List ℕ → ℕ
-announcer_of path = first_or 0 path
+announcer_of path = slice_index path 0
 
 -- the plan in which the first AS of the path announces the path of the prefix too
 abbrev pub with_announcement : Plan → PrefixValue → List ℕ → Plan

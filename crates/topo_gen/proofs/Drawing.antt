@@ -4,7 +4,7 @@ use Rattle.std.specs.FinMap as fin
 use Rattle.net_names.specs.Links.{LinkMap}
 use Rattle.net_names.specs.declared.routes.Rel.TheVariants.{Customer, Peer}
 use Rattle.topo_gen.specs.Draws.{next, word}
-use Rattle.topo_gen.specs.Drawn.{Drawn, below, joined, first_peers, drawn_links, peers_below, with_as, with_ases, with_peer, with_provider, with_providers}
+use Rattle.topo_gen.specs.Drawn.{Drawn, below, joined, first_peers, drawn_links, peers_below, with_as, with_ases, with_peer, with_providers}
 
 pub no_peers : (a : ℕ) (links : LinkMap) → links ≡ peers_below a 0 links
 unfolding peers_below
@@ -22,13 +22,17 @@ pub more_first : (k count : ℕ) (now after : LinkMap) → now ≡ first_peers k
 unfolding first_peers
 more_first k count now after h same e = e ∙ ap₂ (peers_below (k + 1)) same h ∙ rw add-one refl
 
+-- a word is drawn, and the AS that it picks becomes a provider of a
+abbrev with_provider : ℕ → Drawn → Drawn
+with_provider a d = record { links = joined (below a (word d.state)) a Customer d.links; state = next d.state }
+
 pub no_providers : (a : ℕ) (d : Drawn) → d ≡ with_providers a 0 d
 unfolding with_providers
 no_providers a d = refl
 
 pub more_providers : (a k picked w : ℕ) (start now : Drawn) (links : LinkMap) (state : ℕ) → now ≡ with_providers a k start
     → w ≡ word now.state → picked ≡ below a w → links ≡ joined picked a Customer now.links → state ≡ next now.state → record { links = links; state = state } ≡ with_providers a (k + 1) start
-unfolding with_providers with_provider
+unfolding with_providers
 more_providers a k picked w start now links state h w_is picked_is links_is state_is =
     let made : record { links = links; state = state } ≡ with_provider a now = rw (links_is, state_is, picked_is, w_is) refl in
     made ∙ ap (with_provider a) h ∙ rw add-one refl

@@ -1,6 +1,7 @@
 -- The numbers from 1 on, the policies of these ASes, and the leakers among them.
 use Rattle.std.proofs.Common.{◌≡◌, ◌≢◌, ◌∙◌, ◌≤◌, ◌+◌, ◌*◌, ◌%◌, ℕ, zero, suc, Bool, true, false, List, [], ◌∷◌, ◌++◌, length, map, filter, slice_index_or, slice_get, add-one, ap, refl, sym, arith}
 use Rattle.std.specs.List.{All}
+use Rattle.std.specs.Prelude.{◌==◌}
 use Rattle.std.specs.FinMap as fin
 use Rattle.std.proofs.lemmas.List.{length-append, map-append, append_assoc, append-nil}
 use Rattle.std.proofs.lemmas.Bool.{eqb-true}
@@ -8,8 +9,12 @@ use Rattle.std.proofs.lemmas.List.Elements.{All-nil, All-cons, All-append, All-m
 use Rattle.policy_kinds.specs.declared.kind.Kind.{Kind}
 use Rattle.net_names.specs.Links.{LinkMap}
 use Rattle.scenario_text.specs.LineValues.{LineValue}
-use Rattle.topo_gen.specs.Scenarios.{kind_of, leaks, up_to}
+use Rattle.topo_gen.specs.Scenarios.{kind_of, up_to}
 use Rattle.topo_gen.specs.Lines.{cut_and_join, edits}
+
+-- the AS leaks in round 2
+abbrev pub leaks : ℕ → Bool
+leaks a = a % 100 == 50
 
 pub more : (k : ℕ) → up_to (k + 1) ≡ up_to k ++ (k + 1) ∷ []
 unfolding up_to

@@ -29,14 +29,10 @@ pub record Drawn : Type 0 where
 abbrev pub below : ℕ → ℕ → ℕ
 below a w = 1 + w % (a - 1)
 
--- a word is drawn, and the AS that it picks becomes a provider of a (own format)
-unfoldable pub with_provider : ℕ → Drawn → Drawn
-with_provider a d = record { links = joined (below a (word d.state)) a Customer d.links; state = next d.state }
-
--- so many providers of a are drawn; one that is drawn again adds nothing (own format)
+-- so many words are drawn, and the AS that each picks becomes a provider of a; one that is drawn again adds nothing (own format)
 unfoldable pub with_providers : ℕ → ℕ → Drawn → Drawn
 with_providers a zero d = d
-with_providers a (suc k) d = with_provider a (with_providers a k d)
+with_providers a (suc k) d = let e = with_providers a k d in record { links = joined (below a (word e.state)) a Customer e.links; state = next e.state }
 
 -- a word is drawn; where 4 divides it, the AS that a further word picks becomes a peer of a (own format)
 unfoldable pub with_peer : ℕ → Drawn → Drawn

@@ -1,12 +1,12 @@
 -- The scenario and the payloads of a generated input (own format).
-use Rattle.std.specs.Prelude.{ℕ, zero, suc, ◌+◌, ◌/◌, ◌%◌, ◌==◌, Bool, List, [], ◌∷◌, ◌++◌, if◌then◌else◌, map, filter, min}
+use Rattle.std.specs.Prelude.{ℕ, zero, suc, ◌+◌, ◌/◌, ◌%◌, ◌==◌, List, [], ◌∷◌, ◌++◌, if◌then◌else◌, map, filter, min}
+use Rattle.std.specs.FinMap as fin
 use Rattle.net_names.specs.Addresses.{AddrValue}
 use Rattle.net_names.specs.Prefixes.{PrefixValue}
-use Rattle.net_names.specs.Payloads.{VrpValue}
 use Rattle.net_names.specs.declared.addresses.Family.TheVariants.{V4}
 use Rattle.policy_kinds.specs.declared.kind.Kind.{Kind}
 use Rattle.policy_kinds.specs.declared.kind.Kind.TheVariants.{Plain, DropInvalid, PreferValid, ProviderFirst}
-use Rattle.roa_table.specs.Sets.{Payloads, added, no_payloads}
+use Rattle.roa_table.specs.Sets.{Payloads}
 use Rattle.scenario_text.specs.Scenarios.{ScenarioValue}
 use Rattle.scenario_text.specs.declared.scenario.Announcement.{Announcement}
 
@@ -18,10 +18,6 @@ up_to (suc n) = up_to n ++ suc n ∷ []
 -- 10.0.0.0/8
 abbrev pub whole : PrefixValue
 whole = record { family = V4; addr = 167772160; len = 8 }
-
--- 10.0.0.0/9
-abbrev pub half : PrefixValue
-half = record { family = V4; addr = 167772160; len = 9 }
 
 -- 10.0.0.1
 abbrev pub low_addr : AddrValue
@@ -39,23 +35,15 @@ own prefix a = record { prefix = prefix; asn = a; path = a ∷ [] }
 abbrev pub kind_of : ℕ → Kind
 kind_of a = if a % 3 == 0 then DropInvalid else (if a % 5 == 0 then PreferValid else (if a % 7 == 0 then ProviderFirst else Plain))
 
--- the AS leaks in round 2
-abbrev pub leaks : ℕ → Bool
-leaks a = a % 100 == 50
-
--- AS n announces 10.0.0.0/8 and the AS in the middle half of it; each AS has the policy of its number; of the ASes up to 5,000 some leak in round 2; an address of each half is watched
+-- AS n announces 10.0.0.0/8, and the AS in the middle 10.0.0.0/9, the half of it; each AS has the policy of its number; of the ASes up to 5,000 each hundredth leaks in round 2, from 50 on; an address of each half is watched
 abbrev pub drawn_scenario : ℕ → ScenarioValue
 drawn_scenario n = record {
-  announcements = own whole n ∷ own half (1 + n / 2) ∷ [];
+  announcements = own whole n ∷ own (record whole { len = 9 }) (1 + n / 2) ∷ [];
   policies = map (λ a. (a, kind_of a)) (up_to n);
-  leaks = filter leaks (up_to (min n 5000)) ∷ [];
+  leaks = filter (λ a. a % 100 == 50) (up_to (min n 5000)) ∷ [];
   watch = low_addr ∷ high_addr ∷ [];
 }
 
--- AS n may announce 10.0.0.0/8, and nothing longer
-abbrev pub own_payload : ℕ → VrpValue
-own_payload n = record { prefix = whole; max = 8; asn = n }
-
--- that payload alone
+-- one payload alone: AS n may announce 10.0.0.0/8, and nothing longer
 abbrev pub drawn_payloads : ℕ → Payloads
-drawn_payloads n = added no_payloads (own_payload n)
+drawn_payloads n = fin.insert fin.empty (record { prefix = whole; max = 8; asn = n }) tt

@@ -1,6 +1,6 @@
 //! The scenario and the payloads of a generated input.
-ghost use Rattle.std.specs.Prelude.{◌≡◌, ◌<◌, ◌≤◌, ◌+◌, ◌∷◌, [], IfOk, OnOk, map, filter, min};
-ghost use Rattle.topo_gen.specs.Scenarios.{drawn_payloads, drawn_scenario, half as half_prefix, high_addr as high_address, kind_of as kind_by, leaks as is_leaker, low_addr as low_address, own, up_to, whole as whole_prefix};
+ghost use Rattle.std.specs.Prelude.{◌≡◌, ◌<◌, ◌≤◌, ◌+◌, ◌%◌, ◌==◌, ◌∷◌, [], IfOk, OnOk, map, filter, min};
+ghost use Rattle.topo_gen.specs.Scenarios.{drawn_payloads, drawn_scenario, high_addr as high_address, kind_of as kind_by, low_addr as low_address, own, up_to, whole as whole_prefix};
 ghost use Rattle.scenario_text.specs.Scenarios.{nothing};
 
 use crate::links::as_of;
@@ -22,7 +22,7 @@ fn whole() -> Prefix
 
 // 10.0.0.0/9.
 fn half() -> Prefix
-    ensures { result ≡ half_prefix }
+    ensures { result ≡ record whole_prefix { len = 9 } }
 {
     let Some(prefix) = Prefix::new(Family::V4, 167_772_160, 9) else {
         unreachable!();
@@ -101,8 +101,8 @@ fn set_policies(scenario: &mut Scenario, n: u32) -> Result<(), NoMemory>
 // Makes the AS of the number after `k` leak in round 2, if it is one that does.
 fn leak(scenario: &mut Scenario, k: u32) -> Result<(), NoMemory>
     requires few { k < 5000 }
-    requires leaks { scenario.old.leaks ≡ filter is_leaker (up_to k) ∷ [] }
-    ensures { OnOk result (scenario.new ≡ record scenario.old { leaks = filter is_leaker (up_to (k + 1)) ∷ [] }) }
+    requires leaks { scenario.old.leaks ≡ filter (λ a. a % 100 == 50) (up_to k) ∷ [] }
+    ensures { OnOk result (scenario.new ≡ record scenario.old { leaks = filter (λ a. a % 100 == 50) (up_to (k + 1)) ∷ [] }) }
 {
     let number = k + 1;
     if number % 100 != 50 {
@@ -115,7 +115,7 @@ fn leak(scenario: &mut Scenario, k: u32) -> Result<(), NoMemory>
 fn leak_all(scenario: &mut Scenario, n: u32) -> Result<(), NoMemory>
     requires few { n ≤ 5000 }
     requires none { scenario.old.leaks ≡ [] }
-    ensures { OnOk result (scenario.new ≡ record scenario.old { leaks = filter is_leaker (up_to n) ∷ [] }) }
+    ensures { OnOk result (scenario.new ≡ record scenario.old { leaks = filter (λ a. a % 100 == 50) (up_to n) ∷ [] }) }
 {
     scenario.new_round()?;
     'ases: for k in 0..n {

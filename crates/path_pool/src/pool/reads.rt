@@ -1,7 +1,7 @@
 //! What a pool tells. No call here changes it.
 
-ghost use Rattle.net_names.specs.Numbers.{first_or, last_or, occurs};
-ghost use Rattle.std.specs.Prelude.{◌≡◌, ◌+◌, ◌<◌, ◌≤◌, ◌∷◌, length, IfSome, IfOk};
+ghost use Rattle.net_names.specs.Numbers.{last_or, occurs};
+ghost use Rattle.std.specs.Prelude.{◌≡◌, ◌+◌, ◌<◌, ◌≤◌, ◌∷◌, length, IfSome, IfOk, slice_index};
 
 use super::PathPool;
 use crate::PathId;
@@ -38,7 +38,7 @@ impl PathPool {
     pub fn head(&self, id: PathId) -> Asn
         requires { IsLive self.now id.0 }
         ensures value { result ≡ head_of self.now id.0 }
-        ensures first { result ≡ first_or 0 (list_of self.now id.0) }
+        ensures first { result ≡ slice_index (list_of self.now id.0) 0 }
     {
         self.cells[id.0 as usize].head
     }

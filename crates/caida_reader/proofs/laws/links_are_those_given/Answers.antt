@@ -2,15 +2,17 @@ use Rattle.std.proofs.Common.{◌≡◌, ℕ, suc, List, [], take, Contains, IsP
 use Rattle.std.proofs.lemmas.List.Sorted.{IsPermutation-map, IsPermutation-sym, All-permutation, Contains-permutation}
 use Rattle.std.specs.FinMap.{find, get, get-from_entries, same_map}
 use Rattle.net_names.specs.Links.{pair_cmp, LinkMap}
+use Rattle.net_names.specs.Texts.{fields}
 use Rattle.net_names.proofs.Pairs.{exact_pair, pairs_total}
 use Rattle.net_names.specs.declared.routes.Rel.{Rel}
-use Rattle.caida_reader.specs.Lines.{lines}
 use Rattle.caida_reader.specs.Says.{says}
-use Rattle.caida_reader.specs.Value.{said_in, links_given, links_in, first_fault, unless}
+use Rattle.caida_reader.specs.Value.{said_in, links_in}
+use Rattle.net_names.specs.Steps.{unless}
 use Rattle.caida_reader.specs.Laws.{HasLinks, line_of}
 use Rattle.caida_reader.specs.declared.line.Said.{Said}
 use Rattle.caida_reader.specs.declared.line.Said.TheVariants.{Unreadable, Itself, Link}
 use Rattle.caida_reader.specs.declared.errors.RelError.{RelError}
+use Rattle.caida_reader.proofs.Values.{first_fault, links_given, links_in-given}
 use Rattle.caida_reader.proofs.Given.{found_is_given, missing_is_not_given}
 use Rattle.caida_reader.proofs.Accepted.{nothing_has_links, HasLinks-from_faultless, faultless_of_HasLinks}
 use Rattle.caida_reader.proofs.Causes.{cause}
@@ -47,7 +49,7 @@ pub returns-clause-given : goal.returns-clause-given
 returns-clause-given c = λ bytes links is lo hi rel.
     let said = said_in bytes in
     let parts = ok_parts (first_fault [] said) (links_in said) links is in
-    let got : get links (lo, hi) ≡ find pair_cmp (lo, hi) (links_given said) = ap (λ (m : LinkMap). get m (lo, hi)) (sym parts.1) ∙ get-from_entries pairs_total (links_given said) (lo, hi) in (
+    let got : get links (lo, hi) ≡ find pair_cmp (lo, hi) (links_given said) = ap (λ (m : LinkMap). get m (lo, hi)) (sym parts.1 ∙ links_in-given said) ∙ get-from_entries pairs_total (links_given said) (lo, hi) in (
       λ h. found_is_given said lo hi rel (sym got ∙ h),
       λ given. got ∙ found_if_given said (has_links said parts.0) lo hi rel given (find pair_cmp (lo, hi) (links_given said)) refl,
     )
@@ -66,8 +68,11 @@ module _ (said others : List Said) (perm : IsPermutation said others) (h : HasLi
   same_find lo hi (Some rel) is = found_if_given said h lo hi rel (Contains-permutation others said (Link lo hi rel) back (found_is_given others lo hi rel is)) (find pair_cmp (lo, hi) (links_given said)) refl
 
   same_links : links_in others ≡ links_in said
-  same_links = same_map pairs_total exact_pair _ _ (λ q.
+  same_links =
+      links_in-given others
+      ∙ same_map pairs_total exact_pair _ _ (λ q.
       get-from_entries pairs_total (links_given others) q ∙ sym (same_find q.0 q.1 (find pair_cmp q (links_given others)) refl) ∙ sym (get-from_entries pairs_total (links_given said) q))
+      ∙ sym (links_in-given said)
 
   others_have_links : HasLinks others
   others_have_links = record {
@@ -81,7 +86,7 @@ pub returns-clause-any_order : goal.returns-clause-any_order
 returns-clause-any_order c = λ bytes others links perm is.
     let said = said_in bytes in
     let parts = ok_parts (first_fault [] said) (links_in said) links is in
-    let moved = IsPermutation-map says (lines bytes) (lines others) perm in
+    let moved = IsPermutation-map says (fields 10 bytes) (fields 10 others) perm in
     let h = has_links said parts.0 in
     rw (faultless_of_HasLinks [] (said_in others) (others_have_links said (said_in others) moved h))
     (ap (λ (m : LinkMap). Ok m) (same_links said (said_in others) moved h ∙ parts.1))

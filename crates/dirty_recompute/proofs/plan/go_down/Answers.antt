@@ -5,7 +5,7 @@ use Rattle.route_choice.specs.Routings.{routing_of, seed_of, seeds_of, table_rou
 use Rattle.route_choice.specs.Tables.{prefix_of}
 use Rattle.dirty_recompute.specs.NewRanks.{rank_of}
 use Rattle.dirty_recompute.specs.Resources.{has_change}
-use Rattle.dirty_recompute.proofs.Going.{can_turn}
+use Rattle.dirty_recompute.proofs.Going.{can_turn, kept_more}
 use Rattle.dirty_recompute.proofs.Loops.{AreLaws, finish, enough_from}
 use Rattle.dirty_recompute.proofs.Ways.{down_start, downward_next, settled, few_turns_down}
 use Rattle.dirty_recompute.proofs.plan.go_down.Goals as goal
@@ -55,6 +55,10 @@ loop-asn-smaller g c =
     let step : c.turn_down.new.steps ≡ c.loop-asn.steps + 1 = c.in_ok-turn_down.ensures.cost in
     let less : c.args.steps.now + length (c.args.touched.now ++ ases c.args.graph.now) - c.turn_down.new.steps < c.args.steps.now + length (c.args.touched.now ++ ases c.args.graph.now) - c.loop-asn.steps = omega (arith, few, after, step) in
     less
+
+pub returns-in_err-turn_down-clause-kept : goal.returns-in_err-turn_down-clause-kept
+returns-in_err-turn_down-clause-kept g c =
+    kept_more c.args.pool.now c.loop-asn.pool c.turn_down.new.pool c.args.seeds.now c.args.overlay.now c.loop-asn.overlay c.turn_down.new.overlay c.loop-asn.invariant.kept c.in_err-turn_down.ensures.kept
 
 pub returns-clause-exact : goal.returns-clause-exact
 returns-clause-exact g c =

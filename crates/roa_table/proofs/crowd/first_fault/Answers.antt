@@ -1,8 +1,8 @@
 use Rattle.std.proofs.Common.{[], subst, ap}
 use Rattle.csv.specs.Reading.{records, default_config, strip_bom}
 use Rattle.csv.specs.Records.{fields_of}
-use Rattle.roa_table.specs.Files.{first_fault}
 use Rattle.roa_table.specs.Standing.{GoesOn}
+use Rattle.roa_table.proofs.Gathered.{first_fault}
 use Rattle.roa_table.proofs.Reading.{no_rows}
 use Rattle.roa_table.proofs.Admitted.{no_value, start_admitting, none_faulty, admitted_fault, admitted_on}
 use Rattle.roa_table.proofs.crowd.first_fault.Goals as goal

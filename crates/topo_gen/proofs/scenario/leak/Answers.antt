@@ -3,8 +3,8 @@ use Rattle.std.specs.List.{All}
 use Rattle.scenario_text.specs.Scenarios.{last_leakers}
 use Rattle.std.proofs.lemmas.Bool.{eq-eqb, ne_eqb}
 use Rattle.std.proofs.lemmas.Result.{on_ok_weaker}
-use Rattle.topo_gen.specs.Scenarios.{leaks, up_to}
-use Rattle.topo_gen.proofs.UpTo.{few, new_leaker, no_more, one_more}
+use Rattle.topo_gen.specs.Scenarios.{up_to}
+use Rattle.topo_gen.proofs.UpTo.{leaks, few, new_leaker, no_more, one_more}
 use Rattle.topo_gen.proofs.scenario.leak.Goals as goal
 
 pub returns-then-number-ne50 : goal.returns-then-number-ne50

@@ -1,5 +1,6 @@
 use Rattle.std.proofs.Common.{◌≡◌, [], ◌∷◌, filter}
-use Rattle.topo_gen.specs.Scenarios.{leaks, up_to}
+use Rattle.topo_gen.specs.Scenarios.{up_to}
+use Rattle.topo_gen.proofs.UpTo.{leaks}
 use Rattle.topo_gen.proofs.scenario.leak_all.Given as goal
 
 abbrev pub invariant-ases : goal.invariant-ases
