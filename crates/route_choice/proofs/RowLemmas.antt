@@ -1,6 +1,6 @@
 -- Entries of ASes at places, with those beside.
 use Rattle.std.proofs.Common.{◌≡◌, ◌≢◌, ℕ, zero, suc, ◌+◌, ◌-◌, ◌<◌, ◌≤◌, Bool, true, false, cond, ◌||◌, ◌==◌, List, [], ◌∷◌, ◌++◌, length, get_or, slice_get, map, replicate, set, Option, Some, None, is_some, option_map, unwrap_or, nat_eq, refl, ap, sym, subst, ◌∙◌, true≢false, arith, inl, inr, length-append}
-use Rattle.std.specs.Prelude.{IsSome}
+use Rattle.std.specs.Prelude.{IsSome, IfSome}
 use Rattle.std.specs.List.{sum_by, zip, IsDistinct}
 use Rattle.std.specs.Map.{keys_of, values_of, lookup}
 use Rattle.std.proofs.lemmas.Bool.{cases_lt}
@@ -170,6 +170,10 @@ module _ (ases : List ℕ) (rows : List Slot) (es : List (ℕ × Option Held)) (
 -- what was read at an index stands at its AS
 pub slot_read : (es : List (ℕ × Option Held)) (i a : ℕ) (v : Option Held) → IsDistinct nat_eq (keys_of es) → slice_get es i ≡ Some (a, v) → lookup (nat_eq a) es ≡ Some v
 slot_read es i a v apart read = lookup_from_place nat_eq_equiv es i a v apart read
+
+pub read_slot : (es : List (ℕ × Option Held)) (i : ℕ) (o : Option (ℕ × Option Held)) → IsDistinct nat_eq (keys_of es) → slice_get es i ≡ o → IfSome o (λ e. lookup (nat_eq e.0) es ≡ Some e.1)
+read_slot es i None apart read = tt
+read_slot es i (Some e) apart read = slot_read es i e.0 e.1 apart read
 
 -- where all slots are empty and nothing stands beside, there is no entry at each place
 module _ (ases : List ℕ) (rows : List Slot) (es : List (ℕ × Option Held)) (apart : IsDistinct nat_eq ases) (empty : rows ≡ replicate (length ases) Empty) (none : es ≡ []) where

@@ -135,3 +135,9 @@ occurs-keys (e ∷ es) a = elim (cases_eq e.0 a) [
   | inl same ↦ rw (eq-eqb e.0 a same, eq-eqb a e.0 (sym same)) refl
   | inr apart ↦ rw (ne_eqb e.0 a apart, ne_eqb a e.0 (λ q. apart (sym q))) (occurs-keys es a)
 ]
+
+-- a change over nothing
+pub over_nothing : (es : List (ℕ × Option Held)) (o : Option (Option Held)) (a : ℕ) → length es ≡ 0 → unwrap_or o None ≡ over o (unwrap_or (lookup (nat_eq a) es) None)
+over_nothing [] None a e = refl
+over_nothing [] (Some v) a e = refl
+over_nothing (x ∷ xs) o a e = absurd (omega (arith, e))

@@ -9,6 +9,7 @@ mod beside;
 mod best;
 mod choice;
 mod choosing;
+mod first;
 mod held;
 mod looks;
 mod overlay;

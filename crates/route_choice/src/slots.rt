@@ -7,10 +7,9 @@ ghost use Rattle.route_choice.specs.Slots.{slot_at, entry_at, keys, over, use_of
 ghost use Rattle.route_choice.specs.Holds.{GivesBack};
 
 use crate::Held;
-use crate::beside::exchange;
+use crate::first::Beside;
 use crate::slot::Slot;
 use as_places::AsPlaces;
-use indexmap::IndexMap;
 use net_names::{Asn, NoMemory};
 use path_pool::PathPool;
 use std::alloc::Global;
@@ -20,26 +19,26 @@ use std::marker::Model;
 /// there is room.
 ///
 /// ASes that were there from the start have places, and each place a slot. Those that came later
-/// stand beside, in a hash table.
+/// stand beside.
 #[derive(Drop)]
 pub(crate) struct Slots {
     ases: AsPlaces,
     rows: Vec<Slot>,
-    beside: IndexMap<Asn, Option<Held>>,
+    beside: Beside,
 }
 
 impl Model for Slots {
     ghost use Rattle.std.specs.Prelude.{◌++◌};
-    ghost use Rattle.indexmap.specs.IndexMap.{spare as spare_beside};
     ghost use Rattle.route_choice.specs.Slots.{Slots as SlotList};
 
     ghost Value = { SlotList };
 
+    ghost use Rattle.route_choice.specs.Beside.{beside_entries, beside_spare};
     ghost use Rattle.route_choice.specs.Rows.{entries_at, AreByPlace};
 
-    ghost view = { λ s. record { entries = entries_at s.ases.ases s.rows.items ++ s.beside.entries; spare = spare_beside s.beside } };
+    ghost view = { λ s. record { entries = entries_at s.ases.ases s.rows.items ++ beside_entries s.beside; spare = beside_spare s.beside } };
 
-    ghost invariant = { λ s. AreByPlace s.ases.ases s.rows.items s.beside.entries };
+    ghost invariant = { λ s. AreByPlace s.ases.ases s.rows.items (beside_entries s.beside) };
 }
 
 impl Slots {
@@ -50,7 +49,7 @@ impl Slots {
         Slots {
             ases: AsPlaces::new(alloc),
             rows: Vec::new(alloc),
-            beside: IndexMap::new(alloc),
+            beside: Beside::new(alloc),
         }
     }
 
@@ -63,9 +62,7 @@ impl Slots {
         let Ok(rows) = Vec::from_elem(alloc, Slot::Empty, ases.len()) else {
             return Err(NoMemory);
         };
-        let Ok(beside) = IndexMap::with_capacity(alloc, more) else {
-            return Err(NoMemory);
-        };
+        let beside = Beside::with_room(alloc, more)?;
         Ok(Slots {
             ases: places,
             rows,
@@ -88,10 +85,7 @@ impl Slots {
         ensures succeeds { n ≤ self.old.spare → IsOk result }
         ensures same { self.new.entries ≡ self.old.entries }
     {
-        match self.beside.reserve(n) {
-            Ok(()) => Ok(()),
-            Err(_) => Err(NoMemory),
-        }
+        self.beside.room(n)
     }
 
     /// The AS at a place, and what stands at it.
@@ -101,10 +95,7 @@ impl Slots {
     {
         match self.ases.at(place) {
             Some(asn) => Some((asn, self.rows[place].entry())),
-            None => match self.beside.get_index(place - self.rows.len()) {
-                Some((asn, entry)) => Some((*asn, *entry)),
-                None => None,
-            },
+            None => self.beside.at(place - self.rows.len()),
         }
     }
 
@@ -115,7 +106,7 @@ impl Slots {
     {
         match self.ases.place_near(asn, place) {
             Some(found) => Some(self.rows[found].entry()),
-            None => self.beside.get(&asn).copied(),
+            None => self.beside.get(asn),
         }
     }
 
@@ -142,7 +133,16 @@ impl Slots {
                 self.rows[found] = Slot::of(entry);
                 old
             }
-            None => exchange(&mut self.beside, asn, entry),
+            None => self.beside.exchange(asn, place, entry),
+        }
+    }
+
+    // Where the AS at a place may stand in a table. It is a hint.
+    fn near(&self, place: usize) -> usize {
+        if place < self.rows.len() {
+            place
+        } else {
+            self.beside.near()
         }
     }
 }
@@ -159,8 +159,8 @@ pub(crate) fn let_go(pool: &mut PathPool, entry: Option<Held>)
     }
 }
 
-// Puts an entry, or none, at an AS, and gives back the hold of what stood there.
-fn replace(slots: &mut Slots, pool: &mut PathPool, asn: Asn, entry: Option<Held>)
+// Puts an entry, or none, at an AS, sought first at a place, and gives back the hold of what stood there.
+fn replace(slots: &mut Slots, pool: &mut PathPool, asn: Asn, place: usize, entry: Option<Held>)
     requires room { IsSome (slot_at slots.old asn) ⊎ (0 < slots.old.spare) }
     requires held { (k : ℕ) → uses_of slots.old k ≤ holds_of pool.old k }
     ensures this { slot_at slots.new asn ≡ Some entry }
@@ -169,7 +169,7 @@ fn replace(slots: &mut Slots, pool: &mut PathPool, asn: Asn, entry: Option<Held>
     ensures back { GivesBack pool.old pool.new }
     ensures spare { slots.old.spare ≤ slots.new.spare + 1 }
 {
-    let old = slots.exchange_near(asn, 0, entry);
+    let old = slots.exchange_near(asn, place, entry);
     let_go(pool, old);
 }
 
@@ -185,7 +185,7 @@ pub(crate) fn replace_all(slots: &mut Slots, changes: &Slots, pool: &mut PathPoo
         let Some(pair) = changes.at(place) else {
             unreachable!();
         };
-        replace(slots, pool, pair.0, pair.1);
+        replace(slots, pool, pair.0, changes.near(place), pair.1);
     }
 }
 
