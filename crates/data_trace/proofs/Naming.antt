@@ -1,11 +1,12 @@
 -- Columns of places, and the ASes that stand at them.
-use Rattle.std.proofs.Common.{◌≡◌, ◌⊎◌, inl, inr, ⊎_elim, ℕ, suc, ◌+◌, ◌<◌, ◌≤◌, true, false, ◌||◌, not, eqb, Option, Some, List, [], ◌∷◌, ◌++◌, length, refl, sym, ◌∙◌, ap, subst, arith, true≢false, IsTrue}
+use Rattle.std.proofs.Common.{◌≡◌, ◌⊎◌, inl, inr, ⊎_elim, ℕ, suc, ◌+◌, ◌<◌, ◌≤◌, true, false, ◌||◌, not, eqb, Option, Some, List, [], ◌∷◌, ◌++◌, length, refl, sym, ◌∙◌, ap, subst, arith, true≢false, IsTrue, option_map, ◌==◌}
 use Rattle.std.specs.Prelude.{nat_eq, ◌↔◌, All}
 use Rattle.std.specs.List.{list_any}
 use Rattle.std.proofs.lemmas.Bool.{cases_lt, cases_Bool, or_cases, or_right, eqb-true, eq-eqb}
 use Rattle.std.proofs.lemmas.List.{length_push, get_or_push, get_or_append_left, get_or_past}
 use Rattle.net_names.specs.declared.routes.Rel.{Rel}
 use Rattle.net_names.specs.declared.routes.Rel.TheVariants.{Customer, Peer, Provider}
+use Rattle.net_names.specs.Links.{converse}
 use Rattle.net_names.specs.Numbers.{occurs}
 use Rattle.net_names.specs.Addresses.{AddrValue}
 use Rattle.path_pool.specs.declared.pool.PathPool.{PathPool}
@@ -13,6 +14,8 @@ use Rattle.stability_laws.specs.Plans.{Plan}
 use Rattle.route_choice.specs.declared.round_tables.RoundTables.{RoundTables}
 use Rattle.route_choice.specs.RoundTables.{round_routing}
 use Rattle.as_graph.specs.declared.neighbour.Neighbour.{Neighbour}
+use Rattle.as_graph.specs.Topology.{Topology, what, has}
+use Rattle.as_graph.specs.Edits.{LinksAreSound}
 use Rattle.as_graph.specs.Neighbours.{AreNeighbours, asns}
 use Rattle.data_trace.specs.declared.kinds.Hop.{Hop}
 use Rattle.data_trace.specs.declared.places.PlaceHop.{PlaceHop}
@@ -102,3 +105,8 @@ module _ (what : ℕ → ℕ → Option Rel) (a : ℕ) where
 
       stub : IsStub what a → IsTrue (not (list_any (λ x. is_customer x.rel) xs))
       stub s = ⊎_elim (λ (e : list_any (λ x. is_customer x.rel) xs ≡ true). absurd (let q : (b : ℕ) × (what a b ≡ Some Customer) = found xs all.each e in s q.0 q.1)) (λ e. ap not e) (cases_Bool (list_any (λ x. is_customer x.rel) xs))
+
+-- an AS with a neighbour is an AS of the graph
+pub is_end : LinksAreSound → (w : Topology) (a : ℕ) (xs : List Neighbour) → AreNeighbours (what w) a xs → (length xs == 0) ≡ false → has w a ≡ true
+is_end sound w a [] near some = absurd (true≢false some)
+is_end sound w a (x ∷ xs) near some = sound.ends w x.asn a (converse x.rel) (sound.alike w a x.asn ∙ ap (option_map converse) (near.each 0 x (omega arith)))

@@ -14,7 +14,7 @@ use crate::forwarding::Forwarding;
 use crate::hints::Hints;
 use crate::packed::PackedHop;
 use crate::places::{Group, PlaceHop, Standing};
-use as_graph::{Graph, Neighbour};
+use as_graph::{Graph, Neighbour, links_are_sound};
 use as_places::AsPlaces;
 use net_names::{Addr, Asn, NoMemory, Rel};
 use path_pool::PathPool;
@@ -142,12 +142,20 @@ fn group_of<P: Labelled>(graph: &Graph, book: &Book<P>, asn: Asn, place: usize) 
     }
 }
 
-/// The groups of an AS, be it in the graph or not.
-pub fn group_now<P: Labelled>(graph: &Graph, book: &Book<P>, asn: Asn) -> Group
+/// Whether an AS is in the graph. Its row is sought first at a place.
+pub fn is_in(graph: &Graph, asn: Asn, place: usize) -> bool
+    ensures { result ≡ has graph.now asn }
+{
+    links_are_sound();
+    !graph.neighbours_near(asn, place).is_empty() || graph.has(asn)
+}
+
+/// The groups of an AS, be it in the graph or not. Its row is sought first at a place.
+pub fn group_now<P: Labelled>(graph: &Graph, book: &Book<P>, asn: Asn, place: usize) -> Group
     ensures { IsGroup graph.now (λ a. P.label_of (policy_at book.now a)) asn result }
 {
-    if graph.has(asn) {
-        group_of(graph, book, asn, 0)
+    if is_in(graph, asn, place) {
+        group_of(graph, book, asn, place)
     } else {
         Group {
             standing: Standing::Gone,

@@ -11,24 +11,53 @@ use path_pool::PathPool;
 use route_choice::{Held, RoundTables};
 use stability_laws::SeedPlan;
 
-// What an AS holds of a prefix.
-fn held(tables: &RoundTables, prefix: Prefix, asn: Asn) -> Option<Held>
+// What an AS holds of a prefix, sought first at a place.
+fn held(tables: &RoundTables, prefix: Prefix, asn: Asn, place: usize) -> Option<Held>
     ensures { result ≡ held_in tables.now prefix asn }
 {
-    tables.table(prefix)?.get(asn)
+    tables.table(prefix)?.get_near(asn, place)
 }
 
-// The best entry of an AS among the prefixes of the plan that hold the address.
-fn best_of_plan(tables: &RoundTables, plan: &SeedPlan, asn: Asn, addr: Addr) -> Option<Best>
+// The best entry of an AS among the prefixes of the plan that hold the address. It is sought first at a
+// place.
+fn best_of_plan(
+    tables: &RoundTables,
+    plan: &SeedPlan,
+    asn: Asn,
+    place: usize,
+    addr: Addr,
+) -> Option<Best>
     ensures { result ≡ best_in tables.now asn (holding plan.now addr) }
 {
     let mut best = None;
     for prefix in plan.prefixes() {
         if holds(*prefix, addr) {
-            best = Best::better(best, *prefix, held(tables, *prefix, asn));
+            best = Best::better(best, *prefix, held(tables, *prefix, asn, place));
         }
     }
     best
+}
+
+/// Where an AS sends a packet to the address, as [`next_hop`] gives it. Its entries are sought first at a
+/// place, which is a hint.
+pub fn next_hop_near(
+    tables: &RoundTables,
+    pool: &PathPool,
+    plan: &SeedPlan,
+    asn: Asn,
+    place: usize,
+    addr: Addr,
+) -> Hop
+    requires { AreAllLive pool.now tables.now }
+    ensures { result ≡ next_hop_of plan.now (round_routing pool.now tables.now) addr asn }
+{
+    Best::hop(
+        pool,
+        plan,
+        asn,
+        true,
+        best_of_plan(tables, plan, asn, place, addr),
+    )
 }
 
 /// Where an AS sends a packet to the address, in the round of the tables. It goes by the longest prefix
@@ -42,5 +71,5 @@ pub fn next_hop(tables: &RoundTables, pool: &PathPool, plan: &SeedPlan, asn: Asn
     requires { AreAllLive pool.now tables.now }
     ensures { result ≡ next_hop_of plan.now (round_routing pool.now tables.now) addr asn }
 {
-    Best::hop(pool, plan, asn, true, best_of_plan(tables, plan, asn, addr))
+    next_hop_near(tables, pool, plan, asn, 0, addr)
 }

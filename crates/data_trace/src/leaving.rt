@@ -84,8 +84,8 @@ fn same_hop(a: PlaceHop, b: PlaceHop) -> bool
     }
 }
 
-// Gives `a` the next hop of its AS. Where that differs from the one that is kept, takes it out of its
-// list and forgets its end.
+// Gives `a` the next hop of its AS, whose row is sought first at a place. Where that differs from the one
+// that is kept, takes it out of its list and forgets its end.
 fn detach_place(
     source: &Source,
     ases: &AsPlaces,
@@ -98,6 +98,7 @@ fn detach_place(
     groups: &[Group],
     queue: &mut Vec<u32>,
     a: u32,
+    row: usize,
 )
     requires inside { a < length hops.old }
     requires places { length hops.old ≡ length ases.now.ases }
@@ -125,7 +126,7 @@ fn detach_place(
         return;
     }
     let numbers = ases.as_slice();
-    let hop = source.hop(ases, numbers[a as usize]);
+    let hop = source.hop(ases, numbers[a as usize], row);
     if same_hop(hop, hop_in(hops, a)) {
         return;
     }
@@ -135,7 +136,8 @@ fn detach_place(
 }
 
 /// Gives the places of these ASes the next hops of their ASes. Takes those out of their lists whose next
-/// hops differ, and forgets their ends. An AS without a place is passed over.
+/// hops differ, and forgets their ends. An AS without a place is passed over. The place where the row of
+/// one of them stands is a hint.
 pub fn detach(
     source: &Source,
     ases: &AsPlaces,
@@ -148,6 +150,7 @@ pub fn detach(
     groups: &[Group],
     queue: &mut Vec<u32>,
     changed: &[Asn],
+    near: usize,
 )
     requires places { length hops.old ≡ length ases.now.ases }
     requires listed { (x : ℕ) → has source.now.graph.now x ≡ true → occurs x ases.now.ases ≡ true }
@@ -172,7 +175,8 @@ pub fn detach(
 {
     let _numbers = ases.as_slice();
     'changed: for asn in changed {
-        let Some(place) = ases.place(*asn) else {
+        let row = source.graph.place_near(*asn, near);
+        let Some(place) = ases.place_near(*asn, row) else {
             continue 'changed;
         };
         detach_place(
@@ -187,6 +191,7 @@ pub fn detach(
             groups,
             queue,
             place as u32,
+            row,
         );
     }
 }

@@ -28,7 +28,8 @@ use net_names::Asn;
 use policy_laws::Labelled;
 use stability_laws::Book;
 
-/// Puts the places of these ASes into their groups. An AS without a place is passed over.
+/// Puts the places of these ASes into their groups. An AS without a place is passed over. The place
+/// where the row of one of them stands is a hint.
 pub fn regroup<P: Labelled>(
     sums: &mut Sums,
     ases: &AsPlaces,
@@ -37,6 +38,7 @@ pub fn regroup<P: Labelled>(
     graph: &Graph,
     book: &Book<P>,
     regrouped: &[Asn],
+    near: usize,
 )
     requires few { length ases.now.ases < 4294967292 }
     requires counted { AreCounted sums.old ases.now.ases marks.now groups.old }
@@ -48,15 +50,17 @@ pub fn regroup<P: Labelled>(
     ensures sums_room { room_of sums.old ≤ room_of sums.new }
 {
     'regrouped: for asn in regrouped {
-        let Some(place) = ases.place(*asn) else {
+        let row = graph.place_near(*asn, near);
+        let Some(place) = ases.place_near(*asn, row) else {
             continue 'regrouped;
         };
-        let group = group_now(graph, book, *asn);
+        let group = group_now(graph, book, *asn, row);
         put_group(sums, ases.as_slice(), marks, groups, place as u32, group);
     }
 }
 
-// Gives the places of these ASes their new next hops, and finds the ends that this may change.
+// Gives the places of these ASes their new next hops, and finds the ends that this may change. The place
+// where the row of one of them stands is a hint.
 fn renew(
     source: &Source,
     sums: &mut Sums,
@@ -71,6 +75,7 @@ fn renew(
     path: &mut Vec<u32>,
     changed: &[Asn],
     regrouped: &[Asn],
+    near: usize,
 )
     requires few { length ases.now.ases < 4294967292 }
     requires listed { (a : ℕ) → has source.now.graph.now a ≡ true → occurs a ases.now.ases ≡ true }
@@ -95,10 +100,10 @@ fn renew(
 {
     queue.clear();
     detach(
-        source, ases, hops, first, before, after, sums, marks, groups, queue, changed,
+        source, ases, hops, first, before, after, sums, marks, groups, queue, changed, near,
     );
     detach(
-        source, ases, hops, first, before, after, sums, marks, groups, queue, regrouped,
+        source, ases, hops, first, before, after, sums, marks, groups, queue, regrouped, near,
     );
     let count = queue.len();
     let numbers = ases.as_slice();
@@ -109,7 +114,8 @@ fn renew(
     settle_each(sums, numbers, hops, marks, groups, path, places);
 }
 
-/// Gives the places of these ASes their new next hops, and finds the ends that this may change.
+/// Gives the places of these ASes their new next hops, and finds the ends that this may change. The place
+/// where the row of one of them stands is a hint.
 pub fn renew_all(
     source: &Source,
     sums: &mut Sums,
@@ -120,6 +126,7 @@ pub fn renew_all(
     lists: &mut Lists,
     changed: &[Asn],
     regrouped: &[Asn],
+    near: usize,
 )
     requires few { length ases.now.ases < 4294967292 }
     requires listed { (a : ℕ) → has source.now.graph.now a ≡ true → occurs a ases.now.ases ≡ true }
@@ -154,5 +161,6 @@ pub fn renew_all(
         &mut lists.path,
         changed,
         regrouped,
+        near,
     );
 }

@@ -7,8 +7,9 @@ ghost use Rattle.data_trace.specs.declared.places.PlaceHop.TheVariants as APlace
 ghost use Rattle.data_trace.specs.Watches.{StaysInside};
 ghost use Rattle.data_trace.specs.Columns.{named};
 
-use crate::columns::place_of;
-use crate::hops::next_hop;
+use crate::Hop;
+use crate::columns::{is_in, place_of};
+use crate::hops::next_hop_near;
 use crate::places::PlaceHop;
 use as_graph::Graph;
 use as_places::AsPlaces;
@@ -32,17 +33,28 @@ pub struct Source<'a> {
 impl<'a> Source<'a> {
     ghost use Rattle.data_trace.specs.Sources.{sends};
 
-    /// Where an AS of the graph sends, and no route of others.
-    pub fn hop(&self, ases: &AsPlaces, asn: Asn) -> PlaceHop
+    // Where the AS of a next hop may stand. It is a hint.
+    fn near(&self, hop: &Hop) -> usize {
+        match hop {
+            Hop::To(asn) => self.graph.place_near(*asn, 0),
+            Hop::Here => 0,
+            Hop::NoRoute => 0,
+        }
+    }
+
+    /// Where an AS of the graph sends, and no route of others. The place where its row and its entries
+    /// may stand is a hint.
+    pub fn hop(&self, ases: &AsPlaces, asn: Asn, place: usize) -> PlaceHop
         requires few { length ases.now.ases < 4294967292 }
         requires listed { (a : ℕ) → has self.now.graph.now a ≡ true → occurs a ases.now.ases ≡ true }
         ensures named { named ases.now.ases result ≡ sends self.now asn }
         ensures within { (y : ℕ) → result ≡ APlaceHop.To y → y < length ases.now.ases }
     {
-        if !self.graph.has(asn) {
+        if !is_in(self.graph, asn, place) {
             return PlaceHop::NoRoute;
         }
-        let hop = next_hop(self.tables, self.pool, self.plan, asn, self.addr);
-        place_of(ases, hop, 0)
+        let hop = next_hop_near(self.tables, self.pool, self.plan, asn, place, self.addr);
+        let near = self.near(&hop);
+        place_of(ases, hop, near)
     }
 }

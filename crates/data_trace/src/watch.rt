@@ -78,6 +78,14 @@ pub struct Watch {
     ghost sums_room: { has_lists ≡ true → length ases.ases + spare ≤ room_of sums },
 }
 
+// Where the row of the first of these ASes stands. It is a hint.
+fn row_of_first(graph: &Graph, ases: &[Asn]) -> usize {
+    match ases.first() {
+        Some(asn) => graph.place_near(*asn, 0),
+        None => 0,
+    }
+}
+
 impl Watch {
     ghost use Rattle.data_trace.specs.Views.{rows_of, addr_of, spare_of, SameColumns};
     ghost use Rattle.data_trace.specs.Indexes.{IsIndexOf, StaysAmong};
@@ -344,8 +352,9 @@ impl Watch {
         self.spare -= 1;
     }
 
-    // A place for each AS of the list that is in the graph and has none.
-    fn come(&mut self, graph: &Graph, coming: &[Asn])
+    // A place for each AS of the list that is in the graph and has none. The place where the row of one of
+    // them stands is a hint.
+    fn come(&mut self, graph: &Graph, coming: &[Asn], near: usize)
         requires { as_count graph.now ≤ self.old.spare }
         ensures comes { Comes graph.now coming.now self.old.ases.ases self.new.ases.ases }
         ensures addr { self.new.addr ≡ self.old.addr }
@@ -355,12 +364,12 @@ impl Watch {
     {
         let _all = graph.ases();
         'coming: for asn in coming {
-            if !graph.has(*asn) {
-                continue 'coming;
-            }
-            match self.ases.place(*asn) {
+            match self.ases.place_near(*asn, graph.place_near(*asn, near)) {
                 Some(_) => continue 'coming,
                 None => {}
+            }
+            if !graph.has(*asn) {
+                continue 'coming;
             }
             self.add_place(*asn);
         }
@@ -399,7 +408,8 @@ impl Watch {
             *self = Watch::of_none(self.alloc, self.addr);
             return;
         }
-        self.come(graph, regrouped);
+        let near = row_of_first(graph, regrouped);
+        self.come(graph, regrouped, near);
         regroup(
             &mut self.sums,
             &self.ases,
@@ -408,6 +418,7 @@ impl Watch {
             graph,
             book,
             regrouped,
+            near,
         );
         let source = Source {
             graph,
@@ -426,6 +437,7 @@ impl Watch {
             &mut self.lists,
             changed,
             regrouped,
+            near,
         );
     }
 
