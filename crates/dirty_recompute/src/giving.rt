@@ -143,6 +143,7 @@ fn take_away(
     table: &Table,
     overlay: &mut Overlay,
     asn: Asn,
+    place: usize,
     before: &Option<Held>,
 ) -> Result<bool, NoMemory>
     requires before { before.now ≡ joined table.now overlay.old asn }
@@ -158,7 +159,7 @@ fn take_away(
         return Ok(false);
     };
     overlay.room(1)?;
-    overlay.put(asn, None);
+    let _ = overlay.exchange_near(asn, place, None);
     Ok(true)
 }
 
@@ -188,7 +189,7 @@ pub(crate) fn give_chosen<P: RoutePolicy>(
         return Ok(false);
     }
     match chosen.choice {
-        Choice::Nothing => take_away(table, overlay, asn, before),
+        Choice::Nothing => take_away(table, overlay, asn, place, before),
         Choice::Seed | Choice::Via { .. } => {
             give_entry(book, seeds, pool, table, overlay, asn, place, chosen)
         }

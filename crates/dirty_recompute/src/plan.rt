@@ -45,7 +45,16 @@ fn queue_of(alloc: Global, ranks: &NewRanks, touched: &[Asn]) -> Result<Queue, N
     Ok(queue)
 }
 
-// From the touched ASes upwards, by rising rank. Answers who is to choose among all offers.
+// Where the row of the first of these ASes stands. It is a hint.
+fn row_of_first(graph: &Graph, ases: &[Asn]) -> usize {
+    match ases.first() {
+        Some(asn) => graph.place_near(*asn, 0),
+        None => 0,
+    }
+}
+
+// From the touched ASes upwards, by rising rank. Answers who is to choose among all offers. The place
+// where the row of one of them stands is a hint.
 fn go_up<P: RoutePolicy, V: OriginStates, L: Ledger>(
     alloc: Global,
     graph: &Graph,
@@ -57,6 +66,7 @@ fn go_up<P: RoutePolicy, V: OriginStates, L: Ledger>(
     table: &Table,
     overlay: &mut Overlay,
     touched: &[Asn],
+    near: usize,
     steps: &mut Steps<L>,
 ) -> Result<Queue, NoMemory>
     requires falls { (a b : ℕ) → what graph.now a b ≡ Some Customer → suc (rank_of ranks.now b) ≤ rank_of ranks.now a }
@@ -80,8 +90,8 @@ fn go_up<P: RoutePolicy, V: OriginStates, L: Ledger>(
     let mut whole = Queue::new(alloc);
     while let Some(asn) = up.pop_lowest() {
         turn_up(
-            graph, ranks, book, states, seeds, pool, table, overlay, asn, &mut up, &mut whole,
-            steps,
+            graph, ranks, book, states, seeds, pool, table, overlay, asn, near, &mut up,
+            &mut whole, steps,
         )?;
     }
     Ok(whole)
@@ -98,6 +108,7 @@ fn go_down<P: RoutePolicy, V: OriginStates, L: Ledger>(
     table: &Table,
     overlay: &mut Overlay,
     touched: &[Asn],
+    near: usize,
     whole: &mut Queue,
     steps: &mut Steps<L>,
 ) -> Result<(), NoMemory>
@@ -120,7 +131,7 @@ fn go_down<P: RoutePolicy, V: OriginStates, L: Ledger>(
     one_stable_routing::<P>();
     while let Some(asn) = whole.pop_highest() {
         turn_down(
-            graph, ranks, book, states, seeds, pool, table, overlay, asn, whole, steps,
+            graph, ranks, book, states, seeds, pool, table, overlay, asn, near, whole, steps,
         )?;
     }
     Ok(())
@@ -156,11 +167,12 @@ fn put_changes<P: RoutePolicy, V: OriginStates, L: Ledger>(
 {
     // there are few ASes, so no count of the pool can grow too great
     let _ = graph.as_count();
+    let near = row_of_first(graph, touched);
     let mut whole = go_up(
-        alloc, graph, ranks, book, states, seeds, pool, table, overlay, touched, steps,
+        alloc, graph, ranks, book, states, seeds, pool, table, overlay, touched, near, steps,
     )?;
     go_down(
-        graph, ranks, book, states, seeds, pool, table, overlay, touched, &mut whole, steps,
+        graph, ranks, book, states, seeds, pool, table, overlay, touched, near, &mut whole, steps,
     )?;
     table.room(overlay.len())?;
     Ok(())

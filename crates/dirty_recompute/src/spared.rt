@@ -79,7 +79,7 @@ fn is_rival<P: RoutePolicy, V: OriginStates>(
     let Some(rel) = graph.rel(neighbour, other) else {
         return false;
     };
-    let given = held_near(table, overlay, other, 0);
+    let given = held_near(table, overlay, other, graph.place_near(other, 0));
     let prefix = table.prefix();
     match view_but_for_loops(book, states, prefix, pool, other, neighbour, rel, given) {
         Some(offered) => {

@@ -38,6 +38,8 @@ pub(crate) struct Stepped {
     pub nothing: bool,
     /// What it held before.
     pub before: Option<Held>,
+    /// Where its row stands in the graph. It is a hint.
+    pub place: usize,
 }
 
 // Whether a choice is to hold nothing.
@@ -65,7 +67,8 @@ fn is_high(held: &Option<Held>) -> bool
 }
 
 /// A step upwards: the AS takes its seed or the best of its customers' offers. Where there is none, it
-/// gives up an Origin or Customer entry, and keeps another one. After a refusal it holds what it held.
+/// gives up an Origin or Customer entry, and keeps another one. After a refusal it holds what it held. The
+/// place where its row may stand is a hint.
 pub(crate) fn step_up<P: RoutePolicy, V: OriginStates, L: Ledger>(
     graph: &Graph,
     book: &Book<P>,
@@ -75,6 +78,7 @@ pub(crate) fn step_up<P: RoutePolicy, V: OriginStates, L: Ledger>(
     table: &Table,
     overlay: &mut Overlay,
     asn: Asn,
+    near: usize,
     steps: &mut Steps<L>,
 ) -> Result<Stepped, NoMemory>
     requires can { CanTurn pool.old seeds.now table.now overlay.old }
@@ -89,7 +93,7 @@ pub(crate) fn step_up<P: RoutePolicy, V: OriginStates, L: Ledger>(
     ensures kept { IsKept pool.old pool.new seeds.now overlay.old overlay.new }
     ensures refused { OnErr result (SameHeld pool.old pool.new table.now overlay.old overlay.new) }
 {
-    let place = graph.place_near(asn, 0);
+    let place = graph.place_near(asn, near);
     let before = held_near(table, overlay, asn, place);
     let chosen = evaluate_near(
         graph,
@@ -111,6 +115,7 @@ pub(crate) fn step_up<P: RoutePolicy, V: OriginStates, L: Ledger>(
             changed: false,
             nothing,
             before,
+            place,
         });
     }
     let changed = give_chosen(
@@ -120,11 +125,12 @@ pub(crate) fn step_up<P: RoutePolicy, V: OriginStates, L: Ledger>(
         changed,
         nothing,
         before,
+        place,
     })
 }
 
 /// A step over all offers: the AS takes its seed, or the best offer, or nothing. After a refusal it holds
-/// what it held.
+/// what it held. The place where its row may stand is a hint.
 pub(crate) fn step_whole<P: RoutePolicy, V: OriginStates, L: Ledger>(
     graph: &Graph,
     book: &Book<P>,
@@ -134,6 +140,7 @@ pub(crate) fn step_whole<P: RoutePolicy, V: OriginStates, L: Ledger>(
     table: &Table,
     overlay: &mut Overlay,
     asn: Asn,
+    near: usize,
     steps: &mut Steps<L>,
 ) -> Result<Stepped, NoMemory>
     requires can { CanTurn pool.old seeds.now table.now overlay.old }
@@ -149,7 +156,7 @@ pub(crate) fn step_whole<P: RoutePolicy, V: OriginStates, L: Ledger>(
     ensures refused { OnErr result (SameHeld pool.old pool.new table.now overlay.old overlay.new) }
 {
     one_answer::<P>();
-    let place = graph.place_near(asn, 0);
+    let place = graph.place_near(asn, near);
     let before = held_near(table, overlay, asn, place);
     let chosen = evaluate_near(
         graph,
@@ -172,11 +179,12 @@ pub(crate) fn step_whole<P: RoutePolicy, V: OriginStates, L: Ledger>(
         changed,
         nothing: false,
         before,
+        place,
     })
 }
 
-/// Whether a neighbour of an AS that held `before`, and has made a step, need not choose anew. It takes no
-/// memory.
+/// Whether a neighbour of an AS that held `before`, and has made a step, need not choose anew. The place
+/// where the row of the AS stands is a hint. It takes no memory.
 pub(crate) fn is_left<P: RoutePolicy, V: OriginStates>(
     graph: &Graph,
     book: &Book<P>,
@@ -186,6 +194,7 @@ pub(crate) fn is_left<P: RoutePolicy, V: OriginStates>(
     table: &Table,
     overlay: &Overlay,
     asn: Asn,
+    place: usize,
     before: Option<Held>,
     neighbour: Asn,
 ) -> bool
@@ -199,14 +208,14 @@ pub(crate) fn is_left<P: RoutePolicy, V: OriginStates>(
     if seeds.get(neighbour).is_some() {
         return true;
     }
-    let have = held_near(table, overlay, neighbour, 0);
+    let have = held_near(table, overlay, neighbour, graph.place_near(neighbour, 0));
     if may_be_over(pool, &have, &before) {
         return false;
     }
     let Some(rel) = graph.rel(neighbour, asn) else {
         return true;
     };
-    let now = held_near(table, overlay, asn, 0);
+    let now = held_near(table, overlay, asn, place);
     let prefix = table.prefix();
     match view_but_for_loops(book, states, prefix, pool, asn, neighbour, rel, now) {
         Some(view) => has_rival(

@@ -38,6 +38,7 @@ fn queue_one<P: RoutePolicy, V: OriginStates>(
     table: &Table,
     overlay: &Overlay,
     asn: Asn,
+    place: usize,
     before: &Option<Held>,
     neighbour: Neighbour,
     wanted: Rel,
@@ -58,6 +59,7 @@ fn queue_one<P: RoutePolicy, V: OriginStates>(
             table,
             overlay,
             asn,
+            place,
             *before,
             neighbour.asn,
         ) {
@@ -78,6 +80,7 @@ fn queue_those<P: RoutePolicy, V: OriginStates>(
     table: &Table,
     overlay: &Overlay,
     asn: Asn,
+    place: usize,
     before: &Option<Held>,
     neighbours: &[Neighbour],
     wanted: Rel,
@@ -90,8 +93,8 @@ fn queue_those<P: RoutePolicy, V: OriginStates>(
 {
     for neighbour in neighbours {
         queue_one(
-            graph, ranks, book, states, seeds, pool, table, overlay, asn, before, *neighbour,
-            wanted, queue,
+            graph, ranks, book, states, seeds, pool, table, overlay, asn, place, before,
+            *neighbour, wanted, queue,
         )?;
     }
     Ok(())
@@ -124,6 +127,7 @@ fn queue_around<P: RoutePolicy, V: OriginStates>(
     table: &Table,
     overlay: &Overlay,
     asn: Asn,
+    place: usize,
     before: &Option<Held>,
     changed: bool,
     up: &mut Queue,
@@ -136,7 +140,7 @@ fn queue_around<P: RoutePolicy, V: OriginStates>(
     ensures whole { OnOk result (AreQueued (rank_of ranks.now) whole.old whole.new (λ b. ((what graph.now asn b ≡ Some rel.Customer) ⊎ (what graph.now asn b ≡ Some rel.Peer)) × (changed ≡ true)) (IsLeft (setting P.meaning graph.now book.now (V.state_of states.now (prefix_of table.now))) (seeds_of pool.now seeds.now) (as_before pool.now table.now overlay.now asn before.now) (routing_of pool.now table.now overlay.now) asn)) }
 {
     if changed {
-        let near = graph.neighbours(asn);
+        let near = graph.neighbours_near(asn, place);
         queue_those(
             graph,
             ranks,
@@ -147,6 +151,7 @@ fn queue_around<P: RoutePolicy, V: OriginStates>(
             table,
             overlay,
             asn,
+            place,
             before,
             near,
             Rel::Provider,
@@ -162,6 +167,7 @@ fn queue_around<P: RoutePolicy, V: OriginStates>(
             table,
             overlay,
             asn,
+            place,
             before,
             near,
             Rel::Peer,
@@ -177,6 +183,7 @@ fn queue_around<P: RoutePolicy, V: OriginStates>(
             table,
             overlay,
             asn,
+            place,
             before,
             near,
             Rel::Customer,
@@ -197,6 +204,7 @@ fn queue_customers<P: RoutePolicy, V: OriginStates>(
     table: &Table,
     overlay: &Overlay,
     asn: Asn,
+    place: usize,
     before: &Option<Held>,
     changed: bool,
     whole: &mut Queue,
@@ -207,7 +215,7 @@ fn queue_customers<P: RoutePolicy, V: OriginStates>(
     ensures { OnOk result (AreQueued (rank_of ranks.now) whole.old whole.new (λ b. (what graph.now asn b ≡ Some rel.Customer) × (changed ≡ true)) (IsLeft (setting P.meaning graph.now book.now (V.state_of states.now (prefix_of table.now))) (seeds_of pool.now seeds.now) (as_before pool.now table.now overlay.now asn before.now) (routing_of pool.now table.now overlay.now) asn)) }
 {
     if changed {
-        let near = graph.neighbours(asn);
+        let near = graph.neighbours_near(asn, place);
         queue_those(
             graph,
             ranks,
@@ -218,6 +226,7 @@ fn queue_customers<P: RoutePolicy, V: OriginStates>(
             table,
             overlay,
             asn,
+            place,
             before,
             near,
             Rel::Customer,
@@ -227,8 +236,8 @@ fn queue_customers<P: RoutePolicy, V: OriginStates>(
     Ok(())
 }
 
-/// A turn upwards of an AS that is out of the queue. After a refusal the paths and the holds are still
-/// those of the table and the overlay.
+/// A turn upwards of an AS that is out of the queue. The place where its row may stand is a hint. After a
+/// refusal the paths and the holds are still those of the table and the overlay.
 pub(crate) fn turn_up<P: RoutePolicy, V: OriginStates, L: Ledger>(
     graph: &Graph,
     ranks: &NewRanks,
@@ -239,6 +248,7 @@ pub(crate) fn turn_up<P: RoutePolicy, V: OriginStates, L: Ledger>(
     table: &Table,
     overlay: &mut Overlay,
     asn: Asn,
+    near: usize,
     up: &mut Queue,
     whole: &mut Queue,
     steps: &mut Steps<L>,
@@ -250,7 +260,9 @@ pub(crate) fn turn_up<P: RoutePolicy, V: OriginStates, L: Ledger>(
     ensures paid { OnOk result (IsPaidFor pool.old pool.new (routing_of pool.old table.now overlay.old) (routing_of pool.new table.now overlay.new) asn) }
     ensures kept { IsKept pool.old pool.new seeds.now overlay.old overlay.new }
 {
-    let seen = step_up(graph, book, states, seeds, pool, table, overlay, asn, steps)?;
+    let seen = step_up(
+        graph, book, states, seeds, pool, table, overlay, asn, near, steps,
+    )?;
     queue_itself(ranks, whole, asn, seen.nothing)?;
     queue_around(
         graph,
@@ -262,6 +274,7 @@ pub(crate) fn turn_up<P: RoutePolicy, V: OriginStates, L: Ledger>(
         table,
         overlay,
         asn,
+        seen.place,
         &seen.before,
         seen.changed,
         up,
@@ -270,8 +283,8 @@ pub(crate) fn turn_up<P: RoutePolicy, V: OriginStates, L: Ledger>(
     Ok(())
 }
 
-/// A turn downwards of an AS that is out of the queue. After a refusal the paths and the holds are still
-/// those of the table and the overlay.
+/// A turn downwards of an AS that is out of the queue. The place where its row may stand is a hint. After a
+/// refusal the paths and the holds are still those of the table and the overlay.
 pub(crate) fn turn_down<P: RoutePolicy, V: OriginStates, L: Ledger>(
     graph: &Graph,
     ranks: &NewRanks,
@@ -282,6 +295,7 @@ pub(crate) fn turn_down<P: RoutePolicy, V: OriginStates, L: Ledger>(
     table: &Table,
     overlay: &mut Overlay,
     asn: Asn,
+    near: usize,
     whole: &mut Queue,
     steps: &mut Steps<L>,
 ) -> Result<(), NoMemory>
@@ -292,7 +306,9 @@ pub(crate) fn turn_down<P: RoutePolicy, V: OriginStates, L: Ledger>(
     ensures paid { OnOk result (IsPaidFor pool.old pool.new (routing_of pool.old table.now overlay.old) (routing_of pool.new table.now overlay.new) asn) }
     ensures kept { IsKept pool.old pool.new seeds.now overlay.old overlay.new }
 {
-    let seen = step_whole(graph, book, states, seeds, pool, table, overlay, asn, steps)?;
+    let seen = step_whole(
+        graph, book, states, seeds, pool, table, overlay, asn, near, steps,
+    )?;
     queue_customers(
         graph,
         ranks,
@@ -303,6 +319,7 @@ pub(crate) fn turn_down<P: RoutePolicy, V: OriginStates, L: Ledger>(
         table,
         overlay,
         asn,
+        seen.place,
         &seen.before,
         seen.changed,
         whole,
