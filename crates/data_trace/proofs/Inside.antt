@@ -1,16 +1,22 @@
 -- Next hops stay inside the graph.
 use Rattle.std.proofs.Common.{◌≡◌, ℕ, Bool, true, false, Option, Some, None, refl, cond, ap}
-use Rattle.std.specs.Prelude.{Result, Ok, Err, IfOk}
+use Rattle.std.specs.Prelude.{Result, Ok, Err, IfOk, if◌then◌else◌}
+use Rattle.std.specs.Option.{option_map_or}
 use Rattle.net_names.specs.Addresses.{AddrValue}
 use Rattle.net_names.specs.Prefixes.{PrefixValue}
 use Rattle.as_graph.specs.Topology.{Topology, has}
 use Rattle.stability_laws.specs.declared.entry.Entry.{Entry}
 use Rattle.stability_laws.specs.Plans.{Plan, announces}
-use Rattle.data_trace.specs.declared.kinds.Hop.TheVariants.{Here, To}
-use Rattle.data_trace.specs.Hops.{hop_to, second_of, hop_by, sent_by, next_hop}
+use Rattle.data_trace.specs.declared.kinds.Hop.{Hop}
+use Rattle.data_trace.specs.declared.kinds.Hop.TheVariants.{Here, To, NoRoute}
+use Rattle.data_trace.specs.Hops.{second_of, sent_by, next_hop}
 use Rattle.data_trace.specs.Watches.{StaysInside}
 
-to_some : (o : Option ℕ) (b : ℕ) → hop_to o ≡ To b → o ≡ Some b
+-- the next hop by a prefix, if there is one
+abbrev pub hop_by : Plan → (PrefixValue → ℕ → Option Entry) → ℕ → Option PrefixValue → Hop
+hop_by plan held a o = option_map_or (λ p. if announces plan p a then Here else option_map_or To (second_of (held p a)) NoRoute) o NoRoute
+
+to_some : (o : Option ℕ) (b : ℕ) → option_map_or To o NoRoute ≡ To b → o ≡ Some b
 to_some None b e = cc
 to_some (Some c) b e = let k : c ≡ b = cc in ap Some k
 
@@ -18,7 +24,7 @@ to_some (Some c) b e = let k : c ≡ b = cc in ap Some k
 pub next_there : (there : ℕ → Bool) (plan : Plan) (held : PrefixValue → ℕ → Option Entry) (addr : AddrValue) → ((p : PrefixValue) (a b : ℕ) → announces plan p a ≡ false → second_of (held p a) ≡ Some b → there b ≡ true) → (a b : ℕ) → next_hop plan held addr a ≡ To b → there b ≡ true
 next_there there plan held addr inside a b e = by (sent_by plan held addr a) e
   where
-    at : (p : PrefixValue) (v : Bool) → announces plan p a ≡ v → cond v Here (hop_to (second_of (held p a))) ≡ To b → there b ≡ true
+    at : (p : PrefixValue) (v : Bool) → announces plan p a ≡ v → cond v Here (option_map_or To (second_of (held p a)) NoRoute) ≡ To b → there b ≡ true
     at p true q e = cc
     at p false q e = inside p a b q (to_some (second_of (held p a)) b e)
 

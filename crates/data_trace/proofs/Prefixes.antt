@@ -1,6 +1,7 @@
 -- The best entry of the prefixes that hold an address is by the longest prefix of which there is an entry.
 use Rattle.std.proofs.Common.{◌≡◌, ℕ, Bool, true, false, Option, Some, None, List, [], ◌∷◌, refl, sym, ◌∙◌, ap, subst, cond}
 use Rattle.std.specs.Prelude.{fold, filter, is_some, IfSome, option_map, option_and_then, ◌&&◌, nat_lt}
+use Rattle.std.specs.Option.{option_map_or}
 use Rattle.net_names.specs.Addresses.{AddrValue}
 use Rattle.net_names.specs.Prefixes.{PrefixValue}
 use Rattle.net_names.specs.Coverage.{holds}
@@ -13,10 +14,11 @@ use Rattle.route_choice.specs.declared.round_tables.RoundTables.{RoundTables}
 use Rattle.route_choice.specs.Tables.{held_at}
 use Rattle.route_choice.specs.Routings.{entry_of, table_routing}
 use Rattle.route_choice.specs.RoundTables.{table_at, round_routing, AreAllLive}
-use Rattle.data_trace.specs.declared.kinds.Hop.TheVariants.{Here}
+use Rattle.data_trace.specs.declared.kinds.Hop.TheVariants.{Here, To, NoRoute}
 use Rattle.data_trace.specs.declared.best.Best.{Best}
-use Rattle.data_trace.specs.Hops.{longer, sent_by, hop_to, second_of, hop_by, next_hop}
+use Rattle.data_trace.specs.Hops.{longer, sent_by, second_of, next_hop}
 use Rattle.data_trace.specs.Best.{held_in, better_of, best_in, holding, hop_of}
+use Rattle.data_trace.proofs.Inside.{hop_by}
 
 -- ---- what is held, with its path and without
 
@@ -86,7 +88,7 @@ module _ (pool : PathPool) (tables : RoundTables) (a : ℕ) where
     where
       by : (o : Option Best) → ((b : Best) → o ≡ Some b → held_in tables b.prefix a ≡ Some b.held) → hop_by plan (round_routing pool tables) a (option_map (λ b. b.prefix) o) ≡ hop_of pool plan a o
       by None held = refl
-      by (Some b) held = ap (λ e. cond (announces plan b.prefix a) Here (hop_to (second_of e))) (entry_is b.prefix ∙ ap (option_map (entry_of pool)) (held b refl))
+      by (Some b) held = ap (λ e. cond (announces plan b.prefix a) Here (option_map_or To (second_of e) NoRoute)) (entry_is b.prefix ∙ ap (option_map (entry_of pool)) (held b refl))
 
   live_at : (p : PrefixValue) (h : Held) → AreAllLive pool tables → held_in tables p a ≡ Some h → IsLive pool h.path.0
   live_at p h live e = by (table_at tables p) refl e

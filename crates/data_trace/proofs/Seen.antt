@@ -17,7 +17,7 @@ use Rattle.data_trace.specs.declared.places.PlaceEnd.{PlaceEnd}
 use Rattle.data_trace.specs.declared.places.PlaceEnd.TheVariants as place_end
 use Rattle.data_trace.specs.declared.places.Mark.{Mark}
 use Rattle.data_trace.specs.declared.places.Mark.TheVariants.{Unknown, Walked, Known}
-use Rattle.data_trace.specs.Traces.{IsIn, IsTrace, HasEnd}
+use Rattle.data_trace.specs.Traces.{IsIn, IsTrace}
 use Rattle.data_trace.specs.Steps.{onward, reached, Ends}
 use Rattle.data_trace.specs.Marks.{as_hop, as_end, hop_at, next_of, mark_of, AreEnds}
 use Rattle.data_trace.specs.Columns.{name_at, named, named_end, told, fresh, AreHops}
@@ -97,7 +97,7 @@ key_same the_end.Loop the_end.NoRoute h = absurd (omega (arith, h))
 key_same the_end.Loop the_end.Loop h = refl
 
 pub end_told_is : (next : ℕ → Hop) (ases : List ℕ) (hops : List PlaceHop) (marks : List Mark) (x : ℕ) → ((a b : ℕ) → next a ≡ hop.To b → IsIn b ases) → AreEnds (next_of hops) (length hops) marks →
-    ((e : PlaceEnd) → Ends (next_of hops) x (as_end e) → Ends next (name_at ases x) (named_end ases e)) → x < length hops → HasEnd next (name_at ases x) (told ases (mark_of marks x))
+    ((e : PlaceEnd) → Ends (next_of hops) x (as_end e) → Ends next (name_at ases x) (named_end ases e)) → x < length hops → (xs : List ℕ) × IsTrace next (name_at ases x) xs (told ases (mark_of marks x))
 end_told_is next ases hops marks x closed ends carried l =
     let a : ℕ = name_at ases x in
     let t : HasTrace next a = trace_exists next ases closed a in

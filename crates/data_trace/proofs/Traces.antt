@@ -1,6 +1,6 @@
 -- Each AS has exactly one trace.
 use Rattle.std.proofs.Common.{◌≡◌, ◌⊎◌, inl, inr, ⊎_elim, ℕ, zero, suc, ◌+◌, ◌-◌, ◌<◌, ◌≤◌, Bool, true, false, ◌||◌, eqb, Some, List, [], ◌∷◌, ◌++◌, length, get_or, refl, sym, ◌∙◌, ap, subst, arith, true≢false}
-use Rattle.std.specs.Prelude.{slice_get, nat_eq}
+use Rattle.std.specs.Prelude.{slice_get, slice_index, nat_eq}
 use Rattle.std.specs.List.{list_any}
 use Rattle.std.proofs.lemmas.Bool.{or_cases, or_right, eqb-true, eq-eqb, cases_lt}
 use Rattle.std.proofs.lemmas.List.{length_push, get_or_push, get_or_append_left, ext_get_or}
@@ -12,9 +12,13 @@ use Rattle.data_trace.specs.declared.kinds.Hop.{Hop}
 use Rattle.data_trace.specs.declared.kinds.Hop.TheVariants.{Here, To, NoRoute}
 use Rattle.data_trace.specs.declared.kinds.End.{End}
 use Rattle.data_trace.specs.declared.kinds.End.TheVariants as the_end
-use Rattle.data_trace.specs.Traces.{IsIn, IsWay, EndsBy, last_of, IsTrace}
+use Rattle.data_trace.specs.Traces.{IsIn, IsWay, EndsBy, IsTrace}
 use Rattle.data_trace.specs.Steps.{onward, reached, Ends}
 use Rattle.data_trace.proofs.Ends.{ends_loops, one_end}
+
+-- the last AS of a way
+abbrev pub last_of : List ℕ → ℕ
+last_of xs = slice_index xs (length xs - 1)
 
 abbrev pub HasTrace : (ℕ → Hop) → ℕ → Type 0
 HasTrace next a = (xs : List ℕ) × (end : End) × IsTrace next a xs end

@@ -1,5 +1,6 @@
 -- The best entry so far, while prefixes are looked through.
 use Rattle.std.specs.Prelude.{ℕ, nat_lt, if◌then◌else◌, Option, None, Some, option_and_then, List, fold, filter, slice_get}
+use Rattle.std.specs.Option.{option_map_or}
 use Rattle.net_names.specs.Addresses.{AddrValue}
 use Rattle.net_names.specs.Prefixes.{PrefixValue}
 use Rattle.net_names.specs.Coverage.{holds}
@@ -11,9 +12,8 @@ use Rattle.route_choice.specs.declared.round_tables.RoundTables.{RoundTables}
 use Rattle.route_choice.specs.Tables.{held_at}
 use Rattle.route_choice.specs.RoundTables.{table_at}
 use Rattle.data_trace.specs.declared.kinds.Hop.{Hop}
-use Rattle.data_trace.specs.declared.kinds.Hop.TheVariants.{Here, NoRoute}
+use Rattle.data_trace.specs.declared.kinds.Hop.TheVariants.{Here, To, NoRoute}
 use Rattle.data_trace.specs.declared.best.Best.{Best}
-use Rattle.data_trace.specs.Hops.{hop_to}
 
 -- what an AS holds of a prefix in the tables of a round
 abbrev pub held_in : RoundTables → PrefixValue → ℕ → Option Held
@@ -36,4 +36,4 @@ holding plan addr = filter (λ p. holds p addr) (prefixes_of plan)
 -- the next hop by the best entry
 abbrev pub hop_of : PathPool → Plan → ℕ → Option Best → Hop
 hop_of pool plan a None = NoRoute
-hop_of pool plan a (Some b) = if announces plan b.prefix a then Here else hop_to (slice_get (list_of pool b.held.path.0) 1)
+hop_of pool plan a (Some b) = if announces plan b.prefix a then Here else option_map_or To (slice_get (list_of pool b.held.path.0) 1) NoRoute

@@ -1,6 +1,7 @@
 -- Where an AS sends a packet.
 use Rattle.std.specs.Prelude.{◌≡◌, ℕ, ◌≤◌, IsTrue, ◌&&◌, nat_lt, if◌then◌else◌, Option, None, Some, is_some, option_and_then, List, fold, filter, slice_get}
 use Rattle.std.specs.List.{Contains}
+use Rattle.std.specs.Option.{option_map_or}
 use Rattle.net_names.specs.Addresses.{AddrValue}
 use Rattle.net_names.specs.Prefixes.{PrefixValue}
 use Rattle.net_names.specs.Coverage.{holds}
@@ -22,23 +23,14 @@ longest ps = fold longer None ps
 abbrev pub sent_by : Plan → (PrefixValue → ℕ → Option Entry) → AddrValue → ℕ → Option PrefixValue
 sent_by plan held addr a = longest (filter (λ p. holds p addr && is_some (held p a)) (prefixes_of plan))
 
--- the next hop is this AS; without one there is no route
-abbrev pub hop_to : Option ℕ → Hop
-hop_to None = NoRoute
-hop_to (Some b) = To b
-
 -- the second AS of the path of an entry, if there is one (RFC 4271, section 5.1.2)
 abbrev pub second_of : Option Entry → Option ℕ
 second_of entry = option_and_then (λ e. slice_get e.path 1) entry
 
--- the next hop by a prefix: here where the AS announces the prefix, whatever it holds, else the second AS of its entry's path; without a prefix there is no route (RFC 4271, section 5.1.3)
-abbrev pub hop_by : Plan → (PrefixValue → ℕ → Option Entry) → ℕ → Option PrefixValue → Hop
-hop_by plan held a None = NoRoute
-hop_by plan held a (Some p) = if announces plan p a then Here else hop_to (second_of (held p a))
-
--- where an AS sends a packet to the address, with what the ASes hold of each prefix in one round (RFC 4632, section 5.1)
+-- where an AS sends a packet to the address, with what the ASes hold of each prefix in one round, by the prefix by which it sends: here where it announces that prefix, whatever it holds, else to the second AS of its entry's path; without a prefix there is no route (RFC 4632, section 5.1; RFC 4271, section 5.1.3)
 abbrev pub next_hop : Plan → (PrefixValue → ℕ → Option Entry) → AddrValue → ℕ → Hop
-next_hop plan held addr a = hop_by plan held a (sent_by plan held addr a)
+next_hop plan held addr a =
+    option_map_or (λ p. if announces plan p a then Here else option_map_or To (second_of (held p a)) NoRoute) (sent_by plan held addr a) NoRoute
 
 -- an AS can send a packet by the prefix: it is one of the plan, it holds the address, and the AS has an entry of it (RFC 4632, section 5.1)
 pub record CanSendBy (plan : Plan) (held : PrefixValue → ℕ → Option Entry) (addr : AddrValue) (a : ℕ) (p : PrefixValue) : Type 0 where

@@ -20,20 +20,12 @@ pub record IsWay (next : ℕ → Hop) (a : ℕ) (xs : List ℕ) : Type 0 where
 abbrev pub EndsBy : Hop → ℕ → List ℕ → End → Type 0
 EndsBy Here last xs e = e ≡ the_end.At last
 EndsBy NoRoute last xs e = e ≡ the_end.NoRoute
-EndsBy (To b) last xs e = IsIn b xs × (e ≡ the_end.Loop)
+EndsBy (To b) last xs e = (list_any (nat_eq b) xs ≡ true) × (e ≡ the_end.Loop)
 
--- the last AS of a way
-abbrev pub last_of : List ℕ → ℕ
-last_of xs = slice_index xs (length xs - 1)
-
--- the trace of an AS: a way from it that goes on to no further AS, and how that ends; no way from the AS is longer
+-- the trace of an AS: a way from it that goes on to no further AS, and how that ends by the next hop of its last AS; no way from the AS is longer
 pub record IsTrace (next : ℕ → Hop) (a : ℕ) (xs : List ℕ) (e : End) : Type 0 where
   pub way : IsWay next a xs
-  pub ends : EndsBy (next (last_of xs)) (last_of xs) xs e
-
--- the trace of the AS ends so
-abbrev pub HasEnd : (ℕ → Hop) → ℕ → End → Type 0
-HasEnd next a e = (xs : List ℕ) × IsTrace next a xs e
+  pub ends : let last = slice_index xs (length xs - 1) in EndsBy (next last) last xs e
 
 -- among finitely many ASes each has exactly one trace, and no way from it is longer
 abbrev pub OneTrace : Type 0

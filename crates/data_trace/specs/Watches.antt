@@ -14,7 +14,7 @@ use Rattle.data_trace.specs.declared.kinds.End.TheVariants as the_end
 use Rattle.data_trace.specs.declared.kinds.Which.{Which}
 use Rattle.data_trace.specs.declared.kinds.Which.TheVariants.{All, Stub, Label}
 use Rattle.data_trace.specs.Hops.{second_of}
-use Rattle.data_trace.specs.Traces.{HasEnd}
+use Rattle.data_trace.specs.Traces.{IsTrace}
 
 -- what a watch keeps of an AS: its next hop, the end of its trace, whether it has no customers, and the number of its policy's group
 pub record Row : Type 0 where
@@ -31,8 +31,8 @@ IsStub what a = (b : ℕ) → what a b ≢ Some Customer
 -- the row is right: it has the AS's next hop, the end of its trace, whether it is a stub, and its policy's group
 pub record IsRow (what : ℕ → ℕ → Option Rel) (next : ℕ → Hop) (label : ℕ → ℕ) (r : Row) : Type 0 where
   pub next_hop : r.next ≡ next r.asn
-  pub trace : HasEnd next r.asn r.end
-  pub stub : IsTrue r.stub ↔ IsStub what r.asn
+  pub trace : (xs : List ℕ) × IsTrace next r.asn xs r.end
+  pub stub : IsTrue r.stub ↔ ((b : ℕ) → what r.asn b ≢ Some Customer)
   pub group : r.label ≡ label r.asn
 
 -- the rows are those of all ASes of the graph: each has one, and each is right

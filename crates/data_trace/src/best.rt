@@ -66,7 +66,7 @@ impl Best {
 }
 
 ghost use Rattle.stability_laws.specs.Plans.{announces};
-ghost use Rattle.data_trace.specs.Hops.{hop_to};
+ghost use Rattle.std.specs.Option.{option_map_or};
 
 // Whether the AS announces the prefix. The plan is not searched where it announces none.
 fn is_announced(plan: &SeedPlan, prefix: Prefix, asn: Asn, may_announce: bool) -> bool
@@ -82,7 +82,7 @@ fn is_announced(plan: &SeedPlan, prefix: Prefix, asn: Asn, may_announce: bool) -
 // To the second AS of a path, if there is one.
 fn second(pool: &PathPool, path: PathId) -> Hop
     requires { IsLive pool.now path.0 }
-    ensures { result ≡ hop_to (slice_get (list_of pool.now path.0) 1) }
+    ensures { result ≡ option_map_or Hop.To (slice_get (list_of pool.now path.0) 1) Hop.NoRoute }
 {
     match pool.tail(path) {
         Some(rest) => {

@@ -3,6 +3,7 @@ use Rattle.std.proofs.Common.{◌≡◌, ◌≢◌, ◌⊎◌, inl, inr, ℕ, su
 use Rattle.std.specs.Prelude.{◌↔◌, option_and_then, slice_get}
 use Rattle.std.specs.List.{filter}
 use Rattle.std.specs.FinMap as fin
+use Rattle.std.specs.Option.{option_map_or}
 use Rattle.std.specs.Ordering.{nat_cmp}
 use Rattle.std.proofs.lemmas.Bool.{true≢false}
 use Rattle.net_names.specs.Addresses.{AddrValue}
@@ -40,9 +41,10 @@ use Rattle.stability_laws.specs.Stable.{IsRight}
 use Rattle.stability_laws.specs.World.{setting}
 use Rattle.stability_laws.specs.declared.entry.Entry.{Entry}
 use Rattle.stability_laws.specs.declared.seed_plan.edits.SeedEdit.{SeedEdit}
-use Rattle.data_trace.specs.Hops.{hop_by, hop_to, longest, next_hop, second_of, sent_by}
+use Rattle.data_trace.specs.Hops.{longest, next_hop, second_of, sent_by}
+use Rattle.data_trace.proofs.Inside.{hop_by}
 use Rattle.data_trace.specs.Watches.{Row}
-use Rattle.data_trace.specs.declared.kinds.Hop.TheVariants.{Here}
+use Rattle.data_trace.specs.declared.kinds.Hop.TheVariants.{Here, To, NoRoute}
 use Rattle.leak_round.specs.Bounds.{AreEnoughFor, IsCounted}
 use Rattle.leak_round.specs.Edited.{plan_edited}
 use Rattle.leak_round.specs.Overlays.{change_in, held_of}
@@ -195,7 +197,7 @@ same_hop plan other held now addr a prefixes announced entries =
   where
     by : (o : Option PrefixValue) → hop_by plan held a o ≡ hop_by other now a o
     by None = refl
-    by (Some p) = λ i. cond (sym (announced p) i) Here (hop_to (second_of (sym (entries p) i)))
+    by (Some p) = λ i. cond (sym (announced p) i) Here (option_map_or To (second_of (sym (entries p) i)) NoRoute)
 
 module _ (old new : Ground) (was : Rounds) (plan other : Plan) (count : ℕ) (held now : Family) (changed : ℕ → List ℕ) (ends : List ℕ) (touched : PrefixValue → ℕ → Bool) (d : DiffersAround old new was ends touched) (prefixes : other.prefixes ≡ plan.prefixes) (announced : (a : ℕ) → occurs a ends ≡ false → (p : PrefixValue) → announces other p a ≡ announces plan p a)
     (same : (round a : ℕ) → 1 ≤ round → round ≤ count → occurs a (changed round) ≡ false → (p : PrefixValue) → now round p a ≡ held round p a) where

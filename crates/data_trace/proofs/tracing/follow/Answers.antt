@@ -6,8 +6,8 @@ use Rattle.route_choice.specs.RoundTables.{round_routing}
 use Rattle.data_trace.specs.declared.kinds.Hop.{Hop}
 use Rattle.data_trace.specs.declared.kinds.Hop.TheVariants.{To}
 use Rattle.data_trace.specs.Hops.{next_hop}
-use Rattle.data_trace.specs.Traces.{last_of, IsWay, IsIn}
-use Rattle.data_trace.proofs.Traces.{way_push, below_push, last_push}
+use Rattle.data_trace.specs.Traces.{IsWay, IsIn}
+use Rattle.data_trace.proofs.Traces.{last_of, way_push, below_push, last_push}
 use Rattle.data_trace.proofs.tracing.follow.Goals as goal
 
 pub steps-smaller : goal.steps-smaller
