@@ -1,5 +1,5 @@
 -- What stands once a plan for rounds is put in place or given up.
-use Rattle.std.proofs.Common.{◌≡◌, ◌⊎◌, inl, inr, ℕ, suc, ◌+◌, ◌-◌, ◌≤◌, Bool, true, false, ◌==◌, cond, Option, Some, None, option_map, List, [], ◌∷◌, refl, sym, ap, subst, ◌∙◌, arith}
+use Rattle.std.proofs.Common.{◌≡◌, ◌≢◌, ◌⊎◌, inl, inr, ℕ, suc, ◌+◌, ◌-◌, ◌≤◌, Bool, true, false, ◌==◌, cond, Option, Some, None, option_map, List, [], ◌∷◌, refl, sym, ap, subst, ◌∙◌, arith}
 use Rattle.std.specs.Prelude.{IsTrue, is_some, slice_get, fold}
 use Rattle.std.specs.Option.{option_map_or}
 use Rattle.std.specs.FinMap as fin
@@ -8,7 +8,6 @@ use Rattle.net_names.specs.Prefixes.{PrefixValue}
 use Rattle.path_pool.specs.declared.path_id.PathId.{PathId}
 use Rattle.path_pool.specs.declared.pool.PathPool.{PathPool}
 use Rattle.path_pool.specs.Pool.{IsLive, holds_of, list_of}
-use Rattle.stability_laws.specs.declared.entry.Entry.{Entry}
 use Rattle.stability_laws.specs.Plans.{Plan, has_prefix}
 use Rattle.route_choice.specs.declared.held.Held.{Held}
 use Rattle.route_choice.specs.declared.round_tables.RoundTables.{RoundTables}
@@ -26,7 +25,7 @@ use Rattle.leak_round.specs.declared.edited.EditedSeeds.{EditedSeeds}
 use Rattle.leak_round.specs.declared.plans.RoundsPlan.{RoundsPlan}
 use Rattle.leak_round.specs.declared.rounds.Rounds.{Rounds}
 use Rattle.leak_round.specs.Announced.{is_of, own_path, announced_uses, AreAnnounced}
-use Rattle.leak_round.specs.Changes.{IsChanged, HasChanges}
+use Rattle.leak_round.specs.Changes.{Family, HasChanges}
 use Rattle.leak_round.specs.Limits.{IsWithinLimits}
 use Rattle.leak_round.specs.Overlays.{change_in, held_of, held_with, laid_in, changes_uses, IsLaid}
 use Rattle.leak_round.specs.Edited.{announced_after, edited_uses, given_up, AreEdited}
@@ -37,6 +36,7 @@ use Rattle.leak_round.proofs.Committing.{change_from, held_with-live}
 use Rattle.leak_round.proofs.Holding.{one_of_itself}
 use Rattle.leak_round.proofs.Laying.{kept_is, uses_in, tables_there, round_place, is_at-true}
 use Rattle.leak_round.proofs.Sums.{sum_by-one-le}
+use Rattle.leak_round.proofs.Counting.{apart_pairs, from_stands, to_stands}
 use Rattle.leak_round.proofs.Telling.{all_changed, length-all_changed, stands_changed, changed_stands, apart-all_changed}
 
 -- who is found among the announcements is one of them
@@ -127,19 +127,24 @@ module _ (pool : PathPool) (plan : Plan) (xs : List Announced) (limits : IsWithi
 
 -- the changes of the open plan are those that are told
 module _ (r : Rounds) (p : RoundsPlan) (open_plan : IsOpenPlan r p) where
-  pub has_changes : (after : Plan) (count : ℕ) → after.prefixes ≡ (plan_of r).prefixes → count ≡ round_count r → (now : ℕ → PrefixValue → ℕ → Option Entry) → ((round : ℕ) (prefix : PrefixValue) (a : ℕ) → now round prefix a ≡ kept_with r p round prefix a)
+  pub has_changes : (after : Plan) (count : ℕ) → after.prefixes ≡ (plan_of r).prefixes → count ≡ round_count r → (now : Family) → ((round : ℕ) (prefix : PrefixValue) (a : ℕ) → now round prefix a ≡ kept_with r p round prefix a)
       → HasChanges after count (kept r) now (count_told p.done)
   has_changes after count prefixes rounds now is = record {
     triples = all_changed p.changes.items;
-    apart = apart-all_changed r.tables.items p.changes.items open_plan.changes;
-    whole = λ t h. changed_stands r.tables.items p.changes.items open_plan.changes t (by t h (change_in p.changes.items t.0 t.1.0 t.1.1) refl);
-    only = λ t s. changed t (stands_changed r.tables.items p.changes.items open_plan.changes t s);
+    apart = apart_pairs (all_changed p.changes.items) (apart-all_changed r.tables.items p.changes.items open_plan.changes);
+    are = λ round prefix a. (
+      (λ c. changed (round, (prefix, a)) (stands_changed r.tables.items p.changes.items open_plan.changes (round, (prefix, a)) (to_stands (all_changed p.changes.items) (round, (prefix, a)) c))),
+      (λ h. from_stands (all_changed p.changes.items) (round, (prefix, a)) (changed_stands r.tables.items p.changes.items open_plan.changes (round, (prefix, a)) (by (round, (prefix, a)) h (change_in p.changes.items round prefix a) refl))),
+    );
     number = length-all_changed p.changes.items ∙ sym open_plan.count;
   }
     where
-      by : (t : ℕ × (PrefixValue × ℕ)) → IsChanged after count (kept r) now t → (o : Option (Option Held)) → change_in p.changes.items t.0 t.1.0 t.1.1 ≡ o → is_some (change_in p.changes.items t.0 t.1.0 t.1.1) ≡ true
+      Differs : ℕ × (PrefixValue × ℕ) → Type 0
+      Differs t = (1 ≤ t.0) × (t.0 ≤ count) × IsTrue (has_prefix after t.1.0) × (now t.0 t.1.0 t.1.1 ≢ kept r t.0 t.1.0 t.1.1)
+
+      by : (t : ℕ × (PrefixValue × ℕ)) → Differs t → (o : Option (Option Held)) → change_in p.changes.items t.0 t.1.0 t.1.1 ≡ o → is_some (change_in p.changes.items t.0 t.1.0 t.1.1) ≡ true
       by t h (Some c) e = ap is_some e
-      by t h None e = absurd (h.differs (is t.0 t.1.0 t.1.1
+      by t h None e = absurd (h.3 (is t.0 t.1.0 t.1.1
           ∙ ap (λ (o : Option (Option Held)). option_map (entry_of r.pool) (over o (held_of r.tables.items t.0 t.1.0 t.1.1))) e
           ∙ sym (kept_is r.pool r.tables.items t.0 t.1.0 t.1.1)))
 
@@ -147,7 +152,7 @@ module _ (r : Rounds) (p : RoundsPlan) (open_plan : IsOpenPlan r p) where
       some_of None e = cc
       some_of (Some x) e = (x, refl)
 
-      changed : (t : ℕ × (PrefixValue × ℕ)) → is_some (change_in p.changes.items t.0 t.1.0 t.1.1) ≡ true → IsChanged after count (kept r) now t
+      changed : (t : ℕ × (PrefixValue × ℕ)) → is_some (change_in p.changes.items t.0 t.1.0 t.1.1) ≡ true → Differs t
       changed t s =
           let (o, e) = some_of (change_in p.changes.items t.0 t.1.0 t.1.1) s in
           let (i, x, at, here, c) = change_from p.changes.items t.0 t.1.0 t.1.1 o e in
@@ -155,13 +160,12 @@ module _ (r : Rounds) (p : RoundsPlan) (open_plan : IsOpenPlan r p) where
           let f = open_plan.changes.fits i x at in
           let (tables, in_round, in_tables) = tables_there r.tables.items x.round x.prefix f.table f.at in
           let (some, place) = round_place r.tables.items x.round tables in_round in
-          let within = slice_get_within r.tables.items (x.round - 1) tables place in
-          record {
-            from = omega (arith, some, same_round);
-            to = omega (arith, within, same_round, rounds, some);
-            known = ap (λ s. fin.contains_key s t.1.0) prefixes ∙ subst (λ q. IsTrue (has_prefix r.plan q)) same_prefix (sym ((r.full x.round tables in_round).there x.prefix) ∙ ap is_some in_tables);
-            differs = λ same. open_plan.differs t.0 t.1.0 t.1.1 s (sym (is t.0 t.1.0 t.1.1) ∙ same);
-          }
+          let within = slice_get_within r.tables.items (x.round - 1) tables place in (
+            omega (arith, some, same_round),
+            omega (arith, within, same_round, rounds, some),
+            ap (λ s. fin.contains_key s t.1.0) prefixes ∙ subst (λ q. IsTrue (has_prefix r.plan q)) same_prefix (sym ((r.full x.round tables in_round).there x.prefix) ∙ ap is_some in_tables),
+            λ same. open_plan.differs t.0 t.1.0 t.1.1 s (sym (is t.0 t.1.0 t.1.1) ∙ same),
+          )
 
   -- the holds of announced paths beside those of the tables and the changes
   pub others : ℕ → ℕ

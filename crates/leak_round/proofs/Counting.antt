@@ -1,5 +1,5 @@
 -- Entries of a table, of a round and of all rounds are counted.
-use Rattle.std.proofs.Common.{◌≡◌, ℕ, ◌+◌, ◌-◌, ◌≤◌, true, false, ◌==◌, Option, None, Some, List, [], ◌∷◌, ◌++◌, length, map, refl, sym, ap, subst, ◌∙◌, arith, ◌⊎◌, inl, inr, nat_eq}
+use Rattle.std.proofs.Common.{◌≡◌, ◌≢◌, ℕ, zero, suc, ◌+◌, ◌-◌, ◌<◌, ◌≤◌, true, false, ◌==◌, Option, None, Some, List, [], ◌∷◌, ◌++◌, length, get_or, map, AllPairs, Contains, refl, sym, ap, subst, ◌∙◌, arith, ◌⊎◌, inl, inr, nat_eq}
 use Rattle.std.specs.Prelude.{IsSome}
 use Rattle.std.specs.List.{AllByRecursion, IsDistinct as AreDistinct}
 use Rattle.std.proofs.lemmas.Bool.{cases_Bool, or_parts, or_left, or_right, eq-eqb}
@@ -22,6 +22,29 @@ stands_occurs (x ∷ xs) a (inr h) = or_right (x == a) (occurs a xs) (stands_occ
 pub apart_numbers : (xs : List ℕ) → IsDistinct xs → AreApart xs
 apart_numbers [] d = tt
 apart_numbers (x ∷ xs) d = (λ h. (let t = stands_occurs xs x h in let f = d.0 in cc), apart_numbers xs d.1)
+
+-- who stands in a list is an element of it
+pub from_stands : {X : Type 0} (xs : List X) (x : X) → StandsIn x xs → Contains xs x
+from_stands [] x s = absurd s
+from_stands (y ∷ ys) x (inl e) = (0, omega arith, sym e)
+from_stands (y ∷ ys) x (inr s) = let (k, l, e) = from_stands ys x s in (suc k, omega (arith, l), e)
+
+pub to_stands : {X : Type 0} (xs : List X) (x : X) → Contains xs x → StandsIn x xs
+to_stands [] x (k, l, e) = absurd (omega (arith, l))
+to_stands (y ∷ ys) x (zero, l, e) = inl (sym e)
+to_stands (y ∷ ys) x (suc k, l, e) = inr (to_stands ys x (k, omega (arith, l), e))
+
+stands_at : {X : Type 0} (xs : List X) (k : ℕ) (d : X) → k < length xs → StandsIn (get_or xs k d) xs
+stands_at [] k d l = absurd (omega (arith, l))
+stands_at (x ∷ xs) zero d l = inl refl
+stands_at (x ∷ xs) (suc k) d l = inr (stands_at xs k d (omega (arith, l)))
+
+-- no two elements are the same where nothing stands twice
+pub apart_pairs : {X : Type 0} (xs : List X) → AreApart xs → AllPairs (λ x y. x ≢ y) xs
+apart_pairs [] a i j d before last = absurd (omega (arith, last))
+apart_pairs (x ∷ xs) a i zero d before last = absurd (omega (arith, before))
+apart_pairs (x ∷ xs) a zero (suc j) d before last = λ same. a.0 (subst (λ y. StandsIn y xs) (sym same) (stands_at xs j d (omega (arith, last))))
+apart_pairs (x ∷ xs) a (suc i) (suc j) d before last = apart_pairs xs a.1 i j d (omega (arith, before)) (omega (arith, last))
 
 -- the entries of a table
 pub table_entries : (old new : PathPool) (f : ℕ → Option Entry) → FewNewCells old new f → HasEntries f (live_count new - live_count old)
