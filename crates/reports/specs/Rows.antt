@@ -1,6 +1,7 @@
 -- Printed tables: a row for each AS.
-use Rattle.std.specs.Prelude.{◌≡◌, ℕ, Bool, Option, None, Some, List, [], ◌∷◌, ◌++◌, codes, decimal}
-use Rattle.std.specs.List.{flat_map}
+use Rattle.std.specs.Prelude.{◌≡◌, ℕ, Bool, Option, None, Some, List, [], ◌∷◌, ◌++◌, codes, decimal, map}
+use Rattle.std.specs.List.{flat_map, join_with_byte}
+use Rattle.std.specs.Option.{option_map_or}
 use Rattle.std.specs.List.Sorted.{IsStrictlyIncreasing}
 use Rattle.net_names.specs.Numbers.{occurs}
 use Rattle.net_names.specs.declared.routes.Class.{Class}
@@ -20,18 +21,12 @@ more_numbers ns = flat_map (λ n. 32 ∷ decimal n) ns
 
 -- the numbers with one space between (own format)
 abbrev pub numbers_text : List ℕ → List ℕ
-numbers_text [] = []
-numbers_text (n ∷ ns) = decimal n ++ more_numbers ns
+numbers_text ns = join_with_byte 32 (map decimal ns)
 
--- the number of RFC 9234 that an entry has, at the end of its row (own format)
-abbrev pub otc_text : Option ℕ → List ℕ
-otc_text None = []
-otc_text (Some n) = codes "|otc " ++ decimal n
-
--- what a row says of the entry: the class word, `|` and the path; `none` and `|` where there is no entry (own format)
+-- what a row says of the entry: the class word, `|`, the path, and at the end the number of RFC 9234 that it has; `none` and `|` where there is no entry (own format)
 abbrev pub entry_text : Option Entry → List ℕ
 entry_text None = codes "none|"
-entry_text (Some e) = class_word e.class ++ (124 ∷ (numbers_text e.path ++ otc_text e.otc))
+entry_text (Some e) = class_word e.class ++ (124 ∷ (numbers_text e.path ++ option_map_or (λ n. codes "|otc " ++ decimal n) e.otc []))
 
 -- the row of an AS: its number, `|`, its entry and a line feed (own format)
 abbrev pub row : ℕ → Option Entry → List ℕ

@@ -16,10 +16,6 @@ state_word state.NotFound = codes "not-found"
 abbrev pub payload_row : VrpValue → List ℕ
 payload_row v = decimal v.asn ++ (124 ∷ (prefix_text v.prefix ++ (124 ∷ (decimal v.max ++ 10 ∷ []))))
 
--- the rows of payloads, in their order (own format)
-abbrev pub payload_rows : List VrpValue → List ℕ
-payload_rows = flat_map payload_row
-
 -- the line of a validation state and a line feed, and the rows of the payloads that cover the prefix (own format)
 abbrev pub validity_text : State → List VrpValue → List ℕ
-validity_text s vrps = codes "state|" ++ (state_word s ++ (10 ∷ payload_rows vrps))
+validity_text s vrps = codes "state|" ++ (state_word s ++ (10 ∷ flat_map payload_row vrps))

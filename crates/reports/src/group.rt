@@ -1,7 +1,7 @@
 //! The groups of ASes that are counted together.
 ghost use Rattle.std.specs.Prelude.{◌≡◌, ◌++◌, OnOk, OnErr};
 ghost use Rattle.data_trace.specs.Views.{rows_of};
-ghost use Rattle.reports.specs.Counts.{group_name, is_printed as is_group_printed, which_of};
+ghost use Rattle.reports.specs.Counts.{group_of, is_printed as is_group_printed};
 ghost use Rattle.reports.specs.Growth.{Grows};
 
 use crate::bytes::put_bytes;
@@ -24,7 +24,7 @@ pub enum Group {
 impl Group {
     /// Which ASes the group has.
     pub fn which(self) -> Which
-        ensures { result ≡ which_of self }
+        ensures { result ≡ (group_of self).1 }
     {
         match self {
             Group::Total => Which::All,
@@ -45,7 +45,7 @@ impl Group {
 
     /// Appends the group's name.
     pub fn put_name(self, out: &mut Vec<u8>) -> Result<(), NoMemory>
-        ensures ok { OnOk result (out.new.items ≡ out.old.items ++ group_name self) }
+        ensures ok { OnOk result (out.new.items ≡ out.old.items ++ (group_of self).0) }
         ensures err { OnErr result (Grows out.old.items out.new.items) }
     {
         match self {

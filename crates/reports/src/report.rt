@@ -1,10 +1,11 @@
 //! The counts of a watched address.
-ghost use Rattle.std.specs.Prelude.{◌≡◌, ◌++◌, OnOk, OnErr};
+ghost use Rattle.std.specs.Prelude.{◌≡◌, ◌==◌, ◌++◌, ◌∷◌, [], OnOk, OnErr, codes, decimal, if◌then◌else◌};
 ghost use Rattle.std.specs.List.{flat_map};
 ghost use Rattle.stability_laws.specs.Plans.{announcers_of};
 ghost use Rattle.data_trace.specs.Views.{rows_of};
+ghost use Rattle.data_trace.specs.Watches.{size_of};
 ghost use Rattle.reports.specs.Growth.{Grows};
-ghost use Rattle.reports.specs.Counts.{count_row, count_text, delivered_row, delivered_text, end_row, group_rows, group_text, report_text, size_row};
+ghost use Rattle.reports.specs.Counts.{count_row, delivered_text, end_row, group_of, group_text, report_text};
 
 use crate::bytes::{put_bytes, put_number};
 use crate::group::Group;
@@ -27,7 +28,7 @@ const GROUPS: [Group; 8] = [
 
 // Appends a count between `|` and a line feed.
 fn append_count(out: &mut Vec<u8>, count: u64) -> Result<(), NoMemory>
-    ensures ok { OnOk result (out.new.items ≡ out.old.items ++ count_text count) }
+    ensures ok { OnOk result (out.new.items ≡ out.old.items ++ (124 ∷ (decimal count ++ 10 ∷ []))) }
     ensures err { OnErr result (Grows out.old.items out.new.items) }
 {
     put_bytes(out, b"|")?;
@@ -48,7 +49,7 @@ fn append_row(out: &mut Vec<u8>, group: Group, what: &[u8], count: u64) -> Resul
 
 // Appends the row of an AS at which packets of a group are delivered, if some are.
 fn append_some(out: &mut Vec<u8>, group: Group, asn: Asn, count: u64) -> Result<(), NoMemory>
-    ensures ok { OnOk result (out.new.items ≡ out.old.items ++ delivered_row group asn count) }
+    ensures ok { OnOk result (out.new.items ≡ out.old.items ++ (if count == 0 then [] else count_row group (codes "to " ++ decimal asn) count)) }
     ensures err { OnErr result (Grows out.old.items out.new.items) }
 {
     if count == 0 {
@@ -95,7 +96,7 @@ fn append_all_delivered(
 
 // Appends the row of the number of a group's ASes.
 fn append_size(out: &mut Vec<u8>, watch: &Watch, group: Group) -> Result<(), NoMemory>
-    ensures ok { OnOk result (out.new.items ≡ out.old.items ++ size_row (rows_of watch.now) group) }
+    ensures ok { OnOk result (out.new.items ≡ out.old.items ++ count_row group (codes "ases") (size_of (rows_of watch.now) (group_of group).1)) }
     ensures err { OnErr result (Grows out.old.items out.new.items) }
 {
     append_row(out, group, b"ases", watch.ases(group.which()))
@@ -122,7 +123,9 @@ fn append_rows(
     watch: &Watch,
     group: Group,
 ) -> Result<(), NoMemory>
-    ensures ok { OnOk result (out.new.items ≡ out.old.items ++ group_rows (rows_of watch.now) announcers.now group) }
+    ensures ok { OnOk result (out.new.items ≡ out.old.items ++ (count_row group (codes "ases") (size_of (rows_of watch.now) (group_of group).1)
+        ++ (flat_map (delivered_text (rows_of watch.now) group) announcers.now
+        ++ (end_row (rows_of watch.now) group (codes "no-route") End.NoRoute ++ end_row (rows_of watch.now) group (codes "loop") End.Loop)))) }
     ensures err { OnErr result (Grows out.old.items out.new.items) }
 {
     append_size(out, watch, group)?;

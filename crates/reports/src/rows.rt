@@ -1,12 +1,13 @@
 //! The table of a routing.
-ghost use Rattle.std.specs.Prelude.{◌≡◌, ◌++◌, ◌∷◌, ℕ, OnOk, OnErr, Some, option_map, decimal};
+ghost use Rattle.std.specs.Prelude.{◌≡◌, ◌++◌, ◌∷◌, [], ℕ, OnOk, OnErr, Some, codes, option_map, decimal};
+ghost use Rattle.std.specs.Option.{option_map_or};
 ghost use Rattle.as_graph.specs.Topology.{has};
 ghost use Rattle.path_pool.specs.Pool.{IsLive, list_of};
 ghost use Rattle.route_choice.specs.Resources.{AreEntriesLive};
 ghost use Rattle.route_choice.specs.Routings.{entry_of, table_routing};
 ghost use Rattle.reports.specs.Growth.{Grows};
 ghost use Rattle.reports.specs.Held.{IsHeldLive};
-ghost use Rattle.reports.specs.Rows.{class_word, entry_text, more_numbers, numbers_text, otc_text, row as row_of, AppendsTable};
+ghost use Rattle.reports.specs.Rows.{class_word, entry_text, more_numbers, numbers_text, row as row_of, AppendsTable};
 
 use crate::bytes::put_bytes;
 use as_graph::Graph;
@@ -99,7 +100,7 @@ fn append_path(out: &mut Vec<u8>, pool: &PathPool, path: PathId) -> Result<(), N
 
 // Appends the number of an entry, if it has one.
 fn append_otc(out: &mut Vec<u8>, otc: Option<Asn>) -> Result<(), NoMemory>
-    ensures ok { OnOk result (out.new.items ≡ out.old.items ++ otc_text otc) }
+    ensures ok { OnOk result (out.new.items ≡ out.old.items ++ option_map_or (λ n. codes "|otc " ++ decimal n) otc []) }
     ensures err { OnErr result (Grows out.old.items out.new.items) }
 {
     match otc {

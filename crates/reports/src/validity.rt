@@ -1,7 +1,8 @@
 //! A validation state, and the payloads behind it.
 ghost use Rattle.std.specs.Prelude.{◌≡◌, ◌++◌, ◌∷◌, [], OnOk, OnErr, decimal};
+ghost use Rattle.std.specs.List.{flat_map};
 ghost use Rattle.reports.specs.Growth.{Grows};
-ghost use Rattle.reports.specs.Validity.{state_word, payload_row, payload_rows, validity_text};
+ghost use Rattle.reports.specs.Validity.{state_word, payload_row, validity_text};
 
 use crate::bytes::{put_bytes, put_number};
 use net_names::{NoMemory, State, Vrp, put_prefix};
@@ -40,7 +41,7 @@ fn append_payload(out: &mut Vec<u8>, vrp: Vrp) -> Result<(), NoMemory>
 
 // Appends the row of each payload.
 fn append_payloads(out: &mut Vec<u8>, vrps: &[Vrp]) -> Result<(), NoMemory>
-    ensures ok { OnOk result (out.new.items ≡ out.old.items ++ payload_rows vrps.now) }
+    ensures ok { OnOk result (out.new.items ≡ out.old.items ++ flat_map payload_row vrps.now) }
     ensures err { OnErr result (Grows out.old.items out.new.items) }
 {
     for vrp in vrps {

@@ -1,6 +1,6 @@
-use Rattle.std.proofs.Common.{◌≡◌, ◌+◌, length, ap, arith}
+use Rattle.std.proofs.Common.{◌≡◌, ◌+◌, length, sym, ap, arith}
 use Rattle.path_pool.specs.Pool.{list_of}
-use Rattle.reports.proofs.Paths.{Grows-trans, told_next, told_end}
+use Rattle.reports.proofs.Paths.{Grows-trans, told_first, told_next, told_end}
 use Rattle.reports.proofs.rows.append_path.Goals as goal
 
 pub returns-in-Err-clause-err : goal.returns-in-Err-clause-err
@@ -19,3 +19,12 @@ cells-preserved c =
 
 pub returns-clause-ok : goal.returns-clause-ok
 returns-clause-ok c = told_end (list_of c.args.pool.now c.cells.at.0) _ _ (omega (arith, c.cells.invariant.left, c.cells-test.false)) c.cells.invariant.told
+
+pub cells-init : goal.cells-init
+cells-init c = record {
+  grows = record { more = _; is = c.in_ok-put_asn.ensures.ok };
+  live = c.requires;
+  some = omega (arith, c.length-left.ensures.some);
+  left = sym c.length-left.ensures.value;
+  told = told_first (list_of c.args.pool.now c.args.path.0) _ _ _ (omega (arith, c.length-left.ensures.some, c.length-left.ensures.value)) c.head.ensures.first c.in_ok-put_asn.ensures.ok;
+}
