@@ -8,9 +8,7 @@ use Rattle.io_edge.specs.Bytes.{Appends, AppendsFront}
 use Rattle.io_edge.proofs.Appending.{Appends-nil, Appends-trans}
 use Rattle.scenario_text.specs.LineValues.{LineValue}
 use Rattle.scenario_text.specs.declared.acts.Act.{Act}
-use Rattle.scenario_text.specs.declared.acts.Act.TheVariants as act
 use Rattle.scenario_text.specs.declared.acts.Edit.{Edit}
-use Rattle.scenario_text.specs.declared.acts.Query.{Query}
 use Rattle.sim_core.specs.World.{World}
 use Rattle.sim_core.specs.Kept.{Kept, IsKept}
 use Rattle.net_names.specs.declared.numbers.NoMemory.{NoMemory}
@@ -19,7 +17,7 @@ use Rattle.sim_core.specs.declared.errors.EditError.{EditError}
 use Rattle.sim_core.specs.declared.errors.EditError.TheVariants as refused
 use Rattle.asprop.specs.Streams.{Stream}
 use Rattle.asprop.specs.Task.{Task, first_text}
-use Rattle.asprop.specs.Told.{Answered, AppendsEditReply, AppendsReply, Tells, Told, head}
+use Rattle.asprop.specs.Told.{Answered, AppendsReply, Tells, Told, head}
 use Rattle.asprop.specs.Written.{Answering, Wrote}
 use Rattle.asprop.specs.declared.types.Stop.{Stop}
 use Rattle.asprop.specs.declared.types.Stop.TheVariants as stop
@@ -128,18 +126,11 @@ pub rose_earlier : (a b c : ℕ) → a ≤ b → Rose b c → Rose a c
 rose_earlier a b c le h = rose_by (nat_lt a (2 ^ 64 - 1)) (nat_lt b (2 ^ 64 - 1)) a b c (2 ^ 64 - 1) (ltb-true a (2 ^ 64 - 1)) (ltb-false b (2 ^ 64 - 1)) le h
 
 -- a reply under a head line is an answer
-pub answered : (r : Result Bool NoMemory) (heads : Bool) (w : World) (k : Kept) (line : LineValue) (q : Query) (begun now : List ℕ) → begun ≡ head heads line.number → line.act ≡ act.Query q → IsKept w k
-    → IfOk r (λ refused. AppendsReply w k q refused begun now) → IfOk r (λ refused. Answered heads w line now refused w)
-answered (Ok refused) heads w k line q begun now first asks is h =
-    (k, is, h.text, subst (λ (a : Act). Tells w k a h.text refused w) (sym asks) (h.reply, refl), h.appended ∙ ap (λ l. l ++ h.text) first)
-answered (Err e) heads w k line q begun now first asks is h = h
-
--- so is a reply to an edit
-pub answered_edit : (r : Result Bool NoMemory) (heads : Bool) (w after : World) (k : Kept) (line : LineValue) (e : Edit) (begun now : List ℕ) → begun ≡ head heads line.number → line.act ≡ act.Edit e → IsKept w k
-    → IfOk r (λ refused. AppendsEditReply w k e refused begun now after) → IfOk r (λ refused. Answered heads w line now refused after)
-answered_edit (Ok refused) heads w after k line e begun now first asks is h =
-    (k, is, h.text, subst (λ (a : Act). Tells w k a h.text refused after) (sym asks) h.reply, h.appended ∙ ap (λ l. l ++ h.text) first)
-answered_edit (Err e) heads w after k line edit begun now first asks is h = h
+pub answered : (r : Result Bool NoMemory) (heads : Bool) (w after : World) (k : Kept) (line : LineValue) (asks : Act) (begun now : List ℕ) → begun ≡ head heads line.number → line.act ≡ asks → IsKept w k
+    → IfOk r (λ refused. AppendsReply w k asks refused begun now after) → IfOk r (λ refused. Answered heads w line now refused after)
+answered (Ok refused) heads w after k line asks begun now first is_asked is h =
+    (k, is, h.text, subst (λ (a : Act). Tells w k a h.text refused after) (sym is_asked) h.reply, h.appended ∙ ap (λ l. l ++ h.text) first)
+answered (Err e) heads w after k line asks begun now first is_asked is h = h
 
 -- a refusal that is none for want of memory has a reason
 pub reason_of : (w : World) (e : Edit) (error : EditError) → (error ≡ refused.Memory → ⊥) → IsEditRefusal w e error → IsReason w e error

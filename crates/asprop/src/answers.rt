@@ -5,7 +5,7 @@ ghost use Rattle.sim_core.specs.Sims.{kept, world_seen};
 ghost use Rattle.sim_core.specs.World.{HasCycle};
 ghost use Rattle.scenario_text.specs.LineValues.{AreSoundLines, IsWellFormed, IsSoundAct};
 ghost use Rattle.asprop.specs.Task.{first_text};
-ghost use Rattle.asprop.specs.Told.{Answered, AppendsEditReply, AppendsReply, head};
+ghost use Rattle.asprop.specs.Told.{Answered, AppendsReply, head};
 ghost use Rattle.asprop.specs.Streams.{stream_of};
 ghost use Rattle.asprop.specs.Written.{Answering};
 
@@ -30,7 +30,7 @@ fn put_head(alloc: Global, number: u32, text: &mut Vec<u8>) -> Result<(), AllocE
 
 // Appends the answer to a query, or the text of its refusal, and says whether it is refused.
 fn put_reply(sim: &Sim, query: &Query, text: &mut Vec<u8>) -> Result<bool, NoMemory>
-    ensures { IfOk result (λ refused. AppendsReply (world_seen sim.now) (kept sim.now) query.now refused text.old.items text.new.items) }
+    ensures { IfOk result (λ refused. AppendsReply (world_seen sim.now) (kept sim.now) (Act.Query query.now) refused text.old.items text.new.items (world_seen sim.now)) }
 {
     match sim.answer(query, text) {
         Ok(()) => Ok(false),
@@ -68,7 +68,7 @@ fn put_edit<L: Ledger>(
     requires ends { IsWellFormed edit.now }
     requires kept { IsKept (world_seen sim.old) (kept sim.old) }
     requires no_cycle { HasCycle (world_seen sim.old) → ⊥ }
-    ensures reply { IfOk result (λ refused. AppendsEditReply (world_seen sim.old) (kept sim.old) edit.now refused text.old.items text.new.items (world_seen sim.new)) }
+    ensures reply { IfOk result (λ refused. AppendsReply (world_seen sim.old) (kept sim.old) (Act.Edit edit.now) refused text.old.items text.new.items (world_seen sim.new)) }
     ensures kept { OnOk result (IsKept (world_seen sim.new) (kept sim.new)) }
     ensures no_cycle { OnOk result (HasCycle (world_seen sim.new) → ⊥) }
 {

@@ -1,5 +1,5 @@
 -- What is kept belongs to the edited world, and a refused edit leaves all as it was.
-use Rattle.std.proofs.Common.{◌≡◌, ◌≤◌, ℕ, false, nat_lt, List, None, Result, Ok, Err, IfOk, IfErr, OnOk, OnErr, unwrap_or, refl, sym, ap, subst, ◌∙◌, arith}
+use Rattle.std.proofs.Common.{◌≡◌, ◌≤◌, ℕ, false, nat_lt, List, None, option_map, Result, Ok, Err, IfOk, IfErr, OnOk, OnErr, unwrap_or, refl, sym, ap, subst, ◌∙◌, arith}
 use Rattle.std.proofs.lemmas.Bool.Decides.{nat_tests}
 use Rattle.std.specs.FinMap as fin
 use Rattle.std.specs.FinSet as set
@@ -12,7 +12,7 @@ use Rattle.leak_round.specs.Rounds.{kept as kept_rounds, plan_of, round_count}
 use Rattle.leak_round.specs.declared.rounds.Rounds.{Rounds}
 use Rattle.scenario_text.specs.declared.acts.Edit.{Edit}
 use Rattle.sim_core.specs.Editing.{IsChanged, IsDone, IsEdited, IsSmall, IsUnchanged, IsUndone, KeepsRest, ground_of}
-use Rattle.sim_core.specs.Edits.{HasChanged, IsAllowed, IsEditRefusal, absent, edited, over_limit, passed_limit}
+use Rattle.sim_core.specs.Edits.{IsAllowed, IsEditRefusal, absent, edited, passed_limit}
 use Rattle.sim_core.specs.Ground.{AreSeenAlike, BelongTo, Ground}
 use Rattle.sim_core.specs.Kept.{IsKept, Kept}
 use Rattle.sim_core.specs.Sims.{kept, world_seen}
@@ -20,6 +20,7 @@ use Rattle.sim_core.specs.Watching.{rows_in, watch_at}
 use Rattle.sim_core.specs.World.{World, HasCycle, topology}
 use Rattle.sim_core.specs.declared.editing.Changed.{Changed}
 use Rattle.sim_core.specs.declared.errors.EditError.{EditError}
+use Rattle.sim_core.specs.declared.errors.EditError.TheVariants as refused
 use Rattle.sim_core.specs.declared.sim.Sim.{Sim}
 use Rattle.sim_core.proofs.Loads.{ones_of_world, only_ones}
 use Rattle.sim_core.proofs.Watches.{rows_kept, rows_right, seen_rows}
@@ -121,7 +122,7 @@ small_world s small = no_limit (world_seen s) small.links s.small.announcements 
 
 pub allowed_by : (w after : World) (e : Edit) → after ≡ edited w e → absent w e ≡ None → passed_limit after ≡ None → HasNoProviderCycle (what (topology after)) → IsAllowed w e
 allowed_by w after e world there small none = record {
-  accepted = rw there (ap over_limit (ap passed_limit (sym world) ∙ small));
+  accepted = rw there (ap (option_map refused.Limit) (ap passed_limit (sym world) ∙ small));
   no_cycle = λ cycle. none cycle.0 (subst (λ (x : World). IsProviderCycle (what (topology x)) cycle.0) (sym world) cycle.1);
 }
 
@@ -139,7 +140,7 @@ edited_from old mid new e (Ok changed) alike h =
       world = h.world ∙ ap (λ w. edited w e) world;
       allowed = subst (λ w. IsAllowed w e) world h.allowed;
       is_kept = h.is_kept;
-      changed = subst (λ (k : Kept). HasChanged (world_seen new) k.routings (kept new).routings changed.routes) (unchanged_kept old mid alike) h.changed;
+      changed = subst (λ (k : Kept). HasChanges (world_seen new).plan (world_seen new).rounds k.routings (kept new).routings changed.routes) (unchanged_kept old mid alike) h.changed;
     }
 edited_from old mid new e (Err error) alike h =
     let world = unchanged_world old mid alike in
@@ -150,7 +151,7 @@ pub on_done : {P : Type 0} (old new : Sim) (e : Edit) (r : Result Changed EditEr
 on_done old new e (Ok changed) h f = f changed.routes h
 on_done old new e (Err error) h f = tt
 
-pub if_done : (old new : Sim) (e : Edit) (r : Result Changed EditError) → IsEdited old new e r → IfOk r (λ (c : Changed). HasChanged (world_seen new) (kept old).routings (kept new).routings c.routes)
+pub if_done : (old new : Sim) (e : Edit) (r : Result Changed EditError) → IsEdited old new e r → IfOk r (λ (c : Changed). HasChanges (world_seen new).plan (world_seen new).rounds (kept old).routings (kept new).routings c.routes)
 if_done old new e (Ok changed) h = h.changed
 if_done old new e (Err error) h = tt
 

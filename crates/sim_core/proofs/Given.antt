@@ -13,7 +13,7 @@ use Rattle.leak_round.specs.Rounds.{plan_of, round_count}
 use Rattle.leak_round.specs.declared.rounds.Rounds.{Rounds}
 use Rattle.scenario_text.specs.declared.acts.Edit.TheVariants.{Policy}
 use Rattle.sim_core.specs.Editing.{IsGiven, IsRoomed, IsSmall, IsUnchanged, IsUndone, KeepsRest, ground_of}
-use Rattle.sim_core.specs.Edits.{edited, over_limit, passed_limit, refusal_of_edit, with_kind}
+use Rattle.sim_core.specs.Edits.{edited, passed_limit, refusal_of_edit, with_kind}
 use Rattle.sim_core.specs.Ground.{DiffersAround}
 use Rattle.sim_core.specs.Sims.{world_seen}
 use Rattle.sim_core.specs.Steps.{IsTouched}
@@ -88,7 +88,7 @@ back_world old mid new a k was is roomed given =
 pub back_accepted : (old mid new same : Sim) (a : ℕ) (k was : Kind) (e : EditError) → was ≡ policy_at old.book a → IsSmall old.graph old.vrps → IsRoomed old mid a → IsGiven mid new a k → IsUnchanged new same → refusal_of_edit (world_seen same) (Policy a was) ≡ Some e → ⊥
 back_accepted old mid new same a k was e is small roomed given alike refusal =
     let back = ap (λ w. edited w (Policy a was)) (unchanged_world new same alike) ∙ back_world old mid new a k was is roomed given in
-    let none : refusal_of_edit (world_seen same) (Policy a was) ≡ None = ap over_limit (ap passed_limit back ∙ small_world old small) in
+    let none : refusal_of_edit (world_seen same) (Policy a was) ≡ None = ap (option_map refused.Limit) (ap passed_limit back ∙ small_world old small) in
     (let no : None ≡ Some e = sym none ∙ refusal in cc)
 
 pub policy_undone : (old mid new same last : Sim) (a : ℕ) (k was : Kind) → was ≡ policy_at old.book a → IsRoomed old mid a → IsGiven mid new a k → IsUnchanged new same → IsGiven same last a was → IsUndone old last

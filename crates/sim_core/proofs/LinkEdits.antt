@@ -146,7 +146,7 @@ link_stopped w graph a b r (refused.AbsentVrp vrp) none same h = absurd h
 link_stopped w graph a b r (refused.UnknownPrefix prefix) none same h = absurd h
 link_stopped w graph a b r (refused.AbsentAnnouncement prefix x) none same h = absurd h
 link_stopped w graph a b r (refused.Limit which) none same h = absurd h
-link_stopped w graph a b r (refused.ProviderCycle cycle) none same h = (none, record { closes = subst (λ v. IsProviderCycle v cycle) same h.0; begins = h.1 })
+link_stopped w graph a b r (refused.ProviderCycle cycle) none same h = (none, subst (λ v. IsProviderCycle v cycle) same h.0, h.1)
 
 -- ASes of a graph are those of its links and marks
 pub has_by : (g h : Topology) → h.links ≡ g.links → h.marked ≡ g.marked → (a : ℕ) → has h a ≡ has g a

@@ -8,8 +8,8 @@ use Rattle.std.proofs.lemmas.Cmp.{nat_cmp_total}
 use Rattle.net_names.specs.Numbers.{occurs}
 use Rattle.as_graph.specs.Topology.{Topology, has}
 use Rattle.policy_kinds.specs.declared.kind.Kind.TheVariants.{Plain}
-use Rattle.sim_core.specs.World.{graph_of, leakers, named}
-use Rattle.sim_core.proofs.PolicyEdits.{Kinds, is_key, named_by, occurs_keys}
+use Rattle.sim_core.specs.World.{graph_of, named}
+use Rattle.sim_core.proofs.PolicyEdits.{Kinds, leakers, is_key, named_by, occurs_keys}
 use Rattle.sim_core.proofs.Unnamed.{named_there}
 use Rattle.net_names.specs.Payloads.{VrpValue}
 use Rattle.roa_table.specs.Sets.{Payloads}

@@ -1,5 +1,5 @@
 -- Edits of policies.
-use Rattle.std.proofs.Common.{◌≡◌, ◌≢◌, ℕ, ◌==◌, ◌||◌, ◌&&◌, not, Bool, true, false, cond, is_some, unwrap_or, Option, None, Some, List, [], ◌∷◌, ◌++◌, refl, sym, ap, subst, ◌∙◌}
+use Rattle.std.proofs.Common.{◌≡◌, ◌≢◌, ℕ, ◌==◌, ◌||◌, ◌&&◌, not, Bool, true, false, cond, is_some, unwrap_or, Option, None, Some, List, [], ◌∷◌, ◌++◌, map, refl, sym, ap, subst, ◌∙◌}
 use Rattle.std.specs.List.{list_any}
 use Rattle.std.specs.Ordering.{eq_by_cmp, nat_cmp}
 use Rattle.std.specs.Cmp.{unsigned_tied, nat_eq_equiv}
@@ -16,7 +16,11 @@ use Rattle.policy_kinds.specs.declared.kind.Kind.TheVariants.{Plain, DropInvalid
 use Rattle.stability_laws.specs.Plans.{Plan, announcers_of}
 use Rattle.sim_core.specs.Edits.{with_kind}
 use Rattle.sim_core.specs.Loaded.{is_other}
-use Rattle.sim_core.specs.World.{graph_of, leakers, named}
+use Rattle.sim_core.specs.World.{graph_of, named}
+
+-- the ASes that leak in some round (RFC 7908, section 3)
+abbrev pub leakers : Plan → List ℕ
+leakers plan = map (λ e. e.1) (fin.keys plan.leakers)
 
 abbrev pub Kinds : Type 0
 Kinds = fin.FinMap nat_cmp Kind

@@ -33,7 +33,7 @@ use Rattle.sim_core.specs.Edits.{IsAllowed, absent, edited, refusal_of_edit}
 use Rattle.sim_core.specs.Ground.{BelongTo, DiffersAround, Ground, IsRightOn, IsSeedChange}
 use Rattle.sim_core.specs.Marking.{with_mark_if}
 use Rattle.sim_core.specs.Sims.{world_seen}
-use Rattle.sim_core.specs.World.{World, HasCycle, graph_of, has_prefix as has_world_prefix, named, topology}
+use Rattle.sim_core.specs.World.{World, HasCycle, graph_of, named, topology}
 use Rattle.sim_core.specs.declared.errors.EditError.TheVariants as refused
 use Rattle.sim_core.specs.declared.errors.EditLimit.TheVariants.{Ases}
 use Rattle.sim_core.specs.declared.sim.Sim.{Sim}
@@ -91,7 +91,7 @@ announced_named plan kinds p path a old e is plan_is a_is =
 -- a withdrawal that is not refused is of something announced
 withdrawn_announced : (w : World) (e : SeedEdit) (a : ℕ) → absent w (edit_of e) ≡ None → a ≡ edit_asn e → ((p : PrefixValue) (path : List ℕ) → e ≡ Announce p path → ⊥) → announces w.plan (edit_prefix e) a ≡ true
 withdrawn_announced w (Announce p path) a there a_is other = absurd (other p path refl)
-withdrawn_announced w (Withdraw p b) a there a_is other = ap (announces w.plan p) a_is ∙ by (has_world_prefix w p) (announces w.plan p b) there
+withdrawn_announced w (Withdraw p b) a there a_is other = ap (announces w.plan p) a_is ∙ by (has_prefix w.plan p) (announces w.plan p b) there
   where
     by : (t u : Bool) → cond t (cond u None (Some (refused.AbsentAnnouncement p b))) (Some (refused.UnknownPrefix p)) ≡ None → u ≡ true
     by true true h = refl

@@ -13,8 +13,8 @@ use Rattle.policy_kinds.specs.declared.kind.Kind.TheVariants.{Plain}
 use Rattle.stability_laws.specs.Plans.{Plan, announcers_of}
 use Rattle.sim_core.specs.Loaded.{is_other}
 use Rattle.sim_core.specs.Marking.{with_mark_if}
-use Rattle.sim_core.specs.World.{leakers, named}
-use Rattle.sim_core.proofs.PolicyEdits.{AreOther, Kinds, as_other, is_key, named_by, occurs_keys}
+use Rattle.sim_core.specs.World.{named}
+use Rattle.sim_core.proofs.PolicyEdits.{AreOther, Kinds, leakers, as_other, is_key, named_by, occurs_keys}
 
 or_cond : (b c : Bool) → (b || c) ≡ cond b true c
 or_cond true c = refl

@@ -18,9 +18,9 @@ use Rattle.stability_laws.specs.Stable.{IsRight, IsRightGiven}
 use Rattle.stability_laws.specs.declared.entry.Entry.{Entry}
 use Rattle.stability_laws.specs.declared.entry.Seed.{Seed}
 use Rattle.stability_laws.proofs.KeyLists.{eq_is}
-use Rattle.sim_core.specs.World.{graph_of, leakers, named}
+use Rattle.sim_core.specs.World.{graph_of, named}
 use Rattle.sim_core.proofs.Announcers.{is_announcer}
-use Rattle.sim_core.proofs.PolicyEdits.{Kinds, named_by}
+use Rattle.sim_core.proofs.PolicyEdits.{Kinds, leakers, named_by}
 
 -- the plan or a policy names the AS
 abbrev pub is_named : Plan → Kinds → ℕ → Bool

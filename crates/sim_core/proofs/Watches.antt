@@ -1,5 +1,5 @@
 -- The watches that are kept are those of the rounds and the watched addresses.
-use Rattle.std.proofs.Common.{◌≡◌, ◌≢◌, ◌⊎◌, inl, inr, ℕ, zero, suc, ◌+◌, ◌-◌, ◌<◌, ◌≤◌, ◌&&◌, ◌||◌, not, Bool, true, false, cond, nat_lt, nat_le, Option, Some, None, option_map, List, [], ◌∷◌, ◌++◌, length, map, get_or, unwrap_or, refl, sym, ap, subst, ◌∙◌, arith, length-append}
+use Rattle.std.proofs.Common.{◌≡◌, ◌≢◌, ◌⊎◌, inl, inr, ℕ, zero, suc, ◌+◌, ◌-◌, ◌<◌, ◌≤◌, ◌&&◌, ◌||◌, not, Bool, true, false, cond, nat_lt, nat_le, IsTrue, Option, Some, None, option_map, List, [], ◌∷◌, ◌++◌, length, map, get_or, unwrap_or, refl, sym, ap, subst, ◌∙◌, arith, length-append}
 use Rattle.std.specs.Prelude.{option_and_then, position, slice_get}
 use Rattle.std.specs.Cmp.{eq_by_cmp_equiv}
 use Rattle.std.proofs.lemmas.List.{length-map, map-append}
@@ -36,9 +36,14 @@ use Rattle.leak_round.specs.declared.rounds.Rounds.{Rounds}
 use Rattle.leak_round.specs.Rounds.{kept as kept_rounds, plan_of, round_count}
 use Rattle.sim_core.specs.declared.watching.RoundWatches.{RoundWatches}
 use Rattle.sim_core.specs.Watching.{AreRoundWatches, AreWatches, HasWatches, IsPlaceOrNone, addrs_in, place_in, rows_in, seen_in, seen_of, watch_at}
-use Rattle.sim_core.specs.Kept.{AreWatchRows}
+use Rattle.sim_core.specs.Families.{Family as Routings}
 use Rattle.sim_core.specs.Parts.{IsNamed, world_by}
-use Rattle.sim_core.specs.World.{graph_of, kind_at, topology}
+use Rattle.sim_core.specs.World.{World, graph_of, has_round, kind_at, topology}
+
+-- for each round and watched address the rows are those of all ASes of the world
+abbrev AreWatchRows : World → Routings → (ℕ → AddrValue → List Row) → Type 0
+AreWatchRows w g rows =
+    (round : ℕ) (addr : AddrValue) → IsTrue (has_round w round) → IsTrue (set.contains w.watched addr) → AreRows (topology w) (next_hop w.plan (g round) addr) (λ a. label (kind_at w a)) (rows round addr)
 
 -- ---- lists
 

@@ -19,7 +19,7 @@ use Rattle.leak_round.specs.Limits.{IsWithinLimits}
 use Rattle.scenario_text.specs.Scenarios.{ScenarioValue, IsScenario}
 use Rattle.scenario_text.specs.declared.scenario.Announcement.{Announcement}
 use Rattle.sim_core.specs.Loaded.{is_other, kinds_of, leaks_from, names_in, plan_of}
-use Rattle.sim_core.specs.World.{leakers}
+use Rattle.sim_core.proofs.PolicyEdits.{leakers}
 use Rattle.sim_core.proofs.Keys.{occurs-from_entries}
 use Rattle.sim_core.proofs.Plans.{exact_pair}
 

@@ -1,51 +1,45 @@
 -- Answers to queries.
 use Rattle.std.specs.Prelude.{◌≡◌, ℕ, Bool, Option, None, Some, List, ◌++◌, if◌then◌else◌}
+use Rattle.std.specs.FinSet as set
 use Rattle.scenario_text.specs.declared.acts.Query.{Query}
 use Rattle.scenario_text.specs.declared.acts.Query.TheVariants as query
+use Rattle.as_graph.specs.Topology.{has}
 use Rattle.roa_table.specs.Cover.{covering}
 use Rattle.origin_validation.specs.Judging.{state_of}
 use Rattle.data_trace.specs.Hops.{next_hop}
 use Rattle.data_trace.specs.Traces.{IsTrace}
 use Rattle.data_trace.specs.declared.kinds.End.{End}
-use Rattle.data_trace.specs.declared.kinds.Hop.{Hop}
-use Rattle.stability_laws.specs.Plans.{announcers_of}
+use Rattle.stability_laws.specs.Plans.{announcers_of, has_prefix}
 use Rattle.reports.specs.Counts.{report_text}
 use Rattle.reports.specs.Rows.{IsTable, rank_row, row}
 use Rattle.reports.specs.Traces.{trace_text}
 use Rattle.reports.specs.Validity.{validity_text}
-use Rattle.sim_core.specs.World.{World, has_as, has_prefix, has_round, is_watched}
+use Rattle.sim_core.specs.World.{World, has_round, topology}
 use Rattle.sim_core.specs.Kept.{Kept}
 use Rattle.sim_core.specs.declared.errors.QueryError.{QueryError}
 use Rattle.sim_core.specs.declared.errors.QueryError.TheVariants as refused
 
 -- this refusal, unless what it asks for is there
-abbrev pub unless : Bool → QueryError → Option QueryError → Option QueryError
+abbrev pub unless : {E : Type 0} → Bool → E → Option E → Option E
 unless there e others = if there then others else Some e
 
 -- why a query is refused: the first thing in the order round, prefix, AS, watched address that it names and that the world has not
 abbrev pub refusal_of : World → Query → Option QueryError
-refusal_of w (query.Routes round prefix) = unless (has_round w round) (refused.UnknownRound round) (unless (has_prefix w prefix) (refused.UnknownPrefix prefix) None)
+refusal_of w (query.Routes round prefix) = unless (has_round w round) (refused.UnknownRound round) (unless (has_prefix w.plan prefix) (refused.UnknownPrefix prefix) None)
 refusal_of w (query.Route round prefix a) =
-    unless (has_round w round) (refused.UnknownRound round) (unless (has_prefix w prefix) (refused.UnknownPrefix prefix) (unless (has_as w a) (refused.UnknownAs a) None))
-refusal_of w (query.Trace round a addr) = unless (has_round w round) (refused.UnknownRound round) (unless (has_as w a) (refused.UnknownAs a) None)
-refusal_of w (query.Report round addr) = unless (has_round w round) (refused.UnknownRound round) (unless (is_watched w addr) (refused.NotWatched addr) None)
-refusal_of w query.Ranks = None
-refusal_of w (query.Validity prefix a) = None
-
--- the text is the line of the trace from the AS, where each AS has this next hop (own format)
-pub record IsTraceLine (next : ℕ → Hop) (a : ℕ) (text : List ℕ) : Type 0 where
-  pub walk : List ℕ
-  pub end : End
-  pub trace : IsTrace next a walk end
-  pub is : text ≡ trace_text walk end
+    unless (has_round w round) (refused.UnknownRound round) (unless (has_prefix w.plan prefix) (refused.UnknownPrefix prefix) (unless (has (topology w) a) (refused.UnknownAs a) None))
+refusal_of w (query.Trace round a addr) = unless (has_round w round) (refused.UnknownRound round) (unless (has (topology w) a) (refused.UnknownAs a) None)
+refusal_of w (query.Report round addr) = unless (has_round w round) (refused.UnknownRound round) (unless (set.contains w.watched addr) (refused.NotWatched addr) None)
+refusal_of w q = None
 
 -- the text is the answer to a query, by what is kept of the world and by its payloads (own format)
 abbrev pub IsAnswer : World → Kept → Query → List ℕ → Type 0
-IsAnswer w k (query.Routes round prefix) text = IsTable (has_as w) (λ a. row a (k.routings round prefix a)) text
+IsAnswer w k (query.Routes round prefix) text = IsTable (has (topology w)) (λ a. row a (k.routings round prefix a)) text
 IsAnswer w k (query.Route round prefix a) text = text ≡ row a (k.routings round prefix a)
-IsAnswer w k (query.Trace round a addr) text = IsTraceLine (next_hop w.plan (k.routings round) addr) a text
+IsAnswer w k (query.Trace round a addr) text =
+    (walk : List ℕ) × (end : End) × IsTrace (next_hop w.plan (k.routings round) addr) a walk end × (text ≡ trace_text walk end)
 IsAnswer w k (query.Report round addr) text = text ≡ report_text (k.rows round addr) (announcers_of w.plan)
-IsAnswer w k query.Ranks text = IsTable (has_as w) (λ a. rank_row a (k.ranks a)) text
+IsAnswer w k query.Ranks text = IsTable (has (topology w)) (λ a. rank_row a (k.ranks a)) text
 IsAnswer w k (query.Validity prefix a) text = text ≡ validity_text (state_of w.payloads prefix a) (covering w.payloads prefix)
 
 -- the answer to the query was appended

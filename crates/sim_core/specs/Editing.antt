@@ -20,7 +20,7 @@ use Rattle.scenario_text.specs.declared.acts.Edit.TheVariants as edit
 use Rattle.stability_laws.specs.SeedEdits.{IsEditOf, IsEditWithin, edited as edited_plan}
 use Rattle.stability_laws.specs.declared.seed_plan.edits.SeedEdit.{SeedEdit}
 use Rattle.stability_laws.specs.declared.seed_plan.edits.SeedEdit.TheVariants as seeds
-use Rattle.sim_core.specs.Edits.{BeginsWithLink, HasChanged, IsAllowed, IsEditRefusal, absent, edited, with_kind}
+use Rattle.sim_core.specs.Edits.{BeginsWithLink, IsAllowed, IsEditRefusal, absent, edited, with_kind}
 use Rattle.sim_core.specs.Ground.{AreSeenAlike, BelongTo, Ground}
 use Rattle.sim_core.specs.Kept.{IsKept}
 use Rattle.sim_core.specs.Sims.{kept, world_seen}
@@ -35,7 +35,7 @@ pub record IsDone (old new : Sim) (e : Edit) (routes : ℕ) : Type 0 where
   pub world : world_seen new ≡ edited (world_seen old) e
   pub allowed : IsAllowed (world_seen old) e
   pub is_kept : IsKept (world_seen new) (kept new)
-  pub changed : HasChanged (world_seen new) (kept old).routings (kept new).routings routes
+  pub changed : HasChanges (world_seen new).plan (world_seen new).rounds (kept old).routings (kept new).routings routes
 
 -- the world, and what is kept of it, are as they were
 pub record IsUndone (old new : Sim) : Type 0 where

@@ -1,19 +1,20 @@
 -- Edited worlds: what an edit makes of a world, and why it is refused.
-use Rattle.std.specs.Prelude.{◌≡◌, ℕ, nat_lt, if◌then◌else◌, is_some, List, ◌∷◌, Option, None, Some}
+use Rattle.std.specs.Prelude.{◌≡◌, ℕ, nat_lt, if◌then◌else◌, is_some, List, ◌∷◌, Option, None, Some, option_map}
 use Rattle.std.specs.Ordering.{nat_cmp}
 use Rattle.std.specs.FinMap as fin
+use Rattle.std.specs.Option.{option_or}
 use Rattle.net_names.specs.declared.routes.Rel.TheVariants.{Customer, Provider}
 use Rattle.as_graph.specs.Topology.{as_count, what}
 use Rattle.as_graph.specs.Hierarchy.{IsProviderCycle}
 use Rattle.as_graph.specs.Edits.{with_link, without_link}
 use Rattle.policy_kinds.specs.declared.kind.Kind.{Kind}
-use Rattle.stability_laws.specs.Plans.{announces, with_announcement}
+use Rattle.stability_laws.specs.Plans.{announces, has_prefix, with_announcement}
 use Rattle.stability_laws.specs.SeedEdits.{without_announcement}
-use Rattle.leak_round.specs.Changes.{HasChanges}
+pub use Rattle.leak_round.specs.Changes.{HasChanges}
 use Rattle.scenario_text.specs.declared.acts.Edit.{Edit}
 use Rattle.scenario_text.specs.declared.acts.Edit.TheVariants as edit
-use Rattle.sim_core.specs.World.{World, HasCycle, has_prefix, topology}
-use Rattle.sim_core.specs.Families.{Family}
+use Rattle.sim_core.specs.World.{World, HasCycle, topology}
+use Rattle.sim_core.specs.Answers.{unless}
 use Rattle.sim_core.specs.Loaded.{is_other}
 use Rattle.sim_core.specs.declared.errors.EditError.{EditError}
 use Rattle.sim_core.specs.declared.errors.EditError.TheVariants as refused
@@ -40,10 +41,10 @@ absent_link a b = if nat_lt a b then refused.AbsentLink a b else refused.AbsentL
 
 -- what the edit names or takes away and the world has not: the link of the pair, the payload, the prefix, or else the AS's announcement of it
 abbrev pub absent : World → Edit → Option EditError
-absent w (edit.Unlink a b) = if is_some (what (topology w) a b) then None else Some (absent_link a b)
-absent w (edit.VrpTake vrp) = if fin.contains_key w.payloads vrp then None else Some (refused.AbsentVrp vrp)
-absent w (edit.Announce prefix path) = if has_prefix w prefix then None else Some (refused.UnknownPrefix prefix)
-absent w (edit.Withdraw prefix a) = if has_prefix w prefix then (if announces w.plan prefix a then None else Some (refused.AbsentAnnouncement prefix a)) else Some (refused.UnknownPrefix prefix)
+absent w (edit.Unlink a b) = unless (is_some (what (topology w) a b)) (absent_link a b) None
+absent w (edit.VrpTake vrp) = unless (fin.contains_key w.payloads vrp) (refused.AbsentVrp vrp) None
+absent w (edit.Announce prefix path) = unless (has_prefix w.plan prefix) (refused.UnknownPrefix prefix) None
+absent w (edit.Withdraw prefix a) = unless (has_prefix w.plan prefix) (refused.UnknownPrefix prefix) (unless (announces w.plan prefix a) (refused.AbsentAnnouncement prefix a) None)
 absent w e = None
 
 -- the first limit that a world passes: 1,500,000 links, 64 announcements, 150,000 ASes, 2,000,000 payloads
@@ -52,51 +53,28 @@ passed_limit w =
     if nat_lt 1500000 (fin.len w.links) then Some Links
     else (if nat_lt 64 (fin.len w.plan.announced) then Some Announcements else (if nat_lt 150000 (as_count (topology w)) then Some Ases else (if nat_lt 2000000 (fin.len w.payloads) then Some Vrps else None)))
 
--- the limit that is passed, as a refusal
-abbrev pub over_limit : Option EditLimit → Option EditError
-over_limit None = None
-over_limit (Some which) = Some (refused.Limit which)
-
--- the first reason, or else the second
-abbrev pub or_else : Option EditError → Option EditError → Option EditError
-or_else (Some e) other = Some e
-or_else None other = other
-
 -- why an edit is refused, but for provider cycles: what it names or takes away is not there, or else the edited world passes a limit
 abbrev pub refusal_of_edit : World → Edit → Option EditError
-refusal_of_edit w e = or_else (absent w e) (over_limit (passed_limit (edited w e)))
-
--- the list begins with these two
-abbrev pub Begins : ℕ → ℕ → List ℕ → Type 0
-Begins a b xs = (rest : List ℕ) × (xs ≡ a ∷ b ∷ rest)
+refusal_of_edit w e = option_or (absent w e) (option_map refused.Limit (passed_limit (edited w e)))
 
 -- the list begins with the new link: its provider and then its customer
 abbrev pub BeginsWithLink : Edit → List ℕ → Type 0
-BeginsWithLink (edit.Link a b Customer) xs = Begins a b xs
-BeginsWithLink (edit.Link a b Provider) xs = Begins b a xs
+BeginsWithLink (edit.Link a b Customer) xs = (rest : List ℕ) × (xs ≡ a ∷ b ∷ rest)
+BeginsWithLink (edit.Link a b Provider) xs = (rest : List ℕ) × (xs ≡ b ∷ a ∷ rest)
 BeginsWithLink e xs = ⊥
-
--- the cycle is a provider cycle of the edited world that begins with the new link (Gao and Rexford 2001, the hierarchy assumption)
-pub record IsClosed (w : World) (e : Edit) (cycle : List ℕ) : Type 0 where
-  pub closes : IsProviderCycle (what (topology (edited w e))) cycle
-  pub begins : BeginsWithLink e cycle
 
 -- the edit is allowed: there is no reason to refuse it, and the edited world has no provider cycle
 pub record IsAllowed (w : World) (e : Edit) : Type 0 where
   pub accepted : refusal_of_edit w e ≡ None
   pub no_cycle : HasCycle (edited w e) → ⊥
 
--- the edit is refused for this reason: it is the first one; or there is none, and the edited world has this provider cycle
+-- the edit is refused for this reason: it is the first one; or there is none, and the edited world has this provider cycle, which begins with the new link (Gao and Rexford 2001, the hierarchy assumption)
 abbrev pub IsReason : World → Edit → EditError → Type 0
 IsReason w e refused.Memory = ⊥
-IsReason w e (refused.ProviderCycle cycle) = (refusal_of_edit w e ≡ None) × IsClosed w e cycle
+IsReason w e (refused.ProviderCycle cycle) = (refusal_of_edit w e ≡ None) × IsProviderCycle (what (topology (edited w e))) cycle × BeginsWithLink e cycle
 IsReason w e error = refusal_of_edit w e ≡ Some error
 
 -- memory is wanting, or the edit is refused for this reason
 abbrev pub IsEditRefusal : World → Edit → EditError → Type 0
 IsEditRefusal w e refused.Memory = Unit {0}
 IsEditRefusal w e error = IsReason w e error
-
--- so many entries of the rounds and prefixes of the world differ between the two families
-abbrev pub HasChanged : World → Family → Family → ℕ → Type 0
-HasChanged w old new n = HasChanges w.plan w.rounds old new n

@@ -19,7 +19,7 @@ use Rattle.route_choice.specs.RoundTables.{AreAllLive, round_routing}
 use Rattle.route_choice.specs.declared.round_tables.RoundTables.{RoundTables}
 use Rattle.leak_round.specs.declared.rounds.Rounds.{Rounds}
 use Rattle.leak_round.specs.Rounds.{kept as kept_rounds, plan_of, pool_of, round_count}
-use Rattle.sim_core.specs.World.{World, graph_of, named, has_round, has_prefix as has_world_prefix}
+use Rattle.sim_core.specs.World.{World, graph_of, named, has_round}
 use Rattle.sim_core.specs.Answers.{unless}
 use Rattle.sim_core.specs.Families.{Family}
 use Rattle.sim_core.specs.declared.errors.QueryError.{QueryError}
@@ -43,7 +43,7 @@ pub record AreRoundsOf (graph : Topology) (payloads : Payloads) (book : PolicyBo
 -- the table is that of a round and a prefix that are there, and the paths of its entries can be read
 pub record IsTableOf (w : World) (rounds : Rounds) (round : ℕ) (prefix : PrefixValue) (table : Table) : Type 0 where
   pub round_there : has_round w round ≡ true
-  pub prefix_there : has_world_prefix w prefix ≡ true
+  pub prefix_there : has_prefix w.plan prefix ≡ true
   pub live : AreEntriesLive (pool_of rounds) table
   pub routing : (a : ℕ) → table_routing (pool_of rounds) table a ≡ kept_rounds rounds round prefix a
 
@@ -55,7 +55,7 @@ pub record AreTablesOf (w : World) (rounds : Rounds) (round : ℕ) (tables : Rou
 
 -- why there is no such table: the round or the prefix is not there
 abbrev pub no_table : World → ℕ → PrefixValue → Option QueryError
-no_table w round prefix = unless (has_round w round) (refused.UnknownRound round) (unless (has_world_prefix w prefix) (refused.UnknownPrefix prefix) None)
+no_table w round prefix = unless (has_round w round) (refused.UnknownRound round) (unless (has_prefix w.plan prefix) (refused.UnknownPrefix prefix) None)
 
 -- why there are no such tables: the round is not there
 abbrev pub no_round : World → ℕ → Option QueryError

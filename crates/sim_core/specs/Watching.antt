@@ -20,7 +20,7 @@ use Rattle.data_trace.specs.declared.watch.Watch.{Watch}
 use Rattle.sim_core.specs.declared.errors.QueryError.{QueryError}
 use Rattle.sim_core.specs.declared.errors.QueryError.TheVariants as refused
 use Rattle.sim_core.specs.declared.watching.RoundWatches.{RoundWatches}
-use Rattle.sim_core.specs.World.{World, has_round, is_watched}
+use Rattle.sim_core.specs.World.{World, has_round}
 use Rattle.sim_core.specs.Answers.{unless}
 use Rattle.sim_core.specs.Kept.{Kept}
 
@@ -85,9 +85,9 @@ rows_in (Some watch) = rows_of watch
 -- the watch is that of a round and an address that are there
 pub record IsWatchOf (w : World) (k : Kept) (round : ℕ) (addr : AddrValue) (watch : Watch) : Type 0 where
   pub round_there : has_round w round ≡ true
-  pub watched : is_watched w addr ≡ true
+  pub watched : set.contains w.watched addr ≡ true
   pub rows : k.rows round addr ≡ rows_of watch
 
 -- why there is no such watch: the round is not there, or the address is not watched
 abbrev pub no_watch : World → ℕ → AddrValue → Option QueryError
-no_watch w round addr = unless (has_round w round) (refused.UnknownRound round) (unless (is_watched w addr) (refused.NotWatched addr) None)
+no_watch w round addr = unless (has_round w round) (refused.UnknownRound round) (unless (set.contains w.watched addr) (refused.NotWatched addr) None)

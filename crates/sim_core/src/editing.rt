@@ -1,10 +1,11 @@
 //! Edits of a simulation.
 ghost use Rattle.std.specs.Prelude.{◌≡◌, ◌≤◌, IfOk, IfErr, OnOk, OnErr};
+ghost use Rattle.leak_round.specs.Changes.{HasChanges};
 ghost use Rattle.leak_round.specs.Rounds.{pool_of};
 ghost use Rattle.path_pool.specs.Pool.{live_count};
 ghost use Rattle.scenario_text.specs.LineValues.{IsWellFormed};
 ghost use Rattle.sim_core.specs.Editing.{IsEdited, IsUnchanged};
-ghost use Rattle.sim_core.specs.Edits.{HasChanged, IsAllowed, IsEditRefusal, edited};
+ghost use Rattle.sim_core.specs.Edits.{IsAllowed, IsEditRefusal, edited};
 ghost use Rattle.sim_core.specs.Kept.{IsKept};
 ghost use Rattle.sim_core.specs.Sims.{kept, world_seen};
 ghost use Rattle.sim_core.specs.Steps.{IsQuick};
@@ -97,7 +98,7 @@ impl Sim {
         ensures world { OnOk result (world_seen self.new ≡ edited (world_seen self.old) edit.now) }
         ensures allowed { OnOk result (IsAllowed (world_seen self.old) edit.now) }
         ensures kept { OnOk result (IsKept (world_seen self.new) (kept self.new)) }
-        ensures changed { IfOk result (λ c. HasChanged (world_seen self.new) (kept self.old).routings (kept self.new).routings c.routes) }
+        ensures changed { IfOk result (λ c. HasChanges (world_seen self.new).plan (world_seen self.new).rounds (kept self.old).routings (kept self.new).routings c.routes) }
         ensures quick { live_count (pool_of self.old.rounds) ≤ 20000000 → OnOk result (IsQuick (world_seen self.old) (world_seen self.new) edit.now (kept self.old).routings (kept self.new).routings steps.old steps.new) }
         ensures refused { IfErr result (IsEditRefusal (world_seen self.old) edit.now) }
         ensures same_world { OnErr result (world_seen self.new ≡ world_seen self.old) }

@@ -10,12 +10,12 @@ pub returns : goal.returns
 returns g c = record {
   reply = record {
     text = edit_refusal_text c.in-Err.error;
-    reply = record {
-      error = c.in-Err.error;
-      reason = reason_of (world_seen c.args.sim.now) c.args.edit.now c.in-Err.error c.in_ok-put_edit_refusal-in-Err.ensures.told c.in-Err.ensures.refused;
-      says = refl;
-      stays = c.in-Err.ensures.same_world;
-    };
+    reply = (
+      c.in-Err.error,
+      reason_of (world_seen c.args.sim.now) c.args.edit.now c.in-Err.error c.in_ok-put_edit_refusal-in-Err.ensures.told c.in-Err.ensures.refused,
+      refl,
+      c.in-Err.ensures.same_world,
+    );
     appended = c.in_ok-put_edit_refusal-in-Err.ensures.text;
   };
   kept = subst (λ (t : World × Kept). IsKept t.0 t.1) (λ i. (sym c.in-Err.ensures.same_world i, sym c.in-Err.ensures.same_kept i)) c.requires.kept;

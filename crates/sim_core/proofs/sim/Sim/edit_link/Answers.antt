@@ -1,13 +1,14 @@
-use Rattle.std.proofs.Common.{◌≡◌, ◌∙◌, inl, inr, None, Some, refl, sym, ap}
+use Rattle.std.proofs.Common.{◌≡◌, ◌∙◌, inl, inr, None, Some, option_map, refl, sym, ap}
 use Rattle.net_names.specs.Links.{LinkMap}
 use Rattle.as_graph.specs.Topology.{Topology, what}
 use Rattle.leak_round.specs.Touched.{touches}
 use Rattle.scenario_text.specs.declared.acts.Edit.TheVariants.{Link}
 use Rattle.stability_laws.specs.Plans.{Plan, has_prefix}
 use Rattle.sim_core.specs.Editing.{ground_of}
-use Rattle.sim_core.specs.Edits.{over_limit, passed_limit, refusal_of_edit}
+use Rattle.sim_core.specs.Edits.{passed_limit, refusal_of_edit}
 use Rattle.sim_core.specs.Sims.{world_seen}
 use Rattle.sim_core.specs.World.{graph_of}
+use Rattle.sim_core.specs.declared.errors.EditError.TheVariants as refused
 use Rattle.sim_core.proofs.Doing.{allowed_by, begun_belongs, changed_done, small_world}
 use Rattle.sim_core.proofs.Grounds.{quick_done}
 use Rattle.sim_core.proofs.LinkEdits.{pair_end, back_linked, link_differs, link_stopped, links_undone, links_world, there_none}
@@ -52,7 +53,7 @@ returns-clause-edited g c =
     let h = c.in-Ok-set_link.ensures.ok in
     let alike = c.in-Err-change_linked.ensures.err in
     let world = links_world old mid c.args.a c.args.b _ h in
-    let accepted : refusal_of_edit (world_seen old) e ≡ None = ap over_limit (ap passed_limit (sym world) ∙ small_world mid c.is_small.ensures) in (
+    let accepted : refusal_of_edit (world_seen old) e ≡ None = ap (option_map refused.Limit) (ap passed_limit (sym world) ∙ small_world mid c.is_small.ensures) in (
       link_stopped (world_seen old) mid.graph c.args.a c.args.b c.args.rel c.in-Err-change_linked.error accepted (ap (λ (l : LinkMap). what (graph_of l mid.graph.marked)) h.are) c.in-Err-change_linked.ensures.refused,
       links_undone old mid same c.set_back.new.self c.args.a c.args.b _ _ h alike c.set_back.ensures
           (back_linked c.edits_are_undone.ensures old.graph c.args.a c.args.b c.args.rel c.requires.apart same.graph (ap (λ (t : Topology). t.links) alike.graph ∙ h.are) c.rel-old.result (sym c.rel-old.ensures)),

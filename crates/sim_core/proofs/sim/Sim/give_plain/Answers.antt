@@ -11,9 +11,9 @@ use Rattle.policy_kinds.specs.Kinds.{kind_policy}
 use Rattle.policy_kinds.specs.declared.kind.Kind.{Kind}
 use Rattle.stability_laws.specs.Book.{PolicyBook}
 use Rattle.stability_laws.specs.Plans.{Plan, announcers_of}
-use Rattle.sim_core.specs.World.{graph_of, leakers, named}
+use Rattle.sim_core.specs.World.{graph_of, named}
 use Rattle.sim_core.proofs.Listed.{reading_without}
-use Rattle.sim_core.proofs.PolicyEdits.{AreOther, named_plain, taken_other}
+use Rattle.sim_core.proofs.PolicyEdits.{AreOther, leakers, named_plain, taken_other}
 use Rattle.sim_core.proofs.sim.Sim.give_plain.Goals as goal
 
 links_still : (t : Bool) (g : Topology) (a : ℕ) → (cond t g (without_mark g a)).links ≡ g.links
