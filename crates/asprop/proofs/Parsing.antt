@@ -1,13 +1,44 @@
 -- What the program's command finds in the words.
-use Rattle.std.proofs.Common.{◌≡◌, ◌∙◌, ap, subst, refl, true, List, [], ◌∷◌, codes, Option, None, inl, inr}
-use Rattle.clap.specs.Walk.{Row, Text, first_of}
+use Rattle.std.proofs.Common.{◌≡◌, ◌∙◌, ap, sym, subst, refl, true, false, if◌then◌else◌, length, arith, List, [], ◌∷◌, codes, Option, None, inl, inr}
+use Rattle.std.proofs.lemmas.Bool.{ne_eqb}
+use Rattle.clap.specs.Walk.{Row, Text, first_of, is_empty}
 use Rattle.clap.specs.Words.{App, HasKind, HasMatchesOf, Kinds, fault_of, first_value, found_of, is_simple, is_simple_and_free, kind_of, matches_of, rows_of}
 use Rattle.clap.specs.declared.error.Error.{Error}
 use Rattle.clap.specs.declared.error.kind.ErrorKind.TheVariants.{OutOfMemory}
 use Rattle.clap.specs.declared.parser.matches.ArgMatches.{ArgMatches}
 use Rattle.clap.proofs.WalkLemmas.{first_value-rows}
-use Rattle.asprop.specs.Command.{asprop_command, faults_in, rows_in}
-use Rattle.asprop.specs.Words.{Form, form_by, form_in, form_of}
+use Rattle.asprop.specs.Command.{asprop_command}
+use Rattle.asprop.specs.Words.{Form, form_by, form_of}
+
+-- the faults that the command finds in the words
+unfoldable pub faults_in : List Text → Kinds
+faults_in words = fault_of asprop_command words
+
+-- the values of the options and of the word that stand
+unfoldable pub rows_in : List Text → List Row
+rows_in words = matches_of asprop_command words
+
+-- the form that these values have, unless there are faults
+abbrev form_in : Kinds → List Row → Option Form
+form_in [] rows =
+    form_by (first_of (codes "rel") rows) (first_of (codes "vrps") rows)
+    (first_of (codes "scenario") rows) (first_of (codes "script") rows)
+    (first_of (codes "origin") rows) (first_of (codes "demo") rows)
+form_in (fault ∷ faults) rows = None
+
+not_empty : {X : Type 0} (x : X) (xs : List X) → is_empty (x ∷ xs) ≡ false
+not_empty x xs = ne_eqb (length (x ∷ xs)) 0 (λ none. absurd (omega (arith, none)))
+
+form_by_rows : (kinds : Kinds) (rows : List Row) →
+    (if is_empty kinds then form_by (first_of (codes "rel") rows) (first_of (codes "vrps") rows) (first_of (codes "scenario") rows)
+    (first_of (codes "script") rows) (first_of (codes "origin") rows) (first_of (codes "demo") rows) else None) ≡ form_in kinds rows
+form_by_rows [] rows = refl
+form_by_rows (fault ∷ faults) rows = rw (not_empty fault faults) refl
+
+-- the form of the words is that of what the command finds in them
+form_of-in : (words : List Text) → form_of words ≡ form_in (faults_in words) (rows_in words)
+unfolding form_of faults_in rows_in
+form_of-in words = form_by_rows (fault_of asprop_command words) (matches_of asprop_command words)
 
 -- the command is one of those whose faults and matches are told
 simple_and_free : is_simple_and_free asprop_command ≡ true
@@ -40,7 +71,7 @@ refused_by (k ∷ ks) e rows has other = refl
 
 -- words with an error that isn't want of memory have no form
 pub refused : (words : List Text) (e : Error) → HasKind (faults_in words) e → (kind_of e ≡ OutOfMemory → ⊥) → None ≡ form_of words
-refused words e has other = refused_by (faults_in words) e _ has other
+refused words e has other = refused_by (faults_in words) e (rows_in words) has other ∙ sym (form_of-in words)
 
 -- the value of a name, where these are the rows
 pub stands : (m : ArgMatches) (rows : List Row) (id : Text) → rows_of (found_of m) ≡ rows → first_value (found_of m) id ≡ first_of id rows
@@ -52,4 +83,4 @@ pub accepted : (words : List Text) (rel vrps scenario script origin demo : Optio
     → script ≡ first_of (codes "script") (rows_in words) → origin ≡ first_of (codes "origin") (rows_in words) → demo ≡ first_of (codes "demo") (rows_in words)
     → form ≡ form_by rel vrps scenario script origin demo → form ≡ form_of words
 accepted words rel vrps scenario script origin demo form takes rel_is vrps_is scenario_is script_is origin_is demo_is form_is =
-    rw (takes, form_is, rel_is, vrps_is, scenario_is, script_is, origin_is, demo_is) refl
+    rw (form_of-in words, takes, form_is, rel_is, vrps_is, scenario_is, script_is, origin_is, demo_is) refl

@@ -1,11 +1,12 @@
 -- The words of the command line, the program's name first, and the form that they have.
-use Rattle.std.specs.Prelude.{ℕ, ◌≤◌, ◌&&◌, nat_le, if◌then◌else◌, List, [], ◌∷◌, codes, Option, Some, None, option_map}
+use Rattle.std.specs.Prelude.{ℕ, ◌≤◌, ◌&&◌, nat_le, if◌then◌else◌, List, codes, Option, Some, None, option_map}
 use Rattle.std.specs.Borrow.{Bor}
-use Rattle.clap.specs.Kinds.{Kinds}
-use Rattle.clap.specs.Walk.{Row, Text, first_of}
+use Rattle.clap.specs.Faults.{fault_of}
+use Rattle.clap.specs.Simple.{matches_of}
+use Rattle.clap.specs.Walk.{Text, first_of, is_empty}
 use Rattle.net_names.specs.Steps.{◌>>=◌}
 use Rattle.net_names.specs.Texts.{asn_of, numeral}
-use Rattle.asprop.specs.Command.{faults_in, rows_in}
+use Rattle.asprop.specs.Command.{asprop_command}
 use Rattle.asprop.specs.declared.types.File.{File}
 use Rattle.asprop.specs.declared.types.File.TheVariants.{Relations, Payloads, Scenario, Script}
 use Rattle.asprop.specs.declared.words.WordForm.{WordForm}
@@ -38,17 +39,12 @@ form_by (Some rel) None None None (Some number) None = option_map (origin_form r
 form_by None None None None None (Some number) = option_map demo_form (size_of number)
 form_by _ _ _ _ _ _ = None
 
--- the form that these values of the options and of the word have, unless there are faults (own format)
-abbrev pub form_in : Kinds → List Row → Option Form
-form_in [] rows =
-    form_by (first_of (codes "rel") rows) (first_of (codes "vrps") rows)
-    (first_of (codes "scenario") rows) (first_of (codes "script") rows)
-    (first_of (codes "origin") rows) (first_of (codes "demo") rows)
-form_in (fault ∷ faults) rows = None
-
--- the form of the words, where the command takes them and they have one (own format)
-abbrev pub form_of : List Text → Option Form
-form_of words = form_in (faults_in words) (rows_in words)
+-- the form of the words: that of the values of the word and of the options where the command finds no fault in the words, and else none (own format)
+unfoldable pub form_of : List Text → Option Form
+form_of words =
+    let value : Text → Option Text = λ name. first_of name (matches_of asprop_command words) in
+    if is_empty (fault_of asprop_command words) then form_by (value (codes "rel")) (value (codes "vrps")) (value (codes "scenario"))
+    (value (codes "script")) (value (codes "origin")) (value (codes "demo")) else None
 
 -- the name that a form gives to a file, if it names one; without a form there is none
 abbrev pub name_by : Option Form → File → Option Text

@@ -1,14 +1,14 @@
 //! The command that takes the words.
 ghost use Rattle.std.specs.Prelude.{◌≡◌, IfOk, false};
 ghost use Rattle.clap.specs.Words.{app_of, rule_of};
-ghost use Rattle.asprop.specs.Command.{asprop_command, option_rule, word_rule};
+ghost use Rattle.asprop.specs.Command.{asprop_command, word_rule};
 
 use clap::{Arg, ArgAction, Command};
 use std::alloc::{AllocError, Global};
 
 // An option with one value, which stands at most once.
 fn option<'a>(alloc: Global, name: &'a str) -> Arg<'a>
-    ensures rule { rule_of result ≡ option_rule name.entry.now }
+    ensures rule { rule_of result ≡ record (word_rule name.entry.now) { long = Some name.entry.now } }
     ensures local { result.global ≡ false }
 {
     Arg::new(alloc, name).long(name).action(ArgAction::Set)

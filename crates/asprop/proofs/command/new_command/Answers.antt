@@ -1,7 +1,7 @@
 use Rattle.std.proofs.Common.{◌≡◌, ◌∙◌, ap, codes, true}
 use Rattle.std.proofs.lemmas.Result.{IfOk-weaker}
-use Rattle.clap.specs.Simple.{app_of, app_of_fields, on_top}
-use Rattle.asprop.specs.Command.{asprop_command, bare_command}
+use Rattle.clap.specs.Simple.{app_of, app_of_fields, new_app, on_top}
+use Rattle.asprop.specs.Command.{asprop_command}
 use Rattle.asprop.proofs.Adding.{added}
 use Rattle.asprop.proofs.command.new_command.Goals as goal
 
@@ -10,7 +10,7 @@ unfolding asprop_command
 returns c =
     let no_help : app_of c.disable_help_flag.result ≡ on_top (λ s. record s { disable_help_flag = true }) (app_of c.new.result) = ap app_of_fields c.disable_help_flag.ensures in
     let no_version : app_of c.disable_version_flag-bare.result ≡ on_top (λ s. record s { disable_version_flag = true }) (app_of c.disable_help_flag.result) = ap app_of_fields c.disable_version_flag-bare.ensures in
-    let bare : app_of c.disable_version_flag-bare.result ≡ bare_command (codes "asprop") =
+    let bare : app_of c.disable_version_flag-bare.result ≡ on_top (λ s. record s { disable_help_flag = true; disable_version_flag = true }) (new_app (codes "asprop")) =
     no_version ∙ ap (on_top (λ s. record s { disable_version_flag = true })) (no_help ∙ ap (on_top (λ s. record s { disable_help_flag = true })) c.new.ensures.app) in
     let vrps = added c.in_ok-arg.ensures c.option.ensures.local bare c.option.ensures.rule in
     let scenario = added c.in_ok-arg-2.ensures c.option-2.ensures.local vrps c.option-2.ensures.rule in
