@@ -97,7 +97,7 @@ fn plan_with_seeds<P: RoutePolicy, V: OriginStates, L: Ledger>(
     Ok(())
 }
 
-// Plans the changes of the table of the prefix at a place in a round.
+// Plans the changes of the table of the prefix at a place in a round. The list of ASes is written over.
 fn plan_change<P: RoutePolicy, V: OriginStates, L: Ledger>(
     alloc: Global,
     graph: &Graph,
@@ -112,6 +112,7 @@ fn plan_change<P: RoutePolicy, V: OriginStates, L: Ledger>(
     own: &[SeedIds],
     edited: &Option<Prefix>,
     touched: &Touched,
+    ases: &mut Vec<Asn>,
     tables: &mut Vec<RoundTables>,
     changes: &mut Vec<Change>,
     round: u32,
@@ -139,7 +140,7 @@ fn plan_change<P: RoutePolicy, V: OriginStates, L: Ledger>(
 {
     match unchanged_seeds(own, plan, after, edited, round, place, prefix) {
         Some(seeds) => {
-            let ases = touched.ases(alloc, prefix)?;
+            touched.put_ases(prefix, ases)?;
             plan_with_seeds(
                 alloc,
                 graph,
@@ -191,7 +192,7 @@ fn plan_change<P: RoutePolicy, V: OriginStates, L: Ledger>(
     }
 }
 
-// Plans the changes of the tables of a round, prefix by prefix.
+// Plans the changes of the tables of a round, prefix by prefix. The list of ASes is written over.
 fn plan_round<P: RoutePolicy, V: OriginStates, L: Ledger>(
     alloc: Global,
     graph: &Graph,
@@ -206,6 +207,7 @@ fn plan_round<P: RoutePolicy, V: OriginStates, L: Ledger>(
     own: &[SeedIds],
     edited: &Option<Prefix>,
     touched: &Touched,
+    ases: &mut Vec<Asn>,
     tables: &mut Vec<RoundTables>,
     changes: &mut Vec<Change>,
     round: u32,
@@ -246,6 +248,7 @@ fn plan_round<P: RoutePolicy, V: OriginStates, L: Ledger>(
             own,
             edited,
             touched,
+            ases,
             tables,
             changes,
             round,
@@ -296,6 +299,7 @@ pub fn plan_rounds<P: RoutePolicy, V: OriginStates, L: Ledger>(
     ensures same { AreSame tables.old.items tables.new.items }
 {
     let rounds = tables.len();
+    let mut ases = Vec::new(alloc);
     for past in 0..rounds {
         plan_round(
             alloc,
@@ -311,6 +315,7 @@ pub fn plan_rounds<P: RoutePolicy, V: OriginStates, L: Ledger>(
             own,
             edited,
             touched,
+            &mut ases,
             tables,
             changes,
             past as u32 + 1,

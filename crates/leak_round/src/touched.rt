@@ -41,6 +41,15 @@ impl Touched {
         ensures { IfOk result (λ v. v.items ≡ ases_in self.now.pairs.items prefix) }
     {
         let mut ases = Vec::new(alloc);
+        self.put_ases(prefix, &mut ases)?;
+        Ok(ases)
+    }
+
+    // Puts the touched ASes of a prefix, perhaps with repeats, in place of those of a list.
+    pub(crate) fn put_ases(&self, prefix: Prefix, ases: &mut Vec<Asn>) -> Result<(), NoMemory>
+        ensures { OnOk result (ases.new.items ≡ ases_in self.now.pairs.items prefix) }
+    {
+        ases.clear();
         for pair in self.pairs.as_slice() {
             if pair.0 == prefix {
                 match ases.push(pair.1) {
@@ -49,6 +58,6 @@ impl Touched {
                 }
             }
         }
-        Ok(ases)
+        Ok(())
     }
 }

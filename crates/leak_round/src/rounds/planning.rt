@@ -1,6 +1,6 @@
 //! Plans of what changes after an edit.
 
-ghost use Rattle.std.specs.Prelude.{◌≡◌, ℕ, suc, ◌<◌, ◌≤◌, true, false, None, Some, IsTrue, IfOk, OnErr, option_map};
+ghost use Rattle.std.specs.Prelude.{◌≡◌, ℕ, suc, ◌<◌, ◌≤◌, true, false, [], None, Some, IsTrue, IfOk, OnErr, option_map};
 ghost use Rattle.std.specs.Option.{option_copied, option_map_or};
 ghost use Rattle.net_names.specs.Prefixes.{PrefixValue};
 ghost use Rattle.as_graph.specs.Topology.{what, has};
@@ -21,7 +21,7 @@ ghost use Rattle.leak_round.specs.Rounds.{is_open, plan_of, pool_of, round_count
 ghost use Rattle.leak_round.specs.Touched.{touches};
 
 use super::Rounds;
-use crate::changes::undo_changes;
+use crate::changes::{Change, undo_changes};
 use crate::edited::drop_seeds;
 use crate::own_seeds::fill_own_seeds;
 use crate::plans::RoundsPlan;
@@ -35,6 +35,19 @@ use route_choice::Steps;
 use stability_laws::{Book, SeedEdit};
 use std::alloc::Global;
 use std::sync::ledger::Ledger;
+
+// For the changes of how many tables a plan has room at first.
+const FEW_TABLES: usize = 8;
+
+// No changes, and room for those of a few tables.
+fn no_changes(alloc: Global) -> Result<Vec<Change>, NoMemory>
+    ensures { IfOk result (λ v. v.items ≡ []) }
+{
+    match Vec::with_capacity(alloc, FEW_TABLES) {
+        Ok(changes) => Ok(changes),
+        Err(_) => Err(NoMemory),
+    }
+}
 
 impl Rounds {
     /// A plan of what changes of the tables after an edit, where no plan is open. The graph, the book and
@@ -88,10 +101,10 @@ impl Rounds {
         ensures err { OnErr result (is_open self.new ≡ false) }
     {
         let _count = graph.as_count();
+        let mut changes = no_changes(alloc)?;
         fill_own_seeds(alloc, &self.plan, &self.announced, &mut self.own)?;
         let before = self.pool.live();
         let edited = edit_if_any(alloc, &self.plan, &self.announced, edit, &mut self.pool)?;
-        let mut changes = Vec::new(alloc);
         match plan_and_tell(
             alloc,
             graph,

@@ -18,14 +18,14 @@ plan_with_seeds-requires-clause-there g c = table_there c.args.pool.now c.args.p
 pub plan_with_seeds-requires-clause-can : goal.plan_with_seeds-requires-clause-can
 plan_with_seeds-requires-clause-can g c =
     can_found (λ (p : PrefixValue). setting g.P.RoutePolicy.meaning c.args.graph.now c.args.book.now (g.V.OriginStates.state_of c.args.states.now p)) c.args.graph.now (touches c.args.touched.now) c.args.plan.now c.args.after.now c.args.announced.now c.args.announced_after.now c.args.pool.now c.args.tables.now.items c.args.changes.now.items c.requires.so_far.0 c.args.steps.now c.requires.can c.requires.held c.requires.so_far.1 c.args.round c.args.prefix c.requires.turn c.in-Some.seeds.now c.as_slice.result.now
-    (wrong_touched c.args.plan.now c.args.after.now c.args.announced.now c.args.announced_after.now c.args.tables.now.items c.args.changes.now.items c.args.round c.args.prefix c.args.touched.now c.args.pool.now c.in-Some.seeds.now c.as_slice.result.now (c.as_slice.ensures.value ∙ c.in_ok-ases-in-Some.ensures)
+    (wrong_touched c.args.plan.now c.args.after.now c.args.announced.now c.args.announced_after.now c.args.tables.now.items c.args.changes.now.items c.args.round c.args.prefix c.args.touched.now c.args.pool.now c.in-Some.seeds.now c.as_slice.result.now (c.as_slice.ensures.value ∙ c.in_ok-put_ases-in-Some.ensures)
     (c.in-Some.ensures c.args.announced.now c.args.announced_after.now c.args.tables.now.items c.args.changes.now.items c.requires.own c.requires.at c.requires.others))
 
-pub returns-in_ok-ases-in-Some-clause-planned : goal.returns-in_ok-ases-in-Some-clause-planned
-returns-in_ok-ases-in-Some-clause-planned g c =
+pub returns-in_ok-put_ases-in-Some-clause-planned : goal.returns-in_ok-put_ases-in-Some-clause-planned
+returns-in_ok-put_ases-in-Some-clause-planned g c =
     on_ok_weaker c.plan_with_seeds.result
     (λ d first so_far. planned_added (λ (p : PrefixValue). setting g.P.RoutePolicy.meaning c.args.graph.now c.args.book.now (g.V.OriginStates.state_of c.args.states.now p)) c.args.graph.now (touches c.args.touched.now) c.args.plan.now c.args.after.now c.args.announced.now c.args.announced_after.now c.args.pool.now c.args.tables.now.items c.args.changes.now.items first c.args.steps.now c.requires.can c.requires.held so_far c.args.round c.args.prefix c.requires.turn c.in-Some.seeds.now c.as_slice.result.now
-    (wrong_touched c.args.plan.now c.args.after.now c.args.announced.now c.args.announced_after.now c.args.tables.now.items c.args.changes.now.items c.args.round c.args.prefix c.args.touched.now c.args.pool.now c.in-Some.seeds.now c.as_slice.result.now (c.as_slice.ensures.value ∙ c.in_ok-ases-in-Some.ensures)
+    (wrong_touched c.args.plan.now c.args.after.now c.args.announced.now c.args.announced_after.now c.args.tables.now.items c.args.changes.now.items c.args.round c.args.prefix c.args.touched.now c.args.pool.now c.in-Some.seeds.now c.as_slice.result.now (c.as_slice.ensures.value ∙ c.in_ok-put_ases-in-Some.ensures)
     (c.in-Some.ensures c.args.announced.now c.args.announced_after.now c.args.tables.now.items c.args.changes.now.items c.requires.own c.requires.at c.requires.others))
     c.plan_with_seeds.new.pool c.plan_with_seeds.new.tables.items c.plan_with_seeds.new.changes.items c.plan_with_seeds.new.steps c.plan_with_seeds.ensures.same d) c.plan_with_seeds.ensures.added
 

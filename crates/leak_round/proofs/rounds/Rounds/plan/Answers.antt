@@ -171,8 +171,8 @@ returns-in-Err-clause-kept g c =
 pub returns-in-Err-clause-rounds : goal.returns-in-Err-clause-rounds
 returns-in-Err-clause-rounds g c = c.plan_and_tell.ensures.same.count
 
-pub invariant_of-self-in-Break-branch-2 : goal.invariant_of-self-in-Break-branch-2
-invariant_of-self-in-Break-branch-2 g c =
+pub invariant_of-self-in-Break-branch-3 : goal.invariant_of-self-in-Break-branch-3
+invariant_of-self-in-Break-branch-3 g c =
     let r = c.args.self.now in
     let pool = c.edit_if_any.new.pool in
     let same = same_itself r.tables.items in
