@@ -99,6 +99,7 @@ impl Overlay {
 
     /// Puts a change at an AS, as `put` does it, sought first at a place, which is a hint. Returns the entry
     /// of the replaced one.
+    #[inline(always)]
     pub fn exchange_near(&mut self, asn: Asn, place: usize, held: Option<Held>) -> Option<Held>
         requires { HasPlace self.old asn }
         ensures old { result ≡ unwrap_or (change_at self.old asn) None }

@@ -111,6 +111,7 @@ impl Slots {
     }
 
     /// Puts an entry, or none, at an AS, sought first at a place. Returns what stood there.
+    #[inline(always)]
     pub(crate) fn exchange_near(
         &mut self,
         asn: Asn,
