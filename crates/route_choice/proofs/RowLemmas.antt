@@ -167,6 +167,11 @@ module _ (ases : List ℕ) (rows : List Slot) (es : List (ℕ × Option Held)) (
         sum_by-set (λ (r : Slot). use_of k (entry_in r)) rows i s d (is_inside ases rows es kept a i at),
       )
 
+-- among no ASes none has a place
+pub no_place : (ases : List ℕ) (a : ℕ) → length ases ≡ 0 → place_of ases a ≡ None
+no_place [] a e = refl
+no_place (x ∷ xs) a e = absurd (omega (arith, e))
+
 -- what was read at an index stands at its AS
 pub slot_read : (es : List (ℕ × Option Held)) (i a : ℕ) (v : Option Held) → IsDistinct nat_eq (keys_of es) → slice_get es i ≡ Some (a, v) → lookup (nat_eq a) es ≡ Some v
 slot_read es i a v apart read = lookup_from_place nat_eq_equiv es i a v apart read

@@ -2,6 +2,7 @@
 
 ghost use Rattle.std.specs.Prelude.{◌≡◌, ◌≢◌, ◌⊎◌, ℕ, ◌+◌, ◌<◌, ◌≤◌, [], ◌∷◌, ◌++◌, length, slice_get, Some, None, IsSome, IsOk, IfOk, IfSome, OnOk, nat_eq, unwrap_or};
 ghost use Rattle.std.specs.List.{IsDistinct};
+ghost use Rattle.as_places.specs.Places.{place_of};
 ghost use Rattle.path_pool.specs.Pool.{holds_of};
 ghost use Rattle.route_choice.specs.Slots.{slot_at, entry_at, keys, over, use_of, uses_of, IsBlank};
 ghost use Rattle.route_choice.specs.Holds.{GivesBack};
@@ -39,6 +40,18 @@ impl Model for Slots {
     ghost view = { λ s. record { entries = entries_at s.ases.ases s.rows.items ++ beside_entries s.beside; spare = beside_spare s.beside } };
 
     ghost invariant = { λ s. AreByPlace s.ases.ases s.rows.items (beside_entries s.beside) };
+}
+
+// The place of an AS, sought first at a place. Changes mostly have no places, and then none is sought.
+#[inline(always)]
+fn place_among(ases: &AsPlaces, asn: Asn, near: usize) -> Option<usize>
+    ensures value { result ≡ place_of ases.now.ases asn }
+    ensures found { IfSome result (λ i. slice_get ases.now.ases i ≡ Some asn) }
+{
+    if ases.len() == 0 {
+        return None;
+    }
+    ases.place_near(asn, near)
 }
 
 impl Slots {
@@ -104,7 +117,7 @@ impl Slots {
     pub(crate) fn get_near(&self, asn: Asn, place: usize) -> Option<Option<Held>>
         ensures { result ≡ slot_at self.now asn }
     {
-        match self.ases.place_near(asn, place) {
+        match place_among(&self.ases, asn, place) {
             Some(found) => Some(self.rows[found].entry()),
             None => self.beside.get(asn),
         }
@@ -128,7 +141,7 @@ impl Slots {
         ensures kept_spare { IsSome (slot_at self.old asn) → self.new.spare ≡ self.old.spare }
         ensures new_place { slot_at self.old asn ≡ None → keys self.new ≡ keys self.old ++ asn ∷ [] }
     {
-        match self.ases.place_near(asn, place) {
+        match place_among(&self.ases, asn, place) {
             Some(found) => {
                 let old = self.rows[found].entry();
                 self.rows[found] = Slot::of(entry);

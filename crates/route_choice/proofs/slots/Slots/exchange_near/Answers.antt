@@ -8,39 +8,39 @@ use Rattle.route_choice.proofs.slots.Slots.exchange_near.Goals as goal
 
 pub returns-in-Some-clause-old : goal.returns-in-Some-clause-old
 returns-in-Some-clause-old c =
-    let there = slot_placed c.self.inside.ases.ases c.self.inside.rows.items (beside_entries c.self.inside.beside) c.self.invariant c.args.asn c.in-Some.found c.index.result.now (sym c.place_near.ensures.value ∙ c.in-Some.is) in
+    let there = slot_placed c.self.inside.ases.ases c.self.inside.rows.items (beside_entries c.self.inside.beside) c.self.invariant c.args.asn c.in-Some.found c.index.result.now (sym c.place_among.ensures.value ∙ c.in-Some.is) in
     c.entry-old.ensures ∙ ap entry_in c.index.ensures ∙ sym (ap (λ o. unwrap_or o None) there) ∙ ap (λ (v : Slots). unwrap_or (slot_at v c.args.asn) None) c.self.view_is
 
 pub returns-in-Some-clause-this : goal.returns-in-Some-clause-this
 returns-in-Some-clause-this c =
-    written_this c.self.inside.ases.ases c.self.inside.rows.items (beside_entries c.self.inside.beside) c.self.invariant c.args.asn c.in-Some.found c.of.result (sym c.place_near.ensures.value ∙ c.in-Some.is)
+    written_this c.self.inside.ases.ases c.self.inside.rows.items (beside_entries c.self.inside.beside) c.self.invariant c.args.asn c.in-Some.found c.of.result (sym c.place_among.ensures.value ∙ c.in-Some.is)
     ∙ ap Some c.of.ensures
 
 pub returns-in-Some-clause-others : goal.returns-in-Some-clause-others
 returns-in-Some-clause-others c = λ a ne.
-    written_others c.self.inside.ases.ases c.self.inside.rows.items (beside_entries c.self.inside.beside) c.self.invariant c.args.asn c.in-Some.found c.of.result (sym c.place_near.ensures.value ∙ c.in-Some.is) a ne
+    written_others c.self.inside.ases.ases c.self.inside.rows.items (beside_entries c.self.inside.beside) c.self.invariant c.args.asn c.in-Some.found c.of.result (sym c.place_among.ensures.value ∙ c.in-Some.is) a ne
     ∙ ap (λ (v : Slots). slot_at v a) c.self.view_is
 
 pub returns-in-Some-clause-uses : goal.returns-in-Some-clause-uses
 returns-in-Some-clause-uses c = λ k.
-    let told = written_uses c.self.inside.ases.ases c.self.inside.rows.items (beside_entries c.self.inside.beside) c.self.invariant c.args.asn c.in-Some.found c.of.result (sym c.place_near.ensures.value ∙ c.in-Some.is) c.index.result.now k in
+    let told = written_uses c.self.inside.ases.ases c.self.inside.rows.items (beside_entries c.self.inside.beside) c.self.invariant c.args.asn c.in-Some.found c.of.result (sym c.place_among.ensures.value ∙ c.in-Some.is) c.index.result.now k in
     let old = ap (use_of k) (c.entry-old.ensures ∙ ap entry_in c.index.ensures) in
     let new = ap (use_of k) c.of.ensures in
     omega (arith, told, old, new, ap (λ (v : Slots). uses_of v k) c.self.view_is)
 
 pub returns-in-Some-clause-kept : goal.returns-in-Some-clause-kept
 returns-in-Some-clause-kept c = λ there.
-    written_keys c.self.inside.ases.ases c.self.inside.rows.items (beside_entries c.self.inside.beside) c.self.invariant c.args.asn c.in-Some.found c.of.result (sym c.place_near.ensures.value ∙ c.in-Some.is)
+    written_keys c.self.inside.ases.ases c.self.inside.rows.items (beside_entries c.self.inside.beside) c.self.invariant c.args.asn c.in-Some.found c.of.result (sym c.place_among.ensures.value ∙ c.in-Some.is)
     ∙ ap (λ (v : Slots). keys v) c.self.view_is
 
 pub returns-in-Some-clause-new_place : goal.returns-in-Some-clause-new_place
 returns-in-Some-clause-new_place c = λ none.
-    let there = slot_placed c.self.inside.ases.ases c.self.inside.rows.items (beside_entries c.self.inside.beside) c.self.invariant c.args.asn c.in-Some.found c.index.result.now (sym c.place_near.ensures.value ∙ c.in-Some.is) in
+    let there = slot_placed c.self.inside.ases.ases c.self.inside.rows.items (beside_entries c.self.inside.beside) c.self.invariant c.args.asn c.in-Some.found c.index.result.now (sym c.place_among.ensures.value ∙ c.in-Some.is) in
     absurd (true≢false (sym (ap is_some there) ∙ ap is_some (ap (λ (v : Slots). slot_at v c.args.asn) c.self.view_is ∙ none)))
 
 pub exchange-requires : goal.exchange-requires
 exchange-requires c =
-    let there = slot_beside c.self.inside.ases.ases c.self.inside.rows.items (beside_entries c.self.inside.beside) c.self.invariant c.args.asn (sym c.place_near.ensures.value ∙ c.in-None.is) in
+    let there = slot_beside c.self.inside.ases.ases c.self.inside.rows.items (beside_entries c.self.inside.beside) c.self.invariant c.args.asn (sym c.place_among.ensures.value ∙ c.in-None.is) in
     let seen = ap (λ (v : Slots). slot_at v c.args.asn) c.self.view_is in
     elim c.requires [
       | inl some ↦ inl (subst IsSome (sym seen ∙ there) some)
@@ -49,17 +49,17 @@ exchange-requires c =
 
 pub invariant_of-self-in-None : goal.invariant_of-self-in-None
 invariant_of-self-in-None c =
-    put_kept c.self.inside.ases.ases c.self.inside.rows.items (beside_entries c.self.inside.beside) c.self.invariant c.args.asn (beside_entries c.exchange.new.self) (sym c.place_near.ensures.value ∙ c.in-None.is)
+    put_kept c.self.inside.ases.ases c.self.inside.rows.items (beside_entries c.self.inside.beside) c.self.invariant c.args.asn (beside_entries c.exchange.new.self) (sym c.place_among.ensures.value ∙ c.in-None.is)
     c.exchange.ensures.kept c.exchange.ensures.new_place
 
 pub returns-in-None-clause-old : goal.returns-in-None-clause-old
 returns-in-None-clause-old c =
-    let there = slot_beside c.self.inside.ases.ases c.self.inside.rows.items (beside_entries c.self.inside.beside) c.self.invariant c.args.asn (sym c.place_near.ensures.value ∙ c.in-None.is) in
+    let there = slot_beside c.self.inside.ases.ases c.self.inside.rows.items (beside_entries c.self.inside.beside) c.self.invariant c.args.asn (sym c.place_among.ensures.value ∙ c.in-None.is) in
     c.exchange.ensures.old ∙ ap (λ o. unwrap_or o None) (sym there) ∙ ap (λ (v : Slots). unwrap_or (slot_at v c.args.asn) None) c.self.view_is
 
 pub returns-in-None-clause-this : goal.returns-in-None-clause-this
 returns-in-None-clause-this c =
-    slot_beside c.self.inside.ases.ases c.self.inside.rows.items (beside_entries c.exchange.new.self) (invariant_of-self-in-None c) c.args.asn (sym c.place_near.ensures.value ∙ c.in-None.is)
+    slot_beside c.self.inside.ases.ases c.self.inside.rows.items (beside_entries c.exchange.new.self) (invariant_of-self-in-None c) c.args.asn (sym c.place_among.ensures.value ∙ c.in-None.is)
     ∙ c.exchange.ensures.this
 
 pub returns-in-None-clause-others : goal.returns-in-None-clause-others
@@ -79,7 +79,7 @@ returns-in-None-clause-uses c = λ k.
 
 pub returns-in-None-clause-kept : goal.returns-in-None-clause-kept
 returns-in-None-clause-kept c = λ some.
-    let there = slot_beside c.self.inside.ases.ases c.self.inside.rows.items (beside_entries c.self.inside.beside) c.self.invariant c.args.asn (sym c.place_near.ensures.value ∙ c.in-None.is) in
+    let there = slot_beside c.self.inside.ases.ases c.self.inside.rows.items (beside_entries c.self.inside.beside) c.self.invariant c.args.asn (sym c.place_among.ensures.value ∙ c.in-None.is) in
     let same = c.exchange.ensures.kept (subst IsSome (sym (ap (λ (v : Slots). slot_at v c.args.asn) c.self.view_is) ∙ there) some) in
     whole_keys c.self.inside.ases.ases c.self.inside.rows.items (beside_entries c.exchange.new.self) (invariant_of-self-in-None c)
     ∙ ap (λ l. c.self.inside.ases.ases ++ l) same
@@ -88,12 +88,12 @@ returns-in-None-clause-kept c = λ some.
 
 pub returns-in-None-clause-kept_spare : goal.returns-in-None-clause-kept_spare
 returns-in-None-clause-kept_spare c = λ some.
-    let there = slot_beside c.self.inside.ases.ases c.self.inside.rows.items (beside_entries c.self.inside.beside) c.self.invariant c.args.asn (sym c.place_near.ensures.value ∙ c.in-None.is) in
+    let there = slot_beside c.self.inside.ases.ases c.self.inside.rows.items (beside_entries c.self.inside.beside) c.self.invariant c.args.asn (sym c.place_among.ensures.value ∙ c.in-None.is) in
     c.exchange.ensures.kept_spare (subst IsSome (sym (ap (λ (v : Slots). slot_at v c.args.asn) c.self.view_is) ∙ there) some) ∙ ap (λ (v : Slots). v.spare) c.self.view_is
 
 pub returns-in-None-clause-new_place : goal.returns-in-None-clause-new_place
 returns-in-None-clause-new_place c = λ none.
-    let there = slot_beside c.self.inside.ases.ases c.self.inside.rows.items (beside_entries c.self.inside.beside) c.self.invariant c.args.asn (sym c.place_near.ensures.value ∙ c.in-None.is) in
+    let there = slot_beside c.self.inside.ases.ases c.self.inside.rows.items (beside_entries c.self.inside.beside) c.self.invariant c.args.asn (sym c.place_among.ensures.value ∙ c.in-None.is) in
     let more = c.exchange.ensures.new_place (sym there ∙ ap (λ (v : Slots). slot_at v c.args.asn) c.self.view_is ∙ none) in
     whole_keys c.self.inside.ases.ases c.self.inside.rows.items (beside_entries c.exchange.new.self) (invariant_of-self-in-None c)
     ∙ ap (λ l. c.self.inside.ases.ases ++ l) more
