@@ -1,13 +1,33 @@
 //! The tables of one round.
 
-ghost use Rattle.std.specs.Prelude.{◌≡◌, ℕ, None, OnOk, OnErr};
+ghost use Rattle.std.specs.Prelude.{◌≡◌, ℕ, Some, None, OnOk, OnErr, IfSome, slice_get};
 ghost use Rattle.std.specs.Option.{option_copied, option_copied_mut};
 ghost use Rattle.std.specs.Borrow.{sem};
+ghost use Rattle.indexmap.specs.IndexMap.{keys};
 
 use crate::Table;
 use indexmap::IndexMap;
 use net_names::{NoMemory, Prefix};
 use std::alloc::Global;
+
+// Where a prefix stands among others, of which there are few.
+fn index_among(prefixes: &[Prefix], prefix: Prefix) -> Option<usize>
+    ensures { IfSome result (λ i. slice_get prefixes.now i ≡ Some prefix) }
+{
+    for (index, one) in prefixes.iter().enumerate() {
+        if *one == prefix {
+            return Some(index);
+        }
+    }
+    None
+}
+
+// Where a prefix stands among those of the tables.
+fn index_in(tables: &IndexMap<Prefix, Table>, prefix: Prefix) -> Option<usize>
+    ensures { IfSome result (λ i. slice_get (keys tables.now) i ≡ Some prefix) }
+{
+    index_among(tables.keys().as_slice(), prefix)
+}
 
 /// The tables of one round, one for each prefix. They are at most a few dozen.
 #[derive(Drop)]
@@ -48,7 +68,13 @@ impl RoundTables {
     pub fn table(&self, prefix: Prefix) -> Option<&Table>
         ensures { option_copied result ≡ table_at self.now prefix }
     {
-        self.tables.get(&prefix)
+        let Some(index) = index_in(&self.tables, prefix) else {
+            return self.tables.get(&prefix);
+        };
+        match self.tables.get_index(index) {
+            Some((_, table)) => Some(table),
+            None => unreachable!(),
+        }
     }
 
     /// The table of a prefix, to be changed in place, if there is one.
@@ -56,6 +82,9 @@ impl RoundTables {
         ensures* writes_back { sem 𝓛 (lends_table self.entry prefix result) }
         ensures value { option_copied_mut result ≡ table_at self.old prefix }
     {
-        self.tables.get_mut(&prefix)
+        match index_in(&self.tables, prefix) {
+            Some(index) => self.tables.get_index_mut(index),
+            None => self.tables.get_mut(&prefix),
+        }
     }
 }
