@@ -1,5 +1,5 @@
 -- What is written for a task.
-use Rattle.std.specs.Prelude.{◌≡◌, ◌||◌, ℕ, Bool, true, false, Option, Some, None, List, [], ◌∷◌, ◌++◌, codes, if◌then◌else◌, decimal}
+use Rattle.std.specs.Prelude.{◌≡◌, ◌||◌, ℕ, Bool, true, false, Some, None, List, [], ◌∷◌, ◌++◌, codes, if◌then◌else◌, decimal}
 use Rattle.clap.specs.Walk.{Text}
 use Rattle.scenario_text.specs.LineValues.{LineValue}
 use Rattle.scenario_text.specs.declared.acts.Act.{Act}
