@@ -1,8 +1,11 @@
 -- Rows of numbers, each once, as a book of policies.
-use Rattle.std.proofs.Common.{◌≡◌, ℕ, Bool, true, false, cond, ◌==◌, ◌||◌, is_some, List, [], ◌∷◌, ◌++◌, map, length, Option, Some, None, Result, Ok, Err, OnOk, OnErr, unwrap_or, refl, sym, ap, subst, ◌∙◌, arith}
+use Rattle.std.proofs.Common.{◌≡◌, ℕ, Bool, true, false, cond, ◌==◌, ◌||◌, ◌+◌, ◌≤◌, not, is_some, List, [], ◌∷◌, ◌++◌, map, length, position, get_or, slice_get, Option, Some, None, option_map, Result, Ok, Err, OnOk, OnErr, unwrap_or, refl, sym, ap, subst, ◌∙◌, arith}
 use Rattle.std.proofs.lemmas.Bool.{eqb-true, eq-eqb, ne_eqb, true≢false}
+use Rattle.std.proofs.lemmas.Grind.{common_steps}
+use Rattle.std.proofs.lemmas.List.Quantifiers.{position-Some}
+use Rattle.std.proofs.lemmas.Option.{get_or_from_slice_get, slice_get-map}
 use Rattle.std.specs.Prelude.{nat_eq}
-use Rattle.std.specs.List.{AllByRecursion, IsDistinct, list_any}
+use Rattle.std.specs.List.{AllByRecursion, IsDistinct, list_any, position_or_len}
 use Rattle.std.specs.Ordering.{nat_cmp, eq_by_cmp}
 use Rattle.std.specs.Cmp.{nat_cmp_total, unsigned_tied, eq_by_cmp_equiv}
 use Rattle.std.specs.Map.{lookup}
@@ -55,13 +58,27 @@ module _ {P : Type 0} where
   policy_is rest rows m v h q row e =
       ap (λ (o : Option P). unwrap_or o rest) (ap flat e ∙ sym (fin.get-from_entries nat_cmp_total (named_of rows) q ∙ named_at q rows h)) ∙ ap (λ (b : PolicyBook P). policy_at b q) v
 
-  no_rows : (rows : List (ℕ × Option P)) → length rows ≡ 0 → (q : ℕ) → None ≡ lookup (nat_eq q) rows
-  no_rows [] e q = refl
-  no_rows (r ∷ rows) e q = absurd (omega (arith, e))
+  far_row : (q : ℕ) (rows : List (ℕ × Option P)) → length (numbers rows) ≤ position_or_len (λ a. q == a) (numbers rows) → lookup (nat_eq q) rows ≡ None
+  far_row q [] h = refl
+  far_row q (e ∷ es) h = by (q == e.0) refl (far_row q es)
+    where
+      place : Bool → ℕ
+      place b = cond (not b) (1 + position_or_len (λ a. q == a) (numbers es)) 0
 
-  -- without rows it is that of the rest
-  pub policy_of_none : (rest : P) (rows : List (ℕ × Option P)) (m : PolicyBook P) → book_of rest rows ≡ m → IsDistinct nat_eq (numbers rows) → length rows ≡ 0 → (q : ℕ) → rest ≡ policy_at m q
-  policy_of_none rest rows m v h e q = policy_is rest rows m v h q None (no_rows rows e q)
+      by : (b : Bool) → (q == e.0) ≡ b → (length (numbers es) ≤ position_or_len (λ a. q == a) (numbers es) → lookup (nat_eq q) es ≡ None) → cond b (Some e.1) (lookup (nat_eq q) es) ≡ None
+      by true t rest = absurd (omega (arith, h, ap place t))
+      by false t rest = rest (omega (arith, h, ap place t))
+
+  -- a number without a place among the rows has no row, so that its policy is that of the rest
+  pub policy_of_none : (rest : P) (rows : List (ℕ × Option P)) (m : PolicyBook P) → book_of rest rows ≡ m → IsDistinct nat_eq (numbers rows) → (q : ℕ) → position (λ a. q == a) (numbers rows) ≡ None → rest ≡ policy_at m q
+  policy_of_none rest rows m v h q none = policy_is rest rows m v h q None (sym (far_row q rows (grind (arith, common_steps))))
+
+  -- the row at the place of a number is its own
+  pub row_is : (rows : List (ℕ × Option P)) (q i k : ℕ) (o : Option P) → position (λ a. q == a) (numbers rows) ≡ Some i → Some (k, o) ≡ slice_get rows i → lookup (nat_eq k) rows ≡ Some o → Some o ≡ lookup (nat_eq q) rows
+  row_is rows q i k o at e row =
+      let key : get_or (numbers rows) i 0 ≡ k = get_or_from_slice_get (numbers rows) i k 0 (slice_get-map (λ e. e.0) rows i ∙ ap (option_map (λ e. e.0)) (sym e)) in
+      let same : q ≡ k = eqb-true q k (ap (λ n. q == n) (sym key) ∙ (position-Some (λ a. q == a) (numbers rows) i 0 at).1) in
+      sym (subst (λ n. lookup (nat_eq n) rows ≡ Some o) (sym same) row)
 
   named_get : (rows : List (ℕ × Option P)) → IsDistinct nat_eq (numbers rows) → (q : ℕ) → fin.get (fin.from_entries {R = nat_cmp} (named_of rows)) q ≡ flat (lookup (nat_eq q) rows)
   named_get rows h q = fin.get-from_entries nat_cmp_total (named_of rows) q ∙ named_at q rows h

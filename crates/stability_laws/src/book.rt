@@ -1,13 +1,30 @@
 //! Which policy an AS has.
-ghost use Rattle.std.specs.Prelude.{◌≡◌, IsTrue, OnOk, OnErr};
+ghost use Rattle.std.specs.Prelude.{◌≡◌, ◌==◌, IsTrue, OnOk, OnErr, nat_eq, position};
+ghost use Rattle.std.specs.List.{IsDistinct};
 ghost use Rattle.std.specs.FinMap as map;
 ghost use Rattle.std.specs.FinSet as set;
+ghost use Rattle.indexmap.specs.IndexMap.{keys};
 ghost use Rattle.stability_laws.specs.Book.{policy_at, with_room, with_policy, without_policy};
 
 use indexmap::IndexMap;
 use net_names::{Asn, NoMemory};
 use std::alloc::Global;
 use std::marker::Model;
+
+/// So many ASes at most are looked at one after the other, which is quicker than a hash.
+const FEW: usize = 4;
+
+// Where the row of an AS stands, if it has one.
+fn row_of<P>(named: &IndexMap<Asn, Option<P>>, asn: Asn) -> Option<usize>
+    ensures place { result ≡ position (λ a. asn == a) (keys named.now) }
+    ensures once { IsDistinct nat_eq (keys named.now) }
+{
+    let ases = named.keys().as_slice();
+    if ases.len() > FEW {
+        return named.get_index_of(&asn);
+    }
+    ases.iter().position(|a| asn == *a)
+}
 
 /// A policy for each AS: that of the named ones, and one for the rest. Contracts see the policy of the
 /// rest, the finite map of the named ones, and the set of the ASes that can be named without memory.
@@ -45,14 +62,14 @@ impl<P> Book<P> {
     pub fn policy(&self, asn: Asn) -> &P
         ensures { result.now ≡ policy_at self.now asn }
     {
-        if self.named.len() == 0 {
+        let Some(row) = row_of(&self.named, asn) else {
             return &self.rest;
-        }
-        match self.named.get(&asn) {
-            Some(row) => match row {
-                Some(policy) => policy,
-                None => &self.rest,
-            },
+        };
+        let Some((_, kept)) = self.named.get_index(row) else {
+            return &self.rest;
+        };
+        match kept {
+            Some(policy) => policy,
             None => &self.rest,
         }
     }
