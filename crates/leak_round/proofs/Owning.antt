@@ -1,5 +1,5 @@
 -- The seeds that announcements make.
-use Rattle.std.proofs.Common.{◌≡◌, ◌≢◌, ◌⊎◌, inl, inr, ℕ, zero, suc, ◌<◌, Bool, true, false, cond, Some, None, option_map, List, [], ◌∷◌, ◌++◌, length, set, refl, sym, ap, ◌∙◌}
+use Rattle.std.proofs.Common.{◌≡◌, ◌≢◌, ◌⊎◌, inl, inr, ℕ, zero, suc, ◌<◌, Bool, true, false, cond, Some, None, option_map, List, [], ◌∷◌, ◌++◌, length, set, refl, sym, ap, subst, ◌∙◌}
 use Rattle.std.specs.Prelude.{slice_get, IsTrue}
 use Rattle.std.proofs.lemmas.Bool.{cases_eq, cases_order}
 use Rattle.net_names.specs.Numbers.{occurs}
@@ -14,7 +14,7 @@ use Rattle.leak_round.specs.declared.announced.Announced.{Announced}
 use Rattle.leak_round.specs.declared.changes.Change.{Change}
 use Rattle.leak_round.specs.declared.touched.Touched.{Touched}
 use Rattle.leak_round.specs.Announced.{is_of, own_path, own_seed}
-use Rattle.leak_round.specs.Differing.{AreWrongIn}
+use Rattle.leak_round.specs.Differing.{AreWrong, AreWrongIn}
 use Rattle.leak_round.specs.Edited.{others_of, EndsWithPath}
 use Rattle.leak_round.specs.Leaked.{AreSeedsWith}
 use Rattle.leak_round.specs.OwnSeeds.{AreOwn, AreOwnSeeds, AreOthersKept}
@@ -96,3 +96,8 @@ wrong_touched plan after xs ys rounds changes round prefix touched pool seeds as
   put = put.1;
   wrong = record { untouched = λ b out. ap (occurs b) (sym are) ∙ out; same = λ b out. refl; only = λ b there. inl (ap (occurs b) (sym are) ∙ there) };
 }
+
+-- where the seeds before and after are known, with the ASes that may hold something wrong
+pub wrong_between : (plan after : Plan) (xs ys : List Announced) (rounds : List RoundTables) (changes : List Change) (round : ℕ) (prefix : PrefixValue) (touched : ℕ → Bool) (pool : PathPool) (was seeds : SeedIds) (ases items : List ℕ) → ases ≡ items
+    → AreSeedsWith plan xs rounds [] round prefix was × AreSeedsWith after ys rounds changes round prefix seeds → AreWrong touched pool was seeds items → AreWrongIn plan after xs ys rounds changes round prefix touched pool seeds ases
+wrong_between plan after xs ys rounds changes round prefix touched pool was seeds ases items are put wrong = record { was = was; was_put = put.0; put = put.1; wrong = subst (AreWrong touched pool was seeds) (sym are) wrong }

@@ -101,7 +101,7 @@ fn add_differing(
 }
 
 // The ASes that are touched for a prefix, and those whose seeds differ before and after.
-fn wrong_ases(
+pub fn wrong_ases(
     alloc: Global,
     pool: &PathPool,
     touched: &Touched,

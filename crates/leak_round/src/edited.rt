@@ -37,6 +37,29 @@ pub struct EditedSeeds {
     pub numbers: usize,
 }
 
+// The plan of seeds after another one has taken its place, where there is one.
+pub fn plan_after<'a>(edited: &'a Option<EditedSeeds>, plan: &'a SeedPlan) -> &'a SeedPlan
+    ensures { result.now ≡ seeds_after edited.now plan.now }
+{
+    match edited {
+        Some(seeds) => &seeds.plan,
+        None => plan,
+    }
+}
+
+// The announcements after another plan of seeds has taken the place of one, where there is one.
+pub fn announcements_after<'a>(
+    edited: &'a Option<EditedSeeds>,
+    announced: &'a [Announced],
+) -> &'a [Announced]
+    ensures { result.now ≡ announced_after edited.now announced.now }
+{
+    match edited {
+        Some(seeds) => seeds.announced.as_slice(),
+        None => announced,
+    }
+}
+
 // Takes the other plan of seeds, where there is one, in place of this one, and gives back the holds of the
 // paths that this one announces. Of the kept seeds only those of the edited prefix become others.
 pub fn take_seeds(

@@ -5,10 +5,12 @@ ghost use Rattle.stability_laws.specs.Plans.{leaks_in, prefixes_of};
 ghost use Rattle.route_choice.specs.declared.round_tables.RoundTables.{RoundTables as SomeTables};
 ghost use Rattle.leak_round.specs.declared.announced.Announced.{Announced as AnAnnouncement};
 ghost use Rattle.leak_round.specs.declared.changes.Change.{Change as AChange};
+ghost use Rattle.leak_round.specs.Edited.{announced_after, prefix_edited, seeds_after};
 ghost use Rattle.leak_round.specs.Leaked.{AreSeedsWith};
-ghost use Rattle.leak_round.specs.OwnSeeds.{AreOwn, AreOwnSeeds, AreOthersKept};
+ghost use Rattle.leak_round.specs.OwnSeeds.{AreOwn, AreOwnEdited, AreOwnSeeds, AreOthersKept};
 
 use crate::announced::{Announced, announced_seeds};
+use crate::edited::{EditedSeeds, plan_after};
 use net_names::{NoMemory, Prefix};
 use route_choice::SeedIds;
 use stability_laws::SeedPlan;
@@ -64,11 +66,11 @@ fn has_leakers(plan: &SeedPlan, round: u32) -> bool
 }
 
 // Whether this is the prefix of which an announcement is edited.
-fn is_edited(edited: &Option<Prefix>, prefix: Prefix) -> bool
-    ensures { result ≡ false → edited.now ≢ Some prefix }
+fn is_edited(edited: &Option<EditedSeeds>, prefix: Prefix) -> bool
+    ensures { result ≡ false → prefix_edited edited.now ≢ Some prefix }
 {
     match edited {
-        Some(one) => *one == prefix,
+        Some(seeds) => seeds.prefix == prefix,
         None => false,
     }
 }
@@ -78,16 +80,40 @@ fn is_edited(edited: &Option<Prefix>, prefix: Prefix) -> bool
 pub fn unchanged_seeds<'a>(
     own: &'a [SeedIds],
     plan: &SeedPlan,
-    after: &SeedPlan,
-    edited: &Option<Prefix>,
+    edited: &Option<EditedSeeds>,
     round: u32,
     place: usize,
     prefix: Prefix,
 ) -> Option<&'a SeedIds>
-    ensures { IfSome result (λ s. (xs ys : List AnAnnouncement) (rounds : List SomeTables) (changes : List AChange) → AreOwnSeeds plan.now xs own.now → slice_get (prefixes_of plan.now) place ≡ Some prefix → AreOthersKept edited.now xs ys → AreSeedsWith plan.now xs rounds [] round prefix s.now × AreSeedsWith after.now ys rounds changes round prefix s.now) }
+    ensures { IfSome result (λ s. (xs ys : List AnAnnouncement) (rounds : List SomeTables) (changes : List AChange) → AreOwnSeeds plan.now xs own.now → slice_get (prefixes_of plan.now) place ≡ Some prefix → AreOthersKept (prefix_edited edited.now) xs ys → AreSeedsWith plan.now xs rounds [] round prefix s.now × AreSeedsWith (seeds_after edited.now plan.now) ys rounds changes round prefix s.now) }
 {
+    let after = plan_after(edited, plan);
     if is_edited(edited, prefix) || has_leakers(plan, round) || has_leakers(after, round) {
         return None;
     }
     own.get(place)
+}
+
+// The seeds of the prefix at a place in a round, before and after an edit of one of its announcements, if
+// they are kept: nobody leaks in the round.
+pub fn edited_seeds<'a>(
+    own: &'a [SeedIds],
+    plan: &SeedPlan,
+    edited: &'a Option<EditedSeeds>,
+    round: u32,
+    place: usize,
+    prefix: Prefix,
+) -> Option<(&'a SeedIds, &'a SeedIds)>
+    ensures { IfSome result (λ s. (xs : List AnAnnouncement) (rounds : List SomeTables) (changes : List AChange) → AreOwnSeeds plan.now xs own.now → slice_get (prefixes_of plan.now) place ≡ Some prefix → AreOwnEdited edited.now → AreSeedsWith plan.now xs rounds [] round prefix s.0.now × AreSeedsWith (seeds_after edited.now plan.now) (announced_after edited.now xs) rounds changes round prefix s.1.now) }
+{
+    let Some(seeds) = edited else {
+        return None;
+    };
+    if seeds.prefix != prefix || has_leakers(plan, round) || has_leakers(&seeds.plan, round) {
+        return None;
+    }
+    match own.get(place) {
+        Some(before) => Some((before, &seeds.own)),
+        None => None,
+    }
 }

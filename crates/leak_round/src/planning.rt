@@ -9,17 +9,19 @@ ghost use Rattle.rank_order.specs.Plans.{rank_after, IsLastPlan};
 ghost use Rattle.stability_laws.specs.World.{setting};
 ghost use Rattle.stability_laws.specs.Plans.{prefixes_of};
 ghost use Rattle.route_choice.specs.declared.table.Table.{Table as ATable};
+ghost use Rattle.leak_round.specs.Edited.{announced_after, prefix_edited, seeds_after};
 ghost use Rattle.leak_round.specs.Growth.{HasRoomFor};
 ghost use Rattle.leak_round.specs.Overlays.{changes_uses, table_in};
-ghost use Rattle.leak_round.specs.OwnSeeds.{AreOwnSeeds, AreOthersKept};
+ghost use Rattle.leak_round.specs.OwnSeeds.{AreOwnEdited, AreOwnSeeds, AreOthersKept};
 ghost use Rattle.leak_round.specs.Planning.{CanPlan, CanPlanTable, ArePlanned, AreRoundsPlanned, AreSame, IsAdded, IsCutOff, IsPaid, IsTableAdded, IsTurn};
 ghost use Rattle.leak_round.specs.Tables.{entry_uses};
 ghost use Rattle.leak_round.specs.Touched.{touches};
 
 use crate::announced::Announced;
 use crate::changes::Change;
-use crate::differing::seeds_and_wrong;
-use crate::own_seeds::unchanged_seeds;
+use crate::differing::{seeds_and_wrong, wrong_ases};
+use crate::edited::{EditedSeeds, announcements_after, plan_after};
+use crate::own_seeds::{edited_seeds, unchanged_seeds};
 use crate::table_plans::plan_in_rounds;
 use crate::touched::Touched;
 use as_graph::Graph;
@@ -97,8 +99,9 @@ fn plan_with_seeds<P: RoutePolicy, V: OriginStates, L: Ledger>(
     Ok(())
 }
 
-// Plans the changes of the table of the prefix at a place in a round. The list of ASes is written over.
-fn plan_change<P: RoutePolicy, V: OriginStates, L: Ledger>(
+// Plans the changes of the table of the prefix at a place in a round, where an announcement of the prefix is
+// edited or somebody leaks in the round.
+fn plan_reseeded<P: RoutePolicy, V: OriginStates, L: Ledger>(
     alloc: Global,
     graph: &Graph,
     ranks: &Ranks,
@@ -107,12 +110,9 @@ fn plan_change<P: RoutePolicy, V: OriginStates, L: Ledger>(
     states: &V,
     plan: &SeedPlan,
     announced: &[Announced],
-    after: &SeedPlan,
-    announced_after: &[Announced],
     own: &[SeedIds],
-    edited: &Option<Prefix>,
+    edited: &Option<EditedSeeds>,
     touched: &Touched,
-    ases: &mut Vec<Asn>,
     tables: &mut Vec<RoundTables>,
     changes: &mut Vec<Change>,
     round: u32,
@@ -124,23 +124,23 @@ fn plan_change<P: RoutePolicy, V: OriginStates, L: Ledger>(
     requires no_cycle { HasNoProviderCycle (what graph.now) }
     requires last { IsLastPlan ranks.now rank_plan.now }
     requires ranks { (a : ℕ) → IsRank (what graph.now) a (rank_after ranks.now rank_plan.now a) }
-    requires can { CanPlan (λ p. setting P.meaning graph.now book.now (V.state_of states.now p)) graph.now (touches touched.now) plan.now after.now announced.now announced_after.now pool.old tables.old.items }
+    requires can { CanPlan (λ p. setting P.meaning graph.now book.now (V.state_of states.now p)) graph.now (touches touched.now) plan.now (seeds_after edited.now plan.now) announced.now (announced_after edited.now announced.now) pool.old tables.old.items }
     requires own { AreOwnSeeds plan.now announced.now own.now }
-    requires others { AreOthersKept edited.now announced.now announced_after.now }
+    requires fresh { AreOwnEdited edited.now }
     requires at { slice_get (prefixes_of plan.now) place ≡ Some prefix }
     requires held { (k : ℕ) → entry_uses tables.old.items k + changes_uses changes.old.items k ≤ holds_of pool.old k }
     requires room { HasRoomFor pool.old 1 }
-    requires so_far { (first : ℕ) × ArePlanned (λ p. setting P.meaning graph.now book.now (V.state_of states.now p)) graph.now (touches touched.now) plan.now after.now pool.old tables.old.items changes.old.items first steps.old }
+    requires so_far { (first : ℕ) × ArePlanned (λ p. setting P.meaning graph.now book.now (V.state_of states.now p)) graph.now (touches touched.now) plan.now (seeds_after edited.now plan.now) pool.old tables.old.items changes.old.items first steps.old }
     requires turn { IsTurn plan.now (length tables.old.items) changes.old.items round prefix }
-    ensures planned { OnOk result ((first : ℕ) → ArePlanned (λ p. setting P.meaning graph.now book.now (V.state_of states.now p)) graph.now (touches touched.now) plan.now after.now pool.old tables.old.items changes.old.items first steps.old → ArePlanned (λ p. setting P.meaning graph.now book.now (V.state_of states.now p)) graph.now (touches touched.now) plan.now after.now pool.new tables.new.items changes.new.items first steps.new) }
+    ensures planned { OnOk result ((first : ℕ) → ArePlanned (λ p. setting P.meaning graph.now book.now (V.state_of states.now p)) graph.now (touches touched.now) plan.now (seeds_after edited.now plan.now) pool.old tables.old.items changes.old.items first steps.old → ArePlanned (λ p. setting P.meaning graph.now book.now (V.state_of states.now p)) graph.now (touches touched.now) plan.now (seeds_after edited.now plan.now) pool.new tables.new.items changes.new.items first steps.new) }
     ensures more { OnOk result (IsAdded changes.old.items changes.new.items round prefix) }
     ensures paid { OnOk result (IsPaid pool.old pool.new changes.old.items changes.new.items 1) }
     ensures cut { IsCutOff pool.old pool.new changes.old.items changes.new.items }
     ensures same { AreSame tables.old.items tables.new.items }
 {
-    match unchanged_seeds(own, plan, after, edited, round, place, prefix) {
-        Some(seeds) => {
-            touched.put_ases(prefix, ases)?;
+    match edited_seeds(own, plan, edited, round, place, prefix) {
+        Some((before, seeds)) => {
+            let wrong = wrong_ases(alloc, pool, touched, prefix, before, seeds)?;
             plan_with_seeds(
                 alloc,
                 graph,
@@ -149,7 +149,7 @@ fn plan_change<P: RoutePolicy, V: OriginStates, L: Ledger>(
                 book,
                 states,
                 seeds,
-                ases.as_slice(),
+                wrong.as_slice(),
                 tables,
                 changes,
                 round,
@@ -163,8 +163,8 @@ fn plan_change<P: RoutePolicy, V: OriginStates, L: Ledger>(
                 alloc,
                 plan,
                 announced,
-                after,
-                announced_after,
+                plan_after(edited, plan),
+                announcements_after(edited, announced),
                 touched,
                 tables.as_slice(),
                 changes.as_slice(),
@@ -192,6 +192,73 @@ fn plan_change<P: RoutePolicy, V: OriginStates, L: Ledger>(
     }
 }
 
+// Plans the changes of the table of the prefix at a place in a round. The list of ASes is written over.
+fn plan_change<P: RoutePolicy, V: OriginStates, L: Ledger>(
+    alloc: Global,
+    graph: &Graph,
+    ranks: &Ranks,
+    rank_plan: &RankPlan,
+    book: &Book<P>,
+    states: &V,
+    plan: &SeedPlan,
+    announced: &[Announced],
+    own: &[SeedIds],
+    edited: &Option<EditedSeeds>,
+    touched: &Touched,
+    ases: &mut Vec<Asn>,
+    tables: &mut Vec<RoundTables>,
+    changes: &mut Vec<Change>,
+    round: u32,
+    place: usize,
+    prefix: Prefix,
+    pool: &mut PathPool,
+    steps: &mut Steps<L>,
+) -> Result<(), NoMemory>
+    requires no_cycle { HasNoProviderCycle (what graph.now) }
+    requires last { IsLastPlan ranks.now rank_plan.now }
+    requires ranks { (a : ℕ) → IsRank (what graph.now) a (rank_after ranks.now rank_plan.now a) }
+    requires can { CanPlan (λ p. setting P.meaning graph.now book.now (V.state_of states.now p)) graph.now (touches touched.now) plan.now (seeds_after edited.now plan.now) announced.now (announced_after edited.now announced.now) pool.old tables.old.items }
+    requires own { AreOwnSeeds plan.now announced.now own.now }
+    requires fresh { AreOwnEdited edited.now }
+    requires others { AreOthersKept (prefix_edited edited.now) announced.now (announced_after edited.now announced.now) }
+    requires at { slice_get (prefixes_of plan.now) place ≡ Some prefix }
+    requires held { (k : ℕ) → entry_uses tables.old.items k + changes_uses changes.old.items k ≤ holds_of pool.old k }
+    requires room { HasRoomFor pool.old 1 }
+    requires so_far { (first : ℕ) × ArePlanned (λ p. setting P.meaning graph.now book.now (V.state_of states.now p)) graph.now (touches touched.now) plan.now (seeds_after edited.now plan.now) pool.old tables.old.items changes.old.items first steps.old }
+    requires turn { IsTurn plan.now (length tables.old.items) changes.old.items round prefix }
+    ensures planned { OnOk result ((first : ℕ) → ArePlanned (λ p. setting P.meaning graph.now book.now (V.state_of states.now p)) graph.now (touches touched.now) plan.now (seeds_after edited.now plan.now) pool.old tables.old.items changes.old.items first steps.old → ArePlanned (λ p. setting P.meaning graph.now book.now (V.state_of states.now p)) graph.now (touches touched.now) plan.now (seeds_after edited.now plan.now) pool.new tables.new.items changes.new.items first steps.new) }
+    ensures more { OnOk result (IsAdded changes.old.items changes.new.items round prefix) }
+    ensures paid { OnOk result (IsPaid pool.old pool.new changes.old.items changes.new.items 1) }
+    ensures cut { IsCutOff pool.old pool.new changes.old.items changes.new.items }
+    ensures same { AreSame tables.old.items tables.new.items }
+{
+    match unchanged_seeds(own, plan, edited, round, place, prefix) {
+        Some(seeds) => {
+            touched.put_ases(prefix, ases)?;
+            plan_with_seeds(
+                alloc,
+                graph,
+                ranks,
+                rank_plan,
+                book,
+                states,
+                seeds,
+                ases.as_slice(),
+                tables,
+                changes,
+                round,
+                prefix,
+                pool,
+                steps,
+            )
+        }
+        None => plan_reseeded(
+            alloc, graph, ranks, rank_plan, book, states, plan, announced, own, edited, touched,
+            tables, changes, round, place, prefix, pool, steps,
+        ),
+    }
+}
+
 // Plans the changes of the tables of a round, prefix by prefix. The list of ASes is written over.
 fn plan_round<P: RoutePolicy, V: OriginStates, L: Ledger>(
     alloc: Global,
@@ -202,10 +269,8 @@ fn plan_round<P: RoutePolicy, V: OriginStates, L: Ledger>(
     states: &V,
     plan: &SeedPlan,
     announced: &[Announced],
-    after: &SeedPlan,
-    announced_after: &[Announced],
     own: &[SeedIds],
-    edited: &Option<Prefix>,
+    edited: &Option<EditedSeeds>,
     touched: &Touched,
     ases: &mut Vec<Asn>,
     tables: &mut Vec<RoundTables>,
@@ -217,16 +282,17 @@ fn plan_round<P: RoutePolicy, V: OriginStates, L: Ledger>(
     requires no_cycle { HasNoProviderCycle (what graph.now) }
     requires last { IsLastPlan ranks.now rank_plan.now }
     requires ranks { (a : ℕ) → IsRank (what graph.now) a (rank_after ranks.now rank_plan.now a) }
-    requires can { CanPlan (λ p. setting P.meaning graph.now book.now (V.state_of states.now p)) graph.now (touches touched.now) plan.now after.now announced.now announced_after.now pool.old tables.old.items }
+    requires can { CanPlan (λ p. setting P.meaning graph.now book.now (V.state_of states.now p)) graph.now (touches touched.now) plan.now (seeds_after edited.now plan.now) announced.now (announced_after edited.now announced.now) pool.old tables.old.items }
     requires own { AreOwnSeeds plan.now announced.now own.now }
-    requires others { AreOthersKept edited.now announced.now announced_after.now }
+    requires fresh { AreOwnEdited edited.now }
+    requires others { AreOthersKept (prefix_edited edited.now) announced.now (announced_after edited.now announced.now) }
     requires held { (k : ℕ) → entry_uses tables.old.items k + changes_uses changes.old.items k ≤ holds_of pool.old k }
     requires room { HasRoomFor pool.old (length (prefixes_of plan.now)) }
-    requires so_far { (first : ℕ) × ArePlanned (λ p. setting P.meaning graph.now book.now (V.state_of states.now p)) graph.now (touches touched.now) plan.now after.now pool.old tables.old.items changes.old.items first steps.old }
+    requires so_far { (first : ℕ) × ArePlanned (λ p. setting P.meaning graph.now book.now (V.state_of states.now p)) graph.now (touches touched.now) plan.now (seeds_after edited.now plan.now) pool.old tables.old.items changes.old.items first steps.old }
     requires from { 1 ≤ round }
     requires to { round ≤ length tables.old.items }
     requires earlier { AreRoundsPlanned plan.now changes.old.items (round - 1) }
-    ensures planned { OnOk result ((first : ℕ) → ArePlanned (λ p. setting P.meaning graph.now book.now (V.state_of states.now p)) graph.now (touches touched.now) plan.now after.now pool.old tables.old.items changes.old.items first steps.old → ArePlanned (λ p. setting P.meaning graph.now book.now (V.state_of states.now p)) graph.now (touches touched.now) plan.now after.now pool.new tables.new.items changes.new.items first steps.new) }
+    ensures planned { OnOk result ((first : ℕ) → ArePlanned (λ p. setting P.meaning graph.now book.now (V.state_of states.now p)) graph.now (touches touched.now) plan.now (seeds_after edited.now plan.now) pool.old tables.old.items changes.old.items first steps.old → ArePlanned (λ p. setting P.meaning graph.now book.now (V.state_of states.now p)) graph.now (touches touched.now) plan.now (seeds_after edited.now plan.now) pool.new tables.new.items changes.new.items first steps.new) }
     ensures more { OnOk result (AreRoundsPlanned plan.now changes.new.items round) }
     ensures paid { OnOk result (IsPaid pool.old pool.new changes.old.items changes.new.items (length (prefixes_of plan.now))) }
     ensures cut { IsCutOff pool.old pool.new changes.old.items changes.new.items }
@@ -243,8 +309,6 @@ fn plan_round<P: RoutePolicy, V: OriginStates, L: Ledger>(
             states,
             plan,
             announced,
-            after,
-            announced_after,
             own,
             edited,
             touched,
@@ -272,10 +336,8 @@ pub fn plan_rounds<P: RoutePolicy, V: OriginStates, L: Ledger>(
     states: &V,
     plan: &SeedPlan,
     announced: &[Announced],
-    after: &SeedPlan,
-    announced_after: &[Announced],
     own: &[SeedIds],
-    edited: &Option<Prefix>,
+    edited: &Option<EditedSeeds>,
     touched: &Touched,
     tables: &mut Vec<RoundTables>,
     changes: &mut Vec<Change>,
@@ -285,14 +347,15 @@ pub fn plan_rounds<P: RoutePolicy, V: OriginStates, L: Ledger>(
     requires no_cycle { HasNoProviderCycle (what graph.now) }
     requires last { IsLastPlan ranks.now rank_plan.now }
     requires ranks { (a : ℕ) → IsRank (what graph.now) a (rank_after ranks.now rank_plan.now a) }
-    requires can { CanPlan (λ p. setting P.meaning graph.now book.now (V.state_of states.now p)) graph.now (touches touched.now) plan.now after.now announced.now announced_after.now pool.old tables.old.items }
+    requires can { CanPlan (λ p. setting P.meaning graph.now book.now (V.state_of states.now p)) graph.now (touches touched.now) plan.now (seeds_after edited.now plan.now) announced.now (announced_after edited.now announced.now) pool.old tables.old.items }
     requires own { AreOwnSeeds plan.now announced.now own.now }
-    requires others { AreOthersKept edited.now announced.now announced_after.now }
+    requires fresh { AreOwnEdited edited.now }
+    requires others { AreOthersKept (prefix_edited edited.now) announced.now (announced_after edited.now announced.now) }
     requires held { (k : ℕ) → entry_uses tables.old.items k ≤ holds_of pool.old k }
     requires few { length tables.old.items ≤ 4 }
     requires room { HasRoomFor pool.old (length tables.old.items * length (prefixes_of plan.now)) }
     requires none { changes.old.items ≡ [] }
-    ensures planned { OnOk result (ArePlanned (λ p. setting P.meaning graph.now book.now (V.state_of states.now p)) graph.now (touches touched.now) plan.now after.now pool.new tables.new.items changes.new.items steps.old steps.new) }
+    ensures planned { OnOk result (ArePlanned (λ p. setting P.meaning graph.now book.now (V.state_of states.now p)) graph.now (touches touched.now) plan.now (seeds_after edited.now plan.now) pool.new tables.new.items changes.new.items steps.old steps.new) }
     ensures more { OnOk result (AreRoundsPlanned plan.now changes.new.items (length tables.old.items)) }
     ensures paid { OnOk result (IsPaid pool.old pool.new [] changes.new.items (length tables.old.items * length (prefixes_of plan.now))) }
     ensures cut { IsCutOff pool.old pool.new [] changes.new.items }
@@ -310,8 +373,6 @@ pub fn plan_rounds<P: RoutePolicy, V: OriginStates, L: Ledger>(
             states,
             plan,
             announced,
-            after,
-            announced_after,
             own,
             edited,
             touched,

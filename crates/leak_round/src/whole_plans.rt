@@ -80,67 +80,6 @@ fn edited_asn(edited: &Option<EditedSeeds>) -> Option<Asn>
     }
 }
 
-// Plans the changes of the tables of all rounds, with the seeds after an edit where there is one.
-fn plan_changes<P: RoutePolicy, V: OriginStates, L: Ledger>(
-    alloc: Global,
-    graph: &Graph,
-    ranks: &Ranks,
-    rank_plan: &RankPlan,
-    book: &Book<P>,
-    states: &V,
-    plan: &SeedPlan,
-    announced: &[Announced],
-    edited: &Option<EditedSeeds>,
-    own: &[SeedIds],
-    touched: &Touched,
-    tables: &mut Vec<RoundTables>,
-    changes: &mut Vec<Change>,
-    pool: &mut PathPool,
-    steps: &mut Steps<L>,
-) -> Result<(), NoMemory>
-    requires no_cycle { HasNoProviderCycle (what graph.now) }
-    requires last { IsLastPlan ranks.now rank_plan.now }
-    requires ranks { (a : ℕ) → IsRank (what graph.now) a (rank_after ranks.now rank_plan.now a) }
-    requires can { CanPlan (λ p. setting P.meaning graph.now book.now (V.state_of states.now p)) graph.now (touches touched.now) plan.now (seeds_after edited.now plan.now) announced.now (announced_after edited.now announced.now) pool.old tables.old.items }
-    requires own { AreOwnSeeds plan.now announced.now own.now }
-    requires others { AreOthersKept (prefix_edited edited.now) announced.now (announced_after edited.now announced.now) }
-    requires held { (k : ℕ) → entry_uses tables.old.items k ≤ holds_of pool.old k }
-    requires few { length tables.old.items ≤ 4 }
-    requires room { HasRoomFor pool.old (length tables.old.items * length (prefixes_of plan.now)) }
-    requires none { changes.old.items ≡ [] }
-    ensures planned { OnOk result (ArePlanned (λ p. setting P.meaning graph.now book.now (V.state_of states.now p)) graph.now (touches touched.now) plan.now (seeds_after edited.now plan.now) pool.new tables.new.items changes.new.items steps.old steps.new) }
-    ensures more { OnOk result (AreRoundsPlanned plan.now changes.new.items (length tables.old.items)) }
-    ensures paid { OnOk result (IsPaid pool.old pool.new [] changes.new.items (length tables.old.items * length (prefixes_of plan.now))) }
-    ensures cut { IsCutOff pool.old pool.new [] changes.new.items }
-    ensures same { AreSame tables.old.items tables.new.items }
-{
-    match edited {
-        Some(seeds) => plan_rounds(
-            alloc,
-            graph,
-            ranks,
-            rank_plan,
-            book,
-            states,
-            plan,
-            announced,
-            &seeds.plan,
-            seeds.announced.as_slice(),
-            own,
-            &Some(seeds.prefix),
-            touched,
-            tables,
-            changes,
-            pool,
-            steps,
-        ),
-        None => plan_rounds(
-            alloc, graph, ranks, rank_plan, book, states, plan, announced, plan, announced, own,
-            &None, touched, tables, changes, pool, steps,
-        ),
-    }
-}
-
 // Plans the changes of the tables of all rounds, and tells of them.
 pub fn plan_and_tell<P: RoutePolicy, V: OriginStates, L: Ledger>(
     alloc: Global,
@@ -164,6 +103,7 @@ pub fn plan_and_tell<P: RoutePolicy, V: OriginStates, L: Ledger>(
     requires ranks { (a : ℕ) → IsRank (what graph.now) a (rank_after ranks.now rank_plan.now a) }
     requires can { CanPlan (λ p. setting P.meaning graph.now book.now (V.state_of states.now p)) graph.now (touches touched.now) plan.now (seeds_after edited.now plan.now) announced.now (announced_after edited.now announced.now) pool.old tables.old.items }
     requires own { AreOwnSeeds plan.now announced.now own.now }
+    requires fresh { AreOwnEdited edited.now }
     requires others { AreOthersKept (prefix_edited edited.now) announced.now (announced_after edited.now announced.now) }
     requires held { (k : ℕ) → entry_uses tables.old.items k ≤ holds_of pool.old k }
     requires few { length tables.old.items ≤ 4 }
@@ -178,8 +118,8 @@ pub fn plan_and_tell<P: RoutePolicy, V: OriginStates, L: Ledger>(
     ensures told { IfOk result (λ d. (round : ℕ) → 1 ≤ round → round ≤ length tables.old.items → ListsRising nat_cmp (IsToldOf changes.new.items (option_map (λ e. e.asn) edited.now) round) (ases_told d round)) }
 {
     let rounds = tables.len();
-    plan_changes(
-        alloc, graph, ranks, rank_plan, book, states, plan, announced, edited, own, touched,
+    plan_rounds(
+        alloc, graph, ranks, rank_plan, book, states, plan, announced, own, edited, touched,
         tables, changes, pool, steps,
     )?;
     listed(alloc, rounds, changes.as_slice(), edited_asn(edited))

@@ -81,7 +81,7 @@ some_none : {X : Type 0} (x : X) → Some x ≡ None → ⊥
 some_none x e = cc
 
 -- whoever announces is named
-announced_named : (plan : Plan) (kinds : Kinds) (p : PrefixValue) (path : List ℕ) (a : ℕ) (old : Plan) (e : SeedEdit) → e ≡ Announce p path → plan ≡ edited_plan old e → a ≡ edit_asn e → is_named plan kinds a ≡ true
+pub announced_named : (plan : Plan) (kinds : Kinds) (p : PrefixValue) (path : List ℕ) (a : ℕ) (old : Plan) (e : SeedEdit) → e ≡ Announce p path → plan ≡ edited_plan old e → a ≡ edit_asn e → is_named plan kinds a ≡ true
 announced_named plan kinds p path a old e is plan_is a_is =
     let here : announces plan p a ≡ true =
     ap (λ (q : Plan). announces q p a) (plan_is ∙ ap (edited_plan old) is) ∙ ap (λ x. announces (with_announcement old p path) p x) (a_is ∙ ap edit_asn is)

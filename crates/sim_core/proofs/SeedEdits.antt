@@ -2,6 +2,7 @@
 use Rattle.std.proofs.Common.{◌≡◌, ◌≢◌, ◌≤◌, ◌==◌, ◌+◌, ◌-◌, ℕ, zero, suc, nat_le, nat_lt, arith, Bool, true, false, cond, Option, Some, None, List, [], ◌∷◌, length, inl, inr, refl, sym, ap, subst, ◌∙◌}
 use Rattle.std.specs.Prelude.{slice_get}
 use Rattle.std.proofs.lemmas.Bool.{eqb-true, eq-eqb, le-leb, leb-true, ltb-true, or_cases, or_left, or_right, true≢false}
+use Rattle.std.specs.Cmp.{both_ways}
 use Rattle.std.specs.Ordering.{eq_by_cmp}
 use Rattle.std.specs.FinMap as fin
 use Rattle.std.specs.FinSet as set
@@ -75,15 +76,10 @@ still p q x same h =
     let there = (announcers_listed q).whole x (record { prefix = who.prefix; path = who.path; announced = same who.prefix ∙ who.announced }) in
     stands x there.0 (announcers_of q) there.1
 
-alike : (a b : Bool) → (a ≡ true → b ≡ true) → (b ≡ true → a ≡ true) → a ≡ b
-alike true b there back = sym (there refl)
-alike false true there back = back refl
-alike false false there back = refl
-
 -- the other ASes announce something where they did before
 pub other_announcers : (p : Plan) (e : SeedEdit) (x : ℕ) → x ≢ edit_asn e → occurs x (announcers_of (edited p e)) ≡ occurs x (announcers_of p)
 other_announcers p e x other =
-    alike (occurs x (announcers_of (edited p e))) (occurs x (announcers_of p))
+    both_ways (occurs x (announcers_of (edited p e))) (occurs x (announcers_of p))
     (still (edited p e) p x (λ q. sym (other_paths p e x other q)))
     (still p (edited p e) x (other_paths p e x other))
 
@@ -97,7 +93,7 @@ pub one_more : (p : Plan) (prefix : PrefixValue) (path : List ℕ) (n : ℕ) →
 one_more p prefix path n new is = test n (fin.len (with_announcement p prefix path).announced) (len_with p prefix path false new ∙ ap (λ k. k + 1) (sym is))
   where
     test : (k m : ℕ) → m ≡ k + 1 → nat_le 64 k ≡ nat_lt 64 m
-    test k m e = alike (nat_le 64 k) (nat_lt 64 m) (λ h. over m 64 (omega (arith, leb-true 64 k h, e))) (λ h. le-leb 64 k (omega (arith, ltb-true 64 m h, e)))
+    test k m e = both_ways (nat_le 64 k) (nat_lt 64 m) (λ h. over m 64 (omega (arith, leb-true 64 k h, e))) (λ h. le-leb 64 k (omega (arith, ltb-true 64 m h, e)))
 
 pub no_more : (p : Plan) (prefix : PrefixValue) (path : List ℕ) → announces p prefix (announcer_of path) ≡ true → fin.len p.announced ≤ 64 → false ≡ nat_lt 64 (fin.len (with_announcement p prefix path).announced)
 no_more p prefix path known few = sym (within (fin.len (with_announcement p prefix path).announced) 64 (subst (λ n. n ≤ 64) (sym (len_with p prefix path true known)) few))

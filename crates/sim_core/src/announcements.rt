@@ -27,7 +27,7 @@ use net_names::{Asn, NoMemory, Path, Prefix};
 use origin_validation::States;
 use policy_kinds::Kind;
 use route_choice::Steps;
-use stability_laws::{SeedEdit, SeedPlan, right_follows};
+use stability_laws::{SeedEdit, right_follows};
 use std::alloc::Global;
 use std::sync::ledger::Ledger;
 
@@ -73,24 +73,36 @@ fn touched_unless(
 }
 
 impl Sim {
-    // Whether an announcement or a leak of the plan, or a policy, names the AS.
-    fn is_named(&self, plan: &SeedPlan, asn: Asn) -> bool
-        ensures { result ≡ set.contains (set.from_list {R = nat_cmp} (named plan.now self.now.book.named)) asn }
+    // Whether an announcement, a leak or a policy names the AS.
+    fn is_named(&self, asn: Asn) -> bool
+        ensures { result ≡ set.contains (set.from_list {R = nat_cmp} (named (plan_of self.now.rounds) self.now.book.named)) asn }
     {
-        let by_plan = plan.names(asn);
+        let by_plan = self.rounds.seed_plan().names(asn);
         by_plan | is_other(self.kind_of(asn))
     }
 
-    // Takes what is kept to the plan of seeds that an edit makes.
-    fn take_plan<L: Ledger>(
+    // Whether an announcement, a leak or a policy names the AS whose announcement is edited, after the edit.
+    fn is_named_after(&self, edit: &SeedEdit, asn: Asn) -> bool
+        requires { asn ≡ edit_asn edit.now }
+        ensures { result ≡ set.contains (set.from_list {R = nat_cmp} (named (edited (plan_of self.now.rounds) edit.now) self.now.book.named)) asn }
+    {
+        match edit {
+            SeedEdit::Announce { prefix: _, path: _ } => true,
+            SeedEdit::Withdraw { prefix, asn: _ } => {
+                let by_plan = self.rounds.seed_plan().names_without(*prefix, asn);
+                by_plan | is_other(self.kind_of(asn))
+            }
+        }
+    }
+
+    // Edits an announcement.
+    fn edit_announcement<L: Ledger>(
         &mut self,
         alloc: Global,
         edit: &SeedEdit,
-        plan: &SeedPlan,
         steps: &mut Steps<L>,
     ) -> Result<Changed, EditError>
         requires accepted { IsSeedEdit (world_seen self.old) edit.now }
-        requires plan { plan.now ≡ edited (plan_of self.old.rounds) edit.now }
         requires few_cells { live_count (pool_of self.old.rounds) ≤ 20000000 }
         requires kept { IsKept (world_seen self.old) (kept self.old) }
         requires no_cycle { HasCycle (world_seen self.old) → ⊥ }
@@ -102,8 +114,8 @@ impl Sim {
         right_follows::<Kind>();
         self.is_small();
         let asn = asn_of(edit);
-        let was = self.is_named(self.rounds.seed_plan(), asn);
-        let is = self.is_named(plan, asn);
+        let was = self.is_named(asn);
+        let is = self.is_named_after(edit, asn);
         let Ok(touched) = touched_unless(alloc, edit, asn, is) else {
             return Err(EditError::Memory);
         };
@@ -136,26 +148,6 @@ impl Sim {
                 Err(EditError::Memory)
             }
         }
-    }
-
-    // Edits an announcement.
-    fn edit_announcement<L: Ledger>(
-        &mut self,
-        alloc: Global,
-        edit: &SeedEdit,
-        steps: &mut Steps<L>,
-    ) -> Result<Changed, EditError>
-        requires accepted { IsSeedEdit (world_seen self.old) edit.now }
-        requires few_cells { live_count (pool_of self.old.rounds) ≤ 20000000 }
-        requires kept { IsKept (world_seen self.old) (kept self.old) }
-        requires no_cycle { HasCycle (world_seen self.old) → ⊥ }
-        ensures edited { IsEdited self.old self.new (edit_of edit.now) result }
-        ensures quick { OnOk result (IsQuick (world_seen self.old) (world_seen self.new) (edit_of edit.now) (kept self.old).routings (kept self.new).routings steps.old steps.new) }
-    {
-        let Ok(plan) = self.rounds.seed_plan().edited(alloc, edit) else {
-            return Err(EditError::Memory);
-        };
-        self.take_plan(alloc, edit, &plan, steps)
     }
 
     // Whether there are too many announcements with this one.

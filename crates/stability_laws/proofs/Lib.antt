@@ -4,6 +4,7 @@ pub mod Announcements
 pub mod PlanReads
 pub mod PlanListings
 pub mod PlanEdits
+pub mod Naming
 pub mod Local
 pub mod OneRouting
 pub mod LocalLaws

@@ -108,7 +108,7 @@ module _ (plan : Plan) (prefix : PrefixValue) (a : ℕ) (xs : List Announcement)
       by true = refl
       by false = refl
 
-  found : (q : PrefixValue × ℕ) → fin.get plan.announced q ≡ fin.find announcement_cmp q (entries_in xs)
+  pub found : (q : PrefixValue × ℕ) → fin.get plan.announced q ≡ fin.find announcement_cmp q (entries_in xs)
   found q = sym (ap (λ m. fin.get m q) l.are) ∙ fin.get-from_sorted announcement_cmp (entries_in xs) q l.rise
 
   -- all of them
@@ -120,7 +120,7 @@ module _ (plan : Plan) (prefix : PrefixValue) (a : ℕ) (xs : List Announcement)
       λ i. record { prefixes = h.prefixes i; announced = same i; leakers = h.leakers i }
 
   module _ (i : ℕ) (x : Announcement) (at : slice_get xs i ≡ Some x) where
-    path_is : announced_path plan x.prefix x.asn ≡ Some x.path
+    pub path_is : announced_path plan x.prefix x.asn ≡ Some x.path
     path_is = found (key x) ∙ here xs l.rise i x at
 
     pub some : 1 ≤ length x.path

@@ -65,7 +65,7 @@ announcers_listed plan = listed_as nat_cmp (λ a. IsTrue (fin.contains_key (anno
     back : (a : ℕ) → IsAnnouncer plan a → IsTrue (fin.contains_key (announcing_set plan) a)
     back a h = ap is_some (get-announcing_set plan a) ∙ as_of_find h.prefix a h.path (fin.entries plan.announced) (sym (fin.get-entries plan.announced (h.prefix, a)) ∙ h.announced)
 
-then_tied : (o p : Ordering) → is_eq (ordering_then o p) ≡ (is_eq o && is_eq p)
+pub then_tied : (o p : Ordering) → is_eq (ordering_then o p) ≡ (is_eq o && is_eq p)
 then_tied Less p = refl
 then_tied Equal p = refl
 then_tied Greater p = refl

@@ -1,23 +1,26 @@
 //! A plan once more, and whom a plan names.
-ghost use Rattle.std.specs.Prelude.{◌≡◌, ◌||◌, ◌==◌, ℕ, IfOk, map};
+ghost use Rattle.std.specs.Prelude.{◌≡◌, ◌&&◌, ◌||◌, ◌==◌, not, ℕ, IfOk, map};
 ghost use Rattle.std.specs.List.{list_any};
+ghost use Rattle.std.specs.Ordering.{eq_by_cmp};
 ghost use Rattle.std.specs.FinMap as fin;
 ghost use Rattle.net_names.specs.Numbers.{occurs};
+ghost use Rattle.net_names.specs.Prefixes.{prefix_cmp};
+ghost use Rattle.stability_laws.specs.declared.seed_plan.Announcement.{Announcement as AnAnnouncement};
 ghost use Rattle.stability_laws.specs.Plans.{announcers_of};
+ghost use Rattle.stability_laws.specs.SeedEdits.{without_announcement};
 
 use super::{Announcement, SeedPlan};
-use net_names::{Asn, NoMemory, Path};
+use net_names::{Asn, NoMemory, Path, Prefix};
 use std::alloc::Global;
 
 // The same path once more.
-fn copy_of(alloc: Global, path: &Path) -> Result<Path, NoMemory>
+pub(super) fn copy_of(alloc: Global, path: &Path) -> Result<Path, NoMemory>
     ensures { IfOk result (λ p. p ≡ path.now) }
 {
-    let mut copy = Path::new(alloc);
-    for asn in path.as_slice() {
-        copy.push(*asn)?;
+    match Vec::from_slice(alloc, path.as_slice()) {
+        Ok(numbers) => Ok(Path::from_vec(numbers)),
+        Err(_) => Err(NoMemory),
     }
-    Ok(copy)
 }
 
 // The same announcement once more.
@@ -66,6 +69,15 @@ fn leaks_in_some(leakers: &[(u32, Asn)], asn: Asn) -> bool
     leakers.iter().any(|leaker| leaker.1 == asn)
 }
 
+// Whether the AS announces another prefix.
+fn announces_another(announced: &[Announcement], prefix: Prefix, asn: Asn) -> bool
+    ensures { result ≡ list_any (λ (x : AnAnnouncement). (x.asn == asn) && not (eq_by_cmp prefix_cmp x.prefix prefix)) announced.now }
+{
+    announced
+        .iter()
+        .any(|one| one.asn == asn && one.prefix != prefix)
+}
+
 impl SeedPlan {
     /// The same plan once more. The only refusal is want of memory.
     pub fn copied(&self, alloc: Global) -> Result<SeedPlan, NoMemory>
@@ -84,6 +96,14 @@ impl SeedPlan {
         ensures { result ≡ (occurs asn (announcers_of self.now) || occurs asn (map (λ x. x.1) (fin.keys self.now.leakers))) }
     {
         let announces = self.announcers().contains(&asn);
+        announces | leaks_in_some(self.leakers.as_slice(), asn)
+    }
+
+    /// Whether the AS announces a prefix, or leaks in some round, where it does not announce this prefix any more.
+    pub fn names_without(&self, prefix: Prefix, asn: Asn) -> bool
+        ensures { result ≡ (occurs asn (announcers_of (without_announcement self.now prefix asn)) || occurs asn (map (λ x. x.1) (fin.keys self.now.leakers))) }
+    {
+        let announces = announces_another(self.announced.as_slice(), prefix, asn);
         announces | leaks_in_some(self.leakers.as_slice(), asn)
     }
 }

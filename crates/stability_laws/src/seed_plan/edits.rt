@@ -5,6 +5,7 @@ ghost use Rattle.std.specs.Ordering.{eq_by_cmp};
 ghost use Rattle.stability_laws.specs.Plans.{announcement_cmp, announces, announcer_of, with_announcement};
 ghost use Rattle.stability_laws.specs.SeedEdits.{silent, without_announcement, edited, IsEditWithin, IsEditOf};
 
+use super::copied::copy_of;
 use super::{Announcement, SeedPlan};
 use net_names::{Asn, NoMemory, Path, Prefix};
 use std::alloc::Global;
@@ -16,16 +17,6 @@ pub enum SeedEdit {
     Announce { prefix: Prefix, path: Path },
     /// The AS does not announce the prefix any more.
     Withdraw { prefix: Prefix, asn: Asn },
-}
-
-// The same path.
-fn copy_of(alloc: Global, path: &Path) -> Result<Path, NoMemory>
-    ensures { IfOk result (λ p. p ≡ path.now) }
-{
-    match Vec::from_slice(alloc, path.as_slice()) {
-        Ok(numbers) => Ok(Path::from_vec(numbers)),
-        Err(_) => Err(NoMemory),
-    }
 }
 
 // Announces the same, unless it is the announcement of the prefix by the AS.

@@ -3,6 +3,7 @@ use Rattle.std.proofs.lemmas.Result.{on_ok_weaker}
 use Rattle.net_names.specs.Prefixes.{PrefixValue}
 use Rattle.stability_laws.specs.World.{setting}
 use Rattle.route_choice.specs.declared.round_tables.RoundTables.{RoundTables}
+use Rattle.leak_round.specs.Edited.{announced_after, seeds_after}
 use Rattle.leak_round.specs.Differing.{AreWrongIn}
 use Rattle.leak_round.specs.Leaked.{AreSeedsWith}
 use Rattle.leak_round.specs.Touched.{touches}
@@ -17,39 +18,14 @@ plan_with_seeds-requires-clause-there g c = table_there c.args.pool.now c.args.p
 
 pub plan_with_seeds-requires-clause-can : goal.plan_with_seeds-requires-clause-can
 plan_with_seeds-requires-clause-can g c =
-    can_found (λ (p : PrefixValue). setting g.P.RoutePolicy.meaning c.args.graph.now c.args.book.now (g.V.OriginStates.state_of c.args.states.now p)) c.args.graph.now (touches c.args.touched.now) c.args.plan.now c.args.after.now c.args.announced.now c.args.announced_after.now c.args.pool.now c.args.tables.now.items c.args.changes.now.items c.requires.so_far.0 c.args.steps.now c.requires.can c.requires.held c.requires.so_far.1 c.args.round c.args.prefix c.requires.turn c.in-Some.seeds.now c.as_slice.result.now
-    (wrong_touched c.args.plan.now c.args.after.now c.args.announced.now c.args.announced_after.now c.args.tables.now.items c.args.changes.now.items c.args.round c.args.prefix c.args.touched.now c.args.pool.now c.in-Some.seeds.now c.as_slice.result.now (c.as_slice.ensures.value ∙ c.in_ok-put_ases-in-Some.ensures)
-    (c.in-Some.ensures c.args.announced.now c.args.announced_after.now c.args.tables.now.items c.args.changes.now.items c.requires.own c.requires.at c.requires.others))
+    can_found (λ (p : PrefixValue). setting g.P.RoutePolicy.meaning c.args.graph.now c.args.book.now (g.V.OriginStates.state_of c.args.states.now p)) c.args.graph.now (touches c.args.touched.now) c.args.plan.now (seeds_after c.args.edited.now c.args.plan.now) c.args.announced.now (announced_after c.args.edited.now c.args.announced.now) c.args.pool.now c.args.tables.now.items c.args.changes.now.items c.requires.so_far.0 c.args.steps.now c.requires.can c.requires.held c.requires.so_far.1 c.args.round c.args.prefix c.requires.turn c.in-Some.seeds.now c.as_slice.result.now
+    (wrong_touched c.args.plan.now (seeds_after c.args.edited.now c.args.plan.now) c.args.announced.now (announced_after c.args.edited.now c.args.announced.now) c.args.tables.now.items c.args.changes.now.items c.args.round c.args.prefix c.args.touched.now c.args.pool.now c.in-Some.seeds.now c.as_slice.result.now (c.as_slice.ensures.value ∙ c.in_ok-put_ases-in-Some.ensures)
+    (c.in-Some.ensures c.args.announced.now (announced_after c.args.edited.now c.args.announced.now) c.args.tables.now.items c.args.changes.now.items c.requires.own c.requires.at c.requires.others))
 
 pub returns-in_ok-put_ases-in-Some-clause-planned : goal.returns-in_ok-put_ases-in-Some-clause-planned
 returns-in_ok-put_ases-in-Some-clause-planned g c =
     on_ok_weaker c.plan_with_seeds.result
-    (λ d first so_far. planned_added (λ (p : PrefixValue). setting g.P.RoutePolicy.meaning c.args.graph.now c.args.book.now (g.V.OriginStates.state_of c.args.states.now p)) c.args.graph.now (touches c.args.touched.now) c.args.plan.now c.args.after.now c.args.announced.now c.args.announced_after.now c.args.pool.now c.args.tables.now.items c.args.changes.now.items first c.args.steps.now c.requires.can c.requires.held so_far c.args.round c.args.prefix c.requires.turn c.in-Some.seeds.now c.as_slice.result.now
-    (wrong_touched c.args.plan.now c.args.after.now c.args.announced.now c.args.announced_after.now c.args.tables.now.items c.args.changes.now.items c.args.round c.args.prefix c.args.touched.now c.args.pool.now c.in-Some.seeds.now c.as_slice.result.now (c.as_slice.ensures.value ∙ c.in_ok-put_ases-in-Some.ensures)
-    (c.in-Some.ensures c.args.announced.now c.args.announced_after.now c.args.tables.now.items c.args.changes.now.items c.requires.own c.requires.at c.requires.others))
+    (λ d first so_far. planned_added (λ (p : PrefixValue). setting g.P.RoutePolicy.meaning c.args.graph.now c.args.book.now (g.V.OriginStates.state_of c.args.states.now p)) c.args.graph.now (touches c.args.touched.now) c.args.plan.now (seeds_after c.args.edited.now c.args.plan.now) c.args.announced.now (announced_after c.args.edited.now c.args.announced.now) c.args.pool.now c.args.tables.now.items c.args.changes.now.items first c.args.steps.now c.requires.can c.requires.held so_far c.args.round c.args.prefix c.requires.turn c.in-Some.seeds.now c.as_slice.result.now
+    (wrong_touched c.args.plan.now (seeds_after c.args.edited.now c.args.plan.now) c.args.announced.now (announced_after c.args.edited.now c.args.announced.now) c.args.tables.now.items c.args.changes.now.items c.args.round c.args.prefix c.args.touched.now c.args.pool.now c.in-Some.seeds.now c.as_slice.result.now (c.as_slice.ensures.value ∙ c.in_ok-put_ases-in-Some.ensures)
+    (c.in-Some.ensures c.args.announced.now (announced_after c.args.edited.now c.args.announced.now) c.args.tables.now.items c.args.changes.now.items c.requires.own c.requires.at c.requires.others))
     c.plan_with_seeds.new.pool c.plan_with_seeds.new.tables.items c.plan_with_seeds.new.changes.items c.plan_with_seeds.new.steps c.plan_with_seeds.ensures.same d) c.plan_with_seeds.ensures.added
-
-pub seeds_and_wrong-requires-clause-before : goal.seeds_and_wrong-requires-clause-before
-seeds_and_wrong-requires-clause-before g c = λ seeds put.
-    live_before (λ (p : PrefixValue). setting g.P.RoutePolicy.meaning c.args.graph.now c.args.book.now (g.V.OriginStates.state_of c.args.states.now p)) c.args.graph.now (touches c.args.touched.now) c.args.plan.now c.args.after.now c.args.announced.now c.args.announced_after.now c.args.pool.now c.args.tables.now.items c.args.changes.now.items c.requires.so_far.0 c.args.steps.now c.requires.can c.requires.held c.requires.so_far.1 c.args.round c.args.prefix seeds
-    (subst (λ (ts : List RoundTables). AreSeedsWith c.args.plan.now c.args.announced.now ts [] c.args.round c.args.prefix seeds) c.as_slice-in-None.ensures.value put)
-
-pub seeds_and_wrong-requires-clause-after : goal.seeds_and_wrong-requires-clause-after
-seeds_and_wrong-requires-clause-after g c = λ seeds put.
-    live_after (λ (p : PrefixValue). setting g.P.RoutePolicy.meaning c.args.graph.now c.args.book.now (g.V.OriginStates.state_of c.args.states.now p)) c.args.graph.now (touches c.args.touched.now) c.args.plan.now c.args.after.now c.args.announced.now c.args.announced_after.now c.args.pool.now c.args.tables.now.items c.args.changes.now.items c.requires.so_far.0 c.args.steps.now c.requires.can c.requires.held c.requires.so_far.1 c.args.round c.args.prefix seeds
-    (coe 0 1 (i. AreSeedsWith c.args.after.now c.args.announced_after.now (c.as_slice-in-None.ensures.value i) (c.as_slice-in-None-2.ensures.value i) c.args.round c.args.prefix seeds) put)
-
-pub plan_with_seeds-requires-in-None-clause-there : goal.plan_with_seeds-requires-in-None-clause-there
-plan_with_seeds-requires-in-None-clause-there g c = table_there c.args.pool.now c.args.plan.now c.args.tables.now.items c.requires.can.full c.args.round c.args.prefix c.requires.turn.from c.requires.turn.to c.requires.turn.known
-
-pub plan_with_seeds-requires-in-None-clause-can : goal.plan_with_seeds-requires-in-None-clause-can
-plan_with_seeds-requires-in-None-clause-can g c =
-    can_found (λ (p : PrefixValue). setting g.P.RoutePolicy.meaning c.args.graph.now c.args.book.now (g.V.OriginStates.state_of c.args.states.now p)) c.args.graph.now (touches c.args.touched.now) c.args.plan.now c.args.after.now c.args.announced.now c.args.announced_after.now c.args.pool.now c.args.tables.now.items c.args.changes.now.items c.requires.so_far.0 c.args.steps.now c.requires.can c.requires.held c.requires.so_far.1 c.args.round c.args.prefix c.requires.turn c.in_ok-found-in-None.found.0 c.as_slice-in-None-3.result.now
-    (coe 0 1 (i. AreWrongIn c.args.plan.now c.args.after.now c.args.announced.now c.args.announced_after.now (c.as_slice-in-None.ensures.value i) (c.as_slice-in-None-2.ensures.value i) c.args.round c.args.prefix (touches c.args.touched.now c.args.prefix) c.args.pool.now c.in_ok-found-in-None.found.0 (sym c.as_slice-in-None-3.ensures.value i)) c.in_ok-found-in-None.ensures)
-
-pub returns-in_ok-found-in-None-clause-planned : goal.returns-in_ok-found-in-None-clause-planned
-returns-in_ok-found-in-None-clause-planned g c =
-    on_ok_weaker c.plan_with_seeds-in-None.result
-    (λ d first so_far. planned_added (λ (p : PrefixValue). setting g.P.RoutePolicy.meaning c.args.graph.now c.args.book.now (g.V.OriginStates.state_of c.args.states.now p)) c.args.graph.now (touches c.args.touched.now) c.args.plan.now c.args.after.now c.args.announced.now c.args.announced_after.now c.args.pool.now c.args.tables.now.items c.args.changes.now.items first c.args.steps.now c.requires.can c.requires.held so_far c.args.round c.args.prefix c.requires.turn c.in_ok-found-in-None.found.0 c.as_slice-in-None-3.result.now
-    (coe 0 1 (i. AreWrongIn c.args.plan.now c.args.after.now c.args.announced.now c.args.announced_after.now (c.as_slice-in-None.ensures.value i) (c.as_slice-in-None-2.ensures.value i) c.args.round c.args.prefix (touches c.args.touched.now c.args.prefix) c.args.pool.now c.in_ok-found-in-None.found.0 (sym c.as_slice-in-None-3.ensures.value i)) c.in_ok-found-in-None.ensures)
-    c.plan_with_seeds-in-None.new.pool c.plan_with_seeds-in-None.new.tables.items c.plan_with_seeds-in-None.new.changes.items c.plan_with_seeds-in-None.new.steps c.plan_with_seeds-in-None.ensures.same d) c.plan_with_seeds-in-None.ensures.added

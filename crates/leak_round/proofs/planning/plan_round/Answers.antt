@@ -4,6 +4,7 @@ use Rattle.std.proofs.lemmas.Option.{slice_get_within}
 use Rattle.net_names.specs.Prefixes.{PrefixValue}
 use Rattle.stability_laws.specs.World.{setting}
 use Rattle.stability_laws.specs.Plans.{prefixes_of}
+use Rattle.leak_round.specs.Edited.{announced_after, seeds_after}
 use Rattle.leak_round.specs.Touched.{touches}
 use Rattle.leak_round.proofs.Keeping.{room_left}
 use Rattle.leak_round.proofs.Paying.{paid_on}
@@ -12,7 +13,7 @@ use Rattle.leak_round.proofs.Turns.{can_still, up_end, up_more, up_turn}
 use Rattle.leak_round.proofs.planning.plan_round.Goals as goal
 
 pub plan_change-requires-clause-can : goal.plan_change-requires-clause-can
-plan_change-requires-clause-can g c = can_still (λ (p : PrefixValue). setting g.P.RoutePolicy.meaning c.args.graph.now c.args.book.now (g.V.OriginStates.state_of c.args.states.now p)) c.args.graph.now (touches c.args.touched.now) c.args.plan.now c.args.after.now c.args.announced.now c.args.announced_after.now c.args.pool.now c.prefixes.pool c.args.tables.now.items c.prefixes.tables.items c.requires.can c.prefixes.invariant.paid.keeps c.prefixes.invariant.same
+plan_change-requires-clause-can g c = can_still (λ (p : PrefixValue). setting g.P.RoutePolicy.meaning c.args.graph.now c.args.book.now (g.V.OriginStates.state_of c.args.states.now p)) c.args.graph.now (touches c.args.touched.now) c.args.plan.now (seeds_after c.args.edited.now c.args.plan.now) c.args.announced.now (announced_after c.args.edited.now c.args.announced.now) c.args.pool.now c.prefixes.pool c.args.tables.now.items c.prefixes.tables.items c.requires.can c.prefixes.invariant.paid.keeps c.prefixes.invariant.same
 
 pub plan_change-requires-clause-at : goal.plan_change-requires-clause-at
 plan_change-requires-clause-at g c = sym c.in-Some.ensures.value

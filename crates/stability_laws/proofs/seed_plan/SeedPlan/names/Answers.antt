@@ -1,15 +1,11 @@
-use Rattle.std.proofs.Common.{◌≡◌, ◌||◌, ◌==◌, ◌∙◌, ℕ, List, [], ◌∷◌, map, sym, ap, refl}
-use Rattle.std.specs.List.{list_any}
+use Rattle.std.proofs.Common.{◌≡◌, ◌||◌, ◌∙◌, ℕ, List, map, sym, ap}
 use Rattle.std.specs.FinMap as fin
 use Rattle.net_names.specs.Links.{pair_cmp}
 use Rattle.net_names.specs.Numbers.{occurs}
 use Rattle.stability_laws.specs.Plans.{Plan, announcers_of}
 use Rattle.stability_laws.proofs.KeyLists.{keys_set_of}
+use Rattle.stability_laws.proofs.Naming.{any_second}
 use Rattle.stability_laws.proofs.seed_plan.SeedPlan.names.Goals as goal
-
-any_second : (a : ℕ) (xs : List (ℕ × ℕ)) → list_any (λ (x : ℕ × ℕ). x.1 == a) xs ≡ occurs a (map (λ (x : ℕ × ℕ). x.1) xs)
-any_second a [] = refl
-any_second a (x ∷ xs) = ap (λ b. (x.1 == a) || b) (any_second a xs)
 
 pub returns : goal.returns
 returns c =
