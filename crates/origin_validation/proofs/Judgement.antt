@@ -1,10 +1,13 @@
 -- The state over a set less a payload, from the payloads that cover.
-use Rattle.std.proofs.Common.{◌≡◌, ℕ, Bool, true, false, cond, not, ◌||◌, ◌&&◌, List, [], ◌∷◌, refl, sym, ap, ◌∙◌, Option, Some, None, ◌+◌, suc, arith}
+use Rattle.std.proofs.Common.{◌≡◌, ℕ, Bool, true, false, cond, not, ◌||◌, ◌&&◌, List, [], ◌∷◌, refl, sym, ap, ◌∙◌, Option, Some, None, ◌+◌, ◌≤◌, suc, length, take, drop, arith}
 use Rattle.std.specs.Prelude.{if◌then◌else◌}
 use Rattle.std.specs.List.{list_any, filter}
 use Rattle.std.specs.Ordering.{eq_by_cmp}
 use Rattle.std.specs.Cmp.{eq_by_cmp_equiv}
+use Rattle.std.proofs.lemmas.List.{take_all}
 use Rattle.std.proofs.lemmas.List.Folds.{list_any-append}
+use Rattle.std.proofs.Math.Bool.{and_assoc}
+use Rattle.std.proofs.Math.Seq.{take-add}
 use Rattle.std.specs.FinMap as fin
 use Rattle.net_names.specs.declared.routes.State.{State}
 use Rattle.net_names.specs.declared.routes.State.TheVariants.{NotFound, Valid, Invalid}
@@ -41,16 +44,26 @@ pub less_items : (s : Payloads) (but : Option VrpValue) → items (less s but) �
 less_items s None = all_left (items s)
 less_items s (Some w) = taken_items s w
 
-any_of_two : {A : Type 0} (f g h : A → Bool) (xs : List A) → list_any h (filter f (filter g xs)) ≡ list_any (λ x. g x && h x) (filter f xs)
-any_of_two f g h [] = refl
-any_of_two f g h (x ∷ xs) = by (f x) refl (g x) refl (any_of_two f g h xs)
+-- an element that is kept passes a test where one of the list passes both tests
+any_of_filter : {A : Type 0} (f h : A → Bool) (xs : List A) → list_any h (filter f xs) ≡ list_any (λ x. f x && h x) xs
+any_of_filter f h [] = refl
+any_of_filter f h (x ∷ xs) = by (f x) (any_of_filter f h xs)
   where
-    by : (a : Bool) → f x ≡ a → (b : Bool) → g x ≡ b → list_any h (filter f (filter g xs)) ≡ list_any (λ x. g x && h x) (filter f xs)
-        → list_any h (filter f (cond b (x ∷ filter g xs) (filter g xs))) ≡ list_any (λ x. g x && h x) (cond a (x ∷ filter f xs) (filter f xs))
-    by true e true k i = rw (e, k) (ap (λ c. h x || c) i)
-    by true e false k i = rw k i
-    by false e true k i = rw e i
-    by false e false k i = i
+    by : (a : Bool) → list_any h (filter f xs) ≡ list_any (λ x. f x && h x) xs → list_any h (cond a (x ∷ filter f xs) (filter f xs)) ≡ ((a && h x) || list_any (λ x. f x && h x) xs)
+    by true e = ap (λ b. h x || b) e
+    by false e = e
+
+-- one of two filters can be a part of the test
+any_of_two : {A : Type 0} (f g h : A → Bool) (xs : List A) → list_any h (filter f (filter g xs)) ≡ list_any (λ x. g x && h x) (filter f xs)
+any_of_two f g h xs =
+    any_of_filter f h (filter g xs) ∙ any_of_filter g (λ x. f x && h x) xs
+    ∙ (λ i. list_any (λ x. swap (g x) (f x) (h x) i) xs) ∙ sym (any_of_filter f (λ x. g x && h x) xs)
+  where
+    swap : (a b c : Bool) → (a && (b && c)) ≡ (b && (a && c))
+    swap true true c = refl
+    swap true false c = refl
+    swap false true c = refl
+    swap false false c = refl
 
 abbrev is_empty : {A : Type 0} → List A → Bool
 is_empty [] = true
@@ -75,6 +88,20 @@ always g (x ∷ xs) = (λ i. and_true (g x) i || always g xs i)
 -- what the two questions over the payloads that cover say
 abbrev pub judged : Bool → Bool → State
 judged found valid = if valid then Valid else if found then Invalid else NotFound
+
+-- whether a payload covers the prefix and is left
+abbrev pub counts : Option VrpValue → PrefixValue → VrpValue → Bool
+counts but p v = covers v.prefix p && is_left but v
+
+-- whether such a payload matches too
+abbrev pub counts_and_matches : Option VrpValue → PrefixValue → ℕ → VrpValue → Bool
+counts_and_matches but p origin v = counts but p v && matches p origin v
+
+-- one of the elements before a place passes the test, or one of a row from there on
+pub place_step : {A : Type 0} (f : A → Bool) (xs : List A) (n : ℕ) (row : List A) (b c : Bool) → row ≡ take (length row) (drop n xs) → b ≡ list_any f (take n xs) → c ≡ (b || list_any f row) → c ≡ list_any f (take (n + length row) xs)
+place_step f xs n row b c next e g =
+    g ∙ (λ i. e i || list_any f (next i)) ∙ sym (list_any-append f (take n xs) (take (length row) (drop n xs)))
+    ∙ ap (list_any f) (sym (take-add n (length row) xs))
 
 module _ (s : Payloads) (but : Option VrpValue) (p : PrefixValue) (origin : ℕ) where
   abbrev found : List VrpValue → Bool
@@ -120,3 +147,12 @@ module _ (s : Payloads) (but : Option VrpValue) (p : PrefixValue) (origin : ℕ)
   ended b c n e g l h =
       let all : rows_below s p n ≡ covering s p = ap (rows_below s p) l ∙ h in
       (λ i. judged (e i) (g i)) ∙ (λ i. judged (found (all i)) (valid (all i))) ∙ sym state_judged
+
+  -- where all payloads have been looked at, the two answers tell the state
+  pub all_ended : (b c : Bool) (n : ℕ) → b ≡ list_any (counts but p) (take n (items s)) → c ≡ list_any (counts_and_matches but p origin) (take n (items s)) → length (items s) ≤ n → judged b c ≡ state_of (less s but) p origin
+  all_ended b c n e g l =
+      let all : take n (items s) ≡ items s = take_all n (items s) l in
+      (λ i. judged (e i) (g i)) ∙ (λ i. judged (list_any (counts but p) (all i)) (list_any (counts_and_matches but p origin) (all i)))
+      ∙ (λ i. judged (list_any (counts but p) (items s)) (list_any (λ v. and_assoc (covers v.prefix p) (is_left but v) (matches p origin v) i) (items s)))
+      ∙ sym (λ i. judged (any_of_filter (λ v. covers v.prefix p) (is_left but) (items s) i) (any_of_filter (λ v. covers v.prefix p) (λ v. is_left but v && matches p origin v) (items s) i))
+      ∙ sym state_judged

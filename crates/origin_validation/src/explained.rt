@@ -10,8 +10,9 @@ use std::alloc::Global;
 
 /// The state of the prefix with the origin, by all payloads of the set: `NotFound` where none covers the
 /// prefix, `Valid` where one that covers it allows the length and names the origin, and else `Invalid`. A payload
-/// with number 0 names no origin. It takes no memory, and searches the set once for each length up to
-/// the prefix's, and at most once more for each length from there where a prefix has many payloads.
+/// with number 0 names no origin. It takes no memory, and looks at each payload where there are at most 8. It searches
+/// a larger set once for each length up to the prefix's, and at most once more for each length from there where
+/// a prefix has many payloads.
 /// Source: RFC 6811, section 2, and RFC 6483, section 4.
 pub fn state(vrps: &Vrps, prefix: Prefix, origin: Asn) -> State
     ensures { result ≡ state_of vrps.now prefix origin }

@@ -1,11 +1,12 @@
 //! Whether payloads of one prefix are left, and whether one of them matches.
 ghost use Rattle.std.specs.Prelude.{◌≡◌, ◌<◌, ◌≤◌, ◌&&◌};
 ghost use Rattle.std.specs.List.{list_any};
+ghost use Rattle.net_names.specs.Coverage.{covers as covers_of};
 ghost use Rattle.roa_table.specs.Cover.{of_prefix};
 ghost use Rattle.origin_validation.specs.Judging.{matches as matches_of};
 ghost use Rattle.origin_validation.specs.Leaving.{is_left as is_left_of, stands as stands_of};
 
-use net_names::{Prefix, Vrp};
+use net_names::{Prefix, Vrp, covers};
 use roa_table::Vrps;
 
 /// Of more payloads the matching ones are searched for by their maximum lengths.
@@ -21,8 +22,15 @@ fn is_left(but: &Option<Vrp>, vrp: Vrp) -> bool
     }
 }
 
+/// Whether the payload covers the prefix and is left.
+pub(crate) fn counts(but: &Option<Vrp>, prefix: Prefix, vrp: Vrp) -> bool
+    ensures { result ≡ (covers_of vrp.prefix prefix && is_left_of but.now vrp) }
+{
+    covers(vrp.prefix(), prefix) && is_left(but, vrp)
+}
+
 /// Whether a payload that covers the prefix matches.
-fn matches(prefix: Prefix, origin: u32, vrp: Vrp) -> bool
+pub(crate) fn matches(prefix: Prefix, origin: u32, vrp: Vrp) -> bool
     ensures { result ≡ matches_of prefix origin vrp }
 {
     prefix.len() <= vrp.max() && (vrp.asn() == origin && vrp.asn() != 0)

@@ -7,7 +7,7 @@ use Rattle.net_names.specs.Payloads.{VrpValue, vrp_cmp}
 use Rattle.net_names.specs.Orders.{vrp_total, exact_vrp}
 use Rattle.net_names.proofs.Shortening.{IsWhole}
 use Rattle.roa_table.specs.declared.shelf.Shelf.{Shelf}
-use Rattle.roa_table.specs.Sets.{IsSound, AreSound, Payloads, no_payloads, has, added, taken, count, set_of}
+use Rattle.roa_table.specs.Sets.{IsSound, AreSound, Payloads, no_payloads, has, added, taken, items, count, set_of}
 use Rattle.roa_table.specs.Lists.{row_in, stands_in}
 use Rattle.roa_table.specs.Cover.{of_prefix}
 use Rattle.roa_table.specs.Shelves.{all_of, IsInOrder, IsTable}
@@ -35,8 +35,12 @@ module _ (ss : List Shelf) (n : ℕ) (t : IsTable ss n) (s : Payloads) (seen : s
   pub count_is : n ≡ count s
   count_is = t.counted ∙ sym (count_set_of (all_of ss) (rising_all ss t.order)) ∙ ap count seen
 
+  -- the payloads of all shelves are those of the set, in their order
+  pub items_is : all_of ss ≡ items s
+  items_is = sym (items_set_of (all_of ss) (rising_all ss t.order)) ∙ ap items seen
+
   pub row_is : (p : PrefixValue) → row_in p (all_of ss) ≡ of_prefix s p
-  row_is p = ap (row_in p) (sym (items_set_of (all_of ss) (rising_all ss t.order))) ∙ ap (λ x. of_prefix x p) seen
+  row_is p = ap (row_in p) items_is
 
   pub sound_is : AreSound s
   sound_is v h = t.sound v (has_is v ∙ h)

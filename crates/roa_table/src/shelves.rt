@@ -1,5 +1,5 @@
 //! All payloads in rising order, on shelves.
-ghost use Rattle.std.specs.Prelude.{◌≡◌, ◌<◌, ◌∷◌, [], length, OnOk, OnErr, IfOk};
+ghost use Rattle.std.specs.Prelude.{◌≡◌, ◌<◌, ◌∷◌, [], length, take as take_front, drop as drop_front, OnOk, OnErr, IfOk};
 ghost use Rattle.roa_table.specs.Lists.{IsRising, row_in, stands_in};
 ghost use Rattle.roa_table.specs.Sets.{added, taken, set_of};
 ghost use Rattle.roa_table.specs.Shelves.{all_of, IsInOrder, IsHome};
@@ -48,6 +48,22 @@ pub(crate) fn stands(shelves: &[Shelf], vrp: Vrp) -> bool
     }
     let shelf = &shelves[home(shelves, vrp.prefix())];
     shelf.has(vrp)
+}
+
+/// Payloads from this place on, at least one where one stands there.
+pub(crate) fn payloads_from(shelves: &[Shelf], place: usize) -> &[Vrp]
+    ensures next { result.now ≡ take_front (length result.now) (drop_front place (all_of shelves.now)) }
+    ensures some { place < length (all_of shelves.now) → 0 < length result.now }
+{
+    let mut left = place;
+    for shelf in shelves {
+        let vrps = shelf.vrps.as_slice();
+        if left < vrps.len() {
+            return &vrps[left..];
+        }
+        left -= vrps.len();
+    }
+    &[]
 }
 
 /// A shelf for one payload.

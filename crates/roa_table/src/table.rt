@@ -1,7 +1,7 @@
 //! Sets of payloads.
-ghost use Rattle.std.specs.Prelude.{◌≡◌, ◌≤◌, ◌↔◌, false, suc, not, length, Err, OnOk, OnErr, IfOk};
+ghost use Rattle.std.specs.Prelude.{◌≡◌, ◌≤◌, ◌<◌, ◌↔◌, false, suc, not, length, take as take_front, drop, Err, OnOk, OnErr, IfOk};
 ghost use Rattle.std.specs.List.Sorted.{IsStrictlySortedBy};
-ghost use Rattle.roa_table.specs.Sets.{no_payloads, has, added, taken, count, set_of, AreSound};
+ghost use Rattle.roa_table.specs.Sets.{no_payloads, has, added, taken, items, count, set_of, AreSound};
 ghost use Rattle.roa_table.specs.Lists.{IsRising};
 ghost use Rattle.roa_table.specs.Gathering.{AllSound};
 ghost use Rattle.roa_table.specs.Cover.{of_prefix, covering as covering_of, cover_cmp, rows_below};
@@ -9,7 +9,7 @@ ghost use Rattle.roa_table.specs.Cover.{of_prefix, covering as covering_of, cove
 use crate::covering::Covering;
 use crate::errors::AddError;
 use crate::shelf::Shelf;
-use crate::shelves::{put, row_of, shelved, stands, take};
+use crate::shelves::{payloads_from, put, row_of, shelved, stands, take};
 use net_names::{NoMemory, Prefix, Vrp};
 use std::alloc::{AllocError, Global};
 use std::marker::Model;
@@ -125,6 +125,15 @@ impl Vrps {
         ensures { result.now ≡ of_prefix self.now prefix }
     {
         row_of(self.shelves.as_slice(), prefix)
+    }
+
+    /// Payloads from this place on, in rising order: those that stand side by side, at least one where one
+    /// stands there. It takes no memory.
+    pub fn payloads_from(&self, place: usize) -> &[Vrp]
+        ensures next { result.now ≡ take_front (length result.now) (drop place (items self.now)) }
+        ensures some { place < count self.now → 0 < length result.now }
+    {
+        payloads_from(self.shelves.as_slice(), place)
     }
 
     /// What covers a prefix are the payloads of the prefixes to which it is shortened, one length after

@@ -1,10 +1,10 @@
-use Rattle.std.proofs.Common.{◌≡◌, ap, ◌∙◌, sym, rules, suc, ◌&&◌}
+use Rattle.std.proofs.Common.{◌≡◌, ap, ◌∙◌, rules, suc, ◌&&◌}
 use Rattle.std.specs.List.{list_any}
 use Rattle.roa_table.specs.Cover.{of_prefix}
 use Rattle.net_names.specs.Coverage.{shortened}
 use Rattle.origin_validation.specs.Judging.{matches, state_of}
 use Rattle.origin_validation.specs.Leaving.{is_left, less}
-use Rattle.origin_validation.proofs.Judgement.{judged, ended, row_step}
+use Rattle.origin_validation.proofs.Judgement.{ended, row_step}
 use Rattle.origin_validation.proofs.judging.judge.Goals as goal
 
 pub loop-len-preserved : goal.loop-len-preserved
@@ -16,23 +16,12 @@ loop-len-preserved c =
           (c.has_match-matched.ensures ∙ ap (list_any (λ v. is_left c.args.but.now v && matches c.args.prefix c.get-number.result v)) short);
     }
 
-pub returns-then-valid : goal.returns-then-valid
-returns-then-valid c =
-    let e : c.loop-len.len ≡ suc c.args.prefix.len = search rules in
-    ap (judged c.loop-len.found) (sym c.if-valid.true)
-    ∙ ended c.args.vrps.now c.args.but.now c.args.prefix c.get-number.result c.loop-len.found c.loop-len.valid c.loop-len.len c.loop-len.invariant.found c.loop-len.invariant.valid e c.rows_cover.ensures.rows
-    ∙ ap (λ o. state_of (less c.args.vrps.now c.args.but.now) c.args.prefix o) c.get-number.ensures.value
+pub returns-then-len-le-FEW : goal.returns-then-len-le-FEW
+returns-then-len-le-FEW c = c.judge_few.ensures ∙ ap (λ o. state_of (less c.args.vrps.now c.args.but.now) c.args.prefix o) c.get-number.ensures.value
 
-pub returns-then-found : goal.returns-then-found
-returns-then-found c =
+pub returns : goal.returns
+returns c =
     let e : c.loop-len.len ≡ suc c.args.prefix.len = search rules in
-    (λ i. judged (sym c.if-found.true i) (sym c.if-valid.false i))
-    ∙ ended c.args.vrps.now c.args.but.now c.args.prefix c.get-number.result c.loop-len.found c.loop-len.valid c.loop-len.len c.loop-len.invariant.found c.loop-len.invariant.valid e c.rows_cover.ensures.rows
-    ∙ ap (λ o. state_of (less c.args.vrps.now c.args.but.now) c.args.prefix o) c.get-number.ensures.value
-
-pub returns-else-found : goal.returns-else-found
-returns-else-found c =
-    let e : c.loop-len.len ≡ suc c.args.prefix.len = search rules in
-    (λ i. judged (sym c.if-found.false i) (sym c.if-valid.false i))
+    c.state_by.ensures
     ∙ ended c.args.vrps.now c.args.but.now c.args.prefix c.get-number.result c.loop-len.found c.loop-len.valid c.loop-len.len c.loop-len.invariant.found c.loop-len.invariant.valid e c.rows_cover.ensures.rows
     ∙ ap (λ o. state_of (less c.args.vrps.now c.args.but.now) c.args.prefix o) c.get-number.ensures.value
