@@ -1,8 +1,9 @@
 -- Shelves in order: what stands round a shelf, and what they are after one of them has changed.
 use Rattle.std.proofs.Common.{◌≡◌, ℕ, zero, suc, ◌-◌, ◌≤◌, ◌<◌, Bool, true, false, not, ◌||◌, ◌&&◌, List, [], ◌∷◌, ◌++◌, length, take, drop, get_or, set, refl, sym, ap, subst, ◌∙◌, arith, ◌⊎◌, inl, inr}
-use Rattle.std.specs.List.{list_all, AllByRecursion}
+use Rattle.std.specs.List.{remove, list_all, AllByRecursion}
 use Rattle.std.specs.List.Sorted.{IsPartitionPoint, IsPartitionedBy}
 use Rattle.std.proofs.lemmas.Bool.{cases_lt}
+use Rattle.std.proofs.lemmas.List.{drop_all}
 use Rattle.std.proofs.lemmas.List.Folds.{list_any-append}
 use Rattle.std.specs.Ordering.{is_lt, eq_by_cmp}
 use Rattle.net_names.specs.Prefixes.{PrefixValue, prefix_cmp}
@@ -304,3 +305,23 @@ rising_at_place (x ∷ ss) (suc k) s h lt at = rising_at_place ss k s h.2 (omega
 pub none_taken : (ss : List Shelf) (v : VrpValue) → length ss ≡ 0 → set_of (all_of ss) ≡ taken (set_of (all_of ss)) v
 none_taken [] v e = set_take [] [] v (λ q. sym (and_false (not (eq_by_cmp vrp_cmp q v))))
 none_taken (s ∷ ss) v e = absurd (omega (arith, e))
+
+-- what holds of each shelf holds of each but one
+remove_each : (P : Shelf → Type 0) (ss : List Shelf) (k : ℕ) → AllByRecursion P ss → AllByRecursion P (remove ss k)
+remove_each P [] zero h = tt
+remove_each P [] (suc k) h = tt
+remove_each P (s ∷ ss) zero h = h.1
+remove_each P (s ∷ ss) (suc k) h = (h.0, remove_each P ss k h.1)
+
+-- shelves without one of them are in order
+pub remove_order : (ss : List Shelf) (k : ℕ) → IsInOrder ss → IsInOrder (remove ss k)
+remove_order [] zero h = tt
+remove_order [] (suc k) h = tt
+remove_order (s ∷ ss) zero h = h.2
+remove_order (s ∷ ss) (suc k) h = (h.0, remove_each (IsBefore s) ss k h.1, remove_order ss k h.2)
+
+-- shelves without an empty one have the same payloads
+pub remove_same : (ss : List Shelf) (k : ℕ) (s : Shelf) → k < length ss → s ≡ get_or ss k s → length s.vrps.items ≡ 0 → all_of (remove ss k) ≡ all_of ss
+remove_same [] k s lt at e = absurd (omega (arith, lt))
+remove_same (x ∷ ss) zero s lt at e = ap (λ l. l ++ all_of ss) (sym (drop_all 0 s.vrps.items (omega (arith, e))) ∙ ap (λ (t : Shelf). t.vrps.items) at)
+remove_same (x ∷ ss) (suc k) s lt at e = ap (λ l. x.vrps.items ++ l) (remove_same ss k s (omega (arith, lt)) at e)

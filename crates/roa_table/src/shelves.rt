@@ -138,7 +138,19 @@ pub(crate) fn put(shelves: &mut Vec<Shelf>, alloc: Global, vrp: Vrp) -> Result<(
     Ok(())
 }
 
-/// Takes the payload from its shelf, and tells whether it stood there.
+/// Removes the shelf at this place where no payload stands on it.
+fn remove_empty(shelves: &mut Vec<Shelf>, k: usize)
+    requires order { IsInOrder shelves.old.items }
+    requires inside { k < length shelves.old.items }
+    ensures order { IsInOrder shelves.new.items }
+    ensures same { all_of shelves.new.items ≡ all_of shelves.old.items }
+{
+    if shelves[k].vrps.is_empty() {
+        let _ = shelves.remove(k);
+    }
+}
+
+/// Takes the payload from its shelf, and tells whether it stood there. An empty shelf is removed.
 pub(crate) fn take(shelves: &mut Vec<Shelf>, vrp: Vrp) -> bool
     requires { IsInOrder shelves.old.items }
     ensures order { IsInOrder shelves.new.items }
@@ -150,7 +162,9 @@ pub(crate) fn take(shelves: &mut Vec<Shelf>, vrp: Vrp) -> bool
     }
     let k = home(shelves.as_slice(), vrp.prefix());
     let shelf = &mut shelves[k];
-    shelf.take(vrp)
+    let found = shelf.take(vrp);
+    remove_empty(shelves, k);
+    found
 }
 
 /// Shelves with these payloads.
