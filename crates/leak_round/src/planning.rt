@@ -301,25 +301,8 @@ fn plan_round<P: RoutePolicy, V: OriginStates, L: Ledger>(
     let mut place = 0;
     'prefixes: while let Some(prefix) = plan.prefix_at(place) {
         plan_change(
-            alloc,
-            graph,
-            ranks,
-            rank_plan,
-            book,
-            states,
-            plan,
-            announced,
-            own,
-            edited,
-            touched,
-            ases,
-            tables,
-            changes,
-            round,
-            place,
-            prefix,
-            pool,
-            steps,
+            alloc, graph, ranks, rank_plan, book, states, plan, announced, own, edited, touched,
+            ases, tables, changes, round, place, prefix, pool, steps,
         )?;
         place += 1;
     }
