@@ -1,8 +1,8 @@
 -- Answers to lines, one after the other.
-use Rattle.std.proofs.Common.{◌≡◌, ◌<◌, ◌≤◌, ◌+◌, ◌||◌, ℕ, Bool, true, false, List, [], ◌∷◌, ◌++◌, length, take, get_or, Option, Result, Ok, Err, IfOk, ap, subst, refl, sym, ◌∙◌, append_assoc, append-nil, arith, length-append, ◌⊎◌, inl, inr, cond, nat_lt, ◌^◌, ◌-◌}
+use Rattle.std.proofs.Common.{◌≡◌, ◌<◌, ◌≤◌, ◌+◌, ◌||◌, ℕ, Bool, true, false, List, [], ◌∷◌, ◌++◌, length, take, get_or, Option, Result, Ok, Err, IfOk, OnErr, ap, subst, refl, sym, ◌∙◌, append_assoc, append-nil, arith, length-append, ◌⊎◌, inl, inr, cond, nat_lt, ◌^◌, ◌-◌}
 use Rattle.std.proofs.Math.Seq.{take-append-add}
 use Rattle.std.proofs.lemmas.List.{take_more, take_all}
-use Rattle.std.proofs.lemmas.Bool.{ltb-true, ltb-false}
+use Rattle.std.proofs.lemmas.Bool.{ltb-true, ltb-false, true≢false}
 use Rattle.io_edge.specs.Faults.{Rose}
 use Rattle.io_edge.specs.Bytes.{Appends, AppendsFront}
 use Rattle.io_edge.proofs.Appending.{Appends-nil, Appends-trans}
@@ -18,7 +18,7 @@ use Rattle.sim_core.specs.declared.errors.EditError.TheVariants as refused
 use Rattle.asprop.specs.Streams.{Stream}
 use Rattle.asprop.specs.Task.{Task, first_text}
 use Rattle.asprop.specs.Told.{Answered, AppendsReply, Tells, Told, head}
-use Rattle.asprop.specs.Written.{Answering, Wrote}
+use Rattle.asprop.specs.Written.{Answering, IsPassedOn, Wrote}
 use Rattle.asprop.specs.declared.types.Stop.{Stop}
 use Rattle.asprop.specs.declared.types.Stop.TheVariants as stop
 
@@ -30,13 +30,13 @@ task_of counts heads w lines = record { world = w; lines = lines; heads = heads;
 abbrev pub sink_of : Option (List ℕ) → Option (List ℕ) → Type 0 → Stream
 sink_of old new rose = record { wrote = λ text. Appends old new text; failed = λ text. rose × AppendsFront old new text }
 
--- What follows is told of the lines that follow, and so of all.
-pub record SoFar (heads : Bool) (start now : World) (lines : List LineValue) (refused : Bool) (old new : Option (List ℕ)) : Type 0 where
+-- What follows is told of the lines that follow, and so of all. One text was written, and another one is held back behind it.
+pub record SoFar (heads : Bool) (start now : World) (lines : List LineValue) (refused : Bool) (old new : Option (List ℕ)) (held : List ℕ) : Type 0 where
   pub text : List ℕ
   pub appends : Appends old new text
-  pub told : (more : List LineValue) (rest : List ℕ) (others : Bool) → Told heads now more rest others → Told heads start (lines ++ more) (text ++ rest) (refused || others)
+  pub told : (more : List LineValue) (rest : List ℕ) (others : Bool) → Told heads now more rest others → Told heads start (lines ++ more) ((text ++ held) ++ rest) (refused || others)
 
-pub begun : (heads : Bool) (w : World) (old : Option (List ℕ)) → SoFar heads w w [] false old old
+pub begun : (heads : Bool) (w : World) (old : Option (List ℕ)) → SoFar heads w w [] false old old []
 begun heads w old = record { text = []; appends = Appends-nil old; told = λ more rest others h. h }
 
 or_assoc : (a b c : Bool) → ((a || b) || c) ≡ (a || (b || c))
@@ -52,25 +52,43 @@ more_told heads start now after lines line refused first text front told answere
     rw (append_assoc lines (line ∷ []) more, append_assoc text front rest, or_assoc refused first others)
     (told (line ∷ more) (front ++ rest) (first || others) (front, rest, first, others, after, answered, h, refl, refl))
 
--- one more line, whose answer was written
-pub one_more : (heads : Bool) (start now after : World) (lines : List LineValue) (line : LineValue) (refused first : Bool) (old mid new : Option (List ℕ)) (front : List ℕ)
-    → SoFar heads start now lines refused old mid → Answered heads now line front first after → Appends mid new front
-    → SoFar heads start after (lines ++ line ∷ []) (refused || first) old new
-one_more heads start now after lines line refused first old mid new front so answered appends = record {
-  text = so.text ++ front;
-  appends = Appends-trans old mid new so.text front so.appends appends;
-  told = more_told heads start now after lines line refused first so.text front so.told answered;
+same_text : (text written now held front : List ℕ) → written ++ now ≡ held ++ front → (text ++ written) ++ now ≡ (text ++ held) ++ front
+same_text text written now held front e = append_assoc text written now ∙ ap (λ l. text ++ l) e ∙ sym (append_assoc text held front)
+
+-- one more line, whose answer was passed on
+pub one_more : (heads : Bool) (start now after : World) (lines : List LineValue) (line : LineValue) (refused first : Bool) (old mid new : Option (List ℕ)) (held front left : List ℕ)
+    → SoFar heads start now lines refused old mid held → Answered heads now line front first after → IsPassedOn mid new held front left
+    → SoFar heads start after (lines ++ line ∷ []) (refused || first) old new left
+one_more heads start now after lines line refused first old mid new held front left so answered passed = record {
+  text = so.text ++ passed.written;
+  appends = Appends-trans old mid new so.text passed.written so.appends passed.appends;
+  told = λ more rest others h.
+      subst (λ t. Told heads start ((lines ++ line ∷ []) ++ more) (t ++ rest) ((refused || first) || others)) (sym (same_text so.text passed.written left held front passed.whole))
+      (more_told heads start now after lines line refused first (so.text ++ held) front so.told answered more rest others h);
 }
 
 or_false : (b : Bool) → (b || false) ≡ b
 or_false true = refl
 or_false false = refl
 
--- nothing follows
-ended : (heads : Bool) (start now : World) (lines all : List LineValue) (refused : Bool) (old new : Option (List ℕ)) → SoFar heads start now lines refused old new
+-- what is told of the lines so far
+told_so_far : (heads : Bool) (start now : World) (lines : List LineValue) (refused : Bool) (old new : Option (List ℕ)) (held : List ℕ) (so : SoFar heads start now lines refused old new held) → Told heads start lines (so.text ++ held) refused
+told_so_far heads start now lines refused old new held so = rw (append-nil lines, append-nil (so.text ++ held), or_false refused) at (so.told [] [] false (refl, refl))
+
+-- nothing follows, and what was held back is written
+ended : (heads : Bool) (start now : World) (lines all : List LineValue) (refused : Bool) (old mid new : Option (List ℕ)) (held : List ℕ) → SoFar heads start now lines refused old mid held → Appends mid new held
     → Wrote (task_of false heads start all) lines refused (λ text. Appends old new text)
-ended heads start now lines all refused old new so =
-    (so.text, rw (append-nil lines, append-nil so.text, or_false refused) at (so.told [] [] false (refl, refl)), so.appends)
+ended heads start now lines all refused old mid new held so last = (so.text ++ held, told_so_far heads start now lines refused old mid held so, Appends-trans old mid new so.text held so.appends last)
+
+-- what holds whatever came of it holds of an error too
+pub on_err : {T E P : Type 0} (r : Result T E) → P → OnErr r P
+on_err (Ok x) p = tt
+on_err (Err e) p = p
+
+-- an answer that is not Ok leaves the other branch
+pub unless_ok : {X : Type 0} (b : Bool) (x y : X) → b ≡ false → cond b x y ≡ y
+unless_ok true x y e = absurd (true≢false e)
+unless_ok false x y e = refl
 
 -- a front of a front
 pub Appends-front : (a b c : Option (List ℕ)) (x y : List ℕ) → Appends a b x → AppendsFront b c y → AppendsFront a c (x ++ y)
@@ -89,31 +107,37 @@ pub either : (refused first after : Bool) → ((first ≡ true) × (after ≡ tr
 either refused first after (inl h) = or_first refused first after h.0 h.1
 either refused first after (inr h) = or_other refused first after h.0 h.1
 
-pub whole : (heads : Bool) (start now : World) (lines : List LineValue) (i : ℕ) (refused : Bool) (old new : Option (List ℕ)) → SoFar heads start now (take i lines) refused old new
+pub whole : (heads : Bool) (start now : World) (lines : List LineValue) (i : ℕ) (refused : Bool) (old mid new : Option (List ℕ)) (held : List ℕ) → SoFar heads start now (take i lines) refused old mid held → Appends mid new held
     → Answering (task_of false heads start lines) (Err stop.Memory) (sink_of old new (Unit {0}))
-whole heads start now lines i refused old new so = inr (i, refused, ended heads start now (take i lines) lines refused old new so)
+whole heads start now lines i refused old mid new held so last = inr (i, refused, ended heads start now (take i lines) lines refused old mid new held so last)
 
-pub all : (heads : Bool) (start now : World) (lines : List LineValue) (i : ℕ) (refused : Bool) (old new : Option (List ℕ)) → SoFar heads start now (take i lines) refused old new → length lines ≤ i
+pub all : (heads : Bool) (start now : World) (lines : List LineValue) (i : ℕ) (refused : Bool) (old mid new : Option (List ℕ)) (held : List ℕ) → SoFar heads start now (take i lines) refused old mid held → Appends mid new held → length lines ≤ i
     → Answering (task_of false heads start lines) (Ok refused) (sink_of old new (Unit {0}))
-all heads start now lines i refused old new so h =
-    subst (λ (l : List LineValue). Wrote (task_of false heads start lines) l refused (λ text. Appends old new text)) (take_all i lines h) (ended heads start now (take i lines) lines refused old new so)
+all heads start now lines i refused old mid new held so last h =
+    subst (λ (l : List LineValue). Wrote (task_of false heads start lines) l refused (λ text. Appends old new text)) (take_all i lines h) (ended heads start now (take i lines) lines refused old mid new held so last)
 
-pub next : (heads : Bool) (start now after : World) (lines : List LineValue) (i : ℕ) (d : LineValue) (refused first : Bool) (old mid new : Option (List ℕ)) (front : List ℕ) → i < length lines
-    → SoFar heads start now (take i lines) refused old mid → Answered heads now (get_or lines i d) front first after → Appends mid new front
-    → SoFar heads start after (take (i + 1) lines) (refused || first) old new
-next heads start now after lines i d refused first old mid new front l so answered appends =
-    rw (take_more lines i d l) (one_more heads start now after (take i lines) (get_or lines i d) refused first old mid new front so answered appends)
+pub next : (heads : Bool) (start now after : World) (lines : List LineValue) (i : ℕ) (d : LineValue) (refused first : Bool) (old mid new : Option (List ℕ)) (held front left : List ℕ) → i < length lines
+    → SoFar heads start now (take i lines) refused old mid held → Answered heads now (get_or lines i d) front first after → IsPassedOn mid new held front left
+    → SoFar heads start after (take (i + 1) lines) (refused || first) old new left
+next heads start now after lines i d refused first old mid new held front left l so answered passed =
+    rw (take_more lines i d l) (one_more heads start now after (take i lines) (get_or lines i d) refused first old mid new held front left so answered passed)
 
--- the answer to one more line was written in part
-pub part : (heads : Bool) (start now after : World) (lines : List LineValue) (i : ℕ) (d : LineValue) (refused first : Bool) (old mid new : Option (List ℕ)) (rose : Type 0) (front : List ℕ) → rose → i < length lines
-    → SoFar heads start now (take i lines) refused old mid → Answered heads now (get_or lines i d) front first after → AppendsFront mid new front
+-- what was held back was written in part
+pub held_part : (heads : Bool) (start now : World) (lines : List LineValue) (i : ℕ) (refused : Bool) (old mid new : Option (List ℕ)) (rose : Type 0) (held : List ℕ) → rose
+    → SoFar heads start now (take i lines) refused old mid held → AppendsFront mid new held → Answering (task_of false heads start lines) (Err stop.Write) (sink_of old new rose)
+held_part heads start now lines i refused old mid new rose held r so last =
+    (i, refused, (so.text ++ held, told_so_far heads start now (take i lines) refused old mid held so, (r, Appends-front old mid new so.text held so.appends last)))
+
+-- what was held back and the answer to one more line were written in part
+pub part : (heads : Bool) (start now after : World) (lines : List LineValue) (i : ℕ) (d : LineValue) (refused first : Bool) (old mid new : Option (List ℕ)) (rose : Type 0) (held front : List ℕ) → rose → i < length lines
+    → SoFar heads start now (take i lines) refused old mid held → Answered heads now (get_or lines i d) front first after → AppendsFront mid new (held ++ front)
     → Answering (task_of false heads start lines) (Err stop.Write) (sink_of old new rose)
-part heads start now after lines i d refused first old mid new rose front r l so answered appends =
-    let told : Told heads start (take (i + 1) lines) (so.text ++ front) (refused || first) =
+part heads start now after lines i d refused first old mid new rose held front r l so answered last =
+    let told : Told heads start (take (i + 1) lines) ((so.text ++ held) ++ front) (refused || first) =
     rw (take_more lines i d l)
-    (rw (append-nil (take i lines ++ get_or lines i d ∷ []), append-nil (so.text ++ front), or_false (refused || first)) at
-    (more_told heads start now after (take i lines) (get_or lines i d) refused first so.text front so.told answered [] [] false (refl, refl))) in
-    (i + 1, refused || first, (so.text ++ front, told, (r, Appends-front old mid new so.text front so.appends appends)))
+    (rw (append-nil (take i lines ++ get_or lines i d ∷ []), append-nil ((so.text ++ held) ++ front), or_false (refused || first)) at
+    (more_told heads start now after (take i lines) (get_or lines i d) refused first (so.text ++ held) front so.told answered [] [] false (refl, refl))) in
+    (i + 1, refused || first, ((so.text ++ held) ++ front, told, (r, subst (AppendsFront old new) (sym (append_assoc so.text held front)) (Appends-front old mid new so.text (held ++ front) so.appends last))))
 
 rose_by : (x y : Bool) (a b c m : ℕ) → (x ≡ true → a < m) → (y ≡ false → m ≤ b) → a ≤ b → cond y (b + 1) b ≤ c → cond x (a + 1) a ≤ c
 rose_by true true a b c m low high le h = omega (arith, le, h)

@@ -1,6 +1,7 @@
 -- What was written of the answers.
-use Rattle.std.specs.Prelude.{ℕ, ◌⊎◌, ◌++◌, [], Bool, List, take, Result, Ok, Err}
+use Rattle.std.specs.Prelude.{◌≡◌, ℕ, ◌⊎◌, ◌++◌, [], Bool, List, Option, take, Result, Ok, Err}
 use Rattle.clap.specs.Walk.{Text}
+use Rattle.io_edge.specs.Bytes.{Appends}
 use Rattle.scenario_text.specs.LineValues.{LineValue}
 use Rattle.asprop.specs.Streams.{Stream}
 use Rattle.asprop.specs.Task.{Task, first_text}
@@ -22,3 +23,9 @@ Answering task (Ok refused) out = Wrote task task.lines refused out.wrote
 Answering task (Err stop.Memory) out = out.wrote [] ⊎ WroteSome task out.wrote
 Answering task (Err stop.Write) out = WroteSome task out.failed
 Answering task (Err _) out = ⊥
+
+-- of what was held back and a text behind it, a front was written, and the rest is held back
+pub record IsPassedOn (old new : Option (List ℕ)) (held text now : List ℕ) : Type 0 where
+  pub written : List ℕ
+  pub appends : Appends old new written
+  pub whole : written ++ now ≡ held ++ text

@@ -1,5 +1,7 @@
 //! Answers to lines.
-ghost use Rattle.std.specs.Prelude.{◌≡◌, ◌<◌, ◌++◌, false, true, string_bytes, IfOk, OnOk};
+ghost use Rattle.std.specs.Prelude.{◌≡◌, ◌<◌, ◌++◌, false, true, string_bytes, IfOk, OnOk, OnErr};
+ghost use Rattle.io_edge.specs.Bytes.{AppendsFront};
+ghost use Rattle.io_edge.specs.Faults.{HasCause};
 ghost use Rattle.sim_core.specs.Kept.{IsKept};
 ghost use Rattle.sim_core.specs.Sims.{kept, world_seen};
 ghost use Rattle.sim_core.specs.World.{HasCycle};
@@ -7,7 +9,7 @@ ghost use Rattle.scenario_text.specs.LineValues.{AreSoundLines, IsWellFormed, Is
 ghost use Rattle.asprop.specs.Task.{first_text};
 ghost use Rattle.asprop.specs.Told.{Answered, AppendsReply, head};
 ghost use Rattle.asprop.specs.Streams.{stream_of};
-ghost use Rattle.asprop.specs.Written.{Answering};
+ghost use Rattle.asprop.specs.Written.{Answering, IsPassedOn};
 
 use crate::refusals::{put_done, put_edit_refusal, put_refusal};
 use crate::types::Stop;
@@ -19,6 +21,9 @@ use sim_core::{QueryError, Sim};
 use std::alloc::{AllocError, Global};
 use std::marker::Brand;
 use std::sync::ledger::{Blank, Ledger};
+
+// So many bytes of answers are held back at most, and then written together.
+const HELD_BACK: usize = 65_536;
 
 // Appends the head line.
 fn put_head(alloc: Global, number: u32, text: &mut Vec<u8>) -> Result<(), AllocError>
@@ -107,8 +112,24 @@ fn answer_line(
     }
 }
 
+// Holds a text back behind what is held back already, where that takes few bytes; else writes both.
+fn pass_on<O: Sink>(text: &[u8], held: &mut Vec<u8>, out: &mut O) -> Result<(), Failed>
+    ensures ok { OnOk result (IsPassedOn (O.written out.old) (O.written out.new) held.old.items text.now held.new.items) }
+    ensures err { OnErr result (AppendsFront (O.written out.old) (O.written out.new) (held.old.items ++ text.now)) }
+    ensures cause { HasCause (O.faults out.old) (O.faults out.new) result }
+{
+    let is_little = held.len() <= HELD_BACK && text.len() <= HELD_BACK - held.len();
+    if is_little && held.extend_from_slice(text).is_ok() {
+        return Ok(());
+    }
+    write_all(out, held)?;
+    held.clear();
+    write_all(out, text)
+}
+
 // Writes the answers to the lines one after the other, each in the world that the lines before it leave
-// and made whole before, and says whether one is a refusal.
+// and made whole before, and says whether one is a refusal. Short answers are written together. Where memory
+// runs out, the answers before are written.
 fn answer_all<O: Sink>(
     alloc: Global,
     sim: &mut Sim,
@@ -122,12 +143,18 @@ fn answer_all<O: Sink>(
     ensures { Answering (record { world = world_seen sim.old; lines = lines.now; heads = heads; counts = false }) result (stream_of O.written O.faults out.old out.new) }
 {
     let mut text: Vec<u8> = Vec::new(alloc);
+    let mut held: Vec<u8> = Vec::new(alloc);
     let mut refused = false;
     'lines: for line in lines {
         match answer_line(alloc, sim, heads, line, &mut text) {
-            Err(_) => return Err(Stop::Memory),
+            Err(_) => {
+                return match write_all(out, &held) {
+                    Err(Failed) => Err(Stop::Write),
+                    Ok(()) => Err(Stop::Memory),
+                };
+            }
             Ok(first) => {
-                match write_all(out, &text) {
+                match pass_on(&text, &mut held, out) {
                     Err(Failed) => return Err(Stop::Write),
                     Ok(()) => {}
                 }
@@ -137,7 +164,10 @@ fn answer_all<O: Sink>(
             }
         }
     }
-    Ok(refused)
+    match write_all(out, &held) {
+        Err(Failed) => Err(Stop::Write),
+        Ok(()) => Ok(refused),
+    }
 }
 
 // The numbers of ASes and links, if they come first.

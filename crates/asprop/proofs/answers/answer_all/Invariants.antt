@@ -8,7 +8,7 @@ use Rattle.asprop.proofs.answers.answer_all.Given as goal
 abbrev pub invariant-lines : goal.invariant-lines
 invariant-lines g l = record {
   later : g.O.Sink.faults l.fn.out ≤ g.O.Sink.faults l.out;
-  so_far : SoFar l.heads (world_seen l.fn.sim) (world_seen l.sim) (take l.line-index l.lines) l.refused (g.O.Sink.written l.fn.out) (g.O.Sink.written l.out);
+  so_far : SoFar l.heads (world_seen l.fn.sim) (world_seen l.sim) (take l.line-index l.lines) l.refused (g.O.Sink.written l.fn.out) (g.O.Sink.written l.out) l.held.items;
   kept : IsKept (world_seen l.sim) (kept l.sim);
   no_cycle : HasCycle (world_seen l.sim) → ⊥;
 }
