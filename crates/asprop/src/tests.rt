@@ -13,6 +13,7 @@ mod edits;
 mod faults;
 mod forwarding;
 mod generated;
+mod long;
 mod origins;
 mod payloads;
 mod readme;

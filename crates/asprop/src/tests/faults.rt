@@ -44,15 +44,8 @@ const FILES: [(&str, &[u8], &[u8]); 4] = [
     ),
 ];
 
-// The answers, of which each is written whole. AS 3 sends by the shorter prefix and AS 2 by the longer one, AS 3 then takes
-// the longer one too, and the last edit is refused.
-const ANSWERS: [&[u8]; 4] = [
-    b"# 1\ndelivered|3 2 6\n",
-    b"# 2\nok 1\n",
-    b"# 3\ndelivered|4 2 6\n",
-    b"# 4\nrefused absent-link 3|4\n",
-];
-
+// The answers. AS 3 sends by the shorter prefix and AS 2 by the longer one, AS 3 then takes the longer one too, and the last
+// edit is refused.
 const OUT: &[u8] =
     b"# 1\ndelivered|3 2 6\n# 2\nok 1\n# 3\ndelivered|4 2 6\n# 4\nrefused absent-link 3|4\n";
 
@@ -111,20 +104,19 @@ fn check_reads(rt: &impl Abort, alloc: Global, most: usize) -> Result<(), Fail>
     Ok(())
 }
 
-// Each write of an answer fails in turn, and leaves what was written before. Then none fails.
+// Each write of the answers, which are few enough to be written together, fails in turn, and leaves what was written before.
+// Then none fails.
 fn check_writes(rt: &impl Abort, alloc: Global, most: usize) -> Result<(), Fail>
     requires { 1 ≤ most }
 {
     let mut call = 1u64;
     let mut written = Vec::new(alloc);
-    for answer in &ANSWERS {
-        for piece in answer.chunks(most) {
-            let left = run_with(alloc, most, (0, call, 0))?;
-            let status = Status::WriteFault;
-            expect_left(rt, &left, status, &written, WRITE_FAULT, call, most);
-            written.extend_from_slice(piece)?;
-            call = call.saturating_add(1);
-        }
+    for piece in OUT.chunks(most) {
+        let left = run_with(alloc, most, (0, call, 0))?;
+        let status = Status::WriteFault;
+        expect_left(rt, &left, status, &written, WRITE_FAULT, call, most);
+        written.extend_from_slice(piece)?;
+        call = call.saturating_add(1);
     }
     let left = run_with(alloc, most, (0, call, 0))?;
     expect_left(rt, &left, Status::SomeRefused, OUT, b"", call, most);
