@@ -1,8 +1,9 @@
 //! Answers of more bytes than are written together.
-use super::run_in_memory;
 use super::scripts::SCRIPT_WORDS;
+use super::{room, words};
+use crate::run::run;
 use crate::types::Status;
-use io_edge::MemInputs;
+use io_edge::{MemInputs, MemSink};
 use std::alloc::{AllocError, Global};
 use std::test::Fail;
 
@@ -45,8 +46,11 @@ fn long_and_short_answers_are_written_in_their_order(rt: HostRuntime) -> Result<
         b"{\"announcements\":[{\"prefix\":\"10.0.0.0/8\",\"as\":1}]}\n",
     )?;
     inputs.file("cmds", script.as_bytes())?;
-    let left = run_in_memory(alloc, SCRIPT_WORDS, inputs)?;
-    assert_eq!(rt; left.status, Status::Done);
-    assert_eq!(rt; left.out.bytes(), told.as_bytes());
+    let mut out = MemSink::new(alloc, Vec::with_capacity(alloc, 1_000_000)?);
+    let mut err = MemSink::new(alloc, room(alloc)?);
+    let all = words(alloc, SCRIPT_WORDS)?;
+    let status = run(alloc, &all, &mut inputs, &mut out, &mut err);
+    assert_eq!(rt; status, Status::Done);
+    assert_eq!(rt; out.bytes(), told.as_bytes());
     Ok(())
 }
