@@ -2,7 +2,7 @@
 use Rattle.std.proofs.Common.{◌≡◌, ◌≢◌, ℕ, suc, ◌+◌, ◌-◌, ◌<◌, List, [], ◌∷◌, length, set, refl, ap, sym, ◌∙◌, subst, arith, inl, inr}
 use Rattle.std.proofs.lemmas.Bool.{cases_eq}
 use Rattle.path_pool.specs.declared.pool.Cell.{Cell}
-use Rattle.path_pool.specs.Region.{cell_at, walk, list_of, IsLive, cells_above, holds_of, IsRegion, CanFollow, GainsCell, PassesHold, GainsCells}
+use Rattle.path_pool.specs.Region.{cell_at, walk, list_of, IsLive, cells_above, holds_of, IsRegion, CanFollow, GainsCell, PassesHold, GainsCells, SameCells}
 use Rattle.path_pool.proofs.RegionLemmas.{at_same, at_other, live_inside, take_above_other, take_above_tail, take_lists_at}
 use Rattle.path_pool.proofs.HoldLemmas.{rehold_kind, rehold_above, rehold_at, rehold_region, rehold_lists}
 
@@ -156,6 +156,36 @@ passes_over xs f spare limit t h r s held l el z ez =
         lists = take_lists_at xs f spare limit y r s;
       },
     )
+
+-- a path that is made after cells that are not live have changed
+pub gains_after : (old xs new : List Cell) (id : ℕ) (numbers : List ℕ) → SameCells old xs → GainsCell xs new id numbers → GainsCell old new id numbers
+gains_after old xs new id numbers s g = record {
+  fresh = sym (s.counts id) ∙ g.fresh;
+  live = g.live;
+  list = g.list;
+  one_hold = g.one_hold;
+  other_holds = λ k n. g.other_holds k n ∙ s.holds k;
+  counts = λ k. omega (arith, g.counts k, s.counts k);
+  stays_live = λ k l. g.stays_live k (s.stays_live k l);
+  was_live = λ k n l. s.was_live k (g.was_live k n l);
+  lists = λ k l. g.lists k (s.stays_live k l) ∙ s.lists k l;
+}
+
+-- a hold that is passed on after cells that are not live have changed
+pub passes_after : (old xs new : List Cell) (from id : ℕ) (numbers : List ℕ) → SameCells old xs → PassesHold xs new from id numbers → PassesHold old new from id numbers
+passes_after old xs new from id numbers s p = record {
+  fresh = sym (s.counts id) ∙ p.fresh;
+  live = p.live;
+  list = p.list;
+  one_hold = p.one_hold;
+  one_less = p.one_less ∙ s.holds from;
+  other_holds = λ k n m. p.other_holds k n m ∙ s.holds k;
+  one_count = p.one_count;
+  counts = λ k n. p.counts k n ∙ s.counts k;
+  stays_live = λ k l. p.stays_live k (s.stays_live k l);
+  was_live = λ k n l. s.was_live k (p.was_live k n l);
+  lists = λ k l. p.lists k (s.stays_live k l) ∙ s.lists k l;
+}
 
 -- a new path of one cell is one of new cells
 pub gains_one : (old new : List Cell) (id : ℕ) (numbers : List ℕ) → GainsCell old new id numbers → GainsCells old new id numbers

@@ -8,7 +8,7 @@ mod reads;
 
 use crate::{PathId, PoolError};
 use net_names::Asn;
-use std::alloc::{AllocError, Global};
+use std::alloc::Global;
 
 /// One AS of a path, and where the rest of the path stands. A cell that is not live belongs to no
 /// path: its tail is the next such cell.
@@ -28,10 +28,16 @@ pub struct Cell {
 #[derive(Drop)]
 pub struct PathPool {
     cells: Vec<Cell>,
+    /// The first of the cells that are not live, if there is one.
     free: u32,
+    /// How many cells are not live.
     spare: usize,
+    /// How many more cells are promised, for which there is room behind the others.
+    room: usize,
     limit: usize,
     ghost region: { IsRegion cells.items free spare limit },
+    ghost has_room: { cells.len + room ≤ cells.cap },
+    ghost within: { cells.len + room ≤ limit },
 }
 
 impl PathPool {
@@ -50,6 +56,7 @@ impl PathPool {
             cells: Vec::new(alloc),
             free: 0,
             spare: 0,
+            room: 0,
             limit,
         }
     }
@@ -75,10 +82,12 @@ impl PathPool {
                 limit: self.limit,
             });
         }
-        'cells: while self.spare < n {
-            if self.add_cell().is_err() {
+        if n > self.spare + self.room {
+            let room = n - self.spare;
+            if self.cells.reserve(room).is_err() {
                 return Err(PoolError::Memory);
             }
+            self.room = room;
         }
         Ok(())
     }
@@ -94,6 +103,7 @@ impl PathPool {
         ensures spare { spare_of self.new + 1 ≡ spare_of self.old }
         ensures limit { limit_of self.new ≡ limit_of self.old }
     {
+        self.find_cell();
         match tail {
             None => self.take_cell(head, 0, 1, head),
             Some(t) => self.cons_over(head, t),
@@ -110,6 +120,7 @@ impl PathPool {
         ensures spare { spare_of self.new + 1 ≡ spare_of self.old }
         ensures limit { limit_of self.new ≡ limit_of self.old }
     {
+        self.find_cell();
         let cell = self.cells[rest.0 as usize];
         self.take_cell(head, rest.0, cell.len + 1, cell.last)
     }
@@ -175,7 +186,7 @@ impl PathPool {
 
     // A new path over one that is there.
     fn cons_over(&mut self, head: Asn, tail: PathId) -> PathId
-        requires spare { 0 < spare_of self.old }
+        requires spare { 0 < self.old.spare }
         requires tail_live { IsLive self.old tail.0 }
         requires tail_room { count_of self.old tail.0 < 4294967295 }
         ensures made { GainsPath self.old self.new result.0 (head ∷ list_of self.old tail.0) }
@@ -195,7 +206,8 @@ impl PathPool {
         requires enough { cells_above self.old.cells.items id.0 ≤ count }
         ensures cells { self.new.cells.items ≡ slice_set self.old.cells.items id.0 (record (cell_at self.old.cells.items id.0) { count = count }) }
         ensures free { self.new.free ≡ self.old.free }
-        ensures spare { spare_of self.new ≡ spare_of self.old }
+        ensures spare { self.new.spare ≡ self.old.spare }
+        ensures room { self.new.room ≡ self.old.room }
         ensures limit { limit_of self.new ≡ limit_of self.old }
     {
         let cell = &mut self.cells[id.0 as usize];
@@ -204,11 +216,13 @@ impl PathPool {
 
     // Takes the first free cell for a new path.
     fn take_cell(&mut self, head: Asn, tail: u32, len: u32, last: Asn) -> PathId
-        requires spare { 0 < spare_of self.old }
+        requires spare { 0 < self.old.spare }
         requires follows { CanFollow self.old.cells.items (record { head = head; tail = tail; len = len; count = 1; last = last }) }
         ensures which { result.0 ≡ self.old.free }
         ensures cells { self.new.cells.items ≡ slice_set self.old.cells.items self.old.free (record { head = head; tail = tail; len = len; count = 1; last = last }) }
-        ensures spare { spare_of self.new + 1 ≡ spare_of self.old }
+        ensures live { live_count self.new ≡ live_count self.old + 1 }
+        ensures spare { self.new.spare + 1 ≡ self.old.spare }
+        ensures room { self.new.room ≡ self.old.room }
         ensures limit { limit_of self.new ≡ limit_of self.old }
     {
         let at = self.free;
@@ -228,8 +242,9 @@ impl PathPool {
     fn free_cell(&mut self, id: PathId, head: Asn)
         requires live { IsLive self.old id.0 }
         requires none { cells_above self.old.cells.items id.0 ≡ 0 }
-        ensures cells { self.new.cells.items ≡ slice_set self.old.cells.items id.0 (record { head = head; tail = self.old.free; len = spare_of self.old + 1; count = 0; last = head }) }
-        ensures spare { spare_of self.new ≡ spare_of self.old + 1 }
+        ensures cells { self.new.cells.items ≡ slice_set self.old.cells.items id.0 (record { head = head; tail = self.old.free; len = self.old.spare + 1; count = 0; last = head }) }
+        ensures spare { self.new.spare ≡ self.old.spare + 1 }
+        ensures room { self.new.room ≡ self.old.room }
         ensures limit { limit_of self.new ≡ limit_of self.old }
     {
         let next = self.free;
@@ -244,29 +259,44 @@ impl PathPool {
         self.free = id.0;
     }
 
-    // One more free cell.
-    fn add_cell(&mut self) -> Result<(), AllocError>
-        requires { length self.old.cells.items < limit_of self.old }
-        ensures ok { OnOk result (SamePaths self.old self.new) }
-        ensures err { OnErr result (self.new.cells.items ≡ self.old.cells.items) }
-        ensures more { OnOk result (spare_of self.new ≡ spare_of self.old + 1) }
-        ensures err_spare { OnErr result (spare_of self.new ≡ spare_of self.old) }
+    // Puts a cell that is not live behind the others, where there is room for one.
+    fn add_cell(&mut self)
+        requires room { 0 < self.old.room }
+        ensures same { SamePaths self.old self.new }
+        ensures more { self.new.spare ≡ self.old.spare + 1 }
+        ensures less { self.new.room + 1 ≡ self.old.room }
         ensures limit { limit_of self.new ≡ limit_of self.old }
     {
         let next = self.free;
         let at = self.cells.len();
         let len = self.spare + 1;
         let asn = any_asn();
-        self.cells.push(Cell {
+        match self.cells.push(Cell {
             head: asn,
             tail: next,
             len: len as u32,
             count: 0,
             last: asn,
-        })?;
+        }) {
+            Ok(()) => {}
+            Err(_) => unreachable!(),
+        }
         self.free = at as u32;
         self.spare = len;
-        Ok(())
+        self.room -= 1;
+    }
+
+    // Makes sure that some cell is not live, where a path is to be made.
+    fn find_cell(&mut self)
+        requires { 0 < spare_of self.old }
+        ensures some { 0 < self.new.spare }
+        ensures same { SamePaths self.old self.new }
+        ensures spare { spare_of self.new ≡ spare_of self.old }
+        ensures limit { limit_of self.new ≡ limit_of self.old }
+    {
+        if self.spare == 0 {
+            self.add_cell();
+        }
     }
 }
 

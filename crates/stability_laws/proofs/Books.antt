@@ -1,5 +1,5 @@
 -- Rows of numbers, each once, as a book of policies.
-use Rattle.std.proofs.Common.{◌≡◌, ℕ, Bool, true, false, cond, ◌==◌, ◌||◌, ◌+◌, ◌≤◌, not, is_some, List, [], ◌∷◌, ◌++◌, map, length, position, get_or, slice_get, Option, Some, None, option_map, Result, Ok, Err, OnOk, OnErr, unwrap_or, refl, sym, ap, subst, ◌∙◌, arith}
+use Rattle.std.proofs.Common.{rules, ◌≡◌, ℕ, Bool, true, false, cond, ◌==◌, ◌||◌, ◌+◌, ◌≤◌, not, is_some, List, [], ◌∷◌, ◌++◌, map, length, position, get_or, slice_get, Option, Some, None, option_map, Result, Ok, Err, OnOk, OnErr, unwrap_or, refl, sym, ap, subst, ◌∙◌, arith}
 use Rattle.std.proofs.lemmas.Bool.{eqb-true, eq-eqb, ne_eqb, true≢false}
 use Rattle.std.proofs.lemmas.Grind.{common_steps}
 use Rattle.std.proofs.lemmas.List.Quantifiers.{position-Some}
@@ -72,6 +72,12 @@ module _ {P : Type 0} where
   -- a number without a place among the rows has no row, so that its policy is that of the rest
   pub policy_of_none : (rest : P) (rows : List (ℕ × Option P)) (m : PolicyBook P) → book_of rest rows ≡ m → IsDistinct nat_eq (numbers rows) → (q : ℕ) → position (λ a. q == a) (numbers rows) ≡ None → rest ≡ policy_at m q
   policy_of_none rest rows m v h q none = policy_is rest rows m v h q None (sym (far_row q rows (grind (arith, common_steps))))
+
+  -- where nobody is named, each has the policy of the rest
+  pub policy_of_empty : (rest : P) (rows : List (ℕ × Option P)) (m : PolicyBook P) → book_of rest rows ≡ m → length rows ≡ 0 → (q : ℕ) → rest ≡ policy_at m q
+  unfolding IsDistinct
+  policy_of_empty rest [] m v e q = policy_of_none rest [] m v (search rules) q refl
+  policy_of_empty rest (row ∷ rows) m v e q = absurd (omega (arith, e))
 
   -- the row at the place of a number is its own
   pub row_is : (rows : List (ℕ × Option P)) (q i k : ℕ) (o : Option P) → position (λ a. q == a) (numbers rows) ≡ Some i → Some (k, o) ≡ slice_get rows i → lookup (nat_eq k) rows ≡ Some o → Some o ≡ lookup (nat_eq q) rows

@@ -59,7 +59,18 @@ impl<P> Book<P> {
     }
 
     /// The policy of an AS. It costs next to nothing where no AS has ever been named.
+    #[inline(always)]
     pub fn policy(&self, asn: Asn) -> &P
+        ensures { result.now ≡ policy_at self.now asn }
+    {
+        if self.named.is_empty() {
+            return &self.rest;
+        }
+        self.policy_by_row(asn)
+    }
+
+    // The policy of an AS, where some are named.
+    fn policy_by_row(&self, asn: Asn) -> &P
         ensures { result.now ≡ policy_at self.now asn }
     {
         let Some(row) = row_of(&self.named, asn) else {

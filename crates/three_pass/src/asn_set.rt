@@ -54,6 +54,7 @@ impl AsnSet {
     }
 
     /// Whether a number is among them.
+    #[inline(always)]
     pub fn has(&self, asn: Asn) -> bool
         ensures { result ≡ is_among self.now asn }
     {

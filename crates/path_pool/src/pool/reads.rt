@@ -23,7 +23,7 @@ impl PathPool {
     pub fn spare(&self) -> usize
         ensures { result ≡ spare_of self.now }
     {
-        self.spare
+        self.spare + self.room
     }
 
     /// How often the path is needed: its outside holds and the live cells over it.

@@ -39,6 +39,7 @@ cells-preserved-then-cell-gt1 c =
           (releasing_keep c.args.self.now.cells.items xs c.cells.self.free c.cells.self.spare c.cells.self.limit c.args.id.0 i (v.count - 1) c.cells.self.region w (omega (arith, e, live)) (omega (arith, c.if-cell-gt1.true)));
       limit = c.set_count.ensures.limit ∙ c.cells.invariant.limit;
       spare = omega (arith, c.set_count.ensures.spare, c.cells.invariant.spare);
+      room = c.set_count.ensures.room ∙ c.cells.invariant.room;
     }
 
 pub cells-preserved : goal.cells-preserved
@@ -58,4 +59,5 @@ cells-preserved c =
           (releasing_free c.args.self.now.cells.items xs c.cells.self.free c.cells.self.spare c.cells.self.limit c.args.id.0 i y c.cells.self.region w (omega (arith, e, live, c.if-cell-gt1.false)) refl));
       limit = c.free_cell.ensures.limit ∙ c.cells.invariant.limit;
       spare = omega (arith, c.free_cell.ensures.spare, c.cells.invariant.spare);
+      room = c.free_cell.ensures.room ∙ c.cells.invariant.room;
     }

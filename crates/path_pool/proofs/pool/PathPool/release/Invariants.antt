@@ -8,6 +8,7 @@ invariant-cells l = record {
   releasing : IsReleasing l.fn.self.cells.items l.self.cells.items l.fn.id.0 l.at l.more;
   limit : l.self.limit ≡ l.fn.self.limit;
   spare : l.before ≤ l.self.spare;
+  room : l.self.room ≡ l.fn.self.room;
 }
 
 abbrev pub decreases-cells : goal.decreases-cells
