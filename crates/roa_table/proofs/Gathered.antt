@@ -88,7 +88,7 @@ set_of-turned vs ws = same_set_of (vs ++ ws) (ws ++ vs) (λ q. list_any-append (
     turn false true = refl
     turn false false = refl
 
-count_given : (xs ys : List Row) → count (payloads_given xs) ≤ count (payloads_given (xs ++ ys))
+pub count_given : (xs ys : List Row) → count (payloads_given xs) ≤ count (payloads_given (xs ++ ys))
 count_given xs ys = subst (λ s. count (payloads_given xs) ≤ count s) (set_of-turned (given ys) (given xs) ∙ ap set_of (sym (given-append xs ys))) (count_more (given ys) (given xs))
 
 pub payloads_push : (xs : List Row) (x : Row) (v : VrpValue) → payload_of x ≡ Ok v → payloads_given (xs ++ (x ∷ [])) ≡ added (payloads_given xs) v
@@ -137,7 +137,7 @@ first_behind before (row ∷ done) left h few =
     below : (a b : ℕ) → a ≤ b → b ≤ 2000000 → a ≤ 2000000
     below a b h k = omega (arith, h, k)
 
-none_left : (o p : Option VrpError) → option_or o p ≡ None → (o ≡ None) × (p ≡ None)
+pub none_left : (o p : Option VrpError) → option_or o p ≡ None → (o ≡ None) × (p ≡ None)
 none_left None p e = (refl, e)
 none_left (Some x) p e = cc e
 

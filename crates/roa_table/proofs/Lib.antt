@@ -10,3 +10,4 @@ pub mod Judged
 pub mod Gathered
 pub mod Reading
 pub mod Admitted
+pub mod Accepted

@@ -6,3 +6,4 @@ pub mod Records
 pub mod Files
 pub mod Standing
 pub mod Gathering
+pub mod Laws

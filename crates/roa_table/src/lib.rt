@@ -1,7 +1,9 @@
 //! Sets of validated ROA payloads, and the CSV files that they are read from.
 //!
 //! [`Vrps`] is a finite set of at most 2,000,000 payloads. It tells the payloads of one prefix and those that cover one, in
-//! order. [`read`] gives the set of all payloads of a file, or the first fault of its first faulty row.
+//! order. [`read`] gives the set of all payloads of a file, or the first fault of its first faulty row. A file has such a
+//! set exactly where each row gives a payload and these are at most 2,000,000 different ones; then its payloads are those
+//! that some row gives ([`payloads_are_those_given`]).
 #![tactic(auto)]
 
 mod covering;
@@ -9,6 +11,7 @@ mod crowd;
 mod errors;
 mod file;
 mod gather;
+mod laws;
 mod record;
 mod row;
 mod rows;
@@ -19,4 +22,5 @@ mod table;
 pub use covering::Covering;
 pub use errors::{AddError, VrpError};
 pub use file::read;
+pub use laws::payloads_are_those_given;
 pub use table::Vrps;
