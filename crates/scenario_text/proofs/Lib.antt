@@ -7,3 +7,5 @@ pub mod Orders
 pub mod Sound
 pub mod Texts
 pub mod Paths
+pub mod Accepted
+pub mod Passing

@@ -32,7 +32,7 @@ use Rattle.scenario_text.proofs.Orders.{name_total, addr_total}
 use Rattle.scenario_text.proofs.Repeats.{once_at}
 
 -- what the first of two steps gave, where both gave something
-first_step : {A B E : Type 0} (r : Result A E) (f : A → Result B E) (y : B) → (r >>= f) ≡ Ok y → (x : A) × (r ≡ Ok x) × (f x ≡ Ok y)
+pub first_step : {A B E : Type 0} (r : Result A E) (f : A → Result B E) (y : B) → (r >>= f) ≡ Ok y → (x : A) × (r ≡ Ok x) × (f x ≡ Ok y)
 first_step (Ok x) f y e = (x, refl, e)
 first_step (Err e) f y h = absurd (cc)
 

@@ -13,3 +13,4 @@ pub mod Values
 pub mod Twice
 pub mod Limits
 pub mod Readings
+pub mod Laws

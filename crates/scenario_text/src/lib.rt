@@ -4,6 +4,8 @@
 //! [`read_scenario`] takes one from a JSON document, or tells the first fault of the first pass that finds one, with its
 //! place. A script is edits of a world and queries about it, a line each: [`read_script`] takes its lines, or tells the
 //! first faulty one. In every [`Scenario`] nothing is named twice, no limit is passed, and each path starts with its AS.
+//! Exactly the texts that say such a scenario are accepted ([`scenarios_are_those_said`]), and exactly the scripts each of
+//! whose lines is skipped or has one of the forms, at most 100,000 of them not skipped ([`lines_are_those_said`]).
 #![tactic(auto)]
 
 mod acts;
@@ -12,6 +14,7 @@ mod documents;
 mod faults;
 mod fields;
 mod forms;
+mod laws;
 mod limits;
 mod lines;
 mod lists;
@@ -27,6 +30,7 @@ mod walks;
 
 pub use acts::{Act, Edit, Query};
 pub use faults::{LimitOf, ScenarioError};
+pub use laws::{lines_are_those_said, scenarios_are_those_said};
 pub use lines::{Line, Lines};
 pub use lists::Leakers;
 pub use place_texts::{place_string, put_place};
