@@ -23,3 +23,10 @@ pub mod SeedMarks
 pub mod Unnamed
 pub mod Reseeded
 pub mod Listed
+pub mod Elements
+pub mod Tables
+pub mod Families
+pub mod Rows
+pub mod Reports
+pub mod Replies
+pub mod Differences

@@ -13,3 +13,4 @@ pub mod Ground
 pub mod Steps
 pub mod Sims
 pub mod Editing
+pub mod Laws

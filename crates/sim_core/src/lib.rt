@@ -12,6 +12,7 @@ mod answering;
 mod changing;
 mod editing;
 mod errors;
+mod laws;
 mod linking;
 mod links;
 mod loading;
@@ -29,4 +30,5 @@ mod watching;
 
 pub use editing::Changed;
 pub use errors::{EditError, EditLimit, LoadError, QueryError};
+pub use laws::answers_are_one;
 pub use sim::Sim;

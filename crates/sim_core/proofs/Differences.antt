@@ -1,0 +1,75 @@
+-- Between two worlds with the same rounds and prefixes one number of entries differ.
+use Rattle.std.proofs.Common.{◌≡◌, ℕ, ◌≤◌, IsTrue, Option, Some, None, refl, sym, ap, ◌∙◌, arith}
+use Rattle.std.specs.FinMap as fin
+use Rattle.std.specs.List.{Contains}
+use Rattle.std.specs.Option.{option_or}
+use Rattle.std.proofs.lemmas.List.Sorted.{length_permutation}
+use Rattle.net_names.specs.Prefixes.{PrefixValue}
+use Rattle.stability_laws.specs.Plans.{Plan, has_prefix}
+use Rattle.stability_laws.specs.declared.seed_plan.edits.SeedEdit.TheVariants as seeds
+use Rattle.leak_round.specs.Changes.{Family, HasChanges}
+use Rattle.scenario_text.specs.declared.acts.Edit.{Edit}
+use Rattle.scenario_text.specs.declared.acts.Edit.TheVariants as edit
+use Rattle.sim_core.specs.Edits.{absent, edited, refusal_of_edit}
+use Rattle.sim_core.specs.Kept.{IsKept, Kept}
+use Rattle.sim_core.specs.World.{World}
+use Rattle.sim_core.proofs.Elements.{same_elements}
+use Rattle.sim_core.proofs.Families.{one_family}
+use Rattle.sim_core.proofs.Replies.{none_wanting}
+use Rattle.sim_core.proofs.SeedEdits.{edited_prefixes}
+
+-- two families are the same at the rounds and prefixes
+abbrev AreSame : Plan → ℕ → Family → Family → Type 0
+AreSame plan rounds g h = (round : ℕ) (p : PrefixValue) → 1 ≤ round → round ≤ rounds → IsTrue (has_prefix plan p) → (a : ℕ) → g round p a ≡ h round p a
+
+-- the triples of the one list are those of the other
+carried : (plan : Plan) (rounds : ℕ) (old new past now : Family) (m n : ℕ) → AreSame plan rounds old past → AreSame plan rounds new now → (x : HasChanges plan rounds old new m) (y : HasChanges plan rounds past now n)
+    → (z : ℕ × (PrefixValue × ℕ)) → Contains x.triples z → Contains y.triples z
+carried plan rounds old new past now m n before after x y z c =
+    let is = (x.are z.0 z.1.0 z.1.1).0 c in
+    (y.are z.0 z.1.0 z.1.1).1 (is.0, is.1, is.2, λ same. is.3 (after z.0 z.1.0 is.0 is.1 is.2 z.1.1 ∙ (same ∙ sym (before z.0 z.1.0 is.0 is.1 is.2 z.1.1))))
+
+-- one number of triples differ
+one_number : (plan : Plan) (rounds : ℕ) (old new past now : Family) (m n : ℕ) → AreSame plan rounds old past → AreSame plan rounds new now → HasChanges plan rounds old new m → HasChanges plan rounds past now n → m ≡ n
+one_number plan rounds old new past now m n before after x y =
+    let order = same_elements x.triples y.triples x.apart y.apart (carried plan rounds old new past now m n before after x y)
+    (carried plan rounds past now old new n m (λ r p low high known a. sym (before r p low high known a)) (λ r p low high known a. sym (after r p low high known a)) y x) in
+    sym x.number ∙ (sym (length_permutation x.triples y.triples order) ∙ y.number)
+
+-- one number of entries differ between what is kept of two worlds
+pub one_count : (w after : World) (k l now again : Kept) (m n : ℕ) → IsKept w k → IsKept w l → IsKept after now → IsKept after again → after.rounds ≡ w.rounds → ((p : PrefixValue) → has_prefix after.plan p ≡ has_prefix w.plan p)
+    → HasChanges after.plan after.rounds k.routings now.routings m → HasChanges after.plan after.rounds l.routings again.routings n → m ≡ n
+one_count w after k l now again m n x y u v rounds prefixes =
+    one_number after.plan after.rounds k.routings now.routings l.routings again.routings m n
+    (λ round p low high known a. one_family w k.routings l.routings x.routings y.routings round p low (omega (arith, high, rounds)) (sym (prefixes p) ∙ known) a)
+    (λ round p low high known a. one_family after now.routings again.routings u.routings v.routings round p low high known a)
+
+none_first : {T : Type 0} (first second : Option T) → option_or first second ≡ None → first ≡ None
+none_first None second h = refl
+none_first (Some x) second h = cc
+
+same_rounds : (w : World) (e : Edit) → (edited w e).rounds ≡ w.rounds
+same_rounds w (edit.Link a b rel) = refl
+same_rounds w (edit.Unlink a b) = refl
+same_rounds w (edit.Policy a kind) = refl
+same_rounds w (edit.VrpAdd vrp) = refl
+same_rounds w (edit.VrpTake vrp) = refl
+same_rounds w (edit.Announce prefix path) = refl
+same_rounds w (edit.Withdraw prefix a) = refl
+
+-- an edit that names nothing that is wanting leaves the prefixes
+same_prefixes : (w : World) (e : Edit) → absent w e ≡ None → (edited w e).plan.prefixes ≡ w.plan.prefixes
+same_prefixes w (edit.Link a b rel) h = refl
+same_prefixes w (edit.Unlink a b) h = refl
+same_prefixes w (edit.Policy a kind) h = refl
+same_prefixes w (edit.VrpAdd vrp) h = refl
+same_prefixes w (edit.VrpTake vrp) h = refl
+same_prefixes w (edit.Announce prefix path) h = let known = none_wanting (has_prefix w.plan prefix) _ _ h in edited_prefixes w.plan (seeds.Announce prefix path) known.0
+same_prefixes w (edit.Withdraw prefix a) h = refl
+
+-- one number of entries differ after an edit that is not refused
+pub one_edit_count : (w : World) (e : Edit) (k l now again : Kept) (m n : ℕ) → refusal_of_edit w e ≡ None → IsKept w k → IsKept w l → IsKept (edited w e) now → IsKept (edited w e) again
+    → HasChanges (edited w e).plan (edited w e).rounds k.routings now.routings m → HasChanges (edited w e).plan (edited w e).rounds l.routings again.routings n → m ≡ n
+one_edit_count w e k l now again m n accepted x y u v =
+    let prefixes = same_prefixes w e (none_first (absent w e) _ accepted) in
+    one_count w (edited w e) k l now again m n x y u v (same_rounds w e) (λ p. ap (λ s. fin.contains_key s p) prefixes)

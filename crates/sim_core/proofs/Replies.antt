@@ -1,0 +1,67 @@
+-- An accepted query has one answer.
+use Rattle.std.proofs.Common.{◌≡◌, ℕ, Bool, true, false, IsTrue, Option, None, List, refl, sym, ap, subst, ◌∙◌}
+use Rattle.std.specs.FinSet as set
+use Rattle.net_names.specs.Addresses.{AddrValue}
+use Rattle.net_names.specs.Prefixes.{PrefixValue}
+use Rattle.as_graph.specs.Topology.{has, what}
+use Rattle.as_graph.proofs.Fitting.{one_rank_at}
+use Rattle.policy_kinds.specs.Kinds.{label}
+use Rattle.scenario_text.specs.declared.acts.Query.{Query}
+use Rattle.scenario_text.specs.declared.acts.Query.TheVariants as query
+use Rattle.data_trace.specs.Hops.{next_hop}
+use Rattle.data_trace.specs.Traces.{IsTrace}
+use Rattle.data_trace.specs.Watches.{AreRows}
+use Rattle.data_trace.specs.declared.kinds.Hop.{Hop}
+use Rattle.data_trace.proofs.Ends.{one_end}
+use Rattle.data_trace.proofs.Traces.{one_trace, trace_ends}
+use Rattle.stability_laws.specs.Plans.{announcers_of, has_prefix}
+use Rattle.reports.specs.Rows.{rank_row, row}
+use Rattle.reports.specs.Traces.{trace_text}
+use Rattle.sim_core.specs.Answers.{IsAnswer, refusal_of, unless}
+use Rattle.sim_core.specs.Kept.{IsKept, Kept}
+use Rattle.sim_core.specs.World.{World, has_round, kind_at, topology}
+use Rattle.sim_core.proofs.Families.{one_family, same_next}
+use Rattle.sim_core.proofs.Reports.{same_report}
+use Rattle.sim_core.proofs.Rows.{same_rows_but_order}
+use Rattle.sim_core.proofs.Tables.{one_table}
+use Rattle.sim_core.proofs.Watches.{round_within}
+
+-- nothing that is asked for is wanting
+pub none_wanting : {E : Type 0} (there : Bool) (e : E) (rest : Option E) → unless there e rest ≡ None → (there ≡ true) × (rest ≡ None)
+none_wanting true e rest h = (refl, h)
+none_wanting false e rest h = cc
+
+module _ (w : World) (k l : Kept) (x : IsKept w k) (y : IsKept w l) where
+  same_entry : (round : ℕ) (p : PrefixValue) → IsTrue (has_round w round) → IsTrue (has_prefix w.plan p) → (a : ℕ) → k.routings round p a ≡ l.routings round p a
+  same_entry round p there known a = let within = round_within w.rounds round there in one_family w k.routings l.routings x.routings y.routings round p within.0 within.1 known a
+
+  next_same : (round : ℕ) (addr : AddrValue) → IsTrue (has_round w round) → ◌≡◌ {A = ℕ → Hop} (next_hop w.plan (l.routings round) addr) (next_hop w.plan (k.routings round) addr)
+  next_same round addr there = λ i a. same_next w.plan (l.routings round) (k.routings round) addr (λ p known b. sym (same_entry round p there known b)) a i
+
+  -- what two keep gives the same answers
+  pub one_answer : (q : Query) (s t : List ℕ) → refusal_of w q ≡ None → IsAnswer w k q s → IsAnswer w l q t → s ≡ t
+  one_answer (query.Routes round prefix) s t accepted a b =
+      let asked = none_wanting (has_round w round) _ _ accepted in
+      let known = none_wanting (has_prefix w.plan prefix) _ _ asked.1 in
+      one_table (has (topology w)) _ _ s t (λ asn. ap (row asn) (same_entry round prefix asked.0 known.0 asn)) a b
+  one_answer (query.Route round prefix asn) s t accepted a b =
+      let asked = none_wanting (has_round w round) _ _ accepted in
+      let known = none_wanting (has_prefix w.plan prefix) _ _ asked.1 in
+      a ∙ (ap (row asn) (same_entry round prefix asked.0 known.0 asn) ∙ sym b)
+  one_answer (query.Trace round asn addr) s t accepted a b =
+      let asked = none_wanting (has_round w round) _ _ accepted in
+      let next : ℕ → Hop = next_hop w.plan (k.routings round) addr in
+      let other : IsTrace next asn b.0 b.1 = subst (λ (n : ℕ → Hop). IsTrace n asn b.0 b.1) (next_same round addr asked.0) b.2 in
+      let walk : b.0 ≡ a.0 = one_trace next asn a.0 b.0 a.1 b.1 a.2 other in
+      let end : b.1 ≡ a.1 = one_end next asn a.1 b.1 (trace_ends next asn a.0 a.1 a.2) (trace_ends next asn b.0 b.1 other) in
+      a.3 ∙ sym (b.3 ∙ (λ i. trace_text (walk i) (end i)))
+  one_answer (query.Report round addr) s t accepted a b =
+      let asked = none_wanting (has_round w round) _ _ accepted in
+      let watched = none_wanting (set.contains w.watched addr) _ _ asked.1 in
+      let next : ℕ → Hop = next_hop w.plan (k.routings round) addr in
+      let others : AreRows (topology w) next (λ n. label (kind_at w n)) (l.rows round addr) =
+      subst (λ (n : ℕ → Hop). AreRows (topology w) n (λ m. label (kind_at w m)) (l.rows round addr)) (next_same round addr asked.0) (y.rows round addr asked.0 watched.0) in
+      let order = same_rows_but_order (topology w) next (λ n. label (kind_at w n)) (k.rows round addr) (l.rows round addr) (x.rows round addr asked.0 watched.0) others in
+      a ∙ (same_report (k.rows round addr) (l.rows round addr) order (announcers_of w.plan) ∙ sym b)
+  one_answer query.Ranks s t accepted a b = one_table (has (topology w)) _ _ s t (λ asn. ap (rank_row asn) (one_rank_at (what (topology w)) asn (k.ranks asn) (l.ranks asn) (x.ranks asn) (y.ranks asn))) a b
+  one_answer (query.Validity prefix asn) s t accepted a b = a ∙ sym b
