@@ -13,3 +13,4 @@ pub mod Faults
 pub mod StatusRows
 pub mod Feeding
 pub mod NoScript
+pub mod OneText

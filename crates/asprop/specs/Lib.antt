@@ -4,6 +4,7 @@ pub mod Words
 pub mod Task
 pub mod Refusals
 pub mod Told
+pub mod Laws
 pub mod Texts
 pub mod Files
 pub mod Written

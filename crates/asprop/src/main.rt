@@ -9,6 +9,7 @@ mod asking;
 mod command;
 mod explain;
 mod fault_texts;
+mod laws;
 mod reading;
 mod refusals;
 mod run;
