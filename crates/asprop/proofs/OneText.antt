@@ -10,7 +10,8 @@ use Rattle.sim_core.specs.Kept.{Kept, IsKept}
 use Rattle.sim_core.specs.Edits.{HasChanges, IsAllowed, IsReason, edited}
 use Rattle.sim_core.specs.declared.errors.EditError.{EditError}
 use Rattle.sim_core.specs.declared.errors.EditError.TheVariants as edit
-use Rattle.asprop.specs.Laws.{ClosesCycle, IsCycle, OneAnswer, OneCount, OneReason, OneText}
+use Rattle.sim_core.specs.Laws.{IsCycle, OneAnswer, OneCount, OneReason}
+use Rattle.asprop.specs.Laws.{ClosesCycle, OneText}
 use Rattle.asprop.specs.Refusals.{edit_refusal_text, refusal_text}
 use Rattle.asprop.specs.Told.{Answered, Tells, Told, head}
 
@@ -40,10 +41,10 @@ refusal_agrees w e x y s t h a b (inl same) none = a ∙ ap edit_refusal_text sa
 refusal_agrees w e x y s t h a b (inr cycles) none = absurd (none (closes_by w e x h cycles.0))
 
 -- the entries that differ, counted over one world after the edit
-same_count : OneCount → (w : World) (e : Edit) (k l now then : Kept) (m n : ℕ) (x y : World) → IsKept w k → IsKept w l → x ≡ edited w e → y ≡ edited w e → IsKept x now → IsKept y then
+same_count : OneCount → (w : World) (e : Edit) (k l now then : Kept) (m n : ℕ) (x y : World) → IsAllowed w e → IsKept w k → IsKept w l → x ≡ edited w e → y ≡ edited w e → IsKept x now → IsKept y then
     → HasChanges x.plan x.rounds k.routings now.routings m → HasChanges y.plan y.rounds l.routings then.routings n → m ≡ n
-same_count count w e k l now then m n x y is others p q here there a b =
-    count w e k l now then m n is others (subst (λ x. IsKept x now) p here) (subst (λ y. IsKept y then) q there)
+same_count count w e k l now then m n x y allowed is others p q here there a b =
+    count w e k l now then m n allowed.accepted is others (subst (λ x. IsKept x now) p here) (subst (λ y. IsKept y then) q there)
     (subst (λ (x : World). HasChanges x.plan x.rounds k.routings now.routings m) p a) (subst (λ (y : World). HasChanges y.plan y.rounds l.routings then.routings n) q b)
 
 module _ (answer : OneAnswer) (count : OneCount) (reason : OneReason) where
@@ -56,7 +57,7 @@ module _ (answer : OneAnswer) (count : OneCount) (reason : OneReason) where
       let same : h.0 ≡ g.0 = (let f : Some h.0 ≡ Some g.0 = sym h.1 ∙ g.1 in cc) in
       record { refused = refl; after = h.3 ∙ sym g.3; text = λ none. h.2 ∙ ap refusal_text same ∙ sym g.2 }
   reply_agrees w k l (act.Edit e) s t false false x y is others h g =
-      let same : h.4 ≡ g.4 = same_count count w e k l h.2 g.2 h.4 g.4 x y is others h.1 g.1 h.3 g.3 h.5 g.5 in
+      let same : h.4 ≡ g.4 = same_count count w e k l h.2 g.2 h.4 g.4 x y h.0 is others h.1 g.1 h.3 g.3 h.5 g.5 in
       record { refused = refl; after = h.1 ∙ sym g.1; text = λ none. h.6 ∙ ap (λ n. codes "ok " ++ (decimal n ++ 10 ∷ [])) same ∙ sym g.6 }
   reply_agrees w k l (act.Edit e) s t false true x y is others h g = absurd (not_allowed w e g.0 g.1 h.0)
   reply_agrees w k l (act.Edit e) s t true false x y is others h g = absurd (not_allowed w e h.0 h.1 g.0)

@@ -30,3 +30,4 @@ pub mod Rows
 pub mod Reports
 pub mod Replies
 pub mod Differences
+pub mod Reasons

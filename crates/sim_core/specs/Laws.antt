@@ -1,7 +1,5 @@
 -- What a world is asked, and what an edit of it comes to, has one answer.
 use Rattle.std.specs.Prelude.{◌≡◌, ◌⊎◌, ℕ, None, List}
-use Rattle.net_names.specs.Prefixes.{PrefixValue}
-use Rattle.stability_laws.specs.Plans.{has_prefix}
 use Rattle.scenario_text.specs.declared.acts.Query.{Query}
 use Rattle.scenario_text.specs.declared.acts.Edit.{Edit}
 use Rattle.leak_round.specs.Changes.{HasChanges}
@@ -12,18 +10,13 @@ use Rattle.sim_core.specs.Edits.{IsReason, edited, refusal_of_edit}
 use Rattle.sim_core.specs.declared.errors.EditError.{EditError}
 use Rattle.sim_core.specs.declared.errors.EditError.TheVariants as refused
 
--- what two keep of one world gives the same answers: an accepted query has one answer
+-- a query that is not refused has one answer, whatever is kept of the world
 abbrev pub OneAnswer : Type 0
 OneAnswer = (w : World) (k l : Kept) (q : Query) (s t : List ℕ) → IsKept w k → IsKept w l → refusal_of w q ≡ None → IsAnswer w k q s → IsAnswer w l q t → s ≡ t
 
--- between what is kept of a world and what is kept of another with the same rounds and prefixes, one number of entries differ
-abbrev pub OneCount : Type 0
-OneCount = (w after : World) (k l now again : Kept) (m n : ℕ) → IsKept w k → IsKept w l → IsKept after now → IsKept after again → after.rounds ≡ w.rounds → ((p : PrefixValue) → has_prefix after.plan p ≡ has_prefix w.plan p)
-    → HasChanges after.plan after.rounds k.routings now.routings m → HasChanges after.plan after.rounds l.routings again.routings n → m ≡ n
-
 -- an edit that is not refused changes one number of entries
-abbrev pub OneEditCount : Type 0
-OneEditCount = (w : World) (e : Edit) (k l now again : Kept) (m n : ℕ) → refusal_of_edit w e ≡ None → IsKept w k → IsKept w l → IsKept (edited w e) now → IsKept (edited w e) again
+abbrev pub OneCount : Type 0
+OneCount = (w : World) (e : Edit) (k l now again : Kept) (m n : ℕ) → refusal_of_edit w e ≡ None → IsKept w k → IsKept w l → IsKept (edited w e) now → IsKept (edited w e) again
     → HasChanges (edited w e).plan (edited w e).rounds k.routings now.routings m → HasChanges (edited w e).plan (edited w e).rounds l.routings again.routings n → m ≡ n
 
 -- the reason is a provider cycle
