@@ -1,10 +1,11 @@
 -- Entries by place.
-use Rattle.std.specs.Prelude.{◌≡◌, ℕ, ◌==◌, ◌++◌, if◌then◌else◌, List, Option, None, Some, length, map, nat_eq}
-use Rattle.std.specs.List.{IsDistinct, zip}
+use Rattle.std.specs.Prelude.{◌≡◌, ℕ, ◌==◌, ◌++◌, if◌then◌else◌, List, Option, None, Some, map, nat_eq}
+use Rattle.std.specs.List.{IsDistinct}
 use Rattle.std.specs.Map.{keys_of}
 use Rattle.route_choice.specs.declared.held.Held.{Held}
 use Rattle.route_choice.specs.declared.slot.Slot.{Slot}
 use Rattle.route_choice.specs.declared.slot.Slot.TheVariants.{Empty, Full}
+use Rattle.route_choice.specs.declared.row.Row.{Row}
 
 -- The number, or none for 0.
 abbrev pub number_in : ℕ → Option ℕ
@@ -15,11 +16,19 @@ abbrev pub entry_in : Slot → Option Held
 entry_in Empty = None
 entry_in (Full class path otc) = Some (record { class = class; path = path; otc = number_in otc })
 
--- The entries of ASes at places, in the order of the places.
-abbrev pub entries_at : List ℕ → List Slot → List (ℕ × Option Held)
-entries_at ases rows = zip ases (map entry_in rows)
+-- The ASes of the rows, in their order.
+abbrev pub asns_of : List Row → List ℕ
+asns_of rows = map (λ (r : Row). r.asn) rows
 
--- Each AS at a place has one slot, and no AS stands twice, at a place or beside.
-pub record AreByPlace (ases : List ℕ) (rows : List Slot) (beside : List (ℕ × Option Held)) : Type 0 where
-  pub each : length rows ≡ length ases
-  pub apart : IsDistinct nat_eq (ases ++ keys_of beside)
+-- The ASes of the rows with their entries, in their order.
+abbrev pub entries_of : List Row → List (ℕ × Option Held)
+entries_of rows = map (λ (r : Row). (r.asn, entry_in r.slot)) rows
+
+-- A row without an entry for each of these ASes, in their order.
+abbrev pub empty_rows : List ℕ → List Row
+empty_rows ases = map (λ (a : ℕ). record { asn = a; slot = Empty }) ases
+
+-- The rows have the ASes that have places, in their order, and no AS stands twice, at a place or beside.
+pub record AreByPlace (ases : List ℕ) (rows : List Row) (beside : List (ℕ × Option Held)) : Type 0 where
+  pub places : asns_of rows ≡ ases
+  pub apart : IsDistinct nat_eq (asns_of rows ++ keys_of beside)

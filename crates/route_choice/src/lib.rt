@@ -14,6 +14,7 @@ mod held;
 mod looks;
 mod overlay;
 mod round_tables;
+mod row;
 mod seeds;
 mod settling;
 mod slot;

@@ -6,9 +6,11 @@ ghost use Rattle.as_places.specs.Places.{place_of};
 ghost use Rattle.path_pool.specs.Pool.{holds_of};
 ghost use Rattle.route_choice.specs.Slots.{slot_at, entry_at, keys, over, use_of, uses_of, IsBlank};
 ghost use Rattle.route_choice.specs.Holds.{GivesBack};
+ghost use Rattle.route_choice.specs.Rows.{asns_of};
 
 use crate::Held;
 use crate::first::Beside;
+use crate::row::{Row, rows_of};
 use crate::slot::Slot;
 use as_places::AsPlaces;
 use net_names::{Asn, NoMemory};
@@ -19,12 +21,12 @@ use std::marker::Model;
 /// At some ASes an entry, or none. Contracts see the pairs in their order, and for how many more ASes
 /// there is room.
 ///
-/// ASes that were there from the start have places, and each place a slot. Those that came later
-/// stand beside.
+/// ASes that were there from the start have places, and each place a row. A row has its AS too, so that
+/// a look at a hinted place mostly reads the row alone. ASes that came later stand beside.
 #[derive(Drop)]
 pub(crate) struct Slots {
     ases: AsPlaces,
-    rows: Vec<Slot>,
+    rows: Vec<Row>,
     beside: Beside,
 }
 
@@ -35,23 +37,26 @@ impl Model for Slots {
     ghost Value = { SlotList };
 
     ghost use Rattle.route_choice.specs.Beside.{beside_entries, beside_spare};
-    ghost use Rattle.route_choice.specs.Rows.{entries_at, AreByPlace};
+    ghost use Rattle.route_choice.specs.Rows.{entries_of, AreByPlace};
 
-    ghost view = { λ s. record { entries = entries_at s.ases.ases s.rows.items ++ beside_entries s.beside; spare = beside_spare s.beside } };
+    ghost view = { λ s. record { entries = entries_of s.rows.items ++ beside_entries s.beside; spare = beside_spare s.beside } };
 
     ghost invariant = { λ s. AreByPlace s.ases.ases s.rows.items (beside_entries s.beside) };
 }
 
-// The place of an AS, sought first at a place. Changes mostly have no places, and then none is sought.
+// The place of an AS, sought first at a row. Changes mostly have no places, and then none is sought.
 #[inline(always)]
-fn place_among(ases: &AsPlaces, asn: Asn, near: usize) -> Option<usize>
-    ensures value { result ≡ place_of ases.now.ases asn }
-    ensures found { IfSome result (λ i. slice_get ases.now.ases i ≡ Some asn) }
+fn place_among(ases: &AsPlaces, rows: &[Row], asn: Asn, near: usize) -> Option<usize>
+    requires places { asns_of rows.now ≡ ases.now.ases }
+    requires apart { IsDistinct nat_eq (asns_of rows.now) }
+    ensures value { result ≡ place_of (asns_of rows.now) asn }
+    ensures found { IfSome result (λ i. i < length rows.now) }
 {
-    if ases.len() == 0 {
-        return None;
+    match rows.get(near) {
+        Some(row) if row.asn == asn => Some(near),
+        _ if rows.is_empty() => None,
+        _ => ases.place(asn),
     }
-    ases.place_near(asn, near)
 }
 
 impl Slots {
@@ -72,9 +77,7 @@ impl Slots {
         ensures { IfOk result (IsBlank ases.now more) }
     {
         let places = AsPlaces::of(alloc, ases)?;
-        let Ok(rows) = Vec::from_elem(alloc, Slot::Empty, ases.len()) else {
-            return Err(NoMemory);
-        };
+        let rows = rows_of(alloc, ases)?;
         let beside = Beside::with_room(alloc, more)?;
         Ok(Slots {
             ases: places,
@@ -106,8 +109,8 @@ impl Slots {
         ensures entry { result ≡ slice_get self.now.entries place }
         ensures value { IfSome result (λ e. slot_at self.now e.0 ≡ Some e.1) }
     {
-        match self.ases.at(place) {
-            Some(asn) => Some((asn, self.rows[place].entry())),
+        match self.rows.get(place) {
+            Some(row) => Some((row.asn, row.slot.entry())),
             None => self.beside.at(place - self.rows.len()),
         }
     }
@@ -117,8 +120,8 @@ impl Slots {
     pub(crate) fn get_near(&self, asn: Asn, place: usize) -> Option<Option<Held>>
         ensures { result ≡ slot_at self.now asn }
     {
-        match place_among(&self.ases, asn, place) {
-            Some(found) => Some(self.rows[found].entry()),
+        match place_among(&self.ases, self.rows.as_slice(), asn, place) {
+            Some(found) => Some(self.rows[found].slot.entry()),
             None => self.beside.get(asn),
         }
     }
@@ -141,10 +144,10 @@ impl Slots {
         ensures kept_spare { IsSome (slot_at self.old asn) → self.new.spare ≡ self.old.spare }
         ensures new_place { slot_at self.old asn ≡ None → keys self.new ≡ keys self.old ++ asn ∷ [] }
     {
-        match place_among(&self.ases, asn, place) {
+        match place_among(&self.ases, self.rows.as_slice(), asn, place) {
             Some(found) => {
-                let old = self.rows[found].entry();
-                self.rows[found] = Slot::of(entry);
+                let old = self.rows[found].slot.entry();
+                self.rows[found].slot = Slot::of(entry);
                 old
             }
             None => self.beside.exchange(asn, place, entry),

@@ -7,10 +7,10 @@ use Rattle.route_choice.proofs.slots.Slots.len.Goals as goal
 
 pub returns-clause-count : goal.returns-clause-count
 returns-clause-count c =
-    let whole = whole_length c.self.inside.ases.ases c.self.inside.rows.items (beside_entries c.self.inside.beside) c.self.invariant in
+    let whole = whole_length c.self.inside.rows.items (beside_entries c.self.inside.beside) in
     let seen = ap (λ (v : Slots). length v.entries) c.self.view_is in
     omega (arith, whole, seen, c.len.ensures, c.len-2.ensures.len, c.self.inside.rows.ok.0)
 
 pub returns-clause-apart : goal.returns-clause-apart
 returns-clause-apart c =
-    subst (λ (v : Slots). IsDistinct nat_eq (keys v)) c.self.view_is (whole_apart c.self.inside.ases.ases c.self.inside.rows.items (beside_entries c.self.inside.beside) c.self.invariant)
+    subst (λ (v : Slots). IsDistinct nat_eq (keys v)) c.self.view_is (whole_apart c.self.invariant)
