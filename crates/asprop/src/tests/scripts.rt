@@ -1,5 +1,6 @@
 //! Scripts over a relationship file and a scenario.
 use super::{ScriptCase, check_cases, run_script};
+use crate::laws::answers_are_one_text;
 use crate::types::Status;
 use std::test::Fail;
 
@@ -178,6 +179,7 @@ const SCRIPT_CASES: [ScriptCase; 15] = [
 
 #[test]
 fn each_script_gives_its_answers_or_the_first_fault(rt: HostRuntime) -> Result<(), Fail> {
+    answers_are_one_text();
     check_cases(&rt, rt.alloc(), &SCRIPT_CASES)
 }
 

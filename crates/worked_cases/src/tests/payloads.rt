@@ -1,7 +1,7 @@
 //! Sets of payloads, and payload files.
 use super::worlds::{payload, prefix};
 use net_names::Vrp;
-use roa_table::{VrpError, Vrps, read};
+use roa_table::{VrpError, Vrps, payloads_are_those_given, read};
 use std::alloc::Global;
 use std::process::Abort;
 use std::test::Fail;
@@ -78,6 +78,7 @@ fn expect_payloads(
 
 #[test]
 fn files_of_the_usual_validators_are_read(rt: HostRuntime) -> Result<(), Fail> {
+    payloads_are_those_given();
     let routinator =
         b"ASN,IP Prefix,Max Length,Trust Anchor\nAS4,10.0.0.0/8,16,ripe\nAS0,192.0.2.0/24,24,arin\n";
     let payloads = [

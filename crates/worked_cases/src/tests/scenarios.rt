@@ -6,7 +6,7 @@ use net_names::{Asn, NoMemory, Path, Prefix, read_addr, read_prefix};
 use policy_kinds::Kind;
 use scenario_text::{
     Announcement, LimitOf, Member, PartOf, Place, Scenario, ScenarioError, place_string, put_place,
-    read_scenario,
+    read_scenario, scenarios_are_those_said,
 };
 use std::alloc::{AllocError, Global};
 use std::process::Abort;
@@ -206,6 +206,7 @@ fn a_scenario_is_read_as_its_four_lists(rt: HostRuntime) -> Result<(), Fail> {
     assert!(rt; scenario.leak_lists() == 1 && scenario.leaker_at(0, 1) == Asn::new(5));
     assert!(rt; scenario.leaker_at(0, 2).is_none() && scenario.leaker_at(1, 0).is_none());
     assert!(rt; scenario.watch_at(0) == read_addr(b"10.0.0.1") && scenario.watch_at(1).is_none());
+    scenarios_are_those_said();
     Ok(())
 }
 

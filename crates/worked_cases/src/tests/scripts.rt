@@ -2,7 +2,9 @@
 use super::worlds::{number, path_of, payload, prefix};
 use net_names::{Rel, read_addr, read_asn};
 use policy_kinds::Kind;
-use scenario_text::{Act, Edit, Line, Lines, Query, ScriptError, read_script};
+use scenario_text::{
+    Act, Edit, Line, Lines, Query, ScriptError, lines_are_those_said, read_script,
+};
 use std::alloc::{AllocError, Global};
 use std::process::Abort;
 use std::test::Fail;
@@ -222,6 +224,7 @@ fn the_line_past_a_hundred_thousand_is_too_many(rt: HostRuntime) -> Result<(), F
     assert!(rt; past == Some(ScriptError::TooMany { line: 100_001 }));
     let unreadable = read(rt.alloc(), ranks(rt.alloc(), 100_000, "rank")?.as_bytes()).err();
     assert!(rt; unreadable == Some(ScriptError::Unreadable { line: 100_001 }));
+    lines_are_those_said();
     Ok(())
 }
 

@@ -2,7 +2,7 @@
 use super::worlds::{ACROSS, DOWN, Row, addr, expect_text, links_of, number, prefix};
 use roa_table::read;
 use scenario_text::{Act, Line, Lines, read_scenario, read_script};
-use sim_core::{QueryError, Sim};
+use sim_core::{QueryError, Sim, answers_are_one};
 use std::alloc::Global;
 use std::process::Abort;
 use std::test::Fail;
@@ -126,6 +126,7 @@ fn queries_have_these_answers(rt: HostRuntime) -> Result<(), Fail> {
         let sim = loaded(&rt, rt.alloc(), case.0, case.1, case.2)?;
         expect_answers(&rt, rt.alloc(), &sim, case)?;
     }
+    answers_are_one();
     Ok(())
 }
 
