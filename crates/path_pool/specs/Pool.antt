@@ -49,7 +49,7 @@ live_count p = region.live_count p.cells.items
 
 -- How many paths can be made without memory.
 abbrev pub spare_of : PathPool → ℕ
-spare_of p = p.spare + p.room
+spare_of p = p.dead + p.room
 
 -- How many cells may be live at once.
 abbrev pub limit_of : PathPool → ℕ

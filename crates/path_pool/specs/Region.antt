@@ -66,17 +66,17 @@ pub record IsLinked (cells : List Cell) (i : ℕ) : Type 0 where
   pub longer_last : 0 < (cell_at cells i).count → 1 < (cell_at cells i).len → (cell_at cells i).last ≡ (cell_at cells (cell_at cells i).tail).last
 
 -- A region is sound where each cell is linked and counts at least the live cells over it, the cells that are not live
--- hang together from `free` on (no two of them at the same length, and `spare` is that of the first), live and spare
+-- hang together from `free` on (no two of them at the same length, and `dead` is that of the first), live and dead
 -- cells are all cells, and these are no more than the limit.
-pub record IsRegion (cells : List Cell) (free spare limit : ℕ) : Type 0 where
+pub record IsRegion (cells : List Cell) (free dead limit : ℕ) : Type 0 where
   pub linked : (i : ℕ) → i < length cells → IsLinked cells i
   pub counted : (i : ℕ) → cells_above cells i ≤ (cell_at cells i).count
-  pub first_inside : 0 < spare → free < length cells
-  pub first_dead : 0 < spare → (cell_at cells free).count ≡ 0
-  pub first_len : 0 < spare → (cell_at cells free).len ≡ spare
-  pub dead_short : (i : ℕ) → i < length cells → (cell_at cells i).count ≡ 0 → (cell_at cells i).len ≤ spare
+  pub first_inside : 0 < dead → free < length cells
+  pub first_dead : 0 < dead → (cell_at cells free).count ≡ 0
+  pub first_len : 0 < dead → (cell_at cells free).len ≡ dead
+  pub dead_short : (i : ℕ) → i < length cells → (cell_at cells i).count ≡ 0 → (cell_at cells i).len ≤ dead
   pub dead_apart : (i j : ℕ) → i < length cells → j < length cells → (cell_at cells i).count ≡ 0 → (cell_at cells j).count ≡ 0 → (cell_at cells i).len ≡ (cell_at cells j).len → i ≡ j
-  pub all_counted : live_count cells + spare ≡ length cells
+  pub all_counted : live_count cells + dead ≡ length cells
   pub within : length cells ≤ limit
   pub limited : limit < 4294967295
 

@@ -31,11 +31,11 @@ pub struct PathPool {
     /// The first of the cells that are not live, if there is one.
     free: u32,
     /// How many cells are not live.
-    spare: usize,
+    dead: usize,
     /// How many more cells are promised, for which there is room behind the others.
     room: usize,
     limit: usize,
-    ghost region: { IsRegion cells.items free spare limit },
+    ghost region: { IsRegion cells.items free dead limit },
     ghost has_room: { cells.len + room ≤ cells.cap },
     ghost within: { cells.len + room ≤ limit },
 }
@@ -55,7 +55,7 @@ impl PathPool {
         PathPool {
             cells: Vec::new(alloc),
             free: 0,
-            spare: 0,
+            dead: 0,
             room: 0,
             limit,
         }
@@ -82,8 +82,8 @@ impl PathPool {
                 limit: self.limit,
             });
         }
-        if n > self.spare + self.room {
-            let room = n - self.spare;
+        if n > self.dead + self.room {
+            let room = n - self.dead;
             if self.cells.reserve(room).is_err() {
                 return Err(PoolError::Memory);
             }
@@ -167,7 +167,7 @@ impl PathPool {
         ensures spare { spare_of self.new ≡ spare_of self.old + result }
         ensures limit { limit_of self.new ≡ limit_of self.old }
     {
-        let before = self.spare;
+        let before = self.dead;
         let mut at = id.0;
         let mut more = true;
         'cells: while more {
@@ -181,12 +181,12 @@ impl PathPool {
                 more = cell.len > 1;
             }
         }
-        self.spare - before
+        self.dead - before
     }
 
     // A new path over one that is there.
     fn cons_over(&mut self, head: Asn, tail: PathId) -> PathId
-        requires spare { 0 < self.old.spare }
+        requires spare { 0 < self.old.dead }
         requires tail_live { IsLive self.old tail.0 }
         requires tail_room { count_of self.old tail.0 < 4294967295 }
         ensures made { GainsPath self.old self.new result.0 (head ∷ list_of self.old tail.0) }
@@ -206,7 +206,7 @@ impl PathPool {
         requires enough { cells_above self.old.cells.items id.0 ≤ count }
         ensures cells { self.new.cells.items ≡ slice_set self.old.cells.items id.0 (record (cell_at self.old.cells.items id.0) { count = count }) }
         ensures free { self.new.free ≡ self.old.free }
-        ensures spare { self.new.spare ≡ self.old.spare }
+        ensures spare { self.new.dead ≡ self.old.dead }
         ensures room { self.new.room ≡ self.old.room }
         ensures limit { limit_of self.new ≡ limit_of self.old }
     {
@@ -216,18 +216,18 @@ impl PathPool {
 
     // Takes the first free cell for a new path.
     fn take_cell(&mut self, head: Asn, tail: u32, len: u32, last: Asn) -> PathId
-        requires spare { 0 < self.old.spare }
+        requires spare { 0 < self.old.dead }
         requires follows { CanFollow self.old.cells.items (record { head = head; tail = tail; len = len; count = 1; last = last }) }
         ensures which { result.0 ≡ self.old.free }
         ensures cells { self.new.cells.items ≡ slice_set self.old.cells.items self.old.free (record { head = head; tail = tail; len = len; count = 1; last = last }) }
         ensures live { live_count self.new ≡ live_count self.old + 1 }
-        ensures spare { self.new.spare + 1 ≡ self.old.spare }
+        ensures spare { self.new.dead + 1 ≡ self.old.dead }
         ensures room { self.new.room ≡ self.old.room }
         ensures limit { limit_of self.new ≡ limit_of self.old }
     {
         let at = self.free;
         self.free = self.cells[at as usize].tail;
-        self.spare -= 1;
+        self.dead -= 1;
         self.cells[at as usize] = Cell {
             head,
             tail,
@@ -242,17 +242,17 @@ impl PathPool {
     fn free_cell(&mut self, id: PathId, head: Asn)
         requires live { IsLive self.old id.0 }
         requires none { cells_above self.old.cells.items id.0 ≡ 0 }
-        ensures cells { self.new.cells.items ≡ slice_set self.old.cells.items id.0 (record { head = head; tail = self.old.free; len = self.old.spare + 1; count = 0; last = head }) }
-        ensures spare { self.new.spare ≡ self.old.spare + 1 }
+        ensures cells { self.new.cells.items ≡ slice_set self.old.cells.items id.0 (record { head = head; tail = self.old.free; len = self.old.dead + 1; count = 0; last = head }) }
+        ensures spare { self.new.dead ≡ self.old.dead + 1 }
         ensures room { self.new.room ≡ self.old.room }
         ensures limit { limit_of self.new ≡ limit_of self.old }
     {
         let next = self.free;
-        self.spare += 1;
+        self.dead += 1;
         self.cells[id.0 as usize] = Cell {
             head,
             tail: next,
-            len: self.spare as u32,
+            len: self.dead as u32,
             count: 0,
             last: head,
         };
@@ -263,13 +263,13 @@ impl PathPool {
     fn add_cell(&mut self)
         requires room { 0 < self.old.room }
         ensures same { SamePaths self.old self.new }
-        ensures more { self.new.spare ≡ self.old.spare + 1 }
+        ensures more { self.new.dead ≡ self.old.dead + 1 }
         ensures less { self.new.room + 1 ≡ self.old.room }
         ensures limit { limit_of self.new ≡ limit_of self.old }
     {
         let next = self.free;
         let at = self.cells.len();
-        let len = self.spare + 1;
+        let len = self.dead + 1;
         let asn = any_asn();
         match self.cells.push(Cell {
             head: asn,
@@ -282,19 +282,19 @@ impl PathPool {
             Err(_) => unreachable!(),
         }
         self.free = at as u32;
-        self.spare = len;
+        self.dead = len;
         self.room -= 1;
     }
 
     // Makes sure that some cell is not live, where a path is to be made.
     fn find_cell(&mut self)
         requires { 0 < spare_of self.old }
-        ensures some { 0 < self.new.spare }
+        ensures some { 0 < self.new.dead }
         ensures same { SamePaths self.old self.new }
         ensures spare { spare_of self.new ≡ spare_of self.old }
         ensures limit { limit_of self.new ≡ limit_of self.old }
     {
-        if self.spare == 0 {
+        if self.dead == 0 {
             self.add_cell();
         }
     }

@@ -16,14 +16,14 @@ impl PathPool {
         ensures value { result ≡ live_count self.now }
         ensures within { result + spare_of self.now ≤ limit_of self.now }
     {
-        self.cells.len() - self.spare
+        self.cells.len() - self.dead
     }
 
     /// How many calls of [`cons`](PathPool::cons) there is room for.
     pub fn spare(&self) -> usize
         ensures { result ≡ spare_of self.now }
     {
-        self.spare + self.room
+        self.dead + self.room
     }
 
     /// How often the path is needed: its outside holds and the live cells over it.

@@ -1,7 +1,7 @@
-use Rattle.std.proofs.Common.{arith, ◌≡◌, ℕ, List, [], ◌∷◌, set, ap, sym, subst, refl, Option, ◌∙◌}
+use Rattle.std.proofs.Common.{arith, ℕ, List, [], ◌∷◌, set, sym, subst, refl, Option}
 use Rattle.path_pool.specs.declared.pool.Cell.{Cell}
 use Rattle.path_pool.specs.declared.path_id.PathId.{PathId}
-use Rattle.path_pool.specs.Region.{GainsCell, list_of, tail_list}
+use Rattle.path_pool.specs.Region.{GainsCell, tail_list}
 use Rattle.path_pool.proofs.ConsLemmas.{gains_single, gains_after}
 use Rattle.path_pool.proofs.pool.PathPool.cons.Goals as goal
 
@@ -15,5 +15,5 @@ returns-in-None-clause-made c =
     (subst (λ (o : Option PathId). GainsCell xs c.take_cell.new.self.cells.items c.take_cell.result.0 (c.args.head ∷ tail_list old o)) (sym c.in-None.is)
     (subst (λ ys. GainsCell xs ys c.take_cell.result.0 (c.args.head ∷ [])) (sym c.take_cell.ensures.cells)
     (subst (λ i. GainsCell xs (set xs f y) i (c.args.head ∷ [])) (sym c.take_cell.ensures.which)
-    (gains_single xs f c.find_cell.new.self.spare c.find_cell.new.self.limit y c.find_cell.new.self.region c.find_cell.ensures.some
+    (gains_single xs f c.find_cell.new.self.dead c.find_cell.new.self.limit y c.find_cell.new.self.region c.find_cell.ensures.some
     (record { held = refl; some = omega arith; live = λ l. absurd (omega arith); free_hold = λ l. absurd (omega arith); shorter = λ l. absurd (omega arith); single_last = λ _. refl; longer_last = λ l. absurd (omega arith) }) refl))))

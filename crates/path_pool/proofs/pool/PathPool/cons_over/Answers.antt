@@ -10,7 +10,7 @@ overflow_add-cell-2 c =
     let xs : List Cell = c.args.self.now.cells.items in
     let t : ℕ = c.args.tail.0 in
     let e : c.index-cell.result.now ≡ cell_at xs t = cell_read xs t c.index-cell.result.now (live_inside xs t c.requires.tail_live) c.index-cell.ensures in
-    let small : (cell_at xs t).len ≤ live_count xs = len_le_live xs c.args.self.now.free c.args.self.now.spare c.args.self.now.limit t c.args.self.now.region c.requires.tail_live in
+    let small : (cell_at xs t).len ≤ live_count xs = len_le_live xs c.args.self.now.free c.args.self.now.dead c.args.self.now.limit t c.args.self.now.region c.requires.tail_live in
     let all : live_count xs < 4294967295 = omega (arith, c.args.self.now.region.all_counted, c.args.self.now.region.within, c.args.self.now.region.limited) in
     let len : c.index-cell.result.now.len ≡ (cell_at xs t).len = ap (λ (c : Cell). c.len) e in
     omega (arith, small, all, len)
@@ -22,7 +22,7 @@ take_cell-requires-clause-follows c =
     let v : Cell = c.index-cell.result.now in
     let e : v ≡ cell_at xs t = cell_read xs t v (live_inside xs t c.requires.tail_live) c.index-cell.ensures in
     subst (λ ys. CanFollow ys (record { head = c.args.head; tail = t; len = v.len + 1; count = 1; last = v.last })) (sym c.set_count.ensures.cells)
-    (gains_over xs c.args.self.now.free c.args.self.now.spare c.args.self.now.limit t c.args.head c.args.self.now.region c.requires.spare c.requires.tail_live
+    (gains_over xs c.args.self.now.free c.args.self.now.dead c.args.self.now.limit t c.args.head c.args.self.now.region c.requires.spare c.requires.tail_live
     (v.count + 1) (ap (λ (c : Cell). c.count + 1) e) (v.len + 1) (ap (λ (c : Cell). c.len + 1) e) v.last (ap (λ (c : Cell). c.last) e)).0
 
 pub returns-clause-made : goal.returns-clause-made
@@ -39,5 +39,5 @@ returns-clause-made c =
     let which : c.take_cell.result.0 ≡ f = c.take_cell.ensures.which ∙ c.set_count.ensures.free in
     subst (λ zs. GainsCell xs zs c.take_cell.result.0 (c.args.head ∷ list_of xs t)) (sym cells)
     (subst (λ i. GainsCell xs (set ys f y) i (c.args.head ∷ list_of xs t)) (sym which)
-    (gains_over xs f c.args.self.now.spare c.args.self.now.limit t c.args.head c.args.self.now.region c.requires.spare c.requires.tail_live
+    (gains_over xs f c.args.self.now.dead c.args.self.now.limit t c.args.head c.args.self.now.region c.requires.spare c.requires.tail_live
     (v.count + 1) (ap (λ (c : Cell). c.count + 1) e) (v.len + 1) (ap (λ (c : Cell). c.len + 1) e) v.last (ap (λ (c : Cell). c.last) e)).1)

@@ -23,7 +23,7 @@ cells-preserved c =
     let e : v ≡ cell_at xs i = cell_read xs i v (live_inside xs i (c.cells.invariant.walking.live c.cells-test.true)) c.index-cell.ensures in
     let n : (cell_at xs i).head ≢ c.args.asn = λ q. both_ways c.eq.result c.if-eq.false (c.eq.ensures ∙ eq-eqb v.head c.args.asn (ap (λ (c : Cell). c.head) e ∙ q)) in
     record {
-      walking = subst (λ (w : Cell). IsWalking xs (c.cells.left - 1) w.tail) (sym e) (walking_more xs c.args.self.now.free c.args.self.now.spare c.args.self.now.limit c.cells.left i c.args.self.now.region c.cells-test.true c.cells.invariant.walking);
+      walking = subst (λ (w : Cell). IsWalking xs (c.cells.left - 1) w.tail) (sym e) (walking_more xs c.args.self.now.free c.args.self.now.dead c.args.self.now.limit c.cells.left i c.args.self.now.region c.cells-test.true c.cells.invariant.walking);
       same = c.cells.invariant.same ∙ any_later xs c.cells.left i c.args.asn c.cells-test.true n
           ∙ sym (ap (λ (w : Cell). list_any (λ x. eqb x c.args.asn) (walk xs (c.cells.left - 1) w.tail)) e);
     }

@@ -13,7 +13,7 @@ cells-preserved c =
     let e : v ≡ cell_at xs i = cell_read xs i v (live_inside xs i (c.cells.invariant.walking.live c.cells-test.true)) c.index-cell.ensures in
     let all : List ℕ = c.cells.path in
     record {
-      walking = subst (λ (w : Cell). IsWalking xs (c.cells.left - 1) w.tail) (sym e) (walking_more xs c.args.self.now.free c.args.self.now.spare c.args.self.now.limit c.cells.left i c.args.self.now.region c.cells-test.true c.cells.invariant.walking);
+      walking = subst (λ (w : Cell). IsWalking xs (c.cells.left - 1) w.tail) (sym e) (walking_more xs c.args.self.now.free c.args.self.now.dead c.args.self.now.limit c.cells.left i c.args.self.now.region c.cells-test.true c.cells.invariant.walking);
       same = ap (λ t. t ++ walk xs (c.cells.left - 1) v.tail) c.in_ok-push.ensures.ok
           ∙ append_assoc all (v.head ∷ []) (walk xs (c.cells.left - 1) v.tail)
           ∙ ap (λ (w : Cell). all ++ (w.head ∷ walk xs (c.cells.left - 1) w.tail)) e

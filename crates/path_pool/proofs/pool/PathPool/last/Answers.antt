@@ -8,4 +8,4 @@ pub returns : goal.returns
 returns c =
     let xs = c.args.self.now.cells.items in
     ap (λ (c : Cell). c.last) (cell_read xs c.args.id.0 c.index.result.now (live_inside xs c.args.id.0 c.requires) c.index.ensures)
-    ∙ sym (last_or-list_of xs c.args.self.now.free c.args.self.now.spare c.args.self.now.limit c.args.id.0 c.args.self.now.region c.requires)
+    ∙ sym (last_or-list_of xs c.args.self.now.free c.args.self.now.dead c.args.self.now.limit c.args.id.0 c.args.self.now.region c.requires)

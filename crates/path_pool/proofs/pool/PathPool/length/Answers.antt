@@ -12,7 +12,7 @@ returns-clause-value c =
 pub returns-clause-short : goal.returns-clause-short
 returns-clause-short c =
     let e : c.index.result.now.len ≡ (cell_at c.args.self.now.cells.items c.args.id.0).len = grind (arith, common_steps) in
-    omega (arith, e, len_le_live c.args.self.now.cells.items c.args.self.now.free c.args.self.now.spare c.args.self.now.limit c.args.id.0 c.args.self.now.region c.requires)
+    omega (arith, e, len_le_live c.args.self.now.cells.items c.args.self.now.free c.args.self.now.dead c.args.self.now.limit c.args.id.0 c.args.self.now.region c.requires)
 
 pub returns-clause-fits : goal.returns-clause-fits
 returns-clause-fits c =
@@ -23,7 +23,7 @@ returns-clause-fits c =
       c.args.self.now.region.all_counted,
       c.args.self.now.region.within,
       c.args.self.now.region.limited,
-      len_le_live c.args.self.now.cells.items c.args.self.now.free c.args.self.now.spare c.args.self.now.limit c.args.id.0 c.args.self.now.region c.requires,
+      len_le_live c.args.self.now.cells.items c.args.self.now.free c.args.self.now.dead c.args.self.now.limit c.args.id.0 c.args.self.now.region c.requires,
     )
 
 pub returns-clause-some : goal.returns-clause-some

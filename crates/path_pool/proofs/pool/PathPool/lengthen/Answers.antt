@@ -1,4 +1,4 @@
-use Rattle.std.proofs.Common.{arith, ◌≡◌, ℕ, ◌+◌, ◌<◌, ◌≤◌, List, ◌∷◌, set, sym, ap, subst, ◌∙◌}
+use Rattle.std.proofs.Common.{arith, ◌≡◌, ℕ, ◌+◌, ◌<◌, ◌≤◌, List, ◌∷◌, set, sym, ap, subst}
 use Rattle.path_pool.specs.declared.pool.Cell.{Cell}
 use Rattle.path_pool.specs.Region.{IsLive, PassesHold, list_of, holds_of, cell_at, live_count}
 use Rattle.path_pool.proofs.RegionLemmas.{cell_read, live_inside, len_le_live}
@@ -11,7 +11,7 @@ overflow_add-cell c =
     let t : ℕ = c.args.rest.0 in
     let alive : IsLive xs t = omega (arith, c.find_cell.ensures.same.holds t, c.requires.held) in
     let e : c.index-cell.result.now ≡ cell_at xs t = cell_read xs t c.index-cell.result.now (live_inside xs t alive) c.index-cell.ensures in
-    let small : (cell_at xs t).len ≤ live_count xs = len_le_live xs c.find_cell.new.self.free c.find_cell.new.self.spare c.find_cell.new.self.limit t c.find_cell.new.self.region alive in
+    let small : (cell_at xs t).len ≤ live_count xs = len_le_live xs c.find_cell.new.self.free c.find_cell.new.self.dead c.find_cell.new.self.limit t c.find_cell.new.self.region alive in
     let all : live_count xs < 4294967295 = omega (arith, c.find_cell.new.self.region.all_counted, c.find_cell.new.self.region.within, c.find_cell.new.self.region.limited) in
     let len : c.index-cell.result.now.len ≡ (cell_at xs t).len = ap (λ (x : Cell). x.len) e in
     omega (arith, small, all, len)
@@ -23,7 +23,7 @@ take_cell-requires-clause-follows c =
     let v : Cell = c.index-cell.result.now in
     let held : 0 < holds_of xs t = omega (arith, c.find_cell.ensures.same.holds t, c.requires.held) in
     let e : v ≡ cell_at xs t = cell_read xs t v (live_inside xs t (omega (arith, held))) c.index-cell.ensures in
-    (passes_over xs c.find_cell.new.self.free c.find_cell.new.self.spare c.find_cell.new.self.limit t c.args.head c.find_cell.new.self.region c.find_cell.ensures.some held
+    (passes_over xs c.find_cell.new.self.free c.find_cell.new.self.dead c.find_cell.new.self.limit t c.args.head c.find_cell.new.self.region c.find_cell.ensures.some held
     (v.len + 1) (ap (λ (x : Cell). x.len + 1) e) v.last (ap (λ (x : Cell). x.last) e)).0
 
 pub returns-clause-made : goal.returns-clause-made
@@ -41,5 +41,5 @@ returns-clause-made c =
     (subst (λ ns. PassesHold xs c.take_cell.new.self.cells.items t c.take_cell.result.0 (c.args.head ∷ ns)) path
     (subst (λ zs. PassesHold xs zs t c.take_cell.result.0 (c.args.head ∷ list_of xs t)) (sym c.take_cell.ensures.cells)
     (subst (λ i. PassesHold xs (set xs f y) t i (c.args.head ∷ list_of xs t)) (sym c.take_cell.ensures.which)
-    (passes_over xs f c.find_cell.new.self.spare c.find_cell.new.self.limit t c.args.head c.find_cell.new.self.region c.find_cell.ensures.some held
+    (passes_over xs f c.find_cell.new.self.dead c.find_cell.new.self.limit t c.args.head c.find_cell.new.self.region c.find_cell.ensures.some held
     (v.len + 1) (ap (λ (x : Cell). x.len + 1) e) v.last (ap (λ (x : Cell). x.last) e)).1)))

@@ -36,7 +36,7 @@ cells-preserved-then-cell-gt1 c =
     let w : IsReleasing c.args.self.now.cells.items xs c.args.id.0 i true = subst (IsReleasing c.args.self.now.cells.items xs c.args.id.0 i) c.cells-test.true c.cells.invariant.releasing in
     record {
       releasing = subst (λ ys. IsReleasing c.args.self.now.cells.items ys c.args.id.0 i false) (sym c.set_count.ensures.cells)
-          (releasing_keep c.args.self.now.cells.items xs c.cells.self.free c.cells.self.spare c.cells.self.limit c.args.id.0 i (v.count - 1) c.cells.self.region w (omega (arith, e, live)) (omega (arith, c.if-cell-gt1.true)));
+          (releasing_keep c.args.self.now.cells.items xs c.cells.self.free c.cells.self.dead c.cells.self.limit c.args.id.0 i (v.count - 1) c.cells.self.region w (omega (arith, e, live)) (omega (arith, c.if-cell-gt1.true)));
       limit = c.set_count.ensures.limit ∙ c.cells.invariant.limit;
       spare = omega (arith, c.set_count.ensures.spare, c.cells.invariant.spare);
       room = c.set_count.ensures.room ∙ c.cells.invariant.room;
@@ -52,11 +52,11 @@ cells-preserved c =
     let same : v ≡ cell_at xs i = cell_read xs i v (live_inside xs i live) c.index-cell.ensures in
     let e : v.count ≡ (cell_at xs i).count = ap (λ (c : Cell). c.count) same in
     let w : IsReleasing c.args.self.now.cells.items xs c.args.id.0 i true = subst (IsReleasing c.args.self.now.cells.items xs c.args.id.0 i) c.cells-test.true c.cells.invariant.releasing in
-    let y : Cell = record { head = v.head; tail = c.cells.self.free; len = c.cells.self.spare + 1; count = 0; last = v.head } in
+    let y : Cell = record { head = v.head; tail = c.cells.self.free; len = c.cells.self.dead + 1; count = 0; last = v.head } in
     record {
       releasing = subst (λ ys. IsReleasing c.args.self.now.cells.items ys c.args.id.0 v.tail (ltb 1 v.len)) (sym c.free_cell.ensures.cells)
           (subst (λ (c' : Cell). IsReleasing c.args.self.now.cells.items (set xs i y) c.args.id.0 c'.tail (ltb 1 c'.len)) (sym same)
-          (releasing_free c.args.self.now.cells.items xs c.cells.self.free c.cells.self.spare c.cells.self.limit c.args.id.0 i y c.cells.self.region w (omega (arith, e, live, c.if-cell-gt1.false)) refl));
+          (releasing_free c.args.self.now.cells.items xs c.cells.self.free c.cells.self.dead c.cells.self.limit c.args.id.0 i y c.cells.self.region w (omega (arith, e, live, c.if-cell-gt1.false)) refl));
       limit = c.free_cell.ensures.limit ∙ c.cells.invariant.limit;
       spare = omega (arith, c.free_cell.ensures.spare, c.cells.invariant.spare);
       room = c.free_cell.ensures.room ∙ c.cells.invariant.room;

@@ -7,7 +7,7 @@ abbrev pub invariant-cells : goal.invariant-cells
 invariant-cells l = record {
   releasing : IsReleasing l.fn.self.cells.items l.self.cells.items l.fn.id.0 l.at l.more;
   limit : l.self.limit ≡ l.fn.self.limit;
-  spare : l.before ≤ l.self.spare;
+  spare : l.before ≤ l.self.dead;
   room : l.self.room ≡ l.fn.self.room;
 }
 

@@ -10,4 +10,4 @@ invariant_of-self-clause-region c =
     let i : ℕ = c.args.self.now.free in
     let y : Cell = record { head = c.args.head; tail = c.args.tail; len = c.args.len; count = 1; last = c.args.last } in
     let e : c.index.result.now ≡ cell_at xs i = cell_read xs i c.index.result.now (c.args.self.now.region.first_inside c.requires.spare) c.index.ensures in
-    take_region_at xs i c.args.self.now.spare c.args.self.now.limit y c.index.result.now c.args.self.now.region c.requires.spare c.requires.follows e
+    take_region_at xs i c.args.self.now.dead c.args.self.now.limit y c.index.result.now c.args.self.now.region c.requires.spare c.requires.follows e

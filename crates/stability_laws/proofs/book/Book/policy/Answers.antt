@@ -1,4 +1,4 @@
-use Rattle.std.proofs.Common.{arith, rules, ◌≡◌, length}
+use Rattle.std.proofs.Common.{rules, ◌≡◌, length}
 use Rattle.stability_laws.proofs.Books.{policy_of_empty}
 use Rattle.stability_laws.proofs.book.Book.policy.Goals as goal
 

@@ -1,4 +1,4 @@
-use Rattle.std.proofs.Common.{◌≡◌, ◌==◌, ◌||◌, ◌∙◌, List, map, sym, ap, ℕ}
+use Rattle.std.proofs.Common.{◌≡◌, ◌||◌, ◌∙◌, List, map, sym, ap, ℕ}
 use Rattle.std.specs.FinMap as fin
 use Rattle.net_names.specs.Links.{pair_cmp}
 use Rattle.net_names.specs.Numbers.{occurs}
