@@ -6,9 +6,11 @@ ghost use Rattle.net_names.specs.Numbers.{occurs};
 
 use crate::Held;
 use crate::slots::{Slots, let_all_go};
+use as_places::AsPlaces;
 use net_names::{Asn, NoMemory};
 use path_pool::PathPool;
 use std::alloc::Global;
+use std::rc::Rc;
 
 /// Changes of a table: at some ASes a new entry, or none. It owns one outside hold for each of its
 /// entries.
@@ -34,11 +36,10 @@ impl Overlay {
         }
     }
 
-    /// No entry at each of these ASes, in this order, and room for `n` more ASes.
-    pub fn blank(alloc: Global, ases: &[Asn], n: usize) -> Result<Overlay, NoMemory>
-        requires { IsDistinct nat_eq ases.now }
-        ensures changes { IfOk result (λ o. (a : ℕ) → change_at o a ≡ (if occurs a ases.now then Some None else None)) }
-        ensures places { IfOk result (λ o. places_of o ≡ ases.now) }
+    /// No entry at each of these ASes, in this order, and room for `n` more ASes. The list is shared.
+    pub fn blank(alloc: Global, ases: &Rc<AsPlaces>, n: usize) -> Result<Overlay, NoMemory>
+        ensures changes { IfOk result (λ o. (a : ℕ) → change_at o a ≡ (if occurs a ases.now.value.ases then Some None else None)) }
+        ensures places { IfOk result (λ o. places_of o ≡ ases.now.value.ases) }
         ensures uses { IfOk result (λ o. (k : ℕ) → overlay_uses o k ≡ 0) }
         ensures room { IfOk result (λ o. n ≤ overlay_spare o) }
     {

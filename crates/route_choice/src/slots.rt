@@ -6,7 +6,8 @@ ghost use Rattle.as_places.specs.Places.{place_of};
 ghost use Rattle.path_pool.specs.Pool.{holds_of};
 ghost use Rattle.route_choice.specs.Slots.{slot_at, entry_at, keys, over, use_of, uses_of, IsBlank};
 ghost use Rattle.route_choice.specs.Holds.{GivesBack};
-ghost use Rattle.route_choice.specs.Rows.{asns_of};
+ghost use Rattle.route_choice.specs.Rows.{asns_of, placed_in};
+ghost use Rattle.std.specs.Rc.{rc_value};
 
 use crate::Held;
 use crate::first::Beside;
@@ -17,15 +18,17 @@ use net_names::{Asn, NoMemory};
 use path_pool::PathPool;
 use std::alloc::Global;
 use std::marker::Model;
+use std::rc::Rc;
 
 /// At some ASes an entry, or none. Contracts see the pairs in their order, and for how many more ASes
 /// there is room.
 ///
 /// ASes that were there from the start have places, and each place a row. A row has its AS too, so that
-/// a look at a hinted place mostly reads the row alone. ASes that came later stand beside.
+/// a look at a hinted place mostly reads the row alone. The list of the places can be shared with others.
+/// ASes that came later stand beside.
 #[derive(Drop)]
 pub(crate) struct Slots {
-    ases: AsPlaces,
+    ases: Option<Rc<AsPlaces>>,
     rows: Vec<Row>,
     beside: Beside,
 }
@@ -37,25 +40,36 @@ impl Model for Slots {
     ghost Value = { SlotList };
 
     ghost use Rattle.route_choice.specs.Beside.{beside_entries, beside_spare};
-    ghost use Rattle.route_choice.specs.Rows.{entries_of, AreByPlace};
+    ghost use Rattle.std.specs.Rc.{rc_value};
+    ghost use Rattle.route_choice.specs.Rows.{entries_of, placed_in, AreByPlace};
 
     ghost view = { λ s. record { entries = entries_of s.rows.items ++ beside_entries s.beside; spare = beside_spare s.beside } };
 
-    ghost invariant = { λ s. AreByPlace s.ases.ases s.rows.items (beside_entries s.beside) };
+    ghost invariant = { λ s. AreByPlace (placed_in rc_value s.ases) s.rows.items (beside_entries s.beside) };
 }
 
-// The place of an AS, sought first at a row. Changes mostly have no places, and then none is sought.
+// The place of an AS, if it has one.
 #[inline(always)]
-fn place_among(ases: &AsPlaces, rows: &[Row], asn: Asn, near: usize) -> Option<usize>
-    requires places { asns_of rows.now ≡ ases.now.ases }
+fn place_in(ases: &Option<Rc<AsPlaces>>, asn: Asn) -> Option<usize>
+    ensures { result ≡ place_of (placed_in rc_value ases.now) asn }
+{
+    match ases {
+        Some(places) => places.place(asn),
+        None => None,
+    }
+}
+
+// The place of an AS, sought first at a row. Changes mostly have no places.
+#[inline(always)]
+fn place_among(ases: &Option<Rc<AsPlaces>>, rows: &[Row], asn: Asn, near: usize) -> Option<usize>
+    requires places { asns_of rows.now ≡ placed_in rc_value ases.now }
     requires apart { IsDistinct nat_eq (asns_of rows.now) }
     ensures value { result ≡ place_of (asns_of rows.now) asn }
     ensures found { IfSome result (λ i. i < length rows.now) }
 {
     match rows.get(near) {
         Some(row) if row.asn == asn => Some(near),
-        _ if rows.is_empty() => None,
-        _ => ases.place(asn),
+        _ => place_in(ases, asn),
     }
 }
 
@@ -65,22 +79,23 @@ impl Slots {
         ensures { result.entries ≡ [] }
     {
         Slots {
-            ases: AsPlaces::new(alloc),
+            ases: None,
             rows: Vec::new(alloc),
             beside: Beside::new(alloc),
         }
     }
 
     /// No entry at each of these ASes, and room for so many more.
-    pub(crate) fn blank(alloc: Global, ases: &[Asn], more: usize) -> Result<Slots, NoMemory>
-        requires { IsDistinct nat_eq ases.now }
-        ensures { IfOk result (IsBlank ases.now more) }
+    pub(crate) fn blank(alloc: Global, ases: &Rc<AsPlaces>, more: usize) -> Result<Slots, NoMemory>
+        ensures { IfOk result (IsBlank ases.now.value.ases more) }
     {
-        let places = AsPlaces::of(alloc, ases)?;
-        let rows = rows_of(alloc, ases)?;
+        let Ok(shared) = ases.clone() else {
+            return Err(NoMemory);
+        };
+        let rows = rows_of(alloc, ases.as_slice())?;
         let beside = Beside::with_room(alloc, more)?;
         Ok(Slots {
-            ases: places,
+            ases: Some(shared),
             rows,
             beside,
         })

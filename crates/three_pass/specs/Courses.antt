@@ -21,6 +21,6 @@ pub record IsCourse (g : Topology) (c : Course) : Type 0 where
   pub ranks : (a : ℕ) → IsRank (what g) a (rank a)
   pub order : IsRankOrder (has g) rank c.order.ases.items
   pub count : length c.order.ases.items ≡ as_count g
-  pub complete : (a : ℕ) → has g a ≡ true → occurs a c.rows.items ≡ true
-  pub apart : IsDistinct nat_eq c.rows.items
+  pub complete : (a : ℕ) → has g a ≡ true → occurs a c.rows.value.ases ≡ true
+  pub apart : IsDistinct nat_eq c.rows.value.ases
   pub above : AreAbove (what g) c.order.ases.items c.above

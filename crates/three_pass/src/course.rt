@@ -17,10 +17,12 @@ ghost use Rattle.three_pass.specs.Scratches.{IsScratch};
 use crate::lists::ProviderLists;
 use crate::looks::Looks;
 use as_graph::{Graph, Neighbour};
+use as_places::AsPlaces;
 use net_names::{Asn, NoMemory, Rel};
 use rank_order::{RankOrder, Ranks, placed_by_rank};
 use route_choice::Overlay;
 use std::alloc::Global;
+use std::rc::Rc;
 
 /// The ASes of a graph by rising rank, for each of them, in this order, its providers, and the ASes of the
 /// rows of the graph. It is the same for all prefixes and rounds. Places and rows of ASes are hints.
@@ -28,7 +30,7 @@ use std::alloc::Global;
 pub struct Course {
     pub(crate) order: RankOrder,
     pub(crate) above: ProviderLists,
-    pub(crate) rows: Vec<Asn>,
+    pub(crate) rows: Rc<AsPlaces>,
     // for each row the place of its AS in the order
     pub(crate) places: Vec<u32>,
 }
@@ -123,12 +125,14 @@ fn places_by_row(alloc: Global, count: usize, rows: &[u32]) -> Result<Vec<u32>, 
     Ok(places)
 }
 
-// A copy of a list of ASes.
-fn copied(alloc: Global, ases: &[Asn]) -> Result<Vec<Asn>, NoMemory>
-    ensures { IfOk result (λ v. v.items ≡ ases.now) }
+// A list of ASes that tables can share.
+fn shared(alloc: Global, ases: &[Asn]) -> Result<Rc<AsPlaces>, NoMemory>
+    requires { IsDistinct nat_eq ases.now }
+    ensures { IfOk result (λ r. r.value.ases ≡ ases.now) }
 {
-    match Vec::from_slice(alloc, ases) {
-        Ok(copy) => Ok(copy),
+    let places = AsPlaces::of(alloc, ases)?;
+    match Rc::new(alloc, places) {
+        Ok(list) => Ok(list),
         Err(_) => Err(NoMemory),
     }
 }
@@ -140,7 +144,7 @@ impl Course {
         ensures { IfOk result (IsCourse graph.now) }
     {
         let order = placed_by_rank(alloc, graph, ranks)?;
-        let rows = copied(alloc, graph.rows())?;
+        let rows = shared(alloc, graph.rows())?;
         let places = places_by_row(alloc, rows.len(), &order.places)?;
         let above = providers_of(alloc, graph, &order.ases, &order.places, &places)?;
         Ok(Course {
@@ -157,7 +161,8 @@ impl Course {
         requires { IsDistinct nat_eq self.now.order.ases.items }
         ensures { IfOk result (IsScratch self.now) }
     {
-        let overlay = Overlay::blank(alloc, self.order.ases.as_slice(), 1)?;
+        let places = shared(alloc, self.order.ases.as_slice())?;
+        let overlay = Overlay::blank(alloc, &places, 1)?;
         Ok(overlay)
     }
 }

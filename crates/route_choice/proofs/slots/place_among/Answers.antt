@@ -12,6 +12,6 @@ returns-in-Some-clause-value c =
     let same = sym (ap (λ (r : Row). r.asn) (h.1 c.in-Some.row.now)) ∙ eqb-true _ _ (sym c.eq.ensures ∙ c.if-eq.true) in
     sym (ap (place_of (asns_of c.args.rows.now)) (sym same) ∙ row_place c.args.rows.now c.args.near c.in-Some.row.now c.requires.apart h.0)
 
-pub returns-in_default-2-clause-found : goal.returns-in_default-2-clause-found
-returns-in_default-2-clause-found c =
-    inside_where c.args.rows.now c.args.asn c.place.result (ap (λ l. place_of l c.args.asn) c.requires.places ∙ sym c.place.ensures.value)
+pub returns-in_default-clause-found : goal.returns-in_default-clause-found
+returns-in_default-clause-found c =
+    inside_where c.args.rows.now c.args.asn c.place_in.result (ap (λ l. place_of l c.args.asn) c.requires.places ∙ sym c.place_in.ensures)
