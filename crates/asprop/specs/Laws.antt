@@ -1,16 +1,11 @@
 -- What holds of all told texts.
-use Rattle.std.specs.Prelude.{◌≡◌, ◌⊎◌, ℕ, Bool, None, List, [], ◌∷◌}
+use Rattle.std.specs.Prelude.{◌≡◌, ℕ, Bool, List, [], ◌∷◌}
 use Rattle.clap.specs.Walk.{Text}
 use Rattle.scenario_text.specs.LineValues.{LineValue}
 use Rattle.scenario_text.specs.declared.acts.Act.{Act}
 use Rattle.scenario_text.specs.declared.acts.Act.TheVariants as act
-use Rattle.scenario_text.specs.declared.acts.Edit.{Edit}
-use Rattle.scenario_text.specs.declared.acts.Query.{Query}
 use Rattle.sim_core.specs.World.{World}
-use Rattle.sim_core.specs.Kept.{Kept, IsKept}
-use Rattle.sim_core.specs.Answers.{IsAnswer, refusal_of}
-use Rattle.sim_core.specs.Edits.{HasChanges, IsReason, edited}
-use Rattle.sim_core.specs.declared.errors.EditError.{EditError}
+use Rattle.sim_core.specs.Edits.{IsReason}
 use Rattle.sim_core.specs.declared.errors.EditError.TheVariants as edit
 use Rattle.asprop.specs.Told.{Answered, Told}
 
