@@ -8,6 +8,7 @@ use Rattle.as_graph.specs.declared.error.GraphError.{GraphError}
 use Rattle.as_graph.specs.declared.error.GraphError.TheVariants.{Memory, TooManyLinks, TooManyAses}
 use Rattle.as_graph.specs.Ends.{ends_at}
 use Rattle.as_graph.specs.Graphs.{Rows, neighbours_of, is_marked, is_there}
+use Rattle.as_graph.specs.declared.build.TheConstants.{MOST_ASES}
 
 -- each AS at an end has one row, with its neighbours at the higher ends and then those at the lower ends
 pub record AreGathered (m : Rows) (hs ls : List End) : Type 0 where
@@ -20,7 +21,7 @@ pub record AreGathered (m : Rows) (hs ls : List End) : Type 0 where
 pub record HasManyAses (hs ls : List End) (ks : List ℕ) : Type 0 where
   pub apart : IsDistinct nat_eq ks
   pub each : (a : ℕ) → occurs a ks ≡ true → 0 < length (ends_at a hs ++ ends_at a ls)
-  pub many : 150000 < length ks
+  pub many : MOST_ASES < length ks
 
 -- why no rows are gathered
 abbrev pub IsGatherRefusal : List End → List End → GraphError → Type 0

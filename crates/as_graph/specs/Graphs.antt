@@ -14,6 +14,8 @@ use Rattle.as_graph.specs.declared.neighbour.Neighbour.{Neighbour}
 use Rattle.as_graph.specs.declared.row.Row.{Row}
 use Rattle.as_graph.specs.Topology.{Topology}
 use Rattle.as_graph.specs.Rows.{rel_in}
+use Rattle.as_graph.specs.declared.build.TheConstants.{MOST_ASES}
+use Rattle.net_names.specs.declared.links.TheConstants.{MOST_LINKS}
 
 -- the rows by the numbers of their ASes
 abbrev pub Rows : Type 0
@@ -77,9 +79,9 @@ pub record IsKept (m : Rows) (order : List ℕ) (count : ℕ) : Type 0 where
   pub graph : IsGraph m
   pub listed : (a : ℕ) → occurs a order ≡ is_there m a
   pub rising : IsStrictlyIncreasing order
-  pub few_ases : length order ≤ 150000
+  pub few_ases : length order ≤ MOST_ASES
   pub counted : map.len (links_of m) ≡ count
-  pub few_links : count ≤ 1500000
+  pub few_links : count ≤ MOST_LINKS
 
 -- the rows have these links and no mark, and each has a neighbour
 pub record IsBuilt (m : Rows) (entries : List ((ℕ × ℕ) × Rel)) : Type 0 where

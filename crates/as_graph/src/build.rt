@@ -29,7 +29,7 @@ fn gather(alloc: Global, higher: &[End], lower: &[End]) -> Result<IndexMap<Asn, 
     requires lower_by_as { AreByAs lower.now }
     requires rising { (a : ℕ) → IsRising (ends_at a higher.now ++ ends_at a lower.now) }
     ensures gathered { IfOk result (λ m. AreGathered m higher.now lower.now) }
-    ensures few { IfOk result (λ m. index_map_len m ≤ 150000) }
+    ensures few { IfOk result (λ m. index_map_len m ≤ MOST_ASES) }
     ensures refused { IfErr result (IsGatherRefusal higher.now lower.now) }
 {
     let mut rows = IndexMap::new(alloc);
@@ -50,7 +50,7 @@ fn gather(alloc: Global, higher: &[End], lower: &[End]) -> Result<IndexMap<Asn, 
 /// The rows that these links make, in rising order of their ASes.
 pub fn rows_of(alloc: Global, links: &Links) -> Result<IndexMap<Asn, Row>, GraphError>
     ensures built { IfOk result (λ m. IsBuilt m (map.entries links.now)) }
-    ensures few { IfOk result (λ m. index_map_len m ≤ 150000) }
+    ensures few { IfOk result (λ m. index_map_len m ≤ MOST_ASES) }
     ensures refused { IfErr result (IsBuildRefusal links.now) }
 {
     let lower = lower_side(alloc, links)?;

@@ -1,5 +1,6 @@
 //! Finds numbers in a rising list. What is found is a hint.
 ghost use Rattle.std.specs.Prelude.{◌≤◌, length};
+ghost use Rattle.as_graph.specs.declared.build.TheConstants.{MOST_ASES};
 
 use net_names::Asn;
 use std::alloc::{AllocError, Global};
@@ -52,7 +53,7 @@ fn put(groups: &mut [Group], asn: Asn, place: u32) {
 
 // Puts the low numbers into their groups, and tells how many they are.
 fn put_low(groups: &mut [Group], numbers: &[Asn]) -> usize
-    requires { length numbers.now ≤ 150000 }
+    requires { length numbers.now ≤ MOST_ASES }
     ensures { result ≤ length numbers.now }
 {
     for (place, asn) in numbers.iter().enumerate() {
@@ -67,7 +68,7 @@ fn put_low(groups: &mut [Group], numbers: &[Asn]) -> usize
 impl<'a> Finder<'a> {
     /// A finder in a list that rises.
     pub fn new(alloc: Global, numbers: &'a [Asn]) -> Result<Finder<'a>, AllocError>
-        requires { length numbers.now ≤ 150000 }
+        requires { length numbers.now ≤ MOST_ASES }
     {
         let empty = Group {
             numbers: 0,

@@ -8,6 +8,8 @@ ghost use Rattle.net_names.specs.Numbers.{occurs};
 ghost use Rattle.as_graph.specs.Neighbours.{AreNeighbours};
 ghost use Rattle.as_graph.specs.Topology.{what, has, as_count, unmarked};
 ghost use Rattle.as_graph.specs.Following.{IsAbove, IsNext};
+ghost use Rattle.as_graph.specs.declared.build.TheConstants.{MOST_ASES};
+ghost use Rattle.net_names.specs.declared.links.TheConstants.{MOST_LINKS};
 
 use crate::build::{order_of, rows_of};
 use crate::error::GraphError;
@@ -59,7 +61,7 @@ impl Graph {
     /// than 150,000, unless there is not enough memory.
     pub fn build(alloc: Global, links: &Links) -> Result<Graph, GraphError>
         ensures ok { IfOk result (λ g. g ≡ unmarked links.now) }
-        ensures few { OnOk result (as_count (unmarked links.now) ≤ 150000) }
+        ensures few { OnOk result (as_count (unmarked links.now) ≤ MOST_ASES) }
         ensures refused { IfErr result (IsBuildRefusal links.now) }
     {
         let rows = rows_of(alloc, links)?;
@@ -165,7 +167,7 @@ impl Graph {
     /// How many ASes the graph has, at most 150,000.
     pub fn as_count(&self) -> usize
         ensures value { result ≡ as_count self.now }
-        ensures few { result ≤ 150000 }
+        ensures few { result ≤ MOST_ASES }
     {
         self.order.len()
     }
@@ -173,7 +175,7 @@ impl Graph {
     /// How many links the graph has, at most 1,500,000.
     pub fn link_count(&self) -> usize
         ensures value { result ≡ map.len self.now.links }
-        ensures few { result ≤ 1500000 }
+        ensures few { result ≤ MOST_LINKS }
     {
         self.links
     }

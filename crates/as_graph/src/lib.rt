@@ -18,6 +18,7 @@ mod places;
 mod row;
 mod writes;
 
+pub use build::MOST_ASES;
 pub use error::{Absent, GraphError};
 pub use graph::Graph;
 pub use laws::{

@@ -3,6 +3,7 @@
 //! differ.
 ghost use Rattle.std.specs.Prelude.{◌≤◌};
 ghost use Rattle.indexmap.specs.IndexMap.{index_map_len};
+ghost use Rattle.as_graph.specs.declared.build.TheConstants.{MOST_ASES};
 
 use crate::finder::Finder;
 use crate::neighbour::Neighbour;
@@ -206,7 +207,7 @@ fn put_row(
 
 /// The places of the neighbours of all rows, which stand in rising order of their ASes.
 pub fn places_of(alloc: Global, rows: &IndexMap<Asn, Row>) -> Result<Places, AllocError>
-    requires { index_map_len rows.now ≤ 150000 }
+    requires { index_map_len rows.now ≤ MOST_ASES }
 {
     let finder = Finder::new(alloc, rows.keys().as_slice())?;
     let spans = spans_of(alloc, rows)?;

@@ -28,6 +28,7 @@ use Rattle.asprop.specs.declared.types.Cause.{Cause}
 use Rattle.asprop.specs.declared.types.Cause.TheVariants as cause
 use Rattle.asprop.specs.declared.types.Fault.{Fault}
 use Rattle.asprop.specs.declared.types.Fault.TheVariants as fault
+use Rattle.as_graph.specs.declared.build.TheConstants.{MOST_ASES}
 
 -- a world, the lines that are answered in it one after the other, whether each answer has a head line, and whether the numbers of ASes and links come first
 pub record Task : Type 0 where
@@ -92,4 +93,4 @@ asked (Some (script_form rel vrps scenario script)) reads = do
 abbrev pub task_of : Option Form → Reads → Result Task Fault
 task_of form reads = do
   task ← asked form reads
-  if nat_lt 150000 (as_count (topology task.world)) then Err fault.TooManyAses else Ok task
+  if nat_lt MOST_ASES (as_count (topology task.world)) then Err fault.TooManyAses else Ok task

@@ -12,6 +12,7 @@ use Rattle.caida_reader.specs.declared.firsts.First.{First}
 use Rattle.caida_reader.specs.contracts.firsts.First as first
 use Rattle.caida_reader.specs.declared.errors.RelError.{RelError}
 use Rattle.caida_reader.specs.declared.errors.RelError.TheVariants as fault
+use Rattle.net_names.specs.declared.links.TheConstants.{MOST_LINKS}
 
 -- How such a map is stored as a value.
 abbrev pub first_map_code : Coded FirstMap
@@ -48,4 +49,4 @@ relations pairs = fin.from_entries (map link_at (fin.entries pairs))
 pub record ArePairs (pairs : FirstMap) (count : ℕ) : Type 0 where
   pub lower : (pair : ℕ × ℕ) → IsSome (fin.get pairs pair) → pair.0 < pair.1
   pub counted : count ≡ fin.len pairs
-  pub few : count ≤ 1500000
+  pub few : count ≤ MOST_LINKS

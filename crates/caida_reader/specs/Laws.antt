@@ -9,13 +9,14 @@ use Rattle.caida_reader.specs.declared.line.Said.{Said}
 use Rattle.caida_reader.specs.declared.line.Said.TheVariants.{Unreadable, Itself, Link}
 use Rattle.caida_reader.specs.declared.errors.RelError.{RelError}
 use Rattle.caida_reader.specs.declared.errors.RelError.TheVariants as fault
+use Rattle.net_names.specs.declared.links.TheConstants.{MOST_LINKS}
 
 -- Lines that have links: each that isn't skipped has the form, each link joins two ASes, no two lines give one pair two relations, and 1,500,000 pairs are given at most.
 pub record HasLinks (said : List Said) : Type 0 where
   pub readable : All (λ line. line ≢ Unreadable) said
   pub apart : All (λ line. line ≢ Itself) said
   pub agree : (lo hi : ℕ) (rel other : Rel) → Contains said (Link lo hi rel) → Contains said (Link lo hi other) → rel ≡ other
-  pub few : fin.len (links_in said) ≤ 1500000
+  pub few : fin.len (links_in said) ≤ MOST_LINKS
 
 -- A file is accepted exactly where its lines have links.
 abbrev pub AcceptedExactly : Type 0
@@ -74,7 +75,7 @@ pub record IsOneTooMany (said : List Said) (line : ℕ) : Type 0 where
   pub rel : Rel
   pub here : SaysAt said line (Link lo hi rel)
   pub new : NoneBefore said line lo hi
-  pub full : fin.len (links_in (take (line - 1) said)) ≡ 1500000
+  pub full : fin.len (links_in (take (line - 1) said)) ≡ MOST_LINKS
 
 -- What a fault says of the lines.
 abbrev pub IsCause : List Said → RelError → Type 0

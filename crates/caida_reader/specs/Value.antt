@@ -13,6 +13,7 @@ use Rattle.caida_reader.specs.declared.line.Said.TheVariants.{Nothing, Unreadabl
 use Rattle.caida_reader.specs.declared.firsts.First.{First}
 use Rattle.caida_reader.specs.declared.errors.RelError.{RelError}
 use Rattle.caida_reader.specs.declared.errors.RelError.TheVariants as fault
+use Rattle.net_names.specs.declared.links.TheConstants.{MOST_LINKS}
 
 -- What each line of a file says. The lines are the bytes between line feeds. What stands after the last line feed is a line too; where nothing stands there, that line is empty, and so it is skipped.
 abbrev pub said_in : List ℕ → List Said
@@ -34,7 +35,7 @@ FirstMap = fin.FinMap pair_cmp First
 
 -- The fault of a link: its pair stands with another relation (`sameb` says whether two are the same), or it is new and 1,500,000 pairs stand.
 abbrev pub link_fault : ℕ → Rel → ℕ → Option First → Option RelError
-link_fault line rel pairs None = if nat_lt pairs 1500000 then None else Some (fault.TooManyLinks line)
+link_fault line rel pairs None = if nat_lt pairs MOST_LINKS then None else Some (fault.TooManyLinks line)
 link_fault line rel pairs (Some first) = if sameb the_type first.rel rel then None else Some (fault.Conflict line first.line)
 
 -- The fault of a line of this number, where the lines before it give these pairs.

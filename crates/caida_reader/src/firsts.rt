@@ -12,12 +12,9 @@ use crate::RelError;
 use crate::line::Said;
 use crate::others::Others;
 use crate::runs::Runs;
-use net_names::{Asn, Link, Links, NoMemory, Rel};
+use net_names::{Asn, Link, Links, MOST_LINKS, NoMemory, Rel};
 use std::alloc::Global;
 use std::marker::Model;
-
-/// The most pairs of a file.
-const MOST_PAIRS: usize = 1_500_000;
 
 /// What the first line of a pair says, and its number.
 #[derive(Clone, Copy, Debug, PartialEq, Eq)]
@@ -92,7 +89,7 @@ impl Firsts {
     // The first line of the pair: the one that stands, or else this one, which stands from now on.
     fn first(&mut self, lo: Asn, hi: Asn, given: First) -> Result<First, NoMemory>
         requires lower { lo < hi }
-        requires room { fin.len self.old < 1500000 }
+        requires room { fin.len self.old < MOST_LINKS }
         ensures value { IfOk result (λ first. first ≡ unwrap_or (fin.get self.old (lo, hi)) given) }
         ensures after { OnOk result (self.new ≡ with_first self.old (lo, hi) given) }
     {
@@ -132,7 +129,7 @@ impl Firsts {
 
     // Judges a link where no further pair may stand.
     fn judge_full(&self, lo: Asn, hi: Asn, given: First) -> Result<(), RelError>
-        requires { fin.len self.now ≡ 1500000 }
+        requires { fin.len self.now ≡ MOST_LINKS }
         ensures { Judges self.now self.now given.line (Said.Link lo hi given.rel) result }
     {
         match self.get(lo, hi) {
@@ -146,7 +143,7 @@ impl Firsts {
         requires { lo < hi }
         ensures { Judges self.old self.new given.line (Said.Link lo hi given.rel) result }
     {
-        if self.count == MOST_PAIRS {
+        if self.count == MOST_LINKS {
             return self.judge_full(lo, hi, given);
         }
         match self.first(lo, hi, given) {

@@ -5,6 +5,7 @@ ghost use Rattle.as_graph.specs.Topology.{what};
 ghost use Rattle.cycle_check.specs.Rows.{AreRows};
 ghost use Rattle.cycle_check.specs.Places.{place_in};
 ghost use Rattle.cycle_check.specs.Providers.{AreAses, AreFilled, AreProviderRows, IsRowPut, provider_places, put_provider};
+ghost use Rattle.as_graph.specs.declared.build.TheConstants.{MOST_ASES};
 
 use crate::placing::place_near;
 use crate::telling::{push, zeros};
@@ -49,7 +50,7 @@ fn put(
     items: &mut Vec<u32>,
 ) -> Result<(), NoMemory>
     requires rising { IsStrictlyIncreasing ases.now }
-    requires few { length ases.now ≤ 150000 }
+    requires few { length ases.now ≤ MOST_ASES }
     ensures { OnOk result (items.new.items ≡ items.old.items ++ put_provider neighbour.rel (place_in ases.now neighbour.asn) []) }
 {
     match neighbour.rel {
@@ -67,7 +68,7 @@ fn put_all(
     items: &mut Vec<u32>,
 ) -> Result<(), NoMemory>
     requires rising { IsStrictlyIncreasing ases.now }
-    requires few { length ases.now ≤ 150000 }
+    requires few { length ases.now ≤ MOST_ASES }
     ensures { OnOk result (items.new.items ≡ items.old.items ++ provider_places ases.now neighbours.now) }
 {
     for (at, neighbour) in neighbours.iter().enumerate() {
@@ -85,7 +86,7 @@ fn put_row(
     items: &mut Vec<u32>,
 ) -> Result<(), NoMemory>
     requires ases { AreAses graph.now ases.now }
-    requires few { length ases.now ≤ 150000 }
+    requires few { length ases.now ≤ MOST_ASES }
     requires place { place < length ases.now }
     ensures { OnOk result (IsRowPut (what graph.now) ases.now place items.old.items items.new.items) }
 {
@@ -111,7 +112,7 @@ fn put_end(starts: &mut Vec<u32>, end: usize) -> Result<(), NoMemory>
 // The lists of the first ASes, one after the other.
 fn filled(alloc: Global, graph: &Graph, ases: &[Asn]) -> Result<ProviderRows, NoMemory>
     requires ases { AreAses graph.now ases.now }
-    requires few { length ases.now ≤ 150000 }
+    requires few { length ases.now ≤ MOST_ASES }
     ensures { IfOk result (λ r. AreFilled (what graph.now) ases.now r.starts.items r.items.items (length ases.now)) }
 {
     let near = places_of_rows(alloc, graph, ases)?;
@@ -128,7 +129,7 @@ fn filled(alloc: Global, graph: &Graph, ases: &[Asn]) -> Result<ProviderRows, No
 /// The places of the providers of each AS, in the order of the ASes.
 pub fn provider_rows(alloc: Global, graph: &Graph, ases: &[Asn]) -> Result<ProviderRows, NoMemory>
     requires ases { AreAses graph.now ases.now }
-    requires few { length ases.now ≤ 150000 }
+    requires few { length ases.now ≤ MOST_ASES }
     ensures rows { IfOk result (λ r. AreRows r.starts.items r.items.items) }
     ensures providers { IfOk result (λ r. AreProviderRows (what graph.now) ases.now r.starts.items r.items.items) }
 {

@@ -8,6 +8,7 @@ ghost use Rattle.stability_laws.specs.Book.{policy_at};
 ghost use Rattle.data_trace.specs.Hops.{next_hop as next_hop_of};
 ghost use Rattle.data_trace.specs.Columns.{named, name_at, is_customer, is_here as is_here_standing, is_stub as is_stub_standing, AreHops, AreGroups, IsGroup, IsAmong};
 ghost use Rattle.data_trace.specs.declared.places.PlaceHop.TheVariants as APlaceHop;
+ghost use Rattle.as_graph.specs.declared.build.TheConstants.{MOST_ASES};
 
 use crate::Hop;
 use crate::forwarding::Forwarding;
@@ -26,7 +27,7 @@ use std::alloc::Global;
 /// The ASes of the graph, each at its place.
 pub fn ases_of(alloc: Global, graph: &Graph) -> Result<AsPlaces, NoMemory>
     ensures listed { IfOk result (λ p. (a : ℕ) → occurs a p.ases ≡ has graph.now a) }
-    ensures few { IfOk result (λ p. length p.ases ≤ 150000) }
+    ensures few { IfOk result (λ p. length p.ases ≤ MOST_ASES) }
     ensures apart { IfOk result (λ p. IsDistinct nat_eq p.ases) }
 {
     let _count = graph.as_count();
@@ -58,7 +59,7 @@ fn hops_of(
     hints: &Hints,
 ) -> Result<Vec<PackedHop>, NoMemory>
     requires among { (a : ℕ) → IsAmong ases.now.ases (next_hop_of forwarding.now.plan.now (round_routing forwarding.now.pool.now forwarding.now.tables.now) forwarding.now.addr a) }
-    requires few { length ases.now.ases ≤ 150000 }
+    requires few { length ases.now.ases ≤ MOST_ASES }
     ensures { IfOk result (λ v. AreHops (next_hop_of forwarding.now.plan.now (round_routing forwarding.now.pool.now forwarding.now.tables.now) forwarding.now.addr) ases.now.ases v.items) }
 {
     let numbers = ases.as_slice();
@@ -89,7 +90,7 @@ pub fn next_hops(
 ) -> Result<Vec<PackedHop>, NoMemory>
     requires live { AreAllLive pool.now tables.now }
     requires among { (a : ℕ) → IsAmong ases.now.ases (next_hop_of plan.now (round_routing pool.now tables.now) addr a) }
-    requires few { length ases.now.ases ≤ 150000 }
+    requires few { length ases.now.ases ≤ MOST_ASES }
     ensures { IfOk result (λ v. AreHops (next_hop_of plan.now (round_routing pool.now tables.now) addr) ases.now.ases v.items) }
 {
     let forwarding = Forwarding::new(alloc, tables, pool, plan, addr)?;

@@ -1,5 +1,6 @@
 //! Where numbers stand in a list. What is found is a hint.
 ghost use Rattle.std.specs.Prelude.{◌≤◌, length};
+ghost use Rattle.as_graph.specs.declared.build.TheConstants.{MOST_ASES};
 
 use crate::Hop;
 use net_names::Asn;
@@ -51,7 +52,7 @@ fn last_of(numbers: &[Asn]) -> u32 {
 
 // How many slots these numbers need: none are needed where all are low.
 fn slot_count(numbers: &[Asn]) -> usize
-    requires { length numbers.now ≤ 150000 }
+    requires { length numbers.now ≤ MOST_ASES }
     ensures { result ≤ 2097152 }
 {
     if last_of(numbers) < GROUPED {
@@ -84,7 +85,7 @@ impl Group {
 impl Hints {
     /// The places of these numbers, which rise.
     pub fn of(alloc: Global, numbers: &[Asn]) -> Result<Hints, AllocError>
-        requires { length numbers.now ≤ 150000 }
+        requires { length numbers.now ≤ MOST_ASES }
     {
         let none = Group {
             numbers: 0,

@@ -2,6 +2,7 @@
 ghost use Rattle.std.specs.Prelude.{◌≡◌, ℕ, ◌<◌, ◌≤◌, true, length, IfOk};
 ghost use Rattle.stability_laws.specs.Book.{policy_at};
 ghost use Rattle.data_trace.specs.Columns.{here_at};
+ghost use Rattle.as_graph.specs.declared.build.TheConstants.{MOST_ASES};
 
 use crate::columns::{ases_of, groups_of};
 use crate::hints::Hints;
@@ -21,7 +22,7 @@ pub struct WatchIndex {
     pub(crate) ases: AsPlaces,
     pub(crate) hints: Hints,
     pub(crate) groups: Vec<Group>,
-    ghost few: { length ases.ases ≤ 150000 },
+    ghost few: { length ases.ases ≤ MOST_ASES },
     ghost groups_len: { length groups.items ≡ length ases.ases },
     ghost here: { (x : ℕ) → x < length ases.ases → here_at groups.items x ≡ true },
 }

@@ -18,6 +18,7 @@ ghost use Rattle.dirty_recompute.specs.NewRanks.{rank_of};
 ghost use Rattle.dirty_recompute.specs.Queues.{waits, HasRanks};
 ghost use Rattle.dirty_recompute.specs.Resources.{has_change, FewNewCells, IsKept, IsUndone, SameTable};
 ghost use Rattle.dirty_recompute.specs.Work.{HasGoneDown, CanGoOn};
+ghost use Rattle.as_graph.specs.declared.build.TheConstants.{MOST_ASES};
 
 use crate::new_ranks::NewRanks;
 use crate::queue::Queue;
@@ -70,7 +71,7 @@ fn go_up<P: RoutePolicy, V: OriginStates, L: Ledger>(
     steps: &mut Steps<L>,
 ) -> Result<Queue, NoMemory>
     requires falls { (a b : ℕ) → what graph.now a b ≡ Some Customer → suc (rank_of ranks.now b) ≤ rank_of ranks.now a }
-    requires few { as_count graph.now ≤ 150000 }
+    requires few { as_count graph.now ≤ MOST_ASES }
     requires seeds { (b : ℕ) → has graph.now b ≡ false → seed_at seeds.now b ≡ None }
     requires fresh { (b : ℕ) → change_at overlay.old b ≡ None }
     requires entries { (b : ℕ) → has graph.now b ≡ false → occurs b touched.now ≡ false → held_at table.now b ≡ None }
@@ -114,7 +115,7 @@ fn go_down<P: RoutePolicy, V: OriginStates, L: Ledger>(
 ) -> Result<(), NoMemory>
     requires no_cycle { HasNoProviderCycle (what graph.now) }
     requires falls { (a b : ℕ) → what graph.now a b ≡ Some Customer → suc (rank_of ranks.now b) ≤ rank_of ranks.now a }
-    requires few { as_count graph.now ≤ 150000 }
+    requires few { as_count graph.now ≤ MOST_ASES }
     requires seeds { (b : ℕ) → has graph.now b ≡ false → seed_at seeds.now b ≡ None }
     requires work { (n : ℕ) × HasGoneDown (setting P.meaning graph.now book.now (V.state_of states.now (prefix_of table.now))) (rank_of ranks.now) touched.now pool.old seeds.now table.now overlay.old whole.old n 0 }
     requires can { (first : APool) × CanGoOn (has graph.now) first pool.old seeds.now table.now overlay.old }

@@ -2,6 +2,7 @@
 use Rattle.std.specs.Prelude.{◌≡◌, ℕ, ◌+◌, ◌*◌, ◌≤◌}
 use Rattle.path_pool.specs.declared.pool.PathPool.{PathPool}
 use Rattle.path_pool.specs.Pool.{IsLive, list_of, count_of, live_count, limit_of}
+use Rattle.as_graph.specs.declared.build.TheConstants.{MOST_ASES}
 
 -- each path that was live is live, with the same numbers
 pub record KeepsPaths (old new : PathPool) : Type 0 where
@@ -16,5 +17,5 @@ pub record GrowsBy (old new : PathPool) (n : ℕ) : Type 0 where
 
 -- the pool has room for so many more tables, each of at most 150,000 entries
 pub record HasRoomFor (pool : PathPool) (tables : ℕ) : Type 0 where
-  pub cells : live_count pool + 150000 * tables + 150000 ≤ limit_of pool
-  pub counts : (k : ℕ) → count_of pool k + 150000 * tables ≤ 4000000000
+  pub cells : live_count pool + MOST_ASES * tables + MOST_ASES ≤ limit_of pool
+  pub counts : (k : ℕ) → count_of pool k + MOST_ASES * tables ≤ 4000000000

@@ -19,6 +19,7 @@ use Rattle.route_choice.specs.Slots.{over}
 use Rattle.route_choice.specs.Tables.{held_at, joined, prefix_of, change_at, places_of, overlay_uses, table_uses, table_spare}
 use Rattle.leak_round.specs.declared.changes.Change.{Change}
 use Rattle.leak_round.specs.Tables.{tables_in, entry_uses, AreRoundsFull}
+use Rattle.as_graph.specs.declared.build.TheConstants.{MOST_ASES}
 
 -- the table of a prefix in a round
 abbrev pub table_in : List RoundTables → ℕ → PrefixValue → Option Table
@@ -107,7 +108,7 @@ pub record IsCommitted (old new : List RoundTables) (x : Change) : Type 0 where
 
 -- no more than 150,000 ASes hold something
 abbrev pub AreFew : (ℕ → Option Entry) → Type 0
-AreFew f = (ases : List ℕ) → AreApart ases → ((a : ℕ) → occurs a ases ≡ true → IsSome (f a)) → length ases ≤ 150000
+AreFew f = (ases : List ℕ) → AreApart ases → ((a : ℕ) → occurs a ases ≡ true → IsSome (f a)) → length ases ≤ MOST_ASES
 
 -- with the changes in place the tables of the plan's prefixes stand for these routings, and the pool has the holds of all entries, and others
 pub record IsLaid (plan : Plan) (routings : ℕ → PrefixValue → ℕ → Option Entry) (others : ℕ → ℕ) (pool : PathPool) (rounds : List RoundTables) (xs : List Change) : Type 0 where

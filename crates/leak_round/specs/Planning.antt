@@ -29,6 +29,7 @@ use Rattle.leak_round.specs.Entries.{StandsIn, AreApart}
 use Rattle.leak_round.specs.Growth.{KeepsPaths, GrowsBy}
 use Rattle.leak_round.specs.Overlays.{is_at, change_in, laid_in, held_of, table_in, changes_uses, changes_count, IsListed, AreChangesOf}
 use Rattle.leak_round.specs.Tables.{kept_in, entry_uses, AreRoundsFull}
+use Rattle.as_graph.specs.declared.build.TheConstants.{MOST_ASES}
 
 -- a table of the prefix can be planned: it is right where no AS of the list is, and entries and seeds stand where they may and are live
 pub record CanPlanTable (w : Setting) (g : Topology) (prefix : PrefixValue) (seeds : SeedIds) (ases : List ℕ) (pool : PathPool) (t : Table) : Type 0 where
@@ -48,7 +49,7 @@ pub record IsTablePlanned (w : Setting) (g : Topology) (seeds : SeedIds) (ases :
   pub listed : IsListed o
   pub holds : (k : ℕ) → holds_of pool' k ≡ holds_of pool k + overlay_uses o k
   pub keeps : KeepsPaths pool pool'
-  pub grows : GrowsBy pool pool' 150000
+  pub grows : GrowsBy pool pool' MOST_ASES
   pub cells : live_count pool' ≤ live_count pool + length (places_of o)
 
 -- one table has perhaps more room, and the others are as before
@@ -106,7 +107,7 @@ pub record ArePlanned (w : PrefixValue → Setting) (g : Topology) (touched : Pr
 pub record IsPaid (old new : PathPool) (xs ys : List Change) (tables : ℕ) : Type 0 where
   pub keeps : KeepsPaths old new
   pub holds : (k : ℕ) → holds_of new k + changes_uses xs k ≡ holds_of old k + changes_uses ys k
-  pub grows : GrowsBy old new (150000 * tables)
+  pub grows : GrowsBy old new (MOST_ASES * tables)
   pub cells : live_count new + changes_count xs ≤ live_count old + changes_count ys
 
 -- the pool has the holds of the new changes, and what is live still keeps its path

@@ -10,6 +10,7 @@ use Rattle.stability_laws.specs.Plans.{Plan, has_prefix, prefixes_of}
 use Rattle.stability_laws.specs.Rounds.{seeds_of}
 use Rattle.route_choice.specs.declared.round_tables.RoundTables.{RoundTables}
 use Rattle.route_choice.specs.RoundTables.{table_at, tables_uses, uses_at, round_routing, AreAllLive, AreByPrefix}
+use Rattle.as_graph.specs.declared.build.TheConstants.{MOST_ASES}
 
 -- the tables of a round, where round 1 is the first of the list
 abbrev pub tables_in : List RoundTables → ℕ → Option RoundTables
@@ -27,7 +28,7 @@ entry_uses rounds k = sum_by (λ tables. tables_uses tables k) rounds
 -- the uses of the tables of all prefixes of the plan are all uses, and no table has more than 150,000 entries with one path
 pub record AreOfSize (plan : Plan) (tables : RoundTables) : Type 0 where
   pub sums : (k : ℕ) → tables_uses tables k ≡ sum_by (λ prefix. uses_at tables prefix k) (prefixes_of plan)
-  pub small : (prefix : PrefixValue) (k : ℕ) → uses_at tables prefix k ≤ 150000
+  pub small : (prefix : PrefixValue) (k : ℕ) → uses_at tables prefix k ≤ MOST_ASES
 
 -- there is a table for just the prefixes of the plan, each at its own, and the paths of all entries are live
 pub record AreFull (pool : PathPool) (plan : Plan) (tables : RoundTables) : Type 0 where

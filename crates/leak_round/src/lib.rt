@@ -23,5 +23,5 @@ mod touched;
 mod whole_plans;
 
 pub use plans::{RoundsDone, RoundsPlan};
-pub use rounds::Rounds;
+pub use rounds::{MOST_CELLS, Rounds};
 pub use touched::Touched;

@@ -18,6 +18,7 @@ ghost use Rattle.leak_round.specs.Announced.{AreAnnounced};
 ghost use Rattle.leak_round.specs.Entries.{HasEntries, of_round};
 ghost use Rattle.leak_round.specs.Growth.{KeepsPaths, GrowsBy, HasRoomFor};
 ghost use Rattle.leak_round.specs.Tables.{kept_in, AreFull, AreRoundsFull, IsRound};
+ghost use Rattle.as_graph.specs.declared.build.TheConstants.{MOST_ASES};
 
 use crate::announced::Announced;
 use crate::round_seeds::seeds_with;
@@ -62,9 +63,9 @@ fn make_table<P: RoutePolicy, V: OriginStates, L: Ledger>(
     ensures holds { IfOk result (λ t. (k : ℕ) → holds_of pool.new k ≡ holds_of pool.old k + table_uses t k) }
     ensures cells { IfOk result (λ t. HasEntries (table_routing pool.new t) (live_count pool.new - live_count pool.old)) }
     ensures keeps { OnOk result (KeepsPaths pool.old pool.new) }
-    ensures grows { OnOk result (GrowsBy pool.old pool.new 150000) }
+    ensures grows { OnOk result (GrowsBy pool.old pool.new MOST_ASES) }
     ensures scratch { OnOk result (IsScratch course.now scratch.new) }
-    ensures small { IfOk result (λ t. (k : ℕ) → table_uses t k ≤ 150000) }
+    ensures small { IfOk result (λ t. (k : ℕ) → table_uses t k ≤ MOST_ASES) }
 {
     let _count = graph.as_count();
     let seeds = seeds_with(alloc, plan, announced, earlier, &[], round, prefix)?;
@@ -108,7 +109,7 @@ pub fn make_round<P: RoutePolicy, V: OriginStates, L: Ledger>(
     ensures holds { IfOk result (λ t. (k : ℕ) → holds_of pool.new k ≡ holds_of pool.old k + tables_uses t k) }
     ensures cells { IfOk result (λ t. HasEntries (of_round (round_routing pool.new t)) (live_count pool.new - live_count pool.old)) }
     ensures keeps { OnOk result (KeepsPaths pool.old pool.new) }
-    ensures grows { OnOk result (GrowsBy pool.old pool.new (150000 * length (prefixes_of plan.now))) }
+    ensures grows { OnOk result (GrowsBy pool.old pool.new (MOST_ASES * length (prefixes_of plan.now))) }
     ensures scratch { OnOk result (IsScratch course.now scratch.new) }
 {
     let mut tables = RoundTables::new(alloc);

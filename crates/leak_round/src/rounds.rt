@@ -19,6 +19,7 @@ ghost use Rattle.leak_round.specs.Entries.{HasEntries, of_rounds};
 ghost use Rattle.leak_round.specs.Growth.{GrowsBy, KeepsPaths, HasRoomFor};
 ghost use Rattle.leak_round.specs.OwnSeeds.{AreOwnSeeds};
 ghost use Rattle.leak_round.specs.Tables.{kept_in, entry_uses, AreRoundsFull};
+ghost use Rattle.as_graph.specs.declared.build.TheConstants.{MOST_ASES};
 
 mod commits;
 mod planning;
@@ -39,6 +40,9 @@ use three_pass::Course;
 
 // The most cells of a pool. The entries of four rounds of 32 prefixes and the announced paths have fewer.
 const MAX_CELLS: usize = 40_000_000;
+
+/// How many cells of a pool are live at most where an edit begins.
+pub const MOST_CELLS: usize = 20_000_000;
 
 /// The tables of all rounds of a plan of seeds, with the pool of their paths. It owns one hold of each
 /// announced path.
@@ -89,7 +93,7 @@ fn make_rounds<P: RoutePolicy, V: OriginStates, L: Ledger>(
     ensures holds { IfOk result (λ v. (k : ℕ) → holds_of pool.new k ≡ holds_of pool.old k + entry_uses v.items k) }
     ensures cells { IfOk result (λ v. HasEntries (of_rounds (kept_in pool.new v.items)) (live_count pool.new - live_count pool.old)) }
     ensures keeps { OnOk result (KeepsPaths pool.old pool.new) }
-    ensures grows { OnOk result (GrowsBy pool.old pool.new (150000 * (rounds * length (prefixes_of plan.now)))) }
+    ensures grows { OnOk result (GrowsBy pool.old pool.new (MOST_ASES * (rounds * length (prefixes_of plan.now)))) }
 {
     let mut tables = Vec::new(alloc);
     for past in 0..rounds {
@@ -148,7 +152,7 @@ impl Rounds {
         ensures stable { IfOk result (λ r. AreRounds (λ p. setting P.meaning graph.now book.now (V.state_of states.now p)) plan rounds (kept r)) }
         ensures only { IfOk result (λ r. (other : ℕ → PrefixValue → ℕ → Option AnEntry) → AreRounds (λ p. setting P.meaning graph.now book.now (V.state_of states.now p)) plan rounds other → (before : ℕ) (prefix : PrefixValue) → before < rounds → IsTrue (has_prefix plan prefix) → (a : ℕ) → other (suc before) prefix a ≡ kept r (suc before) prefix a) }
         ensures cells { IfOk result (λ r. HasEntries (of_rounds (kept r)) (live_count (pool_of r) - numbers_of plan)) }
-        ensures few { IfOk result (λ r. live_count (pool_of r) ≤ 20000000) }
+        ensures few { IfOk result (λ r. live_count (pool_of r) ≤ MOST_CELLS) }
     {
         one_family::<P>();
         let mut pool = PathPool::new(alloc, MAX_CELLS);

@@ -5,6 +5,7 @@ use Rattle.std.specs.FinMap as fin
 use Rattle.net_names.specs.declared.routes.Rel.{Rel}
 use Rattle.net_names.specs.declared.links.Link.{Link}
 use Rattle.net_names.specs.Links.{pair_cmp, LinkMap}
+use Rattle.net_names.specs.declared.links.TheConstants.{MOST_LINKS}
 
 -- the entry that the link makes: at the pair of its ends, what the higher is to the lower
 abbrev pub entry_of : Link → (ℕ × ℕ) × Rel
@@ -18,4 +19,4 @@ map_of links = fin.from_sorted (map entry_of links)
 pub record AreLinks (links : List Link) : Type 0 where
   pub rising : T (fin.is_sorted pair_cmp (map entry_of links))
   pub lower : list_all (λ l. nat_lt l.lo l.hi) links ≡ true
-  pub few : length links ≤ 1500000
+  pub few : length links ≤ MOST_LINKS

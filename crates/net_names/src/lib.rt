@@ -20,7 +20,7 @@ mod writing;
 
 pub use addresses::{Addr, Family};
 pub use coverage::{covers, holds};
-pub use links::{Link, Links, LinksError};
+pub use links::{Link, Links, LinksError, MOST_LINKS};
 pub use numbers::{Asn, NoMemory, Path};
 pub use payloads::Vrp;
 pub use prefixes::Prefix;

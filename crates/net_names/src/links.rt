@@ -32,7 +32,8 @@ pub enum LinksError {
     TooMany,
 }
 
-const MOST_LINKS: usize = 1_500_000;
+/// How many links there are at most.
+pub const MOST_LINKS: usize = 1_500_000;
 
 /// Links between ASes, at most 1,500,000 and one for each pair. Contracts see the finite map that has
 /// at the pair of a lower and a higher AS what the higher one is to the lower one.
@@ -134,7 +135,7 @@ impl Links {
     pub fn set(&mut self, a: Asn, b: Asn, rel: Rel) -> Result<(), LinksError>
         requires { a ≢ b }
         ensures ok { OnOk result (self.new ≡ with_relation self.old a b rel) }
-        ensures too_many { (result ≡ Err LinksError.TooMany) ↔ ((between self.old a b ≡ None) × (map.len self.old ≡ 1500000)) }
+        ensures too_many { (result ≡ Err LinksError.TooMany) ↔ ((between self.old a b ≡ None) × (map.len self.old ≡ MOST_LINKS)) }
         ensures err { OnErr result (self.new ≡ self.old) }
     {
         if a < b {
@@ -147,7 +148,7 @@ impl Links {
     fn put(&mut self, lo: Asn, hi: Asn, rel: Rel) -> Result<(), LinksError>
         requires { lo < hi }
         ensures ok { OnOk result (self.new ≡ map.insert self.old (lo, hi) rel) }
-        ensures too_many { (result ≡ Err LinksError.TooMany) ↔ ((map.get self.old (lo, hi) ≡ None) × (map.len self.old ≡ 1500000)) }
+        ensures too_many { (result ≡ Err LinksError.TooMany) ↔ ((map.get self.old (lo, hi) ≡ None) × (map.len self.old ≡ MOST_LINKS)) }
         ensures err { OnErr result (self.new ≡ self.old) }
     {
         match place_of(self.items.as_slice(), lo, hi) {
@@ -196,7 +197,7 @@ impl Links {
     /// How many links there are, at most 1,500,000.
     pub fn len(&self) -> usize
         ensures value { result ≡ map.len self.now }
-        ensures few { result ≤ 1500000 }
+        ensures few { result ≤ MOST_LINKS }
     {
         self.items.len()
     }

@@ -12,6 +12,7 @@ use Rattle.roa_table.specs.declared.record.Wrong.{Wrong}
 use Rattle.roa_table.specs.declared.record.Wrong.TheVariants as wrong
 use Rattle.roa_table.specs.declared.errors.VrpError.{VrpError}
 use Rattle.roa_table.specs.declared.errors.VrpError.TheVariants as fault
+use Rattle.roa_table.specs.declared.table.TheConstants.{MOST_PAYLOADS}
 
 -- a record is the list of its fields
 abbrev pub Row : Type 0
@@ -35,7 +36,7 @@ fault_in n wrong.Max = fault.BadMax n
 -- the fault of a row of this number, where these payloads stand: it gives none, or one that is new while 2,000,000 stand
 abbrev pub fault_at : Payloads → ℕ → Result VrpValue Wrong → Option VrpError
 fault_at before n (Err w) = Some (fault_in n w)
-fault_at before n (Ok v) = if fin.contains_key before v || nat_lt (fin.len before) 2000000 then None else Some (fault.TooMany n)
+fault_at before n (Ok v) = if fin.contains_key before v || nat_lt (fin.len before) MOST_PAYLOADS then None else Some (fault.TooMany n)
 
 -- the fault of a row behind others; rows are counted from the header on, which is the first
 abbrev pub fault_after : List Row → Row → Option VrpError

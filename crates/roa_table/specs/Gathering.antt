@@ -14,6 +14,7 @@ use Rattle.roa_table.specs.declared.errors.VrpError.{VrpError}
 use Rattle.roa_table.specs.declared.errors.VrpError.TheVariants as fault
 use Rattle.roa_table.specs.declared.gather.Stop.{Stop}
 use Rattle.roa_table.specs.declared.gather.Stop.TheVariants as stop
+use Rattle.roa_table.specs.declared.table.TheConstants.{MOST_PAYLOADS}
 
 -- each payload of the list is sound
 abbrev pub AllSound : List VrpValue → Type 0
@@ -32,25 +33,25 @@ Gathers (Err w) old new = ⊥
 -- why the payload of a record of this number has not been gathered: it has none, there are more than 2,000,000 already, or memory ran out
 abbrev pub StopsAt : ℕ → Result VrpValue Wrong → List VrpValue → List VrpValue → Stop → Type 0
 StopsAt row judged old new (stop.Fault e) = (w : Wrong) × (judged ≡ Err w) × (e ≡ fault_in row w) × (new ≡ old)
-StopsAt row judged old new stop.Crowded = 2000000 < count (set_of old)
+StopsAt row judged old new stop.Crowded = MOST_PAYLOADS < count (set_of old)
 StopsAt row judged old new stop.Memory = ⊤
 
 -- the payloads in rising order, where they are 2,000,000 at most
 pub record IsTidied (old new : List VrpValue) : Type 0 where
   pub rising : IsRising new
-  pub few : length new ≤ 2000000
+  pub few : length new ≤ MOST_PAYLOADS
   pub members : (q : VrpValue) → stands_in new q ≡ stands_in old q
 
 -- why gathered payloads are not answered: a fault came behind them, or they are too many
 abbrev pub EndsWith : Option VrpError → List VrpValue → Stop → Type 0
-EndsWith end old (stop.Fault e) = (end ≡ Some e) × (count (set_of old) ≤ 2000000)
-EndsWith end old stop.Crowded = 2000000 < count (set_of old)
+EndsWith end old (stop.Fault e) = (end ≡ Some e) × (count (set_of old) ≤ MOST_PAYLOADS)
+EndsWith end old stop.Crowded = MOST_PAYLOADS < count (set_of old)
 EndsWith end old stop.Memory = ⊥
 
 -- all payloads of a file, in rising order
 pub record AreAll (vs : List VrpValue) (value : Result Payloads VrpError) : Type 0 where
   pub rising : IsRising vs
-  pub few : length vs ≤ 2000000
+  pub few : length vs ≤ MOST_PAYLOADS
   pub sound : AllSound vs
   pub is : value ≡ Ok (set_of vs)
 

@@ -9,11 +9,12 @@ use Rattle.roa_table.specs.Records.{payload_of}
 use Rattle.roa_table.specs.Files.{Row, rows_of, given, fault_after, payloads_in}
 use Rattle.roa_table.specs.declared.errors.VrpError.{VrpError}
 use Rattle.roa_table.specs.declared.errors.VrpError.TheVariants as fault
+use Rattle.roa_table.specs.declared.table.TheConstants.{MOST_PAYLOADS}
 
 -- rows that have payloads: each gives one, and 2,000,000 different ones are given at most
 pub record HasPayloads (rows : List Row) : Type 0 where
   pub readable : All (λ row. IsOk (payload_of row)) rows
-  pub few : fin.len (set_of (given rows)) ≤ 2000000
+  pub few : fin.len (set_of (given rows)) ≤ MOST_PAYLOADS
 
 -- a file is accepted exactly where its rows have payloads
 abbrev pub AcceptedExactly : Type 0

@@ -7,6 +7,7 @@ use Rattle.net_names.specs.Payloads.{VrpValue}
 use Rattle.roa_table.specs.Sets.{IsSound}
 use Rattle.roa_table.specs.Lists.{IsRising, is_below, is_from, stands_in}
 use Rattle.roa_table.specs.declared.shelf.Shelf.{Shelf}
+use Rattle.roa_table.specs.declared.table.TheConstants.{MOST_PAYLOADS}
 
 -- the payloads of all shelves, in their order
 abbrev pub all_of : List Shelf → List VrpValue
@@ -35,4 +36,4 @@ pub record IsTable (ss : List Shelf) (n : ℕ) : Type 0 where
   pub order : IsInOrder ss
   pub sound : (v : VrpValue) → stands_in (all_of ss) v ≡ true → IsSound v
   pub counted : n ≡ length (all_of ss)
-  pub bound : n ≤ 2000000
+  pub bound : n ≤ MOST_PAYLOADS

@@ -9,7 +9,7 @@ ghost use Rattle.roa_table.specs.Gathering.{Admits, Faults};
 use crate::errors::VrpError;
 use crate::record::{fault, judge};
 use crate::rows::{open, step};
-use crate::table::LIMIT;
+use crate::table::MOST_PAYLOADS;
 use csv::ByteRecord;
 use net_names::Vrp;
 use std::alloc::Global;
@@ -27,7 +27,7 @@ fn admit(vrps: &mut BTreeSet<Vrp>, row: u64, fields: &ByteRecord) -> Result<(), 
         Ok(vrp) => {
             let count = vrps.len();
             let known = vrps.contains(&vrp);
-            if !known && count >= LIMIT {
+            if !known && count >= MOST_PAYLOADS {
                 return Err(VrpError::TooMany { row });
             }
             match vrps.insert(vrp) {

@@ -10,13 +10,13 @@ ghost use Rattle.roa_table.specs.Gathering.{Gathers, StopsAt, IsTidied, EndsWith
 use crate::errors::VrpError;
 use crate::record::{fault, judge};
 use crate::rows::{open, step};
-use crate::table::LIMIT;
+use crate::table::MOST_PAYLOADS;
 use csv::ByteRecord;
 use net_names::Vrp;
 use std::alloc::Global;
 
 /// Where so many payloads are gathered, they are sorted, and those that stand twice are dropped.
-const MANY: usize = 2 * LIMIT;
+const MANY: usize = 2 * MOST_PAYLOADS;
 
 /// Why a file's payloads are not answered.
 #[derive(Clone, Copy, Debug, PartialEq, Eq)]
@@ -51,7 +51,7 @@ fn gather_row(vrps: &mut Vec<Vrp>, row: u64, fields: &ByteRecord) -> Result<(), 
             let _ = vrp.max();
             if vrps.len() >= MANY {
                 tidy(vrps);
-                if vrps.len() > LIMIT {
+                if vrps.len() > MOST_PAYLOADS {
                     return Err(Stop::Crowded);
                 }
             }
@@ -69,7 +69,7 @@ fn finish(mut vrps: Vec<Vrp>, end: Option<VrpError>) -> Result<Vec<Vrp>, Stop>
     ensures err { IfErr result (EndsWith end vrps.items) }
 {
     tidy(&mut vrps);
-    if vrps.len() > LIMIT {
+    if vrps.len() > MOST_PAYLOADS {
         return Err(Stop::Crowded);
     }
     match end {

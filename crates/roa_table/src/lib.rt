@@ -23,4 +23,4 @@ pub use covering::Covering;
 pub use errors::{AddError, VrpError};
 pub use file::read;
 pub use laws::payloads_are_those_given;
-pub use table::Vrps;
+pub use table::{MOST_PAYLOADS, Vrps};

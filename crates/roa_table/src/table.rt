@@ -15,7 +15,7 @@ use std::alloc::{AllocError, Global};
 use std::marker::Model;
 
 /// How many payloads a set has at most.
-pub(crate) const LIMIT: usize = 2_000_000;
+pub const MOST_PAYLOADS: usize = 2_000_000;
 
 /// A finite set of payloads, of at most 2,000,000. Contracts see the set.
 ///
@@ -53,7 +53,7 @@ impl Vrps {
     /// The set of payloads that stand in rising order.
     pub(crate) fn from_sorted(alloc: Global, vrps: &[Vrp]) -> Result<Vrps, AllocError>
         requires rising { IsRising vrps.now }
-        requires few { length vrps.now ≤ 2000000 }
+        requires few { length vrps.now ≤ MOST_PAYLOADS }
         requires sound { AllSound vrps.now }
         ensures { IfOk result (λ s. s ≡ set_of vrps.now) }
     {
@@ -67,7 +67,7 @@ impl Vrps {
     /// How many payloads there are, at most 2,000,000.
     pub fn len(&self) -> usize
         ensures value { result ≡ count self.now }
-        ensures bound { result ≤ 2000000 }
+        ensures bound { result ≤ MOST_PAYLOADS }
     {
         self.count
     }
@@ -85,7 +85,7 @@ impl Vrps {
         ensures ok { OnOk result (self.new ≡ added self.old vrp) }
         ensures is_new { IfOk result (λ b. b ≡ not (has self.old vrp)) }
         ensures too_many { (result ≡ Err AddError.TooMany)
-            ↔ ((has self.old vrp ≡ false) × (count self.old ≡ 2000000)) }
+            ↔ ((has self.old vrp ≡ false) × (count self.old ≡ MOST_PAYLOADS)) }
         ensures err { OnErr result (self.new ≡ self.old) }
     {
         let _ = vrp.max();
@@ -94,7 +94,7 @@ impl Vrps {
         if known {
             return Ok(false);
         }
-        if count >= LIMIT {
+        if count >= MOST_PAYLOADS {
             return Err(AddError::TooMany);
         }
         let alloc = *self.shelves.allocator();

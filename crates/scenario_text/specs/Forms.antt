@@ -12,6 +12,7 @@ use Rattle.scenario_text.specs.declared.acts.Edit.{Edit}
 use Rattle.scenario_text.specs.declared.acts.Edit.TheVariants.{Link, Unlink, Policy, VrpAdd, VrpTake, Announce, Withdraw}
 use Rattle.scenario_text.specs.declared.acts.Query.{Query}
 use Rattle.scenario_text.specs.declared.acts.Query.TheVariants.{Routes, Route, Trace, Report, Ranks, Validity}
+use Rattle.scenario_text.specs.declared.limits.TheConstants.{MOST_NUMBERS}
 
 -- two fields, the first of which ends at the first such byte, each by its grammar: 32 is a space, and 124 is `|` (own format)
 unfoldable pub parted : {A B : Type 0} → ℕ → (List ℕ → Option A) → (List ℕ → Option B) → List ℕ → Option (A × B)
@@ -27,7 +28,7 @@ vrp_of text = parted 32 vrp_asn_of (parted 32 prefix_of (numeral 10 3)) text >>=
 
 -- a path is 1 to 64 AS numbers with one space between (own format)
 unfoldable pub path_of : List ℕ → Option (List ℕ)
-path_of text = option_filter (λ ns. nat_le (length ns) 64) (all_some (map asn_of (fields 32 text)))
+path_of text = option_filter (λ ns. nat_le (length ns) MOST_NUMBERS) (all_some (map asn_of (fields 32 text)))
 
 -- a line that begins with this word, and goes on with these fields, asks for this (own format)
 abbrev pub row : {A B : Type 0} → List ℕ → (List ℕ → Option A) → (A → Option B) → List ℕ → Option B

@@ -5,6 +5,7 @@ use Rattle.scenario_text.specs.declared.faults.LimitOf.{LimitOf}
 use Rattle.scenario_text.specs.declared.faults.LimitOf.TheVariants as limits
 use Rattle.scenario_text.specs.declared.faults.ScenarioError.{ScenarioError}
 use Rattle.scenario_text.specs.declared.faults.ScenarioError.TheVariants.{Limit}
+use Rattle.scenario_text.specs.declared.limits.TheConstants.{MOST_ANNOUNCEMENTS, MOST_LEAK_LISTS, MOST_LEAKERS, MOST_NUMBERS, MOST_PREFIXES, MOST_WATCHED}
 use Rattle.scenario_text.specs.Scenarios.{ScenarioValue, prefix_count}
 use Rattle.scenario_text.specs.Walks.{◌>>=◌}
 
@@ -15,9 +16,9 @@ unless_passed which passed = if passed then Err (Limit which) else Ok tt
 -- the limits in their order: 64 announcements, 32 different prefixes, 64 numbers in a path, 4 rounds, so that 3 lists of leakers, 64 leakers in a round, 16 watched addresses (own format)
 unfoldable pub within : ScenarioValue → Result (Unit {0}) ScenarioError
 within s = do
-  _ ← unless_passed limits.Announcements (nat_lt 64 (length s.announcements))
-  _ ← unless_passed limits.Prefixes (nat_lt 32 (prefix_count s.announcements))
-  _ ← unless_passed limits.Path (list_any (λ a. nat_lt 64 (length a.path)) s.announcements)
-  _ ← unless_passed limits.Rounds (nat_lt 3 (length s.leaks))
-  _ ← unless_passed limits.Leakers (list_any (λ leakers. nat_lt 64 (length leakers)) s.leaks)
-  unless_passed limits.Watch (nat_lt 16 (length s.watch))
+  _ ← unless_passed limits.Announcements (nat_lt MOST_ANNOUNCEMENTS (length s.announcements))
+  _ ← unless_passed limits.Prefixes (nat_lt MOST_PREFIXES (prefix_count s.announcements))
+  _ ← unless_passed limits.Path (list_any (λ a. nat_lt MOST_NUMBERS (length a.path)) s.announcements)
+  _ ← unless_passed limits.Rounds (nat_lt MOST_LEAK_LISTS (length s.leaks))
+  _ ← unless_passed limits.Leakers (list_any (λ leakers. nat_lt MOST_LEAKERS (length leakers)) s.leaks)
+  unless_passed limits.Watch (nat_lt MOST_WATCHED (length s.watch))

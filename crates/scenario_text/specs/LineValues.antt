@@ -4,6 +4,7 @@ use Rattle.scenario_text.specs.declared.acts.Act.{Act}
 use Rattle.scenario_text.specs.declared.acts.Act.TheVariants as act
 use Rattle.scenario_text.specs.declared.acts.Edit.{Edit}
 use Rattle.scenario_text.specs.declared.acts.Edit.TheVariants as edit
+use Rattle.scenario_text.specs.declared.limits.TheConstants.{MOST_NUMBERS}
 
 -- a line is its number in the file, where skipped lines count, and what it asks for (own format)
 pub record LineValue : Type 0 where
@@ -13,7 +14,7 @@ pub record LineValue : Type 0 where
 -- the two ASes of a link differ, and an announced path has 1 to 64 numbers (own format)
 abbrev pub IsWellFormed : Edit → Type 0
 IsWellFormed (edit.Link a b rel) = a ≢ b
-IsWellFormed (edit.Announce prefix path) = (1 ≤ length path) × (length path ≤ 64)
+IsWellFormed (edit.Announce prefix path) = (1 ≤ length path) × (length path ≤ MOST_NUMBERS)
 IsWellFormed e = Unit {0}
 
 -- what a line asks for is no edit, or one that is well formed (own format)

@@ -7,6 +7,7 @@ use Rattle.net_names.specs.Addresses.{AddrValue}
 use Rattle.net_names.specs.Prefixes.{PrefixValue, prefix_cmp}
 use Rattle.policy_kinds.specs.declared.kind.Kind.{Kind}
 use Rattle.scenario_text.specs.declared.scenario.Announcement.{Announcement}
+use Rattle.scenario_text.specs.declared.limits.TheConstants.{MOST_ANNOUNCEMENTS, MOST_LEAK_LISTS, MOST_LEAKERS, MOST_NUMBERS, MOST_PREFIXES, MOST_WATCHED}
 
 -- a scenario is what is announced, which AS has which policy, who leaks in each round after the first, and which addresses are watched (own format)
 pub record ScenarioValue : Type 0 where
@@ -45,10 +46,10 @@ pub record IsScenario (s : ScenarioValue) : Type 0 where
   pub ruled_once : AllPairs (λ p q. p.0 ≢ q.0) s.policies
   pub leaking_once : All (λ leakers. AllPairs (λ m n. m ≢ n) leakers) s.leaks
   pub watched_once : AllPairs (λ a b. a ≢ b) s.watch
-  pub few_announcements : length s.announcements ≤ 64
-  pub few_prefixes : prefix_count s.announcements ≤ 32
-  pub short_paths : All (λ a. length a.path ≤ 64) s.announcements
-  pub few_rounds : length s.leaks ≤ 3
-  pub few_leakers : All (λ leakers. length leakers ≤ 64) s.leaks
-  pub few_watched : length s.watch ≤ 16
+  pub few_announcements : length s.announcements ≤ MOST_ANNOUNCEMENTS
+  pub few_prefixes : prefix_count s.announcements ≤ MOST_PREFIXES
+  pub short_paths : All (λ a. length a.path ≤ MOST_NUMBERS) s.announcements
+  pub few_rounds : length s.leaks ≤ MOST_LEAK_LISTS
+  pub few_leakers : All (λ leakers. length leakers ≤ MOST_LEAKERS) s.leaks
+  pub few_watched : length s.watch ≤ MOST_WATCHED
   pub own_paths : All (λ a. StartsWith a.asn a.path) s.announcements

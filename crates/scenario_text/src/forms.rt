@@ -10,15 +10,14 @@ use crate::fields::{
     AddrField, AsnField, Barred, Field, KindField, PrefixField, RelField, RoundField, Spaced,
     VrpField,
 };
+use crate::limits::MOST_NUMBERS;
 use net_names::{NoMemory, Path, cut, read_asn, read_prefix, strip};
 use std::alloc::Global;
-
-const MOST_NUMBERS: usize = 64;
 
 // The ASes of a path.
 fn path(alloc: Global, text: &[u8]) -> Result<Option<Path>, NoMemory>
     ensures gives { IfOk result (λ path. path ≡ path_of text.now) }
-    ensures few { IfOk result (λ path. IfSome path (λ ns. (1 ≤ length ns) × (length ns ≤ 64))) }
+    ensures few { IfOk result (λ path. IfSome path (λ ns. (1 ≤ length ns) × (length ns ≤ MOST_NUMBERS))) }
 {
     let mut path = Path::new(alloc);
     let mut rest = text;

@@ -31,6 +31,9 @@ mod walks;
 pub use acts::{Act, Edit, Query};
 pub use faults::{LimitOf, ScenarioError};
 pub use laws::{lines_are_those_said, scenarios_are_those_said};
+pub use limits::{
+    MOST_ANNOUNCEMENTS, MOST_LEAK_LISTS, MOST_LEAKERS, MOST_NUMBERS, MOST_PREFIXES, MOST_WATCHED,
+};
 pub use lines::{Line, Lines};
 pub use lists::Leakers;
 pub use place_texts::{place_string, put_place};

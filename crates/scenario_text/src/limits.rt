@@ -13,17 +13,23 @@ use net_names::Prefix;
 use std::alloc::{AllocError, Global};
 use std::collections::BTreeSet;
 
-const MOST_ANNOUNCEMENTS: usize = 64;
+/// How many announcements there are at most.
+pub const MOST_ANNOUNCEMENTS: usize = 64;
 
-const MOST_PREFIXES: usize = 32;
+/// How many different prefixes are announced at most.
+pub const MOST_PREFIXES: usize = 32;
 
-const MOST_NUMBERS: usize = 64;
+/// How many numbers an announced path has at most.
+pub const MOST_NUMBERS: usize = 64;
 
-const MOST_LEAK_LISTS: usize = 3;
+/// How many lists of leakers there are at most: one for each round after the first, and there are four rounds at most.
+pub const MOST_LEAK_LISTS: usize = 3;
 
-const MOST_LEAKERS: usize = 64;
+/// How many ASes leak in a round at most.
+pub const MOST_LEAKERS: usize = 64;
 
-const MOST_WATCHED: usize = 16;
+/// How many addresses are watched at most.
+pub const MOST_WATCHED: usize = 16;
 
 fn set_of<K: Ord + Copy>(alloc: Global, keys: &[K]) -> Result<BTreeSet<K>, AllocError>
 where
@@ -49,7 +55,7 @@ fn count_prefixes(alloc: Global, announcements: &[Announcement]) -> Result<usize
 }
 
 fn has_long_path(announcements: &[Announcement]) -> bool
-    ensures { result ≡ list_any (λ a. nat_lt 64 (length a.path)) announcements.now }
+    ensures { result ≡ list_any (λ a. nat_lt MOST_NUMBERS (length a.path)) announcements.now }
 {
     announcements
         .iter()
@@ -57,7 +63,7 @@ fn has_long_path(announcements: &[Announcement]) -> bool
 }
 
 fn has_many_leakers(leaks: &[Leakers]) -> bool
-    ensures { result ≡ list_any (λ leakers. nat_lt 64 (length leakers)) leaks.now }
+    ensures { result ≡ list_any (λ leakers. nat_lt MOST_LEAKERS (length leakers)) leaks.now }
 {
     leaks.iter().any(|l| l.as_slice().len() > MOST_LEAKERS)
 }

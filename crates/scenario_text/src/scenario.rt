@@ -1,5 +1,6 @@
 //! Scenarios: four lists.
 ghost use Rattle.std.specs.Prelude.{◌≡◌, ◌≢◌, ◌<◌, ◌≤◌, ◌++◌, ◌∷◌, [], All, OnOk, OnErr, option_copied, option_and_then, slice_get, length};
+ghost use Rattle.scenario_text.specs.declared.limits.TheConstants.{MOST_ANNOUNCEMENTS, MOST_LEAK_LISTS, MOST_LEAKERS, MOST_NUMBERS, MOST_PREFIXES, MOST_WATCHED};
 
 use crate::lists::{Leakers, Lists};
 use net_names::{Addr, Asn, NoMemory, Path, Prefix};
@@ -73,9 +74,9 @@ impl Scenario {
     /// with its AS. `Err` where there is not enough memory; then the scenario stays as it was.
     pub fn announce(&mut self, announcement: Announcement) -> Result<(), NoMemory>
         requires new { All (λ a. name_of a ≢ name_of announcement) self.old.announcements }
-        requires room { length self.old.announcements < 64 }
-        requires few_prefixes { prefix_count (self.old.announcements ++ announcement ∷ []) ≤ 32 }
-        requires short { length announcement.path ≤ 64 }
+        requires room { length self.old.announcements < MOST_ANNOUNCEMENTS }
+        requires few_prefixes { prefix_count (self.old.announcements ++ announcement ∷ []) ≤ MOST_PREFIXES }
+        requires short { length announcement.path ≤ MOST_NUMBERS }
         requires own_path { StartsWith announcement.asn announcement.path }
         ensures ok { OnOk result (self.new ≡ record self.old { announcements = self.old.announcements ++ announcement ∷ [] }) }
         ensures err { OnErr result (self.new ≡ self.old) }
@@ -102,7 +103,7 @@ impl Scenario {
     /// Puts an empty list of leakers at the end: one more round, in which nobody leaks yet. There are fewer than 3 so far.
     /// `Err` where there is not enough memory; then the scenario stays as it was.
     pub fn new_round(&mut self) -> Result<(), NoMemory>
-        requires { length self.old.leaks < 3 }
+        requires { length self.old.leaks < MOST_LEAK_LISTS }
         ensures ok { OnOk result (self.new ≡ record self.old { leaks = self.old.leaks ++ [] ∷ [] }) }
         ensures err { OnErr result (self.new ≡ self.old) }
     {
@@ -120,7 +121,7 @@ impl Scenario {
     pub fn leaker(&mut self, asn: Asn) -> Result<(), NoMemory>
         requires some { 0 < length self.old.leaks }
         requires new { All (λ n. n ≢ asn) (last_leakers self.old.leaks) }
-        requires room { length (last_leakers self.old.leaks) < 64 }
+        requires room { length (last_leakers self.old.leaks) < MOST_LEAKERS }
         ensures ok { OnOk result (self.new ≡ record self.old { leaks = with_leaker self.old.leaks asn }) }
         ensures err { OnErr result (self.new ≡ self.old) }
     {
@@ -135,7 +136,7 @@ impl Scenario {
     /// memory; then the scenario stays as it was.
     pub fn watch(&mut self, addr: Addr) -> Result<(), NoMemory>
         requires new { All (λ a. a ≢ addr) self.old.watch }
-        requires room { length self.old.watch < 16 }
+        requires room { length self.old.watch < MOST_WATCHED }
         ensures ok { OnOk result (self.new ≡ record self.old { watch = self.old.watch ++ addr ∷ [] }) }
         ensures err { OnErr result (self.new ≡ self.old) }
     {

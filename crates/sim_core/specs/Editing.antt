@@ -29,6 +29,10 @@ use Rattle.sim_core.specs.declared.editing.Changed.{Changed}
 use Rattle.sim_core.specs.declared.errors.EditError.{EditError}
 use Rattle.sim_core.specs.declared.errors.EditError.TheVariants as refused
 use Rattle.sim_core.specs.declared.sim.Sim.{Sim}
+use Rattle.net_names.specs.declared.links.TheConstants.{MOST_LINKS}
+use Rattle.as_graph.specs.declared.build.TheConstants.{MOST_ASES}
+use Rattle.roa_table.specs.declared.table.TheConstants.{MOST_PAYLOADS}
+use Rattle.scenario_text.specs.declared.limits.TheConstants.{MOST_ANNOUNCEMENTS, MOST_NUMBERS}
 
 -- the edit is done: the world is the edited one, what is kept is that of it, and so many entries differ
 pub record IsDone (old new : Sim) (e : Edit) (routes : ℕ) : Type 0 where
@@ -55,8 +59,8 @@ edit_of (seeds.Withdraw prefix a) = edit.Withdraw prefix a
 -- an edit of announcements that is not refused, unless there would be too many ASes
 pub record IsSeedEdit (w : World) (e : SeedEdit) : Type 0 where
   pub known : IsEditOf w.plan e
-  pub within : IsEditWithin 64 e
-  pub few : fin.len (edited_plan w.plan e).announced ≤ 64
+  pub within : IsEditWithin MOST_NUMBERS e
+  pub few : fin.len (edited_plan w.plan e).announced ≤ MOST_ANNOUNCEMENTS
   pub there : absent w (edit_of e) ≡ None
 
 -- what is kept, and which addresses are watched, stand as they were
@@ -116,9 +120,9 @@ IsLinkStop graph a b rel e = ⊥
 
 -- no limit is passed
 pub record IsSmall (graph : Topology) (payloads : Payloads) : Type 0 where
-  pub links : fin.len graph.links ≤ 1500000
-  pub ases : as_count graph ≤ 150000
-  pub payloads_in : count payloads ≤ 2000000
+  pub links : fin.len graph.links ≤ MOST_LINKS
+  pub ases : as_count graph ≤ MOST_ASES
+  pub payloads_in : count payloads ≤ MOST_PAYLOADS
 
 -- the AS has this kind of policy and is marked as that asks, and all else stands as it was
 pub record IsGiven (old new : Sim) (a : ℕ) (kind : Kind) : Type 0 where

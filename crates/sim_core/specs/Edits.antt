@@ -20,6 +20,10 @@ use Rattle.sim_core.specs.declared.errors.EditError.{EditError}
 use Rattle.sim_core.specs.declared.errors.EditError.TheVariants as refused
 use Rattle.sim_core.specs.declared.errors.EditLimit.{EditLimit}
 use Rattle.sim_core.specs.declared.errors.EditLimit.TheVariants.{Links, Announcements, Ases, Vrps}
+use Rattle.net_names.specs.declared.links.TheConstants.{MOST_LINKS}
+use Rattle.as_graph.specs.declared.build.TheConstants.{MOST_ASES}
+use Rattle.roa_table.specs.declared.table.TheConstants.{MOST_PAYLOADS}
+use Rattle.scenario_text.specs.declared.limits.TheConstants.{MOST_ANNOUNCEMENTS}
 
 -- the policies in which the AS has this kind; nobody is named for the plain one
 abbrev pub with_kind : fin.FinMap nat_cmp Kind → ℕ → Kind → fin.FinMap nat_cmp Kind
@@ -50,8 +54,8 @@ absent w e = None
 -- the first limit that a world passes: 1,500,000 links, 64 announcements, 150,000 ASes, 2,000,000 payloads
 abbrev pub passed_limit : World → Option EditLimit
 passed_limit w =
-    if nat_lt 1500000 (fin.len w.links) then Some Links
-    else (if nat_lt 64 (fin.len w.plan.announced) then Some Announcements else (if nat_lt 150000 (as_count (topology w)) then Some Ases else (if nat_lt 2000000 (fin.len w.payloads) then Some Vrps else None)))
+    if nat_lt MOST_LINKS (fin.len w.links) then Some Links
+    else (if nat_lt MOST_ANNOUNCEMENTS (fin.len w.plan.announced) then Some Announcements else (if nat_lt MOST_ASES (as_count (topology w)) then Some Ases else (if nat_lt MOST_PAYLOADS (fin.len w.payloads) then Some Vrps else None)))
 
 -- why an edit is refused, but for provider cycles: what it names or takes away is not there, or else the edited world passes a limit
 abbrev pub refusal_of_edit : World → Edit → Option EditError

@@ -26,6 +26,7 @@ use Rattle.leak_round.specs.Rounds.{kept as kept_rounds, plan_of, round_count}
 use Rattle.sim_core.specs.Parts.{AreRoundsOf}
 use Rattle.sim_core.specs.Watching.{AreRoundWatches, seen_in}
 use Rattle.sim_core.specs.declared.watching.RoundWatches.{RoundWatches}
+use Rattle.scenario_text.specs.declared.limits.TheConstants.{MOST_NUMBERS}
 
 -- what routings rest on beside the seeds: the graph, the payloads and the policies
 pub record Ground : Type 0 where
@@ -73,7 +74,7 @@ pub record DiffersAround (old new : Ground) (rounds : Rounds) (ends : List ℕ) 
 -- an edit of announcements, if there is one, is one of the plan within the limits, by one of the ends; and who announces something after it is an AS of the graph
 pub record IsSeedChange (plan : Plan) (g : Topology) (ends : List ℕ) (edit : Option SeedEdit) : Type 0 where
   pub known : (e : SeedEdit) → edit ≡ Some e → IsEditOf plan e
-  pub within : (e : SeedEdit) → edit ≡ Some e → IsEditWithin 64 e
+  pub within : (e : SeedEdit) → edit ≡ Some e → IsEditWithin MOST_NUMBERS e
   pub limits : (e : SeedEdit) → edit ≡ Some e → IsWithinLimits (edited plan e)
   pub by_end : (e : SeedEdit) → edit ≡ Some e → occurs (edit_asn e) ends ≡ true
   pub announcers : (prefix : PrefixValue) (a : ℕ) → IsTrue (announces (plan_edited edit plan) prefix a) → has g a ≡ true

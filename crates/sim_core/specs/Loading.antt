@@ -6,12 +6,13 @@ use Rattle.net_names.specs.declared.routes.Rel.{Rel}
 use Rattle.sim_core.specs.World.{World, topology}
 use Rattle.sim_core.specs.declared.errors.LoadError.{LoadError}
 use Rattle.sim_core.specs.declared.errors.LoadError.TheVariants as load_error
+use Rattle.as_graph.specs.declared.build.TheConstants.{MOST_ASES}
 
 -- memory is wanting; or the world has more than 150,000 ASes; or it has no more, and its links have this provider cycle, told from its lowest number on
 abbrev pub IsLoadRefusal : World → LoadError → Type 0
 IsLoadRefusal w load_error.Memory = Unit {0}
-IsLoadRefusal w load_error.TooManyAses = 150000 < as_count (topology w)
-IsLoadRefusal w (load_error.ProviderCycle cycle) = (as_count (topology w) ≤ 150000) × IsCycleFromLowest (what (topology w)) cycle
+IsLoadRefusal w load_error.TooManyAses = MOST_ASES < as_count (topology w)
+IsLoadRefusal w (load_error.ProviderCycle cycle) = (as_count (topology w) ≤ MOST_ASES) × IsCycleFromLowest (what (topology w)) cycle
 
 -- memory is wanting; or the links have this provider cycle, told from its lowest number on
 abbrev pub IsCycleRefusal : (ℕ → ℕ → Option Rel) → LoadError → Type 0

@@ -7,6 +7,7 @@ ghost use Rattle.net_names.specs.Prefixes.{PrefixValue};
 ghost use Rattle.leak_round.specs.Rounds.{plan_of, pool_of};
 ghost use Rattle.leak_round.specs.Touched.{touches};
 ghost use Rattle.path_pool.specs.Pool.{live_count};
+ghost use Rattle.scenario_text.specs.declared.limits.TheConstants.{MOST_NUMBERS};
 ghost use Rattle.scenario_text.specs.declared.acts.Edit.TheVariants.{Announce, Withdraw};
 ghost use Rattle.stability_laws.specs.Plans.{with_announcement};
 ghost use Rattle.stability_laws.specs.SeedEdits.{IsEditWithin, edit_asn, edit_prefix, edited};
@@ -15,6 +16,7 @@ ghost use Rattle.sim_core.specs.Kept.{IsKept};
 ghost use Rattle.sim_core.specs.Sims.{kept, world_seen};
 ghost use Rattle.sim_core.specs.Steps.{IsQuick};
 ghost use Rattle.sim_core.specs.World.{HasCycle, named};
+ghost use Rattle.leak_round.specs.declared.rounds.TheConstants.{MOST_CELLS};
 
 use crate::changing::change;
 use crate::marking::{set_mark, set_mark_back};
@@ -27,16 +29,14 @@ use net_names::{Asn, NoMemory, Path, Prefix};
 use origin_validation::States;
 use policy_kinds::Kind;
 use route_choice::Steps;
+use scenario_text::MOST_ANNOUNCEMENTS;
 use stability_laws::{SeedEdit, right_follows};
 use std::alloc::Global;
 use std::sync::ledger::Ledger;
 
-/// The most announcements of a world.
-const MOST_ANNOUNCEMENTS: usize = 64;
-
 // The AS whose announcement is edited.
 fn asn_of(edit: &SeedEdit) -> Asn
-    requires { IsEditWithin 64 edit.now }
+    requires { IsEditWithin MOST_NUMBERS edit.now }
     ensures { result ≡ edit_asn edit.now }
 {
     match edit {
@@ -103,7 +103,7 @@ impl Sim {
         steps: &mut Steps<L>,
     ) -> Result<Changed, EditError>
         requires accepted { IsSeedEdit (world_seen self.old) edit.now }
-        requires few_cells { live_count (pool_of self.old.rounds) ≤ 20000000 }
+        requires few_cells { live_count (pool_of self.old.rounds) ≤ MOST_CELLS }
         requires kept { IsKept (world_seen self.old) (kept self.old) }
         requires no_cycle { HasCycle (world_seen self.old) → ⊥ }
         ensures edited { IsEdited self.old self.new (edit_of edit.now) result }
@@ -153,7 +153,7 @@ impl Sim {
     // Whether there are too many announcements with this one.
     fn is_one_too_many(&self, prefix: Prefix, path: &Path) -> bool
         requires { 1 ≤ length path.now }
-        ensures { result ≡ nat_lt 64 (fin.len (with_announcement (plan_of self.now.rounds) prefix path.now).announced) }
+        ensures { result ≡ nat_lt MOST_ANNOUNCEMENTS (fin.len (with_announcement (plan_of self.now.rounds) prefix path.now).announced) }
     {
         let plan = self.rounds.seed_plan();
         let known = plan.announces(prefix, path.as_slice()[0]);
@@ -169,8 +169,8 @@ impl Sim {
         steps: &mut Steps<L>,
     ) -> Result<Changed, EditError>
         requires some { 1 ≤ length path.now }
-        requires short { length path.now ≤ 64 }
-        requires few_cells { live_count (pool_of self.old.rounds) ≤ 20000000 }
+        requires short { length path.now ≤ MOST_NUMBERS }
+        requires few_cells { live_count (pool_of self.old.rounds) ≤ MOST_CELLS }
         requires kept { IsKept (world_seen self.old) (kept self.old) }
         requires no_cycle { HasCycle (world_seen self.old) → ⊥ }
         ensures edited { IsEdited self.old self.new (Announce prefix path.now) result }
@@ -199,7 +199,7 @@ impl Sim {
         asn: Asn,
         steps: &mut Steps<L>,
     ) -> Result<Changed, EditError>
-        requires few_cells { live_count (pool_of self.old.rounds) ≤ 20000000 }
+        requires few_cells { live_count (pool_of self.old.rounds) ≤ MOST_CELLS }
         requires kept { IsKept (world_seen self.old) (kept self.old) }
         requires no_cycle { HasCycle (world_seen self.old) → ⊥ }
         ensures edited { IsEdited self.old self.new (Withdraw prefix asn) result }

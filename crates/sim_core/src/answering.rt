@@ -10,6 +10,8 @@ ghost use Rattle.sim_core.specs.Parts.{AreTablesOf, IsTableOf, no_round, no_tabl
 ghost use Rattle.sim_core.specs.Watching.{IsPlace, IsWatchOf, no_watch};
 ghost use Rattle.sim_core.specs.Sims.{kept, world_seen};
 ghost use Rattle.sim_core.specs.World.{has_round, topology};
+ghost use Rattle.as_graph.specs.declared.build.TheConstants.{MOST_ASES};
+ghost use Rattle.net_names.specs.declared.links.TheConstants.{MOST_LINKS};
 
 use crate::watching::place_of_addr;
 use crate::{QueryError, Sim};
@@ -221,7 +223,7 @@ impl Sim {
     /// How many ASes the world has, at most 150,000.
     pub fn as_count(&self) -> usize
         ensures value { result ≡ as_count (topology (world_seen self.now)) }
-        ensures few { result ≤ 150000 }
+        ensures few { result ≤ MOST_ASES }
     {
         self.graph.as_count()
     }
@@ -229,7 +231,7 @@ impl Sim {
     /// How many links the world has, at most 1,500,000.
     pub fn link_count(&self) -> usize
         ensures value { result ≡ fin.len (world_seen self.now).links }
-        ensures few { result ≤ 1500000 }
+        ensures few { result ≤ MOST_LINKS }
     {
         self.graph.link_count()
     }

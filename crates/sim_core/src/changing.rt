@@ -13,6 +13,7 @@ ghost use Rattle.sim_core.specs.Editing.{IsChanged, IsSmall, IsUnchanged, ground
 ghost use Rattle.sim_core.specs.Ground.{AreSeenAlike, BelongTo, DiffersAround, Ground as AGround, IsSeedChange};
 ghost use Rattle.sim_core.specs.Steps.{AreFewSteps};
 ghost use Rattle.sim_core.specs.Watching.{addrs_in};
+ghost use Rattle.leak_round.specs.declared.rounds.TheConstants.{MOST_CELLS};
 
 use crate::renewing::{make_room, renew};
 use crate::watching::RoundWatches;
@@ -49,7 +50,7 @@ pub fn change<L: Ledger>(
     steps: &mut Steps<L>,
 ) -> Result<Changed, NoMemory>
     requires closed { is_open rounds.old ≡ false }
-    requires few_cells { live_count (pool_of rounds.old) ≤ 20000000 }
+    requires few_cells { live_count (pool_of rounds.old) ≤ MOST_CELLS }
     requires few { round_count rounds.old ≤ 4 }
     requires no_cycle { HasNoProviderCycle (what graph.now) }
     requires seeds { IsSeedChange (plan_of rounds.old) graph.now ends.now (option_copied edit) }
@@ -119,7 +120,7 @@ impl Sim {
         but: Option<Vrp>,
         steps: &mut Steps<L>,
     ) -> Result<Changed, NoMemory>
-        requires few_cells { live_count (pool_of self.old.rounds) ≤ 20000000 }
+        requires few_cells { live_count (pool_of self.old.rounds) ≤ MOST_CELLS }
         requires no_cycle { HasNoProviderCycle (what self.old.graph) }
         requires from { (old : AGround) × BelongTo old self.old.ranks self.old.rounds self.old.watches.items × DiffersAround old (ground_less self.old but) self.old.rounds ends.now (touches touched.now) }
         ensures changed { IfOk result (λ c. IsChanged self.old self.new but c.routes) }

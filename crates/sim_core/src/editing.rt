@@ -12,6 +12,7 @@ ghost use Rattle.sim_core.specs.Steps.{IsQuick};
 ghost use Rattle.sim_core.specs.World.{HasCycle};
 
 use crate::{EditError, Sim};
+use leak_round::MOST_CELLS;
 use net_names::NoMemory;
 use origin_validation::States;
 use route_choice::Steps;
@@ -26,17 +27,14 @@ pub struct Changed {
     pub routes: u64,
 }
 
-/// The most live cells of a pool at which an edit begins.
-const MOST_CELLS: usize = 20_000_000;
-
 impl Sim {
     // Makes the pool of the paths anew where too many of its cells are live.
     fn tidied<L: Ledger>(&mut self, alloc: Global, steps: &mut Steps<L>) -> Result<(), NoMemory>
         requires kept { IsKept (world_seen self.old) (kept self.old) }
         requires no_cycle { HasCycle (world_seen self.old) → ⊥ }
         ensures unchanged { IsUnchanged self.old self.new }
-        ensures few_cells { OnOk result (live_count (pool_of self.new.rounds) ≤ 20000000) }
-        ensures idle { live_count (pool_of self.old.rounds) ≤ 20000000 → steps.new ≡ steps.old }
+        ensures few_cells { OnOk result (live_count (pool_of self.new.rounds) ≤ MOST_CELLS) }
+        ensures idle { live_count (pool_of self.old.rounds) ≤ MOST_CELLS → steps.new ≡ steps.old }
     {
         if self.rounds.pool().live() <= MOST_CELLS {
             return Ok(());
@@ -53,7 +51,7 @@ impl Sim {
         steps: &mut Steps<L>,
     ) -> Result<Changed, EditError>
         requires formed { IsWellFormed edit.now }
-        requires few_cells { live_count (pool_of self.old.rounds) ≤ 20000000 }
+        requires few_cells { live_count (pool_of self.old.rounds) ≤ MOST_CELLS }
         requires kept { IsKept (world_seen self.old) (kept self.old) }
         requires no_cycle { HasCycle (world_seen self.old) → ⊥ }
         ensures edited { IsEdited self.old self.new edit.now result }
@@ -99,7 +97,7 @@ impl Sim {
         ensures allowed { OnOk result (IsAllowed (world_seen self.old) edit.now) }
         ensures kept { OnOk result (IsKept (world_seen self.new) (kept self.new)) }
         ensures changed { IfOk result (λ c. HasChanges (world_seen self.new).plan (world_seen self.new).rounds (kept self.old).routings (kept self.new).routings c.routes) }
-        ensures quick { live_count (pool_of self.old.rounds) ≤ 20000000 → OnOk result (IsQuick (world_seen self.old) (world_seen self.new) edit.now (kept self.old).routings (kept self.new).routings steps.old steps.new) }
+        ensures quick { live_count (pool_of self.old.rounds) ≤ MOST_CELLS → OnOk result (IsQuick (world_seen self.old) (world_seen self.new) edit.now (kept self.old).routings (kept self.new).routings steps.old steps.new) }
         ensures refused { IfErr result (IsEditRefusal (world_seen self.old) edit.now) }
         ensures same_world { OnErr result (world_seen self.new ≡ world_seen self.old) }
         ensures same_kept { OnErr result (kept self.new ≡ kept self.old) }

@@ -17,6 +17,7 @@ ghost use Rattle.sim_core.specs.Kept.{IsKept};
 ghost use Rattle.sim_core.specs.Sims.{kept, world_seen};
 ghost use Rattle.sim_core.specs.Steps.{AreFewSteps, IsQuick};
 ghost use Rattle.sim_core.specs.World.{HasCycle};
+ghost use Rattle.leak_round.specs.declared.rounds.TheConstants.{MOST_CELLS};
 
 use crate::links::{closed_by, relink};
 use crate::touching::touched_ases;
@@ -96,7 +97,7 @@ impl Sim {
         requires linked { what self.old.graph a b ≡ Some rel }
         requires there { HasNoProviderCycle (without_pair self.old.graph a b) }
         requires back { HasNoProviderCycle (without_pair self.old.graph b a) }
-        requires few_cells { live_count (pool_of self.old.rounds) ≤ 20000000 }
+        requires few_cells { live_count (pool_of self.old.rounds) ≤ MOST_CELLS }
         requires from { (old : AGround) × BelongTo old self.old.ranks self.old.rounds self.old.watches.items × DiffersAround old (ground_of self.old) self.old.rounds (a ∷ b ∷ []) (touches touched.now) }
         ensures changed { IfOk result (λ c. IsChanged self.old self.new None c.routes) }
         ensures quick { OnOk result (AreFewSteps (what self.old.graph) (plan_of self.old.rounds) (plan_of self.new.rounds) (kept_rounds self.old.rounds) (kept_rounds self.new.rounds) (λ p x. touches touched.now p x ≡ true) (round_count self.old.rounds) steps.old steps.new) }
@@ -125,7 +126,7 @@ impl Sim {
         steps: &mut Steps<L>,
     ) -> Result<Changed, EditError>
         requires apart { a ≢ b }
-        requires few_cells { live_count (pool_of self.old.rounds) ≤ 20000000 }
+        requires few_cells { live_count (pool_of self.old.rounds) ≤ MOST_CELLS }
         requires kept { IsKept (world_seen self.old) (kept self.old) }
         requires no_cycle { HasCycle (world_seen self.old) → ⊥ }
         ensures edited { IsEdited self.old self.new (Link a b rel) result }
@@ -180,7 +181,7 @@ impl Sim {
         b: Asn,
         steps: &mut Steps<L>,
     ) -> Result<Changed, EditError>
-        requires few_cells { live_count (pool_of self.old.rounds) ≤ 20000000 }
+        requires few_cells { live_count (pool_of self.old.rounds) ≤ MOST_CELLS }
         requires kept { IsKept (world_seen self.old) (kept self.old) }
         requires no_cycle { HasCycle (world_seen self.old) → ⊥ }
         ensures edited { IsEdited self.old self.new (Unlink a b) result }

@@ -10,6 +10,7 @@ ghost use Rattle.sim_core.specs.Parts.{AreRoundsOf};
 ghost use Rattle.sim_core.specs.Kept.{IsKept};
 ghost use Rattle.sim_core.specs.Sims.{kept, world_seen};
 ghost use Rattle.sim_core.specs.World.{HasCycle, topology};
+ghost use Rattle.as_graph.specs.declared.build.TheConstants.{MOST_ASES};
 
 use crate::naming::world_graph;
 use crate::planning::{policies, seed_plan};
@@ -81,7 +82,7 @@ fn load_world<L: Ledger>(
     ensures world { IfOk result (λ sim. world_seen sim ≡ world_of links.now vrps scenario.now) }
     ensures kept { IfOk result (λ sim. IsKept (world_seen sim) (kept sim)) }
     ensures no_cycle { IfOk result (λ sim. HasCycle (world_seen sim) → ⊥) }
-    ensures few { IfOk result (λ sim. as_count (topology (world_seen sim)) ≤ 150000) }
+    ensures few { IfOk result (λ sim. as_count (topology (world_seen sim)) ≤ MOST_ASES) }
     ensures refused { IfErr result (IsLoadRefusal (world_of links.now vrps scenario.now)) }
 {
     let graph = match world_graph(alloc, links, scenario) {
@@ -137,7 +138,7 @@ impl Sim {
         ensures world { IfOk result (λ sim. world_seen sim ≡ world_of links vrps scenario) }
         ensures kept { IfOk result (λ sim. IsKept (world_seen sim) (kept sim)) }
         ensures no_cycle { IfOk result (λ sim. HasCycle (world_seen sim) → ⊥) }
-        ensures few { IfOk result (λ sim. as_count (topology (world_seen sim)) ≤ 150000) }
+        ensures few { IfOk result (λ sim. as_count (topology (world_seen sim)) ≤ MOST_ASES) }
         ensures refused { IfErr result (IsLoadRefusal (world_of links vrps scenario)) }
     {
         load_world::<Brand>(alloc, &links, vrps, &scenario, Blank::new(1))

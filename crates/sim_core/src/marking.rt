@@ -5,6 +5,7 @@ ghost use Rattle.as_graph.specs.Topology.{as_count};
 ghost use Rattle.sim_core.specs.Marking.{with_mark_if};
 ghost use Rattle.sim_core.specs.declared.errors.EditError.TheVariants as refused;
 ghost use Rattle.sim_core.specs.declared.errors.EditLimit.TheVariants.{Ases};
+ghost use Rattle.as_graph.specs.declared.build.TheConstants.{MOST_ASES};
 
 use crate::{EditError, EditLimit};
 use as_graph::{Graph, GraphError};
@@ -16,7 +17,7 @@ pub fn set_mark(graph: &mut Graph, asn: Asn, is_marked: bool) -> Result<(), Edit
     ensures ok { OnOk result (graph.new ≡ with_mark_if graph.old asn is_marked) }
     ensures err { OnErr result (graph.new ≡ graph.old) }
     ensures limit { IfErr result (λ e. e ≡ refused.Limit Ases) }
-    ensures many { OnErr result (150000 < as_count (with_mark_if graph.old asn is_marked)) }
+    ensures many { OnErr result (MOST_ASES < as_count (with_mark_if graph.old asn is_marked)) }
 {
     if !is_marked {
         graph.unmark(asn);
@@ -34,7 +35,7 @@ pub fn set_mark(graph: &mut Graph, asn: Asn, is_marked: bool) -> Result<(), Edit
 /// Gives an AS the mark back that it had, or takes it away again.
 pub fn set_mark_back(graph: &mut Graph, asn: Asn, was_marked: bool)
     requires room { is_room_with graph.old.room asn ≡ true }
-    requires few { as_count (with_mark_if graph.old asn was_marked) ≤ 150000 }
+    requires few { as_count (with_mark_if graph.old asn was_marked) ≤ MOST_ASES }
     ensures { graph.new ≡ with_mark_if graph.old asn was_marked }
 {
     match set_mark(graph, asn, was_marked) {

@@ -4,6 +4,7 @@ ghost use Rattle.as_graph.specs.Topology.{as_count};
 ghost use Rattle.scenario_text.specs.declared.scenario.Announcement.{Announcement as AnAnnouncement};
 ghost use Rattle.sim_core.specs.Loaded.{is_other as is_other_policy, names_in};
 ghost use Rattle.sim_core.specs.Marking.{IsMarksRefusal, MakesGraph, marked};
+ghost use Rattle.as_graph.specs.declared.build.TheConstants.{MOST_ASES};
 
 use crate::LoadError;
 use as_graph::{Graph, GraphError};
@@ -16,7 +17,7 @@ use std::alloc::Global;
 fn mark(graph: &mut Graph, asn: Asn) -> Result<(), LoadError>
     requires { graph.old.room ≡ None }
     ensures ok { OnOk result (graph.new ≡ marked graph.old (asn ∷ [])) }
-    ensures few { OnOk result (as_count graph.old ≤ 150000 → as_count graph.new ≤ 150000) }
+    ensures few { OnOk result (as_count graph.old ≤ MOST_ASES → as_count graph.new ≤ MOST_ASES) }
     ensures refused { IfErr result (IsMarksRefusal graph.old (asn ∷ [])) }
 {
     match graph.mark(asn) {
@@ -31,7 +32,7 @@ fn mark(graph: &mut Graph, asn: Asn) -> Result<(), LoadError>
 fn mark_all(graph: &mut Graph, names: &[Asn]) -> Result<(), LoadError>
     requires { graph.old.room ≡ None }
     ensures ok { OnOk result (graph.new ≡ marked graph.old names.now) }
-    ensures few { OnOk result (as_count graph.old ≤ 150000 → as_count graph.new ≤ 150000) }
+    ensures few { OnOk result (as_count graph.old ≤ MOST_ASES → as_count graph.new ≤ MOST_ASES) }
     ensures refused { IfErr result (IsMarksRefusal graph.old names.now) }
 {
     for asn in names {

@@ -17,6 +17,7 @@ ghost use Rattle.sim_core.specs.Kept.{IsKept};
 ghost use Rattle.sim_core.specs.Sims.{kept, world_seen};
 ghost use Rattle.sim_core.specs.Steps.{AreFewSteps, IsQuick};
 ghost use Rattle.sim_core.specs.World.{HasCycle};
+ghost use Rattle.leak_round.specs.declared.rounds.TheConstants.{MOST_CELLS};
 
 use crate::touching::touched_readers;
 use crate::{Changed, EditError, EditLimit, Sim};
@@ -50,7 +51,7 @@ impl Sim {
         vrp: Vrp,
         steps: &mut Steps<L>,
     ) -> Result<Changed, NoMemory>
-        requires few_cells { live_count (pool_of self.old.rounds) ≤ 20000000 }
+        requires few_cells { live_count (pool_of self.old.rounds) ≤ MOST_CELLS }
         requires no_cycle { HasNoProviderCycle (what self.old.graph) }
         requires from { BelongTo (ground_less self.old (Some vrp)) self.old.ranks self.old.rounds self.old.watches.items }
         ensures changed { IfOk result (λ c. IsChanged self.old self.new None c.routes) }
@@ -68,7 +69,7 @@ impl Sim {
         vrp: Vrp,
         steps: &mut Steps<L>,
     ) -> Result<Changed, EditError>
-        requires few_cells { live_count (pool_of self.old.rounds) ≤ 20000000 }
+        requires few_cells { live_count (pool_of self.old.rounds) ≤ MOST_CELLS }
         requires kept { IsKept (world_seen self.old) (kept self.old) }
         requires no_cycle { HasCycle (world_seen self.old) → ⊥ }
         ensures edited { IsEdited self.old self.new (VrpAdd vrp) result }
@@ -104,7 +105,7 @@ impl Sim {
         vrp: Vrp,
         steps: &mut Steps<L>,
     ) -> Result<Changed, EditError>
-        requires few_cells { live_count (pool_of self.old.rounds) ≤ 20000000 }
+        requires few_cells { live_count (pool_of self.old.rounds) ≤ MOST_CELLS }
         requires kept { IsKept (world_seen self.old) (kept self.old) }
         requires no_cycle { HasCycle (world_seen self.old) → ⊥ }
         ensures edited { IsEdited self.old self.new (VrpTake vrp) result }

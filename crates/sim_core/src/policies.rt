@@ -22,6 +22,7 @@ ghost use Rattle.sim_core.specs.World.{HasCycle};
 ghost use Rattle.sim_core.specs.declared.errors.EditError.{EditError as AnEditError};
 ghost use Rattle.stability_laws.specs.Book.{policy_at};
 ghost use Rattle.stability_laws.specs.Plans.{has_prefix};
+ghost use Rattle.leak_round.specs.declared.rounds.TheConstants.{MOST_CELLS};
 
 use crate::naming::is_other;
 use crate::readers::list_if_reads;
@@ -174,7 +175,7 @@ impl Sim {
         kind: Kind,
         steps: &mut Steps<L>,
     ) -> Result<Changed, EditError>
-        requires few_cells { live_count (pool_of self.old.rounds) ≤ 20000000 }
+        requires few_cells { live_count (pool_of self.old.rounds) ≤ MOST_CELLS }
         requires kept { IsKept (world_seen self.old) (kept self.old) }
         requires no_cycle { HasCycle (world_seen self.old) → ⊥ }
         ensures edited { IsEdited self.old self.new (Policy asn kind) result }

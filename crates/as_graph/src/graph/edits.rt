@@ -6,6 +6,7 @@ ghost use Rattle.as_graph.specs.Topology.{what, has, as_count, with_mark};
 ghost use Rattle.as_graph.specs.Room.{is_room_with, with_room, only_room_for, only_room_with};
 ghost use Rattle.as_graph.specs.Edits.{with_link, without_link, without_mark};
 ghost use Rattle.as_graph.specs.Refusals.{IsMarkRefusal, IsLinkRefusal};
+ghost use Rattle.net_names.specs.declared.links.TheConstants.{MOST_LINKS};
 
 use crate::build::MOST_ASES;
 use crate::error::{Absent, GraphError};
@@ -54,8 +55,8 @@ impl Graph {
     pub fn link(&mut self, a: Asn, b: Asn, rel: Rel) -> Result<(), GraphError>
         requires { a ≢ b }
         ensures ok { OnOk result (self.new ≡ only_room_for (with_link self.old a b rel) a b) }
-        ensures few_links { OnOk result (what self.old a b ≡ None → map.len self.old.links < 1500000) }
-        ensures few_ases { OnOk result (as_count (with_link self.old a b rel) ≤ 150000) }
+        ensures few_links { OnOk result (what self.old a b ≡ None → map.len self.old.links < MOST_LINKS) }
+        ensures few_ases { OnOk result (as_count (with_link self.old a b rel) ≤ MOST_ASES) }
         ensures err { OnErr result (self.new ≡ self.old) }
         ensures refused { IfErr result (IsLinkRefusal self.old a b rel) }
     {
@@ -92,7 +93,7 @@ impl Graph {
     /// After a refusal the graph is as it was.
     pub fn mark(&mut self, asn: Asn) -> Result<(), GraphError>
         ensures ok { OnOk result (self.new ≡ only_room_with (with_mark self.old asn) asn) }
-        ensures few { OnOk result (has self.old asn ≡ false → as_count self.old < 150000) }
+        ensures few { OnOk result (has self.old asn ≡ false → as_count self.old < MOST_ASES) }
         ensures err { OnErr result (self.new ≡ self.old) }
         ensures refused { IfErr result (IsMarkRefusal self.old asn) }
     {

@@ -12,10 +12,7 @@ use crate::error::GraphError;
 use crate::graph::Graph;
 use crate::order::list;
 use crate::writes::{make_ends, put_link};
-use net_names::{Asn, Rel};
-
-/// The most links that a graph has.
-const MOST_LINKS: usize = 1_500_000;
+use net_names::{Asn, MOST_LINKS, Rel};
 
 // The room, if it is for this pair.
 fn room_for(room: Option<(Asn, Asn)>, a: Asn, b: Asn) -> Option<(Asn, Asn)>
@@ -39,7 +36,7 @@ impl Graph {
     pub(super) fn replace(&mut self, a: Asn, b: Asn, rel: Rel)
         requires { what self.old a b ≢ None }
         ensures set { self.new ≡ only_room_for (with_link self.old a b rel) a b }
-        ensures few { as_count (with_link self.old a b rel) ≤ 150000 }
+        ensures few { as_count (with_link self.old a b rel) ≤ MOST_ASES }
     {
         put_link(&mut self.rows, &mut self.places, a, b, rel);
         self.room = room_for(self.room, a, b);
@@ -58,8 +55,8 @@ impl Graph {
         requires differ { a ≢ b }
         requires new { what self.old a b ≡ None }
         ensures ok { OnOk result (self.new ≡ only_room_for (with_link self.old a b rel) a b) }
-        ensures few_links { OnOk result (map.len self.old.links < 1500000) }
-        ensures few_ases { OnOk result (as_count (with_link self.old a b rel) ≤ 150000) }
+        ensures few_links { OnOk result (map.len self.old.links < MOST_LINKS) }
+        ensures few_ases { OnOk result (as_count (with_link self.old a b rel) ≤ MOST_ASES) }
         ensures err { OnErr result (self.new ≡ self.old) }
         ensures refused { IfErr result (IsLinkRefusal self.old a b rel) }
     {

@@ -19,6 +19,7 @@ ghost use Rattle.leak_round.specs.Limits.{IsWithinLimits};
 ghost use Rattle.leak_round.specs.Plans.{IsOpenPlan, asn_edited, cells_before, course, kept_with, numbers_added, plan_after};
 ghost use Rattle.leak_round.specs.Rounds.{is_open, plan_of, pool_of, round_count, kept};
 ghost use Rattle.leak_round.specs.Touched.{touches};
+ghost use Rattle.leak_round.specs.declared.rounds.TheConstants.{MOST_CELLS};
 
 use super::Rounds;
 use crate::changes::{Change, undo_changes};
@@ -78,7 +79,7 @@ impl Rounds {
         steps: &mut Steps<L>,
     ) -> Result<RoundsPlan, NoMemory>
         requires closed { is_open self.old ≡ false }
-        requires few_cells { live_count (pool_of self.old) ≤ 20000000 }
+        requires few_cells { live_count (pool_of self.old) ≤ MOST_CELLS }
         requires no_cycle { HasNoProviderCycle (what graph.now) }
         requires last { IsLastPlan ranks.now rank_plan.now }
         requires ranks { (a : ℕ) → IsRank (what graph.now) a (rank_after ranks.now rank_plan.now a) }

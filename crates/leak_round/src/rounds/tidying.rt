@@ -12,6 +12,7 @@ ghost use Rattle.stability_laws.specs.Rounds.{AreRounds};
 ghost use Rattle.leak_round.specs.Entries.{HasEntries, of_rounds};
 ghost use Rattle.leak_round.specs.Limits.{numbers_of};
 ghost use Rattle.leak_round.specs.Rounds.{is_open, plan_of, pool_of, round_count, kept};
+ghost use Rattle.leak_round.specs.declared.rounds.TheConstants.{MOST_CELLS};
 
 use super::Rounds;
 use as_graph::Graph;
@@ -50,7 +51,7 @@ impl Rounds {
         ensures count { round_count self.new ≡ round_count self.old }
         ensures kept { (round : ℕ) (prefix : PrefixValue) (a : ℕ) → kept self.new round prefix a ≡ kept self.old round prefix a }
         ensures cells { OnOk result (HasEntries (of_rounds (kept self.new)) (live_count (pool_of self.new) - numbers_of (plan_of self.new))) }
-        ensures few { OnOk result (live_count (pool_of self.new) ≤ 20000000) }
+        ensures few { OnOk result (live_count (pool_of self.new) ≤ MOST_CELLS) }
         ensures err { OnErr result (self.new ≡ self.old) }
     {
         let plan = self.plan.copied(alloc)?;

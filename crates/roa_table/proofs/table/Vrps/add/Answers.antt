@@ -13,8 +13,8 @@ returns-then-known-clause-is_new c = ap not c.if-known.ensures
 pub returns-then-known-clause-too_many : goal.returns-then-known-clause-too_many
 returns-then-known-clause-too_many c = ((λ e. cc e), λ p. cc (p.0, c.if-known.ensures))
 
-pub returns-then-count-ge-LIMIT-clause-too_many : goal.returns-then-count-ge-LIMIT-clause-too_many
-returns-then-count-ge-LIMIT-clause-too_many c = ((λ e. (sym c.if-known.ensures, sym (count_is c.self.inside.shelves.items c.self.inside.count c.self.invariant c.args.self.now c.self.view_is) ∙ omega (arith, c.self.invariant.bound))), λ p. refl)
+pub returns-then-count-ge-MOST_PAYLOADS-clause-too_many : goal.returns-then-count-ge-MOST_PAYLOADS-clause-too_many
+returns-then-count-ge-MOST_PAYLOADS-clause-too_many c = ((λ e. (sym c.if-known.ensures, sym (count_is c.self.inside.shelves.items c.self.inside.count c.self.invariant c.args.self.now c.self.view_is) ∙ omega (arith, c.self.invariant.bound))), λ p. refl)
 
 pub invariant_of-self : goal.invariant_of-self
 invariant_of-self c = added_table c.self.inside.shelves.items c.self.inside.count c.self.invariant c.args.self.now c.self.view_is c.put-outcome.new.shelves.items c.in-Ok.ensures.order c.args.vrp c.max.ensures.sound c.in-Ok.ensures.ok (sym c.if-known.ensures) (omega arith)
