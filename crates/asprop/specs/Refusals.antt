@@ -18,7 +18,7 @@ unknown_prefix_text prefix = codes "refused unknown-prefix " ++ (prefix_text pre
 -- the text of a refused query: what the world has not, or that the address is not watched (own format)
 abbrev pub refusal_text : QueryError → Text
 refusal_text refused.Memory = []
-refusal_text (refused.UnknownRound round) = codes "refused unknown-round " ++ (decimal round ++ 10 ∷ [])
+refusal_text (refused.UnknownRound n) = codes "refused unknown-round " ++ (decimal n ++ 10 ∷ [])
 refusal_text (refused.UnknownPrefix prefix) = unknown_prefix_text prefix
 refusal_text (refused.UnknownAs asn) = codes "refused unknown-as " ++ (decimal asn ++ 10 ∷ [])
 refusal_text (refused.NotWatched addr) = codes "refused not-watched " ++ (addr_text addr ++ 10 ∷ [])

@@ -17,7 +17,7 @@ use Rattle.scenario_text.specs.declared.faults.ScenarioError.TheVariants.{NotJso
 use Rattle.scenario_text.specs.declared.places.Member.TheVariants.{Announcements, Policies, Leaks, Watch}
 use Rattle.scenario_text.specs.declared.places.Place.{Place}
 use Rattle.scenario_text.specs.Laws.{ReadsAs}
-use Rattle.scenario_text.specs.Limits.{unless_passed, within}
+use Rattle.scenario_text.specs.Limits.{fault_if, within}
 use Rattle.scenario_text.specs.Places.{in_member, item}
 use Rattle.scenario_text.specs.Readings.{json_of, scenario_of_bytes}
 use Rattle.scenario_text.specs.Scenarios.{ScenarioValue, IsScenario, name_of, prefix_count}
@@ -75,7 +75,7 @@ once_of s h =
     (once_from addr_cmp addr_exact (in_member Watch) s.watch h.watched_once)
 
 all_within : (a b c d e f : Bool) → a ≡ false → b ≡ false → c ≡ false → d ≡ false → e ≡ false → f ≡ false
-    → (unless_passed limits.Announcements a >>= λ _. unless_passed limits.Prefixes b >>= λ _. unless_passed limits.Path c >>= λ _. unless_passed limits.Rounds d >>= λ _. unless_passed limits.Leakers e >>= λ _. unless_passed limits.Watch f) ≡ Ok tt
+    → (fault_if limits.Announcements a >>= λ _. fault_if limits.Prefixes b >>= λ _. fault_if limits.Path c >>= λ _. fault_if limits.Rounds d >>= λ _. fault_if limits.Leakers e >>= λ _. fault_if limits.Watch f) ≡ Ok tt
 all_within a b c d e f first second third fourth fifth sixth = rw (first, second, third, fourth, fifth, sixth) refl
 
 within_of : (s : ScenarioValue) → IsScenario s → within s ≡ Ok tt

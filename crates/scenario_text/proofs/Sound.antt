@@ -22,7 +22,7 @@ use Rattle.scenario_text.specs.declared.places.PartOf.TheVariants as parts
 use Rattle.scenario_text.specs.declared.places.Place.{Place}
 use Rattle.scenario_text.specs.declared.scenario.Announcement.{Announcement}
 use Rattle.scenario_text.specs.Documents.{DocumentValue}
-use Rattle.scenario_text.specs.Limits.{unless_passed, within}
+use Rattle.scenario_text.specs.Limits.{fault_if, within}
 use Rattle.scenario_text.specs.Places.{in_member, item, in_part}
 use Rattle.scenario_text.specs.Scenarios.{ScenarioValue, IsScenario, StartsWith, name_of, prefix_count}
 use Rattle.scenario_text.specs.Twice.{once_in, name_cmp, once}
@@ -151,7 +151,7 @@ record NonePassed (a b c d e f : Bool) : Type 0 where
   sixth : f ≡ false
 
 none_passed : (a b c d e f : Bool)
-    → (unless_passed limits.Announcements a >>= λ _. unless_passed limits.Prefixes b >>= λ _. unless_passed limits.Path c >>= λ _. unless_passed limits.Rounds d >>= λ _. unless_passed limits.Leakers e >>= λ _. unless_passed limits.Watch f) ≡ Ok tt
+    → (fault_if limits.Announcements a >>= λ _. fault_if limits.Prefixes b >>= λ _. fault_if limits.Path c >>= λ _. fault_if limits.Rounds d >>= λ _. fault_if limits.Leakers e >>= λ _. fault_if limits.Watch f) ≡ Ok tt
     → NonePassed a b c d e f
 none_passed true b c d e f h = absurd (cc)
 none_passed false true c d e f h = absurd (cc)
