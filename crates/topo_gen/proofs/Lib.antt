@@ -1,2 +1,4 @@
+pub mod Counts
 pub mod Drawing
+pub mod Entries
 pub mod UpTo

@@ -2,3 +2,4 @@ pub mod Draws
 pub mod Drawn
 pub mod Scenarios
 pub mod Lines
+pub mod Rising

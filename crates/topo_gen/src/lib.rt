@@ -9,6 +9,7 @@ mod demo;
 mod draw;
 mod lines;
 mod links;
+mod pairs;
 mod scenario;
 
 pub use demo::{Demo, generate};

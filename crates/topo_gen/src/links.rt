@@ -1,8 +1,9 @@
 //! The links of a generated input.
-ghost use Rattle.std.specs.Prelude.{◌≡◌, ◌≢◌, ◌-◌, ◌<◌, ◌≤◌, OnOk, IfOk, min};
+ghost use Rattle.std.specs.Prelude.{◌≡◌, ◌-◌, ◌<◌, ◌≤◌, OnOk, IfOk, min};
 ghost use Rattle.topo_gen.specs.Drawn.{below, first_peers, joined, drawn_links, peers_below, with_as, with_peer, with_providers};
 
 use crate::draw::draw;
+use crate::pairs::Pairs;
 use net_names::{Asn, Links, NoMemory, Rel};
 use rand_xoshiro::SplitMix64;
 use rand_xoshiro::rand_core::SeedableRng;
@@ -20,24 +21,16 @@ pub fn as_of(number: u32) -> Asn
 }
 
 // Joins the pair, unless it has a link: `b` becomes this to `a`.
-fn join(links: &mut Links, a: u32, b: u32, rel: Rel) -> Result<(), NoMemory>
+fn join(links: &mut Pairs, a: u32, b: u32, rel: Rel) -> Result<(), NoMemory>
     requires first { 1 ≤ a }
-    requires second { 1 ≤ b }
-    requires apart { a ≢ b }
+    requires rising { a < b }
     ensures { OnOk result (links.new ≡ joined a b rel links.old) }
 {
-    let (a, b) = (as_of(a), as_of(b));
-    if links.get(a, b).is_some() {
-        return Ok(());
-    }
-    match links.set(a, b, rel) {
-        Ok(()) => Ok(()),
-        Err(_) => Err(NoMemory),
-    }
+    links.join(as_of(a), as_of(b), rel)
 }
 
 // Makes the ASes below `a` its peers.
-fn join_below(links: &mut Links, a: u32) -> Result<(), NoMemory>
+fn join_below(links: &mut Pairs, a: u32) -> Result<(), NoMemory>
     requires { 1 ≤ a }
     ensures { OnOk result (links.new ≡ peers_below a (a - 1) links.old) }
 {
@@ -48,11 +41,11 @@ fn join_below(links: &mut Links, a: u32) -> Result<(), NoMemory>
 }
 
 // Makes peers of all pairs of the first ASes.
-fn first_links(alloc: Global, count: u32) -> Result<Links, NoMemory>
+fn first_links(alloc: Global, count: u32) -> Result<Pairs, NoMemory>
     requires { count ≤ 8 }
     ensures { IfOk result (λ links. links ≡ first_peers count) }
 {
-    let mut links = Links::new(alloc);
+    let mut links = Pairs::new(alloc);
     'first: for k in 0..count {
         join_below(&mut links, k + 1)?;
     }
@@ -71,7 +64,7 @@ fn pick(a: u32, word: u64) -> u32
 
 // Draws providers of `a`.
 fn join_providers(
-    links: &mut Links,
+    links: &mut Pairs,
     rng: &mut SplitMix64,
     a: u32,
     count: u64,
@@ -88,7 +81,7 @@ fn join_providers(
 }
 
 // Draws a peer of `a`, or none.
-fn join_peer(links: &mut Links, rng: &mut SplitMix64, a: u32) -> Result<(), NoMemory>
+fn join_peer(links: &mut Pairs, rng: &mut SplitMix64, a: u32) -> Result<(), NoMemory>
     requires { 2 ≤ a }
     ensures { OnOk result (record { links = links.new; state = rng.new } ≡ with_peer a (record { links = links.old; state = rng.old })) }
 {
@@ -100,7 +93,7 @@ fn join_peer(links: &mut Links, rng: &mut SplitMix64, a: u32) -> Result<(), NoMe
 }
 
 // Draws the links of one more AS.
-fn join_as(links: &mut Links, rng: &mut SplitMix64, a: u32) -> Result<(), NoMemory>
+fn join_as(links: &mut Pairs, rng: &mut SplitMix64, a: u32) -> Result<(), NoMemory>
     requires { 2 ≤ a }
     ensures { OnOk result (record { links = links.new; state = rng.new } ≡ with_as a (record { links = links.old; state = rng.old })) }
 {
@@ -119,5 +112,5 @@ pub fn generate_links(alloc: Global, n: u32) -> Result<Links, NoMemory>
     'ases: for k in 0..n.saturating_sub(8) {
         join_as(&mut links, &mut rng, k + 9)?;
     }
-    Ok(links)
+    links.in_order(alloc)
 }
