@@ -11,6 +11,7 @@ use Rattle.scenario_text.specs.Scenarios.{ScenarioValue, IsScenario}
 use Rattle.scenario_text.specs.Script.{script_of}
 use Rattle.scenario_text.specs.Shapes.{document_of}
 use Rattle.scenario_text.specs.Values.{lists_of}
+use Rattle.scenario_text.specs.declared.script.TheConstants.{MOST_COMMANDS}
 
 -- the text says these four lists, before it is asked what stands twice and what is too much: it is JSON, each value is of its type, and each is in its grammar (own format)
 pub record ReadsAs (bytes : List ℕ) (s : ScenarioValue) : Type 0 where
@@ -26,7 +27,7 @@ AcceptedExactly = (bytes : List ℕ) (s : ScenarioValue) → (scenario_of_bytes 
 
 -- a script is accepted exactly where each line that isn't skipped has one of the forms and these are at most 100,000 (own format)
 abbrev pub ScriptAcceptedExactly : Type 0
-ScriptAcceptedExactly = (bytes : List ℕ) → IsOk (script_of bytes) ↔ (All (λ line. IsSome (act_of line.1)) (kept_from 1 (texts bytes)) × (length (kept_from 1 (texts bytes)) ≤ 100000))
+ScriptAcceptedExactly = (bytes : List ℕ) → IsOk (script_of bytes) ↔ (All (λ line. IsSome (act_of line.1)) (kept_from 1 (texts bytes)) × (length (kept_from 1 (texts bytes)) ≤ MOST_COMMANDS))
 
 -- the lines of an accepted script are its lines that aren't skipped, in their order, each with its number and what its text asks for (own format)
 abbrev pub LinesAreThose : Type 0

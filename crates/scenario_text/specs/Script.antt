@@ -6,12 +6,13 @@ use Rattle.scenario_text.specs.declared.script.ScriptError.TheVariants.{Memory, 
 use Rattle.scenario_text.specs.Walks.{◌>>=◌, each_from}
 use Rattle.scenario_text.specs.Forms.{act_of}
 use Rattle.scenario_text.specs.Lines.{texts, kept_from}
+use Rattle.scenario_text.specs.declared.script.TheConstants.{MOST_COMMANDS}
 
 -- what a line says that isn't skipped, given with its number, where so many others stand before it: its form is judged first, and then that fewer than 100,000 stand before it (own format)
 abbrev pub command : ℕ → (ℕ × List ℕ) → Result LineValue ScriptError
-command before line = do
-  act ← ok_or (act_of line.1) (Unreadable line.0)
-  if nat_lt before 100000 then Ok (record { number = line.0; act = act }) else Err (TooMany line.0)
+command before l = do
+  act ← ok_or (act_of l.1) (Unreadable l.0)
+  if nat_lt before MOST_COMMANDS then Ok (record { number = l.0; act = act }) else Err (TooMany l.0)
 
 -- the lines of a script, or the fault of its first faulty line (own format)
 unfoldable pub script_of : List ℕ → Result (List LineValue) ScriptError

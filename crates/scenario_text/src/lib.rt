@@ -40,4 +40,4 @@ pub use place_texts::{place_string, put_place};
 pub use places::{Member, PartOf, Place};
 pub use reading::read_scenario;
 pub use scenario::{Announcement, Scenario};
-pub use script::{ScriptError, read_script};
+pub use script::{MOST_COMMANDS, ScriptError, read_script};

@@ -29,7 +29,8 @@ pub enum ScriptError {
     },
 }
 
-const MOST_COMMANDS: u32 = 100_000;
+/// How many lines of a script ask or edit at most.
+pub const MOST_COMMANDS: u32 = 100_000;
 
 // One carriage return at the end doesn't count.
 fn drop_cr(line: &[u8]) -> &[u8]
