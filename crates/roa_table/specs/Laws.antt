@@ -24,7 +24,7 @@ AcceptedExactly = (bytes : List ℕ) → IsOk (payloads_in bytes) ↔ HasPayload
 abbrev pub GivenExactly : Type 0
 GivenExactly = (bytes : List ℕ) (set : Payloads) (v : VrpValue) → payloads_in bytes ≡ Ok set → IsTrue (fin.contains_key set v) ↔ Any (λ row. payload_of row ≡ Ok v) (rows_of bytes)
 
--- the number of the row that a fault names, where the header is row 1; want of memory names none
+-- the number of the row that a fault names, counted from the header on, which is the first; want of memory names none
 abbrev pub row_of : VrpError → ℕ
 row_of fault.Memory = 0
 row_of (fault.Fields row) = row
