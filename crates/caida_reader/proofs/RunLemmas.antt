@@ -1,9 +1,7 @@
 -- Pairs that rise, each with its first line, as a map.
-use Rattle.std.proofs.Common.{◌≡◌, ℕ, List, [], ◌∷◌, length, get_or, refl, sym, ap, subst, ◌∙◌, arith, T, Result, Ok, Err, OnOk, OnErr, Some, None, IsSome, cond, All, Bool, true, false, ◌&&◌}
+use Rattle.std.proofs.Common.{◌≡◌, ℕ, List, [], ◌∷◌, length, get_or, refl, sym, ap, subst, ◌∙◌, arith, T, Result, Ok, Err, OnOk, OnErr, Some, None, IsSome, cond, All, Bool, true, false}
 use Rattle.std.specs.FinMap as fin
-use Rattle.std.specs.List.{AllByRecursion}
 use Rattle.std.specs.Map.{keys_of}
-use Rattle.std.proofs.lemmas.Map.Keys.{sorted_head, sorted_tail}
 use Rattle.std.specs.Ordering.{eq_by_cmp, is_eq, ordering_reverse}
 use Rattle.std.proofs.lemmas.List.Elements.{All-tail}
 use Rattle.std.specs.List.Sorted.{IsSearchInRange, IsBinarySearchResult, IsStrictlySortedBy}
@@ -59,21 +57,9 @@ module _ (es : List Entry) (sorted : T (fin.is_sorted pair_cmp es)) where
 pub run_of-entries : (m : FirstMap) → run_of (fin.entries m) ≡ m
 run_of-entries m = fin.same_entries_map _ _ (entries-run_of (fin.entries m) (fin.entries_sorted m))
 
-both : (a b : Bool) → T a → T b → T (a && b)
-both true b p q = q
-both false b p q = p
-
-is_below : (k : ℕ × ℕ) (es : List Entry) → AllByRecursion (λ q. pair_cmp k q ≡ Less) (keys_of es) → T (fin.Entries.below_all pair_cmp k es)
-is_below k [] h = tt
-is_below k (e ∷ es) h = rw h.0 (is_below k es h.1)
-
-rises_strictly : (es : List Entry) → IsStrictlySortedBy pair_cmp (keys_of es) → T (fin.is_sorted pair_cmp es)
-rises_strictly [] h = tt
-rises_strictly (e ∷ es) h = both _ _ (is_below e.0 es (sorted_head pair_cmp e.0 (keys_of es) h)) (rises_strictly es (sorted_tail pair_cmp e.0 (keys_of es) h))
-
 pub entries-from_entries : (es : List Entry) → IsStrictlySortedBy pair_cmp (keys_of es) → fin.entries (fin.from_entries {R = pair_cmp} es) ≡ es
 entries-from_entries es h =
-    let sorted = rises_strictly es h in
+    let sorted = rising.rises_strictly pair_cmp es h in
     ap (λ (m : FirstMap). fin.entries m) (fin.same_map pairs_total exact_pair _ _ (λ q. fin.get-from_entries pairs_total es q ∙ sym (fin.get-from_sorted pair_cmp es q sorted))) ∙ entries-run_of es sorted
 
 -- what holds of each pair in the list holds of one that is found

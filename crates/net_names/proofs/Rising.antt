@@ -1,12 +1,14 @@
 -- A list whose keys rise: where a search for a key ends, and what a change there does to the entries.
 use Rattle.std.proofs.Common.{◌≡◌, ℕ, zero, suc, ◌-◌, ◌≤◌, ◌<◌, Bool, true, false, ◌&&◌, List, [], ◌∷◌, map, length, get_or, set, refl, sym, ap, subst, ◌∙◌, arith, Ok, Err, T, Some, None}
-use Rattle.std.specs.List.{insert, list_all, HoldsAt}
-use Rattle.std.specs.List.Sorted.{IsSearchInRange, IsBinarySearchResult, IsNonDecreasingBy}
+use Rattle.std.specs.List.{insert, list_all, AllByRecursion, HoldsAt}
+use Rattle.std.specs.List.Sorted.{IsSearchInRange, IsBinarySearchResult, IsNonDecreasingBy, IsStrictlySortedBy}
+use Rattle.std.specs.Map.{keys_of}
 use Rattle.std.specs.declared.cmp.Ordering.{Ordering}
 use Rattle.std.specs.declared.cmp.Ordering.TheVariants.{Less, Equal, Greater}
 use Rattle.std.specs.Ordering.{is_lt, ordering_reverse, ordering_index}
 use Rattle.std.specs.Cmp.{IsTotalOrder}
 use Rattle.std.proofs.lemmas.Bool.{and_parts}
+use Rattle.std.proofs.lemmas.Map.Keys.{sorted_head, sorted_tail}
 use Rattle.std.proofs.lemmas.Map.Lookups.{CmpEqualImpliesEq}
 use Rattle.std.specs.FinMap as fin
 
@@ -22,6 +24,10 @@ left false b p = p
 right : (a b : Bool) → T (a && b) → T b
 right true b p = p
 right false b p = absurd p
+
+both : (a b : Bool) → T a → T b → T (a && b)
+both true b p q = q
+both false b p q = p
 
 index_high : (r : Ordering) → ordering_index r ≤ 2
 index_high Less = omega arith
@@ -54,6 +60,16 @@ pub all_at : {X : Type 0} (p : X → Bool) (xs : List X) (i : ℕ) (d : X) → l
 all_at p [] i d all lt = absurd (omega (arith, lt))
 all_at p (y ∷ ys) zero d all lt = (and_parts (p y) (list_all p ys) all).0
 all_at p (y ∷ ys) (suc i) d all lt = all_at p ys i d (and_parts (p y) (list_all p ys) all).1 (omega (arith, lt))
+
+module _ {K X : Type 0} (R : K → K → Ordering) where
+  is_below : (k : K) (es : List (K × X)) → AllByRecursion (λ q. R k q ≡ Less) (keys_of es) → T (fin.Entries.below_all R k es)
+  is_below k [] h = tt
+  is_below k (e ∷ es) h = rw h.0 (is_below k es h.1)
+
+  -- entries whose keys rise are those of a map
+  pub rises_strictly : (es : List (K × X)) → IsStrictlySortedBy R (keys_of es) → T (fin.is_sorted R es)
+  rises_strictly [] h = tt
+  rises_strictly (e ∷ es) h = both _ _ (is_below e.0 es (sorted_head R e.0 (keys_of es) h)) (rises_strictly es (sorted_tail R e.0 (keys_of es) h))
 
 module _ {L K X : Type 0} (R : K → K → Ordering) (key : L → K) (value : L → X) where
   -- the entries that the elements make

@@ -8,6 +8,4 @@ pub mod Payloads
 pub mod Steps
 pub mod Trials
 pub mod Texts
-pub mod FourSteps
-pub mod SixSteps
 pub mod Orders

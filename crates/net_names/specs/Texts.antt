@@ -1,13 +1,17 @@
 -- The texts of AS numbers, addresses and prefixes: what each text says, and how each value is printed.
-use Rattle.std.specs.Prelude.{ℕ, ◌+◌, ◌-◌, ◌*◌, ◌/◌, ◌%◌, ◌^◌, ◌&&◌, ◌||◌, ◌==◌, ◌==◌ as nat_eq, nat_lt, nat_le, not, List, [], ◌∷◌, ◌++◌, length, slice_index, decimal, Option, Some, None, option_map, if◌then◌else◌, position, zip, unwrap_or, take, drop, fold, replicate, map, true, false, Bool, bytes_eq, codes}
-use Rattle.std.specs.List.{starts_with, list_all, position_or_len, slice_split, join_with_byte, range_with_len}
+use Rattle.std.specs.Prelude.{ℕ, ◌+◌, ◌^◌, ◌&&◌, ◌||◌, ◌==◌, ◌==◌ as nat_eq, nat_lt, nat_le, List, [], ◌∷◌, ◌++◌, length, slice_index, decimal, Option, Some, None, option_map, if◌then◌else◌, position, unwrap_or, take, drop, true, Bool, bytes_eq, codes}
+use Rattle.std.specs.List.{starts_with, list_all, slice_split}
 use Rattle.std.specs.Option.{option_or}
-use Rattle.std.specs.Fmt.{digits}
 use Rattle.std.specs.Char.{is_digit}
 use Rattle.std.specs.Str.Parse.{digits_value}
+use Rattle.std.specs.Int.{w32, w128, to_be_bytes, from_be_bytes}
+use Rattle.std.specs.Net.Addr.{segments_of, octets_of}
+use Rattle.std.specs.Net.Text.{ipv4_text, hex_groups_text}
+use Rattle.std.specs.Net.Reader.{whole_value, read_ipv4, read_ipv6, dot}
 use Rattle.net_names.specs.declared.addresses.Family.TheVariants.{V4, V6}
 use Rattle.net_names.specs.declared.routes.Rel.{Rel}
 use Rattle.net_names.specs.declared.routes.Rel.TheVariants.{Customer, Peer}
+use Rattle.net_names.specs.Numbers.{occurs}
 use Rattle.net_names.specs.Addresses.{width, AddrValue}
 use Rattle.net_names.specs.Prefixes.{PrefixValue, prefix_at}
 use Rattle.net_names.specs.Steps.{◌>>=◌, option_filter}
@@ -45,10 +49,6 @@ plain_at_most limit text = do
 unfoldable pub asn_of : List ℕ → Option ℕ
 asn_of text = option_filter (λ n. nat_lt 0 n && nat_lt n (2 ^ 32)) (numeral 10 10 text)
 
--- what stands before the first pair of such bytes, and what stands after it
-abbrev pub cut_pair : ℕ → List ℕ → Option (List ℕ × List ℕ)
-cut_pair byte text = option_map (λ i. (take i text, drop (i + 2) text)) (position (λ p. (p.0 == byte) && (p.1 == byte)) (zip text (drop 1 text)))
-
 -- all values of the list, where each is there
 abbrev pub all_some : {A : Type 0} → List (Option A) → Option (List A)
 all_some [] = Some []
@@ -56,66 +56,19 @@ all_some (o ∷ os) = o >>= λ x. all_some os >>= λ xs. Some (x ∷ xs)
 
 -- the IPv4 address that four numbers up to 255 with dots between them write (RFC 3986, section 3.2.2, IPv4address)
 unfoldable pub v4_of : List ℕ → Option ℕ
-v4_of text = option_map (fold (λ bits n. bits * 2 ^ 8 + n) 0) (option_filter (λ ns. length ns == 4) (all_some (map (plain_at_most 255) (fields 46 text))))
-
--- the groups of 1 to 4 hexadecimal digits with colons between them; an empty text has none (RFC 4291, section 2.2)
-unfoldable pub groups_of : List ℕ → Option (List ℕ)
-groups_of [] = Some []
-groups_of (b ∷ bs) = all_some (map (numeral 16 4) (fields 58 (b ∷ bs)))
-
--- the number that groups of 16 bits make, the first group highest (RFC 4291, section 2.2)
-abbrev pub bits_of_groups : List ℕ → ℕ
-bits_of_groups = fold (λ n g. n * 2 ^ 16 + g) 0
-
--- a number of so many groups with these groups behind it, and how many groups that makes, where they are eight at most
-abbrev pub groups_on : ℕ → ℕ → Option (List ℕ) → Option (ℕ × ℕ)
-groups_on bits count read = do
-  gs ← read
-  if nat_le (count + length gs) 8 then Some (fold (λ n g. n * 2 ^ 16 + g) bits gs, count + length gs) else None
-
--- the eight groups of a text: all of them, or seven at most with one pair of colons in place of the groups of 0 that are missing (RFC 4291, section 2.2)
-abbrev pub groups_at : List ℕ → Option (List ℕ × List ℕ) → Option (List ℕ)
-groups_at text None = option_filter (λ gs. length gs == 8) (groups_of text)
-groups_at text (Some p) = do
-  front ← groups_of p.0
-  back ← groups_of p.1
-  if nat_lt (length front + length back) 8 then Some (front ++ (replicate (8 - (length front + length back)) 0 ++ back)) else None
+v4_of text = option_map (from_be_bytes w32) (whole_value (read_ipv4 text))
 
 -- the IPv6 address that the text writes (RFC 4291, section 2.2, forms 1 and 2; the form with a dotted end is not read)
 unfoldable pub v6_of : List ℕ → Option ℕ
-v6_of text = option_map bits_of_groups (groups_at text (cut_pair 58 text))
-
--- the eight groups of 16 bits of an IPv6 address, the highest first (RFC 4291, section 2.2)
-unfoldable pub groups : ℕ → List ℕ
-groups bits = map (λ i. bits / 2 ^ (16 * (7 - i)) % 2 ^ 16) (range_with_len 0 8)
-
--- groups in lower case hexadecimal digits without leading zeros, with colons between them (RFC 5952, sections 4.1 and 4.3)
-abbrev pub hex_text : List ℕ → List ℕ
-hex_text gs = join_with_byte 58 (map (digits 16 false) gs)
-
--- how many groups of 0 stand together from this place on
-abbrev pub zeros_at : List ℕ → ℕ → ℕ
-zeros_at gs i = let rest = drop i gs in unwrap_or (position (λ g. not (g == 0)) rest) (length rest)
-
--- the first place whose number no other number of the list exceeds
-abbrev pub first_greatest : List ℕ → ℕ
-first_greatest ns = position_or_len (λ n. list_all (λ m. nat_le m n) ns) ns
-
--- where the longest run of groups of 0 begins, the first such run where several are as long (RFC 5952, section 4.2.3)
-unfoldable pub longest_run : List ℕ → ℕ
-longest_run gs = first_greatest (map (zeros_at gs) (range_with_len 0 8))
-
--- groups with a pair of colons in place of the n groups of 0 from place i on, where they are two or more (RFC 5952, section 4.2.2)
-abbrev pub shortened : List ℕ → ℕ → ℕ → List ℕ
-shortened gs i n = if nat_lt n 2 then hex_text gs else hex_text (take i gs) ++ (58 ∷ 58 ∷ hex_text (drop (i + n) gs))
-
--- the one text that an IPv6 address is printed as: of its groups the first longest run of 0 is shortened (RFC 5952, section 4)
-unfoldable pub v6_text : ℕ → List ℕ
-v6_text bits = let gs = groups bits in let i = longest_run gs in shortened gs i (zeros_at gs i)
+v6_of text = if occurs dot text then None else option_map (λ groups. from_be_bytes w128 (octets_of groups)) (whole_value (read_ipv6 text))
 
 -- the one text of an IPv4 address: its four bytes in decimal digits with dots between them (RFC 3986, section 3.2.2)
 unfoldable pub v4_text : ℕ → List ℕ
-v4_text bits = decimal (bits / 2 ^ 24) ++ (46 ∷ (decimal (bits / 2 ^ 16 % 2 ^ 8) ++ (46 ∷ (decimal (bits / 2 ^ 8 % 2 ^ 8) ++ (46 ∷ decimal (bits % 2 ^ 8))))))
+v4_text bits = ipv4_text (to_be_bytes w32 bits)
+
+-- the one text that an IPv6 address is printed as: groups in hexadecimal digits, of which the first longest run of 0 is shortened (RFC 5952, section 4)
+unfoldable pub v6_text : ℕ → List ℕ
+v6_text bits = hex_groups_text (segments_of (to_be_bytes w128 bits))
 
 -- the one text of an address, by its family
 abbrev pub addr_text : AddrValue → List ℕ

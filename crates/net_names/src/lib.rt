@@ -12,10 +12,7 @@ mod numbers;
 mod payloads;
 mod prefixes;
 mod reading;
-mod room;
 mod routes;
-mod six_reading;
-mod six_writing;
 mod writing;
 
 pub use addresses::{Addr, Family};

@@ -1,12 +1,11 @@
 //! Texts to values.
 ghost use Rattle.std.specs.Prelude.{◌≡◌, ◌^◌, ◌<◌, ◌≤◌, ◌==◌, option_map, IfSome, length, position};
-ghost use Rattle.net_names.specs.FourSteps.{v4_by_steps};
-ghost use Rattle.net_names.specs.Texts.{cut_at, numeral, plain_at_most, asn_of, v4_of, addr_of, prefix_of, vrp_asn_of, after};
+ghost use Rattle.net_names.specs.Texts.{cut_at, numeral, plain_at_most, asn_of, v4_of, v6_of, addr_of, prefix_of, vrp_asn_of, after};
 
 use crate::addresses::{Addr, Family};
 use crate::numbers::Asn;
 use crate::prefixes::Prefix;
-use crate::six_reading::read_v6;
+use std::net::{Ipv4Addr, Ipv6Addr};
 
 fn find(text: &[u8], byte: u8) -> Option<usize>
     ensures place { result ≡ position (λ b. b == byte) text.now }
@@ -67,24 +66,26 @@ pub fn read_asn(text: &[u8]) -> Option<Asn>
     Asn::new(n as u32)
 }
 
-#[tactic(auto, unfolding(crate::specs::FourSteps::v4_by_steps))]
-fn read_v4_by_steps(text: &[u8]) -> Option<u32>
-    ensures { result ≡ v4_by_steps text.now }
-{
-    let (w, rest) = cut(text, b'.')?;
-    let (x, rest) = cut(rest, b'.')?;
-    let (y, z) = cut(rest, b'.')?;
-    let a = plain(w, 255)?;
-    let b = plain(x, 255)?;
-    let c = plain(y, 255)?;
-    let d = plain(z, 255)?;
-    Some(a as u32 * 0x100_0000 + b as u32 * 0x1_0000 + c as u32 * 0x100 + d as u32)
-}
-
 fn read_v4(text: &[u8]) -> Option<u32>
     ensures { result ≡ v4_of text.now }
 {
-    read_v4_by_steps(text)
+    match Ipv4Addr::parse_ascii(text) {
+        Ok(addr) => Some(addr.to_bits()),
+        Err(_) => None,
+    }
+}
+
+/// A dotted end is not read.
+fn read_v6(text: &[u8]) -> Option<u128>
+    ensures { result ≡ v6_of text.now }
+{
+    if text.contains(&b'.') {
+        return None;
+    }
+    match Ipv6Addr::parse_ascii(text) {
+        Ok(addr) => Some(addr.to_bits()),
+        Err(_) => None,
+    }
 }
 
 /// What stands after these bytes, where the text begins with them.

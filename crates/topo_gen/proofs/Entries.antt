@@ -1,8 +1,8 @@
 -- Linked pairs as a finite map, whose entries a tree keeps in their rising order.
-use Rattle.std.proofs.Common.{◌≡◌, ℕ, ◌<◌, ◌≤◌, nat_lt, Bool, true, false, ◌&&◌, cond, T, List, [], ◌∷◌, map, length, Option, Some, None, IsSome, is_some, refl, sym, ap, subst, ◌∙◌, if◌then◌else◌}
+use Rattle.std.proofs.Common.{◌≡◌, ℕ, ◌<◌, ◌≤◌, nat_lt, Bool, true, false, cond, T, List, [], ◌∷◌, map, length, Option, Some, None, IsSome, is_some, refl, sym, ap, subst, ◌∙◌, if◌then◌else◌}
 use Rattle.std.specs.Cmp.{eq_by_cmp_equiv, tied_itself}
 use Rattle.std.specs.FinMap as fin
-use Rattle.std.specs.List.{AllByRecursion, list_all}
+use Rattle.std.specs.List.{list_all}
 use Rattle.std.specs.List.Sorted.{IsStrictlySortedBy}
 use Rattle.std.specs.Map.{keys_of, lookup}
 use Rattle.std.specs.Ordering.{eq_by_cmp, is_eq}
@@ -11,13 +11,13 @@ use Rattle.std.specs.declared.cmp.Ordering.{Ordering}
 use Rattle.std.specs.declared.cmp.Ordering.TheVariants.{Less, Equal, Greater}
 use Rattle.std.proofs.lemmas.Bool.{lt-ltb}
 use Rattle.std.proofs.lemmas.List.{length-map}
-use Rattle.std.proofs.lemmas.Map.Keys.{sorted_head, sorted_tail}
 use Rattle.net_names.specs.Links.{pair_cmp, LinkMap}
 use Rattle.net_names.specs.LinkLists.{entry_of, map_of, AreLinks}
 use Rattle.net_names.specs.declared.links.Link.{Link}
 use Rattle.net_names.specs.declared.links.TheConstants.{MOST_LINKS}
 use Rattle.net_names.specs.declared.routes.Rel.{Rel}
 use Rattle.net_names.proofs.Pairs.{exact_pair, pairs_total}
+use Rattle.net_names.proofs.Rising.{rises_strictly}
 use Rattle.topo_gen.specs.Drawn.{joined}
 use Rattle.topo_gen.specs.Rising.{AreRising}
 
@@ -91,24 +91,12 @@ entries_of : (es : List Entry) → map entry_of (map link_of es) ≡ es
 entries_of [] = refl
 entries_of (e ∷ es) = ap (λ fs. e ∷ fs) (entries_of es)
 
-both : (a b : Bool) → T a → T b → T (a && b)
-both true b p q = q
-both false b p q = p
-
-is_below : (k : ℕ × ℕ) (es : List Entry) → AllByRecursion (λ q. pair_cmp k q ≡ Less) (keys_of es) → T (fin.Entries.below_all pair_cmp k es)
-is_below k [] h = tt
-is_below k (e ∷ es) h = rw h.0 (is_below k es h.1)
-
-rises_strictly : (es : List Entry) → IsStrictlySortedBy pair_cmp (keys_of es) → T (fin.is_sorted pair_cmp es)
-rises_strictly [] h = tt
-rises_strictly (e ∷ es) h = both _ _ (is_below e.0 es (sorted_head pair_cmp e.0 (keys_of es) h)) (rises_strictly es (sorted_tail pair_cmp e.0 (keys_of es) h))
-
 from_rising : (es : List Entry) → T (fin.is_sorted pair_cmp es) → fin.from_sorted {R = pair_cmp} es ≡ fin.from_entries es
 from_rising es sorted = fin.same_map pairs_total exact_pair _ _ (λ q. fin.get-from_sorted pair_cmp es q sorted ∙ sym (fin.get-from_entries pairs_total es q))
 
 -- the links make the map that the entries make
 pub map_of-links : (es : List Entry) → IsStrictlySortedBy pair_cmp (keys_of es) → map_of (map link_of es) ≡ map_with es
-map_of-links es h = ap (λ fs. fin.from_sorted {R = pair_cmp} fs) (entries_of es) ∙ from_rising es (rises_strictly es h)
+map_of-links es h = ap (λ fs. fin.from_sorted {R = pair_cmp} fs) (entries_of es) ∙ from_rising es (rises_strictly pair_cmp es h)
 
 len-map_with : (es : List Entry) → T (fin.is_sorted pair_cmp es) → fin.len (map_with es) ≡ length es
 len-map_with es sorted = fin.len-entries (map_with es) ∙ ap (λ (m : LinkMap). length (fin.entries m)) (sym (from_rising es sorted)) ∙ ap length (fin.entries-from_sorted pair_cmp es sorted)
@@ -131,7 +119,7 @@ all_lower (e ∷ es) h =
 -- and are as links have to be
 pub are_links : (es : List Entry) → IsStrictlySortedBy pair_cmp (keys_of es) → AreRising (map_with es) → fin.len (map_with es) ≤ MOST_LINKS → AreLinks (map link_of es)
 are_links es h rises few =
-    let sorted = rises_strictly es h in
+    let sorted = rises_strictly pair_cmp es h in
     record {
       rising = subst (λ fs. T (fin.is_sorted pair_cmp fs)) (sym (entries_of es)) sorted;
       lower = all_lower es (λ q is. rises q (subst IsSome (sym (fin.get-from_entries pairs_total es q)) is));

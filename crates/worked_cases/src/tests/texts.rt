@@ -9,7 +9,7 @@ use std::test::Fail;
 #[test]
 fn addresses_are_read_and_printed_in_one_form(rt: HostRuntime) -> Result<(), Fail> {
     // RFC 5952, sections 1, 2 and 4, has texts of these kinds.
-    let rows: [(&[u8], &[u8]); 9] = [
+    let rows: [(&[u8], &[u8]); 10] = [
         (b"2001:db8:0:0:1:0:0:1", b"2001:db8::1:0:0:1"),
         (b"2001:0DB8:0::2", b"2001:db8::2"),
         (b"::", b"::"),
@@ -19,6 +19,11 @@ fn addresses_are_read_and_printed_in_one_form(rt: HostRuntime) -> Result<(), Fai
         (b"::ffff:102:304", b"::ffff:102:304"),
         (b"10.128.0.1", b"10.128.0.1"),
         (b"255.255.255.255", b"255.255.255.255"),
+        // RFC 4291, section 2.2, has this one, and none is longer.
+        (
+            b"ABCD:EF01:2345:6789:ABCD:EF01:2345:6789",
+            b"abcd:ef01:2345:6789:abcd:ef01:2345:6789",
+        ),
     ];
     for row in &rows {
         let addr = read_addr(row.0).ok_or("an address")?;
@@ -66,12 +71,17 @@ fn texts_outside_the_grammar_are_not_read(rt: HostRuntime) {
 
 #[test]
 fn prefixes_are_read_and_printed_in_one_form(rt: HostRuntime) -> Result<(), Fail> {
-    let rows: [(&[u8], &[u8]); 5] = [
+    let rows: [(&[u8], &[u8]); 6] = [
         (b"0.0.0.0/0", b"0.0.0.0/0"),
         (b"10.128.0.0/9", b"10.128.0.0/9"),
         (b"2001:DB8:0::/32", b"2001:db8::/32"),
         (b"::/0", b"::/0"),
         (b"::1/128", b"::1/128"),
+        // None is longer.
+        (
+            b"ABCD:EF01:2345:6789:ABCD:EF01:2345:6789/128",
+            b"abcd:ef01:2345:6789:abcd:ef01:2345:6789/128",
+        ),
     ];
     for row in &rows {
         let prefix = prefix(row.0)?;

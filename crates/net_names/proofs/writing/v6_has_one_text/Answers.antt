@@ -1,4 +1,4 @@
-use Rattle.net_names.proofs.SixLaws.{v6_again}
+use Rattle.net_names.proofs.AddressTexts.{v6_again}
 use Rattle.net_names.proofs.writing.v6_has_one_text.Goals as goal
 
 pub returns : goal.returns
