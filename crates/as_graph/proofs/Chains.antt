@@ -9,16 +9,16 @@ use Rattle.as_graph.specs.Hierarchy.{IsDescent, HasNoProviderCycle}
 
 -- what the first is to the second is the converse of what the second is to the first
 abbrev pub IsMutual : (ℕ → ℕ → Option Rel) → Type 0
-IsMutual what = (a b : ℕ) → what b a ≡ option_map converse (what a b)
+IsMutual relation = (a b : ℕ) → relation b a ≡ option_map converse (relation a b)
 
 -- links are seen alike from both ends, and join numbers of the list
-pub record AreLinks (what : ℕ → ℕ → Option Rel) (ases : List ℕ) : Type 0 where
-  pub alike : IsMutual what
-  pub ends : (a b : ℕ) (r : Rel) → what a b ≡ Some r → occurs b ases ≡ true
+pub record AreLinks (relation : ℕ → ℕ → Option Rel) (ases : List ℕ) : Type 0 where
+  pub alike : IsMutual relation
+  pub ends : (a b : ℕ) (r : Rel) → relation a b ≡ Some r → occurs b ases ≡ true
 
 -- the numbers fall from each provider to its customers, and none is above the top
-pub record Falls (what : ℕ → ℕ → Option Rel) (rank : ℕ → ℕ) (top : ℕ) : Type 0 where
-  pub falls : (a b : ℕ) → what a b ≡ Some Customer → suc (rank b) ≤ rank a
+pub record Falls (relation : ℕ → ℕ → Option Rel) (rank : ℕ → ℕ) (top : ℕ) : Type 0 where
+  pub falls : (a b : ℕ) → relation a b ≡ Some Customer → suc (rank b) ≤ rank a
   pub within : (a : ℕ) → rank a ≤ top
 
 -- ---- lists of distinct numbers
@@ -60,9 +60,9 @@ distinct_le (x ∷ xs) ys d h =
 
 -- ---- descents
 
-pub descent_tail : (what : ℕ → ℕ → Option Rel) (a : ℕ) (xs : List ℕ) → IsDescent what (a ∷ xs) → IsDescent what xs
-descent_tail what a [] h = tt
-descent_tail what a (b ∷ xs) h = h.1
+pub descent_tail : (relation : ℕ → ℕ → Option Rel) (a : ℕ) (xs : List ℕ) → IsDescent relation (a ∷ xs) → IsDescent relation xs
+descent_tail relation a [] h = tt
+descent_tail relation a (b ∷ xs) h = h.1
 
 -- the part of the list before the first x
 abbrev before_first : ℕ → List ℕ → List ℕ
@@ -99,30 +99,30 @@ distinct_before x (y ∷ ys) d = by (y == x) (distinct_before x ys d.1)
     by true ih = tt
     by false ih = (absent_before x y ys d.0, ih)
 
-module _ (what : ℕ → ℕ → Option Rel) (x : ℕ) where
+module _ (relation : ℕ → ℕ → Option Rel) (x : ℕ) where
   -- a descent from d through x: the part before x descends, and its last is a provider of x
-  closing : (d : ℕ) (ys : List ℕ) → IsDescent what (d ∷ ys) → occurs x ys ≡ true → IsDescent what (d ∷ before_first x ys) × (what (last_or d (before_first x ys)) x ≡ Some Customer)
+  closing : (d : ℕ) (ys : List ℕ) → IsDescent relation (d ∷ ys) → occurs x ys ≡ true → IsDescent relation (d ∷ before_first x ys) × (relation (last_or d (before_first x ys)) x ≡ Some Customer)
   closing d [] h o = cc
   closing d (y ∷ ys) h o = by (y == x) refl (closing y ys h.1)
     where
-      by : (b : Bool) → (y == x) ≡ b → (occurs x ys ≡ true → IsDescent what (y ∷ before_first x ys) × (what (last_or y (before_first x ys)) x ≡ Some Customer)) → IsDescent what (d ∷ cond b [] (y ∷ before_first x ys)) × (what (last_or d (cond b [] (y ∷ before_first x ys))) x ≡ Some Customer)
-      by true is ih = (tt, subst (λ t. what d t ≡ Some Customer) (eqb-true y x is) h.0)
+      by : (b : Bool) → (y == x) ≡ b → (occurs x ys ≡ true → IsDescent relation (y ∷ before_first x ys) × (relation (last_or y (before_first x ys)) x ≡ Some Customer)) → IsDescent relation (d ∷ cond b [] (y ∷ before_first x ys)) × (relation (last_or d (cond b [] (y ∷ before_first x ys))) x ≡ Some Customer)
+      by true is ih = (tt, subst (λ t. relation d t ≡ Some Customer) (eqb-true y x is) h.0)
       by false is ih = let rest = ih (sym (ap (λ b. b || occurs x ys) is) ∙ o) in ((h.0, rest.0), rest.1)
 
-module _ (what : ℕ → ℕ → Option Rel) (mutual_links : IsMutual what) (no_cycle : HasNoProviderCycle what) where
-  no_self : (a : ℕ) → what a a ≡ Some Customer → ⊥
+module _ (relation : ℕ → ℕ → Option Rel) (mutual_links : IsMutual relation) (no_cycle : HasNoProviderCycle relation) where
+  no_self : (a : ℕ) → relation a a ≡ Some Customer → ⊥
   no_self a e = let x : Some Customer ≡ Some Provider = sym e ∙ mutual_links a a ∙ ap (option_map converse) e in cc
 
   -- without a provider cycle, no descent meets an AS twice
-  pub descent_distinct : (xs : List ℕ) → IsDescent what xs → IsDistinct xs
+  pub descent_distinct : (xs : List ℕ) → IsDescent relation xs → IsDistinct xs
   descent_distinct [] h = tt
   descent_distinct (a ∷ xs) h =
-      let rest = descent_distinct xs (descent_tail what a xs h) in
+      let rest = descent_distinct xs (descent_tail relation a xs h) in
       (elim (cases_Bool (occurs a xs)) [ inl e ↦ absurd (met rest e) | inr e ↦ e ], rest)
     where
-      cycle_of : (ys : List ℕ) → (occurs a ys ≡ false) → IsDistinct ys → IsDescent what (a ∷ ys) → what (last_or a ys) a ≡ Some Customer → ⊥
+      cycle_of : (ys : List ℕ) → (occurs a ys ≡ false) → IsDistinct ys → IsDescent relation (a ∷ ys) → relation (last_or a ys) a ≡ Some Customer → ⊥
       cycle_of [] o d down close = no_self a close
       cycle_of (y ∷ ys) o d down close = no_cycle (a ∷ y ∷ ys) (record { two = omega arith; distinct = (o, d); descends = down; closes = close })
 
       met : IsDistinct xs → occurs a xs ≡ true → ⊥
-      met rest e = let c = closing what a a xs h e in cycle_of (before_first a xs) (not_before a xs) (distinct_before a xs rest) c.0 c.1
+      met rest e = let c = closing relation a a xs h e in cycle_of (before_first a xs) (not_before a xs) (distinct_before a xs rest) c.0 c.1

@@ -17,8 +17,8 @@ use Rattle.as_graph.specs.Edits.{with_link, without_link, without_mark}
 use Rattle.as_graph.specs.Rows.{rel_in}
 use Rattle.as_graph.specs.Graphs.{Rows, neighbours_of, rel_of, is_marked, is_needed, is_there, links_of, topology_of, graph_of, IsGraph, IsKept}
 use Rattle.as_graph.specs.Writes.{HasRoomFor, KeepsRows, SetsLink, SetsMark}
-use Rattle.as_graph.proofs.Links.{linked_end, what_mutual}
-use Rattle.as_graph.proofs.RowLinks.{what-topology_of}
+use Rattle.as_graph.proofs.Links.{linked_end, relation_mutual}
+use Rattle.as_graph.proofs.RowLinks.{relation-topology_of}
 use Rattle.as_graph.proofs.RowAses.{mark_at, contains-marked, has-topology_of, as_count-listed, rising_distinct}
 use Rattle.as_graph.proofs.TakenLinks.{mark_absent}
 use Rattle.as_graph.proofs.Marking.{there_is, kept_row, topology_of-kept, kept-kept, there_others, there_new, kept-marked}
@@ -69,7 +69,7 @@ seen_unmarked_none l room g a graph seen none =
 -- both ends of a link are there
 pub end_there : (l : Rows) (a b : ℕ) → IsGraph l → rel_of l a b ≢ None → is_there l a ≡ true
 end_there l a b graph some = let (r, is) = some_from (rel_of l a b) some in
-    sym (has-topology_of l graph a) ∙ linked_end (topology_of l) b a (converse r) (what_mutual (topology_of l) a b ∙ ap (option_map converse) (what-topology_of l graph a b ∙ is))
+    sym (has-topology_of l graph a) ∙ linked_end (topology_of l) b a (converse r) (relation_mutual (topology_of l) a b ∙ ap (option_map converse) (relation-topology_of l graph a b ∙ is))
 
 pub some_back : (l : Rows) (a b : ℕ) → IsGraph l → rel_of l a b ≢ None → rel_of l b a ≢ None
 some_back l a b graph some none = some (graph.alike b a ∙ ap (option_map converse) none)
@@ -187,7 +187,7 @@ between_empty a b = none_between (nat_lt a b) (nat_lt b a) (map.get map.empty (a
 -- there is a link to take away
 pub some_links : (l : Rows) (order : List ℕ) (count a b : ℕ) → IsKept l order count → rel_of l a b ≢ None → 1 ≤ count
 some_links l order count a b kept some = elim (cases_eq count 0) [
-  | inl e ↦ absurd (some (sym (what-topology_of l kept.graph a b) ∙ ap (λ m. between m a b) (map.empty_of_len (links_of l) (kept.counted ∙ e)) ∙ between_empty a b))
+  | inl e ↦ absurd (some (sym (relation-topology_of l kept.graph a b) ∙ ap (λ m. between m a b) (map.empty_of_len (links_of l) (kept.counted ∙ e)) ∙ between_empty a b))
   | inr ne ↦ omega (arith, ne)
 ]
 

@@ -8,14 +8,14 @@ use Rattle.net_names.specs.declared.routes.Rel.{Rel}
 use Rattle.net_names.specs.Numbers.{occurs}
 use Rattle.as_graph.specs.declared.neighbour.Neighbour.{Neighbour}
 use Rattle.as_graph.specs.declared.row.Row.{Row}
-use Rattle.as_graph.specs.Topology.{Topology, what, has, as_count}
+use Rattle.as_graph.specs.Topology.{Topology, relation, has, as_count}
 use Rattle.as_graph.specs.Neighbours.{AreNeighbours}
 use Rattle.as_graph.specs.Following.{IsAbove, IsNext}
 use Rattle.as_graph.specs.Order.{IsStart}
 use Rattle.as_graph.specs.Rows.{rel_in, IsRising}
 use Rattle.as_graph.specs.Graphs.{Rows, rel_of, is_needed, graph_of, IsKept}
 use Rattle.as_graph.proofs.RowLemmas.{rising_asns, found_each, found_occurs}
-use Rattle.as_graph.proofs.RowLinks.{items_at, what-topology_of}
+use Rattle.as_graph.proofs.RowLinks.{items_at, relation-topology_of}
 use Rattle.as_graph.proofs.RowAses.{has-topology_of, rising_distinct, as_count-listed}
 use Rattle.as_graph.proofs.OrderLemmas.{occurs_start, above_start, least_start, none_above}
 
@@ -33,17 +33,17 @@ items_rise (Some r) i j lt h = r.rising i j lt h
 
 module _ (m : Rows) (order : List ℕ) (count : ℕ) (kept : IsKept m order count) (g : Topology) (room : Option (ℕ × ℕ)) (seen : graph_of m room ≡ g) where
   -- by the row of a
-  pub what_read : (a b : ℕ) (o : Option Row) → o ≡ get nat_eq m a → what g a b ≡ rel_in (items_at o) b
-  what_read a b o e = sym (ap (λ h. what h a b) seen) ∙ what-topology_of m kept.graph a b ∙ sym (ap (λ t. rel_in (items_at t) b) e)
+  pub relation_read : (a b : ℕ) (o : Option Row) → o ≡ get nat_eq m a → relation g a b ≡ rel_in (items_at o) b
+  relation_read a b o e = sym (ap (λ h. relation h a b) seen) ∙ relation-topology_of m kept.graph a b ∙ sym (ap (λ t. rel_in (items_at t) b) e)
 
-  pub rel_read : (a b : ℕ) → what g a b ≡ rel_of m a b
-  rel_read a b = what_read a b (get nat_eq m a) refl
+  pub rel_read : (a b : ℕ) → relation g a b ≡ rel_of m a b
+  rel_read a b = relation_read a b (get nat_eq m a) refl
 
-  pub linked_rows : (a b : ℕ) → what g a b ≢ None → rel_of m a b ≢ None
+  pub linked_rows : (a b : ℕ) → relation g a b ≢ None → rel_of m a b ≢ None
   linked_rows a b some none = some (rel_read a b ∙ none)
 
-  pub neighbours_read : (a : ℕ) (o : Option Row) → o ≡ get nat_eq m a → AreNeighbours (what g) a (items_at o)
-  neighbours_read a o e = row_neighbours (what g) a (items_at o) (items_rise o) (λ b. what_read a b o e)
+  pub neighbours_read : (a : ℕ) (o : Option Row) → o ≡ get nat_eq m a → AreNeighbours (relation g) a (items_at o)
+  neighbours_read a o e = row_neighbours (relation g) a (items_at o) (items_rise o) (λ b. relation_read a b o e)
 
   pub has_read : (a : ℕ) (o : Option Row) → o ≡ get nat_eq m a → option_map_or is_needed o false ≡ has g a
   has_read a o e = ap (λ t. option_map_or is_needed t false) e ∙ sym (has-topology_of m kept.graph a) ∙ ap (λ h. has h a) seen

@@ -11,7 +11,7 @@ use Rattle.net_names.specs.declared.routes.Rel.{Rel}
 use Rattle.net_names.specs.declared.routes.Rel.TheVariants.{Customer, Peer, Provider}
 use Rattle.net_names.specs.Links.{pair_cmp, converse}
 use Rattle.net_names.specs.Numbers.{occurs}
-use Rattle.as_graph.specs.Topology.{Topology, what, ends_of, ases}
+use Rattle.as_graph.specs.Topology.{Topology, relation, ends_of, ases}
 use Rattle.as_graph.proofs.Chains.{IsMutual, AreLinks}
 
 pub twice : (r : Option Rel) → r ≡ option_map converse (option_map converse r)
@@ -26,8 +26,8 @@ mutual_by true false p q n = refl
 mutual_by false true p q n = twice q
 mutual_by false false p q n = refl
 
-pub what_mutual : (g : Topology) → IsMutual (what g)
-what_mutual g a b = mutual_by (nat_lt a b) (nat_lt b a) (map.get g.links (a, b)) (map.get g.links (b, a)) (λ x y. let h : a < b = ltb-true a b x in let k : b < a = ltb-true b a y in absurd (omega arith))
+pub relation_mutual : (g : Topology) → IsMutual (relation g)
+relation_mutual g a b = mutual_by (nat_lt a b) (nat_lt b a) (map.get g.links (a, b)) (map.get g.links (b, a)) (λ x y. let h : a < b = ltb-true a b x in let k : b < a = ltb-true b a y in absurd (omega arith))
 
 pub is_equal : (r : Ordering) → is_eq r ≡ true → r ≡ Equal
 is_equal Less e = cc
@@ -53,7 +53,7 @@ occurs_right : (x : ℕ) (xs ys : List ℕ) → occurs x ys ≡ true → occurs 
 occurs_right x [] ys h = h
 occurs_right x (z ∷ xs) ys h = or_right (z == x) _ (occurs_right x xs ys h)
 
-pub linked_end : (g : Topology) (a b : ℕ) (r : Rel) → what g a b ≡ Some r → occurs b (ases g) ≡ true
+pub linked_end : (g : Topology) (a b : ℕ) (r : Rel) → relation g a b ≡ Some r → occurs b (ases g) ≡ true
 linked_end g a b r h = by (nat_lt a b) (nat_lt b a) h
   where
     there : (p : ℕ × ℕ) (s : Rel) → map.get g.links p ≡ Some s → (occurs p.0 (ends_of (map.entries g.links)) ≡ true) × (occurs p.1 (ends_of (map.entries g.links)) ≡ true)
@@ -68,14 +68,14 @@ linked_end g a b r h = by (nat_lt a b) (nat_lt b a) h
     by false true e = let (s, is) = turned (map.get g.links (b, a)) e in occurs_right b (set.items g.marked) _ (there (b, a) s is).0
     by false false e = cc
 
-pub topology-AreLinks : (g : Topology) → AreLinks (what g) (ases g)
-topology-AreLinks g = record { alike = what_mutual g; ends = linked_end g }
+pub topology-AreLinks : (g : Topology) → AreLinks (relation g) (ases g)
+topology-AreLinks g = record { alike = relation_mutual g; ends = linked_end g }
 
 not_below : (a : ℕ) (b : Bool) → nat_lt a a ≡ b → b ≡ false
 not_below a true e = let h : a < a = ltb-true a a e in absurd (omega arith)
 not_below a false e = refl
 
 -- an AS is nothing to itself
-pub what_self : (g : Topology) (a : ℕ) → what g a a ≡ None
-what_self g a = let e = not_below a (nat_lt a a) refl in
+pub relation_self : (g : Topology) (a : ℕ) → relation g a a ≡ None
+relation_self g a = let e = not_below a (nat_lt a a) refl in
     ap (λ b. cond b (map.get g.links (a, a)) (cond b (option_map converse (map.get g.links (a, a))) None)) e

@@ -22,8 +22,8 @@ use Rattle.as_graph.specs.Topology.{Topology, ends_of, ases, has, as_count}
 use Rattle.as_graph.specs.Rows.{rel_in}
 use Rattle.as_graph.specs.Graphs.{Rows, rel_of, is_marked, is_needed, is_there, marked_rows, links_of, topology_of, IsGraph}
 use Rattle.net_names.proofs.Pairs.{pairs_total}
-use Rattle.as_graph.proofs.Links.{linked_end, what_mutual}
-use Rattle.as_graph.proofs.RowLinks.{lookup_absent, get-links_of, what-topology_of}
+use Rattle.as_graph.proofs.Links.{linked_end, relation_mutual}
+use Rattle.as_graph.proofs.RowLinks.{lookup_absent, get-links_of, relation-topology_of}
 
 -- ---- marks
 
@@ -144,7 +144,7 @@ has-topology_of m graph a = same_test _ _ needed counted
     counted : is_there m a ≡ true → has (topology_of m) a ≡ true
     counted h = elim (needed_parts (get nat_eq m a) h) [
       | inl mark ↦ occurs-append a (set.items (topology_of m).marked) _ ∙ or_left _ _ (occurs-items (topology_of m).marked a ∙ contains-marked m graph.unique a ∙ mark)
-      | inr (n, is) ↦ linked_end (topology_of m) n.asn a (converse n.rel) (what_mutual (topology_of m) a n.asn ∙ ap (option_map converse) (what-topology_of m graph a n.asn ∙ is))
+      | inr (n, is) ↦ linked_end (topology_of m) n.asn a (converse n.rel) (relation_mutual (topology_of m) a n.asn ∙ ap (option_map converse) (relation-topology_of m graph a n.asn ∙ is))
     ]
 
 -- ---- how many there are

@@ -16,7 +16,7 @@ use Rattle.net_names.specs.declared.routes.Rel.{Rel}
 use Rattle.net_names.specs.Links.{pair_cmp, converse}
 use Rattle.as_graph.specs.declared.neighbour.Neighbour.{Neighbour}
 use Rattle.as_graph.specs.declared.row.Row.{Row}
-use Rattle.as_graph.specs.Topology.{what}
+use Rattle.as_graph.specs.Topology.{relation}
 use Rattle.as_graph.specs.Rows.{rel_in}
 use Rattle.as_graph.specs.Graphs.{Rows, rel_of, upper_links, row_links, links_of, topology_of, IsGraph}
 use Rattle.net_names.proofs.Pairs.{pairs_total}
@@ -120,8 +120,8 @@ get-links_of m unique q = map.get-from_entries pairs_total (row_links m.entries)
 ]
 
 -- what the topology says of two ASes, the row of the first says
-pub what-topology_of : (m : Rows) → IsGraph m → (a b : ℕ) → what (topology_of m) a b ≡ rel_of m a b
-what-topology_of m graph a b =
+pub relation-topology_of : (m : Rows) → IsGraph m → (a b : ℕ) → relation (topology_of m) a b ≡ rel_of m a b
+relation-topology_of m graph a b =
     (λ i. cond (nat_lt a b) (get-links_of m graph.unique (a, b) i) (cond (nat_lt b a) (option_map converse (get-links_of m graph.unique (b, a) i)) None))
     ∙ by (nat_lt a b) (nat_lt b a) refl refl
   where

@@ -20,7 +20,7 @@ use Rattle.as_graph.specs.Ends.{lower_ends, higher_ends, ends_at, row_of, AreTur
 use Rattle.as_graph.specs.Graphs.{Rows, rel_of, links_of, IsBuilt}
 use Rattle.as_graph.specs.Gathering.{AreGathered, HasManyAses}
 use Rattle.net_names.proofs.Pairs.{pairs_total, exact_pair}
-use Rattle.as_graph.proofs.Links.{what_mutual, what_self}
+use Rattle.as_graph.proofs.Links.{relation_mutual, relation_self}
 use Rattle.as_graph.proofs.RowAses.{occurs-append, length-le-as_count}
 use Rattle.as_graph.proofs.RowLinks.{first_some, pair_tied, get-links_of}
 
@@ -267,8 +267,8 @@ module _ (links : LinkMap) (hs ls : List End) (turned : AreTurned (map.entries l
   built-gathered m g = record {
     graph = record {
       unique = g.unique;
-      alike = λ a b. says b a ∙ what_mutual (unmarked links) a b ∙ ap (option_map converse) (sym (says a b));
-      apart = λ a. says a a ∙ what_self (unmarked links) a;
+      alike = λ a b. says b a ∙ relation_mutual (unmarked links) a b ∙ ap (option_map converse) (sym (says a b));
+      apart = λ a. says a a ∙ relation_self (unmarked links) a;
     };
     links = map.same_map pairs_total exact_pair (links_of m) (map.from_entries (map.entries links)) (λ q.
         get-links_of m g.unique q ∙ elim (cases_Bool (nat_lt q.0 q.1)) [

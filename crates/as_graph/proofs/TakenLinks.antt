@@ -9,9 +9,9 @@ use Rattle.std.specs.FinSet as set
 use Rattle.net_names.specs.declared.routes.Rel.{Rel}
 use Rattle.net_names.specs.Links.{LinkMap, pair_cmp, converse}
 use Rattle.net_names.proofs.Pairs.{pairs_total, exact_pair}
-use Rattle.as_graph.specs.Topology.{Topology, what, with_mark}
+use Rattle.as_graph.specs.Topology.{Topology, relation, with_mark}
 use Rattle.as_graph.specs.Edits.{with_link, without_link, without_mark, LinksAreTaken, EditsAreUndone, MarksKeepLinks}
-use Rattle.as_graph.proofs.Links.{is_equal, what_mutual}
+use Rattle.as_graph.proofs.Links.{is_equal, relation_mutual}
 use Rattle.as_graph.proofs.EditsLemmas.{twice_one}
 
 -- a test of equal pairs is that of their order
@@ -39,12 +39,12 @@ get_taken links p = map.get-remove pairs_total links p p ∙ ap (λ t. cond t No
 get_others : (links : LinkMap) (p q : ℕ × ℕ) → (q ≡ p → ⊥) → map.get (map.remove links p) q ≡ map.get links q
 get_others links p q ne = map.get-remove pairs_total links p q ∙ ap (λ t. cond t None (map.get links q)) (false_from_ne_true (eq_by_cmp pair_cmp q p) (λ e. ne (same_pair q p e)))
 
-taken_at : (w : Topology) (lo hi : ℕ) → what (take_pair w lo hi) lo hi ≡ cond (nat_lt lo hi) None (cond (nat_lt hi lo) (option_map converse (map.get (map.remove w.links (lo, hi)) (hi, lo))) None)
+taken_at : (w : Topology) (lo hi : ℕ) → relation (take_pair w lo hi) lo hi ≡ cond (nat_lt lo hi) None (cond (nat_lt hi lo) (option_map converse (map.get (map.remove w.links (lo, hi)) (hi, lo))) None)
 unfolding take_pair
 taken_at w lo hi = ap (λ o. cond (nat_lt lo hi) o (cond (nat_lt hi lo) (option_map converse (map.get (map.remove w.links (lo, hi)) (hi, lo))) None)) (get_taken w.links (lo, hi))
 
 -- of a pair with its lower AS first, or of an AS with itself
-taken_none : (w : Topology) (lo hi : ℕ) → lo ≤ hi → what (take_pair w lo hi) lo hi ≡ None
+taken_none : (w : Topology) (lo hi : ℕ) → lo ≤ hi → relation (take_pair w lo hi) lo hi ≡ None
 taken_none w lo hi le = taken_at w lo hi ∙ by (nat_lt lo hi) (nat_lt hi lo) refl refl _
   where
     by : (x y : Bool) → nat_lt lo hi ≡ x → nat_lt hi lo ≡ y → (o : Option Rel) → cond x None (cond y o None) ≡ None
@@ -52,25 +52,25 @@ taken_none w lo hi le = taken_at w lo hi ∙ by (nat_lt lo hi) (nat_lt hi lo) re
     by false true e f o = (let up : hi < lo = ltb-true hi lo f in absurd (omega arith))
     by false false e f o = refl
 
-taken_off : (w : Topology) (lo hi x y : ℕ) → ((x ≡ lo) × (y ≡ hi) → ⊥) → ((x ≡ hi) × (y ≡ lo) → ⊥) → what (take_pair w lo hi) x y ≡ what w x y
+taken_off : (w : Topology) (lo hi x y : ℕ) → ((x ≡ lo) × (y ≡ hi) → ⊥) → ((x ≡ hi) × (y ≡ lo) → ⊥) → relation (take_pair w lo hi) x y ≡ relation w x y
 unfolding take_pair
 taken_off w lo hi x y straight turned =
     λ i. cond (nat_lt x y) (get_others w.links (lo, hi) (x, y) (λ e. straight (ap (λ (p : ℕ × ℕ). p.0) e, ap (λ (p : ℕ × ℕ). p.1) e)) i)
     (cond (nat_lt y x) (option_map converse (get_others w.links (lo, hi) (y, x) (λ e. turned (ap (λ (p : ℕ × ℕ). p.1) e, ap (λ (p : ℕ × ℕ). p.0) e)) i)) None)
 
-taken : (w : Topology) (a b : ℕ) → what (without_link w a b) a b ≡ None
+taken : (w : Topology) (a b : ℕ) → relation (without_link w a b) a b ≡ None
 taken w a b = elim (cases_Bool (nat_lt a b)) [
-  | inl e ↦ ap (λ g. what g a b) (is_taken w a b e) ∙ taken_none w a b (let up : a < b = ltb-true a b e in omega arith)
-  | inr e ↦ ap (λ g. what g a b) (is_taken_turned w a b e) ∙ what_mutual (take_pair w b a) b a ∙ ap (option_map converse) (taken_none w b a (ltb-false a b e))
+  | inl e ↦ ap (λ g. relation g a b) (is_taken w a b e) ∙ taken_none w a b (let up : a < b = ltb-true a b e in omega arith)
+  | inr e ↦ ap (λ g. relation g a b) (is_taken_turned w a b e) ∙ relation_mutual (take_pair w b a) b a ∙ ap (option_map converse) (taken_none w b a (ltb-false a b e))
 ]
 
 pub links_are_taken_lem : LinksAreTaken
 links_are_taken_lem = record {
   at = taken;
-  back = λ w a b. what_mutual (without_link w a b) a b ∙ ap (option_map converse) (taken w a b);
+  back = λ w a b. relation_mutual (without_link w a b) a b ∙ ap (option_map converse) (taken w a b);
   others = λ w a b x y straight turned. elim (cases_Bool (nat_lt a b)) [
-    | inl e ↦ ap (λ g. what g x y) (is_taken w a b e) ∙ taken_off w a b x y straight turned
-    | inr e ↦ ap (λ g. what g x y) (is_taken_turned w a b e) ∙ taken_off w b a x y turned straight
+    | inl e ↦ ap (λ g. relation g x y) (is_taken w a b e) ∙ taken_off w a b x y straight turned
+    | inr e ↦ ap (λ g. relation g x y) (is_taken_turned w a b e) ∙ taken_off w b a x y turned straight
   ];
 }
 
@@ -102,10 +102,10 @@ module _ (w : Topology) (p : ℕ × ℕ) where
 
 -- what the pair has, by its entry with the lower AS first
 module _ (w : Topology) (a b : ℕ) where
-  straight : nat_lt a b ≡ true → what w a b ≡ map.get w.links (a, b)
+  straight : nat_lt a b ≡ true → relation w a b ≡ map.get w.links (a, b)
   straight e = ap (λ t. cond t (map.get w.links (a, b)) (cond (nat_lt b a) (option_map converse (map.get w.links (b, a))) None)) e
 
-  turned : nat_lt a b ≡ false → a ≢ b → what w a b ≡ option_map converse (map.get w.links (b, a))
+  turned : nat_lt a b ≡ false → a ≢ b → relation w a b ≡ option_map converse (map.get w.links (b, a))
   turned e ne =
       let le : b ≤ a = ltb-false a b e in
       let ne' : a ≢ b = ne in
@@ -121,7 +121,7 @@ some_back None r h = cc
 some_back (Some s) r h = ap (λ t. Some t) (sym (twice_one s)) ∙ ap (option_map converse) h
 
 module _ (w : Topology) (a b : ℕ) (ne : a ≢ b) where
-  new_link : (r : Rel) → what w a b ≡ None → without_link (with_link w a b r) a b ≡ w
+  new_link : (r : Rel) → relation w a b ≡ None → without_link (with_link w a b r) a b ≡ w
   new_link r none = elim (cases_Bool (nat_lt a b)) [
     | inl e ↦ (λ i. record w { links = cond (e i) (map.remove (cond (e i) (map.insert w.links (a, b) r) (map.insert w.links (b, a) (converse r))) (a, b)) (map.remove (cond (e i) (map.insert w.links (a, b) r) (map.insert w.links (b, a) (converse r))) (b, a)) })
         ∙ removed w (a, b) r (sym (straight w a b e) ∙ none)
@@ -129,7 +129,7 @@ module _ (w : Topology) (a b : ℕ) (ne : a ≢ b) where
         ∙ removed w (b, a) (converse r) (none_back _ (sym (turned w a b e ne) ∙ none))
   ]
 
-  other_link : (r s : Rel) → what w a b ≡ Some s → with_link (with_link w a b r) a b s ≡ w
+  other_link : (r s : Rel) → relation w a b ≡ Some s → with_link (with_link w a b r) a b s ≡ w
   other_link r s some = elim (cases_Bool (nat_lt a b)) [
     | inl e ↦ (λ i. record w { links = cond (e i) (map.insert (cond (e i) (map.insert w.links (a, b) r) (map.insert w.links (b, a) (converse r))) (a, b) s) (map.insert (cond (e i) (map.insert w.links (a, b) r) (map.insert w.links (b, a) (converse r))) (b, a) (converse s)) })
         ∙ replaced w (a, b) r s (sym (straight w a b e) ∙ some)
@@ -137,7 +137,7 @@ module _ (w : Topology) (a b : ℕ) (ne : a ≢ b) where
         ∙ replaced w (b, a) (converse r) (converse s) (some_back _ s (sym (turned w a b e ne) ∙ some))
   ]
 
-  lost_link : (r : Rel) → what w a b ≡ Some r → with_link (without_link w a b) a b r ≡ w
+  lost_link : (r : Rel) → relation w a b ≡ Some r → with_link (without_link w a b) a b r ≡ w
   lost_link r some = elim (cases_Bool (nat_lt a b)) [
     | inl e ↦ (λ i. record w { links = cond (e i) (map.insert (cond (e i) (map.remove w.links (a, b)) (map.remove w.links (b, a))) (a, b) r) (map.insert (cond (e i) (map.remove w.links (a, b)) (map.remove w.links (b, a))) (b, a) (converse r)) })
         ∙ restored w (a, b) r (sym (straight w a b e) ∙ some)

@@ -4,7 +4,7 @@ use Rattle.std.specs.FinMap as map
 use Rattle.std.specs.FinSet as set
 use Rattle.net_names.specs.declared.routes.Rel.{Rel}
 use Rattle.net_names.specs.Links.{converse}
-use Rattle.as_graph.specs.Topology.{Topology, what, has, with_mark}
+use Rattle.as_graph.specs.Topology.{Topology, relation, has, with_mark}
 
 -- the pair has this link, in place of any earlier one: b is r to a
 abbrev pub with_link : Topology → ℕ → ℕ → Rel → Topology
@@ -20,26 +20,26 @@ without_mark w a = record w { marked = set.remove w.marked a }
 
 -- a link is seen alike from both ends, joins ASes of the graph, and none joins an AS with itself
 pub record LinksAreSound : Type 0 where
-  pub alike : (w : Topology) (a b : ℕ) → what w b a ≡ option_map converse (what w a b)
-  pub ends : (w : Topology) (a b : ℕ) (r : Rel) → what w a b ≡ Some r → has w b ≡ true
-  pub to_itself : (w : Topology) (a : ℕ) → what w a a ≡ None
+  pub alike : (w : Topology) (a b : ℕ) → relation w b a ≡ option_map converse (relation w a b)
+  pub ends : (w : Topology) (a b : ℕ) (r : Rel) → relation w a b ≡ Some r → has w b ≡ true
+  pub to_itself : (w : Topology) (a : ℕ) → relation w a a ≡ None
 
 -- a new link is what it says, and every other pair keeps what it had
 pub record LinksAreSet : Type 0 where
-  pub at : (w : Topology) (a b : ℕ) (r : Rel) → a ≢ b → what (with_link w a b r) a b ≡ Some r
-  pub others : (w : Topology) (a b : ℕ) (r : Rel) (x y : ℕ) → a ≢ b → ((x ≡ a) × (y ≡ b) → ⊥) → ((x ≡ b) × (y ≡ a) → ⊥) → what (with_link w a b r) x y ≡ what w x y
+  pub at : (w : Topology) (a b : ℕ) (r : Rel) → a ≢ b → relation (with_link w a b r) a b ≡ Some r
+  pub others : (w : Topology) (a b : ℕ) (r : Rel) (x y : ℕ) → a ≢ b → ((x ≡ a) × (y ≡ b) → ⊥) → ((x ≡ b) × (y ≡ a) → ⊥) → relation (with_link w a b r) x y ≡ relation w x y
 
 -- without its link a pair has none, and every other pair keeps what it had
 pub record LinksAreTaken : Type 0 where
-  pub at : (w : Topology) (a b : ℕ) → what (without_link w a b) a b ≡ None
-  pub back : (w : Topology) (a b : ℕ) → what (without_link w a b) b a ≡ None
-  pub others : (w : Topology) (a b x y : ℕ) → ((x ≡ a) × (y ≡ b) → ⊥) → ((x ≡ b) × (y ≡ a) → ⊥) → what (without_link w a b) x y ≡ what w x y
+  pub at : (w : Topology) (a b : ℕ) → relation (without_link w a b) a b ≡ None
+  pub back : (w : Topology) (a b : ℕ) → relation (without_link w a b) b a ≡ None
+  pub others : (w : Topology) (a b x y : ℕ) → ((x ≡ a) × (y ≡ b) → ⊥) → ((x ≡ b) × (y ≡ a) → ⊥) → relation (without_link w a b) x y ≡ relation w x y
 
 -- an edit that puts back what the pair or the AS had undoes the one before it
 pub record EditsAreUndone : Type 0 where
-  pub new_link : (w : Topology) (a b : ℕ) (r : Rel) → a ≢ b → what w a b ≡ None → without_link (with_link w a b r) a b ≡ w
-  pub other_link : (w : Topology) (a b : ℕ) (r s : Rel) → a ≢ b → what w a b ≡ Some s → with_link (with_link w a b r) a b s ≡ w
-  pub lost_link : (w : Topology) (a b : ℕ) (r : Rel) → a ≢ b → what w a b ≡ Some r → with_link (without_link w a b) a b r ≡ w
+  pub new_link : (w : Topology) (a b : ℕ) (r : Rel) → a ≢ b → relation w a b ≡ None → without_link (with_link w a b r) a b ≡ w
+  pub other_link : (w : Topology) (a b : ℕ) (r s : Rel) → a ≢ b → relation w a b ≡ Some s → with_link (with_link w a b r) a b s ≡ w
+  pub lost_link : (w : Topology) (a b : ℕ) (r : Rel) → a ≢ b → relation w a b ≡ Some r → with_link (without_link w a b) a b r ≡ w
   pub new_mark : (w : Topology) (a : ℕ) → set.contains w.marked a ≡ false → without_mark (with_mark w a) a ≡ w
   pub lost_mark : (w : Topology) (a : ℕ) → set.contains w.marked a ≡ true → with_mark (without_mark w a) a ≡ w
 
@@ -54,5 +54,5 @@ pub record AsesAreKept : Type 0 where
 
 -- marks change no links
 pub record MarksKeepLinks : Type 0 where
-  pub after_mark : (w : Topology) (a x y : ℕ) → what (with_mark w a) x y ≡ what w x y
-  pub after_unmark : (w : Topology) (a x y : ℕ) → what (without_mark w a) x y ≡ what w x y
+  pub after_mark : (w : Topology) (a x y : ℕ) → relation (with_mark w a) x y ≡ relation w x y
+  pub after_unmark : (w : Topology) (a x y : ℕ) → relation (without_mark w a) x y ≡ relation w x y

@@ -3,51 +3,51 @@ use Rattle.std.specs.Prelude.{◌≡◌, ◌⊎◌, ℕ, suc, ◌≤◌, Option,
 use Rattle.net_names.specs.declared.routes.Rel.{Rel}
 use Rattle.net_names.specs.declared.routes.Rel.TheVariants.{Customer}
 use Rattle.net_names.specs.Numbers.{IsDistinct, last_or}
-use Rattle.as_graph.specs.Topology.{Topology, what}
+use Rattle.as_graph.specs.Topology.{Topology, relation}
 
 -- each AS of the list is a provider of the next (Gao and Rexford 2001)
 abbrev pub IsDescent : (ℕ → ℕ → Option Rel) → List ℕ → Type 0
-IsDescent what [] = ⊤
-IsDescent what (a ∷ []) = ⊤
-IsDescent what (a ∷ b ∷ rest) = (what a b ≡ Some Customer) × IsDescent what (b ∷ rest)
+IsDescent rel [] = ⊤
+IsDescent rel (a ∷ []) = ⊤
+IsDescent rel (a ∷ b ∷ rest) = (rel a b ≡ Some Customer) × IsDescent rel (b ∷ rest)
 
 -- a provider cycle: at least two distinct ASes, each a provider of the next, and the last a
 -- provider of the first (Gao and Rexford 2001: the hierarchy that has none)
-pub record IsProviderCycle (what : ℕ → ℕ → Option Rel) (xs : List ℕ) : Type 0 where
+pub record IsProviderCycle (rel : ℕ → ℕ → Option Rel) (xs : List ℕ) : Type 0 where
   pub two : 2 ≤ length xs
   pub distinct : IsDistinct xs
-  pub descends : IsDescent what xs
-  pub closes : what (last_or 0 xs) (slice_index xs 0) ≡ Some Customer
+  pub descends : IsDescent rel xs
+  pub closes : rel (last_or 0 xs) (slice_index xs 0) ≡ Some Customer
 
 -- no list of ASes is a provider cycle (Gao and Rexford 2001)
 abbrev pub HasNoProviderCycle : (ℕ → ℕ → Option Rel) → Type 0
-HasNoProviderCycle what = (xs : List ℕ) → IsProviderCycle what xs → ⊥
+HasNoProviderCycle rel = (xs : List ℕ) → IsProviderCycle rel xs → ⊥
 
 -- a chain from a: distinct ASes, a the first, each a provider of the next
-pub record IsChainFrom (what : ℕ → ℕ → Option Rel) (a : ℕ) (xs : List ℕ) : Type 0 where
+pub record IsChainFrom (rel : ℕ → ℕ → Option Rel) (a : ℕ) (xs : List ℕ) : Type 0 where
   pub starts : (rest : List ℕ) × (xs ≡ a ∷ rest)
   pub distinct : IsDistinct xs
-  pub descends : IsDescent what xs
+  pub descends : IsDescent rel xs
 
 -- the rank of a: one less than the length of the longest chain from a
-pub record IsRank (what : ℕ → ℕ → Option Rel) (a rank : ℕ) : Type 0 where
-  pub longest : (xs : List ℕ) × IsChainFrom what a xs × (length xs ≡ rank + 1)
-  pub most : (xs : List ℕ) → IsChainFrom what a xs → length xs ≤ rank + 1
+pub record IsRank (rel : ℕ → ℕ → Option Rel) (a rank : ℕ) : Type 0 where
+  pub longest : (xs : List ℕ) × IsChainFrom rel a xs × (length xs ≡ rank + 1)
+  pub most : (xs : List ℕ) → IsChainFrom rel a xs → length xs ≤ rank + 1
 
 -- numbers fit at a: a has 0 where it has no customer, else one more than the greatest number of
 -- its customers
-pub record RankFits (what : ℕ → ℕ → Option Rel) (rank : ℕ → ℕ) (a : ℕ) : Type 0 where
-  pub above : (b : ℕ) → what a b ≡ Some Customer → suc (rank b) ≤ rank a
-  pub reached : (rank a ≡ 0) ⊎ ((b : ℕ) × (what a b ≡ Some Customer) × (rank a ≡ suc (rank b)))
+pub record RankFits (rel : ℕ → ℕ → Option Rel) (rank : ℕ → ℕ) (a : ℕ) : Type 0 where
+  pub above : (b : ℕ) → rel a b ≡ Some Customer → suc (rank b) ≤ rank a
+  pub reached : (rank a ≡ 0) ⊎ ((b : ℕ) × (rel a b ≡ Some Customer) × (rank a ≡ suc (rank b)))
 
 -- numbers that fit at every AS are the ranks
 abbrev pub FittingAreRanks : Type 0
-FittingAreRanks = (what : ℕ → ℕ → Option Rel) (rank : ℕ → ℕ) → ((a : ℕ) → RankFits what rank a) → (a : ℕ) → IsRank what a (rank a)
+FittingAreRanks = (rel : ℕ → ℕ → Option Rel) (rank : ℕ → ℕ) → ((a : ℕ) → RankFits rel rank a) → (a : ℕ) → IsRank rel a (rank a)
 
 -- in a graph without a provider cycle, ranks fit at every AS
 abbrev pub RanksFit : Type 0
-RanksFit = (w : Topology) (rank : ℕ → ℕ) → HasNoProviderCycle (what w) → ((a : ℕ) → IsRank (what w) a (rank a)) → (a : ℕ) → RankFits (what w) rank a
+RanksFit = (w : Topology) (rank : ℕ → ℕ) → HasNoProviderCycle (relation w) → ((a : ℕ) → IsRank (relation w) a (rank a)) → (a : ℕ) → RankFits (relation w) rank a
 
 -- an AS has at most one rank
 abbrev pub OneRank : Type 0
-OneRank = (what : ℕ → ℕ → Option Rel) (a r s : ℕ) → IsRank what a r → IsRank what a s → r ≡ s
+OneRank = (rel : ℕ → ℕ → Option Rel) (a r s : ℕ) → IsRank rel a r → IsRank rel a s → r ≡ s

@@ -10,7 +10,7 @@ abbrev pub asns : List Neighbour → List ℕ
 asns xs = map (λ x. x.asn) xs
 
 -- all neighbours of a, each with what it is to a, in rising order of their numbers
-pub record AreNeighbours (what : ℕ → ℕ → Option Rel) (a : ℕ) (xs : List Neighbour) : Type 0 where
-  pub each : All (λ x. what a x.asn ≡ Some x.rel) xs
-  pub complete : (n : ℕ) (r : Rel) → what a n ≡ Some r → occurs n (asns xs) ≡ true
+pub record AreNeighbours (relation : ℕ → ℕ → Option Rel) (a : ℕ) (xs : List Neighbour) : Type 0 where
+  pub each : All (λ x. relation a x.asn ≡ Some x.rel) xs
+  pub complete : (n : ℕ) (r : Rel) → relation a n ≡ Some r → occurs n (asns xs) ≡ true
   pub rising : IsStrictlyIncreasing (asns xs)

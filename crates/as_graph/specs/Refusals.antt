@@ -3,7 +3,7 @@ use Rattle.std.specs.Prelude.{◌≡◌, ℕ, false, None, ◌≤◌, ◌<◌, �
 use Rattle.std.specs.FinMap as map
 use Rattle.net_names.specs.declared.routes.Rel.{Rel}
 use Rattle.net_names.specs.Links.{LinkMap}
-use Rattle.as_graph.specs.Topology.{Topology, what, has, as_count, unmarked}
+use Rattle.as_graph.specs.Topology.{Topology, relation, has, as_count, unmarked}
 use Rattle.as_graph.specs.Room.{is_room_with, is_room_for}
 use Rattle.as_graph.specs.Edits.{with_link}
 use Rattle.as_graph.specs.declared.error.GraphError.{GraphError}
@@ -25,6 +25,6 @@ IsMarkRefusal g a TooManyAses = (has g a ≡ false) × (MOST_ASES ≤ as_count g
 
 -- why the link is not set: it is new, and memory is wanting where there is no room, or 1,500,000 links stand, or else there would be more than 150,000 ASes
 abbrev pub IsLinkRefusal : Topology → ℕ → ℕ → Rel → GraphError → Type 0
-IsLinkRefusal g a b r Memory = (what g a b ≡ None) × (is_room_for g.room a b ≡ false)
-IsLinkRefusal g a b r TooManyLinks = (what g a b ≡ None) × (MOST_LINKS ≤ map.len g.links)
-IsLinkRefusal g a b r TooManyAses = (what g a b ≡ None) × (map.len g.links < MOST_LINKS) × (MOST_ASES < as_count (with_link g a b r))
+IsLinkRefusal g a b r Memory = (relation g a b ≡ None) × (is_room_for g.room a b ≡ false)
+IsLinkRefusal g a b r TooManyLinks = (relation g a b ≡ None) × (MOST_LINKS ≤ map.len g.links)
+IsLinkRefusal g a b r TooManyAses = (relation g a b ≡ None) × (map.len g.links < MOST_LINKS) × (MOST_ASES < as_count (with_link g a b r))

@@ -22,8 +22,8 @@ topology_code =
     (λ p. record { links = p.0; marked = p.1.0; room = p.1.1 }) (λ _. refl)
 
 -- what b is to a: customer, peer, provider or nothing (RFC 9234, section 4)
-abbrev pub what : Topology → ℕ → ℕ → Option Rel
-what g a b = between g.links a b
+abbrev pub relation : Topology → ℕ → ℕ → Option Rel
+relation g a b = between g.links a b
 
 -- both ends of each link
 abbrev pub ends_of : List ((ℕ × ℕ) × Rel) → List ℕ

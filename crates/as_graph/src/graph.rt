@@ -6,7 +6,7 @@ ghost use Rattle.std.specs.FinMap as map;
 ghost use Rattle.std.specs.FinSet as set;
 ghost use Rattle.net_names.specs.Numbers.{occurs};
 ghost use Rattle.as_graph.specs.Neighbours.{AreNeighbours};
-ghost use Rattle.as_graph.specs.Topology.{what, has, as_count, unmarked};
+ghost use Rattle.as_graph.specs.Topology.{relation, has, as_count, unmarked};
 ghost use Rattle.as_graph.specs.Following.{IsAbove, IsNext};
 ghost use Rattle.as_graph.specs.declared.build.TheConstants.{MOST_ASES};
 ghost use Rattle.net_names.specs.declared.links.TheConstants.{MOST_LINKS};
@@ -79,14 +79,14 @@ impl Graph {
 
     /// What `b` is to `a`; `None` exactly where they have no link.
     pub fn rel(&self, a: Asn, b: Asn) -> Option<Rel>
-        ensures { result ≡ what self.now a b }
+        ensures { result ≡ relation self.now a b }
     {
         self.rows.get(&a)?.rel(b)
     }
 
     /// The neighbours of an AS in rising order of their numbers; none where the AS is not there.
     pub fn neighbours(&self, asn: Asn) -> &[Neighbour]
-        ensures { AreNeighbours (what self.now) asn result.now }
+        ensures { AreNeighbours (relation self.now) asn result.now }
     {
         match self.rows.get(&asn) {
             Some(row) => row.as_slice(),
@@ -96,7 +96,7 @@ impl Graph {
 
     /// The neighbours of an AS, as `neighbours` gives them, sought first in the row at a place.
     pub fn neighbours_near(&self, asn: Asn, place: usize) -> &[Neighbour]
-        ensures { AreNeighbours (what self.now) asn result.now }
+        ensures { AreNeighbours (relation self.now) asn result.now }
     {
         match self.rows.get_index(place) {
             Some((found, row)) if *found == asn => row.as_slice(),

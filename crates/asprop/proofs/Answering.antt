@@ -3,7 +3,7 @@ use Rattle.std.proofs.Common.{◌≡◌, ◌<◌, ◌≤◌, ◌+◌, ◌||◌, 
 use Rattle.std.proofs.Math.Seq.{take-append-add}
 use Rattle.std.proofs.lemmas.List.{take_more, take_all}
 use Rattle.std.proofs.lemmas.Bool.{ltb-true, ltb-false, true≢false}
-use Rattle.io_edge.specs.Faults.{Rose}
+use Rattle.io_edge.specs.Faults.{HasRisen}
 use Rattle.io_edge.specs.Bytes.{Appends, AppendsFront}
 use Rattle.io_edge.proofs.Appending.{Appends-nil, Appends-trans}
 use Rattle.scenario_text.specs.LineValues.{LineValue}
@@ -17,7 +17,7 @@ use Rattle.sim_core.specs.declared.errors.EditError.{EditError}
 use Rattle.sim_core.specs.declared.errors.EditError.TheVariants as refused
 use Rattle.asprop.specs.Streams.{Stream}
 use Rattle.asprop.specs.Task.{Task, first_text}
-use Rattle.asprop.specs.Told.{Answered, AppendsReply, Tells, Told, head}
+use Rattle.asprop.specs.Replies.{AnswersLine, AppendsReply, IsReply, AnswersLines, head}
 use Rattle.asprop.specs.Written.{Answering, IsPassedOn, Wrote}
 use Rattle.asprop.specs.declared.types.Stop.{Stop}
 use Rattle.asprop.specs.declared.types.Stop.TheVariants as stop
@@ -34,7 +34,7 @@ sink_of old new rose = record { wrote = λ text. Appends old new text; failed = 
 pub record SoFar (heads : Bool) (start now : World) (lines : List LineValue) (refused : Bool) (old new : Option (List ℕ)) (held : List ℕ) : Type 0 where
   pub text : List ℕ
   pub appends : Appends old new text
-  pub told : (more : List LineValue) (rest : List ℕ) (others : Bool) → Told heads now more rest others → Told heads start (lines ++ more) ((text ++ held) ++ rest) (refused || others)
+  pub told : (more : List LineValue) (rest : List ℕ) (others : Bool) → AnswersLines heads now more rest others → AnswersLines heads start (lines ++ more) ((text ++ held) ++ rest) (refused || others)
 
 pub begun : (heads : Bool) (w : World) (old : Option (List ℕ)) → SoFar heads w w [] false old old []
 begun heads w old = record { text = []; appends = Appends-nil old; told = λ more rest others h. h }
@@ -45,9 +45,9 @@ or_assoc false b c = refl
 
 -- one more line
 more_told : (heads : Bool) (start now after : World) (lines : List LineValue) (line : LineValue) (refused first : Bool) (text front : List ℕ)
-    → ((more : List LineValue) (rest : List ℕ) (others : Bool) → Told heads now more rest others → Told heads start (lines ++ more) (text ++ rest) (refused || others))
-    → Answered heads now line front first after
-    → (more : List LineValue) (rest : List ℕ) (others : Bool) → Told heads after more rest others → Told heads start ((lines ++ line ∷ []) ++ more) ((text ++ front) ++ rest) ((refused || first) || others)
+    → ((more : List LineValue) (rest : List ℕ) (others : Bool) → AnswersLines heads now more rest others → AnswersLines heads start (lines ++ more) (text ++ rest) (refused || others))
+    → AnswersLine heads now line front first after
+    → (more : List LineValue) (rest : List ℕ) (others : Bool) → AnswersLines heads after more rest others → AnswersLines heads start ((lines ++ line ∷ []) ++ more) ((text ++ front) ++ rest) ((refused || first) || others)
 more_told heads start now after lines line refused first text front told answered more rest others h =
     rw (append_assoc lines (line ∷ []) more, append_assoc text front rest, or_assoc refused first others)
     (told (line ∷ more) (front ++ rest) (first || others) (front, rest, first, others, after, answered, h, refl, refl))
@@ -57,13 +57,13 @@ same_text text written now held front e = append_assoc text written now ∙ ap (
 
 -- one more line, whose answer was passed on
 pub one_more : (heads : Bool) (start now after : World) (lines : List LineValue) (line : LineValue) (refused first : Bool) (old mid new : Option (List ℕ)) (held front left : List ℕ)
-    → SoFar heads start now lines refused old mid held → Answered heads now line front first after → IsPassedOn mid new held front left
+    → SoFar heads start now lines refused old mid held → AnswersLine heads now line front first after → IsPassedOn mid new held front left
     → SoFar heads start after (lines ++ line ∷ []) (refused || first) old new left
 one_more heads start now after lines line refused first old mid new held front left so answered passed = record {
   text = so.text ++ passed.written;
   appends = Appends-trans old mid new so.text passed.written so.appends passed.appends;
   told = λ more rest others h.
-      subst (λ t. Told heads start ((lines ++ line ∷ []) ++ more) (t ++ rest) ((refused || first) || others)) (sym (same_text so.text passed.written left held front passed.whole))
+      subst (λ t. AnswersLines heads start ((lines ++ line ∷ []) ++ more) (t ++ rest) ((refused || first) || others)) (sym (same_text so.text passed.written left held front passed.whole))
       (more_told heads start now after lines line refused first (so.text ++ held) front so.told answered more rest others h);
 }
 
@@ -72,7 +72,7 @@ or_false true = refl
 or_false false = refl
 
 -- what is told of the lines so far
-told_so_far : (heads : Bool) (start now : World) (lines : List LineValue) (refused : Bool) (old new : Option (List ℕ)) (held : List ℕ) (so : SoFar heads start now lines refused old new held) → Told heads start lines (so.text ++ held) refused
+told_so_far : (heads : Bool) (start now : World) (lines : List LineValue) (refused : Bool) (old new : Option (List ℕ)) (held : List ℕ) (so : SoFar heads start now lines refused old new held) → AnswersLines heads start lines (so.text ++ held) refused
 told_so_far heads start now lines refused old new held so = rw (append-nil lines, append-nil (so.text ++ held), or_false refused) at (so.told [] [] false (refl, refl))
 
 -- nothing follows, and what was held back is written
@@ -117,7 +117,7 @@ all heads start now lines i refused old mid new held so last h =
     subst (λ (l : List LineValue). Wrote (task_of false heads start lines) l refused (λ text. Appends old new text)) (take_all i lines h) (ended heads start now (take i lines) lines refused old mid new held so last)
 
 pub next : (heads : Bool) (start now after : World) (lines : List LineValue) (i : ℕ) (d : LineValue) (refused first : Bool) (old mid new : Option (List ℕ)) (held front left : List ℕ) → i < length lines
-    → SoFar heads start now (take i lines) refused old mid held → Answered heads now (get_or lines i d) front first after → IsPassedOn mid new held front left
+    → SoFar heads start now (take i lines) refused old mid held → AnswersLine heads now (get_or lines i d) front first after → IsPassedOn mid new held front left
     → SoFar heads start after (take (i + 1) lines) (refused || first) old new left
 next heads start now after lines i d refused first old mid new held front left l so answered passed =
     rw (take_more lines i d l) (one_more heads start now after (take i lines) (get_or lines i d) refused first old mid new held front left so answered passed)
@@ -130,10 +130,10 @@ held_part heads start now lines i refused old mid new rose held r so last =
 
 -- what was held back and the answer to one more line were written in part
 pub part : (heads : Bool) (start now after : World) (lines : List LineValue) (i : ℕ) (d : LineValue) (refused first : Bool) (old mid new : Option (List ℕ)) (rose : Type 0) (held front : List ℕ) → rose → i < length lines
-    → SoFar heads start now (take i lines) refused old mid held → Answered heads now (get_or lines i d) front first after → AppendsFront mid new (held ++ front)
+    → SoFar heads start now (take i lines) refused old mid held → AnswersLine heads now (get_or lines i d) front first after → AppendsFront mid new (held ++ front)
     → Answering (task_of false heads start lines) (Err stop.Write) (sink_of old new rose)
 part heads start now after lines i d refused first old mid new rose held front r l so answered last =
-    let told : Told heads start (take (i + 1) lines) ((so.text ++ held) ++ front) (refused || first) =
+    let told : AnswersLines heads start (take (i + 1) lines) ((so.text ++ held) ++ front) (refused || first) =
     rw (take_more lines i d l)
     (rw (append-nil (take i lines ++ get_or lines i d ∷ []), append-nil ((so.text ++ held) ++ front), or_false (refused || first)) at
     (more_told heads start now after (take i lines) (get_or lines i d) refused first (so.text ++ held) front so.told answered [] [] false (refl, refl))) in
@@ -146,14 +146,14 @@ rose_by false true a b c m low high le h = omega (arith, le, h)
 rose_by false false a b c m low high le h = omega (arith, le, h)
 
 -- a count that rose from a later value rose from an earlier one
-pub rose_earlier : (a b c : ℕ) → a ≤ b → Rose b c → Rose a c
+pub rose_earlier : (a b c : ℕ) → a ≤ b → HasRisen b c → HasRisen a c
 rose_earlier a b c le h = rose_by (nat_lt a (2 ^ 64 - 1)) (nat_lt b (2 ^ 64 - 1)) a b c (2 ^ 64 - 1) (ltb-true a (2 ^ 64 - 1)) (ltb-false b (2 ^ 64 - 1)) le h
 
 -- a reply under a head line is an answer
 pub answered : (r : Result Bool NoMemory) (heads : Bool) (w after : World) (k : Kept) (line : LineValue) (asks : Act) (begun now : List ℕ) → begun ≡ head heads line.number → line.act ≡ asks → IsKept w k
-    → IfOk r (λ refused. AppendsReply w k asks refused begun now after) → IfOk r (λ refused. Answered heads w line now refused after)
+    → IfOk r (λ refused. AppendsReply w k asks refused begun now after) → IfOk r (λ refused. AnswersLine heads w line now refused after)
 answered (Ok refused) heads w after k line asks begun now first is_asked is h =
-    (k, is, h.text, subst (λ (a : Act). Tells w k a h.text refused after) (sym is_asked) h.reply, h.appended ∙ ap (λ l. l ++ h.text) first)
+    (k, is, h.text, subst (λ (a : Act). IsReply w k a h.text refused after) (sym is_asked) h.reply, h.appended ∙ ap (λ l. l ++ h.text) first)
 answered (Err e) heads w after k line asks begun now first is_asked is h = h
 
 -- a refusal that is none for want of memory has a reason

@@ -1,6 +1,6 @@
 -- How a run ends where the work stopped.
 use Rattle.std.proofs.Common.{◌≡◌, ◌<◌, ◌≤◌, inl, inr, ℕ, nat_lt, Bool, List, [], Option, Result, Ok, Err, None, refl, sym, ap, subst, ◌∙◌, if◌then◌else◌, lt-ltb, le-ltb}
-use Rattle.as_graph.specs.Topology.{as_count, what}
+use Rattle.as_graph.specs.Topology.{as_count, relation}
 use Rattle.cycle_check.specs.Cycles.{IsCycleFromLowest}
 use Rattle.scenario_text.specs.Walks.{◌>>=◌}
 use Rattle.sim_core.specs.World.{World, HasCycle, topology}
@@ -10,7 +10,7 @@ use Rattle.asprop.specs.Files.{IsStop, Prepares}
 use Rattle.asprop.specs.Words.{Form, form_of}
 use Rattle.asprop.specs.Task.{Task, asked, task_of}
 use Rattle.asprop.specs.Texts.{ending_of}
-use Rattle.asprop.specs.Ran.{Works, Explained, Reports, Ran, Worked}
+use Rattle.asprop.specs.Runs.{Outcome, Explained, Reports, IsRun, Worked}
 use Rattle.asprop.specs.declared.types.Stop.{Stop}
 use Rattle.asprop.specs.declared.types.Stop.TheVariants as stop
 use Rattle.asprop.specs.declared.types.Status.{Status}
@@ -21,7 +21,7 @@ use Rattle.asprop.proofs.ReadLemmas.{bind_stop}
 use Rattle.asprop.proofs.Preparing.{none_read}
 
 -- nothing was written, or whole answers, where memory ran out
-by_memory : (task : Result Task Fault) (reason : Stop) (out : Stream) → (reason ≡ stop.Write → ⊥) → Works task (Err reason) out → Works task (Err stop.Memory) out
+by_memory : (task : Result Task Fault) (reason : Stop) (out : Stream) → (reason ≡ stop.Write → ⊥) → Outcome task (Err reason) out → Outcome task (Err stop.Memory) out
 by_memory (Ok task) stop.Memory out not_write w = w
 by_memory (Ok task) stop.Write out not_write w = absurd (not_write refl)
 by_memory (Ok task) (stop.Cycle cycle) out not_write w = (inl w.1, λ _. w.1)
@@ -33,25 +33,25 @@ by_memory (Err f) (stop.Fault found) out not_write w = w.1
 
 module _ {from : Source} {words : List (List ℕ)} {out err : Stream} where
   -- a stop that was explained
-  pub explained : (reason : Stop) (s : Status) → Worked from (form_of words) (Err reason) out → Explained (form_of words) reason s err → Ran from words s out err
+  pub explained : (reason : Stop) (s : Status) → Worked from (form_of words) (Err reason) out → Explained (form_of words) reason s err → IsRun from words s out err
   explained reason s w h =
-      let works : Works (task_of (form_of words) w.reads) (Err h.told) out = elim h.is [
-        | inl own ↦ subst (λ (r : Stop). Works (task_of (form_of words) w.reads) (Err r) out) (sym own) w.works
-        | inr short ↦ subst (λ (r : Stop). Works (task_of (form_of words) w.reads) (Err r) out) (sym short.0) (by_memory (task_of (form_of words) w.reads) reason out short.1 w.works)
+      let works : Outcome (task_of (form_of words) w.reads) (Err h.told) out = elim h.is [
+        | inl own ↦ subst (λ (r : Stop). Outcome (task_of (form_of words) w.reads) (Err r) out) (sym own) w.works
+        | inr short ↦ subst (λ (r : Stop). Outcome (task_of (form_of words) w.reads) (Err r) out) (sym short.0) (by_memory (task_of (form_of words) w.reads) reason out short.1 w.works)
       ] in
       record { reads = w.reads; are_read = w.are_read; ends = record { result = Err h.told; works = works; status = h.status; says = h.says } }
 
   -- all answers were written
-  pub all_written : (refused : Bool) (s : Status) → s ≡ (ending_of (form_of words) (Ok refused)).0 → Worked from (form_of words) (Ok refused) out → err.wrote [] → Ran from words s out err
+  pub all_written : (refused : Bool) (s : Status) → s ≡ (ending_of (form_of words) (Ok refused)).0 → Worked from (form_of words) (Ok refused) out → err.wrote [] → IsRun from words s out err
   all_written refused s is w nil = record { reads = w.reads; are_read = w.are_read; ends = record { result = Ok refused; works = w.works; status = is; says = inl nil } }
 
 -- nothing was written where memory ran out
-idle : (task : Result Task Fault) (out : Stream) → out.wrote [] → Works task (Err stop.Memory) out
+idle : (task : Result Task Fault) (out : Stream) → out.wrote [] → Outcome task (Err stop.Memory) out
 idle (Ok task) out nil = (inl nil, λ _. nil)
 idle (Err f) out nil = nil
 
 -- memory ran out before the words were read
-pub unformed : {from : Source} {words : List (List ℕ)} {out err : Stream} (s : Status) → Explained None stop.Memory s err → out.wrote [] → Ran from words s out err
+pub unformed : {from : Source} {words : List (List ℕ)} {out err : Stream} (s : Status) → Explained None stop.Memory s err → out.wrote [] → IsRun from words s out err
 unformed {from} {words} {out} {err} s h nil =
     let r = none_read from (form_of words) in
     let told : h.told ≡ stop.Memory = elim h.is [ inl own ↦ own | inr short ↦ short.0 ] in
@@ -81,7 +81,7 @@ many_ases : (task : Task) → 150000 < as_count (topology task.world) → within
 many_ases task many = rw (lt-ltb 150000 (as_count (topology task.world)) many) refl
 
 -- what was written of the answers, in a world without a provider cycle
-answering : (task : Task) (result : Result Bool Stop) (out : Stream) → (HasCycle task.world → ⊥) → Answering task result out → Works (Ok task) result out
+answering : (task : Task) (result : Result Bool Stop) (out : Stream) → (HasCycle task.world → ⊥) → Answering task result out → Outcome (Ok task) result out
 answering task (Ok refused) out none h = (none, h)
 answering task (Err stop.Memory) out none h = (h, λ cycle. absurd (none cycle))
 answering task (Err stop.Write) out none h = (none, h)
@@ -89,9 +89,9 @@ answering task (Err (stop.Cycle cycle)) out none h = absurd h
 answering task (Err (stop.Fault f)) out none h = absurd h
 
 -- the work stopped before there was a task
-before : (task : Result Task Fault) (s : Stop) (out : Stream) → out.wrote [] → IsStop s task → Works task (Err s) out
+before : (task : Result Task Fault) (s : Stop) (out : Stream) → out.wrote [] → IsStop s task → Outcome task (Err s) out
 before task stop.Memory out nil h = idle task out nil
-before task (stop.Fault f) out nil h = subst (λ (t : Result Task Fault). Works t (Err (stop.Fault f)) out) (sym h) (refl, nil)
+before task (stop.Fault f) out nil h = subst (λ (t : Result Task Fault). Outcome t (Err (stop.Fault f)) out) (sym h) (refl, nil)
 before task stop.Write out nil h = absurd h
 before task (stop.Cycle cycle) out nil h = absurd h
 
@@ -100,11 +100,11 @@ stopped {form} {out} s p nil = record { reads = p.reads; are_read = p.are_read; 
 
 module _ {from : Source} {form : Option Form} {X : Type 0} {view : X → Task} {out : Stream} where
   -- the task is the one that was asked for
-  on_task : (x : X) (p : Prepares from form view (Ok x)) (result : Result Bool Stop) → as_count (topology (view x).world) ≤ 150000 → Works (Ok (view x)) result out → Worked from form result out
+  on_task : (x : X) (p : Prepares from form view (Ok x)) (result : Result Bool Stop) → as_count (topology (view x).world) ≤ 150000 → Outcome (Ok (view x)) result out → Worked from form result out
   on_task x p result few w = record {
     reads = p.reads;
     are_read = p.are_read;
-    works = subst (λ (t : Result Task Fault). Works t result out) (sym (ap (λ (t : Result Task Fault). t >>= within_limits) p.finds ∙ few_ases (view x) few)) w;
+    works = subst (λ (t : Result Task Fault). Outcome t result out) (sym (ap (λ (t : Result Task Fault). t >>= within_limits) p.finds ∙ few_ases (view x) few)) w;
   }
 
   -- answers were written
@@ -115,7 +115,7 @@ module _ {from : Source} {form : Option Form} {X : Type 0} {view : X → Task} {
       (answering (view x) result out (subst (λ (w : World). HasCycle w → ⊥) is none) (subst (λ (w : World). Answering (record (view x) { world = w }) result out) is h))
 
   -- the world has a provider cycle
-  pub cyclic : (x : X) (cycle : List ℕ) → Prepares from form view (Ok x) → (as_count (topology (view x).world) ≤ 150000) × IsCycleFromLowest (what (topology (view x).world)) cycle → out.wrote []
+  pub cyclic : (x : X) (cycle : List ℕ) → Prepares from form view (Ok x) → (as_count (topology (view x).world) ≤ 150000) × IsCycleFromLowest (relation (topology (view x).world)) cycle → out.wrote []
       → Worked from form (Err (stop.Cycle cycle)) out
   cyclic x cycle p h nil = on_task x p (Err (stop.Cycle cycle)) h.0 (h.1, nil)
 
@@ -124,7 +124,7 @@ module _ {from : Source} {form : Option Form} {X : Type 0} {view : X → Task} {
   too_many x p many nil = record {
     reads = p.reads;
     are_read = p.are_read;
-    works = subst (λ (t : Result Task Fault). Works t (Err (stop.Fault fault.TooManyAses)) out) (sym (ap (λ (t : Result Task Fault). t >>= within_limits) p.finds ∙ many_ases (view x) many)) (refl, nil);
+    works = subst (λ (t : Result Task Fault). Outcome t (Err (stop.Fault fault.TooManyAses)) out) (sym (ap (λ (t : Result Task Fault). t >>= within_limits) p.finds ∙ many_ases (view x) many)) (refl, nil);
   }
 
 -- a stop is explained by its own text

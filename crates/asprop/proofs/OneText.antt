@@ -13,7 +13,7 @@ use Rattle.sim_core.specs.declared.errors.EditError.TheVariants as edit
 use Rattle.sim_core.specs.Laws.{IsCycle, OneAnswer, OneCount, OneReason}
 use Rattle.asprop.specs.Laws.{ClosesCycle, OneText}
 use Rattle.asprop.specs.Refusals.{edit_refusal_text, refusal_text}
-use Rattle.asprop.specs.Told.{Answered, Tells, Told, head}
+use Rattle.asprop.specs.Replies.{AnswersLine, IsReply, AnswersLines, head}
 
 -- two texts of one line: both refuse or neither does, both leave one world, and they are the same unless the line closes a cycle
 record Agree (closes : Type 0) (s t : Text) (r q : Bool) (x y : World) : Type 0 where
@@ -49,7 +49,7 @@ same_count count w e k l now then m n x y allowed is others p q here there a b =
 
 module _ (answer : OneAnswer) (count : OneCount) (reason : OneReason) where
   -- two texts of what is told for what a line asks
-  reply_agrees : (w : World) (k l : Kept) (a : Act) (s t : Text) (r q : Bool) (x y : World) → IsKept w k → IsKept w l → Tells w k a s r x → Tells w l a t q y → Agree (ClosesCycle w a) s t r q x y
+  reply_agrees : (w : World) (k l : Kept) (a : Act) (s t : Text) (r q : Bool) (x y : World) → IsKept w k → IsKept w l → IsReply w k a s r x → IsReply w l a t q y → Agree (ClosesCycle w a) s t r q x y
   reply_agrees w k l (act.Query a) s t false false x y is others h g = record { refused = refl; after = h.2 ∙ sym g.2; text = λ none. answer w k l a s t is others h.0 h.1 g.1 }
   reply_agrees w k l (act.Query a) s t false true x y is others h g = absurd (let f : None ≡ Some g.0 = sym h.0 ∙ g.1 in cc)
   reply_agrees w k l (act.Query a) s t true false x y is others h g = absurd (let f : None ≡ Some h.0 = sym g.0 ∙ h.1 in cc)
@@ -65,7 +65,7 @@ module _ (answer : OneAnswer) (count : OneCount) (reason : OneReason) where
       record { refused = refl; after = h.3 ∙ sym g.3; text = refusal_agrees w e h.0 g.0 s t h.1 h.2 g.2 (reason w e h.0 g.0 h.1 g.1) }
 
   -- two answers to a line
-  line_agrees : (heads : Bool) (w : World) (line : LineValue) (s t : Text) (r q : Bool) (x y : World) → Answered heads w line s r x → Answered heads w line t q y → Agree (ClosesCycle w line.act) s t r q x y
+  line_agrees : (heads : Bool) (w : World) (line : LineValue) (s t : Text) (r q : Bool) (x y : World) → AnswersLine heads w line s r x → AnswersLine heads w line t q y → Agree (ClosesCycle w line.act) s t r q x y
   line_agrees heads w line s t r q x y h g =
       let reply = reply_agrees w h.0 g.0 line.act h.2 g.2 r q x y h.1 g.1 h.3 g.3 in
       record { refused = reply.refused; after = reply.after; text = λ none. h.4 ∙ ap (λ text. head heads line.number ++ text) (reply.text none) ∙ sym g.4 }
@@ -75,5 +75,5 @@ module _ (answer : OneAnswer) (count : OneCount) (reason : OneReason) where
   one_text heads w [] s t r q h g = (h.1 ∙ sym g.1, λ none. h.0 ∙ sym g.0)
   one_text heads w (line ∷ lines) s t r q h g =
       let first = line_agrees heads w line h.0 g.0 h.2 g.2 h.4 g.4 h.5 g.5 in
-      let more = one_text heads h.4 lines h.1 g.1 h.3 g.3 h.6 (subst (λ after. Told heads after lines g.1 g.3) (sym first.after) g.6) in
+      let more = one_text heads h.4 lines h.1 g.1 h.3 g.3 h.6 (subst (λ after. AnswersLines heads after lines g.1 g.3) (sym first.after) g.6) in
       (h.8 ∙ ap₂ (λ a b. a || b) first.refused more.0 ∙ sym g.8, λ none. h.7 ∙ ap₂ (λ a b. a ++ b) (first.text none.0) (more.1 (none.1 h.0 h.2 h.4 h.5)) ∙ sym g.7)

@@ -5,7 +5,7 @@ use Rattle.std.proofs.Common.{replicate, drop}
 use Rattle.std.specs.Io.KnownBytes.{Keeps}
 use Rattle.std.specs.Option.{option_map_or}
 use Rattle.std.specs.Result.{result_map_both}
-use Rattle.io_edge.specs.Faults.{Rose, KeepsNames}
+use Rattle.io_edge.specs.Faults.{HasRisen, KeepsNames}
 use Rattle.scenario_text.specs.Walks.{◌>>=◌}
 use Rattle.asprop.specs.Streams.{Source, source_of}
 use Rattle.asprop.specs.Files.{IsRead, IsReadAs, IsStop, Finds, ReadsTo}
@@ -108,7 +108,7 @@ module _ {I : Type 0} {holds : I → List ℕ → Option (List ℕ)} {is_sound :
   is_read_whole : (old mid new last : I) → KeepsNames holds is_sound faults old mid → faults new ≤ faults last → (name : List ℕ) (read : Option (List ℕ))
       → IsReadAs (source_of holds is_sound faults mid new) (Some name) read → IsReadAs (source_of holds is_sound faults old last) (Some name) read
   is_read_whole old mid new last keeps later name None h =
-      (let rose : Rose (faults old) (faults new) = rose_earlier (faults old) (faults mid) (faults new) keeps.later h.0 in omega (arith, rose, later), λ sound. h.1 (keeps.sound name sound))
+      (let rose : HasRisen (faults old) (faults new) = rose_earlier (faults old) (faults mid) (faults new) keeps.later h.0 in omega (arith, rose, later), λ sound. h.1 (keeps.sound name sound))
   is_read_whole old mid new last keeps later name (Some bytes) h = subst (λ (held : Option (List ℕ)). Keeps held (Some bytes)) (keeps.holds_same name) h
 
   pub read_whole_run : (old mid new last : I) → KeepsNames holds is_sound faults old mid → faults new ≤ faults last → (name read : Option (List ℕ))

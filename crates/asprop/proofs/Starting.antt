@@ -1,14 +1,14 @@
 -- How the program starts by what its arguments give.
 use Rattle.std.proofs.Common.{inl, inr, [], Ok, Err, None, String, Vec, Global, map, string_bytes, subst}
 use Rattle.asprop.specs.Streams.{Source, Stream}
-use Rattle.asprop.specs.Ran.{Explained, Ran}
+use Rattle.asprop.specs.Runs.{Explained, IsRun}
 use Rattle.asprop.specs.Started.{Args, IsWordsOf, Starts}
 use Rattle.asprop.specs.declared.types.Status.{Status}
 use Rattle.asprop.specs.declared.types.Stop.{Stop}
 
 -- the run went over the words that the arguments give
 pub over_words : {from : Source} {out err : Stream} (args : Args) (words : Vec (String Global) Global) (s : Status) → IsWordsOf args (Ok words)
-    → Ran from (map string_bytes words.items) s out err → Starts from args s out err
+    → IsRun from (map string_bytes words.items) s out err → Starts from args s out err
 over_words (Ok args) words s given ran = inl (words.items, given, ran)
 over_words (Err error) words s given ran = absurd given
 

@@ -7,7 +7,7 @@ use Rattle.asprop.specs.Task.{Task, Reads}
 use Rattle.asprop.specs.Texts.{ending_of}
 use Rattle.asprop.specs.Words.{Form, form_of, name_by}
 use Rattle.asprop.specs.Files.{IsRead}
-use Rattle.asprop.specs.Ran.{Works, Ends, Ran}
+use Rattle.asprop.specs.Runs.{Outcome, Run, IsRun}
 use Rattle.asprop.specs.Statuses.{RunsAsTold, IsComplete}
 use Rattle.asprop.specs.declared.types.File.{File}
 use Rattle.asprop.specs.declared.types.Fault.{Fault}
@@ -22,7 +22,7 @@ read_is held fails None bytes h told ok = absurd (ok h)
 read_is held fails (Some read) bytes h told ok = let P : Option (List ℕ) → Type 0 = λ held. IsRead held fails (Some read) in ap Some (subst P told h)
 
 -- the status of a run over a task whose world has no provider cycle, where no write fails
-succeeds : (form : Option Form) (task : Task) (result : Result Bool Stop) (out : Stream) → ((text : List ℕ) → out.failed text → ⊥) → (HasCycle task.world → ⊥) → Works (Ok task) result out
+succeeds : (form : Option Form) (task : Task) (result : Result Bool Stop) (out : Stream) → ((text : List ℕ) → out.failed text → ⊥) → (HasCycle task.world → ⊥) → Outcome (Ok task) result out
     → ((ending_of form result).0 ≡ status.Done) ⊎ (((ending_of form result).0 ≡ status.SomeRefused) ⊎ ((ending_of form result).0 ≡ status.NoMemory))
 succeeds form task (Ok false) out quiet none w = inl refl
 succeeds form task (Ok true) out quiet none w = inr (inl refl)
@@ -32,16 +32,16 @@ succeeds form task (Err (stop.Cycle cycle)) out quiet none w = absurd (none (cyc
 succeeds form task (Err (stop.Fault f)) out quiet none w = absurd w
 
 module _ {from : Source} {words : List (List ℕ)} {s : Status} {out err : Stream} where
-  pub as_told : Ran from words s out err → RunsAsTold from words s out err
+  pub as_told : IsRun from words s out err → RunsAsTold from words s out err
   as_told r files told =
       let same : (file : File) → r.reads file ≡ Some (files file) = λ file.
       read_is (option_map_or from.holds (name_by (form_of words) file) (Some [])) (IsSomeAnd (name_by (form_of words) file) from.fails) (r.reads file) (files file) (r.are_read file) (told file).0 (told file).1 in
       let all : r.reads ≡ (λ file. Some (files file)) = λ i file. same file i in
-      let P : Reads → Type 0 = λ reads. Ends (form_of words) reads s out err in
+      let P : Reads → Type 0 = λ reads. Run (form_of words) reads s out err in
       subst P all r.ends
 
-  pub complete : Ran from words s out err → IsComplete from words s out
+  pub complete : IsRun from words s out err → IsComplete from words s out
   complete r files task told quiet is none =
       let e = as_told r files told in
       let P : Status → Type 0 = λ s. (s ≡ status.Done) ⊎ ((s ≡ status.SomeRefused) ⊎ (s ≡ status.NoMemory)) in
-      subst P (sym e.status) (succeeds (form_of words) task e.result out quiet none (subst (λ (t : Result Task Fault). Works t e.result out) is e.works))
+      subst P (sym e.status) (succeeds (form_of words) task e.result out quiet none (subst (λ (t : Result Task Fault). Outcome t e.result out) is e.works))

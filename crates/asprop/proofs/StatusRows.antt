@@ -5,7 +5,7 @@ use Rattle.asprop.specs.Task.{Task, Reads, task_of}
 use Rattle.asprop.specs.Texts.{ending_of}
 use Rattle.asprop.specs.Words.{Form, form_of, name_by}
 use Rattle.asprop.specs.Files.{IsReadAs}
-use Rattle.asprop.specs.Ran.{Works, Ran}
+use Rattle.asprop.specs.Runs.{Outcome, IsRun}
 use Rattle.asprop.specs.declared.types.File.{File}
 use Rattle.asprop.specs.declared.types.Fault.{Fault}
 use Rattle.asprop.specs.declared.types.Fault.TheVariants as fault
@@ -16,7 +16,7 @@ use Rattle.asprop.specs.declared.types.Status.TheVariants as status
 use Rattle.asprop.proofs.Faults.{Stopped, no_form, unread, by_value, of_task, status_of}
 
 -- the work stops by a fault only for the reason of that fault
-fault_by : (form : Option Form) (reads : Reads) (task : Result Task Fault) (f : Fault) (out : Stream) → task_of form reads ≡ task → Works task (Err (stop.Fault f)) out → Stopped form reads f
+fault_by : (form : Option Form) (reads : Reads) (task : Result Task Fault) (f : Fault) (out : Stream) → task_of form reads ≡ task → Outcome task (Err (stop.Fault f)) out → Stopped form reads f
 fault_by form reads (Ok task) f out is w = absurd w
 fault_by form reads (Err e) f out is w = subst (Stopped form reads) (sym w.0) (of_task form reads e is)
 
@@ -25,7 +25,7 @@ usage_stop form reads _ (no_form is) h = is
 usage_stop form reads _ (unread which is) h = cc
 usage_stop form reads _ (by_value f is) h = absurd (is.usage h)
 
-usage_by : (form : Option Form) (reads : Reads) (result : Result Bool Stop) (out : Stream) → Works (task_of form reads) result out → status.Usage ≡ (ending_of form result).0 → form ≡ None
+usage_by : (form : Option Form) (reads : Reads) (result : Result Bool Stop) (out : Stream) → Outcome (task_of form reads) result out → status.Usage ≡ (ending_of form result).0 → form ≡ None
 usage_by form reads (Ok true) out w h = cc
 usage_by form reads (Ok false) out w h = cc
 usage_by form reads (Err stop.Memory) out w h = cc
@@ -33,7 +33,7 @@ usage_by form reads (Err stop.Write) out w h = cc
 usage_by form reads (Err (stop.Cycle cycle)) out w h = cc
 usage_by form reads (Err (stop.Fault f)) out w h = usage_stop form reads f (fault_by form reads (task_of form reads) f out refl w) h
 
-usage_there : (form : Option Form) (result : Result Bool Stop) (out : Stream) → Works (Err fault.Usage) result out → ((ending_of form result).0 ≡ status.Usage) ⊎ ((ending_of form result).0 ≡ status.NoMemory)
+usage_there : (form : Option Form) (result : Result Bool Stop) (out : Stream) → Outcome (Err fault.Usage) result out → ((ending_of form result).0 ≡ status.Usage) ⊎ ((ending_of form result).0 ≡ status.NoMemory)
 usage_there form (Ok refused) out w = absurd w
 usage_there form (Err stop.Memory) out w = inr refl
 usage_there form (Err stop.Write) out w = absurd w
@@ -45,7 +45,7 @@ read_stop form reads _ (no_form is) h = cc
 read_stop form reads _ (unread which is) h = (which, is)
 read_stop form reads _ (by_value f is) h = absurd (is.read h)
 
-read_by : (form : Option Form) (reads : Reads) (result : Result Bool Stop) (out : Stream) → Works (task_of form reads) result out → status.ReadFault ≡ (ending_of form result).0 → (which : File) × (reads which ≡ None)
+read_by : (form : Option Form) (reads : Reads) (result : Result Bool Stop) (out : Stream) → Outcome (task_of form reads) result out → status.ReadFault ≡ (ending_of form result).0 → (which : File) × (reads which ≡ None)
 read_by form reads (Ok true) out w h = cc
 read_by form reads (Ok false) out w h = cc
 read_by form reads (Err stop.Memory) out w h = cc
@@ -58,11 +58,11 @@ write_stop form reads _ (no_form is) h = cc
 write_stop form reads _ (unread which is) h = cc
 write_stop form reads _ (by_value f is) h = is.write h
 
-broken : (task : Result Task Fault) (out : Stream) → Works task (Err stop.Write) out → (text : List ℕ) × out.failed text
+broken : (task : Result Task Fault) (out : Stream) → Outcome task (Err stop.Write) out → (text : List ℕ) × out.failed text
 broken (Ok task) out w = (_, w.1.2.2)
 broken (Err f) out w = absurd w
 
-write_by : (form : Option Form) (reads : Reads) (result : Result Bool Stop) (out : Stream) → Works (task_of form reads) result out → status.WriteFault ≡ (ending_of form result).0 → (text : List ℕ) × out.failed text
+write_by : (form : Option Form) (reads : Reads) (result : Result Bool Stop) (out : Stream) → Outcome (task_of form reads) result out → status.WriteFault ≡ (ending_of form result).0 → (text : List ℕ) × out.failed text
 write_by form reads (Ok true) out w h = cc
 write_by form reads (Ok false) out w h = cc
 write_by form reads (Err stop.Memory) out w h = cc
@@ -71,19 +71,19 @@ write_by form reads (Err (stop.Cycle cycle)) out w h = cc
 write_by form reads (Err (stop.Fault f)) out w h = absurd (write_stop form reads f (fault_by form reads (task_of form reads) f out refl w) h)
 
 module _ {from : Source} {words : List (List ℕ)} {s : Status} {out err : Stream} where
-  pub usage_row : Ran from words s out err → form_of words ≡ None → (s ≡ status.Usage) ⊎ (s ≡ status.NoMemory)
+  pub usage_row : IsRun from words s out err → form_of words ≡ None → (s ≡ status.Usage) ⊎ (s ≡ status.NoMemory)
   usage_row r none =
       let P : Status → Type 0 = λ s. (s ≡ status.Usage) ⊎ (s ≡ status.NoMemory) in
       let task : task_of (form_of words) r.reads ≡ Err fault.Usage = ap (λ form. task_of form r.reads) none in
-      subst P (sym r.ends.status) (usage_there (form_of words) r.ends.result out (subst (λ (t : Result Task Fault). Works t r.ends.result out) task r.ends.works))
+      subst P (sym r.ends.status) (usage_there (form_of words) r.ends.result out (subst (λ (t : Result Task Fault). Outcome t r.ends.result out) task r.ends.works))
 
-  pub usage_only : Ran from words s out err → s ≡ status.Usage → form_of words ≡ None
+  pub usage_only : IsRun from words s out err → s ≡ status.Usage → form_of words ≡ None
   usage_only r is = usage_by (form_of words) r.reads r.ends.result out r.ends.works (sym is ∙ r.ends.status)
 
-  pub read_row : Ran from words s out err → s ≡ status.ReadFault → (file : File) × IsSomeAnd (name_by (form_of words) file) from.fails
+  pub read_row : IsRun from words s out err → s ≡ status.ReadFault → (file : File) × IsSomeAnd (name_by (form_of words) file) from.fails
   read_row r is =
       let none = read_by (form_of words) r.reads r.ends.result out r.ends.works (sym is ∙ r.ends.status) in
       (none.0, subst (λ (read : Option (List ℕ)). IsReadAs from (name_by (form_of words) none.0) read) none.1 (r.are_read none.0))
 
-  pub write_row : Ran from words s out err → s ≡ status.WriteFault → (text : List ℕ) × out.failed text
+  pub write_row : IsRun from words s out err → s ≡ status.WriteFault → (text : List ℕ) × out.failed text
   write_row r is = write_by (form_of words) r.reads r.ends.result out r.ends.works (sym is ∙ r.ends.status)

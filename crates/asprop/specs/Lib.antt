@@ -3,12 +3,12 @@ pub mod Command
 pub mod Words
 pub mod Task
 pub mod Refusals
-pub mod Told
+pub mod Replies
 pub mod Laws
 pub mod Texts
 pub mod Files
 pub mod Written
-pub mod Ran
+pub mod Runs
 pub mod Statuses
 pub mod Seen
 pub mod Started

@@ -11,7 +11,7 @@ use Rattle.std.specs.declared.string.String.{String}
 use Rattle.std.specs.declared.vec.IntoIter.{IntoIter}
 use Rattle.std.specs.declared.vec.Vec.{Vec}
 use Rattle.asprop.specs.Streams.{Source, Stream}
-use Rattle.asprop.specs.Ran.{Explained, Ran}
+use Rattle.asprop.specs.Runs.{Explained, IsRun}
 use Rattle.asprop.specs.Texts.{number_of}
 use Rattle.asprop.specs.declared.types.Fault.TheVariants as fault
 use Rattle.asprop.specs.declared.types.Status.{Status}
@@ -49,7 +49,7 @@ NoWords reason s out err = Explained None reason s err × out.wrote []
 -- the run over all words that the arguments give, or what is said where there are none
 abbrev pub Starts : Source → Args → Status → Stream → Stream → Type 0
 Starts from (Ok args) s out err =
-    ((words : List (String Global)) × Gives args words × Ran from (map string_bytes words) s out err)
+    ((words : List (String Global)) × Gives args words × IsRun from (map string_bytes words) s out err)
     ⊎ NoWords stop.Memory s out err
 Starts from (Err error) s out err = NoWords (reason_of error) s out err
 

@@ -6,7 +6,7 @@ use Rattle.sim_core.specs.World.{HasCycle}
 use Rattle.asprop.specs.Streams.{Source, Stream}
 use Rattle.asprop.specs.Words.{Form, form_of, name_by}
 use Rattle.asprop.specs.Task.{Task, task_of}
-use Rattle.asprop.specs.Ran.{Ends}
+use Rattle.asprop.specs.Runs.{Run}
 use Rattle.asprop.specs.declared.types.File.{File}
 use Rattle.asprop.specs.declared.types.Status.{Status}
 use Rattle.asprop.specs.declared.types.Status.TheVariants as status
@@ -17,7 +17,7 @@ AreTold from form files = (file : File) → (option_map_or from.holds (name_by f
 
 -- Where the bytes of the files are told and no read fails, the run is one over those bytes.
 abbrev pub RunsAsTold : Source → List Text → Status → Stream → Stream → Type 0
-RunsAsTold from words s out err = (files : File → Text) → AreTold from (form_of words) files → Ends (form_of words) (λ file. Some (files file)) s out err
+RunsAsTold from words s out err = (files : File → Text) → AreTold from (form_of words) files → Run (form_of words) (λ file. Some (files file)) s out err
 
 -- Accepted files give Done or SomeRefused, or want of memory, where neither a read nor a write fails.
 abbrev pub IsComplete : Source → List Text → Status → Stream → Type 0

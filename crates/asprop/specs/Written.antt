@@ -5,13 +5,13 @@ use Rattle.io_edge.specs.Bytes.{Appends}
 use Rattle.scenario_text.specs.LineValues.{LineValue}
 use Rattle.asprop.specs.Streams.{Stream}
 use Rattle.asprop.specs.Task.{Task, first_text}
-use Rattle.asprop.specs.Told.{Told}
+use Rattle.asprop.specs.Replies.{AnswersLines}
 use Rattle.asprop.specs.declared.types.Stop.{Stop}
 use Rattle.asprop.specs.declared.types.Stop.TheVariants as stop
 
 -- what comes first, and the answers to these lines, were written so
 abbrev pub Wrote : Task → List LineValue → Bool → (Text → Type 0) → Type 0
-Wrote task lines refused how = (text : Text) × Told task.heads task.world lines text refused × how (first_text task.counts task.world ++ text)
+Wrote task lines refused how = (text : Text) × AnswersLines task.heads task.world lines text refused × how (first_text task.counts task.world ++ text)
 
 -- what comes first, and the answers to some lines in front, were written so
 abbrev pub WroteSome : Task → (Text → Type 0) → Type 0

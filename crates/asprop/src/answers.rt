@@ -7,7 +7,7 @@ ghost use Rattle.sim_core.specs.Sims.{kept, world_seen};
 ghost use Rattle.sim_core.specs.World.{HasCycle};
 ghost use Rattle.scenario_text.specs.LineValues.{AreSoundLines, IsWellFormed, IsSoundAct};
 ghost use Rattle.asprop.specs.Task.{first_text};
-ghost use Rattle.asprop.specs.Told.{Answered, AppendsReply, head};
+ghost use Rattle.asprop.specs.Replies.{AnswersLine, AppendsReply, head};
 ghost use Rattle.asprop.specs.Streams.{stream_of};
 ghost use Rattle.asprop.specs.Written.{Answering, IsPassedOn};
 
@@ -101,7 +101,7 @@ fn answer_line(
     requires sound { IsSoundAct line.now.act }
     requires kept { IsKept (world_seen sim.old) (kept sim.old) }
     requires no_cycle { HasCycle (world_seen sim.old) → ⊥ }
-    ensures answered { IfOk result (λ refused. Answered heads (world_seen sim.old) line.now text.new.items refused (world_seen sim.new)) }
+    ensures answered { IfOk result (λ refused. AnswersLine heads (world_seen sim.old) line.now text.new.items refused (world_seen sim.new)) }
     ensures kept { OnOk result (IsKept (world_seen sim.new) (kept sim.new)) }
     ensures no_cycle { OnOk result (HasCycle (world_seen sim.new) → ⊥) }
 {

@@ -1,7 +1,7 @@
 //! What is said of a fault.
 ghost use Rattle.std.specs.Prelude.{◌≡◌, [], IfOk, Option, None, option_map, string_bytes, unwrap_or};
 ghost use Rattle.asprop.specs.Texts.{cause_of, ending_of};
-ghost use Rattle.asprop.specs.Ran.{Explained, Reports};
+ghost use Rattle.asprop.specs.Runs.{Explained, Reports};
 ghost use Rattle.asprop.specs.Streams.{stream_of};
 ghost use Rattle.asprop.specs.Words.{Form, form_seen, name_by};
 

@@ -1,7 +1,7 @@
 //! The top call.
 ghost use Rattle.std.specs.Prelude.{◌≡◌, ◌⊎◌, IsSomeAnd, map, option_map, string_bytes};
-ghost use Rattle.io_edge.specs.Faults.{Rose};
-ghost use Rattle.asprop.specs.Ran.{Ran, Worked};
+ghost use Rattle.io_edge.specs.Faults.{HasRisen};
+ghost use Rattle.asprop.specs.Runs.{IsRun, Worked};
 ghost use Rattle.asprop.specs.Statuses.{IsComplete, RunsAsTold};
 ghost use Rattle.asprop.specs.Streams.{source_of, stream_of};
 ghost use Rattle.asprop.specs.Words.{HasSize, form_of, form_seen, name_by};
@@ -54,7 +54,7 @@ fn run_to_end<I: Inputs, O: Sink, E: Sink>(
     out: &mut O,
     err: &mut E,
 ) -> Status
-    ensures { Ran (source_of I.holds I.is_sound I.faults inputs.old inputs.new) (map string_bytes words.now) result
+    ensures { IsRun (source_of I.holds I.is_sound I.faults inputs.old inputs.new) (map string_bytes words.now) result
         (stream_of O.written O.faults out.old out.new) (stream_of E.written E.faults err.old err.new) }
 {
     let form = match read_words(alloc, words) {
@@ -83,7 +83,7 @@ pub fn run<I: Inputs, O: Sink, E: Sink>(
     err: &mut E,
 ) -> Status
     // What was read of the files, how the run ends, what it writes, and what it says of a fault.
-    ensures ran { Ran (source_of I.holds I.is_sound I.faults inputs.old inputs.new) (map string_bytes words.now) result
+    ensures ran { IsRun (source_of I.holds I.is_sound I.faults inputs.old inputs.new) (map string_bytes words.now) result
         (stream_of O.written O.faults out.old out.new) (stream_of E.written E.faults err.old err.new) }
     // Where the bytes of the files are told and no read fails, the run is one over those bytes.
     ensures told { RunsAsTold (source_of I.holds I.is_sound I.faults inputs.old inputs.new) (map string_bytes words.now) result
@@ -97,7 +97,7 @@ pub fn run<I: Inputs, O: Sink, E: Sink>(
     // ReadFault comes only where a read failed of a file that the words name, and WriteFault only where a write failed.
     ensures read_fault { result ≡ Status.ReadFault → (file : File) × IsSomeAnd (name_by (form_of (map string_bytes words.now)) file)
         (source_of I.holds I.is_sound I.faults inputs.old inputs.new).fails }
-    ensures write_fault { result ≡ Status.WriteFault → Rose (O.faults out.old) (O.faults out.new) }
+    ensures write_fault { result ≡ Status.WriteFault → HasRisen (O.faults out.old) (O.faults out.new) }
 {
     run_to_end(alloc, words, inputs, out, err)
 }

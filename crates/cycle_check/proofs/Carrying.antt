@@ -8,15 +8,15 @@ use Rattle.net_names.specs.declared.routes.Rel.{Rel}
 use Rattle.net_names.specs.declared.routes.Rel.TheVariants.{Customer}
 use Rattle.as_graph.specs.Hierarchy.{RankFits, IsDescent, IsProviderCycle}
 use Rattle.cycle_check.specs.Cycles.{IsCycleFromLowest}
-use Rattle.cycle_check.specs.Rows.{count_of, row, what, AreRows}
+use Rattle.cycle_check.specs.Rows.{count_of, row, relation, AreRows}
 use Rattle.cycle_check.specs.Places.{place_in}
 use Rattle.cycle_check.specs.Providers.{AreProviderRows, rank_by}
 use Rattle.cycle_check.proofs.Listing.{occurs_cons, occurs_head, occurs_rest, occurs_get}
 use Rattle.cycle_check.proofs.Places.{place_less, place_none, place_at, at_place}
 use Rattle.cycle_check.proofs.Regions.{row_inside, row_within}
 
-module _ (w : ℕ → ℕ → Option Rel) (ases starts items ranks : List ℕ) (region : AreRows starts items) (r : AreProviderRows w ases starts items) (each : length ranks ≡ count_of starts) (fits : (p : ℕ) → RankFits (what starts items) (λ x. get_or ranks x 0) p) where
-  linked_places : (a b : ℕ) → w a b ≡ Some Customer → what starts items (place_in ases a) (place_in ases b) ≡ Some Customer
+module _ (w : ℕ → ℕ → Option Rel) (ases starts items ranks : List ℕ) (region : AreRows starts items) (r : AreProviderRows w ases starts items) (each : length ranks ≡ count_of starts) (fits : (p : ℕ) → RankFits (relation starts items) (λ x. get_or ranks x 0) p) where
+  linked_places : (a b : ℕ) → w a b ≡ Some Customer → relation starts items (place_in ases a) (place_in ases b) ≡ Some Customer
   linked_places a b linked =
       let there_a = r.above a b linked in
       let there_b = r.below a b linked in
@@ -24,7 +24,7 @@ module _ (w : ℕ → ℕ → Option Rel) (ases starts items ranks : List ℕ) (
       subst (λ x. w x (get_or ases (place_in ases b) 0) ≡ Some Customer) (sym (at_place ases a 0 there_a)) (subst (λ x. w a x ≡ Some Customer) (sym (at_place ases b 0 there_b)) linked) in
       ap (λ t. cond t (Some Customer) None) ((r.rows (place_in ases a) (place_in ases b) (place_less ases a there_a) (place_less ases b there_b)).0 same)
 
-  place_linked : (p q : ℕ) → what starts items p q ≡ Some Customer → occurs p (row starts items q) ≡ true
+  place_linked : (p q : ℕ) → relation starts items p q ≡ Some Customer → occurs p (row starts items q) ≡ true
   place_linked p q e = elim (cases_Bool (occurs p (row starts items q))) [ inl o ↦ o | inr o ↦ (let none = ap (λ t. cond t (Some Customer) None) o in cc) ]
 
   pub carried : (a : ℕ) → RankFits w (rank_by ases ranks) a
@@ -47,19 +47,19 @@ module _ (w : ℕ → ℕ → Option Rel) (ases starts items ranks : List ℕ) (
   }
 
 module _ (w : ℕ → ℕ → Option Rel) (ases starts items : List ℕ) (region : AreRows starts items) (r : AreProviderRows w ases starts items) where
-  customer_row : (p q : ℕ) → what starts items p q ≡ Some Customer → occurs p (row starts items q) ≡ true
+  customer_row : (p q : ℕ) → relation starts items p q ≡ Some Customer → occurs p (row starts items q) ≡ true
   customer_row p q e = elim (cases_Bool (occurs p (row starts items q))) [ inl o ↦ o | inr o ↦ (let none = ap (λ t. cond t (Some Customer) None) o in cc) ]
 
-  provider_inside : (p q : ℕ) → what starts items p q ≡ Some Customer → p < length ases
+  provider_inside : (p q : ℕ) → relation starts items p q ≡ Some Customer → p < length ases
   provider_inside p q e = let less = row_within starts items region p q (customer_row p q e) in omega (arith, less, r.places)
 
-  carried_link : (p q : ℕ) → what starts items p q ≡ Some Customer → w (get_or ases p 0) (get_or ases q 0) ≡ Some Customer
+  carried_link : (p q : ℕ) → relation starts items p q ≡ Some Customer → w (get_or ases p 0) (get_or ases q 0) ≡ Some Customer
   carried_link p q e =
       let o = customer_row p q e in
       let less = row_inside starts items region p q o in
       (r.rows p q (provider_inside p q e) (omega (arith, less, r.places))).1 o
 
-  carried_descent : (xs : List ℕ) → IsDescent (what starts items) xs → IsDescent w (map (λ p. get_or ases p 0) xs)
+  carried_descent : (xs : List ℕ) → IsDescent (relation starts items) xs → IsDescent w (map (λ p. get_or ases p 0) xs)
   carried_descent [] d = tt
   carried_descent (x ∷ []) d = tt
   carried_descent (x ∷ y ∷ ys) d = (carried_link x y d.0, carried_descent (y ∷ ys) d.1)
@@ -69,7 +69,7 @@ module _ (w : ℕ → ℕ → Option Rel) (ases starts items : List ℕ) (region
   carried_last d (x ∷ xs) = carried_last x xs
 
   -- each place of a descent whose last has a customer is a place
-  all_inside : (x : ℕ) (xs : List ℕ) (c : ℕ) → IsDescent (what starts items) (x ∷ xs) → what starts items (last_or x xs) c ≡ Some Customer → (z : ℕ) → occurs z (x ∷ xs) ≡ true → z < length ases
+  all_inside : (x : ℕ) (xs : List ℕ) (c : ℕ) → IsDescent (relation starts items) (x ∷ xs) → relation starts items (last_or x xs) c ≡ Some Customer → (z : ℕ) → occurs z (x ∷ xs) ≡ true → z < length ases
   all_inside x [] c d e z o = elim (occurs_cons z x [] o) [
     | inl is ↦ subst (λ t. t < length ases) is (provider_inside x c e)
     | inr none ↦ cc
@@ -101,7 +101,7 @@ module _ (w : ℕ → ℕ → Option Rel) (ases starts items : List ℕ) (region
     carried_distinct xs d.1 (λ z o. inside z (occurs_rest z x xs o)),
   )
 
-  pub carried_cycle : (xs : List ℕ) → IsProviderCycle (what starts items) xs → IsProviderCycle w (map (λ p. get_or ases p 0) xs)
+  pub carried_cycle : (xs : List ℕ) → IsProviderCycle (relation starts items) xs → IsProviderCycle w (map (λ p. get_or ases p 0) xs)
   carried_cycle [] h = let two : 2 ≤ 0 = h.two in absurd (omega arith)
   carried_cycle (x ∷ xs) h = record {
     two = omega (arith, h.two, length-map (x ∷ xs) (λ (p : ℕ). get_or ases p 0));
@@ -111,12 +111,12 @@ module _ (w : ℕ → ℕ → Option Rel) (ases starts items : List ℕ) (region
   }
 
   -- each place of a provider cycle is a place
-  pub cycle_inside : (xs : List ℕ) → IsProviderCycle (what starts items) xs → (k : ℕ) → k < length xs → get_or xs k 0 < length ases
+  pub cycle_inside : (xs : List ℕ) → IsProviderCycle (relation starts items) xs → (k : ℕ) → k < length xs → get_or xs k 0 < length ases
   cycle_inside [] h k less = absurd (omega (arith, less))
   cycle_inside (x ∷ xs) h k less = all_inside x xs x h.descends h.closes (get_or (x ∷ xs) k 0) (occurs_get (x ∷ xs) k 0 less)
 
   -- places rise as their ASes do, so a cycle that begins with its lowest place begins with its lowest number
-  pub carried_lowest : (xs : List ℕ) → IsCycleFromLowest (what starts items) xs → IsCycleFromLowest w (map (λ p. get_or ases p 0) xs)
+  pub carried_lowest : (xs : List ℕ) → IsCycleFromLowest (relation starts items) xs → IsCycleFromLowest w (map (λ p. get_or ases p 0) xs)
   carried_lowest [] h = let two : 2 ≤ 0 = h.cycle.two in absurd (omega arith)
   carried_lowest (x ∷ xs) h = record {
     cycle = carried_cycle (x ∷ xs) h.cycle;

@@ -5,7 +5,7 @@ use Rattle.net_names.specs.declared.routes.Rel.{Rel}
 use Rattle.net_names.specs.declared.routes.Rel.TheVariants.{Customer, Provider}
 use Rattle.net_names.specs.Links.{converse}
 use Rattle.net_names.specs.Numbers.{occurs, IsDistinct, last_or}
-use Rattle.as_graph.specs.Topology.{Topology, what}
+use Rattle.as_graph.specs.Topology.{Topology, relation}
 use Rattle.as_graph.specs.Edits.{with_link, without_link}
 use Rattle.as_graph.specs.Hierarchy.{IsDescent, IsProviderCycle, HasNoProviderCycle}
 use Rattle.as_graph.proofs.EditsLemmas.{links_are_set_lem, links_are_sound_lem}

@@ -76,11 +76,11 @@ module _ (g : Topology) (p c : ℕ) (differ : p ≢ c) where
       way_closes g p c differ xs ys x (some_at r x xs ys (some (omega (arith, two))) is) way
 
 -- the way of a search up that has met the customer
-pub way_up : (g : Topology) (p c : ℕ) (up : Bool) (es : List (ℕ × ℕ)) (at : ℕ) (xs : List ℕ) → up ≡ true → HasMet g p c up es at → ((what : ℕ → ℕ → Option Rel) → AreReached what p es → IsWayTo what (reached_at es at) p xs) → IsWayTo (without_pair g p c) c p xs
+pub way_up : (g : Topology) (p c : ℕ) (up : Bool) (es : List (ℕ × ℕ)) (at : ℕ) (xs : List ℕ) → up ≡ true → HasMet g p c up es at → ((relation : ℕ → ℕ → Option Rel) → AreReached relation p es → IsWayTo relation (reached_at es at) p xs) → IsWayTo (without_pair g p c) c p xs
 way_up g p c true es at xs e met way = subst (λ a. IsWayTo (without_pair g p c) a p xs) met.found (way (without_pair g p c) met.reached)
 way_up g p c false es at xs e met way = cc
 
 -- the way of a search down that has met the provider
-pub way_down : (g : Topology) (p c : ℕ) (up : Bool) (es : List (ℕ × ℕ)) (at : ℕ) (xs : List ℕ) → up ≡ false → HasMet g p c up es at → ((what : ℕ → ℕ → Option Rel) → AreReached what c es → IsWayTo what (reached_at es at) c xs) → IsWayTo (without_pair g p c) c p (reverse xs)
+pub way_down : (g : Topology) (p c : ℕ) (up : Bool) (es : List (ℕ × ℕ)) (at : ℕ) (xs : List ℕ) → up ≡ false → HasMet g p c up es at → ((relation : ℕ → ℕ → Option Rel) → AreReached relation c es → IsWayTo relation (reached_at es at) c xs) → IsWayTo (without_pair g p c) c p (reverse xs)
 way_down g p c false es at xs e met way = way_reversed (without_pair g p c) p c xs (subst (λ a. IsWayTo (λ a b. without_pair g p c b a) a c xs) met.found (way (λ a b. without_pair g p c b a) met.reached))
 way_down g p c true es at xs e met way = cc

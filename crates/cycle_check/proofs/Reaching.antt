@@ -119,30 +119,30 @@ gains_keeps es a from y h = by (is_reached es a)
     by true = h
     by false = reached_before es a from y h
 
-module _ (what : ℕ → ℕ → Option Rel) (a from : ℕ) where
-  pub goes_nowhere : (es : List (ℕ × ℕ)) → GoesOn what a from es es
+module _ (relation : ℕ → ℕ → Option Rel) (a from : ℕ) where
+  pub goes_nowhere : (es : List (ℕ × ℕ)) → GoesOn relation a from es es
   goes_nowhere es = record { longer = omega arith; kept = λ i l. refl; stays = λ y h. h; fresh = λ i g l. absurd (omega (arith, g, l)) }
 
   -- a provider of the AS is reached from its place
-  pub goes_further : (old es : List (ℕ × ℕ)) (y : ℕ) → GoesOn what a from old es → what y a ≡ Some Customer → GoesOn what a from old (gains es y from)
+  pub goes_further : (old es : List (ℕ × ℕ)) (y : ℕ) → GoesOn relation a from old es → relation y a ≡ Some Customer → GoesOn relation a from old (gains es y from)
   goes_further old es y on linked = by (is_reached es y)
     where
       longer : length old ≤ length (es ++ (y, from) ∷ [])
       longer = omega (arith, on.longer, length_push es (y, from))
 
-      fresh : (i : ℕ) → length old ≤ i → i < length (es ++ (y, from) ∷ []) → (from_at (es ++ (y, from) ∷ []) i ≡ from) × (what (reached_at (es ++ (y, from) ∷ []) i) a ≡ Some Customer)
+      fresh : (i : ℕ) → length old ≤ i → i < length (es ++ (y, from) ∷ []) → (from_at (es ++ (y, from) ∷ []) i ≡ from) × (relation (reached_at (es ++ (y, from) ∷ []) i) a ≡ Some Customer)
       fresh i g l = elim (cases_eq i (length es)) [
         | inl e ↦
             let here : get_or (es ++ (y, from) ∷ []) i (0, 0) ≡ (y, from) = ap (λ k. get_or (es ++ (y, from) ∷ []) k (0, 0)) e ∙ get_last es (y, from) in
-            (ap (λ (p : ℕ × ℕ). p.1) here, ap (λ (p : ℕ × ℕ). what p.0 a) here ∙ linked)
+            (ap (λ (p : ℕ × ℕ). p.1) here, ap (λ (p : ℕ × ℕ). relation p.0 a) here ∙ linked)
         | inr ne ↦
             let inside : i < length es = omega (arith, l, length_push es (y, from), ne) in
             let here = get_before es (y, from) i inside in
             let was = on.fresh i g inside in
-            (ap (λ (p : ℕ × ℕ). p.1) here ∙ was.0, ap (λ (p : ℕ × ℕ). what p.0 a) here ∙ was.1)
+            (ap (λ (p : ℕ × ℕ). p.1) here ∙ was.0, ap (λ (p : ℕ × ℕ). relation p.0 a) here ∙ was.1)
       ]
 
-      by : (t : Bool) → GoesOn what a from old (cond t es (es ++ (y, from) ∷ []))
+      by : (t : Bool) → GoesOn relation a from old (cond t es (es ++ (y, from) ∷ []))
       by true = on
       by false = record {
         longer = longer;
@@ -153,9 +153,9 @@ module _ (what : ℕ → ℕ → Option Rel) (a from : ℕ) where
 
 -- ---- one more step
 
-pub search_more : (what : ℕ → ℕ → Option Rel) (start : ℕ) (es new : List (ℕ × ℕ)) (done a : ℕ) → IsSearch what start es done → done < length es → a ≡ reached_at es done → GoesOn what a done es new → AreApart nat_eq (keys_of new) →
-    ((y : ℕ) → what y a ≡ Some Customer → is_reached new y ≡ true) → IsSearch what start new (done + 1)
-search_more what start es new done a s further here on unique all = record {
+pub search_more : (relation : ℕ → ℕ → Option Rel) (start : ℕ) (es new : List (ℕ × ℕ)) (done a : ℕ) → IsSearch relation start es done → done < length es → a ≡ reached_at es done → GoesOn relation a done es new → AreApart nat_eq (keys_of new) →
+    ((y : ℕ) → relation y a ≡ Some Customer → is_reached new y ≡ true) → IsSearch relation start new (done + 1)
+search_more relation start es new done a s further here on unique all = record {
   unique = unique;
   reached = record {
     some = omega (arith, s.reached.some, on.longer);
@@ -179,31 +179,31 @@ search_more what start es new done a s further here on unique all = record {
       | inr more ↦ omega (arith, (on.fresh i more l).0, further, more)
     ]
 
-    linked : (i : ℕ) → 0 < i → i < length new → what (reached_at new i) (reached_at new (from_at new i)) ≡ Some Customer
+    linked : (i : ℕ) → 0 < i → i < length new → relation (reached_at new i) (reached_at new (from_at new i)) ≡ Some Customer
     linked i pos l = elim (cases_lt i (length es)) [
       | inl old ↦
           let low : from_at es i < length es = omega (arith, s.reached.earlier i pos old, old) in
-          (λ k. what (at i old k) ((ap (reached_at new) (from i old) ∙ at (from_at es i) low) k)) ∙ s.reached.linked i pos old
+          (λ k. relation (at i old k) ((ap (reached_at new) (from i old) ∙ at (from_at es i) low) k)) ∙ s.reached.linked i pos old
       | inr more ↦
           let f = on.fresh i more l in
-          ap (what (reached_at new i)) (ap (reached_at new) f.0 ∙ at done further ∙ sym here) ∙ f.1
+          ap (relation (reached_at new i)) (ap (reached_at new) f.0 ∙ at done further ∙ sym here) ∙ f.1
     ]
 
-    told : (i : ℕ) → i < done + 1 → (y : ℕ) → what y (reached_at new i) ≡ Some Customer → is_reached new y ≡ true
+    told : (i : ℕ) → i < done + 1 → (y : ℕ) → relation y (reached_at new i) ≡ Some Customer → is_reached new y ≡ true
     told i l y h = elim (cases_lt i done) [
       | inl low ↦
           let inside : i < length es = omega (arith, low, further) in
-          on.stays y (s.all i low y (ap (what y) (sym (at i inside)) ∙ h))
+          on.stays y (s.all i low y (ap (relation y) (sym (at i inside)) ∙ h))
       | inr high ↦
           let same : i ≡ done = omega (arith, l, high) in
-          all y (ap (what y) (here ∙ sym (at done further) ∙ ap (reached_at new) (sym same)) ∙ h)
+          all y (ap (relation y) (here ∙ sym (at done further) ∙ ap (reached_at new) (sym same)) ∙ h)
     ]
 
 -- the first AS alone
-pub first_search : (what : ℕ → ℕ → Option Rel) (start : ℕ) (es : List (ℕ × ℕ)) (done : ℕ) → es ≡ (start, 0) ∷ [] → AreApart nat_eq (keys_of es) → done ≡ 0 → IsSearch what start es done
-first_search what start es done is unique none = record {
+pub first_search : (relation : ℕ → ℕ → Option Rel) (start : ℕ) (es : List (ℕ × ℕ)) (done : ℕ) → es ≡ (start, 0) ∷ [] → AreApart nat_eq (keys_of es) → done ≡ 0 → IsSearch relation start es done
+first_search relation start es done is unique none = record {
   unique = unique;
-  reached = subst (AreReached what start) (sym is) (record {
+  reached = subst (AreReached relation start) (sym is) (record {
     some = omega arith;
     first = refl;
     earlier = λ i pos l. omega (arith, pos, l);
@@ -217,13 +217,13 @@ pub one_reached : (start x : ℕ) (es : List (ℕ × ℕ)) → es ≡ (start, 0)
 one_reached start x es is ne = ap (λ l. is_reached l x) is ∙ ap (λ (t : Bool). is_some {T = ℕ} (cond t (Some 0) None)) (ne_eqb x start ne)
 
 -- where a search has gone on from all, providers of those reached are reached
-pub ended : (what : ℕ → ℕ → Option Rel) (start : ℕ) (es : List (ℕ × ℕ)) (done : ℕ) → IsSearch what start es done → length es ≤ done → (x y : ℕ) → what y x ≡ Some Customer → is_reached es x ≡ true → is_reached es y ≡ true
-ended what start es done s all x y h r =
+pub ended : (relation : ℕ → ℕ → Option Rel) (start : ℕ) (es : List (ℕ × ℕ)) (done : ℕ) → IsSearch relation start es done → length es ≤ done → (x y : ℕ) → relation y x ≡ Some Customer → is_reached es x ≡ true → is_reached es y ≡ true
+ended relation start es done s all x y h r =
     let (i, inside, is) = place_of es x r in
-    s.all i (omega (arith, inside, all)) y (ap (what y) is ∙ h)
+    s.all i (omega (arith, inside, all)) y (ap (relation y) is ∙ h)
 
-pub start_reached : (what : ℕ → ℕ → Option Rel) (start : ℕ) (es : List (ℕ × ℕ)) → AreReached what start es → is_reached es start ≡ true
-start_reached what start es r = ap (is_reached es) (sym r.first) ∙ reached_there es 0 r.some
+pub start_reached : (relation : ℕ → ℕ → Option Rel) (start : ℕ) (es : List (ℕ × ℕ)) → AreReached relation start es → is_reached es start ≡ true
+start_reached relation start es r = ap (is_reached es) (sym r.first) ∙ reached_there es 0 r.some
 
 -- ---- the way back
 
@@ -231,17 +231,17 @@ pub first_push : (d : ℕ) (xs : List ℕ) (x : ℕ) → get_or (xs ++ x ∷ [])
 first_push d [] x = refl
 first_push d (y ∷ ys) x = refl
 
-module _ (what : ℕ → ℕ → Option Rel) (start : ℕ) (es : List (ℕ × ℕ)) (unique : AreApart nat_eq (keys_of es)) (r : AreReached what start es) (from place : ℕ) (way : List ℕ) (b : IsBack what es from place way) (inside : place < length es) where
+module _ (relation : ℕ → ℕ → Option Rel) (start : ℕ) (es : List (ℕ × ℕ)) (unique : AreApart nat_eq (keys_of es)) (r : AreReached relation start es) (from place : ℕ) (way : List ℕ) (b : IsBack relation es from place way) (inside : place < length es) where
   absent : occurs (reached_at es place) way ≡ false
   absent = false_from_ne_true (occurs (reached_at es place) way) (λ h.
       let (i, above, low, is) = b.above (reached_at es place) h in
       apart_places es unique place i above low (sym is))
 
-  pub back_more : 0 < place → IsBack what es from (from_at es place) (way ++ reached_at es place ∷ [])
+  pub back_more : 0 < place → IsBack relation es from (from_at es place) (way ++ reached_at es place ∷ [])
   back_more pos = record {
-    descends = descent_push what way (reached_at es place) b.descends b.next;
+    descends = descent_push relation way (reached_at es place) b.descends b.next;
     distinct = distinct_push way (reached_at es place) b.distinct absent;
-    next = inr (ap (λ t. what t (reached_at es (from_at es place))) (last_or_push 0 way (reached_at es place)) ∙ r.linked place pos inside);
+    next = inr (ap (λ t. relation t (reached_at es (from_at es place))) (last_or_push 0 way (reached_at es place)) ∙ r.linked place pos inside);
     first = first_push (reached_at es (from_at es place)) way (reached_at es place) ∙ b.first;
     above = λ x h. elim (occurs_push x way (reached_at es place) h) [
       | inl old ↦ let (i, above, low, is) = b.above x old in (i, omega (arith, above, r.earlier place pos inside), low, is)
@@ -249,15 +249,15 @@ module _ (what : ℕ → ℕ → Option Rel) (start : ℕ) (es : List (ℕ × �
     ];
   }
 
-  pub back_whole : place ≡ 0 → IsWayTo what (reached_at es from) start (way ++ start ∷ [])
+  pub back_whole : place ≡ 0 → IsWayTo relation (reached_at es from) start (way ++ start ∷ [])
   back_whole zero_place =
       let is : reached_at es place ≡ start = ap (reached_at es) zero_place ∙ r.first in
-      subst (λ s. IsWayTo what (reached_at es from) s (way ++ s ∷ [])) is (record {
-        descends = descent_push what way (reached_at es place) b.descends b.next;
+      subst (λ s. IsWayTo relation (reached_at es from) s (way ++ s ∷ [])) is (record {
+        descends = descent_push relation way (reached_at es place) b.descends b.next;
         distinct = distinct_push way (reached_at es place) b.distinct absent;
         first = first_push 0 way (reached_at es place) ∙ b.first;
         last = last_or_push 0 way (reached_at es place);
       })
 
-pub no_way_yet : (what : ℕ → ℕ → Option Rel) (es : List (ℕ × ℕ)) (from : ℕ) → IsBack what es from from []
-no_way_yet what es from = record { descends = tt; distinct = tt; next = inl refl; first = refl; above = λ x h. cc }
+pub no_way_yet : (relation : ℕ → ℕ → Option Rel) (es : List (ℕ × ℕ)) (from : ℕ) → IsBack relation es from from []
+no_way_yet relation es from = record { descends = tt; distinct = tt; next = inl refl; first = refl; above = λ x h. cc }

@@ -32,20 +32,20 @@ distinct_reversed : (xs : List ℕ) → IsDistinct xs → IsDistinct (reverse xs
 distinct_reversed [] d = tt
 distinct_reversed (x ∷ xs) d = subst IsDistinct (sym (turned x xs)) (distinct_push (reverse xs) x (distinct_reversed xs d.1) (false_from_ne_true (occurs x (reverse xs)) (λ h. true≢false (sym (occurs_reversed x xs h) ∙ d.0))))
 
-module _ (what : ℕ → ℕ → Option Rel) where
-  rest_of : (x : ℕ) (xs : List ℕ) → IsDescent (λ a b. what b a) (x ∷ xs) → IsDescent (λ a b. what b a) xs
+module _ (relation : ℕ → ℕ → Option Rel) where
+  rest_of : (x : ℕ) (xs : List ℕ) → IsDescent (λ a b. relation b a) (x ∷ xs) → IsDescent (λ a b. relation b a) xs
   rest_of x [] h = tt
   rest_of x (y ∷ ys) h = h.1
 
-  next_of : (x : ℕ) (xs : List ℕ) → IsDescent (λ a b. what b a) (x ∷ xs) → (reverse xs ≡ []) ⊎ (what (last_or 0 (reverse xs)) x ≡ Some Customer)
+  next_of : (x : ℕ) (xs : List ℕ) → IsDescent (λ a b. relation b a) (x ∷ xs) → (reverse xs ≡ []) ⊎ (relation (last_or 0 (reverse xs)) x ≡ Some Customer)
   next_of x [] h = inl refl
-  next_of x (y ∷ ys) h = inr (ap (λ t. what t x) (last_reversed 0 (y ∷ ys)) ∙ h.0)
+  next_of x (y ∷ ys) h = inr (ap (λ t. relation t x) (last_reversed 0 (y ∷ ys)) ∙ h.0)
 
-  descent_reversed : (xs : List ℕ) → IsDescent (λ a b. what b a) xs → IsDescent what (reverse xs)
+  descent_reversed : (xs : List ℕ) → IsDescent (λ a b. relation b a) xs → IsDescent relation (reverse xs)
   descent_reversed [] h = tt
-  descent_reversed (x ∷ xs) h = subst (IsDescent what) (sym (turned x xs)) (descent_push what (reverse xs) x (descent_reversed xs (rest_of x xs h)) (next_of x xs h))
+  descent_reversed (x ∷ xs) h = subst (IsDescent relation) (sym (turned x xs)) (descent_push relation (reverse xs) x (descent_reversed xs (rest_of x xs h)) (next_of x xs h))
 
-  pub way_reversed : (from to : ℕ) (xs : List ℕ) → IsWayTo (λ a b. what b a) from to xs → IsWayTo what to from (reverse xs)
+  pub way_reversed : (from to : ℕ) (xs : List ℕ) → IsWayTo (λ a b. relation b a) from to xs → IsWayTo relation to from (reverse xs)
   way_reversed from to xs h = record {
     descends = descent_reversed xs h.descends;
     distinct = distinct_reversed xs h.distinct;

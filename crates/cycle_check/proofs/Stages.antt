@@ -7,7 +7,7 @@ use Rattle.std.specs.List.Sorted.{IsNonDecreasingBy}
 use Rattle.net_names.specs.Numbers.{occurs, IsDistinct}
 use Rattle.net_names.specs.declared.routes.Rel.TheVariants.{Customer}
 use Rattle.as_graph.specs.Hierarchy.{RankFits}
-use Rattle.cycle_check.specs.Rows.{what_by}
+use Rattle.cycle_check.specs.Rows.{relation_by}
 use Rattle.cycle_check.specs.Stages.{waiting, IsStage, IsTelling, freed, AreFree}
 use Rattle.cycle_check.specs.Ways.{AllLeftBelow}
 use Rattle.cycle_check.proofs.Descents.{occurs_push, occurs_before, occurs_last, distinct_push}
@@ -309,10 +309,10 @@ module _ (rows : ℕ → List ℕ) (n : ℕ) (counts ranks order : List ℕ) (s 
       )
 
   module _ (all : (p : ℕ) → p < n → get_or counts p 0 ≡ 0) (within : (a b : ℕ) → occurs a (rows b) ≡ true → b < n) where
-    pub linked_occurs : (a b : ℕ) → what_by rows a b ≡ Some Customer → occurs a (rows b) ≡ true
+    pub linked_occurs : (a b : ℕ) → relation_by rows a b ≡ Some Customer → occurs a (rows b) ≡ true
     linked_occurs a b e = elim (cases_Bool (occurs a (rows b))) [ inl o ↦ o | inr o ↦ (let none = ap (λ t. cond t (Some Customer) None) o in cc) ]
 
-    pub ranks_fit : (a : ℕ) → RankFits (what_by rows) (λ x. get_or ranks x 0) a
+    pub ranks_fit : (a : ℕ) → RankFits (relation_by rows) (λ x. get_or ranks x 0) a
     ranks_fit a = record {
       above = λ b linked. (
           let o = linked_occurs a b linked in

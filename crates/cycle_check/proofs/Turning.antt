@@ -34,47 +34,47 @@ module _ (xs : List ℕ) (k : ℕ) (inside : k < length xs) where
         omega (arith, le, at, same, first);
   }
 
-module _ (what : ℕ → ℕ → Option Rel) where
-  descent_rest : (x : ℕ) (xs : List ℕ) → IsDescent what (x ∷ xs) → IsDescent what xs
+module _ (relation : ℕ → ℕ → Option Rel) where
+  descent_rest : (x : ℕ) (xs : List ℕ) → IsDescent relation (x ∷ xs) → IsDescent relation xs
   descent_rest x [] h = tt
   descent_rest x (y ∷ ys) h = h.1
 
   -- the first AS of a cycle may be its last
-  one_turn : (x : ℕ) (xs : List ℕ) → IsProviderCycle what (x ∷ xs) → IsProviderCycle what (xs ++ x ∷ [])
+  one_turn : (x : ℕ) (xs : List ℕ) → IsProviderCycle relation (x ∷ xs) → IsProviderCycle relation (xs ++ x ∷ [])
   one_turn x [] h = let two : 2 ≤ 1 = h.two in absurd (omega arith)
   one_turn x (y ∷ ys) h = record {
     two = omega (arith, length_push (y ∷ ys) x, h.two);
     distinct = distinct_push (y ∷ ys) x h.distinct.1 h.distinct.0;
-    descends = descent_push what (y ∷ ys) x h.descends.1 (inr h.closes);
-    closes = subst (λ t. what t y ≡ Some Customer) (sym (last_or_push 0 (y ∷ ys) x)) h.descends.0;
+    descends = descent_push relation (y ∷ ys) x h.descends.1 (inr h.closes);
+    closes = subst (λ t. relation t y ≡ Some Customer) (sym (last_or_push 0 (y ∷ ys) x)) h.descends.0;
   }
 
-  pub turns : (xs ys : List ℕ) → IsProviderCycle what (xs ++ ys) → IsProviderCycle what (ys ++ xs)
-  turns [] ys h = subst (IsProviderCycle what) (sym (append-nil ys)) h
+  pub turns : (xs ys : List ℕ) → IsProviderCycle relation (xs ++ ys) → IsProviderCycle relation (ys ++ xs)
+  turns [] ys h = subst (IsProviderCycle relation) (sym (append-nil ys)) h
   turns (x ∷ xs) ys h =
-      let turned : IsProviderCycle what (xs ++ (ys ++ x ∷ [])) = subst (IsProviderCycle what) (append_assoc xs ys (x ∷ [])) (one_turn x (xs ++ ys) h) in
-      subst (IsProviderCycle what) (append_assoc ys (x ∷ []) xs) (turns xs (ys ++ x ∷ []) turned)
+      let turned : IsProviderCycle relation (xs ++ (ys ++ x ∷ [])) = subst (IsProviderCycle relation) (append_assoc xs ys (x ∷ [])) (one_turn x (xs ++ ys) h) in
+      subst (IsProviderCycle relation) (append_assoc ys (x ∷ []) xs) (turns xs (ys ++ x ∷ []) turned)
 
-  pub turned_cycle : (xs ys : List ℕ) → IsProviderCycle what xs → IsTurned xs ys → IsCycleFromLowest what ys
+  pub turned_cycle : (xs ys : List ℕ) → IsProviderCycle relation xs → IsTurned xs ys → IsCycleFromLowest relation ys
   turned_cycle xs ys h t =
       let (k, e) = t.turned in record {
-        cycle = subst (IsProviderCycle what) (sym e) (turns (take k xs) (drop k xs) (subst (IsProviderCycle what) (sym (take-append-drop k xs)) h));
+        cycle = subst (IsProviderCycle relation) (sym e) (turns (take k xs) (drop k xs) (subst (IsProviderCycle relation) (sym (take-append-drop k xs)) h));
         lowest = t.lowest;
       }
 
   -- the part of a descent from an AS on, of which the last is a provider, is a cycle
-  module _ (to_itself : (a : ℕ) → what a a ≡ None) (a : ℕ) where
-    from_first : (xs : List ℕ) (d : ℕ) → IsDescent what xs → IsDistinct xs → occurs a xs ≡ true → what (last_or d xs) a ≡ Some Customer → IsProviderCycle what (drop (place_in xs a) xs)
+  module _ (to_itself : (a : ℕ) → relation a a ≡ None) (a : ℕ) where
+    from_first : (xs : List ℕ) (d : ℕ) → IsDescent relation xs → IsDistinct xs → occurs a xs ≡ true → relation (last_or d xs) a ≡ Some Customer → IsProviderCycle relation (drop (place_in xs a) xs)
     from_first [] d h u o e = cc
     from_first (x ∷ xs) d h u o e = by (x == a) refl (from_first xs x (descent_rest x xs h) u.1)
       where
-        here : (ys : List ℕ) → x ≡ a → IsDescent what (x ∷ ys) → IsDistinct (x ∷ ys) → what (last_or x ys) a ≡ Some Customer → IsProviderCycle what (x ∷ ys)
-        here [] is h u e = let self : what a a ≡ Some Customer = subst (λ t. what t a ≡ Some Customer) is e in let none = to_itself a in cc
-        here (y ∷ ys) is h u e = record { two = omega arith; distinct = u; descends = h; closes = subst (λ t. what (last_or y ys) t ≡ Some Customer) (sym is) e }
+        here : (ys : List ℕ) → x ≡ a → IsDescent relation (x ∷ ys) → IsDistinct (x ∷ ys) → relation (last_or x ys) a ≡ Some Customer → IsProviderCycle relation (x ∷ ys)
+        here [] is h u e = let self : relation a a ≡ Some Customer = subst (λ t. relation t a ≡ Some Customer) is e in let none = to_itself a in cc
+        here (y ∷ ys) is h u e = record { two = omega arith; distinct = u; descends = h; closes = subst (λ t. relation (last_or y ys) t ≡ Some Customer) (sym is) e }
 
-        by : (b : Bool) → (x == a) ≡ b → (occurs a xs ≡ true → what (last_or x xs) a ≡ Some Customer → IsProviderCycle what (drop (place_in xs a) xs)) → IsProviderCycle what (drop (cond b 0 (suc (place_in xs a))) (x ∷ xs))
+        by : (b : Bool) → (x == a) ≡ b → (occurs a xs ≡ true → relation (last_or x xs) a ≡ Some Customer → IsProviderCycle relation (drop (place_in xs a) xs)) → IsProviderCycle relation (drop (cond b 0 (suc (place_in xs a))) (x ∷ xs))
         by true is ih = here xs (eqb-true x a is) h u e
         by false is ih = ih (sym (ap (λ b. b || occurs a xs) is) ∙ o) e
 
-    pub stretch_cycle : (xs : List ℕ) → IsDescent what xs → IsDistinct xs → occurs a xs ≡ true → what (last_or 0 xs) a ≡ Some Customer → IsProviderCycle what (drop (place_in xs a) xs)
+    pub stretch_cycle : (xs : List ℕ) → IsDescent relation xs → IsDistinct xs → occurs a xs ≡ true → relation (last_or 0 xs) a ≡ Some Customer → IsProviderCycle relation (drop (place_in xs a) xs)
     stretch_cycle xs = from_first xs 0

@@ -11,7 +11,7 @@ use Rattle.net_names.specs.declared.routes.Rel.TheVariants.{Customer, Peer, Prov
 use Rattle.net_names.specs.Links.{converse}
 use Rattle.net_names.specs.Numbers.{occurs}
 use Rattle.as_graph.specs.declared.neighbour.Neighbour.{Neighbour}
-use Rattle.as_graph.specs.Topology.{Topology, what, has, as_count}
+use Rattle.as_graph.specs.Topology.{Topology, relation, has, as_count}
 use Rattle.as_graph.specs.Edits.{without_link}
 use Rattle.as_graph.specs.Neighbours.{asns, AreNeighbours}
 use Rattle.as_graph.specs.Rows.{blank}
@@ -56,7 +56,7 @@ module _ (g : Topology) (p c a : ℕ) where
         λ e. true≢false (sym (both_same (a == c) (y == p) (eq-eqb a c e.0) (eq-eqb y p e.1)) ∙ parts.1),
       )
 
-  same_there : (y : ℕ) → is_pair p c a y ≡ false → without_pair g p c a y ≡ what g a y
+  same_there : (y : ℕ) → is_pair p c a y ≡ false → without_pair g p c a y ≡ relation g a y
   same_there y h = let n = not_pair y h in links_are_taken_lem.others g p c a y n.0 n.1
 
   -- a link that is left is not the pair's
@@ -70,7 +70,7 @@ module _ (g : Topology) (p c a : ℕ) where
   turned x y = links_are_sound_lem.alike (without_link g p c) x y
 
   -- a wanted neighbour is one to which the search goes
-  pub wanted_link : (up : Bool) (y : ℕ) (rel : Rel) → what g a y ≡ Some rel → is_wanted up rel ≡ true → is_pair p c a y ≡ false → toward up (without_pair g p c) y a ≡ Some Customer
+  pub wanted_link : (up : Bool) (y : ℕ) (rel : Rel) → relation g a y ≡ Some rel → is_wanted up rel ≡ true → is_pair p c a y ≡ false → toward up (without_pair g p c) y a ≡ Some Customer
   wanted_link true y Provider h w n = turned a y ∙ ap (option_map converse) (same_there y n ∙ h)
   wanted_link true y Customer h w n = cc
   wanted_link true y Peer h w n = cc
@@ -79,7 +79,7 @@ module _ (g : Topology) (p c a : ℕ) where
   wanted_link false y Peer h w n = cc
 
   abbrev IsWanted : Bool → ℕ → Type 0
-  IsWanted up y = (r : Rel) × (what g a y ≡ Some r) × (is_wanted up r ≡ true) × (is_pair p c a y ≡ false)
+  IsWanted up y = (r : Rel) × (relation g a y ≡ Some r) × (is_wanted up r ≡ true) × (is_pair p c a y ≡ false)
 
   -- and each to which it goes is wanted
   wanted_is : (up : Bool) (y : ℕ) → toward up (without_pair g p c) y a ≡ Some Customer → IsWanted up y
@@ -97,17 +97,17 @@ module _ (g : Topology) (p c a : ℕ) where
   ]
 
   -- where all wanted neighbours are reached, all are to which the search goes
-  pub all_met : (up : Bool) (ns : List Neighbour) (es : List (ℕ × ℕ)) → AreNeighbours (what g) a ns →
+  pub all_met : (up : Bool) (ns : List Neighbour) (es : List (ℕ × ℕ)) → AreNeighbours (relation g) a ns →
       ((k : ℕ) → k < length ns → (is_wanted up (get_or ns k blank).rel && not (is_pair p c a (get_or ns k blank).asn)) ≡ true → is_reached es (get_or ns k blank).asn ≡ true) →
       (y : ℕ) → toward up (without_pair g p c) y a ≡ Some Customer → is_reached es y ≡ true
   all_met up ns es are met y h =
       let (r, is, wanted, other) = wanted_is up y h in
       let (k, inside, here) = place_of ns y (are.complete y r is) in
-      let rel : (get_or ns k blank).rel ≡ r = some_some (what g a (get_or ns k blank).asn) (get_or ns k blank).rel r (are.each k blank inside) (ap (what g a) here ∙ is) in
+      let rel : (get_or ns k blank).rel ≡ r = some_some (relation g a (get_or ns k blank).asn) (get_or ns k blank).rel r (are.each k blank inside) (ap (relation g a) here ∙ is) in
       ap (is_reached es) (sym here) ∙ met k inside (both_same _ _ (ap (is_wanted up) rel ∙ wanted) (ap (λ t. not (is_pair p c a t)) here ∙ ap not other))
 
 -- one more neighbour is looked at
-module _ (g : Topology) (p c : ℕ) (up : Bool) (a from : ℕ) (old es new : List (ℕ × ℕ)) (ns : List Neighbour) (are : AreNeighbours (what g) a ns) (k : ℕ) (inside : k < length ns) (is : new ≡ gains_wanted up p c a from es (get_or ns k blank)) where
+module _ (g : Topology) (p c : ℕ) (up : Bool) (a from : ℕ) (old es new : List (ℕ × ℕ)) (ns : List Neighbour) (are : AreNeighbours (relation g) a ns) (k : ℕ) (inside : k < length ns) (is : new ≡ gains_wanted up p c a from es (get_or ns k blank)) where
   pub goes_more : GoesOn (toward up (without_pair g p c)) a from old es → GoesOn (toward up (without_pair g p c)) a from old new
   goes_more on = subst (GoesOn (toward up (without_pair g p c)) a from old) (sym is) (elim (cases_Bool (is_wanted up (get_or ns k blank).rel && not (is_pair p c a (get_or ns k blank).asn))) [
     | inl t ↦

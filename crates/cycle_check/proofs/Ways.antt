@@ -6,7 +6,7 @@ use Rattle.std.proofs.lemmas.Grind.{get_or-set_at}
 use Rattle.net_names.specs.Numbers.{occurs, IsDistinct}
 use Rattle.net_names.specs.declared.routes.Rel.{Rel}
 use Rattle.net_names.specs.declared.routes.Rel.TheVariants.{Customer}
-use Rattle.cycle_check.specs.Rows.{what_by}
+use Rattle.cycle_check.specs.Rows.{relation_by}
 use Rattle.cycle_check.specs.Ways.{IsNoted, IsLeftBelow, AreLeftBelow, IsWay, LeadsBack}
 use Rattle.cycle_check.proofs.Descents.{occurs_push, occurs_before, occurs_last, distinct_push, descent_push, last_or_push}
 use Rattle.cycle_check.proofs.Listing.{distinct_below}
@@ -36,9 +36,9 @@ module _ (rows : ℕ → List ℕ) (n : ℕ) (counts : List ℕ) (customer p : �
     | inr ne ↦ before b (omega arith) left o
   ]
 
-module _ (rows : ℕ → List ℕ) (counts seen way : List ℕ) (at : ℕ) (w : IsWay (what_by rows) counts seen way at) where
+module _ (rows : ℕ → List ℕ) (counts seen way : List ℕ) (at : ℕ) (w : IsWay (relation_by rows) counts seen way at) where
   -- the way comes back to a place on it
-  pub leads_back : (get_or seen at 0 ≢ 0) → LeadsBack (what_by rows) way at
+  pub leads_back : (get_or seen at 0 ≢ 0) → LeadsBack (relation_by rows) way at
   leads_back some =
       let there : occurs at way ≡ true = w.met at (elim (cases_pos (get_or seen at 0)) [ inl e ↦ absurd (some e) | inr more ↦ more ]) in
       record {
@@ -66,7 +66,7 @@ module _ (rows : ℕ → List ℕ) (counts seen way : List ℕ) (at : ℕ) (w : 
     way_room = omega (arith, length_push way at, distinct_below (length counts) (way ++ at ∷ []) distinct_more below_more)
 
     -- the way goes on one place further down
-    pub way_more : IsWay (what_by rows) counts (set seen at 1) (way ++ at ∷ []) (get_or below at 0)
+    pub way_more : IsWay (relation_by rows) counts (set seen at 1) (way ++ at ∷ []) (get_or below at 0)
     way_more =
         let step = downs at w.inside w.left in
         record {
@@ -89,13 +89,13 @@ module _ (rows : ℕ → List ℕ) (counts seen way : List ℕ) (at : ℕ) (w : 
           ];
           below = below_more;
           distinct = distinct_more;
-          descends = descent_push (what_by rows) way at w.descends w.last;
-          last = inr (subst (λ t. what_by rows t (get_or below at 0) ≡ Some Customer) (sym (last_or_push 0 way at)) (ap (λ t. cond t (Some Customer) None) step.linked));
+          descends = descent_push (relation_by rows) way at w.descends w.last;
+          last = inr (subst (λ t. relation_by rows t (get_or below at 0) ≡ Some Customer) (sym (last_or_push 0 way at)) (ap (λ t. cond t (Some Customer) None) step.linked));
         }
 
 -- before the first step
-pub first_way : (what : ℕ → ℕ → Option Rel) (counts : List ℕ) (at : ℕ) → at < length counts → 0 < get_or counts at 0 → IsWay what counts (zeros (length counts)) [] at
-first_way what counts at inside left = record {
+pub first_way : (relation : ℕ → ℕ → Option Rel) (counts : List ℕ) (at : ℕ) → at < length counts → 0 < get_or counts at 0 → IsWay relation counts (zeros (length counts)) [] at
+first_way relation counts at inside left = record {
   room = length-zeros (length counts);
   inside = inside;
   left = left;

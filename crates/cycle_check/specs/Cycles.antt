@@ -3,7 +3,7 @@ use Rattle.std.specs.Prelude.{◌≡◌, ℕ, true, ◌≤◌, Option, List, ◌
 use Rattle.net_names.specs.Numbers.{occurs}
 use Rattle.net_names.specs.declared.routes.Rel.{Rel}
 use Rattle.net_names.specs.declared.routes.Rel.TheVariants.{Customer}
-use Rattle.as_graph.specs.Topology.{Topology, what}
+use Rattle.as_graph.specs.Topology.{Topology, relation}
 use Rattle.as_graph.specs.Edits.{with_link, without_link}
 use Rattle.as_graph.specs.Hierarchy.{IsProviderCycle}
 
@@ -12,8 +12,8 @@ abbrev pub BeginsLowest : List ℕ → Type 0
 BeginsLowest xs = (a : ℕ) → occurs a xs ≡ true → slice_index xs 0 ≤ a
 
 -- a provider cycle, told from its lowest number on (Gao and Rexford 2001, the hierarchy assumption)
-pub record IsCycleFromLowest (what : ℕ → ℕ → Option Rel) (xs : List ℕ) : Type 0 where
-  pub cycle : IsProviderCycle what xs
+pub record IsCycleFromLowest (relation : ℕ → ℕ → Option Rel) (xs : List ℕ) : Type 0 where
+  pub cycle : IsProviderCycle relation xs
   pub lowest : BeginsLowest xs
 
 -- the list turned round so far that it begins with its lowest number
@@ -23,11 +23,11 @@ pub record IsTurned (xs ys : List ℕ) : Type 0 where
 
 -- what ASes are to each other with a provider link of this pair, in place of any link that it has (RFC 9234, section 4)
 abbrev pub with_provider : Topology → ℕ → ℕ → ℕ → ℕ → Option Rel
-with_provider g provider customer = what (with_link g provider customer Customer)
+with_provider g provider customer = relation (with_link g provider customer Customer)
 
 -- what they are to each other without a link of this pair (RFC 9234, section 4)
 abbrev pub without_pair : Topology → ℕ → ℕ → ℕ → ℕ → Option Rel
-without_pair g a b = what (without_link g a b)
+without_pair g a b = relation (without_link g a b)
 
 -- a provider cycle that the new link closes: the provider comes first, then its customer (Gao and Rexford 2001, the hierarchy assumption)
 pub record IsClosedBy (g : Topology) (provider customer : ℕ) (xs : List ℕ) : Type 0 where

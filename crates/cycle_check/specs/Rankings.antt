@@ -2,7 +2,7 @@
 use Rattle.std.specs.Prelude.{◌≡◌, ℕ, ◌==◌, if◌then◌else◌, Option, None, Some, List, [], ◌∷◌, length, map, unwrap_or}
 use Rattle.std.specs.List.Sorted.{IsStrictlyIncreasing}
 use Rattle.net_names.specs.Numbers.{occurs}
-use Rattle.as_graph.specs.Topology.{Topology, what, has}
+use Rattle.as_graph.specs.Topology.{Topology, relation, has}
 use Rattle.as_graph.specs.Hierarchy.{HasNoProviderCycle, IsRank}
 use Rattle.cycle_check.specs.declared.ranking.RankedAs.{RankedAs}
 use Rattle.cycle_check.specs.declared.ranking.Ranked.{Ranked}
@@ -32,7 +32,7 @@ ranks_of xs = map (λ x. x.rank) xs
 pub record AreRanks (g : Topology) (xs : List RankedAs) : Type 0 where
   pub listed : (a : ℕ) → occurs a (numbers_of xs) ≡ has g a
   pub rising : IsStrictlyIncreasing (numbers_of xs)
-  pub ranks : (a : ℕ) → IsRank (what g) a (rank_in xs a)
+  pub ranks : (a : ℕ) → IsRank (relation g) a (rank_in xs a)
 
 -- the ASes with their ranks, and their places in this list by rising rank
 pub record AreRanked (g : Topology) (r : Ranked) : Type 0 where
@@ -41,5 +41,5 @@ pub record AreRanked (g : Topology) (r : Ranked) : Type 0 where
 
 -- the ranks where there is no provider cycle, and else such a cycle (Gao and Rexford 2001, the hierarchy assumption)
 abbrev pub IsRanking : Topology → Ranking → Type 0
-IsRanking g (Ranks ranks) = HasNoProviderCycle (what g) × AreRanked g ranks
-IsRanking g (Cycle cycle) = IsCycleFromLowest (what g) cycle
+IsRanking g (Ranks ranks) = HasNoProviderCycle (relation g) × AreRanked g ranks
+IsRanking g (Cycle cycle) = IsCycleFromLowest (relation g) cycle

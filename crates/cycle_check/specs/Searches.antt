@@ -13,8 +13,8 @@ use Rattle.cycle_check.specs.declared.search.Search.{Search}
 
 -- the relation as it is for a search up, and turned for one down
 abbrev pub toward : Bool → (ℕ → ℕ → Option Rel) → ℕ → ℕ → Option Rel
-toward true what = what
-toward false what = λ a b. what b a
+toward true relation = relation
+toward false relation = λ a b. relation b a
 
 -- a search up goes to providers, a search down to customers
 abbrev pub is_wanted : Bool → Rel → Bool
@@ -52,25 +52,25 @@ abbrev pub AreFromEarlier : List (ℕ × ℕ) → Type 0
 AreFromEarlier es = (i : ℕ) → 0 < i → i < length es → from_at es i < i
 
 -- the start comes first, and each other AS is a provider of an earlier one, from which it was reached
-pub record AreReached (what : ℕ → ℕ → Option Rel) (start : ℕ) (es : List (ℕ × ℕ)) : Type 0 where
+pub record AreReached (relation : ℕ → ℕ → Option Rel) (start : ℕ) (es : List (ℕ × ℕ)) : Type 0 where
   pub some : 0 < length es
   pub first : reached_at es 0 ≡ start
   pub earlier : AreFromEarlier es
-  pub linked : (i : ℕ) → 0 < i → i < length es → what (reached_at es i) (reached_at es (from_at es i)) ≡ Some Customer
+  pub linked : (i : ℕ) → 0 < i → i < length es → relation (reached_at es i) (reached_at es (from_at es i)) ≡ Some Customer
 
 -- more providers of an AS are reached, from its place, and those before have stayed
-pub record GoesOn (what : ℕ → ℕ → Option Rel) (a from : ℕ) (old new : List (ℕ × ℕ)) : Type 0 where
+pub record GoesOn (relation : ℕ → ℕ → Option Rel) (a from : ℕ) (old new : List (ℕ × ℕ)) : Type 0 where
   pub longer : length old ≤ length new
   pub kept : (i : ℕ) → i < length old → slice_index_or new i (0, 0) ≡ slice_index_or old i (0, 0)
   pub stays : (y : ℕ) → is_reached old y ≡ true → is_reached new y ≡ true
-  pub fresh : (i : ℕ) → length old ≤ i → i < length new → (from_at new i ≡ from) × (what (reached_at new i) a ≡ Some Customer)
+  pub fresh : (i : ℕ) → length old ≤ i → i < length new → (from_at new i ≡ from) × (relation (reached_at new i) a ≡ Some Customer)
 
 -- a search that has gone on from the first ASes, so many: all their providers are reached
-pub record IsSearch (what : ℕ → ℕ → Option Rel) (start : ℕ) (es : List (ℕ × ℕ)) (done : ℕ) : Type 0 where
+pub record IsSearch (relation : ℕ → ℕ → Option Rel) (start : ℕ) (es : List (ℕ × ℕ)) (done : ℕ) : Type 0 where
   pub unique : AreApart nat_eq (keys_of es)
-  pub reached : AreReached what start es
+  pub reached : AreReached relation start es
   pub within : done ≤ length es
-  pub all : (i : ℕ) → i < done → (y : ℕ) → what y (reached_at es i) ≡ Some Customer → is_reached es y ≡ true
+  pub all : (i : ℕ) → i < done → (y : ℕ) → relation y (reached_at es i) ≡ Some Customer → is_reached es y ≡ true
 
 -- a search up starts at the provider, one down at the customer
 abbrev pub start_of : Bool → ℕ → ℕ → ℕ
@@ -89,16 +89,16 @@ pub record HasMet (g : Topology) (provider customer : ℕ) (up : Bool) (es : Lis
   pub found : reached_at es at ≡ start_of up customer provider
 
 -- a way from one AS to another: each is a provider of the next, and none comes twice
-pub record IsWayTo (what : ℕ → ℕ → Option Rel) (from to : ℕ) (xs : List ℕ) : Type 0 where
-  pub descends : IsDescent what xs
+pub record IsWayTo (relation : ℕ → ℕ → Option Rel) (from to : ℕ) (xs : List ℕ) : Type 0 where
+  pub descends : IsDescent relation xs
   pub distinct : IsDistinct xs
   pub first : slice_index xs 0 ≡ from
   pub last : last_or 0 xs ≡ to
 
 -- the way back from a place is told so far: it comes to the AS at another place next
-pub record IsBack (what : ℕ → ℕ → Option Rel) (es : List (ℕ × ℕ)) (from place : ℕ) (way : List ℕ) : Type 0 where
-  pub descends : IsDescent what way
+pub record IsBack (relation : ℕ → ℕ → Option Rel) (es : List (ℕ × ℕ)) (from place : ℕ) (way : List ℕ) : Type 0 where
+  pub descends : IsDescent relation way
   pub distinct : IsDistinct way
-  pub next : (way ≡ []) ⊎ (what (last_or 0 way) (reached_at es place) ≡ Some Customer)
+  pub next : (way ≡ []) ⊎ (relation (last_or 0 way) (reached_at es place) ≡ Some Customer)
   pub first : slice_index_or way 0 (reached_at es place) ≡ reached_at es from
   pub above : (x : ℕ) → occurs x way ≡ true → (i : ℕ) × (place < i) × (i < length es) × (reached_at es i ≡ x)

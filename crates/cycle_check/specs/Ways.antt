@@ -24,7 +24,7 @@ abbrev pub AreLeftBelow : (ℕ → List ℕ) → ℕ → List ℕ → List ℕ �
 AreLeftBelow rows n counts below = (p : ℕ) → p < n → 0 < slice_index counts p → IsLeftBelow rows n counts p (slice_index below p)
 
 -- the way down goes on at a place without a rank; who was met is on the way, each once
-pub record IsWay (what : ℕ → ℕ → Option Rel) (counts seen way : List ℕ) (at : ℕ) : Type 0 where
+pub record IsWay (relation : ℕ → ℕ → Option Rel) (counts seen way : List ℕ) (at : ℕ) : Type 0 where
   pub room : length seen ≡ length counts
   pub inside : at < length counts
   pub left : 0 < slice_index counts at
@@ -32,12 +32,12 @@ pub record IsWay (what : ℕ → ℕ → Option Rel) (counts seen way : List ℕ
   pub unmet : (p : ℕ) → p < length counts → slice_index seen p ≡ 0 → occurs p way ≡ false
   pub below : (p : ℕ) → occurs p way ≡ true → p < length counts
   pub distinct : IsDistinct way
-  pub descends : IsDescent what way
-  pub last : (way ≡ []) ⊎ (what (last_or 0 way) at ≡ Some Customer)
+  pub descends : IsDescent relation way
+  pub last : (way ≡ []) ⊎ (relation (last_or 0 way) at ≡ Some Customer)
 
 -- the last place on the way down is a provider of a place on the way
-pub record LeadsBack (what : ℕ → ℕ → Option Rel) (way : List ℕ) (a : ℕ) : Type 0 where
-  pub descends : IsDescent what way
+pub record LeadsBack (relation : ℕ → ℕ → Option Rel) (way : List ℕ) (a : ℕ) : Type 0 where
+  pub descends : IsDescent relation way
   pub distinct : IsDistinct way
   pub on_way : occurs a way ≡ true
-  pub back : what (last_or 0 way) a ≡ Some Customer
+  pub back : relation (last_or 0 way) a ≡ Some Customer

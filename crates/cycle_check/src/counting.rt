@@ -1,6 +1,6 @@
 //! The ranks of places, or a provider cycle.
 ghost use Rattle.std.specs.Prelude.{◌≡◌, ◌<◌, ℕ, [], length, slice_index, IfOk};
-ghost use Rattle.cycle_check.specs.Rows.{AreRows, count_of, row, what};
+ghost use Rattle.cycle_check.specs.Rows.{AreRows, count_of, row, relation};
 ghost use Rattle.cycle_check.specs.Counting.{IsCounted};
 ghost use Rattle.cycle_check.specs.Cycles.{IsCycleFromLowest};
 ghost use Rattle.cycle_check.specs.Ways.{AllLeftBelow};
@@ -43,7 +43,7 @@ fn cycle_below(
     requires start { start < length counts.now }
     requires left { 0 < slice_index counts.now start }
     requires below { AllLeftBelow (row starts.now items.now) (count_of starts.now) counts.now }
-    ensures { IfOk result (λ v. IsCycleFromLowest (what starts.now items.now) v.items) }
+    ensures { IfOk result (λ v. IsCycleFromLowest (relation starts.now items.now) v.items) }
 {
     let way = way_back(alloc, starts, items, counts, start)?;
     Ok(cycle_from(alloc, &way.places, way.back)?)

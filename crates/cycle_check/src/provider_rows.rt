@@ -1,7 +1,7 @@
 //! The lists of the providers of a graph's ASes, by place.
 ghost use Rattle.std.specs.Prelude.{◌≡◌, ℕ, ◌<◌, ◌≤◌, ◌^◌, ◌+◌, [], ◌∷◌, ◌++◌, length, slice_index, IfOk, OnOk};
 ghost use Rattle.std.specs.List.Sorted.{IsStrictlyIncreasing};
-ghost use Rattle.as_graph.specs.Topology.{what};
+ghost use Rattle.as_graph.specs.Topology.{relation};
 ghost use Rattle.cycle_check.specs.Rows.{AreRows};
 ghost use Rattle.cycle_check.specs.Places.{place_in};
 ghost use Rattle.cycle_check.specs.Providers.{AreAses, AreFilled, AreProviderRows, IsRowPut, provider_places, put_provider};
@@ -88,7 +88,7 @@ fn put_row(
     requires ases { AreAses graph.now ases.now }
     requires few { length ases.now ≤ MOST_ASES }
     requires place { place < length ases.now }
-    ensures { OnOk result (IsRowPut (what graph.now) ases.now place items.old.items items.new.items) }
+    ensures { OnOk result (IsRowPut (relation graph.now) ases.now place items.old.items items.new.items) }
 {
     links_are_sound();
     let asn = ases[place];
@@ -113,7 +113,7 @@ fn put_end(starts: &mut Vec<u32>, end: usize) -> Result<(), NoMemory>
 fn filled(alloc: Global, graph: &Graph, ases: &[Asn]) -> Result<ProviderRows, NoMemory>
     requires ases { AreAses graph.now ases.now }
     requires few { length ases.now ≤ MOST_ASES }
-    ensures { IfOk result (λ r. AreFilled (what graph.now) ases.now r.starts.items r.items.items (length ases.now)) }
+    ensures { IfOk result (λ r. AreFilled (relation graph.now) ases.now r.starts.items r.items.items (length ases.now)) }
 {
     let near = places_of_rows(alloc, graph, ases)?;
     let mut starts = Vec::new(alloc);
@@ -131,7 +131,7 @@ pub fn provider_rows(alloc: Global, graph: &Graph, ases: &[Asn]) -> Result<Provi
     requires ases { AreAses graph.now ases.now }
     requires few { length ases.now ≤ MOST_ASES }
     ensures rows { IfOk result (λ r. AreRows r.starts.items r.items.items) }
-    ensures providers { IfOk result (λ r. AreProviderRows (what graph.now) ases.now r.starts.items r.items.items) }
+    ensures providers { IfOk result (λ r. AreProviderRows (relation graph.now) ases.now r.starts.items r.items.items) }
 {
     links_are_sound();
     Ok(filled(alloc, graph, ases)?)

@@ -1,6 +1,6 @@
 //! The ranks of a graph's ASes, or a provider cycle.
 ghost use Rattle.std.specs.Prelude.{◌≡◌, ◌↔◌, ℕ, ◌<◌, length, map, IfOk, IfSome, IsNone};
-ghost use Rattle.as_graph.specs.Topology.{what};
+ghost use Rattle.as_graph.specs.Topology.{relation};
 ghost use Rattle.as_graph.specs.Hierarchy.{HasNoProviderCycle};
 ghost use Rattle.cycle_check.specs.Cycles.{IsCycleFromLowest};
 ghost use Rattle.cycle_check.specs.Rankings.{IsRanking, numbers_of, ranks_of};
@@ -85,8 +85,8 @@ pub fn rank_ases(alloc: Global, graph: &Graph) -> Result<Ranking, NoMemory>
 ///
 /// Which cycle is given is free where there are several. The only refusal is want of memory.
 pub fn find_cycle(alloc: Global, graph: &Graph) -> Result<Option<Cycle>, NoMemory>
-    ensures cycle { IfOk result (λ found. IfSome found (IsCycleFromLowest (what graph.now))) }
-    ensures none { IfOk result (λ found. IsNone found ↔ HasNoProviderCycle (what graph.now)) }
+    ensures cycle { IfOk result (λ found. IfSome found (IsCycleFromLowest (relation graph.now))) }
+    ensures none { IfOk result (λ found. IsNone found ↔ HasNoProviderCycle (relation graph.now)) }
 {
     match rank_ases(alloc, graph)? {
         Ranking::Ranks(_) => Ok(None),

@@ -191,7 +191,7 @@ impl Search {
         requires unique { IsUnique nat_eq self.now.reached }
         requires earlier { AreFromEarlier self.now.reached.entries }
         requires inside { from < length self.now.reached.entries }
-        ensures { IfOk result (λ v. (what : ℕ → ℕ → Option ARel) → AreReached what start self.now.reached.entries → IsWayTo what (reached_at self.now.reached.entries from) start v.items) }
+        ensures { IfOk result (λ v. (relation : ℕ → ℕ → Option ARel) → AreReached relation start self.now.reached.entries → IsWayTo relation (reached_at self.now.reached.entries from) start v.items) }
     {
         let mut way = Vec::new(self.alloc);
         let mut place = from;

@@ -1,7 +1,7 @@
 //! The way down through the places without a rank.
 ghost use Rattle.std.specs.Prelude.{◌≡◌, ◌⊎◌, ℕ, ◌+◌, ◌<◌, ◌≤◌, ◌^◌, length, slice_index, true, IfOk, [], ◌∷◌, ◌++◌};
 ghost use Rattle.net_names.specs.Numbers.{occurs};
-ghost use Rattle.cycle_check.specs.Rows.{AreRows, count_of, row, what};
+ghost use Rattle.cycle_check.specs.Rows.{AreRows, count_of, row, relation};
 ghost use Rattle.cycle_check.specs.Ways.{IsNoted, AllLeftBelow, AreLeftBelow, LeadsBack};
 
 use crate::row::row;
@@ -68,7 +68,7 @@ fn way_down(
     requires start { start < length counts.now }
     requires left { 0 < slice_index counts.now start }
     requires below { AreLeftBelow (row starts.now items.now) (length counts.now) counts.now below.now }
-    ensures { IfOk result (λ w. LeadsBack (what starts.now items.now) w.places.items w.back) }
+    ensures { IfOk result (λ w. LeadsBack (relation starts.now items.now) w.places.items w.back) }
 {
     let mut seen = zeros(alloc, counts.len())?;
     let mut places = Vec::new(alloc);
@@ -97,7 +97,7 @@ pub fn way_back(
     requires start { start < length counts.now }
     requires left { 0 < slice_index counts.now start }
     requires below { AllLeftBelow (row starts.now items.now) (count_of starts.now) counts.now }
-    ensures { IfOk result (λ w. LeadsBack (what starts.now items.now) w.places.items w.back) }
+    ensures { IfOk result (λ w. LeadsBack (relation starts.now items.now) w.places.items w.back) }
 {
     let mut below = zeros(alloc, counts.len())?;
     note_customers(starts, items, counts, &mut below);

@@ -14,7 +14,7 @@ use Rattle.stability_laws.specs.Plans.{Plan}
 use Rattle.route_choice.specs.declared.round_tables.RoundTables.{RoundTables}
 use Rattle.route_choice.specs.RoundTables.{round_routing}
 use Rattle.as_graph.specs.declared.neighbour.Neighbour.{Neighbour}
-use Rattle.as_graph.specs.Topology.{Topology, what, has}
+use Rattle.as_graph.specs.Topology.{Topology, relation, has}
 use Rattle.as_graph.specs.Edits.{LinksAreSound}
 use Rattle.as_graph.specs.Neighbours.{AreNeighbours, asns}
 use Rattle.data_trace.specs.declared.kinds.Hop.{Hop}
@@ -71,42 +71,42 @@ each_push P groups g n len old new x l =
 
 -- ---- an AS without customers
 
-module _ (what : ℕ → ℕ → Option Rel) (a : ℕ) where
+module _ (relation : ℕ → ℕ → Option Rel) (a : ℕ) where
   customer_is : (r : Rel) → is_customer r ≡ true → r ≡ Customer
   customer_is Customer e = refl
   customer_is Peer e = cc
   customer_is Provider e = cc
 
-  first : (x : Neighbour) (xs : List Neighbour) → All (λ x. what a x.asn ≡ Some x.rel) (x ∷ xs) → what a x.asn ≡ Some x.rel
+  first : (x : Neighbour) (xs : List Neighbour) → All (λ x. relation a x.asn ≡ Some x.rel) (x ∷ xs) → relation a x.asn ≡ Some x.rel
   first x xs each = each 0 x (omega arith)
 
-  others : (x : Neighbour) (xs : List Neighbour) → All (λ x. what a x.asn ≡ Some x.rel) (x ∷ xs) → All (λ x. what a x.asn ≡ Some x.rel) xs
+  others : (x : Neighbour) (xs : List Neighbour) → All (λ x. relation a x.asn ≡ Some x.rel) (x ∷ xs) → All (λ x. relation a x.asn ≡ Some x.rel) xs
   others x xs each = λ k d l. each (suc k) d (omega arith)
 
-  found : (xs : List Neighbour) → All (λ x. what a x.asn ≡ Some x.rel) xs → list_any (λ x. is_customer x.rel) xs ≡ true → (b : ℕ) × (what a b ≡ Some Customer)
+  found : (xs : List Neighbour) → All (λ x. relation a x.asn ≡ Some x.rel) xs → list_any (λ x. is_customer x.rel) xs ≡ true → (b : ℕ) × (relation a b ≡ Some Customer)
   found [] each e = absurd (true≢false (sym e))
   found (x ∷ xs) each e = ⊎_elim (λ (h : is_customer x.rel ≡ true). (x.asn, first x xs each ∙ ap Some (customer_is x.rel h))) (λ h. found xs (others x xs each) h) (or_cases (is_customer x.rel) (list_any (λ x. is_customer x.rel) xs) e)
 
-  listed : (b : ℕ) → what a b ≡ Some Customer → (xs : List Neighbour) → All (λ x. what a x.asn ≡ Some x.rel) xs → occurs b (asns xs) ≡ true → list_any (λ x. is_customer x.rel) xs ≡ true
+  listed : (b : ℕ) → relation a b ≡ Some Customer → (xs : List Neighbour) → All (λ x. relation a x.asn ≡ Some x.rel) xs → occurs b (asns xs) ≡ true → list_any (λ x. is_customer x.rel) xs ≡ true
   listed b is [] each e = absurd (true≢false (sym e))
   listed b is (x ∷ xs) each e = ⊎_elim here (λ h. or_right (is_customer x.rel) (list_any (λ x. is_customer x.rel) xs) (listed b is xs (others x xs each) h)) (or_cases (eqb x.asn b) (occurs b (asns xs)) e)
     where
       here : eqb x.asn b ≡ true → list_any (λ x. is_customer x.rel) (x ∷ xs) ≡ true
       here q =
-          let k : Some x.rel ≡ Some Customer = sym (first x xs each) ∙ ap (what a) (eqb-true x.asn b q) ∙ is in
+          let k : Some x.rel ≡ Some Customer = sym (first x xs each) ∙ ap (relation a) (eqb-true x.asn b q) ∙ is in
           let r : x.rel ≡ Customer = cc in
           ap (λ t. is_customer t || list_any (λ x. is_customer x.rel) xs) r
 
-  pub stub_is : (xs : List Neighbour) → AreNeighbours what a xs → IsTrue (not (list_any (λ x. is_customer x.rel) xs)) ↔ IsStub what a
+  pub stub_is : (xs : List Neighbour) → AreNeighbours relation a xs → IsTrue (not (list_any (λ x. is_customer x.rel) xs)) ↔ IsStub relation a
   stub_is xs all = (no_customer, stub)
     where
-      no_customer : IsTrue (not (list_any (λ x. is_customer x.rel) xs)) → IsStub what a
+      no_customer : IsTrue (not (list_any (λ x. is_customer x.rel) xs)) → IsStub relation a
       no_customer t b e = true≢false (sym t ∙ ap not (listed b e xs all.each (all.complete b Customer e)))
 
-      stub : IsStub what a → IsTrue (not (list_any (λ x. is_customer x.rel) xs))
-      stub s = ⊎_elim (λ (e : list_any (λ x. is_customer x.rel) xs ≡ true). absurd (let q : (b : ℕ) × (what a b ≡ Some Customer) = found xs all.each e in s q.0 q.1)) (λ e. ap not e) (cases_Bool (list_any (λ x. is_customer x.rel) xs))
+      stub : IsStub relation a → IsTrue (not (list_any (λ x. is_customer x.rel) xs))
+      stub s = ⊎_elim (λ (e : list_any (λ x. is_customer x.rel) xs ≡ true). absurd (let q : (b : ℕ) × (relation a b ≡ Some Customer) = found xs all.each e in s q.0 q.1)) (λ e. ap not e) (cases_Bool (list_any (λ x. is_customer x.rel) xs))
 
 -- an AS with a neighbour is an AS of the graph
-pub is_end : LinksAreSound → (w : Topology) (a : ℕ) (xs : List Neighbour) → AreNeighbours (what w) a xs → (length xs == 0) ≡ false → has w a ≡ true
+pub is_end : LinksAreSound → (w : Topology) (a : ℕ) (xs : List Neighbour) → AreNeighbours (relation w) a xs → (length xs == 0) ≡ false → has w a ≡ true
 is_end sound w a [] near some = absurd (true≢false some)
 is_end sound w a (x ∷ xs) near some = sound.ends w x.asn a (converse x.rel) (sound.alike w a x.asn ∙ ap (option_map converse) (near.each 0 x (omega arith)))

@@ -6,7 +6,7 @@ use Rattle.std.proofs.lemmas.Bool.{cases_Bool, eqb-true, eq-eqb, or_right}
 use Rattle.std.proofs.lemmas.List.Sums.{sum_by-cons}
 use Rattle.std.proofs.lemmas.List.FromFn.{length-range_with_len, get_or-range_with_len, fill_by_all, sum_by-map-range_with_len_more}
 use Rattle.net_names.specs.Numbers.{occurs}
-use Rattle.as_graph.specs.Topology.{Topology, what, has}
+use Rattle.as_graph.specs.Topology.{Topology, relation, has}
 use Rattle.data_trace.specs.declared.kinds.Hop.{Hop}
 use Rattle.data_trace.specs.declared.kinds.Hop.TheVariants as hop
 use Rattle.data_trace.specs.declared.places.PlaceHop.{PlaceHop}
@@ -159,7 +159,7 @@ module _ (g : Topology) (next : ℕ → Hop) (label : ℕ → ℕ) (ases : List 
   in_graph : (x : ℕ) → x < length ases → here_at groups x ≡ true → has g (name_at ases x) ≡ true
   in_graph x l e = sym (gs.each x l).here ∙ e
 
-  right : (x : ℕ) → x < length ases → here_at groups x ≡ true → IsRow (what g) next label (row ases hops marks groups x)
+  right : (x : ℕ) → x < length ases → here_at groups x ≡ true → IsRow (relation g) next label (row ases hops marks groups x)
   right x l e =
       let group : IsGroup g label (name_at ases x) (group_at groups x) = gs.each x l in
       let here : has g (name_at ases x) ≡ true = in_graph x l e in record {
@@ -189,7 +189,7 @@ module _ (g : Topology) (next : ℕ → Hop) (label : ℕ → ℕ) (ases : List 
   are_rows = record {
     listed = listed;
     apart = rows_apart ases hops marks groups are.apart;
-    right = λ place r e. let q : (x : ℕ) × (x < length ases) × (here_at groups x ≡ true) × (row ases hops marks groups x ≡ r) = row_at ases hops marks groups place r e in subst (IsRow (what g) next label) q.3 (right q.0 q.1 q.2);
+    right = λ place r e. let q : (x : ℕ) × (x < length ases) × (here_at groups x ≡ true) × (row ases hops marks groups x ≡ r) = row_at ases hops marks groups place r e in subst (IsRow (relation g) next label) q.3 (right q.0 q.1 q.2);
   }
 
 -- ---- the sums count the rows

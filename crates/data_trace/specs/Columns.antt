@@ -4,7 +4,7 @@ use Rattle.std.specs.List.{range_with_len, IsDistinct}
 use Rattle.net_names.specs.declared.routes.Rel.{Rel}
 use Rattle.net_names.specs.declared.routes.Rel.TheVariants as rel
 use Rattle.net_names.specs.Numbers.{occurs}
-use Rattle.as_graph.specs.Topology.{Topology, what, has}
+use Rattle.as_graph.specs.Topology.{Topology, relation, has}
 use Rattle.data_trace.specs.declared.kinds.Hop.{Hop}
 use Rattle.data_trace.specs.declared.kinds.Hop.TheVariants as hop
 use Rattle.data_trace.specs.declared.kinds.End.{End}
@@ -104,7 +104,7 @@ is_customer rel.Provider = false
 -- the groups of an AS, of which nothing is said where it is not in the graph
 pub record IsGroup (g : Topology) (label : ℕ → ℕ) (a : ℕ) (group : Group) : Type 0 where
   pub here : is_here group.standing ≡ has g a
-  pub stub : has g a ≡ true → IsTrue (is_stub group.standing) ↔ IsStub (what g) a
+  pub stub : has g a ≡ true → IsTrue (is_stub group.standing) ↔ IsStub (relation g) a
   pub label_is : has g a ≡ true → group.label ≡ label a
 
 -- each place has the groups of its AS

@@ -5,7 +5,7 @@ use Rattle.net_names.specs.declared.routes.Rel.{Rel}
 use Rattle.net_names.specs.declared.routes.Rel.TheVariants.{Customer}
 use Rattle.net_names.specs.Numbers.{occurs}
 use Rattle.net_names.specs.Prefixes.{PrefixValue}
-use Rattle.as_graph.specs.Topology.{Topology, what, has}
+use Rattle.as_graph.specs.Topology.{Topology, relation, has}
 use Rattle.stability_laws.specs.declared.entry.Entry.{Entry}
 use Rattle.stability_laws.specs.Plans.{Plan, announces}
 use Rattle.data_trace.specs.declared.kinds.Hop.{Hop}
@@ -26,20 +26,20 @@ pub record Row : Type 0 where
 
 -- an AS without customers
 abbrev pub IsStub : (ℕ → ℕ → Option Rel) → ℕ → Type 0
-IsStub what a = (b : ℕ) → what a b ≢ Some Customer
+IsStub relation a = (b : ℕ) → relation a b ≢ Some Customer
 
 -- the row is right: it has the AS's next hop, the end of its trace, whether it is a stub, and its policy's group
-pub record IsRow (what : ℕ → ℕ → Option Rel) (next : ℕ → Hop) (label : ℕ → ℕ) (r : Row) : Type 0 where
+pub record IsRow (relation : ℕ → ℕ → Option Rel) (next : ℕ → Hop) (label : ℕ → ℕ) (r : Row) : Type 0 where
   pub next_hop : r.next ≡ next r.asn
   pub trace : (xs : List ℕ) × IsTrace next r.asn xs r.end
-  pub stub : IsTrue r.stub ↔ ((b : ℕ) → what r.asn b ≢ Some Customer)
+  pub stub : IsTrue r.stub ↔ ((b : ℕ) → relation r.asn b ≢ Some Customer)
   pub group : r.label ≡ label r.asn
 
 -- the rows are those of all ASes of the graph: each has one, and each is right
 pub record AreRows (g : Topology) (next : ℕ → Hop) (label : ℕ → ℕ) (rows : List Row) : Type 0 where
   pub listed : (a : ℕ) → occurs a (map (λ r. r.asn) rows) ≡ has g a
   pub apart : IsDistinct nat_eq (map (λ r. r.asn) rows)
-  pub right : (place : ℕ) (r : Row) → slice_get rows place ≡ Some r → IsRow (what g) next label r
+  pub right : (k : ℕ) (r : Row) → slice_get rows k ≡ Some r → IsRow (relation g) next label r
 
 -- the row is that of the AS
 pub record IsRowOf (rows : List Row) (a : ℕ) (r : Row) : Type 0 where

@@ -5,7 +5,7 @@ use Rattle.net_names.specs.Prefixes.{PrefixValue}
 use Rattle.net_names.specs.declared.routes.Rel.{Rel}
 use Rattle.net_names.specs.declared.routes.State.{State}
 use Rattle.policy_laws.specs.Policy.{Policy}
-use Rattle.as_graph.specs.Topology.{Topology, what}
+use Rattle.as_graph.specs.Topology.{Topology, relation}
 use Rattle.stability_laws.specs.Book.{PolicyBook}
 use Rattle.stability_laws.specs.World.{setting}
 use Rattle.stability_laws.specs.OfferPaths.{OfferPath}
@@ -75,7 +75,7 @@ module _ (w : Setting) (seeds : ℕ → Option Seed) (f g : ℕ → Option Entry
       | inl t ↦ inl (unseen (offer w g a b) (is_new ∙ ap (λ u. cond u None new) t))
       | inr t ↦ (
           let (n, made, at) = seen (offer w g a b) v (is_new ∙ ap (λ u. cond u None new) t ∙ y) in
-          let there : offer w f r.rival b ≡ Some r.offer_made = (λ i. offer_given (w.policy r.rival) (w.policy b) w.state r.rival b (w.what b r.rival) (others r.rival r.other i)) ∙ r.made in
+          let there : offer w f r.rival b ≡ Some r.offer_made = (λ i. offer_given (w.policy r.rival) (w.policy b) w.state r.rival b (w.relation b r.rival) (others r.rival r.other i)) ∙ r.made in
           inr (r.rival, r.offer_made, n, r.other, there, made, subst (λ x. IsTrue ((w.policy b).before r.offer_made.view x)) (sym at) r.before)
           )
     ];
@@ -83,9 +83,9 @@ module _ (w : Setting) (seeds : ℕ → Option Seed) (f g : ℕ → Option Entry
 
 -- the receiver of a's offers holds none that a made, over a table with changes in place
 module _ {P : Type 0} (meaning : P → Policy) (graph : Topology) (book : PolicyBook P) (state_of : PrefixValue → ℕ → State) (q : PrefixValue) (pool : PathPool) (seeds : ℕ → Option Seed) (t : Table) (o : Overlay)
-    (a b : ℕ) (rel : Rel) (before now have : Option Held) (new : Option View) (same : q ≡ prefix_of t) (linked : what graph b a ≡ Some rel) (is_now : now ≡ joined t o a) (is_have : have ≡ joined t o b)
-    (is_new : (w : Topology) (f : ℕ → Option Entry) → what w b a ≡ Some rel → f a ≡ option_map (entry_of pool) now → view_in (offer (setting meaning w book (state_of q)) f a b) ≡ cond (goes_through (f a) b) None new)
-    (path : OfferPath meaning) (itself : (w : Topology) (n : ℕ) → what w n n ≡ None)
+    (a b : ℕ) (rel : Rel) (before now have : Option Held) (new : Option View) (same : q ≡ prefix_of t) (linked : relation graph b a ≡ Some rel) (is_now : now ≡ joined t o a) (is_have : have ≡ joined t o b)
+    (is_new : (w : Topology) (f : ℕ → Option Entry) → relation w b a ≡ Some rel → f a ≡ option_map (entry_of pool) now → view_in (offer (setting meaning w book (state_of q)) f a b) ≡ cond (goes_through (f a) b) None new)
+    (path : OfferPath meaning) (itself : (w : Topology) (n : ℕ) → relation w n n ≡ None)
     (apart : (n : ℕ) (h k : Held) → have ≡ Some h → before ≡ Some k → list_of pool h.path.0 ≢ n ∷ list_of pool k.path.0) where
   abbrev here : Setting
   here = setting meaning graph book (state_of (prefix_of t))
@@ -98,7 +98,7 @@ module _ {P : Type 0} (meaning : P → Policy) (graph : Topology) (book : Policy
       (is_new graph held linked (ap (option_map (entry_of pool)) (sym is_now)))
 
   other : b ≢ a
-  other e = (let none : what graph b a ≡ None = ap (λ n. what graph n a) e ∙ itself graph a in let clash : None ≡ Some rel = sym none ∙ linked in cc)
+  other e = (let none : relation graph b a ≡ None = ap (λ n. relation graph n a) e ∙ itself graph a in let clash : None ≡ Some rel = sym none ∙ linked in cc)
 
   not_held : (f : ℕ → Option Entry) → IsBefore pool t o a before f → (r : Offer) → offer here f a b ≡ Some r → f b ≢ Some r.entry
   not_held f is = other_path pool b have before (f a) (f b) (offer here f a b) is.this (is.others b other ∙ ap (option_map (entry_of pool)) (sym is_have)) (path graph book (state_of (prefix_of t)) f a b) (apart b)

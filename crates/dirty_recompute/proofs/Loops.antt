@@ -7,11 +7,11 @@ use Rattle.net_names.specs.declared.routes.Rel.{Rel}
 use Rattle.net_names.specs.declared.routes.Rel.TheVariants.{Customer, Provider}
 use Rattle.policy_laws.specs.Policy.{Policy, RanksOffers, PrefersCustomers}
 use Rattle.net_names.specs.declared.routes.State.{State}
-use Rattle.as_graph.specs.Topology.{Topology, what, has, ases}
+use Rattle.as_graph.specs.Topology.{Topology, relation, has, ases}
 use Rattle.net_names.specs.Links.{converse}
 use Rattle.net_names.specs.Numbers.{occurs}
 use Rattle.as_graph.specs.Hierarchy.{HasNoProviderCycle}
-use Rattle.as_graph.proofs.Links.{what_self, linked_end}
+use Rattle.as_graph.proofs.Links.{relation_self, linked_end}
 use Rattle.as_graph.proofs.Chains.{distinct_le}
 use Rattle.stability_laws.specs.declared.entry.Entry.{Entry}
 use Rattle.stability_laws.specs.declared.entry.Seed.{Seed}
@@ -51,7 +51,7 @@ occurs_append b (x ∷ xs) ys h = by (x == b) refl h (occurs_append b xs ys)
     by false is h ih = ih h
 
 -- whoever counts is touched or an AS
-counted_in : (g : Topology) (touched : List ℕ) (overlay : ℕ → Bool) (b : ℕ) → IsCounted (what g) (λ x. occurs x touched) overlay b → occurs b (touched ++ ases g) ≡ true
+counted_in : (g : Topology) (touched : List ℕ) (overlay : ℕ → Bool) (b : ℕ) → IsCounted (relation g) (λ x. occurs x touched) overlay b → occurs b (touched ++ ases g) ≡ true
 counted_in g touched overlay b (inl t) = occurs_append b touched (ases g) (inl t)
 counted_in g touched overlay b (inr (c, r, link, t)) = occurs_append b touched (ases g) (inr (linked_end g c b (converse r) (turned g b c r link)))
 
@@ -69,12 +69,12 @@ module _ {P : Type 0} (meaning : P → Policy) (l : AreLaws meaning) (g : Topolo
   abbrev Right : (ℕ → Option Entry) → ℕ → Type 0
   Right = IsRight here seeds
 
-  pub next_up : ((a b : ℕ) → what g a b ≡ Some Customer → suc (rank b) ≤ rank a) → (f h : ℕ → Option Entry) (overlay overlay' : ℕ → Bool) (up between up' whole whole' : Queue) (steps a : ℕ) →
+  pub next_up : ((a b : ℕ) → relation g a b ≡ Some Customer → suc (rank b) ≤ rank a) → (f h : ℕ → Option Entry) (overlay overlay' : ℕ → Bool) (up between up' whole whole' : Queue) (steps a : ℕ) →
       IsUpLoop here seeds rank touched table f overlay up whole steps → IsTaken rank up between a → ((b : ℕ) → waits rank up b ≡ true → rank a ≤ rank b) →
       IsTurnUp here seeds rank a f h overlay overlay' between up' whole whole' → IsUpLoop here seeds rank touched table h overlay' up' whole' (suc steps)
   next_up falls f h overlay overlay' up between up' whole whole' steps a was out least done = record {
     taken = a ∷ was.taken;
-    work = up_step Low Right (λ x y. rank x ≤ rank y) (λ x y z p q. (let p' : rank x ≤ rank y = p in let q' : rank y ≤ rank z = q in omega arith)) (what g) (λ b. occurs b touched) table
+    work = up_step Low Right (λ x y. rank x ≤ rank y) (λ x y z p q. (let p' : rank x ≤ rank y = p in let q' : rank y ≤ rank z = q in omega arith)) (relation g) (λ b. occurs b touched) table
         (λ x b link. (let lt : suc (rank x) ≤ rank b = falls b x link in (omega arith), λ le. (let le' : rank b ≤ rank x = le in let lt : suc (rank x) ≤ rank b = falls b x link in omega arith)))
         a f overlay (waits rank up) (waits rank whole) was.taken h overlay' (waits rank up') (waits rank whole') out.waited least was.work step;
     ranks = done.ranks out.ranks;
@@ -82,29 +82,29 @@ module _ {P : Type 0} (meaning : P → Policy) (l : AreLaws meaning) (g : Topolo
     count = ap suc was.count;
   }
     where
-      not_itself : (b : ℕ) → what g b a ≡ Some Customer → b ≢ a
-      not_itself b link e = (let x : None ≡ Some Customer = sym (what_self g a) ∙ ap (λ t. what g t a) (sym e) ∙ link in cc)
+      not_itself : (b : ℕ) → relation g b a ≡ Some Customer → b ≢ a
+      not_itself b link e = (let x : None ≡ Some Customer = sym (relation_self g a) ∙ ap (λ t. relation g t a) (sym e) ∙ link in cc)
 
       not_there : (b : ℕ) → waits rank between b ≡ true → b ≢ a
       not_there b t e = true≢false (sym t ∙ ap (waits rank between) e ∙ out.gone)
 
-      from : (b : ℕ) → (waits rank between b ≡ true) ⊎ ((what g b a ≡ Some Customer) × (overlay' a ≡ true)) → (b ≢ a) × ((waits rank up b ≡ true) ⊎ ((what g b a ≡ Some Customer) × (overlay' a ≡ true)))
+      from : (b : ℕ) → (waits rank between b ≡ true) ⊎ ((relation g b a ≡ Some Customer) × (overlay' a ≡ true)) → (b ≢ a) × ((waits rank up b ≡ true) ⊎ ((relation g b a ≡ Some Customer) × (overlay' a ≡ true)))
       from b (inl t) = (not_there b t, inl (out.from b t))
       from b (inr n) = (not_itself b n.0, inr n)
 
-      step : IsUpStep Low Right (what g) a f overlay (waits rank up) (waits rank whole) h overlay' (waits rank up') (waits rank whole')
+      step : IsUpStep Low Right (relation g) a f overlay (waits rank up) (waits rank whole) h overlay' (waits rank up') (waits rank whole')
       step = up_turn meaning l.ranks_offers l.prefers l.names l.follows l.by_offers l.nothing_up l.decide g book state seeds a f overlay (waits rank up) (waits rank whole) h overlay' (waits rank up') (waits rank whole')
           done.chosen.new done.chosen.right done.chosen.at done.only.others done.only.changed_others done.only.settled
           (λ n. done.queued.itself (done.chosen.none n)) (λ b ne t. done.queued.kept b (out.kept b ne t)) done.queued.kept_whole done.queued.asked done.queued.asked_whole
           (λ b t. from b (done.queued.from b t)) done.queued.from_whole
 
-  pub next_whole : ((a b : ℕ) → what g a b ≡ Some Customer → suc (rank b) ≤ rank a) → (f h : ℕ → Option Entry) (overlay overlay' : ℕ → Bool) (whole between whole' : Queue) (earlier steps a : ℕ) →
+  pub next_whole : ((a b : ℕ) → relation g a b ≡ Some Customer → suc (rank b) ≤ rank a) → (f h : ℕ → Option Entry) (overlay overlay' : ℕ → Bool) (whole between whole' : Queue) (earlier steps a : ℕ) →
       IsWholeLoop here seeds rank touched table f overlay whole earlier steps → IsTaken rank whole between a → ((b : ℕ) → waits rank whole b ≡ true → rank b ≤ rank a) →
       IsTurnDown here seeds rank a f h overlay overlay' between whole' → IsWholeLoop here seeds rank touched table h overlay' whole' earlier (suc steps)
   next_whole falls f h overlay overlay' whole between whole' earlier steps a was out greatest done = record {
     earlier = was.earlier;
     taken = a ∷ was.taken;
-    work = whole_step Low Right (λ x y. rank y ≤ rank x) (λ x y z p q. (let p' : rank y ≤ rank x = p in let q' : rank z ≤ rank y = q in omega arith)) (what g) (λ b. occurs b touched) table
+    work = whole_step Low Right (λ x y. rank y ≤ rank x) (λ x y z p q. (let p' : rank y ≤ rank x = p in let q' : rank z ≤ rank y = q in omega arith)) (relation g) (λ b. occurs b touched) table
         (λ x b link. (let lt : suc (rank b) ≤ rank x = falls x b (turned g b x Provider link) in (omega arith), λ le. (let le' : rank x ≤ rank b = le in let lt : suc (rank b) ≤ rank x = falls x b (turned g b x Provider link) in omega arith)))
         a f overlay (waits rank whole) was.earlier was.taken h overlay' (waits rank whole') out.waited greatest was.work step;
     ranks = done.ranks out.ranks;
@@ -112,17 +112,17 @@ module _ {P : Type 0} (meaning : P → Policy) (l : AreLaws meaning) (g : Topolo
     count = ap suc was.count;
   }
     where
-      not_itself : (b : ℕ) → what g b a ≡ Some Provider → b ≢ a
-      not_itself b link e = (let x : None ≡ Some Provider = sym (what_self g a) ∙ ap (λ t. what g t a) (sym e) ∙ link in cc)
+      not_itself : (b : ℕ) → relation g b a ≡ Some Provider → b ≢ a
+      not_itself b link e = (let x : None ≡ Some Provider = sym (relation_self g a) ∙ ap (λ t. relation g t a) (sym e) ∙ link in cc)
 
       not_there : (b : ℕ) → waits rank between b ≡ true → b ≢ a
       not_there b t e = true≢false (sym t ∙ ap (waits rank between) e ∙ out.gone)
 
-      from : (b : ℕ) → (waits rank between b ≡ true) ⊎ ((what g b a ≡ Some Provider) × (overlay' a ≡ true)) → (b ≢ a) × ((waits rank whole b ≡ true) ⊎ ((what g b a ≡ Some Provider) × (overlay' a ≡ true)))
+      from : (b : ℕ) → (waits rank between b ≡ true) ⊎ ((relation g b a ≡ Some Provider) × (overlay' a ≡ true)) → (b ≢ a) × ((waits rank whole b ≡ true) ⊎ ((relation g b a ≡ Some Provider) × (overlay' a ≡ true)))
       from b (inl t) = (not_there b t, inl (out.from b t))
       from b (inr n) = (not_itself b n.0, inr n)
 
-      step : IsWholeStep Low Right (what g) a f overlay (waits rank whole) h overlay' (waits rank whole')
+      step : IsWholeStep Low Right (relation g) a f overlay (waits rank whole) h overlay' (waits rank whole')
       step = whole_turn meaning l.ranks_offers l.prefers l.names l.follows l.by_offers l.nothing_up l.decide g book state seeds a f overlay (waits rank whole) h overlay' (waits rank whole')
           (was.work.low_right a) done.chosen done.only.others done.only.changed_others done.only.settled
           (λ b ne t. done.queued.kept b (out.kept b ne t)) done.queued.asked (λ b t. from b (done.queued.from b t))
@@ -163,17 +163,17 @@ module _ {P : Type 0} (meaning : P → Policy) (l : AreLaws meaning) (g : Topolo
   halfway f overlay up whole steps empty was = record {
     earlier = was.taken;
     taken = [];
-    work = turn Low Right (λ x y. rank x ≤ rank y) (λ x y. rank y ≤ rank x) (what g) (λ b. occurs b touched) table f overlay (waits rank up) (waits rank whole) was.taken empty was.work;
+    work = turn Low Right (λ x y. rank x ≤ rank y) (λ x y. rank y ≤ rank x) (relation g) (λ b. occurs b touched) table f overlay (waits rank up) (waits rank whole) was.taken empty was.work;
     ranks = was.ranks_whole;
     count_earlier = was.count;
     count = refl;
   }
 
-  pub finish : (f : ℕ → Option Entry) (overlay : ℕ → Bool) (whole : Queue) (earlier steps : ℕ) → HasNoProviderCycle (what g) → ((b : ℕ) → has g b ≡ false → seeds b ≡ None) → ((b : ℕ) → waits rank whole b ≡ false) → IsWholeLoop here seeds rank touched table f overlay whole earlier steps →
-      IsExact here seeds table f overlay × AreEnough (what g) (λ b. occurs b touched) overlay 0 (earlier + steps)
+  pub finish : (f : ℕ → Option Entry) (overlay : ℕ → Bool) (whole : Queue) (earlier steps : ℕ) → HasNoProviderCycle (relation g) → ((b : ℕ) → has g b ≡ false → seeds b ≡ None) → ((b : ℕ) → waits rank whole b ≡ false) → IsWholeLoop here seeds rank touched table f overlay whole earlier steps →
+      IsExact here seeds table f overlay × AreEnough (relation g) (λ b. occurs b touched) overlay 0 (earlier + steps)
   finish f overlay whole earlier steps no_cycle seeds_at empty was =
       let both = exact meaning l.ranks_offers l.prefers l.names l.follows l.by_offers l.nothing_up l.decide l.one g book state seeds (λ x y. rank y ≤ rank x) (λ b. occurs b touched) table f overlay (waits rank whole) was.earlier was.taken no_cycle seeds_at empty was.work in
-      (both.0, coe 0 1 (i. AreEnough (what g) (λ b. occurs b touched) overlay 0 (was.count_earlier i + was.count i)) both.1)
+      (both.0, coe 0 1 (i. AreEnough (relation g) (λ b. occurs b touched) overlay 0 (was.count_earlier i + was.count i)) both.1)
 
 in_occurs : (xs : List ℕ) (b i : ℕ) → slice_get xs i ≡ Some b → occurs b xs ≡ true
 in_occurs [] b i e = cc
@@ -201,5 +201,5 @@ just_in rank queue after xs empty added b = by (waits rank after b) (occurs b xs
 pub no_ranks : (rank : ℕ → ℕ) (queue : Queue) → ((k : ℕ × ℕ) → contains rank queue k ≡ false) → HasRanks rank queue
 no_ranks rank queue empty k t = absurd (true≢false (sym t ∙ empty k))
 
-pub enough_from : (what : ℕ → ℕ → Option Rel) (touched changed : ℕ → Bool) (steps first last : ℕ) → last ≡ first + steps → AreEnough what touched changed 0 steps → AreEnough what touched changed first last
-enough_from what touched changed steps first last is enough = record { ases = enough.ases; distinct = enough.distinct; counted = enough.counted; enough = omega (arith, is, enough.enough) }
+pub enough_from : (relation : ℕ → ℕ → Option Rel) (touched changed : ℕ → Bool) (steps first last : ℕ) → last ≡ first + steps → AreEnough relation touched changed 0 steps → AreEnough relation touched changed first last
+enough_from relation touched changed steps first last is enough = record { ases = enough.ases; distinct = enough.distinct; counted = enough.counted; enough = omega (arith, is, enough.enough) }

@@ -7,8 +7,8 @@ use Rattle.net_names.specs.declared.routes.Rel.{Rel}
 use Rattle.net_names.specs.declared.routes.Rel.TheVariants.{Customer, Peer, Provider}
 use Rattle.net_names.specs.declared.routes.State.{State}
 use Rattle.policy_laws.specs.Policy.{Policy, RanksOffers}
-use Rattle.as_graph.specs.Topology.{Topology, what}
-use Rattle.as_graph.proofs.Links.{what_mutual}
+use Rattle.as_graph.specs.Topology.{Topology, relation}
+use Rattle.as_graph.proofs.Links.{relation_mutual}
 use Rattle.net_names.specs.Links.{converse}
 use Rattle.stability_laws.specs.declared.entry.Entry.{Entry}
 use Rattle.stability_laws.specs.declared.entry.Seed.{Seed}
@@ -94,10 +94,10 @@ module _ {P : Type 0} (meaning : P → Policy) (ranks_offers : (p : P) → Ranks
   abbrev IsLowBy : (ℕ → Option Entry) → ℕ → Option Seed → Option Entry → Type 0
   IsLowBy f a s held = IsRightGiven (meaning (policy_at book a)) s (λ n. customer_offer there f n a) held
 
-  pub customer_given : (f : ℕ → Option Entry) (n a : ℕ) (o : Offer) → customer_offer there f n a ≡ Some o → (what w a n ≡ Some Customer) × (offer there f n a ≡ Some o)
-  customer_given f n a o e = by (what w a n) refl e
+  pub customer_given : (f : ℕ → Option Entry) (n a : ℕ) (o : Offer) → customer_offer there f n a ≡ Some o → (relation w a n ≡ Some Customer) × (offer there f n a ≡ Some o)
+  customer_given f n a o e = by (relation w a n) refl e
     where
-      by : (r : Option Rel) → what w a n ≡ r → if_customer r (offer there f n a) ≡ Some o → (what w a n ≡ Some Customer) × (offer there f n a ≡ Some o)
+      by : (r : Option Rel) → relation w a n ≡ r → if_customer r (offer there f n a) ≡ Some o → (relation w a n ≡ Some Customer) × (offer there f n a ≡ Some o)
       by None is e = cc
       by (Some Customer) is e = (is, e)
       by (Some Peer) is e = cc
@@ -108,11 +108,11 @@ module _ {P : Type 0} (meaning : P → Policy) (ranks_offers : (p : P) → Ranks
   for_customers f a None up right = tt
   for_customers f a (Some e) up (n, o, best, is) = by from.from refl
     where
-      from : GivenBy (what w a n) n o
+      from : GivenBy (relation w a n) n o
       from = names w book state f n a o best.made
 
       by : (r : Rel) → from.from ≡ r → (e.class ≡ class.Peer) ⊎ (e.class ≡ class.Provider)
-      by Customer x = let at : what w a n ≡ Some Customer = from.linked ∙ ap Some x in
+      by Customer x = let at : relation w a n ≡ Some Customer = from.linked ∙ ap Some x in
           let none : offer there f n a ≡ None = sym (ap (λ r. if_customer r (offer there f n a)) at) ∙ up n in
           let some : offer there f n a ≡ Some o = best.made in cc
       by Peer x = inl (ap (λ (t : Entry). t.class) is ∙ from.class ∙ ap class_of x)
@@ -120,12 +120,12 @@ module _ {P : Type 0} (meaning : P → Policy) (ranks_offers : (p : P) → Ranks
 
   -- f and g differ at a alone, where neither holds anything for others than customers
   module _ (f g : ℕ → Option Entry) (a : ℕ) (others : (n : ℕ) → n ≢ a → f n ≡ g n) (f_down : IsForCustomersOnly (f a)) (g_down : IsForCustomersOnly (g a)) where
-    unlinked : (h : ℕ → Option Entry) (b : ℕ) → what w b a ≡ None → offer there h a b ≡ None
+    unlinked : (h : ℕ → Option Entry) (b : ℕ) → relation w b a ≡ None → offer there h a b ≡ None
     unlinked h b none = by (offer there h a b) refl
       where
         by : (o : Option Offer) → offer there h a b ≡ o → o ≡ None
         by None e = refl
-        by (Some o) e = let from : GivenBy (what w b a) a o = names w book state h a b o e in let x : None ≡ Some from.from = sym none ∙ from.linked in cc
+        by (Some o) e = let from : GivenBy (relation w b a) a o = names w book state h a b o e in let x : None ≡ Some from.from = sym none ∙ from.linked in cc
 
     not_to_customer : (r : Rel) → r ≢ Provider → converse r ≢ Customer
     not_to_customer Customer p e = (let x : Provider ≡ Customer = e in cc)
@@ -133,14 +133,14 @@ module _ {P : Type 0} (meaning : P → Policy) (ranks_offers : (p : P) → Ranks
     not_to_customer Provider p e = p refl
 
     -- a makes no offer to whom it isn't a provider
-    none_of_a : (h : ℕ → Option Entry) → IsForCustomersOnly (h a) → (b : ℕ) → (what w b a ≢ Some Provider) → offer there h a b ≡ None
-    none_of_a h down b not_provider = by (what w b a) refl
+    none_of_a : (h : ℕ → Option Entry) → IsForCustomersOnly (h a) → (b : ℕ) → (relation w b a ≢ Some Provider) → offer there h a b ≡ None
+    none_of_a h down b not_provider = by (relation w b a) refl
       where
-        by : (r : Option Rel) → what w b a ≡ r → offer there h a b ≡ None
+        by : (r : Option Rel) → relation w b a ≡ r → offer there h a b ≡ None
         by None e = unlinked h b e
-        by (Some r) e = nothing_up w book state h a b (converse r) (what_mutual w b a ∙ ap (option_map converse) e) (not_to_customer r (λ p. not_provider (e ∙ ap Some p))) down
+        by (Some r) e = nothing_up w book state h a b (converse r) (relation_mutual w b a ∙ ap (option_map converse) e) (not_to_customer r (λ p. not_provider (e ∙ ap Some p))) down
 
-    pub same_offers : (b : ℕ) → (what w b a ≢ Some Provider) → (n : ℕ) → offer there f n b ≡ offer there g n b
+    pub same_offers : (b : ℕ) → (relation w b a ≢ Some Provider) → (n : ℕ) → offer there f n b ≡ offer there g n b
     same_offers b not_provider n = elim (cases_eq n a) [
       | inl e ↦ subst (λ t. offer there f t b ≡ offer there g t b) (sym e) (none_of_a f f_down b not_provider ∙ sym (none_of_a g g_down b not_provider))
       | inr ne ↦ follows w w book book state f g n b refl refl refl refl (others n ne)
@@ -156,14 +156,14 @@ module _ {P : Type 0} (meaning : P → Policy) (ranks_offers : (p : P) → Ranks
   pub by_customer : (f : ℕ → Option Entry) (a : ℕ) (e : Entry) → IsLowBy f a None (Some e) → e.class ≡ class.Customer
   by_customer f a e (n, o, best, is) =
       let got = customer_given f n a o best.made in
-      let from : GivenBy (what w a n) n o = names w book state f n a o got.1 in
+      let from : GivenBy (relation w a n) n o = names w book state f n a o got.1 in
       let at : Some from.from ≡ Some Customer = sym from.linked ∙ got.0 in
       let r : from.from ≡ Customer = cc in
       ap (λ (t : Entry). t.class) is ∙ from.class ∙ ap class_of r
 
   low_of : (f : ℕ → Option Entry) (a : ℕ) (s : Option Seed) (held : Option Entry) → IsRightBy f a s held → IsLowBy f a s (low held)
   low_of f a (Some s) held right = ap low right
-  low_of f a None None right = λ n. ap (if_customer (what w a n)) (right n) ∙ no_customer (what w a n)
+  low_of f a None None right = λ n. ap (if_customer (relation w a n)) (right n) ∙ no_customer (relation w a n)
   low_of f a None (Some e) right = pick right
     where
       none : e.class ≢ class.Customer → (n : ℕ) → customer_offer there f n a ≡ None
@@ -176,7 +176,7 @@ module _ {P : Type 0} (meaning : P → Policy) (ranks_offers : (p : P) → Ranks
       pick : IsRightBy f a None (Some e) → IsLowBy f a None (low (Some e))
       pick (n, o, best, is) = by from.from refl
         where
-          from : GivenBy (what w a n) n o
+          from : GivenBy (relation w a n) n o
           from = names w book state f n a o best.made
 
           class_is : (r : Rel) → from.from ≡ r → e.class ≡ class_of r
@@ -184,7 +184,7 @@ module _ {P : Type 0} (meaning : P → Policy) (ranks_offers : (p : P) → Ranks
 
           by : (r : Rel) → from.from ≡ r → IsLowBy f a None (low (Some e))
           by Customer x =
-              let at : what w a n ≡ Some Customer = from.linked ∙ ap Some x in
+              let at : relation w a n ≡ Some Customer = from.linked ∙ ap Some x in
               let made : customer_offer there f n a ≡ Some o = ap (λ r. if_customer r (offer there f n a)) at ∙ best.made in
               let F : Option Entry → Type 0 = λ h. IsLowBy f a None h in
               subst F (sym (ap (λ k. low_by k e) (class_is Customer x))) ((decide w book state f a n o made (Some e)).0 right)

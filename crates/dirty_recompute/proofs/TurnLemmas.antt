@@ -7,10 +7,10 @@ use Rattle.net_names.specs.declared.routes.Rel.{Rel}
 use Rattle.net_names.specs.declared.routes.Rel.TheVariants.{Customer, Peer, Provider}
 use Rattle.as_graph.specs.declared.neighbour.Neighbour.{Neighbour}
 use Rattle.as_graph.specs.Neighbours.{AreNeighbours, asns}
-use Rattle.as_graph.specs.Topology.{Topology, what}
+use Rattle.as_graph.specs.Topology.{Topology, relation}
 use Rattle.net_names.specs.Links.{converse}
 use Rattle.net_names.specs.Numbers.{occurs}
-use Rattle.as_graph.proofs.Links.{what_mutual}
+use Rattle.as_graph.proofs.Links.{relation_mutual}
 use Rattle.stability_laws.specs.declared.entry.Entry.{Entry}
 use Rattle.stability_laws.specs.declared.entry.Seed.{Seed}
 use Rattle.stability_laws.specs.Offers.{Setting, offer}
@@ -31,33 +31,33 @@ element (x ∷ xs) b e = by (x.asn == b) refl e (element xs b)
 each_at : (P : Neighbour → Type 0) (xs : List Neighbour) (i : ℕ) (n : Neighbour) → All P xs → slice_get xs i ≡ Some n → P n
 each_at P xs i n all at = subst P (get_or_from_slice_get xs i n n at) (all i n (slice_get_within xs i n at))
 
-pub among_to : (what : ℕ → ℕ → Option Rel) (a : ℕ) (xs : List Neighbour) (r : Rel) → AreNeighbours what a xs → (b : ℕ) → what a b ≡ Some r → IsAmong xs r b
-among_to what a xs r are b link =
+pub among_to : (relation : ℕ → ℕ → Option Rel) (a : ℕ) (xs : List Neighbour) (r : Rel) → AreNeighbours relation a xs → (b : ℕ) → relation a b ≡ Some r → IsAmong xs r b
+among_to relation a xs r are b link =
     let (i, n, at, same) = element xs b (are.complete b r link) in
-    let both : Some n.rel ≡ Some r = sym (each_at (λ x. what a x.asn ≡ Some x.rel) xs i n are.each at) ∙ ap (what a) same ∙ link in
+    let both : Some n.rel ≡ Some r = sym (each_at (λ x. relation a x.asn ≡ Some x.rel) xs i n are.each at) ∙ ap (relation a) same ∙ link in
     (i, n, at, same, (let e : Some n.rel ≡ Some r = both in cc))
 
-pub among_back : (what : ℕ → ℕ → Option Rel) (a : ℕ) (xs : List Neighbour) (r : Rel) → AreNeighbours what a xs → (b : ℕ) → IsAmong xs r b → what a b ≡ Some r
-among_back what a xs r are b (i, n, at, same, rel) = ap (what a) (sym same) ∙ each_at (λ x. what a x.asn ≡ Some x.rel) xs i n are.each at ∙ ap Some rel
+pub among_back : (relation : ℕ → ℕ → Option Rel) (a : ℕ) (xs : List Neighbour) (r : Rel) → AreNeighbours relation a xs → (b : ℕ) → IsAmong xs r b → relation a b ≡ Some r
+among_back relation a xs r are b (i, n, at, same, rel) = ap (relation a) (sym same) ∙ each_at (λ x. relation a x.asn ≡ Some x.rel) xs i n are.each at ∙ ap Some rel
 
 -- what a is to b, from what b is to a
-pub turned : (g : Topology) (a b : ℕ) (r : Rel) → what g a b ≡ Some r → what g b a ≡ Some (converse r)
-turned g a b r e = what_mutual g a b ∙ ap (option_map converse) e
+pub turned : (g : Topology) (a b : ℕ) (r : Rel) → relation g a b ≡ Some r → relation g b a ≡ Some (converse r)
+turned g a b r e = relation_mutual g a b ∙ ap (option_map converse) e
 
-pub unturned : (g : Topology) (a b : ℕ) → what g a b ≡ None → what g b a ≡ None
-unturned g a b e = what_mutual g a b ∙ ap (option_map converse) e
+pub unturned : (g : Topology) (a b : ℕ) → relation g a b ≡ None → relation g b a ≡ None
+unturned g a b e = relation_mutual g a b ∙ ap (option_map converse) e
 
-module _ (w : Setting) (g : Topology) (is : w.what ≡ what g) (seeds : ℕ → Option Seed) (rank : ℕ → ℕ) (a : ℕ) (f h : ℕ → Option Entry) (changes changed' : ℕ → Bool) where
+module _ (w : Setting) (g : Topology) (is : w.relation ≡ relation g) (seeds : ℕ → Option Seed) (rank : ℕ → ℕ) (a : ℕ) (f h : ℕ → Option Entry) (changes changed' : ℕ → Bool) where
   same_left : h a ≡ f a → (b : ℕ) → IsLeft w seeds f h a b
   same_left e b = inr (inl (ap (λ x. offer w (λ _. x) a b) (sym e)))
 
-  at : (b : ℕ) (r : Rel) → what g a b ≡ Some r → w.what b a ≡ Some (converse r)
+  at : (b : ℕ) (r : Rel) → relation g a b ≡ Some r → w.relation b a ≡ Some (converse r)
   at b r e = ap (λ t. t b a) is ∙ turned g a b r e
 
   pub turn_up : (up up' whole between whole' : Queue) (changed nothing : Bool) →
       IsChosenUp w seeds a f h nothing → ChangesOnly a f h changes changed' → (changed ≡ true → changed' a ≡ true) → (changed ≡ false → h a ≡ f a) →
-      IsAdded rank whole between (λ b. (b ≡ a) × (nothing ≡ true)) → AreQueued rank up up' (λ b. (what g a b ≡ Some Provider) × (changed ≡ true)) (IsLeft w seeds f h a) →
-      AreQueued rank between whole' (λ b. ((what g a b ≡ Some Customer) ⊎ (what g a b ≡ Some Peer)) × (changed ≡ true)) (IsLeft w seeds f h a) →
+      IsAdded rank whole between (λ b. (b ≡ a) × (nothing ≡ true)) → AreQueued rank up up' (λ b. (relation g a b ≡ Some Provider) × (changed ≡ true)) (IsLeft w seeds f h a) →
+      AreQueued rank between whole' (λ b. ((relation g a b ≡ Some Customer) ⊎ (relation g a b ≡ Some Peer)) × (changed ≡ true)) (IsLeft w seeds f h a) →
       IsTurnUp w seeds rank a f h changes changed' up up' whole whole'
   turn_up up up' whole between whole' changed nothing chosen only put unchanged off rise fall = record {
     nothing = nothing;
@@ -76,43 +76,43 @@ module _ (w : Setting) (g : Topology) (is : w.what ≡ what g) (seeds : ℕ → 
     ranks_whole = λ r. fall.ranks (off.ranks r);
   }
     where
-      asked : (b : ℕ) (c : Bool) → changed ≡ c → (waits rank up' b ≡ true) ⊎ ((w.what b a ≢ Some Customer) ⊎ IsLeft w seeds f h a b)
+      asked : (b : ℕ) (c : Bool) → changed ≡ c → (waits rank up' b ≡ true) ⊎ ((w.relation b a ≢ Some Customer) ⊎ IsLeft w seeds f h a b)
       asked b false e = inr (inr (same_left (unchanged e) b))
-      asked b true e = by (what g a b) refl
+      asked b true e = by (relation g a b) refl
         where
-          other : (r : Rel) → r ≢ Provider → what g a b ≡ Some r → w.what b a ≢ Some Customer
+          other : (r : Rel) → r ≢ Provider → relation g a b ≡ Some r → w.relation b a ≢ Some Customer
           other Customer ne l x = (let y : Some Provider ≡ Some Customer = sym (at b Customer l) ∙ x in cc)
           other Peer ne l x = (let y : Some Peer ≡ Some Customer = sym (at b Peer l) ∙ x in cc)
           other Provider ne l x = ne refl
 
-          by : (r : Option Rel) → what g a b ≡ r → (waits rank up' b ≡ true) ⊎ ((w.what b a ≢ Some Customer) ⊎ IsLeft w seeds f h a b)
+          by : (r : Option Rel) → relation g a b ≡ r → (waits rank up' b ≡ true) ⊎ ((w.relation b a ≢ Some Customer) ⊎ IsLeft w seeds f h a b)
           by None l = inr (inl (λ x. (let y : None ≡ Some Customer = sym (ap (λ t. t b a) is ∙ unturned g a b l) ∙ x in cc)))
           by (Some Provider) l = elim (rise.put b (l, e)) [ inl t ↦ inl t | inr n ↦ inr (inr n) ]
           by (Some Customer) l = inr (inl (other Customer (λ x. cc) l))
           by (Some Peer) l = inr (inl (other Peer (λ x. cc) l))
 
-      asked_whole : (b : ℕ) (c : Bool) → changed ≡ c → (waits rank up' b ≡ true) ⊎ ((waits rank whole' b ≡ true) ⊎ ((w.what b a ≡ None) ⊎ IsLeft w seeds f h a b))
+      asked_whole : (b : ℕ) (c : Bool) → changed ≡ c → (waits rank up' b ≡ true) ⊎ ((waits rank whole' b ≡ true) ⊎ ((w.relation b a ≡ None) ⊎ IsLeft w seeds f h a b))
       asked_whole b false e = inr (inr (inr (same_left (unchanged e) b)))
-      asked_whole b true e = by (what g a b) refl
+      asked_whole b true e = by (relation g a b) refl
         where
-          by : (r : Option Rel) → what g a b ≡ r → (waits rank up' b ≡ true) ⊎ ((waits rank whole' b ≡ true) ⊎ ((w.what b a ≡ None) ⊎ IsLeft w seeds f h a b))
+          by : (r : Option Rel) → relation g a b ≡ r → (waits rank up' b ≡ true) ⊎ ((waits rank whole' b ≡ true) ⊎ ((w.relation b a ≡ None) ⊎ IsLeft w seeds f h a b))
           by None l = inr (inr (inl (ap (λ t. t b a) is ∙ unturned g a b l)))
           by (Some Provider) l = elim (rise.put b (l, e)) [ inl t ↦ inl t | inr n ↦ inr (inr (inr n)) ]
           by (Some Customer) l = elim (fall.put b (inl l, e)) [ inl t ↦ inr (inl t) | inr n ↦ inr (inr (inr n)) ]
           by (Some Peer) l = elim (fall.put b (inr l, e)) [ inl t ↦ inr (inl t) | inr n ↦ inr (inr (inr n)) ]
 
-      from : (b : ℕ) → (waits rank up b ≡ true) ⊎ ((what g a b ≡ Some Provider) × (changed ≡ true)) → (waits rank up b ≡ true) ⊎ ((w.what b a ≡ Some Customer) × (changed' a ≡ true))
+      from : (b : ℕ) → (waits rank up b ≡ true) ⊎ ((relation g a b ≡ Some Provider) × (changed ≡ true)) → (waits rank up b ≡ true) ⊎ ((w.relation b a ≡ Some Customer) × (changed' a ≡ true))
       from b (inl old) = inl old
       from b (inr (l, e)) = inr (at b Provider l, put e)
 
-      from_whole : (b : ℕ) → (waits rank between b ≡ true) ⊎ (((what g a b ≡ Some Customer) ⊎ (what g a b ≡ Some Peer)) × (changed ≡ true)) → (waits rank whole b ≡ true) ⊎ ((b ≡ a) ⊎ ((r : Rel) × (w.what b a ≡ Some r) × (changed' a ≡ true)))
+      from_whole : (b : ℕ) → (waits rank between b ≡ true) ⊎ (((relation g a b ≡ Some Customer) ⊎ (relation g a b ≡ Some Peer)) × (changed ≡ true)) → (waits rank whole b ≡ true) ⊎ ((b ≡ a) ⊎ ((r : Rel) × (w.relation b a ≡ Some r) × (changed' a ≡ true)))
       from_whole b (inl old) = elim (off.from b old) [ inl older ↦ inl older | inr new ↦ inr (inl new.0) ]
       from_whole b (inr (inl l, e)) = inr (inr (Provider, at b Customer l, put e))
       from_whole b (inr (inr l, e)) = inr (inr (Peer, at b Peer l, put e))
 
   pub turn_down : (whole whole' : Queue) (changed : Bool) →
       IsRightGiven (w.policy a) (seeds a) (λ n. offer w f n a) (h a) → ChangesOnly a f h changes changed' → (changed ≡ true → changed' a ≡ true) → (changed ≡ false → h a ≡ f a) →
-      AreQueued rank whole whole' (λ b. (what g a b ≡ Some Customer) × (changed ≡ true)) (IsLeft w seeds f h a) → IsTurnDown w seeds rank a f h changes changed' whole whole'
+      AreQueued rank whole whole' (λ b. (relation g a b ≡ Some Customer) × (changed ≡ true)) (IsLeft w seeds f h a) → IsTurnDown w seeds rank a f h changes changed' whole whole'
   turn_down whole whole' changed chosen only put unchanged fall = record {
     only = only;
     chosen = chosen;
@@ -120,17 +120,17 @@ module _ (w : Setting) (g : Topology) (is : w.what ≡ what g) (seeds : ℕ → 
     ranks = fall.ranks;
   }
     where
-      asked : (b : ℕ) (c : Bool) → changed ≡ c → (waits rank whole' b ≡ true) ⊎ ((w.what b a ≢ Some Provider) ⊎ IsLeft w seeds f h a b)
+      asked : (b : ℕ) (c : Bool) → changed ≡ c → (waits rank whole' b ≡ true) ⊎ ((w.relation b a ≢ Some Provider) ⊎ IsLeft w seeds f h a b)
       asked b false e = inr (inr (same_left (unchanged e) b))
-      asked b true e = by (what g a b) refl
+      asked b true e = by (relation g a b) refl
         where
-          by : (r : Option Rel) → what g a b ≡ r → (waits rank whole' b ≡ true) ⊎ ((w.what b a ≢ Some Provider) ⊎ IsLeft w seeds f h a b)
+          by : (r : Option Rel) → relation g a b ≡ r → (waits rank whole' b ≡ true) ⊎ ((w.relation b a ≢ Some Provider) ⊎ IsLeft w seeds f h a b)
           by None l = inr (inl (λ x. (let y : None ≡ Some Provider = sym (ap (λ t. t b a) is ∙ unturned g a b l) ∙ x in cc)))
           by (Some Customer) l = elim (fall.put b (l, e)) [ inl t ↦ inl t | inr n ↦ inr (inr n) ]
           by (Some Peer) l = inr (inl (λ x. (let y : Some Peer ≡ Some Provider = sym (at b Peer l) ∙ x in cc)))
           by (Some Provider) l = inr (inl (λ x. (let y : Some Customer ≡ Some Provider = sym (at b Provider l) ∙ x in cc)))
 
-      from : (b : ℕ) → (waits rank whole b ≡ true) ⊎ ((what g a b ≡ Some Customer) × (changed ≡ true)) → (waits rank whole b ≡ true) ⊎ ((w.what b a ≡ Some Provider) × (changed' a ≡ true))
+      from : (b : ℕ) → (waits rank whole b ≡ true) ⊎ ((relation g a b ≡ Some Customer) × (changed ≡ true)) → (waits rank whole b ≡ true) ⊎ ((w.relation b a ≡ Some Provider) × (changed' a ≡ true))
       from b (inl old) = inl old
       from b (inr (l, e)) = inr (at b Customer l, put e)
 

@@ -5,11 +5,11 @@ use Rattle.net_names.specs.declared.routes.Rel.{Rel}
 use Rattle.net_names.specs.declared.routes.Rel.TheVariants.{Customer, Peer, Provider}
 use Rattle.net_names.specs.declared.routes.State.{State}
 use Rattle.policy_laws.specs.Policy.{Policy, RanksOffers, PrefersCustomers}
-use Rattle.as_graph.specs.Topology.{Topology, what, has}
+use Rattle.as_graph.specs.Topology.{Topology, relation, has}
 use Rattle.net_names.specs.Links.{converse}
 use Rattle.net_names.specs.Numbers.{occurs, IsDistinct}
 use Rattle.as_graph.specs.Hierarchy.{HasNoProviderCycle}
-use Rattle.as_graph.proofs.Links.{what_mutual, what_self, linked_end}
+use Rattle.as_graph.proofs.Links.{relation_mutual, relation_self, linked_end}
 use Rattle.stability_laws.specs.declared.entry.Entry.{Entry}
 use Rattle.stability_laws.specs.declared.entry.Seed.{Seed}
 use Rattle.stability_laws.specs.Book.{PolicyBook, policy_at}
@@ -72,27 +72,27 @@ module _ {P : Type 0} (meaning : P → Policy) (ranks_offers : (p : P) → Ranks
         (record { not_held = spared.not_held; beaten = spared.beaten }) right)
 
     -- a changes nothing for who isn't its provider
-    pub low_across : (b : ℕ) → b ≢ a → what w b a ≢ Some Customer → Low f b → Low g b
+    pub low_across : (b : ℕ) → b ≢ a → relation w b a ≢ Some Customer → Low f b → Low g b
     low_across b ne not_customer right = low_with b ne same right
       where
         same : (n : ℕ) → customer_offer here f n b ≡ customer_offer here g n b
-        same n = by (what w b n) refl
+        same n = by (relation w b n) refl
           where
-            by : (r : Option Rel) → what w b n ≡ r → if_customer r (offer here f n b) ≡ if_customer r (offer here g n b)
+            by : (r : Option Rel) → relation w b n ≡ r → if_customer r (offer here f n b) ≡ if_customer r (offer here g n b)
             by None e = refl
             by (Some Peer) e = refl
             by (Some Provider) e = refl
-            by (Some Customer) e = of_others b n (λ x. not_customer (ap (what w b) (sym x) ∙ e))
+            by (Some Customer) e = of_others b n (λ x. not_customer (ap (relation w b) (sym x) ∙ e))
 
     customers_of_others : (b n : ℕ) → n ≢ a → customer_offer here f n b ≡ customer_offer here g n b
-    customers_of_others b n ne = ap (if_customer (what w b n)) (of_others b n ne)
+    customers_of_others b n ne = ap (if_customer (relation w b n)) (of_others b n ne)
 
     -- who isn't asked stays right by its customers' offers
-    pub left_low : (b : ℕ) → b ≢ a → what w b a ≡ Some Customer → IsLeft here seeds f g a b → Low f b → Low g b
+    pub left_low : (b : ℕ) → b ≢ a → relation w b a ≡ Some Customer → IsLeft here seeds f g a b → Low f b → Low g b
     left_low b ne link (inl (s, is)) right =
         let F : Option Entry → Type 0 = λ h. IsRightGiven (meaning (policy_at book b)) (seeds b) (λ n. customer_offer here g n b) (low h) in
         subst F (others b ne) (seeded b (seeds b) s (λ n. customer_offer here f n b) (λ n. customer_offer here g n b) (low (f b)) is right)
-    left_low b ne link (inr (inl same)) right = low_with b ne (λ n. ap (if_customer (what w b n)) (all_offers b same n)) right
+    left_low b ne link (inr (inl same)) right = low_with b ne (λ n. ap (if_customer (relation w b n)) (all_offers b same n)) right
     left_low b ne link (inr (inr spared)) right =
         let F : Option Entry → Type 0 = λ h. IsRightGiven (meaning (policy_at book b)) (seeds b) (λ n. customer_offer here g n b) (low h) in
         subst F (others b ne)
@@ -105,8 +105,8 @@ module _ {P : Type 0} (meaning : P → Policy) (ranks_offers : (p : P) → Ranks
         not_held : (o : Offer) → customer_offer here f a b ≡ Some o → low (f b) ≢ Some o.entry
         not_held o made x = spared.not_held o (sym (is_customer f) ∙ made) (low_some (f b) o.entry x)
 
-        rel_of : (h : ℕ → Option Entry) (m : ℕ) (o : Offer) (r : Rel) → offer here h m b ≡ Some o → what w b m ≡ Some r → o.view.rel ≡ r
-        rel_of h m o r made is = let from : GivenBy (what w b m) m o = names w book state h m b o made in
+        rel_of : (h : ℕ → Option Entry) (m : ℕ) (o : Offer) (r : Rel) → offer here h m b ≡ Some o → relation w b m ≡ Some r → o.view.rel ≡ r
+        rel_of h m o r made is = let from : GivenBy (relation w b m) m o = names w book state h m b o made in
             let both : Some from.from ≡ Some r = sym from.linked ∙ is in let one : from.from ≡ r = cc in from.rel ∙ one
 
         beaten : (offer here g a b ≡ None) ⊎ ((m : ℕ) × (q : Offer) × (n : Offer) × (m ≢ a) × (offer here f m b ≡ Some q) × (offer here g a b ≡ Some n) × IsTrue ((meaning (policy_at book b)).before q.view n.view)) →
@@ -121,23 +121,23 @@ module _ {P : Type 0} (meaning : P → Policy) (ranks_offers : (p : P) → Ranks
             not_other r is ne = not_both (meaning (policy_at book b)) (ranks_offers (policy_at book b)) q.view n.view lt (prefers (policy_at book b) n.view q.view new_rel (λ x. ne (sym is ∙ x)))
 
             customer : customer_offer here f m b ≡ Some q
-            customer = by (what w b m) refl
+            customer = by (relation w b m) refl
               where
-                by : (r : Option Rel) → what w b m ≡ r → if_customer r (offer here f m b) ≡ Some q
-                by None e = let from : GivenBy (what w b m) m q = names w book state f m b q made in let x : None ≡ Some from.from = sym e ∙ from.linked in cc
+                by : (r : Option Rel) → relation w b m ≡ r → if_customer r (offer here f m b) ≡ Some q
+                by None e = let from : GivenBy (relation w b m) m q = names w book state f m b q made in let x : None ≡ Some from.from = sym e ∙ from.linked in cc
                 by (Some Customer) e = made
                 by (Some Peer) e = absurd (not_other Peer (rel_of f m q Peer made e) (λ x. cc))
                 by (Some Provider) e = absurd (not_other Provider (rel_of f m q Provider made e) (λ x. cc))
 
     -- a's own customers make the offers that they made
     own_low : (n : ℕ) → customer_offer here f n a ≡ customer_offer here g n a
-    own_low n = by (what w a n) refl
+    own_low n = by (relation w a n) refl
       where
-        by : (r : Option Rel) → what w a n ≡ r → if_customer r (offer here f n a) ≡ if_customer r (offer here g n a)
+        by : (r : Option Rel) → relation w a n ≡ r → if_customer r (offer here f n a) ≡ if_customer r (offer here g n a)
         by None e = refl
         by (Some Peer) e = refl
         by (Some Provider) e = refl
-        by (Some Customer) e = of_others a n (λ x. (let y : None ≡ Some Customer = sym (what_self w a) ∙ ap (what w a) (sym x) ∙ e in cc))
+        by (Some Customer) e = of_others a n (λ x. (let y : None ≡ Some Customer = sym (relation_self w a) ∙ ap (relation w a) (sym x) ∙ e in cc))
 
     pub now_low : IsRightGiven (meaning (policy_at book a)) (seeds a) (λ n. customer_offer here f n a) (low (g a)) → Low g a
     now_low right =
@@ -155,7 +155,7 @@ module _ {P : Type 0} (meaning : P → Policy) (ranks_offers : (p : P) → Ranks
           where
             by : (o : Option Offer) → offer here h a a ≡ o → o ≡ None
             by None e = refl
-            by (Some o) e = let from : GivenBy (what w a a) a o = names w book state h a a o e in let x : None ≡ Some from.from = sym (what_self w a) ∙ from.linked in cc
+            by (Some o) e = let from : GivenBy (relation w a a) a o = names w book state h a a o e in let x : None ≡ Some from.from = sym (relation_self w a) ∙ from.linked in cc
 
     pub now_right : IsRightGiven (meaning (policy_at book a)) (seeds a) (λ n. offer here f n a) (g a) → Right g a
     now_right right =
@@ -203,11 +203,11 @@ module _ {P : Type 0} (meaning : P → Policy) (ranks_offers : (p : P) → Ranks
       ((b : ℕ) → b ≢ a → overlay' b ≡ overlay b) → ((g a ≡ f a) × (overlay' a ≡ overlay a)) ⊎ ((g a ≢ f a) × (overlay' a ≡ true)) →
       (new ≡ None → whole' a ≡ true) →
       ((b : ℕ) → b ≢ a → up b ≡ true → up' b ≡ true) → ((b : ℕ) → whole b ≡ true → whole' b ≡ true) →
-      ((b : ℕ) → b ≢ a → (up' b ≡ true) ⊎ ((what w b a ≢ Some Customer) ⊎ IsLeft here seeds f g a b)) →
-      ((b : ℕ) → b ≢ a → (up' b ≡ true) ⊎ ((whole' b ≡ true) ⊎ ((what w b a ≡ None) ⊎ IsLeft here seeds f g a b))) →
-      ((b : ℕ) → up' b ≡ true → (b ≢ a) × ((up b ≡ true) ⊎ ((what w b a ≡ Some Customer) × (overlay' a ≡ true)))) →
-      ((b : ℕ) → whole' b ≡ true → (whole b ≡ true) ⊎ ((b ≡ a) ⊎ ((r : Rel) × (what w b a ≡ Some r) × (overlay' a ≡ true)))) →
-      IsUpStep Low Right (what w) a f overlay up whole g overlay' up' whole'
+      ((b : ℕ) → b ≢ a → (up' b ≡ true) ⊎ ((relation w b a ≢ Some Customer) ⊎ IsLeft here seeds f g a b)) →
+      ((b : ℕ) → b ≢ a → (up' b ≡ true) ⊎ ((whole' b ≡ true) ⊎ ((relation w b a ≡ None) ⊎ IsLeft here seeds f g a b))) →
+      ((b : ℕ) → up' b ≡ true → (b ≢ a) × ((up b ≡ true) ⊎ ((relation w b a ≡ Some Customer) × (overlay' a ≡ true)))) →
+      ((b : ℕ) → whole' b ≡ true → (whole b ≡ true) ⊎ ((b ≡ a) ⊎ ((r : Rel) × (relation w b a ≡ Some r) × (overlay' a ≡ true)))) →
+      IsUpStep Low Right (relation w) a f overlay up whole g overlay' up' whole'
   up_turn a f overlay up whole g overlay' up' whole' new chosen at others changed_others settled waits kept kept_whole asked asked_whole from from_whole = record {
     others = others;
     changed_others = changed_others;
@@ -223,12 +223,12 @@ module _ {P : Type 0} (meaning : P → Policy) (ranks_offers : (p : P) → Ranks
       back : (n : ℕ) → n ≢ a → f n ≡ g n
       back n ne = sym (others n ne)
 
-      unlinked : (h : ℕ → Option Entry) (b : ℕ) → what w b a ≡ None → offer here h a b ≡ None
+      unlinked : (h : ℕ → Option Entry) (b : ℕ) → relation w b a ≡ None → offer here h a b ≡ None
       unlinked h b none = by (offer here h a b) refl
         where
           by : (o : Option Offer) → offer here h a b ≡ o → o ≡ None
           by None e = refl
-          by (Some o) e = let from : GivenBy (what w b a) a o = names w book state h a b o e in let x : None ≡ Some from.from = sym none ∙ from.linked in cc
+          by (Some o) e = let from : GivenBy (relation w b a) a o = names w book state h a b o e in let x : None ≡ Some from.from = sym none ∙ from.linked in cc
 
       is_low : low new ≡ new
       is_low = low_choice f a new chosen
@@ -255,18 +255,18 @@ module _ {P : Type 0} (meaning : P → Policy) (ranks_offers : (p : P) → Ranks
       unset true y h n = absurd (true≢false (sym (h refl) ∙ n))
       unset false y h n = refl
 
-      stay_low : (b : ℕ) → b ≢ a → up' b ≡ false → (up' b ≡ true) ⊎ ((what w b a ≢ Some Customer) ⊎ IsLeft here seeds f g a b) → Low f b → Low g b
+      stay_low : (b : ℕ) → b ≢ a → up' b ≡ false → (up' b ≡ true) ⊎ ((relation w b a ≢ Some Customer) ⊎ IsLeft here seeds f g a b) → Low f b → Low g b
       stay_low b ne n (inl t) = absurd (true≢false (sym t ∙ n))
       stay_low b ne n (inr (inl across)) = low_across f g a back b ne across
-      stay_low b ne n (inr (inr left)) = by (what w b a) refl
+      stay_low b ne n (inr (inr left)) = by (relation w b a) refl
         where
-          by : (r : Option Rel) → what w b a ≡ r → Low f b → Low g b
+          by : (r : Option Rel) → relation w b a ≡ r → Low f b → Low g b
           by None e = low_across f g a back b ne (λ x. (let y : None ≡ Some Customer = sym e ∙ x in cc))
           by (Some Customer) e = left_low f g a back b ne e left
           by (Some Peer) e = low_across f g a back b ne (λ x. (let y : Some Peer ≡ Some Customer = sym e ∙ x in cc))
           by (Some Provider) e = low_across f g a back b ne (λ x. (let y : Some Provider ≡ Some Customer = sym e ∙ x in cc))
 
-      stay : (b : ℕ) → b ≢ a → up' b ≡ false → whole' b ≡ false → (up' b ≡ true) ⊎ ((whole' b ≡ true) ⊎ ((what w b a ≡ None) ⊎ IsLeft here seeds f g a b)) → Right f b → Right g b
+      stay : (b : ℕ) → b ≢ a → up' b ≡ false → whole' b ≡ false → (up' b ≡ true) ⊎ ((whole' b ≡ true) ⊎ ((relation w b a ≡ None) ⊎ IsLeft here seeds f g a b)) → Right f b → Right g b
       stay b ne n m (inl t) = absurd (true≢false (sym t ∙ n))
       stay b ne n m (inr (inl t)) = absurd (true≢false (sym t ∙ m))
       stay b ne n m (inr (inr (inl none))) = left_right f g a back b ne (inr (inl (unlinked f b none ∙ sym (unlinked g b none))))
@@ -277,9 +277,9 @@ module _ {P : Type 0} (meaning : P → Policy) (ranks_offers : (p : P) → Ranks
       Low f a → IsRightGiven (meaning (policy_at book a)) (seeds a) (λ n. offer here f n a) (g a) → ((n : ℕ) → n ≢ a → g n ≡ f n) →
       ((b : ℕ) → b ≢ a → overlay' b ≡ overlay b) → ((g a ≡ f a) × (overlay' a ≡ overlay a)) ⊎ ((g a ≢ f a) × (overlay' a ≡ true)) →
       ((b : ℕ) → b ≢ a → whole b ≡ true → whole' b ≡ true) →
-      ((b : ℕ) → b ≢ a → (whole' b ≡ true) ⊎ ((what w b a ≢ Some Provider) ⊎ IsLeft here seeds f g a b)) →
-      ((b : ℕ) → whole' b ≡ true → (b ≢ a) × ((whole b ≡ true) ⊎ ((what w b a ≡ Some Provider) × (overlay' a ≡ true)))) →
-      IsWholeStep Low Right (what w) a f overlay whole g overlay' whole'
+      ((b : ℕ) → b ≢ a → (whole' b ≡ true) ⊎ ((relation w b a ≢ Some Provider) ⊎ IsLeft here seeds f g a b)) →
+      ((b : ℕ) → whole' b ≡ true → (b ≢ a) × ((whole b ≡ true) ⊎ ((relation w b a ≡ Some Provider) × (overlay' a ≡ true)))) →
+      IsWholeStep Low Right (relation w) a f overlay whole g overlay' whole'
   whole_turn a f overlay whole g overlay' whole' low_right chosen others changed_others settled kept asked from = record {
     others = others;
     changed_others = changed_others;
@@ -307,20 +307,20 @@ module _ {P : Type 0} (meaning : P → Policy) (ranks_offers : (p : P) → Ranks
       unset false y h n = refl
 
       -- a makes the same offer as before to whom it isn't a provider
-      same : (b : ℕ) → what w b a ≢ Some Provider → (g a ≡ f a) ⊎ (IsForCustomersOnly (f a) × IsForCustomersOnly (g a)) → offer here f a b ≡ offer here g a b
+      same : (b : ℕ) → relation w b a ≢ Some Provider → (g a ≡ f a) ⊎ (IsForCustomersOnly (f a) × IsForCustomersOnly (g a)) → offer here f a b ≡ offer here g a b
       same b not_provider (inl e) = follows w w book book state f g a b refl refl refl refl (sym e)
       same b not_provider (inr d) = same_offers meaning ranks_offers names follows by_offers nothing_up decide w book state seeds f g a back d.0 d.1 b not_provider a
 
       stay_low : (b : ℕ) → b ≢ a → Low f b → Low g b
-      stay_low b ne = by (what w b a) refl
+      stay_low b ne = by (relation w b a) refl
         where
-          by : (r : Option Rel) → what w b a ≡ r → Low f b → Low g b
+          by : (r : Option Rel) → relation w b a ≡ r → Low f b → Low g b
           by None e = low_across f g a back b ne (λ x. (let y : None ≡ Some Customer = sym e ∙ x in cc))
           by (Some Customer) e = left_low f g a back b ne e (inr (inl (same b (λ x. (let y : Some Customer ≡ Some Provider = sym e ∙ x in cc)) choice)))
           by (Some Peer) e = low_across f g a back b ne (λ x. (let y : Some Peer ≡ Some Customer = sym e ∙ x in cc))
           by (Some Provider) e = low_across f g a back b ne (λ x. (let y : Some Provider ≡ Some Customer = sym e ∙ x in cc))
 
-      stay : (b : ℕ) → b ≢ a → whole' b ≡ false → (whole' b ≡ true) ⊎ ((what w b a ≢ Some Provider) ⊎ IsLeft here seeds f g a b) → Right f b → Right g b
+      stay : (b : ℕ) → b ≢ a → whole' b ≡ false → (whole' b ≡ true) ⊎ ((relation w b a ≢ Some Provider) ⊎ IsLeft here seeds f g a b) → Right f b → Right g b
       stay b ne n (inl t) = absurd (true≢false (sym t ∙ n))
       stay b ne n (inr (inl across)) = left_right f g a back b ne (inr (inl (same b across choice)))
       stay b ne n (inr (inr left)) = left_right f g a back b ne left
@@ -331,8 +331,8 @@ module _ {P : Type 0} (meaning : P → Policy) (ranks_offers : (p : P) → Ranks
       by : (o : Option Offer) → offer here f n b ≡ o → o ≡ None
       by None e = refl
       by (Some o) e =
-          let from : GivenBy (what w b n) n o = names w book state f n b o e in
-          absurd (true≢false (sym (linked_end w n b (converse from.from) (what_mutual w b n ∙ ap (option_map converse) from.linked)) ∙ none))
+          let from : GivenBy (relation w b n) n o = names w book state f n b o e in
+          absurd (true≢false (sym (linked_end w n b (converse from.from) (relation_mutual w b n ∙ ap (option_map converse) from.linked)) ∙ none))
 
   -- who is right with an entry is an AS
   pub right_has : (f : ℕ → Option Entry) (a : ℕ) (offers : ℕ → Option Offer) → ((n : ℕ) (o : Offer) → offers n ≡ Some o → offer here f n a ≡ Some o) → ((b : ℕ) → has w b ≡ false → seeds b ≡ None) →
@@ -368,9 +368,9 @@ module _ {P : Type 0} (meaning : P → Policy) (ranks_offers : (p : P) → Ranks
       by b is None None e r = refl
       by b is None (Some d) e (n, o, best, at) = let x : offer here f n b ≡ None = no_offer f n b is in let y : offer here f n b ≡ Some o = best.made in cc
 
-pub are_enough : (what : ℕ → ℕ → Option Rel) (touched overlay : ℕ → Bool) (earlier taken : List ℕ) → IsDistinct earlier → IsDistinct taken → ((b : ℕ) → occurs b earlier ≡ true → IsCounted what touched overlay b) → ((b : ℕ) → occurs b taken ≡ true → IsCounted what touched overlay b) →
-    AreEnough what touched overlay 0 (length earlier + length taken)
-are_enough what touched overlay earlier taken d e c b = elim (longer (length earlier) (length taken)) [
+pub are_enough : (relation : ℕ → ℕ → Option Rel) (touched overlay : ℕ → Bool) (earlier taken : List ℕ) → IsDistinct earlier → IsDistinct taken → ((b : ℕ) → occurs b earlier ≡ true → IsCounted relation touched overlay b) → ((b : ℕ) → occurs b taken ≡ true → IsCounted relation touched overlay b) →
+    AreEnough relation touched overlay 0 (length earlier + length taken)
+are_enough relation touched overlay earlier taken d e c b = elim (longer (length earlier) (length taken)) [
   | inl le ↦ record { ases = taken; distinct = e; counted = b; enough = (let x : length earlier ≤ length taken = le in omega arith) }
   | inr le ↦ record { ases = earlier; distinct = d; counted = c; enough = (let x : length taken ≤ length earlier = le in omega arith) }
 ]
@@ -379,12 +379,12 @@ are_enough what touched overlay earlier taken d e c b = elim (longer (length ear
     longer m n = elim (cases_order m n) [ inl e ↦ inl (omega arith) | inr (inl lt) ↦ inl (omega arith) | inr (inr lt) ↦ inr (omega arith) ]
 
 module _ {P : Type 0} (meaning : P → Policy) (ranks_offers : (p : P) → RanksOffers (meaning p)) (prefers : (p : P) → PrefersCustomers (meaning p)) (names : OfferNames meaning) (follows : OfferFollows meaning) (by_offers : RightByOffers meaning) (nothing_up : NothingUp meaning) (decide : CustomersDecide meaning) (one : OneStableRouting meaning) (w : Topology) (book : PolicyBook P) (state : ℕ → State) (seeds : ℕ → Option Seed) where
-  pub exact : (le : ℕ → ℕ → Type 0) (touched : ℕ → Bool) (table f : ℕ → Option Entry) (overlay whole : ℕ → Bool) (earlier taken : List ℕ) → HasNoProviderCycle (what w) → ((b : ℕ) → has w b ≡ false → seeds b ≡ None) → ((b : ℕ) → whole b ≡ false) →
-      IsWholeWork (IsRightLow (setting meaning w book state) seeds) (IsRight (setting meaning w book state) seeds) le (what w) touched table f overlay whole earlier taken →
-      IsExact (setting meaning w book state) seeds table f overlay × AreEnough (what w) touched overlay 0 (length earlier + length taken)
+  pub exact : (le : ℕ → ℕ → Type 0) (touched : ℕ → Bool) (table f : ℕ → Option Entry) (overlay whole : ℕ → Bool) (earlier taken : List ℕ) → HasNoProviderCycle (relation w) → ((b : ℕ) → has w b ≡ false → seeds b ≡ None) → ((b : ℕ) → whole b ≡ false) →
+      IsWholeWork (IsRightLow (setting meaning w book state) seeds) (IsRight (setting meaning w book state) seeds) le (relation w) touched table f overlay whole earlier taken →
+      IsExact (setting meaning w book state) seeds table f overlay × AreEnough (relation w) touched overlay 0 (length earlier + length taken)
   exact le touched table f overlay whole earlier taken no_cycle seeds_at empty was = (
     record { stable = stable; only = λ other is b. one w book state seeds other f no_cycle is stable b; differs = was.differs; same = was.same },
-    are_enough (what w) touched overlay earlier taken was.distinct_up was.order.distinct was.done_up was.done,
+    are_enough (relation w) touched overlay earlier taken was.distinct_up was.order.distinct was.done_up was.done,
   )
     where
       stable : IsStable (setting meaning w book state) seeds f

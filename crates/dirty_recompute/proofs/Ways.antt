@@ -5,7 +5,7 @@ use Rattle.net_names.specs.declared.routes.Rel.TheVariants.{Customer}
 use Rattle.net_names.specs.declared.routes.State.{State}
 use Rattle.net_names.specs.Numbers.{occurs}
 use Rattle.policy_laws.specs.Policy.{Policy}
-use Rattle.as_graph.specs.Topology.{Topology, what, has, ases}
+use Rattle.as_graph.specs.Topology.{Topology, relation, has, ases}
 use Rattle.path_pool.specs.declared.pool.PathPool.{PathPool}
 use Rattle.stability_laws.specs.declared.entry.Entry.{Entry}
 use Rattle.stability_laws.specs.Book.{PolicyBook}
@@ -56,7 +56,7 @@ pub down_start : (has : ℕ → Bool) (w : Setting) (rank : ℕ → ℕ) (touche
 down_start has w rank touched seeds table pool overlay whole steps = record { turns = zero; work = λ n h. h; count = omega arith; can = λ s c. c; kept = kept_itself pool seeds overlay }
 
 module _ {P : Type 0} (meaning : P → Policy) (l : AreLaws meaning) (g : Topology) (book : PolicyBook P) (state : ℕ → State) (rank : ℕ → ℕ) (touched : List ℕ) (seeds : SeedIds) (table : Table)
-    (falls : (a b : ℕ) → what g a b ≡ Some Customer → suc (rank b) ≤ rank a) where
+    (falls : (a b : ℕ) → relation g a b ≡ Some Customer → suc (rank b) ≤ rank a) where
   abbrev here : Setting
   here = setting meaning g book state
 

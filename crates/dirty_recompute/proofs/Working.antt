@@ -10,7 +10,7 @@ use Rattle.dirty_recompute.specs.Exact.{IsCounted}
 use Rattle.dirty_recompute.specs.Work.{IsInOrder, IsUpWork, IsWholeWork}
 
 -- one turn upwards
-pub record IsUpStep (LowRight Right : (ℕ → Option Entry) → ℕ → Type 0) (what : ℕ → ℕ → Option Rel) (a : ℕ) (f : ℕ → Option Entry) (overlay up whole : ℕ → Bool) (g : ℕ → Option Entry) (overlay' up' whole' : ℕ → Bool) : Type 0 where
+pub record IsUpStep (LowRight Right : (ℕ → Option Entry) → ℕ → Type 0) (relation : ℕ → ℕ → Option Rel) (a : ℕ) (f : ℕ → Option Entry) (overlay up whole : ℕ → Bool) (g : ℕ → Option Entry) (overlay' up' whole' : ℕ → Bool) : Type 0 where
   pub others : (b : ℕ) → b ≢ a → g b ≡ f b
   pub changed_others : (b : ℕ) → b ≢ a → overlay' b ≡ overlay b
   pub settled : ((g a ≡ f a) × (overlay' a ≡ overlay a)) ⊎ ((low (g a) ≢ low (f a)) × (overlay' a ≡ true) × (low (g a) ≡ g a))
@@ -18,11 +18,11 @@ pub record IsUpStep (LowRight Right : (ℕ → Option Entry) → ℕ → Type 0)
   pub now_right : whole' a ≡ false → Right g a
   pub stay_low : (b : ℕ) → b ≢ a → up' b ≡ false → (up b ≡ false) × (LowRight f b → LowRight g b)
   pub stay : (b : ℕ) → b ≢ a → up' b ≡ false → whole' b ≡ false → (whole b ≡ false) × (Right f b → Right g b)
-  pub from : (b : ℕ) → up' b ≡ true → (b ≢ a) × ((up b ≡ true) ⊎ ((what b a ≡ Some Customer) × (overlay' a ≡ true)))
-  pub from_whole : (b : ℕ) → whole' b ≡ true → (whole b ≡ true) ⊎ ((b ≡ a) ⊎ ((r : Rel) × (what b a ≡ Some r) × (overlay' a ≡ true)))
+  pub from : (b : ℕ) → up' b ≡ true → (b ≢ a) × ((up b ≡ true) ⊎ ((relation b a ≡ Some Customer) × (overlay' a ≡ true)))
+  pub from_whole : (b : ℕ) → whole' b ≡ true → (whole b ≡ true) ⊎ ((b ≡ a) ⊎ ((r : Rel) × (relation b a ≡ Some r) × (overlay' a ≡ true)))
 
 -- one turn downwards
-pub record IsWholeStep (LowRight Right : (ℕ → Option Entry) → ℕ → Type 0) (what : ℕ → ℕ → Option Rel) (a : ℕ) (f : ℕ → Option Entry) (overlay whole : ℕ → Bool) (g : ℕ → Option Entry) (overlay' whole' : ℕ → Bool) : Type 0 where
+pub record IsWholeStep (LowRight Right : (ℕ → Option Entry) → ℕ → Type 0) (relation : ℕ → ℕ → Option Rel) (a : ℕ) (f : ℕ → Option Entry) (overlay whole : ℕ → Bool) (g : ℕ → Option Entry) (overlay' whole' : ℕ → Bool) : Type 0 where
   pub others : (b : ℕ) → b ≢ a → g b ≡ f b
   pub changed_others : (b : ℕ) → b ≢ a → overlay' b ≡ overlay b
   pub settled : ((g a ≡ f a) × (overlay' a ≡ overlay a)) ⊎ ((g a ≢ f a) × (overlay' a ≡ true))
@@ -31,7 +31,7 @@ pub record IsWholeStep (LowRight Right : (ℕ → Option Entry) → ℕ → Type
   pub now_right : Right g a
   pub stay_low : (b : ℕ) → b ≢ a → LowRight f b → LowRight g b
   pub stay : (b : ℕ) → b ≢ a → whole' b ≡ false → (whole b ≡ false) × (Right f b → Right g b)
-  pub from : (b : ℕ) → whole' b ≡ true → (b ≢ a) × ((whole b ≡ true) ⊎ ((what b a ≡ Some Provider) × (overlay' a ≡ true)))
+  pub from : (b : ℕ) → whole' b ≡ true → (b ≢ a) × ((whole b ≡ true) ⊎ ((relation b a ≡ Some Provider) × (overlay' a ≡ true)))
 
 both : (b : Bool) → b ≡ true → b ≡ false → ⊥
 both b t f = true≢false (sym t ∙ f)
@@ -100,13 +100,13 @@ in_order le trans a queue queue' taken is least from was = record { ahead = ahea
         by (inr new) false e = e
 
 -- what is counted stays so, as the overlay grows
-counted_on : (what : ℕ → ℕ → Option Rel) (touched overlay overlay' : ℕ → Bool) (b : ℕ) → ((c : ℕ) → overlay c ≡ true → overlay' c ≡ true) → IsCounted what touched overlay b → IsCounted what touched overlay' b
-counted_on what touched o o' b grows (inl t) = inl t
-counted_on what touched o o' b grows (inr (c, r, linked, is)) = inr (c, r, linked, grows c is)
+counted_on : (relation : ℕ → ℕ → Option Rel) (touched overlay overlay' : ℕ → Bool) (b : ℕ) → ((c : ℕ) → overlay c ≡ true → overlay' c ≡ true) → IsCounted relation touched overlay b → IsCounted relation touched overlay' b
+counted_on relation touched o o' b grows (inl t) = inl t
+counted_on relation touched o o' b grows (inr (c, r, linked, is)) = inr (c, r, linked, grows c is)
 
-module _ (LowRight Right : (ℕ → Option Entry) → ℕ → Type 0) (le : ℕ → ℕ → Type 0) (trans : (x y z : ℕ) → le x y → le y z → le x z) (what : ℕ → ℕ → Option Rel) (touched : ℕ → Bool) (table : ℕ → Option Entry) where
-  module _ (above : (a b : ℕ) → what b a ≡ Some Customer → le a b × (le b a → ⊥)) (a : ℕ) (f : ℕ → Option Entry) (overlay up whole : ℕ → Bool) (taken : List ℕ) (g : ℕ → Option Entry) (overlay' up' whole' : ℕ → Bool) where
-    pub up_step : up a ≡ true → ((b : ℕ) → up b ≡ true → le a b) → IsUpWork LowRight Right le what touched table f overlay up whole taken → IsUpStep LowRight Right what a f overlay up whole g overlay' up' whole' → IsUpWork LowRight Right le what touched table g overlay' up' whole' (a ∷ taken)
+module _ (LowRight Right : (ℕ → Option Entry) → ℕ → Type 0) (le : ℕ → ℕ → Type 0) (trans : (x y z : ℕ) → le x y → le y z → le x z) (relation : ℕ → ℕ → Option Rel) (touched : ℕ → Bool) (table : ℕ → Option Entry) where
+  module _ (above : (a b : ℕ) → relation b a ≡ Some Customer → le a b × (le b a → ⊥)) (a : ℕ) (f : ℕ → Option Entry) (overlay up whole : ℕ → Bool) (taken : List ℕ) (g : ℕ → Option Entry) (overlay' up' whole' : ℕ → Bool) where
+    pub up_step : up a ≡ true → ((b : ℕ) → up b ≡ true → le a b) → IsUpWork LowRight Right le relation touched table f overlay up whole taken → IsUpStep LowRight Right relation a f overlay up whole g overlay' up' whole' → IsUpWork LowRight Right le relation touched table g overlay' up' whole' (a ∷ taken)
     up_step is least was step = record {
       low_right = λ b n. elim (cases_eq b a) [
         | inl e ↦ subst (λ t. LowRight g t) (sym e) step.now_low
@@ -136,7 +136,7 @@ module _ (LowRight Right : (ℕ → Option Entry) → ℕ → Type 0) (le : ℕ 
       queued = λ b q. queued b (step.from b q).1;
       queued_whole = λ b q. queued_whole b (step.from_whole b q);
       done = λ b t. elim (occurs_cases b a taken t) [
-        | inl e ↦ subst (λ x. IsCounted what touched overlay' x) e (on a (was.queued a is))
+        | inl e ↦ subst (λ x. IsCounted relation touched overlay' x) e (on a (was.queued a is))
         | inr old ↦ on b (was.done b old)
       ];
     }
@@ -147,8 +147,8 @@ module _ (LowRight Right : (ℕ → Option Entry) → ℕ → Type 0) (le : ℕ 
           | inr ne ↦ step.changed_others c ne ∙ t
         ]
 
-        on : (b : ℕ) → IsCounted what touched overlay b → IsCounted what touched overlay' b
-        on b c = counted_on what touched overlay overlay' b grows c
+        on : (b : ℕ) → IsCounted relation touched overlay b → IsCounted relation touched overlay' b
+        on b c = counted_on relation touched overlay overlay' b grows c
 
         not_put : overlay a ≡ false
         not_put = by (overlay a) refl
@@ -169,23 +169,23 @@ module _ (LowRight Right : (ℕ → Option Entry) → ℕ → Type 0) (le : ℕ 
         low_here (inl s) t = absurd (both (overlay' a) t (s.1 ∙ not_put))
         low_here (inr s) t = s.2
 
-        later : (b : ℕ) → (up b ≡ true) ⊎ ((what b a ≡ Some Customer) × (overlay' a ≡ true)) → (up b ≡ true) ⊎ (le a b × (le b a → ⊥))
+        later : (b : ℕ) → (up b ≡ true) ⊎ ((relation b a ≡ Some Customer) × (overlay' a ≡ true)) → (up b ≡ true) ⊎ (le a b × (le b a → ⊥))
         later b (inl q) = inl q
         later b (inr (link, t)) = inr (above a b link)
 
-        queued : (b : ℕ) → (up b ≡ true) ⊎ ((what b a ≡ Some Customer) × (overlay' a ≡ true)) → IsCounted what touched overlay' b
+        queued : (b : ℕ) → (up b ≡ true) ⊎ ((relation b a ≡ Some Customer) × (overlay' a ≡ true)) → IsCounted relation touched overlay' b
         queued b (inl q) = on b (was.queued b q)
         queued b (inr (link, t)) = inr (a, Customer, link, t)
 
-        queued_whole : (b : ℕ) → (whole b ≡ true) ⊎ ((b ≡ a) ⊎ ((r : Rel) × (what b a ≡ Some r) × (overlay' a ≡ true))) → IsCounted what touched overlay' b
+        queued_whole : (b : ℕ) → (whole b ≡ true) ⊎ ((b ≡ a) ⊎ ((r : Rel) × (relation b a ≡ Some r) × (overlay' a ≡ true))) → IsCounted relation touched overlay' b
         queued_whole b (inl q) = on b (was.queued_whole b q)
-        queued_whole b (inr (inl e)) = subst (λ x. IsCounted what touched overlay' x) (sym e) (on a (was.queued a is))
+        queued_whole b (inr (inl e)) = subst (λ x. IsCounted relation touched overlay' x) (sym e) (on a (was.queued a is))
         queued_whole b (inr (inr (r, link, t))) = inr (a, r, link, t)
 
 -- with nobody left to take a turn upwards, the way downwards begins
-pub turn : (LowRight Right : (ℕ → Option Entry) → ℕ → Type 0) (le ge : ℕ → ℕ → Type 0) (what : ℕ → ℕ → Option Rel) (touched : ℕ → Bool) (table : ℕ → Option Entry) (f : ℕ → Option Entry) (overlay up whole : ℕ → Bool) (taken : List ℕ) → ((b : ℕ) → up b ≡ false) →
-    IsUpWork LowRight Right le what touched table f overlay up whole taken → IsWholeWork LowRight Right ge what touched table f overlay whole taken []
-turn LowRight Right le ge what touched table f overlay up whole taken empty was = record {
+pub turn : (LowRight Right : (ℕ → Option Entry) → ℕ → Type 0) (le ge : ℕ → ℕ → Type 0) (relation : ℕ → ℕ → Option Rel) (touched : ℕ → Bool) (table : ℕ → Option Entry) (f : ℕ → Option Entry) (overlay up whole : ℕ → Bool) (taken : List ℕ) → ((b : ℕ) → up b ≡ false) →
+    IsUpWork LowRight Right le relation touched table f overlay up whole taken → IsWholeWork LowRight Right ge relation touched table f overlay whole taken []
+turn LowRight Right le ge relation touched table f overlay up whole taken empty was = record {
   low_right = λ b. was.low_right b (empty b);
   right = λ b n. was.right b (empty b) n;
   same = was.same;
@@ -199,9 +199,9 @@ turn LowRight Right le ge what touched table f overlay up whole taken empty was 
   distinct_up = was.order.distinct;
 }
 
-module _ (LowRight Right : (ℕ → Option Entry) → ℕ → Type 0) (le : ℕ → ℕ → Type 0) (trans : (x y z : ℕ) → le x y → le y z → le x z) (what : ℕ → ℕ → Option Rel) (touched : ℕ → Bool) (table : ℕ → Option Entry) where
-  module _ (below : (a b : ℕ) → what b a ≡ Some Provider → le a b × (le b a → ⊥)) (a : ℕ) (f : ℕ → Option Entry) (overlay whole : ℕ → Bool) (earlier taken : List ℕ) (g : ℕ → Option Entry) (overlay' whole' : ℕ → Bool) where
-    pub whole_step : whole a ≡ true → ((b : ℕ) → whole b ≡ true → le a b) → IsWholeWork LowRight Right le what touched table f overlay whole earlier taken → IsWholeStep LowRight Right what a f overlay whole g overlay' whole' → IsWholeWork LowRight Right le what touched table g overlay' whole' earlier (a ∷ taken)
+module _ (LowRight Right : (ℕ → Option Entry) → ℕ → Type 0) (le : ℕ → ℕ → Type 0) (trans : (x y z : ℕ) → le x y → le y z → le x z) (relation : ℕ → ℕ → Option Rel) (touched : ℕ → Bool) (table : ℕ → Option Entry) where
+  module _ (below : (a b : ℕ) → relation b a ≡ Some Provider → le a b × (le b a → ⊥)) (a : ℕ) (f : ℕ → Option Entry) (overlay whole : ℕ → Bool) (earlier taken : List ℕ) (g : ℕ → Option Entry) (overlay' whole' : ℕ → Bool) where
+    pub whole_step : whole a ≡ true → ((b : ℕ) → whole b ≡ true → le a b) → IsWholeWork LowRight Right le relation touched table f overlay whole earlier taken → IsWholeStep LowRight Right relation a f overlay whole g overlay' whole' → IsWholeWork LowRight Right le relation touched table g overlay' whole' earlier (a ∷ taken)
     whole_step is least was step = record {
       low_right = λ b. elim (cases_eq b a) [
         | inl e ↦ subst (λ t. LowRight g t) (sym e) step.now_low
@@ -229,7 +229,7 @@ module _ (LowRight Right : (ℕ → Option Entry) → ℕ → Type 0) (le : ℕ 
       queued = λ b q. queued b (step.from b q).1;
       done_up = λ b t. on b (was.done_up b t);
       done = λ b t. elim (occurs_cases b a taken t) [
-        | inl e ↦ subst (λ x. IsCounted what touched overlay' x) e (on a (was.queued a is))
+        | inl e ↦ subst (λ x. IsCounted relation touched overlay' x) e (on a (was.queued a is))
         | inr old ↦ on b (was.done b old)
       ];
       distinct_up = was.distinct_up;
@@ -241,8 +241,8 @@ module _ (LowRight Right : (ℕ → Option Entry) → ℕ → Type 0) (le : ℕ 
           | inr ne ↦ step.changed_others c ne ∙ t
         ]
 
-        on : (b : ℕ) → IsCounted what touched overlay b → IsCounted what touched overlay' b
-        on b c = counted_on what touched overlay overlay' b grows c
+        on : (b : ℕ) → IsCounted relation touched overlay b → IsCounted relation touched overlay' b
+        on b c = counted_on relation touched overlay overlay' b grows c
 
         same_here : ((g a ≡ f a) × (overlay' a ≡ overlay a)) ⊎ ((g a ≢ f a) × (overlay' a ≡ true)) → overlay' a ≡ false → g a ≡ table a
         same_here (inl s) n = s.0 ∙ was.same a (sym s.1 ∙ n)
@@ -255,10 +255,10 @@ module _ (LowRight Right : (ℕ → Option Entry) → ℕ → Type 0) (le : ℕ 
           | inr new ↦ s.0 (x ∙ sym (was.same a new))
         ]
 
-        later : (b : ℕ) → (whole b ≡ true) ⊎ ((what b a ≡ Some Provider) × (overlay' a ≡ true)) → (whole b ≡ true) ⊎ (le a b × (le b a → ⊥))
+        later : (b : ℕ) → (whole b ≡ true) ⊎ ((relation b a ≡ Some Provider) × (overlay' a ≡ true)) → (whole b ≡ true) ⊎ (le a b × (le b a → ⊥))
         later b (inl q) = inl q
         later b (inr (link, t)) = inr (below a b link)
 
-        queued : (b : ℕ) → (whole b ≡ true) ⊎ ((what b a ≡ Some Provider) × (overlay' a ≡ true)) → IsCounted what touched overlay' b
+        queued : (b : ℕ) → (whole b ≡ true) ⊎ ((relation b a ≡ Some Provider) × (overlay' a ≡ true)) → IsCounted relation touched overlay' b
         queued b (inl q) = on b (was.queued b q)
         queued b (inr (link, t)) = inr (a, Provider, link, t)

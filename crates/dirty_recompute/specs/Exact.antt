@@ -16,11 +16,11 @@ pub record IsExact (w : Setting) (seeds : ℕ → Option Seed) (before f : ℕ �
 
 -- an AS counts where it is touched by the edit, or has a neighbour that changes
 abbrev pub IsCounted : (ℕ → ℕ → Option Rel) → (ℕ → Bool) → (ℕ → Bool) → ℕ → Type 0
-IsCounted what touched changed b = (touched b ≡ true) ⊎ ((c : ℕ) × (r : Rel) × (what b c ≡ Some r) × (changed c ≡ true))
+IsCounted relation touched changed b = (touched b ≡ true) ⊎ ((c : ℕ) × (r : Rel) × (relation b c ≡ Some r) × (changed c ≡ true))
 
 -- the steps from the first count to the last are at most two for each AS that counts
-pub record AreEnough (what : ℕ → ℕ → Option Rel) (touched changed : ℕ → Bool) (first last : ℕ) : Type 0 where
+pub record AreEnough (relation : ℕ → ℕ → Option Rel) (touched changed : ℕ → Bool) (first last : ℕ) : Type 0 where
   pub ases : List ℕ
   pub distinct : IsDistinct ases
-  pub counted : (b : ℕ) → occurs b ases ≡ true → IsCounted what touched changed b
+  pub counted : (b : ℕ) → occurs b ases ≡ true → IsCounted relation touched changed b
   pub enough : last ≤ first + 2 * length ases

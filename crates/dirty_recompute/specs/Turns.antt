@@ -15,16 +15,16 @@ pub record AreQueuedUp (w : Setting) (seeds : ℕ → Option Seed) (a : ℕ) (f 
   pub kept : (b : ℕ) → up b ≡ true → up' b ≡ true
   pub kept_whole : (b : ℕ) → whole b ≡ true → whole' b ≡ true
   pub itself : nothing ≡ true → whole' a ≡ true
-  pub asked : (b : ℕ) → b ≢ a → (up' b ≡ true) ⊎ ((w.what b a ≢ Some Customer) ⊎ IsLeft w seeds f g a b)
-  pub asked_whole : (b : ℕ) → b ≢ a → (up' b ≡ true) ⊎ ((whole' b ≡ true) ⊎ ((w.what b a ≡ None) ⊎ IsLeft w seeds f g a b))
-  pub from : (b : ℕ) → up' b ≡ true → (up b ≡ true) ⊎ ((w.what b a ≡ Some Customer) × (changed ≡ true))
-  pub from_whole : (b : ℕ) → whole' b ≡ true → (whole b ≡ true) ⊎ ((b ≡ a) ⊎ ((r : Rel) × (w.what b a ≡ Some r) × (changed ≡ true)))
+  pub asked : (b : ℕ) → b ≢ a → (up' b ≡ true) ⊎ ((w.relation b a ≢ Some Customer) ⊎ IsLeft w seeds f g a b)
+  pub asked_whole : (b : ℕ) → b ≢ a → (up' b ≡ true) ⊎ ((whole' b ≡ true) ⊎ ((w.relation b a ≡ None) ⊎ IsLeft w seeds f g a b))
+  pub from : (b : ℕ) → up' b ≡ true → (up b ≡ true) ⊎ ((w.relation b a ≡ Some Customer) × (changed ≡ true))
+  pub from_whole : (b : ℕ) → whole' b ≡ true → (whole b ≡ true) ⊎ ((b ≡ a) ⊎ ((r : Rel) × (w.relation b a ≡ Some r) × (changed ≡ true)))
 
 -- after a turn downwards of a: its customers wait in the queue, but such as may be left, and nobody else came in
 pub record AreQueuedDown (w : Setting) (seeds : ℕ → Option Seed) (a : ℕ) (f g : ℕ → Option Entry) (changed : Bool) (whole whole' : ℕ → Bool) : Type 0 where
   pub kept : (b : ℕ) → whole b ≡ true → whole' b ≡ true
-  pub asked : (b : ℕ) → b ≢ a → (whole' b ≡ true) ⊎ ((w.what b a ≢ Some Provider) ⊎ IsLeft w seeds f g a b)
-  pub from : (b : ℕ) → whole' b ≡ true → (whole b ≡ true) ⊎ ((w.what b a ≡ Some Provider) × (changed ≡ true))
+  pub asked : (b : ℕ) → b ≢ a → (whole' b ≡ true) ⊎ ((w.relation b a ≢ Some Provider) ⊎ IsLeft w seeds f g a b)
+  pub from : (b : ℕ) → whole' b ≡ true → (whole b ≡ true) ⊎ ((w.relation b a ≡ Some Provider) × (changed ≡ true))
 
 -- a turn upwards of an AS that is out of the queue already
 pub record IsTurnUp (w : Setting) (seeds : ℕ → Option Seed) (rank : ℕ → ℕ) (a : ℕ) (f g : ℕ → Option Entry) (changed changed' : ℕ → Bool) (up up' whole whole' : Queue) : Type 0 where

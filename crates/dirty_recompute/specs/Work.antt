@@ -27,7 +27,7 @@ pub record IsInOrder (le : ℕ → ℕ → Type 0) (queue : ℕ → Bool) (taken
   pub distinct : IsDistinct taken
 
 -- on the way upwards: who waits in neither queue is right, and who doesn't wait upwards is so by its customers' offers; the changed ASes differ in their Origin and Customer entries from what they held before, and each had its turn; whoever waits or had a turn counts
-pub record IsUpWork (LowRight Right : (ℕ → Option Entry) → ℕ → Type 0) (le : ℕ → ℕ → Type 0) (what : ℕ → ℕ → Option Rel) (touched : ℕ → Bool) (before f : ℕ → Option Entry) (changed up whole : ℕ → Bool) (taken : List ℕ) : Type 0 where
+pub record IsUpWork (LowRight Right : (ℕ → Option Entry) → ℕ → Type 0) (le : ℕ → ℕ → Type 0) (relation : ℕ → ℕ → Option Rel) (touched : ℕ → Bool) (before f : ℕ → Option Entry) (changed up whole : ℕ → Bool) (taken : List ℕ) : Type 0 where
   pub low_right : (b : ℕ) → up b ≡ false → LowRight f b
   pub right : (b : ℕ) → up b ≡ false → whole b ≡ false → Right f b
   pub same : (b : ℕ) → changed b ≡ false → f b ≡ before b
@@ -35,12 +35,12 @@ pub record IsUpWork (LowRight Right : (ℕ → Option Entry) → ℕ → Type 0)
   pub put : (b : ℕ) → changed b ≡ true → occurs b taken ≡ true
   pub put_low : (b : ℕ) → changed b ≡ true → low (f b) ≡ f b
   pub order : IsInOrder le up taken
-  pub queued : (b : ℕ) → up b ≡ true → IsCounted what touched changed b
-  pub queued_whole : (b : ℕ) → whole b ≡ true → IsCounted what touched changed b
-  pub done : (b : ℕ) → occurs b taken ≡ true → IsCounted what touched changed b
+  pub queued : (b : ℕ) → up b ≡ true → IsCounted relation touched changed b
+  pub queued_whole : (b : ℕ) → whole b ≡ true → IsCounted relation touched changed b
+  pub done : (b : ℕ) → occurs b taken ≡ true → IsCounted relation touched changed b
 
 -- on the way downwards: who doesn't wait is right, and all are so by their customers' offers; the changed ASes differ from what they held before, and those that had no turn on this way do so in their Origin and Customer entries; whoever waits or had a turn counts
-pub record IsWholeWork (LowRight Right : (ℕ → Option Entry) → ℕ → Type 0) (le : ℕ → ℕ → Type 0) (what : ℕ → ℕ → Option Rel) (touched : ℕ → Bool) (before f : ℕ → Option Entry) (changed whole : ℕ → Bool) (earlier taken : List ℕ) : Type 0 where
+pub record IsWholeWork (LowRight Right : (ℕ → Option Entry) → ℕ → Type 0) (le : ℕ → ℕ → Type 0) (relation : ℕ → ℕ → Option Rel) (touched : ℕ → Bool) (before f : ℕ → Option Entry) (changed whole : ℕ → Bool) (earlier taken : List ℕ) : Type 0 where
   pub low_right : (b : ℕ) → LowRight f b
   pub right : (b : ℕ) → whole b ≡ false → Right f b
   pub same : (b : ℕ) → changed b ≡ false → f b ≡ before b
@@ -48,15 +48,15 @@ pub record IsWholeWork (LowRight Right : (ℕ → Option Entry) → ℕ → Type
   pub differs_low : (b : ℕ) → changed b ≡ true → occurs b taken ≡ false → low (f b) ≢ low (before b)
   pub put_low : (b : ℕ) → changed b ≡ true → occurs b taken ≡ false → low (f b) ≡ f b
   pub order : IsInOrder le whole taken
-  pub queued : (b : ℕ) → whole b ≡ true → IsCounted what touched changed b
-  pub done_up : (b : ℕ) → occurs b earlier ≡ true → IsCounted what touched changed b
-  pub done : (b : ℕ) → occurs b taken ≡ true → IsCounted what touched changed b
+  pub queued : (b : ℕ) → whole b ≡ true → IsCounted relation touched changed b
+  pub done_up : (b : ℕ) → occurs b earlier ≡ true → IsCounted relation touched changed b
+  pub done : (b : ℕ) → occurs b taken ≡ true → IsCounted relation touched changed b
   pub distinct_up : IsDistinct earlier
 
 -- after so many turns upwards
 pub record IsUpLoop (w : Setting) (seeds : ℕ → Option Seed) (rank : ℕ → ℕ) (touched : List ℕ) (before f : ℕ → Option Entry) (changed : ℕ → Bool) (up whole : Queue) (turns : ℕ) : Type 0 where
   pub taken : List ℕ
-  pub work : IsUpWork (IsRightLow w seeds) (IsRight w seeds) (λ x y. rank x ≤ rank y) w.what (λ b. occurs b touched) before f changed (waits rank up) (waits rank whole) taken
+  pub work : IsUpWork (IsRightLow w seeds) (IsRight w seeds) (λ x y. rank x ≤ rank y) w.relation (λ b. occurs b touched) before f changed (waits rank up) (waits rank whole) taken
   pub ranks : HasRanks rank up
   pub ranks_whole : HasRanks rank whole
   pub count : length taken ≡ turns
@@ -65,7 +65,7 @@ pub record IsUpLoop (w : Setting) (seeds : ℕ → Option Seed) (rank : ℕ → 
 pub record IsWholeLoop (w : Setting) (seeds : ℕ → Option Seed) (rank : ℕ → ℕ) (touched : List ℕ) (before f : ℕ → Option Entry) (changed : ℕ → Bool) (whole : Queue) (turns_up turns : ℕ) : Type 0 where
   pub earlier : List ℕ
   pub taken : List ℕ
-  pub work : IsWholeWork (IsRightLow w seeds) (IsRight w seeds) (λ x y. rank y ≤ rank x) w.what (λ b. occurs b touched) before f changed (waits rank whole) earlier taken
+  pub work : IsWholeWork (IsRightLow w seeds) (IsRight w seeds) (λ x y. rank y ≤ rank x) w.relation (λ b. occurs b touched) before f changed (waits rank whole) earlier taken
   pub ranks : HasRanks rank whole
   pub count_earlier : length earlier ≡ turns_up
   pub count : length taken ≡ turns

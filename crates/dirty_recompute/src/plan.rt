@@ -3,7 +3,7 @@
 ghost use Rattle.std.specs.Prelude.{◌≡◌, ℕ, suc, ◌+◌, ◌*◌, ◌≤◌, length, true, false, None, Some, OnOk, OnErr, IfOk};
 ghost use Rattle.net_names.specs.Numbers.{occurs};
 ghost use Rattle.net_names.specs.declared.routes.Rel.TheVariants.{Customer};
-ghost use Rattle.as_graph.specs.Topology.{what, has, as_count};
+ghost use Rattle.as_graph.specs.Topology.{relation, has, as_count};
 ghost use Rattle.as_graph.specs.Hierarchy.{HasNoProviderCycle, IsRank};
 ghost use Rattle.path_pool.specs.declared.pool.PathPool.{PathPool as APool};
 ghost use Rattle.path_pool.specs.Pool.{holds_of, count_of, live_count, limit_of};
@@ -70,7 +70,7 @@ fn go_up<P: RoutePolicy, V: OriginStates, L: Ledger>(
     near: usize,
     steps: &mut Steps<L>,
 ) -> Result<Queue, NoMemory>
-    requires falls { (a b : ℕ) → what graph.now a b ≡ Some Customer → suc (rank_of ranks.now b) ≤ rank_of ranks.now a }
+    requires falls { (a b : ℕ) → relation graph.now a b ≡ Some Customer → suc (rank_of ranks.now b) ≤ rank_of ranks.now a }
     requires few { as_count graph.now ≤ MOST_ASES }
     requires seeds { (b : ℕ) → has graph.now b ≡ false → seed_at seeds.now b ≡ None }
     requires fresh { (b : ℕ) → change_at overlay.old b ≡ None }
@@ -113,14 +113,14 @@ fn go_down<P: RoutePolicy, V: OriginStates, L: Ledger>(
     whole: &mut Queue,
     steps: &mut Steps<L>,
 ) -> Result<(), NoMemory>
-    requires no_cycle { HasNoProviderCycle (what graph.now) }
-    requires falls { (a b : ℕ) → what graph.now a b ≡ Some Customer → suc (rank_of ranks.now b) ≤ rank_of ranks.now a }
+    requires no_cycle { HasNoProviderCycle (relation graph.now) }
+    requires falls { (a b : ℕ) → relation graph.now a b ≡ Some Customer → suc (rank_of ranks.now b) ≤ rank_of ranks.now a }
     requires few { as_count graph.now ≤ MOST_ASES }
     requires seeds { (b : ℕ) → has graph.now b ≡ false → seed_at seeds.now b ≡ None }
     requires work { (n : ℕ) × HasGoneDown (setting P.meaning graph.now book.now (V.state_of states.now (prefix_of table.now))) (rank_of ranks.now) touched.now pool.old seeds.now table.now overlay.old whole.old n 0 }
     requires can { (first : APool) × CanGoOn (has graph.now) first pool.old seeds.now table.now overlay.old }
     ensures exact { OnOk result (IsExact (setting P.meaning graph.now book.now (V.state_of states.now (prefix_of table.now))) (seeds_of pool.new seeds.now) (table_routing pool.new table.now) (routing_of pool.new table.now overlay.new) (has_change overlay.new)) }
-    ensures enough { OnOk result ((first n : ℕ) → steps.old ≡ first + n → HasGoneDown (setting P.meaning graph.now book.now (V.state_of states.now (prefix_of table.now))) (rank_of ranks.now) touched.now pool.old seeds.now table.now overlay.old whole.old n 0 → AreEnough (what graph.now) (λ b. occurs b touched.now) (has_change overlay.new) first steps.new) }
+    ensures enough { OnOk result ((first n : ℕ) → steps.old ≡ first + n → HasGoneDown (setting P.meaning graph.now book.now (V.state_of states.now (prefix_of table.now))) (rank_of ranks.now) touched.now pool.old seeds.now table.now overlay.old whole.old n 0 → AreEnough (relation graph.now) (λ b. occurs b touched.now) (has_change overlay.new) first steps.new) }
     ensures can { OnOk result ((first : APool) → CanGoOn (has graph.now) first pool.old seeds.now table.now overlay.old → CanGoOn (has graph.now) first pool.new seeds.now table.now overlay.new) }
     ensures kept { IsKept pool.old pool.new seeds.now overlay.old overlay.new }
 {
@@ -152,15 +152,15 @@ fn put_changes<P: RoutePolicy, V: OriginStates, L: Ledger>(
     touched: &[Asn],
     steps: &mut Steps<L>,
 ) -> Result<(), NoMemory>
-    requires no_cycle { HasNoProviderCycle (what graph.now) }
-    requires falls { (a b : ℕ) → what graph.now a b ≡ Some Customer → suc (rank_of ranks.now b) ≤ rank_of ranks.now a }
+    requires no_cycle { HasNoProviderCycle (relation graph.now) }
+    requires falls { (a b : ℕ) → relation graph.now a b ≡ Some Customer → suc (rank_of ranks.now b) ≤ rank_of ranks.now a }
     requires seeds { (b : ℕ) → has graph.now b ≡ false → seed_at seeds.now b ≡ None }
     requires fresh { (b : ℕ) → change_at overlay.old b ≡ None }
     requires entries { (b : ℕ) → has graph.now b ≡ false → occurs b touched.now ≡ false → held_at table.old b ≡ None }
     requires right { (b : ℕ) → has graph.now b ≡ true → occurs b touched.now ≡ false → IsRight (setting P.meaning graph.now book.now (V.state_of states.now (prefix_of table.old))) (seeds_of pool.old seeds.now) (table_routing pool.old table.old) b }
     requires can { CanGoOn (has graph.now) pool.old pool.old seeds.now table.old overlay.old }
     ensures exact { OnOk result (IsExact (setting P.meaning graph.now book.now (V.state_of states.now (prefix_of table.old))) (seeds_of pool.new seeds.now) (table_routing pool.new table.old) (routing_of pool.new table.new overlay.new) (has_change overlay.new)) }
-    ensures enough { OnOk result (AreEnough (what graph.now) (λ b. occurs b touched.now) (has_change overlay.new) steps.old steps.new) }
+    ensures enough { OnOk result (AreEnough (relation graph.now) (λ b. occurs b touched.now) (has_change overlay.new) steps.old steps.new) }
     ensures can { OnOk result (CanGoOn (has graph.now) pool.old pool.new seeds.now table.old overlay.new) }
     ensures kept { IsKept pool.old pool.new seeds.now overlay.old overlay.new }
     ensures table { SameTable table.old table.new }
@@ -208,9 +208,9 @@ pub fn plan_edit<P: RoutePolicy, V: OriginStates, L: Ledger>(
     touched: &[Asn],
     steps: &mut Steps<L>,
 ) -> Result<Overlay, NoMemory>
-    requires no_cycle { HasNoProviderCycle (what graph.now) }
+    requires no_cycle { HasNoProviderCycle (relation graph.now) }
     requires plan { IsLastPlan ranks.now plan.now }
-    requires ranks { (a : ℕ) → IsRank (what graph.now) a (rank_after ranks.now plan.now a) }
+    requires ranks { (a : ℕ) → IsRank (relation graph.now) a (rank_after ranks.now plan.now a) }
     requires entries { (b : ℕ) → has graph.now b ≡ false → occurs b touched.now ≡ false → held_at table.old b ≡ None }
     requires right { (b : ℕ) → has graph.now b ≡ true → occurs b touched.now ≡ false → IsRight (setting P.meaning graph.now book.now (V.state_of states.now (prefix_of table.old))) (seeds_of pool.old seeds.now) (table_routing pool.old table.old) b }
     requires seeds { (b : ℕ) → has graph.now b ≡ false → seed_at seeds.now b ≡ None }
@@ -220,7 +220,7 @@ pub fn plan_edit<P: RoutePolicy, V: OriginStates, L: Ledger>(
     requires counts { (k : ℕ) → count_of pool.old k ≤ 4000000000 }
     requires room { live_count pool.old + 2 * as_count graph.now ≤ limit_of pool.old }
     ensures exact { IfOk result (λ o. IsExact (setting P.meaning graph.now book.now (V.state_of states.now (prefix_of table.old))) (seeds_of pool.old seeds.now) (table_routing pool.old table.old) (routing_of pool.new table.new o) (has_change o)) }
-    ensures enough { IfOk result (λ o. AreEnough (what graph.now) (λ b. occurs b touched.now) (has_change o) steps.old steps.new) }
+    ensures enough { IfOk result (λ o. AreEnough (relation graph.now) (λ b. occurs b touched.now) (has_change o) steps.old steps.new) }
     ensures table { SameTable table.old table.new }
     ensures spare { IfOk result (λ o. length (places_of o) ≤ table_spare table.new) }
     ensures holds { IfOk result (λ o. (k : ℕ) → holds_of pool.new k ≡ holds_of pool.old k + overlay_uses o k) }

@@ -2,7 +2,7 @@
 //! alone after it.
 
 ghost use Rattle.std.specs.Prelude.{◌≡◌, ◌≢◌, ◌⊎◌, ℕ, ◌+◌, ◌≤◌, Option, ◌↔◌, IsTrue, IsSome, None, true, false, OnOk, OnErr, IfOk, option_map};
-ghost use Rattle.as_graph.specs.Topology.{what, has};
+ghost use Rattle.as_graph.specs.Topology.{relation, has};
 ghost use Rattle.stability_laws.specs.declared.entry.Entry.{Entry as AnEntry};
 ghost use Rattle.stability_laws.specs.Book.{policy_at};
 ghost use Rattle.stability_laws.specs.Offers.{offer};

@@ -2,7 +2,7 @@
 
 ghost use Rattle.std.specs.Prelude.{◌≡◌, ◌⊎◌, ◌+◌, true, None, Some, OnOk};
 ghost use Rattle.net_names.specs.declared.routes.Rel.TheVariants as rel;
-ghost use Rattle.as_graph.specs.Topology.{what};
+ghost use Rattle.as_graph.specs.Topology.{relation};
 ghost use Rattle.path_pool.specs.Pool.{IsLive};
 ghost use Rattle.stability_laws.specs.Stable.{IsRight};
 ghost use Rattle.stability_laws.specs.World.{setting};
@@ -136,8 +136,8 @@ fn queue_around<P: RoutePolicy, V: OriginStates>(
     requires held { AreHeld pool.now table.now overlay.now }
     requires seeds { AreSeedsLive pool.now seeds.now }
     requires live { (h : AHeld) → before.now ≡ Some h → IsLive pool.now h.path.0 }
-    ensures up { OnOk result (AreQueued (rank_of ranks.now) up.old up.new (λ b. (what graph.now asn b ≡ Some rel.Provider) × (changed ≡ true)) (IsLeft (setting P.meaning graph.now book.now (V.state_of states.now (prefix_of table.now))) (seeds_of pool.now seeds.now) (as_before pool.now table.now overlay.now asn before.now) (routing_of pool.now table.now overlay.now) asn)) }
-    ensures whole { OnOk result (AreQueued (rank_of ranks.now) whole.old whole.new (λ b. ((what graph.now asn b ≡ Some rel.Customer) ⊎ (what graph.now asn b ≡ Some rel.Peer)) × (changed ≡ true)) (IsLeft (setting P.meaning graph.now book.now (V.state_of states.now (prefix_of table.now))) (seeds_of pool.now seeds.now) (as_before pool.now table.now overlay.now asn before.now) (routing_of pool.now table.now overlay.now) asn)) }
+    ensures up { OnOk result (AreQueued (rank_of ranks.now) up.old up.new (λ b. (relation graph.now asn b ≡ Some rel.Provider) × (changed ≡ true)) (IsLeft (setting P.meaning graph.now book.now (V.state_of states.now (prefix_of table.now))) (seeds_of pool.now seeds.now) (as_before pool.now table.now overlay.now asn before.now) (routing_of pool.now table.now overlay.now) asn)) }
+    ensures whole { OnOk result (AreQueued (rank_of ranks.now) whole.old whole.new (λ b. ((relation graph.now asn b ≡ Some rel.Customer) ⊎ (relation graph.now asn b ≡ Some rel.Peer)) × (changed ≡ true)) (IsLeft (setting P.meaning graph.now book.now (V.state_of states.now (prefix_of table.now))) (seeds_of pool.now seeds.now) (as_before pool.now table.now overlay.now asn before.now) (routing_of pool.now table.now overlay.now) asn)) }
 {
     if changed {
         let near = graph.neighbours_near(asn, place);
@@ -212,7 +212,7 @@ fn queue_customers<P: RoutePolicy, V: OriginStates>(
     requires held { AreHeld pool.now table.now overlay.now }
     requires seeds { AreSeedsLive pool.now seeds.now }
     requires live { (h : AHeld) → before.now ≡ Some h → IsLive pool.now h.path.0 }
-    ensures { OnOk result (AreQueued (rank_of ranks.now) whole.old whole.new (λ b. (what graph.now asn b ≡ Some rel.Customer) × (changed ≡ true)) (IsLeft (setting P.meaning graph.now book.now (V.state_of states.now (prefix_of table.now))) (seeds_of pool.now seeds.now) (as_before pool.now table.now overlay.now asn before.now) (routing_of pool.now table.now overlay.now) asn)) }
+    ensures { OnOk result (AreQueued (rank_of ranks.now) whole.old whole.new (λ b. (relation graph.now asn b ≡ Some rel.Customer) × (changed ≡ true)) (IsLeft (setting P.meaning graph.now book.now (V.state_of states.now (prefix_of table.now))) (seeds_of pool.now seeds.now) (as_before pool.now table.now overlay.now asn before.now) (routing_of pool.now table.now overlay.now) asn)) }
 {
     if changed {
         let near = graph.neighbours_near(asn, place);

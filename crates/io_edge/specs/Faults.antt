@@ -6,13 +6,13 @@ abbrev pub one_more : ℕ → ℕ
 one_more count = if nat_lt count (2 ^ 64 - 1) then count + 1 else count
 
 -- The count has risen. One that stands at its last value has risen too.
-abbrev pub Rose : ℕ → ℕ → Type 0
-Rose before now = one_more before ≤ now
+abbrev pub HasRisen : ℕ → ℕ → Type 0
+HasRisen before now = one_more before ≤ now
 
 -- The count of faults doesn't fall, and an error comes only where it rose.
 pub record HasCause {T E : Type 0} (before now : ℕ) (result : Result T E) : Type 0 where
   pub later : before ≤ now
-  pub failed : OnErr result (Rose before now)
+  pub failed : OnErr result (HasRisen before now)
 
 -- What the names hold stays, a sound name stays sound, and the count of faults doesn't fall.
 pub record KeepsNames {I : Type 0} (holds : I → List ℕ → Option (List ℕ)) (is_sound : I → List ℕ → Type 0) (faults : I → ℕ) (old new : I) : Type 0 where

@@ -2,13 +2,13 @@
 use Rattle.std.specs.Prelude.{ℕ, ◌+◌, ◌≤◌, ◌<◌, ◌≡◌, ◌⊎◌, List, length, Option, Result, Ok, Err, Vec}
 use Rattle.std.specs.Global.{Global}
 use Rattle.std.specs.Io.KnownBytes.{Consumes, IsAtEnd}
-use Rattle.io_edge.specs.Faults.{Rose}
+use Rattle.io_edge.specs.Faults.{HasRisen}
 use Rattle.io_edge.specs.declared.whole.ReadAllError.{ReadAllError}
 use Rattle.io_edge.specs.declared.whole.ReadAllError.TheVariants.{Memory, ReadFault, TooLong}
 
 -- No call on the inputs failed: the count of faults didn't rise, or the name was sound.
 abbrev pub NoCallFailed : ℕ → ℕ → Type 0 → Type 0
-NoCallFailed before now was_sound = (Rose before now → ⊥) ⊎ was_sound
+NoCallFailed before now was_sound = (HasRisen before now → ⊥) ⊎ was_sound
 
 -- The answer for a file where no call failed: its bytes if they are within the limit, and else that they are too many.
 abbrev pub IsReadOf : List ℕ → ℕ → Result (Vec ℕ Global) ReadAllError → Type 0

@@ -1,7 +1,7 @@
 // Whole files and whole pieces, over any inputs and any sink.
 ghost use Rattle.std.specs.Prelude.{◌≡◌, ◌+◌, ◌≤◌, ◌<◌, ℕ, List, Option, IsOk, OnOk, OnErr, IfOk, IfSome, IsErrOf, Some, length, take, drop, []};
 ghost use Rattle.std.specs.Io.KnownBytes.{Keeps};
-ghost use Rattle.io_edge.specs.Faults.{Rose, HasCause, KeepsNames};
+ghost use Rattle.io_edge.specs.Faults.{HasRisen, HasCause, KeepsNames};
 ghost use Rattle.io_edge.specs.Bytes.{Appends, AppendsFront};
 ghost use Rattle.io_edge.specs.Whole.{NoCallFailed, IsReadOf, Takes};
 
@@ -37,7 +37,7 @@ pub fn read_all<I: Inputs>(
         IfSome (I.holds inputs.old name.now)
         (λ file. (limit < length file) × (I.left inputs.new ≡ Some (drop (limit + 1) file))) }
     ensures fault { IsErrOf result ReadAllError.ReadFault →
-        Rose (I.faults inputs.old) (I.faults inputs.new) × (I.is_sound inputs.old name.now → ⊥) }
+        HasRisen (I.faults inputs.old) (I.faults inputs.new) × (I.is_sound inputs.old name.now → ⊥) }
     // Where no call failed, only want of memory stands against the answer that the file asks for.
     ensures exact { NoCallFailed (I.faults inputs.old) (I.faults inputs.new) (I.is_sound inputs.old name.now) →
         IfSome (I.holds inputs.old name.now) (λ file. IsReadOf file limit result) }

@@ -5,7 +5,7 @@ use Rattle.std.proofs.lemmas.Bool.{true≢false, cases_Bool, eq-eqb, or_cases, o
 use Rattle.std.proofs.lemmas.Option.{slice_get_within}
 use Rattle.net_names.specs.Numbers.{occurs}
 use Rattle.net_names.specs.Prefixes.{PrefixValue}
-use Rattle.as_graph.specs.Topology.{Topology, what, has, as_count}
+use Rattle.as_graph.specs.Topology.{Topology, relation, has, as_count}
 use Rattle.path_pool.specs.declared.pool.PathPool.{PathPool}
 use Rattle.stability_laws.specs.Offers.{Setting}
 use Rattle.stability_laws.specs.Stable.{IsStable}
@@ -89,7 +89,7 @@ module _ (w : PrefixValue → Setting) (g : Topology) (touched : PrefixValue →
       subst (λ n. IsStable (w prefix) (seeds_in after (suc before) prefix (laid_in pool rounds cs n prefix)) (laid_in pool rounds cs (suc before) prefix)) one (planned.done (suc before) prefix is).stable
 
   -- and the steps are enough
-  pub steps_enough : AreEnoughFor (what g) (course_of plan after touched pool rounds cs) (length rounds) first last
+  pub steps_enough : AreEnoughFor (relation g) (course_of plan after touched pool rounds cs) (length rounds) first last
   steps_enough = record {
     triples = planned.triples;
     apart = planned.apart;

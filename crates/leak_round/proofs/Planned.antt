@@ -8,7 +8,7 @@ use Rattle.std.proofs.lemmas.List.Sums.{sum_by_push}
 use Rattle.std.proofs.lemmas.Option.{slice_get_within}
 use Rattle.net_names.specs.Numbers.{occurs}
 use Rattle.net_names.specs.Prefixes.{PrefixValue}
-use Rattle.as_graph.specs.Topology.{Topology, what}
+use Rattle.as_graph.specs.Topology.{Topology, relation}
 use Rattle.path_pool.specs.declared.pool.PathPool.{PathPool}
 use Rattle.path_pool.specs.Pool.{holds_of}
 use Rattle.stability_laws.specs.declared.entry.Entry.{Entry}
@@ -163,17 +163,17 @@ module _ (w : PrefixValue → Setting) (g : Topology) (touched : PrefixValue →
   one_triple : (b c : ℕ) → triple b ≡ triple c → b ≡ c
   one_triple b c e = ap (λ (t : ℕ × (PrefixValue × ℕ)). t.1.1) e
 
-  counted_here : (b : ℕ) → occurs b planned.enough.ases ≡ true → IsCountedIn (what g) (course_of plan after touched pool' rounds' (cs ++ x ∷ [])) (triple b)
+  counted_here : (b : ℕ) → occurs b planned.enough.ases ≡ true → IsCountedIn (relation g) (course_of plan after touched pool' rounds' (cs ++ x ∷ [])) (triple b)
   counted_here b o = elim (planned.enough.counted b o) [
     | inl listed ↦ elim (wrong.only b listed) [ inl t ↦ inl t | inr d ↦ inr (inl (λ e. d (now_seed b ∙ e ∙ sym (was_seed b)))) ]
     | inr near ↦ (let (c, r, is, changed) = near in inr (inr (c, r, is, ap is_some (change_here c) ∙ changed)))
   ]
 
-  counted_other : (t : ℕ × (PrefixValue × ℕ)) → StandsIn t so_far.triples → IsCountedIn (what g) (course_of plan after touched pool' rounds' (cs ++ x ∷ [])) t
+  counted_other : (t : ℕ × (PrefixValue × ℕ)) → StandsIn t so_far.triples → IsCountedIn (relation g) (course_of plan after touched pool' rounds' (cs ++ x ∷ [])) t
   counted_other t s =
       let before = so_far.of_planned t s in
       let F : (ℕ → Option Entry) → (ℕ → Option Entry) → (ℕ → Bool) → Type 0 =
-      λ k n c. IsCountedAt (what g) (touched t.1.0) (seeds_in plan t.0 t.1.0 k) (seeds_in after t.0 t.1.0 n) c t.1.1 in
+      λ k n c. IsCountedAt (relation g) (touched t.1.0) (seeds_in plan t.0 t.1.0 k) (seeds_in after t.0 t.1.0 n) c t.1.1 in
       coe 1 0 (i. F (λ a. kept_still (t.0 - 1) t.1.0 a i) (λ a. laid_other (t.0 - 1) t.1.0 (not_next t.0 t.1.0 before) a i) (λ a. is_some (change_other t.0 t.1.0 (not_this t.0 t.1.0 before) a i))) (so_far.counted t s)
 
   changes_more : AreChangesOf rounds' (cs ++ x ∷ [])
@@ -213,7 +213,7 @@ module _ (w : PrefixValue → Setting) (g : Topology) (touched : PrefixValue →
       | inr r ↦ (added cs x).kept t.0 t.1.0 (so_far.of_planned t r)
     ];
     counted = λ t s. elim (from_appended (map triple planned.enough.ases) so_far.triples t s) [
-      | inl l ↦ (let (b, at, e) = from_mapped triple one_triple planned.enough.ases t l in subst (IsCountedIn (what g) (course_of plan after touched pool' rounds' (cs ++ x ∷ []))) (sym e) (counted_here b (stands_occurs planned.enough.ases b at)))
+      | inl l ↦ (let (b, at, e) = from_mapped triple one_triple planned.enough.ases t l in subst (IsCountedIn (relation g) (course_of plan after touched pool' rounds' (cs ++ x ∷ []))) (sym e) (counted_here b (stands_occurs planned.enough.ases b at)))
       | inr r ↦ counted_other t r
     ];
     enough = omega (arith, planned.enough.enough, so_far.enough, length-append (map triple planned.enough.ases) so_far.triples, length-map planned.enough.ases triple);

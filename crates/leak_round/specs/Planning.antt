@@ -3,7 +3,7 @@ use Rattle.std.specs.Prelude.{◌≡◌, ◌≢◌, ◌⊎◌, ℕ, ◌+◌, ◌
 use Rattle.std.specs.List.{list_any}
 use Rattle.net_names.specs.Numbers.{occurs}
 use Rattle.net_names.specs.Prefixes.{PrefixValue}
-use Rattle.as_graph.specs.Topology.{Topology, what, has}
+use Rattle.as_graph.specs.Topology.{Topology, relation, has}
 use Rattle.path_pool.specs.declared.pool.PathPool.{PathPool}
 use Rattle.path_pool.specs.Pool.{IsLive, list_of, holds_of, live_count, limit_of}
 use Rattle.stability_laws.specs.declared.entry.Entry.{Entry}
@@ -44,7 +44,7 @@ pub record CanPlanTable (w : Setting) (g : Topology) (prefix : PrefixValue) (see
 -- the changes of a table are planned: with them in place it stands for the one stable routing, and they are paid for
 pub record IsTablePlanned (w : Setting) (g : Topology) (seeds : SeedIds) (ases : List ℕ) (pool pool' : PathPool) (t t' : Table) (first last : ℕ) (o : Overlay) : Type 0 where
   pub exact : IsExact w (seeds_of pool seeds) (table_routing pool t) (routing_of pool' t' o) (has_change o)
-  pub enough : AreEnough (what g) (λ b. occurs b ases) (has_change o) first last
+  pub enough : AreEnough (relation g) (λ b. occurs b ases) (has_change o) first last
   pub spare : length (places_of o) ≤ table_spare t'
   pub listed : IsListed o
   pub holds : (k : ℕ) → holds_of pool' k ≡ holds_of pool k + overlay_uses o k
@@ -100,7 +100,7 @@ pub record ArePlanned (w : PrefixValue → Setting) (g : Topology) (touched : Pr
   pub triples : List (ℕ × (PrefixValue × ℕ))
   pub apart : AreApart triples
   pub of_planned : (x : ℕ × (PrefixValue × ℕ)) → StandsIn x triples → is_planned xs x.0 x.1.0 ≡ true
-  pub counted : (x : ℕ × (PrefixValue × ℕ)) → StandsIn x triples → IsCountedIn (what g) (course_of plan after touched pool rounds xs) x
+  pub counted : (x : ℕ × (PrefixValue × ℕ)) → StandsIn x triples → IsCountedIn (relation g) (course_of plan after touched pool rounds xs) x
   pub enough : last ≤ first + 2 * length triples
 
 -- the pool keeps its paths and has the holds of the new changes, and for each changed entry at most one cell more is live

@@ -2,7 +2,7 @@
 
 ghost use Rattle.std.specs.Prelude.{◌≡◌, ℕ, ◌+◌, ◌-◌, ◌*◌, ◌<◌, ◌≤◌, Some, IsSome, [], ◌∷◌, ◌++◌, length, slice_get, OnOk};
 ghost use Rattle.std.specs.Vec.{vec_capacity};
-ghost use Rattle.as_graph.specs.Topology.{what};
+ghost use Rattle.as_graph.specs.Topology.{relation};
 ghost use Rattle.as_graph.specs.Hierarchy.{HasNoProviderCycle, IsRank};
 ghost use Rattle.path_pool.specs.Pool.{holds_of};
 ghost use Rattle.rank_order.specs.Plans.{rank_after, IsLastPlan};
@@ -71,9 +71,9 @@ fn plan_with_seeds<P: RoutePolicy, V: OriginStates, L: Ledger>(
     pool: &mut PathPool,
     steps: &mut Steps<L>,
 ) -> Result<(), NoMemory>
-    requires no_cycle { HasNoProviderCycle (what graph.now) }
+    requires no_cycle { HasNoProviderCycle (relation graph.now) }
     requires last { IsLastPlan ranks.now rank_plan.now }
-    requires ranks { (a : ℕ) → IsRank (what graph.now) a (rank_after ranks.now rank_plan.now a) }
+    requires ranks { (a : ℕ) → IsRank (relation graph.now) a (rank_after ranks.now rank_plan.now a) }
     requires there { IsSome (table_in tables.old.items round prefix) }
     requires can { (t : ATable) → table_in tables.old.items round prefix ≡ Some t → CanPlanTable (setting P.meaning graph.now book.now (V.state_of states.now prefix)) graph.now prefix seeds.now ases.now pool.old t }
     requires room { HasRoomFor pool.old 1 }
@@ -121,9 +121,9 @@ fn plan_reseeded<P: RoutePolicy, V: OriginStates, L: Ledger>(
     pool: &mut PathPool,
     steps: &mut Steps<L>,
 ) -> Result<(), NoMemory>
-    requires no_cycle { HasNoProviderCycle (what graph.now) }
+    requires no_cycle { HasNoProviderCycle (relation graph.now) }
     requires last { IsLastPlan ranks.now rank_plan.now }
-    requires ranks { (a : ℕ) → IsRank (what graph.now) a (rank_after ranks.now rank_plan.now a) }
+    requires ranks { (a : ℕ) → IsRank (relation graph.now) a (rank_after ranks.now rank_plan.now a) }
     requires can { CanPlan (λ p. setting P.meaning graph.now book.now (V.state_of states.now p)) graph.now (touches touched.now) plan.now (seeds_after edited.now plan.now) announced.now (announced_after edited.now announced.now) pool.old tables.old.items }
     requires own { AreOwnSeeds plan.now announced.now own.now }
     requires fresh { AreOwnEdited edited.now }
@@ -214,9 +214,9 @@ fn plan_change<P: RoutePolicy, V: OriginStates, L: Ledger>(
     pool: &mut PathPool,
     steps: &mut Steps<L>,
 ) -> Result<(), NoMemory>
-    requires no_cycle { HasNoProviderCycle (what graph.now) }
+    requires no_cycle { HasNoProviderCycle (relation graph.now) }
     requires last { IsLastPlan ranks.now rank_plan.now }
-    requires ranks { (a : ℕ) → IsRank (what graph.now) a (rank_after ranks.now rank_plan.now a) }
+    requires ranks { (a : ℕ) → IsRank (relation graph.now) a (rank_after ranks.now rank_plan.now a) }
     requires can { CanPlan (λ p. setting P.meaning graph.now book.now (V.state_of states.now p)) graph.now (touches touched.now) plan.now (seeds_after edited.now plan.now) announced.now (announced_after edited.now announced.now) pool.old tables.old.items }
     requires own { AreOwnSeeds plan.now announced.now own.now }
     requires fresh { AreOwnEdited edited.now }
@@ -279,9 +279,9 @@ fn plan_round<P: RoutePolicy, V: OriginStates, L: Ledger>(
     pool: &mut PathPool,
     steps: &mut Steps<L>,
 ) -> Result<(), NoMemory>
-    requires no_cycle { HasNoProviderCycle (what graph.now) }
+    requires no_cycle { HasNoProviderCycle (relation graph.now) }
     requires last { IsLastPlan ranks.now rank_plan.now }
-    requires ranks { (a : ℕ) → IsRank (what graph.now) a (rank_after ranks.now rank_plan.now a) }
+    requires ranks { (a : ℕ) → IsRank (relation graph.now) a (rank_after ranks.now rank_plan.now a) }
     requires can { CanPlan (λ p. setting P.meaning graph.now book.now (V.state_of states.now p)) graph.now (touches touched.now) plan.now (seeds_after edited.now plan.now) announced.now (announced_after edited.now announced.now) pool.old tables.old.items }
     requires own { AreOwnSeeds plan.now announced.now own.now }
     requires fresh { AreOwnEdited edited.now }
@@ -327,9 +327,9 @@ pub fn plan_rounds<P: RoutePolicy, V: OriginStates, L: Ledger>(
     pool: &mut PathPool,
     steps: &mut Steps<L>,
 ) -> Result<(), NoMemory>
-    requires no_cycle { HasNoProviderCycle (what graph.now) }
+    requires no_cycle { HasNoProviderCycle (relation graph.now) }
     requires last { IsLastPlan ranks.now rank_plan.now }
-    requires ranks { (a : ℕ) → IsRank (what graph.now) a (rank_after ranks.now rank_plan.now a) }
+    requires ranks { (a : ℕ) → IsRank (relation graph.now) a (rank_after ranks.now rank_plan.now a) }
     requires can { CanPlan (λ p. setting P.meaning graph.now book.now (V.state_of states.now p)) graph.now (touches touched.now) plan.now (seeds_after edited.now plan.now) announced.now (announced_after edited.now announced.now) pool.old tables.old.items }
     requires own { AreOwnSeeds plan.now announced.now own.now }
     requires fresh { AreOwnEdited edited.now }

@@ -1,7 +1,7 @@
 //! The tables of one round.
 
 ghost use Rattle.std.specs.Prelude.{◌≡◌, ℕ, suc, ◌+◌, ◌-◌, ◌*◌, ◌≤◌, length, IsTrue, IfOk, OnOk};
-ghost use Rattle.as_graph.specs.Topology.{what, as_count};
+ghost use Rattle.as_graph.specs.Topology.{relation, as_count};
 ghost use Rattle.as_graph.specs.Hierarchy.{HasNoProviderCycle};
 ghost use Rattle.three_pass.specs.Courses.{IsCourse};
 ghost use Rattle.three_pass.specs.Scratches.{IsScratch};
@@ -48,7 +48,7 @@ fn make_table<P: RoutePolicy, V: OriginStates, L: Ledger>(
     scratch: &mut Overlay,
     steps: &mut Steps<L>,
 ) -> Result<Table, NoMemory>
-    requires no_cycle { HasNoProviderCycle (what graph.now) }
+    requires no_cycle { HasNoProviderCycle (relation graph.now) }
     requires course { IsCourse graph.now course.now }
     requires scratch { IsScratch course.now scratch.old }
     requires announced { AreAnnounced pool.old plan.now announced.now }
@@ -95,7 +95,7 @@ pub fn make_round<P: RoutePolicy, V: OriginStates, L: Ledger>(
     scratch: &mut Overlay,
     steps: &mut Steps<L>,
 ) -> Result<RoundTables, NoMemory>
-    requires no_cycle { HasNoProviderCycle (what graph.now) }
+    requires no_cycle { HasNoProviderCycle (relation graph.now) }
     requires course { IsCourse graph.now course.now }
     requires scratch { IsScratch course.now scratch.old }
     requires few { length (prefixes_of plan.now) ≤ 32 }

@@ -2,7 +2,7 @@
 
 ghost use Rattle.std.specs.Prelude.{◌≡◌, ◌↔◌, ℕ, suc, ◌+◌, ◌-◌, ◌*◌, ◌<◌, ◌≤◌, false, IsTrue, IsSome, IfSome, IfOk, OnOk, Option, length, is_some};
 ghost use Rattle.net_names.specs.Prefixes.{PrefixValue};
-ghost use Rattle.as_graph.specs.Topology.{what, as_count};
+ghost use Rattle.as_graph.specs.Topology.{relation, as_count};
 ghost use Rattle.as_graph.specs.Hierarchy.{HasNoProviderCycle, IsRank};
 ghost use Rattle.rank_order.specs.Ranks.{rank_at};
 ghost use Rattle.three_pass.specs.Courses.{IsCourse};
@@ -80,7 +80,7 @@ fn make_rounds<P: RoutePolicy, V: OriginStates, L: Ledger>(
     scratch: &mut Overlay,
     steps: &mut Steps<L>,
 ) -> Result<Vec<RoundTables>, NoMemory>
-    requires no_cycle { HasNoProviderCycle (what graph.now) }
+    requires no_cycle { HasNoProviderCycle (relation graph.now) }
     requires course { IsCourse graph.now course.now }
     requires scratch { IsScratch course.now scratch.old }
     requires few { length (prefixes_of plan.now) ≤ 32 }
@@ -141,8 +141,8 @@ impl Rounds {
         rounds: u32,
         steps: &mut Steps<L>,
     ) -> Result<Rounds, NoMemory>
-        requires no_cycle { HasNoProviderCycle (what graph.now) }
-        requires ranks { (a : ℕ) → IsRank (what graph.now) a (rank_at ranks.now a) }
+        requires no_cycle { HasNoProviderCycle (relation graph.now) }
+        requires ranks { (a : ℕ) → IsRank (relation graph.now) a (rank_at ranks.now a) }
         requires limits { IsWithinLimits plan }
         requires rounds { rounds ≤ 4 }
         ensures cost { steps.new ≤ steps.old + 2 * as_count graph.now * length (prefixes_of plan) * rounds }

@@ -1,7 +1,7 @@
 //! The changes of one table after an edit.
 
 ghost use Rattle.std.specs.Prelude.{◌≡◌, ℕ, ◌≤◌, length, IsSome, Some, IfOk, OnErr};
-ghost use Rattle.as_graph.specs.Topology.{what};
+ghost use Rattle.as_graph.specs.Topology.{relation};
 ghost use Rattle.as_graph.specs.Hierarchy.{HasNoProviderCycle, IsRank};
 ghost use Rattle.path_pool.specs.Pool.{limit_of};
 ghost use Rattle.rank_order.specs.Plans.{rank_after, IsLastPlan};
@@ -39,9 +39,9 @@ fn plan_table<P: RoutePolicy, V: OriginStates, L: Ledger>(
     pool: &mut PathPool,
     steps: &mut Steps<L>,
 ) -> Result<Overlay, NoMemory>
-    requires no_cycle { HasNoProviderCycle (what graph.now) }
+    requires no_cycle { HasNoProviderCycle (relation graph.now) }
     requires last { IsLastPlan ranks.now rank_plan.now }
-    requires ranks { (a : ℕ) → IsRank (what graph.now) a (rank_after ranks.now rank_plan.now a) }
+    requires ranks { (a : ℕ) → IsRank (relation graph.now) a (rank_after ranks.now rank_plan.now a) }
     requires can { CanPlanTable (setting P.meaning graph.now book.now (V.state_of states.now prefix)) graph.now prefix seeds.now ases.now pool.old table.old }
     requires room { HasRoomFor pool.old 1 }
     ensures planned { IfOk result (IsTablePlanned (setting P.meaning graph.now book.now (V.state_of states.now prefix)) graph.now seeds.now ases.now pool.old pool.new table.old table.new steps.old steps.new) }
@@ -72,9 +72,9 @@ fn plan_in_round<P: RoutePolicy, V: OriginStates, L: Ledger>(
     pool: &mut PathPool,
     steps: &mut Steps<L>,
 ) -> Result<Overlay, NoMemory>
-    requires no_cycle { HasNoProviderCycle (what graph.now) }
+    requires no_cycle { HasNoProviderCycle (relation graph.now) }
     requires last { IsLastPlan ranks.now rank_plan.now }
-    requires ranks { (a : ℕ) → IsRank (what graph.now) a (rank_after ranks.now rank_plan.now a) }
+    requires ranks { (a : ℕ) → IsRank (relation graph.now) a (rank_after ranks.now rank_plan.now a) }
     requires there { IsSome (table_at tables.old prefix) }
     requires can { (t : ATable) → table_at tables.old prefix ≡ Some t → CanPlanTable (setting P.meaning graph.now book.now (V.state_of states.now prefix)) graph.now prefix seeds.now ases.now pool.old t }
     requires room { HasRoomFor pool.old 1 }
@@ -107,9 +107,9 @@ pub fn plan_in_rounds<P: RoutePolicy, V: OriginStates, L: Ledger>(
     pool: &mut PathPool,
     steps: &mut Steps<L>,
 ) -> Result<Overlay, NoMemory>
-    requires no_cycle { HasNoProviderCycle (what graph.now) }
+    requires no_cycle { HasNoProviderCycle (relation graph.now) }
     requires last { IsLastPlan ranks.now rank_plan.now }
-    requires ranks { (a : ℕ) → IsRank (what graph.now) a (rank_after ranks.now rank_plan.now a) }
+    requires ranks { (a : ℕ) → IsRank (relation graph.now) a (rank_after ranks.now rank_plan.now a) }
     requires there { IsSome (table_in tables.old.items round prefix) }
     requires can { (t : ATable) → table_in tables.old.items round prefix ≡ Some t → CanPlanTable (setting P.meaning graph.now book.now (V.state_of states.now prefix)) graph.now prefix seeds.now ases.now pool.old t }
     requires room { HasRoomFor pool.old 1 }

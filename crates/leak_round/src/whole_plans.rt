@@ -3,7 +3,7 @@
 ghost use Rattle.std.specs.Prelude.{◌≡◌, ℕ, ◌+◌, ◌*◌, ◌≤◌, [], Some, length, option_map, IfOk, OnOk, OnErr};
 ghost use Rattle.std.specs.Option.{option_copied};
 ghost use Rattle.std.specs.Ordering.{nat_cmp};
-ghost use Rattle.as_graph.specs.Topology.{what};
+ghost use Rattle.as_graph.specs.Topology.{relation};
 ghost use Rattle.as_graph.specs.Hierarchy.{HasNoProviderCycle, IsRank};
 ghost use Rattle.path_pool.specs.Pool.{holds_of, count_of, live_count, limit_of};
 ghost use Rattle.rank_order.specs.Plans.{rank_after, IsLastPlan};
@@ -98,9 +98,9 @@ pub fn plan_and_tell<P: RoutePolicy, V: OriginStates, L: Ledger>(
     pool: &mut PathPool,
     steps: &mut Steps<L>,
 ) -> Result<RoundsDone, NoMemory>
-    requires no_cycle { HasNoProviderCycle (what graph.now) }
+    requires no_cycle { HasNoProviderCycle (relation graph.now) }
     requires last { IsLastPlan ranks.now rank_plan.now }
-    requires ranks { (a : ℕ) → IsRank (what graph.now) a (rank_after ranks.now rank_plan.now a) }
+    requires ranks { (a : ℕ) → IsRank (relation graph.now) a (rank_after ranks.now rank_plan.now a) }
     requires can { CanPlan (λ p. setting P.meaning graph.now book.now (V.state_of states.now p)) graph.now (touches touched.now) plan.now (seeds_after edited.now plan.now) announced.now (announced_after edited.now announced.now) pool.old tables.old.items }
     requires own { AreOwnSeeds plan.now announced.now own.now }
     requires fresh { AreOwnEdited edited.now }

@@ -37,6 +37,6 @@ abbrev pub AllBear : (ℕ → Bool) → (ℕ → ℕ) → ℕ → ℕ → List N
 AllBear numbered old before later ns i = (k : ℕ) → k < i → (neighbour_at ns k).rel ≡ Provider → Bears numbered old before later (neighbour_at ns k).asn
 
 -- the new number fits at a, and each provider of a bears its change, if there is one
-pub record IsMended (what : ℕ → ℕ → Option Rel) (numbered : ℕ → Bool) (old new : ℕ → ℕ) (a : ℕ) : Type 0 where
-  pub fits : RankFits what new a
-  pub providers : (new a ≡ old a) ⊎ ((p : ℕ) → what p a ≡ Some Customer → Bears numbered old (old a) (new a) p)
+pub record IsMended (relation : ℕ → ℕ → Option Rel) (numbered : ℕ → Bool) (old new : ℕ → ℕ) (a : ℕ) : Type 0 where
+  pub fits : RankFits relation new a
+  pub providers : (new a ≡ old a) ⊎ ((p : ℕ) → relation p a ≡ Some Customer → Bears numbered old (old a) (new a) p)

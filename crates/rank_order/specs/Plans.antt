@@ -2,7 +2,7 @@
 use Rattle.std.specs.Prelude.{◌≡◌, ℕ, Bool, true, false, Option, None, Some, is_some, unwrap_or, if◌then◌else◌, List}
 use Rattle.std.specs.FinMap as map
 use Rattle.net_names.specs.Numbers.{occurs}
-use Rattle.as_graph.specs.Topology.{Topology, what, has}
+use Rattle.as_graph.specs.Topology.{Topology, relation, has}
 use Rattle.as_graph.specs.Hierarchy.{IsRank}
 use Rattle.cycle_check.specs.Providers.{rank_by as rank_by_place}
 use Rattle.rank_order.specs.Lists.{AreAtMost}
@@ -36,4 +36,4 @@ pub record IsPlanFor (g : Topology) (ends : List ℕ) (ranks : KeptRanks) (p : R
   pub same : p.ends.items ≡ ends
   pub inside : (a : ℕ) → is_numbered p a ≡ true → has g a ≡ true
   pub complete : (a : ℕ) → occurs a ends ≡ true → has g a ≡ true → is_numbered p a ≡ true
-  pub fitting : (a : ℕ) → IsRank (what g) a (rank_after ranks p a)
+  pub fitting : (a : ℕ) → IsRank (relation g) a (rank_after ranks p a)

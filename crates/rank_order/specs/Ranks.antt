@@ -50,8 +50,8 @@ pub record IsSortedOut (rank : ℕ → ℕ) (xs ys : List ℕ) : Type 0 where
 
 -- a refusal that names a cycle names a provider cycle, from its lowest number on (Gao and Rexford 2001, the hierarchy assumption)
 abbrev pub IsRankRefusal : (ℕ → ℕ → Option Rel) → RankError → Type 0
-IsRankRefusal what Memory = ⊤
-IsRankRefusal what (ProviderCycle cycle) = IsCycleFromLowest what cycle
+IsRankRefusal relation Memory = ⊤
+IsRankRefusal relation (ProviderCycle cycle) = IsCycleFromLowest relation cycle
 
 -- the AS is one of the list, and has no rank
 pub record Lacks (ranks : KeptRanks) (xs : List ℕ) (a : ℕ) : Type 0 where

@@ -3,7 +3,7 @@ ghost use Rattle.std.specs.Prelude.{◌≡◌, ℕ, ◌<◌, ◌^◌, true, leng
 ghost use Rattle.std.specs.List.Sorted.{IsStrictlyIncreasing};
 ghost use Rattle.net_names.specs.Numbers.{occurs};
 ghost use Rattle.net_names.specs.declared.routes.Rel.TheVariants.{Provider};
-ghost use Rattle.as_graph.specs.Topology.{what, has};
+ghost use Rattle.as_graph.specs.Topology.{relation, has};
 ghost use Rattle.rank_order.specs.Ranks.{rank_at};
 ghost use Rattle.rank_order.specs.Plans.{is_numbered, rank_after};
 ghost use Rattle.rank_order.specs.Mending.{IsNumberOver, Bears, AllBear, IsMended, grown};
@@ -103,7 +103,7 @@ fn all_bear(
 // Whether the plan's number fits at an AS of the graph, and its providers bear its change.
 fn is_mended(graph: &Graph, plan: &RankPlan, ranks: &Ranks, asn: Asn) -> bool
     ensures inside { result ≡ true → has graph.now asn ≡ true }
-    ensures mended { result ≡ true → IsMended (what graph.now) (is_numbered plan.now) (rank_at ranks.now) (rank_after ranks.now plan.now) asn }
+    ensures mended { result ≡ true → IsMended (relation graph.now) (is_numbered plan.now) (rank_at ranks.now) (rank_after ranks.now plan.now) asn }
 {
     links_are_sound();
     if !graph.has(asn) {
@@ -123,7 +123,7 @@ fn is_mended(graph: &Graph, plan: &RankPlan, ranks: &Ranks, asn: Asn) -> bool
 // Whether that holds at each AS that the plan numbers.
 fn are_mended(graph: &Graph, plan: &RankPlan, ranks: &Ranks) -> bool
     ensures inside { result ≡ true → (a : ℕ) → is_numbered plan.now a ≡ true → has graph.now a ≡ true }
-    ensures mended { result ≡ true → (a : ℕ) → is_numbered plan.now a ≡ true → IsMended (what graph.now) (is_numbered plan.now) (rank_at ranks.now) (rank_after ranks.now plan.now) a }
+    ensures mended { result ≡ true → (a : ℕ) → is_numbered plan.now a ≡ true → IsMended (relation graph.now) (is_numbered plan.now) (rank_at ranks.now) (rank_after ranks.now plan.now) a }
 {
     for at in 0..plan.ases.len() {
         if !is_mended(graph, plan, ranks, plan.ases[at]) {
@@ -150,7 +150,7 @@ fn has_all(graph: &Graph, plan: &RankPlan, ends: &[Asn]) -> bool
 pub fn holds(graph: &Graph, plan: &RankPlan, ranks: &Ranks, ends: &[Asn]) -> bool
     ensures inside { result ≡ true → (a : ℕ) → is_numbered plan.now a ≡ true → has graph.now a ≡ true }
     ensures complete { result ≡ true → (a : ℕ) → occurs a ends.now ≡ true → has graph.now a ≡ true → is_numbered plan.now a ≡ true }
-    ensures mended { result ≡ true → (a : ℕ) → is_numbered plan.now a ≡ true → IsMended (what graph.now) (is_numbered plan.now) (rank_at ranks.now) (rank_after ranks.now plan.now) a }
+    ensures mended { result ≡ true → (a : ℕ) → is_numbered plan.now a ≡ true → IsMended (relation graph.now) (is_numbered plan.now) (rank_at ranks.now) (rank_after ranks.now plan.now) a }
 {
     has_all(graph, plan, ends) && are_mended(graph, plan, ranks)
 }

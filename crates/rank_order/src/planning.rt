@@ -3,7 +3,7 @@ ghost use Rattle.std.specs.Prelude.{◌≡◌, ℕ, true, false, is_some, IfOk, 
 ghost use Rattle.std.specs.FinMap as map;
 ghost use Rattle.std.specs.List.Sorted.{IsStrictlyIncreasing};
 ghost use Rattle.net_names.specs.Numbers.{occurs};
-ghost use Rattle.as_graph.specs.Topology.{what, has};
+ghost use Rattle.as_graph.specs.Topology.{relation, has};
 ghost use Rattle.as_graph.specs.Hierarchy.{HasNoProviderCycle, RankFits, IsRank};
 ghost use Rattle.cycle_check.specs.Rankings.{numbers_of, ranks_of};
 ghost use Rattle.rank_order.specs.Ranks.{rank_at};
@@ -42,7 +42,7 @@ fn small_plan(
     ranks: &Ranks,
     ends: &[Asn],
 ) -> Result<Option<RankPlan>, AllocError>
-    requires fits { (a : ℕ) → has graph.now a ≡ true → occurs a ends.now ≡ false → RankFits (what graph.now) (rank_at ranks.now) a }
+    requires fits { (a : ℕ) → has graph.now a ≡ true → occurs a ends.now ≡ false → RankFits (relation graph.now) (rank_at ranks.now) a }
     requires only { (a : ℕ) → has graph.now a ≡ false → occurs a ends.now ≡ false → rank_at ranks.now a ≡ 0 }
     ensures { IfOk result (λ found. IfSome found (IsPlanFor graph.now ends.now ranks.now)) }
 {
@@ -76,7 +76,7 @@ fn whole_plan(
     ranks: &Ranks,
     ends: &[Asn],
 ) -> Result<RankPlan, NoMemory>
-    requires no_cycle { HasNoProviderCycle (what graph.now) }
+    requires no_cycle { HasNoProviderCycle (relation graph.now) }
     requires only { (a : ℕ) → has graph.now a ≡ false → occurs a ends.now ≡ false → rank_at ranks.now a ≡ 0 }
     ensures { IfOk result (IsPlanFor graph.now ends.now ranks.now) }
 {
@@ -91,8 +91,8 @@ fn whole_plan(
 
 // The plan for a graph: a small one if that suffices, and else the one that numbers all ASes.
 fn plan_for(alloc: Global, graph: &Graph, ranks: &Ranks, ends: &[Asn]) -> Result<RankPlan, NoMemory>
-    requires no_cycle { HasNoProviderCycle (what graph.now) }
-    requires fits { (a : ℕ) → has graph.now a ≡ true → occurs a ends.now ≡ false → RankFits (what graph.now) (rank_at ranks.now) a }
+    requires no_cycle { HasNoProviderCycle (relation graph.now) }
+    requires fits { (a : ℕ) → has graph.now a ≡ true → occurs a ends.now ≡ false → RankFits (relation graph.now) (rank_at ranks.now) a }
     requires only { (a : ℕ) → has graph.now a ≡ false → occurs a ends.now ≡ false → rank_at ranks.now a ≡ 0 }
     ensures { IfOk result (IsPlanFor graph.now ends.now ranks.now) }
 {
@@ -113,12 +113,12 @@ impl Ranks {
     /// memory. The work is that of the ends, of those above them whose ranks change, and of the
     /// neighbours of these; where ranks change again and again on the way, it is that of `build`.
     pub fn plan(&mut self, alloc: Global, graph: &Graph, ends: &[Asn]) -> Result<RankPlan, NoMemory>
-        requires no_cycle { HasNoProviderCycle (what graph.now) }
-        requires fits { (a : ℕ) → has graph.now a ≡ true → occurs a ends.now ≡ false → RankFits (what graph.now) (rank_at self.old) a }
+        requires no_cycle { HasNoProviderCycle (relation graph.now) }
+        requires fits { (a : ℕ) → has graph.now a ≡ true → occurs a ends.now ≡ false → RankFits (relation graph.now) (rank_at self.old) a }
         requires only { (a : ℕ) → has graph.now a ≡ false → occurs a ends.now ≡ false → rank_at self.old a ≡ 0 }
         ensures same { self.new.by_as ≡ self.old.by_as }
         ensures plan { IfOk result (IsLastPlan self.new) }
-        ensures ranks { IfOk result (λ p. (a : ℕ) → IsRank (what graph.now) a (rank_after self.new p a)) }
+        ensures ranks { IfOk result (λ p. (a : ℕ) → IsRank (relation graph.now) a (rank_after self.new p a)) }
         ensures ases { ((a : ℕ) → occurs a ends.now ≡ false → is_some (map.get self.old.by_as a) ≡ has graph.now a) → IfOk result (λ p. (a : ℕ) → is_some (entry_after self.new p a) ≡ has graph.now a) }
     {
         let plan = plan_for(alloc, graph, self, ends)?;

@@ -4,7 +4,7 @@ ghost use Rattle.std.proofs.Props.{props};
 ghost use Rattle.std.specs.List.Sorted.{IsStrictlyIncreasing};
 ghost use Rattle.std.specs.FinMap as map;
 ghost use Rattle.net_names.specs.Numbers.{occurs};
-ghost use Rattle.as_graph.specs.Topology.{what, has};
+ghost use Rattle.as_graph.specs.Topology.{relation, has};
 ghost use Rattle.as_graph.specs.Hierarchy.{HasNoProviderCycle, IsRank};
 ghost use Rattle.cycle_check.specs.Counting.{ArePlacesByRank};
 ghost use Rattle.cycle_check.specs.Providers.{rank_by};
@@ -62,10 +62,10 @@ impl Ranks {
     /// `ProviderCycle` comes exactly where the graph has a provider cycle (Gao and Rexford 2001), and
     /// carries one from its lowest number on; `Memory` where memory runs out.
     pub fn build(alloc: Global, graph: &Graph) -> Result<Ranks, RankError>
-        ensures ranks { IfOk result (λ r. (a : ℕ) → IsRank (what graph.now) a (rank_at r a)) }
+        ensures ranks { IfOk result (λ r. (a : ℕ) → IsRank (relation graph.now) a (rank_at r a)) }
         ensures ases { IfOk result (λ r. (a : ℕ) → is_some (map.get r.by_as a) ≡ has graph.now a) }
-        ensures no_cycle { OnOk result (HasNoProviderCycle (what graph.now)) }
-        ensures cycle { IfErr result (IsRankRefusal (what graph.now)) }
+        ensures no_cycle { OnOk result (HasNoProviderCycle (relation graph.now)) }
+        ensures cycle { IfErr result (IsRankRefusal (relation graph.now)) }
     {
         match rank_ases(alloc, graph) {
             Ok(Ranking::Ranks(ranked)) => match Ranks::keep(

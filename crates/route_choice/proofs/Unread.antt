@@ -33,8 +33,8 @@ let_through true c x y o e h = (ap (λ t. cond t (Some y) None) e, cc)
 let_through false c x y o e h = cc
 
 -- the offer that is made in other states
-restated : (sender p : Policy) → IgnoresState p → p.reads_state ≡ false → (st st' : ℕ → State) (n a : ℕ) (what : Option Rel) (held : Option Entry) (o : Offer) →
-    offer_given sender p st n a what held ≡ Some o → IsMade (offer_given sender p st' n a what held) o
+restated : (sender p : Policy) → IgnoresState p → p.reads_state ≡ false → (st st' : ℕ → State) (n a : ℕ) (relation : Option Rel) (held : Option Entry) (o : Offer) →
+    offer_given sender p st n a relation held ≡ Some o → IsMade (offer_given sender p st' n a relation held) o
 restated s p ignores unread st st' n a None held o h = cc
 restated s p ignores unread st st' n a (Some from) None o h = cc
 restated s p ignores unread st st' n a (Some from) (Some e) o h =
@@ -64,11 +64,11 @@ module _ {P : Type 0} (meaning : P → Policy) (graph : Topology) (book : Policy
 
   restated_part : (part : Part) (st st' : ℕ → State) (n : ℕ) (o : Offer) → offers_in part st n ≡ Some o → IsMade (offers_in part st' n) o
   restated_part Whole st st' n o h =
-      restated (meaning (policy_at book n)) (meaning (policy_at book a)) ignores unread st st' n a ((setting meaning graph book st).what a n) (f n) o h
+      restated (meaning (policy_at book n)) (meaning (policy_at book a)) ignores unread st st' n a ((setting meaning graph book st).relation a n) (f n) o h
   restated_part Up st st' n o h =
-      let from = of_customer ((setting meaning graph book st).what a n) (offer (setting meaning graph book st) f n a) o h in
+      let from = of_customer ((setting meaning graph book st).relation a n) (offer (setting meaning graph book st) f n a) o h in
       let made : IsMade (offer (setting meaning graph book st') f n a) o =
-      restated (meaning (policy_at book n)) (meaning (policy_at book a)) ignores unread st st' n a ((setting meaning graph book st).what a n) (f n) o from.1 in
+      restated (meaning (policy_at book n)) (meaning (policy_at book a)) ignores unread st st' n a ((setting meaning graph book st).relation a n) (f n) o from.1 in
       record { like = made.like; is = ap (λ r. if_customer r (offer (setting meaning graph book st') f n a)) from.0 ∙ made.is; state = made.state; view = made.view }
 
   none_too : (part : Part) (st st' : ℕ → State) (n : ℕ) → offers_in part st n ≡ None → offers_in part st' n ≡ None

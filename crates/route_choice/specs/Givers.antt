@@ -11,6 +11,6 @@ use Rattle.route_choice.specs.declared.choice.Part.{Part}
 use Rattle.route_choice.specs.Choices.{is_looked_at}
 
 -- The list has neighbours of the AS, each with what it is to the AS, and among them all of the part that export to it what they hold (RFC 4271, section 9.1).
-pub record AreGivers (part : Part) (what : ℕ → ℕ → Option Rel) (policy : ℕ → Policy) (f : ℕ → Option Entry) (a : ℕ) (xs : List Neighbour) : Type 0 where
-  pub each : All (λ x. what a x.asn ≡ Some x.rel) xs
-  pub complete : (n : ℕ) (r : Rel) (e : Entry) → what a n ≡ Some r → is_looked_at part r ≡ true → f n ≡ Some e → (policy n).exports e.class e.otc (converse r) ≡ true → occurs n (asns xs) ≡ true
+pub record AreGivers (part : Part) (relation : ℕ → ℕ → Option Rel) (policy : ℕ → Policy) (f : ℕ → Option Entry) (a : ℕ) (xs : List Neighbour) : Type 0 where
+  pub each : All (λ x. relation a x.asn ≡ Some x.rel) xs
+  pub complete : (n : ℕ) (r : Rel) (e : Entry) → relation a n ≡ Some r → is_looked_at part r ≡ true → f n ≡ Some e → (policy n).exports e.class e.otc (converse r) ≡ true → occurs n (asns xs) ≡ true

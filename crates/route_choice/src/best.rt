@@ -1,7 +1,7 @@
 //! The best of the offers that an AS gets, found by one pass over its neighbours.
 
 ghost use Rattle.std.specs.Prelude.{◌≡◌, ℕ, ◌<◌, true, false, None, Some, option_map, if◌then◌else◌};
-ghost use Rattle.as_graph.specs.Topology.{what};
+ghost use Rattle.as_graph.specs.Topology.{relation};
 ghost use Rattle.net_names.specs.Numbers.{occurs, last_or};
 ghost use Rattle.net_names.specs.Links.{converse};
 ghost use Rattle.path_pool.specs.Pool.{IsLive, list_of};
@@ -169,9 +169,9 @@ fn look_at<P: RoutePolicy, V: OriginStates>(
     part: Part,
     best: &mut Best,
 )
-    requires linked { what graph.now asn neighbour.now.asn ≡ Some neighbour.now.rel }
+    requires linked { relation graph.now asn neighbour.now.asn ≡ Some neighbour.now.rel }
     requires live { AreLive pool.now table.now overlay.now }
-    requires no_loops { may_loop ≡ false → HasNoLoops part (what graph.now) (λ n. P.meaning (policy_at book.now n)) (routing_of pool.now table.now overlay.now) asn }
+    requires no_loops { may_loop ≡ false → HasNoLoops part (relation graph.now) (λ n. P.meaning (policy_at book.now n)) (routing_of pool.now table.now overlay.now) asn }
     requires own { own.now ≡ policy_at book.now asn }
     ensures { best.new.view ≡ better_of (P.meaning (policy_at book.now asn)) best.old.view (option_map (λ o. o.view) (offers_of part (setting P.meaning graph.now book.now (state_seen reads (V.state_of states.now (prefix_of table.now)))) (routing_of pool.now table.now overlay.now) asn neighbour.now.asn)) }
 {
@@ -218,9 +218,9 @@ pub(crate) fn best_view<P: RoutePolicy, V: OriginStates>(
     may_loop: bool,
     part: Part,
 ) -> Best
-    requires givers { AreGivers part (what graph.now) (λ n. P.meaning (policy_at book.now n)) (routing_of pool.now table.now overlay.now) asn neighbours.now }
+    requires givers { AreGivers part (relation graph.now) (λ n. P.meaning (policy_at book.now n)) (routing_of pool.now table.now overlay.now) asn neighbours.now }
     requires live { AreLive pool.now table.now overlay.now }
-    requires no_loops { may_loop ≡ false → HasNoLoops part (what graph.now) (λ n. P.meaning (policy_at book.now n)) (routing_of pool.now table.now overlay.now) asn }
+    requires no_loops { may_loop ≡ false → HasNoLoops part (relation graph.now) (λ n. P.meaning (policy_at book.now n)) (routing_of pool.now table.now overlay.now) asn }
     ensures { IsBestView (P.meaning (policy_at book.now asn)) (λ n. offers_of part (setting P.meaning graph.now book.now (state_seen reads (V.state_of states.now (prefix_of table.now)))) (routing_of pool.now table.now overlay.now) asn n) result.view }
 {
     let own = book.policy(asn);

@@ -1,7 +1,7 @@
 //! What an AS chooses.
 
 ghost use Rattle.std.specs.Prelude.{◌≡◌, ◌+◌, false};
-ghost use Rattle.as_graph.specs.Topology.{what};
+ghost use Rattle.as_graph.specs.Topology.{relation};
 ghost use Rattle.stability_laws.specs.Book.{policy_at};
 ghost use Rattle.stability_laws.specs.World.{setting};
 ghost use Rattle.route_choice.specs.Tables.{prefix_of};
@@ -39,8 +39,8 @@ pub(crate) fn evaluate_among<P: RoutePolicy, V: OriginStates, L: Ledger>(
     steps: &mut Steps<L>,
 ) -> ChoiceNear
     requires live { AreLive pool.now table.now overlay.now }
-    requires givers { AreGivers part (what graph.now) (λ n. P.meaning (policy_at book.now n)) (routing_of pool.now table.now overlay.now) asn neighbours.now }
-    requires no_loops { may_loop ≡ false → HasNoLoops part (what graph.now) (λ n. P.meaning (policy_at book.now n)) (routing_of pool.now table.now overlay.now) asn }
+    requires givers { AreGivers part (relation graph.now) (λ n. P.meaning (policy_at book.now n)) (routing_of pool.now table.now overlay.now) asn neighbours.now }
+    requires no_loops { may_loop ≡ false → HasNoLoops part (relation graph.now) (λ n. P.meaning (policy_at book.now n)) (routing_of pool.now table.now overlay.now) asn }
     ensures choice { IsChoice (P.meaning (policy_at book.now asn)) (seeds_of pool.now seeds.now asn) (λ n. offers_of part (setting P.meaning graph.now book.now (V.state_of states.now (prefix_of table.now))) (routing_of pool.now table.now overlay.now) asn n) result.choice }
     ensures cost { steps.new ≡ steps.old + 1 }
 {
@@ -89,7 +89,7 @@ pub fn evaluate_near<P: RoutePolicy, V: OriginStates, L: Ledger>(
     steps: &mut Steps<L>,
 ) -> ChoiceNear
     requires live { AreLive pool.now table.now overlay.now }
-    requires no_loops { may_loop ≡ false → HasNoLoops part (what graph.now) (λ n. P.meaning (policy_at book.now n)) (routing_of pool.now table.now overlay.now) asn }
+    requires no_loops { may_loop ≡ false → HasNoLoops part (relation graph.now) (λ n. P.meaning (policy_at book.now n)) (routing_of pool.now table.now overlay.now) asn }
     ensures choice { IsChoice (P.meaning (policy_at book.now asn)) (seeds_of pool.now seeds.now asn) (λ n. offers_of part (setting P.meaning graph.now book.now (V.state_of states.now (prefix_of table.now))) (routing_of pool.now table.now overlay.now) asn n) result.choice }
     ensures cost { steps.new ≡ steps.old + 1 }
 {

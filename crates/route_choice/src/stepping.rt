@@ -2,7 +2,7 @@
 
 ghost use Rattle.std.specs.Prelude.{◌≡◌, ◌≢◌, ◌↔◌, ℕ, suc, ◌+◌, ◌<◌, IsTrue, IsSome, false};
 ghost use Rattle.path_pool.specs.Pool.{live_count};
-ghost use Rattle.as_graph.specs.Topology.{what};
+ghost use Rattle.as_graph.specs.Topology.{relation};
 ghost use Rattle.stability_laws.specs.Book.{policy_at};
 ghost use Rattle.stability_laws.specs.World.{setting};
 ghost use Rattle.route_choice.specs.Tables.{prefix_of, change_at};
@@ -41,7 +41,7 @@ pub fn visit<P: RoutePolicy, V: OriginStates, L: Ledger>(
     steps: &mut Steps<L>,
 ) -> bool
     requires can { CanStep pool.old seeds.now table.now overlay.old 1 }
-    requires no_loops { may_loop ≡ false → HasNoLoops part (what graph.now) (λ n. P.meaning (policy_at book.now n)) (routing_of pool.old table.now overlay.old) asn }
+    requires no_loops { may_loop ≡ false → HasNoLoops part (relation graph.now) (λ n. P.meaning (policy_at book.now n)) (routing_of pool.old table.now overlay.old) asn }
     ensures cost { steps.new ≡ steps.old + 1 }
     ensures step { IsStepOf part (setting P.meaning graph.now book.now (V.state_of states.now (prefix_of table.now))) (seeds_of pool.old seeds.now) (routing_of pool.old table.now overlay.old) asn (routing_of pool.new table.now overlay.new) }
     ensures changed { IsTrue result ↔ (routing_of pool.new table.now overlay.new asn ≢ routing_of pool.old table.now overlay.old asn) }
@@ -80,8 +80,8 @@ pub fn visit_among<P: RoutePolicy, V: OriginStates, L: Ledger>(
     steps: &mut Steps<L>,
 ) -> bool
     requires can { CanStep pool.old seeds.now table.now overlay.old 1 }
-    requires givers { AreGivers part (what graph.now) (λ n. P.meaning (policy_at book.now n)) (routing_of pool.old table.now overlay.old) asn neighbours.now }
-    requires no_loops { may_loop ≡ false → HasNoLoops part (what graph.now) (λ n. P.meaning (policy_at book.now n)) (routing_of pool.old table.now overlay.old) asn }
+    requires givers { AreGivers part (relation graph.now) (λ n. P.meaning (policy_at book.now n)) (routing_of pool.old table.now overlay.old) asn neighbours.now }
+    requires no_loops { may_loop ≡ false → HasNoLoops part (relation graph.now) (λ n. P.meaning (policy_at book.now n)) (routing_of pool.old table.now overlay.old) asn }
     ensures cost { steps.new ≡ steps.old + 1 }
     ensures step { IsStepOf part (setting P.meaning graph.now book.now (V.state_of states.now (prefix_of table.now))) (seeds_of pool.old seeds.now) (routing_of pool.old table.now overlay.old) asn (routing_of pool.new table.now overlay.new) }
     ensures changed { IsTrue result ↔ (routing_of pool.new table.now overlay.new asn ≢ routing_of pool.old table.now overlay.old asn) }

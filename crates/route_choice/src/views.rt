@@ -1,7 +1,7 @@
 //! What an AS would see of an offer, before its path is walked.
 
 ghost use Rattle.std.specs.Prelude.{◌≡◌, ℕ, Option, Some, None, option_map, if◌then◌else◌};
-ghost use Rattle.as_graph.specs.Topology.{Topology, what};
+ghost use Rattle.as_graph.specs.Topology.{Topology, relation};
 ghost use Rattle.path_pool.specs.Pool.{IsLive};
 ghost use Rattle.stability_laws.specs.declared.entry.Entry.{Entry as AnEntry};
 ghost use Rattle.stability_laws.specs.Offers.{offer};
@@ -31,7 +31,7 @@ pub fn view_but_for_loops<P: RoutePolicy, V: OriginStates>(
     given: Option<Held>,
 ) -> Option<View>
     requires live { (h : AHeld) → given ≡ Some h → IsLive pool.now h.path.0 }
-    ensures { (w : Topology) (f : ℕ → Option AnEntry) → what w receiver giver ≡ Some rel → f giver ≡ option_map (entry_of pool.now) given
+    ensures { (w : Topology) (f : ℕ → Option AnEntry) → relation w receiver giver ≡ Some rel → f giver ≡ option_map (entry_of pool.now) given
         → option_map (λ o. o.view) (offer (setting P.meaning w book.now (V.state_of states.now prefix)) f giver receiver) ≡ (if goes_through (f giver) receiver then None else result) }
 {
     let held = given?;

@@ -5,7 +5,7 @@ use Rattle.std.specs.FinMap as fin
 use Rattle.std.specs.FinSet as set
 use Rattle.net_names.specs.Addresses.{AddrValue}
 use Rattle.as_graph.specs.Hierarchy.{HasNoProviderCycle, IsProviderCycle}
-use Rattle.as_graph.specs.Topology.{as_count, what}
+use Rattle.as_graph.specs.Topology.{as_count, relation}
 use Rattle.roa_table.specs.Sets.{count}
 use Rattle.leak_round.specs.Changes.{HasChanges}
 use Rattle.leak_round.specs.Rounds.{kept as kept_rounds, plan_of, round_count}
@@ -120,10 +120,10 @@ no_limit w links announcements ases payloads =
 pub small_world : (s : Sim) → IsSmall s.graph s.vrps → passed_limit (world_seen s) ≡ None
 small_world s small = no_limit (world_seen s) small.links s.small.announcements (subst (λ n. n ≤ 150000) (seen_count s) small.ases) small.payloads_in
 
-pub allowed_by : (w after : World) (e : Edit) → after ≡ edited w e → absent w e ≡ None → passed_limit after ≡ None → HasNoProviderCycle (what (topology after)) → IsAllowed w e
+pub allowed_by : (w after : World) (e : Edit) → after ≡ edited w e → absent w e ≡ None → passed_limit after ≡ None → HasNoProviderCycle (relation (topology after)) → IsAllowed w e
 allowed_by w after e world there small none = record {
   accepted = rw there (ap (option_map refused.Limit) (ap passed_limit (sym world) ∙ small));
-  no_cycle = λ cycle. none cycle.0 (subst (λ (x : World). IsProviderCycle (what (topology x)) cycle.0) (sym world) cycle.1);
+  no_cycle = λ cycle. none cycle.0 (subst (λ (x : World). IsProviderCycle (relation (topology x)) cycle.0) (sym world) cycle.1);
 }
 
 -- what was kept before an edit was begun belongs to the ground before it

@@ -5,7 +5,7 @@ use Rattle.std.proofs.lemmas.Bool.{eq-eqb, eqb-true, true≢false}
 use Rattle.std.specs.FinMap as fin
 use Rattle.std.specs.FinSet as set
 use Rattle.as_graph.specs.Hierarchy.{HasNoProviderCycle}
-use Rattle.as_graph.specs.Topology.{as_count, what, with_mark}
+use Rattle.as_graph.specs.Topology.{as_count, relation, with_mark}
 use Rattle.policy_kinds.specs.declared.kind.Kind.{Kind}
 use Rattle.policy_kinds.specs.declared.kind.Kind.TheVariants.{Plain}
 use Rattle.stability_laws.specs.Book.{policy_at}
@@ -112,7 +112,7 @@ same_or false false = inl refl
 
 -- only the AS differs, and where it begins or ceases to mark its neighbours are touched too
 pub policy_differs : LinksAreSound → (old mid new : Sim) (a : ℕ) (k : Kind) (touched : PrefixValue → ℕ → Bool) → IsRoomed old mid a → IsGiven mid new a k → ((prefix : PrefixValue) → IsTrue (has_prefix (plan_of old.rounds) prefix) → touched prefix a ≡ true)
-    → ((prefix : PrefixValue) (n : ℕ) (r : Rel) → IsTrue (has_prefix (plan_of old.rounds) prefix) → (kind_policy k).marks ≢ (kind_policy (policy_at old.book a)).marks → what old.graph a n ≡ Some r → touched prefix n ≡ true) → DiffersAround (ground_of old) (ground_of new) new.rounds (a ∷ []) touched
+    → ((prefix : PrefixValue) (n : ℕ) (r : Rel) → IsTrue (has_prefix (plan_of old.rounds) prefix) → (kind_policy k).marks ≢ (kind_policy (policy_at old.book a)).marks → relation old.graph a n ≡ Some r → touched prefix n ≡ true) → DiffersAround (ground_of old) (ground_of new) new.rounds (a ∷ []) touched
 policy_differs sound old mid new a k touched roomed given own around = record {
   presence = λ x free. given.others x (apart_one a x free) ∙ has_by old.graph mid.graph roomed.links roomed.marked x;
   links = λ x n free. same_links x n;
@@ -125,8 +125,8 @@ policy_differs sound old mid new a k touched roomed given own around = record {
     before : (prefix : PrefixValue) → IsTrue (has_prefix (plan_of new.rounds) prefix) → IsTrue (has_prefix (plan_of old.rounds) prefix)
     before prefix known = ap (λ (r : Rounds). has_prefix (plan_of r) prefix) (sym (begun_rest old mid new a k roomed given).rounds) ∙ known
 
-    same_links : (x n : ℕ) → what new.graph x n ≡ what old.graph x n
-    same_links x n = ap (λ (l : LinkMap). what (graph_of l new.graph.marked) x n) (given.links ∙ roomed.links)
+    same_links : (x n : ℕ) → relation new.graph x n ≡ relation old.graph x n
+    same_links x n = ap (λ (l : LinkMap). relation (graph_of l new.graph.marked) x n) (given.links ∙ roomed.links)
 
     end_is : (x : ℕ) → occurs x (a ∷ []) ≡ true → a ≡ x
     end_is x end = by (a == x) refl end
@@ -154,7 +154,7 @@ policy_differs sound old mid new a k touched roomed given own around = record {
         let get : fin.get new.book.named a ≡ cond (is_other (a, k)) (Some k) None = ap (λ m. fin.get m a) kinds ∙ get_with old.book.named a k a ∙ ap (λ t. cond t (cond (is_other (a, k)) (Some k) None) (fin.get old.book.named a)) on in
         (λ i. unwrap_or (get i) (new.plain i)) ∙ kind_is a k
 
-    marks_at : (prefix : PrefixValue) (x n : ℕ) (r : Rel) → IsTrue (has_prefix (plan_of new.rounds) prefix) → touched prefix x ≡ false → what new.graph x n ≡ Some r → (t : Bool) → (a == n) ≡ t → (kind_policy (policy_at new.book n)).marks ≡ (kind_policy (policy_at old.book n)).marks
+    marks_at : (prefix : PrefixValue) (x n : ℕ) (r : Rel) → IsTrue (has_prefix (plan_of new.rounds) prefix) → touched prefix x ≡ false → relation new.graph x n ≡ Some r → (t : Bool) → (a == n) ≡ t → (kind_policy (policy_at new.book n)).marks ≡ (kind_policy (policy_at old.book n)).marks
     marks_at prefix x n r known free at false off = ap (λ j. (kind_policy j).marks) (same_policy n (λ e. true≢false (sym (eq-eqb a n (sym e)) ∙ off)))
     marks_at prefix x n r known free at true on =
         let here : a ≡ n = eqb-true a n on in
@@ -162,15 +162,15 @@ policy_differs sound old mid new a k touched roomed given own around = record {
         (ap (λ j. (kind_policy j).marks) own_policy ∙ elim (same_or (kind_policy k).marks (kind_policy (policy_at old.book a)).marks) [
           | inl same ↦ same
           | inr differ ↦ (
-              let link : what old.graph x a ≡ Some r = subst (λ m. what old.graph x m ≡ Some r) (sym here) (sym (same_links x n) ∙ at) in
-              let back : what old.graph a x ≡ Some (converse r) = sound.alike old.graph x a ∙ ap (option_map converse) link in
+              let link : relation old.graph x a ≡ Some r = subst (λ m. relation old.graph x m ≡ Some r) (sym here) (sym (same_links x n) ∙ at) in
+              let back : relation old.graph a x ≡ Some (converse r) = sound.alike old.graph x a ∙ ap (option_map converse) link in
               absurd (true≢false (sym (around prefix x (converse r) (before prefix known) differ back) ∙ free)))
         ])
 
-pub given_no_cycle : (old mid new : Sim) (a : ℕ) (k : Kind) → IsRoomed old mid a → IsGiven mid new a k → (HasCycle (world_seen old) → ⊥) → HasNoProviderCycle (what new.graph)
-given_no_cycle old mid new a k roomed given none = subst (λ (l : LinkMap). HasNoProviderCycle (what (graph_of l new.graph.marked))) (sym (given.links ∙ roomed.links)) (λ xs is. none (xs, is))
+pub given_no_cycle : (old mid new : Sim) (a : ℕ) (k : Kind) → IsRoomed old mid a → IsGiven mid new a k → (HasCycle (world_seen old) → ⊥) → HasNoProviderCycle (relation new.graph)
+given_no_cycle old mid new a k roomed given none = subst (λ (l : LinkMap). HasNoProviderCycle (relation (graph_of l new.graph.marked))) (sym (given.links ∙ roomed.links)) (λ xs is. none (xs, is))
 
-pub touched_policy : (s : Sim) (a : ℕ) (k : Kind) (p : PrefixValue) (x : ℕ) → (x ≡ a) ⊎ (((kind_policy k).marks ≢ (kind_policy (policy_at s.book a)).marks) × (r : Rel) × (what s.graph a x ≡ Some r)) → IsTouched (world_seen s) (Policy a k) p x
+pub touched_policy : (s : Sim) (a : ℕ) (k : Kind) (p : PrefixValue) (x : ℕ) → (x ≡ a) ⊎ (((kind_policy k).marks ≢ (kind_policy (policy_at s.book a)).marks) × (r : Rel) × (relation s.graph a x ≡ Some r)) → IsTouched (world_seen s) (Policy a k) p x
 touched_policy s a k p x (inl same) = inl same
 touched_policy s a k p x (inr (differ, r, link)) = inr ((λ e. differ (e ∙ ap (λ j. (kind_policy j).marks) (ap (unwrap_or (fin.get s.book.named a)) (sym s.plain)))), r, link)
 

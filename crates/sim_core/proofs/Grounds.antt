@@ -15,7 +15,7 @@ use Rattle.net_names.specs.declared.routes.Rel.{Rel}
 use Rattle.net_names.specs.declared.routes.Rel.TheVariants.{Customer}
 use Rattle.as_graph.specs.Edits.{LinksAreSound}
 use Rattle.as_graph.specs.Hierarchy.{HasNoProviderCycle, RankFits, RanksFit}
-use Rattle.as_graph.specs.Topology.{Topology, has, what}
+use Rattle.as_graph.specs.Topology.{Topology, has, relation}
 use Rattle.origin_validation.specs.Judging.{state_of}
 use Rattle.path_pool.specs.declared.pool.PathPool.{PathPool}
 use Rattle.policy_kinds.specs.Kinds.{kind_policy, label, is_customer, is_own_or_customers}
@@ -74,7 +74,7 @@ pub same_exports : (k j : Kind) → (kind_policy k).marks ≡ (kind_policy j).ma
 same_exports k j same = λ i held otc to. is_customer to || (is_own_or_customers held && not (same i && is_some otc))
 
 -- who has a customer is an AS of the graph
-pub seller : LinksAreSound → (g : Topology) (a b : ℕ) (r : Rel) → what g a b ≡ Some r → has g a ≡ true
+pub seller : LinksAreSound → (g : Topology) (a b : ℕ) (r : Rel) → relation g a b ≡ Some r → has g a ≡ true
 seller sound g a b r is = sound.ends g b a (converse r) (sound.alike g a b ∙ ap (option_map converse) is)
 
 -- an offer is the same where the state of its path's last number is
@@ -98,10 +98,10 @@ module _ (old new : Ground) (ranks : KeptRanks) (rounds : Rounds) (watches : Lis
       by true is = elim (d.at_ends prefix a known is) [ inl there ↦ absurd (true≢false (sym there ∙ free)) | inr right ↦ inr right ]
 
   -- the ranks fit but at the ends
-  pub still_fits : RanksFit → (a : ℕ) → has new.graph a ≡ true → occurs a ends ≡ false → RankFits (what new.graph) (rank_at ranks) a
+  pub still_fits : RanksFit → (a : ℕ) → has new.graph a ≡ true → occurs a ends ≡ false → RankFits (relation new.graph) (rank_at ranks) a
   still_fits fit a there other =
       let f = fit old.graph (rank_at ranks) belong.no_cycle belong.ranks_are a in
-      subst (λ (g : ℕ → Option Rel). ((b : ℕ) → g b ≡ Some Customer → suc (rank_at ranks b) ≤ rank_at ranks a) × ((rank_at ranks a ≡ 0) ⊎ ((b : ℕ) × (g b ≡ Some Customer) × (rank_at ranks a ≡ suc (rank_at ranks b)))) → RankFits (what new.graph) (rank_at ranks) a)
+      subst (λ (g : ℕ → Option Rel). ((b : ℕ) → g b ≡ Some Customer → suc (rank_at ranks b) ≤ rank_at ranks a) × ((rank_at ranks a ≡ 0) ⊎ ((b : ℕ) × (g b ≡ Some Customer) × (rank_at ranks a ≡ suc (rank_at ranks b)))) → RankFits (relation new.graph) (rank_at ranks) a)
       (λ i b. d.links a b other i) (λ p. record { above = p.0; reached = p.1 }) (f.above, f.reached)
 
   -- who is no AS has rank 0
@@ -151,7 +151,7 @@ module _ (old new : Ground) (ranks : KeptRanks) (rounds : Rounds) (watches : Lis
           let seeds = seeds_of (plan_of rounds) (suc before) prefix (kept_rounds rounds before prefix) in
           let f = kept_rounds rounds (suc before) prefix in
           by_offers new.graph new.graph new.book new.book (state_of old.payloads prefix) (state_of new.payloads prefix) seeds seeds f f b refl refl refl
-          (λ n. same_state_offer (policy_on new n) (policy_on new b) (state_of old.payloads prefix) (state_of new.payloads prefix) n b (what new.graph b n) (f n)
+          (λ n. same_state_offer (policy_on new n) (policy_on new b) (state_of old.payloads prefix) (state_of new.payloads prefix) n b (relation new.graph b n) (f n)
           (λ e at. sym (same (last_or 0 e.path) (ends_announced paths goes old.graph old.book (λ p. state_of old.payloads p) (plan_of rounds) (round_count rounds) (kept_rounds rounds) sound belong.rounds_are.stable prefix known before less n e at))))
           (right_before law before prefix b less known there free other (state_of old.payloads prefix) (inr (λ origin. refl))))
     ]
@@ -212,7 +212,7 @@ module _ (old new : Ground) (was : Rounds) (plan other : Plan) (count : ℕ) (he
         groups = record {
           presence = λ a apart. rows.listed a ∙ sym (d.presence a apart);
           stub = λ a r apart row.
-              subst (λ (f : ℕ → Option Rel). IsTrue r.stub ↔ ((b : ℕ) → f b ≢ Some Customer)) (ap (what old.graph) row.asn ∙ (λ i b. sym (d.links a b apart) i)) (rows.right row.place r row.there).stub;
+              subst (λ (f : ℕ → Option Rel). IsTrue r.stub ↔ ((b : ℕ) → f b ≢ Some Customer)) (ap (relation old.graph) row.asn ∙ (λ i b. sym (d.links a b apart) i)) (rows.right row.place r row.there).stub;
           group = λ a r apart row. (rows.right row.place r row.there).group ∙ ap (λ x. label (policy_at old.book x)) row.asn ∙ ap label (sym (d.policies a apart));
         };
       }
@@ -220,7 +220,7 @@ module _ (old new : Ground) (was : Rounds) (plan other : Plan) (count : ℕ) (he
 -- ---- what belongs to the edited world
 
 -- the rounds are the only stable ones
-pub only_rounds : OneFamily kind_policy → (g : Ground) (rounds : Rounds) → HasNoProviderCycle (what g.graph) → AreRounds (λ p. setting kind_policy g.graph g.book (state_of g.payloads p)) (plan_of rounds) (round_count rounds) (kept_rounds rounds) → AreRoundsOf g.graph g.payloads g.book (plan_of rounds) (round_count rounds) rounds
+pub only_rounds : OneFamily kind_policy → (g : Ground) (rounds : Rounds) → HasNoProviderCycle (relation g.graph) → AreRounds (λ p. setting kind_policy g.graph g.book (state_of g.payloads p)) (plan_of rounds) (round_count rounds) (kept_rounds rounds) → AreRoundsOf g.graph g.payloads g.book (plan_of rounds) (round_count rounds) rounds
 only_rounds law g rounds none stable = record {
   plan_is = refl;
   count_is = refl;
@@ -282,11 +282,11 @@ quick_by old now links other e first last T graph map few =
     coe 0 1 (i. AreFewSteps (graph i) (plan_of old.rounds) (plan_of now) (kept_rounds old.rounds) (kept_rounds now) (IsTouched (world_seen old) e) (round_count old.rounds) first last)
     (steps_map links (plan_of old.rounds) (plan_of now) (kept_rounds old.rounds) (kept_rounds now) T (IsTouched (world_seen old) e) (round_count old.rounds) first last map few)
 
-pub quick_done : (old mid new : Sim) (e : Edit) (touched : PrefixValue → ℕ → Bool) (first last : ℕ) → AreFewSteps (what mid.graph) (plan_of mid.rounds) (plan_of new.rounds) (kept_rounds mid.rounds) (kept_rounds new.rounds) (λ p a. touched p a ≡ true) (round_count mid.rounds) first last
+pub quick_done : (old mid new : Sim) (e : Edit) (touched : PrefixValue → ℕ → Bool) (first last : ℕ) → AreFewSteps (relation mid.graph) (plan_of mid.rounds) (plan_of new.rounds) (kept_rounds mid.rounds) (kept_rounds new.rounds) (λ p a. touched p a ≡ true) (round_count mid.rounds) first last
     → mid.rounds ≡ old.rounds → new.graph ≡ mid.graph → ((p : PrefixValue) (a : ℕ) → touched p a ≡ true → IsTouched (world_seen old) e p a) → IsQuick (world_seen old) (world_seen new) e (kept old).routings (kept new).routings first last
 quick_done old mid new e touched first last few rounds graph only =
-    quick_by old new.rounds (what mid.graph) (what (topology (world_seen new))) e first last (λ p a. touched p a ≡ true) (ap what (sym graph)) (λ x c there. record { from = c.from; to = c.to; known = c.known; counts = inl (only x.1.0 x.1.1 there) })
-    (coe 0 1 (i. AreFewSteps (what mid.graph) (plan_of (rounds i)) (plan_of new.rounds) (kept_rounds (rounds i)) (kept_rounds new.rounds) (λ p a. touched p a ≡ true) (round_count (rounds i)) first last) few)
+    quick_by old new.rounds (relation mid.graph) (relation (topology (world_seen new))) e first last (λ p a. touched p a ≡ true) (ap relation (sym graph)) (λ x c there. record { from = c.from; to = c.to; known = c.known; counts = inl (only x.1.0 x.1.1 there) })
+    (coe 0 1 (i. AreFewSteps (relation mid.graph) (plan_of (rounds i)) (plan_of new.rounds) (kept_rounds (rounds i)) (kept_rounds new.rounds) (λ p a. touched p a ≡ true) (round_count (rounds i)) first last) few)
 
 -- the same edit
 pub quick_is : (w after : World) (old new : Family) (first last : ℕ) (d e : Edit) (r : Result Changed EditError) → e ≡ d → OnOk r (IsQuick w after d old new first last) → OnOk r (IsQuick w after e old new first last)

@@ -17,7 +17,7 @@ use Rattle.as_graph.specs.declared.error.GraphError.TheVariants as graph_error
 use Rattle.as_graph.specs.Edits.{AsesAreKept, EditsAreUndone, LinksAreSet, LinksAreSound, LinksAreTaken, with_link, without_link}
 use Rattle.as_graph.specs.Hierarchy.{HasNoProviderCycle, IsProviderCycle}
 use Rattle.as_graph.specs.Refusals.{IsLinkRefusal}
-use Rattle.as_graph.specs.Topology.{Topology, as_count, has, what}
+use Rattle.as_graph.specs.Topology.{Topology, as_count, has, relation}
 use Rattle.net_names.specs.Prefixes.{PrefixValue}
 use Rattle.origin_validation.specs.Judging.{state_of}
 use Rattle.policy_kinds.specs.Kinds.{kind_policy}
@@ -76,7 +76,7 @@ of_map None h = refl
 of_map (Some r) h = cc
 
 -- a new link is one more
-pub len_new : (g : Topology) (a b : ℕ) (r : Rel) → a ≢ b → what g a b ≡ None → fin.len (with_link g a b r).links ≡ fin.len g.links + 1
+pub len_new : (g : Topology) (a b : ℕ) (r : Rel) → a ≢ b → relation g a b ≡ None → fin.len (with_link g a b r).links ≡ fin.len g.links + 1
 len_new g a b r apart none = elim (cases_Bool (nat_lt a b)) [
   | inl less ↦ ap fin.len (ap (λ t. cond t (fin.insert g.links (a, b) r) (fin.insert g.links (b, a) (converse r))) less) ∙ one (a, b) r (sym (ap (λ t. cond t (fin.get g.links (a, b)) (cond (nat_lt b a) (option_map converse (fin.get g.links (b, a))) None)) less) ∙ none)
   | inr more ↦ (let above : nat_lt b a ≡ true = over_apart a b apart more in
@@ -93,12 +93,12 @@ len_new g a b r apart none = elim (cases_Bool (nat_lt a b)) [
 pub seen_linked : (s : Sim) (a b : ℕ) (r : Rel) → as_count (with_link s.graph a b r) ≡ as_count (topology (edited (world_seen s) (Link a b r)))
 seen_linked s a b r = ap (λ (g : Topology). as_count (with_link g a b r)) s.named
 
-pub too_many_links : (s : Sim) (a b : ℕ) (r : Rel) → a ≢ b → what s.graph a b ≡ None → 1500000 ≤ fin.len s.graph.links → refusal_of_edit (world_seen s) (Link a b r) ≡ Some (refused.Limit Links)
+pub too_many_links : (s : Sim) (a b : ℕ) (r : Rel) → a ≢ b → relation s.graph a b ≡ None → 1500000 ≤ fin.len s.graph.links → refusal_of_edit (world_seen s) (Link a b r) ≡ Some (refused.Limit Links)
 too_many_links s a b r apart none many =
     let more : 1500000 < fin.len (edited (world_seen s) (Link a b r)).links = omega (arith, len_new s.graph a b r apart none, many) in
     rw (over (fin.len (edited (world_seen s) (Link a b r)).links) 1500000 more) refl
 
-pub too_many_ases : (s : Sim) (a b : ℕ) (r : Rel) → a ≢ b → what s.graph a b ≡ None → fin.len s.graph.links < 1500000 → 150000 < as_count (with_link s.graph a b r) → refusal_of_edit (world_seen s) (Link a b r) ≡ Some (refused.Limit Ases)
+pub too_many_ases : (s : Sim) (a b : ℕ) (r : Rel) → a ≢ b → relation s.graph a b ≡ None → fin.len s.graph.links < 1500000 → 150000 < as_count (with_link s.graph a b r) → refusal_of_edit (world_seen s) (Link a b r) ≡ Some (refused.Limit Ases)
 too_many_ases s a b r apart none few many =
     let links : fin.len (edited (world_seen s) (Link a b r)).links ≤ 1500000 = omega (arith, len_new s.graph a b r apart none, few) in
     let ases : 150000 < as_count (topology (edited (world_seen s) (Link a b r))) = subst (λ n. 150000 < n) (seen_linked s a b r) many in
@@ -107,13 +107,13 @@ too_many_ases s a b r apart none few many =
 -- ---- undoing
 
 -- nothing but the links is looked at
-pub back_linked : EditsAreUndone → (g : Topology) (a b : ℕ) (r : Rel) → a ≢ b → (mid : Topology) → mid.links ≡ (with_link g a b r).links → (o : Option Rel) → what g a b ≡ o → links_with mid a b o ≡ g.links
+pub back_linked : EditsAreUndone → (g : Topology) (a b : ℕ) (r : Rel) → a ≢ b → (mid : Topology) → mid.links ≡ (with_link g a b r).links → (o : Option Rel) → relation g a b ≡ o → links_with mid a b o ≡ g.links
 back_linked undone g a b r apart mid are None is =
     ap (λ (l : LinkMap). (without_link (graph_of l mid.marked) a b).links) are ∙ ap (λ (t : Topology). t.links) (undone.new_link g a b r apart is)
 back_linked undone g a b r apart mid are (Some s) is =
     ap (λ (l : LinkMap). (with_link (graph_of l mid.marked) a b s).links) are ∙ ap (λ (t : Topology). t.links) (undone.other_link g a b r s apart is)
 
-pub back_cut : EditsAreUndone → (g : Topology) (a b : ℕ) (r : Rel) → a ≢ b → (mid : Topology) → mid.links ≡ (without_link g a b).links → what g a b ≡ Some r → links_with mid a b (Some r) ≡ g.links
+pub back_cut : EditsAreUndone → (g : Topology) (a b : ℕ) (r : Rel) → a ≢ b → (mid : Topology) → mid.links ≡ (without_link g a b).links → relation g a b ≡ Some r → links_with mid a b (Some r) ≡ g.links
 back_cut undone g a b r apart mid are is =
     ap (λ (l : LinkMap). (with_link (graph_of l mid.marked) a b r).links) are ∙ ap (λ (t : Topology). t.links) (undone.lost_link g a b r apart is)
 
@@ -127,19 +127,19 @@ links_undone old mid same new a b links back first alike second is =
     (links_world same new a b back second ∙ (λ i. record (world_seen same) { links = is i }) ∙ ap (λ (w : World). record w { links = old.graph.links }) (unchanged_world mid same alike) ∙ ap (λ (w : World). record w { links = old.graph.links }) (links_world old mid a b links first))
 
 -- a pair with a link takes another one
-pub fits_linked : (g : Topology) (a b : ℕ) (r : Rel) → what g a b ≡ Some r → (s : Rel) (e : GraphError) → IsLinkRefusal g a b s e → ⊥
+pub fits_linked : (g : Topology) (a b : ℕ) (r : Rel) → relation g a b ≡ Some r → (s : Rel) (e : GraphError) → IsLinkRefusal g a b s e → ⊥
 fits_linked g a b r is s graph_error.Memory h = (let e : None ≡ Some r = sym h.0 ∙ is in cc)
 fits_linked g a b r is s graph_error.TooManyLinks h = (let e : None ≡ Some r = sym h.0 ∙ is in cc)
 fits_linked g a b r is s graph_error.TooManyAses h = (let e : None ≡ Some r = sym h.0 ∙ is in cc)
 
-pub fits_any : (g : Topology) (a b : ℕ) (r : Rel) → what g a b ≡ Some r → (o : Option Rel) → IfSome o (λ s. (e : GraphError) → IsLinkRefusal g a b s e → ⊥)
+pub fits_any : (g : Topology) (a b : ℕ) (r : Rel) → relation g a b ≡ Some r → (o : Option Rel) → IfSome o (λ s. (e : GraphError) → IsLinkRefusal g a b s e → ⊥)
 fits_any g a b r is None = tt
 fits_any g a b r is (Some s) = fits_linked g a b r is s
 
 -- ---- a new link
 
 -- a link that is not kept is refused
-pub link_stopped : (w : World) (graph : Topology) (a b : ℕ) (r : Rel) (e : EditError) → refusal_of_edit w (Link a b r) ≡ None → what graph ≡ what (topology (edited w (Link a b r))) → IsLinkStop graph a b r e → IsEditRefusal w (Link a b r) e
+pub link_stopped : (w : World) (graph : Topology) (a b : ℕ) (r : Rel) (e : EditError) → refusal_of_edit w (Link a b r) ≡ None → relation graph ≡ relation (topology (edited w (Link a b r))) → IsLinkStop graph a b r e → IsEditRefusal w (Link a b r) e
 link_stopped w graph a b r refused.Memory none same h = tt
 link_stopped w graph a b r (refused.AbsentLink lo hi) none same h = absurd h
 link_stopped w graph a b r (refused.AbsentVrp vrp) none same h = absurd h
@@ -164,9 +164,9 @@ apart_pair a b x free =
     ((λ e. true≢false (sym (eq-eqb a x (sym e)) ∙ off.0)), (λ e. true≢false (sym (eq-eqb b x (sym e)) ∙ off.1)))
 
 -- an edit of a pair's link changes nothing at other ASes
-pair_links : LinksAreSet → LinksAreTaken → (g : Topology) (a b : ℕ) (o : Option Rel) → a ≢ b → (x n : ℕ) → x ≢ a → x ≢ b → (links : LinkMap) → links ≡ links_with g a b o → what (graph_of links g.marked) x n ≡ what g x n
-pair_links setting taken g a b None apart x n not_a not_b links is = ap (λ (l : LinkMap). what (graph_of l g.marked) x n) is ∙ taken.others g a b x n (λ p. not_a p.0) (λ p. not_b p.0)
-pair_links setting taken g a b (Some r) apart x n not_a not_b links is = ap (λ (l : LinkMap). what (graph_of l g.marked) x n) is ∙ setting.others g a b r x n apart (λ p. not_a p.0) (λ p. not_b p.0)
+pair_links : LinksAreSet → LinksAreTaken → (g : Topology) (a b : ℕ) (o : Option Rel) → a ≢ b → (x n : ℕ) → x ≢ a → x ≢ b → (links : LinkMap) → links ≡ links_with g a b o → relation (graph_of links g.marked) x n ≡ relation g x n
+pair_links setting taken g a b None apart x n not_a not_b links is = ap (λ (l : LinkMap). relation (graph_of l g.marked) x n) is ∙ taken.others g a b x n (λ p. not_a p.0) (λ p. not_b p.0)
+pair_links setting taken g a b (Some r) apart x n not_a not_b links is = ap (λ (l : LinkMap). relation (graph_of l g.marked) x n) is ∙ setting.others g a b r x n apart (λ p. not_a p.0) (λ p. not_b p.0)
 
 pair_ases : AsesAreKept → (g : Topology) (a b : ℕ) (o : Option Rel) (x : ℕ) → x ≢ a → x ≢ b → (links : LinkMap) → links ≡ links_with g a b o → has (graph_of links g.marked) x ≡ has g x
 pair_ases ases g a b None x not_a not_b links is = ap (λ (l : LinkMap). has (graph_of l g.marked) x) is ∙ ases.other_ends g a b x not_a not_b
@@ -193,7 +193,7 @@ link_differs setting taken ases old mid a b o touched apart h touches = record {
 }
 
 -- without its link the pair takes it again
-pub fits_cut : EditsAreUndone → (old mid : Sim) (a b : ℕ) → a ≢ b → HasLinks old mid a b (links_with old.graph a b None) → what mid.graph a b ≡ None → IsSmall old.graph old.vrps → (r : Rel) → what old.graph a b ≡ Some r → (e : GraphError) → IsLinkRefusal mid.graph a b r e → ⊥
+pub fits_cut : EditsAreUndone → (old mid : Sim) (a b : ℕ) → a ≢ b → HasLinks old mid a b (links_with old.graph a b None) → relation mid.graph a b ≡ None → IsSmall old.graph old.vrps → (r : Rel) → relation old.graph a b ≡ Some r → (e : GraphError) → IsLinkRefusal mid.graph a b r e → ⊥
 fits_cut undone old mid a b apart h none small r is graph_error.Memory refusal = true≢false (sym h.room ∙ refusal.1)
 fits_cut undone old mid a b apart h none small r is graph_error.TooManyLinks refusal =
     let back = ap fin.len (back_cut undone old.graph a b r apart mid.graph h.are is) in
@@ -205,16 +205,16 @@ fits_cut undone old mid a b apart h none small r is graph_error.TooManyAses refu
     let many : 150000 < as_count (with_link mid.graph a b r) = refusal.2 in
     omega (arith, same, many, small.ases)
 
-pub fits_back : EditsAreUndone → (old mid : Sim) (a b : ℕ) → a ≢ b → HasLinks old mid a b (links_with old.graph a b None) → what mid.graph a b ≡ None → IsSmall old.graph old.vrps → (o : Option Rel) → what old.graph a b ≡ o → IfSome o (λ r. (e : GraphError) → IsLinkRefusal mid.graph a b r e → ⊥)
+pub fits_back : EditsAreUndone → (old mid : Sim) (a b : ℕ) → a ≢ b → HasLinks old mid a b (links_with old.graph a b None) → relation mid.graph a b ≡ None → IsSmall old.graph old.vrps → (o : Option Rel) → relation old.graph a b ≡ o → IfSome o (λ r. (e : GraphError) → IsLinkRefusal mid.graph a b r e → ⊥)
 fits_back undone old mid a b apart h none small None is = tt
 fits_back undone old mid a b apart h none small (Some r) is = fits_cut undone old mid a b apart h none small r is
 
-pub back_any : EditsAreUndone → (g : Topology) (a b : ℕ) → a ≢ b → (mid : Topology) → mid.links ≡ (without_link g a b).links → what g a b ≢ None → (o : Option Rel) → what g a b ≡ o → links_with mid a b o ≡ g.links
+pub back_any : EditsAreUndone → (g : Topology) (a b : ℕ) → a ≢ b → (mid : Topology) → mid.links ≡ (without_link g a b).links → relation g a b ≢ None → (o : Option Rel) → relation g a b ≡ o → links_with mid a b o ≡ g.links
 back_any undone g a b apart mid are there None is = absurd (there is)
 back_any undone g a b apart mid are there (Some r) is = back_cut undone g a b r apart mid are is
 
-pub cut_none : LinksAreTaken → (old mid : Sim) (a b : ℕ) → HasLinks old mid a b (links_with old.graph a b None) → what mid.graph a b ≡ None
-cut_none taken old mid a b h = ap (λ (l : LinkMap). what (graph_of l mid.graph.marked) a b) h.are ∙ taken.at old.graph a b
+pub cut_none : LinksAreTaken → (old mid : Sim) (a b : ℕ) → HasLinks old mid a b (links_with old.graph a b None) → relation mid.graph a b ≡ None
+cut_none taken old mid a b h = ap (λ (l : LinkMap). relation (graph_of l mid.graph.marked) a b) h.are ∙ taken.at old.graph a b
 
 pub absent_cut : (o : Option Rel) (e : EditError) → o ≢ None → cond (is_some o) None (Some e) ≡ None
 absent_cut None e there = absurd (there refl)
@@ -232,27 +232,27 @@ pub from_none : {P : Type 0} (o : Option Rel) → IfNone o P → o ≡ None → 
 from_none None h is = h
 from_none (Some r) h is = cc
 
-pub unlinked : {E : Type 0} (r : Result (Unit {0}) E) (g new : Topology) (a b : ℕ) → OnOk r (new ≡ without_link g a b) → OnErr r (what g a b ≡ None) → what g a b ≢ None → new ≡ without_link g a b
+pub unlinked : {E : Type 0} (r : Result (Unit {0}) E) (g new : Topology) (a b : ℕ) → OnOk r (new ≡ without_link g a b) → OnErr r (relation g a b ≡ None) → relation g a b ≢ None → new ≡ without_link g a b
 unlinked (Ok x) g new a b ok absent there = ok
 unlinked (Err e) g new a b ok absent there = absurd (there absent)
 
 -- a graph with a new link has no provider cycle without the pair's link
-pub there_none : LinksAreSound → LinksAreSet → LinksAreTaken → (old mid : Sim) (a b : ℕ) (r : Rel) → a ≢ b → (p c : ℕ) → ((p ≡ a) × (c ≡ b)) ⊎ ((p ≡ b) × (c ≡ a)) → HasLinks old mid a b (links_with old.graph a b (Some r)) → (HasCycle (world_seen old) → ⊥) → HasNoProviderCycle (what (without_link mid.graph p c))
+pub there_none : LinksAreSound → LinksAreSet → LinksAreTaken → (old mid : Sim) (a b : ℕ) (r : Rel) → a ≢ b → (p c : ℕ) → ((p ≡ a) × (c ≡ b)) ⊎ ((p ≡ b) × (c ≡ a)) → HasLinks old mid a b (links_with old.graph a b (Some r)) → (HasCycle (world_seen old) → ⊥) → HasNoProviderCycle (relation (without_link mid.graph p c))
 there_none sound setting taken old mid a b r apart p c pair h none =
-    none_below (what (without_link mid.graph p c)) (what old.graph)
-    (λ x y e. new_below sound setting taken old.graph a b p c r apart pair x y (subst (λ (l : LinkMap). what (without_link (graph_of l mid.graph.marked) p c) x y ≡ Some Customer) h.are e))
+    none_below (relation (without_link mid.graph p c)) (relation old.graph)
+    (λ x y e. new_below sound setting taken old.graph a b p c r apart pair x y (subst (λ (l : LinkMap). relation (without_link (graph_of l mid.graph.marked) p c) x y ≡ Some Customer) h.are e))
     (λ xs is. none (xs, is))
 
 -- so has a graph that lost a link
-pub cut_no_cycle : LinksAreSound → LinksAreSet → LinksAreTaken → (old mid : Sim) (a b : ℕ) → HasLinks old mid a b (links_with old.graph a b None) → (HasCycle (world_seen old) → ⊥) → HasNoProviderCycle (what mid.graph)
+pub cut_no_cycle : LinksAreSound → LinksAreSet → LinksAreTaken → (old mid : Sim) (a b : ℕ) → HasLinks old mid a b (links_with old.graph a b None) → (HasCycle (world_seen old) → ⊥) → HasNoProviderCycle (relation mid.graph)
 cut_no_cycle sound setting taken old mid a b h none =
-    none_below (what mid.graph) (what old.graph)
-    (λ x y e. without_below sound setting taken old.graph a b x y (subst (λ (l : LinkMap). what (graph_of l mid.graph.marked) x y ≡ Some Customer) h.are e))
+    none_below (relation mid.graph) (relation old.graph)
+    (λ x y e. without_below sound setting taken old.graph a b x y (subst (λ (l : LinkMap). relation (graph_of l mid.graph.marked) x y ≡ Some Customer) h.are e))
     (λ xs is. none (xs, is))
 
 -- a pair with a link is two ASes
-pub cut_apart : LinksAreSound → (s : Sim) (a b : ℕ) → what s.graph a b ≢ None → a ≢ b
-cut_apart sound s a b there same = there (subst (λ (x : ℕ). what s.graph a x ≡ None) same (sound.to_itself s.graph a))
+pub cut_apart : LinksAreSound → (s : Sim) (a b : ℕ) → relation s.graph a b ≢ None → a ≢ b
+cut_apart sound s a b there same = there (subst (λ (x : ℕ). relation s.graph a x ≡ None) same (sound.to_itself s.graph a))
 
 pub pair_end : (a b x : ℕ) → occurs x (a ∷ b ∷ []) ≡ true → (x ≡ a) ⊎ (x ≡ b)
 pair_end a b x there = by (a == x) refl (b == x) refl there

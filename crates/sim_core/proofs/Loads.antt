@@ -5,7 +5,7 @@ use Rattle.std.specs.FinSet as set
 use Rattle.net_names.specs.Addresses.{AddrValue}
 use Rattle.net_names.specs.Links.{LinkMap}
 use Rattle.net_names.specs.Prefixes.{PrefixValue}
-use Rattle.as_graph.specs.Topology.{Topology, as_count, has, unmarked, what}
+use Rattle.as_graph.specs.Topology.{Topology, as_count, has, unmarked, relation}
 use Rattle.cycle_check.specs.Cycles.{IsCycleFromLowest}
 use Rattle.policy_kinds.specs.Kinds.{kind_policy}
 use Rattle.policy_kinds.specs.declared.kind.Kind.{Kind}
@@ -41,12 +41,12 @@ unmarked_world links payloads s load_error.TooManyAses h = subst (λ (g : Topolo
 unmarked_world links payloads s (load_error.ProviderCycle cycle) h = absurd h
 
 -- the graph has a cycle, and so has the world
-pub cyclic_world : (links : LinkMap) (payloads : Payloads) (s : ScenarioValue) (graph : Topology) (e : LoadError) → graph ≡ marked (unmarked links) (names_in s) → as_count graph ≤ 150000 → IsCycleRefusal (what graph) e → IsLoadRefusal (world_of links payloads s) e
+pub cyclic_world : (links : LinkMap) (payloads : Payloads) (s : ScenarioValue) (graph : Topology) (e : LoadError) → graph ≡ marked (unmarked links) (names_in s) → as_count graph ≤ 150000 → IsCycleRefusal (relation graph) e → IsLoadRefusal (world_of links payloads s) e
 cyclic_world links payloads s graph load_error.Memory is few h = tt
 cyclic_world links payloads s graph load_error.TooManyAses is few h = absurd h
 cyclic_world links payloads s graph (load_error.ProviderCycle cycle) is few h =
     let same : graph ≡ topology (world_of links payloads s) = is ∙ sym (topology-world_of links payloads s) in
-    (subst (λ (g : Topology). as_count g ≤ 150000) same few, subst (λ (g : Topology). IsCycleFromLowest (what g) cycle) same h)
+    (subst (λ (g : Topology). as_count g ≤ 150000) same few, subst (λ (g : Topology). IsCycleFromLowest (relation g) cycle) same h)
 
 module _ (links : LinkMap) (payloads : Payloads) (s : ScenarioValue) (graph : Topology) (book : PolicyBook Kind) (rounds : Rounds) (is : graph ≡ marked (unmarked links) (names_in s)) (named : book.named ≡ kinds_of s.policies) (planned : plan_kept rounds ≡ plan_of s) (counted : round_count rounds ≡ length s.leaks + 1) (watched : List AddrValue) (watching : watched ≡ s.watch) where
   pub world_is : world_by graph payloads book rounds watched ≡ world_of links payloads s
@@ -86,7 +86,7 @@ pub only_ones : (graph : Topology) (payloads : Payloads) (book : PolicyBook Kind
     → IsOneFamily (world_by graph payloads book rounds watched) (kept rounds)
 only_ones graph payloads book plan count rounds watched is rest are =
     let settings : (λ (p : PrefixValue). setting kind_policy graph book (state_of payloads p)) ≡ setting_of (world_by graph payloads book rounds watched) =
-    λ i p. record { has = has (is i); what = what graph; policy = λ a. kind_policy (unwrap_or (fin.get book.named a) (rest i)); state = state_of payloads p } in
+    λ i p. record { has = has (is i); relation = relation graph; policy = λ a. kind_policy (unwrap_or (fin.get book.named a) (rest i)); state = state_of payloads p } in
     let ground : ◌≡◌ {A = Ground} ((λ p. setting kind_policy graph book (state_of payloads p)), (plan, count)) (setting_of (world_by graph payloads book rounds watched), (plan_kept rounds, round_count rounds)) =
     λ i. (settings i, (sym are.plan_is i, sym are.count_is i)) in
     let both : AreOnly (kept rounds) (setting_of (world_by graph payloads book rounds watched), (plan_kept rounds, round_count rounds)) = subst (AreOnly (kept rounds)) ground (are.stable, are.only) in
@@ -97,6 +97,6 @@ pub ones_of_world : (graph : Topology) (payloads : Payloads) (book : PolicyBook 
     → AreRoundsOf graph payloads book (plan_kept rounds) (round_count rounds) rounds
 ones_of_world graph payloads book rounds watched is rest one =
     let settings : (λ (p : PrefixValue). setting kind_policy graph book (state_of payloads p)) ≡ setting_of (world_by graph payloads book rounds watched) =
-    λ i p. record { has = has (is i); what = what graph; policy = λ a. kind_policy (unwrap_or (fin.get book.named a) (rest i)); state = state_of payloads p } in
+    λ i p. record { has = has (is i); relation = relation graph; policy = λ a. kind_policy (unwrap_or (fin.get book.named a) (rest i)); state = state_of payloads p } in
     let both : AreOnly (kept rounds) ((λ p. setting kind_policy graph book (state_of payloads p)), (plan_kept rounds, round_count rounds)) = subst (AreOnly (kept rounds)) (λ i. (sym settings i, (plan_kept rounds, round_count rounds))) (one.is, one.only) in
     record { plan_is = refl; count_is = refl; stable = both.0; only = both.1 }

@@ -10,7 +10,7 @@ use Rattle.std.specs.declared.cmp.Ordering.{Ordering}
 use Rattle.std.specs.declared.cmp.Ordering.TheVariants.{Less, Equal, Greater}
 use Rattle.net_names.specs.Coverage.{covers}
 use Rattle.net_names.specs.Prefixes.{PrefixValue}
-use Rattle.as_graph.specs.Topology.{Topology, as_count, has as has_as, what}
+use Rattle.as_graph.specs.Topology.{Topology, as_count, has as has_as, relation}
 use Rattle.origin_validation.specs.Judging.{state_among, state_of}
 use Rattle.policy_kinds.specs.Kinds.{kind_policy}
 use Rattle.stability_laws.specs.Plans.{Plan, has_prefix}
@@ -142,7 +142,7 @@ pub payload_differs : (g h : Ground) (rounds : Rounds) (touched : PrefixValue �
     → ((p : PrefixValue) → IsTrue (has_prefix (plan_of rounds) p) → (a : ℕ) → has_as h.graph a ≡ true → (policy_on h a).reads_state ≡ true → touched p a ≡ false → (origin : ℕ) → IsOrigin (plan_of rounds) p origin → state_of h.payloads p origin ≡ state_of g.payloads p origin) → DiffersAround g h rounds [] touched
 payload_differs g h rounds touched graph book touches = record {
   presence = λ a free. ap (λ (x : Topology). has_as x a) graph;
-  links = λ a n free. ap (λ (x : Topology). what x a n) graph;
+  links = λ a n free. ap (λ (x : Topology). relation x a n) graph;
   policies = λ a free. ap (λ (b : PolicyBook Kind). policy_at b a) book;
   at_ends = λ p a known end. absurd (true≢false (sym end));
   marks = λ p a n r known free at. ap (λ (b : PolicyBook Kind). (kind_policy (policy_at b n)).marks) book;

@@ -3,7 +3,7 @@ use Rattle.std.proofs.Common.{◌≡◌, ℕ, Bool, true, false, IsTrue, Option,
 use Rattle.std.specs.FinSet as set
 use Rattle.net_names.specs.Addresses.{AddrValue}
 use Rattle.net_names.specs.Prefixes.{PrefixValue}
-use Rattle.as_graph.specs.Topology.{has, what}
+use Rattle.as_graph.specs.Topology.{has, relation}
 use Rattle.as_graph.proofs.Fitting.{one_rank_at}
 use Rattle.policy_kinds.specs.Kinds.{label}
 use Rattle.scenario_text.specs.declared.acts.Query.{Query}
@@ -63,5 +63,5 @@ module _ (w : World) (k l : Kept) (x : IsKept w k) (y : IsKept w l) where
       subst (λ (n : ℕ → Hop). AreRows (topology w) n (λ m. label (kind_at w m)) (l.rows round addr)) (next_same round addr asked.0) (y.rows round addr asked.0 watched.0) in
       let order = same_rows_but_order (topology w) next (λ n. label (kind_at w n)) (k.rows round addr) (l.rows round addr) (x.rows round addr asked.0 watched.0) others in
       a ∙ (same_report (k.rows round addr) (l.rows round addr) order (announcers_of w.plan) ∙ sym b)
-  one_answer query.Ranks s t accepted a b = one_table (has (topology w)) _ _ s t (λ asn. ap (rank_row asn) (one_rank_at (what (topology w)) asn (k.ranks asn) (l.ranks asn) (x.ranks asn) (y.ranks asn))) a b
+  one_answer query.Ranks s t accepted a b = one_table (has (topology w)) _ _ s t (λ asn. ap (rank_row asn) (one_rank_at (relation (topology w)) asn (k.ranks asn) (l.ranks asn) (x.ranks asn) (y.ranks asn))) a b
   one_answer (query.Validity prefix asn) s t accepted a b = a ∙ sym b

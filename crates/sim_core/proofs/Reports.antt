@@ -20,8 +20,8 @@ module _ (rows others : List Row) (p : IsPermutation rows others) where
   printed_same group.Stub = refl
   printed_same (group.Of kind) = λ i. nat_lt 0 (same_size rows others p (which.Label (label kind)) i)
 
-  end_same : (g : Group) (what : List ℕ) (e : End) → end_row rows g what e ≡ end_row others g what e
-  end_same g what e = λ i. count_row g what (same_count rows others p (group_of g).1 e i)
+  end_same : (g : Group) (counted : List ℕ) (e : End) → end_row rows g counted e ≡ end_row others g counted e
+  end_same g counted e = λ i. count_row g counted (same_count rows others p (group_of g).1 e i)
 
   delivered_same : (g : Group) (a : ℕ) → delivered_text rows g a ≡ delivered_text others g a
   unfolding delivered_text

@@ -20,7 +20,7 @@ use Rattle.stability_laws.proofs.KeyLists.{eq_is, eq_same}
 use Rattle.stability_laws.proofs.PlanOrders.{announcements_total, exact_announcement, exact_prefix, prefixes_total}
 use Rattle.as_graph.specs.Hierarchy.{HasNoProviderCycle, IsProviderCycle}
 use Rattle.as_graph.specs.Room.{with_room}
-use Rattle.as_graph.specs.Topology.{Topology, as_count, has, what}
+use Rattle.as_graph.specs.Topology.{Topology, as_count, has, relation}
 use Rattle.stability_laws.specs.Plans.{Plan, announced_path, announcer_of, announcers_of, announces, has_prefix, leaks_in, with_announcement}
 use Rattle.stability_laws.specs.SeedEdits.{IsEditOf, IsEditWithin, edit_asn, edit_prefix, edited as edited_plan}
 use Rattle.stability_laws.specs.declared.seed_plan.edits.SeedEdit.{SeedEdit}
@@ -122,8 +122,8 @@ module _ (s : Sim) (e : SeedEdit) (plan : Plan) (a : ℕ) (t : Bool) (graph : To
   new_count : as_count graph ≡ as_count (topology (with_plan (world_seen s) plan))
   new_count = λ i. as_count (graph_of (new_links i) (new_marks i))
 
-  pub new_no_cycle : (HasCycle (world_seen s) → ⊥) → HasNoProviderCycle (what graph)
-  new_no_cycle none xs is = none (xs, subst (λ (l : LinkMap). IsProviderCycle (what (graph_of l graph.marked)) xs) new_links is)
+  pub new_no_cycle : (HasCycle (world_seen s) → ⊥) → HasNoProviderCycle (relation graph)
+  new_no_cycle none xs is = none (xs, subst (λ (l : LinkMap). IsProviderCycle (relation (graph_of l graph.marked)) xs) new_links is)
 
   pub new_allowed : IsSmall s.graph s.vrps → as_count graph ≤ 150000 → (HasCycle (world_seen s) → ⊥) → IsAllowed (world_seen s) (edit_of e)
   new_allowed small few none =
@@ -142,14 +142,14 @@ module _ (s : Sim) (e : SeedEdit) (plan : Plan) (a : ℕ) (t : Bool) (graph : To
   abbrev pub now : Ground
   now = record { graph = graph; payloads = s.vrps; book = s.book }
 
-  same_links : (x n : ℕ) → what graph x n ≡ what s.graph x n
-  same_links x n = ap (λ (l : LinkMap). what (graph_of l graph.marked) x n) new_links
+  same_links : (x n : ℕ) → relation graph x n ≡ relation s.graph x n
+  same_links x n = ap (λ (l : LinkMap). relation (graph_of l graph.marked) x n) new_links
 
   -- who is no AS has no links
-  unlinked : LinksAreSound → (g : Topology) → has g a ≡ false → (n : ℕ) → what g a n ≡ None
-  unlinked sound g gone n = by (what g a n) refl
+  unlinked : LinksAreSound → (g : Topology) → has g a ≡ false → (n : ℕ) → relation g a n ≡ None
+  unlinked sound g gone n = by (relation g a n) refl
     where
-      by : (o : Option Rel) → what g a n ≡ o → o ≡ None
+      by : (o : Option Rel) → relation g a n ≡ o → o ≡ None
       by None is = refl
       by (Some r) is = absurd (true≢false (sym (seller sound g a n r is) ∙ gone))
 

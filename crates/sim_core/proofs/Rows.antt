@@ -10,7 +10,7 @@ use Rattle.std.proofs.lemmas.Map.Keys.{apart_from_distinct}
 use Rattle.std.proofs.lemmas.Option.{get_or_from_slice_get, slice_get-get_or, slice_get_within}
 use Rattle.net_names.specs.Numbers.{occurs}
 use Rattle.net_names.specs.declared.routes.Rel.{Rel}
-use Rattle.as_graph.specs.Topology.{Topology, what}
+use Rattle.as_graph.specs.Topology.{Topology, relation}
 use Rattle.data_trace.specs.Steps.{Ends}
 use Rattle.data_trace.specs.Watches.{AreRows, IsRow, Row, count_of, in_group, is_end, size_of}
 use Rattle.data_trace.specs.declared.kinds.End.{End}
@@ -50,12 +50,12 @@ rows_apart rows apart i j d below within same =
     true≢false (sym (eq-eqb (get_or names i d.asn) (get_or names j d.asn) (first ∙ (ap (λ (s : Row). s.asn) same ∙ sym second))) ∙ apart_from_distinct nat_eq names i j d.asn apart below (omega (arith, within, length-map rows (λ (s : Row). s.asn))))
 
 -- an AS has one row
-one_row : (what : ℕ → ℕ → Option Rel) (next : ℕ → Hop) (label : ℕ → ℕ) (r s : Row) → IsRow what next label r → IsRow what next label s → r.asn ≡ s.asn → r ≡ s
-one_row what next label r s x y same =
+one_row : (relation : ℕ → ℕ → Option Rel) (next : ℕ → Hop) (label : ℕ → ℕ) (r s : Row) → IsRow relation next label r → IsRow relation next label s → r.asn ≡ s.asn → r ≡ s
+one_row relation next label r s x y same =
     let hop : r.next ≡ s.next = x.next_hop ∙ (ap next same ∙ sym y.next_hop) in
     let ends : Ends next s.asn r.end = subst (λ a. Ends next a r.end) same (trace_ends next r.asn x.trace.0 r.end x.trace.1) in
     let end : r.end ≡ s.end = one_end next s.asn s.end r.end (trace_ends next s.asn y.trace.0 s.end y.trace.1) ends in
-    let stub : r.stub ≡ s.stub = same_bool r.stub s.stub (λ h. y.stub.1 (λ b e. x.stub.0 h b (ap (λ a. what a b) same ∙ e))) (λ h. x.stub.1 (λ b e. y.stub.0 h b (ap (λ a. what a b) (sym same) ∙ e))) in
+    let stub : r.stub ≡ s.stub = same_bool r.stub s.stub (λ h. y.stub.1 (λ b e. x.stub.0 h b (ap (λ a. relation a b) same ∙ e))) (λ h. x.stub.1 (λ b e. y.stub.0 h b (ap (λ a. relation a b) (sym same) ∙ e))) in
     let group : r.label ≡ s.label = x.group ∙ (ap label same ∙ sym y.group) in
     λ i. record { asn = same i; next = hop i; end = end i; stub = stub i; label = group i }
 
@@ -64,7 +64,7 @@ module _ (g : Topology) (next : ℕ → Hop) (label : ℕ → ℕ) where
   carried rows others x y r c =
       let at : IsAt rows c.0 r = slice_get-get_or rows c.0 r c.1 ∙ ap Some c.2 in
       let there = row_at r.asn others (y.listed r.asn ∙ (sym (x.listed r.asn) ∙ occurs_row r rows c.0 c.1 c.2)) in
-      let same : there.0 ≡ r = one_row (what g) next label there.0 r (y.right there.1 there.0 there.2) (x.right c.0 r at) there.3 in
+      let same : there.0 ≡ r = one_row (relation g) next label there.0 r (y.right there.1 there.0 there.2) (x.right c.0 r at) there.3 in
       (there.1, slice_get_within others there.1 there.0 there.2, get_or_from_slice_get others there.1 there.0 r there.2 ∙ same)
 
   -- the rows of the one list are those of the other, in another order

@@ -72,14 +72,14 @@ pub gone_unnamed : (graph : Topology) (plan : Plan) (kinds : Kinds) (a : ℕ) �
 gone_unnamed graph plan kinds a is gone = off (is_named plan kinds a) (λ h. true≢false (sym (named_there graph plan kinds a is h) ∙ gone))
 
 -- without a link there is no offer
-pub no_offer : (w : Setting) (f : ℕ → Option Entry) (n a : ℕ) → w.what a n ≡ None → offer w f n a ≡ None
+pub no_offer : (w : Setting) (f : ℕ → Option Entry) (n a : ℕ) → w.relation a n ≡ None → offer w f n a ≡ None
 no_offer w f n a none = ap (λ o. offer_given (w.policy n) (w.policy a) w.state n a o (f n)) none
 
 -- who has no seed and no links is right with nothing, and with nothing alone
-pub lone_right : (w : Setting) (seeds : ℕ → Option Seed) (f : ℕ → Option Entry) (a : ℕ) → seeds a ≡ None → ((n : ℕ) → w.what a n ≡ None) → f a ≡ None → IsRight w seeds f a
+pub lone_right : (w : Setting) (seeds : ℕ → Option Seed) (f : ℕ → Option Entry) (a : ℕ) → seeds a ≡ None → ((n : ℕ) → w.relation a n ≡ None) → f a ≡ None → IsRight w seeds f a
 lone_right w seeds f a unseeded unlinked nothing = coe 1 0 (i. IsRightGiven (w.policy a) (unseeded i) (λ n. offer w f n a) (nothing i)) (λ n. no_offer w f n a (unlinked n))
 
-pub lone_nothing : (w : Setting) (seeds : ℕ → Option Seed) (f : ℕ → Option Entry) (a : ℕ) → seeds a ≡ None → ((n : ℕ) → w.what a n ≡ None) → IsRight w seeds f a → f a ≡ None
+pub lone_nothing : (w : Setting) (seeds : ℕ → Option Seed) (f : ℕ → Option Entry) (a : ℕ) → seeds a ≡ None → ((n : ℕ) → w.relation a n ≡ None) → IsRight w seeds f a → f a ≡ None
 lone_nothing w seeds f a unseeded unlinked right = by (f a) (coe 0 1 (i. IsRightGiven (w.policy a) (unseeded i) (λ n. offer w f n a) (f a)) right)
   where
     by : (held : Option Entry) → IsRightGiven (w.policy a) None (λ n. offer w f n a) held → held ≡ None

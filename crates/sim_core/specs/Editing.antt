@@ -7,7 +7,7 @@ use Rattle.net_names.specs.declared.routes.Rel.{Rel}
 use Rattle.as_graph.specs.Edits.{with_link, without_link}
 use Rattle.as_graph.specs.Hierarchy.{IsProviderCycle}
 use Rattle.as_graph.specs.Room.{is_room_for, is_room_with}
-use Rattle.as_graph.specs.Topology.{Topology, as_count, has, what}
+use Rattle.as_graph.specs.Topology.{Topology, as_count, has, relation}
 use Rattle.net_names.specs.Numbers.{occurs}
 use Rattle.net_names.specs.Payloads.{VrpValue}
 use Rattle.origin_validation.specs.Leaving.{less}
@@ -115,7 +115,7 @@ pub record IsUnchanged (old new : Sim) : Type 0 where
 -- why a link is not kept: memory is wanting, or the graph has this provider cycle, which begins with the link
 abbrev pub IsLinkStop : Topology → ℕ → ℕ → Rel → EditError → Type 0
 IsLinkStop graph a b rel refused.Memory = Unit {0}
-IsLinkStop graph a b rel (refused.ProviderCycle cycle) = IsProviderCycle (what graph) cycle × BeginsWithLink (edit.Link a b rel) cycle
+IsLinkStop graph a b rel (refused.ProviderCycle cycle) = IsProviderCycle (relation graph) cycle × BeginsWithLink (edit.Link a b rel) cycle
 IsLinkStop graph a b rel e = ⊥
 
 -- no limit is passed

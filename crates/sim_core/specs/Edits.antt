@@ -4,7 +4,7 @@ use Rattle.std.specs.Ordering.{nat_cmp}
 use Rattle.std.specs.FinMap as fin
 use Rattle.std.specs.Option.{option_or}
 use Rattle.net_names.specs.declared.routes.Rel.TheVariants.{Customer, Provider}
-use Rattle.as_graph.specs.Topology.{as_count, what}
+use Rattle.as_graph.specs.Topology.{as_count, relation}
 use Rattle.as_graph.specs.Hierarchy.{IsProviderCycle}
 use Rattle.as_graph.specs.Edits.{with_link, without_link}
 use Rattle.policy_kinds.specs.declared.kind.Kind.{Kind}
@@ -45,7 +45,7 @@ absent_link a b = if nat_lt a b then refused.AbsentLink a b else refused.AbsentL
 
 -- what the edit names or takes away and the world has not: the link of the pair, the payload, the prefix, or else the AS's announcement of it
 abbrev pub absent : World → Edit → Option EditError
-absent w (edit.Unlink a b) = unless (is_some (what (topology w) a b)) (absent_link a b) None
+absent w (edit.Unlink a b) = unless (is_some (relation (topology w) a b)) (absent_link a b) None
 absent w (edit.VrpTake vrp) = unless (fin.contains_key w.payloads vrp) (refused.AbsentVrp vrp) None
 absent w (edit.Announce prefix path) = unless (has_prefix w.plan prefix) (refused.UnknownPrefix prefix) None
 absent w (edit.Withdraw prefix a) = unless (has_prefix w.plan prefix) (refused.UnknownPrefix prefix) (unless (announces w.plan prefix a) (refused.AbsentAnnouncement prefix a) None)
@@ -75,7 +75,7 @@ pub record IsAllowed (w : World) (e : Edit) : Type 0 where
 -- the edit is refused for this reason: it is the first one; or there is none, and the edited world has this provider cycle, which begins with the new link (Gao and Rexford 2001, the hierarchy assumption)
 abbrev pub IsReason : World → Edit → EditError → Type 0
 IsReason w e refused.Memory = ⊥
-IsReason w e (refused.ProviderCycle cycle) = (refusal_of_edit w e ≡ None) × IsProviderCycle (what (topology (edited w e))) cycle × BeginsWithLink e cycle
+IsReason w e (refused.ProviderCycle cycle) = (refusal_of_edit w e ≡ None) × IsProviderCycle (relation (topology (edited w e))) cycle × BeginsWithLink e cycle
 IsReason w e error = refusal_of_edit w e ≡ Some error
 
 -- memory is wanting, or the edit is refused for this reason

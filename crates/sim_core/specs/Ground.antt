@@ -4,7 +4,7 @@ use Rattle.net_names.specs.declared.routes.Rel.{Rel}
 use Rattle.net_names.specs.Numbers.{last_or, occurs}
 use Rattle.net_names.specs.Prefixes.{PrefixValue}
 use Rattle.as_graph.specs.Hierarchy.{HasNoProviderCycle, IsRank}
-use Rattle.as_graph.specs.Topology.{Topology, has, what}
+use Rattle.as_graph.specs.Topology.{Topology, has, relation}
 use Rattle.policy_laws.specs.Policy.{Policy}
 use Rattle.policy_kinds.specs.Kinds.{kind_policy}
 use Rattle.policy_kinds.specs.declared.kind.Kind.{Kind}
@@ -40,8 +40,8 @@ policy_on g a = kind_policy (policy_at g.book a)
 
 -- the ranks, the rounds and the watches are those of the ground, which has no provider cycle (Gao and Rexford 2001)
 pub record BelongTo (g : Ground) (ranks : KeptRanks) (rounds : Rounds) (watches : List RoundWatches) : Type 0 where
-  pub no_cycle : HasNoProviderCycle (what g.graph)
-  pub ranks_are : (a : ℕ) → IsRank (what g.graph) a (rank_at ranks a)
+  pub no_cycle : HasNoProviderCycle (relation g.graph)
+  pub ranks_are : (a : ℕ) → IsRank (relation g.graph) a (rank_at ranks a)
   pub rounds_are : AreRoundsOf g.graph g.payloads g.book (plan_of rounds) (round_count rounds) rounds
   pub watching : AreRoundWatches g.graph (plan_of rounds) (kept_rounds rounds) g.book (round_count rounds) (map seen_in watches)
 
@@ -65,10 +65,10 @@ pub record IsRightOn (g : Ground) (rounds : Rounds) (prefix : PrefixValue) (a : 
 -- between two grounds only the ends differ in presence, links and policy; and who is not touched for a prefix is no end, or still right; has neighbours of which none begins or ceases to mark; and does not read the states of the prefix, or these are the same for its origins
 pub record DiffersAround (old new : Ground) (rounds : Rounds) (ends : List ℕ) (touched : PrefixValue → ℕ → Bool) : Type 0 where
   pub presence : (a : ℕ) → occurs a ends ≡ false → has new.graph a ≡ has old.graph a
-  pub links : (a n : ℕ) → occurs a ends ≡ false → what new.graph a n ≡ what old.graph a n
+  pub links : (a n : ℕ) → occurs a ends ≡ false → relation new.graph a n ≡ relation old.graph a n
   pub policies : (a : ℕ) → occurs a ends ≡ false → policy_at new.book a ≡ policy_at old.book a
   pub at_ends : (prefix : PrefixValue) (a : ℕ) → IsTrue (has_prefix (plan_of rounds) prefix) → occurs a ends ≡ true → (touched prefix a ≡ true) ⊎ IsRightOn new rounds prefix a
-  pub marks : (prefix : PrefixValue) (a n : ℕ) (r : Rel) → IsTrue (has_prefix (plan_of rounds) prefix) → touched prefix a ≡ false → what new.graph a n ≡ Some r → (policy_on new n).marks ≡ (policy_on old n).marks
+  pub marks : (prefix : PrefixValue) (a n : ℕ) (r : Rel) → IsTrue (has_prefix (plan_of rounds) prefix) → touched prefix a ≡ false → relation new.graph a n ≡ Some r → (policy_on new n).marks ≡ (policy_on old n).marks
   pub states : (prefix : PrefixValue) (a : ℕ) → IsTrue (has_prefix (plan_of rounds) prefix) → touched prefix a ≡ false → has new.graph a ≡ true → ((policy_on new a).reads_state ≡ false) ⊎ ((origin : ℕ) → IsOrigin (plan_of rounds) prefix origin → state_of new.payloads prefix origin ≡ state_of old.payloads prefix origin)
 
 -- an edit of announcements, if there is one, is one of the plan within the limits, by one of the ends; and who announces something after it is an AS of the graph

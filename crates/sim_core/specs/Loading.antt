@@ -1,6 +1,6 @@
 -- Why a world is not loaded.
 use Rattle.std.specs.Prelude.{ℕ, ◌<◌, ◌≤◌, Option}
-use Rattle.as_graph.specs.Topology.{as_count, what}
+use Rattle.as_graph.specs.Topology.{as_count, relation}
 use Rattle.cycle_check.specs.Cycles.{IsCycleFromLowest}
 use Rattle.net_names.specs.declared.routes.Rel.{Rel}
 use Rattle.sim_core.specs.World.{World, topology}
@@ -12,10 +12,10 @@ use Rattle.as_graph.specs.declared.build.TheConstants.{MOST_ASES}
 abbrev pub IsLoadRefusal : World → LoadError → Type 0
 IsLoadRefusal w load_error.Memory = Unit {0}
 IsLoadRefusal w load_error.TooManyAses = MOST_ASES < as_count (topology w)
-IsLoadRefusal w (load_error.ProviderCycle cycle) = (as_count (topology w) ≤ MOST_ASES) × IsCycleFromLowest (what (topology w)) cycle
+IsLoadRefusal w (load_error.ProviderCycle cycle) = (as_count (topology w) ≤ MOST_ASES) × IsCycleFromLowest (relation (topology w)) cycle
 
 -- memory is wanting; or the links have this provider cycle, told from its lowest number on
 abbrev pub IsCycleRefusal : (ℕ → ℕ → Option Rel) → LoadError → Type 0
-IsCycleRefusal what load_error.Memory = Unit {0}
-IsCycleRefusal what load_error.TooManyAses = ⊥
-IsCycleRefusal what (load_error.ProviderCycle cycle) = IsCycleFromLowest what cycle
+IsCycleRefusal relation load_error.Memory = Unit {0}
+IsCycleRefusal relation load_error.TooManyAses = ⊥
+IsCycleRefusal relation (load_error.ProviderCycle cycle) = IsCycleFromLowest relation cycle

@@ -6,7 +6,7 @@ use Rattle.std.specs.FinSet as set
 use Rattle.net_names.specs.Addresses.{addr_cmp}
 use Rattle.net_names.specs.Links.{LinkMap}
 use Rattle.net_names.specs.Prefixes.{PrefixValue}
-use Rattle.as_graph.specs.Topology.{Topology, what, has}
+use Rattle.as_graph.specs.Topology.{Topology, relation, has}
 use Rattle.as_graph.specs.Hierarchy.{IsProviderCycle}
 use Rattle.policy_kinds.specs.Kinds.{kind_policy}
 use Rattle.policy_kinds.specs.declared.kind.Kind.{Kind}
@@ -47,8 +47,8 @@ kind_at w a = unwrap_or (fin.get w.kinds a) Plain
 
 -- what the routing of a prefix rests on: the ASes and their links, their policies, and each origin's state by the payloads (RFC 6811, section 2)
 abbrev pub setting_of : World → PrefixValue → Setting
-setting_of w prefix = record { has = has (topology w); what = what (topology w); policy = λ a. kind_policy (kind_at w a); state = state_of w.payloads prefix }
+setting_of w prefix = record { has = has (topology w); relation = relation (topology w); policy = λ a. kind_policy (kind_at w a); state = state_of w.payloads prefix }
 
 -- there is a provider cycle among the links (Gao and Rexford 2001, the hierarchy assumption)
 abbrev pub HasCycle : World → Type 0
-HasCycle w = (cycle : List ℕ) × IsProviderCycle (what (topology w)) cycle
+HasCycle w = (cycle : List ℕ) × IsProviderCycle (relation (topology w)) cycle

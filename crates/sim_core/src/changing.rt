@@ -2,7 +2,7 @@
 ghost use Rattle.std.specs.Prelude.{◌≡◌, ◌≤◌, ℕ, false, true, Some, IfOk, OnOk, OnErr, length, map};
 ghost use Rattle.std.specs.Option.{option_copied};
 ghost use Rattle.as_graph.specs.Hierarchy.{HasNoProviderCycle};
-ghost use Rattle.as_graph.specs.Topology.{what};
+ghost use Rattle.as_graph.specs.Topology.{relation};
 ghost use Rattle.origin_validation.specs.Leaving.{less};
 ghost use Rattle.path_pool.specs.Pool.{live_count};
 ghost use Rattle.leak_round.specs.Changes.{HasChanges};
@@ -52,13 +52,13 @@ pub fn change<L: Ledger>(
     requires closed { is_open rounds.old ≡ false }
     requires few_cells { live_count (pool_of rounds.old) ≤ MOST_CELLS }
     requires few { round_count rounds.old ≤ 4 }
-    requires no_cycle { HasNoProviderCycle (what graph.now) }
+    requires no_cycle { HasNoProviderCycle (relation graph.now) }
     requires seeds { IsSeedChange (plan_of rounds.old) graph.now ends.now (option_copied edit) }
     requires from { (old : AGround) × BelongTo old ranks.old rounds.old watches.old.items × DiffersAround old (record { graph = graph.now; payloads = states.now; book = book.now }) rounds.old ends.now (touches touched.now) }
     ensures belong { OnOk result (BelongTo (record { graph = graph.now; payloads = states.now; book = book.now }) ranks.new rounds.new watches.new.items) }
     ensures changed { IfOk result (λ c. HasChanges (plan_of rounds.new) (round_count rounds.new) (kept_rounds rounds.old) (kept_rounds rounds.new) c.routes) }
     ensures plan { OnOk result (plan_of rounds.new ≡ plan_edited (option_copied edit.entry) (plan_of rounds.old)) }
-    ensures quick { OnOk result (AreFewSteps (what graph.now) (plan_of rounds.old) (plan_of rounds.new) (kept_rounds rounds.old) (kept_rounds rounds.new) (λ p a. touches touched.now p a ≡ true) (round_count rounds.old) steps.old steps.new) }
+    ensures quick { OnOk result (AreFewSteps (relation graph.now) (plan_of rounds.old) (plan_of rounds.new) (kept_rounds rounds.old) (kept_rounds rounds.new) (λ p a. touches touched.now p a ≡ true) (round_count rounds.old) steps.old steps.new) }
     ensures count { round_count rounds.new ≡ round_count rounds.old }
     ensures closed { is_open rounds.new ≡ false }
     ensures addrs { map addrs_in watches.new.items ≡ map addrs_in watches.old.items }
@@ -121,10 +121,10 @@ impl Sim {
         steps: &mut Steps<L>,
     ) -> Result<Changed, NoMemory>
         requires few_cells { live_count (pool_of self.old.rounds) ≤ MOST_CELLS }
-        requires no_cycle { HasNoProviderCycle (what self.old.graph) }
+        requires no_cycle { HasNoProviderCycle (relation self.old.graph) }
         requires from { (old : AGround) × BelongTo old self.old.ranks self.old.rounds self.old.watches.items × DiffersAround old (ground_less self.old but) self.old.rounds ends.now (touches touched.now) }
         ensures changed { IfOk result (λ c. IsChanged self.old self.new but c.routes) }
-        ensures quick { OnOk result (AreFewSteps (what self.old.graph) (plan_of self.old.rounds) (plan_of self.new.rounds) (kept_rounds self.old.rounds) (kept_rounds self.new.rounds) (λ p a. touches touched.now p a ≡ true) (round_count self.old.rounds) steps.old steps.new) }
+        ensures quick { OnOk result (AreFewSteps (relation self.old.graph) (plan_of self.old.rounds) (plan_of self.new.rounds) (kept_rounds self.old.rounds) (kept_rounds self.new.rounds) (λ p a. touches touched.now p a ≡ true) (round_count self.old.rounds) steps.old steps.new) }
         ensures err { OnErr result (IsUnchanged self.old self.new) }
     {
         let states = states_but(&self.vrps, but);

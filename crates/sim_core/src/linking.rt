@@ -4,7 +4,7 @@ ghost use Rattle.as_graph.specs.declared.error.GraphError.{GraphError as AGraphE
 ghost use Rattle.as_graph.specs.Hierarchy.{HasNoProviderCycle};
 ghost use Rattle.as_graph.specs.Refusals.{IsLinkRefusal};
 ghost use Rattle.as_graph.specs.Room.{is_room_for};
-ghost use Rattle.as_graph.specs.Topology.{what};
+ghost use Rattle.as_graph.specs.Topology.{relation};
 ghost use Rattle.cycle_check.specs.Cycles.{without_pair};
 ghost use Rattle.leak_round.specs.Rounds.{kept as kept_rounds, plan_of, pool_of, round_count};
 ghost use Rattle.leak_round.specs.Touched.{touches};
@@ -71,7 +71,7 @@ impl Sim {
     fn set_back(&mut self, a: Asn, b: Asn, old: Option<Rel>)
         requires apart { a ≢ b }
         requires room { is_room_for self.old.graph.room a b ≡ true }
-        requires there { IfNone old (what self.old.graph a b ≢ None) }
+        requires there { IfNone old (relation self.old.graph a b ≢ None) }
         requires fits { IfSome old (λ r. (e : AGraphError) → IsLinkRefusal self.old.graph a b r e → ⊥) }
         ensures { HasLinks self.old self.new a b (links_with self.old.graph a b old) }
     {
@@ -94,14 +94,14 @@ impl Sim {
         steps: &mut Steps<L>,
     ) -> Result<Changed, EditError>
         requires apart { a ≢ b }
-        requires linked { what self.old.graph a b ≡ Some rel }
+        requires linked { relation self.old.graph a b ≡ Some rel }
         requires there { HasNoProviderCycle (without_pair self.old.graph a b) }
         requires back { HasNoProviderCycle (without_pair self.old.graph b a) }
         requires few_cells { live_count (pool_of self.old.rounds) ≤ MOST_CELLS }
         requires from { (old : AGround) × BelongTo old self.old.ranks self.old.rounds self.old.watches.items × DiffersAround old (ground_of self.old) self.old.rounds (a ∷ b ∷ []) (touches touched.now) }
         ensures changed { IfOk result (λ c. IsChanged self.old self.new None c.routes) }
-        ensures quick { OnOk result (AreFewSteps (what self.old.graph) (plan_of self.old.rounds) (plan_of self.new.rounds) (kept_rounds self.old.rounds) (kept_rounds self.new.rounds) (λ p x. touches touched.now p x ≡ true) (round_count self.old.rounds) steps.old steps.new) }
-        ensures no_cycle { OnOk result (HasNoProviderCycle (what self.old.graph)) }
+        ensures quick { OnOk result (AreFewSteps (relation self.old.graph) (plan_of self.old.rounds) (plan_of self.new.rounds) (kept_rounds self.old.rounds) (kept_rounds self.new.rounds) (λ p x. touches touched.now p x ≡ true) (round_count self.old.rounds) steps.old steps.new) }
+        ensures no_cycle { OnOk result (HasNoProviderCycle (relation self.old.graph)) }
         ensures err { OnErr result (IsUnchanged self.old self.new) }
         ensures refused { IfErr result (IsLinkStop self.old.graph a b rel) }
     {
@@ -158,7 +158,7 @@ impl Sim {
     // Takes the link of a pair away, if it has one; there is room for it from then on.
     fn cut_link(&mut self, a: Asn, b: Asn) -> Result<(), EditError>
         ensures ok { OnOk result (HasLinks self.old self.new a b (links_with self.old.graph a b None)) }
-        ensures there { OnOk result (what self.old.graph a b ≢ None) }
+        ensures there { OnOk result (relation self.old.graph a b ≢ None) }
         ensures err { OnErr result (IsUndone self.old self.new) }
         ensures refused { IfErr result (IsEditRefusal (world_seen self.old) (Unlink a b)) }
     {

@@ -5,7 +5,7 @@ ghost use Rattle.as_graph.specs.Edits.{with_link};
 ghost use Rattle.as_graph.specs.Hierarchy.{HasNoProviderCycle, IsProviderCycle};
 ghost use Rattle.as_graph.specs.Refusals.{IsLinkRefusal};
 ghost use Rattle.as_graph.specs.Room.{is_room_for};
-ghost use Rattle.as_graph.specs.Topology.{what};
+ghost use Rattle.as_graph.specs.Topology.{relation};
 ghost use Rattle.cycle_check.specs.Cycles.{without_pair};
 ghost use Rattle.scenario_text.specs.declared.acts.Edit.TheVariants.{Link};
 ghost use Rattle.sim_core.specs.Edits.{BeginsWithLink};
@@ -38,11 +38,11 @@ pub fn closed_by(
     rel: Rel,
 ) -> Result<Option<Cycle>, NoMemory>
     requires apart { a ≢ b }
-    requires linked { what graph.now a b ≡ Some rel }
+    requires linked { relation graph.now a b ≡ Some rel }
     requires there { HasNoProviderCycle (without_pair graph.now a b) }
     requires back { HasNoProviderCycle (without_pair graph.now b a) }
-    ensures cycle { IfOk result (λ found. IfSome found (λ c. IsProviderCycle (what graph.now) c × BeginsWithLink (Link a b rel) c)) }
-    ensures none { IfOk result (λ found. IfNone found (HasNoProviderCycle (what graph.now))) }
+    ensures cycle { IfOk result (λ found. IfSome found (λ c. IsProviderCycle (relation graph.now) c × BeginsWithLink (Link a b rel) c)) }
+    ensures none { IfOk result (λ found. IfNone found (HasNoProviderCycle (relation graph.now))) }
 {
     links_are_set();
     links_are_sound();

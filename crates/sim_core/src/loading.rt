@@ -1,6 +1,6 @@
 //! Making a simulation.
 ghost use Rattle.std.specs.Prelude.{◌≡◌, ◌+◌, ◌<◌, ◌≤◌, ℕ, false, length, IfOk, IfErr, OnOk};
-ghost use Rattle.as_graph.specs.Topology.{as_count, what};
+ghost use Rattle.as_graph.specs.Topology.{as_count, relation};
 ghost use Rattle.as_graph.specs.Hierarchy.{HasNoProviderCycle, IsRank};
 ghost use Rattle.rank_order.specs.Ranks.{rank_at};
 ghost use Rattle.leak_round.specs.Rounds.{is_open};
@@ -33,9 +33,9 @@ use std::sync::ledger::{Blank, Ledger};
 
 // The ranks of a graph.
 fn ranks_of(alloc: Global, graph: &Graph) -> Result<Ranks, LoadError>
-    ensures ranks { IfOk result (λ r. (a : ℕ) → IsRank (what graph.now) a (rank_at r a)) }
-    ensures no_cycle { OnOk result (HasNoProviderCycle (what graph.now)) }
-    ensures refused { IfErr result (IsCycleRefusal (what graph.now)) }
+    ensures ranks { IfOk result (λ r. (a : ℕ) → IsRank (relation graph.now) a (rank_at r a)) }
+    ensures no_cycle { OnOk result (HasNoProviderCycle (relation graph.now)) }
+    ensures refused { IfErr result (IsCycleRefusal (relation graph.now)) }
 {
     match Ranks::build(alloc, graph) {
         Ok(ranks) => Ok(ranks),
@@ -55,8 +55,8 @@ fn rounds_of<L: Ledger>(
     blank: Blank,
 ) -> Result<Rounds, NoMemory>
     requires ledger { (blank.name ≡ L.name) × (blank.parts ≡ L.parts) × (0 < L.parts) }
-    requires no_cycle { HasNoProviderCycle (what graph.now) }
-    requires ranks { (a : ℕ) → IsRank (what graph.now) a (rank_at ranks.now a) }
+    requires no_cycle { HasNoProviderCycle (relation graph.now) }
+    requires ranks { (a : ℕ) → IsRank (relation graph.now) a (rank_at ranks.now a) }
     ensures rounds { IfOk result (λ rounds. AreRoundsOf graph.now vrps.now book.now (plan_of scenario.now) (length scenario.now.leaks + 1) rounds) }
     ensures closed { IfOk result (λ rounds. is_open rounds ≡ false) }
 {

@@ -1,7 +1,7 @@
 //! Edits of payloads.
 ghost use Rattle.std.specs.Prelude.{◌≡◌, ◌≤◌, ℕ, true, IsTrue, IfOk, None, OnErr, OnOk, Some};
 ghost use Rattle.as_graph.specs.Hierarchy.{HasNoProviderCycle};
-ghost use Rattle.as_graph.specs.Topology.{what};
+ghost use Rattle.as_graph.specs.Topology.{relation};
 ghost use Rattle.leak_round.specs.Rounds.{kept as kept_rounds, plan_of, pool_of, round_count};
 ghost use Rattle.leak_round.specs.Touched.{touches};
 ghost use Rattle.net_names.specs.Coverage.{covers};
@@ -52,10 +52,10 @@ impl Sim {
         steps: &mut Steps<L>,
     ) -> Result<Changed, NoMemory>
         requires few_cells { live_count (pool_of self.old.rounds) ≤ MOST_CELLS }
-        requires no_cycle { HasNoProviderCycle (what self.old.graph) }
+        requires no_cycle { HasNoProviderCycle (relation self.old.graph) }
         requires from { BelongTo (ground_less self.old (Some vrp)) self.old.ranks self.old.rounds self.old.watches.items }
         ensures changed { IfOk result (λ c. IsChanged self.old self.new None c.routes) }
-        ensures quick { OnOk result (AreFewSteps (what self.old.graph) (plan_of self.old.rounds) (plan_of self.new.rounds) (kept_rounds self.old.rounds) (kept_rounds self.new.rounds) (λ p a. (covers vrp.prefix p ≡ true) × ((kind_policy (policy_at self.old.book a)).reads_state ≡ true)) (round_count self.old.rounds) steps.old steps.new) }
+        ensures quick { OnOk result (AreFewSteps (relation self.old.graph) (plan_of self.old.rounds) (plan_of self.new.rounds) (kept_rounds self.old.rounds) (kept_rounds self.new.rounds) (λ p a. (covers vrp.prefix p ≡ true) × ((kind_policy (policy_at self.old.book a)).reads_state ≡ true)) (round_count self.old.rounds) steps.old steps.new) }
         ensures err { OnErr result (IsUnchanged self.old self.new) }
     {
         let touched = self.touched_by(alloc, vrp)?;

@@ -15,7 +15,7 @@ use Rattle.stability_laws.proofs.Local.{one_right}
 use Rattle.stability_laws.proofs.Passes.{up_keeps, up_now, whole_low, whole_low_same, whole_keeps, whole_now}
 use Rattle.stability_laws.proofs.Pieces.{occurs_left, occurs_right, run_append, pieces_split, settled}
 
-module _ (w : Setting) (lawful : (a : ℕ) → IsLawful (w.policy a)) (mutual_links : IsMutual w.what) (alone : (a : ℕ) → w.what a a ≡ None) (seeds : ℕ → Option Seed) (rank : ℕ → ℕ) (falls : (a b : ℕ) → w.what a b ≡ Some Customer → suc (rank b) ≤ rank a) (height : ℕ) (within : (a : ℕ) → w.has a ≡ true → rank a < height) where
+module _ (w : Setting) (lawful : (a : ℕ) → IsLawful (w.policy a)) (mutual_links : IsMutual w.relation) (alone : (a : ℕ) → w.relation a a ≡ None) (seeds : ℕ → Option Seed) (rank : ℕ → ℕ) (falls : (a b : ℕ) → w.relation a b ≡ Some Customer → suc (rank b) ≤ rank a) (height : ℕ) (within : (a : ℕ) → w.has a ≡ true → rank a < height) where
   abbrev S : Type 0
   S = ℕ → Option Entry
 

@@ -39,7 +39,7 @@ pub given_when : (b : Bool) (o q : Offer) → cond b (Some o) None ≡ Some q �
 given_when true o q e = cc
 given_when false o q e = cc
 
-pub given_by : (sender receiver : Policy) (state : ℕ → State) (n a : ℕ) (what : Option Rel) (held : Option Entry) (o : Offer) → offer_given sender receiver state n a what held ≡ Some o → GivenBy what n o
+pub given_by : (sender receiver : Policy) (state : ℕ → State) (n a : ℕ) (relation : Option Rel) (held : Option Entry) (o : Offer) → offer_given sender receiver state n a relation held ≡ Some o → GivenBy relation n o
 given_by s r st n a None held o e = cc
 given_by s r st n a (Some from) None o e = cc
 given_by s r st n a (Some from) (Some d) o e =

@@ -19,7 +19,7 @@ not_low None h = refl
 not_low (Some e) h = elim h [ inl is ↦ ap (λ k. low_by k e) is | inr is ↦ ap (λ k. low_by k e) is ]
 
 -- who holds nothing of class Origin or Customer makes no offer to a peer or a provider of its own
-pub no_offer_up : (w : Setting) → ((a : ℕ) → IsLawful (w.policy a)) → (f : ℕ → Option Entry) (n a : ℕ) (from : Rel) → w.what a n ≡ Some from → from ≢ Provider → IsForCustomersOnly (f n) → offer w f n a ≡ None
+pub no_offer_up : (w : Setting) → ((a : ℕ) → IsLawful (w.policy a)) → (f : ℕ → Option Entry) (n a : ℕ) (from : Rel) → w.relation a n ≡ Some from → from ≢ Provider → IsForCustomersOnly (f n) → offer w f n a ≡ None
 no_offer_up w lawful f n a from linked up h =
     ap (λ r. offer_given (w.policy n) (w.policy a) w.state n a r (f n)) linked
     ∙ offers_low (w.policy n) (w.policy a) (lawful n).exports_down_only w.state n a from up (f n)
@@ -36,32 +36,32 @@ module _ (w : Setting) (lawful : (a : ℕ) → IsLawful (w.policy a)) (f : ℕ �
   p : Policy
   p = w.policy a
 
-  of_customer : (n : ℕ) (o : Offer) → customers_offers n ≡ Some o → (w.what a n ≡ Some Customer) × (all_offers n ≡ Some o)
-  of_customer n o e = by (w.what a n) refl e
+  of_customer : (n : ℕ) (o : Offer) → customers_offers n ≡ Some o → (w.relation a n ≡ Some Customer) × (all_offers n ≡ Some o)
+  of_customer n o e = by (w.relation a n) refl e
     where
-      by : (r : Option Rel) → w.what a n ≡ r → if_customer r (offer w f n a) ≡ Some o → (w.what a n ≡ Some Customer) × (all_offers n ≡ Some o)
+      by : (r : Option Rel) → w.relation a n ≡ r → if_customer r (offer w f n a) ≡ Some o → (w.relation a n ≡ Some Customer) × (all_offers n ≡ Some o)
       by None is e = cc
       by (Some Customer) is e = (is, e)
       by (Some Peer) is e = cc
       by (Some Provider) is e = cc
 
-  customers_among : (n : ℕ) → w.what a n ≡ Some Customer → customers_offers n ≡ all_offers n
+  customers_among : (n : ℕ) → w.relation a n ≡ Some Customer → customers_offers n ≡ all_offers n
   customers_among n is = ap (λ r. if_customer r (offer w f n a)) is
 
-  rel_of : (n : ℕ) (o : Offer) → all_offers n ≡ Some o → GivenBy (w.what a n) n o
-  rel_of n o e = given_by (w.policy n) (w.policy a) w.state n a (w.what a n) (f n) o e
+  rel_of : (n : ℕ) (o : Offer) → all_offers n ≡ Some o → GivenBy (w.relation a n) n o
+  rel_of n o e = given_by (w.policy n) (w.policy a) w.state n a (w.relation a n) (f n) o e
 
   -- an offer of no customer is not before one of a customer
-  module _ (n : ℕ) (o : Offer) (made : all_offers n ≡ Some o) (customer : w.what a n ≡ Some Customer) (m : ℕ) (q : Offer) (other : all_offers m ≡ Some q) where
+  module _ (n : ℕ) (o : Offer) (made : all_offers n ≡ Some o) (customer : w.relation a n ≡ Some Customer) (m : ℕ) (q : Offer) (other : all_offers m ≡ Some q) where
     customer_rel : o.view.rel ≡ Customer
     customer_rel = let from = rel_of n o made in let e : Some from.from ≡ Some Customer = sym from.linked ∙ customer in from.rel ∙ (let x : from.from ≡ Customer = cc in x)
 
-    before_others : ((w.what a m ≡ Some Customer) → ⊥) → IsTrue (p.before o.view q.view)
+    before_others : ((w.relation a m ≡ Some Customer) → ⊥) → IsTrue (p.before o.view q.view)
     unfolding p
     before_others apart = (lawful a).prefers_customers o.view q.view customer_rel (λ e. apart ((rel_of m q other).linked ∙ ap Some (sym (rel_of m q other).rel ∙ e)))
 
-  customer_or : (m : ℕ) → (w.what a m ≡ Some Customer) ⊎ ((w.what a m ≡ Some Customer) → ⊥)
-  customer_or m = by (w.what a m)
+  customer_or : (m : ℕ) → (w.relation a m ≡ Some Customer) ⊎ ((w.relation a m ≡ Some Customer) → ⊥)
+  customer_or m = by (w.relation a m)
     where
       by : (r : Option Rel) → (r ≡ Some Customer) ⊎ (r ≡ Some Customer → ⊥)
       by None = inr (λ e. (let x : None ≡ Some Customer = e in cc))
@@ -77,7 +77,7 @@ module _ (w : Setting) (lawful : (a : ℕ) → IsLawful (w.policy a)) (f : ℕ �
       | inl here ↦ (n, b, record { made = customers_among n here ∙ best.made; first = λ m q given ne. best.first m q (of_customer m q given).1 ne }, is)
       | inr apart ↦ absurd (let there = of_customer c o has_customer in
           not_both (w.policy a) (lawful a).ranks_offers b.view o.view
-          (best.first c o there.1 (λ e. apart (subst (λ t. w.what a t ≡ Some Customer) e there.0)))
+          (best.first c o there.1 (λ e. apart (subst (λ t. w.relation a t ≡ Some Customer) e there.0)))
           (before_others c o there.1 there.0 n b best.made apart))
     ]
 
@@ -124,7 +124,7 @@ alike_when false true o q e h = absurd (true≢false (sym e))
 alike_when false false o q e h = tt
 
 -- the states change the view alone, where the receiver doesn't read them
-offers_alike : (sender p : Policy) → IgnoresState p → p.reads_state ≡ false → (st st' : ℕ → State) (n a : ℕ) (what : Option Rel) (held : Option Entry) → AreAlike (offer_given sender p st n a what held) (offer_given sender p st' n a what held)
+offers_alike : (sender p : Policy) → IgnoresState p → p.reads_state ≡ false → (st st' : ℕ → State) (n a : ℕ) (relation : Option Rel) (held : Option Entry) → AreAlike (offer_given sender p st n a relation held) (offer_given sender p st' n a relation held)
 unfolding AreAlike
 offers_alike s p ignores unread st st' n a None held = tt
 offers_alike s p ignores unread st st' n a (Some from) None = tt
@@ -135,7 +135,7 @@ offers_alike s p ignores unread st st' n a (Some from) (Some e) =
     (record { entry = refl; state = st' (last_or 0 e.path); view = refl })
 
 -- the sender's part in an offer is what it exports and whether it marks
-pub same_sender : (s s' p : Policy) → s.exports ≡ s'.exports → s.marks ≡ s'.marks → (st : ℕ → State) (n a : ℕ) (what : Option Rel) (held : Option Entry) → offer_given s p st n a what held ≡ offer_given s' p st n a what held
+pub same_sender : (s s' p : Policy) → s.exports ≡ s'.exports → s.marks ≡ s'.marks → (st : ℕ → State) (n a : ℕ) (relation : Option Rel) (held : Option Entry) → offer_given s p st n a relation held ≡ offer_given s' p st n a relation held
 same_sender s s' p ex mk st n a None held = refl
 same_sender s s' p ex mk st n a (Some from) None = refl
 same_sender s s' p ex mk st n a (Some from) (Some e) =
@@ -178,21 +178,21 @@ alike_right p ignores unread os qs alike None (Some e) (n, o, best, is) =
 -- whether a routing is right at an AS depends on what is around it
 pub right_around : (v w : Setting) (f g : ℕ → Option Entry) (seeds seeds' : ℕ → Option Seed) (a : ℕ) → SameAround v w f g a → IgnoresState (w.policy a) → seeds a ≡ seeds' a → f a ≡ g a → IsRight v seeds f a → IsRight w seeds' g a
 right_around v w f g seeds seeds' a same ignores seed entry right = elim same.states [
-  | inl unread ↦ alike_right (w.policy a) ignores unread (λ n. in_w v.state n) (λ n. in_w w.state n) (λ n. offers_alike (w.policy n) (w.policy a) ignores unread v.state w.state n a (w.what a n) (g n)) (seeds' a) (g a) moved
+  | inl unread ↦ alike_right (w.policy a) ignores unread (λ n. in_w v.state n) (λ n. in_w w.state n) (λ n. offers_alike (w.policy n) (w.policy a) ignores unread v.state w.state n a (w.relation a n) (g n)) (seeds' a) (g a) moved
   | inr states ↦ (let F : (ℕ → State) → Type 0 = λ st. IsRightGiven (w.policy a) (seeds' a) (λ n. in_w st n) (g a) in subst F (λ i o. states o i) moved)
 ]
   where
     in_w : (ℕ → State) → ℕ → Option Offer
-    in_w st n = offer_given (w.policy n) (w.policy a) st n a (w.what a n) (g n)
+    in_w st n = offer_given (w.policy n) (w.policy a) st n a (w.relation a n) (g n)
 
-    by_link : (n : ℕ) (r : Option Rel) → w.what a n ≡ r → offer_given (v.policy n) (w.policy a) v.state n a r (f n) ≡ offer_given (w.policy n) (w.policy a) v.state n a r (g n)
+    by_link : (n : ℕ) (r : Option Rel) → w.relation a n ≡ r → offer_given (v.policy n) (w.policy a) v.state n a r (f n) ≡ offer_given (w.policy n) (w.policy a) v.state n a r (g n)
     by_link n None is = refl
     by_link n (Some r) is =
         same_sender (v.policy n) (w.policy n) (w.policy a) (same.exports n r is) (same.marks n r is) v.state n a (Some r) (f n)
         ∙ ap (offer_given (w.policy n) (w.policy a) v.state n a (Some r)) (same.entries n r is)
 
     offers : (n : ℕ) → offer v f n a ≡ in_w v.state n
-    offers n = (λ i. offer_given (v.policy n) (same.policy i) v.state n a (same.links n i) (f n)) ∙ by_link n (w.what a n) refl
+    offers n = (λ i. offer_given (v.policy n) (same.policy i) v.state n a (same.links n i) (f n)) ∙ by_link n (w.relation a n) refl
 
     moved : IsRightGiven (w.policy a) (seeds' a) (λ n. in_w v.state n) (g a)
     moved =

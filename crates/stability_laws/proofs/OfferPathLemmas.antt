@@ -7,7 +7,7 @@ use Rattle.stability_laws.specs.declared.entry.Entry.{Entry}
 use Rattle.stability_laws.specs.Offers.{Offer, offer_given, passes, view_of}
 use Rattle.stability_laws.proofs.Local.{given_when}
 
-pub path_given : (s r : Policy) (st : ℕ → State) (n a : ℕ) (what : Option Rel) (held : Option Entry) (o : Offer) → offer_given s r st n a what held ≡ Some o → (e : Entry) × (held ≡ Some e) × (o.entry.path ≡ a ∷ e.path)
+pub path_given : (s r : Policy) (st : ℕ → State) (n a : ℕ) (relation : Option Rel) (held : Option Entry) (o : Offer) → offer_given s r st n a relation held ≡ Some o → (e : Entry) × (held ≡ Some e) × (o.entry.path ≡ a ∷ e.path)
 path_given s r st n a None held o made = cc
 path_given s r st n a (Some from) None o made = cc
 path_given s r st n a (Some from) (Some e) o made =

@@ -19,7 +19,7 @@ first_round plan prefix f g a = by (announced_path plan prefix a)
     by None = refl
     by (Some path) = refl
 
-module _ (setting : PrefixValue → Setting) (lawful : (p : PrefixValue) (a : ℕ) → IsLawful ((setting p).policy a)) (ases : List ℕ) (links : (p : PrefixValue) → AreLinks (setting p).what ases) (no_cycle : (p : PrefixValue) → HasNoProviderCycle (setting p).what) (plan : Plan) (rounds : ℕ) (g h : ℕ → PrefixValue → ℕ → Option Entry) (g_is : AreRounds setting plan rounds g) (h_is : AreRounds setting plan rounds h) where
+module _ (setting : PrefixValue → Setting) (lawful : (p : PrefixValue) (a : ℕ) → IsLawful ((setting p).policy a)) (ases : List ℕ) (links : (p : PrefixValue) → AreLinks (setting p).relation ases) (no_cycle : (p : PrefixValue) → HasNoProviderCycle (setting p).relation) (plan : Plan) (rounds : ℕ) (g h : ℕ → PrefixValue → ℕ → Option Entry) (g_is : AreRounds setting plan rounds g) (h_is : AreRounds setting plan rounds h) where
   -- with the same seeds, the same routing
   same_by_seeds : (before : ℕ) (prefix : PrefixValue) → before < rounds → IsTrue (has_prefix plan prefix) →
       ((a : ℕ) → seeds_of plan (suc before) prefix (g before prefix) a ≡ seeds_of plan (suc before) prefix (h before prefix) a) → (a : ℕ) → g (suc before) prefix a ≡ h (suc before) prefix a

@@ -15,41 +15,41 @@ use Rattle.stability_laws.specs.Steps.{low, low_by, lows, IsStepUp, IsStepWhole,
 use Rattle.stability_laws.proofs.Local.{not_both, one_right, given_by, offers_low}
 
 module _ (w : Setting) (lawful : (a : ℕ) → IsLawful (w.policy a)) where
-  offered_by : (f : ℕ → Option Entry) (n a : ℕ) (o : Offer) → offer w f n a ≡ Some o → GivenBy (w.what a n) n o
-  offered_by f n a o e = given_by (w.policy n) (w.policy a) w.state n a (w.what a n) (f n) o e
+  offered_by : (f : ℕ → Option Entry) (n a : ℕ) (o : Offer) → offer w f n a ≡ Some o → GivenBy (w.relation a n) n o
+  offered_by f n a o e = given_by (w.policy n) (w.policy a) w.state n a (w.relation a n) (f n) o e
 
-  over_link : (f : ℕ → Option Entry) (n a : ℕ) (r : Option Rel) → w.what a n ≡ r → offer w f n a ≡ offer_given (w.policy n) (w.policy a) w.state n a r (f n)
+  over_link : (f : ℕ → Option Entry) (n a : ℕ) (r : Option Rel) → w.relation a n ≡ r → offer w f n a ≡ offer_given (w.policy n) (w.policy a) w.state n a r (f n)
   over_link f n a r is = ap (λ r. offer_given (w.policy n) (w.policy a) w.state n a r (f n)) is
 
   -- an offer depends on the entry at its giver alone
   pub same_offer : (f g : ℕ → Option Entry) (n a : ℕ) → f n ≡ g n → offer w f n a ≡ offer w g n a
-  same_offer f g n a e = ap (λ h. offer_given (w.policy n) (w.policy a) w.state n a (w.what a n) h) e
+  same_offer f g n a e = ap (λ h. offer_given (w.policy n) (w.policy a) w.state n a (w.relation a n) h) e
 
   -- who is no provider offers of its Origin and Customer entries alone
-  pub low_offer : (f : ℕ → Option Entry) (n a : ℕ) → w.what a n ≢ Some Provider → offer w f n a ≡ offer w (lows f) n a
-  low_offer f n a up = by (w.what a n) refl
+  pub low_offer : (f : ℕ → Option Entry) (n a : ℕ) → w.relation a n ≢ Some Provider → offer w f n a ≡ offer w (lows f) n a
+  low_offer f n a up = by (w.relation a n) refl
     where
-      by : (r : Option Rel) → w.what a n ≡ r → offer w f n a ≡ offer w (lows f) n a
+      by : (r : Option Rel) → w.relation a n ≡ r → offer w f n a ≡ offer w (lows f) n a
       by None is = over_link f n a None is ∙ sym (over_link (lows f) n a None is)
       by (Some from) is = over_link f n a (Some from) is ∙ offers_low (w.policy n) (w.policy a) (lawful n).exports_down_only w.state n a from (λ e. up (is ∙ ap Some e)) (f n) ∙ sym (over_link (lows f) n a (Some from) is)
 
-  pub customer_made : (f : ℕ → Option Entry) (n a : ℕ) (o : Offer) → customer_offer w f n a ≡ Some o → (w.what a n ≡ Some Customer) × (offer w f n a ≡ Some o)
-  customer_made f n a o made = by (w.what a n) refl made
+  pub customer_made : (f : ℕ → Option Entry) (n a : ℕ) (o : Offer) → customer_offer w f n a ≡ Some o → (w.relation a n ≡ Some Customer) × (offer w f n a ≡ Some o)
+  customer_made f n a o made = by (w.relation a n) refl made
     where
-      by : (r : Option Rel) → w.what a n ≡ r → if_customer r (offer w f n a) ≡ Some o → (w.what a n ≡ Some Customer) × (offer w f n a ≡ Some o)
+      by : (r : Option Rel) → w.relation a n ≡ r → if_customer r (offer w f n a) ≡ Some o → (w.relation a n ≡ Some Customer) × (offer w f n a ≡ Some o)
       by None is e = cc
       by (Some Customer) is e = (is, e)
       by (Some Peer) is e = cc
       by (Some Provider) is e = cc
 
-  if_customer_is : (f : ℕ → Option Entry) (n a : ℕ) (r : Option Rel) → w.what a n ≡ r → customer_offer w f n a ≡ if_customer r (offer w f n a)
+  if_customer_is : (f : ℕ → Option Entry) (n a : ℕ) (r : Option Rel) → w.relation a n ≡ r → customer_offer w f n a ≡ if_customer r (offer w f n a)
   if_customer_is f n a r is = ap (λ r. if_customer r (offer w f n a)) is
 
   -- two routings with the same offers of customers
-  by_customer : (f g : ℕ → Option Entry) (n a : ℕ) → (w.what a n ≡ Some Customer → offer w f n a ≡ offer w g n a) → customer_offer w f n a ≡ customer_offer w g n a
-  by_customer f g n a same = by (w.what a n) refl
+  by_customer : (f g : ℕ → Option Entry) (n a : ℕ) → (w.relation a n ≡ Some Customer → offer w f n a ≡ offer w g n a) → customer_offer w f n a ≡ customer_offer w g n a
+  by_customer f g n a same = by (w.relation a n) refl
     where
-      by : (r : Option Rel) → w.what a n ≡ r → if_customer r (offer w f n a) ≡ if_customer r (offer w g n a)
+      by : (r : Option Rel) → w.relation a n ≡ r → if_customer r (offer w f n a) ≡ if_customer r (offer w g n a)
       by None is = refl
       by (Some Customer) is = same is
       by (Some Peer) is = refl
@@ -61,16 +61,16 @@ module _ (w : Setting) (lawful : (a : ℕ) → IsLawful (w.policy a)) where
   -- of what is right with all offers, the Origin and Customer part is right with those of customers
   pub low_right : (seed : Option Seed) (f : ℕ → Option Entry) (a : ℕ) (held : Option Entry) → IsRightGiven (w.policy a) seed (λ n. offer w f n a) held → IsRightGiven (w.policy a) seed (λ n. customer_offer w f n a) (low held)
   low_right (Some s) f a held right = ap low right
-  low_right None f a None right = λ n. by n (w.what a n) refl
+  low_right None f a None right = λ n. by n (w.relation a n) refl
     where
-      by : (n : ℕ) (r : Option Rel) → w.what a n ≡ r → customer_offer w f n a ≡ None
+      by : (n : ℕ) (r : Option Rel) → w.relation a n ≡ r → customer_offer w f n a ≡ None
       by n None is = if_customer_is f n a None is
       by n (Some Customer) is = if_customer_is f n a (Some Customer) is ∙ right n
       by n (Some Peer) is = if_customer_is f n a (Some Peer) is
       by n (Some Provider) is = if_customer_is f n a (Some Provider) is
   low_right None f a (Some e) (n, o, best, is) = by from.from refl
     where
-      from : GivenBy (w.what a n) n o
+      from : GivenBy (w.relation a n) n o
       from = offered_by f n a o best.made
 
       class_is : (r : Rel) → from.from ≡ r → e.class ≡ class_of r
@@ -87,9 +87,9 @@ module _ (w : Setting) (lawful : (a : ℕ) → IsLawful (w.policy a)) where
           at None made = made
           at (Some q) made =
               let (linked, made') = customer_made f m a q made in
-              let of_m : GivenBy (w.what a m) m q = offered_by f m a q made' in
+              let of_m : GivenBy (w.relation a m) m q = offered_by f m a q made' in
               let is_customer : of_m.from ≡ Customer = (let l : Some of_m.from ≡ Some Customer = sym of_m.linked ∙ linked in cc) in
-              let apart : m ≢ n = λ same. other (let l : Some from.from ≡ Some Customer = sym from.linked ∙ sym (ap (w.what a) same) ∙ linked in let k : from.from ≡ r = x in cc) in
+              let apart : m ≢ n = λ same. other (let l : Some from.from ≡ Some Customer = sym from.linked ∙ sym (ap (w.relation a) same) ∙ linked in let k : from.from ≡ r = x in cc) in
               absurd (not_both (w.policy a) (lawful a).ranks_offers o.view q.view (best.first m q made' apart)
               ((lawful a).prefers_customers q.view o.view (of_m.rel ∙ is_customer) (λ c. other (sym x ∙ sym from.rel ∙ c))))
 
@@ -106,28 +106,28 @@ module _ (w : Setting) (lawful : (a : ℕ) → IsLawful (w.policy a)) where
   up_is_low None f a None right = refl
   up_is_low None f a (Some e) (n, o, best, is) =
       let (linked, made) = customer_made f n a o best.made in
-      let from : GivenBy (w.what a n) n o = offered_by f n a o made in
+      let from : GivenBy (w.relation a n) n o = offered_by f n a o made in
       let is_customer : from.from ≡ Customer = (let l : Some from.from ≡ Some Customer = sym from.linked ∙ linked in cc) in
       let class_is : e.class ≡ class.Customer = ap (λ (t : Entry). t.class) is ∙ from.class ∙ ap class_of is_customer in
       ap (λ (k : Class). low_by k e) class_is
 
   -- a step over customers' offers
   module _ (seeds : ℕ → Option Seed) (f g : ℕ → Option Entry) (a : ℕ) (step : IsStepUp w seeds f a g) where
-    same_from_customers : (b : ℕ) → w.what b a ≢ Some Customer → (n : ℕ) → customer_offer w f n b ≡ customer_offer w g n b
+    same_from_customers : (b : ℕ) → w.relation b a ≢ Some Customer → (n : ℕ) → customer_offer w f n b ≡ customer_offer w g n b
     same_from_customers b apart n = by_customer f g n b (λ is. elim (cases_eq n a) [
-      | inl e ↦ absurd (apart (sym (ap (w.what b) e) ∙ is))
+      | inl e ↦ absurd (apart (sym (ap (w.relation b) e) ∙ is))
       | inr ne ↦ same_offer f g n b (sym (step.others n ne))
     ])
 
     -- who has a for no customer stays right by its customers' offers
-    pub up_keeps : (b : ℕ) → b ≢ a → w.what b a ≢ Some Customer → IsRightUp w seeds f b → IsRightUp w seeds g b
+    pub up_keeps : (b : ℕ) → b ≢ a → w.relation b a ≢ Some Customer → IsRightUp w seeds f b → IsRightUp w seeds g b
     up_keeps b ne apart right =
         let F : (ℕ → Option Offer) → Option Entry → Type 0 = λ os h. IsRightGiven (w.policy b) (seeds b) os h in
         let there : f b ≡ g b = sym (step.others b ne) in
         coe 0 1 (i. F (λ n. same_from_customers b apart n i) (there i)) right
 
     -- and a becomes so
-    pub up_now : w.what a a ≡ None → IsRightUp w seeds g a
+    pub up_now : w.relation a a ≡ None → IsRightUp w seeds g a
     up_now none =
         let F : (ℕ → Option Offer) → Type 0 = λ os. IsRightGiven (w.policy a) (seeds a) os (g a) in
         subst F (λ i n. same_from_customers a (λ p. (let x : None ≡ Some Customer = sym none ∙ p in cc)) n i) step.right
@@ -151,21 +151,21 @@ module _ (w : Setting) (lawful : (a : ℕ) → IsLawful (w.policy a)) where
     ]
 
     module _ (same : (n : ℕ) → low (f n) ≡ low (g n)) where
-      same_offers : (b : ℕ) → w.what b a ≢ Some Provider → (n : ℕ) → offer w f n b ≡ offer w g n b
+      same_offers : (b : ℕ) → w.relation b a ≢ Some Provider → (n : ℕ) → offer w f n b ≡ offer w g n b
       same_offers b apart n = elim (cases_eq n a) [
         | inl e ↦ subst (λ t. offer w f t b ≡ offer w g t b) (sym e) (low_offer f a b apart ∙ same_offer (lows f) (lows g) a b (same a) ∙ sym (low_offer g a b apart))
         | inr ne ↦ same_offer f g n b (sym (step.others n ne))
       ]
 
       -- who has a for no provider stays right
-      pub whole_keeps : (b : ℕ) → b ≢ a → w.what b a ≢ Some Provider → IsRight w seeds f b → IsRight w seeds g b
+      pub whole_keeps : (b : ℕ) → b ≢ a → w.relation b a ≢ Some Provider → IsRight w seeds f b → IsRight w seeds g b
       whole_keeps b ne apart right =
           let F : (ℕ → Option Offer) → Option Entry → Type 0 = λ os h. IsRightGiven (w.policy b) (seeds b) os h in
           let there : f b ≡ g b = sym (step.others b ne) in
           coe 0 1 (i. F (λ n. same_offers b apart n i) (there i)) right
 
       -- and a becomes right
-      pub whole_now : w.what a a ≡ None → IsRight w seeds g a
+      pub whole_now : w.relation a a ≡ None → IsRight w seeds g a
       whole_now none =
           let F : (ℕ → Option Offer) → Type 0 = λ os. IsRightGiven (w.policy a) (seeds a) os (g a) in
           subst F (λ i n. same_offers a (λ p. (let x : None ≡ Some Provider = sym none ∙ p in cc)) n i) step.right

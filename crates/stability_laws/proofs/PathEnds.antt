@@ -17,8 +17,8 @@ use Rattle.stability_laws.specs.Rounds.{seed_given, seeds_of, leaked_class, AreR
 use Rattle.stability_laws.proofs.Local.{given_when}
 
 -- an offer is over a link, of an entry that the giver holds, whose path it puts after the receiver
-offer_path : (A : List ℕ → Type 0) (s r : Policy) (state : ℕ → State) (n a : ℕ) (what : Option Rel) (held : Option Entry) (o : Offer) → offer_given s r state n a what held ≡ Some o →
-    ((from : Rel) (d : Entry) → what ≡ Some from → held ≡ Some d → A (a ∷ d.path)) → A o.entry.path
+offer_path : (A : List ℕ → Type 0) (s r : Policy) (state : ℕ → State) (n a : ℕ) (relation : Option Rel) (held : Option Entry) (o : Offer) → offer_given s r state n a relation held ≡ Some o →
+    ((from : Rel) (d : Entry) → relation ≡ Some from → held ≡ Some d → A (a ∷ d.path)) → A o.entry.path
 offer_path A s r st n a None held o e f = absurd (let k : None ≡ Some o = e in cc)
 offer_path A s r st n a (Some from) None o e f = absurd (let k : None ≡ Some o = e in cc)
 offer_path A s r st n a (Some from) (Some d) o e f =
@@ -39,11 +39,11 @@ seed_path A None false held s q f g = absurd (let k : None ≡ Some s = q in cc)
 seed_path A None true None s q f g = absurd (let k : None ≡ Some s = q in cc)
 seed_path A None true (Some e) s q f g = leaked_path A e.class e s q (g e refl refl refl)
 
-module _ (setting : PrefixValue → Setting) (ends : (p : PrefixValue) (a b : ℕ) (r : Rel) → (setting p).what a b ≡ Some r → (setting p).has b ≡ true) (plan : Plan) (sound : IsSound plan) (rounds : ℕ) (g : ℕ → PrefixValue → ℕ → Option Entry) (g_is : AreRounds setting plan rounds g) where
+module _ (setting : PrefixValue → Setting) (ends : (p : PrefixValue) (a b : ℕ) (r : Rel) → (setting p).relation a b ≡ Some r → (setting p).has b ≡ true) (plan : Plan) (sound : IsSound plan) (rounds : ℕ) (g : ℕ → PrefixValue → ℕ → Option Entry) (g_is : AreRounds setting plan rounds g) where
   -- an entry's path is that of a seed, or that of a neighbour's entry after the AS
   held_path : (before : ℕ) (prefix : PrefixValue) → before < rounds → IsTrue (has_prefix plan prefix) → (a : ℕ) (e : Entry) → g (suc before) prefix a ≡ Some e → (A : List ℕ → Type 0) →
       ((s : Seed) → seeds_of plan (suc before) prefix (g before prefix) a ≡ Some s → A s.path) →
-      ((n : ℕ) (from : Rel) (d : Entry) → (setting prefix).what a n ≡ Some from → g (suc before) prefix n ≡ Some d → A (a ∷ d.path)) → A e.path
+      ((n : ℕ) (from : Rel) (d : Entry) → (setting prefix).relation a n ≡ Some from → g (suc before) prefix n ≡ Some d → A (a ∷ d.path)) → A e.path
   held_path before prefix within there a e held A seed offered = at ((setting prefix).has a) refl
     where
       stable : IsStable (setting prefix) (seeds_of plan (suc before) prefix (g before prefix)) (g (suc before) prefix)
@@ -52,7 +52,7 @@ module _ (setting : PrefixValue → Setting) (ends : (p : PrefixValue) (a b : �
       by : (s : Option Seed) → seeds_of plan (suc before) prefix (g before prefix) a ≡ s → IsRightGiven ((setting prefix).policy a) s (λ n. offer (setting prefix) (g (suc before) prefix) n a) (Some e) → A e.path
       by (Some s) q r = let k : e ≡ seed_entry s = cc in subst (λ (t : Entry). A t.path) (sym k) (seed s q)
       by None q (n, o, best, is) = subst (λ (t : Entry). A t.path) (sym is)
-          (offer_path A ((setting prefix).policy n) ((setting prefix).policy a) (setting prefix).state n a ((setting prefix).what a n) (g (suc before) prefix n) o best.made (λ from d l h. offered n from d l h))
+          (offer_path A ((setting prefix).policy n) ((setting prefix).policy a) (setting prefix).state n a ((setting prefix).relation a n) (g (suc before) prefix n) o best.made (λ from d l h. offered n from d l h))
 
       at : (v : Bool) → (setting prefix).has a ≡ v → A e.path
       at false v = absurd (let k : None ≡ Some e = sym (stable.only_ases a v) ∙ held in cc)
@@ -77,7 +77,7 @@ module _ (setting : PrefixValue → Setting) (ends : (p : PrefixValue) (a b : �
   announced_now : (prefix : PrefixValue) (a : ℕ) (path : List ℕ) → announced_path plan prefix a ≡ Some path → GoesOn prefix a path
   announced_now prefix a path e free = absurd (let k : true ≡ false = sym (ap is_some e) ∙ free in cc)
 
-  offered_on : (before : ℕ) (prefix : PrefixValue) → before < rounds → IsTrue (has_prefix plan prefix) → (a n : ℕ) (from : Rel) (d : Entry) → (setting prefix).what a n ≡ Some from → g (suc before) prefix n ≡ Some d → GoesOn prefix a (a ∷ d.path)
+  offered_on : (before : ℕ) (prefix : PrefixValue) → before < rounds → IsTrue (has_prefix plan prefix) → (a n : ℕ) (from : Rel) (d : Entry) → (setting prefix).relation a n ≡ Some from → g (suc before) prefix n ≡ Some d → GoesOn prefix a (a ∷ d.path)
   offered_on before prefix within there a n from d l h free = (n, path_starts before prefix within there n d h, ends prefix a n from l)
 
   pub path_goes_on : (before : ℕ) (prefix : PrefixValue) → before < rounds → IsTrue (has_prefix plan prefix) → (a : ℕ) (e : Entry) → g (suc before) prefix a ≡ Some e → GoesOn prefix a e.path

@@ -9,7 +9,7 @@ use Rattle.stability_laws.specs.Offers.{Offer, offer_given, passes, passed_on, v
 use Rattle.stability_laws.specs.Stable.{IsBest, IsRightGiven}
 use Rattle.stability_laws.proofs.Local.{one_best, given_when}
 
-pub entry_of : (s r : Policy) (st : ℕ → State) (n a : ℕ) (what : Option Rel) (held : Option Entry) (o : Offer) (e : Entry) → offer_given s r st n a what held ≡ Some o → held ≡ Some e → o.entry ≡ passed_on s.marks r.marks n a o.view.rel e
+pub entry_of : (s r : Policy) (st : ℕ → State) (n a : ℕ) (relation : Option Rel) (held : Option Entry) (o : Offer) (e : Entry) → offer_given s r st n a relation held ≡ Some o → held ≡ Some e → o.entry ≡ passed_on s.marks r.marks n a o.view.rel e
 entry_of s r st n a None held o e h k = cc
 entry_of s r st n a (Some from) None o e h k = cc
 entry_of s r st n a (Some from) (Some d) o e h k =

@@ -2,7 +2,7 @@
 use Rattle.std.specs.Prelude.{◌≡◌, ℕ, ◌+◌, false, Option, None, List}
 use Rattle.net_names.specs.declared.routes.State.{State}
 use Rattle.policy_laws.specs.Policy.{Policy}
-use Rattle.as_graph.specs.Topology.{Topology, what, has}
+use Rattle.as_graph.specs.Topology.{Topology, relation, has}
 use Rattle.as_graph.specs.Hierarchy.{HasNoProviderCycle}
 use Rattle.stability_laws.specs.declared.entry.Entry.{Entry}
 use Rattle.stability_laws.specs.declared.entry.Seed.{Seed}
@@ -22,5 +22,5 @@ IsActivated w seeds xs f g = IsRunBy (IsStepWhole w seeds) xs f g
 abbrev pub AnyOrderSettles : {P : Type 0} → (P → Policy) → Type 0
 AnyOrderSettles {P} meaning =
     (w : Topology) (book : PolicyBook P) (state : ℕ → State) (seeds : ℕ → Option Seed) (height : ℕ) (xs : List ℕ) (f g : ℕ → Option Entry) →
-    HasNoProviderCycle (what w) → IsHeight w height → HasOnly (has w) xs → HasPieces (has w) (height + height) xs →
+    HasNoProviderCycle (relation w) → IsHeight w height → HasOnly (has w) xs → HasPieces (has w) (height + height) xs →
     ((a : ℕ) → has w a ≡ false → f a ≡ None) → IsActivated (setting meaning w book state) seeds xs f g → IsStable (setting meaning w book state) seeds g

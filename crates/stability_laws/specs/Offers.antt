@@ -14,7 +14,7 @@ use Rattle.stability_laws.specs.Entries.{class_of}
 -- what stability at one prefix reads of a world: which numbers are ASes, what the second AS is to the first, the policy of each AS, and the state of the prefix with each origin
 pub record Setting : Type 0 where
   pub has : ℕ → Bool
-  pub what : ℕ → ℕ → Option Rel
+  pub relation : ℕ → ℕ → Option Rel
   pub policy : ℕ → Policy
   pub state : ℕ → State
 
@@ -77,12 +77,12 @@ offer_given sender receiver state n a (Some from) (Some e) =
 
 -- the offer that n makes to a in the routing f (RFC 4271, section 9.1)
 abbrev pub offer : Setting → (ℕ → Option Entry) → ℕ → ℕ → Option Offer
-offer w f n a = offer_given (w.policy n) (w.policy a) w.state n a (w.what a n) (f n)
+offer w f n a = offer_given (w.policy n) (w.policy a) w.state n a (w.relation a n) (f n)
 
 -- an offer of n comes over a link, and its view and its class name what n is
-pub record GivenBy (what : Option Rel) (n : ℕ) (o : Offer) : Type 0 where
+pub record GivenBy (relation : Option Rel) (n : ℕ) (o : Offer) : Type 0 where
   pub from : Rel
-  pub linked : what ≡ Some from
+  pub linked : relation ≡ Some from
   pub rel : o.view.rel ≡ from
   pub neighbour : o.view.neighbour ≡ n
   pub class : o.entry.class ≡ class_of from

@@ -1,7 +1,7 @@
 //! Whether a routing is right at one AS.
 ghost use Rattle.std.specs.Prelude.{◌≡◌, ◌↔◌, ◌∷◌, IsTrue, IsOk, ◌<◌, ◌-◌, ◌^◌, ℕ, Some, length, option_map};
 ghost use Rattle.std.specs.FinMap as map;
-ghost use Rattle.as_graph.specs.Topology.{what};
+ghost use Rattle.as_graph.specs.Topology.{relation};
 ghost use Rattle.as_graph.specs.Neighbours.{AreNeighbours};
 ghost use Rattle.stability_laws.specs.Book.{policy_at};
 ghost use Rattle.stability_laws.specs.Offers.{Offer, offer, passed_on};
@@ -31,7 +31,7 @@ fn view_from<P: RoutePolicy, V: OriginStates>(
     asn: Asn,
     neighbour: &Neighbour,
 ) -> Option<View>
-    requires { what graph.now asn neighbour.now.asn ≡ Some neighbour.now.rel }
+    requires { relation graph.now asn neighbour.now.asn ≡ Some neighbour.now.rel }
     ensures { result ≡ option_map (λ o. o.view) (offer (setting P.meaning graph.now book.now (V.state_of states.now prefix)) (map.get routing.now) neighbour.now.asn asn) }
 {
     let held = routing.get(neighbour.asn)?;
@@ -72,7 +72,7 @@ fn best_view<P: RoutePolicy, V: OriginStates>(
     routing: &Routing,
     asn: Asn,
 ) -> Option<View>
-    requires { AreNeighbours (what graph.now) asn neighbours.now }
+    requires { AreNeighbours (relation graph.now) asn neighbours.now }
     ensures { IsBestView (P.meaning (policy_at book.now asn)) (λ n. offer (setting P.meaning graph.now book.now (V.state_of states.now prefix)) (map.get routing.now) n asn) result }
 {
     let own = book.policy(asn);
@@ -148,7 +148,7 @@ fn check_among<P: RoutePolicy, V: OriginStates>(
     routing: &Routing,
     asn: Asn,
 ) -> Result<(), Wrong>
-    requires { AreNeighbours (what graph.now) asn neighbours.now }
+    requires { AreNeighbours (relation graph.now) asn neighbours.now }
     ensures verdict { IsVerdict (setting P.meaning graph.now book.now (V.state_of states.now prefix)) (map.get seeds.now) (map.get routing.now) asn result }
     ensures right { IsRight (setting P.meaning graph.now book.now (V.state_of states.now prefix)) (map.get seeds.now) (map.get routing.now) asn → IsOk result }
 {

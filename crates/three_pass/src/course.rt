@@ -6,7 +6,7 @@ ghost use Rattle.std.specs.List.{IsDistinct};
 ghost use Rattle.net_names.specs.Numbers.{occurs};
 ghost use Rattle.net_names.specs.declared.routes.Rel.{Rel as ARel};
 ghost use Rattle.net_names.specs.declared.routes.Rel.TheVariants.{Provider as AProvider};
-ghost use Rattle.as_graph.specs.Topology.{what};
+ghost use Rattle.as_graph.specs.Topology.{relation};
 ghost use Rattle.as_graph.specs.Hierarchy.{IsRank};
 ghost use Rattle.as_graph.specs.Neighbours.{asns};
 ghost use Rattle.rank_order.specs.Ranks.{rank_at};
@@ -80,7 +80,7 @@ fn put_providers(
     places: &[u32],
 ) -> Result<(), NoMemory>
     requires { list.old.neighbours.items ≡ [] }
-    ensures { OnOk result (AreProviders (what graph.now) asn list.new.neighbours.items) }
+    ensures { OnOk result (AreProviders (relation graph.now) asn list.new.neighbours.items) }
 {
     let neighbours = graph.neighbours_near(asn, row);
     let rows = graph.neighbour_places(row);
@@ -99,7 +99,7 @@ fn providers_of(
     rows: &[u32],
     places: &[u32],
 ) -> Result<ProviderLists, NoMemory>
-    ensures { IfOk result (λ l. AreAbove (what graph.now) ases.now l) }
+    ensures { IfOk result (λ l. AreAbove (relation graph.now) ases.now l) }
 {
     let mut lists = ProviderLists::none(alloc)?;
     let mut list = Looks::none(alloc);
@@ -140,7 +140,7 @@ fn shared(alloc: Global, ases: &[Asn]) -> Result<Rc<AsPlaces>, NoMemory>
 impl Course {
     /// The course of a graph and its ranks. The only refusal is want of memory.
     pub fn of(alloc: Global, graph: &Graph, ranks: &Ranks) -> Result<Course, NoMemory>
-        requires { (a : ℕ) → IsRank (what graph.now) a (rank_at ranks.now a) }
+        requires { (a : ℕ) → IsRank (relation graph.now) a (rank_at ranks.now a) }
         ensures { IfOk result (IsCourse graph.now) }
     {
         let order = placed_by_rank(alloc, graph, ranks)?;

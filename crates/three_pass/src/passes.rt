@@ -4,7 +4,7 @@ ghost use Rattle.std.specs.Prelude.{◌≡◌, ◌≢◌, ◌↔◌, ℕ, IsTrue
 ghost use Rattle.net_names.specs.Numbers.{occurs};
 ghost use Rattle.net_names.specs.declared.routes.Rel.{Rel as ARel};
 ghost use Rattle.net_names.specs.declared.routes.Rel.TheVariants.{Customer};
-ghost use Rattle.as_graph.specs.Topology.{what};
+ghost use Rattle.as_graph.specs.Topology.{relation};
 ghost use Rattle.as_graph.specs.Hierarchy.{HasNoProviderCycle};
 ghost use Rattle.as_graph.specs.Neighbours.{asns};
 ghost use Rattle.stability_laws.specs.Book.{policy_at};
@@ -78,10 +78,10 @@ fn step<P: RoutePolicy, V: OriginStates, L: Ledger>(
 ) -> bool
     requires can { CanStep pool.old seeds.now table.now overlay.old 1 }
     requires inside { place < count_of course.now.above }
-    requires above { AreProviders (what graph.now) asn (list_at course.now.above place) }
-    requires true_notes { AreTrue (what graph.now) told.now }
+    requires above { AreProviders (relation graph.now) asn (list_at course.now.above place) }
+    requires true_notes { AreTrue (relation graph.now) told.now }
     requires told { HaveTold (IsTold told.now) (setting P.meaning graph.now book.now (V.state_of states.now (prefix_of table.now))) (routing_of pool.old table.now overlay.old) asn }
-    requires no_loops { may_loop ≡ false → HasNoLoops part (what graph.now) (λ n. P.meaning (policy_at book.now n)) (routing_of pool.old table.now overlay.old) asn }
+    requires no_loops { may_loop ≡ false → HasNoLoops part (relation graph.now) (λ n. P.meaning (policy_at book.now n)) (routing_of pool.old table.now overlay.old) asn }
     ensures cost { steps.new ≡ steps.old + 1 }
     ensures step { IsStepOf part (setting P.meaning graph.now book.now (V.state_of states.now (prefix_of table.now))) (seeds_of pool.old seeds.now) (routing_of pool.old table.now overlay.old) asn (routing_of pool.new table.now overlay.new) }
     ensures changed { IsTrue result ↔ (routing_of pool.new table.now overlay.new asn ≢ routing_of pool.old table.now overlay.old asn) }
@@ -145,15 +145,15 @@ fn step_up<P: RoutePolicy, V: OriginStates, L: Ledger>(
     requires inside { place < length course.now.order.ases.items }
     requires nothing { routing_of pool.old table.now overlay.old (slice_index course.now.order.ases.items place) ≡ None }
     requires unnamed { is_among named.now (slice_index course.now.order.ases.items place) ≡ false → seed_at seeds.now (slice_index course.now.order.ases.items place) ≡ None }
-    requires true_notes { AreTrue (what graph.now) told.old }
+    requires true_notes { AreTrue (relation graph.now) told.old }
     requires told { HaveTold (IsTold told.old) (setting P.meaning graph.now book.now (V.state_of states.now (prefix_of table.now))) (routing_of pool.old table.now overlay.old) (slice_index course.now.order.ases.items place) }
-    requires no_loops { is_among named.now (slice_index course.now.order.ases.items place) ≡ false → HasNoLoops Part.Up (what graph.now) (λ n. P.meaning (policy_at book.now n)) (routing_of pool.old table.now overlay.old) (slice_index course.now.order.ases.items place) }
+    requires no_loops { is_among named.now (slice_index course.now.order.ases.items place) ≡ false → HasNoLoops Part.Up (relation graph.now) (λ n. P.meaning (policy_at book.now n)) (routing_of pool.old table.now overlay.old) (slice_index course.now.order.ases.items place) }
     requires room { CanGo pool.old seeds.now table.now overlay.old course.now.order.ases.items }
     ensures cost { steps.new ≤ steps.old + 1 }
     ensures step { IsStepOf Part.Up (setting P.meaning graph.now book.now (V.state_of states.now (prefix_of table.now))) (seeds_of pool.old seeds.now) (routing_of pool.old table.now overlay.old) (slice_index course.now.order.ases.items place) (routing_of pool.new table.now overlay.new) }
-    ensures around { routing_of pool.new table.now overlay.new (slice_index course.now.order.ases.items place) ≢ None → (n : ℕ) (r : ARel) → what graph.now (slice_index course.now.order.ases.items place) n ≡ Some r → r ≢ Customer → IsTold told.new n (slice_index course.now.order.ases.items place) }
+    ensures around { routing_of pool.new table.now overlay.new (slice_index course.now.order.ases.items place) ≢ None → (n : ℕ) (r : ARel) → relation graph.now (slice_index course.now.order.ases.items place) n ≡ Some r → r ≢ Customer → IsTold told.new n (slice_index course.now.order.ases.items place) }
     ensures others { (a b : ℕ) → IsTold told.old a b → IsTold told.new a b }
-    ensures true_notes { AreTrue (what graph.now) told.new }
+    ensures true_notes { AreTrue (relation graph.now) told.new }
     ensures room { CanGo pool.new seeds.now table.now overlay.new course.now.order.ases.items }
     ensures spent { HasSpent pool.old pool.new seeds.now table.now overlay.old overlay.new course.now.order.ases.items }
 {
@@ -199,17 +199,17 @@ pub fn go_up<P: RoutePolicy, V: OriginStates, L: Ledger>(
     overlay: &mut Overlay,
     steps: &mut Steps<L>,
 )
-    requires no_cycle { HasNoProviderCycle (what graph.now) }
+    requires no_cycle { HasNoProviderCycle (relation graph.now) }
     requires course { IsCourse graph.now course.now }
     requires empty { (a : ℕ) → joined table.now overlay.old a ≡ None }
     requires named { AreNamed (is_among named.now) (seeds_of pool.old seeds.now) }
     requires unnamed { (a : ℕ) → is_among named.now a ≡ false → seed_at seeds.now a ≡ None }
-    requires true_notes { AreTrue (what graph.now) told.old }
+    requires true_notes { AreTrue (relation graph.now) told.old }
     requires room { CanGo pool.old seeds.now table.now overlay.old course.now.order.ases.items }
     ensures cost { steps.new ≤ steps.old + length course.now.order.ases.items }
     ensures done { AfterUp (setting P.meaning graph.now book.now (V.state_of states.now (prefix_of table.now))) (seeds_of pool.old seeds.now) course.now.order.ases.items (routing_of pool.new table.now overlay.new) }
-    ensures told { (b n : ℕ) (r : ARel) → occurs b course.now.order.ases.items ≡ true → routing_of pool.new table.now overlay.new b ≢ None → what graph.now b n ≡ Some r → r ≢ Customer → IsTold told.new n b }
-    ensures true_notes { AreTrue (what graph.now) told.new }
+    ensures told { (b n : ℕ) (r : ARel) → occurs b course.now.order.ases.items ≡ true → routing_of pool.new table.now overlay.new b ≢ None → relation graph.now b n ≡ Some r → r ≢ Customer → IsTold told.new n b }
+    ensures true_notes { AreTrue (relation graph.now) told.new }
     ensures room { CanGo pool.new seeds.now table.now overlay.new course.now.order.ases.items }
     ensures spent { HasSpent pool.old pool.new seeds.now table.now overlay.old overlay.new course.now.order.ases.items }
 {
@@ -241,11 +241,11 @@ fn step_down<P: RoutePolicy, V: OriginStates, L: Ledger>(
 ) -> bool
     requires can { CanStep pool.old seeds.now table.now overlay.old 1 }
     requires inside { place < count_of course.now.above }
-    requires above { AreProviders (what graph.now) asn (list_at course.now.above place) }
+    requires above { AreProviders (relation graph.now) asn (list_at course.now.above place) }
     requires held { routing_of pool.old table.now overlay.old asn ≢ None → IsStepOf Part.Whole (setting P.meaning graph.now book.now (V.state_of states.now (prefix_of table.now))) (seeds_of pool.old seeds.now) (routing_of pool.old table.now overlay.old) asn (routing_of pool.old table.now overlay.old) }
-    requires true_notes { AreTrue (what graph.now) told.now }
+    requires true_notes { AreTrue (relation graph.now) told.now }
     requires told { HaveTold (IsTold told.now) (setting P.meaning graph.now book.now (V.state_of states.now (prefix_of table.now))) (routing_of pool.old table.now overlay.old) asn }
-    requires no_loops { routing_of pool.old table.now overlay.old asn ≡ None → is_among named.now asn ≡ false → HasNoLoops Part.Whole (what graph.now) (λ n. P.meaning (policy_at book.now n)) (routing_of pool.old table.now overlay.old) asn }
+    requires no_loops { routing_of pool.old table.now overlay.old asn ≡ None → is_among named.now asn ≡ false → HasNoLoops Part.Whole (relation graph.now) (λ n. P.meaning (policy_at book.now n)) (routing_of pool.old table.now overlay.old) asn }
     ensures cost { steps.new ≤ steps.old + 1 }
     ensures step { IsStepOf Part.Whole (setting P.meaning graph.now book.now (V.state_of states.now (prefix_of table.now))) (seeds_of pool.old seeds.now) (routing_of pool.old table.now overlay.old) asn (routing_of pool.new table.now overlay.new) }
     ensures changed { IsTrue result ↔ (routing_of pool.new table.now overlay.new asn ≢ routing_of pool.old table.now overlay.old asn) }
@@ -293,9 +293,9 @@ pub fn go_down<P: RoutePolicy, V: OriginStates, L: Ledger>(
     overlay: &mut Overlay,
     steps: &mut Steps<L>,
 )
-    requires no_cycle { HasNoProviderCycle (what graph.now) }
+    requires no_cycle { HasNoProviderCycle (relation graph.now) }
     requires course { IsCourse graph.now course.now }
-    requires true_notes { AreTrue (what graph.now) told.now }
+    requires true_notes { AreTrue (relation graph.now) told.now }
     requires told { (a : ℕ) → HaveTold (IsTold told.now) (setting P.meaning graph.now book.now (V.state_of states.now (prefix_of table.now))) (routing_of pool.old table.now overlay.old) a }
     requires named { AreNamed (is_among named.now) (seeds_of pool.old seeds.now) }
     requires up { AfterUp (setting P.meaning graph.now book.now (V.state_of states.now (prefix_of table.now))) (seeds_of pool.old seeds.now) course.now.order.ases.items (routing_of pool.old table.now overlay.old) }

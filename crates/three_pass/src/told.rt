@@ -7,7 +7,7 @@ ghost use Rattle.net_names.specs.Numbers.{occurs};
 ghost use Rattle.net_names.specs.Links.{converse};
 ghost use Rattle.net_names.specs.declared.routes.Rel.{Rel as ARel};
 ghost use Rattle.net_names.specs.declared.routes.Rel.TheVariants.{Customer};
-ghost use Rattle.as_graph.specs.Topology.{what};
+ghost use Rattle.as_graph.specs.Topology.{relation};
 ghost use Rattle.as_graph.specs.Neighbours.{asns};
 ghost use Rattle.route_choice.specs.Tables.{joined};
 ghost use Rattle.three_pass.specs.Notes.{befores, tos, IsChained};
@@ -142,9 +142,9 @@ impl<'a> Told<'a> {
 
     // Tells the peers and the providers of an AS, which was last found at a row and at a place.
     fn tell_around(&mut self, graph: &Graph, asn: Asn, row: usize, place: usize)
-        ensures around { (n : ℕ) (r : ARel) → what graph.now asn n ≡ Some r → r ≢ Customer → IsTold self.new n asn }
+        ensures around { (n : ℕ) (r : ARel) → relation graph.now asn n ≡ Some r → r ≢ Customer → IsTold self.new n asn }
         ensures others { (a b : ℕ) → IsTold self.old a b → IsTold self.new a b }
-        ensures sound { AreTrue (what graph.now) self.old → AreTrue (what graph.now) self.new }
+        ensures sound { AreTrue (relation graph.now) self.old → AreTrue (relation graph.now) self.new }
     {
         links_are_sound();
         let neighbours = graph.neighbours_near(asn, row);
@@ -167,9 +167,9 @@ impl<'a> Told<'a> {
         table: &Table,
         overlay: &Overlay,
     )
-        ensures around { joined table.now overlay.now asn ≢ None → (n : ℕ) (r : ARel) → what graph.now asn n ≡ Some r → r ≢ Customer → IsTold self.new n asn }
+        ensures around { joined table.now overlay.now asn ≢ None → (n : ℕ) (r : ARel) → relation graph.now asn n ≡ Some r → r ≢ Customer → IsTold self.new n asn }
         ensures others { (a b : ℕ) → IsTold self.old a b → IsTold self.new a b }
-        ensures sound { AreTrue (what graph.now) self.old → AreTrue (what graph.now) self.new }
+        ensures sound { AreTrue (relation graph.now) self.old → AreTrue (relation graph.now) self.new }
     {
         if holds(table, overlay, asn, place) {
             self.tell_around(graph, asn, row, place);

@@ -2,7 +2,7 @@
 ghost use Rattle.std.specs.Prelude.{◌≡◌, ◌≢◌, ◌<◌, ◌≤◌, ℕ, true, false, None, Some, if◌then◌else◌, IfErr, OnOk, OnErr};
 ghost use Rattle.std.specs.FinMap as map;
 ghost use Rattle.as_graph.specs.declared.error.GraphError.TheVariants.{Memory};
-ghost use Rattle.as_graph.specs.Topology.{what, has, as_count, with_mark};
+ghost use Rattle.as_graph.specs.Topology.{relation, has, as_count, with_mark};
 ghost use Rattle.as_graph.specs.Room.{is_room_with, with_room, only_room_for, only_room_with};
 ghost use Rattle.as_graph.specs.Edits.{with_link, without_link, without_mark};
 ghost use Rattle.as_graph.specs.Refusals.{IsMarkRefusal, IsLinkRefusal};
@@ -55,7 +55,7 @@ impl Graph {
     pub fn link(&mut self, a: Asn, b: Asn, rel: Rel) -> Result<(), GraphError>
         requires { a ≢ b }
         ensures ok { OnOk result (self.new ≡ only_room_for (with_link self.old a b rel) a b) }
-        ensures few_links { OnOk result (what self.old a b ≡ None → map.len self.old.links < MOST_LINKS) }
+        ensures few_links { OnOk result (relation self.old a b ≡ None → map.len self.old.links < MOST_LINKS) }
         ensures few_ases { OnOk result (as_count (with_link self.old a b rel) ≤ MOST_ASES) }
         ensures err { OnErr result (self.new ≡ self.old) }
         ensures refused { IfErr result (IsLinkRefusal self.old a b rel) }
@@ -73,9 +73,9 @@ impl Graph {
     /// memory.
     pub fn unlink(&mut self, a: Asn, b: Asn) -> Result<(), Absent>
         ensures ok { OnOk result (self.new ≡ without_link self.old a b) }
-        ensures there { OnOk result (what self.old a b ≢ None) }
+        ensures there { OnOk result (relation self.old a b ≢ None) }
         ensures err { OnErr result (self.new ≡ self.old) }
-        ensures absent { OnErr result (what self.old a b ≡ None) }
+        ensures absent { OnErr result (relation self.old a b ≡ None) }
     {
         if self.rel(a, b).is_none() {
             return Err(Absent);

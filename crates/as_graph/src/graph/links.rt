@@ -2,7 +2,7 @@
 ghost use Rattle.std.specs.Prelude.{◌≡◌, ◌≢◌, ◌<◌, ◌≤◌, None, if◌then◌else◌, IfErr, OnOk, OnErr};
 ghost use Rattle.std.specs.FinMap as map;
 ghost use Rattle.net_names.specs.declared.routes.Rel.{Rel as ARel};
-ghost use Rattle.as_graph.specs.Topology.{what, as_count};
+ghost use Rattle.as_graph.specs.Topology.{relation, as_count};
 ghost use Rattle.as_graph.specs.Room.{is_room_for, only_room_for};
 ghost use Rattle.as_graph.specs.Edits.{with_link};
 ghost use Rattle.as_graph.specs.Refusals.{IsLinkRefusal};
@@ -34,7 +34,7 @@ fn one_new(there: bool) -> usize
 impl Graph {
     /// Sets the link of a pair that has one.
     pub(super) fn replace(&mut self, a: Asn, b: Asn, rel: Rel)
-        requires { what self.old a b ≢ None }
+        requires { relation self.old a b ≢ None }
         ensures set { self.new ≡ only_room_for (with_link self.old a b rel) a b }
         ensures few { as_count (with_link self.old a b rel) ≤ MOST_ASES }
     {
@@ -53,7 +53,7 @@ impl Graph {
     /// Sets the link of a pair that has none.
     pub(super) fn add(&mut self, a: Asn, b: Asn, rel: Rel) -> Result<(), GraphError>
         requires differ { a ≢ b }
-        requires new { what self.old a b ≡ None }
+        requires new { relation self.old a b ≡ None }
         ensures ok { OnOk result (self.new ≡ only_room_for (with_link self.old a b rel) a b) }
         ensures few_links { OnOk result (map.len self.old.links < MOST_LINKS) }
         ensures few_ases { OnOk result (as_count (with_link self.old a b rel) ≤ MOST_ASES) }

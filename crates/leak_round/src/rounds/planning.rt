@@ -3,7 +3,7 @@
 ghost use Rattle.std.specs.Prelude.{◌≡◌, ℕ, suc, ◌<◌, ◌≤◌, true, false, [], None, Some, IsTrue, IfOk, OnErr, option_map};
 ghost use Rattle.std.specs.Option.{option_copied, option_map_or};
 ghost use Rattle.net_names.specs.Prefixes.{PrefixValue};
-ghost use Rattle.as_graph.specs.Topology.{what, has};
+ghost use Rattle.as_graph.specs.Topology.{relation, has};
 ghost use Rattle.as_graph.specs.Hierarchy.{HasNoProviderCycle, IsRank};
 ghost use Rattle.path_pool.specs.Pool.{live_count};
 ghost use Rattle.rank_order.specs.Plans.{rank_after, IsLastPlan};
@@ -80,9 +80,9 @@ impl Rounds {
     ) -> Result<RoundsPlan, NoMemory>
         requires closed { is_open self.old ≡ false }
         requires few_cells { live_count (pool_of self.old) ≤ MOST_CELLS }
-        requires no_cycle { HasNoProviderCycle (what graph.now) }
+        requires no_cycle { HasNoProviderCycle (relation graph.now) }
         requires last { IsLastPlan ranks.now rank_plan.now }
-        requires ranks { (a : ℕ) → IsRank (what graph.now) a (rank_after ranks.now rank_plan.now a) }
+        requires ranks { (a : ℕ) → IsRank (relation graph.now) a (rank_after ranks.now rank_plan.now a) }
         requires known { (e : AnEdit) → option_copied edit ≡ Some e → IsEditOf (plan_of self.old) e }
         requires within { (e : AnEdit) → option_copied edit ≡ Some e → IsEditWithin 64 e }
         requires limits { (e : AnEdit) → option_copied edit ≡ Some e → IsWithinLimits (edited (plan_of self.old) e) }
@@ -95,7 +95,7 @@ impl Rounds {
         ensures asn { IfOk result (λ p. asn_edited p ≡ option_map edit_asn (option_copied edit.entry)) }
         ensures numbers { IfOk result (λ p. numbers_added p ≡ option_map_or edit_numbers (option_copied edit.entry) 0) }
         ensures stable { IfOk result (λ p. AreRounds (λ x. setting P.meaning graph.now book.now (V.state_of states.now x)) (plan_after self.new p) (round_count self.new) (kept_with self.new p)) }
-        ensures enough { IfOk result (λ p. AreEnoughFor (what graph.now) (course self.new p (touches touched.now)) (round_count self.new) steps.old steps.new) }
+        ensures enough { IfOk result (λ p. AreEnoughFor (relation graph.now) (course self.new p (touches touched.now)) (round_count self.new) steps.old steps.new) }
         ensures plan { plan_of self.new ≡ plan_of self.old }
         ensures rounds { round_count self.new ≡ round_count self.old }
         ensures kept { (round : ℕ) (prefix : PrefixValue) (a : ℕ) → kept self.new round prefix a ≡ kept self.old round prefix a }

@@ -2,7 +2,7 @@
 
 ghost use Rattle.std.specs.Prelude.{◌≡◌, ℕ, ◌+◌, ◌-◌, ◌*◌, ◌≤◌, false, length, OnOk, OnErr};
 ghost use Rattle.net_names.specs.Prefixes.{PrefixValue};
-ghost use Rattle.as_graph.specs.Topology.{what, as_count};
+ghost use Rattle.as_graph.specs.Topology.{relation, as_count};
 ghost use Rattle.as_graph.specs.Hierarchy.{HasNoProviderCycle, IsRank};
 ghost use Rattle.rank_order.specs.Ranks.{rank_at};
 ghost use Rattle.path_pool.specs.Pool.{live_count};
@@ -42,8 +42,8 @@ impl Rounds {
         steps: &mut Steps<L>,
     ) -> Result<(), NoMemory>
         requires closed { is_open self.old ≡ false }
-        requires no_cycle { HasNoProviderCycle (what graph.now) }
-        requires ranks { (a : ℕ) → IsRank (what graph.now) a (rank_at ranks.now a) }
+        requires no_cycle { HasNoProviderCycle (relation graph.now) }
+        requires ranks { (a : ℕ) → IsRank (relation graph.now) a (rank_at ranks.now a) }
         requires stable { AreRounds (λ p. setting P.meaning graph.now book.now (V.state_of states.now p)) (plan_of self.old) (round_count self.old) (kept self.old) }
         ensures cost { steps.new ≤ steps.old + 2 * as_count graph.now * length (prefixes_of (plan_of self.old)) * round_count self.old }
         ensures closed { is_open self.new ≡ false }

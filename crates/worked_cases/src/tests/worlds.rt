@@ -2,7 +2,7 @@
 
 ghost use Rattle.std.specs.Prelude.{◌≡◌, ℕ, ◌+◌, ◌*◌, ◌<◌, ◌≤◌, IfOk, OnOk};
 ghost use Rattle.as_graph.specs.Hierarchy.{HasNoProviderCycle, IsRank};
-ghost use Rattle.as_graph.specs.Topology.{as_count, what};
+ghost use Rattle.as_graph.specs.Topology.{as_count, relation};
 ghost use Rattle.path_pool.specs.Pool.{count_of, live_count, limit_of};
 ghost use Rattle.rank_order.specs.Ranks.{rank_at};
 ghost use Rattle.route_choice.specs.Resources.{AreEntriesLive, AreSeedsLive};
@@ -72,8 +72,8 @@ pub(super) fn graph_of(rt: &impl Abort, alloc: Global, rows: &[Row]) -> Result<G
 }
 
 pub(super) fn ranks_of(alloc: Global, graph: &Graph) -> Result<Ranks, Fail>
-    ensures ranks { IfOk result (λ r. (a : ℕ) → IsRank (what graph.now) a (rank_at r a)) }
-    ensures no_cycle { OnOk result (HasNoProviderCycle (what graph.now)) }
+    ensures ranks { IfOk result (λ r. (a : ℕ) → IsRank (relation graph.now) a (rank_at r a)) }
+    ensures no_cycle { OnOk result (HasNoProviderCycle (relation graph.now)) }
 {
     match Ranks::build(alloc, graph) {
         Ok(ranks) => Ok(ranks),
@@ -174,8 +174,8 @@ fn stable_text<P: RoutePolicy, L: Ledger>(
     origin: Asn,
     blank: Blank,
 ) -> Result<Vec<u8>, Fail>
-    requires no_cycle { HasNoProviderCycle (what graph.now) }
-    requires ranks { (a : ℕ) → IsRank (what graph.now) a (rank_at ranks.now a) }
+    requires no_cycle { HasNoProviderCycle (relation graph.now) }
+    requires ranks { (a : ℕ) → IsRank (relation graph.now) a (rank_at ranks.now a) }
     requires few { as_count graph.now < 100 }
     requires name { blank.name ≡ L.name }
     requires parts { blank.parts ≡ L.parts }

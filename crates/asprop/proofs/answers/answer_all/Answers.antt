@@ -1,7 +1,7 @@
 use Rattle.std.proofs.Common.{◌≡◌, ◌||◌, Bool, Result, false, arith, inl, inr, subst, sym}
 use Rattle.scenario_text.specs.LineValues.{LineValue}
 use Rattle.sim_core.specs.Sims.{world_seen}
-use Rattle.asprop.specs.Told.{Answered}
+use Rattle.asprop.specs.Replies.{AnswersLine}
 use Rattle.asprop.specs.Streams.{stream_of}
 use Rattle.asprop.specs.Written.{Answering, IsPassedOn}
 use Rattle.asprop.specs.declared.types.Stop.{Stop}
@@ -13,12 +13,12 @@ use Rattle.asprop.proofs.answers.answer_all.Goals.{then-first, else-first, in-Er
 
 pub returns-in-Err : goal.returns-in-Err
 returns-in-Err g c =
-    let Ends : Result Bool Stop → Type 0 = λ r. Answering (record { world = world_seen c.args.sim.now; lines = c.args.lines.now; heads = c.args.heads; counts = false }) r (stream_of g.O.Sink.written g.O.Sink.faults c.args.out.now c.write_all.new.sink) in
+    let Run : Result Bool Stop → Type 0 = λ r. Answering (record { world = world_seen c.args.sim.now; lines = c.args.lines.now; heads = c.args.heads; counts = false }) r (stream_of g.O.Sink.written g.O.Sink.faults c.args.out.now c.write_all.new.sink) in
     elim c.match-write_all.branch [
       | in-Err-write_all w ↦
-          subst Ends (sym w.result-is)
+          subst Run (sym w.result-is)
           (held_part _ _ _ _ _ _ _ _ _ _ _ (rose_earlier _ _ _ c.lines.invariant.later w.in-Err-write_all.ensures.cause.failed) c.lines.invariant.so_far (rw c.deref.ensures.value at c.write_all.ensures.front))
-      | in-Ok-write_all w ↦ subst Ends (sym w.result-is) (whole _ _ _ _ _ _ _ _ _ _ c.lines.invariant.so_far (rw c.deref.ensures.value at w.in-Ok-write_all.ensures.whole))
+      | in-Ok-write_all w ↦ subst Run (sym w.result-is) (whole _ _ _ _ _ _ _ _ _ _ c.lines.invariant.so_far (rw c.deref.ensures.value at w.in-Ok-write_all.ensures.whole))
     ]
 
 pub returns-in-Err-write_all-2 : goal.returns-in-Err-write_all-2
@@ -30,13 +30,13 @@ returns g c = all _ _ _ _ _ _ _ _ _ _ c.lines.invariant.so_far (rw c.deref-2.ens
 
 pub returns-in-Err-pass_on : goal.returns-in-Err-pass_on
 returns-in-Err-pass_on g c =
-    let P : LineValue → Type 0 = λ line. Answered c.args.heads (world_seen c.lines.sim) line c.answer_line.new.text.items c.in-Ok.first (world_seen c.answer_line.new.sim) in
+    let P : LineValue → Type 0 = λ line. AnswersLine c.args.heads (world_seen c.lines.sim) line c.answer_line.new.text.items c.in-Ok.first (world_seen c.answer_line.new.sim) in
     part _ _ _ _ _ _ c.line-item.result _ _ _ _ _ _ _ _ (rose_earlier _ _ _ c.lines.invariant.later c.in-Err-pass_on.ensures.cause.failed) c.lines-test.true
     c.lines.invariant.so_far (subst P c.line-item.is c.in-Ok.ensures.answered) (rw c.deref-in-Ok.ensures.value at c.in-Err-pass_on.ensures.err)
 
 pub lines-preserved : goal.lines-preserved
 lines-preserved g c =
-    let P : LineValue → Type 0 = λ line. Answered c.args.heads (world_seen c.lines.sim) line c.answer_line.new.text.items c.in-Ok.first (world_seen c.answer_line.new.sim) in
+    let P : LineValue → Type 0 = λ line. AnswersLine c.args.heads (world_seen c.lines.sim) line c.answer_line.new.text.items c.in-Ok.first (world_seen c.answer_line.new.sim) in
     let refused : c.if-first.refused ≡ (c.lines.refused || c.in-Ok.first) =
     either c.lines.refused c.in-Ok.first c.if-first.refused (elim c.if-first.branch [ then-first w ↦ inl (w.if-first.true, w.refused-is) | else-first w ↦ inr (w.if-first.false, w.refused-is) ]) in
     record {

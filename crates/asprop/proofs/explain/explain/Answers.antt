@@ -1,6 +1,6 @@
 use Rattle.std.proofs.Common.{ℕ, List, refl, sym, ◌∙◌, subst, option_map}
 use Rattle.asprop.specs.Streams.{stream_of}
-use Rattle.asprop.specs.Ran.{Explained, Reports}
+use Rattle.asprop.specs.Runs.{Explained, Reports}
 use Rattle.asprop.specs.Words.{form_seen}
 use Rattle.asprop.specs.declared.types.Stop.{Stop}
 use Rattle.asprop.specs.declared.types.Stop.TheVariants as stop

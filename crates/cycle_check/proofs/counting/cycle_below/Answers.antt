@@ -1,6 +1,6 @@
 use Rattle.std.proofs.Common.{ℕ, List, Some, None, cond, drop, ap, subst}
 use Rattle.net_names.specs.declared.routes.Rel.TheVariants.{Customer}
-use Rattle.cycle_check.specs.Rows.{what}
+use Rattle.cycle_check.specs.Rows.{relation}
 use Rattle.cycle_check.specs.Cycles.{IsTurned}
 use Rattle.cycle_check.specs.Places.{place_in}
 use Rattle.cycle_check.proofs.Turning.{stretch_cycle, turned_cycle}
@@ -8,7 +8,7 @@ use Rattle.cycle_check.proofs.counting.cycle_below.Goals as goal
 
 pub returns : goal.returns
 returns c =
-    let w = what c.args.starts.now c.args.items.now in
+    let w = relation c.args.starts.now c.args.items.now in
     let path = c.in_ok-way.way.places.items in
     let a = c.in_ok-way.way.back in
     let back = c.in_ok-way.ensures in

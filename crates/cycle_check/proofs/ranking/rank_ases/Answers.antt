@@ -3,14 +3,14 @@ use Rattle.std.proofs.lemmas.List.{length-map}
 use Rattle.std.specs.List.Sorted.{IsStrictlyIncreasing}
 use Rattle.net_names.specs.Numbers.{occurs}
 use Rattle.as_graph.specs.Hierarchy.{IsRank, RankFits}
-use Rattle.as_graph.specs.Topology.{what}
+use Rattle.as_graph.specs.Topology.{relation}
 use Rattle.cycle_check.specs.declared.ranking.RankedAs.{RankedAs}
 use Rattle.cycle_check.specs.Counting.{IsCounted, ArePlaceRanks, ArePlacesByRank}
 use Rattle.cycle_check.specs.Cycles.{IsCycleFromLowest}
 use Rattle.cycle_check.specs.Places.{place_in}
 use Rattle.cycle_check.specs.Providers.{rank_by}
 use Rattle.cycle_check.specs.Rankings.{rank_in, ranks_of}
-use Rattle.cycle_check.specs.Rows.{count_of, what as what_at}
+use Rattle.cycle_check.specs.Rows.{count_of, relation as relation_at}
 use Rattle.cycle_check.proofs.Carrying.{carried, cycle_inside, carried_lowest}
 use Rattle.cycle_check.proofs.Falling.{fitting_no_cycle}
 use Rattle.cycle_check.proofs.Told.{rank_in-at}
@@ -18,7 +18,7 @@ use Rattle.cycle_check.proofs.ranking.rank_ases.Goals as goal
 
 pub returns-in-Ranks : goal.returns-in-Ranks
 returns-in-Ranks c =
-    let w = what c.args.graph.now in
+    let w = relation c.args.graph.now in
     let ases = c.ases-ases.result.now in
     let starts = c.in_ok-rows.rows.starts.items in
     let items = c.in_ok-rows.rows.items.items in
@@ -49,27 +49,27 @@ returns-in-Ranks c =
 
 pub cycle_at-requires : goal.cycle_at-requires
 cycle_at-requires c =
-    let w = what c.args.graph.now in
+    let w = relation c.args.graph.now in
     let ases = c.ases-ases.result.now in
     let starts = c.in_ok-rows.rows.starts.items in
     let items = c.in_ok-rows.rows.items.items in
     let region = c.in_ok-rows.ensures in
     let places = c.in-Cycle.places.items in
-    let found : IsCycleFromLowest (what_at c.deref.result.now c.deref-2.result.now) places = subst (IsCounted c.deref.result.now c.deref-2.result.now) c.in-Cycle.is c.in_ok-found.ensures in
-    let cycle : IsCycleFromLowest (what_at starts items) places =
-    subst (λ xs. IsCycleFromLowest (what_at starts xs) places) c.deref-2.ensures.value (subst (λ xs. IsCycleFromLowest (what_at xs c.deref-2.result.now) places) c.deref.ensures.value found) in
+    let found : IsCycleFromLowest (relation_at c.deref.result.now c.deref-2.result.now) places = subst (IsCounted c.deref.result.now c.deref-2.result.now) c.in-Cycle.is c.in_ok-found.ensures in
+    let cycle : IsCycleFromLowest (relation_at starts items) places =
+    subst (λ xs. IsCycleFromLowest (relation_at starts xs) places) c.deref-2.ensures.value (subst (λ xs. IsCycleFromLowest (relation_at xs c.deref-2.result.now) places) c.deref.ensures.value found) in
     subst (λ (xs : List ℕ). (k : ℕ) → k < length xs → get_or xs k 0 < length ases) (sym c.deref-in-Cycle.ensures.value) (cycle_inside w ases starts items region.rows region.providers places cycle.cycle)
 
 pub returns : goal.returns
 returns c =
-    let w = what c.args.graph.now in
+    let w = relation c.args.graph.now in
     let ases = c.ases-ases.result.now in
     let starts = c.in_ok-rows.rows.starts.items in
     let items = c.in_ok-rows.rows.items.items in
     let region = c.in_ok-rows.ensures in
     let places = c.in-Cycle.places.items in
-    let found : IsCycleFromLowest (what_at c.deref.result.now c.deref-2.result.now) places = subst (IsCounted c.deref.result.now c.deref-2.result.now) c.in-Cycle.is c.in_ok-found.ensures in
-    let cycle : IsCycleFromLowest (what_at starts items) places =
-    subst (λ xs. IsCycleFromLowest (what_at starts xs) places) c.deref-2.ensures.value (subst (λ xs. IsCycleFromLowest (what_at xs c.deref-2.result.now) places) c.deref.ensures.value found) in
+    let found : IsCycleFromLowest (relation_at c.deref.result.now c.deref-2.result.now) places = subst (IsCounted c.deref.result.now c.deref-2.result.now) c.in-Cycle.is c.in_ok-found.ensures in
+    let cycle : IsCycleFromLowest (relation_at starts items) places =
+    subst (λ xs. IsCycleFromLowest (relation_at starts xs) places) c.deref-2.ensures.value (subst (λ xs. IsCycleFromLowest (relation_at xs c.deref-2.result.now) places) c.deref.ensures.value found) in
     let are = c.in_ok-cycle_at-in-Cycle.ensures ∙ ap (map (λ (p : ℕ). get_or ases p 0)) c.deref-in-Cycle.ensures.value in
     subst (IsCycleFromLowest w) (sym are) (carried_lowest w ases starts items region.rows region.providers places cycle)

@@ -2,7 +2,7 @@ use Rattle.std.proofs.Common.{◌≡◌, ℕ, Bool, true, false, Option, Some, N
 use Rattle.std.specs.Prelude.{slice_get}
 use Rattle.net_names.specs.Prefixes.{PrefixValue}
 use Rattle.net_names.specs.declared.routes.Rel.{Rel}
-use Rattle.as_graph.specs.Topology.{what, has}
+use Rattle.as_graph.specs.Topology.{relation, has}
 use Rattle.as_graph.proofs.EditsLemmas.{links_are_sound_lem}
 use Rattle.stability_laws.specs.declared.entry.Entry.{Entry}
 use Rattle.stability_laws.specs.Offers.{Setting}
@@ -30,7 +30,7 @@ by_prefix false A f g = g refl
 pub returns : goal.returns
 returns t c = λ w book state plan rounds g sound is before within held of prefix a b free second.
     let here : PrefixValue → Setting = λ p. setting t.P.RoutePolicy.meaning w book (state p) in
-    let ends : (p : PrefixValue) (a b : ℕ) (r : Rel) → what w a b ≡ Some r → has w b ≡ true = λ p. links_are_sound_lem.ends w in
+    let ends : (p : PrefixValue) (a b : ℕ) (r : Rel) → relation w a b ≡ Some r → has w b ≡ true = λ p. links_are_sound_lem.ends w in
     by_prefix (has_prefix plan prefix) (has w b ≡ true)
     (λ there. second_is (λ d. has w d ≡ true) (held prefix a) b second (λ e h. path_goes_on here ends plan sound rounds g is before prefix within there a e (sym (of.stable prefix there a) ∙ h) free))
     (λ none. nothing (λ d. has w d ≡ true) (held prefix a) b second (of.others prefix none a))

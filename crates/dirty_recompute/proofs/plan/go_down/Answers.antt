@@ -1,5 +1,5 @@
 use Rattle.std.proofs.Common.{◌≡◌, ◌+◌, ◌-◌, ◌<◌, ◌≤◌, ◌++◌, option_map, ap, length, arith}
-use Rattle.as_graph.specs.Topology.{what, has, ases}
+use Rattle.as_graph.specs.Topology.{relation, has, ases}
 use Rattle.stability_laws.specs.World.{setting}
 use Rattle.route_choice.specs.Routings.{routing_of, seed_of, seeds_of, table_routing}
 use Rattle.route_choice.specs.Tables.{prefix_of}
@@ -83,4 +83,4 @@ returns-clause-enough g c = λ first n is began.
     let count : c.loop-asn.steps ≡ c.args.steps.now + was.turns = was.count in
     let began_at : c.args.steps.now ≡ first + n = is in
     let all : c.loop-asn.steps ≡ first + (n + was.turns) = omega (arith, count, began_at) in
-    enough_from (what c.args.graph.now) _ (has_change c.loop-asn.overlay) (n + was.turns) first c.loop-asn.steps all both.1
+    enough_from (relation c.args.graph.now) _ (has_change c.loop-asn.overlay) (n + was.turns) first c.loop-asn.steps all both.1

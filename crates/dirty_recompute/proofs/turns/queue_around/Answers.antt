@@ -1,6 +1,6 @@
 use Rattle.std.proofs.Common.{◌≡◌, ◌⊎◌, inl, inr, ℕ, true, Some}
 use Rattle.net_names.specs.declared.routes.Rel.TheVariants as rel
-use Rattle.as_graph.specs.Topology.{what}
+use Rattle.as_graph.specs.Topology.{relation}
 use Rattle.stability_laws.specs.World.{setting}
 use Rattle.route_choice.specs.Routings.{routing_of, seeds_of}
 use Rattle.route_choice.specs.Tables.{prefix_of}
@@ -14,14 +14,14 @@ use Rattle.dirty_recompute.proofs.turns.queue_around.Goals as goal
 
 pub returns-in_ok-queue_those-3-clause-up : goal.returns-in_ok-queue_those-3-clause-up
 returns-in_ok-queue_those-3-clause-up g c =
-    let w = what c.args.graph.now in let a = c.args.asn in let xs = c.neighbours_near-near.result.now in let are = c.neighbours_near-near.ensures in
+    let w = relation c.args.graph.now in let a = c.args.asn in let xs = c.neighbours_near-near.result.now in let are = c.neighbours_near-near.ensures in
     let rank = rank_of c.args.ranks.now in
     let left : ℕ → Type 0 = λ b. IsLeft (setting g.P.RoutePolicy.meaning c.args.graph.now c.args.book.now (g.V.OriginStates.state_of c.args.states.now (prefix_of c.args.table.now))) (seeds_of c.args.pool.now c.args.seeds.now) (as_before c.args.pool.now c.args.table.now c.args.overlay.now a c.args.before.now) (routing_of c.args.pool.now c.args.table.now c.args.overlay.now) a b in
     queued_by rank c.args.up.now _ (IsAmong xs rel.Provider) (λ b. (w a b ≡ Some rel.Provider) × (c.args.changed ≡ true)) left (λ b is. among_to w a xs rel.Provider are b is.0) (λ b is. (among_back w a xs rel.Provider are b is, c.if-changed.true)) c.in_ok-queue_those.ensures
 
 pub returns-in_ok-queue_those-3-clause-whole : goal.returns-in_ok-queue_those-3-clause-whole
 returns-in_ok-queue_those-3-clause-whole g c =
-    let w = what c.args.graph.now in let a = c.args.asn in let xs = c.neighbours_near-near.result.now in let are = c.neighbours_near-near.ensures in
+    let w = relation c.args.graph.now in let a = c.args.asn in let xs = c.neighbours_near-near.result.now in let are = c.neighbours_near-near.ensures in
     let rank = rank_of c.args.ranks.now in
     let left : ℕ → Type 0 = λ b. IsLeft (setting g.P.RoutePolicy.meaning c.args.graph.now c.args.book.now (g.V.OriginStates.state_of c.args.states.now (prefix_of c.args.table.now))) (seeds_of c.args.pool.now c.args.seeds.now) (as_before c.args.pool.now c.args.table.now c.args.overlay.now a c.args.before.now) (routing_of c.args.pool.now c.args.table.now c.args.overlay.now) a b in
     queued_both rank c.args.whole.now _ _ (IsAmong xs rel.Peer) (IsAmong xs rel.Customer) (λ b. ((w a b ≡ Some rel.Customer) ⊎ (w a b ≡ Some rel.Peer)) × (c.args.changed ≡ true)) left

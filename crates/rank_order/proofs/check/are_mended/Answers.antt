@@ -1,7 +1,7 @@
 use Rattle.std.proofs.Common.{rules, ◌≡◌, inl, inr, ◌<◌, true, length, get_or, sym, ap, subst, arith, ◌∙◌}
 use Rattle.std.proofs.lemmas.Bool.{cases_eq}
 use Rattle.std.proofs.lemmas.List.{get_or_default}
-use Rattle.as_graph.specs.Topology.{what, has}
+use Rattle.as_graph.specs.Topology.{relation, has}
 use Rattle.cycle_check.proofs.Listing.{occurs_index}
 use Rattle.rank_order.specs.Ranks.{rank_at}
 use Rattle.rank_order.specs.Plans.{is_numbered, rank_after}
@@ -17,7 +17,7 @@ loop-at-preserved c = λ k low.
     elim (cases_eq k at) [
       | inl e ↦ (
           let here : c.index.result.now ≡ get_or ases k 0 = c.index.ensures ∙ get_or_default ases at c.index.result.now 0 inside ∙ ap (λ j. get_or ases j 0) (sym e) in
-          subst (λ a. (has c.args.graph.now a ≡ true) × IsMended (what c.args.graph.now) (is_numbered c.args.plan.now) (rank_at c.args.ranks.now) (rank_after c.args.ranks.now c.args.plan.now) a) here
+          subst (λ a. (has c.args.graph.now a ≡ true) × IsMended (relation c.args.graph.now) (is_numbered c.args.plan.now) (rank_at c.args.ranks.now) (rank_after c.args.ranks.now c.args.plan.now) a) here
           (c.is_mended.ensures.inside c.if-not-is_mended.false, c.is_mended.ensures.mended c.if-not-is_mended.false))
       | inr ne ↦ c.loop-at.invariant k (omega (arith, low, ne))
     ]
@@ -32,5 +32,5 @@ pub returns-clause-mended : goal.returns-clause-mended
 returns-clause-mended c = λ _ a numbered.
     let len : c.len-at-end.result ≡ length c.args.plan.now.ases.items = search rules in
     let (j, less, is) = occurs_index a c.args.plan.now.ases.items numbered in
-    subst (IsMended (what c.args.graph.now) (is_numbered c.args.plan.now) (rank_at c.args.ranks.now) (rank_after c.args.ranks.now c.args.plan.now)) is
+    subst (IsMended (relation c.args.graph.now) (is_numbered c.args.plan.now) (rank_at c.args.ranks.now) (rank_after c.args.ranks.now c.args.plan.now)) is
     (c.loop-at.invariant j (omega (arith, less, len, c.loop-at-test.false))).1

@@ -1,7 +1,7 @@
 use Rattle.std.proofs.Common.{◌≡◌, Option, IfSome, sym, ap, subst, ◌∙◌}
 use Rattle.std.proofs.lemmas.Bool.{false_from_ne_true}
 use Rattle.net_names.specs.Numbers.{occurs}
-use Rattle.as_graph.specs.Topology.{what}
+use Rattle.as_graph.specs.Topology.{relation}
 use Rattle.rank_order.specs.declared.plan.RankPlan.{RankPlan}
 use Rattle.rank_order.specs.Ranks.{rank_at}
 use Rattle.rank_order.specs.Plans.{is_numbered, rank_after}
@@ -24,7 +24,7 @@ returns-in-Some c =
       inside = inside;
       complete = complete;
       fitting =
-          c.fitting_are_ranks.ensures (what g) (rank_after ranks plan)
+          c.fitting_are_ranks.ensures (relation g) (rank_after ranks plan)
           (all_fit g c.links_are_sound.ensures ends (is_numbered plan) (rank_at ranks) (rank_after ranks plan) complete mended c.requires.fits (λ a f o. rank_kept ranks plan a f (ap (occurs a) same ∙ o))
           (λ a away. rank_none ranks plan a (false_from_ne_true (is_numbered plan a) (λ t. (let there = inside a t in cc))) (λ o. c.requires.only a away (sym (ap (occurs a) same) ∙ o))));
     }

@@ -1,6 +1,6 @@
 use Rattle.std.proofs.Common.{◌≡◌, ℕ, sym, ap, subst, ◌∙◌}
 use Rattle.net_names.specs.Numbers.{occurs}
-use Rattle.as_graph.specs.Topology.{what, has}
+use Rattle.as_graph.specs.Topology.{relation, has}
 use Rattle.as_graph.specs.Hierarchy.{IsRank}
 use Rattle.cycle_check.specs.declared.ranking.Ranking.TheVariants.{Ranks}
 use Rattle.cycle_check.specs.Rankings.{IsRanking, numbers_of, ranks_of}
@@ -22,6 +22,6 @@ returns-in-Ok c =
       inside = λ a t. sym (numbered a) ∙ t;
       complete = λ a o there. numbered a ∙ there;
       fitting = λ a.
-          subst (IsRank (what g) a) (sym (rank_listed c.args.ranks.now plan xs asns own a (λ f o. c.requires.only a (sym (numbered a) ∙ f) (sym (ap (occurs a) c.in-Ok.ensures.ends) ∙ o))))
+          subst (IsRank (relation g) a) (sym (rank_listed c.args.ranks.now plan xs asns own a (λ f o. c.requires.only a (sym (numbered a) ∙ f) (sym (ap (occurs a) c.in-Ok.ensures.ends) ∙ o))))
           (found.1.ases.ranks a);
     }

@@ -2,7 +2,7 @@ use Rattle.std.proofs.Common.{◌≡◌, ◌<◌, ℕ, length, map, unwrap_or, s
 use Rattle.std.specs.Option.{option_copied}
 use Rattle.std.proofs.lemmas.Option.{slice_get_within}
 use Rattle.as_graph.specs.Hierarchy.{IsRank}
-use Rattle.as_graph.specs.Topology.{what}
+use Rattle.as_graph.specs.Topology.{relation}
 use Rattle.stability_laws.specs.Plans.{IsSound, Plan, announces}
 use Rattle.leak_round.specs.Changes.{HasChanges}
 use Rattle.leak_round.specs.Edited.{plan_edited}
@@ -81,7 +81,7 @@ returns-clause-belong g c =
     let stable = rounds_as new (plan_after c.plan-2.new.self c.in-Ok-plan.plan) (plan_of rounds) (round_count c.plan-2.new.self) (round_count rounds) (kept_with c.plan-2.new.self c.in-Ok-plan.plan) (kept rounds) c.commit-done.ensures.plan c.commit-done.ensures.rounds c.commit-done.ensures.kept c.in-Ok-plan.ensures.stable in
     record {
       no_cycle = c.requires.no_cycle;
-      ranks_are = λ a. subst (IsRank (what c.args.graph.now) a) (sym (ap (λ o. unwrap_or o 0) (c.commit.ensures a))) (c.in-Ok.ensures.ranks a);
+      ranks_are = λ a. subst (IsRank (relation c.args.graph.now) a) (sym (ap (λ o. unwrap_or o 0) (c.commit.ensures a))) (c.in-Ok.ensures.ranks a);
       rounds_are = only_rounds c.one_family.ensures new rounds c.requires.no_cycle stable;
       watching = c.renew.ensures.rows;
     }
@@ -96,5 +96,5 @@ returns-clause-addrs g c = c.renew.ensures.addrs ∙ seen_addrs c.args.watches.n
 
 pub returns-clause-quick : goal.returns-clause-quick
 returns-clause-quick g c =
-    plan_quick (what c.args.graph.now) c.args.rounds.now c.plan-2.new.self c.commit-done.new.self c.in-Ok-plan.plan (touches c.args.touched.now) c.args.steps.now c.plan-2.new.steps c.in-Ok-plan.ensures.open c.in-Ok-plan.ensures.enough
+    plan_quick (relation c.args.graph.now) c.args.rounds.now c.plan-2.new.self c.commit-done.new.self c.in-Ok-plan.plan (touches c.args.touched.now) c.args.steps.now c.plan-2.new.steps c.in-Ok-plan.ensures.open c.in-Ok-plan.ensures.enough
     c.plan-2.ensures.plan c.commit-done.ensures.plan c.plan-2.ensures.rounds c.plan-2.ensures.kept c.commit-done.ensures.kept

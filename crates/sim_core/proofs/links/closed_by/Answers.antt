@@ -2,7 +2,7 @@ use Rattle.std.proofs.Common.{◌∙◌, sym, ap, subst, Some}
 use Rattle.net_names.specs.declared.routes.Rel.{Rel}
 use Rattle.net_names.specs.declared.routes.Rel.TheVariants.{Customer}
 use Rattle.as_graph.specs.Edits.{without_link}
-use Rattle.as_graph.specs.Topology.{what}
+use Rattle.as_graph.specs.Topology.{relation}
 use Rattle.scenario_text.specs.declared.acts.Edit.TheVariants.{Link}
 use Rattle.sim_core.specs.Edits.{BeginsWithLink}
 use Rattle.sim_core.proofs.CycleLemmas.{closed_cycle, closed_none, none_below, peers_below, set_again, turned}
@@ -34,5 +34,5 @@ returns-in-Provider-clause-none c =
 
 pub returns-in-Peer-clause-none : goal.returns-in-Peer-clause-none
 returns-in-Peer-clause-none c =
-    none_below (what c.args.graph.now) (what (without_link c.args.graph.now c.args.a c.args.b))
+    none_below (relation c.args.graph.now) (relation (without_link c.args.graph.now c.args.a c.args.b))
     (peers_below c.links_are_sound.ensures c.links_are_set.ensures c.links_are_taken.ensures c.args.graph.now c.args.a c.args.b (c.requires.linked ∙ ap (λ (r : Rel). Some r) c.in-Peer.is)) c.requires.there

@@ -1,7 +1,7 @@
 use Rattle.std.proofs.Common.{◌≡◌, ◌∙◌, ◌+◌, ◌++◌, ◌∷◌, [], ℕ, List, true, inl, inr, Some, take, sym, ap, subst}
 use Rattle.std.proofs.lemmas.List.{map-append, take_more}
 use Rattle.as_graph.specs.Neighbours.{asns}
-use Rattle.as_graph.specs.Topology.{what}
+use Rattle.as_graph.specs.Topology.{relation}
 use Rattle.as_graph.specs.declared.neighbour.Neighbour.{Neighbour}
 use Rattle.net_names.specs.Numbers.{occurs}
 use Rattle.sim_core.proofs.Pushing.{pushed_more, pushed_own, pushed_split}
@@ -17,7 +17,7 @@ loop-neighbour-preserved c =
     let items : c.push.new.self.items ≡ old ++ x.asn ∷ [] = c.in-Ok.ensures.items in
     let longer : take (i + 1) xs ≡ take i xs ++ x ∷ [] = take_more xs i x c.loop-neighbour-test.true ∙ ap (λ (y : Neighbour). take i xs ++ y ∷ []) (sym c.neighbour-item.is) in
     let named : asns (take (i + 1) xs) ≡ asns (take i xs) ++ x.asn ∷ [] = ap asns longer ∙ map-append (λ (y : Neighbour). y.asn) (take i xs) (x ∷ []) in
-    let link : what c.args.graph.now c.args.asn x.asn ≡ Some x.rel = subst (λ (y : Neighbour). what c.args.graph.now c.args.asn y.asn ≡ Some y.rel) (sym c.neighbour-item.is) (c.neighbours-neighbour-items.ensures.each i x c.loop-neighbour-test.true) in
+    let link : relation c.args.graph.now c.args.asn x.asn ≡ Some x.rel = subst (λ (y : Neighbour). relation c.args.graph.now c.args.asn y.asn ≡ Some y.rel) (sym c.neighbour-item.is) (c.neighbours-neighbour-items.ensures.each i x c.loop-neighbour-test.true) in
     record {
       these = λ n h. elim (pushed_split n (asns (take i xs)) x.asn (subst (λ (l : List ℕ). occurs n l ≡ true) named h)) [
         | inl e ↦ subst (λ (l : List ℕ). occurs n l ≡ true) (sym items) (pushed_more n old x.asn (inv.these n e))
@@ -25,7 +25,7 @@ loop-neighbour-preserved c =
       ];
       only = λ a h none. elim (pushed_split a old x.asn (subst (λ (l : List ℕ). occurs a l ≡ true) items h)) [
         | inl e ↦ inv.only a e none
-        | inr s ↦ (x.rel, subst (λ (m : ℕ). what c.args.graph.now c.args.asn m ≡ Some x.rel) s link)
+        | inr s ↦ (x.rel, subst (λ (m : ℕ). relation c.args.graph.now c.args.asn m ≡ Some x.rel) s link)
       ];
       more = λ a h. subst (λ (l : List ℕ). occurs a l ≡ true) (sym items) (pushed_more a old x.asn (inv.more a h));
     }

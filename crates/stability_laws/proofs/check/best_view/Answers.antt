@@ -2,7 +2,7 @@ use Rattle.std.proofs.Common.{◌≡◌, ℕ, ◌+◌, ◌⊎◌, true, sym, sub
 use Rattle.std.specs.FinMap as map
 use Rattle.net_names.specs.Numbers.{occurs}
 use Rattle.as_graph.specs.Neighbours.{asns}
-use Rattle.as_graph.specs.Topology.{what}
+use Rattle.as_graph.specs.Topology.{relation}
 use Rattle.stability_laws.specs.Book.{policy_at}
 use Rattle.stability_laws.specs.Offers.{offer, GivenBy}
 use Rattle.stability_laws.specs.BestView.{IsBestViewOf, better_of}
@@ -16,7 +16,7 @@ loop-neighbour-preserved g c =
     let here = setting g.P.RoutePolicy.meaning c.args.graph.now c.args.book.now (g.V.OriginStates.state_of c.args.states.now c.args.prefix) in
     let own = policy_at c.args.book.now c.args.asn in
     let offers = λ (n : ℕ). offer here (map.get c.args.routing.now) n c.args.asn in
-    let given = λ (n : ℕ). given_by (here.policy n) (here.policy c.args.asn) here.state n c.args.asn (what c.args.graph.now c.args.asn n) (map.get c.args.routing.now n) in
+    let given = λ (n : ℕ). given_by (here.policy n) (here.policy c.args.asn) here.state n c.args.asn (relation c.args.graph.now c.args.asn n) (map.get c.args.routing.now n) in
     let xs = c.args.neighbours.now in
     let i = c.loop-neighbour.neighbour-index in
     let step = one_more (here.policy c.args.asn) (g.met.P.RoutePolicy.ranks_offers own) offers (λ n o e. (given n o e).neighbour)
@@ -33,9 +33,9 @@ returns g c =
     let here = setting g.P.RoutePolicy.meaning c.args.graph.now c.args.book.now (g.V.OriginStates.state_of c.args.states.now c.args.prefix) in
     let own = policy_at c.args.book.now c.args.asn in
     let offers = λ (n : ℕ). offer here (map.get c.args.routing.now) n c.args.asn in
-    let given = λ (n : ℕ). given_by (here.policy n) (here.policy c.args.asn) here.state n c.args.asn (what c.args.graph.now c.args.asn n) (map.get c.args.routing.now n) in
+    let given = λ (n : ℕ). given_by (here.policy n) (here.policy c.args.asn) here.state n c.args.asn (relation c.args.graph.now c.args.asn n) (map.get c.args.routing.now n) in
     let xs = c.args.neighbours.now in
     let i = c.loop-neighbour.neighbour-index in
     best_of_all (here.policy c.args.asn) (g.met.P.RoutePolicy.ranks_offers own) offers (λ n o e. (given n o e).neighbour)
-    (asns xs) (λ n o e. let from : GivenBy (what c.args.graph.now c.args.asn n) n o = given n o e in c.requires.complete n from.from from.linked)
+    (asns xs) (λ n o e. let from : GivenBy (relation c.args.graph.now c.args.asn n) n o = given n o e in c.requires.complete n from.from from.linked)
     c.loop-neighbour.best (subst (λ ys. IsBestViewOf (here.policy c.args.asn) offers (asns ys) c.loop-neighbour.best) (take_all i xs c.loop-neighbour-test.false) c.loop-neighbour.invariant)

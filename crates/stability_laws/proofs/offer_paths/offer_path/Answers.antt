@@ -1,4 +1,4 @@
-use Rattle.as_graph.specs.Topology.{what}
+use Rattle.as_graph.specs.Topology.{relation}
 use Rattle.stability_laws.specs.Book.{policy_at}
 use Rattle.stability_laws.proofs.OfferPathLemmas.{path_given}
 use Rattle.stability_laws.proofs.offer_paths.offer_path.Goals as goal
@@ -6,4 +6,4 @@ use Rattle.stability_laws.proofs.offer_paths.offer_path.Goals as goal
 pub returns : goal.returns
 returns t c = λ w book state f n a o made.
     let m = t.P.RoutePolicy.meaning in
-    path_given (m (policy_at book n)) (m (policy_at book a)) state n a (what w a n) (f n) o made
+    path_given (m (policy_at book n)) (m (policy_at book a)) state n a (relation w a n) (f n) o made

@@ -1,13 +1,13 @@
 use Rattle.std.proofs.Common.{◌≡◌, inl, inr, slice_index, sym, ◌∙◌, ap, subst, arith}
 use Rattle.std.proofs.lemmas.Bool.{cases_lt}
 use Rattle.std.proofs.lemmas.List.{get_or_read}
-use Rattle.as_graph.specs.Topology.{what}
+use Rattle.as_graph.specs.Topology.{relation}
 use Rattle.three_pass.specs.Lists.{AreProviders, list_at}
 use Rattle.three_pass.proofs.course.providers_of.Goals as goal
 
 pub loop-place-preserved : goal.loop-place-preserved
 loop-place-preserved c =
-    let w = what c.args.graph.now in
+    let w = relation c.args.graph.now in
     let ases = c.args.ases.now in
     let i = c.loop-place.place in
     let same : slice_index ases i ≡ c.index-ases-place.result = sym (get_or_read ases i c.index-ases-place.result c.loop-place-test.true c.index-ases-place.is 0) in

@@ -1,7 +1,7 @@
 use Rattle.std.proofs.Common.{◌≡◌, true, Some, refl, sym, subst, slice_index_or, arith}
 use Rattle.net_names.specs.Numbers.{occurs}
 use Rattle.net_names.specs.declared.routes.Rel.TheVariants.{Provider}
-use Rattle.as_graph.specs.Topology.{what}
+use Rattle.as_graph.specs.Topology.{relation}
 use Rattle.as_graph.specs.declared.neighbour.Neighbour.{Neighbour}
 use Rattle.as_graph.specs.Neighbours.{asns}
 use Rattle.three_pass.proofs.Elements.{one_more}
@@ -13,9 +13,9 @@ loop-index-preserved c =
     let xs = c.neighbours_near-neighbours.result.now in
     let i = c.loop-index.index in
     let x = c.index-neighbours-index.result in
-    let linked : what c.args.graph.now c.args.asn x.asn ≡ Some x.rel = subst (λ (t : Neighbour). what c.args.graph.now c.args.asn t.asn ≡ Some t.rel) (sym c.index-neighbours-index.is) (c.neighbours_near-neighbours.ensures.each i x c.loop-index-test.true) in
+    let linked : relation c.args.graph.now c.args.asn x.asn ≡ Some x.rel = subst (λ (t : Neighbour). relation c.args.graph.now c.args.asn t.asn ≡ Some t.rel) (sym c.index-neighbours-index.is) (c.neighbours_near-neighbours.ensures.each i x c.loop-index-test.true) in
     record {
-      each = c.in_ok-put_if_provider.ensures.each (what c.args.graph.now) c.args.asn linked c.loop-index.invariant.each;
+      each = c.in_ok-put_if_provider.ensures.each (relation c.args.graph.now) c.args.asn linked c.loop-index.invariant.each;
       so_far = one_more xs i x c.index-neighbours-index.is c.loop-index-test.true (λ (t : Neighbour). t.rel ≡ Provider → occurs t.asn (asns c.put_if_provider.new.list.neighbours.items) ≡ true)
           (λ k less d is. c.in_ok-put_if_provider.ensures.others (slice_index_or xs k d).asn (c.loop-index.invariant.so_far k less d is))
           c.in_ok-put_if_provider.ensures.this;
@@ -24,6 +24,6 @@ loop-index-preserved c =
 pub returns : goal.returns
 returns c = record {
   each = c.loop-index.invariant.each;
-  complete = λ n linked. around (what c.args.graph.now) c.args.asn c.neighbours_near-neighbours.result.now c.neighbours_near-neighbours.ensures (λ r. r ≡ Provider) (λ n. occurs n (asns c.loop-index.list.neighbours.items) ≡ true)
+  complete = λ n linked. around (relation c.args.graph.now) c.args.asn c.neighbours_near-neighbours.result.now c.neighbours_near-neighbours.ensures (λ r. r ≡ Provider) (λ n. occurs n (asns c.loop-index.list.neighbours.items) ≡ true)
       (λ k less d is. c.loop-index.invariant.so_far k (omega (arith, less, c.loop-index-test.false)) d is) n Provider linked refl;
 }

@@ -3,8 +3,8 @@ use Rattle.std.proofs.lemmas.Bool.{eq-eqb, or_right}
 use Rattle.std.proofs.lemmas.List.{get_or_read, take_more, take_all}
 use Rattle.std.proofs.lemmas.List.Folds.{list_any-append, list_any_at}
 use Rattle.net_names.specs.Numbers.{occurs}
-use Rattle.as_graph.specs.Topology.{what, ases}
-use Rattle.as_graph.proofs.Links.{what_mutual, what_self, topology-AreLinks}
+use Rattle.as_graph.specs.Topology.{relation, ases}
+use Rattle.as_graph.proofs.Links.{relation_mutual, relation_self, topology-AreLinks}
 use Rattle.as_graph.proofs.Ranks.{ranks_fall}
 use Rattle.stability_laws.specs.Book.{policy_at}
 use Rattle.stability_laws.specs.World.{setting}
@@ -35,7 +35,7 @@ step_down-requires-clause-above g c =
     let left = c.loop-left-test.true in
     let within : i < length xs = omega (arith, c.loop-left.invariant.within) in
     let read = get_or_read xs i c.index-asn.result.now within c.index-asn.ensures 0 in
-    subst (λ (a : ℕ). AreProviders (what c.args.graph.now) a (list_at c.args.course.now.above i)) (sym read) (c.requires.course.above.each i within)
+    subst (λ (a : ℕ). AreProviders (relation c.args.graph.now) a (list_at c.args.course.now.above i)) (sym read) (c.requires.course.above.each i within)
 
 pub step_down-requires-clause-told : goal.step_down-requires-clause-told
 step_down-requires-clause-told g c = c.loop-left.invariant.told c.index-asn.result.now
@@ -69,7 +69,7 @@ step_down-requires-clause-no_loops g c =
     let here = setting meaning w c.args.book.now (g.V.OriginStates.state_of c.args.states.now (prefix_of c.args.table.now)) in
     let lawful = λ (a : ℕ). (let p = policy_at c.args.book.now a in
     let is : IsLawful (meaning p) = record { ranks_offers = g.met.P.RoutePolicy.ranks_offers p; prefers_customers = g.met.P.RoutePolicy.prefers_customers p; exports_down_only = g.met.P.RoutePolicy.exports_down_only p } in is) in
-    let falls = (ranks_fall (what w) (ases w) (topology-AreLinks w) c.requires.no_cycle c.requires.course.rank c.requires.course.ranks).falls in
+    let falls = (ranks_fall (relation w) (ases w) (topology-AreLinks w) c.requires.no_cycle c.requires.course.rank c.requires.course.ranks).falls in
     let xs = c.args.course.now.order.ases.items in
     let i = c.loop-left.left - 1 in
     let a = c.index-asn.result.now in
@@ -79,7 +79,7 @@ step_down-requires-clause-no_loops g c =
     let back : i + 1 ≡ c.loop-left.left = omega arith in
     let within : i < length xs = omega (arith, c.loop-left.invariant.within) in
     let more : take (i + 1) xs ≡ take i xs ++ a ∷ [] = take_more xs i a within ∙ ap (λ t. take i xs ++ t ∷ []) (sym c.index-asn.ensures) in
-    no_loops_downwards here lawful (what_mutual w) (what_self w) seeds c.requires.course.rank falls xs c.requires.course.order
+    no_loops_downwards here lawful (relation_mutual w) (relation_self w) seeds c.requires.course.rank falls xs c.requires.course.order
     (is_among c.args.named.now) c.requires.named i a a f within c.index-asn.ensures more (subst (λ k. AfterWhole here seeds (take k xs) f) (sym back) c.loop-left.invariant.so_far)
 
 pub loop-left-init : goal.loop-left-init
@@ -89,7 +89,7 @@ loop-left-init g c =
     let here = setting meaning w c.args.book.now (g.V.OriginStates.state_of c.args.states.now (prefix_of c.args.table.now)) in
     let lawful = λ (a : ℕ). (let p = policy_at c.args.book.now a in
     let is : IsLawful (meaning p) = record { ranks_offers = g.met.P.RoutePolicy.ranks_offers p; prefers_customers = g.met.P.RoutePolicy.prefers_customers p; exports_down_only = g.met.P.RoutePolicy.exports_down_only p } in is) in
-    let falls = (ranks_fall (what w) (ases w) (topology-AreLinks w) c.requires.no_cycle c.requires.course.rank c.requires.course.ranks).falls in
+    let falls = (ranks_fall (relation w) (ases w) (topology-AreLinks w) c.requires.no_cycle c.requires.course.rank c.requires.course.ranks).falls in
     let xs = c.args.course.now.order.ases.items in
     let seeds = seeds_of c.args.pool.now c.args.seeds.now in
     let f = routing_of c.args.pool.now c.args.table.now c.args.overlay.now in
@@ -97,7 +97,7 @@ loop-left-init g c =
       within = omega (arith, c.len-left.ensures);
       steps = omega (arith, c.len-left.ensures);
       so_far = subst (λ ys. AfterWhole here seeds ys f) (sym (take_all c.len-left.result xs (omega (arith, c.len-left.ensures))))
-          (turn here lawful (what_mutual w) (what_self w) seeds c.requires.course.rank falls xs c.requires.course.order f c.requires.up);
+          (turn here lawful (relation_mutual w) (relation_self w) seeds c.requires.course.rank falls xs c.requires.course.order f c.requires.up);
       told = c.requires.told;
       room = c.requires.room;
       spent = spent_nothing c.args.pool.now c.args.seeds.now c.args.table.now c.args.overlay.now xs;
@@ -110,7 +110,7 @@ loop-left-preserved g c =
     let here = setting meaning w c.args.book.now (g.V.OriginStates.state_of c.args.states.now (prefix_of c.args.table.now)) in
     let lawful = λ (a : ℕ). (let p = policy_at c.args.book.now a in
     let is : IsLawful (meaning p) = record { ranks_offers = g.met.P.RoutePolicy.ranks_offers p; prefers_customers = g.met.P.RoutePolicy.prefers_customers p; exports_down_only = g.met.P.RoutePolicy.exports_down_only p } in is) in
-    let falls = (ranks_fall (what w) (ases w) (topology-AreLinks w) c.requires.no_cycle c.requires.course.rank c.requires.course.ranks).falls in
+    let falls = (ranks_fall (relation w) (ases w) (topology-AreLinks w) c.requires.no_cycle c.requires.course.rank c.requires.course.ranks).falls in
     let xs = c.args.course.now.order.ases.items in
     let i = c.loop-left.left - 1 in
     let a = c.index-asn.result.now in
@@ -124,14 +124,14 @@ loop-left-preserved g c =
     let there : occurs a xs ≡ true = list_any_at (λ y. y == a) xs i a within (eq-eqb _ a (sym c.index-asn.ensures)) in
     let so_far = subst (λ k. AfterWhole here seeds (take k xs) f) (sym back) c.loop-left.invariant.so_far in
     let step = step_seeds Whole here (seeds_of c.loop-left.pool c.args.seeds.now) seeds f a f' c.step_down.ensures.step (c.loop-left.invariant.spent.keeps.same_seeds a) in
-    let fresh = down_fresh here lawful (what_mutual w) (what_self w) seeds c.requires.course.rank falls xs c.requires.course.order i a a f f' within c.index-asn.ensures more step so_far in
+    let fresh = down_fresh here lawful (relation_mutual w) (relation_self w) seeds c.requires.course.rank falls xs c.requires.course.order i a a f f' within c.index-asn.ensures more step so_far in
     let both = visited c.args.pool.now c.loop-left.pool c.step_down.new.pool c.args.seeds.now c.args.table.now c.args.overlay.now c.loop-left.overlay c.step_down.new.overlay xs a c.step_down.result
     c.requires.course.order.apart there c.loop-left.invariant.room c.loop-left.invariant.spent c.step_down.ensures.changed c.step_down.ensures.unchanged step.others c.step_down.ensures.spent c.step_down.ensures.kept c.step_down.ensures.put fresh in
     record {
       within = omega (arith, c.loop-left.invariant.within);
       steps = omega (arith, c.step_down.ensures.cost, c.loop-left.invariant.steps);
-      so_far = down_more here lawful (what_mutual w) (what_self w) seeds c.requires.course.rank falls xs c.requires.course.order i a a f f' within c.index-asn.ensures more step so_far;
-      told = λ b. still_told (IsTold c.args.told.now) here f f' b (down_same here lawful (what_mutual w) (what_self w) seeds c.requires.course.rank falls xs c.requires.course.order i a a f f' within c.index-asn.ensures step so_far) (c.loop-left.invariant.told b);
+      so_far = down_more here lawful (relation_mutual w) (relation_self w) seeds c.requires.course.rank falls xs c.requires.course.order i a a f f' within c.index-asn.ensures more step so_far;
+      told = λ b. still_told (IsTold c.args.told.now) here f f' b (down_same here lawful (relation_mutual w) (relation_self w) seeds c.requires.course.rank falls xs c.requires.course.order i a a f f' within c.index-asn.ensures step so_far) (c.loop-left.invariant.told b);
       room = both.0;
       spent = both.1;
     }

@@ -2,8 +2,8 @@ use Rattle.std.proofs.Common.{arith, inl, inr, ◌≡◌, ℕ, ◌+◌, ◌∷�
 use Rattle.std.proofs.lemmas.Bool.{cases_eq}
 use Rattle.std.proofs.lemmas.List.{take_more, take_all}
 use Rattle.net_names.specs.Numbers.{occurs}
-use Rattle.as_graph.specs.Topology.{what, ases}
-use Rattle.as_graph.proofs.Links.{what_mutual, what_self, topology-AreLinks}
+use Rattle.as_graph.specs.Topology.{relation, ases}
+use Rattle.as_graph.proofs.Links.{relation_mutual, relation_self, topology-AreLinks}
 use Rattle.as_graph.proofs.Ranks.{ranks_fall}
 use Rattle.stability_laws.specs.Book.{policy_at}
 use Rattle.stability_laws.specs.World.{setting}
@@ -38,10 +38,10 @@ step_up-requires-clause-nothing g c =
     let here = setting meaning w c.args.book.now (g.V.OriginStates.state_of c.args.states.now (prefix_of c.args.table.now)) in
     let lawful = λ (a : ℕ). (let p = policy_at c.args.book.now a in
     let is : IsLawful (meaning p) = record { ranks_offers = g.met.P.RoutePolicy.ranks_offers p; prefers_customers = g.met.P.RoutePolicy.prefers_customers p; exports_down_only = g.met.P.RoutePolicy.exports_down_only p } in is) in
-    let falls = (ranks_fall (what w) (ases w) (topology-AreLinks w) c.requires.no_cycle c.requires.course.rank c.requires.course.ranks).falls in
+    let falls = (ranks_fall (relation w) (ases w) (topology-AreLinks w) c.requires.no_cycle c.requires.course.rank c.requires.course.ranks).falls in
     let xs = c.args.course.now.order.ases.items in
     let i = c.loop-place.place in
-    up_fresh here lawful (what_mutual w) (what_self w) (seeds_of c.args.pool.now c.args.seeds.now) c.requires.course.rank falls xs c.requires.course.order
+    up_fresh here lawful (relation_mutual w) (relation_self w) (seeds_of c.args.pool.now c.args.seeds.now) c.requires.course.rank falls xs c.requires.course.order
     i 0 (slice_index xs i) (routing_of c.loop-place.pool c.args.table.now c.loop-place.overlay) (omega (arith, c.loop-place-test.true, c.len-place-end.ensures)) refl c.loop-place.invariant.so_far
 
 pub step_up-requires-clause-no_loops : goal.step_up-requires-clause-no_loops
@@ -51,10 +51,10 @@ step_up-requires-clause-no_loops g c =
     let here = setting meaning w c.args.book.now (g.V.OriginStates.state_of c.args.states.now (prefix_of c.args.table.now)) in
     let lawful = λ (a : ℕ). (let p = policy_at c.args.book.now a in
     let is : IsLawful (meaning p) = record { ranks_offers = g.met.P.RoutePolicy.ranks_offers p; prefers_customers = g.met.P.RoutePolicy.prefers_customers p; exports_down_only = g.met.P.RoutePolicy.exports_down_only p } in is) in
-    let falls = (ranks_fall (what w) (ases w) (topology-AreLinks w) c.requires.no_cycle c.requires.course.rank c.requires.course.ranks).falls in
+    let falls = (ranks_fall (relation w) (ases w) (topology-AreLinks w) c.requires.no_cycle c.requires.course.rank c.requires.course.ranks).falls in
     let xs = c.args.course.now.order.ases.items in
     let i = c.loop-place.place in
-    no_loops_upwards here lawful (what_mutual w) (what_self w) (seeds_of c.args.pool.now c.args.seeds.now) c.requires.course.rank falls xs c.requires.course.order
+    no_loops_upwards here lawful (relation_mutual w) (relation_self w) (seeds_of c.args.pool.now c.args.seeds.now) c.requires.course.rank falls xs c.requires.course.order
     (is_among c.args.named.now) c.requires.named (take i xs) (routing_of c.loop-place.pool c.args.table.now c.loop-place.overlay) c.loop-place.invariant.so_far (slice_index xs i)
 
 pub step_up-requires-clause-told : goal.step_up-requires-clause-told
@@ -62,7 +62,7 @@ step_up-requires-clause-told g c =
     let here = setting g.P.RoutePolicy.meaning c.args.graph.now c.args.book.now (g.V.OriginStates.state_of c.args.states.now (prefix_of c.args.table.now)) in
     let xs = c.args.course.now.order.ases.items in
     let i = c.loop-place.place in
-    told_from (IsTold c.loop-place.told) here (routing_of c.loop-place.pool c.args.table.now c.loop-place.overlay) (take i xs) (what_mutual c.args.graph.now)
+    told_from (IsTold c.loop-place.told) here (routing_of c.loop-place.pool c.args.table.now c.loop-place.overlay) (take i xs) (relation_mutual c.args.graph.now)
     c.loop-place.invariant.so_far.rest c.loop-place.invariant.holders (slice_index xs i)
 
 pub loop-place-preserved : goal.loop-place-preserved
@@ -72,7 +72,7 @@ loop-place-preserved g c =
     let here = setting meaning w c.args.book.now (g.V.OriginStates.state_of c.args.states.now (prefix_of c.args.table.now)) in
     let lawful = λ (a : ℕ). (let p = policy_at c.args.book.now a in
     let is : IsLawful (meaning p) = record { ranks_offers = g.met.P.RoutePolicy.ranks_offers p; prefers_customers = g.met.P.RoutePolicy.prefers_customers p; exports_down_only = g.met.P.RoutePolicy.exports_down_only p } in is) in
-    let falls = (ranks_fall (what w) (ases w) (topology-AreLinks w) c.requires.no_cycle c.requires.course.rank c.requires.course.ranks).falls in
+    let falls = (ranks_fall (relation w) (ases w) (topology-AreLinks w) c.requires.no_cycle c.requires.course.rank c.requires.course.ranks).falls in
     let xs = c.args.course.now.order.ases.items in
     let i = c.loop-place.place in
     let a = slice_index xs i in
@@ -84,9 +84,9 @@ loop-place-preserved g c =
     let step = step_seeds Up here (seeds_of c.loop-place.pool c.args.seeds.now) seeds f a f' c.step_up.ensures.step (c.loop-place.invariant.spent.keeps.same_seeds a) in
     record {
       steps = omega (arith, c.step_up.ensures.cost, c.loop-place.invariant.steps);
-      so_far = up_more here lawful (what_mutual w) (what_self w) seeds c.requires.course.rank falls xs c.requires.course.order i 0 a f f' inside refl more step c.loop-place.invariant.so_far;
+      so_far = up_more here lawful (relation_mutual w) (relation_self w) seeds c.requires.course.rank falls xs c.requires.course.order i 0 a f f' inside refl more step c.loop-place.invariant.so_far;
       holders = λ b n r there some linked other. elim (cases_eq b a) [
-        | inl e ↦ subst (IsTold c.step_up.new.told n) (sym e) (c.step_up.ensures.around (λ none. some (ap f' e ∙ none)) n r (ap (λ t. what w t n) (sym e) ∙ linked) other)
+        | inl e ↦ subst (IsTold c.step_up.new.told n) (sym e) (c.step_up.ensures.around (λ none. some (ap f' e ∙ none)) n r (ap (λ t. relation w t n) (sym e) ∙ linked) other)
         | inr ne ↦ elim (in_more b a (take i xs) (take (i + 1) xs) more there) [
           | inl e ↦ absurd (ne (sym e))
           | inr e ↦ c.step_up.ensures.others n b (c.loop-place.invariant.holders b n r e (λ none. some (step.others b ne ∙ none)) linked other)

@@ -1,5 +1,5 @@
 use Rattle.std.proofs.Common.{ℕ, sym, subst}
-use Rattle.as_graph.specs.Topology.{what}
+use Rattle.as_graph.specs.Topology.{relation}
 use Rattle.stability_laws.specs.Book.{policy_at}
 use Rattle.stability_laws.specs.Stable.{IsLawful}
 use Rattle.stability_laws.specs.World.{setting}
@@ -14,7 +14,7 @@ use Rattle.three_pass.proofs.passes.step.Goals as goal
 pub visit_among-requires-clause-givers : goal.visit_among-requires-clause-givers
 visit_among-requires-clause-givers g c =
     let meaning = g.P.RoutePolicy.meaning in
-    let w = what c.args.graph.now in
+    let w = relation c.args.graph.now in
     let here = setting meaning c.args.graph.now c.args.book.now (g.V.OriginStates.state_of c.args.states.now (prefix_of c.args.table.now)) in
     let lawful = λ (a : ℕ). (let p = policy_at c.args.book.now a in
     let is : IsLawful (meaning p) = record { ranks_offers = g.met.P.RoutePolicy.ranks_offers p; prefers_customers = g.met.P.RoutePolicy.prefers_customers p; exports_down_only = g.met.P.RoutePolicy.exports_down_only p } in is) in
@@ -26,7 +26,7 @@ visit_among-requires-clause-givers g c =
 pub visit_among-requires-then-gather-clause-givers : goal.visit_among-requires-then-gather-clause-givers
 visit_among-requires-then-gather-clause-givers g c =
     let meaning = g.P.RoutePolicy.meaning in
-    let w = what c.args.graph.now in
+    let w = relation c.args.graph.now in
     let here = setting meaning c.args.graph.now c.args.book.now (g.V.OriginStates.state_of c.args.states.now (prefix_of c.args.table.now)) in
     let lawful = λ (a : ℕ). (let p = policy_at c.args.book.now a in
     let is : IsLawful (meaning p) = record { ranks_offers = g.met.P.RoutePolicy.ranks_offers p; prefers_customers = g.met.P.RoutePolicy.prefers_customers p; exports_down_only = g.met.P.RoutePolicy.exports_down_only p } in is) in

@@ -3,7 +3,7 @@ use Rattle.std.proofs.lemmas.Bool.{eq-eqb}
 use Rattle.std.proofs.lemmas.List.{get_or_read}
 use Rattle.std.proofs.lemmas.List.Folds.{list_any_at}
 use Rattle.net_names.specs.Numbers.{occurs}
-use Rattle.as_graph.specs.Topology.{what}
+use Rattle.as_graph.specs.Topology.{relation}
 use Rattle.stability_laws.specs.Book.{policy_at}
 use Rattle.stability_laws.specs.Stable.{IsLawful}
 use Rattle.stability_laws.specs.World.{setting}
@@ -31,14 +31,14 @@ step-requires-clause-inside g c = omega (arith, c.requires.inside, c.requires.co
 pub step-requires-clause-above : goal.step-requires-clause-above
 step-requires-clause-above g c =
     let read = get_or_read c.args.course.now.order.ases.items c.args.place c.index-asn.result.now c.requires.inside c.index-asn.ensures 0 in
-    subst (λ (a : ℕ). AreProviders (what c.args.graph.now) a (list_at c.args.course.now.above c.args.place)) (sym read) (c.requires.course.above.each c.args.place c.requires.inside)
+    subst (λ (a : ℕ). AreProviders (relation c.args.graph.now) a (list_at c.args.course.now.above c.args.place)) (sym read) (c.requires.course.above.each c.args.place c.requires.inside)
 
 pub step-requires-clause-no_loops : goal.step-requires-clause-no_loops
 step-requires-clause-no_loops g c = λ out.
     let meaning = g.P.RoutePolicy.meaning in
     let read = get_or_read c.args.course.now.order.ases.items c.args.place c.index-asn.result.now c.requires.inside c.index-asn.ensures 0 in
     let f = routing_of c.args.pool.now c.args.table.now c.args.overlay.now in
-    subst (HasNoLoops Up (what c.args.graph.now) (λ n. meaning (policy_at c.args.book.now n)) f) (sym read)
+    subst (HasNoLoops Up (relation c.args.graph.now) (λ n. meaning (policy_at c.args.book.now n)) f) (sym read)
     (c.requires.no_loops (ap (is_among c.args.named.now) (sym read) ∙ sym c.has-may_loop.ensures ∙ out))
 
 pub step-requires-clause-told : goal.step-requires-clause-told
@@ -87,4 +87,4 @@ returns-then-has_none_to_take-clause-around g c = λ some. absurd (some c.requir
 pub returns-clause-around : goal.returns-clause-around
 returns-clause-around g c = λ some n r linked other.
     let read = get_or_read c.args.course.now.order.ases.items c.args.place c.index-asn.result.now c.requires.inside c.index-asn.ensures 0 in
-    subst (λ t. IsTold c.add_holder.new.self n t) read (c.add_holder.ensures.around (λ none. some (ap (routing_of c.step.new.pool c.args.table.now c.step.new.overlay) (sym read) ∙ ap (option_map (entry_of c.step.new.pool)) none)) n r (ap (λ t. what c.args.graph.now t n) read ∙ linked) other)
+    subst (λ t. IsTold c.add_holder.new.self n t) read (c.add_holder.ensures.around (λ none. some (ap (routing_of c.step.new.pool c.args.table.now c.step.new.overlay) (sym read) ∙ ap (option_map (entry_of c.step.new.pool)) none)) n r (ap (λ t. relation c.args.graph.now t n) read ∙ linked) other)

@@ -13,12 +13,12 @@ loop-place-preserved c =
     let low = c.requires.earlier c.loop-place.place pos c.loop-place.invariant.inside in
     record {
       inside = omega (arith, next, low, c.loop-place.invariant.inside);
-      back = λ what r. subst (λ i. IsBack what es c.args.from i c.push.new.way.items) (sym next) (subst (IsBack what es c.args.from (from_at es c.loop-place.place)) (sym way)
-          (back_more what c.args.start es c.requires.unique r c.args.from c.loop-place.place c.loop-place.way.items (c.loop-place.invariant.back what r) c.loop-place.invariant.inside pos));
+      back = λ relation r. subst (λ i. IsBack relation es c.args.from i c.push.new.way.items) (sym next) (subst (IsBack relation es c.args.from (from_at es c.loop-place.place)) (sym way)
+          (back_more relation c.args.start es c.requires.unique r c.args.from c.loop-place.place c.loop-place.way.items (c.loop-place.invariant.back relation r) c.loop-place.invariant.inside pos));
     }
 
 pub returns : goal.returns
-returns c = λ what r.
+returns c = λ relation r.
     (let es : List (ℕ × ℕ) = c.args.self.now.reached.entries in
-    subst (IsWayTo what (reached_at es c.args.from) c.args.start) (sym c.in_ok-push-2.ensures)
-    (back_whole what c.args.start es c.requires.unique r c.args.from c.loop-place.place c.loop-place.way.items (c.loop-place.invariant.back what r) c.loop-place.invariant.inside (omega (arith, c.loop-place-test.false))))
+    subst (IsWayTo relation (reached_at es c.args.from) c.args.start) (sym c.in_ok-push-2.ensures)
+    (back_whole relation c.args.start es c.requires.unique r c.args.from c.loop-place.place c.loop-place.way.items (c.loop-place.invariant.back relation r) c.loop-place.invariant.inside (omega (arith, c.loop-place-test.false))))

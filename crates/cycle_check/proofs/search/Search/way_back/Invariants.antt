@@ -6,7 +6,7 @@ use Rattle.cycle_check.proofs.search.Search.way_back.Given as goal
 abbrev pub invariant-loop-place : goal.invariant-loop-place
 invariant-loop-place l = record {
   inside : l.place < length l.self.reached.entries;
-  back : (what : ℕ → ℕ → Option Rel) → AreReached what l.start l.self.reached.entries → IsBack what l.self.reached.entries l.from l.place l.way.items;
+  back : (relation : ℕ → ℕ → Option Rel) → AreReached relation l.start l.self.reached.entries → IsBack relation l.self.reached.entries l.from l.place l.way.items;
 }
 
 abbrev pub decreases-loop-place : goal.decreases-loop-place

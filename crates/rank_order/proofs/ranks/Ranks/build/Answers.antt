@@ -1,6 +1,6 @@
 use Rattle.std.proofs.Common.{List, ℕ, length, is_some, unwrap_or, sym, ap, subst, ◌∙◌}
 use Rattle.std.specs.List.Sorted.{IsStrictlyIncreasing}
-use Rattle.as_graph.specs.Topology.{what}
+use Rattle.as_graph.specs.Topology.{relation}
 use Rattle.as_graph.specs.Hierarchy.{IsRank}
 use Rattle.cycle_check.specs.declared.ranking.RankedAs.{RankedAs}
 use Rattle.cycle_check.specs.declared.ranking.Ranking.TheVariants.{Ranks}
@@ -24,7 +24,7 @@ pub returns-in-Ok-clause-ranks : goal.returns-in-Ok-clause-ranks
 returns-in-Ok-clause-ranks c = λ a.
     let told = c.in-Ok.ensures.told a ∙ ap (λ (ys : List RankedAs). rank_told ys a) c.deref.ensures.value in
     let found : IsRanking c.args.graph.now (Ranks c.in-Ok-Ranks.ranked) = subst (IsRanking c.args.graph.now) c.in-Ok-Ranks.field-0-is c.in-Ok-Ranks.ensures in
-    subst (IsRank (what c.args.graph.now) a) (sym (ap (λ r. unwrap_or r 0) told)) (found.1.ases.ranks a)
+    subst (IsRank (relation c.args.graph.now) a) (sym (ap (λ r. unwrap_or r 0) told)) (found.1.ases.ranks a)
 
 pub returns-in-Ok-clause-ases : goal.returns-in-Ok-clause-ases
 returns-in-Ok-clause-ases c = λ a.

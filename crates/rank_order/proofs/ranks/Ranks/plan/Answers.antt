@@ -1,5 +1,5 @@
 use Rattle.std.proofs.Common.{rules, ◌≡◌, length, subst, arith}
-use Rattle.as_graph.specs.Topology.{what}
+use Rattle.as_graph.specs.Topology.{relation}
 use Rattle.as_graph.specs.Hierarchy.{IsRank}
 use Rattle.rank_order.proofs.Planned.{last_plan, rank_same}
 use Rattle.rank_order.proofs.ranks.Ranks.plan.Goals as goal
@@ -11,4 +11,4 @@ returns-in-Ok-clause-plan c =
 
 pub returns-in-Ok-clause-ranks : goal.returns-in-Ok-clause-ranks
 returns-in-Ok-clause-ranks c = λ a.
-    subst (IsRank (what c.args.graph.now) a) (rank_same c.args.self.now c.make_room.new.self c.in_ok-plan.plan a c.in-Ok.ensures.same) (c.in_ok-plan.ensures.fitting a)
+    subst (IsRank (relation c.args.graph.now) a) (rank_same c.args.self.now c.make_room.new.self c.in_ok-plan.plan a c.in-Ok.ensures.same) (c.in_ok-plan.ensures.fitting a)

@@ -1,5 +1,5 @@
 use Rattle.std.proofs.Common.{◌≡◌, ◌∙◌, ℕ, true, inl, Err, refl, sym, ap, subst}
-use Rattle.as_graph.specs.Topology.{Topology, what}
+use Rattle.as_graph.specs.Topology.{Topology, relation}
 use Rattle.net_names.specs.Coverage.{covers}
 use Rattle.net_names.specs.Prefixes.{PrefixValue}
 use Rattle.policy_kinds.specs.Kinds.{kind_policy}
@@ -47,7 +47,7 @@ pub returns-in-Ok-change_with-clause-quick : goal.returns-in-Ok-change_with-clau
 returns-in-Ok-change_with-clause-quick g c =
     let s = c.args.self.now in
     let now = c.change_with.new.self in
-    quick_by s now.rounds (what s.graph) (what (topology (world_seen now))) (VrpAdd c.args.vrp) c.args.steps.now c.change_with.new.steps (λ (p : PrefixValue) (a : ℕ). (covers c.args.vrp.prefix p ≡ true) × ((kind_policy (policy_at s.book a)).reads_state ≡ true)) (ap what (sym c.in-Ok-change_with.ensures.changed.graph))
+    quick_by s now.rounds (relation s.graph) (relation (topology (world_seen now))) (VrpAdd c.args.vrp) c.args.steps.now c.change_with.new.steps (λ (p : PrefixValue) (a : ℕ). (covers c.args.vrp.prefix p ≡ true) × ((kind_policy (policy_at s.book a)).reads_state ≡ true)) (ap relation (sym c.in-Ok-change_with.ensures.changed.graph))
     (λ x n there. record { from = n.from; to = n.to; known = n.known; counts = inl (there.0, reads_kind s x.1.1 there.1) }) c.in-Ok-change_with.ensures.quick
 
 pub returns-in-Err-clause-edited : goal.returns-in-Err-clause-edited

@@ -1,6 +1,6 @@
 use Rattle.std.proofs.Common.{◌≡◌, ℕ, true, inl, sym}
 use Rattle.std.proofs.Common.{None, Some, refl}
-use Rattle.as_graph.specs.Topology.{what}
+use Rattle.as_graph.specs.Topology.{relation}
 use Rattle.net_names.specs.Coverage.{covers}
 use Rattle.net_names.specs.Prefixes.{PrefixValue}
 use Rattle.policy_kinds.specs.Kinds.{kind_policy}
@@ -26,6 +26,6 @@ returns-clause-quick g c =
     let s = c.args.self.now in
     let now = c.change_at.new.self in
     on_map c.change_at.result
-    (steps_map (what s.graph) (plan_of s.rounds) (plan_of now.rounds) (kept s.rounds) (kept now.rounds) (λ p a. touches c.in_ok-touched.touched p a ≡ true) (λ (p : PrefixValue) (a : ℕ). (covers c.args.vrp.prefix p ≡ true) × ((kind_policy (policy_at s.book a)).reads_state ≡ true)) (round_count s.rounds) c.args.steps.now c.change_at.new.steps
+    (steps_map (relation s.graph) (plan_of s.rounds) (plan_of now.rounds) (kept s.rounds) (kept now.rounds) (λ p a. touches c.in_ok-touched.touched p a ≡ true) (λ (p : PrefixValue) (a : ℕ). (covers c.args.vrp.prefix p ≡ true) × ((kind_policy (policy_at s.book a)).reads_state ≡ true)) (round_count s.rounds) c.args.steps.now c.change_at.new.steps
     (λ x n there. record { from = n.from; to = n.to; known = n.known; counts = inl (c.in_ok-touched.ensures.only x.1.0 x.1.1 there) }))
     c.change_at.ensures.quick

@@ -1,7 +1,7 @@
 use Rattle.std.proofs.Common.{◌≡◌, ◌≢◌, ◌≤◌, ◌-◌, ◌∙◌, ◌∷◌, [], ℕ, inl, inr, true, Some, refl, sym, ap, subst, arith}
 use Rattle.std.specs.Ordering.{nat_cmp}
 use Rattle.std.specs.FinSet as set
-use Rattle.as_graph.specs.Topology.{Topology, as_count, what}
+use Rattle.as_graph.specs.Topology.{Topology, as_count, relation}
 use Rattle.leak_round.specs.Limits.{IsWithinLimits}
 use Rattle.leak_round.specs.Rounds.{kept as kept_rounds, plan_of, round_count}
 use Rattle.leak_round.specs.Touched.{touches}
@@ -144,7 +144,7 @@ returns-in-Ok-change-clause-quick g c =
     let now = c.set_mark.new.graph in
     let graph = c.in-Ok-set_mark.ensures.ok ∙ ap (λ (x : Topology). with_mark_if x a t) c.in-Ok-room.ensures.ok in
     let plan : plan_of c.change.new.rounds ≡ (edited (plan_of c.args.self.now.rounds) c.args.edit.now) = c.in-Ok-change.ensures.plan in
-    quick_by s c.change.new.rounds (what now) (what now) (edit_of e) c.args.steps.now c.change.new.steps (λ p x. touches c.in-Ok.touched p x ≡ true) refl
+    quick_by s c.change.new.rounds (relation now) (relation now) (edit_of e) c.args.steps.now c.change.new.steps (λ p x. touches c.in-Ok.touched p x ≡ true) refl
     (λ x n there.
     let (out, prefix_is, asn_is) = c.in-Ok.ensures.only x.1.0 x.1.1 there in
     record {

@@ -1,6 +1,6 @@
 use Rattle.std.proofs.Common.{◌≡◌, ◌∙◌, inl, inr, None, Some, option_map, refl, sym, ap}
 use Rattle.net_names.specs.Links.{LinkMap}
-use Rattle.as_graph.specs.Topology.{Topology, what}
+use Rattle.as_graph.specs.Topology.{Topology, relation}
 use Rattle.leak_round.specs.Touched.{touches}
 use Rattle.scenario_text.specs.declared.acts.Edit.TheVariants.{Link}
 use Rattle.stability_laws.specs.Plans.{Plan, has_prefix}
@@ -54,7 +54,7 @@ returns-clause-edited g c =
     let alike = c.in-Err-change_linked.ensures.err in
     let world = links_world old mid c.args.a c.args.b _ h in
     let accepted : refusal_of_edit (world_seen old) e ≡ None = ap (option_map refused.Limit) (ap passed_limit (sym world) ∙ small_world mid c.is_small.ensures) in (
-      link_stopped (world_seen old) mid.graph c.args.a c.args.b c.args.rel c.in-Err-change_linked.error accepted (ap (λ (l : LinkMap). what (graph_of l mid.graph.marked)) h.are) c.in-Err-change_linked.ensures.refused,
+      link_stopped (world_seen old) mid.graph c.args.a c.args.b c.args.rel c.in-Err-change_linked.error accepted (ap (λ (l : LinkMap). relation (graph_of l mid.graph.marked)) h.are) c.in-Err-change_linked.ensures.refused,
       links_undone old mid same c.set_back.new.self c.args.a c.args.b _ _ h alike c.set_back.ensures
           (back_linked c.edits_are_undone.ensures old.graph c.args.a c.args.b c.args.rel c.requires.apart same.graph (ap (λ (t : Topology). t.links) alike.graph ∙ h.are) c.rel-old.result (sym c.rel-old.ensures)),
     )

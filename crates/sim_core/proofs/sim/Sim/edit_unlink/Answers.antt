@@ -1,5 +1,5 @@
 use Rattle.std.proofs.Common.{◌∙◌, None, sym, ap}
-use Rattle.as_graph.specs.Topology.{Topology, what}
+use Rattle.as_graph.specs.Topology.{Topology, relation}
 use Rattle.leak_round.specs.Touched.{touches}
 use Rattle.scenario_text.specs.declared.acts.Edit.TheVariants.{Unlink}
 use Rattle.stability_laws.specs.Plans.{Plan, has_prefix}
@@ -37,14 +37,14 @@ returns-in-Ok-change_at-clause-edited g c =
     let world = links_world old mid c.args.a c.args.b _ h in
     let none = cut_no_cycle c.links_are_sound.ensures c.links_are_set.ensures c.links_are_taken.ensures old mid c.args.a c.args.b h c.requires.no_cycle in
     changed_done old mid c.change_at.new.self e c.in-Ok-change_at.changed.routes world h.rest
-    (allowed_by (world_seen old) (world_seen mid) e world (absent_cut (what old.graph c.args.a c.args.b) (absent_link c.args.a c.args.b) c.in-Ok-cut_link.ensures.there) (small_world mid c.is_small-2.ensures) none)
+    (allowed_by (world_seen old) (world_seen mid) e world (absent_cut (relation old.graph c.args.a c.args.b) (absent_link c.args.a c.args.b) c.in-Ok-cut_link.ensures.there) (small_world mid c.is_small-2.ensures) none)
     c.in-Ok-change_at.ensures.changed
 
 pub set_back-requires-clause-apart : goal.set_back-requires-clause-apart
 set_back-requires-clause-apart g c = cut_apart c.links_are_sound.ensures c.args.self.now c.args.a c.args.b c.in-Ok-cut_link.ensures.there
 
 pub set_back-requires-clause-there : goal.set_back-requires-clause-there
-set_back-requires-clause-there g c = if_none_some _ c.rel-link.result (what c.args.self.now.graph c.args.a c.args.b) c.in-Ok-cut_link.ensures.there (sym c.rel-link.ensures)
+set_back-requires-clause-there g c = if_none_some _ c.rel-link.result (relation c.args.self.now.graph c.args.a c.args.b) c.in-Ok-cut_link.ensures.there (sym c.rel-link.ensures)
 
 pub set_back-requires-clause-fits : goal.set_back-requires-clause-fits
 set_back-requires-clause-fits g c =

@@ -1,7 +1,7 @@
 -- How a run ends, what it writes, and what it says of a fault.
 use Rattle.std.specs.Prelude.{◌≡◌, ◌⊎◌, Bool, List, [], Option, Result, Ok, Err}
 use Rattle.clap.specs.Walk.{Text}
-use Rattle.as_graph.specs.Topology.{what}
+use Rattle.as_graph.specs.Topology.{relation}
 use Rattle.cycle_check.specs.Cycles.{IsCycleFromLowest}
 use Rattle.sim_core.specs.World.{HasCycle, topology}
 use Rattle.asprop.specs.Streams.{Source, Stream}
@@ -16,33 +16,33 @@ use Rattle.asprop.specs.declared.types.Stop.TheVariants as stop
 use Rattle.asprop.specs.declared.types.Status.{Status}
 
 -- What the work over a task or a fault ends with, and what it writes: all answers; or where memory ran out nothing, or whole answers to some lines in front; or where a write failed a front of such answers; or nothing, where there is a provider cycle, told from its lowest number on, or a fault.
-abbrev pub Works : Result Task Fault → Result Bool Stop → Stream → Type 0
-Works (Ok task) (Ok refused) out = (HasCycle task.world → ⊥) × Wrote task task.lines refused out.wrote
-Works (Ok task) (Err stop.Memory) out = (out.wrote [] ⊎ WroteSome task out.wrote) × (HasCycle task.world → out.wrote [])
-Works (Ok task) (Err stop.Write) out = (HasCycle task.world → ⊥) × WroteSome task out.failed
-Works (Ok task) (Err (stop.Cycle cycle)) out = IsCycleFromLowest (what (topology task.world)) cycle × out.wrote []
-Works (Err fault) (Err stop.Memory) out = out.wrote []
-Works (Err fault) (Err (stop.Fault found)) out = (found ≡ fault) × out.wrote []
-Works _ _ out = ⊥
+abbrev pub Outcome : Result Task Fault → Result Bool Stop → Stream → Type 0
+Outcome (Ok task) (Ok refused) out = (HasCycle task.world → ⊥) × Wrote task task.lines refused out.wrote
+Outcome (Ok task) (Err stop.Memory) out = (out.wrote [] ⊎ WroteSome task out.wrote) × (HasCycle task.world → out.wrote [])
+Outcome (Ok task) (Err stop.Write) out = (HasCycle task.world → ⊥) × WroteSome task out.failed
+Outcome (Ok task) (Err (stop.Cycle cycle)) out = IsCycleFromLowest (relation (topology task.world)) cycle × out.wrote []
+Outcome (Err fault) (Err stop.Memory) out = out.wrote []
+Outcome (Err fault) (Err (stop.Fault found)) out = (found ≡ fault) × out.wrote []
+Outcome _ _ out = ⊥
 
 -- A run over what was read of the files: how the work ends, and the status and the text of that end; the text was written, or a front of it where the sink failed.
-pub record Ends (form : Option Form) (reads : Reads) (s : Status) (out err : Stream) : Type 0 where
+pub record Run (form : Option Form) (reads : Reads) (s : Status) (out err : Stream) : Type 0 where
   pub result : Result Bool Stop
-  pub works : Works (task_of form reads) result out
+  pub works : Outcome (task_of form reads) result out
   pub status : s ≡ (ending_of form result).0
   pub says : err.wrote (ending_of form result).1 ⊎ err.failed (ending_of form result).1
 
 -- A run: what was read of the files under the names that the words give, and the run over that.
-pub record Ran (from : Source) (words : List Text) (s : Status) (out err : Stream) : Type 0 where
+pub record IsRun (from : Source) (words : List Text) (s : Status) (out err : Stream) : Type 0 where
   pub reads : Reads
   pub are_read : AreReads from (form_of words) reads
-  pub ends : Ends (form_of words) reads s out err
+  pub ends : Run (form_of words) reads s out err
 
 -- The files that a form names were read, and the answers written as far as the work got.
 pub record Worked (from : Source) (form : Option Form) (result : Result Bool Stop) (out : Stream) : Type 0 where
   pub reads : Reads
   pub are_read : AreReads from form reads
-  pub works : Works (task_of form reads) result out
+  pub works : Outcome (task_of form reads) result out
 
 -- a text was written, or a front of it where the sink failed
 abbrev pub Reports : Text → Stream → Type 0

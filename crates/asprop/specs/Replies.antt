@@ -13,18 +13,18 @@ use Rattle.sim_core.specs.declared.errors.QueryError.{QueryError}
 use Rattle.asprop.specs.Refusals.{edit_refusal_text, refusal_text}
 
 -- the text is what is told for what a line asks, and the world after it: a query is answered, or refused for its reason; an edit that is allowed leaves the edited world, and the text says how many entries of the one family of routings differ from those of the one family after it; one that is refused says why, and the world stays (own format)
-abbrev pub Tells : World → Kept → Act → Text → Bool → World → Type 0
-Tells w kept (act.Query q) text false after = (refusal_of w q ≡ None) × IsAnswer w kept q text × (after ≡ w)
-Tells w kept (act.Query q) text true after = (e : QueryError) × (refusal_of w q ≡ Some e) × (text ≡ refusal_text e) × (after ≡ w)
-Tells w kept (act.Edit e) text false after =
+abbrev pub IsReply : World → Kept → Act → Text → Bool → World → Type 0
+IsReply w kept (act.Query q) text false after = (refusal_of w q ≡ None) × IsAnswer w kept q text × (after ≡ w)
+IsReply w kept (act.Query q) text true after = (e : QueryError) × (refusal_of w q ≡ Some e) × (text ≡ refusal_text e) × (after ≡ w)
+IsReply w kept (act.Edit e) text false after =
     IsAllowed w e × (after ≡ edited w e) × (now : Kept) × IsKept after now
     × (routes : ℕ) × HasChanges after.plan after.rounds kept.routings now.routings routes × (text ≡ codes "ok " ++ (decimal routes ++ 10 ∷ []))
-Tells w kept (act.Edit e) text true after = (error : EditError) × IsReason w e error × (text ≡ edit_refusal_text error) × (after ≡ w)
+IsReply w kept (act.Edit e) text true after = (error : EditError) × IsReason w e error × (text ≡ edit_refusal_text error) × (after ≡ w)
 
 -- the reply to what a line asks was appended (own format)
 pub record AppendsReply (w : World) (kept : Kept) (asks : Act) (refused : Bool) (old new : Text) (after : World) : Type 0 where
   pub text : Text
-  pub reply : Tells w kept asks text refused after
+  pub reply : IsReply w kept asks text refused after
   pub appended : new ≡ old ++ text
 
 -- the head line of an answer, if there are head lines: `# ` and the line's number (own format)
@@ -32,14 +32,14 @@ abbrev pub head : Bool → ℕ → Text
 head heads number = if heads then codes "# " ++ (decimal number ++ 10 ∷ []) else []
 
 -- the text is the head line and what is told for the line by the one and only stable routings of the world's rounds and by the ranks of its ASes, and the line leaves this world (Gao and Rexford 2001)
-abbrev pub Answered : Bool → World → LineValue → Text → Bool → World → Type 0
-Answered heads w line text refused after = (kept : Kept) × IsKept w kept
-    × (answer : Text) × Tells w kept line.act answer refused after × (text ≡ head heads line.number ++ answer)
+abbrev pub AnswersLine : Bool → World → LineValue → Text → Bool → World → Type 0
+AnswersLine heads w line text refused after = (kept : Kept) × IsKept w kept
+    × (answer : Text) × IsReply w kept line.act answer refused after × (text ≡ head heads line.number ++ answer)
 
 -- the text answers the lines one after the other, each in the world that the lines before it leave; `refused` says whether an answer is a refusal (own format)
-abbrev pub Told : Bool → World → List LineValue → Text → Bool → Type 0
-Told heads w [] text refused = (text ≡ []) × (refused ≡ false)
-Told heads w (line ∷ lines) text refused =
+abbrev pub AnswersLines : Bool → World → List LineValue → Text → Bool → Type 0
+AnswersLines heads w [] text refused = (text ≡ []) × (refused ≡ false)
+AnswersLines heads w (line ∷ lines) text refused =
     (front rest : Text) × (first others : Bool) × (after : World)
-    × Answered heads w line front first after × Told heads after lines rest others
+    × AnswersLine heads w line front first after × AnswersLines heads after lines rest others
     × (text ≡ front ++ rest) × (refused ≡ (first || others))
