@@ -7,6 +7,7 @@
 //! meets the laws, and it is the only stable one.
 #![tactic(auto)]
 
+mod ahead;
 mod asn_set;
 mod course;
 mod lists;

@@ -24,6 +24,7 @@ ghost use Rattle.three_pass.specs.Spending.{CanGo, HasSpent};
 ghost use Rattle.three_pass.specs.Telling.{HaveTold};
 ghost use Rattle.three_pass.specs.Told.{AreTrue, IsTold};
 
+use crate::ahead::look_ahead;
 use crate::asn_set::AsnSet;
 use crate::course::{Course, place_at};
 use crate::looks::Looks;
@@ -307,6 +308,7 @@ pub fn go_down<P: RoutePolicy, V: OriginStates, L: Ledger>(
 {
     let mut left = course.order.ases.len();
     while left > 0 {
+        look_ahead(&course.above, left, pool, overlay, looks);
         left -= 1;
         let asn = course.order.ases[left];
         let row = place_at(&course.order.places, left) as usize;
