@@ -29,12 +29,12 @@ abbrev pub usage : Text
 usage = codes "usage: asprop REL [--vrps FILE] [--scenario FILE] [--script FILE]" ++ 10 ∷ codes "       asprop REL --origin N" ++ 10 ∷ codes "       asprop --demo N" ++ 10 ∷ []
 
 -- the text, and before it the line where it stands (own format)
-abbrev pub line : ℕ → Text → Text
-line n text = codes "line " ++ (decimal n ++ (codes ": " ++ text))
+abbrev pub in_line : ℕ → Text → Text
+in_line n text = codes "line " ++ (decimal n ++ (codes ": " ++ text))
 
 -- the text, and before it the row where it stands (own format)
-abbrev pub row : ℕ → Text → Text
-row n text = codes "row " ++ (decimal n ++ (codes ": " ++ text))
+abbrev pub in_row : ℕ → Text → Text
+in_row n text = codes "row " ++ (decimal n ++ (codes ": " ++ text))
 
 -- the limit of a scenario that is passed (own format)
 abbrev pub limit_text : LimitOf → Text
@@ -49,22 +49,22 @@ limit_text limit.Watch = codes "more than 16 watched addresses"
 abbrev pub cause_of : Cause → Status × Text
 cause_of Unread = (status.ReadFault, codes "read fault")
 cause_of (TooLong most) = (TooLarge, codes "more than " ++ (decimal most ++ codes " bytes"))
-cause_of (Relation (rel.Unreadable n)) = (BadInput, line n (codes "unreadable"))
-cause_of (Relation (rel.SelfLink n)) = (BadInput, line n (codes "an AS linked to itself"))
-cause_of (Relation (rel.Conflict n m)) = (BadInput, line n (codes "conflicts with line " ++ decimal m))
-cause_of (Relation (rel.TooManyLinks n)) = (TooLarge, line n (codes "more than 1500000 links"))
-cause_of (Payload (vrp.Fields n)) = (BadInput, row n (codes "fewer than three fields"))
-cause_of (Payload (vrp.BadAsn n)) = (BadInput, row n (codes "bad AS number"))
-cause_of (Payload (vrp.BadPrefix n)) = (BadInput, row n (codes "bad prefix"))
-cause_of (Payload (vrp.BadMax n)) = (BadInput, row n (codes "bad maximum length"))
-cause_of (Payload (vrp.TooMany n)) = (TooLarge, row n (codes "more than 2000000 payloads"))
+cause_of (Relation (rel.Unreadable n)) = (BadInput, in_line n (codes "unreadable"))
+cause_of (Relation (rel.SelfLink n)) = (BadInput, in_line n (codes "an AS linked to itself"))
+cause_of (Relation (rel.Conflict n m)) = (BadInput, in_line n (codes "conflicts with line " ++ decimal m))
+cause_of (Relation (rel.TooManyLinks n)) = (TooLarge, in_line n (codes "more than 1500000 links"))
+cause_of (Payload (vrp.Fields n)) = (BadInput, in_row n (codes "fewer than three fields"))
+cause_of (Payload (vrp.BadAsn n)) = (BadInput, in_row n (codes "bad AS number"))
+cause_of (Payload (vrp.BadPrefix n)) = (BadInput, in_row n (codes "bad prefix"))
+cause_of (Payload (vrp.BadMax n)) = (BadInput, in_row n (codes "bad maximum length"))
+cause_of (Payload (vrp.TooMany n)) = (TooLarge, in_row n (codes "more than 2000000 payloads"))
 cause_of (Scenario scenario.NotJson) = (BadInput, codes "not JSON")
 cause_of (Scenario (scenario.Shape place)) = (BadInput, place_text place ++ codes ": wrong shape")
 cause_of (Scenario (scenario.Value place)) = (BadInput, place_text place ++ codes ": bad value")
 cause_of (Scenario (scenario.Twice place)) = (BadInput, place_text place ++ codes ": named twice")
 cause_of (Scenario (scenario.Limit which)) = (TooLarge, limit_text which)
-cause_of (Script (script.Unreadable n)) = (BadInput, line n (codes "unreadable"))
-cause_of (Script (script.TooMany n)) = (TooLarge, line n (codes "more than 100000 commands"))
+cause_of (Script (script.Unreadable n)) = (BadInput, in_line n (codes "unreadable"))
+cause_of (Script (script.TooMany n)) = (TooLarge, in_line n (codes "more than 100000 commands"))
 cause_of _ = (BadInput, [])
 
 -- the table of how the work may end, each with its status and its text (own format)

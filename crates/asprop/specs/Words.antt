@@ -22,8 +22,8 @@ pub data Form : Type 0 where
   demo_form : (size : ℕ) → Form
 
 -- a size is 1 to 5 digits, from 4 to 20000 (own format)
-unfoldable pub size_of : List ℕ → Option ℕ
-size_of text = numeral 10 5 text >>= λ n. if nat_le 4 n && nat_le n 20000 then Some n else None
+unfoldable pub demo_size : List ℕ → Option ℕ
+demo_size text = numeral 10 5 text >>= λ n. if nat_le 4 n && nat_le n 20000 then Some n else None
 
 -- the size of a generated input is from 4 to 20000 (own format)
 abbrev pub HasSize : Option Form → Type 0
@@ -36,7 +36,7 @@ HasSize (Some (demo_form size)) = (4 ≤ size) × (size ≤ 20000)
 abbrev pub form_by : (rel vrps scenario script origin demo : Option Text) → Option Form
 form_by (Some rel) vrps scenario script None None = Some (script_form rel vrps scenario script)
 form_by (Some rel) None None None (Some number) None = option_map (origin_form rel) (asn_of number)
-form_by None None None None None (Some number) = option_map demo_form (size_of number)
+form_by None None None None None (Some number) = option_map demo_form (demo_size number)
 form_by _ _ _ _ _ _ = None
 
 -- the form of the words: that of the values of the word and of the options where the command finds no fault in the words, and else none (own format)

@@ -1,6 +1,6 @@
 //! The words of the command line.
 ghost use Rattle.std.specs.Prelude.{◌≡◌, ◌≤◌, IfOk, IfSome, Some, map, option_map, string_bytes};
-ghost use Rattle.asprop.specs.Words.{HasSize, form_by, form_of, form_seen, name_by, size_of, text_seen};
+ghost use Rattle.asprop.specs.Words.{HasSize, form_by, form_of, form_seen, name_by, demo_size, text_seen};
 
 use crate::command::new_command;
 use crate::types::File;
@@ -57,9 +57,9 @@ impl<'a> WordForm<'a> {
 }
 
 // The size of a generated input.
-#[tactic(auto, unfolding(crate::specs::Words::size_of))]
+#[tactic(auto, unfolding(crate::specs::Words::demo_size))]
 fn size(text: &[u8]) -> Option<u32>
-    ensures value { result ≡ size_of text.now }
+    ensures value { result ≡ demo_size text.now }
     ensures range { IfSome result (λ n. (4 ≤ n) × (n ≤ 20000)) }
 {
     let n = number(text, 10, 5)?;

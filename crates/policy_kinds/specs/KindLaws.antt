@@ -12,7 +12,7 @@ use Rattle.policy_laws.specs.Ranking.{ranks_by, last_tied}
 use Rattle.policy_kinds.specs.declared.kind.Kind.{Kind}
 use Rattle.policy_kinds.specs.declared.kind.Kind.TheVariants.{Plain, DropInvalid, PreferValid, ProviderFirst, Otc, DropInvalidOtc}
 use Rattle.policy_kinds.specs.declared.rows.Row.{Row}
-use Rattle.policy_kinds.specs.Kinds.{row, class_place, valid_place, offer_cmp, is_customer, policy_by, kind_policy}
+use Rattle.policy_kinds.specs.Kinds.{kind_row, class_place, valid_place, offer_cmp, is_customer, policy_by, kind_policy}
 
 row_ranks_offers : (r : Row) → RanksOffers (policy_by r)
 row_ranks_offers r = ranks_by (policy_by r) (offer_cmp r) (λ x y. refl)
@@ -22,10 +22,10 @@ row_ranks_offers r = ranks_by (policy_by r) (offer_cmp r) (λ x y. refl)
     (λ x y e. ranked x.neighbour y.neighbour Equal (sym (last_tied (nat_cmp x.length y.length) _ (last_tied (nat_cmp (valid_place r.prefers_valid x.state) (valid_place r.prefers_valid y.state)) _ (last_tied (nat_cmp (class_place r x.rel) (class_place r y.rel)) _ e)))))
 
 pub kind_ranks_offers : (k : Kind) → RanksOffers (kind_policy k)
-kind_ranks_offers k = row_ranks_offers (row k)
+kind_ranks_offers k = row_ranks_offers (kind_row k)
 
 -- in each row peers and providers come after customers
-first_lower : (k : Kind) (b : Rel) (r : Ordering) → b ≢ Customer → is_lt (ordering_then (nat_cmp 0 (class_place (row k) b)) r) ≡ true
+first_lower : (k : Kind) (b : Rel) (r : Ordering) → b ≢ Customer → is_lt (ordering_then (nat_cmp 0 (class_place (kind_row k) b)) r) ≡ true
 first_lower k Customer r n = absurd (n refl)
 first_lower Plain Peer r n = refl
 first_lower Plain Provider r n = refl

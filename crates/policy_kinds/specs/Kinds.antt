@@ -19,13 +19,13 @@ abbrev pub plain : Row
 plain = record { label = 0; peer = 1; provider = 2; drops_invalid = false; prefers_valid = false; marks = false }
 
 -- the table of the kinds: what each has other than the plain one
-abbrev pub row : Kind → Row
-row Plain = plain
-row DropInvalid = record plain { label = 1; drops_invalid = true }
-row PreferValid = record plain { label = 2; prefers_valid = true }
-row ProviderFirst = record plain { label = 3; peer = 2; provider = 1 }
-row Otc = record plain { label = 4; marks = true }
-row DropInvalidOtc = record plain { label = 5; drops_invalid = true; marks = true }
+abbrev pub kind_row : Kind → Row
+kind_row Plain = plain
+kind_row DropInvalid = record plain { label = 1; drops_invalid = true }
+kind_row PreferValid = record plain { label = 2; prefers_valid = true }
+kind_row ProviderFirst = record plain { label = 3; peer = 2; provider = 1 }
+kind_row Otc = record plain { label = 4; marks = true }
+kind_row DropInvalidOtc = record plain { label = 5; drops_invalid = true; marks = true }
 
 -- the place of a class in the row's order
 abbrev pub class_place : Row → Rel → ℕ
@@ -80,8 +80,8 @@ policy_by r = record {
 
 -- the answers of a kind are those of its row
 abbrev pub kind_policy : Kind → Policy
-kind_policy k = policy_by (row k)
+kind_policy k = policy_by (kind_row k)
 
 -- the number under which the ASes of a kind are counted
 abbrev pub label : Kind → ℕ
-label k = (row k).label
+label k = (kind_row k).label

@@ -1,6 +1,6 @@
 //! The table of the kinds.
 ghost use Rattle.std.specs.Prelude.{◌≡◌};
-ghost use Rattle.policy_kinds.specs.Kinds.{row as row_of, class_place as place_of_class, valid_place as place_of_state};
+ghost use Rattle.policy_kinds.specs.Kinds.{kind_row, class_place as place_of_class, valid_place as place_of_state};
 
 use crate::kind::Kind;
 use net_names::{Rel, State};
@@ -34,7 +34,7 @@ const PLAIN: Row = Row {
 impl Row {
     /// The row of a kind: what it has other than the plain one.
     pub fn of(kind: Kind) -> Row
-        ensures { result ≡ row_of kind }
+        ensures { result ≡ kind_row kind }
     {
         match kind {
             Kind::Plain => PLAIN,

@@ -29,8 +29,8 @@ entry_text None = codes "none|"
 entry_text (Some e) = class_word e.class ++ (124 ∷ (numbers_text e.path ++ option_map_or (λ n. codes "|otc " ++ decimal n) e.otc []))
 
 -- the row of an AS: its number, `|`, its entry and a line feed (own format)
-abbrev pub row : ℕ → Option Entry → List ℕ
-row a held = decimal a ++ (124 ∷ (entry_text held ++ 10 ∷ []))
+abbrev pub entry_row : ℕ → Option Entry → List ℕ
+entry_row a held = decimal a ++ (124 ∷ (entry_text held ++ 10 ∷ []))
 
 -- the row of an AS: its number, `|`, its rank and a line feed (own format)
 abbrev pub rank_row : ℕ → ℕ → List ℕ

@@ -7,7 +7,7 @@ ghost use Rattle.route_choice.specs.Resources.{AreEntriesLive};
 ghost use Rattle.route_choice.specs.Routings.{entry_of, table_routing};
 ghost use Rattle.reports.specs.Growth.{Grows};
 ghost use Rattle.reports.specs.Held.{IsHeldLive};
-ghost use Rattle.reports.specs.Rows.{class_word, entry_text, more_numbers, numbers_text, row as row_of, AppendsTable};
+ghost use Rattle.reports.specs.Rows.{class_word, entry_text, more_numbers, numbers_text, entry_row, AppendsTable};
 
 use crate::bytes::put_bytes;
 use as_graph::Graph;
@@ -145,7 +145,7 @@ fn append_row(
     held: Option<Held>,
 ) -> Result<(), NoMemory>
     requires { IsHeldLive pool.now held }
-    ensures ok { OnOk result (out.new.items ≡ out.old.items ++ row_of asn (option_map (entry_of pool.now) held)) }
+    ensures ok { OnOk result (out.new.items ≡ out.old.items ++ entry_row asn (option_map (entry_of pool.now) held)) }
     ensures err { OnErr result (Grows out.old.items out.new.items) }
 {
     put_asn(out, asn)?;
@@ -165,7 +165,7 @@ pub fn put_routes(
     pool: &PathPool,
 ) -> Result<(), NoMemory>
     requires { AreEntriesLive pool.now table.now }
-    ensures ok { OnOk result (AppendsTable (has graph.now) (λ a. row_of a (table_routing pool.now table.now a)) out.old.items out.new.items) }
+    ensures ok { OnOk result (AppendsTable (has graph.now) (λ a. entry_row a (table_routing pool.now table.now a)) out.old.items out.new.items) }
     ensures err { OnErr result (out.new.items ≡ out.old.items) }
 {
     let kept = out.len();
@@ -187,7 +187,7 @@ pub fn put_route(
     asn: Asn,
 ) -> Result<(), NoMemory>
     requires { AreEntriesLive pool.now table.now }
-    ensures ok { OnOk result (out.new.items ≡ out.old.items ++ row_of asn (table_routing pool.now table.now asn)) }
+    ensures ok { OnOk result (out.new.items ≡ out.old.items ++ entry_row asn (table_routing pool.now table.now asn)) }
     ensures err { OnErr result (out.new.items ≡ out.old.items) }
 {
     let kept = out.len();

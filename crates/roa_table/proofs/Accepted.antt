@@ -15,7 +15,7 @@ use Rattle.net_names.specs.Orders.{vrp_total, exact_vrp}
 use Rattle.roa_table.specs.Sets.{Payloads, count}
 use Rattle.roa_table.specs.Lists.{stands_in}
 use Rattle.roa_table.specs.Records.{payload_of}
-use Rattle.roa_table.specs.Files.{Row, given, fault_in, fault_at, fault_after}
+use Rattle.roa_table.specs.Files.{Record, given, fault_in, fault_at, fault_after}
 use Rattle.roa_table.specs.Laws.{HasPayloads, row_of, IsFirstFaulty}
 use Rattle.roa_table.specs.declared.record.Wrong.{Wrong}
 use Rattle.roa_table.specs.declared.record.Wrong.TheVariants as wrong
@@ -29,7 +29,7 @@ use Rattle.roa_table.proofs.Gathered.{payloads_given, first_fault, few_behind, f
 pub nothing_has_payloads : HasPayloads []
 nothing_has_payloads = record { readable = All-nil (λ row. IsOk (payload_of row)); few = rw (fin.len-empty vrp_cmp (Unit {0})) (omega arith) }
 
-HasPayloads-take : (n : ℕ) (rows : List Row) → HasPayloads rows → HasPayloads (take n rows)
+HasPayloads-take : (n : ℕ) (rows : List Record) → HasPayloads rows → HasPayloads (take n rows)
 HasPayloads-take n rows h = record {
   readable = All-take (λ row. IsOk (payload_of row)) n rows h.readable;
   few =
@@ -42,24 +42,24 @@ gives_one : (before : Payloads) (n : ℕ) (r : Result VrpValue Wrong) → fault_
 gives_one before n (Ok v) h = refl
 gives_one before n (Err w) h = cc
 
-HasPayloads-push : (before : List Row) (row : Row) → HasPayloads before → fault_after before row ≡ None → HasPayloads (before ++ row ∷ [])
+HasPayloads-push : (before : List Record) (row : Record) → HasPayloads before → fault_after before row ≡ None → HasPayloads (before ++ row ∷ [])
 HasPayloads-push before row h none = record {
   readable = All-push (λ r. IsOk (payload_of r)) before row h.readable (gives_one (payloads_given before) (length before + 2) (payload_of row) none);
   few = few_behind before (row ∷ []) [] (ap (λ f. option_or f None) none) h.few;
 }
 
 -- ---- rows without a fault
-pub HasPayloads-from_faultless : (before more : List Row) → HasPayloads before → first_fault before more ≡ None → HasPayloads (before ++ more)
+pub HasPayloads-from_faultless : (before more : List Record) → HasPayloads before → first_fault before more ≡ None → HasPayloads (before ++ more)
 HasPayloads-from_faultless before [] h none = rw (append-nil before) h
 HasPayloads-from_faultless before (row ∷ more) h none =
     let parts = none_left (fault_after before row) (first_fault (before ++ row ∷ []) more) none in
     subst HasPayloads (append_assoc before (row ∷ []) more) (HasPayloads-from_faultless (before ++ row ∷ []) more (HasPayloads-push before row h parts.0) parts.1)
 
 -- a fault of rows with payloads in front is one of those behind
-first_fault-behind : (rows more : List Row) → HasPayloads rows → first_fault [] (rows ++ more) ≡ first_fault rows more
+first_fault-behind : (rows more : List Record) → HasPayloads rows → first_fault [] (rows ++ more) ≡ first_fault rows more
 first_fault-behind rows more h = first_behind [] rows more (list_all-from_AllPass (λ row. is_ok (payload_of row)) rows h.readable) h.few
 
-pub faultless_of_HasPayloads : (rows : List Row) → HasPayloads rows → first_fault [] rows ≡ None
+pub faultless_of_HasPayloads : (rows : List Record) → HasPayloads rows → first_fault [] rows ≡ None
 faultless_of_HasPayloads rows h = ap (first_fault []) (sym (append-nil rows)) ∙ first_fault-behind rows [] h
 
 -- ---- the first faulty row
@@ -78,15 +78,15 @@ row_of-fault_at before n (Ok v) e h = by (fin.contains_key before v || nat_lt (f
     by false h = let same : fault.TooMany n ≡ e = cc in ap row_of (sym same)
 
 -- rows with payloads, the first faulty one, and those behind it
-record SplitAt (rows : List Row) (e : VrpError) : Type 0 where
-  front : List Row
-  row : Row
-  rest : List Row
+record SplitAt (rows : List Record) (e : VrpError) : Type 0 where
+  front : List Record
+  row : Record
+  rest : List Record
   all : rows ≡ front ++ row ∷ rest
   fine : HasPayloads front
   faulty : fault_after front row ≡ Some e
 
-split_at : (before more : List Row) (e : VrpError) → HasPayloads before → first_fault before more ≡ Some e → SplitAt (before ++ more) e
+split_at : (before more : List Record) (e : VrpError) → HasPayloads before → first_fault before more ≡ Some e → SplitAt (before ++ more) e
 split_at before [] e h found = cc
 split_at before (row ∷ more) e h found = by (fault_after before row) refl found (split_at (before ++ row ∷ []) more e)
   where
@@ -95,7 +95,7 @@ split_at before (row ∷ more) e h found = by (fault_after before row) refl foun
     by (Some x) is here later = record { front = before; row = row; rest = more; all = refl; fine = h; faulty = is ∙ here }
     by None is behind later = subst (λ rows. SplitAt rows e) (append_assoc before (row ∷ []) more) (later (HasPayloads-push before row h is) behind)
 
-pub first_faulty : (rows : List Row) (e : VrpError) → first_fault [] rows ≡ Some e → IsFirstFaulty rows e
+pub first_faulty : (rows : List Record) (e : VrpError) → first_fault [] rows ≡ Some e → IsFirstFaulty rows e
 first_faulty rows e found =
     let s = split_at [] rows e nothing_has_payloads found in
     let n : row_of e ≡ length s.front + 2 = row_of-fault_at (payloads_given s.front) (length s.front + 2) (payload_of s.row) e s.faulty in
@@ -109,16 +109,16 @@ first_faulty rows e found =
 
 -- ---- the payloads that rows give
 module _ (v : VrpValue) where
-  abbrev Gives : Row → Type 0
+  abbrev Gives : Record → Type 0
   Gives row = payload_of row ≡ Ok v
 
-  here : (row : Row) (rows : List Row) → Gives row → Any Gives (row ∷ rows)
+  here : (row : Record) (rows : List Record) → Gives row → Any Gives (row ∷ rows)
   here row rows h = (0, row, omega arith, refl, h)
 
-  there : (row : Row) (rows : List Row) → Any Gives rows → Any Gives (row ∷ rows)
+  there : (row : Record) (rows : List Record) → Any Gives rows → Any Gives (row ∷ rows)
   there row rows h = (suc h.0, h.1, omega (arith, h.2), h.3, h.4)
 
-  pub given_by : (rows : List Row) → stands_in (given rows) v ≡ true → Any Gives rows
+  pub given_by : (rows : List Record) → stands_in (given rows) v ≡ true → Any Gives rows
   given_by [] h = cc
   given_by (row ∷ rows) h = by (payload_of row) refl h (given_by rows)
     where
@@ -129,7 +129,7 @@ module _ (v : VrpValue) where
         | inr e ↦ there row rows (later e)
       ]
 
-  stands_by : (rows : List Row) (k : ℕ) (row : Row) → k < length rows → get_or rows k row ≡ row → Gives row → stands_in (given rows) v ≡ true
+  stands_by : (rows : List Record) (k : ℕ) (row : Record) → k < length rows → get_or rows k row ≡ row → Gives row → stands_in (given rows) v ≡ true
   stands_by [] k row lt at h = absurd (omega (arith, lt))
   stands_by (r ∷ rows) zero row lt at h =
       ap (λ o. stands_in (cons_option (result_ok o) (given rows)) v) (ap payload_of at ∙ h)
@@ -140,5 +140,5 @@ module _ (v : VrpValue) where
       by (Err w) e = e
       by (Ok w) e = or_right (eq_by_cmp vrp_cmp v w) (stands_in (given rows) v) e
 
-  pub stands_if_given : (rows : List Row) → Any Gives rows → stands_in (given rows) v ≡ true
+  pub stands_if_given : (rows : List Record) → Any Gives rows → stands_in (given rows) v ≡ true
   stands_if_given rows h = stands_by rows h.0 h.1 h.2 h.3 h.4

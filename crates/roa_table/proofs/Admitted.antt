@@ -15,7 +15,7 @@ use Rattle.net_names.specs.Orders.{exact_vrp}
 use Rattle.roa_table.specs.Sets.{has, count, set_of}
 use Rattle.roa_table.specs.Lists.{stands_in}
 use Rattle.roa_table.specs.Records.{payload_of}
-use Rattle.roa_table.specs.Files.{Row, rows_of, given, fault_at, payloads_in, Gives}
+use Rattle.roa_table.specs.Files.{Record, rows_of, given, fault_at, payloads_in, Gives}
 use Rattle.roa_table.specs.Standing.{ByteReader, GoesOn}
 use Rattle.roa_table.specs.Gathering.{IsReading, Admits, Faults, IsAdmitting}
 use Rattle.roa_table.specs.declared.record.Wrong.{Wrong}
@@ -75,20 +75,20 @@ module _ (vs : List VrpValue) (ordered : IsStrictlySortedBy vrp_cmp vs) (row : �
 pub no_value : (bytes : List ℕ) → first_fault [] (rows_of bytes) ≡ None → IsErr (payloads_in bytes) → ⊥
 no_value bytes e h = cc (subst (λ o. IsErr (unless o (Ok (payloads_given (rows_of bytes))))) e h)
 
-pub start_admitting : (b : ByteReader) (bytes : List ℕ) (fields : Row) (vs : List VrpValue) → vs ≡ [] → GoesOn b (records default_config (strip_bom bytes)) true fields → IsAdmitting b bytes 2 vs
+pub start_admitting : (b : ByteReader) (bytes : List ℕ) (fields : Record) (vs : List VrpValue) → vs ≡ [] → GoesOn b (records default_config (strip_bom bytes)) true fields → IsAdmitting b bytes 2 vs
 unfolding begun
 start_admitting b bytes fields vs e h = subst (IsAdmitting b bytes 2) (sym e) (by (begun b bytes fields h) refl)
   where
     by : (r : IsReading b bytes 2) → r.done ≡ [] → IsAdmitting b bytes 2 []
     by r none = record { reading = r; free = ap (first_fault []) (r.rows ∙ ap (λ l. l ++ r.left) none) ∙ ap (λ l. first_fault l r.left) (sym none); members = λ q. ap (λ l. stands_in (given l) q) (sym none) }
 
-module _ (a b : ByteReader) (bytes : List ℕ) (row : ℕ) (vs : List VrpValue) (g : IsAdmitting a bytes row vs) (fields : Row) where
+module _ (a b : ByteReader) (bytes : List ℕ) (row : ℕ) (vs : List VrpValue) (g : IsAdmitting a bytes row vs) (fields : Record) where
   -- all rows have been read
   pub none_faulty : GoesOn b g.reading.left false fields → first_fault [] (rows_of bytes) ≡ None
   none_faulty h = g.free ∙ ap (first_fault g.reading.done) (ended b g.reading.left fields h)
 
   module _ (h : GoesOn b g.reading.left true fields) where
-    abbrev next : List Row
+    abbrev next : List Record
     next = (more b g.reading.left fields h).next
 
     first_is : first_fault [] (rows_of bytes) ≡ option_or (fault_at (set_of vs) row (payload_of fields)) (first_fault (g.reading.done ++ (fields ∷ [])) next)

@@ -7,7 +7,7 @@ use Rattle.csv.specs.declared.parser.State.{State}
 use Rattle.csv.specs.declared.parser.State.TheVariants as st
 use Rattle.csv.specs.declared.parser.Action.{Action}
 use Rattle.csv.specs.declared.parser.Action.TheVariants as act
-use Rattle.roa_table.specs.Files.{Row}
+use Rattle.roa_table.specs.Files.{Record}
 use Rattle.roa_table.specs.Standing.{ByteReader, records_left, Stands, GoesOn}
 
 -- a state in which a record starts
@@ -128,7 +128,7 @@ abbrev left : Bor (List ℕ) → Option (List ℕ)
 left s = Some s.now
 
 -- a read goes on to the next of the records that are to come
-module _ (a b : ByteReader) (rest : List Row) (at : Stands a rest) (found : Bool) (fields : Row) where
+module _ (a b : ByteReader) (rest : List Record) (at : Stands a rest) (found : Bool) (fields : Record) where
   module _ (r : ReadRecord left a b found fields) (took : b.first ≡ true) (flexible : is_flexible b ≡ is_flexible a) where
     by_next : (z : List ℕ) → source_of left b ≡ Some z → (o : Option Read) → next_record default_config a.state [] [] at.text ≡ o → NextIs o found fields b.state z → GoesOn b rest found fields
     by_next z src None e n = subst (λ l. GoesOn b l found fields) (sym (at.is ∙ left_none a.state at.text e)) n
@@ -153,16 +153,16 @@ module _ (a b : ByteReader) (rest : List Row) (at : Stands a rest) (found : Bool
     goes_on = by_pending (pending_of (left b.rdr) b) refl (coe 0 1 (i. ReadsNext (at.config i) a.state (at.source i) (pending_of (left b.rdr) b) found fields b.state) r.0)
 
 -- no record was found
-pub ended : (b : ByteReader) (rest : List Row) (fields : Row) → GoesOn b rest false fields → rest ≡ []
+pub ended : (b : ByteReader) (rest : List Record) (fields : Record) → GoesOn b rest false fields → rest ≡ []
 ended b [] fields h = refl
 ended b (f ∷ rest) fields h = cc h.0
 
 -- a record was found
-pub record More (b : ByteReader) (rest : List Row) (fields : Row) : Type 0 where
-  pub next : List Row
+pub record More (b : ByteReader) (rest : List Record) (fields : Record) : Type 0 where
+  pub next : List Record
   pub is : rest ≡ fields ∷ next
   pub stands : Stands b next
 
-pub more : (b : ByteReader) (rest : List Row) (fields : Row) → GoesOn b rest true fields → More b rest fields
+pub more : (b : ByteReader) (rest : List Record) (fields : Record) → GoesOn b rest true fields → More b rest fields
 more b [] fields h = cc h
 more b (f ∷ rest) fields h = record { next = rest; is = ap (λ x. x ∷ rest) (sym h.1); stands = h.2 }

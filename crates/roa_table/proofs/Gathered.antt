@@ -14,7 +14,7 @@ use Rattle.net_names.specs.Orders.{vrp_total, exact_vrp}
 use Rattle.roa_table.specs.Sets.{Payloads, IsSound, has, added, count, set_of}
 use Rattle.roa_table.specs.Lists.{IsRising, stands_in}
 use Rattle.roa_table.specs.Records.{payload_of}
-use Rattle.roa_table.specs.Files.{Row, given, fault_at, fault_after}
+use Rattle.roa_table.specs.Files.{Record, given, fault_at, fault_after}
 use Rattle.roa_table.specs.Gathering.{JoinsIn}
 use Rattle.roa_table.specs.declared.record.Wrong.{Wrong}
 use Rattle.roa_table.specs.declared.errors.VrpError.{VrpError}
@@ -24,11 +24,11 @@ use Rattle.roa_table.proofs.Rising.{eq_is}
 use Rattle.roa_table.proofs.Placed.{same_set_of, count_set_of}
 
 -- the set of the payloads that rows give
-abbrev pub payloads_given : List Row → Payloads
+abbrev pub payloads_given : List Record → Payloads
 payloads_given rows = set_of (given rows)
 
 -- the first fault of rows behind others
-abbrev pub first_fault : List Row → List Row → Option VrpError
+abbrev pub first_fault : List Record → List Record → Option VrpError
 first_fault = steps.first_fault fault_after
 
 -- dropping repeats keeps the members
@@ -59,7 +59,7 @@ stands_in-push vs v q = list_any-append (eq_by_cmp vrp_cmp q) vs (v ∷ []) ∙ 
     turn false true = refl
     turn false false = refl
 
-given-append : (xs ys : List Row) → given (xs ++ ys) ≡ given xs ++ given ys
+given-append : (xs ys : List Record) → given (xs ++ ys) ≡ given xs ++ given ys
 given-append [] ys = refl
 given-append (x ∷ xs) ys = ap (cons_option (result_ok (payload_of x))) (given-append xs ys) ∙ by (payload_of x)
   where
@@ -67,7 +67,7 @@ given-append (x ∷ xs) ys = ap (cons_option (result_ok (payload_of x))) (given-
     by (Ok v) = refl
     by (Err w) = refl
 
-pub given_push : (xs : List Row) (x : Row) (v : VrpValue) → payload_of x ≡ Ok v → given (xs ++ (x ∷ [])) ≡ given xs ++ (v ∷ [])
+pub given_push : (xs : List Record) (x : Record) (v : VrpValue) → payload_of x ≡ Ok v → given (xs ++ (x ∷ [])) ≡ given xs ++ (v ∷ [])
 given_push xs x v e = given-append xs (x ∷ []) ∙ ap (λ r. given xs ++ cons_option (result_ok r) []) e
 
 -- the number of payloads of lists
@@ -88,21 +88,21 @@ set_of-turned vs ws = same_set_of (vs ++ ws) (ws ++ vs) (λ q. list_any-append (
     turn false true = refl
     turn false false = refl
 
-pub count_given : (xs ys : List Row) → count (payloads_given xs) ≤ count (payloads_given (xs ++ ys))
+pub count_given : (xs ys : List Record) → count (payloads_given xs) ≤ count (payloads_given (xs ++ ys))
 count_given xs ys = subst (λ s. count (payloads_given xs) ≤ count s) (set_of-turned (given ys) (given xs) ∙ ap set_of (sym (given-append xs ys))) (count_more (given ys) (given xs))
 
-pub payloads_push : (xs : List Row) (x : Row) (v : VrpValue) → payload_of x ≡ Ok v → payloads_given (xs ++ (x ∷ [])) ≡ added (payloads_given xs) v
+pub payloads_push : (xs : List Record) (x : Record) (v : VrpValue) → payload_of x ≡ Ok v → payloads_given (xs ++ (x ∷ [])) ≡ added (payloads_given xs) v
 payloads_push xs x v e = ap set_of (given_push xs x v e) ∙ set_of-turned (given xs) (v ∷ [])
 
-count_push : (xs : List Row) (x : Row) (v : VrpValue) → payload_of x ≡ Ok v → count (payloads_given (xs ++ (x ∷ []))) ≡ cond (has (payloads_given xs) v) (count (payloads_given xs)) (count (payloads_given xs) + 1)
+count_push : (xs : List Record) (x : Record) (v : VrpValue) → payload_of x ≡ Ok v → count (payloads_given (xs ++ (x ∷ []))) ≡ cond (has (payloads_given xs) v) (count (payloads_given xs)) (count (payloads_given xs) + 1)
 count_push xs x v e = ap count (payloads_push xs x v e) ∙ fin.len-insert vrp_total (payloads_given xs) v tt
 
-pub rows_assoc : (xs ys zs : List Row) → xs ++ (ys ++ zs) ≡ (xs ++ ys) ++ zs
+pub rows_assoc : (xs ys zs : List Record) → xs ++ (ys ++ zs) ≡ (xs ++ ys) ++ zs
 rows_assoc [] ys zs = refl
 rows_assoc (x ∷ xs) ys zs = ap (λ l. x ∷ l) (rows_assoc xs ys zs)
 
 -- a row whose payload finds room has no fault
-pub no_fault : (before : List Row) (row : Row) (v : VrpValue) → payload_of row ≡ Ok v → count (payloads_given (before ++ (row ∷ []))) ≤ 2000000 → fault_after before row ≡ None
+pub no_fault : (before : List Record) (row : Record) (v : VrpValue) → payload_of row ≡ Ok v → count (payloads_given (before ++ (row ∷ []))) ≤ 2000000 → fault_after before row ≡ None
 no_fault before row v e few =
     ap (fault_at (payloads_given before) (length before + 2)) e
     ∙ by (has (payloads_given before) v) (count_push before row v e)
@@ -119,10 +119,10 @@ is_payload (Ok v) e = (v, refl)
 is_payload (Err w) e = cc e
 
 -- readable rows with few payloads have no fault, so the first one is behind them
-pub first_behind : (before done left : List Row) → list_all (λ r. is_ok (payload_of r)) done ≡ true → count (payloads_given (before ++ done)) ≤ 2000000 → first_fault before (done ++ left) ≡ first_fault (before ++ done) left
+pub first_behind : (before done left : List Record) → list_all (λ r. is_ok (payload_of r)) done ≡ true → count (payloads_given (before ++ done)) ≤ 2000000 → first_fault before (done ++ left) ≡ first_fault (before ++ done) left
 first_behind before [] left h few = ap (λ l. first_fault l left) (sym (append_none before))
   where
-    append_none : (xs : List Row) → xs ++ [] ≡ xs
+    append_none : (xs : List Record) → xs ++ [] ≡ xs
     append_none [] = refl
     append_none (x ∷ xs) = ap (λ l. x ∷ l) (append_none xs)
 first_behind before (row ∷ done) left h few =
@@ -142,10 +142,10 @@ none_left None p e = (refl, e)
 none_left (Some x) p e = cc e
 
 -- where rows have no fault, they are readable and have few payloads
-pub few_behind : (before done left : List Row) → first_fault before (done ++ left) ≡ None → count (payloads_given before) ≤ 2000000 → count (payloads_given (before ++ done)) ≤ 2000000
+pub few_behind : (before done left : List Record) → first_fault before (done ++ left) ≡ None → count (payloads_given before) ≤ 2000000 → count (payloads_given (before ++ done)) ≤ 2000000
 few_behind before [] left e few = subst (λ l. count (payloads_given l) ≤ 2000000) (sym (append_none before)) few
   where
-    append_none : (xs : List Row) → xs ++ [] ≡ xs
+    append_none : (xs : List Record) → xs ++ [] ≡ xs
     append_none [] = refl
     append_none (x ∷ xs) = ap (λ l. x ∷ l) (append_none xs)
 few_behind before (row ∷ done) left e few =

@@ -11,7 +11,7 @@ use Rattle.net_names.specs.Orders.{vrp_total, exact_vrp}
 use Rattle.roa_table.specs.Sets.{IsSound, count, set_of}
 use Rattle.roa_table.specs.Lists.{stands_in}
 use Rattle.roa_table.specs.Records.{payload_of}
-use Rattle.roa_table.specs.Files.{Row, rows_of, given, fault_in, fault_at, payloads_in}
+use Rattle.roa_table.specs.Files.{Record, rows_of, given, fault_in, fault_at, payloads_in}
 use Rattle.roa_table.specs.Standing.{ByteReader, GoesOn}
 use Rattle.roa_table.specs.Gathering.{JoinsIn, Gathers, IsTidied, EndsWith, AreAll, Explains, IsReading, IsGathering}
 use Rattle.roa_table.specs.declared.record.Wrong.{Wrong}
@@ -25,21 +25,21 @@ use Rattle.roa_table.proofs.CsvRecords.{ended, more}
 use Rattle.roa_table.proofs.Gathered.{payloads_given, first_fault, rows_assoc, stands_in-push, given_push, first_behind, few_behind}
 
 -- the file has no header, and so no rows
-pub no_rows : (b : ByteReader) (bytes : List ℕ) (fields : Row) → GoesOn b (records default_config (strip_bom bytes)) false fields → rows_of bytes ≡ []
+pub no_rows : (b : ByteReader) (bytes : List ℕ) (fields : Record) → GoesOn b (records default_config (strip_bom bytes)) false fields → rows_of bytes ≡ []
 no_rows b bytes fields h = ap (drop 1) (ended b (records default_config (strip_bom bytes)) fields h)
 
 -- the header has been read
-unfoldable pub begun : (b : ByteReader) (bytes : List ℕ) (fields : Row) → GoesOn b (records default_config (strip_bom bytes)) true fields → IsReading b bytes 2
+unfoldable pub begun : (b : ByteReader) (bytes : List ℕ) (fields : Record) → GoesOn b (records default_config (strip_bom bytes)) true fields → IsReading b bytes 2
 begun b bytes fields h =
     let m = more b (records default_config (strip_bom bytes)) fields h in
     record { done = []; left = m.next; rows = ap (drop 1) m.is ∙ drop_zero m.next; stands = m.stands; counted = refl }
   where
-    drop_zero : (xs : List Row) → drop 0 xs ≡ xs
+    drop_zero : (xs : List Record) → drop 0 xs ≡ xs
     drop_zero [] = refl
     drop_zero (x ∷ xs) = refl
 
 -- one row more has been read
-module _ (a b : ByteReader) (bytes : List ℕ) (row : ℕ) (r : IsReading a bytes row) (fields : Row) (h : GoesOn b r.left true fields) where
+module _ (a b : ByteReader) (bytes : List ℕ) (row : ℕ) (r : IsReading a bytes row) (fields : Record) (h : GoesOn b r.left true fields) where
   pub left_is : r.left ≡ fields ∷ (more b r.left fields h).next
   left_is = (more b r.left fields h).is
 
@@ -54,7 +54,7 @@ module _ (a b : ByteReader) (bytes : List ℕ) (row : ℕ) (r : IsReading a byte
         counted = ap (λ n. n + 1) r.counted ∙ omega (arith, length-append r.done (fields ∷ []));
       }
 
-pub start_gathering : (b : ByteReader) (bytes : List ℕ) (fields : Row) (vs : List VrpValue) → vs ≡ [] → GoesOn b (records default_config (strip_bom bytes)) true fields → IsGathering b bytes 2 vs
+pub start_gathering : (b : ByteReader) (bytes : List ℕ) (fields : Record) (vs : List VrpValue) → vs ≡ [] → GoesOn b (records default_config (strip_bom bytes)) true fields → IsGathering b bytes 2 vs
 unfolding begun
 start_gathering b bytes fields vs e h = subst (IsGathering b bytes 2) (sym e) (record { reading = begun b bytes fields h; readable = refl; members = λ q. refl; sound = λ v k. cc k })
 
@@ -80,7 +80,7 @@ module _ (a b : ByteReader) (bytes : List ℕ) (row : ℕ) (vs : List VrpValue) 
           empty : count (payloads_given []) ≤ 2000000
           empty = subst (λ n. n ≤ 2000000) (sym (count_set_of [] refl)) (omega arith)
 
-  module _ (fields : Row) where
+  module _ (fields : Record) where
     -- a row's payload was gathered
     module _ (h : GoesOn b g.reading.left true fields) where
       pub gathered_on : (new : List VrpValue) → Gathers (payload_of fields) vs new → IsGathering b bytes (row + 1) new
@@ -123,7 +123,7 @@ module _ (a b : ByteReader) (bytes : List ℕ) (row : ℕ) (vs : List VrpValue) 
           is = ap (λ o. unless o (Ok (payloads_given (rows_of bytes)))) (first_left few ∙ ap (first_fault g.reading.done) none) ∙ ap (λ l. Ok (payloads_given l)) all ∙ ap (λ s. Ok s) (sym (same ∙ set_is));
         }
       where
-        append_none : (xs : List Row) → xs ++ [] ≡ xs
+        append_none : (xs : List Record) → xs ++ [] ≡ xs
         append_none [] = refl
         append_none (x ∷ xs) = ap (λ l. x ∷ l) (append_none xs)
 

@@ -15,15 +15,15 @@ use Rattle.roa_table.specs.declared.errors.VrpError.TheVariants as fault
 use Rattle.roa_table.specs.declared.table.TheConstants.{MOST_PAYLOADS}
 
 -- a record is the list of its fields
-abbrev pub Row : Type 0
-Row = List (List ℕ)
+abbrev pub Record : Type 0
+Record = List (List ℕ)
 
 -- the rows of a file: its records behind the first one, which is the header (RFC 4180; the records are those of the csv crate, with commas, after a byte order mark)
-abbrev pub rows_of : List ℕ → List Row
+abbrev pub rows_of : List ℕ → List Record
 rows_of bytes = drop 1 (records default_config (strip_bom bytes))
 
 -- the payloads that rows give, in their order
-abbrev pub given : List Row → List VrpValue
+abbrev pub given : List Record → List VrpValue
 given rows = filter_map (λ row. result_ok (payload_of row)) rows
 
 -- the fault of a row of this number
@@ -39,7 +39,7 @@ fault_at before n (Err w) = Some (fault_in n w)
 fault_at before n (Ok v) = if fin.contains_key before v || nat_lt (fin.len before) MOST_PAYLOADS then None else Some (fault.TooMany n)
 
 -- the fault of a row behind others; rows are counted from the header on, which is the first
-abbrev pub fault_after : List Row → Row → Option VrpError
+abbrev pub fault_after : List Record → Record → Option VrpError
 fault_after before row = fault_at (set_of (given before)) (length before + 2) (payload_of row)
 
 -- the set of the payloads that the rows of a file give, or the fault of its first faulty row

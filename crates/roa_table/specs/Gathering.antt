@@ -7,7 +7,7 @@ use Rattle.roa_table.specs.Sets.{Payloads, count, set_of, IsSound}
 use Rattle.roa_table.specs.Lists.{IsRising, stands_in}
 use Rattle.roa_table.specs.Records.{payload_of}
 use Rattle.net_names.specs.Steps.{first_fault}
-use Rattle.roa_table.specs.Files.{Row, rows_of, given, fault_in, fault_at, fault_after}
+use Rattle.roa_table.specs.Files.{Record, rows_of, given, fault_in, fault_at, fault_after}
 use Rattle.roa_table.specs.Standing.{ByteReader, Stands}
 use Rattle.roa_table.specs.declared.record.Wrong.{Wrong}
 use Rattle.roa_table.specs.declared.errors.VrpError.{VrpError}
@@ -63,8 +63,8 @@ Explains (stop.Fault e) value = value ≡ Err e
 
 -- of a file's rows these have been read, and those are still to come
 pub record IsReading (reader : ByteReader) (bytes : List ℕ) (row : ℕ) : Type 0 where
-  pub done : List Row
-  pub left : List Row
+  pub done : List Record
+  pub left : List Record
   pub rows : rows_of bytes ≡ done ++ left
   pub stands : Stands reader left
   pub counted : row ≡ length done + 2

@@ -6,13 +6,13 @@ use Rattle.net_names.specs.Steps.{first_fault}
 use Rattle.net_names.specs.Payloads.{VrpValue}
 use Rattle.roa_table.specs.Sets.{Payloads, set_of}
 use Rattle.roa_table.specs.Records.{payload_of}
-use Rattle.roa_table.specs.Files.{Row, rows_of, given, fault_after, payloads_in}
+use Rattle.roa_table.specs.Files.{Record, rows_of, given, fault_after, payloads_in}
 use Rattle.roa_table.specs.declared.errors.VrpError.{VrpError}
 use Rattle.roa_table.specs.declared.errors.VrpError.TheVariants as fault
 use Rattle.roa_table.specs.declared.table.TheConstants.{MOST_PAYLOADS}
 
 -- rows that have payloads: each gives one, and 2,000,000 different ones are given at most
-pub record HasPayloads (rows : List Row) : Type 0 where
+pub record HasPayloads (rows : List Record) : Type 0 where
   pub readable : All (λ row. IsOk (payload_of row)) rows
   pub few : fin.len (set_of (given rows)) ≤ MOST_PAYLOADS
 
@@ -34,7 +34,7 @@ row_of (fault.BadMax row) = row
 row_of (fault.TooMany row) = row
 
 -- the fault's row is the first one at which the rows up to it, without the header, have no payloads, and this is their first fault
-pub record IsFirstFaulty (rows : List Row) (e : VrpError) : Type 0 where
+pub record IsFirstFaulty (rows : List Record) (e : VrpError) : Type 0 where
   pub inside : row_of e ≤ length rows + 1
   pub before : (row : ℕ) → row < row_of e → HasPayloads (take (row - 1) rows)
   pub here : first_fault fault_after [] (take (row_of e - 1) rows) ≡ Some e

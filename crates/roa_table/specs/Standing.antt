@@ -6,18 +6,18 @@ use Rattle.csv.specs.Reading.{records_from, default_config, source_of, reader_tr
 use Rattle.csv.specs.declared.parser.State.{State}
 use Rattle.csv.specs.declared.reader.Reader.{Reader}
 use Rattle.csv.specs.declared.reader.Trim.TheVariants as trim
-use Rattle.roa_table.specs.Files.{Row}
+use Rattle.roa_table.specs.Files.{Record}
 
 -- a reader of bytes
 abbrev pub ByteReader : Type 0
 ByteReader = Reader (Bor (List ℕ))
 
 -- the records that a text has from a state on
-abbrev pub records_left : State → List ℕ → List Row
+abbrev pub records_left : State → List ℕ → List Record
 records_left s xs = records_from default_config (length xs + 1) s xs
 
 -- these records are still to come, of whatever lengths
-pub record Stands (reader : ByteReader) (rest : List Row) : Type 0 where
+pub record Stands (reader : ByteReader) (rest : List Record) : Type 0 where
   pub untrimmed : reader_trim reader ≡ trim.None
   pub flexible : is_flexible reader ≡ true
   pub ready : Ready reader
@@ -28,6 +28,6 @@ pub record Stands (reader : ByteReader) (rest : List Row) : Type 0 where
   pub is : rest ≡ records_left (reader_state reader) text
 
 -- the first of these records was read, or there was none
-abbrev pub GoesOn : ByteReader → List Row → Bool → Row → Type 0
+abbrev pub GoesOn : ByteReader → List Record → Bool → Record → Type 0
 GoesOn reader [] found fields = found ≡ false
 GoesOn reader (first ∷ rest) found fields = (found ≡ true) × (fields ≡ first) × Stands reader rest

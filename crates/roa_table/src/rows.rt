@@ -2,7 +2,7 @@
 ghost use Rattle.std.specs.Prelude.{◌≡◌, List, true, IfOk};
 ghost use Rattle.csv.specs.Reading.{records, default_config, strip_bom, is_flexible, Ready};
 ghost use Rattle.csv.specs.Records.{fields_of};
-ghost use Rattle.roa_table.specs.Files.{Row};
+ghost use Rattle.roa_table.specs.Files.{Record};
 ghost use Rattle.roa_table.specs.Standing.{Stands, GoesOn};
 
 use csv::{ByteRecord, ErrorKind, Reader, ReaderBuilder};
@@ -26,7 +26,7 @@ pub(crate) fn step<'a>(
 ) -> Result<bool, NoMemory>
     requires ready { Ready reader.old }
     requires flexible { is_flexible reader.old ≡ true }
-    ensures { (rest : List Row) → Stands reader.old rest
+    ensures { (rest : List Record) → Stands reader.old rest
         → IfOk result (λ found. GoesOn reader.new rest found (fields_of fields.new)) }
 {
     match reader.read_byte_record(fields) {

@@ -31,29 +31,29 @@ unfoldable pub path_of : List ℕ → Option (List ℕ)
 path_of text = option_filter (λ ns. nat_le (length ns) MOST_NUMBERS) (all_some (map asn_of (fields 32 text)))
 
 -- a line that begins with this word, and goes on with these fields, asks for this (own format)
-abbrev pub row : {A B : Type 0} → List ℕ → (List ℕ → Option A) → (A → Option B) → List ℕ → Option B
-row word fields asks line = option_and_then asks (option_and_then fields (after word line))
+abbrev pub form : {A B : Type 0} → List ℕ → (List ℕ → Option A) → (A → Option B) → List ℕ → Option B
+form word fields asks line = option_and_then asks (option_and_then fields (after word line))
 
 -- the forms of edits: A|B|-1 makes A the provider of B, A|B|0 makes them peers, and A and B differ; a kind is of A; the first AS of the path A B .. announces P (own format)
 unfoldable pub edit_of : List ℕ → Option Edit
 edit_of line = fold option_or None (
-    row (codes "link ") (parted 124 asn_of (parted 124 asn_of rel_of)) (λ x. if x.0 == x.1.0 then None else Some (Link x.0 x.1.0 x.1.1)) line ∷
-    row (codes "unlink ") (parted 124 asn_of asn_of) (λ x. if x.0 == x.1 then None else Some (Unlink x.0 x.1)) line ∷
-    row (codes "policy ") (parted 32 asn_of kind_named) (λ x. Some (Policy x.0 x.1)) line ∷
-    row (codes "vrp-add ") vrp_of (λ v. Some (VrpAdd v)) line ∷
-    row (codes "vrp-take ") vrp_of (λ v. Some (VrpTake v)) line ∷
-    row (codes "announce ") (parted 32 prefix_of path_of) (λ x. Some (Announce x.0 x.1)) line ∷
-    row (codes "withdraw ") (parted 32 prefix_of asn_of) (λ x. Some (Withdraw x.0 x.1)) line ∷ [])
+    form (codes "link ") (parted 124 asn_of (parted 124 asn_of rel_of)) (λ x. if x.0 == x.1.0 then None else Some (Link x.0 x.1.0 x.1.1)) line ∷
+    form (codes "unlink ") (parted 124 asn_of asn_of) (λ x. if x.0 == x.1 then None else Some (Unlink x.0 x.1)) line ∷
+    form (codes "policy ") (parted 32 asn_of kind_named) (λ x. Some (Policy x.0 x.1)) line ∷
+    form (codes "vrp-add ") vrp_of (λ v. Some (VrpAdd v)) line ∷
+    form (codes "vrp-take ") vrp_of (λ v. Some (VrpTake v)) line ∷
+    form (codes "announce ") (parted 32 prefix_of path_of) (λ x. Some (Announce x.0 x.1)) line ∷
+    form (codes "withdraw ") (parted 32 prefix_of asn_of) (λ x. Some (Withdraw x.0 x.1)) line ∷ [])
 
 -- the forms of queries: of round R the table of prefix P, the row of AS A in it, the trace from A to address D, and the counts for D; all ranks; the state of P with origin A (own format)
 unfoldable pub query_of : List ℕ → Option Query
 query_of line = fold option_or None (
-    row (codes "routes ") (parted 32 round_of prefix_of) (λ x. Some (Routes x.0 x.1)) line ∷
-    row (codes "route ") (parted 32 round_of (parted 32 prefix_of asn_of)) (λ x. Some (Route x.0 x.1.0 x.1.1)) line ∷
-    row (codes "trace ") (parted 32 round_of (parted 32 asn_of addr_of)) (λ x. Some (Trace x.0 x.1.0 x.1.1)) line ∷
-    row (codes "report ") (parted 32 round_of addr_of) (λ x. Some (Report x.0 x.1)) line ∷
+    form (codes "routes ") (parted 32 round_of prefix_of) (λ x. Some (Routes x.0 x.1)) line ∷
+    form (codes "route ") (parted 32 round_of (parted 32 prefix_of asn_of)) (λ x. Some (Route x.0 x.1.0 x.1.1)) line ∷
+    form (codes "trace ") (parted 32 round_of (parted 32 asn_of addr_of)) (λ x. Some (Trace x.0 x.1.0 x.1.1)) line ∷
+    form (codes "report ") (parted 32 round_of addr_of) (λ x. Some (Report x.0 x.1)) line ∷
     (if bytes_eq line (codes "ranks") then Some Ranks else None) ∷
-    row (codes "validity ") (parted 32 prefix_of asn_of) (λ x. Some (Validity x.0 x.1)) line ∷ [])
+    form (codes "validity ") (parted 32 prefix_of asn_of) (λ x. Some (Validity x.0 x.1)) line ∷ [])
 
 -- what a line asks for, where it has one of the forms (own format)
 unfoldable pub act_of : List ℕ → Option Act

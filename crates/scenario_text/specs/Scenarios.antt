@@ -21,8 +21,8 @@ abbrev pub nothing : ScenarioValue
 nothing = record { announcements = []; policies = []; leaks = []; watch = [] }
 
 -- an announcement is named by its prefix and its AS (own format)
-abbrev pub name_of : Announcement → PrefixValue × ℕ
-name_of a = (a.prefix, a.asn)
+abbrev pub announcement_name : Announcement → PrefixValue × ℕ
+announcement_name a = (a.prefix, a.asn)
 
 -- how many different prefixes are announced (own format)
 abbrev pub prefix_count : List Announcement → ℕ
@@ -42,7 +42,7 @@ StartsWith asn path = slice_get path 0 ≡ Some asn
 
 -- nothing is named twice, no limit is passed, and each path starts with its announcement's AS (own format)
 pub record IsScenario (s : ScenarioValue) : Type 0 where
-  pub announced_once : AllPairs (λ a b. name_of a ≢ name_of b) s.announcements
+  pub announced_once : AllPairs (λ a b. announcement_name a ≢ announcement_name b) s.announcements
   pub ruled_once : AllPairs (λ p q. p.0 ≢ q.0) s.policies
   pub leaking_once : All (λ leakers. AllPairs (λ m n. m ≢ n) leakers) s.leaks
   pub watched_once : AllPairs (λ a b. a ≢ b) s.watch

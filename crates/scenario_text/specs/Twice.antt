@@ -9,7 +9,7 @@ use Rattle.scenario_text.specs.declared.places.Member.TheVariants.{Announcements
 use Rattle.scenario_text.specs.declared.faults.ScenarioError.{ScenarioError}
 use Rattle.scenario_text.specs.declared.faults.ScenarioError.TheVariants.{Twice}
 use Rattle.scenario_text.specs.Places.{in_member, item}
-use Rattle.scenario_text.specs.Scenarios.{ScenarioValue, name_of}
+use Rattle.scenario_text.specs.Scenarios.{ScenarioValue, announcement_name}
 use Rattle.scenario_text.specs.Walks.{◌>>=◌, Reader, each_from, each_at}
 
 -- no item of the list is named twice, or the first that is: an equal one stands before it in the list (own format)
@@ -23,7 +23,7 @@ name_cmp a b = ordering_then (prefix_cmp a.0 b.0) (nat_cmp a.1 b.1)
 -- announcements are named by prefix and AS, policies by their AS, leakers within their round (own format)
 unfoldable pub once : ScenarioValue → Result (Unit {0}) ScenarioError
 once s = do
-  _ ← once_in name_cmp (in_member Announcements) (map name_of s.announcements)
+  _ ← once_in name_cmp (in_member Announcements) (map announcement_name s.announcements)
   _ ← once_in nat_cmp (in_member Policies) (map (λ p. p.0) s.policies)
   _ ← each_at (once_in nat_cmp) (in_member Leaks) s.leaks
   once_in addr_cmp (in_member Watch) s.watch

@@ -3,7 +3,7 @@ ghost use Rattle.std.specs.Prelude.{◌≡◌, ◌≤◌, length, Some, IfOk, If
 ghost use Rattle.net_names.specs.Texts.{after, prefix_of};
 ghost use Rattle.scenario_text.specs.declared.acts.Edit.TheVariants.{Announce as AnAnnounce};
 ghost use Rattle.scenario_text.specs.LineValues.{IsWellFormed, IsSoundAct};
-ghost use Rattle.scenario_text.specs.Forms.{path_of, parted, row, edit_of, query_of, act_of};
+ghost use Rattle.scenario_text.specs.Forms.{path_of, parted, form, edit_of, query_of, act_of};
 
 use crate::acts::{Act, Edit, Query};
 use crate::fields::{
@@ -53,7 +53,7 @@ fn behind<F: Field>(line: &[u8], word: &[u8]) -> Option<F::To>
 // What a line asks for that announces.
 #[tactic(auto, unfolding(crate::specs::Forms::parted))]
 fn announcement(alloc: Global, line: &[u8]) -> Result<Option<Edit>, NoMemory>
-    ensures gives { IfOk result (λ edit. edit ≡ row (codes "announce ") (parted 32 prefix_of path_of) (λ x. Some (AnAnnounce x.0 x.1)) line.now) }
+    ensures gives { IfOk result (λ edit. edit ≡ form (codes "announce ") (parted 32 prefix_of path_of) (λ x. Some (AnAnnounce x.0 x.1)) line.now) }
     ensures sound { IfOk result (λ edit. IfSome edit IsWellFormed) }
 {
     let Some(rest) = strip(line, b"announce ") else {

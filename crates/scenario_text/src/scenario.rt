@@ -43,7 +43,7 @@ impl Model for Scenario {
 }
 
 impl Scenario {
-    ghost use Rattle.scenario_text.specs.Scenarios.{nothing, name_of, prefix_count, StartsWith, last_leakers, with_leaker, IsScenario};
+    ghost use Rattle.scenario_text.specs.Scenarios.{nothing, announcement_name, prefix_count, StartsWith, last_leakers, with_leaker, IsScenario};
 
     /// The scenario with four empty lists.
     pub fn new(alloc: Global) -> Scenario
@@ -73,7 +73,7 @@ impl Scenario {
     /// Puts an announcement at the end. Its prefix and AS are not named yet, no limit is passed with it, and its path starts
     /// with its AS. `Err` where there is not enough memory; then the scenario stays as it was.
     pub fn announce(&mut self, announcement: Announcement) -> Result<(), NoMemory>
-        requires new { All (λ a. name_of a ≢ name_of announcement) self.old.announcements }
+        requires new { All (λ a. announcement_name a ≢ announcement_name announcement) self.old.announcements }
         requires room { length self.old.announcements < MOST_ANNOUNCEMENTS }
         requires few_prefixes { prefix_count (self.old.announcements ++ announcement ∷ []) ≤ MOST_PREFIXES }
         requires short { length announcement.path ≤ MOST_NUMBERS }

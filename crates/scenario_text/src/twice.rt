@@ -3,7 +3,7 @@ ghost use Rattle.std.specs.Prelude.{◌≡◌, IfOk, map};
 ghost use Rattle.std.specs.Ordering.{nat_cmp};
 ghost use Rattle.net_names.specs.Addresses.{addr_cmp};
 ghost use Rattle.scenario_text.specs.Faults.{Gives};
-ghost use Rattle.scenario_text.specs.Scenarios.{name_of};
+ghost use Rattle.scenario_text.specs.Scenarios.{announcement_name};
 ghost use Rattle.scenario_text.specs.Twice.{once_in, name_cmp, once};
 
 use crate::faults::ScenarioError;
@@ -56,7 +56,7 @@ fn addresses_once(alloc: Global, place: Place, keys: &[Addr]) -> Result<(), Scen
 }
 
 fn names(alloc: Global, announcements: &[Announcement]) -> Result<Vec<(Prefix, Asn)>, AllocError>
-    ensures { IfOk result (λ v. v.items ≡ map name_of announcements.now) }
+    ensures { IfOk result (λ v. v.items ≡ map announcement_name announcements.now) }
 {
     announcements
         .iter()
@@ -75,7 +75,7 @@ fn announcements_once(
     place: Place,
     announcements: &[Announcement],
 ) -> Result<(), ScenarioError>
-    ensures { Gives result (once_in name_cmp place (map name_of announcements.now)) }
+    ensures { Gives result (once_in name_cmp place (map announcement_name announcements.now)) }
 {
     match names(alloc, announcements) {
         Ok(names) => names_once(alloc, place, &names),

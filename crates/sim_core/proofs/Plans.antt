@@ -20,7 +20,7 @@ use Rattle.policy_kinds.specs.declared.kind.Kind.{Kind}
 use Rattle.policy_kinds.specs.declared.kind.Kind.TheVariants.{Plain}
 use Rattle.stability_laws.specs.Plans.{Plan, announcement_cmp, announcer_of, announces, with_announcement, with_leaker}
 use Rattle.stability_laws.proofs.PlanOrders.{exact_prefix, prefixes_total, exact_announcement, announcements_total}
-use Rattle.scenario_text.specs.Scenarios.{ScenarioValue, IsScenario, StartsWith, name_of}
+use Rattle.scenario_text.specs.Scenarios.{ScenarioValue, IsScenario, StartsWith, announcement_name}
 use Rattle.scenario_text.specs.declared.scenario.Announcement.{Announcement}
 use Rattle.sim_core.specs.Loaded.{planned, leaks_from, is_other, kinds_of}
 
@@ -91,7 +91,7 @@ map_push : {A B : Type 0} (f : A → B) (xs : List A) (x : A) → map f (xs ++ x
 map_push f [] x = refl
 map_push f (y ∷ ys) x = ap (λ zs. f y ∷ zs) (map_push f ys x)
 
-pub planned_announcement : (xs : List Announcement) (leaks : List (ℕ × ℕ)) (x : Announcement) → StartsWith x.asn x.path → All (λ a. name_of a ≢ name_of x) xs
+pub planned_announcement : (xs : List Announcement) (leaks : List (ℕ × ℕ)) (x : Announcement) → StartsWith x.asn x.path → All (λ a. announcement_name a ≢ announcement_name x) xs
     → planned (xs ++ x ∷ []) leaks ≡ with_announcement (planned xs leaks) x.prefix x.path
 planned_announcement xs leaks x own new =
     let entry : Announcement → (PrefixValue × ℕ) × List ℕ = λ (a : Announcement). ((a.prefix, a.asn), a.path) in
@@ -103,7 +103,7 @@ planned_announcement xs leaks x own new =
     λ i. record { prefixes = prefixes i; announced = announced i; leakers = fin.from_entries (map (λ leak. (leak, tt)) leaks) }
 
 -- nobody announces it yet
-pub unannounced : (xs : List Announcement) (leaks : List (ℕ × ℕ)) (x : Announcement) → StartsWith x.asn x.path → All (λ a. name_of a ≢ name_of x) xs → announces (planned xs leaks) x.prefix (announcer_of x.path) ≡ false
+pub unannounced : (xs : List Announcement) (leaks : List (ℕ × ℕ)) (x : Announcement) → StartsWith x.asn x.path → All (λ a. announcement_name a ≢ announcement_name x) xs → announces (planned xs leaks) x.prefix (announcer_of x.path) ≡ false
 unannounced xs leaks x own new =
     ap (λ a. announces (planned xs leaks) x.prefix a) (starts x.asn x.path own)
     ∙ ap is_some (fin.get-from_entries announcements_total (map (λ (a : Announcement). ((a.prefix, a.asn), a.path)) xs) (x.prefix, x.asn) ∙ unfound exact_announcement (λ (a : Announcement). ((a.prefix, a.asn), a.path)) (x.prefix, x.asn) xs new)
@@ -168,9 +168,9 @@ unnamed before p is =
     ap (λ es. fin.from_entries {R = nat_cmp} es) (sym (filter_push is_other before p ∙ ap (λ b. filter is_other before ++ cond b (p ∷ []) []) is ∙ append-nil (filter is_other before)))
 
 -- what a scenario's announcement at a place is to those before it
-pub announcement_new : (s : ScenarioValue) (i : ℕ) (x : Announcement) → IsScenario s → i < length s.announcements → x ≡ get_or s.announcements i x → All (λ a. name_of a ≢ name_of x) (take i s.announcements)
+pub announcement_new : (s : ScenarioValue) (i : ℕ) (x : Announcement) → IsScenario s → i < length s.announcements → x ≡ get_or s.announcements i x → All (λ a. announcement_name a ≢ announcement_name x) (take i s.announcements)
 announcement_new s i x is inside here =
-    subst (λ (y : Announcement). All (λ a. name_of a ≢ name_of y) (take i s.announcements)) (sym here) (earlier_differ (λ (a b : Announcement). name_of a ≢ name_of b) s.announcements i x inside is.announced_once)
+    subst (λ (y : Announcement). All (λ a. announcement_name a ≢ announcement_name y) (take i s.announcements)) (sym here) (earlier_differ (λ (a b : Announcement). announcement_name a ≢ announcement_name b) s.announcements i x inside is.announced_once)
 
 pub announcement_own : (s : ScenarioValue) (i : ℕ) (x : Announcement) → IsScenario s → i < length s.announcements → x ≡ get_or s.announcements i x → StartsWith x.asn x.path
 announcement_own s i x is inside here = subst (λ (y : Announcement). StartsWith y.asn y.path) (sym here) (All-get_or (λ (y : Announcement). StartsWith y.asn y.path) s.announcements i x inside is.own_paths)

@@ -15,9 +15,9 @@ use Rattle.data_trace.specs.declared.kinds.Hop.{Hop}
 use Rattle.data_trace.proofs.Ends.{one_end}
 use Rattle.data_trace.proofs.Traces.{one_trace, trace_ends}
 use Rattle.stability_laws.specs.Plans.{announcers_of, has_prefix}
-use Rattle.reports.specs.Rows.{rank_row, row}
+use Rattle.reports.specs.Rows.{rank_row, entry_row}
 use Rattle.reports.specs.Traces.{trace_text}
-use Rattle.sim_core.specs.Answers.{IsAnswer, refusal_of, unless}
+use Rattle.sim_core.specs.Answers.{IsAnswer, refusal_of, needs}
 use Rattle.sim_core.specs.Kept.{IsKept, Kept}
 use Rattle.sim_core.specs.World.{World, has_round, kind_at, topology}
 use Rattle.sim_core.proofs.Families.{one_family, same_next}
@@ -27,7 +27,7 @@ use Rattle.sim_core.proofs.Tables.{one_table}
 use Rattle.sim_core.proofs.Watches.{round_within}
 
 -- nothing that is asked for is wanting
-pub none_wanting : {E : Type 0} (there : Bool) (e : E) (rest : Option E) → unless there e rest ≡ None → (there ≡ true) × (rest ≡ None)
+pub none_wanting : {E : Type 0} (there : Bool) (e : E) (rest : Option E) → needs there e rest ≡ None → (there ≡ true) × (rest ≡ None)
 none_wanting true e rest h = (refl, h)
 none_wanting false e rest h = cc
 
@@ -43,11 +43,11 @@ module _ (w : World) (k l : Kept) (x : IsKept w k) (y : IsKept w l) where
   one_answer (query.Routes round prefix) s t accepted a b =
       let asked = none_wanting (has_round w round) _ _ accepted in
       let known = none_wanting (has_prefix w.plan prefix) _ _ asked.1 in
-      one_table (has (topology w)) _ _ s t (λ asn. ap (row asn) (same_entry round prefix asked.0 known.0 asn)) a b
+      one_table (has (topology w)) _ _ s t (λ asn. ap (entry_row asn) (same_entry round prefix asked.0 known.0 asn)) a b
   one_answer (query.Route round prefix asn) s t accepted a b =
       let asked = none_wanting (has_round w round) _ _ accepted in
       let known = none_wanting (has_prefix w.plan prefix) _ _ asked.1 in
-      a ∙ (ap (row asn) (same_entry round prefix asked.0 known.0 asn) ∙ sym b)
+      a ∙ (ap (entry_row asn) (same_entry round prefix asked.0 known.0 asn) ∙ sym b)
   one_answer (query.Trace round asn addr) s t accepted a b =
       let asked = none_wanting (has_round w round) _ _ accepted in
       let next : ℕ → Hop = next_hop w.plan (k.routings round) addr in

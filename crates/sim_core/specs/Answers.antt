@@ -11,7 +11,7 @@ use Rattle.data_trace.specs.Traces.{IsTrace}
 use Rattle.data_trace.specs.declared.kinds.End.{End}
 use Rattle.stability_laws.specs.Plans.{announcers_of, has_prefix}
 use Rattle.reports.specs.Counts.{report_text}
-use Rattle.reports.specs.Rows.{IsTable, rank_row, row}
+use Rattle.reports.specs.Rows.{IsTable, rank_row, entry_row}
 use Rattle.reports.specs.Traces.{trace_text}
 use Rattle.reports.specs.Validity.{validity_text}
 use Rattle.sim_core.specs.World.{World, has_round, topology}
@@ -20,22 +20,22 @@ use Rattle.sim_core.specs.declared.errors.QueryError.{QueryError}
 use Rattle.sim_core.specs.declared.errors.QueryError.TheVariants as refused
 
 -- this refusal, unless what it asks for is there
-abbrev pub unless : {E : Type 0} → Bool → E → Option E → Option E
-unless there e others = if there then others else Some e
+abbrev pub needs : {E : Type 0} → Bool → E → Option E → Option E
+needs there e others = if there then others else Some e
 
 -- why a query is refused: the first thing in the order round, prefix, AS, watched address that it names and that the world has not
 abbrev pub refusal_of : World → Query → Option QueryError
-refusal_of w (query.Routes round prefix) = unless (has_round w round) (refused.UnknownRound round) (unless (has_prefix w.plan prefix) (refused.UnknownPrefix prefix) None)
+refusal_of w (query.Routes round prefix) = needs (has_round w round) (refused.UnknownRound round) (needs (has_prefix w.plan prefix) (refused.UnknownPrefix prefix) None)
 refusal_of w (query.Route round prefix a) =
-    unless (has_round w round) (refused.UnknownRound round) (unless (has_prefix w.plan prefix) (refused.UnknownPrefix prefix) (unless (has (topology w) a) (refused.UnknownAs a) None))
-refusal_of w (query.Trace round a addr) = unless (has_round w round) (refused.UnknownRound round) (unless (has (topology w) a) (refused.UnknownAs a) None)
-refusal_of w (query.Report round addr) = unless (has_round w round) (refused.UnknownRound round) (unless (set.contains w.watched addr) (refused.NotWatched addr) None)
+    needs (has_round w round) (refused.UnknownRound round) (needs (has_prefix w.plan prefix) (refused.UnknownPrefix prefix) (needs (has (topology w) a) (refused.UnknownAs a) None))
+refusal_of w (query.Trace round a addr) = needs (has_round w round) (refused.UnknownRound round) (needs (has (topology w) a) (refused.UnknownAs a) None)
+refusal_of w (query.Report round addr) = needs (has_round w round) (refused.UnknownRound round) (needs (set.contains w.watched addr) (refused.NotWatched addr) None)
 refusal_of w q = None
 
 -- the text is the answer to a query, by what is kept of the world and by its payloads (own format)
 abbrev pub IsAnswer : World → Kept → Query → List ℕ → Type 0
-IsAnswer w k (query.Routes round prefix) text = IsTable (has (topology w)) (λ a. row a (k.routings round prefix a)) text
-IsAnswer w k (query.Route round prefix a) text = text ≡ row a (k.routings round prefix a)
+IsAnswer w k (query.Routes round prefix) text = IsTable (has (topology w)) (λ a. entry_row a (k.routings round prefix a)) text
+IsAnswer w k (query.Route round prefix a) text = text ≡ entry_row a (k.routings round prefix a)
 IsAnswer w k (query.Trace round a addr) text =
     (walk : List ℕ) × (end : End) × IsTrace (next_hop w.plan (k.routings round) addr) a walk end × (text ≡ trace_text walk end)
 IsAnswer w k (query.Report round addr) text = text ≡ report_text (k.rows round addr) (announcers_of w.plan)

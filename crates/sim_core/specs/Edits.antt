@@ -14,7 +14,7 @@ pub use Rattle.leak_round.specs.Changes.{HasChanges}
 use Rattle.scenario_text.specs.declared.acts.Edit.{Edit}
 use Rattle.scenario_text.specs.declared.acts.Edit.TheVariants as edit
 use Rattle.sim_core.specs.World.{World, HasCycle, topology}
-use Rattle.sim_core.specs.Answers.{unless}
+use Rattle.sim_core.specs.Answers.{needs}
 use Rattle.sim_core.specs.Loaded.{is_other}
 use Rattle.sim_core.specs.declared.errors.EditError.{EditError}
 use Rattle.sim_core.specs.declared.errors.EditError.TheVariants as refused
@@ -45,10 +45,10 @@ absent_link a b = if nat_lt a b then refused.AbsentLink a b else refused.AbsentL
 
 -- what the edit names or takes away and the world has not: the link of the pair, the payload, the prefix, or else the AS's announcement of it
 abbrev pub absent : World → Edit → Option EditError
-absent w (edit.Unlink a b) = unless (is_some (relation (topology w) a b)) (absent_link a b) None
-absent w (edit.VrpTake vrp) = unless (fin.contains_key w.payloads vrp) (refused.AbsentVrp vrp) None
-absent w (edit.Announce prefix path) = unless (has_prefix w.plan prefix) (refused.UnknownPrefix prefix) None
-absent w (edit.Withdraw prefix a) = unless (has_prefix w.plan prefix) (refused.UnknownPrefix prefix) (unless (announces w.plan prefix a) (refused.AbsentAnnouncement prefix a) None)
+absent w (edit.Unlink a b) = needs (is_some (relation (topology w) a b)) (absent_link a b) None
+absent w (edit.VrpTake vrp) = needs (fin.contains_key w.payloads vrp) (refused.AbsentVrp vrp) None
+absent w (edit.Announce prefix path) = needs (has_prefix w.plan prefix) (refused.UnknownPrefix prefix) None
+absent w (edit.Withdraw prefix a) = needs (has_prefix w.plan prefix) (refused.UnknownPrefix prefix) (needs (announces w.plan prefix a) (refused.AbsentAnnouncement prefix a) None)
 absent w e = None
 
 -- the first limit that a world passes: 1,500,000 links, 64 announcements, 150,000 ASes, 2,000,000 payloads

@@ -2,7 +2,7 @@ use Rattle.std.proofs.Common.{◌≡◌, refl, length, arith, take, ap, sym, ◌
 use Rattle.std.proofs.lemmas.List.{take_all}
 use Rattle.std.specs.List.{flat_map}
 use Rattle.route_choice.specs.Routings.{table_routing}
-use Rattle.reports.specs.Rows.{row}
+use Rattle.reports.specs.Rows.{entry_row}
 use Rattle.reports.proofs.Paths.{cut_back}
 use Rattle.reports.proofs.rows.put_routes.Goals as goal
 
@@ -14,7 +14,7 @@ returns-then-is_err-clause-err c =
 
 pub returns-clause-ok : goal.returns-clause-ok
 returns-clause-ok c = record {
-  text = flat_map (λ a. row a (table_routing c.args.pool.now c.args.table.now a)) c.ases-ases.result.now;
+  text = flat_map (λ a. entry_row a (table_routing c.args.pool.now c.args.table.now a)) c.ases-ases.result.now;
   table = record {
     ases = c.ases-ases.result.now;
     complete = c.ases-ases.ensures.listed;

@@ -1,8 +1,8 @@
 use Rattle.std.proofs.Common.{◌≡◌, ◌++◌, take}
 use Rattle.std.specs.List.{flat_map}
 use Rattle.route_choice.specs.Routings.{table_routing}
-use Rattle.reports.specs.Rows.{row}
+use Rattle.reports.specs.Rows.{entry_row}
 use Rattle.reports.proofs.rows.put_routes.Given as goal
 
 abbrev pub invariant-loop-asn : goal.invariant-loop-asn
-invariant-loop-asn l = l.out.items ≡ l.fn.out.items ++ flat_map (λ a. row a (table_routing l.pool l.table a)) (take l.asn-index l.ases)
+invariant-loop-asn l = l.out.items ≡ l.fn.out.items ++ flat_map (λ a. entry_row a (table_routing l.pool l.table a)) (take l.asn-index l.ases)
