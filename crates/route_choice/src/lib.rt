@@ -12,6 +12,7 @@ mod choosing;
 mod first;
 mod held;
 mod looks;
+mod marks;
 mod overlay;
 mod round_tables;
 mod row;

@@ -68,6 +68,7 @@ impl Overlay {
     }
 
     /// The change at an AS, as `get` gives it, sought first at a place, which is a hint.
+    #[inline(always)]
     pub fn get_near(&self, asn: Asn, place: usize) -> Option<Option<Held>>
         ensures { result ≡ change_at self.now asn }
     {
