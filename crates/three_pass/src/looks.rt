@@ -12,9 +12,9 @@ pub struct Looks {
     pub neighbours: Vec<Neighbour>,
     /// The places.
     pub places: Vec<u32>,
-    /// The length of the longest path that was met ahead of the steps. No step asks for it: it is kept
-    /// so that the looks ahead are made.
-    pub longest_ahead: u32,
+    /// A number that was made of what was met ahead of the steps. No step asks for it: it is kept so that the
+    /// looks ahead are made.
+    pub met_ahead: u32,
 }
 
 impl Looks {
@@ -23,7 +23,7 @@ impl Looks {
         Looks {
             neighbours: Vec::new(alloc),
             places: Vec::new(alloc),
-            longest_ahead: 0,
+            met_ahead: 0,
         }
     }
 

@@ -308,7 +308,7 @@ pub fn go_down<P: RoutePolicy, V: OriginStates, L: Ledger>(
 {
     let mut left = course.order.ases.len();
     while left > 0 {
-        look_ahead(&course.above, left, pool, overlay, looks);
+        look_ahead(&course.above, told, left, pool, overlay, looks);
         left -= 1;
         let asn = course.order.ases[left];
         let row = place_at(&course.order.places, left) as usize;
