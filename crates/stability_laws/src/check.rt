@@ -9,36 +9,34 @@ ghost use Rattle.stability_laws.specs.Entries.{seed_entry};
 ghost use Rattle.stability_laws.specs.Stable.{IsRight};
 ghost use Rattle.stability_laws.specs.Verdict.{IsVerdict};
 ghost use Rattle.stability_laws.specs.BestView.{IsBestView, better_of};
-ghost use Rattle.stability_laws.specs.World.{setting};
+ghost use Rattle.stability_laws.specs.World.{setting_in};
 
-use crate::book::Book;
 use crate::entry::{Entry, Seed};
 use crate::offers::{carried, class_from, offered_view};
 use crate::routing::{Routing, Seeds};
 use crate::same::{has_parts, is_of_seed};
+use crate::world::World;
 use crate::wrong::Wrong;
-use as_graph::{Graph, Neighbour};
+use as_graph::Neighbour;
 use net_names::{Asn, Prefix, Rel};
 use policy_laws::{OriginStates, RoutePolicy, View};
 
 /// The view of the offer that the neighbour makes, where it makes one.
 fn view_from<P: RoutePolicy, V: OriginStates>(
-    graph: &Graph,
-    book: &Book<P>,
-    states: &V,
+    world: &World<'_, P, V>,
     prefix: Prefix,
     routing: &Routing,
     asn: Asn,
     neighbour: &Neighbour,
 ) -> Option<View>
-    requires { relation graph.now asn neighbour.now.asn ≡ Some neighbour.now.rel }
-    ensures { result ≡ option_map (λ o. o.view) (offer (setting P.meaning graph.now book.now (V.state_of states.now prefix)) (map.get routing.now) neighbour.now.asn asn) }
+    requires { relation world.now.graph.now asn neighbour.now.asn ≡ Some neighbour.now.rel }
+    ensures { result ≡ option_map (λ o. o.view) (offer (setting_in P.meaning V.state_of world.now prefix) (map.get routing.now) neighbour.now.asn asn) }
 {
     let held = routing.get(neighbour.asn)?;
     offered_view(
-        book.policy(neighbour.asn),
-        book.policy(asn),
-        states,
+        world.book.policy(neighbour.asn),
+        world.book.policy(asn),
+        world.states,
         prefix,
         neighbour.asn,
         asn,
@@ -64,21 +62,19 @@ fn better<P: RoutePolicy>(policy: &P, best: Option<View>, new: Option<View>) -> 
 
 /// The view of the best offer of the neighbours, where one makes an offer.
 fn best_view<P: RoutePolicy, V: OriginStates>(
-    graph: &Graph,
+    world: &World<'_, P, V>,
     neighbours: &[Neighbour],
-    book: &Book<P>,
-    states: &V,
     prefix: Prefix,
     routing: &Routing,
     asn: Asn,
 ) -> Option<View>
-    requires { AreNeighbours (relation graph.now) asn neighbours.now }
-    ensures { IsBestView (P.meaning (policy_at book.now asn)) (λ n. offer (setting P.meaning graph.now book.now (V.state_of states.now prefix)) (map.get routing.now) n asn) result }
+    requires { AreNeighbours (relation world.now.graph.now) asn neighbours.now }
+    ensures { IsBestView (P.meaning (policy_at world.now.book.now asn)) (λ n. offer (setting_in P.meaning V.state_of world.now prefix) (map.get routing.now) n asn) result }
 {
-    let own = book.policy(asn);
+    let own = world.book.policy(asn);
     let mut best: Option<View> = None;
     for neighbour in neighbours {
-        let view = view_from(graph, book, states, prefix, routing, asn, neighbour);
+        let view = view_from(world, prefix, routing, asn, neighbour);
         best = better(own, best, view);
     }
     best
@@ -102,21 +98,19 @@ fn holds_given<P: RoutePolicy>(
 
 /// Whether the entry is that of the offer with this view.
 fn is_offer<P: RoutePolicy, V: OriginStates>(
-    graph: &Graph,
-    book: &Book<P>,
-    states: &V,
+    world: &World<'_, P, V>,
     prefix: Prefix,
     routing: &Routing,
     asn: Asn,
     view: &View,
     entry: &Entry,
 ) -> bool
-    ensures { (o : Offer) → offer (setting P.meaning graph.now book.now (V.state_of states.now prefix)) (map.get routing.now) view.now.neighbour asn ≡ Some o → o.view ≡ view.now → IsTrue result ↔ (entry.now ≡ o.entry) }
+    ensures { (o : Offer) → offer (setting_in P.meaning V.state_of world.now prefix) (map.get routing.now) view.now.neighbour asn ≡ Some o → o.view ≡ view.now → IsTrue result ↔ (entry.now ≡ o.entry) }
 {
     match routing.get(view.neighbour) {
         Some(given) => holds_given(
-            book.policy(view.neighbour),
-            book.policy(asn),
+            world.book.policy(view.neighbour),
+            world.book.policy(asn),
             view.neighbour,
             asn,
             view.rel,
@@ -139,18 +133,16 @@ fn holds_seed(routing: &Routing, asn: Asn, seed: &Seed) -> bool
 
 /// Whether the routing is right at the AS, whose neighbours are these.
 fn check_among<P: RoutePolicy, V: OriginStates>(
-    graph: &Graph,
+    world: &World<'_, P, V>,
     neighbours: &[Neighbour],
-    book: &Book<P>,
-    states: &V,
     prefix: Prefix,
     seeds: &Seeds,
     routing: &Routing,
     asn: Asn,
 ) -> Result<(), Wrong>
-    requires { AreNeighbours (relation graph.now) asn neighbours.now }
-    ensures verdict { IsVerdict (setting P.meaning graph.now book.now (V.state_of states.now prefix)) (map.get seeds.now) (map.get routing.now) asn result }
-    ensures right { IsRight (setting P.meaning graph.now book.now (V.state_of states.now prefix)) (map.get seeds.now) (map.get routing.now) asn → IsOk result }
+    requires { AreNeighbours (relation world.now.graph.now) asn neighbours.now }
+    ensures verdict { IsVerdict (setting_in P.meaning V.state_of world.now prefix) (map.get seeds.now) (map.get routing.now) asn result }
+    ensures right { IsRight (setting_in P.meaning V.state_of world.now prefix) (map.get seeds.now) (map.get routing.now) asn → IsOk result }
 {
     if let Some(seed) = seeds.get(asn) {
         return if holds_seed(routing, asn, seed) {
@@ -159,13 +151,13 @@ fn check_among<P: RoutePolicy, V: OriginStates>(
             Err(Wrong::SeedNotHeld)
         };
     }
-    let best = best_view(graph, neighbours, book, states, prefix, routing, asn);
+    let best = best_view(world, neighbours, prefix, routing, asn);
     match (best, routing.get(asn)) {
         (None, None) => Ok(()),
         (None, Some(_)) => Err(Wrong::Unexpected),
         (Some(view), None) => Err(Wrong::Absent { by: view.neighbour }),
         (Some(view), Some(entry)) => {
-            let held = is_offer(graph, book, states, prefix, routing, asn, &view, entry);
+            let held = is_offer(world, prefix, routing, asn, &view, entry);
             if held {
                 Ok(())
             } else {
@@ -179,22 +171,18 @@ fn check_among<P: RoutePolicy, V: OriginStates>(
 /// and holds the entry of the best offer that its neighbours make, or has neither a seed nor an offer
 /// and holds nothing (RFC 4271, section 9.1.2). `Wrong` says what is wrong. It takes no memory.
 pub fn check_at<P: RoutePolicy, V: OriginStates>(
-    graph: &Graph,
-    book: &Book<P>,
-    states: &V,
+    world: &World<'_, P, V>,
     prefix: Prefix,
     seeds: &Seeds,
     routing: &Routing,
     asn: Asn,
 ) -> Result<(), Wrong>
-    ensures verdict { IsVerdict (setting P.meaning graph.now book.now (V.state_of states.now prefix)) (map.get seeds.now) (map.get routing.now) asn result }
-    ensures right { IsRight (setting P.meaning graph.now book.now (V.state_of states.now prefix)) (map.get seeds.now) (map.get routing.now) asn → IsOk result }
+    ensures verdict { IsVerdict (setting_in P.meaning V.state_of world.now prefix) (map.get seeds.now) (map.get routing.now) asn result }
+    ensures right { IsRight (setting_in P.meaning V.state_of world.now prefix) (map.get seeds.now) (map.get routing.now) asn → IsOk result }
 {
     check_among(
-        graph,
-        graph.neighbours(asn),
-        book,
-        states,
+        world,
+        world.graph.neighbours(asn),
         prefix,
         seeds,
         routing,

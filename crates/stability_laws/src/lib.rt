@@ -16,6 +16,7 @@ mod offers;
 mod routing;
 mod same;
 mod seed_plan;
+mod world;
 mod wrong;
 
 pub use book::Book;
@@ -29,4 +30,5 @@ pub use offer_paths::offer_path;
 pub use offers::{carried, class_from, number_sent, offered_view};
 pub use routing::{Routing, Seeds};
 pub use seed_plan::{SeedEdit, SeedPlan, plans_are_sound};
+pub use world::World;
 pub use wrong::Wrong;

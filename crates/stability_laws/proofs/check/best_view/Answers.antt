@@ -13,10 +13,10 @@ use Rattle.stability_laws.proofs.check.best_view.Goals as goal
 
 pub loop-neighbour-preserved : goal.loop-neighbour-preserved
 loop-neighbour-preserved g c =
-    let here = setting g.P.RoutePolicy.meaning c.args.graph.now c.args.book.now (g.V.OriginStates.state_of c.args.states.now c.args.prefix) in
-    let own = policy_at c.args.book.now c.args.asn in
+    let here = setting g.P.RoutePolicy.meaning c.args.world.now.graph.now c.args.world.now.book.now (g.V.OriginStates.state_of c.args.world.now.states.now c.args.prefix) in
+    let own = policy_at c.args.world.now.book.now c.args.asn in
     let offers = λ (n : ℕ). offer here (map.get c.args.routing.now) n c.args.asn in
-    let given = λ (n : ℕ). given_by (here.policy n) (here.policy c.args.asn) here.state n c.args.asn (relation c.args.graph.now c.args.asn n) (map.get c.args.routing.now n) in
+    let given = λ (n : ℕ). given_by (here.policy n) (here.policy c.args.asn) here.state n c.args.asn (relation c.args.world.now.graph.now c.args.asn n) (map.get c.args.routing.now n) in
     let xs = c.args.neighbours.now in
     let i = c.loop-neighbour.neighbour-index in
     let step = one_more (here.policy c.args.asn) (g.met.P.RoutePolicy.ranks_offers own) offers (λ n o e. (given n o e).neighbour)
@@ -30,12 +30,12 @@ loop-neighbour-preserved g c =
 
 pub returns : goal.returns
 returns g c =
-    let here = setting g.P.RoutePolicy.meaning c.args.graph.now c.args.book.now (g.V.OriginStates.state_of c.args.states.now c.args.prefix) in
-    let own = policy_at c.args.book.now c.args.asn in
+    let here = setting g.P.RoutePolicy.meaning c.args.world.now.graph.now c.args.world.now.book.now (g.V.OriginStates.state_of c.args.world.now.states.now c.args.prefix) in
+    let own = policy_at c.args.world.now.book.now c.args.asn in
     let offers = λ (n : ℕ). offer here (map.get c.args.routing.now) n c.args.asn in
-    let given = λ (n : ℕ). given_by (here.policy n) (here.policy c.args.asn) here.state n c.args.asn (relation c.args.graph.now c.args.asn n) (map.get c.args.routing.now n) in
+    let given = λ (n : ℕ). given_by (here.policy n) (here.policy c.args.asn) here.state n c.args.asn (relation c.args.world.now.graph.now c.args.asn n) (map.get c.args.routing.now n) in
     let xs = c.args.neighbours.now in
     let i = c.loop-neighbour.neighbour-index in
     best_of_all (here.policy c.args.asn) (g.met.P.RoutePolicy.ranks_offers own) offers (λ n o e. (given n o e).neighbour)
-    (asns xs) (λ n o e. let from : GivenBy (relation c.args.graph.now c.args.asn n) n o = given n o e in c.requires.complete n from.from from.linked)
+    (asns xs) (λ n o e. let from : GivenBy (relation c.args.world.now.graph.now c.args.asn n) n o = given n o e in c.requires.complete n from.from from.linked)
     c.loop-neighbour.best (subst (λ ys. IsBestViewOf (here.policy c.args.asn) offers (asns ys) c.loop-neighbour.best) (take_all i xs c.loop-neighbour-test.false) c.loop-neighbour.invariant)
