@@ -4,6 +4,7 @@ use as_graph::Graph;
 
 /// The ASes with their links, the policy of each AS, and the states of prefixes with their origins, lent to
 /// what is asked of a routing.
+#[derive(Drop)]
 pub struct World<'a, P, V> {
     /// The ASes and their links.
     pub graph: &'a Graph,
