@@ -17,12 +17,12 @@ ghost use Rattle.route_choice.specs.Loops.{HasNoLoops};
 ghost use Rattle.route_choice.specs.Resources.{AreLive};
 
 use crate::looks::{held_near, place_at};
-use crate::{Held, Overlay, Part, Table};
-use as_graph::{Graph, Neighbour};
-use net_names::{Asn, Prefix, Rel, State};
+use crate::{Held, Overlay, Part, PrefixWorld, Turn};
+use as_graph::Neighbour;
+use net_names::{Asn, Rel, State};
 use path_pool::{PathId, PathPool};
 use policy_laws::{OriginStates, RoutePolicy, View};
-use stability_laws::{Book, number_sent};
+use stability_laws::number_sent;
 
 // Whether the part looks at the offers of such neighbours.
 fn looks_at(part: Part, rel: Rel) -> bool
@@ -35,18 +35,17 @@ fn looks_at(part: Part, rel: Rel) -> bool
 }
 
 // The state of the prefix with the path's origin, where it is asked for.
-fn state_of<V: OriginStates>(
-    states: &V,
+fn state_of<P, V: OriginStates>(
+    at: &PrefixWorld<'_, P, V>,
     reads: bool,
-    prefix: Prefix,
     pool: &PathPool,
     path: PathId,
 ) -> State
     requires { IsLive pool.now path.0 }
-    ensures { result ≡ state_seen reads (V.state_of states.now prefix) (last_or 0 (list_of pool.now path.0)) }
+    ensures { result ≡ state_seen reads (V.state_of at.now.states.now (prefix_of at.now.table.now)) (last_or 0 (list_of pool.now path.0)) }
 {
     if reads {
-        states.state(prefix, pool.last(path))
+        at.states.state(at.table.prefix(), pool.last(path))
     } else {
         State::NotFound
     }
@@ -60,92 +59,103 @@ pub(crate) struct Best {
     pub(crate) place: usize,
 }
 
-// The view of what a neighbour holds and exports, where the policy of the AS accepts it. Whether the
-// path goes through the AS is not asked here.
-fn view_of<P: RoutePolicy, V: OriginStates>(
-    own: &P,
-    sender: &P,
-    states: &V,
+// The AS that chooses: its policy, whether that reads states, whether a path may go through the AS, and which
+// offers it looks at.
+#[derive(Drop)]
+struct Chooser<'a, P> {
+    asn: Asn,
+    own: &'a P,
     reads: bool,
-    prefix: Prefix,
-    pool: &PathPool,
-    neighbour: &Neighbour,
-    given: &Held,
-) -> Option<View>
-    requires live { IsLive pool.now given.now.path.0 }
-    requires exported { (P.meaning sender.now).exports given.now.class given.now.otc (converse neighbour.now.rel) ≡ true }
-    ensures { (a : ℕ) → option_map (λ o. o.view) (offer_given (P.meaning sender.now) (P.meaning own.now) (state_seen reads (V.state_of states.now prefix)) neighbour.now.asn a (Some neighbour.now.rel) (Some (entry_of pool.now given.now))) ≡ (if occurs a (list_of pool.now given.now.path.0) then None else result) }
-{
-    let view = View {
-        rel: neighbour.rel,
-        neighbour: neighbour.asn,
-        length: pool.length(given.path) + 1,
-        state: state_of(states, reads, prefix, pool, given.path),
-        otc: number_sent(
-            sender.marks(),
-            neighbour.asn,
-            neighbour.rel.converse(),
-            given.otc,
-        ),
-    };
-    if own.accepts(&view) { Some(view) } else { None }
+    may_loop: bool,
+    part: Part,
 }
 
-// Whether a path goes through the AS. It is walked only where it may.
-fn goes_through(pool: &PathPool, path: PathId, asn: Asn, may_loop: bool) -> bool
-    requires live { IsLive pool.now path.0 }
-    requires no_loops { may_loop ≡ false → occurs asn (list_of pool.now path.0) ≡ false }
-    ensures { result ≡ occurs asn (list_of pool.now path.0) }
+// What a neighbour holds and exports, with the policy of the neighbour and the place where it was last found,
+// which is a hint.
+#[derive(Drop)]
+struct Given<'a, P> {
+    neighbour: &'a Neighbour,
+    place: usize,
+    held: Held,
+    sender: &'a P,
+}
+
+// The view of what a neighbour holds and exports, where the policy of the AS accepts it. Whether the
+// path goes through the AS is not asked here.
+#[inline(always)]
+fn view_of<P: RoutePolicy, V: OriginStates>(
+    at: &PrefixWorld<'_, P, V>,
+    chooser: &Chooser<'_, P>,
+    pool: &PathPool,
+    given: &Given<'_, P>,
+) -> Option<View>
+    requires live { IsLive pool.now given.now.held.path.0 }
+    requires exported { (P.meaning given.now.sender.now).exports given.now.held.class given.now.held.otc (converse given.now.neighbour.now.rel) ≡ true }
+    ensures { (a : ℕ) → option_map (λ o. o.view) (offer_given (P.meaning given.now.sender.now) (P.meaning chooser.now.own.now) (state_seen chooser.now.reads (V.state_of at.now.states.now (prefix_of at.now.table.now))) given.now.neighbour.now.asn a (Some given.now.neighbour.now.rel) (Some (entry_of pool.now given.now.held))) ≡ (if occurs a (list_of pool.now given.now.held.path.0) then None else result) }
 {
-    may_loop && pool.contains(path, asn)
+    let Neighbour { asn, rel } = *given.neighbour;
+    let held = given.held;
+    let view = View {
+        rel,
+        neighbour: asn,
+        length: pool.length(held.path) + 1,
+        state: state_of(at, chooser.reads, pool, held.path),
+        otc: number_sent(given.sender.marks(), asn, rel.converse(), held.otc),
+    };
+    if chooser.own.accepts(&view) {
+        Some(view)
+    } else {
+        None
+    }
+}
+
+// Whether a path goes through the AS that chooses. It is walked only where it may.
+fn goes_through<P>(chooser: &Chooser<'_, P>, pool: &PathPool, path: PathId) -> bool
+    requires live { IsLive pool.now path.0 }
+    requires no_loops { chooser.now.may_loop ≡ false → occurs chooser.now.asn (list_of pool.now path.0) ≡ false }
+    ensures { result ≡ occurs chooser.now.asn (list_of pool.now path.0) }
+{
+    chooser.may_loop && pool.contains(path, chooser.asn)
 }
 
 // Whether a view comes before the best one so far and its path is not through the AS.
 fn is_better<P: RoutePolicy>(
-    own: &P,
+    chooser: &Chooser<'_, P>,
     pool: &PathPool,
-    asn: Asn,
-    may_loop: bool,
     best: &Option<View>,
     view: &View,
     path: PathId,
 ) -> bool
     requires live { IsLive pool.now path.0 }
-    requires no_loops { may_loop ≡ false → occurs asn (list_of pool.now path.0) ≡ false }
-    ensures { (if result then Some view.now else best.now) ≡ better_of (P.meaning own.now) best.now (if occurs asn (list_of pool.now path.0) then None else Some view.now) }
+    requires no_loops { chooser.now.may_loop ≡ false → occurs chooser.now.asn (list_of pool.now path.0) ≡ false }
+    ensures { (if result then Some view.now else best.now) ≡ better_of (P.meaning chooser.now.own.now) best.now (if occurs chooser.now.asn (list_of pool.now path.0) then None else Some view.now) }
 {
     let wins = match best {
         None => true,
-        Some(old) => own.before(view, old),
+        Some(old) => chooser.own.before(view, old),
     };
-    wins && !goes_through(pool, path, asn, may_loop)
+    wins && !goes_through(chooser, pool, path)
 }
 
 // Puts the view of what a neighbour holds and exports in place of the best one so far, if it is
 // better.
+#[inline(always)]
 fn weigh<P: RoutePolicy, V: OriginStates>(
-    own: &P,
-    sender: &P,
-    states: &V,
-    reads: bool,
-    prefix: Prefix,
+    at: &PrefixWorld<'_, P, V>,
+    chooser: &Chooser<'_, P>,
     pool: &PathPool,
-    asn: Asn,
-    may_loop: bool,
-    neighbour: &Neighbour,
-    place: usize,
-    given: &Held,
+    given: &Given<'_, P>,
     best: &mut Best,
 )
-    requires live { IsLive pool.now given.now.path.0 }
-    requires no_loops { may_loop ≡ false → occurs asn (list_of pool.now given.now.path.0) ≡ false }
-    requires exported { (P.meaning sender.now).exports given.now.class given.now.otc (converse neighbour.now.rel) ≡ true }
-    ensures { best.new.view ≡ better_of (P.meaning own.now) best.old.view (option_map (λ o. o.view) (offer_given (P.meaning sender.now) (P.meaning own.now) (state_seen reads (V.state_of states.now prefix)) neighbour.now.asn asn (Some neighbour.now.rel) (Some (entry_of pool.now given.now)))) }
+    requires live { IsLive pool.now given.now.held.path.0 }
+    requires no_loops { chooser.now.may_loop ≡ false → occurs chooser.now.asn (list_of pool.now given.now.held.path.0) ≡ false }
+    requires exported { (P.meaning given.now.sender.now).exports given.now.held.class given.now.held.otc (converse given.now.neighbour.now.rel) ≡ true }
+    ensures { best.new.view ≡ better_of (P.meaning chooser.now.own.now) best.old.view (option_map (λ o. o.view) (offer_given (P.meaning given.now.sender.now) (P.meaning chooser.now.own.now) (state_seen chooser.now.reads (V.state_of at.now.states.now (prefix_of at.now.table.now))) given.now.neighbour.now.asn chooser.now.asn (Some given.now.neighbour.now.rel) (Some (entry_of pool.now given.now.held)))) }
 {
-    if let Some(view) = view_of(own, sender, states, reads, prefix, pool, neighbour, given) {
-        if is_better(own, pool, asn, may_loop, &best.view, &view, given.path) {
+    if let Some(view) = view_of(at, chooser, pool, given) {
+        if is_better(chooser, pool, &best.view, &view, given.held.path) {
             best.view = Some(view);
-            best.place = place;
+            best.place = given.place;
         }
     }
 }
@@ -154,86 +164,70 @@ fn weigh<P: RoutePolicy, V: OriginStates>(
 // looks at it and it is better. The place where the neighbour may stand is a hint.
 #[inline(always)]
 fn look_at<P: RoutePolicy, V: OriginStates>(
-    graph: &Graph,
-    book: &Book<P>,
-    own: &P,
-    states: &V,
-    reads: bool,
+    at: &PrefixWorld<'_, P, V>,
+    chooser: &Chooser<'_, P>,
     pool: &PathPool,
-    table: &Table,
     overlay: &Overlay,
-    asn: Asn,
-    may_loop: bool,
     neighbour: &Neighbour,
     place: usize,
-    part: Part,
     best: &mut Best,
 )
-    requires linked { relation graph.now asn neighbour.now.asn ≡ Some neighbour.now.rel }
-    requires live { AreLive pool.now table.now overlay.now }
-    requires no_loops { may_loop ≡ false → HasNoLoops part (relation graph.now) (λ n. P.meaning (policy_at book.now n)) (routing_of pool.now table.now overlay.now) asn }
-    requires own { own.now ≡ policy_at book.now asn }
-    ensures { best.new.view ≡ better_of (P.meaning (policy_at book.now asn)) best.old.view (option_map (λ o. o.view) (offers_of part (setting P.meaning graph.now book.now (state_seen reads (V.state_of states.now (prefix_of table.now)))) (routing_of pool.now table.now overlay.now) asn neighbour.now.asn)) }
+    requires linked { relation at.now.graph.now chooser.now.asn neighbour.now.asn ≡ Some neighbour.now.rel }
+    requires live { AreLive pool.now at.now.table.now overlay.now }
+    requires no_loops { chooser.now.may_loop ≡ false → HasNoLoops chooser.now.part (relation at.now.graph.now) (λ n. P.meaning (policy_at at.now.book.now n)) (routing_of pool.now at.now.table.now overlay.now) chooser.now.asn }
+    requires own { chooser.now.own.now ≡ policy_at at.now.book.now chooser.now.asn }
+    ensures { best.new.view ≡ better_of (P.meaning (policy_at at.now.book.now chooser.now.asn)) best.old.view (option_map (λ o. o.view) (offers_of chooser.now.part (setting P.meaning at.now.graph.now at.now.book.now (state_seen chooser.now.reads (V.state_of at.now.states.now (prefix_of at.now.table.now)))) (routing_of pool.now at.now.table.now overlay.now) chooser.now.asn neighbour.now.asn)) }
 {
-    if !looks_at(part, neighbour.rel) {
+    if !looks_at(chooser.part, neighbour.rel) {
         return;
     }
-    let Some(given) = held_near(table, overlay, neighbour.asn, place) else {
+    let Some(held) = held_near(at.table, overlay, neighbour.asn, place) else {
         return;
     };
-    let sender = book.policy(neighbour.asn);
-    if !sender.exports(given.class, given.otc, neighbour.rel.converse()) {
+    let sender = at.book.policy(neighbour.asn);
+    if !sender.exports(held.class, held.otc, neighbour.rel.converse()) {
         return;
     }
-    weigh(
-        own,
-        sender,
-        states,
-        reads,
-        table.prefix(),
-        pool,
-        asn,
-        may_loop,
+    let given = Given {
         neighbour,
         place,
-        &given,
-        best,
-    );
+        held,
+        sender,
+    };
+    weigh(at, chooser, pool, &given, best);
 }
 
 /// The view of the best offer of the part, if there is an offer, where all that make one are among these
-/// neighbours. The places, in the order of the neighbours, are hints. Where `reads` is not set, no state is asked for, and where `may_loop` is not
-/// set, no path is walked in search of the AS.
+/// neighbours. The places, in the order of the neighbours, are hints. Where `reads` is not set, no state is
+/// asked for.
 pub(crate) fn best_view<P: RoutePolicy, V: OriginStates>(
-    graph: &Graph,
-    neighbours: &[Neighbour],
-    places: &[u32],
-    book: &Book<P>,
-    states: &V,
+    at: &PrefixWorld<'_, P, V>,
     reads: bool,
     pool: &PathPool,
-    table: &Table,
     overlay: &Overlay,
-    asn: Asn,
-    may_loop: bool,
-    part: Part,
+    turn: Turn,
+    neighbours: &[Neighbour],
+    places: &[u32],
 ) -> Best
-    requires givers { AreGivers part (relation graph.now) (λ n. P.meaning (policy_at book.now n)) (routing_of pool.now table.now overlay.now) asn neighbours.now }
-    requires live { AreLive pool.now table.now overlay.now }
-    requires no_loops { may_loop ≡ false → HasNoLoops part (relation graph.now) (λ n. P.meaning (policy_at book.now n)) (routing_of pool.now table.now overlay.now) asn }
-    ensures { IsBestView (P.meaning (policy_at book.now asn)) (λ n. offers_of part (setting P.meaning graph.now book.now (state_seen reads (V.state_of states.now (prefix_of table.now)))) (routing_of pool.now table.now overlay.now) asn n) result.view }
+    requires givers { AreGivers turn.part (relation at.now.graph.now) (λ n. P.meaning (policy_at at.now.book.now n)) (routing_of pool.now at.now.table.now overlay.now) turn.asn neighbours.now }
+    requires live { AreLive pool.now at.now.table.now overlay.now }
+    requires no_loops { turn.may_loop ≡ false → HasNoLoops turn.part (relation at.now.graph.now) (λ n. P.meaning (policy_at at.now.book.now n)) (routing_of pool.now at.now.table.now overlay.now) turn.asn }
+    ensures { IsBestView (P.meaning (policy_at at.now.book.now turn.asn)) (λ n. offers_of turn.part (setting P.meaning at.now.graph.now at.now.book.now (state_seen reads (V.state_of at.now.states.now (prefix_of at.now.table.now)))) (routing_of pool.now at.now.table.now overlay.now) turn.asn n) result.view }
 {
-    let own = book.policy(asn);
+    let chooser = Chooser {
+        asn: turn.asn,
+        own: at.book.policy(turn.asn),
+        reads,
+        may_loop: turn.may_loop,
+        part: turn.part,
+    };
     let mut best = Best {
         view: None,
         place: 0,
     };
     for (index, neighbour) in neighbours.iter().enumerate() {
         let place = place_at(places, index);
-        look_at(
-            graph, book, own, states, reads, pool, table, overlay, asn, may_loop, neighbour, place,
-            part, &mut best,
-        );
+        look_at(at, &chooser, pool, overlay, neighbour, place, &mut best);
     }
     best
 }

@@ -3,58 +3,47 @@
 ghost use Rattle.std.specs.Prelude.{◌≡◌, ◌+◌, false};
 ghost use Rattle.as_graph.specs.Topology.{relation};
 ghost use Rattle.stability_laws.specs.Book.{policy_at};
-ghost use Rattle.stability_laws.specs.World.{setting};
-ghost use Rattle.route_choice.specs.Tables.{prefix_of};
 ghost use Rattle.route_choice.specs.Routings.{routing_of, seeds_of};
+ghost use Rattle.route_choice.specs.PrefixWorlds.{setting_at};
 ghost use Rattle.route_choice.specs.Choices.{offers_of, IsChoice};
 ghost use Rattle.route_choice.specs.Givers.{AreGivers};
 ghost use Rattle.route_choice.specs.Loops.{HasNoLoops};
 ghost use Rattle.route_choice.specs.Resources.{AreLive};
 
 use crate::best::{Best, best_view};
-use crate::{Choice, ChoiceNear, Overlay, Part, SeedIds, Steps, Table};
-use as_graph::{Graph, Neighbour};
+use crate::{Choice, ChoiceNear, Overlay, Part, PrefixWorld, Steps, Turn};
+use as_graph::Neighbour;
 use net_names::Asn;
 use path_pool::PathPool;
 use policy_laws::{OriginStates, RoutePolicy};
-use stability_laws::Book;
 use std::sync::ledger::Ledger;
 
 // What an AS chooses, in one step, where all that make it an offer of the part are among these neighbours.
-// The places, in the order of the neighbours, are hints. Where `may_loop` is not set, no path is walked in
-// search of the AS.
+// The places, in the order of the neighbours, are hints.
 pub(crate) fn evaluate_among<P: RoutePolicy, V: OriginStates, L: Ledger>(
-    graph: &Graph,
-    book: &Book<P>,
-    states: &V,
-    seeds: &SeedIds,
+    at: &PrefixWorld<'_, P, V>,
     pool: &PathPool,
-    table: &Table,
     overlay: &Overlay,
-    asn: Asn,
+    turn: Turn,
     neighbours: &[Neighbour],
     places: &[u32],
-    may_loop: bool,
-    part: Part,
     steps: &mut Steps<L>,
 ) -> ChoiceNear
-    requires live { AreLive pool.now table.now overlay.now }
-    requires givers { AreGivers part (relation graph.now) (λ n. P.meaning (policy_at book.now n)) (routing_of pool.now table.now overlay.now) asn neighbours.now }
-    requires no_loops { may_loop ≡ false → HasNoLoops part (relation graph.now) (λ n. P.meaning (policy_at book.now n)) (routing_of pool.now table.now overlay.now) asn }
-    ensures choice { IsChoice (P.meaning (policy_at book.now asn)) (seeds_of pool.now seeds.now asn) (λ n. offers_of part (setting P.meaning graph.now book.now (V.state_of states.now (prefix_of table.now))) (routing_of pool.now table.now overlay.now) asn n) result.choice }
+    requires live { AreLive pool.now at.now.table.now overlay.now }
+    requires givers { AreGivers turn.part (relation at.now.graph.now) (λ n. P.meaning (policy_at at.now.book.now n)) (routing_of pool.now at.now.table.now overlay.now) turn.asn neighbours.now }
+    requires no_loops { turn.may_loop ≡ false → HasNoLoops turn.part (relation at.now.graph.now) (λ n. P.meaning (policy_at at.now.book.now n)) (routing_of pool.now at.now.table.now overlay.now) turn.asn }
+    ensures choice { IsChoice (P.meaning (policy_at at.now.book.now turn.asn)) (seeds_of pool.now at.now.seeds.now turn.asn) (λ n. offers_of turn.part (setting_at P.meaning V.state_of at.now) (routing_of pool.now at.now.table.now overlay.now) turn.asn n) result.choice }
     ensures cost { steps.new ≡ steps.old + 1 }
 {
     steps.tick();
-    if seeds.get(asn).is_some() {
+    if at.seeds.get(turn.asn).is_some() {
         return ChoiceNear {
             choice: Choice::Seed,
             place: 0,
         };
     }
-    let reads = book.policy(asn).reads_state();
-    let Best { view, place } = best_view(
-        graph, neighbours, places, book, states, reads, pool, table, overlay, asn, may_loop, part,
-    );
+    let reads = at.book.policy(turn.asn).reads_state();
+    let Best { view, place } = best_view(at, reads, pool, overlay, turn, neighbours, places);
     match view {
         Some(view) => ChoiceNear {
             choice: Choice::Via {
@@ -71,57 +60,44 @@ pub(crate) fn evaluate_among<P: RoutePolicy, V: OriginStates, L: Ledger>(
 }
 
 /// What an AS chooses, in one step: its seed, or else the best offer of the part, or nothing. The
-/// offers are those of the table with the changes in place. The place where the row of the AS was
-/// last found in the graph is a hint. Where `may_loop` is not set, no offer of the part has a
-/// path through the AS, and none is walked in search of it. Takes no memory.
+/// offers are those of the table with the changes in place. Where the turn says that no path may go
+/// through the AS, no offer of the part has one that does. Takes no memory.
 pub fn evaluate_near<P: RoutePolicy, V: OriginStates, L: Ledger>(
-    graph: &Graph,
-    book: &Book<P>,
-    states: &V,
-    seeds: &SeedIds,
+    at: &PrefixWorld<'_, P, V>,
     pool: &PathPool,
-    table: &Table,
     overlay: &Overlay,
-    asn: Asn,
-    place: usize,
-    may_loop: bool,
-    part: Part,
+    turn: Turn,
     steps: &mut Steps<L>,
 ) -> ChoiceNear
-    requires live { AreLive pool.now table.now overlay.now }
-    requires no_loops { may_loop ≡ false → HasNoLoops part (relation graph.now) (λ n. P.meaning (policy_at book.now n)) (routing_of pool.now table.now overlay.now) asn }
-    ensures choice { IsChoice (P.meaning (policy_at book.now asn)) (seeds_of pool.now seeds.now asn) (λ n. offers_of part (setting P.meaning graph.now book.now (V.state_of states.now (prefix_of table.now))) (routing_of pool.now table.now overlay.now) asn n) result.choice }
+    requires live { AreLive pool.now at.now.table.now overlay.now }
+    requires no_loops { turn.may_loop ≡ false → HasNoLoops turn.part (relation at.now.graph.now) (λ n. P.meaning (policy_at at.now.book.now n)) (routing_of pool.now at.now.table.now overlay.now) turn.asn }
+    ensures choice { IsChoice (P.meaning (policy_at at.now.book.now turn.asn)) (seeds_of pool.now at.now.seeds.now turn.asn) (λ n. offers_of turn.part (setting_at P.meaning V.state_of at.now) (routing_of pool.now at.now.table.now overlay.now) turn.asn n) result.choice }
     ensures cost { steps.new ≡ steps.old + 1 }
 {
-    let neighbours = graph.neighbours_near(asn, place);
-    let places = graph.neighbour_places(place);
-    evaluate_among(
-        graph, book, states, seeds, pool, table, overlay, asn, neighbours, places, may_loop, part,
-        steps,
-    )
+    let neighbours = at.graph.neighbours_near(turn.asn, turn.place);
+    let places = at.graph.neighbour_places(turn.place);
+    evaluate_among(at, pool, overlay, turn, neighbours, places, steps)
 }
 
 /// What an AS chooses, in one step: its seed, or else the best offer of the part, or nothing. The
 /// offers are those of the table with the changes in place. Takes no memory.
 pub fn evaluate<P: RoutePolicy, V: OriginStates, L: Ledger>(
-    graph: &Graph,
-    book: &Book<P>,
-    states: &V,
-    seeds: &SeedIds,
+    at: &PrefixWorld<'_, P, V>,
     pool: &PathPool,
-    table: &Table,
     overlay: &Overlay,
     asn: Asn,
     part: Part,
     steps: &mut Steps<L>,
 ) -> Choice
-    requires { AreLive pool.now table.now overlay.now }
-    ensures choice { IsChoice (P.meaning (policy_at book.now asn)) (seeds_of pool.now seeds.now asn) (λ n. offers_of part (setting P.meaning graph.now book.now (V.state_of states.now (prefix_of table.now))) (routing_of pool.now table.now overlay.now) asn n) result }
+    requires { AreLive pool.now at.now.table.now overlay.now }
+    ensures choice { IsChoice (P.meaning (policy_at at.now.book.now asn)) (seeds_of pool.now at.now.seeds.now asn) (λ n. offers_of part (setting_at P.meaning V.state_of at.now) (routing_of pool.now at.now.table.now overlay.now) asn n) result }
     ensures cost { steps.new ≡ steps.old + 1 }
 {
-    let place = graph.place_near(asn, 0);
-    evaluate_near(
-        graph, book, states, seeds, pool, table, overlay, asn, place, true, part, steps,
-    )
-    .choice
+    let turn = Turn {
+        asn,
+        place: at.graph.place_near(asn, 0),
+        may_loop: true,
+        part,
+    };
+    evaluate_near(at, pool, overlay, turn, steps).choice
 }

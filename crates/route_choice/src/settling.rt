@@ -14,11 +14,11 @@ ghost use Rattle.route_choice.specs.Resources.{AreLive, AreSeedsLive, CanChange,
 
 use crate::looks::held_near;
 use crate::slots::let_go;
-use crate::{Choice, ChoiceNear, Held, Overlay, SeedIds, Table};
+use crate::{Choice, ChoiceNear, Held, Overlay, PrefixWorld};
 use net_names::{Asn, Class};
 use path_pool::{PathId, PathPool, paths_are_not_empty};
 use policy_laws::RoutePolicy;
-use stability_laws::{Book, carried, class_from};
+use stability_laws::{carried, class_from};
 
 // The entry that a choice names, before its path is made.
 #[derive(Clone, Copy)]
@@ -31,23 +31,20 @@ pub(crate) enum Wanted {
     Longer(Held),
 }
 
-// The entry that the choice names. The place where the neighbour may stand is a hint.
-fn wanted_by<P: RoutePolicy>(
-    book: &Book<P>,
-    seeds: &SeedIds,
-    table: &Table,
+// The entry that the choice names.
+fn wanted_by<P: RoutePolicy, V>(
+    at: &PrefixWorld<'_, P, V>,
     overlay: &Overlay,
     asn: Asn,
-    choice: Choice,
-    from: usize,
+    chosen: ChoiceNear,
 ) -> Wanted
-    ensures entry { (p : APool) → wanted_entry p asn result ≡ named_by (λ n. P.meaning (policy_at book.now n)) (seeds_of p seeds.now asn) (routing_of p table.now overlay.now) asn choice }
-    ensures live { (p : APool) → AreLive p table.now overlay.now → AreSeedsLive p seeds.now → IsWantedLive p result }
-    ensures via { IsLonger result → IsVia choice }
+    ensures entry { (p : APool) → wanted_entry p asn result ≡ named_by (λ n. P.meaning (policy_at at.now.book.now n)) (seeds_of p at.now.seeds.now asn) (routing_of p at.now.table.now overlay.now) asn chosen.choice }
+    ensures live { (p : APool) → AreLive p at.now.table.now overlay.now → AreSeedsLive p at.now.seeds.now → IsWantedLive p result }
+    ensures via { IsLonger result → IsVia chosen.choice }
 {
-    match choice {
+    match chosen.choice {
         Choice::Nothing => Wanted::Nothing,
-        Choice::Seed => match seeds.get(asn) {
+        Choice::Seed => match at.seeds.get(asn) {
             Some(seed) => Wanted::Ready(Held {
                 class: Class::Origin,
                 path: seed.path,
@@ -55,10 +52,15 @@ fn wanted_by<P: RoutePolicy>(
             }),
             None => Wanted::Nothing,
         },
-        Choice::Via { neighbour, rel } => match held_near(table, overlay, neighbour, from) {
+        Choice::Via { neighbour, rel } => match held_near(
+            at.table,
+            overlay,
+            neighbour,
+            chosen.place,
+        ) {
             Some(given) => {
-                let sender = book.policy(neighbour);
-                let receiver = book.policy(asn);
+                let sender = at.book.policy(neighbour);
+                let receiver = at.book.policy(asn);
                 Wanted::Longer(Held {
                     class: class_from(rel),
                     path: given.path,
@@ -176,39 +178,29 @@ fn replace(pool: &mut PathPool, overlay: &mut Overlay, asn: Asn, place: usize, w
 /// class, its path and its number of the attribute Only to Customer. Where it is the same, all
 /// stays. The choice `Nothing` names no entry, `Seed` the seed, and `Via` the neighbour's entry as
 /// it is passed on. The place where the AS was last found in the table is a hint. Takes no memory.
-pub fn settle_near<P: RoutePolicy>(
-    book: &Book<P>,
-    seeds: &SeedIds,
+pub fn settle_near<P: RoutePolicy, V>(
+    at: &PrefixWorld<'_, P, V>,
     pool: &mut PathPool,
-    table: &Table,
     overlay: &mut Overlay,
     asn: Asn,
     place: usize,
     chosen: ChoiceNear,
 ) -> bool
-    requires choice { IsNameable seeds.now table.now overlay.old asn chosen.choice }
-    requires pool { CanChange pool.old seeds.now table.now overlay.old 1 }
+    requires choice { IsNameable at.now.seeds.now at.now.table.now overlay.old asn chosen.choice }
+    requires pool { CanChange pool.old at.now.seeds.now at.now.table.now overlay.old 1 }
     requires room { HasPlace overlay.old asn }
-    ensures named { routing_of pool.new table.now overlay.new asn ≡ named_by (λ n. P.meaning (policy_at book.now n)) (seeds_of pool.old seeds.now asn) (routing_of pool.old table.now overlay.old) asn chosen.choice }
-    ensures others { (n : ℕ) → n ≢ asn → routing_of pool.new table.now overlay.new n ≡ routing_of pool.old table.now overlay.old n }
-    ensures changed { IsTrue result ↔ (routing_of pool.new table.now overlay.new asn ≢ routing_of pool.old table.now overlay.old asn) }
+    ensures named { routing_of pool.new at.now.table.now overlay.new asn ≡ named_by (λ n. P.meaning (policy_at at.now.book.now n)) (seeds_of pool.old at.now.seeds.now asn) (routing_of pool.old at.now.table.now overlay.old) asn chosen.choice }
+    ensures others { (n : ℕ) → n ≢ asn → routing_of pool.new at.now.table.now overlay.new n ≡ routing_of pool.old at.now.table.now overlay.old n }
+    ensures changed { IsTrue result ↔ (routing_of pool.new at.now.table.now overlay.new asn ≢ routing_of pool.old at.now.table.now overlay.old asn) }
     ensures unchanged { result ≡ false → (pool.new ≡ pool.old) × (overlay.new ≡ overlay.old) }
     ensures put { IsTrue result → IsSome (change_at overlay.new asn) }
     ensures spent { Spends pool.old pool.new overlay.old overlay.new asn }
     ensures live { live_count pool.old < live_count pool.new → IsVia chosen.choice }
-    ensures next { (n : ℕ) → CanChange pool.old seeds.now table.now overlay.old (suc n) → AreSeedsLive pool.new seeds.now → CanChange pool.new seeds.now table.now overlay.new n }
-    ensures kept { GivesUpNothing overlay.old (routing_of pool.old table.now overlay.old) (routing_of pool.new table.now overlay.new) asn → Keeps pool.old pool.new seeds.now }
+    ensures next { (n : ℕ) → CanChange pool.old at.now.seeds.now at.now.table.now overlay.old (suc n) → AreSeedsLive pool.new at.now.seeds.now → CanChange pool.new at.now.seeds.now at.now.table.now overlay.new n }
+    ensures kept { GivesUpNothing overlay.old (routing_of pool.old at.now.table.now overlay.old) (routing_of pool.new at.now.table.now overlay.new) asn → Keeps pool.old pool.new at.now.seeds.now }
 {
-    let wanted = wanted_by(
-        book,
-        seeds,
-        table,
-        overlay,
-        asn,
-        chosen.choice,
-        chosen.place,
-    );
-    let have = held_near(table, overlay, asn, place);
+    let wanted = wanted_by(at, overlay, asn, chosen);
+    let have = held_near(at.table, overlay, asn, place);
     if is_held(pool, asn, &have, &wanted) {
         return false;
     }
@@ -220,28 +212,26 @@ pub fn settle_near<P: RoutePolicy>(
 /// class, its path and its number of the attribute Only to Customer. Where it is the same, all
 /// stays. The choice `Nothing` names no entry, `Seed` the seed, and `Via` the neighbour's entry as
 /// it is passed on. Takes no memory.
-pub fn settle<P: RoutePolicy>(
-    book: &Book<P>,
-    seeds: &SeedIds,
+pub fn settle<P: RoutePolicy, V>(
+    at: &PrefixWorld<'_, P, V>,
     pool: &mut PathPool,
-    table: &Table,
     overlay: &mut Overlay,
     asn: Asn,
     choice: Choice,
 ) -> bool
-    requires choice { IsNameable seeds.now table.now overlay.old asn choice }
-    requires pool { CanChange pool.old seeds.now table.now overlay.old 1 }
+    requires choice { IsNameable at.now.seeds.now at.now.table.now overlay.old asn choice }
+    requires pool { CanChange pool.old at.now.seeds.now at.now.table.now overlay.old 1 }
     requires room { HasPlace overlay.old asn }
-    ensures named { routing_of pool.new table.now overlay.new asn ≡ named_by (λ n. P.meaning (policy_at book.now n)) (seeds_of pool.old seeds.now asn) (routing_of pool.old table.now overlay.old) asn choice }
-    ensures others { (n : ℕ) → n ≢ asn → routing_of pool.new table.now overlay.new n ≡ routing_of pool.old table.now overlay.old n }
-    ensures changed { IsTrue result ↔ (routing_of pool.new table.now overlay.new asn ≢ routing_of pool.old table.now overlay.old asn) }
+    ensures named { routing_of pool.new at.now.table.now overlay.new asn ≡ named_by (λ n. P.meaning (policy_at at.now.book.now n)) (seeds_of pool.old at.now.seeds.now asn) (routing_of pool.old at.now.table.now overlay.old) asn choice }
+    ensures others { (n : ℕ) → n ≢ asn → routing_of pool.new at.now.table.now overlay.new n ≡ routing_of pool.old at.now.table.now overlay.old n }
+    ensures changed { IsTrue result ↔ (routing_of pool.new at.now.table.now overlay.new asn ≢ routing_of pool.old at.now.table.now overlay.old asn) }
     ensures unchanged { result ≡ false → (pool.new ≡ pool.old) × (overlay.new ≡ overlay.old) }
     ensures put { IsTrue result → IsSome (change_at overlay.new asn) }
     ensures spent { Spends pool.old pool.new overlay.old overlay.new asn }
     ensures live { live_count pool.old < live_count pool.new → IsVia choice }
-    ensures next { (n : ℕ) → CanChange pool.old seeds.now table.now overlay.old (suc n) → AreSeedsLive pool.new seeds.now → CanChange pool.new seeds.now table.now overlay.new n }
-    ensures kept { GivesUpNothing overlay.old (routing_of pool.old table.now overlay.old) (routing_of pool.new table.now overlay.new) asn → Keeps pool.old pool.new seeds.now }
+    ensures next { (n : ℕ) → CanChange pool.old at.now.seeds.now at.now.table.now overlay.old (suc n) → AreSeedsLive pool.new at.now.seeds.now → CanChange pool.new at.now.seeds.now at.now.table.now overlay.new n }
+    ensures kept { GivesUpNothing overlay.old (routing_of pool.old at.now.table.now overlay.old) (routing_of pool.new at.now.table.now overlay.new) asn → Keeps pool.old pool.new at.now.seeds.now }
 {
     let chosen = ChoiceNear { choice, place: 0 };
-    settle_near(book, seeds, pool, table, overlay, asn, 0, chosen)
+    settle_near(at, pool, overlay, asn, 0, chosen)
 }

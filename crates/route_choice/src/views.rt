@@ -7,23 +7,22 @@ ghost use Rattle.stability_laws.specs.declared.entry.Entry.{Entry as AnEntry};
 ghost use Rattle.stability_laws.specs.Offers.{offer};
 ghost use Rattle.stability_laws.specs.World.{setting};
 ghost use Rattle.route_choice.specs.declared.held.Held.{Held as AHeld};
+ghost use Rattle.route_choice.specs.Tables.{prefix_of};
 ghost use Rattle.route_choice.specs.Routings.{entry_of};
 ghost use Rattle.route_choice.specs.Views.{goes_through};
 
-use crate::Held;
-use net_names::{Asn, Prefix, Rel};
+use crate::{Held, PrefixWorld};
+use net_names::{Asn, Rel};
 use path_pool::PathPool;
 use policy_laws::{OriginStates, RoutePolicy, View};
-use stability_laws::{Book, number_sent};
+use stability_laws::number_sent;
 
 /// The view of the offer that `giver`, which is `rel` to the receiver, makes of what it holds. There is
 /// none where it holds nothing, where its policy does not export the entry, and where the policy of the
 /// receiver does not accept the view. Whether the path goes through the receiver is not asked: then
 /// there is no offer. Walks along no path, and takes no memory.
 pub fn view_but_for_loops<P: RoutePolicy, V: OriginStates>(
-    book: &Book<P>,
-    states: &V,
-    prefix: Prefix,
+    at: &PrefixWorld<'_, P, V>,
     pool: &PathPool,
     giver: Asn,
     receiver: Asn,
@@ -32,10 +31,10 @@ pub fn view_but_for_loops<P: RoutePolicy, V: OriginStates>(
 ) -> Option<View>
     requires live { (h : AHeld) → given ≡ Some h → IsLive pool.now h.path.0 }
     ensures { (w : Topology) (f : ℕ → Option AnEntry) → relation w receiver giver ≡ Some rel → f giver ≡ option_map (entry_of pool.now) given
-        → option_map (λ o. o.view) (offer (setting P.meaning w book.now (V.state_of states.now prefix)) f giver receiver) ≡ (if goes_through (f giver) receiver then None else result) }
+        → option_map (λ o. o.view) (offer (setting P.meaning w at.now.book.now (V.state_of at.now.states.now (prefix_of at.now.table.now))) f giver receiver) ≡ (if goes_through (f giver) receiver then None else result) }
 {
     let held = given?;
-    let sender = book.policy(giver);
+    let sender = at.book.policy(giver);
     let to = rel.converse();
     if !sender.exports(held.class, held.otc, to) {
         return None;
@@ -44,10 +43,10 @@ pub fn view_but_for_loops<P: RoutePolicy, V: OriginStates>(
         rel,
         neighbour: giver,
         length: pool.length(held.path) + 1,
-        state: states.state(prefix, pool.last(held.path)),
+        state: at.states.state(at.table.prefix(), pool.last(held.path)),
         otc: number_sent(sender.marks(), giver, to, held.otc),
     };
-    if book.policy(receiver).accepts(&view) {
+    if at.book.policy(receiver).accepts(&view) {
         Some(view)
     } else {
         None
