@@ -31,18 +31,19 @@ pub(crate) enum Wanted {
     Longer(Held),
 }
 
-// The entry that the choice names.
+// The entry that the choice names. The place where the neighbour may stand is a hint.
 fn wanted_by<P: RoutePolicy, V>(
     at: &PrefixWorld<'_, P, V>,
     overlay: &Overlay,
     asn: Asn,
-    chosen: ChoiceNear,
+    choice: Choice,
+    from: usize,
 ) -> Wanted
-    ensures entry { (p : APool) → wanted_entry p asn result ≡ named_by (λ n. P.meaning (policy_at at.now.book.now n)) (seeds_of p at.now.seeds.now asn) (routing_of p at.now.table.now overlay.now) asn chosen.choice }
+    ensures entry { (p : APool) → wanted_entry p asn result ≡ named_by (λ n. P.meaning (policy_at at.now.book.now n)) (seeds_of p at.now.seeds.now asn) (routing_of p at.now.table.now overlay.now) asn choice }
     ensures live { (p : APool) → AreLive p at.now.table.now overlay.now → AreSeedsLive p at.now.seeds.now → IsWantedLive p result }
-    ensures via { IsLonger result → IsVia chosen.choice }
+    ensures via { IsLonger result → IsVia choice }
 {
-    match chosen.choice {
+    match choice {
         Choice::Nothing => Wanted::Nothing,
         Choice::Seed => match at.seeds.get(asn) {
             Some(seed) => Wanted::Ready(Held {
@@ -52,12 +53,7 @@ fn wanted_by<P: RoutePolicy, V>(
             }),
             None => Wanted::Nothing,
         },
-        Choice::Via { neighbour, rel } => match held_near(
-            at.table,
-            overlay,
-            neighbour,
-            chosen.place,
-        ) {
+        Choice::Via { neighbour, rel } => match held_near(at.table, overlay, neighbour, from) {
             Some(given) => {
                 let sender = at.book.policy(neighbour);
                 let receiver = at.book.policy(asn);
@@ -199,7 +195,7 @@ pub fn settle_near<P: RoutePolicy, V>(
     ensures next { (n : ℕ) → CanChange pool.old at.now.seeds.now at.now.table.now overlay.old (suc n) → AreSeedsLive pool.new at.now.seeds.now → CanChange pool.new at.now.seeds.now at.now.table.now overlay.new n }
     ensures kept { GivesUpNothing overlay.old (routing_of pool.old at.now.table.now overlay.old) (routing_of pool.new at.now.table.now overlay.new) asn → Keeps pool.old pool.new at.now.seeds.now }
 {
-    let wanted = wanted_by(at, overlay, asn, chosen);
+    let wanted = wanted_by(at, overlay, asn, chosen.choice, chosen.place);
     let have = held_near(at.table, overlay, asn, place);
     if is_held(pool, asn, &have, &wanted) {
         return false;

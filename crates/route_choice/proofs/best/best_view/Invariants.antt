@@ -11,5 +11,5 @@ use Rattle.route_choice.proofs.best.best_view.Given as goal
 abbrev pub invariant-loop-index : goal.invariant-loop-index
 invariant-loop-index g l =
     let meaning = g.P.RoutePolicy.meaning in
-    let here = setting meaning l.graph l.book (state_seen l.reads (g.V.OriginStates.state_of l.states (prefix_of l.table))) in
-    IsBestViewOf (meaning (policy_at l.book l.asn)) (λ n. offers_of l.part here (routing_of l.pool l.table l.overlay) l.asn n) (asns (take l.index l.neighbours)) l.best.view
+    let here = setting meaning l.at.graph.now l.at.book.now (state_seen l.reads (g.V.OriginStates.state_of l.at.states.now (prefix_of l.at.table.now))) in
+    IsBestViewOf (meaning (policy_at l.at.book.now l.fn.turn.asn)) (λ n. offers_of l.fn.turn.part here (routing_of l.pool l.at.table.now l.overlay) l.fn.turn.asn n) (asns (take l.index l.neighbours)) l.best.view

@@ -9,6 +9,6 @@ pub weigh-requires-clause-no_loops : goal.weigh-requires-clause-no_loops
 weigh-requires-clause-no_loops g c = λ never.
     let n = c.args.neighbour.now.asn in
     let r = c.args.neighbour.now.rel in
-    let looked : is_looked_at c.args.part r ≡ true = cc in
-    let exported : (g.P.RoutePolicy.meaning (policy_at c.args.book.now n)).exports c.in-Some.given.class c.in-Some.given.otc (converse r) ≡ true = cc in
-    c.requires.no_loops never n r (entry_of c.args.pool.now c.in-Some.given) c.requires.linked looked (ap (option_map (entry_of c.args.pool.now)) (sym c.in-Some.ensures)) exported
+    let looked : is_looked_at c.args.chooser.now.part r ≡ true = cc in
+    let exported : (g.P.RoutePolicy.meaning (policy_at c.args.at.now.book.now n)).exports c.in-Some.held.class c.in-Some.held.otc (converse r) ≡ true = cc in
+    c.requires.no_loops never n r (entry_of c.args.pool.now c.in-Some.held) c.requires.linked looked (ap (option_map (entry_of c.args.pool.now)) (sym c.in-Some.ensures)) exported

@@ -9,24 +9,24 @@ use Rattle.route_choice.proofs.choosing.evaluate_among.Goals as goal
 
 pub returns-in-Some-clause-choice : goal.returns-in-Some-clause-choice
 returns-in-Some-clause-choice g c =
-    let none : seeds_of c.args.pool.now c.args.seeds.now c.args.asn ≡ None = search rules in
-    let reads : c.reads_state-reads.result ≡ (g.P.RoutePolicy.meaning (policy_at c.args.book.now c.args.asn)).reads_state =
+    let none : seeds_of c.args.pool.now c.args.at.now.seeds.now c.args.turn.asn ≡ None = search rules in
+    let reads : c.reads_state-reads.result ≡ (g.P.RoutePolicy.meaning (policy_at c.args.at.now.book.now c.args.turn.asn)).reads_state =
     c.reads_state-reads.ensures ∙ ap (λ p. (g.P.RoutePolicy.meaning p).reads_state) c.policy.ensures in
-    choice_seen g.P.RoutePolicy.meaning c.args.graph.now c.args.book.now (routing_of c.args.pool.now c.args.table.now c.args.overlay.now) c.args.asn
-    (g.met.P.RoutePolicy.ignores_state (policy_at c.args.book.now c.args.asn)) c.args.part (g.V.OriginStates.state_of c.args.states.now (prefix_of c.args.table.now))
-    c.reads_state-reads.result reads (seeds_of c.args.pool.now c.args.seeds.now c.args.asn) none c.in-Some.view (rw c.in-Some.is at c.best_view-view.ensures)
+    choice_seen g.P.RoutePolicy.meaning c.args.at.now.graph.now c.args.at.now.book.now (routing_of c.args.pool.now c.args.at.now.table.now c.args.overlay.now) c.args.turn.asn
+    (g.met.P.RoutePolicy.ignores_state (policy_at c.args.at.now.book.now c.args.turn.asn)) c.args.turn.part (g.V.OriginStates.state_of c.args.at.now.states.now (prefix_of c.args.at.now.table.now))
+    c.reads_state-reads.result reads (seeds_of c.args.pool.now c.args.at.now.seeds.now c.args.turn.asn) none c.in-Some.view (rw c.in-Some.is at c.best_view-place.ensures)
 
 pub returns-in-None-clause-choice : goal.returns-in-None-clause-choice
 returns-in-None-clause-choice g c =
-    let none : seeds_of c.args.pool.now c.args.seeds.now c.args.asn ≡ None = search rules in
-    let reads : c.reads_state-reads.result ≡ (g.P.RoutePolicy.meaning (policy_at c.args.book.now c.args.asn)).reads_state =
+    let none : seeds_of c.args.pool.now c.args.at.now.seeds.now c.args.turn.asn ≡ None = search rules in
+    let reads : c.reads_state-reads.result ≡ (g.P.RoutePolicy.meaning (policy_at c.args.at.now.book.now c.args.turn.asn)).reads_state =
     c.reads_state-reads.ensures ∙ ap (λ p. (g.P.RoutePolicy.meaning p).reads_state) c.policy.ensures in (
       none,
-      nothing_seen g.P.RoutePolicy.meaning c.args.graph.now c.args.book.now (routing_of c.args.pool.now c.args.table.now c.args.overlay.now) c.args.asn
-          (g.met.P.RoutePolicy.ignores_state (policy_at c.args.book.now c.args.asn)) c.args.part (g.V.OriginStates.state_of c.args.states.now (prefix_of c.args.table.now))
-          c.reads_state-reads.result reads (rw c.in-None.is at c.best_view-view.ensures),
+      nothing_seen g.P.RoutePolicy.meaning c.args.at.now.graph.now c.args.at.now.book.now (routing_of c.args.pool.now c.args.at.now.table.now c.args.overlay.now) c.args.turn.asn
+          (g.met.P.RoutePolicy.ignores_state (policy_at c.args.at.now.book.now c.args.turn.asn)) c.args.turn.part (g.V.OriginStates.state_of c.args.at.now.states.now (prefix_of c.args.at.now.table.now))
+          c.reads_state-reads.result reads (rw c.in-None.is at c.best_view-place.ensures),
     )
 
 pub returns-then-is_some-clause-choice : goal.returns-then-is_some-clause-choice
 returns-then-is_some-clause-choice g c =
-    seed_there c.args.pool.now (seed_at c.args.seeds.now c.args.asn) (ap is_some (sym c.get.ensures) ∙ sym c.is_some.ensures ∙ c.if-is_some.true)
+    seed_there c.args.pool.now (seed_at c.args.at.now.seeds.now c.args.turn.asn) (ap is_some (sym c.get.ensures) ∙ sym c.is_some.ensures ∙ c.if-is_some.true)

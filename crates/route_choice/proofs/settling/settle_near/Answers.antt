@@ -4,19 +4,19 @@ use Rattle.route_choice.proofs.settling.settle_near.Goals as goal
 
 pub is_held-requires-clause-have : goal.is_held-requires-clause-have
 is_held-requires-clause-have g c = λ h e.
-    joined_live c.args.pool.now c.args.table.now c.args.overlay.now c.requires.pool.held c.args.asn h (sym c.held_near-have.ensures ∙ e)
+    joined_live c.args.pool.now c.args.at.now.table.now c.args.overlay.now c.requires.pool.held c.args.asn h (sym c.held_near-have.ensures ∙ e)
 
 pub is_held-requires-clause-wanted : goal.is_held-requires-clause-wanted
 is_held-requires-clause-wanted g c =
-    c.wanted_by-wanted.ensures.live c.args.pool.now (joined_live c.args.pool.now c.args.table.now c.args.overlay.now c.requires.pool.held) c.requires.pool.seeds_live
+    c.wanted_by-wanted.ensures.live c.args.pool.now (joined_live c.args.pool.now c.args.at.now.table.now c.args.overlay.now c.requires.pool.held) c.requires.pool.seeds_live
 
 pub replace-requires-clause-live : goal.replace-requires-clause-live
 replace-requires-clause-live g c =
-    c.wanted_by-wanted.ensures.live c.args.pool.now (joined_live c.args.pool.now c.args.table.now c.args.overlay.now c.requires.pool.held) c.requires.pool.seeds_live
+    c.wanted_by-wanted.ensures.live c.args.pool.now (joined_live c.args.pool.now c.args.at.now.table.now c.args.overlay.now c.requires.pool.held) c.requires.pool.seeds_live
 
 pub returns-clause-others : goal.returns-clause-others
 returns-clause-others g c =
-    spent_same c.args.pool.now c.replace.new.pool c.args.table.now c.args.overlay.now c.replace.new.overlay c.args.asn c.requires.pool.held c.replace.ensures.spent
+    spent_same c.args.pool.now c.replace.new.pool c.args.at.now.table.now c.args.overlay.now c.replace.new.overlay c.args.asn c.requires.pool.held c.replace.ensures.spent
 
 pub returns-clause-live : goal.returns-clause-live
 returns-clause-live g c = λ l. c.wanted_by-wanted.ensures.via (c.replace.ensures.live l)
