@@ -1,6 +1,7 @@
 //! Marks of AS numbers.
 
-ghost use Rattle.std.specs.Prelude.{◌≡◌, ℕ, ◌%◌, true, false};
+ghost use Rattle.std.specs.Prelude.{◌≡◌, ℕ, ◌||◌, ◌==◌, false};
+ghost use Rattle.route_choice.specs.Marks.{remainder_of};
 
 use net_names::Asn;
 
@@ -11,12 +12,12 @@ const MARKS: usize = 512;
 /// were added.
 #[derive(Clone, Copy)]
 pub(crate) struct Marks {
-    marks: [bool; 512],
+    marks: [bool; MARKS],
 }
 
 // The remainder of a number.
 fn remainder(asn: Asn) -> usize
-    ensures { result ≡ asn % 512 }
+    ensures { result ≡ remainder_of asn }
 {
     asn.get() as usize % MARKS
 }
@@ -30,7 +31,7 @@ impl Marks {
         ensures { (a : ℕ) → is_marked result a ≡ false }
     {
         Marks {
-            marks: [false; 512],
+            marks: [false; MARKS],
         }
     }
 
@@ -42,10 +43,9 @@ impl Marks {
         self.marks[remainder(asn)]
     }
 
-    /// Marks the remainder of a number.
+    /// Marks the remainder of a number, and no other.
     pub(crate) fn add(&mut self, asn: Asn)
-        ensures this { is_marked self.new asn ≡ true }
-        ensures others { (a : ℕ) → is_marked self.new a ≡ false → is_marked self.old a ≡ false }
+        ensures { (a : ℕ) → is_marked self.new a ≡ (is_marked self.old a || (remainder_of a == remainder_of asn)) }
     {
         self.marks[remainder(asn)] = true;
     }
