@@ -1,11 +1,10 @@
 //! What is right at an AS, policies by AS, and what goes along a link, worked by hand.
 use super::worlds::{ACROSS, DOWN, graph_of, main_prefix, number, path_of};
-use as_graph::Graph;
 use net_names::{Asn, Class, Path, Prefix, Rel};
 use policy_kinds::Kind;
 use policy_laws::NoStates;
 use stability_laws::{
-    Book, Entry, Routing, Seed, Seeds, Wrong, any_order_settles, carried, check_at, class_from,
+    Book, Entry, Routing, Seed, Seeds, World, Wrong, any_order_settles, carried, check_at, class_from,
     customers_decide, nothing_up, number_sent, offer_follows, offer_names, offered_view,
     one_answer, one_family, one_stable_routing, right_by_offers, right_follows,
 };
@@ -44,15 +43,14 @@ fn seed_at_four(rt: &impl Abort, alloc: Global) -> Result<Seeds, Fail> {
 // What is told of each of these ASes, where all have the plain policy.
 fn expect_each(
     rt: &impl Abort,
-    graph: &Graph,
-    book: &Book<Kind>,
+    world: &World<'_, Kind, NoStates>,
     prefix: Prefix,
     seeds: &Seeds,
     routing: &Routing,
     told: &[(Asn, Result<(), Wrong>)],
 ) {
     for (asn, wrong) in told {
-        let found = check_at(graph, book, &NoStates, prefix, seeds, routing, *asn);
+        let found = check_at(world, prefix, seeds, routing, *asn);
         assert_eq!(rt; found, *wrong);
     }
 }
@@ -77,7 +75,12 @@ fn expect_told(
     let seeds = seed_at_four(rt, alloc)?;
     let routing = routing_of(rt, alloc, entries)?;
     let book = Book::new(alloc, Kind::Plain);
-    expect_each(rt, &graph, &book, prefix, &seeds, &routing, told);
+    let world = World {
+        graph: &graph,
+        book: &book,
+        states: &NoStates,
+    };
+    expect_each(rt, &world, prefix, &seeds, &routing, told);
     Ok(())
 }
 

@@ -18,7 +18,7 @@ use net_names::{Asn, Path};
 use policy_kinds::Kind;
 use policy_laws::NoStates;
 use route_choice::Steps;
-use stability_laws::{Book, SeedPlan, plans_are_sound};
+use stability_laws::{Book, SeedPlan, World, plans_are_sound};
 use std::alloc::Global;
 use std::marker::Brand;
 use std::process::Abort;
@@ -81,9 +81,39 @@ pub(super) fn rounds_of<L: Ledger>(
     let ranks = ranks_of(alloc, graph)?;
     let book = Book::new(alloc, Kind::Plain);
     let mut steps = Steps::<L>::new(blank);
-    Ok(Rounds::build(
-        alloc, graph, &ranks, &book, &NoStates, plan, rounds, &mut steps,
-    )?)
+    let world = World {
+        graph,
+        book: &book,
+        states: &NoStates,
+    };
+    Ok(Rounds::build(alloc, &world, &ranks, plan, rounds, &mut steps)?)
+}
+
+// The same rounds, made anew in a pool of their own.
+fn tidied<L: Ledger>(
+    rt: &impl Abort,
+    alloc: Global,
+    graph: &Graph,
+    leakers: &[(u32, u32)],
+    blank: Blank,
+) -> Result<Rounds, Fail>
+    requires name { blank.name ≡ L.name }
+    requires parts { blank.parts ≡ L.parts }
+    requires some { 0 < L.parts }
+{
+    let plan = plan_of(rt, alloc, leakers)?;
+    plans_are_sound(&plan);
+    let ranks = ranks_of(alloc, graph)?;
+    let book = Book::new(alloc, Kind::Plain);
+    let mut steps = Steps::<L>::new(blank);
+    let world = World {
+        graph,
+        book: &book,
+        states: &NoStates,
+    };
+    let mut rounds = Rounds::build(alloc, &world, &ranks, plan, 4, &mut steps)?;
+    rounds.tidy(alloc, &world, &ranks, &mut steps)?;
+    Ok(rounds)
 }
 
 #[test]
@@ -97,6 +127,21 @@ fn a_provider_route_leaks_in_the_rounds_of_its_leaker(rt: HostRuntime) -> Result
         expect_round(&rt, rt.alloc(), &graph, &rounds, round, expected)?;
     }
     assert!(rt; rounds.round(0).is_none() && rounds.round(5).is_none());
+    assert!(rt; rounds.pool().live() <= 17);
+    assert_eq!(rt; rounds.seed_plan().leaker_at(4, 0), Asn::new(3));
+    Ok(())
+}
+
+#[test]
+fn tidied_rounds_hold_what_they_held(rt: HostRuntime) -> Result<(), Fail> {
+    let links = [(1, 3, DOWN), (2, 3, DOWN), (1, 5, DOWN), (1, 2, ACROSS)];
+    let graph = graph_of(&rt, rt.alloc(), &links)?;
+    let rounds = tidied::<Brand>(&rt, rt.alloc(), &graph, &[(2, 3), (4, 3)], Blank::new(1))?;
+    let plain = b"1 customer 1 5\n2 peer 2 1 5\n3 provider 3 1 5\n5 origin 5\n".as_slice();
+    let leaked = b"1 customer 1 5\n2 customer 2 3 1 5\n3 origin 3 1 5\n5 origin 5\n".as_slice();
+    for (round, expected) in [(1, plain), (2, leaked), (3, plain), (4, leaked)] {
+        expect_round(&rt, rt.alloc(), &graph, &rounds, round, expected)?;
+    }
     assert!(rt; rounds.pool().live() <= 17);
     assert_eq!(rt; rounds.seed_plan().leaker_at(4, 0), Asn::new(3));
     Ok(())

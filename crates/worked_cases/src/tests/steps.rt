@@ -12,8 +12,8 @@ use path_pool::PathPool;
 use policy_kinds::Kind;
 use policy_laws::NoStates;
 use route_choice::{
-    Choice, Held, Overlay, Part, RoundTables, SeedHeld, SeedIds, Steps, Table, evaluate, settle,
-    visit,
+    Choice, Held, Overlay, Part, PrefixWorld, RoundTables, SeedHeld, SeedIds, Steps, Table, Turn,
+    evaluate, settle, visit,
 };
 use stability_laws::Book;
 use std::alloc::Global;
@@ -81,20 +81,20 @@ fn step<L: Ledger>(
     if desk.overlay.get(asn).is_some() {
         return;
     }
-    let _ = visit(
+    let at = PrefixWorld {
         graph,
         book,
-        &NoStates,
-        &desk.seeds,
-        &mut desk.pool,
-        &desk.table,
-        &mut desk.overlay,
+        states: &NoStates,
+        seeds: &desk.seeds,
+        table: &desk.table,
+    };
+    let turn = Turn {
         asn,
-        graph.place_near(asn, 0),
-        true,
+        place: graph.place_near(asn, 0),
+        may_loop: true,
         part,
-        steps,
-    );
+    };
+    let _ = visit(&at, &mut desk.pool, &mut desk.overlay, turn, steps);
 }
 
 // Makes a step at each AS that has no change yet.
@@ -173,35 +173,18 @@ fn choices<L: Ledger>(
     let mut desk = set_up(alloc)?;
     let book = Book::new(alloc, Kind::Plain);
     let mut steps = Steps::<L>::new(blank);
-    let of_four = evaluate(
+    let at = PrefixWorld {
         graph,
-        &book,
-        &NoStates,
-        &desk.seeds,
-        &desk.pool,
-        &desk.table,
-        &desk.overlay,
-        four,
-        Part::Up,
-        &mut steps,
-    );
-    let of_two = evaluate(
-        graph,
-        &book,
-        &NoStates,
-        &desk.seeds,
-        &desk.pool,
-        &desk.table,
-        &desk.overlay,
-        two,
-        Part::Whole,
-        &mut steps,
-    );
+        book: &book,
+        states: &NoStates,
+        seeds: &desk.seeds,
+        table: &desk.table,
+    };
+    let of_four = evaluate(&at, &desk.pool, &desk.overlay, four, Part::Up, &mut steps);
+    let of_two = evaluate(&at, &desk.pool, &desk.overlay, two, Part::Whole, &mut steps);
     let changed = settle(
-        &book,
-        &desk.seeds,
+        &at,
         &mut desk.pool,
-        &desk.table,
         &mut desk.overlay,
         two,
         Choice::Nothing,

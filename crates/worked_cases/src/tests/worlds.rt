@@ -15,7 +15,7 @@ use path_pool::PathPool;
 use policy_laws::{NoStates, RoutePolicy, View};
 use rank_order::Ranks;
 use route_choice::{SeedHeld, SeedIds, Steps, Table};
-use stability_laws::Book;
+use stability_laws::{Book, World};
 use std::alloc::Global;
 use std::process::Abort;
 use std::sync::ledger::{Blank, Ledger};
@@ -183,9 +183,12 @@ fn stable_text<P: RoutePolicy, L: Ledger>(
 {
     let Announcement { mut pool, seeds } = announce(alloc, origin, 1 + 2 * graph.as_count())?;
     let mut steps = Steps::<L>::new(blank);
-    let table = propagate(
-        alloc, graph, ranks, book, &NoStates, prefix, &seeds, &mut pool, &mut steps,
-    )?;
+    let world = World {
+        graph,
+        book,
+        states: &NoStates,
+    };
+    let table = propagate(alloc, &world, ranks, prefix, &seeds, &mut pool, &mut steps)?;
     routes_text(alloc, graph, &pool, &table)
 }
 
