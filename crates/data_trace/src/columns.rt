@@ -13,8 +13,9 @@ ghost use Rattle.as_graph.specs.declared.build.TheConstants.{MOST_ASES};
 use crate::Hop;
 use crate::forwarding::Forwarding;
 use crate::hints::Hints;
-use crate::packed::PackedHop;
+use crate::packed::{PackedHop, PackedMark};
 use crate::places::{Group, PlaceHop, Standing};
+use crate::sums::Sums;
 use as_graph::{Graph, Neighbour, links_are_sound};
 use as_places::AsPlaces;
 use net_names::{Addr, Asn, NoMemory, Rel};
@@ -23,6 +24,16 @@ use policy_laws::Labelled;
 use route_choice::RoundTables;
 use stability_laws::{Book, SeedPlan};
 use std::alloc::Global;
+
+/// Of each place its next hop, what is known of its end, and its groups; and the sums, which count the
+/// places by end and group.
+#[derive(Drop)]
+pub struct Columns {
+    pub hops: Vec<PackedHop>,
+    pub marks: Vec<PackedMark>,
+    pub groups: Vec<Group>,
+    pub sums: Sums,
+}
 
 /// The ASes of the graph, each at its place.
 pub fn ases_of(alloc: Global, graph: &Graph) -> Result<AsPlaces, NoMemory>

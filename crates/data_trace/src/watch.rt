@@ -20,7 +20,7 @@ ghost use Rattle.data_trace.specs.Kept.{KeepsHops, KeepsGroups};
 ghost use Rattle.data_trace.specs.Comes.{Comes};
 
 use crate::blank::Blank;
-use crate::columns::{is_here, next_hops};
+use crate::columns::{Columns, is_here, next_hops};
 use crate::counting::{count_all, end_told};
 use crate::growing::reserve_all;
 use crate::index::WatchIndex;
@@ -56,26 +56,23 @@ pub struct Watch {
     addr: Addr,
     ases: AsPlaces,
     spare: usize,
-    hops: Vec<PackedHop>,
-    marks: Vec<PackedMark>,
-    groups: Vec<Group>,
-    sums: Sums,
+    columns: Columns,
     has_lists: bool,
     lists: Lists,
     ghost few: { length ases.ases + spare < 4294967292 },
     ghost apart: { IsDistinct nat_eq ases.ases } by { Prim.hlevel props },
-    ghost hops_len: { length hops.items ≡ length ases.ases },
-    ghost within: { IsWithin hops.items },
-    ghost ends: { AreEnds (next_of hops.items) (length hops.items) marks.items },
-    ghost counted: { AreCounted sums ases.ases marks.items groups.items },
-    ghost absent: { (x : ℕ) → here_at groups.items x ≡ false → hop_at hops.items x ≡ APlaceHop.NoRoute },
-    ghost kept: { has_lists ≡ true → AreKept hops.items (length ases.ases + spare) lists },
+    ghost hops_len: { length columns.hops.items ≡ length ases.ases },
+    ghost within: { IsWithin columns.hops.items },
+    ghost ends: { AreEnds (next_of columns.hops.items) (length columns.hops.items) columns.marks.items },
+    ghost counted: { AreCounted columns.sums ases.ases columns.marks.items columns.groups.items },
+    ghost absent: { (x : ℕ) → here_at columns.groups.items x ≡ false → hop_at columns.hops.items x ≡ APlaceHop.NoRoute },
+    ghost kept: { has_lists ≡ true → AreKept columns.hops.items (length ases.ases + spare) lists },
     ghost ready: { 0 < spare → has_lists ≡ true },
     ghost ases_room: { spare ≤ ases.spare },
-    ghost hops_room: { length ases.ases + spare ≤ vec_capacity hops },
-    ghost marks_room: { length ases.ases + spare ≤ vec_capacity marks },
-    ghost groups_room: { length ases.ases + spare ≤ vec_capacity groups },
-    ghost sums_room: { has_lists ≡ true → length ases.ases + spare ≤ room_of sums },
+    ghost hops_room: { length ases.ases + spare ≤ vec_capacity columns.hops },
+    ghost marks_room: { length ases.ases + spare ≤ vec_capacity columns.marks },
+    ghost groups_room: { length ases.ases + spare ≤ vec_capacity columns.groups },
+    ghost sums_room: { has_lists ≡ true → length ases.ases + spare ≤ room_of columns.sums },
 }
 
 // Where the row of the first of these ASes stands. It is a hint.
@@ -155,22 +152,19 @@ impl Watch {
         requires within { IsWithin hops.items }
         requires here { (x : ℕ) → x < length ases.ases → here_at groups.items x ≡ true }
         ensures ases { IfOk result (λ w. w.ases.ases ≡ ases.ases) }
-        ensures hops { IfOk result (λ w. w.hops.items ≡ hops.items) }
-        ensures groups { IfOk result (λ w. w.groups.items ≡ groups.items) }
+        ensures hops { IfOk result (λ w. w.columns.hops.items ≡ hops.items) }
+        ensures groups { IfOk result (λ w. w.columns.groups.items ≡ groups.items) }
         ensures addr { IfOk result (λ w. w.addr ≡ addr) }
     {
         match Blank::of(alloc, ases.as_slice()) {
             Ok(blank) => {
-                let mut watch = Watch::filled(
-                    alloc,
-                    addr,
-                    ases,
+                let columns = Columns {
                     hops,
-                    blank.marks,
+                    marks: blank.marks,
                     groups,
-                    blank.sums,
-                    blank.path,
-                );
+                    sums: blank.sums,
+                };
+                let mut watch = Watch::filled(alloc, addr, ases, columns, blank.path);
                 watch.trim()?;
                 Ok(watch)
             }
@@ -183,45 +177,43 @@ impl Watch {
         alloc: Global,
         addr: Addr,
         ases: AsPlaces,
-        hops: Vec<PackedHop>,
-        mut marks: Vec<PackedMark>,
-        groups: Vec<Group>,
-        mut sums: Sums,
+        mut columns: Columns,
         mut path: Vec<u32>,
     ) -> Watch
         requires few { length ases.ases < 4294967292 }
         requires apart { IsDistinct nat_eq ases.ases }
-        requires len { length hops.items ≡ length ases.ases }
-        requires within { IsWithin hops.items }
-        requires here { (x : ℕ) → x < length ases.ases → here_at groups.items x ≡ true }
-        requires unknown { (x : ℕ) → mark_of marks.items x ≡ AMark.Unknown }
-        requires marks_len { length marks.items ≡ length ases.ases }
-        requires groups_len { length groups.items ≡ length ases.ases }
-        requires none { (p : AnEnd → Bool → ℕ → Bool) → total p sums ≡ 0 }
-        requires sums_room { length ases.ases ≤ room_of sums }
+        requires len { length columns.hops.items ≡ length ases.ases }
+        requires within { IsWithin columns.hops.items }
+        requires here { (x : ℕ) → x < length ases.ases → here_at columns.groups.items x ≡ true }
+        requires unknown { (x : ℕ) → mark_of columns.marks.items x ≡ AMark.Unknown }
+        requires marks_len { length columns.marks.items ≡ length ases.ases }
+        requires groups_len { length columns.groups.items ≡ length ases.ases }
+        requires none { (p : AnEnd → Bool → ℕ → Bool) → total p columns.sums ≡ 0 }
+        requires sums_room { length ases.ases ≤ room_of columns.sums }
         requires path_room { length ases.ases ≤ vec_capacity path }
         ensures ases { result.ases.ases ≡ ases.ases }
-        ensures hops { result.hops.items ≡ hops.items }
-        ensures groups { result.groups.items ≡ groups.items }
+        ensures hops { result.columns.hops.items ≡ columns.hops.items }
+        ensures groups { result.columns.groups.items ≡ columns.groups.items }
         ensures addr { result.addr ≡ addr }
         ensures lists { result.has_lists ≡ false }
     {
-        find_all(hops.as_slice(), marks.as_mut_slice(), &mut path);
+        find_all(
+            columns.hops.as_slice(),
+            columns.marks.as_mut_slice(),
+            &mut path,
+        );
         count_all(
-            &mut sums,
+            &mut columns.sums,
             ases.as_slice(),
-            marks.as_slice(),
-            groups.as_slice(),
+            columns.marks.as_slice(),
+            columns.groups.as_slice(),
         );
         Watch {
             alloc,
             addr,
             ases,
             spare: 0,
-            hops,
-            marks,
-            groups,
-            sums,
+            columns,
             has_lists: false,
             lists: Lists::none(alloc),
         }
@@ -232,9 +224,9 @@ impl Watch {
         requires { self.old.has_lists ≡ false }
         ensures { SameColumns self.old self.new }
     {
-        match self.sums.copied(self.alloc) {
+        match self.columns.sums.copied(self.alloc) {
             Ok(sums) => {
-                self.sums = sums;
+                self.columns.sums = sums;
                 Ok(())
             }
             Err(_) => Err(NoMemory),
@@ -247,19 +239,13 @@ impl Watch {
         ensures addr { result.addr ≡ addr }
     {
         let ases = AsPlaces::new(alloc);
-        let marks = Vec::new(alloc);
-        let groups = Vec::new(alloc);
-        let sums = Sums::none(alloc);
-        Watch::filled(
-            alloc,
-            addr,
-            ases,
-            Vec::new(alloc),
-            marks,
-            groups,
-            sums,
-            Vec::new(alloc),
-        )
+        let columns = Columns {
+            hops: Vec::new(alloc),
+            marks: Vec::new(alloc),
+            groups: Vec::new(alloc),
+            sums: Sums::none(alloc),
+        };
+        Watch::filled(alloc, addr, ases, columns, Vec::new(alloc))
     }
 
     // Makes the lists of all places, and room in the sums for a cell for each place, unless they are there.
@@ -270,11 +256,11 @@ impl Watch {
         if self.has_lists {
             return Ok(());
         }
-        match self.sums.reserve(self.ases.len() + self.spare) {
+        match self.columns.sums.reserve(self.ases.len() + self.spare) {
             Ok(()) => {}
             Err(_) => return Err(NoMemory),
         }
-        match Lists::of(self.alloc, self.hops.as_slice()) {
+        match Lists::of(self.alloc, self.columns.hops.as_slice()) {
             Ok(lists) => {
                 self.lists = lists;
                 self.has_lists = true;
@@ -291,15 +277,7 @@ impl Watch {
         ensures same { SameColumns self.old self.new }
         ensures spare { OnOk result (self.new.spare ≡ more) }
     {
-        match reserve_all(
-            &mut self.ases,
-            &mut self.hops,
-            &mut self.marks,
-            &mut self.groups,
-            &mut self.sums,
-            &mut self.lists,
-            more,
-        ) {
+        match reserve_all(&mut self.ases, &mut self.columns, &mut self.lists, more) {
             Ok(()) => {
                 self.spare = more;
                 Ok(())
@@ -333,21 +311,21 @@ impl Watch {
         ensures ases { self.new.ases.ases ≡ self.old.ases.ases ++ asn ∷ [] }
         ensures spare { self.new.spare + 1 ≡ self.old.spare }
         ensures addr { self.new.addr ≡ self.old.addr }
-        ensures hops { self.new.hops.items ≡ self.old.hops.items ++ APlaceHop.NoRoute ∷ [] }
-        ensures groups { self.new.groups.items ≡ self.old.groups.items ++ gone ∷ [] }
+        ensures hops { self.new.columns.hops.items ≡ self.old.columns.hops.items ++ APlaceHop.NoRoute ∷ [] }
+        ensures groups { self.new.columns.groups.items ≡ self.old.columns.groups.items ++ gone ∷ [] }
         ensures lists { self.new.has_lists ≡ self.old.has_lists }
     {
         self.ases.add(asn);
-        put_last(&mut self.hops, PackedHop::of(PlaceHop::NoRoute));
+        put_last(&mut self.columns.hops, PackedHop::of(PlaceHop::NoRoute));
         put_last(
-            &mut self.marks,
+            &mut self.columns.marks,
             PackedMark::of(Mark::Known(PlaceEnd::NoRoute)),
         );
         let gone = Group {
             standing: Standing::Gone,
             label: 0,
         };
-        put_last(&mut self.groups, gone);
+        put_last(&mut self.columns.groups, gone);
         self.lists.add();
         self.spare -= 1;
     }
@@ -358,8 +336,8 @@ impl Watch {
         requires { as_count graph.now ≤ self.old.spare }
         ensures comes { Comes graph.now coming.now self.old.ases.ases self.new.ases.ases }
         ensures addr { self.new.addr ≡ self.old.addr }
-        ensures hops { (x : ℕ) → hop_at self.new.hops.items x ≡ hop_at self.old.hops.items x }
-        ensures groups { (x : ℕ) → group_at self.new.groups.items x ≡ group_at self.old.groups.items x }
+        ensures hops { (x : ℕ) → hop_at self.new.columns.hops.items x ≡ hop_at self.old.columns.hops.items x }
+        ensures groups { (x : ℕ) → group_at self.new.columns.groups.items x ≡ group_at self.old.columns.groups.items x }
         ensures lists { self.new.has_lists ≡ self.old.has_lists }
     {
         let _all = graph.ases();
@@ -411,10 +389,10 @@ impl Watch {
         let near = row_of_first(graph, regrouped);
         self.come(graph, regrouped, near);
         regroup(
-            &mut self.sums,
+            &mut self.columns.sums,
             &self.ases,
-            self.marks.as_slice(),
-            self.groups.as_mut_slice(),
+            self.columns.marks.as_slice(),
+            self.columns.groups.as_mut_slice(),
             graph,
             book,
             regrouped,
@@ -429,11 +407,11 @@ impl Watch {
         };
         renew_all(
             &source,
-            &mut self.sums,
+            &mut self.columns.sums,
             &self.ases,
-            &mut self.hops,
-            &mut self.marks,
-            self.groups.as_slice(),
+            &mut self.columns.hops,
+            &mut self.columns.marks,
+            self.columns.groups.as_slice(),
             &mut self.lists,
             changed,
             regrouped,
@@ -447,13 +425,13 @@ impl Watch {
         ensures none { IfNone result ((r : Row) → IsRowOf (rows_of self.now) asn r → ⊥) }
     {
         let place = self.ases.place(asn)?;
-        let group = self.groups.as_slice()[place];
+        let group = self.columns.groups.as_slice()[place];
         if !is_here(group.standing) {
             return None;
         }
         end_told(
             self.ases.as_slice(),
-            mark_in(self.marks.as_slice(), place as u32),
+            mark_in(self.columns.marks.as_slice(), place as u32),
         )
     }
 
@@ -461,7 +439,7 @@ impl Watch {
     pub fn ases(&self, which: Which) -> u64
         ensures { result ≡ size_of (rows_of self.now) which }
     {
-        self.sums.size(which)
+        self.columns.sums.size(which)
     }
 
     /// How many ASes of the group have a trace with this end. It takes no memory, and no time by the
@@ -469,6 +447,6 @@ impl Watch {
     pub fn count(&self, which: Which, end: End) -> u64
         ensures { result ≡ count_of (rows_of self.now) which end }
     {
-        self.sums.count(which, end)
+        self.columns.sums.count(which, end)
     }
 }

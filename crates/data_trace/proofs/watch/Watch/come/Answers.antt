@@ -61,6 +61,6 @@ coming-preserved c =
       spare = omega (arith, ap length keys, length_push c.coming.self.ases.ases (get_or xs i 0), c.add_place.ensures.spare, c.coming.invariant.spare);
       lists = c.add_place.ensures.lists ∙ c.coming.invariant.lists;
       addr = c.add_place.ensures.addr ∙ c.coming.invariant.addr;
-      hops = λ x. hop_added c.coming.self.hops.items c.add_place.new.self.hops.items c.add_place.ensures.hops x ∙ c.coming.invariant.hops x;
-      groups = λ x. group_added c.coming.self.groups.items c.add_place.new.self.groups.items c.add_place.ensures.groups x ∙ c.coming.invariant.groups x;
+      hops = λ x. hop_added c.coming.self.columns.hops.items c.add_place.new.self.columns.hops.items c.add_place.ensures.hops x ∙ c.coming.invariant.hops x;
+      groups = λ x. group_added c.coming.self.columns.groups.items c.add_place.new.self.columns.groups.items c.add_place.ensures.groups x ∙ c.coming.invariant.groups x;
     }

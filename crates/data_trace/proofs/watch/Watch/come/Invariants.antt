@@ -10,6 +10,6 @@ invariant-coming l = record {
   spare : length l.self.ases.ases + l.self.spare ≡ length l.fn.self.ases.ases + l.fn.self.spare;
   lists : l.self.has_lists ≡ l.fn.self.has_lists;
   addr : l.self.addr ≡ l.fn.self.addr;
-  hops : (x : ℕ) → hop_at l.self.hops.items x ≡ hop_at l.fn.self.hops.items x;
-  groups : (x : ℕ) → group_at l.self.groups.items x ≡ group_at l.fn.self.groups.items x;
+  hops : (x : ℕ) → hop_at l.self.columns.hops.items x ≡ hop_at l.fn.self.columns.hops.items x;
+  groups : (x : ℕ) → group_at l.self.columns.groups.items x ≡ group_at l.fn.self.columns.groups.items x;
 }

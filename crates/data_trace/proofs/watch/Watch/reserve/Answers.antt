@@ -15,8 +15,8 @@ pub invariant_of-self-in-Err-clause-ends : goal.invariant_of-self-in-Err-clause-
 invariant_of-self-in-Err-clause-ends c =
     let w = c.args.self.now in
     let r = c.reserve_all.new in
-    subst (λ (t : List PlaceHop). AreEnds (next_of t) (length t) r.marks.items) (sym c.reserve_all.ensures.hops)
-    (subst (λ (t : List Mark). AreEnds (next_of w.hops.items) (length w.hops.items) t) (sym c.reserve_all.ensures.marks) w.ends)
+    subst (λ (t : List PlaceHop). AreEnds (next_of t) (length t) r.columns.marks.items) (sym c.reserve_all.ensures.hops)
+    (subst (λ (t : List Mark). AreEnds (next_of w.columns.hops.items) (length w.columns.hops.items) t) (sym c.reserve_all.ensures.marks) w.ends)
 
 pub invariant_of-self-in-Err-clause-absent : goal.invariant_of-self-in-Err-clause-absent
 invariant_of-self-in-Err-clause-absent c = λ x f.
@@ -27,7 +27,7 @@ pub invariant_of-self-in-Err-clause-counted : goal.invariant_of-self-in-Err-clau
 invariant_of-self-in-Err-clause-counted c =
     let w = c.args.self.now in
     let r = c.reserve_all.new in
-    counted_same w.sums r.sums w.ases.ases r.ases.ases w.marks.items r.marks.items w.groups.items r.groups.items c.reserve_all.ensures.ases c.reserve_all.ensures.marks c.reserve_all.ensures.groups c.reserve_all.ensures.sums w.counted
+    counted_same w.columns.sums r.columns.sums w.ases.ases r.ases.ases w.columns.marks.items r.columns.marks.items w.columns.groups.items r.columns.groups.items c.reserve_all.ensures.ases c.reserve_all.ensures.marks c.reserve_all.ensures.groups c.reserve_all.ensures.sums w.counted
 
 pub invariant_of-self-in-Err-clause-kept : goal.invariant_of-self-in-Err-clause-kept
 invariant_of-self-in-Err-clause-kept c = λ e.
@@ -37,4 +37,4 @@ invariant_of-self-in-Err-clause-kept c = λ e.
     let n = length w.ases.ases + w.spare in
     let m = length r.ases.ases + w.spare in
     let room : HasRoom m r.lists = subst (λ k. HasRoom k r.lists) (ap (λ (ks : List ℕ). length ks + w.spare) (sym s.ases)) (s.lists_kept n (w.kept e).room) in
-    kept_same w.hops.items r.hops.items w.lists r.lists n m s.hops s.first s.before s.after room (w.kept e)
+    kept_same w.columns.hops.items r.columns.hops.items w.lists r.lists n m s.hops s.first s.before s.after room (w.kept e)

@@ -25,15 +25,15 @@ renew_all-requires-clause-listed g c =
     let label : ℕ → ℕ = λ a. g.P.Labelled.label_of (policy_at c.args.book.now a) in
     let next : ℕ → Hop = next_hop c.args.plan.now (round_routing c.args.pool.now c.args.tables.now) w.addr in
     let inside : (a b : ℕ) → next a ≡ hop.To b → has graph b ≡ true = next_inside graph c.args.plan.now (round_routing c.args.pool.now c.args.tables.now) w.addr c.requires.inside in
-    let groups : (x : ℕ) → group_at c.as_mut_slice.result.now x ≡ group_at w.groups.items x = λ x. ap (λ (gs : List Group). group_at gs x) c.as_mut_slice.ensures.value ∙ c.come.ensures.groups x in
-    all_there graph next label c.args.changed.now c.args.regrouped.now inside w.ases.ases s.ases.ases w.hops.items s.hops.items w.marks.items w.groups.items c.as_mut_slice.result.now c.regroup.new.groups
+    let groups : (x : ℕ) → group_at c.as_mut_slice.result.now x ≡ group_at w.columns.groups.items x = λ x. ap (λ (gs : List Group). group_at gs x) c.as_mut_slice.ensures.value ∙ c.come.ensures.groups x in
+    all_there graph next label c.args.changed.now c.args.regrouped.now inside w.ases.ases s.ases.ases w.columns.hops.items s.columns.hops.items w.columns.marks.items w.columns.groups.items c.as_mut_slice.result.now c.regroup.new.groups
     c.come.ensures.comes w.apart w.hops_len w.within w.absent c.requires.hops c.requires.groups c.come.ensures.hops groups
 
 pub renew_all-requires-clause-lists : goal.renew_all-requires-clause-lists
 renew_all-requires-clause-lists g c =
     let s = c.come.new.self in
     let there : s.has_lists ≡ true = c.come.ensures.lists ∙ c.args.self.now.ready (omega (arith, c.requires.spare, c.as_count.ensures.value, c.if-as_count-eq0.false)) in
-    kept_less s.hops.items (length s.ases.ases + s.spare) (length s.ases.ases) s.lists (s.kept there) (omega arith)
+    kept_less s.columns.hops.items (length s.ases.ases + s.spare) (length s.ases.ases) s.lists (s.kept there) (omega arith)
 
 pub renew_all-requires-clause-others : goal.renew_all-requires-clause-others
 renew_all-requires-clause-others g c =
@@ -43,9 +43,9 @@ renew_all-requires-clause-others g c =
     let label : ℕ → ℕ = λ a. g.P.Labelled.label_of (policy_at c.args.book.now a) in
     let next : ℕ → Hop = next_hop c.args.plan.now (round_routing c.args.pool.now c.args.tables.now) w.addr in
     let inside : (a b : ℕ) → next a ≡ hop.To b → has graph b ≡ true = next_inside graph c.args.plan.now (round_routing c.args.pool.now c.args.tables.now) w.addr c.requires.inside in
-    let groups : (x : ℕ) → group_at c.as_mut_slice.result.now x ≡ group_at w.groups.items x = λ x. ap (λ (gs : List Group). group_at gs x) c.as_mut_slice.ensures.value ∙ c.come.ensures.groups x in
+    let groups : (x : ℕ) → group_at c.as_mut_slice.result.now x ≡ group_at w.columns.groups.items x = λ x. ap (λ (gs : List Group). group_at gs x) c.as_mut_slice.ensures.value ∙ c.come.ensures.groups x in
     let addr : w.addr ≡ s.addr = sym c.come.ensures.addr in
-    λ x l o r. hops_right graph next label c.args.changed.now c.args.regrouped.now inside w.ases.ases s.ases.ases w.hops.items s.hops.items w.marks.items w.groups.items c.as_mut_slice.result.now c.regroup.new.groups
+    λ x l o r. hops_right graph next label c.args.changed.now c.args.regrouped.now inside w.ases.ases s.ases.ases w.columns.hops.items s.columns.hops.items w.columns.marks.items w.columns.groups.items c.as_mut_slice.result.now c.regroup.new.groups
     c.come.ensures.comes w.apart w.hops_len w.within w.absent c.requires.hops c.requires.groups c.come.ensures.hops groups x l o r
     ∙ ap (λ (d : AddrValue). fresh graph (next_hop c.args.plan.now (round_routing c.args.pool.now c.args.tables.now) d) (name_at s.ases.ases x)) addr
 
@@ -57,11 +57,11 @@ invariant_of-self-clause-absent g c = λ x f.
     let label : ℕ → ℕ = λ a. g.P.Labelled.label_of (policy_at c.args.book.now a) in
     let next : ℕ → Hop = next_hop c.args.plan.now (round_routing c.args.pool.now c.args.tables.now) w.addr in
     let inside : (a b : ℕ) → next a ≡ hop.To b → has graph b ≡ true = next_inside graph c.args.plan.now (round_routing c.args.pool.now c.args.tables.now) w.addr c.requires.inside in
-    let groups : (x : ℕ) → group_at c.as_mut_slice.result.now x ≡ group_at w.groups.items x = λ x. ap (λ (gs : List Group). group_at gs x) c.as_mut_slice.ensures.value ∙ c.come.ensures.groups x in
+    let groups : (x : ℕ) → group_at c.as_mut_slice.result.now x ≡ group_at w.columns.groups.items x = λ x. ap (λ (gs : List Group). group_at gs x) c.as_mut_slice.ensures.value ∙ c.come.ensures.groups x in
     let addr : s.addr ≡ w.addr = c.come.ensures.addr in
     let h : AreHops (fresh graph next) s.ases.ases c.renew_all.new.hops.items = subst (λ (d : AddrValue). AreHops (fresh graph (next_hop c.args.plan.now (round_routing c.args.pool.now c.args.tables.now) d)) s.ases.ases c.renew_all.new.hops.items) addr c.renew_all.ensures.hops in
-    let gs : (with_items s.groups c.regroup.new.groups).items ≡ c.regroup.new.groups = with_items_is s.groups c.regroup.new.groups (search rules) in
-    gone_has_none graph next label c.args.changed.now c.args.regrouped.now inside w.ases.ases s.ases.ases w.hops.items s.hops.items w.marks.items w.groups.items c.as_mut_slice.result.now c.regroup.new.groups
+    let gs : (with_items s.columns.groups c.regroup.new.groups).items ≡ c.regroup.new.groups = with_items_is s.columns.groups c.regroup.new.groups (search rules) in
+    gone_has_none graph next label c.args.changed.now c.args.regrouped.now inside w.ases.ases s.ases.ases w.columns.hops.items s.columns.hops.items w.columns.marks.items w.columns.groups.items c.as_mut_slice.result.now c.regroup.new.groups
     c.come.ensures.comes w.apart w.hops_len w.within w.absent c.requires.hops c.requires.groups c.come.ensures.hops groups
     c.regroup.ensures.counted.groups_len c.regroup.ensures.regrouped c.regroup.ensures.others c.renew_all.new.hops.items h x (ap (λ (t : List Group). is_here (group_at t x).standing) (sym gs) ∙ f)
 
@@ -87,7 +87,7 @@ returns-then-as_count-eq0-clause-rows g c =
     let graph = c.args.graph.now in
     let n : length c.ases-all.result.now ≡ 0 = c.ases-all.ensures.counted ∙ sym c.as_count.ensures.value ∙ c.if-as_count-eq0.true in
     let w = c.of_none.result in
-    no_rows graph (next_hop c.args.plan.now (round_routing c.args.pool.now c.args.tables.now) c.args.self.now.addr) (λ a. g.P.Labelled.label_of (policy_at c.args.book.now a)) w.ases.ases w.hops.items w.marks.items w.groups.items
+    no_rows graph (next_hop c.args.plan.now (round_routing c.args.pool.now c.args.tables.now) c.args.self.now.addr) (λ a. g.P.Labelled.label_of (policy_at c.args.book.now a)) w.ases.ases w.columns.hops.items w.columns.marks.items w.columns.groups.items
     c.of_none.ensures.ases (none_there graph c.ases-all.result.now n c.ases-all.ensures.listed)
 
 pub returns-clause-rows : goal.returns-clause-rows
@@ -98,11 +98,11 @@ returns-clause-rows g c =
     let label : ℕ → ℕ = λ a. g.P.Labelled.label_of (policy_at c.args.book.now a) in
     let next : ℕ → Hop = next_hop c.args.plan.now (round_routing c.args.pool.now c.args.tables.now) w.addr in
     let inside : (a b : ℕ) → next a ≡ hop.To b → has graph b ≡ true = next_inside graph c.args.plan.now (round_routing c.args.pool.now c.args.tables.now) w.addr c.requires.inside in
-    let groups : (x : ℕ) → group_at c.as_mut_slice.result.now x ≡ group_at w.groups.items x = λ x. ap (λ (gs : List Group). group_at gs x) c.as_mut_slice.ensures.value ∙ c.come.ensures.groups x in
+    let groups : (x : ℕ) → group_at c.as_mut_slice.result.now x ≡ group_at w.columns.groups.items x = λ x. ap (λ (gs : List Group). group_at gs x) c.as_mut_slice.ensures.value ∙ c.come.ensures.groups x in
     let addr : s.addr ≡ w.addr = c.come.ensures.addr in
     let h : AreHops (fresh graph next) s.ases.ases c.renew_all.new.hops.items = subst (λ (d : AddrValue). AreHops (fresh graph (next_hop c.args.plan.now (round_routing c.args.pool.now c.args.tables.now) d)) s.ases.ases c.renew_all.new.hops.items) addr c.renew_all.ensures.hops in
-    let gs : (with_items s.groups c.regroup.new.groups).items ≡ c.regroup.new.groups = with_items_is s.groups c.regroup.new.groups (search rules) in
-    let r : AreRows graph next label (rows s.ases.ases c.renew_all.new.hops.items c.renew_all.new.marks.items c.regroup.new.groups) = updated_rows graph next label c.args.changed.now c.args.regrouped.now inside w.ases.ases s.ases.ases w.hops.items s.hops.items w.marks.items w.groups.items c.as_mut_slice.result.now c.regroup.new.groups
+    let gs : (with_items s.columns.groups c.regroup.new.groups).items ≡ c.regroup.new.groups = with_items_is s.columns.groups c.regroup.new.groups (search rules) in
+    let r : AreRows graph next label (rows s.ases.ases c.renew_all.new.hops.items c.renew_all.new.marks.items c.regroup.new.groups) = updated_rows graph next label c.args.changed.now c.args.regrouped.now inside w.ases.ases s.ases.ases w.columns.hops.items s.columns.hops.items w.columns.marks.items w.columns.groups.items c.as_mut_slice.result.now c.regroup.new.groups
     c.come.ensures.comes w.apart w.hops_len w.within w.absent c.requires.hops c.requires.groups c.come.ensures.hops groups
     c.regroup.ensures.counted.groups_len c.regroup.ensures.regrouped c.regroup.ensures.others c.renew_all.new.hops.items c.renew_all.new.marks.items s.apart h c.renew_all.ensures.ends in
     subst (λ (t : List Group). AreRows graph next label (rows s.ases.ases c.renew_all.new.hops.items c.renew_all.new.marks.items t)) (sym gs) r
