@@ -105,6 +105,16 @@ lists_rewritten hops hops' queue first before after len same h = record {
   owner x true e = refl
   owner x false e = ap target (same x e)
 
+-- equal columns have the same lists
+pub lists_equal : {hops hops' : List PlaceHop} {queue queue' : List ℕ} {first first' before before' after after' : List (Option ℕ)} → hops' ≡ hops → queue' ≡ queue → first' ≡ first → before' ≡ before → after' ≡ after →
+    HasLists hops queue first before after → HasLists hops' queue' first' before' after'
+lists_equal {hops} {hops'} {queue} {queue'} {first} {first'} {before} {before'} {after} {after'} h q f b a x =
+    subst (λ (hs : List PlaceHop). HasLists hs queue' first' before' after') (sym h)
+    (subst (λ (t : List ℕ). HasLists hops t first' before' after') (sym q)
+    (subst (λ (t : List (Option ℕ)). HasLists hops queue t before' after') (sym f)
+    (subst (λ (t : List (Option ℕ)). HasLists hops queue first t after') (sym b)
+    (subst (λ (t : List (Option ℕ)). HasLists hops queue first before t) (sym a) x))))
+
 pub target_none : (h : PlaceHop) → ((b : ℕ) → h ≡ To b → ⊥) → target h ≡ None
 target_none Here n = refl
 target_none NoRoute n = refl

@@ -1,16 +1,16 @@
 -- What a watch keeps stays where its columns do.
-use Rattle.std.proofs.Common.{◌≡◌, ℕ, ◌≤◌, Option, None, List, [], ◌∷◌, ◌++◌, sym, ◌∙◌, subst, arith}
+use Rattle.std.proofs.Common.{◌≡◌, ℕ, ◌≤◌, None, List, [], ◌∷◌, ◌++◌, refl, sym, ◌∙◌, subst, arith}
 use Rattle.data_trace.specs.declared.places.PlaceHop.{PlaceHop}
 use Rattle.data_trace.specs.declared.places.PlaceHop.TheVariants.{NoRoute}
 use Rattle.data_trace.specs.declared.places.Mark.{Mark}
 use Rattle.data_trace.specs.declared.places.Group.{Group}
 use Rattle.data_trace.specs.declared.sums.Sums.{Sums}
 use Rattle.data_trace.specs.declared.keeping.Lists.{Lists}
-use Rattle.data_trace.specs.Lists.{HasLists}
 use Rattle.data_trace.specs.Keeping.{HasRoom, AreKept}
 use Rattle.data_trace.specs.Sums.{total}
 use Rattle.data_trace.specs.Counted.{AreCounted}
 use Rattle.data_trace.proofs.Summing.{Test}
+use Rattle.data_trace.proofs.Joining.{lists_equal}
 use Rattle.data_trace.proofs.Extending.{lists_added}
 
 -- with room for more places there is room for fewer
@@ -21,16 +21,9 @@ kept_less hops n m l h less = record {
 }
 
 module _ (hops hops' : List PlaceHop) (l l' : Lists) where
-  lists_same : hops' ≡ hops → l'.first.items ≡ l.first.items → l'.before.items ≡ l.before.items → l'.after.items ≡ l.after.items → HasLists hops [] l.first.items l.before.items l.after.items → HasLists hops' [] l'.first.items l'.before.items l'.after.items
-  lists_same h f b a x =
-      subst (λ (hs : List PlaceHop). HasLists hs [] l'.first.items l'.before.items l'.after.items) (sym h)
-      (subst (λ (t : List (Option ℕ)). HasLists hops [] t l'.before.items l'.after.items) (sym f)
-      (subst (λ (t : List (Option ℕ)). HasLists hops [] l.first.items t l'.after.items) (sym b)
-      (subst (λ (t : List (Option ℕ)). HasLists hops [] l.first.items l.before.items t) (sym a) x)))
-
   -- the lists are those of the same next hops, with other room
   pub kept_same : (n n' : ℕ) → hops' ≡ hops → l'.first.items ≡ l.first.items → l'.before.items ≡ l.before.items → l'.after.items ≡ l.after.items → HasRoom n' l' → AreKept hops n l → AreKept hops' n' l'
-  kept_same n n' h f b a room k = record { lists = lists_same h f b a k.lists; room = room }
+  kept_same n n' h f b a room k = record { lists = lists_equal h refl f b a k.lists; room = room }
 
   -- a place comes to the end
   pub kept_added : (n : ℕ) → hops' ≡ hops ++ NoRoute ∷ [] → l'.first.items ≡ l.first.items ++ None ∷ [] → l'.before.items ≡ l.before.items ++ None ∷ [] → l'.after.items ≡ l.after.items ++ None ∷ [] → HasRoom n l' → AreKept hops n l → AreKept hops' n l'

@@ -7,17 +7,19 @@ ghost use Rattle.as_graph.specs.Topology.{has};
 ghost use Rattle.data_trace.specs.Marks.{mark_of, IsWithin};
 ghost use Rattle.data_trace.specs.Lists.{link_at, AreBelow, Unlinks, HasLists};
 ghost use Rattle.data_trace.specs.Spreads.{IsFront};
+ghost use Rattle.data_trace.specs.Keeping.{HasRoom};
 ghost use Rattle.data_trace.specs.Sums.{room_of};
 ghost use Rattle.data_trace.specs.Counted.{AreCounted};
 ghost use Rattle.data_trace.specs.Columns.{name_at};
 ghost use Rattle.data_trace.specs.Sources.{HasHop, HopsChange};
 
+use crate::columns::Columns;
+use crate::keeping::Lists;
 use crate::lists::put_link;
-use crate::packed::{PackedHop, PackedMark, hop_in, mark_in, put_hop};
-use crate::places::{Group, Mark, PlaceHop};
+use crate::packed::{PackedHop, hop_in, mark_in, put_hop};
+use crate::places::{Mark, PlaceHop};
 use crate::source::Source;
 use crate::spreading::forget_place;
-use crate::sums::Sums;
 use as_places::AsPlaces;
 use net_names::Asn;
 
@@ -89,50 +91,62 @@ fn same_hop(a: PlaceHop, b: PlaceHop) -> bool
 fn detach_place(
     source: &Source,
     ases: &AsPlaces,
-    hops: &mut [PackedHop],
-    first: &mut [Option<u32>],
-    before: &mut [Option<u32>],
-    after: &mut [Option<u32>],
-    sums: &mut Sums,
-    marks: &mut [PackedMark],
-    groups: &[Group],
-    queue: &mut Vec<u32>,
+    columns: &mut Columns,
+    lists: &mut Lists,
     a: u32,
     row: usize,
 )
-    requires inside { a < length hops.old }
-    requires places { length hops.old ≡ length ases.now.ases }
+    requires inside { a < length columns.old.hops.items }
+    requires places { length columns.old.hops.items ≡ length ases.now.ases }
     requires listed { (x : ℕ) → has source.now.graph.now x ≡ true → occurs x ases.now.ases ≡ true }
-    requires within { IsWithin hops.old }
-    requires len { length marks.old ≡ length hops.old }
-    requires front { (old : List AMark.the_data) × IsFront old marks.old queue.old.items }
-    requires lists { HasLists hops.old queue.old.items first.old before.old after.old }
-    requires unknown { (x : ℕ) → x < length hops.old → mark_of marks.old x ≡ AMark.Unknown → HasHop source.now ases.now.ases hops.old x }
-    requires room { length hops.old ≤ vec_capacity queue.old }
+    requires within { IsWithin columns.old.hops.items }
+    requires len { length columns.old.marks.items ≡ length columns.old.hops.items }
+    requires front { (old : List AMark.the_data) × IsFront old columns.old.marks.items lists.old.queue.items }
+    requires lists { HasLists columns.old.hops.items lists.old.queue.items lists.old.first.items lists.old.before.items lists.old.after.items }
+    requires unknown { (x : ℕ) → x < length columns.old.hops.items → mark_of columns.old.marks.items x ≡ AMark.Unknown → HasHop source.now ases.now.ases columns.old.hops.items x }
+    requires room { length columns.old.hops.items ≤ vec_capacity lists.old.queue }
     requires few { length ases.now.ases < 4294967292 }
-    requires counted { AreCounted sums.old ases.now.ases marks.old groups.now }
-    requires sums_room { length ases.now.ases ≤ room_of sums.old }
-    ensures front { (old : List AMark.the_data) → IsFront old marks.old queue.old.items → IsFront old marks.new queue.new.items }
-    ensures lists { HasLists hops.new queue.new.items first.new before.new after.new }
-    ensures within { IsWithin hops.new }
-    ensures unknown { (x : ℕ) → x < length hops.new → mark_of marks.new x ≡ AMark.Unknown → HasHop source.now ases.now.ases hops.new x }
-    ensures here { HasHop source.now ases.now.ases hops.new a }
-    ensures change { HopsChange source.now ases.now.ases hops.old hops.new queue.old.items queue.new.items }
-    ensures counted { AreCounted sums.new ases.now.ases marks.new groups.now }
-    ensures room { vec_capacity queue.old ≤ vec_capacity queue.new }
-    ensures sums_room { room_of sums.old ≤ room_of sums.new }
+    requires counted { AreCounted columns.old.sums ases.now.ases columns.old.marks.items columns.old.groups.items }
+    requires sums_room { length ases.now.ases ≤ room_of columns.old.sums }
+    ensures front { (old : List AMark.the_data) → IsFront old columns.old.marks.items lists.old.queue.items → IsFront old columns.new.marks.items lists.new.queue.items }
+    ensures lists { HasLists columns.new.hops.items lists.new.queue.items lists.new.first.items lists.new.before.items lists.new.after.items }
+    ensures within { IsWithin columns.new.hops.items }
+    ensures unknown { (x : ℕ) → x < length columns.new.hops.items → mark_of columns.new.marks.items x ≡ AMark.Unknown → HasHop source.now ases.now.ases columns.new.hops.items x }
+    ensures here { HasHop source.now ases.now.ases columns.new.hops.items a }
+    ensures change { HopsChange source.now ases.now.ases columns.old.hops.items columns.new.hops.items lists.old.queue.items lists.new.queue.items }
+    ensures counted { AreCounted columns.new.sums ases.now.ases columns.new.marks.items columns.new.groups.items }
+    ensures places { length columns.new.hops.items ≡ length ases.now.ases }
+    ensures groups { columns.new.groups ≡ columns.old.groups }
+    ensures room { vec_capacity lists.old.queue ≤ vec_capacity lists.new.queue }
+    ensures lists_room { (n : ℕ) → HasRoom n lists.old → HasRoom n lists.new }
+    ensures hops_room { vec_capacity columns.new.hops ≡ vec_capacity columns.old.hops }
+    ensures marks_room { vec_capacity columns.new.marks ≡ vec_capacity columns.old.marks }
+    ensures sums_room { room_of columns.old.sums ≤ room_of columns.new.sums }
 {
-    if let Mark::Unknown = mark_in(marks, a) {
+    if let Mark::Unknown = mark_in(columns.marks.as_slice(), a) {
         return;
     }
     let numbers = ases.as_slice();
     let hop = source.hop(ases, numbers[a as usize], row);
-    if same_hop(hop, hop_in(hops, a)) {
+    if same_hop(hop, hop_in(columns.hops.as_slice(), a)) {
         return;
     }
-    leave(hops, first, before, after, a);
-    put_hop(hops, a, hop);
-    forget_place(sums, numbers, marks, groups, queue, a);
+    leave(
+        columns.hops.as_slice(),
+        lists.first.as_mut_slice(),
+        lists.before.as_mut_slice(),
+        lists.after.as_mut_slice(),
+        a,
+    );
+    put_hop(columns.hops.as_mut_slice(), a, hop);
+    forget_place(
+        &mut columns.sums,
+        numbers,
+        columns.marks.as_mut_slice(),
+        columns.groups.as_slice(),
+        &mut lists.queue,
+        a,
+    );
 }
 
 /// Gives the places of these ASes the next hops of their ASes. Takes those out of their lists whose next
@@ -141,37 +155,36 @@ fn detach_place(
 pub fn detach(
     source: &Source,
     ases: &AsPlaces,
-    hops: &mut [PackedHop],
-    first: &mut [Option<u32>],
-    before: &mut [Option<u32>],
-    after: &mut [Option<u32>],
-    sums: &mut Sums,
-    marks: &mut [PackedMark],
-    groups: &[Group],
-    queue: &mut Vec<u32>,
+    columns: &mut Columns,
+    lists: &mut Lists,
     changed: &[Asn],
     near: usize,
 )
-    requires places { length hops.old ≡ length ases.now.ases }
+    requires places { length columns.old.hops.items ≡ length ases.now.ases }
     requires listed { (x : ℕ) → has source.now.graph.now x ≡ true → occurs x ases.now.ases ≡ true }
-    requires within { IsWithin hops.old }
-    requires len { length marks.old ≡ length hops.old }
-    requires front { (old : List AMark.the_data) × IsFront old marks.old queue.old.items }
-    requires lists { HasLists hops.old queue.old.items first.old before.old after.old }
-    requires unknown { (x : ℕ) → x < length hops.old → mark_of marks.old x ≡ AMark.Unknown → HasHop source.now ases.now.ases hops.old x }
-    requires room { length hops.old ≤ vec_capacity queue.old }
+    requires within { IsWithin columns.old.hops.items }
+    requires len { length columns.old.marks.items ≡ length columns.old.hops.items }
+    requires front { (old : List AMark.the_data) × IsFront old columns.old.marks.items lists.old.queue.items }
+    requires lists { HasLists columns.old.hops.items lists.old.queue.items lists.old.first.items lists.old.before.items lists.old.after.items }
+    requires unknown { (x : ℕ) → x < length columns.old.hops.items → mark_of columns.old.marks.items x ≡ AMark.Unknown → HasHop source.now ases.now.ases columns.old.hops.items x }
+    requires room { length columns.old.hops.items ≤ vec_capacity lists.old.queue }
     requires few { length ases.now.ases < 4294967292 }
-    requires counted { AreCounted sums.old ases.now.ases marks.old groups.now }
-    requires sums_room { length ases.now.ases ≤ room_of sums.old }
-    ensures front { (old : List AMark.the_data) → IsFront old marks.old queue.old.items → IsFront old marks.new queue.new.items }
-    ensures lists { HasLists hops.new queue.new.items first.new before.new after.new }
-    ensures within { IsWithin hops.new }
-    ensures unknown { (x : ℕ) → x < length hops.new → mark_of marks.new x ≡ AMark.Unknown → HasHop source.now ases.now.ases hops.new x }
-    ensures changed { (x : ℕ) → x < length ases.now.ases → occurs (name_at ases.now.ases x) changed.now ≡ true → HasHop source.now ases.now.ases hops.new x }
-    ensures change { HopsChange source.now ases.now.ases hops.old hops.new queue.old.items queue.new.items }
-    ensures counted { AreCounted sums.new ases.now.ases marks.new groups.now }
-    ensures room { vec_capacity queue.old ≤ vec_capacity queue.new }
-    ensures sums_room { room_of sums.old ≤ room_of sums.new }
+    requires counted { AreCounted columns.old.sums ases.now.ases columns.old.marks.items columns.old.groups.items }
+    requires sums_room { length ases.now.ases ≤ room_of columns.old.sums }
+    ensures front { (old : List AMark.the_data) → IsFront old columns.old.marks.items lists.old.queue.items → IsFront old columns.new.marks.items lists.new.queue.items }
+    ensures lists { HasLists columns.new.hops.items lists.new.queue.items lists.new.first.items lists.new.before.items lists.new.after.items }
+    ensures within { IsWithin columns.new.hops.items }
+    ensures unknown { (x : ℕ) → x < length columns.new.hops.items → mark_of columns.new.marks.items x ≡ AMark.Unknown → HasHop source.now ases.now.ases columns.new.hops.items x }
+    ensures changed { (x : ℕ) → x < length ases.now.ases → occurs (name_at ases.now.ases x) changed.now ≡ true → HasHop source.now ases.now.ases columns.new.hops.items x }
+    ensures change { HopsChange source.now ases.now.ases columns.old.hops.items columns.new.hops.items lists.old.queue.items lists.new.queue.items }
+    ensures counted { AreCounted columns.new.sums ases.now.ases columns.new.marks.items columns.new.groups.items }
+    ensures places { length columns.new.hops.items ≡ length ases.now.ases }
+    ensures groups { columns.new.groups ≡ columns.old.groups }
+    ensures room { vec_capacity lists.old.queue ≤ vec_capacity lists.new.queue }
+    ensures lists_room { (n : ℕ) → HasRoom n lists.old → HasRoom n lists.new }
+    ensures hops_room { vec_capacity columns.new.hops ≡ vec_capacity columns.old.hops }
+    ensures marks_room { vec_capacity columns.new.marks ≡ vec_capacity columns.old.marks }
+    ensures sums_room { room_of columns.old.sums ≤ room_of columns.new.sums }
 {
     let _numbers = ases.as_slice();
     'changed: for asn in changed {
@@ -179,19 +192,6 @@ pub fn detach(
         let Some(place) = ases.place_near(*asn, row) else {
             continue 'changed;
         };
-        detach_place(
-            source,
-            ases,
-            hops,
-            first,
-            before,
-            after,
-            sums,
-            marks,
-            groups,
-            queue,
-            place as u32,
-            row,
-        );
+        detach_place(source, ases, columns, lists, place as u32, row);
     }
 }

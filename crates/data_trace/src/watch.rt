@@ -28,7 +28,7 @@ use crate::keeping::Lists;
 use crate::lists::put_last;
 use crate::packed::{PackedHop, PackedMark, mark_in};
 use crate::places::{Group, Mark, PlaceEnd, PlaceHop, Standing};
-use crate::renewal::{regroup, renew_all};
+use crate::renewal::{regroup, renew};
 use crate::source::Source;
 use crate::sums::Sums;
 use crate::walks::find_all;
@@ -388,16 +388,7 @@ impl Watch {
         }
         let near = row_of_first(graph, regrouped);
         self.come(graph, regrouped, near);
-        regroup(
-            &mut self.columns.sums,
-            &self.ases,
-            self.columns.marks.as_slice(),
-            self.columns.groups.as_mut_slice(),
-            graph,
-            book,
-            regrouped,
-            near,
-        );
+        regroup(&self.ases, &mut self.columns, graph, book, regrouped, near);
         let source = Source {
             graph,
             tables,
@@ -405,13 +396,10 @@ impl Watch {
             plan,
             addr: self.addr,
         };
-        renew_all(
+        renew(
             &source,
-            &mut self.columns.sums,
             &self.ases,
-            &mut self.columns.hops,
-            &mut self.columns.marks,
-            self.columns.groups.as_slice(),
+            &mut self.columns,
             &mut self.lists,
             changed,
             regrouped,

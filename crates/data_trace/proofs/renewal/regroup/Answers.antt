@@ -45,6 +45,6 @@ regrouped-preserved g c =
           (⊎_elim (λ (e : name_at keys x ≡ get_or xs i 0). absurd (ne (only x l (e ∙ sym asn)))) (λ (q : occurs (name_at keys x) (take i xs) ≡ true). q) (occurs_more (name_at keys x) xs i c.regrouped-test.true o)))) (cases_eq x p);
       others = λ x l o. let q : (name_at keys x ≢ get_or xs i 0) × (occurs (name_at keys x) (take i xs) ≡ false) = occurs_not_more (name_at keys x) xs i c.regrouped-test.true o in
           there x (λ e. q.0 (ap (name_at keys) e ∙ at.1 ∙ asn)) ∙ c.regrouped.invariant.others x l q.1;
-      counted = subst (λ (ks : List ℕ). AreCounted c.put_group.new.sums ks c.args.marks.now c.put_group.new.groups) c.as_slice.ensures.list c.put_group.ensures.counted;
+      counted = subst (λ (ks : List ℕ). AreCounted c.put_group.new.sums ks c.as_slice-marks.result.now c.put_group.new.groups) c.as_slice.ensures.list c.put_group.ensures.counted;
       sums_room = omega (arith, c.regrouped.invariant.sums_room, c.put_group.ensures.room);
     }

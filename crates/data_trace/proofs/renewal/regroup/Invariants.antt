@@ -9,7 +9,7 @@ use Rattle.data_trace.proofs.renewal.regroup.Given as goal
 abbrev pub invariant-regrouped : goal.invariant-regrouped
 invariant-regrouped g l = record {
   done : (x : ℕ) → x < length l.ases.ases → occurs (name_at l.ases.ases x) (take l.asn-index l.regrouped) ≡ true → IsGroup l.graph (λ a. g.P.Labelled.label_of (policy_at l.book a)) (name_at l.ases.ases x) (group_at l.groups x);
-  others : (x : ℕ) → x < length l.ases.ases → occurs (name_at l.ases.ases x) (take l.asn-index l.regrouped) ≡ false → group_at l.groups x ≡ group_at l.fn.groups x;
+  others : (x : ℕ) → x < length l.ases.ases → occurs (name_at l.ases.ases x) (take l.asn-index l.regrouped) ≡ false → group_at l.groups x ≡ group_at l.fn.columns.groups.items x;
   counted : AreCounted l.sums l.ases.ases l.marks l.groups;
-  sums_room : room_of l.fn.sums ≤ room_of l.sums;
+  sums_room : room_of l.fn.columns.sums ≤ room_of l.sums;
 }

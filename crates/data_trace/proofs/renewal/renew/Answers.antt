@@ -1,84 +1,98 @@
-use Rattle.std.proofs.Common.{rules, ◌≡◌, ◌≢◌, ⊎_elim, ℕ, ◌<◌, ◌≤◌, length, get_or, take, true, false, sym, ◌∙◌, ap, subst, arith, true≢false, []}
+use Rattle.std.proofs.Common.{rules, ◌≡◌, ◌≢◌, ⊎_elim, ℕ, ◌<◌, ◌≤◌, Option, List, length, get_or, take, true, false, refl, sym, ◌∙◌, ap, subst, arith, true≢false, []}
 use Rattle.std.specs.Prelude.{nat_eq}
 use Rattle.std.specs.List.{IsDistinct}
+use Rattle.std.specs.Vec.{with_items}
 use Rattle.std.proofs.lemmas.Bool.{cases_Bool}
+use Rattle.std.proofs.lemmas.List.{with_items_is}
 use Rattle.net_names.specs.Numbers.{occurs}
+use Rattle.data_trace.specs.declared.places.PlaceHop.{PlaceHop}
+use Rattle.data_trace.specs.declared.places.Mark.{Mark}
 use Rattle.data_trace.specs.declared.places.Mark.TheVariants.{Unknown}
-use Rattle.data_trace.specs.Marks.{next_of, mark_of, AreEnds}
-use Rattle.data_trace.specs.Lists.{HasLists}
-use Rattle.data_trace.specs.Spreads.{IsFront}
+use Rattle.data_trace.specs.Marks.{next_of, mark_of, AreEnds, AreRight}
+use Rattle.data_trace.specs.Lists.{link_at, HasLists}
+use Rattle.data_trace.specs.Keeping.{HasRoom}
+use Rattle.data_trace.specs.Spreads.{IsFront, HasSpread}
 use Rattle.data_trace.specs.Columns.{name_at}
 use Rattle.data_trace.specs.Sources.{HopsChange}
 use Rattle.data_trace.proofs.Walking.{ends_from_marks}
-use Rattle.data_trace.proofs.Joining.{lists_rewritten}
+use Rattle.data_trace.proofs.Joining.{lists_rewritten, lists_equal}
 use Rattle.data_trace.proofs.Detaching.{change_then}
 use Rattle.data_trace.proofs.Renewing.{front_none, front_self, front_then, right_from_ends, renewed_right, none_unknown, fits_from_take}
 use Rattle.data_trace.proofs.renewal.renew.Goals as goal
 
+-- before the first step the queue has no place
+none_waits : (hops : List PlaceHop) (marks : List Mark) (queue : List ℕ) → queue ≡ [] → AreEnds (next_of hops) (length hops) marks → IsFront marks marks queue
+none_waits hops marks queue e ends = subst (λ (q : List ℕ). IsFront marks marks q) (sym e) (front_none (next_of hops) marks (subst (λ n. AreEnds (next_of hops) n marks) (sym ends.len) ends))
+
 pub detach-requires-clause-front : goal.detach-requires-clause-front
-detach-requires-clause-front c = (
-  c.args.marks.now,
-  subst (λ q. IsFront c.args.marks.now c.args.marks.now q) (sym c.clear.ensures.items)
-      (front_none (next_of c.args.hops.now) c.args.marks.now (subst (λ n. AreEnds (next_of c.args.hops.now) n c.args.marks.now) (sym c.requires.ends.len) c.requires.ends)),
-)
+detach-requires-clause-front c =
+    let old = c.args.columns.now in
+    (old.marks.items, none_waits old.hops.items old.marks.items c.clear.new.self.items c.clear.ensures.items c.requires.ends)
 
 pub detach-requires-clause-unknown : goal.detach-requires-clause-unknown
 detach-requires-clause-unknown c = λ x l u.
-    let none : IsFront c.args.marks.now c.args.marks.now [] = front_none (next_of c.args.hops.now) c.args.marks.now (subst (λ n. AreEnds (next_of c.args.hops.now) n c.args.marks.now) (sym c.requires.ends.len) c.requires.ends) in
+    let old = c.args.columns.now in
+    let none : IsFront old.marks.items old.marks.items [] = none_waits old.hops.items old.marks.items [] refl c.requires.ends in
     absurd (true≢false (sym (none.in_queue x (omega (arith, l, c.requires.ends.len)) u)))
 
 pub detach-requires-2-clause-front : goal.detach-requires-2-clause-front
 detach-requires-2-clause-front c =
-    let none : IsFront c.args.marks.now c.args.marks.now c.clear.new.self.items = subst (λ q. IsFront c.args.marks.now c.args.marks.now q) (sym c.clear.ensures.items)
-    (front_none (next_of c.args.hops.now) c.args.marks.now (subst (λ n. AreEnds (next_of c.args.hops.now) n c.args.marks.now) (sym c.requires.ends.len) c.requires.ends)) in
-    (c.args.marks.now, c.detach.ensures.front c.args.marks.now none)
+    let old = c.args.columns.now in
+    (old.marks.items, c.detach.ensures.front old.marks.items (none_waits old.hops.items old.marks.items c.clear.new.self.items c.clear.ensures.items c.requires.ends))
 
 pub spread-requires-clause-front : goal.spread-requires-clause-front
 spread-requires-clause-front c =
-    let none : IsFront c.args.marks.now c.args.marks.now c.clear.new.self.items = subst (λ q. IsFront c.args.marks.now c.args.marks.now q) (sym c.clear.ensures.items)
-    (front_none (next_of c.args.hops.now) c.args.marks.now (subst (λ n. AreEnds (next_of c.args.hops.now) n c.args.marks.now) (sym c.requires.ends.len) c.requires.ends)) in
-    front_self c.args.marks.now c.detach-2.new.marks c.detach-2.new.queue.items (c.detach-2.ensures.front c.args.marks.now (c.detach.ensures.front c.args.marks.now none))
+    let old = c.args.columns.now in
+    let queue : List ℕ = c.detach-2.new.lists.queue.items in
+    let v : IsFront old.marks.items c.detach-2.new.columns.marks.items queue =
+    c.detach-2.ensures.front old.marks.items (c.detach.ensures.front old.marks.items (none_waits old.hops.items old.marks.items c.clear.new.self.items c.clear.ensures.items c.requires.ends)) in
+    subst (λ (ms : List Mark). IsFront ms ms queue) (sym c.as_mut_slice.ensures.value) (front_self old.marks.items c.detach-2.new.columns.marks.items queue v)
 
 pub relink-requires-clause-distinct : goal.relink-requires-clause-distinct
 relink-requires-clause-distinct c =
-    let n : c.len-count.result ≡ length c.detach-2.new.queue.items = search rules in
-    let roots : take c.len-count.result c.as_slice-places.result.now ≡ c.detach-2.new.queue.items =
+    let old = c.args.columns.now in
+    let n : c.len-count.result ≡ length c.detach-2.new.lists.queue.items = search rules in
+    let roots : take c.len-count.result c.as_slice-places.result.now ≡ c.detach-2.new.lists.queue.items =
     ap (take c.len-count.result) c.as_slice-places.ensures.value ∙ ap (λ k. take k c.spread.new.queue.items) n ∙ c.spread.ensures.roots in
-    let none : IsFront c.args.marks.now c.args.marks.now c.clear.new.self.items = subst (λ q. IsFront c.args.marks.now c.args.marks.now q) (sym c.clear.ensures.items)
-    (front_none (next_of c.args.hops.now) c.args.marks.now (subst (λ n. AreEnds (next_of c.args.hops.now) n c.args.marks.now) (sym c.requires.ends.len) c.requires.ends)) in
-    let w : IsFront c.args.marks.now c.detach-2.new.marks c.detach-2.new.queue.items = c.detach-2.ensures.front c.args.marks.now (c.detach.ensures.front c.args.marks.now none) in
-    subst (IsDistinct nat_eq) (sym roots) w.distinct
-
-pub relink-requires-clause-lists : goal.relink-requires-clause-lists
-relink-requires-clause-lists c =
-    let n : c.len-count.result ≡ length c.detach-2.new.queue.items = search rules in
-    let roots : take c.len-count.result c.as_slice-places.result.now ≡ c.detach-2.new.queue.items =
-    ap (take c.len-count.result) c.as_slice-places.ensures.value ∙ ap (λ k. take k c.spread.new.queue.items) n ∙ c.spread.ensures.roots in
-    subst (λ q. HasLists c.detach-2.new.hops q c.detach-2.new.first c.detach-2.new.before c.detach-2.new.after) (sym roots) c.detach-2.ensures.lists
+    let v : IsFront old.marks.items c.detach-2.new.columns.marks.items c.detach-2.new.lists.queue.items =
+    c.detach-2.ensures.front old.marks.items (c.detach.ensures.front old.marks.items (none_waits old.hops.items old.marks.items c.clear.new.self.items c.clear.ensures.items c.requires.ends)) in
+    subst (IsDistinct nat_eq) (sym roots) v.distinct
 
 pub settle_each-requires-clause-right : goal.settle_each-requires-clause-right
 settle_each-requires-clause-right c =
-    let none : IsFront c.args.marks.now c.args.marks.now c.clear.new.self.items = subst (λ q. IsFront c.args.marks.now c.args.marks.now q) (sym c.clear.ensures.items)
-    (front_none (next_of c.args.hops.now) c.args.marks.now (subst (λ n. AreEnds (next_of c.args.hops.now) n c.args.marks.now) (sym c.requires.ends.len) c.requires.ends)) in
-    let v : IsFront c.args.marks.now c.detach-2.new.marks c.detach-2.new.queue.items = c.detach-2.ensures.front c.args.marks.now (c.detach.ensures.front c.args.marks.now none) in
-    let w : IsFront c.args.marks.now c.spread.new.marks c.spread.new.queue.items =
-    front_then c.args.marks.now c.detach-2.new.marks c.spread.new.marks c.detach-2.new.queue.items c.spread.new.queue.items v c.spread.ensures.front in
-    let fits : length c.detach-2.new.queue.items ≤ length c.spread.new.queue.items = fits_from_take _ _ c.spread.ensures.roots in
-    let change : HopsChange c.args.source.now c.args.ases.now.ases c.args.hops.now c.detach-2.new.hops c.clear.new.self.items c.detach-2.new.queue.items = change_then c.args.source.now c.args.ases.now.ases _ _ _ _ _ _ c.detach.ensures.change c.detach-2.ensures.change in
-    let len : length c.args.hops.now ≡ length c.detach-2.new.hops = search rules in
-    let lists : HasLists c.args.hops.now c.detach-2.new.queue.items c.detach-2.new.first c.detach-2.new.before c.detach-2.new.after =
-    lists_rewritten c.detach-2.new.hops c.args.hops.now c.detach-2.new.queue.items c.detach-2.new.first c.detach-2.new.before c.detach-2.new.after len (λ x f. sym (change.others x f)) c.detach-2.ensures.lists in
-    renewed_right c.args.hops.now c.args.marks.now c.spread.new.marks c.detach-2.new.queue.items c.spread.new.queue.items c.detach-2.new.first c.detach-2.new.before c.detach-2.new.after w c.requires.ends.len
-    lists c.spread.ensures.spread c.spread.ensures.roots fits c.detach-2.new.hops c.requires.within
-    (right_from_ends c.args.hops.now c.args.marks.now c.requires.within c.requires.ends) change.others
+    let old = c.args.columns.now in
+    let columns = c.detach-2.new.columns in
+    let lists = c.detach-2.new.lists in
+    let hops : List PlaceHop = old.hops.items in
+    let queue : List ℕ = c.spread.new.queue.items in
+    let marks : List Mark = c.spread.new.marks in
+    let v : IsFront old.marks.items columns.marks.items lists.queue.items =
+    c.detach-2.ensures.front old.marks.items (c.detach.ensures.front old.marks.items (none_waits hops old.marks.items c.clear.new.self.items c.clear.ensures.items c.requires.ends)) in
+    let w : IsFront old.marks.items marks queue = front_then old.marks.items columns.marks.items marks lists.queue.items queue v (subst (λ (ms : List Mark). IsFront ms marks queue) c.as_mut_slice.ensures.value c.spread.ensures.front) in
+    let fits : length lists.queue.items ≤ length queue = fits_from_take _ _ c.spread.ensures.roots in
+    let change : HopsChange c.args.source.now c.args.ases.now.ases hops columns.hops.items c.clear.new.self.items lists.queue.items = change_then c.args.source.now c.args.ases.now.ases _ _ _ _ _ _ c.detach.ensures.change c.detach-2.ensures.change in
+    let kept : HasLists hops lists.queue.items lists.first.items lists.before.items lists.after.items =
+    lists_rewritten columns.hops.items hops lists.queue.items lists.first.items lists.before.items lists.after.items (omega (arith, c.requires.len, c.detach-2.ensures.places)) (λ x f. sym (change.others x f)) c.detach-2.ensures.lists in
+    let spread : HasSpread (link_at lists.first.items) (link_at lists.after.items) marks queue (length lists.queue.items) (length queue) =
+    subst (λ (t : List (Option ℕ)). HasSpread (link_at t) (link_at lists.after.items) marks queue (length lists.queue.items) (length queue)) c.as_slice-2.ensures.value
+    (subst (λ (t : List (Option ℕ)). HasSpread (link_at c.as_slice-2.result.now) (link_at t) marks queue (length lists.queue.items) (length queue)) c.as_slice-3.ensures.value c.spread.ensures.spread) in
+    let right : AreRight (next_of columns.hops.items) marks = renewed_right hops old.marks.items marks lists.queue.items queue lists.first.items lists.before.items lists.after.items w c.requires.ends.len
+    kept spread c.spread.ensures.roots fits columns.hops.items c.requires.within (right_from_ends hops old.marks.items c.requires.within c.requires.ends) change.others in
+    let same : c.as_mut_slice-5.result.now ≡ marks = c.as_mut_slice-5.ensures.value ∙ with_items_is columns.marks marks (search rules) in
+    subst (λ (ms : List Mark). AreRight (next_of c.as_slice-hops.result.now) ms) (sym same) (subst (λ (hs : List PlaceHop). AreRight (next_of hs) marks) (sym c.as_slice-hops.ensures.value) right)
+
+pub settle_each-requires-clause-room : goal.settle_each-requires-clause-room
+settle_each-requires-clause-room c =
+    let n : ℕ = length c.args.ases.now.ases in
+    let r = c.requires.lists.room in
+    let room : HasRoom n c.detach-2.new.lists = c.detach-2.ensures.lists_room n (c.detach.ensures.lists_room n (record { first = r.first; before = r.before; after = r.after; queue = omega (arith, r.queue, c.clear.ensures.capacity); path = r.path })) in
+    omega (arith, room.path, ap length c.as_slice-hops.ensures.value, c.detach-2.ensures.places)
 
 pub returns-clause-hops : goal.returns-clause-hops
 returns-clause-hops c =
-    let s = c.args.source.now in
     let keys = c.args.ases.now.ases in
-    let hops = c.detach-2.new.hops in
     record {
-      len = search rules;
+      len = c.detach-2.ensures.places;
       within = c.detach-2.ensures.within;
       follows = λ x l. ⊎_elim (λ (o : occurs (name_at keys x) c.args.regrouped.now ≡ true). c.detach-2.ensures.changed x l o)
           (λ (o : occurs (name_at keys x) c.args.regrouped.now ≡ false). c.detach-2.ensures.change.right x (⊎_elim (λ (p : occurs (name_at keys x) c.args.changed.now ≡ true). c.detach.ensures.changed x l p)
@@ -87,14 +101,31 @@ returns-clause-hops c =
 
 pub returns-clause-ends : goal.returns-clause-ends
 returns-clause-ends c =
-    let none : IsFront c.args.marks.now c.args.marks.now c.clear.new.self.items = subst (λ q. IsFront c.args.marks.now c.args.marks.now q) (sym c.clear.ensures.items)
-    (front_none (next_of c.args.hops.now) c.args.marks.now (subst (λ n. AreEnds (next_of c.args.hops.now) n c.args.marks.now) (sym c.requires.ends.len) c.requires.ends)) in
-    let v : IsFront c.args.marks.now c.detach-2.new.marks c.detach-2.new.queue.items = c.detach-2.ensures.front c.args.marks.now (c.detach.ensures.front c.args.marks.now none) in
-    let w : IsFront c.args.marks.now c.spread.new.marks c.spread.new.queue.items =
-    front_then c.args.marks.now c.detach-2.new.marks c.spread.new.marks c.detach-2.new.queue.items c.spread.new.queue.items v c.spread.ensures.front in
-    let known : (k : ℕ) → k < length c.spread.new.queue.items → mark_of c.settle_each.new.marks (get_or c.spread.new.queue.items k 0) ≢ Unknown =
-    subst (λ q. (k : ℕ) → k < length q → mark_of c.settle_each.new.marks (get_or q k 0) ≢ Unknown) c.as_slice-places.ensures.value c.settle_each.ensures.known in
-    let hops_len : length c.detach-2.new.hops ≡ length c.args.hops.now = search rules in
-    let marks_len : length c.settle_each.new.marks ≡ length c.detach-2.new.hops = search rules in
-    ends_from_marks (next_of c.detach-2.new.hops) (length c.detach-2.new.hops) c.settle_each.new.marks marks_len c.settle_each.ensures.right
-    (λ x l. none_unknown c.args.marks.now c.spread.new.marks c.settle_each.new.marks c.spread.new.queue.items w c.settle_each.ensures.kept known x (omega (arith, l, hops_len, c.requires.ends.len)))
+    let old = c.args.columns.now in
+    let columns = c.detach-2.new.columns in
+    let lists = c.detach-2.new.lists in
+    let hops : List PlaceHop = columns.hops.items in
+    let queue : List ℕ = c.spread.new.queue.items in
+    let spread : List Mark = c.spread.new.marks in
+    let marks : List Mark = c.settle_each.new.marks in
+    let v : IsFront old.marks.items columns.marks.items lists.queue.items =
+    c.detach-2.ensures.front old.marks.items (c.detach.ensures.front old.marks.items (none_waits old.hops.items old.marks.items c.clear.new.self.items c.clear.ensures.items c.requires.ends)) in
+    let w : IsFront old.marks.items spread queue = front_then old.marks.items columns.marks.items spread lists.queue.items queue v (subst (λ (ms : List Mark). IsFront ms spread queue) c.as_mut_slice.ensures.value c.spread.ensures.front) in
+    let same : c.as_mut_slice-5.result.now ≡ spread = c.as_mut_slice-5.ensures.value ∙ with_items_is columns.marks spread (search rules) in
+    let known : (k : ℕ) → k < length queue → mark_of marks (get_or queue k 0) ≢ Unknown =
+    subst (λ (q : List ℕ). (k : ℕ) → k < length q → mark_of marks (get_or q k 0) ≢ Unknown) c.as_slice-places.ensures.value c.settle_each.ensures.known in
+    let kept : (x : ℕ) → mark_of spread x ≢ Unknown → mark_of marks x ≡ mark_of spread x = subst (λ (ms : List Mark). (x : ℕ) → mark_of ms x ≢ Unknown → mark_of marks x ≡ mark_of ms x) same c.settle_each.ensures.kept in
+    let right : AreRight (next_of hops) marks = subst (λ (hs : List PlaceHop). AreRight (next_of hs) marks) c.as_slice-hops.ensures.value c.settle_each.ensures.right in
+    let marks_len : length marks ≡ length hops = omega (arith, c.settle_each.ensures.counted.marks_len, ap length c.as_slice-numbers.ensures.list, c.detach-2.ensures.places) in
+    let marks_new : (with_items (with_items columns.marks spread) marks).items ≡ marks = with_items_is (with_items columns.marks spread) marks (search rules) in
+    subst (λ (ms : List Mark). AreEnds (next_of hops) (length hops) ms) (sym marks_new) (ends_from_marks (next_of hops) (length hops) marks marks_len right
+    (λ x l. none_unknown old.marks.items spread marks queue w kept known x (omega (arith, l, c.detach-2.ensures.places, c.requires.len, c.requires.ends.len))))
+
+pub returns-clause-lists : goal.returns-clause-lists
+returns-clause-lists c = λ n r.
+    let lists = c.detach-2.new.lists in
+    let room : HasRoom n lists = c.detach-2.ensures.lists_room n (c.detach.ensures.lists_room n (record { first = r.first; before = r.before; after = r.after; queue = omega (arith, r.queue, c.clear.ensures.capacity); path = r.path })) in
+    record {
+      lists = lists_equal (sym c.as_slice-hops.ensures.value) refl (with_items_is lists.first c.relink.new.first (search rules)) (with_items_is lists.before c.relink.new.before (search rules)) (with_items_is lists.after c.relink.new.after (search rules)) c.relink.ensures;
+      room = record { first = room.first; before = room.before; after = room.after; queue = omega (arith, room.queue, c.spread.ensures.room); path = omega (arith, room.path, c.settle_each.ensures.room) };
+    }

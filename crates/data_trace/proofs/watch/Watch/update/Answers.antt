@@ -1,52 +1,53 @@
-use Rattle.std.proofs.Common.{rules, ◌≡◌, ℕ, ◌+◌, true, List, length, sym, ◌∙◌, ap, subst, arith}
-use Rattle.std.specs.Vec.{with_items}
-use Rattle.std.proofs.lemmas.List.{with_items_is}
+use Rattle.std.proofs.Common.{◌≡◌, ℕ, ◌+◌, true, List, length, sym, ◌∙◌, ap, subst, arith}
 use Rattle.net_names.specs.Addresses.{AddrValue}
 use Rattle.as_graph.specs.Topology.{has}
 use Rattle.stability_laws.specs.Book.{policy_at}
 use Rattle.route_choice.specs.RoundTables.{round_routing}
 use Rattle.data_trace.specs.declared.kinds.Hop.{Hop}
 use Rattle.data_trace.specs.declared.kinds.Hop.TheVariants as hop
+use Rattle.data_trace.specs.declared.places.PlaceHop.{PlaceHop}
 use Rattle.data_trace.specs.declared.places.Group.{Group}
 use Rattle.data_trace.specs.Hops.{next_hop}
-use Rattle.data_trace.specs.Counted.{AreCounted}
+use Rattle.data_trace.specs.Marks.{hop_at}
+use Rattle.data_trace.specs.Keeping.{AreKept}
 use Rattle.data_trace.specs.Watches.{AreRows}
-use Rattle.data_trace.specs.Columns.{name_at, fresh, group_at, is_here, rows, AreHops}
+use Rattle.data_trace.specs.Columns.{name_at, named, fresh, group_at, is_here, rows, AreHops}
 use Rattle.data_trace.proofs.Inside.{next_inside}
 use Rattle.data_trace.proofs.Updating.{none_there, no_rows, all_there, hops_right, gone_has_none, updated_rows}
 use Rattle.data_trace.proofs.Staying.{kept_less}
 use Rattle.data_trace.proofs.watch.Watch.update.Goals as goal
 
-pub renew_all-requires-clause-listed : goal.renew_all-requires-clause-listed
-renew_all-requires-clause-listed g c =
+pub renew-requires-clause-listed : goal.renew-requires-clause-listed
+renew-requires-clause-listed g c =
     let w = c.args.self.now in
     let s = c.come.new.self in
     let graph = c.args.graph.now in
     let label : ℕ → ℕ = λ a. g.P.Labelled.label_of (policy_at c.args.book.now a) in
     let next : ℕ → Hop = next_hop c.args.plan.now (round_routing c.args.pool.now c.args.tables.now) w.addr in
     let inside : (a b : ℕ) → next a ≡ hop.To b → has graph b ≡ true = next_inside graph c.args.plan.now (round_routing c.args.pool.now c.args.tables.now) w.addr c.requires.inside in
-    let groups : (x : ℕ) → group_at c.as_mut_slice.result.now x ≡ group_at w.columns.groups.items x = λ x. ap (λ (gs : List Group). group_at gs x) c.as_mut_slice.ensures.value ∙ c.come.ensures.groups x in
-    all_there graph next label c.args.changed.now c.args.regrouped.now inside w.ases.ases s.ases.ases w.columns.hops.items s.columns.hops.items w.columns.marks.items w.columns.groups.items c.as_mut_slice.result.now c.regroup.new.groups
-    c.come.ensures.comes w.apart w.hops_len w.within w.absent c.requires.hops c.requires.groups c.come.ensures.hops groups
+    all_there graph next label c.args.changed.now c.args.regrouped.now inside w.ases.ases s.ases.ases w.columns.hops.items s.columns.hops.items w.columns.marks.items w.columns.groups.items s.columns.groups.items c.regroup.new.columns.groups.items
+    c.come.ensures.comes w.apart w.hops_len w.within w.absent c.requires.hops c.requires.groups c.come.ensures.hops c.come.ensures.groups
 
-pub renew_all-requires-clause-lists : goal.renew_all-requires-clause-lists
-renew_all-requires-clause-lists g c =
+pub renew-requires-clause-lists : goal.renew-requires-clause-lists
+renew-requires-clause-lists g c =
     let s = c.come.new.self in
     let there : s.has_lists ≡ true = c.come.ensures.lists ∙ c.args.self.now.ready (omega (arith, c.requires.spare, c.as_count.ensures.value, c.if-as_count-eq0.false)) in
-    kept_less s.columns.hops.items (length s.ases.ases + s.spare) (length s.ases.ases) s.lists (s.kept there) (omega arith)
+    let hops : c.regroup.new.columns.hops.items ≡ s.columns.hops.items = ap (λ v. v.items) c.regroup.ensures.hops in
+    subst (λ (t : List PlaceHop). AreKept t (length s.ases.ases) s.lists) (sym hops) (kept_less s.columns.hops.items (length s.ases.ases + s.spare) (length s.ases.ases) s.lists (s.kept there) (omega arith))
 
-pub renew_all-requires-clause-others : goal.renew_all-requires-clause-others
-renew_all-requires-clause-others g c =
+pub renew-requires-clause-others : goal.renew-requires-clause-others
+renew-requires-clause-others g c =
     let w = c.args.self.now in
     let s = c.come.new.self in
     let graph = c.args.graph.now in
     let label : ℕ → ℕ = λ a. g.P.Labelled.label_of (policy_at c.args.book.now a) in
     let next : ℕ → Hop = next_hop c.args.plan.now (round_routing c.args.pool.now c.args.tables.now) w.addr in
     let inside : (a b : ℕ) → next a ≡ hop.To b → has graph b ≡ true = next_inside graph c.args.plan.now (round_routing c.args.pool.now c.args.tables.now) w.addr c.requires.inside in
-    let groups : (x : ℕ) → group_at c.as_mut_slice.result.now x ≡ group_at w.columns.groups.items x = λ x. ap (λ (gs : List Group). group_at gs x) c.as_mut_slice.ensures.value ∙ c.come.ensures.groups x in
     let addr : w.addr ≡ s.addr = sym c.come.ensures.addr in
-    λ x l o r. hops_right graph next label c.args.changed.now c.args.regrouped.now inside w.ases.ases s.ases.ases w.columns.hops.items s.columns.hops.items w.columns.marks.items w.columns.groups.items c.as_mut_slice.result.now c.regroup.new.groups
-    c.come.ensures.comes w.apart w.hops_len w.within w.absent c.requires.hops c.requires.groups c.come.ensures.hops groups x l o r
+    let hops : c.regroup.new.columns.hops.items ≡ s.columns.hops.items = ap (λ v. v.items) c.regroup.ensures.hops in
+    λ x l o r. ap (λ (t : List PlaceHop). named s.ases.ases (hop_at t x)) hops
+    ∙ hops_right graph next label c.args.changed.now c.args.regrouped.now inside w.ases.ases s.ases.ases w.columns.hops.items s.columns.hops.items w.columns.marks.items w.columns.groups.items s.columns.groups.items c.regroup.new.columns.groups.items
+    c.come.ensures.comes w.apart w.hops_len w.within w.absent c.requires.hops c.requires.groups c.come.ensures.hops c.come.ensures.groups x l o r
     ∙ ap (λ (d : AddrValue). fresh graph (next_hop c.args.plan.now (round_routing c.args.pool.now c.args.tables.now) d) (name_at s.ases.ases x)) addr
 
 pub invariant_of-self-clause-absent : goal.invariant_of-self-clause-absent
@@ -57,30 +58,27 @@ invariant_of-self-clause-absent g c = λ x f.
     let label : ℕ → ℕ = λ a. g.P.Labelled.label_of (policy_at c.args.book.now a) in
     let next : ℕ → Hop = next_hop c.args.plan.now (round_routing c.args.pool.now c.args.tables.now) w.addr in
     let inside : (a b : ℕ) → next a ≡ hop.To b → has graph b ≡ true = next_inside graph c.args.plan.now (round_routing c.args.pool.now c.args.tables.now) w.addr c.requires.inside in
-    let groups : (x : ℕ) → group_at c.as_mut_slice.result.now x ≡ group_at w.columns.groups.items x = λ x. ap (λ (gs : List Group). group_at gs x) c.as_mut_slice.ensures.value ∙ c.come.ensures.groups x in
     let addr : s.addr ≡ w.addr = c.come.ensures.addr in
-    let h : AreHops (fresh graph next) s.ases.ases c.renew_all.new.hops.items = subst (λ (d : AddrValue). AreHops (fresh graph (next_hop c.args.plan.now (round_routing c.args.pool.now c.args.tables.now) d)) s.ases.ases c.renew_all.new.hops.items) addr c.renew_all.ensures.hops in
-    let gs : (with_items s.columns.groups c.regroup.new.groups).items ≡ c.regroup.new.groups = with_items_is s.columns.groups c.regroup.new.groups (search rules) in
-    gone_has_none graph next label c.args.changed.now c.args.regrouped.now inside w.ases.ases s.ases.ases w.columns.hops.items s.columns.hops.items w.columns.marks.items w.columns.groups.items c.as_mut_slice.result.now c.regroup.new.groups
-    c.come.ensures.comes w.apart w.hops_len w.within w.absent c.requires.hops c.requires.groups c.come.ensures.hops groups
-    c.regroup.ensures.counted.groups_len c.regroup.ensures.regrouped c.regroup.ensures.others c.renew_all.new.hops.items h x (ap (λ (t : List Group). is_here (group_at t x).standing) (sym gs) ∙ f)
+    let h : AreHops (fresh graph next) s.ases.ases c.renew.new.columns.hops.items = subst (λ (d : AddrValue). AreHops (fresh graph (next_hop c.args.plan.now (round_routing c.args.pool.now c.args.tables.now) d)) s.ases.ases c.renew.new.columns.hops.items) addr c.renew.ensures.hops in
+    let gs : c.renew.new.columns.groups.items ≡ c.regroup.new.columns.groups.items = ap (λ v. v.items) c.renew.ensures.groups in
+    gone_has_none graph next label c.args.changed.now c.args.regrouped.now inside w.ases.ases s.ases.ases w.columns.hops.items s.columns.hops.items w.columns.marks.items w.columns.groups.items s.columns.groups.items c.regroup.new.columns.groups.items
+    c.come.ensures.comes w.apart w.hops_len w.within w.absent c.requires.hops c.requires.groups c.come.ensures.hops c.come.ensures.groups
+    c.regroup.ensures.counted.groups_len c.regroup.ensures.regrouped c.regroup.ensures.others c.renew.new.columns.hops.items h x (ap (λ (t : List Group). is_here (group_at t x).standing) (sym gs) ∙ f)
 
 pub invariant_of-self-clause-hops_len : goal.invariant_of-self-clause-hops_len
-invariant_of-self-clause-hops_len g c = c.renew_all.ensures.hops.len
+invariant_of-self-clause-hops_len g c = c.renew.ensures.hops.len
 
 pub invariant_of-self-clause-within : goal.invariant_of-self-clause-within
-invariant_of-self-clause-within g c = c.renew_all.ensures.within
+invariant_of-self-clause-within g c = c.renew.ensures.within
 
 pub invariant_of-self-clause-kept : goal.invariant_of-self-clause-kept
-invariant_of-self-clause-kept g c = λ e. let s = c.come.new.self in c.renew_all.ensures.lists (length s.ases.ases + s.spare) (s.kept e).room
+invariant_of-self-clause-kept g c = λ e. let s = c.come.new.self in c.renew.ensures.lists (length s.ases.ases + s.spare) (s.kept e).room
 
 pub invariant_of-self-clause-ends : goal.invariant_of-self-clause-ends
-invariant_of-self-clause-ends g c = c.renew_all.ensures.ends
+invariant_of-self-clause-ends g c = c.renew.ensures.ends
 
 pub invariant_of-self-clause-counted : goal.invariant_of-self-clause-counted
-invariant_of-self-clause-counted g c =
-    let s = c.come.new.self in
-    subst (λ (t : List Group). AreCounted c.renew_all.new.sums s.ases.ases c.renew_all.new.marks.items t) c.as_slice-2.ensures.value c.renew_all.ensures.counted
+invariant_of-self-clause-counted g c = c.renew.ensures.counted
 
 pub returns-then-as_count-eq0-clause-rows : goal.returns-then-as_count-eq0-clause-rows
 returns-then-as_count-eq0-clause-rows g c =
@@ -98,11 +96,10 @@ returns-clause-rows g c =
     let label : ℕ → ℕ = λ a. g.P.Labelled.label_of (policy_at c.args.book.now a) in
     let next : ℕ → Hop = next_hop c.args.plan.now (round_routing c.args.pool.now c.args.tables.now) w.addr in
     let inside : (a b : ℕ) → next a ≡ hop.To b → has graph b ≡ true = next_inside graph c.args.plan.now (round_routing c.args.pool.now c.args.tables.now) w.addr c.requires.inside in
-    let groups : (x : ℕ) → group_at c.as_mut_slice.result.now x ≡ group_at w.columns.groups.items x = λ x. ap (λ (gs : List Group). group_at gs x) c.as_mut_slice.ensures.value ∙ c.come.ensures.groups x in
     let addr : s.addr ≡ w.addr = c.come.ensures.addr in
-    let h : AreHops (fresh graph next) s.ases.ases c.renew_all.new.hops.items = subst (λ (d : AddrValue). AreHops (fresh graph (next_hop c.args.plan.now (round_routing c.args.pool.now c.args.tables.now) d)) s.ases.ases c.renew_all.new.hops.items) addr c.renew_all.ensures.hops in
-    let gs : (with_items s.columns.groups c.regroup.new.groups).items ≡ c.regroup.new.groups = with_items_is s.columns.groups c.regroup.new.groups (search rules) in
-    let r : AreRows graph next label (rows s.ases.ases c.renew_all.new.hops.items c.renew_all.new.marks.items c.regroup.new.groups) = updated_rows graph next label c.args.changed.now c.args.regrouped.now inside w.ases.ases s.ases.ases w.columns.hops.items s.columns.hops.items w.columns.marks.items w.columns.groups.items c.as_mut_slice.result.now c.regroup.new.groups
-    c.come.ensures.comes w.apart w.hops_len w.within w.absent c.requires.hops c.requires.groups c.come.ensures.hops groups
-    c.regroup.ensures.counted.groups_len c.regroup.ensures.regrouped c.regroup.ensures.others c.renew_all.new.hops.items c.renew_all.new.marks.items s.apart h c.renew_all.ensures.ends in
-    subst (λ (t : List Group). AreRows graph next label (rows s.ases.ases c.renew_all.new.hops.items c.renew_all.new.marks.items t)) (sym gs) r
+    let h : AreHops (fresh graph next) s.ases.ases c.renew.new.columns.hops.items = subst (λ (d : AddrValue). AreHops (fresh graph (next_hop c.args.plan.now (round_routing c.args.pool.now c.args.tables.now) d)) s.ases.ases c.renew.new.columns.hops.items) addr c.renew.ensures.hops in
+    let gs : c.renew.new.columns.groups.items ≡ c.regroup.new.columns.groups.items = ap (λ v. v.items) c.renew.ensures.groups in
+    let r : AreRows graph next label (rows s.ases.ases c.renew.new.columns.hops.items c.renew.new.columns.marks.items c.regroup.new.columns.groups.items) = updated_rows graph next label c.args.changed.now c.args.regrouped.now inside w.ases.ases s.ases.ases w.columns.hops.items s.columns.hops.items w.columns.marks.items w.columns.groups.items s.columns.groups.items c.regroup.new.columns.groups.items
+    c.come.ensures.comes w.apart w.hops_len w.within w.absent c.requires.hops c.requires.groups c.come.ensures.hops c.come.ensures.groups
+    c.regroup.ensures.counted.groups_len c.regroup.ensures.regrouped c.regroup.ensures.others c.renew.new.columns.hops.items c.renew.new.columns.marks.items s.apart h c.renew.ensures.ends in
+    subst (λ (t : List Group). AreRows graph next label (rows s.ases.ases c.renew.new.columns.hops.items c.renew.new.columns.marks.items t)) (sym gs) r
