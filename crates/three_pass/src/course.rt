@@ -33,6 +33,8 @@ pub struct Course {
     pub(crate) rows: Rc<AsPlaces>,
     // for each row the place of its AS in the order
     pub(crate) places: Vec<u32>,
+    // with which the course was made, and tables along it are made
+    pub(crate) alloc: Global,
 }
 
 // Puts a neighbour behind the list, if it is a provider.
@@ -152,17 +154,18 @@ impl Course {
             above,
             rows,
             places,
+            alloc,
         })
     }
 
     /// An overlay for propagation along the course, which can serve all prefixes one after the other. The
     /// ASes of the course differ, as those of each course of a graph do. The only refusal is want of memory.
-    pub fn scratch(&self, alloc: Global) -> Result<Overlay, NoMemory>
+    pub fn scratch(&self) -> Result<Overlay, NoMemory>
         requires { IsDistinct nat_eq self.now.order.ases.items }
         ensures { IfOk result (IsScratch self.now) }
     {
-        let places = shared(alloc, self.order.ases.as_slice())?;
-        let overlay = Overlay::blank(alloc, &places, 1)?;
+        let places = shared(self.alloc, self.order.ases.as_slice())?;
+        let overlay = Overlay::blank(self.alloc, &places, 1)?;
         Ok(overlay)
     }
 }

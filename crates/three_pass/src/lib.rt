@@ -13,6 +13,7 @@ mod course;
 mod lists;
 mod looks;
 mod named;
+mod pass;
 mod passes;
 mod scratch;
 mod stable;

@@ -9,8 +9,8 @@ ghost use Rattle.as_graph.specs.Hierarchy.{HasNoProviderCycle};
 ghost use Rattle.as_graph.specs.Neighbours.{asns};
 ghost use Rattle.stability_laws.specs.Book.{policy_at};
 ghost use Rattle.stability_laws.specs.Stable.{IsStable};
-ghost use Rattle.stability_laws.specs.World.{setting};
-ghost use Rattle.route_choice.specs.Tables.{change_at, joined, prefix_of, seed_at};
+ghost use Rattle.route_choice.specs.Tables.{change_at, joined, seed_at};
+ghost use Rattle.route_choice.specs.PrefixWorlds.{setting_at};
 ghost use Rattle.route_choice.specs.Choices.{IsStepOf};
 ghost use Rattle.route_choice.specs.Loops.{HasNoLoops};
 ghost use Rattle.route_choice.specs.Routings.{routing_of, seeds_of};
@@ -28,13 +28,12 @@ use crate::ahead::look_ahead;
 use crate::asn_set::AsnSet;
 use crate::course::{Course, place_at};
 use crate::looks::Looks;
+use crate::pass::{Gathered, Pass, PlacedAs};
 use crate::told::{Told, holds};
-use as_graph::Graph;
 use net_names::Asn;
 use path_pool::PathPool;
 use policy_laws::{OriginStates, RoutePolicy};
-use route_choice::{Overlay, Part, SeedIds, Steps, Table, visit, visit_among};
-use stability_laws::Book;
+use route_choice::{Overlay, Part, PrefixWorld, Steps, Turn, visit, visit_among};
 use std::sync::ledger::Ledger;
 
 // Whether an AS has no seed, and no customer and no peer of it told it that it holds something.
@@ -60,261 +59,193 @@ fn gather(course: &Course, place: usize, told: &Told, asn: Asn, looks: &mut Look
 // A step of the AS at a place of the order, as `visit` makes it, that looks only at its providers and at
 // those that told it that they hold something, where these are known. Most are told nothing.
 fn step<P: RoutePolicy, V: OriginStates, L: Ledger>(
-    graph: &Graph,
+    at: &PrefixWorld<'_, P, V>,
     course: &Course,
-    place: usize,
-    book: &Book<P>,
-    states: &V,
-    seeds: &SeedIds,
-    told: &Told,
-    looks: &mut Looks,
+    gathered: &mut Gathered<'_>,
     pool: &mut PathPool,
-    table: &Table,
     overlay: &mut Overlay,
-    asn: Asn,
-    row: usize,
-    may_loop: bool,
-    part: Part,
+    turn: Turn,
     steps: &mut Steps<L>,
 ) -> bool
-    requires can { CanStep pool.old seeds.now table.now overlay.old 1 }
-    requires inside { place < count_of course.now.above }
-    requires above { AreProviders (relation graph.now) asn (list_at course.now.above place) }
-    requires true_notes { AreTrue (relation graph.now) told.now }
-    requires told { HaveTold (IsTold told.now) (setting P.meaning graph.now book.now (V.state_of states.now (prefix_of table.now))) (routing_of pool.old table.now overlay.old) asn }
-    requires no_loops { may_loop ≡ false → HasNoLoops part (relation graph.now) (λ n. P.meaning (policy_at book.now n)) (routing_of pool.old table.now overlay.old) asn }
+    requires can { CanStep pool.old at.now.seeds.now at.now.table.now overlay.old 1 }
+    requires inside { turn.place < count_of course.now.above }
+    requires above { AreProviders (relation at.now.graph.now) turn.asn (list_at course.now.above turn.place) }
+    requires true_notes { AreTrue (relation at.now.graph.now) gathered.old.told }
+    requires told { HaveTold (IsTold gathered.old.told) (setting_at P.meaning V.state_of at.now) (routing_of pool.old at.now.table.now overlay.old) turn.asn }
+    requires no_loops { turn.may_loop ≡ false → HasNoLoops turn.part (relation at.now.graph.now) (λ n. P.meaning (policy_at at.now.book.now n)) (routing_of pool.old at.now.table.now overlay.old) turn.asn }
     ensures cost { steps.new ≡ steps.old + 1 }
-    ensures step { IsStepOf part (setting P.meaning graph.now book.now (V.state_of states.now (prefix_of table.now))) (seeds_of pool.old seeds.now) (routing_of pool.old table.now overlay.old) asn (routing_of pool.new table.now overlay.new) }
-    ensures changed { IsTrue result ↔ (routing_of pool.new table.now overlay.new asn ≢ routing_of pool.old table.now overlay.old asn) }
+    ensures step { IsStepOf turn.part (setting_at P.meaning V.state_of at.now) (seeds_of pool.old at.now.seeds.now) (routing_of pool.old at.now.table.now overlay.old) turn.asn (routing_of pool.new at.now.table.now overlay.new) }
+    ensures changed { IsTrue result ↔ (routing_of pool.new at.now.table.now overlay.new turn.asn ≢ routing_of pool.old at.now.table.now overlay.old turn.asn) }
     ensures unchanged { result ≡ false → (pool.new ≡ pool.old) × (overlay.new ≡ overlay.old) }
-    ensures put { IsTrue result → IsSome (change_at overlay.new asn) }
-    ensures spent { Spends pool.old pool.new overlay.old overlay.new asn }
-    ensures kept { GivesUpNothing overlay.old (routing_of pool.old table.now overlay.old) (routing_of pool.new table.now overlay.new) asn → Keeps pool.old pool.new seeds.now }
+    ensures put { IsTrue result → IsSome (change_at overlay.new turn.asn) }
+    ensures told { gathered.new.told ≡ gathered.old.told }
+    ensures spent { Spends pool.old pool.new overlay.old overlay.new turn.asn }
+    ensures kept { GivesUpNothing overlay.old (routing_of pool.old at.now.table.now overlay.old) (routing_of pool.new at.now.table.now overlay.new) turn.asn → Keeps pool.old pool.new at.now.seeds.now }
 {
-    if told.is_untold(asn, place) {
-        let above = course.above.list(place);
-        let above_places = course.above.places(place);
-        return visit_among(
-            graph,
-            book,
-            states,
-            seeds,
-            pool,
-            table,
-            overlay,
-            asn,
-            place,
-            above,
-            above_places,
-            may_loop,
-            part,
-            steps,
-        );
+    let told = &gathered.told;
+    let looks = &mut gathered.looks;
+    if told.is_untold(turn.asn, turn.place) {
+        let above = course.above.list(turn.place);
+        let above_places = course.above.places(turn.place);
+        return visit_among(at, pool, overlay, turn, above, above_places, steps);
     }
-    if gather(course, place, told, asn, looks) {
+    if gather(course, turn.place, told, turn.asn, looks) {
         let neighbours = looks.neighbours.as_slice();
         let places = looks.places.as_slice();
-        visit_among(
-            graph, book, states, seeds, pool, table, overlay, asn, place, neighbours, places,
-            may_loop, part, steps,
-        )
+        visit_among(at, pool, overlay, turn, neighbours, places, steps)
     } else {
-        visit(
-            graph, book, states, seeds, pool, table, overlay, asn, row, may_loop, part, steps,
-        )
+        let row = place_at(&course.order.places, turn.place) as usize;
+        let by_row = Turn { place: row, ..turn };
+        visit(at, pool, overlay, by_row, steps)
     }
 }
 
 // The step upwards of the AS at a place of the order, which tells its peers and its providers if it holds
 // something then. Who has no seed, and was told nothing, takes none.
 fn step_up<P: RoutePolicy, V: OriginStates, L: Ledger>(
-    graph: &Graph,
-    course: &Course,
-    place: usize,
-    book: &Book<P>,
-    states: &V,
-    seeds: &SeedIds,
-    named: &AsnSet,
-    told: &mut Told,
-    looks: &mut Looks,
+    at: &PrefixWorld<'_, P, V>,
+    pass: &Pass<'_>,
+    gathered: &mut Gathered<'_>,
     pool: &mut PathPool,
-    table: &Table,
     overlay: &mut Overlay,
+    place: usize,
     steps: &mut Steps<L>,
 )
-    requires course { IsCourse graph.now course.now }
-    requires inside { place < length course.now.order.ases.items }
-    requires nothing { routing_of pool.old table.now overlay.old (slice_index course.now.order.ases.items place) ≡ None }
-    requires unnamed { is_among named.now (slice_index course.now.order.ases.items place) ≡ false → seed_at seeds.now (slice_index course.now.order.ases.items place) ≡ None }
-    requires true_notes { AreTrue (relation graph.now) told.old }
-    requires told { HaveTold (IsTold told.old) (setting P.meaning graph.now book.now (V.state_of states.now (prefix_of table.now))) (routing_of pool.old table.now overlay.old) (slice_index course.now.order.ases.items place) }
-    requires no_loops { is_among named.now (slice_index course.now.order.ases.items place) ≡ false → HasNoLoops Part.Up (relation graph.now) (λ n. P.meaning (policy_at book.now n)) (routing_of pool.old table.now overlay.old) (slice_index course.now.order.ases.items place) }
-    requires room { CanGo pool.old seeds.now table.now overlay.old course.now.order.ases.items }
+    requires course { IsCourse at.now.graph.now pass.now.course.now }
+    requires inside { place < length pass.now.course.now.order.ases.items }
+    requires nothing { routing_of pool.old at.now.table.now overlay.old (slice_index pass.now.course.now.order.ases.items place) ≡ None }
+    requires unnamed { is_among pass.now.named (slice_index pass.now.course.now.order.ases.items place) ≡ false → seed_at at.now.seeds.now (slice_index pass.now.course.now.order.ases.items place) ≡ None }
+    requires true_notes { AreTrue (relation at.now.graph.now) gathered.old.told }
+    requires told { HaveTold (IsTold gathered.old.told) (setting_at P.meaning V.state_of at.now) (routing_of pool.old at.now.table.now overlay.old) (slice_index pass.now.course.now.order.ases.items place) }
+    requires no_loops { is_among pass.now.named (slice_index pass.now.course.now.order.ases.items place) ≡ false → HasNoLoops Part.Up (relation at.now.graph.now) (λ n. P.meaning (policy_at at.now.book.now n)) (routing_of pool.old at.now.table.now overlay.old) (slice_index pass.now.course.now.order.ases.items place) }
+    requires room { CanGo pool.old at.now.seeds.now at.now.table.now overlay.old pass.now.course.now.order.ases.items }
     ensures cost { steps.new ≤ steps.old + 1 }
-    ensures step { IsStepOf Part.Up (setting P.meaning graph.now book.now (V.state_of states.now (prefix_of table.now))) (seeds_of pool.old seeds.now) (routing_of pool.old table.now overlay.old) (slice_index course.now.order.ases.items place) (routing_of pool.new table.now overlay.new) }
-    ensures around { routing_of pool.new table.now overlay.new (slice_index course.now.order.ases.items place) ≢ None → (n : ℕ) (r : ARel) → relation graph.now (slice_index course.now.order.ases.items place) n ≡ Some r → r ≢ Customer → IsTold told.new n (slice_index course.now.order.ases.items place) }
-    ensures others { (a b : ℕ) → IsTold told.old a b → IsTold told.new a b }
-    ensures true_notes { AreTrue (relation graph.now) told.new }
-    ensures room { CanGo pool.new seeds.now table.now overlay.new course.now.order.ases.items }
-    ensures spent { HasSpent pool.old pool.new seeds.now table.now overlay.old overlay.new course.now.order.ases.items }
+    ensures step { IsStepOf Part.Up (setting_at P.meaning V.state_of at.now) (seeds_of pool.old at.now.seeds.now) (routing_of pool.old at.now.table.now overlay.old) (slice_index pass.now.course.now.order.ases.items place) (routing_of pool.new at.now.table.now overlay.new) }
+    ensures around { routing_of pool.new at.now.table.now overlay.new (slice_index pass.now.course.now.order.ases.items place) ≢ None → (n : ℕ) (r : ARel) → relation at.now.graph.now (slice_index pass.now.course.now.order.ases.items place) n ≡ Some r → r ≢ Customer → IsTold gathered.new.told n (slice_index pass.now.course.now.order.ases.items place) }
+    ensures others { (a b : ℕ) → IsTold gathered.old.told a b → IsTold gathered.new.told a b }
+    ensures true_notes { AreTrue (relation at.now.graph.now) gathered.new.told }
+    ensures room { CanGo pool.new at.now.seeds.now at.now.table.now overlay.new pass.now.course.now.order.ases.items }
+    ensures spent { HasSpent pool.old pool.new at.now.seeds.now at.now.table.now overlay.old overlay.new pass.now.course.now.order.ases.items }
 {
-    let asn = course.order.ases[place];
-    let row = place_at(&course.order.places, place) as usize;
-    if has_none_to_take(told, named, asn, place) {
+    let asn = pass.course.order.ases[place];
+    if has_none_to_take(&gathered.told, &pass.named, asn, place) {
         return;
     }
-    let may_loop = named.has(asn);
-    step(
-        graph,
-        course,
-        place,
-        book,
-        states,
-        seeds,
-        told,
-        looks,
-        pool,
-        table,
-        overlay,
+    let may_loop = pass.named.has(asn);
+    let turn = Turn {
         asn,
-        row,
+        place,
         may_loop,
-        Part::Up,
-        steps,
-    );
-    told.add_holder(graph, asn, row, place, table, overlay);
+        part: Part::Up,
+    };
+    step(at, pass.course, gathered, pool, overlay, turn, steps);
+    let row = place_at(&pass.course.order.places, place) as usize;
+    gathered
+        .told
+        .add_holder(at.graph, asn, row, place, at.table, overlay);
 }
 
 // Customers' routes go up, and who holds one tells its peers and its providers.
 pub fn go_up<P: RoutePolicy, V: OriginStates, L: Ledger>(
-    graph: &Graph,
-    course: &Course,
-    book: &Book<P>,
-    states: &V,
-    seeds: &SeedIds,
-    named: &AsnSet,
-    told: &mut Told,
-    looks: &mut Looks,
+    at: &PrefixWorld<'_, P, V>,
+    pass: &Pass<'_>,
+    gathered: &mut Gathered<'_>,
     pool: &mut PathPool,
-    table: &Table,
     overlay: &mut Overlay,
     steps: &mut Steps<L>,
 )
-    requires no_cycle { HasNoProviderCycle (relation graph.now) }
-    requires course { IsCourse graph.now course.now }
-    requires empty { (a : ℕ) → joined table.now overlay.old a ≡ None }
-    requires named { AreNamed (is_among named.now) (seeds_of pool.old seeds.now) }
-    requires unnamed { (a : ℕ) → is_among named.now a ≡ false → seed_at seeds.now a ≡ None }
-    requires true_notes { AreTrue (relation graph.now) told.old }
-    requires room { CanGo pool.old seeds.now table.now overlay.old course.now.order.ases.items }
-    ensures cost { steps.new ≤ steps.old + length course.now.order.ases.items }
-    ensures done { AfterUp (setting P.meaning graph.now book.now (V.state_of states.now (prefix_of table.now))) (seeds_of pool.old seeds.now) course.now.order.ases.items (routing_of pool.new table.now overlay.new) }
-    ensures told { (b n : ℕ) (r : ARel) → occurs b course.now.order.ases.items ≡ true → routing_of pool.new table.now overlay.new b ≢ None → relation graph.now b n ≡ Some r → r ≢ Customer → IsTold told.new n b }
-    ensures true_notes { AreTrue (relation graph.now) told.new }
-    ensures room { CanGo pool.new seeds.now table.now overlay.new course.now.order.ases.items }
-    ensures spent { HasSpent pool.old pool.new seeds.now table.now overlay.old overlay.new course.now.order.ases.items }
+    requires no_cycle { HasNoProviderCycle (relation at.now.graph.now) }
+    requires course { IsCourse at.now.graph.now pass.now.course.now }
+    requires empty { (a : ℕ) → joined at.now.table.now overlay.old a ≡ None }
+    requires named { AreNamed (is_among pass.now.named) (seeds_of pool.old at.now.seeds.now) }
+    requires unnamed { (a : ℕ) → is_among pass.now.named a ≡ false → seed_at at.now.seeds.now a ≡ None }
+    requires true_notes { AreTrue (relation at.now.graph.now) gathered.old.told }
+    requires room { CanGo pool.old at.now.seeds.now at.now.table.now overlay.old pass.now.course.now.order.ases.items }
+    ensures cost { steps.new ≤ steps.old + length pass.now.course.now.order.ases.items }
+    ensures done { AfterUp (setting_at P.meaning V.state_of at.now) (seeds_of pool.old at.now.seeds.now) pass.now.course.now.order.ases.items (routing_of pool.new at.now.table.now overlay.new) }
+    ensures told { (b n : ℕ) (r : ARel) → occurs b pass.now.course.now.order.ases.items ≡ true → routing_of pool.new at.now.table.now overlay.new b ≢ None → relation at.now.graph.now b n ≡ Some r → r ≢ Customer → IsTold gathered.new.told n b }
+    ensures true_notes { AreTrue (relation at.now.graph.now) gathered.new.told }
+    ensures room { CanGo pool.new at.now.seeds.now at.now.table.now overlay.new pass.now.course.now.order.ases.items }
+    ensures spent { HasSpent pool.old pool.new at.now.seeds.now at.now.table.now overlay.old overlay.new pass.now.course.now.order.ases.items }
 {
-    for place in 0..course.order.ases.len() {
-        step_up(
-            graph, course, place, book, states, seeds, named, told, looks, pool, table, overlay,
-            steps,
-        );
+    for place in 0..pass.course.order.ases.len() {
+        step_up(at, pass, gathered, pool, overlay, place, steps);
     }
 }
 
 // The step downwards of the AS at a place of the order. Who holds something, and is right with it, takes none.
 fn step_down<P: RoutePolicy, V: OriginStates, L: Ledger>(
-    graph: &Graph,
-    course: &Course,
-    place: usize,
-    book: &Book<P>,
-    states: &V,
-    seeds: &SeedIds,
-    named: &AsnSet,
-    told: &Told,
-    looks: &mut Looks,
+    at: &PrefixWorld<'_, P, V>,
+    pass: &Pass<'_>,
+    gathered: &mut Gathered<'_>,
     pool: &mut PathPool,
-    table: &Table,
     overlay: &mut Overlay,
-    asn: Asn,
-    row: usize,
+    placed: PlacedAs,
     steps: &mut Steps<L>,
 ) -> bool
-    requires can { CanStep pool.old seeds.now table.now overlay.old 1 }
-    requires inside { place < count_of course.now.above }
-    requires above { AreProviders (relation graph.now) asn (list_at course.now.above place) }
-    requires held { routing_of pool.old table.now overlay.old asn ≢ None → IsStepOf Part.Whole (setting P.meaning graph.now book.now (V.state_of states.now (prefix_of table.now))) (seeds_of pool.old seeds.now) (routing_of pool.old table.now overlay.old) asn (routing_of pool.old table.now overlay.old) }
-    requires true_notes { AreTrue (relation graph.now) told.now }
-    requires told { HaveTold (IsTold told.now) (setting P.meaning graph.now book.now (V.state_of states.now (prefix_of table.now))) (routing_of pool.old table.now overlay.old) asn }
-    requires no_loops { routing_of pool.old table.now overlay.old asn ≡ None → is_among named.now asn ≡ false → HasNoLoops Part.Whole (relation graph.now) (λ n. P.meaning (policy_at book.now n)) (routing_of pool.old table.now overlay.old) asn }
+    requires can { CanStep pool.old at.now.seeds.now at.now.table.now overlay.old 1 }
+    requires inside { placed.place < count_of pass.now.course.now.above }
+    requires above { AreProviders (relation at.now.graph.now) placed.asn (list_at pass.now.course.now.above placed.place) }
+    requires held { routing_of pool.old at.now.table.now overlay.old placed.asn ≢ None → IsStepOf Part.Whole (setting_at P.meaning V.state_of at.now) (seeds_of pool.old at.now.seeds.now) (routing_of pool.old at.now.table.now overlay.old) placed.asn (routing_of pool.old at.now.table.now overlay.old) }
+    requires true_notes { AreTrue (relation at.now.graph.now) gathered.old.told }
+    requires told { HaveTold (IsTold gathered.old.told) (setting_at P.meaning V.state_of at.now) (routing_of pool.old at.now.table.now overlay.old) placed.asn }
+    requires no_loops { routing_of pool.old at.now.table.now overlay.old placed.asn ≡ None → is_among pass.now.named placed.asn ≡ false → HasNoLoops Part.Whole (relation at.now.graph.now) (λ n. P.meaning (policy_at at.now.book.now n)) (routing_of pool.old at.now.table.now overlay.old) placed.asn }
     ensures cost { steps.new ≤ steps.old + 1 }
-    ensures step { IsStepOf Part.Whole (setting P.meaning graph.now book.now (V.state_of states.now (prefix_of table.now))) (seeds_of pool.old seeds.now) (routing_of pool.old table.now overlay.old) asn (routing_of pool.new table.now overlay.new) }
-    ensures changed { IsTrue result ↔ (routing_of pool.new table.now overlay.new asn ≢ routing_of pool.old table.now overlay.old asn) }
+    ensures step { IsStepOf Part.Whole (setting_at P.meaning V.state_of at.now) (seeds_of pool.old at.now.seeds.now) (routing_of pool.old at.now.table.now overlay.old) placed.asn (routing_of pool.new at.now.table.now overlay.new) }
+    ensures changed { IsTrue result ↔ (routing_of pool.new at.now.table.now overlay.new placed.asn ≢ routing_of pool.old at.now.table.now overlay.old placed.asn) }
     ensures unchanged { result ≡ false → (pool.new ≡ pool.old) × (overlay.new ≡ overlay.old) }
-    ensures put { IsTrue result → IsSome (change_at overlay.new asn) }
-    ensures spent { Spends pool.old pool.new overlay.old overlay.new asn }
-    ensures kept { GivesUpNothing overlay.old (routing_of pool.old table.now overlay.old) (routing_of pool.new table.now overlay.new) asn → Keeps pool.old pool.new seeds.now }
+    ensures put { IsTrue result → IsSome (change_at overlay.new placed.asn) }
+    ensures told { gathered.new.told ≡ gathered.old.told }
+    ensures spent { Spends pool.old pool.new overlay.old overlay.new placed.asn }
+    ensures kept { GivesUpNothing overlay.old (routing_of pool.old at.now.table.now overlay.old) (routing_of pool.new at.now.table.now overlay.new) placed.asn → Keeps pool.old pool.new at.now.seeds.now }
 {
-    if holds(table, overlay, asn, place) {
+    if holds(at.table, overlay, placed.asn, placed.place) {
         return false;
     }
-    let may_loop = named.has(asn);
-    step(
-        graph,
-        course,
-        place,
-        book,
-        states,
-        seeds,
-        told,
-        looks,
-        pool,
-        table,
-        overlay,
-        asn,
-        row,
+    let may_loop = pass.named.has(placed.asn);
+    let turn = Turn {
+        asn: placed.asn,
+        place: placed.place,
         may_loop,
-        Part::Whole,
-        steps,
-    )
+        part: Part::Whole,
+    };
+    step(at, pass.course, gathered, pool, overlay, turn, steps)
 }
 
 // Peers' routes go across and providers' routes down, to those that hold nothing yet.
 pub fn go_down<P: RoutePolicy, V: OriginStates, L: Ledger>(
-    graph: &Graph,
-    course: &Course,
-    book: &Book<P>,
-    states: &V,
-    seeds: &SeedIds,
-    named: &AsnSet,
-    told: &Told,
-    looks: &mut Looks,
+    at: &PrefixWorld<'_, P, V>,
+    pass: &Pass<'_>,
+    gathered: &mut Gathered<'_>,
     pool: &mut PathPool,
-    table: &Table,
     overlay: &mut Overlay,
     steps: &mut Steps<L>,
 )
-    requires no_cycle { HasNoProviderCycle (relation graph.now) }
-    requires course { IsCourse graph.now course.now }
-    requires true_notes { AreTrue (relation graph.now) told.now }
-    requires told { (a : ℕ) → HaveTold (IsTold told.now) (setting P.meaning graph.now book.now (V.state_of states.now (prefix_of table.now))) (routing_of pool.old table.now overlay.old) a }
-    requires named { AreNamed (is_among named.now) (seeds_of pool.old seeds.now) }
-    requires up { AfterUp (setting P.meaning graph.now book.now (V.state_of states.now (prefix_of table.now))) (seeds_of pool.old seeds.now) course.now.order.ases.items (routing_of pool.old table.now overlay.old) }
-    requires room { CanGo pool.old seeds.now table.now overlay.old course.now.order.ases.items }
-    ensures cost { steps.new ≤ steps.old + length course.now.order.ases.items }
-    ensures done { IsStable (setting P.meaning graph.now book.now (V.state_of states.now (prefix_of table.now))) (seeds_of pool.old seeds.now) (routing_of pool.new table.now overlay.new) }
-    ensures room { CanGo pool.new seeds.now table.now overlay.new course.now.order.ases.items }
-    ensures spent { HasSpent pool.old pool.new seeds.now table.now overlay.old overlay.new course.now.order.ases.items }
+    requires no_cycle { HasNoProviderCycle (relation at.now.graph.now) }
+    requires course { IsCourse at.now.graph.now pass.now.course.now }
+    requires true_notes { AreTrue (relation at.now.graph.now) gathered.old.told }
+    requires told { (a : ℕ) → HaveTold (IsTold gathered.old.told) (setting_at P.meaning V.state_of at.now) (routing_of pool.old at.now.table.now overlay.old) a }
+    requires named { AreNamed (is_among pass.now.named) (seeds_of pool.old at.now.seeds.now) }
+    requires up { AfterUp (setting_at P.meaning V.state_of at.now) (seeds_of pool.old at.now.seeds.now) pass.now.course.now.order.ases.items (routing_of pool.old at.now.table.now overlay.old) }
+    requires room { CanGo pool.old at.now.seeds.now at.now.table.now overlay.old pass.now.course.now.order.ases.items }
+    ensures cost { steps.new ≤ steps.old + length pass.now.course.now.order.ases.items }
+    ensures done { IsStable (setting_at P.meaning V.state_of at.now) (seeds_of pool.old at.now.seeds.now) (routing_of pool.new at.now.table.now overlay.new) }
+    ensures room { CanGo pool.new at.now.seeds.now at.now.table.now overlay.new pass.now.course.now.order.ases.items }
+    ensures spent { HasSpent pool.old pool.new at.now.seeds.now at.now.table.now overlay.old overlay.new pass.now.course.now.order.ases.items }
 {
-    let mut left = course.order.ases.len();
+    let mut left = pass.course.order.ases.len();
     while left > 0 {
-        look_ahead(&course.above, told, left, pool, overlay, looks);
-        left -= 1;
-        let asn = course.order.ases[left];
-        let row = place_at(&course.order.places, left) as usize;
-        step_down(
-            graph, course, left, book, states, seeds, named, told, looks, pool, table, overlay,
-            asn, row, steps,
+        look_ahead(
+            &pass.course.above,
+            &gathered.told,
+            left,
+            pool,
+            overlay,
+            &mut gathered.looks,
         );
+        left -= 1;
+        let asn = pass.course.order.ases[left];
+        let next = PlacedAs { asn, place: left };
+        step_down(at, pass, gathered, pool, overlay, next, steps);
     }
 }

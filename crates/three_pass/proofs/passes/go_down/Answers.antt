@@ -7,16 +7,16 @@ use Rattle.as_graph.specs.Topology.{relation, ases}
 use Rattle.as_graph.proofs.Links.{relation_mutual, relation_self, topology-AreLinks}
 use Rattle.as_graph.proofs.Ranks.{ranks_fall}
 use Rattle.stability_laws.specs.Book.{policy_at}
-use Rattle.stability_laws.specs.World.{setting}
 use Rattle.stability_laws.specs.Stable.{IsLawful}
 use Rattle.route_choice.specs.declared.choice.Part.TheVariants.{Whole}
 use Rattle.route_choice.specs.Routings.{routing_of, seeds_of}
-use Rattle.route_choice.specs.Tables.{prefix_of}
+use Rattle.route_choice.specs.PrefixWorlds.{setting_at}
 use Rattle.three_pass.specs.AsnSets.{is_among}
 use Rattle.three_pass.specs.Lists.{AreProviders, list_at}
 use Rattle.three_pass.specs.Progress.{AfterWhole}
 use Rattle.three_pass.proofs.InOrder.{turn, down_same, down_more, down_fresh, no_loops_downwards, all_right}
-use Rattle.three_pass.specs.Told.{IsTold}
+use Rattle.three_pass.specs.Told.{AreTrue, IsTold}
+use Rattle.three_pass.specs.Telling.{HaveTold}
 use Rattle.three_pass.proofs.Quiet.{still_told}
 use Rattle.three_pass.proofs.Settled.{settled}
 use Rattle.three_pass.proofs.Spending.{can_step, spent_nothing, visited, step_seeds}
@@ -26,124 +26,133 @@ pub look_ahead-requires : goal.look_ahead-requires
 look_ahead-requires g c = λ k. omega (arith, c.loop-left.invariant.room.held k)
 
 pub step_down-requires-clause-can : goal.step_down-requires-clause-can
-step_down-requires-clause-can g c = can_step c.loop-left.pool c.args.seeds.now c.args.table.now c.loop-left.overlay c.args.course.now.order.ases.items c.loop-left.invariant.room (omega (arith, c.loop-left-test.true, c.loop-left.invariant.within))
+step_down-requires-clause-can g c = can_step c.loop-left.pool c.args.at.now.seeds.now c.args.at.now.table.now c.loop-left.overlay c.args.pass.now.course.now.order.ases.items c.loop-left.invariant.room (omega (arith, c.loop-left-test.true, c.loop-left.invariant.within))
 
 pub step_down-requires-clause-inside : goal.step_down-requires-clause-inside
 step_down-requires-clause-inside g c = omega (arith, c.loop-left-test.true, c.loop-left.invariant.within, c.requires.course.above.count)
 
 pub step_down-requires-clause-above : goal.step_down-requires-clause-above
 step_down-requires-clause-above g c =
-    let xs = c.args.course.now.order.ases.items in
+    let xs = c.args.pass.now.course.now.order.ases.items in
     let i = c.loop-left.left - 1 in
     let left = c.loop-left-test.true in
     let within : i < length xs = omega (arith, c.loop-left.invariant.within) in
     let read = get_or_read xs i c.index-asn.result.now within c.index-asn.ensures 0 in
-    subst (λ (a : ℕ). AreProviders (relation c.args.graph.now) a (list_at c.args.course.now.above i)) (sym read) (c.requires.course.above.each i within)
+    subst (λ (a : ℕ). AreProviders (relation c.args.at.now.graph.now) a (list_at c.args.pass.now.course.now.above i)) (sym read) (c.requires.course.above.each i within)
 
 pub step_down-requires-clause-told : goal.step_down-requires-clause-told
-step_down-requires-clause-told g c = c.loop-left.invariant.told c.index-asn.result.now
+step_down-requires-clause-told g c =
+    let here = setting_at g.P.RoutePolicy.meaning g.V.OriginStates.state_of c.args.at.now in
+    let a = c.index-asn.result.now in
+    let f = routing_of c.loop-left.pool c.args.at.now.table.now c.loop-left.overlay in
+    subst (λ t. HaveTold (IsTold t) here f a) (sym c.loop-left.invariant.same) (c.loop-left.invariant.told a)
+
+pub step_down-requires-clause-true_notes : goal.step_down-requires-clause-true_notes
+step_down-requires-clause-true_notes g c = subst (AreTrue (relation c.args.at.now.graph.now)) (sym c.loop-left.invariant.same) c.requires.true_notes
 
 pub step_down-requires-clause-held : goal.step_down-requires-clause-held
 step_down-requires-clause-held g c = λ some.
     let meaning = g.P.RoutePolicy.meaning in
-    let w = c.args.graph.now in
-    let here = setting meaning w c.args.book.now (g.V.OriginStates.state_of c.args.states.now (prefix_of c.args.table.now)) in
-    let lawful = λ (a : ℕ). (let p = policy_at c.args.book.now a in
+    let w = c.args.at.now.graph.now in
+    let here = setting_at meaning g.V.OriginStates.state_of c.args.at.now in
+    let lawful = λ (a : ℕ). (let p = policy_at c.args.at.now.book.now a in
     let is : IsLawful (meaning p) = record { ranks_offers = g.met.P.RoutePolicy.ranks_offers p; prefers_customers = g.met.P.RoutePolicy.prefers_customers p; exports_down_only = g.met.P.RoutePolicy.exports_down_only p } in is) in
-    let xs = c.args.course.now.order.ases.items in
+    let xs = c.args.pass.now.course.now.order.ases.items in
     let i = c.loop-left.left - 1 in
     let a = c.index-asn.result.now in
     let left = c.loop-left-test.true in
-    let seeds = seeds_of c.args.pool.now c.args.seeds.now in
-    let f = routing_of c.loop-left.pool c.args.table.now c.loop-left.overlay in
+    let seeds = seeds_of c.args.pool.now c.args.at.now.seeds.now in
+    let f = routing_of c.loop-left.pool c.args.at.now.table.now c.loop-left.overlay in
     let back : i + 1 ≡ c.loop-left.left = omega arith in
     let within : i < length xs = omega (arith, c.loop-left.invariant.within) in
     let more : take (i + 1) xs ≡ take i xs ++ a ∷ [] = take_more xs i a within ∙ ap (λ t. take i xs ++ t ∷ []) (sym c.index-asn.ensures) in
     let there : occurs a xs ≡ true = list_any_at (λ y. y == a) xs i a within (eq-eqb _ a (sym c.index-asn.ensures)) in
     let still : occurs a (take c.loop-left.left xs) ≡ true = ap (λ k. occurs a (take k xs)) (sym back) ∙ ap (occurs a) more ∙ list_any-append (λ y. y == a) (take i xs) (a ∷ []) ∙ or_right (occurs a (take i xs)) _ (ap (λ t. t || false) (eq-eqb a a refl)) in
-    step_seeds Whole here seeds (seeds_of c.loop-left.pool c.args.seeds.now) f a f
+    step_seeds Whole here seeds (seeds_of c.loop-left.pool c.args.at.now.seeds.now) f a f
     (settled here lawful f a seeds some (c.loop-left.invariant.so_far.still a still) (c.loop-left.invariant.so_far.low a (sym (c.requires.course.order.complete a) ∙ there)))
     (sym (c.loop-left.invariant.spent.keeps.same_seeds a))
 
 pub step_down-requires-clause-no_loops : goal.step_down-requires-clause-no_loops
 step_down-requires-clause-no_loops g c =
     let meaning = g.P.RoutePolicy.meaning in
-    let w = c.args.graph.now in
-    let here = setting meaning w c.args.book.now (g.V.OriginStates.state_of c.args.states.now (prefix_of c.args.table.now)) in
-    let lawful = λ (a : ℕ). (let p = policy_at c.args.book.now a in
+    let w = c.args.at.now.graph.now in
+    let here = setting_at meaning g.V.OriginStates.state_of c.args.at.now in
+    let lawful = λ (a : ℕ). (let p = policy_at c.args.at.now.book.now a in
     let is : IsLawful (meaning p) = record { ranks_offers = g.met.P.RoutePolicy.ranks_offers p; prefers_customers = g.met.P.RoutePolicy.prefers_customers p; exports_down_only = g.met.P.RoutePolicy.exports_down_only p } in is) in
     let falls = (ranks_fall (relation w) (ases w) (topology-AreLinks w) c.requires.no_cycle c.requires.course.rank c.requires.course.ranks).falls in
-    let xs = c.args.course.now.order.ases.items in
+    let xs = c.args.pass.now.course.now.order.ases.items in
     let i = c.loop-left.left - 1 in
     let a = c.index-asn.result.now in
     let left = c.loop-left-test.true in
-    let seeds = seeds_of c.args.pool.now c.args.seeds.now in
-    let f = routing_of c.loop-left.pool c.args.table.now c.loop-left.overlay in
+    let seeds = seeds_of c.args.pool.now c.args.at.now.seeds.now in
+    let f = routing_of c.loop-left.pool c.args.at.now.table.now c.loop-left.overlay in
     let back : i + 1 ≡ c.loop-left.left = omega arith in
     let within : i < length xs = omega (arith, c.loop-left.invariant.within) in
     let more : take (i + 1) xs ≡ take i xs ++ a ∷ [] = take_more xs i a within ∙ ap (λ t. take i xs ++ t ∷ []) (sym c.index-asn.ensures) in
     no_loops_downwards here lawful (relation_mutual w) (relation_self w) seeds c.requires.course.rank falls xs c.requires.course.order
-    (is_among c.args.named.now) c.requires.named i a a f within c.index-asn.ensures more (subst (λ k. AfterWhole here seeds (take k xs) f) (sym back) c.loop-left.invariant.so_far)
+    (is_among c.args.pass.now.named) c.requires.named i a a f within c.index-asn.ensures more (subst (λ k. AfterWhole here seeds (take k xs) f) (sym back) c.loop-left.invariant.so_far)
 
 pub loop-left-init : goal.loop-left-init
 loop-left-init g c =
     let meaning = g.P.RoutePolicy.meaning in
-    let w = c.args.graph.now in
-    let here = setting meaning w c.args.book.now (g.V.OriginStates.state_of c.args.states.now (prefix_of c.args.table.now)) in
-    let lawful = λ (a : ℕ). (let p = policy_at c.args.book.now a in
+    let w = c.args.at.now.graph.now in
+    let here = setting_at meaning g.V.OriginStates.state_of c.args.at.now in
+    let lawful = λ (a : ℕ). (let p = policy_at c.args.at.now.book.now a in
     let is : IsLawful (meaning p) = record { ranks_offers = g.met.P.RoutePolicy.ranks_offers p; prefers_customers = g.met.P.RoutePolicy.prefers_customers p; exports_down_only = g.met.P.RoutePolicy.exports_down_only p } in is) in
     let falls = (ranks_fall (relation w) (ases w) (topology-AreLinks w) c.requires.no_cycle c.requires.course.rank c.requires.course.ranks).falls in
-    let xs = c.args.course.now.order.ases.items in
-    let seeds = seeds_of c.args.pool.now c.args.seeds.now in
-    let f = routing_of c.args.pool.now c.args.table.now c.args.overlay.now in
+    let xs = c.args.pass.now.course.now.order.ases.items in
+    let seeds = seeds_of c.args.pool.now c.args.at.now.seeds.now in
+    let f = routing_of c.args.pool.now c.args.at.now.table.now c.args.overlay.now in
     record {
       within = omega (arith, c.len-left.ensures);
       steps = omega (arith, c.len-left.ensures);
       so_far = subst (λ ys. AfterWhole here seeds ys f) (sym (take_all c.len-left.result xs (omega (arith, c.len-left.ensures))))
           (turn here lawful (relation_mutual w) (relation_self w) seeds c.requires.course.rank falls xs c.requires.course.order f c.requires.up);
+      same = refl;
       told = c.requires.told;
       room = c.requires.room;
-      spent = spent_nothing c.args.pool.now c.args.seeds.now c.args.table.now c.args.overlay.now xs;
+      spent = spent_nothing c.args.pool.now c.args.at.now.seeds.now c.args.at.now.table.now c.args.overlay.now xs;
     }
 
 pub loop-left-preserved : goal.loop-left-preserved
 loop-left-preserved g c =
     let meaning = g.P.RoutePolicy.meaning in
-    let w = c.args.graph.now in
-    let here = setting meaning w c.args.book.now (g.V.OriginStates.state_of c.args.states.now (prefix_of c.args.table.now)) in
-    let lawful = λ (a : ℕ). (let p = policy_at c.args.book.now a in
+    let w = c.args.at.now.graph.now in
+    let here = setting_at meaning g.V.OriginStates.state_of c.args.at.now in
+    let lawful = λ (a : ℕ). (let p = policy_at c.args.at.now.book.now a in
     let is : IsLawful (meaning p) = record { ranks_offers = g.met.P.RoutePolicy.ranks_offers p; prefers_customers = g.met.P.RoutePolicy.prefers_customers p; exports_down_only = g.met.P.RoutePolicy.exports_down_only p } in is) in
     let falls = (ranks_fall (relation w) (ases w) (topology-AreLinks w) c.requires.no_cycle c.requires.course.rank c.requires.course.ranks).falls in
-    let xs = c.args.course.now.order.ases.items in
+    let xs = c.args.pass.now.course.now.order.ases.items in
     let i = c.loop-left.left - 1 in
     let a = c.index-asn.result.now in
     let some = c.loop-left-test.true in
-    let seeds = seeds_of c.args.pool.now c.args.seeds.now in
-    let f = routing_of c.loop-left.pool c.args.table.now c.loop-left.overlay in
-    let f' = routing_of c.step_down.new.pool c.args.table.now c.step_down.new.overlay in
+    let seeds = seeds_of c.args.pool.now c.args.at.now.seeds.now in
+    let f = routing_of c.loop-left.pool c.args.at.now.table.now c.loop-left.overlay in
+    let f' = routing_of c.step_down.new.pool c.args.at.now.table.now c.step_down.new.overlay in
     let back : i + 1 ≡ c.loop-left.left = omega arith in
     let within : i < length xs = omega (arith, c.loop-left.invariant.within) in
     let more : take (i + 1) xs ≡ take i xs ++ a ∷ [] = take_more xs i a within ∙ ap (λ t. take i xs ++ t ∷ []) (sym c.index-asn.ensures) in
     let there : occurs a xs ≡ true = list_any_at (λ y. y == a) xs i a within (eq-eqb _ a (sym c.index-asn.ensures)) in
     let so_far = subst (λ k. AfterWhole here seeds (take k xs) f) (sym back) c.loop-left.invariant.so_far in
-    let step = step_seeds Whole here (seeds_of c.loop-left.pool c.args.seeds.now) seeds f a f' c.step_down.ensures.step (c.loop-left.invariant.spent.keeps.same_seeds a) in
+    let step = step_seeds Whole here (seeds_of c.loop-left.pool c.args.at.now.seeds.now) seeds f a f' c.step_down.ensures.step (c.loop-left.invariant.spent.keeps.same_seeds a) in
     let fresh = down_fresh here lawful (relation_mutual w) (relation_self w) seeds c.requires.course.rank falls xs c.requires.course.order i a a f f' within c.index-asn.ensures more step so_far in
-    let both = visited c.args.pool.now c.loop-left.pool c.step_down.new.pool c.args.seeds.now c.args.table.now c.args.overlay.now c.loop-left.overlay c.step_down.new.overlay xs a c.step_down.result
+    let both = visited c.args.pool.now c.loop-left.pool c.step_down.new.pool c.args.at.now.seeds.now c.args.at.now.table.now c.args.overlay.now c.loop-left.overlay c.step_down.new.overlay xs a c.step_down.result
     c.requires.course.order.apart there c.loop-left.invariant.room c.loop-left.invariant.spent c.step_down.ensures.changed c.step_down.ensures.unchanged step.others c.step_down.ensures.spent c.step_down.ensures.kept c.step_down.ensures.put fresh in
     record {
       within = omega (arith, c.loop-left.invariant.within);
       steps = omega (arith, c.step_down.ensures.cost, c.loop-left.invariant.steps);
       so_far = down_more here lawful (relation_mutual w) (relation_self w) seeds c.requires.course.rank falls xs c.requires.course.order i a a f f' within c.index-asn.ensures more step so_far;
-      told = λ b. still_told (IsTold c.args.told.now) here f f' b (down_same here lawful (relation_mutual w) (relation_self w) seeds c.requires.course.rank falls xs c.requires.course.order i a a f f' within c.index-asn.ensures step so_far) (c.loop-left.invariant.told b);
+      same = c.step_down.ensures.told ∙ c.loop-left.invariant.same;
+      told = λ b. still_told (IsTold c.args.gathered.now.told) here f f' b (down_same here lawful (relation_mutual w) (relation_self w) seeds c.requires.course.rank falls xs c.requires.course.order i a a f f' within c.index-asn.ensures step so_far) (c.loop-left.invariant.told b);
       room = both.0;
       spent = both.1;
     }
 
 pub returns-clause-done : goal.returns-clause-done
 returns-clause-done g c =
-    let here = setting g.P.RoutePolicy.meaning c.args.graph.now c.args.book.now (g.V.OriginStates.state_of c.args.states.now (prefix_of c.args.table.now)) in
-    let xs = c.args.course.now.order.ases.items in
-    let seeds = seeds_of c.args.pool.now c.args.seeds.now in
-    let f = routing_of c.loop-left.pool c.args.table.now c.loop-left.overlay in
+    let here = setting_at g.P.RoutePolicy.meaning g.V.OriginStates.state_of c.args.at.now in
+    let xs = c.args.pass.now.course.now.order.ases.items in
+    let seeds = seeds_of c.args.pool.now c.args.at.now.seeds.now in
+    let f = routing_of c.loop-left.pool c.args.at.now.table.now c.loop-left.overlay in
     let over : c.loop-left.left ≡ 0 = omega arith in
     all_right here seeds f (subst (λ k. AfterWhole here seeds (take k xs) f) over c.loop-left.invariant.so_far)

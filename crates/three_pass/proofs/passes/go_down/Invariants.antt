@@ -1,7 +1,6 @@
-use Rattle.std.proofs.Common.{ℕ, take, length, ◌≤◌, ◌+◌}
-use Rattle.stability_laws.specs.World.{setting}
+use Rattle.std.proofs.Common.{◌≡◌, ℕ, take, length, ◌≤◌, ◌+◌}
 use Rattle.route_choice.specs.Routings.{routing_of, seeds_of}
-use Rattle.route_choice.specs.Tables.{prefix_of}
+use Rattle.route_choice.specs.PrefixWorlds.{setting_at}
 use Rattle.three_pass.specs.Progress.{AfterWhole}
 use Rattle.three_pass.specs.Told.{IsTold}
 use Rattle.three_pass.specs.Telling.{HaveTold}
@@ -10,12 +9,13 @@ use Rattle.three_pass.proofs.passes.go_down.Given as goal
 
 abbrev pub invariant-loop-left : goal.invariant-loop-left
 invariant-loop-left g l = record {
-  within : l.left ≤ length l.course.order.ases.items;
-  steps : l.steps + l.left ≤ l.initial.steps + length l.course.order.ases.items;
-  so_far : AfterWhole (setting g.P.RoutePolicy.meaning l.graph l.book (g.V.OriginStates.state_of l.states (prefix_of l.table))) (seeds_of l.initial.pool l.seeds) (take l.left l.course.order.ases.items) (routing_of l.pool l.table l.overlay);
-  told : (a : ℕ) → HaveTold (IsTold l.told) (setting g.P.RoutePolicy.meaning l.graph l.book (g.V.OriginStates.state_of l.states (prefix_of l.table))) (routing_of l.pool l.table l.overlay) a;
-  room : CanGo l.pool l.seeds l.table l.overlay l.course.order.ases.items;
-  spent : HasSpent l.initial.pool l.pool l.seeds l.table l.initial.overlay l.overlay l.course.order.ases.items;
+  within : l.left ≤ length l.pass.course.now.order.ases.items;
+  steps : l.steps + l.left ≤ l.initial.steps + length l.pass.course.now.order.ases.items;
+  so_far : AfterWhole (setting_at g.P.RoutePolicy.meaning g.V.OriginStates.state_of l.at) (seeds_of l.initial.pool l.at.seeds.now) (take l.left l.pass.course.now.order.ases.items) (routing_of l.pool l.at.table.now l.overlay);
+  same : l.gathered.told ≡ l.initial.gathered.told;
+  told : (a : ℕ) → HaveTold (IsTold l.initial.gathered.told) (setting_at g.P.RoutePolicy.meaning g.V.OriginStates.state_of l.at) (routing_of l.pool l.at.table.now l.overlay) a;
+  room : CanGo l.pool l.at.seeds.now l.at.table.now l.overlay l.pass.course.now.order.ases.items;
+  spent : HasSpent l.initial.pool l.pool l.at.seeds.now l.at.table.now l.initial.overlay l.overlay l.pass.course.now.order.ases.items;
 }
 
 abbrev pub decreases-loop-left : goal.decreases-loop-left

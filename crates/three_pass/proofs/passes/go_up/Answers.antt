@@ -6,11 +6,10 @@ use Rattle.as_graph.specs.Topology.{relation, ases}
 use Rattle.as_graph.proofs.Links.{relation_mutual, relation_self, topology-AreLinks}
 use Rattle.as_graph.proofs.Ranks.{ranks_fall}
 use Rattle.stability_laws.specs.Book.{policy_at}
-use Rattle.stability_laws.specs.World.{setting}
 use Rattle.stability_laws.specs.Stable.{IsLawful}
 use Rattle.route_choice.specs.declared.choice.Part.TheVariants.{Up}
 use Rattle.route_choice.specs.Routings.{entry_of, routing_of, seeds_of}
-use Rattle.route_choice.specs.Tables.{prefix_of}
+use Rattle.route_choice.specs.PrefixWorlds.{setting_at}
 use Rattle.three_pass.specs.AsnSets.{is_among}
 use Rattle.three_pass.specs.Told.{IsTold}
 use Rattle.three_pass.proofs.InOrder.{in_more, none_yet, up_more, up_fresh, no_loops_upwards}
@@ -21,72 +20,72 @@ use Rattle.three_pass.proofs.passes.go_up.Goals as goal
 pub loop-place-init : goal.loop-place-init
 loop-place-init g c =
     let pool = c.args.pool.now in
-    let here = setting g.P.RoutePolicy.meaning c.args.graph.now c.args.book.now (g.V.OriginStates.state_of c.args.states.now (prefix_of c.args.table.now)) in
+    let here = setting_at g.P.RoutePolicy.meaning g.V.OriginStates.state_of c.args.at.now in
     record {
       steps = omega arith;
-      so_far = none_yet here (seeds_of pool c.args.seeds.now) (routing_of pool c.args.table.now c.args.overlay.now) (λ a. ap (option_map (entry_of pool)) (c.requires.empty a));
+      so_far = none_yet here (seeds_of pool c.args.at.now.seeds.now) (routing_of pool c.args.at.now.table.now c.args.overlay.now) (λ a. ap (option_map (entry_of pool)) (c.requires.empty a));
       holders = λ b n r there some linked other. cc;
       true_notes = c.requires.true_notes;
       room = c.requires.room;
-      spent = spent_nothing pool c.args.seeds.now c.args.table.now c.args.overlay.now c.args.course.now.order.ases.items;
+      spent = spent_nothing pool c.args.at.now.seeds.now c.args.at.now.table.now c.args.overlay.now c.args.pass.now.course.now.order.ases.items;
     }
 
 pub step_up-requires-clause-nothing : goal.step_up-requires-clause-nothing
 step_up-requires-clause-nothing g c =
     let meaning = g.P.RoutePolicy.meaning in
-    let w = c.args.graph.now in
-    let here = setting meaning w c.args.book.now (g.V.OriginStates.state_of c.args.states.now (prefix_of c.args.table.now)) in
-    let lawful = λ (a : ℕ). (let p = policy_at c.args.book.now a in
+    let w = c.args.at.now.graph.now in
+    let here = setting_at meaning g.V.OriginStates.state_of c.args.at.now in
+    let lawful = λ (a : ℕ). (let p = policy_at c.args.at.now.book.now a in
     let is : IsLawful (meaning p) = record { ranks_offers = g.met.P.RoutePolicy.ranks_offers p; prefers_customers = g.met.P.RoutePolicy.prefers_customers p; exports_down_only = g.met.P.RoutePolicy.exports_down_only p } in is) in
     let falls = (ranks_fall (relation w) (ases w) (topology-AreLinks w) c.requires.no_cycle c.requires.course.rank c.requires.course.ranks).falls in
-    let xs = c.args.course.now.order.ases.items in
+    let xs = c.args.pass.now.course.now.order.ases.items in
     let i = c.loop-place.place in
-    up_fresh here lawful (relation_mutual w) (relation_self w) (seeds_of c.args.pool.now c.args.seeds.now) c.requires.course.rank falls xs c.requires.course.order
-    i 0 (slice_index xs i) (routing_of c.loop-place.pool c.args.table.now c.loop-place.overlay) (omega (arith, c.loop-place-test.true, c.len-place-end.ensures)) refl c.loop-place.invariant.so_far
+    up_fresh here lawful (relation_mutual w) (relation_self w) (seeds_of c.args.pool.now c.args.at.now.seeds.now) c.requires.course.rank falls xs c.requires.course.order
+    i 0 (slice_index xs i) (routing_of c.loop-place.pool c.args.at.now.table.now c.loop-place.overlay) (omega (arith, c.loop-place-test.true, c.len-place-end.ensures)) refl c.loop-place.invariant.so_far
 
 pub step_up-requires-clause-no_loops : goal.step_up-requires-clause-no_loops
 step_up-requires-clause-no_loops g c =
     let meaning = g.P.RoutePolicy.meaning in
-    let w = c.args.graph.now in
-    let here = setting meaning w c.args.book.now (g.V.OriginStates.state_of c.args.states.now (prefix_of c.args.table.now)) in
-    let lawful = λ (a : ℕ). (let p = policy_at c.args.book.now a in
+    let w = c.args.at.now.graph.now in
+    let here = setting_at meaning g.V.OriginStates.state_of c.args.at.now in
+    let lawful = λ (a : ℕ). (let p = policy_at c.args.at.now.book.now a in
     let is : IsLawful (meaning p) = record { ranks_offers = g.met.P.RoutePolicy.ranks_offers p; prefers_customers = g.met.P.RoutePolicy.prefers_customers p; exports_down_only = g.met.P.RoutePolicy.exports_down_only p } in is) in
     let falls = (ranks_fall (relation w) (ases w) (topology-AreLinks w) c.requires.no_cycle c.requires.course.rank c.requires.course.ranks).falls in
-    let xs = c.args.course.now.order.ases.items in
+    let xs = c.args.pass.now.course.now.order.ases.items in
     let i = c.loop-place.place in
-    no_loops_upwards here lawful (relation_mutual w) (relation_self w) (seeds_of c.args.pool.now c.args.seeds.now) c.requires.course.rank falls xs c.requires.course.order
-    (is_among c.args.named.now) c.requires.named (take i xs) (routing_of c.loop-place.pool c.args.table.now c.loop-place.overlay) c.loop-place.invariant.so_far (slice_index xs i)
+    no_loops_upwards here lawful (relation_mutual w) (relation_self w) (seeds_of c.args.pool.now c.args.at.now.seeds.now) c.requires.course.rank falls xs c.requires.course.order
+    (is_among c.args.pass.now.named) c.requires.named (take i xs) (routing_of c.loop-place.pool c.args.at.now.table.now c.loop-place.overlay) c.loop-place.invariant.so_far (slice_index xs i)
 
 pub step_up-requires-clause-told : goal.step_up-requires-clause-told
 step_up-requires-clause-told g c =
-    let here = setting g.P.RoutePolicy.meaning c.args.graph.now c.args.book.now (g.V.OriginStates.state_of c.args.states.now (prefix_of c.args.table.now)) in
-    let xs = c.args.course.now.order.ases.items in
+    let here = setting_at g.P.RoutePolicy.meaning g.V.OriginStates.state_of c.args.at.now in
+    let xs = c.args.pass.now.course.now.order.ases.items in
     let i = c.loop-place.place in
-    told_from (IsTold c.loop-place.told) here (routing_of c.loop-place.pool c.args.table.now c.loop-place.overlay) (take i xs) (relation_mutual c.args.graph.now)
+    told_from (IsTold c.loop-place.gathered.told) here (routing_of c.loop-place.pool c.args.at.now.table.now c.loop-place.overlay) (take i xs) (relation_mutual c.args.at.now.graph.now)
     c.loop-place.invariant.so_far.rest c.loop-place.invariant.holders (slice_index xs i)
 
 pub loop-place-preserved : goal.loop-place-preserved
 loop-place-preserved g c =
     let meaning = g.P.RoutePolicy.meaning in
-    let w = c.args.graph.now in
-    let here = setting meaning w c.args.book.now (g.V.OriginStates.state_of c.args.states.now (prefix_of c.args.table.now)) in
-    let lawful = λ (a : ℕ). (let p = policy_at c.args.book.now a in
+    let w = c.args.at.now.graph.now in
+    let here = setting_at meaning g.V.OriginStates.state_of c.args.at.now in
+    let lawful = λ (a : ℕ). (let p = policy_at c.args.at.now.book.now a in
     let is : IsLawful (meaning p) = record { ranks_offers = g.met.P.RoutePolicy.ranks_offers p; prefers_customers = g.met.P.RoutePolicy.prefers_customers p; exports_down_only = g.met.P.RoutePolicy.exports_down_only p } in is) in
     let falls = (ranks_fall (relation w) (ases w) (topology-AreLinks w) c.requires.no_cycle c.requires.course.rank c.requires.course.ranks).falls in
-    let xs = c.args.course.now.order.ases.items in
+    let xs = c.args.pass.now.course.now.order.ases.items in
     let i = c.loop-place.place in
     let a = slice_index xs i in
-    let seeds = seeds_of c.args.pool.now c.args.seeds.now in
-    let f = routing_of c.loop-place.pool c.args.table.now c.loop-place.overlay in
-    let f' = routing_of c.step_up.new.pool c.args.table.now c.step_up.new.overlay in
+    let seeds = seeds_of c.args.pool.now c.args.at.now.seeds.now in
+    let f = routing_of c.loop-place.pool c.args.at.now.table.now c.loop-place.overlay in
+    let f' = routing_of c.step_up.new.pool c.args.at.now.table.now c.step_up.new.overlay in
     let inside : i < length xs = omega (arith, c.loop-place-test.true, c.len-place-end.ensures) in
     let more : take (i + 1) xs ≡ take i xs ++ a ∷ [] = take_more xs i 0 inside in
-    let step = step_seeds Up here (seeds_of c.loop-place.pool c.args.seeds.now) seeds f a f' c.step_up.ensures.step (c.loop-place.invariant.spent.keeps.same_seeds a) in
+    let step = step_seeds Up here (seeds_of c.loop-place.pool c.args.at.now.seeds.now) seeds f a f' c.step_up.ensures.step (c.loop-place.invariant.spent.keeps.same_seeds a) in
     record {
       steps = omega (arith, c.step_up.ensures.cost, c.loop-place.invariant.steps);
       so_far = up_more here lawful (relation_mutual w) (relation_self w) seeds c.requires.course.rank falls xs c.requires.course.order i 0 a f f' inside refl more step c.loop-place.invariant.so_far;
       holders = λ b n r there some linked other. elim (cases_eq b a) [
-        | inl e ↦ subst (IsTold c.step_up.new.told n) (sym e) (c.step_up.ensures.around (λ none. some (ap f' e ∙ none)) n r (ap (λ t. relation w t n) (sym e) ∙ linked) other)
+        | inl e ↦ subst (IsTold c.step_up.new.gathered.told n) (sym e) (c.step_up.ensures.around (λ none. some (ap f' e ∙ none)) n r (ap (λ t. relation w t n) (sym e) ∙ linked) other)
         | inr ne ↦ elim (in_more b a (take i xs) (take (i + 1) xs) more there) [
           | inl e ↦ absurd (ne (sym e))
           | inr e ↦ c.step_up.ensures.others n b (c.loop-place.invariant.holders b n r e (λ none. some (step.others b ne ∙ none)) linked other)
@@ -94,9 +93,9 @@ loop-place-preserved g c =
       ];
       true_notes = c.step_up.ensures.true_notes;
       room = c.step_up.ensures.room;
-      spent = spent_more c.args.pool.now c.loop-place.pool c.step_up.new.pool c.args.seeds.now c.args.table.now c.args.overlay.now c.loop-place.overlay c.step_up.new.overlay xs c.loop-place.invariant.spent c.step_up.ensures.spent;
+      spent = spent_more c.args.pool.now c.loop-place.pool c.step_up.new.pool c.args.at.now.seeds.now c.args.at.now.table.now c.args.overlay.now c.loop-place.overlay c.step_up.new.overlay xs c.loop-place.invariant.spent c.step_up.ensures.spent;
     }
 
 pub returns-clause-told : goal.returns-clause-told
 returns-clause-told g c = λ b n r there some linked other.
-    c.loop-place.invariant.holders b n r (ap (occurs b) (take_all c.loop-place.place c.args.course.now.order.ases.items (omega (arith, c.loop-place-test.false, c.len-place-end.ensures))) ∙ there) some linked other
+    c.loop-place.invariant.holders b n r (ap (occurs b) (take_all c.loop-place.place c.args.pass.now.course.now.order.ases.items (omega (arith, c.loop-place-test.false, c.len-place-end.ensures))) ∙ there) some linked other

@@ -2,10 +2,9 @@ use Rattle.std.proofs.Common.{ℕ, sym, subst}
 use Rattle.as_graph.specs.Topology.{relation}
 use Rattle.stability_laws.specs.Book.{policy_at}
 use Rattle.stability_laws.specs.Stable.{IsLawful}
-use Rattle.stability_laws.specs.World.{setting}
 use Rattle.route_choice.specs.Givers.{AreGivers}
 use Rattle.route_choice.specs.Routings.{routing_of}
-use Rattle.route_choice.specs.Tables.{prefix_of}
+use Rattle.route_choice.specs.PrefixWorlds.{setting_at}
 use Rattle.three_pass.specs.Lists.{list_at}
 use Rattle.three_pass.specs.Told.{IsTold}
 use Rattle.three_pass.proofs.Quiet.{givers}
@@ -14,24 +13,24 @@ use Rattle.three_pass.proofs.passes.step.Goals as goal
 pub visit_among-requires-clause-givers : goal.visit_among-requires-clause-givers
 visit_among-requires-clause-givers g c =
     let meaning = g.P.RoutePolicy.meaning in
-    let w = relation c.args.graph.now in
-    let here = setting meaning c.args.graph.now c.args.book.now (g.V.OriginStates.state_of c.args.states.now (prefix_of c.args.table.now)) in
-    let lawful = λ (a : ℕ). (let p = policy_at c.args.book.now a in
+    let w = relation c.args.at.now.graph.now in
+    let here = setting_at meaning g.V.OriginStates.state_of c.args.at.now in
+    let lawful = λ (a : ℕ). (let p = policy_at c.args.at.now.book.now a in
     let is : IsLawful (meaning p) = record { ranks_offers = g.met.P.RoutePolicy.ranks_offers p; prefers_customers = g.met.P.RoutePolicy.prefers_customers p; exports_down_only = g.met.P.RoutePolicy.exports_down_only p } in is) in
-    let f = routing_of c.args.pool.now c.args.table.now c.args.overlay.now in
-    subst (AreGivers c.args.part w here.policy f c.args.asn) (sym c.list-above.ensures)
-    (givers here lawful f c.args.asn c.args.part (IsTold c.args.told.now) (list_at c.args.course.now.above c.args.place) c.requires.told
+    let f = routing_of c.args.pool.now c.args.at.now.table.now c.args.overlay.now in
+    subst (AreGivers c.args.turn.part w here.policy f c.args.turn.asn) (sym c.list-above.ensures)
+    (givers here lawful f c.args.turn.asn c.args.turn.part (IsTold c.args.gathered.now.told) (list_at c.args.course.now.above c.args.turn.place) c.requires.told
     c.requires.above.each (λ b told. absurd (c.is_untold.ensures c.if-is_untold.true b told)) (λ whole. c.requires.above.complete))
 
 pub visit_among-requires-then-gather-clause-givers : goal.visit_among-requires-then-gather-clause-givers
 visit_among-requires-then-gather-clause-givers g c =
     let meaning = g.P.RoutePolicy.meaning in
-    let w = relation c.args.graph.now in
-    let here = setting meaning c.args.graph.now c.args.book.now (g.V.OriginStates.state_of c.args.states.now (prefix_of c.args.table.now)) in
-    let lawful = λ (a : ℕ). (let p = policy_at c.args.book.now a in
+    let w = relation c.args.at.now.graph.now in
+    let here = setting_at meaning g.V.OriginStates.state_of c.args.at.now in
+    let lawful = λ (a : ℕ). (let p = policy_at c.args.at.now.book.now a in
     let is : IsLawful (meaning p) = record { ranks_offers = g.met.P.RoutePolicy.ranks_offers p; prefers_customers = g.met.P.RoutePolicy.prefers_customers p; exports_down_only = g.met.P.RoutePolicy.exports_down_only p } in is) in
-    let f = routing_of c.args.pool.now c.args.table.now c.args.overlay.now in
+    let f = routing_of c.args.pool.now c.args.at.now.table.now c.args.overlay.now in
     let all = c.if-gather.true in
-    subst (AreGivers c.args.part w here.policy f c.args.asn) (sym c.as_slice-neighbours.ensures.value)
-    (givers here lawful f c.args.asn c.args.part (IsTold c.args.told.now) c.gather.new.looks.neighbours.items c.requires.told
+    subst (AreGivers c.args.turn.part w here.policy f c.args.turn.asn) (sym c.as_slice-neighbours.ensures.value)
+    (givers here lawful f c.args.turn.asn c.args.turn.part (IsTold c.args.gathered.now.told) c.gather.new.looks.neighbours.items c.requires.told
     (c.gather.ensures.each all w c.requires.true_notes c.requires.above.each) (c.gather.ensures.told all) (λ whole n linked. c.gather.ensures.above all n (c.requires.above.complete n linked)))

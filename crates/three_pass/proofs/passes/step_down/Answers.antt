@@ -11,7 +11,7 @@ joined_some pool None some none = cc
 joined_some pool (Some x) some none = cc
 
 pub returns-then-holds-clause-step : goal.returns-then-holds-clause-step
-returns-then-holds-clause-step g c = c.requires.held (λ none. joined_some c.args.pool.now (joined c.args.table.now c.args.overlay.now c.args.asn) (sym c.holds.ensures ∙ c.if-holds.true) none)
+returns-then-holds-clause-step g c = c.requires.held (λ none. joined_some c.args.pool.now (joined c.args.at.now.table.now c.args.overlay.now c.args.placed.asn) (sym c.holds.ensures ∙ c.if-holds.true) none)
 
 pub returns-then-holds-clause-spent : goal.returns-then-holds-clause-spent
 returns-then-holds-clause-spent g c = record {
@@ -38,5 +38,5 @@ joined_none pool (Some x) none = cc
 
 pub step-requires-clause-no_loops : goal.step-requires-clause-no_loops
 step-requires-clause-no_loops g c = λ out n r e linked looked held exported.
-    let none : routing_of c.args.pool.now c.args.table.now c.args.overlay.now c.args.asn ≡ None = joined_none c.args.pool.now (joined c.args.table.now c.args.overlay.now c.args.asn) (sym c.holds.ensures ∙ c.if-holds.false) in
+    let none : routing_of c.args.pool.now c.args.at.now.table.now c.args.overlay.now c.args.placed.asn ≡ None = joined_none c.args.pool.now (joined c.args.at.now.table.now c.args.overlay.now c.args.placed.asn) (sym c.holds.ensures ∙ c.if-holds.false) in
     c.requires.no_loops none (sym c.has-may_loop.ensures ∙ out) n r e linked refl held exported

@@ -1,0 +1,34 @@
+//! What the steps of a pass read and gather.
+
+use crate::asn_set::AsnSet;
+use crate::course::Course;
+use crate::looks::Looks;
+use crate::told::Told;
+use net_names::Asn;
+
+/// What a pass goes along, and what is known of its seeds.
+#[derive(Drop)]
+pub struct Pass<'a> {
+    /// The ASes in their order, and their providers.
+    pub course: &'a Course,
+    /// The numbers on the paths of the seeds, and the ASes that have these.
+    pub named: AsnSet,
+}
+
+/// What steps gather.
+#[derive(Drop)]
+pub struct Gathered<'a> {
+    /// Who told whom that it holds something, for the steps that follow.
+    pub told: Told<'a>,
+    /// The neighbours at which one step looks, and what is met ahead of the steps.
+    pub looks: Looks,
+}
+
+/// An AS, and its place in the order.
+#[derive(Clone, Copy)]
+pub struct PlacedAs {
+    /// The AS.
+    pub asn: Asn,
+    /// The place.
+    pub place: usize,
+}
