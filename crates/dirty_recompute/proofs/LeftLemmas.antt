@@ -1,7 +1,6 @@
 -- Who need not choose anew, by views for which no path was walked.
 use Rattle.std.proofs.Common.{◌≡◌, ◌≢◌, inl, inr, ℕ, Bool, true, false, cond, IsTrue, Option, Some, None, option_map, List, ◌∷◌, refl, sym, ◌∙◌, ap, subst}
 use Rattle.std.proofs.lemmas.Bool.{cases_Bool}
-use Rattle.net_names.specs.Prefixes.{PrefixValue}
 use Rattle.net_names.specs.declared.routes.Rel.{Rel}
 use Rattle.net_names.specs.declared.routes.State.{State}
 use Rattle.policy_laws.specs.Policy.{Policy}
@@ -11,7 +10,7 @@ use Rattle.stability_laws.specs.World.{setting}
 use Rattle.stability_laws.specs.OfferPaths.{OfferPath}
 use Rattle.route_choice.specs.declared.table.Table.{Table}
 use Rattle.route_choice.specs.declared.overlay.Overlay.{Overlay}
-use Rattle.route_choice.specs.Tables.{prefix_of, joined}
+use Rattle.route_choice.specs.Tables.{joined}
 use Rattle.dirty_recompute.specs.Resources.{IsBefore}
 use Rattle.policy_laws.specs.declared.policy.View.{View}
 use Rattle.path_pool.specs.declared.pool.PathPool.{PathPool}
@@ -82,26 +81,25 @@ module _ (w : Setting) (seeds : ℕ → Option Seed) (f g : ℕ → Option Entry
   }))
 
 -- the receiver of a's offers holds none that a made, over a table with changes in place
-module _ {P : Type 0} (meaning : P → Policy) (graph : Topology) (book : PolicyBook P) (state_of : PrefixValue → ℕ → State) (q : PrefixValue) (pool : PathPool) (seeds : ℕ → Option Seed) (t : Table) (o : Overlay)
-    (a b : ℕ) (rel : Rel) (before now have : Option Held) (new : Option View) (same : q ≡ prefix_of t) (linked : relation graph b a ≡ Some rel) (is_now : now ≡ joined t o a) (is_have : have ≡ joined t o b)
-    (is_new : (w : Topology) (f : ℕ → Option Entry) → relation w b a ≡ Some rel → f a ≡ option_map (entry_of pool) now → view_in (offer (setting meaning w book (state_of q)) f a b) ≡ cond (goes_through (f a) b) None new)
+module _ {P : Type 0} (meaning : P → Policy) (graph : Topology) (book : PolicyBook P) (state : ℕ → State) (pool : PathPool) (seeds : ℕ → Option Seed) (t : Table) (o : Overlay)
+    (a b : ℕ) (rel : Rel) (before now have : Option Held) (new : Option View) (linked : relation graph b a ≡ Some rel) (is_now : now ≡ joined t o a) (is_have : have ≡ joined t o b)
+    (is_new : (w : Topology) (f : ℕ → Option Entry) → relation w b a ≡ Some rel → f a ≡ option_map (entry_of pool) now → view_in (offer (setting meaning w book state) f a b) ≡ cond (goes_through (f a) b) None new)
     (path : OfferPath meaning) (itself : (w : Topology) (n : ℕ) → relation w n n ≡ None)
     (apart : (n : ℕ) (h k : Held) → have ≡ Some h → before ≡ Some k → list_of pool h.path.0 ≢ n ∷ list_of pool k.path.0) where
   abbrev here : Setting
-  here = setting meaning graph book (state_of (prefix_of t))
+  here = setting meaning graph book state
 
   abbrev held : ℕ → Option Entry
   held = routing_of pool t o
 
   stands : view_in (offer here held a b) ≡ cond (goes_through (held a) b) None new
-  stands = subst (λ p. view_in (offer (setting meaning graph book (state_of p)) held a b) ≡ cond (goes_through (held a) b) None new) same
-      (is_new graph held linked (ap (option_map (entry_of pool)) (sym is_now)))
+  stands = is_new graph held linked (ap (option_map (entry_of pool)) (sym is_now))
 
   other : b ≢ a
   other e = (let none : relation graph b a ≡ None = ap (λ n. relation graph n a) e ∙ itself graph a in let clash : None ≡ Some rel = sym none ∙ linked in cc)
 
   not_held : (f : ℕ → Option Entry) → IsBefore pool t o a before f → (r : Offer) → offer here f a b ≡ Some r → f b ≢ Some r.entry
-  not_held f is = other_path pool b have before (f a) (f b) (offer here f a b) is.this (is.others b other ∙ ap (option_map (entry_of pool)) (sym is_have)) (path graph book (state_of (prefix_of t)) f a b) (apart b)
+  not_held f is = other_path pool b have before (f a) (f b) (offer here f a b) is.this (is.others b other ∙ ap (option_map (entry_of pool)) (sym is_have)) (path graph book state f a b) (apart b)
 
   pub gone_left : new ≡ None → (f : ℕ → Option Entry) → IsBefore pool t o a before f → IsLeft here seeds f held a b
   gone_left y f is = left_gone here seeds f held a b new stands (not_held f is) y

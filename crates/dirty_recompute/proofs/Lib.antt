@@ -1,4 +1,4 @@
-pub mod NewRanks
+pub mod RankLemmas
 pub mod QueueLemmas
 pub mod TurnLemmas
 pub mod Befores

@@ -4,6 +4,7 @@ use Rattle.std.specs.Prelude.{is_some, IsSome}
 use Rattle.std.proofs.lemmas.Bool.{cases_Bool}
 use Rattle.policy_laws.specs.Policy.{Policy}
 use Rattle.route_choice.specs.declared.choice.Choice.{Choice}
+use Rattle.route_choice.specs.declared.choice.Choice.TheVariants as choice
 use Rattle.route_choice.specs.Choices.{named_by}
 use Rattle.path_pool.specs.declared.pool.PathPool.{PathPool}
 use Rattle.path_pool.specs.Pool.{SamePaths, list_of, count_of, live_count, limit_of}
@@ -17,7 +18,7 @@ use Rattle.route_choice.specs.declared.seeds.SeedIds.{SeedIds}
 use Rattle.route_choice.specs.Slots.{over}
 use Rattle.route_choice.specs.Tables.{held_at, change_at, joined, overlay_uses, seed_at}
 use Rattle.route_choice.specs.Routings.{entry_of, seed_of, routing_of, seeds_of}
-use Rattle.route_choice.specs.Resources.{AreHeld, AreSeedsLive, Keeps, Spends, GivesUpNothing}
+use Rattle.route_choice.specs.Resources.{AreHeld, AreSeedsLive, Keeps, Spends, GivesUpNothing, IsNameable}
 use Rattle.route_choice.proofs.Lists.{entries_same, joined_live}
 use Rattle.dirty_recompute.specs.Resources.{IsKept, IsBefore}
 use Rattle.dirty_recompute.specs.Giving.{SameHeld, IsGiven, GivesUpNone}
@@ -64,6 +65,12 @@ some_is : {X : Type 0} (o : Option X) → IsSome o → is_some o ≡ true
 some_is None h = cc
 some_is (Some x) h = refl
 
+-- a choice can be settled after the room is made if it could before
+pub still_nameable : (seeds : SeedIds) (t : Table) (o o' : Overlay) (a : ℕ) (c : Choice) → ((n : ℕ) → change_at o' n ≡ change_at o n) → IsNameable seeds t o a c → IsNameable seeds t o' a c
+still_nameable seeds t o o' a choice.Nothing same h = h
+still_nameable seeds t o o' a choice.Seed same h = h
+still_nameable seeds t o o' a (choice.Via n r) same h = subst IsSome (ap (λ (x : Option (Option Held)). over x (held_at t n)) (sym (same n))) h
+
 -- what an AS is given once there is room
 module _ (p q r : PathPool) (seeds : SeedIds) (t : Table) (x y z : Overlay) (a : ℕ) (room : SameHeld p q t x y) (paths : SamePaths p q) (kept : IsKept p q seeds x y) where
   pub given_after : (new : Option Entry) (answer : Bool) → IsSome new →
@@ -101,9 +108,9 @@ module _ (p q r : PathPool) (seeds : SeedIds) (t : Table) (x y z : Overlay) (a :
       up (inr (inl none)) = inr (inl (room.routing a ∙ none))
       up (inr (inr same)) = inr (inr (at ∙ same ∙ sym (room.routing a)))
 
-  -- the entry that a choice names is the same before and after
-  pub same_named : (policy : ℕ → Policy) (c : Choice) → named_by policy (seeds_of q seeds a) (routing_of q t y) a c ≡ named_by policy (seeds_of p seeds a) (routing_of p t x) a c
-  same_named policy c = λ i. named_by policy (kept.keeps.same_seeds a i) (λ n. room.routing n i) a c
+  -- a choice names the same entry before and after
+  pub same_named : (policy : ℕ → Policy) (c : Choice) → routing_of r t z a ≡ named_by policy (seeds_of q seeds a) (routing_of q t y) a c → routing_of r t z a ≡ named_by policy (seeds_of p seeds a) (routing_of p t x) a c
+  same_named policy c at = at ∙ (λ i. named_by policy (kept.keeps.same_seeds a i) (λ n. room.routing n i) a c)
 
 -- where the overlay has a change, an AS that is right with what it holds, or holds nothing, gives nothing up
 pub gives_none : (p : PathPool) (t : Table) (o : Overlay) (a : ℕ) (new : Option Entry) → (is_some (change_at o a) ≡ true → (routing_of p t o a ≡ None) ⊎ (new ≡ routing_of p t o a)) → GivesUpNone p t o a new

@@ -4,6 +4,6 @@ pub mod Resources
 pub mod Queues
 pub mod Turns
 pub mod Work
-pub mod NewRanks
+pub mod PlannedRanks
 pub mod Giving
 pub mod Spared

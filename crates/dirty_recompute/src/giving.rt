@@ -6,8 +6,10 @@ ghost use Rattle.path_pool.specs.Pool.{IsLive, SamePaths, limit_of, spare_of};
 ghost use Rattle.stability_laws.specs.Book.{policy_at};
 ghost use Rattle.stability_laws.specs.declared.entry.Seed.{Seed as ASeed};
 ghost use Rattle.route_choice.specs.declared.held.Held.{Held as AHeld};
+ghost use Rattle.route_choice.specs.declared.seeds.SeedIds.{SeedIds as TheSeeds};
+ghost use Rattle.route_choice.specs.declared.table.Table.{Table as ATable};
 ghost use Rattle.route_choice.specs.Choices.{named_by};
-ghost use Rattle.route_choice.specs.Resources.{AreHeld, CanStep, IsNameable};
+ghost use Rattle.route_choice.specs.Resources.{AreHeld, AreSeedsLive, CanStep, IsNameable};
 ghost use Rattle.route_choice.specs.Routings.{entry_of, routing_of, seeds_of};
 ghost use Rattle.route_choice.specs.Tables.{change_at, joined, overlay_uses};
 ghost use Rattle.dirty_recompute.specs.Resources.{CanTurn, IsKept, has_change};
@@ -16,8 +18,8 @@ ghost use Rattle.dirty_recompute.specs.Giving.{with_first, GivesUpNone, IsGiven,
 use net_names::{Asn, Class, NoMemory};
 use path_pool::{PathId, PathPool};
 use policy_laws::RoutePolicy;
-use route_choice::{Choice, ChoiceNear, Held, Overlay, SeedIds, Table, settle_near};
-use stability_laws::{Book, carried, class_from};
+use route_choice::{Choice, ChoiceNear, Held, Overlay, PrefixWorld, Table, settle_near};
+use stability_laws::{carried, class_from};
 
 /// What an AS holds, with the changes in place, sought first at a place.
 pub(crate) fn held_near(table: &Table, overlay: &Overlay, asn: Asn, place: usize) -> Option<Held>
@@ -53,29 +55,28 @@ fn is_with_first(
 
 // Whether the choice is an offer that gives an AS the entry that it holds, by the first cell of its path. The
 // place where the neighbour may stand is a hint.
-fn is_held_by_offer<P: RoutePolicy>(
-    book: &Book<P>,
+fn is_held_by_offer<P: RoutePolicy, V>(
+    at: &PrefixWorld<'_, P, V>,
     pool: &PathPool,
-    table: &Table,
     overlay: &Overlay,
     asn: Asn,
     before: &Option<Held>,
     choice: Choice,
     from: usize,
 ) -> bool
-    requires held { AreHeld pool.now table.now overlay.now }
-    requires before { before.now ≡ joined table.now overlay.now asn }
-    ensures { IsTrue result → (seed : Option ASeed) → named_by (λ n. P.meaning (policy_at book.now n)) seed (routing_of pool.now table.now overlay.now) asn choice ≡ routing_of pool.now table.now overlay.now asn }
+    requires held { AreHeld pool.now at.now.table.now overlay.now }
+    requires before { before.now ≡ joined at.now.table.now overlay.now asn }
+    ensures { IsTrue result → (seed : Option ASeed) → named_by (λ n. P.meaning (policy_at at.now.book.now n)) seed (routing_of pool.now at.now.table.now overlay.now) asn choice ≡ routing_of pool.now at.now.table.now overlay.now asn }
 {
     let Some(have) = before else {
         return false;
     };
     match choice {
         Choice::Nothing | Choice::Seed => false,
-        Choice::Via { neighbour, rel } => match held_near(table, overlay, neighbour, from) {
+        Choice::Via { neighbour, rel } => match held_near(at.table, overlay, neighbour, from) {
             Some(given) => {
-                let sender = book.policy(neighbour);
-                let receiver = book.policy(asn);
+                let sender = at.book.policy(neighbour);
+                let receiver = at.book.policy(asn);
                 let otc = carried(sender, receiver, neighbour, rel.converse(), given.otc);
                 is_with_first(pool, have, asn, class_from(rel), given.path, otc)
             }
@@ -97,17 +98,11 @@ fn reserve_cell(pool: &mut PathPool) -> Result<(), NoMemory>
 }
 
 // Makes room for one more entry. All ASes hold what they held.
-fn make_room(
-    seeds: &SeedIds,
-    pool: &mut PathPool,
-    table: &Table,
-    overlay: &mut Overlay,
-) -> Result<(), NoMemory>
-    requires { CanTurn pool.old seeds.now table.now overlay.old }
-    ensures can { OnOk result (CanStep pool.new seeds.now table.now overlay.new 1) }
-    ensures same { SameHeld pool.old pool.new table.now overlay.old overlay.new }
+fn make_room(pool: &mut PathPool, overlay: &mut Overlay) -> Result<(), NoMemory>
+    ensures can { OnOk result ((seeds : TheSeeds) (table : ATable) → CanTurn pool.old seeds table overlay.old → CanStep pool.new seeds table overlay.new 1) }
+    ensures same { (table : ATable) → AreHeld pool.old table overlay.old → SameHeld pool.old pool.new table overlay.old overlay.new }
     ensures paths { SamePaths pool.old pool.new }
-    ensures kept { IsKept pool.old pool.new seeds.now overlay.old overlay.new }
+    ensures kept { (seeds : TheSeeds) → AreSeedsLive pool.old seeds → IsKept pool.old pool.new seeds overlay.old overlay.new }
 {
     overlay.room(1)?;
     reserve_cell(pool)?;
@@ -115,26 +110,24 @@ fn make_room(
 }
 
 // Gives an AS the entry that a choice names, which is its seed's or an offer's.
-fn give_entry<P: RoutePolicy>(
-    book: &Book<P>,
-    seeds: &SeedIds,
+fn give_entry<P: RoutePolicy, V>(
+    at: &PrefixWorld<'_, P, V>,
     pool: &mut PathPool,
-    table: &Table,
     overlay: &mut Overlay,
     asn: Asn,
     place: usize,
     chosen: ChoiceNear,
 ) -> Result<bool, NoMemory>
-    requires can { CanTurn pool.old seeds.now table.now overlay.old }
-    requires choice { IsNameable seeds.now table.now overlay.old asn chosen.choice }
-    requires some { IsSome (named_by (λ n. P.meaning (policy_at book.now n)) (seeds_of pool.old seeds.now asn) (routing_of pool.old table.now overlay.old) asn chosen.choice) }
-    requires kept { GivesUpNone pool.old table.now overlay.old asn (named_by (λ n. P.meaning (policy_at book.now n)) (seeds_of pool.old seeds.now asn) (routing_of pool.old table.now overlay.old) asn chosen.choice) }
-    ensures given { IfOk result (IsGiven pool.old pool.new table.now overlay.old overlay.new asn (named_by (λ n. P.meaning (policy_at book.now n)) (seeds_of pool.old seeds.now asn) (routing_of pool.old table.now overlay.old) asn chosen.choice)) }
-    ensures err { OnErr result (SameHeld pool.old pool.new table.now overlay.old overlay.new) }
-    ensures kept { IsKept pool.old pool.new seeds.now overlay.old overlay.new }
+    requires can { CanTurn pool.old at.now.seeds.now at.now.table.now overlay.old }
+    requires choice { IsNameable at.now.seeds.now at.now.table.now overlay.old asn chosen.choice }
+    requires some { IsSome (named_by (λ n. P.meaning (policy_at at.now.book.now n)) (seeds_of pool.old at.now.seeds.now asn) (routing_of pool.old at.now.table.now overlay.old) asn chosen.choice) }
+    requires kept { GivesUpNone pool.old at.now.table.now overlay.old asn (named_by (λ n. P.meaning (policy_at at.now.book.now n)) (seeds_of pool.old at.now.seeds.now asn) (routing_of pool.old at.now.table.now overlay.old) asn chosen.choice) }
+    ensures given { IfOk result (IsGiven pool.old pool.new at.now.table.now overlay.old overlay.new asn (named_by (λ n. P.meaning (policy_at at.now.book.now n)) (seeds_of pool.old at.now.seeds.now asn) (routing_of pool.old at.now.table.now overlay.old) asn chosen.choice)) }
+    ensures err { OnErr result (SameHeld pool.old pool.new at.now.table.now overlay.old overlay.new) }
+    ensures kept { IsKept pool.old pool.new at.now.seeds.now overlay.old overlay.new }
 {
-    make_room(seeds, pool, table, overlay)?;
-    Ok(settle_near(book, seeds, pool, table, overlay, asn, place, chosen))
+    make_room(pool, overlay)?;
+    Ok(settle_near(at, pool, overlay, asn, place, chosen))
 }
 
 // Takes away what an AS holds, which is an entry of the table, if anything. Answers whether there was
@@ -165,33 +158,29 @@ fn take_away(
 
 /// Gives an AS what a choice names: its seed's entry, or an offer's, or none. Answers whether it is
 /// another one than it held before.
-pub(crate) fn give_chosen<P: RoutePolicy>(
-    book: &Book<P>,
-    seeds: &SeedIds,
+pub(crate) fn give_chosen<P: RoutePolicy, V>(
+    at: &PrefixWorld<'_, P, V>,
     pool: &mut PathPool,
-    table: &Table,
     overlay: &mut Overlay,
     asn: Asn,
     place: usize,
     before: &Option<Held>,
     chosen: ChoiceNear,
 ) -> Result<bool, NoMemory>
-    requires can { CanTurn pool.old seeds.now table.now overlay.old }
-    requires choice { IsNameable seeds.now table.now overlay.old asn chosen.choice }
-    requires before { before.now ≡ joined table.now overlay.old asn }
-    requires kept { GivesUpNone pool.old table.now overlay.old asn (named_by (λ n. P.meaning (policy_at book.now n)) (seeds_of pool.old seeds.now asn) (routing_of pool.old table.now overlay.old) asn chosen.choice) }
-    ensures given { IfOk result (IsGiven pool.old pool.new table.now overlay.old overlay.new asn (named_by (λ n. P.meaning (policy_at book.now n)) (seeds_of pool.old seeds.now asn) (routing_of pool.old table.now overlay.old) asn chosen.choice)) }
-    ensures err { OnErr result (SameHeld pool.old pool.new table.now overlay.old overlay.new) }
-    ensures kept { IsKept pool.old pool.new seeds.now overlay.old overlay.new }
+    requires can { CanTurn pool.old at.now.seeds.now at.now.table.now overlay.old }
+    requires choice { IsNameable at.now.seeds.now at.now.table.now overlay.old asn chosen.choice }
+    requires before { before.now ≡ joined at.now.table.now overlay.old asn }
+    requires kept { GivesUpNone pool.old at.now.table.now overlay.old asn (named_by (λ n. P.meaning (policy_at at.now.book.now n)) (seeds_of pool.old at.now.seeds.now asn) (routing_of pool.old at.now.table.now overlay.old) asn chosen.choice) }
+    ensures given { IfOk result (IsGiven pool.old pool.new at.now.table.now overlay.old overlay.new asn (named_by (λ n. P.meaning (policy_at at.now.book.now n)) (seeds_of pool.old at.now.seeds.now asn) (routing_of pool.old at.now.table.now overlay.old) asn chosen.choice)) }
+    ensures err { OnErr result (SameHeld pool.old pool.new at.now.table.now overlay.old overlay.new) }
+    ensures kept { IsKept pool.old pool.new at.now.seeds.now overlay.old overlay.new }
 {
     let from = chosen.place;
-    if is_held_by_offer(book, pool, table, overlay, asn, before, chosen.choice, from) {
+    if is_held_by_offer(at, pool, overlay, asn, before, chosen.choice, from) {
         return Ok(false);
     }
     match chosen.choice {
-        Choice::Nothing => take_away(table, overlay, asn, place, before),
-        Choice::Seed | Choice::Via { .. } => {
-            give_entry(book, seeds, pool, table, overlay, asn, place, chosen)
-        }
+        Choice::Nothing => take_away(at.table, overlay, asn, place, before),
+        Choice::Seed | Choice::Via { .. } => give_entry(at, pool, overlay, asn, place, chosen),
     }
 }

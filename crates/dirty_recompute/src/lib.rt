@@ -7,11 +7,15 @@
 #![tactic(auto)]
 
 mod giving;
-mod new_ranks;
 mod plan;
+mod planned_ranks;
+mod prefix_edit;
 mod queue;
+mod ranked_world;
 mod spared;
 mod stepping;
 mod turns;
 
 pub use plan::plan_edit;
+pub use planned_ranks::PlannedRanks;
+pub use prefix_edit::PrefixEdit;

@@ -9,35 +9,37 @@ ghost use Rattle.path_pool.specs.declared.pool.PathPool.{PathPool as APool};
 ghost use Rattle.path_pool.specs.Pool.{holds_of, count_of, live_count, limit_of};
 ghost use Rattle.rank_order.specs.Plans.{rank_after, IsLastPlan};
 ghost use Rattle.stability_laws.specs.Stable.{IsRight};
-ghost use Rattle.stability_laws.specs.World.{setting};
+ghost use Rattle.stability_laws.specs.World.{setting_in};
+ghost use Rattle.route_choice.specs.PrefixWorlds.{setting_at};
 ghost use Rattle.route_choice.specs.Resources.{AreEntriesLive, AreSeedsLive, Keeps};
 ghost use Rattle.route_choice.specs.Routings.{routing_of, seeds_of, table_routing};
 ghost use Rattle.route_choice.specs.Tables.{change_at, held_at, overlay_uses, places_of, prefix_of, seed_at, table_spare, table_uses};
 ghost use Rattle.dirty_recompute.specs.Exact.{IsExact, AreEnough};
-ghost use Rattle.dirty_recompute.specs.NewRanks.{rank_of};
+ghost use Rattle.dirty_recompute.specs.PlannedRanks.{rank_of};
 ghost use Rattle.dirty_recompute.specs.Queues.{waits, HasRanks};
 ghost use Rattle.dirty_recompute.specs.Resources.{has_change, FewNewCells, IsKept, IsUndone, SameTable};
 ghost use Rattle.dirty_recompute.specs.Work.{HasGoneDown, CanGoOn};
 ghost use Rattle.as_graph.specs.declared.build.TheConstants.{MOST_ASES};
 
-use crate::new_ranks::NewRanks;
-use crate::queue::Queue;
+use crate::planned_ranks::PlannedRanks;
+use crate::prefix_edit::PrefixEdit;
+use crate::queue::{Queue, Queues};
+use crate::ranked_world::RankedWorld;
 use crate::turns::{turn_down, turn_up};
 use as_graph::{Graph, ranks_fit};
 use net_names::{Asn, NoMemory};
 use path_pool::PathPool;
 use policy_laws::{OriginStates, RoutePolicy};
-use rank_order::{RankPlan, Ranks};
-use route_choice::{Overlay, SeedIds, Steps, Table};
+use route_choice::{Overlay, PrefixWorld, Steps, Table};
 use stability_laws::{
-    Book, customers_decide, nothing_up, offer_follows, offer_names, one_stable_routing,
+    World, customers_decide, nothing_up, offer_follows, offer_names, one_stable_routing,
     right_by_offers,
 };
 use std::alloc::Global;
 use std::sync::ledger::Ledger;
 
 // The touched ASes, each under its rank.
-fn queue_of(alloc: Global, ranks: &NewRanks, touched: &[Asn]) -> Result<Queue, NoMemory>
+fn queue_of(alloc: Global, ranks: &PlannedRanks, touched: &[Asn]) -> Result<Queue, NoMemory>
     ensures touched { IfOk result (λ q. (b : ℕ) → waits (rank_of ranks.now) q b ≡ occurs b touched.now) }
     ensures ranks { IfOk result (HasRanks (rank_of ranks.now)) }
 {
@@ -58,28 +60,23 @@ fn row_of_first(graph: &Graph, ases: &[Asn]) -> usize {
 // where the row of one of them stands is a hint.
 fn go_up<P: RoutePolicy, V: OriginStates, L: Ledger>(
     alloc: Global,
-    graph: &Graph,
-    ranks: &NewRanks,
-    book: &Book<P>,
-    states: &V,
-    seeds: &SeedIds,
-    pool: &mut PathPool,
-    table: &Table,
-    overlay: &mut Overlay,
+    world: &RankedWorld<'_, P, V>,
     touched: &[Asn],
     near: usize,
+    pool: &mut PathPool,
+    overlay: &mut Overlay,
     steps: &mut Steps<L>,
 ) -> Result<Queue, NoMemory>
-    requires falls { (a b : ℕ) → relation graph.now a b ≡ Some Customer → suc (rank_of ranks.now b) ≤ rank_of ranks.now a }
-    requires few { as_count graph.now ≤ MOST_ASES }
-    requires seeds { (b : ℕ) → has graph.now b ≡ false → seed_at seeds.now b ≡ None }
+    requires falls { (a b : ℕ) → relation world.now.at.graph.now a b ≡ Some Customer → suc (rank_of world.now.ranks b) ≤ rank_of world.now.ranks a }
+    requires few { as_count world.now.at.graph.now ≤ MOST_ASES }
+    requires seeds { (b : ℕ) → has world.now.at.graph.now b ≡ false → seed_at world.now.at.seeds.now b ≡ None }
     requires fresh { (b : ℕ) → change_at overlay.old b ≡ None }
-    requires entries { (b : ℕ) → has graph.now b ≡ false → occurs b touched.now ≡ false → held_at table.now b ≡ None }
-    requires right { (b : ℕ) → has graph.now b ≡ true → occurs b touched.now ≡ false → IsRight (setting P.meaning graph.now book.now (V.state_of states.now (prefix_of table.now))) (seeds_of pool.old seeds.now) (table_routing pool.old table.now) b }
-    requires can { (first : APool) × CanGoOn (has graph.now) first pool.old seeds.now table.now overlay.old }
-    ensures done { IfOk result (λ q. (n : ℕ) × (steps.new ≡ steps.old + n) × HasGoneDown (setting P.meaning graph.now book.now (V.state_of states.now (prefix_of table.now))) (rank_of ranks.now) touched.now pool.new seeds.now table.now overlay.new q n 0) }
-    ensures can { OnOk result ((first : APool) → CanGoOn (has graph.now) first pool.old seeds.now table.now overlay.old → CanGoOn (has graph.now) first pool.new seeds.now table.now overlay.new) }
-    ensures kept { IsKept pool.old pool.new seeds.now overlay.old overlay.new }
+    requires entries { (b : ℕ) → has world.now.at.graph.now b ≡ false → occurs b touched.now ≡ false → held_at world.now.at.table.now b ≡ None }
+    requires right { (b : ℕ) → has world.now.at.graph.now b ≡ true → occurs b touched.now ≡ false → IsRight (setting_at P.meaning V.state_of world.now.at) (seeds_of pool.old world.now.at.seeds.now) (table_routing pool.old world.now.at.table.now) b }
+    requires can { (first : APool) × CanGoOn (has world.now.at.graph.now) first pool.old world.now.at.seeds.now world.now.at.table.now overlay.old }
+    ensures done { IfOk result (λ q. (n : ℕ) × (steps.new ≡ steps.old + n) × HasGoneDown (setting_at P.meaning V.state_of world.now.at) (rank_of world.now.ranks) touched.now pool.new world.now.at.seeds.now world.now.at.table.now overlay.new q n 0) }
+    ensures can { OnOk result ((first : APool) → CanGoOn (has world.now.at.graph.now) first pool.old world.now.at.seeds.now world.now.at.table.now overlay.old → CanGoOn (has world.now.at.graph.now) first pool.new world.now.at.seeds.now world.now.at.table.now overlay.new) }
+    ensures kept { IsKept pool.old pool.new world.now.at.seeds.now overlay.old overlay.new }
 {
     offer_names::<P>();
     offer_follows::<P>();
@@ -87,42 +84,36 @@ fn go_up<P: RoutePolicy, V: OriginStates, L: Ledger>(
     nothing_up::<P>();
     customers_decide::<P>();
     one_stable_routing::<P>();
-    let mut up = queue_of(alloc, ranks, touched)?;
-    let mut whole = Queue::new(alloc);
-    while let Some(asn) = up.pop_lowest() {
-        turn_up(
-            graph, ranks, book, states, seeds, pool, table, overlay, asn, near, &mut up,
-            &mut whole, steps,
-        )?;
+    let mut queues = Queues {
+        up: queue_of(alloc, &world.ranks, touched)?,
+        whole: Queue::new(alloc),
+    };
+    while let Some(asn) = queues.up.pop_lowest() {
+        turn_up(world, pool, overlay, asn, near, &mut queues, steps)?;
     }
-    Ok(whole)
+    Ok(queues.whole)
 }
 
 // And then downwards, by falling rank. `touched` has the ASes with which the way upwards began.
 fn go_down<P: RoutePolicy, V: OriginStates, L: Ledger>(
-    graph: &Graph,
-    ranks: &NewRanks,
-    book: &Book<P>,
-    states: &V,
-    seeds: &SeedIds,
-    pool: &mut PathPool,
-    table: &Table,
-    overlay: &mut Overlay,
+    world: &RankedWorld<'_, P, V>,
     touched: &[Asn],
     near: usize,
+    pool: &mut PathPool,
+    overlay: &mut Overlay,
     whole: &mut Queue,
     steps: &mut Steps<L>,
 ) -> Result<(), NoMemory>
-    requires no_cycle { HasNoProviderCycle (relation graph.now) }
-    requires falls { (a b : ℕ) → relation graph.now a b ≡ Some Customer → suc (rank_of ranks.now b) ≤ rank_of ranks.now a }
-    requires few { as_count graph.now ≤ MOST_ASES }
-    requires seeds { (b : ℕ) → has graph.now b ≡ false → seed_at seeds.now b ≡ None }
-    requires work { (n : ℕ) × HasGoneDown (setting P.meaning graph.now book.now (V.state_of states.now (prefix_of table.now))) (rank_of ranks.now) touched.now pool.old seeds.now table.now overlay.old whole.old n 0 }
-    requires can { (first : APool) × CanGoOn (has graph.now) first pool.old seeds.now table.now overlay.old }
-    ensures exact { OnOk result (IsExact (setting P.meaning graph.now book.now (V.state_of states.now (prefix_of table.now))) (seeds_of pool.new seeds.now) (table_routing pool.new table.now) (routing_of pool.new table.now overlay.new) (has_change overlay.new)) }
-    ensures enough { OnOk result ((first n : ℕ) → steps.old ≡ first + n → HasGoneDown (setting P.meaning graph.now book.now (V.state_of states.now (prefix_of table.now))) (rank_of ranks.now) touched.now pool.old seeds.now table.now overlay.old whole.old n 0 → AreEnough (relation graph.now) (λ b. occurs b touched.now) (has_change overlay.new) first steps.new) }
-    ensures can { OnOk result ((first : APool) → CanGoOn (has graph.now) first pool.old seeds.now table.now overlay.old → CanGoOn (has graph.now) first pool.new seeds.now table.now overlay.new) }
-    ensures kept { IsKept pool.old pool.new seeds.now overlay.old overlay.new }
+    requires no_cycle { HasNoProviderCycle (relation world.now.at.graph.now) }
+    requires falls { (a b : ℕ) → relation world.now.at.graph.now a b ≡ Some Customer → suc (rank_of world.now.ranks b) ≤ rank_of world.now.ranks a }
+    requires few { as_count world.now.at.graph.now ≤ MOST_ASES }
+    requires seeds { (b : ℕ) → has world.now.at.graph.now b ≡ false → seed_at world.now.at.seeds.now b ≡ None }
+    requires work { (n : ℕ) × HasGoneDown (setting_at P.meaning V.state_of world.now.at) (rank_of world.now.ranks) touched.now pool.old world.now.at.seeds.now world.now.at.table.now overlay.old whole.old n 0 }
+    requires can { (first : APool) × CanGoOn (has world.now.at.graph.now) first pool.old world.now.at.seeds.now world.now.at.table.now overlay.old }
+    ensures exact { OnOk result (IsExact (setting_at P.meaning V.state_of world.now.at) (seeds_of pool.new world.now.at.seeds.now) (table_routing pool.new world.now.at.table.now) (routing_of pool.new world.now.at.table.now overlay.new) (has_change overlay.new)) }
+    ensures enough { OnOk result ((first n : ℕ) → steps.old ≡ first + n → HasGoneDown (setting_at P.meaning V.state_of world.now.at) (rank_of world.now.ranks) touched.now pool.old world.now.at.seeds.now world.now.at.table.now overlay.old whole.old n 0 → AreEnough (relation world.now.at.graph.now) (λ b. occurs b touched.now) (has_change overlay.new) first steps.new) }
+    ensures can { OnOk result ((first : APool) → CanGoOn (has world.now.at.graph.now) first pool.old world.now.at.seeds.now world.now.at.table.now overlay.old → CanGoOn (has world.now.at.graph.now) first pool.new world.now.at.seeds.now world.now.at.table.now overlay.new) }
+    ensures kept { IsKept pool.old pool.new world.now.at.seeds.now overlay.old overlay.new }
 {
     offer_names::<P>();
     offer_follows::<P>();
@@ -131,62 +122,48 @@ fn go_down<P: RoutePolicy, V: OriginStates, L: Ledger>(
     customers_decide::<P>();
     one_stable_routing::<P>();
     while let Some(asn) = whole.pop_highest() {
-        turn_down(
-            graph, ranks, book, states, seeds, pool, table, overlay, asn, near, whole, steps,
-        )?;
+        turn_down(world, pool, overlay, asn, near, whole, steps)?;
     }
     Ok(())
 }
 
-// Puts the changes into an overlay that has none, and makes room for them in the table.
+// Puts the changes into an overlay that has none.
 fn put_changes<P: RoutePolicy, V: OriginStates, L: Ledger>(
     alloc: Global,
-    graph: &Graph,
-    ranks: &NewRanks,
-    book: &Book<P>,
-    states: &V,
-    seeds: &SeedIds,
-    pool: &mut PathPool,
-    table: &mut Table,
-    overlay: &mut Overlay,
+    world: &RankedWorld<'_, P, V>,
     touched: &[Asn],
+    pool: &mut PathPool,
+    overlay: &mut Overlay,
     steps: &mut Steps<L>,
 ) -> Result<(), NoMemory>
-    requires no_cycle { HasNoProviderCycle (relation graph.now) }
-    requires falls { (a b : ℕ) → relation graph.now a b ≡ Some Customer → suc (rank_of ranks.now b) ≤ rank_of ranks.now a }
-    requires seeds { (b : ℕ) → has graph.now b ≡ false → seed_at seeds.now b ≡ None }
+    requires no_cycle { HasNoProviderCycle (relation world.now.at.graph.now) }
+    requires falls { (a b : ℕ) → relation world.now.at.graph.now a b ≡ Some Customer → suc (rank_of world.now.ranks b) ≤ rank_of world.now.ranks a }
+    requires seeds { (b : ℕ) → has world.now.at.graph.now b ≡ false → seed_at world.now.at.seeds.now b ≡ None }
     requires fresh { (b : ℕ) → change_at overlay.old b ≡ None }
-    requires entries { (b : ℕ) → has graph.now b ≡ false → occurs b touched.now ≡ false → held_at table.old b ≡ None }
-    requires right { (b : ℕ) → has graph.now b ≡ true → occurs b touched.now ≡ false → IsRight (setting P.meaning graph.now book.now (V.state_of states.now (prefix_of table.old))) (seeds_of pool.old seeds.now) (table_routing pool.old table.old) b }
-    requires can { CanGoOn (has graph.now) pool.old pool.old seeds.now table.old overlay.old }
-    ensures exact { OnOk result (IsExact (setting P.meaning graph.now book.now (V.state_of states.now (prefix_of table.old))) (seeds_of pool.new seeds.now) (table_routing pool.new table.old) (routing_of pool.new table.new overlay.new) (has_change overlay.new)) }
-    ensures enough { OnOk result (AreEnough (relation graph.now) (λ b. occurs b touched.now) (has_change overlay.new) steps.old steps.new) }
-    ensures can { OnOk result (CanGoOn (has graph.now) pool.old pool.new seeds.now table.old overlay.new) }
-    ensures kept { IsKept pool.old pool.new seeds.now overlay.old overlay.new }
-    ensures table { SameTable table.old table.new }
-    ensures spare { OnOk result (length (places_of overlay.new) ≤ table_spare table.new) }
+    requires entries { (b : ℕ) → has world.now.at.graph.now b ≡ false → occurs b touched.now ≡ false → held_at world.now.at.table.now b ≡ None }
+    requires right { (b : ℕ) → has world.now.at.graph.now b ≡ true → occurs b touched.now ≡ false → IsRight (setting_at P.meaning V.state_of world.now.at) (seeds_of pool.old world.now.at.seeds.now) (table_routing pool.old world.now.at.table.now) b }
+    requires can { CanGoOn (has world.now.at.graph.now) pool.old pool.old world.now.at.seeds.now world.now.at.table.now overlay.old }
+    ensures exact { OnOk result (IsExact (setting_at P.meaning V.state_of world.now.at) (seeds_of pool.new world.now.at.seeds.now) (table_routing pool.new world.now.at.table.now) (routing_of pool.new world.now.at.table.now overlay.new) (has_change overlay.new)) }
+    ensures enough { OnOk result (AreEnough (relation world.now.at.graph.now) (λ b. occurs b touched.now) (has_change overlay.new) steps.old steps.new) }
+    ensures can { OnOk result (CanGoOn (has world.now.at.graph.now) pool.old pool.new world.now.at.seeds.now world.now.at.table.now overlay.new) }
+    ensures kept { IsKept pool.old pool.new world.now.at.seeds.now overlay.old overlay.new }
 {
     // there are few ASes, so no count of the pool can grow too great
-    let _ = graph.as_count();
-    let near = row_of_first(graph, touched);
-    let mut whole = go_up(
-        alloc, graph, ranks, book, states, seeds, pool, table, overlay, touched, near, steps,
-    )?;
-    go_down(
-        graph, ranks, book, states, seeds, pool, table, overlay, touched, near, &mut whole, steps,
-    )?;
-    table.room(overlay.len())?;
+    let _ = world.at.graph.as_count();
+    let near = row_of_first(world.at.graph, touched);
+    let mut whole = go_up(alloc, world, touched, near, pool, overlay, steps)?;
+    go_down(world, touched, near, pool, overlay, &mut whole, steps)?;
     Ok(())
 }
 
-/// The changes of a table that an edit brings. The graph, the policies, the states and the seeds are
-/// those after the edit, and `touched` has the ASes that may hold something else than what is right
-/// there: the ends of an edited link, the AS of an edited policy, and who reads an edited state or has
-/// an edited seed. With the changes in place the table stands for the stable routing, which is the only
-/// one, and the overlay has just the ASes at which the two differ. It takes at most two steps for each
-/// AS that is in `touched` or has a neighbour in the overlay.
+/// The changes of a table that an edit brings. The world and the seeds are those after the edit, and
+/// `touched` of the edit has the ASes that may hold something else than what is right there: the ends of
+/// an edited link, the AS of an edited policy, and who reads an edited state or has an edited seed. With
+/// the changes in place the table stands for the stable routing, which is the only one, and the overlay
+/// has just the ASes at which the two differ. It takes at most two steps for each AS that is in
+/// `touched` or has a neighbour in the overlay.
 ///
-/// The graph has no provider cycle, and `plan` is the last plan of the ranks and gives its ranks. The
+/// The graph has no provider cycle, and the plan is the last one of the ranks and gives its ranks. The
 /// table holds entries only for its ASes and those in `touched`, and is right at all ASes that are not in
 /// `touched`; the seeds stand only at its ASes. The table owns one hold for each of its entries, the
 /// paths of these and of the seeds are live, no count of the pool is above 4,000,000,000, and the pool's
@@ -197,58 +174,50 @@ fn put_changes<P: RoutePolicy, V: OriginStates, L: Ledger>(
 /// refusal is want of memory, and then the holds are as before, and so is each path that is held.
 pub fn plan_edit<P: RoutePolicy, V: OriginStates, L: Ledger>(
     alloc: Global,
-    graph: &Graph,
-    ranks: &Ranks,
-    plan: &RankPlan,
-    book: &Book<P>,
-    states: &V,
-    seeds: &SeedIds,
-    pool: &mut PathPool,
+    world: &World<'_, P, V>,
+    ranks: &PlannedRanks<'_>,
+    edit: &PrefixEdit<'_>,
     table: &mut Table,
-    touched: &[Asn],
+    pool: &mut PathPool,
     steps: &mut Steps<L>,
 ) -> Result<Overlay, NoMemory>
-    requires no_cycle { HasNoProviderCycle (relation graph.now) }
-    requires plan { IsLastPlan ranks.now plan.now }
-    requires ranks { (a : ℕ) → IsRank (relation graph.now) a (rank_after ranks.now plan.now a) }
-    requires entries { (b : ℕ) → has graph.now b ≡ false → occurs b touched.now ≡ false → held_at table.old b ≡ None }
-    requires right { (b : ℕ) → has graph.now b ≡ true → occurs b touched.now ≡ false → IsRight (setting P.meaning graph.now book.now (V.state_of states.now (prefix_of table.old))) (seeds_of pool.old seeds.now) (table_routing pool.old table.old) b }
-    requires seeds { (b : ℕ) → has graph.now b ≡ false → seed_at seeds.now b ≡ None }
-    requires seeds_live { AreSeedsLive pool.old seeds.now }
+    requires no_cycle { HasNoProviderCycle (relation world.now.graph.now) }
+    requires plan { IsLastPlan ranks.now.ranks.now ranks.now.plan.now }
+    requires ranks { (a : ℕ) → IsRank (relation world.now.graph.now) a (rank_after ranks.now.ranks.now ranks.now.plan.now a) }
+    requires entries { (b : ℕ) → has world.now.graph.now b ≡ false → occurs b edit.now.touched.now ≡ false → held_at table.old b ≡ None }
+    requires right { (b : ℕ) → has world.now.graph.now b ≡ true → occurs b edit.now.touched.now ≡ false → IsRight (setting_in P.meaning V.state_of world.now (prefix_of table.old)) (seeds_of pool.old edit.now.seeds.now) (table_routing pool.old table.old) b }
+    requires seeds { (b : ℕ) → has world.now.graph.now b ≡ false → seed_at edit.now.seeds.now b ≡ None }
+    requires seeds_live { AreSeedsLive pool.old edit.now.seeds.now }
     requires entries_live { AreEntriesLive pool.old table.old }
     requires held { (k : ℕ) → table_uses table.old k ≤ holds_of pool.old k }
     requires counts { (k : ℕ) → count_of pool.old k ≤ 4000000000 }
-    requires room { live_count pool.old + 2 * as_count graph.now ≤ limit_of pool.old }
-    ensures exact { IfOk result (λ o. IsExact (setting P.meaning graph.now book.now (V.state_of states.now (prefix_of table.old))) (seeds_of pool.old seeds.now) (table_routing pool.old table.old) (routing_of pool.new table.new o) (has_change o)) }
-    ensures enough { IfOk result (λ o. AreEnough (relation graph.now) (λ b. occurs b touched.now) (has_change o) steps.old steps.new) }
+    requires room { live_count pool.old + 2 * as_count world.now.graph.now ≤ limit_of pool.old }
+    ensures exact { IfOk result (λ o. IsExact (setting_in P.meaning V.state_of world.now (prefix_of table.old)) (seeds_of pool.old edit.now.seeds.now) (table_routing pool.old table.old) (routing_of pool.new table.new o) (has_change o)) }
+    ensures enough { IfOk result (λ o. AreEnough (relation world.now.graph.now) (λ b. occurs b edit.now.touched.now) (has_change o) steps.old steps.new) }
     ensures table { SameTable table.old table.new }
     ensures spare { IfOk result (λ o. length (places_of o) ≤ table_spare table.new) }
     ensures holds { IfOk result (λ o. (k : ℕ) → holds_of pool.new k ≡ holds_of pool.old k + overlay_uses o k) }
     ensures cells { IfOk result (FewNewCells pool.old pool.new) }
-    ensures kept { OnOk result (Keeps pool.old pool.new seeds.now) }
+    ensures kept { OnOk result (Keeps pool.old pool.new edit.now.seeds.now) }
     ensures limit { limit_of pool.new ≡ limit_of pool.old }
     ensures err { OnErr result (IsUndone pool.old pool.new) }
 {
     ranks_fit();
-    let ranks = NewRanks { ranks, plan };
     let mut overlay = Overlay::new(alloc);
-    match put_changes(
-        alloc,
-        graph,
-        &ranks,
-        book,
-        states,
-        seeds,
-        pool,
-        table,
-        &mut overlay,
-        touched,
-        steps,
-    ) {
-        Ok(()) => Ok(overlay),
-        Err(_) => {
-            overlay.undo(pool);
-            Err(NoMemory)
-        }
+    let put = {
+        let at = PrefixWorld {
+            graph: world.graph,
+            book: world.book,
+            states: world.states,
+            seeds: edit.seeds,
+            table: &*table,
+        };
+        let ranked = RankedWorld { at, ranks: *ranks };
+        put_changes(alloc, &ranked, edit.touched, pool, &mut overlay, steps)
+    };
+    if put.is_err() || table.room(overlay.len()).is_err() {
+        overlay.undo(pool);
+        return Err(NoMemory);
     }
+    Ok(overlay)
 }

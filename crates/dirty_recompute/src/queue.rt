@@ -2,7 +2,7 @@
 
 ghost use Rattle.std.specs.Prelude.{◌≡◌, ℕ, Some, []};
 
-use crate::new_ranks::NewRanks;
+use crate::planned_ranks::PlannedRanks;
 use net_names::{Asn, NoMemory};
 use std::alloc::Global;
 use std::collections::BTreeSet;
@@ -20,7 +20,7 @@ pub(crate) struct Queue {
 impl Queue {
     ghost use Rattle.std.specs.Prelude.{true, false, OnOk, OnErr, IfSome, IfNone};
     ghost use Rattle.std.specs.BTreeSet as keys;
-    ghost use Rattle.dirty_recompute.specs.NewRanks.{rank_of};
+    ghost use Rattle.dirty_recompute.specs.PlannedRanks.{rank_of};
     ghost use Rattle.dirty_recompute.specs.Queues.{key_cmp, contains, waits, HasRanks, HasTurned, IsAdded, IsIn, IsLowest, IsHighest};
 
     /// Nobody waits.
@@ -45,7 +45,7 @@ impl Queue {
     }
 
     // Puts an AS under its rank into the queue.
-    fn put(&mut self, ranks: &NewRanks, asn: Asn) -> Result<(), NoMemory>
+    fn put(&mut self, ranks: &PlannedRanks, asn: Asn) -> Result<(), NoMemory>
         ensures { OnOk result (HasTurned (rank_of ranks.now) self.old self.new (rank_of ranks.now asn, asn) true) }
     {
         match self.one {
@@ -66,14 +66,14 @@ impl Queue {
     }
 
     /// Puts an AS into the queue, under its rank.
-    pub(crate) fn add(&mut self, ranks: &NewRanks, asn: Asn) -> Result<(), NoMemory>
+    pub(crate) fn add(&mut self, ranks: &PlannedRanks, asn: Asn) -> Result<(), NoMemory>
         ensures { OnOk result (IsAdded (rank_of ranks.now) self.old self.new (λ b. b ≡ asn)) }
     {
         self.put(ranks, asn)
     }
 
     /// Puts ASes into the queue.
-    pub(crate) fn add_all(&mut self, ranks: &NewRanks, asns: &[Asn]) -> Result<(), NoMemory>
+    pub(crate) fn add_all(&mut self, ranks: &PlannedRanks, asns: &[Asn]) -> Result<(), NoMemory>
         ensures { OnOk result (IsAdded (rank_of ranks.now) self.old self.new (IsIn asns.now)) }
     {
         for asn in asns {
@@ -115,4 +115,13 @@ impl Queue {
             },
         }
     }
+}
+
+/// The ASes that wait for a turn.
+#[derive(Drop)]
+pub(crate) struct Queues {
+    /// Those that wait for a turn upwards.
+    pub up: Queue,
+    /// Those that are to choose among all offers.
+    pub whole: Queue,
 }

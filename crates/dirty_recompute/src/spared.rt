@@ -4,21 +4,18 @@ ghost use Rattle.std.specs.Prelude.{◌≡◌, ◌≢◌, ℕ, Some, IsTrue, tru
 ghost use Rattle.as_graph.specs.Topology.{relation};
 ghost use Rattle.path_pool.specs.Pool.{IsLive, list_of};
 ghost use Rattle.stability_laws.specs.Book.{policy_at};
-ghost use Rattle.stability_laws.specs.World.{setting};
 ghost use Rattle.route_choice.specs.declared.held.Held.{Held as AHeld};
+ghost use Rattle.route_choice.specs.PrefixWorlds.{setting_at};
 ghost use Rattle.route_choice.specs.Resources.{AreHeld};
 ghost use Rattle.route_choice.specs.Routings.{entry_of, routing_of};
-ghost use Rattle.route_choice.specs.Tables.{prefix_of};
 ghost use Rattle.route_choice.specs.Views.{goes_through};
 ghost use Rattle.dirty_recompute.specs.Spared.{HasRival};
 
 use crate::giving::held_near;
-use as_graph::Graph;
 use net_names::Asn;
 use path_pool::{PathPool, paths_are_not_empty};
 use policy_laws::{OriginStates, RoutePolicy, View};
-use route_choice::{Held, Overlay, Table, view_but_for_loops};
-use stability_laws::Book;
+use route_choice::{Held, Overlay, PrefixWorld, view_but_for_loops};
 
 /// How many ASes of a path are looked at, at most, before a neighbour is made to choose anew: so none
 /// costs more than a fixed time.
@@ -59,31 +56,27 @@ fn is_clear(pool: &PathPool, held: &Option<Held>, asn: Asn) -> bool
 
 // Whether an AS other than `asn` makes the neighbour an offer which its policy puts before the view.
 fn is_rival<P: RoutePolicy, V: OriginStates>(
-    graph: &Graph,
-    book: &Book<P>,
-    states: &V,
+    at: &PrefixWorld<'_, P, V>,
     pool: &PathPool,
-    table: &Table,
     overlay: &Overlay,
     asn: Asn,
     neighbour: Asn,
     other: Asn,
     view: &View,
 ) -> bool
-    requires held { AreHeld pool.now table.now overlay.now }
-    ensures { IsTrue result → HasRival (setting P.meaning graph.now book.now (V.state_of states.now (prefix_of table.now))) (routing_of pool.now table.now overlay.now) asn neighbour view.now }
+    requires held { AreHeld pool.now at.now.table.now overlay.now }
+    ensures { IsTrue result → HasRival (setting_at P.meaning V.state_of at.now) (routing_of pool.now at.now.table.now overlay.now) asn neighbour view.now }
 {
     if other == asn {
         return false;
     }
-    let Some(rel) = graph.rel(neighbour, other) else {
+    let Some(rel) = at.graph.rel(neighbour, other) else {
         return false;
     };
-    let given = held_near(table, overlay, other, graph.place_near(other, 0));
-    let prefix = table.prefix();
-    match view_but_for_loops(book, states, prefix, pool, other, neighbour, rel, given) {
+    let given = held_near(at.table, overlay, other, at.graph.place_near(other, 0));
+    match view_but_for_loops(at, pool, other, neighbour, rel, given) {
         Some(offered) => {
-            book.policy(neighbour).before(&offered, view) && is_clear(pool, &given, neighbour)
+            at.book.policy(neighbour).before(&offered, view) && is_clear(pool, &given, neighbour)
         }
         None => false,
     }
@@ -92,20 +85,17 @@ fn is_rival<P: RoutePolicy, V: OriginStates>(
 /// Whether the AS that comes second on the path of what the neighbour holds makes it an offer which its
 /// policy puts before the view.
 pub(crate) fn has_rival<P: RoutePolicy, V: OriginStates>(
-    graph: &Graph,
-    book: &Book<P>,
-    states: &V,
+    at: &PrefixWorld<'_, P, V>,
     pool: &PathPool,
-    table: &Table,
     overlay: &Overlay,
     asn: Asn,
     neighbour: Asn,
     have: &Option<Held>,
     view: &View,
 ) -> bool
-    requires held { AreHeld pool.now table.now overlay.now }
+    requires held { AreHeld pool.now at.now.table.now overlay.now }
     requires have { (h : AHeld) → have.now ≡ Some h → IsLive pool.now h.path.0 }
-    ensures { IsTrue result → HasRival (setting P.meaning graph.now book.now (V.state_of states.now (prefix_of table.now))) (routing_of pool.now table.now overlay.now) asn neighbour view.now }
+    ensures { IsTrue result → HasRival (setting_at P.meaning V.state_of at.now) (routing_of pool.now at.now.table.now overlay.now) asn neighbour view.now }
 {
     let Some(entry) = have else {
         return false;
@@ -114,7 +104,5 @@ pub(crate) fn has_rival<P: RoutePolicy, V: OriginStates>(
         return false;
     };
     let other = pool.head(rest);
-    is_rival(
-        graph, book, states, pool, table, overlay, asn, neighbour, other, view,
-    )
+    is_rival(at, pool, overlay, asn, neighbour, other, view)
 }

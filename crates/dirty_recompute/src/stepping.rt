@@ -9,24 +9,24 @@ ghost use Rattle.stability_laws.specs.Offers.{offer};
 ghost use Rattle.path_pool.specs.declared.pool.PathPool.{PathPool as APool};
 ghost use Rattle.stability_laws.specs.Steps.{low};
 ghost use Rattle.stability_laws.specs.Stable.{IsRight, IsRightGiven};
-ghost use Rattle.stability_laws.specs.World.{setting};
+ghost use Rattle.route_choice.specs.PrefixWorlds.{setting_at};
 ghost use Rattle.route_choice.specs.Resources.{AreHeld, AreSeedsLive};
 ghost use Rattle.route_choice.specs.Routings.{entry_of, routing_of, seeds_of};
-ghost use Rattle.route_choice.specs.Tables.{change_at, prefix_of};
+ghost use Rattle.route_choice.specs.Tables.{change_at};
 ghost use Rattle.dirty_recompute.specs.Steps.{ChangesOnly, IsChosenUp, IsLeft, without_low};
 ghost use Rattle.dirty_recompute.specs.Giving.{SameHeld};
 ghost use Rattle.dirty_recompute.specs.Resources.{has_change, CanTurn, IsKept, IsPaidFor, IsBefore};
 
 use crate::giving::{give_chosen, held_near};
 use crate::spared::{has_rival, may_be_over};
-use as_graph::{Graph, links_are_sound};
+use as_graph::links_are_sound;
 use net_names::{Asn, Class, NoMemory};
 use path_pool::PathPool;
 use policy_laws::{OriginStates, RoutePolicy};
 use route_choice::{
-    Choice, Held, Overlay, Part, SeedIds, Steps, Table, evaluate_near, view_but_for_loops,
+    Choice, Held, Overlay, Part, PrefixWorld, Steps, Turn, evaluate_near, view_but_for_loops,
 };
-use stability_laws::{Book, offer_path, one_answer};
+use stability_laws::{offer_path, one_answer};
 use std::sync::ledger::Ledger;
 
 /// What a step came to.
@@ -40,6 +40,19 @@ pub(crate) struct Stepped {
     pub before: Option<Held>,
     /// Where its row stands in the graph. It is a hint.
     pub place: usize,
+}
+
+/// An AS that has made a step.
+#[derive(Drop)]
+pub(crate) struct Turned {
+    /// The AS.
+    pub asn: Asn,
+    /// Where its row stands in the graph. It is a hint.
+    pub place: usize,
+    /// What it held before.
+    pub before: Option<Held>,
+    /// It holds another entry than before.
+    pub changed: bool,
 }
 
 // Whether a choice is to hold nothing.
@@ -70,45 +83,34 @@ fn is_high(held: &Option<Held>) -> bool
 /// gives up an Origin or Customer entry, and keeps another one. After a refusal it holds what it held. The
 /// place where its row may stand is a hint.
 pub(crate) fn step_up<P: RoutePolicy, V: OriginStates, L: Ledger>(
-    graph: &Graph,
-    book: &Book<P>,
-    states: &V,
-    seeds: &SeedIds,
+    at: &PrefixWorld<'_, P, V>,
     pool: &mut PathPool,
-    table: &Table,
     overlay: &mut Overlay,
     asn: Asn,
     near: usize,
     steps: &mut Steps<L>,
 ) -> Result<Stepped, NoMemory>
-    requires can { CanTurn pool.old seeds.now table.now overlay.old }
+    requires can { CanTurn pool.old at.now.seeds.now at.now.table.now overlay.old }
     requires fresh { change_at overlay.old asn ≡ None }
-    ensures chosen { IfOk result (λ r. IsChosenUp (setting P.meaning graph.now book.now (V.state_of states.now (prefix_of table.now))) (seeds_of pool.old seeds.now) asn (routing_of pool.old table.now overlay.old) (routing_of pool.new table.now overlay.new) r.nothing) }
-    ensures only { OnOk result (ChangesOnly asn (routing_of pool.old table.now overlay.old) (routing_of pool.new table.now overlay.new) (has_change overlay.old) (has_change overlay.new)) }
+    ensures chosen { IfOk result (λ r. IsChosenUp (setting_at P.meaning V.state_of at.now) (seeds_of pool.old at.now.seeds.now) asn (routing_of pool.old at.now.table.now overlay.old) (routing_of pool.new at.now.table.now overlay.new) r.nothing) }
+    ensures only { OnOk result (ChangesOnly asn (routing_of pool.old at.now.table.now overlay.old) (routing_of pool.new at.now.table.now overlay.new) (has_change overlay.old) (has_change overlay.new)) }
     ensures changed { IfOk result (λ r. IsTrue r.changed → has_change overlay.new asn ≡ true) }
-    ensures unchanged { IfOk result (λ r. r.changed ≡ false → routing_of pool.new table.now overlay.new asn ≡ routing_of pool.old table.now overlay.old asn) }
-    ensures before { IfOk result (λ r. IsBefore pool.new table.now overlay.new asn r.before (routing_of pool.old table.now overlay.old)) }
+    ensures unchanged { IfOk result (λ r. r.changed ≡ false → routing_of pool.new at.now.table.now overlay.new asn ≡ routing_of pool.old at.now.table.now overlay.old asn) }
+    ensures before { IfOk result (λ r. IsBefore pool.new at.now.table.now overlay.new asn r.before (routing_of pool.old at.now.table.now overlay.old)) }
     ensures cost { OnOk result (steps.new ≡ steps.old + 1) }
-    ensures paid { OnOk result (IsPaidFor pool.old pool.new (routing_of pool.old table.now overlay.old) (routing_of pool.new table.now overlay.new) asn) }
-    ensures kept { IsKept pool.old pool.new seeds.now overlay.old overlay.new }
-    ensures refused { OnErr result (SameHeld pool.old pool.new table.now overlay.old overlay.new) }
+    ensures paid { OnOk result (IsPaidFor pool.old pool.new (routing_of pool.old at.now.table.now overlay.old) (routing_of pool.new at.now.table.now overlay.new) asn) }
+    ensures kept { IsKept pool.old pool.new at.now.seeds.now overlay.old overlay.new }
+    ensures refused { OnErr result (SameHeld pool.old pool.new at.now.table.now overlay.old overlay.new) }
 {
-    let place = graph.place_near(asn, near);
-    let before = held_near(table, overlay, asn, place);
-    let chosen = evaluate_near(
-        graph,
-        book,
-        states,
-        seeds,
-        pool,
-        table,
-        overlay,
+    let place = at.graph.place_near(asn, near);
+    let before = held_near(at.table, overlay, asn, place);
+    let turn = Turn {
         asn,
         place,
-        true,
-        Part::Up,
-        steps,
-    );
+        may_loop: true,
+        part: Part::Up,
+    };
+    let chosen = evaluate_near(at, pool, overlay, turn, steps);
     let nothing = is_nothing(chosen.choice);
     if nothing && is_high(&before) {
         return Ok(Stepped {
@@ -118,9 +120,7 @@ pub(crate) fn step_up<P: RoutePolicy, V: OriginStates, L: Ledger>(
             place,
         });
     }
-    let changed = give_chosen(
-        book, seeds, pool, table, overlay, asn, place, &before, chosen,
-    )?;
+    let changed = give_chosen(at, pool, overlay, asn, place, &before, chosen)?;
     Ok(Stepped {
         changed,
         nothing,
@@ -132,49 +132,36 @@ pub(crate) fn step_up<P: RoutePolicy, V: OriginStates, L: Ledger>(
 /// A step over all offers: the AS takes its seed, or the best offer, or nothing. After a refusal it holds
 /// what it held. The place where its row may stand is a hint.
 pub(crate) fn step_whole<P: RoutePolicy, V: OriginStates, L: Ledger>(
-    graph: &Graph,
-    book: &Book<P>,
-    states: &V,
-    seeds: &SeedIds,
+    at: &PrefixWorld<'_, P, V>,
     pool: &mut PathPool,
-    table: &Table,
     overlay: &mut Overlay,
     asn: Asn,
     near: usize,
     steps: &mut Steps<L>,
 ) -> Result<Stepped, NoMemory>
-    requires can { CanTurn pool.old seeds.now table.now overlay.old }
-    requires settled { has_change overlay.old asn ≡ true → (routing_of pool.old table.now overlay.old asn ≡ None) ⊎ IsRight (setting P.meaning graph.now book.now (V.state_of states.now (prefix_of table.now))) (seeds_of pool.old seeds.now) (routing_of pool.old table.now overlay.old) asn }
-    ensures chosen { OnOk result (IsRightGiven (P.meaning (policy_at book.now asn)) (seeds_of pool.old seeds.now asn) (λ n. offer (setting P.meaning graph.now book.now (V.state_of states.now (prefix_of table.now))) (routing_of pool.old table.now overlay.old) n asn) (routing_of pool.new table.now overlay.new asn)) }
-    ensures only { OnOk result (ChangesOnly asn (routing_of pool.old table.now overlay.old) (routing_of pool.new table.now overlay.new) (has_change overlay.old) (has_change overlay.new)) }
+    requires can { CanTurn pool.old at.now.seeds.now at.now.table.now overlay.old }
+    requires settled { has_change overlay.old asn ≡ true → (routing_of pool.old at.now.table.now overlay.old asn ≡ None) ⊎ IsRight (setting_at P.meaning V.state_of at.now) (seeds_of pool.old at.now.seeds.now) (routing_of pool.old at.now.table.now overlay.old) asn }
+    ensures chosen { OnOk result (IsRightGiven (P.meaning (policy_at at.now.book.now asn)) (seeds_of pool.old at.now.seeds.now asn) (λ n. offer (setting_at P.meaning V.state_of at.now) (routing_of pool.old at.now.table.now overlay.old) n asn) (routing_of pool.new at.now.table.now overlay.new asn)) }
+    ensures only { OnOk result (ChangesOnly asn (routing_of pool.old at.now.table.now overlay.old) (routing_of pool.new at.now.table.now overlay.new) (has_change overlay.old) (has_change overlay.new)) }
     ensures changed { IfOk result (λ r. IsTrue r.changed → has_change overlay.new asn ≡ true) }
-    ensures unchanged { IfOk result (λ r. r.changed ≡ false → routing_of pool.new table.now overlay.new asn ≡ routing_of pool.old table.now overlay.old asn) }
-    ensures before { IfOk result (λ r. IsBefore pool.new table.now overlay.new asn r.before (routing_of pool.old table.now overlay.old)) }
+    ensures unchanged { IfOk result (λ r. r.changed ≡ false → routing_of pool.new at.now.table.now overlay.new asn ≡ routing_of pool.old at.now.table.now overlay.old asn) }
+    ensures before { IfOk result (λ r. IsBefore pool.new at.now.table.now overlay.new asn r.before (routing_of pool.old at.now.table.now overlay.old)) }
     ensures cost { OnOk result (steps.new ≡ steps.old + 1) }
-    ensures paid { OnOk result (IsPaidFor pool.old pool.new (routing_of pool.old table.now overlay.old) (routing_of pool.new table.now overlay.new) asn) }
-    ensures kept { IsKept pool.old pool.new seeds.now overlay.old overlay.new }
-    ensures refused { OnErr result (SameHeld pool.old pool.new table.now overlay.old overlay.new) }
+    ensures paid { OnOk result (IsPaidFor pool.old pool.new (routing_of pool.old at.now.table.now overlay.old) (routing_of pool.new at.now.table.now overlay.new) asn) }
+    ensures kept { IsKept pool.old pool.new at.now.seeds.now overlay.old overlay.new }
+    ensures refused { OnErr result (SameHeld pool.old pool.new at.now.table.now overlay.old overlay.new) }
 {
     one_answer::<P>();
-    let place = graph.place_near(asn, near);
-    let before = held_near(table, overlay, asn, place);
-    let chosen = evaluate_near(
-        graph,
-        book,
-        states,
-        seeds,
-        pool,
-        table,
-        overlay,
+    let place = at.graph.place_near(asn, near);
+    let before = held_near(at.table, overlay, asn, place);
+    let turn = Turn {
         asn,
         place,
-        true,
-        Part::Whole,
-        steps,
-    );
-    let changed = give_chosen(
-        book, seeds, pool, table, overlay, asn, place, &before, chosen,
-    )?;
+        may_loop: true,
+        part: Part::Whole,
+    };
+    let chosen = evaluate_near(at, pool, overlay, turn, steps);
+    let changed = give_chosen(at, pool, overlay, asn, place, &before, chosen)?;
     Ok(Stepped {
         changed,
         nothing: false,
@@ -183,44 +170,39 @@ pub(crate) fn step_whole<P: RoutePolicy, V: OriginStates, L: Ledger>(
     })
 }
 
-/// Whether a neighbour of an AS that held `before`, and has made a step, need not choose anew. The place
-/// where the row of the AS stands is a hint. It takes no memory.
+/// Whether a neighbour of an AS that has made a step need not choose anew. It takes no memory.
 pub(crate) fn is_left<P: RoutePolicy, V: OriginStates>(
-    graph: &Graph,
-    book: &Book<P>,
-    states: &V,
-    seeds: &SeedIds,
+    at: &PrefixWorld<'_, P, V>,
     pool: &PathPool,
-    table: &Table,
     overlay: &Overlay,
-    asn: Asn,
-    place: usize,
-    before: Option<Held>,
+    turned: &Turned,
     neighbour: Asn,
 ) -> bool
-    requires held { AreHeld pool.now table.now overlay.now }
-    requires seeds { AreSeedsLive pool.now seeds.now }
-    requires live { (f : ℕ → Option AnEntry) × IsBefore pool.now table.now overlay.now asn before f }
-    ensures { IsTrue result → (f : ℕ → Option AnEntry) → IsBefore pool.now table.now overlay.now asn before f → IsLeft (setting P.meaning graph.now book.now (V.state_of states.now (prefix_of table.now))) (seeds_of pool.now seeds.now) f (routing_of pool.now table.now overlay.now) asn neighbour }
+    requires held { AreHeld pool.now at.now.table.now overlay.now }
+    requires seeds { AreSeedsLive pool.now at.now.seeds.now }
+    requires live { (f : ℕ → Option AnEntry) × IsBefore pool.now at.now.table.now overlay.now turned.now.asn turned.now.before f }
+    ensures { IsTrue result → (f : ℕ → Option AnEntry) → IsBefore pool.now at.now.table.now overlay.now turned.now.asn turned.now.before f → IsLeft (setting_at P.meaning V.state_of at.now) (seeds_of pool.now at.now.seeds.now) f (routing_of pool.now at.now.table.now overlay.now) turned.now.asn neighbour }
 {
     offer_path::<P>();
     links_are_sound();
-    if seeds.get(neighbour).is_some() {
+    if at.seeds.get(neighbour).is_some() {
         return true;
     }
-    let have = held_near(table, overlay, neighbour, graph.place_near(neighbour, 0));
-    if may_be_over(pool, &have, &before) {
+    let have = held_near(
+        at.table,
+        overlay,
+        neighbour,
+        at.graph.place_near(neighbour, 0),
+    );
+    if may_be_over(pool, &have, &turned.before) {
         return false;
     }
-    let Some(rel) = graph.rel(neighbour, asn) else {
+    let Some(rel) = at.graph.rel(neighbour, turned.asn) else {
         return true;
     };
-    let now = held_near(table, overlay, asn, place);
-    let prefix = table.prefix();
-    match view_but_for_loops(book, states, prefix, pool, asn, neighbour, rel, now) {
-        Some(view) => has_rival(
-            graph, book, states, pool, table, overlay, asn, neighbour, &have, &view,
-        ),
+    let now = held_near(at.table, overlay, turned.asn, turned.place);
+    match view_but_for_loops(at, pool, turned.asn, neighbour, rel, now) {
+        Some(view) => has_rival(at, pool, overlay, turned.asn, neighbour, &have, &view),
         None => true,
     }
 }

@@ -7,6 +7,6 @@ use Rattle.dirty_recompute.proofs.giving.give_chosen.Goals as goal
 pub returns-then-is_held_by_offer-clause-given : goal.returns-then-is_held_by_offer-clause-given
 returns-then-is_held_by_offer-clause-given g c =
     let p = c.args.pool.now in
-    let f = routing_of p c.args.table.now c.args.overlay.now in
-    let seed = seeds_of p c.args.seeds.now c.args.asn in
-    given_already p c.args.table.now c.args.overlay.now c.args.asn (named_by (λ n. g.P.RoutePolicy.meaning (policy_at c.args.book.now n)) seed f c.args.asn c.args.chosen.choice) (c.is_held_by_offer.ensures c.if-is_held_by_offer.true seed)
+    let f = routing_of p c.args.at.now.table.now c.args.overlay.now in
+    let seed = seeds_of p c.args.at.now.seeds.now c.args.asn in
+    given_already p c.args.at.now.table.now c.args.overlay.now c.args.asn (named_by (λ n. g.P.RoutePolicy.meaning (policy_at c.args.at.now.book.now n)) seed f c.args.asn c.args.chosen.choice) (c.is_held_by_offer.ensures c.if-is_held_by_offer.true seed)

@@ -1,4 +1,4 @@
-use Rattle.dirty_recompute.specs.NewRanks.{rank_of}
+use Rattle.dirty_recompute.specs.PlannedRanks.{rank_of}
 use Rattle.dirty_recompute.proofs.Loops.{just_in}
 use Rattle.dirty_recompute.proofs.plan.queue_of.Goals as goal
 

@@ -1,9 +1,8 @@
-use Rattle.std.proofs.Common.{◌≡◌, ◌≢◌, ℕ, Option, None, cond, option_map, sym, ap, subst, ◌∙◌}
+use Rattle.std.proofs.Common.{◌≡◌, ◌≢◌, ℕ, Option, option_map, sym, ap, ◌∙◌}
 use Rattle.std.proofs.lemmas.Bool.{both_ways, eq-eqb}
 use Rattle.stability_laws.specs.declared.entry.Entry.{Entry}
-use Rattle.stability_laws.specs.Offers.{Setting, Offer, offer}
-use Rattle.stability_laws.specs.World.{setting}
-use Rattle.route_choice.specs.Tables.{prefix_of}
+use Rattle.stability_laws.specs.Offers.{Setting}
+use Rattle.route_choice.specs.PrefixWorlds.{setting_at}
 use Rattle.route_choice.specs.Routings.{entry_of, routing_of}
 use Rattle.route_choice.specs.Views.{goes_through}
 use Rattle.route_choice.proofs.Lists.{joined_live}
@@ -11,23 +10,21 @@ use Rattle.dirty_recompute.proofs.LeftLemmas.{rival_by}
 use Rattle.dirty_recompute.proofs.spared.is_rival.Goals as goal
 
 pub view_but_for_loops-requires : goal.view_but_for_loops-requires
-view_but_for_loops-requires g c = record { live = λ h e. joined_live c.args.pool.now c.args.table.now c.args.overlay.now c.requires.held c.args.other h (sym c.held_near-given.ensures ∙ e) }
+view_but_for_loops-requires g c = record { live = λ h e. joined_live c.args.pool.now c.args.at.now.table.now c.args.overlay.now c.requires.held c.args.other h (sym c.held_near-given.ensures ∙ e) }
 
 pub is_clear-requires : goal.is_clear-requires
-is_clear-requires g c = λ h e. joined_live c.args.pool.now c.args.table.now c.args.overlay.now c.requires.held c.args.other h (sym c.held_near-given.ensures ∙ e)
+is_clear-requires g c = λ h e. joined_live c.args.pool.now c.args.at.now.table.now c.args.overlay.now c.requires.held c.args.other h (sym c.held_near-given.ensures ∙ e)
 
 pub returns-then-before : goal.returns-then-before
 returns-then-before g c = λ clear.
     let meaning = g.P.RoutePolicy.meaning in
-    let state_of = g.V.OriginStates.state_of c.args.states.now in
-    let here : Setting = setting meaning c.args.graph.now c.args.book.now (state_of (prefix_of c.args.table.now)) in
-    let f : ℕ → Option Entry = routing_of c.args.pool.now c.args.table.now c.args.overlay.now in
+    let here : Setting = setting_at meaning g.V.OriginStates.state_of c.args.at.now in
+    let f : ℕ → Option Entry = routing_of c.args.pool.now c.args.at.now.table.now c.args.overlay.now in
     let b = c.args.neighbour in
     let m = c.args.other in
     let result = c.view_but_for_loops.result in
     let held : f m ≡ option_map (entry_of c.args.pool.now) c.held_near-given.result = ap (option_map (entry_of c.args.pool.now)) (sym c.held_near-given.ensures) in
     let other : m ≢ c.args.asn = λ e. both_ways c.eq.result c.if-eq.false (c.eq.ensures ∙ eq-eqb m c.args.asn e) in
-    let seen = subst (λ p. option_map (λ (o : Offer). o.view) (offer (setting meaning c.args.graph.now c.args.book.now (state_of p)) f m b) ≡ cond (goes_through (f m) b) None result) c.prefix-prefix.ensures
-    (c.view_but_for_loops.ensures c.args.graph.now f (sym c.in-Some.ensures) held) in
+    let seen = c.view_but_for_loops.ensures c.args.at.now.graph.now f (sym c.in-Some.ensures) held in
     rival_by here f c.args.asn b m result c.in-Some-view_but_for_loops.offered c.args.view.now other seen (ap (λ (o : Option Entry). goes_through o b) held ∙ c.is_clear.ensures clear) c.in-Some-view_but_for_loops.is
     (ap (λ p. (meaning p).before c.in-Some-view_but_for_loops.offered c.args.view.now) (sym c.policy.ensures) ∙ sym c.before-in-Some-view_but_for_loops.ensures ∙ c.if-before.true)

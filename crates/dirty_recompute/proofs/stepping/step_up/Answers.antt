@@ -2,8 +2,7 @@ use Rattle.std.proofs.Common.{◌≡◌, None, option_map, refl, subst}
 use Rattle.std.proofs.lemmas.Bool.{both_ways}
 use Rattle.stability_laws.specs.Steps.{low}
 use Rattle.stability_laws.specs.Offers.{Setting}
-use Rattle.stability_laws.specs.World.{setting}
-use Rattle.route_choice.specs.Tables.{prefix_of}
+use Rattle.route_choice.specs.PrefixWorlds.{setting_at}
 use Rattle.route_choice.specs.Routings.{entry_of, routing_of, seeds_of}
 use Rattle.route_choice.proofs.Lists.{joined_live}
 use Rattle.dirty_recompute.specs.Steps.{without_low}
@@ -13,17 +12,17 @@ use Rattle.dirty_recompute.proofs.stepping.step_up.Goals as goal
 use Rattle.dirty_recompute.proofs.stepping.step_up.Goals.{else-nothing-via-then-nothing+else-is_high, else-nothing-via-else-nothing}
 
 pub evaluate_near-chosen-requires-clause-live : goal.evaluate_near-chosen-requires-clause-live
-evaluate_near-chosen-requires-clause-live g c = joined_live c.args.pool.now c.args.table.now c.args.overlay.now c.requires.can.held
+evaluate_near-chosen-requires-clause-live g c = joined_live c.args.pool.now c.args.at.now.table.now c.args.overlay.now c.requires.can.held
 
 pub returns-then-is_high-clause-before : goal.returns-then-is_high-clause-before
 returns-then-is_high-clause-before g c =
-    before_is c.args.pool.now c.args.pool.now c.args.seeds.now c.args.table.now c.args.overlay.now c.args.overlay.now c.args.asn c.held_near-before.result c.requires.can.held
+    before_is c.args.pool.now c.args.pool.now c.args.at.now.seeds.now c.args.at.now.table.now c.args.overlay.now c.args.overlay.now c.args.asn c.held_near-before.result c.requires.can.held
     (record { live = λ k l. l; lists = λ k l. refl; same_seeds = λ a. refl }) c.held_near-before.ensures (λ n ne. refl)
 
 pub returns-clause-chosen : goal.returns-clause-chosen
 returns-clause-chosen g c =
-    let here : Setting = setting g.P.RoutePolicy.meaning c.args.graph.now c.args.book.now (g.V.OriginStates.state_of c.args.states.now (prefix_of c.args.table.now)) in
-    chosen_up here (seeds_of c.args.pool.now c.args.seeds.now) c.args.asn (routing_of c.args.pool.now c.args.table.now c.args.overlay.now) (routing_of c.give_chosen.new.pool c.args.table.now c.give_chosen.new.overlay)
+    let here : Setting = setting_at g.P.RoutePolicy.meaning g.V.OriginStates.state_of c.args.at.now in
+    chosen_up here (seeds_of c.args.pool.now c.args.at.now.seeds.now) c.args.asn (routing_of c.args.pool.now c.args.at.now.table.now c.args.overlay.now) (routing_of c.give_chosen.new.pool c.args.at.now.table.now c.give_chosen.new.overlay)
     c.evaluate_near-chosen.result.choice c.is_nothing-nothing.result c.evaluate_near-chosen.ensures.choice c.is_nothing-nothing.ensures c.in_ok-changed.ensures.given.at
     (λ none. elim c.else-nothing.branch [
       | else-nothing-via-then-nothing+else-is_high w ↦
@@ -33,5 +32,5 @@ returns-clause-chosen g c =
 
 pub returns-clause-before : goal.returns-clause-before
 returns-clause-before g c =
-    before_is c.args.pool.now c.give_chosen.new.pool c.args.seeds.now c.args.table.now c.args.overlay.now c.give_chosen.new.overlay c.args.asn c.held_near-before.result c.requires.can.held
+    before_is c.args.pool.now c.give_chosen.new.pool c.args.at.now.seeds.now c.args.at.now.table.now c.args.overlay.now c.give_chosen.new.overlay c.args.asn c.held_near-before.result c.requires.can.held
     c.give_chosen.ensures.kept.keeps c.held_near-before.ensures c.in_ok-changed.ensures.given.only.others

@@ -1,13 +1,13 @@
 use Rattle.std.proofs.Common.{length, refl, arith, ◌<◌, ◌≤◌}
 use Rattle.std.proofs.lemmas.Option.{slice_get_within, slice_get_read}
-use Rattle.dirty_recompute.specs.NewRanks.{rank_of}
+use Rattle.dirty_recompute.specs.PlannedRanks.{rank_of}
 use Rattle.dirty_recompute.specs.Queues.{IsAmong}
 use Rattle.dirty_recompute.proofs.QueueLemmas.{IsAmongBelow, queued_next, queued_by}
 use Rattle.dirty_recompute.proofs.turns.queue_those.Goals as goal
 
 pub loop-neighbour-preserved : goal.loop-neighbour-preserved
 loop-neighbour-preserved g c =
-    queued_next (rank_of c.args.ranks.now) _ _ _ _ c.loop-neighbour.neighbour-index c.args.neighbours.now c.args.wanted c.neighbour-item.result
+    queued_next (rank_of c.args.world.now.ranks) _ _ _ _ c.loop-neighbour.neighbour-index c.args.neighbours.now c.args.wanted c.neighbour-item.result
     (slice_get_read c.args.neighbours.now (length c.args.neighbours.now) c.loop-neighbour.neighbour-index c.neighbour-item.result refl c.loop-neighbour-test.true c.neighbour-item.is)
     c.loop-neighbour.invariant c.in_ok-queue_one.ensures
 

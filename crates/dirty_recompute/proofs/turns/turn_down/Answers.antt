@@ -1,8 +1,7 @@
 use Rattle.std.proofs.Common.{◌≡◌, refl}
-use Rattle.stability_laws.specs.World.{setting}
 use Rattle.route_choice.specs.Routings.{routing_of, seeds_of}
-use Rattle.route_choice.specs.Tables.{prefix_of}
-use Rattle.dirty_recompute.specs.NewRanks.{rank_of}
+use Rattle.route_choice.specs.PrefixWorlds.{setting_at}
+use Rattle.dirty_recompute.specs.PlannedRanks.{rank_of}
 use Rattle.dirty_recompute.specs.Resources.{has_change, as_before}
 use Rattle.dirty_recompute.proofs.Befores.{before_is}
 use Rattle.dirty_recompute.proofs.TurnLemmas.{turn_down, queued_from}
@@ -10,14 +9,14 @@ use Rattle.dirty_recompute.proofs.turns.turn_down.Goals as goal
 
 pub returns-clause-turn : goal.returns-clause-turn
 returns-clause-turn g c =
-    let w = setting g.P.RoutePolicy.meaning c.args.graph.now c.args.book.now (g.V.OriginStates.state_of c.args.states.now (prefix_of c.args.table.now)) in
-    let pool = c.args.pool.now in let pool' = c.step_whole.new.pool in let table = c.args.table.now in
+    let w = setting_at g.P.RoutePolicy.meaning g.V.OriginStates.state_of c.args.world.now.at in
+    let pool = c.args.pool.now in let pool' = c.step_whole.new.pool in let table = c.args.world.now.at.table.now in
     let f = routing_of pool table c.args.overlay.now in let h = routing_of pool' table c.step_whole.new.overlay in
-    let seeds = seeds_of pool c.args.seeds.now in
-    let seeds' = seeds_of pool' c.args.seeds.now in
+    let seeds = seeds_of pool c.args.world.now.at.seeds.now in
+    let seeds' = seeds_of pool' c.args.world.now.at.seeds.now in
     let same_seeds : seeds' ≡ seeds = λ i n. c.step_whole.ensures.kept.keeps.same_seeds n i in
     let seen = c.in_ok-seen.seen in let was = c.in_ok-seen.ensures.before in
-    turn_down w c.args.graph.now refl seeds (rank_of c.args.ranks.now) c.args.asn f h (has_change c.args.overlay.now) (has_change c.step_whole.new.overlay) c.args.whole.now c.queue_customers.new.whole seen.changed
+    turn_down w c.args.world.now.at.graph.now refl seeds (rank_of c.args.world.now.ranks) c.args.asn f h (has_change c.args.overlay.now) (has_change c.step_whole.new.overlay) c.args.whole.now c.queue_customers.new.whole seen.changed
     c.in_ok-seen.ensures.chosen c.in_ok-seen.ensures.only c.in_ok-seen.ensures.changed c.in_ok-seen.ensures.unchanged
-    (queued_from w (rank_of c.args.ranks.now) c.args.asn h c.args.whole.now c.queue_customers.new.whole _ seeds seeds' f (as_before pool' table c.step_whole.new.overlay c.args.asn seen.before)
+    (queued_from w (rank_of c.args.world.now.ranks) c.args.asn h c.args.whole.now c.queue_customers.new.whole _ seeds seeds' f (as_before pool' table c.step_whole.new.overlay c.args.asn seen.before)
     same_seeds (before_is pool' table c.step_whole.new.overlay c.args.asn seen.before f was) c.in_ok-queue_customers.ensures)

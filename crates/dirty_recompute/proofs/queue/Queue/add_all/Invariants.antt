@@ -1,4 +1,4 @@
-use Rattle.dirty_recompute.specs.NewRanks.{rank_of}
+use Rattle.dirty_recompute.specs.PlannedRanks.{rank_of}
 use Rattle.dirty_recompute.specs.Queues.{IsAdded}
 use Rattle.dirty_recompute.proofs.QueueLemmas.{IsInBelow}
 use Rattle.dirty_recompute.proofs.queue.Queue.add_all.Given as goal
