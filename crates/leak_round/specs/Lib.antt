@@ -15,3 +15,4 @@ pub mod Edited
 pub mod Rounds
 pub mod Plans
 pub mod Told
+pub mod Planners

@@ -7,17 +7,19 @@ ghost use Rattle.route_choice.specs.declared.seeds.SeedIds.{SeedIds as SomeSeeds
 ghost use Rattle.route_choice.specs.Resources.{AreSeedsLive};
 ghost use Rattle.route_choice.specs.Routings.{seed_of};
 ghost use Rattle.leak_round.specs.Touched.{touches};
+ghost use Rattle.leak_round.specs.Edited.{announced_after, seeds_after};
 ghost use Rattle.leak_round.specs.Differing.{AddsDiffering, AreWrong, AreWrongIn};
 ghost use Rattle.leak_round.specs.Leaked.{AreSeedsWith};
 
-use crate::announced::Announced;
 use crate::changes::Change;
+use crate::edited::{announcements_after, plan_after};
+use crate::planner::Planner;
+use crate::round_prefix::RoundPrefix;
 use crate::round_seeds::seeds_with;
 use crate::touched::Touched;
 use net_names::{Asn, NoMemory, Prefix};
 use path_pool::{PathId, PathPool};
 use route_choice::{RoundTables, SeedHeld, SeedIds};
-use stability_laws::SeedPlan;
 use std::alloc::Global;
 
 fn same_numbers(a: &[Asn], b: &[Asn]) -> bool
@@ -121,34 +123,29 @@ pub fn wrong_ases(
 
 // The seeds of a prefix in a round after an edit, and the ASes that are touched for the prefix or had
 // another seed before.
-pub fn seeds_and_wrong(
-    alloc: Global,
-    plan: &SeedPlan,
-    announced: &[Announced],
-    after: &SeedPlan,
-    announced_after: &[Announced],
-    touched: &Touched,
+pub fn seeds_and_wrong<P, V>(
+    planner: &Planner<'_, P, V>,
+    at: &RoundPrefix,
     tables: &[RoundTables],
     changes: &[Change],
-    round: u32,
-    prefix: Prefix,
     pool: &PathPool,
 ) -> Result<(SeedIds, Vec<Asn>), NoMemory>
-    requires from { 1 ≤ round }
-    requires before { (seeds : SomeSeeds) → AreSeedsWith plan.now announced.now tables.now [] round prefix seeds → AreSeedsLive pool.now seeds }
-    requires after { (seeds : SomeSeeds) → AreSeedsWith after.now announced_after.now tables.now changes.now round prefix seeds → AreSeedsLive pool.now seeds }
-    ensures { IfOk result (λ r. AreWrongIn plan.now after.now announced.now announced_after.now tables.now changes.now round prefix (touches touched.now prefix) pool.now r.0 r.1.items) }
+    requires from { 1 ≤ at.now.round }
+    requires before { (seeds : SomeSeeds) → AreSeedsWith planner.now.plan.now planner.now.announced.now tables.now [] at.now.round at.now.prefix seeds → AreSeedsLive pool.now seeds }
+    requires after { (seeds : SomeSeeds) → AreSeedsWith (seeds_after planner.now.edited.now planner.now.plan.now) (announced_after planner.now.edited.now planner.now.announced.now) tables.now changes.now at.now.round at.now.prefix seeds → AreSeedsLive pool.now seeds }
+    ensures { IfOk result (λ r. AreWrongIn planner.now.plan.now (seeds_after planner.now.edited.now planner.now.plan.now) planner.now.announced.now (announced_after planner.now.edited.now planner.now.announced.now) tables.now changes.now at.now.round at.now.prefix (touches planner.now.touched.now at.now.prefix) pool.now r.0 r.1.items) }
 {
-    let before = seeds_with(alloc, plan, announced, tables, &[], round, prefix)?;
+    let (alloc, plan, announced) = (planner.alloc, planner.plan, planner.announced);
+    let before = seeds_with(alloc, plan, announced, tables, &[], at.round, at.prefix)?;
     let seeds = seeds_with(
         alloc,
-        after,
-        announced_after,
+        plan_after(planner.edited, plan),
+        announcements_after(planner.edited, announced),
         tables,
         changes,
-        round,
-        prefix,
+        at.round,
+        at.prefix,
     )?;
-    let ases = wrong_ases(alloc, pool, touched, prefix, &before, &seeds)?;
+    let ases = wrong_ases(alloc, pool, planner.touched, at.prefix, &before, &seeds)?;
     Ok((seeds, ases))
 }

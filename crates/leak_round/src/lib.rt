@@ -7,14 +7,17 @@
 #![tactic(auto)]
 
 mod announced;
+mod building;
 mod changes;
 mod differing;
 mod edited;
 mod leaked;
 mod own_seeds;
+mod planner;
 mod planning;
 mod plans;
 mod round;
+mod round_prefix;
 mod round_seeds;
 mod rounds;
 mod table_plans;

@@ -11,6 +11,7 @@ ghost use Rattle.leak_round.specs.OwnSeeds.{AreOwn, AreOwnEdited, AreOwnSeeds, A
 
 use crate::announced::{Announced, announced_seeds};
 use crate::edited::{EditedSeeds, plan_after};
+use crate::round_prefix::RoundPrefix;
 use net_names::{NoMemory, Prefix};
 use route_choice::SeedIds;
 use stability_laws::SeedPlan;
@@ -75,44 +76,43 @@ fn is_edited(edited: &Option<EditedSeeds>, prefix: Prefix) -> bool
     }
 }
 
-// The seeds of the prefix at a place in a round, if they are kept: no announcement of the prefix is
+// The seeds of a prefix in a round, if they are kept: no announcement of the prefix is
 // edited, and nobody leaks in the round. Then they are the same before and after the edit.
 pub fn unchanged_seeds<'a>(
     own: &'a [SeedIds],
     plan: &SeedPlan,
     edited: &Option<EditedSeeds>,
-    round: u32,
-    place: usize,
-    prefix: Prefix,
+    at: &RoundPrefix,
 ) -> Option<&'a SeedIds>
-    ensures { IfSome result (λ s. (xs ys : List AnAnnouncement) (rounds : List SomeTables) (changes : List AChange) → AreOwnSeeds plan.now xs own.now → slice_get (prefixes_of plan.now) place ≡ Some prefix → AreOthersKept (prefix_edited edited.now) xs ys → AreSeedsWith plan.now xs rounds [] round prefix s.now × AreSeedsWith (seeds_after edited.now plan.now) ys rounds changes round prefix s.now) }
+    ensures { IfSome result (λ s. (xs ys : List AnAnnouncement) (rounds : List SomeTables) (changes : List AChange) → AreOwnSeeds plan.now xs own.now → slice_get (prefixes_of plan.now) at.now.place ≡ Some at.now.prefix → AreOthersKept (prefix_edited edited.now) xs ys → AreSeedsWith plan.now xs rounds [] at.now.round at.now.prefix s.now × AreSeedsWith (seeds_after edited.now plan.now) ys rounds changes at.now.round at.now.prefix s.now) }
 {
     let after = plan_after(edited, plan);
-    if is_edited(edited, prefix) || has_leakers(plan, round) || has_leakers(after, round) {
+    if is_edited(edited, at.prefix) || has_leakers(plan, at.round) || has_leakers(after, at.round) {
         return None;
     }
-    own.get(place)
+    own.get(at.place)
 }
 
-// The seeds of the prefix at a place in a round, before and after an edit of one of its announcements, if
+// The seeds of a prefix in a round, before and after an edit of one of its announcements, if
 // they are kept: nobody leaks in the round.
 pub fn edited_seeds<'a>(
     own: &'a [SeedIds],
     plan: &SeedPlan,
     edited: &'a Option<EditedSeeds>,
-    round: u32,
-    place: usize,
-    prefix: Prefix,
+    at: &RoundPrefix,
 ) -> Option<(&'a SeedIds, &'a SeedIds)>
-    ensures { IfSome result (λ s. (xs : List AnAnnouncement) (rounds : List SomeTables) (changes : List AChange) → AreOwnSeeds plan.now xs own.now → slice_get (prefixes_of plan.now) place ≡ Some prefix → AreOwnEdited edited.now → AreSeedsWith plan.now xs rounds [] round prefix s.0.now × AreSeedsWith (seeds_after edited.now plan.now) (announced_after edited.now xs) rounds changes round prefix s.1.now) }
+    ensures { IfSome result (λ s. (xs : List AnAnnouncement) (rounds : List SomeTables) (changes : List AChange) → AreOwnSeeds plan.now xs own.now → slice_get (prefixes_of plan.now) at.now.place ≡ Some at.now.prefix → AreOwnEdited edited.now → AreSeedsWith plan.now xs rounds [] at.now.round at.now.prefix s.0.now × AreSeedsWith (seeds_after edited.now plan.now) (announced_after edited.now xs) rounds changes at.now.round at.now.prefix s.1.now) }
 {
     let Some(seeds) = edited else {
         return None;
     };
-    if seeds.prefix != prefix || has_leakers(plan, round) || has_leakers(&seeds.plan, round) {
+    if seeds.prefix != at.prefix
+        || has_leakers(plan, at.round)
+        || has_leakers(&seeds.plan, at.round)
+    {
         return None;
     }
-    match own.get(place) {
+    match own.get(at.place) {
         Some(before) => Some((before, &seeds.own)),
         None => None,
     }

@@ -9,7 +9,6 @@ ghost use Rattle.three_pass.specs.Courses.{IsCourse};
 ghost use Rattle.three_pass.specs.Scratches.{IsScratch};
 ghost use Rattle.path_pool.specs.Pool.{holds_of, live_count, limit_of};
 ghost use Rattle.stability_laws.specs.declared.entry.Entry.{Entry as AnEntry};
-ghost use Rattle.stability_laws.specs.World.{setting};
 ghost use Rattle.stability_laws.specs.Plans.{has_prefix, prefixes_of};
 ghost use Rattle.stability_laws.specs.Rounds.{AreRounds};
 ghost use Rattle.route_choice.specs.RoundTables.{table_at, round_routing, AreAllLive, AreByPrefix};
@@ -17,6 +16,7 @@ ghost use Rattle.leak_round.specs.Limits.{IsWithinLimits, numbers_of};
 ghost use Rattle.leak_round.specs.Announced.{AreAnnounced, announced_uses};
 ghost use Rattle.leak_round.specs.Entries.{HasEntries, of_rounds};
 ghost use Rattle.leak_round.specs.Growth.{GrowsBy, KeepsPaths, HasRoomFor};
+ghost use Rattle.stability_laws.specs.World.{setting_in};
 ghost use Rattle.leak_round.specs.OwnSeeds.{AreOwnSeeds};
 ghost use Rattle.leak_round.specs.Tables.{kept_in, entry_uses, AreRoundsFull};
 ghost use Rattle.as_graph.specs.declared.build.TheConstants.{MOST_ASES};
@@ -26,14 +26,14 @@ mod planning;
 mod tidying;
 
 use crate::announced::{Announced, announce_all};
+use crate::building::Building;
 use crate::round::make_round;
-use as_graph::Graph;
 use net_names::NoMemory;
 use path_pool::PathPool;
 use policy_laws::{OriginStates, RoutePolicy};
 use rank_order::Ranks;
 use route_choice::{Overlay, RoundTables, SeedIds, Steps};
-use stability_laws::{Book, SeedPlan, one_family};
+use stability_laws::{SeedPlan, World, one_family};
 use std::alloc::Global;
 use std::sync::ledger::Ledger;
 use three_pass::Course;
@@ -68,49 +68,29 @@ pub struct Rounds {
 
 // The tables of the rounds, one after the other. They are made in an overlay for the course.
 fn make_rounds<P: RoutePolicy, V: OriginStates, L: Ledger>(
-    alloc: Global,
-    graph: &Graph,
-    course: &Course,
-    book: &Book<P>,
-    states: &V,
-    plan: &SeedPlan,
-    announced: &[Announced],
+    building: &Building<'_, P, V>,
     rounds: u32,
     pool: &mut PathPool,
     scratch: &mut Overlay,
     steps: &mut Steps<L>,
 ) -> Result<Vec<RoundTables>, NoMemory>
-    requires no_cycle { HasNoProviderCycle (relation graph.now) }
-    requires course { IsCourse graph.now course.now }
-    requires scratch { IsScratch course.now scratch.old }
-    requires few { length (prefixes_of plan.now) ≤ 32 }
-    requires announced { AreAnnounced pool.old plan.now announced.now }
-    requires room { HasRoomFor pool.old (rounds * length (prefixes_of plan.now)) }
-    ensures cost { steps.new ≤ steps.old + 2 * as_count graph.now * length (prefixes_of plan.now) * rounds }
+    requires course { IsCourse building.now.world.now.graph.now building.now.course.now }
+    requires scratch { IsScratch building.now.course.now scratch.old }
+    requires announced { AreAnnounced pool.old building.now.plan.now building.now.announced.now }
+    requires room { HasRoomFor pool.old (rounds * length (prefixes_of building.now.plan.now)) }
+    ensures cost { steps.new ≤ steps.old + 2 * as_count building.now.world.now.graph.now * length (prefixes_of building.now.plan.now) * rounds }
     ensures count { IfOk result (λ v. length v.items ≡ rounds) }
-    ensures stable { IfOk result (λ v. AreRounds (λ p. setting P.meaning graph.now book.now (V.state_of states.now p)) plan.now rounds (kept_in pool.new v.items)) }
-    ensures full { IfOk result (λ v. AreRoundsFull pool.new plan.now v.items) }
+    ensures stable { IfOk result (λ v. AreRounds (setting_in P.meaning V.state_of building.now.world.now) building.now.plan.now rounds (kept_in pool.new v.items)) }
+    ensures full { IfOk result (λ v. AreRoundsFull pool.new building.now.plan.now v.items) }
     ensures holds { IfOk result (λ v. (k : ℕ) → holds_of pool.new k ≡ holds_of pool.old k + entry_uses v.items k) }
     ensures cells { IfOk result (λ v. HasEntries (of_rounds (kept_in pool.new v.items)) (live_count pool.new - live_count pool.old)) }
     ensures keeps { OnOk result (KeepsPaths pool.old pool.new) }
-    ensures grows { OnOk result (GrowsBy pool.old pool.new (MOST_ASES * (rounds * length (prefixes_of plan.now)))) }
+    ensures grows { OnOk result (GrowsBy pool.old pool.new (MOST_ASES * (rounds * length (prefixes_of building.now.plan.now)))) }
 {
-    let mut tables = Vec::new(alloc);
+    let mut tables = Vec::new(building.alloc);
     for past in 0..rounds {
-        let next = make_round(
-            alloc,
-            graph,
-            course,
-            book,
-            states,
-            plan,
-            announced,
-            tables.as_slice(),
-            past + 1,
-            pool,
-            scratch,
-            steps,
-        )?;
+        let earlier = tables.as_slice();
+        let next = make_round(building, earlier, past + 1, pool, scratch, steps)?;
         match tables.push(next) {
             Ok(()) => {}
             Err(_) => return Err(NoMemory),
@@ -133,45 +113,38 @@ impl Rounds {
     /// Its only refusal is want of memory.
     pub fn build<P: RoutePolicy, V: OriginStates, L: Ledger>(
         alloc: Global,
-        graph: &Graph,
+        world: &World<'_, P, V>,
         ranks: &Ranks,
-        book: &Book<P>,
-        states: &V,
         plan: SeedPlan,
         rounds: u32,
         steps: &mut Steps<L>,
     ) -> Result<Rounds, NoMemory>
-        requires no_cycle { HasNoProviderCycle (relation graph.now) }
-        requires ranks { (a : ℕ) → IsRank (relation graph.now) a (rank_at ranks.now a) }
+        requires no_cycle { HasNoProviderCycle (relation world.now.graph.now) }
+        requires ranks { (a : ℕ) → IsRank (relation world.now.graph.now) a (rank_at ranks.now a) }
         requires limits { IsWithinLimits plan }
         requires rounds { rounds ≤ 4 }
-        ensures cost { steps.new ≤ steps.old + 2 * as_count graph.now * length (prefixes_of plan) * rounds }
+        ensures cost { steps.new ≤ steps.old + 2 * as_count world.now.graph.now * length (prefixes_of plan) * rounds }
         ensures closed { IfOk result (λ r. is_open r ≡ false) }
         ensures plan { IfOk result (λ r. plan_of r ≡ plan) }
         ensures count { IfOk result (λ r. round_count r ≡ rounds) }
-        ensures stable { IfOk result (λ r. AreRounds (λ p. setting P.meaning graph.now book.now (V.state_of states.now p)) plan rounds (kept r)) }
-        ensures only { IfOk result (λ r. (other : ℕ → PrefixValue → ℕ → Option AnEntry) → AreRounds (λ p. setting P.meaning graph.now book.now (V.state_of states.now p)) plan rounds other → (before : ℕ) (prefix : PrefixValue) → before < rounds → IsTrue (has_prefix plan prefix) → (a : ℕ) → other (suc before) prefix a ≡ kept r (suc before) prefix a) }
+        ensures stable { IfOk result (λ r. AreRounds (setting_in P.meaning V.state_of world.now) plan rounds (kept r)) }
+        ensures only { IfOk result (λ r. (other : ℕ → PrefixValue → ℕ → Option AnEntry) → AreRounds (setting_in P.meaning V.state_of world.now) plan rounds other → (before : ℕ) (prefix : PrefixValue) → before < rounds → IsTrue (has_prefix plan prefix) → (a : ℕ) → other (suc before) prefix a ≡ kept r (suc before) prefix a) }
         ensures cells { IfOk result (λ r. HasEntries (of_rounds (kept r)) (live_count (pool_of r) - numbers_of plan)) }
         ensures few { IfOk result (λ r. live_count (pool_of r) ≤ MOST_CELLS) }
     {
         one_family::<P>();
         let mut pool = PathPool::new(alloc, MAX_CELLS);
         let announced = announce_all(alloc, &plan, &mut pool)?;
-        let course = Course::of(alloc, graph, ranks)?;
-        let mut scratch = course.scratch(alloc)?;
-        let tables = make_rounds(
+        let course = Course::of(alloc, world.graph, ranks)?;
+        let mut scratch = course.scratch()?;
+        let building = Building {
             alloc,
-            graph,
-            &course,
-            book,
-            states,
-            &plan,
-            &announced,
-            rounds,
-            &mut pool,
-            &mut scratch,
-            steps,
-        )?;
+            world,
+            course: &course,
+            plan: &plan,
+            announced: announced.as_slice(),
+        };
+        let tables = make_rounds(&building, rounds, &mut pool, &mut scratch, steps)?;
         Ok(Rounds {
             pool,
             plan,

@@ -1,57 +1,51 @@
 //! The changes of one table after an edit.
 
 ghost use Rattle.std.specs.Prelude.{◌≡◌, ℕ, ◌≤◌, length, IsSome, Some, IfOk, OnErr};
-ghost use Rattle.as_graph.specs.Topology.{relation};
-ghost use Rattle.as_graph.specs.Hierarchy.{HasNoProviderCycle, IsRank};
 ghost use Rattle.path_pool.specs.Pool.{limit_of};
-ghost use Rattle.rank_order.specs.Plans.{rank_after, IsLastPlan};
-ghost use Rattle.stability_laws.specs.World.{setting};
 ghost use Rattle.route_choice.specs.declared.table.Table.{Table as ATable};
 ghost use Rattle.route_choice.specs.RoundTables.{table_at};
+ghost use Rattle.route_choice.specs.Tables.{prefix_of};
 ghost use Rattle.dirty_recompute.specs.Resources.{IsUndone, SameTable};
+ghost use Rattle.stability_laws.specs.World.{setting_in};
 ghost use Rattle.leak_round.specs.Growth.{HasRoomFor};
 ghost use Rattle.leak_round.specs.Overlays.{table_in};
+ghost use Rattle.leak_round.specs.Planners.{AreRanked};
 ghost use Rattle.leak_round.specs.Planning.{CanPlanTable, IsTablePlanned, IsRoomed, AreRoomed, AreSame};
 
-use as_graph::Graph;
-use dirty_recompute::plan_edit;
-use net_names::{Asn, NoMemory, Prefix};
+use crate::planner::Planner;
+use crate::round_prefix::RoundPrefix;
+use dirty_recompute::{PrefixEdit, plan_edit};
+use net_names::{NoMemory, Prefix};
 use path_pool::PathPool;
 use policy_laws::{OriginStates, RoutePolicy};
-use rank_order::{RankPlan, Ranks};
-use route_choice::{Overlay, RoundTables, SeedIds, Steps, Table};
-use stability_laws::Book;
-use std::alloc::Global;
+use route_choice::{Overlay, RoundTables, Steps, Table};
 use std::sync::ledger::Ledger;
 
 // The changes of a table, where these ASes may hold something wrong. The table gets room for them.
 fn plan_table<P: RoutePolicy, V: OriginStates, L: Ledger>(
-    alloc: Global,
-    graph: &Graph,
-    ranks: &Ranks,
-    rank_plan: &RankPlan,
-    book: &Book<P>,
-    states: &V,
-    seeds: &SeedIds,
+    planner: &Planner<'_, P, V>,
+    edit: &PrefixEdit<'_>,
     table: &mut Table,
-    prefix: Prefix,
-    ases: &[Asn],
     pool: &mut PathPool,
     steps: &mut Steps<L>,
 ) -> Result<Overlay, NoMemory>
-    requires no_cycle { HasNoProviderCycle (relation graph.now) }
-    requires last { IsLastPlan ranks.now rank_plan.now }
-    requires ranks { (a : ℕ) → IsRank (relation graph.now) a (rank_after ranks.now rank_plan.now a) }
-    requires can { CanPlanTable (setting P.meaning graph.now book.now (V.state_of states.now prefix)) graph.now prefix seeds.now ases.now pool.old table.old }
+    requires ranks { AreRanked planner.now }
+    requires can { CanPlanTable (setting_in P.meaning V.state_of planner.now.world.now (prefix_of table.old)) planner.now.world.now.graph.now (prefix_of table.old) edit.now.seeds.now edit.now.touched.now pool.old table.old }
     requires room { HasRoomFor pool.old 1 }
-    ensures planned { IfOk result (IsTablePlanned (setting P.meaning graph.now book.now (V.state_of states.now prefix)) graph.now seeds.now ases.now pool.old pool.new table.old table.new steps.old steps.new) }
+    ensures planned { IfOk result (IsTablePlanned (setting_in P.meaning V.state_of planner.now.world.now (prefix_of table.old)) planner.now.world.now.graph.now edit.now.seeds.now edit.now.touched.now pool.old pool.new table.old table.new steps.old steps.new) }
     ensures same { SameTable table.old table.new }
     ensures limit { limit_of pool.new ≡ limit_of pool.old }
     ensures err { OnErr result (IsUndone pool.old pool.new) }
 {
-    let _count = graph.as_count();
+    let _count = planner.world.graph.as_count();
     let overlay = plan_edit(
-        alloc, graph, ranks, rank_plan, book, states, seeds, pool, table, ases, steps,
+        planner.alloc,
+        planner.world,
+        planner.ranks,
+        edit,
+        table,
+        pool,
+        steps,
     )?;
     let _changes = overlay.len();
     Ok(overlay)
@@ -59,79 +53,47 @@ fn plan_table<P: RoutePolicy, V: OriginStates, L: Ledger>(
 
 // The changes of the table of a prefix.
 fn plan_in_round<P: RoutePolicy, V: OriginStates, L: Ledger>(
-    alloc: Global,
-    graph: &Graph,
-    ranks: &Ranks,
-    rank_plan: &RankPlan,
-    book: &Book<P>,
-    states: &V,
-    seeds: &SeedIds,
-    tables: &mut RoundTables,
+    planner: &Planner<'_, P, V>,
     prefix: Prefix,
-    ases: &[Asn],
+    edit: &PrefixEdit<'_>,
+    tables: &mut RoundTables,
     pool: &mut PathPool,
     steps: &mut Steps<L>,
 ) -> Result<Overlay, NoMemory>
-    requires no_cycle { HasNoProviderCycle (relation graph.now) }
-    requires last { IsLastPlan ranks.now rank_plan.now }
-    requires ranks { (a : ℕ) → IsRank (relation graph.now) a (rank_after ranks.now rank_plan.now a) }
+    requires ranks { AreRanked planner.now }
     requires there { IsSome (table_at tables.old prefix) }
-    requires can { (t : ATable) → table_at tables.old prefix ≡ Some t → CanPlanTable (setting P.meaning graph.now book.now (V.state_of states.now prefix)) graph.now prefix seeds.now ases.now pool.old t }
+    requires can { (t : ATable) → table_at tables.old prefix ≡ Some t → CanPlanTable (setting_in P.meaning V.state_of planner.now.world.now prefix) planner.now.world.now.graph.now prefix edit.now.seeds.now edit.now.touched.now pool.old t }
     requires room { HasRoomFor pool.old 1 }
-    ensures planned { IfOk result (λ o. (t u : ATable) → table_at tables.old prefix ≡ Some t → table_at tables.new prefix ≡ Some u → IsTablePlanned (setting P.meaning graph.now book.now (V.state_of states.now prefix)) graph.now seeds.now ases.now pool.old pool.new t u steps.old steps.new o) }
+    ensures planned { IfOk result (λ o. (t u : ATable) → table_at tables.old prefix ≡ Some t → table_at tables.new prefix ≡ Some u → IsTablePlanned (setting_in P.meaning V.state_of planner.now.world.now prefix) planner.now.world.now.graph.now edit.now.seeds.now edit.now.touched.now pool.old pool.new t u steps.old steps.new o) }
     ensures roomed { IsRoomed tables.old tables.new prefix }
     ensures limit { limit_of pool.new ≡ limit_of pool.old }
     ensures err { OnErr result (IsUndone pool.old pool.new) }
 {
     match tables.table_mut(prefix) {
-        Some(table) => plan_table(
-            alloc, graph, ranks, rank_plan, book, states, seeds, table, prefix, ases, pool, steps,
-        ),
+        Some(table) => plan_table(planner, edit, table, pool, steps),
         None => unreachable!(),
     }
 }
 
 // The changes of the table of a prefix in a round.
 pub fn plan_in_rounds<P: RoutePolicy, V: OriginStates, L: Ledger>(
-    alloc: Global,
-    graph: &Graph,
-    ranks: &Ranks,
-    rank_plan: &RankPlan,
-    book: &Book<P>,
-    states: &V,
-    seeds: &SeedIds,
+    planner: &Planner<'_, P, V>,
+    at: &RoundPrefix,
+    edit: &PrefixEdit<'_>,
     tables: &mut Vec<RoundTables>,
-    round: u32,
-    prefix: Prefix,
-    ases: &[Asn],
     pool: &mut PathPool,
     steps: &mut Steps<L>,
 ) -> Result<Overlay, NoMemory>
-    requires no_cycle { HasNoProviderCycle (relation graph.now) }
-    requires last { IsLastPlan ranks.now rank_plan.now }
-    requires ranks { (a : ℕ) → IsRank (relation graph.now) a (rank_after ranks.now rank_plan.now a) }
-    requires there { IsSome (table_in tables.old.items round prefix) }
-    requires can { (t : ATable) → table_in tables.old.items round prefix ≡ Some t → CanPlanTable (setting P.meaning graph.now book.now (V.state_of states.now prefix)) graph.now prefix seeds.now ases.now pool.old t }
+    requires ranks { AreRanked planner.now }
+    requires there { IsSome (table_in tables.old.items at.now.round at.now.prefix) }
+    requires can { (t : ATable) → table_in tables.old.items at.now.round at.now.prefix ≡ Some t → CanPlanTable (setting_in P.meaning V.state_of planner.now.world.now at.now.prefix) planner.now.world.now.graph.now at.now.prefix edit.now.seeds.now edit.now.touched.now pool.old t }
     requires room { HasRoomFor pool.old 1 }
-    ensures planned { IfOk result (λ o. (t u : ATable) → table_in tables.old.items round prefix ≡ Some t → table_in tables.new.items round prefix ≡ Some u → IsTablePlanned (setting P.meaning graph.now book.now (V.state_of states.now prefix)) graph.now seeds.now ases.now pool.old pool.new t u steps.old steps.new o) }
-    ensures roomed { AreRoomed tables.old.items tables.new.items round prefix }
+    ensures planned { IfOk result (λ o. (t u : ATable) → table_in tables.old.items at.now.round at.now.prefix ≡ Some t → table_in tables.new.items at.now.round at.now.prefix ≡ Some u → IsTablePlanned (setting_in P.meaning V.state_of planner.now.world.now at.now.prefix) planner.now.world.now.graph.now edit.now.seeds.now edit.now.touched.now pool.old pool.new t u steps.old steps.new o) }
+    ensures roomed { AreRoomed tables.old.items tables.new.items at.now.round at.now.prefix }
     ensures same { AreSame tables.old.items tables.new.items }
     ensures limit { limit_of pool.new ≡ limit_of pool.old }
     ensures err { OnErr result (IsUndone pool.old pool.new) }
 {
-    let place = round as usize - 1;
-    plan_in_round(
-        alloc,
-        graph,
-        ranks,
-        rank_plan,
-        book,
-        states,
-        seeds,
-        &mut tables[place],
-        prefix,
-        ases,
-        pool,
-        steps,
-    )
+    let place = at.round as usize - 1;
+    plan_in_round(planner, at.prefix, edit, &mut tables[place], pool, steps)
 }

@@ -3,41 +3,35 @@
 ghost use Rattle.std.specs.Prelude.{◌≡◌, ℕ, ◌+◌, ◌*◌, ◌≤◌, [], Some, length, option_map, IfOk, OnOk, OnErr};
 ghost use Rattle.std.specs.Option.{option_copied};
 ghost use Rattle.std.specs.Ordering.{nat_cmp};
-ghost use Rattle.as_graph.specs.Topology.{relation};
-ghost use Rattle.as_graph.specs.Hierarchy.{HasNoProviderCycle, IsRank};
 ghost use Rattle.path_pool.specs.Pool.{holds_of, count_of, live_count, limit_of};
-ghost use Rattle.rank_order.specs.Plans.{rank_after, IsLastPlan};
 ghost use Rattle.stability_laws.specs.declared.seed_plan.edits.SeedEdit.{SeedEdit as AnEdit};
 ghost use Rattle.stability_laws.specs.Plans.{ListsRising, prefixes_of};
 ghost use Rattle.stability_laws.specs.SeedEdits.{edited, IsEditOf, IsEditWithin};
-ghost use Rattle.stability_laws.specs.World.{setting};
 ghost use Rattle.dirty_recompute.specs.Resources.{IsUndone};
 ghost use Rattle.leak_round.specs.Announced.{AreAnnounced};
-ghost use Rattle.leak_round.specs.Edited.{announced_after, prefix_edited, seeds_after, IsEdited};
+ghost use Rattle.leak_round.specs.Edited.{announced_after, prefix_edited, IsEdited};
 ghost use Rattle.leak_round.specs.Growth.{HasRoomFor};
 ghost use Rattle.leak_round.specs.Limits.{IsWithinLimits};
 ghost use Rattle.leak_round.specs.Overlays.{changes_count};
-ghost use Rattle.leak_round.specs.OwnSeeds.{AreOwnSeeds, AreOthersKept, AreOwnEdited};
-ghost use Rattle.leak_round.specs.Planning.{CanPlan, ArePlanned, AreRoundsPlanned, AreSame, IsCutOff, IsPaid};
+ghost use Rattle.leak_round.specs.OwnSeeds.{AreOthersKept, AreOwnEdited};
+ghost use Rattle.leak_round.specs.Planning.{AreRoundsPlanned, AreSame, IsCutOff, IsPaid};
+ghost use Rattle.leak_round.specs.Planners.{ArePlannedBy, AreRanked, CanPlanBy};
 ghost use Rattle.leak_round.specs.Plans.{count_told, ases_told};
 ghost use Rattle.leak_round.specs.Tables.{entry_uses};
 ghost use Rattle.leak_round.specs.Told.{IsToldOf};
-ghost use Rattle.leak_round.specs.Touched.{touches};
 
 use crate::announced::Announced;
 use crate::changes::Change;
 use crate::edited::{EditedSeeds, edit_seeds};
+use crate::planner::Planner;
 use crate::planning::plan_rounds;
 use crate::plans::RoundsDone;
 use crate::told::listed;
-use crate::touched::Touched;
-use as_graph::Graph;
 use net_names::{Asn, NoMemory};
 use path_pool::PathPool;
 use policy_laws::{OriginStates, RoutePolicy};
-use rank_order::{RankPlan, Ranks};
-use route_choice::{RoundTables, SeedIds, Steps};
-use stability_laws::{Book, SeedEdit, SeedPlan};
+use route_choice::{RoundTables, Steps};
+use stability_laws::{SeedEdit, SeedPlan};
 use std::alloc::Global;
 use std::sync::ledger::Ledger;
 
@@ -82,45 +76,32 @@ fn edited_asn(edited: &Option<EditedSeeds>) -> Option<Asn>
 
 // Plans the changes of the tables of all rounds, and tells of them.
 pub fn plan_and_tell<P: RoutePolicy, V: OriginStates, L: Ledger>(
-    alloc: Global,
-    graph: &Graph,
-    ranks: &Ranks,
-    rank_plan: &RankPlan,
-    book: &Book<P>,
-    states: &V,
-    plan: &SeedPlan,
-    announced: &[Announced],
-    edited: &Option<EditedSeeds>,
-    own: &[SeedIds],
-    touched: &Touched,
+    planner: &Planner<'_, P, V>,
     tables: &mut Vec<RoundTables>,
     changes: &mut Vec<Change>,
     pool: &mut PathPool,
     steps: &mut Steps<L>,
 ) -> Result<RoundsDone, NoMemory>
-    requires no_cycle { HasNoProviderCycle (relation graph.now) }
-    requires last { IsLastPlan ranks.now rank_plan.now }
-    requires ranks { (a : ℕ) → IsRank (relation graph.now) a (rank_after ranks.now rank_plan.now a) }
-    requires can { CanPlan (λ p. setting P.meaning graph.now book.now (V.state_of states.now p)) graph.now (touches touched.now) plan.now (seeds_after edited.now plan.now) announced.now (announced_after edited.now announced.now) pool.old tables.old.items }
-    requires own { AreOwnSeeds plan.now announced.now own.now }
-    requires fresh { AreOwnEdited edited.now }
-    requires others { AreOthersKept (prefix_edited edited.now) announced.now (announced_after edited.now announced.now) }
+    requires ranks { AreRanked planner.now }
+    requires can { CanPlanBy P.meaning V.state_of planner.now pool.old tables.old.items }
     requires held { (k : ℕ) → entry_uses tables.old.items k ≤ holds_of pool.old k }
     requires few { length tables.old.items ≤ 4 }
-    requires room { HasRoomFor pool.old (length tables.old.items * length (prefixes_of plan.now)) }
+    requires room { HasRoomFor pool.old (length tables.old.items * length (prefixes_of planner.now.plan.now)) }
     requires none { changes.old.items ≡ [] }
-    ensures planned { OnOk result (ArePlanned (λ p. setting P.meaning graph.now book.now (V.state_of states.now p)) graph.now (touches touched.now) plan.now (seeds_after edited.now plan.now) pool.new tables.new.items changes.new.items steps.old steps.new) }
-    ensures more { OnOk result (AreRoundsPlanned plan.now changes.new.items (length tables.old.items)) }
-    ensures paid { OnOk result (IsPaid pool.old pool.new [] changes.new.items (length tables.old.items * length (prefixes_of plan.now))) }
+    ensures planned { OnOk result (ArePlannedBy P.meaning V.state_of planner.now pool.new tables.new.items changes.new.items steps.old steps.new) }
+    ensures more { OnOk result (AreRoundsPlanned planner.now.plan.now changes.new.items (length tables.old.items)) }
+    ensures paid { OnOk result (IsPaid pool.old pool.new [] changes.new.items (length tables.old.items * length (prefixes_of planner.now.plan.now))) }
     ensures cut { IsCutOff pool.old pool.new [] changes.new.items }
     ensures same { AreSame tables.old.items tables.new.items }
     ensures count { IfOk result (λ d. count_told d ≡ changes_count changes.new.items) }
-    ensures told { IfOk result (λ d. (round : ℕ) → 1 ≤ round → round ≤ length tables.old.items → ListsRising nat_cmp (IsToldOf changes.new.items (option_map (λ e. e.asn) edited.now) round) (ases_told d round)) }
+    ensures told { IfOk result (λ d. (round : ℕ) → 1 ≤ round → round ≤ length tables.old.items → ListsRising nat_cmp (IsToldOf changes.new.items (option_map (λ e. e.asn) planner.now.edited.now) round) (ases_told d round)) }
 {
     let rounds = tables.len();
-    plan_rounds(
-        alloc, graph, ranks, rank_plan, book, states, plan, announced, own, edited, touched,
-        tables, changes, pool, steps,
-    )?;
-    listed(alloc, rounds, changes.as_slice(), edited_asn(edited))
+    plan_rounds(planner, tables, changes, pool, steps)?;
+    listed(
+        planner.alloc,
+        rounds,
+        changes.as_slice(),
+        edited_asn(planner.edited),
+    )
 }

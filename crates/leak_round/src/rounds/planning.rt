@@ -12,9 +12,9 @@ ghost use Rattle.stability_laws.specs.Plans.{announces, has_prefix};
 ghost use Rattle.stability_laws.specs.Rounds.{AreRounds, seeds_of};
 ghost use Rattle.stability_laws.specs.SeedEdits.{edit_asn, edited, IsEditOf, IsEditWithin};
 ghost use Rattle.stability_laws.specs.Stable.{IsRight};
-ghost use Rattle.stability_laws.specs.World.{setting};
 ghost use Rattle.leak_round.specs.Bounds.{AreEnoughFor};
 ghost use Rattle.leak_round.specs.Edited.{edit_numbers, plan_edited};
+ghost use Rattle.stability_laws.specs.World.{setting_in};
 ghost use Rattle.leak_round.specs.Limits.{IsWithinLimits};
 ghost use Rattle.leak_round.specs.Plans.{IsOpenPlan, asn_edited, cells_before, course, kept_with, numbers_added, plan_after};
 ghost use Rattle.leak_round.specs.Rounds.{is_open, plan_of, pool_of, round_count, kept};
@@ -25,15 +25,15 @@ use super::Rounds;
 use crate::changes::{Change, undo_changes};
 use crate::edited::drop_seeds;
 use crate::own_seeds::fill_own_seeds;
+use crate::planner::Planner;
 use crate::plans::RoundsPlan;
 use crate::touched::Touched;
 use crate::whole_plans::{edit_if_any, plan_and_tell};
-use as_graph::Graph;
+use dirty_recompute::PlannedRanks;
 use net_names::NoMemory;
 use policy_laws::{OriginStates, RoutePolicy};
-use rank_order::{RankPlan, Ranks};
 use route_choice::Steps;
-use stability_laws::{Book, SeedEdit};
+use stability_laws::{SeedEdit, World};
 use std::alloc::Global;
 use std::sync::ledger::Ledger;
 
@@ -51,14 +51,14 @@ fn no_changes(alloc: Global) -> Result<Vec<Change>, NoMemory>
 }
 
 impl Rounds {
-    /// A plan of what changes of the tables after an edit, where no plan is open. The graph, the book and
-    /// the states are those after the edit, and `edit` is that of who announces what, if there is one.
+    /// A plan of what changes of the tables after an edit, where no plan is open. The world is that after the
+    /// edit, and `edit` is that of who announces what, if there is one.
     /// `touched` has, prefix by prefix, the ASes that may hold something else than what is right there;
     /// which seeds differ the call finds by itself. With the changes in place each table is the one
     /// stable routing of its round, and each change is at an AS whose entry differs. What is kept stays
     /// until the plan is put in place.
     ///
-    /// The graph has no provider cycle, and `rank_plan` is the last plan of the ranks and gives its ranks.
+    /// The graph has no provider cycle, and the planned ranks are its ranks, by the last plan of them.
     /// At most 20,000,000 cells are live. An edited announcement is of a prefix of the plan, its path has
     /// 1 to 64 numbers, and the plan stays within the limits; the ASes that announce something are in the
     /// graph. Each table holds entries only for its ASes and for touched ones, and is right at all others.
@@ -69,60 +69,52 @@ impl Rounds {
     pub fn plan<P: RoutePolicy, V: OriginStates, L: Ledger>(
         &mut self,
         alloc: Global,
-        graph: &Graph,
-        ranks: &Ranks,
-        rank_plan: &RankPlan,
-        book: &Book<P>,
-        states: &V,
+        world: &World<'_, P, V>,
+        ranks: &PlannedRanks<'_>,
         touched: &Touched,
         edit: Option<&SeedEdit>,
         steps: &mut Steps<L>,
     ) -> Result<RoundsPlan, NoMemory>
         requires closed { is_open self.old ≡ false }
         requires few_cells { live_count (pool_of self.old) ≤ MOST_CELLS }
-        requires no_cycle { HasNoProviderCycle (relation graph.now) }
-        requires last { IsLastPlan ranks.now rank_plan.now }
-        requires ranks { (a : ℕ) → IsRank (relation graph.now) a (rank_after ranks.now rank_plan.now a) }
+        requires no_cycle { HasNoProviderCycle (relation world.now.graph.now) }
+        requires last { IsLastPlan ranks.now.ranks.now ranks.now.plan.now }
+        requires ranks { (a : ℕ) → IsRank (relation world.now.graph.now) a (rank_after ranks.now.ranks.now ranks.now.plan.now a) }
         requires known { (e : AnEdit) → option_copied edit ≡ Some e → IsEditOf (plan_of self.old) e }
         requires within { (e : AnEdit) → option_copied edit ≡ Some e → IsEditWithin 64 e }
         requires limits { (e : AnEdit) → option_copied edit ≡ Some e → IsWithinLimits (edited (plan_of self.old) e) }
-        requires announcers { (prefix : PrefixValue) (a : ℕ) → IsTrue (announces (plan_edited (option_copied edit) (plan_of self.old)) prefix a) → has graph.now a ≡ true }
-        requires entries { (round : ℕ) (prefix : PrefixValue) (b : ℕ) → 1 ≤ round → round ≤ round_count self.old → IsTrue (has_prefix (plan_of self.old) prefix) → has graph.now b ≡ false → touches touched.now prefix b ≡ false → kept self.old round prefix b ≡ None }
-        requires right { (before : ℕ) (prefix : PrefixValue) (b : ℕ) → before < round_count self.old → IsTrue (has_prefix (plan_of self.old) prefix) → has graph.now b ≡ true → touches touched.now prefix b ≡ false → IsRight (setting P.meaning graph.now book.now (V.state_of states.now prefix)) (seeds_of (plan_of self.old) (suc before) prefix (kept self.old before prefix)) (kept self.old (suc before) prefix) b }
+        requires announcers { (prefix : PrefixValue) (a : ℕ) → IsTrue (announces (plan_edited (option_copied edit) (plan_of self.old)) prefix a) → has world.now.graph.now a ≡ true }
+        requires entries { (round : ℕ) (prefix : PrefixValue) (b : ℕ) → 1 ≤ round → round ≤ round_count self.old → IsTrue (has_prefix (plan_of self.old) prefix) → has world.now.graph.now b ≡ false → touches touched.now prefix b ≡ false → kept self.old round prefix b ≡ None }
+        requires right { (before : ℕ) (prefix : PrefixValue) (b : ℕ) → before < round_count self.old → IsTrue (has_prefix (plan_of self.old) prefix) → has world.now.graph.now b ≡ true → touches touched.now prefix b ≡ false → IsRight (setting_in P.meaning V.state_of world.now prefix) (seeds_of (plan_of self.old) (suc before) prefix (kept self.old before prefix)) (kept self.old (suc before) prefix) b }
         ensures open { IfOk result (λ p. IsOpenPlan self.new p) }
         ensures before { IfOk result (λ p. cells_before p ≡ live_count (pool_of self.old)) }
         ensures edited { IfOk result (λ p. plan_after self.new p ≡ plan_edited (option_copied edit.entry) (plan_of self.old)) }
         ensures asn { IfOk result (λ p. asn_edited p ≡ option_map edit_asn (option_copied edit.entry)) }
         ensures numbers { IfOk result (λ p. numbers_added p ≡ option_map_or edit_numbers (option_copied edit.entry) 0) }
-        ensures stable { IfOk result (λ p. AreRounds (λ x. setting P.meaning graph.now book.now (V.state_of states.now x)) (plan_after self.new p) (round_count self.new) (kept_with self.new p)) }
-        ensures enough { IfOk result (λ p. AreEnoughFor (relation graph.now) (course self.new p (touches touched.now)) (round_count self.new) steps.old steps.new) }
+        ensures stable { IfOk result (λ p. AreRounds (setting_in P.meaning V.state_of world.now) (plan_after self.new p) (round_count self.new) (kept_with self.new p)) }
+        ensures enough { IfOk result (λ p. AreEnoughFor (relation world.now.graph.now) (course self.new p (touches touched.now)) (round_count self.new) steps.old steps.new) }
         ensures plan { plan_of self.new ≡ plan_of self.old }
         ensures rounds { round_count self.new ≡ round_count self.old }
         ensures kept { (round : ℕ) (prefix : PrefixValue) (a : ℕ) → kept self.new round prefix a ≡ kept self.old round prefix a }
         ensures err { OnErr result (is_open self.new ≡ false) }
     {
-        let _count = graph.as_count();
+        let _count = world.graph.as_count();
         let mut changes = no_changes(alloc)?;
         fill_own_seeds(alloc, &self.plan, &self.announced, &mut self.own)?;
         let before = self.pool.live();
         let edited = edit_if_any(alloc, &self.plan, &self.announced, edit, &mut self.pool)?;
-        match plan_and_tell(
+        let planner = Planner {
             alloc,
-            graph,
+            world,
             ranks,
-            rank_plan,
-            book,
-            states,
-            &self.plan,
-            &self.announced,
-            &edited,
-            &self.own,
+            plan: &self.plan,
+            announced: self.announced.as_slice(),
+            own: self.own.as_slice(),
+            edited: &edited,
             touched,
-            &mut self.tables,
-            &mut changes,
-            &mut self.pool,
-            steps,
-        ) {
+        };
+        let (tables, pool) = (&mut self.tables, &mut self.pool);
+        match plan_and_tell(&planner, tables, &mut changes, pool, steps) {
             Ok(done) => {
                 self.planned = true;
                 Ok(RoundsPlan {

@@ -1,8 +1,7 @@
 use Rattle.std.proofs.Common.{◌≡◌, ◌+◌, ◌<◌, Some, length, refl, sym, ◌∙◌, arith}
 use Rattle.std.specs.Prelude.{slice_get}
 use Rattle.std.proofs.lemmas.Option.{slice_get_within}
-use Rattle.net_names.specs.Prefixes.{PrefixValue}
-use Rattle.stability_laws.specs.World.{setting}
+use Rattle.stability_laws.specs.World.{setting_in}
 use Rattle.stability_laws.specs.Plans.{prefixes_of}
 use Rattle.leak_round.specs.Edited.{announced_after, seeds_after}
 use Rattle.leak_round.specs.Touched.{touches}
@@ -13,34 +12,41 @@ use Rattle.leak_round.proofs.Turns.{can_still, up_end, up_more, up_turn}
 use Rattle.leak_round.proofs.planning.plan_round.Goals as goal
 
 pub plan_change-requires-clause-can : goal.plan_change-requires-clause-can
-plan_change-requires-clause-can g c = can_still (λ (p : PrefixValue). setting g.P.RoutePolicy.meaning c.args.graph.now c.args.book.now (g.V.OriginStates.state_of c.args.states.now p)) c.args.graph.now (touches c.args.touched.now) c.args.plan.now (seeds_after c.args.edited.now c.args.plan.now) c.args.announced.now (announced_after c.args.edited.now c.args.announced.now) c.args.pool.now c.prefixes.pool c.args.tables.now.items c.prefixes.tables.items c.requires.can c.prefixes.invariant.paid.keeps c.prefixes.invariant.same
+plan_change-requires-clause-can g c =
+    let x = c.args.planner.now in
+    let w = setting_in g.P.RoutePolicy.meaning g.V.OriginStates.state_of x.world.now in
+    can_still w x.world.now.graph.now (touches x.touched.now) x.plan.now (seeds_after x.edited.now x.plan.now) x.announced.now (announced_after x.edited.now x.announced.now) c.args.pool.now c.prefixes.pool c.args.tables.now.items c.prefixes.tables.items c.requires.can c.prefixes.invariant.paid.keeps c.prefixes.invariant.same
 
 pub plan_change-requires-clause-at : goal.plan_change-requires-clause-at
 plan_change-requires-clause-at g c = sym c.in-Some.ensures.value
 
 pub plan_change-requires-clause-room : goal.plan_change-requires-clause-room
 plan_change-requires-clause-room g c =
-    let within = slice_get_within (prefixes_of c.args.plan.now) c.prefixes.place c.in-Some.prefix (sym c.in-Some.ensures.value) in
-    room_left c.args.pool.now c.prefixes.pool c.prefixes.place 1 (length (prefixes_of c.args.plan.now)) c.prefixes.invariant.paid.grows c.requires.room (omega (arith, within))
+    let x = c.args.planner.now in
+    let within = slice_get_within (prefixes_of x.plan.now) c.prefixes.place c.in-Some.prefix (sym c.in-Some.ensures.value) in
+    room_left c.args.pool.now c.prefixes.pool c.prefixes.place 1 (length (prefixes_of x.plan.now)) c.prefixes.invariant.paid.grows c.requires.room (omega (arith, within))
 
 pub plan_change-requires-clause-so_far : goal.plan_change-requires-clause-so_far
 plan_change-requires-clause-so_far g c = (c.requires.so_far.0, c.prefixes.invariant.planned c.requires.so_far.0 c.requires.so_far.1)
 
 pub plan_change-requires-clause-turn : goal.plan_change-requires-clause-turn
 plan_change-requires-clause-turn g c =
-    up_turn c.args.plan.now c.prefixes.changes.items c.args.round c.prefixes.place c.prefixes.invariant.up c.requires.from c.in-Some.ensures.listed c.in-Some.prefix (length c.prefixes.tables.items) (sym c.in-Some.ensures.value) (omega (arith, c.requires.to, c.prefixes.invariant.same.count))
+    let x = c.args.planner.now in
+    up_turn x.plan.now c.prefixes.changes.items c.args.round c.prefixes.place c.prefixes.invariant.up c.requires.from c.in-Some.ensures.listed c.in-Some.prefix (length c.prefixes.tables.items) (sym c.in-Some.ensures.value) (omega (arith, c.requires.to, c.prefixes.invariant.same.count))
 
 pub returns-in_err-plan_change-clause-same : goal.returns-in_err-plan_change-clause-same
 returns-in_err-plan_change-clause-same g c = same_on c.args.tables.now.items c.prefixes.tables.items c.plan_change.new.tables.items c.prefixes.invariant.same c.plan_change.ensures.same
 
 pub prefixes-smaller : goal.prefixes-smaller
 prefixes-smaller g c =
-    let within : c.prefixes.place < length (prefixes_of c.args.plan.now) = slice_get_within (prefixes_of c.args.plan.now) c.prefixes.place c.in-Some.prefix (sym c.in-Some.ensures.value) in
+    let x = c.args.planner.now in
+    let within : c.prefixes.place < length (prefixes_of x.plan.now) = slice_get_within (prefixes_of x.plan.now) c.prefixes.place c.in-Some.prefix (sym c.in-Some.ensures.value) in
     omega arith
 
 pub prefixes-preserved : goal.prefixes-preserved
 prefixes-preserved g c =
-    let plan = c.args.plan.now in
+    let x = c.args.planner.now in
+    let plan = x.plan.now in
     let i = c.prefixes.place in
     let p = c.in-Some.prefix in
     let at : slice_get (prefixes_of plan) i ≡ Some p = sym c.in-Some.ensures.value in
@@ -55,4 +61,6 @@ prefixes-preserved g c =
     }
 
 pub returns-clause-more : goal.returns-clause-more
-returns-clause-more g c = up_end c.args.plan.now c.prefixes.changes.items c.args.round c.prefixes.place c.prefixes.invariant.up c.requires.from c.prefix_at.ensures.listed (sym c.prefix_at.ensures.value ∙ c.in_default.is)
+returns-clause-more g c =
+    let x = c.args.planner.now in
+    up_end x.plan.now c.prefixes.changes.items c.args.round c.prefixes.place c.prefixes.invariant.up c.requires.from c.prefix_at.ensures.listed (sym c.prefix_at.ensures.value ∙ c.in_default.is)

@@ -1,6 +1,5 @@
 use Rattle.std.proofs.Common.{◌+◌, ◌*◌, [], List, length, sym, subst, arith}
-use Rattle.net_names.specs.Prefixes.{PrefixValue}
-use Rattle.stability_laws.specs.World.{setting}
+use Rattle.stability_laws.specs.World.{setting_in}
 use Rattle.stability_laws.specs.Plans.{prefixes_of}
 use Rattle.leak_round.specs.Edited.{announced_after, seeds_after}
 use Rattle.leak_round.specs.declared.changes.Change.{Change}
@@ -13,25 +12,30 @@ use Rattle.leak_round.proofs.planning.plan_rounds.Goals as goal
 
 pub loop-past-init : goal.loop-past-init
 loop-past-init g c =
-    let w = (λ (p : PrefixValue). setting g.P.RoutePolicy.meaning c.args.graph.now c.args.book.now (g.V.OriginStates.state_of c.args.states.now p)) in
+    let x = c.args.planner.now in
+    let w = setting_in g.P.RoutePolicy.meaning g.V.OriginStates.state_of x.world.now in
     let none = sym c.requires.none in
     record {
-      planned = subst (λ (zs : List Change). ArePlanned w c.args.graph.now (touches c.args.touched.now) c.args.plan.now (seeds_after c.args.edited.now c.args.plan.now) c.args.pool.now c.args.tables.now.items zs c.args.steps.now c.args.steps.now) none
-          (planned_none w c.args.graph.now (touches c.args.touched.now) c.args.plan.now (seeds_after c.args.edited.now c.args.plan.now) c.args.pool.now c.args.tables.now.items c.args.steps.now);
-      past_planned = subst (λ (zs : List Change). AreRoundsPlanned c.args.plan.now zs 0) none (none_planned c.args.plan.now);
-      paid = subst (λ (zs : List Change). IsPaid c.args.pool.now c.args.pool.now [] zs (0 * length (prefixes_of c.args.plan.now))) none (paid_itself c.args.pool.now [] (0 * length (prefixes_of c.args.plan.now)));
+      planned = subst (λ (zs : List Change). ArePlanned w x.world.now.graph.now (touches x.touched.now) x.plan.now (seeds_after x.edited.now x.plan.now) c.args.pool.now c.args.tables.now.items zs c.args.steps.now c.args.steps.now) none
+          (planned_none w x.world.now.graph.now (touches x.touched.now) x.plan.now (seeds_after x.edited.now x.plan.now) c.args.pool.now c.args.tables.now.items c.args.steps.now);
+      past_planned = subst (λ (zs : List Change). AreRoundsPlanned x.plan.now zs 0) none (none_planned x.plan.now);
+      paid = subst (λ (zs : List Change). IsPaid c.args.pool.now c.args.pool.now [] zs (0 * length (prefixes_of x.plan.now))) none (paid_itself c.args.pool.now [] (0 * length (prefixes_of x.plan.now)));
       same = same_itself c.args.tables.now.items;
     }
 
 pub plan_round-requires-clause-can : goal.plan_round-requires-clause-can
-plan_round-requires-clause-can g c = can_still (λ (p : PrefixValue). setting g.P.RoutePolicy.meaning c.args.graph.now c.args.book.now (g.V.OriginStates.state_of c.args.states.now p)) c.args.graph.now (touches c.args.touched.now) c.args.plan.now (seeds_after c.args.edited.now c.args.plan.now) c.args.announced.now (announced_after c.args.edited.now c.args.announced.now) c.args.pool.now c.loop-past.pool c.args.tables.now.items c.loop-past.tables.items c.requires.can c.loop-past.invariant.paid.keeps c.loop-past.invariant.same
+plan_round-requires-clause-can g c =
+    let x = c.args.planner.now in
+    let w = setting_in g.P.RoutePolicy.meaning g.V.OriginStates.state_of x.world.now in
+    can_still w x.world.now.graph.now (touches x.touched.now) x.plan.now (seeds_after x.edited.now x.plan.now) x.announced.now (announced_after x.edited.now x.announced.now) c.args.pool.now c.loop-past.pool c.args.tables.now.items c.loop-past.tables.items c.requires.can c.loop-past.invariant.paid.keeps c.loop-past.invariant.same
 
 pub returns-in_err-plan_round-clause-same : goal.returns-in_err-plan_round-clause-same
 returns-in_err-plan_round-clause-same g c = same_on c.args.tables.now.items c.loop-past.tables.items c.plan_round.new.tables.items c.loop-past.invariant.same c.plan_round.ensures.same
 
 pub loop-past-preserved : goal.loop-past-preserved
 loop-past-preserved g c =
-    let size = length (prefixes_of c.args.plan.now) in
+    let x = c.args.planner.now in
+    let size = length (prefixes_of x.plan.now) in
     let old = c.loop-past.invariant in
     let now = c.in_ok-plan_round.ensures in
     record {

@@ -1,5 +1,5 @@
 use Rattle.std.proofs.Common.{◌≡◌, ◌++◌, ◌∷◌, [], List, sym, ap, subst, ◌∙◌}
-use Rattle.stability_laws.specs.World.{setting}
+use Rattle.stability_laws.specs.World.{setting_in}
 use Rattle.leak_round.specs.declared.changes.Change.{Change}
 use Rattle.leak_round.specs.Planning.{IsAdded, IsCutOff, IsPaid}
 use Rattle.leak_round.proofs.Paying.{cut_paid, cut_undone}
@@ -14,29 +14,33 @@ returns-clause-added g c =
     let roomed = c.plan_in_rounds.ensures.roomed in
     record {
       overlay = c.in_ok-overlay.overlay;
-      items = c.add_change.ensures ∙ ap (λ (zs : List Change). zs ++ record { round = c.args.round; prefix = c.args.prefix; overlay = c.in_ok-overlay.overlay } ∷ []) c.make_place.ensures.same;
+      items = c.add_change.ensures ∙ ap (λ (zs : List Change). zs ++ record { round = c.args.at.now.round; prefix = c.args.at.now.prefix; overlay = c.in_ok-overlay.overlay } ∷ []) c.make_place.ensures.same;
       roomed = roomed;
       planned = c.in_ok-overlay.ensures.planned roomed.was roomed.now roomed.was_at roomed.now_at;
     }
 
 pub returns-clause-more : goal.returns-clause-more
 returns-clause-more g c =
-    let x : Change = record { round = c.args.round; prefix = c.args.prefix; overlay = c.in_ok-overlay.overlay } in
+    let x : Change = record { round = c.args.at.now.round; prefix = c.args.at.now.prefix; overlay = c.in_ok-overlay.overlay } in
     let items : c.add_change.new.changes.items ≡ c.args.changes.now.items ++ x ∷ [] = c.add_change.ensures ∙ ap (λ (zs : List Change). zs ++ x ∷ []) c.make_place.ensures.same in
-    subst (λ (zs : List Change). IsAdded c.args.changes.now.items zs c.args.round c.args.prefix) (sym items) (added c.args.changes.now.items x)
+    subst (λ (zs : List Change). IsAdded c.args.changes.now.items zs c.args.at.now.round c.args.at.now.prefix) (sym items) (added c.args.changes.now.items x)
 
 pub returns-clause-paid : goal.returns-clause-paid
 returns-clause-paid g c =
-    let x : Change = record { round = c.args.round; prefix = c.args.prefix; overlay = c.in_ok-overlay.overlay } in
+    let world = c.args.planner.now.world.now in
+    let w = setting_in g.P.RoutePolicy.meaning g.V.OriginStates.state_of world in
+    let x : Change = record { round = c.args.at.now.round; prefix = c.args.at.now.prefix; overlay = c.in_ok-overlay.overlay } in
     let roomed = c.plan_in_rounds.ensures.roomed in
     let made = c.in_ok-overlay.ensures.planned roomed.was roomed.now roomed.was_at roomed.now_at in
     let items : c.add_change.new.changes.items ≡ c.args.changes.now.items ++ x ∷ [] = c.add_change.ensures ∙ ap (λ (zs : List Change). zs ++ x ∷ []) c.make_place.ensures.same in
-    subst (λ (zs : List Change). IsPaid c.args.pool.now c.plan_in_rounds.new.pool c.args.changes.now.items zs 1) (sym items) (paid_more (setting g.P.RoutePolicy.meaning c.args.graph.now c.args.book.now (g.V.OriginStates.state_of c.args.states.now c.args.prefix)) c.args.graph.now c.args.seeds.now c.args.ases.now c.args.pool.now c.plan_in_rounds.new.pool roomed.was roomed.now c.args.steps.now c.plan_in_rounds.new.steps c.args.changes.now.items x made)
+    subst (λ (zs : List Change). IsPaid c.args.pool.now c.plan_in_rounds.new.pool c.args.changes.now.items zs 1) (sym items) (paid_more (w c.args.at.now.prefix) world.graph.now c.args.edit.now.seeds.now c.args.edit.now.touched.now c.args.pool.now c.plan_in_rounds.new.pool roomed.was roomed.now c.args.steps.now c.plan_in_rounds.new.steps c.args.changes.now.items x made)
 
 pub returns-clause-cut : goal.returns-clause-cut
 returns-clause-cut g c =
-    let x : Change = record { round = c.args.round; prefix = c.args.prefix; overlay = c.in_ok-overlay.overlay } in
+    let world = c.args.planner.now.world.now in
+    let w = setting_in g.P.RoutePolicy.meaning g.V.OriginStates.state_of world in
+    let x : Change = record { round = c.args.at.now.round; prefix = c.args.at.now.prefix; overlay = c.in_ok-overlay.overlay } in
     let roomed = c.plan_in_rounds.ensures.roomed in
     let made = c.in_ok-overlay.ensures.planned roomed.was roomed.now roomed.was_at roomed.now_at in
     let items : c.add_change.new.changes.items ≡ c.args.changes.now.items ++ x ∷ [] = c.add_change.ensures ∙ ap (λ (zs : List Change). zs ++ x ∷ []) c.make_place.ensures.same in
-    subst (λ (zs : List Change). IsCutOff c.args.pool.now c.plan_in_rounds.new.pool c.args.changes.now.items zs) (sym items) (cut_paid c.args.pool.now c.plan_in_rounds.new.pool c.args.changes.now.items (c.args.changes.now.items ++ x ∷ []) 1 (paid_more (setting g.P.RoutePolicy.meaning c.args.graph.now c.args.book.now (g.V.OriginStates.state_of c.args.states.now c.args.prefix)) c.args.graph.now c.args.seeds.now c.args.ases.now c.args.pool.now c.plan_in_rounds.new.pool roomed.was roomed.now c.args.steps.now c.plan_in_rounds.new.steps c.args.changes.now.items x made))
+    subst (λ (zs : List Change). IsCutOff c.args.pool.now c.plan_in_rounds.new.pool c.args.changes.now.items zs) (sym items) (cut_paid c.args.pool.now c.plan_in_rounds.new.pool c.args.changes.now.items (c.args.changes.now.items ++ x ∷ []) 1 (paid_more (w c.args.at.now.prefix) world.graph.now c.args.edit.now.seeds.now c.args.edit.now.touched.now c.args.pool.now c.plan_in_rounds.new.pool roomed.was roomed.now c.args.steps.now c.plan_in_rounds.new.steps c.args.changes.now.items x made))

@@ -1,14 +1,13 @@
 use Rattle.std.proofs.Common.{ℕ, ◌+◌, ◌*◌, ◌<◌, Option, length, sym, ap, subst, ◌∙◌, arith}
 use Rattle.std.proofs.lemmas.Option.{slice_get_within}
 use Rattle.as_graph.specs.Topology.{as_count}
-use Rattle.net_names.specs.Prefixes.{PrefixValue}
 use Rattle.stability_laws.specs.declared.entry.Entry.{Entry}
 use Rattle.stability_laws.specs.Stable.{IsStable}
-use Rattle.stability_laws.specs.World.{setting}
 use Rattle.stability_laws.specs.Plans.{prefixes_of}
 use Rattle.stability_laws.specs.Rounds.{seeds_of}
 use Rattle.route_choice.specs.RoundTables.{table_at, PutsTable}
 use Rattle.route_choice.specs.Routings.{table_routing}
+use Rattle.stability_laws.specs.World.{setting_in}
 use Rattle.leak_round.specs.Tables.{kept_in}
 use Rattle.leak_round.proofs.Listing.{cost_more}
 use Rattle.leak_round.proofs.Keeping.{announced_kept, rounds_full_kept, all_kept, room_left}
@@ -16,41 +15,41 @@ use Rattle.leak_round.proofs.Rounding.{round_start, none_yet, round_more, round_
 use Rattle.leak_round.proofs.round.make_round.Goals as goal
 
 pub make_table-requires-clause-announced : goal.make_table-requires-clause-announced
-make_table-requires-clause-announced g c = announced_kept c.args.pool.now c.prefixes.pool c.prefixes.invariant.so_far.keeps c.args.plan.now c.args.announced.now c.requires.announced
+make_table-requires-clause-announced g c = announced_kept c.args.pool.now c.prefixes.pool c.prefixes.invariant.so_far.keeps c.args.building.now.plan.now c.args.building.now.announced.now c.requires.announced
 
 pub make_table-requires-clause-earlier : goal.make_table-requires-clause-earlier
-make_table-requires-clause-earlier g c = rounds_full_kept c.args.pool.now c.prefixes.pool c.prefixes.invariant.so_far.keeps c.args.plan.now c.args.earlier.now c.requires.earlier
+make_table-requires-clause-earlier g c = rounds_full_kept c.args.pool.now c.prefixes.pool c.prefixes.invariant.so_far.keeps c.args.building.now.plan.now c.args.earlier.now c.requires.earlier
 
 pub make_table-requires-clause-room : goal.make_table-requires-clause-room
 make_table-requires-clause-room g c =
-    let within = slice_get_within (prefixes_of c.args.plan.now) c.prefixes.place c.in-Some.prefix (sym c.in-Some.ensures.value) in
-    room_left c.args.pool.now c.prefixes.pool c.prefixes.place 1 (length (prefixes_of c.args.plan.now)) c.prefixes.invariant.so_far.grows c.requires.room (omega (arith, within))
+    let within = slice_get_within (prefixes_of c.args.building.now.plan.now) c.prefixes.place c.in-Some.prefix (sym c.in-Some.ensures.value) in
+    room_left c.args.pool.now c.prefixes.pool c.prefixes.place 1 (length (prefixes_of c.args.building.now.plan.now)) c.prefixes.invariant.so_far.grows c.requires.room (omega (arith, within))
 
 pub returns-in_err-table-clause-cost : goal.returns-in_err-table-clause-cost
 returns-in_err-table-clause-cost g c =
-    let within = slice_get_within (prefixes_of c.args.plan.now) c.prefixes.place c.in-Some.prefix (sym c.in-Some.ensures.value) in
-    cost_more c.args.steps.now c.prefixes.steps c.make_table.new.steps (2 * as_count c.args.graph.now) c.prefixes.place (length (prefixes_of c.args.plan.now)) c.prefixes.invariant.cost c.make_table.ensures.cost (omega (arith, within))
+    let within = slice_get_within (prefixes_of c.args.building.now.plan.now) c.prefixes.place c.in-Some.prefix (sym c.in-Some.ensures.value) in
+    cost_more c.args.steps.now c.prefixes.steps c.make_table.new.steps (2 * as_count c.args.building.now.world.now.graph.now) c.prefixes.place (length (prefixes_of c.args.building.now.plan.now)) c.prefixes.invariant.cost c.make_table.ensures.cost (omega (arith, within))
 
 pub push-requires : goal.push-requires
 push-requires g c =
-    let at = λ (p : PrefixValue). setting g.P.RoutePolicy.meaning c.args.graph.now c.args.book.now (g.V.OriginStates.state_of c.args.states.now p) in
+    let at = setting_in g.P.RoutePolicy.meaning g.V.OriginStates.state_of c.args.building.now.world.now in
     ap (table_at c.prefixes.tables) c.in_ok-table.ensures.prefix
-    ∙ none_yet at c.args.plan.now c.args.round (kept_in c.args.pool.now c.args.earlier.now (length c.args.earlier.now)) c.args.pool.now c.prefixes.pool c.make_table.new.pool c.prefixes.tables c.prefixes.tables c.prefixes.place c.in-Some.prefix c.in_ok-table.table c.prefixes.invariant.so_far c.in-Some.ensures.listed (sym c.in-Some.ensures.value)
+    ∙ none_yet at c.args.building.now.plan.now c.args.round (kept_in c.args.pool.now c.args.earlier.now (length c.args.earlier.now)) c.args.pool.now c.prefixes.pool c.make_table.new.pool c.prefixes.tables c.prefixes.tables c.prefixes.place c.in-Some.prefix c.in_ok-table.table c.prefixes.invariant.so_far c.in-Some.ensures.listed (sym c.in-Some.ensures.value)
 
 pub returns-in_err-push-clause-cost : goal.returns-in_err-push-clause-cost
 returns-in_err-push-clause-cost g c =
-    let within = slice_get_within (prefixes_of c.args.plan.now) c.prefixes.place c.in-Some.prefix (sym c.in-Some.ensures.value) in
-    cost_more c.args.steps.now c.prefixes.steps c.make_table.new.steps (2 * as_count c.args.graph.now) c.prefixes.place (length (prefixes_of c.args.plan.now)) c.prefixes.invariant.cost c.make_table.ensures.cost (omega (arith, within))
+    let within = slice_get_within (prefixes_of c.args.building.now.plan.now) c.prefixes.place c.in-Some.prefix (sym c.in-Some.ensures.value) in
+    cost_more c.args.steps.now c.prefixes.steps c.make_table.new.steps (2 * as_count c.args.building.now.world.now.graph.now) c.prefixes.place (length (prefixes_of c.args.building.now.plan.now)) c.prefixes.invariant.cost c.make_table.ensures.cost (omega (arith, within))
 
 pub prefixes-smaller : goal.prefixes-smaller
 prefixes-smaller g c =
-    let within : c.prefixes.place < length (prefixes_of c.args.plan.now) = slice_get_within (prefixes_of c.args.plan.now) c.prefixes.place c.in-Some.prefix (sym c.in-Some.ensures.value) in
+    let within : c.prefixes.place < length (prefixes_of c.args.building.now.plan.now) = slice_get_within (prefixes_of c.args.building.now.plan.now) c.prefixes.place c.in-Some.prefix (sym c.in-Some.ensures.value) in
     omega arith
 
 pub prefixes-preserved : goal.prefixes-preserved
 prefixes-preserved g c =
-    let at = λ (p : PrefixValue). setting g.P.RoutePolicy.meaning c.args.graph.now c.args.book.now (g.V.OriginStates.state_of c.args.states.now p) in
-    let plan = c.args.plan.now in
+    let at = setting_in g.P.RoutePolicy.meaning g.V.OriginStates.state_of c.args.building.now.world.now in
+    let plan = c.args.building.now.plan.now in
     let earlier = c.args.earlier.now in
     let first = c.args.pool.now in
     let p = c.in-Some.prefix in
@@ -64,18 +63,18 @@ prefixes-preserved g c =
           (subst (λ q. PutsTable c.prefixes.tables c.push.new.self q c.in_ok-table.table) table.prefix c.in_ok-push.ensures.ok) c.in_ok-push.ensures.by_prefix table.small;
       within = omega (arith, within);
       scratch = c.in_ok-table.ensures.scratch;
-      cost = cost_more c.args.steps.now c.prefixes.steps c.make_table.new.steps (2 * as_count c.args.graph.now) c.prefixes.place (c.prefixes.place + 1) c.prefixes.invariant.cost c.make_table.ensures.cost (omega arith);
+      cost = cost_more c.args.steps.now c.prefixes.steps c.make_table.new.steps (2 * as_count c.args.building.now.world.now.graph.now) c.prefixes.place (c.prefixes.place + 1) c.prefixes.invariant.cost c.make_table.ensures.cost (omega arith);
     }
 
 pub returns-clause-stable : goal.returns-clause-stable
 returns-clause-stable g c =
-    let at = λ (p : PrefixValue). setting g.P.RoutePolicy.meaning c.args.graph.now c.args.book.now (g.V.OriginStates.state_of c.args.states.now p) in
-    round_stable at c.args.plan.now c.args.round (kept_in c.args.pool.now c.args.earlier.now (length c.args.earlier.now)) c.args.pool.now c.prefixes.pool c.prefixes.tables c.prefixes.place c.prefixes.invariant.so_far c.prefix_at.ensures.listed (sym c.prefix_at.ensures.value ∙ c.in_default.is)
+    let at = setting_in g.P.RoutePolicy.meaning g.V.OriginStates.state_of c.args.building.now.world.now in
+    round_stable at c.args.building.now.plan.now c.args.round (kept_in c.args.pool.now c.args.earlier.now (length c.args.earlier.now)) c.args.pool.now c.prefixes.pool c.prefixes.tables c.prefixes.place c.prefixes.invariant.so_far c.prefix_at.ensures.listed (sym c.prefix_at.ensures.value ∙ c.in_default.is)
 
 pub returns-clause-full : goal.returns-clause-full
 returns-clause-full g c =
-    let at = λ (p : PrefixValue). setting g.P.RoutePolicy.meaning c.args.graph.now c.args.book.now (g.V.OriginStates.state_of c.args.states.now p) in
-    round_full at c.args.plan.now c.args.round (kept_in c.args.pool.now c.args.earlier.now (length c.args.earlier.now)) c.args.pool.now c.prefixes.pool c.prefixes.tables c.prefixes.place c.prefixes.invariant.so_far c.prefix_at.ensures.listed (sym c.prefix_at.ensures.value ∙ c.in_default.is)
+    let at = setting_in g.P.RoutePolicy.meaning g.V.OriginStates.state_of c.args.building.now.world.now in
+    round_full at c.args.building.now.plan.now c.args.round (kept_in c.args.pool.now c.args.earlier.now (length c.args.earlier.now)) c.args.pool.now c.prefixes.pool c.prefixes.tables c.prefixes.place c.prefixes.invariant.so_far c.prefix_at.ensures.listed (sym c.prefix_at.ensures.value ∙ c.in_default.is)
 
 pub returns-clause-holds : goal.returns-clause-holds
 returns-clause-holds g c = c.prefixes.invariant.so_far.holds
@@ -94,9 +93,9 @@ returns-clause-grows g c =
 
 pub prefixes-init : goal.prefixes-init
 prefixes-init g c =
-    let at = λ (p : PrefixValue). setting g.P.RoutePolicy.meaning c.args.graph.now c.args.book.now (g.V.OriginStates.state_of c.args.states.now p) in
+    let at = setting_in g.P.RoutePolicy.meaning g.V.OriginStates.state_of c.args.building.now.world.now in
     record {
-      so_far = round_start at c.args.plan.now c.args.round (kept_in c.args.pool.now c.args.earlier.now (length c.args.earlier.now)) c.args.pool.now c.new-tables.result c.new-tables.ensures.none c.new-tables.ensures.uses;
+      so_far = round_start at c.args.building.now.plan.now c.args.round (kept_in c.args.pool.now c.args.earlier.now (length c.args.earlier.now)) c.args.pool.now c.new-tables.result c.new-tables.ensures.none c.new-tables.ensures.uses;
       within = omega arith;
       scratch = c.requires.scratch;
       cost = omega arith;

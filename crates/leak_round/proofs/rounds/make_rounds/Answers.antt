@@ -2,12 +2,11 @@ use Rattle.std.proofs.Common.{◌≡◌, ℕ, suc, ◌+◌, ◌*◌, ◌≤◌, 
 use Rattle.std.proofs.Math.Nat.{mul-le-mul_right}
 use Rattle.std.proofs.lemmas.List.{length-append}
 use Rattle.as_graph.specs.Topology.{as_count}
-use Rattle.net_names.specs.Prefixes.{PrefixValue}
-use Rattle.stability_laws.specs.World.{setting}
 use Rattle.stability_laws.specs.Plans.{prefixes_of}
 use Rattle.route_choice.specs.declared.round_tables.RoundTables.{RoundTables}
 use Rattle.route_choice.specs.RoundTables.{round_routing}
 use Rattle.leak_round.specs.Growth.{GrowsBy}
+use Rattle.stability_laws.specs.World.{setting_in}
 use Rattle.leak_round.specs.Tables.{kept_in, IsRound, AreRoundsFull}
 use Rattle.leak_round.proofs.Listing.{cost_more}
 use Rattle.leak_round.proofs.Keeping.{announced_kept, room_left, grows_on}
@@ -15,32 +14,32 @@ use Rattle.leak_round.proofs.AllRounds.{AreRoundsSoFar, rounds_more}
 use Rattle.leak_round.proofs.rounds.make_rounds.Goals as goal
 
 pub make_round-requires-clause-announced : goal.make_round-requires-clause-announced
-make_round-requires-clause-announced g c = announced_kept c.args.pool.now c.loop-past.pool c.loop-past.invariant.so_far.keeps c.args.plan.now c.args.announced.now c.requires.announced
+make_round-requires-clause-announced g c = announced_kept c.args.pool.now c.loop-past.pool c.loop-past.invariant.so_far.keeps c.args.building.now.plan.now c.args.building.now.announced.now c.requires.announced
 
 pub make_round-requires-clause-room : goal.make_round-requires-clause-room
 make_round-requires-clause-room g c =
-    let size = length (prefixes_of c.args.plan.now) in
+    let size = length (prefixes_of c.args.building.now.plan.now) in
     let next : c.loop-past.past + 1 ≤ c.args.rounds = omega arith in
     let within : (c.loop-past.past + 1) * size ≤ c.args.rounds * size = mul-le-mul_right size next in
     room_left c.args.pool.now c.loop-past.pool (c.loop-past.past * size) size (c.args.rounds * size) c.loop-past.invariant.grows c.requires.room (omega (arith, within))
 
 -- the cost stays within the bound of all rounds where a round has ended, also with an error
 pub returns-in_err-next-clause-cost : goal.returns-in_err-next-clause-cost
-returns-in_err-next-clause-cost g c = cost_more c.args.steps.now c.loop-past.steps c.make_round.new.steps (2 * as_count c.args.graph.now * length (prefixes_of c.args.plan.now)) c.loop-past.past c.args.rounds c.loop-past.invariant.cost c.make_round.ensures.cost (omega arith)
+returns-in_err-next-clause-cost g c = cost_more c.args.steps.now c.loop-past.steps c.make_round.new.steps (2 * as_count c.args.building.now.world.now.graph.now * length (prefixes_of c.args.building.now.plan.now)) c.loop-past.past c.args.rounds c.loop-past.invariant.cost c.make_round.ensures.cost (omega arith)
 
 pub returns-in-Err-clause-cost : goal.returns-in-Err-clause-cost
-returns-in-Err-clause-cost g c = cost_more c.args.steps.now c.loop-past.steps c.make_round.new.steps (2 * as_count c.args.graph.now * length (prefixes_of c.args.plan.now)) c.loop-past.past c.args.rounds c.loop-past.invariant.cost c.make_round.ensures.cost (omega arith)
+returns-in-Err-clause-cost g c = cost_more c.args.steps.now c.loop-past.steps c.make_round.new.steps (2 * as_count c.args.building.now.world.now.graph.now * length (prefixes_of c.args.building.now.plan.now)) c.loop-past.past c.args.rounds c.loop-past.invariant.cost c.make_round.ensures.cost (omega arith)
 
 pub loop-past-preserved : goal.loop-past-preserved
 loop-past-preserved g c =
-    let at = λ (p : PrefixValue). setting g.P.RoutePolicy.meaning c.args.graph.now c.args.book.now (g.V.OriginStates.state_of c.args.states.now p) in
-    let plan = c.args.plan.now in
+    let at = setting_in g.P.RoutePolicy.meaning g.V.OriginStates.state_of c.args.building.now.world.now in
+    let plan = c.args.building.now.plan.now in
     let first = c.args.pool.now in
     let old = c.loop-past.invariant in
     let xs : List RoundTables = c.loop-past.tables.items in
     let t = c.in_ok-next.next in
     let size = length (prefixes_of plan) in
-    let is : c.as_slice.result.now ≡ xs = c.as_slice.ensures.value in
+    let is : c.as_slice-earlier.result.now ≡ xs = c.as_slice-earlier.ensures.value in
     let now = c.in_ok-next.ensures in
     let next = c.make_round.new.pool in
     let number : c.loop-past.past + 1 ≡ suc (length xs) = omega (arith, old.count) in
@@ -53,7 +52,7 @@ loop-past-preserved g c =
       count = ap length items ∙ length-append xs (t ∷ []) ∙ ap (λ n. n + 1) old.count;
       grows = grows_on first c.loop-past.pool next (150000 * (c.loop-past.past * size)) (150000 * size) (150000 * ((c.loop-past.past + 1) * size)) old.grows now.grows (omega arith);
       scratch = c.in_ok-next.ensures.scratch;
-      cost = cost_more c.args.steps.now c.loop-past.steps c.make_round.new.steps (2 * as_count c.args.graph.now * size) c.loop-past.past (c.loop-past.past + 1) old.cost c.make_round.ensures.cost (omega arith);
+      cost = cost_more c.args.steps.now c.loop-past.steps c.make_round.new.steps (2 * as_count c.args.building.now.world.now.graph.now * size) c.loop-past.past (c.loop-past.past + 1) old.cost c.make_round.ensures.cost (omega arith);
     }
 
 pub returns-clause-full : goal.returns-clause-full
@@ -69,9 +68,9 @@ pub returns-clause-keeps : goal.returns-clause-keeps
 returns-clause-keeps g c = c.loop-past.invariant.so_far.keeps
 
 pub make_round-requires-clause-earlier : goal.make_round-requires-clause-earlier
-make_round-requires-clause-earlier g c = subst (AreRoundsFull c.loop-past.pool c.args.plan.now) (sym c.as_slice.ensures.value) c.loop-past.invariant.so_far.full
+make_round-requires-clause-earlier g c = subst (AreRoundsFull c.loop-past.pool c.args.building.now.plan.now) (sym c.as_slice-earlier.ensures.value) c.loop-past.invariant.so_far.full
 
 pub returns-clause-grows : goal.returns-clause-grows
 returns-clause-grows g c =
     let whole : c.loop-past.past ≡ c.args.rounds = omega arith in
-    subst (λ (n : ℕ). GrowsBy c.args.pool.now c.loop-past.pool (150000 * (n * length (prefixes_of c.args.plan.now)))) whole c.loop-past.invariant.grows
+    subst (λ (n : ℕ). GrowsBy c.args.pool.now c.loop-past.pool (150000 * (n * length (prefixes_of c.args.building.now.plan.now)))) whole c.loop-past.invariant.grows

@@ -1,8 +1,7 @@
 use Rattle.std.proofs.Common.{◌≡◌, ◌+◌, ◌*◌, ◌≤◌, length}
 use Rattle.as_graph.specs.Topology.{as_count}
-use Rattle.net_names.specs.Prefixes.{PrefixValue}
-use Rattle.stability_laws.specs.World.{setting}
 use Rattle.stability_laws.specs.Plans.{prefixes_of}
+use Rattle.stability_laws.specs.World.{setting_in}
 use Rattle.leak_round.specs.Growth.{GrowsBy}
 use Rattle.leak_round.proofs.AllRounds.{AreRoundsSoFar}
 use Rattle.three_pass.specs.Scratches.{IsScratch}
@@ -10,9 +9,9 @@ use Rattle.leak_round.proofs.rounds.make_rounds.Given as goal
 
 abbrev pub invariant-loop-past : goal.invariant-loop-past
 invariant-loop-past g l = record {
-  so_far : AreRoundsSoFar (λ (p : PrefixValue). setting g.P.RoutePolicy.meaning l.graph l.book (g.V.OriginStates.state_of l.states p)) l.plan l.fn.pool l.pool l.tables.items;
+  so_far : AreRoundsSoFar (setting_in g.P.RoutePolicy.meaning g.V.OriginStates.state_of l.building.world.now) l.building.plan.now l.fn.pool l.pool l.tables.items;
   count : length l.tables.items ≡ l.past;
-  grows : GrowsBy l.fn.pool l.pool (150000 * (l.past * length (prefixes_of l.plan)));
-  scratch : IsScratch l.course l.scratch;
-  cost : l.steps ≤ l.fn.steps + 2 * as_count l.graph * length (prefixes_of l.plan) * l.past;
+  grows : GrowsBy l.fn.pool l.pool (150000 * (l.past * length (prefixes_of l.building.plan.now)));
+  scratch : IsScratch l.building.course.now l.scratch;
+  cost : l.steps ≤ l.fn.steps + 2 * as_count l.building.world.now.graph.now * length (prefixes_of l.building.plan.now) * l.past;
 }

@@ -1,12 +1,18 @@
 use Rattle.std.proofs.Common.{sym, subst}
-use Rattle.std.specs.Prelude.{OnSome}
-use Rattle.stability_laws.specs.World.{setting}
+use Rattle.std.specs.Prelude.{IfOk, OnSome}
+use Rattle.net_names.specs.Prefixes.{PrefixValue}
 use Rattle.route_choice.specs.declared.overlay.Overlay.{Overlay}
 use Rattle.route_choice.specs.declared.table.Table.{Table}
 use Rattle.route_choice.specs.RoundTables.{table_at, PutsTable}
-use Rattle.leak_round.specs.Planning.{IsTablePlanned}
+use Rattle.stability_laws.specs.World.{setting_in}
+use Rattle.leak_round.specs.Planning.{CanPlanTable, IsTablePlanned}
 use Rattle.leak_round.proofs.Roomed.{of_both}
 use Rattle.leak_round.proofs.table_plans.plan_in_round.Goals as goal
+
+pub plan_table-requires-clause-can : goal.plan_table-requires-clause-can
+plan_table-requires-clause-can g c =
+    let can = c.requires.can c.in-Some.table.now (sym c.in-Some.ensures.value) in
+    subst (λ (p : PrefixValue). CanPlanTable (setting_in g.P.RoutePolicy.meaning g.V.OriginStates.state_of c.args.planner.now.world.now p) c.args.planner.now.world.now.graph.now p c.args.edit.now.seeds.now c.args.edit.now.touched.now c.args.pool.now c.in-Some.table.now) (sym can.prefix_is) can
 
 pub returns-clause-roomed : goal.returns-clause-roomed
 returns-clause-roomed g c = record {
@@ -20,5 +26,8 @@ returns-clause-roomed g c = record {
 pub returns-clause-planned : goal.returns-clause-planned
 returns-clause-planned g c =
     let puts = subst (λ r. OnSome r (PutsTable c.args.tables.now (c.table_mut.follows.lender c.plan_table.new.table) c.args.prefix c.plan_table.new.table)) c.in-Some.is (c.table_mut.follows.holds c.plan_table.new.table) in
-    of_both (λ (t u : Table) (o : Overlay). IsTablePlanned (setting g.P.RoutePolicy.meaning c.args.graph.now c.args.book.now (g.V.OriginStates.state_of c.args.states.now c.args.prefix)) c.args.graph.now c.args.seeds.now c.args.ases.now c.args.pool.now c.plan_table.new.pool t u c.args.steps.now c.plan_table.new.steps o)
-    (table_at c.args.tables.now c.args.prefix) (table_at (c.table_mut.follows.lender c.plan_table.new.table) c.args.prefix) c.in-Some.table.now c.plan_table.new.table (sym c.in-Some.ensures.value) puts.this c.plan_table.result c.plan_table.ensures.planned
+    let w = setting_in g.P.RoutePolicy.meaning g.V.OriginStates.state_of c.args.planner.now.world.now in
+    let is = (c.requires.can c.in-Some.table.now (sym c.in-Some.ensures.value)).prefix_is in
+    let planned = subst (λ (p : PrefixValue). IfOk c.plan_table.result (IsTablePlanned (w p) c.args.planner.now.world.now.graph.now c.args.edit.now.seeds.now c.args.edit.now.touched.now c.args.pool.now c.plan_table.new.pool c.in-Some.table.now c.plan_table.new.table c.args.steps.now c.plan_table.new.steps)) is c.plan_table.ensures.planned in
+    of_both (λ (t u : Table) (o : Overlay). IsTablePlanned (w c.args.prefix) c.args.planner.now.world.now.graph.now c.args.edit.now.seeds.now c.args.edit.now.touched.now c.args.pool.now c.plan_table.new.pool t u c.args.steps.now c.plan_table.new.steps o)
+    (table_at c.args.tables.now c.args.prefix) (table_at (c.table_mut.follows.lender c.plan_table.new.table) c.args.prefix) c.in-Some.table.now c.plan_table.new.table (sym c.in-Some.ensures.value) puts.this c.plan_table.result planned

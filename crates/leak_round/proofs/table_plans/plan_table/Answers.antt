@@ -1,18 +1,15 @@
 use Rattle.std.proofs.Common.{◌≡◌, ◌≤◌, ℕ, true, false, None, option_map, length, refl, ap, sym, subst, ◌∙◌, arith}
 use Rattle.std.specs.Prelude.{is_some, IsSome}
 use Rattle.net_names.specs.Numbers.{occurs}
-use Rattle.net_names.specs.Prefixes.{PrefixValue}
 use Rattle.as_graph.specs.Topology.{Topology, has, as_count}
 use Rattle.as_graph.proofs.Chains.{distinct_le}
 use Rattle.path_pool.specs.declared.pool.PathPool.{PathPool}
-use Rattle.stability_laws.specs.World.{setting}
 use Rattle.route_choice.specs.declared.overlay.Overlay.{Overlay}
 use Rattle.route_choice.specs.declared.table.Table.{Table}
-use Rattle.route_choice.specs.Routings.{entry_of, routing_of, seeds_of, table_routing}
+use Rattle.route_choice.specs.Routings.{entry_of, routing_of}
 use Rattle.route_choice.specs.Slots.{over}
 use Rattle.route_choice.specs.Tables.{held_at, places_of}
-use Rattle.dirty_recompute.specs.Exact.{IsExact}
-use Rattle.dirty_recompute.specs.Resources.{has_change, FewNewCells}
+use Rattle.dirty_recompute.specs.Resources.{FewNewCells}
 use Rattle.leak_round.specs.Overlays.{IsListed}
 use Rattle.leak_round.proofs.Counting.{few_entries}
 use Rattle.leak_round.proofs.table_plans.plan_table.Goals as goal
@@ -35,12 +32,11 @@ returns-clause-planned g c =
     let pool = c.args.pool.now in
     let pool' = c.plan_edit.new.pool in
     let listed : IsListed o = record { whole = c.len-changes.ensures.listed; apart = c.len-changes.ensures.apart } in
-    let exact = subst (λ (p : PrefixValue). IsExact (setting g.P.RoutePolicy.meaning c.args.graph.now c.args.book.now (g.V.OriginStates.state_of c.args.states.now p)) (seeds_of pool c.args.seeds.now) (table_routing pool c.args.table.now) (routing_of pool' c.plan_edit.new.table o) (has_change o)) c.requires.can.prefix_is now.exact in
-    let few = few_ases c.args.graph.now pool pool' c.plan_edit.new.table o now.cells exact.stable.only_ases in
+    let few = few_ases c.args.planner.now.world.now.graph.now pool pool' c.plan_edit.new.table o now.cells now.exact.stable.only_ases in
     let listed_few = few_places pool pool' o now.cells listed in
     let most : length now.cells.ases ≤ 150000 = omega (arith, few, c.as_count-count.ensures.value, c.as_count-count.ensures.few) in
     record {
-      exact = exact;
+      exact = now.exact;
       enough = now.enough;
       spare = now.spare;
       listed = listed;

@@ -17,5 +17,5 @@ returns-clause-told g c =
     let Told = λ (cs : List Change) (o : Option ℕ) (rounds : ℕ) (d : RoundsDone). (round : ℕ) → 1 ≤ round → round ≤ rounds → ListsRising nat_cmp (IsToldOf cs o round) (ases_told d round) in
     let xs : c.as_slice.result.now ≡ c.plan_rounds.new.changes.items = c.as_slice.ensures.value in
     let count : c.len-rounds.result ≡ length c.args.tables.now.items = omega (arith, c.len-rounds.ensures, c.args.tables.now.ok.0) in
-    if_ok (Told c.as_slice.result.now c.edited_asn.result c.len-rounds.result) (Told c.plan_rounds.new.changes.items (option_map (λ e. e.asn) c.args.edited.now) (length c.args.tables.now.items)) c.listed.result c.listed.ensures.told
+    if_ok (Told c.as_slice.result.now c.edited_asn.result c.len-rounds.result) (Told c.plan_rounds.new.changes.items (option_map (λ e. e.asn) c.args.planner.now.edited.now) (length c.args.tables.now.items)) c.listed.result c.listed.ensures.told
     (λ d h. coe 0 1 (i. Told (xs i) (c.edited_asn.ensures i) (count i) d) h)

@@ -16,7 +16,7 @@ pub make_rounds-requires-clause-announced : goal.make_rounds-requires-clause-ann
 make_rounds-requires-clause-announced g c =
     let plan = c.args.plan in
     let pool = c.announce_all.new.pool in
-    subst (AreAnnounced pool plan) (sym c.deref.ensures.value) (all_announced pool plan c.in_ok-announced.announced.items c.in_ok-announced.ensures.so_far c.in_ok-announced.ensures.whole c.in_ok-announced.ensures.few)
+    subst (AreAnnounced pool plan) (sym c.as_slice.ensures.value) (all_announced pool plan c.in_ok-announced.announced.items c.in_ok-announced.ensures.so_far c.in_ok-announced.ensures.whole c.in_ok-announced.ensures.few)
 
 pub make_rounds-requires-clause-room : goal.make_rounds-requires-clause-room
 make_rounds-requires-clause-room g c =
@@ -27,7 +27,7 @@ make_rounds-requires-clause-room g c =
 
 pub returns-clause-only : goal.returns-clause-only
 returns-clause-only g c = λ other are before prefix less known a.
-    c.one_family.ensures c.args.graph.now c.args.book.now (λ (p : PrefixValue). g.V.OriginStates.state_of c.args.states.now p) c.args.plan c.args.rounds other (kept_in c.make_rounds.new.pool c.in_ok-tables.tables.items) c.requires.no_cycle are c.in_ok-tables.ensures.stable before prefix less known a
+    c.one_family.ensures c.args.world.now.graph.now c.args.world.now.book.now (λ (p : PrefixValue). g.V.OriginStates.state_of c.args.world.now.states.now p) c.args.plan c.args.rounds other (kept_in c.make_rounds.new.pool c.in_ok-tables.tables.items) c.requires.no_cycle are c.in_ok-tables.ensures.stable before prefix less known a
 
 pub returns-clause-cells : goal.returns-clause-cells
 returns-clause-cells g c =

@@ -1,8 +1,7 @@
 use Rattle.std.proofs.Common.{List, refl, sym, subst, ◌∙◌, arith}
 use Rattle.std.specs.Option.{option_copied}
 use Rattle.std.proofs.lemmas.Bool.{true≢false}
-use Rattle.net_names.specs.Prefixes.{PrefixValue}
-use Rattle.stability_laws.specs.World.{setting}
+use Rattle.stability_laws.specs.World.{setting_in}
 use Rattle.leak_round.specs.declared.announced.Announced.{Announced}
 use Rattle.leak_round.specs.Announced.{AreAnnounced}
 use Rattle.leak_round.specs.Edited.{announced_after, prefix_edited, seeds_after}
@@ -28,18 +27,20 @@ edit_if_any-requires-clause-counts g c =
 pub plan_and_tell-requires-clause-can : goal.plan_and_tell-requires-clause-can
 plan_and_tell-requires-clause-can g c =
     let r = c.args.self.now in
-    let w = (λ (p : PrefixValue). setting g.P.RoutePolicy.meaning c.args.graph.now c.args.book.now (g.V.OriginStates.state_of c.args.states.now p)) in
-    subst (λ (xs : List Announced). CanPlan w c.args.graph.now (touches c.args.touched.now) r.plan (seeds_after c.in_ok-edited.edited r.plan) xs (announced_after c.in_ok-edited.edited xs) c.edit_if_any.new.pool r.tables.items) (sym c.deref-3.ensures.value)
-    (can_start r.plan r.announced.items r.pool c.edit_if_any.new.pool r.limits r.announcements (option_copied c.args.edit) c.in_ok-edited.edited c.in_ok-edited.ensures.made w c.args.graph.now (touches c.args.touched.now) r.tables.items r.full (λ p b. refl) c.requires.announcers c.requires.entries c.requires.right)
+    let w = (setting_in g.P.RoutePolicy.meaning g.V.OriginStates.state_of c.args.world.now) in
+    subst (λ (xs : List Announced). CanPlan w c.args.world.now.graph.now (touches c.args.touched.now) r.plan (seeds_after c.in_ok-edited.edited r.plan) xs (announced_after c.in_ok-edited.edited xs) c.edit_if_any.new.pool r.tables.items) (sym c.as_slice.ensures.value)
+    (can_start r.plan r.announced.items r.pool c.edit_if_any.new.pool r.limits r.announcements (option_copied c.args.edit) c.in_ok-edited.edited c.in_ok-edited.ensures.made w c.args.world.now.graph.now (touches c.args.touched.now) r.tables.items r.full (λ p b. refl) c.requires.announcers c.requires.entries c.requires.right)
 
-pub plan_and_tell-requires-clause-own : goal.plan_and_tell-requires-clause-own
-plan_and_tell-requires-clause-own g c =
+pub invariant_of-planner : goal.invariant_of-planner
+invariant_of-planner g c =
     let r = c.args.self.now in
-    coe 1 0 (i. AreOwnSeeds r.plan (c.deref-3.ensures.value i) (c.deref-4.ensures.value i)) (subst (λ (xs : List Announced). AreOwnSeeds r.plan xs c.fill_own_seeds.new.own.items) c.deref.ensures.value c.fill_own_seeds.ensures)
-
-pub plan_and_tell-requires-clause-others : goal.plan_and_tell-requires-clause-others
-plan_and_tell-requires-clause-others g c =
-    subst (λ (xs : List Announced). AreOthersKept (prefix_edited c.in_ok-edited.edited) xs (announced_after c.in_ok-edited.edited xs)) (c.deref-2.ensures.value ∙ sym c.deref-3.ensures.value) c.in_ok-edited.ensures.others
+    record {
+      no_cycle = c.requires.no_cycle;
+      last = c.requires.last;
+      own_seeds = coe 1 0 (i. AreOwnSeeds r.plan (c.as_slice.ensures.value i) (c.as_slice-2.ensures.value i)) (subst (λ (xs : List Announced). AreOwnSeeds r.plan xs c.fill_own_seeds.new.own.items) c.deref.ensures.value c.fill_own_seeds.ensures);
+      fresh = c.in_ok-edited.ensures.own;
+      others = subst (λ (xs : List Announced). AreOthersKept (prefix_edited c.in_ok-edited.edited) xs (announced_after c.in_ok-edited.edited xs)) (c.deref-2.ensures.value ∙ sym c.as_slice.ensures.value) c.in_ok-edited.ensures.others;
+    }
 
 pub plan_and_tell-requires-clause-room : goal.plan_and_tell-requires-clause-room
 plan_and_tell-requires-clause-room g c =
@@ -81,8 +82,8 @@ returns-in-Ok-clause-open g c =
       planned = refl;
       holds = λ k. omega (arith, now.paid.holds k, made.holds k, r.closed c.requires.closed k, now.same.uses k);
       changes = now.planned.changes;
-      differs = laid_differs (λ (p : PrefixValue). setting g.P.RoutePolicy.meaning c.args.graph.now c.args.book.now (g.V.OriginStates.state_of c.args.states.now p)) c.args.graph.now (touches c.args.touched.now) r.plan (seeds_after c.in_ok-edited.edited r.plan) pool c.plan_and_tell.new.tables.items c.plan_and_tell.new.changes.items c.args.steps.now c.plan_and_tell.new.steps now.planned more full;
-      few = few_laid (λ (p : PrefixValue). setting g.P.RoutePolicy.meaning c.args.graph.now c.args.book.now (g.V.OriginStates.state_of c.args.states.now p)) c.args.graph.now (touches c.args.touched.now) r.plan (seeds_after c.in_ok-edited.edited r.plan) pool c.plan_and_tell.new.tables.items c.plan_and_tell.new.changes.items c.args.steps.now c.plan_and_tell.new.steps now.planned more full (omega (arith, c.as_count-count.ensures.value, c.as_count-count.ensures.few)) (λ p b. refl);
+      differs = laid_differs (setting_in g.P.RoutePolicy.meaning g.V.OriginStates.state_of c.args.world.now) c.args.world.now.graph.now (touches c.args.touched.now) r.plan (seeds_after c.in_ok-edited.edited r.plan) pool c.plan_and_tell.new.tables.items c.plan_and_tell.new.changes.items c.args.steps.now c.plan_and_tell.new.steps now.planned more full;
+      few = few_laid (setting_in g.P.RoutePolicy.meaning g.V.OriginStates.state_of c.args.world.now) c.args.world.now.graph.now (touches c.args.touched.now) r.plan (seeds_after c.in_ok-edited.edited r.plan) pool c.plan_and_tell.new.tables.items c.plan_and_tell.new.changes.items c.args.steps.now c.plan_and_tell.new.steps now.planned more full (omega (arith, c.as_count-count.ensures.value, c.as_count-count.ensures.few)) (λ p b. refl);
       edited = edited_kept next pool r.plan c.in_ok-edited.edited now.paid.keeps made.seeds;
       others = subst (λ (xs : List Announced). AreOthersKept (prefix_edited c.in_ok-edited.edited) xs (announced_after c.in_ok-edited.edited xs)) c.deref-2.ensures.value c.in_ok-edited.ensures.others;
       own = c.in_ok-edited.ensures.own;
@@ -108,7 +109,7 @@ returns-in-Ok-clause-stable g c =
     let pool = c.plan_and_tell.new.pool in
     let now = c.in-Ok.ensures in
     let full = (now.same.full pool r.plan (rounds_full_kept r.pool pool (keeps_on r.pool next pool made.keeps now.paid.keeps) r.plan r.tables.items r.full)) in
-    rounds_stable (λ (p : PrefixValue). setting g.P.RoutePolicy.meaning c.args.graph.now c.args.book.now (g.V.OriginStates.state_of c.args.states.now p)) c.args.graph.now (touches c.args.touched.now) r.plan (seeds_after c.in_ok-edited.edited r.plan) pool c.plan_and_tell.new.tables.items c.plan_and_tell.new.changes.items c.args.steps.now c.plan_and_tell.new.steps now.planned (subst (AreRoundsPlanned r.plan c.plan_and_tell.new.changes.items) (sym now.same.count) now.more) full (prefixes_stay r.plan r.announced.items r.pool next r.limits r.announcements (option_copied c.args.edit) c.in_ok-edited.edited made)
+    rounds_stable (setting_in g.P.RoutePolicy.meaning g.V.OriginStates.state_of c.args.world.now) c.args.world.now.graph.now (touches c.args.touched.now) r.plan (seeds_after c.in_ok-edited.edited r.plan) pool c.plan_and_tell.new.tables.items c.plan_and_tell.new.changes.items c.args.steps.now c.plan_and_tell.new.steps now.planned (subst (AreRoundsPlanned r.plan c.plan_and_tell.new.changes.items) (sym now.same.count) now.more) full (prefixes_stay r.plan r.announced.items r.pool next r.limits r.announcements (option_copied c.args.edit) c.in_ok-edited.edited made)
 
 pub returns-in-Ok-clause-enough : goal.returns-in-Ok-clause-enough
 returns-in-Ok-clause-enough g c =
@@ -118,7 +119,7 @@ returns-in-Ok-clause-enough g c =
     let pool = c.plan_and_tell.new.pool in
     let now = c.in-Ok.ensures in
     let full = (now.same.full pool r.plan (rounds_full_kept r.pool pool (keeps_on r.pool next pool made.keeps now.paid.keeps) r.plan r.tables.items r.full)) in
-    steps_enough (λ (p : PrefixValue). setting g.P.RoutePolicy.meaning c.args.graph.now c.args.book.now (g.V.OriginStates.state_of c.args.states.now p)) c.args.graph.now (touches c.args.touched.now) r.plan (seeds_after c.in_ok-edited.edited r.plan) pool c.plan_and_tell.new.tables.items c.plan_and_tell.new.changes.items c.args.steps.now c.plan_and_tell.new.steps now.planned (subst (AreRoundsPlanned r.plan c.plan_and_tell.new.changes.items) (sym now.same.count) now.more) full
+    steps_enough (setting_in g.P.RoutePolicy.meaning g.V.OriginStates.state_of c.args.world.now) c.args.world.now.graph.now (touches c.args.touched.now) r.plan (seeds_after c.in_ok-edited.edited r.plan) pool c.plan_and_tell.new.tables.items c.plan_and_tell.new.changes.items c.args.steps.now c.plan_and_tell.new.steps now.planned (subst (AreRoundsPlanned r.plan c.plan_and_tell.new.changes.items) (sym now.same.count) now.more) full
 
 pub returns-in-Ok-clause-rounds : goal.returns-in-Ok-clause-rounds
 returns-in-Ok-clause-rounds g c = c.in-Ok.ensures.same.count
