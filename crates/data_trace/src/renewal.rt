@@ -1,10 +1,9 @@
 //! New next hops, and the ends that they change.
-ghost use Rattle.std.specs.Prelude.{◌≡◌, ℕ, ◌<◌, ◌≤◌, [], true, false, length, vec_capacity};
+ghost use Rattle.std.specs.Prelude.{◌≡◌, ℕ, ◌<◌, ◌≤◌, true, false, length, vec_capacity};
 ghost use Rattle.net_names.specs.Numbers.{occurs};
 ghost use Rattle.as_graph.specs.Topology.{has};
 ghost use Rattle.stability_laws.specs.Book.{policy_at};
 ghost use Rattle.data_trace.specs.Marks.{next_of, hop_at, IsWithin, AreEnds};
-ghost use Rattle.data_trace.specs.Lists.{HasLists};
 ghost use Rattle.data_trace.specs.Keeping.{HasRoom, AreKept};
 ghost use Rattle.data_trace.specs.Sums.{room_of};
 ghost use Rattle.data_trace.specs.Counted.{AreCounted};
@@ -16,11 +15,8 @@ use crate::counting::put_group;
 use crate::keeping::Lists;
 use crate::leaving::detach;
 use crate::lists::relink;
-use crate::packed::{PackedHop, PackedMark};
-use crate::places::Group;
 use crate::source::Source;
 use crate::spreading::spread;
-use crate::sums::Sums;
 use crate::walks::settle_each;
 use as_graph::Graph;
 use as_places::AsPlaces;
