@@ -19,6 +19,7 @@ use Rattle.stability_laws.specs.Stable.{IsRight}
 use Rattle.stability_laws.specs.World.{setting}
 use Rattle.stability_laws.specs.SeedEdits.{IsEditOf, IsEditWithin, edit_asn, edited}
 use Rattle.stability_laws.specs.declared.seed_plan.edits.SeedEdit.{SeedEdit}
+use Rattle.stability_laws.specs.declared.world.World.{World}
 use Rattle.leak_round.specs.Edited.{plan_edited}
 use Rattle.leak_round.specs.Limits.{IsWithinLimits}
 use Rattle.leak_round.specs.declared.rounds.Rounds.{Rounds}
@@ -33,6 +34,10 @@ pub record Ground : Type 0 where
   pub graph : Topology
   pub payloads : Payloads
   pub book : PolicyBook Kind
+
+-- what they rest on of a world that is lent
+abbrev pub ground_in : World Kind Payloads → Ground
+ground_in w = record { graph = w.graph.now; payloads = w.states.now; book = w.book.now }
 
 -- the policy of an AS
 abbrev pub policy_on : Ground → ℕ → Policy

@@ -19,6 +19,7 @@ ghost use Rattle.sim_core.specs.World.{HasCycle, named};
 ghost use Rattle.leak_round.specs.declared.rounds.TheConstants.{MOST_CELLS};
 
 use crate::changing::change;
+use crate::difference::Difference;
 use crate::marking::{set_mark, set_mark_back};
 use crate::naming::is_other;
 use crate::planning::copy_of;
@@ -30,7 +31,7 @@ use origin_validation::States;
 use policy_kinds::Kind;
 use route_choice::Steps;
 use scenario_text::MOST_ANNOUNCEMENTS;
-use stability_laws::{SeedEdit, right_follows};
+use stability_laws::{SeedEdit, World, right_follows};
 use std::alloc::Global;
 use std::sync::ledger::Ledger;
 
@@ -129,19 +130,18 @@ impl Sim {
         }
         let _count = self.graph.as_count();
         let states = States::of(&self.vrps);
-        match change(
-            alloc,
-            &self.graph,
-            &self.book,
-            &states,
-            &[asn],
-            &touched,
-            Some(edit),
-            &mut self.ranks,
-            &mut self.rounds,
-            &mut self.watches,
-            steps,
-        ) {
+        let world = World {
+            graph: &self.graph,
+            book: &self.book,
+            states: &states,
+        };
+        let difference = Difference {
+            ends: &[asn],
+            touched: &touched,
+            edit: Some(edit),
+        };
+        let (ranks, rounds, watches) = (&mut self.ranks, &mut self.rounds, &mut self.watches);
+        match change(alloc, &world, &difference, ranks, rounds, watches, steps) {
             Ok(changed) => Ok(changed),
             Err(_) => {
                 set_mark_back(&mut self.graph, asn, was);

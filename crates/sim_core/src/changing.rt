@@ -10,15 +10,17 @@ ghost use Rattle.leak_round.specs.Edited.{plan_edited};
 ghost use Rattle.leak_round.specs.Rounds.{is_open, kept as kept_rounds, plan_of, pool_of, round_count};
 ghost use Rattle.leak_round.specs.Touched.{touches};
 ghost use Rattle.sim_core.specs.Editing.{IsChanged, IsSmall, IsUnchanged, ground_less};
-ghost use Rattle.sim_core.specs.Ground.{AreSeenAlike, BelongTo, DiffersAround, Ground as AGround, IsSeedChange};
+ghost use Rattle.sim_core.specs.Ground.{AreSeenAlike, BelongTo, DiffersAround, Ground as AGround, IsSeedChange, ground_in};
 ghost use Rattle.sim_core.specs.Steps.{AreFewSteps};
 ghost use Rattle.sim_core.specs.Watching.{addrs_in};
 ghost use Rattle.leak_round.specs.declared.rounds.TheConstants.{MOST_CELLS};
 
+use crate::difference::Difference;
 use crate::renewing::{make_room, renew};
 use crate::watching::RoundWatches;
 use crate::{Changed, Sim};
-use as_graph::{Graph, links_are_sound, ranks_fit};
+use as_graph::{links_are_sound, ranks_fit};
+use dirty_recompute::PlannedRanks;
 use leak_round::{Rounds, Touched};
 use net_names::{Asn, NoMemory, Vrp};
 use origin_validation::States;
@@ -27,23 +29,17 @@ use rank_order::Ranks;
 use roa_table::Vrps;
 use route_choice::Steps;
 use stability_laws::{
-    Book, SeedEdit, offer_path, one_family, paths_go_on, plans_are_sound, right_by_offers,
-    right_follows,
+    World, offer_path, one_family, paths_go_on, plans_are_sound, right_by_offers, right_follows,
 };
 use std::alloc::Global;
 use std::sync::ledger::Ledger;
 
-/// Takes ranks, rounds and watches to an edited graph, policies and states, and to an edit of
-/// announcements, if there is one. The ends are the ASes whose presence, links, policy or announcement
-/// is edited, and the touched ASes those whose entries may be wrong. It says how many entries differ.
+/// Takes ranks, rounds and watches to an edited world, and to an edit of announcements, if there is one. It
+/// says how many entries differ.
 pub fn change<L: Ledger>(
     alloc: Global,
-    graph: &Graph,
-    book: &Book<Kind>,
-    states: &States<'_>,
-    ends: &[Asn],
-    touched: &Touched,
-    edit: Option<&SeedEdit>,
+    world: &World<'_, Kind, States<'_>>,
+    difference: &Difference<'_>,
     ranks: &mut Ranks,
     rounds: &mut Rounds,
     watches: &mut Vec<RoundWatches>,
@@ -52,13 +48,13 @@ pub fn change<L: Ledger>(
     requires closed { is_open rounds.old ≡ false }
     requires few_cells { live_count (pool_of rounds.old) ≤ MOST_CELLS }
     requires few { round_count rounds.old ≤ 4 }
-    requires no_cycle { HasNoProviderCycle (relation graph.now) }
-    requires seeds { IsSeedChange (plan_of rounds.old) graph.now ends.now (option_copied edit) }
-    requires from { (old : AGround) × BelongTo old ranks.old rounds.old watches.old.items × DiffersAround old (record { graph = graph.now; payloads = states.now; book = book.now }) rounds.old ends.now (touches touched.now) }
-    ensures belong { OnOk result (BelongTo (record { graph = graph.now; payloads = states.now; book = book.now }) ranks.new rounds.new watches.new.items) }
+    requires no_cycle { HasNoProviderCycle (relation world.now.graph.now) }
+    requires seeds { IsSeedChange (plan_of rounds.old) world.now.graph.now difference.now.ends.now (option_copied difference.now.edit) }
+    requires from { (old : AGround) × BelongTo old ranks.old rounds.old watches.old.items × DiffersAround old (ground_in world.now) rounds.old difference.now.ends.now (touches difference.now.touched.now) }
+    ensures belong { OnOk result (BelongTo (ground_in world.now) ranks.new rounds.new watches.new.items) }
     ensures changed { IfOk result (λ c. HasChanges (plan_of rounds.new) (round_count rounds.new) (kept_rounds rounds.old) (kept_rounds rounds.new) c.routes) }
-    ensures plan { OnOk result (plan_of rounds.new ≡ plan_edited (option_copied edit.entry) (plan_of rounds.old)) }
-    ensures quick { OnOk result (AreFewSteps (relation graph.now) (plan_of rounds.old) (plan_of rounds.new) (kept_rounds rounds.old) (kept_rounds rounds.new) (λ p a. touches touched.now p a ≡ true) (round_count rounds.old) steps.old steps.new) }
+    ensures plan { OnOk result (plan_of rounds.new ≡ plan_edited (option_copied difference.now.edit) (plan_of rounds.old)) }
+    ensures quick { OnOk result (AreFewSteps (relation world.now.graph.now) (plan_of rounds.old) (plan_of rounds.new) (kept_rounds rounds.old) (kept_rounds rounds.new) (λ p a. touches difference.now.touched.now p a ≡ true) (round_count rounds.old) steps.old steps.new) }
     ensures count { round_count rounds.new ≡ round_count rounds.old }
     ensures closed { is_open rounds.new ≡ false }
     ensures addrs { map addrs_in watches.new.items ≡ map addrs_in watches.old.items }
@@ -72,19 +68,29 @@ pub fn change<L: Ledger>(
     one_family::<Kind>();
     paths_go_on::<Kind>();
     plans_are_sound(rounds.seed_plan());
-    make_room(graph, watches)?;
-    let Ok(rank_plan) = ranks.plan(alloc, graph, ends) else {
+    make_room(world.graph, watches)?;
+    let Ok(rank_plan) = ranks.plan(alloc, world.graph, difference.ends) else {
         return Err(NoMemory);
     };
-    let Ok(plan) = rounds.plan(
-        alloc, graph, ranks, &rank_plan, book, states, touched, edit, steps,
-    ) else {
+    let planned = PlannedRanks {
+        ranks,
+        plan: &rank_plan,
+    };
+    let (touched, edit) = (difference.touched, difference.edit);
+    let Ok(plan) = rounds.plan(alloc, world, &planned, touched, edit, steps) else {
         return Err(NoMemory);
     };
     ranks.commit(rank_plan);
     let done = rounds.commit(plan);
     plans_are_sound(rounds.seed_plan());
-    renew(graph, rounds, book, &done, ends, watches);
+    renew(
+        world.graph,
+        rounds,
+        world.book,
+        &done,
+        difference.ends,
+        watches,
+    );
     Ok(Changed {
         routes: done.count(),
     })
@@ -112,11 +118,11 @@ impl Sim {
 
     // Takes what is kept to the graph and the policies as they are now, and to all payloads, or to all
     // but one. The ends are the ASes whose presence, links or policy differ.
-    pub(crate) fn change_at<L: Ledger>(
+    pub(crate) fn change_at<'a, L: Ledger>(
         &mut self,
         alloc: Global,
-        ends: &[Asn],
-        touched: &Touched,
+        ends: &'a [Asn],
+        touched: &'a Touched,
         but: Option<Vrp>,
         steps: &mut Steps<L>,
     ) -> Result<Changed, NoMemory>
@@ -128,18 +134,17 @@ impl Sim {
         ensures err { OnErr result (IsUnchanged self.old self.new) }
     {
         let states = states_but(&self.vrps, but);
-        change(
-            alloc,
-            &self.graph,
-            &self.book,
-            &states,
+        let world = World {
+            graph: &self.graph,
+            book: &self.book,
+            states: &states,
+        };
+        let difference = Difference {
             ends,
             touched,
-            None,
-            &mut self.ranks,
-            &mut self.rounds,
-            &mut self.watches,
-            steps,
-        )
+            edit: None,
+        };
+        let (ranks, rounds, watches) = (&mut self.ranks, &mut self.rounds, &mut self.watches);
+        change(alloc, &world, &difference, ranks, rounds, watches, steps)
     }
 }

@@ -17,6 +17,7 @@ use net_names::NoMemory;
 use origin_validation::States;
 use route_choice::Steps;
 use scenario_text::Edit;
+use stability_laws::World;
 use std::alloc::Global;
 use std::sync::ledger::Ledger;
 
@@ -40,7 +41,12 @@ impl Sim {
             return Ok(());
         }
         let states = States::of(&self.vrps);
-        self.rounds.tidy(alloc, &self.graph, &self.ranks, &self.book, &states, steps)
+        let world = World {
+            graph: &self.graph,
+            book: &self.book,
+            states: &states,
+        };
+        self.rounds.tidy(alloc, &world, &self.ranks, steps)
     }
 
     // Edits the world, where few cells are live.

@@ -10,6 +10,7 @@
 mod announcements;
 mod answering;
 mod changing;
+mod difference;
 mod editing;
 mod errors;
 mod laws;

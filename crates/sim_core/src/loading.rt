@@ -26,7 +26,7 @@ use rank_order::{RankError, Ranks};
 use roa_table::Vrps;
 use route_choice::Steps;
 use scenario_text::Scenario;
-use stability_laws::Book;
+use stability_laws::{Book, World};
 use std::alloc::Global;
 use std::marker::Brand;
 use std::sync::ledger::{Blank, Ledger};
@@ -64,7 +64,12 @@ fn rounds_of<L: Ledger>(
     let plan = seed_plan(alloc, scenario)?;
     let count = scenario.leak_lists() as u32 + 1;
     let mut steps = Steps::<L>::new(blank);
-    match Rounds::build(alloc, graph, ranks, book, &states, plan, count, &mut steps) {
+    let world = World {
+        graph,
+        book,
+        states: &states,
+    };
+    match Rounds::build(alloc, &world, ranks, plan, count, &mut steps) {
         Ok(rounds) => Ok(rounds),
         Err(_) => Err(NoMemory),
     }

@@ -10,7 +10,7 @@ use Rattle.leak_round.specs.Plans.{ases_told, kept_with, plan_after}
 use Rattle.leak_round.specs.Rounds.{kept, plan_of, round_count}
 use Rattle.leak_round.specs.Touched.{touches}
 use Rattle.sim_core.specs.Families.{Family}
-use Rattle.sim_core.specs.Ground.{Ground}
+use Rattle.sim_core.specs.Ground.{Ground, ground_in}
 use Rattle.sim_core.specs.Watching.{AreRoundWatches, seen_in}
 use Rattle.sim_core.proofs.Grounds.{can_follow, no_entry, no_rank, not_told, only_rounds, plan_quick, rounds_as, seeds_elsewhere, seeds_prefixes, still_fits, still_right}
 use Rattle.sim_core.proofs.Hops.{goes_on_inside}
@@ -23,12 +23,12 @@ returns-in_err-make_room-clause-addrs g c = seen_addrs c.args.watches.now.items 
 pub plan-requires-clause-fits : goal.plan-requires-clause-fits
 plan-requires-clause-fits g c =
     let (old, belong, differs) = c.requires.from in
-    still_fits old (record { graph = c.args.graph.now; payloads = c.args.states.now; book = c.args.book.now }) c.args.ranks.now c.args.rounds.now c.args.watches.now.items c.args.ends.now (touches c.args.touched.now) belong differs c.ranks_fit.ensures
+    still_fits old (ground_in c.args.world.now) c.args.ranks.now c.args.rounds.now c.args.watches.now.items c.args.difference.now.ends.now (touches c.args.difference.now.touched.now) belong differs c.ranks_fit.ensures
 
 pub plan-requires-clause-only : goal.plan-requires-clause-only
 plan-requires-clause-only g c =
     let (old, belong, differs) = c.requires.from in
-    no_rank old (record { graph = c.args.graph.now; payloads = c.args.states.now; book = c.args.book.now }) c.args.ranks.now c.args.rounds.now c.args.watches.now.items c.args.ends.now (touches c.args.touched.now) belong differs c.ranks_fit.ensures c.links_are_sound.ensures
+    no_rank old (ground_in c.args.world.now) c.args.ranks.now c.args.rounds.now c.args.watches.now.items c.args.difference.now.ends.now (touches c.args.difference.now.touched.now) belong differs c.ranks_fit.ensures c.links_are_sound.ensures
 
 pub returns-in_default-clause-addrs : goal.returns-in_default-clause-addrs
 returns-in_default-clause-addrs g c = seen_addrs c.args.watches.now.items c.make_room.new.all.items c.make_room.ensures.seen
@@ -36,37 +36,37 @@ returns-in_default-clause-addrs g c = seen_addrs c.args.watches.now.items c.make
 pub plan-requires-2-clause-entries : goal.plan-requires-2-clause-entries
 plan-requires-2-clause-entries g c =
     let (old, belong, differs) = c.requires.from in
-    no_entry old (record { graph = c.args.graph.now; payloads = c.args.states.now; book = c.args.book.now }) c.args.ranks.now c.args.rounds.now c.args.watches.now.items c.args.ends.now (touches c.args.touched.now) belong differs
+    no_entry old (ground_in c.args.world.now) c.args.ranks.now c.args.rounds.now c.args.watches.now.items c.args.difference.now.ends.now (touches c.args.difference.now.touched.now) belong differs
 
 pub plan-requires-2-clause-right : goal.plan-requires-2-clause-right
 plan-requires-2-clause-right g c =
     let (old, belong, differs) = c.requires.from in
-    still_right old (record { graph = c.args.graph.now; payloads = c.args.states.now; book = c.args.book.now }) c.args.ranks.now c.args.rounds.now c.args.watches.now.items c.args.ends.now (touches c.args.touched.now) belong differs c.right_follows.ensures c.right_by_offers.ensures c.offer_path.ensures c.paths_go_on.ensures (subst IsSound c.seed_plan.ensures c.plans_are_sound.ensures)
+    still_right old (ground_in c.args.world.now) c.args.ranks.now c.args.rounds.now c.args.watches.now.items c.args.difference.now.ends.now (touches c.args.difference.now.touched.now) belong differs c.right_follows.ensures c.right_by_offers.ensures c.offer_path.ensures c.paths_go_on.ensures (subst IsSound c.seed_plan.ensures c.plans_are_sound.ensures)
 
 pub returns-in_default-plan-clause-addrs : goal.returns-in_default-plan-clause-addrs
 returns-in_default-plan-clause-addrs g c = seen_addrs c.args.watches.now.items c.make_room.new.all.items c.make_room.ensures.seen
 
 pub renew-requires-clause-inside : goal.renew-requires-clause-inside
 renew-requires-clause-inside g c =
-    let new : Ground = record { graph = c.args.graph.now; payloads = c.args.states.now; book = c.args.book.now } in
+    let new : Ground = ground_in c.args.world.now in
     let rounds = c.commit-done.new.self in
     let stable = rounds_as new (plan_after c.plan-2.new.self c.in-Ok-plan.plan) (plan_of rounds) (round_count c.plan-2.new.self) (round_count rounds) (kept_with c.plan-2.new.self c.in-Ok-plan.plan) (kept rounds) c.commit-done.ensures.plan c.commit-done.ensures.rounds c.commit-done.ensures.kept c.in-Ok-plan.ensures.stable in
     let sound : IsSound (plan_of rounds) = subst IsSound c.seed_plan-2.ensures c.plans_are_sound-2.ensures in
-    goes_on_inside c.paths_go_on.ensures c.args.graph.now c.args.book.now c.args.states.now (plan_of rounds) (round_count rounds) (kept rounds) sound stable
+    goes_on_inside c.paths_go_on.ensures c.args.world.now.graph.now c.args.world.now.book.now c.args.world.now.states.now (plan_of rounds) (round_count rounds) (kept rounds) sound stable
 
 pub renew-requires-clause-follow : goal.renew-requires-clause-follow
 renew-requires-clause-follow g c =
-    let new : Ground = record { graph = c.args.graph.now; payloads = c.args.states.now; book = c.args.book.now } in
+    let new : Ground = ground_in c.args.world.now in
     let (old, belong, differs) = c.requires.from in
     let rounds = c.commit-done.new.self in
     let was = c.args.rounds.now in
-    let edit = option_copied c.args.edit in
+    let edit = option_copied c.args.difference.now.edit in
     let plan : plan_of rounds ≡ plan_edited edit (plan_of was) = c.commit-done.ensures.plan ∙ c.in-Ok-plan.ensures.edited in
     let count : round_count rounds ≡ round_count was = c.commit-done.ensures.rounds ∙ c.plan-2.ensures.rounds in
     let items = map seen_in c.make_room.new.all.items in
-    can_follow old new was (plan_of was) (plan_of rounds) (round_count was) (kept was) (kept rounds) (ases_told c.commit-done.result) c.args.ends.now (touches c.args.touched.now) differs
-    (ap (λ (p : Plan). p.prefixes) plan ∙ seeds_prefixes (plan_of was) c.args.graph.now c.args.ends.now edit c.requires.seeds)
-    (λ a other p. ap (λ (q : Plan). announces q p a) plan ∙ seeds_elsewhere (plan_of was) c.args.graph.now c.args.ends.now edit c.requires.seeds a other p)
+    can_follow old new was (plan_of was) (plan_of rounds) (round_count was) (kept was) (kept rounds) (ases_told c.commit-done.result) c.args.difference.now.ends.now (touches c.args.difference.now.touched.now) differs
+    (ap (λ (p : Plan). p.prefixes) plan ∙ seeds_prefixes (plan_of was) c.args.world.now.graph.now c.args.difference.now.ends.now edit c.requires.seeds)
+    (λ a other p. ap (λ (q : Plan). announces q p a) plan ∙ seeds_elsewhere (plan_of was) c.args.world.now.graph.now c.args.difference.now.ends.now edit c.requires.seeds a other p)
     (λ round a low high still p.
     c.commit-done.ensures.kept round p a
     ∙ not_told c.plan-2.new.self c.in-Ok-plan.plan round a (ases_told c.commit-done.result round) (c.commit-done.ensures.told round low (omega (arith, high, count))) still p
@@ -76,12 +76,12 @@ renew-requires-clause-follow g c =
 
 pub returns-clause-belong : goal.returns-clause-belong
 returns-clause-belong g c =
-    let new : Ground = record { graph = c.args.graph.now; payloads = c.args.states.now; book = c.args.book.now } in
+    let new : Ground = ground_in c.args.world.now in
     let rounds = c.commit-done.new.self in
     let stable = rounds_as new (plan_after c.plan-2.new.self c.in-Ok-plan.plan) (plan_of rounds) (round_count c.plan-2.new.self) (round_count rounds) (kept_with c.plan-2.new.self c.in-Ok-plan.plan) (kept rounds) c.commit-done.ensures.plan c.commit-done.ensures.rounds c.commit-done.ensures.kept c.in-Ok-plan.ensures.stable in
     record {
       no_cycle = c.requires.no_cycle;
-      ranks_are = λ a. subst (IsRank (relation c.args.graph.now) a) (sym (ap (λ o. unwrap_or o 0) (c.commit.ensures a))) (c.in-Ok.ensures.ranks a);
+      ranks_are = λ a. subst (IsRank (relation c.args.world.now.graph.now) a) (sym (ap (λ o. unwrap_or o 0) (c.commit.ensures a))) (c.in-Ok.ensures.ranks a);
       rounds_are = only_rounds c.one_family.ensures new rounds c.requires.no_cycle stable;
       watching = c.renew.ensures.rows;
     }
@@ -96,5 +96,5 @@ returns-clause-addrs g c = c.renew.ensures.addrs ∙ seen_addrs c.args.watches.n
 
 pub returns-clause-quick : goal.returns-clause-quick
 returns-clause-quick g c =
-    plan_quick (relation c.args.graph.now) c.args.rounds.now c.plan-2.new.self c.commit-done.new.self c.in-Ok-plan.plan (touches c.args.touched.now) c.args.steps.now c.plan-2.new.steps c.in-Ok-plan.ensures.open c.in-Ok-plan.ensures.enough
+    plan_quick (relation c.args.world.now.graph.now) c.args.rounds.now c.plan-2.new.self c.commit-done.new.self c.in-Ok-plan.plan (touches c.args.difference.now.touched.now) c.args.steps.now c.plan-2.new.steps c.in-Ok-plan.ensures.open c.in-Ok-plan.ensures.enough
     c.plan-2.ensures.plan c.commit-done.ensures.plan c.plan-2.ensures.rounds c.plan-2.ensures.kept c.commit-done.ensures.kept
