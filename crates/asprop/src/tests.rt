@@ -2,7 +2,7 @@
 ghost use Rattle.std.specs.Prelude.{◌≡◌, ◌≤◌, [], IfOk};
 
 use crate::run::run;
-use crate::types::Status;
+use task_reading::Status;
 use io_edge::{MemInputs, MemSink};
 use std::alloc::{AllocError, Global};
 use std::process::Abort;
@@ -11,6 +11,7 @@ use std::test::Fail;
 mod announcements;
 mod edits;
 mod faults;
+mod forms;
 mod forwarding;
 mod generated;
 mod long;

@@ -1,7 +1,7 @@
 //! Lines that announce and withdraw.
 use super::scripts::SCRIPT_WORDS;
 use super::{Left, ScriptCase, check_cases, run_in_memory};
-use crate::types::Status;
+use task_reading::Status;
 use io_edge::MemInputs;
 use std::alloc::{AllocError, Global};
 use std::test::Fail;

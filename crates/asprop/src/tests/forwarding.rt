@@ -1,6 +1,6 @@
 //! Where packets go in small worlds, worked by hand.
 use super::{ScriptCase, check_cases};
-use crate::types::Status;
+use task_reading::Status;
 use std::test::Fail;
 
 const WORDS: &[&str] = &["asprop", "rel", "--scenario", "sc", "--script", "cmds"];

@@ -1,6 +1,6 @@
 //! The generated input of so many ASes.
 use super::{ScriptCase, check_cases};
-use crate::types::Status;
+use task_reading::Status;
 use std::test::Fail;
 
 const GENERATED_CASES: [ScriptCase; 1] = [ScriptCase {

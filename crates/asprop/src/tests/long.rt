@@ -2,7 +2,7 @@
 use super::scripts::SCRIPT_WORDS;
 use super::{room, words};
 use crate::run::run;
-use crate::types::Status;
+use task_reading::Status;
 use io_edge::{MemInputs, MemSink};
 use std::alloc::{AllocError, Global};
 use std::test::Fail;

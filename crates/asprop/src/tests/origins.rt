@@ -3,7 +3,7 @@ ghost use Rattle.std.specs.Prelude.{◌≤◌};
 
 use super::{Left, room, words};
 use crate::run::run;
-use crate::types::Status;
+use task_reading::Status;
 use io_edge::{CleanInputs, CleanSink, MemInputs, MemSink};
 use std::alloc::Global;
 use std::test::Fail;

@@ -1,6 +1,6 @@
 //! Payload files, and what validation by them does.
 use super::{ScriptCase, check_cases, run_script};
-use crate::types::Status;
+use task_reading::Status;
 use std::test::Fail;
 
 const ALL_WORDS: &[&str] = &[

@@ -1,7 +1,7 @@
 //! Scripts over a relationship file and a scenario.
 use super::{ScriptCase, check_cases, run_script};
 use crate::laws::answers_are_one_text;
-use crate::types::Status;
+use task_reading::Status;
 use std::test::Fail;
 
 pub(super) const SCRIPT_WORDS: &[&str] = &["asprop", "rel", "--scenario", "sc", "--script", "cmds"];
