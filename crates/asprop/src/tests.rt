@@ -2,11 +2,11 @@
 ghost use Rattle.std.specs.Prelude.{◌≡◌, ◌≤◌, [], IfOk};
 
 use crate::run::run;
-use task_reading::Status;
 use io_edge::{MemInputs, MemSink};
 use std::alloc::{AllocError, Global};
 use std::process::Abort;
 use std::test::Fail;
+use task_reading::Status;
 
 mod announcements;
 mod edits;

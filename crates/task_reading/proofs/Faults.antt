@@ -1,5 +1,5 @@
 -- The faults of the words and the files.
-use Rattle.std.proofs.Common.{◌≡◌, ◌⊎◌, inl, inr, ℕ, List, Option, Some, None, Result, Ok, Err, refl, ap, subst, ◌∙◌, Bool, true, false, cond, nat_lt, if◌then◌else◌}
+use Rattle.std.proofs.Common.{◌≡◌, ◌⊎◌, inl, inr, ℕ, List, Option, Some, None, Result, Ok, Err, refl, ap, subst, ◌∙◌, Bool, true, false, cond}
 use Rattle.caida_reader.specs.Value.{links_of}
 use Rattle.caida_reader.specs.declared.errors.RelError.{RelError}
 use Rattle.scenario_text.specs.Readings.{scenario_of_bytes}

@@ -1,5 +1,5 @@
 -- The statuses and texts of faults, and the numbers of statuses.
-use Rattle.std.specs.Prelude.{ℕ, Bool, if◌then◌else◌, [], ◌∷◌, ◌++◌, codes, Option, unwrap_or, Result, Ok, Err, decimal}
+use Rattle.std.specs.Prelude.{ℕ, [], ◌∷◌, ◌++◌, codes, Option, unwrap_or, decimal}
 use Rattle.clap.specs.Walk.{Text}
 use Rattle.caida_reader.specs.declared.errors.RelError.TheVariants as rel
 use Rattle.roa_table.specs.declared.errors.VrpError.TheVariants as vrp

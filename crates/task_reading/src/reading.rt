@@ -61,7 +61,10 @@ fn read_pieces<I: Inputs>(
     'pieces: while taken <= MAX_RELATION_BYTES {
         let want = (MAX_RELATION_BYTES + 1 - taken).min(most);
         match inputs.take(&mut room[..want]) {
-            Err(Failed) => return Err(AskError::Fault(Fault::InFile(File::Relations, Cause::Unread))),
+            Err(Failed) => return Err(AskError::Fault(Fault::InFile(
+                File::Relations,
+                Cause::Unread,
+            ))),
             Ok(0) => {
                 return match reader.finish() {
                     Ok(links) => Ok(links),
@@ -79,7 +82,11 @@ fn read_pieces<I: Inputs>(
 }
 
 /// Reads the relationship file.
-pub fn read_relations<I: Inputs>(alloc: Global, inputs: &mut I, name: &str) -> Result<Links, AskError>
+pub fn read_relations<I: Inputs>(
+    alloc: Global,
+    inputs: &mut I,
+    name: &str,
+) -> Result<Links, AskError>
     ensures found { ReadsAs (source_of I.holds I.is_sound I.faults inputs.old inputs.new) (Some name.now)
         (λ links. links) result (read_as files.Relations cause.Relation links_of) }
     ensures keeps { KeepsNames I.holds I.is_sound I.faults inputs.old inputs.new }
@@ -106,7 +113,10 @@ fn read_bytes<I: Inputs>(
         Ok(bytes) => Ok(bytes),
         Err(ReadAllError::Memory) => Err(AskError::Memory),
         Err(ReadAllError::ReadFault) => Err(AskError::Fault(Fault::InFile(file, Cause::Unread))),
-        Err(ReadAllError::TooLong) => Err(AskError::Fault(Fault::InFile(file, Cause::TooLong(most)))),
+        Err(ReadAllError::TooLong) => Err(AskError::Fault(Fault::InFile(
+            file,
+            Cause::TooLong(most),
+        ))),
     }
 }
 

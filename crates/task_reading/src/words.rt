@@ -8,9 +8,6 @@ use clap::error::ErrorKind;
 use net_names::{Asn, NoMemory, number, read_asn};
 use std::alloc::Global;
 
-#[cfg(test)]
-mod tests;
-
 /// A form that the words may have.
 #[derive(Clone, Copy)]
 pub enum WordForm<'a> {
