@@ -1,9 +1,8 @@
 -- Answers to lines, one after the other.
-use Rattle.std.proofs.Common.{◌≡◌, ◌<◌, ◌≤◌, ◌+◌, ◌||◌, ℕ, Bool, true, false, List, [], ◌∷◌, ◌++◌, length, take, get_or, Option, Result, Ok, Err, IfOk, OnErr, ap, subst, refl, sym, ◌∙◌, append_assoc, append-nil, arith, length-append, ◌⊎◌, inl, inr, cond, nat_lt, ◌^◌, ◌-◌}
+use Rattle.std.proofs.Common.{◌≡◌, ◌<◌, ◌≤◌, ◌+◌, ◌||◌, ℕ, Bool, true, false, List, [], ◌∷◌, ◌++◌, length, take, get_or, Option, Result, Ok, Err, IfOk, OnErr, ap, subst, refl, sym, ◌∙◌, append_assoc, append-nil, arith, length-append, ◌⊎◌, inl, inr, cond}
 use Rattle.std.proofs.Math.Seq.{take-append-add}
 use Rattle.std.proofs.lemmas.List.{take_more, take_all}
-use Rattle.std.proofs.lemmas.Bool.{ltb-true, ltb-false, true≢false}
-use Rattle.io_edge.specs.Faults.{HasRisen}
+use Rattle.std.proofs.lemmas.Bool.{true≢false}
 use Rattle.io_edge.specs.Bytes.{Appends, AppendsFront}
 use Rattle.io_edge.proofs.Appending.{Appends-nil, Appends-trans}
 use Rattle.scenario_text.specs.LineValues.{LineValue}
@@ -138,16 +137,6 @@ part heads start now after lines i d refused first old mid new rose held front r
     (rw (append-nil (take i lines ++ get_or lines i d ∷ []), append-nil ((so.text ++ held) ++ front), or_false (refused || first)) at
     (more_told heads start now after (take i lines) (get_or lines i d) refused first (so.text ++ held) front so.told answered [] [] false (refl, refl))) in
     (i + 1, refused || first, ((so.text ++ held) ++ front, told, (r, subst (AppendsFront old new) (sym (append_assoc so.text held front)) (Appends-front old mid new so.text (held ++ front) so.appends last))))
-
-rose_by : (x y : Bool) (a b c m : ℕ) → (x ≡ true → a < m) → (y ≡ false → m ≤ b) → a ≤ b → cond y (b + 1) b ≤ c → cond x (a + 1) a ≤ c
-rose_by true true a b c m low high le h = omega (arith, le, h)
-rose_by true false a b c m low high le h = omega (arith, low refl, high refl, h)
-rose_by false true a b c m low high le h = omega (arith, le, h)
-rose_by false false a b c m low high le h = omega (arith, le, h)
-
--- a count that rose from a later value rose from an earlier one
-pub rose_earlier : (a b c : ℕ) → a ≤ b → HasRisen b c → HasRisen a c
-rose_earlier a b c le h = rose_by (nat_lt a (2 ^ 64 - 1)) (nat_lt b (2 ^ 64 - 1)) a b c (2 ^ 64 - 1) (ltb-true a (2 ^ 64 - 1)) (ltb-false b (2 ^ 64 - 1)) le h
 
 -- a reply under a head line is an answer
 pub answered : (r : Result Bool NoMemory) (heads : Bool) (w after : World) (k : Kept) (line : LineValue) (asks : Act) (begun now : List ℕ) → begun ≡ head heads line.number → line.act ≡ asks → IsKept w k

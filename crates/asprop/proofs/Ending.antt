@@ -3,22 +3,25 @@ use Rattle.std.proofs.Common.{◌≡◌, ◌<◌, ◌≤◌, inl, inr, ℕ, nat_
 use Rattle.as_graph.specs.Topology.{as_count, relation}
 use Rattle.cycle_check.specs.Cycles.{IsCycleFromLowest}
 use Rattle.scenario_text.specs.Walks.{◌>>=◌}
+use Rattle.sim_core.specs.Loaded.{world_of}
 use Rattle.sim_core.specs.World.{World, HasCycle, topology}
-use Rattle.asprop.specs.Streams.{Source, Stream}
+use Rattle.asprop.specs.Streams.{Stream}
+use Rattle.task_reading.specs.Sources.{Source}
 use Rattle.asprop.specs.Written.{Answering}
-use Rattle.asprop.specs.Files.{IsStop, Prepares}
-use Rattle.asprop.specs.Words.{Form, form_of}
-use Rattle.asprop.specs.Task.{Task, asked, task_of}
+use Rattle.task_reading.specs.Files.{Prepares}
+use Rattle.task_reading.specs.Words.{Form, form_of}
+use Rattle.asprop.specs.Task.{Task, task_of}
+use Rattle.task_reading.specs.declared.asking.Asked.{Asked}
+use Rattle.task_reading.specs.declared.types.AskError.{AskError}
 use Rattle.asprop.specs.Texts.{ending_of}
 use Rattle.asprop.specs.Runs.{Outcome, Explained, Reports, IsRun, Worked}
 use Rattle.asprop.specs.declared.types.Stop.{Stop}
 use Rattle.asprop.specs.declared.types.Stop.TheVariants as stop
-use Rattle.asprop.specs.declared.types.Status.{Status}
-use Rattle.asprop.specs.declared.types.Status.TheVariants as status
-use Rattle.asprop.specs.declared.types.Fault.{Fault}
-use Rattle.asprop.specs.declared.types.Fault.TheVariants as fault
-use Rattle.asprop.proofs.ReadLemmas.{bind_stop}
-use Rattle.asprop.proofs.Preparing.{none_read}
+use Rattle.task_reading.specs.declared.types.Status.{Status}
+use Rattle.task_reading.specs.declared.types.Status.TheVariants as status
+use Rattle.task_reading.specs.declared.types.Fault.{Fault}
+use Rattle.task_reading.specs.declared.types.Fault.TheVariants as fault
+use Rattle.task_reading.proofs.Preparing.{none_read}
 
 -- nothing was written, or whole answers, where memory ran out
 by_memory : (task : Result Task Fault) (reason : Stop) (out : Stream) → (reason ≡ stop.Write → ⊥) → Outcome task (Err reason) out → Outcome task (Err stop.Memory) out
@@ -66,19 +69,23 @@ unformed {from} {words} {out} {err} s h nil =
       };
     }
 
--- the task was prepared, and memory ran out before an answer
-pub no_ranks : {from : Source} {form : Option Form} {X : Type 0} {view : X → Task} {x : X} {out : Stream} → Prepares from form view (Ok x) → out.wrote [] → Worked from form (Err stop.Memory) out
-no_ranks {form} {out} p nil = record { reads = p.reads; are_read = p.are_read; works = idle (task_of form p.reads) out nil }
+-- the files were read as far as memory held them, and it ran out before an answer
+pub no_memory : {from : Source} {form : Option Form} {result : Result Asked AskError} {out : Stream} → Prepares from form result → out.wrote [] → Worked from form (Err stop.Memory) out
+no_memory {form} {out} p nil = record { reads = p.reads; are_read = p.are_read; works = idle (task_of form p.reads) out nil }
 
--- the task, if its world isn't too large
-abbrev within_limits : Task → Result Task Fault
-within_limits task = if nat_lt 150000 (as_count (topology task.world)) then Err fault.TooManyAses else Ok task
+-- the task in the world of what was asked for
+abbrev pub task_in : Asked → Task
+task_in x = record { world = world_of x.links x.vrps x.scenario; lines = x.lines; heads = x.heads; counts = x.counts }
 
-few_ases : (task : Task) → as_count (topology task.world) ≤ 150000 → within_limits task ≡ Ok task
-few_ases task few = rw (le-ltb 150000 (as_count (topology task.world)) few) refl
+-- the task of what was asked for, if its world isn't too large
+abbrev pub within_limits : Asked → Result Task Fault
+within_limits x = if nat_lt 150000 (as_count (topology (task_in x).world)) then Err fault.TooManyAses else Ok (task_in x)
 
-many_ases : (task : Task) → 150000 < as_count (topology task.world) → within_limits task ≡ Err fault.TooManyAses
-many_ases task many = rw (lt-ltb 150000 (as_count (topology task.world)) many) refl
+few_ases : (x : Asked) → as_count (topology (task_in x).world) ≤ 150000 → within_limits x ≡ Ok (task_in x)
+few_ases x few = rw (le-ltb 150000 (as_count (topology (task_in x).world)) few) refl
+
+many_ases : (x : Asked) → 150000 < as_count (topology (task_in x).world) → within_limits x ≡ Err fault.TooManyAses
+many_ases x many = rw (lt-ltb 150000 (as_count (topology (task_in x).world)) many) refl
 
 -- what was written of the answers, in a world without a provider cycle
 answering : (task : Task) (result : Result Bool Stop) (out : Stream) → (HasCycle task.world → ⊥) → Answering task result out → Outcome (Ok task) result out
@@ -88,43 +95,33 @@ answering task (Err stop.Write) out none h = (none, h)
 answering task (Err (stop.Cycle cycle)) out none h = absurd h
 answering task (Err (stop.Fault f)) out none h = absurd h
 
--- the work stopped before there was a task
-before : (task : Result Task Fault) (s : Stop) (out : Stream) → out.wrote [] → IsStop s task → Outcome task (Err s) out
-before task stop.Memory out nil h = idle task out nil
-before task (stop.Fault f) out nil h = subst (λ (t : Result Task Fault). Outcome t (Err (stop.Fault f)) out) (sym h) (refl, nil)
-before task stop.Write out nil h = absurd h
-before task (stop.Cycle cycle) out nil h = absurd h
-
-pub stopped : {from : Source} {form : Option Form} {X : Type 0} {view : X → Task} {out : Stream} (s : Stop) → Prepares from form view (Err s) → out.wrote [] → Worked from form (Err s) out
-stopped {form} {out} s p nil = record { reads = p.reads; are_read = p.are_read; works = before (task_of form p.reads) s out nil (bind_stop (asked form p.reads) within_limits s p.finds) }
-
-module _ {from : Source} {form : Option Form} {X : Type 0} {view : X → Task} {out : Stream} where
+module _ {from : Source} {form : Option Form} {out : Stream} where
   -- the task is the one that was asked for
-  on_task : (x : X) (p : Prepares from form view (Ok x)) (result : Result Bool Stop) → as_count (topology (view x).world) ≤ 150000 → Outcome (Ok (view x)) result out → Worked from form result out
+  on_task : (x : Asked) (p : Prepares from form (Ok x)) (result : Result Bool Stop) → as_count (topology (task_in x).world) ≤ 150000 → Outcome (Ok (task_in x)) result out → Worked from form result out
   on_task x p result few w = record {
     reads = p.reads;
     are_read = p.are_read;
-    works = subst (λ (t : Result Task Fault). Outcome t result out) (sym (ap (λ (t : Result Task Fault). t >>= within_limits) p.finds ∙ few_ases (view x) few)) w;
+    works = subst (λ (t : Result Task Fault). Outcome t result out) (sym (ap (λ (t : Result Asked Fault). t >>= within_limits) p.finds ∙ few_ases x few)) w;
   }
 
   -- answers were written
-  pub worked : (x : X) (w : World) (result : Result Bool Stop) → Prepares from form view (Ok x) → w ≡ (view x).world → as_count (topology w) ≤ 150000 → (HasCycle w → ⊥)
-      → Answering (record (view x) { world = w }) result out → Worked from form result out
+  pub worked : (x : Asked) (w : World) (result : Result Bool Stop) → Prepares from form (Ok x) → w ≡ (task_in x).world → as_count (topology w) ≤ 150000 → (HasCycle w → ⊥)
+      → Answering (record (task_in x) { world = w }) result out → Worked from form result out
   worked x w result p is few none h =
       on_task x p result (subst (λ (w : World). as_count (topology w) ≤ 150000) is few)
-      (answering (view x) result out (subst (λ (w : World). HasCycle w → ⊥) is none) (subst (λ (w : World). Answering (record (view x) { world = w }) result out) is h))
+      (answering (task_in x) result out (subst (λ (w : World). HasCycle w → ⊥) is none) (subst (λ (w : World). Answering (record (task_in x) { world = w }) result out) is h))
 
   -- the world has a provider cycle
-  pub cyclic : (x : X) (cycle : List ℕ) → Prepares from form view (Ok x) → (as_count (topology (view x).world) ≤ 150000) × IsCycleFromLowest (relation (topology (view x).world)) cycle → out.wrote []
+  pub cyclic : (x : Asked) (cycle : List ℕ) → Prepares from form (Ok x) → (as_count (topology (task_in x).world) ≤ 150000) × IsCycleFromLowest (relation (topology (task_in x).world)) cycle → out.wrote []
       → Worked from form (Err (stop.Cycle cycle)) out
   cyclic x cycle p h nil = on_task x p (Err (stop.Cycle cycle)) h.0 (h.1, nil)
 
   -- the world is too large
-  pub too_many : (x : X) → Prepares from form view (Ok x) → 150000 < as_count (topology (view x).world) → out.wrote [] → Worked from form (Err (stop.Fault fault.TooManyAses)) out
+  pub too_many : (x : Asked) → Prepares from form (Ok x) → 150000 < as_count (topology (task_in x).world) → out.wrote [] → Worked from form (Err (stop.Fault fault.TooManyAses)) out
   too_many x p many nil = record {
     reads = p.reads;
     are_read = p.are_read;
-    works = subst (λ (t : Result Task Fault). Outcome t (Err (stop.Fault fault.TooManyAses)) out) (sym (ap (λ (t : Result Task Fault). t >>= within_limits) p.finds ∙ many_ases (view x) many)) (refl, nil);
+    works = subst (λ (t : Result Task Fault). Outcome t (Err (stop.Fault fault.TooManyAses)) out) (sym (ap (λ (t : Result Asked Fault). t >>= within_limits) p.finds ∙ many_ases x many)) (refl, nil);
   }
 
 -- a stop is explained by its own text

@@ -1,16 +1,7 @@
-pub mod Adding
-pub mod Parsing
-pub mod OnWords
-pub mod ReadLemmas
-pub mod Preparing
-pub mod InOrder
 pub mod Answering
 pub mod RefusalPieces
 pub mod Ending
 pub mod Starting
 pub mod StatusLemmas
-pub mod Faults
 pub mod StatusRows
-pub mod Feeding
-pub mod NoScript
 pub mod OneText

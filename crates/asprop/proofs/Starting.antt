@@ -1,9 +1,10 @@
 -- How the program starts by what its arguments give.
 use Rattle.std.proofs.Common.{inl, inr, [], Ok, Err, None, String, Vec, Global, map, string_bytes, subst}
-use Rattle.asprop.specs.Streams.{Source, Stream}
+use Rattle.asprop.specs.Streams.{Stream}
+use Rattle.task_reading.specs.Sources.{Source}
 use Rattle.asprop.specs.Runs.{Explained, IsRun}
 use Rattle.asprop.specs.Started.{Args, IsWordsOf, Starts}
-use Rattle.asprop.specs.declared.types.Status.{Status}
+use Rattle.task_reading.specs.declared.types.Status.{Status}
 use Rattle.asprop.specs.declared.types.Stop.{Stop}
 
 -- the run went over the words that the arguments give

@@ -2,19 +2,21 @@
 use Rattle.std.proofs.Common.{◌≡◌, ◌⊎◌, inl, inr, ℕ, Bool, true, false, List, [], Option, Some, None, Result, Ok, Err, IsSomeAnd, sym, ap, subst, refl}
 use Rattle.std.specs.Option.{option_map_or}
 use Rattle.sim_core.specs.World.{HasCycle}
-use Rattle.asprop.specs.Streams.{Source, Stream}
-use Rattle.asprop.specs.Task.{Task, Reads}
+use Rattle.asprop.specs.Streams.{Stream}
+use Rattle.task_reading.specs.Sources.{Source}
+use Rattle.asprop.specs.Task.{Task}
+use Rattle.task_reading.specs.Asking.{Reads}
 use Rattle.asprop.specs.Texts.{ending_of}
-use Rattle.asprop.specs.Words.{Form, form_of, name_by}
-use Rattle.asprop.specs.Files.{IsRead}
+use Rattle.task_reading.specs.Words.{Form, form_of, name_by}
+use Rattle.task_reading.specs.Files.{IsRead}
 use Rattle.asprop.specs.Runs.{Outcome, Run, IsRun}
 use Rattle.asprop.specs.Statuses.{RunsAsTold, IsComplete}
-use Rattle.asprop.specs.declared.types.File.{File}
-use Rattle.asprop.specs.declared.types.Fault.{Fault}
+use Rattle.task_reading.specs.declared.types.File.{File}
+use Rattle.task_reading.specs.declared.types.Fault.{Fault}
 use Rattle.asprop.specs.declared.types.Stop.{Stop}
 use Rattle.asprop.specs.declared.types.Stop.TheVariants as stop
-use Rattle.asprop.specs.declared.types.Status.{Status}
-use Rattle.asprop.specs.declared.types.Status.TheVariants as status
+use Rattle.task_reading.specs.declared.types.Status.{Status}
+use Rattle.task_reading.specs.declared.types.Status.TheVariants as status
 
 -- what was read of a file is what is told of it
 read_is : (held : Option (List ℕ)) (fails : Type 0) (read : Option (List ℕ)) (bytes : List ℕ) → IsRead held fails read → held ≡ Some bytes → (fails → ⊥) → read ≡ Some bytes

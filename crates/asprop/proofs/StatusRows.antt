@@ -1,19 +1,34 @@
 -- Which statuses the words, the reads and the writes give.
 use Rattle.std.proofs.Common.{◌≡◌, ◌⊎◌, inl, inr, ℕ, Bool, true, false, List, Option, None, Result, Ok, Err, IsSomeAnd, refl, ap, sym, subst, ◌∙◌}
-use Rattle.asprop.specs.Streams.{Source, Stream}
-use Rattle.asprop.specs.Task.{Task, Reads, task_of}
+use Rattle.asprop.specs.Streams.{Stream}
+use Rattle.task_reading.specs.Sources.{Source}
+use Rattle.asprop.specs.Task.{Task, task_of}
+use Rattle.task_reading.specs.Asking.{Reads, asked}
+use Rattle.task_reading.specs.declared.asking.Asked.{Asked}
 use Rattle.asprop.specs.Texts.{ending_of}
-use Rattle.asprop.specs.Words.{Form, form_of, name_by}
-use Rattle.asprop.specs.Files.{IsReadAs}
+use Rattle.task_reading.specs.Words.{Form, form_of, name_by}
+use Rattle.task_reading.specs.Files.{IsReadAs}
 use Rattle.asprop.specs.Runs.{Outcome, IsRun}
-use Rattle.asprop.specs.declared.types.File.{File}
-use Rattle.asprop.specs.declared.types.Fault.{Fault}
-use Rattle.asprop.specs.declared.types.Fault.TheVariants as fault
+use Rattle.task_reading.specs.declared.types.File.{File}
+use Rattle.task_reading.specs.declared.types.Fault.{Fault}
+use Rattle.task_reading.specs.declared.types.Fault.TheVariants as fault
 use Rattle.asprop.specs.declared.types.Stop.{Stop}
 use Rattle.asprop.specs.declared.types.Stop.TheVariants as stop
-use Rattle.asprop.specs.declared.types.Status.{Status}
-use Rattle.asprop.specs.declared.types.Status.TheVariants as status
-use Rattle.asprop.proofs.Faults.{Stopped, no_form, unread, by_value, of_task, status_of}
+use Rattle.task_reading.specs.declared.types.Status.{Status}
+use Rattle.task_reading.specs.declared.types.Status.TheVariants as status
+use Rattle.task_reading.proofs.Faults.{Stopped, no_form, unread, by_value, bind_err, chosen_err, of_asked, status_of, too_many}
+use Rattle.asprop.proofs.Ending.{task_in, within_limits}
+
+of_limits : (form : Option Form) (reads : Reads) (parts : Asked) (e : Fault) → within_limits parts ≡ Err e → Stopped form reads e
+of_limits form reads parts e h = subst (Stopped form reads) (chosen_err _ _ e (task_in parts) h) (by_value fault.TooManyAses (too_many form))
+
+-- each fault of a task has its reason
+of_task : (form : Option Form) (reads : Reads) (e : Fault) → task_of form reads ≡ Err e → Stopped form reads e
+of_task form reads e h =
+    elim (bind_err (asked form reads) within_limits e h) [
+      | inl early ↦ of_asked form reads e early
+      | inr late ↦ of_limits form reads late.0 e late.2
+    ]
 
 -- the work stops by a fault only for the reason of that fault
 fault_by : (form : Option Form) (reads : Reads) (task : Result Task Fault) (f : Fault) (out : Stream) → task_of form reads ≡ task → Outcome task (Err (stop.Fault f)) out → Stopped form reads f

@@ -1,14 +1,10 @@
 pub mod Streams
-pub mod Command
-pub mod Words
 pub mod Task
 pub mod Refusals
 pub mod Replies
 pub mod Laws
 pub mod Texts
-pub mod Files
 pub mod Written
 pub mod Runs
 pub mod Statuses
-pub mod Seen
 pub mod Started

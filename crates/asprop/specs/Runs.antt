@@ -4,16 +4,18 @@ use Rattle.clap.specs.Walk.{Text}
 use Rattle.as_graph.specs.Topology.{relation}
 use Rattle.cycle_check.specs.Cycles.{IsCycleFromLowest}
 use Rattle.sim_core.specs.World.{HasCycle, topology}
-use Rattle.asprop.specs.Streams.{Source, Stream}
-use Rattle.asprop.specs.Words.{Form, form_of}
-use Rattle.asprop.specs.Task.{Task, Reads, task_of}
+use Rattle.asprop.specs.Streams.{Stream}
+use Rattle.task_reading.specs.Sources.{Source}
+use Rattle.task_reading.specs.Words.{Form, form_of}
+use Rattle.asprop.specs.Task.{Task, task_of}
+use Rattle.task_reading.specs.Asking.{Reads}
 use Rattle.asprop.specs.Texts.{ending_of}
-use Rattle.asprop.specs.Files.{AreReads}
+use Rattle.task_reading.specs.Files.{AreReads}
 use Rattle.asprop.specs.Written.{Wrote, WroteSome}
-use Rattle.asprop.specs.declared.types.Fault.{Fault}
+use Rattle.task_reading.specs.declared.types.Fault.{Fault}
 use Rattle.asprop.specs.declared.types.Stop.{Stop}
 use Rattle.asprop.specs.declared.types.Stop.TheVariants as stop
-use Rattle.asprop.specs.declared.types.Status.{Status}
+use Rattle.task_reading.specs.declared.types.Status.{Status}
 
 -- What the work over a task or a fault ends with, and what it writes: all answers; or where memory ran out nothing, or whole answers to some lines in front; or where a write failed a front of such answers; or nothing, where there is a provider cycle, told from its lowest number on, or a fault.
 abbrev pub Outcome : Result Task Fault → Result Bool Stop → Stream → Type 0

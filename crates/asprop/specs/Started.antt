@@ -10,11 +10,12 @@ use Rattle.std.specs.declared.io.ErrorKind.TheVariants.{OutOfMemory}
 use Rattle.std.specs.declared.string.String.{String}
 use Rattle.std.specs.declared.vec.IntoIter.{IntoIter}
 use Rattle.std.specs.declared.vec.Vec.{Vec}
-use Rattle.asprop.specs.Streams.{Source, Stream}
+use Rattle.asprop.specs.Streams.{Stream}
+use Rattle.task_reading.specs.Sources.{Source}
 use Rattle.asprop.specs.Runs.{Explained, IsRun}
-use Rattle.asprop.specs.Texts.{number_of}
-use Rattle.asprop.specs.declared.types.Fault.TheVariants as fault
-use Rattle.asprop.specs.declared.types.Status.{Status}
+use Rattle.task_reading.specs.Texts.{number_of}
+use Rattle.task_reading.specs.declared.types.Fault.TheVariants as fault
+use Rattle.task_reading.specs.declared.types.Status.{Status}
 use Rattle.asprop.specs.declared.types.Stop.{Stop}
 use Rattle.asprop.specs.declared.types.Stop.TheVariants as stop
 

@@ -3,13 +3,14 @@ use Rattle.std.specs.Prelude.{◌≡◌, ◌⊎◌, List, [], Option, Some, Ok, 
 use Rattle.std.specs.Option.{option_map_or}
 use Rattle.clap.specs.Walk.{Text}
 use Rattle.sim_core.specs.World.{HasCycle}
-use Rattle.asprop.specs.Streams.{Source, Stream}
-use Rattle.asprop.specs.Words.{Form, form_of, name_by}
+use Rattle.asprop.specs.Streams.{Stream}
+use Rattle.task_reading.specs.Sources.{Source}
+use Rattle.task_reading.specs.Words.{Form, form_of, name_by}
 use Rattle.asprop.specs.Task.{Task, task_of}
 use Rattle.asprop.specs.Runs.{Run}
-use Rattle.asprop.specs.declared.types.File.{File}
-use Rattle.asprop.specs.declared.types.Status.{Status}
-use Rattle.asprop.specs.declared.types.Status.TheVariants as status
+use Rattle.task_reading.specs.declared.types.File.{File}
+use Rattle.task_reading.specs.declared.types.Status.{Status}
+use Rattle.task_reading.specs.declared.types.Status.TheVariants as status
 
 -- These bytes are told of each file that the form names, and no read of it fails; one that isn't named has none.
 abbrev pub AreTold : Source → Option Form → (File → Text) → Type 0
@@ -21,7 +22,7 @@ RunsAsTold from words s out err = (files : File → Text) → AreTold from (form
 
 -- Accepted files give Done or SomeRefused, or want of memory, where neither a read nor a write fails.
 abbrev pub IsComplete : Source → List Text → Status → Stream → Type 0
-IsComplete from words s out =
-    (files : File → Text) (task : Task) → AreTold from (form_of words) files → ((text : Text) → out.failed text → ⊥)
+IsComplete from words s out = (files : File → Text) (task : Task)
+    → AreTold from (form_of words) files → ((text : Text) → out.failed text → ⊥)
     → task_of (form_of words) (λ file. Some (files file)) ≡ Ok task → (HasCycle task.world → ⊥)
     → (s ≡ status.Done) ⊎ ((s ≡ status.SomeRefused) ⊎ (s ≡ status.NoMemory))

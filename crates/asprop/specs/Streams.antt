@@ -1,17 +1,8 @@
--- What a run reads from, and what it writes to.
+-- What a run writes to.
 use Rattle.std.specs.Prelude.{ℕ, Option}
 use Rattle.clap.specs.Walk.{Text}
 use Rattle.io_edge.specs.Bytes.{Appends, AppendsFront}
 use Rattle.io_edge.specs.Faults.{HasRisen}
-
--- What a run reads from: what is told of the bytes under a name, and that a read under a name failed.
-pub record Source : Type 1 where
-  pub holds : Text → Option Text
-  pub fails : Text → Type 0
-
--- Inputs from one time to another. A read fails only where the faults rose and the name wasn't sound.
-abbrev pub source_of : {I : Type 0} → (I → Text → Option Text) → (I → Text → Type 0) → (I → ℕ) → I → I → Source
-source_of holds sound faults old new = record { holds = holds old; fails = λ name. HasRisen (faults old) (faults new) × (sound old name → ⊥) }
 
 -- What a run writes to: that a text was appended, and that the faults rose and a front of it was appended.
 pub record Stream : Type 1 where

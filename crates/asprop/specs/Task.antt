@@ -1,34 +1,17 @@
--- The task that the words and the files ask for, or the first fault.
-use Rattle.std.specs.Prelude.{ℕ, Bool, true, false, nat_lt, List, [], ◌∷◌, ◌++◌, codes, decimal, length, Option, None, Some, Result, Ok, Err, if◌then◌else◌}
+-- The task that the words and the files give, or the first fault.
+use Rattle.std.specs.Prelude.{Bool, nat_lt, List, [], ◌∷◌, ◌++◌, codes, decimal, Option, Result, Ok, Err, if◌then◌else◌}
 use Rattle.std.specs.FinMap as fin
-use Rattle.std.specs.Option.{option_map_or}
-use Rattle.std.specs.Result.{result_map_both}
 use Rattle.clap.specs.Walk.{Text}
-use Rattle.net_names.specs.Prefixes.{PrefixValue}
-use Rattle.net_names.specs.declared.addresses.Family.TheVariants.{V4}
-use Rattle.caida_reader.specs.Value.{links_of}
-use Rattle.roa_table.specs.Files.{payloads_in}
 use Rattle.as_graph.specs.Topology.{as_count}
-use Rattle.scenario_text.specs.Scenarios.{ScenarioValue, nothing}
-use Rattle.scenario_text.specs.Readings.{scenario_of_bytes}
-use Rattle.scenario_text.specs.LineValues.{LineValue}
-use Rattle.scenario_text.specs.Script.{script_of}
-use Rattle.scenario_text.specs.Walks.{◌>>=◌}
-use Rattle.scenario_text.specs.declared.acts.Act.TheVariants as act
-use Rattle.scenario_text.specs.declared.acts.Query.TheVariants as query
-use Rattle.sim_core.specs.World.{World, topology}
-use Rattle.sim_core.specs.Loaded.{world_of}
-use Rattle.topo_gen.specs.Drawn.{drawn_links}
-use Rattle.topo_gen.specs.Scenarios.{drawn_payloads, drawn_scenario}
-use Rattle.topo_gen.specs.Lines.{drawn_lines}
-use Rattle.asprop.specs.Words.{Form, script_form, origin_form, demo_form}
-use Rattle.asprop.specs.declared.types.File.{File}
-use Rattle.asprop.specs.declared.types.File.TheVariants as file
-use Rattle.asprop.specs.declared.types.Cause.{Cause}
-use Rattle.asprop.specs.declared.types.Cause.TheVariants as cause
-use Rattle.asprop.specs.declared.types.Fault.{Fault}
-use Rattle.asprop.specs.declared.types.Fault.TheVariants as fault
 use Rattle.as_graph.specs.declared.build.TheConstants.{MOST_ASES}
+use Rattle.scenario_text.specs.LineValues.{LineValue}
+use Rattle.scenario_text.specs.Walks.{◌>>=◌}
+use Rattle.sim_core.specs.Loaded.{world_of}
+use Rattle.sim_core.specs.World.{World, topology}
+use Rattle.task_reading.specs.Asking.{Reads, asked}
+use Rattle.task_reading.specs.Words.{Form}
+use Rattle.task_reading.specs.declared.types.Fault.{Fault}
+use Rattle.task_reading.specs.declared.types.Fault.TheVariants as fault
 
 -- a world, the lines that are answered in it one after the other, whether each answer has a head line, and whether the numbers of ASes and links come first
 pub record Task : Type 0 where
@@ -41,56 +24,8 @@ pub record Task : Type 0 where
 abbrev pub first_text : Bool → World → Text
 first_text counts w = if counts then codes "ases|" ++ (decimal (as_count (topology w)) ++ 10 ∷ (codes "links|" ++ (decimal (fin.len w.links) ++ 10 ∷ []))) else []
 
--- what was read of each file: its bytes, or nothing where a read failed
-abbrev pub Reads : Type 0
-Reads = File → Option Text
-
--- the most bytes of a file
-abbrev pub most_bytes : File → ℕ
-most_bytes file.Relations = 268435456
-most_bytes file.Payloads = 268435456
-most_bytes _ = 16777216
-
--- the file's bytes, where they are no more than it may have
-abbrev pub bytes_of : File → Option Text → Result Text Fault
-bytes_of which None = Err (fault.InFile which cause.Unread)
-bytes_of which (Some bytes) =
-    if nat_lt (most_bytes which) (length bytes) then Err (fault.InFile which (cause.TooLong (most_bytes which))) else Ok bytes
-
--- the value that the bytes of a file say
-abbrev pub read_as : {A E : Type 0} → File → (E → Cause) → (Text → Result A E) → Reads → Result A Fault
-read_as which as_cause value reads = bytes_of which (reads which) >>= λ bytes. result_map_both (λ x. x) (λ e. fault.InFile which (as_cause e)) (value bytes)
-
--- the prefix that holds every IPv4 address, 0.0.0.0/0 (RFC 4632, section 3.1)
-abbrev pub all_addresses : PrefixValue
-all_addresses = record { family = V4; addr = 0; len = 0 }
-
--- the AS announces 0.0.0.0/0 with its own number as the path, and there is nothing else
-abbrev pub announced_by : ℕ → ScenarioValue
-announced_by origin = record nothing { announcements = record { prefix = all_addresses; asn = origin; path = origin ∷ [] } ∷ [] }
-
--- the line that asks for the routes of 0.0.0.0/0 in round 1
-abbrev pub origin_line : LineValue
-origin_line = record { number = 1; act = act.Query (query.Routes 1 all_addresses) }
-
--- what the form and the files ask for, or the first fault: the generated input, with the numbers of its ASes and links first; the routes of all ASes to one origin, without payloads and without a head line;
--- the answers to a script. A file that isn't named has no payloads, a scenario of four empty lists, or no lines
-abbrev pub asked : Option Form → Reads → Result Task Fault
-asked None reads = Err fault.Usage
-asked (Some (demo_form n)) reads =
-    Ok (record { world = world_of (drawn_links n) (drawn_payloads n) (drawn_scenario n); lines = drawn_lines (drawn_links n); heads = true; counts = true })
-asked (Some (origin_form rel origin)) reads = do
-  links ← read_as file.Relations cause.Relation links_of reads
-  Ok (record { world = world_of links fin.empty (announced_by origin); lines = origin_line ∷ []; heads = false; counts = false })
-asked (Some (script_form rel vrps scenario script)) reads = do
-  links ← read_as file.Relations cause.Relation links_of reads
-  payloads ← option_map_or (λ _. read_as file.Payloads cause.Payload payloads_in reads) vrps (Ok fin.empty)
-  plan ← option_map_or (λ _. read_as file.Scenario cause.Scenario scenario_of_bytes reads) scenario (Ok nothing)
-  lines ← read_as file.Script cause.Script script_of reads
-  Ok (record { world = world_of links payloads plan; lines = lines; heads = true; counts = false })
-
--- the task of a form and of what was read of the files, if its world has at most 150000 ASes, or the first fault
+-- the task of a form and of what was read of the files, in the world of what they ask for, if that has at most 150000 ASes, or the first fault
 abbrev pub task_of : Option Form → Reads → Result Task Fault
-task_of form reads = do
-  task ← asked form reads
-  if nat_lt MOST_ASES (as_count (topology task.world)) then Err fault.TooManyAses else Ok task
+task_of form reads = asked form reads >>= λ a. let world = world_of a.links a.vrps a.scenario in
+    if nat_lt MOST_ASES (as_count (topology world)) then Err fault.TooManyAses
+    else Ok (record { world = world; lines = a.lines; heads = a.heads; counts = a.counts })

@@ -1,71 +1,14 @@
--- The statuses and texts of how a run ends, and the numbers of statuses.
-use Rattle.std.specs.Prelude.{ℕ, Bool, if◌then◌else◌, [], ◌∷◌, ◌++◌, codes, Option, unwrap_or, Result, Ok, Err, decimal}
+-- The statuses and texts of how a run ends.
+use Rattle.std.specs.Prelude.{Bool, if◌then◌else◌, [], ◌∷◌, ◌++◌, codes, Option, Result, Ok, Err}
 use Rattle.clap.specs.Walk.{Text}
-use Rattle.caida_reader.specs.declared.errors.RelError.TheVariants as rel
-use Rattle.roa_table.specs.declared.errors.VrpError.TheVariants as vrp
-use Rattle.scenario_text.specs.PlaceTexts.{place_text}
-use Rattle.scenario_text.specs.declared.faults.LimitOf.{LimitOf}
-use Rattle.scenario_text.specs.declared.faults.LimitOf.TheVariants as limit
-use Rattle.scenario_text.specs.declared.faults.ScenarioError.TheVariants as scenario
-use Rattle.scenario_text.specs.declared.script.ScriptError.TheVariants as script
 use Rattle.reports.specs.Rows.{numbers_text}
-use Rattle.asprop.specs.Words.{Form, name_by}
-use Rattle.asprop.specs.declared.types.Cause.{Cause}
-use Rattle.asprop.specs.declared.types.Cause.TheVariants.{Unread, TooLong, Relation, Payload, Scenario, Script}
-use Rattle.asprop.specs.declared.types.Fault.TheVariants as fault
-use Rattle.asprop.specs.declared.types.Fault.TheVariants.{InFile, TooManyAses}
+use Rattle.task_reading.specs.Texts.{fault_ending, message}
+use Rattle.task_reading.specs.Words.{Form}
+use Rattle.task_reading.specs.declared.types.Status.{Status}
+use Rattle.task_reading.specs.declared.types.Status.TheVariants as status
+use Rattle.task_reading.specs.declared.types.Status.TheVariants.{BadInput}
 use Rattle.asprop.specs.declared.types.Stop.{Stop}
 use Rattle.asprop.specs.declared.types.Stop.TheVariants as stop
-use Rattle.asprop.specs.declared.types.Status.{Status}
-use Rattle.asprop.specs.declared.types.Status.TheVariants as status
-use Rattle.asprop.specs.declared.types.Status.TheVariants.{BadInput, TooLarge}
-
--- `asprop: `, the text and a line feed (own format)
-abbrev pub message : Text → Text
-message text = codes "asprop: " ++ (text ++ 10 ∷ [])
-
--- the forms of the words, a line each (own format)
-abbrev pub usage : Text
-usage = codes "usage: asprop REL [--vrps FILE] [--scenario FILE] [--script FILE]" ++ 10 ∷ codes "       asprop REL --origin N" ++ 10 ∷ codes "       asprop --demo N" ++ 10 ∷ []
-
--- the text, and before it the line where it stands (own format)
-abbrev pub in_line : ℕ → Text → Text
-in_line n text = codes "line " ++ (decimal n ++ (codes ": " ++ text))
-
--- the text, and before it the row where it stands (own format)
-abbrev pub in_row : ℕ → Text → Text
-in_row n text = codes "row " ++ (decimal n ++ (codes ": " ++ text))
-
--- the limit of a scenario that is passed (own format)
-abbrev pub limit_text : LimitOf → Text
-limit_text limit.Announcements = codes "more than 64 announcements"
-limit_text limit.Prefixes = codes "more than 32 prefixes"
-limit_text limit.Path = codes "more than 64 numbers in a path"
-limit_text limit.Rounds = codes "more than 4 rounds"
-limit_text limit.Leakers = codes "more than 64 leakers in a round"
-limit_text limit.Watch = codes "more than 16 watched addresses"
-
--- the table of causes: the status and the text, with the place in the file, of each (own format). Of a reader that memory runs out in nothing is told by this table: the run ends for want of memory, and the last row is never asked for
-abbrev pub cause_of : Cause → Status × Text
-cause_of Unread = (status.ReadFault, codes "read fault")
-cause_of (TooLong most) = (TooLarge, codes "more than " ++ (decimal most ++ codes " bytes"))
-cause_of (Relation (rel.Unreadable n)) = (BadInput, in_line n (codes "unreadable"))
-cause_of (Relation (rel.SelfLink n)) = (BadInput, in_line n (codes "an AS linked to itself"))
-cause_of (Relation (rel.Conflict n m)) = (BadInput, in_line n (codes "conflicts with line " ++ decimal m))
-cause_of (Relation (rel.TooManyLinks n)) = (TooLarge, in_line n (codes "more than 1500000 links"))
-cause_of (Payload (vrp.Fields n)) = (BadInput, in_row n (codes "fewer than three fields"))
-cause_of (Payload (vrp.BadAsn n)) = (BadInput, in_row n (codes "bad AS number"))
-cause_of (Payload (vrp.BadPrefix n)) = (BadInput, in_row n (codes "bad prefix"))
-cause_of (Payload (vrp.BadMax n)) = (BadInput, in_row n (codes "bad maximum length"))
-cause_of (Payload (vrp.TooMany n)) = (TooLarge, in_row n (codes "more than 2000000 payloads"))
-cause_of (Scenario scenario.NotJson) = (BadInput, codes "not JSON")
-cause_of (Scenario (scenario.Shape place)) = (BadInput, place_text place ++ codes ": wrong shape")
-cause_of (Scenario (scenario.Value place)) = (BadInput, place_text place ++ codes ": bad value")
-cause_of (Scenario (scenario.Twice place)) = (BadInput, place_text place ++ codes ": named twice")
-cause_of (Scenario (scenario.Limit which)) = (TooLarge, limit_text which)
-cause_of (Script (script.Unreadable n)) = (BadInput, in_line n (codes "unreadable"))
-cause_of (Script (script.TooMany n)) = (TooLarge, in_line n (codes "more than 100000 commands"))
-cause_of _ = (BadInput, [])
 
 -- the table of how the work may end, each with its status and its text (own format)
 abbrev pub ending_of : Option Form → Result Bool Stop → Status × Text
@@ -73,17 +16,4 @@ ending_of form (Ok refused) = (if refused then status.SomeRefused else status.Do
 ending_of form (Err stop.Memory) = (status.NoMemory, message (codes "out of memory"))
 ending_of form (Err stop.Write) = (status.WriteFault, message (codes "write fault"))
 ending_of form (Err (stop.Cycle cycle)) = (BadInput, codes "asprop: provider cycle: " ++ (numbers_text cycle ++ 10 ∷ []))
-ending_of form (Err (stop.Fault fault.Usage)) = (status.Usage, usage)
-ending_of form (Err (stop.Fault TooManyAses)) = (TooLarge, message (codes "more than 150000 ASes"))
-ending_of form (Err (stop.Fault (InFile which cause))) = ((cause_of cause).0, codes "asprop: " ++ (unwrap_or (name_by form which) [] ++ (codes ": " ++ ((cause_of cause).1 ++ 10 ∷ []))))
-
--- the number with which the program ends (own format)
-abbrev pub number_of : Status → ℕ
-number_of status.Done = 0
-number_of status.SomeRefused = 1
-number_of status.Usage = 2
-number_of status.BadInput = 3
-number_of status.ReadFault = 4
-number_of status.WriteFault = 5
-number_of status.NoMemory = 6
-number_of status.TooLarge = 7
+ending_of form (Err (stop.Fault fault)) = fault_ending form fault

@@ -1,52 +1,17 @@
-//! What is said of a fault.
-ghost use Rattle.std.specs.Prelude.{◌≡◌, [], IfOk, Option, None, option_map, string_bytes, unwrap_or};
-ghost use Rattle.asprop.specs.Texts.{cause_of, ending_of};
+//! What is said of a stop.
+ghost use Rattle.std.specs.Prelude.{◌≡◌, IfOk, None, option_map};
+ghost use Rattle.asprop.specs.Texts.{ending_of};
 ghost use Rattle.asprop.specs.Runs.{Explained, Reports};
 ghost use Rattle.asprop.specs.Streams.{stream_of};
-ghost use Rattle.asprop.specs.Words.{Form, form_seen, name_by};
+ghost use Rattle.task_reading.specs.Words.{form_seen};
 
-use crate::fault_texts::cause_text;
-use crate::types::{Cause, Fault, File, Status, Stop};
-use crate::words::WordForm;
-use caida_reader::RelError;
+use crate::types::Stop;
 use cycle_check::Cycle;
 use io_edge::{Sink, write_all};
 use net_names::NoMemory;
 use reports::put_numbers;
-use roa_table::VrpError;
-use scenario_text::{ScenarioError, ScriptError};
-use std::alloc::{AllocError, Global};
-
-const USAGE: &str =
-    "usage: asprop REL [--vrps FILE] [--scenario FILE] [--script FILE]\n       asprop REL --origin N\n       asprop --demo N\n";
-
-// The name of a file as the form gives it.
-fn file_name<'a>(form: &Option<WordForm<'a>>, file: File) -> &'a str
-    ensures { result.now ≡ unwrap_or (name_by (option_map form_seen form.now) file) [] }
-{
-    match form {
-        Some(form) => form.name(file).unwrap_or(""),
-        None => "",
-    }
-}
-
-fn fault_message(
-    alloc: Global,
-    form: &Option<WordForm<'_>>,
-    fault: Fault,
-) -> Result<String, AllocError>
-    ensures { IfOk result (λ text. string_bytes text ≡ (ending_of (option_map form_seen form.now) (Err (Stop.Fault fault))).1) }
-{
-    match fault {
-        Fault::Usage => String::from_str(alloc, USAGE),
-        Fault::TooManyAses => String::from_str(alloc, "asprop: more than 150000 ASes\n"),
-        Fault::InFile(file, cause) => {
-            let name = file_name(form, file);
-            let text = cause_text(alloc, cause)?;
-            format!(in alloc; "asprop: {name}: {text}\n")
-        }
-    }
-}
+use std::alloc::Global;
+use task_reading::{Status, WordForm, fault_message, fault_status};
 
 // The numbers of a cycle, the lowest first.
 fn cycle_message(alloc: Global, cycle: &Cycle) -> Result<Vec<u8>, NoMemory>
@@ -60,33 +25,6 @@ fn cycle_message(alloc: Global, cycle: &Cycle) -> Result<Vec<u8>, NoMemory>
     match text.push(b'\n') {
         Ok(()) => Ok(text),
         Err(_) => Err(NoMemory),
-    }
-}
-
-fn cause_status(cause: Cause) -> Status
-    ensures { result ≡ (cause_of cause).0 }
-{
-    match cause {
-        Cause::Unread => Status::ReadFault,
-        Cause::TooLong(_) => Status::TooLarge,
-        Cause::Relation(RelError::TooManyLinks { line: _ }) => Status::TooLarge,
-        Cause::Relation(_) => Status::BadInput,
-        Cause::Payload(VrpError::TooMany { row: _ }) => Status::TooLarge,
-        Cause::Payload(_) => Status::BadInput,
-        Cause::Scenario(ScenarioError::Limit { which: _ }) => Status::TooLarge,
-        Cause::Scenario(_) => Status::BadInput,
-        Cause::Script(ScriptError::TooMany { line: _ }) => Status::TooLarge,
-        Cause::Script(_) => Status::BadInput,
-    }
-}
-
-fn fault_status(fault: Fault) -> Status
-    ensures { (form : Option Form) → result ≡ (ending_of form (Err (Stop.Fault fault))).0 }
-{
-    match fault {
-        Fault::Usage => Status::Usage,
-        Fault::TooManyAses => Status::TooLarge,
-        Fault::InFile(_, cause) => cause_status(cause),
     }
 }
 

@@ -5,20 +5,14 @@
 #![tactic(auto)]
 
 mod answers;
-mod asking;
-mod command;
 mod explain;
-mod fault_texts;
 mod laws;
-mod reading;
 mod refusals;
 mod run;
 mod start;
-mod stops;
 #[cfg(test)]
 mod tests;
 mod types;
-mod words;
 
 use io_edge::{DirInputs, StdSink};
 use start::start;

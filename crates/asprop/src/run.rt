@@ -3,18 +3,18 @@ ghost use Rattle.std.specs.Prelude.{◌≡◌, ◌⊎◌, IsSomeAnd, map, option
 ghost use Rattle.io_edge.specs.Faults.{HasRisen};
 ghost use Rattle.asprop.specs.Runs.{IsRun, Worked};
 ghost use Rattle.asprop.specs.Statuses.{IsComplete, RunsAsTold};
-ghost use Rattle.asprop.specs.Streams.{source_of, stream_of};
-ghost use Rattle.asprop.specs.Words.{HasSize, form_of, form_seen, name_by};
-ghost use Rattle.asprop.specs.declared.types.File.{File};
+ghost use Rattle.asprop.specs.Streams.{stream_of};
+ghost use Rattle.task_reading.specs.Sources.{source_of};
+ghost use Rattle.task_reading.specs.Words.{HasSize, form_of, form_seen, name_by};
+ghost use Rattle.task_reading.specs.declared.types.File.{File};
 
 use crate::answers::write_answers;
-use crate::asking::{Asked, ask};
 use crate::explain::explain;
-use crate::types::{Fault, Status, Stop};
-use crate::words::{WordForm, read_words};
+use crate::types::Stop;
 use io_edge::{Inputs, Sink};
 use sim_core::{LoadError, Sim};
 use std::alloc::Global;
+use task_reading::{AskError, Asked, Fault, Status, WordForm, ask, read_words};
 
 // Reads the files that the form names, and writes the answers.
 fn work<I: Inputs, O: Sink>(
@@ -24,8 +24,8 @@ fn work<I: Inputs, O: Sink>(
     out: &mut O,
 ) -> Result<bool, Stop>
     requires sized { HasSize (option_map form_seen form.now) }
-    ensures { Worked (source_of I.holds I.is_sound I.faults inputs.old inputs.new) (option_map form_seen form.now) result
-        (stream_of O.written O.faults out.old out.new) }
+    ensures { Worked (source_of I.holds I.is_sound I.faults inputs.old inputs.new)
+        (option_map form_seen form.now) result (stream_of O.written O.faults out.old out.new) }
 {
     let Asked {
         links,
@@ -36,7 +36,8 @@ fn work<I: Inputs, O: Sink>(
         counts,
     } = match ask(alloc, form, inputs) {
         Ok(asked) => asked,
-        Err(stop) => return Err(stop),
+        Err(AskError::Memory) => return Err(Stop::Memory),
+        Err(AskError::Fault(fault)) => return Err(Stop::Fault(fault)),
     };
     match Sim::load(alloc, links, vrps, scenario) {
         Ok(mut sim) => write_answers(alloc, &mut sim, counts, heads, lines.as_slice(), out),
@@ -46,17 +47,46 @@ fn work<I: Inputs, O: Sink>(
     }
 }
 
-// Reads the words once: their form says which files are read, and how a fault names them.
-fn run_to_end<I: Inputs, O: Sink, E: Sink>(
+/// Reads the words and the files that they name, writes the answers to `out`, and says on `err` why
+/// it stopped.
+///
+/// The first word is the program's name. The order of the work is: the words, the relationship
+/// file, the payload file, the scenario, the script, the number of ASes, the provider cycle, the
+/// answers, line by line, each made whole before it is written. A line that edits the world, by a
+/// link, a policy, a payload or an announcement, changes it for the lines after it, unless it is
+/// refused. Nothing is written to `out` before all files have been read and judged.
+pub fn run<I: Inputs, O: Sink, E: Sink>(
     alloc: Global,
     words: &[String],
     inputs: &mut I,
     out: &mut O,
     err: &mut E,
 ) -> Status
-    ensures { IsRun (source_of I.holds I.is_sound I.faults inputs.old inputs.new) (map string_bytes words.now) result
-        (stream_of O.written O.faults out.old out.new) (stream_of E.written E.faults err.old err.new) }
+    // What was read of the files, how the run ends, what it writes, and what it says of a fault.
+    ensures ran { IsRun (source_of I.holds I.is_sound I.faults inputs.old inputs.new)
+        (map string_bytes words.now) result (stream_of O.written O.faults out.old out.new)
+        (stream_of E.written E.faults err.old err.new) }
+    // Where the bytes of the files are told and no read fails, the run is one over those bytes.
+    ensures told { RunsAsTold (source_of I.holds I.is_sound I.faults inputs.old inputs.new)
+        (map string_bytes words.now) result (stream_of O.written O.faults out.old out.new)
+        (stream_of E.written E.faults err.old err.new) }
+    // Accepted files give Done or SomeRefused, or want of memory, where neither a read nor a write
+    // fails.
+    ensures complete { IsComplete (source_of I.holds I.is_sound I.faults inputs.old inputs.new)
+        (map string_bytes words.now) result (stream_of O.written O.faults out.old out.new) }
+    // Usage comes where the words have no form, and there nothing else but want of memory.
+    ensures usage { form_of (map string_bytes words.now) ≡ None
+        → (result ≡ Status.Usage) ⊎ (result ≡ Status.NoMemory) }
+    ensures usage_only { result ≡ Status.Usage → form_of (map string_bytes words.now) ≡ None }
+    // ReadFault comes only where a read failed of a file that the words name, and WriteFault only
+    // where a write failed.
+    ensures read_fault { result ≡ Status.ReadFault
+        → (file : File) × IsSomeAnd (name_by (form_of (map string_bytes words.now)) file)
+        (source_of I.holds I.is_sound I.faults inputs.old inputs.new).fails }
+    ensures write_fault { result ≡ Status.WriteFault
+        → HasRisen (O.faults out.old) (O.faults out.new) }
 {
+    // The form says which files are read, and how a fault names them.
     let form = match read_words(alloc, words) {
         Ok(form) => form,
         Err(_) => return explain(alloc, &None, &Stop::Memory, err),
@@ -66,38 +96,4 @@ fn run_to_end<I: Inputs, O: Sink, E: Sink>(
         Ok(false) => Status::Done,
         Err(stop) => explain(alloc, &form, &stop, err),
     }
-}
-
-/// Reads the words and the files that they name, writes the answers to `out`, and says on `err` why it stopped.
-///
-/// The first word is the program's name. The order of the work is: the words, the relationship file,
-/// the payload file, the scenario, the script, the number of ASes, the provider cycle, the answers, line by
-/// line, each made whole before it is written. A line that edits the world, by a link, a policy, a payload
-/// or an announcement, changes it for the lines after it, unless it is refused. Nothing is written to
-/// `out` before all files have been read and judged.
-pub fn run<I: Inputs, O: Sink, E: Sink>(
-    alloc: Global,
-    words: &[String],
-    inputs: &mut I,
-    out: &mut O,
-    err: &mut E,
-) -> Status
-    // What was read of the files, how the run ends, what it writes, and what it says of a fault.
-    ensures ran { IsRun (source_of I.holds I.is_sound I.faults inputs.old inputs.new) (map string_bytes words.now) result
-        (stream_of O.written O.faults out.old out.new) (stream_of E.written E.faults err.old err.new) }
-    // Where the bytes of the files are told and no read fails, the run is one over those bytes.
-    ensures told { RunsAsTold (source_of I.holds I.is_sound I.faults inputs.old inputs.new) (map string_bytes words.now) result
-        (stream_of O.written O.faults out.old out.new) (stream_of E.written E.faults err.old err.new) }
-    // Accepted files give Done or SomeRefused, or want of memory, where neither a read nor a write fails.
-    ensures complete { IsComplete (source_of I.holds I.is_sound I.faults inputs.old inputs.new) (map string_bytes words.now) result
-        (stream_of O.written O.faults out.old out.new) }
-    // Usage comes where the words have no form, and there nothing else but want of memory.
-    ensures usage { form_of (map string_bytes words.now) ≡ None → (result ≡ Status.Usage) ⊎ (result ≡ Status.NoMemory) }
-    ensures usage_only { result ≡ Status.Usage → form_of (map string_bytes words.now) ≡ None }
-    // ReadFault comes only where a read failed of a file that the words name, and WriteFault only where a write failed.
-    ensures read_fault { result ≡ Status.ReadFault → (file : File) × IsSomeAnd (name_by (form_of (map string_bytes words.now)) file)
-        (source_of I.holds I.is_sound I.faults inputs.old inputs.new).fails }
-    ensures write_fault { result ≡ Status.WriteFault → HasRisen (O.faults out.old) (O.faults out.new) }
-{
-    run_to_end(alloc, words, inputs, out, err)
 }

@@ -2,17 +2,19 @@
 ghost use Rattle.std.specs.Prelude.{◌≡◌};
 ghost use Rattle.std.specs.Process.{exit_status};
 ghost use Rattle.asprop.specs.Started.{IsWordsOf, Started, Starts, reason_of};
-ghost use Rattle.asprop.specs.Streams.{source_of, stream_of};
+ghost use Rattle.asprop.specs.Streams.{stream_of};
+ghost use Rattle.task_reading.specs.Sources.{source_of};
 
 use crate::explain::explain;
 use crate::run::run;
-use crate::types::{Fault, Status, Stop};
+use crate::types::Stop;
 use io_edge::{Inputs, Sink};
 use std::alloc::Global;
 use std::env::Args;
 use std::io;
 use std::io::ErrorKind;
 use std::process::ExitCode;
+use task_reading::{Fault, Status};
 
 // Why the arguments give no words.
 fn reason(error: &io::Error) -> Stop

@@ -2,15 +2,16 @@
 ghost use Rattle.std.specs.Prelude.{◌≡◌, ◌≤◌, [], IfOk};
 
 use crate::run::run;
-use crate::types::Status;
 use io_edge::{MemInputs, MemSink};
 use std::alloc::{AllocError, Global};
 use std::process::Abort;
 use std::test::Fail;
+use task_reading::Status;
 
 mod announcements;
 mod edits;
 mod faults;
+mod forms;
 mod forwarding;
 mod generated;
 mod long;

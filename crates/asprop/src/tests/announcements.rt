@@ -1,10 +1,10 @@
 //! Lines that announce and withdraw.
 use super::scripts::SCRIPT_WORDS;
 use super::{Left, ScriptCase, check_cases, run_in_memory};
-use crate::types::Status;
 use io_edge::MemInputs;
 use std::alloc::{AllocError, Global};
 use std::test::Fail;
+use task_reading::Status;
 
 const LEAK_LINKS: &[u8] = b"1|3|-1\n2|3|-1\n1|5|-1\n1|2|0\n";
 

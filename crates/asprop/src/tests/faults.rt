@@ -3,11 +3,11 @@ ghost use Rattle.std.specs.Prelude.{◌≤◌};
 
 use super::{Left, room, words};
 use crate::run::run;
-use crate::types::Status;
 use io_edge::{MemInputs, MemSink};
 use std::alloc::Global;
 use std::process::Abort;
 use std::test::Fail;
+use task_reading::Status;
 
 const WORDS: &[&str] = &[
     "asprop",

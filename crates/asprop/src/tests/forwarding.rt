@@ -1,7 +1,7 @@
 //! Where packets go in small worlds, worked by hand.
 use super::{ScriptCase, check_cases};
-use crate::types::Status;
 use std::test::Fail;
+use task_reading::Status;
 
 const WORDS: &[&str] = &["asprop", "rel", "--scenario", "sc", "--script", "cmds"];
 

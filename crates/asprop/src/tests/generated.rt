@@ -1,7 +1,7 @@
 //! The generated input of so many ASes.
 use super::{ScriptCase, check_cases};
-use crate::types::Status;
 use std::test::Fail;
+use task_reading::Status;
 
 const GENERATED_CASES: [ScriptCase; 1] = [ScriptCase {
     name: "generated-input-of-four",

@@ -2,10 +2,10 @@
 use super::scripts::SCRIPT_WORDS;
 use super::{room, words};
 use crate::run::run;
-use crate::types::Status;
 use io_edge::{MemInputs, MemSink};
 use std::alloc::{AllocError, Global};
 use std::test::Fail;
+use task_reading::Status;
 
 // The customers of AS 1 are the ASes from 2 to this one.
 const LAST: u32 = 5000;

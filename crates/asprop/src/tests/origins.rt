@@ -3,10 +3,10 @@ ghost use Rattle.std.specs.Prelude.{◌≤◌};
 
 use super::{Left, room, words};
 use crate::run::run;
-use crate::types::Status;
 use io_edge::{CleanInputs, CleanSink, MemInputs, MemSink};
 use std::alloc::Global;
 use std::test::Fail;
+use task_reading::Status;
 
 struct Case {
     name: &'static str,

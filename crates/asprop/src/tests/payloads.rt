@@ -1,7 +1,7 @@
 //! Payload files, and what validation by them does.
 use super::{ScriptCase, check_cases, run_script};
-use crate::types::Status;
 use std::test::Fail;
+use task_reading::Status;
 
 const ALL_WORDS: &[&str] = &[
     "asprop",

@@ -1,10 +1,10 @@
 //! The commands of the README, over the bytes of the files that they name.
 use super::{room, words};
 use crate::run::run;
-use crate::types::Status;
 use io_edge::{MemInputs, MemSink};
 use std::alloc::Global;
 use std::test::Fail;
+use task_reading::Status;
 
 // A file of the examples.
 struct Example {

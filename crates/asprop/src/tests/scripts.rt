@@ -1,8 +1,8 @@
 //! Scripts over a relationship file and a scenario.
 use super::{ScriptCase, check_cases, run_script};
 use crate::laws::answers_are_one_text;
-use crate::types::Status;
 use std::test::Fail;
+use task_reading::Status;
 
 pub(super) const SCRIPT_WORDS: &[&str] = &["asprop", "rel", "--scenario", "sc", "--script", "cmds"];
 

@@ -5,7 +5,8 @@ use Rattle.asprop.specs.Replies.{AnswersLine}
 use Rattle.asprop.specs.Streams.{stream_of}
 use Rattle.asprop.specs.Written.{Answering, IsPassedOn}
 use Rattle.asprop.specs.declared.types.Stop.{Stop}
-use Rattle.asprop.proofs.Answering.{whole, all, next, held_part, part, either, rose_earlier}
+use Rattle.asprop.proofs.Answering.{whole, all, next, held_part, part, either}
+use Rattle.task_reading.proofs.ReadLemmas.{rose_earlier}
 use Rattle.std.proofs.lemmas.List.Elements.{All-get_or}
 use Rattle.scenario_text.specs.LineValues.{IsSoundAct}
 use Rattle.asprop.proofs.answers.answer_all.Goals as goal

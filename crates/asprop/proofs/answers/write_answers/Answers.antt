@@ -1,4 +1,5 @@
-use Rattle.asprop.proofs.Answering.{after_first, front_of_first, rose_earlier}
+use Rattle.task_reading.proofs.ReadLemmas.{rose_earlier}
+use Rattle.asprop.proofs.Answering.{after_first, front_of_first}
 use Rattle.asprop.proofs.answers.write_answers.Goals as goal
 
 pub returns-in-Err : goal.returns-in-Err

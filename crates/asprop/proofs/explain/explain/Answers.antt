@@ -1,10 +1,10 @@
 use Rattle.std.proofs.Common.{ℕ, List, refl, sym, ◌∙◌, subst, option_map}
 use Rattle.asprop.specs.Streams.{stream_of}
 use Rattle.asprop.specs.Runs.{Explained, Reports}
-use Rattle.asprop.specs.Words.{form_seen}
+use Rattle.task_reading.specs.Words.{form_seen}
 use Rattle.asprop.specs.declared.types.Stop.{Stop}
 use Rattle.asprop.specs.declared.types.Stop.TheVariants as stop
-use Rattle.asprop.specs.declared.types.Status.TheVariants as status
+use Rattle.task_reading.specs.declared.types.Status.TheVariants as status
 use Rattle.asprop.proofs.Ending.{own, short}
 use Rattle.asprop.proofs.explain.explain.Goals as goal
 

@@ -1,0 +1,146 @@
+-- The faults of the words and the files.
+use Rattle.std.proofs.Common.{◌≡◌, ◌⊎◌, inl, inr, ℕ, List, Option, Some, None, Result, Ok, Err, refl, ap, subst, ◌∙◌, Bool, true, false, cond}
+use Rattle.caida_reader.specs.Value.{links_of}
+use Rattle.caida_reader.specs.declared.errors.RelError.{RelError}
+use Rattle.scenario_text.specs.Readings.{scenario_of_bytes}
+use Rattle.scenario_text.specs.Script.{script_of}
+use Rattle.caida_reader.specs.declared.errors.RelError.TheVariants as rel
+use Rattle.roa_table.specs.Files.{payloads_in}
+use Rattle.roa_table.specs.declared.errors.VrpError.{VrpError}
+use Rattle.roa_table.specs.declared.errors.VrpError.TheVariants as vrp
+use Rattle.scenario_text.specs.declared.faults.ScenarioError.{ScenarioError}
+use Rattle.scenario_text.specs.declared.faults.ScenarioError.TheVariants as scenario
+use Rattle.scenario_text.specs.declared.script.ScriptError.{ScriptError}
+use Rattle.scenario_text.specs.declared.script.ScriptError.TheVariants as script
+use Rattle.scenario_text.specs.Walks.{◌>>=◌}
+use Rattle.task_reading.specs.Texts.{fault_ending}
+use Rattle.task_reading.specs.Asking.{Reads, asked, read_as, bytes_of, most_bytes}
+use Rattle.task_reading.specs.Words.{Form, origin_form, script_form, demo_form}
+use Rattle.task_reading.specs.declared.types.File.{File}
+use Rattle.task_reading.specs.declared.types.File.TheVariants as file
+use Rattle.task_reading.specs.declared.types.Fault.{Fault}
+use Rattle.task_reading.specs.declared.types.Fault.TheVariants as fault
+use Rattle.task_reading.specs.declared.types.Cause.{Cause}
+use Rattle.task_reading.specs.declared.types.Cause.TheVariants as cause
+use Rattle.task_reading.specs.declared.types.Status.{Status}
+use Rattle.task_reading.specs.declared.types.Status.TheVariants as status
+use Rattle.task_reading.proofs.Preparing.{origin_task, script_task}
+use Rattle.task_reading.proofs.ReadLemmas.{or_fault, relations, payloads_by, scenario_by, script_lines}
+
+-- a fault of two steps is one of the first or of the second
+pub bind_err : {A B : Type 0} (r : Result A Fault) (f : A → Result B Fault) (e : Fault) → (r >>= f) ≡ Err e → (r ≡ Err e) ⊎ ((x : A) × (r ≡ Ok x) × (f x ≡ Err e))
+bind_err (Ok x) f e h = inr (x, refl, h)
+bind_err (Err d) f e h = let is : d ≡ e = cc in inl (ap Err is)
+
+pub chosen_err : {A : Type 0} (b : Bool) (d e : Fault) (x : A) → cond b (Err d) (Ok x) ≡ Err e → d ≡ e
+chosen_err true d e x h = cc
+chosen_err false d e x h = cc
+
+-- the status of a fault
+abbrev pub status_of : Option Form → Fault → Status
+status_of form f = (fault_ending form f).0
+
+-- a fault that is neither one of the words nor a failed read, and that no write makes
+pub record IsOther (form : Option Form) (f : Fault) : Type 0 where
+  pub usage : status.Usage ≡ status_of form f → ⊥
+  pub read : status.ReadFault ≡ status_of form f → ⊥
+  pub write : status.WriteFault ≡ status_of form f → ⊥
+
+other : (form : Option Form) (f : Fault) (s : Status) → status_of form f ≡ s → (status.Usage ≡ s → ⊥) → (status.ReadFault ≡ s → ⊥) → (status.WriteFault ≡ s → ⊥) → IsOther form f
+other form f s is no_usage no_read no_write = record { usage = λ h. no_usage (h ∙ is); read = λ h. no_read (h ∙ is); write = λ h. no_write (h ∙ is) }
+
+bad : (form : Option Form) (f : Fault) → status_of form f ≡ status.BadInput → IsOther form f
+bad form f is = other form f status.BadInput is (λ h. cc) (λ h. cc) (λ h. cc)
+
+large : (form : Option Form) (f : Fault) → status_of form f ≡ status.TooLarge → IsOther form f
+large form f is = other form f status.TooLarge is (λ h. cc) (λ h. cc) (λ h. cc)
+
+pub other_relation : (form : Option Form) (which : File) (e : RelError) → IsOther form (fault.InFile which (cause.Relation e))
+other_relation form which rel.Memory = bad form _ refl
+other_relation form which (rel.Unreadable n) = bad form _ refl
+other_relation form which (rel.SelfLink n) = bad form _ refl
+other_relation form which (rel.Conflict n m) = bad form _ refl
+other_relation form which (rel.TooManyLinks n) = large form _ refl
+
+pub other_payload : (form : Option Form) (which : File) (e : VrpError) → IsOther form (fault.InFile which (cause.Payload e))
+other_payload form which vrp.Memory = bad form _ refl
+other_payload form which (vrp.Fields n) = bad form _ refl
+other_payload form which (vrp.BadAsn n) = bad form _ refl
+other_payload form which (vrp.BadPrefix n) = bad form _ refl
+other_payload form which (vrp.BadMax n) = bad form _ refl
+other_payload form which (vrp.TooMany n) = large form _ refl
+
+pub other_scenario : (form : Option Form) (which : File) (e : ScenarioError) → IsOther form (fault.InFile which (cause.Scenario e))
+other_scenario form which scenario.Memory = bad form _ refl
+other_scenario form which scenario.NotJson = bad form _ refl
+other_scenario form which (scenario.Shape place) = bad form _ refl
+other_scenario form which (scenario.Value place) = bad form _ refl
+other_scenario form which (scenario.Twice place) = bad form _ refl
+other_scenario form which (scenario.Limit limit) = large form _ refl
+
+pub other_script : (form : Option Form) (which : File) (e : ScriptError) → IsOther form (fault.InFile which (cause.Script e))
+other_script form which script.Memory = bad form _ refl
+other_script form which (script.Unreadable n) = bad form _ refl
+other_script form which (script.TooMany n) = large form _ refl
+
+-- a world with too many ASes
+pub too_many : (form : Option Form) → IsOther form fault.TooManyAses
+too_many form = large form _ refl
+
+-- why the words and the files give no task
+pub data Stopped (form : Option Form) (reads : Reads) : Fault → Type 0 where
+  no_form : form ≡ None → Stopped form reads fault.Usage
+  unread : (which : File) → reads which ≡ None → Stopped form reads (fault.InFile which cause.Unread)
+  by_value : (f : Fault) → IsOther form f → Stopped form reads f
+
+module _ (form : Option Form) (reads : Reads) where
+  of_value : {A E : Type 0} (which : File) (as_cause : E → Cause) → ((e : E) → IsOther form (fault.InFile which (as_cause e))) → (r : Result A E) (e : Fault) → or_fault which as_cause r ≡ Err e → Stopped form reads e
+  of_value which as_cause others (Ok x) e h = cc
+  of_value which as_cause others (Err d) e h =
+      let is : fault.InFile which (as_cause d) ≡ e = cc in subst (Stopped form reads) is (by_value (fault.InFile which (as_cause d)) (others d))
+
+  of_bytes : (which : File) (read : Option (List ℕ)) → reads which ≡ read → (e : Fault) → bytes_of which read ≡ Err e → Stopped form reads e
+  of_bytes which None none e h = let is : fault.InFile which cause.Unread ≡ e = cc in subst (Stopped form reads) is (unread which none)
+  of_bytes which (Some bytes) some e h = subst (Stopped form reads) (chosen_err _ _ e bytes h) (by_value (fault.InFile which (cause.TooLong (most_bytes which))) (large form _ refl))
+
+  of_read : {A E : Type 0} (which : File) (as_cause : E → Cause) (value : List ℕ → Result A E) → ((e : E) → IsOther form (fault.InFile which (as_cause e))) → (e : Fault) → read_as which as_cause value reads ≡ Err e → Stopped form reads e
+  of_read which as_cause value others e h =
+      elim (bind_err (bytes_of which (reads which)) (λ bytes. or_fault which as_cause (value bytes)) e h) [
+        | inl early ↦ of_bytes which (reads which) refl e early
+        | inr late ↦ of_value which as_cause others (value late.0) e late.2
+      ]
+
+  of_payloads : (name : Option (List ℕ)) (e : Fault) → payloads_by name (reads file.Payloads) ≡ Err e → Stopped form reads e
+  of_payloads None e h = cc
+  of_payloads (Some name) e h = of_read file.Payloads cause.Payload payloads_in (other_payload form file.Payloads) e h
+
+  of_scenario : (name : Option (List ℕ)) (e : Fault) → scenario_by name (reads file.Scenario) ≡ Err e → Stopped form reads e
+  of_scenario None e h = cc
+  of_scenario (Some name) e h = of_read file.Scenario cause.Scenario scenario_of_bytes (other_scenario form file.Scenario) e h
+
+  of_lines : (e : Fault) → script_lines (reads file.Script) ≡ Err e → Stopped form reads e
+  of_lines e h = of_read file.Script cause.Script script_of (other_script form file.Script) e h
+
+-- each fault of what is asked for has its reason
+pub of_asked : (form : Option Form) (reads : Reads) (e : Fault) → asked form reads ≡ Err e → Stopped form reads e
+of_asked None reads e h = let is : fault.Usage ≡ e = cc in subst (Stopped None reads) is (no_form refl)
+of_asked (Some (demo_form size)) reads e h = cc
+of_asked (Some (origin_form rel origin)) reads e h =
+    elim (bind_err (relations (reads file.Relations)) (λ links. Ok (origin_task links origin)) e h) [
+      | inl early ↦ of_read _ reads file.Relations cause.Relation links_of (other_relation _ file.Relations) e early
+      | inr late ↦ cc
+    ]
+of_asked (Some (script_form rel vrps scenario script)) reads e h =
+    elim (bind_err (relations (reads file.Relations)) (λ links. payloads_by vrps (reads file.Payloads) >>= λ payloads. scenario_by scenario (reads file.Scenario) >>= λ plan. script_lines (reads file.Script) >>= λ lines. Ok (script_task links payloads plan lines)) e h) [
+      | inl early ↦ of_read _ reads file.Relations cause.Relation links_of (other_relation _ file.Relations) e early
+      | inr links ↦ elim (bind_err (payloads_by vrps (reads file.Payloads)) (λ payloads. scenario_by scenario (reads file.Scenario) >>= λ plan. script_lines (reads file.Script) >>= λ lines. Ok (script_task links.0 payloads plan lines)) e links.2) [
+        | inl early ↦ of_payloads _ reads vrps e early
+        | inr payloads ↦ elim (bind_err (scenario_by scenario (reads file.Scenario)) (λ plan. script_lines (reads file.Script) >>= λ lines. Ok (script_task links.0 payloads.0 plan lines)) e payloads.2) [
+          | inl early ↦ of_scenario _ reads scenario e early
+          | inr plan ↦ elim (bind_err (script_lines (reads file.Script)) (λ lines. Ok (script_task links.0 payloads.0 plan.0 lines)) e plan.2) [
+            | inl early ↦ of_lines _ reads e early
+            | inr late ↦ cc
+          ]
+        ]
+      ]
+    ]

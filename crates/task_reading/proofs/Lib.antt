@@ -1,0 +1,9 @@
+pub mod Adding
+pub mod Parsing
+pub mod OnWords
+pub mod ReadLemmas
+pub mod Preparing
+pub mod InOrder
+pub mod Faults
+pub mod Feeding
+pub mod NoScript

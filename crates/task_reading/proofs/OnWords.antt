@@ -1,0 +1,50 @@
+-- The forms of words that are written out, as examples of the definition.
+use Rattle.std.proofs.Common.{◌≡◌, refl, [], ◌∷◌, codes, Some, None}
+use Rattle.clap.proofs.OnLiterals.{clap_on_literals}
+use Rattle.net_names.specs.Texts.{asn_of, numeral}
+use Rattle.task_reading.specs.Command.{asprop_command}
+use Rattle.task_reading.specs.Words.{form_of, script_form, origin_form, demo_form, demo_size}
+
+rel_alone : form_of (codes "asprop" ∷ codes "rel" ∷ []) ≡ Some (script_form (codes "rel") None None None)
+unfolding clap_on_literals form_of asprop_command
+rel_alone = refl
+
+options_before_rel : form_of (codes "asprop" ∷ codes "--script" ∷ codes "cmds" ∷ codes "--scenario=s" ∷ codes "rel" ∷ []) ≡ Some (script_form (codes "rel") None (Some (codes "s")) (Some (codes "cmds")))
+unfolding clap_on_literals form_of asprop_command
+options_before_rel = refl
+
+payloads_alone : form_of (codes "asprop" ∷ codes "rel" ∷ codes "--vrps" ∷ codes "v" ∷ []) ≡ Some (script_form (codes "rel") (Some (codes "v")) None None)
+unfolding clap_on_literals form_of asprop_command
+payloads_alone = refl
+
+one_origin : form_of (codes "asprop" ∷ codes "rel" ∷ codes "--origin" ∷ codes "0000000007" ∷ []) ≡ Some (origin_form (codes "rel") 7)
+unfolding clap_on_literals form_of asprop_command asn_of numeral
+one_origin = refl
+
+option_twice : form_of (codes "asprop" ∷ codes "rel" ∷ codes "--script" ∷ codes "a" ∷ codes "--script" ∷ codes "b" ∷ []) ≡ None
+unfolding clap_on_literals form_of asprop_command
+option_twice = refl
+
+origin_and_script : form_of (codes "asprop" ∷ codes "rel" ∷ codes "--script" ∷ codes "a" ∷ codes "--origin" ∷ codes "7" ∷ []) ≡ None
+unfolding clap_on_literals form_of asprop_command
+origin_and_script = refl
+
+origin_and_payloads : form_of (codes "asprop" ∷ codes "rel" ∷ codes "--vrps" ∷ codes "v" ∷ codes "--origin" ∷ codes "7" ∷ []) ≡ None
+unfolding clap_on_literals form_of asprop_command
+origin_and_payloads = refl
+
+help : form_of (codes "asprop" ∷ codes "rel" ∷ codes "--help" ∷ []) ≡ None
+unfolding clap_on_literals form_of asprop_command
+help = refl
+
+generated : form_of (codes "asprop" ∷ codes "--demo" ∷ codes "00004" ∷ []) ≡ Some (demo_form 4)
+unfolding clap_on_literals form_of asprop_command demo_size numeral
+generated = refl
+
+generated_too_small : form_of (codes "asprop" ∷ codes "--demo" ∷ codes "3" ∷ []) ≡ None
+unfolding clap_on_literals form_of asprop_command demo_size numeral
+generated_too_small = refl
+
+generated_and_relations : form_of (codes "asprop" ∷ codes "rel" ∷ codes "--demo" ∷ codes "4" ∷ []) ≡ None
+unfolding clap_on_literals form_of asprop_command
+generated_and_relations = refl

@@ -1,0 +1,160 @@
+-- What the form and the files ask for.
+use Rattle.std.proofs.Common.{◌≡◌, ℕ, true, false, List, [], ◌∷◌, Option, Some, None, Result, Ok, Err, refl, sym, ap, subst}
+use Rattle.net_names.specs.Links.{LinkMap}
+use Rattle.roa_table.specs.Sets.{Payloads, no_payloads as no_payload}
+use Rattle.scenario_text.specs.Scenarios.{ScenarioValue}
+use Rattle.scenario_text.specs.LineValues.{LineValue}
+use Rattle.scenario_text.specs.Walks.{◌>>=◌}
+use Rattle.topo_gen.specs.Drawn.{drawn_links}
+use Rattle.topo_gen.specs.Scenarios.{drawn_payloads, drawn_scenario}
+use Rattle.topo_gen.specs.Lines.{drawn_lines}
+use Rattle.task_reading.specs.Words.{Form, script_form, origin_form, demo_form, name_by}
+use Rattle.task_reading.specs.Asking.{Reads, announced_by, asked, origin_line}
+use Rattle.task_reading.specs.Files.{IsReadAs, AreReads, IsFaultOf, Finds, ReadsAs, Prepares}
+use Rattle.task_reading.specs.Sources.{Source}
+use Rattle.task_reading.specs.declared.asking.Asked.{Asked}
+use Rattle.task_reading.specs.declared.types.File.TheVariants as file
+use Rattle.task_reading.specs.declared.types.AskError.{AskError}
+use Rattle.task_reading.specs.declared.types.AskError.TheVariants as error
+use Rattle.task_reading.specs.declared.types.Fault.{Fault}
+use Rattle.task_reading.specs.declared.types.Fault.TheVariants as fault
+use Rattle.task_reading.proofs.ReadLemmas.{relations, payloads_by, scenario_by, script_lines, some_read_as, bind_error}
+
+-- what was asked for was found, or the error says why not
+abbrev Found : Result Asked AskError → Result Asked Fault → Type 0
+Found result value = Finds (λ (found : Asked). found) result value
+
+-- the routes of all ASes to one origin
+abbrev pub origin_task : LinkMap → ℕ → Asked
+origin_task links origin = record { links = links; vrps = no_payload; scenario = announced_by origin; lines = origin_line ∷ []; heads = false; counts = false }
+
+-- the answers to a script
+abbrev pub script_task : LinkMap → Payloads → ScenarioValue → List LineValue → Asked
+script_task links payloads scenario lines = record { links = links; vrps = payloads; scenario = scenario; lines = lines; heads = true; counts = false }
+
+-- the answers to the lines of the generated input
+abbrev demo_task : ℕ → Asked
+demo_task n = record { links = drawn_links n; vrps = drawn_payloads n; scenario = drawn_scenario n; lines = drawn_lines (drawn_links n); heads = true; counts = true }
+
+-- what was read of each file
+abbrev pub four : Option (List ℕ) → Option (List ℕ) → Option (List ℕ) → Option (List ℕ) → Reads
+four relations payloads scenario script file.Relations = relations
+four relations payloads scenario script file.Payloads = payloads
+four relations payloads scenario script file.Scenario = scenario
+four relations payloads scenario script file.Script = script
+
+-- the relationship file alone
+abbrev alone : Option (List ℕ) → Reads
+alone read = four read (Some []) (Some []) (Some [])
+
+-- something was read of each file
+pub none_read : (from : Source) (form : Option Form) → (reads : Reads) × AreReads from form reads
+none_read from form = (λ which. (some_read_as from (name_by form which)).0, λ which. (some_read_as from (name_by form which)).1)
+
+-- the generated input needs no file
+pub demo_found : {from : Source} (size : ℕ) (result : Result Asked AskError) → Found result (Ok (demo_task size))
+    → Prepares from (Some (demo_form size)) result
+demo_found size result h = record { reads = λ file. Some []; are_read = λ file. refl; finds = h }
+
+module _ (from : Source) (rel : List ℕ) where
+  one_read : (origin : ℕ) (read : Option (List ℕ)) → IsReadAs from (Some rel) read → AreReads from (Some (origin_form rel origin)) (alone read)
+  one_read origin read h file.Relations = h
+  one_read origin read h file.Payloads = refl
+  one_read origin read h file.Scenario = refl
+  one_read origin read h file.Script = refl
+
+  four_read : (vrps scenario script a b c d : Option (List ℕ)) → IsReadAs from (Some rel) a → IsReadAs from vrps b → IsReadAs from scenario c → IsReadAs from script d
+      → AreReads from (Some (script_form rel vrps scenario script)) (four a b c d)
+  four_read vrps scenario script a b c d p q r t file.Relations = p
+  four_read vrps scenario script a b c d p q r t file.Payloads = q
+  four_read vrps scenario script a b c d p q r t file.Scenario = r
+  four_read vrps scenario script a b c d p q r t file.Script = t
+
+-- what follows the lines, the scenario and the payloads
+abbrev last : LinkMap → Payloads → ScenarioValue → Result (List LineValue) Fault → Result Asked Fault
+last links payloads plan lines = lines >>= λ lines. Ok (script_task links payloads plan lines)
+
+abbrev third : LinkMap → Payloads → Option (List ℕ) → Result ScenarioValue Fault → Result Asked Fault
+third links payloads d plan = plan >>= λ plan. last links payloads plan (script_lines d)
+
+abbrev second : LinkMap → Option (List ℕ) → Option (List ℕ) → Option (List ℕ) → Result Payloads Fault → Result Asked Fault
+second links scenario c d payloads = payloads >>= λ payloads. third links payloads d (scenario_by scenario c)
+
+module _ (rel : List ℕ) (vrps scenario script a b c d : Option (List ℕ)) (links : LinkMap) (is_links : relations a ≡ Ok links) (result : Result Asked AskError) where
+  by_links : Found result (second links scenario c d (payloads_by vrps b)) → Found result (asked (Some (script_form rel vrps scenario script)) (four a b c d))
+  by_links h = subst (λ (found : Result LinkMap Fault). Found result (found >>= λ links. second links scenario c d (payloads_by vrps b))) (sym is_links) h
+
+  by_payloads : (payloads : Payloads) → payloads_by vrps b ≡ Ok payloads → Found result (third links payloads d (scenario_by scenario c)) → Found result (asked (Some (script_form rel vrps scenario script)) (four a b c d))
+  by_payloads payloads is h = by_links (subst (λ (v : Result Payloads Fault). Found result (second links scenario c d v)) (sym is) h)
+
+  by_plan : (payloads : Payloads) (plan : ScenarioValue) → payloads_by vrps b ≡ Ok payloads → scenario_by scenario c ≡ Ok plan → Found result (last links payloads plan (script_lines d))
+      → Found result (asked (Some (script_form rel vrps scenario script)) (four a b c d))
+  by_plan payloads plan is_payloads is h = by_payloads payloads is_payloads (subst (λ (v : Result ScenarioValue Fault). Found result (third links payloads d v)) (sym is) h)
+
+module _ {from : Source} where
+  -- words without a form
+  pub no_form : Prepares from None (Err (error.Fault fault.Usage))
+  no_form = record { reads = λ _. Some []; are_read = λ _. refl; finds = refl }
+
+  -- the routes to one origin
+  pub origin_stopped : (rel : List ℕ) (origin : ℕ) {Y : Type 0} (of_y : Y → LinkMap) (s : AskError) → ReadsAs from (Some rel) of_y (Err s) (λ reads. relations (reads file.Relations)) → Prepares from (Some (origin_form rel origin)) (Err s)
+  origin_stopped rel origin of_y s found = record {
+    reads = alone found.read;
+    are_read = one_read from rel origin found.read found.is_read;
+    finds = bind_error (relations found.read) (λ links. Ok (origin_task links origin)) s found.finds;
+  }
+
+  pub origin_found : (rel : List ℕ) (origin : ℕ) {Y : Type 0} (of_y : Y → LinkMap) (y : Y) (result : Result Asked AskError) → ReadsAs from (Some rel) of_y (Ok y) (λ reads. relations (reads file.Relations)) → Found result (Ok (origin_task (of_y y) origin))
+      → Prepares from (Some (origin_form rel origin)) result
+  origin_found rel origin of_y y result found h = record {
+    reads = alone found.read;
+    are_read = one_read from rel origin found.read found.is_read;
+    finds = subst (λ (links : Result LinkMap Fault). Found result (links >>= λ links. Ok (origin_task links origin))) (sym found.finds) h;
+  }
+
+  -- the answers to a script
+  pub no_links : (rel : List ℕ) (vrps scenario script a : Option (List ℕ)) (s : AskError) → IsReadAs from (Some rel) a → IsFaultOf s (relations a) → Prepares from (Some (script_form rel vrps scenario script)) (Err s)
+  no_links rel vrps scenario script a s p h =
+      let b = some_read_as from vrps in
+      let c = some_read_as from scenario in
+      let d = some_read_as from script in
+      record { reads = four a b.0 c.0 d.0; are_read = four_read from rel vrps scenario script a b.0 c.0 d.0 p b.1 c.1 d.1; finds = bind_error (relations a) (λ links. second links scenario c.0 d.0 (payloads_by vrps b.0)) s h }
+
+  pub no_payloads : (rel : List ℕ) (vrps scenario script a b : Option (List ℕ)) (links : LinkMap) (s : AskError) → IsReadAs from (Some rel) a → relations a ≡ Ok links → IsReadAs from vrps b → IsFaultOf s (payloads_by vrps b)
+      → Prepares from (Some (script_form rel vrps scenario script)) (Err s)
+  no_payloads rel vrps scenario script a b links s p is_links q h =
+      let c = some_read_as from scenario in
+      let d = some_read_as from script in
+      record {
+        reads = four a b c.0 d.0;
+        are_read = four_read from rel vrps scenario script a b c.0 d.0 p q c.1 d.1;
+        finds = by_links rel vrps scenario script a b c.0 d.0 links is_links (Err s) (bind_error (payloads_by vrps b) (λ payloads. third links payloads d.0 (scenario_by scenario c.0)) s h);
+      }
+
+  pub no_scenario : (rel : List ℕ) (vrps scenario script a b c : Option (List ℕ)) (links : LinkMap) (payloads : Payloads) (s : AskError) → IsReadAs from (Some rel) a → relations a ≡ Ok links
+      → IsReadAs from vrps b → payloads_by vrps b ≡ Ok payloads → IsReadAs from scenario c → IsFaultOf s (scenario_by scenario c) → Prepares from (Some (script_form rel vrps scenario script)) (Err s)
+  no_scenario rel vrps scenario script a b c links payloads s p is_links q is_payloads r h =
+      let d = some_read_as from script in
+      record {
+        reads = four a b c d.0;
+        are_read = four_read from rel vrps scenario script a b c d.0 p q r d.1;
+        finds = by_payloads rel vrps scenario script a b c d.0 links is_links (Err s) payloads is_payloads (bind_error (scenario_by scenario c) (λ plan. last links payloads plan (script_lines d.0)) s h);
+      }
+
+  pub no_lines : (rel : List ℕ) (vrps scenario script a b c d : Option (List ℕ)) (links : LinkMap) (payloads : Payloads) (plan : ScenarioValue) (s : AskError) → IsReadAs from (Some rel) a → relations a ≡ Ok links
+      → IsReadAs from vrps b → payloads_by vrps b ≡ Ok payloads → IsReadAs from scenario c → scenario_by scenario c ≡ Ok plan
+      → IsReadAs from script d → IsFaultOf s (script_lines d) → Prepares from (Some (script_form rel vrps scenario script)) (Err s)
+  no_lines rel vrps scenario script a b c d links payloads plan s p is_links q is_payloads r is_plan t h = record {
+    reads = four a b c d;
+    are_read = four_read from rel vrps scenario script a b c d p q r t;
+    finds = by_plan rel vrps scenario script a b c d links is_links (Err s) payloads plan is_payloads is_plan (bind_error (script_lines d) (λ lines. Ok (script_task links payloads plan lines)) s h);
+  }
+
+  pub all_read : (rel : List ℕ) (vrps scenario script a b c d : Option (List ℕ)) (links : LinkMap) (payloads : Payloads) (plan : ScenarioValue) (lines : List LineValue) (x : Asked) → IsReadAs from (Some rel) a → relations a ≡ Ok links
+      → IsReadAs from vrps b → payloads_by vrps b ≡ Ok payloads → IsReadAs from scenario c → scenario_by scenario c ≡ Ok plan
+      → IsReadAs from script d → script_lines d ≡ Ok lines → x ≡ script_task links payloads plan lines → Prepares from (Some (script_form rel vrps scenario script)) (Ok x)
+  all_read rel vrps scenario script a b c d links payloads plan lines x p is_links q is_payloads r is_plan t is_lines is = record {
+    reads = four a b c d;
+    are_read = four_read from rel vrps scenario script a b c d p q r t;
+    finds = by_plan rel vrps scenario script a b c d links is_links (Ok x) payloads plan is_payloads is_plan (subst (λ (v : Result (List LineValue) Fault). Found (Ok x) (last links payloads plan v)) (sym is_lines) (ap Ok (sym is)));
+  }

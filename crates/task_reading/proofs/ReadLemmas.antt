@@ -1,0 +1,137 @@
+-- What may have been read of a file.
+use Rattle.std.proofs.Common.{◌≡◌, ◌<◌, ℕ, Bool, true, false, cond, nat_lt, ◌^◌, ◌-◌, List, [], length, Option, Some, None, Result, Ok, Err, IfSome, IsSomeAnd, refl, sym, ap, ◌∙◌, subst, arith, lt-ltb, le-ltb, ◌+◌, ◌≤◌}
+use Rattle.std.proofs.lemmas.List.{length-replicate}
+use Rattle.std.proofs.Common.{replicate, drop}
+use Rattle.std.specs.Io.KnownBytes.{Keeps}
+use Rattle.std.specs.Option.{option_map_or}
+use Rattle.std.specs.Result.{result_map_both}
+use Rattle.io_edge.specs.Faults.{HasRisen, KeepsNames}
+use Rattle.scenario_text.specs.Walks.{◌>>=◌}
+use Rattle.task_reading.specs.Sources.{Source, source_of}
+use Rattle.task_reading.specs.Files.{IsRead, IsReadAs, IsFaultOf, Finds, ReadsTo}
+use Rattle.net_names.specs.Links.{LinkMap}
+use Rattle.caida_reader.specs.Value.{links_of}
+use Rattle.roa_table.specs.Files.{payloads_in}
+use Rattle.roa_table.specs.Sets.{Payloads, no_payloads}
+use Rattle.scenario_text.specs.LineValues.{LineValue}
+use Rattle.scenario_text.specs.Readings.{scenario_of_bytes}
+use Rattle.scenario_text.specs.Scenarios.{ScenarioValue, nothing}
+use Rattle.scenario_text.specs.Script.{script_of}
+use Rattle.task_reading.specs.Asking.{Reads, bytes_of, most_bytes, read_as}
+use Rattle.task_reading.specs.declared.types.File.TheVariants as file
+use Rattle.task_reading.specs.declared.types.File.{File}
+use Rattle.task_reading.specs.declared.types.Fault.{Fault}
+use Rattle.task_reading.specs.declared.types.AskError.{AskError}
+use Rattle.task_reading.specs.declared.types.AskError.TheVariants as error
+use Rattle.task_reading.specs.declared.types.Fault.TheVariants as fault
+use Rattle.task_reading.specs.declared.types.Cause.{Cause}
+use Rattle.task_reading.specs.declared.types.Cause.TheVariants as cause
+use Rattle.std.proofs.lemmas.Bool.{ltb-true, ltb-false}
+
+rose_by : (x y : Bool) (a b c m : ℕ) → (x ≡ true → a < m) → (y ≡ false → m ≤ b) → a ≤ b → cond y (b + 1) b ≤ c → cond x (a + 1) a ≤ c
+rose_by true true a b c m low high le h = omega (arith, le, h)
+rose_by true false a b c m low high le h = omega (arith, low refl, high refl, h)
+rose_by false true a b c m low high le h = omega (arith, le, h)
+rose_by false false a b c m low high le h = omega (arith, le, h)
+
+-- a count that rose from a later value rose from an earlier one
+pub rose_earlier : (a b c : ℕ) → a ≤ b → HasRisen b c → HasRisen a c
+rose_earlier a b c le h = rose_by (nat_lt a (2 ^ 64 - 1)) (nat_lt b (2 ^ 64 - 1)) a b c (2 ^ 64 - 1) (ltb-true a (2 ^ 64 - 1)) (ltb-false b (2 ^ 64 - 1)) le h
+
+-- the value that was read, or its fault as one of the file
+abbrev pub or_fault : {A E : Type 0} → File → (E → Cause) → Result A E → Result A Fault
+or_fault which as_cause value = result_map_both (λ x. x) (λ e. fault.InFile which (as_cause e)) value
+
+-- the links of what was read
+abbrev pub relations : Option (List ℕ) → Result LinkMap Fault
+relations read = read_as file.Relations cause.Relation links_of (λ _. read)
+
+-- the payloads of what was read of the file of this name
+abbrev pub payloads_by : Option (List ℕ) → Option (List ℕ) → Result Payloads Fault
+payloads_by name read = option_map_or (λ _. read_as file.Payloads cause.Payload payloads_in (λ _. read)) name (Ok no_payloads)
+
+-- the scenario of what was read of the file of this name
+abbrev pub scenario_by : Option (List ℕ) → Option (List ℕ) → Result ScenarioValue Fault
+scenario_by name read = option_map_or (λ _. read_as file.Scenario cause.Scenario scenario_of_bytes (λ _. read)) name (Ok nothing)
+
+-- the lines of what was read
+abbrev pub script_lines : Option (List ℕ) → Result (List LineValue) Fault
+script_lines read = read_as file.Script cause.Script script_of (λ _. read)
+
+-- something was read of each file
+some_read : (held : Option (List ℕ)) (fails : Type 0) → (read : Option (List ℕ)) × IsRead held fails read
+some_read None fails = (Some [], tt)
+some_read (Some bytes) fails = (Some bytes, refl)
+
+pub some_read_as : (from : Source) (name : Option (List ℕ)) → (read : Option (List ℕ)) × IsReadAs from name read
+some_read_as from name = some_read (option_map_or from.holds name (Some [])) (IsSomeAnd name from.fails)
+
+-- nothing is said of the file where memory ran out
+pub no_room : {X A : Type 0} {held : Option (List ℕ)} {fails : Type 0} {view : X → A} {value : Reads → Result A Fault} → ReadsTo held fails view (Err error.Memory) value
+no_room {X} {A} {held} {fails} {view} {value} = let r = some_read held fails in record { read = r.0; is_read = r.1; finds = tt }
+
+pub too_long : (which : File) (bytes : List ℕ) → most_bytes which < length bytes → bytes_of which (Some bytes) ≡ Err (fault.InFile which (cause.TooLong (most_bytes which)))
+too_long which bytes h = rw (lt-ltb (most_bytes which) (length bytes) h) refl
+
+-- a file within its limit
+pub whole : (which : File) (bytes : List ℕ) → length bytes ≤ most_bytes which → bytes_of which (Some bytes) ≡ Ok bytes
+whole which bytes h = rw (le-ltb (most_bytes which) (length bytes) h) refl
+
+-- the file was read whole
+pub read_whole : (which : File) (held : Option (List ℕ)) (fails : Type 0) (X : Type 0) (view : X → List ℕ) (x : X) → (length (view x) ≤ most_bytes which) × Keeps held (Some (view x)) → ReadsTo held fails view (Ok x) (λ reads. bytes_of which (reads which))
+read_whole which held fails X view x h = record { read = Some (view x); is_read = h.1; finds = whole which (view x) h.0 }
+
+-- a read of the file failed
+pub read_failed : (which : File) (held : Option (List ℕ)) (fails : Type 0) (X : Type 0) (view : X → List ℕ) → fails → ReadsTo held fails view (Err (error.Fault (fault.InFile which cause.Unread))) (λ reads. bytes_of which (reads which))
+read_failed which held fails X view h = record { read = None; is_read = h; finds = refl }
+
+-- the file is longer than it may be
+pub read_long : (which : File) (held : Option (List ℕ)) (fails : Type 0) (X : Type 0) (view : X → List ℕ) → IfSome held (λ file. most_bytes which < length file) → ReadsTo held fails view (Err (error.Fault (fault.InFile which (cause.TooLong (most_bytes which))))) (λ reads. bytes_of which (reads which))
+read_long which None fails X view h =
+    let long : List ℕ = replicate (most_bytes which + 1) 0 in
+    record { read = Some long; is_read = tt; finds = too_long which long (omega (arith, length-replicate {A = ℕ} (most_bytes which + 1) 0)) }
+read_long which (Some bytes) fails X view h = record { read = Some bytes; is_read = refl; finds = too_long which bytes h }
+
+-- a file that is longer than its limit
+pub long_file : (which : File) (held left : Option (List ℕ)) (limit : ℕ) → limit ≡ most_bytes which → IfSome held (λ bytes. (limit < length bytes) × (left ≡ Some (drop (limit + 1) bytes))) → IfSome held (λ bytes. most_bytes which < length bytes)
+long_file which None left limit is h = h
+long_file which (Some bytes) left limit is h = rw is at h.0
+
+-- an error goes through what follows
+pub bind_error : {A B : Type 0} (value : Result A Fault) (f : A → Result B Fault) (s : AskError) → IsFaultOf s value → IsFaultOf s (value >>= f)
+bind_error value f error.Memory h = tt
+bind_error value f (error.Fault e) h = ap (λ r. r >>= f) h
+
+-- what was found of the bytes is found of the file
+pub of_bytes : {X Y A B : Type 0} {held : Option (List ℕ)} {fails : Type 0} (of_y : Y → A) (view : X → B) (y : Y) (first : Reads → Result A Fault) (f : A → Result B Fault) (result : Result X AskError)
+    → ReadsTo held fails of_y (Ok y) first → Finds view result (f (of_y y)) → ReadsTo held fails view result (λ reads. first reads >>= f)
+of_bytes of_y view y first f result found h = record { read = found.read; is_read = found.is_read; finds = subst (λ v. Finds view result (v >>= f)) (sym found.finds) h }
+
+pub no_bytes : {X Y A B : Type 0} {held : Option (List ℕ)} {fails : Type 0} (of_y : Y → A) (view : X → B) (first : Reads → Result A Fault) (f : A → Result B Fault) (s : AskError)
+    → ReadsTo held fails of_y (Err s) first → ReadsTo held fails view (Err s) (λ reads. first reads >>= f)
+no_bytes of_y view first f s found = record { read = found.read; is_read = found.is_read; finds = bind_error (first (λ _. found.read)) f s found.finds }
+
+-- what is known of a file that was read in the middle is known of the inputs at their start and end
+module _ {I : Type 0} {holds : I → List ℕ → Option (List ℕ)} {is_sound : I → List ℕ → Type 0} {faults : I → ℕ} where
+  is_read_whole : (old mid new last : I) → KeepsNames holds is_sound faults old mid → faults new ≤ faults last → (name : List ℕ) (read : Option (List ℕ))
+      → IsReadAs (source_of holds is_sound faults mid new) (Some name) read → IsReadAs (source_of holds is_sound faults old last) (Some name) read
+  is_read_whole old mid new last keeps later name None h =
+      (let rose : HasRisen (faults old) (faults new) = rose_earlier (faults old) (faults mid) (faults new) keeps.later h.0 in omega (arith, rose, later), λ sound. h.1 (keeps.sound name sound))
+  is_read_whole old mid new last keeps later name (Some bytes) h = subst (λ (held : Option (List ℕ)). Keeps held (Some bytes)) (keeps.holds_same name) h
+
+  pub read_whole_run : (old mid new last : I) → KeepsNames holds is_sound faults old mid → faults new ≤ faults last → (name read : Option (List ℕ))
+      → IsReadAs (source_of holds is_sound faults mid new) name read → IsReadAs (source_of holds is_sound faults old last) name read
+  read_whole_run old mid new last keeps later None read h = h
+  read_whole_run old mid new last keeps later (Some name) read h = is_read_whole old mid new last keeps later name read h
+
+  -- inputs that no call was made on
+  pub kept_names : (i : I) → KeepsNames holds is_sound faults i i
+  kept_names i = record { holds_same = λ name. refl; sound = λ name h. h; later = omega arith }
+
+  -- inputs that two calls were made on
+  pub kept_twice : (old mid new : I) → KeepsNames holds is_sound faults old mid → KeepsNames holds is_sound faults mid new → KeepsNames holds is_sound faults old new
+  kept_twice old mid new first second = record {
+    holds_same = λ name. second.holds_same name ∙ first.holds_same name;
+    sound = λ name h. second.sound name (first.sound name h);
+    later = omega (arith, first.later, second.later);
+  }

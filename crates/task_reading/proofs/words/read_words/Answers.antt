@@ -1,0 +1,26 @@
+use Rattle.std.proofs.Common.{◌≡◌, ◌∙◌, map, string_bytes}
+use Rattle.clap.specs.Words.{kind_of}
+use Rattle.clap.specs.declared.error.kind.ErrorKind.TheVariants.{OutOfMemory}
+use Rattle.task_reading.proofs.Parsing.{accepted, failed, found, refused, stands, taken}
+use Rattle.task_reading.proofs.words.read_words.Goals as goal
+
+pub returns-in-Err-try_get_matches_from : goal.returns-in-Err-try_get_matches_from
+returns-in-Err-try_get_matches_from c =
+    let other : kind_of c.in-Err-try_get_matches_from.error ≡ OutOfMemory → ⊥ =
+    λ h. let same : c.kind.result ≡ OutOfMemory = c.kind.ensures ∙ h in let is = rw same at c.eq.ensures in cc in
+    record {
+      form = refused (map string_bytes c.args.words.now) c.in-Err-try_get_matches_from.error (failed _ _ c.in-Err-try_get_matches_from.error c.in-Ok.ensures c.in-Err-try_get_matches_from.ensures.kinds) other;
+      sized = tt;
+    }
+
+pub returns : goal.returns
+returns c =
+    let words = map string_bytes c.args.words.now in
+    let rows = found _ words _ c.in-Ok.ensures c.in-Ok-try_get_matches_from.ensures.matches in
+    record {
+      form = accepted words _ _ _ _ _ _ _ (taken _ words c.in-Ok.ensures c.in-Ok-try_get_matches_from.ensures.kinds)
+          (c.get_str.ensures ∙ stands _ _ _ rows) (c.get_str-2.ensures ∙ stands _ _ _ rows) (c.get_str-3.ensures ∙ stands _ _ _ rows)
+          (c.get_str-4.ensures ∙ stands _ _ _ rows) (c.get_str-5.ensures ∙ stands _ _ _ rows) (c.get_str-6.ensures ∙ stands _ _ _ rows)
+          c.form_by.ensures.form;
+      sized = c.form_by.ensures.sized;
+    }

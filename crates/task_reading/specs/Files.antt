@@ -1,0 +1,52 @@
+-- What was read of the files, and what comes of it.
+use Rattle.std.specs.Prelude.{◌≡◌, [], Option, Some, None, Result, Ok, Err, IsSomeAnd}
+use Rattle.std.specs.Option.{option_map_or}
+use Rattle.std.specs.Io.KnownBytes.{Keeps}
+use Rattle.clap.specs.Walk.{Text}
+use Rattle.task_reading.specs.Sources.{Source}
+use Rattle.task_reading.specs.Words.{Form, name_by}
+use Rattle.task_reading.specs.Asking.{Reads, asked}
+use Rattle.task_reading.specs.declared.asking.Asked.{Asked}
+use Rattle.task_reading.specs.declared.types.AskError.{AskError}
+use Rattle.task_reading.specs.declared.types.AskError.TheVariants as error
+use Rattle.task_reading.specs.declared.types.File.{File}
+use Rattle.task_reading.specs.declared.types.Fault.{Fault}
+
+-- A file was read whole, so that these are the bytes that are told of it; or a read of it failed.
+abbrev pub IsRead : Option Text → Type 0 → Option Text → Type 0
+IsRead held fails (Some bytes) = Keeps held (Some bytes)
+IsRead held fails None = fails
+
+-- A file was read under its name. One that isn't named counts as empty, and no read of it fails.
+abbrev pub IsReadAs : Source → Option Text → Option Text → Type 0
+IsReadAs from name = IsRead (option_map_or from.holds name (Some [])) (IsSomeAnd name from.fails)
+
+-- each file was read under the name that the form gives it
+abbrev pub AreReads : Source → Option Form → Reads → Type 0
+AreReads from form reads = (file : File) → IsReadAs from (name_by form file) (reads file)
+
+-- the error is the value's fault, unless memory ran out
+abbrev pub IsFaultOf : {A : Type 0} → AskError → Result A Fault → Type 0
+IsFaultOf error.Memory value = Unit {0}
+IsFaultOf (error.Fault fault) value = value ≡ Err fault
+
+-- what was found is the value, or the error says why there is none
+abbrev pub Finds : {X A : Type 0} → (X → A) → Result X AskError → Result A Fault → Type 0
+Finds view (Ok x) value = value ≡ Ok (view x)
+Finds view (Err e) value = IsFaultOf e value
+
+-- One file was read, and what was found is the value of what was read.
+pub record ReadsTo {X A : Type 0} (held : Option Text) (fails : Type 0) (view : X → A) (result : Result X AskError) (value : Reads → Result A Fault) : Type 0 where
+  pub read : Option Text
+  pub is_read : IsRead held fails read
+  pub finds : Finds view result (value (λ _. read))
+
+-- One file was read under its name, if it has one, and what was found is the value of what was read.
+abbrev pub ReadsAs : {X A : Type 0} → Source → Option Text → (X → A) → Result X AskError → (Reads → Result A Fault) → Type 0
+ReadsAs from name view result value = ReadsTo (option_map_or from.holds name (Some [])) (IsSomeAnd name from.fails) view result value
+
+-- The files were read under the names of the form, and what was found is what they ask for.
+pub record Prepares (from : Source) (form : Option Form) (result : Result Asked AskError) : Type 0 where
+  pub reads : Reads
+  pub are_read : AreReads from form reads
+  pub finds : Finds (λ (found : Asked). found) result (asked form reads)

@@ -1,0 +1,6 @@
+pub mod Sources
+pub mod Command
+pub mod Words
+pub mod Asking
+pub mod Files
+pub mod Texts

@@ -1,0 +1,124 @@
+//! The faults of files as errors of asking.
+ghost use Rattle.std.specs.Prelude.{Result, List, Err};
+ghost use Rattle.std.specs.Result.{result_map_both};
+ghost use Rattle.net_names.specs.Links.{LinkMap};
+ghost use Rattle.caida_reader.specs.Progress.{Fails as RelationFails};
+ghost use Rattle.caida_reader.specs.declared.errors.RelError.{RelError as ARelError};
+ghost use Rattle.roa_table.specs.Files.{Gives};
+ghost use Rattle.roa_table.specs.Sets.{Payloads};
+ghost use Rattle.roa_table.specs.declared.errors.VrpError.{VrpError as AVrpError};
+ghost use Rattle.scenario_text.specs.Scenarios.{ScenarioValue};
+ghost use Rattle.scenario_text.specs.Faults.{Fails as ScenarioFails};
+ghost use Rattle.scenario_text.specs.LineValues.{LineValue};
+ghost use Rattle.scenario_text.specs.Script.{Fails as ScriptFails};
+ghost use Rattle.scenario_text.specs.declared.faults.ScenarioError.{ScenarioError as AScenarioError};
+ghost use Rattle.scenario_text.specs.declared.script.ScriptError.{ScriptError as AScriptError};
+ghost use Rattle.task_reading.specs.Files.{IsFaultOf};
+ghost use Rattle.task_reading.specs.declared.types.File.TheVariants as file;
+ghost use Rattle.task_reading.specs.declared.types.Cause.TheVariants as cause;
+ghost use Rattle.task_reading.specs.declared.types.Fault.TheVariants as fault;
+
+use crate::types::{AskError, Cause, Fault, File};
+use caida_reader::RelError;
+use roa_table::VrpError;
+use scenario_text::{ScenarioError, ScriptError};
+
+/// The error for a fault of the relationship file.
+pub fn of_relations(error: RelError) -> AskError
+    ensures { (value : Result LinkMap ARelError) → RelationFails error value → IsFaultOf result (result_map_both (λ x. x) (λ e. fault.InFile file.Relations (cause.Relation e)) value) }
+{
+    match error {
+        RelError::Memory => AskError::Memory,
+        RelError::Unreadable { line: _ } => AskError::Fault(Fault::InFile(
+            File::Relations,
+            Cause::Relation(error),
+        )),
+        RelError::SelfLink { line: _ } => AskError::Fault(Fault::InFile(
+            File::Relations,
+            Cause::Relation(error),
+        )),
+        RelError::Conflict {
+            line: _,
+            earlier: _,
+        } => AskError::Fault(Fault::InFile(File::Relations, Cause::Relation(error))),
+        RelError::TooManyLinks { line: _ } => AskError::Fault(Fault::InFile(
+            File::Relations,
+            Cause::Relation(error),
+        )),
+    }
+}
+
+/// The error for a fault of the payload file.
+pub fn of_payloads(error: VrpError) -> AskError
+    ensures { (value : Result Payloads AVrpError) → Gives (Err error) value → IsFaultOf result (result_map_both (λ x. x) (λ e. fault.InFile file.Payloads (cause.Payload e)) value) }
+{
+    match error {
+        VrpError::Memory => AskError::Memory,
+        VrpError::Fields { row: _ } => AskError::Fault(Fault::InFile(
+            File::Payloads,
+            Cause::Payload(error),
+        )),
+        VrpError::BadAsn { row: _ } => AskError::Fault(Fault::InFile(
+            File::Payloads,
+            Cause::Payload(error),
+        )),
+        VrpError::BadPrefix { row: _ } => AskError::Fault(Fault::InFile(
+            File::Payloads,
+            Cause::Payload(error),
+        )),
+        VrpError::BadMax { row: _ } => AskError::Fault(Fault::InFile(
+            File::Payloads,
+            Cause::Payload(error),
+        )),
+        VrpError::TooMany { row: _ } => AskError::Fault(Fault::InFile(
+            File::Payloads,
+            Cause::Payload(error),
+        )),
+    }
+}
+
+/// The error for a fault of the scenario.
+pub fn of_scenario(error: ScenarioError) -> AskError
+    ensures { (value : Result ScenarioValue AScenarioError) → ScenarioFails error value → IsFaultOf result (result_map_both (λ x. x) (λ e. fault.InFile file.Scenario (cause.Scenario e)) value) }
+{
+    match error {
+        ScenarioError::Memory => AskError::Memory,
+        ScenarioError::NotJson => AskError::Fault(Fault::InFile(
+            File::Scenario,
+            Cause::Scenario(error),
+        )),
+        ScenarioError::Shape { place: _ } => AskError::Fault(Fault::InFile(
+            File::Scenario,
+            Cause::Scenario(error),
+        )),
+        ScenarioError::Value { place: _ } => AskError::Fault(Fault::InFile(
+            File::Scenario,
+            Cause::Scenario(error),
+        )),
+        ScenarioError::Twice { place: _ } => AskError::Fault(Fault::InFile(
+            File::Scenario,
+            Cause::Scenario(error),
+        )),
+        ScenarioError::Limit { which: _ } => AskError::Fault(Fault::InFile(
+            File::Scenario,
+            Cause::Scenario(error),
+        )),
+    }
+}
+
+/// The error for a fault of the script.
+pub fn of_script(error: ScriptError) -> AskError
+    ensures { (value : Result (List LineValue) AScriptError) → ScriptFails error value → IsFaultOf result (result_map_both (λ x. x) (λ e. fault.InFile file.Script (cause.Script e)) value) }
+{
+    match error {
+        ScriptError::Memory => AskError::Memory,
+        ScriptError::Unreadable { line: _ } => AskError::Fault(Fault::InFile(
+            File::Script,
+            Cause::Script(error),
+        )),
+        ScriptError::TooMany { line: _ } => AskError::Fault(Fault::InFile(
+            File::Script,
+            Cause::Script(error),
+        )),
+    }
+}

@@ -1,0 +1,161 @@
+//! The texts and statuses of faults.
+ghost use Rattle.std.specs.Prelude.{◌≡◌, [], IfOk, Option, option_map, string_bytes, unwrap_or};
+ghost use Rattle.task_reading.specs.Texts.{cause_of, fault_ending, limit_text as limit_text_of};
+ghost use Rattle.task_reading.specs.Words.{Form, form_seen, name_by};
+
+use crate::types::{Cause, Fault, File, Status};
+use crate::words::WordForm;
+use caida_reader::RelError;
+use roa_table::VrpError;
+use scenario_text::{LimitOf, ScenarioError, ScriptError, place_string};
+use std::alloc::{AllocError, Global};
+
+const USAGE: &str =
+    "usage: asprop REL [--vrps FILE] [--scenario FILE] [--script FILE]\n       asprop REL --origin N\n       asprop --demo N\n";
+
+fn relation_text(alloc: Global, error: RelError) -> Result<String, AllocError>
+    ensures { IfOk result (λ text. string_bytes text ≡ (cause_of (Cause.Relation error)).1) }
+{
+    match error {
+        RelError::Memory => Ok(String::new(alloc)),
+        RelError::Unreadable { line } => format!(in alloc; "line {line}: unreadable"),
+        RelError::SelfLink { line } => format!(in alloc; "line {line}: an AS linked to itself"),
+        RelError::Conflict { line, earlier } => {
+            format!(in alloc; "line {line}: conflicts with line {earlier}")
+        }
+        RelError::TooManyLinks { line } => format!(in alloc;
+            "line {line}: more than 1500000 links"
+        ),
+    }
+}
+
+fn payload_text(alloc: Global, error: VrpError) -> Result<String, AllocError>
+    ensures { IfOk result (λ text. string_bytes text ≡ (cause_of (Cause.Payload error)).1) }
+{
+    match error {
+        VrpError::Memory => Ok(String::new(alloc)),
+        VrpError::Fields { row } => format!(in alloc; "row {row}: fewer than three fields"),
+        VrpError::BadAsn { row } => format!(in alloc; "row {row}: bad AS number"),
+        VrpError::BadPrefix { row } => format!(in alloc; "row {row}: bad prefix"),
+        VrpError::BadMax { row } => format!(in alloc; "row {row}: bad maximum length"),
+        VrpError::TooMany { row } => format!(in alloc; "row {row}: more than 2000000 payloads"),
+    }
+}
+
+fn limit_text(which: LimitOf) -> &'static str
+    ensures { result.now ≡ limit_text_of which }
+{
+    match which {
+        LimitOf::Announcements => "more than 64 announcements",
+        LimitOf::Prefixes => "more than 32 prefixes",
+        LimitOf::Path => "more than 64 numbers in a path",
+        LimitOf::Rounds => "more than 4 rounds",
+        LimitOf::Leakers => "more than 64 leakers in a round",
+        LimitOf::Watch => "more than 16 watched addresses",
+    }
+}
+
+fn scenario_text(alloc: Global, error: ScenarioError) -> Result<String, AllocError>
+    ensures { IfOk result (λ text. string_bytes text ≡ (cause_of (Cause.Scenario error)).1) }
+{
+    match error {
+        ScenarioError::Memory => Ok(String::new(alloc)),
+        ScenarioError::NotJson => String::from_str(alloc, "not JSON"),
+        ScenarioError::Shape { place } => {
+            let text = place_string(alloc, place)?;
+            format!(in alloc; "{text}: wrong shape")
+        }
+        ScenarioError::Value { place } => {
+            let text = place_string(alloc, place)?;
+            format!(in alloc; "{text}: bad value")
+        }
+        ScenarioError::Twice { place } => {
+            let text = place_string(alloc, place)?;
+            format!(in alloc; "{text}: named twice")
+        }
+        ScenarioError::Limit { which } => String::from_str(alloc, limit_text(which)),
+    }
+}
+
+fn script_text(alloc: Global, error: ScriptError) -> Result<String, AllocError>
+    ensures { IfOk result (λ text. string_bytes text ≡ (cause_of (Cause.Script error)).1) }
+{
+    match error {
+        ScriptError::Memory => Ok(String::new(alloc)),
+        ScriptError::Unreadable { line } => format!(in alloc; "line {line}: unreadable"),
+        ScriptError::TooMany { line } => format!(in alloc;
+            "line {line}: more than 100000 commands"
+        ),
+    }
+}
+
+// What is said of a file that isn't taken, with the place in it.
+fn cause_text(alloc: Global, cause: Cause) -> Result<String, AllocError>
+    ensures { IfOk result (λ text. string_bytes text ≡ (cause_of cause).1) }
+{
+    match cause {
+        Cause::Unread => String::from_str(alloc, "read fault"),
+        Cause::TooLong(most) => format!(in alloc; "more than {most} bytes"),
+        Cause::Relation(error) => relation_text(alloc, error),
+        Cause::Payload(error) => payload_text(alloc, error),
+        Cause::Scenario(error) => scenario_text(alloc, error),
+        Cause::Script(error) => script_text(alloc, error),
+    }
+}
+
+// The name of a file as the form gives it.
+fn file_name<'a>(form: &Option<WordForm<'a>>, file: File) -> &'a str
+    ensures { result.now ≡ unwrap_or (name_by (option_map form_seen form.now) file) [] }
+{
+    match form {
+        Some(form) => form.name(file).unwrap_or(""),
+        None => "",
+    }
+}
+
+/// What is said of a fault, with the name of its file as the form gives it and the place in it.
+pub fn fault_message(
+    alloc: Global,
+    form: &Option<WordForm<'_>>,
+    fault: Fault,
+) -> Result<String, AllocError>
+    ensures { IfOk result (λ text. string_bytes text ≡ (fault_ending (option_map form_seen form.now) fault).1) }
+{
+    match fault {
+        Fault::Usage => String::from_str(alloc, USAGE),
+        Fault::TooManyAses => String::from_str(alloc, "asprop: more than 150000 ASes\n"),
+        Fault::InFile(file, cause) => {
+            let name = file_name(form, file);
+            let text = cause_text(alloc, cause)?;
+            format!(in alloc; "asprop: {name}: {text}\n")
+        }
+    }
+}
+
+fn cause_status(cause: Cause) -> Status
+    ensures { result ≡ (cause_of cause).0 }
+{
+    match cause {
+        Cause::Unread => Status::ReadFault,
+        Cause::TooLong(_) => Status::TooLarge,
+        Cause::Relation(RelError::TooManyLinks { line: _ }) => Status::TooLarge,
+        Cause::Relation(_) => Status::BadInput,
+        Cause::Payload(VrpError::TooMany { row: _ }) => Status::TooLarge,
+        Cause::Payload(_) => Status::BadInput,
+        Cause::Scenario(ScenarioError::Limit { which: _ }) => Status::TooLarge,
+        Cause::Scenario(_) => Status::BadInput,
+        Cause::Script(ScriptError::TooMany { line: _ }) => Status::TooLarge,
+        Cause::Script(_) => Status::BadInput,
+    }
+}
+
+/// The status with which a run ends that has this fault.
+pub fn fault_status(fault: Fault) -> Status
+    ensures { (form : Option Form) → result ≡ (fault_ending form fault).0 }
+{
+    match fault {
+        Fault::Usage => Status::Usage,
+        Fault::TooManyAses => Status::TooLarge,
+        Fault::InFile(_, cause) => cause_status(cause),
+    }
+}

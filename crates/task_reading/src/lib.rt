@@ -1,0 +1,20 @@
+//! What a run of the program is asked for: the words of the command line and the files that they name.
+//!
+//! [`read_words`] gives the form of the words, and none exactly where the command doesn't take them or they have none of
+//! the forms. [`ask`] reads the files that a form names, each to its end or to one byte past its limit, and gives what they
+//! ask for, or the first fault in the order of reading; it yields to want of memory alone. [`fault_status`] and
+//! [`fault_message`] say with which status and text a run ends that has a fault.
+#![tactic(auto)]
+
+mod asking;
+mod command;
+mod errors;
+mod fault_texts;
+mod reading;
+mod types;
+mod words;
+
+pub use asking::{Asked, ask};
+pub use fault_texts::{fault_message, fault_status};
+pub use types::{AskError, Cause, Fault, File, Status};
+pub use words::{WordForm, read_words};

@@ -1,0 +1,190 @@
+//! The files of a run: each is read to its end, or to one byte past its limit, before it is judged.
+ghost use Rattle.std.specs.Prelude.{◌≡◌, ◌<◌, Some, length};
+ghost use Rattle.std.specs.Option.{option_map_or};
+ghost use Rattle.caida_reader.specs.Value.{links_of};
+ghost use Rattle.io_edge.specs.Faults.{KeepsNames};
+ghost use Rattle.roa_table.specs.Files.{payloads_in};
+ghost use Rattle.roa_table.specs.Sets.{no_payloads};
+ghost use Rattle.scenario_text.specs.Readings.{scenario_of_bytes};
+ghost use Rattle.scenario_text.specs.Scenarios.{nothing};
+ghost use Rattle.scenario_text.specs.Script.{script_of};
+ghost use Rattle.task_reading.specs.Asking.{bytes_of, most_bytes, read_as};
+ghost use Rattle.task_reading.specs.Files.{ReadsAs};
+ghost use Rattle.task_reading.specs.Sources.{source_of};
+ghost use Rattle.task_reading.specs.Words.{text_seen};
+ghost use Rattle.task_reading.specs.declared.types.File.TheVariants as files;
+ghost use Rattle.task_reading.specs.declared.types.Cause.TheVariants as cause;
+
+use crate::errors::{of_payloads, of_relations, of_scenario, of_script};
+use crate::types::{AskError, Cause, Fault, File};
+use caida_reader::Reader;
+use io_edge::{Failed, Inputs, ReadAllError, read_all};
+use net_names::Links;
+use roa_table::Vrps;
+use scenario_text::{Lines, Scenario, read_scenario, read_script};
+use std::alloc::Global;
+
+// The most bytes of a relationship file.
+const MAX_RELATION_BYTES: usize = 268_435_456;
+
+// How many bytes are taken at once.
+const PIECE: usize = 65_536;
+
+// The most bytes of a file.
+fn limit_of(file: File) -> usize
+    ensures { result ≡ most_bytes file }
+{
+    match file {
+        File::Relations | File::Payloads => 268_435_456,
+        File::Scenario | File::Script => 16_777_216,
+    }
+}
+
+// Reads the relationship file in pieces as long as the room.
+fn read_pieces<I: Inputs>(
+    alloc: Global,
+    inputs: &mut I,
+    name: &str,
+    room: &mut [u8],
+) -> Result<Links, AskError>
+    requires { 0 < length room.old }
+    ensures found { ReadsAs (source_of I.holds I.is_sound I.faults inputs.old inputs.new) (Some name.now)
+        (λ links. links) result (read_as files.Relations cause.Relation links_of) }
+    ensures keeps { KeepsNames I.holds I.is_sound I.faults inputs.old inputs.new }
+{
+    if inputs.begin(name).is_err() {
+        return Err(AskError::Fault(Fault::InFile(File::Relations, Cause::Unread)));
+    }
+    let mut reader = Reader::new(alloc);
+    let most = room.len();
+    let mut taken = 0usize;
+    'pieces: while taken <= MAX_RELATION_BYTES {
+        let want = (MAX_RELATION_BYTES + 1 - taken).min(most);
+        match inputs.take(&mut room[..want]) {
+            Err(Failed) => return Err(AskError::Fault(Fault::InFile(
+                File::Relations,
+                Cause::Unread,
+            ))),
+            Ok(0) => {
+                return match reader.finish() {
+                    Ok(links) => Ok(links),
+                    Err(error) => Err(of_relations(error)),
+                };
+            }
+            Ok(count) => {
+                taken += count;
+                // A reader that has failed answers its fault at the end.
+                let _ = reader.feed(&room[..count]);
+            }
+        }
+    }
+    Err(AskError::Fault(Fault::InFile(File::Relations, Cause::TooLong(MAX_RELATION_BYTES))))
+}
+
+/// Reads the relationship file.
+pub fn read_relations<I: Inputs>(
+    alloc: Global,
+    inputs: &mut I,
+    name: &str,
+) -> Result<Links, AskError>
+    ensures found { ReadsAs (source_of I.holds I.is_sound I.faults inputs.old inputs.new) (Some name.now)
+        (λ links. links) result (read_as files.Relations cause.Relation links_of) }
+    ensures keeps { KeepsNames I.holds I.is_sound I.faults inputs.old inputs.new }
+{
+    let Ok(mut room) = vec![in alloc; 0u8; PIECE] else {
+        return Err(AskError::Memory);
+    };
+    read_pieces(alloc, inputs, name, room.as_mut_slice())
+}
+
+// Reads the bytes of a file.
+fn read_bytes<I: Inputs>(
+    alloc: Global,
+    inputs: &mut I,
+    file: File,
+    name: &str,
+) -> Result<Vec<u8>, AskError>
+    ensures found { ReadsAs (source_of I.holds I.is_sound I.faults inputs.old inputs.new) (Some name.now)
+        (λ bytes. bytes.items) result (λ reads. bytes_of file (reads file)) }
+    ensures keeps { KeepsNames I.holds I.is_sound I.faults inputs.old inputs.new }
+{
+    let most = limit_of(file);
+    match read_all(alloc, inputs, name, most) {
+        Ok(bytes) => Ok(bytes),
+        Err(ReadAllError::Memory) => Err(AskError::Memory),
+        Err(ReadAllError::ReadFault) => Err(AskError::Fault(Fault::InFile(file, Cause::Unread))),
+        Err(ReadAllError::TooLong) => Err(AskError::Fault(Fault::InFile(
+            file,
+            Cause::TooLong(most),
+        ))),
+    }
+}
+
+/// Reads the payloads of the file of this name; without a name there are none.
+pub fn read_payloads<I: Inputs>(
+    alloc: Global,
+    inputs: &mut I,
+    name: Option<&str>,
+) -> Result<Vrps, AskError>
+    ensures found { ReadsAs (source_of I.holds I.is_sound I.faults inputs.old inputs.new) (text_seen name.entry)
+        (λ vrps. vrps) result (λ reads. option_map_or (λ _. read_as files.Payloads cause.Payload payloads_in reads) (text_seen name.entry) (Ok no_payloads)) }
+    ensures keeps { KeepsNames I.holds I.is_sound I.faults inputs.old inputs.new }
+{
+    let Some(name) = name else {
+        return Ok(Vrps::new(alloc));
+    };
+    let bytes = match read_bytes(alloc, inputs, File::Payloads, name) {
+        Ok(bytes) => bytes,
+        Err(error) => return Err(error),
+    };
+    match roa_table::read(alloc, &bytes) {
+        Ok(vrps) => Ok(vrps),
+        Err(error) => Err(of_payloads(error)),
+    }
+}
+
+/// Reads the scenario of the file of this name; without a name it is the empty one.
+pub fn read_plan<I: Inputs>(
+    alloc: Global,
+    inputs: &mut I,
+    name: Option<&str>,
+) -> Result<Scenario, AskError>
+    ensures found { ReadsAs (source_of I.holds I.is_sound I.faults inputs.old inputs.new) (text_seen name.entry)
+        (λ scenario. scenario) result (λ reads. option_map_or (λ _. read_as files.Scenario cause.Scenario scenario_of_bytes reads) (text_seen name.entry) (Ok nothing)) }
+    ensures keeps { KeepsNames I.holds I.is_sound I.faults inputs.old inputs.new }
+{
+    let Some(name) = name else {
+        return Ok(Scenario::new(alloc));
+    };
+    let bytes = match read_bytes(alloc, inputs, File::Scenario, name) {
+        Ok(bytes) => bytes,
+        Err(error) => return Err(error),
+    };
+    match read_scenario(alloc, &bytes) {
+        Ok(scenario) => Ok(scenario),
+        Err(error) => Err(of_scenario(error)),
+    }
+}
+
+/// Reads the lines of the script of this name; without a name there are none.
+pub fn read_lines<I: Inputs>(
+    alloc: Global,
+    inputs: &mut I,
+    name: Option<&str>,
+) -> Result<Lines, AskError>
+    ensures found { ReadsAs (source_of I.holds I.is_sound I.faults inputs.old inputs.new) (text_seen name.entry)
+        (λ lines. lines) result (read_as files.Script cause.Script script_of) }
+    ensures keeps { KeepsNames I.holds I.is_sound I.faults inputs.old inputs.new }
+{
+    let Some(name) = name else {
+        return Ok(Lines::new(alloc));
+    };
+    let bytes = match read_bytes(alloc, inputs, File::Script, name) {
+        Ok(bytes) => bytes,
+        Err(error) => return Err(error),
+    };
+    match read_script(alloc, &bytes) {
+        Ok(lines) => Ok(lines),
+        Err(error) => Err(of_script(error)),
+    }
+}

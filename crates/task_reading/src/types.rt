@@ -1,0 +1,96 @@
+//! What a run is about.
+ghost use Rattle.std.specs.Prelude.{◌≡◌};
+ghost use Rattle.task_reading.specs.Texts.{number_of};
+
+use caida_reader::RelError;
+use roa_table::VrpError;
+use scenario_text::{ScenarioError, ScriptError};
+
+/// The part that a file has in a run.
+#[derive(Clone, Copy, Debug, PartialEq, Eq)]
+pub enum File {
+    /// The relationship file.
+    Relations,
+    /// The payload file.
+    Payloads,
+    /// The scenario.
+    Scenario,
+    /// The script.
+    Script,
+}
+
+/// Why the words and the files give no task.
+#[derive(Clone, Copy, Debug, PartialEq, Eq)]
+pub enum Fault {
+    /// The words have none of the forms.
+    Usage,
+    /// This file isn't taken, for this cause.
+    InFile(File, Cause),
+    /// The world has more than 150,000 ASes.
+    TooManyAses,
+}
+
+/// Why nothing is asked.
+#[derive(Clone, Copy, Debug, PartialEq, Eq)]
+pub enum AskError {
+    /// Memory ran out.
+    Memory,
+    /// The words or a file have this fault.
+    Fault(Fault),
+}
+
+/// Why a file isn't taken.
+#[derive(Clone, Copy, Debug, PartialEq, Eq)]
+pub enum Cause {
+    /// A read of it failed.
+    Unread,
+    /// It has more than this many bytes.
+    TooLong(usize),
+    /// The relationship file has this fault.
+    Relation(RelError),
+    /// The payload file has this fault.
+    Payload(VrpError),
+    /// The scenario has this fault.
+    Scenario(ScenarioError),
+    /// The script has this fault.
+    Script(ScriptError),
+}
+
+/// How a run ended.
+#[derive(Clone, Copy, Debug, PartialEq, Eq)]
+pub enum Status {
+    /// All answers were written, and none is a refusal.
+    Done,
+    /// All answers were written, and at least one is a refusal.
+    SomeRefused,
+    /// The words have none of the forms.
+    Usage,
+    /// A file is refused, or the links have a provider cycle.
+    BadInput,
+    /// A read of a file failed.
+    ReadFault,
+    /// A write of the answers failed.
+    WriteFault,
+    /// Memory ran out.
+    NoMemory,
+    /// A file is too long, or a counted limit is passed.
+    TooLarge,
+}
+
+impl Status {
+    /// The number with which the program ends.
+    pub fn number(self) -> u8
+        ensures { result ≡ number_of self }
+    {
+        match self {
+            Status::Done => 0,
+            Status::SomeRefused => 1,
+            Status::Usage => 2,
+            Status::BadInput => 3,
+            Status::ReadFault => 4,
+            Status::WriteFault => 5,
+            Status::NoMemory => 6,
+            Status::TooLarge => 7,
+        }
+    }
+}

@@ -1,0 +1,128 @@
+//! The words of the command line.
+ghost use Rattle.std.specs.Prelude.{◌≡◌, ◌≤◌, IfOk, IfSome, Some, map, option_map, string_bytes};
+ghost use Rattle.task_reading.specs.Words.{HasSize, form_by, form_of, form_seen, name_by, demo_size, text_seen};
+
+use crate::command::new_command;
+use crate::types::File;
+use clap::error::ErrorKind;
+use net_names::{Asn, NoMemory, number, read_asn};
+use std::alloc::Global;
+
+/// A form that the words may have.
+#[derive(Clone, Copy)]
+pub enum WordForm<'a> {
+    /// `asprop REL` with any of `--vrps FILE`, `--scenario FILE` and `--script FILE`.
+    Script {
+        /// The name of the relationship file.
+        rel: &'a str,
+        /// The name of the payload file.
+        vrps: Option<&'a str>,
+        /// The name of the scenario.
+        scenario: Option<&'a str>,
+        /// The name of the script.
+        script: Option<&'a str>,
+    },
+    /// `asprop REL --origin N`.
+    Origin {
+        /// The name of the relationship file.
+        rel: &'a str,
+        /// The AS that announces.
+        origin: Asn,
+    },
+    /// `asprop --demo N`.
+    Demo {
+        /// How many ASes the generated input has, from 4 to 20,000.
+        size: u32,
+    },
+}
+
+impl<'a> WordForm<'a> {
+    /// The name that the form gives to a file, if it names one.
+    pub fn name(&self, file: File) -> Option<&'a str>
+        ensures { text_seen result ≡ name_by (Some (form_seen self.now)) file }
+    {
+        match (self, file) {
+            (WordForm::Script { rel, .. }, File::Relations) => Some(rel),
+            (WordForm::Script { vrps, .. }, File::Payloads) => *vrps,
+            (WordForm::Script { scenario, .. }, File::Scenario) => *scenario,
+            (WordForm::Script { script, .. }, File::Script) => *script,
+            (WordForm::Origin { rel, .. }, File::Relations) => Some(rel),
+            (WordForm::Origin { .. }, _) => None,
+            (WordForm::Demo { .. }, _) => None,
+        }
+    }
+}
+
+// The size of a generated input.
+#[tactic(auto, unfolding(crate::specs::Words::demo_size))]
+fn size(text: &[u8]) -> Option<u32>
+    ensures value { result ≡ demo_size text.now }
+    ensures range { IfSome result (λ n. (4 ≤ n) × (n ≤ 20000)) }
+{
+    let n = number(text, 10, 5)?;
+    if n >= 4 && n <= 20_000 {
+        Some(n as u32)
+    } else {
+        None
+    }
+}
+
+// The table of the forms.
+fn form_by<'a>(
+    rel: Option<&'a str>,
+    vrps: Option<&'a str>,
+    scenario: Option<&'a str>,
+    script: Option<&'a str>,
+    origin: Option<&'a str>,
+    demo: Option<&'a str>,
+) -> Option<WordForm<'a>>
+    ensures form { option_map form_seen result ≡ form_by (text_seen rel.entry) (text_seen vrps.entry) (text_seen scenario.entry)
+        (text_seen script.entry) (text_seen origin.entry) (text_seen demo.entry) }
+    ensures sized { HasSize (option_map form_seen result) }
+{
+    match (rel, vrps, scenario, script, origin, demo) {
+        (Some(rel), vrps, scenario, script, None, None) => Some(WordForm::Script {
+            rel,
+            vrps,
+            scenario,
+            script,
+        }),
+        (Some(rel), None, None, None, Some(number), None) => match read_asn(number.as_bytes()) {
+            Some(origin) => Some(WordForm::Origin { rel, origin }),
+            None => None,
+        },
+        (None, None, None, None, None, Some(number)) => match size(number.as_bytes()) {
+            Some(size) => Some(WordForm::Demo { size }),
+            None => None,
+        },
+        _ => None,
+    }
+}
+
+/// The form of the words, the program's name first; `None` exactly where the command doesn't take them or they have no form.
+pub fn read_words<'a>(alloc: Global, words: &'a [String]) -> Result<Option<WordForm<'a>>, NoMemory>
+    ensures form { IfOk result (λ form. option_map form_seen form ≡ form_of (map string_bytes words.now)) }
+    ensures sized { IfOk result (λ form. HasSize (option_map form_seen form)) }
+{
+    let command = match new_command(alloc) {
+        Ok(command) => command,
+        Err(_) => return Err(NoMemory),
+    };
+    let matches = match command.try_get_matches_from(words) {
+        Ok(matches) => matches,
+        Err(error) => {
+            if error.kind() == ErrorKind::OutOfMemory {
+                return Err(NoMemory);
+            }
+            return Ok(None);
+        }
+    };
+    Ok(form_by(
+        matches.get_str("rel"),
+        matches.get_str("vrps"),
+        matches.get_str("scenario"),
+        matches.get_str("script"),
+        matches.get_str("origin"),
+        matches.get_str("demo"),
+    ))
+}
