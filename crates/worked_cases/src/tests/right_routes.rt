@@ -4,9 +4,9 @@ use net_names::{Asn, Class, Path, Prefix, Rel};
 use policy_kinds::Kind;
 use policy_laws::NoStates;
 use stability_laws::{
-    Book, Entry, Routing, Seed, Seeds, World, Wrong, any_order_settles, carried, check_at, class_from,
-    customers_decide, nothing_up, number_sent, offer_follows, offer_names, offered_view,
-    one_answer, one_family, one_stable_routing, right_by_offers, right_follows,
+    Book, Entry, Routing, Seed, Seeds, World, Wrong, any_order_settles, carried, check_at,
+    class_from, customers_decide, nothing_up, number_sent, offer_follows, offer_names,
+    offered_view, one_answer, one_family, one_stable_routing, right_by_offers, right_follows,
 };
 use std::alloc::Global;
 use std::process::Abort;

@@ -159,6 +159,41 @@ fn routes_go_up_then_across_and_down(rt: HostRuntime) -> Result<(), Fail> {
     Ok(())
 }
 
+// What an AS chooses.
+fn chosen<L: Ledger>(
+    graph: &Graph,
+    book: &Book<Kind>,
+    desk: &Desk,
+    asn: Asn,
+    part: Part,
+    steps: &mut Steps<L>,
+) -> Choice
+    requires { CanStep desk.now.pool desk.now.seeds desk.now.table desk.now.overlay 1 }
+{
+    let at = PrefixWorld {
+        graph,
+        book,
+        states: &NoStates,
+        seeds: &desk.seeds,
+        table: &desk.table,
+    };
+    evaluate(&at, &desk.pool, &desk.overlay, asn, part, steps)
+}
+
+// Whether an AS that is to hold nothing holds another entry than before.
+fn is_emptied(graph: &Graph, book: &Book<Kind>, desk: &mut Desk, asn: Asn) -> bool
+    requires { CanStep desk.old.pool desk.old.seeds desk.old.table desk.old.overlay 1 }
+{
+    let at = PrefixWorld {
+        graph,
+        book,
+        states: &NoStates,
+        seeds: &desk.seeds,
+        table: &desk.table,
+    };
+    settle(&at, &mut desk.pool, &mut desk.overlay, asn, Choice::Nothing)
+}
+
 // What AS 4 and AS 2 choose before anyone holds anything, and whether nothing is another entry.
 fn choices<L: Ledger>(
     alloc: Global,
@@ -173,22 +208,9 @@ fn choices<L: Ledger>(
     let mut desk = set_up(alloc)?;
     let book = Book::new(alloc, Kind::Plain);
     let mut steps = Steps::<L>::new(blank);
-    let at = PrefixWorld {
-        graph,
-        book: &book,
-        states: &NoStates,
-        seeds: &desk.seeds,
-        table: &desk.table,
-    };
-    let of_four = evaluate(&at, &desk.pool, &desk.overlay, four, Part::Up, &mut steps);
-    let of_two = evaluate(&at, &desk.pool, &desk.overlay, two, Part::Whole, &mut steps);
-    let changed = settle(
-        &at,
-        &mut desk.pool,
-        &mut desk.overlay,
-        two,
-        Choice::Nothing,
-    );
+    let of_four = chosen(graph, &book, &desk, four, Part::Up, &mut steps);
+    let of_two = chosen(graph, &book, &desk, two, Part::Whole, &mut steps);
+    let changed = is_emptied(graph, &book, &mut desk, two);
     Ok((of_four, of_two, changed))
 }
 
