@@ -13,7 +13,7 @@ use Rattle.stability_laws.specs.Plans.{Plan, announcement_cmp, announced_path, a
 use Rattle.stability_laws.specs.SeedEdits.{without_announcement}
 use Rattle.stability_laws.proofs.KeyLists.{eq_is, eq_same, insert_there}
 use Rattle.stability_laws.proofs.PlanEdits.{not_without, announced_anew}
-use Rattle.stability_laws.proofs.PlanOrders.{prefixes_total, exact_prefix, announcements_total, exact_announcement}
+use Rattle.net_names.specs.Orders.{prefix_total, exact_prefix, announcement_total, exact_announcement}
 use Rattle.route_choice.proofs.Lists.{held_live}
 use Rattle.dirty_recompute.specs.Resources.{IsUndone}
 use Rattle.leak_round.specs.declared.announced.Announced.{Announced}
@@ -51,9 +51,9 @@ key_is x p b = by (is_of p b x) (eq_by_cmp announcement_cmp (p, b) (x.prefix, x.
     by true false is e =
         let (q, r) = is_of-itself x p b is in
         let same : (p, b) ≡ (x.prefix, x.asn) = λ i. (sym q i, sym r i) in
-        absurd (true≢false (sym (eq_same announcements_total exact_announcement (p, b) (x.prefix, x.asn) same) ∙ e))
+        absurd (true≢false (sym (eq_same announcement_total exact_announcement (p, b) (x.prefix, x.asn) same) ∙ e))
     by false true is e =
-        let same : (p, b) ≡ (x.prefix, x.asn) = eq_is announcements_total exact_announcement (p, b) (x.prefix, x.asn) e in
+        let same : (p, b) ≡ (x.prefix, x.asn) = eq_is announcement_total exact_announcement (p, b) (x.prefix, x.asn) e in
         absurd (true≢false (sym (is_of_own x) ∙ ap (λ (k : PrefixValue × ℕ). is_of k.0 k.1 x) (sym same) ∙ is))
 
 -- the announcements but one
@@ -84,7 +84,7 @@ module _ (prefix : PrefixValue) (a : ℕ) where
     where
       by : (c : Bool) → eq_by_cmp announcement_cmp (p, b) (prefix, a) ≡ c → own_path (others_of prefix a xs) p b ≡ cond c None (own_path xs p b)
       by true e =
-          let same : (p, b) ≡ (prefix, a) = eq_is announcements_total exact_announcement (p, b) (prefix, a) e in
+          let same : (p, b) ≡ (prefix, a) = eq_is announcement_total exact_announcement (p, b) (prefix, a) e in
           ap (λ (k : PrefixValue × ℕ). own_path (others_of prefix a xs) k.0 k.1) same ∙ none_own xs None
       by false e = others_own p b (λ x is. (let (q, r) = is_of-itself x prefix a is in key_is x p b ∙ ap (λ (k : PrefixValue × ℕ). eq_by_cmp announcement_cmp (p, b) k) (λ i. (q i, r i)) ∙ e)) xs None
 
@@ -121,7 +121,7 @@ module _ (prefix : PrefixValue) (a : ℕ) where
 
   module _ (pool : PathPool) (plan : Plan) (xs : List Announced) (h : AreAnnounced pool plan xs) (known : IsTrue (has_prefix plan prefix)) where
     after_at : (p : PrefixValue) (b : ℕ) → announced_path (without_announcement plan prefix a) p b ≡ cond (eq_by_cmp announcement_cmp (p, b) (prefix, a)) None (announced_path plan p b)
-    after_at p b = fin.get-remove announcements_total plan.announced (prefix, a) (p, b)
+    after_at p b = fin.get-remove announcement_total plan.announced (prefix, a) (p, b)
 
     others_live : (p : PrefixValue) (b : ℕ) (id : PathId) → own_path (others_of prefix a xs) p b ≡ Some id → IsLive pool id.0
     others_live p b id e = by (eq_by_cmp announcement_cmp (p, b) (prefix, a)) (sym (own_path-others xs p b) ∙ e)
@@ -146,14 +146,14 @@ module _ (prefix : PrefixValue) (a : ℕ) where
         by : is_of prefix a x ≡ false → (c : Bool) → eq_by_cmp announcement_cmp (x.prefix, x.asn) (prefix, a) ≡ c → cond c None (announced_path plan x.prefix x.asn) ≡ announced_path plan x.prefix x.asn
         by other false e = refl
         by other true e =
-            let same : (x.prefix, x.asn) ≡ (prefix, a) = eq_is announcements_total exact_announcement (x.prefix, x.asn) (prefix, a) e in
+            let same : (x.prefix, x.asn) ≡ (prefix, a) = eq_is announcement_total exact_announcement (x.prefix, x.asn) (prefix, a) e in
             absurd (true≢false (sym (is_of_own x) ∙ ap (λ (k : PrefixValue × ℕ). is_of k.0 k.1 x) same ∙ other))
 
     others_few : length (others_of prefix a xs) ≤ fin.len (fin.remove plan.announced (prefix, a))
     others_few = by (announced_path plan prefix a) refl (fewer_others xs None)
       where
         left : (o : Option (List ℕ)) → announced_path plan prefix a ≡ o → fin.len (fin.remove plan.announced (prefix, a)) ≡ cond (is_some o) (fin.len plan.announced - 1) (fin.len plan.announced)
-        left o e = fin.len-remove announcements_total plan.announced (prefix, a) ∙ ap (λ (o : Option (List ℕ)). cond (is_some o) (fin.len plan.announced - 1) (fin.len plan.announced)) e
+        left o e = fin.len-remove announcement_total plan.announced (prefix, a) ∙ ap (λ (o : Option (List ℕ)). cond (is_some o) (fin.len plan.announced - 1) (fin.len plan.announced)) e
 
         by : (o : Option (List ℕ)) → announced_path plan prefix a ≡ o → (own_path xs prefix a ≡ None) ⊎ (length (others_of prefix a xs) + 1 ≤ length xs) → length (others_of prefix a xs) ≤ fin.len (fin.remove plan.announced (prefix, a))
         by None e less = omega (arith, left None e, length-others xs, h.few)
@@ -166,7 +166,7 @@ module _ (prefix : PrefixValue) (a : ℕ) where
 
 -- the plan's prefixes stay where one of them is announced
 pub prefixes_with : (plan : Plan) (prefix : PrefixValue) (path : List ℕ) → IsTrue (has_prefix plan prefix) → (with_announcement plan prefix path).prefixes ≡ plan.prefixes
-prefixes_with plan prefix path known = insert_there prefixes_total exact_prefix plan.prefixes prefix (there (fin.get plan.prefixes prefix) known)
+prefixes_with plan prefix path known = insert_there prefix_total exact_prefix plan.prefixes prefix (there (fin.get plan.prefixes prefix) known)
   where
     there : (o : Option (Unit {0})) → IsTrue (is_some o) → o ≡ Some tt
     there None e = absurd (true≢false (sym e))
@@ -178,7 +178,7 @@ module _ (pool : PathPool) (plan : Plan) (xs : List Announced) (h : AreAnnounced
   one = record { prefix = prefix; asn = announcer_of path; path = id }
 
   with_at : (p : PrefixValue) (b : ℕ) → announced_path (with_announcement plan prefix path) p b ≡ cond (eq_by_cmp announcement_cmp (p, b) (prefix, announcer_of path)) (Some path) (announced_path plan p b)
-  with_at p b = fin.get-insert announcements_total plan.announced (prefix, announcer_of path) path (p, b)
+  with_at p b = fin.get-insert announcement_total plan.announced (prefix, announcer_of path) path (p, b)
 
   own_at : (p : PrefixValue) (b : ℕ) → own_path (xs ++ one ∷ []) p b ≡ cond (eq_by_cmp announcement_cmp (p, b) (prefix, announcer_of path)) (Some id) (own_path xs p b)
   own_at p b = own_path-push xs one p b ∙ ap (λ c. cond c (Some id) (own_path xs p b)) (key_is one p b)
@@ -206,17 +206,17 @@ module _ (pool : PathPool) (plan : Plan) (xs : List Announced) (h : AreAnnounced
   ]
     where
       here : cond (eq_by_cmp announcement_cmp (prefix, announcer_of path) (prefix, announcer_of path)) (Some path) (announced_path plan prefix (announcer_of path)) ≡ Some path
-      here = ap (λ c. cond c (Some path) (announced_path plan prefix (announcer_of path))) (eq_same announcements_total exact_announcement (prefix, announcer_of path) (prefix, announcer_of path) refl)
+      here = ap (λ c. cond c (Some path) (announced_path plan prefix (announcer_of path))) (eq_same announcement_total exact_announcement (prefix, announcer_of path) (prefix, announcer_of path) refl)
 
       by : announced_path plan x.prefix x.asn ≡ Some (list_of pool x.path.0) → (c : Bool) → eq_by_cmp announcement_cmp (x.prefix, x.asn) (prefix, announcer_of path) ≡ c → cond c (Some path) (announced_path plan x.prefix x.asn) ≡ announced_path plan x.prefix x.asn
       by own false e = refl
       by own true e =
-          let same : (x.prefix, x.asn) ≡ (prefix, announcer_of path) = eq_is announcements_total exact_announcement (x.prefix, x.asn) (prefix, announcer_of path) e in
+          let same : (x.prefix, x.asn) ≡ (prefix, announcer_of path) = eq_is announcement_total exact_announcement (x.prefix, x.asn) (prefix, announcer_of path) e in
           absurd (true≢false (sym (ap is_some own) ∙ ap (λ (k : PrefixValue × ℕ). announces plan k.0 k.1) same ∙ new))
 
   added_few : length (xs ++ one ∷ []) ≤ fin.len (fin.insert plan.announced (prefix, announcer_of path) path)
   added_few =
-      let more : fin.len (fin.insert plan.announced (prefix, announcer_of path) path) ≡ fin.len plan.announced + 1 = fin.len-insert announcements_total plan.announced (prefix, announcer_of path) path ∙ ap (λ c. cond c (fin.len plan.announced) (fin.len plan.announced + 1)) new in
+      let more : fin.len (fin.insert plan.announced (prefix, announcer_of path) path) ≡ fin.len plan.announced + 1 = fin.len-insert announcement_total plan.announced (prefix, announcer_of path) path ∙ ap (λ c. cond c (fin.len plan.announced) (fin.len plan.announced + 1)) new in
       omega (arith, more, length-append xs (one ∷ []), h.few)
 
   pub announced_added : AreAnnounced pool (with_announcement plan prefix path) (xs ++ one ∷ [])
@@ -249,7 +249,7 @@ others_fit pool plan xs h prefix path known limits =
     let k : PrefixValue × ℕ = (prefix, announcer_of path) in
     let less = (announced_without prefix (announcer_of path) pool plan xs h known).few in
     let more : fin.len (fin.insert (fin.remove plan.announced k) k path) ≡ fin.len (fin.remove plan.announced k) + 1 =
-    fin.len-insert announcements_total (fin.remove plan.announced k) k path ∙ ap (λ c. cond c (fin.len (fin.remove plan.announced k)) (fin.len (fin.remove plan.announced k) + 1)) (not_without plan prefix path) in
+    fin.len-insert announcement_total (fin.remove plan.announced k) k path ∙ ap (λ c. cond c (fin.len (fin.remove plan.announced k)) (fin.len (fin.remove plan.announced k) + 1)) (not_without plan prefix path) in
     let same : fin.len (fin.insert (fin.remove plan.announced k) k path) ≡ fin.len (fin.insert plan.announced k path) = ap (λ (p : Plan). fin.len p.announced) (announced_anew plan prefix path) in
     omega (arith, less, more, same, limits.announcements)
 

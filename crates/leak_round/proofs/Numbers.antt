@@ -15,7 +15,7 @@ use Rattle.net_names.specs.Prefixes.{PrefixValue, prefix_cmp}
 use Rattle.stability_laws.specs.Plans.{Plan, IsAnnouncer, announcement_cmp, announced_path, has_prefix, prefixes_of, announcers_of}
 use Rattle.stability_laws.proofs.KeyLists.{is_less, left, right, apart_later, eq_is, eq_same, keys_listed}
 use Rattle.stability_laws.proofs.PlanListings.{announcers_listed}
-use Rattle.stability_laws.proofs.PlanOrders.{exact_prefix, exact_announcement, prefixes_total, announcements_total}
+use Rattle.net_names.specs.Orders.{exact_prefix, exact_announcement, prefix_total, announcement_total}
 use Rattle.leak_round.specs.Limits.{IsWithinLimits, numbers_of, announced_length, announced_count}
 use Rattle.leak_round.specs.Entries.{StandsIn, AreApart}
 use Rattle.leak_round.proofs.Rounding.{same_or_not}
@@ -85,7 +85,7 @@ module _ (weight : List ℕ → ℕ) where
         other p a ne = by (eq_by_cmp announcement_cmp (p, a) key) refl
           where
             by : (b : Bool) → eq_by_cmp announcement_cmp (p, a) key ≡ b → cond b (weight path) 0 ≡ 0
-            by true e = absurd (ne (eq_is announcements_total exact_announcement (p, a) key e))
+            by true e = absurd (ne (eq_is announcement_total exact_announcement (p, a) key e))
             by false e = refl
 
         most : (p : PrefixValue) (a : ℕ) → if_same key path p a ≤ weight path
@@ -115,7 +115,7 @@ module _ (weight : List ℕ → ℕ) where
   unfolding all found weight_of
   all-counted plan =
       let es = fin.entries plan.announced in
-      let prefixes_apart = apart_places (prefixes_of plan) (λ i j x y. apart_later prefix_cmp prefixes_total (λ p. IsTrue (has_prefix plan p)) (prefixes_of plan) (keys_listed prefixes_total exact_prefix plan.prefixes) i j x y) in
+      let prefixes_apart = apart_places (prefixes_of plan) (λ i j x y. apart_later prefix_cmp prefix_total (λ p. IsTrue (has_prefix plan p)) (prefixes_of plan) (keys_listed prefix_total exact_prefix plan.prefixes) i j x y) in
       let ases_apart = apart_places (announcers_of plan) (λ i j x y. apart_later nat_cmp nat_cmp_total (IsAnnouncer plan) (announcers_of plan) (announcers_listed plan) i j x y) in
       let whole = all-found (prefixes_of plan) (announcers_of plan) prefixes_apart ases_apart es in
       let same = λ (p : PrefixValue) (a : ℕ). ap weight_of (sym (fin.get-entries plan.announced (p, a))) in
@@ -142,16 +142,16 @@ entry_found : (es : Announcements) → T (fin.is_sorted announcement_cmp es) →
 entry_found [] h i e at = cc
 entry_found (x ∷ es) h zero e at =
     let same : x ≡ e = cc in
-    let tied : eq_by_cmp announcement_cmp x.0 x.0 ≡ true = eq_same announcements_total exact_announcement x.0 x.0 refl in
+    let tied : eq_by_cmp announcement_cmp x.0 x.0 ≡ true = eq_same announcement_total exact_announcement x.0 x.0 refl in
     subst (λ (y : (PrefixValue × ℕ) × List ℕ). fin.find announcement_cmp y.0 (x ∷ es) ≡ Some y.1) same (ap (λ b. cond b (Some x.1) (fin.find announcement_cmp x.0 es)) tied)
 entry_found (x ∷ es) h (suc i) e at = by (eq_by_cmp announcement_cmp e.0 x.0) refl (entry_found es (right _ _ h) i e at)
   where
     by : (b : Bool) → eq_by_cmp announcement_cmp e.0 x.0 ≡ b → fin.find announcement_cmp e.0 es ≡ Some e.1 → cond b (Some x.1) (fin.find announcement_cmp e.0 es) ≡ Some e.1
     by false t ih = ih
     by true t ih =
-        let same : e.0 ≡ x.0 = eq_is announcements_total exact_announcement e.0 x.0 t in
+        let same : e.0 ≡ x.0 = eq_is announcement_total exact_announcement e.0 x.0 t in
         let less : announcement_cmp x.0 x.0 ≡ Less = ap (announcement_cmp x.0) (sym same) ∙ below_later x.0 es i e (left _ _ h) at in
-        let tied : eq_by_cmp announcement_cmp x.0 x.0 ≡ true = eq_same announcements_total exact_announcement x.0 x.0 refl in
+        let tied : eq_by_cmp announcement_cmp x.0 x.0 ≡ true = eq_same announcement_total exact_announcement x.0 x.0 refl in
         let not_tied : eq_by_cmp announcement_cmp x.0 x.0 ≡ false = ap is_eq less in
         cc
 

@@ -7,7 +7,7 @@ use Rattle.net_names.specs.Prefixes.{PrefixValue, prefix_cmp}
 use Rattle.path_pool.specs.declared.pool.PathPool.{PathPool}
 use Rattle.stability_laws.specs.Plans.{Plan, announcer_of, has_prefix, prefixes_of}
 use Rattle.stability_laws.proofs.KeyLists.{apart_later, keys_listed}
-use Rattle.stability_laws.proofs.PlanOrders.{prefixes_total, exact_prefix}
+use Rattle.net_names.specs.Orders.{prefix_total, exact_prefix}
 use Rattle.route_choice.specs.declared.round_tables.RoundTables.{RoundTables}
 use Rattle.route_choice.specs.declared.seeds.SeedIds.{SeedIds}
 use Rattle.leak_round.specs.declared.announced.Announced.{Announced}
@@ -49,8 +49,8 @@ own_more plan xs own prefix seeds was at are i p s here got = elim (got_at own s
 place_apart : (plan : Plan) (i j : ℕ) (p q : PrefixValue) → j ≢ i → slice_get (prefixes_of plan) i ≡ Some p → slice_get (prefixes_of plan) j ≡ Some q → p ≢ q
 place_apart plan i j p q ne here there = elim (cases_order i j) [
   | inl same ↦ absurd (ne (sym same))
-  | inr (inl less) ↦ apart_later prefix_cmp prefixes_total (λ r. IsTrue (has_prefix plan r)) (prefixes_of plan) (keys_listed prefixes_total exact_prefix plan.prefixes) i j p q less here there
-  | inr (inr more) ↦ λ same. apart_later prefix_cmp prefixes_total (λ r. IsTrue (has_prefix plan r)) (prefixes_of plan) (keys_listed prefixes_total exact_prefix plan.prefixes) j i q p more there here (sym same)
+  | inr (inl less) ↦ apart_later prefix_cmp prefix_total (λ r. IsTrue (has_prefix plan r)) (prefixes_of plan) (keys_listed prefix_total exact_prefix plan.prefixes) i j p q less here there
+  | inr (inr more) ↦ λ same. apart_later prefix_cmp prefix_total (λ r. IsTrue (has_prefix plan r)) (prefixes_of plan) (keys_listed prefix_total exact_prefix plan.prefixes) j i q p more there here (sym same)
 ]
 
 -- other seeds of one prefix

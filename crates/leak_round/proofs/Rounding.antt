@@ -12,7 +12,7 @@ use Rattle.stability_laws.specs.Stable.{IsStable}
 use Rattle.stability_laws.specs.Plans.{Plan, ListsRising, has_prefix, prefixes_of}
 use Rattle.stability_laws.specs.Rounds.{seeds_of}
 use Rattle.stability_laws.proofs.KeyLists.{eq_is, eq_same, apart_later, seen_before_end}
-use Rattle.stability_laws.proofs.PlanOrders.{exact_prefix, prefixes_total}
+use Rattle.net_names.specs.Orders.{exact_prefix, prefix_total}
 use Rattle.route_choice.specs.declared.round_tables.RoundTables.{RoundTables}
 use Rattle.route_choice.specs.declared.table.Table.{Table}
 use Rattle.route_choice.specs.Resources.{AreEntriesLive}
@@ -29,8 +29,8 @@ use Rattle.leak_round.proofs.Sums.{sum_by-zero, sum_by-change}
 
 pub same_or_not : (p q : PrefixValue) → (p ≡ q) ⊎ (p ≢ q)
 same_or_not p q = elim (cases_Bool (eq_by_cmp prefix_cmp p q)) [
-  | inl e ↦ inl (eq_is prefixes_total exact_prefix p q e)
-  | inr e ↦ inr (λ same. (let t = eq_same prefixes_total exact_prefix p q same in cc))
+  | inl e ↦ inl (eq_is prefix_total exact_prefix p q e)
+  | inr e ↦ inr (λ same. (let t = eq_same prefix_total exact_prefix p q same in cc))
 ]
 
 -- one table more, or another one, of at most so many entries with one path
@@ -52,8 +52,8 @@ sized plan listed old new prefix t place at puts size small = record {
 
     apart : (j : ℕ) (q : PrefixValue) → slice_get (prefixes_of plan) j ≡ Some q → j ≢ place → q ≢ prefix
     apart j q is ne = elim (cases_lt j place) [
-      | inl less ↦ apart_later prefix_cmp prefixes_total (λ p. IsTrue (has_prefix plan p)) (prefixes_of plan) listed j place q prefix less is at
-      | inr more ↦ λ e. apart_later prefix_cmp prefixes_total (λ p. IsTrue (has_prefix plan p)) (prefixes_of plan) listed place j prefix q (omega (arith, more, ne)) at is (sym e)
+      | inl less ↦ apart_later prefix_cmp prefix_total (λ p. IsTrue (has_prefix plan p)) (prefixes_of plan) listed j place q prefix less is at
+      | inr more ↦ λ e. apart_later prefix_cmp prefix_total (λ p. IsTrue (has_prefix plan p)) (prefixes_of plan) listed place j prefix q (omega (arith, more, ne)) at is (sym e)
     ]
 
 -- the tables of the prefixes before a place: since the round began, the pool keeps its paths and grows by so many tables
@@ -100,7 +100,7 @@ module _ (setting : PrefixValue → Setting) (plan : Plan) (round : ℕ) (before
         by None e = refl
         by (Some x) e =
             let (i, less, is) = so_far.only prefix (subst IsSome (sym e) refl) in
-            absurd (apart_later prefix_cmp prefixes_total (λ p. IsTrue (has_prefix plan p)) (prefixes_of plan) listed i place prefix prefix less is at refl)
+            absurd (apart_later prefix_cmp prefix_total (λ p. IsTrue (has_prefix plan p)) (prefixes_of plan) listed i place prefix prefix less is at refl)
 
     module _ (keeps : KeepsPaths pool next) (grows : GrowsBy pool next 150000) (holds : (k : ℕ) → holds_of next k ≡ holds_of pool k + table_uses t k) (live : AreEntriesLive next t)
         (stable : IsStable (setting prefix) (seeds_of plan round prefix (before prefix)) (table_routing next t)) (cells : HasEntries (table_routing next t) (live_count next - live_count pool)) (puts : PutsTable tables more prefix t) (by_prefix : AreByPrefix tables → AreByPrefix more) (small : (k : ℕ) → table_uses t k ≤ 150000) where

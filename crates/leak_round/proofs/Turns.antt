@@ -11,7 +11,7 @@ use Rattle.stability_laws.specs.Stable.{IsRight}
 use Rattle.stability_laws.specs.Plans.{Plan, ListsRising, has_prefix, prefixes_of}
 use Rattle.stability_laws.specs.Rounds.{seeds_of as seeds_in}
 use Rattle.stability_laws.proofs.KeyLists.{apart_later, seen_before_end}
-use Rattle.stability_laws.proofs.PlanOrders.{prefixes_total}
+use Rattle.net_names.specs.Orders.{prefix_total}
 use Rattle.route_choice.specs.declared.round_tables.RoundTables.{RoundTables}
 use Rattle.leak_round.specs.declared.announced.Announced.{Announced}
 use Rattle.leak_round.specs.declared.changes.Change.{Change}
@@ -50,7 +50,7 @@ module _ (plan : Plan) (xs : List Change) (round place : ℕ) (up : AreUpTo plan
         fresh false e = refl
         fresh true e = elim (up.only round prefix e) [
           | inl less ↦ absurd (omega (arith, less, from))
-          | inr now ↦ (let (same, rest) = now in let (i, less, is) = rest in absurd (apart_later prefix_cmp prefixes_total (λ p. IsTrue (has_prefix plan p)) (prefixes_of plan) listed i place prefix prefix less is at refl))
+          | inr now ↦ (let (same, rest) = now in let (i, less, is) = rest in absurd (apart_later prefix_cmp prefix_total (λ p. IsTrue (has_prefix plan p)) (prefixes_of plan) listed i place prefix prefix less is at refl))
         ]
 
     pub up_end : slice_get (prefixes_of plan) place ≡ None → AreRoundsPlanned plan xs round

@@ -35,3 +35,7 @@ prefix_at family addr len =
 -- prefixes are ordered by family, then by address, then by length
 abbrev pub prefix_cmp : PrefixValue → PrefixValue → Ordering
 prefix_cmp p q = ordering_then (nat_cmp (family_place p.family) (family_place q.family)) (ordering_then (nat_cmp p.addr q.addr) (nat_cmp p.len q.len))
+
+-- a prefix and an AS that announces it are ordered by the prefix, and then by the AS
+abbrev pub announcement_cmp : PrefixValue × ℕ → PrefixValue × ℕ → Ordering
+announcement_cmp a b = ordering_then (prefix_cmp a.0 b.0) (nat_cmp a.1 b.1)

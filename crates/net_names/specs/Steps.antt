@@ -1,12 +1,11 @@
 -- Steps that may give nothing, and the first fault of a list.
-use Rattle.std.specs.Prelude.{Bool, if◌then◌else◌, List, [], ◌∷◌, ◌++◌, Option, Some, None, Result, Err}
+use Rattle.std.specs.Prelude.{Bool, if◌then◌else◌, List, [], ◌∷◌, ◌++◌, Option, Some, None, option_and_then, Result, Err}
 use Rattle.std.specs.Option.{option_or}
 
 -- the next step, taken with what the first step gave, where it gave something
 infixl 10 ◌>>=◌
 abbrev pub ◌>>=◌ : {A B : Type 0} → Option A → (A → Option B) → Option B
-None >>= f = None
-(Some x) >>= f = f x
+o >>= f = option_and_then f o
 
 -- the value, where it passes the test
 abbrev pub option_filter : {A : Type 0} → (A → Bool) → Option A → Option A

@@ -22,10 +22,11 @@ use Rattle.scenario_text.specs.Places.{in_member, item}
 use Rattle.scenario_text.specs.Readings.{json_of, scenario_of_bytes}
 use Rattle.scenario_text.specs.Scenarios.{ScenarioValue, IsScenario, announcement_name, prefix_count}
 use Rattle.scenario_text.specs.Shapes.{document_of}
-use Rattle.scenario_text.specs.Twice.{once_in, name_cmp, once}
+use Rattle.net_names.specs.Prefixes.{announcement_cmp}
+use Rattle.scenario_text.specs.Twice.{once_in, once}
 use Rattle.scenario_text.specs.Values.{lists_of}
 use Rattle.scenario_text.specs.Walks.{◌>>=◌, each_from, each_at}
-use Rattle.scenario_text.proofs.Orders.{name_exact, addr_exact}
+use Rattle.net_names.specs.Orders.{exact_announcement, exact_addr}
 use Rattle.scenario_text.proofs.Repeats.{once_at}
 use Rattle.scenario_text.proofs.Sound.{first_step, sound}
 
@@ -67,12 +68,12 @@ once_of : (s : ScenarioValue) → IsScenario s → once s ≡ Ok tt
 unfolding once
 once_of s h =
     let leaking = reads_all (λ i. once_in nat_cmp (item (in_member Leaks) i)) 0 s.leaks (λ k ns lt. (tt, once_from nat_cmp exact_unsigned (item (in_member Leaks) (0 + k)) (get_or s.leaks k ns) (h.leaking_once k ns lt))) in
-    all_passed (once_in name_cmp (in_member Announcements) (map announcement_name s.announcements)) (once_in nat_cmp (in_member Policies) (map (λ p. p.0) s.policies))
+    all_passed (once_in announcement_cmp (in_member Announcements) (map announcement_name s.announcements)) (once_in nat_cmp (in_member Policies) (map (λ p. p.0) s.policies))
     (each_at (once_in nat_cmp) (in_member Leaks) s.leaks) (once_in addr_cmp (in_member Watch) s.watch) leaking.0
-    (once_from name_cmp name_exact (in_member Announcements) (map announcement_name s.announcements) (distinct_keys announcement_name s.announcements h.announced_once))
+    (once_from announcement_cmp exact_announcement (in_member Announcements) (map announcement_name s.announcements) (distinct_keys announcement_name s.announcements h.announced_once))
     (once_from nat_cmp exact_unsigned (in_member Policies) (map (λ p. p.0) s.policies) (distinct_keys (λ (p : ℕ × Kind). p.0) s.policies h.ruled_once))
     leaking.1
-    (once_from addr_cmp addr_exact (in_member Watch) s.watch h.watched_once)
+    (once_from addr_cmp exact_addr (in_member Watch) s.watch h.watched_once)
 
 all_within : (a b c d e f : Bool) → a ≡ false → b ≡ false → c ≡ false → d ≡ false → e ≡ false → f ≡ false
     → (fault_if limits.Announcements a >>= λ _. fault_if limits.Prefixes b >>= λ _. fault_if limits.Path c >>= λ _. fault_if limits.Rounds d >>= λ _. fault_if limits.Leakers e >>= λ _. fault_if limits.Watch f) ≡ Ok tt

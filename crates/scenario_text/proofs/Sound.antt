@@ -10,7 +10,7 @@ use Rattle.std.proofs.lemmas.List.{get_or-map, get_or-take, length-map, length-t
 use Rattle.std.proofs.lemmas.List.Elements.{All-cons, All-nil}
 use Rattle.std.proofs.lemmas.List.Folds.{list_any_at}
 use Rattle.net_names.specs.Addresses.{AddrValue, addr_cmp}
-use Rattle.net_names.specs.Prefixes.{PrefixValue}
+use Rattle.net_names.specs.Prefixes.{PrefixValue, announcement_cmp}
 use Rattle.net_names.specs.Texts.{prefix_of, addr_of}
 use Rattle.policy_kinds.specs.declared.kind.Kind.{Kind}
 use Rattle.scenario_text.specs.declared.faults.LimitOf.TheVariants as limits
@@ -25,10 +25,10 @@ use Rattle.scenario_text.specs.Documents.{DocumentValue}
 use Rattle.scenario_text.specs.Limits.{fault_if, within}
 use Rattle.scenario_text.specs.Places.{in_member, item, in_part}
 use Rattle.scenario_text.specs.Scenarios.{ScenarioValue, IsScenario, StartsWith, announcement_name, prefix_count}
-use Rattle.scenario_text.specs.Twice.{once_in, name_cmp, once}
+use Rattle.scenario_text.specs.Twice.{once_in, once}
 use Rattle.scenario_text.specs.Values.{asn_at, announcement_of, policy_of, lists_of}
 use Rattle.scenario_text.specs.Walks.{◌>>=◌, each_from, each_at}
-use Rattle.scenario_text.proofs.Orders.{name_total, addr_total}
+use Rattle.net_names.specs.Orders.{announcement_total, addr_total}
 use Rattle.scenario_text.proofs.Repeats.{once_at}
 
 -- what the first of two steps gave, where both gave something
@@ -164,12 +164,12 @@ none_passed false false false false false false h = record { first = refl; secon
 pub sound : (d : DocumentValue) (s : ScenarioValue) → lists_of d ≡ Ok s → once s ≡ Ok tt → within s ≡ Ok tt → IsScenario s
 unfolding once within
 sound d s read once_ok within_ok =
-    let tests = all_pass (once_in name_cmp (in_member Announcements) (map announcement_name s.announcements)) (once_in nat_cmp (in_member Policies) (map (λ p. p.0) s.policies))
+    let tests = all_pass (once_in announcement_cmp (in_member Announcements) (map announcement_name s.announcements)) (once_in nat_cmp (in_member Policies) (map (λ p. p.0) s.policies))
     (each_at (once_in nat_cmp) (in_member Leaks) s.leaks) (once_in addr_cmp (in_member Watch) s.watch) once_ok in
     let limit = none_passed (nat_lt 64 (length s.announcements)) (nat_lt 32 (prefix_count s.announcements)) (list_any (λ a. nat_lt 64 (length a.path)) s.announcements)
     (nat_lt 3 (length s.leaks)) (list_any (λ leakers. nat_lt 64 (length leakers)) s.leaks) (nat_lt 16 (length s.watch)) within_ok in
     record {
-      announced_once = distinct-map announcement_name s.announcements (distinct name_cmp name_total (in_member Announcements) (map announcement_name s.announcements) tests.first);
+      announced_once = distinct-map announcement_name s.announcements (distinct announcement_cmp announcement_total (in_member Announcements) (map announcement_name s.announcements) tests.first);
       ruled_once = distinct-map (λ (p : ℕ × Kind). p.0) s.policies (distinct nat_cmp nat_cmp_total (in_member Policies) (map (λ p. p.0) s.policies) tests.second);
       leaking_once = λ k ns lt.
           let one = read_at (λ i. once_in nat_cmp (item (in_member Leaks) i)) 0 s.leaks tests.third.0 tests.third.1 k ns lt in

@@ -2,9 +2,9 @@
 use Rattle.std.specs.Prelude.{ℕ, List, take, map, Result, Ok, Err, if◌then◌else◌}
 use Rattle.std.specs.List.{list_any}
 use Rattle.std.specs.declared.cmp.Ordering.{Ordering}
-use Rattle.std.specs.Ordering.{nat_cmp, ordering_then, eq_by_cmp}
+use Rattle.std.specs.Ordering.{nat_cmp, eq_by_cmp}
 use Rattle.net_names.specs.Addresses.{addr_cmp}
-use Rattle.net_names.specs.Prefixes.{PrefixValue, prefix_cmp}
+use Rattle.net_names.specs.Prefixes.{announcement_cmp}
 use Rattle.scenario_text.specs.declared.places.Member.TheVariants.{Announcements, Policies, Leaks, Watch}
 use Rattle.scenario_text.specs.declared.faults.ScenarioError.{ScenarioError}
 use Rattle.scenario_text.specs.declared.faults.ScenarioError.TheVariants.{Twice}
@@ -16,14 +16,10 @@ use Rattle.scenario_text.specs.Walks.{◌>>=◌, Reader, each_from, each_at}
 abbrev pub once_in : {K : Type 0} → (K → K → Ordering) → Reader (List K) (Unit {0})
 once_in cmp p keys = each_from {B = Unit {0}} (λ i key. if list_any (eq_by_cmp cmp key) (take i keys) then Err (Twice (item p i)) else Ok tt) 0 keys >>= λ _. Ok tt
 
--- prefixes with ASes are ordered by the prefix, and then by the AS
-abbrev pub name_cmp : (PrefixValue × ℕ) → (PrefixValue × ℕ) → Ordering
-name_cmp a b = ordering_then (prefix_cmp a.0 b.0) (nat_cmp a.1 b.1)
-
 -- announcements are named by prefix and AS, policies by their AS, leakers within their round (own format)
 unfoldable pub once : ScenarioValue → Result (Unit {0}) ScenarioError
 once s = do
-  _ ← once_in name_cmp (in_member Announcements) (map announcement_name s.announcements)
+  _ ← once_in announcement_cmp (in_member Announcements) (map announcement_name s.announcements)
   _ ← once_in nat_cmp (in_member Policies) (map (λ p. p.0) s.policies)
   _ ← each_at (once_in nat_cmp) (in_member Leaks) s.leaks
   once_in addr_cmp (in_member Watch) s.watch

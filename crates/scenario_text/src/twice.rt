@@ -4,7 +4,8 @@ ghost use Rattle.std.specs.Ordering.{nat_cmp};
 ghost use Rattle.net_names.specs.Addresses.{addr_cmp};
 ghost use Rattle.scenario_text.specs.Faults.{Gives};
 ghost use Rattle.scenario_text.specs.Scenarios.{announcement_name};
-ghost use Rattle.scenario_text.specs.Twice.{once_in, name_cmp, once};
+ghost use Rattle.net_names.specs.Prefixes.{announcement_cmp};
+ghost use Rattle.scenario_text.specs.Twice.{once_in, once};
 
 use crate::faults::ScenarioError;
 use crate::lists::{Leakers, Lists};
@@ -38,7 +39,7 @@ where
 }
 
 fn names_once(alloc: Global, place: Place, keys: &[(Prefix, Asn)]) -> Result<(), ScenarioError>
-    ensures { Gives result (once_in name_cmp place keys.now) }
+    ensures { Gives result (once_in announcement_cmp place keys.now) }
 {
     items_once(alloc, place, keys)
 }
@@ -75,7 +76,7 @@ fn announcements_once(
     place: Place,
     announcements: &[Announcement],
 ) -> Result<(), ScenarioError>
-    ensures { Gives result (once_in name_cmp place (map announcement_name announcements.now)) }
+    ensures { Gives result (once_in announcement_cmp place (map announcement_name announcements.now)) }
 {
     match names(alloc, announcements) {
         Ok(names) => names_once(alloc, place, &names),

@@ -9,7 +9,7 @@ use Rattle.std.proofs.lemmas.Map.Views.{list_any-from_Contains}
 use Rattle.net_names.specs.Addresses.{AddrValue}
 use Rattle.net_names.specs.Coverage.{holds}
 use Rattle.net_names.specs.Prefixes.{PrefixValue}
-use Rattle.stability_laws.proofs.PlanOrders.{prefixes_total}
+use Rattle.net_names.specs.Orders.{prefix_total}
 use Rattle.stability_laws.specs.Plans.{Plan, announces, has_prefix, prefixes_of}
 use Rattle.stability_laws.specs.declared.entry.Entry.{Entry}
 use Rattle.data_trace.specs.Hops.{longest, next_hop, second_of, sent_by}
@@ -31,7 +31,7 @@ filter_same f g (x ∷ xs) e =
     λ i. cond (e x (0, omega arith, refl) i) (x ∷ rest i) (rest i)
 
 listed_prefix : (plan : Plan) (p : PrefixValue) → Contains (prefixes_of plan) p → IsTrue (has_prefix plan p)
-listed_prefix plan p c = fin.contains_key-keys plan.prefixes p ∙ list_any-from_Contains (eq_by_cmp_equiv prefixes_total) p (prefixes_of plan) c
+listed_prefix plan p c = fin.contains_key-keys plan.prefixes p ∙ list_any-from_Contains (eq_by_cmp_equiv prefix_total) p (prefixes_of plan) c
 
 -- the next hops are the same where the same is held of the plan's prefixes
 pub same_next : (plan : Plan) (held now : PrefixValue → ℕ → Option Entry) (addr : AddrValue) → ((p : PrefixValue) → IsTrue (has_prefix plan p) → (a : ℕ) → held p a ≡ now p a) → (a : ℕ) → next_hop plan held addr a ≡ next_hop plan now addr a

@@ -19,7 +19,7 @@ use Rattle.net_names.proofs.Pairs.{pairs_total}
 use Rattle.policy_kinds.specs.declared.kind.Kind.{Kind}
 use Rattle.policy_kinds.specs.declared.kind.Kind.TheVariants.{Plain}
 use Rattle.stability_laws.specs.Plans.{Plan, announcement_cmp, announcer_of, announces, with_announcement, with_leaker}
-use Rattle.stability_laws.proofs.PlanOrders.{exact_prefix, prefixes_total, exact_announcement, announcements_total}
+use Rattle.net_names.specs.Orders.{exact_prefix, prefix_total, exact_announcement, announcement_total}
 use Rattle.scenario_text.specs.Scenarios.{ScenarioValue, IsScenario, StartsWith, announcement_name}
 use Rattle.scenario_text.specs.declared.scenario.Announcement.{Announcement}
 use Rattle.sim_core.specs.Loaded.{planned, leaks_from, is_other, kinds_of}
@@ -95,10 +95,10 @@ pub planned_announcement : (xs : List Announcement) (leaks : List (ℕ × ℕ)) 
     → planned (xs ++ x ∷ []) leaks ≡ with_announcement (planned xs leaks) x.prefix x.path
 planned_announcement xs leaks x own new =
     let entry : Announcement → (PrefixValue × ℕ) × List ℕ = λ (a : Announcement). ((a.prefix, a.asn), a.path) in
-    let prefixes = set_push prefixes_total exact_prefix (λ (a : Announcement). a.prefix) xs x in
+    let prefixes = set_push prefix_total exact_prefix (λ (a : Announcement). a.prefix) xs x in
     let announced : fin.from_entries {R = announcement_cmp} (map entry (xs ++ x ∷ [])) ≡ fin.insert (fin.from_entries (map entry xs)) (x.prefix, announcer_of x.path) x.path =
     ap (λ es. fin.from_entries {R = announcement_cmp} es) (map_push entry xs x)
-    ∙ fin.from_entries_push announcements_total exact_announcement (map entry xs) (x.prefix, x.asn) x.path (unfound exact_announcement entry (x.prefix, x.asn) xs new)
+    ∙ fin.from_entries_push announcement_total exact_announcement (map entry xs) (x.prefix, x.asn) x.path (unfound exact_announcement entry (x.prefix, x.asn) xs new)
     ∙ ap (λ a. fin.insert (fin.from_entries (map entry xs)) (x.prefix, a) x.path) (sym (starts x.asn x.path own)) in
     λ i. record { prefixes = prefixes i; announced = announced i; leakers = fin.from_entries (map (λ leak. (leak, tt)) leaks) }
 
@@ -106,7 +106,7 @@ planned_announcement xs leaks x own new =
 pub unannounced : (xs : List Announcement) (leaks : List (ℕ × ℕ)) (x : Announcement) → StartsWith x.asn x.path → All (λ a. announcement_name a ≢ announcement_name x) xs → announces (planned xs leaks) x.prefix (announcer_of x.path) ≡ false
 unannounced xs leaks x own new =
     ap (λ a. announces (planned xs leaks) x.prefix a) (starts x.asn x.path own)
-    ∙ ap is_some (fin.get-from_entries announcements_total (map (λ (a : Announcement). ((a.prefix, a.asn), a.path)) xs) (x.prefix, x.asn) ∙ unfound exact_announcement (λ (a : Announcement). ((a.prefix, a.asn), a.path)) (x.prefix, x.asn) xs new)
+    ∙ ap is_some (fin.get-from_entries announcement_total (map (λ (a : Announcement). ((a.prefix, a.asn), a.path)) xs) (x.prefix, x.asn) ∙ unfound exact_announcement (λ (a : Announcement). ((a.prefix, a.asn), a.path)) (x.prefix, x.asn) xs new)
 
 pub exact_pair : fin.IsAntisymmetric pair_cmp
 exact_pair = exact_pairs nat_cmp nat_cmp exact_unsigned exact_unsigned

@@ -17,7 +17,7 @@ use Rattle.stability_laws.specs.Stable.{IsRight, IsStable}
 use Rattle.stability_laws.specs.World.{setting}
 use Rattle.stability_laws.specs.declared.entry.Entry.{Entry}
 use Rattle.stability_laws.proofs.KeyLists.{eq_is, eq_same}
-use Rattle.stability_laws.proofs.PlanOrders.{announcements_total, exact_announcement, exact_prefix, prefixes_total}
+use Rattle.net_names.specs.Orders.{announcement_total, exact_announcement, exact_prefix, prefix_total}
 use Rattle.as_graph.specs.Hierarchy.{HasNoProviderCycle, IsProviderCycle}
 use Rattle.as_graph.specs.Room.{with_room}
 use Rattle.as_graph.specs.Topology.{Topology, as_count, has, relation}
@@ -85,7 +85,7 @@ pub announced_named : (plan : Plan) (kinds : Kinds) (p : PrefixValue) (path : Li
 announced_named plan kinds p path a old e is plan_is a_is =
     let here : announces plan p a ≡ true =
     ap (λ (q : Plan). announces q p a) (plan_is ∙ ap (edited_plan old) is) ∙ ap (λ x. announces (with_announcement old p path) p x) (a_is ∙ ap edit_asn is)
-    ∙ ap is_some (fin.get-insert announcements_total old.announced (p, announcer_of path) path (p, announcer_of path) ∙ ap (λ b. cond b (Some path) (fin.get old.announced (p, announcer_of path))) (eq_same announcements_total exact_announcement (p, announcer_of path) (p, announcer_of path) refl)) in
+    ∙ ap is_some (fin.get-insert announcement_total old.announced (p, announcer_of path) path (p, announcer_of path) ∙ ap (λ b. cond b (Some path) (fin.get old.announced (p, announcer_of path))) (eq_same announcement_total exact_announcement (p, announcer_of path) (p, announcer_of path) refl)) in
     named_by plan kinds a ∙ or_left (occurs a (announcers_of plan)) _ (is_announcer plan p a here)
 
 -- a withdrawal that is not refused is of something announced
@@ -207,7 +207,7 @@ module _ (s : Sim) (e : SeedEdit) (plan : Plan) (a : ℕ) (t : Bool) (graph : To
       end_at : (prefix : PrefixValue) (x : ℕ) → IsTrue (has_prefix (plan_of s.rounds) prefix) → a ≡ x → (u : Bool) → t ≡ u → (b : Bool) → eq_by_cmp prefix_cmp prefix (edit_prefix e) ≡ b → (touched prefix x ≡ true) ⊎ IsRightOn now s.rounds prefix x
       end_at prefix x known same true named b eq = inr (subst (IsRightOn now s.rounds prefix) same (still_right_on law sound belong prefix known (λ out. absurd (true≢false (sym named ∙ out)))))
       end_at prefix x known same false named false eq = inr (subst (IsRightOn now s.rounds prefix) same (still_right_on law sound belong prefix known (λ out. eq)))
-      end_at prefix x known same false named true eq = inl (coe 1 0 (i. touched (eq_is prefixes_total exact_prefix prefix (edit_prefix e) eq i) (sym same i) ≡ true) (touches named))
+      end_at prefix x known same false named true eq = inl (coe 1 0 (i. touched (eq_is prefix_total exact_prefix prefix (edit_prefix e) eq i) (sym same i) ≡ true) (touches named))
 
   -- whoever announces something is an AS of the graph
   new_there : (p : PrefixValue) (x : ℕ) → IsTrue (announces plan p x) → has graph x ≡ true

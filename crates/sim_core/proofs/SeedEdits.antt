@@ -14,7 +14,7 @@ use Rattle.stability_laws.specs.declared.seed_plan.edits.SeedEdit.{SeedEdit}
 use Rattle.stability_laws.specs.declared.seed_plan.edits.SeedEdit.TheVariants.{Announce, Withdraw}
 use Rattle.stability_laws.proofs.KeyLists.{eq_is, eq_same, insert_there}
 use Rattle.stability_laws.proofs.PlanListings.{announcers_listed}
-use Rattle.stability_laws.proofs.PlanOrders.{announcements_total, exact_announcement, exact_prefix, prefixes_total}
+use Rattle.net_names.specs.Orders.{announcement_total, exact_announcement, exact_prefix, prefix_total}
 use Rattle.leak_round.specs.Limits.{IsWithinLimits}
 use Rattle.sim_core.proofs.LinkEdits.{over, within}
 use Rattle.sim_core.proofs.PayloadEdits.{there_unit}
@@ -22,7 +22,7 @@ use Rattle.sim_core.proofs.PayloadEdits.{there_unit}
 -- ---- what stays
 
 pub edited_prefixes : (p : Plan) (e : SeedEdit) → IsEditOf p e → (edited p e).prefixes ≡ p.prefixes
-edited_prefixes p (Announce prefix path) known = insert_there prefixes_total exact_prefix p.prefixes prefix (there_unit (fin.get p.prefixes prefix) known)
+edited_prefixes p (Announce prefix path) known = insert_there prefix_total exact_prefix p.prefixes prefix (there_unit (fin.get p.prefixes prefix) known)
 edited_prefixes p (Withdraw prefix a) known = refl
 
 pub edited_leakers : (p : Plan) (e : SeedEdit) → (edited p e).leakers ≡ p.leakers
@@ -34,26 +34,26 @@ apart q prefix x a other = by (eq_by_cmp announcement_cmp (q, x) (prefix, a)) re
   where
     by : (b : Bool) → eq_by_cmp announcement_cmp (q, x) (prefix, a) ≡ b → b ≡ false
     by false e = refl
-    by true e = absurd (other (ap (λ (t : PrefixValue × ℕ). t.1) (eq_is announcements_total exact_announcement (q, x) (prefix, a) e)))
+    by true e = absurd (other (ap (λ (t : PrefixValue × ℕ). t.1) (eq_is announcement_total exact_announcement (q, x) (prefix, a) e)))
 
 apart_prefix : (q prefix : PrefixValue) (x a : ℕ) → eq_by_cmp prefix_cmp q prefix ≡ false → eq_by_cmp announcement_cmp (q, x) (prefix, a) ≡ false
 apart_prefix q prefix x a other = by (eq_by_cmp announcement_cmp (q, x) (prefix, a)) refl
   where
     by : (b : Bool) → eq_by_cmp announcement_cmp (q, x) (prefix, a) ≡ b → b ≡ false
     by false e = refl
-    by true e = absurd (true≢false (sym (eq_same prefixes_total exact_prefix q prefix (ap (λ (t : PrefixValue × ℕ). t.0) (eq_is announcements_total exact_announcement (q, x) (prefix, a) e))) ∙ other))
+    by true e = absurd (true≢false (sym (eq_same prefix_total exact_prefix q prefix (ap (λ (t : PrefixValue × ℕ). t.0) (eq_is announcement_total exact_announcement (q, x) (prefix, a) e))) ∙ other))
 
 -- what the other ASes announce
 pub other_paths : (p : Plan) (e : SeedEdit) (x : ℕ) → x ≢ edit_asn e → (q : PrefixValue) → announced_path (edited p e) q x ≡ announced_path p q x
 other_paths p (Announce prefix path) x other q =
-    fin.get-insert announcements_total p.announced (prefix, announcer_of path) path (q, x) ∙ ap (λ b. cond b (Some path) (fin.get p.announced (q, x))) (apart q prefix x (announcer_of path) other)
-other_paths p (Withdraw prefix a) x other q = fin.get-remove announcements_total p.announced (prefix, a) (q, x) ∙ ap (λ b. cond b None (fin.get p.announced (q, x))) (apart q prefix x a other)
+    fin.get-insert announcement_total p.announced (prefix, announcer_of path) path (q, x) ∙ ap (λ b. cond b (Some path) (fin.get p.announced (q, x))) (apart q prefix x (announcer_of path) other)
+other_paths p (Withdraw prefix a) x other q = fin.get-remove announcement_total p.announced (prefix, a) (q, x) ∙ ap (λ b. cond b None (fin.get p.announced (q, x))) (apart q prefix x a other)
 
 -- what is announced of other prefixes
 pub other_prefixes : (p : Plan) (e : SeedEdit) (q : PrefixValue) → eq_by_cmp prefix_cmp q (edit_prefix e) ≡ false → (x : ℕ) → announced_path (edited p e) q x ≡ announced_path p q x
 other_prefixes p (Announce prefix path) q other x =
-    fin.get-insert announcements_total p.announced (prefix, announcer_of path) path (q, x) ∙ ap (λ b. cond b (Some path) (fin.get p.announced (q, x))) (apart_prefix q prefix x (announcer_of path) other)
-other_prefixes p (Withdraw prefix a) q other x = fin.get-remove announcements_total p.announced (prefix, a) (q, x) ∙ ap (λ b. cond b None (fin.get p.announced (q, x))) (apart_prefix q prefix x a other)
+    fin.get-insert announcement_total p.announced (prefix, announcer_of path) path (q, x) ∙ ap (λ b. cond b (Some path) (fin.get p.announced (q, x))) (apart_prefix q prefix x (announcer_of path) other)
+other_prefixes p (Withdraw prefix a) q other x = fin.get-remove announcement_total p.announced (prefix, a) (q, x) ∙ ap (λ b. cond b None (fin.get p.announced (q, x))) (apart_prefix q prefix x a other)
 
 -- ---- who announces
 
@@ -87,7 +87,7 @@ other_announcers p e x other =
 
 -- how many announcements there are then
 len_with : (p : Plan) (prefix : PrefixValue) (path : List ℕ) (known : Bool) → announces p prefix (announcer_of path) ≡ known → fin.len (with_announcement p prefix path).announced ≡ cond known (fin.len p.announced) (fin.len p.announced + 1)
-len_with p prefix path known is = fin.len-insert announcements_total p.announced (prefix, announcer_of path) path ∙ ap (λ b. cond b (fin.len p.announced) (fin.len p.announced + 1)) is
+len_with p prefix path known is = fin.len-insert announcement_total p.announced (prefix, announcer_of path) path ∙ ap (λ b. cond b (fin.len p.announced) (fin.len p.announced + 1)) is
 
 pub one_more : (p : Plan) (prefix : PrefixValue) (path : List ℕ) (n : ℕ) → announces p prefix (announcer_of path) ≡ false → n ≡ fin.len p.announced → nat_le 64 n ≡ nat_lt 64 (fin.len (with_announcement p prefix path).announced)
 one_more p prefix path n new is = test n (fin.len (with_announcement p prefix path).announced) (len_with p prefix path false new ∙ ap (λ k. k + 1) (sym is))
@@ -99,7 +99,7 @@ pub no_more : (p : Plan) (prefix : PrefixValue) (path : List ℕ) → announces 
 no_more p prefix path known few = sym (within (fin.len (with_announcement p prefix path).announced) 64 (subst (λ n. n ≤ 64) (sym (len_with p prefix path true known)) few))
 
 pub len_without : (p : Plan) (prefix : PrefixValue) (a : ℕ) → fin.len p.announced ≤ 64 → fin.len (without_announcement p prefix a).announced ≤ 64
-len_without p prefix a few = subst (λ n. n ≤ 64) (sym (fin.len-remove announcements_total p.announced (prefix, a))) (by (announces p prefix a))
+len_without p prefix a few = subst (λ n. n ≤ 64) (sym (fin.len-remove announcement_total p.announced (prefix, a))) (by (announces p prefix a))
   where
     by : (b : Bool) → cond b (fin.len p.announced - 1) (fin.len p.announced) ≤ 64
     by true = omega (arith, few)
@@ -123,6 +123,6 @@ edited_within p e small known within few = record {
     by : (d : SeedEdit) → IsEditWithin 64 d → (q : PrefixValue) (x : ℕ) (y : List ℕ) → announced_path (edited p d) q x ≡ Some y → length y ≤ 64
     by (Announce prefix path) within q x y is =
         let k : PrefixValue × ℕ = (prefix, announcer_of path) in
-        short_put (eq_by_cmp announcement_cmp (q, x) k) path y (fin.get p.announced (q, x)) within.1 (small.paths q x) (sym (fin.get-insert announcements_total p.announced k path (q, x)) ∙ is)
+        short_put (eq_by_cmp announcement_cmp (q, x) k) path y (fin.get p.announced (q, x)) within.1 (small.paths q x) (sym (fin.get-insert announcement_total p.announced k path (q, x)) ∙ is)
     by (Withdraw prefix a) within q x y is =
-        short_cut (eq_by_cmp announcement_cmp (q, x) (prefix, a)) y (fin.get p.announced (q, x)) (small.paths q x) (sym (fin.get-remove announcements_total p.announced (prefix, a) (q, x)) ∙ is)
+        short_cut (eq_by_cmp announcement_cmp (q, x) (prefix, a)) y (fin.get p.announced (q, x)) (small.paths q x) (sym (fin.get-remove announcement_total p.announced (prefix, a) (q, x)) ∙ is)

@@ -23,7 +23,7 @@ use Rattle.policy_kinds.specs.Kinds.{label}
 use Rattle.policy_kinds.specs.declared.kind.Kind.{Kind}
 use Rattle.policy_kinds.specs.declared.kind.Kind.TheVariants.{Plain}
 use Rattle.roa_table.specs.Sets.{Payloads}
-use Rattle.scenario_text.proofs.Orders.{addr_total}
+use Rattle.net_names.specs.Orders.{addr_total}
 use Rattle.stability_laws.specs.Book.{PolicyBook, policy_at}
 use Rattle.stability_laws.specs.Plans.{Plan}
 use Rattle.stability_laws.specs.declared.entry.Entry.{Entry}

@@ -14,7 +14,7 @@ use Rattle.net_names.specs.Prefixes.{PrefixValue}
 use Rattle.net_names.proofs.Pairs.{pairs_total}
 use Rattle.as_graph.proofs.RowAses.{occurs-append}
 use Rattle.stability_laws.specs.Plans.{announcement_cmp, announcers_of}
-use Rattle.stability_laws.proofs.PlanOrders.{prefixes_total, announcements_total, exact_announcement}
+use Rattle.net_names.specs.Orders.{prefix_total, announcement_total, exact_announcement}
 use Rattle.leak_round.specs.Limits.{IsWithinLimits}
 use Rattle.scenario_text.specs.Scenarios.{ScenarioValue, IsScenario}
 use Rattle.scenario_text.specs.declared.scenario.Announcement.{Announcement}
@@ -70,12 +70,12 @@ length-map f (x ∷ xs) = ap suc (length-map f xs)
 
 pub within : (s : ScenarioValue) → IsScenario s → IsWithinLimits (plan_of s)
 within s is = record {
-  prefixes = let count = len-keys prefixes_total (λ (a : Announcement). a.prefix) s.announcements in let keys = length-map (λ (e : PrefixValue × Unit {0}). e.0) (fin.entries (plan_of s).prefixes) in
+  prefixes = let count = len-keys prefix_total (λ (a : Announcement). a.prefix) s.announcements in let keys = length-map (λ (e : PrefixValue × Unit {0}). e.0) (fin.entries (plan_of s).prefixes) in
       let entries = fin.len-entries (plan_of s).prefixes in omega (arith, is.few_prefixes, count, keys, entries);
-  announcements = let len = len-from_entries announcements_total (map (λ (a : Announcement). ((a.prefix, a.asn), a.path)) s.announcements) in
+  announcements = let len = len-from_entries announcement_total (map (λ (a : Announcement). ((a.prefix, a.asn), a.path)) s.announcements) in
       let long = length-map {B = (PrefixValue × ℕ) × List ℕ} (λ (a : Announcement). ((a.prefix, a.asn), a.path)) s.announcements in omega (arith, len, long, is.few_announcements);
   paths = λ prefix a path h. found announcement_cmp (λ (x : Announcement). ((x.prefix, x.asn), x.path)) (λ p. length p ≤ 64) (prefix, a) path s.announcements is.short_paths
-      (sym (fin.get-from_entries announcements_total (map (λ (x : Announcement). ((x.prefix, x.asn), x.path)) s.announcements) (prefix, a)) ∙ h);
+      (sym (fin.get-from_entries announcement_total (map (λ (x : Announcement). ((x.prefix, x.asn), x.path)) s.announcements) (prefix, a)) ∙ h);
 }
 
 -- ---- the names
@@ -105,7 +105,7 @@ announcing q s =
     let keys = fin.keys (plan_of s).announced in
     occurs-from_entries nat_cmp_total fin.nat_cmp-IsAntisymmetric (λ (x : ℕ). x) q (map (λ x. (x.1, tt)) keys)
     ∙ ap (occurs q) (map_map (λ (x : PrefixValue × ℕ). (x.1, tt)) (λ (e : ℕ × Unit {0}). e.0) keys ∙ map_map (λ (e : (PrefixValue × ℕ) × List ℕ). e.0) (λ (x : PrefixValue × ℕ). x.1) (fin.entries (plan_of s).announced))
-    ∙ occurs-from_entries announcements_total exact_announcement (λ (x : PrefixValue × ℕ). x.1) q entries
+    ∙ occurs-from_entries announcement_total exact_announcement (λ (x : PrefixValue × ℕ). x.1) q entries
     ∙ ap (occurs q) (map_map (λ (a : Announcement). ((a.prefix, a.asn), a.path)) (λ (e : (PrefixValue × ℕ) × List ℕ). e.0.1) s.announcements)
 
 leaking : (q : ℕ) (s : ScenarioValue) → occurs q (leakers (plan_of s)) ≡ occurs q (flat_map (λ leakers. leakers) s.leaks)

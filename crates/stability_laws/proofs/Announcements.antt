@@ -11,7 +11,7 @@ use Rattle.net_names.specs.Prefixes.{PrefixValue, prefix_cmp}
 use Rattle.net_names.specs.Links.{pair_cmp}
 use Rattle.net_names.proofs.Pairs.{exact_pair, pairs_total}
 use Rattle.stability_laws.specs.Plans.{announcement_cmp, Plan, announced_path, has_prefix, announcer_of, with_announcement, with_leaker, announcing_set, empty_plan, IsSound}
-use Rattle.stability_laws.proofs.PlanOrders.{prefixes_total, exact_prefix, announcements_total, exact_announcement}
+use Rattle.net_names.specs.Orders.{prefix_total, exact_prefix, announcement_total, exact_announcement}
 use Rattle.stability_laws.proofs.KeyLists.{eq_is, eq_same}
 
 twice : (b : Bool) (x y : Option (Unit {0})) → cond b x y ≡ cond b x (cond b x y)
@@ -54,7 +54,7 @@ get-announcing_set plan q = fin.get-from_entries nat_cmp_total (by_as (fin.entri
 pub announcing_set-with_announcement : (plan : Plan) (prefix : PrefixValue) (path : List ℕ) → announcing_set (with_announcement plan prefix path) ≡ fin.insert (announcing_set plan) (announcer_of path) tt
 announcing_set-with_announcement plan prefix path = fin.same_map nat_cmp_total fin.nat_cmp-IsAntisymmetric _ _ (λ q.
     get-announcing_set (with_announcement plan prefix path) q
-    ∙ ap (λ es. fin.find nat_cmp q (by_as es)) (fin.entries-insert announcements_total plan.announced (prefix, announcer_of path) path)
+    ∙ ap (λ es. fin.find nat_cmp q (by_as es)) (fin.entries-insert announcement_total plan.announced (prefix, announcer_of path) path)
     ∙ find_put q (prefix, announcer_of path) path (fin.entries plan.announced)
     ∙ sym (fin.get-insert nat_cmp_total (announcing_set plan) (announcer_of path) tt q ∙ ap (cond (eq_by_cmp nat_cmp q (announcer_of path)) (Some tt)) (get-announcing_set plan q)))
 
@@ -89,11 +89,11 @@ module _ (plan : Plan) (sound : IsSound plan) where
     -- what holds of the new path and of the older ones
     each : (Q : PrefixValue → ℕ → List ℕ → Type 0) → Q prefix (announcer_of path) path → ((p : PrefixValue) (a : ℕ) (xs : List ℕ) → announced_path plan p a ≡ Some xs → Q p a xs)
         → (p : PrefixValue) (a : ℕ) (xs : List ℕ) → announced_path after p a ≡ Some xs → Q p a xs
-    each Q new old p a xs is = by (eq_by_cmp announcement_cmp (p, a) (prefix, announcer_of path)) refl (sym (fin.get-insert announcements_total plan.announced (prefix, announcer_of path) path (p, a)) ∙ is)
+    each Q new old p a xs is = by (eq_by_cmp announcement_cmp (p, a) (prefix, announcer_of path)) refl (sym (fin.get-insert announcement_total plan.announced (prefix, announcer_of path) path (p, a)) ∙ is)
       where
         by : (b : Bool) → eq_by_cmp announcement_cmp (p, a) (prefix, announcer_of path) ≡ b → cond b (Some path) (announced_path plan p a) ≡ Some xs → Q p a xs
         by true t e =
-            let same = eq_is announcements_total exact_announcement (p, a) (prefix, announcer_of path) t in
+            let same = eq_is announcement_total exact_announcement (p, a) (prefix, announcer_of path) t in
             let at : Q p a path = subst (λ (k : PrefixValue × ℕ). Q k.0 k.1 path) (sym same) new in
             subst (λ (ys : List ℕ). Q p a ys) (same_Some path xs e) at
         by false t e = old p a xs e
@@ -103,14 +103,14 @@ module _ (plan : Plan) (sound : IsSound plan) where
     first_is (x ∷ xs) h = refl
 
     still : (p : PrefixValue) → IsTrue (has_prefix plan p) → IsTrue (has_prefix after p)
-    still p h = ap is_some (fin.get-insert prefixes_total plan.prefixes prefix tt p) ∙ has_more (eq_by_cmp prefix_cmp p prefix) (fin.get plan.prefixes p) h
+    still p h = ap is_some (fin.get-insert prefix_total plan.prefixes prefix tt p) ∙ has_more (eq_by_cmp prefix_cmp p prefix) (fin.get plan.prefixes p) h
 
     pub sound_with_announcement : IsSound after
     sound_with_announcement = record {
       starts = each (λ p a xs. slice_get xs 0 ≡ Some a) (first_is path some) sound.starts;
       short = each (λ p a xs. length xs ≤ 4294967294) short sound.short;
       known = each (λ p a xs. IsTrue (has_prefix after p))
-          (ap is_some (fin.get-insert prefixes_total plan.prefixes prefix tt prefix) ∙ ap (λ b. is_some (cond b (Some tt) (fin.get plan.prefixes prefix))) (eq_same prefixes_total exact_prefix prefix prefix refl))
+          (ap is_some (fin.get-insert prefix_total plan.prefixes prefix tt prefix) ∙ ap (λ b. is_some (cond b (Some tt) (fin.get plan.prefixes prefix))) (eq_same prefix_total exact_prefix prefix prefix refl))
           (λ p a xs is. still p (sound.known p a xs is));
       later = sound.later;
     }

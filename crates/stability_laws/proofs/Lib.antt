@@ -1,4 +1,3 @@
-pub mod PlanOrders
 pub mod KeyLists
 pub mod Announcements
 pub mod PlanReads

@@ -16,7 +16,7 @@ use Rattle.stability_laws.specs.SeedEdits.{without_announcement}
 use Rattle.stability_laws.proofs.KeyLists.{eq_is}
 use Rattle.stability_laws.proofs.PlanEdits.{AreAnnouncements, found, path_is}
 use Rattle.stability_laws.proofs.PlanListings.{announcers_listed, then_tied}
-use Rattle.stability_laws.proofs.PlanOrders.{announcements_total, exact_announcement}
+use Rattle.net_names.specs.Orders.{announcement_total, exact_announcement}
 use Rattle.stability_laws.proofs.PlanReads.{key}
 
 -- who leaks, by the pairs of a round and an AS
@@ -42,7 +42,7 @@ module _ (plan : Plan) (prefix : PrefixValue) (a : ℕ) (xs : List Announcement)
 
   -- what the AS announces then
   left : (q : PrefixValue) → announced_path Without q a ≡ cond (eq_by_cmp prefix_cmp q prefix) None (announced_path plan q a)
-  left q = fin.get-remove announcements_total plan.announced (prefix, a) (q, a) ∙ ap (λ b. cond b None (announced_path plan q a)) (by_prefix q prefix a)
+  left q = fin.get-remove announcement_total plan.announced (prefix, a) (q, a) ∙ ap (λ b. cond b None (announced_path plan q a)) (by_prefix q prefix a)
 
   there : list_any (is_another prefix a) xs ≡ true → occurs a (announcers_of Without) ≡ true
   there h =
@@ -62,7 +62,7 @@ module _ (plan : Plan) (prefix : PrefixValue) (a : ℕ) (xs : List Announcement)
           → cond b (Some y.path) (fin.find announcement_cmp (q, a) (map entry_of ys)) ≡ Some path → list_any (is_another prefix a) (y ∷ ys) ≡ true
       by true e rest h =
           or_left (is_another prefix a y) _
-          (subst (λ (k : PrefixValue × ℕ). ((k.1 == a) && not (eq_by_cmp prefix_cmp k.0 prefix)) ≡ true) (eq_is announcements_total exact_announcement (q, a) (key y) e) (and_from (a == a) _ (eq-eqb a a refl) (ap not apart)))
+          (subst (λ (k : PrefixValue × ℕ). ((k.1 == a) && not (eq_by_cmp prefix_cmp k.0 prefix)) ≡ true) (eq_is announcement_total exact_announcement (q, a) (key y) e) (and_from (a == a) _ (eq-eqb a a refl) (ap not apart)))
       by false e rest h = or_right (is_another prefix a y) _ (rest h)
 
   back : occurs a (announcers_of Without) ≡ true → list_any (is_another prefix a) xs ≡ true

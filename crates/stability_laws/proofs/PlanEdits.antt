@@ -13,7 +13,7 @@ use Rattle.stability_laws.specs.declared.seed_plan.Announcement.{Announcement}
 use Rattle.stability_laws.specs.Plans.{announcement_cmp, Plan, announced_path, announces, announcer_of, with_announcement, IsSound}
 use Rattle.stability_laws.specs.PlanLists.{set_of, entry_of, plan_of, ArePlan}
 use Rattle.stability_laws.specs.SeedEdits.{silent, without_announcement}
-use Rattle.stability_laws.proofs.PlanOrders.{prefixes_total, exact_prefix, announcements_total, exact_announcement}
+use Rattle.net_names.specs.Orders.{prefix_total, exact_prefix, announcement_total, exact_announcement}
 use Rattle.stability_laws.proofs.KeyLists.{left, right, is_less, eq_is, eq_same, insert_there}
 use Rattle.stability_laws.proofs.PlanReads.{key, plan_of_none, none_are_plan, sound_plan, first_is}
 
@@ -55,7 +55,7 @@ apart k q less = by (eq_by_cmp announcement_cmp q k) refl
   where
     by : (b : Bool) → eq_by_cmp announcement_cmp q k ≡ b → b ≡ false
     by false e = refl
-    by true e = sym (eq_same announcements_total exact_announcement k q (sym (eq_is announcements_total exact_announcement q k e))) ∙ ap is_eq less
+    by true e = sym (eq_same announcement_total exact_announcement k q (sym (eq_is announcement_total exact_announcement q k e))) ∙ ap is_eq less
 
 -- no earlier announcement is of the same prefix by the same AS
 early : (xs : List Announcement) → T (fin.is_sorted announcement_cmp (entries_in xs)) → (i : ℕ) (x : Announcement) → slice_get xs i ≡ Some x → fin.find announcement_cmp (key x) (entries_in (take i xs)) ≡ None
@@ -68,7 +68,7 @@ here [] h i x at = absurd (none-some x at)
 here (y ∷ ys) h zero x at =
     let same : y ≡ x = same_Some y x at in
     subst (λ (z : Announcement). fin.find announcement_cmp (key z) (entries_in (y ∷ ys)) ≡ Some z.path) same
-    (ap (λ b. cond b (Some y.path) (fin.find announcement_cmp (key y) (entries_in ys))) (eq_same announcements_total exact_announcement (key y) (key y) refl))
+    (ap (λ b. cond b (Some y.path) (fin.find announcement_cmp (key y) (entries_in ys))) (eq_same announcement_total exact_announcement (key y) (key y) refl))
 here (y ∷ ys) h (suc i) x at = ap (λ b. cond b (Some y.path) (fin.find announcement_cmp (key x) (entries_in ys))) (apart (key y) (key x) (below_later (key y) ys i x (left _ _ h) at)) ∙ here ys (right _ _ h) i x at
 
 next : (xs : List Announcement) (i : ℕ) (x : Announcement) → slice_get xs i ≡ Some x → entries_in (take (i + 1) xs) ≡ entries_in (take i xs) ++ entry_of x ∷ []
@@ -114,9 +114,9 @@ module _ (plan : Plan) (prefix : PrefixValue) (a : ℕ) (xs : List Announcement)
   -- all of them
   pub again_all : (so_far : Plan) → IsAgain plan so_far prefix a xs (length xs) → take (length xs) xs ≡ xs → so_far ≡ without_announcement plan prefix a
   again_all so_far h whole =
-      let same : so_far.announced ≡ fin.remove plan.announced (prefix, a) = fin.same_map announcements_total exact_announcement _ _ (λ q.
+      let same : so_far.announced ≡ fin.remove plan.announced (prefix, a) = fin.same_map announcement_total exact_announcement _ _ (λ q.
       h.announced q ∙ ap (λ ys. cond (eq_by_cmp announcement_cmp q (prefix, a)) None (fin.find announcement_cmp q (entries_in ys))) whole
-      ∙ sym (fin.get-remove announcements_total plan.announced (prefix, a) q ∙ ap (cond (eq_by_cmp announcement_cmp q (prefix, a)) None) (found q))) in
+      ∙ sym (fin.get-remove announcement_total plan.announced (prefix, a) q ∙ ap (cond (eq_by_cmp announcement_cmp q (prefix, a)) None) (found q))) in
       λ i. record { prefixes = h.prefixes i; announced = same i; leakers = h.leakers i }
 
   module _ (i : ℕ) (x : Announcement) (at : slice_get xs i ≡ Some x) where
@@ -148,23 +148,23 @@ module _ (plan : Plan) (prefix : PrefixValue) (a : ℕ) (xs : List Announcement)
       new = ap (announces so_far x.prefix) first ∙ ap is_some not_yet
 
       found_next : (q : PrefixValue × ℕ) → fin.find announcement_cmp q (entries_in (take (i + 1) xs)) ≡ cond (eq_by_cmp announcement_cmp q (key x)) (Some x.path) (fin.find announcement_cmp q (entries_in (take i xs)))
-      found_next q = ap (fin.find announcement_cmp q) (next xs i x at) ∙ find-append announcement_cmp announcements_total (entries_in (take i xs)) (key x) x.path q (early xs l.rise i x at)
+      found_next q = ap (fin.find announcement_cmp q) (next xs i x at) ∙ find-append announcement_cmp announcement_total (entries_in (take i xs)) (key x) x.path q (early xs l.rise i x at)
 
       skipped : (q : PrefixValue × ℕ) (b c : Bool) → eq_by_cmp announcement_cmp (key x) (prefix, a) ≡ true → eq_by_cmp announcement_cmp q (prefix, a) ≡ b → eq_by_cmp announcement_cmp q (key x) ≡ c
           → cond b None (fin.find announcement_cmp q (entries_in (take i xs))) ≡ cond b None (cond c (Some x.path) (fin.find announcement_cmp q (entries_in (take i xs))))
       skipped q true c same e f = refl
       skipped q false false same e f = refl
       skipped q false true same e f =
-          let one : q ≡ (prefix, a) = eq_is announcements_total exact_announcement q (key x) f ∙ eq_is announcements_total exact_announcement (key x) (prefix, a) same in
-          absurd (true≢false (sym (eq_same announcements_total exact_announcement q (prefix, a) one) ∙ e))
+          let one : q ≡ (prefix, a) = eq_is announcement_total exact_announcement q (key x) f ∙ eq_is announcement_total exact_announcement (key x) (prefix, a) same in
+          absurd (true≢false (sym (eq_same announcement_total exact_announcement q (prefix, a) one) ∙ e))
 
       put : (q : PrefixValue × ℕ) (b c : Bool) → eq_by_cmp announcement_cmp (key x) (prefix, a) ≡ false → eq_by_cmp announcement_cmp q (prefix, a) ≡ b → eq_by_cmp announcement_cmp q (key x) ≡ c
           → cond c (Some x.path) (cond b None (fin.find announcement_cmp q (entries_in (take i xs)))) ≡ cond b None (cond c (Some x.path) (fin.find announcement_cmp q (entries_in (take i xs))))
       put q false c other e f = refl
       put q true false other e f = refl
       put q true true other e f =
-          let one : key x ≡ (prefix, a) = sym (eq_is announcements_total exact_announcement q (key x) f) ∙ eq_is announcements_total exact_announcement q (prefix, a) e in
-          absurd (true≢false (sym (eq_same announcements_total exact_announcement (key x) (prefix, a) one) ∙ other))
+          let one : key x ≡ (prefix, a) = sym (eq_is announcement_total exact_announcement q (key x) f) ∙ eq_is announcement_total exact_announcement q (prefix, a) e in
+          absurd (true≢false (sym (eq_same announcement_total exact_announcement (key x) (prefix, a) one) ∙ other))
 
       pub again_more : (next_plan : Plan) → next_plan ≡ cond (eq_by_cmp announcement_cmp (key x) (prefix, a)) so_far (with_announcement so_far x.prefix x.path) → IsAgain plan next_plan prefix a xs (i + 1)
       again_more next_plan e = by (eq_by_cmp announcement_cmp (key x) (prefix, a)) refl e
@@ -176,11 +176,11 @@ module _ (plan : Plan) (prefix : PrefixValue) (a : ℕ) (xs : List Announcement)
             announced = λ q. h.announced q ∙ skipped q (eq_by_cmp announcement_cmp q (prefix, a)) (eq_by_cmp announcement_cmp q (key x)) t refl refl ∙ sym (ap (cond (eq_by_cmp announcement_cmp q (prefix, a)) None) (found_next q));
           })
           by false t e = subst (λ p. IsAgain plan p prefix a xs (i + 1)) (sym e) (record {
-            prefixes = insert_there prefixes_total exact_prefix so_far.prefixes x.prefix (ap (λ s. fin.get s x.prefix) h.prefixes ∙ there (fin.get plan.prefixes x.prefix) (l.sound.known x.prefix x.asn x.path path_is)) ∙ h.prefixes;
+            prefixes = insert_there prefix_total exact_prefix so_far.prefixes x.prefix (ap (λ s. fin.get s x.prefix) h.prefixes ∙ there (fin.get plan.prefixes x.prefix) (l.sound.known x.prefix x.asn x.path path_is)) ∙ h.prefixes;
             leakers = h.leakers;
             announced = λ q.
                 ap (λ n. fin.get (fin.insert so_far.announced (x.prefix, n) x.path) q) first
-                ∙ fin.get-insert announcements_total so_far.announced (key x) x.path q
+                ∙ fin.get-insert announcement_total so_far.announced (key x) x.path q
                 ∙ ap (cond (eq_by_cmp announcement_cmp q (key x)) (Some x.path)) (h.announced q)
                 ∙ put q (eq_by_cmp announcement_cmp q (prefix, a)) (eq_by_cmp announcement_cmp q (key x)) t refl refl
                 ∙ sym (ap (cond (eq_by_cmp announcement_cmp q (prefix, a)) None) (found_next q));
@@ -190,17 +190,17 @@ module _ (plan : Plan) (prefix : PrefixValue) (a : ℕ) (xs : List Announcement)
 module _ (plan : Plan) (prefix : PrefixValue) (path : List ℕ) where
   pub not_without : announces (without_announcement plan prefix (announcer_of path)) prefix (announcer_of path) ≡ false
   not_without =
-      ap is_some (fin.get-remove announcements_total plan.announced (prefix, announcer_of path) (prefix, announcer_of path)
-      ∙ ap (λ b. cond b None (announced_path plan prefix (announcer_of path))) (eq_same announcements_total exact_announcement (prefix, announcer_of path) (prefix, announcer_of path) refl))
+      ap is_some (fin.get-remove announcement_total plan.announced (prefix, announcer_of path) (prefix, announcer_of path)
+      ∙ ap (λ b. cond b None (announced_path plan prefix (announcer_of path))) (eq_same announcement_total exact_announcement (prefix, announcer_of path) (prefix, announcer_of path) refl))
 
   pub announced_anew : with_announcement (without_announcement plan prefix (announcer_of path)) prefix path ≡ with_announcement plan prefix path
   announced_anew =
       let k : PrefixValue × ℕ = (prefix, announcer_of path) in
-      let same : fin.insert (fin.remove plan.announced k) k path ≡ fin.insert plan.announced k path = fin.same_map announcements_total exact_announcement _ _ (λ q.
-      fin.get-insert announcements_total (fin.remove plan.announced k) k path q
-      ∙ ap (cond (eq_by_cmp announcement_cmp q k) (Some path)) (fin.get-remove announcements_total plan.announced k q)
+      let same : fin.insert (fin.remove plan.announced k) k path ≡ fin.insert plan.announced k path = fin.same_map announcement_total exact_announcement _ _ (λ q.
+      fin.get-insert announcement_total (fin.remove plan.announced k) k path q
+      ∙ ap (cond (eq_by_cmp announcement_cmp q k) (Some path)) (fin.get-remove announcement_total plan.announced k q)
       ∙ by (eq_by_cmp announcement_cmp q k) (fin.get plan.announced q)
-      ∙ sym (fin.get-insert announcements_total plan.announced k path q)) in
+      ∙ sym (fin.get-insert announcement_total plan.announced k path q)) in
       λ i. record { prefixes = fin.insert plan.prefixes prefix tt; announced = same i; leakers = plan.leakers }
     where
       by : (b : Bool) (o : Option (List ℕ)) → cond b (Some path) (cond b None o) ≡ cond b (Some path) o

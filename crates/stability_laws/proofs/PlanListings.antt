@@ -20,7 +20,7 @@ use Rattle.net_names.specs.Links.{pair_cmp}
 use Rattle.net_names.proofs.Pairs.{exact_pair, pairs_total}
 use Rattle.stability_laws.specs.Plans.{announcement_cmp, Plan, announcing_set, announcers_of, leaks_in, in_round, leakers_of, IsAnnouncer, ListsRising}
 use Rattle.stability_laws.specs.PlanLists.{marks, IsRising, set_of}
-use Rattle.stability_laws.proofs.PlanOrders.{announcements_total, exact_announcement}
+use Rattle.net_names.specs.Orders.{announcement_total, exact_announcement}
 use Rattle.stability_laws.proofs.KeyLists.{keys_listed, listed_as, eq_is, eq_same, keys_set_of, left, right, below_later, copied_at}
 use Rattle.stability_laws.proofs.Announcements.{by_as, get-announcing_set}
 
@@ -37,7 +37,7 @@ find_of_as a (e ∷ es) h = by (eq_by_cmp nat_cmp a e.0.1) refl (find_of_as a es
         → is_some (cond b (Some tt) (fin.find nat_cmp a (by_as es))) ≡ true → (prefix : PrefixValue) × (path : List ℕ) × (fin.find announcement_cmp (prefix, a) (e ∷ es) ≡ Some path)
     by true t rest h =
         let same : (e.0.0, a) ≡ e.0 = ap (λ (x : ℕ). (e.0.0, x)) (eq_is nat_cmp_total exact_unsigned a e.0.1 t) in
-        (e.0.0, e.1, ap (λ (b : Bool). cond b (Some e.1) (fin.find announcement_cmp (e.0.0, a) es)) (eq_same announcements_total exact_announcement (e.0.0, a) e.0 same))
+        (e.0.0, e.1, ap (λ (b : Bool). cond b (Some e.1) (fin.find announcement_cmp (e.0.0, a) es)) (eq_same announcement_total exact_announcement (e.0.0, a) e.0 same))
     by false t rest h = let r = rest h in let l = later r.0 r.1 (eq_by_cmp announcement_cmp (r.0, a) e.0) r.2 in (r.0, l.0, l.1)
 
 as_of_find : (prefix : PrefixValue) (a : ℕ) (path : List ℕ) (es : List ((PrefixValue × ℕ) × List ℕ)) → fin.find announcement_cmp (prefix, a) es ≡ Some path → is_some (fin.find nat_cmp a (by_as es)) ≡ true
@@ -51,7 +51,7 @@ as_of_find prefix a path (e ∷ es) h = by (eq_by_cmp announcement_cmp (prefix, 
     by : (b : Bool) → eq_by_cmp announcement_cmp (prefix, a) e.0 ≡ b → (fin.find announcement_cmp (prefix, a) es ≡ Some path → is_some (fin.find nat_cmp a (by_as es)) ≡ true)
         → cond b (Some e.1) (fin.find announcement_cmp (prefix, a) es) ≡ Some path → is_some (fin.find nat_cmp a (by_as (e ∷ es))) ≡ true
     by true t rest h =
-        let same : a ≡ e.0.1 = ap (λ (x : PrefixValue × ℕ). x.1) (eq_is announcements_total exact_announcement (prefix, a) e.0 t) in
+        let same : a ≡ e.0.1 = ap (λ (x : PrefixValue × ℕ). x.1) (eq_is announcement_total exact_announcement (prefix, a) e.0 t) in
         ap (λ (b : Bool). is_some (cond b (Some tt) (fin.find nat_cmp a (by_as es)))) (eq_same nat_cmp_total exact_unsigned a e.0.1 same)
     by false t rest h = later (eq_by_cmp nat_cmp a e.0.1) (rest h)
 

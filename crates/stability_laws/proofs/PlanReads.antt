@@ -13,7 +13,7 @@ use Rattle.net_names.specs.Links.{pair_cmp}
 use Rattle.stability_laws.specs.declared.seed_plan.Announcement.{Announcement}
 use Rattle.stability_laws.specs.Plans.{announcement_cmp, Plan, announced_path, announces, announcer_of, with_announcement, with_leaker, announcing_set, prefixes_of, announcers_of, in_round, leakers_of, empty_plan, IsSound}
 use Rattle.stability_laws.specs.PlanLists.{set_of, IsRising, entry_of, plan_of, ArePlan}
-use Rattle.stability_laws.proofs.PlanOrders.{announcements_total, exact_announcement}
+use Rattle.net_names.specs.Orders.{announcement_total, exact_announcement}
 use Rattle.stability_laws.proofs.KeyLists.{set_of_none, keys_set_of}
 use Rattle.stability_laws.proofs.Announcements.{announcing_set-with_announcement, announcing_set-empty_plan, sound_empty_plan, sound_with_announcement, sound_with_leaker}
 
@@ -76,16 +76,16 @@ module _ (prefixes : List PrefixValue) (announced : List Announcement) (announce
     Answers r t = IsSearchInRange r (length t) × IsBinarySearchResult (λ x. announcement_cmp (x.prefix, x.asn) (prefix, a)) t r
 
     place : (at : ℕ) → Answers (Ok at) s → rising.IsPlace announcement_cmp key path_of announced (prefix, a) at
-    place at h = let p = subst (Answers (Ok at)) e h in rising.place_by announcement_cmp key path_of announcements_total exact_announcement announced (prefix, a) at p.0 p.1
+    place at h = let p = subst (Answers (Ok at)) e h in rising.place_by announcement_cmp key path_of announcement_total exact_announcement announced (prefix, a) at p.0 p.1
 
     gap : (at : ℕ) → Answers (Err at) s → rising.IsGap announcement_cmp key path_of announced (prefix, a) at
-    gap at h = let p = subst (Answers (Err at)) e h in rising.gap_by announcement_cmp key path_of announcements_total exact_announcement announced (prefix, a) at w.announced_rise p.0 p.1
+    gap at h = let p = subst (Answers (Err at)) e h in rising.gap_by announcement_cmp key path_of announcement_total exact_announcement announced (prefix, a) at w.announced_rise p.0 p.1
 
     pub found : (at : ℕ) (d : Announcement) → Answers (Ok at) s → announced_path plan prefix a ≡ Some (get_or announced at d).path
-    found at d h = ap (λ (p : Plan). announced_path p prefix a) (sym v) ∙ rising.get_place announcement_cmp key path_of announcements_total exact_announcement announced (prefix, a) at d w.announced_rise (place at h)
+    found at d h = ap (λ (p : Plan). announced_path p prefix a) (sym v) ∙ rising.get_place announcement_cmp key path_of announcement_total exact_announcement announced (prefix, a) at d w.announced_rise (place at h)
 
     pub missed : (at : ℕ) → Answers (Err at) s → announced_path plan prefix a ≡ None
-    missed at h = ap (λ (p : Plan). announced_path p prefix a) (sym v) ∙ rising.get_gap announcement_cmp key path_of announcements_total exact_announcement announced (prefix, a) at w.announced_rise (gap at h)
+    missed at h = ap (λ (p : Plan). announced_path p prefix a) (sym v) ∙ rising.get_gap announcement_cmp key path_of announcement_total exact_announcement announced (prefix, a) at w.announced_rise (gap at h)
 
     pub announces_by : (d : Announcement) (r : Result ℕ ℕ) → Answers r s → is_ok r ≡ announces plan prefix a
     announces_by d (Ok at) h = ap is_some (sym (found at d h))
@@ -105,7 +105,7 @@ module _ (prefixes : List PrefixValue) (announced : List Announcement) (announce
       lists_announced : plan_of new_prefixes (insert announced at new) leakers ≡ with_announcement (plan_of prefixes announced leakers) prefix path
       lists_announced = λ i. record {
         prefixes = prefixes_are i;
-        announced = (rising.map_insert announcement_cmp key path_of announcements_total exact_announcement announced new at w.announced_rise (gap at h)
+        announced = (rising.map_insert announcement_cmp key path_of announcement_total exact_announcement announced new at w.announced_rise (gap at h)
             ∙ ap (λ (x : ℕ). fin.insert (fin.from_sorted {R = announcement_cmp} (map entry_of announced)) (prefix, x) path) first) i;
         leakers = set_of pair_cmp leakers;
       }
@@ -116,7 +116,7 @@ module _ (prefixes : List PrefixValue) (announced : List Announcement) (announce
       pub are_announced : ArePlan new_prefixes (insert announced at new) new_announcers leakers
       are_announced = record {
         prefixes_rise = prefixes_rise;
-        announced_rise = rising.rising_insert announcement_cmp key path_of announcements_total exact_announcement announced new at w.announced_rise (gap at h);
+        announced_rise = rising.rising_insert announcement_cmp key path_of announcement_total exact_announcement announced new at w.announced_rise (gap at h);
         announcers_rise = announcers_rise;
         leakers_rise = w.leakers_rise;
         announcers_are =

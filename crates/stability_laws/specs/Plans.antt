@@ -7,11 +7,8 @@ use Rattle.std.specs.FinMap as fin
 use Rattle.std.specs.FinSet as set
 use Rattle.std.specs.Coded.{Coded, code_by, coded×, coded_ℕ, coded_list}
 use Rattle.net_names.specs.Prefixes.{PrefixValue, prefix_code, prefix_cmp}
+pub use Rattle.net_names.specs.Prefixes.{announcement_cmp}
 use Rattle.net_names.specs.Links.{pair_cmp}
-
--- announcements are ordered by prefix, and then by AS
-abbrev pub announcement_cmp : PrefixValue × ℕ → PrefixValue × ℕ → Ordering
-announcement_cmp a b = ordering_then (prefix_cmp a.0 b.0) (nat_cmp a.1 b.1)
 
 -- a plan has the prefixes, the path that an AS announces of a prefix, and which AS leaks in which round
 pub record Plan : Type 0 where

@@ -7,7 +7,7 @@ use Rattle.std.specs.Cmp.{IsTotalOrder}
 use Rattle.std.specs.FinMap as fin
 use Rattle.net_names.specs.Prefixes.{PrefixValue, prefix_cmp}
 use Rattle.stability_laws.specs.Plans.{announcement_cmp, announcer_of, empty_plan, with_announcement}
-use Rattle.stability_laws.proofs.PlanOrders.{prefixes_total, announcements_total}
+use Rattle.net_names.specs.Orders.{prefix_total, announcement_total}
 use Rattle.leak_round.specs.Limits.{IsWithinLimits}
 
 -- one key is no more than one
@@ -30,9 +30,9 @@ one_within prefix path few =
     let mark : Unit {0} = tt in
     let prefixes = fin.insert (fin.empty {X = Unit {0}} {R = prefix_cmp}) prefix mark in
     record {
-      prefixes = omega (arith, one_key prefixes_total prefix mark, fin.len-entries prefixes, length-map (fin.entries prefixes) (λ (e : PrefixValue × Unit {0}). e.0));
-      announcements = omega (arith, one_key announcements_total key path);
+      prefixes = omega (arith, one_key prefix_total prefix mark, fin.len-entries prefixes, length-map (fin.entries prefixes) (λ (e : PrefixValue × Unit {0}). e.0));
+      announcements = omega (arith, one_key announcement_total key path);
       paths = λ p a other e.
           one_found (eq_by_cmp announcement_cmp (p, a) key) path other
-          (ap (cond (eq_by_cmp announcement_cmp (p, a) key) (Some path)) (sym (fin.get-empty announcement_cmp (p, a))) ∙ sym (fin.get-insert announcements_total none key path (p, a)) ∙ e) few;
+          (ap (cond (eq_by_cmp announcement_cmp (p, a) key) (Some path)) (sym (fin.get-empty announcement_cmp (p, a))) ∙ sym (fin.get-insert announcement_total none key path (p, a)) ∙ e) few;
     }

@@ -51,12 +51,11 @@ fn no_changes(alloc: Global) -> Result<Vec<Change>, NoMemory>
 }
 
 impl Rounds {
-    /// A plan of what changes of the tables after an edit, where no plan is open. The world is that after the
-    /// edit, and `edit` is that of who announces what, if there is one.
-    /// `touched` has, prefix by prefix, the ASes that may hold something else than what is right there;
-    /// which seeds differ the call finds by itself. With the changes in place each table is the one
-    /// stable routing of its round, and each change is at an AS whose entry differs. What is kept stays
-    /// until the plan is put in place.
+    /// A plan of what changes of the tables after an edit, where no plan is open. The world is that after
+    /// the edit, and `edit` is that of who announces what, if there is one. `touched` has, prefix by
+    /// prefix, the ASes that may hold something else than what is right there; which seeds differ the
+    /// call finds by itself. With the changes in place each table is the one stable routing of its round,
+    /// and each change is at an AS whose entry differs. What is kept stays until the plan is put in place.
     ///
     /// The graph has no provider cycle, and the planned ranks are its ranks, by the last plan of them.
     /// At most 20,000,000 cells are live. An edited announcement is of a prefix of the plan, its path has

@@ -25,11 +25,12 @@ use std::sync::ledger::Ledger;
 
 impl Rounds {
     /// Makes the pool anew, where no plan is open. Afterwards no more cells are live than all tables have
-    /// entries and the announced paths have numbers, which are at most 20,000,000. What each AS holds stays, and so does the plan of
-    /// seeds.
+    /// entries and the announced paths have numbers, which are at most 20,000,000. What each AS holds
+    /// stays, and so does the plan of seeds.
     ///
-    /// The graph has no provider cycle, the ranks are its ranks, and the tables stand for the world: they are made anew from it, in at most two steps for each AS, prefix and
-    /// round. `Err` where there is not enough memory; then all is as before.
+    /// The graph has no provider cycle, the ranks are its ranks, and the tables stand for the world: they
+    /// are made anew from it, in at most two steps for each AS, prefix and round. `Err` where there is
+    /// not enough memory; then all is as before.
     pub fn tidy<P: RoutePolicy, V: OriginStates, L: Ledger>(
         &mut self,
         alloc: Global,

@@ -1,7 +1,7 @@
 use Rattle.std.proofs.Common.{◌∙◌}
 use Rattle.std.proofs.lemmas.Map.Views.{btree_set_len-from_list}
 use Rattle.net_names.proofs.DerivedOrders.{prefix_orders}
-use Rattle.scenario_text.proofs.Orders.{prefix_total}
+use Rattle.net_names.specs.Orders.{prefix_total}
 use Rattle.scenario_text.proofs.limits.count_prefixes.Goals as goal
 
 pub returns : goal.returns

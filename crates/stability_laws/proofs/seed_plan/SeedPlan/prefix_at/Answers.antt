@@ -1,7 +1,7 @@
 use Rattle.std.proofs.Common.{◌∙◌, ap, List}
 use Rattle.std.specs.Prelude.{slice_get}
 use Rattle.net_names.specs.Prefixes.{PrefixValue}
-use Rattle.stability_laws.proofs.PlanOrders.{prefixes_total, exact_prefix}
+use Rattle.net_names.specs.Orders.{prefix_total, exact_prefix}
 use Rattle.stability_laws.proofs.KeyLists.{copied_at, keys_listed}
 use Rattle.stability_laws.proofs.PlanReads.{prefix_at_place}
 use Rattle.stability_laws.proofs.seed_plan.SeedPlan.prefix_at.Goals as goal
@@ -12,4 +12,4 @@ returns-clause-value c =
     ∙ prefix_at_place c.self.inside.prefixes.items c.self.inside.announced.items c.self.inside.announcers.items c.self.inside.leakers.items c.self.invariant c.args.self.now c.self.view_is c.args.place
 
 pub returns-clause-listed : goal.returns-clause-listed
-returns-clause-listed c = keys_listed prefixes_total exact_prefix c.args.self.now.prefixes
+returns-clause-listed c = keys_listed prefix_total exact_prefix c.args.self.now.prefixes
