@@ -38,9 +38,8 @@ fn view_from<P: RoutePolicy, V: OriginStates>(
         world.book.policy(asn),
         world.states,
         prefix,
-        neighbour.asn,
+        neighbour,
         asn,
-        neighbour.rel,
         held,
     )
 }

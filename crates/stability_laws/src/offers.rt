@@ -7,6 +7,7 @@ ghost use Rattle.stability_laws.specs.Offers.{number_sent as sent_number, number
 ghost use Rattle.stability_laws.specs.Carried.{number_carried};
 
 use crate::entry::Entry;
+use as_graph::Neighbour;
 use net_names::{Asn, Class, Prefix, Rel};
 use policy_laws::{OriginStates, RoutePolicy, View};
 
@@ -72,24 +73,24 @@ fn last_of(path: &[Asn]) -> Option<Asn>
     path.last().copied()
 }
 
-/// The view of the offer that `n`, which is `from` to `a`, makes to `a` of an entry that it holds; `None`
-/// exactly where it makes none: where its policy does not export the entry, the path is empty or goes
-/// through `a`, or the policy of `a` does not accept the view. It takes no memory.
+/// The view of the offer that a neighbour of `a` makes to it of an entry that it holds; `None` exactly
+/// where it makes none: where its policy does not export the entry, the path is empty or goes through
+/// `a`, or the policy of `a` does not accept the view. It takes no memory.
 pub fn offered_view<P: RoutePolicy, V: OriginStates>(
     sender: &P,
     receiver: &P,
     states: &V,
     prefix: Prefix,
-    n: Asn,
+    neighbour: &Neighbour,
     a: Asn,
-    from: Rel,
     held: &Entry,
 ) -> Option<View>
     requires { length held.now.path < 2 ^ 32 - 1 }
-    ensures { result ≡ option_map (λ o. o.view) (offer_given (P.meaning sender.now) (P.meaning receiver.now) (V.state_of states.now prefix) n a (Some from) (Some held.now)) }
+    ensures { result ≡ option_map (λ o. o.view) (offer_given (P.meaning sender.now) (P.meaning receiver.now) (V.state_of states.now prefix) neighbour.now.asn a (Some neighbour.now.rel) (Some held.now)) }
 {
+    let Neighbour { asn, rel } = *neighbour;
     let path = held.path.as_slice();
-    let to = from.converse();
+    let to = rel.converse();
     if !sender.exports(held.class, held.otc, to) {
         return None;
     }
@@ -100,11 +101,11 @@ pub fn offered_view<P: RoutePolicy, V: OriginStates>(
         return None;
     }
     let view = View {
-        rel: from,
-        neighbour: n,
+        rel,
+        neighbour: asn,
         length: path.len() as u32 + 1,
         state: states.state(prefix, origin),
-        otc: number_sent(sender.marks(), n, to, held.otc),
+        otc: number_sent(sender.marks(), asn, to, held.otc),
     };
     if receiver.accepts(&view) {
         Some(view)

@@ -1,5 +1,6 @@
 //! What is right at an AS, policies by AS, and what goes along a link, worked by hand.
 use super::worlds::{ACROSS, DOWN, graph_of, main_prefix, number, path_of};
+use as_graph::Neighbour;
 use net_names::{Asn, Class, Path, Prefix, Rel};
 use policy_kinds::Kind;
 use policy_laws::NoStates;
@@ -193,14 +194,17 @@ fn an_entry_without_a_path_is_not_offered(rt: HostRuntime) -> Result<(), Fail> {
         otc: None,
     };
     let kind = Kind::Plain;
+    let peer = Neighbour {
+        asn: number(1)?,
+        rel: Rel::Peer,
+    };
     let view = offered_view(
         &kind,
         &kind,
         &NoStates,
         main_prefix()?,
-        number(1)?,
+        &peer,
         number(9)?,
-        Rel::Peer,
         &entry,
     );
     assert!(rt; view.is_none());
