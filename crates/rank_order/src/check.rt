@@ -147,7 +147,7 @@ fn has_all(graph: &Graph, plan: &RankPlan, ends: &[Asn]) -> bool
 
 /// Whether the plan numbers just ASes of the graph, those of the ends among them, its number fits at
 /// each, and nothing above changes but what it numbers.
-pub fn holds(graph: &Graph, plan: &RankPlan, ranks: &Ranks, ends: &[Asn]) -> bool
+pub fn is_sound(graph: &Graph, plan: &RankPlan, ranks: &Ranks, ends: &[Asn]) -> bool
     ensures inside { result ≡ true → (a : ℕ) → is_numbered plan.now a ≡ true → has graph.now a ≡ true }
     ensures complete { result ≡ true → (a : ℕ) → occurs a ends.now ≡ true → has graph.now a ≡ true → is_numbered plan.now a ≡ true }
     ensures mended { result ≡ true → (a : ℕ) → is_numbered plan.now a ≡ true → IsMended (relation graph.now) (is_numbered plan.now) (rank_at ranks.now) (rank_after ranks.now plan.now) a }

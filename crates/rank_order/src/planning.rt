@@ -9,7 +9,7 @@ ghost use Rattle.cycle_check.specs.Rankings.{numbers_of, ranks_of};
 ghost use Rattle.rank_order.specs.Ranks.{rank_at};
 ghost use Rattle.rank_order.specs.Plans.{IsLastPlan, IsPlanFor, entry_after, rank_after};
 
-use crate::check::{holds, is_rising};
+use crate::check::{is_rising, is_sound};
 use crate::plan::RankPlan;
 use crate::ranks::{Ranks, numbers, ranks_in};
 use crate::trial::tried;
@@ -50,7 +50,7 @@ fn small_plan(
     links_are_sound();
     let trial = tried(alloc, graph, ranks, ends)?;
     match plan_of(alloc, trial.ases, trial.ranks, ends)? {
-        Some(plan) if holds(graph, &plan, ranks, ends) => Ok(Some(plan)),
+        Some(plan) if is_sound(graph, &plan, ranks, ends) => Ok(Some(plan)),
         _ => Ok(None),
     }
 }

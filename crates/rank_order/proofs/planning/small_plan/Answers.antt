@@ -16,9 +16,9 @@ returns-in-Some c =
     let ranks = c.args.ranks.now in
     let plan = c.in-Some.plan in
     let same : plan.ends.items ≡ ends = subst (λ (o : Option RankPlan). IfSome o (λ p. p.ends.items ≡ ends)) c.in-Some.is c.in_ok-plan.ensures in
-    let inside = c.holds.ensures.inside c.if-holds.true in
-    let complete = c.holds.ensures.complete c.if-holds.true in
-    let mended = c.holds.ensures.mended c.if-holds.true in
+    let inside = c.is_sound.ensures.inside c.if-is_sound.true in
+    let complete = c.is_sound.ensures.complete c.if-is_sound.true in
+    let mended = c.is_sound.ensures.mended c.if-is_sound.true in
     record {
       same = same;
       inside = inside;
