@@ -11,6 +11,7 @@ mod candidate;
 mod cell;
 mod columns;
 mod counting;
+mod differing;
 mod forwarding;
 mod growing;
 mod hints;
@@ -31,6 +32,7 @@ mod tracing;
 mod walks;
 mod watch;
 
+pub use differing::Differing;
 pub use hops::next_hop;
 pub use index::WatchIndex;
 pub use kinds::{End, Hop, Trace, Which};

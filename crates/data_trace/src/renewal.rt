@@ -12,6 +12,7 @@ ghost use Rattle.data_trace.specs.Sources.{sends};
 
 use crate::columns::{Columns, group_now};
 use crate::counting::put_group;
+use crate::differing::Differing;
 use crate::keeping::Lists;
 use crate::leaving::detach;
 use crate::lists::relink;
@@ -66,15 +67,14 @@ pub fn renew(
     ases: &AsPlaces,
     columns: &mut Columns,
     lists: &mut Lists,
-    changed: &[Asn],
-    regrouped: &[Asn],
+    differing: &Differing<'_>,
     near: usize,
 )
     requires few { length ases.now.ases < 4294967292 }
     requires listed { (a : ℕ) → has source.now.graph.now a ≡ true → occurs a ases.now.ases ≡ true }
     requires len { length columns.old.hops.items ≡ length ases.now.ases }
     requires within { IsWithin columns.old.hops.items }
-    requires others { (x : ℕ) → x < length ases.now.ases → occurs (name_at ases.now.ases x) changed.now ≡ false → occurs (name_at ases.now.ases x) regrouped.now ≡ false →
+    requires others { (x : ℕ) → x < length ases.now.ases → occurs (name_at ases.now.ases x) differing.now.hops.now ≡ false → occurs (name_at ases.now.ases x) differing.now.groups.now ≡ false →
         named ases.now.ases (hop_at columns.old.hops.items x) ≡ sends source.now (name_at ases.now.ases x) }
     requires ends { AreEnds (next_of columns.old.hops.items) (length columns.old.hops.items) columns.old.marks.items }
     requires lists { AreKept columns.old.hops.items (length ases.now.ases) lists.old }
@@ -91,8 +91,8 @@ pub fn renew(
     ensures marks_room { vec_capacity columns.new.marks ≡ vec_capacity columns.old.marks }
 {
     lists.queue.clear();
-    detach(source, ases, columns, lists, changed, near);
-    detach(source, ases, columns, lists, regrouped, near);
+    detach(source, ases, columns, lists, differing.hops, near);
+    detach(source, ases, columns, lists, differing.groups, near);
     let count = lists.queue.len();
     let numbers = ases.as_slice();
     spread(

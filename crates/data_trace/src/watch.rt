@@ -22,6 +22,7 @@ ghost use Rattle.data_trace.specs.Comes.{Comes};
 use crate::blank::Blank;
 use crate::columns::{Columns, is_here, next_hops};
 use crate::counting::{count_all, end_told};
+use crate::differing::Differing;
 use crate::growing::reserve_all;
 use crate::index::WatchIndex;
 use crate::keeping::Lists;
@@ -353,13 +354,11 @@ impl Watch {
         }
     }
 
-    /// Takes the watch to another graph, and to other tables, seeds and policies, of which it is told
-    /// where they differ: the ASes whose entry or announcement changed, and those whose policy,
-    /// customers or presence changed. Each list may name an AS more than once, ASes where nothing
-    /// changed, and ASes that are nowhere. Afterwards it is the watch that `build` would make.
+    /// Takes the watch to another graph, and to other tables, seeds and policies, of which it is told at
+    /// which ASes they differ. Afterwards it is the watch that `build` would make.
     ///
     /// The watch can keep the ASes of the graph without memory. At every AS of the graph that is in
-    /// neither list, the kept next hop is right already; at every AS that is not in `regrouped`, so
+    /// neither list, the kept next hop is right already; at every AS that is not in `differing.groups`, so
     /// are its presence and its groups. Of the tables it wants what `build` wants. It takes no memory,
     /// and time by the lists and by the number of ASes whose packets pass an AS with another next hop
     /// than before. An AS whose groups alone differ is only counted anew.
@@ -370,14 +369,13 @@ impl Watch {
         pool: &PathPool,
         plan: &SeedPlan,
         book: &Book<P>,
-        changed: &[Asn],
-        regrouped: &[Asn],
+        differing: &Differing<'_>,
     )
         requires spare { as_count graph.now ≤ spare_of self.old }
         requires live { AreAllLive pool.now tables.now }
         requires inside { StaysInside graph.now plan.now (round_routing pool.now tables.now) }
-        requires hops { KeepsHops graph.now (next_hop_of plan.now (round_routing pool.now tables.now) (addr_of self.old)) changed.now regrouped.now (rows_of self.old) }
-        requires groups { KeepsGroups graph.now (λ a. P.label_of (policy_at book.now a)) regrouped.now (rows_of self.old) }
+        requires hops { KeepsHops graph.now (next_hop_of plan.now (round_routing pool.now tables.now) (addr_of self.old)) differing.now.hops.now differing.now.groups.now (rows_of self.old) }
+        requires groups { KeepsGroups graph.now (λ a. P.label_of (policy_at book.now a)) differing.now.groups.now (rows_of self.old) }
         ensures rows { AreRows graph.now (next_hop_of plan.now (round_routing pool.now tables.now) (addr_of self.old)) (λ a. P.label_of (policy_at book.now a)) (rows_of self.new) }
         ensures addr { addr_of self.new ≡ addr_of self.old }
     {
@@ -386,6 +384,7 @@ impl Watch {
             *self = Watch::of_none(self.alloc, self.addr);
             return;
         }
+        let regrouped = differing.groups;
         let near = row_of_first(graph, regrouped);
         self.come(graph, regrouped, near);
         regroup(&self.ases, &mut self.columns, graph, book, regrouped, near);
@@ -401,8 +400,7 @@ impl Watch {
             &self.ases,
             &mut self.columns,
             &mut self.lists,
-            changed,
-            regrouped,
+            differing,
             near,
         );
     }

@@ -9,6 +9,7 @@ ghost use Rattle.sim_core.specs.Watching.{AreRoundWatches, AreWatches, GoesOnIns
 
 use crate::watching::RoundWatches;
 use as_graph::Graph;
+use data_trace::Differing;
 use leak_round::{Rounds, RoundsDone};
 use net_names::{Asn, NoMemory};
 use policy_kinds::Kind;
@@ -59,8 +60,12 @@ fn renew_in(
         unreachable!();
     };
     let (pool, plan) = (rounds.pool(), rounds.seed_plan());
+    let differing = Differing {
+        hops: changed,
+        groups: ends,
+    };
     for place in 0..one.watches.len() {
-        one.watches[place].update(graph, tables, pool, plan, book, changed, ends);
+        one.watches[place].update(graph, tables, pool, plan, book, &differing);
     }
 }
 

@@ -94,9 +94,9 @@ returns-clause-hops c =
     record {
       len = c.detach-2.ensures.places;
       within = c.detach-2.ensures.within;
-      follows = λ x l. ⊎_elim (λ (o : occurs (name_at keys x) c.args.regrouped.now ≡ true). c.detach-2.ensures.changed x l o)
-          (λ (o : occurs (name_at keys x) c.args.regrouped.now ≡ false). c.detach-2.ensures.change.right x (⊎_elim (λ (p : occurs (name_at keys x) c.args.changed.now ≡ true). c.detach.ensures.changed x l p)
-          (λ (p : occurs (name_at keys x) c.args.changed.now ≡ false). c.detach.ensures.change.right x (c.requires.others x l p o)) (cases_Bool (occurs (name_at keys x) c.args.changed.now)))) (cases_Bool (occurs (name_at keys x) c.args.regrouped.now));
+      follows = λ x l. ⊎_elim (λ (o : occurs (name_at keys x) c.args.differing.now.groups.now ≡ true). c.detach-2.ensures.changed x l o)
+          (λ (o : occurs (name_at keys x) c.args.differing.now.groups.now ≡ false). c.detach-2.ensures.change.right x (⊎_elim (λ (p : occurs (name_at keys x) c.args.differing.now.hops.now ≡ true). c.detach.ensures.changed x l p)
+          (λ (p : occurs (name_at keys x) c.args.differing.now.hops.now ≡ false). c.detach.ensures.change.right x (c.requires.others x l p o)) (cases_Bool (occurs (name_at keys x) c.args.differing.now.hops.now)))) (cases_Bool (occurs (name_at keys x) c.args.differing.now.groups.now));
     }
 
 pub returns-clause-ends : goal.returns-clause-ends

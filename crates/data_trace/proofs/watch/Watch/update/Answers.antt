@@ -25,7 +25,7 @@ renew-requires-clause-listed g c =
     let label : ℕ → ℕ = λ a. g.P.Labelled.label_of (policy_at c.args.book.now a) in
     let next : ℕ → Hop = next_hop c.args.plan.now (round_routing c.args.pool.now c.args.tables.now) w.addr in
     let inside : (a b : ℕ) → next a ≡ hop.To b → has graph b ≡ true = next_inside graph c.args.plan.now (round_routing c.args.pool.now c.args.tables.now) w.addr c.requires.inside in
-    all_there graph next label c.args.changed.now c.args.regrouped.now inside w.ases.ases s.ases.ases w.columns.hops.items s.columns.hops.items w.columns.marks.items w.columns.groups.items s.columns.groups.items c.regroup.new.columns.groups.items
+    all_there graph next label c.args.differing.now.hops.now c.args.differing.now.groups.now inside w.ases.ases s.ases.ases w.columns.hops.items s.columns.hops.items w.columns.marks.items w.columns.groups.items s.columns.groups.items c.regroup.new.columns.groups.items
     c.come.ensures.comes w.apart w.hops_len w.within w.absent c.requires.hops c.requires.groups c.come.ensures.hops c.come.ensures.groups
 
 pub renew-requires-clause-lists : goal.renew-requires-clause-lists
@@ -46,7 +46,7 @@ renew-requires-clause-others g c =
     let addr : w.addr ≡ s.addr = sym c.come.ensures.addr in
     let hops : c.regroup.new.columns.hops.items ≡ s.columns.hops.items = ap (λ v. v.items) c.regroup.ensures.hops in
     λ x l o r. ap (λ (t : List PlaceHop). named s.ases.ases (hop_at t x)) hops
-    ∙ hops_right graph next label c.args.changed.now c.args.regrouped.now inside w.ases.ases s.ases.ases w.columns.hops.items s.columns.hops.items w.columns.marks.items w.columns.groups.items s.columns.groups.items c.regroup.new.columns.groups.items
+    ∙ hops_right graph next label c.args.differing.now.hops.now c.args.differing.now.groups.now inside w.ases.ases s.ases.ases w.columns.hops.items s.columns.hops.items w.columns.marks.items w.columns.groups.items s.columns.groups.items c.regroup.new.columns.groups.items
     c.come.ensures.comes w.apart w.hops_len w.within w.absent c.requires.hops c.requires.groups c.come.ensures.hops c.come.ensures.groups x l o r
     ∙ ap (λ (d : AddrValue). fresh graph (next_hop c.args.plan.now (round_routing c.args.pool.now c.args.tables.now) d) (name_at s.ases.ases x)) addr
 
@@ -61,7 +61,7 @@ invariant_of-self-clause-absent g c = λ x f.
     let addr : s.addr ≡ w.addr = c.come.ensures.addr in
     let h : AreHops (fresh graph next) s.ases.ases c.renew.new.columns.hops.items = subst (λ (d : AddrValue). AreHops (fresh graph (next_hop c.args.plan.now (round_routing c.args.pool.now c.args.tables.now) d)) s.ases.ases c.renew.new.columns.hops.items) addr c.renew.ensures.hops in
     let gs : c.renew.new.columns.groups.items ≡ c.regroup.new.columns.groups.items = ap (λ v. v.items) c.renew.ensures.groups in
-    gone_has_none graph next label c.args.changed.now c.args.regrouped.now inside w.ases.ases s.ases.ases w.columns.hops.items s.columns.hops.items w.columns.marks.items w.columns.groups.items s.columns.groups.items c.regroup.new.columns.groups.items
+    gone_has_none graph next label c.args.differing.now.hops.now c.args.differing.now.groups.now inside w.ases.ases s.ases.ases w.columns.hops.items s.columns.hops.items w.columns.marks.items w.columns.groups.items s.columns.groups.items c.regroup.new.columns.groups.items
     c.come.ensures.comes w.apart w.hops_len w.within w.absent c.requires.hops c.requires.groups c.come.ensures.hops c.come.ensures.groups
     c.regroup.ensures.counted.groups_len c.regroup.ensures.regrouped c.regroup.ensures.others c.renew.new.columns.hops.items h x (ap (λ (t : List Group). is_here (group_at t x).standing) (sym gs) ∙ f)
 
@@ -99,7 +99,7 @@ returns-clause-rows g c =
     let addr : s.addr ≡ w.addr = c.come.ensures.addr in
     let h : AreHops (fresh graph next) s.ases.ases c.renew.new.columns.hops.items = subst (λ (d : AddrValue). AreHops (fresh graph (next_hop c.args.plan.now (round_routing c.args.pool.now c.args.tables.now) d)) s.ases.ases c.renew.new.columns.hops.items) addr c.renew.ensures.hops in
     let gs : c.renew.new.columns.groups.items ≡ c.regroup.new.columns.groups.items = ap (λ v. v.items) c.renew.ensures.groups in
-    let r : AreRows graph next label (rows s.ases.ases c.renew.new.columns.hops.items c.renew.new.columns.marks.items c.regroup.new.columns.groups.items) = updated_rows graph next label c.args.changed.now c.args.regrouped.now inside w.ases.ases s.ases.ases w.columns.hops.items s.columns.hops.items w.columns.marks.items w.columns.groups.items s.columns.groups.items c.regroup.new.columns.groups.items
+    let r : AreRows graph next label (rows s.ases.ases c.renew.new.columns.hops.items c.renew.new.columns.marks.items c.regroup.new.columns.groups.items) = updated_rows graph next label c.args.differing.now.hops.now c.args.differing.now.groups.now inside w.ases.ases s.ases.ases w.columns.hops.items s.columns.hops.items w.columns.marks.items w.columns.groups.items s.columns.groups.items c.regroup.new.columns.groups.items
     c.come.ensures.comes w.apart w.hops_len w.within w.absent c.requires.hops c.requires.groups c.come.ensures.hops c.come.ensures.groups
     c.regroup.ensures.counted.groups_len c.regroup.ensures.regrouped c.regroup.ensures.others c.renew.new.columns.hops.items c.renew.new.columns.marks.items s.apart h c.renew.ensures.ends in
     subst (λ (t : List Group). AreRows graph next label (rows s.ases.ases c.renew.new.columns.hops.items c.renew.new.columns.marks.items t)) (sym gs) r
