@@ -8,11 +8,14 @@ use Rattle.data_trace.specs.declared.places.PlaceHop.{PlaceHop}
 use Rattle.data_trace.specs.declared.places.PlaceHop.TheVariants.{NoRoute, To}
 use Rattle.data_trace.specs.declared.places.Mark.{Mark}
 use Rattle.data_trace.specs.declared.places.Mark.TheVariants.{Unknown}
+use Rattle.data_trace.specs.declared.columns.Columns.{Columns}
+use Rattle.data_trace.specs.declared.keeping.Lists.{Lists}
 use Rattle.data_trace.specs.declared.source.Source.{Source}
 use Rattle.data_trace.specs.Traces.{IsIn}
 use Rattle.data_trace.specs.Marks.{hop_at, mark_of, IsWithin}
 use Rattle.data_trace.specs.Columns.{name_at, named}
 use Rattle.data_trace.specs.Sources.{sends, HasHop, HopsChange}
+use Rattle.data_trace.specs.Detached.{CanDetach, IsDetached}
 use Rattle.data_trace.proofs.Walking.{mark_other, in_push, not_in_push}
 
 module _ (s : Source) (keys : List ℕ) where
@@ -24,6 +27,39 @@ module _ (s : Source) (keys : List ℕ) where
     more = λ x h. v.more x (u.more x h);
     others = λ x f. v.others x f ∙ u.others x (⊎_elim (λ (h : IsIn x q). absurd (true≢false (sym (v.more x h) ∙ f))) (λ h. h) (cases_Bool (list_any (nat_eq x) q)));
     right = λ x h. v.right x (u.right x h);
+  }
+
+  pub detached_then : (a b c : Columns) (l m n : Lists) → IsDetached s keys a b l m → IsDetached s keys b c m n → IsDetached s keys a c l n
+  detached_then a b c l m n u v = record {
+    front = λ marks w. v.front marks (u.front marks w);
+    lists = v.lists;
+    within = v.within;
+    unknown = v.unknown;
+    change = change_then a.hops.items b.hops.items c.hops.items l.queue.items m.queue.items n.queue.items u.change v.change;
+    counted = v.counted;
+    places = v.places;
+    groups = v.groups ∙ u.groups;
+    room = omega (arith, u.room, v.room);
+    lists_room = λ k r. v.lists_room k (u.lists_room k r);
+    hops_room = v.hops_room ∙ u.hops_room;
+    marks_room = v.marks_room ∙ u.marks_room;
+    sums_room = omega (arith, u.sums_room, v.sums_room);
+  }
+
+  -- further places can leave their lists
+  pub can_still : (a b : Columns) (l m : Lists) → CanDetach s keys a l → IsDetached s keys a b l m → CanDetach s keys b m
+  can_still a b l m can u = record {
+    places = u.places;
+    listed = can.listed;
+    within = u.within;
+    len = u.counted.marks_len ∙ sym u.places;
+    front = (can.front.0, u.front can.front.0 can.front.1);
+    lists = u.lists;
+    unknown = u.unknown;
+    room = omega (arith, can.room, can.places, u.room, u.places);
+    few = can.few;
+    counted = u.counted;
+    sums_room = omega (arith, can.sums_room, u.sums_room);
   }
 
 module _ (s : Source) (keys : List ℕ) (hops : List PlaceHop) (a : ℕ) (h : PlaceHop) (inside : a < length hops) (right : named keys h ≡ sends s (name_at keys a)) where

@@ -19,4 +19,5 @@ pub mod Indexes
 pub mod Kept
 pub mod Comes
 pub mod Sources
+pub mod Detached
 pub mod Rounds

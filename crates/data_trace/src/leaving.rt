@@ -1,17 +1,12 @@
 //! Places whose next hops change, and that leave the lists of the places that they send to.
-ghost use Rattle.std.specs.Prelude.{◌≡◌, ℕ, ◌<◌, ◌≤◌, [], ◌∷◌, ◌++◌, List, length, nat_eq, true, false, vec_capacity};
+ghost use Rattle.std.specs.Prelude.{◌≡◌, ℕ, ◌<◌, [], ◌∷◌, ◌++◌, List, length, nat_eq, true, false};
 ghost use Rattle.std.specs.List.{list_any};
 ghost use Rattle.net_names.specs.Numbers.{occurs};
-ghost use Rattle.data_trace.specs.declared.places.Mark.TheVariants as AMark;
-ghost use Rattle.as_graph.specs.Topology.{has};
-ghost use Rattle.data_trace.specs.Marks.{mark_of, IsWithin};
+ghost use Rattle.data_trace.specs.Marks.{IsWithin};
 ghost use Rattle.data_trace.specs.Lists.{link_at, AreBelow, Unlinks, HasLists};
-ghost use Rattle.data_trace.specs.Spreads.{IsFront};
-ghost use Rattle.data_trace.specs.Keeping.{HasRoom};
-ghost use Rattle.data_trace.specs.Sums.{room_of};
-ghost use Rattle.data_trace.specs.Counted.{AreCounted};
 ghost use Rattle.data_trace.specs.Columns.{name_at};
-ghost use Rattle.data_trace.specs.Sources.{HasHop, HopsChange};
+ghost use Rattle.data_trace.specs.Sources.{HasHop};
+ghost use Rattle.data_trace.specs.Detached.{CanDetach, IsDetached};
 
 use crate::columns::Columns;
 use crate::keeping::Lists;
@@ -97,31 +92,9 @@ fn detach_place(
     row: usize,
 )
     requires inside { a < length columns.old.hops.items }
-    requires places { length columns.old.hops.items ≡ length ases.now.ases }
-    requires listed { (x : ℕ) → has source.now.graph.now x ≡ true → occurs x ases.now.ases ≡ true }
-    requires within { IsWithin columns.old.hops.items }
-    requires len { length columns.old.marks.items ≡ length columns.old.hops.items }
-    requires front { (old : List AMark.the_data) × IsFront old columns.old.marks.items lists.old.queue.items }
-    requires lists { HasLists columns.old.hops.items lists.old.queue.items lists.old.first.items lists.old.before.items lists.old.after.items }
-    requires unknown { (x : ℕ) → x < length columns.old.hops.items → mark_of columns.old.marks.items x ≡ AMark.Unknown → HasHop source.now ases.now.ases columns.old.hops.items x }
-    requires room { length columns.old.hops.items ≤ vec_capacity lists.old.queue }
-    requires few { length ases.now.ases < 4294967292 }
-    requires counted { AreCounted columns.old.sums ases.now.ases columns.old.marks.items columns.old.groups.items }
-    requires sums_room { length ases.now.ases ≤ room_of columns.old.sums }
-    ensures front { (old : List AMark.the_data) → IsFront old columns.old.marks.items lists.old.queue.items → IsFront old columns.new.marks.items lists.new.queue.items }
-    ensures lists { HasLists columns.new.hops.items lists.new.queue.items lists.new.first.items lists.new.before.items lists.new.after.items }
-    ensures within { IsWithin columns.new.hops.items }
-    ensures unknown { (x : ℕ) → x < length columns.new.hops.items → mark_of columns.new.marks.items x ≡ AMark.Unknown → HasHop source.now ases.now.ases columns.new.hops.items x }
+    requires can { CanDetach source.now ases.now.ases columns.old lists.old }
     ensures here { HasHop source.now ases.now.ases columns.new.hops.items a }
-    ensures change { HopsChange source.now ases.now.ases columns.old.hops.items columns.new.hops.items lists.old.queue.items lists.new.queue.items }
-    ensures counted { AreCounted columns.new.sums ases.now.ases columns.new.marks.items columns.new.groups.items }
-    ensures places { length columns.new.hops.items ≡ length ases.now.ases }
-    ensures groups { columns.new.groups ≡ columns.old.groups }
-    ensures room { vec_capacity lists.old.queue ≤ vec_capacity lists.new.queue }
-    ensures lists_room { (n : ℕ) → HasRoom n lists.old → HasRoom n lists.new }
-    ensures hops_room { vec_capacity columns.new.hops ≡ vec_capacity columns.old.hops }
-    ensures marks_room { vec_capacity columns.new.marks ≡ vec_capacity columns.old.marks }
-    ensures sums_room { room_of columns.old.sums ≤ room_of columns.new.sums }
+    ensures detached { IsDetached source.now ases.now.ases columns.old columns.new lists.old lists.new }
 {
     if let Mark::Unknown = mark_in(columns.marks.as_slice(), a) {
         return;
@@ -160,31 +133,9 @@ pub fn detach(
     changed: &[Asn],
     near: usize,
 )
-    requires places { length columns.old.hops.items ≡ length ases.now.ases }
-    requires listed { (x : ℕ) → has source.now.graph.now x ≡ true → occurs x ases.now.ases ≡ true }
-    requires within { IsWithin columns.old.hops.items }
-    requires len { length columns.old.marks.items ≡ length columns.old.hops.items }
-    requires front { (old : List AMark.the_data) × IsFront old columns.old.marks.items lists.old.queue.items }
-    requires lists { HasLists columns.old.hops.items lists.old.queue.items lists.old.first.items lists.old.before.items lists.old.after.items }
-    requires unknown { (x : ℕ) → x < length columns.old.hops.items → mark_of columns.old.marks.items x ≡ AMark.Unknown → HasHop source.now ases.now.ases columns.old.hops.items x }
-    requires room { length columns.old.hops.items ≤ vec_capacity lists.old.queue }
-    requires few { length ases.now.ases < 4294967292 }
-    requires counted { AreCounted columns.old.sums ases.now.ases columns.old.marks.items columns.old.groups.items }
-    requires sums_room { length ases.now.ases ≤ room_of columns.old.sums }
-    ensures front { (old : List AMark.the_data) → IsFront old columns.old.marks.items lists.old.queue.items → IsFront old columns.new.marks.items lists.new.queue.items }
-    ensures lists { HasLists columns.new.hops.items lists.new.queue.items lists.new.first.items lists.new.before.items lists.new.after.items }
-    ensures within { IsWithin columns.new.hops.items }
-    ensures unknown { (x : ℕ) → x < length columns.new.hops.items → mark_of columns.new.marks.items x ≡ AMark.Unknown → HasHop source.now ases.now.ases columns.new.hops.items x }
+    requires { CanDetach source.now ases.now.ases columns.old lists.old }
     ensures changed { (x : ℕ) → x < length ases.now.ases → occurs (name_at ases.now.ases x) changed.now ≡ true → HasHop source.now ases.now.ases columns.new.hops.items x }
-    ensures change { HopsChange source.now ases.now.ases columns.old.hops.items columns.new.hops.items lists.old.queue.items lists.new.queue.items }
-    ensures counted { AreCounted columns.new.sums ases.now.ases columns.new.marks.items columns.new.groups.items }
-    ensures places { length columns.new.hops.items ≡ length ases.now.ases }
-    ensures groups { columns.new.groups ≡ columns.old.groups }
-    ensures room { vec_capacity lists.old.queue ≤ vec_capacity lists.new.queue }
-    ensures lists_room { (n : ℕ) → HasRoom n lists.old → HasRoom n lists.new }
-    ensures hops_room { vec_capacity columns.new.hops ≡ vec_capacity columns.old.hops }
-    ensures marks_room { vec_capacity columns.new.marks ≡ vec_capacity columns.old.marks }
-    ensures sums_room { room_of columns.old.sums ≤ room_of columns.new.sums }
+    ensures detached { IsDetached source.now ases.now.ases columns.old columns.new lists.old lists.new }
 {
     let _numbers = ases.as_slice();
     'changed: for asn in changed {

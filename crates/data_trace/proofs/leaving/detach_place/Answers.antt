@@ -25,7 +25,7 @@ returns c =
     let q : List ℕ = lists.queue.items in
     let a : ℕ = c.args.a in
     let h : PlaceHop = c.hop-hop.result in
-    let asn : c.index-numbers-a.result ≡ name_at keys a = c.index-numbers-a.is ∙ ap (λ (ks : List ℕ). get_or ks a c.index-numbers-a.result) c.as_slice-numbers.ensures.list ∙ get_or_default keys a c.index-numbers-a.result 0 (omega (arith, c.requires.inside, c.requires.places)) in
+    let asn : c.index-numbers-a.result ≡ name_at keys a = c.index-numbers-a.is ∙ ap (λ (ks : List ℕ). get_or ks a c.index-numbers-a.result) c.as_slice-numbers.ensures.list ∙ get_or_default keys a c.index-numbers-a.result 0 (omega (arith, c.requires.inside, c.requires.can.places)) in
     let right : named keys h ≡ sends s (name_at keys a) = c.hop-hop.ensures.named ∙ ap (sends s) asn in
     let n : mark_of marks a ≢ Unknown = λ e. c.in_default.not-Unknown (c.mark_in.ensures ∙ ap (λ (ms : List Mark). mark_of ms a) c.as_slice.ensures.value ∙ e) in
     let forgets : Forgets (Some a) marks q c.forget_place.new.marks c.forget_place.new.queue.items =
@@ -33,24 +33,26 @@ returns c =
     let e : c.forget_place.new.queue.items ≡ q ++ a ∷ [] = forgets.1 ∙ ap (λ b. cond b q (q ++ a ∷ [])) (known_is _ n) in
     let change : HopsChange s keys hops (set hops a h) q (q ++ a ∷ []) = change_here s keys hops a h c.requires.inside right q (q ++ a ∷ []) refl in
     let out : HasLists hops (q ++ a ∷ []) c.leave.new.first c.leave.new.before c.leave.new.after =
-    lists_equal (sym c.as_slice-3.ensures.value) refl refl refl refl (c.leave.ensures q (lists_equal c.as_slice-3.ensures.value refl c.as_mut_slice.ensures.value c.as_mut_slice-2.ensures.value c.as_mut_slice-3.ensures.value c.requires.lists)
-    (front_apart _ _ _ _ c.requires.front.1 n)) in
+    lists_equal (sym c.as_slice-3.ensures.value) refl refl refl refl (c.leave.ensures q (lists_equal c.as_slice-3.ensures.value refl c.as_mut_slice.ensures.value c.as_mut_slice-2.ensures.value c.as_mut_slice-3.ensures.value c.requires.can.lists)
+    (front_apart _ _ _ _ c.requires.can.front.1 n)) in
     let hops_new : (with_items columns.hops c.put_hop.new.hops).items ≡ set hops a h = with_items_is columns.hops c.put_hop.new.hops (search rules) ∙ c.put_hop.ensures ∙ ap (λ (hs : List PlaceHop). set hs a h) c.as_mut_slice-4.ensures.value in
     let marks_new : (with_items columns.marks c.forget_place.new.marks).items ≡ c.forget_place.new.marks = with_items_is columns.marks c.forget_place.new.marks (search rules) in
     record {
-      front = λ old w. subst (λ (ms : List Mark). IsFront old ms c.forget_place.new.queue.items) (sym marks_new) (front_forgets old (Some a) marks q c.forget_place.new.marks c.forget_place.new.queue.items w (omega (arith, c.requires.inside, c.requires.len)) forgets);
-      lists = lists_equal hops_new e (with_items_is lists.first c.leave.new.first (search rules)) (with_items_is lists.before c.leave.new.before (search rules)) (with_items_is lists.after c.leave.new.after (search rules))
-          (lists_rewritten hops (set hops a h) (q ++ a ∷ []) c.leave.new.first c.leave.new.before c.leave.new.after (length-set hops a h) change.others out);
-      within = subst IsWithin (sym hops_new) (within_here s keys hops a h c.requires.inside right c.requires.within (λ y e. omega (arith, c.hop-hop.ensures.within y e, c.requires.places)));
-      unknown = λ x l u. subst (λ (hs : List PlaceHop). HasHop s keys hs x) (sym hops_new) (unknown_right s keys hops a h c.requires.inside right marks c.forget_place.new.marks forgets.0 c.requires.unknown x (omega (arith, l, ap length hops_new, length-set hops a h)) (ap (λ (ms : List Mark). mark_of ms x) (sym marks_new) ∙ u));
       here = subst (λ (hs : List PlaceHop). HasHop s keys hs a) (sym hops_new) (here_has s keys hops a h c.requires.inside right);
-      change = subst (λ (hs : List PlaceHop). HopsChange s keys hops hs q c.forget_place.new.queue.items) (sym hops_new) (change_here s keys hops a h c.requires.inside right q c.forget_place.new.queue.items e);
-      counted = search rules;
-      places = omega (arith, ap length hops_new, length-set hops a h, c.requires.places);
-      groups = refl;
-      room = search rules;
-      lists_room = λ n r. search (rules, r);
-      hops_room = refl;
-      marks_room = refl;
-      sums_room = search rules;
+      detached = record {
+        front = λ old w. subst (λ (ms : List Mark). IsFront old ms c.forget_place.new.queue.items) (sym marks_new) (front_forgets old (Some a) marks q c.forget_place.new.marks c.forget_place.new.queue.items w (omega (arith, c.requires.inside, c.requires.can.len)) forgets);
+        lists = lists_equal hops_new e (with_items_is lists.first c.leave.new.first (search rules)) (with_items_is lists.before c.leave.new.before (search rules)) (with_items_is lists.after c.leave.new.after (search rules))
+            (lists_rewritten hops (set hops a h) (q ++ a ∷ []) c.leave.new.first c.leave.new.before c.leave.new.after (length-set hops a h) change.others out);
+        within = subst IsWithin (sym hops_new) (within_here s keys hops a h c.requires.inside right c.requires.can.within (λ y e. omega (arith, c.hop-hop.ensures.within y e, c.requires.can.places)));
+        unknown = λ x l u. subst (λ (hs : List PlaceHop). HasHop s keys hs x) (sym hops_new) (unknown_right s keys hops a h c.requires.inside right marks c.forget_place.new.marks forgets.0 c.requires.can.unknown x (omega (arith, l, ap length hops_new, length-set hops a h)) (ap (λ (ms : List Mark). mark_of ms x) (sym marks_new) ∙ u));
+        change = subst (λ (hs : List PlaceHop). HopsChange s keys hops hs q c.forget_place.new.queue.items) (sym hops_new) (change_here s keys hops a h c.requires.inside right q c.forget_place.new.queue.items e);
+        counted = search rules;
+        places = omega (arith, ap length hops_new, length-set hops a h, c.requires.can.places);
+        groups = refl;
+        room = search rules;
+        lists_room = λ n r. search (rules, r);
+        hops_room = refl;
+        marks_room = refl;
+        sums_room = search rules;
+      };
     }
