@@ -30,6 +30,7 @@ mod views;
 pub use choice::{Choice, ChoiceNear, Part};
 pub use choosing::{evaluate, evaluate_near};
 pub use held::{Held, SeedHeld};
+pub use marks::Marks;
 pub use overlay::Overlay;
 pub use prefix_world::PrefixWorld;
 pub use round_tables::RoundTables;

@@ -1,6 +1,6 @@
-use Rattle.std.proofs.Common.{inl, inr, sym, ap, ◌∙◌, ◌==◌}
+use Rattle.std.proofs.Common.{inl, inr, sym, ap, ◌∙◌, ◌==◌, ◌%◌}
 use Rattle.std.proofs.lemmas.Bool.{ne_eqb, eq-eqb, cases_eq, or_parts, true≢false}
-use Rattle.route_choice.specs.Marks.{is_marked, remainder_of}
+use Rattle.route_choice.specs.Marks.{is_marked}
 use Rattle.route_choice.proofs.seeds.SeedIds.put.Goals as goal
 
 pub returns-in-Ok-clause-others : goal.returns-in-Ok-clause-others
@@ -9,9 +9,9 @@ returns-in-Ok-clause-others c = λ a ne. c.in-Ok.ensures.updates.2 a (ne_eqb c.a
 pub invariant_of-self : goal.invariant_of-self
 invariant_of-self c = record {
   marked = λ a free.
-      let apart = or_parts (is_marked c.args.self.now.marks a) (remainder_of a == remainder_of c.args.asn) (sym (c.add.ensures a) ∙ free) in
+      let apart = or_parts (is_marked c.args.self.now.marks a) (a % 512 == c.args.asn % 512) (sym (c.add.ensures a) ∙ free) in
       elim (cases_eq c.args.asn a) [
-        | inl is ↦ absurd (true≢false (sym (eq-eqb (remainder_of a) (remainder_of c.args.asn) (ap remainder_of (sym is))) ∙ apart.1))
+        | inl is ↦ absurd (true≢false (sym (eq-eqb (a % 512) (c.args.asn % 512) (ap (λ n. n % 512) (sym is))) ∙ apart.1))
         | inr other ↦ c.in-Ok.ensures.updates.2 a (ne_eqb c.args.asn a other) ∙ c.args.self.now.marked a apart.0
       ];
 }
