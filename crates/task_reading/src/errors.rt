@@ -29,22 +29,7 @@ pub fn of_relations(error: RelError) -> AskError
 {
     match error {
         RelError::Memory => AskError::Memory,
-        RelError::Unreadable { line: _ } => AskError::Fault(Fault::InFile(
-            File::Relations,
-            Cause::Relation(error),
-        )),
-        RelError::SelfLink { line: _ } => AskError::Fault(Fault::InFile(
-            File::Relations,
-            Cause::Relation(error),
-        )),
-        RelError::Conflict {
-            line: _,
-            earlier: _,
-        } => AskError::Fault(Fault::InFile(File::Relations, Cause::Relation(error))),
-        RelError::TooManyLinks { line: _ } => AskError::Fault(Fault::InFile(
-            File::Relations,
-            Cause::Relation(error),
-        )),
+        _ => AskError::Fault(Fault::InFile(File::Relations, Cause::Relation(error))),
     }
 }
 
@@ -54,26 +39,7 @@ pub fn of_payloads(error: VrpError) -> AskError
 {
     match error {
         VrpError::Memory => AskError::Memory,
-        VrpError::Fields { row: _ } => AskError::Fault(Fault::InFile(
-            File::Payloads,
-            Cause::Payload(error),
-        )),
-        VrpError::BadAsn { row: _ } => AskError::Fault(Fault::InFile(
-            File::Payloads,
-            Cause::Payload(error),
-        )),
-        VrpError::BadPrefix { row: _ } => AskError::Fault(Fault::InFile(
-            File::Payloads,
-            Cause::Payload(error),
-        )),
-        VrpError::BadMax { row: _ } => AskError::Fault(Fault::InFile(
-            File::Payloads,
-            Cause::Payload(error),
-        )),
-        VrpError::TooMany { row: _ } => AskError::Fault(Fault::InFile(
-            File::Payloads,
-            Cause::Payload(error),
-        )),
+        _ => AskError::Fault(Fault::InFile(File::Payloads, Cause::Payload(error))),
     }
 }
 
@@ -83,26 +49,7 @@ pub fn of_scenario(error: ScenarioError) -> AskError
 {
     match error {
         ScenarioError::Memory => AskError::Memory,
-        ScenarioError::NotJson => AskError::Fault(Fault::InFile(
-            File::Scenario,
-            Cause::Scenario(error),
-        )),
-        ScenarioError::Shape { place: _ } => AskError::Fault(Fault::InFile(
-            File::Scenario,
-            Cause::Scenario(error),
-        )),
-        ScenarioError::Value { place: _ } => AskError::Fault(Fault::InFile(
-            File::Scenario,
-            Cause::Scenario(error),
-        )),
-        ScenarioError::Twice { place: _ } => AskError::Fault(Fault::InFile(
-            File::Scenario,
-            Cause::Scenario(error),
-        )),
-        ScenarioError::Limit { which: _ } => AskError::Fault(Fault::InFile(
-            File::Scenario,
-            Cause::Scenario(error),
-        )),
+        _ => AskError::Fault(Fault::InFile(File::Scenario, Cause::Scenario(error))),
     }
 }
 
@@ -112,13 +59,6 @@ pub fn of_script(error: ScriptError) -> AskError
 {
     match error {
         ScriptError::Memory => AskError::Memory,
-        ScriptError::Unreadable { line: _ } => AskError::Fault(Fault::InFile(
-            File::Script,
-            Cause::Script(error),
-        )),
-        ScriptError::TooMany { line: _ } => AskError::Fault(Fault::InFile(
-            File::Script,
-            Cause::Script(error),
-        )),
+        _ => AskError::Fault(Fault::InFile(File::Script, Cause::Script(error))),
     }
 }
