@@ -1,5 +1,6 @@
 pub mod Ends
 pub mod Traces
+pub mod Announcing
 pub mod Prefixes
 pub mod Walking
 pub mod ListLemmas

@@ -1,13 +1,10 @@
 -- Which ASes may announce a prefix.
-use Rattle.std.specs.Prelude.{◌≡◌, ℕ, Bool, true, false, ◌%◌, slice_index_or}
-use Rattle.net_names.specs.Prefixes.{PrefixValue}
-use Rattle.stability_laws.specs.Plans.{Plan, announces}
-use Rattle.data_trace.specs.declared.announcers.Announcers.{Announcers}
+use Rattle.std.specs.Prelude.{◌≡◌, ℕ, ◌%◌, ◌==◌}
+use Rattle.std.specs.List.{list_any}
+use Rattle.route_choice.specs.declared.marks.Marks.{Marks}
+use Rattle.route_choice.specs.Marks.{is_marked}
+use Rattle.stability_laws.specs.Plans.{Plan, announcers_of}
 
--- whether the remainder of the number is marked
-abbrev pub is_marked : Announcers → ℕ → Bool
-is_marked s a = slice_index_or s.marks.items (a % 4096) false
-
--- all ASes that announce a prefix are marked
-abbrev pub AreAnnouncers : Announcers → Plan → Type 0
-AreAnnouncers s plan = (p : PrefixValue) (a : ℕ) → announces plan p a ≡ true → is_marked s a ≡ true
+-- a number is marked exactly where an AS that announces a prefix of the plan has its remainder
+abbrev pub AreAnnouncers : Marks 4096 → Plan → Type 0
+AreAnnouncers marks plan = (a : ℕ) → is_marked marks a ≡ list_any (λ b. a % 4096 == b % 4096) (announcers_of plan)

@@ -8,12 +8,12 @@ ghost use Rattle.data_trace.specs.Candidates.{best_among};
 ghost use Rattle.data_trace.specs.Announcers.{AreAnnouncers};
 
 use crate::Hop;
-use crate::announcers::Announcers;
+use crate::announcers::announcers_of;
 use crate::best::Best;
 use crate::candidate::Candidate;
 use net_names::{Addr, Asn, NoMemory, Prefix, holds};
 use path_pool::PathPool;
-use route_choice::{RoundTables, Table};
+use route_choice::{Marks, RoundTables, Table};
 use stability_laws::SeedPlan;
 use std::alloc::Global;
 
@@ -25,7 +25,7 @@ pub struct Forwarding<'a> {
     plan: &'a SeedPlan,
     addr: Addr,
     candidates: Vec<Candidate<'a>>,
-    announcers: Announcers,
+    announcers: Marks<4096>,
     ghost live: { AreAllLive pool.now tables.now },
     ghost best: { (a : ℕ) → best_among candidates.items a ≡ best_in tables.now a (holding plan.now addr) },
     ghost announcing: { AreAnnouncers announcers plan.now },
@@ -93,14 +93,13 @@ impl<'a> Forwarding<'a> {
         ensures addr { IfOk result (λ f. f.addr ≡ addr) }
     {
         let candidates = candidates_of(alloc, tables, plan, addr)?;
-        let announcers = Announcers::of(alloc, plan)?;
         Ok(Forwarding {
             tables,
             pool,
             plan,
             addr,
             candidates,
-            announcers,
+            announcers: announcers_of(plan),
         })
     }
 
@@ -111,7 +110,7 @@ impl<'a> Forwarding<'a> {
     {
         let one = &self.candidates[0];
         let best = Best::better(None, one.prefix, one.table.get_near(asn, place));
-        Best::hop(self.pool, self.plan, asn, self.announcers.may(asn), best)
+        Best::hop(self.pool, self.plan, asn, self.announcers.has(asn), best)
     }
 
     /// Where an AS sends a packet, whose entries are sought first at a place.
@@ -125,7 +124,7 @@ impl<'a> Forwarding<'a> {
             self.pool,
             self.plan,
             asn,
-            self.announcers.may(asn),
+            self.announcers.has(asn),
             best_at(self.candidates.as_slice(), asn, place),
         )
     }

@@ -1,15 +1,15 @@
-use Rattle.std.proofs.Common.{◌≡◌, Option, sym, ◌∙◌, ap, subst, true≢false}
-use Rattle.std.proofs.lemmas.Bool.{false_from_ne_true}
+use Rattle.std.proofs.Common.{◌≡◌, Option, sym, ◌∙◌, ap, subst}
 use Rattle.std.specs.Prelude.{IfSome}
 use Rattle.path_pool.specs.Pool.{IsLive}
 use Rattle.data_trace.specs.declared.best.Best.{Best}
 use Rattle.data_trace.specs.Best.{best_in, holding, hop_of}
 use Rattle.data_trace.specs.Candidates.{best_among}
+use Rattle.data_trace.proofs.Announcing.{unmarked}
 use Rattle.data_trace.proofs.Prefixes.{next_hop_is, best_live}
 use Rattle.data_trace.proofs.forwarding.Forwarding.next.Goals as goal
 
 pub hop-requires-clause-may : goal.hop-requires-clause-may
-hop-requires-clause-may c = λ f p. false_from_ne_true _ (λ t. true≢false (sym (c.args.self.now.announcing p c.args.asn t) ∙ sym c.may.ensures ∙ f))
+hop-requires-clause-may c = λ f. unmarked c.args.self.now.announcers c.args.self.now.plan.now c.args.self.now.announcing c.args.asn (sym c.has.ensures ∙ f)
 
 pub hop-requires-clause-live : goal.hop-requires-clause-live
 hop-requires-clause-live c =

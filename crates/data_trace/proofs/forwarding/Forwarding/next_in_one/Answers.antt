@@ -1,5 +1,4 @@
-use Rattle.std.proofs.Common.{◌≡◌, List, [], ◌∷◌, Option, None, length, get_or, sym, ◌∙◌, ap, subst, arith, true≢false}
-use Rattle.std.proofs.lemmas.Bool.{false_from_ne_true}
+use Rattle.std.proofs.Common.{◌≡◌, List, [], ◌∷◌, Option, None, length, get_or, sym, ◌∙◌, ap, subst, arith}
 use Rattle.std.specs.Prelude.{IfSome}
 use Rattle.path_pool.specs.Pool.{IsLive}
 use Rattle.route_choice.specs.declared.held.Held.{Held}
@@ -7,6 +6,7 @@ use Rattle.data_trace.specs.declared.best.Best.{Best}
 use Rattle.data_trace.specs.declared.candidate.Candidate.{Candidate}
 use Rattle.data_trace.specs.Best.{best_in, better_of, holding, hop_of}
 use Rattle.data_trace.specs.Candidates.{best_among}
+use Rattle.data_trace.proofs.Announcing.{unmarked}
 use Rattle.data_trace.proofs.Prefixes.{next_hop_is, best_live}
 use Rattle.data_trace.proofs.forwarding.Forwarding.next_in_one.Goals as goal
 
@@ -16,7 +16,7 @@ one_only (y ∷ []) x n e = ap (λ z. z ∷ []) (sym e)
 one_only (y ∷ z ∷ zs) x n e = absurd (omega (arith, n))
 
 pub hop-requires-clause-may : goal.hop-requires-clause-may
-hop-requires-clause-may c = λ f p. false_from_ne_true _ (λ t. true≢false (sym (c.args.self.now.announcing p c.args.asn t) ∙ sym c.may.ensures ∙ f))
+hop-requires-clause-may c = λ f. unmarked c.args.self.now.announcers c.args.self.now.plan.now c.args.self.now.announcing c.args.asn (sym c.has.ensures ∙ f)
 
 pub hop-requires-clause-live : goal.hop-requires-clause-live
 hop-requires-clause-live c =
