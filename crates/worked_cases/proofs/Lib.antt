@@ -1,1 +1,2 @@
-mod OnePlan
+mod Announced
+mod Standing

@@ -29,7 +29,9 @@ pub(super) const ACROSS: Rel = Rel::Peer;
 // A link: the second AS is a customer or a peer of the first.
 pub(super) type Row = (u32, u32, Rel);
 
-pub(super) fn number(n: u32) -> Result<Asn, Fail> {
+pub(super) fn number(n: u32) -> Result<Asn, Fail>
+    ensures { IfOk result (λ a. a ≡ n) }
+{
     Ok(Asn::new(n).ok_or("a number of an AS")?)
 }
 
