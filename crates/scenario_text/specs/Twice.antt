@@ -1,5 +1,5 @@
 -- The third pass: nothing is named twice (own format).
-use Rattle.std.specs.Prelude.{ℕ, List, take, map, Result, Ok, Err, if◌then◌else◌}
+use Rattle.std.specs.Prelude.{List, take, map, Result, Ok, Err, if◌then◌else◌}
 use Rattle.std.specs.List.{list_any}
 use Rattle.std.specs.declared.cmp.Ordering.{Ordering}
 use Rattle.std.specs.Ordering.{nat_cmp, eq_by_cmp}
