@@ -10,9 +10,9 @@ use Rattle.net_names.specs.declared.routes.Rel.{Rel}
 use Rattle.net_names.specs.Links.{LinkMap, pair_cmp, converse}
 use Rattle.net_names.specs.Numbers.{occurs}
 use Rattle.net_names.proofs.Pairs.{pairs_total}
-use Rattle.as_graph.specs.Topology.{Topology, ends_of, ases, has, as_count, with_mark}
+use Rattle.as_graph.specs.Topology.{Topology, ases, has, as_count, with_mark}
 use Rattle.as_graph.specs.Edits.{with_link, without_link, without_mark, AsesAreKept}
-use Rattle.as_graph.proofs.Links.{found}
+use Rattle.as_graph.proofs.Links.{found, ends_of}
 use Rattle.as_graph.proofs.RowAses.{same_test, occurs-items, occurs-append, end_found}
 use Rattle.as_graph.proofs.EditsLemmas.{put_pair, is_put, is_put_turned}
 use Rattle.as_graph.proofs.TakenLinks.{same_pair, pair_itself, take_pair, is_taken, is_taken_turned}

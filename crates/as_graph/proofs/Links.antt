@@ -7,11 +7,12 @@ use Rattle.std.specs.declared.cmp.Ordering.TheVariants.{Less, Equal, Greater}
 use Rattle.std.specs.Ordering.{nat_cmp, eq_by_cmp, is_eq}
 use Rattle.std.specs.FinMap as map
 use Rattle.std.specs.FinSet as set
+use Rattle.std.specs.List.{flat_map}
 use Rattle.net_names.specs.declared.routes.Rel.{Rel}
 use Rattle.net_names.specs.declared.routes.Rel.TheVariants.{Customer, Peer, Provider}
 use Rattle.net_names.specs.Links.{pair_cmp, converse}
 use Rattle.net_names.specs.Numbers.{occurs}
-use Rattle.as_graph.specs.Topology.{Topology, relation, ends_of, ases}
+use Rattle.as_graph.specs.Topology.{Topology, relation, ases}
 use Rattle.as_graph.proofs.Chains.{IsMutual, AreLinks}
 
 pub twice : (r : Option Rel) → r ≡ option_map converse (option_map converse r)
@@ -33,6 +34,10 @@ pub is_equal : (r : Ordering) → is_eq r ≡ true → r ≡ Equal
 is_equal Less e = cc
 is_equal Equal e = refl
 is_equal Greater e = cc
+
+-- both ends of each link
+abbrev pub ends_of : List ((ℕ × ℕ) × Rel) → List ℕ
+ends_of es = flat_map (λ e. e.0.0 ∷ e.0.1 ∷ []) es
 
 -- a pair that has an entry is of two ends
 pub found : (es : List ((ℕ × ℕ) × Rel)) (q : ℕ × ℕ) (r : Rel) → map.find pair_cmp q es ≡ Some r → (occurs q.0 (ends_of es) ≡ true) × (occurs q.1 (ends_of es) ≡ true)

@@ -18,11 +18,11 @@ use Rattle.net_names.specs.Links.{pair_cmp, converse}
 use Rattle.net_names.specs.Numbers.{occurs}
 use Rattle.as_graph.specs.declared.neighbour.Neighbour.{Neighbour}
 use Rattle.as_graph.specs.declared.row.Row.{Row}
-use Rattle.as_graph.specs.Topology.{Topology, ends_of, ases, has, as_count}
+use Rattle.as_graph.specs.Topology.{Topology, ases, has, as_count}
 use Rattle.as_graph.specs.Rows.{rel_in}
 use Rattle.as_graph.specs.Graphs.{Rows, rel_of, is_marked, is_needed, is_there, marked_rows, links_of, topology_of, IsGraph}
 use Rattle.net_names.proofs.Pairs.{pairs_total}
-use Rattle.as_graph.proofs.Links.{linked_end, relation_mutual}
+use Rattle.as_graph.proofs.Links.{linked_end, relation_mutual, ends_of}
 use Rattle.as_graph.proofs.RowLinks.{lookup_absent, get-links_of, relation-topology_of}
 
 -- ---- marks

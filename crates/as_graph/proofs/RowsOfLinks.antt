@@ -14,13 +14,13 @@ use Rattle.net_names.specs.Links.{LinkMap, pair_cmp, converse, between}
 use Rattle.net_names.specs.Numbers.{occurs}
 use Rattle.as_graph.specs.declared.neighbour.Neighbour.{Neighbour}
 use Rattle.as_graph.specs.declared.ends.End.{End}
-use Rattle.as_graph.specs.Topology.{as_count, ends_of, unmarked}
+use Rattle.as_graph.specs.Topology.{as_count, unmarked}
 use Rattle.as_graph.specs.Rows.{rel_in, asn_at, blank, IsRising}
 use Rattle.as_graph.specs.Ends.{lower_ends, higher_ends, ends_at, row_of, AreTurned, AreByAs}
 use Rattle.as_graph.specs.Graphs.{Rows, rel_of, links_of, IsBuilt}
 use Rattle.as_graph.specs.Gathering.{AreGathered, HasManyAses}
 use Rattle.net_names.proofs.Pairs.{pairs_total, exact_pair}
-use Rattle.as_graph.proofs.Links.{relation_mutual, relation_self}
+use Rattle.as_graph.proofs.Links.{relation_mutual, relation_self, ends_of}
 use Rattle.as_graph.proofs.RowAses.{occurs-append, length-le-as_count}
 use Rattle.as_graph.proofs.RowLinks.{first_some, pair_tied, get-links_of}
 

@@ -3,16 +3,20 @@ use Rattle.std.specs.Prelude.{◌≡◌, ◌≢◌, ℕ, true, false, ◌||◌, 
 use Rattle.std.specs.FinMap as map
 use Rattle.std.specs.FinSet as set
 use Rattle.net_names.specs.declared.routes.Rel.{Rel}
-use Rattle.net_names.specs.Links.{converse}
+use Rattle.net_names.specs.Links.{LinkMap, converse, with_relation}
 use Rattle.as_graph.specs.Topology.{Topology, relation, has, with_mark}
 
--- the pair has this link, in place of any earlier one: b is r to a
+-- the graph in which b is r to a, in place of any earlier link of the pair
 abbrev pub with_link : Topology → ℕ → ℕ → Rel → Topology
-with_link w a b r = record w { links = if nat_lt a b then map.insert w.links (a, b) r else map.insert w.links (b, a) (converse r) }
+with_link w a b r = record w { links = with_relation w.links a b r }
 
--- the pair has no link
+-- the pair has no link, and each other pair stays
+abbrev pub without_relation : LinkMap → ℕ → ℕ → LinkMap
+without_relation links a b = if nat_lt a b then map.remove links (a, b) else map.remove links (b, a)
+
+-- the graph without a link of the pair
 abbrev pub without_link : Topology → ℕ → ℕ → Topology
-without_link w a b = record w { links = if nat_lt a b then map.remove w.links (a, b) else map.remove w.links (b, a) }
+without_link w a b = record w { links = without_relation w.links a b }
 
 -- the graph without a mark on a, and all else as before
 abbrev pub without_mark : Topology → ℕ → Topology

@@ -4,6 +4,7 @@ use Rattle.std.specs.Coded.{Coded, code_by, coded×, coded_ℕ, coded_option}
 use Rattle.std.specs.Ordering.{nat_cmp}
 use Rattle.std.specs.FinMap as map
 use Rattle.std.specs.FinSet as set
+use Rattle.std.specs.List.{flat_map}
 use Rattle.net_names.specs.declared.routes.Rel.{Rel}
 use Rattle.net_names.specs.Links.{LinkMap, link_map_code, between}
 use Rattle.net_names.specs.Numbers.{occurs}
@@ -25,14 +26,9 @@ topology_code =
 abbrev pub relation : Topology → ℕ → ℕ → Option Rel
 relation g a b = between g.links a b
 
--- both ends of each link
-abbrev pub ends_of : List ((ℕ × ℕ) × Rel) → List ℕ
-ends_of [] = []
-ends_of (e ∷ es) = e.0.0 ∷ e.0.1 ∷ ends_of es
-
 -- the marked ASes and the ends of links, some twice
 abbrev pub ases : Topology → List ℕ
-ases g = set.items g.marked ++ ends_of (map.entries g.links)
+ases g = set.items g.marked ++ flat_map (λ e. e.0.0 ∷ e.0.1 ∷ []) (map.entries g.links)
 
 -- a is an AS of the graph: it is marked, or an end of a link
 abbrev pub has : Topology → ℕ → Bool

@@ -7,19 +7,15 @@ use Rattle.as_graph.specs.Topology.{Topology, relation}
 use Rattle.as_graph.specs.Edits.{with_link, without_link}
 use Rattle.as_graph.specs.Hierarchy.{IsProviderCycle}
 
--- no AS of the list has a lower number than the first one
-abbrev pub BeginsLowest : List ℕ → Type 0
-BeginsLowest xs = (a : ℕ) → occurs a xs ≡ true → slice_index xs 0 ≤ a
-
--- a provider cycle, told from its lowest number on (Gao and Rexford 2001, the hierarchy assumption)
+-- a provider cycle, told from its lowest number on: no AS of it has a lower number than the first (Gao and Rexford 2001, the hierarchy assumption)
 pub record IsCycleFromLowest (relation : ℕ → ℕ → Option Rel) (xs : List ℕ) : Type 0 where
   pub cycle : IsProviderCycle relation xs
-  pub lowest : BeginsLowest xs
+  pub lowest : (a : ℕ) → occurs a xs ≡ true → slice_index xs 0 ≤ a
 
 -- the list turned round so far that it begins with its lowest number
 pub record IsTurned (xs ys : List ℕ) : Type 0 where
   pub turned : (k : ℕ) × (ys ≡ drop k xs ++ take k xs)
-  pub lowest : BeginsLowest ys
+  pub lowest : (a : ℕ) → occurs a ys ≡ true → slice_index ys 0 ≤ a
 
 -- what ASes are to each other with a provider link of this pair, in place of any link that it has (RFC 9234, section 4)
 abbrev pub with_provider : Topology → ℕ → ℕ → ℕ → ℕ → Option Rel

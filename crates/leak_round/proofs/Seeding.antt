@@ -1,6 +1,6 @@
 -- The seeds of a round, as paths of the pool, are those of the plan.
 use Rattle.std.proofs.Common.{◌≡◌, inl, inr, ℕ, suc, ◌-◌, Bool, true, false, ◌&&◌, nat_lt, Option, Some, None, option_map, List, [], length, refl, sym, ap, subst, ◌∙◌, arith}
-use Rattle.std.specs.Prelude.{IsTrue, option_and_then}
+use Rattle.std.specs.Prelude.{IsTrue, option_and_then, if◌then◌else◌}
 use Rattle.std.proofs.lemmas.Bool.{cases_lt, lt-ltb}
 use Rattle.net_names.specs.Prefixes.{PrefixValue}
 use Rattle.net_names.specs.declared.routes.Class.{Class}
@@ -9,7 +9,7 @@ use Rattle.path_pool.specs.declared.path_id.PathId.{PathId}
 use Rattle.path_pool.specs.declared.pool.PathPool.{PathPool}
 use Rattle.path_pool.specs.Pool.{IsLive, list_of}
 use Rattle.stability_laws.specs.Plans.{Plan, announced_path, has_prefix, leaks_in}
-use Rattle.stability_laws.specs.Rounds.{seed_given, leaked_class, seeds_of as seeds_in}
+use Rattle.stability_laws.specs.Rounds.{seed_given, seeds_of as seeds_in}
 use Rattle.route_choice.specs.declared.held.Held.{Held}
 use Rattle.route_choice.specs.declared.round_tables.RoundTables.{RoundTables}
 use Rattle.route_choice.specs.declared.seeds.SeedIds.{SeedIds}
@@ -25,9 +25,10 @@ use Rattle.leak_round.specs.Leaked.{leaked_of, own_or_leaked, AreSeedsWith}
 use Rattle.leak_round.specs.Overlays.{held_of, held_with, laid_in}
 use Rattle.leak_round.specs.Tables.{tables_in, kept_in, AreRoundsFull}
 use Rattle.leak_round.proofs.Laying.{kept_is}
+use Rattle.policy_laws.specs.Policy.{is_own_or_customers}
 
 module _ (pool : PathPool) where
-  leaked_is : (c : Class) (h : Held) → option_map (seed_of pool) (leaked_of c h) ≡ leaked_class c (entry_of pool h)
+  leaked_is : (c : Class) (h : Held) → option_map (seed_of pool) (leaked_of c h) ≡ (if is_own_or_customers c then None else Some (record { path = (entry_of pool h).path; otc = (entry_of pool h).otc }))
   leaked_is Origin h = refl
   leaked_is Customer h = refl
   leaked_is Peer h = refl

@@ -1,6 +1,6 @@
 -- The state over a set less a payload, from the payloads that cover.
 use Rattle.std.proofs.Common.{◌≡◌, ℕ, Bool, true, false, cond, not, ◌||◌, ◌&&◌, List, [], ◌∷◌, refl, sym, ap, ◌∙◌, Option, Some, None, ◌+◌, ◌≤◌, suc, length, take, drop, arith}
-use Rattle.std.specs.Prelude.{if◌then◌else◌}
+use Rattle.std.specs.Prelude.{if◌then◌else◌, is_some, slice_get}
 use Rattle.std.specs.List.{list_any, filter}
 use Rattle.std.specs.Ordering.{eq_by_cmp}
 use Rattle.std.specs.Cmp.{eq_by_cmp_equiv}
@@ -18,7 +18,7 @@ use Rattle.net_names.specs.Orders.{vrp_total, exact_vrp}
 use Rattle.roa_table.specs.Sets.{Payloads, taken, items, has}
 use Rattle.roa_table.specs.Cover.{covering, rows_below, of_prefix}
 use Rattle.roa_table.proofs.Rising.{contains_remove, rising_keys, rising_filter, same_lists, any_filter}
-use Rattle.origin_validation.specs.Judging.{matches, state_among, state_of}
+use Rattle.origin_validation.specs.Judging.{matches, state_of}
 use Rattle.origin_validation.specs.Leaving.{less, is_left}
 
 -- the payloads less one are those that aren't it
@@ -65,17 +65,9 @@ any_of_two f g h xs =
     swap false true c = refl
     swap false false c = refl
 
-abbrev is_empty : {A : Type 0} → List A → Bool
-is_empty [] = true
-is_empty (x ∷ xs) = false
-
-among : (p : PrefixValue) (origin : ℕ) (xs : List VrpValue) → state_among p origin xs ≡ (if is_empty xs then NotFound else if list_any (matches p origin) xs then Valid else Invalid)
-among p origin [] = refl
-among p origin (x ∷ xs) = refl
-
-is_empty_any : {A : Type 0} (xs : List A) → is_empty xs ≡ not (list_any (λ _. true) xs)
-is_empty_any [] = refl
-is_empty_any (x ∷ xs) = refl
+has_first : {A : Type 0} (xs : List A) → is_some (slice_get xs 0) ≡ list_any (λ _. true) xs
+has_first [] = refl
+has_first (x ∷ xs) = refl
 
 always : {A : Type 0} (g : A → Bool) (xs : List A) → list_any (λ x. g x && true) xs ≡ list_any g xs
 always g [] = refl
@@ -113,30 +105,16 @@ module _ (s : Payloads) (but : Option VrpValue) (p : PrefixValue) (origin : ℕ)
   covering_less : covering (less s but) p ≡ filter (λ v. covers v.prefix p) (filter (is_left but) (items s))
   covering_less = ap (filter (λ v. covers v.prefix p)) (less_items s but)
 
-  found_is : is_empty (covering (less s but) p) ≡ not (found (covering s p))
-  found_is = is_empty_any (covering (less s but) p)
-      ∙ ap (λ l. not (list_any (λ _. true) l)) covering_less
-      ∙ ap not (any_of_two (λ v. covers v.prefix p) (is_left but) (λ _. true) (items s) ∙ always (is_left but) (covering s p))
+  found_is : is_some (slice_get (covering (less s but) p) 0) ≡ found (covering s p)
+  found_is = has_first (covering (less s but) p)
+      ∙ ap (list_any (λ _. true)) covering_less
+      ∙ any_of_two (λ v. covers v.prefix p) (is_left but) (λ _. true) (items s) ∙ always (is_left but) (covering s p)
 
   valid_is : list_any (matches p origin) (covering (less s but) p) ≡ valid (covering s p)
   valid_is = ap (list_any (matches p origin)) covering_less ∙ any_of_two (λ v. covers v.prefix p) (is_left but) (matches p origin) (items s)
 
-  valid_found : (xs : List VrpValue) → found xs ≡ false → valid xs ≡ false
-  valid_found [] h = refl
-  valid_found (x ∷ xs) h = by (is_left but x) h (valid_found xs)
-    where
-      by : (a : Bool) → (a || found xs) ≡ false → (found xs ≡ false → valid xs ≡ false) → ((a && matches p origin x) || valid xs) ≡ false
-      by true h f = cc h
-      by false h f = f h
-
   pub state_judged : state_of (less s but) p origin ≡ judged (found (covering s p)) (valid (covering s p))
-  state_judged = among p origin (covering (less s but) p) ∙ (λ i. if found_is i then NotFound else if valid_is i then Valid else Invalid) ∙ by (found (covering s p)) refl (valid (covering s p)) refl
-    where
-      by : (a : Bool) → found (covering s p) ≡ a → (b : Bool) → valid (covering s p) ≡ b → (if not a then NotFound else if b then Valid else Invalid) ≡ judged a b
-      by true e true k = refl
-      by true e false k = refl
-      by false e true k = cc (k, valid_found (covering s p) e)
-      by false e false k = refl
+  state_judged = λ i. judged (found_is i) (valid_is i)
 
   pub row_step : (f : VrpValue → Bool) (n : ℕ) (b c : Bool) → b ≡ list_any f (rows_below s p n) → c ≡ list_any f (of_prefix s (shortened p n)) → (b || c) ≡ list_any f (rows_below s p (n + 1))
   row_step f n b c e g =

@@ -1,5 +1,5 @@
 -- What the payloads of a set say of a prefix with an origin.
-use Rattle.std.specs.Prelude.{ℕ, List, [], ◌∷◌, Bool, not, ◌&&◌, ◌==◌, nat_le, if◌then◌else◌}
+use Rattle.std.specs.Prelude.{ℕ, Bool, not, ◌&&◌, ◌==◌, nat_le, if◌then◌else◌, is_some, slice_get}
 use Rattle.std.specs.List.{list_any}
 use Rattle.net_names.specs.Prefixes.{PrefixValue}
 use Rattle.net_names.specs.Payloads.{VrpValue}
@@ -12,11 +12,6 @@ use Rattle.roa_table.specs.Cover.{covering}
 abbrev pub matches : PrefixValue → ℕ → VrpValue → Bool
 matches p origin v = nat_le p.len v.max && ((v.asn == origin) && not (v.asn == 0))
 
--- the state by the payloads that cover the prefix: not found where there is none, valid where one matches, and else invalid (RFC 6811, section 2)
-abbrev pub state_among : PrefixValue → ℕ → List VrpValue → State
-state_among p origin [] = NotFound
-state_among p origin (v ∷ vs) = if list_any (matches p origin) (v ∷ vs) then Valid else Invalid
-
--- the state of a prefix with an origin, over the whole set (RFC 6811, section 2)
+-- the state of a prefix with an origin, by the payloads of the whole set that cover it: valid where one matches, invalid where none does, and not found where there is none (RFC 6811, section 2)
 abbrev pub state_of : Payloads → PrefixValue → ℕ → State
-state_of vrps p origin = state_among p origin (covering vrps p)
+state_of vrps p origin = if list_any (matches p origin) (covering vrps p) then Valid else if is_some (slice_get (covering vrps p) 0) then Invalid else NotFound

@@ -2,14 +2,12 @@
 use Rattle.std.specs.Prelude.{ℕ, Bool, true, false, not, ◌==◌, ◌&&◌, ◌||◌, Option, Some, is_some}
 use Rattle.std.specs.declared.cmp.Ordering.{Ordering}
 use Rattle.std.specs.Ordering.{nat_cmp, ordering_then, is_lt}
-use Rattle.net_names.specs.declared.routes.Class.{Class}
-use Rattle.net_names.specs.declared.routes.Class.TheVariants as class
 use Rattle.net_names.specs.declared.routes.Rel.{Rel}
 use Rattle.net_names.specs.declared.routes.Rel.TheVariants.{Customer, Peer, Provider}
 use Rattle.net_names.specs.declared.routes.State.{State}
 use Rattle.net_names.specs.declared.routes.State.TheVariants.{Valid, Invalid}
 use Rattle.policy_laws.specs.declared.policy.View.{View}
-use Rattle.policy_laws.specs.Policy.{Policy}
+use Rattle.policy_laws.specs.Policy.{Policy, is_own_or_customers}
 use Rattle.policy_kinds.specs.declared.kind.Kind.{Kind}
 use Rattle.policy_kinds.specs.declared.kind.Kind.TheVariants.{Plain, DropInvalid, PreferValid, ProviderFirst, Otc, DropInvalidOtc}
 use Rattle.policy_kinds.specs.declared.rows.Row.{Row}
@@ -61,12 +59,6 @@ number_passes looks from neighbour otc = true
 abbrev pub is_customer : Rel → Bool
 is_customer Customer = true
 is_customer to = false
-
--- the route is an own one, or a customer's: no peer and no provider gave it
-abbrev pub is_own_or_customers : Class → Bool
-is_own_or_customers class.Peer = false
-is_own_or_customers class.Provider = false
-is_own_or_customers held = true
 
 -- the answers of a row of the table: every route is exported to customers, and to peers and providers own and customers' routes only (Gao and Rexford 2001), and of these no marked one where marks are looked at (RFC 9234, section 5, rule 2 on sending)
 abbrev pub policy_by : Row → Policy

@@ -1,6 +1,7 @@
 //! The kinds and their answers.
 ghost use Rattle.std.specs.Prelude.{◌≡◌};
-ghost use Rattle.policy_kinds.specs.Kinds.{is_customer as is_to_customer, is_own_or_customers as is_of_own_or_customers, state_passes as passes_state, number_passes as passes_number};
+ghost use Rattle.policy_laws.specs.Policy.{is_own_or_customers as is_of_own_or_customers};
+ghost use Rattle.policy_kinds.specs.Kinds.{is_customer as is_to_customer, state_passes as passes_state, number_passes as passes_number};
 
 use crate::rows::Row;
 use net_names::{Asn, Class, Rel, State};

@@ -1,5 +1,5 @@
 -- What a policy answers, as functions of plain data, and the laws that each policy meets.
-use Rattle.std.specs.Prelude.{◌≡◌, ◌≢◌, ◌⊎◌, ℕ, Bool, false, IsTrue, Option}
+use Rattle.std.specs.Prelude.{◌≡◌, ◌≢◌, ◌⊎◌, ℕ, Bool, true, false, IsTrue, Option}
 use Rattle.net_names.specs.declared.routes.Class.{Class}
 use Rattle.net_names.specs.declared.routes.Class.TheVariants as class
 use Rattle.net_names.specs.declared.routes.Rel.{Rel}
@@ -14,6 +14,12 @@ pub record Policy : Type 0 where
   pub exports : Class → Option ℕ → Rel → Bool
   pub reads_state : Bool
   pub marks : Bool
+
+-- the route is an own one, or a customer's: no peer and no provider gave it
+abbrev pub is_own_or_customers : Class → Bool
+is_own_or_customers class.Peer = false
+is_own_or_customers class.Provider = false
+is_own_or_customers held = true
 
 -- the view with another validation state
 abbrev pub with_state : View → State → View

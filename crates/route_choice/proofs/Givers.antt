@@ -1,5 +1,6 @@
 -- Who makes an offer exports what it holds.
 use Rattle.std.proofs.Common.{◌≡◌, ℕ, Bool, true, false, ◌&&◌, not, cond, Option, Some, None, refl, sym, ◌∙◌, ap}
+use Rattle.std.specs.Prelude.{is_some, slice_get}
 use Rattle.net_names.specs.declared.routes.Rel.{Rel}
 use Rattle.net_names.specs.declared.routes.Rel.TheVariants.{Customer}
 use Rattle.net_names.specs.declared.routes.State.{State}
@@ -7,7 +8,7 @@ use Rattle.net_names.specs.Links.{converse}
 use Rattle.net_names.specs.Numbers.{occurs}
 use Rattle.policy_laws.specs.Policy.{Policy}
 use Rattle.stability_laws.specs.declared.entry.Entry.{Entry}
-use Rattle.stability_laws.specs.Offers.{Setting, Offer, offer, offer_given, view_of, is_empty}
+use Rattle.stability_laws.specs.Offers.{Setting, Offer, offer, offer_given, view_of}
 use Rattle.route_choice.specs.declared.choice.Part.{Part}
 use Rattle.route_choice.specs.declared.choice.Part.TheVariants.{Up, Whole}
 use Rattle.route_choice.specs.Choices.{offers_of, is_looked_at}
@@ -33,7 +34,7 @@ exports_given s r st n a (Some from) (Some d) o e = record {
   entry = d;
   linked = refl;
   is = refl;
-  exported = first_of (s.exports d.class d.otc (converse from)) (not (is_empty d.path) && (not (occurs a d.path) && r.accepts (view_of s.marks st n from d))) _ o e;
+  exported = first_of (s.exports d.class d.otc (converse from)) (is_some (slice_get d.path 0) && (not (occurs a d.path) && r.accepts (view_of s.marks st n from d))) _ o e;
 }
 
 -- who makes an offer of the part, over which link, and of which entry

@@ -1,5 +1,6 @@
 -- Where a policy does not read states, any states lead to the same choice.
 use Rattle.std.proofs.Common.{◌≡◌, ℕ, Bool, true, false, ◌&&◌, not, cond, IsTrue, Option, Some, None, refl, sym, ◌∙◌, ap}
+use Rattle.std.specs.Prelude.{is_some, slice_get}
 use Rattle.net_names.specs.declared.routes.Rel.{Rel}
 use Rattle.net_names.specs.declared.routes.Rel.TheVariants.{Customer, Peer, Provider}
 use Rattle.net_names.specs.declared.routes.State.{State}
@@ -12,7 +13,7 @@ use Rattle.stability_laws.specs.declared.entry.Entry.{Entry}
 use Rattle.stability_laws.specs.declared.entry.Seed.{Seed}
 use Rattle.stability_laws.specs.Book.{PolicyBook, policy_at}
 use Rattle.stability_laws.specs.World.{setting}
-use Rattle.stability_laws.specs.Offers.{Offer, offer, offer_given, passes, passed_on, view_of, is_empty}
+use Rattle.stability_laws.specs.Offers.{Offer, offer, offer_given, passes, passed_on, view_of}
 use Rattle.stability_laws.specs.Stable.{IsBest}
 use Rattle.stability_laws.specs.BestView.{IsBestView}
 use Rattle.stability_laws.specs.Laws.{if_customer}
@@ -42,7 +43,7 @@ restated s p ignores unread st st' n a (Some from) (Some e) o h =
     let x : Offer = record { view = view_of s.marks st n from e; entry = entry } in
     let y : Offer = record { view = view_of s.marks st' n from e; entry = entry } in
     let same : passes s.exports p a from e y.view ≡ passes s.exports p a from e x.view =
-    ap (λ b. s.exports e.class e.otc (converse from) && (not (is_empty e.path) && (not (occurs a e.path) && b))) (ignores.accepts unread x.view (st' (last_or 0 e.path))) in
+    ap (λ b. s.exports e.class e.otc (converse from) && (is_some (slice_get e.path 0) && (not (occurs a e.path) && b))) (ignores.accepts unread x.view (st' (last_or 0 e.path))) in
     let through = let_through (passes s.exports p a from e x.view) (passes s.exports p a from e y.view) x y o same h in
     record {
       like = y;

@@ -5,8 +5,9 @@ use Rattle.std.specs.Ordering.{nat_cmp, eq_by_cmp}
 use Rattle.std.specs.FinMap as fin
 use Rattle.std.specs.FinSet as set
 use Rattle.net_names.specs.Numbers.{occurs}
-use Rattle.as_graph.specs.Topology.{Topology, ases, ends_of, has, as_count, with_mark}
+use Rattle.as_graph.specs.Topology.{Topology, ases, has, as_count, with_mark}
 use Rattle.as_graph.proofs.RowAses.{occurs-items, occurs-append}
+use Rattle.as_graph.proofs.Links.{ends_of}
 use Rattle.sim_core.specs.Marking.{IsMarksRefusal, marked}
 use Rattle.sim_core.specs.declared.errors.LoadError.{LoadError}
 use Rattle.sim_core.specs.declared.errors.LoadError.TheVariants as load_error

@@ -1,11 +1,9 @@
 -- Each path that is held ends with the last number of a path that is announced.
 use Rattle.std.proofs.Common.{◌≡◌, ◌&&◌, ◌<◌, ◌≤◌, ℕ, zero, suc, nat_lt, Bool, true, false, IsTrue, Option, None, Some, List, [], ◌∷◌, length, refl, sym, ap, subst, ◌∙◌, arith}
-use Rattle.std.specs.Prelude.{slice_get}
+use Rattle.std.specs.Prelude.{slice_get, if◌then◌else◌}
 use Rattle.std.proofs.lemmas.Bool.{ltb-true}
 use Rattle.net_names.specs.Numbers.{last_or}
 use Rattle.net_names.specs.Prefixes.{PrefixValue}
-use Rattle.net_names.specs.declared.routes.Class.{Class}
-use Rattle.net_names.specs.declared.routes.Class.TheVariants.{Origin, Customer, Peer, Provider}
 use Rattle.net_names.specs.declared.routes.State.{State}
 use Rattle.as_graph.specs.Topology.{Topology, has}
 use Rattle.policy_kinds.specs.Kinds.{kind_policy}
@@ -15,13 +13,14 @@ use Rattle.stability_laws.specs.Laws.{PathsGoOn}
 use Rattle.stability_laws.specs.OfferPaths.{OfferPath}
 use Rattle.stability_laws.specs.Offers.{offer}
 use Rattle.stability_laws.specs.Plans.{IsSound, Plan, announced_path, has_prefix, leaks_in}
-use Rattle.stability_laws.specs.Rounds.{AreRounds, leaked_class, seed_given, seeds_of}
+use Rattle.stability_laws.specs.Rounds.{AreRounds, seed_given, seeds_of}
 use Rattle.stability_laws.specs.Stable.{IsRightGiven}
 use Rattle.stability_laws.specs.World.{setting}
 use Rattle.stability_laws.specs.declared.entry.Entry.{Entry}
 use Rattle.stability_laws.specs.declared.entry.Seed.{Seed}
 use Rattle.sim_core.specs.Families.{Family}
 use Rattle.sim_core.specs.Ground.{IsOrigin}
+use Rattle.policy_laws.specs.Policy.{is_own_or_customers}
 
 both : (a b : Bool) → (a && b) ≡ true → a ≡ true
 both true b h = refl
@@ -38,11 +37,9 @@ starts_long (x ∷ xs) b h = omega arith
 same_some : {X : Type 0} (x y : X) → Some x ≡ Some y → x ≡ y
 same_some x y e = cc
 
-leaked_path : (c : Class) (e : Entry) (s : Seed) → leaked_class c e ≡ Some s → s.path ≡ e.path
-leaked_path Origin e s h = cc
-leaked_path Customer e s h = cc
-leaked_path Peer e s h = ap (λ (t : Seed). t.path) (sym (same_some _ s h))
-leaked_path Provider e s h = ap (λ (t : Seed). t.path) (sym (same_some _ s h))
+leaked_path : (own : Bool) (e : Entry) (s : Seed) → (if own then None else Some (record { path = e.path; otc = e.otc })) ≡ Some s → s.path ≡ e.path
+leaked_path true e s h = cc
+leaked_path false e s h = ap (λ (t : Seed). t.path) (sym (same_some _ s h))
 
 module _ (paths : OfferPath kind_policy) (goes : PathsGoOn kind_policy) (g : Topology) (book : PolicyBook Kind) (state : PrefixValue → ℕ → State) (plan : Plan) (count : ℕ) (held : Family) (sound : IsSound plan) (are : AreRounds (λ p. setting kind_policy g book (state p)) plan count held) (prefix : PrefixValue) (known : IsTrue (has_prefix plan prefix)) where
   seed_ends : (before a : ℕ) (s : Seed) → ((e : Entry) → held before prefix a ≡ Some e → 1 ≤ before → IsOrigin plan prefix (last_or 0 e.path)) → seeds_of plan (suc before) prefix (held before prefix) a ≡ Some s → IsOrigin plan prefix (last_or 0 s.path)
@@ -54,7 +51,7 @@ module _ (paths : OfferPath kind_policy) (goes : PathsGoOn kind_policy) (g : Top
       by None at true leaks None e q = cc
       by None at true leaks (Some x) e q =
           let later : 1 ≤ before = omega (arith, ltb-true 1 (suc before) (both (nat_lt 1 (suc before)) (leaks_in plan (suc before) a) leaks)) in
-          subst (λ (l : List ℕ). IsOrigin plan prefix (last_or 0 l)) (sym (leaked_path x.class x s q)) (earlier x e later)
+          subst (λ (l : List ℕ). IsOrigin plan prefix (last_or 0 l)) (sym (leaked_path (is_own_or_customers x.class) x s q)) (earlier x e later)
 
   in_round : (before : ℕ) → before < count → ((a : ℕ) (e : Entry) → held before prefix a ≡ Some e → 1 ≤ before → IsOrigin plan prefix (last_or 0 e.path)) → (k a : ℕ) (e : Entry) → length e.path ≤ k → held (suc before) prefix a ≡ Some e → IsOrigin plan prefix (last_or 0 e.path)
   in_round before less earlier zero a e short at =

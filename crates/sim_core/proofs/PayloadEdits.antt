@@ -1,6 +1,6 @@
 -- Edits of payloads.
 use Rattle.std.proofs.Common.{◌≡◌, ◌⊎◌, inl, inr, ◌<◌, ◌≤◌, ◌+◌, ◌-◌, ℕ, Bool, true, false, IsTrue, cond, is_some, Option, None, Some, List, [], ◌∷◌, map, unwrap_or, refl, sym, ap, subst, ◌∙◌, arith}
-use Rattle.std.specs.List.{filter}
+use Rattle.std.specs.List.{filter, list_any}
 use Rattle.std.specs.FinMap.Entries.{by_order}
 use Rattle.std.proofs.lemmas.Bool.{true≢false}
 use Rattle.std.specs.FinMap as fin
@@ -8,16 +8,18 @@ use Rattle.std.specs.FinSet as set
 use Rattle.std.specs.Ordering.{eq_by_cmp, is_eq}
 use Rattle.std.specs.declared.cmp.Ordering.{Ordering}
 use Rattle.std.specs.declared.cmp.Ordering.TheVariants.{Less, Equal, Greater}
+use Rattle.std.specs.Prelude.{if◌then◌else◌, slice_get}
 use Rattle.net_names.specs.Coverage.{covers}
 use Rattle.net_names.specs.Prefixes.{PrefixValue}
 use Rattle.as_graph.specs.Topology.{Topology, as_count, has as has_as, relation}
-use Rattle.origin_validation.specs.Judging.{state_among, state_of}
+use Rattle.origin_validation.specs.Judging.{matches, state_of}
 use Rattle.policy_kinds.specs.Kinds.{kind_policy}
 use Rattle.stability_laws.specs.Plans.{Plan, has_prefix}
 use Rattle.policy_kinds.specs.declared.kind.Kind.{Kind}
 use Rattle.stability_laws.specs.Book.{PolicyBook, policy_at}
 use Rattle.net_names.specs.Orders.{vrp_total, exact_vrp}
 use Rattle.net_names.specs.Payloads.{VrpValue, vrp_cmp}
+use Rattle.net_names.specs.declared.routes.State.TheVariants.{Invalid, NotFound, Valid}
 use Rattle.roa_table.specs.Sets.{Payloads, added, count, has, taken}
 use Rattle.leak_round.specs.Changes.{HasChanges}
 use Rattle.leak_round.specs.Rounds.{plan_of, round_count}
@@ -113,7 +115,7 @@ put_keys f v ((w, u) ∷ es) free = by_order_keys f (vrp_cmp v w) v w es (fin.pu
 
 -- a payload changes no state of a prefix that it does not cover
 pub state_elsewhere : (s : Payloads) (v : VrpValue) (p : PrefixValue) (origin : ℕ) → covers v.prefix p ≡ false → state_of (added s v) p origin ≡ state_of s p origin
-state_elsewhere s v p origin free = ap (state_among p origin) (ap (λ es. filter (λ w. covers w.prefix p) (map (λ e. e.0) es)) (fin.entries-insert vrp_total s v tt) ∙ put_keys (λ w. covers w.prefix p) v (fin.entries s) free)
+state_elsewhere s v p origin free = ap (λ (vs : List VrpValue). if list_any (matches p origin) vs then Valid else if is_some (slice_get vs 0) then Invalid else NotFound) (ap (λ es. filter (λ w. covers w.prefix p) (map (λ e. e.0) es)) (fin.entries-insert vrp_total s v tt) ∙ put_keys (λ w. covers w.prefix p) v (fin.entries s) free)
 
 -- a payload that was taken, put in again
 pub taken_added : (s : Payloads) (v : VrpValue) → has s v ≡ true → added (taken s v) v ≡ s

@@ -3,10 +3,11 @@ use Rattle.std.specs.Prelude.{◌≡◌, ℕ, nat_lt, if◌then◌else◌, is_so
 use Rattle.std.specs.Ordering.{nat_cmp}
 use Rattle.std.specs.FinMap as fin
 use Rattle.std.specs.Option.{option_or}
+use Rattle.net_names.specs.Links.{with_relation}
 use Rattle.net_names.specs.declared.routes.Rel.TheVariants.{Customer, Provider}
 use Rattle.as_graph.specs.Topology.{as_count, relation}
 use Rattle.as_graph.specs.Hierarchy.{IsProviderCycle}
-use Rattle.as_graph.specs.Edits.{with_link, without_link}
+use Rattle.as_graph.specs.Edits.{without_relation}
 use Rattle.policy_kinds.specs.declared.kind.Kind.{Kind}
 use Rattle.stability_laws.specs.Plans.{announces, has_prefix, with_announcement}
 use Rattle.stability_laws.specs.SeedEdits.{without_announcement}
@@ -31,8 +32,8 @@ with_kind kinds a kind = if is_other (a, kind) then fin.insert kinds a kind else
 
 -- the edited world: the pair has this link in place of any earlier one, or none; the AS has this kind; the payload is in the set, or not; the first AS of the path announces the prefix with it in place of any earlier path, or the AS does not announce the prefix, which stays
 abbrev pub edited : World → Edit → World
-edited w (edit.Link a b rel) = record w { links = (with_link (topology w) a b rel).links }
-edited w (edit.Unlink a b) = record w { links = (without_link (topology w) a b).links }
+edited w (edit.Link a b rel) = record w { links = with_relation w.links a b rel }
+edited w (edit.Unlink a b) = record w { links = without_relation w.links a b }
 edited w (edit.Policy a kind) = record w { kinds = with_kind w.kinds a kind }
 edited w (edit.VrpAdd vrp) = record w { payloads = fin.insert w.payloads vrp tt }
 edited w (edit.VrpTake vrp) = record w { payloads = fin.remove w.payloads vrp }

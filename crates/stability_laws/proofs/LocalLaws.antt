@@ -1,5 +1,6 @@
 -- The laws of one AS: what its rightness depends on, that it sends nothing low up, and that customers' offers decide.
 use Rattle.std.proofs.Common.{◌≡◌, ◌≢◌, ◌⊎◌, inl, inr, ◌↔◌, ℕ, Bool, true, false, ◌&&◌, not, cond, true≢false, IsTrue, Option, Some, None, refl, sym, ◌∙◌, ap, subst}
+use Rattle.std.specs.Prelude.{is_some, slice_get}
 use Rattle.net_names.specs.declared.routes.Rel.{Rel}
 use Rattle.net_names.specs.declared.routes.Rel.TheVariants.{Customer, Peer, Provider}
 use Rattle.net_names.specs.declared.routes.State.{State}
@@ -8,7 +9,7 @@ use Rattle.net_names.specs.Links.{converse}
 use Rattle.net_names.specs.Numbers.{occurs, last_or}
 use Rattle.stability_laws.specs.declared.entry.Entry.{Entry}
 use Rattle.stability_laws.specs.declared.entry.Seed.{Seed}
-use Rattle.stability_laws.specs.Offers.{Setting, Offer, offer, offer_given, passes, passed_on, view_of, is_empty, GivenBy}
+use Rattle.stability_laws.specs.Offers.{Setting, Offer, offer, offer_given, passes, passed_on, view_of, GivenBy}
 use Rattle.stability_laws.specs.Stable.{IsRightGiven, IsRight, IsLawful}
 use Rattle.stability_laws.specs.Laws.{SameAround, IsForCustomersOnly, if_customer, customer_offer}
 use Rattle.stability_laws.specs.Steps.{low, low_by}
@@ -130,7 +131,7 @@ offers_alike s p ignores unread st st' n a None held = tt
 offers_alike s p ignores unread st st' n a (Some from) None = tt
 offers_alike s p ignores unread st st' n a (Some from) (Some e) =
     alike_when _ _ _ _
-    (ap (λ b. s.exports e.class e.otc (converse from) && (not (is_empty e.path) && (not (occurs a e.path) && b)))
+    (ap (λ b. s.exports e.class e.otc (converse from) && (is_some (slice_get e.path 0) && (not (occurs a e.path) && b)))
     (sym (ignores.accepts unread (view_of s.marks st n from e) (st' (last_or 0 e.path)))))
     (record { entry = refl; state = st' (last_or 0 e.path); view = refl })
 

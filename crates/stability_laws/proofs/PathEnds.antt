@@ -1,19 +1,17 @@
 -- Paths of stable routings start with their ASes, and go on to ASes of the world.
 use Rattle.std.proofs.Common.{◌≡◌, ℕ, zero, suc, ◌<◌, Bool, true, false, IsTrue, Option, Some, None, List, ◌∷◌, refl, sym, ◌∙◌, ap, subst, arith}
-use Rattle.std.specs.Prelude.{is_some, slice_get, ◌&&◌, nat_lt}
-use Rattle.net_names.specs.declared.routes.Class.{Class}
-use Rattle.net_names.specs.declared.routes.Class.TheVariants as class
+use Rattle.std.specs.Prelude.{is_some, slice_get, ◌&&◌, nat_lt, if◌then◌else◌}
 use Rattle.net_names.specs.declared.routes.Rel.{Rel}
 use Rattle.net_names.specs.declared.routes.State.{State}
 use Rattle.net_names.specs.Prefixes.{PrefixValue}
-use Rattle.policy_laws.specs.Policy.{Policy}
+use Rattle.policy_laws.specs.Policy.{Policy, is_own_or_customers}
 use Rattle.stability_laws.specs.declared.entry.Entry.{Entry}
 use Rattle.stability_laws.specs.declared.entry.Seed.{Seed}
 use Rattle.stability_laws.specs.Entries.{seed_entry}
 use Rattle.stability_laws.specs.Offers.{Setting, Offer, offer_given, offer, passes, view_of}
 use Rattle.stability_laws.specs.Stable.{IsStable, IsRightGiven}
 use Rattle.stability_laws.specs.Plans.{Plan, IsSound, has_prefix, announced_path, announces, leaks_in}
-use Rattle.stability_laws.specs.Rounds.{seed_given, seeds_of, leaked_class, AreRounds}
+use Rattle.stability_laws.specs.Rounds.{seed_given, seeds_of, AreRounds}
 use Rattle.stability_laws.proofs.Local.{given_when}
 
 -- an offer is over a link, of an entry that the giver holds, whose path it puts after the receiver
@@ -25,11 +23,9 @@ offer_path A s r st n a (Some from) (Some d) o e f =
     let is = given_when (passes s.exports r a from d (view_of s.marks st n from d)) _ o e in
     subst A (ap (λ (t : Offer). t.entry.path) is) (f from d refl refl)
 
-leaked_path : (A : List ℕ → Type 0) (c : Class) (e : Entry) (s : Seed) → leaked_class c e ≡ Some s → A e.path → A s.path
-leaked_path A class.Origin e s q h = absurd (let k : None ≡ Some s = q in cc)
-leaked_path A class.Customer e s q h = absurd (let k : None ≡ Some s = q in cc)
-leaked_path A class.Peer e s q h = let k : record { path = e.path; otc = e.otc } ≡ s = cc in subst (λ (t : Seed). A t.path) k h
-leaked_path A class.Provider e s q h = let k : record { path = e.path; otc = e.otc } ≡ s = cc in subst (λ (t : Seed). A t.path) k h
+leaked_path : (A : List ℕ → Type 0) (own : Bool) (e : Entry) (s : Seed) → (if own then None else Some (record { path = e.path; otc = e.otc })) ≡ Some s → A e.path → A s.path
+leaked_path A true e s q h = absurd (let k : None ≡ Some s = q in cc)
+leaked_path A false e s q h = let k : record { path = e.path; otc = e.otc } ≡ s = cc in subst (λ (t : Seed). A t.path) k h
 
 -- a seed's path is announced, or was held in the round before
 seed_path : (A : List ℕ → Type 0) (announced : Option (List ℕ)) (leaks : Bool) (held : Option Entry) (s : Seed) → seed_given announced leaks held ≡ Some s →
@@ -37,7 +33,7 @@ seed_path : (A : List ℕ → Type 0) (announced : Option (List ℕ)) (leaks : B
 seed_path A (Some path) leaks held s q f g = let k : record { path = path; otc = None } ≡ s = cc in subst (λ (t : Seed). A t.path) k (f path refl)
 seed_path A None false held s q f g = absurd (let k : None ≡ Some s = q in cc)
 seed_path A None true None s q f g = absurd (let k : None ≡ Some s = q in cc)
-seed_path A None true (Some e) s q f g = leaked_path A e.class e s q (g e refl refl refl)
+seed_path A None true (Some e) s q f g = leaked_path A (is_own_or_customers e.class) e s q (g e refl refl refl)
 
 module _ (setting : PrefixValue → Setting) (ends : (p : PrefixValue) (a b : ℕ) (r : Rel) → (setting p).relation a b ≡ Some r → (setting p).has b ≡ true) (plan : Plan) (sound : IsSound plan) (rounds : ℕ) (g : ℕ → PrefixValue → ℕ → Option Entry) (g_is : AreRounds setting plan rounds g) where
   -- an entry's path is that of a seed, or that of a neighbour's entry after the AS

@@ -1,8 +1,7 @@
 -- The seeds of a round, and the routings of all rounds.
-use Rattle.std.specs.Prelude.{ℕ, suc, ◌<◌, Bool, true, false, ◌&&◌, nat_lt, IsTrue, Option, None, Some, List}
-use Rattle.net_names.specs.declared.routes.Class.{Class}
-use Rattle.net_names.specs.declared.routes.Class.TheVariants.{Origin, Customer, Peer, Provider}
+use Rattle.std.specs.Prelude.{ℕ, suc, ◌<◌, Bool, true, ◌&&◌, nat_lt, IsTrue, if◌then◌else◌, Option, None, Some, List}
 use Rattle.net_names.specs.Prefixes.{PrefixValue}
+use Rattle.policy_laws.specs.Policy.{is_own_or_customers}
 use Rattle.stability_laws.specs.declared.entry.Entry.{Entry}
 use Rattle.stability_laws.specs.declared.entry.Seed.{Seed}
 use Rattle.stability_laws.specs.Offers.{Setting}
@@ -10,19 +9,11 @@ use Rattle.stability_laws.specs.Plans.{has_prefix, announced_path, leaks_in}
 use Rattle.stability_laws.specs.Stable.{IsStable}
 pub use Rattle.stability_laws.specs.Plans.{Plan, announcement_cmp}
 
--- what a leaker puts in of an entry that it held: its path and number, where a peer or a provider gave it (RFC 7908, section 3, route leaks)
-abbrev pub leaked_class : Class → Entry → Option Seed
-leaked_class Origin e = None
-leaked_class Customer e = None
-leaked_class Peer e = Some (record { path = e.path; otc = e.otc })
-leaked_class Provider e = Some (record { path = e.path; otc = e.otc })
-
--- the seed of an AS: the path that it announces, without a number; else, at a leaker, what it leaks of what it held in the round before
+-- the seed of an AS: the path that it announces, without a number; else, at a leaker, the path and the number of what it held in the round before, where a peer or a provider gave it (RFC 7908, section 3, route leaks)
 abbrev pub seed_given : Option (List ℕ) → Bool → Option Entry → Option Seed
 seed_given (Some path) leaks held = Some (record { path = path; otc = None })
-seed_given None false held = None
-seed_given None true None = None
-seed_given None true (Some e) = leaked_class e.class e
+seed_given None true (Some e) = if is_own_or_customers e.class then None else Some (record { path = e.path; otc = e.otc })
+seed_given None leaks held = None
 
 -- the seeds of a round and a prefix, given the routing of the round before, in which leakers look up what they leak; in round 1 none leaks
 abbrev pub seeds_of : Plan → ℕ → PrefixValue → (ℕ → Option Entry) → ℕ → Option Seed

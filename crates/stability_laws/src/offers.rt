@@ -1,9 +1,9 @@
 //! Which offer one AS makes to another.
-ghost use Rattle.std.specs.Prelude.{◌≡◌, ◌<◌, ◌-◌, ◌^◌, ℕ, Some, None, length, option_map, if◌then◌else◌};
+ghost use Rattle.std.specs.Prelude.{◌≡◌, ◌<◌, ◌-◌, ◌^◌, ℕ, Some, length, option_map, slice_get};
 ghost use Rattle.net_names.specs.Numbers.{last_or};
 ghost use Rattle.net_names.specs.Links.{converse};
 ghost use Rattle.stability_laws.specs.Entries.{class_of as class_of_rel};
-ghost use Rattle.stability_laws.specs.Offers.{number_sent as sent_number, number_kept as kept_number, offer_given, is_empty};
+ghost use Rattle.stability_laws.specs.Offers.{number_sent as sent_number, number_kept as kept_number, offer_given};
 ghost use Rattle.stability_laws.specs.Carried.{number_carried};
 
 use crate::entry::Entry;
@@ -68,7 +68,7 @@ pub fn carried<P: RoutePolicy>(
 
 /// The last number of a path, where it has one.
 fn last_of(path: &[Asn]) -> Option<Asn>
-    ensures { result ≡ (if is_empty path.now then None else Some (last_or 0 path.now)) }
+    ensures { result ≡ option_map (λ _. last_or 0 path.now) (slice_get path.now 0) }
 {
     path.last().copied()
 }
