@@ -18,8 +18,8 @@ use Rattle.asprop.specs.Streams.{Stream}
 use Rattle.asprop.specs.Task.{Task, first_text}
 use Rattle.asprop.specs.Replies.{AnswersLine, AppendsReply, IsReply, AnswersLines, head}
 use Rattle.asprop.specs.Written.{Answering, IsPassedOn, Wrote}
-use Rattle.asprop.specs.declared.types.Stop.{Stop}
-use Rattle.asprop.specs.declared.types.Stop.TheVariants as stop
+use Rattle.asprop.specs.declared.types.Failure.{Failure}
+use Rattle.asprop.specs.declared.types.Failure.TheVariants as failure
 
 -- the task of these lines in this world
 abbrev pub task_of : Bool → Bool → World → List LineValue → Task
@@ -107,7 +107,7 @@ either refused first after (inl h) = or_first refused first after h.0 h.1
 either refused first after (inr h) = or_other refused first after h.0 h.1
 
 pub whole : (heads : Bool) (start now : World) (lines : List LineValue) (i : ℕ) (refused : Bool) (old mid new : Option (List ℕ)) (held : List ℕ) → SoFar heads start now (take i lines) refused old mid held → Appends mid new held
-    → Answering (task_of false heads start lines) (Err stop.Memory) (sink_of old new (Unit {0}))
+    → Answering (task_of false heads start lines) (Err failure.Memory) (sink_of old new (Unit {0}))
 whole heads start now lines i refused old mid new held so last = inr (i, refused, ended heads start now (take i lines) lines refused old mid new held so last)
 
 pub all : (heads : Bool) (start now : World) (lines : List LineValue) (i : ℕ) (refused : Bool) (old mid new : Option (List ℕ)) (held : List ℕ) → SoFar heads start now (take i lines) refused old mid held → Appends mid new held → length lines ≤ i
@@ -123,14 +123,14 @@ next heads start now after lines i d refused first old mid new held front left l
 
 -- what was held back was written in part
 pub held_part : (heads : Bool) (start now : World) (lines : List LineValue) (i : ℕ) (refused : Bool) (old mid new : Option (List ℕ)) (rose : Type 0) (held : List ℕ) → rose
-    → SoFar heads start now (take i lines) refused old mid held → AppendsFront mid new held → Answering (task_of false heads start lines) (Err stop.Write) (sink_of old new rose)
+    → SoFar heads start now (take i lines) refused old mid held → AppendsFront mid new held → Answering (task_of false heads start lines) (Err failure.Write) (sink_of old new rose)
 held_part heads start now lines i refused old mid new rose held r so last =
     (i, refused, (so.text ++ held, told_so_far heads start now (take i lines) refused old mid held so, (r, Appends-front old mid new so.text held so.appends last)))
 
 -- what was held back and the answer to one more line were written in part
 pub part : (heads : Bool) (start now after : World) (lines : List LineValue) (i : ℕ) (d : LineValue) (refused first : Bool) (old mid new : Option (List ℕ)) (rose : Type 0) (held front : List ℕ) → rose → i < length lines
     → SoFar heads start now (take i lines) refused old mid held → AnswersLine heads now (get_or lines i d) front first after → AppendsFront mid new (held ++ front)
-    → Answering (task_of false heads start lines) (Err stop.Write) (sink_of old new rose)
+    → Answering (task_of false heads start lines) (Err failure.Write) (sink_of old new rose)
 part heads start now after lines i d refused first old mid new rose held front r l so answered last =
     let told : AnswersLines heads start (take (i + 1) lines) ((so.text ++ held) ++ front) (refused || first) =
     rw (take_more lines i d l)
@@ -156,16 +156,16 @@ reason_of w e (refused.Limit which) other h = h
 reason_of w e (refused.ProviderCycle cycle) other h = h
 
 -- answers that follow what comes first
-pub after_first : (counts heads : Bool) (w : World) (lines : List LineValue) (result : Result Bool Stop) (old mid new : Option (List ℕ)) (later rose : Type 0) → (later → rose) → Appends old mid (first_text counts w)
+pub after_first : (counts heads : Bool) (w : World) (lines : List LineValue) (result : Result Bool Failure) (old mid new : Option (List ℕ)) (later rose : Type 0) → (later → rose) → Appends old mid (first_text counts w)
     → Answering (task_of false heads w lines) result (sink_of mid new later) → Answering (task_of counts heads w lines) result (sink_of old new rose)
 after_first counts heads w lines (Ok refused) old mid new later rose r a h = (h.0, h.1, Appends-trans old mid new (first_text counts w) h.0 a h.2)
-after_first counts heads w lines (Err stop.Memory) old mid new later rose r a (inl h) = inr (0, false, ([], (refl, refl), Appends-trans old mid new (first_text counts w) [] a h))
-after_first counts heads w lines (Err stop.Memory) old mid new later rose r a (inr h) = inr (h.0, h.1, (h.2.0, h.2.1, Appends-trans old mid new (first_text counts w) h.2.0 a h.2.2))
-after_first counts heads w lines (Err stop.Write) old mid new later rose r a h = (h.0, h.1, (h.2.0, h.2.1, (r h.2.2.0, Appends-front old mid new (first_text counts w) h.2.0 a h.2.2.1)))
-after_first counts heads w lines (Err (stop.Cycle cycle)) old mid new later rose r a h = h
-after_first counts heads w lines (Err (stop.Fault f)) old mid new later rose r a h = h
+after_first counts heads w lines (Err failure.Memory) old mid new later rose r a (inl h) = inr (0, false, ([], (refl, refl), Appends-trans old mid new (first_text counts w) [] a h))
+after_first counts heads w lines (Err failure.Memory) old mid new later rose r a (inr h) = inr (h.0, h.1, (h.2.0, h.2.1, Appends-trans old mid new (first_text counts w) h.2.0 a h.2.2))
+after_first counts heads w lines (Err failure.Write) old mid new later rose r a h = (h.0, h.1, (h.2.0, h.2.1, (r h.2.2.0, Appends-front old mid new (first_text counts w) h.2.0 a h.2.2.1)))
+after_first counts heads w lines (Err (failure.Cycle cycle)) old mid new later rose r a h = h
+after_first counts heads w lines (Err (failure.Fault f)) old mid new later rose r a h = h
 
 -- a front of what comes first
 pub front_of_first : (counts heads : Bool) (w : World) (lines : List LineValue) (old new : Option (List ℕ)) (rose : Type 0) → rose → AppendsFront old new (first_text counts w)
-    → Answering (task_of counts heads w lines) (Err stop.Write) (sink_of old new rose)
+    → Answering (task_of counts heads w lines) (Err failure.Write) (sink_of old new rose)
 front_of_first counts heads w lines old new rose r h = (0, false, ([], (refl, refl), (r, subst (λ (l : List ℕ). AppendsFront old new l) (sym (append-nil (first_text counts w))) h)))

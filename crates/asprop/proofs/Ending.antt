@@ -15,8 +15,8 @@ use Rattle.task_reading.specs.declared.asking.Asked.{Asked}
 use Rattle.task_reading.specs.declared.types.AskError.{AskError}
 use Rattle.asprop.specs.Texts.{ending_of}
 use Rattle.asprop.specs.Runs.{Outcome, Explained, Reports, IsRun, Worked}
-use Rattle.asprop.specs.declared.types.Stop.{Stop}
-use Rattle.asprop.specs.declared.types.Stop.TheVariants as stop
+use Rattle.asprop.specs.declared.types.Failure.{Failure}
+use Rattle.asprop.specs.declared.types.Failure.TheVariants as failure
 use Rattle.task_reading.specs.declared.types.Status.{Status}
 use Rattle.task_reading.specs.declared.types.Status.TheVariants as status
 use Rattle.task_reading.specs.declared.types.Fault.{Fault}
@@ -24,23 +24,23 @@ use Rattle.task_reading.specs.declared.types.Fault.TheVariants as fault
 use Rattle.task_reading.proofs.Preparing.{none_read}
 
 -- nothing was written, or whole answers, where memory ran out
-by_memory : (task : Result Task Fault) (reason : Stop) (out : Stream) → (reason ≡ stop.Write → ⊥) → Outcome task (Err reason) out → Outcome task (Err stop.Memory) out
-by_memory (Ok task) stop.Memory out not_write w = w
-by_memory (Ok task) stop.Write out not_write w = absurd (not_write refl)
-by_memory (Ok task) (stop.Cycle cycle) out not_write w = (inl w.1, λ _. w.1)
-by_memory (Ok task) (stop.Fault f) out not_write w = absurd w
-by_memory (Err f) stop.Memory out not_write w = w
-by_memory (Err f) stop.Write out not_write w = absurd w
-by_memory (Err f) (stop.Cycle cycle) out not_write w = absurd w
-by_memory (Err f) (stop.Fault found) out not_write w = w.1
+by_memory : (task : Result Task Fault) (reason : Failure) (out : Stream) → (reason ≡ failure.Write → ⊥) → Outcome task (Err reason) out → Outcome task (Err failure.Memory) out
+by_memory (Ok task) failure.Memory out not_write w = w
+by_memory (Ok task) failure.Write out not_write w = absurd (not_write refl)
+by_memory (Ok task) (failure.Cycle cycle) out not_write w = (inl w.1, λ _. w.1)
+by_memory (Ok task) (failure.Fault f) out not_write w = absurd w
+by_memory (Err f) failure.Memory out not_write w = w
+by_memory (Err f) failure.Write out not_write w = absurd w
+by_memory (Err f) (failure.Cycle cycle) out not_write w = absurd w
+by_memory (Err f) (failure.Fault found) out not_write w = w.1
 
 module _ {from : Source} {words : List (List ℕ)} {out err : Stream} where
-  -- a stop that was explained
-  pub explained : (reason : Stop) (s : Status) → Worked from (form_of words) (Err reason) out → Explained (form_of words) reason s err → IsRun from words s out err
+  -- a failure that was explained
+  pub explained : (reason : Failure) (s : Status) → Worked from (form_of words) (Err reason) out → Explained (form_of words) reason s err → IsRun from words s out err
   explained reason s w h =
       let works : Outcome (task_of (form_of words) w.reads) (Err h.told) out = elim h.is [
-        | inl own ↦ subst (λ (r : Stop). Outcome (task_of (form_of words) w.reads) (Err r) out) (sym own) w.works
-        | inr short ↦ subst (λ (r : Stop). Outcome (task_of (form_of words) w.reads) (Err r) out) (sym short.0) (by_memory (task_of (form_of words) w.reads) reason out short.1 w.works)
+        | inl own ↦ subst (λ (r : Failure). Outcome (task_of (form_of words) w.reads) (Err r) out) (sym own) w.works
+        | inr short ↦ subst (λ (r : Failure). Outcome (task_of (form_of words) w.reads) (Err r) out) (sym short.0) (by_memory (task_of (form_of words) w.reads) reason out short.1 w.works)
       ] in
       record { reads = w.reads; are_read = w.are_read; ends = record { result = Err h.told; works = works; status = h.status; says = h.says } }
 
@@ -49,28 +49,28 @@ module _ {from : Source} {words : List (List ℕ)} {out err : Stream} where
   all_written refused s is w nil = record { reads = w.reads; are_read = w.are_read; ends = record { result = Ok refused; works = w.works; status = is; says = inl nil } }
 
 -- nothing was written where memory ran out
-idle : (task : Result Task Fault) (out : Stream) → out.wrote [] → Outcome task (Err stop.Memory) out
+idle : (task : Result Task Fault) (out : Stream) → out.wrote [] → Outcome task (Err failure.Memory) out
 idle (Ok task) out nil = (inl nil, λ _. nil)
 idle (Err f) out nil = nil
 
 -- memory ran out before the words were read
-pub unformed : {from : Source} {words : List (List ℕ)} {out err : Stream} (s : Status) → Explained None stop.Memory s err → out.wrote [] → IsRun from words s out err
+pub unformed : {from : Source} {words : List (List ℕ)} {out err : Stream} (s : Status) → Explained None failure.Memory s err → out.wrote [] → IsRun from words s out err
 unformed {from} {words} {out} {err} s h nil =
     let r = none_read from (form_of words) in
-    let told : h.told ≡ stop.Memory = elim h.is [ inl own ↦ own | inr short ↦ short.0 ] in
+    let told : h.told ≡ failure.Memory = elim h.is [ inl own ↦ own | inr short ↦ short.0 ] in
     record {
       reads = r.0;
       are_read = r.1;
       ends = record {
-        result = Err stop.Memory;
+        result = Err failure.Memory;
         works = idle (task_of (form_of words) r.0) out nil;
-        status = h.status ∙ ap (λ (t : Stop). (ending_of None (Err t)).0) told;
-        says = subst (λ (t : Stop). Reports (ending_of None (Err t)).1 err) told h.says;
+        status = h.status ∙ ap (λ (t : Failure). (ending_of None (Err t)).0) told;
+        says = subst (λ (t : Failure). Reports (ending_of None (Err t)).1 err) told h.says;
       };
     }
 
 -- the files were read as far as memory held them, and it ran out before an answer
-pub no_memory : {from : Source} {form : Option Form} {result : Result Asked AskError} {out : Stream} → Prepares from form result → out.wrote [] → Worked from form (Err stop.Memory) out
+pub no_memory : {from : Source} {form : Option Form} {result : Result Asked AskError} {out : Stream} → Prepares from form result → out.wrote [] → Worked from form (Err failure.Memory) out
 no_memory {form} {out} p nil = record { reads = p.reads; are_read = p.are_read; works = idle (task_of form p.reads) out nil }
 
 -- the task in the world of what was asked for
@@ -88,16 +88,16 @@ many_ases : (x : Asked) → 150000 < as_count (topology (task_in x).world) → w
 many_ases x many = rw (lt-ltb 150000 (as_count (topology (task_in x).world)) many) refl
 
 -- what was written of the answers, in a world without a provider cycle
-answering : (task : Task) (result : Result Bool Stop) (out : Stream) → (HasCycle task.world → ⊥) → Answering task result out → Outcome (Ok task) result out
+answering : (task : Task) (result : Result Bool Failure) (out : Stream) → (HasCycle task.world → ⊥) → Answering task result out → Outcome (Ok task) result out
 answering task (Ok refused) out none h = (none, h)
-answering task (Err stop.Memory) out none h = (h, λ cycle. absurd (none cycle))
-answering task (Err stop.Write) out none h = (none, h)
-answering task (Err (stop.Cycle cycle)) out none h = absurd h
-answering task (Err (stop.Fault f)) out none h = absurd h
+answering task (Err failure.Memory) out none h = (h, λ cycle. absurd (none cycle))
+answering task (Err failure.Write) out none h = (none, h)
+answering task (Err (failure.Cycle cycle)) out none h = absurd h
+answering task (Err (failure.Fault f)) out none h = absurd h
 
 module _ {from : Source} {form : Option Form} {out : Stream} where
   -- the task is the one that was asked for
-  on_task : (x : Asked) (p : Prepares from form (Ok x)) (result : Result Bool Stop) → as_count (topology (task_in x).world) ≤ 150000 → Outcome (Ok (task_in x)) result out → Worked from form result out
+  on_task : (x : Asked) (p : Prepares from form (Ok x)) (result : Result Bool Failure) → as_count (topology (task_in x).world) ≤ 150000 → Outcome (Ok (task_in x)) result out → Worked from form result out
   on_task x p result few w = record {
     reads = p.reads;
     are_read = p.are_read;
@@ -105,7 +105,7 @@ module _ {from : Source} {form : Option Form} {out : Stream} where
   }
 
   -- answers were written
-  pub worked : (x : Asked) (w : World) (result : Result Bool Stop) → Prepares from form (Ok x) → w ≡ (task_in x).world → as_count (topology w) ≤ 150000 → (HasCycle w → ⊥)
+  pub worked : (x : Asked) (w : World) (result : Result Bool Failure) → Prepares from form (Ok x) → w ≡ (task_in x).world → as_count (topology w) ≤ 150000 → (HasCycle w → ⊥)
       → Answering (record (task_in x) { world = w }) result out → Worked from form result out
   worked x w result p is few none h =
       on_task x p result (subst (λ (w : World). as_count (topology w) ≤ 150000) is few)
@@ -113,21 +113,21 @@ module _ {from : Source} {form : Option Form} {out : Stream} where
 
   -- the world has a provider cycle
   pub cyclic : (x : Asked) (cycle : List ℕ) → Prepares from form (Ok x) → (as_count (topology (task_in x).world) ≤ 150000) × IsCycleFromLowest (relation (topology (task_in x).world)) cycle → out.wrote []
-      → Worked from form (Err (stop.Cycle cycle)) out
-  cyclic x cycle p h nil = on_task x p (Err (stop.Cycle cycle)) h.0 (h.1, nil)
+      → Worked from form (Err (failure.Cycle cycle)) out
+  cyclic x cycle p h nil = on_task x p (Err (failure.Cycle cycle)) h.0 (h.1, nil)
 
   -- the world is too large
-  pub too_many : (x : Asked) → Prepares from form (Ok x) → 150000 < as_count (topology (task_in x).world) → out.wrote [] → Worked from form (Err (stop.Fault fault.TooManyAses)) out
+  pub too_many : (x : Asked) → Prepares from form (Ok x) → 150000 < as_count (topology (task_in x).world) → out.wrote [] → Worked from form (Err (failure.Fault fault.TooManyAses)) out
   too_many x p many nil = record {
     reads = p.reads;
     are_read = p.are_read;
-    works = subst (λ (t : Result Task Fault). Outcome t (Err (stop.Fault fault.TooManyAses)) out) (sym (ap (λ (t : Result Asked Fault). t >>= within_limits) p.finds ∙ many_ases x many)) (refl, nil);
+    works = subst (λ (t : Result Task Fault). Outcome t (Err (failure.Fault fault.TooManyAses)) out) (sym (ap (λ (t : Result Asked Fault). t >>= within_limits) p.finds ∙ many_ases x many)) (refl, nil);
   }
 
--- a stop is explained by its own text
-pub own : {form : Option Form} {s : Status} {err : Stream} (reason : Stop) → s ≡ (ending_of form (Err reason)).0 → Reports (ending_of form (Err reason)).1 err → Explained form reason s err
+-- a failure is explained by its own text
+pub own : {form : Option Form} {s : Status} {err : Stream} (reason : Failure) → s ≡ (ending_of form (Err reason)).0 → Reports (ending_of form (Err reason)).1 err → Explained form reason s err
 own reason is says = record { told = reason; is = inl refl; status = is; says = says }
 
 -- or by the text for want of memory
-pub short : {form : Option Form} {err : Stream} (reason : Stop) → (reason ≡ stop.Write → ⊥) → Reports (ending_of form (Err stop.Memory)).1 err → Explained form reason status.NoMemory err
-short reason not_write says = record { told = stop.Memory; is = inr (refl, not_write); status = refl; says = says }
+pub short : {form : Option Form} {err : Stream} (reason : Failure) → (reason ≡ failure.Write → ⊥) → Reports (ending_of form (Err failure.Memory)).1 err → Explained form reason status.NoMemory err
+short reason not_write says = record { told = failure.Memory; is = inr (refl, not_write); status = refl; says = says }

@@ -5,7 +5,7 @@ use Rattle.task_reading.specs.Sources.{Source}
 use Rattle.asprop.specs.Runs.{Explained, IsRun}
 use Rattle.asprop.specs.Started.{Args, IsWordsOf, Starts}
 use Rattle.task_reading.specs.declared.types.Status.{Status}
-use Rattle.asprop.specs.declared.types.Stop.{Stop}
+use Rattle.asprop.specs.declared.types.Failure.{Failure}
 
 -- the run went over the words that the arguments give
 pub over_words : {from : Source} {out err : Stream} (args : Args) (words : Vec (String Global) Global) (s : Status) → IsWordsOf args (Ok words)
@@ -14,6 +14,6 @@ over_words (Ok args) words s given ran = inl (words.items, given, ran)
 over_words (Err error) words s given ran = absurd given
 
 -- there are no words, and the reason was told
-pub without_words : (from : Source) (out err : Stream) (args : Args) (reason : Stop) (s : Status) → IsWordsOf args (Err reason) → Explained None reason s err → out.wrote [] → Starts from args s out err
-without_words from out err (Ok args) reason s is told nil = inr (subst (λ (r : Stop). Explained None r s err) is told, nil)
-without_words from out err (Err error) reason s is told nil = (subst (λ (r : Stop). Explained None r s err) is told, nil)
+pub without_words : (from : Source) (out err : Stream) (args : Args) (reason : Failure) (s : Status) → IsWordsOf args (Err reason) → Explained None reason s err → out.wrote [] → Starts from args s out err
+without_words from out err (Ok args) reason s is told nil = inr (subst (λ (r : Failure). Explained None r s err) is told, nil)
+without_words from out err (Err error) reason s is told nil = (subst (λ (r : Failure). Explained None r s err) is told, nil)

@@ -13,8 +13,8 @@ use Rattle.asprop.specs.Runs.{Outcome, Run, IsRun}
 use Rattle.asprop.specs.Statuses.{RunsAsTold, IsComplete}
 use Rattle.task_reading.specs.declared.types.File.{File}
 use Rattle.task_reading.specs.declared.types.Fault.{Fault}
-use Rattle.asprop.specs.declared.types.Stop.{Stop}
-use Rattle.asprop.specs.declared.types.Stop.TheVariants as stop
+use Rattle.asprop.specs.declared.types.Failure.{Failure}
+use Rattle.asprop.specs.declared.types.Failure.TheVariants as failure
 use Rattle.task_reading.specs.declared.types.Status.{Status}
 use Rattle.task_reading.specs.declared.types.Status.TheVariants as status
 
@@ -24,14 +24,14 @@ read_is held fails None bytes h told ok = absurd (ok h)
 read_is held fails (Some read) bytes h told ok = let P : Option (List ℕ) → Type 0 = λ held. IsRead held fails (Some read) in ap Some (subst P told h)
 
 -- the status of a run over a task whose world has no provider cycle, where no write fails
-succeeds : (form : Option Form) (task : Task) (result : Result Bool Stop) (out : Stream) → ((text : List ℕ) → out.failed text → ⊥) → (HasCycle task.world → ⊥) → Outcome (Ok task) result out
+succeeds : (form : Option Form) (task : Task) (result : Result Bool Failure) (out : Stream) → ((text : List ℕ) → out.failed text → ⊥) → (HasCycle task.world → ⊥) → Outcome (Ok task) result out
     → ((ending_of form result).0 ≡ status.Done) ⊎ (((ending_of form result).0 ≡ status.SomeRefused) ⊎ ((ending_of form result).0 ≡ status.NoMemory))
 succeeds form task (Ok false) out quiet none w = inl refl
 succeeds form task (Ok true) out quiet none w = inr (inl refl)
-succeeds form task (Err stop.Memory) out quiet none w = inr (inr refl)
-succeeds form task (Err stop.Write) out quiet none w = absurd (quiet _ w.1.2.2)
-succeeds form task (Err (stop.Cycle cycle)) out quiet none w = absurd (none (cycle, w.0.cycle))
-succeeds form task (Err (stop.Fault f)) out quiet none w = absurd w
+succeeds form task (Err failure.Memory) out quiet none w = inr (inr refl)
+succeeds form task (Err failure.Write) out quiet none w = absurd (quiet _ w.1.2.2)
+succeeds form task (Err (failure.Cycle cycle)) out quiet none w = absurd (none (cycle, w.0.cycle))
+succeeds form task (Err (failure.Fault f)) out quiet none w = absurd w
 
 module _ {from : Source} {words : List (List ℕ)} {s : Status} {out err : Stream} where
   pub as_told : IsRun from words s out err → RunsAsTold from words s out err

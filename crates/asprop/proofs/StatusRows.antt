@@ -12,8 +12,8 @@ use Rattle.asprop.specs.Runs.{Outcome, IsRun}
 use Rattle.task_reading.specs.declared.types.File.{File}
 use Rattle.task_reading.specs.declared.types.Fault.{Fault}
 use Rattle.task_reading.specs.declared.types.Fault.TheVariants as fault
-use Rattle.asprop.specs.declared.types.Stop.{Stop}
-use Rattle.asprop.specs.declared.types.Stop.TheVariants as stop
+use Rattle.asprop.specs.declared.types.Failure.{Failure}
+use Rattle.asprop.specs.declared.types.Failure.TheVariants as failure
 use Rattle.task_reading.specs.declared.types.Status.{Status}
 use Rattle.task_reading.specs.declared.types.Status.TheVariants as status
 use Rattle.task_reading.proofs.Faults.{Stopped, no_form, unread, by_value, bind_err, chosen_err, of_asked, status_of, too_many}
@@ -31,7 +31,7 @@ of_task form reads e h =
     ]
 
 -- the work stops by a fault only for the reason of that fault
-fault_by : (form : Option Form) (reads : Reads) (task : Result Task Fault) (f : Fault) (out : Stream) → task_of form reads ≡ task → Outcome task (Err (stop.Fault f)) out → Stopped form reads f
+fault_by : (form : Option Form) (reads : Reads) (task : Result Task Fault) (f : Fault) (out : Stream) → task_of form reads ≡ task → Outcome task (Err (failure.Fault f)) out → Stopped form reads f
 fault_by form reads (Ok task) f out is w = absurd w
 fault_by form reads (Err e) f out is w = subst (Stopped form reads) (sym w.0) (of_task form reads e is)
 
@@ -40,50 +40,50 @@ usage_stop form reads _ (no_form is) h = is
 usage_stop form reads _ (unread which is) h = cc
 usage_stop form reads _ (by_value f is) h = absurd (is.usage h)
 
-usage_by : (form : Option Form) (reads : Reads) (result : Result Bool Stop) (out : Stream) → Outcome (task_of form reads) result out → status.Usage ≡ (ending_of form result).0 → form ≡ None
+usage_by : (form : Option Form) (reads : Reads) (result : Result Bool Failure) (out : Stream) → Outcome (task_of form reads) result out → status.Usage ≡ (ending_of form result).0 → form ≡ None
 usage_by form reads (Ok true) out w h = cc
 usage_by form reads (Ok false) out w h = cc
-usage_by form reads (Err stop.Memory) out w h = cc
-usage_by form reads (Err stop.Write) out w h = cc
-usage_by form reads (Err (stop.Cycle cycle)) out w h = cc
-usage_by form reads (Err (stop.Fault f)) out w h = usage_stop form reads f (fault_by form reads (task_of form reads) f out refl w) h
+usage_by form reads (Err failure.Memory) out w h = cc
+usage_by form reads (Err failure.Write) out w h = cc
+usage_by form reads (Err (failure.Cycle cycle)) out w h = cc
+usage_by form reads (Err (failure.Fault f)) out w h = usage_stop form reads f (fault_by form reads (task_of form reads) f out refl w) h
 
-usage_there : (form : Option Form) (result : Result Bool Stop) (out : Stream) → Outcome (Err fault.Usage) result out → ((ending_of form result).0 ≡ status.Usage) ⊎ ((ending_of form result).0 ≡ status.NoMemory)
+usage_there : (form : Option Form) (result : Result Bool Failure) (out : Stream) → Outcome (Err fault.Usage) result out → ((ending_of form result).0 ≡ status.Usage) ⊎ ((ending_of form result).0 ≡ status.NoMemory)
 usage_there form (Ok refused) out w = absurd w
-usage_there form (Err stop.Memory) out w = inr refl
-usage_there form (Err stop.Write) out w = absurd w
-usage_there form (Err (stop.Cycle cycle)) out w = absurd w
-usage_there form (Err (stop.Fault f)) out w = inl (ap (status_of form) w.0)
+usage_there form (Err failure.Memory) out w = inr refl
+usage_there form (Err failure.Write) out w = absurd w
+usage_there form (Err (failure.Cycle cycle)) out w = absurd w
+usage_there form (Err (failure.Fault f)) out w = inl (ap (status_of form) w.0)
 
 read_stop : (form : Option Form) (reads : Reads) (f : Fault) → Stopped form reads f → status.ReadFault ≡ status_of form f → (which : File) × (reads which ≡ None)
 read_stop form reads _ (no_form is) h = cc
 read_stop form reads _ (unread which is) h = (which, is)
 read_stop form reads _ (by_value f is) h = absurd (is.read h)
 
-read_by : (form : Option Form) (reads : Reads) (result : Result Bool Stop) (out : Stream) → Outcome (task_of form reads) result out → status.ReadFault ≡ (ending_of form result).0 → (which : File) × (reads which ≡ None)
+read_by : (form : Option Form) (reads : Reads) (result : Result Bool Failure) (out : Stream) → Outcome (task_of form reads) result out → status.ReadFault ≡ (ending_of form result).0 → (which : File) × (reads which ≡ None)
 read_by form reads (Ok true) out w h = cc
 read_by form reads (Ok false) out w h = cc
-read_by form reads (Err stop.Memory) out w h = cc
-read_by form reads (Err stop.Write) out w h = cc
-read_by form reads (Err (stop.Cycle cycle)) out w h = cc
-read_by form reads (Err (stop.Fault f)) out w h = read_stop form reads f (fault_by form reads (task_of form reads) f out refl w) h
+read_by form reads (Err failure.Memory) out w h = cc
+read_by form reads (Err failure.Write) out w h = cc
+read_by form reads (Err (failure.Cycle cycle)) out w h = cc
+read_by form reads (Err (failure.Fault f)) out w h = read_stop form reads f (fault_by form reads (task_of form reads) f out refl w) h
 
 write_stop : (form : Option Form) (reads : Reads) (f : Fault) → Stopped form reads f → status.WriteFault ≡ status_of form f → ⊥
 write_stop form reads _ (no_form is) h = cc
 write_stop form reads _ (unread which is) h = cc
 write_stop form reads _ (by_value f is) h = is.write h
 
-broken : (task : Result Task Fault) (out : Stream) → Outcome task (Err stop.Write) out → (text : List ℕ) × out.failed text
+broken : (task : Result Task Fault) (out : Stream) → Outcome task (Err failure.Write) out → (text : List ℕ) × out.failed text
 broken (Ok task) out w = (_, w.1.2.2)
 broken (Err f) out w = absurd w
 
-write_by : (form : Option Form) (reads : Reads) (result : Result Bool Stop) (out : Stream) → Outcome (task_of form reads) result out → status.WriteFault ≡ (ending_of form result).0 → (text : List ℕ) × out.failed text
+write_by : (form : Option Form) (reads : Reads) (result : Result Bool Failure) (out : Stream) → Outcome (task_of form reads) result out → status.WriteFault ≡ (ending_of form result).0 → (text : List ℕ) × out.failed text
 write_by form reads (Ok true) out w h = cc
 write_by form reads (Ok false) out w h = cc
-write_by form reads (Err stop.Memory) out w h = cc
-write_by form reads (Err stop.Write) out w h = broken (task_of form reads) out w
-write_by form reads (Err (stop.Cycle cycle)) out w h = cc
-write_by form reads (Err (stop.Fault f)) out w h = absurd (write_stop form reads f (fault_by form reads (task_of form reads) f out refl w) h)
+write_by form reads (Err failure.Memory) out w h = cc
+write_by form reads (Err failure.Write) out w h = broken (task_of form reads) out w
+write_by form reads (Err (failure.Cycle cycle)) out w h = cc
+write_by form reads (Err (failure.Fault f)) out w h = absurd (write_stop form reads f (fault_by form reads (task_of form reads) f out refl w) h)
 
 module _ {from : Source} {words : List (List ℕ)} {s : Status} {out err : Stream} where
   pub usage_row : IsRun from words s out err → form_of words ≡ None → (s ≡ status.Usage) ⊎ (s ≡ status.NoMemory)

@@ -13,23 +13,23 @@ use Rattle.asprop.specs.Texts.{ending_of}
 use Rattle.task_reading.specs.Files.{AreReads}
 use Rattle.asprop.specs.Written.{Wrote, WroteSome}
 use Rattle.task_reading.specs.declared.types.Fault.{Fault}
-use Rattle.asprop.specs.declared.types.Stop.{Stop}
-use Rattle.asprop.specs.declared.types.Stop.TheVariants as stop
+use Rattle.asprop.specs.declared.types.Failure.{Failure}
+use Rattle.asprop.specs.declared.types.Failure.TheVariants as failure
 use Rattle.task_reading.specs.declared.types.Status.{Status}
 
 -- What the work over a task or a fault ends with, and what it writes: all answers; or where memory ran out nothing, or whole answers to some lines in front; or where a write failed a front of such answers; or nothing, where there is a provider cycle, told from its lowest number on, or a fault.
-abbrev pub Outcome : Result Task Fault → Result Bool Stop → Stream → Type 0
+abbrev pub Outcome : Result Task Fault → Result Bool Failure → Stream → Type 0
 Outcome (Ok task) (Ok refused) out = (HasCycle task.world → ⊥) × Wrote task task.lines refused out.wrote
-Outcome (Ok task) (Err stop.Memory) out = (out.wrote [] ⊎ WroteSome task out.wrote) × (HasCycle task.world → out.wrote [])
-Outcome (Ok task) (Err stop.Write) out = (HasCycle task.world → ⊥) × WroteSome task out.failed
-Outcome (Ok task) (Err (stop.Cycle cycle)) out = IsCycleFromLowest (relation (topology task.world)) cycle × out.wrote []
-Outcome (Err fault) (Err stop.Memory) out = out.wrote []
-Outcome (Err fault) (Err (stop.Fault found)) out = (found ≡ fault) × out.wrote []
+Outcome (Ok task) (Err failure.Memory) out = (out.wrote [] ⊎ WroteSome task out.wrote) × (HasCycle task.world → out.wrote [])
+Outcome (Ok task) (Err failure.Write) out = (HasCycle task.world → ⊥) × WroteSome task out.failed
+Outcome (Ok task) (Err (failure.Cycle cycle)) out = IsCycleFromLowest (relation (topology task.world)) cycle × out.wrote []
+Outcome (Err fault) (Err failure.Memory) out = out.wrote []
+Outcome (Err fault) (Err (failure.Fault found)) out = (found ≡ fault) × out.wrote []
 Outcome _ _ out = ⊥
 
 -- A run over what was read of the files: how the work ends, and the status and the text of that end; the text was written, or a front of it where the sink failed.
 pub record Run (form : Option Form) (reads : Reads) (s : Status) (out err : Stream) : Type 0 where
-  pub result : Result Bool Stop
+  pub result : Result Bool Failure
   pub works : Outcome (task_of form reads) result out
   pub status : s ≡ (ending_of form result).0
   pub says : err.wrote (ending_of form result).1 ⊎ err.failed (ending_of form result).1
@@ -41,7 +41,7 @@ pub record IsRun (from : Source) (words : List Text) (s : Status) (out err : Str
   pub ends : Run (form_of words) reads s out err
 
 -- The files that a form names were read, and the answers written as far as the work got.
-pub record Worked (from : Source) (form : Option Form) (result : Result Bool Stop) (out : Stream) : Type 0 where
+pub record Worked (from : Source) (form : Option Form) (result : Result Bool Failure) (out : Stream) : Type 0 where
   pub reads : Reads
   pub are_read : AreReads from form reads
   pub works : Outcome (task_of form reads) result out
@@ -50,9 +50,9 @@ pub record Worked (from : Source) (form : Option Form) (result : Result Bool Sto
 abbrev pub Reports : Text → Stream → Type 0
 Reports text err = err.wrote text ⊎ err.failed text
 
--- how a stop is explained: by its own text, or where that can't be made by that for want of memory
-pub record Explained (form : Option Form) (reason : Stop) (s : Status) (err : Stream) : Type 0 where
-  pub told : Stop
-  pub is : (told ≡ reason) ⊎ ((told ≡ stop.Memory) × (reason ≡ stop.Write → ⊥))
+-- how a failure is explained: by its own text, or where that can't be made by that for want of memory
+pub record Explained (form : Option Form) (reason : Failure) (s : Status) (err : Stream) : Type 0 where
+  pub told : Failure
+  pub is : (told ≡ reason) ⊎ ((told ≡ failure.Memory) × (reason ≡ failure.Write → ⊥))
   pub status : s ≡ (ending_of form (Err told)).0
   pub says : Reports (ending_of form (Err told)).1 err

@@ -6,8 +6,8 @@ use Rattle.scenario_text.specs.LineValues.{LineValue}
 use Rattle.asprop.specs.Streams.{Stream}
 use Rattle.asprop.specs.Task.{Task, first_text}
 use Rattle.asprop.specs.Replies.{AnswersLines}
-use Rattle.asprop.specs.declared.types.Stop.{Stop}
-use Rattle.asprop.specs.declared.types.Stop.TheVariants as stop
+use Rattle.asprop.specs.declared.types.Failure.{Failure}
+use Rattle.asprop.specs.declared.types.Failure.TheVariants as failure
 
 -- what comes first, and the answers to these lines, were written so
 abbrev pub Wrote : Task → List LineValue → Bool → (Text → Type 0) → Type 0
@@ -18,10 +18,10 @@ abbrev pub WroteSome : Task → (Text → Type 0) → Type 0
 WroteSome task how = (count : ℕ) × (refused : Bool) × Wrote task (take count task.lines) refused how
 
 -- how answering ends
-abbrev pub Answering : Task → Result Bool Stop → Stream → Type 0
+abbrev pub Answering : Task → Result Bool Failure → Stream → Type 0
 Answering task (Ok refused) out = Wrote task task.lines refused out.wrote
-Answering task (Err stop.Memory) out = out.wrote [] ⊎ WroteSome task out.wrote
-Answering task (Err stop.Write) out = WroteSome task out.failed
+Answering task (Err failure.Memory) out = out.wrote [] ⊎ WroteSome task out.wrote
+Answering task (Err failure.Write) out = WroteSome task out.failed
 Answering task (Err _) out = ⊥
 
 -- of what was held back and a text behind it, a front was written, and the rest is held back

@@ -12,7 +12,7 @@ ghost use Rattle.asprop.specs.Streams.{stream_of};
 ghost use Rattle.asprop.specs.Written.{Answering, IsPassedOn};
 
 use crate::refusals::{put_done, put_edit_refusal, put_refusal};
-use crate::types::Stop;
+use crate::types::Failure;
 use io_edge::{Failed, Sink, write_all};
 use net_names::NoMemory;
 use route_choice::Steps;
@@ -136,7 +136,7 @@ fn answer_all<O: Sink>(
     heads: bool,
     lines: &[Line],
     out: &mut O,
-) -> Result<bool, Stop>
+) -> Result<bool, Failure>
     requires sound { AreSoundLines lines.now }
     requires kept { IsKept (world_seen sim.old) (kept sim.old) }
     requires no_cycle { HasCycle (world_seen sim.old) → ⊥ }
@@ -149,13 +149,13 @@ fn answer_all<O: Sink>(
         match answer_line(alloc, sim, heads, line, &mut text) {
             Err(_) => {
                 return match write_all(out, &held) {
-                    Err(Failed) => Err(Stop::Write),
-                    Ok(()) => Err(Stop::Memory),
+                    Err(Failed) => Err(Failure::Write),
+                    Ok(()) => Err(Failure::Memory),
                 };
             }
             Ok(first) => {
                 match pass_on(&text, &mut held, out) {
-                    Err(Failed) => return Err(Stop::Write),
+                    Err(Failed) => return Err(Failure::Write),
                     Ok(()) => {}
                 }
                 if first {
@@ -165,7 +165,7 @@ fn answer_all<O: Sink>(
         }
     }
     match write_all(out, &held) {
-        Err(Failed) => Err(Stop::Write),
+        Err(Failed) => Err(Failure::Write),
         Ok(()) => Ok(refused),
     }
 }
@@ -190,17 +190,17 @@ pub fn write_answers<O: Sink>(
     heads: bool,
     lines: &[Line],
     out: &mut O,
-) -> Result<bool, Stop>
+) -> Result<bool, Failure>
     requires sound { AreSoundLines lines.now }
     requires kept { IsKept (world_seen sim.old) (kept sim.old) }
     requires no_cycle { HasCycle (world_seen sim.old) → ⊥ }
     ensures { Answering (record { world = world_seen sim.old; lines = lines.now; heads = heads; counts = counts }) result (stream_of O.written O.faults out.old out.new) }
 {
     let Ok(first) = first_lines(alloc, sim, counts) else {
-        return Err(Stop::Memory);
+        return Err(Failure::Memory);
     };
     match write_all(out, first.as_bytes()) {
-        Err(Failed) => return Err(Stop::Write),
+        Err(Failed) => return Err(Failure::Write),
         Ok(()) => {}
     }
     answer_all(alloc, sim, heads, lines, out)

@@ -1,11 +1,11 @@
-//! What is said of a stop.
+//! What is said of a failure.
 ghost use Rattle.std.specs.Prelude.{◌≡◌, IfOk, None, option_map};
 ghost use Rattle.asprop.specs.Texts.{ending_of};
 ghost use Rattle.asprop.specs.Runs.{Explained, Reports};
 ghost use Rattle.asprop.specs.Streams.{stream_of};
 ghost use Rattle.task_reading.specs.Words.{form_seen};
 
-use crate::types::Stop;
+use crate::types::Failure;
 use cycle_check::Cycle;
 use io_edge::{Sink, write_all};
 use net_names::NoMemory;
@@ -15,7 +15,7 @@ use task_reading::{Status, WordForm, fault_message, fault_status};
 
 // The numbers of a cycle, the lowest first.
 fn cycle_message(alloc: Global, cycle: &Cycle) -> Result<Vec<u8>, NoMemory>
-    ensures { IfOk result (λ text. text.items ≡ (ending_of None (Err (Stop.Cycle cycle.now))).1) }
+    ensures { IfOk result (λ text. text.items ≡ (ending_of None (Err (Failure.Cycle cycle.now))).1) }
 {
     let mut text = Vec::new(alloc);
     if text.extend_from_slice(b"asprop: provider cycle: ").is_err() {
@@ -39,21 +39,21 @@ fn report<E: Sink>(err: &mut E, text: &[u8])
 pub fn explain<E: Sink>(
     alloc: Global,
     form: &Option<WordForm<'_>>,
-    stop: &Stop,
+    failure: &Failure,
     err: &mut E,
 ) -> Status
-    ensures { Explained (option_map form_seen form.now) stop.now result (stream_of E.written E.faults err.old err.new) }
+    ensures { Explained (option_map form_seen form.now) failure.now result (stream_of E.written E.faults err.old err.new) }
 {
-    match stop {
-        Stop::Memory => {
+    match failure {
+        Failure::Memory => {
             report(err, b"asprop: out of memory\n");
             Status::NoMemory
         }
-        Stop::Write => {
+        Failure::Write => {
             report(err, b"asprop: write fault\n");
             Status::WriteFault
         }
-        Stop::Cycle(cycle) => match cycle_message(alloc, cycle) {
+        Failure::Cycle(cycle) => match cycle_message(alloc, cycle) {
             Ok(text) => {
                 report(err, &text);
                 Status::BadInput
@@ -63,7 +63,7 @@ pub fn explain<E: Sink>(
                 Status::NoMemory
             }
         },
-        Stop::Fault(fault) => match fault_message(alloc, form, *fault) {
+        Failure::Fault(fault) => match fault_message(alloc, form, *fault) {
             Ok(text) => {
                 report(err, text.as_bytes());
                 fault_status(*fault)

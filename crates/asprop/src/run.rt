@@ -10,7 +10,7 @@ ghost use Rattle.task_reading.specs.declared.types.File.{File};
 
 use crate::answers::write_answers;
 use crate::explain::explain;
-use crate::types::Stop;
+use crate::types::Failure;
 use io_edge::{Inputs, Sink};
 use sim_core::{LoadError, Sim};
 use std::alloc::Global;
@@ -22,7 +22,7 @@ fn work<I: Inputs, O: Sink>(
     form: &Option<WordForm<'_>>,
     inputs: &mut I,
     out: &mut O,
-) -> Result<bool, Stop>
+) -> Result<bool, Failure>
     requires sized { HasSize (option_map form_seen form.now) }
     ensures { Worked (source_of I.holds I.is_sound I.faults inputs.old inputs.new)
         (option_map form_seen form.now) result (stream_of O.written O.faults out.old out.new) }
@@ -36,14 +36,14 @@ fn work<I: Inputs, O: Sink>(
         counts,
     } = match ask(alloc, form, inputs) {
         Ok(asked) => asked,
-        Err(AskError::Memory) => return Err(Stop::Memory),
-        Err(AskError::Fault(fault)) => return Err(Stop::Fault(fault)),
+        Err(AskError::Memory) => return Err(Failure::Memory),
+        Err(AskError::Fault(fault)) => return Err(Failure::Fault(fault)),
     };
     match Sim::load(alloc, links, vrps, scenario) {
         Ok(mut sim) => write_answers(alloc, &mut sim, counts, heads, lines.as_slice(), out),
-        Err(LoadError::Memory) => Err(Stop::Memory),
-        Err(LoadError::TooManyAses) => Err(Stop::Fault(Fault::TooManyAses)),
-        Err(LoadError::ProviderCycle(cycle)) => Err(Stop::Cycle(cycle)),
+        Err(LoadError::Memory) => Err(Failure::Memory),
+        Err(LoadError::TooManyAses) => Err(Failure::Fault(Fault::TooManyAses)),
+        Err(LoadError::ProviderCycle(cycle)) => Err(Failure::Cycle(cycle)),
     }
 }
 
@@ -89,11 +89,11 @@ pub fn run<I: Inputs, O: Sink, E: Sink>(
     // The form says which files are read, and how a fault names them.
     let form = match read_words(alloc, words) {
         Ok(form) => form,
-        Err(_) => return explain(alloc, &None, &Stop::Memory, err),
+        Err(_) => return explain(alloc, &None, &Failure::Memory, err),
     };
     match work(alloc, &form, inputs, out) {
         Ok(true) => Status::SomeRefused,
         Ok(false) => Status::Done,
-        Err(stop) => explain(alloc, &form, &stop, err),
+        Err(failure) => explain(alloc, &form, &failure, err),
     }
 }

@@ -7,7 +7,7 @@ ghost use Rattle.task_reading.specs.Sources.{source_of};
 
 use crate::explain::explain;
 use crate::run::run;
-use crate::types::Stop;
+use crate::types::Failure;
 use io_edge::{Inputs, Sink};
 use std::alloc::Global;
 use std::env::Args;
@@ -17,23 +17,23 @@ use std::process::ExitCode;
 use task_reading::{Fault, Status};
 
 // Why the arguments give no words.
-fn reason(error: &io::Error) -> Stop
+fn reason(error: &io::Error) -> Failure
     ensures { result ≡ reason_of error.now }
 {
     match error.kind() {
-        ErrorKind::OutOfMemory => Stop::Memory,
-        _ => Stop::Fault(Fault::Usage),
+        ErrorKind::OutOfMemory => Failure::Memory,
+        _ => Failure::Fault(Fault::Usage),
     }
 }
 
 // All words that the arguments give, or why there are none.
-fn words_of(alloc: Global, args: io::Result<Args>) -> Result<Vec<String>, Stop>
+fn words_of(alloc: Global, args: io::Result<Args>) -> Result<Vec<String>, Failure>
     ensures { IsWordsOf args result }
 {
     match args {
         Ok(args) => match args.collect::<Vec<String>>(alloc) {
             Ok(words) => Ok(words),
-            Err(_) => Err(Stop::Memory),
+            Err(_) => Err(Failure::Memory),
         },
         Err(error) => Err(reason(&error)),
     }
@@ -52,7 +52,7 @@ fn run_by<I: Inputs, O: Sink, E: Sink>(
 {
     match words_of(alloc, args) {
         Ok(words) => run(alloc, &words, inputs, out, err),
-        Err(stop) => explain(alloc, &None, &stop, err),
+        Err(failure) => explain(alloc, &None, &failure, err),
     }
 }
 

@@ -5,7 +5,7 @@ use task_reading::Fault;
 
 /// Why the work stopped.
 #[derive(Drop)]
-pub enum Stop {
+pub enum Failure {
     /// Memory ran out.
     Memory,
     /// A write of the answers failed.

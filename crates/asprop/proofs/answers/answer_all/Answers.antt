@@ -4,7 +4,7 @@ use Rattle.sim_core.specs.Sims.{world_seen}
 use Rattle.asprop.specs.Replies.{AnswersLine}
 use Rattle.asprop.specs.Streams.{stream_of}
 use Rattle.asprop.specs.Written.{Answering, IsPassedOn}
-use Rattle.asprop.specs.declared.types.Stop.{Stop}
+use Rattle.asprop.specs.declared.types.Failure.{Failure}
 use Rattle.asprop.proofs.Answering.{whole, all, next, held_part, part, either}
 use Rattle.task_reading.proofs.ReadLemmas.{rose_earlier}
 use Rattle.std.proofs.lemmas.List.Elements.{All-get_or}
@@ -14,7 +14,7 @@ use Rattle.asprop.proofs.answers.answer_all.Goals.{then-first, else-first, in-Er
 
 pub returns-in-Err : goal.returns-in-Err
 returns-in-Err g c =
-    let Run : Result Bool Stop → Type 0 = λ r. Answering (record { world = world_seen c.args.sim.now; lines = c.args.lines.now; heads = c.args.heads; counts = false }) r (stream_of g.O.Sink.written g.O.Sink.faults c.args.out.now c.write_all.new.sink) in
+    let Run : Result Bool Failure → Type 0 = λ r. Answering (record { world = world_seen c.args.sim.now; lines = c.args.lines.now; heads = c.args.heads; counts = false }) r (stream_of g.O.Sink.written g.O.Sink.faults c.args.out.now c.write_all.new.sink) in
     elim c.match-write_all.branch [
       | in-Err-write_all w ↦
           subst Run (sym w.result-is)
