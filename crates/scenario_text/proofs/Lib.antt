@@ -8,3 +8,4 @@ pub mod Texts
 pub mod Paths
 pub mod Accepted
 pub mod Passing
+pub mod Members

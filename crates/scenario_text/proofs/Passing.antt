@@ -18,13 +18,12 @@ use Rattle.scenario_text.specs.declared.places.Member.TheVariants.{Announcements
 use Rattle.scenario_text.specs.declared.places.Place.{Place}
 use Rattle.scenario_text.specs.Laws.{ReadsAs}
 use Rattle.scenario_text.specs.Limits.{fault_if, within}
+use Rattle.scenario_text.specs.Members.{lists_in}
 use Rattle.scenario_text.specs.Places.{in_member, item}
 use Rattle.scenario_text.specs.Readings.{json_of, scenario_of_bytes}
 use Rattle.scenario_text.specs.Scenarios.{ScenarioValue, IsScenario, announcement_name, prefix_count}
-use Rattle.scenario_text.specs.Shapes.{document_of}
 use Rattle.net_names.specs.Prefixes.{announcement_cmp}
 use Rattle.scenario_text.specs.Twice.{once_in, once}
-use Rattle.scenario_text.specs.Values.{lists_of}
 use Rattle.scenario_text.specs.Walks.{◌>>=◌, each_from, each_at}
 use Rattle.net_names.specs.Orders.{exact_announcement, exact_addr}
 use Rattle.scenario_text.proofs.Repeats.{once_at}
@@ -101,16 +100,15 @@ tested lists = once lists >>= λ _. within lists >>= λ _. Ok lists
 pub said_of : (bytes : List ℕ) (s : ScenarioValue) → scenario_of_bytes bytes ≡ Ok s → ReadsAs bytes s × IsScenario s
 unfolding scenario_of_bytes
 said_of bytes s h =
-    let value = first_step (ok_or (json_of bytes) NotJson) (λ v. document_of v >>= λ d. lists_of d >>= tested) s h in
-    let document = first_step (document_of value.0) (λ d. lists_of d >>= tested) s value.2 in
-    let lists = first_step (lists_of document.0) tested s document.2 in
+    let value = first_step (ok_or (json_of bytes) NotJson) (λ v. lists_in v >>= tested) s h in
+    let lists = first_step (lists_in value.0) tested s value.2 in
     let two = first_step (once lists.0) (λ _. within lists.0 >>= λ _. Ok lists.0) s lists.2 in
     let five = first_step (within lists.0) (λ _. Ok lists.0) s two.2 in
     let same : lists.0 ≡ s = cc (five.2) in (
-      record { value = value.0; document = document.0; is_json = some_of (json_of bytes) NotJson value.0 value.1; is_shaped = document.1; says = lists.1 ∙ five.2 },
-      subst IsScenario same (sound document.0 lists.0 lists.1 two.1 five.1),
+      record { value = value.0; is_json = some_of (json_of bytes) NotJson value.0 value.1; says = lists.1 ∙ five.2 },
+      subst IsScenario same (sound value.0 lists.0 lists.1 two.1 five.1),
     )
 
 pub accepted_if_said : (bytes : List ℕ) (s : ScenarioValue) → ReadsAs bytes s → IsScenario s → scenario_of_bytes bytes ≡ Ok s
 unfolding scenario_of_bytes
-accepted_if_said bytes s reads h = rw (reads.is_json, reads.is_shaped, reads.says, once_of s h, within_of s h) refl
+accepted_if_said bytes s reads h = rw (reads.is_json, reads.says, once_of s h, within_of s h) refl

@@ -22,6 +22,8 @@ use Rattle.scenario_text.specs.declared.places.PartOf.TheVariants as parts
 use Rattle.scenario_text.specs.declared.places.Place.{Place}
 use Rattle.scenario_text.specs.declared.scenario.Announcement.{Announcement}
 use Rattle.scenario_text.specs.Documents.{DocumentValue}
+use Rattle.scenario_text.specs.Members.{lists_in}
+use Rattle.scenario_text.specs.Shapes.{document_of}
 use Rattle.scenario_text.specs.Limits.{fault_if, within}
 use Rattle.scenario_text.specs.Places.{in_member, item, in_part}
 use Rattle.scenario_text.specs.Scenarios.{ScenarioValue, IsScenario, StartsWith, announcement_name, prefix_count}
@@ -29,6 +31,8 @@ use Rattle.scenario_text.specs.Twice.{once_in, once}
 use Rattle.scenario_text.specs.Values.{asn_at, announcement_of, policy_of, lists_of}
 use Rattle.scenario_text.specs.Walks.{◌>>=◌, each_from, each_at}
 use Rattle.net_names.specs.Orders.{announcement_total, addr_total}
+use Rattle.serde_json.specs.Data.{Data}
+use Rattle.scenario_text.proofs.Members.{lists_in_passes}
 use Rattle.scenario_text.proofs.Repeats.{once_at}
 
 -- what the first of two steps gave, where both gave something
@@ -161,9 +165,10 @@ none_passed false false false false true f h = absurd (cc)
 none_passed false false false false false true h = absurd (cc)
 none_passed false false false false false false h = record { first = refl; second = refl; third = refl; fourth = refl; fifth = refl; sixth = refl }
 
-pub sound : (d : DocumentValue) (s : ScenarioValue) → lists_of d ≡ Ok s → once s ≡ Ok tt → within s ≡ Ok tt → IsScenario s
+pub sound : (d : Data) (s : ScenarioValue) → lists_in d ≡ Ok s → once s ≡ Ok tt → within s ≡ Ok tt → IsScenario s
 unfolding once within
 sound d s read once_ok within_ok =
+    let document = first_step (document_of d) lists_of s (sym (lists_in_passes d) ∙ read) in
     let tests = all_pass (once_in announcement_cmp (in_member Announcements) (map announcement_name s.announcements)) (once_in nat_cmp (in_member Policies) (map (λ p. p.0) s.policies))
     (each_at (once_in nat_cmp) (in_member Leaks) s.leaks) (once_in addr_cmp (in_member Watch) s.watch) once_ok in
     let limit = none_passed (nat_lt 64 (length s.announcements)) (nat_lt 32 (prefix_count s.announcements)) (list_any (λ a. nat_lt 64 (length a.path)) s.announcements)
@@ -181,5 +186,5 @@ sound d s read once_ok within_ok =
       few_rounds = ltb-false _ _ limit.fourth;
       few_leakers = λ k ns lt. ltb-false _ _ (none_at (λ ms. nat_lt 64 (length ms)) s.leaks limit.fifth k ns lt);
       few_watched = ltb-false _ _ limit.sixth;
-      own_paths = lists_own d s read;
+      own_paths = lists_own document.0 s document.2;
     }

@@ -2,24 +2,20 @@
 use Rattle.std.specs.Prelude.{◌≡◌, ℕ, ◌≤◌, ◌↔◌, List, length, map, All, Option, Some, Ok, IsOk, IsSome}
 use Rattle.serde_json.specs.Data.{Data}
 use Rattle.scenario_text.specs.declared.acts.Act.{Act}
-use Rattle.scenario_text.specs.Documents.{DocumentValue}
 use Rattle.scenario_text.specs.Forms.{act_of}
 use Rattle.scenario_text.specs.Lines.{texts, kept_from}
 use Rattle.scenario_text.specs.LineValues.{LineValue}
+use Rattle.scenario_text.specs.Members.{lists_in}
 use Rattle.scenario_text.specs.Readings.{json_of, scenario_of_bytes}
 use Rattle.scenario_text.specs.Scenarios.{ScenarioValue, IsScenario}
 use Rattle.scenario_text.specs.Script.{script_of}
-use Rattle.scenario_text.specs.Shapes.{document_of}
-use Rattle.scenario_text.specs.Values.{lists_of}
 use Rattle.scenario_text.specs.declared.script.TheConstants.{MOST_COMMANDS}
 
--- the text says these four lists, before it is asked what stands twice and what is too much: it is JSON, each value is of its type, and each is in its grammar (own format)
+-- the text says these four lists, before it is asked what stands twice and what is too much: it is JSON, and each of its members says what it is to say (own format)
 pub record ReadsAs (bytes : List ℕ) (s : ScenarioValue) : Type 0 where
   pub value : Data
-  pub document : DocumentValue
   pub is_json : json_of bytes ≡ Some value
-  pub is_shaped : document_of value ≡ Ok document
-  pub says : lists_of document ≡ Ok s
+  pub says : lists_in value ≡ Ok s
 
 -- a scenario is accepted exactly where its text is JSON, each value is of its type and in its grammar, and the four lists name nothing twice and pass no limit (own format)
 abbrev pub AcceptedExactly : Type 0

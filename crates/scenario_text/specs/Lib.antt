@@ -6,9 +6,10 @@ pub mod Script
 pub mod Places
 pub mod PlaceTexts
 pub mod Faults
+pub mod Scenarios
+pub mod Members
 pub mod Documents
 pub mod Shapes
-pub mod Scenarios
 pub mod Values
 pub mod Twice
 pub mod Limits

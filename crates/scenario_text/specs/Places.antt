@@ -1,7 +1,10 @@
 -- Places in a scenario's document (own format).
-use Rattle.std.specs.Prelude.{ℕ, Some, None}
+use Rattle.std.specs.Prelude.{ℕ, List, [], codes, Some, None}
+use Rattle.std.specs.Option.{option_map_or}
 use Rattle.scenario_text.specs.declared.places.Member.{Member}
+use Rattle.scenario_text.specs.declared.places.Member.TheVariants.{Announcements, Policies, Leaks, Watch}
 use Rattle.scenario_text.specs.declared.places.PartOf.{PartOf}
+use Rattle.scenario_text.specs.declared.places.PartOf.TheVariants as parts
 use Rattle.scenario_text.specs.declared.places.Place.{Place}
 
 -- the document itself (own format)
@@ -19,3 +22,21 @@ item p i = elim p.first [ None ↦ record p { first = Some i } | Some j ↦ reco
 -- a member of the object that stands there (own format)
 abbrev pub in_part : Place → PartOf → Place
 in_part p part = record p { part = Some part }
+
+-- the names of the document's members (own format)
+abbrev pub member_name : Member → List ℕ
+member_name Announcements = codes "announcements"
+member_name Policies = codes "policies"
+member_name Leaks = codes "leaks"
+member_name Watch = codes "watch"
+
+-- the names of the members of an announcement and of a policy (own format)
+abbrev pub part_name : PartOf → List ℕ
+part_name parts.Prefix = codes "prefix"
+part_name parts.Number = codes "as"
+part_name parts.Path = codes "path"
+part_name parts.Policy = codes "policy"
+
+-- the name of the member that stands at a place; the document itself has none (own format)
+abbrev pub name_at : Place → List ℕ
+name_at p = option_map_or part_name p.part (option_map_or member_name p.member [])

@@ -6,10 +6,9 @@ use Rattle.serde_json.specs.Read.{read}
 use Rattle.scenario_text.specs.declared.faults.ScenarioError.{ScenarioError}
 use Rattle.scenario_text.specs.declared.faults.ScenarioError.TheVariants.{NotJson}
 use Rattle.scenario_text.specs.Limits.{within}
+use Rattle.scenario_text.specs.Members.{lists_in}
 use Rattle.scenario_text.specs.Scenarios.{ScenarioValue}
-use Rattle.scenario_text.specs.Shapes.{document_of}
 use Rattle.scenario_text.specs.Twice.{once}
-use Rattle.scenario_text.specs.Values.{lists_of}
 use Rattle.scenario_text.specs.Walks.{◌>>=◌}
 
 -- the JSON value that the bytes are the text of, where they are UTF-8 and a JSON text as serde_json reads it: numbers that no float holds, and more than 127 levels, are refused (RFC 8259, sections 2, 8.1 and 9)
@@ -20,8 +19,7 @@ json_of bytes = if is_utf8 bytes then read bytes else None
 unfoldable pub scenario_of_bytes : List ℕ → Result ScenarioValue ScenarioError
 scenario_of_bytes bytes = do
   value ← ok_or (json_of bytes) NotJson
-  document ← document_of value
-  lists ← lists_of document
+  lists ← lists_in value
   _ ← once lists
   _ ← within lists
   Ok lists

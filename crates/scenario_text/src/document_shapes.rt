@@ -1,8 +1,9 @@
 //! The first pass over a document: the types of its values, and the members of its objects.
-ghost use Rattle.std.specs.Prelude.{◌≡◌, ◌∷◌, [], codes};
+ghost use Rattle.std.specs.Prelude.{◌≡◌, ◌∷◌, []};
 ghost use Rattle.serde_json.specs.View.{view};
 ghost use Rattle.scenario_text.specs.Faults.{Gives, GivesBy};
-ghost use Rattle.scenario_text.specs.Shapes.{text_at, number_at, list_of, needed, optional, announcement_at, policy_at, document_of};
+ghost use Rattle.scenario_text.specs.Members.{needed};
+ghost use Rattle.scenario_text.specs.Shapes.{text_at, number_at, list_at, optional_or, announcement_at, policy_at, document_of};
 
 use crate::documents::{AnnouncementText, Document, Numbers, PolicyText, Text};
 use crate::faults::ScenarioError;
@@ -24,30 +25,25 @@ impl Shape for NumberShape {
 }
 
 fn numbers(alloc: Global, place: Place, value: &Value) -> Result<Numbers, ScenarioError>
-    ensures { Gives result (list_of number_at place (view value.now)) }
+    ensures { Gives result (list_at number_at place (view value.now)) }
 {
     let numbers = list::<NumberShape>(alloc, place, value)?;
     Ok(Numbers { numbers })
 }
 
-fn needed_text(
-    alloc: Global,
-    place: Place,
-    name: &str,
-    value: &Value,
-) -> Result<Text, ScenarioError>
-    ensures { Gives result (needed name.now text_at place (view value.now)) }
+fn needed_text(alloc: Global, place: Place, value: &Value) -> Result<Text, ScenarioError>
+    ensures { Gives result (needed text_at place (view value.now)) }
 {
-    match value.get(name) {
+    match value.get(place.name()) {
         Some(value) => text(alloc, place, value),
         None => Err(ScenarioError::Shape { place }),
     }
 }
 
-fn needed_number(place: Place, name: &str, value: &Value) -> Result<u64, ScenarioError>
-    ensures { Gives result (needed name.now number_at place (view value.now)) }
+fn needed_number(place: Place, value: &Value) -> Result<u64, ScenarioError>
+    ensures { Gives result (needed number_at place (view value.now)) }
 {
-    match value.get(name) {
+    match value.get(place.name()) {
         Some(value) => number(place, value),
         None => Err(ScenarioError::Shape { place }),
     }
@@ -55,9 +51,9 @@ fn needed_number(place: Place, name: &str, value: &Value) -> Result<u64, Scenari
 
 // The path, or the list of this number alone where there is none.
 fn path(alloc: Global, place: Place, asn: u64, value: &Value) -> Result<Numbers, ScenarioError>
-    ensures { Gives result (optional (codes "path") (list_of number_at) (asn ∷ []) place (view value.now)) }
+    ensures { Gives result (optional_or (asn ∷ []) (list_at number_at) place (view value.now)) }
 {
-    match value.get("path") {
+    match value.get(place.name()) {
         Some(value) => numbers(alloc, place, value),
         None => {
             let mut numbers = Vec::new(alloc);
@@ -83,8 +79,8 @@ impl Shape for AnnouncementShape {
         value: &Value,
     ) -> Result<AnnouncementText, ScenarioError> {
         object(&["prefix", "as", "path"], place, value)?;
-        let prefix = needed_text(alloc, place.part(PartOf::Prefix), "prefix", value)?;
-        let number = needed_number(place.part(PartOf::Number), "as", value)?;
+        let prefix = needed_text(alloc, place.part(PartOf::Prefix), value)?;
+        let number = needed_number(place.part(PartOf::Number), value)?;
         let path = path(alloc, place.part(PartOf::Path), number, value)?;
         Ok(AnnouncementText {
             prefix,
@@ -104,8 +100,8 @@ impl Shape for PolicyShape {
     #[tactic(auto, unfolding(crate::specs::Shapes::policy_at))]
     fn shape(alloc: Global, place: Place, value: &Value) -> Result<PolicyText, ScenarioError> {
         object(&["as", "policy"], place, value)?;
-        let number = needed_number(place.part(PartOf::Number), "as", value)?;
-        let policy = needed_text(alloc, place.part(PartOf::Policy), "policy", value)?;
+        let number = needed_number(place.part(PartOf::Number), value)?;
+        let policy = needed_text(alloc, place.part(PartOf::Policy), value)?;
         Ok(PolicyText { number, policy })
     }
 }
@@ -115,7 +111,7 @@ struct LeakersShape;
 impl Shape for LeakersShape {
     type To = Numbers;
 
-    ghost reads = { list_of number_at };
+    ghost reads = { list_at number_at };
 
     fn shape(alloc: Global, place: Place, value: &Value) -> Result<Numbers, ScenarioError> {
         numbers(alloc, place, value)
@@ -137,12 +133,11 @@ impl Shape for WatchedShape {
 fn needed_list<S: Shape>(
     alloc: Global,
     place: Place,
-    name: &str,
     value: &Value,
 ) -> Result<Vec<S::To>, ScenarioError>
-    ensures { GivesBy (λ v. v.items) result (needed name.now (list_of S.reads) place (view value.now)) }
+    ensures { GivesBy (λ v. v.items) result (needed (list_at S.reads) place (view value.now)) }
 {
-    match value.get(name) {
+    match value.get(place.name()) {
         Some(value) => list::<S>(alloc, place, value),
         None => Err(ScenarioError::Shape { place }),
     }
@@ -151,12 +146,11 @@ fn needed_list<S: Shape>(
 fn optional_list<S: Shape>(
     alloc: Global,
     place: Place,
-    name: &str,
     value: &Value,
 ) -> Result<Vec<S::To>, ScenarioError>
-    ensures { GivesBy (λ v. v.items) result (optional name.now (list_of S.reads) [] place (view value.now)) }
+    ensures { GivesBy (λ v. v.items) result (optional_or [] (list_at S.reads) place (view value.now)) }
 {
-    match value.get(name) {
+    match value.get(place.name()) {
         Some(value) => list::<S>(alloc, place, value),
         None => Ok(Vec::new(alloc)),
     }
@@ -175,17 +169,11 @@ pub(crate) fn document(alloc: Global, value: &Value) -> Result<Document, Scenari
     let announcements = needed_list::<AnnouncementShape>(
         alloc,
         Place::member(Member::Announcements),
-        "announcements",
         value,
     )?;
-    let policies = optional_list::<PolicyShape>(
-        alloc,
-        Place::member(Member::Policies),
-        "policies",
-        value,
-    )?;
-    let leaks = optional_list::<LeakersShape>(alloc, Place::member(Member::Leaks), "leaks", value)?;
-    let watch = optional_list::<WatchedShape>(alloc, Place::member(Member::Watch), "watch", value)?;
+    let policies = optional_list::<PolicyShape>(alloc, Place::member(Member::Policies), value)?;
+    let leaks = optional_list::<LeakersShape>(alloc, Place::member(Member::Leaks), value)?;
+    let watch = optional_list::<WatchedShape>(alloc, Place::member(Member::Watch), value)?;
     Ok(Document {
         announcements,
         policies,

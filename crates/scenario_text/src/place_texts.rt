@@ -1,32 +1,28 @@
 //! The texts of places.
-ghost use Rattle.std.specs.Prelude.{◌≡◌, ◌++◌, string_bytes, IfOk, OnOk, OnErr};
-ghost use Rattle.scenario_text.specs.PlaceTexts.{member_text, part_text, position_text, place_text};
+ghost use Rattle.std.specs.Prelude.{◌≡◌, ◌++◌, ◌∷◌, [], codes, string_bytes, IfOk, OnOk, OnErr};
+ghost use Rattle.std.specs.Option.{option_map_or};
+ghost use Rattle.scenario_text.specs.Places.{member_name, part_name};
+ghost use Rattle.scenario_text.specs.PlaceTexts.{position_text, place_text};
 
 use crate::places::{Member, PartOf, Place};
 use net_names::NoMemory;
 use std::alloc::{AllocError, Global};
 
-fn member_name(member: Option<Member>) -> &'static str
-    ensures { result.now ≡ member_text member }
+fn member_text(member: Option<Member>) -> &'static str
+    ensures { result.now ≡ option_map_or member_name member (codes "document") }
 {
     match member {
         None => "document",
-        Some(Member::Announcements) => "announcements",
-        Some(Member::Policies) => "policies",
-        Some(Member::Leaks) => "leaks",
-        Some(Member::Watch) => "watch",
+        Some(member) => member.name(),
     }
 }
 
-fn part_name(part: Option<PartOf>) -> &'static str
-    ensures { result.now ≡ part_text part }
+fn part_string(alloc: Global, part: Option<PartOf>) -> Result<String, AllocError>
+    ensures { IfOk result (λ s. string_bytes s ≡ option_map_or (λ part. 46 ∷ part_name part) part []) }
 {
     match part {
-        None => "",
-        Some(PartOf::Prefix) => ".prefix",
-        Some(PartOf::Number) => ".as",
-        Some(PartOf::Path) => ".path",
-        Some(PartOf::Policy) => ".policy",
+        None => Ok(String::new(alloc)),
+        Some(part) => format!(in alloc; ".{}", part.name()),
     }
 }
 
@@ -44,12 +40,13 @@ pub fn place_string(alloc: Global, place: Place) -> Result<String, AllocError>
     ensures { IfOk result (λ s. string_bytes s ≡ place_text place) }
 {
     let first = position_string(alloc, place.first)?;
+    let part = part_string(alloc, place.part)?;
     let second = position_string(alloc, place.second)?;
     format!(in alloc;
         "{}{}{}{}",
-        member_name(place.member),
+        member_text(place.member),
         first.as_str(),
-        part_name(place.part),
+        part.as_str(),
         second.as_str()
     )
 }

@@ -13,6 +13,23 @@ pub enum Member {
     Watch,
 }
 
+impl Member {
+    ghost use Rattle.std.specs.Prelude.{◌≡◌};
+    ghost use Rattle.scenario_text.specs.Places.{member_name};
+
+    /// Its name in the document.
+    pub(crate) fn name(self) -> &'static str
+        ensures { result.now ≡ member_name self }
+    {
+        match self {
+            Member::Announcements => "announcements",
+            Member::Policies => "policies",
+            Member::Leaks => "leaks",
+            Member::Watch => "watch",
+        }
+    }
+}
+
 /// The members of an announcement and of a policy.
 #[derive(Clone, Copy, Debug, PartialEq, Eq)]
 pub enum PartOf {
@@ -24,6 +41,23 @@ pub enum PartOf {
     Path,
     /// The name of a policy.
     Policy,
+}
+
+impl PartOf {
+    ghost use Rattle.std.specs.Prelude.{◌≡◌};
+    ghost use Rattle.scenario_text.specs.Places.{part_name};
+
+    /// Its name in the object.
+    pub(crate) fn name(self) -> &'static str
+        ensures { result.now ≡ part_name self }
+    {
+        match self {
+            PartOf::Prefix => "prefix",
+            PartOf::Number => "as",
+            PartOf::Path => "path",
+            PartOf::Policy => "policy",
+        }
+    }
 }
 
 /// A place in a document: the document itself where there is no member. Positions count from 0.
@@ -41,7 +75,7 @@ pub struct Place {
 
 impl Place {
     ghost use Rattle.std.specs.Prelude.{◌≡◌};
-    ghost use Rattle.scenario_text.specs.Places.{document, in_member, item, in_part};
+    ghost use Rattle.scenario_text.specs.Places.{document, in_member, item, in_part, name_at};
 
     /// The document itself.
     pub fn document() -> Place
@@ -90,6 +124,16 @@ impl Place {
         Place {
             part: Some(part),
             ..self
+        }
+    }
+    /// The name of the member that stands there; the document itself has none.
+    pub(crate) fn name(self) -> &'static str
+        ensures { result.now ≡ name_at self }
+    {
+        match (self.part, self.member) {
+            (Some(part), _) => part.name(),
+            (None, Some(member)) => member.name(),
+            (None, None) => "",
         }
     }
 }

@@ -3,11 +3,13 @@ ghost use Rattle.std.specs.Prelude.{◌≡◌, ◌≤◌, length, ok_or};
 ghost use Rattle.serde_json.specs.View.{view};
 ghost use Rattle.scenario_text.specs.declared.faults.ScenarioError.TheVariants.{NotJson};
 ghost use Rattle.scenario_text.specs.Faults.{Gives, GivesBy};
+ghost use Rattle.scenario_text.specs.Members.{lists_in};
 ghost use Rattle.scenario_text.specs.Readings.{json_of, scenario_of_bytes};
 
 use crate::document_shapes::document;
 use crate::faults::ScenarioError;
 use crate::limits::test_limits;
+use crate::lists::Lists;
 use crate::scenario::Scenario;
 use crate::twice::test_once;
 use crate::values::lists;
@@ -29,6 +31,13 @@ fn json(alloc: Global, bytes: &[u8]) -> Result<Value, ScenarioError>
     }
 }
 
+fn said(alloc: Global, value: &Value) -> Result<Lists, ScenarioError>
+    ensures { Gives result (lists_in (view value.now)) }
+{
+    let document = document(alloc, value)?;
+    lists(alloc, &document)
+}
+
 /// The scenario that a text of at most 16,777,216 bytes says. The text is a JSON object (RFC 8259): `announcements` is a
 /// list of objects with a `prefix`, an `as` and maybe a `path`; `policies`, a list of objects with an `as` and a `policy`,
 /// `leaks`, a list of lists of numbers, and `watch`, a list of addresses, may be there. The format is this project's own.
@@ -44,8 +53,7 @@ pub fn read_scenario(alloc: Global, bytes: &[u8]) -> Result<Scenario, ScenarioEr
     ensures { Gives result (scenario_of_bytes bytes.now) }
 {
     let value = json(alloc, bytes)?;
-    let document = document(alloc, &value)?;
-    let lists = lists(alloc, &document)?;
+    let lists = said(alloc, &value)?;
     test_once(alloc, &lists)?;
     test_limits(alloc, &lists)?;
     Ok(Scenario::from_lists(lists))

@@ -1,12 +1,14 @@
 //! The types of single values.
-ghost use Rattle.std.specs.Prelude.{◌≡◌, bytes_eq, false, map, option_map, string_bytes, unwrap_or};
+ghost use Rattle.std.specs.Prelude.{◌≡◌, bytes_eq, false, map, string_bytes};
 ghost use Rattle.std.specs.List.{list_all, list_any};
+ghost use Rattle.std.specs.Option.{option_map_or};
 ghost use Rattle.std.specs.BTreeMap.{keys};
 ghost use Rattle.serde_json.specs.Data.{Data};
 ghost use Rattle.serde_json.specs.Find.{as_object};
 ghost use Rattle.serde_json.specs.View.{view};
 ghost use Rattle.scenario_text.specs.Faults.{Gives, GivesBy};
-ghost use Rattle.scenario_text.specs.Shapes.{text_at, number_at, list_of, all_known, object_at};
+ghost use Rattle.scenario_text.specs.Members.{all_in, object as object_at};
+ghost use Rattle.scenario_text.specs.Shapes.{text_at, number_at, list_at};
 ghost use Rattle.scenario_text.specs.Walks.{Reader};
 
 use crate::documents::Text;
@@ -74,7 +76,7 @@ pub(crate) fn list<S: Shape>(
     place: Place,
     value: &Value,
 ) -> Result<Vec<S::To>, ScenarioError>
-    ensures { GivesBy (λ v. v.items) result (list_of S.reads place (view value.now)) }
+    ensures { GivesBy (λ v. v.items) result (list_at S.reads place (view value.now)) }
 {
     match value.as_array() {
         Some(items) => each::<ByShape<S>>(alloc, place, items),
@@ -95,7 +97,7 @@ fn all_known_in(known: &[&str], members: &Map<String, Value>) -> bool
 }
 
 fn has_known(known: &[&str], value: &Value) -> bool
-    ensures { result ≡ unwrap_or (option_map (all_known (map (λ k. k.now) known.now)) (as_object (view value.now))) false }
+    ensures { result ≡ option_map_or (all_in (map (λ k. k.now) known.now)) (as_object (view value.now)) false }
 {
     match value.as_object() {
         Some(members) => all_known_in(known, members),
