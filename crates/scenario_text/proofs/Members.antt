@@ -54,7 +54,7 @@ of_steps kind r k hr hk = rw hr.1 (steps_of kind hr.0 k hk)
 of_each : {X Y : Type 0} (kind : Place → ScenarioError) (f : ℕ → X → Result Y ScenarioError) → ((i : ℕ) (x : X) → Of kind (f i x)) → (i : ℕ) (xs : List X) → Of kind (each_from f i xs)
 unfolding each_from
 of_each kind f h i [] = of_ok kind []
-of_each kind f h i (x ∷ xs) = of_steps kind (f i x) _ (h i x) (λ y. of_steps kind (each_from f (suc i) xs) _ (of_each kind f h (suc i) xs) (λ ys. of_ok kind (y ∷ ys)))
+of_each kind f h i (x ∷ xs) = of_steps kind _ _ (h i x) (λ y. of_steps kind _ _ (of_each kind f h (suc i) xs) (λ ys. of_ok kind (y ∷ ys)))
 
 -- a wrong type comes before bad values
 late : {A B : Type 0} (f : Result (A → B) Place) (q : Place) → (of_kind Value f ⊛ Err (Shape q)) ≡ Err (Shape q)
@@ -153,6 +153,18 @@ needed_passes read types values h = record {
   of_values = h.of_values;
 }
 
+prefix_member : ReadsInPasses (needed (text prefix_of)) (needed text_at) (λ p t. ok_or (prefix_of t) (Value p))
+prefix_member = needed_passes (text prefix_of) text_at _ (text_passes prefix_of)
+
+kind_member : ReadsInPasses (needed (text kind_named)) (needed text_at) (λ p t. ok_or (kind_named t) (Value p))
+kind_member = needed_passes (text kind_named) text_at _ (text_passes kind_named)
+
+number_member : ReadsInPasses (needed asn) (needed number_at) asn_at
+number_member = needed_passes asn number_at asn_at asn_passes
+
+numbers_pass : ReadsInPasses (list asn) (list_at number_at) (each_at asn_at)
+numbers_pass = list_passes asn number_at asn_at asn_passes
+
 transposed : {A : Type 0} (r : Result A ScenarioError) → option_transpose (Some r) ≡ (r >>= λ y. Ok (Some y))
 transposed (Ok y) = refl
 transposed (Err e) = refl
@@ -225,9 +237,6 @@ read_alone x test n q r e hx = rw hx.1 (announced_alone hx.0 test n q r e)
 announcement_same : (p : Place) (d : Data) → announcement p d ≡ (announcement_at p d >>= announcement_of p)
 unfolding announcement announcement_at announcement_of each_from
 announcement_same p d =
-    let prefixes = needed_passes (text prefix_of) text_at _ (text_passes prefix_of) in
-    let numbers = needed_passes asn number_at asn_at asn_passes in
-    let paths = list_passes asn number_at asn_at asn_passes in
     let at_prefix = in_part p parts.Prefix in
     let at_number = in_part p parts.Number in
     let at_path = in_part p parts.Path in
@@ -235,13 +244,13 @@ announcement_same p d =
     let path = optional (list asn) at_path d in
     let e = Value at_path in
     after _ _ _ (announcement_of p)
-    (next_part prefixes at_prefix d (Ok announced) (λ z. (z ⊛ number ⊛ path) >>= own e) _ (announcement_of p) (of_ok Value announced) (λ q. refl)
+    (next_part prefix_member at_prefix d (Ok announced) (λ z. (z ⊛ number ⊛ path) >>= own e) _ (announcement_of p) (of_ok Value announced) (λ q. refl)
     (λ t. let x = ok_or (prefix_of t) (Value at_prefix) in let hx = of_option Value (prefix_of t) at_prefix in let f = of_both (Ok announced) x (of_ok Value announced) hx in
-    next_part numbers at_number d (Ok announced ⊛ x) (λ z. (z ⊛ path) >>= own e) _ (announcement_of p) f (λ q. refl)
+    next_part number_member at_number d (Ok announced ⊛ x) (λ z. (z ⊛ path) >>= own e) _ (announcement_of p) f (λ q. refl)
     (λ n. let hn = of_test Value _ n at_number in
-    next_optional paths at_path (get (name_at at_path) d) (Ok announced ⊛ x ⊛ asn_at at_number n) (n ∷ []) (λ z. z >>= own e) _ (announcement_of p) (of_both (Ok announced ⊛ x) (asn_at at_number n) f hn) (λ q. refl)
+    next_optional numbers_pass at_path (get (name_at at_path) d) (Ok announced ⊛ x ⊛ asn_at at_number n) (n ∷ []) (λ z. z >>= own e) _ (announcement_of p) (of_both (Ok announced ⊛ x) (asn_at at_number n) f hn) (λ q. refl)
     (read_alone x _ n at_number (item at_path 0) e hx)
-    (λ ns. read_with x (asn_at at_number n) (each_at asn_at at_path ns) e hx hn (paths.of_values at_path ns)))))
+    (λ ns. read_with x (asn_at at_number n) (each_at asn_at at_path ns) e hx hn (numbers_pass.of_values at_path ns)))))
 
 of_object : (names : List (List ℕ)) (p : Place) (d : Data) → Of Shape (object names p d)
 of_object names p d = of_test Shape _ tt p
@@ -254,17 +263,17 @@ announcement_types : (p : Place) (d : Data) → Of Shape (announcement_at p d)
 unfolding announcement_at
 announcement_types p d =
     of_steps Shape _ _ (of_object (map part_name (parts.Prefix ∷ parts.Number ∷ parts.Path ∷ [])) p d)
-    (λ _. of_steps Shape (needed text_at (in_part p parts.Prefix) d) _ ((needed_passes (text prefix_of) text_at _ (text_passes prefix_of)).of_types (in_part p parts.Prefix) d)
-    (λ prefix. of_steps Shape (needed number_at (in_part p parts.Number) d) _ ((needed_passes asn number_at asn_at asn_passes).of_types (in_part p parts.Number) d)
-    (λ number. of_steps Shape (optional_or (number ∷ []) (list_at number_at) (in_part p parts.Path) d) _ (of_optional (number ∷ []) (list_at number_at (in_part p parts.Path)) ((list_passes asn number_at asn_at asn_passes).of_types (in_part p parts.Path)) _)
+    (λ _. of_steps Shape _ _ (prefix_member.of_types (in_part p parts.Prefix) d)
+    (λ prefix. of_steps Shape _ _ (number_member.of_types (in_part p parts.Number) d)
+    (λ number. of_steps Shape _ _ (of_optional (number ∷ []) (list_at number_at (in_part p parts.Path)) (numbers_pass.of_types (in_part p parts.Path)) _)
     (λ path. of_ok Shape (record { prefix = prefix; number = number; path = path })))))
 
 announcement_values : (p : Place) (a : AnnouncementText) → Of Value (announcement_of p a)
 unfolding announcement_of
 announcement_values p a =
-    of_steps Value (ok_or (prefix_of a.prefix) (Value (in_part p parts.Prefix))) _ (of_option Value (prefix_of a.prefix) (in_part p parts.Prefix))
-    (λ prefix. of_steps Value (asn_at (in_part p parts.Number) a.number) _ (asn_passes.of_values (in_part p parts.Number) a.number)
-    (λ n. of_steps Value (each_at asn_at (in_part p parts.Path) a.path) _ ((list_passes asn number_at asn_at asn_passes).of_values (in_part p parts.Path) a.path)
+    of_steps Value _ _ (of_option Value (prefix_of a.prefix) (in_part p parts.Prefix))
+    (λ prefix. of_steps Value _ _ (asn_passes.of_values (in_part p parts.Number) a.number)
+    (λ n. of_steps Value _ _ (numbers_pass.of_values (in_part p parts.Path) a.path)
     (λ path. of_test Value (starts_with nat_eq path (n ∷ [])) (record { prefix = prefix; asn = n; path = path }) (in_part p parts.Path))))
 
 announcement_passes : ReadsInPasses announcement announcement_at announcement_of
@@ -278,24 +287,24 @@ policy_same p d =
     let at_policy = in_part p parts.Policy in
     let pair : ℕ → Kind → ℕ × Kind = λ n kind. (n, kind) in
     after _ _ _ (policy_of p)
-    (next_part (needed_passes asn number_at asn_at asn_passes) at_number d (Ok pair) (λ z. z ⊛ needed (text kind_named) at_policy d) _ (policy_of p) (of_ok Value pair) (λ q. refl)
+    (next_part number_member at_number d (Ok pair) (λ z. z ⊛ needed (text kind_named) at_policy d) _ (policy_of p) (of_ok Value pair) (λ q. refl)
     (λ n. let hn = asn_passes.of_values at_number n in
-    next_part (needed_passes (text kind_named) text_at _ (text_passes kind_named)) at_policy d (Ok pair ⊛ asn_at at_number n) (λ z. z) _ (policy_of p) (of_both (Ok pair) (asn_at at_number n) (of_ok Value pair) hn) (λ q. refl)
+    next_part kind_member at_policy d (Ok pair ⊛ asn_at at_number n) (λ z. z) _ (policy_of p) (of_both (Ok pair) (asn_at at_number n) (of_ok Value pair) hn) (λ q. refl)
     (λ t. two_read pair (asn_at at_number n) (ok_or (kind_named t) (Value at_policy)) hn (of_option Value (kind_named t) at_policy))))
 
 policy_types : (p : Place) (d : Data) → Of Shape (policy_at p d)
 unfolding policy_at
 policy_types p d =
     of_steps Shape _ _ (of_object (map part_name (parts.Number ∷ parts.Policy ∷ [])) p d)
-    (λ _. of_steps Shape (needed number_at (in_part p parts.Number) d) _ ((needed_passes asn number_at asn_at asn_passes).of_types (in_part p parts.Number) d)
-    (λ number. of_steps Shape (needed text_at (in_part p parts.Policy) d) _ ((needed_passes (text kind_named) text_at _ (text_passes kind_named)).of_types (in_part p parts.Policy) d)
+    (λ _. of_steps Shape _ _ (number_member.of_types (in_part p parts.Number) d)
+    (λ number. of_steps Shape _ _ (kind_member.of_types (in_part p parts.Policy) d)
     (λ policy. of_ok Shape (record { number = number; policy = policy }))))
 
 policy_values : (p : Place) (x : PolicyText) → Of Value (policy_of p x)
 unfolding policy_of
 policy_values p x =
-    of_steps Value (asn_at (in_part p parts.Number) x.number) _ (asn_passes.of_values (in_part p parts.Number) x.number)
-    (λ n. of_steps Value (ok_or (kind_named x.policy) (Value (in_part p parts.Policy))) _ (of_option Value (kind_named x.policy) (in_part p parts.Policy)) (λ kind. of_ok Value (n, kind)))
+    of_steps Value _ _ (asn_passes.of_values (in_part p parts.Number) x.number)
+    (λ n. of_steps Value _ _ (of_option Value (kind_named x.policy) (in_part p parts.Policy)) (λ kind. of_ok Value (n, kind)))
 
 policy_passes : ReadsInPasses policy policy_at policy_of
 policy_passes = record { same = policy_same; of_types = policy_types; of_values = policy_values }
@@ -329,7 +338,6 @@ pub lists_in_passes : (d : Data) → lists_in d ≡ (document_of d >>= lists_of)
 unfolding lists_in document_of lists_of
 lists_in_passes d =
     let all = list_passes announcement announcement_at announcement_of announcement_passes in
-    let leakers = list_passes asn number_at asn_at asn_passes in
     let policies = optional (list policy) (in_member Policies) d in
     let leaks = optional (list (list asn)) (in_member Leaks) d in
     let watch = optional (list (text addr_of)) (in_member Watch) d in
@@ -338,7 +346,7 @@ lists_in_passes d =
     (λ texts. let a = each_at announcement_of (in_member Announcements) texts in let ha = all.of_values (in_member Announcements) texts in let f = of_both (Ok scenario) a (of_ok Value scenario) ha in
     next_list policy policy_at policy_of policy_passes (in_member Policies) d (Ok scenario ⊛ a) (λ z. z ⊛ leaks ⊛ watch) _ lists_of f (λ q. refl)
     (λ ps p hp ep. let g = of_both (Ok scenario ⊛ a) p f hp in
-    next_list (list asn) (list_at number_at) (each_at asn_at) leakers (in_member Leaks) d (Ok scenario ⊛ a ⊛ p) (λ z. z ⊛ watch) _ lists_of g (λ q. refl)
+    next_list (list asn) (list_at number_at) (each_at asn_at) numbers_pass (in_member Leaks) d (Ok scenario ⊛ a ⊛ p) (λ z. z ⊛ watch) _ lists_of g (λ q. refl)
     (λ ls l hl el.
     next_list (text addr_of) text_at _ (text_passes addr_of) (in_member Watch) d (Ok scenario ⊛ a ⊛ p ⊛ l) (λ z. z) _ lists_of (of_both (Ok scenario ⊛ a ⊛ p) l g hl) (λ q. refl)
     (λ ws w hw ew. four_read a p l w _ _ _ ha hp hl hw ep el ew)))))

@@ -1,5 +1,5 @@
 -- The members of a scenario's document, each said once: its name, its type, whether it has to be there, and its values (own format, over RFC 8259).
--- A reader gives the value of what stands at a place, or its first fault.
+-- A wrong type or name is a fault of the shape, and what is of its type but outside its grammar is a bad value.
 use Rattle.std.specs.Prelude.{ℕ, suc, ◌^◌, ◌&&◌, ◌==◌ as nat_eq, nat_lt, List, [], ◌∷◌, map, Bool, true, false, if◌then◌else◌, bytes_eq, Option, unwrap_or, ok_or, option_map, option_and_then, Result, Ok, Err}
 use Rattle.std.specs.List.{list_any, starts_with}
 use Rattle.std.specs.Option.{option_map_or, option_transpose}
@@ -17,17 +17,17 @@ use Rattle.scenario_text.specs.Places.{document, in_member, in_part, item, membe
 use Rattle.scenario_text.specs.Scenarios.{ScenarioValue}
 use Rattle.scenario_text.specs.Walks.{◌>>=◌, Reader}
 
--- parts of the document are read one after the other, and all of them: the first fault counts, but each value of a wrong type comes before each that is outside its grammar (own format)
+-- the parts so far and the next one are both read: the first fault counts, but each wrong type comes before each bad value (own format)
 infixl 10 ◌⊛◌
 abbrev pub ◌⊛◌ : {A B : Type 0} → Result (A → B) ScenarioError → Result A ScenarioError → Result B ScenarioError
 (Err (Value p)) ⊛ (Err (Shape q)) = Err (Shape q)
 f ⊛ x = f >>= λ g. x >>= λ y. Ok (g y)
 
--- a text, and what it writes in this grammar (RFC 8259, section 7)
+-- what a text writes, which has to be in this grammar (RFC 8259, section 7)
 abbrev pub text : {B : Type 0} → (List ℕ → Option B) → Reader Data B
 text grammar p d = ok_or (as_str d) (Shape p) >>= λ t. ok_or (grammar t) (Value p)
 
--- an AS number: an integer from 0 to 2^64 - 1, written without a fraction, an exponent or a sign (RFC 8259, section 6), of which those from 1 to 4294967295 are AS numbers (RFC 6793; RFC 7607 rules out 0)
+-- an AS number: its type is an integer from 0 to 2^64 - 1, written without a fraction, an exponent or a sign (RFC 8259, section 6), and it is from 1 to 4294967295 (RFC 6793; RFC 7607 rules out 0)
 abbrev pub asn : Reader Data ℕ
 asn p d = ok_or (option_and_then as_u64 (as_number d)) (Shape p) >>= λ n. if nat_lt 0 n && nat_lt n (2 ^ 32) then Ok n else Err (Value p)
 
@@ -71,7 +71,8 @@ announcement p d = do
 unfoldable pub policy : Reader Data (ℕ × Kind)
 policy p d = do
   _ ← object (map part_name (parts.Number ∷ parts.Policy ∷ [])) p d
-  Ok (λ number kind. (number, kind)) ⊛ needed asn (in_part p parts.Number) d ⊛ needed (text kind_named) (in_part p parts.Policy) d
+  Ok (λ number kind. (number, kind)) ⊛ needed asn (in_part p parts.Number) d
+      ⊛ needed (text kind_named) (in_part p parts.Policy) d
 
 -- the four lists of a document: it has announcements, and may have policies, lists of the leakers of a round, and watched addresses; a list that isn't there is empty (own format)
 unfoldable pub lists_in : Data → Result ScenarioValue ScenarioError

@@ -10,7 +10,7 @@ use Rattle.scenario_text.specs.declared.faults.ScenarioError.{ScenarioError}
 use Rattle.scenario_text.specs.declared.faults.ScenarioError.TheVariants.{Twice}
 use Rattle.scenario_text.specs.Places.{in_member, item}
 use Rattle.scenario_text.specs.Scenarios.{ScenarioValue, announcement_name}
-use Rattle.scenario_text.specs.Walks.{◌>>=◌, Reader, each_from, each_at}
+use Rattle.scenario_text.specs.Walks.{◌>>=◌, Reader, each_from}
 
 -- no item of the list is named twice, or the first that is: an equal one stands before it in the list (own format)
 abbrev pub once_in : {K : Type 0} → (K → K → Ordering) → Reader (List K) (Unit {0})
@@ -21,5 +21,5 @@ unfoldable pub once : ScenarioValue → Result (Unit {0}) ScenarioError
 once s = do
   _ ← once_in announcement_cmp (in_member Announcements) (map announcement_name s.announcements)
   _ ← once_in nat_cmp (in_member Policies) (map (λ p. p.0) s.policies)
-  _ ← each_at (once_in nat_cmp) (in_member Leaks) s.leaks
+  _ ← each_from (λ i. once_in nat_cmp (item (in_member Leaks) i)) 0 s.leaks
   once_in addr_cmp (in_member Watch) s.watch

@@ -2,10 +2,13 @@
 ghost use Rattle.std.specs.Prelude.{◌≡◌, IfOk, map};
 ghost use Rattle.std.specs.Ordering.{nat_cmp};
 ghost use Rattle.net_names.specs.Addresses.{addr_cmp};
-ghost use Rattle.scenario_text.specs.Faults.{Gives};
+ghost use Rattle.scenario_text.specs.declared.places.Member.TheVariants.{Leaks};
+ghost use Rattle.scenario_text.specs.Faults.{Gives, GivesBy};
+ghost use Rattle.scenario_text.specs.Places.{in_member, item};
 ghost use Rattle.scenario_text.specs.Scenarios.{announcement_name};
 ghost use Rattle.net_names.specs.Prefixes.{announcement_cmp};
 ghost use Rattle.scenario_text.specs.Twice.{once_in, once};
+ghost use Rattle.scenario_text.specs.Walks.{each_from};
 
 use crate::faults::ScenarioError;
 use crate::lists::{Leakers, Lists};
@@ -107,6 +110,12 @@ impl Reading for LeakersOnce {
     }
 }
 
+fn leaks_once(alloc: Global, leaks: &[Leakers]) -> Result<Vec<()>, ScenarioError>
+    ensures { GivesBy (λ v. v.items) result (each_from (λ i. once_in nat_cmp (item (in_member Leaks) i)) 0 leaks.now) }
+{
+    each::<LeakersOnce>(alloc, Place::member(Member::Leaks), leaks)
+}
+
 /// Tests that no announcement, policy, leaker of a round or watched address is named twice.
 #[tactic(auto, unfolding(crate::specs::Twice::once))]
 pub(crate) fn test_once(alloc: Global, lists: &Lists) -> Result<(), ScenarioError>
@@ -118,6 +127,6 @@ pub(crate) fn test_once(alloc: Global, lists: &Lists) -> Result<(), ScenarioErro
         &lists.announcements,
     )?;
     policies_once(alloc, Place::member(Member::Policies), &lists.policies)?;
-    each::<LeakersOnce>(alloc, Place::member(Member::Leaks), &lists.leaks)?;
+    leaks_once(alloc, &lists.leaks)?;
     addresses_once(alloc, Place::member(Member::Watch), &lists.watch)
 }
