@@ -7,8 +7,7 @@ use Rattle.csv.specs.declared.parser.State.{State}
 use Rattle.csv.specs.declared.parser.State.TheVariants as st
 use Rattle.csv.specs.declared.parser.Action.{Action}
 use Rattle.csv.specs.declared.parser.Action.TheVariants as act
-use Rattle.roa_table.specs.Files.{Record}
-use Rattle.roa_table.specs.Standing.{ByteReader, records_left, Stands, GoesOn}
+use Rattle.roa_table.specs.Standing.{Record, ByteReader, records_left, Stands, GoesOn}
 
 -- a state in which a record starts
 abbrev pub IsStart : State → Type 0

@@ -2,8 +2,9 @@
 use Rattle.std.proofs.Common.{◌≡◌, ℕ, ◌+◌, ◌≤◌, Bool, true, false, cond, ◌||◌, List, [], ◌∷◌, ◌++◌, length, refl, sym, ap, subst, ◌∙◌, arith, Option, Some, None, Result, Ok, Err}
 use Rattle.std.specs.Prelude.{nat_lt, is_ok}
 use Rattle.std.specs.List.{list_all, dedup, dedup_from, cons_option}
-use Rattle.std.specs.Option.{option_or}
-use Rattle.std.specs.Result.{result_ok}
+use Rattle.std.specs.Option.{option_map, option_or}
+use Rattle.std.specs.Bool.{then_some}
+use Rattle.std.specs.Result.{result_ok, result_err, result_map_both}
 use Rattle.std.specs.Ordering.{eq_by_cmp}
 use Rattle.std.specs.FinMap as fin
 use Rattle.std.proofs.lemmas.Bool.Decides.{nat_tests}
@@ -11,25 +12,22 @@ use Rattle.std.proofs.lemmas.List.Folds.{list_any-append}
 use Rattle.net_names.specs.Steps as steps
 use Rattle.net_names.specs.Payloads.{VrpValue, vrp_cmp}
 use Rattle.net_names.specs.Orders.{vrp_total, exact_vrp}
-use Rattle.roa_table.specs.Sets.{Payloads, IsSound, has, added, count, set_of}
+use Rattle.roa_table.specs.Sets.{IsSound, has, added, count, set_of}
 use Rattle.roa_table.specs.Lists.{IsRising, stands_in}
 use Rattle.roa_table.specs.Records.{payload_of}
-use Rattle.roa_table.specs.Files.{Record, given, fault_at, fault_after}
+use Rattle.roa_table.specs.Files.{given, fault_of}
+use Rattle.roa_table.specs.Standing.{Record}
+use Rattle.roa_table.specs.Judging.{judged, payloads_of, fault_at}
 use Rattle.roa_table.specs.Gathering.{JoinsIn}
-use Rattle.roa_table.specs.declared.record.Wrong.{Wrong}
 use Rattle.roa_table.specs.declared.errors.VrpError.{VrpError}
 use Rattle.roa_table.specs.declared.errors.VrpError.TheVariants as fault
 use Rattle.roa_table.proofs.Booleans.{both}
 use Rattle.roa_table.proofs.Rising.{eq_is}
 use Rattle.roa_table.proofs.Placed.{same_set_of, count_set_of}
 
--- the set of the payloads that rows give
-abbrev pub payloads_given : List Record → Payloads
-payloads_given rows = set_of (given rows)
-
 -- the first fault of rows behind others
 abbrev pub first_fault : List Record → List Record → Option VrpError
-first_fault = steps.first_fault fault_after
+first_fault = steps.first_fault fault_of
 
 -- dropping repeats keeps the members
 pub any_dedup : (E : VrpValue → VrpValue → Bool) → ((v w : VrpValue) → E v w ≡ eq_by_cmp vrp_cmp v w) → (vs : List VrpValue) (q : VrpValue) → stands_in (dedup E vs) q ≡ stands_in vs q
@@ -59,16 +57,16 @@ stands_in-push vs v q = list_any-append (eq_by_cmp vrp_cmp q) vs (v ∷ []) ∙ 
     turn false true = refl
     turn false false = refl
 
-given-append : (xs ys : List Record) → given (xs ++ ys) ≡ given xs ++ given ys
-given-append [] ys = refl
-given-append (x ∷ xs) ys = ap (cons_option (result_ok (payload_of x))) (given-append xs ys) ∙ by (payload_of x)
+payloads_of-append : (xs ys : List Record) → payloads_of (xs ++ ys) ≡ payloads_of xs ++ payloads_of ys
+payloads_of-append [] ys = refl
+payloads_of-append (x ∷ xs) ys = ap (cons_option (result_ok (payload_of x))) (payloads_of-append xs ys) ∙ by (payload_of x)
   where
-    by : (r : Result VrpValue Wrong) → cons_option (result_ok r) (given xs ++ given ys) ≡ cons_option (result_ok r) (given xs) ++ given ys
+    by : (r : Result VrpValue (ℕ → VrpError)) → cons_option (result_ok r) (payloads_of xs ++ payloads_of ys) ≡ cons_option (result_ok r) (payloads_of xs) ++ payloads_of ys
     by (Ok v) = refl
     by (Err w) = refl
 
-pub given_push : (xs : List Record) (x : Record) (v : VrpValue) → payload_of x ≡ Ok v → given (xs ++ (x ∷ [])) ≡ given xs ++ (v ∷ [])
-given_push xs x v e = given-append xs (x ∷ []) ∙ ap (λ r. given xs ++ cons_option (result_ok r) []) e
+pub payloads_of-push : (xs : List Record) (x : Record) (v : VrpValue) → payload_of x ≡ Ok v → payloads_of (xs ++ (x ∷ [])) ≡ payloads_of xs ++ (v ∷ [])
+payloads_of-push xs x v e = payloads_of-append xs (x ∷ []) ∙ ap (λ r. payloads_of xs ++ cons_option (result_ok r) []) e
 
 -- the number of payloads of lists
 count_more : (vs ws : List VrpValue) → count (set_of ws) ≤ count (set_of (vs ++ ws))
@@ -88,38 +86,77 @@ set_of-turned vs ws = same_set_of (vs ++ ws) (ws ++ vs) (λ q. list_any-append (
     turn false true = refl
     turn false false = refl
 
-pub count_given : (xs ys : List Record) → count (payloads_given xs) ≤ count (payloads_given (xs ++ ys))
-count_given xs ys = subst (λ s. count (payloads_given xs) ≤ count s) (set_of-turned (given ys) (given xs) ∙ ap set_of (sym (given-append xs ys))) (count_more (given ys) (given xs))
+pub count_given : (xs ys : List Record) → count (given xs) ≤ count (given (xs ++ ys))
+count_given xs ys = subst (λ s. count (given xs) ≤ count s) (set_of-turned (payloads_of ys) (payloads_of xs) ∙ ap set_of (sym (payloads_of-append xs ys))) (count_more (payloads_of ys) (payloads_of xs))
 
-pub payloads_push : (xs : List Record) (x : Record) (v : VrpValue) → payload_of x ≡ Ok v → payloads_given (xs ++ (x ∷ [])) ≡ added (payloads_given xs) v
-payloads_push xs x v e = ap set_of (given_push xs x v e) ∙ set_of-turned (given xs) (v ∷ [])
+pub given-push : (xs : List Record) (x : Record) (v : VrpValue) → payload_of x ≡ Ok v → given (xs ++ (x ∷ [])) ≡ added (given xs) v
+given-push xs x v e = ap set_of (payloads_of-push xs x v e) ∙ set_of-turned (payloads_of xs) (v ∷ [])
 
-count_push : (xs : List Record) (x : Record) (v : VrpValue) → payload_of x ≡ Ok v → count (payloads_given (xs ++ (x ∷ []))) ≡ cond (has (payloads_given xs) v) (count (payloads_given xs)) (count (payloads_given xs) + 1)
-count_push xs x v e = ap count (payloads_push xs x v e) ∙ fin.len-insert vrp_total (payloads_given xs) v tt
+count_push : (xs : List Record) (x : Record) (v : VrpValue) → payload_of x ≡ Ok v → count (given (xs ++ (x ∷ []))) ≡ cond (has (given xs) v) (count (given xs)) (count (given xs) + 1)
+count_push xs x v e = ap count (given-push xs x v e) ∙ fin.len-insert vrp_total (given xs) v tt
 
 pub rows_assoc : (xs ys zs : List Record) → xs ++ (ys ++ zs) ≡ (xs ++ ys) ++ zs
 rows_assoc [] ys zs = refl
 rows_assoc (x ∷ xs) ys zs = ap (λ l. x ∷ l) (rows_assoc xs ys zs)
 
--- a row whose payload finds room has no fault
-pub no_fault : (before : List Record) (row : Record) (v : VrpValue) → payload_of row ≡ Ok v → count (payloads_given (before ++ (row ∷ []))) ≤ 2000000 → fault_after before row ≡ None
-no_fault before row v e few =
-    ap (fault_at (payloads_given before) (length before + 2)) e
-    ∙ by (has (payloads_given before) v) (count_push before row v e)
-  where
-    by : (b : Bool) → count (payloads_given (before ++ (row ∷ []))) ≡ cond b (count (payloads_given before)) (count (payloads_given before) + 1)
-        → cond (b || nat_lt (count (payloads_given before)) 2000000) None (Some (fault.TooMany (length before + 2))) ≡ None
-    by true k = refl
-    by false k =
-        let room : nat_lt (count (payloads_given before)) 2000000 ≡ true = grind (arith, nat_tests, few, k) in
-        ap (λ b. cond b None (Some (fault.TooMany (length before + 2)))) room
+-- the fault of a row of this number, of which this was read, where it is told whether the rows up to it give too many payloads
+abbrev pub fault_by : ℕ → Result VrpValue (ℕ → VrpError) → Bool → Option VrpError
+fault_by n r many = option_map (λ e. e n) (option_or (result_err r) (then_some many fault.TooMany))
 
-is_payload : (r : Result VrpValue Wrong) → is_ok r ≡ true → (v : VrpValue) × (r ≡ Ok v)
+abbrev too_many : List Record → Record → Bool
+too_many before row = nat_lt 2000000 (count (given (before ++ (row ∷ []))))
+
+-- a row whose payload finds room has no fault
+no_fault : (before : List Record) (row : Record) (v : VrpValue) → payload_of row ≡ Ok v → count (given (before ++ (row ∷ []))) ≤ 2000000 → fault_of before row ≡ None
+no_fault before row v e few =
+    let none : too_many before row ≡ false = grind (arith, nat_tests, few) in
+    λ i. fault_by (length before + 2) (e i) (none i)
+
+few_by : (n : ℕ) (r : Result VrpValue (ℕ → VrpError)) (many : Bool) → fault_by n r many ≡ None → many ≡ false
+few_by n (Err w) many h = cc h
+few_by n (Ok v) true h = cc h
+few_by n (Ok v) false h = refl
+
+-- the rows up to one without a fault give few payloads
+pub few_after : (before : List Record) (row : Record) → fault_of before row ≡ None → count (given (before ++ (row ∷ []))) ≤ 2000000
+few_after before row h =
+    let few : too_many before row ≡ false = few_by (length before + 2) (payload_of row) (too_many before row) h in
+    grind (arith, nat_tests, few)
+
+-- a row that gives no payload has a fault
+pub faulty : (before : List Record) (row : Record) (e : VrpError) → judged (length before + 2) row ≡ Err e → fault_of before row ≡ Some e
+faulty before row e = by (payload_of row)
+  where
+    by : (r : Result VrpValue (ℕ → VrpError)) → result_map_both (λ v. v) (λ w. w (length before + 2)) r ≡ Err e → fault_by (length before + 2) r (too_many before row) ≡ Some e
+    by (Ok v) h = cc h
+    by (Err w) h = let same : w (length before + 2) ≡ e = cc h in ap (λ x. Some x) same
+
+-- the fault of a row behind rows with few payloads, as it is found
+pub fault_of-is : (before : List Record) (row : Record) → count (given before) ≤ 2000000 → fault_of before row ≡ fault_at (given before) (length before + 2) (judged (length before + 2) row)
+fault_of-is before row few = by (payload_of row) refl
+  where
+    by : (r : Result VrpValue (ℕ → VrpError)) → payload_of row ≡ r → fault_by (length before + 2) r (too_many before row) ≡ fault_at (given before) (length before + 2) (result_map_both (λ v. v) (λ e. e (length before + 2)) r)
+    by (Err w) e = refl
+    by (Ok v) e = known (has (given before) v) (count_push before row v e)
+      where
+        told : (many : Bool) → too_many before row ≡ many → fault_by (length before + 2) (Ok v) (too_many before row) ≡ fault_by (length before + 2) (Ok v) many
+        told many h = ap (fault_by (length before + 2) (Ok v)) h
+
+        known : (b : Bool) → count (given (before ++ (row ∷ []))) ≡ cond b (count (given before)) (count (given before) + 1)
+            → fault_by (length before + 2) (Ok v) (too_many before row) ≡ cond (b || nat_lt (count (given before)) 2000000) None (Some (fault.TooMany (length before + 2)))
+        known true k = told false (grind (arith, nat_tests, few, k))
+        known false k = room (nat_lt (count (given before)) 2000000) refl
+          where
+            room : (b : Bool) → nat_lt (count (given before)) 2000000 ≡ b → fault_by (length before + 2) (Ok v) (too_many before row) ≡ cond b None (Some (fault.TooMany (length before + 2)))
+            room true m = told false (grind (arith, nat_tests, k, m))
+            room false m = told true (grind (arith, nat_tests, k, m))
+
+is_payload : (r : Result VrpValue (ℕ → VrpError)) → is_ok r ≡ true → (v : VrpValue) × (r ≡ Ok v)
 is_payload (Ok v) e = (v, refl)
 is_payload (Err w) e = cc e
 
 -- readable rows with few payloads have no fault, so the first one is behind them
-pub first_behind : (before done left : List Record) → list_all (λ r. is_ok (payload_of r)) done ≡ true → count (payloads_given (before ++ done)) ≤ 2000000 → first_fault before (done ++ left) ≡ first_fault (before ++ done) left
+pub first_behind : (before done left : List Record) → list_all (λ r. is_ok (payload_of r)) done ≡ true → count (given (before ++ done)) ≤ 2000000 → first_fault before (done ++ left) ≡ first_fault (before ++ done) left
 first_behind before [] left h few = ap (λ l. first_fault l left) (sym (append_none before))
   where
     append_none : (xs : List Record) → xs ++ [] ≡ xs
@@ -129,7 +166,7 @@ first_behind before (row ∷ done) left h few =
     let k = both _ _ h in
     let p = is_payload (payload_of row) k.left in
     let joined = rows_assoc before (row ∷ []) done in
-    let fewer : count (payloads_given ((before ++ (row ∷ [])) ++ done)) ≤ 2000000 = subst (λ l. count (payloads_given l) ≤ 2000000) joined few in
+    let fewer : count (given ((before ++ (row ∷ [])) ++ done)) ≤ 2000000 = subst (λ l. count (given l) ≤ 2000000) joined few in
     let here = no_fault before row p.0 p.1 (below _ _ (count_given (before ++ (row ∷ [])) done) fewer) in
     ap (λ o. option_or o (first_fault (before ++ (row ∷ [])) (done ++ left))) here
     ∙ first_behind (before ++ (row ∷ [])) done left k.right fewer ∙ ap (λ l. first_fault l left) (sym joined)
@@ -142,29 +179,16 @@ none_left None p e = (refl, e)
 none_left (Some x) p e = cc e
 
 -- where rows have no fault, they are readable and have few payloads
-pub few_behind : (before done left : List Record) → first_fault before (done ++ left) ≡ None → count (payloads_given before) ≤ 2000000 → count (payloads_given (before ++ done)) ≤ 2000000
-few_behind before [] left e few = subst (λ l. count (payloads_given l) ≤ 2000000) (sym (append_none before)) few
+pub few_behind : (before done left : List Record) → first_fault before (done ++ left) ≡ None → count (given before) ≤ 2000000 → count (given (before ++ done)) ≤ 2000000
+few_behind before [] left e few = subst (λ l. count (given l) ≤ 2000000) (sym (append_none before)) few
   where
     append_none : (xs : List Record) → xs ++ [] ≡ xs
     append_none [] = refl
     append_none (x ∷ xs) = ap (λ l. x ∷ l) (append_none xs)
 few_behind before (row ∷ done) left e few =
-    let k = none_left (fault_after before row) (first_fault (before ++ (row ∷ [])) (done ++ left)) e in
-    subst (λ l. count (payloads_given l) ≤ 2000000) (sym (rows_assoc before (row ∷ []) done))
-    (few_behind (before ++ (row ∷ [])) done left k.1 (still (payload_of row) refl k.0))
-  where
-    still : (r : Result VrpValue Wrong) → payload_of row ≡ r → fault_at (payloads_given before) (length before + 2) (payload_of row) ≡ None → count (payloads_given (before ++ (row ∷ []))) ≤ 2000000
-    still (Err w) f g = cc (g, ap (fault_at (payloads_given before) (length before + 2)) f)
-    still (Ok v) f g = by (has (payloads_given before) v) (count_push before row v f) (sym (ap (fault_at (payloads_given before) (length before + 2)) f) ∙ g)
-      where
-        by : (b : Bool) → count (payloads_given (before ++ (row ∷ []))) ≡ cond b (count (payloads_given before)) (count (payloads_given before) + 1)
-            → cond (b || nat_lt (count (payloads_given before)) 2000000) None (Some (fault.TooMany (length before + 2))) ≡ None → count (payloads_given (before ++ (row ∷ []))) ≤ 2000000
-        by true k m = omega (arith, k, few)
-        by false k m = room (nat_lt (count (payloads_given before)) 2000000) refl m
-          where
-            room : (b : Bool) → nat_lt (count (payloads_given before)) 2000000 ≡ b → cond b None (Some (fault.TooMany (length before + 2))) ≡ None → count (payloads_given (before ++ (row ∷ []))) ≤ 2000000
-            room true n m = grind (arith, nat_tests, k)
-            room false n m = cc m
+    let k = none_left (fault_of before row) (first_fault (before ++ (row ∷ [])) (done ++ left)) e in
+    subst (λ l. count (given l) ≤ 2000000) (sym (rows_assoc before (row ∷ []) done))
+    (few_behind (before ++ (row ∷ [])) done left k.1 (few_after before row k.0))
 
 -- the number of a list with the members of another one, in rising order
 pub count_same : (vs new : List VrpValue) → IsRising new → ((q : VrpValue) → stands_in new q ≡ stands_in vs q) → count (set_of vs) ≡ length new

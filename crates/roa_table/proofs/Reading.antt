@@ -1,20 +1,21 @@
 -- How far a file has been read, and what it comes to.
-use Rattle.std.proofs.Common.{◌≡◌, ℕ, ◌+◌, ◌≤◌, ◌<◌, true, false, ◌||◌, List, [], ◌∷◌, ◌++◌, length, drop, refl, sym, ap, subst, ◌∙◌, arith, Option, Some, None, Result, Ok, Err, inl, inr, ◌⊎◌}
+use Rattle.std.proofs.Common.{◌≡◌, ℕ, ◌+◌, ◌≤◌, ◌<◌, true, false, ◌||◌, List, [], ◌∷◌, ◌++◌, drop, refl, sym, ap, subst, ◌∙◌, arith, Option, Some, None, Result, Ok, Err, inl, inr, ◌⊎◌}
 use Rattle.std.specs.Prelude.{is_ok, IsErr}
 use Rattle.std.specs.Ordering.{eq_by_cmp}
 use Rattle.std.proofs.lemmas.List.{length-append}
 use Rattle.csv.specs.Reading.{records, default_config, strip_bom}
 use Rattle.std.specs.Option.{option_or}
+use Rattle.std.specs.Result.{result_map_both}
 use Rattle.net_names.specs.Steps.{unless}
 use Rattle.net_names.specs.Payloads.{VrpValue, vrp_cmp}
 use Rattle.net_names.specs.Orders.{vrp_total, exact_vrp}
 use Rattle.roa_table.specs.Sets.{IsSound, count, set_of}
 use Rattle.roa_table.specs.Lists.{stands_in}
 use Rattle.roa_table.specs.Records.{payload_of}
-use Rattle.roa_table.specs.Files.{Record, rows_of, given, fault_in, fault_at, payloads_in}
-use Rattle.roa_table.specs.Standing.{ByteReader, GoesOn}
+use Rattle.roa_table.specs.Files.{rows_of, given, payloads_in}
+use Rattle.roa_table.specs.Standing.{Record, ByteReader, GoesOn}
+use Rattle.roa_table.specs.Judging.{judged, payloads_of}
 use Rattle.roa_table.specs.Gathering.{JoinsIn, Gathers, IsTidied, EndsWith, AreAll, Explains, IsReading, IsGathering}
-use Rattle.roa_table.specs.declared.record.Wrong.{Wrong}
 use Rattle.roa_table.specs.declared.errors.VrpError.{VrpError}
 use Rattle.roa_table.specs.declared.gather.Stop.{Stop}
 use Rattle.roa_table.specs.declared.gather.Stop.TheVariants as stops
@@ -22,7 +23,7 @@ use Rattle.roa_table.proofs.Booleans.{both_true, list_all_append, either_true}
 use Rattle.roa_table.proofs.Rising.{eq_is}
 use Rattle.roa_table.proofs.Placed.{same_set_of, count_set_of}
 use Rattle.roa_table.proofs.CsvRecords.{ended, more}
-use Rattle.roa_table.proofs.Gathered.{payloads_given, first_fault, rows_assoc, stands_in-push, given_push, first_behind, few_behind}
+use Rattle.roa_table.proofs.Gathered.{first_fault, faulty, rows_assoc, stands_in-push, payloads_of-push, first_behind, few_behind}
 
 -- the file has no header, and so no rows
 pub no_rows : (b : ByteReader) (bytes : List ℕ) (fields : Record) → GoesOn b (records default_config (strip_bom bytes)) false fields → rows_of bytes ≡ []
@@ -59,10 +60,10 @@ unfolding begun
 start_gathering b bytes fields vs e h = subst (IsGathering b bytes 2) (sym e) (record { reading = begun b bytes fields h; readable = refl; members = λ q. refl; sound = λ v k. cc k })
 
 module _ (a b : ByteReader) (bytes : List ℕ) (row : ℕ) (vs : List VrpValue) (g : IsGathering a bytes row vs) where
-  pub set_is : set_of vs ≡ payloads_given g.reading.done
-  set_is = same_set_of vs (given g.reading.done) g.members
+  pub set_is : set_of vs ≡ given g.reading.done
+  set_is = same_set_of vs (payloads_of g.reading.done) g.members
 
-  few_given : count (set_of vs) ≤ 2000000 → count (payloads_given g.reading.done) ≤ 2000000
+  few_given : count (set_of vs) ≤ 2000000 → count (given g.reading.done) ≤ 2000000
   few_given = subst (λ s. count s ≤ 2000000) set_is
 
   -- the first fault of the file, where the payloads are few
@@ -73,26 +74,26 @@ module _ (a b : ByteReader) (bytes : List ℕ) (row : ℕ) (vs : List VrpValue) 
   pub crowd : 2000000 < count (set_of vs) → IsErr (payloads_in bytes)
   crowd many = by (first_fault [] (rows_of bytes)) refl
     where
-      by : (o : Option VrpError) → first_fault [] (rows_of bytes) ≡ o → IsErr (unless o (Ok (payloads_given (rows_of bytes))))
+      by : (o : Option VrpError) → first_fault [] (rows_of bytes) ≡ o → IsErr (unless o (Ok (given (rows_of bytes))))
       by (Some e) f = refl
       by None f = absurd (omega (arith, many, subst (λ s. count s ≤ 2000000) (sym set_is) (few_behind [] g.reading.done g.reading.left (sym (ap (first_fault []) g.reading.rows) ∙ f) empty)))
         where
-          empty : count (payloads_given []) ≤ 2000000
+          empty : count (given []) ≤ 2000000
           empty = subst (λ n. n ≤ 2000000) (sym (count_set_of [] refl)) (omega arith)
 
   module _ (fields : Record) where
     -- a row's payload was gathered
     module _ (h : GoesOn b g.reading.left true fields) where
-      pub gathered_on : (new : List VrpValue) → Gathers (payload_of fields) vs new → IsGathering b bytes (row + 1) new
+      pub gathered_on : (new : List VrpValue) → Gathers (judged row fields) vs new → IsGathering b bytes (row + 1) new
       unfolding read_on
       gathered_on new j = by (payload_of fields) refl j
         where
-          by : (p : Result VrpValue Wrong) → payload_of fields ≡ p → Gathers p vs new → IsGathering b bytes (row + 1) new
+          by : (p : Result VrpValue (ℕ → VrpError)) → payload_of fields ≡ p → Gathers (result_map_both (λ v. v) (λ e. e row) p) vs new → IsGathering b bytes (row + 1) new
           by (Err w) e k = absurd k
           by (Ok v) e k = record {
             reading = read_on a b bytes row g.reading fields h;
             readable = list_all_append (λ r. is_ok (payload_of r)) g.reading.done (fields ∷ []) g.readable (both_true _ _ (ap is_ok e) refl);
-            members = λ q. k.members q ∙ ap (λ x. eq_by_cmp vrp_cmp q v || x) (g.members q) ∙ sym (ap (λ l. stands_in l q) (given_push g.reading.done fields v e) ∙ stands_in-push (given g.reading.done) v q);
+            members = λ q. k.members q ∙ ap (λ x. eq_by_cmp vrp_cmp q v || x) (g.members q) ∙ sym (ap (λ l. stands_in l q) (payloads_of-push g.reading.done fields v e) ∙ stands_in-push (payloads_of g.reading.done) v q);
             sound = λ q m. sound q v k (either_true (eq_by_cmp vrp_cmp q v) (stands_in vs q) (sym (k.members q) ∙ m));
           }
             where
@@ -101,13 +102,12 @@ module _ (a b : ByteReader) (bytes : List ℕ) (row : ℕ) (vs : List VrpValue) 
               sound q x j (inr e) = g.sound q e
 
       -- the row has a fault
-      pub gathered_fault : (w : Wrong) (e : VrpError) → payload_of fields ≡ Err w → e ≡ fault_in row w → count (set_of vs) ≤ 2000000 → payloads_in bytes ≡ Err e
-      gathered_fault w e is f few =
-          let first : first_fault g.reading.done g.reading.left ≡ Some (fault_in row w) =
+      pub gathered_fault : (e : VrpError) → judged row fields ≡ Err e → count (set_of vs) ≤ 2000000 → payloads_in bytes ≡ Err e
+      gathered_fault e is few =
+          let first : first_fault g.reading.done g.reading.left ≡ Some e =
           ap (first_fault g.reading.done) (left_is a b bytes row g.reading fields h)
-          ∙ ap (λ r. option_or (fault_at (payloads_given g.reading.done) (length g.reading.done + 2) r) (first_fault (g.reading.done ++ (fields ∷ [])) (more b g.reading.left fields h).next)) is
-          ∙ ap (λ n. Some (fault_in n w)) (sym g.reading.counted) in
-          ap (λ o. unless o (Ok (payloads_given (rows_of bytes)))) (first_left few ∙ first) ∙ ap (λ x. Err x) (sym f)
+          ∙ ap (λ o. option_or o (first_fault (g.reading.done ++ (fields ∷ [])) (more b g.reading.left fields h).next)) (faulty g.reading.done fields e (ap (λ n. judged n fields) (sym g.reading.counted) ∙ is)) in
+          ap (λ o. unless o (Ok (given (rows_of bytes)))) (first_left few ∙ first)
 
     -- all rows have been read
     pub gathered_all : GoesOn b g.reading.left false fields → (new : List VrpValue) → IsTidied vs new → AreAll new (payloads_in bytes)
@@ -120,7 +120,7 @@ module _ (a b : ByteReader) (bytes : List ℕ) (row : ℕ) (vs : List VrpValue) 
           rising = t.rising;
           few = t.few;
           sound = λ v m. g.sound v (sym (t.members v) ∙ m);
-          is = ap (λ o. unless o (Ok (payloads_given (rows_of bytes)))) (first_left few ∙ ap (first_fault g.reading.done) none) ∙ ap (λ l. Ok (payloads_given l)) all ∙ ap (λ s. Ok s) (sym (same ∙ set_is));
+          is = ap (λ o. unless o (Ok (given (rows_of bytes)))) (first_left few ∙ ap (first_fault g.reading.done) none) ∙ ap (λ l. Ok (given l)) all ∙ ap (λ s. Ok s) (sym (same ∙ set_is));
         }
       where
         append_none : (xs : List Record) → xs ++ [] ≡ xs
@@ -135,4 +135,4 @@ module _ (a b : ByteReader) (bytes : List ℕ) (row : ℕ) (vs : List VrpValue) 
 
 -- a file without rows
 pub none_read : (bytes : List ℕ) (vs : List VrpValue) → rows_of bytes ≡ [] → vs ≡ [] → AreAll vs (payloads_in bytes)
-none_read bytes vs none e = subst (λ l. AreAll l (payloads_in bytes)) (sym e) (record { rising = refl; few = omega arith; sound = λ v k. cc k; is = ap (λ l. unless (first_fault [] l) (Ok (payloads_given l))) none })
+none_read bytes vs none e = subst (λ l. AreAll l (payloads_in bytes)) (sym e) (record { rising = refl; few = omega arith; sound = λ v k. cc k; is = ap (λ l. unless (first_fault [] l) (Ok (given l))) none })

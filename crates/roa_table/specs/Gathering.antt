@@ -7,9 +7,9 @@ use Rattle.roa_table.specs.Sets.{Payloads, count, set_of, IsSound}
 use Rattle.roa_table.specs.Lists.{IsRising, stands_in}
 use Rattle.roa_table.specs.Records.{payload_of}
 use Rattle.net_names.specs.Steps.{first_fault}
-use Rattle.roa_table.specs.Files.{Record, rows_of, given, fault_in, fault_at, fault_after}
-use Rattle.roa_table.specs.Standing.{ByteReader, Stands}
-use Rattle.roa_table.specs.declared.record.Wrong.{Wrong}
+use Rattle.roa_table.specs.Files.{rows_of, given, fault_of}
+use Rattle.roa_table.specs.Standing.{Record, ByteReader, Stands}
+use Rattle.roa_table.specs.Judging.{fault_at, payloads_of}
 use Rattle.roa_table.specs.declared.errors.VrpError.{VrpError}
 use Rattle.roa_table.specs.declared.errors.VrpError.TheVariants as fault
 use Rattle.roa_table.specs.declared.gather.Stop.{Stop}
@@ -26,15 +26,15 @@ pub record JoinsIn (v : VrpValue) (old new : List VrpValue) : Type 0 where
   pub members : (q : VrpValue) → stands_in new q ≡ (eq_by_cmp vrp_cmp q v || stands_in old q)
 
 -- the payload of a record has been gathered
-abbrev pub Gathers : Result VrpValue Wrong → List VrpValue → List VrpValue → Type 0
+abbrev pub Gathers : Result VrpValue VrpError → List VrpValue → List VrpValue → Type 0
 Gathers (Ok v) old new = JoinsIn v old new
-Gathers (Err w) old new = ⊥
+Gathers (Err e) old new = ⊥
 
--- why the payload of a record of this number has not been gathered: it has none, there are more than 2,000,000 already, or memory ran out
-abbrev pub StopsAt : ℕ → Result VrpValue Wrong → List VrpValue → List VrpValue → Stop → Type 0
-StopsAt row judged old new (stop.Fault e) = (w : Wrong) × (judged ≡ Err w) × (e ≡ fault_in row w) × (new ≡ old)
-StopsAt row judged old new stop.Crowded = MOST_PAYLOADS < count (set_of old)
-StopsAt row judged old new stop.Memory = ⊤
+-- why the payload of a record has not been gathered: it has none, there are more than 2,000,000 already, or memory ran out
+abbrev pub StopsAt : Result VrpValue VrpError → List VrpValue → List VrpValue → Stop → Type 0
+StopsAt outcome old new (stop.Fault e) = (outcome ≡ Err e) × (new ≡ old)
+StopsAt outcome old new stop.Crowded = MOST_PAYLOADS < count (set_of old)
+StopsAt outcome old new stop.Memory = ⊤
 
 -- the payloads in rising order, where they are 2,000,000 at most
 pub record IsTidied (old new : List VrpValue) : Type 0 where
@@ -73,13 +73,13 @@ pub record IsReading (reader : ByteReader) (bytes : List ℕ) (row : ℕ) : Type
 pub record IsGathering (reader : ByteReader) (bytes : List ℕ) (row : ℕ) (vs : List VrpValue) : Type 0 where
   pub reading : IsReading reader bytes row
   pub readable : list_all (λ r. is_ok (payload_of r)) reading.done ≡ true
-  pub members : (q : VrpValue) → stands_in vs q ≡ stands_in (given reading.done) q
+  pub members : (q : VrpValue) → stands_in vs q ≡ stands_in (payloads_of reading.done) q
   pub sound : AllSound vs
 
 -- the payload of a record of this number has been let in, where it is no fault
-abbrev pub Admits : ℕ → Result VrpValue Wrong → List VrpValue → List VrpValue → Type 0
+abbrev pub Admits : ℕ → Result VrpValue VrpError → List VrpValue → List VrpValue → Type 0
 Admits row (Ok v) old new = (fault_at (set_of old) row (Ok v) ≡ None) × ((q : VrpValue) → stands_in new q ≡ (eq_by_cmp vrp_cmp q v || stands_in old q))
-Admits row (Err w) old new = ⊥
+Admits row (Err e) old new = ⊥
 
 -- the record's fault, unless memory ran out
 abbrev pub Faults : VrpError → Option VrpError → Type 0
@@ -89,5 +89,6 @@ Faults e found = found ≡ Some e
 -- the rows that have been read have no fault, and their payloads stand in the list
 pub record IsAdmitting (reader : ByteReader) (bytes : List ℕ) (row : ℕ) (vs : List VrpValue) : Type 0 where
   pub reading : IsReading reader bytes row
-  pub free : first_fault fault_after [] (rows_of bytes) ≡ first_fault fault_after reading.done reading.left
-  pub members : (q : VrpValue) → stands_in vs q ≡ stands_in (given reading.done) q
+  pub few : count (given reading.done) ≤ MOST_PAYLOADS
+  pub free : first_fault fault_of [] (rows_of bytes) ≡ first_fault fault_of reading.done reading.left
+  pub members : (q : VrpValue) → stands_in vs q ≡ stands_in (payloads_of reading.done) q

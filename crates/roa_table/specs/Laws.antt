@@ -4,9 +4,10 @@ use Rattle.std.specs.List.{Any}
 use Rattle.std.specs.FinMap as fin
 use Rattle.net_names.specs.Steps.{first_fault}
 use Rattle.net_names.specs.Payloads.{VrpValue}
-use Rattle.roa_table.specs.Sets.{Payloads, set_of}
+use Rattle.roa_table.specs.Sets.{Payloads}
 use Rattle.roa_table.specs.Records.{payload_of}
-use Rattle.roa_table.specs.Files.{Record, rows_of, given, fault_after, payloads_in}
+use Rattle.roa_table.specs.Standing.{Record}
+use Rattle.roa_table.specs.Files.{rows_of, given, fault_of, payloads_in}
 use Rattle.roa_table.specs.declared.errors.VrpError.{VrpError}
 use Rattle.roa_table.specs.declared.errors.VrpError.TheVariants as fault
 use Rattle.roa_table.specs.declared.table.TheConstants.{MOST_PAYLOADS}
@@ -14,7 +15,7 @@ use Rattle.roa_table.specs.declared.table.TheConstants.{MOST_PAYLOADS}
 -- rows that have payloads: each gives one, and 2,000,000 different ones are given at most
 pub record HasPayloads (rows : List Record) : Type 0 where
   pub readable : All (λ row. IsOk (payload_of row)) rows
-  pub few : fin.len (set_of (given rows)) ≤ MOST_PAYLOADS
+  pub few : fin.len (given rows) ≤ MOST_PAYLOADS
 
 -- a file is accepted exactly where its rows have payloads
 abbrev pub AcceptedExactly : Type 0
@@ -37,7 +38,7 @@ row_of (fault.TooMany row) = row
 pub record IsFirstFaulty (rows : List Record) (e : VrpError) : Type 0 where
   pub inside : row_of e ≤ length rows + 1
   pub before : (row : ℕ) → row < row_of e → HasPayloads (take (row - 1) rows)
-  pub here : first_fault fault_after [] (take (row_of e - 1) rows) ≡ Some e
+  pub here : first_fault fault_of [] (take (row_of e - 1) rows) ≡ Some e
 
 -- the fault of a file names its first faulty row
 abbrev pub FirstFaulty : Type 0

@@ -4,6 +4,7 @@ pub mod Lists
 pub mod Shelves
 pub mod Records
 pub mod Files
+pub mod Judging
 pub mod Standing
 pub mod Gathering
 pub mod Laws

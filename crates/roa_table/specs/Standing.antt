@@ -6,7 +6,10 @@ use Rattle.csv.specs.Reading.{records_from, default_config, source_of, reader_tr
 use Rattle.csv.specs.declared.parser.State.{State}
 use Rattle.csv.specs.declared.reader.Reader.{Reader}
 use Rattle.csv.specs.declared.reader.Trim.TheVariants as trim
-use Rattle.roa_table.specs.Files.{Record}
+
+-- a record is the list of its fields
+abbrev pub Record : Type 0
+Record = List (List ℕ)
 
 -- a reader of bytes
 abbrev pub ByteReader : Type 0

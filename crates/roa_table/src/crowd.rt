@@ -2,12 +2,12 @@
 ghost use Rattle.std.specs.Prelude.{◌≡◌, None, Err, IsErr, OnOk, IfErr};
 ghost use Rattle.csv.specs.Records.{fields_of};
 ghost use Rattle.roa_table.specs.Sets.{set_of};
-ghost use Rattle.roa_table.specs.Records.{payload_of};
-ghost use Rattle.roa_table.specs.Files.{fault_at, payloads_in, Gives};
+ghost use Rattle.roa_table.specs.Files.{payloads_in, Gives};
+ghost use Rattle.roa_table.specs.Judging.{judged, fault_at};
 ghost use Rattle.roa_table.specs.Gathering.{Admits, Faults};
 
 use crate::errors::VrpError;
-use crate::record::{fault, judge};
+use crate::record::judge;
 use crate::rows::{open, step};
 use crate::table::MOST_PAYLOADS;
 use csv::ByteRecord;
@@ -18,12 +18,12 @@ use std::collections::BTreeSet;
 /// Lets the payload of a record in, unless the record has a fault.
 fn admit(vrps: &mut BTreeSet<Vrp>, row: u64, fields: &ByteRecord) -> Result<(), VrpError>
     ensures ok { OnOk result
-        (Admits row (payload_of (fields_of fields.now)) vrps.old.keys vrps.new.keys) }
+        (Admits row (judged row (fields_of fields.now)) vrps.old.keys vrps.new.keys) }
     ensures err { IfErr result
-        (λ e. Faults e (fault_at (set_of vrps.old.keys) row (payload_of (fields_of fields.now)))) }
+        (λ e. Faults e (fault_at (set_of vrps.old.keys) row (judged row (fields_of fields.now)))) }
 {
-    match judge(fields) {
-        Err(wrong) => Err(fault(row, wrong)),
+    match judge(row, fields) {
+        Err(e) => Err(e),
         Ok(vrp) => {
             let count = vrps.len();
             let known = vrps.contains(&vrp);

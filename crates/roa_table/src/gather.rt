@@ -3,12 +3,12 @@ ghost use Rattle.std.specs.Prelude.{◌≡◌, ◌≤◌, ◌<◌, None, OnOk, I
 ghost use Rattle.csv.specs.Records.{fields_of};
 ghost use Rattle.net_names.specs.Payloads.{VrpValue};
 ghost use Rattle.roa_table.specs.Lists.{IsRising, stands_in};
-ghost use Rattle.roa_table.specs.Records.{payload_of};
+ghost use Rattle.roa_table.specs.Judging.{judged};
 ghost use Rattle.roa_table.specs.Files.{payloads_in};
 ghost use Rattle.roa_table.specs.Gathering.{Gathers, StopsAt, IsTidied, EndsWith, AreAll, Explains};
 
 use crate::errors::VrpError;
-use crate::record::{fault, judge};
+use crate::record::judge;
 use crate::rows::{open, step};
 use crate::table::MOST_PAYLOADS;
 use csv::ByteRecord;
@@ -41,12 +41,12 @@ fn tidy(vrps: &mut Vec<Vrp>)
 /// Gathers the payload of a record.
 fn gather_row(vrps: &mut Vec<Vrp>, row: u64, fields: &ByteRecord) -> Result<(), Stop>
     ensures ok { OnOk result
-        (Gathers (payload_of (fields_of fields.now)) vrps.old.items vrps.new.items) }
+        (Gathers (judged row (fields_of fields.now)) vrps.old.items vrps.new.items) }
     ensures err { IfErr result
-        (StopsAt row (payload_of (fields_of fields.now)) vrps.old.items vrps.new.items) }
+        (StopsAt (judged row (fields_of fields.now)) vrps.old.items vrps.new.items) }
 {
-    match judge(fields) {
-        Err(wrong) => Err(Stop::Fault(fault(row, wrong))),
+    match judge(row, fields) {
+        Err(e) => Err(Stop::Fault(e)),
         Ok(vrp) => {
             let _ = vrp.max();
             if vrps.len() >= MANY {

@@ -2,8 +2,7 @@
 ghost use Rattle.std.specs.Prelude.{◌≡◌, List, true, IfOk};
 ghost use Rattle.csv.specs.Reading.{records, default_config, strip_bom, is_flexible, Ready};
 ghost use Rattle.csv.specs.Records.{fields_of};
-ghost use Rattle.roa_table.specs.Files.{Record};
-ghost use Rattle.roa_table.specs.Standing.{Stands, GoesOn};
+ghost use Rattle.roa_table.specs.Standing.{Record, Stands, GoesOn};
 
 use csv::{ByteRecord, ErrorKind, Reader, ReaderBuilder};
 use net_names::NoMemory;

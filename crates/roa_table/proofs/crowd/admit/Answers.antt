@@ -1,7 +1,7 @@
 use Rattle.std.proofs.Common.{◌≡◌, ◌<◌, ◌≤◌, length, ◌⊎◌, true, subst, sym, ◌∙◌, ap, inl, inr}
 use Rattle.roa_table.specs.Sets.{set_of}
 use Rattle.roa_table.specs.Lists.{stands_in}
-use Rattle.roa_table.specs.Files.{fault_at}
+use Rattle.roa_table.specs.Judging.{fault_at}
 use Rattle.roa_table.specs.Gathering.{Admits}
 use Rattle.roa_table.proofs.Admitted.{too_many, admits}
 use Rattle.roa_table.proofs.crowd.admit.Goals as goal

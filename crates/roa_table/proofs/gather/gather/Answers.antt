@@ -1,12 +1,11 @@
-use Rattle.std.proofs.Common.{◌≡◌, subst, ◌∙◌, Some, None}
+use Rattle.std.proofs.Common.{subst, Some, None}
 use Rattle.std.proofs.lemmas.Result.{IfOk-weaker, IfErr-weaker}
 use Rattle.csv.specs.Reading.{records, default_config, strip_bom}
 use Rattle.csv.specs.Records.{fields_of}
-use Rattle.roa_table.specs.Records.{payload_of}
+use Rattle.roa_table.specs.Judging.{judged}
 use Rattle.roa_table.specs.Files.{payloads_in}
 use Rattle.roa_table.specs.Standing.{GoesOn}
 use Rattle.roa_table.specs.Gathering.{StopsAt, EndsWith, Explains}
-use Rattle.roa_table.specs.declared.errors.VrpError.{VrpError}
 use Rattle.roa_table.proofs.Reading.{no_rows, start_gathering, gathered_on, gathered_fault, gathered_all, crowd, explain_end, none_read}
 use Rattle.roa_table.proofs.gather.gather.Goals as goal
 
@@ -34,21 +33,18 @@ returns-in-Err-Fault-clause-err c =
     let g = c.loop-row.invariant in
     let fields = fields_of c.step-in-loop-row.new.fields in
     let h = subst (λ b. GoesOn c.step-in-loop-row.new.reader g.reading.left b fields) c.in-Ok-true-step.field-0-test (c.in-Ok-true-step.ensures g.reading.left g.reading.stands) in
-    let s = subst (StopsAt c.loop-row.row (payload_of fields) c.loop-row.vrps.items c.gather_row.new.vrps.items) c.in-Err-Fault.field-0-is c.in-Err-Fault.ensures.err in
+    let s = subst (StopsAt (judged c.loop-row.row fields) c.loop-row.vrps.items c.gather_row.new.vrps.items) c.in-Err-Fault.field-0-is c.in-Err-Fault.ensures.err in
     IfErr-weaker c.finish.result (EndsWith (Some c.in-Err-Fault.e) c.gather_row.new.vrps.items) (λ stop. Explains stop (payloads_in c.args.bytes.now))
     (λ stop ends. explain_end c.loop-row.reader c.step-in-loop-row.new.reader c.args.bytes.now c.loop-row.row c.loop-row.vrps.items g fields (Some c.in-Err-Fault.e) stop
-    (λ e is few. gathered_fault c.loop-row.reader c.step-in-loop-row.new.reader c.args.bytes.now c.loop-row.row c.loop-row.vrps.items g fields h s.0 e s.1 (some_is e c.in-Err-Fault.e is ∙ s.2) few)
-    (subst (λ vs. EndsWith (Some c.in-Err-Fault.e) vs stop) s.3 ends))
+    (λ e is few. gathered_fault c.loop-row.reader c.step-in-loop-row.new.reader c.args.bytes.now c.loop-row.row c.loop-row.vrps.items g fields h e (cc (s.0, is)) few)
+    (subst (λ vs. EndsWith (Some c.in-Err-Fault.e) vs stop) s.1 ends))
     c.finish.ensures.err
-  where
-    some_is : (x y : VrpError) → Some y ≡ Some x → x ≡ y
-    some_is x y e = cc e
 
 pub returns-in-Err-Crowded : goal.returns-in-Err-Crowded
 returns-in-Err-Crowded c =
     let g = c.loop-row.invariant in
     let fields = fields_of c.step-in-loop-row.new.fields in
-    let s = subst (StopsAt c.loop-row.row (payload_of fields) c.loop-row.vrps.items c.gather_row.new.vrps.items) c.in-Err-Crowded.field-0-is c.in-Err-Crowded.ensures.err in
+    let s = subst (StopsAt (judged c.loop-row.row fields) c.loop-row.vrps.items c.gather_row.new.vrps.items) c.in-Err-Crowded.field-0-is c.in-Err-Crowded.ensures.err in
     record { ok = tt; err = crowd c.loop-row.reader c.step-in-loop-row.new.reader c.args.bytes.now c.loop-row.row c.loop-row.vrps.items g s }
 
 pub returns-in-Ok-false-step-clause-ok : goal.returns-in-Ok-false-step-clause-ok

@@ -1,0 +1,24 @@
+-- How one row is judged.
+use Rattle.std.specs.Prelude.{ℕ, ◌||◌, nat_lt, List, Option, Some, None, Result, Ok, Err, if◌then◌else◌}
+use Rattle.std.specs.FinMap as fin
+use Rattle.std.specs.List.{filter_map}
+use Rattle.std.specs.Result.{result_ok, result_map_both}
+use Rattle.net_names.specs.Payloads.{VrpValue}
+use Rattle.roa_table.specs.Sets.{Payloads}
+use Rattle.roa_table.specs.Records.{payload_of}
+use Rattle.roa_table.specs.declared.errors.VrpError.{VrpError}
+use Rattle.roa_table.specs.declared.errors.VrpError.TheVariants as fault
+use Rattle.roa_table.specs.declared.table.TheConstants.{MOST_PAYLOADS}
+
+-- the payload of a record in a row of this number, or the row's fault
+abbrev pub judged : ℕ → List (List ℕ) → Result VrpValue VrpError
+judged n fields = result_map_both (λ v. v) (λ e. e n) (payload_of fields)
+
+-- the payloads that rows give, in their order
+abbrev pub payloads_of : List (List (List ℕ)) → List VrpValue
+payloads_of rows = filter_map (λ r. result_ok (payload_of r)) rows
+
+-- the fault of a row of this number, where these payloads stand: it gives none, or one that is new while 2,000,000 stand
+abbrev pub fault_at : Payloads → ℕ → Result VrpValue VrpError → Option VrpError
+fault_at before n (Err e) = Some e
+fault_at before n (Ok v) = if fin.contains_key before v || nat_lt (fin.len before) MOST_PAYLOADS then None else Some (fault.TooMany n)
