@@ -21,10 +21,10 @@ use Rattle.net_names.proofs.Rising.{rises_strictly}
 use Rattle.topo_gen.specs.Drawn.{joined}
 use Rattle.topo_gen.specs.Rising.{AreRising}
 
-abbrev Entry : Type 0
+abbrev pub Entry : Type 0
 Entry = (ℕ × ℕ) × Rel
 
-abbrev map_with : List Entry → LinkMap
+abbrev pub map_with : List Entry → LinkMap
 map_with es = fin.from_entries es
 
 -- what the entries have at a pair
@@ -66,7 +66,7 @@ none_stands (Some rel) e h = cc
 pub empty_rises : AreRising fin.empty
 empty_rises q h = absurd (none_stands (fin.get fin.empty q) (fin.get-empty pair_cmp q) h)
 
-equal : (r : Ordering) → is_eq r ≡ true → r ≡ Equal
+pub equal : (r : Ordering) → is_eq r ≡ true → r ≡ Equal
 equal Less h = cc
 equal Equal h = refl
 equal Greater h = cc

@@ -1,77 +1,82 @@
 -- The numbers from 1 on, the policies of these ASes, and the leakers among them.
-use Rattle.std.proofs.Common.{◌≡◌, ◌≢◌, ◌∙◌, ◌≤◌, ◌+◌, ◌*◌, ◌%◌, ℕ, zero, suc, Bool, true, false, List, [], ◌∷◌, ◌++◌, length, map, filter, slice_index_or, slice_get, add-one, ap, refl, sym, arith}
-use Rattle.std.specs.List.{All}
+use Rattle.std.proofs.Common.{◌≡◌, ◌≢◌, ◌∙◌, ◌≤◌, ◌+◌, ◌*◌, ◌%◌, ℕ, zero, suc, Bool, true, false, List, [], ◌∷◌, ◌++◌, length, map, filter, slice_index_or, slice_get, add-one, ap, refl, subst, sym, arith}
+use Rattle.std.specs.List.{All, flat_map, range_with_len}
+use Rattle.std.proofs.lemmas.Grind.{flat_map-append}
+use Rattle.std.proofs.lemmas.List.FromFn.{length-range_with_len, get_or-range_with_len}
 use Rattle.std.specs.Prelude.{◌==◌}
 use Rattle.std.specs.FinMap as fin
 use Rattle.std.proofs.lemmas.List.{length-append, map-append, append_assoc, append-nil}
 use Rattle.std.proofs.lemmas.Bool.{eqb-true}
-use Rattle.std.proofs.lemmas.List.Elements.{All-nil, All-cons, All-append, All-map, All-filter, filter-append}
+use Rattle.std.proofs.lemmas.List.Elements.{All-map, All-filter, filter-append}
 use Rattle.policy_kinds.specs.declared.kind.Kind.{Kind}
 use Rattle.net_names.specs.Links.{LinkMap}
 use Rattle.scenario_text.specs.LineValues.{LineValue}
-use Rattle.topo_gen.specs.Scenarios.{kind_of, up_to}
-use Rattle.topo_gen.specs.Lines.{cut_and_join, edits}
+use Rattle.topo_gen.specs.Scenarios.{kind_of}
+use Rattle.topo_gen.specs.Lines.{rejoined}
 
 -- the AS leaks in round 2
 abbrev pub leaks : ℕ → Bool
 leaks a = a % 100 == 50
 
-pub more : (k : ℕ) → up_to (k + 1) ≡ up_to k ++ (k + 1) ∷ []
-unfolding up_to
-more k = rw add-one refl
+pub range_with_len-push : (a n j : ℕ) → a + n ≡ j → range_with_len a (n + 1) ≡ range_with_len a n ++ j ∷ []
+range_with_len-push a n j e = rw add-one (last a n j e)
+  where
+    last : (a n j : ℕ) → a + n ≡ j → range_with_len a (suc n) ≡ range_with_len a n ++ j ∷ []
+    last a zero j e = let same : a ≡ j = omega (arith, e) in ap (λ k. k ∷ []) same
+    last a (suc n) j e = ap (λ l. a ∷ l) (last (a + 1) n j (omega (arith, e)))
 
-low : (k : ℕ) → All (λ x. x ≤ k) (up_to k)
-unfolding up_to
-low zero = All-nil _
-low (suc k) = All-append (λ x. x ≤ suc k) (up_to k) (suc k ∷ []) (λ i d h.
-    let x : slice_index_or (up_to k) i d ≤ k = low k i d h in
-    omega (arith, x)) (All-cons (λ x. x ≤ suc k) (suc k) [] (omega arith) (All-nil _))
+pub range_with_len-more : (k : ℕ) → range_with_len 1 (k + 1) ≡ range_with_len 1 k ++ (k + 1) ∷ []
+range_with_len-more k = range_with_len-push 1 k (k + 1) (omega arith)
 
-not_next : (k : ℕ) → All (λ x. x ≢ k + 1) (up_to k)
+low : (k : ℕ) → All (λ x. x ≤ k) (range_with_len 1 k)
+low k = λ i d h.
+    let long : length (range_with_len 1 k) ≡ k = length-range_with_len 1 k in
+    let at : slice_index_or (range_with_len 1 k) i d ≡ 1 + i = get_or-range_with_len 1 k i d (omega (arith, h, long)) in
+    omega (arith, h, long, at)
+
+not_next : (k : ℕ) → All (λ x. x ≢ k + 1) (range_with_len 1 k)
 not_next k = λ i d h is.
-    let x : slice_index_or (up_to k) i d ≤ k = low k i d h in
+    let x : slice_index_or (range_with_len 1 k) i d ≤ k = low k i d h in
     omega (arith, x, is)
 
 abbrev policy_of : ℕ → ℕ × Kind
 policy_of a = (a, kind_of a)
 
-pub new_policy : (k : ℕ) → All (λ p. p.0 ≢ k + 1) (map policy_of (up_to k))
-new_policy k = All-map (λ p. p.0 ≢ k + 1) policy_of (up_to k) (not_next k)
+pub new_policy : (k : ℕ) → All (λ p. p.0 ≢ k + 1) (map policy_of (range_with_len 1 k))
+new_policy k = All-map (λ p. p.0 ≢ k + 1) policy_of (range_with_len 1 k) (not_next k)
 
-pub more_policies : (k : ℕ) → map policy_of (up_to k) ++ policy_of (k + 1) ∷ [] ≡ map policy_of (up_to (k + 1))
-more_policies k = sym (ap (map policy_of) (more k) ∙ map-append policy_of (up_to k) ((k + 1) ∷ []))
+pub more_policies : (k : ℕ) → map policy_of (range_with_len 1 k) ++ policy_of (k + 1) ∷ [] ≡ map policy_of (range_with_len 1 (k + 1))
+more_policies k = sym (ap (map policy_of) (range_with_len-more k) ∙ map-append policy_of (range_with_len 1 k) ((k + 1) ∷ []))
 
-pub new_leaker : (k : ℕ) → All (λ n. n ≢ k + 1) (filter leaks (up_to k))
-new_leaker k = All-filter leaks (λ n. n ≢ k + 1) (up_to k) (not_next k)
+pub new_leaker : (k : ℕ) → All (λ n. n ≢ k + 1) (filter leaks (range_with_len 1 k))
+new_leaker k = All-filter leaks (λ n. n ≢ k + 1) (range_with_len 1 k) (not_next k)
 
-pub one_more : (k : ℕ) → leaks (k + 1) ≡ true → filter leaks (up_to k) ++ (k + 1) ∷ [] ≡ filter leaks (up_to (k + 1))
-one_more k is = sym (ap (filter leaks) (more k) ∙ filter-append leaks (up_to k) ((k + 1) ∷ []) ∙ rw is refl)
+pub one_more : (k : ℕ) → leaks (k + 1) ≡ true → filter leaks (range_with_len 1 k) ++ (k + 1) ∷ [] ≡ filter leaks (range_with_len 1 (k + 1))
+one_more k is = sym (ap (filter leaks) (range_with_len-more k) ∙ filter-append leaks (range_with_len 1 k) ((k + 1) ∷ []) ∙ rw is refl)
 
-pub no_more : (k : ℕ) → leaks (k + 1) ≡ false → filter leaks (up_to k) ≡ filter leaks (up_to (k + 1))
-no_more k is = sym (ap (filter leaks) (more k) ∙ filter-append leaks (up_to k) ((k + 1) ∷ []) ∙ rw is (append-nil _))
+pub no_more : (k : ℕ) → leaks (k + 1) ≡ false → filter leaks (range_with_len 1 k) ≡ filter leaks (range_with_len 1 (k + 1))
+no_more k is = sym (ap (filter leaks) (range_with_len-more k) ∙ filter-append leaks (range_with_len 1 k) ((k + 1) ∷ []) ∙ rw is (append-nil _))
 
-pub few : (k : ℕ) → length (filter leaks (up_to k)) * 100 ≤ k + 50
-unfolding up_to
+pub few : (k : ℕ) → length (filter leaks (range_with_len 1 k)) * 100 ≤ k + 50
 few zero = omega arith
-few (suc k) = by (leaks (suc k)) refl (few k)
+few (suc k) = let on : k + 1 ≡ suc k = omega arith in subst (λ n. length (filter leaks (range_with_len 1 n)) * 100 ≤ n + 50) on (by (leaks (k + 1)) refl (few k))
   where
-    by : (b : Bool) → leaks (suc k) ≡ b → length (filter leaks (up_to k)) * 100 ≤ k + 50 → length (filter leaks (up_to (suc k))) * 100 ≤ suc k + 50
+    by : (b : Bool) → leaks (k + 1) ≡ b → length (filter leaks (range_with_len 1 k)) * 100 ≤ k + 50 → length (filter leaks (range_with_len 1 (k + 1))) * 100 ≤ k + 1 + 50
     by true is before =
-        let number : suc k % 100 ≡ 50 = eqb-true _ _ is in
-        let one : length (filter leaks (up_to (suc k))) ≡ length (filter leaks (up_to k)) + 1 =
-        ap length (filter-append leaks (up_to k) (suc k ∷ []) ∙ rw is refl) ∙ length-append (filter leaks (up_to k)) (suc k ∷ []) in
+        let number : (k + 1) % 100 ≡ 50 = eqb-true _ _ is in
+        let one : length (filter leaks (range_with_len 1 (k + 1))) ≡ length (filter leaks (range_with_len 1 k)) + 1 = ap length (sym (one_more k is)) ∙ length-append (filter leaks (range_with_len 1 k)) ((k + 1) ∷ []) in
         omega (arith, number, one, before)
     by false is before =
-        let same : length (filter leaks (up_to (suc k))) ≡ length (filter leaks (up_to k)) =
-        ap length (filter-append leaks (up_to k) (suc k ∷ []) ∙ rw is (append-nil _)) in
+        let same : length (filter leaks (range_with_len 1 (k + 1))) ≡ length (filter leaks (range_with_len 1 k)) = ap length (sym (no_more k is)) in
         omega (arith, same, before)
 
-pub more_edits : (i : ℕ) (links : LinkMap) (start now after : List LineValue) → now ≡ start ++ edits i links
-    → after ≡ now ++ cut_and_join (5 + 2 * i) (slice_get (fin.entries links) (37 * i % fin.len links)) → after ≡ start ++ edits (i + 1) links
-unfolding edits
-more_edits i links start now after h e =
-    e ∙ ap (λ xs. xs ++ cut_and_join (5 + 2 * i) (slice_get (fin.entries links) (37 * i % fin.len links))) h ∙ append_assoc start (edits i links) _ ∙ rw add-one refl
+-- the edits of the places up to i
+abbrev pub edits : ℕ → LinkMap → List LineValue
+edits i links = flat_map (λ j. rejoined (5 + 2 * j) (slice_get (fin.entries links) (37 * j % fin.len links))) (range_with_len 0 i)
 
-pub no_edits : (links : LinkMap) (start : List LineValue) → start ≡ start ++ edits 0 links
-unfolding edits
-no_edits links start = sym (append-nil start)
+pub more_edits : (i : ℕ) (links : LinkMap) (start now after : List LineValue) → now ≡ start ++ edits i links
+    → after ≡ now ++ rejoined (5 + 2 * i) (slice_get (fin.entries links) (37 * i % fin.len links)) → after ≡ start ++ edits (i + 1) links
+more_edits i links start now after h e =
+    let cuts : ℕ → List LineValue = λ j. rejoined (5 + 2 * j) (slice_get (fin.entries links) (37 * j % fin.len links)) in
+    e ∙ ap (λ xs. xs ++ cuts i) h ∙ append_assoc start (edits i links) _
+    ∙ ap (λ xs. start ++ xs) (sym (ap (flat_map cuts) (range_with_len-push 0 i i (omega arith)) ∙ flat_map-append cuts (range_with_len 0 i) (i ∷ []) ∙ ap (λ xs. edits i links ++ xs) (append-nil (cuts i))))

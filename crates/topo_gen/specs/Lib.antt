@@ -1,4 +1,3 @@
-pub mod Draws
 pub mod Drawn
 pub mod Scenarios
 pub mod Lines

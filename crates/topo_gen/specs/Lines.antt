@@ -1,6 +1,7 @@
 -- The lines of a generated input (own format).
-use Rattle.std.specs.Prelude.{ℕ, zero, suc, ◌+◌, ◌*◌, ◌%◌, List, [], ◌∷◌, ◌++◌, Option, Some, None, slice_get}
+use Rattle.std.specs.Prelude.{ℕ, ◌+◌, ◌*◌, ◌%◌, List, [], ◌∷◌, ◌++◌, Option, Some, None, slice_get}
 use Rattle.std.specs.FinMap as map
+use Rattle.std.specs.List.{flat_map, range_with_len}
 use Rattle.net_names.specs.Addresses.{AddrValue}
 use Rattle.net_names.specs.Links.{LinkMap}
 use Rattle.net_names.specs.declared.routes.Rel.{Rel}
@@ -14,20 +15,15 @@ use Rattle.topo_gen.specs.Scenarios.{low_addr, high_addr}
 abbrev pub report : ℕ → ℕ → AddrValue → LineValue
 report number round addr = record { number = number; act = act.Query (query.Report round addr) }
 
--- the link is cut in the one line and joined again in the next
-abbrev pub cut_and_join : ℕ → Option ((ℕ × ℕ) × Rel) → List LineValue
-cut_and_join number None = []
-cut_and_join number (Some link) =
-    record { number = number; act = act.Edit (edit.Unlink link.0.0 link.0.1) }
-    ∷ record { number = number + 1; act = act.Edit (edit.Link link.0.0 link.0.1 link.1) } ∷ []
+-- the link, where there is one, is cut in the line of this number and joined again in the next
+abbrev pub rejoined : ℕ → Option ((ℕ × ℕ) × Rel) → List LineValue
+rejoined n None = []
+rejoined n (Some ((a, b), rel)) = record { number = n; act = act.Edit (edit.Unlink a b) }
+    ∷ record { number = n + 1; act = act.Edit (edit.Link a b rel) } ∷ []
 
--- so many links are cut and joined again from line 5 on: those at every 37th place, round and round, in the rising order of their pairs
-unfoldable pub edits : ℕ → LinkMap → List LineValue
-edits zero links = []
-edits (suc i) links = edits i links ++ cut_and_join (5 + 2 * i) (slice_get (map.entries links) (37 * i % map.len links))
-
--- reports of both rounds and addresses, ten links cut and joined again, and the first report of round 2 once more
+-- reports of both rounds and addresses; from line 5 on ten links cut and joined again, those at every 37th place, round and round, in the rising order of their pairs; and the first report of round 2 once more
 unfoldable pub drawn_lines : LinkMap → List LineValue
 drawn_lines links =
     report 1 1 low_addr ∷ report 2 1 high_addr ∷ report 3 2 low_addr ∷ report 4 2 high_addr
-    ∷ edits 10 links ++ report 25 2 low_addr ∷ []
+    ∷ flat_map (λ i. rejoined (5 + 2 * i) (slice_get (map.entries links) (37 * i % map.len links)))
+    (range_with_len 0 10) ++ report 25 2 low_addr ∷ []

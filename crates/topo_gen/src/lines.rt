@@ -2,7 +2,8 @@
 ghost use Rattle.std.specs.Prelude.{◌≡◌, ◌<◌, ◌≤◌, ◌++◌, ◌∷◌, [], ◌+◌, ◌*◌, ◌%◌, slice_get, option_map, Some, IfOk, IfSome, OnOk};
 ghost use Rattle.net_names.specs.LinkLists.{entry_of};
 ghost use Rattle.std.specs.FinMap as map;
-ghost use Rattle.topo_gen.specs.Lines.{cut_and_join, drawn_lines, edits, report};
+ghost use Rattle.std.specs.List.{flat_map, range_with_len};
+ghost use Rattle.topo_gen.specs.Lines.{rejoined, drawn_lines, report};
 
 use crate::scenario::{high_addr, low_addr};
 use net_names::{Addr, Link, Links, NoMemory};
@@ -36,7 +37,7 @@ fn link_at(links: &Links, i: u32) -> Option<Link>
 fn push_edits(lines: &mut Lines, number: u32, link: Link) -> Result<(), NoMemory>
     requires small { number ≤ 100 }
     requires ends { link.lo < link.hi }
-    ensures { OnOk result (lines.new ≡ lines.old ++ cut_and_join number (Some (entry_of link))) }
+    ensures { OnOk result (lines.new ≡ lines.old ++ rejoined number (Some (entry_of link))) }
 {
     let (a, b) = (link.lo, link.hi);
     lines.push(Line {
@@ -56,7 +57,7 @@ fn push_edits(lines: &mut Lines, number: u32, link: Link) -> Result<(), NoMemory
 // Cuts the link at one of those places and joins it again.
 fn push_edits_at(lines: &mut Lines, links: &Links, i: u32) -> Result<(), NoMemory>
     requires { i ≤ 10 }
-    ensures { OnOk result (lines.new ≡ lines.old ++ cut_and_join (5 + 2 * i) (slice_get (map.entries links.now) (37 * i % map.len links.now))) }
+    ensures { OnOk result (lines.new ≡ lines.old ++ rejoined (5 + 2 * i) (slice_get (map.entries links.now) (37 * i % map.len links.now))) }
 {
     match link_at(links, i) {
         Some(link) => push_edits(lines, 5 + 2 * i, link),
@@ -66,7 +67,8 @@ fn push_edits_at(lines: &mut Lines, links: &Links, i: u32) -> Result<(), NoMemor
 
 // Cuts ten links and joins each again.
 fn push_all_edits(lines: &mut Lines, links: &Links) -> Result<(), NoMemory>
-    ensures { OnOk result (lines.new ≡ lines.old ++ edits 10 links.now) }
+    ensures { OnOk result (lines.new ≡ lines.old
+        ++ flat_map (λ i. rejoined (5 + 2 * i) (slice_get (map.entries links.now) (37 * i % map.len links.now))) (range_with_len 0 10)) }
 {
     'edits: for i in 0..10 {
         push_edits_at(lines, links, i)?;

@@ -1,6 +1,9 @@
 //! The links of a generated input.
-ghost use Rattle.std.specs.Prelude.{◌≡◌, ◌-◌, ◌<◌, ◌≤◌, OnOk, IfOk, min};
-ghost use Rattle.topo_gen.specs.Drawn.{below, first_peers, joined, drawn_links, peers_below, with_as, with_peer, with_providers};
+ghost use Rattle.std.specs.Prelude.{◌≡◌, ◌+◌, ◌-◌, ◌%◌, ◌==◌, ◌<◌, ◌≤◌, if◌then◌else◌, ℕ, List, ◌++◌, map, OnOk, IfOk, min};
+ghost use Rattle.std.specs.FinMap as fin;
+ghost use Rattle.std.specs.Fn.{iterate};
+ghost use Rattle.std.specs.List.{range_with_len};
+ghost use Rattle.topo_gen.specs.Drawn.{first_peers, joined, drawn_links, picked, with_as};
 
 use crate::draw::draw;
 use crate::pairs::Pairs;
@@ -32,7 +35,8 @@ fn join(links: &mut Pairs, a: u32, b: u32, rel: Rel) -> Result<(), NoMemory>
 // Makes the ASes below `a` its peers.
 fn join_below(links: &mut Pairs, a: u32) -> Result<(), NoMemory>
     requires { 1 ≤ a }
-    ensures { OnOk result (links.new ≡ peers_below a (a - 1) links.old) }
+    ensures { OnOk result ((es : List ((ℕ × ℕ) × Rel)) → links.old ≡ fin.from_entries es
+        → links.new ≡ fin.from_entries (es ++ map (λ b. ((b, a), Rel.Peer)) (range_with_len 1 (a - 1)))) }
 {
     'below: for k in 0..a - 1 {
         join(links, k + 1, a, Rel::Peer)?;
@@ -55,51 +59,56 @@ fn first_links(alloc: Global, count: u32) -> Result<Pairs, NoMemory>
 // The AS below `a` that a word picks.
 fn pick(a: u32, word: u64) -> u32
     requires { 2 ≤ a }
-    ensures value { result ≡ below a word }
+    ensures value { result ≡ 1 + word % (a - 1) }
     ensures least { 1 ≤ result }
     ensures most { result < a }
 {
     1 + (word % u64::from(a - 1)) as u32
 }
 
-// Draws providers of `a`.
-fn join_providers(
+// Draws an AS, to which `a` becomes this.
+fn join_picked(links: &mut Pairs, rng: &mut SplitMix64, a: u32, rel: Rel) -> Result<(), NoMemory>
+    requires { 2 ≤ a }
+    ensures { OnOk result ((links.new, rng.new) ≡ picked a rel (links.old, rng.old)) }
+{
+    let word = draw(rng);
+    join(links, pick(a, word), a, rel)
+}
+
+// Draws so many ASes, to which `a` becomes this.
+fn join_all(
     links: &mut Pairs,
     rng: &mut SplitMix64,
     a: u32,
+    rel: Rel,
     count: u64,
 ) -> Result<(), NoMemory>
     requires least { 2 ≤ a }
     requires few { count ≤ 3 }
-    ensures { OnOk result (record { links = links.new; state = rng.new } ≡ with_providers a count (record { links = links.old; state = rng.old })) }
+    ensures { OnOk result ((links.new, rng.new) ≡ iterate (picked a rel) count (links.old, rng.old)) }
 {
-    'providers: for _k in 0..count {
-        let word = draw(rng);
-        join(links, pick(a, word), a, Rel::Customer)?;
+    'picked: for _k in 0..count {
+        join_picked(links, rng, a, rel)?;
     }
     Ok(())
 }
 
-// Draws a peer of `a`, or none.
-fn join_peer(links: &mut Pairs, rng: &mut SplitMix64, a: u32) -> Result<(), NoMemory>
-    requires { 2 ≤ a }
-    ensures { OnOk result (record { links = links.new; state = rng.new } ≡ with_peer a (record { links = links.old; state = rng.old })) }
+// How many peers a word gives an AS: one where 4 divides it, and else none.
+fn peer_count(word: u64) -> u64
+    ensures { result ≡ (if word % 4 == 0 then 1 else 0) }
 {
-    if draw(rng) % 4 != 0 {
-        return Ok(());
-    }
-    let word = draw(rng);
-    join(links, pick(a, word), a, Rel::Peer)
+    if word % 4 == 0 { 1 } else { 0 }
 }
 
 // Draws the links of one more AS.
 fn join_as(links: &mut Pairs, rng: &mut SplitMix64, a: u32) -> Result<(), NoMemory>
     requires { 2 ≤ a }
-    ensures { OnOk result (record { links = links.new; state = rng.new } ≡ with_as a (record { links = links.old; state = rng.old })) }
+    ensures { OnOk result ((links.new, rng.new) ≡ with_as (links.old, rng.old) a) }
 {
     let count = 1 + draw(rng) % 3;
-    join_providers(links, rng, a, count)?;
-    join_peer(links, rng, a)
+    join_all(links, rng, a, Rel::Customer, count)?;
+    let more = peer_count(draw(rng));
+    join_all(links, rng, a, Rel::Peer, more)
 }
 
 /// The links of a generated input of so many ASes.

@@ -1,6 +1,7 @@
 //! The scenario and the payloads of a generated input.
 ghost use Rattle.std.specs.Prelude.{◌≡◌, ◌<◌, ◌≤◌, ◌+◌, ◌%◌, ◌==◌, ◌∷◌, [], IfOk, OnOk, map, filter, min};
-ghost use Rattle.topo_gen.specs.Scenarios.{drawn_payloads, drawn_scenario, high_addr as high_address, kind_of as kind_by, low_addr as low_address, own, up_to, whole as whole_prefix};
+ghost use Rattle.topo_gen.specs.Scenarios.{drawn_payloads, drawn_scenario, high_addr as high_address, kind_of as kind_by, low_addr as low_address, whole as whole_prefix};
+ghost use Rattle.std.specs.List.{range_with_len};
 ghost use Rattle.scenario_text.specs.Scenarios.{nothing};
 
 use crate::links::as_of;
@@ -52,7 +53,7 @@ pub fn high_addr() -> Addr
 
 // The announcement of a prefix by an AS with its own number as the path.
 fn own_announcement(alloc: Global, prefix: Prefix, asn: Asn) -> Result<Announcement, NoMemory>
-    ensures { IfOk result (λ a. a ≡ own prefix asn) }
+    ensures { IfOk result (λ a. a ≡ record { prefix = prefix; asn = asn; path = asn ∷ [] }) }
 {
     let mut path = Path::new(alloc);
     path.push(asn)?;
@@ -90,7 +91,7 @@ fn kind_of(number: u32) -> Kind
 fn set_policies(scenario: &mut Scenario, n: u32) -> Result<(), NoMemory>
     requires few { n ≤ 20000 }
     requires none { scenario.old.policies ≡ [] }
-    ensures { OnOk result (scenario.new ≡ record scenario.old { policies = map (λ a. (a, kind_by a)) (up_to n) }) }
+    ensures { OnOk result (scenario.new ≡ record scenario.old { policies = map (λ a. (a, kind_by a)) (range_with_len 1 n) }) }
 {
     'ases: for k in 0..n {
         scenario.set_policy(as_of(k + 1), kind_of(k + 1))?;
@@ -101,8 +102,8 @@ fn set_policies(scenario: &mut Scenario, n: u32) -> Result<(), NoMemory>
 // Makes the AS of the number after `k` leak in round 2, if it is one that does.
 fn leak(scenario: &mut Scenario, k: u32) -> Result<(), NoMemory>
     requires few { k < 5000 }
-    requires leaks { scenario.old.leaks ≡ filter (λ a. a % 100 == 50) (up_to k) ∷ [] }
-    ensures { OnOk result (scenario.new ≡ record scenario.old { leaks = filter (λ a. a % 100 == 50) (up_to (k + 1)) ∷ [] }) }
+    requires leaks { scenario.old.leaks ≡ filter (λ a. a % 100 == 50) (range_with_len 1 k) ∷ [] }
+    ensures { OnOk result (scenario.new ≡ record scenario.old { leaks = filter (λ a. a % 100 == 50) (range_with_len 1 (k + 1)) ∷ [] }) }
 {
     let number = k + 1;
     if number % 100 != 50 {
@@ -115,7 +116,7 @@ fn leak(scenario: &mut Scenario, k: u32) -> Result<(), NoMemory>
 fn leak_all(scenario: &mut Scenario, n: u32) -> Result<(), NoMemory>
     requires few { n ≤ 5000 }
     requires none { scenario.old.leaks ≡ [] }
-    ensures { OnOk result (scenario.new ≡ record scenario.old { leaks = filter (λ a. a % 100 == 50) (up_to n) ∷ [] }) }
+    ensures { OnOk result (scenario.new ≡ record scenario.old { leaks = filter (λ a. a % 100 == 50) (range_with_len 1 n) ∷ [] }) }
 {
     scenario.new_round()?;
     'ases: for k in 0..n {

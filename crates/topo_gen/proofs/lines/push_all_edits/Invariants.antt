@@ -1,5 +1,5 @@
 use Rattle.std.proofs.Common.{◌≡◌, ◌++◌}
-use Rattle.topo_gen.specs.Lines.{edits}
+use Rattle.topo_gen.proofs.UpTo.{edits}
 use Rattle.topo_gen.proofs.lines.push_all_edits.Given as goal
 
 abbrev pub invariant-edits : goal.invariant-edits

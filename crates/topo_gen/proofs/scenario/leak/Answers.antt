@@ -3,7 +3,7 @@ use Rattle.std.specs.List.{All}
 use Rattle.scenario_text.specs.Scenarios.{last_leakers}
 use Rattle.std.proofs.lemmas.Bool.{eq-eqb, ne_eqb}
 use Rattle.std.proofs.lemmas.Result.{on_ok_weaker}
-use Rattle.topo_gen.specs.Scenarios.{up_to}
+use Rattle.std.specs.List.{range_with_len}
 use Rattle.topo_gen.proofs.UpTo.{leaks, few, new_leaker, no_more, one_more}
 use Rattle.topo_gen.proofs.scenario.leak.Goals as goal
 
@@ -17,7 +17,7 @@ leaker-requires-clause-new c =
 
 pub leaker-requires-clause-room : goal.leaker-requires-clause-room
 leaker-requires-clause-room c = rw c.requires.leaks (
-    let most : length (filter leaks (up_to c.args.k)) * 100 ≤ c.args.k + 50 = few c.args.k in
+    let most : length (filter leaks (range_with_len 1 c.args.k)) * 100 ≤ c.args.k + 50 = few c.args.k in
     let below : c.args.k < 5000 = c.requires.few in
     omega (arith, most, below))
 

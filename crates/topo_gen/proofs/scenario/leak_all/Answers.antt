@@ -1,7 +1,5 @@
 use Rattle.std.proofs.Common.{◌∙◌, [], ◌∷◌, ◌++◌, ap}
-use Rattle.topo_gen.specs.Scenarios.{up_to}
 use Rattle.topo_gen.proofs.scenario.leak_all.Goals as goal
 
 pub ases-init : goal.ases-init
-unfolding up_to
 ases-init c = c.in_ok-new_round.ensures.ok ∙ ap (λ xs. record c.args.scenario.now { leaks = xs ++ [] ∷ [] }) c.requires.none

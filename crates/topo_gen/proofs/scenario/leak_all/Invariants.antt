@@ -1,7 +1,7 @@
 use Rattle.std.proofs.Common.{◌≡◌, [], ◌∷◌, filter}
-use Rattle.topo_gen.specs.Scenarios.{up_to}
+use Rattle.std.specs.List.{range_with_len}
 use Rattle.topo_gen.proofs.UpTo.{leaks}
 use Rattle.topo_gen.proofs.scenario.leak_all.Given as goal
 
 abbrev pub invariant-ases : goal.invariant-ases
-invariant-ases l = l.scenario ≡ record l.fn.scenario { leaks = filter leaks (up_to l.k) ∷ [] }
+invariant-ases l = l.scenario ≡ record l.fn.scenario { leaks = filter leaks (range_with_len 1 l.k) ∷ [] }

@@ -1,12 +1,10 @@
 use Rattle.std.proofs.Common.{◌∙◌, [], ◌∷◌, ◌++◌, ◌≢◌, ap, subst, sym}
 use Rattle.std.specs.List.{All}
 use Rattle.scenario_text.specs.Scenarios.{ScenarioValue}
-use Rattle.topo_gen.specs.Scenarios.{up_to}
 use Rattle.topo_gen.proofs.UpTo.{more_policies, new_policy}
 use Rattle.topo_gen.proofs.scenario.set_policies.Goals as goal
 
 pub ases-init : goal.ases-init
-unfolding up_to
 ases-init c = ap (λ xs. record c.args.scenario.now { policies = xs }) c.requires.none
 
 pub set_policy-requires : goal.set_policy-requires
