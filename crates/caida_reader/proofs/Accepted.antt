@@ -7,8 +7,8 @@ use Rattle.std.specs.Option.{option_or}
 use Rattle.net_names.specs.Links.{pair_cmp}
 use Rattle.net_names.proofs.Pairs.{pairs_total}
 use Rattle.net_names.specs.declared.routes.Rel.{Rel}
-use Rattle.caida_reader.specs.Value.{FirstMap, links_in, fault_after}
-use Rattle.caida_reader.specs.Firsts.{firsts, with_first, with_said}
+use Rattle.caida_reader.specs.Value.{links_in, fault_after}
+use Rattle.caida_reader.specs.Firsts.{FirstMap, firsts, with_first, with_said}
 use Rattle.caida_reader.specs.Laws.{HasLinks}
 use Rattle.caida_reader.specs.declared.line.Said.{Said}
 use Rattle.caida_reader.specs.declared.line.Said.TheVariants.{Nothing, Unreadable, Itself, Link}

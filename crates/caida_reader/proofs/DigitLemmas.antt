@@ -1,7 +1,7 @@
 -- Digits from the front of a text on, and the line that begins with them.
-use Rattle.std.proofs.Common.{◌≡◌, ◌≢◌, ℕ, suc, ◌+◌, ◌-◌, ◌*◌, ◌^◌, ◌<◌, ◌≤◌, Bool, true, false, List, [], ◌∷◌, ◌++◌, length, length-append, length-drop, take, drop, get_or, take-append-drop, append_assoc, Some, All, refl, sym, ap, ◌∙◌, arith, add-one, inl, inr, if◌then◌else◌}
+use Rattle.std.proofs.Common.{◌≡◌, ◌≢◌, ℕ, suc, ◌+◌, ◌-◌, ◌*◌, ◌^◌, ◌<◌, ◌≤◌, Bool, true, false, List, [], ◌∷◌, ◌++◌, length, length-append, length-drop, take, drop, get_or, take-append-drop, append_assoc, Option, Some, All, refl, sym, ap, ◌∙◌, arith, add-one, inl, inr, if◌then◌else◌}
 use Rattle.std.proofs.Math.Nat.{pow-suc}
-use Rattle.std.specs.Prelude.{◌==◌, nat_lt}
+use Rattle.std.specs.Prelude.{◌==◌, nat_lt, option_map, unwrap_or}
 use Rattle.std.specs.Char.{is_digit, digit_value}
 use Rattle.std.specs.List.{list_all}
 use Rattle.std.proofs.lemmas.Bool.{lt-ltb, ne_eqb, eqb-false, cases_Bool}
@@ -10,11 +10,13 @@ use Rattle.std.proofs.lemmas.List.{drop_more, take_all}
 use Rattle.std.proofs.lemmas.List.Folds.{list_all_more, list_all_at}
 use Rattle.std.proofs.lemmas.List.Elements.{All-append, All-cons}
 use Rattle.std.specs.Str.Lines.{strip_carriage_return}
+use Rattle.net_names.specs.Steps.{◌>>=◌}
+use Rattle.net_names.specs.declared.routes.Rel.{Rel}
 use Rattle.net_names.specs.Texts.{fields, is_skipped, numeral, asn_of, rel_of}
 use Rattle.net_names.proofs.TextLaws.{cut_again}
 use Rattle.net_names.proofs.Cuts.{fields_cut}
 use Rattle.caida_reader.specs.Lines.{IsOneLine}
-use Rattle.caida_reader.specs.Says.{link_of, said_by, says}
+use Rattle.caida_reader.specs.Says.{link, said_by, says}
 use Rattle.caida_reader.specs.Plain.{BeginsWithAsn, BeginsWithLine}
 use Rattle.caida_reader.specs.declared.line.Said.{Said}
 use Rattle.caida_reader.specs.declared.line.Said.TheVariants as what
@@ -81,6 +83,10 @@ strip_carriage_return-behind front (b ∷ bs) =
 abbrev said_of : List ℕ → Said
 said_of text = if is_skipped text then what.Nothing else said_by (fields 124 text)
 
+-- what two AS numbers and a relation say
+abbrev pub linked : ℕ → ℕ → Option Rel → Said
+linked a b rel = unwrap_or (option_map (link a b) rel) what.Unreadable
+
 -- a line whose first two fields are AS numbers
 module _ (text one two end rest : List ℕ) (a b : ℕ) (first : BeginsWithAsn text a one) (second : BeginsWithAsn one b two) (cut : two ≡ end ++ 10 ∷ rest) (ended : IsOneLine end) where
   abbrev line : List ℕ
@@ -95,14 +101,15 @@ module _ (text one two end rest : List ℕ) (a b : ℕ) (first : BeginsWithAsn t
   line-one_line = All-append (λ byte. byte ≢ 10) first.field _ (one_line first.field first.digits) (All-cons (λ byte. byte ≢ 10) 124 _ (λ e. cc)
       (All-append (λ byte. byte ≢ 10) second.field _ (one_line second.field second.digits) (All-cons (λ byte. byte ≢ 10) 124 end (λ e. cc) ended)))
 
-  said : (third : List ℕ) (further : List (List ℕ)) → fields 124 (strip_carriage_return end) ≡ third ∷ further → says line ≡ link_of (Some a) (Some b) (rel_of third)
+  said : (third : List ℕ) (further : List (List ℕ)) → fields 124 (strip_carriage_return end) ≡ third ∷ further → says line ≡ linked a b (rel_of third)
   said third further is =
       ap said_of (strip_carriage_return-behind first.field (second.field ++ 124 ∷ end) ∙ ap (λ l. first.field ++ 124 ∷ l) (strip_carriage_return-behind second.field end))
       ∙ ap (λ (s : Bool). if s then what.Nothing else said_by (fields 124 (first.field ++ 124 ∷ (second.field ++ 124 ∷ strip_carriage_return end)))) (not_skipped first.field (124 ∷ (second.field ++ 124 ∷ strip_carriage_return end)) first.some first.digits)
       ∙ ap said_by (fields_digits first.field (second.field ++ 124 ∷ strip_carriage_return end) first.digits ∙ ap (λ l. first.field ∷ l) (fields_digits second.field (strip_carriage_return end) second.digits ∙ ap (λ l. second.field ∷ l) is))
-      ∙ ap (λ o. link_of o (asn_of second.field) (rel_of third)) first.value ∙ ap (λ o. link_of (Some a) o (rel_of third)) second.value
+      ∙ ap (λ o. unwrap_or (o >>= λ x. asn_of second.field >>= λ y. option_map (link x y) (rel_of third)) what.Unreadable) first.value
+      ∙ ap (λ o. unwrap_or (o >>= λ y. option_map (link a y) (rel_of third)) what.Unreadable) second.value
 
-  pub begins : (third : List ℕ) (further : List (List ℕ)) (s : Said) → fields 124 (strip_carriage_return end) ≡ third ∷ further → s ≡ link_of (Some a) (Some b) (rel_of third) → BeginsWithLine text s rest
+  pub begins : (third : List ℕ) (further : List (List ℕ)) (s : Said) → fields 124 (strip_carriage_return end) ≡ third ∷ further → s ≡ linked a b (rel_of third) → BeginsWithLine text s rest
   begins third further s is value = record { line = line; whole = parted; one_line = line-one_line; value = value ∙ sym (said third further is) }
 
 pub asn_again : (text : List ℕ) (n : ℕ) → numeral 10 10 text ≡ Some n → 1 ≤ n → n < 2 ^ 32 → asn_of text ≡ Some n

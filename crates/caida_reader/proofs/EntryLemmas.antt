@@ -10,7 +10,7 @@ use Rattle.std.proofs.lemmas.List.Elements.{All-map}
 use Rattle.net_names.specs.Links.{pair_cmp}
 use Rattle.net_names.proofs.Pairs.{exact_pair, pairs_total}
 use Rattle.net_names.proofs.Rising as rising
-use Rattle.caida_reader.specs.Value.{FirstMap}
+use Rattle.caida_reader.specs.Firsts.{FirstMap}
 use Rattle.caida_reader.specs.Entries.{entry_of, first_in}
 use Rattle.caida_reader.specs.Marks.{IsMarked}
 use Rattle.caida_reader.specs.Runs.{IsPast}

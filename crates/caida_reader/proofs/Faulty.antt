@@ -6,8 +6,8 @@ use Rattle.std.specs.Option.{option_or}
 use denote.Enum.Bare.{sameb}
 use Rattle.net_names.specs.declared.routes.Rel.{Rel}
 use Rattle.net_names.specs.contracts.routes.Rel.{the_type}
-use Rattle.caida_reader.specs.Firsts.{firsts}
-use Rattle.caida_reader.specs.Value.{FirstMap, link_fault, fault_at, fault_after}
+use Rattle.caida_reader.specs.Firsts.{firsts, FirstMap}
+use Rattle.caida_reader.specs.Value.{link_fault, fault_at, fault_after}
 use Rattle.caida_reader.specs.Laws.{line_of}
 use Rattle.caida_reader.specs.declared.line.Said.{Said}
 use Rattle.caida_reader.specs.declared.line.Said.TheVariants.{Nothing, Unreadable, Itself, Link}

@@ -14,8 +14,8 @@ use denote.Enum.Bare.{sameb}
 use Rattle.net_names.specs.declared.routes.Rel.{Rel}
 use Rattle.net_names.specs.contracts.routes.Rel.{the_type}
 use Rattle.net_names.specs.declared.routes.Rel.TheVariants.{Customer, Peer, Provider}
-use Rattle.caida_reader.specs.Value.{FirstMap, links_in, link_fault}
-use Rattle.caida_reader.specs.Firsts.{firsts, with_first, relations, link_at}
+use Rattle.caida_reader.specs.Value.{links_in, link_fault}
+use Rattle.caida_reader.specs.Firsts.{FirstMap, firsts, with_first, relations, link_at}
 use Rattle.caida_reader.specs.Laws.{HasLinks}
 use Rattle.caida_reader.specs.declared.line.Said.{Said}
 use Rattle.caida_reader.specs.declared.line.Said.TheVariants.{Nothing, Unreadable, Itself, Link}

@@ -8,8 +8,7 @@ use Rattle.std.specs.FinMap.{find, get, entries, insert, empty, get-entries, get
 use Rattle.std.specs.Option.{option_or}
 use Rattle.net_names.specs.Links.{pair_cmp}
 use Rattle.net_names.proofs.Pairs.{exact_pair, pairs_total}
-use Rattle.caida_reader.specs.Value.{FirstMap}
-use Rattle.caida_reader.specs.Firsts.{with_first, ArePairs}
+use Rattle.caida_reader.specs.Firsts.{FirstMap, with_first, ArePairs}
 use Rattle.caida_reader.specs.Marks.{IsMarked}
 use Rattle.caida_reader.specs.Runs.{joined, turned, all_turned, AreApart, AreRuns, AreFirsts, Puts}
 use Rattle.caida_reader.specs.declared.firsts.First.{First}

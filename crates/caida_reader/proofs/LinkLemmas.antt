@@ -12,8 +12,7 @@ use Rattle.std.proofs.lemmas.List.{map-append}
 use Rattle.std.specs.FinMap.{find, get, entries, from_entries, get-from_entries, get-entries, same_map, from_entries_push}
 use Rattle.net_names.specs.Links.{pair_cmp, with_relation}
 use Rattle.net_names.proofs.Pairs.{exact_pair, pairs_total}
-use Rattle.caida_reader.specs.Value.{FirstMap}
-use Rattle.caida_reader.specs.Firsts.{relations, link_at}
+use Rattle.caida_reader.specs.Firsts.{FirstMap, relations, link_at}
 use Rattle.caida_reader.specs.declared.firsts.First.{First}
 
 abbrev Entries : Type 0

@@ -13,8 +13,7 @@ use Rattle.net_names.specs.Links.{pair_cmp}
 use Rattle.net_names.specs.declared.routes.Rel.{Rel}
 use Rattle.net_names.specs.declared.links.Link.{Link}
 use Rattle.net_names.proofs.Pairs.{pairs_total}
-use Rattle.caida_reader.specs.Value.{FirstMap}
-use Rattle.caida_reader.specs.Firsts.{relations}
+use Rattle.caida_reader.specs.Firsts.{FirstMap, relations}
 use Rattle.caida_reader.specs.Runs.{joined, turned, all_turned, AreApart, link_of, Lists}
 use Rattle.caida_reader.specs.declared.firsts.First.{First}
 use Rattle.caida_reader.proofs.PairLemmas.{same_pair}

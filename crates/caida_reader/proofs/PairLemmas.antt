@@ -10,8 +10,7 @@ use Rattle.std.specs.BTreeMap.{is_at}
 use Rattle.std.specs.FinMap.{find, get, insert, from_entries, get-from_entries, get-insert, len-insert, len-empty, get-empty, same_map, empty}
 use Rattle.net_names.specs.Links.{pair_cmp}
 use Rattle.net_names.proofs.Pairs.{exact_pair, pairs_total}
-use Rattle.caida_reader.specs.Value.{FirstMap}
-use Rattle.caida_reader.specs.Firsts.{ArePairs}
+use Rattle.caida_reader.specs.Firsts.{FirstMap, ArePairs}
 use Rattle.caida_reader.specs.declared.firsts.First.{First}
 
 -- what the entries have at a pair

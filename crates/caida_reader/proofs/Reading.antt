@@ -5,8 +5,8 @@ use Rattle.net_names.specs.Steps.{unless}
 use Rattle.net_names.specs.Links.{LinkMap}
 use Rattle.caida_reader.specs.Lines.{IsOneLine}
 use Rattle.caida_reader.specs.Says.{says}
-use Rattle.caida_reader.specs.Value.{FirstMap, said_in, fault_at, links_of}
-use Rattle.caida_reader.specs.Firsts.{with_said, relations, Judges}
+use Rattle.caida_reader.specs.Value.{said_in, fault_at, links_of}
+use Rattle.caida_reader.specs.Firsts.{FirstMap, with_said, relations, Judges}
 use Rattle.caida_reader.specs.Progress.{Progress, outcome, value_from, EndsLine, Gives, Fails, UnlessMemory, joined}
 use Rattle.caida_reader.specs.Plain.{BeginsWithLine}
 use Rattle.caida_reader.specs.declared.line.Said.{Said}

@@ -9,7 +9,7 @@ use Rattle.std.specs.declared.cmp.Ordering.TheVariants.{Less}
 use Rattle.net_names.specs.Links.{pair_cmp}
 use Rattle.net_names.proofs.Pairs.{exact_pair, pairs_total}
 use Rattle.net_names.proofs.Rising as rising
-use Rattle.caida_reader.specs.Value.{FirstMap}
+use Rattle.caida_reader.specs.Firsts.{FirstMap}
 use Rattle.caida_reader.specs.Marks.{IsMarked}
 use Rattle.caida_reader.specs.Runs.{IsPast, AreMarked}
 use Rattle.caida_reader.proofs.PairLemmas.{same_pair}

@@ -13,8 +13,7 @@ use Rattle.net_names.specs.Links.{pair_cmp, LinkMap, converse, with_relation}
 use Rattle.net_names.specs.declared.routes.Rel.{Rel}
 use Rattle.net_names.specs.declared.links.Link.{Link}
 use Rattle.net_names.proofs.Pairs.{exact_pair, pairs_total}
-use Rattle.caida_reader.specs.Value.{FirstMap}
-use Rattle.caida_reader.specs.Firsts.{relations, ArePairs}
+use Rattle.caida_reader.specs.Firsts.{FirstMap, relations, ArePairs}
 use Rattle.caida_reader.specs.Runs.{Lists}
 use Rattle.net_names.specs.LinkLists.{entry_of, map_of, AreLinks}
 use Rattle.caida_reader.proofs.Given.{Contains-here, Contains-there}

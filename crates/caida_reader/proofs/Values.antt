@@ -8,7 +8,8 @@ use Rattle.net_names.specs.Steps.{unless}
 use Rattle.net_names.specs.Links.{pair_cmp, LinkMap}
 use Rattle.net_names.specs.declared.routes.Rel.{Rel}
 use Rattle.net_names.proofs.Pairs.{exact_pair, pairs_total}
-use Rattle.caida_reader.specs.Value.{links_in, numbered, fault_after, value_of}
+use Rattle.caida_reader.specs.Value.{links_in, numbered, fault_after}
+use Rattle.caida_reader.specs.Laws.{value_of}
 use Rattle.caida_reader.specs.Firsts.{firsts, with_first, with_said, relations, link_at}
 use Rattle.caida_reader.specs.Progress.{value_from}
 use Rattle.caida_reader.specs.declared.line.Said.{Said}

@@ -3,9 +3,9 @@ use Rattle.std.specs.Prelude.{◌≡◌, ℕ, ◌<◌, ◌≤◌, List, map, IsS
 use Rattle.std.specs.Option.{is_some}
 use Rattle.std.specs.Coded.{Coded, coded×, coded_ℕ}
 use Rattle.std.specs.FinMap as fin
-use Rattle.net_names.specs.Links.{LinkMap}
+use Rattle.net_names.specs.Links.{pair_cmp, LinkMap}
 use Rattle.net_names.specs.declared.routes.Rel.{Rel}
-use Rattle.caida_reader.specs.Value.{FirstMap, numbered, fault_at}
+use Rattle.caida_reader.specs.Value.{numbered, fault_at}
 use Rattle.caida_reader.specs.declared.line.Said.{Said}
 use Rattle.caida_reader.specs.declared.line.Said.TheVariants.{Link}
 use Rattle.caida_reader.specs.declared.firsts.First.{First}
@@ -13,6 +13,10 @@ use Rattle.caida_reader.specs.contracts.firsts.First as first
 use Rattle.caida_reader.specs.declared.errors.RelError.{RelError}
 use Rattle.caida_reader.specs.declared.errors.RelError.TheVariants as fault
 use Rattle.net_names.specs.declared.links.TheConstants.{MOST_LINKS}
+
+-- Pairs of ASes, each with what the first line says that gives the pair, and the number of that line.
+abbrev pub FirstMap : Type 0
+FirstMap = fin.FinMap pair_cmp First
 
 -- How such a map is stored as a value.
 abbrev pub first_map_code : Coded FirstMap

@@ -1,10 +1,11 @@
 -- What the links of a file are, said of all its lines at once.
-use Rattle.std.specs.Prelude.{◌≡◌, ◌≢◌, ℕ, ◌-◌, ◌<◌, ◌≤◌, ◌↔◌, List, length, take, All, Contains, IsPermutation, slice_get, Some, Ok, Err, IsOk}
+use Rattle.std.specs.Prelude.{◌≡◌, ◌≢◌, ℕ, ◌-◌, ◌<◌, ◌≤◌, ◌↔◌, List, [], length, take, All, Contains, IsPermutation, slice_get, Some, Result, Ok, Err, IsOk}
 use Rattle.std.specs.FinMap as fin
 use Rattle.net_names.specs.Links.{LinkMap}
 use Rattle.net_names.specs.Texts.{fields}
 use Rattle.net_names.specs.declared.routes.Rel.{Rel}
-use Rattle.caida_reader.specs.Value.{said_in, links_in, value_of, links_of}
+use Rattle.net_names.specs.Steps.{unless, first_fault}
+use Rattle.caida_reader.specs.Value.{said_in, links_in, fault_after, links_of}
 use Rattle.caida_reader.specs.declared.line.Said.{Said}
 use Rattle.caida_reader.specs.declared.line.Said.TheVariants.{Unreadable, Itself, Link}
 use Rattle.caida_reader.specs.declared.errors.RelError.{RelError}
@@ -37,6 +38,10 @@ line_of (fault.Unreadable line) = line
 line_of (fault.SelfLink line) = line
 line_of (fault.Conflict line earlier) = line
 line_of (fault.TooManyLinks line) = line
+
+-- What lines stand for: the links that they give, unless one of them has a fault.
+abbrev pub value_of : List Said → Result LinkMap RelError
+value_of said = unless (first_fault fault_after [] said) (Ok (links_in said))
 
 -- The fault's line is the first one at which the lines up to it have no links.
 pub record IsFirstFaulty (said : List Said) (e : RelError) : Type 0 where

@@ -4,8 +4,8 @@ use Rattle.std.specs.Global.{Global}
 use Rattle.std.specs.List.{flat_map}
 use Rattle.net_names.specs.Steps.{unless}
 use Rattle.net_names.specs.Links.{LinkMap}
-use Rattle.caida_reader.specs.Value.{FirstMap, said_in, fault_at}
-use Rattle.caida_reader.specs.Firsts.{with_said, relations}
+use Rattle.caida_reader.specs.Value.{said_in, fault_at}
+use Rattle.caida_reader.specs.Firsts.{FirstMap, with_said, relations}
 use Rattle.caida_reader.specs.declared.line.Said.{Said}
 use Rattle.caida_reader.specs.declared.errors.RelError.{RelError}
 use Rattle.caida_reader.specs.declared.errors.RelError.TheVariants as fault

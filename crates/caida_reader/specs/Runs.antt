@@ -5,8 +5,7 @@ use Rattle.std.specs.declared.cmp.Ordering.TheVariants.{Less}
 use Rattle.net_names.specs.Links.{pair_cmp}
 use Rattle.net_names.specs.declared.routes.Rel.{Rel}
 use Rattle.net_names.specs.declared.links.Link.{Link}
-use Rattle.caida_reader.specs.Value.{FirstMap}
-use Rattle.caida_reader.specs.Firsts.{with_first, relations, ArePairs}
+use Rattle.caida_reader.specs.Firsts.{FirstMap, with_first, relations, ArePairs}
 use Rattle.caida_reader.specs.Marks.{IsMarked}
 use Rattle.caida_reader.specs.declared.firsts.First.{First}
 

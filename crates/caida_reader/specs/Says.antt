@@ -1,6 +1,7 @@
 -- What one line of a relationship file says (CAIDA's AS relationships, serial-1; serial-2 writes a source in the fourth field).
-use Rattle.std.specs.Prelude.{ℕ, ◌==◌, ◌<◌, nat_lt, List, ◌∷◌, Option, Some, if◌then◌else◌}
+use Rattle.std.specs.Prelude.{ℕ, ◌==◌, ◌<◌, nat_lt, List, ◌∷◌, option_map, unwrap_or, if◌then◌else◌}
 use Rattle.std.specs.Str.Lines.{strip_carriage_return}
+use Rattle.net_names.specs.Steps.{◌>>=◌}
 use Rattle.net_names.specs.Links.{converse}
 use Rattle.net_names.specs.Texts.{fields, is_skipped, asn_of, rel_of}
 use Rattle.net_names.specs.declared.routes.Rel.{Rel}
@@ -9,16 +10,12 @@ use Rattle.caida_reader.specs.declared.line.Said.TheVariants.{Nothing, Unreadabl
 
 -- The link of a and b, of which b is this to a: the pair with the lower number first, and what the higher AS is to the lower one. Equal numbers make no link.
 abbrev pub link : ℕ → ℕ → Rel → Said
-link a b rel = if a == b then Itself else if nat_lt a b then Link a b rel else Link b a (converse rel)
+link a b r = if a == b then Itself else if nat_lt a b then Link a b r else Link b a (converse r)
 
--- The link of two numbers and a relation, where all three are readable.
-abbrev pub link_of : Option ℕ → Option ℕ → Option Rel → Said
-link_of (Some a) (Some b) (Some rel) = link a b rel
-link_of _ _ _ = Unreadable
-
--- What fields say: an AS number, an AS number and a relation; further fields are read past (CAIDA AS Relationships, serial-1 and serial-2).
+-- What fields say: an AS number, an AS number and a relation, where all three are readable; further fields are read past (CAIDA AS Relationships, serial-1 and serial-2).
 abbrev pub said_by : List (List ℕ) → Said
-said_by (first ∷ second ∷ third ∷ further) = link_of (asn_of first) (asn_of second) (rel_of third)
+said_by (first ∷ second ∷ third ∷ further) = unwrap_or
+    (asn_of first >>= λ a. asn_of second >>= λ b. option_map (link a b) (rel_of third)) Unreadable
 said_by _ = Unreadable
 
 -- What a line says, without one carriage return at its end: nothing where it is skipped, and else what its fields between `|` say.

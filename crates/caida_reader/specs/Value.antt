@@ -21,38 +21,30 @@ said_in bytes = map says (fields 10 bytes)
 
 -- The links that lines give, each under its pair, the lower AS and the higher one, with the number of its line, where the first line has this number.
 abbrev pub numbered : ℕ → List Said → List ((ℕ × ℕ) × First)
-numbered line [] = []
-numbered line (Link lo hi rel ∷ more) = ((lo, hi), record { rel = rel; line = line }) ∷ numbered (line + 1) more
-numbered line (said ∷ more) = numbered (line + 1) more
+numbered n [] = []
+numbered n (Link lo hi r ∷ rest) = ((lo, hi), record { rel = r; line = n }) ∷ numbered (n + 1) rest
+numbered n (said ∷ rest) = numbered (n + 1) rest
 
 -- The links that lines give, as a map. Where lines give a pair twice, the first of them counts.
 abbrev pub links_in : List Said → LinkMap
 links_in said = fin.from_entries (map (λ e. (e.0, e.1.rel)) (numbered 1 said))
 
--- Pairs of ASes, each with what the first line says that gives the pair, and the number of that line.
-abbrev pub FirstMap : Type 0
-FirstMap = fin.FinMap pair_cmp First
-
--- The fault of a link: its pair stands with another relation (`sameb` says whether two are the same), or it is new and 1,500,000 pairs stand.
+-- The fault of a link in a line of this number: its pair stands with another relation (`sameb` says whether two are the same), or it is new and 1,500,000 pairs stand.
 abbrev pub link_fault : ℕ → Rel → ℕ → Option First → Option RelError
-link_fault line rel pairs None = if nat_lt pairs MOST_LINKS then None else Some (fault.TooManyLinks line)
-link_fault line rel pairs (Some first) = if sameb the_type first.rel rel then None else Some (fault.Conflict line first.line)
+link_fault n rel pairs None = if nat_lt pairs MOST_LINKS then None else Some (fault.TooManyLinks n)
+link_fault n rel pairs (Some first) = if sameb the_type first.rel rel then None else Some (fault.Conflict n first.line)
 
--- The fault of a line of this number, where the lines before it give these pairs.
-abbrev pub fault_at : FirstMap → ℕ → Said → Option RelError
-fault_at before line Nothing = None
-fault_at before line Unreadable = Some (fault.Unreadable line)
-fault_at before line Itself = Some (fault.SelfLink line)
-fault_at before line (Link lo hi rel) = link_fault line rel (fin.len before) (fin.get before (lo, hi))
+-- The fault of a line of this number, where the lines before it give these pairs, each with its first line.
+abbrev pub fault_at : fin.FinMap pair_cmp First → ℕ → Said → Option RelError
+fault_at before n Nothing = None
+fault_at before n Unreadable = Some (fault.Unreadable n)
+fault_at before n Itself = Some (fault.SelfLink n)
+fault_at before n (Link lo hi rel) = link_fault n rel (fin.len before) (fin.get before (lo, hi))
 
 -- The fault of a line that stands behind these lines.
 abbrev pub fault_after : List Said → Said → Option RelError
 fault_after before said = fault_at (fin.from_entries (numbered 1 before)) (length before + 1) said
 
--- What lines stand for: the links that they give, unless one of them has a fault.
-abbrev pub value_of : List Said → Result LinkMap RelError
-value_of said = unless (first_fault fault_after [] said) (Ok (links_in said))
-
--- The links of a file, or the fault of its first faulty line.
+-- The links that the lines of a file give, or the fault of its first faulty line.
 abbrev pub links_of : List ℕ → Result LinkMap RelError
-links_of bytes = value_of (said_in bytes)
+links_of file = unless (first_fault fault_after [] (said_in file)) (Ok (links_in (said_in file)))

@@ -2,10 +2,9 @@
 ghost use Rattle.std.specs.Prelude.{◌≡◌, ◌<◌, All, Ok, Err, IfOk, OnOk, OnErr, unwrap_or, if◌then◌else◌};
 ghost use Rattle.std.specs.FinMap as fin;
 ghost use Rattle.caida_reader.specs.Says.{IsRising};
-ghost use Rattle.caida_reader.specs.Value.{FirstMap};
+ghost use Rattle.caida_reader.specs.Firsts.{FirstMap, with_first, Judges, relations};
 ghost use Rattle.net_names.specs.contracts.routes.Rel.{the_type};
 ghost use denote.Enum.Bare.{sameb};
-ghost use Rattle.caida_reader.specs.Firsts.{with_first, Judges, relations};
 ghost use Rattle.caida_reader.specs.Runs.{AreApart, Puts, Lists};
 
 use crate::RelError;
@@ -33,8 +32,7 @@ pub(crate) struct Firsts {
 }
 
 impl Model for Firsts {
-    ghost use Rattle.caida_reader.specs.Value.{FirstMap};
-    ghost use Rattle.caida_reader.specs.Firsts.{first_map_code};
+    ghost use Rattle.caida_reader.specs.Firsts.{FirstMap, first_map_code};
     ghost use Rattle.caida_reader.specs.Runs.{joined, AreFirsts};
 
     ghost Value = { FirstMap };

@@ -1,9 +1,9 @@
 // One line of a relationship file.
-ghost use Rattle.std.specs.Prelude.{◌≡◌, ◌∷◌, ◌≤◌, ℕ, List, Some, IfSome};
+ghost use Rattle.std.specs.Prelude.{◌≡◌, ◌∷◌, ◌≤◌, ℕ, List, option_map, unwrap_or, IfSome};
 ghost use Rattle.std.specs.Str.Lines.{strip_carriage_return};
 ghost use Rattle.net_names.specs.Texts.{fields, rel_of};
 ghost use Rattle.caida_reader.specs.Plain.{BeginsWithLine};
-ghost use Rattle.caida_reader.specs.Says.{link, link_of, said_by, says, IsRising};
+ghost use Rattle.caida_reader.specs.Says.{link, said_by, says, IsRising};
 
 use crate::digits::read_asn_field;
 use net_names::{Asn, Rel, cut, read_asn};
@@ -50,7 +50,7 @@ fn make_link(a: Asn, b: Asn, rel: Rel) -> Said
 fn make_said(a: u32, b: u32, rel: Option<Rel>) -> Said
     requires first { 1 ≤ a }
     requires second { 1 ≤ b }
-    ensures value { result ≡ link_of (Some a) (Some b) rel }
+    ensures value { result ≡ unwrap_or (option_map (link a b) rel) Said.Unreadable }
     ensures rising { IsRising result }
 {
     let Some(rel) = rel else {

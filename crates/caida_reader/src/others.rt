@@ -18,8 +18,7 @@ pub(crate) struct Others {
 
 impl Model for Others {
     ghost use Rattle.std.specs.FinMap as fin;
-    ghost use Rattle.caida_reader.specs.Value.{FirstMap};
-    ghost use Rattle.caida_reader.specs.Firsts.{first_map_code};
+    ghost use Rattle.caida_reader.specs.Firsts.{FirstMap, first_map_code};
 
     ghost Value = { FirstMap };
 

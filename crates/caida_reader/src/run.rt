@@ -24,8 +24,7 @@ impl Model for Run {
     ghost use Rattle.std.specs.Prelude.{T, map};
     ghost use Rattle.std.specs.FinMap as fin;
     ghost use Rattle.net_names.specs.Links.{pair_cmp};
-    ghost use Rattle.caida_reader.specs.Value.{FirstMap};
-    ghost use Rattle.caida_reader.specs.Firsts.{first_map_code};
+    ghost use Rattle.caida_reader.specs.Firsts.{FirstMap, first_map_code};
     ghost use Rattle.caida_reader.specs.Entries.{entry_of};
 
     ghost Value = { FirstMap };

@@ -1,7 +1,7 @@
 // Pairs in two runs.
 ghost use Rattle.std.specs.Prelude.{◌≡◌, ◌++◌, None, IfOk, OnErr, map, if◌then◌else◌};
 ghost use Rattle.std.specs.FinMap as fin;
-ghost use Rattle.caida_reader.specs.Value.{FirstMap};
+ghost use Rattle.caida_reader.specs.Firsts.{FirstMap};
 ghost use Rattle.caida_reader.specs.Entries.{entry_of};
 ghost use Rattle.caida_reader.specs.Runs.{link_of, turned, joined, AreApart, AreMarked, Lists};
 
@@ -29,8 +29,7 @@ pub(crate) struct Runs {
 }
 
 impl Model for Runs {
-    ghost use Rattle.caida_reader.specs.Value.{FirstMap};
-    ghost use Rattle.caida_reader.specs.Firsts.{first_map_code};
+    ghost use Rattle.caida_reader.specs.Firsts.{FirstMap, first_map_code};
     ghost use Rattle.caida_reader.specs.Runs.{joined, all_turned, AreRuns};
 
     ghost Value = { FirstMap };

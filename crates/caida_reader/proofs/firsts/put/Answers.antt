@@ -1,5 +1,5 @@
 use Rattle.std.proofs.Common.{◌∙◌, sym, None, IfOk, subst}
-use Rattle.caida_reader.specs.Value.{FirstMap}
+use Rattle.caida_reader.specs.Firsts.{FirstMap}
 use Rattle.caida_reader.specs.Runs.{Puts}
 use Rattle.caida_reader.proofs.JoinLemmas.{get_front, get_back, puts_stood, puts_front, puts_back}
 use Rattle.caida_reader.proofs.firsts.put.Goals as goal

@@ -1,8 +1,7 @@
 use Rattle.std.proofs.Common.{◌≡◌, ℕ, take, None, cond}
 use Rattle.std.specs.FinMap as fin
-use Rattle.caida_reader.specs.Firsts.{relations}
+use Rattle.caida_reader.specs.Firsts.{relations, FirstMap}
 use Rattle.caida_reader.specs.Runs.{Lists}
-use Rattle.caida_reader.specs.Value.{FirstMap}
 use Rattle.caida_reader.proofs.SetLemmas.{is_among}
 use Rattle.caida_reader.proofs.firsts.put_all.Given as goal
 

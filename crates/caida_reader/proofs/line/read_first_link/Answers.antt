@@ -1,8 +1,7 @@
-use Rattle.std.proofs.Common.{sym, ◌∙◌, ap, Some}
+use Rattle.std.proofs.Common.{sym, ◌∙◌, ap}
 use Rattle.net_names.specs.Texts.{fields}
-use Rattle.caida_reader.specs.Says.{link_of}
 use Rattle.caida_reader.proofs.Cutting.{first_line}
-use Rattle.caida_reader.proofs.DigitLemmas.{begins}
+use Rattle.caida_reader.proofs.DigitLemmas.{begins, linked}
 use Rattle.caida_reader.proofs.line.read_first_link.Goals as goal
 
 pub returns-clause-line : goal.returns-clause-line
@@ -12,4 +11,4 @@ returns-clause-line c =
     begins c.args.text.now c.in_ok-first.one.now c.in_ok-second.two.now c.in_ok-end.end.now c.in_ok-end.rest.now c.in_ok-first.first c.in_ok-second.second
     c.in_ok-first.ensures c.in_ok-second.ensures parts.1 parts.0 c.first_field.result.now third.0 c.make_said.result
     (ap (fields 124) (sym c.strip_cr.ensures) ∙ third.1)
-    (c.make_said.ensures.value ∙ ap (λ o. link_of (Some c.in_ok-first.first) (Some c.in_ok-second.second) o) c.read_rel-rel.ensures)
+    (c.make_said.ensures.value ∙ ap (linked c.in_ok-first.first c.in_ok-second.second) c.read_rel-rel.ensures)

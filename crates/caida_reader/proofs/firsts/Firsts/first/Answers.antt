@@ -1,6 +1,6 @@
 use Rattle.std.proofs.Common.{sym, subst, ◌<◌}
 use Rattle.std.specs.FinMap as fin
-use Rattle.caida_reader.specs.Value.{FirstMap}
+use Rattle.caida_reader.specs.Firsts.{FirstMap}
 use Rattle.caida_reader.proofs.JoinLemmas.{firsts_more}
 use Rattle.caida_reader.proofs.firsts.Firsts.first.Goals as goal
 

@@ -1,7 +1,7 @@
 use Rattle.std.proofs.Common.{◌<◌, List, All, sym, subst}
 use Rattle.std.proofs.lemmas.Result.{IfOk-weaker}
 use Rattle.net_names.specs.declared.links.Link.{Link}
-use Rattle.caida_reader.specs.Value.{FirstMap}
+use Rattle.caida_reader.specs.Firsts.{FirstMap}
 use Rattle.caida_reader.specs.Runs.{joined, AreApart, Lists}
 use Rattle.caida_reader.proofs.SetLemmas.{lists-lower}
 use Rattle.caida_reader.proofs.firsts.Firsts.gather.Goals as goal

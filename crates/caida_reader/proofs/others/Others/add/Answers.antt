@@ -1,7 +1,7 @@
 use Rattle.std.proofs.Common.{◌≡◌, ℕ, sym, ap, ◌∙◌, None, Some}
 use Rattle.std.specs.FinMap as fin
 use Rattle.net_names.specs.Links.{pair_cmp}
-use Rattle.caida_reader.specs.Value.{FirstMap}
+use Rattle.caida_reader.specs.Firsts.{FirstMap}
 use Rattle.caida_reader.proofs.PairLemmas.{get_pair, one_put, put_back, ok_part, stands_put}
 use Rattle.caida_reader.proofs.others.Others.add.Goals as goal
 

@@ -3,7 +3,7 @@ use Rattle.std.specs.FinMap as fin
 use Rattle.net_names.specs.Links.{pair_cmp}
 use Rattle.caida_reader.specs.Entries.{entry_of}
 use Rattle.caida_reader.specs.Runs.{IsPast}
-use Rattle.caida_reader.specs.Value.{FirstMap}
+use Rattle.caida_reader.specs.Firsts.{FirstMap}
 use Rattle.caida_reader.specs.declared.entry.Entry.{Entry}
 use Rattle.caida_reader.specs.declared.firsts.First.{First}
 use Rattle.caida_reader.proofs.EntryLemmas.{map_of, sorted-push, map_of-push}

@@ -5,7 +5,7 @@ use Rattle.std.proofs.lemmas.List.Sorted.{IsPermutation-trans, IsPermutation-app
 use Rattle.std.proofs.lemmas.Result.{IfOk-weaker}
 use Rattle.net_names.specs.declared.links.Link.{Link}
 use Rattle.caida_reader.specs.Entries.{entry_of}
-use Rattle.caida_reader.specs.Value.{FirstMap}
+use Rattle.caida_reader.specs.Firsts.{FirstMap}
 use Rattle.caida_reader.specs.Runs.{joined, all_turned, turned, link_of, Lists, AreApart}
 use Rattle.caida_reader.specs.declared.entry.Entry.{Entry}
 use Rattle.caida_reader.proofs.RunLemmas.{Entry as Pair}

@@ -1,6 +1,6 @@
 use Rattle.std.proofs.Common.{◌∙◌, ap, sym, subst}
 use Rattle.std.specs.FinMap as fin
-use Rattle.caida_reader.specs.Value.{FirstMap}
+use Rattle.caida_reader.specs.Firsts.{FirstMap}
 use Rattle.caida_reader.specs.Runs.{joined, all_turned, AreRuns}
 use Rattle.caida_reader.proofs.JoinLemmas.{joined-insert_front, joined-insert_back, all_turned-insert, none_of_joined, rising_more, turned_more}
 use Rattle.caida_reader.proofs.runs.Runs.put.Goals as goal
