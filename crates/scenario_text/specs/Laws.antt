@@ -11,7 +11,7 @@ use Rattle.scenario_text.specs.Scenarios.{ScenarioValue, IsScenario}
 use Rattle.scenario_text.specs.Script.{script_of}
 use Rattle.scenario_text.specs.declared.script.TheConstants.{MOST_COMMANDS}
 
--- the text says these four lists, before it is asked what stands twice and what is too much: it is JSON, and each of its members says what it is to say (own format)
+-- the text says these four lists, before it is asked what stands twice and what is too much: it is JSON, and each value is of its type and in its grammar (own format)
 pub record ReadsAs (bytes : List ℕ) (s : ScenarioValue) : Type 0 where
   pub value : Data
   pub is_json : json_of bytes ≡ Some value
