@@ -18,7 +18,7 @@ IsReply w kept (act.Query q) text false after = (refusal_of w q ≡ None) × IsA
 IsReply w kept (act.Query q) text true after = (e : QueryError) × (refusal_of w q ≡ Some e) × (text ≡ refusal_text e) × (after ≡ w)
 IsReply w kept (act.Edit e) text false after =
     IsAllowed w e × (after ≡ edited w e) × (now : Kept) × IsKept after now
-    × (routes : ℕ) × HasChanges after.plan after.rounds kept.routings now.routings routes × (text ≡ codes "ok " ++ decimal routes ++ 10 ∷ [])
+    × (routes : ℕ) × HasChanges after.plan after.rounds kept.routings now.routings routes × (text ≡ codes "ok " ++ (decimal routes ++ 10 ∷ []))
 IsReply w kept (act.Edit e) text true after = (error : EditError) × IsReason w e error × (text ≡ edit_refusal_text error) × (after ≡ w)
 
 -- the reply to what a line asks was appended (own format)
@@ -29,7 +29,7 @@ pub record AppendsReply (w : World) (kept : Kept) (asks : Act) (refused : Bool) 
 
 -- the head line of an answer, if there are head lines: `# ` and the line's number (own format)
 abbrev pub head : Bool → ℕ → Text
-head heads number = if heads then codes "# " ++ decimal number ++ 10 ∷ [] else []
+head heads number = if heads then codes "# " ++ (decimal number ++ 10 ∷ []) else []
 
 -- the text is the head line and what is told for the line by the one and only stable routings of the world's rounds and by the ranks of its ASes, and the line leaves this world (Gao and Rexford 2001)
 abbrev pub AnswersLine : Bool → World → LineValue → Text → Bool → World → Type 0

@@ -22,7 +22,7 @@ pub record Task : Type 0 where
 
 -- what comes before the answers: the numbers of ASes and links of the world, if they do (own format)
 abbrev pub first_text : Bool → World → Text
-first_text counts w = if counts then codes "ases|" ++ decimal (as_count (topology w)) ++ 10 ∷ codes "links|" ++ decimal (fin.len w.links) ++ 10 ∷ [] else []
+first_text counts w = if counts then codes "ases|" ++ (decimal (as_count (topology w)) ++ 10 ∷ (codes "links|" ++ (decimal (fin.len w.links) ++ 10 ∷ []))) else []
 
 -- the task of a form and of what was read of the files, in the world of what they ask for, if that has at most 150000 ASes, or the first fault
 abbrev pub task_of : Option Form → Reads → Result Task Fault

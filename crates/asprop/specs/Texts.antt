@@ -15,5 +15,5 @@ abbrev pub ending_of : Option Form → Result Bool Failure → Status × Text
 ending_of form (Ok refused) = (if refused then status.SomeRefused else status.Done, [])
 ending_of form (Err failure.Memory) = (status.NoMemory, message (codes "out of memory"))
 ending_of form (Err failure.Write) = (status.WriteFault, message (codes "write fault"))
-ending_of form (Err (failure.Cycle cycle)) = (BadInput, codes "asprop: provider cycle: " ++ numbers_text cycle ++ 10 ∷ [])
+ending_of form (Err (failure.Cycle cycle)) = (BadInput, codes "asprop: provider cycle: " ++ (numbers_text cycle ++ 10 ∷ []))
 ending_of form (Err (failure.Fault fault)) = fault_ending form fault

@@ -20,15 +20,15 @@ use Rattle.task_reading.specs.declared.types.Status.TheVariants.{BadInput, TooLa
 
 -- `asprop: `, the text and a line feed (own format)
 abbrev pub message : Text → Text
-message text = codes "asprop: " ++ text ++ 10 ∷ []
+message text = codes "asprop: " ++ (text ++ 10 ∷ [])
 
 -- the text, and before it the line where it stands (own format)
 abbrev pub in_line : ℕ → Text → Text
-in_line n text = codes "line " ++ decimal n ++ codes ": " ++ text
+in_line n text = codes "line " ++ (decimal n ++ (codes ": " ++ text))
 
 -- the text, and before it the row where it stands (own format)
 abbrev pub in_row : ℕ → Text → Text
-in_row n text = codes "row " ++ decimal n ++ codes ": " ++ text
+in_row n text = codes "row " ++ (decimal n ++ (codes ": " ++ text))
 
 -- the limit of a scenario that is passed (own format)
 abbrev pub limit_text : LimitOf → Text
@@ -42,7 +42,7 @@ limit_text limit.Watch = codes "more than 16 watched addresses"
 -- the table of causes: the status and the text, with the place in the file, of each (own format). Of a reader that memory runs out in nothing is told by this table: the run ends for want of memory, and the last row is never asked for
 abbrev pub cause_of : Cause → Status × Text
 cause_of Unread = (status.ReadFault, codes "read fault")
-cause_of (TooLong most) = (TooLarge, codes "more than " ++ decimal most ++ codes " bytes")
+cause_of (TooLong most) = (TooLarge, codes "more than " ++ (decimal most ++ codes " bytes"))
 cause_of (Relation (rel.Unreadable n)) = (BadInput, in_line n (codes "unreadable"))
 cause_of (Relation (rel.SelfLink n)) = (BadInput, in_line n (codes "an AS linked to itself"))
 cause_of (Relation (rel.Conflict n m)) = (BadInput, in_line n (codes "conflicts with line " ++ decimal m))
@@ -66,7 +66,7 @@ abbrev pub fault_ending : Option Form → Fault → Status × Text
 fault_ending form fault.Usage =
     (status.Usage, codes "usage: asprop REL [--vrps FILE] [--scenario FILE] [--script FILE]" ++ 10 ∷ codes "       asprop REL --origin N" ++ 10 ∷ codes "       asprop --demo N" ++ 10 ∷ [])
 fault_ending form TooManyAses = (TooLarge, message (codes "more than 150000 ASes"))
-fault_ending form (InFile which cause) = ((cause_of cause).0, codes "asprop: " ++ unwrap_or (name_by form which) [] ++ codes ": " ++ (cause_of cause).1 ++ 10 ∷ [])
+fault_ending form (InFile which cause) = ((cause_of cause).0, codes "asprop: " ++ (unwrap_or (name_by form which) [] ++ (codes ": " ++ ((cause_of cause).1 ++ 10 ∷ []))))
 
 -- the number with which the program ends (own format)
 abbrev pub number_of : Status → ℕ
