@@ -1,28 +1,26 @@
 -- Each kind meets the laws of every policy; the laws of the implementation cite these lemmas.
+use denote.Enum.Bare.{sameb}
 use Rattle.std.specs.Prelude.{◌≡◌, ◌≢◌, ◌||◌, true, false, refl}
 use Rattle.std.proofs.Common.{sym}
 use Rattle.std.specs.declared.cmp.Ordering.{Ordering}
 use Rattle.std.specs.declared.cmp.Ordering.TheVariants.{Equal}
 use Rattle.std.specs.Ordering.{nat_cmp, ordering_then, is_lt}
 use Rattle.std.proofs.lemmas.Cmp.{ranked, nat_cmp_total, on_total, then_total}
+use Rattle.net_names.specs.contracts.routes.Rel.{the_type}
 use Rattle.net_names.specs.declared.routes.Rel.{Rel}
 use Rattle.net_names.specs.declared.routes.Rel.TheVariants.{Customer, Peer, Provider}
 use Rattle.policy_laws.specs.Policy.{RanksOffers, PrefersCustomers, ExportsDownOnly, IgnoresState}
 use Rattle.policy_laws.specs.Ranking.{ranks_by, last_tied}
 use Rattle.policy_kinds.specs.declared.kind.Kind.{Kind}
 use Rattle.policy_kinds.specs.declared.kind.Kind.TheVariants.{Plain, DropInvalid, PreferValid, ProviderFirst, Otc, DropInvalidOtc}
-use Rattle.policy_kinds.specs.declared.rows.Row.{Row}
-use Rattle.policy_kinds.specs.Kinds.{kind_row, class_place, valid_place, offer_cmp, is_customer, policy_by, kind_policy}
-
-row_ranks_offers : (r : Row) → RanksOffers (policy_by r)
-row_ranks_offers r = ranks_by (policy_by r) (offer_cmp r) (λ x y. refl)
-    (then_total (on_total (λ x. class_place r x.rel) nat_cmp_total)
-    (then_total (on_total (λ x. valid_place r.prefers_valid x.state) nat_cmp_total)
-    (then_total (on_total (λ x. x.length) nat_cmp_total) (on_total (λ x. x.neighbour) nat_cmp_total))))
-    (λ x y e. ranked x.neighbour y.neighbour Equal (sym (last_tied (nat_cmp x.length y.length) _ (last_tied (nat_cmp (valid_place r.prefers_valid x.state) (valid_place r.prefers_valid y.state)) _ (last_tied (nat_cmp (class_place r x.rel) (class_place r y.rel)) _ e)))))
+use Rattle.policy_kinds.specs.Kinds.{kind_row, class_place, valid_place, offer_cmp, kind_policy}
 
 pub kind_ranks_offers : (k : Kind) → RanksOffers (kind_policy k)
-kind_ranks_offers k = row_ranks_offers (kind_row k)
+kind_ranks_offers k = let r = kind_row k in ranks_by (kind_policy k) (offer_cmp r) (λ x y. refl)
+    (then_total (on_total (λ x. class_place r x.rel) nat_cmp_total)
+    (then_total (on_total (λ x. valid_place r x.state) nat_cmp_total)
+    (then_total (on_total (λ x. x.length) nat_cmp_total) (on_total (λ x. x.neighbour) nat_cmp_total))))
+    (λ x y e. ranked x.neighbour y.neighbour Equal (sym (last_tied (nat_cmp x.length y.length) _ (last_tied (nat_cmp (valid_place r x.state) (valid_place r y.state)) _ (last_tied (nat_cmp (class_place r x.rel) (class_place r y.rel)) _ e)))))
 
 -- in each row peers and providers come after customers
 first_lower : (k : Kind) (b : Rel) (r : Ordering) → b ≢ Customer → is_lt (ordering_then (nat_cmp 0 (class_place (kind_row k) b)) r) ≡ true
@@ -43,7 +41,7 @@ first_lower DropInvalidOtc Provider r n = refl
 pub kind_prefers_customers : (k : Kind) → PrefersCustomers (kind_policy k)
 kind_prefers_customers k x y e n = rw e (first_lower k y.rel _ n)
 
-to_customer : (to : Rel) → (is_customer to || false) ≡ true → to ≡ Customer
+to_customer : (to : Rel) → (sameb the_type to Customer || false) ≡ true → to ≡ Customer
 to_customer Customer h = refl
 to_customer Peer h = let e : false ≡ true = h in cc
 to_customer Provider h = let e : false ≡ true = h in cc

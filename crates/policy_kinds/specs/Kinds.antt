@@ -1,7 +1,10 @@
 -- What each kind answers: the table of the kinds.
-use Rattle.std.specs.Prelude.{ℕ, Bool, true, false, not, ◌==◌, ◌&&◌, ◌||◌, Option, Some, is_some}
+use denote.Enum.Bare.{sameb}
+use Rattle.std.specs.Prelude.{ℕ, Bool, true, false, not, ◌==◌, ◌&&◌, ◌||◌, Option, Some, is_some, if◌then◌else◌}
 use Rattle.std.specs.declared.cmp.Ordering.{Ordering}
 use Rattle.std.specs.Ordering.{nat_cmp, ordering_then, is_lt}
+use Rattle.net_names.specs.contracts.routes.Rel.{the_type as rel_type}
+use Rattle.net_names.specs.contracts.routes.State.{the_type as state_type}
 use Rattle.net_names.specs.declared.routes.Rel.{Rel}
 use Rattle.net_names.specs.declared.routes.Rel.TheVariants.{Customer, Peer, Provider}
 use Rattle.net_names.specs.declared.routes.State.{State}
@@ -27,27 +30,17 @@ kind_row DropInvalidOtc = record plain { label = 5; drops_invalid = true; marks 
 
 -- the place of a class in the row's order
 abbrev pub class_place : Row → Rel → ℕ
-class_place r Customer = 0
-class_place r Peer = r.peer
-class_place r Provider = r.provider
+class_place r from = elim from [ Customer ↦ 0 | Peer ↦ r.peer | Provider ↦ r.provider ]
 
--- the place of a validation state: where Valid is preferred it comes before the other two, else all are alike (RFC 6811, section 3)
-abbrev pub valid_place : Bool → State → ℕ
-valid_place false s = 0
-valid_place true Valid = 0
-valid_place true s = 1
+-- the place of a validation state: where Valid is preferred it comes before the other two, else all are alike (RFC 6811, section 3); `sameb` says whether two are the same
+abbrev pub valid_place : Row → State → ℕ
+valid_place r s = if r.prefers_valid && not (sameb state_type s Valid) then 1 else 0
 
 -- offers are compared by class, then by validation state, then by the length of the path, then by the neighbour's number (RFC 4271, section 9.1.2)
 abbrev pub offer_cmp : Row → View → View → Ordering
-offer_cmp r x y =
-    ordering_then (nat_cmp (class_place r x.rel) (class_place r y.rel))
-    (ordering_then (nat_cmp (valid_place r.prefers_valid x.state) (valid_place r.prefers_valid y.state))
+offer_cmp r x y = ordering_then (nat_cmp (class_place r x.rel) (class_place r y.rel))
+    (ordering_then (nat_cmp (valid_place r x.state) (valid_place r y.state))
     (ordering_then (nat_cmp x.length y.length) (nat_cmp x.neighbour y.neighbour)))
-
--- where invalid offers are dropped, those of the other two states are taken only (RFC 6811, section 3)
-abbrev pub state_passes : Bool → State → Bool
-state_passes true Invalid = false
-state_passes drops s = true
 
 -- where marks are looked at, no marked offer of a customer is taken, and of a peer only one with the peer's own number (RFC 9234, section 5, rules 1 and 2 on receipt)
 abbrev pub number_passes : Bool → Rel → ℕ → Option ℕ → Bool
@@ -55,24 +48,15 @@ number_passes true Customer neighbour (Some number) = false
 number_passes true Peer neighbour (Some number) = number == neighbour
 number_passes looks from neighbour otc = true
 
--- only a customer is one
-abbrev pub is_customer : Rel → Bool
-is_customer Customer = true
-is_customer to = false
-
--- the answers of a row of the table: every route is exported to customers, and to peers and providers own and customers' routes only (Gao and Rexford 2001), and of these no marked one where marks are looked at (RFC 9234, section 5, rule 2 on sending)
-abbrev pub policy_by : Row → Policy
-policy_by r = record {
-  accepts = λ v. state_passes r.drops_invalid v.state && number_passes r.marks v.rel v.neighbour v.otc;
+-- the answers of a kind are those of its row: where invalid offers are dropped, those of the other two states are taken only (RFC 6811, section 3); every route is exported to customers, and to peers and providers own and customers' routes only (Gao and Rexford 2001), and of these no marked one where marks are looked at (RFC 9234, section 5, rule 2 on sending)
+abbrev pub kind_policy : Kind → Policy
+kind_policy k = let r = kind_row k in record {
+  accepts = λ v. not (r.drops_invalid && sameb state_type v.state Invalid) && number_passes r.marks v.rel v.neighbour v.otc;
   before = λ x y. is_lt (offer_cmp r x y);
-  exports = λ c otc to. is_customer to || (is_own_or_customers c && not (r.marks && is_some otc));
+  exports = λ c otc to. sameb rel_type to Customer || (is_own_or_customers c && not (r.marks && is_some otc));
   reads_state = r.drops_invalid || r.prefers_valid;
   marks = r.marks;
 }
-
--- the answers of a kind are those of its row
-abbrev pub kind_policy : Kind → Policy
-kind_policy k = policy_by (kind_row k)
 
 -- the number under which the ASes of a kind are counted
 abbrev pub label : Kind → ℕ

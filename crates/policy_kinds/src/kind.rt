@@ -1,7 +1,12 @@
 //! The kinds and their answers.
-ghost use Rattle.std.specs.Prelude.{◌≡◌};
+ghost use denote.Enum.Bare.{sameb};
+ghost use Rattle.std.specs.Prelude.{◌≡◌, ◌&&◌, not};
+ghost use Rattle.net_names.specs.contracts.routes.Rel.{the_type as rel_type};
+ghost use Rattle.net_names.specs.contracts.routes.State.{the_type as state_type};
+ghost use Rattle.net_names.specs.declared.routes.Rel.TheVariants.{Customer};
+ghost use Rattle.net_names.specs.declared.routes.State.TheVariants.{Invalid};
 ghost use Rattle.policy_laws.specs.Policy.{is_own_or_customers as is_of_own_or_customers};
-ghost use Rattle.policy_kinds.specs.Kinds.{is_customer as is_to_customer, state_passes as passes_state, number_passes as passes_number};
+ghost use Rattle.policy_kinds.specs.Kinds.{number_passes as passes_number};
 
 use crate::rows::Row;
 use net_names::{Asn, Class, Rel, State};
@@ -27,7 +32,7 @@ pub enum Kind {
 }
 
 fn state_passes(drops: bool, state: State) -> bool
-    ensures { result ≡ passes_state drops state }
+    ensures { result ≡ not (drops && sameb state_type state Invalid) }
 {
     !drops || state != State::Invalid
 }
@@ -46,7 +51,7 @@ fn number_passes(looks: bool, from: Rel, neighbour: Asn, otc: Option<Asn>) -> bo
 }
 
 fn is_customer(to: Rel) -> bool
-    ensures { result ≡ is_to_customer to }
+    ensures { result ≡ sameb rel_type to Customer }
 {
     to == Rel::Customer
 }

@@ -79,7 +79,7 @@ impl Row {
     }
 
     pub fn valid_place(self, state: State) -> u8
-        ensures { result ≡ place_of_state self.prefers_valid state }
+        ensures { result ≡ place_of_state self state }
     {
         if self.prefers_valid && state != State::Valid {
             1

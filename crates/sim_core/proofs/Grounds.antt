@@ -1,4 +1,5 @@
 -- What an edit leaves of ranks, rounds and watches, and what belongs to the edited world.
+use denote.Enum.Bare.{sameb}
 use Rattle.std.proofs.Common.{◌≡◌, ◌≢◌, ◌⊎◌, inl, inr, ℕ, suc, ◌-◌, ◌<◌, ◌≤◌, ◌&&◌, ◌||◌, not, Bool, true, false, IsTrue, cond, is_some, Option, None, Some, option_map, List, refl, sym, ap, subst, ◌∙◌, arith, Result, Ok, Err, OnOk, length, ◌+◌}
 use Rattle.std.specs.Prelude.{◌↔◌, option_and_then, slice_get}
 use Rattle.std.specs.List.{filter}
@@ -11,6 +12,7 @@ use Rattle.net_names.specs.Coverage.{holds}
 use Rattle.net_names.specs.Links.{converse}
 use Rattle.net_names.specs.Numbers.{last_or, occurs}
 use Rattle.net_names.specs.Prefixes.{PrefixValue}
+use Rattle.net_names.specs.contracts.routes.Rel.{the_type}
 use Rattle.net_names.specs.declared.routes.Rel.{Rel}
 use Rattle.net_names.specs.declared.routes.Rel.TheVariants.{Customer}
 use Rattle.as_graph.specs.Edits.{LinksAreSound}
@@ -18,7 +20,7 @@ use Rattle.as_graph.specs.Hierarchy.{HasNoProviderCycle, RankFits, RanksFit}
 use Rattle.as_graph.specs.Topology.{Topology, has, relation}
 use Rattle.origin_validation.specs.Judging.{state_of}
 use Rattle.path_pool.specs.declared.pool.PathPool.{PathPool}
-use Rattle.policy_kinds.specs.Kinds.{kind_policy, label, is_customer, is_own_or_customers}
+use Rattle.policy_kinds.specs.Kinds.{kind_policy, label}
 use Rattle.policy_kinds.specs.declared.kind.Kind.{Kind}
 use Rattle.rank_order.specs.Ranks.{KeptRanks, rank_at}
 use Rattle.route_choice.specs.Routings.{entry_of}
@@ -32,7 +34,7 @@ use Rattle.stability_laws.specs.Book.{policy_at}
 use Rattle.stability_laws.specs.Laws.{OneFamily, PathsGoOn, RightByOffers, RightFollows}
 use Rattle.stability_laws.specs.OfferPaths.{OfferPath}
 use Rattle.stability_laws.specs.Offers.{Offer, number_sent, offer_given, passed_on, passes}
-use Rattle.policy_laws.specs.Policy.{Policy}
+use Rattle.policy_laws.specs.Policy.{Policy, is_own_or_customers}
 use Rattle.policy_laws.specs.declared.policy.View.{View}
 use Rattle.net_names.specs.declared.routes.State.{State}
 use Rattle.stability_laws.specs.Plans.{IsSound, ListsRising, Plan, announces, has_prefix}
@@ -71,7 +73,7 @@ use Rattle.sim_core.proofs.SeedEdits.{edited_prefixes, other_paths, stands}
 
 -- what a kind exports follows from whether it marks
 pub same_exports : (k j : Kind) → (kind_policy k).marks ≡ (kind_policy j).marks → (kind_policy k).exports ≡ (kind_policy j).exports
-same_exports k j same = λ i held otc to. is_customer to || (is_own_or_customers held && not (same i && is_some otc))
+same_exports k j same = λ i held otc to. sameb the_type to Customer || (is_own_or_customers held && not (same i && is_some otc))
 
 -- who has a customer is an AS of the graph
 pub seller : LinksAreSound → (g : Topology) (a b : ℕ) (r : Rel) → relation g a b ≡ Some r → has g a ≡ true
