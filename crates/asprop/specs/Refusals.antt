@@ -33,9 +33,9 @@ limit_name limit.Vrps = codes "payloads"
 -- the text of a refused edit: what is not there, the prefix that the world has not, the limit, or the provider cycle from the new link on (own format)
 abbrev pub edit_refusal_text : EditError → Text
 edit_refusal_text edit.Memory = []
-edit_refusal_text (edit.AbsentLink lo hi) = codes "refused absent-link " ++ (decimal lo ++ (124 ∷ [] ++ (decimal hi ++ 10 ∷ [])))
-edit_refusal_text (edit.AbsentVrp vrp) = codes "refused absent-vrp " ++ (decimal vrp.asn ++ (32 ∷ [] ++ (prefix_text vrp.prefix ++ (32 ∷ [] ++ (decimal vrp.max ++ 10 ∷ [])))))
+edit_refusal_text (edit.AbsentLink lo hi) = codes "refused absent-link " ++ (decimal lo ++ (124 ∷ (decimal hi ++ 10 ∷ [])))
+edit_refusal_text (edit.AbsentVrp vrp) = codes "refused absent-vrp " ++ (decimal vrp.asn ++ (32 ∷ (prefix_text vrp.prefix ++ (32 ∷ (decimal vrp.max ++ 10 ∷ [])))))
 edit_refusal_text (edit.UnknownPrefix prefix) = unknown_prefix_text prefix
-edit_refusal_text (edit.AbsentAnnouncement prefix asn) = codes "refused absent-announcement " ++ (prefix_text prefix ++ (32 ∷ [] ++ (decimal asn ++ 10 ∷ [])))
+edit_refusal_text (edit.AbsentAnnouncement prefix asn) = codes "refused absent-announcement " ++ (prefix_text prefix ++ (32 ∷ (decimal asn ++ 10 ∷ [])))
 edit_refusal_text (edit.Limit which) = codes "refused limit " ++ (limit_name which ++ 10 ∷ [])
 edit_refusal_text (edit.ProviderCycle cycle) = codes "refused provider-cycle " ++ (numbers_text cycle ++ 10 ∷ [])
