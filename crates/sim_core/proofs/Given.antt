@@ -15,7 +15,7 @@ use Rattle.scenario_text.specs.declared.acts.Edit.TheVariants.{Policy}
 use Rattle.sim_core.specs.Editing.{IsGiven, IsRoomed, IsSmall, IsUnchanged, IsUndone, KeepsRest, ground_of}
 use Rattle.sim_core.specs.Edits.{edited, passed_limit, refusal_of_edit, with_kind}
 use Rattle.sim_core.specs.Ground.{DiffersAround}
-use Rattle.sim_core.specs.Sims.{world_seen}
+use Rattle.sim_core.specs.Views.{world_seen}
 use Rattle.sim_core.specs.Steps.{IsTouched}
 use Rattle.sim_core.specs.World.{HasCycle, graph_of, topology}
 use Rattle.sim_core.specs.Loaded.{is_other}
@@ -32,12 +32,12 @@ use Rattle.stability_laws.specs.Plans.{has_prefix}
 use Rattle.sim_core.specs.declared.errors.EditError.{EditError}
 use Rattle.sim_core.specs.declared.errors.EditError.TheVariants as refused
 use Rattle.sim_core.specs.declared.errors.EditLimit.TheVariants.{Ases}
-use Rattle.sim_core.specs.declared.sim.Sim.{Sim}
+use Rattle.sim_core.specs.declared.parts.Parts.{Parts}
 use Rattle.sim_core.proofs.LinkEdits.{has_by, limit_ases, rest_both}
 use Rattle.sim_core.proofs.PolicyEdits.{get_with, given_back, is_key, kind_is}
 use Rattle.sim_core.proofs.Doing.{all_undone, small_world, unchanged_world}
 
-pub roomed_world : (old new : Sim) (a : ℕ) → IsRoomed old new a → world_seen new ≡ world_seen old
+pub roomed_world : (old new : Parts) (a : ℕ) → IsRoomed old new a → world_seen new ≡ world_seen old
 roomed_world old new a h = λ i. record {
   links = h.links i;
   payloads = h.vrps i;
@@ -47,7 +47,7 @@ roomed_world old new a h = λ i. record {
   watched = set.from_list (ap (λ w. w.items) h.rest.watched i);
 }
 
-pub given_world : (old new : Sim) (a : ℕ) (k : Kind) → IsGiven old new a k → world_seen new ≡ edited (world_seen old) (Policy a k)
+pub given_world : (old new : Parts) (a : ℕ) (k : Kind) → IsGiven old new a k → world_seen new ≡ edited (world_seen old) (Policy a k)
 given_world old new a k h = λ i. record {
   links = h.links i;
   payloads = h.vrps i;
@@ -57,20 +57,20 @@ given_world old new a k h = λ i. record {
   watched = set.from_list (ap (λ w. w.items) h.rest.watched i);
 }
 
-pub begun_world : (old mid new : Sim) (a : ℕ) (k : Kind) → IsRoomed old mid a → IsGiven mid new a k → world_seen new ≡ edited (world_seen old) (Policy a k)
+pub begun_world : (old mid new : Parts) (a : ℕ) (k : Kind) → IsRoomed old mid a → IsGiven mid new a k → world_seen new ≡ edited (world_seen old) (Policy a k)
 begun_world old mid new a k roomed given = given_world mid new a k given ∙ ap (λ w. edited w (Policy a k)) (roomed_world old mid a roomed)
 
-pub begun_rest : (old mid new : Sim) (a : ℕ) (k : Kind) → IsRoomed old mid a → IsGiven mid new a k → KeepsRest old new
+pub begun_rest : (old mid new : Parts) (a : ℕ) (k : Kind) → IsRoomed old mid a → IsGiven mid new a k → KeepsRest old new
 begun_rest old mid new a k roomed given = rest_both old mid new roomed.rest given.rest
 
 -- one AS more than there may be
-pub too_many_named : (s : Sim) (a : ℕ) (k : Kind) → fin.len s.graph.links ≤ 1500000 → as_count (topology (edited (world_seen s) (Policy a k))) ≡ as_count (with_mark s.graph a) → 150000 < as_count (with_mark s.graph a) → refusal_of_edit (world_seen s) (Policy a k) ≡ Some (refused.Limit Ases)
+pub too_many_named : (s : Parts) (a : ℕ) (k : Kind) → fin.len s.graph.links ≤ 1500000 → as_count (topology (edited (world_seen s) (Policy a k))) ≡ as_count (with_mark s.graph a) → 150000 < as_count (with_mark s.graph a) → refusal_of_edit (world_seen s) (Policy a k) ≡ Some (refused.Limit Ases)
 too_many_named s a k links same many =
     let ases : 150000 < as_count (topology (edited (world_seen s) (Policy a k))) = subst (λ n. 150000 < n) (sym same) many in
     limit_ases (world_seen s) (Policy a k) refl links s.small.announcements ases
 
 -- the policy that the AS had, given back, gives back the world
-pub back_world : (old mid new : Sim) (a : ℕ) (k was : Kind) → was ≡ policy_at old.book a → IsRoomed old mid a → IsGiven mid new a k → edited (world_seen new) (Policy a was) ≡ world_seen old
+pub back_world : (old mid new : Parts) (a : ℕ) (k was : Kind) → was ≡ policy_at old.book a → IsRoomed old mid a → IsGiven mid new a k → edited (world_seen new) (Policy a was) ≡ world_seen old
 back_world old mid new a k was is roomed given =
     let plain : was ≡ unwrap_or (fin.get old.book.named a) Plain = is ∙ ap (unwrap_or (fin.get old.book.named a)) old.plain in
     let kinds : with_kind new.book.named a was ≡ old.book.named =
@@ -85,13 +85,13 @@ back_world old mid new a k was is roomed given =
     }
 
 -- so it is never refused
-pub back_accepted : (old mid new same : Sim) (a : ℕ) (k was : Kind) (e : EditError) → was ≡ policy_at old.book a → IsSmall old.graph old.vrps → IsRoomed old mid a → IsGiven mid new a k → IsUnchanged new same → refusal_of_edit (world_seen same) (Policy a was) ≡ Some e → ⊥
+pub back_accepted : (old mid new same : Parts) (a : ℕ) (k was : Kind) (e : EditError) → was ≡ policy_at old.book a → IsSmall old.graph old.vrps → IsRoomed old mid a → IsGiven mid new a k → IsUnchanged new same → refusal_of_edit (world_seen same) (Policy a was) ≡ Some e → ⊥
 back_accepted old mid new same a k was e is small roomed given alike refusal =
     let back = ap (λ w. edited w (Policy a was)) (unchanged_world new same alike) ∙ back_world old mid new a k was is roomed given in
     let none : refusal_of_edit (world_seen same) (Policy a was) ≡ None = ap (option_map refused.Limit) (ap passed_limit back ∙ small_world old small) in
     (let no : None ≡ Some e = sym none ∙ refusal in cc)
 
-pub policy_undone : (old mid new same last : Sim) (a : ℕ) (k was : Kind) → was ≡ policy_at old.book a → IsRoomed old mid a → IsGiven mid new a k → IsUnchanged new same → IsGiven same last a was → IsUndone old last
+pub policy_undone : (old mid new same last : Parts) (a : ℕ) (k was : Kind) → was ≡ policy_at old.book a → IsRoomed old mid a → IsGiven mid new a k → IsUnchanged new same → IsGiven same last a was → IsUndone old last
 policy_undone old mid new same last a k was is roomed given alike back =
     all_undone old new same last (begun_rest old mid new a k roomed given) alike back.rest
     (given_world same last a was back ∙ ap (λ w. edited w (Policy a was)) (unchanged_world new same alike) ∙ back_world old mid new a k was is roomed given)
@@ -111,7 +111,7 @@ same_or false true = inr (λ e. true≢false (sym e))
 same_or false false = inl refl
 
 -- only the AS differs, and where it begins or ceases to mark its neighbours are touched too
-pub policy_differs : LinksAreSound → (old mid new : Sim) (a : ℕ) (k : Kind) (touched : PrefixValue → ℕ → Bool) → IsRoomed old mid a → IsGiven mid new a k → ((prefix : PrefixValue) → IsTrue (has_prefix (plan_of old.rounds) prefix) → touched prefix a ≡ true)
+pub policy_differs : LinksAreSound → (old mid new : Parts) (a : ℕ) (k : Kind) (touched : PrefixValue → ℕ → Bool) → IsRoomed old mid a → IsGiven mid new a k → ((prefix : PrefixValue) → IsTrue (has_prefix (plan_of old.rounds) prefix) → touched prefix a ≡ true)
     → ((prefix : PrefixValue) (n : ℕ) (r : Rel) → IsTrue (has_prefix (plan_of old.rounds) prefix) → (kind_policy k).marks ≢ (kind_policy (policy_at old.book a)).marks → relation old.graph a n ≡ Some r → touched prefix n ≡ true) → DiffersAround (ground_of old) (ground_of new) new.rounds (a ∷ []) touched
 policy_differs sound old mid new a k touched roomed given own around = record {
   presence = λ x free. given.others x (apart_one a x free) ∙ has_by old.graph mid.graph roomed.links roomed.marked x;
@@ -167,14 +167,14 @@ policy_differs sound old mid new a k touched roomed given own around = record {
               absurd (true≢false (sym (around prefix x (converse r) (before prefix known) differ back) ∙ free)))
         ])
 
-pub given_no_cycle : (old mid new : Sim) (a : ℕ) (k : Kind) → IsRoomed old mid a → IsGiven mid new a k → (HasCycle (world_seen old) → ⊥) → HasNoProviderCycle (relation new.graph)
+pub given_no_cycle : (old mid new : Parts) (a : ℕ) (k : Kind) → IsRoomed old mid a → IsGiven mid new a k → (HasCycle (world_seen old) → ⊥) → HasNoProviderCycle (relation new.graph)
 given_no_cycle old mid new a k roomed given none = subst (λ (l : LinkMap). HasNoProviderCycle (relation (graph_of l new.graph.marked))) (sym (given.links ∙ roomed.links)) (λ xs is. none (xs, is))
 
-pub touched_policy : (s : Sim) (a : ℕ) (k : Kind) (p : PrefixValue) (x : ℕ) → (x ≡ a) ⊎ (((kind_policy k).marks ≢ (kind_policy (policy_at s.book a)).marks) × (r : Rel) × (relation s.graph a x ≡ Some r)) → IsTouched (world_seen s) (Policy a k) p x
+pub touched_policy : (s : Parts) (a : ℕ) (k : Kind) (p : PrefixValue) (x : ℕ) → (x ≡ a) ⊎ (((kind_policy k).marks ≢ (kind_policy (policy_at s.book a)).marks) × (r : Rel) × (relation s.graph a x ≡ Some r)) → IsTouched (world_seen s) (Policy a k) p x
 touched_policy s a k p x (inl same) = inl same
 touched_policy s a k p x (inr (differ, r, link)) = inr ((λ e. differ (e ∙ ap (λ j. (kind_policy j).marks) (ap (unwrap_or (fin.get s.book.named a)) (sym s.plain)))), r, link)
 
 -- a reader that there was is listed still
-pub still_listed : (old mid new same : Sim) (a : ℕ) (k was : Kind) → was ≡ policy_at old.book a → IsRoomed old mid a → IsGiven mid new a k → IsUnchanged new same → (kind_policy was).reads_state ≡ true → occurs a same.readers.ases ≡ true
+pub still_listed : (old mid new same : Parts) (a : ℕ) (k was : Kind) → was ≡ policy_at old.book a → IsRoomed old mid a → IsGiven mid new a k → IsUnchanged new same → (kind_policy was).reads_state ≡ true → occurs a same.readers.ases ≡ true
 still_listed old mid new same a k was is roomed given alike reads =
     subst (λ (r : PlacedAses). occurs a r.ases ≡ true) (sym (alike.readers ∙ given.readers)) (roomed.readers a (old.reading a (ap (λ j. (kind_policy j).reads_state) (sym is) ∙ reads)))

@@ -59,12 +59,12 @@ use Rattle.sim_core.specs.Families.{Family}
 use Rattle.sim_core.specs.Ground.{BelongTo, DiffersAround, Ground, IsRightOn, IsSeedChange, policy_on}
 use Rattle.sim_core.specs.Parts.{AreRoundsOf}
 use Rattle.sim_core.specs.Renewing.{CanAllFollow}
-use Rattle.sim_core.specs.Sims.{kept, world_seen}
+use Rattle.sim_core.specs.Views.{kept, world_seen}
 use Rattle.sim_core.specs.Steps.{AreFewSteps, Counts, IsQuick, IsTouched}
 use Rattle.sim_core.specs.World.{World, topology}
 use Rattle.sim_core.specs.declared.editing.Changed.{Changed}
 use Rattle.sim_core.specs.declared.errors.EditError.{EditError}
-use Rattle.sim_core.specs.declared.sim.Sim.{Sim}
+use Rattle.sim_core.specs.declared.parts.Parts.{Parts}
 use Rattle.scenario_text.specs.declared.acts.Edit.{Edit}
 use Rattle.sim_core.specs.Watching.{AreRoundWatches}
 use Rattle.sim_core.specs.declared.watching.RoundWatches.{RoundWatches}
@@ -277,14 +277,14 @@ pub steps_map : (links : ℕ → ℕ → Option Rel) (plan after : Plan) (old ne
 steps_map links plan after old new T U rounds first last other few = record { triples = few.triples; apart = few.apart; counted = λ x stands. map_count links plan after old new T U rounds other x (few.counted x stands); enough = few.enough }
 
 -- so are those of an edit that touches no other ASes
-pub quick_by : (old : Sim) (now : Rounds) (links other : ℕ → ℕ → Option Rel) (e : Edit) (first last : ℕ) (T : PrefixValue → ℕ → Type 0) → links ≡ other
+pub quick_by : (old : Parts) (now : Rounds) (links other : ℕ → ℕ → Option Rel) (e : Edit) (first last : ℕ) (T : PrefixValue → ℕ → Type 0) → links ≡ other
     → ((x : ℕ × (PrefixValue × ℕ)) → Counts links (plan_of old.rounds) (plan_of now) (kept_rounds old.rounds) (kept_rounds now) T (round_count old.rounds) x → T x.1.0 x.1.1 → Counts links (plan_of old.rounds) (plan_of now) (kept_rounds old.rounds) (kept_rounds now) (IsTouched (world_seen old) e) (round_count old.rounds) x)
     → AreFewSteps links (plan_of old.rounds) (plan_of now) (kept_rounds old.rounds) (kept_rounds now) T (round_count old.rounds) first last → AreFewSteps other (plan_of old.rounds) (plan_of now) (kept_rounds old.rounds) (kept_rounds now) (IsTouched (world_seen old) e) (round_count old.rounds) first last
 quick_by old now links other e first last T graph map few =
     coe 0 1 (i. AreFewSteps (graph i) (plan_of old.rounds) (plan_of now) (kept_rounds old.rounds) (kept_rounds now) (IsTouched (world_seen old) e) (round_count old.rounds) first last)
     (steps_map links (plan_of old.rounds) (plan_of now) (kept_rounds old.rounds) (kept_rounds now) T (IsTouched (world_seen old) e) (round_count old.rounds) first last map few)
 
-pub quick_done : (old mid new : Sim) (e : Edit) (touched : PrefixValue → ℕ → Bool) (first last : ℕ) → AreFewSteps (relation mid.graph) (plan_of mid.rounds) (plan_of new.rounds) (kept_rounds mid.rounds) (kept_rounds new.rounds) (λ p a. touched p a ≡ true) (round_count mid.rounds) first last
+pub quick_done : (old mid new : Parts) (e : Edit) (touched : PrefixValue → ℕ → Bool) (first last : ℕ) → AreFewSteps (relation mid.graph) (plan_of mid.rounds) (plan_of new.rounds) (kept_rounds mid.rounds) (kept_rounds new.rounds) (λ p a. touched p a ≡ true) (round_count mid.rounds) first last
     → mid.rounds ≡ old.rounds → new.graph ≡ mid.graph → ((p : PrefixValue) (a : ℕ) → touched p a ≡ true → IsTouched (world_seen old) e p a) → IsQuick (world_seen old) (world_seen new) e (kept old).routings (kept new).routings first last
 quick_done old mid new e touched first last few rounds graph only =
     quick_by old new.rounds (relation mid.graph) (relation (topology (world_seen new))) e first last (λ p a. touched p a ≡ true) (ap relation (sym graph)) (λ x c there. record { from = c.from; to = c.to; known = c.known; counts = inl (only x.1.0 x.1.1 there) })

@@ -27,7 +27,6 @@ pub mod Elements
 pub mod Tables
 pub mod Families
 pub mod Rows
-pub mod Reports
 pub mod Replies
 pub mod Differences
 pub mod Reasons

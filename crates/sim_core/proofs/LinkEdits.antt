@@ -32,17 +32,17 @@ use Rattle.scenario_text.specs.declared.acts.Edit.TheVariants.{Link}
 use Rattle.sim_core.specs.Editing.{HasLinks, IsLinkStop, IsSmall, IsUnchanged, IsUndone, KeepsRest, ground_of, links_with}
 use Rattle.sim_core.specs.Edits.{IsEditRefusal, absent, edited, refusal_of_edit}
 use Rattle.sim_core.specs.Ground.{DiffersAround}
-use Rattle.sim_core.specs.Sims.{world_seen}
+use Rattle.sim_core.specs.Views.{world_seen}
 use Rattle.sim_core.specs.World.{World, HasCycle, graph_of, topology}
 use Rattle.sim_core.specs.declared.errors.EditError.{EditError}
 use Rattle.sim_core.specs.declared.errors.EditError.TheVariants as refused
 use Rattle.sim_core.specs.declared.errors.EditLimit.TheVariants.{Links, Announcements, Ases}
-use Rattle.sim_core.specs.declared.sim.Sim.{Sim}
+use Rattle.sim_core.specs.declared.parts.Parts.{Parts}
 use Rattle.sim_core.proofs.CycleLemmas.{new_below, none_below, without_below}
 use Rattle.sim_core.proofs.Doing.{all_undone, unchanged_world}
 
 -- the world with these links
-pub links_world : (old new : Sim) (a b : ℕ) (links : LinkMap) → HasLinks old new a b links → world_seen new ≡ record (world_seen old) { links = links }
+pub links_world : (old new : Parts) (a b : ℕ) (links : LinkMap) → HasLinks old new a b links → world_seen new ≡ record (world_seen old) { links = links }
 links_world old new a b links h = λ i. record {
   links = h.are i;
   payloads = h.vrps i;
@@ -90,15 +90,15 @@ len_new g a b r apart none = elim (cases_Bool (nat_lt a b)) [
     over_apart : (a b : ℕ) → a ≢ b → nat_lt a b ≡ false → nat_lt b a ≡ true
     over_apart a b apart h = grind (arith, nat_tests, apart, h)
 
-pub seen_linked : (s : Sim) (a b : ℕ) (r : Rel) → as_count (with_link s.graph a b r) ≡ as_count (topology (edited (world_seen s) (Link a b r)))
+pub seen_linked : (s : Parts) (a b : ℕ) (r : Rel) → as_count (with_link s.graph a b r) ≡ as_count (topology (edited (world_seen s) (Link a b r)))
 seen_linked s a b r = ap (λ (g : Topology). as_count (with_link g a b r)) s.named
 
-pub too_many_links : (s : Sim) (a b : ℕ) (r : Rel) → a ≢ b → relation s.graph a b ≡ None → 1500000 ≤ fin.len s.graph.links → refusal_of_edit (world_seen s) (Link a b r) ≡ Some (refused.Limit Links)
+pub too_many_links : (s : Parts) (a b : ℕ) (r : Rel) → a ≢ b → relation s.graph a b ≡ None → 1500000 ≤ fin.len s.graph.links → refusal_of_edit (world_seen s) (Link a b r) ≡ Some (refused.Limit Links)
 too_many_links s a b r apart none many =
     let more : 1500000 < fin.len (edited (world_seen s) (Link a b r)).links = omega (arith, len_new s.graph a b r apart none, many) in
     rw (over (fin.len (edited (world_seen s) (Link a b r)).links) 1500000 more) refl
 
-pub too_many_ases : (s : Sim) (a b : ℕ) (r : Rel) → a ≢ b → relation s.graph a b ≡ None → fin.len s.graph.links < 1500000 → 150000 < as_count (with_link s.graph a b r) → refusal_of_edit (world_seen s) (Link a b r) ≡ Some (refused.Limit Ases)
+pub too_many_ases : (s : Parts) (a b : ℕ) (r : Rel) → a ≢ b → relation s.graph a b ≡ None → fin.len s.graph.links < 1500000 → 150000 < as_count (with_link s.graph a b r) → refusal_of_edit (world_seen s) (Link a b r) ≡ Some (refused.Limit Ases)
 too_many_ases s a b r apart none few many =
     let links : fin.len (edited (world_seen s) (Link a b r)).links ≤ 1500000 = omega (arith, len_new s.graph a b r apart none, few) in
     let ases : 150000 < as_count (topology (edited (world_seen s) (Link a b r))) = subst (λ n. 150000 < n) (seen_linked s a b r) many in
@@ -117,11 +117,11 @@ pub back_cut : EditsAreUndone → (g : Topology) (a b : ℕ) (r : Rel) → a ≢
 back_cut undone g a b r apart mid are is =
     ap (λ (l : LinkMap). (with_link (graph_of l mid.marked) a b r).links) are ∙ ap (λ (t : Topology). t.links) (undone.lost_link g a b r apart is)
 
-pub rest_both : (old mid new : Sim) → KeepsRest old mid → KeepsRest mid new → KeepsRest old new
+pub rest_both : (old mid new : Parts) → KeepsRest old mid → KeepsRest mid new → KeepsRest old new
 rest_both old mid new p q = record { ranks = q.ranks ∙ p.ranks; rounds = q.rounds ∙ p.rounds; watched = q.watched ∙ p.watched; watches = q.watches ∙ p.watches }
 
 -- links that were changed and changed back
-pub links_undone : (old mid same new : Sim) (a b : ℕ) (links back : LinkMap) → HasLinks old mid a b links → IsUnchanged mid same → HasLinks same new a b back → back ≡ old.graph.links → IsUndone old new
+pub links_undone : (old mid same new : Parts) (a b : ℕ) (links back : LinkMap) → HasLinks old mid a b links → IsUnchanged mid same → HasLinks same new a b back → back ≡ old.graph.links → IsUndone old new
 links_undone old mid same new a b links back first alike second is =
     all_undone old mid same new first.rest alike second.rest
     (links_world same new a b back second ∙ (λ i. record (world_seen same) { links = is i }) ∙ ap (λ (w : World). record w { links = old.graph.links }) (unchanged_world mid same alike) ∙ ap (λ (w : World). record w { links = old.graph.links }) (links_world old mid a b links first))
@@ -181,7 +181,7 @@ pair_ases ases g a b (Some r) x not_a not_b links is =
         by false e = refl
 
 -- so that only the pair differs, and is touched
-pub link_differs : LinksAreSet → LinksAreTaken → AsesAreKept → (old mid : Sim) (a b : ℕ) (o : Option Rel) (touched : PrefixValue → ℕ → Bool) → a ≢ b → HasLinks old mid a b (links_with old.graph a b o)
+pub link_differs : LinksAreSet → LinksAreTaken → AsesAreKept → (old mid : Parts) (a b : ℕ) (o : Option Rel) (touched : PrefixValue → ℕ → Bool) → a ≢ b → HasLinks old mid a b (links_with old.graph a b o)
     → ((prefix : PrefixValue) (x : ℕ) → IsTrue (has_prefix (plan_of old.rounds) prefix) → occurs x (a ∷ b ∷ []) ≡ true → touched prefix x ≡ true) → DiffersAround (ground_of old) (ground_of mid) mid.rounds (a ∷ b ∷ []) touched
 link_differs setting taken ases old mid a b o touched apart h touches = record {
   presence = λ x free. (let off = apart_pair a b x free in ap (λ (m : set.FinSet nat_cmp). has (graph_of mid.graph.links m) x) h.marked ∙ pair_ases ases old.graph a b o x off.0 off.1 mid.graph.links h.are);
@@ -193,7 +193,7 @@ link_differs setting taken ases old mid a b o touched apart h touches = record {
 }
 
 -- without its link the pair takes it again
-pub fits_cut : EditsAreUndone → (old mid : Sim) (a b : ℕ) → a ≢ b → HasLinks old mid a b (links_with old.graph a b None) → relation mid.graph a b ≡ None → IsSmall old.graph old.vrps → (r : Rel) → relation old.graph a b ≡ Some r → (e : GraphError) → IsLinkRefusal mid.graph a b r e → ⊥
+pub fits_cut : EditsAreUndone → (old mid : Parts) (a b : ℕ) → a ≢ b → HasLinks old mid a b (links_with old.graph a b None) → relation mid.graph a b ≡ None → IsSmall old.graph old.vrps → (r : Rel) → relation old.graph a b ≡ Some r → (e : GraphError) → IsLinkRefusal mid.graph a b r e → ⊥
 fits_cut undone old mid a b apart h none small r is graph_error.Memory refusal = true≢false (sym h.room ∙ refusal.1)
 fits_cut undone old mid a b apart h none small r is graph_error.TooManyLinks refusal =
     let back = ap fin.len (back_cut undone old.graph a b r apart mid.graph h.are is) in
@@ -205,7 +205,7 @@ fits_cut undone old mid a b apart h none small r is graph_error.TooManyAses refu
     let many : 150000 < as_count (with_link mid.graph a b r) = refusal.2 in
     omega (arith, same, many, small.ases)
 
-pub fits_back : EditsAreUndone → (old mid : Sim) (a b : ℕ) → a ≢ b → HasLinks old mid a b (links_with old.graph a b None) → relation mid.graph a b ≡ None → IsSmall old.graph old.vrps → (o : Option Rel) → relation old.graph a b ≡ o → IfSome o (λ r. (e : GraphError) → IsLinkRefusal mid.graph a b r e → ⊥)
+pub fits_back : EditsAreUndone → (old mid : Parts) (a b : ℕ) → a ≢ b → HasLinks old mid a b (links_with old.graph a b None) → relation mid.graph a b ≡ None → IsSmall old.graph old.vrps → (o : Option Rel) → relation old.graph a b ≡ o → IfSome o (λ r. (e : GraphError) → IsLinkRefusal mid.graph a b r e → ⊥)
 fits_back undone old mid a b apart h none small None is = tt
 fits_back undone old mid a b apart h none small (Some r) is = fits_cut undone old mid a b apart h none small r is
 
@@ -213,7 +213,7 @@ pub back_any : EditsAreUndone → (g : Topology) (a b : ℕ) → a ≢ b → (mi
 back_any undone g a b apart mid are there None is = absurd (there is)
 back_any undone g a b apart mid are there (Some r) is = back_cut undone g a b r apart mid are is
 
-pub cut_none : LinksAreTaken → (old mid : Sim) (a b : ℕ) → HasLinks old mid a b (links_with old.graph a b None) → relation mid.graph a b ≡ None
+pub cut_none : LinksAreTaken → (old mid : Parts) (a b : ℕ) → HasLinks old mid a b (links_with old.graph a b None) → relation mid.graph a b ≡ None
 cut_none taken old mid a b h = ap (λ (l : LinkMap). relation (graph_of l mid.graph.marked) a b) h.are ∙ taken.at old.graph a b
 
 pub absent_cut : (o : Option Rel) (e : EditError) → o ≢ None → cond (is_some o) None (Some e) ≡ None
@@ -237,21 +237,21 @@ unlinked (Ok x) g new a b ok absent there = ok
 unlinked (Err e) g new a b ok absent there = absurd (there absent)
 
 -- a graph with a new link has no provider cycle without the pair's link
-pub there_none : LinksAreSound → LinksAreSet → LinksAreTaken → (old mid : Sim) (a b : ℕ) (r : Rel) → a ≢ b → (p c : ℕ) → ((p ≡ a) × (c ≡ b)) ⊎ ((p ≡ b) × (c ≡ a)) → HasLinks old mid a b (links_with old.graph a b (Some r)) → (HasCycle (world_seen old) → ⊥) → HasNoProviderCycle (relation (without_link mid.graph p c))
+pub there_none : LinksAreSound → LinksAreSet → LinksAreTaken → (old mid : Parts) (a b : ℕ) (r : Rel) → a ≢ b → (p c : ℕ) → ((p ≡ a) × (c ≡ b)) ⊎ ((p ≡ b) × (c ≡ a)) → HasLinks old mid a b (links_with old.graph a b (Some r)) → (HasCycle (world_seen old) → ⊥) → HasNoProviderCycle (relation (without_link mid.graph p c))
 there_none sound setting taken old mid a b r apart p c pair h none =
     none_below (relation (without_link mid.graph p c)) (relation old.graph)
     (λ x y e. new_below sound setting taken old.graph a b p c r apart pair x y (subst (λ (l : LinkMap). relation (without_link (graph_of l mid.graph.marked) p c) x y ≡ Some Customer) h.are e))
     (λ xs is. none (xs, is))
 
 -- so has a graph that lost a link
-pub cut_no_cycle : LinksAreSound → LinksAreSet → LinksAreTaken → (old mid : Sim) (a b : ℕ) → HasLinks old mid a b (links_with old.graph a b None) → (HasCycle (world_seen old) → ⊥) → HasNoProviderCycle (relation mid.graph)
+pub cut_no_cycle : LinksAreSound → LinksAreSet → LinksAreTaken → (old mid : Parts) (a b : ℕ) → HasLinks old mid a b (links_with old.graph a b None) → (HasCycle (world_seen old) → ⊥) → HasNoProviderCycle (relation mid.graph)
 cut_no_cycle sound setting taken old mid a b h none =
     none_below (relation mid.graph) (relation old.graph)
     (λ x y e. without_below sound setting taken old.graph a b x y (subst (λ (l : LinkMap). relation (graph_of l mid.graph.marked) x y ≡ Some Customer) h.are e))
     (λ xs is. none (xs, is))
 
 -- a pair with a link is two ASes
-pub cut_apart : LinksAreSound → (s : Sim) (a b : ℕ) → relation s.graph a b ≢ None → a ≢ b
+pub cut_apart : LinksAreSound → (s : Parts) (a b : ℕ) → relation s.graph a b ≢ None → a ≢ b
 cut_apart sound s a b there same = there (subst (λ (x : ℕ). relation s.graph a x ≡ None) same (sound.to_itself s.graph a))
 
 pub pair_end : (a b x : ℕ) → occurs x (a ∷ b ∷ []) ≡ true → (x ≡ a) ⊎ (x ≡ b)

@@ -29,15 +29,15 @@ use Rattle.scenario_text.specs.declared.acts.Edit.TheVariants.{VrpAdd}
 use Rattle.sim_core.specs.Editing.{IsSmall, IsUndone, KeepsRest}
 use Rattle.sim_core.specs.Edits.{IsAllowed, absent, edited, refusal_of_edit}
 use Rattle.sim_core.specs.Families.{Family}
-use Rattle.sim_core.specs.Sims.{world_seen}
+use Rattle.sim_core.specs.Views.{world_seen}
 use Rattle.sim_core.specs.Steps.{IsQuick}
 use Rattle.sim_core.specs.World.{World, HasCycle, kind_at, topology}
 use Rattle.sim_core.specs.declared.errors.EditError.TheVariants as refused
 use Rattle.sim_core.specs.declared.errors.EditLimit.TheVariants.{Vrps}
 use Rattle.sim_core.specs.Ground.{DiffersAround, Ground, IsOrigin, policy_on}
-use Rattle.sim_core.specs.declared.sim.Sim.{Sim}
+use Rattle.sim_core.specs.declared.parts.Parts.{Parts}
 use Rattle.sim_core.proofs.LinkEdits.{over, within}
-use Rattle.sim_core.proofs.Doing.{allowed_by, no_limit, rest_kept, seen_count}
+use Rattle.sim_core.proofs.Doing.{allowed_by, no_limit, rest_kept, rest_rows, seen_count}
 
 tied : (o : Ordering) → is_eq o ≡ true → o ≡ Equal
 tied Less h = cc
@@ -74,7 +74,7 @@ pub added_again : (s : Payloads) (v : VrpValue) → has s v ≡ true → added s
 added_again s v there = fin.same_map vrp_total exact_vrp _ _ (λ q.
     fin.get-insert vrp_total s v tt q ∙ once (eq_by_cmp vrp_cmp q v) (fin.get s q) (λ e. at_key s v q e ∙ there_unit (fin.get s v) there))
 
-pub too_many_payloads : (s : Sim) (v : VrpValue) → IsSmall s.graph s.vrps → has s.vrps v ≡ false → count s.vrps ≡ 2000000 → refusal_of_edit (world_seen s) (VrpAdd v) ≡ Some (refused.Limit Vrps)
+pub too_many_payloads : (s : Parts) (v : VrpValue) → IsSmall s.graph s.vrps → has s.vrps v ≡ false → count s.vrps ≡ 2000000 → refusal_of_edit (world_seen s) (VrpAdd v) ≡ Some (refused.Limit Vrps)
 too_many_payloads s v small none many =
     let one : count (added s.vrps v) ≡ count s.vrps + 1 = fin.len-insert vrp_total s.vrps v tt ∙ ap (λ t. cond t (count s.vrps) (count s.vrps + 1)) none in
     let more : 2000000 < count (added s.vrps v) = omega (arith, one, many) in
@@ -84,7 +84,7 @@ abbrev pub with_payloads : World → Payloads → World
 with_payloads w payloads = record w { payloads = payloads }
 
 -- nothing has changed
-pub vrps_undone : (old new : Sim) → new.graph.links ≡ old.graph.links → new.book.named ≡ old.book.named → new.vrps ≡ old.vrps → KeepsRest old new → IsUndone old new
+pub vrps_undone : (old new : Parts) → new.graph.links ≡ old.graph.links → new.book.named ≡ old.book.named → new.vrps ≡ old.vrps → KeepsRest old new → IsUndone old new
 vrps_undone old new links named vrps rest = record {
   world = λ i. record {
     links = links i;
@@ -95,6 +95,7 @@ vrps_undone old new links named vrps rest = record {
     watched = set.from_list (ap (λ w. w.items) rest.watched i);
   };
   same_kept = rest_kept old new rest;
+  same_rows = rest_rows old new rest;
 }
 
 pub back_vrps : (t : Bool) (s now : Payloads) (v : VrpValue) → now ≡ added s v → t ≡ has s v → cond t now (taken now v) ≡ s
@@ -169,7 +170,7 @@ pub no_steps : (w after : World) (e : Edit) (old new : Family) (n : ℕ) → IsQ
 no_steps w after e old new n = record { triples = []; apart = tt; counted = λ x h. absurd h; enough = omega arith }
 
 -- the world with other payloads is allowed
-pub payload_allowed : (old : Sim) (e : Edit) (vrps : Payloads) → with_payloads (world_seen old) vrps ≡ edited (world_seen old) e → absent (world_seen old) e ≡ None → IsSmall old.graph vrps → (HasCycle (world_seen old) → ⊥) → IsAllowed (world_seen old) e
+pub payload_allowed : (old : Parts) (e : Edit) (vrps : Payloads) → with_payloads (world_seen old) vrps ≡ edited (world_seen old) e → absent (world_seen old) e ≡ None → IsSmall old.graph vrps → (HasCycle (world_seen old) → ⊥) → IsAllowed (world_seen old) e
 payload_allowed old e vrps world there small none =
     allowed_by (world_seen old) (with_payloads (world_seen old) vrps) e world there (no_limit (with_payloads (world_seen old) vrps) small.links old.small.announcements (subst (λ n. n ≤ 150000) (seen_count old) small.ases) small.payloads_in) (λ xs cycle. none (xs, cycle))
 
@@ -181,8 +182,8 @@ small_taken g s v small = record { links = small.links; ases = small.ases; paylo
     by false = small.payloads_in
 
 -- the policy of an AS in a world is that of the simulation
-pub kind_seen : (s : Sim) (a : ℕ) → policy_at s.book a ≡ kind_at (world_seen s) a
+pub kind_seen : (s : Parts) (a : ℕ) → policy_at s.book a ≡ kind_at (world_seen s) a
 kind_seen s a = ap (unwrap_or (fin.get s.book.named a)) s.plain
 
-pub reads_kind : (s : Sim) (a : ℕ) → (kind_policy (policy_at s.book a)).reads_state ≡ true → (kind_policy (kind_at (world_seen s) a)).reads_state ≡ true
+pub reads_kind : (s : Parts) (a : ℕ) → (kind_policy (policy_at s.book a)).reads_state ≡ true → (kind_policy (kind_at (world_seen s) a)).reads_state ≡ true
 reads_kind s a h = ap (λ k. (kind_policy k).reads_state) (sym (kind_seen s a)) ∙ h

@@ -1,28 +1,30 @@
 -- An accepted query has one answer.
-use Rattle.std.proofs.Common.{◌≡◌, ℕ, Bool, true, false, IsTrue, Option, None, List, refl, sym, ap, subst, ◌∙◌}
+use Rattle.std.proofs.Common.{◌≡◌, ℕ, ◌&&◌, Bool, true, false, IsTrue, Option, None, List, refl, sym, ap, subst, ◌∙◌}
 use Rattle.std.specs.FinSet as set
 use Rattle.net_names.specs.Addresses.{AddrValue}
 use Rattle.net_names.specs.Prefixes.{PrefixValue}
 use Rattle.as_graph.specs.Topology.{has, relation}
 use Rattle.as_graph.proofs.Fitting.{one_rank_at}
-use Rattle.policy_kinds.specs.Kinds.{label}
 use Rattle.scenario_text.specs.declared.acts.Query.{Query}
 use Rattle.scenario_text.specs.declared.acts.Query.TheVariants as query
 use Rattle.data_trace.specs.Hops.{next_hop}
 use Rattle.data_trace.specs.Traces.{IsTrace}
-use Rattle.data_trace.specs.Watches.{AreRows}
+use Rattle.data_trace.specs.contracts.kinds.EndPartialEq.TheImpl as same_end
+use Rattle.data_trace.specs.declared.kinds.End.{End}
 use Rattle.data_trace.specs.declared.kinds.Hop.{Hop}
 use Rattle.data_trace.proofs.Ends.{one_end}
 use Rattle.data_trace.proofs.Traces.{one_trace, trace_ends}
 use Rattle.stability_laws.specs.Plans.{announcers_of, has_prefix}
+use Rattle.reports.specs.Counts.{report_text}
 use Rattle.reports.specs.Rows.{rank_row, entry_row}
 use Rattle.reports.specs.Traces.{trace_text}
+use Rattle.reports.specs.declared.group.Group.{Group}
 use Rattle.sim_core.specs.Answers.{IsAnswer, refusal_of, needs}
+use Rattle.sim_core.specs.Counting.{how_many, in_group}
 use Rattle.sim_core.specs.Kept.{IsKept, Kept}
-use Rattle.sim_core.specs.World.{World, has_round, kind_at, topology}
+use Rattle.sim_core.specs.World.{World, has_round, topology}
 use Rattle.sim_core.proofs.Families.{one_family, same_next}
-use Rattle.sim_core.proofs.Reports.{same_report}
-use Rattle.sim_core.proofs.Rows.{same_rows_but_order}
+use Rattle.sim_core.proofs.Rows.{many_alike, same_members}
 use Rattle.sim_core.proofs.Tables.{one_table}
 use Rattle.sim_core.proofs.Watches.{round_within}
 
@@ -58,10 +60,17 @@ module _ (w : World) (k l : Kept) (x : IsKept w k) (y : IsKept w l) where
   one_answer (query.Report round addr) s t accepted a b =
       let asked = none_wanting (has_round w round) _ _ accepted in
       let watched = none_wanting (set.contains w.watched addr) _ _ asked.1 in
+      let ranks : (n : ℕ) → k.ranks n ≡ l.ranks n = λ n. one_rank_at (relation (topology w)) n (k.ranks n) (l.ranks n) (x.ranks n) (y.ranks n) in
+      let members : (g : Group) (n : ℕ) → in_group w k g n ≡ in_group w l g n = same_members w k l ranks in
       let next : ℕ → Hop = next_hop w.plan (k.routings round) addr in
-      let others : AreRows (topology w) next (λ n. label (kind_at w n)) (l.rows round addr) =
-      subst (λ (n : ℕ → Hop). AreRows (topology w) n (λ m. label (kind_at w m)) (l.rows round addr)) (next_same round addr asked.0) (y.rows round addr asked.0 watched.0) in
-      let order = same_rows_but_order (topology w) next (λ n. label (kind_at w n)) (k.rows round addr) (l.rows round addr) (x.rows round addr asked.0 watched.0) others in
-      a ∙ (same_report (k.rows round addr) (l.rows round addr) order (announcers_of w.plan) ∙ sym b)
+      let ends : (n : ℕ) → has (topology w) n ≡ true → k.ends round addr n ≡ l.ends round addr n = λ n there.
+      let (walk, trace) = x.ends round addr n asked.0 watched.0 there in
+      let (other, theirs) = y.ends round addr n asked.0 watched.0 there in
+      let same : IsTrace next n other (l.ends round addr n) = subst (λ (h : ℕ → Hop). IsTrace h n other (l.ends round addr n)) (next_same round addr asked.0) theirs in
+      one_end next n (l.ends round addr n) (k.ends round addr n) (trace_ends next n other (l.ends round addr n) same) (trace_ends next n walk (k.ends round addr n) trace)
+      in
+      let counts : (g : Group) (e : End) → how_many w (λ n. in_group w k g n && (same_end.ghosts).eq (k.ends round addr n) e) ≡ how_many w (λ n. in_group w l g n && (same_end.ghosts).eq (l.ends round addr n) e) =
+      λ g e. many_alike w (λ n. in_group w k g n && (same_end.ghosts).eq (k.ends round addr n) e) (λ n. in_group w l g n && (same_end.ghosts).eq (l.ends round addr n) e) (λ n there i. members g n i && (same_end.ghosts).eq (ends n there i) e) in
+      a ∙ ((λ i. report_text (λ g. how_many w (λ n. members g n i)) (λ g e. counts g e i) (announcers_of w.plan)) ∙ sym b)
   one_answer query.Ranks s t accepted a b = one_table (has (topology w)) _ _ s t (λ asn. ap (rank_row asn) (one_rank_at (relation (topology w)) asn (k.ranks asn) (l.ranks asn) (x.ranks asn) (y.ranks asn))) a b
   one_answer (query.Validity prefix asn) s t accepted a b = a ∙ sym b

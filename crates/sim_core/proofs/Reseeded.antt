@@ -32,11 +32,11 @@ use Rattle.sim_core.specs.Editing.{IsSeedEdit, IsSmall, edit_of, ground_of}
 use Rattle.sim_core.specs.Edits.{IsAllowed, absent, edited, refusal_of_edit}
 use Rattle.sim_core.specs.Ground.{BelongTo, DiffersAround, Ground, IsRightOn, IsSeedChange}
 use Rattle.sim_core.specs.Marking.{with_mark_if}
-use Rattle.sim_core.specs.Sims.{world_seen}
+use Rattle.sim_core.specs.Views.{world_seen}
 use Rattle.sim_core.specs.World.{World, HasCycle, graph_of, named, topology}
 use Rattle.sim_core.specs.declared.errors.EditError.TheVariants as refused
 use Rattle.sim_core.specs.declared.errors.EditLimit.TheVariants.{Ases}
-use Rattle.sim_core.specs.declared.sim.Sim.{Sim}
+use Rattle.sim_core.specs.declared.parts.Parts.{Parts}
 use Rattle.sim_core.proofs.LinkEdits.{limit_ases}
 use Rattle.sim_core.proofs.Announcers.{announcer_there, is_announcer}
 use Rattle.sim_core.proofs.Doing.{allowed_by, no_limit}
@@ -63,7 +63,7 @@ others_there ases g a x true other = ases.marked g a x ∙ ap (λ b. b || has g 
 others_there ases g a x false other = ases.other_marks g a x other
 
 -- the mark given back
-pub graph_back : (s : Sim) (a : ℕ) (t was : Bool) (mid last : Topology) → was ≡ set.contains (set.from_list {R = nat_cmp} (named (plan_of s.rounds) s.book.named)) a → mid ≡ with_mark_if (with_room s.graph a a) a t → last ≡ with_mark_if mid a was → last ≡ with_room s.graph a a
+pub graph_back : (s : Parts) (a : ℕ) (t was : Bool) (mid last : Topology) → was ≡ set.contains (set.from_list {R = nat_cmp} (named (plan_of s.rounds) s.book.named)) a → mid ≡ with_mark_if (with_room s.graph a a) a t → last ≡ with_mark_if mid a was → last ≡ with_room s.graph a a
 graph_back s a t was mid last is first second =
     let marks = ap (λ (g : Topology). g.marked) s.named in
     let there : was ≡ set.contains s.graph.marked a = is ∙ sym (ap (λ (m : set.FinSet nat_cmp). set.contains m a) marks) in
@@ -98,7 +98,7 @@ withdrawn_announced w (Withdraw p b) a there a_is other = ap (announces w.plan p
     by true false h = cc
     by false u h = cc
 
-module _ (s : Sim) (e : SeedEdit) (plan : Plan) (a : ℕ) (t : Bool) (graph : Topology) (accepted : IsSeedEdit (world_seen s) e) (plan_is : plan ≡ edited_plan (plan_of s.rounds) e) (a_is : a ≡ edit_asn e)
+module _ (s : Parts) (e : SeedEdit) (plan : Plan) (a : ℕ) (t : Bool) (graph : Topology) (accepted : IsSeedEdit (world_seen s) e) (plan_is : plan ≡ edited_plan (plan_of s.rounds) e) (a_is : a ≡ edit_asn e)
     (t_is : t ≡ set.contains (set.from_list {R = nat_cmp} (named plan s.book.named)) a) (graph_is : graph ≡ with_mark_if (with_room s.graph a a) a t) where
   pub new_limits : IsWithinLimits plan
   new_limits = subst IsWithinLimits (sym plan_is) (edited_within (plan_of s.rounds) e s.small accepted.known accepted.within accepted.few)

@@ -35,15 +35,9 @@ use Rattle.data_trace.specs.declared.watch.Watch.{Watch}
 use Rattle.leak_round.specs.declared.rounds.Rounds.{Rounds}
 use Rattle.leak_round.specs.Rounds.{kept as kept_rounds, plan_of, round_count}
 use Rattle.sim_core.specs.declared.watching.RoundWatches.{RoundWatches}
-use Rattle.sim_core.specs.Watching.{AreRoundWatches, AreWatches, HasWatches, IsPlaceOrNone, addrs_in, place_in, rows_in, seen_in, seen_of, watch_at}
-use Rattle.sim_core.specs.Families.{Family as Routings}
+use Rattle.sim_core.specs.Watching.{AreRoundWatches, AreWatchRows, AreWatches, HasWatches, IsPlaceOrNone, addrs_in, place_in, rows_in, seen_in, seen_of, watch_at}
 use Rattle.sim_core.specs.Parts.{IsNamed, world_by}
-use Rattle.sim_core.specs.World.{World, graph_of, has_round, kind_at, topology}
-
--- for each round and watched address the rows are those of all ASes of the world
-abbrev AreWatchRows : World → Routings → (ℕ → AddrValue → List Row) → Type 0
-AreWatchRows w g rows =
-    (round : ℕ) (addr : AddrValue) → IsTrue (has_round w round) → IsTrue (set.contains w.watched addr) → AreRows (topology w) (next_hop w.plan (g round) addr) (λ a. label (kind_at w a)) (rows round addr)
+use Rattle.sim_core.specs.World.{graph_of, kind_at, topology}
 
 -- ---- lists
 
@@ -159,6 +153,12 @@ any_at p (y ∷ ys) (suc i) x at is = or_right (p y) (list_any p ys) (any_at p y
 pub watched_at : (addrs : List AddrValue) (place : ℕ) (addr : AddrValue) → slice_get addrs place ≡ Some addr → set.contains (set.from_list {R = addr_cmp} addrs) addr ≡ true
 watched_at addrs place addr at = set.contains-from_list addr_total addrs addr ∙ any_at (eq_by_cmp addr_cmp addr) addrs place addr at ((eq_by_cmp_equiv addr_total).refl addr)
 
+pub cases_nat : (x y : ℕ) → (x < y) ⊎ ((y < x) ⊎ (x ≡ y))
+cases_nat zero zero = inr (inr refl)
+cases_nat zero (suc y) = inl (omega arith)
+cases_nat (suc x) zero = inr (inl (omega arith))
+cases_nat (suc x) (suc y) = elim (cases_nat x y) [ inl h ↦ inl (omega (arith, h)) | inr (inl h) ↦ inr (inl (omega (arith, h))) | inr (inr h) ↦ inr (inr (ap suc h)) ]
+
 pub place_once : (addrs : List AddrValue) → AllPairs (λ a b. a ≢ b) addrs → (place : ℕ) (addr : AddrValue) → slice_get addrs place ≡ Some addr → place_in addrs addr ≡ place
 place_once addrs once place addr at =
     let found = place_in addrs addr in
@@ -171,12 +171,6 @@ place_once addrs once place addr at =
       | inr (inl above) ↦ absurd (once place found addr above less (second ∙ sym first))
       | inr (inr same) ↦ same
     ]
-  where
-    cases_nat : (x y : ℕ) → (x < y) ⊎ ((y < x) ⊎ (x ≡ y))
-    cases_nat zero zero = inr (inr refl)
-    cases_nat zero (suc y) = inl (omega arith)
-    cases_nat (suc x) zero = inr (inl (omega arith))
-    cases_nat (suc x) (suc y) = elim (cases_nat x y) [ inl h ↦ inl (omega (arith, h)) | inr (inl h) ↦ inr (inl (omega (arith, h))) | inr (inr h) ↦ inr (inr (ap suc h)) ]
 
 both_true : (a b : Bool) → a ≡ true → b ≡ true → (a && b) ≡ true
 both_true true b h k = k

@@ -22,32 +22,32 @@ use Rattle.stability_laws.specs.declared.seed_plan.edits.SeedEdit.{SeedEdit}
 use Rattle.stability_laws.specs.declared.seed_plan.edits.SeedEdit.TheVariants as seeds
 use Rattle.sim_core.specs.Edits.{BeginsWithLink, IsAllowed, IsEditRefusal, absent, edited, with_kind}
 use Rattle.sim_core.specs.Ground.{AreSeenAlike, BelongTo, Ground}
-use Rattle.sim_core.specs.Kept.{IsKept}
-use Rattle.sim_core.specs.Sims.{kept, world_seen}
+use Rattle.sim_core.specs.Views.{AreRight, kept, rows_seen, world_seen}
 use Rattle.sim_core.specs.World.{World}
 use Rattle.sim_core.specs.declared.editing.Changed.{Changed}
 use Rattle.sim_core.specs.declared.errors.EditError.{EditError}
 use Rattle.sim_core.specs.declared.errors.EditError.TheVariants as refused
-use Rattle.sim_core.specs.declared.sim.Sim.{Sim}
+use Rattle.sim_core.specs.declared.parts.Parts.{Parts}
 use Rattle.net_names.specs.declared.links.TheConstants.{MOST_LINKS}
 use Rattle.as_graph.specs.declared.build.TheConstants.{MOST_ASES}
 use Rattle.roa_table.specs.declared.table.TheConstants.{MOST_PAYLOADS}
 use Rattle.scenario_text.specs.declared.limits.TheConstants.{MOST_ANNOUNCEMENTS, MOST_NUMBERS}
 
 -- the edit is done: the world is the edited one, what is kept is that of it, and so many entries differ
-pub record IsDone (old new : Sim) (e : Edit) (routes : ℕ) : Type 0 where
+pub record IsDone (old new : Parts) (e : Edit) (routes : ℕ) : Type 0 where
   pub world : world_seen new ≡ edited (world_seen old) e
   pub allowed : IsAllowed (world_seen old) e
-  pub is_kept : IsKept (world_seen new) (kept new)
+  pub right : AreRight new
   pub changed : HasChanges (world_seen new).plan (world_seen new).rounds (kept old).routings (kept new).routings routes
 
 -- the world, and what is kept of it, are as they were
-pub record IsUndone (old new : Sim) : Type 0 where
+pub record IsUndone (old new : Parts) : Type 0 where
   pub world : world_seen new ≡ world_seen old
   pub same_kept : kept new ≡ kept old
+  pub same_rows : rows_seen new ≡ rows_seen old
 
 -- the edit is done, or refused and nothing has changed
-abbrev pub IsEdited : Sim → Sim → Edit → Result Changed EditError → Type 0
+abbrev pub IsEdited : Parts → Parts → Edit → Result Changed EditError → Type 0
 IsEdited old new e (Ok changed) = IsDone old new e changed.routes
 IsEdited old new e (Err error) = IsEditRefusal (world_seen old) e error × IsUndone old new
 
@@ -64,14 +64,14 @@ pub record IsSeedEdit (w : World) (e : SeedEdit) : Type 0 where
   pub there : absent w (edit_of e) ≡ None
 
 -- what is kept, and which addresses are watched, stand as they were
-pub record KeepsRest (old new : Sim) : Type 0 where
+pub record KeepsRest (old new : Parts) : Type 0 where
   pub ranks : new.ranks ≡ old.ranks
   pub rounds : new.rounds ≡ old.rounds
   pub watched : new.watched ≡ old.watched
   pub watches : new.watches ≡ old.watches
 
 -- the graph has these links and room for the pair, and all else stands as it was
-pub record HasLinks (old new : Sim) (a b : ℕ) (links : LinkMap) : Type 0 where
+pub record HasLinks (old new : Parts) (a b : ℕ) (links : LinkMap) : Type 0 where
   pub are : new.graph.links ≡ links
   pub marked : new.graph.marked ≡ old.graph.marked
   pub room : is_room_for new.graph.room a b ≡ true
@@ -85,15 +85,15 @@ links_with g a b None = (without_link g a b).links
 links_with g a b (Some r) = (with_link g a b r).links
 
 -- what the routings of a simulation rest on, without one payload, if one is left out
-abbrev pub ground_less : Sim → Option VrpValue → Ground
+abbrev pub ground_less : Parts → Option VrpValue → Ground
 ground_less sim but = record { graph = sim.graph; payloads = less sim.vrps but; book = sim.book }
 
 -- what the routings of a simulation rest on
-abbrev pub ground_of : Sim → Ground
+abbrev pub ground_of : Parts → Ground
 ground_of sim = record { graph = sim.graph; payloads = sim.vrps; book = sim.book }
 
 -- what is kept belongs to the ground without the payload, if one is left out; so many entries differ, and all else stands as it was
-pub record IsChanged (old new : Sim) (but : Option VrpValue) (routes : ℕ) : Type 0 where
+pub record IsChanged (old new : Parts) (but : Option VrpValue) (routes : ℕ) : Type 0 where
   pub graph : new.graph ≡ old.graph
   pub vrps : new.vrps ≡ old.vrps
   pub book : new.book ≡ old.book
@@ -104,7 +104,7 @@ pub record IsChanged (old new : Sim) (but : Option VrpValue) (routes : ℕ) : Ty
   pub changed : HasChanges (plan_of new.rounds) (round_count new.rounds) (kept_rounds old.rounds) (kept_rounds new.rounds) routes
 
 -- a simulation is seen as it was
-pub record IsUnchanged (old new : Sim) : Type 0 where
+pub record IsUnchanged (old new : Parts) : Type 0 where
   pub graph : new.graph ≡ old.graph
   pub vrps : new.vrps ≡ old.vrps
   pub book : new.book ≡ old.book
@@ -125,7 +125,7 @@ pub record IsSmall (graph : Topology) (payloads : Payloads) : Type 0 where
   pub payloads_in : count payloads ≤ MOST_PAYLOADS
 
 -- the AS has this kind of policy and is marked as that asks, and all else stands as it was
-pub record IsGiven (old new : Sim) (a : ℕ) (kind : Kind) : Type 0 where
+pub record IsGiven (old new : Parts) (a : ℕ) (kind : Kind) : Type 0 where
   pub links : new.graph.links ≡ old.graph.links
   pub room : new.graph.room ≡ old.graph.room
   pub others : (x : ℕ) → x ≢ a → has new.graph x ≡ has old.graph x
@@ -136,7 +136,7 @@ pub record IsGiven (old new : Sim) (a : ℕ) (kind : Kind) : Type 0 where
   pub rest : KeepsRest old new
 
 -- there is room for an edit of the AS's policy, and all else stands as it was
-pub record IsRoomed (old new : Sim) (a : ℕ) : Type 0 where
+pub record IsRoomed (old new : Parts) (a : ℕ) : Type 0 where
   pub links : new.graph.links ≡ old.graph.links
   pub marked : new.graph.marked ≡ old.graph.marked
   pub graph_room : is_room_with new.graph.room a ≡ true

@@ -2,6 +2,7 @@ pub mod Marking
 pub mod World
 pub mod Families
 pub mod Kept
+pub mod Counting
 pub mod Loaded
 pub mod Loading
 pub mod Edits
@@ -11,6 +12,7 @@ pub mod Parts
 pub mod Renewing
 pub mod Ground
 pub mod Steps
+pub mod Views
 pub mod Sims
 pub mod Editing
 pub mod Laws

@@ -1,9 +1,10 @@
 -- The watches of a simulation: for each round one for each watched address.
-use Rattle.std.specs.Prelude.{◌≡◌, ℕ, true, false, IsTrue, ◌<◌, suc, ◌-◌, Option, None, Some, option_and_then, List, [], length, map, slice_get}
-use Rattle.std.specs.List.{position_or_len}
+use Rattle.std.specs.Prelude.{◌≡◌, ◌≢◌, ◌↔◌, ℕ, ◌==◌, true, false, IsTrue, ◌<◌, suc, ◌-◌, if◌then◌else◌, Option, None, Some, option_and_then, List, [], ◌∷◌, length, map, slice_get}
+use Rattle.std.specs.List.{AllPairs, position_or_len}
 use Rattle.std.specs.FinSet as set
 use Rattle.std.specs.Ordering.{eq_by_cmp}
-use Rattle.as_graph.specs.Topology.{Topology, has}
+use Rattle.as_graph.specs.Topology.{Topology, has, relation}
+use Rattle.net_names.specs.Numbers.{occurs}
 use Rattle.net_names.specs.Addresses.{AddrValue, addr_cmp}
 use Rattle.net_names.specs.Prefixes.{PrefixValue}
 use Rattle.policy_kinds.specs.Kinds.{label}
@@ -14,13 +15,17 @@ use Rattle.stability_laws.specs.declared.entry.Entry.{Entry}
 use Rattle.data_trace.specs.Hops.{next_hop, second_of}
 use Rattle.data_trace.specs.Indexes.{has_as}
 use Rattle.data_trace.specs.Views.{addr_of, rows_of}
-use Rattle.data_trace.specs.Watches.{AreRows, Row}
+use Rattle.data_trace.specs.Watches.{AreRows, IsStub, Row}
+use Rattle.data_trace.specs.declared.kinds.End.{End}
+use Rattle.data_trace.specs.declared.kinds.End.TheVariants.{NoRoute}
+use Rattle.data_trace.specs.declared.kinds.Hop.{Hop}
 use Rattle.data_trace.specs.declared.index.WatchIndex.{WatchIndex}
 use Rattle.data_trace.specs.declared.watch.Watch.{Watch}
 use Rattle.sim_core.specs.declared.errors.QueryError.{QueryError}
 use Rattle.sim_core.specs.declared.errors.QueryError.TheVariants as refused
 use Rattle.sim_core.specs.declared.watching.RoundWatches.{RoundWatches}
-use Rattle.sim_core.specs.World.{World, has_round}
+use Rattle.sim_core.specs.World.{World, has_round, kind_at, topology}
+use Rattle.sim_core.specs.Families.{Family}
 use Rattle.sim_core.specs.Answers.{needs}
 use Rattle.sim_core.specs.Kept.{Kept}
 
@@ -77,16 +82,35 @@ IsPlaceOrNone addrs addr (Some place) = IsPlace addrs addr place
 abbrev pub watch_at : List RoundWatches → List AddrValue → ℕ → AddrValue → Option Watch
 watch_at all addrs round addr = option_and_then (λ (one : RoundWatches). slice_get one.watches.items (place_in addrs addr)) (slice_get all (round - 1))
 
+-- for each round and watched address the rows are those of all ASes of the world
+abbrev pub AreWatchRows : World → Family → (ℕ → AddrValue → List Row) → Type 0
+AreWatchRows w family rows =
+    (round : ℕ) (addr : AddrValue) → IsTrue (has_round w round) → IsTrue (set.contains w.watched addr) → AreRows (topology w) (next_hop w.plan (family round) addr) (λ a. label (kind_at w a)) (rows round addr)
+
+-- the rows are those of all ASes of the graph but for their ends: each has one, with its next hop, whether it is a stub, and its policy's group
+pub record HasRows (g : Topology) (next : ℕ → Hop) (label_of : ℕ → ℕ) (rows : List Row) : Type 0 where
+  pub listed : (a : ℕ) → occurs a (map (λ r. r.asn) rows) ≡ has g a
+  pub apart : AllPairs (λ a b. a ≢ b) (map (λ r. r.asn) rows)
+  pub hops : (place : ℕ) (r : Row) → slice_get rows place ≡ Some r → r.next ≡ next r.asn
+  pub stubs : (place : ℕ) (r : Row) → slice_get rows place ≡ Some r → IsTrue r.stub ↔ IsStub (relation g) r.asn
+  pub labels : (place : ℕ) (r : Row) → slice_get rows place ≡ Some r → r.label ≡ label_of r.asn
+
+-- the end of the row of an AS, if it has one
+abbrev pub end_at : List Row → ℕ → End
+end_at [] a = NoRoute
+end_at (r ∷ rows) a = if r.asn == a then r.end else end_at rows a
+
 -- the rows of a watch, if there is one
 abbrev pub rows_in : Option Watch → List Row
 rows_in None = []
 rows_in (Some watch) = rows_of watch
 
--- the watch is that of a round and an address that are there
+-- the watch is that of a round and an address that are there, and has the rows of all ASes with the ends that are kept
 pub record IsWatchOf (w : World) (k : Kept) (round : ℕ) (addr : AddrValue) (watch : Watch) : Type 0 where
   pub round_there : has_round w round ≡ true
   pub watched : set.contains w.watched addr ≡ true
-  pub rows : k.rows round addr ≡ rows_of watch
+  pub rows : HasRows (topology w) (next_hop w.plan (k.routings round) addr) (λ a. label (kind_at w a)) (rows_of watch)
+  pub ends : (a : ℕ) → k.ends round addr a ≡ end_at (rows_of watch) a
 
 -- why there is no such watch: the round is not there, or the address is not watched
 abbrev pub no_watch : World → ℕ → AddrValue → Option QueryError

@@ -12,8 +12,7 @@ ghost use Rattle.scenario_text.specs.declared.acts.Edit.TheVariants.{Announce, W
 ghost use Rattle.stability_laws.specs.Plans.{with_announcement};
 ghost use Rattle.stability_laws.specs.SeedEdits.{IsEditWithin, edit_asn, edit_prefix, edited};
 ghost use Rattle.sim_core.specs.Editing.{IsEdited, IsSeedEdit, edit_of};
-ghost use Rattle.sim_core.specs.Kept.{IsKept};
-ghost use Rattle.sim_core.specs.Sims.{kept, world_seen};
+ghost use Rattle.sim_core.specs.Views.{AreRight, kept, world_seen};
 ghost use Rattle.sim_core.specs.Steps.{IsQuick};
 ghost use Rattle.sim_core.specs.World.{HasCycle, named};
 ghost use Rattle.leak_round.specs.declared.rounds.TheConstants.{MOST_CELLS};
@@ -22,8 +21,9 @@ use crate::changing::change;
 use crate::difference::Difference;
 use crate::marking::{set_mark, set_mark_back};
 use crate::naming::is_other;
+use crate::parts::Parts;
 use crate::planning::copy_of;
-use crate::{Changed, EditError, EditLimit, Sim};
+use crate::{Changed, EditError, EditLimit};
 use as_graph::{ases_are_kept, links_are_sound};
 use leak_round::Touched;
 use net_names::{Asn, NoMemory, Path, Prefix};
@@ -73,7 +73,7 @@ fn touched_unless(
     Ok(touched)
 }
 
-impl Sim {
+impl Parts {
     // Whether an announcement, a leak or a policy names the AS.
     fn is_named(&self, asn: Asn) -> bool
         ensures { result ≡ set.contains (set.from_list {R = nat_cmp} (named (plan_of self.now.rounds) self.now.book.named)) asn }
@@ -105,7 +105,7 @@ impl Sim {
     ) -> Result<Changed, EditError>
         requires accepted { IsSeedEdit (world_seen self.old) edit.now }
         requires few_cells { live_count (pool_of self.old.rounds) ≤ MOST_CELLS }
-        requires kept { IsKept (world_seen self.old) (kept self.old) }
+        requires right { AreRight self.old }
         requires no_cycle { HasCycle (world_seen self.old) → ⊥ }
         ensures edited { IsEdited self.old self.new (edit_of edit.now) result }
         ensures quick { OnOk result (IsQuick (world_seen self.old) (world_seen self.new) (edit_of edit.now) (kept self.old).routings (kept self.new).routings steps.old steps.new) }
@@ -171,7 +171,7 @@ impl Sim {
         requires some { 1 ≤ length path.now }
         requires short { length path.now ≤ MOST_NUMBERS }
         requires few_cells { live_count (pool_of self.old.rounds) ≤ MOST_CELLS }
-        requires kept { IsKept (world_seen self.old) (kept self.old) }
+        requires right { AreRight self.old }
         requires no_cycle { HasCycle (world_seen self.old) → ⊥ }
         ensures edited { IsEdited self.old self.new (Announce prefix path.now) result }
         ensures quick { OnOk result (IsQuick (world_seen self.old) (world_seen self.new) (Announce prefix path.now) (kept self.old).routings (kept self.new).routings steps.old steps.new) }
@@ -200,7 +200,7 @@ impl Sim {
         steps: &mut Steps<L>,
     ) -> Result<Changed, EditError>
         requires few_cells { live_count (pool_of self.old.rounds) ≤ MOST_CELLS }
-        requires kept { IsKept (world_seen self.old) (kept self.old) }
+        requires right { AreRight self.old }
         requires no_cycle { HasCycle (world_seen self.old) → ⊥ }
         ensures edited { IsEdited self.old self.new (Withdraw prefix asn) result }
         ensures quick { OnOk result (IsQuick (world_seen self.old) (world_seen self.new) (Withdraw prefix asn) (kept self.old).routings (kept self.new).routings steps.old steps.new) }

@@ -26,10 +26,10 @@ use std::alloc::Global;
 impl Sim {
     // The table of a round for a prefix.
     fn table_of(&self, round: u32, prefix: Prefix) -> Result<&Table, QueryError>
-        ensures found { IfOk result (λ t. IsTableOf (world_seen self.now) self.now.rounds round prefix t.now) }
+        ensures found { IfOk result (λ t. IsTableOf (world_seen self.now) self.now.parts.rounds round prefix t.now) }
         ensures refused { IfErr result (λ e. no_table (world_seen self.now) round prefix ≡ Some e) }
     {
-        let Some(tables) = self.rounds.round(round) else {
+        let Some(tables) = self.parts.rounds.round(round) else {
             return Err(QueryError::UnknownRound { round });
         };
         match tables.table(prefix) {
@@ -48,7 +48,7 @@ impl Sim {
             Ok(table) => table,
             Err(error) => return Err(error),
         };
-        match put_routes(out, &self.graph, table, self.rounds.pool()) {
+        match put_routes(out, &self.parts.graph, table, self.parts.rounds.pool()) {
             Ok(()) => Ok(()),
             Err(_) => Err(QueryError::Memory),
         }
@@ -70,10 +70,10 @@ impl Sim {
             Ok(table) => table,
             Err(error) => return Err(error),
         };
-        if !self.graph.has(asn) {
+        if !self.parts.graph.has(asn) {
             return Err(QueryError::UnknownAs { asn });
         }
-        match put_route(out, table, self.rounds.pool(), asn) {
+        match put_route(out, table, self.parts.rounds.pool(), asn) {
             Ok(()) => Ok(()),
             Err(_) => Err(QueryError::Memory),
         }
@@ -81,10 +81,10 @@ impl Sim {
 
     // The tables of a round.
     fn tables_of(&self, round: u32) -> Result<&RoundTables, QueryError>
-        ensures found { IfOk result (λ t. AreTablesOf (world_seen self.now) self.now.rounds round t.now) }
+        ensures found { IfOk result (λ t. AreTablesOf (world_seen self.now) self.now.parts.rounds round t.now) }
         ensures refused { IfErr result (λ e. no_round (world_seen self.now) round ≡ Some e) }
     {
-        match self.rounds.round(round) {
+        match self.parts.rounds.round(round) {
             Some(tables) => Ok(tables),
             None => Err(QueryError::UnknownRound { round }),
         }
@@ -99,10 +99,10 @@ impl Sim {
         asn: Asn,
         addr: Addr,
     ) -> Result<Trace, NoMemory>
-        requires { AreTablesOf (world_seen self.now) self.now.rounds _round tables.now }
+        requires { AreTablesOf (world_seen self.now) self.now.parts.rounds _round tables.now }
         ensures { IfOk result (λ t. IsTrace (next_hop (world_seen self.now).plan ((kept self.now).routings _round) addr) asn t.walk t.end) }
     {
-        let (pool, plan) = (self.rounds.pool(), self.rounds.seed_plan());
+        let (pool, plan) = (self.parts.rounds.pool(), self.parts.rounds.seed_plan());
         trace(alloc, tables, pool, plan, asn, addr)
     }
 
@@ -122,7 +122,7 @@ impl Sim {
             Ok(tables) => tables,
             Err(error) => return Err(error),
         };
-        let known = self.graph.has(asn);
+        let known = self.parts.graph.has(asn);
         if !known {
             return Err(QueryError::UnknownAs { asn });
         }
@@ -138,10 +138,10 @@ impl Sim {
     // The watch of a round and of the address at a place.
     fn watch_at(&self, round: u32, _addr: Addr, place: usize) -> &Watch
         requires round { has_round (world_seen self.now) round ≡ true }
-        requires place { IsPlace self.now.watched.items _addr place }
+        requires place { IsPlace self.now.parts.watched.items _addr place }
         ensures { IsWatchOf (world_seen self.now) (kept self.now) round _addr result.now }
     {
-        &self.watches[round as usize - 1].watches[place]
+        &self.parts.watches[round as usize - 1].watches[place]
     }
 
     // The watch of a round and an address.
@@ -153,7 +153,7 @@ impl Sim {
             Ok(_) => {}
             Err(error) => return Err(error),
         }
-        match place_of_addr(self.watched.as_slice(), addr) {
+        match place_of_addr(self.parts.watched.as_slice(), addr) {
             Some(place) => Ok(self.watch_at(round, addr, place)),
             None => Err(QueryError::NotWatched { addr }),
         }
@@ -169,7 +169,7 @@ impl Sim {
             Ok(watch) => watch,
             Err(error) => return Err(error),
         };
-        match put_report(out, self.rounds.seed_plan(), watch) {
+        match put_report(out, self.parts.rounds.seed_plan(), watch) {
             Ok(()) => Ok(()),
             Err(_) => Err(QueryError::Memory),
         }
@@ -181,7 +181,7 @@ impl Sim {
         ensures refused { IfErr result (IsQueryRefusal (world_seen self.now) query.Ranks) }
         ensures err { OnErr result (out.new.items ≡ out.old.items) }
     {
-        match put_ranks(out, &self.graph, &self.ranks) {
+        match put_ranks(out, &self.parts.graph, &self.parts.ranks) {
             Ok(()) => Ok(()),
             Err(_) => Err(QueryError::Memory),
         }
@@ -193,7 +193,7 @@ impl Sim {
         ensures refused { IfErr result (IsQueryRefusal (world_seen self.now) (query.Validity prefix origin)) }
         ensures err { OnErr result (out.new.items ≡ out.old.items) }
     {
-        let Ok(explained) = explain(*out.allocator(), &self.vrps, prefix, origin) else {
+        let Ok(explained) = explain(*out.allocator(), &self.parts.vrps, prefix, origin) else {
             return Err(QueryError::Memory);
         };
         match put_validity(out, &explained) {
@@ -225,7 +225,7 @@ impl Sim {
         ensures value { result ≡ as_count (topology (world_seen self.now)) }
         ensures few { result ≤ MOST_ASES }
     {
-        self.graph.as_count()
+        self.parts.graph.as_count()
     }
 
     /// How many links the world has, at most 1,500,000.
@@ -233,6 +233,6 @@ impl Sim {
         ensures value { result ≡ fin.len (world_seen self.now).links }
         ensures few { result ≤ MOST_LINKS }
     {
-        self.graph.link_count()
+        self.parts.graph.link_count()
     }
 }

@@ -15,10 +15,11 @@ ghost use Rattle.sim_core.specs.Steps.{AreFewSteps};
 ghost use Rattle.sim_core.specs.Watching.{addrs_in};
 ghost use Rattle.leak_round.specs.declared.rounds.TheConstants.{MOST_CELLS};
 
+use crate::Changed;
 use crate::difference::Difference;
+use crate::parts::Parts;
 use crate::renewing::{make_room, renew};
 use crate::watching::RoundWatches;
-use crate::{Changed, Sim};
 use as_graph::{links_are_sound, ranks_fit};
 use dirty_recompute::PlannedRanks;
 use leak_round::{Rounds, Touched};
@@ -106,7 +107,7 @@ fn states_but<'a>(vrps: &'a Vrps, but: Option<Vrp>) -> States<'a>
     }
 }
 
-impl Sim {
+impl Parts {
     // What holds of every simulation: no limit is passed.
     pub(crate) fn is_small(&self)
         ensures { IsSmall self.now.graph self.now.vrps }

@@ -6,12 +6,12 @@ ghost use Rattle.path_pool.specs.Pool.{live_count};
 ghost use Rattle.scenario_text.specs.LineValues.{IsWellFormed};
 ghost use Rattle.sim_core.specs.Editing.{IsEdited, IsUnchanged};
 ghost use Rattle.sim_core.specs.Edits.{IsAllowed, IsEditRefusal, edited};
-ghost use Rattle.sim_core.specs.Kept.{IsKept};
-ghost use Rattle.sim_core.specs.Sims.{kept, world_seen};
+ghost use Rattle.sim_core.specs.Views.{AreRight, kept, world_seen};
 ghost use Rattle.sim_core.specs.Steps.{IsQuick};
 ghost use Rattle.sim_core.specs.World.{HasCycle};
 
-use crate::{EditError, Sim};
+use crate::EditError;
+use crate::parts::Parts;
 use leak_round::MOST_CELLS;
 use net_names::NoMemory;
 use origin_validation::States;
@@ -28,10 +28,10 @@ pub struct Changed {
     pub routes: u64,
 }
 
-impl Sim {
+impl Parts {
     // Makes the pool of the paths anew where too many of its cells are live.
     fn tidied<L: Ledger>(&mut self, alloc: Global, steps: &mut Steps<L>) -> Result<(), NoMemory>
-        requires kept { IsKept (world_seen self.old) (kept self.old) }
+        requires right { AreRight self.old }
         requires no_cycle { HasCycle (world_seen self.old) → ⊥ }
         ensures unchanged { IsUnchanged self.old self.new }
         ensures few_cells { OnOk result (live_count (pool_of self.new.rounds) ≤ MOST_CELLS) }
@@ -58,7 +58,7 @@ impl Sim {
     ) -> Result<Changed, EditError>
         requires formed { IsWellFormed edit.now }
         requires few_cells { live_count (pool_of self.old.rounds) ≤ MOST_CELLS }
-        requires kept { IsKept (world_seen self.old) (kept self.old) }
+        requires right { AreRight self.old }
         requires no_cycle { HasCycle (world_seen self.old) → ⊥ }
         ensures edited { IsEdited self.old self.new edit.now result }
         ensures quick { OnOk result (IsQuick (world_seen self.old) (world_seen self.new) edit.now (kept self.old).routings (kept self.new).routings steps.old steps.new) }
@@ -74,34 +74,19 @@ impl Sim {
         }
     }
 
-    /// Edits the world. Every kept part is then that of the edited world, and the answer says how many
-    /// entries differ. Both ends of a link differ, and an announced path has 1 to 64 numbers. A prefix
-    /// stays in the world when its last announcement goes.
-    ///
-    /// It takes at most two steps for each round, prefix and AS that the edit touches, whose seed differs, or
-    /// that has a neighbour whose entry differs; more only where more than 20,000,000 cells of the pool are
-    /// live, which is then made anew first. Touched are the ends of a link; the AS of a policy and, where it
-    /// begins or ceases to mark, its neighbours; and where a payload covers the prefix, the ASes whose policy
-    /// reads the states.
-    ///
-    /// It is refused with the first reason in this order: `UnknownPrefix` exactly where the world has not
-    /// the prefix; `AbsentLink`, `AbsentVrp` and `AbsentAnnouncement` exactly where what is to be taken away
-    /// is not there; `Limit` exactly where the edited world passes a limit, the first of links, announcements,
-    /// ASes and payloads; `ProviderCycle` exactly where the edited world has a provider cycle (Gao and
-    /// Rexford 2001), with one from the new link's provider and customer on. `Memory` may come at any
-    /// point. After every refusal the world and all that is kept of it are as they were.
-    pub fn edit<L: Ledger>(
+    /// Edits the world, as `Sim::edit` says.
+    pub(crate) fn edit<L: Ledger>(
         &mut self,
         alloc: Global,
         edit: &Edit,
         steps: &mut Steps<L>,
     ) -> Result<Changed, EditError>
         requires formed { IsWellFormed edit.now }
-        requires kept { IsKept (world_seen self.old) (kept self.old) }
+        requires right { AreRight self.old }
         requires no_cycle { HasCycle (world_seen self.old) → ⊥ }
         ensures world { OnOk result (world_seen self.new ≡ edited (world_seen self.old) edit.now) }
         ensures allowed { OnOk result (IsAllowed (world_seen self.old) edit.now) }
-        ensures kept { OnOk result (IsKept (world_seen self.new) (kept self.new)) }
+        ensures right { AreRight self.new }
         ensures changed { IfOk result (λ c. HasChanges (world_seen self.new).plan (world_seen self.new).rounds (kept self.old).routings (kept self.new).routings c.routes) }
         ensures quick { live_count (pool_of self.old.rounds) ≤ MOST_CELLS → OnOk result (IsQuick (world_seen self.old) (world_seen self.new) edit.now (kept self.old).routings (kept self.new).routings steps.old steps.new) }
         ensures refused { IfErr result (IsEditRefusal (world_seen self.old) edit.now) }

@@ -13,15 +13,15 @@ ghost use Rattle.scenario_text.specs.declared.acts.Edit.TheVariants.{Link, Unlin
 ghost use Rattle.sim_core.specs.Editing.{HasLinks, IsChanged, IsEdited, IsLinkStop, IsUnchanged, IsUndone, ground_of, links_with};
 ghost use Rattle.sim_core.specs.Edits.{IsEditRefusal, absent_link as absent_link_of};
 ghost use Rattle.sim_core.specs.Ground.{BelongTo, DiffersAround, Ground as AGround};
-ghost use Rattle.sim_core.specs.Kept.{IsKept};
-ghost use Rattle.sim_core.specs.Sims.{kept, world_seen};
+ghost use Rattle.sim_core.specs.Views.{AreRight, kept, world_seen};
 ghost use Rattle.sim_core.specs.Steps.{AreFewSteps, IsQuick};
 ghost use Rattle.sim_core.specs.World.{HasCycle};
 ghost use Rattle.leak_round.specs.declared.rounds.TheConstants.{MOST_CELLS};
 
 use crate::links::{closed_by, relink};
+use crate::parts::Parts;
 use crate::touching::touched_ases;
-use crate::{Changed, EditError, EditLimit, Sim};
+use crate::{Changed, EditError, EditLimit};
 use as_graph::{
     GraphError, ases_are_kept, edits_are_undone, links_are_set, links_are_sound, links_are_taken,
 };
@@ -42,7 +42,7 @@ fn absent_link(a: Asn, b: Asn) -> EditError
     }
 }
 
-impl Sim {
+impl Parts {
     // Sets a link of two ASes, for whose pair there is room from then on.
     fn set_link(&mut self, a: Asn, b: Asn, rel: Rel) -> Result<(), EditError>
         requires { a ≢ b }
@@ -127,7 +127,7 @@ impl Sim {
     ) -> Result<Changed, EditError>
         requires apart { a ≢ b }
         requires few_cells { live_count (pool_of self.old.rounds) ≤ MOST_CELLS }
-        requires kept { IsKept (world_seen self.old) (kept self.old) }
+        requires right { AreRight self.old }
         requires no_cycle { HasCycle (world_seen self.old) → ⊥ }
         ensures edited { IsEdited self.old self.new (Link a b rel) result }
         ensures quick { OnOk result (IsQuick (world_seen self.old) (world_seen self.new) (Link a b rel) (kept self.old).routings (kept self.new).routings steps.old steps.new) }
@@ -182,7 +182,7 @@ impl Sim {
         steps: &mut Steps<L>,
     ) -> Result<Changed, EditError>
         requires few_cells { live_count (pool_of self.old.rounds) ≤ MOST_CELLS }
-        requires kept { IsKept (world_seen self.old) (kept self.old) }
+        requires right { AreRight self.old }
         requires no_cycle { HasCycle (world_seen self.old) → ⊥ }
         ensures edited { IsEdited self.old self.new (Unlink a b) result }
         ensures quick { OnOk result (IsQuick (world_seen self.old) (world_seen self.new) (Unlink a b) (kept self.old).routings (kept self.new).routings steps.old steps.new) }

@@ -7,17 +7,17 @@ ghost use Rattle.leak_round.specs.Rounds.{is_open};
 ghost use Rattle.sim_core.specs.Loaded.{plan_of, world_of};
 ghost use Rattle.sim_core.specs.Loading.{IsCycleRefusal, IsLoadRefusal};
 ghost use Rattle.sim_core.specs.Parts.{AreRoundsOf};
-ghost use Rattle.sim_core.specs.Kept.{IsKept};
-ghost use Rattle.sim_core.specs.Sims.{kept, world_seen};
+ghost use Rattle.sim_core.specs.Views.{AreRight, world_seen};
 ghost use Rattle.sim_core.specs.World.{HasCycle, topology};
 ghost use Rattle.as_graph.specs.declared.build.TheConstants.{MOST_ASES};
 
+use crate::LoadError;
 use crate::naming::world_graph;
+use crate::parts::Parts;
 use crate::planning::{policies, seed_plan};
 use crate::readers::readers_of;
 use crate::validating::known_states;
 use crate::watching::{watch_rounds, watched_addrs};
-use crate::{LoadError, Sim};
 use as_graph::Graph;
 use leak_round::Rounds;
 use net_names::{Links, NoMemory};
@@ -28,7 +28,6 @@ use route_choice::Steps;
 use scenario_text::Scenario;
 use stability_laws::{Book, World};
 use std::alloc::Global;
-use std::marker::Brand;
 use std::sync::ledger::{Blank, Ledger};
 
 // The ranks of a graph.
@@ -75,19 +74,19 @@ fn rounds_of<L: Ledger>(
     }
 }
 
-// The simulation of a world.
-fn load_world<L: Ledger>(
+/// The parts of the simulation of a world, as `Sim::load` says.
+pub fn load_world<L: Ledger>(
     alloc: Global,
     links: &Links,
     vrps: Vrps,
     scenario: &Scenario,
     blank: Blank,
-) -> Result<Sim, LoadError>
+) -> Result<Parts, LoadError>
     requires ledger { (blank.name ≡ L.name) × (blank.parts ≡ L.parts) × (0 < L.parts) }
-    ensures world { IfOk result (λ sim. world_seen sim ≡ world_of links.now vrps scenario.now) }
-    ensures kept { IfOk result (λ sim. IsKept (world_seen sim) (kept sim)) }
-    ensures no_cycle { IfOk result (λ sim. HasCycle (world_seen sim) → ⊥) }
-    ensures few { IfOk result (λ sim. as_count (topology (world_seen sim)) ≤ MOST_ASES) }
+    ensures world { IfOk result (λ parts. world_seen parts ≡ world_of links.now vrps scenario.now) }
+    ensures right { IfOk result AreRight }
+    ensures no_cycle { IfOk result (λ parts. HasCycle (world_seen parts) → ⊥) }
+    ensures few { IfOk result (λ parts. as_count (topology (world_seen parts)) ≤ MOST_ASES) }
     ensures refused { IfErr result (IsLoadRefusal (world_of links.now vrps scenario.now)) }
 {
     let graph = match world_graph(alloc, links, scenario) {
@@ -112,7 +111,7 @@ fn load_world<L: Ledger>(
     };
     let count = scenario.leak_lists() as u32 + 1;
     match watch_rounds(alloc, &graph, &rounds, &book, &watched, count) {
-        Ok(watches) => Ok(Sim {
+        Ok(watches) => Ok(Parts {
             graph,
             ranks,
             vrps,
@@ -123,29 +122,5 @@ fn load_world<L: Ledger>(
             watches,
         }),
         Err(_) => Err(LoadError::Memory),
-    }
-}
-
-impl Sim {
-    /// The simulation of the world of these links, these payloads and this scenario. For each round and
-    /// prefix it keeps the one and only stable routing, for each AS its rank, and for each round and
-    /// watched address where the packets of all ASes end.
-    ///
-    /// `TooManyAses` comes exactly where the world has more than 150,000 ASes, and else `ProviderCycle`
-    /// exactly where its links have a provider cycle (Gao and Rexford 2001), with one from its lowest
-    /// number on, unless memory runs out.
-    pub fn load(
-        alloc: Global,
-        links: Links,
-        vrps: Vrps,
-        scenario: Scenario,
-    ) -> Result<Sim, LoadError>
-        ensures world { IfOk result (λ sim. world_seen sim ≡ world_of links vrps scenario) }
-        ensures kept { IfOk result (λ sim. IsKept (world_seen sim) (kept sim)) }
-        ensures no_cycle { IfOk result (λ sim. HasCycle (world_seen sim) → ⊥) }
-        ensures few { IfOk result (λ sim. as_count (topology (world_seen sim)) ≤ MOST_ASES) }
-        ensures refused { IfErr result (IsLoadRefusal (world_of links vrps scenario)) }
-    {
-        load_world::<Brand>(alloc, &links, vrps, &scenario, Blank::new(1))
     }
 }

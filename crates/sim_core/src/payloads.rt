@@ -13,14 +13,14 @@ ghost use Rattle.stability_laws.specs.Plans.{has_prefix};
 ghost use Rattle.scenario_text.specs.declared.acts.Edit.TheVariants.{VrpAdd, VrpTake};
 ghost use Rattle.sim_core.specs.Editing.{IsChanged, IsEdited, IsUnchanged, ground_less};
 ghost use Rattle.sim_core.specs.Ground.{AreReadersTouched, BelongTo};
-ghost use Rattle.sim_core.specs.Kept.{IsKept};
-ghost use Rattle.sim_core.specs.Sims.{kept, world_seen};
+ghost use Rattle.sim_core.specs.Views.{AreRight, kept, world_seen};
 ghost use Rattle.sim_core.specs.Steps.{AreFewSteps, IsQuick};
 ghost use Rattle.sim_core.specs.World.{HasCycle};
 ghost use Rattle.leak_round.specs.declared.rounds.TheConstants.{MOST_CELLS};
 
+use crate::parts::Parts;
 use crate::touching::touched_readers;
-use crate::{Changed, EditError, EditLimit, Sim};
+use crate::{Changed, EditError, EditLimit};
 use leak_round::Touched;
 use net_names::{NoMemory, Vrp};
 use roa_table::AddError;
@@ -28,7 +28,7 @@ use route_choice::Steps;
 use std::alloc::Global;
 use std::sync::ledger::Ledger;
 
-impl Sim {
+impl Parts {
     // The ASes whose policy reads states that differ with the payload and without it.
     fn touched_by(&self, alloc: Global, vrp: Vrp) -> Result<Touched, NoMemory>
         ensures only { IfOk result (λ t. (prefix : PrefixValue) (a : ℕ) → touches t prefix a ≡ true → (covers vrp.prefix prefix ≡ true) × ((kind_policy (policy_at self.now.book a)).reads_state ≡ true)) }
@@ -70,7 +70,7 @@ impl Sim {
         steps: &mut Steps<L>,
     ) -> Result<Changed, EditError>
         requires few_cells { live_count (pool_of self.old.rounds) ≤ MOST_CELLS }
-        requires kept { IsKept (world_seen self.old) (kept self.old) }
+        requires right { AreRight self.old }
         requires no_cycle { HasCycle (world_seen self.old) → ⊥ }
         ensures edited { IsEdited self.old self.new (VrpAdd vrp) result }
         ensures quick { OnOk result (IsQuick (world_seen self.old) (world_seen self.new) (VrpAdd vrp) (kept self.old).routings (kept self.new).routings steps.old steps.new) }
@@ -106,7 +106,7 @@ impl Sim {
         steps: &mut Steps<L>,
     ) -> Result<Changed, EditError>
         requires few_cells { live_count (pool_of self.old.rounds) ≤ MOST_CELLS }
-        requires kept { IsKept (world_seen self.old) (kept self.old) }
+        requires right { AreRight self.old }
         requires no_cycle { HasCycle (world_seen self.old) → ⊥ }
         ensures edited { IsEdited self.old self.new (VrpTake vrp) result }
         ensures quick { OnOk result (IsQuick (world_seen self.old) (world_seen self.new) (VrpTake vrp) (kept self.old).routings (kept self.new).routings steps.old steps.new) }

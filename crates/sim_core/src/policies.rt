@@ -14,9 +14,8 @@ ghost use Rattle.policy_kinds.specs.Kinds.{kind_policy};
 ghost use Rattle.scenario_text.specs.declared.acts.Edit.TheVariants.{Policy};
 ghost use Rattle.sim_core.specs.Editing.{IsEdited, IsGiven, IsRoomed, IsUndone};
 ghost use Rattle.sim_core.specs.Edits.{edited, refusal_of_edit};
-ghost use Rattle.sim_core.specs.Kept.{IsKept};
 ghost use Rattle.sim_core.specs.Loaded.{is_other as is_other_policy};
-ghost use Rattle.sim_core.specs.Sims.{kept, world_seen};
+ghost use Rattle.sim_core.specs.Views.{AreRight, kept, world_seen};
 ghost use Rattle.sim_core.specs.Steps.{IsQuick};
 ghost use Rattle.sim_core.specs.World.{HasCycle};
 ghost use Rattle.sim_core.specs.declared.errors.EditError.{EditError as AnEditError};
@@ -25,9 +24,10 @@ ghost use Rattle.stability_laws.specs.Plans.{has_prefix};
 ghost use Rattle.leak_round.specs.declared.rounds.TheConstants.{MOST_CELLS};
 
 use crate::naming::is_other;
+use crate::parts::Parts;
 use crate::readers::list_if_reads;
 use crate::touching::touched_ases;
-use crate::{Changed, EditError, EditLimit, Sim};
+use crate::{Changed, EditError, EditLimit};
 use as_graph::{Graph, GraphError, ases_are_kept, links_are_sound};
 use leak_round::Touched;
 use net_names::{Asn, NoMemory};
@@ -61,7 +61,7 @@ fn push_neighbours(graph: &Graph, asn: Asn, ases: &mut Vec<Asn>) -> Result<(), N
     Ok(())
 }
 
-impl Sim {
+impl Parts {
     // Makes room for an edit of the policy of an AS, and lists the AS where the policy reads the states.
     fn make_room(&mut self, asn: Asn, kind: Kind) -> Result<(), NoMemory>
         ensures ok { OnOk result (IsRoomed self.old self.new asn) }
@@ -176,7 +176,7 @@ impl Sim {
         steps: &mut Steps<L>,
     ) -> Result<Changed, EditError>
         requires few_cells { live_count (pool_of self.old.rounds) ≤ MOST_CELLS }
-        requires kept { IsKept (world_seen self.old) (kept self.old) }
+        requires right { AreRight self.old }
         requires no_cycle { HasCycle (world_seen self.old) → ⊥ }
         ensures edited { IsEdited self.old self.new (Policy asn kind) result }
         ensures quick { OnOk result (IsQuick (world_seen self.old) (world_seen self.new) (Policy asn kind) (kept self.old).routings (kept self.new).routings steps.old steps.new) }

@@ -1,47 +1,13 @@
 //! A simulation.
-ghost use Rattle.std.specs.Prelude.{◌≡◌, ◌≢◌, ◌≤◌, ℕ, true, false, Some};
-ghost use Rattle.std.specs.List.{AllPairs};
-ghost use Rattle.std.specs.FinMap as fin;
-ghost use Rattle.leak_round.specs.Limits.{IsWithinLimits};
-ghost use Rattle.leak_round.specs.Rounds.{is_open, plan_of, round_count};
-ghost use Rattle.net_names.specs.Numbers.{occurs};
-ghost use Rattle.policy_kinds.specs.Kinds.{kind_policy};
-ghost use Rattle.stability_laws.specs.Book.{policy_at};
-ghost use Rattle.policy_kinds.specs.declared.kind.Kind.TheVariants.{Plain};
-ghost use Rattle.sim_core.specs.Parts.{IsNamed};
-ghost use Rattle.sim_core.specs.Watching.{HasWatches};
+ghost use Rattle.sim_core.specs.Views.{IsCounted};
 
-use crate::watching::RoundWatches;
-use as_graph::Graph;
-use as_places::AsPlaces;
-use leak_round::Rounds;
-use net_names::Addr;
-use policy_kinds::Kind;
-use rank_order::Ranks;
-use roa_table::Vrps;
-use stability_laws::Book;
+use crate::parts::Parts;
 
 /// A world, the ranks of its ASes, for each round and prefix the one and only stable routing, and for
 /// each round and watched address the ends of all traces. Contracts see the world, the ranks, what each
-/// AS holds, and the rows of the watches.
+/// AS holds, and the ends.
 #[derive(Drop)]
 pub struct Sim {
-    pub(crate) graph: Graph,
-    pub(crate) ranks: Ranks,
-    pub(crate) vrps: Vrps,
-    pub(crate) book: Book<Kind>,
-    pub(crate) rounds: Rounds,
-    // All ASes whose policy reads the states, and perhaps others.
-    pub(crate) readers: AsPlaces,
-    pub(crate) watched: Vec<Addr>,
-    pub(crate) watches: Vec<RoundWatches>,
-    ghost named: { IsNamed graph book rounds },
-    ghost plain: { book.rest ≡ Plain },
-    ghost other: { (a : ℕ) → fin.get book.named a ≢ Some Plain },
-    ghost small: { IsWithinLimits (plan_of rounds) },
-    ghost few: { round_count rounds ≤ 4 },
-    ghost closed: { is_open rounds ≡ false },
-    ghost reading: { (a : ℕ) → (kind_policy (policy_at book a)).reads_state ≡ true → occurs a readers.ases ≡ true },
-    ghost once: { AllPairs (λ a b. a ≢ b) watched.items },
-    ghost watching: { HasWatches (round_count rounds) watched.items watches.items },
+    pub(crate) parts: Parts,
+    ghost counted: { IsCounted parts },
 }

@@ -1,9 +1,11 @@
 use Rattle.std.proofs.Common.{◌≢◌, ◌+◌, ◌∙◌, sym, ap, subst, arith}
 use Rattle.std.specs.List.{AllPairs}
-use Rattle.leak_round.specs.Rounds.{plan_of}
+use Rattle.leak_round.specs.Rounds.{kept as kept_rounds, plan_of}
+use Rattle.rank_order.specs.Ranks.{rank_at}
 use Rattle.leak_round.specs.Limits.{IsWithinLimits}
 use Rattle.sim_core.proofs.Listed.{reader_there}
 use Rattle.sim_core.proofs.Plans.{kinds_are_other}
+use Rattle.sim_core.proofs.Rows.{kept_by_rows}
 use Rattle.sim_core.proofs.Watches.{rows_right}
 use Rattle.sim_core.proofs.Within.{within}
 use Rattle.sim_core.proofs.Loads.{unmarked_world, cyclic_world, world_is, marks_are, only_ones, stable_rounds}
@@ -38,11 +40,11 @@ pub returns-in-Ok-watch_rounds-clause-world : goal.returns-in-Ok-watch_rounds-cl
 returns-in-Ok-watch_rounds-clause-world g c =
     world_is c.args.links.now c.args.vrps c.args.scenario.now c.in-Ok.graph c.in-Ok-policies.book c.in-Ok-rounds_of.rounds c.in-Ok.ensures.0 c.in-Ok-policies.ensures.named c.in-Ok-rounds_of.ensures.rounds.plan_is c.in-Ok-rounds_of.ensures.rounds.count_is c.in-Ok-watched_addrs.watched.items c.in-Ok-watched_addrs.ensures.value
 
-pub returns-in-Ok-watch_rounds-clause-kept : goal.returns-in-Ok-watch_rounds-clause-kept
-returns-in-Ok-watch_rounds-clause-kept g c =
+pub returns-in-Ok-watch_rounds-clause-right : goal.returns-in-Ok-watch_rounds-clause-right
+returns-in-Ok-watch_rounds-clause-right g c =
     let is = marks_are c.args.links.now c.args.vrps c.args.scenario.now c.in-Ok.graph c.in-Ok-policies.book c.in-Ok-rounds_of.rounds c.in-Ok.ensures.0 c.in-Ok-policies.ensures.named c.in-Ok-rounds_of.ensures.rounds.plan_is c.in-Ok-rounds_of.ensures.rounds.count_is c.in-Ok-watched_addrs.watched.items c.in-Ok-watched_addrs.ensures.value in
+    let rows = rows_right c.in-Ok.graph c.args.vrps c.in-Ok-policies.book c.in-Ok-rounds_of.rounds c.in-Ok-watched_addrs.watched.items c.in-Ok-watch_rounds.watches.items is c.in-Ok-policies.ensures.rest (rw c.deref.ensures.value at c.in-Ok-watch_rounds.ensures.addrs) c.in-Ok-watch_rounds.ensures.rows in
     record {
-      routings = only_ones c.in-Ok.graph c.args.vrps c.in-Ok-policies.book _ _ c.in-Ok-rounds_of.rounds c.in-Ok-watched_addrs.watched.items is c.in-Ok-policies.ensures.rest c.in-Ok-rounds_of.ensures.rounds;
-      rows = rows_right c.in-Ok.graph c.args.vrps c.in-Ok-policies.book c.in-Ok-rounds_of.rounds c.in-Ok-watched_addrs.watched.items c.in-Ok-watch_rounds.watches.items is c.in-Ok-policies.ensures.rest (rw c.deref.ensures.value at c.in-Ok-watch_rounds.ensures.addrs) c.in-Ok-watch_rounds.ensures.rows;
-      ranks = c.in-Ok-ranks_of.ensures.ranks;
+      is_kept = kept_by_rows _ (kept_rounds c.in-Ok-rounds_of.rounds) (rank_at c.in-Ok-ranks_of.ranks) _ (only_ones c.in-Ok.graph c.args.vrps c.in-Ok-policies.book _ _ c.in-Ok-rounds_of.rounds c.in-Ok-watched_addrs.watched.items is c.in-Ok-policies.ensures.rest c.in-Ok-rounds_of.ensures.rounds) c.in-Ok-ranks_of.ensures.ranks rows;
+      rows = rows;
     }

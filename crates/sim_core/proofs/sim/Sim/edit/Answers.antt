@@ -1,48 +1,12 @@
-use Rattle.std.proofs.Common.{ℕ, OnOk, subst, sym}
-use Rattle.sim_core.specs.Sims.{kept, world_seen}
-use Rattle.sim_core.specs.Steps.{IsQuick}
-use Rattle.sim_core.specs.Kept.{IsKept, Kept}
-use Rattle.sim_core.specs.World.{HasCycle, World}
-use Rattle.sim_core.proofs.Doing.{edited_from, if_done, if_refused, on_done, on_undone, unchanged_kept, unchanged_world}
+use Rattle.std.proofs.lemmas.Result.{on_ok_weaker}
+use Rattle.sim_core.proofs.Doing.{counted_right, right_by}
 use Rattle.sim_core.proofs.sim.Sim.edit.Goals as goal
 
-pub returns-in-Err-clause-same_world : goal.returns-in-Err-clause-same_world
-returns-in-Err-clause-same_world g c = unchanged_world c.args.self.now c.tidied.new.self c.tidied.ensures.unchanged
+pub edit-requires-clause-right : goal.edit-requires-clause-right
+edit-requires-clause-right g c = right_by c.args.self.now.parts c.args.self.now.counted c.requires.kept
 
-pub returns-in-Err-clause-same_kept : goal.returns-in-Err-clause-same_kept
-returns-in-Err-clause-same_kept g c = unchanged_kept c.args.self.now c.tidied.new.self c.tidied.ensures.unchanged
-
-pub edit_tidied-requires-clause-kept : goal.edit_tidied-requires-clause-kept
-edit_tidied-requires-clause-kept g c =
-    let same = c.tidied.ensures.unchanged in
-    subst (λ (t : World × Kept). IsKept t.0 t.1) (λ i. (sym (unchanged_world c.args.self.now c.tidied.new.self same) i, sym (unchanged_kept c.args.self.now c.tidied.new.self same) i)) c.requires.kept
-
-pub edit_tidied-requires-clause-no_cycle : goal.edit_tidied-requires-clause-no_cycle
-edit_tidied-requires-clause-no_cycle g c = subst (λ (w : World). HasCycle w → ⊥) (sym (unchanged_world c.args.self.now c.tidied.new.self c.tidied.ensures.unchanged)) c.requires.no_cycle
-
-pub returns-clause-world : goal.returns-clause-world
-returns-clause-world g c = on_done c.args.self.now c.edit_tidied.new.self c.args.edit.now c.edit_tidied.result (edited_from c.args.self.now c.tidied.new.self c.edit_tidied.new.self c.args.edit.now c.edit_tidied.result c.tidied.ensures.unchanged c.edit_tidied.ensures.edited) (λ routes h. h.world)
-
-pub returns-clause-allowed : goal.returns-clause-allowed
-returns-clause-allowed g c = on_done c.args.self.now c.edit_tidied.new.self c.args.edit.now c.edit_tidied.result (edited_from c.args.self.now c.tidied.new.self c.edit_tidied.new.self c.args.edit.now c.edit_tidied.result c.tidied.ensures.unchanged c.edit_tidied.ensures.edited) (λ routes h. h.allowed)
+pub invariant_of-self : goal.invariant_of-self
+invariant_of-self g c = record { counted = counted_right c.edit.new.self.parts c.edit.ensures.right }
 
 pub returns-clause-kept : goal.returns-clause-kept
-returns-clause-kept g c = on_done c.args.self.now c.edit_tidied.new.self c.args.edit.now c.edit_tidied.result (edited_from c.args.self.now c.tidied.new.self c.edit_tidied.new.self c.args.edit.now c.edit_tidied.result c.tidied.ensures.unchanged c.edit_tidied.ensures.edited) (λ routes h. h.is_kept)
-
-pub returns-clause-changed : goal.returns-clause-changed
-returns-clause-changed g c = if_done c.args.self.now c.edit_tidied.new.self c.args.edit.now c.edit_tidied.result (edited_from c.args.self.now c.tidied.new.self c.edit_tidied.new.self c.args.edit.now c.edit_tidied.result c.tidied.ensures.unchanged c.edit_tidied.ensures.edited)
-
-pub returns-clause-refused : goal.returns-clause-refused
-returns-clause-refused g c = if_refused c.args.self.now c.edit_tidied.new.self c.args.edit.now c.edit_tidied.result (edited_from c.args.self.now c.tidied.new.self c.edit_tidied.new.self c.args.edit.now c.edit_tidied.result c.tidied.ensures.unchanged c.edit_tidied.ensures.edited)
-
-pub returns-clause-same_world : goal.returns-clause-same_world
-returns-clause-same_world g c = on_undone c.args.self.now c.edit_tidied.new.self c.args.edit.now c.edit_tidied.result (edited_from c.args.self.now c.tidied.new.self c.edit_tidied.new.self c.args.edit.now c.edit_tidied.result c.tidied.ensures.unchanged c.edit_tidied.ensures.edited) (λ h. h.world)
-
-pub returns-clause-same_kept : goal.returns-clause-same_kept
-returns-clause-same_kept g c = on_undone c.args.self.now c.edit_tidied.new.self c.args.edit.now c.edit_tidied.result (edited_from c.args.self.now c.tidied.new.self c.edit_tidied.new.self c.args.edit.now c.edit_tidied.result c.tidied.ensures.unchanged c.edit_tidied.ensures.edited) (λ h. h.same_kept)
-
-pub returns-clause-quick : goal.returns-clause-quick
-returns-clause-quick g c few =
-    let same = c.tidied.ensures.unchanged in
-    subst (λ (t : (World × Kept) × ℕ). OnOk c.edit_tidied.result (IsQuick t.0.0 (world_seen c.edit_tidied.new.self) c.args.edit.now t.0.1.routings (kept c.edit_tidied.new.self).routings t.1 c.edit_tidied.new.steps))
-    (λ i. ((unchanged_world c.args.self.now c.tidied.new.self same i, unchanged_kept c.args.self.now c.tidied.new.self same i), c.tidied.ensures.idle few i)) c.edit_tidied.ensures.quick
+returns-clause-kept g c = on_ok_weaker c.edit.result (λ world. c.edit.ensures.right.is_kept) c.edit.ensures.world
