@@ -11,13 +11,12 @@ use Rattle.std.proofs.lemmas.Map.Lookups.{CmpEqualImpliesEq, exact_unsigned}
 use Rattle.std.proofs.lemmas.Map.Views.{tells_apart}
 use Rattle.net_names.specs.Addresses.{addr_cmp}
 use Rattle.policy_kinds.specs.declared.kind.Kind.{Kind}
-use Rattle.scenario_text.specs.declared.faults.LimitOf.TheVariants as limits
 use Rattle.scenario_text.specs.declared.faults.ScenarioError.{ScenarioError}
 use Rattle.scenario_text.specs.declared.faults.ScenarioError.TheVariants.{NotJson}
 use Rattle.scenario_text.specs.declared.places.Member.TheVariants.{Announcements, Policies, Leaks, Watch}
 use Rattle.scenario_text.specs.declared.places.Place.{Place}
 use Rattle.scenario_text.specs.Laws.{ReadsAs}
-use Rattle.scenario_text.specs.Limits.{fault_if, within}
+use Rattle.scenario_text.specs.Limits.{within}
 use Rattle.scenario_text.specs.Members.{lists_in}
 use Rattle.scenario_text.specs.Places.{in_member, item}
 use Rattle.scenario_text.specs.Readings.{json_of, scenario_of_bytes}
@@ -27,7 +26,7 @@ use Rattle.scenario_text.specs.Twice.{once_in, once}
 use Rattle.scenario_text.specs.Walks.{◌>>=◌, each_from, each_at}
 use Rattle.net_names.specs.Orders.{exact_announcement, exact_addr}
 use Rattle.scenario_text.proofs.Repeats.{once_at}
-use Rattle.scenario_text.proofs.Sound.{first_step, sound}
+use Rattle.scenario_text.proofs.Sound.{first_step, judged, sound}
 
 -- a list is read whose items are all read
 reads_all : {A B E : Type 0} (f : ℕ → A → Result B E) (i : ℕ) (xs : List A) → ((k : ℕ) (d : A) → k < length xs → (y : B) × (f (i + k) (get_or xs k d) ≡ Ok y)) → (ys : List B) × (each_from f i xs ≡ Ok ys)
@@ -74,8 +73,7 @@ once_of s h =
     leaking.1
     (once_from addr_cmp exact_addr (in_member Watch) s.watch h.watched_once)
 
-all_within : (a b c d e f : Bool) → a ≡ false → b ≡ false → c ≡ false → d ≡ false → e ≡ false → f ≡ false
-    → (fault_if limits.Announcements a >>= λ _. fault_if limits.Prefixes b >>= λ _. fault_if limits.Path c >>= λ _. fault_if limits.Rounds d >>= λ _. fault_if limits.Leakers e >>= λ _. fault_if limits.Watch f) ≡ Ok tt
+all_within : (a b c d e f : Bool) → a ≡ false → b ≡ false → c ≡ false → d ≡ false → e ≡ false → f ≡ false → judged a b c d e f ≡ Ok tt
 all_within a b c d e f first second third fourth fifth sixth = rw (first, second, third, fourth, fifth, sixth) refl
 
 within_of : (s : ScenarioValue) → IsScenario s → within s ≡ Ok tt

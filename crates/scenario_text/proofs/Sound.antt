@@ -1,6 +1,9 @@
 -- A document that stands all tests is a scenario.
 use Rattle.std.proofs.Common.{◌≡◌, ◌≢◌, ℕ, zero, suc, ◌+◌, ◌<◌, true, false, Bool, List, [], ◌∷◌, length, get_or, take, map, All, Result, Ok, Err, Some, refl, sym, ◌∙◌, ap, subst, arith, nat_lt, nat_eq}
-use Rattle.std.specs.Prelude.{◌&&◌, if◌then◌else◌, ok_or}
+use Rattle.std.specs.Prelude.{◌&&◌, if◌then◌else◌, ok_or, fold, None, option_map}
+use Rattle.std.specs.Bool.{then_some}
+use Rattle.std.specs.Option.{option_or}
+use Rattle.net_names.specs.Steps.{unless}
 use Rattle.std.specs.Cmp.{IsTotalOrder, tied_itself, nat_cmp_total}
 use Rattle.std.specs.List.{list_any, starts_with, AllPairs}
 use Rattle.std.specs.declared.cmp.Ordering.{Ordering}
@@ -15,7 +18,7 @@ use Rattle.net_names.specs.Texts.{prefix_of, addr_of}
 use Rattle.policy_kinds.specs.declared.kind.Kind.{Kind}
 use Rattle.scenario_text.specs.declared.faults.LimitOf.TheVariants as limits
 use Rattle.scenario_text.specs.declared.faults.ScenarioError.{ScenarioError}
-use Rattle.scenario_text.specs.declared.faults.ScenarioError.TheVariants.{Value}
+use Rattle.scenario_text.specs.declared.faults.ScenarioError.TheVariants.{Value, Limit}
 use Rattle.scenario_text.specs.declared.documents.AnnouncementText.{AnnouncementText}
 use Rattle.scenario_text.specs.declared.places.Member.TheVariants.{Announcements, Policies, Leaks, Watch}
 use Rattle.scenario_text.specs.declared.places.PartOf.TheVariants as parts
@@ -24,7 +27,7 @@ use Rattle.scenario_text.specs.declared.scenario.Announcement.{Announcement}
 use Rattle.scenario_text.specs.Documents.{DocumentValue}
 use Rattle.scenario_text.specs.Members.{lists_in}
 use Rattle.scenario_text.specs.Shapes.{document_of}
-use Rattle.scenario_text.specs.Limits.{fault_if, within}
+use Rattle.scenario_text.specs.Limits.{within}
 use Rattle.scenario_text.specs.Places.{in_member, item, in_part}
 use Rattle.scenario_text.specs.Scenarios.{ScenarioValue, IsScenario, StartsWith, announcement_name, prefix_count}
 use Rattle.scenario_text.specs.Twice.{once_in, once}
@@ -145,6 +148,10 @@ all_pass (Ok a) (Ok b) (Err e) d h = absurd (cc)
 all_pass (Ok a) (Err e) c d h = absurd (cc)
 all_pass (Err e) b c d h = absurd (cc)
 
+-- what six limits give, each of which is passed or not
+abbrev pub judged : (a b c d e f : Bool) → Result (Unit {0}) ScenarioError
+judged a b c d e f = unless (option_map Limit (fold option_or None (then_some a limits.Announcements ∷ then_some b limits.Prefixes ∷ then_some c limits.Path ∷ then_some d limits.Rounds ∷ then_some e limits.Leakers ∷ then_some f limits.Watch ∷ []))) (Ok tt)
+
 -- six limits none of which is passed
 record NonePassed (a b c d e f : Bool) : Type 0 where
   first : a ≡ false
@@ -154,9 +161,7 @@ record NonePassed (a b c d e f : Bool) : Type 0 where
   fifth : e ≡ false
   sixth : f ≡ false
 
-none_passed : (a b c d e f : Bool)
-    → (fault_if limits.Announcements a >>= λ _. fault_if limits.Prefixes b >>= λ _. fault_if limits.Path c >>= λ _. fault_if limits.Rounds d >>= λ _. fault_if limits.Leakers e >>= λ _. fault_if limits.Watch f) ≡ Ok tt
-    → NonePassed a b c d e f
+none_passed : (a b c d e f : Bool) → judged a b c d e f ≡ Ok tt → NonePassed a b c d e f
 none_passed true b c d e f h = absurd (cc)
 none_passed false true c d e f h = absurd (cc)
 none_passed false false true d e f h = absurd (cc)

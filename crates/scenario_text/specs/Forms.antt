@@ -1,6 +1,8 @@
 -- The forms of a script's line, a row each; a later form is a further row (own format).
 -- The fields of a line have exactly one space or one `|` between, since no field's grammar has either in it or an empty text.
-use Rattle.std.specs.Prelude.{ℕ, ◌==◌, List, [], ◌∷◌, length, map, fold, nat_le, bytes_eq, codes, Option, Some, None, option_map, option_and_then, if◌then◌else◌}
+use Prim.Native.String.{String}
+use Rattle.std.specs.Prelude.{ℕ, not, ◌==◌, List, [], ◌∷◌, length, map, fold, nat_le, bytes_eq, codes, Option, Some, None, option_map, option_and_then}
+use Rattle.std.specs.Bool.{then_some}
 use Rattle.std.specs.Option.{option_or, option_zip}
 use Rattle.net_names.specs.Payloads.{VrpValue, vrp_at}
 use Rattle.net_names.specs.Steps.{◌>>=◌, option_filter}
@@ -8,7 +10,6 @@ use Rattle.net_names.specs.Texts.{after, all_some, cut_at, fields, numeral, asn_
 use Rattle.policy_kinds.specs.Names.{kind_named}
 use Rattle.scenario_text.specs.declared.acts.Act.{Act}
 use Rattle.scenario_text.specs.declared.acts.Act.TheVariants as act
-use Rattle.scenario_text.specs.declared.acts.Edit.{Edit}
 use Rattle.scenario_text.specs.declared.acts.Edit.TheVariants.{Link, Unlink, Policy, VrpAdd, VrpTake, Announce, Withdraw}
 use Rattle.scenario_text.specs.declared.acts.Query.{Query}
 use Rattle.scenario_text.specs.declared.acts.Query.TheVariants.{Routes, Route, Trace, Report, Ranks, Validity}
@@ -17,10 +18,6 @@ use Rattle.scenario_text.specs.declared.limits.TheConstants.{MOST_NUMBERS}
 -- two fields, the first of which ends at the first such byte, each by its grammar: 32 is a space, and 124 is `|` (own format)
 unfoldable pub parted : {A B : Type 0} → ℕ → (List ℕ → Option A) → (List ℕ → Option B) → List ℕ → Option (A × B)
 parted byte first second text = cut_at byte text >>= λ p. option_zip (first p.0) (second p.1)
-
--- a round is 1 to 9 digits; leading zeros are allowed (own format)
-abbrev pub round_of : List ℕ → Option ℕ
-round_of = numeral 10 9
 
 -- N P M: the payload of that number, prefix and greatest length, which is 1 to 3 digits and from the prefix's length to the family's width (own format)
 unfoldable pub vrp_of : List ℕ → Option VrpValue
@@ -31,30 +28,26 @@ unfoldable pub path_of : List ℕ → Option (List ℕ)
 path_of text = option_filter (λ ns. nat_le (length ns) MOST_NUMBERS) (all_some (map asn_of (fields 32 text)))
 
 -- a line that begins with this word, and goes on with these fields, asks for this (own format)
-abbrev pub form : {A B : Type 0} → List ℕ → (List ℕ → Option A) → (A → Option B) → List ℕ → Option B
-form word fields asks line = option_and_then asks (option_and_then fields (after word line))
+abbrev pub form : {A B : Type 0} → String → (List ℕ → Option A) → (A → Option B) → List ℕ → Option B
+form word fields asks line = option_and_then asks (option_and_then fields (after (codes word) line))
 
--- the forms of edits: A|B|-1 makes A the provider of B, A|B|0 makes them peers, and A and B differ; a kind is of A; the first AS of the path A B .. announces P (own format)
-unfoldable pub edit_of : List ℕ → Option Edit
-edit_of line = fold option_or None (
-    form (codes "link ") (parted 124 asn_of (parted 124 asn_of rel_of)) (λ x. if x.0 == x.1.0 then None else Some (Link x.0 x.1.0 x.1.1)) line ∷
-    form (codes "unlink ") (parted 124 asn_of asn_of) (λ x. if x.0 == x.1 then None else Some (Unlink x.0 x.1)) line ∷
-    form (codes "policy ") (parted 32 asn_of kind_named) (λ x. Some (Policy x.0 x.1)) line ∷
-    form (codes "vrp-add ") vrp_of (λ v. Some (VrpAdd v)) line ∷
-    form (codes "vrp-take ") vrp_of (λ v. Some (VrpTake v)) line ∷
-    form (codes "announce ") (parted 32 prefix_of path_of) (λ x. Some (Announce x.0 x.1)) line ∷
-    form (codes "withdraw ") (parted 32 prefix_of asn_of) (λ x. Some (Withdraw x.0 x.1)) line ∷ [])
-
--- the forms of queries: of round R the table of prefix P, the row of AS A in it, the trace from A to address D, and the counts for D; all ranks; the state of P with origin A (own format)
+-- the forms of queries: of round R the table of prefix P, the row of AS A in it, the trace from A to address D, and the counts for D; all ranks; the state of P with origin A. A round is 1 to 9 digits; leading zeros are allowed (own format)
 unfoldable pub query_of : List ℕ → Option Query
-query_of line = fold option_or None (
-    form (codes "routes ") (parted 32 round_of prefix_of) (λ x. Some (Routes x.0 x.1)) line ∷
-    form (codes "route ") (parted 32 round_of (parted 32 prefix_of asn_of)) (λ x. Some (Route x.0 x.1.0 x.1.1)) line ∷
-    form (codes "trace ") (parted 32 round_of (parted 32 asn_of addr_of)) (λ x. Some (Trace x.0 x.1.0 x.1.1)) line ∷
-    form (codes "report ") (parted 32 round_of addr_of) (λ x. Some (Report x.0 x.1)) line ∷
-    (if bytes_eq line (codes "ranks") then Some Ranks else None) ∷
-    form (codes "validity ") (parted 32 prefix_of asn_of) (λ x. Some (Validity x.0 x.1)) line ∷ [])
+query_of line = fold option_or None (map (λ asks. asks line) (
+    form "routes " (parted 32 (numeral 10 9) prefix_of) (λ x. Some (Routes x.0 x.1)) ∷
+    form "route " (parted 32 (numeral 10 9) (parted 32 prefix_of asn_of)) (λ x. Some (Route x.0 x.1.0 x.1.1)) ∷
+    form "trace " (parted 32 (numeral 10 9) (parted 32 asn_of addr_of)) (λ x. Some (Trace x.0 x.1.0 x.1.1)) ∷
+    form "report " (parted 32 (numeral 10 9) addr_of) (λ x. Some (Report x.0 x.1)) ∷
+    (λ text. then_some (bytes_eq text (codes "ranks")) Ranks) ∷
+    form "validity " (parted 32 prefix_of asn_of) (λ x. Some (Validity x.0 x.1)) ∷ []))
 
--- what a line asks for, where it has one of the forms (own format)
+-- what a line asks for: it has the form of a query, or of an edit: A|B|-1 makes A the provider of B, A|B|0 makes them peers, and A and B differ; a kind is of A; the first AS of the path A B .. announces P (own format)
 unfoldable pub act_of : List ℕ → Option Act
-act_of line = option_or (option_map act.Edit (edit_of line)) (option_map act.Query (query_of line))
+act_of line = fold option_or (option_map act.Query (query_of line)) (map (λ asks. asks line) (
+    form "link " (parted 124 asn_of (parted 124 asn_of rel_of)) (λ x. then_some (not (x.0 == x.1.0)) (act.Edit (Link x.0 x.1.0 x.1.1))) ∷
+    form "unlink " (parted 124 asn_of asn_of) (λ x. then_some (not (x.0 == x.1)) (act.Edit (Unlink x.0 x.1))) ∷
+    form "policy " (parted 32 asn_of kind_named) (λ x. Some (act.Edit (Policy x.0 x.1))) ∷
+    form "vrp-add " vrp_of (λ v. Some (act.Edit (VrpAdd v))) ∷
+    form "vrp-take " vrp_of (λ v. Some (act.Edit (VrpTake v))) ∷
+    form "announce " (parted 32 prefix_of path_of) (λ x. Some (act.Edit (Announce x.0 x.1))) ∷
+    form "withdraw " (parted 32 prefix_of asn_of) (λ x. Some (act.Edit (Withdraw x.0 x.1))) ∷ []))

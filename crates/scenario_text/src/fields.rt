@@ -2,7 +2,7 @@
 ghost use Rattle.std.specs.Prelude.{◌≡◌, ℕ, List, Option};
 ghost use Rattle.net_names.specs.Texts.{asn_of, prefix_of, addr_of, rel_of, vrp_asn_of, numeral};
 ghost use Rattle.policy_kinds.specs.Names.{kind_named};
-ghost use Rattle.scenario_text.specs.Forms.{parted, round_of, vrp_of};
+ghost use Rattle.scenario_text.specs.Forms.{parted, vrp_of};
 
 use net_names::{
     Addr, Asn, Prefix, Rel, Vrp, cut, number, read_addr, read_asn, read_prefix, read_vrp_asn,
@@ -79,7 +79,7 @@ pub(crate) struct RoundField;
 impl Field for RoundField {
     type To = u32;
 
-    ghost says = { round_of };
+    ghost says = { numeral 10 9 };
 
     fn read(text: &[u8]) -> Option<u32> {
         match number(text, 10, 9) {

@@ -1,9 +1,10 @@
 //! The forms of a script's line.
-ghost use Rattle.std.specs.Prelude.{◌≡◌, ◌≤◌, length, Some, IfOk, IfSome, codes, option_and_then};
+ghost use Rattle.std.specs.Prelude.{◌≡◌, ◌≤◌, length, Some, IfOk, IfSome, option_and_then};
 ghost use Rattle.net_names.specs.Texts.{after, prefix_of};
+ghost use Rattle.scenario_text.specs.declared.acts.Act.TheVariants.{Edit as AnEdit};
 ghost use Rattle.scenario_text.specs.declared.acts.Edit.TheVariants.{Announce as AnAnnounce};
-ghost use Rattle.scenario_text.specs.LineValues.{IsWellFormed, IsSoundAct};
-ghost use Rattle.scenario_text.specs.Forms.{path_of, parted, form, edit_of, query_of, act_of};
+ghost use Rattle.scenario_text.specs.LineValues.{IsSoundAct};
+ghost use Rattle.scenario_text.specs.Forms.{path_of, parted, form, query_of, act_of};
 
 use crate::acts::{Act, Edit, Query};
 use crate::fields::{
@@ -52,9 +53,9 @@ fn behind<F: Field>(line: &[u8], word: &[u8]) -> Option<F::To>
 
 // What a line asks for that announces.
 #[tactic(auto, unfolding(crate::specs::Forms::parted))]
-fn announcement(alloc: Global, line: &[u8]) -> Result<Option<Edit>, NoMemory>
-    ensures gives { IfOk result (λ edit. edit ≡ form (codes "announce ") (parted 32 prefix_of path_of) (λ x. Some (AnAnnounce x.0 x.1)) line.now) }
-    ensures sound { IfOk result (λ edit. IfSome edit IsWellFormed) }
+fn announcement(alloc: Global, line: &[u8]) -> Result<Option<Act>, NoMemory>
+    ensures gives { IfOk result (λ act. act ≡ form "announce " (parted 32 prefix_of path_of) (λ x. Some (AnEdit (AnAnnounce x.0 x.1))) line.now) }
+    ensures sound { IfOk result (λ act. IfSome act IsSoundAct) }
 {
     let Some(rest) = strip(line, b"announce ") else {
         return Ok(None);
@@ -66,45 +67,9 @@ fn announcement(alloc: Global, line: &[u8]) -> Result<Option<Edit>, NoMemory>
         return Ok(None);
     };
     match path(alloc, numbers) {
-        Ok(Some(path)) => Ok(Some(Edit::Announce { prefix, path })),
+        Ok(Some(path)) => Ok(Some(Act::Edit(Edit::Announce { prefix, path }))),
         Ok(None) => Ok(None),
         Err(_) => Err(NoMemory),
-    }
-}
-
-// What a line asks for that has the form of an edit.
-#[tactic(auto, unfolding(crate::specs::Forms::edit_of))]
-fn edit(alloc: Global, line: &[u8]) -> Result<Option<Edit>, NoMemory>
-    ensures gives { IfOk result (λ edit. edit ≡ edit_of line.now) }
-    ensures sound { IfOk result (λ edit. IfSome edit IsWellFormed) }
-{
-    if let Some((a, (b, rel))) = behind::<Barred<AsnField, Barred<AsnField, RelField>>>(
-        line, b"link ",
-    ) {
-        if a != b {
-            return Ok(Some(Edit::Link { a, b, rel }));
-        }
-    }
-    if let Some((a, b)) = behind::<Barred<AsnField, AsnField>>(line, b"unlink ") {
-        if a != b {
-            return Ok(Some(Edit::Unlink { a, b }));
-        }
-    }
-    if let Some((asn, kind)) = behind::<Spaced<AsnField, KindField>>(line, b"policy ") {
-        return Ok(Some(Edit::Policy { asn, kind }));
-    }
-    if let Some(vrp) = behind::<VrpField>(line, b"vrp-add ") {
-        return Ok(Some(Edit::VrpAdd { vrp }));
-    }
-    if let Some(vrp) = behind::<VrpField>(line, b"vrp-take ") {
-        return Ok(Some(Edit::VrpTake { vrp }));
-    }
-    if let Some(edit) = announcement(alloc, line)? {
-        return Ok(Some(edit));
-    }
-    match behind::<Spaced<PrefixField, AsnField>>(line, b"withdraw ") {
-        Some((prefix, asn)) => Ok(Some(Edit::Withdraw { prefix, asn })),
-        None => Ok(None),
     }
 }
 
@@ -145,11 +110,35 @@ pub(crate) fn act(alloc: Global, line: &[u8]) -> Result<Option<Act>, NoMemory>
     ensures gives { IfOk result (λ act. act ≡ act_of line.now) }
     ensures sound { IfOk result (λ act. IfSome act IsSoundAct) }
 {
-    match edit(alloc, line)? {
-        Some(edit) => Ok(Some(Act::Edit(edit))),
-        None => match query(line) {
-            Some(query) => Ok(Some(Act::Query(query))),
-            None => Ok(None),
-        },
+    if let Some(query) = query(line) {
+        return Ok(Some(Act::Query(query)));
+    }
+    if let Some((a, (b, rel))) = behind::<Barred<AsnField, Barred<AsnField, RelField>>>(
+        line, b"link ",
+    ) {
+        if a != b {
+            return Ok(Some(Act::Edit(Edit::Link { a, b, rel })));
+        }
+    }
+    if let Some((a, b)) = behind::<Barred<AsnField, AsnField>>(line, b"unlink ") {
+        if a != b {
+            return Ok(Some(Act::Edit(Edit::Unlink { a, b })));
+        }
+    }
+    if let Some((asn, kind)) = behind::<Spaced<AsnField, KindField>>(line, b"policy ") {
+        return Ok(Some(Act::Edit(Edit::Policy { asn, kind })));
+    }
+    if let Some(vrp) = behind::<VrpField>(line, b"vrp-add ") {
+        return Ok(Some(Act::Edit(Edit::VrpAdd { vrp })));
+    }
+    if let Some(vrp) = behind::<VrpField>(line, b"vrp-take ") {
+        return Ok(Some(Act::Edit(Edit::VrpTake { vrp })));
+    }
+    if let Some(act) = announcement(alloc, line)? {
+        return Ok(Some(act));
+    }
+    match behind::<Spaced<PrefixField, AsnField>>(line, b"withdraw ") {
+        Some((prefix, asn)) => Ok(Some(Act::Edit(Edit::Withdraw { prefix, asn }))),
+        None => Ok(None),
     }
 }
