@@ -1,7 +1,7 @@
 -- The forms of a script's line, a row each; a later form is a further row (own format).
 -- The fields of a line have exactly one space or one `|` between, since no field's grammar has either in it or an empty text.
 use Prim.Native.String.{String}
-use Rattle.std.specs.Prelude.{ℕ, not, ◌==◌, List, [], ◌∷◌, length, map, fold, nat_le, bytes_eq, codes, Option, Some, None, option_map, option_and_then}
+use Rattle.std.specs.Prelude.{ℕ, not, ◌==◌, List, [], ◌∷◌, length, map, fold, nat_le, bytes_eq, codes, Option, None, option_map}
 use Rattle.std.specs.Bool.{then_some}
 use Rattle.std.specs.Option.{option_or, option_zip}
 use Rattle.net_names.specs.Payloads.{VrpValue, vrp_at}
@@ -16,38 +16,38 @@ use Rattle.scenario_text.specs.declared.acts.Query.TheVariants.{Routes, Route, T
 use Rattle.scenario_text.specs.declared.limits.TheConstants.{MOST_NUMBERS}
 
 -- two fields, the first of which ends at the first such byte, each by its grammar: 32 is a space, and 124 is `|` (own format)
-unfoldable pub parted : {A B : Type 0} → ℕ → (List ℕ → Option A) → (List ℕ → Option B) → List ℕ → Option (A × B)
-parted byte first second text = cut_at byte text >>= λ p. option_zip (first p.0) (second p.1)
+unfoldable pub pair : {A B : Type 0} → ℕ → (List ℕ → Option A) → (List ℕ → Option B) → List ℕ → Option (A × B)
+pair byte first second text = cut_at byte text >>= λ p. option_zip (first p.0) (second p.1)
 
 -- N P M: the payload of that number, prefix and greatest length, which is 1 to 3 digits and from the prefix's length to the family's width (own format)
 unfoldable pub vrp_of : List ℕ → Option VrpValue
-vrp_of text = parted 32 vrp_asn_of (parted 32 prefix_of (numeral 10 3)) text >>= λ v. vrp_at v.1.0 v.1.1 v.0
+vrp_of t = pair 32 vrp_asn_of (pair 32 prefix_of (numeral 10 3)) t >>= λ v. vrp_at v.1.0 v.1.1 v.0
 
 -- a path is 1 to 64 AS numbers with one space between (own format)
 unfoldable pub path_of : List ℕ → Option (List ℕ)
 path_of text = option_filter (λ ns. nat_le (length ns) MOST_NUMBERS) (all_some (map asn_of (fields 32 text)))
 
 -- a line that begins with this word, and goes on with these fields, asks for this (own format)
-abbrev pub form : {A B : Type 0} → String → (List ℕ → Option A) → (A → Option B) → List ℕ → Option B
-form word fields asks line = option_and_then asks (option_and_then fields (after (codes word) line))
+abbrev pub form : {A B : Type 0} → String → (List ℕ → Option A) → (A → B) → List ℕ → Option B
+form word fields asks line = option_map asks (after (codes word) line >>= fields)
 
 -- the forms of queries: of round R the table of prefix P, the row of AS A in it, the trace from A to address D, and the counts for D; all ranks; the state of P with origin A. A round is 1 to 9 digits; leading zeros are allowed (own format)
 unfoldable pub query_of : List ℕ → Option Query
 query_of line = fold option_or None (map (λ asks. asks line) (
-    form "routes " (parted 32 (numeral 10 9) prefix_of) (λ x. Some (Routes x.0 x.1)) ∷
-    form "route " (parted 32 (numeral 10 9) (parted 32 prefix_of asn_of)) (λ x. Some (Route x.0 x.1.0 x.1.1)) ∷
-    form "trace " (parted 32 (numeral 10 9) (parted 32 asn_of addr_of)) (λ x. Some (Trace x.0 x.1.0 x.1.1)) ∷
-    form "report " (parted 32 (numeral 10 9) addr_of) (λ x. Some (Report x.0 x.1)) ∷
+    form "routes " (pair 32 (numeral 10 9) prefix_of) (λ x. Routes x.0 x.1) ∷
+    form "route " (pair 32 (numeral 10 9) (pair 32 prefix_of asn_of)) (λ x. Route x.0 x.1.0 x.1.1) ∷
+    form "trace " (pair 32 (numeral 10 9) (pair 32 asn_of addr_of)) (λ x. Trace x.0 x.1.0 x.1.1) ∷
+    form "report " (pair 32 (numeral 10 9) addr_of) (λ x. Report x.0 x.1) ∷
     (λ text. then_some (bytes_eq text (codes "ranks")) Ranks) ∷
-    form "validity " (parted 32 prefix_of asn_of) (λ x. Some (Validity x.0 x.1)) ∷ []))
+    form "validity " (pair 32 prefix_of asn_of) (λ x. Validity x.0 x.1) ∷ []))
 
 -- what a line asks for: it has the form of a query, or of an edit: A|B|-1 makes A the provider of B, A|B|0 makes them peers, and A and B differ; a kind is of A; the first AS of the path A B .. announces P (own format)
 unfoldable pub act_of : List ℕ → Option Act
 act_of line = fold option_or (option_map act.Query (query_of line)) (map (λ asks. asks line) (
-    form "link " (parted 124 asn_of (parted 124 asn_of rel_of)) (λ x. then_some (not (x.0 == x.1.0)) (act.Edit (Link x.0 x.1.0 x.1.1))) ∷
-    form "unlink " (parted 124 asn_of asn_of) (λ x. then_some (not (x.0 == x.1)) (act.Edit (Unlink x.0 x.1))) ∷
-    form "policy " (parted 32 asn_of kind_named) (λ x. Some (act.Edit (Policy x.0 x.1))) ∷
-    form "vrp-add " vrp_of (λ v. Some (act.Edit (VrpAdd v))) ∷
-    form "vrp-take " vrp_of (λ v. Some (act.Edit (VrpTake v))) ∷
-    form "announce " (parted 32 prefix_of path_of) (λ x. Some (act.Edit (Announce x.0 x.1))) ∷
-    form "withdraw " (parted 32 prefix_of asn_of) (λ x. Some (act.Edit (Withdraw x.0 x.1))) ∷ []))
+    (λ l. after (codes "link ") l >>= pair 124 asn_of (pair 124 asn_of rel_of) >>= λ x. then_some (not (x.0 == x.1.0)) (act.Edit (Link x.0 x.1.0 x.1.1))) ∷
+    (λ l. after (codes "unlink ") l >>= pair 124 asn_of asn_of >>= λ x. then_some (not (x.0 == x.1)) (act.Edit (Unlink x.0 x.1))) ∷
+    form "policy " (pair 32 asn_of kind_named) (λ x. act.Edit (Policy x.0 x.1)) ∷
+    form "vrp-add " vrp_of (λ v. act.Edit (VrpAdd v)) ∷
+    form "vrp-take " vrp_of (λ v. act.Edit (VrpTake v)) ∷
+    form "announce " (pair 32 prefix_of path_of) (λ x. act.Edit (Announce x.0 x.1)) ∷
+    form "withdraw " (pair 32 prefix_of asn_of) (λ x. act.Edit (Withdraw x.0 x.1)) ∷ []))

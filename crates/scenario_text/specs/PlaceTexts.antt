@@ -1,13 +1,12 @@
 -- The texts of places (own format).
-use Rattle.std.specs.Prelude.{ℕ, List, [], ◌∷◌, ◌++◌, codes, decimal, Option, Some, None}
+use Rattle.std.specs.Prelude.{ℕ, List, [], ◌∷◌, ◌++◌, codes, decimal, Option}
 use Rattle.std.specs.Option.{option_map_or}
 use Rattle.scenario_text.specs.declared.places.Place.{Place}
 use Rattle.scenario_text.specs.Places.{member_name, part_name}
 
 -- a position in brackets (own format)
 abbrev pub position_text : Option ℕ → List ℕ
-position_text None = []
-position_text (Some i) = 91 ∷ (decimal i ++ 93 ∷ [])
+position_text position = option_map_or (λ i. 91 ∷ decimal i ++ 93 ∷ []) position []
 
 -- the text of a place: the member's name, or `document` where there is none; the position in it; a dot and the name of the member of the object there; and the position in that (own format)
 abbrev pub place_text : Place → List ℕ

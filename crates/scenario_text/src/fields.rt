@@ -2,7 +2,7 @@
 ghost use Rattle.std.specs.Prelude.{◌≡◌, ℕ, List, Option};
 ghost use Rattle.net_names.specs.Texts.{asn_of, prefix_of, addr_of, rel_of, vrp_asn_of, numeral};
 ghost use Rattle.policy_kinds.specs.Names.{kind_named};
-ghost use Rattle.scenario_text.specs.Forms.{parted, vrp_of};
+ghost use Rattle.scenario_text.specs.Forms.{pair, vrp_of};
 
 use net_names::{
     Addr, Asn, Prefix, Rel, Vrp, cut, number, read_addr, read_asn, read_prefix, read_vrp_asn,
@@ -135,9 +135,9 @@ impl Field for MaxField {
     }
 }
 
-#[tactic(auto, unfolding(crate::specs::Forms::parted))]
+#[tactic(auto, unfolding(crate::specs::Forms::pair))]
 fn parted_at<F: Field, G: Field>(byte: u8, text: &[u8]) -> Option<(F::To, G::To)>
-    ensures { result ≡ parted byte F.says G.says text.now }
+    ensures { result ≡ pair byte F.says G.says text.now }
 {
     let (front, back) = cut(text, byte)?;
     let first = F::read(front)?;
@@ -154,7 +154,7 @@ pub(crate) struct Spaced<F, G> {
 impl<F: Field, G: Field> Field for Spaced<F, G> {
     type To = (F::To, G::To);
 
-    ghost says = { parted 32 F.says G.says };
+    ghost says = { pair 32 F.says G.says };
 
     fn read(text: &[u8]) -> Option<(F::To, G::To)> {
         parted_at::<F, G>(b' ', text)
@@ -170,7 +170,7 @@ pub(crate) struct Barred<F, G> {
 impl<F: Field, G: Field> Field for Barred<F, G> {
     type To = (F::To, G::To);
 
-    ghost says = { parted 124 F.says G.says };
+    ghost says = { pair 124 F.says G.says };
 
     fn read(text: &[u8]) -> Option<(F::To, G::To)> {
         parted_at::<F, G>(b'|', text)

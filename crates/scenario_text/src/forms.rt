@@ -4,7 +4,7 @@ ghost use Rattle.net_names.specs.Texts.{after, prefix_of};
 ghost use Rattle.scenario_text.specs.declared.acts.Act.TheVariants.{Edit as AnEdit};
 ghost use Rattle.scenario_text.specs.declared.acts.Edit.TheVariants.{Announce as AnAnnounce};
 ghost use Rattle.scenario_text.specs.LineValues.{IsSoundAct};
-ghost use Rattle.scenario_text.specs.Forms.{path_of, parted, form, query_of, act_of};
+ghost use Rattle.scenario_text.specs.Forms.{path_of, pair, form, query_of, act_of};
 
 use crate::acts::{Act, Edit, Query};
 use crate::fields::{
@@ -52,9 +52,9 @@ fn behind<F: Field>(line: &[u8], word: &[u8]) -> Option<F::To>
 }
 
 // What a line asks for that announces.
-#[tactic(auto, unfolding(crate::specs::Forms::parted))]
+#[tactic(auto, unfolding(crate::specs::Forms::pair))]
 fn announcement(alloc: Global, line: &[u8]) -> Result<Option<Act>, NoMemory>
-    ensures gives { IfOk result (λ act. act ≡ form "announce " (parted 32 prefix_of path_of) (λ x. Some (AnEdit (AnAnnounce x.0 x.1))) line.now) }
+    ensures gives { IfOk result (λ act. act ≡ form "announce " (pair 32 prefix_of path_of) (λ x. AnEdit (AnAnnounce x.0 x.1)) line.now) }
     ensures sound { IfOk result (λ act. IfSome act IsSoundAct) }
 {
     let Some(rest) = strip(line, b"announce ") else {
