@@ -9,6 +9,7 @@ use Rattle.roa_table.specs.Files.{payloads_in}
 use Rattle.roa_table.specs.declared.errors.VrpError.{VrpError}
 use Rattle.roa_table.specs.declared.errors.VrpError.TheVariants as vrp
 use Rattle.scenario_text.specs.declared.faults.ScenarioError.{ScenarioError}
+use Rattle.scenario_text.specs.declared.faults.LimitOf.TheVariants as limit
 use Rattle.scenario_text.specs.declared.faults.ScenarioError.TheVariants as scenario
 use Rattle.scenario_text.specs.declared.script.ScriptError.{ScriptError}
 use Rattle.scenario_text.specs.declared.script.ScriptError.TheVariants as script
@@ -76,7 +77,12 @@ other_scenario form which scenario.NotJson = bad form _ refl
 other_scenario form which (scenario.Shape place) = bad form _ refl
 other_scenario form which (scenario.Value place) = bad form _ refl
 other_scenario form which (scenario.Twice place) = bad form _ refl
-other_scenario form which (scenario.Limit limit) = large form _ refl
+other_scenario form which (scenario.Limit limit.Announcements) = large form _ refl
+other_scenario form which (scenario.Limit limit.Prefixes) = large form _ refl
+other_scenario form which (scenario.Limit limit.Path) = large form _ refl
+other_scenario form which (scenario.Limit limit.Rounds) = large form _ refl
+other_scenario form which (scenario.Limit limit.Leakers) = large form _ refl
+other_scenario form which (scenario.Limit limit.Watch) = large form _ refl
 
 pub other_script : (form : Option Form) (which : File) (e : ScriptError) → IsOther form (fault.InFile which (cause.Script e))
 other_script form which script.Memory = bad form _ refl

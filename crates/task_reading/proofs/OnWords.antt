@@ -3,7 +3,7 @@ use Rattle.std.proofs.Common.{◌≡◌, refl, [], ◌∷◌, codes, Some, None}
 use Rattle.clap.proofs.OnLiterals.{clap_on_literals}
 use Rattle.net_names.specs.Texts.{asn_of, numeral}
 use Rattle.task_reading.specs.Command.{asprop_command}
-use Rattle.task_reading.specs.Words.{form_of, script_form, origin_form, demo_form, demo_size}
+use Rattle.task_reading.specs.Words.{form_of, script_form, origin_form, demo_form}
 
 rel_alone : form_of (codes "asprop" ∷ codes "rel" ∷ []) ≡ Some (script_form (codes "rel") None None None)
 unfolding clap_on_literals form_of asprop_command
@@ -38,11 +38,11 @@ unfolding clap_on_literals form_of asprop_command
 help = refl
 
 generated : form_of (codes "asprop" ∷ codes "--demo" ∷ codes "00004" ∷ []) ≡ Some (demo_form 4)
-unfolding clap_on_literals form_of asprop_command demo_size numeral
+unfolding clap_on_literals form_of asprop_command numeral
 generated = refl
 
 generated_too_small : form_of (codes "asprop" ∷ codes "--demo" ∷ codes "3" ∷ []) ≡ None
-unfolding clap_on_literals form_of asprop_command demo_size numeral
+unfolding clap_on_literals form_of asprop_command numeral
 generated_too_small = refl
 
 generated_and_relations : form_of (codes "asprop" ∷ codes "rel" ∷ codes "--demo" ∷ codes "4" ∷ []) ≡ None

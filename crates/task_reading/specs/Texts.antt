@@ -1,12 +1,14 @@
 -- The statuses and texts of faults, and the numbers of statuses.
+use Prim.Native.String.{String}
 use Rattle.std.specs.Prelude.{ℕ, [], ◌∷◌, ◌++◌, codes, Option, unwrap_or, decimal}
 use Rattle.clap.specs.Walk.{Text}
 use Rattle.caida_reader.specs.declared.errors.RelError.TheVariants as rel
+use Rattle.caida_reader.specs.declared.errors.RelError.TheVariants.{SelfLink, Conflict, TooManyLinks}
 use Rattle.roa_table.specs.declared.errors.VrpError.TheVariants as vrp
 use Rattle.scenario_text.specs.PlaceTexts.{place_text}
-use Rattle.scenario_text.specs.declared.faults.LimitOf.{LimitOf}
 use Rattle.scenario_text.specs.declared.faults.LimitOf.TheVariants as limit
 use Rattle.scenario_text.specs.declared.faults.ScenarioError.TheVariants as scenario
+use Rattle.scenario_text.specs.declared.faults.ScenarioError.TheVariants.{Limit}
 use Rattle.scenario_text.specs.declared.script.ScriptError.TheVariants as script
 use Rattle.task_reading.specs.Words.{Form, name_by}
 use Rattle.task_reading.specs.declared.types.Cause.{Cause}
@@ -20,51 +22,42 @@ use Rattle.task_reading.specs.declared.types.Status.TheVariants.{BadInput, TooLa
 
 -- `asprop: `, the text and a line feed (own format)
 abbrev pub message : Text → Text
-message text = codes "asprop: " ++ (text ++ 10 ∷ [])
+message text = codes "asprop: " ++ text ++ 10 ∷ []
 
--- the text, and before it the line where it stands (own format)
-abbrev pub in_line : ℕ → Text → Text
-in_line n text = codes "line " ++ (decimal n ++ (codes ": " ++ text))
-
--- the text, and before it the row where it stands (own format)
-abbrev pub in_row : ℕ → Text → Text
-in_row n text = codes "row " ++ (decimal n ++ (codes ": " ++ text))
-
--- the limit of a scenario that is passed (own format)
-abbrev pub limit_text : LimitOf → Text
-limit_text limit.Announcements = codes "more than 64 announcements"
-limit_text limit.Prefixes = codes "more than 32 prefixes"
-limit_text limit.Path = codes "more than 64 numbers in a path"
-limit_text limit.Rounds = codes "more than 4 rounds"
-limit_text limit.Leakers = codes "more than 64 leakers in a round"
-limit_text limit.Watch = codes "more than 16 watched addresses"
+-- a text behind the word for its place and the number of that, as in `line 5: unreadable` (own format)
+abbrev pub placed : String → ℕ → String → Text
+placed word n text = codes word ++ codes " " ++ (decimal n ++ (codes ": " ++ codes text))
 
 -- the table of causes: the status and the text, with the place in the file, of each (own format). Of a reader that memory runs out in nothing is told by this table: the run ends for want of memory, and the last row is never asked for
 abbrev pub cause_of : Cause → Status × Text
 cause_of Unread = (status.ReadFault, codes "read fault")
-cause_of (TooLong most) = (TooLarge, codes "more than " ++ (decimal most ++ codes " bytes"))
-cause_of (Relation (rel.Unreadable n)) = (BadInput, in_line n (codes "unreadable"))
-cause_of (Relation (rel.SelfLink n)) = (BadInput, in_line n (codes "an AS linked to itself"))
-cause_of (Relation (rel.Conflict n m)) = (BadInput, in_line n (codes "conflicts with line " ++ decimal m))
-cause_of (Relation (rel.TooManyLinks n)) = (TooLarge, in_line n (codes "more than 1500000 links"))
-cause_of (Payload (vrp.Fields n)) = (BadInput, in_row n (codes "fewer than three fields"))
-cause_of (Payload (vrp.BadAsn n)) = (BadInput, in_row n (codes "bad AS number"))
-cause_of (Payload (vrp.BadPrefix n)) = (BadInput, in_row n (codes "bad prefix"))
-cause_of (Payload (vrp.BadMax n)) = (BadInput, in_row n (codes "bad maximum length"))
-cause_of (Payload (vrp.TooMany n)) = (TooLarge, in_row n (codes "more than 2000000 payloads"))
+cause_of (TooLong most) = (TooLarge, codes "more than " ++ decimal most ++ codes " bytes")
+cause_of (Relation (rel.Unreadable n)) = (BadInput, placed "line" n "unreadable")
+cause_of (Relation (SelfLink n)) = (BadInput, placed "line" n "an AS linked to itself")
+cause_of (Relation (Conflict n m)) = (BadInput, placed "line" n "conflicts with line " ++ decimal m)
+cause_of (Relation (TooManyLinks n)) = (TooLarge, placed "line" n "more than 1500000 links")
+cause_of (Payload (vrp.Fields n)) = (BadInput, placed "row" n "fewer than three fields")
+cause_of (Payload (vrp.BadAsn n)) = (BadInput, placed "row" n "bad AS number")
+cause_of (Payload (vrp.BadPrefix n)) = (BadInput, placed "row" n "bad prefix")
+cause_of (Payload (vrp.BadMax n)) = (BadInput, placed "row" n "bad maximum length")
+cause_of (Payload (vrp.TooMany n)) = (TooLarge, placed "row" n "more than 2000000 payloads")
 cause_of (Scenario scenario.NotJson) = (BadInput, codes "not JSON")
 cause_of (Scenario (scenario.Shape place)) = (BadInput, place_text place ++ codes ": wrong shape")
 cause_of (Scenario (scenario.Value place)) = (BadInput, place_text place ++ codes ": bad value")
 cause_of (Scenario (scenario.Twice place)) = (BadInput, place_text place ++ codes ": named twice")
-cause_of (Scenario (scenario.Limit which)) = (TooLarge, limit_text which)
-cause_of (Script (script.Unreadable n)) = (BadInput, in_line n (codes "unreadable"))
-cause_of (Script (script.TooMany n)) = (TooLarge, in_line n (codes "more than 100000 commands"))
+cause_of (Scenario (Limit limit.Announcements)) = (TooLarge, codes "more than 64 announcements")
+cause_of (Scenario (Limit limit.Prefixes)) = (TooLarge, codes "more than 32 prefixes")
+cause_of (Scenario (Limit limit.Path)) = (TooLarge, codes "more than 64 numbers in a path")
+cause_of (Scenario (Limit limit.Rounds)) = (TooLarge, codes "more than 4 rounds")
+cause_of (Scenario (Limit limit.Leakers)) = (TooLarge, codes "more than 64 leakers in a round")
+cause_of (Scenario (Limit limit.Watch)) = (TooLarge, codes "more than 16 watched addresses")
+cause_of (Script (script.Unreadable n)) = (BadInput, placed "line" n "unreadable")
+cause_of (Script (script.TooMany n)) = (TooLarge, placed "line" n "more than 100000 commands")
 cause_of _ = (BadInput, [])
 
 -- the table of the faults that a run may end with, each with its status and its text; that of the words has the forms, a line each (own format)
 abbrev pub fault_ending : Option Form → Fault → Status × Text
-fault_ending form fault.Usage =
-    (status.Usage, codes "usage: asprop REL [--vrps FILE] [--scenario FILE] [--script FILE]" ++ 10 ∷ codes "       asprop REL --origin N" ++ 10 ∷ codes "       asprop --demo N" ++ 10 ∷ [])
+fault_ending form fault.Usage = (status.Usage, codes "usage: asprop REL [--vrps FILE] [--scenario FILE] [--script FILE]\n       asprop REL --origin N\n       asprop --demo N\n")
 fault_ending form TooManyAses = (TooLarge, message (codes "more than 150000 ASes"))
 fault_ending form (InFile which cause) = ((cause_of cause).0, codes "asprop: " ++ (unwrap_or (name_by form which) [] ++ (codes ": " ++ ((cause_of cause).1 ++ 10 ∷ []))))
 

@@ -1,10 +1,11 @@
 -- The words of the command line, the program's name first, and the form that they have.
+use Prim.Native.String.{String}
 use Rattle.std.specs.Prelude.{ℕ, ◌≤◌, ◌&&◌, nat_le, if◌then◌else◌, List, codes, Option, Some, None, option_map}
 use Rattle.std.specs.Borrow.{Bor}
 use Rattle.clap.specs.Faults.{fault_of}
 use Rattle.clap.specs.Simple.{matches_of}
 use Rattle.clap.specs.Walk.{Text, first_of, is_empty}
-use Rattle.net_names.specs.Steps.{◌>>=◌}
+use Rattle.net_names.specs.Steps.{option_filter}
 use Rattle.net_names.specs.Texts.{asn_of, numeral}
 use Rattle.task_reading.specs.Command.{asprop_command}
 use Rattle.task_reading.specs.declared.types.File.{File}
@@ -21,10 +22,6 @@ pub data Form : Type 0 where
   -- the generated input of so many ASes
   demo_form : (size : ℕ) → Form
 
--- a size is 1 to 5 digits, from 4 to 20000 (own format)
-unfoldable pub demo_size : List ℕ → Option ℕ
-demo_size text = numeral 10 5 text >>= λ n. if nat_le 4 n && nat_le n 20000 then Some n else None
-
 -- the size of a generated input is from 4 to 20000 (own format)
 abbrev pub HasSize : Option Form → Type 0
 HasSize None = Unit {0}
@@ -32,19 +29,17 @@ HasSize (Some (script_form rel vrps scenario script)) = Unit {0}
 HasSize (Some (origin_form rel origin)) = Unit {0}
 HasSize (Some (demo_form size)) = (4 ≤ size) × (size ≤ 20000)
 
--- the table of the forms, by the values of the word and of the options that stand (own format)
+-- the table of the forms, by the values of the word and of the options that stand; a size is 1 to 5 digits, from 4 to 20000 (own format)
 abbrev pub form_by : (rel vrps scenario script origin demo : Option Text) → Option Form
 form_by (Some rel) vrps scenario script None None = Some (script_form rel vrps scenario script)
 form_by (Some rel) None None None (Some number) None = option_map (origin_form rel) (asn_of number)
-form_by None None None None None (Some number) = option_map demo_form (demo_size number)
+form_by None None None None None (Some number) = option_map demo_form (option_filter (λ n. nat_le 4 n && nat_le n 20000) (numeral 10 5 number))
 form_by _ _ _ _ _ _ = None
 
 -- the form of the words: that of the values of the word and of the options where the command finds no fault in the words, and else none (own format)
 unfoldable pub form_of : List Text → Option Form
-form_of words =
-    let value : Text → Option Text = λ name. first_of name (matches_of asprop_command words) in
-    if is_empty (fault_of asprop_command words) then form_by (value (codes "rel")) (value (codes "vrps")) (value (codes "scenario"))
-    (value (codes "script")) (value (codes "origin")) (value (codes "demo")) else None
+form_of words = let value : String → Option Text = λ name. first_of (codes name) (matches_of asprop_command words) in
+    if is_empty (fault_of asprop_command words) then form_by (value "rel") (value "vrps") (value "scenario") (value "script") (value "origin") (value "demo") else None
 
 -- the name that a form gives to a file, if it names one; without a form there is none
 abbrev pub name_by : Option Form → File → Option Text

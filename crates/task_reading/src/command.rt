@@ -1,14 +1,16 @@
 //! The command that takes the words.
-ghost use Rattle.std.specs.Prelude.{◌≡◌, IfOk, false};
+ghost use Rattle.std.specs.Prelude.{◌≡◌, IfOk, Some, false};
+ghost use Rattle.clap.specs.Simple.{new_rule};
 ghost use Rattle.clap.specs.Words.{app_of, rule_of};
-ghost use Rattle.task_reading.specs.Command.{asprop_command, word_rule};
+ghost use Rattle.clap.specs.declared.builder.action.ArgAction.TheVariants.{Set};
+ghost use Rattle.task_reading.specs.Command.{asprop_command};
 
 use clap::{Arg, ArgAction, Command};
 use std::alloc::{AllocError, Global};
 
 // An option with one value, which stands at most once.
 fn option<'a>(alloc: Global, name: &'a str) -> Arg<'a>
-    ensures rule { rule_of result ≡ record (word_rule name.entry.now) { long = Some name.entry.now } }
+    ensures rule { rule_of result ≡ record (new_rule name.entry.now) { action = Some Set; long = Some name.entry.now } }
     ensures local { result.global ≡ false }
 {
     Arg::new(alloc, name).long(name).action(ArgAction::Set)
@@ -16,7 +18,7 @@ fn option<'a>(alloc: Global, name: &'a str) -> Arg<'a>
 
 // A word that belongs to no option, which stands at most once.
 fn word<'a>(alloc: Global, name: &'a str) -> Arg<'a>
-    ensures rule { rule_of result ≡ word_rule name.entry.now }
+    ensures rule { rule_of result ≡ record (new_rule name.entry.now) { action = Some Set } }
     ensures local { result.global ≡ false }
 {
     Arg::new(alloc, name).action(ArgAction::Set)

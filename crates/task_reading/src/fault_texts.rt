@@ -1,6 +1,6 @@
 //! The texts and statuses of faults.
 ghost use Rattle.std.specs.Prelude.{◌≡◌, [], IfOk, Option, option_map, string_bytes, unwrap_or};
-ghost use Rattle.task_reading.specs.Texts.{cause_of, fault_ending, limit_text as limit_text_of};
+ghost use Rattle.task_reading.specs.Texts.{cause_of, fault_ending};
 ghost use Rattle.task_reading.specs.Words.{Form, form_seen, name_by};
 
 use crate::types::{Cause, Fault, File, Status};
@@ -43,7 +43,7 @@ fn payload_text(alloc: Global, error: VrpError) -> Result<String, AllocError>
 }
 
 fn limit_text(which: LimitOf) -> &'static str
-    ensures { result.now ≡ limit_text_of which }
+    ensures { result.now ≡ (cause_of (Cause.Scenario (ScenarioError.Limit which))).1 }
 {
     match which {
         LimitOf::Announcements => "more than 64 announcements",

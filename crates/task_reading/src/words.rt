@@ -1,6 +1,8 @@
 //! The words of the command line.
-ghost use Rattle.std.specs.Prelude.{◌≡◌, ◌≤◌, IfOk, IfSome, Some, map, option_map, string_bytes};
-ghost use Rattle.task_reading.specs.Words.{HasSize, form_by, form_of, form_seen, name_by, demo_size, text_seen};
+ghost use Rattle.std.specs.Prelude.{◌≡◌, ◌≤◌, ◌&&◌, IfOk, IfSome, Some, map, nat_le, option_map, string_bytes};
+ghost use Rattle.net_names.specs.Steps.{option_filter};
+ghost use Rattle.net_names.specs.Texts.{numeral};
+ghost use Rattle.task_reading.specs.Words.{HasSize, form_by, form_of, form_seen, name_by, text_seen};
 
 use crate::command::new_command;
 use crate::types::File;
@@ -54,9 +56,8 @@ impl<'a> WordForm<'a> {
 }
 
 // The size of a generated input.
-#[tactic(auto, unfolding(crate::specs::Words::demo_size))]
 fn size(text: &[u8]) -> Option<u32>
-    ensures value { result ≡ demo_size text.now }
+    ensures value { result ≡ option_filter (λ n. nat_le 4 n && nat_le n 20000) (numeral 10 5 text.now) }
     ensures range { IfSome result (λ n. (4 ≤ n) × (n ≤ 20000)) }
 {
     let n = number(text, 10, 5)?;
