@@ -11,3 +11,4 @@ pub mod Gathered
 pub mod Reading
 pub mod Admitted
 pub mod Accepted
+pub mod Empty

@@ -15,7 +15,7 @@ use Rattle.scenario_text.specs.declared.script.ScriptError.{ScriptError}
 use Rattle.scenario_text.specs.declared.script.ScriptError.TheVariants as script
 use Rattle.scenario_text.specs.Walks.{◌>>=◌}
 use Rattle.task_reading.specs.Texts.{fault_ending}
-use Rattle.task_reading.specs.Asking.{Reads, asked, read_as, bytes_of, most_bytes}
+use Rattle.task_reading.specs.Asking.{Reads, asked, read_as, bytes_of}
 use Rattle.task_reading.specs.Words.{Form, origin_form, script_form, demo_form}
 use Rattle.task_reading.specs.declared.types.File.{File}
 use Rattle.task_reading.specs.declared.types.File.TheVariants as file
@@ -26,7 +26,7 @@ use Rattle.task_reading.specs.declared.types.Cause.TheVariants as cause
 use Rattle.task_reading.specs.declared.types.Status.{Status}
 use Rattle.task_reading.specs.declared.types.Status.TheVariants as status
 use Rattle.task_reading.proofs.Preparing.{origin_task, script_task}
-use Rattle.task_reading.proofs.ReadLemmas.{or_fault, relations, payloads_by, scenario_by, script_lines}
+use Rattle.task_reading.proofs.ReadLemmas.{or_fault, relations, payloads_of, scenario_by, script_lines}
 
 -- a fault of two steps is one of the first or of the second
 pub bind_err : {A B : Type 0} (r : Result A Fault) (f : A → Result B Fault) (e : Fault) → (r >>= f) ≡ Err e → (r ≡ Err e) ⊎ ((x : A) × (r ≡ Ok x) × (f x ≡ Err e))
@@ -105,27 +105,26 @@ module _ (form : Option Form) (reads : Reads) where
   of_value which as_cause others (Err d) e h =
       let is : fault.InFile which (as_cause d) ≡ e = cc in subst (Stopped form reads) is (by_value (fault.InFile which (as_cause d)) (others d))
 
-  of_bytes : (which : File) (read : Option (List ℕ)) → reads which ≡ read → (e : Fault) → bytes_of which read ≡ Err e → Stopped form reads e
-  of_bytes which None none e h = let is : fault.InFile which cause.Unread ≡ e = cc in subst (Stopped form reads) is (unread which none)
-  of_bytes which (Some bytes) some e h = subst (Stopped form reads) (chosen_err _ _ e bytes h) (by_value (fault.InFile which (cause.TooLong (most_bytes which))) (large form _ refl))
+  of_bytes : (which : File) (most : ℕ) (read : Option (List ℕ)) → reads which ≡ read → (e : Fault) → bytes_of which most read ≡ Err e → Stopped form reads e
+  of_bytes which most None none e h = let is : fault.InFile which cause.Unread ≡ e = cc in subst (Stopped form reads) is (unread which none)
+  of_bytes which most (Some bytes) some e h = subst (Stopped form reads) (chosen_err _ _ e bytes h) (by_value (fault.InFile which (cause.TooLong most)) (large form _ refl))
 
-  of_read : {A E : Type 0} (which : File) (as_cause : E → Cause) (value : List ℕ → Result A E) → ((e : E) → IsOther form (fault.InFile which (as_cause e))) → (e : Fault) → read_as which as_cause value reads ≡ Err e → Stopped form reads e
-  of_read which as_cause value others e h =
-      elim (bind_err (bytes_of which (reads which)) (λ bytes. or_fault which as_cause (value bytes)) e h) [
-        | inl early ↦ of_bytes which (reads which) refl e early
+  of_read : {A E : Type 0} (which : File) (most : ℕ) (as_cause : E → Cause) (value : List ℕ → Result A E) → ((e : E) → IsOther form (fault.InFile which (as_cause e))) → (e : Fault) → read_as which most as_cause value reads ≡ Err e → Stopped form reads e
+  of_read which most as_cause value others e h =
+      elim (bind_err (bytes_of which most (reads which)) (λ bytes. or_fault which as_cause (value bytes)) e h) [
+        | inl early ↦ of_bytes which most (reads which) refl e early
         | inr late ↦ of_value which as_cause others (value late.0) e late.2
       ]
 
-  of_payloads : (name : Option (List ℕ)) (e : Fault) → payloads_by name (reads file.Payloads) ≡ Err e → Stopped form reads e
-  of_payloads None e h = cc
-  of_payloads (Some name) e h = of_read file.Payloads cause.Payload payloads_in (other_payload form file.Payloads) e h
+  of_payloads : (e : Fault) → payloads_of (reads file.Payloads) ≡ Err e → Stopped form reads e
+  of_payloads e h = of_read file.Payloads 268435456 cause.Payload payloads_in (other_payload form file.Payloads) e h
 
   of_scenario : (name : Option (List ℕ)) (e : Fault) → scenario_by name (reads file.Scenario) ≡ Err e → Stopped form reads e
   of_scenario None e h = cc
-  of_scenario (Some name) e h = of_read file.Scenario cause.Scenario scenario_of_bytes (other_scenario form file.Scenario) e h
+  of_scenario (Some name) e h = of_read file.Scenario 16777216 cause.Scenario scenario_of_bytes (other_scenario form file.Scenario) e h
 
   of_lines : (e : Fault) → script_lines (reads file.Script) ≡ Err e → Stopped form reads e
-  of_lines e h = of_read file.Script cause.Script script_of (other_script form file.Script) e h
+  of_lines e h = of_read file.Script 16777216 cause.Script script_of (other_script form file.Script) e h
 
 -- each fault of what is asked for has its reason
 pub of_asked : (form : Option Form) (reads : Reads) (e : Fault) → asked form reads ≡ Err e → Stopped form reads e
@@ -133,14 +132,14 @@ of_asked None reads e h = let is : fault.Usage ≡ e = cc in subst (Stopped None
 of_asked (Some (demo_form size)) reads e h = cc
 of_asked (Some (origin_form rel origin)) reads e h =
     elim (bind_err (relations (reads file.Relations)) (λ links. Ok (origin_task links origin)) e h) [
-      | inl early ↦ of_read _ reads file.Relations cause.Relation links_of (other_relation _ file.Relations) e early
+      | inl early ↦ of_read _ reads file.Relations 268435456 cause.Relation links_of (other_relation _ file.Relations) e early
       | inr late ↦ cc
     ]
 of_asked (Some (script_form rel vrps scenario script)) reads e h =
-    elim (bind_err (relations (reads file.Relations)) (λ links. payloads_by vrps (reads file.Payloads) >>= λ payloads. scenario_by scenario (reads file.Scenario) >>= λ plan. script_lines (reads file.Script) >>= λ lines. Ok (script_task links payloads plan lines)) e h) [
-      | inl early ↦ of_read _ reads file.Relations cause.Relation links_of (other_relation _ file.Relations) e early
-      | inr links ↦ elim (bind_err (payloads_by vrps (reads file.Payloads)) (λ payloads. scenario_by scenario (reads file.Scenario) >>= λ plan. script_lines (reads file.Script) >>= λ lines. Ok (script_task links.0 payloads plan lines)) e links.2) [
-        | inl early ↦ of_payloads _ reads vrps e early
+    elim (bind_err (relations (reads file.Relations)) (λ links. payloads_of (reads file.Payloads) >>= λ payloads. scenario_by scenario (reads file.Scenario) >>= λ plan. script_lines (reads file.Script) >>= λ lines. Ok (script_task links payloads plan lines)) e h) [
+      | inl early ↦ of_read _ reads file.Relations 268435456 cause.Relation links_of (other_relation _ file.Relations) e early
+      | inr links ↦ elim (bind_err (payloads_of (reads file.Payloads)) (λ payloads. scenario_by scenario (reads file.Scenario) >>= λ plan. script_lines (reads file.Script) >>= λ lines. Ok (script_task links.0 payloads plan lines)) e links.2) [
+        | inl early ↦ of_payloads _ reads e early
         | inr payloads ↦ elim (bind_err (scenario_by scenario (reads file.Scenario)) (λ plan. script_lines (reads file.Script) >>= λ lines. Ok (script_task links.0 payloads.0 plan lines)) e payloads.2) [
           | inl early ↦ of_scenario _ reads scenario e early
           | inr plan ↦ elim (bind_err (script_lines (reads file.Script)) (λ lines. Ok (script_task links.0 payloads.0 plan.0 lines)) e plan.2) [

@@ -11,7 +11,7 @@ use Rattle.task_reading.specs.declared.asking.Asked.{Asked}
 use Rattle.task_reading.specs.Files.{IsReadAs, ReadsAs, Prepares}
 use Rattle.task_reading.specs.declared.types.File.TheVariants as file
 use Rattle.task_reading.specs.declared.types.AskError.{AskError}
-use Rattle.task_reading.proofs.ReadLemmas.{relations, payloads_by, scenario_by, script_lines, read_whole_run, kept_names, kept_twice}
+use Rattle.task_reading.proofs.ReadLemmas.{relations, payloads_of, scenario_by, script_lines, read_whole_run, kept_names, kept_twice}
 use Rattle.task_reading.proofs.Preparing.{script_task, no_payloads, no_scenario, no_lines, all_read}
 
 -- what the first call read is read in the run
@@ -22,7 +22,7 @@ first {holds} {is_sound} {faults} a b z keeps later name read h = read_whole_run
 module _ {I : Type 0} {holds : I → List ℕ → Option (List ℕ)} {is_sound : I → List ℕ → Type 0} {faults : I → ℕ} where
   pub payloads_error : {a b c : I} → KeepsNames holds is_sound faults a b → KeepsNames holds is_sound faults b c → (rel : List ℕ) (vrps scenario script : Option (List ℕ)) (links : LinkMap) (s : AskError)
       → ReadsAs (source_of holds is_sound faults a b) (Some rel) (λ (links : LinkMap). links) (Ok links) (λ reads. relations (reads file.Relations))
-      → ReadsAs (source_of holds is_sound faults b c) vrps (λ (payloads : Payloads). payloads) (Err s) (λ reads. payloads_by vrps (reads file.Payloads))
+      → ReadsAs (source_of holds is_sound faults b c) vrps (λ (payloads : Payloads). payloads) (Err s) (λ reads. payloads_of (reads file.Payloads))
       → Prepares (source_of holds is_sound faults a c) (Some (script_form rel vrps scenario script)) (Err s)
   payloads_error {a} {b} {c} p q rel vrps scenario script links s f g =
       no_payloads rel vrps scenario script f.read g.read links s
@@ -32,7 +32,7 @@ module _ {I : Type 0} {holds : I → List ℕ → Option (List ℕ)} {is_sound :
   pub scenario_error : {a b c d : I} → KeepsNames holds is_sound faults a b → KeepsNames holds is_sound faults b c → KeepsNames holds is_sound faults c d
       → (rel : List ℕ) (vrps scenario script : Option (List ℕ)) (links : LinkMap) (payloads : Payloads) (s : AskError)
       → ReadsAs (source_of holds is_sound faults a b) (Some rel) (λ (links : LinkMap). links) (Ok links) (λ reads. relations (reads file.Relations))
-      → ReadsAs (source_of holds is_sound faults b c) vrps (λ (payloads : Payloads). payloads) (Ok payloads) (λ reads. payloads_by vrps (reads file.Payloads))
+      → ReadsAs (source_of holds is_sound faults b c) vrps (λ (payloads : Payloads). payloads) (Ok payloads) (λ reads. payloads_of (reads file.Payloads))
       → ReadsAs (source_of holds is_sound faults c d) scenario (λ (plan : ScenarioValue). plan) (Err s) (λ reads. scenario_by scenario (reads file.Scenario))
       → Prepares (source_of holds is_sound faults a d) (Some (script_form rel vrps scenario script)) (Err s)
   scenario_error {a} {b} {c} {d} p q r rel vrps scenario script links payloads s f g h =
@@ -44,7 +44,7 @@ module _ {I : Type 0} {holds : I → List ℕ → Option (List ℕ)} {is_sound :
   pub lines_error : {a b c d e : I} → KeepsNames holds is_sound faults a b → KeepsNames holds is_sound faults b c → KeepsNames holds is_sound faults c d → KeepsNames holds is_sound faults d e
       → (rel : List ℕ) (vrps scenario script : Option (List ℕ)) (links : LinkMap) (payloads : Payloads) (plan : ScenarioValue) (s : AskError)
       → ReadsAs (source_of holds is_sound faults a b) (Some rel) (λ (links : LinkMap). links) (Ok links) (λ reads. relations (reads file.Relations))
-      → ReadsAs (source_of holds is_sound faults b c) vrps (λ (payloads : Payloads). payloads) (Ok payloads) (λ reads. payloads_by vrps (reads file.Payloads))
+      → ReadsAs (source_of holds is_sound faults b c) vrps (λ (payloads : Payloads). payloads) (Ok payloads) (λ reads. payloads_of (reads file.Payloads))
       → ReadsAs (source_of holds is_sound faults c d) scenario (λ (plan : ScenarioValue). plan) (Ok plan) (λ reads. scenario_by scenario (reads file.Scenario))
       → ReadsAs (source_of holds is_sound faults d e) script (λ (lines : List LineValue). lines) (Err s) (λ reads. script_lines (reads file.Script))
       → Prepares (source_of holds is_sound faults a e) (Some (script_form rel vrps scenario script)) (Err s)
@@ -58,7 +58,7 @@ module _ {I : Type 0} {holds : I → List ℕ → Option (List ℕ)} {is_sound :
   pub all_found : {a b c d e : I} → KeepsNames holds is_sound faults a b → KeepsNames holds is_sound faults b c → KeepsNames holds is_sound faults c d → KeepsNames holds is_sound faults d e
       → (rel : List ℕ) (vrps scenario script : Option (List ℕ)) (links : LinkMap) (payloads : Payloads) (plan : ScenarioValue) (lines : List LineValue) (x : Asked)
       → ReadsAs (source_of holds is_sound faults a b) (Some rel) (λ (links : LinkMap). links) (Ok links) (λ reads. relations (reads file.Relations))
-      → ReadsAs (source_of holds is_sound faults b c) vrps (λ (payloads : Payloads). payloads) (Ok payloads) (λ reads. payloads_by vrps (reads file.Payloads))
+      → ReadsAs (source_of holds is_sound faults b c) vrps (λ (payloads : Payloads). payloads) (Ok payloads) (λ reads. payloads_of (reads file.Payloads))
       → ReadsAs (source_of holds is_sound faults c d) scenario (λ (plan : ScenarioValue). plan) (Ok plan) (λ reads. scenario_by scenario (reads file.Scenario))
       → ReadsAs (source_of holds is_sound faults d e) script (λ (lines : List LineValue). lines) (Ok lines) (λ reads. script_lines (reads file.Script))
       → x ≡ script_task links payloads plan lines

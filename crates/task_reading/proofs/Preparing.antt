@@ -1,15 +1,19 @@
 -- What the form and the files ask for.
 use Rattle.std.proofs.Common.{◌≡◌, ℕ, true, false, List, [], ◌∷◌, Option, Some, None, Result, Ok, Err, refl, sym, ap, subst}
 use Rattle.net_names.specs.Links.{LinkMap}
+use Rattle.net_names.specs.Prefixes.{PrefixValue}
+use Rattle.net_names.specs.declared.addresses.Family.TheVariants.{V4}
 use Rattle.roa_table.specs.Sets.{Payloads, no_payloads as no_payload}
-use Rattle.scenario_text.specs.Scenarios.{ScenarioValue}
+use Rattle.scenario_text.specs.Scenarios.{ScenarioValue, nothing}
+use Rattle.scenario_text.specs.declared.acts.Act.TheVariants as act
+use Rattle.scenario_text.specs.declared.acts.Query.TheVariants as query
 use Rattle.scenario_text.specs.LineValues.{LineValue}
 use Rattle.scenario_text.specs.Walks.{◌>>=◌}
 use Rattle.topo_gen.specs.Drawn.{drawn_links}
 use Rattle.topo_gen.specs.Scenarios.{drawn_payloads, drawn_scenario}
 use Rattle.topo_gen.specs.Lines.{drawn_lines}
 use Rattle.task_reading.specs.Words.{Form, script_form, origin_form, demo_form, name_by}
-use Rattle.task_reading.specs.Asking.{Reads, announced_by, asked, origin_line}
+use Rattle.task_reading.specs.Asking.{Reads, asked}
 use Rattle.task_reading.specs.Files.{IsReadAs, AreReads, IsFaultOf, Finds, ReadsAs, Prepares}
 use Rattle.task_reading.specs.Sources.{Source}
 use Rattle.task_reading.specs.declared.asking.Asked.{Asked}
@@ -18,7 +22,7 @@ use Rattle.task_reading.specs.declared.types.AskError.{AskError}
 use Rattle.task_reading.specs.declared.types.AskError.TheVariants as error
 use Rattle.task_reading.specs.declared.types.Fault.{Fault}
 use Rattle.task_reading.specs.declared.types.Fault.TheVariants as fault
-use Rattle.task_reading.proofs.ReadLemmas.{relations, payloads_by, scenario_by, script_lines, some_read_as, bind_error}
+use Rattle.task_reading.proofs.ReadLemmas.{relations, payloads_of, scenario_by, script_lines, some_read_as, bind_error}
 
 -- what was asked for was found, or the error says why not
 abbrev Found : Result Asked AskError → Result Asked Fault → Type 0
@@ -26,7 +30,14 @@ Found result value = Finds (λ (found : Asked). found) result value
 
 -- the routes of all ASes to one origin
 abbrev pub origin_task : LinkMap → ℕ → Asked
-origin_task links origin = record { links = links; vrps = no_payload; scenario = announced_by origin; lines = origin_line ∷ []; heads = false; counts = false }
+origin_task links origin = let all : PrefixValue = record { family = V4; addr = 0; len = 0 } in record {
+  links = links;
+  vrps = no_payload;
+  scenario = record nothing { announcements = record { prefix = all; asn = origin; path = origin ∷ [] } ∷ [] };
+  lines = record { number = 1; act = act.Query (query.Routes 1 all) } ∷ [];
+  heads = false;
+  counts = false;
+}
 
 -- the answers to a script
 abbrev pub script_task : LinkMap → Payloads → ScenarioValue → List LineValue → Asked
@@ -81,13 +92,13 @@ abbrev second : LinkMap → Option (List ℕ) → Option (List ℕ) → Option (
 second links scenario c d payloads = payloads >>= λ payloads. third links payloads d (scenario_by scenario c)
 
 module _ (rel : List ℕ) (vrps scenario script a b c d : Option (List ℕ)) (links : LinkMap) (is_links : relations a ≡ Ok links) (result : Result Asked AskError) where
-  by_links : Found result (second links scenario c d (payloads_by vrps b)) → Found result (asked (Some (script_form rel vrps scenario script)) (four a b c d))
-  by_links h = subst (λ (found : Result LinkMap Fault). Found result (found >>= λ links. second links scenario c d (payloads_by vrps b))) (sym is_links) h
+  by_links : Found result (second links scenario c d (payloads_of b)) → Found result (asked (Some (script_form rel vrps scenario script)) (four a b c d))
+  by_links h = subst (λ (found : Result LinkMap Fault). Found result (found >>= λ links. second links scenario c d (payloads_of b))) (sym is_links) h
 
-  by_payloads : (payloads : Payloads) → payloads_by vrps b ≡ Ok payloads → Found result (third links payloads d (scenario_by scenario c)) → Found result (asked (Some (script_form rel vrps scenario script)) (four a b c d))
+  by_payloads : (payloads : Payloads) → payloads_of b ≡ Ok payloads → Found result (third links payloads d (scenario_by scenario c)) → Found result (asked (Some (script_form rel vrps scenario script)) (four a b c d))
   by_payloads payloads is h = by_links (subst (λ (v : Result Payloads Fault). Found result (second links scenario c d v)) (sym is) h)
 
-  by_plan : (payloads : Payloads) (plan : ScenarioValue) → payloads_by vrps b ≡ Ok payloads → scenario_by scenario c ≡ Ok plan → Found result (last links payloads plan (script_lines d))
+  by_plan : (payloads : Payloads) (plan : ScenarioValue) → payloads_of b ≡ Ok payloads → scenario_by scenario c ≡ Ok plan → Found result (last links payloads plan (script_lines d))
       → Found result (asked (Some (script_form rel vrps scenario script)) (four a b c d))
   by_plan payloads plan is_payloads is h = by_payloads payloads is_payloads (subst (λ (v : Result ScenarioValue Fault). Found result (third links payloads d v)) (sym is) h)
 
@@ -118,9 +129,9 @@ module _ {from : Source} where
       let b = some_read_as from vrps in
       let c = some_read_as from scenario in
       let d = some_read_as from script in
-      record { reads = four a b.0 c.0 d.0; are_read = four_read from rel vrps scenario script a b.0 c.0 d.0 p b.1 c.1 d.1; finds = bind_error (relations a) (λ links. second links scenario c.0 d.0 (payloads_by vrps b.0)) s h }
+      record { reads = four a b.0 c.0 d.0; are_read = four_read from rel vrps scenario script a b.0 c.0 d.0 p b.1 c.1 d.1; finds = bind_error (relations a) (λ links. second links scenario c.0 d.0 (payloads_of b.0)) s h }
 
-  pub no_payloads : (rel : List ℕ) (vrps scenario script a b : Option (List ℕ)) (links : LinkMap) (s : AskError) → IsReadAs from (Some rel) a → relations a ≡ Ok links → IsReadAs from vrps b → IsFaultOf s (payloads_by vrps b)
+  pub no_payloads : (rel : List ℕ) (vrps scenario script a b : Option (List ℕ)) (links : LinkMap) (s : AskError) → IsReadAs from (Some rel) a → relations a ≡ Ok links → IsReadAs from vrps b → IsFaultOf s (payloads_of b)
       → Prepares from (Some (script_form rel vrps scenario script)) (Err s)
   no_payloads rel vrps scenario script a b links s p is_links q h =
       let c = some_read_as from scenario in
@@ -128,11 +139,11 @@ module _ {from : Source} where
       record {
         reads = four a b c.0 d.0;
         are_read = four_read from rel vrps scenario script a b c.0 d.0 p q c.1 d.1;
-        finds = by_links rel vrps scenario script a b c.0 d.0 links is_links (Err s) (bind_error (payloads_by vrps b) (λ payloads. third links payloads d.0 (scenario_by scenario c.0)) s h);
+        finds = by_links rel vrps scenario script a b c.0 d.0 links is_links (Err s) (bind_error (payloads_of b) (λ payloads. third links payloads d.0 (scenario_by scenario c.0)) s h);
       }
 
   pub no_scenario : (rel : List ℕ) (vrps scenario script a b c : Option (List ℕ)) (links : LinkMap) (payloads : Payloads) (s : AskError) → IsReadAs from (Some rel) a → relations a ≡ Ok links
-      → IsReadAs from vrps b → payloads_by vrps b ≡ Ok payloads → IsReadAs from scenario c → IsFaultOf s (scenario_by scenario c) → Prepares from (Some (script_form rel vrps scenario script)) (Err s)
+      → IsReadAs from vrps b → payloads_of b ≡ Ok payloads → IsReadAs from scenario c → IsFaultOf s (scenario_by scenario c) → Prepares from (Some (script_form rel vrps scenario script)) (Err s)
   no_scenario rel vrps scenario script a b c links payloads s p is_links q is_payloads r h =
       let d = some_read_as from script in
       record {
@@ -142,7 +153,7 @@ module _ {from : Source} where
       }
 
   pub no_lines : (rel : List ℕ) (vrps scenario script a b c d : Option (List ℕ)) (links : LinkMap) (payloads : Payloads) (plan : ScenarioValue) (s : AskError) → IsReadAs from (Some rel) a → relations a ≡ Ok links
-      → IsReadAs from vrps b → payloads_by vrps b ≡ Ok payloads → IsReadAs from scenario c → scenario_by scenario c ≡ Ok plan
+      → IsReadAs from vrps b → payloads_of b ≡ Ok payloads → IsReadAs from scenario c → scenario_by scenario c ≡ Ok plan
       → IsReadAs from script d → IsFaultOf s (script_lines d) → Prepares from (Some (script_form rel vrps scenario script)) (Err s)
   no_lines rel vrps scenario script a b c d links payloads plan s p is_links q is_payloads r is_plan t h = record {
     reads = four a b c d;
@@ -151,7 +162,7 @@ module _ {from : Source} where
   }
 
   pub all_read : (rel : List ℕ) (vrps scenario script a b c d : Option (List ℕ)) (links : LinkMap) (payloads : Payloads) (plan : ScenarioValue) (lines : List LineValue) (x : Asked) → IsReadAs from (Some rel) a → relations a ≡ Ok links
-      → IsReadAs from vrps b → payloads_by vrps b ≡ Ok payloads → IsReadAs from scenario c → scenario_by scenario c ≡ Ok plan
+      → IsReadAs from vrps b → payloads_of b ≡ Ok payloads → IsReadAs from scenario c → scenario_by scenario c ≡ Ok plan
       → IsReadAs from script d → script_lines d ≡ Ok lines → x ≡ script_task links payloads plan lines → Prepares from (Some (script_form rel vrps scenario script)) (Ok x)
   all_read rel vrps scenario script a b c d links payloads plan lines x p is_links q is_payloads r is_plan t is_lines is = record {
     reads = four a b c d;

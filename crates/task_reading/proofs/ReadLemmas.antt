@@ -12,12 +12,12 @@ use Rattle.task_reading.specs.Files.{IsRead, IsReadAs, IsFaultOf, Finds, ReadsTo
 use Rattle.net_names.specs.Links.{LinkMap}
 use Rattle.caida_reader.specs.Value.{links_of}
 use Rattle.roa_table.specs.Files.{payloads_in}
-use Rattle.roa_table.specs.Sets.{Payloads, no_payloads}
+use Rattle.roa_table.specs.Sets.{Payloads}
 use Rattle.scenario_text.specs.LineValues.{LineValue}
 use Rattle.scenario_text.specs.Readings.{scenario_of_bytes}
 use Rattle.scenario_text.specs.Scenarios.{ScenarioValue, nothing}
 use Rattle.scenario_text.specs.Script.{script_of}
-use Rattle.task_reading.specs.Asking.{Reads, bytes_of, most_bytes, read_as}
+use Rattle.task_reading.specs.Asking.{Reads, bytes_of, read_as}
 use Rattle.task_reading.specs.declared.types.File.TheVariants as file
 use Rattle.task_reading.specs.declared.types.File.{File}
 use Rattle.task_reading.specs.declared.types.Fault.{Fault}
@@ -44,19 +44,19 @@ or_fault which as_cause value = result_map_both (λ x. x) (λ e. fault.InFile wh
 
 -- the links of what was read
 abbrev pub relations : Option (List ℕ) → Result LinkMap Fault
-relations read = read_as file.Relations cause.Relation links_of (λ _. read)
+relations read = read_as file.Relations 268435456 cause.Relation links_of (λ _. read)
 
--- the payloads of what was read of the file of this name
-abbrev pub payloads_by : Option (List ℕ) → Option (List ℕ) → Result Payloads Fault
-payloads_by name read = option_map_or (λ _. read_as file.Payloads cause.Payload payloads_in (λ _. read)) name (Ok no_payloads)
+-- the payloads of what was read
+abbrev pub payloads_of : Option (List ℕ) → Result Payloads Fault
+payloads_of read = read_as file.Payloads 268435456 cause.Payload payloads_in (λ _. read)
 
 -- the scenario of what was read of the file of this name
 abbrev pub scenario_by : Option (List ℕ) → Option (List ℕ) → Result ScenarioValue Fault
-scenario_by name read = option_map_or (λ _. read_as file.Scenario cause.Scenario scenario_of_bytes (λ _. read)) name (Ok nothing)
+scenario_by name read = option_map_or (λ _. read_as file.Scenario 16777216 cause.Scenario scenario_of_bytes (λ _. read)) name (Ok nothing)
 
 -- the lines of what was read
 abbrev pub script_lines : Option (List ℕ) → Result (List LineValue) Fault
-script_lines read = read_as file.Script cause.Script script_of (λ _. read)
+script_lines read = read_as file.Script 16777216 cause.Script script_of (λ _. read)
 
 -- something was read of each file
 some_read : (held : Option (List ℕ)) (fails : Type 0) → (read : Option (List ℕ)) × IsRead held fails read
@@ -70,32 +70,32 @@ some_read_as from name = some_read (option_map_or from.holds name (Some [])) (Is
 pub no_room : {X A : Type 0} {held : Option (List ℕ)} {fails : Type 0} {view : X → A} {value : Reads → Result A Fault} → ReadsTo held fails view (Err error.Memory) value
 no_room {X} {A} {held} {fails} {view} {value} = let r = some_read held fails in record { read = r.0; is_read = r.1; finds = tt }
 
-pub too_long : (which : File) (bytes : List ℕ) → most_bytes which < length bytes → bytes_of which (Some bytes) ≡ Err (fault.InFile which (cause.TooLong (most_bytes which)))
-too_long which bytes h = rw (lt-ltb (most_bytes which) (length bytes) h) refl
+pub too_long : (which : File) (most : ℕ) (bytes : List ℕ) → most < length bytes → bytes_of which most (Some bytes) ≡ Err (fault.InFile which (cause.TooLong most))
+too_long which most bytes h = rw (lt-ltb most (length bytes) h) refl
 
 -- a file within its limit
-pub whole : (which : File) (bytes : List ℕ) → length bytes ≤ most_bytes which → bytes_of which (Some bytes) ≡ Ok bytes
-whole which bytes h = rw (le-ltb (most_bytes which) (length bytes) h) refl
+pub whole : (which : File) (most : ℕ) (bytes : List ℕ) → length bytes ≤ most → bytes_of which most (Some bytes) ≡ Ok bytes
+whole which most bytes h = rw (le-ltb most (length bytes) h) refl
 
 -- the file was read whole
-pub read_whole : (which : File) (held : Option (List ℕ)) (fails : Type 0) (X : Type 0) (view : X → List ℕ) (x : X) → (length (view x) ≤ most_bytes which) × Keeps held (Some (view x)) → ReadsTo held fails view (Ok x) (λ reads. bytes_of which (reads which))
-read_whole which held fails X view x h = record { read = Some (view x); is_read = h.1; finds = whole which (view x) h.0 }
+pub read_whole : (which : File) (most : ℕ) (held : Option (List ℕ)) (fails : Type 0) (X : Type 0) (view : X → List ℕ) (x : X) → (length (view x) ≤ most) × Keeps held (Some (view x)) → ReadsTo held fails view (Ok x) (λ reads. bytes_of which most (reads which))
+read_whole which most held fails X view x h = record { read = Some (view x); is_read = h.1; finds = whole which most (view x) h.0 }
 
 -- a read of the file failed
-pub read_failed : (which : File) (held : Option (List ℕ)) (fails : Type 0) (X : Type 0) (view : X → List ℕ) → fails → ReadsTo held fails view (Err (error.Fault (fault.InFile which cause.Unread))) (λ reads. bytes_of which (reads which))
-read_failed which held fails X view h = record { read = None; is_read = h; finds = refl }
+pub read_failed : (which : File) (most : ℕ) (held : Option (List ℕ)) (fails : Type 0) (X : Type 0) (view : X → List ℕ) → fails → ReadsTo held fails view (Err (error.Fault (fault.InFile which cause.Unread))) (λ reads. bytes_of which most (reads which))
+read_failed which most held fails X view h = record { read = None; is_read = h; finds = refl }
 
 -- the file is longer than it may be
-pub read_long : (which : File) (held : Option (List ℕ)) (fails : Type 0) (X : Type 0) (view : X → List ℕ) → IfSome held (λ file. most_bytes which < length file) → ReadsTo held fails view (Err (error.Fault (fault.InFile which (cause.TooLong (most_bytes which))))) (λ reads. bytes_of which (reads which))
-read_long which None fails X view h =
-    let long : List ℕ = replicate (most_bytes which + 1) 0 in
-    record { read = Some long; is_read = tt; finds = too_long which long (omega (arith, length-replicate {A = ℕ} (most_bytes which + 1) 0)) }
-read_long which (Some bytes) fails X view h = record { read = Some bytes; is_read = refl; finds = too_long which bytes h }
+pub read_long : (which : File) (most : ℕ) (held : Option (List ℕ)) (fails : Type 0) (X : Type 0) (view : X → List ℕ) → IfSome held (λ file. most < length file) → ReadsTo held fails view (Err (error.Fault (fault.InFile which (cause.TooLong most)))) (λ reads. bytes_of which most (reads which))
+read_long which most None fails X view h =
+    let long : List ℕ = replicate (most + 1) 0 in
+    record { read = Some long; is_read = tt; finds = too_long which most long (omega (arith, length-replicate {A = ℕ} (most + 1) 0)) }
+read_long which most (Some bytes) fails X view h = record { read = Some bytes; is_read = refl; finds = too_long which most bytes h }
 
 -- a file that is longer than its limit
-pub long_file : (which : File) (held left : Option (List ℕ)) (limit : ℕ) → limit ≡ most_bytes which → IfSome held (λ bytes. (limit < length bytes) × (left ≡ Some (drop (limit + 1) bytes))) → IfSome held (λ bytes. most_bytes which < length bytes)
-long_file which None left limit is h = h
-long_file which (Some bytes) left limit is h = rw is at h.0
+pub long_file : (held left : Option (List ℕ)) (most : ℕ) → IfSome held (λ bytes. (most < length bytes) × (left ≡ Some (drop (most + 1) bytes))) → IfSome held (λ bytes. most < length bytes)
+long_file None left most h = h
+long_file (Some bytes) left most h = h.0
 
 -- an error goes through what follows
 pub bind_error : {A B : Type 0} (value : Result A Fault) (f : A → Result B Fault) (s : AskError) → IsFaultOf s value → IsFaultOf s (value >>= f)

@@ -21,9 +21,9 @@ IsRead held fails None = fails
 abbrev pub IsReadAs : Source → Option Text → Option Text → Type 0
 IsReadAs from name = IsRead (option_map_or from.holds name (Some [])) (IsSomeAnd name from.fails)
 
--- each file was read under the name that the form gives it
+-- Each file was read under the name that the form gives it. One that isn't named counts as empty, and no read of it fails.
 abbrev pub AreReads : Source → Option Form → Reads → Type 0
-AreReads from form reads = (file : File) → IsReadAs from (name_by form file) (reads file)
+AreReads from form reads = (file : File) → let name = name_by form file in IsRead (option_map_or from.holds name (Some [])) (IsSomeAnd name from.fails) (reads file)
 
 -- the error is the value's fault, unless memory ran out
 abbrev pub IsFaultOf : {A : Type 0} → AskError → Result A Fault → Type 0

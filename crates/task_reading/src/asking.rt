@@ -1,6 +1,9 @@
 //! From the form of the words and the files to what is asked.
 ghost use Rattle.std.specs.Prelude.{◌≡◌, ◌≤◌, ◌∷◌, [], IfOk, option_map, Some};
-ghost use Rattle.task_reading.specs.Asking.{all_addresses, announced_by, origin_line};
+ghost use Rattle.net_names.specs.declared.addresses.Family.TheVariants.{V4};
+ghost use Rattle.scenario_text.specs.Scenarios.{nothing};
+ghost use Rattle.scenario_text.specs.declared.acts.Act.TheVariants as act;
+ghost use Rattle.scenario_text.specs.declared.acts.Query.TheVariants as query;
 ghost use Rattle.task_reading.specs.Files.{Prepares};
 ghost use Rattle.task_reading.specs.Sources.{source_of};
 ghost use Rattle.task_reading.specs.Words.{HasSize, demo_form, form_seen, origin_form, script_form, text_seen};
@@ -34,7 +37,7 @@ pub struct Asked {
 
 // 0.0.0.0/0.
 fn all_v4_addresses() -> Prefix
-    ensures { result ≡ all_addresses }
+    ensures { result ≡ record { family = V4; addr = 0; len = 0 } }
 {
     let Some(prefix) = Prefix::new(Family::V4, 0, 0) else {
         unreachable!();
@@ -44,7 +47,7 @@ fn all_v4_addresses() -> Prefix
 
 // The scenario in which an AS announces 0.0.0.0/0 by its own number.
 fn origin_scenario(alloc: Global, origin: Asn) -> Result<Scenario, NoMemory>
-    ensures { IfOk result (λ s. s ≡ announced_by origin) }
+    ensures { IfOk result (λ s. s ≡ record nothing { announcements = record { prefix = record { family = V4; addr = 0; len = 0 }; asn = origin; path = origin ∷ [] } ∷ [] }) }
 {
     let mut path = Path::new(alloc);
     path.push(origin)?;
@@ -59,7 +62,7 @@ fn origin_scenario(alloc: Global, origin: Asn) -> Result<Scenario, NoMemory>
 
 // The line that asks for the routes of 0.0.0.0/0.
 fn origin_lines(alloc: Global) -> Result<Lines, NoMemory>
-    ensures { IfOk result (λ lines. lines ≡ origin_line ∷ []) }
+    ensures { IfOk result (λ lines. lines ≡ record { number = 1; act = act.Query (query.Routes 1 (record { family = V4; addr = 0; len = 0 })) } ∷ []) }
 {
     let mut lines = Lines::new(alloc);
     let prefix = all_v4_addresses();

@@ -1,14 +1,13 @@
 //! The files of a run: each is read to its end, or to one byte past its limit, before it is judged.
-ghost use Rattle.std.specs.Prelude.{◌≡◌, ◌<◌, Some, length};
+ghost use Rattle.std.specs.Prelude.{◌≡◌, ◌<◌, ◌≤◌, Some, Ok, length};
 ghost use Rattle.std.specs.Option.{option_map_or};
 ghost use Rattle.caida_reader.specs.Value.{links_of};
 ghost use Rattle.io_edge.specs.Faults.{KeepsNames};
 ghost use Rattle.roa_table.specs.Files.{payloads_in};
-ghost use Rattle.roa_table.specs.Sets.{no_payloads};
 ghost use Rattle.scenario_text.specs.Readings.{scenario_of_bytes};
 ghost use Rattle.scenario_text.specs.Scenarios.{nothing};
 ghost use Rattle.scenario_text.specs.Script.{script_of};
-ghost use Rattle.task_reading.specs.Asking.{bytes_of, most_bytes, read_as};
+ghost use Rattle.task_reading.specs.Asking.{bytes_of, read_as};
 ghost use Rattle.task_reading.specs.Files.{ReadsAs};
 ghost use Rattle.task_reading.specs.Sources.{source_of};
 ghost use Rattle.task_reading.specs.Words.{text_seen};
@@ -24,21 +23,14 @@ use roa_table::Vrps;
 use scenario_text::{Lines, Scenario, read_scenario, read_script};
 use std::alloc::Global;
 
-// The most bytes of a relationship file.
-const MAX_RELATION_BYTES: usize = 268_435_456;
+// The most bytes of a relationship file and of a payload file.
+const MAX_LIST_BYTES: usize = 268_435_456;
+
+// The most bytes of a scenario and of a script.
+const MAX_TEXT_BYTES: usize = 16_777_216;
 
 // How many bytes are taken at once.
 const PIECE: usize = 65_536;
-
-// The most bytes of a file.
-fn limit_of(file: File) -> usize
-    ensures { result ≡ most_bytes file }
-{
-    match file {
-        File::Relations | File::Payloads => 268_435_456,
-        File::Scenario | File::Script => 16_777_216,
-    }
-}
 
 // Reads the relationship file in pieces as long as the room.
 fn read_pieces<I: Inputs>(
@@ -49,7 +41,7 @@ fn read_pieces<I: Inputs>(
 ) -> Result<Links, AskError>
     requires { 0 < length room.old }
     ensures found { ReadsAs (source_of I.holds I.is_sound I.faults inputs.old inputs.new) (Some name.now)
-        (λ links. links) result (read_as files.Relations cause.Relation links_of) }
+        (λ links. links) result (read_as files.Relations 268435456 cause.Relation links_of) }
     ensures keeps { KeepsNames I.holds I.is_sound I.faults inputs.old inputs.new }
 {
     if inputs.begin(name).is_err() {
@@ -58,8 +50,8 @@ fn read_pieces<I: Inputs>(
     let mut reader = Reader::new(alloc);
     let most = room.len();
     let mut taken = 0usize;
-    'pieces: while taken <= MAX_RELATION_BYTES {
-        let want = (MAX_RELATION_BYTES + 1 - taken).min(most);
+    'pieces: while taken <= MAX_LIST_BYTES {
+        let want = (MAX_LIST_BYTES + 1 - taken).min(most);
         match inputs.take(&mut room[..want]) {
             Err(Failed) => return Err(AskError::Fault(Fault::InFile(
                 File::Relations,
@@ -78,7 +70,7 @@ fn read_pieces<I: Inputs>(
             }
         }
     }
-    Err(AskError::Fault(Fault::InFile(File::Relations, Cause::TooLong(MAX_RELATION_BYTES))))
+    Err(AskError::Fault(Fault::InFile(File::Relations, Cause::TooLong(MAX_LIST_BYTES))))
 }
 
 /// Reads the relationship file.
@@ -88,7 +80,7 @@ pub fn read_relations<I: Inputs>(
     name: &str,
 ) -> Result<Links, AskError>
     ensures found { ReadsAs (source_of I.holds I.is_sound I.faults inputs.old inputs.new) (Some name.now)
-        (λ links. links) result (read_as files.Relations cause.Relation links_of) }
+        (λ links. links) result (read_as files.Relations 268435456 cause.Relation links_of) }
     ensures keeps { KeepsNames I.holds I.is_sound I.faults inputs.old inputs.new }
 {
     let Ok(mut room) = vec![in alloc; 0u8; PIECE] else {
@@ -97,18 +89,19 @@ pub fn read_relations<I: Inputs>(
     read_pieces(alloc, inputs, name, room.as_mut_slice())
 }
 
-// Reads the bytes of a file.
+// Reads the bytes of a file that may have so many.
 fn read_bytes<I: Inputs>(
     alloc: Global,
     inputs: &mut I,
     file: File,
+    most: usize,
     name: &str,
 ) -> Result<Vec<u8>, AskError>
+    requires { most ≤ 268435456 }
     ensures found { ReadsAs (source_of I.holds I.is_sound I.faults inputs.old inputs.new) (Some name.now)
-        (λ bytes. bytes.items) result (λ reads. bytes_of file (reads file)) }
+        (λ bytes. bytes.items) result (λ reads. bytes_of file most (reads file)) }
     ensures keeps { KeepsNames I.holds I.is_sound I.faults inputs.old inputs.new }
 {
-    let most = limit_of(file);
     match read_all(alloc, inputs, name, most) {
         Ok(bytes) => Ok(bytes),
         Err(ReadAllError::Memory) => Err(AskError::Memory),
@@ -127,13 +120,13 @@ pub fn read_payloads<I: Inputs>(
     name: Option<&str>,
 ) -> Result<Vrps, AskError>
     ensures found { ReadsAs (source_of I.holds I.is_sound I.faults inputs.old inputs.new) (text_seen name.entry)
-        (λ vrps. vrps) result (λ reads. option_map_or (λ _. read_as files.Payloads cause.Payload payloads_in reads) (text_seen name.entry) (Ok no_payloads)) }
+        (λ vrps. vrps) result (read_as files.Payloads 268435456 cause.Payload payloads_in) }
     ensures keeps { KeepsNames I.holds I.is_sound I.faults inputs.old inputs.new }
 {
     let Some(name) = name else {
         return Ok(Vrps::new(alloc));
     };
-    let bytes = match read_bytes(alloc, inputs, File::Payloads, name) {
+    let bytes = match read_bytes(alloc, inputs, File::Payloads, MAX_LIST_BYTES, name) {
         Ok(bytes) => bytes,
         Err(error) => return Err(error),
     };
@@ -150,13 +143,13 @@ pub fn read_plan<I: Inputs>(
     name: Option<&str>,
 ) -> Result<Scenario, AskError>
     ensures found { ReadsAs (source_of I.holds I.is_sound I.faults inputs.old inputs.new) (text_seen name.entry)
-        (λ scenario. scenario) result (λ reads. option_map_or (λ _. read_as files.Scenario cause.Scenario scenario_of_bytes reads) (text_seen name.entry) (Ok nothing)) }
+        (λ scenario. scenario) result (λ reads. option_map_or (λ _. read_as files.Scenario 16777216 cause.Scenario scenario_of_bytes reads) (text_seen name.entry) (Ok nothing)) }
     ensures keeps { KeepsNames I.holds I.is_sound I.faults inputs.old inputs.new }
 {
     let Some(name) = name else {
         return Ok(Scenario::new(alloc));
     };
-    let bytes = match read_bytes(alloc, inputs, File::Scenario, name) {
+    let bytes = match read_bytes(alloc, inputs, File::Scenario, MAX_TEXT_BYTES, name) {
         Ok(bytes) => bytes,
         Err(error) => return Err(error),
     };
@@ -173,13 +166,13 @@ pub fn read_lines<I: Inputs>(
     name: Option<&str>,
 ) -> Result<Lines, AskError>
     ensures found { ReadsAs (source_of I.holds I.is_sound I.faults inputs.old inputs.new) (text_seen name.entry)
-        (λ lines. lines) result (read_as files.Script cause.Script script_of) }
+        (λ lines. lines) result (read_as files.Script 16777216 cause.Script script_of) }
     ensures keeps { KeepsNames I.holds I.is_sound I.faults inputs.old inputs.new }
 {
     let Some(name) = name else {
         return Ok(Lines::new(alloc));
     };
-    let bytes = match read_bytes(alloc, inputs, File::Script, name) {
+    let bytes = match read_bytes(alloc, inputs, File::Script, MAX_TEXT_BYTES, name) {
         Ok(bytes) => bytes,
         Err(error) => return Err(error),
     };
