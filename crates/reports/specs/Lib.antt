@@ -4,3 +4,4 @@ pub mod Held
 pub mod Validity
 pub mod Traces
 pub mod Counts
+pub mod Groups

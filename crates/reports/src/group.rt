@@ -1,7 +1,8 @@
 //! The groups of ASes that are counted together.
 ghost use Rattle.std.specs.Prelude.{◌≡◌, ◌++◌, OnOk, OnErr};
 ghost use Rattle.data_trace.specs.Views.{rows_of};
-ghost use Rattle.reports.specs.Counts.{group_of, is_printed as is_group_printed};
+ghost use Rattle.reports.specs.Counts.{group_name};
+ghost use Rattle.reports.specs.Groups.{group_size, is_printed as is_group_printed, which_of};
 ghost use Rattle.reports.specs.Growth.{Grows};
 
 use crate::bytes::put_bytes;
@@ -24,7 +25,7 @@ pub enum Group {
 impl Group {
     /// Which ASes the group has.
     pub fn which(self) -> Which
-        ensures { result ≡ (group_of self).1 }
+        ensures { result ≡ which_of self }
     {
         match self {
             Group::Total => Which::All,
@@ -35,7 +36,7 @@ impl Group {
 
     /// Whether the group is printed: a kind is only where some AS has it.
     pub fn is_printed(self, watch: &Watch) -> bool
-        ensures { result ≡ is_group_printed (rows_of watch.now) self }
+        ensures { result ≡ is_group_printed (group_size (rows_of watch.now)) self }
     {
         match self {
             Group::Total | Group::Stub => true,
@@ -45,7 +46,7 @@ impl Group {
 
     /// Appends the group's name.
     pub fn put_name(self, out: &mut Vec<u8>) -> Result<(), NoMemory>
-        ensures ok { OnOk result (out.new.items ≡ out.old.items ++ (group_of self).0) }
+        ensures ok { OnOk result (out.new.items ≡ out.old.items ++ group_name self) }
         ensures err { OnErr result (Grows out.old.items out.new.items) }
     {
         match self {

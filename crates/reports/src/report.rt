@@ -3,9 +3,9 @@ ghost use Rattle.std.specs.Prelude.{◌≡◌, ◌==◌, ◌++◌, ◌∷◌, []
 ghost use Rattle.std.specs.List.{flat_map};
 ghost use Rattle.stability_laws.specs.Plans.{announcers_of};
 ghost use Rattle.data_trace.specs.Views.{rows_of};
-ghost use Rattle.data_trace.specs.Watches.{size_of};
 ghost use Rattle.reports.specs.Growth.{Grows};
-ghost use Rattle.reports.specs.Counts.{count_row, delivered_text, end_row, group_of, group_text, report_text};
+ghost use Rattle.reports.specs.Counts.{count_row, delivered_text, group_text, report_text};
+ghost use Rattle.reports.specs.Groups.{group_count, group_size, printed_text};
 
 use crate::bytes::{put_bytes, put_number};
 use crate::group::Group;
@@ -69,7 +69,7 @@ fn append_delivered(
     group: Group,
     asn: Asn,
 ) -> Result<(), NoMemory>
-    ensures ok { OnOk result (out.new.items ≡ out.old.items ++ delivered_text (rows_of watch.now) group asn) }
+    ensures ok { OnOk result (out.new.items ≡ out.old.items ++ delivered_text (group_count (rows_of watch.now)) group asn) }
     ensures err { OnErr result (Grows out.old.items out.new.items) }
 {
     append_some(out, group, asn, watch.count(group.which(), End::At(asn)))
@@ -82,7 +82,7 @@ fn append_all_delivered(
     watch: &Watch,
     group: Group,
 ) -> Result<(), NoMemory>
-    ensures ok { OnOk result (out.new.items ≡ out.old.items ++ flat_map (delivered_text (rows_of watch.now) group) announcers.now) }
+    ensures ok { OnOk result (out.new.items ≡ out.old.items ++ flat_map (delivered_text (group_count (rows_of watch.now)) group) announcers.now) }
     ensures err { OnErr result (Grows out.old.items out.new.items) }
 {
     for asn in announcers {
@@ -96,7 +96,7 @@ fn append_all_delivered(
 
 // Appends the row of the number of a group's ASes.
 fn append_size(out: &mut Vec<u8>, watch: &Watch, group: Group) -> Result<(), NoMemory>
-    ensures ok { OnOk result (out.new.items ≡ out.old.items ++ count_row group (codes "ases") (size_of (rows_of watch.now) (group_of group).1)) }
+    ensures ok { OnOk result (out.new.items ≡ out.old.items ++ count_row group (codes "ases") (group_size (rows_of watch.now) group)) }
     ensures err { OnErr result (Grows out.old.items out.new.items) }
 {
     append_row(out, group, b"ases", watch.ases(group.which()))
@@ -110,22 +110,21 @@ fn append_end(
     what: &[u8],
     end: End,
 ) -> Result<(), NoMemory>
-    ensures ok { OnOk result (out.new.items ≡ out.old.items ++ end_row (rows_of watch.now) group what.now end) }
+    ensures ok { OnOk result (out.new.items ≡ out.old.items ++ count_row group what.now (group_count (rows_of watch.now) group end)) }
     ensures err { OnErr result (Grows out.old.items out.new.items) }
 {
     append_row(out, group, what, watch.count(group.which(), end))
 }
 
 // Appends the rows of a group.
+#[tactic(auto, unfolding(crate::specs::Counts::group_text))]
 fn append_rows(
     out: &mut Vec<u8>,
     announcers: &[Asn],
     watch: &Watch,
     group: Group,
 ) -> Result<(), NoMemory>
-    ensures ok { OnOk result (out.new.items ≡ out.old.items ++ (count_row group (codes "ases") (size_of (rows_of watch.now) (group_of group).1)
-        ++ (flat_map (delivered_text (rows_of watch.now) group) announcers.now
-        ++ (end_row (rows_of watch.now) group (codes "no-route") End.NoRoute ++ end_row (rows_of watch.now) group (codes "loop") End.Loop)))) }
+    ensures ok { OnOk result (out.new.items ≡ out.old.items ++ group_text (group_size (rows_of watch.now)) (group_count (rows_of watch.now)) announcers.now group) }
     ensures err { OnErr result (Grows out.old.items out.new.items) }
 {
     append_size(out, watch, group)?;
@@ -135,14 +134,13 @@ fn append_rows(
 }
 
 // Appends the rows of a group, if it is printed.
-#[tactic(auto, unfolding(crate::specs::Counts::group_text))]
 fn append_group(
     out: &mut Vec<u8>,
     announcers: &[Asn],
     watch: &Watch,
     group: Group,
 ) -> Result<(), NoMemory>
-    ensures ok { OnOk result (out.new.items ≡ out.old.items ++ group_text (rows_of watch.now) announcers.now group) }
+    ensures ok { OnOk result (out.new.items ≡ out.old.items ++ printed_text (rows_of watch.now) announcers.now group) }
     ensures err { OnErr result (Grows out.old.items out.new.items) }
 {
     if !group.is_printed(watch) {
@@ -158,7 +156,7 @@ fn append_groups(
     watch: &Watch,
     groups: &[Group],
 ) -> Result<(), NoMemory>
-    ensures ok { OnOk result (out.new.items ≡ out.old.items ++ flat_map (group_text (rows_of watch.now) announcers.now) groups.now) }
+    ensures ok { OnOk result (out.new.items ≡ out.old.items ++ flat_map (printed_text (rows_of watch.now) announcers.now) groups.now) }
     ensures err { OnErr result (Grows out.old.items out.new.items) }
 {
     for group in groups {
@@ -178,7 +176,7 @@ fn append_groups(
 /// The format is this project's own.
 #[tactic(auto, unfolding(crate::specs::Counts::report_text))]
 pub fn put_report(out: &mut Vec<u8>, plan: &SeedPlan, watch: &Watch) -> Result<(), NoMemory>
-    ensures ok { OnOk result (out.new.items ≡ out.old.items ++ report_text (rows_of watch.now) (announcers_of plan.now)) }
+    ensures ok { OnOk result (out.new.items ≡ out.old.items ++ report_text (group_size (rows_of watch.now)) (group_count (rows_of watch.now)) (announcers_of plan.now)) }
     ensures err { OnErr result (out.new.items ≡ out.old.items) }
 {
     let kept = out.len();
