@@ -48,8 +48,7 @@ asked (Some (demo_form n)) reads = Ok (record { links = drawn_links n; vrps = dr
 asked (Some (origin_form _ origin)) reads = do
   links ← read_as file.Relations 268435456 cause.Relation links_of reads
   let all : PrefixValue = record { family = V4; addr = 0; len = 0 } in
-    Ok (record { heads = false; counts = false; links = links; vrps = fin.empty; scenario = record nothing { announcements = record { prefix = all; asn = origin; path = origin ∷ [] } ∷ [] };
-      lines = record { number = 1; act = Query (Routes 1 all) } ∷ [] })
+      Ok (record { links = links; vrps = fin.empty; scenario = record nothing { announcements = record { prefix = all; asn = origin; path = origin ∷ [] } ∷ [] }; lines = record { number = 1; act = Query (Routes 1 all) } ∷ []; heads = false; counts = false })
 asked (Some (script_form _ _ scenario _)) reads = do
   links ← read_as file.Relations 268435456 cause.Relation links_of reads
   payloads ← read_as file.Payloads 268435456 cause.Payload payloads_in reads
