@@ -1,4 +1,4 @@
-use Rattle.std.proofs.Common.{ℕ, OnOk, subst, sym}
+use Rattle.std.proofs.Common.{ℕ, OnOk, subst}
 use Rattle.sim_core.specs.Views.{kept, world_seen}
 use Rattle.sim_core.specs.Steps.{IsQuick}
 use Rattle.sim_core.specs.Kept.{Kept}
