@@ -19,6 +19,7 @@ use Rattle.topo_gen.specs.Scenarios.{drawn_payloads, drawn_scenario}
 use Rattle.topo_gen.specs.Lines.{drawn_lines}
 use Rattle.task_reading.specs.Words.{Form, script_form, origin_form, demo_form}
 use Rattle.task_reading.specs.declared.asking.Asked.{Asked}
+use Rattle.task_reading.specs.declared.reading.TheConstants.{MOST_LIST_BYTES, MOST_TEXT_BYTES}
 use Rattle.task_reading.specs.declared.types.File.{File}
 use Rattle.task_reading.specs.declared.types.File.TheVariants as file
 use Rattle.task_reading.specs.declared.types.Cause.{Cause}
@@ -46,12 +47,12 @@ abbrev pub asked : Option Form → Reads → Result Asked Fault
 asked None reads = Err fault.Usage
 asked (Some (demo_form n)) reads = Ok (record { links = drawn_links n; vrps = drawn_payloads n; scenario = drawn_scenario n; lines = drawn_lines (drawn_links n); heads = true; counts = true })
 asked (Some (origin_form _ origin)) reads = do
-  links ← read_as file.Relations 268435456 cause.Relation links_of reads
+  links ← read_as file.Relations MOST_LIST_BYTES cause.Relation links_of reads
   let all : PrefixValue = record { family = V4; addr = 0; len = 0 } in
       Ok (record { links = links; vrps = fin.empty; scenario = record nothing { announcements = record { prefix = all; asn = origin; path = origin ∷ [] } ∷ [] }; lines = record { number = 1; act = Query (Routes 1 all) } ∷ []; heads = false; counts = false })
 asked (Some (script_form _ _ scenario _)) reads = do
-  links ← read_as file.Relations 268435456 cause.Relation links_of reads
-  payloads ← read_as file.Payloads 268435456 cause.Payload payloads_in reads
-  plan ← option_map_or (λ _. read_as file.Scenario 16777216 cause.Scenario scenario_of_bytes reads) scenario (Ok nothing)
-  lines ← read_as file.Script 16777216 cause.Script script_of reads
+  links ← read_as file.Relations MOST_LIST_BYTES cause.Relation links_of reads
+  payloads ← read_as file.Payloads MOST_LIST_BYTES cause.Payload payloads_in reads
+  plan ← option_map_or (λ _. read_as file.Scenario MOST_TEXT_BYTES cause.Scenario scenario_of_bytes reads) scenario (Ok nothing)
+  lines ← read_as file.Script MOST_TEXT_BYTES cause.Script script_of reads
   Ok (record { links = links; vrps = payloads; scenario = plan; lines = lines; heads = true; counts = false })

@@ -23,11 +23,11 @@ use roa_table::Vrps;
 use scenario_text::{Lines, Scenario, read_scenario, read_script};
 use std::alloc::Global;
 
-// The most bytes of a relationship file and of a payload file.
-const MAX_LIST_BYTES: usize = 268_435_456;
+/// How many bytes a relationship file and a payload file have at most.
+pub const MOST_LIST_BYTES: usize = 268_435_456;
 
-// The most bytes of a scenario and of a script.
-const MAX_TEXT_BYTES: usize = 16_777_216;
+/// How many bytes a scenario and a script have at most.
+pub const MOST_TEXT_BYTES: usize = 16_777_216;
 
 // How many bytes are taken at once.
 const PIECE: usize = 65_536;
@@ -41,7 +41,7 @@ fn read_pieces<I: Inputs>(
 ) -> Result<Links, AskError>
     requires { 0 < length room.old }
     ensures found { ReadsAs (source_of I.holds I.is_sound I.faults inputs.old inputs.new) (Some name.now)
-        (λ links. links) result (read_as files.Relations 268435456 cause.Relation links_of) }
+        (λ links. links) result (read_as files.Relations MOST_LIST_BYTES cause.Relation links_of) }
     ensures keeps { KeepsNames I.holds I.is_sound I.faults inputs.old inputs.new }
 {
     if inputs.begin(name).is_err() {
@@ -50,8 +50,8 @@ fn read_pieces<I: Inputs>(
     let mut reader = Reader::new(alloc);
     let most = room.len();
     let mut taken = 0usize;
-    'pieces: while taken <= MAX_LIST_BYTES {
-        let want = (MAX_LIST_BYTES + 1 - taken).min(most);
+    'pieces: while taken <= MOST_LIST_BYTES {
+        let want = (MOST_LIST_BYTES + 1 - taken).min(most);
         match inputs.take(&mut room[..want]) {
             Err(Failed) => return Err(AskError::Fault(Fault::InFile(
                 File::Relations,
@@ -70,7 +70,7 @@ fn read_pieces<I: Inputs>(
             }
         }
     }
-    Err(AskError::Fault(Fault::InFile(File::Relations, Cause::TooLong(MAX_LIST_BYTES))))
+    Err(AskError::Fault(Fault::InFile(File::Relations, Cause::TooLong(MOST_LIST_BYTES))))
 }
 
 /// Reads the relationship file.
@@ -80,7 +80,7 @@ pub fn read_relations<I: Inputs>(
     name: &str,
 ) -> Result<Links, AskError>
     ensures found { ReadsAs (source_of I.holds I.is_sound I.faults inputs.old inputs.new) (Some name.now)
-        (λ links. links) result (read_as files.Relations 268435456 cause.Relation links_of) }
+        (λ links. links) result (read_as files.Relations MOST_LIST_BYTES cause.Relation links_of) }
     ensures keeps { KeepsNames I.holds I.is_sound I.faults inputs.old inputs.new }
 {
     let Ok(mut room) = vec![in alloc; 0u8; PIECE] else {
@@ -97,7 +97,7 @@ fn read_bytes<I: Inputs>(
     most: usize,
     name: &str,
 ) -> Result<Vec<u8>, AskError>
-    requires { most ≤ 268435456 }
+    requires { most ≤ MOST_LIST_BYTES }
     ensures found { ReadsAs (source_of I.holds I.is_sound I.faults inputs.old inputs.new) (Some name.now)
         (λ bytes. bytes.items) result (λ reads. bytes_of file most (reads file)) }
     ensures keeps { KeepsNames I.holds I.is_sound I.faults inputs.old inputs.new }
@@ -120,13 +120,13 @@ pub fn read_payloads<I: Inputs>(
     name: Option<&str>,
 ) -> Result<Vrps, AskError>
     ensures found { ReadsAs (source_of I.holds I.is_sound I.faults inputs.old inputs.new) (text_seen name.entry)
-        (λ vrps. vrps) result (read_as files.Payloads 268435456 cause.Payload payloads_in) }
+        (λ vrps. vrps) result (read_as files.Payloads MOST_LIST_BYTES cause.Payload payloads_in) }
     ensures keeps { KeepsNames I.holds I.is_sound I.faults inputs.old inputs.new }
 {
     let Some(name) = name else {
         return Ok(Vrps::new(alloc));
     };
-    let bytes = match read_bytes(alloc, inputs, File::Payloads, MAX_LIST_BYTES, name) {
+    let bytes = match read_bytes(alloc, inputs, File::Payloads, MOST_LIST_BYTES, name) {
         Ok(bytes) => bytes,
         Err(error) => return Err(error),
     };
@@ -143,13 +143,13 @@ pub fn read_plan<I: Inputs>(
     name: Option<&str>,
 ) -> Result<Scenario, AskError>
     ensures found { ReadsAs (source_of I.holds I.is_sound I.faults inputs.old inputs.new) (text_seen name.entry)
-        (λ scenario. scenario) result (λ reads. option_map_or (λ _. read_as files.Scenario 16777216 cause.Scenario scenario_of_bytes reads) (text_seen name.entry) (Ok nothing)) }
+        (λ scenario. scenario) result (λ reads. option_map_or (λ _. read_as files.Scenario MOST_TEXT_BYTES cause.Scenario scenario_of_bytes reads) (text_seen name.entry) (Ok nothing)) }
     ensures keeps { KeepsNames I.holds I.is_sound I.faults inputs.old inputs.new }
 {
     let Some(name) = name else {
         return Ok(Scenario::new(alloc));
     };
-    let bytes = match read_bytes(alloc, inputs, File::Scenario, MAX_TEXT_BYTES, name) {
+    let bytes = match read_bytes(alloc, inputs, File::Scenario, MOST_TEXT_BYTES, name) {
         Ok(bytes) => bytes,
         Err(error) => return Err(error),
     };
@@ -166,13 +166,13 @@ pub fn read_lines<I: Inputs>(
     name: Option<&str>,
 ) -> Result<Lines, AskError>
     ensures found { ReadsAs (source_of I.holds I.is_sound I.faults inputs.old inputs.new) (text_seen name.entry)
-        (λ lines. lines) result (read_as files.Script 16777216 cause.Script script_of) }
+        (λ lines. lines) result (read_as files.Script MOST_TEXT_BYTES cause.Script script_of) }
     ensures keeps { KeepsNames I.holds I.is_sound I.faults inputs.old inputs.new }
 {
     let Some(name) = name else {
         return Ok(Lines::new(alloc));
     };
-    let bytes = match read_bytes(alloc, inputs, File::Script, MAX_TEXT_BYTES, name) {
+    let bytes = match read_bytes(alloc, inputs, File::Script, MOST_TEXT_BYTES, name) {
         Ok(bytes) => bytes,
         Err(error) => return Err(error),
     };
