@@ -3,8 +3,8 @@ use denote.Enum.Bare.{sameb}
 use Rattle.std.specs.Prelude.{ℕ, Bool, true, false, not, ◌==◌, ◌&&◌, ◌||◌, Option, Some, is_some, if◌then◌else◌}
 use Rattle.std.specs.declared.cmp.Ordering.{Ordering}
 use Rattle.std.specs.Ordering.{nat_cmp, ordering_then, is_lt}
-use Rattle.net_names.specs.contracts.routes.Rel.{the_type as rel_type}
-use Rattle.net_names.specs.contracts.routes.State.{the_type as state_type}
+use Rattle.net_names.specs.contracts.routes.Rel.{the_type as rel}
+use Rattle.net_names.specs.contracts.routes.State.{the_type as state}
 use Rattle.net_names.specs.declared.routes.Rel.{Rel}
 use Rattle.net_names.specs.declared.routes.Rel.TheVariants.{Customer, Peer, Provider}
 use Rattle.net_names.specs.declared.routes.State.{State}
@@ -34,7 +34,7 @@ class_place r from = elim from [ Customer ↦ 0 | Peer ↦ r.peer | Provider ↦
 
 -- the place of a validation state: where Valid is preferred it comes before the other two, else all are alike (RFC 6811, section 3); `sameb` says whether two are the same
 abbrev pub valid_place : Row → State → ℕ
-valid_place r s = if r.prefers_valid && not (sameb state_type s Valid) then 1 else 0
+valid_place r s = if r.prefers_valid && not (sameb state s Valid) then 1 else 0
 
 -- offers are compared by class, then by validation state, then by the length of the path, then by the neighbour's number (RFC 4271, section 9.1.2)
 abbrev pub offer_cmp : Row → View → View → Ordering
@@ -51,9 +51,9 @@ number_passes looks from neighbour otc = true
 -- the answers of a kind are those of its row: where invalid offers are dropped, those of the other two states are taken only (RFC 6811, section 3); every route is exported to customers, and to peers and providers own and customers' routes only (Gao and Rexford 2001), and of these no marked one where marks are looked at (RFC 9234, section 5, rule 2 on sending)
 abbrev pub kind_policy : Kind → Policy
 kind_policy k = let r = kind_row k in record {
-  accepts = λ v. not (r.drops_invalid && sameb state_type v.state Invalid) && number_passes r.marks v.rel v.neighbour v.otc;
+  accepts = λ v. not (r.drops_invalid && sameb state v.state Invalid) && number_passes r.marks v.rel v.neighbour v.otc;
   before = λ x y. is_lt (offer_cmp r x y);
-  exports = λ c otc to. sameb rel_type to Customer || (is_own_or_customers c && not (r.marks && is_some otc));
+  exports = λ c otc to. sameb rel to Customer || is_own_or_customers c && not (r.marks && is_some otc);
   reads_state = r.drops_invalid || r.prefers_valid;
   marks = r.marks;
 }

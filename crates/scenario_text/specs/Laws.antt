@@ -3,7 +3,7 @@ use Rattle.std.specs.Prelude.{◌≡◌, ℕ, ◌≤◌, ◌↔◌, List, length
 use Rattle.serde_json.specs.Data.{Data}
 use Rattle.scenario_text.specs.declared.acts.Act.{Act}
 use Rattle.scenario_text.specs.Forms.{act_of}
-use Rattle.scenario_text.specs.Lines.{texts, kept_from}
+use Rattle.scenario_text.specs.Lines.{kept_from}
 use Rattle.scenario_text.specs.LineValues.{LineValue}
 use Rattle.scenario_text.specs.Members.{lists_in}
 use Rattle.scenario_text.specs.Readings.{json_of, scenario_of_bytes}
@@ -23,8 +23,8 @@ AcceptedExactly = (bytes : List ℕ) (s : ScenarioValue) → (scenario_of_bytes 
 
 -- a script is accepted exactly where each line that isn't skipped has one of the forms and these are at most 100,000 (own format)
 abbrev pub ScriptAcceptedExactly : Type 0
-ScriptAcceptedExactly = (bytes : List ℕ) → IsOk (script_of bytes) ↔ (All (λ line. IsSome (act_of line.1)) (kept_from 1 (texts bytes)) × (length (kept_from 1 (texts bytes)) ≤ MOST_COMMANDS))
+ScriptAcceptedExactly = (bytes : List ℕ) → IsOk (script_of bytes) ↔ (All (λ line. IsSome (act_of line.1)) (kept_from 1 bytes) × (length (kept_from 1 bytes) ≤ MOST_COMMANDS))
 
 -- the lines of an accepted script are its lines that aren't skipped, in their order, each with its number and what its text asks for (own format)
 abbrev pub LinesAreThose : Type 0
-LinesAreThose = (bytes : List ℕ) (lines : List LineValue) → script_of bytes ≡ Ok lines → map {B = ℕ × Option Act} (λ l. (l.number, Some l.act)) lines ≡ map {B = ℕ × Option Act} (λ line. (line.0, act_of line.1)) (kept_from 1 (texts bytes))
+LinesAreThose = (bytes : List ℕ) (lines : List LineValue) → script_of bytes ≡ Ok lines → map {B = ℕ × Option Act} (λ l. (l.number, Some l.act)) lines ≡ map {B = ℕ × Option Act} (λ line. (line.0, act_of line.1)) (kept_from 1 bytes)

@@ -5,7 +5,7 @@ use Rattle.scenario_text.specs.declared.script.ScriptError.{ScriptError}
 use Rattle.scenario_text.specs.declared.script.ScriptError.TheVariants.{Memory, Unreadable, TooMany}
 use Rattle.scenario_text.specs.Walks.{◌>>=◌, each_from}
 use Rattle.scenario_text.specs.Forms.{act_of}
-use Rattle.scenario_text.specs.Lines.{texts, kept_from}
+use Rattle.scenario_text.specs.Lines.{kept_from}
 use Rattle.scenario_text.specs.declared.script.TheConstants.{MOST_COMMANDS}
 
 -- what a line says that isn't skipped, given with its number, where so many others stand before it: its form is judged first, and then that fewer than 100,000 stand before it (own format)
@@ -16,7 +16,7 @@ command before l = do
 
 -- the lines of a script, or the fault of its first faulty line (own format)
 unfoldable pub script_of : List ℕ → Result (List LineValue) ScriptError
-script_of bytes = each_from command 0 (kept_from 1 (texts bytes))
+script_of bytes = each_from command 0 (kept_from 1 bytes)
 
 -- a reading fails in this way; want of memory says nothing of it
 abbrev pub Fails : {X : Type 0} → ScriptError → Result X ScriptError → Type 0

@@ -1,7 +1,7 @@
 //! Reading a script.
-ghost use Rattle.std.specs.Prelude.{◌≡◌, ℕ, ◌<◌, ◌≤◌, ◌∷◌, length, IfOk};
+ghost use Rattle.std.specs.Prelude.{◌≡◌, ℕ, ◌+◌, ◌<◌, ◌≤◌, not, ◌∷◌, length, IfOk, if◌then◌else◌};
 ghost use Rattle.net_names.specs.Texts.{is_skipped};
-ghost use Rattle.scenario_text.specs.Lines.{texts, kept_from};
+ghost use Rattle.scenario_text.specs.Lines.{kept_from};
 ghost use Rattle.std.specs.Str.Lines.{strip_carriage_return};
 ghost use Rattle.scenario_text.specs.LineValues.{IsSoundAct};
 ghost use Rattle.scenario_text.specs.Script.{Gives, command, script_of};
@@ -46,7 +46,7 @@ fn drop_cr(line: &[u8]) -> &[u8]
 // The first line, and the bytes after it.
 fn next_line(bytes: &[u8]) -> (&[u8], &[u8])
     requires { 0 < length bytes.now }
-    ensures lines { (number : ℕ) → kept_from number (texts bytes.now) ≡ kept_from number (result.0.now ∷ texts result.1.now) }
+    ensures lines { (number : ℕ) → kept_from number bytes.now ≡ (if not (is_skipped result.0.now) then (number, result.0.now) ∷ kept_from (number + 1) result.1.now else kept_from (number + 1) result.1.now) }
     ensures shorter { length result.1.now < length bytes.now }
 {
     match cut(bytes, b'\n') {

@@ -1,5 +1,5 @@
 use Rattle.std.proofs.Common.{arith}
-use Rattle.scenario_text.specs.Lines.{texts, kept_from}
+use Rattle.scenario_text.specs.Lines.{kept_from}
 use Rattle.scenario_text.specs.Script.{command, script_of}
 use Rattle.scenario_text.specs.Walks.{each_from}
 use Rattle.scenario_text.proofs.Accepted.{ok_value, forms_of, accepted_of, lines_given}
@@ -8,7 +8,7 @@ use Rattle.scenario_text.proofs.laws.lines_are_those_said.Goals as goal
 pub returns-clause-accepted : goal.returns-clause-accepted
 unfolding script_of
 returns-clause-accepted c = λ bytes.
-    let said = kept_from 1 (texts bytes) in (
+    let said = kept_from 1 bytes in (
       λ ok.
           let lines = ok_value (each_from command 0 said) ok in
           let forms = forms_of 0 said lines.0 (omega arith) lines.1 in (forms.0, omega (arith, forms.1)),
@@ -17,4 +17,4 @@ returns-clause-accepted c = λ bytes.
 
 pub returns-clause-lines : goal.returns-clause-lines
 unfolding script_of
-returns-clause-lines c = λ bytes lines h. lines_given 0 (kept_from 1 (texts bytes)) lines h
+returns-clause-lines c = λ bytes lines h. lines_given 0 (kept_from 1 bytes) lines h
