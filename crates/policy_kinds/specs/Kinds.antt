@@ -1,6 +1,7 @@
 -- What each kind answers: the table of the kinds.
 use denote.Enum.Bare.{sameb}
-use Rattle.std.specs.Prelude.{ℕ, Bool, true, false, not, ◌==◌, ◌&&◌, ◌||◌, Option, Some, is_some, if◌then◌else◌}
+use Rattle.std.specs.Prelude.{ℕ, Bool, true, false, not, ◌==◌, ◌&&◌, ◌||◌, is_some, if◌then◌else◌}
+use Rattle.std.specs.Option.{option_map_or}
 use Rattle.std.specs.declared.cmp.Ordering.{Ordering}
 use Rattle.std.specs.Ordering.{nat_cmp, ordering_then, is_lt}
 use Rattle.net_names.specs.contracts.routes.Rel.{the_type as rel}
@@ -42,16 +43,14 @@ offer_cmp r x y = ordering_then (nat_cmp (class_place r x.rel) (class_place r y.
     (ordering_then (nat_cmp (valid_place r x.state) (valid_place r y.state))
     (ordering_then (nat_cmp x.length y.length) (nat_cmp x.neighbour y.neighbour)))
 
--- where marks are looked at, no marked offer of a customer is taken, and of a peer only one with the peer's own number (RFC 9234, section 5, rules 1 and 2 on receipt)
-abbrev pub number_passes : Bool → Rel → ℕ → Option ℕ → Bool
-number_passes true Customer neighbour (Some number) = false
-number_passes true Peer neighbour (Some number) = number == neighbour
-number_passes looks from neighbour otc = true
+-- the offer is a route leak: a marked one of a customer, or one of a peer with another number than the peer's own (RFC 9234, section 5, rules 1 and 2 on receipt)
+abbrev pub is_leak : View → Bool
+is_leak v = elim v.rel [ Customer ↦ is_some v.otc | Peer ↦ option_map_or (λ n. not (n == v.neighbour)) v.otc false | Provider ↦ false ]
 
--- the answers of a kind are those of its row: where invalid offers are dropped, those of the other two states are taken only (RFC 6811, section 3); every route is exported to customers, and to peers and providers own and customers' routes only (Gao and Rexford 2001), and of these no marked one where marks are looked at (RFC 9234, section 5, rule 2 on sending)
+-- the answers of a kind are those of its row: where invalid offers are dropped, those of the other two states are taken only (RFC 6811, section 3), and where marks are looked at, no leak is taken; every route is exported to customers, and to peers and providers own and customers' routes only (Gao and Rexford 2001), and of these no marked one where marks are looked at (RFC 9234, section 5, rule 2 on sending)
 abbrev pub kind_policy : Kind → Policy
 kind_policy k = let r = kind_row k in record {
-  accepts = λ v. not (r.drops_invalid && sameb state v.state Invalid) && number_passes r.marks v.rel v.neighbour v.otc;
+  accepts = λ v. not (r.drops_invalid && sameb state v.state Invalid) && not (r.marks && is_leak v);
   before = λ x y. is_lt (offer_cmp r x y);
   exports = λ c otc to. sameb rel to Customer || is_own_or_customers c && not (r.marks && is_some otc);
   reads_state = r.drops_invalid || r.prefers_valid;

@@ -6,7 +6,7 @@ ghost use Rattle.net_names.specs.contracts.routes.State.{the_type as state_type}
 ghost use Rattle.net_names.specs.declared.routes.Rel.TheVariants.{Customer};
 ghost use Rattle.net_names.specs.declared.routes.State.TheVariants.{Invalid};
 ghost use Rattle.policy_laws.specs.Policy.{is_own_or_customers as is_of_own_or_customers};
-ghost use Rattle.policy_kinds.specs.Kinds.{number_passes as passes_number};
+ghost use Rattle.policy_kinds.specs.Kinds.{is_leak as is_route_leak};
 
 use crate::rows::Row;
 use net_names::{Asn, Class, Rel, State};
@@ -37,16 +37,13 @@ fn state_passes(drops: bool, state: State) -> bool
     !drops || state != State::Invalid
 }
 
-fn number_passes(looks: bool, from: Rel, neighbour: Asn, otc: Option<Asn>) -> bool
-    ensures { result ≡ passes_number looks from neighbour otc }
+fn is_leak(v: &View) -> bool
+    ensures { result ≡ is_route_leak v.now }
 {
-    match (looks, otc) {
-        (false, _) | (_, None) => true,
-        (true, Some(number)) => match from {
-            Rel::Customer => false,
-            Rel::Peer => number == neighbour,
-            Rel::Provider => true,
-        },
+    match (v.rel, v.otc) {
+        (Rel::Customer, Some(_)) => true,
+        (Rel::Peer, Some(number)) => number != v.neighbour,
+        _ => false,
     }
 }
 
@@ -73,8 +70,7 @@ impl RoutePolicy for Kind {
 
     fn accepts(&self, v: &View) -> bool {
         let row = Row::of(*self);
-        state_passes(row.drops_invalid, v.state)
-            && number_passes(row.marks, v.rel, v.neighbour, v.otc)
+        state_passes(row.drops_invalid, v.state) && !(row.marks && is_leak(v))
     }
 
     fn before(&self, x: &View, y: &View) -> bool {
