@@ -11,7 +11,7 @@ use Rattle.stability_laws.specs.Plans.{Plan, announced_path, announcers_of, anno
 use Rattle.stability_laws.proofs.PlanListings.{announcers_listed}
 use Rattle.sim_core.specs.World.{graph_of, named}
 use Rattle.sim_core.proofs.PolicyEdits.{Kinds, named_by}
-use Rattle.sim_core.proofs.SeedEdits.{stands}
+use Rattle.sim_core.proofs.Standing.{stands}
 
 pub is_announcer : (plan : Plan) (p : PrefixValue) (a : ℕ) → IsTrue (announces plan p a) → occurs a (announcers_of plan) ≡ true
 is_announcer plan p a h = by (announced_path plan p a) refl h

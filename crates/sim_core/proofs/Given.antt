@@ -1,5 +1,5 @@
 -- What an edit of a policy makes of a simulation.
-use Rattle.std.proofs.Common.{◌≡◌, ◌≢◌, ◌⊎◌, inl, inr, ◌<◌, ◌≤◌, ◌==◌, ◌||◌, ℕ, Bool, true, false, IsTrue, cond, option_map, [], ◌∷◌, None, Some, unwrap_or, refl, sym, ap, subst, ◌∙◌}
+use Rattle.std.proofs.Common.{◌≡◌, ◌≢◌, ◌⊎◌, inl, inr, ◌<◌, ◌≤◌, ◌==◌, ◌||◌, ℕ, Bool, true, false, IsTrue, cond, Option, option_map, [], ◌∷◌, None, Some, unwrap_or, refl, sym, ap, subst, ◌∙◌}
 use Rattle.std.specs.Ordering.{eq_by_cmp, nat_cmp}
 use Rattle.std.proofs.lemmas.Bool.{eq-eqb, eqb-true, true≢false}
 use Rattle.std.specs.FinMap as fin
@@ -11,13 +11,14 @@ use Rattle.policy_kinds.specs.declared.kind.Kind.TheVariants.{Plain}
 use Rattle.stability_laws.specs.Book.{policy_at}
 use Rattle.leak_round.specs.Rounds.{plan_of, round_count}
 use Rattle.leak_round.specs.declared.rounds.Rounds.{Rounds}
+use Rattle.scenario_text.specs.declared.acts.Edit.{Edit}
 use Rattle.scenario_text.specs.declared.acts.Edit.TheVariants.{Policy}
 use Rattle.sim_core.specs.Editing.{IsGiven, IsRoomed, IsSmall, IsUnchanged, IsUndone, KeepsRest, ground_of}
-use Rattle.sim_core.specs.Edits.{edited, passed_limit, refusal_of_edit, with_kind}
+use Rattle.sim_core.specs.Edits.{IsEditRefusal, edited, passed_limit, refusal_of_edit, with_kind}
 use Rattle.sim_core.specs.Ground.{DiffersAround}
 use Rattle.sim_core.specs.Views.{world_seen}
 use Rattle.sim_core.specs.Steps.{IsTouched}
-use Rattle.sim_core.specs.World.{HasCycle, graph_of, topology}
+use Rattle.sim_core.specs.World.{HasCycle, World, graph_of, topology}
 use Rattle.sim_core.specs.Loaded.{is_other}
 use Rattle.net_names.specs.Links.{LinkMap, converse}
 use Rattle.net_names.specs.Numbers.{occurs}
@@ -31,11 +32,12 @@ use Rattle.roa_table.specs.Sets.{Payloads}
 use Rattle.stability_laws.specs.Plans.{has_prefix}
 use Rattle.sim_core.specs.declared.errors.EditError.{EditError}
 use Rattle.sim_core.specs.declared.errors.EditError.TheVariants as refused
+use Rattle.sim_core.specs.declared.errors.EditLimit.{EditLimit}
 use Rattle.sim_core.specs.declared.errors.EditLimit.TheVariants.{Ases}
 use Rattle.sim_core.specs.declared.parts.Parts.{Parts}
 use Rattle.sim_core.proofs.LinkEdits.{has_by, limit_ases, rest_both}
 use Rattle.sim_core.proofs.PolicyEdits.{get_with, given_back, is_key, kind_is}
-use Rattle.sim_core.proofs.Doing.{all_undone, small_world, unchanged_world}
+use Rattle.sim_core.proofs.Doing.{all_undone, rest_kept, rest_rows, small_world, unchanged_world}
 
 pub roomed_world : (old new : Parts) (a : ℕ) → IsRoomed old new a → world_seen new ≡ world_seen old
 roomed_world old new a h = λ i. record {
@@ -111,6 +113,21 @@ same_or false true = inr (λ e. true≢false (sym e))
 same_or false false = inl refl
 
 -- only the AS differs, and where it begins or ceases to mark its neighbours are touched too
+
+-- a limit alone refuses a policy
+limit_refuses : (w : World) (e : Edit) (passed : Option EditLimit) (error : EditError) → refusal_of_edit w e ≡ Some error → option_map refused.Limit passed ≡ Some error → IsEditRefusal w e error
+limit_refuses w e None error refusal is = absurd (let none : None ≡ Some error = is in cc)
+limit_refuses w e (Some which) error refusal is = let same : refused.Limit which ≡ error = cc in subst (IsEditRefusal w e) same (refusal ∙ ap Some (sym same))
+
+-- a policy that is refused once there is room for it
+pub policy_refused : (old mid new : Parts) (a : ℕ) (k : Kind) (e : EditError) → IsRoomed old mid a → refusal_of_edit (world_seen mid) (Policy a k) ≡ Some e → IsUndone mid new → IsEditRefusal (world_seen old) (Policy a k) e × IsUndone old new
+policy_refused old mid new a k e roomed refusal undone =
+    let world = roomed_world old mid a roomed in
+    let is : refusal_of_edit (world_seen old) (Policy a k) ≡ Some e = subst (λ w. refusal_of_edit w (Policy a k) ≡ Some e) world refusal in (
+      limit_refuses (world_seen old) (Policy a k) (passed_limit (edited (world_seen old) (Policy a k))) e is is,
+      record { world = undone.world ∙ world; same_kept = undone.same_kept ∙ rest_kept old mid roomed.rest; same_rows = undone.same_rows ∙ rest_rows old mid roomed.rest },
+    )
+
 pub policy_differs : LinksAreSound → (old mid new : Parts) (a : ℕ) (k : Kind) (touched : PrefixValue → ℕ → Bool) → IsRoomed old mid a → IsGiven mid new a k → ((prefix : PrefixValue) → IsTrue (has_prefix (plan_of old.rounds) prefix) → touched prefix a ≡ true)
     → ((prefix : PrefixValue) (n : ℕ) (r : Rel) → IsTrue (has_prefix (plan_of old.rounds) prefix) → (kind_policy k).marks ≢ (kind_policy (policy_at old.book a)).marks → relation old.graph a n ≡ Some r → touched prefix n ≡ true) → DiffersAround (ground_of old) (ground_of new) new.rounds (a ∷ []) touched
 policy_differs sound old mid new a k touched roomed given own around = record {

@@ -69,7 +69,8 @@ use Rattle.scenario_text.specs.declared.acts.Edit.{Edit}
 use Rattle.sim_core.specs.Watching.{AreRoundWatches}
 use Rattle.sim_core.specs.declared.watching.RoundWatches.{RoundWatches}
 use Rattle.sim_core.proofs.Origins.{ends_announced}
-use Rattle.sim_core.proofs.SeedEdits.{edited_prefixes, other_paths, stands}
+use Rattle.sim_core.proofs.SeedEdits.{edited_prefixes, other_paths}
+use Rattle.sim_core.proofs.Standing.{stands}
 
 -- what a kind exports follows from whether it marks
 pub same_exports : (k j : Kind) → (kind_policy k).marks ≡ (kind_policy j).marks → (kind_policy k).exports ≡ (kind_policy j).exports

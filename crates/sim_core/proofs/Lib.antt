@@ -10,6 +10,7 @@ pub mod Watches
 pub mod Pushing
 pub mod Renewals
 pub mod SeedEdits
+pub mod Standing
 pub mod Origins
 pub mod Grounds
 pub mod Doing

@@ -44,7 +44,7 @@ use Rattle.sim_core.specs.Counting.{how_many, in_group}
 use Rattle.sim_core.specs.Families.{Family, IsOneFamily}
 use Rattle.sim_core.specs.Kept.{IsKept, Kept}
 use Rattle.sim_core.specs.World.{World, kind_at, topology}
-use Rattle.sim_core.proofs.SeedEdits.{stands}
+use Rattle.sim_core.proofs.Standing.{stands}
 use Rattle.sim_core.specs.Watching.{AreWatchRows, HasRows, IsWatchOf, end_at}
 use Rattle.sim_core.proofs.Watches.{cases_nat, map_at}
 

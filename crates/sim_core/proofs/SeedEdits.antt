@@ -1,7 +1,7 @@
 -- Plans of seeds after an edit of an announcement.
-use Rattle.std.proofs.Common.{◌≡◌, ◌≢◌, ◌≤◌, ◌==◌, ◌+◌, ◌-◌, ℕ, zero, suc, nat_le, nat_lt, arith, Bool, true, false, cond, Option, Some, None, List, [], ◌∷◌, length, inl, inr, refl, sym, ap, subst, ◌∙◌}
+use Rattle.std.proofs.Common.{◌≡◌, ◌≢◌, ◌≤◌, ◌==◌, ◌+◌, ◌-◌, ℕ, suc, nat_le, nat_lt, arith, Bool, true, false, cond, Option, Some, None, List, [], ◌∷◌, length, inl, inr, refl, sym, ap, subst, ◌∙◌}
 use Rattle.std.specs.Prelude.{slice_get}
-use Rattle.std.proofs.lemmas.Bool.{eqb-true, eq-eqb, le-leb, leb-true, ltb-true, or_cases, or_left, or_right, true≢false}
+use Rattle.std.proofs.lemmas.Bool.{eqb-true, le-leb, leb-true, ltb-true, or_cases, true≢false}
 use Rattle.std.specs.Cmp.{both_ways}
 use Rattle.std.specs.Ordering.{eq_by_cmp}
 use Rattle.std.specs.FinMap as fin
@@ -18,6 +18,7 @@ use Rattle.net_names.specs.Orders.{announcement_total, exact_announcement, exact
 use Rattle.leak_round.specs.Limits.{IsWithinLimits}
 use Rattle.sim_core.proofs.LinkEdits.{over, within}
 use Rattle.sim_core.proofs.PayloadEdits.{there_unit}
+use Rattle.sim_core.proofs.Standing.{stands}
 
 -- ---- what stays
 
@@ -56,11 +57,6 @@ other_prefixes p (Announce prefix path) q other x =
 other_prefixes p (Withdraw prefix a) q other x = fin.get-remove announcement_total p.announced (prefix, a) (q, x) ∙ ap (λ b. cond b None (fin.get p.announced (q, x))) (apart_prefix q prefix x a other)
 
 -- ---- who announces
-
-pub stands : (x i : ℕ) (xs : List ℕ) → slice_get xs i ≡ Some x → occurs x xs ≡ true
-stands x i [] h = cc
-stands x zero (y ∷ ys) h = (let same : y ≡ x = cc in or_left (y == x) (occurs x ys) (eq-eqb y x same))
-stands x (suc i) (y ∷ ys) h = or_right (y == x) (occurs x ys) (stands x i ys h)
 
 place : (x : ℕ) (xs : List ℕ) → occurs x xs ≡ true → (i : ℕ) × (slice_get xs i ≡ Some x)
 place x [] h = absurd (true≢false (sym h))

@@ -1,5 +1,5 @@
 //! The ASes whose entries may be wrong after an edit.
-ghost use Rattle.std.specs.Prelude.{◌≡◌, ℕ, true, false, IsTrue, IfOk, OnOk, None, Some, List, if◌then◌else◌};
+ghost use Rattle.std.specs.Prelude.{◌≡◌, ℕ, true, false, IsTrue, IfOk, OnOk, Some, List, option_map, slice_get};
 ghost use Rattle.net_names.specs.Coverage.{covers as covers_it};
 ghost use Rattle.net_names.specs.Numbers.{last_or, occurs};
 ghost use Rattle.origin_validation.specs.Judging.{state_of};
@@ -7,7 +7,6 @@ ghost use Rattle.roa_table.specs.Sets.{taken};
 ghost use Rattle.net_names.specs.Prefixes.{PrefixValue};
 ghost use Rattle.policy_kinds.specs.Kinds.{kind_policy};
 ghost use Rattle.stability_laws.specs.Book.{policy_at};
-ghost use Rattle.stability_laws.specs.Offers.{is_empty};
 ghost use Rattle.stability_laws.specs.Plans.{announced_path, has_prefix};
 ghost use Rattle.leak_round.specs.Touched.{touches};
 ghost use Rattle.sim_core.specs.Ground.{AreReadersTouched, IsOrigin};
@@ -67,7 +66,7 @@ fn touch_readers(
 
 // The last number of a path, where it has one.
 fn last_of(path: &[Asn]) -> Option<Asn>
-    ensures { result ≡ (if is_empty path.now then None else Some (last_or 0 path.now)) }
+    ensures { result ≡ option_map (λ _. last_or 0 path.now) (slice_get path.now 0) }
 {
     path.last().copied()
 }

@@ -1,4 +1,4 @@
-use Rattle.sim_core.proofs.SeedEdits.{stands}
+use Rattle.sim_core.proofs.Standing.{stands}
 use Rattle.sim_core.proofs.readers.list_reader.Goals as goal
 
 pub returns-in-Some-clause-this : goal.returns-in-Some-clause-this

@@ -5,7 +5,7 @@ use Rattle.sim_core.specs.Editing.{ground_of}
 use Rattle.sim_core.specs.Views.{world_seen}
 use Rattle.sim_core.proofs.Doing.{allowed_by, begun_belongs, changed_done, small_world}
 use Rattle.sim_core.proofs.Grounds.{quick_done}
-use Rattle.sim_core.proofs.Given.{touched_policy, back_accepted, begun_rest, begun_world, given_no_cycle, policy_differs, policy_undone, still_listed}
+use Rattle.sim_core.proofs.Given.{touched_policy, back_accepted, begun_rest, begun_world, given_no_cycle, policy_differs, policy_refused, policy_undone, still_listed}
 use Rattle.sim_core.proofs.parts.Parts.edit_policy.Goals as goal
 
 pub change_at-requires-clause-no_cycle : goal.change_at-requires-clause-no_cycle
@@ -48,3 +48,7 @@ returns-in-Ok-change_at-clause-quick g c =
 
 pub give_back-requires-clause-listed : goal.give_back-requires-clause-listed
 give_back-requires-clause-listed g c = still_listed c.args.self.now c.make_room.new.self c.give.new.self c.change_at.new.self c.args.asn c.args.kind c.kind_of-was.result c.kind_of-was.ensures c.in-Ok-make_room.ensures.ok c.in-Ok-give.ensures.ok c.in-Err-change_at.ensures.err
+
+pub returns-in-Err-give-clause-edited : goal.returns-in-Err-give-clause-edited
+returns-in-Err-give-clause-edited g c =
+    policy_refused c.args.self.now c.make_room.new.self c.give.new.self c.args.asn c.args.kind c.in-Err-give.error c.in-Ok-make_room.ensures.ok c.in-Err-give.ensures.refused c.in-Err-give.ensures.err
