@@ -1,13 +1,9 @@
 -- How a failure is told from an answer that gives up by itself: each object counts its faults.
 use Rattle.std.specs.Prelude.{ℕ, ◌+◌, ◌-◌, ◌^◌, ◌≤◌, ◌≡◌, List, Option, nat_lt, if◌then◌else◌, OnErr, Result}
 
--- A count after one more. It is kept in 64 bits, and stays at its last value.
-abbrev pub one_more : ℕ → ℕ
-one_more count = if nat_lt count (2 ^ 64 - 1) then count + 1 else count
-
--- The count has risen. One that stands at its last value has risen too.
+-- The count has risen. It is kept in 64 bits, and one that stands at its last value has risen too.
 abbrev pub HasRisen : ℕ → ℕ → Type 0
-HasRisen before now = one_more before ≤ now
+HasRisen before now = (if nat_lt before (2 ^ 64 - 1) then before + 1 else before) ≤ now
 
 -- The count of faults doesn't fall, and an error comes only where it rose.
 pub record HasCause {T E : Type 0} (before now : ℕ) (result : Result T E) : Type 0 where

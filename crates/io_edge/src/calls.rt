@@ -1,7 +1,6 @@
 // The calls of an object in memory, some of which are to fail.
 ghost use Rattle.std.specs.Prelude.{◌≡◌, ◌+◌, ◌↔◌, [], ◌∷◌, ◌++◌, OnOk, OnErr, IsTrue, if◌then◌else◌};
-ghost use Rattle.io_edge.specs.Faults.{one_more};
-ghost use Rattle.io_edge.specs.Calls.{FailsNext, after_call, after_fault};
+ghost use Rattle.io_edge.specs.Calls.{FailsNext, after_call, after_fault, one_more};
 
 use crate::NoMemory;
 use std::alloc::Global;
