@@ -3,15 +3,11 @@ use Rattle.std.specs.Prelude.{ℕ, ◌==◌, List, [], ◌∷◌, Option, find, 
 use Rattle.std.specs.Cmp.Lexicographic.{pointwise}
 use Rattle.policy_kinds.specs.declared.kind.Kind.{Kind}
 use Rattle.policy_kinds.specs.declared.kind.Kind.TheVariants.{Plain, DropInvalid, PreferValid, ProviderFirst, Otc, DropInvalidOtc}
+use Rattle.policy_kinds.specs.Kinds.{kind_row}
 
 -- the kind's name
 abbrev pub name_of : Kind → List ℕ
-name_of Plain = codes "plain"
-name_of DropInvalid = codes "drop-invalid"
-name_of PreferValid = codes "prefer-valid"
-name_of ProviderFirst = codes "provider-first"
-name_of Otc = codes "otc"
-name_of DropInvalidOtc = codes "drop-invalid+otc"
+name_of k = codes (kind_row k).0
 
 -- all kinds
 abbrev pub kinds : List Kind

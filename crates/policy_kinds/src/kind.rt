@@ -75,8 +75,8 @@ impl RoutePolicy for Kind {
 
     fn before(&self, x: &View, y: &View) -> bool {
         let row = Row::of(*self);
-        let (class_x, class_y) = (row.class_place(x.rel), row.class_place(y.rel));
-        let (state_x, state_y) = (row.valid_place(x.state), row.valid_place(y.state));
+        let (class_x, class_y) = (row.class_place(x), row.class_place(y));
+        let (state_x, state_y) = (row.valid_place(x), row.valid_place(y));
         (class_x, state_x, x.length, x.neighbour) < (class_y, state_y, y.length, y.neighbour)
     }
 
@@ -86,7 +86,7 @@ impl RoutePolicy for Kind {
 
     fn reads_state(&self) -> bool {
         let row = Row::of(*self);
-        row.drops_invalid || row.prefers_valid
+        row.drops_invalid || row.valid_first
     }
 
     fn marks(&self) -> bool {
@@ -108,6 +108,13 @@ impl Labelled for Kind {
     ghost label_of = { label };
 
     fn label(&self) -> u8 {
-        Row::of(*self).label
+        match self {
+            Kind::Plain => 0,
+            Kind::DropInvalid => 1,
+            Kind::PreferValid => 2,
+            Kind::ProviderFirst => 3,
+            Kind::Otc => 4,
+            Kind::DropInvalidOtc => 5,
+        }
     }
 }

@@ -17,9 +17,7 @@ pub record Policy : Type 0 where
 
 -- the route is an own one, or a customer's: no peer and no provider gave it
 abbrev pub is_own_or_customers : Class → Bool
-is_own_or_customers class.Peer = false
-is_own_or_customers class.Provider = false
-is_own_or_customers held = true
+is_own_or_customers held = elim held [ class.Peer ↦ false | class.Provider ↦ false | _ ↦ true ]
 
 -- the view with another validation state
 abbrev pub with_state : View → State → View
