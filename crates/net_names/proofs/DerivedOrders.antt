@@ -4,13 +4,13 @@ use mathlib.Core.Path.{fun_ext}
 use Rattle.net_names.specs.declared.addresses.Family.{Family}
 use Rattle.net_names.specs.declared.addresses.Family.TheVariants.{V4, V6}
 use Rattle.std.specs.Ordering.{nat_cmp}
-use Rattle.net_names.specs.Addresses.{AddrValue, addr_cmp, family_place}
+use Rattle.net_names.specs.Addresses.{AddrValue, addr_cmp, width}
 use Rattle.net_names.specs.Prefixes.{PrefixValue, prefix_cmp}
 use Rattle.net_names.specs.contracts.prefixes.PrefixOrd.TheImpl as prefix_impl
 use Rattle.net_names.specs.contracts.addresses.AddrOrd.TheImpl as addr_impl
 use Rattle.net_names.specs.contracts.addresses.FamilyOrd.TheImpl as family_impl
 
-pub family_order : (f g : Family) → (family_impl.ghosts).cmp f g ≡ nat_cmp (family_place f) (family_place g)
+pub family_order : (f g : Family) → (family_impl.ghosts).cmp f g ≡ nat_cmp (width f) (width g)
 family_order V4 V4 = refl
 family_order V4 V6 = refl
 family_order V6 V4 = refl

@@ -10,9 +10,9 @@ use Rattle.std.specs.Ordering.{nat_cmp, ordering_then}
 use Rattle.std.specs.Cmp.{both_ways, nat_cmp_is, nat_cmp_total, tied_itself}
 use Rattle.net_names.specs.declared.addresses.Family.{Family}
 use Rattle.net_names.specs.declared.addresses.Family.TheVariants.{V4, V6}
-use Rattle.net_names.specs.Addresses.{width, family_place}
+use Rattle.net_names.specs.Addresses.{width}
 use Rattle.net_names.specs.Prefixes.{PrefixValue, IsPrefix, prefix_cmp}
-use Rattle.net_names.specs.Coverage.{first_bits, has_bits, covers, shortened}
+use Rattle.net_names.specs.Coverage.{has_bits, covers, shortened}
 
 -- the value of a prefix, whose bits past its length are clear
 abbrev pub IsWhole : PrefixValue → Type 0
@@ -23,7 +23,7 @@ pub shortened_whole : (p : PrefixValue) (n : ℕ) → IsWhole p → n ≤ p.len 
 shortened_whole p n e h = record {
   short = omega (arith, e.short);
   fits = omega (arith, e.fits, div-mul-le_self p.addr (2 ^ (width p.family - n)));
-  clear = mul-mod_left (first_bits p.family p.addr n) (2 ^ (width p.family - n));
+  clear = mul-mod_left (p.addr / 2 ^ (width p.family - n)) (2 ^ (width p.family - n));
 }
 
 -- a number without a remainder is its quotient times the divisor
@@ -40,8 +40,8 @@ cut_alike a b d pos whole = both_ways _ _
 pub cut_has_bits : (p : PrefixValue) (bits : ℕ) → IsWhole p → nat_eq p.addr (bits / 2 ^ (width p.family - p.len) * 2 ^ (width p.family - p.len)) ≡ has_bits p bits
 cut_has_bits p bits e = cut_alike p.addr bits (2 ^ (width p.family - p.len)) (pow_pos (width p.family - p.len)) (div-mul_whole p.addr (2 ^ (width p.family - p.len)) e.clear)
 
--- families of one place are equal
-pub family_is : (f g : Family) → nat_eq (family_place f) (family_place g) ≡ true → f ≡ g
+-- families of one width are equal
+pub family_is : (f g : Family) → nat_eq (width f) (width g) ≡ true → f ≡ g
 family_is V4 V4 e = refl
 family_is V4 V6 e = cc e
 family_is V6 V4 e = cc e
@@ -77,7 +77,7 @@ covers_to q p e h =
 -- and each shortened prefix covers it
 pub shortened_covers : (p : PrefixValue) (n : ℕ) → n ≤ p.len → covers (shortened p n) p ≡ true
 shortened_covers p n h =
-    both_true _ _ (eq-eqb (family_place p.family) (family_place p.family) refl)
+    both_true _ _ (eq-eqb (width p.family) (width p.family) refl)
     (both_true (nat_le n p.len) _ (grind (arith, nat_tests))
     (eq-eqb (p.addr / 2 ^ (width p.family - n) * 2 ^ (width p.family - n) / 2 ^ (width p.family - n)) (p.addr / 2 ^ (width p.family - n)) (mul-div_cancel (p.addr / 2 ^ (width p.family - n)) (pow_pos (width p.family - n)))))
 
@@ -100,7 +100,7 @@ shortened_le p n m le =
 -- and so it comes first
 pub shorter_first : (p : PrefixValue) (n m : ℕ) → n < m → prefix_cmp (shortened p n) (shortened p m) ≡ Less
 shorter_first p n m lt =
-    ap (λ r. ordering_then r (ordering_then (nat_cmp (shortened p n).addr (shortened p m).addr) (nat_cmp n m))) (tied_itself nat_cmp_total (family_place p.family))
+    ap (λ r. ordering_then r (ordering_then (nat_cmp (shortened p n).addr (shortened p m).addr) (nat_cmp n m))) (tied_itself nat_cmp_total (width p.family))
     ∙ by (cases_lt (shortened p n).addr (shortened p m).addr)
   where
     by : ((shortened p n).addr < (shortened p m).addr) ⊎ ((shortened p m).addr ≤ (shortened p n).addr) → ordering_then (nat_cmp (shortened p n).addr (shortened p m).addr) (nat_cmp n m) ≡ Less

@@ -7,8 +7,7 @@ use Rattle.net_names.specs.Links.{pair_cmp}
 
 -- how many bits an address of the family has (RFC 791, section 3.2; RFC 4291, section 2)
 abbrev pub width : Family → ℕ
-width V4 = 32
-width V6 = 128
+width family = elim family [ V4 ↦ 32 | V6 ↦ 128 ]
 
 -- an address is a family and a number (RFC 791, section 3.2; RFC 4291, section 2)
 pub record AddrValue : Type 0 where
@@ -23,11 +22,6 @@ FitsFamily family bits = bits < 2 ^ width family
 abbrev pub addr_at : Family → ℕ → Option AddrValue
 addr_at family bits = if nat_lt bits (2 ^ width family) then Some (record { family = family; bits = bits }) else None
 
--- IPv4 comes before IPv6
-abbrev pub family_place : Family → ℕ
-family_place V4 = 0
-family_place V6 = 1
-
--- addresses are ordered by family, and then by number
+-- addresses are ordered by family, IPv4 before IPv6 as its width is less, and then by number
 abbrev pub addr_cmp : AddrValue → AddrValue → Ordering
-addr_cmp a b = pair_cmp (family_place a.family, a.bits) (family_place b.family, b.bits)
+addr_cmp a b = pair_cmp (width a.family, a.bits) (width b.family, b.bits)

@@ -1,25 +1,20 @@
 -- What a prefix covers, which addresses it holds, and the prefixes that cover it.
 use Rattle.std.specs.Prelude.{ℕ, ◌-◌, ◌*◌, ◌/◌, ◌^◌, ◌&&◌, ◌==◌, nat_le, Bool}
-use Rattle.net_names.specs.declared.addresses.Family.{Family}
-use Rattle.net_names.specs.Addresses.{width, family_place, AddrValue}
+use Rattle.net_names.specs.Addresses.{width, AddrValue}
 use Rattle.net_names.specs.Prefixes.{PrefixValue}
-
--- the first so many bits of an address of the family (RFC 4291, section 2.3)
-abbrev pub first_bits : Family → ℕ → ℕ → ℕ
-first_bits family addr bits = addr / 2 ^ (width family - bits)
 
 -- the first bits of an address are those of the prefix, as many as the prefix is long (RFC 6811, section 2)
 abbrev pub has_bits : PrefixValue → ℕ → Bool
-has_bits p addr = first_bits p.family p.addr p.len == first_bits p.family addr p.len
+has_bits p addr = let past = 2 ^ (width p.family - p.len) in p.addr / past == addr / past
 
--- the outer prefix covers the inner one: of one family, no longer, and alike in as many bits as the outer one is long (RFC 6811, section 2)
+-- the first prefix covers the second: of one family, no longer, and alike in as many bits as the first is long (RFC 6811, section 2)
 abbrev pub covers : PrefixValue → PrefixValue → Bool
-covers outer inner = (family_place outer.family == family_place inner.family) && (nat_le outer.len inner.len && has_bits outer inner.addr)
+covers p q = (width p.family == width q.family) && (nat_le p.len q.len && has_bits p q.addr)
 
 -- the prefix holds the address: of one family, and alike in as many bits as the prefix is long (RFC 4632, section 3.1)
 abbrev pub holds : PrefixValue → AddrValue → Bool
-holds prefix a = (family_place prefix.family == family_place a.family) && has_bits prefix a.bits
+holds p a = (width p.family == width a.family) && has_bits p a.bits
 
 -- the prefix of this length that has the same first bits (RFC 4632, section 3.1)
 abbrev pub shortened : PrefixValue → ℕ → PrefixValue
-shortened p n = record p { len = n; addr = first_bits p.family p.addr n * 2 ^ (width p.family - n) }
+shortened p n = let past = 2 ^ (width p.family - n) in record p { len = n; addr = p.addr / past * past }

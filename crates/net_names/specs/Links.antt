@@ -4,6 +4,7 @@ use Rattle.std.specs.Coded.{Coded, coded×, coded_ℕ}
 use Rattle.std.specs.declared.cmp.Ordering.{Ordering}
 use Rattle.std.specs.Ordering.{nat_cmp, ordering_then}
 use Rattle.std.specs.FinMap as map
+use Rattle.std.specs.FinMap.{insert}
 use Rattle.net_names.specs.declared.routes.Rel.{Rel}
 use Rattle.net_names.specs.declared.routes.Rel.TheVariants.{Customer, Peer, Provider}
 use Rattle.net_names.specs.contracts.routes.Rel as rel
@@ -22,9 +23,7 @@ link_map_code = map.code (coded× coded_ℕ coded_ℕ) rel.the_row.coded
 
 -- what a is to b, where b is this to a: a customer's other side is a provider (RFC 9234, section 4)
 abbrev pub converse : Rel → Rel
-converse Customer = Provider
-converse Peer = Peer
-converse Provider = Customer
+converse rel = elim rel [ Customer ↦ Provider | Peer ↦ Peer | Provider ↦ Customer ]
 
 -- what b is to a, where they have a link; an AS has none with itself
 abbrev pub between : LinkMap → ℕ → ℕ → Option Rel
@@ -32,4 +31,4 @@ between links a b = if nat_lt a b then map.get links (a, b) else (if nat_lt b a 
 
 -- b is this to a, in place of what it was, and each other pair stays
 abbrev pub with_relation : LinkMap → ℕ → ℕ → Rel → LinkMap
-with_relation links a b r = if nat_lt a b then map.insert links (a, b) r else map.insert links (b, a) (converse r)
+with_relation m a b r = if nat_lt a b then insert m (a, b) r else insert m (b, a) (converse r)

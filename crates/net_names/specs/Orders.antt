@@ -11,34 +11,34 @@ use Rattle.net_names.specs.declared.addresses.Family.{Family}
 use Rattle.net_names.specs.declared.addresses.Family.TheVariants.{V4, V6}
 use Rattle.net_names.specs.contracts.addresses.Family.{the_type}
 use denote.Enum.Bare.{sameb}
-use Rattle.net_names.specs.Addresses.{AddrValue, addr_cmp, family_place}
+use Rattle.net_names.specs.Addresses.{AddrValue, addr_cmp, width}
 use Rattle.net_names.specs.Prefixes.{PrefixValue, prefix_cmp, announcement_cmp}
 use Rattle.net_names.specs.Payloads.{VrpValue, vrp_cmp}
 
-family_of_place : (f g : Family) → family_place f ≡ family_place g → f ≡ g
-family_of_place V4 V4 e = refl
-family_of_place V4 V6 e = cc e
-family_of_place V6 V4 e = cc e
-family_of_place V6 V6 e = refl
+family_of_width : (f g : Family) → width f ≡ width g → f ≡ g
+family_of_width V4 V4 e = refl
+family_of_width V4 V6 e = cc e
+family_of_width V6 V4 e = cc e
+family_of_width V6 V6 e = refl
 
 pub addr_total : IsTotalOrder addr_cmp
-addr_total = then_total (on_total (λ a. family_place a.family) nat_cmp_total) (on_total (λ a. a.bits) nat_cmp_total)
+addr_total = then_total (on_total (λ a. width a.family) nat_cmp_total) (on_total (λ a. a.bits) nat_cmp_total)
 
 pub exact_addr : CmpEqualImpliesEq addr_cmp
 exact_addr a b h =
-    let parts : AddrValue → ℕ × ℕ = λ x. (family_place x.family, x.bits) in
+    let parts : AddrValue → ℕ × ℕ = λ x. (width x.family, x.bits) in
     let e : parts a ≡ parts b = exact_pairs nat_cmp nat_cmp exact_unsigned exact_unsigned (parts a) (parts b) h in
-    let f : a.family ≡ b.family = family_of_place a.family b.family (ap (λ (p : ℕ × ℕ). p.0) e) in
+    let f : a.family ≡ b.family = family_of_width a.family b.family (ap (λ (p : ℕ × ℕ). p.0) e) in
     λ i. record { family = f i; bits = (e i).1 }
 
 pub prefix_total : IsTotalOrder prefix_cmp
-prefix_total = then_total (on_total (λ p. family_place p.family) nat_cmp_total) (then_total (on_total (λ p. p.addr) nat_cmp_total) (on_total (λ p. p.len) nat_cmp_total))
+prefix_total = then_total (on_total (λ p. width p.family) nat_cmp_total) (then_total (on_total (λ p. p.addr) nat_cmp_total) (on_total (λ p. p.len) nat_cmp_total))
 
 pub exact_prefix : CmpEqualImpliesEq prefix_cmp
 exact_prefix a b h =
-    let parts : PrefixValue → ℕ × (ℕ × ℕ) = λ x. (family_place x.family, (x.addr, x.len)) in
+    let parts : PrefixValue → ℕ × (ℕ × ℕ) = λ x. (width x.family, (x.addr, x.len)) in
     let e : parts a ≡ parts b = exact_pairs nat_cmp _ exact_unsigned (exact_pairs nat_cmp nat_cmp exact_unsigned exact_unsigned) (parts a) (parts b) h in
-    let f : a.family ≡ b.family = family_of_place a.family b.family (ap (λ (p : ℕ × (ℕ × ℕ)). p.0) e) in
+    let f : a.family ≡ b.family = family_of_width a.family b.family (ap (λ (p : ℕ × (ℕ × ℕ)). p.0) e) in
     λ i. record { family = f i; addr = (e i).1.0; len = (e i).1.1 }
 
 pub announcement_total : IsTotalOrder announcement_cmp

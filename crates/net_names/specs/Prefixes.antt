@@ -2,11 +2,11 @@
 use Rattle.std.specs.Prelude.{◌≡◌, ℕ, ◌-◌, ◌%◌, ◌^◌, ◌<◌, ◌≤◌, ◌&&◌, ◌==◌, nat_lt, nat_le, Option, Some, None, if◌then◌else◌, refl}
 use Rattle.std.specs.Coded.{Coded, code_by, coded×, coded_ℕ}
 use Rattle.std.specs.declared.cmp.Ordering.{Ordering}
-use Rattle.std.specs.Ordering.{nat_cmp, ordering_then}
+use Rattle.std.specs.Ordering.{nat_cmp, on, ordering_then, then_cmp}
 use Rattle.net_names.specs.declared.addresses.Family.{Family}
 use Rattle.net_names.specs.contracts.addresses.Family as family
 use Rattle.net_names.specs.Addresses.{width}
-pub use Rattle.net_names.specs.Addresses.{family_place}
+use Rattle.net_names.specs.Links.{pair_cmp}
 
 -- a prefix is a family, the number of its lowest address, and a length (RFC 4632, section 3.1; RFC 4291, section 2.3)
 pub record PrefixValue : Type 0 where
@@ -34,7 +34,7 @@ prefix_at family addr len =
 
 -- prefixes are ordered by family, then by address, then by length
 abbrev pub prefix_cmp : PrefixValue → PrefixValue → Ordering
-prefix_cmp p q = ordering_then (nat_cmp (family_place p.family) (family_place q.family)) (ordering_then (nat_cmp p.addr q.addr) (nat_cmp p.len q.len))
+prefix_cmp = then_cmp (on (λ p. width p.family) nat_cmp) (on (λ p. (p.addr, p.len)) pair_cmp)
 
 -- a prefix and an AS that announces it are ordered by the prefix, and then by the AS
 abbrev pub announcement_cmp : PrefixValue × ℕ → PrefixValue × ℕ → Ordering

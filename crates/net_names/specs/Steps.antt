@@ -1,6 +1,6 @@
 -- Steps that may give nothing, and the first fault of a list.
 use Rattle.std.specs.Prelude.{Bool, if◌then◌else◌, List, [], ◌∷◌, ◌++◌, Option, Some, None, option_and_then, Result, Err}
-use Rattle.std.specs.Option.{option_or}
+use Rattle.std.specs.Option.{option_or, option_map_or}
 
 -- the next step, taken with what the first step gave, where it gave something
 infixl 10 ◌>>=◌
@@ -13,8 +13,7 @@ option_filter test o = o >>= λ x. if test x then Some x else None
 
 -- the value, unless there is a fault
 abbrev pub unless : {A E : Type 0} → Option E → Result A E → Result A E
-unless None value = value
-unless (Some e) value = Err e
+unless fault value = option_map_or Err fault value
 
 -- the first fault of items that stand behind others, where it is told which fault an item has behind those before it
 abbrev pub first_fault : {A E : Type 0} → (List A → A → Option E) → List A → List A → Option E

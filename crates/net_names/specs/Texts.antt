@@ -1,7 +1,8 @@
 -- The texts of AS numbers, addresses and prefixes: what each text says, and how each value is printed.
-use Rattle.std.specs.Prelude.{ℕ, ◌+◌, ◌^◌, ◌&&◌, ◌||◌, ◌==◌, ◌==◌ as nat_eq, nat_lt, nat_le, List, [], ◌∷◌, ◌++◌, length, slice_index, decimal, Option, Some, None, option_map, if◌then◌else◌, position, unwrap_or, take, drop, true, Bool, bytes_eq, codes}
+use Rattle.std.specs.Prelude.{ℕ, ◌+◌, ◌-◌, ◌%◌, ◌^◌, ◌&&◌, ◌==◌, ◌==◌ as nat_eq, nat_lt, nat_le, List, [], ◌∷◌, ◌++◌, length, slice_get, decimal, Option, Some, None, option_map, if◌then◌else◌, position, unwrap_or, take, drop, true, Bool, bytes_eq, codes}
 use Rattle.std.specs.List.{starts_with, list_all, slice_split}
-use Rattle.std.specs.Option.{option_or}
+use Rattle.std.specs.Bool.{then_some}
+use Rattle.std.specs.Option.{option_or, option_map_or}
 use Rattle.std.specs.Char.{is_digit}
 use Rattle.std.specs.Str.Parse.{digits_value}
 use Rattle.std.specs.Int.{w32, w128, to_be_bytes, from_be_bytes}
@@ -13,12 +14,12 @@ use Rattle.net_names.specs.declared.routes.Rel.{Rel}
 use Rattle.net_names.specs.declared.routes.Rel.TheVariants.{Customer, Peer}
 use Rattle.net_names.specs.Numbers.{occurs}
 use Rattle.net_names.specs.Addresses.{width, AddrValue}
-use Rattle.net_names.specs.Prefixes.{PrefixValue, prefix_at}
+use Rattle.net_names.specs.Prefixes.{PrefixValue}
 use Rattle.net_names.specs.Steps.{◌>>=◌, option_filter}
 
 -- the text before the first such byte, and the text after it, where the byte stands in the text
 abbrev pub cut_at : ℕ → List ℕ → Option (List ℕ × List ℕ)
-cut_at byte text = option_map (λ i. (take i text, drop (i + 1) text)) (position (λ b. b == byte) text)
+cut_at byte t = option_map (λ i. (take i t, drop (i + 1) t)) (position (λ b. b == byte) t)
 
 -- the parts of the text between such bytes
 abbrev pub fields : ℕ → List ℕ → List (List ℕ)
@@ -26,8 +27,7 @@ fields byte = slice_split (λ b. b == byte)
 
 -- a line of a file is skipped where it is empty, and where it begins with `#`
 abbrev pub is_skipped : List ℕ → Bool
-is_skipped [] = true
-is_skipped (byte ∷ rest) = byte == 35
+is_skipped line = option_map_or (λ byte. byte == 35) (slice_get line 0) true
 
 -- what the second AS of a link is to the first: a customer for `-1`, a peer for `0` (CAIDA AS Relationships, serial-1)
 unfoldable pub rel_of : List ℕ → Option Rel
@@ -35,15 +35,7 @@ rel_of text = if bytes_eq text (codes "-1") then Some Customer else (if bytes_eq
 
 -- the number that the text writes in the radix, where it is one digit or more, up to `most`
 unfoldable pub numeral : ℕ → ℕ → List ℕ → Option ℕ
-numeral radix most text =
-    if nat_lt 0 (length text) && (nat_le (length text) most && list_all (λ c. is_digit c radix) text)
-    then Some (digits_value radix text) else None
-
--- the number that 1 to 3 decimal digits write, without a leading zero unless it is the digit 0, where it is at most the limit
-abbrev pub plain_at_most : ℕ → List ℕ → Option ℕ
-plain_at_most limit text = do
-  n ← numeral 10 3 text
-  if (nat_lt 1 (length text) && (slice_index text 0 == 48)) || nat_lt limit n then None else Some n
+numeral radix most t = then_some (nat_lt 0 (length t) && (nat_le (length t) most && list_all (λ c. is_digit c radix) t)) (digits_value radix t)
 
 -- the AS number that 1 to 10 decimal digits write, where it is from 1 to 4294967295 (RFC 5396, asplain; RFC 7607 rules out 0)
 unfoldable pub asn_of : List ℕ → Option ℕ
@@ -54,45 +46,31 @@ abbrev pub all_some : {A : Type 0} → List (Option A) → Option (List A)
 all_some [] = Some []
 all_some (o ∷ os) = o >>= λ x. all_some os >>= λ xs. Some (x ∷ xs)
 
--- the IPv4 address that four numbers up to 255 with dots between them write (RFC 3986, section 3.2.2, IPv4address)
-unfoldable pub v4_of : List ℕ → Option ℕ
-v4_of text = option_map (from_be_bytes w32) (whole_value (read_ipv4 text))
-
--- the IPv6 address that the text writes (RFC 4291, section 2.2, forms 1 and 2; the form with a dotted end is not read)
-unfoldable pub v6_of : List ℕ → Option ℕ
-v6_of text = if occurs dot text then None else option_map (λ groups. from_be_bytes w128 (octets_of groups)) (whole_value (read_ipv6 text))
-
--- the one text of an IPv4 address: its four bytes in decimal digits with dots between them (RFC 3986, section 3.2.2)
-unfoldable pub v4_text : ℕ → List ℕ
-v4_text bits = ipv4_text (to_be_bytes w32 bits)
-
--- the one text that an IPv6 address is printed as: groups in hexadecimal digits, of which the first longest run of 0 is shortened (RFC 5952, section 4)
-unfoldable pub v6_text : ℕ → List ℕ
-v6_text bits = hex_groups_text (segments_of (to_be_bytes w128 bits))
-
--- the one text of an address, by its family
-abbrev pub addr_text : AddrValue → List ℕ
-addr_text a = elim a.family [ V4 ↦ v4_text a.bits | V6 ↦ v6_text a.bits ]
+-- the one text that an address is printed as: IPv4 by its four bytes in decimal digits with dots between them (RFC 3986, section 3.2.2),
+-- IPv6 by groups in hexadecimal digits, of which the first longest run of 0 is shortened (RFC 5952, section 4)
+unfoldable pub addr_text : AddrValue → List ℕ
+addr_text a = elim a.family [ V4 ↦ ipv4_text (to_be_bytes w32 a.bits) | V6 ↦ hex_groups_text (segments_of (to_be_bytes w128 a.bits)) ]
 
 -- the one text of a prefix: its address, a slash and its length in decimal digits (RFC 4632, section 3.1; RFC 4291, section 2.3)
 abbrev pub prefix_text : PrefixValue → List ℕ
 prefix_text p = addr_text (record { family = p.family; bits = p.addr }) ++ (47 ∷ decimal p.len)
 
--- the address of either family that the text writes
+-- the address that the text writes: IPv4 by four numbers up to 255 with dots between them (RFC 3986, section 3.2.2, IPv4address),
+-- IPv6 in the forms 1 and 2 of RFC 4291, section 2.2; its form with a dotted end is not read
 unfoldable pub addr_of : List ℕ → Option AddrValue
-addr_of text = option_or (option_map (λ a. record { family = V4; bits = a }) (v4_of text)) (option_map (λ a. record { family = V6; bits = a }) (v6_of text))
+addr_of text =
+    option_or (option_map (λ octets. record { family = V4; bits = from_be_bytes w32 octets }) (whole_value (read_ipv4 text)))
+    (if occurs dot text then None else option_map (λ groups. record { family = V6; bits = from_be_bytes w128 (octets_of groups) }) (whole_value (read_ipv6 text)))
 
--- the prefix that an address, a slash and a length of at most the width write, where no bit past the length is set (RFC 4632, section 3.1; RFC 4291, section 2.3)
+-- the prefix that an address, a slash and a length of at most the width write, where the length has no needless zero in front,
+-- and no bit past the length is set (RFC 4632, section 3.1; RFC 4291, section 2.3)
 unfoldable pub prefix_of : List ℕ → Option PrefixValue
-prefix_of text = do
-  p ← cut_at 47 text
-  a ← addr_of p.0
-  l ← plain_at_most (width a.family) p.1
-  prefix_at a.family a.bits l
+prefix_of text = cut_at 47 text >>= λ p. addr_of p.0 >>= λ a. numeral 10 3 p.1 >>= λ n.
+    then_some (bytes_eq p.1 (decimal n) && (nat_le n (width a.family) && (a.bits % 2 ^ (width a.family - n) == 0))) (record { family = a.family; addr = a.bits; len = n })
 
 -- what stands after these bytes, where the text begins with them
 abbrev pub after : List ℕ → List ℕ → Option (List ℕ)
-after front text = if starts_with nat_eq text front then Some (drop (length front) text) else None
+after front text = then_some (starts_with nat_eq text front) (drop (length front) text)
 
 -- the number of a payload, at most 4294967295, that 1 to 10 decimal digits write, before which the letters `AS` may stand
 unfoldable pub vrp_asn_of : List ℕ → Option ℕ

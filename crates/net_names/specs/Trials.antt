@@ -4,5 +4,4 @@ use Rattle.std.specs.Prelude.{Result, Ok, Err}
 -- the next step, taken with what the first step gave, where it did not fail
 infixl 10 ◌>>=◌
 abbrev pub ◌>>=◌ : {A B E : Type 0} → Result A E → (A → Result B E) → Result B E
-(Ok x) >>= f = f x
-(Err e) >>= f = Err e
+r >>= f = elim r [ Ok x ↦ f x | Err e ↦ Err e ]

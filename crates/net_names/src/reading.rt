@@ -1,6 +1,11 @@
 //! Texts to values.
-ghost use Rattle.std.specs.Prelude.{◌≡◌, ◌^◌, ◌<◌, ◌≤◌, ◌==◌, option_map, IfSome, length, position};
-ghost use Rattle.net_names.specs.Texts.{cut_at, numeral, plain_at_most, asn_of, v4_of, v6_of, addr_of, prefix_of, vrp_asn_of, after};
+ghost use Rattle.std.specs.Prelude.{◌≡◌, ◌^◌, ◌<◌, ◌≤◌, ◌&&◌, ◌==◌, nat_le, None, bytes_eq, decimal, option_map, if◌then◌else◌, IfSome, length, position};
+ghost use Rattle.std.specs.Int.{w32, w128, from_be_bytes};
+ghost use Rattle.std.specs.Net.Addr.{octets_of};
+ghost use Rattle.std.specs.Net.Reader.{whole_value, read_ipv4, read_ipv6, dot};
+ghost use Rattle.net_names.specs.Numbers.{occurs};
+ghost use Rattle.net_names.specs.Steps.{option_filter};
+ghost use Rattle.net_names.specs.Texts.{cut_at, numeral, asn_of, addr_of, prefix_of, vrp_asn_of, after};
 
 use crate::addresses::{Addr, Family};
 use crate::numbers::Asn;
@@ -44,7 +49,7 @@ pub fn number(text: &[u8], radix: u8, most: usize) -> Option<u64>
 
 /// Up to 3 digits without a leading zero, at most the limit.
 fn plain(text: &[u8], limit: u8) -> Option<u8>
-    ensures { result ≡ plain_at_most limit text.now }
+    ensures { result ≡ option_filter (λ n. bytes_eq text.now (decimal n) && nat_le n limit) (numeral 10 3 text.now) }
 {
     let n = number(text, 10, 3)?;
     if (text.len() > 1 && text[0] == b'0') || n > limit as u64 {
@@ -67,7 +72,7 @@ pub fn read_asn(text: &[u8]) -> Option<Asn>
 }
 
 fn read_v4(text: &[u8]) -> Option<u32>
-    ensures { result ≡ v4_of text.now }
+    ensures { result ≡ option_map (from_be_bytes w32) (whole_value (read_ipv4 text.now)) }
 {
     match Ipv4Addr::parse_ascii(text) {
         Ok(addr) => Some(addr.to_bits()),
@@ -77,7 +82,7 @@ fn read_v4(text: &[u8]) -> Option<u32>
 
 /// A dotted end is not read.
 fn read_v6(text: &[u8]) -> Option<u128>
-    ensures { result ≡ v6_of text.now }
+    ensures { result ≡ (if occurs dot text.now then None else option_map (λ groups. from_be_bytes w128 (octets_of groups)) (whole_value (read_ipv6 text.now))) }
 {
     if text.contains(&b'.') {
         return None;

@@ -2,7 +2,8 @@
 ghost use Rattle.std.specs.Prelude.{◌≡◌, ℕ, ◌^◌, ◌<◌, ◌≤◌, ◌++◌, decimal, List, IfSome, OnOk, OnErr, Some};
 ghost use Rattle.net_names.specs.Addresses.{AddrValue, FitsFamily};
 ghost use Rattle.net_names.specs.Prefixes.{PrefixValue, IsPrefix};
-ghost use Rattle.net_names.specs.Texts.{asn_of, addr_of, addr_text, prefix_of, prefix_text, v4_of, v4_text, v6_of, v6_text};
+ghost use Rattle.net_names.specs.declared.addresses.Family.TheVariants.{V4, V6};
+ghost use Rattle.net_names.specs.Texts.{asn_of, addr_of, addr_text, prefix_of, prefix_text};
 
 use crate::addresses::{Addr, Family};
 use crate::numbers::{Asn, NoMemory};
@@ -43,13 +44,13 @@ fn put<D: Display + Drop>(out: &mut Vec<u8>, value: D) -> Result<(), NoMemory>
 
 /// What is read as an IPv4 address is the one text of that address, and that text is read again.
 pub fn v4_has_one_text()
-    ensures found { (text : List ℕ) (bits : ℕ) → v4_of text ≡ Some bits → (text ≡ v4_text bits) × (bits < 2 ^ 32) }
-    ensures again { (bits : ℕ) → bits < 2 ^ 32 → v4_of (v4_text bits) ≡ Some bits }
+    ensures found { (text : List ℕ) (bits : ℕ) → addr_of text ≡ Some (record { family = V4; bits = bits }) → (text ≡ addr_text (record { family = V4; bits = bits })) × (bits < 2 ^ 32) }
+    ensures again { (bits : ℕ) → bits < 2 ^ 32 → addr_of (addr_text (record { family = V4; bits = bits })) ≡ Some (record { family = V4; bits = bits }) }
 {}
 
 /// An IPv6 address may be written in several ways. Its one printed text is read again as the address.
 pub fn v6_has_one_text()
-    ensures again { (bits : ℕ) → bits < 2 ^ 128 → v6_of (v6_text bits) ≡ Some bits }
+    ensures again { (bits : ℕ) → bits < 2 ^ 128 → addr_of (addr_text (record { family = V6; bits = bits })) ≡ Some (record { family = V6; bits = bits }) }
 {}
 
 /// The printed text of an AS number, an address or a prefix is read again as that value.

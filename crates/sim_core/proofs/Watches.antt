@@ -14,7 +14,7 @@ use Rattle.std.proofs.lemmas.Bool.Decides.{nat_tests}
 use Rattle.std.proofs.lemmas.List.Sums.{passes_at_first}
 use Rattle.std.proofs.lemmas.Map.Lookups.{CmpEqualImpliesEq, exact_pairs, exact_unsigned}
 use Rattle.std.proofs.lemmas.Option.{get_or_from_slice_get, slice_get-get_or, slice_get-map, slice_get_within}
-use Rattle.net_names.specs.Addresses.{AddrValue, addr_cmp, family_place}
+use Rattle.net_names.specs.Addresses.{AddrValue, addr_cmp, width}
 use Rattle.net_names.specs.Prefixes.{PrefixValue}
 use Rattle.net_names.specs.declared.addresses.Family.{Family}
 use Rattle.net_names.specs.declared.addresses.Family.TheVariants.{V4, V6}
@@ -76,7 +76,7 @@ tied_is Greater h = cc
 
 -- ---- addresses
 
-same_family : (f g : Family) → family_place f ≡ family_place g → f ≡ g
+same_family : (f g : Family) → width f ≡ width g → f ≡ g
 same_family V4 V4 e = cc
 same_family V4 V6 e = cc
 same_family V6 V4 e = cc
@@ -84,7 +84,7 @@ same_family V6 V6 e = cc
 
 exact_addr : CmpEqualImpliesEq addr_cmp
 exact_addr a b e =
-    let same : (family_place a.family, a.bits) ≡ (family_place b.family, b.bits) = exact_pairs nat_cmp nat_cmp exact_unsigned exact_unsigned (family_place a.family, a.bits) (family_place b.family, b.bits) e in
+    let same : (width a.family, a.bits) ≡ (width b.family, b.bits) = exact_pairs nat_cmp nat_cmp exact_unsigned exact_unsigned (width a.family, a.bits) (width b.family, b.bits) e in
     let f : a.family ≡ b.family = same_family a.family b.family (ap (λ (t : ℕ × ℕ). t.0) same) in
     λ i. record { family = f i; bits = (same i).1 }
 
