@@ -1,12 +1,8 @@
 -- How many entries differ between two families of routings.
-use Rattle.std.specs.Prelude.{◌≡◌, ◌≢◌, ◌↔◌, ℕ, ◌≤◌, IsTrue, Option, List, length, AllPairs, Contains}
+use Rattle.std.specs.Prelude.{◌≡◌, ◌≢◌, ◌↔◌, ℕ, ◌≤◌, IsTrue, List, length, AllPairs, Contains}
 use Rattle.net_names.specs.Prefixes.{PrefixValue}
-use Rattle.stability_laws.specs.declared.entry.Entry.{Entry}
 use Rattle.stability_laws.specs.Plans.{Plan, has_prefix}
-
--- what each AS holds, for each round and prefix
-abbrev pub Family : Type 0
-Family = ℕ → PrefixValue → ℕ → Option Entry
+pub use Rattle.stability_laws.specs.Rounds.{Family}
 
 -- so many triples of round, prefix and AS have different entries, where the round is one of so many and the prefix is one of the plan: they are just the elements of a list in which nothing stands twice. An entry and no entry differ
 pub record HasChanges (plan : Plan) (rounds : ℕ) (old new : Family) (count : ℕ) : Type 0 where

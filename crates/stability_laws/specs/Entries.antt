@@ -8,9 +8,7 @@ use Rattle.stability_laws.specs.declared.entry.Seed.{Seed}
 
 -- the class of an entry that a neighbour gave names what the neighbour is (Gao and Rexford 2001)
 abbrev pub class_of : Rel → Class
-class_of Customer = class.Customer
-class_of Peer = class.Peer
-class_of Provider = class.Provider
+class_of r = elim r [ Customer ↦ class.Customer | Peer ↦ class.Peer | Provider ↦ class.Provider ]
 
 -- what an AS with the seed holds: its own path with its number, as class Origin
 abbrev pub seed_entry : Seed → Entry

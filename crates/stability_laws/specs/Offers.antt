@@ -1,8 +1,12 @@
 -- Which offer one AS makes to another.
+use denote.Enum.Bare.{sameb}
 use Rattle.std.specs.Prelude.{◌≡◌, ℕ, ◌+◌, Bool, not, ◌&&◌, if◌then◌else◌, Option, None, Some, is_some, ◌∷◌, length, slice_get}
+use Rattle.std.specs.Bool.{then_some}
+use Rattle.std.specs.Option.{option_or}
+use Rattle.net_names.specs.contracts.routes.Rel.{the_type as rel}
 use Rattle.net_names.specs.declared.routes.Class.{Class}
 use Rattle.net_names.specs.declared.routes.Rel.{Rel}
-use Rattle.net_names.specs.declared.routes.Rel.TheVariants.{Customer, Provider}
+use Rattle.net_names.specs.declared.routes.Rel.TheVariants.{Provider}
 use Rattle.net_names.specs.declared.routes.State.{State}
 use Rattle.policy_laws.specs.declared.policy.View.{View}
 use Rattle.policy_laws.specs.Policy.{Policy}
@@ -18,17 +22,9 @@ pub record Setting : Type 0 where
   pub policy : ℕ → Policy
   pub state : ℕ → State
 
--- the number that AS n sends along with an entry: the one that the entry has; else its own, where it marks and the receiver is its customer or its peer (RFC 9234, section 5, rule 1 on sending)
-abbrev pub number_sent : Bool → ℕ → Rel → Option ℕ → Option ℕ
-number_sent marks n to (Some o) = Some o
-number_sent marks n Provider None = None
-number_sent marks n to None = if marks then Some n else None
-
--- the number that an AS keeps of what AS n sends: the one that came; else the number n, where the AS marks and n is its provider or its peer (RFC 9234, section 5, rule 3 on receipt)
-abbrev pub number_kept : Bool → ℕ → Rel → Option ℕ → Option ℕ
-number_kept marks n from (Some o) = Some o
-number_kept marks n Customer None = None
-number_kept marks n from None = if marks then Some n else None
+-- the number of a route on its way from AS n to one that is `to` to it, after an end of that link that marks routes or does not: the number that it has; else n, where that end marks and the receiver is a customer or a peer of n (RFC 9234, section 5, rule 1 on sending and rule 3 on receipt); `sameb` says whether two are the same
+abbrev pub marked : Bool → ℕ → Rel → Option ℕ → Option ℕ
+marked marks n to otc = option_or otc (then_some (marks && not (sameb rel to Provider)) n)
 
 -- an offer: what the receiver's policy sees of it, and the entry that the receiver would hold (RFC 4271, section 9.1)
 pub record Offer : Type 0 where
@@ -37,35 +33,22 @@ pub record Offer : Type 0 where
 
 -- what an AS to which n is `from` sees of n's entry: the relation, the neighbour, the length of the path with itself put before it, the state of the prefix with the path's last number, and the number that is sent (RFC 4271, section 9.1.2; RFC 6811, section 2; RFC 9234, section 5)
 abbrev pub view_of : Bool → (ℕ → State) → ℕ → Rel → Entry → View
-view_of marks state n from e = record {
-  rel = from;
-  neighbour = n;
-  length = length e.path + 1;
-  state = state (last_or 0 e.path);
-  otc = number_sent marks n (converse from) e.otc;
-}
+view_of marks state n from e = record { rel = from; neighbour = n; length = length e.path + 1; state = state (last_or 0 e.path); otc = marked marks n (converse from) e.otc }
 
 -- the entry that AS a would hold of n's entry: its class names what n is, its path is a followed by n's path, and its number is the one that a keeps (RFC 4271, section 5.1.2; RFC 9234, section 5)
 abbrev pub passed_on : Bool → Bool → ℕ → ℕ → Rel → Entry → Entry
-passed_on n_marks a_marks n a from e = record {
-  class = class_of from;
-  path = a ∷ e.path;
-  otc = number_kept a_marks n from (number_sent n_marks n (converse from) e.otc);
-}
+passed_on n_marks a_marks n a from e = record { class = class_of from; path = a ∷ e.path; otc = marked a_marks n (converse from) (marked n_marks n (converse from) e.otc) }
 
 -- n's entry reaches AS a: n exports it to what a is to n, its path is not empty, a does not stand in its path, and a's policy accepts the view (Gao and Rexford 2001; RFC 4271, section 9.1.2, AS loops)
 abbrev pub passes : (Class → Option ℕ → Rel → Bool) → Policy → ℕ → Rel → Entry → View → Bool
-passes exports receiver a from e view =
-    exports e.class e.otc (converse from) && (is_some (slice_get e.path 0) && (not (occurs a e.path) && receiver.accepts view))
+passes exports receiver a from e view = exports e.class e.otc (converse from) &&
+    (is_some (slice_get e.path 0) && (not (occurs a e.path) && receiver.accepts view))
 
--- the offer that n makes to a, given both policies, the states, what n is to a, and what n holds: there is none without a link or an entry, or where the entry does not reach a (RFC 4271, section 9.1)
+-- the offer that n, with the policy s, makes to a, with the policy r, given the states, what n is to a, and what n holds: there is none without a link or an entry, or where the entry does not reach a (RFC 4271, section 9.1)
 abbrev pub offer_given : Policy → Policy → (ℕ → State) → ℕ → ℕ → Option Rel → Option Entry → Option Offer
-offer_given sender receiver state n a (Some from) (Some e) =
-    let view = view_of sender.marks state n from e in
-    if passes sender.exports receiver a from e view
-    then Some (record { view = view; entry = passed_on sender.marks receiver.marks n a from e })
-    else None
-offer_given sender receiver state n a from held = None
+offer_given s r state n a (Some from) (Some e) = let view = view_of s.marks state n from e in
+    if passes s.exports r a from e view then Some (record { view = view; entry = passed_on s.marks r.marks n a from e }) else None
+offer_given s r state n a from held = None
 
 -- the offer that n makes to a in the routing f (RFC 4271, section 9.1)
 abbrev pub offer : Setting → (ℕ → Option Entry) → ℕ → ℕ → Option Offer

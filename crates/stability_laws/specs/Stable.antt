@@ -9,7 +9,7 @@ use Rattle.stability_laws.specs.Offers.{Setting, Offer, offer}
 -- n makes this offer, and the policy puts its view before that of every other neighbour's offer (RFC 4271, section 9.1.2)
 pub record IsBest (p : Policy) (offers : ℕ → Option Offer) (n : ℕ) (o : Offer) : Type 0 where
   pub made : offers n ≡ Some o
-  pub first : (m : ℕ) (other : Offer) → offers m ≡ Some other → m ≢ n → IsTrue (p.before o.view other.view)
+  pub first : (m : ℕ) (x : Offer) → offers m ≡ Some x → m ≢ n → IsTrue (p.before o.view x.view)
 
 -- what an AS holds is right: with a seed it is the seed's entry; without a seed and without an offer it is nothing; without a seed and with offers it is the best offer's entry (RFC 4271, section 9.1.2)
 abbrev pub IsRightGiven : Policy → Option Seed → (ℕ → Option Offer) → Option Entry → Type 0

@@ -1,9 +1,8 @@
 //! Which offer one AS makes to another.
 ghost use Rattle.std.specs.Prelude.{◌≡◌, ◌<◌, ◌-◌, ◌^◌, ℕ, Some, length, option_map, slice_get};
 ghost use Rattle.net_names.specs.Numbers.{last_or};
-ghost use Rattle.net_names.specs.Links.{converse};
 ghost use Rattle.stability_laws.specs.Entries.{class_of as class_of_rel};
-ghost use Rattle.stability_laws.specs.Offers.{number_sent as sent_number, number_kept as kept_number, offer_given};
+ghost use Rattle.stability_laws.specs.Offers.{marked, offer_given};
 ghost use Rattle.stability_laws.specs.Carried.{number_carried};
 
 use crate::entry::Entry;
@@ -27,26 +26,13 @@ pub fn class_from(rel: Rel) -> Class
 /// memory.
 /// Source: RFC 9234, section 5, rule 1 on sending.
 pub fn number_sent(marks: bool, n: Asn, to: Rel, otc: Option<Asn>) -> Option<Asn>
-    ensures { result ≡ sent_number marks n to otc }
+    ensures { result ≡ marked marks n to otc }
 {
     match otc {
         Some(number) => Some(number),
         None => match to {
             Rel::Customer | Rel::Peer => if marks { Some(n) } else { None },
             Rel::Provider => None,
-        },
-    }
-}
-
-/// The number that an AS keeps of what `n`, which is `from` to it, sent (RFC 9234, section 5).
-fn number_kept(marks: bool, n: Asn, from: Rel, otc: Option<Asn>) -> Option<Asn>
-    ensures { result ≡ kept_number marks n from otc }
-{
-    match otc {
-        Some(number) => Some(number),
-        None => match from {
-            Rel::Customer => None,
-            Rel::Peer | Rel::Provider => if marks { Some(n) } else { None },
         },
     }
 }
@@ -63,7 +49,7 @@ pub fn carried<P: RoutePolicy>(
     ensures { result ≡ number_carried (P.meaning sender.now) (P.meaning receiver.now) from to otc }
 {
     let sent = number_sent(sender.marks(), from, to, otc);
-    number_kept(receiver.marks(), from, to.converse(), sent)
+    number_sent(receiver.marks(), from, to, sent)
 }
 
 /// The last number of a path, where it has one.
