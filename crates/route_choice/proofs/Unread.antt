@@ -13,7 +13,7 @@ use Rattle.stability_laws.specs.declared.entry.Entry.{Entry}
 use Rattle.stability_laws.specs.declared.entry.Seed.{Seed}
 use Rattle.stability_laws.specs.Book.{PolicyBook, policy_at}
 use Rattle.stability_laws.specs.World.{setting}
-use Rattle.stability_laws.specs.Offers.{Offer, offer, offer_given, passes, passed_on, view_of}
+use Rattle.stability_laws.specs.Offers.{Offer, offer, offer_given, passed_on, view_of}
 use Rattle.stability_laws.specs.Stable.{IsBest}
 use Rattle.stability_laws.specs.BestView.{IsBestView}
 use Rattle.stability_laws.specs.Laws.{if_customer}
@@ -42,9 +42,8 @@ restated s p ignores unread st st' n a (Some from) (Some e) o h =
     let entry : Entry = passed_on s.marks p.marks n a from e in
     let x : Offer = record { view = view_of s.marks st n from e; entry = entry } in
     let y : Offer = record { view = view_of s.marks st' n from e; entry = entry } in
-    let same : passes s.exports p a from e y.view ≡ passes s.exports p a from e x.view =
-    ap (λ b. s.exports e.class e.otc (converse from) && (is_some (slice_get e.path 0) && (not (occurs a e.path) && b))) (ignores.accepts unread x.view (st' (last_or 0 e.path))) in
-    let through = let_through (passes s.exports p a from e x.view) (passes s.exports p a from e y.view) x y o same h in
+    let passes : Bool → Bool = λ b. s.exports e.class e.otc (converse from) && (is_some (slice_get e.path 0) && (not (occurs a e.path) && b)) in
+    let through = let_through (passes (p.accepts x.view)) (passes (p.accepts y.view)) x y o (ap passes (ignores.accepts unread x.view (st' (last_or 0 e.path)))) h in
     record {
       like = y;
       is = through.0;

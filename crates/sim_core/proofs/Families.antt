@@ -3,7 +3,7 @@ use Rattle.std.proofs.Common.{◌≡◌, inl, inr, ℕ, zero, suc, ◌≤◌, Bo
 use Rattle.std.specs.Prelude.{filter, if◌then◌else◌}
 use Rattle.std.specs.Cmp.{eq_by_cmp_equiv}
 use Rattle.std.specs.FinMap as fin
-use Rattle.std.specs.List.{Contains}
+use Rattle.std.specs.List.{Contains, reduce}
 use Rattle.std.specs.Option.{option_map_or}
 use Rattle.std.proofs.lemmas.Map.Views.{list_any-from_Contains}
 use Rattle.net_names.specs.Addresses.{AddrValue}
@@ -12,10 +12,10 @@ use Rattle.net_names.specs.Prefixes.{PrefixValue}
 use Rattle.net_names.specs.Orders.{prefix_total}
 use Rattle.stability_laws.specs.Plans.{Plan, announces, has_prefix, prefixes_of}
 use Rattle.stability_laws.specs.declared.entry.Entry.{Entry}
-use Rattle.data_trace.specs.Hops.{longest, next_hop, second_of, sent_by}
+use Rattle.data_trace.specs.Hops.{next_hop, second_of, sent_by}
 use Rattle.data_trace.specs.declared.kinds.Hop.{Hop}
 use Rattle.data_trace.specs.declared.kinds.Hop.TheVariants.{Here, To, NoRoute}
-use Rattle.data_trace.proofs.Longest.{IsBestOf, best_of}
+use Rattle.data_trace.proofs.Longest.{IsBestOf, best_of, longer_of}
 use Rattle.sim_core.specs.Families.{Family, IsOneFamily}
 use Rattle.sim_core.specs.World.{World}
 
@@ -38,7 +38,7 @@ pub same_next : (plan : Plan) (held now : PrefixValue → ℕ → Option Entry) 
 same_next plan held now addr each a = by (sent_by plan held addr a) refl
   where
     sent : sent_by plan held addr a ≡ sent_by plan now addr a
-    sent = ap longest (filter_same (λ p. holds p addr && is_some (held p a)) (λ p. holds p addr && is_some (now p a)) (prefixes_of plan) (λ p c. ap (λ h. holds p addr && is_some h) (each p (listed_prefix plan p c) a)))
+    sent = ap (reduce longer_of) (filter_same (λ p. holds p addr && is_some (held p a)) (λ p. holds p addr && is_some (now p a)) (prefixes_of plan) (λ p c. ap (λ h. holds p addr && is_some h) (each p (listed_prefix plan p c) a)))
 
     hop : PrefixValue → Option Entry → Hop
     hop p h = if announces plan p a then Here else option_map_or To (second_of h) NoRoute
@@ -46,6 +46,6 @@ same_next plan held now addr each a = by (sent_by plan held addr a) refl
     by : (o : Option PrefixValue) → sent_by plan held addr a ≡ o → next_hop plan held addr a ≡ next_hop plan now addr a
     by None e = ap (λ o. option_map_or (λ p. hop p (held p a)) o NoRoute) e ∙ sym (ap (λ o. option_map_or (λ p. hop p (now p a)) o NoRoute) (sym sent ∙ e))
     by (Some p) e =
-        let best : IsBestOf (λ q. holds q addr && is_some (held q a)) (prefixes_of plan) None p = best_of (λ q. holds q addr && is_some (held q a)) (prefixes_of plan) None p e in
+        let best : IsBestOf (λ q. holds q addr && is_some (held q a)) (prefixes_of plan) None p = best_of (λ q. holds q addr && is_some (held q a)) (prefixes_of plan) p e in
         let there : Contains (prefixes_of plan) p = elim best.among [ inl h ↦ absurd (let k : None ≡ Some p = h in cc) | inr h ↦ h.0 ] in
         ap (λ o. option_map_or (λ q. hop q (held q a)) o NoRoute) e ∙ (ap (hop p) (each p (listed_prefix plan p there) a) ∙ sym (ap (λ o. option_map_or (λ q. hop q (now q a)) o NoRoute) (sym sent ∙ e)))

@@ -2,7 +2,7 @@
 use denote.Enum.Bare.{sameb}
 use Rattle.std.proofs.Common.{◌≡◌, ◌≢◌, ◌⊎◌, inl, inr, ℕ, suc, ◌-◌, ◌<◌, ◌≤◌, ◌&&◌, ◌||◌, not, Bool, true, false, IsTrue, cond, is_some, Option, None, Some, option_map, List, refl, sym, ap, subst, ◌∙◌, arith, Result, Ok, Err, OnOk, length, ◌+◌}
 use Rattle.std.specs.Prelude.{◌↔◌, option_and_then, slice_get}
-use Rattle.std.specs.List.{filter}
+use Rattle.std.specs.List.{filter, reduce}
 use Rattle.std.specs.FinMap as fin
 use Rattle.std.specs.Option.{option_map_or}
 use Rattle.std.specs.Ordering.{nat_cmp}
@@ -33,7 +33,7 @@ use Rattle.route_choice.specs.declared.table.Table.{Table}
 use Rattle.stability_laws.specs.Book.{policy_at}
 use Rattle.stability_laws.specs.Laws.{OneFamily, PathsGoOn, RightByOffers, RightFollows}
 use Rattle.stability_laws.specs.OfferPaths.{OfferPath}
-use Rattle.stability_laws.specs.Offers.{Offer, number_sent, offer_given, passed_on, passes}
+use Rattle.stability_laws.specs.Offers.{offer_given}
 use Rattle.policy_laws.specs.Policy.{Policy, is_own_or_customers}
 use Rattle.policy_laws.specs.declared.policy.View.{View}
 use Rattle.net_names.specs.declared.routes.State.{State}
@@ -43,8 +43,9 @@ use Rattle.stability_laws.specs.Stable.{IsRight}
 use Rattle.stability_laws.specs.World.{setting}
 use Rattle.stability_laws.specs.declared.entry.Entry.{Entry}
 use Rattle.stability_laws.specs.declared.seed_plan.edits.SeedEdit.{SeedEdit}
-use Rattle.data_trace.specs.Hops.{longest, next_hop, second_of, sent_by}
+use Rattle.data_trace.specs.Hops.{next_hop, second_of, sent_by}
 use Rattle.data_trace.proofs.Inside.{hop_by}
+use Rattle.data_trace.proofs.Longest.{longer_of}
 use Rattle.data_trace.specs.Watches.{Row}
 use Rattle.data_trace.specs.declared.kinds.Hop.TheVariants.{Here, To, NoRoute}
 use Rattle.leak_round.specs.Bounds.{AreEnoughFor, IsCounted}
@@ -84,12 +85,7 @@ seller sound g a b r is = sound.ends g b a (converse r) (sound.alike g a b ∙ a
 same_state_offer : (p q : Policy) (s t : ℕ → State) (n a : ℕ) (from : Option Rel) (held : Option Entry) → ((e : Entry) → held ≡ Some e → s (last_or 0 e.path) ≡ t (last_or 0 e.path)) → offer_given p q s n a from held ≡ offer_given p q t n a from held
 same_state_offer p q s t n a None held same = refl
 same_state_offer p q s t n a (Some from) None same = refl
-same_state_offer p q s t n a (Some from) (Some e) same = ap by_state (same e refl)
-  where
-    by_state : State → Option Offer
-    by_state state =
-        let view : View = record { rel = from; neighbour = n; length = length e.path + 1; state = state; otc = number_sent p.marks n (converse from) e.otc } in
-        cond (passes p.exports q a from e view) (Some (record { view = view; entry = passed_on p.marks q.marks n a from e })) None
+same_state_offer p q s t n a (Some from) (Some e) same = ap (λ state. offer_given p q (λ _. state) n a (Some from) (Some e)) (same e refl)
 
 module _ (old new : Ground) (ranks : KeptRanks) (rounds : Rounds) (watches : List RoundWatches) (ends : List ℕ) (touched : PrefixValue → ℕ → Bool) (belong : BelongTo old ranks rounds watches) (d : DiffersAround old new rounds ends touched) where
   -- who is not touched is no end, or still right
@@ -196,7 +192,7 @@ not_told r p round a told lists free prefix = by (change_in p.changes.items roun
 same_hop : (plan other : Plan) (held now : PrefixValue → ℕ → Option Entry) (addr : AddrValue) (a : ℕ) → other.prefixes ≡ plan.prefixes → ((p : PrefixValue) → announces other p a ≡ announces plan p a) → ((p : PrefixValue) → now p a ≡ held p a) → next_hop plan held addr a ≡ next_hop other now addr a
 same_hop plan other held now addr a prefixes announced entries =
     by (sent_by plan held addr a)
-    ∙ ap (hop_by other now a) (λ i. longest (filter (λ p. holds p addr && is_some (sym (entries p) i)) (fin.keys (sym prefixes i))))
+    ∙ ap (hop_by other now a) (λ i. reduce longer_of (filter (λ p. holds p addr && is_some (sym (entries p) i)) (fin.keys (sym prefixes i))))
   where
     by : (o : Option PrefixValue) → hop_by plan held a o ≡ hop_by other now a o
     by None = refl

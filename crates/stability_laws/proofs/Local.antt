@@ -11,7 +11,7 @@ use Rattle.policy_laws.specs.Policy.{Policy, RanksOffers, ExportsDownOnly}
 use Rattle.net_names.specs.Links.{converse}
 use Rattle.stability_laws.specs.declared.entry.Entry.{Entry}
 use Rattle.stability_laws.specs.declared.entry.Seed.{Seed}
-use Rattle.stability_laws.specs.Offers.{Offer, GivenBy, offer_given, passes, view_of}
+use Rattle.stability_laws.specs.Offers.{Offer, GivenBy, offer_given}
 use Rattle.stability_laws.specs.Stable.{IsBest, IsRightGiven}
 use Rattle.stability_laws.specs.Steps.{low, low_by}
 
@@ -43,7 +43,7 @@ pub given_by : (sender receiver : Policy) (state : ℕ → State) (n a : ℕ) (r
 given_by s r st n a None held o e = cc
 given_by s r st n a (Some from) None o e = cc
 given_by s r st n a (Some from) (Some d) o e =
-    let is = given_when (passes s.exports r a from d (view_of s.marks st n from d)) _ o e in
+    let is = given_when _ _ o e in
     record {
       from = from;
       linked = refl;

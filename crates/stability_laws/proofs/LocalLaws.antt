@@ -9,7 +9,7 @@ use Rattle.net_names.specs.Links.{converse}
 use Rattle.net_names.specs.Numbers.{occurs, last_or}
 use Rattle.stability_laws.specs.declared.entry.Entry.{Entry}
 use Rattle.stability_laws.specs.declared.entry.Seed.{Seed}
-use Rattle.stability_laws.specs.Offers.{Setting, Offer, offer, offer_given, passes, passed_on, view_of, GivenBy}
+use Rattle.stability_laws.specs.Offers.{Setting, Offer, offer, offer_given, view_of, GivenBy}
 use Rattle.stability_laws.specs.Stable.{IsRightGiven, IsRight, IsLawful}
 use Rattle.stability_laws.specs.Laws.{SameAround, IsForCustomersOnly, if_customer, customer_offer}
 use Rattle.stability_laws.specs.Steps.{low, low_by}
@@ -140,7 +140,7 @@ pub same_sender : (s s' p : Policy) → s.exports ≡ s'.exports → s.marks ≡
 same_sender s s' p ex mk st n a None held = refl
 same_sender s s' p ex mk st n a (Some from) None = refl
 same_sender s s' p ex mk st n a (Some from) (Some e) =
-    λ i. cond (passes (ex i) p a from e (view_of (mk i) st n from e)) (Some (record { view = view_of (mk i) st n from e; entry = passed_on (mk i) p.marks n a from e })) None
+    λ i. offer_given (record s { exports = ex i; marks = mk i }) p st n a (Some from) (Some e)
 
 partner : (x y : Option Offer) → AreAlike x y → (o : Offer) → x ≡ Some o → (q : Offer) × (y ≡ Some q) × Alike o q
 unfolding AreAlike

@@ -8,7 +8,7 @@ use Rattle.policy_laws.specs.Policy.{Policy, is_own_or_customers}
 use Rattle.stability_laws.specs.declared.entry.Entry.{Entry}
 use Rattle.stability_laws.specs.declared.entry.Seed.{Seed}
 use Rattle.stability_laws.specs.Entries.{seed_entry}
-use Rattle.stability_laws.specs.Offers.{Setting, Offer, offer_given, offer, passes, view_of}
+use Rattle.stability_laws.specs.Offers.{Setting, Offer, offer_given, offer}
 use Rattle.stability_laws.specs.Stable.{IsStable, IsRightGiven}
 use Rattle.stability_laws.specs.Plans.{Plan, IsSound, has_prefix, announced_path, announces, leaks_in}
 use Rattle.stability_laws.specs.Rounds.{seed_given, seeds_of, AreRounds}
@@ -20,7 +20,7 @@ offer_path : (A : List ℕ → Type 0) (s r : Policy) (state : ℕ → State) (n
 offer_path A s r st n a None held o e f = absurd (let k : None ≡ Some o = e in cc)
 offer_path A s r st n a (Some from) None o e f = absurd (let k : None ≡ Some o = e in cc)
 offer_path A s r st n a (Some from) (Some d) o e f =
-    let is = given_when (passes s.exports r a from d (view_of s.marks st n from d)) _ o e in
+    let is = given_when _ _ o e in
     subst A (ap (λ (t : Offer). t.entry.path) is) (f from d refl refl)
 
 leaked_path : (A : List ℕ → Type 0) (own : Bool) (e : Entry) (s : Seed) → (if own then None else Some (record { path = e.path; otc = e.otc })) ≡ Some s → A e.path → A s.path

@@ -5,7 +5,7 @@ use Rattle.net_names.specs.declared.routes.State.{State}
 use Rattle.policy_laws.specs.Policy.{Policy, RanksOffers}
 use Rattle.stability_laws.specs.declared.entry.Entry.{Entry}
 use Rattle.stability_laws.specs.declared.entry.Seed.{Seed}
-use Rattle.stability_laws.specs.Offers.{Offer, offer_given, passes, passed_on, view_of}
+use Rattle.stability_laws.specs.Offers.{Offer, offer_given, passed_on}
 use Rattle.stability_laws.specs.Stable.{IsBest, IsRightGiven}
 use Rattle.stability_laws.proofs.Local.{one_best, given_when}
 
@@ -13,7 +13,7 @@ pub entry_of : (s r : Policy) (st : ℕ → State) (n a : ℕ) (relation : Optio
 entry_of s r st n a None held o e h k = cc
 entry_of s r st n a (Some from) None o e h k = cc
 entry_of s r st n a (Some from) (Some d) o e h k =
-    let is = given_when (passes s.exports r a from d (view_of s.marks st n from d)) _ o h in
+    let is = given_when _ _ o h in
     let same : d ≡ e = cc in
     sym (ap (λ (t : Offer). t.entry) is) ∙ (λ i. passed_on s.marks r.marks n a (is i).view.rel (same i))
 

@@ -4,7 +4,6 @@ use Rattle.std.specs.Prelude.{◌≡◌, ℕ, ◌+◌, Bool, not, ◌&&◌, if�
 use Rattle.std.specs.Bool.{then_some}
 use Rattle.std.specs.Option.{option_or}
 use Rattle.net_names.specs.contracts.routes.Rel.{the_type as rel}
-use Rattle.net_names.specs.declared.routes.Class.{Class}
 use Rattle.net_names.specs.declared.routes.Rel.{Rel}
 use Rattle.net_names.specs.declared.routes.Rel.TheVariants.{Provider}
 use Rattle.net_names.specs.declared.routes.State.{State}
@@ -39,15 +38,11 @@ view_of marks state n from e = record { rel = from; neighbour = n; length = leng
 abbrev pub passed_on : Bool → Bool → ℕ → ℕ → Rel → Entry → Entry
 passed_on n_marks a_marks n a from e = record { class = class_of from; path = a ∷ e.path; otc = marked a_marks n (converse from) (marked n_marks n (converse from) e.otc) }
 
--- n's entry reaches AS a: n exports it to what a is to n, its path is not empty, a does not stand in its path, and a's policy accepts the view (Gao and Rexford 2001; RFC 4271, section 9.1.2, AS loops)
-abbrev pub passes : (Class → Option ℕ → Rel → Bool) → Policy → ℕ → Rel → Entry → View → Bool
-passes exports receiver a from e view = exports e.class e.otc (converse from) &&
-    (is_some (slice_get e.path 0) && (not (occurs a e.path) && receiver.accepts view))
-
--- the offer that n, with the policy s, makes to a, with the policy r, given the states, what n is to a, and what n holds: there is none without a link or an entry, or where the entry does not reach a (RFC 4271, section 9.1)
+-- the offer that n, with the policy s, makes to a, with the policy r, given the states, what n is to a, and what n holds: there is one where there is a link and an entry, n exports the entry to what a is to n, its path is not empty, a does not stand in its path, and a accepts the view (Gao and Rexford 2001; RFC 4271, section 9.1, and section 9.1.2 on AS loops)
 abbrev pub offer_given : Policy → Policy → (ℕ → State) → ℕ → ℕ → Option Rel → Option Entry → Option Offer
 offer_given s r state n a (Some from) (Some e) = let view = view_of s.marks state n from e in
-    if passes s.exports r a from e view then Some (record { view = view; entry = passed_on s.marks r.marks n a from e }) else None
+    if s.exports e.class e.otc (converse from) && (is_some (slice_get e.path 0) && (not (occurs a e.path) && r.accepts view))
+    then Some (record { view = view; entry = passed_on s.marks r.marks n a from e }) else None
 offer_given s r state n a from held = None
 
 -- the offer that n makes to a in the routing f (RFC 4271, section 9.1)
