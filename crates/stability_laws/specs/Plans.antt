@@ -47,9 +47,9 @@ empty_plan = record { prefixes = fin.empty; announced = fin.empty; leakers = fin
 abbrev pub announcer_of : List ℕ → ℕ
 announcer_of path = slice_index path 0
 
--- the plan in which the first AS of the path announces the path of the prefix too
+-- the plan in which the first AS of the path announces the path of the prefix too (RFC 4271, section 5.1.2)
 abbrev pub with_announcement : Plan → PrefixValue → List ℕ → Plan
-with_announcement plan prefix path = record plan { prefixes = fin.insert plan.prefixes prefix tt; announced = fin.insert plan.announced (prefix, announcer_of path) path }
+with_announcement plan p path = record plan { prefixes = fin.insert plan.prefixes p tt; announced = fin.insert plan.announced (p, slice_index path 0) path }
 
 -- the plan in which the AS leaks in the round too
 abbrev pub with_leaker : Plan → ℕ → ℕ → Plan

@@ -12,7 +12,7 @@ silent plan = record plan { announced = fin.empty }
 
 -- the plan in which the AS does not announce the prefix; the prefix stays
 abbrev pub without_announcement : Plan → PrefixValue → ℕ → Plan
-without_announcement plan prefix a = record plan { announced = fin.remove plan.announced (prefix, a) }
+without_announcement plan p a = record plan { announced = fin.remove plan.announced (p, a) }
 
 -- the prefix whose announcement is edited
 abbrev pub edit_prefix : SeedEdit → PrefixValue
