@@ -1,7 +1,8 @@
 use Rattle.std.proofs.Common.{◌≡◌, sym, ap, refl, subst, ◌∙◌, arith, ℕ, false, Err, List, get_or}
 use Rattle.std.specs.Ordering.{nat_cmp}
 use Rattle.std.specs.FinMap as fin
-use Rattle.net_names.specs.Prefixes.{prefix_cmp}
+use Rattle.std.specs.declared.cmp.Ordering.{Ordering}
+use Rattle.net_names.specs.Prefixes.{PrefixValue, prefix_cmp}
 use Rattle.net_names.proofs.DerivedOrders.{prefix_orders}
 use Rattle.stability_laws.specs.declared.seed_plan.Announcement.{Announcement}
 use Rattle.stability_laws.specs.Plans.{announcer_of, announces}
@@ -40,6 +41,11 @@ module _ (c : goal.After-put_key-2) where
         )
     | in-Err w ↦ rw w.at-is (w.in-Err.ensures.bound, w.in-Err.ensures.position)
   ]
+
+pub put_key-requires-clause-rising : goal.put_key-requires-clause-rising
+put_key-requires-clause-rising c =
+    subst (λ (R : PrefixValue → PrefixValue → Ordering). IsRising R c.reserve.new.self.items) (sym prefix_orders)
+    (subst (λ (xs : List PrefixValue). IsRising prefix_cmp xs) (sym c.reserve.ensures.items) c.self.invariant.prefixes_rise)
 
 pub returns-clause-ok : goal.returns-clause-ok
 returns-clause-ok c =
