@@ -11,7 +11,7 @@ use Rattle.scenario_text.specs.declared.script.ScriptError.TheVariants.{Memory, 
 use Rattle.scenario_text.specs.Walks.{◌>>=◌, each_from}
 use Rattle.scenario_text.specs.Lines.{kept_from}
 use Rattle.scenario_text.specs.Script.{Fails, command, script_of}
-use Rattle.scenario_text.proofs.Walking.{with_front, with_front-nil, with_front-cons}
+use Rattle.scenario_text.proofs.Walking.{each_from-values, with_front, with_front-nil, with_front-cons}
 
 -- the bytes are a line and then the rest, for the lines that aren't skipped
 abbrev pub IsLineAndRest : List ℕ → List ℕ → List ℕ → Type 0
@@ -29,7 +29,7 @@ script_on front number rest = with_front front (each_from command (length front)
 
 pub starts : (bytes : List ℕ) → script_on [] 0 bytes ≡ script_of bytes
 unfolding script_of
-starts bytes = with_front-nil (each_from command 0 (kept_from 1 bytes))
+starts bytes = with_front-nil (each_from command 0 (kept_from 1 bytes)) ∙ sym (each_from-values command 0 (kept_from 1 bytes))
 
 pub skips_on : (front : List LineValue) (number : ℕ) (rest line more : List ℕ) (whole : Result (List LineValue) ScriptError) → IsLineAndRest rest line more → true ≡ is_skipped line
     → script_on front number rest ≡ whole → script_on front (number + 1) more ≡ whole

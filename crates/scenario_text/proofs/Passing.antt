@@ -15,6 +15,7 @@ use Rattle.scenario_text.specs.declared.faults.ScenarioError.{ScenarioError}
 use Rattle.scenario_text.specs.declared.faults.ScenarioError.TheVariants.{NotJson}
 use Rattle.scenario_text.specs.declared.places.Member.TheVariants.{Announcements, Policies, Leaks, Watch}
 use Rattle.scenario_text.specs.declared.places.Place.{Place}
+use Rattle.net_names.specs.Steps.{unless}
 use Rattle.scenario_text.specs.Laws.{ReadsAs}
 use Rattle.scenario_text.specs.Limits.{within}
 use Rattle.scenario_text.specs.Members.{lists_in}
@@ -25,7 +26,7 @@ use Rattle.net_names.specs.Prefixes.{announcement_cmp}
 use Rattle.scenario_text.specs.Twice.{once_in, once}
 use Rattle.scenario_text.specs.Walks.{◌>>=◌, each_from, each_at}
 use Rattle.net_names.specs.Orders.{exact_announcement, exact_addr}
-use Rattle.scenario_text.proofs.Repeats.{once_at}
+use Rattle.scenario_text.proofs.Repeats.{once_at, once_in_steps, once_is, once_steps}
 use Rattle.scenario_text.proofs.Sound.{first_step, judged, sound}
 
 -- a list is read whose items are all read
@@ -49,9 +50,9 @@ new_at cmp exact place keys h k d lt =
     rw none refl
 
 once_from : {K : Type 0} (cmp : K → K → Ordering) → CmpEqualImpliesEq cmp → (place : Place) (keys : List K) → AllPairs (λ a b. a ≢ b) keys → once_in cmp place keys ≡ Ok tt
-once_from cmp exact place keys h =
+once_from cmp exact place keys h = sym (once_in_steps cmp place keys) ∙ (
     let tested = reads_all (once_at cmp place keys) 0 keys (λ k d lt. let at : 0 + k ≡ k = omega arith in (tt, rw at (new_at cmp exact place keys h k d lt))) in
-    ap (λ (r : Result (List (Unit {0})) ScenarioError). r >>= λ _. Ok tt) tested.1
+    ap (λ (r : Result (List (Unit {0})) ScenarioError). r >>= λ _. Ok tt) tested.1)
 
 distinct_keys : {A K : Type 0} (f : A → K) (xs : List A) → AllPairs (λ a b. f a ≢ f b) xs → AllPairs (λ a b. a ≢ b) (map f xs)
 distinct_keys f [] h i j d lt lj same = absurd (omega arith)
@@ -62,24 +63,23 @@ distinct_keys f (x ∷ xs) h i j d lt lj same =
 all_passed : (a b : Result (Unit {0}) ScenarioError) (c : Result (List (Unit {0})) ScenarioError) (d : Result (Unit {0}) ScenarioError) (us : List (Unit {0})) → a ≡ Ok tt → b ≡ Ok tt → c ≡ Ok us → d ≡ Ok tt → (a >>= λ _. b >>= λ _. c >>= λ _. d) ≡ Ok tt
 all_passed a b c d us first second third fourth = rw (first, second, third) fourth
 
-once_of : (s : ScenarioValue) → IsScenario s → once s ≡ Ok tt
-unfolding once
-once_of s h =
+once_of : (s : ScenarioValue) → IsScenario s → once s ≡ Ok s
+once_of s h = once_is s ∙ ap (λ (r : Result (Unit {0}) ScenarioError). r >>= λ _. Ok s) (
     let leaking = reads_all (λ i. once_in nat_cmp (item (in_member Leaks) i)) 0 s.leaks (λ k ns lt. (tt, once_from nat_cmp exact_unsigned (item (in_member Leaks) (0 + k)) (get_or s.leaks k ns) (h.leaking_once k ns lt))) in
     all_passed (once_in announcement_cmp (in_member Announcements) (map announcement_name s.announcements)) (once_in nat_cmp (in_member Policies) (map (λ p. p.0) s.policies))
     (each_at (once_in nat_cmp) (in_member Leaks) s.leaks) (once_in addr_cmp (in_member Watch) s.watch) leaking.0
     (once_from announcement_cmp exact_announcement (in_member Announcements) (map announcement_name s.announcements) (distinct_keys announcement_name s.announcements h.announced_once))
     (once_from nat_cmp exact_unsigned (in_member Policies) (map (λ p. p.0) s.policies) (distinct_keys (λ (p : ℕ × Kind). p.0) s.policies h.ruled_once))
     leaking.1
-    (once_from addr_cmp exact_addr (in_member Watch) s.watch h.watched_once)
+    (once_from addr_cmp exact_addr (in_member Watch) s.watch h.watched_once))
 
-all_within : (a b c d e f : Bool) → a ≡ false → b ≡ false → c ≡ false → d ≡ false → e ≡ false → f ≡ false → judged a b c d e f ≡ Ok tt
-all_within a b c d e f first second third fourth fifth sixth = rw (first, second, third, fourth, fifth, sixth) refl
+all_within : (s : ScenarioValue) (a b c d e f : Bool) → a ≡ false → b ≡ false → c ≡ false → d ≡ false → e ≡ false → f ≡ false → judged s a b c d e f ≡ Ok s
+all_within s a b c d e f first second third fourth fifth sixth = rw (first, second, third, fourth, fifth, sixth) refl
 
-within_of : (s : ScenarioValue) → IsScenario s → within s ≡ Ok tt
+within_of : (s : ScenarioValue) → IsScenario s → within s ≡ Ok s
 unfolding within
 within_of s h =
-    all_within (nat_lt 64 (length s.announcements)) (nat_lt 32 (prefix_count s.announcements)) (list_any (λ a. nat_lt 64 (length a.path)) s.announcements)
+    all_within s (nat_lt 64 (length s.announcements)) (nat_lt 32 (prefix_count s.announcements)) (list_any (λ a. nat_lt 64 (length a.path)) s.announcements)
     (nat_lt 3 (length s.leaks)) (list_any (λ leakers. nat_lt 64 (length leakers)) s.leaks) (nat_lt 16 (length s.watch))
     (le-ltb _ _ h.few_announcements) (le-ltb _ _ h.few_prefixes)
     (list_any_none (λ a. nat_lt 64 (length a.path)) s.announcements (λ k a lt. le-ltb _ _ (h.short_paths k a lt)))
@@ -91,20 +91,30 @@ some_of : {A E : Type 0} (o : Option A) (e : E) (x : A) → ok_or o e ≡ Ok x �
 some_of None e x h = absurd (cc)
 some_of (Some y) e x h = let same : y ≡ x = cc in rw same refl
 
--- four lists, where they stand the last two passes
-abbrev tested : ScenarioValue → Result ScenarioValue ScenarioError
-tested lists = once lists >>= λ _. within lists >>= λ _. Ok lists
+-- the last two passes change nothing
+kept : {A E : Type 0} (o : Option E) (x y : A) → unless o (Ok x) ≡ Ok y → x ≡ y
+kept None x y h = cc
+kept (Some e) x y h = absurd (cc)
+
+once_kept : (s t : ScenarioValue) → once s ≡ Ok t → s ≡ t
+once_kept s t h = let steps = first_step (once_steps s) (λ _. Ok s) t (sym (once_is s) ∙ h) in cc (steps.2)
+
+within_kept : (s t : ScenarioValue) → within s ≡ Ok t → s ≡ t
+unfolding within
+within_kept s t h = kept _ s t h
 
 pub said_of : (bytes : List ℕ) (s : ScenarioValue) → scenario_of_bytes bytes ≡ Ok s → ReadsAs bytes s × IsScenario s
 unfolding scenario_of_bytes
 said_of bytes s h =
-    let value = first_step (ok_or (json_of bytes) NotJson) (λ v. lists_in v >>= tested) s h in
-    let lists = first_step (lists_in value.0) tested s value.2 in
-    let two = first_step (once lists.0) (λ _. within lists.0 >>= λ _. Ok lists.0) s lists.2 in
-    let five = first_step (within lists.0) (λ _. Ok lists.0) s two.2 in
-    let same : lists.0 ≡ s = cc (five.2) in (
-      record { value = value.0; is_json = some_of (json_of bytes) NotJson value.0 value.1; says = lists.1 ∙ five.2 },
-      subst IsScenario same (sound value.0 lists.0 lists.1 two.1 five.1),
+    let last = first_step (ok_or (json_of bytes) NotJson >>= lists_in >>= once) within s h in
+    let lists = first_step (ok_or (json_of bytes) NotJson >>= lists_in) once last.0 last.1 in
+    let value = first_step (ok_or (json_of bytes) NotJson) lists_in lists.0 lists.1 in
+    let same : lists.0 ≡ last.0 = once_kept lists.0 last.0 lists.2 in
+    let all : lists.0 ≡ s = same ∙ within_kept last.0 s last.2 in
+    let once_ok : once lists.0 ≡ Ok lists.0 = lists.2 ∙ ap (λ (t : ScenarioValue). Ok t) (sym same) in
+    let within_ok : within lists.0 ≡ Ok s = subst (λ (t : ScenarioValue). within t ≡ Ok s) (sym same) last.2 in (
+      record { value = value.0; is_json = some_of (json_of bytes) NotJson value.0 value.1; says = value.2 ∙ ap (λ (t : ScenarioValue). Ok t) all },
+      subst IsScenario all (sound value.0 lists.0 s value.2 once_ok within_ok),
     )
 
 pub accepted_if_said : (bytes : List ℕ) (s : ScenarioValue) → ReadsAs bytes s → IsScenario s → scenario_of_bytes bytes ≡ Ok s

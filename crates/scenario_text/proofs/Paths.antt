@@ -1,15 +1,23 @@
 -- The numbers of an announced path, one after the other.
-use Rattle.std.proofs.Common.{◌≡◌, ℕ, ◌+◌, ◌<◌, true, false, List, [], ◌∷◌, ◌++◌, length, map, Option, Some, None, refl, sym, ◌∙◌, append_assoc, arith, length-append}
-use Rattle.std.specs.Prelude.{nat_le, if◌then◌else◌}
+use Rattle.std.proofs.Common.{◌≡◌, ℕ, ◌+◌, ◌<◌, true, false, Bool, List, [], ◌∷◌, ◌++◌, length, map, Option, Some, None, refl, ap, sym, ◌∙◌, append_assoc, arith, length-append}
+use Rattle.std.specs.Prelude.{nat_le, suc, ◌&&◌, if◌then◌else◌}
+use Rattle.std.specs.Bool.{then_some}
+use Rattle.std.specs.List.{list_all}
+use Rattle.std.specs.Option.{is_some, some_prefix}
 use Rattle.std.proofs.lemmas.Bool.{le-leb, lt-leb}
 use Rattle.net_names.specs.Steps.{◌>>=◌}
-use Rattle.net_names.specs.Texts.{all_some, asn_of, cut_at, fields}
+use Rattle.net_names.specs.Texts.{asn_of, cut_at, fields}
 use Rattle.net_names.proofs.Cuts.{fields_uncut, fields_cut}
 use Rattle.scenario_text.specs.Forms.{path_of}
 
 -- the numbers that the rest of the text writes, behind those so far, where all are at most 64
 abbrev pub path_on : List ℕ → Option (List ℕ) → Option (List ℕ)
 path_on front numbers = numbers >>= λ ns. if nat_le (length front + length ns) 64 then Some (front ++ ns) else None
+
+-- the values, where each is one
+abbrev all_some : {A : Type 0} → List (Option A) → Option (List A)
+all_some [] = Some []
+all_some (o ∷ os) = o >>= λ x. all_some os >>= λ xs. Some (x ∷ xs)
 
 -- the numbers that a text writes, however many they are
 abbrev pub numbers_of : List ℕ → Option (List ℕ)
@@ -19,9 +27,35 @@ starts_with : (os : Option (List ℕ)) → path_on [] os ≡ (os >>= λ ns. if n
 starts_with None = refl
 starts_with (Some ns) = let e : 0 + length ns ≡ length ns = omega arith in rw e refl
 
+-- where each is a value, the values before the first that is none are all of them
+all_are : (os : List (Option ℕ)) → all_some os ≡ then_some (list_all is_some os) (some_prefix os)
+all_are [] = refl
+all_are (None ∷ os) = refl
+all_are (Some n ∷ os) = ap (λ (o : Option (List ℕ)). o >>= λ xs. Some (n ∷ xs)) (all_are os) ∙ in_front (list_all is_some os)
+  where
+    in_front : (b : Bool) → (then_some b (some_prefix os) >>= λ xs. Some (n ∷ xs)) ≡ then_some b (n ∷ some_prefix os)
+    in_front true = refl
+    in_front false = refl
+
+length-some_prefix : (os : List (Option ℕ)) → list_all is_some os ≡ true → length (some_prefix os) ≡ length os
+length-some_prefix [] e = refl
+length-some_prefix (None ∷ os) e = absurd (cc)
+length-some_prefix (Some n ∷ os) e = ap (λ (k : ℕ). suc k) (length-some_prefix os e)
+
+few_or_not : (test : Bool) (ns : List ℕ) → (if test then Some ns else None) ≡ then_some test ns
+few_or_not true ns = refl
+few_or_not false ns = refl
+
+limited : (os : List (Option ℕ)) (all : Bool) → list_all is_some os ≡ all
+    → (then_some all (some_prefix os) >>= λ ns. if nat_le (length ns) 64 then Some ns else None) ≡ then_some (all && nat_le (length os) 64) (some_prefix os)
+limited os true e = rw (length-some_prefix os e) (few_or_not (nat_le (length os) 64) (some_prefix os))
+limited os false e = refl
+
 pub starts : (text : List ℕ) → path_on [] (numbers_of text) ≡ path_of text
 unfolding path_of
-starts text = starts_with (numbers_of text)
+starts text =
+    let os = map asn_of (fields 32 text) in
+    starts_with (all_some os) ∙ ap (λ (o : Option (List ℕ)). o >>= λ ns. if nat_le (length ns) 64 then Some ns else None) (all_are os) ∙ limited os (list_all is_some os) refl
 
 push : (front : List ℕ) (n : ℕ) (os : Option (List ℕ)) → path_on front (os >>= λ ns. Some (n ∷ ns)) ≡ path_on (front ++ n ∷ []) os
 push front n None = refl

@@ -36,7 +36,7 @@ use Rattle.scenario_text.specs.Walks.{◌>>=◌, each_from, each_at}
 use Rattle.net_names.specs.Orders.{announcement_total, addr_total}
 use Rattle.serde_json.specs.Data.{Data}
 use Rattle.scenario_text.proofs.Members.{lists_in_passes}
-use Rattle.scenario_text.proofs.Repeats.{once_at}
+use Rattle.scenario_text.proofs.Repeats.{once_at, once_in_steps, once_is, once_steps}
 
 -- what the first of two steps gave, where both gave something
 pub first_step : {A B E : Type 0} (r : Result A E) (f : A → Result B E) (y : B) → (r >>= f) ≡ Ok y → (x : A) × (r ≡ Ok x) × (f x ≡ Ok y)
@@ -70,7 +70,7 @@ once_at-Ok cmp place keys j key u h found = let k = rw found at h in absurd (cc)
 
 pub distinct : {K : Type 0} (cmp : K → K → Ordering) → IsTotalOrder cmp → (place : Place) (keys : List K) → once_in cmp place keys ≡ Ok tt → AllPairs (λ a b. a ≢ b) keys
 distinct {K = K} cmp o place keys h i j d lt lj same =
-    let a = first_step (each_from (once_at cmp place keys) 0 keys) (λ us. Ok tt) tt h in
+    let a = first_step (each_from (once_at cmp place keys) 0 keys) (λ us. Ok tt) tt (once_in_steps cmp place keys ∙ h) in
     let b = read_at (once_at cmp place keys) 0 keys a.0 a.1 j d lj in
     let e : 0 + j ≡ j = omega arith in
     let test = rw e at b.1 in
@@ -149,8 +149,8 @@ all_pass (Ok a) (Err e) c d h = absurd (cc)
 all_pass (Err e) b c d h = absurd (cc)
 
 -- what six limits give, each of which is passed or not
-abbrev pub judged : (a b c d e f : Bool) → Result (Unit {0}) ScenarioError
-judged a b c d e f = unless (option_map Limit (fold option_or None (then_some a limits.Announcements ∷ then_some b limits.Prefixes ∷ then_some c limits.Path ∷ then_some d limits.Rounds ∷ then_some e limits.Leakers ∷ then_some f limits.Watch ∷ []))) (Ok tt)
+abbrev pub judged : ScenarioValue → (a b c d e f : Bool) → Result ScenarioValue ScenarioError
+judged s a b c d e f = unless (option_map Limit (fold option_or None (then_some a limits.Announcements ∷ then_some b limits.Prefixes ∷ then_some c limits.Path ∷ then_some d limits.Rounds ∷ then_some e limits.Leakers ∷ then_some f limits.Watch ∷ []))) (Ok s)
 
 -- six limits none of which is passed
 record NonePassed (a b c d e f : Bool) : Type 0 where
@@ -161,22 +161,23 @@ record NonePassed (a b c d e f : Bool) : Type 0 where
   fifth : e ≡ false
   sixth : f ≡ false
 
-none_passed : (a b c d e f : Bool) → judged a b c d e f ≡ Ok tt → NonePassed a b c d e f
-none_passed true b c d e f h = absurd (cc)
-none_passed false true c d e f h = absurd (cc)
-none_passed false false true d e f h = absurd (cc)
-none_passed false false false true e f h = absurd (cc)
-none_passed false false false false true f h = absurd (cc)
-none_passed false false false false false true h = absurd (cc)
-none_passed false false false false false false h = record { first = refl; second = refl; third = refl; fourth = refl; fifth = refl; sixth = refl }
+none_passed : (s t : ScenarioValue) (a b c d e f : Bool) → judged s a b c d e f ≡ Ok t → NonePassed a b c d e f
+none_passed s t true b c d e f h = absurd (cc)
+none_passed s t false true c d e f h = absurd (cc)
+none_passed s t false false true d e f h = absurd (cc)
+none_passed s t false false false true e f h = absurd (cc)
+none_passed s t false false false false true f h = absurd (cc)
+none_passed s t false false false false false true h = absurd (cc)
+none_passed s t false false false false false false h = record { first = refl; second = refl; third = refl; fourth = refl; fifth = refl; sixth = refl }
 
-pub sound : (d : Data) (s : ScenarioValue) → lists_in d ≡ Ok s → once s ≡ Ok tt → within s ≡ Ok tt → IsScenario s
-unfolding once within
-sound d s read once_ok within_ok =
+pub sound : (d : Data) (s t : ScenarioValue) → lists_in d ≡ Ok s → once s ≡ Ok s → within s ≡ Ok t → IsScenario s
+unfolding within
+sound d s t read once_ok within_ok =
     let document = first_step (document_of d) lists_of s (sym (lists_in_passes d) ∙ read) in
+    let steps = first_step (once_steps s) (λ _. Ok s) s (sym (once_is s) ∙ once_ok) in
     let tests = all_pass (once_in announcement_cmp (in_member Announcements) (map announcement_name s.announcements)) (once_in nat_cmp (in_member Policies) (map (λ p. p.0) s.policies))
-    (each_at (once_in nat_cmp) (in_member Leaks) s.leaks) (once_in addr_cmp (in_member Watch) s.watch) once_ok in
-    let limit = none_passed (nat_lt 64 (length s.announcements)) (nat_lt 32 (prefix_count s.announcements)) (list_any (λ a. nat_lt 64 (length a.path)) s.announcements)
+    (each_at (once_in nat_cmp) (in_member Leaks) s.leaks) (once_in addr_cmp (in_member Watch) s.watch) steps.1 in
+    let limit = none_passed s t (nat_lt 64 (length s.announcements)) (nat_lt 32 (prefix_count s.announcements)) (list_any (λ a. nat_lt 64 (length a.path)) s.announcements)
     (nat_lt 3 (length s.leaks)) (list_any (λ leakers. nat_lt 64 (length leakers)) s.leaks) (nat_lt 16 (length s.watch)) within_ok in
     record {
       announced_once = distinct-map announcement_name s.announcements (distinct announcement_cmp announcement_total (in_member Announcements) (map announcement_name s.announcements) tests.first);

@@ -1,8 +1,59 @@
 -- Going through a list as a loop does: what was given so far, and then what the rest gives.
-use Rattle.std.proofs.Common.{◌≡◌, ℕ, suc, ◌+◌, ◌<◌, ◌≤◌, List, [], ◌∷◌, ◌++◌, length, get_or, drop, Result, Ok, Err, refl, ap, sym, ◌∙◌, append_assoc, add-one, drop-cons}
+use Rattle.std.proofs.Common.{◌≡◌, ℕ, suc, ◌+◌, ◌<◌, ◌≤◌, List, [], ◌∷◌, ◌++◌, length, get_or, drop, map, Option, Some, None, Result, Ok, Err, refl, ap, sym, ◌∙◌, append_assoc, length-append, add-one, drop-cons, arith}
 use Rattle.std.proofs.lemmas.List.{append-nil}
 use Rattle.std.proofs.Math.ListN.{drop_of_length-le}
+use Rattle.std.specs.Prelude.{fold}
+use Rattle.std.specs.List.{enumerate_from}
+use Rattle.std.specs.Option.{option_or}
+use Rattle.std.specs.Result.{result_err, ok_prefix}
+use Rattle.std.proofs.lemmas.List.Folds.{fold_stays}
+use Rattle.net_names.specs.Steps.{unless, first_fault}
 use Rattle.scenario_text.specs.Walks.{◌>>=◌, each_from}
+
+-- the values, unless one is a fault: the first fault then
+abbrev pub values_or_fault : {B E : Type 0} → List (Result B E) → Result (List B) E
+values_or_fault rs = unless (fold option_or None (map result_err rs)) (Ok (ok_prefix rs))
+
+one_more : {B E : Type 0} (r : Result B E) (rs : List (Result B E)) → values_or_fault (r ∷ rs) ≡ (r >>= λ y. values_or_fault rs >>= λ ys. Ok (y ∷ ys))
+one_more {E = E} (Ok y) rs = behind (fold option_or None (map result_err rs))
+  where
+    behind : (o : Option E) → unless o (Ok (y ∷ ok_prefix rs)) ≡ (unless o (Ok (ok_prefix rs)) >>= λ ys. Ok (y ∷ ys))
+    behind None = refl
+    behind (Some e) = refl
+one_more (Err e) rs = rw (fold_stays option_or (Some e) (λ x. refl) (map result_err rs)) refl
+
+pub each_from-values : {A B E : Type 0} (f : ℕ → A → Result B E) (i : ℕ) (xs : List A) → values_or_fault (map (λ x. f x.0 x.1) (enumerate_from i xs)) ≡ each_from f i xs
+unfolding each_from
+each_from-values f i [] = refl
+each_from-values {A = A} {B = B} {E = E} f i (x ∷ xs) =
+    let rest : values_or_fault (map (λ x. f x.0 x.1) (enumerate_from (i + 1) xs)) ≡ each_from f (suc i) xs = rw add-one (each_from-values f (suc i) xs) in
+    one_more (f i x) (map (λ x. f x.0 x.1) (enumerate_from (i + 1) xs)) ∙ ap (λ (r : Result (List B) E). f i x >>= λ y. r >>= λ ys. Ok (y ∷ ys)) rest
+
+-- the test passed, whatever it gave
+abbrev pub passed : {A E : Type 0} → Result A E → Result (Unit {0}) E
+passed r = r >>= λ _. Ok tt
+
+pub passed-cons : {A E : Type 0} (x : A) (r : Result (List A) E) → passed (r >>= λ xs. Ok (x ∷ xs)) ≡ passed r
+passed-cons x (Ok xs) = refl
+passed-cons x (Err e) = refl
+
+-- a test that found this, if anything
+abbrev pub tested : {E : Type 0} → Option E → Result (Unit {0}) E
+tested found = unless found (Ok tt)
+
+-- tests of one item after the other, the first fault of which counts
+pub passed-first_fault : {A E : Type 0} (g : ℕ → A → Option E) (before xs : List A) → passed (each_from (λ i x. tested (g i x)) (length before) xs) ≡ tested (first_fault (λ before x. g (length before) x) before xs)
+unfolding each_from
+passed-first_fault g before [] = refl
+passed-first_fault {E = E} g before (x ∷ xs) =
+    let longer : length (before ++ x ∷ []) ≡ suc (length before) = omega (arith, length-append before (x ∷ [])) in
+    by_fault (g (length before) x) (rw longer at (passed-first_fault g (before ++ x ∷ []) xs))
+  where
+    by_fault : (o : Option E) → passed (each_from (λ i x. tested (g i x)) (suc (length before)) xs) ≡ tested (first_fault (λ before x. g (length before) x) (before ++ x ∷ []) xs)
+        → passed (tested o >>= λ y. each_from (λ i x. tested (g i x)) (suc (length before)) xs >>= λ ys. Ok (y ∷ ys))
+        ≡ tested (option_or o (first_fault (λ before x. g (length before) x) (before ++ x ∷ []) xs))
+    by_fault (Some e) rest = refl
+    by_fault None rest = passed-cons tt (each_from (λ i x. tested (g i x)) (suc (length before)) xs) ∙ rest
 
 -- what a reading gives, behind these
 abbrev pub with_front : {B E : Type 0} → List B → Result (List B) E → Result (List B) E

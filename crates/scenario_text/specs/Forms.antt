@@ -1,15 +1,17 @@
 -- The forms of a script's line, a row each; a later form is a further row (own format).
 -- The fields of a line have exactly one space or one `|` between, since no field's grammar has either in it or an empty text.
 use Prim.Native.String.{String}
-use Rattle.std.specs.Prelude.{ℕ, not, ◌==◌, List, [], ◌∷◌, length, map, fold, nat_le, bytes_eq, codes, Option, None, option_map}
+use Rattle.std.specs.Prelude.{ℕ, not, ◌&&◌, ◌==◌, List, [], ◌∷◌, length, map, fold, nat_le, bytes_eq, codes, Option, None, option_map}
 use Rattle.std.specs.Bool.{then_some}
-use Rattle.std.specs.Option.{option_or, option_zip}
+use Rattle.std.specs.List.{list_all}
+use Rattle.std.specs.Option.{is_some, option_or, option_zip, some_prefix}
 use Rattle.net_names.specs.Payloads.{VrpValue, vrp_at}
 use Rattle.net_names.specs.Steps.{◌>>=◌, option_filter}
-use Rattle.net_names.specs.Texts.{after, all_some, cut_at, fields, numeral, asn_of, vrp_asn_of, prefix_of, addr_of, rel_of}
+use Rattle.net_names.specs.Texts.{after, cut_at, fields, numeral, asn_of, vrp_asn_of, prefix_of, addr_of, rel_of}
 use Rattle.policy_kinds.specs.Names.{kind_named}
 use Rattle.scenario_text.specs.declared.acts.Act.{Act}
 use Rattle.scenario_text.specs.declared.acts.Act.TheVariants as act
+use Rattle.scenario_text.specs.declared.acts.Act.TheVariants.{Edit}
 use Rattle.scenario_text.specs.declared.acts.Edit.TheVariants.{Link, Unlink, Policy, VrpAdd, VrpTake, Announce, Withdraw}
 use Rattle.scenario_text.specs.declared.acts.Query.{Query}
 use Rattle.scenario_text.specs.declared.acts.Query.TheVariants.{Routes, Route, Trace, Report, Ranks, Validity}
@@ -25,7 +27,8 @@ vrp_of t = pair 32 vrp_asn_of (pair 32 prefix_of (numeral 10 3)) t >>= λ v. vrp
 
 -- a path is 1 to 64 AS numbers with one space between (own format)
 unfoldable pub path_of : List ℕ → Option (List ℕ)
-path_of text = option_filter (λ ns. nat_le (length ns) MOST_NUMBERS) (all_some (map asn_of (fields 32 text)))
+path_of text = let ns = map asn_of (fields 32 text) in
+    then_some (list_all is_some ns && nat_le (length ns) MOST_NUMBERS) (some_prefix ns)
 
 -- a line that begins with this word, and goes on with these fields, asks for this (own format)
 abbrev pub form : {A B : Type 0} → String → (List ℕ → Option A) → (A → B) → List ℕ → Option B
@@ -43,11 +46,10 @@ query_of line = fold option_or None (map (λ asks. asks line) (
 
 -- what a line asks for: it has the form of a query, or of an edit: A|B|-1 makes A the provider of B, A|B|0 makes them peers, and A and B differ; a kind is of A; the first AS of the path A B .. announces P (own format)
 unfoldable pub act_of : List ℕ → Option Act
-act_of line = fold option_or (option_map act.Query (query_of line)) (map (λ asks. asks line) (
-    (λ l. after (codes "link ") l >>= pair 124 asn_of (pair 124 asn_of rel_of) >>= λ x. then_some (not (x.0 == x.1.0)) (act.Edit (Link x.0 x.1.0 x.1.1))) ∷
-    (λ l. after (codes "unlink ") l >>= pair 124 asn_of asn_of >>= λ x. then_some (not (x.0 == x.1)) (act.Edit (Unlink x.0 x.1))) ∷
-    form "policy " (pair 32 asn_of kind_named) (λ x. act.Edit (Policy x.0 x.1)) ∷
-    form "vrp-add " vrp_of (λ v. act.Edit (VrpAdd v)) ∷
-    form "vrp-take " vrp_of (λ v. act.Edit (VrpTake v)) ∷
-    form "announce " (pair 32 prefix_of path_of) (λ x. act.Edit (Announce x.0 x.1)) ∷
-    form "withdraw " (pair 32 prefix_of asn_of) (λ x. act.Edit (Withdraw x.0 x.1)) ∷ []))
+act_of l = fold option_or (option_map act.Query (query_of l)) (map (λ f. option_map Edit (f l)) (
+    form "link " (λ t. option_filter (λ x. not (x.0 == x.1.0)) (pair 124 asn_of (pair 124 asn_of rel_of) t)) (λ x. Link x.0 x.1.0 x.1.1) ∷
+    form "unlink " (λ t. option_filter (λ x. not (x.0 == x.1)) (pair 124 asn_of asn_of t)) (λ x. Unlink x.0 x.1) ∷
+    form "policy " (pair 32 asn_of kind_named) (λ x. Policy x.0 x.1) ∷
+    form "vrp-add " vrp_of VrpAdd ∷ form "vrp-take " vrp_of VrpTake ∷
+    form "announce " (pair 32 prefix_of path_of) (λ x. Announce x.0 x.1) ∷
+    form "withdraw " (pair 32 prefix_of asn_of) (λ x. Withdraw x.0 x.1) ∷ []))

@@ -10,12 +10,12 @@ use Rattle.scenario_text.specs.declared.faults.ScenarioError.TheVariants.{Limit}
 use Rattle.scenario_text.specs.declared.limits.TheConstants.{MOST_ANNOUNCEMENTS, MOST_LEAK_LISTS, MOST_LEAKERS, MOST_NUMBERS, MOST_PREFIXES, MOST_WATCHED}
 use Rattle.scenario_text.specs.Scenarios.{ScenarioValue, prefix_count}
 
--- the first limit that is passed, if one is: 64 announcements, 32 different prefixes, 64 numbers in a path, 4 rounds, so that 3 lists of leakers, 64 leakers in a round, 16 watched addresses (own format)
-unfoldable pub within : ScenarioValue → Result (Unit {0}) ScenarioError
+-- the four lists, where no limit is passed, or else the first that is: 64 announcements, 32 different prefixes, 64 numbers in a path, 4 rounds, so that 3 lists of leakers, 64 leakers in a round, 16 watched addresses (own format)
+unfoldable pub within : ScenarioValue → Result ScenarioValue ScenarioError
 within s = unless (option_map Limit (fold option_or None (
     then_some (nat_lt MOST_ANNOUNCEMENTS (length s.announcements)) limits.Announcements ∷
     then_some (nat_lt MOST_PREFIXES (prefix_count s.announcements)) limits.Prefixes ∷
     then_some (list_any (λ a. nat_lt MOST_NUMBERS (length a.path)) s.announcements) limits.Path ∷
     then_some (nat_lt MOST_LEAK_LISTS (length s.leaks)) limits.Rounds ∷
     then_some (list_any (λ l. nat_lt MOST_LEAKERS (length l)) s.leaks) limits.Leakers ∷
-    then_some (nat_lt MOST_WATCHED (length s.watch)) limits.Watch ∷ []))) (Ok tt)
+    then_some (nat_lt MOST_WATCHED (length s.watch)) limits.Watch ∷ []))) (Ok s)

@@ -11,7 +11,7 @@ use Rattle.serde_json.specs.Find.{get, as_str, as_number, as_u64, as_array, as_o
 use Rattle.scenario_text.specs.declared.faults.ScenarioError.{ScenarioError}
 use Rattle.scenario_text.specs.declared.faults.ScenarioError.TheVariants.{Shape, Value}
 use Rattle.scenario_text.specs.declared.places.Member.TheVariants.{Announcements, Policies, Leaks, Watch}
-use Rattle.scenario_text.specs.declared.places.PartOf.TheVariants as parts
+use Rattle.scenario_text.specs.declared.places.PartOf.TheVariants.{Prefix, Number, Path, Policy}
 use Rattle.scenario_text.specs.declared.scenario.Announcement.{Announcement}
 use Rattle.scenario_text.specs.Places.{document, in_member, in_part, item, member_name, part_name, name_at}
 use Rattle.scenario_text.specs.Scenarios.{ScenarioValue}
@@ -59,27 +59,22 @@ optional read p d = option_transpose (option_map (read p) (get (name_at p) d))
 
 -- an announcement has a prefix and an AS, and may have a path, which begins with the AS; without one, its path is its AS alone (own format)
 unfoldable pub announcement : Reader Data Announcement
-announcement p d = do
-  _ ← object (map part_name (parts.Prefix ∷ parts.Number ∷ parts.Path ∷ [])) p d
-  a ← Ok (λ prefix n path. record { prefix = prefix; asn = n; path = unwrap_or path (n ∷ []) })
-      ⊛ needed (text prefix_of) (in_part p parts.Prefix) d
-      ⊛ needed asn (in_part p parts.Number) d
-      ⊛ optional (list asn) (in_part p parts.Path) d
-  if starts_with nat_eq a.path (a.asn ∷ []) then Ok a else Err (Value (in_part p parts.Path))
+announcement p d = object (map part_name (Prefix ∷ Number ∷ Path ∷ [])) p d >>= λ _.
+    Ok (λ prefix n path. record { prefix = prefix; asn = n; path = unwrap_or path (n ∷ []) })
+    ⊛ needed (text prefix_of) (in_part p Prefix) d ⊛ needed asn (in_part p Number) d
+    ⊛ optional (list asn) (in_part p Path) d >>= λ a.
+    if starts_with nat_eq a.path (a.asn ∷ []) then Ok a else Err (Value (in_part p Path))
 
 -- a policy has an AS and the name of a kind (own format)
 unfoldable pub policy : Reader Data (ℕ × Kind)
-policy p d = do
-  _ ← object (map part_name (parts.Number ∷ parts.Policy ∷ [])) p d
-  Ok (λ number kind. (number, kind)) ⊛ needed asn (in_part p parts.Number) d
-      ⊛ needed (text kind_named) (in_part p parts.Policy) d
+policy p d = object (map part_name (Number ∷ Policy ∷ [])) p d >>= λ _. Ok (λ n kind. (n, kind))
+    ⊛ needed asn (in_part p Number) d ⊛ needed (text kind_named) (in_part p Policy) d
 
 -- the four lists of a document: it has announcements, and may have policies, lists of the leakers of a round, and watched addresses; a list that isn't there is empty (own format)
 unfoldable pub lists_in : Data → Result ScenarioValue ScenarioError
-lists_in d = do
-  _ ← object (map member_name (Announcements ∷ Policies ∷ Leaks ∷ Watch ∷ [])) document d
-  Ok (λ announcements policies leaks watch. record { announcements = announcements; policies = unwrap_or policies []; leaks = unwrap_or leaks []; watch = unwrap_or watch [] })
-      ⊛ needed (list announcement) (in_member Announcements) d
-      ⊛ optional (list policy) (in_member Policies) d
-      ⊛ optional (list (list asn)) (in_member Leaks) d
-      ⊛ optional (list (text addr_of)) (in_member Watch) d
+lists_in d = object (map member_name (Announcements ∷ Policies ∷ Leaks ∷ Watch ∷ [])) document d
+    >>= λ _. Ok (λ a p l w. record { announcements = a; policies = unwrap_or p []; leaks = unwrap_or l []; watch = unwrap_or w [] })
+    ⊛ needed (list announcement) (in_member Announcements) d
+    ⊛ optional (list policy) (in_member Policies) d
+    ⊛ optional (list (list asn)) (in_member Leaks) d
+    ⊛ optional (list (text addr_of)) (in_member Watch) d

@@ -4,7 +4,7 @@ use Rattle.std.specs.Option.{option_map_or}
 use Rattle.scenario_text.specs.declared.places.Member.{Member}
 use Rattle.scenario_text.specs.declared.places.Member.TheVariants.{Announcements, Policies, Leaks, Watch}
 use Rattle.scenario_text.specs.declared.places.PartOf.{PartOf}
-use Rattle.scenario_text.specs.declared.places.PartOf.TheVariants as parts
+use Rattle.scenario_text.specs.declared.places.PartOf.TheVariants.{Prefix, Number, Path, Policy}
 use Rattle.scenario_text.specs.declared.places.Place.{Place}
 
 -- the document itself (own format)
@@ -17,7 +17,7 @@ in_member m = record { member = Some m; first = None; part = None; second = None
 
 -- the item at a position, counted from 0, of the list that stands there: a member's list, or a list within one of its items (own format)
 abbrev pub item : Place → ℕ → Place
-item p i = elim p.first [ None ↦ record p { first = Some i } | Some j ↦ record p { second = Some i } ]
+item p i = elim p.first [ None ↦ record p { first = Some i } | _ ↦ record p { second = Some i } ]
 
 -- a member of the object that stands there (own format)
 abbrev pub in_part : Place → PartOf → Place
@@ -25,17 +25,11 @@ in_part p part = record p { part = Some part }
 
 -- the names of the document's members (own format)
 abbrev pub member_name : Member → List ℕ
-member_name Announcements = codes "announcements"
-member_name Policies = codes "policies"
-member_name Leaks = codes "leaks"
-member_name Watch = codes "watch"
+member_name m = elim m [ Announcements ↦ codes "announcements" | Policies ↦ codes "policies" | Leaks ↦ codes "leaks" | Watch ↦ codes "watch" ]
 
 -- the names of the members of an announcement and of a policy (own format)
 abbrev pub part_name : PartOf → List ℕ
-part_name parts.Prefix = codes "prefix"
-part_name parts.Number = codes "as"
-part_name parts.Path = codes "path"
-part_name parts.Policy = codes "policy"
+part_name p = elim p [ Prefix ↦ codes "prefix" | Number ↦ codes "as" | Path ↦ codes "path" | Policy ↦ codes "policy" ]
 
 -- the name of the member that stands at a place; the document itself has none (own format)
 abbrev pub name_at : Place → List ℕ

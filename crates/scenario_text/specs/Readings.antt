@@ -1,5 +1,5 @@
 -- The scenario of a text (own format, over RFC 8259).
-use Rattle.std.specs.Prelude.{ℕ, List, Option, None, ok_or, Result, Ok, if◌then◌else◌}
+use Rattle.std.specs.Prelude.{ℕ, List, Option, None, ok_or, Result, if◌then◌else◌}
 use Rattle.std.specs.Str.{is_utf8}
 use Rattle.serde_json.specs.Data.{Data}
 use Rattle.serde_json.specs.Read.{read}
@@ -17,9 +17,4 @@ json_of bytes = if is_utf8 bytes then read bytes else None
 
 -- the scenario of a text: the text has to be JSON, and then the first fault of the first pass that finds one, or the four lists (own format)
 unfoldable pub scenario_of_bytes : List ℕ → Result ScenarioValue ScenarioError
-scenario_of_bytes bytes = do
-  value ← ok_or (json_of bytes) NotJson
-  lists ← lists_in value
-  _ ← once lists
-  _ ← within lists
-  Ok lists
+scenario_of_bytes bytes = ok_or (json_of bytes) NotJson >>= lists_in >>= once >>= within

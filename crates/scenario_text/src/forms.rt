@@ -1,5 +1,5 @@
 //! The forms of a script's line.
-ghost use Rattle.std.specs.Prelude.{◌≡◌, ◌≤◌, length, Some, IfOk, IfSome, option_and_then};
+ghost use Rattle.std.specs.Prelude.{◌≡◌, ◌≤◌, length, Some, IfOk, IfSome, option_and_then, option_map};
 ghost use Rattle.net_names.specs.Texts.{after, prefix_of};
 ghost use Rattle.scenario_text.specs.declared.acts.Act.TheVariants.{Edit as AnEdit};
 ghost use Rattle.scenario_text.specs.declared.acts.Edit.TheVariants.{Announce as AnAnnounce};
@@ -54,7 +54,7 @@ fn behind<F: Field>(line: &[u8], word: &[u8]) -> Option<F::To>
 // What a line asks for that announces.
 #[tactic(auto, unfolding(crate::specs::Forms::pair))]
 fn announcement(alloc: Global, line: &[u8]) -> Result<Option<Act>, NoMemory>
-    ensures gives { IfOk result (λ act. act ≡ form "announce " (pair 32 prefix_of path_of) (λ x. AnEdit (AnAnnounce x.0 x.1)) line.now) }
+    ensures gives { IfOk result (λ act. act ≡ option_map AnEdit (form "announce " (pair 32 prefix_of path_of) (λ x. AnAnnounce x.0 x.1) line.now)) }
     ensures sound { IfOk result (λ act. IfSome act IsSoundAct) }
 {
     let Some(rest) = strip(line, b"announce ") else {

@@ -2,7 +2,7 @@
 ghost use Rattle.std.specs.Prelude.{◌≡◌, IfOk, length, map, nat_lt};
 ghost use Rattle.std.specs.BTreeSet.{IsFromIterResult};
 ghost use Rattle.std.specs.List.{list_any};
-ghost use Rattle.scenario_text.specs.Faults.{Gives};
+ghost use Rattle.scenario_text.specs.Faults.{GivesBy};
 ghost use Rattle.scenario_text.specs.Limits.{within};
 ghost use Rattle.scenario_text.specs.Scenarios.{prefix_count};
 
@@ -71,7 +71,7 @@ fn has_many_leakers(leaks: &[Leakers]) -> bool
 /// Tests that no limit is passed.
 #[tactic(auto, unfolding(crate::specs::Limits::within))]
 pub(crate) fn test_limits(alloc: Global, lists: &Lists) -> Result<(), ScenarioError>
-    ensures { Gives result (within lists.now) }
+    ensures { GivesBy (λ _. lists.now) result (within lists.now) }
 {
     if lists.announcements.len() > MOST_ANNOUNCEMENTS {
         return Err(ScenarioError::Limit {

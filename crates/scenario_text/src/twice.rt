@@ -117,9 +117,8 @@ fn leaks_once(alloc: Global, leaks: &[Leakers]) -> Result<Vec<()>, ScenarioError
 }
 
 /// Tests that no announcement, policy, leaker of a round or watched address is named twice.
-#[tactic(auto, unfolding(crate::specs::Twice::once))]
 pub(crate) fn test_once(alloc: Global, lists: &Lists) -> Result<(), ScenarioError>
-    ensures { Gives result (once lists.now) }
+    ensures { GivesBy (λ _. lists.now) result (once lists.now) }
 {
     announcements_once(
         alloc,

@@ -1,6 +1,12 @@
-use Rattle.std.proofs.Common.{arith, sym, ◌∙◌}
-use Rattle.scenario_text.proofs.Repeats.{contains_more, goes_on, stops, ends}
+use Rattle.std.proofs.Common.{arith, rules, sym, ◌∙◌}
+use Rattle.scenario_text.proofs.Repeats.{once_in_steps, contains_more, goes_on, stops, ends}
 use Rattle.scenario_text.proofs.twice.items_once.Goals as goal
+
+pub loop-i-init : goal.loop-i-init
+loop-i-init g c = record {
+  so_far = once_in_steps g.K.Ord.cmp c.args.place c.args.keys.now;
+  seen = search rules;
+}
 
 pub returns-in-Ok-false : goal.returns-in-Ok-false
 returns-in-Ok-false g c =
