@@ -20,7 +20,7 @@ said_by _ = Unreadable
 
 -- What a line says, without one carriage return at its end: nothing where it is skipped, and else what its fields between `|` say.
 abbrev pub says : List ℕ → Said
-says line = let text = strip_carriage_return line in if is_skipped text then Nothing else said_by (fields 124 text)
+says l = let t = strip_carriage_return l in if is_skipped t then Nothing else said_by (fields 124 t)
 
 -- A link's first AS is the lower one.
 abbrev pub IsRising : Said → Type 0

@@ -1,6 +1,7 @@
 -- What a relationship file stands for: its links, or the fault of its first faulty line (for CAIDA's AS relationships, serial-1).
 use Rattle.std.specs.Prelude.{ℕ, ◌+◌, nat_lt, List, [], ◌∷◌, length, map, Option, Some, None, Result, Ok, if◌then◌else◌}
 use Rattle.std.specs.FinMap as fin
+use Rattle.std.specs.List.{enumerate_from, flat_map}
 use denote.Enum.Bare.{sameb}
 use Rattle.net_names.specs.Steps.{unless, first_fault}
 use Rattle.net_names.specs.Texts.{fields}
@@ -13,6 +14,7 @@ use Rattle.caida_reader.specs.declared.line.Said.TheVariants.{Nothing, Unreadabl
 use Rattle.caida_reader.specs.declared.firsts.First.{First}
 use Rattle.caida_reader.specs.declared.errors.RelError.{RelError}
 use Rattle.caida_reader.specs.declared.errors.RelError.TheVariants as fault
+use Rattle.caida_reader.specs.declared.errors.RelError.TheVariants.{SelfLink, Conflict, TooManyLinks}
 use Rattle.net_names.specs.declared.links.TheConstants.{MOST_LINKS}
 
 -- What each line of a file says. The lines are the bytes between line feeds. What stands after the last line feed is a line too; where nothing stands there, that line is empty, and so it is skipped.
@@ -21,9 +23,7 @@ said_in bytes = map says (fields 10 bytes)
 
 -- The links that lines give, each under its pair, the lower AS and the higher one, with the number of its line, where the first line has this number.
 abbrev pub numbered : ℕ → List Said → List ((ℕ × ℕ) × First)
-numbered n [] = []
-numbered n (Link lo hi r ∷ rest) = ((lo, hi), record { rel = r; line = n }) ∷ numbered (n + 1) rest
-numbered n (said ∷ rest) = numbered (n + 1) rest
+numbered n said = flat_map (λ x. elim x.1 [ Link lo hi r ↦ ((lo, hi), record { rel = r; line = x.0 }) ∷ [] | _ ↦ [] ]) (enumerate_from n said)
 
 -- The links that lines give, as a map. Where lines give a pair twice, the first of them counts.
 abbrev pub links_in : List Said → LinkMap
@@ -31,15 +31,12 @@ links_in said = fin.from_entries (map (λ e. (e.0, e.1.rel)) (numbered 1 said))
 
 -- The fault of a link in a line of this number: its pair stands with another relation (`sameb` says whether two are the same), or it is new and 1,500,000 pairs stand.
 abbrev pub link_fault : ℕ → Rel → ℕ → Option First → Option RelError
-link_fault n rel pairs None = if nat_lt pairs MOST_LINKS then None else Some (fault.TooManyLinks n)
-link_fault n rel pairs (Some first) = if sameb the_type first.rel rel then None else Some (fault.Conflict n first.line)
+link_fault n r pairs None = if nat_lt pairs MOST_LINKS then None else Some (TooManyLinks n)
+link_fault n r pairs (Some f) = if sameb the_type f.rel r then None else Some (Conflict n f.line)
 
 -- The fault of a line of this number, where the lines before it give these pairs, each with its first line.
 abbrev pub fault_at : fin.FinMap pair_cmp First → ℕ → Said → Option RelError
-fault_at before n Nothing = None
-fault_at before n Unreadable = Some (fault.Unreadable n)
-fault_at before n Itself = Some (fault.SelfLink n)
-fault_at before n (Link lo hi rel) = link_fault n rel (fin.len before) (fin.get before (lo, hi))
+fault_at before n said = elim said [ Nothing ↦ None | Unreadable ↦ Some (fault.Unreadable n) | Itself ↦ Some (SelfLink n) | Link lo hi r ↦ link_fault n r (fin.len before) (fin.get before (lo, hi)) ]
 
 -- The fault of a line that stands behind these lines.
 abbrev pub fault_after : List Said → Said → Option RelError
