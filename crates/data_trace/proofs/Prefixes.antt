@@ -16,9 +16,10 @@ use Rattle.route_choice.specs.Routings.{entry_of, table_routing}
 use Rattle.route_choice.specs.RoundTables.{table_at, round_routing, AreAllLive}
 use Rattle.data_trace.specs.declared.kinds.Hop.TheVariants.{Here, To, NoRoute}
 use Rattle.data_trace.specs.declared.best.Best.{Best}
-use Rattle.data_trace.specs.Hops.{longer, sent_by, second_of, next_hop}
+use Rattle.data_trace.specs.Hops.{sent_by, second_of, next_hop}
 use Rattle.data_trace.specs.Best.{held_in, better_of, best_in, holding, hop_of}
 use Rattle.data_trace.proofs.Inside.{hop_by}
+use Rattle.data_trace.proofs.Longest.{longer, reduced}
 
 -- ---- what is held, with its path and without
 
@@ -46,7 +47,7 @@ module _ (pool : PathPool) (tables : RoundTables) (a : ℕ) where
   longer_is None q h = refl
   longer_is (Some b) q h = by (nat_lt b.prefix.len q.len)
     where
-      by : (v : Bool) → cond v (Some q) (Some b.prefix) ≡ option_map (λ b. b.prefix) (cond v (Some (record { prefix = q; held = h })) (Some b))
+      by : (v : Bool) → Some (cond v q b.prefix) ≡ option_map (λ b. b.prefix) (cond v (Some (record { prefix = q; held = h })) (Some b))
       by true = refl
       by false = refl
 
@@ -79,7 +80,7 @@ module _ (pool : PathPool) (tables : RoundTables) (a : ℕ) where
   no_best = record { prefix = refl; held = λ b e. cc }
 
   best_is : (plan : Plan) (addr : AddrValue) → IsBest (best_in tables a (holding plan addr)) (sent_by plan (round_routing pool tables) addr a)
-  best_is plan addr = chain addr (prefixes_of plan) None None no_best
+  best_is plan addr = subst (IsBest (best_in tables a (holding plan addr))) (reduced (filter (λ q. holds q addr && is_some (round_routing pool tables q a)) (prefixes_of plan))) (chain addr (prefixes_of plan) None None no_best)
 
   -- the next hop is that of the best entry
   pub next_hop_is : (plan : Plan) (addr : AddrValue) → next_hop plan (round_routing pool tables) addr a ≡ hop_of pool plan a (best_in tables a (holding plan addr))

@@ -18,7 +18,7 @@ returns c = λ plan held addr a.
     let passes : (q : PrefixValue) → CanSendBy plan held addr a q → F q ≡ true = λ q can. both (holds q addr) (is_some (held q a)) can.holds_it can.entry in
     let can : (q : PrefixValue) → Contains (prefixes_of plan) q → F q ≡ true → CanSendBy plan held addr a q =
     λ q there t. let parts = and_parts (holds q addr) (is_some (held q a)) t in record { known = there; holds_it = parts.0; entry = parts.1 } in (
-      (λ p e. let b : IsBestOf F (prefixes_of plan) None p = best_of F (prefixes_of plan) None p e in
+      (λ p e. let b : IsBestOf F (prefixes_of plan) None p = best_of F (prefixes_of plan) p e in
           (⊎_elim (λ (h : None ≡ Some p). absurd (let k : None ≡ Some p = h in cc)) (λ h. can p h.0 h.1) b.among, λ q s. b.each q s.known (passes q s))),
       λ e q s. none_of F (prefixes_of plan) e q s.known (passes q s),
     )
