@@ -1,5 +1,5 @@
 -- What was read of the files, and what comes of it.
-use Rattle.std.specs.Prelude.{◌≡◌, [], Option, Some, None, Result, Ok, Err, IsSomeAnd}
+use Rattle.std.specs.Prelude.{◌≡◌, [], Option, Some, Result, Ok, Err, IsSomeAnd, MatchOption}
 use Rattle.std.specs.Option.{option_map_or}
 use Rattle.std.specs.Io.KnownBytes.{Keeps}
 use Rattle.clap.specs.Walk.{Text}
@@ -14,16 +14,16 @@ use Rattle.task_reading.specs.declared.types.Fault.{Fault}
 
 -- A file was read whole, so that these are the bytes that are told of it; or a read of it failed.
 abbrev pub IsRead : Option Text → Type 0 → Option Text → Type 0
-IsRead held fails (Some bytes) = Keeps held (Some bytes)
-IsRead held fails None = fails
+IsRead held fails read = MatchOption read fails (λ bytes. Keeps held (Some bytes))
 
 -- A file was read under its name. One that isn't named counts as empty, and no read of it fails.
 abbrev pub IsReadAs : Source → Option Text → Option Text → Type 0
 IsReadAs from name = IsRead (option_map_or from.holds name (Some [])) (IsSomeAnd name from.fails)
 
--- Each file was read under the name that the form gives it. One that isn't named counts as empty, and no read of it fails.
+-- Each file was read under the name that the form gives it, so that these are the bytes that are told of it, or a read of it failed. One that isn't named counts as empty, and no read of it fails.
 abbrev pub AreReads : Source → Option Form → Reads → Type 0
-AreReads from form reads = (file : File) → let name = name_by form file in IsRead (option_map_or from.holds name (Some [])) (IsSomeAnd name from.fails) (reads file)
+AreReads from form reads = (file : File) → let name = name_by form file in MatchOption (reads file)
+    (IsSomeAnd name from.fails) (λ bytes. Keeps (option_map_or from.holds name (Some [])) (Some bytes))
 
 -- the error is the value's fault, unless memory ran out
 abbrev pub IsFaultOf : {A : Type 0} → AskError → Result A Fault → Type 0

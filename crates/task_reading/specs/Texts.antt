@@ -6,7 +6,7 @@ use Rattle.caida_reader.specs.declared.errors.RelError.TheVariants as rel
 use Rattle.caida_reader.specs.declared.errors.RelError.TheVariants.{SelfLink, Conflict, TooManyLinks}
 use Rattle.roa_table.specs.declared.errors.VrpError.TheVariants as vrp
 use Rattle.scenario_text.specs.PlaceTexts.{place_text}
-use Rattle.scenario_text.specs.declared.faults.LimitOf.TheVariants as limit
+use Rattle.scenario_text.specs.declared.faults.LimitOf.TheVariants.{Announcements, Prefixes, Path, Rounds, Leakers, Watch}
 use Rattle.scenario_text.specs.declared.faults.ScenarioError.TheVariants as scenario
 use Rattle.scenario_text.specs.declared.faults.ScenarioError.TheVariants.{Limit}
 use Rattle.scenario_text.specs.declared.script.ScriptError.TheVariants as script
@@ -45,12 +45,7 @@ cause_of (Scenario scenario.NotJson) = (BadInput, codes "not JSON")
 cause_of (Scenario (scenario.Shape place)) = (BadInput, place_text place ++ codes ": wrong shape")
 cause_of (Scenario (scenario.Value place)) = (BadInput, place_text place ++ codes ": bad value")
 cause_of (Scenario (scenario.Twice place)) = (BadInput, place_text place ++ codes ": named twice")
-cause_of (Scenario (Limit limit.Announcements)) = (TooLarge, codes "more than 64 announcements")
-cause_of (Scenario (Limit limit.Prefixes)) = (TooLarge, codes "more than 32 prefixes")
-cause_of (Scenario (Limit limit.Path)) = (TooLarge, codes "more than 64 numbers in a path")
-cause_of (Scenario (Limit limit.Rounds)) = (TooLarge, codes "more than 4 rounds")
-cause_of (Scenario (Limit limit.Leakers)) = (TooLarge, codes "more than 64 leakers in a round")
-cause_of (Scenario (Limit limit.Watch)) = (TooLarge, codes "more than 16 watched addresses")
+cause_of (Scenario (Limit which)) = (TooLarge, codes "more than " ++ codes (elim which [ Announcements ↦ "64 announcements" | Prefixes ↦ "32 prefixes" | Path ↦ "64 numbers in a path" | Rounds ↦ "4 rounds" | Leakers ↦ "64 leakers in a round" | Watch ↦ "16 watched addresses" ]))
 cause_of (Script (script.Unreadable n)) = (BadInput, placed "line" n "unreadable")
 cause_of (Script (script.TooMany n)) = (TooLarge, placed "line" n "more than 100000 commands")
 cause_of _ = (BadInput, [])

@@ -33,20 +33,19 @@ HasSize (Some (demo_form size)) = (4 ≤ size) × (size ≤ 20000)
 abbrev pub form_by : (rel vrps scenario script origin demo : Option Text) → Option Form
 form_by (Some rel) vrps scenario script None None = Some (script_form rel vrps scenario script)
 form_by (Some rel) None None None (Some number) None = option_map (origin_form rel) (asn_of number)
-form_by None None None None None (Some number) = option_map demo_form (option_filter (λ n. nat_le 4 n && nat_le n 20000) (numeral 10 5 number))
+form_by None None None None None (Some size) =
+    option_map demo_form (option_filter (λ n. nat_le 4 n && nat_le n 20000) (numeral 10 5 size))
 form_by _ _ _ _ _ _ = None
 
 -- the form of the words: that of the values of the word and of the options where the command finds no fault in the words, and else none (own format)
 unfoldable pub form_of : List Text → Option Form
-form_of words = let value : String → Option Text = λ name. first_of (codes name) (matches_of asprop_command words) in
+form_of words = let value = λ (n : String). first_of (codes n) (matches_of asprop_command words) in
     if is_empty (fault_of asprop_command words) then form_by (value "rel") (value "vrps") (value "scenario") (value "script") (value "origin") (value "demo") else None
 
 -- the name that a form gives to a file, if it names one; without a form there is none
 abbrev pub name_by : Option Form → File → Option Text
-name_by (Some (script_form rel vrps scenario script)) Relations = Some rel
-name_by (Some (script_form rel vrps scenario script)) Payloads = vrps
-name_by (Some (script_form rel vrps scenario script)) Scenario = scenario
-name_by (Some (script_form rel vrps scenario script)) Script = script
+name_by (Some (script_form rel vrps scenario script)) file =
+    elim file [ Relations ↦ Some rel | Payloads ↦ vrps | Scenario ↦ scenario | Script ↦ script ]
 name_by (Some (origin_form rel origin)) Relations = Some rel
 name_by _ _ = None
 
