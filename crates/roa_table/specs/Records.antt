@@ -13,8 +13,7 @@ max_of p text = if length text == 0 then Some p.len else numeral 10 3 text
 
 -- the payload of a record, or what is wrong with it, once it is told the number of its row: by its first three fields, the AS number, the prefix and the maximum length, which is from the prefix's length to the family's width; further ones are not read (for the columns of the usual validators)
 abbrev pub payload_of : List (List ℕ) → Result VrpValue (ℕ → VrpError)
-payload_of (asn ∷ (prefix ∷ (max ∷ more))) = do
-  n ← ok_or (vrp_asn_of asn) fault.BadAsn
-  p ← ok_or (prefix_of prefix) fault.BadPrefix
-  ok_or (option_and_then (λ m. vrp_at p m n) (max_of p max)) fault.BadMax
+payload_of (asn ∷ (prefix ∷ (max ∷ more))) = ok_or (vrp_asn_of asn) fault.BadAsn >>= λ n.
+    ok_or (prefix_of prefix) fault.BadPrefix >>= λ p.
+    ok_or (option_and_then (λ m. vrp_at p m n) (max_of p max)) fault.BadMax
 payload_of _ = Err fault.Fields
