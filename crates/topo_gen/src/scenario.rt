@@ -1,6 +1,6 @@
 //! The scenario and the payloads of a generated input.
 ghost use Rattle.std.specs.Prelude.{◌≡◌, ◌<◌, ◌≤◌, ◌+◌, ◌%◌, ◌==◌, ◌∷◌, [], IfOk, OnOk, map, filter, min};
-ghost use Rattle.topo_gen.specs.Scenarios.{drawn_payloads, drawn_scenario, high_addr as high_address, kind_of as kind_by, low_addr as low_address, whole as whole_prefix};
+ghost use Rattle.topo_gen.specs.Scenarios.{block, drawn_payloads, drawn_scenario, host, kind_of as kind_by};
 ghost use Rattle.std.specs.List.{range_with_len};
 ghost use Rattle.scenario_text.specs.Scenarios.{nothing};
 
@@ -13,7 +13,7 @@ use std::alloc::Global;
 
 // 10.0.0.0/8.
 fn whole() -> Prefix
-    ensures { result ≡ whole_prefix }
+    ensures { result ≡ block 8 }
 {
     let Some(prefix) = Prefix::new(Family::V4, 167_772_160, 8) else {
         unreachable!();
@@ -23,7 +23,7 @@ fn whole() -> Prefix
 
 // 10.0.0.0/9.
 fn half() -> Prefix
-    ensures { result ≡ record whole_prefix { len = 9 } }
+    ensures { result ≡ block 9 }
 {
     let Some(prefix) = Prefix::new(Family::V4, 167_772_160, 9) else {
         unreachable!();
@@ -33,7 +33,7 @@ fn half() -> Prefix
 
 /// 10.0.0.1.
 pub fn low_addr() -> Addr
-    ensures { result ≡ low_address }
+    ensures { result ≡ host 0 }
 {
     let Some(addr) = Addr::new(Family::V4, 167_772_161) else {
         unreachable!();
@@ -43,7 +43,7 @@ pub fn low_addr() -> Addr
 
 /// 10.128.0.1.
 pub fn high_addr() -> Addr
-    ensures { result ≡ high_address }
+    ensures { result ≡ host 1 }
 {
     let Some(addr) = Addr::new(Family::V4, 176_160_769) else {
         unreachable!();
@@ -128,7 +128,7 @@ fn leak_all(scenario: &mut Scenario, n: u32) -> Result<(), NoMemory>
 // Watches the two addresses.
 fn watch(scenario: &mut Scenario) -> Result<(), NoMemory>
     requires { scenario.old.watch ≡ [] }
-    ensures { OnOk result (scenario.new ≡ record scenario.old { watch = low_address ∷ high_address ∷ [] }) }
+    ensures { OnOk result (scenario.new ≡ record scenario.old { watch = host 0 ∷ host 1 ∷ [] }) }
 {
     scenario.watch(low_addr())?;
     scenario.watch(high_addr())
