@@ -6,6 +6,7 @@ use Rattle.net_names.specs.declared.routes.Rel.TheVariants.{Customer, Provider}
 use Rattle.net_names.specs.Links.{converse}
 use Rattle.net_names.specs.Numbers.{occurs, IsDistinct, last_or}
 use Rattle.as_graph.specs.Hierarchy.{IsDescent, HasNoProviderCycle}
+use Rattle.as_graph.proofs.Told.{cycle_from}
 
 -- what the first is to the second is the converse of what the second is to the first
 abbrev pub IsMutual : (ℕ → ℕ → Option Rel) → Type 0
@@ -122,7 +123,7 @@ module _ (relation : ℕ → ℕ → Option Rel) (mutual_links : IsMutual relati
     where
       cycle_of : (ys : List ℕ) → (occurs a ys ≡ false) → IsDistinct ys → IsDescent relation (a ∷ ys) → relation (last_or a ys) a ≡ Some Customer → ⊥
       cycle_of [] o d down close = no_self a close
-      cycle_of (y ∷ ys) o d down close = no_cycle (a ∷ y ∷ ys) (record { two = omega arith; distinct = (o, d); descends = down; closes = close })
+      cycle_of (y ∷ ys) o d down close = no_cycle (a ∷ y ∷ ys) (cycle_from relation (a ∷ y ∷ ys) (record { two = omega arith; distinct = (o, d); descends = down; closes = close }))
 
       met : IsDistinct xs → occurs a xs ≡ true → ⊥
       met rest e = let c = closing relation a a xs h e in cycle_of (before_first a xs) (not_before a xs) (distinct_before a xs rest) c.0 c.1

@@ -5,8 +5,9 @@ use Rattle.net_names.specs.declared.routes.Rel.{Rel}
 use Rattle.net_names.specs.declared.routes.Rel.TheVariants.{Customer}
 use Rattle.as_graph.specs.Topology.{Topology, relation, ases}
 use Rattle.net_names.specs.Numbers.{occurs, IsDistinct}
-use Rattle.as_graph.specs.Hierarchy.{IsDescent, HasNoProviderCycle, IsChainFrom, IsRank, RankFits}
+use Rattle.as_graph.specs.Hierarchy.{IsDescent, HasNoProviderCycle, IsRank, RankFits}
 use Rattle.as_graph.proofs.Chains.{descent_tail}
+use Rattle.as_graph.proofs.Told.{IsChainTold, chain_told, chain_from}
 use Rattle.as_graph.proofs.Links.{topology-AreLinks}
 use Rattle.as_graph.proofs.Ranks.{ranks_fall}
 
@@ -46,8 +47,9 @@ module _ (relation : ℕ → ℕ → Option Rel) (rank : ℕ → ℕ) (fits : (a
   fitting_is_rank a =
       let (xs, d, l) = reach (rank a) a refl in
       record {
-        longest = (a ∷ xs, record { starts = (xs, refl); distinct = falling_distinct (a ∷ xs) d; descends = d }, omega arith);
-        most = λ ys c.
+        longest = (a ∷ xs, chain_from relation a xs (falling_distinct (a ∷ xs) d) d, omega arith);
+        most = λ ys chain.
+            let c = chain_told relation a ys chain in
             let d' : IsDescent relation (a ∷ c.starts.0) = subst (IsDescent relation) c.starts.1 c.descends in
             let n : length c.starts.0 ≤ rank a = bounded a c.starts.0 d' in
             let m : length ys ≡ suc (length c.starts.0) = ap length c.starts.1 in
@@ -63,17 +65,17 @@ one_rank_at relation a r s x y =
     omega arith
 
 pub ranks_fit_at : (w : Topology) (rank : ℕ → ℕ) → HasNoProviderCycle (relation w) → ((a : ℕ) → IsRank (relation w) a (rank a)) → (a : ℕ) → RankFits (relation w) rank a
-ranks_fit_at w rank no_cycle is a = record { above = above; reached = let (xs, c, l) = (is a).longest in by xs c l c.starts.0 c.starts.1 }
+ranks_fit_at w rank no_cycle is a = record { above = above; reached = let (xs, c, l) = (is a).longest in let told = chain_told (relation w) a xs c in by xs told l told.starts.0 told.starts.1 }
   where
     above : (b : ℕ) → relation w a b ≡ Some Customer → suc (rank b) ≤ rank a
     above b linked = (ranks_fall (relation w) (ases w) (topology-AreLinks w) no_cycle rank is).falls a b linked
 
-    by : (xs : List ℕ) → IsChainFrom (relation w) a xs → length xs ≡ rank a + 1 → (rest : List ℕ) → xs ≡ a ∷ rest → (rank a ≡ 0) ⊎ ((b : ℕ) × (relation w a b ≡ Some Customer) × (rank a ≡ suc (rank b)))
+    by : (xs : List ℕ) → IsChainTold (relation w) a xs → length xs ≡ rank a + 1 → (rest : List ℕ) → xs ≡ a ∷ rest → (rank a ≡ 0) ⊎ ((b : ℕ) × (relation w a b ≡ Some Customer) × (rank a ≡ suc (rank b)))
     by xs c l [] e = inl (let m : length xs ≡ 1 = ap length e in omega arith)
     by xs c l (b ∷ rest) e =
         let d : IsDescent (relation w) (a ∷ b ∷ rest) = subst (IsDescent (relation w)) e c.descends in
         let dis : IsDistinct (a ∷ b ∷ rest) = subst IsDistinct e c.distinct in
         let m : length xs ≡ suc (suc (length rest)) = ap length e in
-        let most = (is b).most (b ∷ rest) (record { starts = (rest, refl); distinct = dis.1; descends = d.1 }) in
+        let most = (is b).most (b ∷ rest) (chain_from (relation w) b rest dis.1 d.1) in
         let less = above b d.0 in
         inr (b, d.0, omega (arith, most, less))

@@ -5,6 +5,7 @@ use Rattle.net_names.specs.declared.routes.Rel.{Rel}
 use Rattle.net_names.specs.declared.routes.Rel.TheVariants.{Customer, Peer, Provider}
 use Rattle.net_names.specs.Numbers.{occurs}
 use Rattle.as_graph.specs.Hierarchy.{IsDescent, HasNoProviderCycle, IsRank}
+use Rattle.as_graph.proofs.Told.{chain_told, chain_from}
 use Rattle.as_graph.proofs.Chains.{AreLinks, Falls, distinct_le, descent_tail, descent_distinct}
 
 -- the greatest number that f gives to one of the list
@@ -88,8 +89,9 @@ module _ (relation : ℕ → ℕ → Option Rel) (ases : List ℕ) (links : AreL
     rank_of-IsRank a =
         let (xs, d, l) = walk relation ases (length ases) a in
         record {
-          longest = (a ∷ xs, record { starts = (xs, refl); distinct = descent_distinct relation links.alike no_cycle (a ∷ xs) d; descends = d }, omega arith);
-          most = λ ys c. let d' : IsDescent relation (a ∷ c.starts.0) = subst (IsDescent relation) c.starts.1 c.descends in
+          longest = (a ∷ xs, chain_from relation a xs (descent_distinct relation links.alike no_cycle (a ∷ xs) d) d, omega arith);
+          most = λ ys chain. let c = chain_told relation a ys chain in
+              let d' : IsDescent relation (a ∷ c.starts.0) = subst (IsDescent relation) c.starts.1 c.descends in
               let n : length c.starts.0 ≤ steps_down relation ases (length ases) a = no_longer (length ases) a c.starts.0 d' (few a c.starts.0 d') in
               let m : length ys ≡ suc (length c.starts.0) = ap length c.starts.1 in
               omega arith;
@@ -101,17 +103,19 @@ module _ (relation : ℕ → ℕ → Option Rel) (ases : List ℕ) (links : AreL
       where
         falls : (a b : ℕ) → relation a b ≡ Some Customer → suc (rank b) ≤ rank a
         falls a b linked =
-            let (xs, c, l) = (is b).longest in
+            let (xs, chain, l) = (is b).longest in
+            let c = chain_told relation b xs chain in
             let rest : List ℕ = c.starts.0 in
             let d : IsDescent relation (b ∷ rest) = subst (IsDescent relation) c.starts.1 c.descends in
             let more : IsDescent relation (a ∷ b ∷ rest) = (linked, d) in
-            let most = (is a).most (a ∷ b ∷ rest) (record { starts = (b ∷ rest, refl); distinct = descent_distinct relation links.alike no_cycle (a ∷ b ∷ rest) more; descends = more }) in
+            let most = (is a).most (a ∷ b ∷ rest) (chain_from relation a (b ∷ rest) (descent_distinct relation links.alike no_cycle (a ∷ b ∷ rest) more) more) in
             let m : length xs ≡ suc (length rest) = ap length c.starts.1 in
             omega (arith, most)
 
         within : (a : ℕ) → rank a ≤ length ases
         within a =
-            let (xs, c, l) = (is a).longest in
+            let (xs, chain, l) = (is a).longest in
+            let c = chain_told relation a xs chain in
             let d : IsDescent relation (a ∷ c.starts.0) = subst (IsDescent relation) c.starts.1 c.descends in
             let n : length c.starts.0 ≤ length ases = few a c.starts.0 d in
             let m : length xs ≡ suc (length c.starts.0) = ap length c.starts.1 in

@@ -2,7 +2,8 @@
 use Rattle.std.specs.Prelude.{◌≡◌, ◌⊎◌, ℕ, suc, ◌≤◌, Option, Some, List, [], ◌∷◌, length, ◌+◌, ⊤, slice_index}
 use Rattle.net_names.specs.declared.routes.Rel.{Rel}
 use Rattle.net_names.specs.declared.routes.Rel.TheVariants.{Customer}
-use Rattle.net_names.specs.Numbers.{IsDistinct, last_or}
+use Rattle.net_names.specs.Numbers.{last_or}
+use Rattle.net_names.specs.Ways.{IsWay}
 use Rattle.as_graph.specs.Topology.{Topology, relation}
 
 -- each AS of the list is a provider of the next (Gao and Rexford 2001)
@@ -11,23 +12,20 @@ IsDescent rel [] = ⊤
 IsDescent rel (a ∷ []) = ⊤
 IsDescent rel (a ∷ b ∷ rest) = (rel a b ≡ Some Customer) × IsDescent rel (b ∷ rest)
 
+-- a chain from an AS: a way from it on which each AS is a provider of the next (Gao and Rexford 2001)
+abbrev pub IsChainFrom : (ℕ → ℕ → Option Rel) → ℕ → List ℕ → Type 0
+IsChainFrom rel = IsWay (λ a b. rel a b ≡ Some Customer)
+
 -- a provider cycle: at least two distinct ASes, each a provider of the next, and the last a
 -- provider of the first (Gao and Rexford 2001: the hierarchy that has none)
 pub record IsProviderCycle (rel : ℕ → ℕ → Option Rel) (xs : List ℕ) : Type 0 where
   pub two : 2 ≤ length xs
-  pub distinct : IsDistinct xs
-  pub descends : IsDescent rel xs
+  pub way : IsChainFrom rel (slice_index xs 0) xs
   pub closes : rel (last_or 0 xs) (slice_index xs 0) ≡ Some Customer
 
 -- no list of ASes is a provider cycle (Gao and Rexford 2001)
 abbrev pub HasNoProviderCycle : (ℕ → ℕ → Option Rel) → Type 0
 HasNoProviderCycle rel = (xs : List ℕ) → IsProviderCycle rel xs → ⊥
-
--- a chain from a: distinct ASes, a the first, each a provider of the next
-pub record IsChainFrom (rel : ℕ → ℕ → Option Rel) (a : ℕ) (xs : List ℕ) : Type 0 where
-  pub starts : (rest : List ℕ) × (xs ≡ a ∷ rest)
-  pub distinct : IsDistinct xs
-  pub descends : IsDescent rel xs
 
 -- the rank of a: one less than the length of the longest chain from a
 pub record IsRank (rel : ℕ → ℕ → Option Rel) (a rank : ℕ) : Type 0 where

@@ -7,6 +7,7 @@ use Rattle.net_names.specs.Numbers.{occurs, IsDistinct, last_or}
 use Rattle.net_names.specs.declared.routes.Rel.{Rel}
 use Rattle.net_names.specs.declared.routes.Rel.TheVariants.{Customer}
 use Rattle.as_graph.specs.Hierarchy.{RankFits, IsDescent, IsProviderCycle}
+use Rattle.as_graph.proofs.Told.{cycle_told, cycle_from}
 use Rattle.cycle_check.specs.Cycles.{IsCycleFromLowest}
 use Rattle.cycle_check.specs.Rows.{count_of, row, relation, AreRows}
 use Rattle.cycle_check.specs.Places.{place_in}
@@ -103,17 +104,19 @@ module _ (w : ℕ → ℕ → Option Rel) (ases starts items : List ℕ) (region
 
   pub carried_cycle : (xs : List ℕ) → IsProviderCycle (relation starts items) xs → IsProviderCycle w (map (λ p. get_or ases p 0) xs)
   carried_cycle [] h = let two : 2 ≤ 0 = h.two in absurd (omega arith)
-  carried_cycle (x ∷ xs) h = record {
-    two = omega (arith, h.two, length-map (x ∷ xs) (λ (p : ℕ). get_or ases p 0));
-    distinct = carried_distinct (x ∷ xs) h.distinct (all_inside x xs x h.descends h.closes);
-    descends = carried_descent (x ∷ xs) h.descends;
-    closes = subst (λ t. w t (get_or ases x 0) ≡ Some Customer) (sym (carried_last x xs)) (carried_link (last_or x xs) x h.closes);
-  }
+  carried_cycle (x ∷ xs) c =
+      let h = cycle_told (relation starts items) (x ∷ xs) c in
+      cycle_from w (map (λ p. get_or ases p 0) (x ∷ xs)) (record {
+        two = omega (arith, h.two, length-map (x ∷ xs) (λ (p : ℕ). get_or ases p 0));
+        distinct = carried_distinct (x ∷ xs) h.distinct (all_inside x xs x h.descends h.closes);
+        descends = carried_descent (x ∷ xs) h.descends;
+        closes = subst (λ t. w t (get_or ases x 0) ≡ Some Customer) (sym (carried_last x xs)) (carried_link (last_or x xs) x h.closes);
+      })
 
   -- each place of a provider cycle is a place
   pub cycle_inside : (xs : List ℕ) → IsProviderCycle (relation starts items) xs → (k : ℕ) → k < length xs → get_or xs k 0 < length ases
   cycle_inside [] h k less = absurd (omega (arith, less))
-  cycle_inside (x ∷ xs) h k less = all_inside x xs x h.descends h.closes (get_or (x ∷ xs) k 0) (occurs_get (x ∷ xs) k 0 less)
+  cycle_inside (x ∷ xs) c k less = let h = cycle_told (relation starts items) (x ∷ xs) c in all_inside x xs x h.descends h.closes (get_or (x ∷ xs) k 0) (occurs_get (x ∷ xs) k 0 less)
 
   -- places rise as their ASes do, so a cycle that begins with its lowest place begins with its lowest number
   pub carried_lowest : (xs : List ℕ) → IsCycleFromLowest (relation starts items) xs → IsCycleFromLowest w (map (λ p. get_or ases p 0) xs)
@@ -123,7 +126,7 @@ module _ (w : ℕ → ℕ → Option Rel) (ases starts items : List ℕ) (region
     lowest = λ a o. (
         let (y, at, is) = occurs_map a (x ∷ xs) o in
         let low : x ≤ y = h.lowest y at in
-        let inside : y < length ases = all_inside x xs x h.cycle.descends h.cycle.closes y at in
+        let inside : y < length ases = all_inside x xs x (cycle_told (relation starts items) (x ∷ xs) h.cycle).descends h.cycle.closes y at in
         elim (cases_lt x y) [
           | inl less ↦ (let rises : get_or ases x 0 < get_or ases y 0 = AllPairs-from_increasing ases r.rising x y 0 less inside in omega (arith, rises, is))
           | inr same ↦ (let own : get_or ases x 0 ≡ get_or ases y 0 = ap (λ k. get_or ases k 0) (omega (arith, low, same)) in omega (arith, own, is))

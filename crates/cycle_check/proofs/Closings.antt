@@ -1,13 +1,14 @@
 -- Which provider cycles a new provider link closes.
-use Rattle.std.proofs.Common.{◌≡◌, ◌≢◌, ◌⊎◌, inl, inr, ℕ, ◌<◌, ◌≤◌, Bool, true, false, ◌==◌, Option, None, Some, option_map, List, [], ◌∷◌, ◌++◌, length, refl, sym, ◌∙◌, ap, subst, arith, get_or}
+use Rattle.std.proofs.Common.{◌≡◌, ◌≢◌, ◌⊎◌, inl, inr, ℕ, ◌≤◌, Bool, true, false, Option, None, Some, option_map, List, [], ◌∷◌, ◌++◌, length, sym, ◌∙◌, ap, subst, arith, get_or}
 use Rattle.std.proofs.lemmas.Bool.{cases_Bool, cases_eq, true≢false}
 use Rattle.net_names.specs.declared.routes.Rel.{Rel}
 use Rattle.net_names.specs.declared.routes.Rel.TheVariants.{Customer, Provider}
 use Rattle.net_names.specs.Links.{converse}
-use Rattle.net_names.specs.Numbers.{occurs, IsDistinct, last_or}
-use Rattle.as_graph.specs.Topology.{Topology, relation}
-use Rattle.as_graph.specs.Edits.{with_link, without_link}
+use Rattle.net_names.specs.Numbers.{last_or}
+use Rattle.as_graph.specs.Topology.{Topology}
+use Rattle.as_graph.specs.Edits.{with_link}
 use Rattle.as_graph.specs.Hierarchy.{IsDescent, IsProviderCycle, HasNoProviderCycle}
+use Rattle.as_graph.proofs.Told.{IsCycleTold, cycle_told, cycle_from}
 use Rattle.as_graph.proofs.EditsLemmas.{links_are_set_lem, links_are_sound_lem}
 use Rattle.as_graph.proofs.TakenLinks.{links_are_taken_lem}
 use Rattle.cycle_check.specs.Cycles.{IsClosedBy, with_provider, without_pair}
@@ -95,7 +96,7 @@ module _ (g : Topology) (p c : ℕ) (differ : p ≢ c) where
       | inr ob ↦ (to_outside a b h.0 ob, stays_out b xs h.1 o)
     ]
 
-    same_cycle : (xs : List ℕ) → IsProviderCycle (with_provider g p c) xs → IsProviderCycle (without_pair g p c) xs
+    same_cycle : (xs : List ℕ) → IsCycleTold (with_provider g p c) xs → IsCycleTold (without_pair g p c) xs
     same_cycle [] h = let two : 2 ≤ 0 = h.two in absurd (omega arith)
     same_cycle (a ∷ xs) h = elim (cases_Bool (inside a)) [
       | inl i ↦
@@ -111,7 +112,7 @@ module _ (g : Topology) (p c : ℕ) (differ : p ≢ c) where
 
     -- a set of ASes with the customer and without the provider, and with all customers of its own, keeps the new link from closing a cycle
     pub none_closed : HasNoProviderCycle (without_pair g p c) → HasNoProviderCycle (with_provider g p c)
-    none_closed none xs h = none xs (same_cycle xs h)
+    none_closed none xs h = none xs (cycle_from (without_pair g p c) xs (same_cycle xs (cycle_told (with_provider g p c) xs h)))
 
   -- ---- a cycle
 
@@ -129,12 +130,12 @@ module _ (g : Topology) (p c : ℕ) (differ : p ≢ c) where
   way_length xs h = at_least_two xs h.first h.last
 
   way_cycle : (xs : List ℕ) → IsWayTo (without_pair g p c) c p xs → IsProviderCycle (with_provider g p c) xs
-  way_cycle xs h = record {
+  way_cycle xs h = cycle_from (with_provider g p c) xs (record {
     two = at_least_two xs h.first h.last;
     distinct = h.distinct;
     descends = descent_more xs h.descends;
     closes = (λ i. with_provider g p c (h.last i) (h.first i)) ∙ new_link;
-  }
+  })
 
   begins_so : (ys : List ℕ) → get_or (ys ++ p ∷ []) 0 0 ≡ c → (rest : List ℕ) × (p ∷ ys ≡ p ∷ c ∷ rest)
   begins_so [] e = absurd (differ e)

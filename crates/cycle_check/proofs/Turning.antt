@@ -7,6 +7,7 @@ use Rattle.net_names.specs.declared.routes.Rel.{Rel}
 use Rattle.net_names.specs.declared.routes.Rel.TheVariants.{Customer}
 use Rattle.net_names.specs.Numbers.{occurs, IsDistinct, last_or}
 use Rattle.as_graph.specs.Hierarchy.{IsDescent, IsProviderCycle}
+use Rattle.as_graph.proofs.Told.{IsCycleTold, cycle_told, cycle_from}
 use Rattle.cycle_check.specs.Places.{place_in}
 use Rattle.cycle_check.specs.Cycles.{IsCycleFromLowest, IsTurned}
 use Rattle.cycle_check.proofs.Descents.{distinct_push, last_or_push, descent_push}
@@ -40,7 +41,7 @@ module _ (relation : ℕ → ℕ → Option Rel) where
   descent_rest x (y ∷ ys) h = h.1
 
   -- the first AS of a cycle may be its last
-  one_turn : (x : ℕ) (xs : List ℕ) → IsProviderCycle relation (x ∷ xs) → IsProviderCycle relation (xs ++ x ∷ [])
+  one_turn : (x : ℕ) (xs : List ℕ) → IsCycleTold relation (x ∷ xs) → IsCycleTold relation (xs ++ x ∷ [])
   one_turn x [] h = let two : 2 ≤ 1 = h.two in absurd (omega arith)
   one_turn x (y ∷ ys) h = record {
     two = omega (arith, length_push (y ∷ ys) x, h.two);
@@ -52,7 +53,7 @@ module _ (relation : ℕ → ℕ → Option Rel) where
   pub turns : (xs ys : List ℕ) → IsProviderCycle relation (xs ++ ys) → IsProviderCycle relation (ys ++ xs)
   turns [] ys h = subst (IsProviderCycle relation) (sym (append-nil ys)) h
   turns (x ∷ xs) ys h =
-      let turned : IsProviderCycle relation (xs ++ (ys ++ x ∷ [])) = subst (IsProviderCycle relation) (append_assoc xs ys (x ∷ [])) (one_turn x (xs ++ ys) h) in
+      let turned : IsProviderCycle relation (xs ++ (ys ++ x ∷ [])) = subst (IsProviderCycle relation) (append_assoc xs ys (x ∷ [])) (cycle_from relation (xs ++ ys ++ x ∷ []) (one_turn x (xs ++ ys) (cycle_told relation (x ∷ (xs ++ ys)) h))) in
       subst (IsProviderCycle relation) (append_assoc ys (x ∷ []) xs) (turns xs (ys ++ x ∷ []) turned)
 
   pub turned_cycle : (xs ys : List ℕ) → IsProviderCycle relation xs → IsTurned xs ys → IsCycleFromLowest relation ys
@@ -70,7 +71,7 @@ module _ (relation : ℕ → ℕ → Option Rel) where
       where
         here : (ys : List ℕ) → x ≡ a → IsDescent relation (x ∷ ys) → IsDistinct (x ∷ ys) → relation (last_or x ys) a ≡ Some Customer → IsProviderCycle relation (x ∷ ys)
         here [] is h u e = let self : relation a a ≡ Some Customer = subst (λ t. relation t a ≡ Some Customer) is e in let none = to_itself a in cc
-        here (y ∷ ys) is h u e = record { two = omega arith; distinct = u; descends = h; closes = subst (λ t. relation (last_or y ys) t ≡ Some Customer) (sym is) e }
+        here (y ∷ ys) is h u e = cycle_from relation (x ∷ y ∷ ys) (record { two = omega arith; distinct = u; descends = h; closes = subst (λ t. relation (last_or y ys) t ≡ Some Customer) (sym is) e })
 
         by : (b : Bool) → (x == a) ≡ b → (occurs a xs ≡ true → relation (last_or x xs) a ≡ Some Customer → IsProviderCycle relation (drop (place_in xs a) xs)) → IsProviderCycle relation (drop (cond b 0 (suc (place_in xs a))) (x ∷ xs))
         by true is ih = here xs (eqb-true x a is) h u e

@@ -1,3 +1,4 @@
+pub mod Distinct
 pub mod Rising
 pub mod Pairs
 pub mod LinkLemmas

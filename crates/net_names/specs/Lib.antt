@@ -1,4 +1,5 @@
 pub mod Numbers
+pub mod Ways
 pub mod Links
 pub mod LinkLists
 pub mod Addresses

@@ -11,6 +11,7 @@ use Rattle.net_names.specs.Numbers.{last_or}
 use Rattle.as_graph.specs.Topology.{Topology, relation}
 use Rattle.as_graph.specs.Edits.{LinksAreSet, LinksAreSound, LinksAreTaken, with_link, without_link}
 use Rattle.as_graph.specs.Hierarchy.{HasNoProviderCycle, IsDescent, IsProviderCycle}
+use Rattle.as_graph.proofs.Told.{cycle_told, cycle_from}
 
 abbrev What : Type 0
 What = ℕ → ℕ → Option Rel
@@ -25,7 +26,9 @@ descent_below v w below (a ∷ []) h = tt
 descent_below v w below (a ∷ b ∷ rest) h = (below a b h.0, descent_below v w below (b ∷ rest) h.1)
 
 pub cycle_below : (v w : What) → IsBelow v w → (xs : List ℕ) → IsProviderCycle v xs → IsProviderCycle w xs
-cycle_below v w below xs h = record { two = h.two; distinct = h.distinct; descends = descent_below v w below xs h.descends; closes = below (last_or 0 xs) (get_or xs 0 0) h.closes }
+cycle_below v w below xs c =
+    let h = cycle_told v xs c in
+    cycle_from w xs (record { two = h.two; distinct = h.distinct; descends = descent_below v w below xs h.descends; closes = below (last_or 0 xs) (get_or xs 0 0) h.closes })
 
 pub none_below : (v w : What) → IsBelow v w → HasNoProviderCycle w → HasNoProviderCycle v
 none_below v w below none xs h = none xs (cycle_below v w below xs h)

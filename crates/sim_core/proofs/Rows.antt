@@ -18,6 +18,7 @@ use Rattle.net_names.specs.Numbers.{occurs}
 use Rattle.net_names.specs.declared.routes.Rel.{Rel}
 use Rattle.net_names.specs.declared.routes.Rel.TheVariants.{Customer}
 use Rattle.as_graph.specs.Hierarchy.{IsChainFrom, IsDescent, IsRank}
+use Rattle.as_graph.proofs.Told.{chain_told, chain_from}
 use Rattle.as_graph.specs.Topology.{Topology, ases, has, relation}
 use Rattle.as_graph.proofs.RowAses.{any_none}
 use Rattle.policy_kinds.specs.Kinds.{label}
@@ -79,8 +80,9 @@ count_named test (r ∷ rows) =
 pub rank_of_stub : (rel : ℕ → ℕ → Option Rel) (a rank : ℕ) → IsRank rel a rank → IsStub rel a → rank ≡ 0
 rank_of_stub rel a rank is none =
     let (xs, chain, long) = is.longest in
-    let (rest, starts) = chain.starts in
-    by rest (subst (IsDescent rel) starts chain.descends) (ap length starts) long
+    let told = chain_told rel a xs chain in
+    let (rest, starts) = told.starts in
+    by rest (subst (IsDescent rel) starts told.descends) (ap length starts) long
   where
     by : (rest : List ℕ) → IsDescent rel (a ∷ rest) → length is.longest.0 ≡ length (a ∷ rest) → length is.longest.0 ≡ rank + 1 → rank ≡ 0
     by [] descends as_long long = omega (arith, as_long, long)
@@ -93,7 +95,7 @@ stub_of_rank rel a rank apart is none b linked =
       | inl e ↦ absurd (let some : None ≡ Some Customer = sym apart ∙ (ap (rel a) (sym (eqb-true b a e)) ∙ linked) in cc)
       | inr e ↦ ap (λ t. t || false) e
     ] in
-    let chain : IsChainFrom rel a (a ∷ b ∷ []) = record { starts = (b ∷ [], refl); distinct = (differs, (refl, tt)); descends = (linked, tt) } in
+    let chain : IsChainFrom rel a (a ∷ b ∷ []) = chain_from rel a (b ∷ []) (differs, (refl, tt)) (linked, tt) in
     let few : 2 ≤ rank + 1 = is.most (a ∷ b ∷ []) chain in
     absurd (omega (arith, few, none))
 
