@@ -1,6 +1,6 @@
 -- What an edit leaves of ranks, rounds and watches, and what belongs to the edited world.
 use denote.Enum.Bare.{sameb}
-use Rattle.std.proofs.Common.{◌≡◌, ◌≢◌, ◌⊎◌, inl, inr, ℕ, suc, ◌-◌, ◌<◌, ◌≤◌, ◌&&◌, ◌||◌, not, Bool, true, false, IsTrue, cond, is_some, Option, None, Some, option_map, List, refl, sym, ap, subst, ◌∙◌, arith, Result, Ok, Err, OnOk, length, ◌+◌}
+use Rattle.std.proofs.Common.{◌≡◌, ◌≢◌, ◌⊎◌, inl, inr, ℕ, suc, ◌-◌, ◌<◌, ◌≤◌, ◌&&◌, ◌||◌, not, Bool, true, false, IsTrue, cond, is_some, Option, None, Some, option_map, List, refl, sym, ap, subst, ◌∙◌, arith, Result, Ok, Err, OnOk}
 use Rattle.std.specs.Prelude.{◌↔◌, option_and_then, slice_get}
 use Rattle.std.specs.List.{filter, reduce}
 use Rattle.std.specs.FinMap as fin
@@ -35,7 +35,6 @@ use Rattle.stability_laws.specs.Laws.{OneFamily, PathsGoOn, RightByOffers, Right
 use Rattle.stability_laws.specs.OfferPaths.{OfferPath}
 use Rattle.stability_laws.specs.Offers.{offer_given}
 use Rattle.policy_laws.specs.Policy.{Policy, is_own_or_customers}
-use Rattle.policy_laws.specs.declared.policy.View.{View}
 use Rattle.net_names.specs.declared.routes.State.{State}
 use Rattle.stability_laws.specs.Plans.{IsSound, ListsRising, Plan, announces, has_prefix}
 use Rattle.stability_laws.specs.Rounds.{AreRounds, seeds_of}
