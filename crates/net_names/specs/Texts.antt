@@ -1,5 +1,5 @@
 -- The texts of AS numbers, addresses and prefixes: what each text says, and how each value is printed.
-use Rattle.std.specs.Prelude.{ℕ, ◌+◌, ◌-◌, ◌%◌, ◌^◌, ◌&&◌, ◌==◌, ◌==◌ as nat_eq, nat_lt, nat_le, List, [], ◌∷◌, ◌++◌, length, slice_get, decimal, Option, Some, None, option_map, if◌then◌else◌, position, unwrap_or, take, drop, true, Bool, bytes_eq, codes}
+use Rattle.std.specs.Prelude.{ℕ, ◌+◌, ◌-◌, ◌%◌, ◌^◌, ◌&&◌, ◌==◌, ◌==◌ as nat_eq, nat_lt, nat_le, List, ◌∷◌, ◌++◌, length, slice_get, decimal, Option, Some, None, option_map, if◌then◌else◌, position, unwrap_or, take, drop, true, Bool, bytes_eq, codes}
 use Rattle.std.specs.List.{starts_with, list_all, slice_split}
 use Rattle.std.specs.Bool.{then_some}
 use Rattle.std.specs.Option.{option_or, option_map_or}
@@ -40,11 +40,6 @@ numeral radix most t = then_some (nat_lt 0 (length t) && (nat_le (length t) most
 -- the AS number that 1 to 10 decimal digits write, where it is from 1 to 4294967295 (RFC 5396, asplain; RFC 7607 rules out 0)
 unfoldable pub asn_of : List ℕ → Option ℕ
 asn_of text = option_filter (λ n. nat_lt 0 n && nat_lt n (2 ^ 32)) (numeral 10 10 text)
-
--- all values of the list, where each is there
-abbrev pub all_some : {A : Type 0} → List (Option A) → Option (List A)
-all_some [] = Some []
-all_some (o ∷ os) = o >>= λ x. all_some os >>= λ xs. Some (x ∷ xs)
 
 -- the one text that an address is printed as: IPv4 by its four bytes in decimal digits with dots between them (RFC 3986, section 3.2.2),
 -- IPv6 by groups in hexadecimal digits, of which the first longest run of 0 is shortened (RFC 5952, section 4)
