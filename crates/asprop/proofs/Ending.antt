@@ -42,11 +42,11 @@ module _ {from : Source} {words : List (List ℕ)} {out err : Stream} where
         | inl own ↦ subst (λ (r : Failure). Outcome (task_of (form_of words) w.reads) (Err r) out) (sym own) w.works
         | inr short ↦ subst (λ (r : Failure). Outcome (task_of (form_of words) w.reads) (Err r) out) (sym short.0) (by_memory (task_of (form_of words) w.reads) reason out short.1 w.works)
       ] in
-      record { reads = w.reads; are_read = w.are_read; ends = record { result = Err h.told; works = works; status = h.status; says = h.says } }
+      record { reads = w.reads; are_read = w.are_read; ends = (Err h.told, works, h.status, h.says) }
 
   -- all answers were written
   pub all_written : (refused : Bool) (s : Status) → s ≡ (ending_of (form_of words) (Ok refused)).0 → Worked from (form_of words) (Ok refused) out → err.wrote [] → IsRun from words s out err
-  all_written refused s is w nil = record { reads = w.reads; are_read = w.are_read; ends = record { result = Ok refused; works = w.works; status = is; says = inl nil } }
+  all_written refused s is w nil = record { reads = w.reads; are_read = w.are_read; ends = (Ok refused, w.works, is, inl nil) }
 
 -- nothing was written where memory ran out
 idle : (task : Result Task Fault) (out : Stream) → out.wrote [] → Outcome task (Err failure.Memory) out
@@ -61,12 +61,12 @@ unformed {from} {words} {out} {err} s h nil =
     record {
       reads = r.0;
       are_read = r.1;
-      ends = record {
-        result = Err failure.Memory;
-        works = idle (task_of (form_of words) r.0) out nil;
-        status = h.status ∙ ap (λ (t : Failure). (ending_of None (Err t)).0) told;
-        says = subst (λ (t : Failure). Reports (ending_of None (Err t)).1 err) told h.says;
-      };
+      ends = (
+        Err failure.Memory,
+        idle (task_of (form_of words) r.0) out nil,
+        h.status ∙ ap (λ (t : Failure). (ending_of None (Err t)).0) told,
+        subst (λ (t : Failure). Reports (ending_of None (Err t)).1 err) told h.says,
+      );
     }
 
 -- the files were read as far as memory held them, and it ran out before an answer

@@ -46,4 +46,4 @@ module _ {from : Source} {words : List (List ℕ)} {s : Status} {out err : Strea
   complete r files task told quiet is none =
       let e = as_told r files told in
       let P : Status → Type 0 = λ s. (s ≡ status.Done) ⊎ ((s ≡ status.SomeRefused) ⊎ (s ≡ status.NoMemory)) in
-      subst P (sym e.status) (succeeds (form_of words) task e.result out quiet none (subst (λ (t : Result Task Fault). Outcome t e.result out) is e.works))
+      subst P (sym e.2) (succeeds (form_of words) task e.0 out quiet none (subst (λ (t : Result Task Fault). Outcome t e.0 out) is e.1))

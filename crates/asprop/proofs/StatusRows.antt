@@ -90,15 +90,15 @@ module _ {from : Source} {words : List (List ℕ)} {s : Status} {out err : Strea
   usage_row r none =
       let P : Status → Type 0 = λ s. (s ≡ status.Usage) ⊎ (s ≡ status.NoMemory) in
       let task : task_of (form_of words) r.reads ≡ Err fault.Usage = ap (λ form. task_of form r.reads) none in
-      subst P (sym r.ends.status) (usage_there (form_of words) r.ends.result out (subst (λ (t : Result Task Fault). Outcome t r.ends.result out) task r.ends.works))
+      subst P (sym r.ends.2) (usage_there (form_of words) r.ends.0 out (subst (λ (t : Result Task Fault). Outcome t r.ends.0 out) task r.ends.1))
 
   pub usage_only : IsRun from words s out err → s ≡ status.Usage → form_of words ≡ None
-  usage_only r is = usage_by (form_of words) r.reads r.ends.result out r.ends.works (sym is ∙ r.ends.status)
+  usage_only r is = usage_by (form_of words) r.reads r.ends.0 out r.ends.1 (sym is ∙ r.ends.2)
 
   pub read_row : IsRun from words s out err → s ≡ status.ReadFault → (file : File) × IsSomeAnd (name_by (form_of words) file) from.fails
   read_row r is =
-      let none = read_by (form_of words) r.reads r.ends.result out r.ends.works (sym is ∙ r.ends.status) in
+      let none = read_by (form_of words) r.reads r.ends.0 out r.ends.1 (sym is ∙ r.ends.2) in
       (none.0, subst (λ (read : Option (List ℕ)). IsReadAs from (name_by (form_of words) none.0) read) none.1 (r.are_read none.0))
 
   pub write_row : IsRun from words s out err → s ≡ status.WriteFault → (text : List ℕ) × out.failed text
-  write_row r is = write_by (form_of words) r.reads r.ends.result out r.ends.works (sym is ∙ r.ends.status)
+  write_row r is = write_by (form_of words) r.reads r.ends.0 out r.ends.1 (sym is ∙ r.ends.2)

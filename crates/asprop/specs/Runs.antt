@@ -15,24 +15,23 @@ use Rattle.asprop.specs.Written.{Wrote, WroteSome}
 use Rattle.task_reading.specs.declared.types.Fault.{Fault}
 use Rattle.asprop.specs.declared.types.Failure.{Failure}
 use Rattle.asprop.specs.declared.types.Failure.TheVariants as failure
+use Rattle.asprop.specs.declared.types.Failure.TheVariants.{Memory, Write, Cycle}
 use Rattle.task_reading.specs.declared.types.Status.{Status}
 
 -- What the work over a task or a fault ends with, and what it writes: all answers; or where memory ran out nothing, or whole answers to some lines in front; or where a write failed a front of such answers; or nothing, where there is a provider cycle, told from its lowest number on, or a fault.
 abbrev pub Outcome : Result Task Fault → Result Bool Failure → Stream → Type 0
-Outcome (Ok task) (Ok refused) out = (HasCycle task.world → ⊥) × Wrote task task.lines refused out.wrote
-Outcome (Ok task) (Err failure.Memory) out = (out.wrote [] ⊎ WroteSome task out.wrote) × (HasCycle task.world → out.wrote [])
-Outcome (Ok task) (Err failure.Write) out = (HasCycle task.world → ⊥) × WroteSome task out.failed
-Outcome (Ok task) (Err (failure.Cycle cycle)) out = IsCycleFromLowest (relation (topology task.world)) cycle × out.wrote []
-Outcome (Err fault) (Err failure.Memory) out = out.wrote []
-Outcome (Err fault) (Err (failure.Fault found)) out = (found ≡ fault) × out.wrote []
-Outcome _ _ out = ⊥
+Outcome (Ok t) (Ok refused) o = (HasCycle t.world → ⊥) × Wrote t t.lines refused o.wrote
+Outcome (Ok t) (Err Memory) o = (o.wrote [] ⊎ WroteSome t o.wrote) × (HasCycle t.world → o.wrote [])
+Outcome (Ok t) (Err Write) o = (HasCycle t.world → ⊥) × WroteSome t o.failed
+Outcome (Ok t) (Err (Cycle c)) o = IsCycleFromLowest (relation (topology t.world)) c × o.wrote []
+Outcome (Err fault) (Err Memory) o = o.wrote []
+Outcome (Err fault) (Err (failure.Fault found)) o = (found ≡ fault) × o.wrote []
+Outcome _ _ o = ⊥
 
 -- A run over what was read of the files: how the work ends, and the status and the text of that end; the text was written, or a front of it where the sink failed.
-pub record Run (form : Option Form) (reads : Reads) (s : Status) (out err : Stream) : Type 0 where
-  pub result : Result Bool Failure
-  pub works : Outcome (task_of form reads) result out
-  pub status : s ≡ (ending_of form result).0
-  pub says : err.wrote (ending_of form result).1 ⊎ err.failed (ending_of form result).1
+abbrev pub Run : Option Form → Reads → Status → Stream → Stream → Type 0
+Run form reads s o e = (r : Result Bool Failure) × Outcome (task_of form reads) r o
+    × (s ≡ (ending_of form r).0) × (e.wrote (ending_of form r).1 ⊎ e.failed (ending_of form r).1)
 
 -- A run: what was read of the files under the names that the words give, and the run over that.
 pub record IsRun (from : Source) (words : List Text) (s : Status) (out err : Stream) : Type 0 where

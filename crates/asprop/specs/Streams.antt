@@ -5,9 +5,8 @@ use Rattle.io_edge.specs.Bytes.{Appends, AppendsFront}
 use Rattle.io_edge.specs.Faults.{HasRisen}
 
 -- What a run writes to: that a text was appended, and that the faults rose and a front of it was appended.
-pub record Stream : Type 1 where
-  pub wrote : Text → Type 0
-  pub failed : Text → Type 0
+abbrev pub Stream : Type 1
+Stream = record { wrote : Text → Type 0; failed : Text → Type 0 }
 
 -- A sink from one time to another.
 abbrev pub stream_of : {O : Type 0} → (O → Option Text) → (O → ℕ) → O → O → Stream

@@ -14,11 +14,8 @@ use Rattle.task_reading.specs.declared.types.Fault.{Fault}
 use Rattle.task_reading.specs.declared.types.Fault.TheVariants as fault
 
 -- a world, the lines that are answered in it one after the other, whether each answer has a head line, and whether the numbers of ASes and links come first
-pub record Task : Type 0 where
-  pub world : World
-  pub lines : List LineValue
-  pub heads : Bool
-  pub counts : Bool
+abbrev pub Task : Type 0
+Task = record { world : World; lines : List LineValue; heads : Bool; counts : Bool }
 
 -- what comes before the answers: the numbers of ASes and links of the world, if they do (own format)
 abbrev pub first_text : Bool → World → Text
