@@ -42,7 +42,7 @@ module _ {from : Source} {words : List (List ℕ)} {s : Status} {out err : Strea
       let P : Reads → Type 0 = λ reads. Run (form_of words) reads s out err in
       subst P all r.ends
 
-  pub complete : IsRun from words s out err → IsComplete from words s out
+  pub complete : IsRun from words s out err → IsComplete from words s out err
   complete r files task told quiet is none =
       let e = as_told r files told in
       let P : Status → Type 0 = λ s. (s ≡ status.Done) ⊎ ((s ≡ status.SomeRefused) ⊎ (s ≡ status.NoMemory)) in

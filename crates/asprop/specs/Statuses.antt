@@ -21,8 +21,8 @@ abbrev pub RunsAsTold : Source → List Text → Status → Stream → Stream �
 RunsAsTold from words s out err = (files : File → Text) → AreTold from (form_of words) files → Run (form_of words) (λ file. Some (files file)) s out err
 
 -- Accepted files give Done or SomeRefused, or want of memory, where neither a read nor a write fails.
-abbrev pub IsComplete : Source → List Text → Status → Stream → Type 0
-IsComplete from words s out = (files : File → Text) (task : Task)
+abbrev pub IsComplete : Source → List Text → Status → Stream → Stream → Type 0
+IsComplete from words s out err = (files : File → Text) (task : Task)
     → AreTold from (form_of words) files → ((text : Text) → out.failed text → ⊥)
     → task_of (form_of words) (λ file. Some (files file)) ≡ Ok task → (HasCycle task.world → ⊥)
     → (s ≡ status.Done) ⊎ ((s ≡ status.SomeRefused) ⊎ (s ≡ status.NoMemory))

@@ -2,7 +2,6 @@
 ghost use Rattle.std.specs.Prelude.{◌≡◌, ◌⊎◌, IsSomeAnd, map, option_map, string_bytes};
 ghost use Rattle.io_edge.specs.Faults.{HasRisen};
 ghost use Rattle.asprop.specs.Runs.{IsRun, Worked};
-ghost use Rattle.asprop.specs.Statuses.{IsComplete, RunsAsTold};
 ghost use Rattle.asprop.specs.Streams.{stream_of};
 ghost use Rattle.task_reading.specs.Sources.{source_of};
 ghost use Rattle.task_reading.specs.Words.{HasSize, form_of, form_seen, name_by};
@@ -55,6 +54,8 @@ fn work<I: Inputs, O: Sink>(
 /// answers, line by line, each made whole before it is written. A line that edits the world, by a
 /// link, a policy, a payload or an announcement, changes it for the lines after it, unless it is
 /// refused. Nothing is written to `out` before all files have been read and judged.
+///
+/// Where the bytes of the files are told, the law `told_files_are_answered` says what a run over them is.
 pub fn run<I: Inputs, O: Sink, E: Sink>(
     alloc: Global,
     words: &[String],
@@ -66,14 +67,6 @@ pub fn run<I: Inputs, O: Sink, E: Sink>(
     ensures ran { IsRun (source_of I.holds I.is_sound I.faults inputs.old inputs.new)
         (map string_bytes words.now) result (stream_of O.written O.faults out.old out.new)
         (stream_of E.written E.faults err.old err.new) }
-    // Where the bytes of the files are told and no read fails, the run is one over those bytes.
-    ensures told { RunsAsTold (source_of I.holds I.is_sound I.faults inputs.old inputs.new)
-        (map string_bytes words.now) result (stream_of O.written O.faults out.old out.new)
-        (stream_of E.written E.faults err.old err.new) }
-    // Accepted files give Done or SomeRefused, or want of memory, where neither a read nor a write
-    // fails.
-    ensures complete { IsComplete (source_of I.holds I.is_sound I.faults inputs.old inputs.new)
-        (map string_bytes words.now) result (stream_of O.written O.faults out.old out.new) }
     // Usage comes where the words have no form, and there nothing else but want of memory.
     ensures usage { form_of (map string_bytes words.now) ≡ None
         → (result ≡ Status.Usage) ⊎ (result ≡ Status.NoMemory) }
