@@ -23,5 +23,5 @@ rejoined n ((a, b), rel) = record { number = n; act = Edit (Unlink a b) }
 -- reports of both rounds and addresses; from line 5 on ten links cut and joined again, those at every 37th place, round and round, in the rising order of their pairs; and the first report of round 2 once more
 unfoldable pub drawn_lines : LinkMap → List LineValue
 drawn_lines links = report 1 1 0 ∷ report 2 1 1 ∷ report 3 2 0 ∷ report 4 2 1 ∷ flat_map (λ i.
-    option_map_or (rejoined (5 + 2 * i)) (slice_get (map.entries links) (37 * i % map.len links)) [])
-    (range_with_len 0 10) ++ report 25 2 0 ∷ []
+    option_map_or (rejoined (5 + 2 * i)) (slice_get (map.entries links) (37 * i % map.len links))
+    []) (range_with_len 0 10) ++ report 25 2 0 ∷ []

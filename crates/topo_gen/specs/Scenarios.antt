@@ -25,10 +25,9 @@ kind_of a = if a % 3 == 0 then DropInvalid else (if a % 5 == 0 then PreferValid 
 
 -- AS n announces 10.0.0.0/8, and the AS in the middle 10.0.0.0/9, the half of it, each with its own number as the path; each AS has the policy of its number; of the ASes up to 5,000 each hundredth leaks in round 2, from 50 on; an address of each half is watched
 abbrev pub drawn_scenario : ℕ → ScenarioValue
-drawn_scenario n = let policies = map (λ a. (a, kind_of a)) (range_with_len 1 n) in
-    let leaking = filter (λ a. a % 100 == 50) (range_with_len 1 (min n 5000)) in
+drawn_scenario n = let leaking = filter (λ a. a % 100 == 50) (range_with_len 1 (min n 5000)) in
     let own : ℕ → ℕ → Announcement = λ l a. record { prefix = block l; asn = a; path = a ∷ [] } in
-    record { announcements = own 8 n ∷ own 9 (1 + n / 2) ∷ []; policies = policies; leaks = leaking ∷ []; watch = host 0 ∷ host 1 ∷ [] }
+    record { announcements = own 8 n ∷ own 9 (1 + n / 2) ∷ []; policies = map (λ a. (a, kind_of a)) (range_with_len 1 n); leaks = leaking ∷ []; watch = host 0 ∷ host 1 ∷ [] }
 
 -- one payload alone: AS n may announce 10.0.0.0/8, and nothing longer
 abbrev pub drawn_payloads : ℕ → Payloads
