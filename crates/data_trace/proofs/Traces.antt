@@ -12,9 +12,14 @@ use Rattle.data_trace.specs.declared.kinds.Hop.{Hop}
 use Rattle.data_trace.specs.declared.kinds.Hop.TheVariants.{Here, To, NoRoute}
 use Rattle.data_trace.specs.declared.kinds.End.{End}
 use Rattle.data_trace.specs.declared.kinds.End.TheVariants as the_end
-use Rattle.data_trace.specs.Traces.{IsIn, IsWay, EndsBy, IsTrace}
+use Rattle.net_names.specs.Ways as ways
+use Rattle.data_trace.specs.Traces.{IsIn, EndsBy, IsTrace}
 use Rattle.data_trace.specs.Steps.{onward, reached, Ends}
 use Rattle.data_trace.proofs.Ends.{ends_loops, one_end}
+
+-- a way of a packet
+abbrev pub IsWay : (ℕ → Hop) → ℕ → List ℕ → Type 0
+IsWay next = ways.IsWay (λ x y. next x ≡ To y)
 
 -- the last AS of a way
 abbrev pub last_of : List ℕ → ℕ
@@ -70,7 +75,7 @@ pub way_reaches : (next : ℕ → Hop) (a : ℕ) (xs : List ℕ) → IsWay next 
 way_reaches next a xs w zero l = ap Some (sym (starts_at a xs w.starts).1)
 way_reaches next a xs w (suc i) l =
     let e : i + 1 ≡ suc i = omega arith in
-    let s : next (get_or xs i 0) ≡ To (get_or xs (suc i) 0) = subst (λ t. next (get_or xs i 0) ≡ To (get_or xs t 0)) e (w.sends i (omega arith)) in
+    let s : next (get_or xs i 0) ≡ To (get_or xs (suc i) 0) = subst (λ t. next (get_or xs i 0) ≡ To (get_or xs t 0)) e (w.steps i (omega arith)) in
     reached_more next i a _ _ (way_reaches next a xs w i (omega arith)) s
 
 starts_push : (a b : ℕ) (xs : List ℕ) → slice_get xs 0 ≡ Some a → slice_get (xs ++ b ∷ []) 0 ≡ Some a
@@ -81,11 +86,11 @@ starts_push a b (x ∷ xs) h = h
 pub way_push : (next : ℕ → Hop) (a b : ℕ) (xs : List ℕ) → IsWay next a xs → next (last_of xs) ≡ To b → list_any (nat_eq b) xs ≡ false → IsWay next a (xs ++ b ∷ [])
 way_push next a b xs w s f = record {
   starts = starts_push a b xs w.starts;
-  sends = λ i l. at i (omega (arith, l, length_push xs b)) (cases_lt (i + 1) (length xs));
+  steps = λ i l. at i (omega (arith, l, length_push xs b)) (cases_lt (i + 1) (length xs));
   distinct = IsDistinct-push nat_eq_equiv xs b w.distinct f;
 } where
   at : (i : ℕ) → i < length xs → (i + 1 < length xs) ⊎ (length xs ≤ i + 1) → next (get_or (xs ++ b ∷ []) i 0) ≡ To (get_or (xs ++ b ∷ []) (i + 1) 0)
-  at i l (inl m) = ap next (get_or_append_left xs (b ∷ []) 0 i l) ∙ w.sends i m ∙ ap To (sym (get_or_append_left xs (b ∷ []) 0 (i + 1) m))
+  at i l (inl m) = ap next (get_or_append_left xs (b ∷ []) 0 i l) ∙ w.steps i m ∙ ap To (sym (get_or_append_left xs (b ∷ []) 0 (i + 1) m))
   at i l (inr m) =
       let e : length xs ≡ i + 1 = omega arith in
       let k : length xs - 1 ≡ i = omega arith in
@@ -99,7 +104,7 @@ last_push xs b = get_or_push xs b 0 (length (xs ++ b ∷ []) - 1) (omega (arith,
 pub way_one : (next : ℕ → Hop) (a : ℕ) → IsWay next a (a ∷ [])
 way_one next a = record {
   starts = refl;
-  sends = λ i l. absurd (omega arith);
+  steps = λ i l. absurd (omega arith);
   distinct = IsDistinct-from_apart nat_eq (a ∷ []) (λ i j d l m. absurd (omega arith));
 }
 
@@ -117,7 +122,7 @@ no_longer next a xs ys end t w = by (cases_lt (length xs) (length ys))
         let some : 0 < length xs = (starts_at a xs t.way.starts).0 in
         let m : ℕ = length xs - 1 in
         let inside : m < length xs = omega arith in
-        let onwards : next (get_or ys m 0) ≡ To (get_or ys (m + 1) 0) = w.sends m (omega arith) in
+        let onwards : next (get_or ys m 0) ≡ To (get_or ys (m + 1) 0) = w.steps m (omega arith) in
         let e : next (last_of xs) ≡ To (get_or ys (m + 1) 0) = ap next (same_way next a xs ys t.way w m inside (omega arith)) ∙ onwards in
         let q : EndsBy (To (get_or ys (m + 1) 0)) (last_of xs) xs end = subst (λ h. EndsBy h (last_of xs) xs end) e t.ends in
         let r : (k : ℕ) × (k < length xs) × (get_or xs k 0 ≡ get_or ys (m + 1) 0) = in_at _ xs q.0 in
@@ -146,7 +151,7 @@ trace_ends next a xs end t = by (next (last_of xs)) refl t.ends
       where
         onwards : (x : ℕ) → IsIn x xs → (y : ℕ) × (next x ≡ To y) × IsIn y xs
         onwards x h = let r : (k : ℕ) × (k < length xs) × (get_or xs k 0 ≡ x) = in_at x xs h in
-            ⊎_elim (λ (l : r.0 + 1 < length xs). (get_or xs (r.0 + 1) 0, sym (ap next r.2) ∙ t.way.sends r.0 l, at_in xs (r.0 + 1) l))
+            ⊎_elim (λ (l : r.0 + 1 < length xs). (get_or xs (r.0 + 1) 0, sym (ap next r.2) ∙ t.way.steps r.0 l, at_in xs (r.0 + 1) l))
             (λ (g : length xs ≤ r.0 + 1). (b, sym (ap next r.2) ∙ ap (λ k. next (get_or xs k 0)) (let k : r.0 ≡ length xs - 1 = omega (arith, r.1, g) in k) ∙ e, q.0))
             (cases_lt (r.0 + 1) (length xs))
 

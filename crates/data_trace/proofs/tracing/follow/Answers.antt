@@ -6,8 +6,8 @@ use Rattle.route_choice.specs.RoundTables.{round_routing}
 use Rattle.data_trace.specs.declared.kinds.Hop.{Hop}
 use Rattle.data_trace.specs.declared.kinds.Hop.TheVariants.{To}
 use Rattle.data_trace.specs.Hops.{next_hop}
-use Rattle.data_trace.specs.Traces.{IsWay, IsIn}
-use Rattle.data_trace.proofs.Traces.{last_of, way_push, below_push, last_push}
+use Rattle.data_trace.specs.Traces.{IsIn}
+use Rattle.data_trace.proofs.Traces.{IsWay, last_of, way_push, below_push, last_push}
 use Rattle.data_trace.proofs.tracing.follow.Goals as goal
 
 pub steps-smaller : goal.steps-smaller
@@ -29,7 +29,7 @@ steps-preserved c =
     let s : next (last_of c.steps.ases.keys) ≡ To c.in-To.next = ap next c.steps.invariant.last ∙ sym c.in-To.ensures in
     let b : c.in-To.next < 4294967296 = search rules in
     record {
-      way = subst (λ ks. IsWay next c.args.asn ks) (sym e) (way_push _ _ _ _ c.steps.invariant.way s out);
+      way = subst (λ ks. IsWay next c.args.asn ks) (sym e) (way_push next c.args.asn c.in-To.next c.steps.ases.keys c.steps.invariant.way s out);
       last = ap last_of e ∙ last_push c.steps.ases.keys c.in-To.next;
       small = subst (λ ks. (q : ℕ) → IsIn q ks → q < 4294967296) (sym e) (λ q. below_push q c.in-To.next c.steps.ases.keys 4294967296 c.steps.invariant.small b);
     }

@@ -1,8 +1,8 @@
 use Rattle.std.proofs.Common.{◌≡◌, ℕ, ◌<◌, ◌-◌, length}
 use Rattle.route_choice.specs.RoundTables.{round_routing}
 use Rattle.data_trace.specs.Hops.{next_hop}
-use Rattle.data_trace.specs.Traces.{IsWay, IsIn}
-use Rattle.data_trace.proofs.Traces.{last_of}
+use Rattle.data_trace.specs.Traces.{IsIn}
+use Rattle.data_trace.proofs.Traces.{IsWay, last_of}
 use Rattle.data_trace.proofs.tracing.follow.Given as goal
 
 abbrev pub invariant-steps : goal.invariant-steps
