@@ -3,31 +3,30 @@ use Rattle.std.specs.Prelude.{ℕ, ◌==◌, nat_lt, List, [], ◌∷◌, ◌++�
 use Rattle.std.specs.List.{flat_map}
 use Rattle.policy_kinds.specs.Names.{kinds, name_of}
 use Rattle.data_trace.specs.declared.kinds.End.{End}
-use Rattle.data_trace.specs.declared.kinds.End.TheVariants as the_end
+use Rattle.data_trace.specs.declared.kinds.End.TheVariants.{At, NoRoute, Loop}
 use Rattle.reports.specs.declared.group.Group.{Group}
-use Rattle.reports.specs.declared.group.Group.TheVariants as group
+use Rattle.reports.specs.declared.group.Group.TheVariants.{Total, Stub, Of}
+use Rattle.reports.specs.Rows.{row}
 
 -- the name of a group: all ASes, those without customers, or those whose policy is of a kind (own format)
 abbrev pub group_name : Group → List ℕ
-group_name group.Total = codes "total"
-group_name group.Stub = codes "stub"
-group_name (group.Of kind) = name_of kind
+group_name g = elim g [ Total ↦ codes "total" | Stub ↦ codes "stub" | Of kind ↦ name_of kind ]
 
 -- a row of a group: the group's name, `|`, what is counted, `|`, the count and a line feed (own format)
 abbrev pub count_row : Group → List ℕ → ℕ → List ℕ
-count_row g what n = group_name g ++ (124 ∷ (what ++ (124 ∷ (decimal n ++ 10 ∷ []))))
+count_row g what n = row (group_name g ∷ what ∷ decimal n ∷ [])
 
 -- the row of an AS at which packets of a group are delivered; there is none where none are (own format)
 unfoldable pub delivered_text : (Group → End → ℕ) → Group → ℕ → List ℕ
-delivered_text count g a = if count g (the_end.At a) == 0 then [] else count_row g (codes "to " ++ decimal a) (count g (the_end.At a))
+delivered_text count g a = if count g (At a) == 0 then [] else count_row g (codes "to " ++ decimal a) (count g (At a))
 
 -- the rows of a group: how many ASes it has, from how many of them packets are delivered at each announcing AS, from how many there is no route, and from how many packets run in a loop (own format)
 unfoldable pub group_text : (Group → ℕ) → (Group → End → ℕ) → List ℕ → Group → List ℕ
 group_text size count announcers g =
-    count_row g (codes "ases") (size g) ++ (flat_map (delivered_text count g) announcers
-    ++ (count_row g (codes "no-route") (count g the_end.NoRoute) ++ count_row g (codes "loop") (count g the_end.Loop)))
+    count_row g (codes "ases") (size g) ++ (flat_map (delivered_text count g) announcers ++
+    (count_row g (codes "no-route") (count g NoRoute) ++ count_row g (codes "loop") (count g Loop)))
 
 -- the counts group by group: of all ASes, of those without customers, and of those of each kind that some AS has, where the groups are so large, and the traces of so many ASes of a group have such an end (own format)
 unfoldable pub report_text : (Group → ℕ) → (Group → End → ℕ) → List ℕ → List ℕ
-report_text size count announcers =
-    flat_map (group_text size count announcers) (group.Total ∷ group.Stub ∷ map (λ kind. group.Of kind) (filter (λ kind. nat_lt 0 (size (group.Of kind))) kinds))
+report_text size count announcers = flat_map (group_text size count announcers)
+    (Total ∷ Stub ∷ filter (λ g. nat_lt 0 (size g)) (map (λ kind. Of kind) kinds))

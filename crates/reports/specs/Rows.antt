@@ -5,15 +5,12 @@ use Rattle.std.specs.Option.{option_map_or}
 use Rattle.std.specs.List.Sorted.{IsStrictlyIncreasing}
 use Rattle.net_names.specs.Numbers.{occurs}
 use Rattle.net_names.specs.declared.routes.Class.{Class}
-use Rattle.net_names.specs.declared.routes.Class.TheVariants as class
+use Rattle.net_names.specs.declared.routes.Class.TheVariants.{Origin, Customer, Peer, Provider}
 use Rattle.stability_laws.specs.declared.entry.Entry.{Entry}
 
 -- the word for a class (own format)
 abbrev pub class_word : Class → List ℕ
-class_word class.Origin = codes "origin"
-class_word class.Customer = codes "customer"
-class_word class.Peer = codes "peer"
-class_word class.Provider = codes "provider"
+class_word c = elim c [ Origin ↦ codes "origin" | Customer ↦ codes "customer" | Peer ↦ codes "peer" | Provider ↦ codes "provider" ]
 
 -- further numbers of a list, each after a space (own format)
 abbrev pub more_numbers : List ℕ → List ℕ
@@ -23,18 +20,21 @@ more_numbers ns = flat_map (λ n. 32 ∷ decimal n) ns
 abbrev pub numbers_text : List ℕ → List ℕ
 numbers_text ns = join_with_byte 32 (map decimal ns)
 
+-- the cells with `|` between, and a line feed (own format)
+abbrev pub row : List (List ℕ) → List ℕ
+row cells = join_with_byte 124 cells ++ 10 ∷ []
+
 -- what a row says of the entry: the class word, `|`, the path, and at the end the number of RFC 9234 that it has; `none` and `|` where there is no entry (own format)
 abbrev pub entry_text : Option Entry → List ℕ
-entry_text None = codes "none|"
-entry_text (Some e) = class_word e.class ++ (124 ∷ (numbers_text e.path ++ option_map_or (λ n. codes "|otc " ++ decimal n) e.otc []))
+entry_text held = elim held [ None ↦ codes "none|" | Some e ↦ class_word e.class ++ (124 ∷ (numbers_text e.path ++ option_map_or (λ n. codes "|otc " ++ decimal n) e.otc [])) ]
 
 -- the row of an AS: its number, `|`, its entry and a line feed (own format)
 abbrev pub entry_row : ℕ → Option Entry → List ℕ
-entry_row a held = decimal a ++ (124 ∷ (entry_text held ++ 10 ∷ []))
+entry_row a held = row (decimal a ∷ entry_text held ∷ [])
 
 -- the row of an AS: its number, `|`, its rank and a line feed (own format)
 abbrev pub rank_row : ℕ → ℕ → List ℕ
-rank_row a rank = decimal a ++ (124 ∷ (decimal rank ++ 10 ∷ []))
+rank_row a rank = row (decimal a ∷ decimal rank ∷ [])
 
 -- the text has just one row for each AS, in rising number (own format)
 pub record IsTable (has : ℕ → Bool) (row_of : ℕ → List ℕ) (text : List ℕ) : Type 0 where

@@ -4,18 +4,17 @@ use Rattle.std.specs.List.{flat_map}
 use Rattle.net_names.specs.Payloads.{VrpValue}
 use Rattle.net_names.specs.Texts.{prefix_text}
 use Rattle.net_names.specs.declared.routes.State.{State}
-use Rattle.net_names.specs.declared.routes.State.TheVariants as state
+use Rattle.net_names.specs.declared.routes.State.TheVariants.{Valid, Invalid, NotFound}
+use Rattle.reports.specs.Rows.{row}
 
 -- the word for a validation state (own format)
 abbrev pub state_word : State → List ℕ
-state_word state.Valid = codes "valid"
-state_word state.Invalid = codes "invalid"
-state_word state.NotFound = codes "not-found"
+state_word s = codes (elim s [ Valid ↦ "valid" | Invalid ↦ "invalid" | NotFound ↦ "not-found" ])
 
 -- the row of a payload: its number, `|`, its prefix, `|`, its maximum length and a line feed (own format)
 abbrev pub payload_row : VrpValue → List ℕ
-payload_row v = decimal v.asn ++ (124 ∷ (prefix_text v.prefix ++ (124 ∷ (decimal v.max ++ 10 ∷ []))))
+payload_row v = row (decimal v.asn ∷ prefix_text v.prefix ∷ decimal v.max ∷ [])
 
 -- the line of a validation state and a line feed, and the rows of the payloads that cover the prefix (own format)
 abbrev pub validity_text : State → List VrpValue → List ℕ
-validity_text s vrps = codes "state|" ++ (state_word s ++ (10 ∷ flat_map payload_row vrps))
+validity_text s vrps = row (codes "state" ∷ state_word s ∷ []) ++ flat_map payload_row vrps

@@ -2,7 +2,8 @@
 use Rattle.std.specs.Prelude.{◌≡◌, ℕ, ◌&&◌, Bool, Option, None, Some, List, ◌++◌, if◌then◌else◌}
 use Rattle.std.specs.FinSet as set
 use Rattle.scenario_text.specs.declared.acts.Query.{Query}
-use Rattle.scenario_text.specs.declared.acts.Query.TheVariants as query
+use Rattle.scenario_text.specs.declared.acts.Query.TheVariants.{Routes, Route, Trace, Report, Ranks, Validity}
+use Rattle.net_names.specs.Prefixes.{PrefixValue}
 use Rattle.as_graph.specs.Topology.{has}
 use Rattle.roa_table.specs.Cover.{covering}
 use Rattle.origin_validation.specs.Judging.{state_of}
@@ -19,7 +20,7 @@ use Rattle.sim_core.specs.World.{World, has_round, topology}
 use Rattle.sim_core.specs.Kept.{Kept}
 use Rattle.sim_core.specs.Counting.{how_many, in_group}
 use Rattle.sim_core.specs.declared.errors.QueryError.{QueryError}
-use Rattle.sim_core.specs.declared.errors.QueryError.TheVariants as refused
+use Rattle.sim_core.specs.declared.errors.QueryError.TheVariants.{UnknownRound, UnknownPrefix, UnknownAs, NotWatched, Memory}
 
 -- this refusal, unless what it asks for is there
 abbrev pub needs : {E : Type 0} → Bool → E → Option E → Option E
@@ -27,23 +28,22 @@ needs there e others = if there then others else Some e
 
 -- why a query is refused: the first thing in the order round, prefix, AS, watched address that it names and that the world has not
 abbrev pub refusal_of : World → Query → Option QueryError
-refusal_of w (query.Routes round prefix) = needs (has_round w round) (refused.UnknownRound round) (needs (has_prefix w.plan prefix) (refused.UnknownPrefix prefix) None)
-refusal_of w (query.Route round prefix a) =
-    needs (has_round w round) (refused.UnknownRound round) (needs (has_prefix w.plan prefix) (refused.UnknownPrefix prefix) (needs (has (topology w) a) (refused.UnknownAs a) None))
-refusal_of w (query.Trace round a addr) = needs (has_round w round) (refused.UnknownRound round) (needs (has (topology w) a) (refused.UnknownAs a) None)
-refusal_of w (query.Report round addr) = needs (has_round w round) (refused.UnknownRound round) (needs (set.contains w.watched addr) (refused.NotWatched addr) None)
-refusal_of w q = None
+refusal_of w q =
+    let round = λ (n : ℕ). needs (has_round w n) (UnknownRound n) in
+    let prefix = λ (p : PrefixValue). needs (has_prefix w.plan p) (UnknownPrefix p) in
+    let known = λ (a : ℕ). needs (has (topology w) a) (UnknownAs a) in
+    elim q [ Routes n p ↦ round n (prefix p None) | Route n p a ↦ round n (prefix p (known a None)) | Trace n a _ ↦ round n (known a None) | Report n addr ↦ round n (needs (set.contains w.watched addr) (NotWatched addr) None) | _ ↦ None ]
 
 -- the text is the answer to a query, by what is kept of the world and by its payloads (own format; `(same_end.ghosts).eq` says whether two ends are the same)
 abbrev pub IsAnswer : World → Kept → Query → List ℕ → Type 0
-IsAnswer w k (query.Routes round prefix) text = IsTable (has (topology w)) (λ a. entry_row a (k.routings round prefix a)) text
-IsAnswer w k (query.Route round prefix a) text = text ≡ entry_row a (k.routings round prefix a)
-IsAnswer w k (query.Trace round a addr) text =
-    (walk : List ℕ) × (end : End) × IsTrace (next_hop w.plan (k.routings round) addr) a walk end × (text ≡ trace_text walk end)
-IsAnswer w k (query.Report round addr) text =
-    text ≡ report_text (λ g. how_many w (in_group w k g)) (λ g e. how_many w (λ a. in_group w k g a && (same_end.ghosts).eq (k.ends round addr a) e)) (announcers_of w.plan)
-IsAnswer w k query.Ranks text = IsTable (has (topology w)) (λ a. rank_row a (k.ranks a)) text
-IsAnswer w k (query.Validity prefix a) text = text ≡ validity_text (state_of w.payloads prefix a) (covering w.payloads prefix)
+IsAnswer w k (Routes n p) t = IsTable (has (topology w)) (λ a. entry_row a (k.routings n p a)) t
+IsAnswer w k (Route n p a) t = t ≡ entry_row a (k.routings n p a)
+IsAnswer w k (Trace n a addr) t = (walk : List ℕ) × (end : End) ×
+    IsTrace (next_hop w.plan (k.routings n) addr) a walk end × (t ≡ trace_text walk end)
+IsAnswer w k (Report n addr) t = t ≡ report_text (λ g. how_many w (in_group w k g))
+    (λ g e. how_many w (λ a. in_group w k g a && (same_end.ghosts).eq (k.ends n addr a) e)) (announcers_of w.plan)
+IsAnswer w k Ranks t = IsTable (has (topology w)) (λ a. rank_row a (k.ranks a)) t
+IsAnswer w k (Validity p a) t = t ≡ validity_text (state_of w.payloads p a) (covering w.payloads p)
 
 -- the answer to the query was appended
 pub record Answers (w : World) (k : Kept) (q : Query) (old new : List ℕ) : Type 0 where
@@ -54,5 +54,5 @@ pub record Answers (w : World) (k : Kept) (q : Query) (old new : List ℕ) : Typ
 
 -- memory is wanting, or this is the reason to refuse the query
 abbrev pub IsQueryRefusal : World → Query → QueryError → Type 0
-IsQueryRefusal w q refused.Memory = Unit {0}
+IsQueryRefusal w q Memory = Unit {0}
 IsQueryRefusal w q e = refusal_of w q ≡ Some e
