@@ -1,9 +1,10 @@
 -- Printed tables: a row for each AS.
-use Rattle.std.specs.Prelude.{◌≡◌, ℕ, Bool, Option, None, Some, List, [], ◌∷◌, ◌++◌, codes, decimal, map}
+use Rattle.std.specs.Prelude.{ℕ, Option, None, Some, List, [], ◌∷◌, ◌++◌, codes, decimal, map}
 use Rattle.std.specs.List.{flat_map, join_with_byte}
 use Rattle.std.specs.Option.{option_map_or}
-use Rattle.std.specs.List.Sorted.{IsStrictlyIncreasing}
-use Rattle.net_names.specs.Numbers.{occurs}
+use Rattle.std.specs.Ordering.{nat_cmp}
+use Rattle.std.specs.FinMap as fin
+use Rattle.as_graph.specs.Topology.{Topology, ases}
 use Rattle.net_names.specs.declared.routes.Class.{Class}
 use Rattle.net_names.specs.declared.routes.Class.TheVariants.{Origin, Customer, Peer, Provider}
 use Rattle.stability_laws.specs.declared.entry.Entry.{Entry}
@@ -32,19 +33,6 @@ entry_text held = elim held [ None ↦ codes "none|" | Some e ↦ class_word e.c
 abbrev pub entry_row : ℕ → Option Entry → List ℕ
 entry_row a held = row (decimal a ∷ entry_text held ∷ [])
 
--- the row of an AS: its number, `|`, its rank and a line feed (own format)
-abbrev pub rank_row : ℕ → ℕ → List ℕ
-rank_row a rank = row (decimal a ∷ decimal rank ∷ [])
-
--- the text has just one row for each AS, in rising number (own format)
-pub record IsTable (has : ℕ → Bool) (row_of : ℕ → List ℕ) (text : List ℕ) : Type 0 where
-  pub ases : List ℕ
-  pub complete : (a : ℕ) → occurs a ases ≡ has a
-  pub rising : IsStrictlyIncreasing ases
-  pub rows : text ≡ flat_map row_of ases
-
--- the table's text was appended
-pub record AppendsTable (has : ℕ → Bool) (row_of : ℕ → List ℕ) (old new : List ℕ) : Type 0 where
-  pub text : List ℕ
-  pub table : IsTable has row_of text
-  pub is : new ≡ old ++ text
+-- a table: the rows that f makes, one for each AS of the graph, in rising number (own format)
+abbrev pub table : Topology → (ℕ → List ℕ) → List ℕ
+table g f = flat_map f (fin.keys (fin.from_entries {R = nat_cmp} (map (λ a. (a, tt {0})) (ases g))))

@@ -1,9 +1,8 @@
 //! The ranks of all ASes.
-ghost use Rattle.std.specs.Prelude.{◌≡◌, ◌++◌, OnOk, OnErr};
-ghost use Rattle.as_graph.specs.Topology.{has};
+ghost use Rattle.std.specs.Prelude.{◌≡◌, ◌++◌, ◌∷◌, [], OnOk, OnErr, decimal};
 ghost use Rattle.rank_order.specs.Ranks.{rank_at};
 ghost use Rattle.reports.specs.Growth.{Grows};
-ghost use Rattle.reports.specs.Rows.{rank_row, AppendsTable};
+ghost use Rattle.reports.specs.Rows.{row, table as table_of};
 
 use crate::bytes::{put_bytes, put_number};
 use as_graph::Graph;
@@ -12,7 +11,7 @@ use rank_order::Ranks;
 
 // Appends the row of an AS.
 fn append_rank(out: &mut Vec<u8>, asn: Asn, rank: u32) -> Result<(), NoMemory>
-    ensures ok { OnOk result (out.new.items ≡ out.old.items ++ rank_row asn rank) }
+    ensures ok { OnOk result (out.new.items ≡ out.old.items ++ row (decimal asn ∷ decimal rank ∷ [])) }
     ensures err { OnErr result (Grows out.old.items out.new.items) }
 {
     put_asn(out, asn)?;
@@ -24,7 +23,7 @@ fn append_rank(out: &mut Vec<u8>, asn: Asn, rank: u32) -> Result<(), NoMemory>
 /// Appends the ranks of a graph's ASes: for each AS, in rising number, a row with the AS, `|` and its
 /// rank. Where memory runs out, nothing changes. The format is this project's own.
 pub fn put_ranks(out: &mut Vec<u8>, graph: &Graph, ranks: &Ranks) -> Result<(), NoMemory>
-    ensures ok { OnOk result (AppendsTable (has graph.now) (λ a. rank_row a (rank_at ranks.now a)) out.old.items out.new.items) }
+    ensures ok { OnOk result (out.new.items ≡ out.old.items ++ table_of graph.now (λ a. row (decimal a ∷ decimal (rank_at ranks.now a) ∷ []))) }
     ensures err { OnErr result (out.new.items ≡ out.old.items) }
 {
     let kept = out.len();

@@ -1,13 +1,12 @@
 //! The table of a routing.
 ghost use Rattle.std.specs.Prelude.{◌≡◌, ◌++◌, ◌∷◌, [], ℕ, OnOk, OnErr, Some, codes, option_map, decimal};
 ghost use Rattle.std.specs.Option.{option_map_or};
-ghost use Rattle.as_graph.specs.Topology.{has};
 ghost use Rattle.path_pool.specs.Pool.{IsLive, list_of};
 ghost use Rattle.route_choice.specs.Resources.{AreEntriesLive};
 ghost use Rattle.route_choice.specs.Routings.{entry_of, table_routing};
 ghost use Rattle.reports.specs.Growth.{Grows};
 ghost use Rattle.reports.specs.Held.{IsHeldLive};
-ghost use Rattle.reports.specs.Rows.{class_word, entry_text, more_numbers, numbers_text, entry_row, AppendsTable};
+ghost use Rattle.reports.specs.Rows.{class_word, entry_text, more_numbers, numbers_text, entry_row, table as table_of};
 
 use crate::bytes::put_bytes;
 use as_graph::Graph;
@@ -165,7 +164,7 @@ pub fn put_routes(
     pool: &PathPool,
 ) -> Result<(), NoMemory>
     requires { AreEntriesLive pool.now table.now }
-    ensures ok { OnOk result (AppendsTable (has graph.now) (λ a. entry_row a (table_routing pool.now table.now a)) out.old.items out.new.items) }
+    ensures ok { OnOk result (out.new.items ≡ out.old.items ++ table_of graph.now (λ a. entry_row a (table_routing pool.now table.now a))) }
     ensures err { OnErr result (out.new.items ≡ out.old.items) }
 {
     let kept = out.len();

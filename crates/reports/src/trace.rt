@@ -1,7 +1,8 @@
 //! The line of a trace.
-ghost use Rattle.std.specs.Prelude.{◌≡◌, ◌++◌, OnOk, OnErr};
+ghost use Rattle.std.specs.Prelude.{◌≡◌, ◌++◌, ◌∷◌, [], OnOk, OnErr};
 ghost use Rattle.reports.specs.Growth.{Grows};
-ghost use Rattle.reports.specs.Traces.{end_word, trace_text};
+ghost use Rattle.reports.specs.Rows.{numbers_text, row};
+ghost use Rattle.reports.specs.Traces.{end_word};
 
 use crate::bytes::put_bytes;
 use crate::rows::put_numbers;
@@ -20,7 +21,7 @@ fn end_name(end: End) -> &'static str
 
 // Appends the line of a trace.
 fn append_trace(out: &mut Vec<u8>, walk: &[Asn], end: End) -> Result<(), NoMemory>
-    ensures ok { OnOk result (out.new.items ≡ out.old.items ++ trace_text walk.now end) }
+    ensures ok { OnOk result (out.new.items ≡ out.old.items ++ row (end_word end ∷ numbers_text walk.now ∷ [])) }
     ensures err { OnErr result (Grows out.old.items out.new.items) }
 {
     put_bytes(out, end_name(end).as_bytes())?;
@@ -33,7 +34,7 @@ fn append_trace(out: &mut Vec<u8>, walk: &[Asn], end: End) -> Result<(), NoMemor
 /// passes with one space between. Where memory runs out, nothing changes. The format is this project's
 /// own.
 pub fn put_trace(out: &mut Vec<u8>, trace: &Trace) -> Result<(), NoMemory>
-    ensures ok { OnOk result (out.new.items ≡ out.old.items ++ trace_text trace.now.walk trace.now.end) }
+    ensures ok { OnOk result (out.new.items ≡ out.old.items ++ row (end_word trace.now.end ∷ numbers_text trace.now.walk ∷ [])) }
     ensures err { OnErr result (out.new.items ≡ out.old.items) }
 {
     let kept = out.len();

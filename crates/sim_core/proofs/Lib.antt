@@ -25,7 +25,6 @@ pub mod Unnamed
 pub mod Reseeded
 pub mod Listed
 pub mod Elements
-pub mod Tables
 pub mod Families
 pub mod Rows
 pub mod Replies

@@ -1,5 +1,5 @@
 -- An accepted query has one answer.
-use Rattle.std.proofs.Common.{◌≡◌, ℕ, ◌&&◌, Bool, true, false, IsTrue, Option, None, List, refl, sym, ap, subst, ◌∙◌}
+use Rattle.std.proofs.Common.{◌≡◌, ℕ, ◌&&◌, Bool, true, false, IsTrue, Option, None, List, [], ◌∷◌, decimal, refl, sym, ap, subst, ◌∙◌}
 use Rattle.std.specs.FinSet as set
 use Rattle.net_names.specs.Addresses.{AddrValue}
 use Rattle.net_names.specs.Prefixes.{PrefixValue}
@@ -16,8 +16,8 @@ use Rattle.data_trace.proofs.Ends.{one_end}
 use Rattle.data_trace.proofs.Traces.{one_trace, trace_ends}
 use Rattle.stability_laws.specs.Plans.{announcers_of, has_prefix}
 use Rattle.reports.specs.Counts.{report_text}
-use Rattle.reports.specs.Rows.{rank_row, entry_row}
-use Rattle.reports.specs.Traces.{trace_text}
+use Rattle.reports.specs.Rows.{entry_row, numbers_text, row, table}
+use Rattle.reports.specs.Traces.{end_word}
 use Rattle.reports.specs.declared.group.Group.{Group}
 use Rattle.sim_core.specs.Answers.{IsAnswer, refusal_of, needs}
 use Rattle.sim_core.specs.Counting.{how_many, in_group}
@@ -25,7 +25,6 @@ use Rattle.sim_core.specs.Kept.{IsKept, Kept}
 use Rattle.sim_core.specs.World.{World, has_round, topology}
 use Rattle.sim_core.proofs.Families.{one_family, same_next}
 use Rattle.sim_core.proofs.Rows.{many_alike, same_members}
-use Rattle.sim_core.proofs.Tables.{one_table}
 use Rattle.sim_core.proofs.Watches.{round_within}
 
 -- nothing that is asked for is wanting
@@ -45,7 +44,7 @@ module _ (w : World) (k l : Kept) (x : IsKept w k) (y : IsKept w l) where
   one_answer (query.Routes round prefix) s t accepted a b =
       let asked = none_wanting (has_round w round) _ _ accepted in
       let known = none_wanting (has_prefix w.plan prefix) _ _ asked.1 in
-      one_table (has (topology w)) _ _ s t (λ asn. ap (entry_row asn) (same_entry round prefix asked.0 known.0 asn)) a b
+      a ∙ ((λ i. table (topology w) (λ asn. entry_row asn (same_entry round prefix asked.0 known.0 asn i))) ∙ sym b)
   one_answer (query.Route round prefix asn) s t accepted a b =
       let asked = none_wanting (has_round w round) _ _ accepted in
       let known = none_wanting (has_prefix w.plan prefix) _ _ asked.1 in
@@ -56,7 +55,7 @@ module _ (w : World) (k l : Kept) (x : IsKept w k) (y : IsKept w l) where
       let other : IsTrace next asn b.0 b.1 = subst (λ (n : ℕ → Hop). IsTrace n asn b.0 b.1) (next_same round addr asked.0) b.2 in
       let walk : b.0 ≡ a.0 = one_trace next asn a.0 b.0 a.1 b.1 a.2 other in
       let end : b.1 ≡ a.1 = one_end next asn a.1 b.1 (trace_ends next asn a.0 a.1 a.2) (trace_ends next asn b.0 b.1 other) in
-      a.3 ∙ sym (b.3 ∙ (λ i. trace_text (walk i) (end i)))
+      a.3 ∙ sym (b.3 ∙ (λ i. row (end_word (end i) ∷ numbers_text (walk i) ∷ [])))
   one_answer (query.Report round addr) s t accepted a b =
       let asked = none_wanting (has_round w round) _ _ accepted in
       let watched = none_wanting (set.contains w.watched addr) _ _ asked.1 in
@@ -72,5 +71,5 @@ module _ (w : World) (k l : Kept) (x : IsKept w k) (y : IsKept w l) where
       let counts : (g : Group) (e : End) → how_many w (λ n. in_group w k g n && (same_end.ghosts).eq (k.ends round addr n) e) ≡ how_many w (λ n. in_group w l g n && (same_end.ghosts).eq (l.ends round addr n) e) =
       λ g e. many_alike w (λ n. in_group w k g n && (same_end.ghosts).eq (k.ends round addr n) e) (λ n. in_group w l g n && (same_end.ghosts).eq (l.ends round addr n) e) (λ n there i. members g n i && (same_end.ghosts).eq (ends n there i) e) in
       a ∙ ((λ i. report_text (λ g. how_many w (λ n. members g n i)) (λ g e. counts g e i) (announcers_of w.plan)) ∙ sym b)
-  one_answer query.Ranks s t accepted a b = one_table (has (topology w)) _ _ s t (λ asn. ap (rank_row asn) (one_rank_at (relation (topology w)) asn (k.ranks asn) (l.ranks asn) (x.ranks asn) (y.ranks asn))) a b
+  one_answer query.Ranks s t accepted a b = a ∙ ((λ i. table (topology w) (λ asn. row (decimal asn ∷ decimal (one_rank_at (relation (topology w)) asn (k.ranks asn) (l.ranks asn) (x.ranks asn) (y.ranks asn) i) ∷ []))) ∙ sym b)
   one_answer (query.Validity prefix asn) s t accepted a b = a ∙ sym b

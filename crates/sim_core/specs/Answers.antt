@@ -1,5 +1,5 @@
 -- Answers to queries.
-use Rattle.std.specs.Prelude.{◌≡◌, ℕ, ◌&&◌, Bool, Option, None, Some, List, ◌++◌, if◌then◌else◌}
+use Rattle.std.specs.Prelude.{◌≡◌, ℕ, ◌&&◌, Bool, Option, None, Some, List, [], ◌∷◌, ◌++◌, decimal, if◌then◌else◌}
 use Rattle.std.specs.FinSet as set
 use Rattle.scenario_text.specs.declared.acts.Query.{Query}
 use Rattle.scenario_text.specs.declared.acts.Query.TheVariants.{Routes, Route, Trace, Report, Ranks, Validity}
@@ -13,8 +13,8 @@ use Rattle.data_trace.specs.contracts.kinds.EndPartialEq.TheImpl as same_end
 use Rattle.data_trace.specs.declared.kinds.End.{End}
 use Rattle.stability_laws.specs.Plans.{announcers_of, has_prefix}
 use Rattle.reports.specs.Counts.{report_text}
-use Rattle.reports.specs.Rows.{IsTable, rank_row, entry_row}
-use Rattle.reports.specs.Traces.{trace_text}
+use Rattle.reports.specs.Rows.{entry_row, numbers_text, row, table}
+use Rattle.reports.specs.Traces.{end_word}
 use Rattle.reports.specs.Validity.{validity_text}
 use Rattle.sim_core.specs.World.{World, has_round, topology}
 use Rattle.sim_core.specs.Kept.{Kept}
@@ -36,13 +36,13 @@ refusal_of w q =
 
 -- the text is the answer to a query, by what is kept of the world and by its payloads (own format; `(same_end.ghosts).eq` says whether two ends are the same)
 abbrev pub IsAnswer : World → Kept → Query → List ℕ → Type 0
-IsAnswer w k (Routes n p) t = IsTable (has (topology w)) (λ a. entry_row a (k.routings n p a)) t
+IsAnswer w k (Routes n p) t = t ≡ table (topology w) (λ a. entry_row a (k.routings n p a))
 IsAnswer w k (Route n p a) t = t ≡ entry_row a (k.routings n p a)
 IsAnswer w k (Trace n a addr) t = (walk : List ℕ) × (end : End) ×
-    IsTrace (next_hop w.plan (k.routings n) addr) a walk end × (t ≡ trace_text walk end)
+    IsTrace (next_hop w.plan (k.routings n) addr) a walk end × (t ≡ row (end_word end ∷ numbers_text walk ∷ []))
 IsAnswer w k (Report n addr) t = t ≡ report_text (λ g. how_many w (in_group w k g))
     (λ g e. how_many w (λ a. in_group w k g a && (same_end.ghosts).eq (k.ends n addr a) e)) (announcers_of w.plan)
-IsAnswer w k Ranks t = IsTable (has (topology w)) (λ a. rank_row a (k.ranks a)) t
+IsAnswer w k Ranks t = t ≡ table (topology w) (λ a. row (decimal a ∷ decimal (k.ranks a) ∷ []))
 IsAnswer w k (Validity p a) t = t ≡ validity_text (state_of w.payloads p a) (covering w.payloads p)
 
 -- the answer to the query was appended

@@ -1,9 +1,7 @@
-use Rattle.std.proofs.Common.{◌≡◌, refl, length, arith, take, ap, sym, ◌∙◌}
+use Rattle.std.proofs.Common.{◌≡◌, length, arith, take, ap, sym, ◌∙◌}
 use Rattle.std.proofs.lemmas.List.{take_all}
-use Rattle.std.specs.List.{flat_map}
-use Rattle.route_choice.specs.Routings.{table_routing}
-use Rattle.reports.specs.Rows.{entry_row}
 use Rattle.reports.proofs.Paths.{cut_back}
+use Rattle.reports.proofs.Listing.{table_is}
 use Rattle.reports.proofs.rows.put_routes.Goals as goal
 
 pub returns-then-is_err-clause-err : goal.returns-then-is_err-clause-err
@@ -13,13 +11,5 @@ returns-then-is_err-clause-err c =
     ∙ cut_back c.append_row.result _ _ _ _ (sym c.is_err.ensures.value ∙ c.if-is_err.true) c.loop-asn.invariant c.append_row.ensures.err
 
 pub returns-clause-ok : goal.returns-clause-ok
-returns-clause-ok c = record {
-  text = flat_map (λ a. entry_row a (table_routing c.args.pool.now c.args.table.now a)) c.ases-ases.result.now;
-  table = record {
-    ases = c.ases-ases.result.now;
-    complete = c.ases-ases.ensures.listed;
-    rising = c.ases-ases.ensures.rising;
-    rows = refl;
-  };
-  is = rw (take_all c.loop-asn.asn-index c.ases-ases.result.now c.loop-asn-test.false) at c.loop-asn.invariant;
-}
+returns-clause-ok c =
+    table_is c.args.graph.now c.ases-ases.result.now c.ases-ases.ensures.rising c.ases-ases.ensures.listed _ _ _ (rw (take_all c.loop-asn.asn-index c.ases-ases.result.now c.loop-asn-test.false) at c.loop-asn.invariant)
