@@ -22,13 +22,14 @@ use Rattle.leak_round.specs.Rounds.{kept, plan_of as plan_kept, round_count}
 use Rattle.scenario_text.specs.Scenarios.{ScenarioValue}
 use Rattle.sim_core.specs.World.{graph_of, setting_of, topology}
 use Rattle.sim_core.specs.Families.{Family, IsOneFamily}
-use Rattle.sim_core.specs.Loaded.{kinds_of, names_in, plan_of, world_of}
+use Rattle.sim_core.specs.Loaded.{names_in, plan_of, world_of}
 use Rattle.sim_core.specs.Loading.{IsCycleRefusal, IsLoadRefusal}
 use Rattle.sim_core.specs.Marking.{IsMarksRefusal, marked}
 use Rattle.sim_core.specs.Parts.{AreRoundsOf, IsNamed, world_by}
 use Rattle.sim_core.specs.declared.errors.LoadError.{LoadError}
 use Rattle.sim_core.specs.declared.errors.LoadError.TheVariants as load_error
 use Rattle.sim_core.proofs.Topologies.{links-marked, marked_are}
+use Rattle.sim_core.proofs.Plans.{kinds_of}
 use Rattle.sim_core.proofs.Within.{same_names}
 
 topology-world_of : (links : LinkMap) (payloads : Payloads) (s : ScenarioValue) → topology (world_of links payloads s) ≡ marked (unmarked links) (names_in s)

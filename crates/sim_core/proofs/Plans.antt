@@ -1,6 +1,6 @@
 -- Plans and policies that are made one entry after the other.
-use Rattle.std.proofs.Common.{◌≡◌, ◌≢◌, ℕ, suc, ◌+◌, ◌<◌, Bool, true, false, cond, List, [], ◌∷◌, ◌++◌, map, filter, take, length, get_or, is_some, ◌||◌, IsTrue, Option, Some, None, refl, sym, ap, ◌∙◌, subst, arith}
-use Rattle.std.specs.List.{All, AllPairs}
+use Rattle.std.proofs.Common.{◌≡◌, ◌≢◌, ℕ, suc, ◌+◌, ◌<◌, Bool, true, false, cond, List, [], ◌∷◌, ◌++◌, map, filter, flat_map, take, length, get_or, is_some, ◌||◌, IsTrue, Option, Some, None, refl, sym, ap, ◌∙◌, subst, arith}
+use Rattle.std.specs.List.{All, AllPairs, enumerate_from}
 use Rattle.std.proofs.Common.{append_assoc, append-nil}
 use Rattle.std.proofs.lemmas.List.{get_or-take, length-take, take_more}
 use Rattle.std.proofs.lemmas.List.Elements.{All-head, All-tail, All-from_get_or, All-get_or}
@@ -22,21 +22,40 @@ use Rattle.stability_laws.specs.Plans.{Plan, announcement_cmp, announcer_of, ann
 use Rattle.net_names.specs.Orders.{exact_prefix, prefix_total, exact_announcement, announcement_total}
 use Rattle.scenario_text.specs.Scenarios.{ScenarioValue, IsScenario, StartsWith, announcement_name}
 use Rattle.scenario_text.specs.declared.scenario.Announcement.{Announcement}
-use Rattle.sim_core.specs.Loaded.{planned, leaks_from, is_other, kinds_of}
+use Rattle.sim_core.specs.Loaded.{is_other}
 
--- a key as the entry of a set
-abbrev one : {A K : Type 0} → (A → K) → A → K × Unit {0}
-one f a = (f a, tt)
+-- who leaks in which round, as the entries of a set
+abbrev pub Leaks : Type 0
+Leaks = List ((ℕ × ℕ) × Unit {0})
+
+-- the leakers of a round
+abbrev pub leaks_in : ℕ → List ℕ → Leaks
+leaks_in round leakers = map (λ a. ((round, a), tt)) leakers
+
+-- the plan in which these paths are announced and these ASes leak in these rounds
+abbrev pub planned : List Announcement → Leaks → Plan
+planned xs leaks = record {
+  prefixes = fin.from_entries (map (λ (a : Announcement). (a.prefix, tt)) xs);
+  announced = fin.from_entries (map (λ (a : Announcement). ((a.prefix, a.asn), a.path)) xs);
+  leakers = fin.from_entries leaks;
+}
+
+-- who leaks where the first list is of this round, and so on
+abbrev pub leaks_from : ℕ → List (List ℕ) → Leaks
+leaks_from round lists = flat_map (λ l. leaks_in l.0 l.1) (enumerate_from round lists)
+
+-- the ASes that these policies give another one than the plain one
+abbrev pub kinds_of : List (ℕ × Kind) → fin.FinMap nat_cmp Kind
+kinds_of policies = fin.from_entries (filter is_other policies)
 
 abbrev there : Option (Unit {0})
 there = Some tt
 
 -- a key among others that are put in one after the other
 module _ {K : Type 0} {R : K → K → Ordering} (o : IsTotalOrder R) (same : fin.IsAntisymmetric R) where
-  find_push : {A : Type 0} (f : A → K) (xs : List A) (x : A) (q : K)
-      → find R q (map (one f) (xs ++ x ∷ [])) ≡ cond (eq_by_cmp R q (f x)) (there) (find R q (map (one f) xs))
-  find_push f [] x q = refl
-  find_push f (y ∷ ys) x q = ap (cond (eq_by_cmp R q (f y)) (there)) (find_push f ys x q) ∙ swapped (eq_by_cmp R q (f y)) (eq_by_cmp R q (f x)) (find R q (map (one f) ys))
+  find_push : (es : List (K × Unit {0})) (k q : K) → find R q (es ++ (k, tt) ∷ []) ≡ cond (eq_by_cmp R q k) (there) (find R q es)
+  find_push [] k q = refl
+  find_push (e ∷ es) k q = ap (cond (eq_by_cmp R q e.0) (there)) (find_push es k q) ∙ swapped (eq_by_cmp R q e.0) (eq_by_cmp R q k) (find R q es)
     where
       swapped : (a b : Bool) (r : Option (Unit {0})) → cond a (there) (cond b (there) r) ≡ cond b (there) (cond a (there) r)
       swapped true true r = refl
@@ -44,11 +63,11 @@ module _ {K : Type 0} {R : K → K → Ordering} (o : IsTotalOrder R) (same : fi
       swapped false true r = refl
       swapped false false r = refl
 
-  pub set_push : {A : Type 0} (f : A → K) (xs : List A) (x : A) → fin.from_entries {R = R} (map (one f) (xs ++ x ∷ [])) ≡ fin.insert (fin.from_entries (map (one f) xs)) (f x) tt
-  set_push f xs x = fin.same_map o same _ _ (λ q.
-      fin.get-from_entries o (map (one f) (xs ++ x ∷ [])) q
-      ∙ find_push f xs x q
-      ∙ sym (fin.get-insert o (fin.from_entries (map (one f) xs)) (f x) tt q ∙ ap (cond (eq_by_cmp R q (f x)) (there)) (fin.get-from_entries o (map (one f) xs) q)))
+  pub set_push : (es : List (K × Unit {0})) (k : K) → fin.from_entries {R = R} (es ++ (k, tt) ∷ []) ≡ fin.insert (fin.from_entries es) k tt
+  set_push es k = fin.same_map o same _ _ (λ q.
+      fin.get-from_entries o (es ++ (k, tt) ∷ []) q
+      ∙ find_push es k q
+      ∙ sym (fin.get-insert o (fin.from_entries es) k tt q ∙ ap (cond (eq_by_cmp R q k) (there)) (fin.get-from_entries o es q)))
 
 is_equal : (r : Ordering) → is_eq r ≡ true → r ≡ Equal
 is_equal Less e = cc
@@ -91,19 +110,20 @@ map_push : {A B : Type 0} (f : A → B) (xs : List A) (x : A) → map f (xs ++ x
 map_push f [] x = refl
 map_push f (y ∷ ys) x = ap (λ zs. f y ∷ zs) (map_push f ys x)
 
-pub planned_announcement : (xs : List Announcement) (leaks : List (ℕ × ℕ)) (x : Announcement) → StartsWith x.asn x.path → All (λ a. announcement_name a ≢ announcement_name x) xs
+pub planned_announcement : (xs : List Announcement) (leaks : Leaks) (x : Announcement) → StartsWith x.asn x.path → All (λ a. announcement_name a ≢ announcement_name x) xs
     → planned (xs ++ x ∷ []) leaks ≡ with_announcement (planned xs leaks) x.prefix x.path
 planned_announcement xs leaks x own new =
     let entry : Announcement → (PrefixValue × ℕ) × List ℕ = λ (a : Announcement). ((a.prefix, a.asn), a.path) in
-    let prefixes = set_push prefix_total exact_prefix (λ (a : Announcement). a.prefix) xs x in
+    let prefix : Announcement → PrefixValue × Unit {0} = λ (a : Announcement). (a.prefix, tt) in
+    let prefixes = ap (λ es. fin.from_entries es) (map_push prefix xs x) ∙ set_push prefix_total exact_prefix (map prefix xs) x.prefix in
     let announced : fin.from_entries {R = announcement_cmp} (map entry (xs ++ x ∷ [])) ≡ fin.insert (fin.from_entries (map entry xs)) (x.prefix, announcer_of x.path) x.path =
     ap (λ es. fin.from_entries {R = announcement_cmp} es) (map_push entry xs x)
     ∙ fin.from_entries_push announcement_total exact_announcement (map entry xs) (x.prefix, x.asn) x.path (unfound exact_announcement entry (x.prefix, x.asn) xs new)
     ∙ ap (λ a. fin.insert (fin.from_entries (map entry xs)) (x.prefix, a) x.path) (sym (starts x.asn x.path own)) in
-    λ i. record { prefixes = prefixes i; announced = announced i; leakers = fin.from_entries (map (λ leak. (leak, tt)) leaks) }
+    λ i. record { prefixes = prefixes i; announced = announced i; leakers = fin.from_entries leaks }
 
 -- nobody announces it yet
-pub unannounced : (xs : List Announcement) (leaks : List (ℕ × ℕ)) (x : Announcement) → StartsWith x.asn x.path → All (λ a. announcement_name a ≢ announcement_name x) xs → announces (planned xs leaks) x.prefix (announcer_of x.path) ≡ false
+pub unannounced : (xs : List Announcement) (leaks : Leaks) (x : Announcement) → StartsWith x.asn x.path → All (λ a. announcement_name a ≢ announcement_name x) xs → announces (planned xs leaks) x.prefix (announcer_of x.path) ≡ false
 unannounced xs leaks x own new =
     ap (λ a. announces (planned xs leaks) x.prefix a) (starts x.asn x.path own)
     ∙ ap is_some (fin.get-from_entries announcement_total (map (λ (a : Announcement). ((a.prefix, a.asn), a.path)) xs) (x.prefix, x.asn) ∙ unfound exact_announcement (λ (a : Announcement). ((a.prefix, a.asn), a.path)) (x.prefix, x.asn) xs new)
@@ -111,19 +131,23 @@ unannounced xs leaks x own new =
 pub exact_pair : fin.IsAntisymmetric pair_cmp
 exact_pair = exact_pairs nat_cmp nat_cmp exact_unsigned exact_unsigned
 
--- one more leaker
-pub planned_leaker : (xs : List Announcement) (leaks : List (ℕ × ℕ)) (round a : ℕ) → planned xs (leaks ++ (round, a) ∷ []) ≡ with_leaker (planned xs leaks) round a
-planned_leaker xs leaks round a = let leakers = set_push pairs_total exact_pair (λ (leak : ℕ × ℕ). leak) leaks (round, a) in λ i. record (planned xs leaks) { leakers = leakers i }
+-- the plan with these leakers
+abbrev pub with_leaks : Plan → Leaks → Plan
+with_leaks plan leaks = record plan { leakers = fin.from_entries leaks }
 
-pub one_leaker_more : (xs : List Announcement) (leaks : List (ℕ × ℕ)) (leakers : List ℕ) (i round a : ℕ) (old new : Plan) → i < length leakers → a ≡ get_or leakers i a
-    → old ≡ planned xs (leaks ++ map (λ b. (round, b)) (take i leakers)) → new ≡ with_leaker old round a → new ≡ planned xs (leaks ++ map (λ b. (round, b)) (take (i + 1) leakers))
-one_leaker_more xs leaks leakers i round a old new inside is so made =
-    let pair : ℕ → ℕ × ℕ = λ b. (round, b) in
-    let more : leaks ++ map pair (take (i + 1) leakers) ≡ (leaks ++ map pair (take i leakers)) ++ (round, a) ∷ [] =
+-- one more leaker
+one_leaker : (plan : Plan) (leaks : Leaks) (round a : ℕ) → with_leaks plan (leaks ++ ((round, a), tt) ∷ []) ≡ with_leaker (with_leaks plan leaks) round a
+one_leaker plan leaks round a = let leakers = set_push pairs_total exact_pair leaks (round, a) in λ i. record plan { leakers = leakers i }
+
+pub one_leaker_more : (plan : Plan) (leaks : Leaks) (leakers : List ℕ) (i round a : ℕ) (old new : Plan) → i < length leakers → a ≡ get_or leakers i a
+    → old ≡ with_leaks plan (leaks ++ leaks_in round (take i leakers)) → new ≡ with_leaker old round a → new ≡ with_leaks plan (leaks ++ leaks_in round (take (i + 1) leakers))
+one_leaker_more plan leaks leakers i round a old new inside is so made =
+    let pair : ℕ → (ℕ × ℕ) × Unit {0} = λ b. ((round, b), tt) in
+    let more : leaks ++ map pair (take (i + 1) leakers) ≡ (leaks ++ map pair (take i leakers)) ++ ((round, a), tt) ∷ [] =
     ap (λ ys. leaks ++ map pair ys) (take_more leakers i a inside ∙ ap (λ b. take i leakers ++ b ∷ []) (sym is))
     ∙ ap (λ ys. leaks ++ ys) (map_push pair (take i leakers) a)
-    ∙ sym (append_assoc leaks (map pair (take i leakers)) ((round, a) ∷ [])) in
-    made ∙ ap (λ (p : Plan). with_leaker p round a) so ∙ sym (planned_leaker xs (leaks ++ map pair (take i leakers)) round a) ∙ ap (planned xs) (sym more)
+    ∙ sym (append_assoc leaks (map pair (take i leakers)) (((round, a), tt) ∷ [])) in
+    made ∙ ap (λ (p : Plan). with_leaker p round a) so ∙ sym (one_leaker plan (leaks ++ map pair (take i leakers)) round a) ∙ ap (with_leaks plan) (sym more)
 
 filter_push : {A : Type 0} (test : A → Bool) (xs : List A) (x : A) → filter test (xs ++ x ∷ []) ≡ filter test xs ++ filter test (x ∷ [])
 filter_push test [] x = refl
@@ -201,19 +225,19 @@ or_here false b h = cc
 pub has_room : (room : set.FinSet nat_cmp) (a : ℕ) → IsTrue (set.contains (set.insert room a) a)
 has_room room a = rw (set.contains-insert nat_cmp_total room a a) (or_here (eq_by_cmp nat_cmp a a) (set.contains room a) (ap is_eq (tied_itself nat_cmp_total a)))
 
-leaks_push : (round : ℕ) (lists : List (List ℕ)) (leakers : List ℕ) → leaks_from round (lists ++ leakers ∷ []) ≡ leaks_from round lists ++ map (λ a. (round + length lists, a)) leakers
-leaks_push round [] leakers = append-nil (map (λ a. (round, a)) leakers) ∙ ap (λ r. map (λ a. (r, a)) leakers) (let same : round ≡ round + 0 = omega arith in same)
+leaks_push : (round : ℕ) (lists : List (List ℕ)) (leakers : List ℕ) → leaks_from round (lists ++ leakers ∷ []) ≡ leaks_from round lists ++ leaks_in (round + length lists) leakers
+leaks_push round [] leakers = append-nil (leaks_in round leakers) ∙ ap (λ r. leaks_in r leakers) (let same : round ≡ round + 0 = omega arith in same)
 leaks_push round (first ∷ lists) leakers =
-    ap (λ ls. map (λ a. (round, a)) first ++ ls) (leaks_push (suc round) lists leakers)
-    ∙ sym (append_assoc (map (λ a. (round, a)) first) (leaks_from (suc round) lists) (map (λ a. (suc round + length lists, a)) leakers))
-    ∙ ap (λ r. (map (λ a. (round, a)) first ++ leaks_from (suc round) lists) ++ map (λ a. (r, a)) leakers) (let same : suc round + length lists ≡ round + suc (length lists) = omega arith in same)
+    ap (λ ls. leaks_in round first ++ ls) (leaks_push (round + 1) lists leakers)
+    ∙ sym (append_assoc (leaks_in round first) (leaks_from (round + 1) lists) (leaks_in (round + 1 + length lists) leakers))
+    ∙ ap (λ r. (leaks_in round first ++ leaks_from (round + 1) lists) ++ leaks_in r leakers) (let same : round + 1 + length lists ≡ round + suc (length lists) = omega arith in same)
 
 -- the leakers of one round more
 pub leaks_more : (xs : List Announcement) (lists : List (List ℕ)) (i round : ℕ) (leakers : List ℕ) (now : Plan) → i < length lists → leakers ≡ get_or lists i leakers → round ≡ 2 + i
-    → now ≡ planned xs (leaks_from 2 (take i lists) ++ map (λ a. (round, a)) leakers) → now ≡ planned xs (leaks_from 2 (take (i + 1) lists))
+    → now ≡ planned xs (leaks_from 2 (take i lists) ++ leaks_in round leakers) → now ≡ planned xs (leaks_from 2 (take (i + 1) lists))
 leaks_more xs lists i round leakers now inside here at is =
     let long : 2 + length (take i lists) ≡ round = omega (arith, length-take i lists, at, inside) in
     is ∙ ap (planned xs) (sym (
     ap (leaks_from 2) (take_more lists i leakers inside ∙ ap (λ l. take i lists ++ l ∷ []) (sym here))
     ∙ leaks_push 2 (take i lists) leakers
-    ∙ ap (λ r. leaks_from 2 (take i lists) ++ map (λ a. (r, a)) leakers) long))
+    ∙ ap (λ r. leaks_from 2 (take i lists) ++ leaks_in r leakers) long))

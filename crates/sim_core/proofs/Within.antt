@@ -18,10 +18,10 @@ use Rattle.net_names.specs.Orders.{prefix_total, announcement_total, exact_annou
 use Rattle.leak_round.specs.Limits.{IsWithinLimits}
 use Rattle.scenario_text.specs.Scenarios.{ScenarioValue, IsScenario}
 use Rattle.scenario_text.specs.declared.scenario.Announcement.{Announcement}
-use Rattle.sim_core.specs.Loaded.{is_other, kinds_of, leaks_from, names_in, plan_of}
+use Rattle.sim_core.specs.Loaded.{is_other, names_in, plan_of}
 use Rattle.sim_core.proofs.PolicyEdits.{leakers}
 use Rattle.sim_core.proofs.Keys.{occurs-from_entries}
-use Rattle.sim_core.proofs.Plans.{exact_pair}
+use Rattle.sim_core.proofs.Plans.{exact_pair, kinds_of, leaks_from, leaks_in}
 
 -- ---- the limits
 
@@ -92,12 +92,12 @@ map_same : (xs : List ℕ) → map (λ x. x) xs ≡ xs
 map_same [] = refl
 map_same (x ∷ xs) = ap (λ ys. x ∷ ys) (map_same xs)
 
-of_leaks : (round : ℕ) (lists : List (List ℕ)) → map (λ (l : ℕ × ℕ). l.1) (leaks_from round lists) ≡ flat_map (λ leakers. leakers) lists
+of_leaks : (round : ℕ) (lists : List (List ℕ)) → map (λ (e : (ℕ × ℕ) × Unit {0}). e.0.1) (leaks_from round lists) ≡ flat_map (λ leakers. leakers) lists
 of_leaks round [] = refl
 of_leaks round (first ∷ lists) =
-    map_append (λ (l : ℕ × ℕ). l.1) (map (λ a. (round, a)) first) (leaks_from (suc round) lists)
-    ∙ ap (λ xs. xs ++ map (λ (l : ℕ × ℕ). l.1) (leaks_from (suc round) lists)) (map_map (λ a. (round, a)) (λ (l : ℕ × ℕ). l.1) first ∙ map_same first)
-    ∙ ap (λ xs. first ++ xs) (of_leaks (suc round) lists)
+    map_append (λ (e : (ℕ × ℕ) × Unit {0}). e.0.1) (leaks_in round first) (leaks_from (round + 1) lists)
+    ∙ ap (λ xs. xs ++ map (λ (e : (ℕ × ℕ) × Unit {0}). e.0.1) (leaks_from (round + 1) lists)) (map_map {B = (ℕ × ℕ) × Unit {0}} (λ a. ((round, a), tt)) (λ (e : (ℕ × ℕ) × Unit {0}). e.0.1) first ∙ map_same first)
+    ∙ ap (λ xs. first ++ xs) (of_leaks (round + 1) lists)
 
 announcing : (q : ℕ) (s : ScenarioValue) → occurs q (announcers_of (plan_of s)) ≡ occurs q (map (λ (a : Announcement). a.asn) s.announcements)
 announcing q s =
@@ -110,10 +110,9 @@ announcing q s =
 
 leaking : (q : ℕ) (s : ScenarioValue) → occurs q (leakers (plan_of s)) ≡ occurs q (flat_map (λ leakers. leakers) s.leaks)
 leaking q s =
-    let leaks = leaks_from 2 s.leaks in
     ap (occurs q) (map_map (λ (e : (ℕ × ℕ) × Unit {0}). e.0) (λ (l : ℕ × ℕ). l.1) (fin.entries (plan_of s).leakers))
-    ∙ occurs-from_entries pairs_total exact_pair (λ (l : ℕ × ℕ). l.1) q (map (λ leak. (leak, tt)) leaks)
-    ∙ ap (occurs q) (map_map (λ (leak : ℕ × ℕ). (leak, tt)) (λ (e : (ℕ × ℕ) × Unit {0}). e.0.1) leaks ∙ of_leaks 2 s.leaks)
+    ∙ occurs-from_entries pairs_total exact_pair (λ (l : ℕ × ℕ). l.1) q (leaks_from 2 s.leaks)
+    ∙ ap (occurs q) (of_leaks 2 s.leaks)
 
 naming : (q : ℕ) (s : ScenarioValue) → occurs q (fin.keys (kinds_of s.policies)) ≡ occurs q (map (λ p. p.0) (filter is_other s.policies))
 naming q s = occurs-from_entries nat_cmp_total fin.nat_cmp-IsAntisymmetric (λ (x : ℕ). x) q (filter is_other s.policies)

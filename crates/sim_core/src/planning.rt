@@ -1,10 +1,10 @@
 //! What a scenario announces and leaks, and which policies it gives, as the rounds need them.
-ghost use Rattle.std.specs.Prelude.{◌≡◌, ◌≢◌, ◌≤◌, ◌++◌, ◌∷◌, [], ℕ, List, All, map, IfOk, OnOk};
+ghost use Rattle.std.specs.Prelude.{◌≡◌, ◌≢◌, ◌≤◌, ◌++◌, ◌∷◌, [], ℕ, List, All, filter, map, IfOk, OnOk};
 ghost use Rattle.policy_kinds.specs.declared.kind.Kind.{Kind as AKind};
 ghost use Rattle.policy_kinds.specs.declared.kind.Kind.TheVariants.{Plain};
-ghost use Rattle.scenario_text.specs.declared.scenario.Announcement.{Announcement as AnAnnouncement};
-ghost use Rattle.stability_laws.specs.Plans.{empty_plan};
-ghost use Rattle.sim_core.specs.Loaded.{kinds_of, plan_of, planned};
+ghost use Rattle.std.specs.FinMap as fin;
+ghost use Rattle.stability_laws.specs.Plans.{Plan, empty_plan};
+ghost use Rattle.sim_core.specs.Loaded.{is_other as is_other_policy, plan_of};
 
 use crate::naming::is_other;
 use net_names::{Asn, NoMemory, Path};
@@ -27,7 +27,7 @@ pub fn copy_of(alloc: Global, path: &Path) -> Result<Path, NoMemory>
 // Makes the ASes announce.
 fn announce_all(alloc: Global, plan: &mut SeedPlan, scenario: &Scenario) -> Result<(), NoMemory>
     requires { plan.old ≡ empty_plan }
-    ensures { OnOk result (plan.new ≡ planned scenario.now.announcements []) }
+    ensures { OnOk result (plan.new ≡ plan_of (record scenario.now { leaks = [] })) }
 {
     for announcement in scenario.announcements() {
         let path = copy_of(alloc, &announcement.path)?;
@@ -39,7 +39,7 @@ fn announce_all(alloc: Global, plan: &mut SeedPlan, scenario: &Scenario) -> Resu
 // Makes the ASes leak in the round.
 fn leak_all(plan: &mut SeedPlan, round: u32, leakers: &[Asn]) -> Result<(), NoMemory>
     requires { 2 ≤ round }
-    ensures { OnOk result ((announcements : List AnAnnouncement) (leaks : List (ℕ × ℕ)) → plan.old ≡ planned announcements leaks → plan.new ≡ planned announcements (leaks ++ map (λ a. (round, a)) leakers.now)) }
+    ensures { OnOk result ((before : Plan) (leaks : List ((ℕ × ℕ) × Unit {0})) → plan.old ≡ record before { leakers = fin.from_entries leaks } → plan.new ≡ record before { leakers = fin.from_entries (leaks ++ map (λ a. ((round, a), tt)) leakers.now) }) }
 {
     for asn in leakers {
         plan.leaker(round, *asn)?;
@@ -64,7 +64,7 @@ pub fn seed_plan(alloc: Global, scenario: &Scenario) -> Result<SeedPlan, NoMemor
 // Names the AS, where its policy is another than the plain one.
 fn name_policy(book: &mut Book<Kind>, policy: (Asn, Kind)) -> Result<(), NoMemory>
     ensures rest { book.new.rest ≡ book.old.rest }
-    ensures named { OnOk result ((before : List (ℕ × AKind)) → All (λ p. p.0 ≢ policy.0) before → book.old.named ≡ kinds_of before → book.new.named ≡ kinds_of (before ++ policy ∷ [])) }
+    ensures named { OnOk result ((before : List (ℕ × AKind)) → All (λ p. p.0 ≢ policy.0) before → book.old.named ≡ fin.from_entries (filter is_other_policy before) → book.new.named ≡ fin.from_entries (filter is_other_policy (before ++ policy ∷ []))) }
 {
     if !is_other(policy.1) {
         return Ok(());
@@ -81,7 +81,7 @@ fn name_policy(book: &mut Book<Kind>, policy: (Asn, Kind)) -> Result<(), NoMemor
 /// The policies that the scenario gives, and the plain one for the rest.
 pub fn policies(alloc: Global, scenario: &Scenario) -> Result<Book<Kind>, NoMemory>
     ensures rest { IfOk result (λ book. book.rest ≡ Plain) }
-    ensures named { IfOk result (λ book. book.named ≡ kinds_of scenario.now.policies) }
+    ensures named { IfOk result (λ book. book.named ≡ fin.from_entries (filter is_other_policy scenario.now.policies)) }
 {
     let mut book = Book::new(alloc, Kind::Plain);
     for policy in scenario.policies() {

@@ -1,8 +1,7 @@
-use Rattle.sim_core.proofs.Plans.{announced_more, announced_new}
+use Rattle.sim_core.proofs.Plans.{announced_more, announced_new, planned}
 use Rattle.std.proofs.Common.{◌≡◌, ◌∙◌, ap, subst, sym, length, get_or, ◌<◌, ◌+◌}
 use Rattle.scenario_text.specs.declared.scenario.Announcement.{Announcement}
 use Rattle.std.proofs.Common.{List, take, []}
-use Rattle.sim_core.specs.Loaded.{planned}
 use Rattle.sim_core.proofs.planning.announce_all.Goals as goal
 
 pub announce-requires-clause-new : goal.announce-requires-clause-new

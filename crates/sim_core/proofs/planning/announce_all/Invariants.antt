@@ -1,5 +1,5 @@
 use Rattle.std.proofs.Common.{◌≡◌, [], take}
-use Rattle.sim_core.specs.Loaded.{planned}
+use Rattle.sim_core.proofs.Plans.{planned}
 use Rattle.sim_core.proofs.planning.announce_all.Given as goal
 
 abbrev pub invariant-loop-announcement : goal.invariant-loop-announcement

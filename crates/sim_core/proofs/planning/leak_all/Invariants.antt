@@ -1,7 +1,7 @@
-use Rattle.std.proofs.Common.{◌≡◌, ◌++◌, ℕ, List, map, take}
-use Rattle.scenario_text.specs.declared.scenario.Announcement.{Announcement}
-use Rattle.sim_core.specs.Loaded.{planned}
+use Rattle.std.proofs.Common.{◌≡◌, ◌++◌, take}
+use Rattle.stability_laws.specs.Plans.{Plan}
+use Rattle.sim_core.proofs.Plans.{Leaks, leaks_in, with_leaks}
 use Rattle.sim_core.proofs.planning.leak_all.Given as goal
 
 abbrev pub invariant-loop-asn : goal.invariant-loop-asn
-invariant-loop-asn l = (announcements : List Announcement) (leaks : List (ℕ × ℕ)) → l.fn.plan ≡ planned announcements leaks → l.plan ≡ planned announcements (leaks ++ map (λ a. (l.round, a)) (take l.asn-index l.leakers))
+invariant-loop-asn l = (before : Plan) (leaks : Leaks) → l.fn.plan ≡ with_leaks before leaks → l.plan ≡ with_leaks before (leaks ++ leaks_in l.round (take l.asn-index l.leakers))

@@ -1,8 +1,7 @@
 use Rattle.std.proofs.Common.{◌∙◌, ◌++◌, ◌∷◌, ◌+◌, ◌<◌, [], ap, subst, sym, length, get_or, take, List, ℕ}
 use Rattle.std.proofs.lemmas.List.{take_more}
 use Rattle.policy_kinds.specs.declared.kind.Kind.{Kind}
-use Rattle.sim_core.specs.Loaded.{kinds_of}
-use Rattle.sim_core.proofs.Plans.{policy_new}
+use Rattle.sim_core.proofs.Plans.{kinds_of, policy_new}
 use Rattle.sim_core.proofs.planning.policies.Goals as goal
 
 pub loop-policy-preserved : goal.loop-policy-preserved

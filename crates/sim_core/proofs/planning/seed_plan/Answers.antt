@@ -1,6 +1,5 @@
-use Rattle.std.proofs.Common.{◌≡◌, ◌∙◌, ◌+◌, ◌<◌, ◌++◌, ap, subst, sym, length, get_or, take, map, List, ℕ, arith}
-use Rattle.sim_core.specs.Loaded.{leaks_from, planned}
-use Rattle.sim_core.proofs.Plans.{leaks_more}
+use Rattle.std.proofs.Common.{◌≡◌, ◌∙◌, ◌+◌, ◌<◌, ◌++◌, ap, subst, sym, length, get_or, take, [], List, ℕ, arith}
+use Rattle.sim_core.proofs.Plans.{leaks_from, leaks_in, leaks_more, planned}
 use Rattle.sim_core.proofs.planning.seed_plan.Goals as goal
 
 pub loop-leakers-preserved : goal.loop-leakers-preserved
@@ -15,6 +14,6 @@ loop-leakers-preserved c =
           (subst (λ (ls : List (List ℕ)). i < length ls) items c.loop-leakers-test.true)
           (c.leakers-item.is ∙ ap (λ (ls : List (List ℕ)). get_or ls i c.leakers-item.result) items)
           c.loop-leakers.invariant.round
-          (c.in_ok-leak_all.ensures announced (leaks_from 2 (take i c.args.scenario.now.leaks)) (c.loop-leakers.invariant.plan ∙ ap (λ (ls : List (List ℕ)). planned announced (leaks_from 2 (take i ls))) items)
-          ∙ ap (λ (l : List ℕ). planned announced (leaks_from 2 (take i c.args.scenario.now.leaks) ++ map (λ a. (c.loop-leakers.round, a)) l)) c.as_slice.ensures));
+          (c.in_ok-leak_all.ensures (planned announced []) (leaks_from 2 (take i c.args.scenario.now.leaks)) (c.loop-leakers.invariant.plan ∙ ap (λ (ls : List (List ℕ)). planned announced (leaks_from 2 (take i ls))) items)
+          ∙ ap (λ (l : List ℕ). planned announced (leaks_from 2 (take i c.args.scenario.now.leaks) ++ leaks_in c.loop-leakers.round l)) c.as_slice.ensures));
     }

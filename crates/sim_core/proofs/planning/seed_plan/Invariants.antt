@@ -1,5 +1,5 @@
 use Rattle.std.proofs.Common.{◌≡◌, ◌+◌, take}
-use Rattle.sim_core.specs.Loaded.{leaks_from, planned}
+use Rattle.sim_core.proofs.Plans.{leaks_from, planned}
 use Rattle.sim_core.proofs.planning.seed_plan.Given as goal
 
 abbrev pub invariant-loop-leakers : goal.invariant-loop-leakers
