@@ -129,15 +129,15 @@ module _ (pool : PathPool) (plan : Plan) (xs : List Announced) (limits : IsWithi
 module _ (r : Rounds) (p : RoundsPlan) (open_plan : IsOpenPlan r p) where
   pub has_changes : (after : Plan) (count : ℕ) → after.prefixes ≡ (plan_of r).prefixes → count ≡ round_count r → (now : Family) → ((round : ℕ) (prefix : PrefixValue) (a : ℕ) → now round prefix a ≡ kept_with r p round prefix a)
       → HasChanges after count (kept r) now (count_told p.done)
-  has_changes after count prefixes rounds now is = record {
-    triples = all_changed p.changes.items;
-    apart = apart_pairs (all_changed p.changes.items) (apart-all_changed r.tables.items p.changes.items open_plan.changes);
-    are = λ round prefix a. (
+  has_changes after count prefixes rounds now is = (
+    all_changed p.changes.items,
+    apart_pairs (all_changed p.changes.items) (apart-all_changed r.tables.items p.changes.items open_plan.changes),
+    length-all_changed p.changes.items ∙ sym open_plan.count,
+    λ round prefix a. (
       (λ c. changed (round, (prefix, a)) (stands_changed r.tables.items p.changes.items open_plan.changes (round, (prefix, a)) (to_stands (all_changed p.changes.items) (round, (prefix, a)) c))),
       (λ h. from_stands (all_changed p.changes.items) (round, (prefix, a)) (changed_stands r.tables.items p.changes.items open_plan.changes (round, (prefix, a)) (by (round, (prefix, a)) h (change_in p.changes.items round prefix a) refl))),
-    );
-    number = length-all_changed p.changes.items ∙ sym open_plan.count;
-  }
+    ),
+  )
     where
       Differs : ℕ × (PrefixValue × ℕ) → Type 0
       Differs t = (1 ≤ t.0) × (t.0 ≤ count) × IsTrue (has_prefix after t.1.0) × (now t.0 t.1.0 t.1.1 ≢ kept r t.0 t.1.0 t.1.1)

@@ -24,17 +24,17 @@ AreSame plan rounds g h = (round : ℕ) (p : PrefixValue) → 1 ≤ round → ro
 
 -- the triples of the one list are those of the other
 carried : (plan : Plan) (rounds : ℕ) (old new past now : Family) (m n : ℕ) → AreSame plan rounds old past → AreSame plan rounds new now → (x : HasChanges plan rounds old new m) (y : HasChanges plan rounds past now n)
-    → (z : ℕ × (PrefixValue × ℕ)) → Contains x.triples z → Contains y.triples z
+    → (z : ℕ × (PrefixValue × ℕ)) → Contains x.0 z → Contains y.0 z
 carried plan rounds old new past now m n before after x y z c =
-    let is = (x.are z.0 z.1.0 z.1.1).0 c in
-    (y.are z.0 z.1.0 z.1.1).1 (is.0, is.1, is.2, λ same. is.3 (after z.0 z.1.0 is.0 is.1 is.2 z.1.1 ∙ (same ∙ sym (before z.0 z.1.0 is.0 is.1 is.2 z.1.1))))
+    let is = (x.3 z.0 z.1.0 z.1.1).0 c in
+    (y.3 z.0 z.1.0 z.1.1).1 (is.0, is.1, is.2, λ same. is.3 (after z.0 z.1.0 is.0 is.1 is.2 z.1.1 ∙ (same ∙ sym (before z.0 z.1.0 is.0 is.1 is.2 z.1.1))))
 
 -- one number of triples differ
 one_number : (plan : Plan) (rounds : ℕ) (old new past now : Family) (m n : ℕ) → AreSame plan rounds old past → AreSame plan rounds new now → HasChanges plan rounds old new m → HasChanges plan rounds past now n → m ≡ n
 one_number plan rounds old new past now m n before after x y =
-    let order = same_elements x.triples y.triples x.apart y.apart (carried plan rounds old new past now m n before after x y)
+    let order = same_elements x.0 y.0 x.1 y.1 (carried plan rounds old new past now m n before after x y)
     (carried plan rounds past now old new n m (λ r p low high known a. sym (before r p low high known a)) (λ r p low high known a. sym (after r p low high known a)) y x) in
-    sym x.number ∙ (sym (length_permutation x.triples y.triples order) ∙ y.number)
+    sym x.2 ∙ (sym (length_permutation x.0 y.0 order) ∙ y.2)
 
 -- one number of entries differ between what is kept of two worlds
 pub one_count : (w after : World) (k l now again : Kept) (m n : ℕ) → IsKept w k → IsKept w l → IsKept after now → IsKept after again → after.rounds ≡ w.rounds → ((p : PrefixValue) → has_prefix after.plan p ≡ has_prefix w.plan p)

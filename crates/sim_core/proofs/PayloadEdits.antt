@@ -159,12 +159,7 @@ payload_differs g h rounds touched graph book touches = record {
 
 -- nothing differs
 pub no_changes : (plan : Plan) (rounds : ℕ) (f : Family) → HasChanges plan rounds f f 0
-no_changes plan rounds f = record {
-  triples = [];
-  apart = λ i j d before last. absurd (omega (arith, last));
-  are = λ round prefix a. ((λ c. absurd (omega (arith, c.1))), (λ h. absurd (h.3 refl)));
-  number = refl;
-}
+no_changes plan rounds f = ([], λ i j d before last. absurd (omega (arith, last)), refl, λ round prefix a. ((λ c. absurd (omega (arith, c.1))), (λ h. absurd (h.3 refl))))
 
 pub no_steps : (w after : World) (e : Edit) (old new : Family) (n : ℕ) → IsQuick w after e old new n n
 no_steps w after e old new n = record { triples = []; apart = tt; counted = λ x h. absurd h; enough = omega arith }

@@ -9,4 +9,4 @@ use Rattle.sim_core.specs.World.{World, setting_of}
 -- each round's routing of each prefix is stable, with the seeds that follow from the round before, and no other routings of the world's rounds and prefixes are (Gao and Rexford 2001; RFC 7908, section 3)
 pub record IsOneFamily (w : World) (g : Family) : Type 0 where
   pub is : AreRounds (setting_of w) w.plan w.rounds g
-  pub only : (other : Family) → AreRounds (setting_of w) w.plan w.rounds other → (before : ℕ) (prefix : PrefixValue) → before < w.rounds → IsTrue (has_prefix w.plan prefix) → (a : ℕ) → other (suc before) prefix a ≡ g (suc before) prefix a
+  pub only : (other : Family) → AreRounds (setting_of w) w.plan w.rounds other → (n : ℕ) (p : PrefixValue) → n < w.rounds → IsTrue (has_prefix w.plan p) → (a : ℕ) → other (suc n) p a ≡ g (suc n) p a
