@@ -23,13 +23,13 @@ record Agree (closes : Type 0) (s t : Text) (r q : Bool) (x y : World) : Type 0 
 
 -- an edit with a reason to be refused is not allowed
 not_allowed : (w : World) (e : Edit) (x : EditError) → IsReason w e x → IsAllowed w e → ⊥
-not_allowed w e edit.Memory h a = h
-not_allowed w e (edit.AbsentLink lo hi) h a = let f = a.accepted in cc
-not_allowed w e (edit.AbsentVrp vrp) h a = let f = a.accepted in cc
-not_allowed w e (edit.UnknownPrefix prefix) h a = let f = a.accepted in cc
-not_allowed w e (edit.AbsentAnnouncement prefix asn) h a = let f = a.accepted in cc
-not_allowed w e (edit.Limit which) h a = let f = a.accepted in cc
-not_allowed w e (edit.ProviderCycle cycle) h a = a.no_cycle (cycle, h.1)
+not_allowed w e edit.Memory h a = let f = a.0 in cc
+not_allowed w e (edit.AbsentLink lo hi) h a = let f = a.0 in cc
+not_allowed w e (edit.AbsentVrp vrp) h a = let f = a.0 in cc
+not_allowed w e (edit.UnknownPrefix prefix) h a = let f = a.0 in cc
+not_allowed w e (edit.AbsentAnnouncement prefix asn) h a = let f = a.0 in cc
+not_allowed w e (edit.Limit which) h a = let f = a.0 in cc
+not_allowed w e (edit.ProviderCycle cycle) h a = a.1 (cycle, h.1)
 
 -- a reason that is a provider cycle
 closes_by : (w : World) (e : Edit) (x : EditError) → IsReason w e x → IsCycle x → ClosesCycle w (act.Edit e)
@@ -44,7 +44,7 @@ refusal_agrees w e x y s t h a b (inr cycles) none = absurd (none (closes_by w e
 same_count : OneCount → (w : World) (e : Edit) (k l now then : Kept) (m n : ℕ) (x y : World) → IsAllowed w e → IsKept w k → IsKept w l → x ≡ edited w e → y ≡ edited w e → IsKept x now → IsKept y then
     → HasChanges x.plan x.rounds k.routings now.routings m → HasChanges y.plan y.rounds l.routings then.routings n → m ≡ n
 same_count count w e k l now then m n x y allowed is others p q here there a b =
-    count w e k l now then m n allowed.accepted is others (subst (λ x. IsKept x now) p here) (subst (λ y. IsKept y then) q there)
+    count w e k l now then m n allowed.0 is others (subst (λ x. IsKept x now) p here) (subst (λ y. IsKept y then) q there)
     (subst (λ (x : World). HasChanges x.plan x.rounds k.routings now.routings m) p a) (subst (λ (y : World). HasChanges y.plan y.rounds l.routings then.routings n) q b)
 
 module _ (answer : OneAnswer) (count : OneCount) (reason : OneReason) where

@@ -1,5 +1,5 @@
 -- What is kept belongs to the edited world, and a refused edit leaves all as it was.
-use Rattle.std.proofs.Common.{◌≡◌, ◌≤◌, ℕ, false, nat_lt, List, None, option_map, Result, Ok, Err, IfOk, IfErr, OnOk, OnErr, unwrap_or, refl, sym, ap, subst, ◌∙◌, arith}
+use Rattle.std.proofs.Common.{◌≡◌, ◌≤◌, ℕ, true, nat_le, List, None, option_map, Result, Ok, Err, IfOk, IfErr, OnOk, OnErr, unwrap_or, refl, sym, ap, subst, ◌∙◌, arith}
 use Rattle.std.proofs.lemmas.Bool.{eq-eqb, eqb-true}
 use Rattle.std.proofs.lemmas.Bool.Decides.{nat_tests}
 use Rattle.std.specs.FinMap as fin
@@ -155,7 +155,7 @@ all_undone old mid same last first alike second world = record {
   same_rows = rest_rows same last second ∙ unchanged_rows mid same alike ∙ rest_rows old mid first;
 }
 
-within : (n most : ℕ) → n ≤ most → nat_lt most n ≡ false
+within : (n most : ℕ) → n ≤ most → nat_le n most ≡ true
 within n most h = grind (arith, nat_tests, h)
 
 -- a world that no limit refuses
@@ -167,10 +167,10 @@ pub small_world : (s : Parts) → IsSmall s.graph s.vrps → passed_limit (world
 small_world s small = no_limit (world_seen s) small.links s.small.announcements (subst (λ n. n ≤ 150000) (seen_count s) small.ases) small.payloads_in
 
 pub allowed_by : (w after : World) (e : Edit) → after ≡ edited w e → absent w e ≡ None → passed_limit after ≡ None → HasNoProviderCycle (relation (topology after)) → IsAllowed w e
-allowed_by w after e world there small none = record {
-  accepted = rw there (ap (option_map refused.Limit) (ap passed_limit (sym world) ∙ small));
-  no_cycle = λ cycle. none cycle.0 (subst (λ (x : World). IsProviderCycle (relation (topology x)) cycle.0) (sym world) cycle.1);
-}
+allowed_by w after e world there small none = (
+  rw there (ap (option_map refused.Limit) (ap passed_limit (sym world) ∙ small)),
+  λ cycle. none cycle.0 (subst (λ (x : World). IsProviderCycle (relation (topology x)) cycle.0) (sym world) cycle.1),
+)
 
 -- what was kept before an edit was begun belongs to the ground before it
 pub begun_belongs : (old mid : Parts) → AreRight old → (HasCycle (world_seen old) → ⊥) → KeepsRest old mid → BelongTo (ground_of old) mid.ranks mid.rounds mid.watches.items

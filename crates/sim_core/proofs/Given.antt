@@ -14,7 +14,7 @@ use Rattle.leak_round.specs.declared.rounds.Rounds.{Rounds}
 use Rattle.scenario_text.specs.declared.acts.Edit.{Edit}
 use Rattle.scenario_text.specs.declared.acts.Edit.TheVariants.{Policy}
 use Rattle.sim_core.specs.Editing.{IsGiven, IsRoomed, IsSmall, IsUnchanged, IsUndone, KeepsRest, ground_of}
-use Rattle.sim_core.specs.Edits.{IsEditRefusal, edited, passed_limit, refusal_of_edit, with_kind}
+use Rattle.sim_core.specs.Edits.{IsEditRefusal, edited, passed_limit, refusal_of_edit}
 use Rattle.sim_core.specs.Ground.{DiffersAround}
 use Rattle.sim_core.specs.Views.{world_seen}
 use Rattle.sim_core.specs.Steps.{IsTouched}
@@ -36,7 +36,7 @@ use Rattle.sim_core.specs.declared.errors.EditLimit.{EditLimit}
 use Rattle.sim_core.specs.declared.errors.EditLimit.TheVariants.{Ases}
 use Rattle.sim_core.specs.declared.parts.Parts.{Parts}
 use Rattle.sim_core.proofs.LinkEdits.{has_by, limit_ases, rest_both}
-use Rattle.sim_core.proofs.PolicyEdits.{get_with, given_back, is_key, kind_is}
+use Rattle.sim_core.proofs.PolicyEdits.{get_with, given_back, is_key, kind_is, with_kind}
 use Rattle.sim_core.proofs.Doing.{all_undone, rest_kept, rest_rows, small_world, unchanged_world}
 
 pub roomed_world : (old new : Parts) (a : ℕ) → IsRoomed old new a → world_seen new ≡ world_seen old

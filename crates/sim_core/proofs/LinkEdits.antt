@@ -1,5 +1,5 @@
 -- Edits of links.
-use Rattle.std.proofs.Common.{◌≡◌, ◌≢◌, ◌⊎◌, inl, inr, ◌<◌, ◌≤◌, ◌+◌, ◌==◌, ◌||◌, ℕ, Bool, true, false, IsTrue, cond, nat_lt, is_some, Option, None, Some, [], ◌∷◌, Result, Ok, Err, OnOk, OnErr, refl, sym, ap, subst, ◌∙◌, arith}
+use Rattle.std.proofs.Common.{◌≡◌, ◌≢◌, ◌⊎◌, inl, inr, ◌<◌, ◌≤◌, ◌+◌, ◌==◌, ◌||◌, ℕ, Bool, true, false, IsTrue, cond, nat_lt, nat_le, take, List, is_some, Option, None, Some, [], ◌∷◌, Result, Ok, Err, OnOk, OnErr, refl, sym, ap, subst, ◌∙◌, arith}
 use Rattle.std.specs.Prelude.{IfNone, IfSome}
 use Rattle.std.specs.Option.{option_map}
 use Rattle.std.proofs.lemmas.Bool.{cases_Bool, eq-eqb, eqb-true, true≢false}
@@ -9,7 +9,7 @@ use Rattle.std.specs.FinMap as fin
 use Rattle.std.specs.FinSet as set
 use Rattle.net_names.specs.Links.{LinkMap, converse}
 use Rattle.net_names.specs.declared.routes.Rel.{Rel}
-use Rattle.net_names.specs.declared.routes.Rel.TheVariants.{Customer}
+use Rattle.net_names.specs.declared.routes.Rel.TheVariants.{Customer, Peer, Provider}
 use Rattle.net_names.specs.Numbers.{occurs}
 use Rattle.net_names.proofs.Pairs.{pairs_total}
 use Rattle.as_graph.specs.declared.error.GraphError.{GraphError}
@@ -29,7 +29,7 @@ use Rattle.leak_round.specs.Rounds.{plan_of, round_count}
 use Rattle.leak_round.specs.declared.rounds.Rounds.{Rounds}
 use Rattle.scenario_text.specs.declared.acts.Edit.{Edit}
 use Rattle.scenario_text.specs.declared.acts.Edit.TheVariants.{Link}
-use Rattle.sim_core.specs.Editing.{HasLinks, IsLinkStop, IsSmall, IsUnchanged, IsUndone, KeepsRest, ground_of, links_with}
+use Rattle.sim_core.specs.Editing.{BeginsWithLink, HasLinks, IsLinkStop, IsSmall, IsUnchanged, IsUndone, KeepsRest, ground_of, links_with}
 use Rattle.sim_core.specs.Edits.{IsEditRefusal, absent, edited, refusal_of_edit}
 use Rattle.sim_core.specs.Ground.{DiffersAround}
 use Rattle.sim_core.specs.Views.{world_seen}
@@ -54,10 +54,10 @@ links_world old new a b links h = λ i. record {
 
 -- ---- limits
 
-pub over : (n most : ℕ) → most < n → nat_lt most n ≡ true
+pub over : (n most : ℕ) → most < n → nat_le n most ≡ false
 over n most h = grind (arith, nat_tests, h)
 
-pub within : (n most : ℕ) → n ≤ most → nat_lt most n ≡ false
+pub within : (n most : ℕ) → n ≤ most → nat_le n most ≡ true
 within n most h = grind (arith, nat_tests, h)
 
 -- the first limit that is passed is that of ASes
@@ -66,7 +66,9 @@ limit_ases w e there links announcements ases =
     rw (there, within (fin.len (edited w e).links) 1500000 links, within (fin.len (edited w e).plan.announced) 64 announcements, over (as_count (topology (edited w e))) 150000 ases) refl
 
 pub limit_announcements : (w : World) (e : Edit) → absent w e ≡ None → fin.len (edited w e).links ≤ 1500000 → nat_lt 64 (fin.len (edited w e).plan.announced) ≡ true → refusal_of_edit w e ≡ Some (refused.Limit Announcements)
-limit_announcements w e there links more = rw (there, within (fin.len (edited w e).links) 1500000 links, more) refl
+limit_announcements w e there links more =
+    let over : nat_le (fin.len (edited w e).plan.announced) 64 ≡ false = grind (arith, nat_tests, more) in
+    rw (there, within (fin.len (edited w e).links) 1500000 links, over) refl
 
 unfound : {X : Type 0} (o : Option X) → o ≡ None → is_some o ≡ false
 unfound o e = ap is_some e
@@ -138,6 +140,12 @@ fits_any g a b r is (Some s) = fits_linked g a b r is s
 
 -- ---- a new link
 
+-- what begins with a link has its provider and then its customer
+begins : (a b : ℕ) (r : Rel) (xs : List ℕ) → BeginsWithLink (Link a b r) xs → (x y : ℕ) × (take 2 xs ≡ x ∷ y ∷ []) × ((Link a b r ≡ Link x y Customer) ⊎ (Link a b r ≡ Link y x Provider))
+begins a b Customer xs h = (a, b, ap (take 2) h.1, inl refl)
+begins a b Provider xs h = (b, a, ap (take 2) h.1, inr refl)
+begins a b Peer xs h = absurd h
+
 -- a link that is not kept is refused
 pub link_stopped : (w : World) (graph : Topology) (a b : ℕ) (r : Rel) (e : EditError) → refusal_of_edit w (Link a b r) ≡ None → relation graph ≡ relation (topology (edited w (Link a b r))) → IsLinkStop graph a b r e → IsEditRefusal w (Link a b r) e
 link_stopped w graph a b r refused.Memory none same h = tt
@@ -146,7 +154,7 @@ link_stopped w graph a b r (refused.AbsentVrp vrp) none same h = absurd h
 link_stopped w graph a b r (refused.UnknownPrefix prefix) none same h = absurd h
 link_stopped w graph a b r (refused.AbsentAnnouncement prefix x) none same h = absurd h
 link_stopped w graph a b r (refused.Limit which) none same h = absurd h
-link_stopped w graph a b r (refused.ProviderCycle cycle) none same h = (none, subst (λ v. IsProviderCycle v cycle) same h.0, h.1)
+link_stopped w graph a b r (refused.ProviderCycle cycle) none same h = (let first = begins a b r cycle h.1 in (none, subst (λ v. IsProviderCycle v cycle) same h.0, first.0, first.1, first.2, first.3))
 
 -- ASes of a graph are those of its links and marks
 pub has_by : (g h : Topology) → h.links ≡ g.links → h.marked ≡ g.marked → (a : ℕ) → has h a ≡ has g a

@@ -14,7 +14,6 @@ use Rattle.as_graph.proofs.RowAses.{occurs-append}
 use Rattle.policy_kinds.specs.declared.kind.Kind.{Kind}
 use Rattle.policy_kinds.specs.declared.kind.Kind.TheVariants.{Plain, DropInvalid, PreferValid, ProviderFirst, Otc, DropInvalidOtc}
 use Rattle.stability_laws.specs.Plans.{Plan, announcers_of}
-use Rattle.sim_core.specs.Edits.{with_kind}
 use Rattle.sim_core.specs.Loaded.{is_other}
 use Rattle.sim_core.specs.World.{graph_of, named}
 
@@ -122,6 +121,10 @@ other_gone false o not_plain e = not_plain e
 
 pub taken_other : (m : Kinds) (a : ℕ) → AreOther m → AreOther (fin.remove m a)
 taken_other m a are q e = other_gone (eq_by_cmp nat_cmp q a) (fin.get m q) (are q) (sym (fin.get-remove nat_cmp_total m a q) ∙ e)
+
+-- the policies in which the AS has this kind; nobody is named for the plain one
+abbrev pub with_kind : Kinds → ℕ → Kind → Kinds
+with_kind kinds a kind = cond (is_other (a, kind)) (fin.insert kinds a kind) (fin.remove kinds a)
 
 -- the policy that the AS had, given back
 pub get_with : (m : Kinds) (a : ℕ) (k : Kind) (q : ℕ) → fin.get (with_kind m a k) q ≡ cond (eq_by_cmp nat_cmp q a) (cond (is_other (a, k)) (Some k) None) (fin.get m q)

@@ -9,7 +9,6 @@ use Rattle.scenario_text.specs.declared.acts.Edit.{Edit}
 
 -- a reason is the first one, or a provider cycle where there is none
 reason_is : (w : World) (e : Edit) (x : EditError) → IsReason w e x → ((refusal_of_edit w e ≡ None) × IsCycle x) ⊎ (refusal_of_edit w e ≡ Some x)
-reason_is w e refused.Memory h = absurd h
 reason_is w e (refused.ProviderCycle cycle) h = inl (h.0, (cycle, refl))
 reason_is w e x h = inr h
 

@@ -1,9 +1,10 @@
 -- Plans of seeds after an edit of an announcement.
-use Rattle.std.proofs.Common.{◌≡◌, ◌≢◌, ◌≤◌, ◌==◌, ◌+◌, ◌-◌, ℕ, suc, nat_le, nat_lt, arith, Bool, true, false, cond, Option, Some, None, List, [], ◌∷◌, length, inl, inr, refl, sym, ap, subst, ◌∙◌}
+use Rattle.std.proofs.Common.{◌≡◌, ◌≢◌, ◌<◌, ◌≤◌, ◌==◌, ◌+◌, ◌-◌, ℕ, suc, nat_le, nat_lt, arith, Bool, true, false, cond, Option, Some, None, List, [], ◌∷◌, length, inl, inr, refl, sym, ap, subst, ◌∙◌}
 use Rattle.std.specs.Prelude.{slice_get}
 use Rattle.std.proofs.lemmas.Bool.{eqb-true, le-leb, leb-true, ltb-true, or_cases, true≢false}
 use Rattle.std.specs.Cmp.{both_ways}
 use Rattle.std.specs.Ordering.{eq_by_cmp}
+use Rattle.std.proofs.lemmas.Bool.Decides.{nat_tests}
 use Rattle.std.specs.FinMap as fin
 use Rattle.std.specs.FinSet as set
 use Rattle.net_names.specs.Numbers.{occurs}
@@ -16,7 +17,6 @@ use Rattle.stability_laws.proofs.KeyLists.{eq_is, eq_same, insert_there}
 use Rattle.stability_laws.proofs.PlanListings.{announcers_listed}
 use Rattle.net_names.specs.Orders.{announcement_total, exact_announcement, exact_prefix, prefix_total}
 use Rattle.leak_round.specs.Limits.{IsWithinLimits}
-use Rattle.sim_core.proofs.LinkEdits.{over, within}
 use Rattle.sim_core.proofs.PayloadEdits.{there_unit}
 use Rattle.sim_core.proofs.Standing.{stands}
 
@@ -80,6 +80,12 @@ other_announcers p e x other =
     (still p (edited p e) x (other_paths p e x other))
 
 -- ---- limits
+
+over : (n most : ℕ) → most < n → nat_lt most n ≡ true
+over n most h = grind (arith, nat_tests, h)
+
+within : (n most : ℕ) → n ≤ most → nat_lt most n ≡ false
+within n most h = grind (arith, nat_tests, h)
 
 -- how many announcements there are then
 len_with : (p : Plan) (prefix : PrefixValue) (path : List ℕ) (known : Bool) → announces p prefix (announcer_of path) ≡ known → fin.len (with_announcement p prefix path).announced ≡ cond known (fin.len p.announced) (fin.len p.announced + 1)

@@ -1,9 +1,10 @@
 -- What an edit does to a simulation.
-use Rattle.std.specs.Prelude.{◌≡◌, ◌≢◌, ◌≤◌, ℕ, true, IsTrue, Option, None, Some, Result, Ok, Err}
+use Rattle.std.specs.Prelude.{◌≡◌, ◌≢◌, ◌≤◌, ℕ, true, IsTrue, List, ◌∷◌, Option, None, Some, Result, Ok, Err}
 use Rattle.std.specs.FinMap as fin
 use Rattle.std.specs.FinSet as set
 use Rattle.net_names.specs.Links.{LinkMap}
 use Rattle.net_names.specs.declared.routes.Rel.{Rel}
+use Rattle.net_names.specs.declared.routes.Rel.TheVariants.{Customer, Provider}
 use Rattle.as_graph.specs.Edits.{with_link, without_link}
 use Rattle.as_graph.specs.Hierarchy.{IsProviderCycle}
 use Rattle.as_graph.specs.Room.{is_room_for, is_room_with}
@@ -20,7 +21,7 @@ use Rattle.scenario_text.specs.declared.acts.Edit.TheVariants as edit
 use Rattle.stability_laws.specs.SeedEdits.{IsEditOf, IsEditWithin, edited as edited_plan}
 use Rattle.stability_laws.specs.declared.seed_plan.edits.SeedEdit.{SeedEdit}
 use Rattle.stability_laws.specs.declared.seed_plan.edits.SeedEdit.TheVariants as seeds
-use Rattle.sim_core.specs.Edits.{BeginsWithLink, IsAllowed, IsEditRefusal, absent, edited, with_kind}
+use Rattle.sim_core.specs.Edits.{IsAllowed, IsEditRefusal, absent, edited}
 use Rattle.sim_core.specs.Ground.{AreSeenAlike, BelongTo, Ground}
 use Rattle.sim_core.specs.Views.{AreRight, kept, rows_seen, world_seen}
 use Rattle.sim_core.specs.World.{World}
@@ -112,6 +113,12 @@ pub record IsUnchanged (old new : Parts) : Type 0 where
   pub readers : new.readers ≡ old.readers
   pub alike : AreSeenAlike old.ranks new.ranks old.rounds new.rounds old.watches.items new.watches.items
 
+-- the list begins with the new link: its provider and then its customer
+abbrev pub BeginsWithLink : Edit → List ℕ → Type 0
+BeginsWithLink (edit.Link a b Customer) xs = (rest : List ℕ) × (xs ≡ a ∷ b ∷ rest)
+BeginsWithLink (edit.Link a b Provider) xs = (rest : List ℕ) × (xs ≡ b ∷ a ∷ rest)
+BeginsWithLink e xs = ⊥
+
 -- why a link is not kept: memory is wanting, or the graph has this provider cycle, which begins with the link
 abbrev pub IsLinkStop : Topology → ℕ → ℕ → Rel → EditError → Type 0
 IsLinkStop graph a b rel refused.Memory = Unit {0}
@@ -129,7 +136,7 @@ pub record IsGiven (old new : Parts) (a : ℕ) (kind : Kind) : Type 0 where
   pub links : new.graph.links ≡ old.graph.links
   pub room : new.graph.room ≡ old.graph.room
   pub others : (x : ℕ) → x ≢ a → has new.graph x ≡ has old.graph x
-  pub named : new.book.named ≡ with_kind old.book.named a kind
+  pub named : new.book.named ≡ (edited (world_seen old) (edit.Policy a kind)).kinds
   pub book_room : new.book.room ≡ old.book.room
   pub readers : new.readers ≡ old.readers
   pub vrps : new.vrps ≡ old.vrps

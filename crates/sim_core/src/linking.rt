@@ -1,5 +1,5 @@
 //! Edits of links.
-ghost use Rattle.std.specs.Prelude.{◌≡◌, ◌≢◌, ◌≤◌, ℕ, true, Some, None, [], ◌∷◌, IfOk, IfErr, OnOk, OnErr, IfNone, IfSome};
+ghost use Rattle.std.specs.Prelude.{◌≡◌, ◌≢◌, ◌≤◌, ℕ, nat_lt, if◌then◌else◌, true, Some, None, [], ◌∷◌, IfOk, IfErr, OnOk, OnErr, IfNone, IfSome};
 ghost use Rattle.as_graph.specs.declared.error.GraphError.{GraphError as AGraphError};
 ghost use Rattle.as_graph.specs.Hierarchy.{HasNoProviderCycle};
 ghost use Rattle.as_graph.specs.Refusals.{IsLinkRefusal};
@@ -11,7 +11,8 @@ ghost use Rattle.leak_round.specs.Touched.{touches};
 ghost use Rattle.path_pool.specs.Pool.{live_count};
 ghost use Rattle.scenario_text.specs.declared.acts.Edit.TheVariants.{Link, Unlink};
 ghost use Rattle.sim_core.specs.Editing.{HasLinks, IsChanged, IsEdited, IsLinkStop, IsUnchanged, IsUndone, ground_of, links_with};
-ghost use Rattle.sim_core.specs.Edits.{IsEditRefusal, absent_link as absent_link_of};
+ghost use Rattle.sim_core.specs.Edits.{IsEditRefusal};
+ghost use Rattle.sim_core.specs.declared.errors.EditError.TheVariants.{AbsentLink};
 ghost use Rattle.sim_core.specs.Ground.{BelongTo, DiffersAround, Ground as AGround};
 ghost use Rattle.sim_core.specs.Views.{AreRight, kept, world_seen};
 ghost use Rattle.sim_core.specs.Steps.{AreFewSteps, IsQuick};
@@ -33,7 +34,7 @@ use std::sync::ledger::Ledger;
 
 // The refusal of a pair without a link.
 fn absent_link(a: Asn, b: Asn) -> EditError
-    ensures { result ≡ absent_link_of a b }
+    ensures { result ≡ (if nat_lt a b then AbsentLink a b else AbsentLink b a) }
 {
     if a < b {
         EditError::AbsentLink { lo: a, hi: b }

@@ -8,7 +8,7 @@ ghost use Rattle.as_graph.specs.Room.{is_room_for};
 ghost use Rattle.as_graph.specs.Topology.{relation};
 ghost use Rattle.cycle_check.specs.Cycles.{without_pair};
 ghost use Rattle.scenario_text.specs.declared.acts.Edit.TheVariants.{Link};
-ghost use Rattle.sim_core.specs.Edits.{BeginsWithLink};
+ghost use Rattle.sim_core.specs.Editing.{BeginsWithLink};
 
 use as_graph::{Graph, links_are_set, links_are_sound, links_are_taken};
 use cycle_check::{Cycle, closes};

@@ -4,7 +4,7 @@ use Rattle.net_names.specs.declared.routes.Rel.TheVariants.{Customer}
 use Rattle.as_graph.specs.Edits.{without_link}
 use Rattle.as_graph.specs.Topology.{relation}
 use Rattle.scenario_text.specs.declared.acts.Edit.TheVariants.{Link}
-use Rattle.sim_core.specs.Edits.{BeginsWithLink}
+use Rattle.sim_core.specs.Editing.{BeginsWithLink}
 use Rattle.sim_core.proofs.CycleLemmas.{closed_cycle, closed_none, none_below, peers_below, set_again, turned}
 use Rattle.sim_core.proofs.links.closed_by.Goals as goal
 
