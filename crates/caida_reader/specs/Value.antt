@@ -36,7 +36,12 @@ link_fault n r pairs (Some f) = if sameb the_type f.rel r then None else Some (C
 
 -- The fault of a line of this number, where the lines before it give these pairs, each with its first line.
 abbrev pub fault_at : fin.FinMap pair_cmp First → ℕ → Said → Option RelError
-fault_at before n said = elim said [ Nothing ↦ None | Unreadable ↦ Some (fault.Unreadable n) | Itself ↦ Some (SelfLink n) | Link lo hi r ↦ link_fault n r (fin.len before) (fin.get before (lo, hi)) ]
+fault_at before n said = elim said [
+  | Nothing ↦ None
+  | Unreadable ↦ Some (fault.Unreadable n)
+  | Itself ↦ Some (SelfLink n)
+  | Link lo hi r ↦ link_fault n r (fin.len before) (fin.get before (lo, hi))
+]
 
 -- The fault of a line that stands behind these lines.
 abbrev pub fault_after : List Said → Said → Option RelError

@@ -73,5 +73,8 @@ policy p d = object (map part_name (Number ∷ Policy ∷ [])) p d >>= λ _. Ok 
 -- the four lists of a document: it has announcements, and may have policies, lists of the leakers of a round, and watched addresses; a list that isn't there is empty (own format)
 unfoldable pub lists_in : Data → Result ScenarioValue ScenarioError
 lists_in d = object (map member_name (Announcements ∷ Policies ∷ Leaks ∷ Watch ∷ [])) document d
-    >>= λ _. Ok (λ a p l w. record { announcements = a; policies = unwrap_or p []; leaks = unwrap_or l []; watch = unwrap_or w [] }) ⊛ needed (list announcement) (in_member Announcements) d
-    ⊛ optional (list policy) (in_member Policies) d ⊛ optional (list (list asn)) (in_member Leaks) d ⊛ optional (list (text addr_of)) (in_member Watch) d
+    >>= λ _. Ok (λ a p l w. record { announcements = a; policies = unwrap_or p []; leaks = unwrap_or l []; watch = unwrap_or w [] })
+    ⊛ needed (list announcement) (in_member Announcements) d
+    ⊛ optional (list policy) (in_member Policies) d
+    ⊛ optional (list (list asn)) (in_member Leaks) d
+    ⊛ optional (list (text addr_of)) (in_member Watch) d

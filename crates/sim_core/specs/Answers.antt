@@ -32,7 +32,13 @@ refusal_of w q =
     let round = λ (n : ℕ). needs (has_round w n) (UnknownRound n) in
     let prefix = λ (p : PrefixValue). needs (has_prefix w.plan p) (UnknownPrefix p) in
     let known = λ (a : ℕ). needs (has (topology w) a) (UnknownAs a) in
-    elim q [ Routes n p ↦ round n (prefix p None) | Route n p a ↦ round n (prefix p (known a None)) | Trace n a _ ↦ round n (known a None) | Report n addr ↦ round n (needs (set.contains w.watched addr) (NotWatched addr) None) | _ ↦ None ]
+    elim q [
+      | Routes n p ↦ round n (prefix p None)
+      | Route n p a ↦ round n (prefix p (known a None))
+      | Trace n a _ ↦ round n (known a None)
+      | Report n addr ↦ round n (needs (set.contains w.watched addr) (NotWatched addr) None)
+      | _ ↦ None
+    ]
 
 -- the text is the answer to a query, by what is kept of the world and by its payloads (own format; `(same_end.ghosts).eq` says whether two ends are the same)
 abbrev pub IsAnswer : World → Kept → Query → List ℕ → Type 0

@@ -43,7 +43,10 @@ absent w e = None
 
 -- the first limit that a world passes: 1,500,000 links, 64 announcements, 150,000 ASes, 2,000,000 payloads
 abbrev pub passed_limit : World → Option EditLimit
-passed_limit w = needs (nat_le (fin.len w.links) MOST_LINKS) Links (needs (nat_le (fin.len w.plan.announced) MOST_ANNOUNCEMENTS) Announcements (needs (nat_le (as_count (topology w)) MOST_ASES) Ases (needs (nat_le (fin.len w.payloads) MOST_PAYLOADS) Vrps None)))
+passed_limit w = needs (nat_le (fin.len w.links) MOST_LINKS) Links
+    (needs (nat_le (fin.len w.plan.announced) MOST_ANNOUNCEMENTS) Announcements
+    (needs (nat_le (as_count (topology w)) MOST_ASES) Ases
+    (needs (nat_le (fin.len w.payloads) MOST_PAYLOADS) Vrps None)))
 
 -- why an edit is refused, but for provider cycles: what it names or takes away is not there, or else the edited world passes a limit
 abbrev pub refusal_of_edit : World → Edit → Option EditError

@@ -45,7 +45,17 @@ cause_of (Scenario scenario.NotJson) = (BadInput, codes "not JSON")
 cause_of (Scenario (scenario.Shape place)) = (BadInput, place_text place ++ codes ": wrong shape")
 cause_of (Scenario (scenario.Value place)) = (BadInput, place_text place ++ codes ": bad value")
 cause_of (Scenario (scenario.Twice place)) = (BadInput, place_text place ++ codes ": named twice")
-cause_of (Scenario (Limit which)) = (TooLarge, codes "more than " ++ codes (elim which [ Announcements ↦ "64 announcements" | Prefixes ↦ "32 prefixes" | Path ↦ "64 numbers in a path" | Rounds ↦ "4 rounds" | Leakers ↦ "64 leakers in a round" | Watch ↦ "16 watched addresses" ]))
+cause_of (Scenario (Limit which)) = (
+  TooLarge,
+  codes "more than " ++ codes (elim which [
+    | Announcements ↦ "64 announcements"
+    | Prefixes ↦ "32 prefixes"
+    | Path ↦ "64 numbers in a path"
+    | Rounds ↦ "4 rounds"
+    | Leakers ↦ "64 leakers in a round"
+    | Watch ↦ "16 watched addresses"
+  ]),
+)
 cause_of (Script (script.Unreadable n)) = (BadInput, placed "line" n "unreadable")
 cause_of (Script (script.TooMany n)) = (TooLarge, placed "line" n "more than 100000 commands")
 cause_of _ = (BadInput, [])
