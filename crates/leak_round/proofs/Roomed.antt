@@ -35,6 +35,9 @@ module _ (old : List RoundTables) (round : ℕ) (prefix : PrefixValue) (before :
   pub read_before : (x : Table) → table_in old round prefix ≡ Some x → table_at before prefix ≡ Some x
   read_before x at = sym (ap (option_and_then (λ (y : RoundTables). table_at y prefix)) before_is) ∙ at
 
+  pub read_back : (x : Table) → table_at before prefix ≡ Some x → table_in old round prefix ≡ Some x
+  read_back x at = ap (option_and_then (λ (y : RoundTables). table_at y prefix)) before_is ∙ at
+
   module _ (after : RoundTables) (p : IsRoomed before after prefix) where
     after_is : tables_in (set old (round - 1) after) round ≡ Some after
     after_is =

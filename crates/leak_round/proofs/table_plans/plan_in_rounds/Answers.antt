@@ -6,8 +6,13 @@ use Rattle.stability_laws.specs.World.{setting_in}
 use Rattle.leak_round.specs.Overlays.{table_in}
 use Rattle.leak_round.specs.Planning.{IsTablePlanned}
 use Rattle.leak_round.proofs.Listing.{some_of}
-use Rattle.leak_round.proofs.Roomed.{if_ok, roomed, all_same, read_before, read_after}
+use Rattle.leak_round.proofs.Roomed.{if_ok, roomed, all_same, read_before, read_back, read_after}
 use Rattle.leak_round.proofs.table_plans.plan_in_rounds.Goals as goal
+
+pub plan_in_round-requires-clause-can : goal.plan_in_round-requires-clause-can
+plan_in_round-requires-clause-can g c = λ x there.
+    let (t, at) = some_of (table_in c.args.tables.now.items c.args.at.now.round c.args.at.now.prefix) c.requires.there in
+    c.requires.can x (read_back c.args.tables.now.items c.args.at.now.round c.args.at.now.prefix c.index_mut.result.now c.index_mut.ensures.value t at x there)
 
 pub returns-clause-roomed : goal.returns-clause-roomed
 returns-clause-roomed g c =
