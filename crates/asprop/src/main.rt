@@ -1,21 +1,11 @@
 //! The routes of autonomous systems over the links of a relationship file, and answers to a script about them.
 //!
-//! `main` hands the real arguments, files and streams to `start`, whose contract says what the program does over
-//! arguments, inputs and sinks that tell what they hold; `run` is what it does over words.
+//! `main` hands the real arguments, files and streams to `start` of asprop_run, whose contract says what the program does
+//! over arguments, inputs and sinks that tell what they hold.
 #![tactic(auto)]
 
-mod answers;
-mod explain;
-mod laws;
-mod refusals;
-mod run;
-mod start;
-#[cfg(test)]
-mod tests;
-mod types;
-
+use asprop_run::start;
 use io_edge::{DirInputs, StdSink};
-use start::start;
 use std::env;
 use std::process::ExitCode;
 

@@ -1,8 +1,0 @@
-use Rattle.std.proofs.Common.{List, String, Global, subst, sym}
-use Rattle.asprop.specs.Started.{Gives}
-use Rattle.asprop.proofs.start.words_of.Goals as goal
-
-pub returns-in-Ok-collect : goal.returns-in-Ok-collect
-returns-in-Ok-collect c =
-    let r = c.in-Ok-collect.ensures.ran in
-    rw c.in-Ok.is (subst (λ (words : List (String Global)). Gives c.in-Ok.args words) (sym r.2.0) (r.1.0, r.1.1, λ _. r.1.2 tt))

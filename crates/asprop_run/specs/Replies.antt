@@ -1,0 +1,45 @@
+-- What is written for a task.
+use Rattle.std.specs.Prelude.{◌≡◌, ◌||◌, ℕ, Bool, true, false, Some, None, List, [], ◌∷◌, ◌++◌, codes, if◌then◌else◌, decimal}
+use Rattle.clap.specs.Walk.{Text}
+use Rattle.scenario_text.specs.LineValues.{LineValue}
+use Rattle.scenario_text.specs.declared.acts.Act.{Act}
+use Rattle.scenario_text.specs.declared.acts.Act.TheVariants as act
+use Rattle.sim_core.specs.World.{World}
+use Rattle.sim_core.specs.Kept.{Kept, IsKept}
+use Rattle.sim_core.specs.Answers.{IsAnswer, refusal_of}
+use Rattle.sim_core.specs.Edits.{HasChanges, IsAllowed, IsReason, edited}
+use Rattle.sim_core.specs.declared.errors.EditError.{EditError}
+use Rattle.sim_core.specs.declared.errors.QueryError.{QueryError}
+use Rattle.asprop_run.specs.Refusals.{edit_refusal_text, refusal_text}
+
+-- the text is what is told for what a line asks, and the world after it: a query is answered, or refused for its reason; an edit that is allowed leaves the edited world, and the text says how many entries of the one family of routings differ from those of the one family after it; one that is refused says why, and the world stays (own format)
+abbrev pub IsReply : World → Kept → Act → Text → Bool → World → Type 0
+IsReply w kept (act.Query q) text false after = (refusal_of w q ≡ None) × IsAnswer w kept q text × (after ≡ w)
+IsReply w kept (act.Query q) text true after = (e : QueryError) × (refusal_of w q ≡ Some e) × (text ≡ refusal_text e) × (after ≡ w)
+IsReply w kept (act.Edit e) text false after =
+    IsAllowed w e × (after ≡ edited w e) × (now : Kept) × IsKept after now
+    × (routes : ℕ) × HasChanges after.plan after.rounds kept.routings now.routings routes × (text ≡ codes "ok " ++ (decimal routes ++ 10 ∷ []))
+IsReply w kept (act.Edit e) text true after = (error : EditError) × IsReason w e error × (text ≡ edit_refusal_text error) × (after ≡ w)
+
+-- the reply to what a line asks was appended (own format)
+pub record AppendsReply (w : World) (kept : Kept) (asks : Act) (refused : Bool) (old new : Text) (after : World) : Type 0 where
+  pub text : Text
+  pub reply : IsReply w kept asks text refused after
+  pub appended : new ≡ old ++ text
+
+-- the head line of an answer, if there are head lines: `# ` and the line's number (own format)
+abbrev pub head : Bool → ℕ → Text
+head heads number = if heads then codes "# " ++ (decimal number ++ 10 ∷ []) else []
+
+-- the text is the head line and what is told for the line by the one and only stable routings of the world's rounds and by the ranks of its ASes, and the line leaves this world (Gao and Rexford 2001)
+abbrev pub AnswersLine : Bool → World → LineValue → Text → Bool → World → Type 0
+AnswersLine heads w line text refused after = (kept : Kept) × IsKept w kept
+    × (answer : Text) × IsReply w kept line.act answer refused after × (text ≡ head heads line.number ++ answer)
+
+-- the text answers the lines one after the other, each in the world that the lines before it leave; `refused` says whether an answer is a refusal (own format)
+abbrev pub AnswersLines : Bool → World → List LineValue → Text → Bool → Type 0
+AnswersLines heads w [] text refused = (text ≡ []) × (refused ≡ false)
+AnswersLines heads w (line ∷ lines) text refused =
+    (front rest : Text) × (first others : Bool) × (after : World)
+    × AnswersLine heads w line front first after × AnswersLines heads after lines rest others
+    × (text ≡ front ++ rest) × (refused ≡ (first || others))

@@ -1,0 +1,207 @@
+//! Answers to lines.
+ghost use Rattle.std.specs.Prelude.{◌≡◌, ◌<◌, ◌++◌, false, true, string_bytes, IfOk, OnOk, OnErr};
+ghost use Rattle.io_edge.specs.Bytes.{AppendsFront};
+ghost use Rattle.io_edge.specs.Faults.{HasCause};
+ghost use Rattle.sim_core.specs.Kept.{IsKept};
+ghost use Rattle.sim_core.specs.Sims.{kept, world_seen};
+ghost use Rattle.sim_core.specs.World.{HasCycle};
+ghost use Rattle.scenario_text.specs.LineValues.{AreSoundLines, IsWellFormed, IsSoundAct};
+ghost use Rattle.asprop_run.specs.Task.{first_text};
+ghost use Rattle.asprop_run.specs.Replies.{AnswersLine, AppendsReply, head};
+ghost use Rattle.asprop_run.specs.Streams.{stream_of};
+ghost use Rattle.asprop_run.specs.Written.{Answering, IsPassedOn};
+
+use crate::refusals::{put_done, put_edit_refusal, put_refusal};
+use crate::types::Failure;
+use io_edge::{Failed, Sink, write_all};
+use net_names::NoMemory;
+use route_choice::Steps;
+use scenario_text::{Act, Edit, Line, Query};
+use sim_core::{QueryError, Sim};
+use std::alloc::{AllocError, Global};
+use std::marker::Brand;
+use std::sync::ledger::{Blank, Ledger};
+
+// So many bytes of answers are held back at most, and then written together.
+const HELD_BACK: usize = 65_536;
+
+// Appends the head line.
+fn put_head(alloc: Global, number: u32, text: &mut Vec<u8>) -> Result<(), AllocError>
+    ensures { OnOk result (text.new.items ≡ text.old.items ++ head true number) }
+{
+    let line = format!(in alloc; "# {number}\n")?;
+    text.extend_from_slice(line.as_bytes())
+}
+
+// Appends the answer to a query, or the text of its refusal, and says whether it is refused.
+fn put_reply(sim: &Sim, query: &Query, text: &mut Vec<u8>) -> Result<bool, NoMemory>
+    ensures { IfOk result (λ refused. AppendsReply (world_seen sim.now) (kept sim.now) (Act.Query query.now) refused text.old.items text.new.items (world_seen sim.now)) }
+{
+    match sim.answer(query, text) {
+        Ok(()) => Ok(false),
+        Err(QueryError::Memory) => Err(NoMemory),
+        Err(error) => {
+            put_refusal(text, error)?;
+            Ok(true)
+        }
+    }
+}
+
+// Begins the text of an answer: with the head line, if there are head lines, or empty.
+fn begin_text(alloc: Global, heads: bool, line: &Line, text: &mut Vec<u8>) -> Result<(), NoMemory>
+    ensures { OnOk result (text.new.items ≡ head heads line.now.number) }
+{
+    text.clear();
+    if !heads {
+        return Ok(());
+    }
+    match put_head(alloc, line.number, text) {
+        Ok(()) => Ok(()),
+        Err(_) => Err(NoMemory),
+    }
+}
+
+// Edits the world, appends how many entries differ, or the text of the refusal, and says whether it is refused.
+fn put_edit<L: Ledger>(
+    alloc: Global,
+    sim: &mut Sim,
+    edit: &Edit,
+    text: &mut Vec<u8>,
+    blank: Blank,
+) -> Result<bool, NoMemory>
+    requires ledger { (blank.name ≡ L.name) × (blank.parts ≡ L.parts) × (0 < L.parts) }
+    requires ends { IsWellFormed edit.now }
+    requires kept { IsKept (world_seen sim.old) (kept sim.old) }
+    requires no_cycle { HasCycle (world_seen sim.old) → ⊥ }
+    ensures reply { IfOk result (λ refused. AppendsReply (world_seen sim.old) (kept sim.old) (Act.Edit edit.now) refused text.old.items text.new.items (world_seen sim.new)) }
+    ensures kept { OnOk result (IsKept (world_seen sim.new) (kept sim.new)) }
+    ensures no_cycle { OnOk result (HasCycle (world_seen sim.new) → ⊥) }
+{
+    let mut steps = Steps::<L>::new(blank);
+    match sim.edit(alloc, edit, &mut steps) {
+        Ok(changed) => {
+            put_done(text, changed.routes)?;
+            Ok(false)
+        }
+        Err(error) => {
+            put_edit_refusal(text, &error)?;
+            Ok(true)
+        }
+    }
+}
+
+// Makes the head line, if there are head lines, and the answer, and says whether it is a refusal.
+fn answer_line(
+    alloc: Global,
+    sim: &mut Sim,
+    heads: bool,
+    line: &Line,
+    text: &mut Vec<u8>,
+) -> Result<bool, NoMemory>
+    requires sound { IsSoundAct line.now.act }
+    requires kept { IsKept (world_seen sim.old) (kept sim.old) }
+    requires no_cycle { HasCycle (world_seen sim.old) → ⊥ }
+    ensures answered { IfOk result (λ refused. AnswersLine heads (world_seen sim.old) line.now text.new.items refused (world_seen sim.new)) }
+    ensures kept { OnOk result (IsKept (world_seen sim.new) (kept sim.new)) }
+    ensures no_cycle { OnOk result (HasCycle (world_seen sim.new) → ⊥) }
+{
+    begin_text(alloc, heads, line, text)?;
+    match &line.act {
+        Act::Query(query) => put_reply(sim, query, text),
+        Act::Edit(edit) => put_edit::<Brand>(alloc, sim, edit, text, Blank::new(1)),
+    }
+}
+
+// Holds a text back behind what is held back already, where that takes few bytes; else writes both.
+fn pass_on<O: Sink>(text: &[u8], held: &mut Vec<u8>, out: &mut O) -> Result<(), Failed>
+    ensures ok { OnOk result (IsPassedOn (O.written out.old) (O.written out.new) held.old.items text.now held.new.items) }
+    ensures err { OnErr result (AppendsFront (O.written out.old) (O.written out.new) (held.old.items ++ text.now)) }
+    ensures cause { HasCause (O.faults out.old) (O.faults out.new) result }
+{
+    let is_little = held.len() <= HELD_BACK && text.len() <= HELD_BACK - held.len();
+    if is_little && held.extend_from_slice(text).is_ok() {
+        return Ok(());
+    }
+    write_all(out, held)?;
+    held.clear();
+    write_all(out, text)
+}
+
+// Writes the answers to the lines one after the other, each in the world that the lines before it leave
+// and made whole before, and says whether one is a refusal. Short answers are written together. Where memory
+// runs out, the answers before are written.
+fn answer_all<O: Sink>(
+    alloc: Global,
+    sim: &mut Sim,
+    heads: bool,
+    lines: &[Line],
+    out: &mut O,
+) -> Result<bool, Failure>
+    requires sound { AreSoundLines lines.now }
+    requires kept { IsKept (world_seen sim.old) (kept sim.old) }
+    requires no_cycle { HasCycle (world_seen sim.old) → ⊥ }
+    ensures { Answering (record { world = world_seen sim.old; lines = lines.now; heads = heads; counts = false }) result (stream_of O.written O.faults out.old out.new) }
+{
+    let mut text: Vec<u8> = Vec::new(alloc);
+    let mut held: Vec<u8> = Vec::new(alloc);
+    let mut refused = false;
+    'lines: for line in lines {
+        match answer_line(alloc, sim, heads, line, &mut text) {
+            Err(_) => {
+                return match write_all(out, &held) {
+                    Err(Failed) => Err(Failure::Write),
+                    Ok(()) => Err(Failure::Memory),
+                };
+            }
+            Ok(first) => {
+                match pass_on(&text, &mut held, out) {
+                    Err(Failed) => return Err(Failure::Write),
+                    Ok(()) => {}
+                }
+                if first {
+                    refused = true;
+                }
+            }
+        }
+    }
+    match write_all(out, &held) {
+        Err(Failed) => Err(Failure::Write),
+        Ok(()) => Ok(refused),
+    }
+}
+
+// The numbers of ASes and links, if they come first.
+fn first_lines(alloc: Global, sim: &Sim, counts: bool) -> Result<String, AllocError>
+    ensures { IfOk result (λ text. string_bytes text ≡ first_text counts (world_seen sim.now)) }
+{
+    if !counts {
+        return Ok(String::new(alloc));
+    }
+    let (ases, links) = (sim.as_count(), sim.link_count());
+    format!(in alloc; "ases|{ases}\nlinks|{links}\n")
+}
+
+/// Writes the numbers of ASes and links, if they come first, and then the answers to the lines, one after the other,
+/// each in the world that the lines before it leave and made whole before. It says whether an answer is a refusal.
+pub fn write_answers<O: Sink>(
+    alloc: Global,
+    sim: &mut Sim,
+    counts: bool,
+    heads: bool,
+    lines: &[Line],
+    out: &mut O,
+) -> Result<bool, Failure>
+    requires sound { AreSoundLines lines.now }
+    requires kept { IsKept (world_seen sim.old) (kept sim.old) }
+    requires no_cycle { HasCycle (world_seen sim.old) → ⊥ }
+    ensures { Answering (record { world = world_seen sim.old; lines = lines.now; heads = heads; counts = counts }) result (stream_of O.written O.faults out.old out.new) }
+{
+    let Ok(first) = first_lines(alloc, sim, counts) else {
+        return Err(Failure::Memory);
+    };
+    match write_all(out, first.as_bytes()) {
+        Err(Failed) => return Err(Failure::Write),
+        Ok(()) => {}
+    }
+    answer_all(alloc, sim, heads, lines, out)
+}

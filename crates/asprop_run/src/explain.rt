@@ -1,0 +1,77 @@
+//! What is said of a failure.
+ghost use Rattle.std.specs.Prelude.{◌≡◌, IfOk, None, option_map};
+ghost use Rattle.asprop_run.specs.Texts.{ending_of};
+ghost use Rattle.asprop_run.specs.Runs.{Explained, Reports};
+ghost use Rattle.asprop_run.specs.Streams.{stream_of};
+ghost use Rattle.task_reading.specs.Words.{form_seen};
+
+use crate::types::Failure;
+use cycle_check::Cycle;
+use io_edge::{Sink, write_all};
+use net_names::NoMemory;
+use reports::put_numbers;
+use std::alloc::Global;
+use task_reading::{Status, WordForm, fault_message, fault_status};
+
+// The numbers of a cycle, the lowest first.
+fn cycle_message(alloc: Global, cycle: &Cycle) -> Result<Vec<u8>, NoMemory>
+    ensures { IfOk result (λ text. text.items ≡ (ending_of None (Err (Failure.Cycle cycle.now))).1) }
+{
+    let mut text = Vec::new(alloc);
+    if text.extend_from_slice(b"asprop: provider cycle: ").is_err() {
+        return Err(NoMemory);
+    }
+    put_numbers(&mut text, cycle.as_slice())?;
+    match text.push(b'\n') {
+        Ok(()) => Ok(text),
+        Err(_) => Err(NoMemory),
+    }
+}
+
+// Writes a text as far as the sink takes it.
+fn report<E: Sink>(err: &mut E, text: &[u8])
+    ensures { Reports text.now (stream_of E.written E.faults err.old err.new) }
+{
+    let _ = write_all(err, text);
+}
+
+/// Says why the work stopped, and gives its status. Where memory for the text is wanting, that is said instead.
+pub fn explain<E: Sink>(
+    alloc: Global,
+    form: &Option<WordForm<'_>>,
+    failure: &Failure,
+    err: &mut E,
+) -> Status
+    ensures { Explained (option_map form_seen form.now) failure.now result (stream_of E.written E.faults err.old err.new) }
+{
+    match failure {
+        Failure::Memory => {
+            report(err, b"asprop: out of memory\n");
+            Status::NoMemory
+        }
+        Failure::Write => {
+            report(err, b"asprop: write fault\n");
+            Status::WriteFault
+        }
+        Failure::Cycle(cycle) => match cycle_message(alloc, cycle) {
+            Ok(text) => {
+                report(err, &text);
+                Status::BadInput
+            }
+            Err(_) => {
+                report(err, b"asprop: out of memory\n");
+                Status::NoMemory
+            }
+        },
+        Failure::Fault(fault) => match fault_message(alloc, form, *fault) {
+            Ok(text) => {
+                report(err, text.as_bytes());
+                fault_status(*fault)
+            }
+            Err(_) => {
+                report(err, b"asprop: out of memory\n");
+                Status::NoMemory
+            }
+        },
+    }
+}

@@ -1,0 +1,92 @@
+//! The top call.
+ghost use Rattle.std.specs.Prelude.{◌≡◌, ◌⊎◌, IsSomeAnd, map, option_map, string_bytes};
+ghost use Rattle.io_edge.specs.Faults.{HasRisen};
+ghost use Rattle.asprop_run.specs.Runs.{IsRun, Worked};
+ghost use Rattle.asprop_run.specs.Streams.{stream_of};
+ghost use Rattle.task_reading.specs.Sources.{source_of};
+ghost use Rattle.task_reading.specs.Words.{HasSize, form_of, form_seen, name_by};
+ghost use Rattle.task_reading.specs.declared.types.File.{File};
+
+use crate::answers::write_answers;
+use crate::explain::explain;
+use crate::types::Failure;
+use io_edge::{Inputs, Sink};
+use sim_core::{LoadError, Sim};
+use std::alloc::Global;
+use task_reading::{AskError, Asked, Fault, Status, WordForm, ask, read_words};
+
+// Reads the files that the form names, and writes the answers.
+fn work<I: Inputs, O: Sink>(
+    alloc: Global,
+    form: &Option<WordForm<'_>>,
+    inputs: &mut I,
+    out: &mut O,
+) -> Result<bool, Failure>
+    requires sized { HasSize (option_map form_seen form.now) }
+    ensures { Worked (source_of I.holds I.is_sound I.faults inputs.old inputs.new)
+        (option_map form_seen form.now) result (stream_of O.written O.faults out.old out.new) }
+{
+    let Asked {
+        links,
+        vrps,
+        scenario,
+        lines,
+        heads,
+        counts,
+    } = match ask(alloc, form, inputs) {
+        Ok(asked) => asked,
+        Err(AskError::Memory) => return Err(Failure::Memory),
+        Err(AskError::Fault(fault)) => return Err(Failure::Fault(fault)),
+    };
+    match Sim::load(alloc, links, vrps, scenario) {
+        Ok(mut sim) => write_answers(alloc, &mut sim, counts, heads, lines.as_slice(), out),
+        Err(LoadError::Memory) => Err(Failure::Memory),
+        Err(LoadError::TooManyAses) => Err(Failure::Fault(Fault::TooManyAses)),
+        Err(LoadError::ProviderCycle(cycle)) => Err(Failure::Cycle(cycle)),
+    }
+}
+
+/// Reads the words and the files that they name, writes the answers to `out`, and says on `err` why
+/// it stopped.
+///
+/// The first word is the program's name. The order of the work is: the words, the relationship
+/// file, the payload file, the scenario, the script, the number of ASes, the provider cycle, the
+/// answers, line by line, each made whole before it is written. A line that edits the world, by a
+/// link, a policy, a payload or an announcement, changes it for the lines after it, unless it is
+/// refused. Nothing is written to `out` before all files have been read and judged.
+///
+/// Where the bytes of the files are told, the law `told_files_are_answered` says what a run over them is.
+pub fn run<I: Inputs, O: Sink, E: Sink>(
+    alloc: Global,
+    words: &[String],
+    inputs: &mut I,
+    out: &mut O,
+    err: &mut E,
+) -> Status
+    // What was read of the files, how the run ends, what it writes, and what it says of a fault.
+    ensures ran { IsRun (source_of I.holds I.is_sound I.faults inputs.old inputs.new)
+        (map string_bytes words.now) result (stream_of O.written O.faults out.old out.new)
+        (stream_of E.written E.faults err.old err.new) }
+    // Usage comes where the words have no form, and there nothing else but want of memory.
+    ensures usage { form_of (map string_bytes words.now) ≡ None
+        → (result ≡ Status.Usage) ⊎ (result ≡ Status.NoMemory) }
+    ensures usage_only { result ≡ Status.Usage → form_of (map string_bytes words.now) ≡ None }
+    // ReadFault comes only where a read failed of a file that the words name, and WriteFault only
+    // where a write failed.
+    ensures read_fault { result ≡ Status.ReadFault
+        → (file : File) × IsSomeAnd (name_by (form_of (map string_bytes words.now)) file)
+        (source_of I.holds I.is_sound I.faults inputs.old inputs.new).fails }
+    ensures write_fault { result ≡ Status.WriteFault
+        → HasRisen (O.faults out.old) (O.faults out.new) }
+{
+    // The form says which files are read, and how a fault names them.
+    let form = match read_words(alloc, words) {
+        Ok(form) => form,
+        Err(_) => return explain(alloc, &None, &Failure::Memory, err),
+    };
+    match work(alloc, &form, inputs, out) {
+        Ok(true) => Status::SomeRefused,
+        Ok(false) => Status::Done,
+        Err(failure) => explain(alloc, &form, &failure, err),
+    }
+}
