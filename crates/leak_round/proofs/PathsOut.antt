@@ -6,8 +6,8 @@ use Rattle.std.specs.Ordering.{eq_by_cmp, nat_cmp}
 use Rattle.std.proofs.lemmas.Bool.{eqb-true, eq-eqb, ne_eqb}
 use Rattle.net_names.specs.Numbers.{occurs}
 use Rattle.stability_laws.specs.declared.entry.Seed.{Seed}
+use Rattle.stability_laws.proofs.Leaking.{occurs_more}
 use Rattle.leak_round.specs.SeedPaths.{HaveAtMost}
-use Rattle.leak_round.proofs.Leaking.{occurs_more}
 
 module _ (m : map.FinMap nat_cmp Seed) (a : ℕ) (x : Seed) where
   pub put_this : map.get (map.insert m a x) a ≡ Some x
