@@ -1,6 +1,6 @@
 //! What holds of all worlds.
 ghost use Rattle.sim_core.specs.Laws.{OneAnswer, OneCount, OneReason};
-ghost use Rattle.sim_core.specs.Lent.{KeptIsStable, LentIsRanked, LentIsSetting};
+ghost use Rattle.sim_core.specs.Lent.{KeptIsStable, LentHasNoCycle, LentIsRanked, LentIsSetting, NoOtherIsStable};
 
 use policy_kinds::Kind;
 use stability_laws::one_stable_routing;
@@ -19,8 +19,10 @@ pub fn answers_are_one()
 /// before, and where there is no provider cycle no other is (Gao and Rexford 2001).
 pub fn kept_are_stable()
     ensures setting { LentIsSetting }
+    ensures no_cycle { LentHasNoCycle }
     ensures ranked { LentIsRanked }
     ensures stable { KeptIsStable }
+    ensures only { NoOtherIsStable }
 {
     one_stable_routing::<Kind>();
 }

@@ -1,16 +1,14 @@
 //! What a world lends: a simulation, and one without what is kept of it.
-ghost use Rattle.std.specs.Prelude.{◌≡◌, ◌≤◌, ◌-◌, ℕ, false, None, Some, slice_get, IfOk, IfErr, OnOk};
+ghost use Rattle.std.specs.Prelude.{◌≡◌, ◌≤◌, ℕ, false, None, IfOk, IfErr, OnOk};
 ghost use Rattle.std.specs.FinMap as fin;
 ghost use Rattle.as_graph.specs.Topology.{as_count, has};
 ghost use Rattle.leak_round.specs.SeedPaths.{HaveAtMost};
 ghost use Rattle.rank_order.specs.Ranks.{rank_at};
 ghost use Rattle.scenario_text.specs.declared.acts.Query.TheVariants as query;
-ghost use Rattle.stability_laws.specs.Rounds.{seeds_of};
-ghost use Rattle.stability_laws.specs.declared.entry.Seed.{Seed as ASeed};
 ghost use Rattle.sim_core.specs.Answers.{IsQueryRefusal, refusal_of};
 ghost use Rattle.sim_core.specs.Bases.{base_world};
 ghost use Rattle.sim_core.specs.Kept.{IsKept};
-ghost use Rattle.sim_core.specs.Lent.{IsBookOf, IsGraphOf};
+ghost use Rattle.sim_core.specs.Lent.{IsBookOf, IsGraphOf, StartAtOwnAs, seeds_kept};
 ghost use Rattle.sim_core.specs.Loaded.{world_of};
 ghost use Rattle.sim_core.specs.Loading.{IsLoadRefusal};
 ghost use Rattle.sim_core.specs.Sims.{kept, world_seen};
@@ -140,9 +138,9 @@ impl Sim {
     /// `UnknownRound` comes exactly where the world has not the round, and else `UnknownPrefix` exactly
     /// where it has not the prefix, unless memory runs out.
     pub fn seeds(&self, alloc: Global, round: u32, prefix: Prefix) -> Result<Seeds, QueryError>
-        ensures seeds { IfOk result (λ s. (a : ℕ) → fin.get s a ≡ seeds_of (world_seen self.now).plan round prefix ((kept self.now).routings (round - 1) prefix) a) }
+        ensures seeds { IfOk result (λ s. (a : ℕ) → fin.get s a ≡ seeds_kept (world_seen self.now) (kept self.now) round prefix a) }
         ensures inside { IfOk result (λ s. (a : ℕ) → has (topology (world_seen self.now)) a ≡ false → fin.get s a ≡ None) }
-        ensures own { IfOk result (λ s. IsKept (world_seen self.now) (kept self.now) → (a : ℕ) (seed : ASeed) → fin.get s a ≡ Some seed → slice_get seed.path 0 ≡ Some a) }
+        ensures own { IfOk result (λ s. IsKept (world_seen self.now) (kept self.now) → StartAtOwnAs s) }
         ensures short { IfOk result (HaveAtMost 40000000) }
         ensures known { OnOk result (refusal_of (world_seen self.now) (query.Routes round prefix) ≡ None) }
         ensures refused { IfErr result (IsQueryRefusal (world_seen self.now) (query.Routes round prefix)) }
