@@ -11,8 +11,6 @@ mod laws;
 mod refusals;
 mod running;
 mod starting;
-#[cfg(test)]
-mod tests;
 mod types;
 
 pub use laws::{answers_are_one_text, told_files_are_answered};

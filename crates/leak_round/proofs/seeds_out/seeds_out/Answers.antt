@@ -1,5 +1,4 @@
 use Rattle.std.proofs.Common.{◌≡◌, ◌+◌, ◌++◌, ◌∷◌, [], Some, None, cond, take, take_all, sym, ap, ◌∙◌}
-use Rattle.std.specs.Prelude.{slice_get}
 use Rattle.std.specs.FinMap as map
 use Rattle.std.specs.Ordering.{nat_cmp}
 use Rattle.std.proofs.lemmas.List.{take_more}
@@ -7,7 +6,7 @@ use Rattle.std.proofs.lemmas.Option.{slice_get-get_or}
 use Rattle.net_names.specs.Numbers.{occurs}
 use Rattle.route_choice.specs.Routings.{seed_of, seeds_of}
 use Rattle.route_choice.specs.Tables.{seed_at}
-use Rattle.leak_round.proofs.Leaking.{occurs_at}
+use Rattle.stability_laws.proofs.Listing.{occurs_at}
 use Rattle.leak_round.proofs.PathsOut.{all_out, one_more}
 use Rattle.leak_round.proofs.seeds_out.seeds_out.Goals as goal
 
