@@ -5,11 +5,11 @@ use Rattle.std.specs.Ordering.{eq_by_cmp}
 use Rattle.std.specs.declared.cmp.Ordering.{Ordering}
 use Rattle.std.specs.Cmp.{IsTotalOrder}
 use Rattle.std.specs.FinMap as fin
-use Rattle.net_names.specs.Orders.{announcement_total, exact_announcement, prefix_total}
+use Rattle.net_names.specs.Orders.{announcement_total, exact_announcement, exact_prefix, prefix_total}
 use Rattle.net_names.specs.Prefixes.{PrefixValue, prefix_cmp}
-use Rattle.stability_laws.specs.Plans.{Plan, announcement_cmp, announcer_of, announces, empty_plan, prefixes_of, with_announcement}
+use Rattle.stability_laws.specs.Plans.{Plan, announcement_cmp, announcer_of, announces, empty_plan, has_prefix, prefixes_of, with_announcement}
 use Rattle.stability_laws.specs.SeedEdits.{without_announcement}
-use Rattle.stability_laws.proofs.KeyLists.{eq_is}
+use Rattle.stability_laws.proofs.KeyLists.{eq_is, eq_same}
 use Rattle.leak_round.specs.Limits.{IsWithinLimits}
 
 -- one more key is at most one more
@@ -101,3 +101,15 @@ announcer_was plan prefix q asn a is = by (fin.get (without_announcement plan pr
     by : (o : Option (List ℕ)) → fin.get (without_announcement plan prefix asn).announced (q, a) ≡ o → IsTrue (is_some o) → IsTrue (announces plan q a)
     by (Some path) e is = ap is_some (still_announced plan prefix q asn a path e)
     by None e is = let wrong : false ≡ true = is in cc
+
+-- a plan with one announcement has its prefix alone
+pub prefix_is : (prefix q : PrefixValue) (path : List ℕ) → IsTrue (has_prefix (with_announcement empty_plan prefix path) q) → q ≡ prefix
+prefix_is prefix q path is = by (eq_by_cmp prefix_cmp q prefix) refl (sym (ap is_some (fin.get-insert prefix_total empty_plan.prefixes prefix tt q)) ∙ is)
+  where
+    by : (b : Bool) → eq_by_cmp prefix_cmp q prefix ≡ b → is_some (cond b (Some (tt {0})) (fin.get empty_plan.prefixes q)) ≡ true → q ≡ prefix
+    by true same here = eq_is prefix_total exact_prefix q prefix same
+    by false other here = let wrong : false ≡ true = sym (ap is_some (fin.get-empty prefix_cmp q)) ∙ here in cc
+
+-- and it has it
+pub has_own : (prefix : PrefixValue) (path : List ℕ) → IsTrue (has_prefix (with_announcement empty_plan prefix path) prefix)
+has_own prefix path = ap is_some (fin.get-insert prefix_total empty_plan.prefixes prefix tt prefix ∙ ap (λ (b : Bool). cond b (Some (tt {0})) (fin.get empty_plan.prefixes prefix)) (eq_same prefix_total exact_prefix prefix prefix refl))

@@ -1,14 +1,16 @@
 //! Rounds of small worlds, worked by hand.
 
-ghost use Rattle.std.specs.Prelude.{◌≡◌, ℕ, ◌≤◌, ◌∷◌, [], true, false, IsTrue, IfOk};
+ghost use Rattle.std.specs.Prelude.{◌≡◌, ◌≢◌, ℕ, suc, ◌<◌, ◌≤◌, ◌∷◌, [], true, false, IsTrue, IfOk};
 ghost use Rattle.net_names.specs.Prefixes.{PrefixValue};
 ghost use Rattle.as_graph.specs.Hierarchy.{HasNoProviderCycle, IsRank};
 ghost use Rattle.as_graph.specs.Topology.{has, relation};
 ghost use Rattle.path_pool.specs.Pool.{live_count};
 ghost use Rattle.rank_order.specs.Ranks.{rank_at};
-ghost use Rattle.stability_laws.specs.Plans.{announces};
-ghost use Rattle.stability_laws.specs.Rounds.{AreRounds};
-ghost use Rattle.stability_laws.specs.World.{setting_in};
+ghost use Rattle.net_names.specs.declared.routes.State.TheVariants.{NotFound};
+ghost use Rattle.stability_laws.specs.Plans.{announces, empty_plan, has_prefix, with_announcement};
+ghost use Rattle.stability_laws.specs.Stable.{IsRight};
+ghost use Rattle.stability_laws.specs.Rounds.{AreRounds, seeds_of};
+ghost use Rattle.stability_laws.specs.World.{setting, setting_in};
 ghost use Rattle.leak_round.specs.Limits.{IsWithinLimits};
 ghost use Rattle.leak_round.specs.Plans.{IsOpenPlan, kept_with, plan_after};
 ghost use Rattle.leak_round.specs.Rounds.{is_open, kept, plan_of as planned, pool_of, round_count};
@@ -18,15 +20,15 @@ use super::worlds::{
     ACROSS, DOWN, expect_text, graph_of, main_prefix, number, ranks_of, routes_text,
 };
 use crate::Narrow;
-use as_graph::{Graph, links_are_sound, ranks_fit};
+use as_graph::{Graph, ases_are_kept, links_are_sound, links_are_taken, ranks_fit};
 use dirty_recompute::PlannedRanks;
 use leak_round::{Rounds, RoundsPlan, Touched};
-use net_names::{Asn, Path};
+use net_names::{Asn, Path, Prefix};
 use policy_kinds::Kind;
 use policy_laws::{NoStates, OriginStates, RoutePolicy};
 use rank_order::Ranks;
 use route_choice::Steps;
-use stability_laws::{Book, SeedEdit, SeedPlan, World};
+use stability_laws::{Book, SeedEdit, SeedPlan, World, right_follows};
 use std::alloc::Global;
 use std::marker::Brand;
 use std::process::Abort;
@@ -264,11 +266,27 @@ fn undo_and_commit<L: Ledger>(
     let mut rounds = Rounds::build(alloc, &world, &ranks, seeds, 2, &mut steps)?;
     assert!(rt; graph.has(five));
     let live = rounds.pool().live();
-    let plan = announcing(rt, alloc, &world, &mut ranks, &mut rounds, &[four], &mut steps)?;
+    let plan = announcing(
+        rt,
+        alloc,
+        &world,
+        &mut ranks,
+        &mut rounds,
+        &[four],
+        &mut steps,
+    )?;
     rounds.undo(plan);
     assert!(rt; rounds.pool().live() <= live);
     expect_one_origin(rt, alloc, graph, &rounds)?;
-    let plan = announcing(rt, alloc, &world, &mut ranks, &mut rounds, &[four], &mut steps)?;
+    let plan = announcing(
+        rt,
+        alloc,
+        &world,
+        &mut ranks,
+        &mut rounds,
+        &[four],
+        &mut steps,
+    )?;
     let done = rounds.commit(plan);
     let told = [number(1)?, number(3)?, four];
     assert!(rt; done.count() == 6);
@@ -314,7 +332,15 @@ fn withdraw_and_tidy<L: Ledger>(
     };
     let mut rounds = Rounds::build(alloc, &world, &ranks, seeds, 1, &mut steps)?;
     assert!(rt; graph.has(four));
-    let plan = announcing(rt, alloc, &world, &mut ranks, &mut rounds, &path, &mut steps)?;
+    let plan = announcing(
+        rt,
+        alloc,
+        &world,
+        &mut ranks,
+        &mut rounds,
+        &path,
+        &mut steps,
+    )?;
     let done = rounds.commit(plan);
     assert!(rt; done.count() == 1 && rounds.pool().live() <= 1000);
     let plan = withdrawing(rt, alloc, &world, &mut ranks, &mut rounds, one, &mut steps)?;
@@ -322,7 +348,8 @@ fn withdraw_and_tidy<L: Ledger>(
     assert!(rt; done.count() == 1 && done.changed_in(1) == [one].as_slice());
     rounds.tidy(alloc, &world, &ranks, &mut steps)?;
     assert!(rt; rounds.pool().live() <= 6);
-    let table = b"1 customer 1 2 3 4\n2 customer 2 3 4\n3 customer 3 4\n4 origin 4\n5 customer 5 1 2 3 4\n";
+    let table =
+        b"1 customer 1 2 3 4\n2 customer 2 3 4\n3 customer 3 4\n4 origin 4\n5 customer 5 1 2 3 4\n";
     expect_round(rt, alloc, graph, &rounds, 1, table)
 }
 
@@ -333,34 +360,107 @@ fn cells_of_a_withdrawn_path_are_given_back(rt: HostRuntime) -> Result<(), Fail>
     withdraw_and_tidy::<Brand>(&rt, rt.alloc(), &graph, Blank::new(1))
 }
 
-// The table of a round in which all ASes have the narrow policy.
-fn narrow_round<L: Ledger>(
-    rt: &impl Abort,
+// What changes where the two ASes are touched, and the rounds are right at all others.
+fn cutting<P: RoutePolicy, L: Ledger>(
     alloc: Global,
     graph: &Graph,
+    book: &Book<P>,
+    rounds: &mut Rounds,
+    touched: (Prefix, Asn, Asn),
+    steps: &mut Steps<L>,
+) -> Result<RoundsPlan, Fail>
+    requires closed { is_open rounds.old ≡ false }
+    requires few { live_count (pool_of rounds.old) ≤ MOST_CELLS }
+    requires announcers { (prefix : PrefixValue) (a : ℕ) → IsTrue (announces (planned rounds.old) prefix a) → has graph.now a ≡ true }
+    requires only { (prefix : PrefixValue) → IsTrue (has_prefix (planned rounds.old) prefix) → prefix ≡ touched.0 }
+    requires entries { (round : ℕ) (b : ℕ) → 1 ≤ round → round ≤ round_count rounds.old → has graph.now b ≡ false → b ≢ touched.1 → b ≢ touched.2 → kept rounds.old round touched.0 b ≡ None }
+    requires right { (before : ℕ) (b : ℕ) → before < round_count rounds.old → has graph.now b ≡ true → b ≢ touched.1 → b ≢ touched.2 →
+        IsRight (setting P.meaning graph.now book.now (λ _. NotFound)) (seeds_of (planned rounds.old) (suc before) touched.0 (kept rounds.old before touched.0)) (kept rounds.old (suc before) touched.0) b }
+    ensures { IfOk result (λ p. IsOpenPlan rounds.new p) }
+{
+    links_are_sound();
+    ranks_fit();
+    let (prefix, one, other) = touched;
+    let mut ranks = ranks_of(alloc, graph)?;
+    let rank_plan = ranks.plan(alloc, graph, &[])?;
+    let after = PlannedRanks {
+        ranks: &ranks,
+        plan: &rank_plan,
+    };
+    let mut ends = Touched::new(alloc);
+    ends.add(prefix, one)?;
+    ends.add(prefix, other)?;
+    let world = World {
+        graph,
+        book,
+        states: &NoStates,
+    };
+    Ok(rounds.plan(alloc, &world, &after, &ends, None, steps)?)
+}
+
+// The plan in which one AS announces the prefix by its own number.
+fn lone_plan(rt: &impl Abort, alloc: Global, prefix: Prefix, asn: Asn) -> Result<SeedPlan, Fail>
+    ensures { IfOk result (λ p. p ≡ with_announcement empty_plan prefix (asn ∷ [])) }
+{
+    let mut plan = SeedPlan::new(alloc);
+    assert!(rt; !plan.announces(prefix, asn));
+    plan.announce(prefix, path_by(alloc, &[asn])?)?;
+    Ok(plan)
+}
+
+// The narrow policy everywhere, in one round: the table of propagation; and after the link between AS 2 and AS 4 went, AS 4
+// has no entry, and nothing else changes.
+fn cut_below_peers<L: Ledger>(
+    rt: &impl Abort,
+    alloc: Global,
+    graph: &mut Graph,
     blank: Blank,
-) -> Result<Rounds, Fail>
+) -> Result<(), Fail>
     requires name { blank.name ≡ L.name }
     requires parts { blank.parts ≡ L.parts }
     requires some { 0 < L.parts }
 {
-    let seeds = plan_of(rt, alloc, number(3)?, &[])?;
+    links_are_taken();
+    ases_are_kept();
+    right_follows::<Narrow>();
+    let two = number(2)?;
+    let three = number(3)?;
+    let four = number(4)?;
+    let prefix = main_prefix()?;
+    let seeds = lone_plan(rt, alloc, prefix, three)?;
     let ranks = ranks_of(alloc, graph)?;
     let book = Book::new(alloc, Narrow);
     let mut steps = Steps::<L>::new(blank);
-    let world = World {
-        graph,
+    let before = World {
+        graph: &*graph,
         book: &book,
         states: &NoStates,
     };
-    Ok(Rounds::build(alloc, &world, &ranks, seeds, 1, &mut steps)?)
+    let mut rounds = Rounds::build(alloc, &before, &ranks, seeds, 1, &mut steps)?;
+    let table = b"2 customer 2 3\n3 origin 3\n4 peer 4 2 3\n";
+    expect_round(rt, alloc, graph, &rounds, 1, table)?;
+    match graph.unlink(two, four) {
+        Ok(()) => {}
+        Err(_) => return Err("a link".into()),
+    }
+    assert!(rt; graph.has(three));
+    let plan = cutting(
+        alloc,
+        graph,
+        &book,
+        &mut rounds,
+        (prefix, two, four),
+        &mut steps,
+    )?;
+    let done = rounds.commit(plan);
+    assert!(rt; done.count() == 1 && done.changed_in(1) == [four].as_slice());
+    let table = b"2 customer 2 3\n3 origin 3\n";
+    expect_round(rt, alloc, graph, &rounds, 1, table)
 }
 
 #[test]
-fn a_round_of_the_narrow_policy_has_the_table_of_propagation(rt: HostRuntime) -> Result<(), Fail> {
+fn a_route_stops_where_the_narrow_policy_has_no_link(rt: HostRuntime) -> Result<(), Fail> {
     let links = [(1, 2, DOWN), (2, 3, DOWN), (2, 4, ACROSS), (4, 5, DOWN)];
-    let graph = graph_of(&rt, rt.alloc(), &links)?;
-    let rounds = narrow_round::<Brand>(&rt, rt.alloc(), &graph, Blank::new(1))?;
-    let table = b"2 customer 2 3\n3 origin 3\n4 peer 4 2 3\n";
-    expect_round(&rt, rt.alloc(), &graph, &rounds, 1, table)
+    let mut graph = graph_of(&rt, rt.alloc(), &links)?;
+    cut_below_peers::<Brand>(&rt, rt.alloc(), &mut graph, Blank::new(1))
 }
