@@ -7,6 +7,7 @@ mod forwarding;
 mod graph_edits;
 mod graphs;
 mod kinds;
+mod lent_worlds;
 mod narrow_policy;
 mod path_cells;
 mod payloads;
