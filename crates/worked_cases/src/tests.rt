@@ -1,4 +1,5 @@
 //! The cases by subject, each in a module of its own. What several of them build stands in `worlds`.
+mod activation_files;
 mod answers;
 mod cycles;
 mod edges;

@@ -1,7 +1,8 @@
 //! Plans of seeds.
+use super::right_routes::routing_of;
 use super::worlds::{main_prefix, number, path_of, prefix};
-use net_names::{Asn, Path, Prefix};
-use stability_laws::SeedPlan;
+use net_names::{Asn, Class, Path, Prefix};
+use stability_laws::{SeedPlan, seeds_at};
 use std::alloc::Global;
 use std::process::Abort;
 use std::test::Fail;
@@ -60,5 +61,26 @@ fn a_plan_has_the_paths_that_are_announced(rt: HostRuntime) -> Result<(), Fail> 
     assert!(rt; announced.as_slice() == [six, four].as_slice());
     assert!(rt; plan.announces(low, five) && !plan.announces(high, five));
     assert!(rt; plan.path(high, five).is_none());
+    Ok(())
+}
+
+#[test]
+fn leakers_put_in_what_others_than_customers_gave_them(rt: HostRuntime) -> Result<(), Fail> {
+    let alloc = rt.alloc();
+    let plan = plan_of_two_prefixes(&rt, alloc)?;
+    let entries: [(Class, &[u32]); 3] = [
+        (Class::Provider, &[3, 6, 4]),
+        (Class::Peer, &[7, 6, 4]),
+        (Class::Customer, &[9, 6, 4]),
+    ];
+    let before = routing_of(&rt, alloc, &entries)?;
+    let seeds = seeds_at(alloc, &plan, 2, main_prefix()?, &before)?;
+    for (asn, numbers) in [(6, [6, 4].as_slice()), (3, [3, 6, 4].as_slice())] {
+        let seed = seeds.get(number(asn)?).ok_or("a seed")?;
+        assert!(rt; seed.path.as_slice() == path_of(alloc, numbers)?.as_slice());
+    }
+    for asn in [5, 7, 9] {
+        assert!(rt; seeds.get(number(asn)?).is_none());
+    }
     Ok(())
 }
