@@ -5,4 +5,5 @@ mod Runs
 mod Heights
 mod Words
 mod Lines
-mod Sound
+pub mod Sound
+mod Said
