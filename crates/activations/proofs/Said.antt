@@ -1,7 +1,7 @@
 -- What lines say one after the other is what they say all at once.
-use Rattle.std.proofs.Common.{◌≡◌, ◌≢◌, ◌⊎◌, inl, inr, ℕ, ◌+◌, ◌<◌, ◌≤◌, Bool, true, false, ◌==◌, ◌||◌, ◌&&◌, cond, nat_lt, List, [], ◌∷◌, ◌++◌, length, map as each, Option, Some, None, is_some, Result, Ok, Err, refl, sym, ap, subst, ◌∙◌, append_assoc, append-nil, arith}
-use Rattle.std.specs.Prelude.{◌==◌ as nat_eq, not, bytes_eq, codes, if◌then◌else◌, nat_le, ok_or, option_and_then, option_map, unwrap_or}
-use Rattle.std.specs.List.{AllByRecursion, IsDistinct, flat_map, join_with_byte, list_any}
+use Rattle.std.proofs.Common.{◌≡◌, ◌⊎◌, inl, inr, ℕ, ◌+◌, ◌<◌, ◌≤◌, Bool, true, false, ◌==◌, ◌||◌, nat_lt, List, [], ◌∷◌, ◌++◌, length, map as each, Option, Some, None, is_some, Result, Ok, Err, refl, sym, ap, subst, ◌∙◌, append_assoc, append-nil, arith}
+use Rattle.std.specs.Prelude.{not, bytes_eq, codes, if◌then◌else◌, nat_le, ok_or, option_and_then, option_map, unwrap_or}
+use Rattle.std.specs.List.{flat_map, join_with_byte, list_any}
 use Rattle.std.specs.Option.{option_or}
 use Rattle.std.specs.Ordering.{nat_cmp, eq_by_cmp}
 use Rattle.std.specs.Cmp.{nat_cmp_total, nat_eq_equiv, unsigned_tied}
@@ -11,12 +11,15 @@ use Rattle.std.specs.FinMap.Entries.{is_some-find}
 use Rattle.std.proofs.lemmas.Bool.{true≢false}
 use Rattle.std.proofs.lemmas.Bool.Decides.{nat_tests}
 use Rattle.std.proofs.lemmas.Grind.{flat_map-append}
+use Rattle.std.proofs.lemmas.List.Folds.{list_any-append}
 use Rattle.std.proofs.lemmas.List.{length-append, map-append}
 use Rattle.std.proofs.lemmas.Map.Keys.{IsDistinct-push}
 use Rattle.net_names.specs.Lines.{said_on}
+use Rattle.net_names.specs.Numbers.{IsDistinct, occurs}
 use Rattle.net_names.specs.Prefixes.{PrefixValue}
 use Rattle.net_names.specs.Steps.{option_filter}
 use Rattle.net_names.specs.Texts.{after, asn_of, cut_at, fields}
+use Rattle.net_names.proofs.Distinct.{apart_from_distinct, distinct_from_apart}
 use Rattle.net_names.proofs.Cuts.{fields_cut, fields_uncut}
 use Rattle.net_names.specs.Trials.{◌>>=◌}
 use Rattle.scenario_text.specs.Forms.{for_of}
@@ -116,7 +119,6 @@ record Open (n : ℕ) (names : ℕ × PrefixValue) (lines : List (ℕ × List �
   pub named : ◌≡◌ {A = ℕ × PrefixValue} (s.round, s.prefix) names
 
 opened : (n : ℕ) (names : ℕ × PrefixValue) → Open n names [] (only_for n names)
-unfolding IsDistinct
 opened n names = record {
   said = record { holds = []; runs = []; say = refl; once = tt; few = omega arith; held = refl; list = refl; named = refl };
   closed = inl refl;
@@ -146,11 +148,14 @@ module _ (holds : List (ℕ × (ℕ × Entry))) (a : ℕ) (none : is_some (map.g
   keys_each [] = refl
   keys_each (h ∷ hs) = ap (λ t. h.1.0 ∷ t) (keys_each hs)
 
-  new_key : list_any (nat_eq a) (each (λ h. h.1.0) holds) ≡ false
+  new_key : occurs a (each (λ h. h.1.0) holds) ≡ false
   new_key =
-      (λ i. list_any (λ y. sym (unsigned_tied a y) i) (each (λ h. h.1.0) holds))
+      (λ i. list_any (λ y. sym (unsigned_tied a y ∙ nat_eq_equiv.symm a y) i) (each (λ h. h.1.0) holds))
       ∙ ap (list_any (eq_by_cmp nat_cmp a)) (sym (keys_each holds))
       ∙ sym (is_some-find nat_cmp a (each (λ h. h.1) holds)) ∙ found_none
+
+distinct_push : (xs : List ℕ) (a : ℕ) → IsDistinct xs → occurs a xs ≡ false → IsDistinct (xs ++ a ∷ [])
+distinct_push xs a d new = distinct_from_apart (xs ++ a ∷ []) (IsDistinct-push nat_eq_equiv xs a (apart_from_distinct xs d) ((λ i. list_any (λ y. nat_eq_equiv.symm a y i) xs) ∙ new))
 
 module _ (n : ℕ) (names : ℕ × PrefixValue) (lines : List (ℕ × List ℕ)) (s : Acts) (l : ℕ × List ℕ) (o : Open n names lines s) where
   one_hold : (hold : ℕ × Entry) → said_by l.1 ≡ Some (inl hold) → nat_lt 0 (length s.list) ≡ false → is_some (map.get s.held hold.0) ≡ false
@@ -166,7 +171,7 @@ module _ (n : ℕ) (names : ℕ × PrefixValue) (lines : List (ℕ × List ℕ))
           runs = [];
           say = map-append of_line lines (l ∷ []) ∙ ap (λ t. t ++ of_line l ∷ []) (old.say ∙ ap (λ r. each of_hold old.holds ++ each of_run r) none ∙ append-nil (each of_hold old.holds))
               ∙ ap (λ t. each of_hold old.holds ++ (l.0, t) ∷ []) is ∙ sym (map-append of_hold old.holds (h ∷ [])) ∙ sym (append-nil (each of_hold (old.holds ++ h ∷ [])));
-          once = subst (IsDistinct nat_eq) (sym (map-append (λ h. h.1.0) old.holds (h ∷ []))) (IsDistinct-push nat_eq_equiv (each (λ h. h.1.0) old.holds) hold.0 old.once (new_key old.holds hold.0 free));
+          once = subst IsDistinct (sym (map-append (λ h. h.1.0) old.holds (h ∷ []))) (distinct_push (each (λ h. h.1.0) old.holds) hold.0 old.once (new_key old.holds hold.0 free));
           few = old.few;
           held = ap (λ m. map.insert m hold.0 hold.1) old.held
               ∙ sym (map.from_entries_push nat_cmp_total nat_cmp-IsAntisymmetric (each (λ h. h.1) old.holds) hold.0 hold.1 (none_is _ (found_none old.holds hold.0 free)))
@@ -228,19 +233,19 @@ all_said n names lines (l ∷ more) s t o ok = by (with_line s l) refl ok (λ u 
 
 -- ---- back: what is said is read
 
-all_at : {X : Type 0} (P : X → Type 0) (xs : List X) (y : X) (ys : List X) → AllByRecursion P (xs ++ y ∷ ys) → P y
-unfolding AllByRecursion
-all_at P [] y ys h = h.0
-all_at P (x ∷ xs) y ys h = all_at P xs y ys h.1
+neither : (a b : Bool) → (a || b) ≡ false → (a ≡ false) × (b ≡ false)
+neither true b h = absurd cc
+neither false b h = (refl, h)
 
-apart_before : (xs : List ℕ) (a : ℕ) (ys : List ℕ) → IsDistinct nat_eq (xs ++ a ∷ ys) → list_any (nat_eq a) xs ≡ false
-unfolding IsDistinct
+apart_before : (xs : List ℕ) (a : ℕ) (ys : List ℕ) → IsDistinct (xs ++ a ∷ ys) → occurs a xs ≡ false
 apart_before [] a ys d = refl
 apart_before (x ∷ xs) a ys d =
-    ap (λ b. b || list_any (nat_eq a) xs) (nat_eq_equiv.symm a x ∙ all_at (λ y. nat_eq x y ≡ false) xs a ys d.0) ∙ apart_before xs a ys d.1
+    let later = neither (occurs x xs) (occurs x (a ∷ ys)) (sym (list_any-append (λ (y : ℕ). y == x) xs (a ∷ ys)) ∙ d.0) in
+    ap (λ b. b || occurs a xs) (nat_eq_equiv.symm x a ∙ (neither (a == x) (occurs x ys) later.1).0) ∙ apart_before xs a ys d.1
 
-not_found : (done : List (ℕ × Entry)) (a : ℕ) → list_any (nat_eq a) (each (λ e. e.0) done) ≡ false → map.find nat_cmp a done ≡ None
-not_found done a apart = none_is (map.find nat_cmp a done) (is_some-find nat_cmp a done ∙ (λ i. list_any (λ y. unsigned_tied a y i) (each (λ e. e.0) done)) ∙ apart)
+not_found : (done : List (ℕ × Entry)) (a : ℕ) → occurs a (each (λ e. e.0) done) ≡ false → map.find nat_cmp a done ≡ None
+not_found done a apart =
+    none_is (map.find nat_cmp a done) (is_some-find nat_cmp a done ∙ (λ i. list_any (λ y. (unsigned_tied a y ∙ nat_eq_equiv.symm a y) i) (each (λ e. e.0) done)) ∙ apart)
 
 taken : (b c : Bool) (u : Acts) (n : ℕ) → b ≡ false → c ≡ false → (if b then Err (Unreadable n) else (if c then Err (Twice n) else Ok u)) ≡ Ok u
 taken b c u n no_list no_hold = rw (no_list, no_hold) refl
@@ -266,7 +271,7 @@ runs_made (r ∷ rs) (l ∷ ls) s e few =
     ∙ (λ i. Ok (record s { list = append_assoc s.list r.1 (flat_map (λ r. r.1) rs) i; named = append_assoc s.named (run_named r) (flat_map run_named rs) i }))
 
 holds_made : (holds : List (ℕ × (ℕ × Entry))) (runs : List (ℕ × List ℕ)) (ls : List (ℕ × List ℕ)) (s : Acts) (done : List (ℕ × Entry)) → s.held ≡ map.from_entries done → s.list ≡ []
-    → each of_line ls ≡ each of_hold holds ++ each of_run runs → IsDistinct nat_eq (each (λ e. e.0) done ++ each (λ h. h.1.0) holds) → length (flat_map (λ r. r.1) runs) ≤ MOST_ACTIVATIONS
+    → each of_line ls ≡ each of_hold holds ++ each of_run runs → IsDistinct (each (λ e. e.0) done ++ each (λ h. h.1.0) holds) → length (flat_map (λ r. r.1) runs) ≤ MOST_ACTIVATIONS
     → said_on with_line s ls ≡ Ok (record s { held = map.from_entries (done ++ each (λ h. h.1) holds); list = flat_map (λ r. r.1) runs; named = s.named ++ (each (λ h. (h.0, h.1.0)) holds ++ flat_map run_named runs) })
 unfolding said_on step
 holds_made [] runs ls s done held list e once few =
@@ -285,7 +290,7 @@ holds_made (h ∷ hs) runs (l ∷ ls) s done held list e once few =
     let keys : each (λ e. e.0) (done ++ h.1 ∷ []) ++ each (λ h. h.1.0) hs ≡ each (λ e. e.0) done ++ h.1.0 ∷ each (λ h. h.1.0) hs =
     ap (λ t. t ++ each (λ h. h.1.0) hs) (map-append (λ e. e.0) done (h.1 ∷ [])) ∙ append_assoc (each (λ e. e.0) done) (h.1.0 ∷ []) (each (λ h. h.1.0) hs) in
     ap (λ (x : Result Acts ActsError). x >>= λ t. said_on with_line t ls) here
-    ∙ holds_made hs runs ls u (done ++ h.1 ∷ []) (ap (λ m. map.insert m h.1.0 h.1.1) held ∙ sym more) list tail (subst (IsDistinct nat_eq) (sym keys) once) few
+    ∙ holds_made hs runs ls u (done ++ h.1 ∷ []) (ap (λ m. map.insert m h.1.0 h.1.1) held ∙ sym more) list tail (subst IsDistinct (sym keys) once) few
     ∙ (λ i. Ok (record s { held = map.from_entries (append_assoc done (h.1 ∷ []) (each (λ h. h.1) hs) i); list = flat_map (λ r. r.1) runs; named = append_assoc s.named ((h.0, h.1.0) ∷ []) (each (λ h. (h.0, h.1.0)) hs ++ flat_map run_named runs) i }))
 
 -- ---- the whole file

@@ -1,10 +1,11 @@
 -- What a file of activations says, said of all its lines at once.
-use Rattle.std.specs.Prelude.{◌≡◌, ◌⊎◌, ◌↔◌, ℕ, ◌≤◌, ◌==◌ as nat_eq, List, ◌∷◌, ◌++◌, map as each, length, Option, Some, Ok}
+use Rattle.std.specs.Prelude.{◌≡◌, ◌⊎◌, ◌↔◌, ℕ, ◌≤◌, List, ◌∷◌, ◌++◌, map as each, length, Option, Some, Ok}
 use Rattle.std.proofs.Common.{inl, inr}
-use Rattle.std.specs.List.{IsDistinct, flat_map}
+use Rattle.std.specs.List.{flat_map}
 use Rattle.std.specs.Option.{option_or}
 use Rattle.std.specs.FinMap as map
 use Rattle.net_names.specs.Lines.{kept_from}
+use Rattle.net_names.specs.Numbers.{IsDistinct}
 use Rattle.scenario_text.specs.Forms.{for_of, form}
 use Rattle.stability_laws.specs.declared.entry.Entry.{Entry}
 use Rattle.activations.specs.declared.acts.Acts.{Acts}
@@ -20,7 +21,7 @@ pub record AreSaid (lines : List (ℕ × List ℕ)) (acts : Acts) : Type 0 where
   pub holds : List (ℕ × (ℕ × Entry))
   pub runs : List (ℕ × List ℕ)
   pub say : each {B = ℕ × Option ((ℕ × Entry) ⊎ List ℕ)} (λ l. (l.0, said_by l.1)) lines ≡ each (λ h. (h.0, Some (inl h.1))) holds ++ each (λ r. (r.0, Some (inr r.1))) runs
-  pub once : IsDistinct nat_eq (each (λ h. h.1.0) holds)
+  pub once : IsDistinct (each (λ h. h.1.0) holds)
   pub few : length acts.list ≤ MOST_ACTIVATIONS
   pub held : acts.held ≡ map.from_entries (each (λ h. h.1) holds)
   pub list : acts.list ≡ flat_map (λ r. r.1) runs
