@@ -5,6 +5,7 @@ mod edges;
 mod files;
 mod kinds;
 mod laws;
+mod lent_worlds;
 mod narrow_policy;
 mod path_cells;
 mod relationship_files;
