@@ -1,14 +1,9 @@
 -- The lines of a file, one after the other.
-use Rattle.std.proofs.Common.{◌≡◌, ℕ, ◌+◌, List, [], ◌∷◌, Some, None, Result, Ok, Err, refl, sym}
-use Rattle.std.specs.Prelude.{not, if◌then◌else◌}
+use Rattle.std.proofs.Common.{◌≡◌, ℕ, List, [], ◌∷◌, Some, None, Result, Ok, Err, refl, sym}
 use Rattle.std.specs.Str.Lines.{strip_carriage_return}
-use Rattle.net_names.specs.Lines.{kept_from, said_on}
-use Rattle.net_names.specs.Texts.{cut_at, is_skipped}
+use Rattle.net_names.specs.Lines.{IsLineAndRest, said_on}
+use Rattle.net_names.specs.Texts.{cut_at}
 use Rattle.net_names.proofs.Cuts.{fields_uncut, fields_cut}
-
--- the bytes are a line and then the rest, for the lines that aren't skipped
-abbrev pub IsLineAndRest : List ℕ → List ℕ → List ℕ → Type 0
-IsLineAndRest bytes line rest = (number : ℕ) → kept_from number bytes ≡ (if not (is_skipped line) then (number, line) ∷ kept_from (number + 1) rest else kept_from (number + 1) rest)
 
 pub line_cut : (bytes line rest : List ℕ) → Some (line, rest) ≡ cut_at 10 bytes → IsLineAndRest bytes (strip_carriage_return line) rest
 line_cut bytes line rest c number = rw (fields_cut 10 bytes line rest (sym c)) refl

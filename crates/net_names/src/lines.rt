@@ -1,7 +1,7 @@
 //! The lines of a file that count.
-ghost use Rattle.std.specs.Prelude.{◌≡◌, ℕ, ◌+◌, ◌^◌, ◌<◌, ◌≤◌, not, [], ◌∷◌, length, IfSome, IfNone, if◌then◌else◌};
+ghost use Rattle.std.specs.Prelude.{◌≡◌, ◌+◌, ◌^◌, ◌<◌, ◌≤◌, [], ◌∷◌, length, IfSome, IfNone};
 ghost use Rattle.std.specs.Str.Lines.{strip_carriage_return};
-ghost use Rattle.net_names.specs.Lines.{kept_from};
+ghost use Rattle.net_names.specs.Lines.{kept_from, IsLineAndRest};
 ghost use Rattle.net_names.specs.Texts.{is_skipped};
 
 use crate::reading::cut;
@@ -32,7 +32,7 @@ fn drop_cr(line: &[u8]) -> &[u8]
 // The first line, and the bytes after it.
 fn next_line(bytes: &[u8]) -> (&[u8], &[u8])
     requires { 0 < length bytes.now }
-    ensures lines { (number : ℕ) → kept_from number bytes.now ≡ (if not (is_skipped result.0.now) then (number, result.0.now) ∷ kept_from (number + 1) result.1.now else kept_from (number + 1) result.1.now) }
+    ensures lines { IsLineAndRest bytes.now result.0.now result.1.now }
     ensures shorter { length result.1.now < length bytes.now }
     ensures short { length result.0.now ≤ length bytes.now }
 {
