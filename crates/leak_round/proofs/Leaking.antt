@@ -1,5 +1,5 @@
 -- The leakers so far, one by one.
-use Rattle.std.proofs.Common.{◌≡◌, ◌≢◌, ℕ, zero, suc, ◌+◌, Bool, true, false, ◌||◌, ◌==◌, Option, Some, None, List, [], ◌∷◌, take, take_all, refl, sym, ap, ◌∙◌, inl, inr}
+use Rattle.std.proofs.Common.{◌≡◌, ◌≢◌, ℕ, zero, suc, ◌+◌, Bool, true, false, ◌||◌, ◌==◌, Option, Some, None, List, [], ◌∷◌, ◌++◌, take, take_all, refl, sym, ap, ◌∙◌, inl, inr}
 use Rattle.std.specs.Prelude.{IsTrue, slice_get}
 use Rattle.std.specs.Ordering.{nat_cmp}
 use Rattle.std.proofs.lemmas.Bool.{or_cases, or_left, or_right, eqb-true, eq-eqb, false_from_ne_true}
@@ -11,7 +11,7 @@ use Rattle.route_choice.specs.declared.held.SeedHeld.{SeedHeld}
 use Rattle.leak_round.specs.Leaked.{leaked_by, own_or_leaked}
 use Rattle.leak_round.proofs.Listing.{take_next, past_end}
 
-occurs_at : (xs : List ℕ) (i a : ℕ) → slice_get xs i ≡ Some a → occurs a xs ≡ true
+pub occurs_at : (xs : List ℕ) (i a : ℕ) → slice_get xs i ≡ Some a → occurs a xs ≡ true
 occurs_at [] i a e = cc
 occurs_at (x ∷ xs) zero a e = let same : x ≡ a = cc in or_left (x == a) (occurs a xs) (eq-eqb x a same)
 occurs_at (x ∷ xs) (suc i) a e = or_right (x == a) (occurs a xs) (occurs_at xs i a e)
@@ -46,9 +46,13 @@ not_more : (b : Bool) → b ≡ (b || false)
 not_more true = refl
 not_more false = refl
 
+-- a number more at the end of a list
+pub occurs_more : (front more : List ℕ) (x : ℕ) → more ≡ front ++ x ∷ [] → (a : ℕ) → occurs a more ≡ (occurs a front || (x == a))
+occurs_more front more x is a = ap (occurs a) is ∙ list_any-append (λ (y : ℕ). y == a) front (x ∷ []) ∙ ap (λ b. occurs a front || b) (sym (not_more (x == a)))
+
 module _ (own before after : ℕ → Option SeedHeld) (held : ℕ → Option Held) (xs : List ℕ) (place x : ℕ) (at : slice_get xs place ≡ Some x) (so_far : (a : ℕ) → before a ≡ own_or_leaked (own a) (occurs a (take place xs)) (held a)) (this : after x ≡ own_or_leaked (before x) true (held x)) (others : (a : ℕ) → a ≢ x → after a ≡ before a) where
   more : (a : ℕ) → occurs a (take (place + 1) xs) ≡ (occurs a (take place xs) || (x == a))
-  more a = ap (occurs a) (take_next xs place x at) ∙ list_any-append (λ (y : ℕ). y == a) (take place xs) (x ∷ []) ∙ ap (λ b. occurs a (take place xs) || b) (sym (not_more (x == a)))
+  more = occurs_more (take place xs) (take (place + 1) xs) x (take_next xs place x at)
 
   at_this : (b : Bool) (a : ℕ) → (x == a) ≡ b → after a ≡ own_or_leaked (own a) (occurs a (take place xs) || b) (held a)
   at_this true a e =
