@@ -1,5 +1,7 @@
 pub mod Streams
+pub mod Jobs
 pub mod Task
+pub mod Settling
 pub mod Refusals
 pub mod Replies
 pub mod Laws

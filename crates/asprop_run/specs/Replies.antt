@@ -1,7 +1,6 @@
 -- What is written for a task.
 use Rattle.std.specs.Prelude.{◌≡◌, ◌||◌, ℕ, Bool, true, false, Some, None, List, [], ◌∷◌, ◌++◌, codes, if◌then◌else◌, decimal}
 use Rattle.clap.specs.Walk.{Text}
-use Rattle.scenario_text.specs.LineValues.{LineValue}
 use Rattle.scenario_text.specs.declared.acts.Act.{Act}
 use Rattle.scenario_text.specs.declared.acts.Act.TheVariants as act
 use Rattle.sim_core.specs.World.{World}
@@ -10,7 +9,9 @@ use Rattle.sim_core.specs.Answers.{IsAnswer, refusal_of}
 use Rattle.sim_core.specs.Edits.{HasChanges, IsAllowed, IsReason, edited}
 use Rattle.sim_core.specs.declared.errors.EditError.{EditError}
 use Rattle.sim_core.specs.declared.errors.QueryError.{QueryError}
+use Rattle.asprop_run.specs.Jobs.{Job, line_job, acts_job}
 use Rattle.asprop_run.specs.Refusals.{edit_refusal_text, refusal_text}
+use Rattle.asprop_run.specs.Settling.{IsActsText}
 
 -- the text is what is told for what a line asks, and the world after it: a query is answered, or refused for its reason; an edit that is allowed leaves the edited world, and the text says how many entries of the one family of routings differ from those of the one family after it; one that is refused says why, and the world stays (own format)
 abbrev pub IsReply : World → Kept → Act → Text → Bool → World → Type 0
@@ -31,15 +32,15 @@ pub record AppendsReply (w : World) (kept : Kept) (asks : Act) (refused : Bool) 
 abbrev pub head : Bool → ℕ → Text
 head heads number = if heads then codes "# " ++ (decimal number ++ 10 ∷ []) else []
 
--- the text is the head line and what is told for the line by the one and only stable routings of the world's rounds and by the ranks of its ASes, and the line leaves this world (Gao and Rexford 2001)
-abbrev pub AnswersLine : Bool → World → LineValue → Text → Bool → World → Type 0
-AnswersLine heads w line text refused after = (kept : Kept) × IsKept w kept
+-- the text is the whole answer to the job, by the one and only stable routings of the world's rounds and by the ranks of its ASes, and the job leaves this world: the head line and what is told for a line; or what activations come to, which is no refusal and changes nothing (Gao and Rexford 2001)
+abbrev pub AnswersJob : World → Job → Text → Bool → World → Type 0
+AnswersJob w (line_job heads line) text refused after = (kept : Kept) × IsKept w kept
     × (answer : Text) × IsReply w kept line.act answer refused after × (text ≡ head heads line.number ++ answer)
+AnswersJob w (acts_job acts) text refused after = (kept : Kept) × IsKept w kept × IsActsText w kept acts text × (refused ≡ false) × (after ≡ w)
 
--- the text answers the lines one after the other, each in the world that the lines before it leave; `refused` says whether an answer is a refusal (own format)
-abbrev pub AnswersLines : Bool → World → List LineValue → Text → Bool → Type 0
-AnswersLines heads w [] text refused = (text ≡ []) × (refused ≡ false)
-AnswersLines heads w (line ∷ lines) text refused =
-    (front rest : Text) × (first others : Bool) × (after : World)
-    × AnswersLine heads w line front first after × AnswersLines heads after lines rest others
-    × (text ≡ front ++ rest) × (refused ≡ (first || others))
+-- the text answers the jobs one after the other, each in the world that the jobs before it leave; `refused` says whether an answer is a refusal (own format)
+abbrev pub AnswersJobs : World → List Job → Text → Bool → Type 0
+AnswersJobs w [] text refused = (text ≡ []) × (refused ≡ false)
+AnswersJobs w (job ∷ jobs) text refused =
+    (front rest : Text) × (first others : Bool) × (after : World) × AnswersJob w job front first after
+    × AnswersJobs after jobs rest others × (text ≡ front ++ rest) × (refused ≡ (first || others))
