@@ -17,12 +17,12 @@ use Rattle.as_graph.specs.Order.{IsStart}
 pub rises : (ns : List ℕ) → IsStrictlyIncreasing ns → (i j : ℕ) → i < j → j < length ns → get_or ns i 0 < get_or ns j 0
 rises ns rising i j lt h = AllPairs-from_increasing ns rising i j 0 lt h
 
-occurs_at : (ns : List ℕ) (i : ℕ) → i < length ns → occurs (get_or ns i 0) ns ≡ true
+pub occurs_at : (ns : List ℕ) (i : ℕ) → i < length ns → occurs (get_or ns i 0) ns ≡ true
 occurs_at [] i l = absurd (omega arith)
 occurs_at (n ∷ ns) zero l = or_left (n == n) (occurs n ns) (eq-eqb n n refl)
 occurs_at (n ∷ ns) (suc i) l = or_right (n == get_or ns i 0) (occurs (get_or ns i 0) ns) (occurs_at ns i (omega arith))
 
-place_of : (ns : List ℕ) (a : ℕ) → occurs a ns ≡ true → (i : ℕ) × (i < length ns) × (get_or ns i 0 ≡ a)
+pub place_of : (ns : List ℕ) (a : ℕ) → occurs a ns ≡ true → (i : ℕ) × (i < length ns) × (get_or ns i 0 ≡ a)
 place_of [] a h = absurd (false≢true h)
 place_of (n ∷ ns) a h = elim (or_cases (n == a) (occurs a ns) h) [
   | inl e ↦ (0, omega arith, eqb-true n a e)

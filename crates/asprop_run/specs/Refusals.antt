@@ -2,8 +2,7 @@
 use Rattle.std.specs.Prelude.{[], ◌∷◌, ◌++◌, codes, decimal}
 use Rattle.clap.specs.Walk.{Text}
 use Rattle.net_names.specs.Prefixes.{PrefixValue}
-use Rattle.net_names.specs.Texts.{addr_text, prefix_text}
-use Rattle.reports.specs.Rows.{numbers_text}
+use Rattle.net_names.specs.Texts.{addr_text, prefix_text, numbers_text}
 use Rattle.sim_core.specs.declared.errors.EditError.{EditError}
 use Rattle.sim_core.specs.declared.errors.EditError.TheVariants as edit
 use Rattle.sim_core.specs.declared.errors.EditLimit.{EditLimit}

@@ -1,4 +1,4 @@
--- What is printed of a number, an address or a prefix is read again.
+-- What is printed of a class, a number, an address or a prefix is read again.
 use Rattle.std.proofs.Common.{◌≡◌, ℕ, ◌-◌, ◌%◌, ◌^◌, ◌<◌, ◌≤◌, true, false, List, length, All, Some, refl, arith, eq-eqb, lit<}
 use Rattle.std.specs.Prelude.{bytes_eq, decimal, ◌==◌, nat_lt, nat_le}
 use Rattle.std.specs.Str.Parse.{IsNumeral, digits_value}
@@ -6,11 +6,20 @@ use Rattle.std.proofs.lemmas.Bool.{lt-ltb, le-leb}
 use Rattle.std.proofs.lemmas.Fmt.{decimal_is_IsNumeral, length-decimal-le}
 use Rattle.net_names.specs.declared.addresses.Family.{Family}
 use Rattle.net_names.specs.declared.addresses.Family.TheVariants.{V4, V6}
+use Rattle.net_names.specs.declared.routes.Class.{Class}
+use Rattle.net_names.specs.declared.routes.Class.TheVariants.{Origin, Customer, Peer, Provider}
 use Rattle.net_names.specs.Addresses.{width, AddrValue, FitsFamily}
 use Rattle.net_names.specs.Prefixes.{PrefixValue, IsPrefix}
-use Rattle.net_names.specs.Texts.{numeral, asn_of, addr_text, addr_of, prefix_of, prefix_text}
+use Rattle.net_names.specs.Texts.{class_named, class_word, numeral, asn_of, addr_text, addr_of, prefix_of, prefix_text}
 use Rattle.net_names.proofs.AddressTexts.{slashless_v4, slashless_v6, text_v4, text_v6, in_v4_again, in_v6_again}
 use Rattle.net_names.proofs.TextLaws.{numeral_again, list_digits, short_again, bytes_eq_same, cut_again}
+
+pub class_again : (c : Class) → class_named (class_word c) ≡ Some c
+unfolding class_named
+class_again Origin = refl
+class_again Customer = refl
+class_again Peer = refl
+class_again Provider = refl
 
 pub asn_again : (n : ℕ) → 1 ≤ n → n < 2 ^ 32 → asn_of (decimal n) ≡ Some n
 unfolding asn_of

@@ -4,6 +4,7 @@ pub mod Pairs
 pub mod LinkLemmas
 pub mod Numerals
 pub mod Cuts
+pub mod KeptLines
 pub mod TextLaws
 pub mod Octets
 pub mod AddressTexts

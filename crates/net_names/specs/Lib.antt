@@ -9,4 +9,5 @@ pub mod Payloads
 pub mod Steps
 pub mod Trials
 pub mod Texts
+pub mod Lines
 pub mod Orders

@@ -1,6 +1,6 @@
--- The texts of AS numbers, addresses and prefixes: what each text says, and how each value is printed.
-use Rattle.std.specs.Prelude.{ℕ, ◌+◌, ◌-◌, ◌%◌, ◌^◌, ◌&&◌, ◌==◌, ◌==◌ as nat_eq, nat_lt, nat_le, List, ◌∷◌, ◌++◌, length, slice_get, decimal, Option, Some, None, option_map, if◌then◌else◌, position, unwrap_or, take, drop, true, Bool, bytes_eq, codes}
-use Rattle.std.specs.List.{starts_with, list_all, slice_split}
+-- The texts of classes, AS numbers, addresses and prefixes: what each text says, and how each value is printed.
+use Rattle.std.specs.Prelude.{ℕ, ◌+◌, ◌-◌, ◌%◌, ◌^◌, ◌&&◌, ◌==◌, ◌==◌ as nat_eq, nat_lt, nat_le, List, [], ◌∷◌, ◌++◌, length, slice_get, decimal, Option, Some, None, option_map, if◌then◌else◌, find, map, position, unwrap_or, take, drop, true, Bool, bytes_eq, codes}
+use Rattle.std.specs.List.{join_with_byte, starts_with, list_all, slice_split}
 use Rattle.std.specs.Bool.{then_some}
 use Rattle.std.specs.Option.{option_or, option_map_or}
 use Rattle.std.specs.Char.{is_digit}
@@ -10,6 +10,8 @@ use Rattle.std.specs.Net.Addr.{segments_of, octets_of}
 use Rattle.std.specs.Net.Text.{ipv4_text, hex_groups_text}
 use Rattle.std.specs.Net.Reader.{whole_value, read_ipv4, read_ipv6, dot}
 use Rattle.net_names.specs.declared.addresses.Family.TheVariants.{V4, V6}
+use Rattle.net_names.specs.declared.routes.Class.{Class}
+use Rattle.net_names.specs.declared.routes.Class.TheVariants as class
 use Rattle.net_names.specs.declared.routes.Rel.{Rel}
 use Rattle.net_names.specs.declared.routes.Rel.TheVariants.{Customer, Peer}
 use Rattle.net_names.specs.Numbers.{occurs}
@@ -32,6 +34,18 @@ is_skipped line = option_map_or (λ byte. byte == 35) (slice_get line 0) true
 -- what the second AS of a link is to the first: a customer for `-1`, a peer for `0` (CAIDA AS Relationships, serial-1)
 unfoldable pub rel_of : List ℕ → Option Rel
 rel_of text = if bytes_eq text (codes "-1") then Some Customer else (if bytes_eq text (codes "0") then Some Peer else None)
+
+-- the word for a class (own format)
+abbrev pub class_word : Class → List ℕ
+class_word c = elim c [ class.Origin ↦ codes "origin" | class.Customer ↦ codes "customer" | class.Peer ↦ codes "peer" | class.Provider ↦ codes "provider" ]
+
+-- the class whose word the text is (own format)
+unfoldable pub class_named : List ℕ → Option Class
+class_named text = find (λ c. bytes_eq text (class_word c)) (class.Origin ∷ class.Customer ∷ class.Peer ∷ class.Provider ∷ [])
+
+-- the numbers with one space between (own format)
+abbrev pub numbers_text : List ℕ → List ℕ
+numbers_text ns = join_with_byte 32 (map decimal ns)
 
 -- the number that the text writes in the radix, where it is one digit or more, up to `most`
 unfoldable pub numeral : ℕ → ℕ → List ℕ → Option ℕ

@@ -1,5 +1,5 @@
 //! The plain values of routing and their texts: AS numbers, relations and links of ASes, addresses,
-//! prefixes and payloads of both families, and paths.
+//! prefixes and payloads of both families, paths, and the lines of a file that count.
 //!
 //! Each type keeps its range by itself. A text has at most one value, and a value has one text,
 //! which is what the `put_` calls append. `Links` is a finite map with at most 1,500,000 links.
@@ -7,6 +7,7 @@
 
 mod addresses;
 mod coverage;
+mod lines;
 mod links;
 mod numbers;
 mod payloads;
@@ -17,11 +18,12 @@ mod writing;
 
 pub use addresses::{Addr, Family};
 pub use coverage::{covers, holds};
+pub use lines::{KeptLine, next_kept};
 pub use links::{Link, Links, LinksError, MOST_LINKS};
 pub use numbers::{Asn, NoMemory, Path};
 pub use payloads::Vrp;
 pub use prefixes::Prefix;
-pub use reading::{cut, number, read_addr, read_asn, read_prefix, read_vrp_asn, strip};
+pub use reading::{cut, number, read_addr, read_asn, read_class, read_prefix, read_vrp_asn, strip};
 pub use routes::{Class, Rel, State};
 pub use writing::{
     put_addr, put_asn, put_prefix, texts_are_read_again, v4_has_one_text, v6_has_one_text,

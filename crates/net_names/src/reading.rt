@@ -5,11 +5,12 @@ ghost use Rattle.std.specs.Net.Addr.{octets_of};
 ghost use Rattle.std.specs.Net.Reader.{whole_value, read_ipv4, read_ipv6, dot};
 ghost use Rattle.net_names.specs.Numbers.{occurs};
 ghost use Rattle.net_names.specs.Steps.{option_filter};
-ghost use Rattle.net_names.specs.Texts.{cut_at, numeral, asn_of, addr_of, prefix_of, vrp_asn_of, after};
+ghost use Rattle.net_names.specs.Texts.{cut_at, class_named, numeral, asn_of, addr_of, prefix_of, vrp_asn_of, after};
 
 use crate::addresses::{Addr, Family};
 use crate::numbers::Asn;
 use crate::prefixes::Prefix;
+use crate::routes::Class;
 use std::net::{Ipv4Addr, Ipv6Addr};
 
 fn find(text: &[u8], byte: u8) -> Option<usize>
@@ -69,6 +70,25 @@ pub fn read_asn(text: &[u8]) -> Option<Asn>
         return None;
     }
     Asn::new(n as u32)
+}
+
+/// The class of that word; `None` exactly where the text is none of `origin`, `customer`, `peer` and `provider`. The words
+/// are this project's own.
+#[tactic(auto, unfolding(crate::specs::Texts::class_named))]
+pub fn read_class(text: &[u8]) -> Option<Class>
+    ensures { result ≡ class_named text.now }
+{
+    if text == b"origin".as_slice() {
+        Some(Class::Origin)
+    } else if text == b"customer".as_slice() {
+        Some(Class::Customer)
+    } else if text == b"peer".as_slice() {
+        Some(Class::Peer)
+    } else if text == b"provider".as_slice() {
+        Some(Class::Provider)
+    } else {
+        None
+    }
 }
 
 fn read_v4(text: &[u8]) -> Option<u32>

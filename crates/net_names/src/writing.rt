@@ -3,7 +3,8 @@ ghost use Rattle.std.specs.Prelude.{◌≡◌, ℕ, ◌^◌, ◌<◌, ◌≤◌,
 ghost use Rattle.net_names.specs.Addresses.{AddrValue, FitsFamily};
 ghost use Rattle.net_names.specs.Prefixes.{PrefixValue, IsPrefix};
 ghost use Rattle.net_names.specs.declared.addresses.Family.TheVariants.{V4, V6};
-ghost use Rattle.net_names.specs.Texts.{asn_of, addr_of, addr_text, prefix_of, prefix_text};
+ghost use Rattle.net_names.specs.declared.routes.Class.{Class};
+ghost use Rattle.net_names.specs.Texts.{asn_of, class_named, class_word, addr_of, addr_text, prefix_of, prefix_text};
 
 use crate::addresses::{Addr, Family};
 use crate::numbers::{Asn, NoMemory};
@@ -53,8 +54,9 @@ pub fn v6_has_one_text()
     ensures again { (bits : ℕ) → bits < 2 ^ 128 → addr_of (addr_text (record { family = V6; bits = bits })) ≡ Some (record { family = V6; bits = bits }) }
 {}
 
-/// The printed text of an AS number, an address or a prefix is read again as that value.
+/// The printed text of a class, an AS number, an address or a prefix is read again as that value.
 pub fn texts_are_read_again()
+    ensures class { (c : Class) → class_named (class_word c) ≡ Some c }
     ensures asn { (n : ℕ) → 1 ≤ n → n < 2 ^ 32 → asn_of (decimal n) ≡ Some n }
     ensures addr { (a : AddrValue) → FitsFamily a.family a.bits → addr_of (addr_text a) ≡ Some a }
     ensures prefix { (p : PrefixValue) → IsPrefix p.family p.addr p.len → prefix_of (prefix_text p) ≡ Some p }

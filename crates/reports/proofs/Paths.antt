@@ -6,7 +6,8 @@ use Rattle.std.proofs.lemmas.List.{take_all}
 use Rattle.std.proofs.lemmas.Result.{on_ok_weaker}
 use Rattle.std.specs.Prelude.{Result, Ok, Err, OnOk, OnErr, is_err}
 use Rattle.reports.specs.Growth.{Grows}
-use Rattle.reports.specs.Rows.{more_numbers, numbers_text}
+use Rattle.net_names.specs.Texts.{numbers_text}
+use Rattle.reports.specs.Rows.{more_numbers}
 
 -- what grows twice has grown
 pub Grows-trans : (a b c : List ℕ) → Grows a b → Grows b c → Grows a c

@@ -5,21 +5,12 @@ use Rattle.std.specs.Option.{option_map_or}
 use Rattle.std.specs.Ordering.{nat_cmp}
 use Rattle.std.specs.FinMap as fin
 use Rattle.as_graph.specs.Topology.{Topology, ases}
-use Rattle.net_names.specs.declared.routes.Class.{Class}
-use Rattle.net_names.specs.declared.routes.Class.TheVariants.{Origin, Customer, Peer, Provider}
+use Rattle.net_names.specs.Texts.{class_word, numbers_text}
 use Rattle.stability_laws.specs.declared.entry.Entry.{Entry}
-
--- the word for a class (own format)
-abbrev pub class_word : Class → List ℕ
-class_word c = elim c [ Origin ↦ codes "origin" | Customer ↦ codes "customer" | Peer ↦ codes "peer" | Provider ↦ codes "provider" ]
 
 -- further numbers of a list, each after a space (own format)
 abbrev pub more_numbers : List ℕ → List ℕ
 more_numbers ns = flat_map (λ n. 32 ∷ decimal n) ns
-
--- the numbers with one space between (own format)
-abbrev pub numbers_text : List ℕ → List ℕ
-numbers_text ns = join_with_byte 32 (map decimal ns)
 
 -- the cells with `|` between, and a line feed (own format)
 abbrev pub row : List (List ℕ) → List ℕ

@@ -6,7 +6,8 @@ ghost use Rattle.route_choice.specs.Resources.{AreEntriesLive};
 ghost use Rattle.route_choice.specs.Routings.{entry_of, table_routing};
 ghost use Rattle.reports.specs.Growth.{Grows};
 ghost use Rattle.reports.specs.Held.{IsHeldLive};
-ghost use Rattle.reports.specs.Rows.{class_word, entry_text, more_numbers, numbers_text, entry_row, table as table_of};
+ghost use Rattle.net_names.specs.Texts.{class_word, numbers_text};
+ghost use Rattle.reports.specs.Rows.{entry_text, more_numbers, entry_row, table as table_of};
 
 use crate::bytes::put_bytes;
 use as_graph::Graph;

@@ -1,7 +1,8 @@
 //! The line of a trace.
 ghost use Rattle.std.specs.Prelude.{◌≡◌, ◌++◌, ◌∷◌, [], OnOk, OnErr};
 ghost use Rattle.reports.specs.Growth.{Grows};
-ghost use Rattle.reports.specs.Rows.{numbers_text, row};
+ghost use Rattle.net_names.specs.Texts.{numbers_text};
+ghost use Rattle.reports.specs.Rows.{row};
 ghost use Rattle.reports.specs.Traces.{end_word};
 
 use crate::bytes::put_bytes;

@@ -6,6 +6,7 @@ use Rattle.std.specs.Bool.{then_some}
 use Rattle.std.specs.List.{list_all}
 use Rattle.std.specs.Option.{is_some, option_or, option_zip, some_prefix}
 use Rattle.net_names.specs.Payloads.{VrpValue, vrp_at}
+use Rattle.net_names.specs.Prefixes.{PrefixValue}
 use Rattle.net_names.specs.Steps.{◌>>=◌, option_filter}
 use Rattle.net_names.specs.Texts.{after, cut_at, fields, numeral, asn_of, vrp_asn_of, prefix_of, addr_of, rel_of}
 use Rattle.policy_kinds.specs.Names.{kind_named}
@@ -33,6 +34,10 @@ path_of text = let ns = map asn_of (fields 32 text) in
 -- a line that begins with this word, and goes on with these fields, asks for this (own format)
 abbrev pub form : {A B : Type 0} → String → (List ℕ → Option A) → (A → B) → List ℕ → Option B
 form word fields asks line = option_map asks (after (codes word) line >>= fields)
+
+-- `for R P` names the round R, which is 1 to 9 digits, and the prefix P (own format)
+unfoldable pub for_of : List ℕ → Option (ℕ × PrefixValue)
+for_of = form "for " (pair 32 (numeral 10 9) prefix_of) (λ x. x)
 
 -- the forms of queries: of round R the table of prefix P, the row of AS A in it, the trace from A to address D, and the counts for D; all ranks; the state of P with origin A. A round is 1 to 9 digits; leading zeros are allowed (own format)
 unfoldable pub query_of : List ℕ → Option Query

@@ -1,9 +1,9 @@
 -- When a scenario and a script are accepted, said of all their parts at once.
 use Rattle.std.specs.Prelude.{◌≡◌, ℕ, ◌≤◌, ◌↔◌, List, length, map, All, Option, Some, Ok, IsOk, IsSome}
 use Rattle.serde_json.specs.Data.{Data}
+use Rattle.net_names.specs.Lines.{kept_from}
 use Rattle.scenario_text.specs.declared.acts.Act.{Act}
 use Rattle.scenario_text.specs.Forms.{act_of}
-use Rattle.scenario_text.specs.Lines.{kept_from}
 use Rattle.scenario_text.specs.LineValues.{LineValue}
 use Rattle.scenario_text.specs.Members.{lists_in}
 use Rattle.scenario_text.specs.Readings.{json_of, scenario_of_bytes}

@@ -1,4 +1,3 @@
-pub mod Lines
 pub mod LineValues
 pub mod Forms
 pub mod Walks

@@ -3,13 +3,13 @@ use Rattle.std.specs.Prelude.{◌≡◌, ℕ, List, map, fold, nat_lt, None, ok_
 use Rattle.std.specs.List.{enumerate_from}
 use Rattle.std.specs.Option.{option_or}
 use Rattle.std.specs.Result.{result_err, ok_prefix}
+use Rattle.net_names.specs.Lines.{kept_from}
 use Rattle.net_names.specs.Steps.{unless}
 use Rattle.scenario_text.specs.LineValues.{LineValue}
 use Rattle.scenario_text.specs.declared.script.ScriptError.{ScriptError}
 use Rattle.scenario_text.specs.declared.script.ScriptError.TheVariants.{Memory, Unreadable, TooMany}
 use Rattle.scenario_text.specs.Walks.{◌>>=◌}
 use Rattle.scenario_text.specs.Forms.{act_of}
-use Rattle.scenario_text.specs.Lines.{kept_from}
 use Rattle.scenario_text.specs.declared.script.TheConstants.{MOST_COMMANDS}
 
 -- what a line says that isn't skipped, given with its number, where so many others stand before it: its form is judged first, and then that fewer than 100,000 stand before it (own format)

@@ -1,5 +1,5 @@
 //! The fields of a script's line.
-ghost use Rattle.std.specs.Prelude.{◌≡◌, ℕ, List, Option};
+ghost use Rattle.std.specs.Prelude.{◌≡◌, ℕ, ◌^◌, ◌<◌, List, Option, IfSome};
 ghost use Rattle.net_names.specs.Texts.{asn_of, prefix_of, addr_of, rel_of, vrp_asn_of, numeral};
 ghost use Rattle.policy_kinds.specs.Names.{kind_named};
 ghost use Rattle.scenario_text.specs.Forms.{pair, vrp_of};
@@ -73,6 +73,17 @@ impl Field for KindField {
     }
 }
 
+/// The round that 1 to 9 digits write.
+pub(crate) fn read_round(text: &[u8]) -> Option<u32>
+    ensures value { result ≡ numeral 10 9 text.now }
+    ensures small { IfSome result (λ n. n < 10 ^ 9) }
+{
+    match number(text, 10, 9) {
+        Some(n) => Some(n as u32),
+        None => None,
+    }
+}
+
 /// A round.
 pub(crate) struct RoundField;
 
@@ -82,10 +93,7 @@ impl Field for RoundField {
     ghost says = { numeral 10 9 };
 
     fn read(text: &[u8]) -> Option<u32> {
-        match number(text, 10, 9) {
-            Some(n) => Some(n as u32),
-            None => None,
-        }
+        read_round(text)
     }
 }
 

@@ -1,18 +1,18 @@
 //! The forms of a script's line.
-ghost use Rattle.std.specs.Prelude.{◌≡◌, ◌≤◌, length, Some, IfOk, IfSome, option_and_then, option_map};
+ghost use Rattle.std.specs.Prelude.{◌≡◌, ◌^◌, ◌<◌, ◌≤◌, length, Some, IfOk, IfSome, option_and_then, option_map};
 ghost use Rattle.net_names.specs.Texts.{after, prefix_of};
 ghost use Rattle.scenario_text.specs.declared.acts.Act.TheVariants.{Edit as AnEdit};
 ghost use Rattle.scenario_text.specs.declared.acts.Edit.TheVariants.{Announce as AnAnnounce};
 ghost use Rattle.scenario_text.specs.LineValues.{IsSoundAct};
-ghost use Rattle.scenario_text.specs.Forms.{path_of, pair, form, query_of, act_of};
+ghost use Rattle.scenario_text.specs.Forms.{path_of, pair, form, for_of, query_of, act_of};
 
 use crate::acts::{Act, Edit, Query};
 use crate::fields::{
     AddrField, AsnField, Barred, Field, KindField, PrefixField, RelField, RoundField, Spaced,
-    VrpField,
+    VrpField, read_round,
 };
 use crate::limits::MOST_NUMBERS;
-use net_names::{NoMemory, Path, cut, read_asn, read_prefix, strip};
+use net_names::{NoMemory, Path, Prefix, cut, read_asn, read_prefix, strip};
 use std::alloc::Global;
 
 // The ASes of a path.
@@ -49,6 +49,20 @@ fn behind<F: Field>(line: &[u8], word: &[u8]) -> Option<F::To>
 {
     let rest = strip(line, word)?;
     F::read(rest)
+}
+
+/// The round, below 10^9, and the prefix of a line `for R P`, where R is 1 to 9 digits, leading zeros allowed, and P a prefix;
+/// `None` exactly where the line has not the form. The format is this project's own.
+#[tactic(auto, unfolding(crate::specs::Forms::for_of, crate::specs::Forms::pair))]
+pub fn read_for(line: &[u8]) -> Option<(u32, Prefix)>
+    ensures value { result ≡ for_of line.now }
+    ensures small { IfSome result (λ r. r.0 < 10 ^ 9) }
+{
+    let rest = strip(line, b"for ")?;
+    let (word, text) = cut(rest, b' ')?;
+    let round = read_round(word)?;
+    let prefix = read_prefix(text)?;
+    Some((round, prefix))
 }
 
 // What a line asks for that announces.

@@ -30,6 +30,7 @@ mod walks;
 
 pub use acts::{Act, Edit, Query};
 pub use faults::{LimitOf, ScenarioError};
+pub use forms::read_for;
 pub use laws::{lines_are_those_said, scenarios_are_those_said};
 pub use limits::{
     MOST_ANNOUNCEMENTS, MOST_LEAK_LISTS, MOST_LEAKERS, MOST_NUMBERS, MOST_PREFIXES, MOST_WATCHED,

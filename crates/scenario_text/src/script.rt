@@ -1,14 +1,11 @@
 //! Reading a script.
-ghost use Rattle.std.specs.Prelude.{◌≡◌, ℕ, ◌+◌, ◌<◌, ◌≤◌, not, ◌∷◌, length, IfOk, if◌then◌else◌};
-ghost use Rattle.net_names.specs.Texts.{is_skipped};
-ghost use Rattle.scenario_text.specs.Lines.{kept_from};
-ghost use Rattle.std.specs.Str.Lines.{strip_carriage_return};
+ghost use Rattle.std.specs.Prelude.{◌≡◌, ◌≤◌, length, IfOk};
 ghost use Rattle.scenario_text.specs.LineValues.{IsSoundAct};
 ghost use Rattle.scenario_text.specs.Script.{Gives, command, script_of};
 
 use crate::forms::act;
 use crate::lines::{Line, Lines};
-use net_names::cut;
+use net_names::next_kept;
 use std::alloc::Global;
 
 /// Why a script is refused: the fault of its first faulty line. Lines are numbered from 1, and skipped lines count. A
@@ -31,35 +28,6 @@ pub enum ScriptError {
 
 /// How many lines of a script ask or edit at most.
 pub const MOST_COMMANDS: u32 = 100_000;
-
-// One carriage return at the end doesn't count.
-fn drop_cr(line: &[u8]) -> &[u8]
-    ensures { result.now ≡ strip_carriage_return line.now }
-{
-    if !line.is_empty() && line[line.len() - 1] == b'\r' {
-        &line[..line.len() - 1]
-    } else {
-        line
-    }
-}
-
-// The first line, and the bytes after it.
-fn next_line(bytes: &[u8]) -> (&[u8], &[u8])
-    requires { 0 < length bytes.now }
-    ensures lines { (number : ℕ) → kept_from number bytes.now ≡ (if not (is_skipped result.0.now) then (number, result.0.now) ∷ kept_from (number + 1) result.1.now else kept_from (number + 1) result.1.now) }
-    ensures shorter { length result.1.now < length bytes.now }
-{
-    match cut(bytes, b'\n') {
-        Some((line, rest)) => (drop_cr(line), rest),
-        None => (drop_cr(bytes), &bytes[..0]),
-    }
-}
-
-fn skips(line: &[u8]) -> bool
-    ensures { result ≡ is_skipped line.now }
-{
-    line.is_empty() || line[0] == b'#'
-}
 
 // What a line says that isn't skipped, where so many others stand before it.
 fn command_of(alloc: Global, line: &[u8], number: u32, before: u32) -> Result<Line, ScriptError>
@@ -90,19 +58,16 @@ pub fn read_script(alloc: Global, bytes: &[u8]) -> Result<Lines, ScriptError>
 {
     let mut lines = Lines::new(alloc);
     let mut rest = bytes;
-    let mut number: u32 = 0;
+    let mut number: u32 = 1;
     let mut count: u32 = 0;
-    while !rest.is_empty() {
-        let (line, more) = next_line(rest);
-        rest = more;
-        number += 1;
-        if !skips(line) {
-            let next = command_of(alloc, line, number, count)?;
-            count += 1;
-            match lines.push(next) {
-                Ok(()) => {}
-                Err(_) => return Err(ScriptError::Memory),
-            }
+    while let Some(kept) = next_kept(rest, number) {
+        rest = kept.rest;
+        number = kept.number + 1;
+        let next = command_of(alloc, kept.line, kept.number, count)?;
+        count += 1;
+        match lines.push(next) {
+            Ok(()) => {}
+            Err(_) => return Err(ScriptError::Memory),
         }
     }
     Ok(lines)

@@ -16,7 +16,8 @@ use Rattle.data_trace.proofs.Ends.{one_end}
 use Rattle.data_trace.proofs.Traces.{one_trace, trace_ends}
 use Rattle.stability_laws.specs.Plans.{announcers_of, has_prefix}
 use Rattle.reports.specs.Counts.{report_text}
-use Rattle.reports.specs.Rows.{entry_row, numbers_text, row, table}
+use Rattle.net_names.specs.Texts.{numbers_text}
+use Rattle.reports.specs.Rows.{entry_row, row, table}
 use Rattle.reports.specs.Traces.{end_word}
 use Rattle.reports.specs.declared.group.Group.{Group}
 use Rattle.sim_core.specs.Answers.{IsAnswer, refusal_of, needs}

@@ -13,7 +13,8 @@ use Rattle.data_trace.specs.contracts.kinds.EndPartialEq.TheImpl as same_end
 use Rattle.data_trace.specs.declared.kinds.End.{End}
 use Rattle.stability_laws.specs.Plans.{announcers_of, has_prefix}
 use Rattle.reports.specs.Counts.{report_text}
-use Rattle.reports.specs.Rows.{entry_row, numbers_text, row, table}
+use Rattle.net_names.specs.Texts.{numbers_text}
+use Rattle.reports.specs.Rows.{entry_row, row, table}
 use Rattle.reports.specs.Traces.{end_word}
 use Rattle.reports.specs.Validity.{validity_text}
 use Rattle.sim_core.specs.World.{World, has_round, topology}

@@ -19,3 +19,7 @@ pub mod Books
 pub mod Shorts
 pub mod PathEnds
 pub mod OfferPathLemmas
+pub mod Holders
+pub mod Listing
+pub mod Leaking
+pub mod RoundSeeds

@@ -20,3 +20,11 @@ put_at false x o e fits rest h = rest h
 -- one more short path
 pub short_insert : (m : map.FinMap nat_cmp Entry) (a : ℕ) (x : Entry) → HasShortPaths m → length x.path ≤ 4294967294 → HasShortPaths (map.insert m a x)
 short_insert m a x short fits n e h = put_at (eq_by_cmp nat_cmp n a) x (map.get m n) e fits (short n e) (sym (map.get-insert nat_cmp_total m a x n) ∙ h)
+
+gone_at : (b : Bool) (o : Option Entry) (e : Entry) → (o ≡ Some e → length e.path < 2 ^ 32 - 1) → cond b None o ≡ Some e → length e.path < 2 ^ 32 - 1
+gone_at true o e rest h = none_some e h
+gone_at false o e rest h = rest h
+
+-- one AS less
+pub short_remove : (m : map.FinMap nat_cmp Entry) (a : ℕ) → HasShortPaths m → HasShortPaths (map.remove m a)
+short_remove m a short n e h = gone_at (eq_by_cmp nat_cmp n a) (map.get m n) e (short n e) (sym (map.get-remove nat_cmp_total m a n) ∙ h)

@@ -1,5 +1,5 @@
 -- The entries of an ordered map of numbers as a finite map.
-use Rattle.std.proofs.Common.{◌≡◌, ℕ, cond, List, [], ◌∷◌, Some, refl, sym, ap, ◌∙◌}
+use Rattle.std.proofs.Common.{◌≡◌, ℕ, cond, List, [], ◌∷◌, Some, None, refl, sym, ap, ◌∙◌}
 use Rattle.std.specs.Ordering.{nat_cmp, eq_by_cmp}
 use Rattle.std.specs.Cmp.{eq_by_cmp_equiv, nat_cmp_total}
 use Rattle.std.specs.Map.{lookup}
@@ -22,3 +22,11 @@ module _ {X : Type 0} where
   stored_put es fs a x h = map.same_map nat_cmp_total map.nat_cmp-IsAntisymmetric _ _ (λ q.
       stored_at fs q ∙ h q ∙ ap (λ b. cond b (Some x) (lookup (is_at (nat_cmp q)) es)) ((eq_by_cmp_equiv nat_cmp_total).symm a q)
       ∙ sym (map.get-insert nat_cmp_total (map.from_entries es) a x q ∙ ap (cond (eq_by_cmp nat_cmp q a) (Some x)) (stored_at es q)))
+
+  -- entries of which those at one number are taken out make a map without it
+  pub stored_gone : (es fs : List (ℕ × X)) (a : ℕ)
+      → ((q : ℕ) → lookup (is_at (nat_cmp q)) fs ≡ cond (is_at (nat_cmp a) q) None (lookup (is_at (nat_cmp q)) es))
+      → map.from_entries {R = nat_cmp} fs ≡ map.remove (map.from_entries es) a
+  stored_gone es fs a h = map.same_map nat_cmp_total map.nat_cmp-IsAntisymmetric _ _ (λ q.
+      stored_at fs q ∙ h q ∙ ap (λ b. cond b None (lookup (is_at (nat_cmp q)) es)) ((eq_by_cmp_equiv nat_cmp_total).symm a q)
+      ∙ sym (map.get-remove nat_cmp_total (map.from_entries es) a q ∙ ap (cond (eq_by_cmp nat_cmp q a) None) (stored_at es q)))

@@ -17,3 +17,6 @@ pub mod Verdict
 pub mod Steps
 pub mod Runs
 pub mod AnyOrder
+pub mod Answers
+pub mod Seeding
+pub mod EntryTexts

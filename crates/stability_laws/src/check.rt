@@ -45,7 +45,7 @@ fn view_from<P: RoutePolicy, V: OriginStates>(
 }
 
 /// The better one of two views that may be missing.
-fn better<P: RoutePolicy>(policy: &P, best: Option<View>, new: Option<View>) -> Option<View>
+pub fn better<P: RoutePolicy>(policy: &P, best: Option<View>, new: Option<View>) -> Option<View>
     ensures { result ≡ better_of (P.meaning policy.now) best new }
 {
     match (best, new) {
@@ -60,7 +60,7 @@ fn better<P: RoutePolicy>(policy: &P, best: Option<View>, new: Option<View>) -> 
 }
 
 /// The view of the best offer of the neighbours, where one makes an offer.
-fn best_view<P: RoutePolicy, V: OriginStates>(
+pub(crate) fn best_view<P: RoutePolicy, V: OriginStates>(
     world: &World<'_, P, V>,
     neighbours: &[Neighbour],
     prefix: Prefix,

@@ -3,8 +3,9 @@
 //!
 //! A routing is stable where each AS holds its seed, or else the offer that its policy puts first, or
 //! nothing where it has no offer. In a world without a provider cycle no two stable routings differ,
-//! and activations in any order come to the stable one. `check_at` tests one AS, and the laws say what
-//! an offer and a choice depend on.
+//! and activations in any order come to the stable one. `check_at` tests one AS, `right_entry` answers
+//! what it would be right with, `seeds_at` what ASes put in in a round, and the laws say what an offer
+//! and a choice depend on.
 #![tactic(auto)]
 
 mod book;
@@ -13,6 +14,8 @@ mod entry;
 mod laws;
 mod offer_paths;
 mod offers;
+mod right;
+mod round_seeds;
 mod routing;
 mod same;
 mod seed_plan;
@@ -20,7 +23,7 @@ mod world;
 mod wrong;
 
 pub use book::Book;
-pub use check::check_at;
+pub use check::{better, check_at};
 pub use entry::{Entry, Seed};
 pub use laws::{
     any_order_settles, customers_decide, nothing_up, offer_follows, offer_names, one_answer,
@@ -28,7 +31,10 @@ pub use laws::{
 };
 pub use offer_paths::offer_path;
 pub use offers::{carried, class_from, number_sent, offered_view};
+pub use right::right_entry;
+pub use round_seeds::seeds_at;
 pub use routing::{Routing, Seeds};
+pub use same::{same_class, same_number, same_path};
 pub use seed_plan::{SeedEdit, SeedPlan, plans_are_sound};
 pub use world::World;
 pub use wrong::Wrong;

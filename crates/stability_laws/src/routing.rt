@@ -1,13 +1,16 @@
 //! What ASes hold, and what they put in by themselves.
-ghost use Rattle.std.specs.Prelude.{◌≡◌, ◌≤◌, length, option_copied, OnOk, OnErr};
+ghost use Rattle.std.specs.Prelude.{◌≡◌, ◌≤◌, ℕ, None, length, option_copied, OnOk, OnErr, IfSome, IfNone};
 ghost use Rattle.std.specs.FinMap as map;
+ghost use Rattle.as_graph.specs.Following.{IsAbove};
 ghost use Rattle.stability_laws.specs.Short.{HasShortPaths};
+ghost use Rattle.stability_laws.specs.Answers.{IsNextHolder};
 
 use crate::entry::{Entry, Seed};
 use net_names::{Asn, NoMemory};
 use std::alloc::Global;
 use std::collections::BTreeMap;
 use std::marker::Model;
+use std::ops::Bound;
 
 /// What each AS holds, for one prefix and one round. Contracts see a finite map; each path has at most
 /// 4294967294 numbers.
@@ -63,6 +66,29 @@ impl Routing {
         ensures short { HasShortPaths self.now }
     {
         self.entries.get(&asn)
+    }
+
+    /// The least AS above `after` that holds something, or the least of all where there is no bound;
+    /// `None` exactly where there is none.
+    pub fn next(&self, after: Option<Asn>) -> Option<Asn>
+        ensures found { IfSome result (IsNextHolder (map.get self.now) after) }
+        ensures none { IfNone result ((k : ℕ) → IsAbove after k → map.get self.now k ≡ None) }
+    {
+        let start = match after {
+            Some(asn) => Bound::Excluded(asn),
+            None => Bound::Unbounded,
+        };
+        match self.entries.range((start, Bound::Unbounded)).next() {
+            Some((asn, _)) => Some(*asn),
+            None => None,
+        }
+    }
+
+    /// Makes the AS hold nothing. It takes no memory.
+    pub fn clear(&mut self, asn: Asn)
+        ensures { self.new ≡ map.remove self.old asn }
+    {
+        let _ = self.entries.remove(&asn);
     }
 }
 

@@ -5,19 +5,22 @@ ghost use Rattle.stability_laws.specs.Entries.{seed_entry};
 use crate::entry::{Entry, Seed};
 use net_names::{Asn, Class};
 
-fn same_class(a: Class, b: Class) -> bool
+/// Whether both classes are the same.
+pub fn same_class(a: Class, b: Class) -> bool
     ensures { IsTrue result ↔ (a ≡ b) }
 {
     a == b
 }
 
-fn same_path(a: &[Asn], b: &[Asn]) -> bool
+/// Whether both paths have the same numbers.
+pub fn same_path(a: &[Asn], b: &[Asn]) -> bool
     ensures { IsTrue result ↔ (a.now ≡ b.now) }
 {
     a == b
 }
 
-fn same_number(a: Option<Asn>, b: Option<Asn>) -> bool
+/// Whether both are the same number, or none.
+pub fn same_number(a: Option<Asn>, b: Option<Asn>) -> bool
     ensures { IsTrue result ↔ (a ≡ b) }
 {
     a == b

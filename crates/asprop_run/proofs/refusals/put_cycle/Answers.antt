@@ -1,5 +1,5 @@
 use Rattle.std.proofs.Common.{◌++◌, ◌∙◌, ap, codes, List, ℕ}
-use Rattle.reports.specs.Rows.{numbers_text}
+use Rattle.net_names.specs.Texts.{numbers_text}
 use Rattle.asprop_run.proofs.RefusalPieces.{three_pieces}
 use Rattle.asprop_run.proofs.refusals.put_cycle.Goals as goal
 

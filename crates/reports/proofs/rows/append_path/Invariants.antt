@@ -1,7 +1,8 @@
 use Rattle.std.proofs.Common.{◌≡◌, ◌<◌, ◌++◌, length, drop}
 use Rattle.path_pool.specs.Pool.{IsLive, list_of}
 use Rattle.reports.specs.Growth.{Grows}
-use Rattle.reports.specs.Rows.{more_numbers, numbers_text}
+use Rattle.net_names.specs.Texts.{numbers_text}
+use Rattle.reports.specs.Rows.{more_numbers}
 use Rattle.reports.proofs.rows.append_path.Given as goal
 
 abbrev pub invariant-cells : goal.invariant-cells

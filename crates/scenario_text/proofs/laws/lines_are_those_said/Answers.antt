@@ -1,5 +1,5 @@
 use Rattle.std.proofs.Common.{arith, IsOk, subst, sym, ◌∙◌}
-use Rattle.scenario_text.specs.Lines.{kept_from}
+use Rattle.net_names.specs.Lines.{kept_from}
 use Rattle.scenario_text.specs.Script.{command, script_of}
 use Rattle.scenario_text.specs.Walks.{each_from}
 use Rattle.scenario_text.proofs.Walking.{each_from-values}

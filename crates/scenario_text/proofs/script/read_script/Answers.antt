@@ -1,30 +1,29 @@
-use Rattle.std.proofs.Common.{[], ◌∷◌, arith, sym}
+use Rattle.std.proofs.Common.{[], ◌∷◌, arith}
 use Rattle.std.proofs.lemmas.List.{length-append}
-use Rattle.std.proofs.lemmas.Bool.{eqb-true}
 use Rattle.std.proofs.lemmas.Result.{err_from_is_err_and}
 use Rattle.scenario_text.proofs.Commands.{starts, keeps_at, fails_at, ends}
 use Rattle.scenario_text.proofs.script.read_script.Goals as goal
 
-pub loop-rest-init : goal.loop-rest-init
-loop-rest-init c = record {
+pub loop-kept-init : goal.loop-kept-init
+loop-kept-init c = record {
   so_far = rw c.new-lines.ensures (starts c.args.bytes.now);
   count = rw c.new-lines.ensures (omega arith);
-  number = omega arith;
+  number = omega (arith, c.requires);
   few = omega arith;
 }
 
 pub returns-in_err-next : goal.returns-in_err-next
 returns-in_err-next c =
     let p = err_from_is_err_and c.from_residual.result c.from_residual.ensures.1 in
-    rw (p.1, p.2) (fails_at c.loop-rest.count c.in_err-next.field-0.0 c.loop-rest.lines c.loop-rest.number c.loop-rest.rest.now c.next_line.result.0.now c.next_line.result.1.now _ c.loop-rest.invariant.count c.next_line.ensures.lines c.if-not-skips.ensures c.in_err-next.ensures.gives c.loop-rest.invariant.so_far)
+    rw (p.1, p.2) (fails_at c.loop-kept.count c.in_err-next.field-0.0 c.loop-kept.lines _ _ _ _ c.loop-kept.invariant.count c.in-Some.ensures.some c.in_err-next.ensures.gives c.loop-kept.invariant.so_far)
 
-pub loop-rest-preserved-in-Ok : goal.loop-rest-preserved-in-Ok
-loop-rest-preserved-in-Ok c = record {
-  so_far = rw c.in-Ok.ensures.ok (keeps_at c.loop-rest.count c.loop-rest.lines c.loop-rest.number c.loop-rest.rest.now c.next_line.result.0.now c.next_line.result.1.now c.in_ok-next.next _ c.loop-rest.invariant.count c.next_line.ensures.lines c.if-not-skips.ensures c.in_ok-next.ensures.gives c.loop-rest.invariant.so_far);
-  count = rw c.in-Ok.ensures.ok (omega (arith, length-append c.loop-rest.lines (c.in_ok-next.next ∷ []), c.loop-rest.invariant.count));
-  number = omega (arith, c.loop-rest.invariant.number, c.next_line.ensures.shorter);
-  few = omega (arith, c.loop-rest.invariant.few);
+pub loop-kept-preserved : goal.loop-kept-preserved
+loop-kept-preserved c = record {
+  so_far = rw c.in-Ok.ensures.ok (keeps_at c.loop-kept.count c.loop-kept.lines _ _ _ c.in_ok-next.next _ c.loop-kept.invariant.count c.in-Some.ensures.some c.in_ok-next.ensures.gives c.loop-kept.invariant.so_far);
+  count = rw c.in-Ok.ensures.ok (omega (arith, length-append c.loop-kept.lines (c.in_ok-next.next ∷ []), c.loop-kept.invariant.count));
+  number = omega (arith, c.loop-kept.invariant.number, c.in-Some.ensures.room);
+  few = omega (arith, c.loop-kept.invariant.few, c.in-Some.ensures.later);
 }
 
 pub returns : goal.returns
-returns c = ends c.loop-rest.lines c.loop-rest.number c.loop-rest.rest.now _ (eqb-true _ _ (sym c.loop-rest-test.ensures)) c.loop-rest.invariant.so_far
+returns c = ends c.loop-kept.lines _ _ c.in_default.ensures.none c.loop-kept.invariant.so_far

@@ -1,0 +1,26 @@
+-- The leakers so far, one by one: what ASes put in, of whatever form the seeds and the entries are; for callers too.
+use Rattle.std.proofs.Common.{◌≡◌, ◌≢◌, ℕ, ◌+◌, Bool, true, false, ◌||◌, ◌==◌, Option, Some, List, [], ◌∷◌, take, refl, sym, ap, ◌∙◌}
+use Rattle.std.specs.Prelude.{slice_get}
+use Rattle.std.proofs.lemmas.Bool.{eqb-true, eq-eqb}
+use Rattle.std.proofs.lemmas.List.Folds.{list_any-append}
+use Rattle.net_names.specs.Numbers.{occurs}
+use Rattle.stability_laws.proofs.Listing.{take_next}
+
+not_more : (b : Bool) → b ≡ (b || false)
+not_more true = refl
+not_more false = refl
+
+-- who leaks twice puts in the same
+module _ {S H : Type 0} (put : Option S → Bool → Option H → Option S) (again : (o : Option S) (b : Bool) (h : Option H) → put (put o b h) true h ≡ put o (b || true) h) (own before after : ℕ → Option S) (held : ℕ → Option H) (xs : List ℕ) (place x : ℕ) (at : slice_get xs place ≡ Some x) (so_far : (a : ℕ) → before a ≡ put (own a) (occurs a (take place xs)) (held a)) (this : after x ≡ put (before x) true (held x)) (others : (a : ℕ) → a ≢ x → after a ≡ before a) where
+  more : (a : ℕ) → occurs a (take (place + 1) xs) ≡ (occurs a (take place xs) || (x == a))
+  more a = ap (occurs a) (take_next xs place x at) ∙ list_any-append (λ (y : ℕ). y == a) (take place xs) (x ∷ []) ∙ ap (λ b. occurs a (take place xs) || b) (sym (not_more (x == a)))
+
+  at_this : (b : Bool) (a : ℕ) → (x == a) ≡ b → after a ≡ put (own a) (occurs a (take place xs) || b) (held a)
+  at_this true a e =
+      let same : x ≡ a = eqb-true x a e in
+      ap after (sym same) ∙ this ∙ ap (λ y. put (before y) true (held y)) same ∙ ap (λ o. put o true (held a)) (so_far a) ∙ again (own a) (occurs a (take place xs)) (held a)
+  at_this false a e = others a (λ same. (let t : (x == a) ≡ true = eq-eqb x a (sym same) in cc)) ∙ so_far a ∙ ap (λ b. put (own a) b (held a)) (not_more (occurs a (take place xs)))
+
+  -- one leaker more
+  pub leaked_more : (a : ℕ) → after a ≡ put (own a) (occurs a (take (place + 1) xs)) (held a)
+  leaked_more a = at_this (x == a) a refl ∙ sym (ap (λ b. put (own a) b (held a)) (more a))
