@@ -1,5 +1,4 @@
 pub mod Streams
-pub mod Jobs
 pub mod Task
 pub mod Settling
 pub mod Refusals

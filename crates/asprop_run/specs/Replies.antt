@@ -1,15 +1,18 @@
 -- What is written for a task.
-use Rattle.std.specs.Prelude.{◌≡◌, ◌||◌, ℕ, Bool, true, false, Some, None, List, [], ◌∷◌, ◌++◌, codes, if◌then◌else◌, decimal}
+use Rattle.std.specs.Prelude.{◌≡◌, ◌||◌, ℕ, Bool, true, false, Some, None, List, [], ◌∷◌, ◌++◌, codes, if◌then◌else◌, decimal, flat_map}
+use Rattle.std.specs.FinMap as fin
 use Rattle.clap.specs.Walk.{Text}
 use Rattle.scenario_text.specs.declared.acts.Act.{Act}
 use Rattle.scenario_text.specs.declared.acts.Act.TheVariants as act
-use Rattle.sim_core.specs.World.{World}
+use Rattle.sim_core.specs.World.{World, topology}
 use Rattle.sim_core.specs.Kept.{Kept, IsKept}
 use Rattle.sim_core.specs.Answers.{IsAnswer, refusal_of}
 use Rattle.sim_core.specs.Edits.{HasChanges, IsAllowed, IsReason, edited}
 use Rattle.sim_core.specs.declared.errors.EditError.{EditError}
 use Rattle.sim_core.specs.declared.errors.QueryError.{QueryError}
-use Rattle.asprop_run.specs.Jobs.{Job, line_job, acts_job}
+use Rattle.as_graph.specs.Topology.{as_count}
+use Rattle.reports.specs.Rows.{row}
+use Rattle.task_reading.specs.Jobs.{Job, acts_job, counts_job, line_job}
 use Rattle.asprop_run.specs.Refusals.{edit_refusal_text, refusal_text}
 use Rattle.asprop_run.specs.Settling.{IsActsText}
 
@@ -32,11 +35,14 @@ pub record AppendsReply (w : World) (kept : Kept) (asks : Act) (refused : Bool) 
 abbrev pub head : Bool → ℕ → Text
 head heads number = if heads then codes "# " ++ (decimal number ++ 10 ∷ []) else []
 
--- the text is the whole answer to the job, by the one and only stable routings of the world's rounds and by the ranks of its ASes, and the job leaves this world: the head line and what is told for a line; or what activations come to, which is no refusal and changes nothing (Gao and Rexford 2001)
+-- the text is the whole answer to the job, by the one and only stable routings of the world's rounds and by the ranks of its ASes, and the job leaves this world: the numbers of ASes and links; the head line and what is told for a line; or what activations come to (own format; Gao and Rexford 2001)
 abbrev pub AnswersJob : World → Job → Text → Bool → World → Type 0
+AnswersJob w counts_job text refused after = (refused ≡ false) × (after ≡ w)
+    × (text ≡ flat_map row ((codes "ases" ∷ decimal (as_count (topology w)) ∷ []) ∷ (codes "links" ∷ decimal (fin.len w.links) ∷ []) ∷ []))
 AnswersJob w (line_job heads line) text refused after = (kept : Kept) × IsKept w kept
     × (answer : Text) × IsReply w kept line.act answer refused after × (text ≡ head heads line.number ++ answer)
-AnswersJob w (acts_job acts) text refused after = (kept : Kept) × IsKept w kept × IsActsText w kept acts text × (refused ≡ false) × (after ≡ w)
+AnswersJob w (acts_job acts) text refused after = (refused ≡ false) × (after ≡ w)
+    × (kept : Kept) × IsKept w kept × IsActsText w kept acts text
 
 -- the text answers the jobs one after the other, each in the world that the jobs before it leave; `refused` says whether an answer is a refusal (own format)
 abbrev pub AnswersJobs : World → List Job → Text → Bool → Type 0

@@ -21,6 +21,7 @@ use Rattle.activations.specs.declared.reading.ActsError.{ActsError}
 use Rattle.activations.specs.declared.reading.ActsError.TheVariants as acts
 use Rattle.task_reading.specs.declared.words.FileOption.{FileOption}
 use Rattle.task_reading.specs.declared.words.FileOption.TheVariants as option
+use Rattle.task_reading.specs.Jobs.{acts_job, line_job}
 use Rattle.task_reading.specs.Asking.{Reads, asked, jobs_in, read_as, bytes_of}
 use Rattle.task_reading.specs.Words.{Form, origin_form, file_form, demo_form}
 use Rattle.task_reading.specs.declared.types.File.{File}

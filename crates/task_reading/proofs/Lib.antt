@@ -7,3 +7,4 @@ pub mod InOrder
 pub mod Faults
 pub mod Feeding
 pub mod NoPayloads
+pub mod Shapes

@@ -48,14 +48,14 @@ read_as which most as_cause value reads = bytes_of which most (reads which) >>= 
 -- the jobs that the bytes of an option's file ask for, or why they say nothing (own format)
 abbrev pub jobs_in : FileOption → Text → Result (List Job) Cause
 jobs_in option.Script bytes = result_map_both (map (line_job true)) cause.Script (script_of bytes)
-jobs_in option.Activations bytes = result_map_both (λ acts. acts_job acts ∷ []) cause.Acts (acts_of bytes)
+jobs_in option.Activations bytes = result_map_both (λ a. acts_job a ∷ []) cause.Acts (acts_of bytes)
 
 -- what the form and the files ask for, or the first fault: the generated input, with the numbers of its ASes and links first; the routes of all ASes in round 1 to one origin, which announces 0.0.0.0/0 (RFC 4632, section 3.1) with its own number as the path, without payloads and without a head line;
 -- what an option's file asks for. A file that isn't named is empty, and so has no payloads or lines; without a scenario its four lists are empty
 abbrev pub asked : Option Form → Reads → Result Asked Fault
 asked None reads = Err fault.Usage
-asked (Some (demo_form n)) reads = let links = drawn_links n in
-    Ok (record { links = links; vrps = drawn_payloads n; scenario = drawn_scenario n; jobs = counts_job ∷ map (line_job true) (drawn_lines links) })
+asked (Some (demo_form n)) reads =
+    Ok (record { links = drawn_links n; vrps = drawn_payloads n; scenario = drawn_scenario n; jobs = counts_job ∷ map (line_job true) (drawn_lines (drawn_links n)) })
 asked (Some (origin_form _ origin)) reads = do
   links ← read_as file.Relations MOST_LIST_BYTES cause.Relation links_of reads
   let all : PrefixValue = record { family = V4; addr = 0; len = 0 } in

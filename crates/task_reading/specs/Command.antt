@@ -8,4 +8,4 @@ use Rattle.clap.specs.declared.builder.action.ArgAction.TheVariants.{Set}
 unfoldable pub asprop_command : App
 asprop_command = let bare = on_top (λ s. record s { disable_help_flag = true; disable_version_flag = true }) (new_app (codes "asprop")) in
     let option : Text → Rule = λ n. record (new_rule n) { action = Some Set; long = Some n } in
-    fold with_rule bare (map option (codes "vrps" ∷ codes "scenario" ∷ codes "script" ∷ codes "origin" ∷ codes "demo" ∷ codes "activations" ∷ []) ++ record (new_rule (codes "rel")) { action = Some Set } ∷ [])
+    fold with_rule bare (map option (map codes ("vrps" ∷ "scenario" ∷ "script" ∷ "origin" ∷ "demo" ∷ "activations" ∷ [])) ++ record (new_rule (codes "rel")) { action = Some Set } ∷ [])

@@ -1,5 +1,5 @@
 -- What is asked in a world: jobs, one after the other.
-use Rattle.std.specs.Prelude.{Bool, List, [], ◌∷◌, map, if◌then◌else◌}
+use Rattle.std.specs.Prelude.{◌≡◌, ◌⊎◌, All, Bool, List, [], ◌∷◌, false, true, map}
 use Rattle.activations.specs.Named.{AreSound}
 use Rattle.activations.specs.declared.acts.Acts.{Acts}
 use Rattle.scenario_text.specs.LineValues.{IsSoundAct, LineValue}
@@ -14,14 +14,15 @@ pub data Job : Type 0 where
   line_job : (heads : Bool) (line : LineValue) → Job
   acts_job : (acts : Acts) → Job
 
+-- the jobs of lines, and before them the numbers of ASes and links, if they come first
+abbrev pub line_jobs : Bool → Bool → List LineValue → List Job
+line_jobs true heads lines = counts_job ∷ map (line_job heads) lines
+line_jobs false heads lines = map (line_job heads) lines
+
 -- the jobs that are kept so
 abbrev pub jobs_of : Asks → List Job
-jobs_of (Lines heads lines) = map (line_job heads) lines
+jobs_of (Lines counts heads lines) = line_jobs counts heads lines
 jobs_of (Activations acts) = acts_job acts ∷ []
-
--- the numbers of ASes and links come first, or not
-abbrev pub with_counts : Bool → List Job → List Job
-with_counts counts jobs = if counts then counts_job ∷ jobs else jobs
 
 -- a job that is lent
 abbrev pub job_seen : LentJob → Job
@@ -31,7 +32,7 @@ job_seen (lent.Activations acts) = acts_job acts.now
 
 -- what is kept of activations is sound
 abbrev pub IsSoundAsks : Asks → Type 0
-IsSoundAsks (Lines heads lines) = Unit {0}
+IsSoundAsks (Lines counts heads lines) = Unit {0}
 IsSoundAsks (Activations acts) = AreSound acts
 
 -- what a line asks for and what a file of activations says are sound
@@ -39,3 +40,13 @@ abbrev pub IsSoundJob : Job → Type 0
 IsSoundJob counts_job = Unit {0}
 IsSoundJob (line_job heads line) = IsSoundAct line.act
 IsSoundJob (acts_job acts) = AreSound acts
+
+-- the job is that of a line, or the numbers of ASes and links
+abbrev pub IsOfLines : Job → Type 0
+IsOfLines counts_job = Unit {0}
+IsOfLines (line_job heads line) = Unit {0}
+IsOfLines (acts_job acts) = ⊥
+
+-- jobs are those of lines, or activations alone
+abbrev pub AreAlike : List Job → Type 0
+AreAlike jobs = All IsOfLines jobs ⊎ ((acts : Acts) × (jobs ≡ acts_job acts ∷ []))

@@ -19,7 +19,7 @@ use Rattle.task_reading.specs.declared.words.WordForm.TheVariants as form
 
 -- a form that the words may have (own format)
 pub data Form : Type 0 where
-  -- what an option's file asks for, over a relationship file, payloads and a scenario; its file may be left out
+  -- what the file of an option asks for, over a relationship file, payloads and a scenario; the files but the first may be left out
   file_form : (rel : Text) (vrps scenario file : Option Text) (option : FileOption) → Form
   -- the routes of all ASes to one origin, over a relationship file
   origin_form : (rel : Text) (origin : ℕ) → Form
@@ -34,9 +34,9 @@ HasSize (Some (origin_form rel origin)) = Unit {0}
 HasSize (Some (demo_form size)) = (4 ≤ size) × (size ≤ 20000)
 
 -- the table of the forms, by the options with a file for what is asked that stand, of which one at most may, and by the values of the word and of the other options that stand; where none of those stands, a script is asked for that has no name; a size is 1 to 5 digits, from 4 to 20000 (own format)
-abbrev pub form_by : List (FileOption × Text) → (rel vrps scenario origin demo : Option Text) → Option Form
-form_by [] (Some rel) vrps scenario None None = Some (file_form rel vrps scenario None option.Script)
-form_by (o ∷ []) (Some rel) vrps scenario None None = Some (file_form rel vrps scenario (Some o.1) o.0)
+abbrev pub form_by : List (FileOption × Text) → (rel vrps plan origin demo : Option Text) → Option Form
+form_by [] (Some rel) vrps plan None None = Some (file_form rel vrps plan None option.Script)
+form_by (o ∷ []) (Some rel) vrps plan None None = Some (file_form rel vrps plan (Some o.1) o.0)
 form_by [] (Some rel) None None (Some number) None = option_map (origin_form rel) (asn_of number)
 form_by [] None None None None (Some size) =
     option_map demo_form (option_filter (λ n. nat_le 4 n && nat_le n 20000) (numeral 10 5 size))
@@ -45,8 +45,8 @@ form_by _ _ _ _ _ _ = None
 -- the form of the words: that of the values of the word and of the options where the command finds no fault in the words, and else none (own format)
 unfoldable pub form_of : List Text → Option Form
 form_of words = let value = λ (n : String). first_of (codes n) (matches_of asprop_command words) in
-    let files = filter_map (λ o. option_map (λ file. (o.0, file)) (value o.1))
-        ((option.Script, "script") ∷ (option.Activations, "activations") ∷ []) in
+    let named : List (FileOption × String) = (option.Script, "script") ∷ (option.Activations, "activations") ∷ [] in
+    let files = filter_map (λ o. option_map (λ file. (o.0, file)) (value o.1)) named in
     if is_empty (fault_of asprop_command words) then form_by files (value "rel") (value "vrps") (value "scenario") (value "origin") (value "demo") else None
 
 -- the name that a form gives to a file, if it names one; the file of an option is read in the place of the script (own format)

@@ -8,8 +8,8 @@ ghost use Rattle.task_reading.specs.Files.{Prepares};
 ghost use Rattle.task_reading.specs.Sources.{source_of};
 ghost use Rattle.task_reading.specs.Words.{HasSize, demo_form, file_form, form_seen, origin_form, text_seen};
 
-use crate::reading::{read_jobs, read_payloads, read_plan, read_relations};
 use crate::jobs::Jobs;
+use crate::reading::{read_jobs, read_payloads, read_plan, read_relations};
 use crate::types::{AskError, Fault};
 use crate::words::{FileOption, WordForm};
 use io_edge::Inputs;

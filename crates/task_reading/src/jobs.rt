@@ -1,7 +1,8 @@
 //! What is asked in a world: jobs, one after the other.
-ghost use Rattle.std.specs.Prelude.{◌≡◌, ◌<◌, [], ◌∷◌, IfSome, length, map, option_map, slice_get};
+ghost use Rattle.std.specs.Prelude.{◌≡◌, [], ◌∷◌, IfSome, length, map, option_map, slice_get};
 ghost use Rattle.activations.specs.Named.{AreSound};
-ghost use Rattle.task_reading.specs.Jobs.{IsSoundAsks, IsSoundJob, acts_job, job_seen, jobs_of, line_job, with_counts};
+ghost use Rattle.scenario_text.specs.LineValues.{AreSoundLines};
+ghost use Rattle.task_reading.specs.Jobs.{AreAlike, IsSoundJob, acts_job, counts_job, job_seen, line_job, line_jobs};
 
 use activations::Acts;
 use scenario_text::{Line, Lines};
@@ -21,61 +22,53 @@ pub enum Job<'a> {
 // How jobs are kept.
 #[derive(Drop)]
 enum Asks {
-    // The answers to lines, each with a head line or without.
-    Lines(bool, Lines),
+    // The answers to lines, each with a head line or without, and perhaps the numbers of ASes and links before.
+    Lines(bool, bool, Lines),
     // What activations come to.
     Activations(Acts),
 }
 
-impl Asks {
-    // How many jobs there are.
-    fn count(&self) -> usize
-        ensures value { result ≡ length (jobs_of self.now) }
-        ensures few { result < usize.MAX }
-    {
-        match self {
-            Asks::Lines(_, lines) => lines.as_slice().len(),
-            Asks::Activations(_) => 1,
-        }
+// The job of the line at a place.
+fn line_at(heads: bool, lines: &[Line], place: usize) -> Option<Job<'_>>
+    requires { AreSoundLines lines.now }
+    ensures value { option_map job_seen result ≡ slice_get (map (line_job heads) lines.now) place }
+    ensures sound { IfSome result (λ job. IsSoundJob (job_seen job)) }
+{
+    match lines.get(place) {
+        Some(line) => Some(Job::Line(heads, line)),
+        None => None,
     }
+}
 
-    // The job at a place.
-    fn at(&self, place: usize) -> Option<Job<'_>>
-        requires { IsSoundAsks self.now }
-        ensures value { option_map job_seen result ≡ slice_get (jobs_of self.now) place }
-        ensures sound { IfSome result (λ job. IsSoundJob (job_seen job)) }
-    {
-        match self {
-            Asks::Lines(heads, lines) => match lines.as_slice().get(place) {
-                Some(line) => Some(Job::Line(*heads, line)),
-                None => None,
-            },
-            Asks::Activations(acts) => {
-                if place == 0 {
-                    Some(Job::Activations(acts))
-                } else {
-                    None
-                }
-            }
-        }
+// The same, where the numbers of ASes and links have the first place.
+fn line_behind_counts(heads: bool, lines: &[Line], place: usize) -> Option<Job<'_>>
+    requires { AreSoundLines lines.now }
+    ensures value { option_map job_seen result ≡ slice_get (counts_job ∷ map (line_job heads) lines.now) place }
+    ensures sound { IfSome result (λ job. IsSoundJob (job_seen job)) }
+{
+    if place == 0 {
+        return Some(Job::Counts);
     }
+    line_at(heads, lines, place - 1)
 }
 
 /// Jobs, which are done one after the other. Contracts see the list of them.
 #[derive(Drop)]
 pub struct Jobs {
-    // Whether the numbers of ASes and links come first.
-    counts: bool,
     asks: Asks,
 }
 
 impl Model for Jobs {
     ghost use Rattle.std.specs.Prelude.{List};
-    ghost use Rattle.task_reading.specs.Jobs.{Job as AJob, IsSoundAsks, jobs_of, with_counts};
+    ghost use Rattle.std.specs.Coded.{codes};
+    ghost use Rattle.activations.specs.contracts.acts.Acts as acts;
+    ghost use Rattle.task_reading.specs.Jobs.{Job as AJob, IsSoundAsks, jobs_of};
 
     ghost Value = { List AJob };
 
-    ghost view = { λ j. with_counts j.counts (jobs_of j.asks) };
+    ghost coded = { Prim.hlevel (codes, acts.the_row.coded) };
+
+    ghost view = { λ j. jobs_of j.asks };
 
     ghost invariant = { λ j. IsSoundAsks j.asks };
 }
@@ -83,11 +76,10 @@ impl Model for Jobs {
 impl Jobs {
     /// The answers to lines, each with a head line or without, and perhaps the numbers of ASes and links before.
     pub(crate) fn of_lines(counts: bool, heads: bool, lines: Lines) -> Jobs
-        ensures { result ≡ with_counts counts (map (line_job heads) lines) }
+        ensures { result ≡ line_jobs counts heads lines }
     {
         Jobs {
-            counts,
-            asks: Asks::Lines(heads, lines),
+            asks: Asks::Lines(counts, heads, lines),
         }
     }
 
@@ -97,19 +89,19 @@ impl Jobs {
         ensures { result ≡ acts_job acts ∷ [] }
     {
         Jobs {
-            counts: false,
             asks: Asks::Activations(acts),
         }
     }
 
-    /// How many jobs there are.
+    /// How many jobs there are. They are lines, or activations alone.
     pub fn count(&self) -> usize
-        ensures { result ≡ length self.now }
+        ensures value { result ≡ length self.now }
+        ensures alike { AreAlike self.now }
     {
-        if self.counts {
-            self.asks.count() + 1
-        } else {
-            self.asks.count()
+        match &self.asks {
+            Asks::Lines(true, _, lines) => lines.as_slice().len() + 1,
+            Asks::Lines(false, _, lines) => lines.as_slice().len(),
+            Asks::Activations(_) => 1,
         }
     }
 
@@ -118,12 +110,16 @@ impl Jobs {
         ensures value { option_map job_seen result ≡ slice_get self.now place }
         ensures sound { IfSome result (λ job. IsSoundJob (job_seen job)) }
     {
-        if !self.counts {
-            self.asks.at(place)
-        } else if place == 0 {
-            Some(Job::Counts)
-        } else {
-            self.asks.at(place - 1)
+        match &self.asks {
+            Asks::Lines(true, heads, lines) => line_behind_counts(*heads, lines.as_slice(), place),
+            Asks::Lines(false, heads, lines) => line_at(*heads, lines.as_slice(), place),
+            Asks::Activations(acts) => {
+                if place == 0 {
+                    Some(Job::Activations(acts))
+                } else {
+                    None
+                }
+            }
         }
     }
 }

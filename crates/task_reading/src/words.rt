@@ -1,6 +1,6 @@
 //! The words of the command line.
 ghost use Rattle.std.specs.Prelude.{◌≡◌, ◌≤◌, ◌&&◌, IfOk, IfSome, List, Some, map, nat_le, option_map, string_bytes};
-ghost use Rattle.core.specs.List.{cons_option};
+ghost use Rattle.std.specs.List.{cons_option};
 ghost use Rattle.clap.specs.Walk.{Text};
 ghost use Rattle.net_names.specs.Steps.{option_filter};
 ghost use Rattle.net_names.specs.Texts.{numeral};
@@ -95,18 +95,15 @@ enum Standing<'a> {
 }
 
 // Those that stand, and one more option before them, if it stands.
-fn with_option<'a>(
-    option: FileOption,
-    file: Option<&'a str>,
-    others: Standing<'a>,
-) -> Standing<'a>
+fn with_option<'a>(option: FileOption, file: Option<&'a str>, others: Standing<'a>) -> Standing<'a>
     ensures { (files : List (AFileOption × Text)) → IsStanding others.entry files
         → IsStanding result (cons_option (option_map (λ name. (option, name)) (text_seen file.entry)) files) }
 {
     match (file, others) {
         (None, others) => others,
         (Some(file), Standing::None) => Standing::One(option, file),
-        (Some(_), _) => Standing::More,
+        (Some(_), Standing::One(_, _)) => Standing::More,
+        (Some(_), Standing::More) => Standing::More,
     }
 }
 

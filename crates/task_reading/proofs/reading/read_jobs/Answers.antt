@@ -1,4 +1,4 @@
-use Rattle.std.proofs.Common.{List, [], Some, Result, refl, subst}
+use Rattle.std.proofs.Common.{[], Some, refl}
 use Rattle.task_reading.proofs.ReadLemmas.{jobs_found}
 use Rattle.task_reading.proofs.reading.read_jobs.Goals as goal
 

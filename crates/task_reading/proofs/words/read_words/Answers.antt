@@ -20,7 +20,7 @@ returns c =
     record {
       form = accepted words _ _ _ _ _ _ _ _ (taken _ words c.in-Ok.ensures c.in-Ok-try_get_matches_from.ensures.kinds)
           (c.get_str-3.ensures ∙ stands _ _ _ rows) (c.get_str-4.ensures ∙ stands _ _ _ rows) (c.get_str-5.ensures ∙ stands _ _ _ rows)
-          (c.get_str-files-2.ensures ∙ stands _ _ _ rows) (c.get_str-files.ensures ∙ stands _ _ _ rows)
+          (c.get_str-2.ensures ∙ stands _ _ _ rows) (c.get_str.ensures ∙ stands _ _ _ rows)
           (c.get_str-6.ensures ∙ stands _ _ _ rows) (c.get_str-7.ensures ∙ stands _ _ _ rows)
           (c.form_by.ensures.form _ (c.with_option-files-2.ensures _ (c.with_option-files.ensures [] refl)));
       sized = c.form_by.ensures.sized;
