@@ -1,7 +1,7 @@
 pub mod Answering
 pub mod RefusalPieces
 pub mod Ending
-pub mod Starting
+pub mod Arguments
 pub mod StatusLemmas
 pub mod StatusRows
 pub mod OneText

@@ -27,3 +27,4 @@ mod Sizes
 mod Opening
 mod Undoing
 mod Starting
+pub mod PathsOut

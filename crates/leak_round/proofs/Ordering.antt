@@ -24,7 +24,8 @@ use Rattle.leak_round.specs.Overlays.{change_in, IsListed}
 use Rattle.leak_round.specs.Plans.{ases_told}
 use Rattle.leak_round.proofs.Committing.{change_from}
 use Rattle.leak_round.proofs.Laying.{here_true, is_at-true, apart_false}
-use Rattle.leak_round.proofs.Listing.{past_end, some_of}
+use Rattle.stability_laws.proofs.Listing.{past_end}
+use Rattle.leak_round.proofs.Listing.{some_of}
 
 occurs_contained : (xs : List ℕ) (a : ℕ) → occurs a xs ≡ true → Contains xs a
 occurs_contained xs a o =

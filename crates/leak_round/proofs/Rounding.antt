@@ -24,7 +24,7 @@ use Rattle.leak_round.specs.Growth.{KeepsPaths, GrowsBy}
 use Rattle.leak_round.specs.Tables.{AreFull, AreOfSize, IsRound}
 use Rattle.leak_round.proofs.Counting.{more_entries, no_entries, none_some}
 use Rattle.leak_round.proofs.Keeping.{keeps_itself, keeps_on, grows_on, round_kept, live_kept}
-use Rattle.leak_round.proofs.Listing.{at_next}
+use Rattle.stability_laws.proofs.Listing.{at_next}
 use Rattle.leak_round.proofs.Sums.{sum_by-zero, sum_by-change}
 
 pub same_or_not : (p q : PrefixValue) → (p ≡ q) ⊎ (p ≢ q)

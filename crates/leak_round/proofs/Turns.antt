@@ -11,6 +11,7 @@ use Rattle.stability_laws.specs.Stable.{IsRight}
 use Rattle.stability_laws.specs.Plans.{Plan, ListsRising, has_prefix, prefixes_of}
 use Rattle.stability_laws.specs.Rounds.{seeds_of as seeds_in}
 use Rattle.stability_laws.proofs.KeyLists.{apart_later, seen_before_end}
+use Rattle.stability_laws.proofs.Listing.{at_next}
 use Rattle.net_names.specs.Orders.{prefix_total}
 use Rattle.route_choice.specs.declared.round_tables.RoundTables.{RoundTables}
 use Rattle.leak_round.specs.declared.announced.Announced.{Announced}
@@ -19,7 +20,6 @@ use Rattle.leak_round.specs.Growth.{KeepsPaths}
 use Rattle.leak_round.specs.Planning.{CanPlan, ArePlanned, AreRoundsPlanned, AreSame, IsAdded, IsTurn, is_planned}
 use Rattle.leak_round.specs.Tables.{kept_in}
 use Rattle.leak_round.proofs.Keeping.{announced_kept, rounds_full_kept}
-use Rattle.leak_round.proofs.Listing.{at_next}
 use Rattle.leak_round.proofs.Roomed.{kept_same}
 
 -- the changes of all earlier rounds are planned, and of this round those of the prefixes before a place

@@ -16,3 +16,4 @@ pub mod Rounds
 pub mod Plans
 pub mod Told
 pub mod Planners
+pub mod SeedPaths

@@ -20,6 +20,7 @@ mod round;
 mod round_prefix;
 mod round_seeds;
 mod rounds;
+mod seeds_out;
 mod table_plans;
 mod told;
 mod touched;

@@ -23,6 +23,7 @@ ghost use Rattle.as_graph.specs.declared.build.TheConstants.{MOST_ASES};
 
 mod commits;
 mod planning;
+mod seeding;
 mod tidying;
 
 use crate::announced::{Announced, announce_all};
@@ -168,6 +169,14 @@ impl Rounds {
             return None;
         }
         self.tables.get(round as usize - 1)
+    }
+
+    /// How many rounds there are, at most 4.
+    pub fn count(&self) -> u32
+        ensures value { result ≡ round_count self.now }
+        ensures few { result ≤ 4 }
+    {
+        self.tables.len() as u32
     }
 
     /// The pool in which the paths of all tables stand. While no plan is open each of its outside holds

@@ -6,7 +6,7 @@ use Rattle.data_trace.specs.declared.kinds.End.{End}
 use Rattle.data_trace.specs.declared.kinds.End.TheVariants.{At, NoRoute, Loop}
 use Rattle.reports.specs.declared.group.Group.{Group}
 use Rattle.reports.specs.declared.group.Group.TheVariants.{Total, Stub, Of}
-use Rattle.reports.specs.Rows.{row}
+use Rattle.stability_laws.specs.EntryTexts.{row}
 
 -- the name of a group: all ASes, those without customers, or those whose policy is of a kind (own format)
 abbrev pub group_name : Group → List ℕ

@@ -5,7 +5,7 @@ use Rattle.net_names.specs.Payloads.{VrpValue}
 use Rattle.net_names.specs.Texts.{prefix_text}
 use Rattle.net_names.specs.declared.routes.State.{State}
 use Rattle.net_names.specs.declared.routes.State.TheVariants.{Valid, Invalid, NotFound}
-use Rattle.reports.specs.Rows.{row}
+use Rattle.stability_laws.specs.EntryTexts.{row}
 
 -- the word for a validation state (own format)
 abbrev pub state_word : State → List ℕ

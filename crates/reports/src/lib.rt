@@ -6,6 +6,7 @@
 #![tactic(auto)]
 
 mod bytes;
+mod entries;
 mod group;
 mod ranks;
 mod report;
@@ -13,6 +14,7 @@ mod rows;
 mod trace;
 mod validity;
 
+pub use entries::put_entry;
 pub use ranks::put_ranks;
 pub use report::put_report;
 pub use rows::{put_numbers, put_route, put_routes};

@@ -2,7 +2,8 @@
 ghost use Rattle.std.specs.Prelude.{◌≡◌, ◌++◌, ◌∷◌, [], OnOk, OnErr, decimal};
 ghost use Rattle.rank_order.specs.Ranks.{rank_at};
 ghost use Rattle.reports.specs.Growth.{Grows};
-ghost use Rattle.reports.specs.Rows.{row, table as table_of};
+ghost use Rattle.stability_laws.specs.EntryTexts.{row};
+ghost use Rattle.reports.specs.Rows.{table as table_of};
 
 use crate::bytes::{put_bytes, put_number};
 use as_graph::Graph;

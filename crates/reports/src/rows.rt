@@ -7,7 +7,8 @@ ghost use Rattle.route_choice.specs.Routings.{entry_of, table_routing};
 ghost use Rattle.reports.specs.Growth.{Grows};
 ghost use Rattle.reports.specs.Held.{IsHeldLive};
 ghost use Rattle.net_names.specs.Texts.{class_word, numbers_text};
-ghost use Rattle.reports.specs.Rows.{entry_text, more_numbers, entry_row, table as table_of};
+ghost use Rattle.stability_laws.specs.EntryTexts.{entry_text, entry_row};
+ghost use Rattle.reports.specs.Rows.{more_numbers, table as table_of};
 
 use crate::bytes::put_bytes;
 use as_graph::Graph;
@@ -15,7 +16,8 @@ use net_names::{Asn, Class, NoMemory, put_asn};
 use path_pool::{PathId, PathPool};
 use route_choice::{Held, Table};
 
-fn class_name(class: Class) -> &'static str
+// The word for a class.
+pub(crate) fn class_name(class: Class) -> &'static str
     ensures { result.now ≡ class_word class }
 {
     match class {
@@ -39,7 +41,7 @@ fn append_more_numbers(out: &mut Vec<u8>, numbers: &[Asn]) -> Result<(), NoMemor
 }
 
 // Appends the numbers with one space between.
-fn append_numbers(out: &mut Vec<u8>, numbers: &[Asn]) -> Result<(), NoMemory>
+pub(crate) fn append_numbers(out: &mut Vec<u8>, numbers: &[Asn]) -> Result<(), NoMemory>
     ensures ok { OnOk result (out.new.items ≡ out.old.items ++ numbers_text numbers.now) }
     ensures err { OnErr result (Grows out.old.items out.new.items) }
 {
@@ -99,7 +101,7 @@ fn append_path(out: &mut Vec<u8>, pool: &PathPool, path: PathId) -> Result<(), N
 }
 
 // Appends the number of an entry, if it has one.
-fn append_otc(out: &mut Vec<u8>, otc: Option<Asn>) -> Result<(), NoMemory>
+pub(crate) fn append_otc(out: &mut Vec<u8>, otc: Option<Asn>) -> Result<(), NoMemory>
     ensures ok { OnOk result (out.new.items ≡ out.old.items ++ option_map_or (λ n. codes "|otc " ++ decimal n) otc []) }
     ensures err { OnErr result (Grows out.old.items out.new.items) }
 {

@@ -96,7 +96,7 @@ first_true : (a b : Bool) → (a && b) ≡ true → a ≡ true
 first_true true b h = refl
 first_true false b h = absurd (cc)
 
-own_path : (asn : ℕ) (path : List ℕ) → starts_with nat_eq path (asn ∷ []) ≡ true → StartsWith asn path
+pub own_path : (asn : ℕ) (path : List ℕ) → starts_with nat_eq path (asn ∷ []) ≡ true → StartsWith asn path
 own_path asn [] h = absurd (cc)
 own_path asn (n ∷ ns) h = ap (λ (m : ℕ). Some m) (sym (eqb-true asn n (first_true (nat_eq asn n) _ h)))
 

@@ -14,7 +14,8 @@ use Rattle.data_trace.specs.declared.kinds.End.{End}
 use Rattle.stability_laws.specs.Plans.{announcers_of, has_prefix}
 use Rattle.reports.specs.Counts.{report_text}
 use Rattle.net_names.specs.Texts.{numbers_text}
-use Rattle.reports.specs.Rows.{entry_row, row, table}
+use Rattle.stability_laws.specs.EntryTexts.{entry_row, row}
+use Rattle.reports.specs.Rows.{table}
 use Rattle.reports.specs.Traces.{end_word}
 use Rattle.reports.specs.Validity.{validity_text}
 use Rattle.sim_core.specs.World.{World, has_round, topology}

@@ -1,5 +1,5 @@
 -- The leakers so far, one by one: what ASes put in, of whatever form the seeds and the entries are; for callers too.
-use Rattle.std.proofs.Common.{◌≡◌, ◌≢◌, ℕ, ◌+◌, Bool, true, false, ◌||◌, ◌==◌, Option, Some, List, [], ◌∷◌, take, refl, sym, ap, ◌∙◌}
+use Rattle.std.proofs.Common.{◌≡◌, ◌≢◌, ℕ, ◌+◌, Bool, true, false, ◌||◌, ◌==◌, Option, Some, List, [], ◌∷◌, ◌++◌, take, refl, sym, ap, ◌∙◌}
 use Rattle.std.specs.Prelude.{slice_get}
 use Rattle.std.proofs.lemmas.Bool.{eqb-true, eq-eqb}
 use Rattle.std.proofs.lemmas.List.Folds.{list_any-append}
@@ -10,10 +10,14 @@ not_more : (b : Bool) → b ≡ (b || false)
 not_more true = refl
 not_more false = refl
 
+-- a number more at the end of a list
+pub occurs_more : (front more : List ℕ) (x : ℕ) → more ≡ front ++ x ∷ [] → (a : ℕ) → occurs a more ≡ (occurs a front || (x == a))
+occurs_more front more x is a = ap (occurs a) is ∙ list_any-append (λ (y : ℕ). y == a) front (x ∷ []) ∙ ap (λ b. occurs a front || b) (sym (not_more (x == a)))
+
 -- who leaks twice puts in the same
 module _ {S H : Type 0} (put : Option S → Bool → Option H → Option S) (again : (o : Option S) (b : Bool) (h : Option H) → put (put o b h) true h ≡ put o (b || true) h) (own before after : ℕ → Option S) (held : ℕ → Option H) (xs : List ℕ) (place x : ℕ) (at : slice_get xs place ≡ Some x) (so_far : (a : ℕ) → before a ≡ put (own a) (occurs a (take place xs)) (held a)) (this : after x ≡ put (before x) true (held x)) (others : (a : ℕ) → a ≢ x → after a ≡ before a) where
   more : (a : ℕ) → occurs a (take (place + 1) xs) ≡ (occurs a (take place xs) || (x == a))
-  more a = ap (occurs a) (take_next xs place x at) ∙ list_any-append (λ (y : ℕ). y == a) (take place xs) (x ∷ []) ∙ ap (λ b. occurs a (take place xs) || b) (sym (not_more (x == a)))
+  more = occurs_more (take place xs) (take (place + 1) xs) x (take_next xs place x at)
 
   at_this : (b : Bool) (a : ℕ) → (x == a) ≡ b → after a ≡ put (own a) (occurs a (take place xs) || b) (held a)
   at_this true a e =

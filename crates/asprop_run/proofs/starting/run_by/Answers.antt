@@ -1,5 +1,5 @@
 use Rattle.io_edge.proofs.Appending.{Appends-nil}
-use Rattle.asprop_run.proofs.Starting.{over_words, without_words}
+use Rattle.asprop_run.proofs.Arguments.{over_words, without_words}
 use Rattle.asprop_run.proofs.starting.run_by.Goals as goal
 
 pub returns-in-Ok : goal.returns-in-Ok

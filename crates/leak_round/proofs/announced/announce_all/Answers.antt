@@ -8,7 +8,8 @@ use Rattle.stability_laws.specs.Plans.{has_prefix, prefixes_of, announcers_of}
 use Rattle.stability_laws.proofs.KeyLists.{seen_before_end}
 use Rattle.leak_round.specs.Limits.{announced_length, announced_count}
 use Rattle.leak_round.specs.Announced.{HasAnnounced}
-use Rattle.leak_round.proofs.Listing.{at_next, sum_next}
+use Rattle.stability_laws.proofs.Listing.{at_next}
+use Rattle.leak_round.proofs.Listing.{sum_next}
 use Rattle.leak_round.proofs.Numbers.{announcements_counted}
 use Rattle.leak_round.proofs.announced.announce_all.Goals as goal
 

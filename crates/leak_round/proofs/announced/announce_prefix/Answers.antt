@@ -6,7 +6,8 @@ use Rattle.stability_laws.specs.Plans.{announced_path, announcers_of, IsAnnounce
 use Rattle.stability_laws.proofs.KeyLists.{seen_before_end}
 use Rattle.leak_round.specs.Limits.{announced_length, announced_count}
 use Rattle.leak_round.specs.Announced.{HasAnnounced}
-use Rattle.leak_round.proofs.Listing.{at_next, sum_next, place_le, some_of}
+use Rattle.stability_laws.proofs.Listing.{at_next, place_le}
+use Rattle.leak_round.proofs.Listing.{sum_next, some_of}
 use Rattle.leak_round.proofs.announced.announce_prefix.Goals as goal
 
 pub overflow_add-place : goal.overflow_add-place

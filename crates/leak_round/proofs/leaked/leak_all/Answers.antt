@@ -5,8 +5,9 @@ use Rattle.stability_laws.specs.Plans.{leaks_in, leakers_of}
 use Rattle.route_choice.specs.Tables.{seed_at}
 use Rattle.leak_round.specs.Leaked.{own_or_leaked}
 use Rattle.leak_round.specs.Overlays.{held_with}
-use Rattle.leak_round.proofs.Listing.{place_le}
-use Rattle.leak_round.proofs.Leaking.{occurs-listed, leaked_more}
+use Rattle.stability_laws.proofs.Listing.{place_le, occurs-listed}
+use Rattle.stability_laws.proofs.Leaking.{leaked_more}
+use Rattle.leak_round.proofs.Leaking.{leaked_again}
 use Rattle.leak_round.proofs.leaked.leak_all.Goals as goal
 
 pub overflow_add-place : goal.overflow_add-place
@@ -26,7 +27,7 @@ leakers-preserved c =
     let xs = leakers_of c.args.plan.now c.args.round in
     let at : slice_get xs c.leakers.place ≡ Some c.in-Some.asn = sym c.in-Some.ensures.value in
     record {
-      so_far = leaked_more (seed_at c.args.seeds.now) (seed_at c.leakers.seeds) (seed_at c.leak.new.seeds) (held_with c.args.tables.now c.args.changes.now (c.args.round - 1) c.args.prefix) xs c.leakers.place c.in-Some.asn at c.leakers.invariant.so_far c.in_ok-leak.ensures.this c.in_ok-leak.ensures.others;
+      so_far = leaked_more own_or_leaked leaked_again (seed_at c.args.seeds.now) (seed_at c.leakers.seeds) (seed_at c.leak.new.seeds) (held_with c.args.tables.now c.args.changes.now (c.args.round - 1) c.args.prefix) xs c.leakers.place c.in-Some.asn at c.leakers.invariant.so_far c.in_ok-leak.ensures.this c.in_ok-leak.ensures.others;
       within = (let within = slice_get_within xs c.leakers.place c.in-Some.asn at in omega (arith, within));
     }
 

@@ -2,7 +2,7 @@ use Rattle.std.proofs.Common.{◌≡◌, ℕ, Option, Some, None, false, refl, s
 use Rattle.std.proofs.lemmas.Bool.{true≢false}
 use Rattle.std.specs.Prelude.{is_some}
 use Rattle.stability_laws.specs.Plans.{leaks_in, leakers_of}
-use Rattle.leak_round.proofs.Leaking.{occurs-listed}
+use Rattle.stability_laws.proofs.Listing.{occurs-listed}
 use Rattle.leak_round.proofs.own_seeds.has_leakers.Goals as goal
 
 none : (o : Option ℕ) → is_some o ≡ false → o ≡ None

@@ -1,7 +1,7 @@
 use Rattle.std.proofs.Common.{◌≡◌, ◌∷◌, [], ◌++◌, decimal, take}
 use Rattle.std.specs.List.{flat_map}
 use Rattle.rank_order.specs.Ranks.{rank_at}
-use Rattle.reports.specs.Rows.{row}
+use Rattle.stability_laws.specs.EntryTexts.{row}
 use Rattle.reports.proofs.ranks.put_ranks.Given as goal
 
 abbrev pub invariant-loop-place : goal.invariant-loop-place

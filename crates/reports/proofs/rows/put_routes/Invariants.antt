@@ -1,7 +1,7 @@
 use Rattle.std.proofs.Common.{◌≡◌, ◌++◌, take}
 use Rattle.std.specs.List.{flat_map}
 use Rattle.route_choice.specs.Routings.{table_routing}
-use Rattle.reports.specs.Rows.{entry_row}
+use Rattle.stability_laws.specs.EntryTexts.{entry_row}
 use Rattle.reports.proofs.rows.put_routes.Given as goal
 
 abbrev pub invariant-loop-asn : goal.invariant-loop-asn

@@ -1,0 +1,8 @@
+mod Greedy
+mod Marks
+mod Counting
+mod Runs
+mod Heights
+mod Words
+mod Lines
+mod Sound

@@ -1,0 +1,167 @@
+//! Reading a file of activations.
+ghost use Rattle.std.specs.Prelude.{◌≡◌, ◌==◌ as nat_eq, ◌+◌, ◌^◌, ◌<◌, ◌≤◌, [], ◌∷◌, IfOk, true, length};
+ghost use Rattle.std.specs.List.{starts_with};
+ghost use Rattle.net_names.specs.Lines.{kept_from, said_on};
+ghost use Rattle.activations.specs.Files.{Gives, acts_of, only_for, with_acts, with_hold, with_line};
+ghost use Rattle.activations.specs.Named.{AreSound};
+
+use crate::acts::{Acts, NamedAses};
+use crate::forms::{act, hold};
+use net_names::{Asn, Path, Prefix, next_kept};
+use scenario_text::read_for;
+use stability_laws::{Entry, Routing};
+use std::alloc::Global;
+
+/// How many activations a file asks for at most.
+pub const MOST_ACTIVATIONS: u32 = 1_000_000;
+
+/// Why a file of activations is refused: the fault of its first faulty line, where it has one. Lines are
+/// numbered from 1, and skipped lines count. A line is judged in the order Unreadable, Twice, TooMany.
+#[derive(Clone, Copy, Debug, PartialEq, Eq)]
+pub enum ActsError {
+    /// Memory ran out.
+    Memory,
+    /// The line has not the form: the first line that isn't skipped names the round and the prefix, and
+    /// then come lines that say what ASes hold, and lines that activate ASes.
+    Unreadable {
+        /// The number of the line.
+        line: u32,
+    },
+    /// An earlier line says what the AS holds.
+    Twice {
+        /// The number of the line.
+        line: u32,
+    },
+    /// With this line the file asks for more than 1,000,000 activations.
+    TooMany {
+        /// The number of the line.
+        line: u32,
+    },
+    /// Each line is skipped.
+    NoFor,
+}
+
+// Puts in what an AS holds, as the line of this number says.
+fn put_hold(mut acts: Acts, number: u32, asn: Asn, entry: Entry) -> Result<Acts, ActsError>
+    requires sound { AreSound acts }
+    requires few { length entry.path < 16777216 }
+    requires begins { starts_with nat_eq entry.path (asn ∷ []) ≡ true }
+    ensures gives { Gives result (with_hold acts number (asn, entry)) }
+    ensures sound { IfOk result AreSound }
+{
+    if !acts.list.as_slice().is_empty() {
+        return Err(ActsError::Unreadable { line: number });
+    }
+    if let Some(_) = acts.held.get(asn) {
+        return Err(ActsError::Twice { line: number });
+    }
+    match acts.held.put(asn, entry) {
+        Ok(()) => {}
+        Err(_) => return Err(ActsError::Memory),
+    }
+    match acts.named.push(number, asn) {
+        Ok(()) => {}
+        Err(_) => return Err(ActsError::Memory),
+    }
+    Ok(acts)
+}
+
+// Puts in the ASes that the line of this number activates.
+fn put_acts(mut acts: Acts, number: u32, ases: &[Asn]) -> Result<Acts, ActsError>
+    requires { AreSound acts }
+    ensures gives { Gives result (with_acts acts number ases.now) }
+    ensures sound { IfOk result AreSound }
+{
+    if acts.list.as_slice().len() + ases.len() > MOST_ACTIVATIONS as usize {
+        return Err(ActsError::TooMany { line: number });
+    }
+    for asn in ases {
+        match acts.list.push(*asn) {
+            Ok(()) => {}
+            Err(_) => return Err(ActsError::Memory),
+        }
+        match acts.named.push(number, *asn) {
+            Ok(()) => {}
+            Err(_) => return Err(ActsError::Memory),
+        }
+    }
+    Ok(acts)
+}
+
+// Puts in what the line of this number says.
+fn put_line(alloc: Global, acts: Acts, number: u32, line: &[u8]) -> Result<Acts, ActsError>
+    requires short { length line.now ≤ 16777216 }
+    requires sound { AreSound acts }
+    ensures gives { Gives result (with_line acts (number, line.now)) }
+    ensures sound { IfOk result AreSound }
+{
+    match hold(alloc, line) {
+        Err(_) => return Err(ActsError::Memory),
+        Ok(Some((asn, entry))) => return put_hold(acts, number, asn, entry),
+        Ok(None) => {}
+    }
+    match act(alloc, line) {
+        Err(_) => Err(ActsError::Memory),
+        Ok(None) => Err(ActsError::Unreadable { line: number }),
+        Ok(Some(ases)) => put_acts(acts, number, ases.as_slice()),
+    }
+}
+
+// Puts in what the lines of these bytes say, of which the first has this number.
+fn put_lines(alloc: Global, acts: Acts, number: u32, bytes: &[u8]) -> Result<Acts, ActsError>
+    requires first { 1 ≤ number }
+    requires short { number + length bytes.now ≤ 16777217 }
+    requires sound { AreSound acts }
+    ensures gives { Gives result (said_on with_line acts (kept_from number bytes.now)) }
+    ensures sound { IfOk result AreSound }
+{
+    let mut acts = acts;
+    let mut number = number;
+    let mut rest = bytes;
+    while let Some(kept) = next_kept(rest, number) {
+        rest = kept.rest;
+        number = kept.number + 1;
+        acts = put_line(alloc, acts, kept.number, kept.line)?;
+    }
+    Ok(acts)
+}
+
+// What a line of this number says alone that names these.
+fn begun(alloc: Global, number: u32, names: (u32, Prefix)) -> Acts
+    ensures { result ≡ only_for number names }
+{
+    let (round, prefix) = names;
+    Acts {
+        for_line: number,
+        round,
+        prefix,
+        held: Routing::new(alloc),
+        list: Path::new(alloc),
+        named: NamedAses::new(alloc),
+    }
+}
+
+/// What a file of at most 16,777,216 bytes says. A line ends with a line feed, before which one carriage
+/// return may stand; a line that is empty or begins with `#` is skipped. The first other line is
+/// `for R P`, with the round R and the prefix P. Then come lines `hold A CLASS N N ..`, with `otc M`
+/// behind the numbers or without it: A holds the path N N .., which begins with A. Then come lines
+/// `act A A ..`, which activate these ASes in turn. The format is this project's own.
+///
+/// `NoFor` exactly where each line is skipped; `Unreadable` exactly where the first faulty line has not
+/// the form, or says what an AS holds behind an activation; `Twice` exactly where it says again what an
+/// AS holds; `TooMany` exactly where the file asks with it for more than 1,000,000 activations; `Memory`
+/// where there is not enough memory.
+pub fn read_acts(alloc: Global, bytes: &[u8]) -> Result<Acts, ActsError>
+    requires { length bytes.now ≤ 16777216 }
+    ensures gives { Gives result (acts_of bytes.now) }
+    ensures sound { IfOk result AreSound }
+{
+    let Some(first) = next_kept(bytes, 1) else {
+        return Err(ActsError::NoFor);
+    };
+    let Some(names) = read_for(first.line) else {
+        return Err(ActsError::Unreadable { line: first.number });
+    };
+    let acts = begun(alloc, first.number, names);
+    put_lines(alloc, acts, first.number + 1, first.rest)
+}

@@ -1,0 +1,266 @@
+"""A client of asprop: it makes the scenario and the script, runs the built program, and gives the answers as values.
+
+    import asprop
+    world = asprop.World(links='examples/hijack/links', announcements=[('10.0.0.0/8', 4), ('10.128.0.0/9', 6)],
+                         watch=['10.128.0.1'])
+    script = asprop.Script()
+    script.report(1, '10.128.0.1')
+    script.policy(1, 'drop-invalid')
+    script.report(1, '10.128.0.1')
+    before, changed, after = asprop.run(world, script, program='./asprop')
+    print(before['total'].to, after['total'].to)
+
+What is proved of asprop is proved of the program alone.  This file proves nothing: it writes text, starts the program
+and reads text, and its own tests are the command `.ci/python`.  It needs Python 3.9 or newer and the standard library.
+"""
+from __future__ import annotations
+
+import json
+import os
+import subprocess
+import tempfile
+from dataclasses import dataclass, field
+from typing import Callable, Dict, Iterable, List, Mapping, Optional, Sequence, Tuple, Union
+
+#: What each exit status of the program says, where it is neither 0 nor 1.
+STATUSES = {2: 'usage', 3: 'bad input', 4: 'read fault', 5: 'write fault', 6: 'out of memory', 7: 'too large',
+            125: 'not built'}
+
+
+class Fault(Exception):
+    """The program ended without answers: its exit status, and what it wrote to standard error."""
+
+    def __init__(self, status: int, text: str) -> None:
+        super().__init__('%s: %s' % (STATUSES.get(status, 'status %d' % status), text.strip()))
+        self.status = status
+        self.text = text
+
+
+@dataclass(frozen=True)
+class Route:
+    """What an AS holds: its class (origin, customer, peer or provider), its path, and the number of RFC 9234 or None."""
+    kind: str
+    path: Tuple[int, ...]
+    otc: Optional[int] = None
+
+
+@dataclass(frozen=True)
+class Trace:
+    """How a packet's way ends (delivered, no-route or loop), and the ASes that it passes."""
+    end: str
+    path: Tuple[int, ...]
+
+
+@dataclass
+class Counts:
+    """How many ASes a group has, how many of them have their packets delivered at which AS, and how many nowhere."""
+    ases: int = 0
+    to: Dict[int, int] = field(default_factory=dict)
+    no_route: int = 0
+    loop: int = 0
+
+
+@dataclass(frozen=True)
+class Validity:
+    """A state of RFC 6811 (valid, invalid or not-found), and the covering payloads as (AS, prefix, maximum length)."""
+    state: str
+    payloads: Tuple[Tuple[int, str, int], ...]
+
+
+@dataclass(frozen=True)
+class Changed:
+    """An edit that was accepted, and how many entries of all rounds and prefixes it changed."""
+    entries: int
+
+
+@dataclass(frozen=True)
+class Refusal:
+    """A line that was refused: the reason, as `unknown-as`, and the words behind it."""
+    reason: str
+    words: Tuple[str, ...]
+
+
+#: The rows of a table by AS; None where an AS has no route.
+Table = Dict[int, Optional[Route]]
+#: The counts of a report by group: total, stub and each policy that some AS has.
+Report = Dict[str, Counts]
+Answer = Union[Table, Trace, Report, Dict[int, int], Validity, Changed, Refusal]
+
+#: An announcement: the prefix, the AS, and the path where it isn't the AS alone.
+Announcement = Union[Tuple[str, int], Tuple[str, int, Sequence[int]]]
+
+
+@dataclass
+class World:
+    """A relationship file and what happens over it.
+
+    links and payloads are names of files.  policies gives the policy of an AS that has another one than plain; leaks has
+    a list of ASes for each round from round 2 on; watch has the addresses that reports may ask for.
+    """
+    links: str
+    announcements: Sequence[Announcement] = ()
+    payloads: Optional[str] = None
+    policies: Mapping[int, str] = field(default_factory=dict)
+    leaks: Sequence[Sequence[int]] = ()
+    watch: Sequence[str] = ()
+
+    def scenario(self) -> str:
+        """The scenario as a JSON document."""
+        announced: List[Dict[str, object]] = []
+        for announcement in self.announcements:
+            prefix, asn = announcement[0], announcement[1]
+            one: Dict[str, object] = {'prefix': prefix, 'as': asn}
+            if len(announcement) == 3:
+                one['path'] = list(announcement[2])
+            announced.append(one)
+        return json.dumps({'announcements': announced,
+                           'policies': [{'as': asn, 'policy': kind} for asn, kind in self.policies.items()],
+                           'leaks': [list(it) for it in self.leaks],
+                           'watch': list(self.watch)}) + '\n'
+
+
+def _row(line: str) -> Tuple[int, Optional[Route]]:
+    asn, kind, path, *more = line.split('|')
+    if kind == 'none':
+        return int(asn), None
+    otc = int(more[0].split(' ')[1]) if more else None
+    return int(asn), Route(kind, tuple(map(int, path.split(' '))), otc)
+
+
+def _table(lines: Sequence[str]) -> Table:
+    return dict(map(_row, lines))
+
+
+def _trace(lines: Sequence[str]) -> Trace:
+    end, _, path = lines[0].partition('|')
+    return Trace(end, tuple(map(int, path.split(' '))))
+
+
+def _report(lines: Sequence[str]) -> Report:
+    found: Report = {}
+    for line in lines:
+        group, what, count = line.split('|')
+        counts = found.setdefault(group, Counts())
+        if what.startswith('to '):
+            counts.to[int(what[3:])] = int(count)
+        else:
+            setattr(counts, what.replace('-', '_'), int(count))
+    return found
+
+
+def _ranks(lines: Sequence[str]) -> Dict[int, int]:
+    return {int(asn): int(rank) for asn, rank in (line.split('|') for line in lines)}
+
+
+def _validity(lines: Sequence[str]) -> Validity:
+    rows = (line.split('|') for line in lines[1:])
+    return Validity(lines[0].split('|')[1], tuple((int(asn), prefix, int(most)) for asn, prefix, most in rows))
+
+
+def _changed(lines: Sequence[str]) -> Changed:
+    return Changed(int(lines[0].split(' ')[1]))
+
+
+class Script:
+    """The lines of a script, each answered in the world that the lines before it leave.
+
+    A round is counted from 1, a prefix and an address are texts, and a relation is -1 where the first AS is the provider
+    of the second, and 0 where they are peers.
+    """
+
+    def __init__(self) -> None:
+        self.lines: List[str] = []
+        self._readers: List[Callable[[Sequence[str]], Answer]] = []
+
+    def _add(self, line: str, reader: Callable[[Sequence[str]], Answer]) -> None:
+        self.lines.append(line)
+        self._readers.append(reader)
+
+    def routes(self, round_: int, prefix: str) -> None:
+        """Asks for the route of every AS; the answer is a Table."""
+        self._add('routes %d %s' % (round_, prefix), _table)
+
+    def route(self, round_: int, prefix: str, asn: int) -> None:
+        """Asks for the route of one AS; the answer is a Table with one row."""
+        self._add('route %d %s %d' % (round_, prefix, asn), _table)
+
+    def trace(self, round_: int, asn: int, address: str) -> None:
+        """Asks for the way of a packet from an AS to an address; the answer is a Trace."""
+        self._add('trace %d %d %s' % (round_, asn, address), _trace)
+
+    def report(self, round_: int, address: str) -> None:
+        """Asks where the packets of all ASes to a watched address end; the answer is a Report."""
+        self._add('report %d %s' % (round_, address), _report)
+
+    def ranks(self) -> None:
+        """Asks for how far down the customers of each AS go; the answer is a dict.  An AS of rank 0 has none."""
+        self._add('ranks', _ranks)
+
+    def validity(self, prefix: str, origin: int) -> None:
+        """Asks for the validation state of a prefix with an origin; the answer is a Validity."""
+        self._add('validity %s %d' % (prefix, origin), _validity)
+
+    def link(self, a: int, b: int, relation: int) -> None:
+        """Puts a link in place of what the pair was; the answer is a Changed."""
+        self._add('link %d|%d|%d' % (a, b, relation), _changed)
+
+    def unlink(self, a: int, b: int) -> None:
+        """Takes the pair's link away; the answer is a Changed."""
+        self._add('unlink %d|%d' % (a, b), _changed)
+
+    def policy(self, asn: int, kind: str) -> None:
+        """Gives an AS a policy; the answer is a Changed."""
+        self._add('policy %d %s' % (asn, kind), _changed)
+
+    def vrp_add(self, asn: int, prefix: str, most: int) -> None:
+        """Adds a validated payload; the answer is a Changed."""
+        self._add('vrp-add %d %s %d' % (asn, prefix, most), _changed)
+
+    def vrp_take(self, asn: int, prefix: str, most: int) -> None:
+        """Takes a validated payload away; the answer is a Changed."""
+        self._add('vrp-take %d %s %d' % (asn, prefix, most), _changed)
+
+    def announce(self, prefix: str, path: Iterable[int]) -> None:
+        """Has the first AS of the path announce a prefix of the world with that path; the answer is a Changed."""
+        self._add('announce %s %s' % (prefix, ' '.join(map(str, path))), _changed)
+
+    def withdraw(self, prefix: str, asn: int) -> None:
+        """Has an AS announce a prefix no longer; the answer is a Changed."""
+        self._add('withdraw %s %d' % (prefix, asn), _changed)
+
+    def read(self, output: str) -> List[Answer]:
+        """The answers in what the program printed, one for each line of the script."""
+        found: List[List[str]] = []
+        for line in output.splitlines():
+            if line.startswith('# '):
+                found.append([])
+            else:
+                found[-1].append(line)
+        return [_answer(lines, reader) for lines, reader in zip(found, self._readers)]
+
+
+def _answer(lines: Sequence[str], reader: Callable[[Sequence[str]], Answer]) -> Answer:
+    if lines and lines[0].startswith('refused '):
+        _, reason, *words = lines[0].split(' ')
+        return Refusal(reason, tuple(words))
+    return reader(lines)
+
+
+def run(world: World, script: Script, program: str = './asprop', seconds: Optional[float] = None) -> List[Answer]:
+    """Runs the program over the world and gives the answers, one for each line of the script.
+
+    A line that is refused has a Refusal as its answer.  Raises Fault where the program ends without answers, and
+    subprocess.TimeoutExpired where it takes longer than so many seconds.
+    """
+    with tempfile.TemporaryDirectory(prefix='asprop.') as folder:
+        names = {'scenario': world.scenario(), 'script': ''.join(line + '\n' for line in script.lines)}
+        for name, text in names.items():
+            with open(os.path.join(folder, name), 'w', encoding='ascii') as file:
+                file.write(text)
+        words = [program, world.links] + (['--vrps', world.payloads] if world.payloads is not None else [])
+        for name in names:
+            words += ['--' + name, os.path.join(folder, name)]
+        done = subprocess.run(words, stdin=subprocess.DEVNULL, capture_output=True, timeout=seconds, check=False)
+    if done.returncode not in (0, 1):
+        raise Fault(done.returncode, done.stderr.decode(errors='replace'))
+    return script.read(done.stdout.decode('ascii'))
