@@ -5,4 +5,4 @@ mod Runs
 mod Heights
 mod Words
 mod Lines
-mod Sound
+pub mod Sound

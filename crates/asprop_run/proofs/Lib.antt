@@ -4,4 +4,7 @@ pub mod Ending
 pub mod Arguments
 pub mod StatusLemmas
 pub mod StatusRows
+pub mod Named
+pub mod OneSettling
+pub mod Settled
 pub mod OneText

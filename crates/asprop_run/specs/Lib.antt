@@ -5,6 +5,7 @@ pub mod Refusals
 pub mod Replies
 pub mod Laws
 pub mod Texts
+pub mod Inside
 pub mod Written
 pub mod Runs
 pub mod Statuses

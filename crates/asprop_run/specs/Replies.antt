@@ -1,5 +1,5 @@
 -- What is written for a task.
-use Rattle.std.specs.Prelude.{◌≡◌, ◌||◌, ℕ, Bool, true, false, Some, None, List, [], ◌∷◌, ◌++◌, codes, if◌then◌else◌, decimal, flat_map}
+use Rattle.std.specs.Prelude.{◌≡◌, ◌||◌, ℕ, Bool, true, false, Some, None, List, [], ◌∷◌, ◌++◌, codes, if◌then◌else◌, decimal}
 use Rattle.std.specs.FinMap as fin
 use Rattle.clap.specs.Walk.{Text}
 use Rattle.scenario_text.specs.declared.acts.Act.{Act}
@@ -11,10 +11,9 @@ use Rattle.sim_core.specs.Edits.{HasChanges, IsAllowed, IsReason, edited}
 use Rattle.sim_core.specs.declared.errors.EditError.{EditError}
 use Rattle.sim_core.specs.declared.errors.QueryError.{QueryError}
 use Rattle.as_graph.specs.Topology.{as_count}
-use Rattle.reports.specs.Rows.{row}
 use Rattle.task_reading.specs.Jobs.{Job, acts_job, counts_job, line_job}
 use Rattle.asprop_run.specs.Refusals.{edit_refusal_text, refusal_text}
-use Rattle.asprop_run.specs.Settling.{IsActsText}
+use Rattle.asprop_run.specs.Settling.{IsActsText, fact}
 
 -- the text is what is told for what a line asks, and the world after it: a query is answered, or refused for its reason; an edit that is allowed leaves the edited world, and the text says how many entries of the one family of routings differ from those of the one family after it; one that is refused says why, and the world stays (own format)
 abbrev pub IsReply : World → Kept → Act → Text → Bool → World → Type 0
@@ -38,15 +37,15 @@ head heads number = if heads then codes "# " ++ (decimal number ++ 10 ∷ []) el
 -- the text is the whole answer to the job, by the one and only stable routings of the world's rounds and by the ranks of its ASes, and the job leaves this world: the numbers of ASes and links; the head line and what is told for a line; or what activations come to (own format; Gao and Rexford 2001)
 abbrev pub AnswersJob : World → Job → Text → Bool → World → Type 0
 AnswersJob w counts_job text refused after = (refused ≡ false) × (after ≡ w)
-    × (text ≡ flat_map row ((codes "ases" ∷ decimal (as_count (topology w)) ∷ []) ∷ (codes "links" ∷ decimal (fin.len w.links) ∷ []) ∷ []))
-AnswersJob w (line_job heads line) text refused after = (kept : Kept) × IsKept w kept
-    × (answer : Text) × IsReply w kept line.act answer refused after × (text ≡ head heads line.number ++ answer)
+    × (text ≡ fact "ases" (decimal (as_count (topology w))) ++ fact "links" (decimal (fin.len w.links)))
+AnswersJob w (line_job heads line) text refused after = (k : Kept) × IsKept w k × (answer : Text)
+    × IsReply w k line.act answer refused after × (text ≡ head heads line.number ++ answer)
 AnswersJob w (acts_job acts) text refused after = (refused ≡ false) × (after ≡ w)
-    × (kept : Kept) × IsKept w kept × IsActsText w kept acts text
+    × (k : Kept) × IsKept w k × IsActsText w k acts text
 
 -- the text answers the jobs one after the other, each in the world that the jobs before it leave; `refused` says whether an answer is a refusal (own format)
 abbrev pub AnswersJobs : World → List Job → Text → Bool → Type 0
 AnswersJobs w [] text refused = (text ≡ []) × (refused ≡ false)
-AnswersJobs w (job ∷ jobs) text refused =
-    (front rest : Text) × (first others : Bool) × (after : World) × AnswersJob w job front first after
-    × AnswersJobs after jobs rest others × (text ≡ front ++ rest) × (refused ≡ (first || others))
+AnswersJobs w (job ∷ jobs) text refused = (s t : Text) × (first others : Bool) × (after : World)
+    × AnswersJob w job s first after × AnswersJobs after jobs t others
+    × (text ≡ s ++ t) × (refused ≡ (first || others))

@@ -1,17 +1,19 @@
-//! Answers to lines.
+//! Answers to jobs.
 ghost use Rattle.std.specs.Prelude.{◌≡◌, ◌<◌, ◌++◌, false, true, string_bytes, IfOk, OnOk, OnErr};
 ghost use Rattle.io_edge.specs.Bytes.{AppendsFront};
 ghost use Rattle.io_edge.specs.Faults.{HasCause};
 ghost use Rattle.sim_core.specs.Kept.{IsKept};
 ghost use Rattle.sim_core.specs.Sims.{kept, world_seen};
 ghost use Rattle.sim_core.specs.World.{HasCycle};
-ghost use Rattle.scenario_text.specs.LineValues.{AreSoundLines, IsWellFormed, IsSoundAct};
-ghost use Rattle.asprop_run.specs.Task.{first_text};
-ghost use Rattle.asprop_run.specs.Replies.{AnswersLine, AppendsReply, head};
+ghost use Rattle.scenario_text.specs.LineValues.{IsWellFormed, IsSoundAct};
+ghost use Rattle.task_reading.specs.Jobs.{IsSoundJob, counts_job, job_seen, line_job};
+ghost use Rattle.asprop_run.specs.Inside.{AreInside, IsInside};
+ghost use Rattle.asprop_run.specs.Replies.{AnswersJob, AppendsReply, head};
 ghost use Rattle.asprop_run.specs.Streams.{stream_of};
 ghost use Rattle.asprop_run.specs.Written.{Answering, IsPassedOn};
 
-use crate::refusals::{put_done, put_edit_refusal, put_refusal};
+use crate::activating::answer_activations;
+use crate::refusals::{put_bytes, put_done, put_edit_refusal, put_refusal};
 use crate::types::Failure;
 use io_edge::{Failed, Sink, write_all};
 use net_names::NoMemory;
@@ -21,6 +23,7 @@ use sim_core::{QueryError, Sim};
 use std::alloc::{AllocError, Global};
 use std::marker::Brand;
 use std::sync::ledger::{Blank, Ledger};
+use task_reading::{Job, Jobs};
 
 // So many bytes of answers are held back at most, and then written together.
 const HELD_BACK: usize = 65_536;
@@ -132,6 +135,7 @@ fn answer_job(
     text: &mut Vec<u8>,
 ) -> Result<bool, NoMemory>
     requires sound { IsSoundJob (job_seen job.entry) }
+    requires inside { IsInside (world_seen sim.old) (job_seen job.entry) }
     requires kept { IsKept (world_seen sim.old) (kept sim.old) }
     requires no_cycle { HasCycle (world_seen sim.old) → ⊥ }
     ensures answered { IfOk result (λ refused. AnswersJob (world_seen sim.old) (job_seen job.entry) text.new.items refused (world_seen sim.new)) }
@@ -175,6 +179,7 @@ pub fn write_answers<O: Sink>(
     jobs: &Jobs,
     out: &mut O,
 ) -> Result<bool, Failure>
+    requires inside { AreInside (world_seen sim.old) jobs.now }
     requires kept { IsKept (world_seen sim.old) (kept sim.old) }
     requires no_cycle { HasCycle (world_seen sim.old) → ⊥ }
     ensures { Answering (record { world = world_seen sim.old; jobs = jobs.now }) result (stream_of O.written O.faults out.old out.new) }

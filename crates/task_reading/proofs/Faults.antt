@@ -113,6 +113,10 @@ other_jobs : (form : Option Form) (which : File) (o : FileOption) (bytes : List 
 other_jobs form which option.Script bytes c h = cause_by (map (line_job true)) cause.Script form which (other_script form which) (script_of bytes) c h
 other_jobs form which option.Activations bytes c h = cause_by (λ acts. acts_job acts ∷ []) cause.Acts form which (other_acts form which) (acts_of bytes) c h
 
+-- a line that names what isn't in the world
+pub other_line : (form : Option Form) (which : File) (line : ℕ) → IsOther form (fault.InFile which (cause.NotInWorld line))
+other_line form which line = bad form _ refl
+
 -- a world with too many ASes
 pub too_many : (form : Option Form) → IsOther form fault.TooManyAses
 too_many form = large form _ refl

@@ -54,8 +54,7 @@ jobs_in option.Activations bytes = result_map_both (λ a. acts_job a ∷ []) cau
 -- what an option's file asks for. A file that isn't named is empty, and so has no payloads or lines; without a scenario its four lists are empty
 abbrev pub asked : Option Form → Reads → Result Asked Fault
 asked None reads = Err fault.Usage
-asked (Some (demo_form n)) reads =
-    Ok (record { links = drawn_links n; vrps = drawn_payloads n; scenario = drawn_scenario n; jobs = counts_job ∷ map (line_job true) (drawn_lines (drawn_links n)) })
+asked (Some (demo_form n)) reads = Ok (record { links = drawn_links n; vrps = drawn_payloads n; scenario = drawn_scenario n; jobs = counts_job ∷ map (line_job true) (drawn_lines (drawn_links n)) })
 asked (Some (origin_form _ origin)) reads = do
   links ← read_as file.Relations MOST_LIST_BYTES cause.Relation links_of reads
   let all : PrefixValue = record { family = V4; addr = 0; len = 0 } in

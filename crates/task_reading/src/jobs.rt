@@ -73,6 +73,13 @@ impl Model for Jobs {
     ghost invariant = { λ j. IsSoundAsks j.asks };
 }
 
+/// All jobs are lines, and before them perhaps the numbers of ASes and links, or they are activations alone.
+pub fn jobs_are_alike(jobs: &Jobs)
+    ensures { AreAlike jobs.now }
+{
+    let _asks = &jobs.asks;
+}
+
 impl Jobs {
     /// The answers to lines, each with a head line or without, and perhaps the numbers of ASes and links before.
     pub(crate) fn of_lines(counts: bool, heads: bool, lines: Lines) -> Jobs
@@ -93,10 +100,9 @@ impl Jobs {
         }
     }
 
-    /// How many jobs there are. They are lines, or activations alone.
+    /// How many jobs there are.
     pub fn count(&self) -> usize
-        ensures value { result ≡ length self.now }
-        ensures alike { AreAlike self.now }
+        ensures { result ≡ length self.now }
     {
         match &self.asks {
             Asks::Lines(true, _, lines) => lines.as_slice().len() + 1,
