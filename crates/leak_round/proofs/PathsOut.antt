@@ -1,27 +1,21 @@
 -- Seeds that are put in with copies of their paths, one by one.
 use Rattle.std.proofs.Common.{◌≡◌, ◌≢◌, ℕ, ◌==◌, ◌≤◌, Bool, true, false, ◌||◌, cond, Option, Some, None, option_map, is_some, List, [], ◌∷◌, ◌++◌, length, refl, sym, ap, subst, ◌∙◌}
 use Rattle.std.specs.FinMap as map
-use Rattle.std.specs.Cmp.{nat_cmp_total, unsigned_tied}
+use Rattle.std.specs.Cmp.{nat_cmp_total}
 use Rattle.std.specs.Ordering.{eq_by_cmp, nat_cmp}
-use Rattle.std.proofs.lemmas.Bool.{eqb-true, eq-eqb, ne_eqb}
+use Rattle.std.proofs.lemmas.Bool.{eqb-true, eq-eqb}
 use Rattle.net_names.specs.Numbers.{occurs}
 use Rattle.stability_laws.specs.declared.entry.Seed.{Seed}
 use Rattle.stability_laws.proofs.Leaking.{occurs_more}
 use Rattle.leak_round.specs.SeedPaths.{HaveAtMost}
 
-module _ (m : map.FinMap nat_cmp Seed) (a : ℕ) (x : Seed) where
-  pub put_this : map.get (map.insert m a x) a ≡ Some x
-  put_this = map.get-insert nat_cmp_total m a x a ∙ ap (λ b. cond b (Some x) (map.get m a)) (unsigned_tied a a ∙ eq-eqb a a refl)
-
-  pub put_other : (q : ℕ) → q ≢ a → map.get (map.insert m a x) q ≡ map.get m q
-  put_other q ne = map.get-insert nat_cmp_total m a x q ∙ ap (λ b. cond b (Some x) (map.get m q)) (unsigned_tied q a ∙ ne_eqb q a ne)
-
-  pub put_short : (most : ℕ) → HaveAtMost most m → length x.path ≤ most → HaveAtMost most (map.insert m a x)
-  put_short most short here q seed is = by (eq_by_cmp nat_cmp q a) (sym (map.get-insert nat_cmp_total m a x q) ∙ is)
-    where
-      by : (b : Bool) → cond b (Some x) (map.get m q) ≡ Some seed → length seed.path ≤ most
-      by true e = let same : x ≡ seed = cc in subst (λ (s : Seed). length s.path ≤ most) same here
-      by false e = short q seed e
+-- one short path more
+pub put_short : (m : map.FinMap nat_cmp Seed) (a : ℕ) (x : Seed) (most : ℕ) → HaveAtMost most m → length x.path ≤ most → HaveAtMost most (map.insert m a x)
+put_short m a x most short here q seed is = by (eq_by_cmp nat_cmp q a) (sym (map.get-insert nat_cmp_total m a x q) ∙ is)
+  where
+    by : (b : Bool) → cond b (Some x) (map.get m q) ≡ Some seed → length seed.path ≤ most
+    by true e = let same : x ≡ seed = cc in subst (λ (s : Seed). length s.path ≤ most) same here
+    by false e = short q seed e
 
 -- the seeds of one AS more
 pub one_more : (out before after : ℕ → Option Seed) (front more : List ℕ) (x : ℕ) → more ≡ front ++ x ∷ [] → after x ≡ out x → ((a : ℕ) → a ≢ x → after a ≡ before a)

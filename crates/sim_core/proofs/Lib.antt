@@ -30,3 +30,4 @@ pub mod Rows
 pub mod Replies
 pub mod Differences
 pub mod Reasons
+pub mod Lent

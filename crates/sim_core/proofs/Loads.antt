@@ -25,7 +25,7 @@ use Rattle.sim_core.specs.Families.{Family, IsOneFamily}
 use Rattle.sim_core.specs.Loaded.{names_in, plan_of, world_of}
 use Rattle.sim_core.specs.Loading.{IsCycleRefusal, IsLoadRefusal}
 use Rattle.sim_core.specs.Marking.{IsMarksRefusal, marked}
-use Rattle.sim_core.specs.Parts.{AreRoundsOf, IsNamed, world_by}
+use Rattle.sim_core.specs.Parts.{AreRoundsOf, IsNamed, world_by, world_from}
 use Rattle.sim_core.specs.declared.errors.LoadError.{LoadError}
 use Rattle.sim_core.specs.declared.errors.LoadError.TheVariants as load_error
 use Rattle.sim_core.proofs.Topologies.{links-marked, marked_are}
@@ -49,13 +49,13 @@ cyclic_world links payloads s graph (load_error.ProviderCycle cycle) is few h =
     let same : graph ≡ topology (world_of links payloads s) = is ∙ sym (topology-world_of links payloads s) in
     (subst (λ (g : Topology). as_count g ≤ 150000) same few, subst (λ (g : Topology). IsCycleFromLowest (relation g) cycle) same h)
 
-module _ (links : LinkMap) (payloads : Payloads) (s : ScenarioValue) (graph : Topology) (book : PolicyBook Kind) (rounds : Rounds) (is : graph ≡ marked (unmarked links) (names_in s)) (named : book.named ≡ kinds_of s.policies) (planned : plan_kept rounds ≡ plan_of s) (counted : round_count rounds ≡ length s.leaks + 1) (watched : List AddrValue) (watching : watched ≡ s.watch) where
-  pub world_is : world_by graph payloads book rounds watched ≡ world_of links payloads s
+module _ (links : LinkMap) (payloads : Payloads) (s : ScenarioValue) (graph : Topology) (book : PolicyBook Kind) (plan : Plan) (count : ℕ) (is : graph ≡ marked (unmarked links) (names_in s)) (named : book.named ≡ kinds_of s.policies) (planned : plan ≡ plan_of s) (counted : count ≡ length s.leaks + 1) (watched : List AddrValue) (watching : watched ≡ s.watch) where
+  pub world_is : world_from graph payloads book plan count watched ≡ world_of links payloads s
   world_is =
       let same : graph.links ≡ links = ap (λ (g : Topology). g.links) is ∙ links-marked (unmarked links) (names_in s) in
       λ i. record { links = same i; payloads = payloads; kinds = named i; plan = planned i; rounds = counted i; watched = set.from_list (watching i) }
 
-  pub marks_are : IsNamed graph book rounds
+  pub marks_are : IsNamed graph book plan
   marks_are = ap (λ (g : Topology). graph_of graph.links g.marked) (is ∙ sym (topology-world_of links payloads s) ∙ ap topology (sym world_is))
 
 -- the settings, the plan and the number of rounds of which the routings are the only ones
@@ -67,23 +67,18 @@ AreOnly g t =
     AreRounds t.0 t.1.0 t.1.1 g
     × ((other : Family) → AreRounds t.0 t.1.0 t.1.1 other → (before : ℕ) (prefix : PrefixValue) → before < t.1.1 → IsTrue (has_prefix t.1.0 prefix) → (a : ℕ) → other (suc before) prefix a ≡ g (suc before) prefix a)
 
--- the tables that were built are those of the payloads and the scenario
-pub are_rounds : (graph : Topology) (payloads : Payloads) (book : PolicyBook Kind) (meant : Plan) (wanted : ℕ) (rounds : Rounds) (known : Payloads) (plan : Plan) (count : ℕ) → known ≡ payloads → plan ≡ meant → count ≡ wanted
-    → plan_kept rounds ≡ plan → round_count rounds ≡ count → AreOnly (kept rounds) ((λ p. setting kind_policy graph book (state_of known p)), (plan, count)) → AreRoundsOf graph payloads book meant wanted rounds
-are_rounds graph payloads book meant wanted rounds known plan count same planned counted kept_plan kept_count only =
-    let ground : ◌≡◌ {A = Ground} ((λ p. setting kind_policy graph book (state_of known p)), (plan, count)) ((λ p. setting kind_policy graph book (state_of payloads p)), (meant, wanted)) =
-    λ i. ((λ p. setting kind_policy graph book (state_of (same i) p)), (planned i, counted i)) in
-    let both : AreOnly (kept rounds) ((λ p. setting kind_policy graph book (state_of payloads p)), (meant, wanted)) = subst (AreOnly (kept rounds)) ground only in
-    record { plan_is = kept_plan ∙ planned; count_is = kept_count ∙ counted; stable = both.0; only = both.1 }
+-- the world by the rounds is that by their plan
+pub world_kept : (graph : Topology) (payloads : Payloads) (book : PolicyBook Kind) (plan : Plan) (count : ℕ) (rounds : Rounds) (watched : List AddrValue) → AreRoundsOf graph payloads book plan count rounds → world_by graph payloads book rounds watched ≡ world_from graph payloads book plan count watched
+world_kept graph payloads book plan count rounds watched are = λ i. world_from graph payloads book (are.plan_is i) (are.count_is i) watched
 
--- so are they in the rounds' own words
+-- the tables that were built are stable in the rounds' own words
 pub stable_rounds : (graph : Topology) (payloads : Payloads) (book : PolicyBook Kind) (plan : Plan) (count : ℕ) (rounds : Rounds) → AreRoundsOf graph payloads book plan count rounds
     → AreRounds (λ p. setting kind_policy graph book (state_of payloads p)) (plan_kept rounds) (round_count rounds) (kept rounds)
 stable_rounds graph payloads book plan count rounds are =
     subst (λ (t : Plan × ℕ). AreRounds (λ p. setting kind_policy graph book (state_of payloads p)) t.0 t.1 (kept rounds)) (λ i. (sym are.plan_is i, sym are.count_is i)) are.stable
 
 -- the routings that are kept are the only ones of the world
-pub only_ones : (graph : Topology) (payloads : Payloads) (book : PolicyBook Kind) (plan : Plan) (count : ℕ) (rounds : Rounds) (watched : List AddrValue) → IsNamed graph book rounds → book.rest ≡ Plain → AreRoundsOf graph payloads book plan count rounds
+pub only_ones : (graph : Topology) (payloads : Payloads) (book : PolicyBook Kind) (plan : Plan) (count : ℕ) (rounds : Rounds) (watched : List AddrValue) → IsNamed graph book (plan_kept rounds) → book.rest ≡ Plain → AreRoundsOf graph payloads book plan count rounds
     → IsOneFamily (world_by graph payloads book rounds watched) (kept rounds)
 only_ones graph payloads book plan count rounds watched is rest are =
     let settings : (λ (p : PrefixValue). setting kind_policy graph book (state_of payloads p)) ≡ setting_of (world_by graph payloads book rounds watched) =
@@ -94,7 +89,7 @@ only_ones graph payloads book plan count rounds watched is rest are =
     record { is = both.0; only = both.1 }
 
 -- and the only ones of the world are those of its graph, payloads and policies
-pub ones_of_world : (graph : Topology) (payloads : Payloads) (book : PolicyBook Kind) (rounds : Rounds) (watched : List AddrValue) → IsNamed graph book rounds → book.rest ≡ Plain → IsOneFamily (world_by graph payloads book rounds watched) (kept rounds)
+pub ones_of_world : (graph : Topology) (payloads : Payloads) (book : PolicyBook Kind) (rounds : Rounds) (watched : List AddrValue) → IsNamed graph book (plan_kept rounds) → book.rest ≡ Plain → IsOneFamily (world_by graph payloads book rounds watched) (kept rounds)
     → AreRoundsOf graph payloads book (plan_kept rounds) (round_count rounds) rounds
 ones_of_world graph payloads book rounds watched is rest one =
     let settings : (λ (p : PrefixValue). setting kind_policy graph book (state_of payloads p)) ≡ setting_of (world_by graph payloads book rounds watched) =

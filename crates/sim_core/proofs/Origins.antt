@@ -22,7 +22,7 @@ use Rattle.sim_core.specs.Families.{Family}
 use Rattle.sim_core.specs.Ground.{IsOrigin}
 use Rattle.policy_laws.specs.Policy.{is_own_or_customers}
 
-both : (a b : Bool) → (a && b) ≡ true → a ≡ true
+pub both : (a b : Bool) → (a && b) ≡ true → a ≡ true
 both true b h = refl
 both false b h = cc
 
@@ -34,10 +34,10 @@ starts_long : (path : List ℕ) (b : ℕ) → slice_get path 0 ≡ Some b → 1 
 starts_long [] b h = cc
 starts_long (x ∷ xs) b h = omega arith
 
-same_some : {X : Type 0} (x y : X) → Some x ≡ Some y → x ≡ y
+pub same_some : {X : Type 0} (x y : X) → Some x ≡ Some y → x ≡ y
 same_some x y e = cc
 
-leaked_path : (own : Bool) (e : Entry) (s : Seed) → (if own then None else Some (record { path = e.path; otc = e.otc })) ≡ Some s → s.path ≡ e.path
+pub leaked_path : (own : Bool) (e : Entry) (s : Seed) → (if own then None else Some (record { path = e.path; otc = e.otc })) ≡ Some s → s.path ≡ e.path
 leaked_path true e s h = cc
 leaked_path false e s h = ap (λ (t : Seed). t.path) (sym (same_some _ s h))
 

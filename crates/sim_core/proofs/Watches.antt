@@ -176,7 +176,7 @@ both_true : (a b : Bool) → a ≡ true → b ≡ true → (a && b) ≡ true
 both_true true b h k = k
 both_true false b h k = cc
 
-module _ (graph : Topology) (payloads : Payloads) (book : PolicyBook Kind) (rounds : Rounds) (addrs : List AddrValue) (all : List RoundWatches) (is : IsNamed graph book rounds) (rest : book.rest ≡ Plain) where
+module _ (graph : Topology) (payloads : Payloads) (book : PolicyBook Kind) (rounds : Rounds) (addrs : List AddrValue) (all : List RoundWatches) (is : IsNamed graph book (plan_of rounds)) (rest : book.rest ≡ Plain) where
   -- the same rows, over the world's graph and policies
   kinds : ◌≡◌ {A = ℕ → ℕ} (λ a. label (policy_at book a)) (λ a. label (unwrap_or (fin.get book.named a) Plain))
   kinds = λ i a. label (unwrap_or (fin.get book.named a) (rest i))

@@ -9,6 +9,7 @@ pub mod Edits
 pub mod Answers
 pub mod Watching
 pub mod Parts
+pub mod Bases
 pub mod Renewing
 pub mod Ground
 pub mod Steps
@@ -16,3 +17,4 @@ pub mod Views
 pub mod Sims
 pub mod Editing
 pub mod Laws
+pub mod Lent

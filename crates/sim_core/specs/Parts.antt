@@ -25,13 +25,17 @@ use Rattle.sim_core.specs.Families.{Family}
 use Rattle.sim_core.specs.declared.errors.QueryError.{QueryError}
 use Rattle.sim_core.specs.declared.errors.QueryError.TheVariants as refused
 
+-- the world of a graph, payloads, a book of policies, a plan of so many rounds, and watched addresses
+abbrev pub world_from : Topology → Payloads → PolicyBook Kind → Plan → ℕ → List AddrValue → World
+world_from graph payloads book plan count watched = record { links = graph.links; payloads = payloads; kinds = book.named; plan = plan; rounds = count; watched = set.from_list watched }
+
 -- the world of a graph, payloads, a book of policies, rounds and watched addresses
 abbrev pub world_by : Topology → Payloads → PolicyBook Kind → Rounds → List AddrValue → World
-world_by graph payloads book rounds watched = record { links = graph.links; payloads = payloads; kinds = book.named; plan = plan_of rounds; rounds = round_count rounds; watched = set.from_list watched }
+world_by graph payloads book rounds watched = world_from graph payloads book (plan_of rounds) (round_count rounds) watched
 
 -- the marks of the graph are the ASes that an announcement, a leak or a policy names
-abbrev pub IsNamed : Topology → PolicyBook Kind → Rounds → Type 0
-IsNamed graph book rounds = graph_of graph.links graph.marked ≡ graph_of graph.links (set.from_list (named (plan_of rounds) book.named))
+abbrev pub IsNamed : Topology → PolicyBook Kind → Plan → Type 0
+IsNamed graph book plan = graph_of graph.links graph.marked ≡ graph_of graph.links (set.from_list (named plan book.named))
 
 -- the tables are the stable routings of so many rounds of a graph, payloads, policies and a plan, and there are no others (Gao and Rexford 2001; RFC 7908, section 3)
 pub record AreRoundsOf (graph : Topology) (payloads : Payloads) (book : PolicyBook Kind) (plan : Plan) (count : ℕ) (rounds : Rounds) : Type 0 where

@@ -25,7 +25,7 @@ use std::alloc::Global;
 
 impl Sim {
     // The table of a round for a prefix.
-    fn table_of(&self, round: u32, prefix: Prefix) -> Result<&Table, QueryError>
+    pub(crate) fn table_of(&self, round: u32, prefix: Prefix) -> Result<&Table, QueryError>
         ensures found { IfOk result (λ t. IsTableOf (world_seen self.now) self.now.parts.rounds round prefix t.now) }
         ensures refused { IfErr result (λ e. no_table (world_seen self.now) round prefix ≡ Some e) }
     {

@@ -4,16 +4,19 @@
 //! prefix the one and only stable routing, and for each round and watched address the end of every trace.
 //! [`Sim::edit`] changes the world, and says how many entries differ then, or refuses an edit and changes nothing.
 //! [`Sim::answer`] appends the answer to a query about it, or refuses a query that names a round, a prefix, an
-//! AS or a watched address that the world has not.
+//! AS or a watched address that the world has not. A [`Sim`] lends its graph, policies, payloads and ranks,
+//! and says what ASes put in by themselves; a [`Base`] is a world of which nothing is kept.
 #![tactic(auto)]
 
 mod announcements;
 mod answering;
+mod base;
 mod changing;
 mod difference;
 mod editing;
 mod errors;
 mod laws;
+mod lending;
 mod linking;
 mod links;
 mod loading;
@@ -31,7 +34,8 @@ mod touching;
 mod validating;
 mod watching;
 
+pub use base::Base;
 pub use editing::Changed;
 pub use errors::{EditError, EditLimit, LoadError, QueryError};
-pub use laws::answers_are_one;
+pub use laws::{answers_are_one, kept_are_stable};
 pub use sim::Sim;

@@ -1,32 +1,36 @@
 //! Making a simulation.
-ghost use Rattle.std.specs.Prelude.{◌≡◌, ◌+◌, ◌<◌, ◌≤◌, ℕ, false, length, IfOk, IfErr, OnOk};
-ghost use Rattle.as_graph.specs.Topology.{as_count, relation};
+ghost use Rattle.std.specs.Prelude.{◌≡◌, ◌<◌, ◌≤◌, ℕ, false, IfOk, IfErr, OnOk};
+ghost use Rattle.as_graph.specs.Topology.{as_count, relation, unmarked};
 ghost use Rattle.as_graph.specs.Hierarchy.{HasNoProviderCycle, IsRank};
 ghost use Rattle.rank_order.specs.Ranks.{rank_at};
+ghost use Rattle.leak_round.specs.Limits.{IsWithinLimits};
 ghost use Rattle.leak_round.specs.Rounds.{is_open};
-ghost use Rattle.sim_core.specs.Loaded.{plan_of, world_of};
+ghost use Rattle.roa_table.specs.Sets.{Payloads};
+ghost use Rattle.sim_core.specs.Bases.{base_world};
+ghost use Rattle.sim_core.specs.Loaded.{names_in, world_of};
 ghost use Rattle.sim_core.specs.Loading.{IsCycleRefusal, IsLoadRefusal};
+ghost use Rattle.sim_core.specs.Marking.{marked};
 ghost use Rattle.sim_core.specs.Parts.{AreRoundsOf};
 ghost use Rattle.sim_core.specs.Views.{AreRight, world_seen};
-ghost use Rattle.sim_core.specs.World.{HasCycle, topology};
 ghost use Rattle.as_graph.specs.declared.build.TheConstants.{MOST_ASES};
 
-use crate::LoadError;
 use crate::naming::world_graph;
 use crate::parts::Parts;
 use crate::planning::{policies, seed_plan};
 use crate::readers::readers_of;
 use crate::validating::known_states;
 use crate::watching::{watch_rounds, watched_addrs};
+use crate::{Base, LoadError};
 use as_graph::Graph;
 use leak_round::Rounds;
 use net_names::{Links, NoMemory};
+use origin_validation::KnownStates;
 use policy_kinds::Kind;
 use rank_order::{RankError, Ranks};
 use roa_table::Vrps;
 use route_choice::Steps;
 use scenario_text::Scenario;
-use stability_laws::{Book, World};
+use stability_laws::{SeedPlan, World};
 use std::alloc::Global;
 use std::sync::ledger::{Blank, Ledger};
 
@@ -43,84 +47,142 @@ fn ranks_of(alloc: Global, graph: &Graph) -> Result<Ranks, LoadError>
     }
 }
 
-// The tables of all rounds, by the states over the payloads.
+// The tables of all rounds of a plan, by the states over the payloads.
 fn rounds_of<L: Ledger>(
     alloc: Global,
-    graph: &Graph,
+    world: &World<'_, Kind, KnownStates<'_>>,
     ranks: &Ranks,
-    vrps: &Vrps,
-    book: &Book<Kind>,
-    scenario: &Scenario,
+    plan: SeedPlan,
+    count: u32,
     blank: Blank,
 ) -> Result<Rounds, NoMemory>
     requires ledger { (blank.name ≡ L.name) × (blank.parts ≡ L.parts) × (0 < L.parts) }
-    requires no_cycle { HasNoProviderCycle (relation graph.now) }
-    requires ranks { (a : ℕ) → IsRank (relation graph.now) a (rank_at ranks.now a) }
-    ensures rounds { IfOk result (λ rounds. AreRoundsOf graph.now vrps.now book.now (plan_of scenario.now) (length scenario.now.leaks + 1) rounds) }
+    requires no_cycle { HasNoProviderCycle (relation world.now.graph.now) }
+    requires ranks { (a : ℕ) → IsRank (relation world.now.graph.now) a (rank_at ranks.now a) }
+    requires small { IsWithinLimits plan }
+    requires few { count ≤ 4 }
+    ensures rounds { IfOk result (AreRoundsOf world.now.graph.now world.now.states.now.payloads world.now.book.now plan count) }
     ensures closed { IfOk result (λ rounds. is_open rounds ≡ false) }
 {
-    let states = known_states(alloc, vrps, scenario)?;
-    let plan = seed_plan(alloc, scenario)?;
-    let count = scenario.leak_lists() as u32 + 1;
     let mut steps = Steps::<L>::new(blank);
-    let world = World {
-        graph,
-        book,
-        states: &states,
-    };
-    match Rounds::build(alloc, &world, ranks, plan, count, &mut steps) {
-        Ok(rounds) => Ok(rounds),
-        Err(_) => Err(NoMemory),
-    }
+    Rounds::build(alloc, world, ranks, plan, count, &mut steps)
 }
 
-/// The parts of the simulation of a world, as `Sim::load` says.
-pub fn load_world<L: Ledger>(
+// The graph of a world, which has no provider cycle, and the ranks of its ASes.
+fn graph_and_ranks(
     alloc: Global,
     links: &Links,
-    vrps: Vrps,
     scenario: &Scenario,
-    blank: Blank,
-) -> Result<Parts, LoadError>
-    requires ledger { (blank.name ≡ L.name) × (blank.parts ≡ L.parts) × (0 < L.parts) }
-    ensures world { IfOk result (λ parts. world_seen parts ≡ world_of links.now vrps scenario.now) }
-    ensures right { IfOk result AreRight }
-    ensures no_cycle { IfOk result (λ parts. HasCycle (world_seen parts) → ⊥) }
-    ensures few { IfOk result (λ parts. as_count (topology (world_seen parts)) ≤ MOST_ASES) }
-    ensures refused { IfErr result (IsLoadRefusal (world_of links.now vrps scenario.now)) }
+) -> Result<(Graph, Ranks), LoadError>
+    ensures graph { IfOk result (λ r. r.0 ≡ marked (unmarked links.now) (names_in scenario.now)) }
+    ensures few { IfOk result (λ r. as_count r.0 ≤ MOST_ASES) }
+    ensures ranks { IfOk result (λ r. (a : ℕ) → IsRank (relation r.0) a (rank_at r.1 a)) }
+    ensures no_cycle { IfOk result (λ r. HasNoProviderCycle (relation r.0)) }
+    ensures refused { IfErr result (λ e. (vrps : Payloads) → IsLoadRefusal (world_of links.now vrps scenario.now) e) }
 {
     let graph = match world_graph(alloc, links, scenario) {
         Ok(graph) => graph,
         Err(error) => return Err(error),
     };
-    let ranks = match ranks_of(alloc, &graph) {
-        Ok(ranks) => ranks,
+    match ranks_of(alloc, &graph) {
+        Ok(ranks) => Ok((graph, ranks)),
+        Err(error) => Err(error),
+    }
+}
+
+// The world of a graph, payloads and a scenario.
+fn base_of(
+    alloc: Global,
+    graph: Graph,
+    vrps: Vrps,
+    _links: &Links,
+    scenario: &Scenario,
+) -> Result<Base, NoMemory>
+    requires { graph ≡ marked (unmarked _links.now) (names_in scenario.now) }
+    ensures world { IfOk result (λ base. base_world base ≡ world_of _links.now vrps scenario.now) }
+    ensures graph { IfOk result (λ base. base.graph ≡ graph) }
+{
+    let book = policies(alloc, scenario)?;
+    let plan = seed_plan(alloc, scenario)?;
+    let Ok(watched) = watched_addrs(alloc, scenario) else {
+        return Err(NoMemory);
+    };
+    let rounds = scenario.leak_lists() as u32 + 1;
+    Ok(Base {
+        graph,
+        vrps,
+        book,
+        plan,
+        rounds,
+        watched,
+    })
+}
+
+/// The world of links, payloads and a scenario, as `Base::load` says, and the ranks of its ASes.
+pub fn load_base(
+    alloc: Global,
+    links: &Links,
+    vrps: Vrps,
+    scenario: &Scenario,
+) -> Result<(Base, Ranks), LoadError>
+    ensures world { IfOk result (λ r. base_world r.0 ≡ world_of links.now vrps scenario.now) }
+    ensures few { IfOk result (λ r. as_count r.0.graph ≤ MOST_ASES) }
+    ensures ranks { IfOk result (λ r. (a : ℕ) → IsRank (relation r.0.graph) a (rank_at r.1 a)) }
+    ensures no_cycle { IfOk result (λ r. HasNoProviderCycle (relation r.0.graph)) }
+    ensures refused { IfErr result (IsLoadRefusal (world_of links.now vrps scenario.now)) }
+{
+    let (graph, ranks) = match graph_and_ranks(alloc, links, scenario) {
+        Ok(both) => both,
         Err(error) => return Err(error),
     };
-    let Ok(book) = policies(alloc, scenario) else {
-        return Err(LoadError::Memory);
-    };
-    let Ok(readers) = readers_of(alloc, &graph, &book) else {
-        return Err(LoadError::Memory);
-    };
-    let Ok(watched) = watched_addrs(alloc, scenario) else {
-        return Err(LoadError::Memory);
-    };
-    let Ok(rounds) = rounds_of::<L>(alloc, &graph, &ranks, &vrps, &book, scenario, blank) else {
-        return Err(LoadError::Memory);
-    };
-    let count = scenario.leak_lists() as u32 + 1;
-    match watch_rounds(alloc, &graph, &rounds, &book, &watched, count) {
-        Ok(watches) => Ok(Parts {
-            graph,
-            ranks,
-            vrps,
-            book,
-            rounds,
-            readers,
-            watched,
-            watches,
-        }),
+    match base_of(alloc, graph, vrps, links, scenario) {
+        Ok(base) => Ok((base, ranks)),
         Err(_) => Err(LoadError::Memory),
     }
+}
+
+/// The parts of the simulation of a world: the world, its ranks, and what is kept of it. The states that
+/// the policies ask for are found ahead in the scenario.
+pub fn keep<L: Ledger>(
+    alloc: Global,
+    base: Base,
+    ranks: Ranks,
+    scenario: &Scenario,
+    blank: Blank,
+) -> Result<Parts, NoMemory>
+    requires ledger { (blank.name ≡ L.name) × (blank.parts ≡ L.parts) × (0 < L.parts) }
+    requires ranks { (a : ℕ) → IsRank (relation base.graph) a (rank_at ranks a) }
+    requires no_cycle { HasNoProviderCycle (relation base.graph) }
+    ensures world { IfOk result (λ parts. world_seen parts ≡ base_world base) }
+    ensures right { IfOk result AreRight }
+{
+    let Base {
+        graph,
+        vrps,
+        book,
+        plan,
+        rounds: count,
+        watched,
+    } = base;
+    let readers = readers_of(alloc, &graph, &book)?;
+    let rounds = {
+        let states = known_states(alloc, &vrps, scenario)?;
+        let world = World {
+            graph: &graph,
+            book: &book,
+            states: &states,
+        };
+        rounds_of::<L>(alloc, &world, &ranks, plan, count, blank)?
+    };
+    let watches = watch_rounds(alloc, &graph, &rounds, &book, &watched, count)?;
+    Ok(Parts {
+        graph,
+        ranks,
+        vrps,
+        book,
+        rounds,
+        readers,
+        watched,
+        watches,
+    })
 }

@@ -35,7 +35,7 @@ pub struct Parts {
     pub(crate) readers: AsPlaces,
     pub(crate) watched: Vec<Addr>,
     pub(crate) watches: Vec<RoundWatches>,
-    ghost named: { IsNamed graph book rounds },
+    ghost named: { IsNamed graph book (plan_of rounds) },
     ghost plain: { book.rest ≡ Plain },
     ghost other: { (a : ℕ) → fin.get book.named a ≢ Some Plain },
     ghost small: { IsWithinLimits (plan_of rounds) },

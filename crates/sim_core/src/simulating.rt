@@ -15,7 +15,7 @@ ghost use Rattle.sim_core.specs.World.{HasCycle, topology};
 ghost use Rattle.as_graph.specs.declared.build.TheConstants.{MOST_ASES};
 ghost use Rattle.leak_round.specs.declared.rounds.TheConstants.{MOST_CELLS};
 
-use crate::loading::load_world;
+use crate::loading::{keep, load_base};
 use crate::{Changed, EditError, LoadError, Sim};
 use net_names::Links;
 use roa_table::Vrps;
@@ -45,9 +45,13 @@ impl Sim {
         ensures few { IfOk result (λ sim. as_count (topology (world_seen sim)) ≤ MOST_ASES) }
         ensures refused { IfErr result (IsLoadRefusal (world_of links vrps scenario)) }
     {
-        match load_world::<Brand>(alloc, &links, vrps, &scenario, Blank::new(1)) {
+        let (base, ranks) = match load_base(alloc, &links, vrps, &scenario) {
+            Ok(both) => both,
+            Err(error) => return Err(error),
+        };
+        match keep::<Brand>(alloc, base, ranks, &scenario, Blank::new(1)) {
             Ok(parts) => Ok(Sim { parts }),
-            Err(error) => Err(error),
+            Err(_) => Err(LoadError::Memory),
         }
     }
 

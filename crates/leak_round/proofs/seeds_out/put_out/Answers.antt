@@ -1,9 +1,10 @@
 use Rattle.std.proofs.Common.{Some, option_map, sym, ap, subst, ◌∙◌}
 use Rattle.std.specs.FinMap as map
+use Rattle.stability_laws.proofs.RoundSeeds.{put_other, put_this}
 use Rattle.route_choice.specs.Routings.{seed_of}
 use Rattle.leak_round.specs.SeedPaths.{HaveAtMost}
 use Rattle.path_pool.specs.Pool.{limit_of}
-use Rattle.leak_round.proofs.PathsOut.{put_other, put_short, put_this}
+use Rattle.leak_round.proofs.PathsOut.{put_short}
 use Rattle.leak_round.proofs.seeds_out.put_out.Goals as goal
 
 pub returns-clause-this : goal.returns-clause-this
