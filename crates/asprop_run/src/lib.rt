@@ -12,8 +12,6 @@ mod laws;
 mod refusals;
 mod running;
 mod starting;
-#[cfg(test)]
-mod tests;
 mod types;
 
 pub use laws::{answers_are_one_text, orders_settle, told_files_are_answered};

@@ -5,9 +5,8 @@ use net_names::{Asn, Class, Path, Prefix, Rel};
 use policy_kinds::Kind;
 use policy_laws::NoStates;
 use stability_laws::{
-    Book, Entry, Routing, Seed, Seeds, World, Wrong, any_order_settles, carried, check_at,
-    class_from, customers_decide, nothing_up, number_sent, offer_follows, offer_names,
-    offered_view, one_answer, one_family, one_stable_routing, right_by_offers, right_follows,
+    Book, Entry, Routing, Seed, Seeds, World, Wrong, carried, check_at, class_from, number_sent,
+    offered_view,
 };
 use std::alloc::Global;
 use std::process::Abort;
@@ -209,18 +208,4 @@ fn an_entry_without_a_path_is_not_offered(rt: HostRuntime) -> Result<(), Fail> {
     );
     assert!(rt; view.is_none());
     Ok(())
-}
-
-#[test]
-fn the_laws_hold_of_the_kinds() {
-    offer_follows::<Kind>();
-    offer_names::<Kind>();
-    right_by_offers::<Kind>();
-    right_follows::<Kind>();
-    one_answer::<Kind>();
-    nothing_up::<Kind>();
-    customers_decide::<Kind>();
-    one_stable_routing::<Kind>();
-    one_family::<Kind>();
-    any_order_settles::<Kind>();
 }
