@@ -21,7 +21,6 @@ use Rattle.asprop_run.specs.Task.{Task}
 use Rattle.asprop_run.specs.Replies.{AnswersJob, AnswersJobs, AppendsReply, IsReply, head}
 use Rattle.task_reading.specs.Jobs.{Job, line_job}
 use Rattle.asprop_run.specs.Written.{Answering, IsPassedOn, Wrote}
-use Rattle.asprop_run.specs.declared.types.Failure.{Failure}
 use Rattle.asprop_run.specs.declared.types.Failure.TheVariants as failure
 
 -- the task of these jobs in this world

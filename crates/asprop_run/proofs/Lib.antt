@@ -7,4 +7,9 @@ pub mod StatusRows
 pub mod Named
 pub mod OneSettling
 pub mod Settled
+pub mod Acting
+pub mod Populated
+pub mod Insides
+pub mod Copies
+pub mod Facts
 pub mod OneText

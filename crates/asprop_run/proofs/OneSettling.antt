@@ -22,11 +22,10 @@ use Rattle.sim_core.proofs.Watches.{round_within}
 use Rattle.stability_laws.specs.AnyOrder.{IsActivated}
 use Rattle.stability_laws.specs.Book.{PolicyBook}
 use Rattle.stability_laws.specs.Laws.{IsHeight, OneAnswer}
-use Rattle.stability_laws.specs.Offers.{Setting, offer}
-use Rattle.stability_laws.specs.Plans.{has_prefix}
+use Rattle.stability_laws.specs.Plans.{announced_path, has_prefix}
 use Rattle.stability_laws.specs.Rounds.{seed_given, seeds_of}
 use Rattle.stability_laws.specs.Runs.{IsRunBy}
-use Rattle.stability_laws.specs.Stable.{IsRightGiven, IsStable}
+use Rattle.stability_laws.specs.Stable.{IsStable}
 use Rattle.stability_laws.specs.Steps.{IsStepWhole}
 use Rattle.stability_laws.specs.declared.entry.Entry.{Entry}
 use Rattle.stability_laws.specs.declared.entry.Seed.{Seed}
@@ -92,7 +91,7 @@ module _ (w : World) (k l : Kept) (x : IsKept w k) (y : IsKept w l) (round : ℕ
 
   -- the seeds follow from whatever is kept
   pub one_seeds : seeds_of w.plan round prefix (k.routings (round - 1) prefix) ≡ seeds_of w.plan round prefix (l.routings (round - 1) prefix)
-  one_seeds = λ i a. seed_alike _ (nat_lt 1 round) _ (k.routings (round - 1) prefix a) (l.routings (round - 1) prefix a) (before_alike a) i
+  one_seeds = λ i a. seed_alike (announced_path w.plan prefix a) (nat_lt 1 round) (fin.contains_key w.plan.leakers (round, a)) (k.routings (round - 1) prefix a) (l.routings (round - 1) prefix a) (before_alike a) i
 
 module _ (one : OneAnswer kind_policy) (w : World) (k l : Kept) (x : IsKept w k) (y : IsKept w l) (acts : Acts) (there : has_round w acts.round ≡ true) (known : has_prefix w.plan acts.prefix ≡ true) where
   abbrev seeds_by : Kept → ℕ → Option Seed

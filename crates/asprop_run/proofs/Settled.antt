@@ -1,5 +1,5 @@
 -- Enough activations in any order end in the routing that is kept.
-use Rattle.std.proofs.Common.{◌≡◌, ◌≤◌, ◌+◌, ◌-◌, ℕ, Bool, true, false, IsTrue, Option, Some, None, List, ◌++◌, refl, sym, ap, subst, ◌∙◌}
+use Rattle.std.proofs.Common.{◌≡◌, ◌≤◌, ◌+◌, ◌-◌, ℕ, Bool, true, false, Option, Some, None, ◌++◌, sym, ap, subst, ◌∙◌}
 use Rattle.std.specs.FinMap as fin
 use Rattle.clap.specs.Walk.{Text}
 use Rattle.activations.specs.Named.{AreSound, asns_of}
@@ -12,13 +12,10 @@ use Rattle.origin_validation.specs.Judging.{state_of}
 use Rattle.policy_kinds.specs.Kinds.{kind_policy}
 use Rattle.reports.specs.Rows.{table}
 use Rattle.scenario_text.specs.declared.acts.Act.TheVariants as act
-use Rattle.scenario_text.specs.declared.acts.Query.{Query}
 use Rattle.scenario_text.specs.declared.acts.Query.TheVariants.{Routes}
-use Rattle.sim_core.specs.Answers.{IsAnswer, refusal_of}
 use Rattle.sim_core.specs.Kept.{Kept, IsKept}
-use Rattle.sim_core.specs.Lent.{KeptIsStable}
+use Rattle.sim_core.specs.Lent.{NoOtherIsStable}
 use Rattle.sim_core.specs.World.{HasCycle, World, has_round, setting_of, topology}
-use Rattle.sim_core.specs.declared.errors.QueryError.{QueryError}
 use Rattle.stability_laws.specs.AnyOrder.{AnyOrderSettles, IsActivated}
 use Rattle.stability_laws.specs.EntryTexts.{entry_row}
 use Rattle.stability_laws.specs.Laws.{IsHeight}
@@ -31,7 +28,7 @@ use Rattle.asprop_run.specs.Inside.{IsInside}
 use Rattle.asprop_run.specs.Replies.{IsReply}
 use Rattle.asprop_run.specs.Settling.{IsActsText, settled_rows}
 use Rattle.asprop_run.proofs.Named.{in_world, none_named}
-use Rattle.asprop_run.proofs.OneSettling.{book_of, one_height, one_most, one_seeds, one_test}
+use Rattle.asprop_run.proofs.OneSettling.{book_of, one_height, one_most, one_seeds}
 use Rattle.task_reading.specs.Jobs.{acts_job}
 
 -- a query for routes that are there is answered by their rows
@@ -40,7 +37,7 @@ pub routes_rows : (w : World) (l : Kept) (answer : Text) (acts : Acts) (refused 
 routes_rows w l answer acts false after there known h = h.1
 routes_rows w l answer acts true after there known h = absurd (let none : None ≡ Some h.0 = (rw (there, known) at h.1) in cc)
 
-module _ (settles : AnyOrderSettles kind_policy) (stable : KeptIsStable) (w : World) (none : HasCycle w → ⊥) (acts : Acts) (inside : IsInside w (acts_job acts)) (sound : AreSound acts)
+module _ (settles : AnyOrderSettles kind_policy) (only : NoOtherIsStable) (w : World) (none : HasCycle w → ⊥) (acts : Acts) (inside : IsInside w (acts_job acts)) (sound : AreSound acts)
     (pieces height : ℕ) (most : IsMostPieces (has (topology w)) acts.list pieces) (high : IsHeight (topology w) height) (enough : height + height ≤ pieces) where
   abbrev seeds_by : Kept → ℕ → Option Seed
   seeds_by kept = seeds_of w.plan acts.round acts.prefix (kept.routings (acts.round - 1) acts.prefix)
@@ -63,7 +60,7 @@ module _ (settles : AnyOrderSettles kind_policy) (stable : KeptIsStable) (w : Wo
       let f : ℕ → Option Entry = h.0 in
       let good : IsStable (setting_of w acts.prefix) (seeds_by k) f = ends_stable (seeds_by k) f h.4.0 in
       let other : IsStable (setting_of w acts.prefix) (seeds_by l) f = subst (λ (seeds : ℕ → Option Seed). IsStable (setting_of w acts.prefix) seeds f) (one_seeds w k l x y acts.round acts.prefix there.0 there.1) good in
-      let same : (a : ℕ) → f a ≡ l.routings acts.round acts.prefix a = (stable w l acts.round acts.prefix y there.0 there.1).1 none f other in
+      let same : (a : ℕ) → f a ≡ l.routings acts.round acts.prefix a = only w l acts.round acts.prefix none y there.0 there.1 f other in
       let settled : h.3 ≡ true = h.4.3.1 good in
       let p : h.1 ≡ pieces = one_most (has (topology w)) acts.list h.1 pieces h.4.2 most in
       let q : h.2 ≡ height = one_height (topology w) h.2 height h.4.1 high in

@@ -34,3 +34,8 @@ IsActsText w k acts text = (f : ℕ → Option Entry) × (pieces height : ℕ) �
     IsRunBy (IsStepWhole here seeds) acts.list (fin.get acts.held) f × IsHeight (topology w) height
     × IsMostPieces (has (topology w)) acts.list pieces × (IsTrue settled ↔ IsStable here seeds f)
     × (text ≡ table (topology w) (λ a. entry_row a (f a)) ++ settled_rows pieces height settled)
+
+-- the routing that the activations end in, and whether it is stable
+abbrev pub IsSettled : World → Kept → Acts → (ℕ → Option Entry) → Bool → Type 0
+IsSettled w k acts f settled = let here = setting_of w acts.prefix in let seeds = seeds_of w.plan acts.round acts.prefix (k.routings (acts.round - 1) acts.prefix) in
+    IsRunBy (IsStepWhole here seeds) acts.list (fin.get acts.held) f × (IsTrue settled ↔ IsStable here seeds f)

@@ -1,5 +1,5 @@
 -- The task that the words and the files give, or the first fault.
-use Rattle.std.specs.Prelude.{◌≡◌, ◌&&◌, nat_lt, List, [], ◌∷◌, None, Some, Option, option_map, Result, Ok, Err, if◌then◌else◌}
+use Rattle.std.specs.Prelude.{◌≡◌, ◌&&◌, ℕ, nat_lt, List, ◌∷◌, None, Some, Option, option_map, Result, Ok, Err, if◌then◌else◌}
 use Rattle.activations.specs.Named.{first_foreign_in}
 use Rattle.as_graph.specs.Topology.{as_count, has}
 use Rattle.as_graph.specs.declared.build.TheConstants.{MOST_ASES}

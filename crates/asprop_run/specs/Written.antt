@@ -1,5 +1,5 @@
 -- What was written of the answers.
-use Rattle.std.specs.Prelude.{◌≡◌, ℕ, ◌⊎◌, ◌++◌, [], Bool, List, Option, take, Result, Ok, Err}
+use Rattle.std.specs.Prelude.{◌≡◌, ℕ, ◌++◌, Bool, List, Option, take, Result, Ok, Err}
 use Rattle.clap.specs.Walk.{Text}
 use Rattle.io_edge.specs.Bytes.{Appends}
 use Rattle.asprop_run.specs.Streams.{Stream}

@@ -134,8 +134,8 @@ fn answer_job(
     job: Job<'_>,
     text: &mut Vec<u8>,
 ) -> Result<bool, NoMemory>
-    requires sound { IsSoundJob (job_seen job.entry) }
-    requires inside { IsInside (world_seen sim.old) (job_seen job.entry) }
+    requires sound { IsSoundJob (job_seen job) }
+    requires inside { IsInside (world_seen sim.old) (job_seen job) }
     requires kept { IsKept (world_seen sim.old) (kept sim.old) }
     requires no_cycle { HasCycle (world_seen sim.old) → ⊥ }
     ensures answered { IfOk result (λ refused. AnswersJob (world_seen sim.old) (job_seen job.entry) text.new.items refused (world_seen sim.new)) }

@@ -4,7 +4,7 @@ ghost use Rattle.asprop_run.specs.Statuses.{IsComplete, RunsAsTold};
 
 use io_edge::{Inputs, Sink};
 use policy_kinds::Kind;
-use sim_core::{answers_are_one, kept_are_stable};
+use sim_core::kept_are_stable;
 use stability_laws::{any_order_settles, one_answer};
 
 /// Each run over files whose bytes are told, where no read of them fails, is one over those bytes. And where
@@ -30,6 +30,5 @@ pub fn orders_settle()
     ensures { OrdersSettle }
 {
     any_order_settles::<Kind>();
-    answers_are_one();
     kept_are_stable();
 }

@@ -17,7 +17,9 @@ use crate::types::Failure;
 use io_edge::{Inputs, Sink};
 use sim_core::{LoadError, Sim};
 use std::alloc::Global;
-use task_reading::{AskError, Asked, Cause, Fault, File, Status, WordForm, ask, read_words};
+use task_reading::{
+    AskError, Asked, Cause, Fault, File, Status, WordForm, ask, jobs_are_alike, read_words,
+};
 
 // The fault of a line of the option's file.
 fn not_in_world(line: u32) -> Fault
@@ -47,6 +49,7 @@ fn work<I: Inputs, O: Sink>(
         Err(AskError::Memory) => return Err(Failure::Memory),
         Err(AskError::Fault(fault)) => return Err(Failure::Fault(fault)),
     };
+    jobs_are_alike(&jobs);
     match Sim::load(alloc, links, vrps, scenario) {
         Ok(mut sim) => match first_outside(&sim, &jobs) {
             Some(line) => Err(Failure::Fault(not_in_world(line))),
