@@ -1,5 +1,5 @@
 -- How a run ends where the work stopped.
-use Rattle.std.proofs.Common.{◌≡◌, ◌<◌, ◌≤◌, inl, inr, ℕ, nat_lt, Bool, List, [], Option, Result, Ok, Err, None, refl, sym, ap, subst, ◌∙◌, if◌then◌else◌, lt-ltb, le-ltb}
+use Rattle.std.proofs.Common.{◌≡◌, ◌<◌, ◌≤◌, inl, inr, ℕ, nat_lt, Bool, List, [], Option, Some, option_map, Result, Ok, Err, None, refl, sym, ap, subst, ◌∙◌, if◌then◌else◌, lt-ltb, le-ltb}
 use Rattle.as_graph.specs.Topology.{as_count, relation}
 use Rattle.cycle_check.specs.Cycles.{IsCycleFromLowest}
 use Rattle.scenario_text.specs.Walks.{◌>>=◌}
@@ -10,7 +10,7 @@ use Rattle.task_reading.specs.Sources.{Source}
 use Rattle.asprop_run.specs.Written.{Answering}
 use Rattle.task_reading.specs.Files.{Prepares}
 use Rattle.task_reading.specs.Words.{Form, form_of}
-use Rattle.asprop_run.specs.Task.{Task, task_of}
+use Rattle.asprop_run.specs.Task.{HasAnswers, Task, outside, task_of}
 use Rattle.task_reading.specs.declared.asking.Asked.{Asked}
 use Rattle.task_reading.specs.declared.types.AskError.{AskError}
 use Rattle.asprop_run.specs.Texts.{ending_of}
@@ -19,6 +19,8 @@ use Rattle.asprop_run.specs.declared.types.Failure.{Failure}
 use Rattle.asprop_run.specs.declared.types.Failure.TheVariants as failure
 use Rattle.task_reading.specs.declared.types.Status.{Status}
 use Rattle.task_reading.specs.declared.types.Status.TheVariants as status
+use Rattle.task_reading.specs.declared.types.Cause.TheVariants as cause
+use Rattle.task_reading.specs.declared.types.File.TheVariants as file
 use Rattle.task_reading.specs.declared.types.Fault.{Fault}
 use Rattle.task_reading.specs.declared.types.Fault.TheVariants as fault
 use Rattle.task_reading.proofs.Preparing.{none_read}
@@ -27,8 +29,8 @@ use Rattle.task_reading.proofs.Preparing.{none_read}
 by_memory : (task : Result Task Fault) (reason : Failure) (out : Stream) → (reason ≡ failure.Write → ⊥) → Outcome task (Err reason) out → Outcome task (Err failure.Memory) out
 by_memory (Ok task) failure.Memory out not_write w = w
 by_memory (Ok task) failure.Write out not_write w = absurd (not_write refl)
-by_memory (Ok task) (failure.Cycle cycle) out not_write w = (inl w.1, λ _. w.1)
-by_memory (Ok task) (failure.Fault f) out not_write w = absurd w
+by_memory (Ok task) (failure.Cycle cycle) out not_write w = inl w.1
+by_memory (Ok task) (failure.Fault f) out not_write w = inl w.2
 by_memory (Err f) failure.Memory out not_write w = w
 by_memory (Err f) failure.Write out not_write w = absurd w
 by_memory (Err f) (failure.Cycle cycle) out not_write w = absurd w
@@ -50,7 +52,7 @@ module _ {from : Source} {words : List (List ℕ)} {out err : Stream} where
 
 -- nothing was written where memory ran out
 idle : (task : Result Task Fault) (out : Stream) → out.wrote [] → Outcome task (Err failure.Memory) out
-idle (Ok task) out nil = (inl nil, λ _. nil)
+idle (Ok task) out nil = inl nil
 idle (Err f) out nil = nil
 
 -- memory ran out before the words were read
@@ -75,7 +77,7 @@ no_memory {form} {out} p nil = record { reads = p.reads; are_read = p.are_read; 
 
 -- the task in the world of what was asked for
 abbrev pub task_in : Asked → Task
-task_in x = record { world = world_of x.links x.vrps x.scenario; lines = x.lines; heads = x.heads; counts = x.counts }
+task_in x = record { world = world_of x.links x.vrps x.scenario; jobs = x.jobs }
 
 -- the task of what was asked for, if its world isn't too large
 abbrev pub within_limits : Asked → Result Task Fault
@@ -87,13 +89,13 @@ few_ases x few = rw (le-ltb 150000 (as_count (topology (task_in x).world)) few) 
 many_ases : (x : Asked) → 150000 < as_count (topology (task_in x).world) → within_limits x ≡ Err fault.TooManyAses
 many_ases x many = rw (lt-ltb 150000 (as_count (topology (task_in x).world)) many) refl
 
--- what was written of the answers, in a world without a provider cycle
-answering : (task : Task) (result : Result Bool Failure) (out : Stream) → (HasCycle task.world → ⊥) → Answering task result out → Outcome (Ok task) result out
-answering task (Ok refused) out none h = (none, h)
-answering task (Err failure.Memory) out none h = (h, λ cycle. absurd (none cycle))
-answering task (Err failure.Write) out none h = (none, h)
-answering task (Err (failure.Cycle cycle)) out none h = absurd h
-answering task (Err (failure.Fault f)) out none h = absurd h
+-- what was written of the answers of a task that has some
+answering : (task : Task) (result : Result Bool Failure) (out : Stream) → HasAnswers task → Answering task result out → Outcome (Ok task) result out
+answering task (Ok refused) out has h = (has, h)
+answering task (Err failure.Memory) out has h = inr (has, h)
+answering task (Err failure.Write) out has h = (has, h)
+answering task (Err (failure.Cycle cycle)) out has h = absurd h
+answering task (Err (failure.Fault f)) out has h = absurd h
 
 module _ {from : Source} {form : Option Form} {out : Stream} where
   -- the task is the one that was asked for
@@ -105,11 +107,19 @@ module _ {from : Source} {form : Option Form} {out : Stream} where
   }
 
   -- answers were written
-  pub worked : (x : Asked) (w : World) (result : Result Bool Failure) → Prepares from form (Ok x) → w ≡ (task_in x).world → as_count (topology w) ≤ 150000 → (HasCycle w → ⊥)
-      → Answering (record (task_in x) { world = w }) result out → Worked from form result out
-  worked x w result p is few none h =
+  pub worked : (x : Asked) (w : World) (result : Result Bool Failure) → Prepares from form (Ok x) → w ≡ (task_in x).world → as_count (topology w) ≤ 150000 → (HasCycle w → ⊥) → outside w x.jobs ≡ None
+      → Answering (record { world = w; jobs = x.jobs }) result out → Worked from form result out
+  worked x w result p is few none inside h =
       on_task x p result (subst (λ (w : World). as_count (topology w) ≤ 150000) is few)
-      (answering (task_in x) result out (subst (λ (w : World). HasCycle w → ⊥) is none) (subst (λ (w : World). Answering (record (task_in x) { world = w }) result out) is h))
+      (subst (λ (w : World). Outcome (Ok (record { world = w; jobs = x.jobs })) result out) is (answering (record { world = w; jobs = x.jobs }) result out (none, inside) h))
+
+  -- a line names what isn't in the world
+  pub foreign : (x : Asked) (w : World) (line : ℕ) (f : Fault) → Prepares from form (Ok x) → w ≡ (task_in x).world → as_count (topology w) ≤ 150000 → (HasCycle w → ⊥) → outside w x.jobs ≡ Some line
+      → f ≡ fault.InFile file.Script (cause.NotInWorld line) → out.wrote [] → Worked from form (Err (failure.Fault f)) out
+  foreign x w line f p is few none names is_fault nil =
+      on_task x p (Err (failure.Fault f)) (subst (λ (w : World). as_count (topology w) ≤ 150000) is few)
+      (subst (λ (w : World). Outcome (Ok (record { world = w; jobs = x.jobs })) (Err (failure.Fault f)) out) is
+      (none, ap (option_map (λ n. fault.InFile file.Script (cause.NotInWorld n))) names ∙ ap Some (sym is_fault), nil))
 
   -- the world has a provider cycle
   pub cyclic : (x : Asked) (cycle : List ℕ) → Prepares from form (Ok x) → (as_count (topology (task_in x).world) ≤ 150000) × IsCycleFromLowest (relation (topology (task_in x).world)) cycle → out.wrote []

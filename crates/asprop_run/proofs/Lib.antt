@@ -4,4 +4,12 @@ pub mod Ending
 pub mod Arguments
 pub mod StatusLemmas
 pub mod StatusRows
+pub mod Named
+pub mod OneSettling
+pub mod Settled
+pub mod Acting
+pub mod Populated
+pub mod Insides
+pub mod Copies
+pub mod Facts
 pub mod OneText

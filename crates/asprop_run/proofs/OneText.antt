@@ -1,4 +1,4 @@
--- Two texts that answer the same lines.
+-- Two texts that answer the same jobs.
 use Rattle.std.proofs.Common.{◌≡◌, ◌⊎◌, inl, inr, ◌||◌, ℕ, Bool, true, false, [], ◌∷◌, ◌++◌, Some, None, codes, decimal, refl, sym, ◌∙◌, ap, ap₂, subst}
 use Rattle.clap.specs.Walk.{Text}
 use Rattle.scenario_text.specs.LineValues.{LineValue}
@@ -11,9 +11,15 @@ use Rattle.sim_core.specs.Edits.{HasChanges, IsAllowed, IsReason, edited}
 use Rattle.sim_core.specs.declared.errors.EditError.{EditError}
 use Rattle.sim_core.specs.declared.errors.EditError.TheVariants as edit
 use Rattle.sim_core.specs.Laws.{IsCycle, OneAnswer, OneCount, OneReason}
-use Rattle.asprop_run.specs.Laws.{ClosesCycle, OneText}
+use Rattle.asprop_run.specs.Inside.{IsInside}
+use Rattle.asprop_run.specs.Laws.{ClosesAct, ClosesCycle, OneText}
 use Rattle.asprop_run.specs.Refusals.{edit_refusal_text, refusal_text}
-use Rattle.asprop_run.specs.Replies.{AnswersLine, IsReply, AnswersLines, head}
+use Rattle.asprop_run.specs.Replies.{AnswersJob, AnswersJobs, IsReply, head}
+use Rattle.asprop_run.proofs.Named.{in_world}
+use Rattle.asprop_run.proofs.OneSettling.{one_acts_text}
+use Rattle.task_reading.specs.Jobs.{Job, acts_job, counts_job, line_job}
+use Rattle.policy_kinds.specs.Kinds.{kind_policy}
+use Rattle.stability_laws.specs.Laws.{OneAnswer as OneRight}
 
 -- two texts of one line: both refuse or neither does, both leave one world, and they are the same unless the line closes a cycle
 record Agree (closes : Type 0) (s t : Text) (r q : Bool) (x y : World) : Type 0 where
@@ -32,11 +38,11 @@ not_allowed w e (edit.Limit which) h a = let f = a.0 in cc
 not_allowed w e (edit.ProviderCycle cycle) h a = a.1 (cycle, h.1)
 
 -- a reason that is a provider cycle
-closes_by : (w : World) (e : Edit) (x : EditError) → IsReason w e x → IsCycle x → ClosesCycle w (act.Edit e)
+closes_by : (w : World) (e : Edit) (x : EditError) → IsReason w e x → IsCycle x → ClosesAct w (act.Edit e)
 closes_by w e x h c = (c.0, subst (IsReason w e) c.1 h)
 
 -- the texts of two reasons
-refusal_agrees : (w : World) (e : Edit) (x y : EditError) (s t : Text) → IsReason w e x → s ≡ edit_refusal_text x → t ≡ edit_refusal_text y → (x ≡ y) ⊎ (IsCycle x × IsCycle y) → (ClosesCycle w (act.Edit e) → ⊥) → s ≡ t
+refusal_agrees : (w : World) (e : Edit) (x y : EditError) (s t : Text) → IsReason w e x → s ≡ edit_refusal_text x → t ≡ edit_refusal_text y → (x ≡ y) ⊎ (IsCycle x × IsCycle y) → (ClosesAct w (act.Edit e) → ⊥) → s ≡ t
 refusal_agrees w e x y s t h a b (inl same) none = a ∙ ap edit_refusal_text same ∙ sym b
 refusal_agrees w e x y s t h a b (inr cycles) none = absurd (none (closes_by w e x h cycles.0))
 
@@ -47,9 +53,9 @@ same_count count w e k l now then m n x y allowed is others p q here there a b =
     count w e k l now then m n allowed.0 is others (subst (λ x. IsKept x now) p here) (subst (λ y. IsKept y then) q there)
     (subst (λ (x : World). HasChanges x.plan x.rounds k.routings now.routings m) p a) (subst (λ (y : World). HasChanges y.plan y.rounds l.routings then.routings n) q b)
 
-module _ (answer : OneAnswer) (count : OneCount) (reason : OneReason) where
+module _ (answer : OneAnswer) (count : OneCount) (reason : OneReason) (right : OneRight kind_policy) where
   -- two texts of what is told for what a line asks
-  reply_agrees : (w : World) (k l : Kept) (a : Act) (s t : Text) (r q : Bool) (x y : World) → IsKept w k → IsKept w l → IsReply w k a s r x → IsReply w l a t q y → Agree (ClosesCycle w a) s t r q x y
+  reply_agrees : (w : World) (k l : Kept) (a : Act) (s t : Text) (r q : Bool) (x y : World) → IsKept w k → IsKept w l → IsReply w k a s r x → IsReply w l a t q y → Agree (ClosesAct w a) s t r q x y
   reply_agrees w k l (act.Query a) s t false false x y is others h g = record { refused = refl; after = h.2 ∙ sym g.2; text = λ none. answer w k l a s t is others h.0 h.1 g.1 }
   reply_agrees w k l (act.Query a) s t false true x y is others h g = absurd (let f : None ≡ Some g.0 = sym h.0 ∙ g.1 in cc)
   reply_agrees w k l (act.Query a) s t true false x y is others h g = absurd (let f : None ≡ Some h.0 = sym g.0 ∙ h.1 in cc)
@@ -65,15 +71,23 @@ module _ (answer : OneAnswer) (count : OneCount) (reason : OneReason) where
       record { refused = refl; after = h.3 ∙ sym g.3; text = refusal_agrees w e h.0 g.0 s t h.1 h.2 g.2 (reason w e h.0 g.0 h.1 g.1) }
 
   -- two answers to a line
-  line_agrees : (heads : Bool) (w : World) (line : LineValue) (s t : Text) (r q : Bool) (x y : World) → AnswersLine heads w line s r x → AnswersLine heads w line t q y → Agree (ClosesCycle w line.act) s t r q x y
+  line_agrees : (heads : Bool) (w : World) (line : LineValue) (s t : Text) (r q : Bool) (x y : World) → AnswersJob w (line_job heads line) s r x → AnswersJob w (line_job heads line) t q y → Agree (ClosesAct w line.act) s t r q x y
   line_agrees heads w line s t r q x y h g =
       let reply = reply_agrees w h.0 g.0 line.act h.2 g.2 r q x y h.1 g.1 h.3 g.3 in
       record { refused = reply.refused; after = reply.after; text = λ none. h.4 ∙ ap (λ text. head heads line.number ++ text) (reply.text none) ∙ sym g.4 }
 
-  -- line by line, both texts go on in the same world
+  -- two answers to a job
+  job_agrees : (w : World) (job : Job) (s t : Text) (r q : Bool) (x y : World) → IsInside w job → AnswersJob w job s r x → AnswersJob w job t q y → Agree (ClosesCycle w job) s t r q x y
+  job_agrees w counts_job s t r q x y inside h g = record { refused = h.0 ∙ sym g.0; after = h.1 ∙ sym g.1; text = λ none. h.2 ∙ sym g.2 }
+  job_agrees w (line_job heads line) s t r q x y inside h g = line_agrees heads w line s t r q x y h g
+  job_agrees w (acts_job acts) s t r q x y inside h g =
+      let named = in_world w acts inside.0 in
+      record { refused = h.0 ∙ sym g.0; after = h.1 ∙ sym g.1; text = λ none. one_acts_text right w h.2 g.2 h.3 g.3 acts named.0 named.1 s t h.4 g.4 }
+
+  -- job by job, both texts go on in the same world
   pub one_text : OneText
-  one_text heads w [] s t r q h g = (h.1 ∙ sym g.1, λ none. h.0 ∙ sym g.0)
-  one_text heads w (line ∷ lines) s t r q h g =
-      let first = line_agrees heads w line h.0 g.0 h.2 g.2 h.4 g.4 h.5 g.5 in
-      let more = one_text heads h.4 lines h.1 g.1 h.3 g.3 h.6 (subst (λ after. AnswersLines heads after lines g.1 g.3) (sym first.after) g.6) in
+  one_text w [] s t r q inside h g = (h.1 ∙ sym g.1, λ none. h.0 ∙ sym g.0)
+  one_text w (job ∷ jobs) s t r q inside h g =
+      let first = job_agrees w job h.0 g.0 h.2 g.2 h.4 g.4 inside.0 h.5 g.5 in
+      let more = one_text h.4 jobs h.1 g.1 h.3 g.3 (inside.1 h.0 h.2 h.4 h.5) h.6 (subst (λ after. AnswersJobs after jobs g.1 g.3) (sym first.after) g.6) in
       (h.8 ∙ ap₂ (λ a b. a || b) first.refused more.0 ∙ sym g.8, λ none. h.7 ∙ ap₂ (λ a b. a ++ b) (first.text none.0) (more.1 (none.1 h.0 h.2 h.4 h.5)) ∙ sym g.7)

@@ -1,22 +1,24 @@
 -- Which statuses the words, the reads and the writes give.
-use Rattle.std.proofs.Common.{◌≡◌, ◌⊎◌, inl, inr, ℕ, Bool, true, false, List, Option, None, Result, Ok, Err, IsSomeAnd, refl, ap, sym, subst, ◌∙◌}
+use Rattle.std.proofs.Common.{◌≡◌, ◌⊎◌, inl, inr, ℕ, Bool, true, false, List, Option, Some, None, option_map, Result, Ok, Err, IsSomeAnd, refl, ap, sym, subst, ◌∙◌}
 use Rattle.asprop_run.specs.Streams.{Stream}
 use Rattle.task_reading.specs.Sources.{Source}
-use Rattle.asprop_run.specs.Task.{Task, task_of}
+use Rattle.asprop_run.specs.Task.{Task, outside, task_of}
 use Rattle.task_reading.specs.Asking.{Reads, asked}
 use Rattle.task_reading.specs.declared.asking.Asked.{Asked}
 use Rattle.asprop_run.specs.Texts.{ending_of}
 use Rattle.task_reading.specs.Words.{Form, form_of, name_by}
 use Rattle.task_reading.specs.Files.{IsReadAs}
 use Rattle.asprop_run.specs.Runs.{Outcome, IsRun}
+use Rattle.task_reading.specs.declared.types.Cause.TheVariants as cause
 use Rattle.task_reading.specs.declared.types.File.{File}
+use Rattle.task_reading.specs.declared.types.File.TheVariants as file
 use Rattle.task_reading.specs.declared.types.Fault.{Fault}
 use Rattle.task_reading.specs.declared.types.Fault.TheVariants as fault
 use Rattle.asprop_run.specs.declared.types.Failure.{Failure}
 use Rattle.asprop_run.specs.declared.types.Failure.TheVariants as failure
 use Rattle.task_reading.specs.declared.types.Status.{Status}
 use Rattle.task_reading.specs.declared.types.Status.TheVariants as status
-use Rattle.task_reading.proofs.Faults.{Stopped, no_form, unread, by_value, bind_err, chosen_err, of_asked, status_of, too_many}
+use Rattle.task_reading.proofs.Faults.{Stopped, no_form, unread, by_value, bind_err, chosen_err, of_asked, other_line, status_of, too_many}
 use Rattle.asprop_run.proofs.Ending.{task_in, within_limits}
 
 of_limits : (form : Option Form) (reads : Reads) (parts : Asked) (e : Fault) → within_limits parts ≡ Err e → Stopped form reads e
@@ -30,9 +32,14 @@ of_task form reads e h =
       | inr late ↦ of_limits form reads late.0 e late.2
     ]
 
+-- the fault of a line that names what isn't in the world is neither one of the words nor a failed read
+of_line : (form : Option Form) (reads : Reads) (line : Option ℕ) (f : Fault) → option_map (λ n. fault.InFile file.Script (cause.NotInWorld n)) line ≡ Some f → Stopped form reads f
+of_line form reads None f h = cc
+of_line form reads (Some line) f h = let is : fault.InFile file.Script (cause.NotInWorld line) ≡ f = cc in subst (Stopped form reads) is (by_value _ (other_line form file.Script line))
+
 -- the work stops by a fault only for the reason of that fault
 fault_by : (form : Option Form) (reads : Reads) (task : Result Task Fault) (f : Fault) (out : Stream) → task_of form reads ≡ task → Outcome task (Err (failure.Fault f)) out → Stopped form reads f
-fault_by form reads (Ok task) f out is w = absurd w
+fault_by form reads (Ok task) f out is w = of_line form reads (outside task.world task.jobs) f w.1
 fault_by form reads (Err e) f out is w = subst (Stopped form reads) (sym w.0) (of_task form reads e is)
 
 usage_stop : (form : Option Form) (reads : Reads) (f : Fault) → Stopped form reads f → status.Usage ≡ status_of form f → form ≡ None

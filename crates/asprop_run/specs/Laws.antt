@@ -1,13 +1,21 @@
 -- What holds of all runs, and of all told texts.
-use Rattle.std.specs.Prelude.{◌≡◌, ℕ, Bool, List, [], ◌∷◌, Option}
+use Rattle.std.specs.Prelude.{◌≡◌, ◌≤◌, ◌+◌, ℕ, Bool, true, false, List, [], ◌∷◌, ◌++◌, Option}
 use Rattle.clap.specs.Walk.{Text}
-use Rattle.scenario_text.specs.LineValues.{LineValue}
 use Rattle.scenario_text.specs.declared.acts.Act.{Act}
 use Rattle.scenario_text.specs.declared.acts.Act.TheVariants as act
-use Rattle.sim_core.specs.World.{World}
+use Rattle.scenario_text.specs.declared.acts.Query.TheVariants.{Routes}
+use Rattle.activations.specs.Named.{AreSound}
+use Rattle.activations.specs.Pieces.{IsMostPieces}
+use Rattle.activations.specs.declared.acts.Acts.{Acts}
+use Rattle.as_graph.specs.Topology.{has}
+use Rattle.stability_laws.specs.Laws.{IsHeight}
+use Rattle.sim_core.specs.World.{HasCycle, World, topology}
 use Rattle.sim_core.specs.Edits.{IsReason}
 use Rattle.sim_core.specs.declared.errors.EditError.TheVariants as edit
-use Rattle.asprop_run.specs.Replies.{AnswersLine, AnswersLines}
+use Rattle.asprop_run.specs.Inside.{AreInside, IsInside}
+use Rattle.asprop_run.specs.Settling.{settled_rows}
+use Rattle.task_reading.specs.Jobs.{Job, acts_job, line_job}
+use Rattle.asprop_run.specs.Replies.{AnswersJob, AnswersJobs}
 use Rattle.asprop_run.specs.Runs.{IsRun}
 use Rattle.asprop_run.specs.Streams.{Stream, stream_of}
 use Rattle.task_reading.specs.Sources.{Source, source_of}
@@ -20,16 +28,28 @@ EachRun {I} {O} {E} holds sound faults written out_faults said err_faults Holds 
     → IsRun (source_of holds sound faults old new) words s (stream_of written out_faults out after) (stream_of said err_faults err told)
     → Holds (source_of holds sound faults old new) words s (stream_of written out_faults out after) (stream_of said err_faults err told)
 
--- the line asks for an edit that is refused for a provider cycle
-abbrev pub ClosesCycle : World → Act → Type 0
-ClosesCycle w (act.Edit e) = (cycle : List ℕ) × IsReason w e (edit.ProviderCycle cycle)
-ClosesCycle w (act.Query q) = ⊥
+-- what a line asks is an edit that is refused for a provider cycle
+abbrev pub ClosesAct : World → Act → Type 0
+ClosesAct w (act.Edit e) = (cycle : List ℕ) × IsReason w e (edit.ProviderCycle cycle)
+ClosesAct w (act.Query q) = ⊥
 
--- no line of the script is refused for a provider cycle
-abbrev pub NoneCloses : Bool → World → List LineValue → Type 0
-NoneCloses heads w [] = Unit {0}
-NoneCloses heads w (line ∷ lines) = (ClosesCycle w line.act → ⊥) × ((text : Text) (refused : Bool) (after : World) → AnswersLine heads w line text refused after → NoneCloses heads after lines)
+-- the job is a line that asks so
+abbrev pub ClosesCycle : World → Job → Type 0
+ClosesCycle w (line_job heads line) = ClosesAct w line.act
+ClosesCycle w job = ⊥
 
--- all texts that answer a script's lines agree on whether an answer is a refusal; and where no line is refused for a provider cycle, of which there may be several to print, they are one text
+-- no job is refused for a provider cycle
+abbrev pub NoneCloses : World → List Job → Type 0
+NoneCloses w [] = Unit {0}
+NoneCloses w (job ∷ jobs) = (ClosesCycle w job → ⊥) × ((text : Text) (refused : Bool) (after : World) → AnswersJob w job text refused after → NoneCloses after jobs)
+
+-- all texts that answer jobs, of a world that has all that they name, agree on whether an answer is a refusal; and where no line is refused for a provider cycle, of which there may be several to print, they are one text
 abbrev pub OneText : Type 0
-OneText = (heads : Bool) (w : World) (lines : List LineValue) (s t : Text) (r q : Bool) → AnswersLines heads w lines s r → AnswersLines heads w lines t q → (r ≡ q) × (NoneCloses heads w lines → s ≡ t)
+OneText = (w : World) (jobs : List Job) (s t : Text) (r q : Bool) → AreInside w jobs → AnswersJobs w jobs s r → AnswersJobs w jobs t q → (r ≡ q) × (NoneCloses w jobs → s ≡ t)
+
+-- activations with twice as many full pieces as the longest chain has ASes end in the routing that is kept: their text is the rows of the query for the routes of the round and the prefix, and then says that the routing is stable (Gao and Rexford 2001)
+abbrev pub OrdersSettle : Type 0
+OrdersSettle = (w after later : World) (acts : Acts) (pieces height number : ℕ) (text routes : Text) (refused other : Bool) →
+    (HasCycle w → ⊥) → IsInside w (acts_job acts) → AreSound acts → IsMostPieces (has (topology w)) acts.list pieces → IsHeight (topology w) height → height + height ≤ pieces →
+    AnswersJob w (acts_job acts) text refused after → AnswersJob w (line_job false (record { number = number; act = act.Query (Routes acts.round acts.prefix) })) routes other later →
+    text ≡ routes ++ settled_rows pieces height true

@@ -1,9 +1,11 @@
 pub mod Streams
 pub mod Task
+pub mod Settling
 pub mod Refusals
 pub mod Replies
 pub mod Laws
 pub mod Texts
+pub mod Inside
 pub mod Written
 pub mod Runs
 pub mod Statuses

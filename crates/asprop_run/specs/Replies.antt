@@ -1,16 +1,19 @@
 -- What is written for a task.
 use Rattle.std.specs.Prelude.{◌≡◌, ◌||◌, ℕ, Bool, true, false, Some, None, List, [], ◌∷◌, ◌++◌, codes, if◌then◌else◌, decimal}
+use Rattle.std.specs.FinMap as fin
 use Rattle.clap.specs.Walk.{Text}
-use Rattle.scenario_text.specs.LineValues.{LineValue}
 use Rattle.scenario_text.specs.declared.acts.Act.{Act}
 use Rattle.scenario_text.specs.declared.acts.Act.TheVariants as act
-use Rattle.sim_core.specs.World.{World}
+use Rattle.sim_core.specs.World.{World, topology}
 use Rattle.sim_core.specs.Kept.{Kept, IsKept}
 use Rattle.sim_core.specs.Answers.{IsAnswer, refusal_of}
 use Rattle.sim_core.specs.Edits.{HasChanges, IsAllowed, IsReason, edited}
 use Rattle.sim_core.specs.declared.errors.EditError.{EditError}
 use Rattle.sim_core.specs.declared.errors.QueryError.{QueryError}
+use Rattle.as_graph.specs.Topology.{as_count}
+use Rattle.task_reading.specs.Jobs.{Job, acts_job, counts_job, line_job}
 use Rattle.asprop_run.specs.Refusals.{edit_refusal_text, refusal_text}
+use Rattle.asprop_run.specs.Settling.{IsActsText, fact}
 
 -- the text is what is told for what a line asks, and the world after it: a query is answered, or refused for its reason; an edit that is allowed leaves the edited world, and the text says how many entries of the one family of routings differ from those of the one family after it; one that is refused says why, and the world stays (own format)
 abbrev pub IsReply : World → Kept → Act → Text → Bool → World → Type 0
@@ -31,15 +34,18 @@ pub record AppendsReply (w : World) (kept : Kept) (asks : Act) (refused : Bool) 
 abbrev pub head : Bool → ℕ → Text
 head heads number = if heads then codes "# " ++ (decimal number ++ 10 ∷ []) else []
 
--- the text is the head line and what is told for the line by the one and only stable routings of the world's rounds and by the ranks of its ASes, and the line leaves this world (Gao and Rexford 2001)
-abbrev pub AnswersLine : Bool → World → LineValue → Text → Bool → World → Type 0
-AnswersLine heads w line text refused after = (kept : Kept) × IsKept w kept
-    × (answer : Text) × IsReply w kept line.act answer refused after × (text ≡ head heads line.number ++ answer)
+-- the text is the whole answer to the job, by the one and only stable routings of the world's rounds and by the ranks of its ASes, and the job leaves this world: the numbers of ASes and links; the head line and what is told for a line; or what activations come to (own format; Gao and Rexford 2001)
+abbrev pub AnswersJob : World → Job → Text → Bool → World → Type 0
+AnswersJob w counts_job text refused after = (refused ≡ false) × (after ≡ w)
+    × (text ≡ fact "ases" (decimal (as_count (topology w))) ++ fact "links" (decimal (fin.len w.links)))
+AnswersJob w (line_job heads line) text refused after = (k : Kept) × IsKept w k × (answer : Text)
+    × IsReply w k line.act answer refused after × (text ≡ head heads line.number ++ answer)
+AnswersJob w (acts_job acts) text refused after = (refused ≡ false) × (after ≡ w)
+    × (k : Kept) × IsKept w k × IsActsText w k acts text
 
--- the text answers the lines one after the other, each in the world that the lines before it leave; `refused` says whether an answer is a refusal (own format)
-abbrev pub AnswersLines : Bool → World → List LineValue → Text → Bool → Type 0
-AnswersLines heads w [] text refused = (text ≡ []) × (refused ≡ false)
-AnswersLines heads w (line ∷ lines) text refused =
-    (front rest : Text) × (first others : Bool) × (after : World)
-    × AnswersLine heads w line front first after × AnswersLines heads after lines rest others
-    × (text ≡ front ++ rest) × (refused ≡ (first || others))
+-- the text answers the jobs one after the other, each in the world that the jobs before it leave; `refused` says whether an answer is a refusal (own format)
+abbrev pub AnswersJobs : World → List Job → Text → Bool → Type 0
+AnswersJobs w [] text refused = (text ≡ []) × (refused ≡ false)
+AnswersJobs w (job ∷ jobs) text refused = (s t : Text) × (first others : Bool) × (after : World)
+    × AnswersJob w job s first after × AnswersJobs after jobs t others
+    × (text ≡ s ++ t) × (refused ≡ (first || others))

@@ -1,28 +1,39 @@
 -- The task that the words and the files give, or the first fault.
-use Rattle.std.specs.Prelude.{Bool, nat_lt, List, [], ◌∷◌, ◌++◌, codes, decimal, Option, Result, Ok, Err, if◌then◌else◌}
-use Rattle.std.specs.FinMap as fin
-use Rattle.clap.specs.Walk.{Text}
-use Rattle.as_graph.specs.Topology.{as_count}
+use Rattle.std.specs.Prelude.{◌≡◌, ◌&&◌, ℕ, nat_lt, List, ◌∷◌, None, Some, Option, option_map, Result, Ok, Err, if◌then◌else◌}
+use Rattle.activations.specs.Named.{first_foreign_in}
+use Rattle.as_graph.specs.Topology.{as_count, has}
 use Rattle.as_graph.specs.declared.build.TheConstants.{MOST_ASES}
-use Rattle.scenario_text.specs.LineValues.{LineValue}
 use Rattle.scenario_text.specs.Walks.{◌>>=◌}
 use Rattle.sim_core.specs.Loaded.{world_of}
-use Rattle.sim_core.specs.World.{World, topology}
+use Rattle.sim_core.specs.World.{HasCycle, World, has_round, topology}
+use Rattle.stability_laws.specs.Plans.{has_prefix}
 use Rattle.task_reading.specs.Asking.{Reads, asked}
+use Rattle.task_reading.specs.Jobs.{Job, acts_job}
 use Rattle.task_reading.specs.Words.{Form}
+use Rattle.task_reading.specs.declared.types.Cause.TheVariants.{NotInWorld}
+use Rattle.task_reading.specs.declared.types.File.TheVariants.{Script}
 use Rattle.task_reading.specs.declared.types.Fault.{Fault}
-use Rattle.task_reading.specs.declared.types.Fault.TheVariants as fault
+use Rattle.task_reading.specs.declared.types.Fault.TheVariants.{InFile, TooManyAses}
 
--- a world, the lines that are answered in it one after the other, whether each answer has a head line, and whether the numbers of ASes and links come first
+-- a world, and the jobs that are done in it one after the other
 abbrev pub Task : Type 0
-Task = record { world : World; lines : List LineValue; heads : Bool; counts : Bool }
-
--- what comes before the answers: the numbers of ASes and links of the world, if they do (own format)
-abbrev pub first_text : Bool → World → Text
-first_text counts w = if counts then codes "ases|" ++ (decimal (as_count (topology w)) ++ 10 ∷ (codes "links|" ++ (decimal (fin.len w.links) ++ 10 ∷ []))) else []
+Task = record { world : World; jobs : List Job }
 
 -- the task of a form and of what was read of the files, in the world of what they ask for, if that has at most 150000 ASes, or the first fault
 abbrev pub task_of : Option Form → Reads → Result Task Fault
 task_of form reads = asked form reads >>= λ a. let world = world_of a.links a.vrps a.scenario in
-    if nat_lt MOST_ASES (as_count (topology world)) then Err fault.TooManyAses
-    else Ok (record { world = world; lines = a.lines; heads = a.heads; counts = a.counts })
+    if nat_lt MOST_ASES (as_count (topology world)) then Err TooManyAses else Ok (record { world = world; jobs = a.jobs })
+
+-- the first line of an option's file that names what the world has not: its round or its prefix, or an AS (own format)
+abbrev pub outside : World → List Job → Option ℕ
+outside w (acts_job acts ∷ jobs) = if has_round w acts.round && has_prefix w.plan acts.prefix
+    then first_foreign_in (has (topology w)) acts.named else Some acts.for_line
+outside w jobs = None
+
+-- the fault of the first line that names what the world has not
+abbrev pub fault_outside : Task → Option Fault
+fault_outside t = option_map (λ n. InFile Script (NotInWorld n)) (outside t.world t.jobs)
+
+-- the task has answers: its world has no provider cycle, and has all that is named
+abbrev pub HasAnswers : Task → Type 0
+HasAnswers t = (HasCycle t.world → ⊥) × (outside t.world t.jobs ≡ None)

@@ -1,5 +1,5 @@
 -- The statuses and texts of how a run ends.
-use Rattle.std.specs.Prelude.{Bool, if◌then◌else◌, [], ◌∷◌, ◌++◌, codes, Option, Result, Ok, Err}
+use Rattle.std.specs.Prelude.{Bool, if◌then◌else◌, [], ◌++◌, codes, Option, Result, Ok, Err}
 use Rattle.clap.specs.Walk.{Text}
 use Rattle.net_names.specs.Texts.{numbers_text}
 use Rattle.task_reading.specs.Texts.{fault_ending, message}

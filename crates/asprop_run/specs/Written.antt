@@ -1,28 +1,29 @@
 -- What was written of the answers.
-use Rattle.std.specs.Prelude.{◌≡◌, ℕ, ◌⊎◌, ◌++◌, [], Bool, List, Option, take, Result, Ok, Err}
+use Rattle.std.specs.Prelude.{◌≡◌, ℕ, ◌++◌, Bool, List, Option, take, Result, Ok, Err}
 use Rattle.clap.specs.Walk.{Text}
 use Rattle.io_edge.specs.Bytes.{Appends}
-use Rattle.scenario_text.specs.LineValues.{LineValue}
 use Rattle.asprop_run.specs.Streams.{Stream}
-use Rattle.asprop_run.specs.Task.{Task, first_text}
-use Rattle.asprop_run.specs.Replies.{AnswersLines}
+use Rattle.asprop_run.specs.Task.{Task}
+use Rattle.task_reading.specs.Jobs.{Job}
+use Rattle.sim_core.specs.World.{World}
+use Rattle.asprop_run.specs.Replies.{AnswersJobs}
 use Rattle.asprop_run.specs.declared.types.Failure.{Failure}
 use Rattle.asprop_run.specs.declared.types.Failure.TheVariants as failure
 
--- what comes first, and the answers to these lines, were written so
-abbrev pub Wrote : Task → List LineValue → Bool → (Text → Type 0) → Type 0
-Wrote task lines refused how = (text : Text) × AnswersLines task.heads task.world lines text refused × how (first_text task.counts task.world ++ text)
+-- the answers to these jobs were written so
+abbrev pub Wrote : World → List Job → Bool → (Text → Type 0) → Type 0
+Wrote w jobs refused how = (text : Text) × AnswersJobs w jobs text refused × how text
 
--- what comes first, and the answers to some lines in front, were written so
+-- the answers to some jobs in front were written so
 abbrev pub WroteSome : Task → (Text → Type 0) → Type 0
-WroteSome task how = (count : ℕ) × (refused : Bool) × Wrote task (take count task.lines) refused how
+WroteSome t how = (count : ℕ) × (refused : Bool) × Wrote t.world (take count t.jobs) refused how
 
 -- how answering ends
 abbrev pub Answering : Task → Result Bool Failure → Stream → Type 0
-Answering task (Ok refused) out = Wrote task task.lines refused out.wrote
-Answering task (Err failure.Memory) out = out.wrote [] ⊎ WroteSome task out.wrote
-Answering task (Err failure.Write) out = WroteSome task out.failed
-Answering task (Err _) out = ⊥
+Answering t (Ok refused) out = Wrote t.world t.jobs refused out.wrote
+Answering t (Err failure.Memory) out = WroteSome t out.wrote
+Answering t (Err failure.Write) out = WroteSome t out.failed
+Answering t (Err _) out = ⊥
 
 -- of what was held back and a text behind it, a front was written, and the rest is held back
 pub record IsPassedOn (old new : Option (List ℕ)) (held text now : List ℕ) : Type 0 where

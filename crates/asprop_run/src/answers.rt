@@ -1,17 +1,19 @@
-//! Answers to lines.
+//! Answers to jobs.
 ghost use Rattle.std.specs.Prelude.{◌≡◌, ◌<◌, ◌++◌, false, true, string_bytes, IfOk, OnOk, OnErr};
 ghost use Rattle.io_edge.specs.Bytes.{AppendsFront};
 ghost use Rattle.io_edge.specs.Faults.{HasCause};
 ghost use Rattle.sim_core.specs.Kept.{IsKept};
 ghost use Rattle.sim_core.specs.Sims.{kept, world_seen};
 ghost use Rattle.sim_core.specs.World.{HasCycle};
-ghost use Rattle.scenario_text.specs.LineValues.{AreSoundLines, IsWellFormed, IsSoundAct};
-ghost use Rattle.asprop_run.specs.Task.{first_text};
-ghost use Rattle.asprop_run.specs.Replies.{AnswersLine, AppendsReply, head};
+ghost use Rattle.scenario_text.specs.LineValues.{IsWellFormed, IsSoundAct};
+ghost use Rattle.task_reading.specs.Jobs.{IsSoundJob, counts_job, job_seen, line_job};
+ghost use Rattle.asprop_run.specs.Inside.{AreInside, IsInside};
+ghost use Rattle.asprop_run.specs.Replies.{AnswersJob, AppendsReply, head};
 ghost use Rattle.asprop_run.specs.Streams.{stream_of};
 ghost use Rattle.asprop_run.specs.Written.{Answering, IsPassedOn};
 
-use crate::refusals::{put_done, put_edit_refusal, put_refusal};
+use crate::activating::answer_activations;
+use crate::refusals::{put_bytes, put_done, put_edit_refusal, put_refusal};
 use crate::types::Failure;
 use io_edge::{Failed, Sink, write_all};
 use net_names::NoMemory;
@@ -21,6 +23,7 @@ use sim_core::{QueryError, Sim};
 use std::alloc::{AllocError, Global};
 use std::marker::Brand;
 use std::sync::ledger::{Blank, Ledger};
+use task_reading::{Job, Jobs};
 
 // So many bytes of answers are held back at most, and then written together.
 const HELD_BACK: usize = 65_536;
@@ -90,7 +93,7 @@ fn put_edit<L: Ledger>(
     }
 }
 
-// Makes the head line, if there are head lines, and the answer, and says whether it is a refusal.
+// Makes the head line, if there is one, and the answer to a line, and says whether it is a refusal.
 fn answer_line(
     alloc: Global,
     sim: &mut Sim,
@@ -101,7 +104,7 @@ fn answer_line(
     requires sound { IsSoundAct line.now.act }
     requires kept { IsKept (world_seen sim.old) (kept sim.old) }
     requires no_cycle { HasCycle (world_seen sim.old) → ⊥ }
-    ensures answered { IfOk result (λ refused. AnswersLine heads (world_seen sim.old) line.now text.new.items refused (world_seen sim.new)) }
+    ensures answered { IfOk result (λ refused. AnswersJob (world_seen sim.old) (line_job heads line.now) text.new.items refused (world_seen sim.new)) }
     ensures kept { OnOk result (IsKept (world_seen sim.new) (kept sim.new)) }
     ensures no_cycle { OnOk result (HasCycle (world_seen sim.new) → ⊥) }
 {
@@ -109,6 +112,46 @@ fn answer_line(
     match &line.act {
         Act::Query(query) => put_reply(sim, query, text),
         Act::Edit(edit) => put_edit::<Brand>(alloc, sim, edit, text, Blank::new(1)),
+    }
+}
+
+// Makes the numbers of ASes and links.
+fn answer_counts(alloc: Global, sim: &Sim, text: &mut Vec<u8>) -> Result<(), NoMemory>
+    ensures { OnOk result (AnswersJob (world_seen sim.now) counts_job text.new.items false (world_seen sim.now)) }
+{
+    text.clear();
+    let (ases, links) = (sim.as_count(), sim.link_count());
+    match format!(in alloc; "ases|{ases}\nlinks|{links}\n") {
+        Ok(rows) => put_bytes(text, rows.as_bytes()),
+        Err(_) => Err(NoMemory),
+    }
+}
+
+// Makes the whole answer to a job, and says whether it is a refusal.
+fn answer_job(
+    alloc: Global,
+    sim: &mut Sim,
+    job: Job<'_>,
+    text: &mut Vec<u8>,
+) -> Result<bool, NoMemory>
+    requires sound { IsSoundJob (job_seen job) }
+    requires inside { IsInside (world_seen sim.old) (job_seen job) }
+    requires kept { IsKept (world_seen sim.old) (kept sim.old) }
+    requires no_cycle { HasCycle (world_seen sim.old) → ⊥ }
+    ensures answered { IfOk result (λ refused. AnswersJob (world_seen sim.old) (job_seen job.entry) text.new.items refused (world_seen sim.new)) }
+    ensures kept { OnOk result (IsKept (world_seen sim.new) (kept sim.new)) }
+    ensures no_cycle { OnOk result (HasCycle (world_seen sim.new) → ⊥) }
+{
+    match job {
+        Job::Counts => {
+            answer_counts(alloc, sim, text)?;
+            Ok(false)
+        }
+        Job::Line(heads, line) => answer_line(alloc, sim, heads, line, text),
+        Job::Activations(acts) => {
+            answer_activations(alloc, sim, acts, text)?;
+            Ok(false)
+        }
     }
 }
 
@@ -127,26 +170,28 @@ fn pass_on<O: Sink>(text: &[u8], held: &mut Vec<u8>, out: &mut O) -> Result<(), 
     write_all(out, text)
 }
 
-// Writes the answers to the lines one after the other, each in the world that the lines before it leave
-// and made whole before, and says whether one is a refusal. Short answers are written together. Where memory
-// runs out, the answers before are written.
-fn answer_all<O: Sink>(
+/// Writes the answers to the jobs one after the other, each in the world that the jobs before it leave and made whole
+/// before, and says whether one is a refusal. Short answers are written together. Where memory runs out, the answers
+/// before are written.
+pub fn write_answers<O: Sink>(
     alloc: Global,
     sim: &mut Sim,
-    heads: bool,
-    lines: &[Line],
+    jobs: &Jobs,
     out: &mut O,
 ) -> Result<bool, Failure>
-    requires sound { AreSoundLines lines.now }
+    requires inside { AreInside (world_seen sim.old) jobs.now }
     requires kept { IsKept (world_seen sim.old) (kept sim.old) }
     requires no_cycle { HasCycle (world_seen sim.old) → ⊥ }
-    ensures { Answering (record { world = world_seen sim.old; lines = lines.now; heads = heads; counts = false }) result (stream_of O.written O.faults out.old out.new) }
+    ensures { Answering (record { world = world_seen sim.old; jobs = jobs.now }) result (stream_of O.written O.faults out.old out.new) }
 {
     let mut text: Vec<u8> = Vec::new(alloc);
     let mut held: Vec<u8> = Vec::new(alloc);
     let mut refused = false;
-    'lines: for line in lines {
-        match answer_line(alloc, sim, heads, line, &mut text) {
+    'jobs: for place in 0..jobs.count() {
+        let Some(job) = jobs.at(place) else {
+            unreachable!();
+        };
+        match answer_job(alloc, sim, job, &mut text) {
             Err(_) => {
                 return match write_all(out, &held) {
                     Err(Failed) => Err(Failure::Write),
@@ -168,40 +213,4 @@ fn answer_all<O: Sink>(
         Err(Failed) => Err(Failure::Write),
         Ok(()) => Ok(refused),
     }
-}
-
-// The numbers of ASes and links, if they come first.
-fn first_lines(alloc: Global, sim: &Sim, counts: bool) -> Result<String, AllocError>
-    ensures { IfOk result (λ text. string_bytes text ≡ first_text counts (world_seen sim.now)) }
-{
-    if !counts {
-        return Ok(String::new(alloc));
-    }
-    let (ases, links) = (sim.as_count(), sim.link_count());
-    format!(in alloc; "ases|{ases}\nlinks|{links}\n")
-}
-
-/// Writes the numbers of ASes and links, if they come first, and then the answers to the lines, one after the other,
-/// each in the world that the lines before it leave and made whole before. It says whether an answer is a refusal.
-pub fn write_answers<O: Sink>(
-    alloc: Global,
-    sim: &mut Sim,
-    counts: bool,
-    heads: bool,
-    lines: &[Line],
-    out: &mut O,
-) -> Result<bool, Failure>
-    requires sound { AreSoundLines lines.now }
-    requires kept { IsKept (world_seen sim.old) (kept sim.old) }
-    requires no_cycle { HasCycle (world_seen sim.old) → ⊥ }
-    ensures { Answering (record { world = world_seen sim.old; lines = lines.now; heads = heads; counts = counts }) result (stream_of O.written O.faults out.old out.new) }
-{
-    let Ok(first) = first_lines(alloc, sim, counts) else {
-        return Err(Failure::Memory);
-    };
-    match write_all(out, first.as_bytes()) {
-        Err(Failed) => return Err(Failure::Write),
-        Ok(()) => {}
-    }
-    answer_all(alloc, sim, heads, lines, out)
 }

@@ -1,8 +1,11 @@
 //! What holds of all runs, and of all told texts.
-ghost use Rattle.asprop_run.specs.Laws.{EachRun, OneText};
+ghost use Rattle.asprop_run.specs.Laws.{EachRun, OneText, OrdersSettle};
 ghost use Rattle.asprop_run.specs.Statuses.{IsComplete, RunsAsTold};
 
 use io_edge::{Inputs, Sink};
+use policy_kinds::Kind;
+use sim_core::kept_are_stable;
+use stability_laws::{any_order_settles, one_answer};
 
 /// Each run over files whose bytes are told, where no read of them fails, is one over those bytes. And where
 /// these files are accepted and no write fails, it ends with Done or SomeRefused, or memory ran out.
@@ -11,8 +14,21 @@ pub fn told_files_are_answered<I: Inputs, O: Sink, E: Sink>()
     ensures complete { EachRun I.holds I.is_sound I.faults O.written O.faults E.written E.faults IsComplete }
 {}
 
-/// All texts that answer a script's lines over one world agree on whether an answer is a refusal. They are one text
-/// where no edit is refused for a provider cycle; such a link may close several cycles, of which an answer names one.
+/// All texts that answer jobs over one world, which has all that they name, agree on whether an answer is a refusal. They
+/// are one text where no edit is refused for a provider cycle; such a link may close several cycles, of which an answer
+/// names one.
 pub fn answers_are_one_text()
     ensures { OneText }
-{}
+{
+    one_answer::<Kind>();
+}
+
+/// Whatever the order in which ASes act, and whatever they hold at first: activations with at least twice as many full
+/// pieces as the longest chain of the world has ASes are answered by the rows of `routes` for the round and the prefix,
+/// and then by `settled|yes`, in a world without a provider cycle that has all that they name (Gao and Rexford 2001).
+pub fn orders_settle()
+    ensures { OrdersSettle }
+{
+    any_order_settles::<Kind>();
+    kept_are_stable();
+}

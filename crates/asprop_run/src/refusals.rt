@@ -9,7 +9,8 @@ use net_names::{Addr, Asn, NoMemory, Prefix, Vrp, put_addr, put_asn, put_prefix}
 use reports::put_numbers;
 use sim_core::{EditError, EditLimit, QueryError};
 
-fn put_bytes(out: &mut Vec<u8>, bytes: &[u8]) -> Result<(), NoMemory>
+/// Appends these bytes.
+pub fn put_bytes(out: &mut Vec<u8>, bytes: &[u8]) -> Result<(), NoMemory>
     ensures { OnOk result (out.new.items ≡ out.old.items ++ bytes.now) }
 {
     match out.extend_from_slice(bytes) {

@@ -5,15 +5,28 @@ ghost use Rattle.asprop_run.specs.Runs.{IsRun, Worked};
 ghost use Rattle.asprop_run.specs.Streams.{stream_of};
 ghost use Rattle.task_reading.specs.Sources.{source_of};
 ghost use Rattle.task_reading.specs.Words.{HasSize, form_of, form_seen, name_by};
-ghost use Rattle.task_reading.specs.declared.types.File.{File};
+ghost use Rattle.task_reading.specs.declared.types.File.{File as AFile};
+ghost use Rattle.task_reading.specs.declared.types.File.TheVariants.{Script};
+ghost use Rattle.task_reading.specs.declared.types.Cause.TheVariants.{NotInWorld};
+ghost use Rattle.task_reading.specs.declared.types.Fault.TheVariants.{InFile};
 
+use crate::activating::first_outside;
 use crate::answers::write_answers;
 use crate::explain::explain;
 use crate::types::Failure;
 use io_edge::{Inputs, Sink};
 use sim_core::{LoadError, Sim};
 use std::alloc::Global;
-use task_reading::{AskError, Asked, Fault, Status, WordForm, ask, read_words};
+use task_reading::{
+    AskError, Asked, Cause, Fault, File, Status, WordForm, ask, jobs_are_alike, read_words,
+};
+
+// The fault of a line of the option's file.
+fn not_in_world(line: u32) -> Fault
+    ensures { result ≡ InFile Script (NotInWorld line) }
+{
+    Fault::InFile(File::Script, Cause::NotInWorld(line))
+}
 
 // Reads the files that the form names, and writes the answers.
 fn work<I: Inputs, O: Sink>(
@@ -30,16 +43,18 @@ fn work<I: Inputs, O: Sink>(
         links,
         vrps,
         scenario,
-        lines,
-        heads,
-        counts,
+        jobs,
     } = match ask(alloc, form, inputs) {
         Ok(asked) => asked,
         Err(AskError::Memory) => return Err(Failure::Memory),
         Err(AskError::Fault(fault)) => return Err(Failure::Fault(fault)),
     };
+    jobs_are_alike(&jobs);
     match Sim::load(alloc, links, vrps, scenario) {
-        Ok(mut sim) => write_answers(alloc, &mut sim, counts, heads, lines.as_slice(), out),
+        Ok(mut sim) => match first_outside(&sim, &jobs) {
+            Some(line) => Err(Failure::Fault(not_in_world(line))),
+            None => write_answers(alloc, &mut sim, &jobs, out),
+        },
         Err(LoadError::Memory) => Err(Failure::Memory),
         Err(LoadError::TooManyAses) => Err(Failure::Fault(Fault::TooManyAses)),
         Err(LoadError::ProviderCycle(cycle)) => Err(Failure::Cycle(cycle)),
@@ -50,10 +65,11 @@ fn work<I: Inputs, O: Sink>(
 /// it stopped.
 ///
 /// The first word is the program's name. The order of the work is: the words, the relationship
-/// file, the payload file, the scenario, the script, the number of ASes, the provider cycle, the
-/// answers, line by line, each made whole before it is written. A line that edits the world, by a
-/// link, a policy, a payload or an announcement, changes it for the lines after it, unless it is
-/// refused. Nothing is written to `out` before all files have been read and judged.
+/// file, the payload file, the scenario, the script or the file of another option, the number of
+/// ASes, the provider cycle, whether the world has what that file names, the answers, line by line,
+/// each made whole before it is written. A line that edits the world, by a link, a policy, a payload
+/// or an announcement, changes it for the lines after it, unless it is refused. Nothing is written to
+/// `out` before all files have been read and judged.
 ///
 /// Where the bytes of the files are told, the law `told_files_are_answered` says what a run over them is.
 pub fn run<I: Inputs, O: Sink, E: Sink>(
@@ -74,7 +90,7 @@ pub fn run<I: Inputs, O: Sink, E: Sink>(
     // ReadFault comes only where a read failed of a file that the words name, and WriteFault only
     // where a write failed.
     ensures read_fault { result ≡ Status.ReadFault
-        → (file : File) × IsSomeAnd (name_by (form_of (map string_bytes words.now)) file)
+        → (file : AFile) × IsSomeAnd (name_by (form_of (map string_bytes words.now)) file)
         (source_of I.holds I.is_sound I.faults inputs.old inputs.new).fails }
     ensures write_fault { result ≡ Status.WriteFault
         → HasRisen (O.faults out.old) (O.faults out.new) }

@@ -1,5 +1,5 @@
 -- The faults of the words and the files.
-use Rattle.std.proofs.Common.{◌≡◌, ◌⊎◌, inl, inr, ℕ, List, Option, Some, None, Result, Ok, Err, refl, ap, subst, ◌∙◌, Bool, true, false, cond}
+use Rattle.std.proofs.Common.{◌≡◌, ◌⊎◌, inl, inr, ℕ, List, [], ◌∷◌, map, Option, Some, None, Result, Ok, Err, refl, ap, subst, ◌∙◌, Bool, true, false, cond}
 use Rattle.caida_reader.specs.Value.{links_of}
 use Rattle.caida_reader.specs.declared.errors.RelError.{RelError}
 use Rattle.scenario_text.specs.Readings.{scenario_of_bytes}
@@ -15,8 +15,15 @@ use Rattle.scenario_text.specs.declared.script.ScriptError.{ScriptError}
 use Rattle.scenario_text.specs.declared.script.ScriptError.TheVariants as script
 use Rattle.scenario_text.specs.Walks.{◌>>=◌}
 use Rattle.task_reading.specs.Texts.{fault_ending}
-use Rattle.task_reading.specs.Asking.{Reads, asked, read_as, bytes_of}
-use Rattle.task_reading.specs.Words.{Form, origin_form, script_form, demo_form}
+use Rattle.std.specs.Result.{result_map_both}
+use Rattle.activations.specs.Files.{acts_of}
+use Rattle.activations.specs.declared.reading.ActsError.{ActsError}
+use Rattle.activations.specs.declared.reading.ActsError.TheVariants as acts
+use Rattle.task_reading.specs.declared.words.FileOption.{FileOption}
+use Rattle.task_reading.specs.declared.words.FileOption.TheVariants as option
+use Rattle.task_reading.specs.Jobs.{acts_job, line_job}
+use Rattle.task_reading.specs.Asking.{Reads, asked, jobs_in, read_as, bytes_of}
+use Rattle.task_reading.specs.Words.{Form, origin_form, file_form, demo_form}
 use Rattle.task_reading.specs.declared.types.File.{File}
 use Rattle.task_reading.specs.declared.types.File.TheVariants as file
 use Rattle.task_reading.specs.declared.types.Fault.{Fault}
@@ -25,8 +32,8 @@ use Rattle.task_reading.specs.declared.types.Cause.{Cause}
 use Rattle.task_reading.specs.declared.types.Cause.TheVariants as cause
 use Rattle.task_reading.specs.declared.types.Status.{Status}
 use Rattle.task_reading.specs.declared.types.Status.TheVariants as status
-use Rattle.task_reading.proofs.Preparing.{origin_task, script_task}
-use Rattle.task_reading.proofs.ReadLemmas.{or_fault, relations, payloads_of, scenario_by, script_lines}
+use Rattle.task_reading.proofs.Preparing.{origin_task, file_task}
+use Rattle.task_reading.proofs.ReadLemmas.{or_fault, relations, payloads_of, scenario_by, jobs_by}
 
 -- a fault of two steps is one of the first or of the second
 pub bind_err : {A B : Type 0} (r : Result A Fault) (f : A → Result B Fault) (e : Fault) → (r >>= f) ≡ Err e → (r ≡ Err e) ⊎ ((x : A) × (r ≡ Ok x) × (f x ≡ Err e))
@@ -89,6 +96,27 @@ other_script form which script.Memory = bad form _ refl
 other_script form which (script.Unreadable n) = bad form _ refl
 other_script form which (script.TooMany n) = large form _ refl
 
+pub other_acts : (form : Option Form) (which : File) (e : ActsError) → IsOther form (fault.InFile which (cause.Acts e))
+other_acts form which acts.Memory = bad form _ refl
+other_acts form which (acts.Unreadable n) = bad form _ refl
+other_acts form which (acts.Twice n) = bad form _ refl
+other_acts form which (acts.TooMany n) = large form _ refl
+other_acts form which acts.NoFor = bad form _ refl
+
+-- a value that is none has a cause of its reader
+cause_by : {A B E : Type 0} (f : A → B) (as_cause : E → Cause) (form : Option Form) (which : File) → ((e : E) → IsOther form (fault.InFile which (as_cause e)))
+    → (value : Result A E) (c : Cause) → result_map_both f as_cause value ≡ Err c → IsOther form (fault.InFile which c)
+cause_by f as_cause form which others (Ok x) c h = cc
+cause_by f as_cause form which others (Err e) c h = let is : as_cause e ≡ c = cc in subst (λ (c : Cause). IsOther form (fault.InFile which c)) is (others e)
+
+other_jobs : (form : Option Form) (which : File) (o : FileOption) (bytes : List ℕ) (c : Cause) → jobs_in o bytes ≡ Err c → IsOther form (fault.InFile which c)
+other_jobs form which option.Script bytes c h = cause_by (map (line_job true)) cause.Script form which (other_script form which) (script_of bytes) c h
+other_jobs form which option.Activations bytes c h = cause_by (λ acts. acts_job acts ∷ []) cause.Acts form which (other_acts form which) (acts_of bytes) c h
+
+-- a line that names what isn't in the world
+pub other_line : (form : Option Form) (which : File) (line : ℕ) → IsOther form (fault.InFile which (cause.NotInWorld line))
+other_line form which line = bad form _ refl
+
 -- a world with too many ASes
 pub too_many : (form : Option Form) → IsOther form fault.TooManyAses
 too_many form = large form _ refl
@@ -100,31 +128,31 @@ pub data Stopped (form : Option Form) (reads : Reads) : Fault → Type 0 where
   by_value : (f : Fault) → IsOther form f → Stopped form reads f
 
 module _ (form : Option Form) (reads : Reads) where
-  of_value : {A E : Type 0} (which : File) (as_cause : E → Cause) → ((e : E) → IsOther form (fault.InFile which (as_cause e))) → (r : Result A E) (e : Fault) → or_fault which as_cause r ≡ Err e → Stopped form reads e
-  of_value which as_cause others (Ok x) e h = cc
-  of_value which as_cause others (Err d) e h =
-      let is : fault.InFile which (as_cause d) ≡ e = cc in subst (Stopped form reads) is (by_value (fault.InFile which (as_cause d)) (others d))
+  of_value : {A E : Type 0} (which : File) (as_cause : E → Cause) (r : Result A E) → ((e : E) → r ≡ Err e → IsOther form (fault.InFile which (as_cause e))) → (e : Fault) → or_fault which as_cause r ≡ Err e → Stopped form reads e
+  of_value which as_cause (Ok x) others e h = cc
+  of_value which as_cause (Err d) others e h =
+      let is : fault.InFile which (as_cause d) ≡ e = cc in subst (Stopped form reads) is (by_value (fault.InFile which (as_cause d)) (others d refl))
 
   of_bytes : (which : File) (most : ℕ) (read : Option (List ℕ)) → reads which ≡ read → (e : Fault) → bytes_of which most read ≡ Err e → Stopped form reads e
   of_bytes which most None none e h = let is : fault.InFile which cause.Unread ≡ e = cc in subst (Stopped form reads) is (unread which none)
   of_bytes which most (Some bytes) some e h = subst (Stopped form reads) (chosen_err _ _ e bytes h) (by_value (fault.InFile which (cause.TooLong most)) (large form _ refl))
 
-  of_read : {A E : Type 0} (which : File) (most : ℕ) (as_cause : E → Cause) (value : List ℕ → Result A E) → ((e : E) → IsOther form (fault.InFile which (as_cause e))) → (e : Fault) → read_as which most as_cause value reads ≡ Err e → Stopped form reads e
+  of_read : {A E : Type 0} (which : File) (most : ℕ) (as_cause : E → Cause) (value : List ℕ → Result A E) → ((bytes : List ℕ) (e : E) → value bytes ≡ Err e → IsOther form (fault.InFile which (as_cause e))) → (e : Fault) → read_as which most as_cause value reads ≡ Err e → Stopped form reads e
   of_read which most as_cause value others e h =
       elim (bind_err (bytes_of which most (reads which)) (λ bytes. or_fault which as_cause (value bytes)) e h) [
         | inl early ↦ of_bytes which most (reads which) refl e early
-        | inr late ↦ of_value which as_cause others (value late.0) e late.2
+        | inr late ↦ of_value which as_cause (value late.0) (others late.0) e late.2
       ]
 
   of_payloads : (e : Fault) → payloads_of (reads file.Payloads) ≡ Err e → Stopped form reads e
-  of_payloads e h = of_read file.Payloads 268435456 cause.Payload payloads_in (other_payload form file.Payloads) e h
+  of_payloads e h = of_read file.Payloads 268435456 cause.Payload payloads_in (λ _ e _. other_payload form file.Payloads e) e h
 
   of_scenario : (name : Option (List ℕ)) (e : Fault) → scenario_by name (reads file.Scenario) ≡ Err e → Stopped form reads e
   of_scenario None e h = cc
-  of_scenario (Some name) e h = of_read file.Scenario 16777216 cause.Scenario scenario_of_bytes (other_scenario form file.Scenario) e h
+  of_scenario (Some name) e h = of_read file.Scenario 16777216 cause.Scenario scenario_of_bytes (λ _ e _. other_scenario form file.Scenario e) e h
 
-  of_lines : (e : Fault) → script_lines (reads file.Script) ≡ Err e → Stopped form reads e
-  of_lines e h = of_read file.Script 16777216 cause.Script script_of (other_script form file.Script) e h
+  of_jobs : (o : FileOption) (e : Fault) → jobs_by o (reads file.Script) ≡ Err e → Stopped form reads e
+  of_jobs o e h = of_read file.Script 16777216 (λ c. c) (jobs_in o) (other_jobs form file.Script o) e h
 
 -- each fault of what is asked for has its reason
 pub of_asked : (form : Option Form) (reads : Reads) (e : Fault) → asked form reads ≡ Err e → Stopped form reads e
@@ -132,18 +160,18 @@ of_asked None reads e h = let is : fault.Usage ≡ e = cc in subst (Stopped None
 of_asked (Some (demo_form size)) reads e h = cc
 of_asked (Some (origin_form rel origin)) reads e h =
     elim (bind_err (relations (reads file.Relations)) (λ links. Ok (origin_task links origin)) e h) [
-      | inl early ↦ of_read _ reads file.Relations 268435456 cause.Relation links_of (other_relation _ file.Relations) e early
+      | inl early ↦ of_read _ reads file.Relations 268435456 cause.Relation links_of (λ _ e _. other_relation _ file.Relations e) e early
       | inr late ↦ cc
     ]
-of_asked (Some (script_form rel vrps scenario script)) reads e h =
-    elim (bind_err (relations (reads file.Relations)) (λ links. payloads_of (reads file.Payloads) >>= λ payloads. scenario_by scenario (reads file.Scenario) >>= λ plan. script_lines (reads file.Script) >>= λ lines. Ok (script_task links payloads plan lines)) e h) [
-      | inl early ↦ of_read _ reads file.Relations 268435456 cause.Relation links_of (other_relation _ file.Relations) e early
-      | inr links ↦ elim (bind_err (payloads_of (reads file.Payloads)) (λ payloads. scenario_by scenario (reads file.Scenario) >>= λ plan. script_lines (reads file.Script) >>= λ lines. Ok (script_task links.0 payloads plan lines)) e links.2) [
+of_asked (Some (file_form rel vrps scenario named o)) reads e h =
+    elim (bind_err (relations (reads file.Relations)) (λ links. payloads_of (reads file.Payloads) >>= λ payloads. scenario_by scenario (reads file.Scenario) >>= λ plan. jobs_by o (reads file.Script) >>= λ jobs. Ok (file_task links payloads plan jobs)) e h) [
+      | inl early ↦ of_read _ reads file.Relations 268435456 cause.Relation links_of (λ _ e _. other_relation _ file.Relations e) e early
+      | inr links ↦ elim (bind_err (payloads_of (reads file.Payloads)) (λ payloads. scenario_by scenario (reads file.Scenario) >>= λ plan. jobs_by o (reads file.Script) >>= λ jobs. Ok (file_task links.0 payloads plan jobs)) e links.2) [
         | inl early ↦ of_payloads _ reads e early
-        | inr payloads ↦ elim (bind_err (scenario_by scenario (reads file.Scenario)) (λ plan. script_lines (reads file.Script) >>= λ lines. Ok (script_task links.0 payloads.0 plan lines)) e payloads.2) [
+        | inr payloads ↦ elim (bind_err (scenario_by scenario (reads file.Scenario)) (λ plan. jobs_by o (reads file.Script) >>= λ jobs. Ok (file_task links.0 payloads.0 plan jobs)) e payloads.2) [
           | inl early ↦ of_scenario _ reads scenario e early
-          | inr plan ↦ elim (bind_err (script_lines (reads file.Script)) (λ lines. Ok (script_task links.0 payloads.0 plan.0 lines)) e plan.2) [
-            | inl early ↦ of_lines _ reads e early
+          | inr plan ↦ elim (bind_err (jobs_by o (reads file.Script)) (λ jobs. Ok (file_task links.0 payloads.0 plan.0 jobs)) e plan.2) [
+            | inl early ↦ of_jobs _ reads o e early
             | inr late ↦ cc
           ]
         ]

@@ -6,4 +6,5 @@ pub mod Preparing
 pub mod InOrder
 pub mod Faults
 pub mod Feeding
-pub mod NoScript
+pub mod NoPayloads
+pub mod Shapes

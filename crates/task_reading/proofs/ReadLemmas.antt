@@ -8,22 +8,22 @@ use Rattle.std.specs.Result.{result_map_both}
 use Rattle.io_edge.specs.Faults.{HasRisen, KeepsNames}
 use Rattle.scenario_text.specs.Walks.{◌>>=◌}
 use Rattle.task_reading.specs.Sources.{Source, source_of}
-use Rattle.task_reading.specs.Files.{IsRead, IsReadAs, IsFaultOf, Finds, ReadsTo}
+use Rattle.task_reading.specs.Files.{FindsJobs, IsRead, IsReadAs, IsFaultOf, Finds, ReadsTo}
 use Rattle.net_names.specs.Links.{LinkMap}
 use Rattle.caida_reader.specs.Value.{links_of}
 use Rattle.roa_table.specs.Files.{payloads_in}
 use Rattle.roa_table.specs.Sets.{Payloads}
-use Rattle.scenario_text.specs.LineValues.{LineValue}
 use Rattle.scenario_text.specs.Readings.{scenario_of_bytes}
 use Rattle.scenario_text.specs.Scenarios.{ScenarioValue, nothing}
-use Rattle.scenario_text.specs.Script.{script_of}
-use Rattle.task_reading.specs.Asking.{Reads, bytes_of, read_as}
+use Rattle.task_reading.specs.Asking.{Reads, jobs_in, bytes_of, read_as}
 use Rattle.task_reading.specs.declared.types.File.TheVariants as file
 use Rattle.task_reading.specs.declared.types.File.{File}
 use Rattle.task_reading.specs.declared.types.Fault.{Fault}
 use Rattle.task_reading.specs.declared.types.AskError.{AskError}
 use Rattle.task_reading.specs.declared.types.AskError.TheVariants as error
 use Rattle.task_reading.specs.declared.types.Fault.TheVariants as fault
+use Rattle.task_reading.specs.Jobs.{Job}
+use Rattle.task_reading.specs.declared.words.FileOption.{FileOption}
 use Rattle.task_reading.specs.declared.types.Cause.{Cause}
 use Rattle.task_reading.specs.declared.types.Cause.TheVariants as cause
 use Rattle.std.proofs.lemmas.Bool.{ltb-true, ltb-false}
@@ -54,9 +54,9 @@ payloads_of read = read_as file.Payloads 268435456 cause.Payload payloads_in (λ
 abbrev pub scenario_by : Option (List ℕ) → Option (List ℕ) → Result ScenarioValue Fault
 scenario_by name read = option_map_or (λ _. read_as file.Scenario 16777216 cause.Scenario scenario_of_bytes (λ _. read)) name (Ok nothing)
 
--- the lines of what was read
-abbrev pub script_lines : Option (List ℕ) → Result (List LineValue) Fault
-script_lines read = read_as file.Script 16777216 cause.Script script_of (λ _. read)
+-- what is asked by what was read of the option's file
+abbrev pub jobs_by : FileOption → Option (List ℕ) → Result (List Job) Fault
+jobs_by option read = read_as file.Script 16777216 (λ c. c) (jobs_in option) (λ _. read)
 
 -- something was read of each file
 some_read : (held : Option (List ℕ)) (fails : Type 0) → (read : Option (List ℕ)) × IsRead held fails read
@@ -110,6 +110,11 @@ of_bytes of_y view y first f result found h = record { read = found.read; is_rea
 pub no_bytes : {X Y A B : Type 0} {held : Option (List ℕ)} {fails : Type 0} (of_y : Y → A) (view : X → B) (first : Reads → Result A Fault) (f : A → Result B Fault) (s : AskError)
     → ReadsTo held fails of_y (Err s) first → ReadsTo held fails view (Err s) (λ reads. first reads >>= f)
 no_bytes of_y view first f s found = record { read = found.read; is_read = found.is_read; finds = bind_error (first (λ _. found.read)) f s found.finds }
+
+-- what is asked was found in the bytes of the option's file, and so in what was read
+pub jobs_found : (result : Result (List Job) AskError) (value : Result (List Job) Cause) → FindsJobs result value → Finds (λ (jobs : List Job). jobs) result (or_fault file.Script (λ (c : Cause). c) value)
+jobs_found (Ok jobs) value h = ap (or_fault file.Script (λ (c : Cause). c)) h
+jobs_found (Err e) value h = h
 
 -- what is known of a file that was read in the middle is known of the inputs at their start and end
 module _ {I : Type 0} {holds : I → List ℕ → Option (List ℕ)} {is_sound : I → List ℕ → Type 0} {faults : I → ℕ} where

@@ -1,5 +1,5 @@
 -- What the words and the files ask for, or the first fault.
-use Rattle.std.specs.Prelude.{ℕ, true, false, nat_lt, [], ◌∷◌, length, Option, None, Some, ok_or, Result, Ok, Err, if◌then◌else◌}
+use Rattle.std.specs.Prelude.{ℕ, true, false, nat_lt, List, [], ◌∷◌, length, map, Option, None, Some, ok_or, Result, Ok, Err, if◌then◌else◌}
 use Rattle.std.specs.FinMap as fin
 use Rattle.std.specs.Option.{option_map_or}
 use Rattle.std.specs.Result.{result_map_both}
@@ -17,7 +17,9 @@ use Rattle.scenario_text.specs.declared.acts.Query.TheVariants.{Routes}
 use Rattle.topo_gen.specs.Drawn.{drawn_links}
 use Rattle.topo_gen.specs.Scenarios.{drawn_payloads, drawn_scenario}
 use Rattle.topo_gen.specs.Lines.{drawn_lines}
-use Rattle.task_reading.specs.Words.{Form, script_form, origin_form, demo_form}
+use Rattle.activations.specs.Files.{acts_of}
+use Rattle.task_reading.specs.Jobs.{Job, acts_job, counts_job, line_job}
+use Rattle.task_reading.specs.Words.{Form, file_form, origin_form, demo_form}
 use Rattle.task_reading.specs.declared.asking.Asked.{Asked}
 use Rattle.task_reading.specs.declared.reading.TheConstants.{MOST_LIST_BYTES, MOST_TEXT_BYTES}
 use Rattle.task_reading.specs.declared.types.File.{File}
@@ -28,6 +30,8 @@ use Rattle.task_reading.specs.declared.types.Cause.TheVariants.{Unread, TooLong}
 use Rattle.task_reading.specs.declared.types.Fault.{Fault}
 use Rattle.task_reading.specs.declared.types.Fault.TheVariants as fault
 use Rattle.task_reading.specs.declared.types.Fault.TheVariants.{InFile}
+use Rattle.task_reading.specs.declared.words.FileOption.{FileOption}
+use Rattle.task_reading.specs.declared.words.FileOption.TheVariants as option
 
 -- what was read of each file: its bytes, or nothing where a read failed
 abbrev pub Reads : Type 0
@@ -41,18 +45,23 @@ bytes_of which most read = ok_or read (InFile which Unread) >>= λ bytes. if nat
 abbrev pub read_as : {A E : Type 0} → File → ℕ → (E → Cause) → (Text → Result A E) → Reads → Result A Fault
 read_as which most as_cause value reads = bytes_of which most (reads which) >>= λ bytes. result_map_both (λ x. x) (λ e. InFile which (as_cause e)) (value bytes)
 
+-- the jobs that the bytes of an option's file ask for, or why they say nothing (own format)
+abbrev pub jobs_in : FileOption → Text → Result (List Job) Cause
+jobs_in option.Script bytes = result_map_both (map (line_job true)) cause.Script (script_of bytes)
+jobs_in option.Activations bytes = result_map_both (λ a. acts_job a ∷ []) cause.Acts (acts_of bytes)
+
 -- what the form and the files ask for, or the first fault: the generated input, with the numbers of its ASes and links first; the routes of all ASes in round 1 to one origin, which announces 0.0.0.0/0 (RFC 4632, section 3.1) with its own number as the path, without payloads and without a head line;
--- the answers to a script. A file that isn't named is empty, and so has no payloads or lines; without a scenario its four lists are empty
+-- what an option's file asks for. A file that isn't named is empty, and so has no payloads or lines; without a scenario its four lists are empty
 abbrev pub asked : Option Form → Reads → Result Asked Fault
 asked None reads = Err fault.Usage
-asked (Some (demo_form n)) reads = Ok (record { links = drawn_links n; vrps = drawn_payloads n; scenario = drawn_scenario n; lines = drawn_lines (drawn_links n); heads = true; counts = true })
+asked (Some (demo_form n)) reads = Ok (record { links = drawn_links n; vrps = drawn_payloads n; scenario = drawn_scenario n; jobs = counts_job ∷ map (line_job true) (drawn_lines (drawn_links n)) })
 asked (Some (origin_form _ origin)) reads = do
   links ← read_as file.Relations MOST_LIST_BYTES cause.Relation links_of reads
   let all : PrefixValue = record { family = V4; addr = 0; len = 0 } in
-      Ok (record { links = links; vrps = fin.empty; scenario = record nothing { announcements = record { prefix = all; asn = origin; path = origin ∷ [] } ∷ [] }; lines = record { number = 1; act = Query (Routes 1 all) } ∷ []; heads = false; counts = false })
-asked (Some (script_form _ _ scenario _)) reads = do
+      Ok (record { links = links; vrps = fin.empty; scenario = record nothing { announcements = record { prefix = all; asn = origin; path = origin ∷ [] } ∷ [] }; jobs = line_job false (record { number = 1; act = Query (Routes 1 all) }) ∷ [] })
+asked (Some (file_form _ _ scenario _ option)) reads = do
   links ← read_as file.Relations MOST_LIST_BYTES cause.Relation links_of reads
   payloads ← read_as file.Payloads MOST_LIST_BYTES cause.Payload payloads_in reads
   plan ← option_map_or (λ _. read_as file.Scenario MOST_TEXT_BYTES cause.Scenario scenario_of_bytes reads) scenario (Ok nothing)
-  lines ← read_as file.Script MOST_TEXT_BYTES cause.Script script_of reads
-  Ok (record { links = links; vrps = payloads; scenario = plan; lines = lines; heads = true; counts = false })
+  jobs ← read_as file.Script MOST_TEXT_BYTES (λ c. c) (jobs_in option) reads
+  Ok (record { links = links; vrps = payloads; scenario = plan; jobs = jobs })

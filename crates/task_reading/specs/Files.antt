@@ -1,12 +1,17 @@
 -- What was read of the files, and what comes of it.
-use Rattle.std.specs.Prelude.{◌≡◌, [], Option, Some, Result, Ok, Err, IsSomeAnd, MatchOption}
+use Rattle.std.specs.Prelude.{◌≡◌, List, [], Option, Some, Result, Ok, Err, IsSomeAnd, MatchOption}
 use Rattle.std.specs.Option.{option_map_or}
 use Rattle.std.specs.Io.KnownBytes.{Keeps}
 use Rattle.clap.specs.Walk.{Text}
 use Rattle.task_reading.specs.Sources.{Source}
 use Rattle.task_reading.specs.Words.{Form, name_by}
+use Rattle.task_reading.specs.Jobs.{Job}
 use Rattle.task_reading.specs.Asking.{Reads, asked}
 use Rattle.task_reading.specs.declared.asking.Asked.{Asked}
+use Rattle.std.specs.Result.{result_map_both}
+use Rattle.task_reading.specs.declared.types.Cause.{Cause}
+use Rattle.task_reading.specs.declared.types.Fault.TheVariants.{InFile}
+use Rattle.task_reading.specs.declared.types.File.TheVariants as file
 use Rattle.task_reading.specs.declared.types.AskError.{AskError}
 use Rattle.task_reading.specs.declared.types.AskError.TheVariants as error
 use Rattle.task_reading.specs.declared.types.File.{File}
@@ -29,6 +34,11 @@ AreReads from form reads = (file : File) → let name = name_by form file in Mat
 abbrev pub IsFaultOf : {A : Type 0} → AskError → Result A Fault → Type 0
 IsFaultOf error.Memory value = Unit {0}
 IsFaultOf (error.Fault fault) value = value ≡ Err fault
+
+-- the jobs were found in the bytes of the option's file, or the error says why there are none
+abbrev pub FindsJobs : Result (List Job) AskError → Result (List Job) Cause → Type 0
+FindsJobs (Ok jobs) value = value ≡ Ok jobs
+FindsJobs (Err e) value = IsFaultOf e (result_map_both (λ x. x) (InFile file.Script) value)
 
 -- what was found is the value, or the error says why there is none
 abbrev pub Finds : {X A : Type 0} → (X → A) → Result X AskError → Result A Fault → Type 0

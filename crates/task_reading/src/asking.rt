@@ -6,11 +6,12 @@ ghost use Rattle.scenario_text.specs.declared.acts.Act.TheVariants as act;
 ghost use Rattle.scenario_text.specs.declared.acts.Query.TheVariants as query;
 ghost use Rattle.task_reading.specs.Files.{Prepares};
 ghost use Rattle.task_reading.specs.Sources.{source_of};
-ghost use Rattle.task_reading.specs.Words.{HasSize, demo_form, form_seen, origin_form, script_form, text_seen};
+ghost use Rattle.task_reading.specs.Words.{HasSize, demo_form, file_form, form_seen, origin_form, text_seen};
 
-use crate::reading::{read_lines, read_payloads, read_plan, read_relations};
+use crate::jobs::Jobs;
+use crate::reading::{read_jobs, read_payloads, read_plan, read_relations};
 use crate::types::{AskError, Fault};
-use crate::words::WordForm;
+use crate::words::{FileOption, WordForm};
 use io_edge::Inputs;
 use net_names::{Asn, Family, Links, NoMemory, Path, Prefix};
 use roa_table::Vrps;
@@ -18,7 +19,7 @@ use scenario_text::{Act, Announcement, Line, Lines, Query, Scenario};
 use std::alloc::Global;
 use topo_gen::{Demo, generate};
 
-/// What is asked for: the links, the payloads and the scenario of a world, and the lines to be answered in it.
+/// What is asked for: the links, the payloads and the scenario of a world, and the jobs that are done in it.
 #[derive(Drop)]
 pub struct Asked {
     /// The links between ASes.
@@ -27,12 +28,8 @@ pub struct Asked {
     pub vrps: Vrps,
     /// Who announces what, who leaks, which policies there are, and what is watched.
     pub scenario: Scenario,
-    /// The lines, each with its number.
-    pub lines: Lines,
-    /// Whether each answer has a head line with the number of its line.
-    pub heads: bool,
-    /// Whether the numbers of ASes and links come first.
-    pub counts: bool,
+    /// The jobs that are done in it, one after the other.
+    pub jobs: Jobs,
 }
 
 // 0.0.0.0/0.
@@ -97,23 +94,22 @@ fn ask_origin<I: Inputs>(
         links,
         vrps: Vrps::new(alloc),
         scenario,
-        lines,
-        heads: false,
-        counts: false,
+        jobs: Jobs::of_lines(false, false, lines),
     })
 }
 
-// The answers to a script, over the files of these names.
-fn ask_script<I: Inputs>(
+// What an option's file asks for, over the files of these names.
+fn ask_file<I: Inputs>(
     alloc: Global,
     rel: &str,
     vrps: Option<&str>,
     scenario: Option<&str>,
-    script: Option<&str>,
+    file: Option<&str>,
+    option: FileOption,
     inputs: &mut I,
 ) -> Result<Asked, AskError>
     ensures { Prepares (source_of I.holds I.is_sound I.faults inputs.old inputs.new)
-        (Some (script_form rel.now (text_seen vrps.entry) (text_seen scenario.entry) (text_seen script.entry))) result }
+        (Some (file_form rel.now (text_seen vrps.entry) (text_seen scenario.entry) (text_seen file.entry) option)) result }
 {
     let links = match read_relations(alloc, inputs, rel) {
         Ok(links) => links,
@@ -127,14 +123,12 @@ fn ask_script<I: Inputs>(
         Ok(scenario) => scenario,
         Err(error) => return Err(error),
     };
-    match read_lines(alloc, inputs, script) {
-        Ok(lines) => Ok(Asked {
+    match read_jobs(alloc, inputs, option, file) {
+        Ok(jobs) => Ok(Asked {
             links,
             vrps,
             scenario,
-            lines,
-            heads: true,
-            counts: false,
+            jobs,
         }),
         Err(error) => Err(error),
     }
@@ -162,16 +156,14 @@ fn ask_demo<I: Inputs>(alloc: Global, size: u32, _inputs: &mut I) -> Result<Aske
         links,
         vrps,
         scenario,
-        lines,
-        heads: true,
-        counts: true,
+        jobs: Jobs::of_lines(true, true, lines),
     })
 }
 
 /// Reads the files that the form names, and gives what they ask for. A generated input reads no file.
 ///
 /// The first fault is answered, in this order: the form, the relationship file, the payload file, the
-/// scenario, the script; each file is read to its end, or to one byte past its limit, before it is
+/// scenario, the file for what is asked; each file is read to its end, or to one byte past its limit, before it is
 /// judged. A file is no longer read once one before it has a fault. Where memory runs out that is
 /// answered in place of all else.
 pub fn ask<I: Inputs>(
@@ -188,12 +180,13 @@ pub fn ask<I: Inputs>(
     };
     match form {
         WordForm::Origin { rel, origin } => ask_origin(alloc, rel, *origin, inputs),
-        WordForm::Script {
+        WordForm::File {
             rel,
             vrps,
             scenario,
-            script,
-        } => ask_script(alloc, rel, *vrps, *scenario, *script, inputs),
+            file,
+            option,
+        } => ask_file(alloc, rel, *vrps, *scenario, *file, *option, inputs),
         WordForm::Demo { size } => ask_demo(alloc, *size, inputs),
     }
 }

@@ -13,12 +13,16 @@ ghost use Rattle.scenario_text.specs.LineValues.{LineValue};
 ghost use Rattle.scenario_text.specs.Script.{Fails as ScriptFails};
 ghost use Rattle.scenario_text.specs.declared.faults.ScenarioError.{ScenarioError as AScenarioError};
 ghost use Rattle.scenario_text.specs.declared.script.ScriptError.{ScriptError as AScriptError};
+ghost use Rattle.activations.specs.Files.{Fails as ActsFails};
+ghost use Rattle.activations.specs.declared.acts.Acts.{Acts as SomeActs};
+ghost use Rattle.activations.specs.declared.reading.ActsError.{ActsError as AnActsError};
 ghost use Rattle.task_reading.specs.Files.{IsFaultOf};
 ghost use Rattle.task_reading.specs.declared.types.File.TheVariants as file;
 ghost use Rattle.task_reading.specs.declared.types.Cause.TheVariants as cause;
 ghost use Rattle.task_reading.specs.declared.types.Fault.TheVariants as fault;
 
 use crate::types::{AskError, Cause, Fault, File};
+use activations::ActsError;
 use caida_reader::RelError;
 use roa_table::VrpError;
 use scenario_text::{ScenarioError, ScriptError};
@@ -60,5 +64,15 @@ pub fn of_script(error: ScriptError) -> AskError
     match error {
         ScriptError::Memory => AskError::Memory,
         _ => AskError::Fault(Fault::InFile(File::Script, Cause::Script(error))),
+    }
+}
+
+/// The error for a fault of the file of activations.
+pub fn of_acts(error: ActsError) -> AskError
+    ensures { (value : Result SomeActs AnActsError) → ActsFails error value → IsFaultOf result (result_map_both (λ x. x) (λ e. fault.InFile file.Script (cause.Acts e)) value) }
+{
+    match error {
+        ActsError::Memory => AskError::Memory,
+        _ => AskError::Fault(Fault::InFile(File::Script, Cause::Acts(error))),
     }
 }

@@ -5,13 +5,14 @@ ghost use Rattle.task_reading.specs.Words.{Form, form_seen, name_by};
 
 use crate::types::{Cause, Fault, File, Status};
 use crate::words::WordForm;
+use activations::ActsError;
 use caida_reader::RelError;
 use roa_table::VrpError;
 use scenario_text::{LimitOf, ScenarioError, ScriptError, place_string};
 use std::alloc::{AllocError, Global};
 
 const USAGE: &str =
-    "usage: asprop REL [--vrps FILE] [--scenario FILE] [--script FILE]\n       asprop REL --origin N\n       asprop --demo N\n";
+    "usage: asprop REL [--vrps FILE] [--scenario FILE] [--script FILE]\n       asprop REL --origin N\n       asprop --demo N\n       asprop REL [--vrps FILE] [--scenario FILE] --activations FILE\n";
 
 fn relation_text(alloc: Global, error: RelError) -> Result<String, AllocError>
     ensures { IfOk result (λ text. string_bytes text ≡ (cause_of (Cause.Relation error)).1) }
@@ -89,6 +90,20 @@ fn script_text(alloc: Global, error: ScriptError) -> Result<String, AllocError>
     }
 }
 
+fn acts_text(alloc: Global, error: ActsError) -> Result<String, AllocError>
+    ensures { IfOk result (λ text. string_bytes text ≡ (cause_of (Cause.Acts error)).1) }
+{
+    match error {
+        ActsError::Memory => Ok(String::new(alloc)),
+        ActsError::Unreadable { line } => format!(in alloc; "line {line}: unreadable"),
+        ActsError::Twice { line } => format!(in alloc; "line {line}: named twice"),
+        ActsError::TooMany { line } => format!(in alloc;
+            "line {line}: more than 1000000 activations"
+        ),
+        ActsError::NoFor => String::from_str(alloc, "no for line"),
+    }
+}
+
 // What is said of a file that isn't taken, with the place in it.
 fn cause_text(alloc: Global, cause: Cause) -> Result<String, AllocError>
     ensures { IfOk result (λ text. string_bytes text ≡ (cause_of cause).1) }
@@ -100,6 +115,8 @@ fn cause_text(alloc: Global, cause: Cause) -> Result<String, AllocError>
         Cause::Payload(error) => payload_text(alloc, error),
         Cause::Scenario(error) => scenario_text(alloc, error),
         Cause::Script(error) => script_text(alloc, error),
+        Cause::Acts(error) => acts_text(alloc, error),
+        Cause::NotInWorld(line) => format!(in alloc; "line {line}: not in the world"),
     }
 }
 
@@ -146,6 +163,9 @@ fn cause_status(cause: Cause) -> Status
         Cause::Scenario(_) => Status::BadInput,
         Cause::Script(ScriptError::TooMany { line: _ }) => Status::TooLarge,
         Cause::Script(_) => Status::BadInput,
+        Cause::Acts(ActsError::TooMany { line: _ }) => Status::TooLarge,
+        Cause::Acts(_) => Status::BadInput,
+        Cause::NotInWorld(_) => Status::BadInput,
     }
 }
 

@@ -10,11 +10,13 @@ mod asking;
 mod command;
 mod errors;
 mod fault_texts;
+mod jobs;
 mod reading;
 mod types;
 mod words;
 
 pub use asking::{Asked, ask};
 pub use fault_texts::{fault_message, fault_status};
+pub use jobs::{Job, Jobs, jobs_are_alike};
 pub use types::{AskError, Cause, Fault, File, Status};
-pub use words::{WordForm, read_words};
+pub use words::{FileOption, WordForm, read_words};

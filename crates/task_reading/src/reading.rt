@@ -6,27 +6,29 @@ ghost use Rattle.io_edge.specs.Faults.{KeepsNames};
 ghost use Rattle.roa_table.specs.Files.{payloads_in};
 ghost use Rattle.scenario_text.specs.Readings.{scenario_of_bytes};
 ghost use Rattle.scenario_text.specs.Scenarios.{nothing};
-ghost use Rattle.scenario_text.specs.Script.{script_of};
-ghost use Rattle.task_reading.specs.Asking.{bytes_of, read_as};
-ghost use Rattle.task_reading.specs.Files.{ReadsAs};
+ghost use Rattle.task_reading.specs.Asking.{bytes_of, jobs_in, read_as};
+ghost use Rattle.task_reading.specs.Files.{FindsJobs, ReadsAs};
 ghost use Rattle.task_reading.specs.Sources.{source_of};
 ghost use Rattle.task_reading.specs.Words.{text_seen};
 ghost use Rattle.task_reading.specs.declared.types.File.TheVariants as files;
 ghost use Rattle.task_reading.specs.declared.types.Cause.TheVariants as cause;
 
-use crate::errors::{of_payloads, of_relations, of_scenario, of_script};
+use crate::errors::{of_acts, of_payloads, of_relations, of_scenario, of_script};
+use crate::jobs::Jobs;
 use crate::types::{AskError, Cause, Fault, File};
+use crate::words::FileOption;
+use activations::read_acts;
 use caida_reader::Reader;
 use io_edge::{Failed, Inputs, ReadAllError, read_all};
 use net_names::Links;
 use roa_table::Vrps;
-use scenario_text::{Lines, Scenario, read_scenario, read_script};
+use scenario_text::{Scenario, read_scenario, read_script};
 use std::alloc::Global;
 
 /// How many bytes a relationship file and a payload file have at most.
 pub const MOST_LIST_BYTES: usize = 268_435_456;
 
-/// How many bytes a scenario and a script have at most.
+/// How many bytes a scenario has at most, and the file for what is asked.
 pub const MOST_TEXT_BYTES: usize = 16_777_216;
 
 // How many bytes are taken at once.
@@ -159,25 +161,39 @@ pub fn read_plan<I: Inputs>(
     }
 }
 
-/// Reads the lines of the script of this name; without a name there are none.
-pub fn read_lines<I: Inputs>(
+// The jobs that the bytes of an option's file ask for.
+fn jobs_in(alloc: Global, option: FileOption, bytes: &[u8]) -> Result<Jobs, AskError>
+    requires { length bytes.now ≤ MOST_TEXT_BYTES }
+    ensures { FindsJobs result (jobs_in option bytes.now) }
+{
+    match option {
+        FileOption::Script => match read_script(alloc, bytes) {
+            Ok(lines) => Ok(Jobs::of_lines(false, true, lines)),
+            Err(error) => Err(of_script(error)),
+        },
+        FileOption::Activations => match read_acts(alloc, bytes) {
+            Ok(acts) => Ok(Jobs::of_activations(acts)),
+            Err(error) => Err(of_acts(error)),
+        },
+    }
+}
+
+/// Reads the jobs that the file of this name asks for; without a name it is as an empty one.
+pub fn read_jobs<I: Inputs>(
     alloc: Global,
     inputs: &mut I,
+    option: FileOption,
     name: Option<&str>,
-) -> Result<Lines, AskError>
+) -> Result<Jobs, AskError>
     ensures found { ReadsAs (source_of I.holds I.is_sound I.faults inputs.old inputs.new) (text_seen name.entry)
-        (λ lines. lines) result (read_as files.Script MOST_TEXT_BYTES cause.Script script_of) }
+        (λ jobs. jobs) result (read_as files.Script MOST_TEXT_BYTES (λ c. c) (jobs_in option)) }
     ensures keeps { KeepsNames I.holds I.is_sound I.faults inputs.old inputs.new }
 {
     let Some(name) = name else {
-        return Ok(Lines::new(alloc));
+        return jobs_in(alloc, option, b"");
     };
-    let bytes = match read_bytes(alloc, inputs, File::Script, MOST_TEXT_BYTES, name) {
-        Ok(bytes) => bytes,
-        Err(error) => return Err(error),
-    };
-    match read_script(alloc, &bytes) {
-        Ok(lines) => Ok(lines),
-        Err(error) => Err(of_script(error)),
+    match read_bytes(alloc, inputs, File::Script, MOST_TEXT_BYTES, name) {
+        Ok(bytes) => jobs_in(alloc, option, &bytes),
+        Err(error) => Err(error),
     }
 }

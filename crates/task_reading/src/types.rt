@@ -2,6 +2,7 @@
 ghost use Rattle.std.specs.Prelude.{◌≡◌};
 ghost use Rattle.task_reading.specs.Texts.{number_of};
 
+use activations::ActsError;
 use caida_reader::RelError;
 use roa_table::VrpError;
 use scenario_text::{ScenarioError, ScriptError};
@@ -15,7 +16,7 @@ pub enum File {
     Payloads,
     /// The scenario.
     Scenario,
-    /// The script.
+    /// The script, or the file of another option for what is asked.
     Script,
 }
 
@@ -54,6 +55,10 @@ pub enum Cause {
     Scenario(ScenarioError),
     /// The script has this fault.
     Script(ScriptError),
+    /// The file of activations has this fault.
+    Acts(ActsError),
+    /// The line of this number, the first such one, names what isn't in the world.
+    NotInWorld(u32),
 }
 
 /// How a run ended.

@@ -1,8 +1,11 @@
 //! The words of the command line.
-ghost use Rattle.std.specs.Prelude.{◌≡◌, ◌≤◌, ◌&&◌, IfOk, IfSome, Some, map, nat_le, option_map, string_bytes};
+ghost use Rattle.std.specs.Prelude.{◌≡◌, ◌≤◌, ◌&&◌, IfOk, IfSome, List, Some, map, nat_le, option_map, string_bytes};
+ghost use Rattle.std.specs.List.{cons_option};
+ghost use Rattle.clap.specs.Walk.{Text};
 ghost use Rattle.net_names.specs.Steps.{option_filter};
 ghost use Rattle.net_names.specs.Texts.{numeral};
-ghost use Rattle.task_reading.specs.Words.{HasSize, form_by, form_of, form_seen, name_by, text_seen};
+ghost use Rattle.task_reading.specs.Words.{HasSize, IsStanding, form_by, form_of, form_seen, name_by, text_seen};
+ghost use Rattle.task_reading.specs.declared.words.FileOption.{FileOption as AFileOption};
 
 use crate::command::new_command;
 use crate::types::File;
@@ -10,19 +13,31 @@ use clap::error::ErrorKind;
 use net_names::{Asn, NoMemory, number, read_asn};
 use std::alloc::Global;
 
+/// An option with a file for what is asked. The file is read in the place of the script.
+#[derive(Clone, Copy, Debug, PartialEq, Eq)]
+pub enum FileOption {
+    /// `--script FILE`.
+    Script,
+    /// `--activations FILE`.
+    Activations,
+}
+
 /// A form that the words may have.
 #[derive(Clone, Copy)]
 pub enum WordForm<'a> {
-    /// `asprop REL` with any of `--vrps FILE`, `--scenario FILE` and `--script FILE`.
-    Script {
+    /// `asprop REL` with any of `--vrps FILE` and `--scenario FILE`, and with one of the options with a file for what
+    /// is asked, or with none of them, which is as a script without a name.
+    File {
         /// The name of the relationship file.
         rel: &'a str,
         /// The name of the payload file.
         vrps: Option<&'a str>,
         /// The name of the scenario.
         scenario: Option<&'a str>,
-        /// The name of the script.
-        script: Option<&'a str>,
+        /// The name of the option's file.
+        file: Option<&'a str>,
+        /// The option.
+        option: FileOption,
     },
     /// `asprop REL --origin N`.
     Origin {
@@ -44,10 +59,10 @@ impl<'a> WordForm<'a> {
         ensures { text_seen result ≡ name_by (Some (form_seen self.now)) file }
     {
         match (self, file) {
-            (WordForm::Script { rel, .. }, File::Relations) => Some(rel),
-            (WordForm::Script { vrps, .. }, File::Payloads) => *vrps,
-            (WordForm::Script { scenario, .. }, File::Scenario) => *scenario,
-            (WordForm::Script { script, .. }, File::Script) => *script,
+            (WordForm::File { rel, .. }, File::Relations) => Some(rel),
+            (WordForm::File { vrps, .. }, File::Payloads) => *vrps,
+            (WordForm::File { scenario, .. }, File::Scenario) => *scenario,
+            (WordForm::File { file, .. }, File::Script) => *file,
             (WordForm::Origin { rel, .. }, File::Relations) => Some(rel),
             (WordForm::Origin { .. }, _) => None,
             (WordForm::Demo { .. }, _) => None,
@@ -68,31 +83,67 @@ fn size(text: &[u8]) -> Option<u32>
     }
 }
 
+// The options with a file that stand.
+#[derive(Clone, Copy)]
+enum Standing<'a> {
+    // None.
+    None,
+    // This one, with this file.
+    One(FileOption, &'a str),
+    // More than one.
+    More,
+}
+
+// Those that stand, and one more option before them, if it stands.
+fn with_option<'a>(option: FileOption, file: Option<&'a str>, others: Standing<'a>) -> Standing<'a>
+    ensures { (files : List (AFileOption × Text)) → IsStanding others.entry files
+        → IsStanding result (cons_option (option_map (λ name. (option, name)) (text_seen file.entry)) files) }
+{
+    match (file, others) {
+        (None, others) => others,
+        (Some(file), Standing::None) => Standing::One(option, file),
+        (Some(_), Standing::One(_, _)) => Standing::More,
+        (Some(_), Standing::More) => Standing::More,
+    }
+}
+
 // The table of the forms.
 fn form_by<'a>(
+    files: Standing<'a>,
     rel: Option<&'a str>,
     vrps: Option<&'a str>,
     scenario: Option<&'a str>,
-    script: Option<&'a str>,
     origin: Option<&'a str>,
     demo: Option<&'a str>,
 ) -> Option<WordForm<'a>>
-    ensures form { option_map form_seen result ≡ form_by (text_seen rel.entry) (text_seen vrps.entry) (text_seen scenario.entry)
-        (text_seen script.entry) (text_seen origin.entry) (text_seen demo.entry) }
+    ensures form { (stand : List (AFileOption × Text)) → IsStanding files.entry stand → option_map form_seen result
+        ≡ form_by stand (text_seen rel.entry) (text_seen vrps.entry) (text_seen scenario.entry) (text_seen origin.entry) (text_seen demo.entry) }
     ensures sized { HasSize (option_map form_seen result) }
 {
-    match (rel, vrps, scenario, script, origin, demo) {
-        (Some(rel), vrps, scenario, script, None, None) => Some(WordForm::Script {
+    match (files, rel, vrps, scenario, origin, demo) {
+        (Standing::None, Some(rel), vrps, scenario, None, None) => Some(WordForm::File {
             rel,
             vrps,
             scenario,
-            script,
+            file: None,
+            option: FileOption::Script,
         }),
-        (Some(rel), None, None, None, Some(number), None) => match read_asn(number.as_bytes()) {
-            Some(origin) => Some(WordForm::Origin { rel, origin }),
-            None => None,
-        },
-        (None, None, None, None, None, Some(number)) => match size(number.as_bytes()) {
+        (Standing::One(option, file), Some(rel), vrps, scenario, None, None) => {
+            Some(WordForm::File {
+                rel,
+                vrps,
+                scenario,
+                file: Some(file),
+                option,
+            })
+        }
+        (Standing::None, Some(rel), None, None, Some(number), None) => {
+            match read_asn(number.as_bytes()) {
+                Some(origin) => Some(WordForm::Origin { rel, origin }),
+                None => None,
+            }
+        }
+        (Standing::None, None, None, None, None, Some(number)) => match size(number.as_bytes()) {
             Some(size) => Some(WordForm::Demo { size }),
             None => None,
         },
@@ -118,11 +169,17 @@ pub fn read_words<'a>(alloc: Global, words: &'a [String]) -> Result<Option<WordF
             return Ok(None);
         }
     };
+    let files = with_option(
+        FileOption::Activations,
+        matches.get_str("activations"),
+        Standing::None,
+    );
+    let files = with_option(FileOption::Script, matches.get_str("script"), files);
     Ok(form_by(
+        files,
         matches.get_str("rel"),
         matches.get_str("vrps"),
         matches.get_str("scenario"),
-        matches.get_str("script"),
         matches.get_str("origin"),
         matches.get_str("demo"),
     ))

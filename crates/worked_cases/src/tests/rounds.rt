@@ -43,7 +43,7 @@ fn path_by(alloc: Global, numbers: &[Asn]) -> Result<Path, Fail>
 }
 
 // The plan in which an AS announces the prefix by its own number, and these ASes leak in these rounds.
-fn plan_of(
+pub(super) fn plan_of(
     rt: &impl Abort,
     alloc: Global,
     origin: Asn,

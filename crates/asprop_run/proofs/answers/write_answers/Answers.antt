@@ -1,11 +1,48 @@
+use Rattle.std.proofs.Common.{◌≡◌, ◌||◌, Bool, Result, arith, inl, inr, subst, sym}
+use Rattle.sim_core.specs.Sims.{world_seen}
+use Rattle.asprop_run.specs.Streams.{stream_of}
+use Rattle.asprop_run.specs.Written.{Answering, IsPassedOn}
+use Rattle.asprop_run.specs.declared.types.Failure.{Failure}
+use Rattle.asprop_run.proofs.Answering.{all, either, held_part, inside_at, next, part, whole}
+use Rattle.task_reading.specs.Jobs.{job_seen}
 use Rattle.task_reading.proofs.ReadLemmas.{rose_earlier}
-use Rattle.asprop_run.proofs.Answering.{after_first, front_of_first}
 use Rattle.asprop_run.proofs.answers.write_answers.Goals as goal
+use Rattle.asprop_run.proofs.answers.write_answers.Goals.{then-first, else-first, in-Err-write_all, in-Ok-write_all}
+
+pub answer_job-requires-clause-inside : goal.answer_job-requires-clause-inside
+answer_job-requires-clause-inside g c = (inside_at (world_seen c.jobs.sim) c.args.jobs.now c.jobs.place (job_seen c.in-Some.job) (sym c.in-Some.ensures.value) c.jobs.invariant.inside).0
 
 pub returns-in-Err : goal.returns-in-Err
-returns-in-Err g c = front_of_first c.args.counts _ _ _ _ _ _ c.in-Err.ensures.cause.failed (rw (c.as_bytes.ensures.value, c.in-Ok.ensures) at c.in-Err.ensures.front)
+returns-in-Err g c =
+    let Run : Result Bool Failure → Type 0 = λ r. Answering (record { world = world_seen c.args.sim.now; jobs = c.args.jobs.now }) r (stream_of g.O.Sink.written g.O.Sink.faults c.args.out.now c.write_all.new.sink) in
+    elim c.match-write_all.branch [
+      | in-Err-write_all w ↦
+          subst Run (sym w.result-is)
+          (held_part _ _ _ _ _ _ _ _ _ _ (rose_earlier _ _ _ c.jobs.invariant.later w.in-Err-write_all.ensures.cause.failed) c.jobs.invariant.so_far (rw c.deref.ensures.value at c.write_all.ensures.front))
+      | in-Ok-write_all w ↦ subst Run (sym w.result-is) (whole _ _ _ _ _ _ _ _ _ c.jobs.invariant.so_far (rw c.deref.ensures.value at w.in-Ok-write_all.ensures.whole))
+    ]
+
+pub returns-in-Err-write_all-2 : goal.returns-in-Err-write_all-2
+returns-in-Err-write_all-2 g c =
+    held_part _ _ _ _ _ _ _ _ _ _ (rose_earlier _ _ _ c.jobs.invariant.later c.in-Err-write_all-2.ensures.cause.failed) c.jobs.invariant.so_far (rw c.deref-2.ensures.value at c.in-Err-write_all-2.ensures.front)
 
 pub returns : goal.returns
-returns g c =
-    after_first c.args.counts _ _ _ _ _ _ _ _ _ (rose_earlier _ _ _ c.write_all.ensures.cause.later)
-    (rw (c.as_bytes.ensures.value, c.in-Ok.ensures) at c.in-Ok-write_all.ensures.whole) c.answer_all.ensures
+returns g c = all _ _ _ _ _ _ _ _ _ c.jobs.invariant.so_far (rw c.deref-2.ensures.value at c.in-Ok-write_all-2.ensures.whole) (omega (arith, c.jobs-test.false, c.count-place-end.ensures))
+
+pub returns-in-Err-pass_on : goal.returns-in-Err-pass_on
+returns-in-Err-pass_on g c =
+    part _ _ _ _ _ (job_seen c.in-Some.job) _ _ _ _ _ _ _ _ (rose_earlier _ _ _ c.jobs.invariant.later c.in-Err-pass_on.ensures.cause.failed) (sym c.in-Some.ensures.value)
+    c.jobs.invariant.so_far c.in-Ok.ensures.answered (rw c.deref-in-Ok.ensures.value at c.in-Err-pass_on.ensures.err)
+
+pub jobs-preserved : goal.jobs-preserved
+jobs-preserved g c =
+    let refused : c.if-first.refused ≡ (c.jobs.refused || c.in-Ok.first) =
+    either c.jobs.refused c.in-Ok.first c.if-first.refused (elim c.if-first.branch [ then-first w ↦ inl (w.if-first.true, w.refused-is) | else-first w ↦ inr (w.if-first.false, w.refused-is) ]) in
+    record {
+      later = omega (arith, c.pass_on.ensures.cause.later, c.jobs.invariant.later);
+      so_far = rw refused (next _ _ _ _ _ (job_seen c.in-Some.job) _ _ _ _ _ _ _ _ (sym c.in-Some.ensures.value) c.jobs.invariant.so_far c.in-Ok.ensures.answered
+          (subst (λ t. IsPassedOn (g.O.Sink.written c.jobs.out) (g.O.Sink.written c.pass_on.new.out) c.jobs.held.items t c.pass_on.new.held.items) c.deref-in-Ok.ensures.value c.in-Ok-pass_on.ensures.ok));
+      inside = (inside_at (world_seen c.jobs.sim) c.args.jobs.now c.jobs.place (job_seen c.in-Some.job) (sym c.in-Some.ensures.value) c.jobs.invariant.inside).1 _ _ _ c.in-Ok.ensures.answered;
+      kept = c.in-Ok.ensures.kept;
+      no_cycle = c.in-Ok.ensures.no_cycle;
+    }

@@ -7,4 +7,4 @@ pub returns-in_default : goal.returns-in_default
 returns-in_default g c = demo_found _ (Err error.Memory) tt
 
 pub returns : goal.returns
-returns g c = demo_found _ (Ok _) (rw (c.in-Ok.ensures.links, c.in-Ok.ensures.vrps, c.in-Ok.ensures.scenario, c.in-Ok.ensures.lines) refl)
+returns g c = demo_found _ (Ok _) (rw (c.of_lines.ensures, c.in-Ok.ensures.links, c.in-Ok.ensures.vrps, c.in-Ok.ensures.scenario, c.in-Ok.ensures.lines) refl)

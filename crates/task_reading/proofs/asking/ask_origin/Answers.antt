@@ -14,4 +14,4 @@ pub returns-in_default-origin_lines : goal.returns-in_default-origin_lines
 returns-in_default-origin_lines g c = origin_found _ _ (λ (links : LinkMap). links) c.in-Ok.links (Err error.Memory) c.in-Ok.ensures.found tt
 
 pub returns : goal.returns
-returns g c = origin_found _ _ (λ (links : LinkMap). links) c.in-Ok.links (Ok _) c.in-Ok.ensures.found (rw (c.new.ensures, c.in-Ok-origin_scenario.ensures, c.in-Ok-origin_lines.ensures) refl)
+returns g c = origin_found _ _ (λ (links : LinkMap). links) c.in-Ok.links (Ok _) c.in-Ok.ensures.found (rw (c.of_lines.ensures, c.new.ensures, c.in-Ok-origin_scenario.ensures, c.in-Ok-origin_lines.ensures) refl)

@@ -1,5 +1,5 @@
 use Rattle.std.proofs.Common.{[], refl, sym, ap, Some, Ok, ◌∙◌}
-use Rattle.task_reading.proofs.NoScript.{no_payloads_read}
+use Rattle.task_reading.proofs.NoPayloads.{no_payloads_read}
 use Rattle.task_reading.proofs.reading.read_payloads.Goals as goal
 
 pub returns-in_default-clause-found : goal.returns-in_default-clause-found

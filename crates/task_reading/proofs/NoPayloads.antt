@@ -1,15 +1,10 @@
--- A file without bytes has no payloads, and a script without bytes has no lines.
-use Rattle.std.proofs.Common.{◌≡◌, [], refl, ap, Some, Ok}
+-- A file without bytes has no payloads.
+use Rattle.std.proofs.Common.{◌≡◌, [], ap, Some, Ok}
 use Rattle.roa_table.specs.Sets.{no_payloads}
 use Rattle.roa_table.proofs.Empty.{payloads_in-nil}
-use Rattle.scenario_text.specs.Script.{script_of}
 use Rattle.task_reading.specs.declared.types.File.TheVariants as file
 use Rattle.task_reading.specs.declared.types.Cause.TheVariants as cause
-use Rattle.task_reading.proofs.ReadLemmas.{or_fault, payloads_of, script_lines}
+use Rattle.task_reading.proofs.ReadLemmas.{or_fault, payloads_of}
 
 pub no_payloads_read : payloads_of (Some []) ≡ Ok no_payloads
 no_payloads_read = ap (or_fault file.Payloads cause.Payload) payloads_in-nil
-
-pub no_lines_read : script_lines (Some []) ≡ Ok []
-unfolding script_of
-no_lines_read = refl

@@ -1,0 +1,27 @@
+-- Where nothing is outside, all jobs have answers.
+use Rattle.std.proofs.Common.{◌≡◌, ◌<◌, inl, inr, true, All, List, [], ◌∷◌, None, sym, subst}
+use Rattle.std.proofs.lemmas.List.Elements.{All-head, All-tail}
+use Rattle.net_names.specs.Prefixes.{PrefixValue}
+use Rattle.as_graph.specs.Topology.{as_count}
+use Rattle.sim_core.specs.World.{World, topology}
+use Rattle.stability_laws.specs.Plans.{has_prefix}
+use Rattle.asprop_run.specs.Inside.{AreInside, IsInside}
+use Rattle.asprop_run.specs.Task.{outside}
+use Rattle.asprop_run.proofs.Named.{in_world}
+use Rattle.task_reading.specs.Jobs.{AreAlike, IsOfLines, Job, acts_job, counts_job, line_job}
+
+line_inside : (w : World) (job : Job) → IsOfLines job → IsInside w job
+line_inside w counts_job h = tt
+line_inside w (line_job heads line) h = tt
+line_inside w (acts_job acts) h = absurd h
+
+lines_inside : (w : World) (jobs : List Job) → All IsOfLines jobs → AreInside w jobs
+lines_inside w [] h = tt
+lines_inside w (job ∷ jobs) h = (line_inside w job (All-head IsOfLines job jobs h), λ text refused after answered. lines_inside after jobs (All-tail IsOfLines job jobs h))
+
+-- jobs that are alike, in a world that has what they name, and an AS where it has a prefix
+pub all_inside : (w : World) (jobs : List Job) → AreAlike jobs → outside w jobs ≡ None → ((p : PrefixValue) → has_prefix w.plan p ≡ true → 0 < as_count (topology w)) → AreInside w jobs
+all_inside w jobs (inl lines) none populated = lines_inside w jobs lines
+all_inside w jobs (inr (acts, is)) none populated =
+    let nothing : outside w (acts_job acts ∷ []) ≡ None = subst (λ (l : List Job). outside w l ≡ None) is none in
+    subst (AreInside w) (sym is) ((nothing, populated acts.prefix (in_world w acts nothing).1), λ text refused after answered. tt)

@@ -1,0 +1,18 @@
+-- That jobs have answers.
+use Rattle.std.specs.Prelude.{◌≡◌, ◌<◌, Bool, List, [], ◌∷◌, None}
+use Rattle.clap.specs.Walk.{Text}
+use Rattle.as_graph.specs.Topology.{as_count}
+use Rattle.sim_core.specs.World.{World, topology}
+use Rattle.asprop_run.specs.Replies.{AnswersJob}
+use Rattle.asprop_run.specs.Task.{outside}
+use Rattle.task_reading.specs.Jobs.{Job, acts_job}
+
+-- what activations name is in the world, which has an AS; of lines nothing is asked
+abbrev pub IsInside : World → Job → Type 0
+IsInside w (acts_job acts) = (outside w (acts_job acts ∷ []) ≡ None) × (0 < as_count (topology w))
+IsInside w job = Unit {0}
+
+-- so of each job, in the world that the jobs before it leave
+abbrev pub AreInside : World → List Job → Type 0
+AreInside w [] = Unit {0}
+AreInside w (job ∷ jobs) = IsInside w job × ((text : Text) (refused : Bool) (after : World) → AnswersJob w job text refused after → AreInside after jobs)

@@ -1,0 +1,41 @@
+-- What activations of ASes come to.
+use Prim.Native.String.{String}
+use Rattle.std.specs.Prelude.{◌≡◌, ◌↔◌, ◌-◌, ℕ, Bool, IsTrue, [], ◌∷◌, ◌++◌, codes, decimal, Option, if◌then◌else◌}
+use Rattle.std.specs.FinMap as fin
+use Rattle.clap.specs.Walk.{Text}
+use Rattle.activations.specs.Pieces.{IsMostPieces}
+use Rattle.activations.specs.declared.acts.Acts.{Acts}
+use Rattle.as_graph.specs.Topology.{has}
+use Rattle.reports.specs.Rows.{table}
+use Rattle.sim_core.specs.Kept.{Kept}
+use Rattle.sim_core.specs.World.{World, setting_of, topology}
+use Rattle.stability_laws.specs.EntryTexts.{entry_row, row}
+use Rattle.stability_laws.specs.Laws.{IsHeight}
+use Rattle.stability_laws.specs.Rounds.{seeds_of}
+use Rattle.stability_laws.specs.Runs.{IsRunBy}
+use Rattle.stability_laws.specs.Stable.{IsStable}
+use Rattle.stability_laws.specs.Steps.{IsStepWhole}
+use Rattle.stability_laws.specs.declared.entry.Entry.{Entry}
+
+-- a row that gives the value of what has this name (own format)
+abbrev pub fact : String → Text → Text
+fact name value = row (codes name ∷ value ∷ [])
+
+-- how many full pieces a list of activations has, how many ASes the longest chain of the world has, and whether the routing is stable (own format)
+abbrev pub settled_rows : ℕ → ℕ → Bool → Text
+settled_rows pieces height settled = fact "pieces" (decimal pieces)
+    ++ (fact "height" (decimal height) ++ fact "settled" (codes (if settled then "yes" else "no")))
+
+-- the text says what the activations come to, from what ASes hold at first and with the seeds of the round that follow from the round before: the rows of all ASes in the routing then, and what is said of the list and the routing (own format; Gao and Rexford 2001)
+abbrev pub IsActsText : World → Kept → Acts → Text → Type 0
+IsActsText w k acts text = (f : ℕ → Option Entry) × (pieces height : ℕ) × (settled : Bool) ×
+    let here = setting_of w acts.prefix in
+    let seeds = seeds_of w.plan acts.round acts.prefix (k.routings (acts.round - 1) acts.prefix) in
+    IsRunBy (IsStepWhole here seeds) acts.list (fin.get acts.held) f × IsHeight (topology w) height
+    × IsMostPieces (has (topology w)) acts.list pieces × (IsTrue settled ↔ IsStable here seeds f)
+    × (text ≡ table (topology w) (λ a. entry_row a (f a)) ++ settled_rows pieces height settled)
+
+-- the routing that the activations end in, and whether it is stable
+abbrev pub IsSettled : World → Kept → Acts → (ℕ → Option Entry) → Bool → Type 0
+IsSettled w k acts f settled = let here = setting_of w acts.prefix in let seeds = seeds_of w.plan acts.round acts.prefix (k.routings (acts.round - 1) acts.prefix) in
+    IsRunBy (IsStepWhole here seeds) acts.list (fin.get acts.held) f × (IsTrue settled ↔ IsStable here seeds f)

@@ -1,0 +1,177 @@
+//! Activations of ASes: what is named in the world, and what the activations come to.
+ghost use Rattle.std.specs.Prelude.{◌≡◌, ◌++◌, ◌&&◌, ℕ, None, codes, false, if◌then◌else◌, IfOk, OnOk};
+ghost use Rattle.std.specs.FinMap as fin;
+ghost use Rattle.activations.specs.Named.{AreSound};
+ghost use Rattle.net_names.specs.Numbers.{occurs};
+ghost use Rattle.reports.specs.Rows.{table};
+ghost use Rattle.sim_core.specs.Kept.{IsKept};
+ghost use Rattle.sim_core.specs.Sims.{kept, world_seen};
+ghost use Rattle.sim_core.specs.World.{HasCycle, has_round};
+ghost use Rattle.stability_laws.specs.EntryTexts.{entry_row};
+ghost use Rattle.stability_laws.specs.Plans.{has_prefix};
+ghost use Rattle.asprop_run.specs.Inside.{IsInside};
+ghost use Rattle.asprop_run.specs.Replies.{AnswersJob};
+ghost use Rattle.asprop_run.specs.Settling.{IsSettled, settled_rows};
+ghost use Rattle.asprop_run.specs.Task.{outside};
+ghost use Rattle.task_reading.specs.Jobs.{acts_job};
+
+use crate::refusals::put_bytes;
+use activations::{Acts, full_pieces, height_of, run_activations};
+use as_graph::Graph;
+use net_names::{Asn, NoMemory, Path, Prefix};
+use origin_validation::KnownStates;
+use reports::put_entry;
+use sim_core::{Sim, kept_are_stable};
+use stability_laws::{Entry, Routing, World};
+use std::alloc::Global;
+use task_reading::{Job, Jobs};
+
+// Whether the world has the round and the prefix.
+fn has_table(sim: &Sim, round: u32, prefix: Prefix) -> bool
+    ensures { result ≡ (has_round (world_seen sim.now) round && has_prefix (world_seen sim.now).plan prefix) }
+{
+    round >= 1 && round <= sim.rounds() && sim.plan().has_prefix(prefix)
+}
+
+/// The first line of an option's file that names what isn't in the world: its round or its prefix, or an AS.
+pub fn first_outside(sim: &Sim, jobs: &Jobs) -> Option<u32>
+    ensures { result ≡ outside (world_seen sim.now) jobs.now }
+{
+    match jobs.at(0) {
+        Some(Job::Activations(acts)) => {
+            if has_table(sim, acts.round, acts.prefix) {
+                acts.first_foreign(sim.graph())
+            } else {
+                Some(acts.for_line)
+            }
+        }
+        _ => None,
+    }
+}
+
+// The states by the payloads. Those of the prefix with the origins that announce it are found ahead.
+fn states_at<'a>(alloc: Global, sim: &'a Sim, prefix: Prefix) -> Result<KnownStates<'a>, NoMemory>
+    ensures { IfOk result (λ states. states.payloads ≡ (world_seen sim.now).payloads) }
+{
+    let mut states = KnownStates::of(alloc, sim.vrps());
+    let plan = sim.plan();
+    for asn in plan.announcers() {
+        if let Some(path) = plan.path(prefix, *asn) {
+            if let Some(origin) = path.as_slice().last() {
+                states.find(prefix, *origin)?;
+            }
+        }
+    }
+    Ok(states)
+}
+
+// The same entry.
+fn same_entry(alloc: Global, entry: &Entry) -> Result<Entry, NoMemory>
+    ensures { IfOk result (λ e. e ≡ entry.now) }
+{
+    match Vec::from_slice(alloc, entry.path.as_slice()) {
+        Ok(numbers) => Ok(Entry {
+            class: entry.class,
+            path: Path::from_vec(numbers),
+            otc: entry.otc,
+        }),
+        Err(_) => Err(NoMemory),
+    }
+}
+
+// The same routing, whose entries stand at these ASes alone.
+fn same_routing(alloc: Global, ases: &[Asn], held: &Routing) -> Result<Routing, NoMemory>
+    requires { (a : ℕ) → occurs a ases.now ≡ false → fin.get held.now a ≡ None }
+    ensures { IfOk result (λ routing. (a : ℕ) → fin.get routing a ≡ fin.get held.now a) }
+{
+    let mut routing = Routing::new(alloc);
+    for asn in ases {
+        if let Some(entry) = held.get(*asn) {
+            routing.put(*asn, same_entry(alloc, entry)?)?;
+        }
+    }
+    Ok(routing)
+}
+
+// The routing after the activations, and whether it is stable.
+fn settle(alloc: Global, sim: &Sim, acts: &Acts) -> Result<(Routing, bool), NoMemory>
+    requires sound { AreSound acts.now }
+    requires inside { IsInside (world_seen sim.now) (acts_job acts.now) }
+    requires no_cycle { HasCycle (world_seen sim.now) → ⊥ }
+    ensures { IfOk result (λ r. IsSettled (world_seen sim.now) (kept sim.now) acts.now (fin.get r.0) r.1) }
+{
+    kept_are_stable();
+    let graph = sim.graph();
+    let Ok(seeds) = sim.seeds(alloc, acts.round, acts.prefix) else {
+        return Err(NoMemory);
+    };
+    let states = states_at(alloc, sim, acts.prefix)?;
+    let mut routing = same_routing(alloc, graph.ases(), &acts.held)?;
+    let world = World {
+        graph,
+        book: sim.book(),
+        states: &states,
+    };
+    let list = acts.list.as_slice();
+    let stable = run_activations(alloc, &world, acts.prefix, &seeds, &mut routing, list)?;
+    Ok((routing, stable))
+}
+
+// Appends the rows of all ASes in the routing, in rising number.
+fn put_rows(text: &mut Vec<u8>, graph: &Graph, routing: &Routing) -> Result<(), NoMemory>
+    ensures { OnOk result (text.new.items ≡ text.old.items ++ table graph.now (λ a. entry_row a (fin.get routing.now a))) }
+{
+    let ases = graph.ases();
+    for asn in ases {
+        put_entry(text, *asn, routing.get(*asn))?;
+    }
+    Ok(())
+}
+
+// Whether the routing is stable, in a word.
+fn settled_word(settled: bool) -> &'static str
+    ensures { result.now ≡ codes (if settled then "yes" else "no") }
+{
+    if settled { "yes" } else { "no" }
+}
+
+// Appends what is said of the list and the routing.
+fn put_settled(
+    alloc: Global,
+    text: &mut Vec<u8>,
+    pieces: u64,
+    height: u64,
+    settled: bool,
+) -> Result<(), NoMemory>
+    ensures { OnOk result (text.new.items ≡ text.old.items ++ settled_rows pieces height settled) }
+{
+    let word = settled_word(settled);
+    match format!(in alloc; "pieces|{pieces}\nheight|{height}\nsettled|{word}\n") {
+        Ok(rows) => put_bytes(text, rows.as_bytes()),
+        Err(_) => Err(NoMemory),
+    }
+}
+
+/// Makes the answer to activations: the rows of all ASes after them, how many full pieces the list has, how many ASes the
+/// longest chain of the world has, and whether the routing is stable.
+pub fn answer_activations(
+    alloc: Global,
+    sim: &Sim,
+    acts: &Acts,
+    text: &mut Vec<u8>,
+) -> Result<(), NoMemory>
+    requires sound { AreSound acts.now }
+    requires inside { IsInside (world_seen sim.now) (acts_job acts.now) }
+    requires kept { IsKept (world_seen sim.now) (kept sim.now) }
+    requires no_cycle { HasCycle (world_seen sim.now) → ⊥ }
+    ensures { OnOk result (AnswersJob (world_seen sim.now) (acts_job acts.now) text.new.items false (world_seen sim.now)) }
+{
+    kept_are_stable();
+    let (routing, settled) = settle(alloc, sim, acts)?;
+    let graph = sim.graph();
+    let pieces = full_pieces(alloc, graph, acts.list.as_slice())?;
+    let height = height_of(graph, sim.ranks());
+    text.clear();
+    put_rows(text, graph, &routing)?;
+    put_settled(alloc, text, pieces, height, settled)
+}

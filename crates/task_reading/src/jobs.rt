@@ -1,0 +1,131 @@
+//! What is asked in a world: jobs, one after the other.
+ghost use Rattle.std.specs.Prelude.{◌≡◌, [], ◌∷◌, IfSome, length, map, option_map, slice_get};
+ghost use Rattle.activations.specs.Named.{AreSound};
+ghost use Rattle.scenario_text.specs.LineValues.{AreSoundLines};
+ghost use Rattle.task_reading.specs.Jobs.{AreAlike, IsSoundJob, acts_job, counts_job, job_seen, line_job, line_jobs};
+
+use activations::Acts;
+use scenario_text::{Line, Lines};
+use std::marker::Model;
+
+/// A job, which has one answer.
+#[derive(Clone, Copy)]
+pub enum Job<'a> {
+    /// The numbers of ASes and links.
+    Counts,
+    /// The answer to a line, with a head line, which has the number of the line, or without.
+    Line(bool, &'a Line),
+    /// What activations of ASes in turn come to.
+    Activations(&'a Acts),
+}
+
+// How jobs are kept.
+#[derive(Drop)]
+enum Asks {
+    // The answers to lines, each with a head line or without, and perhaps the numbers of ASes and links before.
+    Lines(bool, bool, Lines),
+    // What activations come to.
+    Activations(Acts),
+}
+
+// The job of the line at a place.
+fn line_at(heads: bool, lines: &[Line], place: usize) -> Option<Job<'_>>
+    requires { AreSoundLines lines.now }
+    ensures value { option_map job_seen result ≡ slice_get (map (line_job heads) lines.now) place }
+    ensures sound { IfSome result (λ job. IsSoundJob (job_seen job)) }
+{
+    match lines.get(place) {
+        Some(line) => Some(Job::Line(heads, line)),
+        None => None,
+    }
+}
+
+// The same, where the numbers of ASes and links have the first place.
+fn line_behind_counts(heads: bool, lines: &[Line], place: usize) -> Option<Job<'_>>
+    requires { AreSoundLines lines.now }
+    ensures value { option_map job_seen result ≡ slice_get (counts_job ∷ map (line_job heads) lines.now) place }
+    ensures sound { IfSome result (λ job. IsSoundJob (job_seen job)) }
+{
+    if place == 0 {
+        return Some(Job::Counts);
+    }
+    line_at(heads, lines, place - 1)
+}
+
+/// Jobs, which are done one after the other. Contracts see the list of them.
+#[derive(Drop)]
+pub struct Jobs {
+    asks: Asks,
+}
+
+impl Model for Jobs {
+    ghost use Rattle.std.specs.Prelude.{List};
+    ghost use Rattle.std.specs.Coded.{codes};
+    ghost use Rattle.activations.specs.contracts.acts.Acts as acts;
+    ghost use Rattle.task_reading.specs.Jobs.{Job as AJob, IsSoundAsks, jobs_of};
+
+    ghost Value = { List AJob };
+
+    ghost coded = { Prim.hlevel (codes, acts.the_row.coded) };
+
+    ghost view = { λ j. jobs_of j.asks };
+
+    ghost invariant = { λ j. IsSoundAsks j.asks };
+}
+
+/// All jobs are lines, and before them perhaps the numbers of ASes and links, or they are activations alone.
+pub fn jobs_are_alike(jobs: &Jobs)
+    ensures { AreAlike jobs.now }
+{
+    let _asks = &jobs.asks;
+}
+
+impl Jobs {
+    /// The answers to lines, each with a head line or without, and perhaps the numbers of ASes and links before.
+    pub(crate) fn of_lines(counts: bool, heads: bool, lines: Lines) -> Jobs
+        ensures { result ≡ line_jobs counts heads lines }
+    {
+        Jobs {
+            asks: Asks::Lines(counts, heads, lines),
+        }
+    }
+
+    /// What activations come to.
+    pub(crate) fn of_activations(acts: Acts) -> Jobs
+        requires { AreSound acts }
+        ensures { result ≡ acts_job acts ∷ [] }
+    {
+        Jobs {
+            asks: Asks::Activations(acts),
+        }
+    }
+
+    /// How many jobs there are.
+    pub fn count(&self) -> usize
+        ensures { result ≡ length self.now }
+    {
+        match &self.asks {
+            Asks::Lines(true, _, lines) => lines.as_slice().len() + 1,
+            Asks::Lines(false, _, lines) => lines.as_slice().len(),
+            Asks::Activations(_) => 1,
+        }
+    }
+
+    /// The job at a place, counted from 0; `None` exactly where the place is not below their number.
+    pub fn at(&self, place: usize) -> Option<Job<'_>>
+        ensures value { option_map job_seen result ≡ slice_get self.now place }
+        ensures sound { IfSome result (λ job. IsSoundJob (job_seen job)) }
+    {
+        match &self.asks {
+            Asks::Lines(true, heads, lines) => line_behind_counts(*heads, lines.as_slice(), place),
+            Asks::Lines(false, heads, lines) => line_at(*heads, lines.as_slice(), place),
+            Asks::Activations(acts) => {
+                if place == 0 {
+                    Some(Job::Activations(acts))
+                } else {
+                    None
+                }
+            }
+        }
+    }
+}
