@@ -1,22 +1,15 @@
 """A client of asprop: it makes the scenario and the script, runs the built program, and gives the answers as values.
 
-    import asprop
-    world = asprop.World(links='examples/hijack/links', announcements=[('10.0.0.0/8', 4), ('10.128.0.0/9', 6)],
-                         watch=['10.128.0.1'])
-    script = asprop.Script()
-    script.report(1, '10.128.0.1')
-    script.policy(1, 'drop-invalid')
-    script.report(1, '10.128.0.1')
-    before, changed, after = asprop.run(world, script, program='./asprop')
-    print(before['total'].to, after['total'].to)
-
-What is proved of asprop is proved of the program alone.  This file proves nothing: it writes text, starts the program
-and reads text, and its own tests are the command `.ci/python`.  It needs Python 3.9 or newer and the standard library.
+A World says what the files hold, a Script what is asked and edited, and run gives an answer for each line of the script;
+README.md shows them.  What is proved of asprop is proved of the program alone.  This file proves nothing: it writes text,
+starts the program and reads text, and its own tests are the command `.ci/python`.  It needs Python 3.9 or newer and the
+standard library.
 """
 from __future__ import annotations
 
 import json
 import os
+import re
 import subprocess
 import tempfile
 from dataclasses import dataclass, field
@@ -28,7 +21,10 @@ STATUSES = {2: 'usage', 3: 'bad input', 4: 'read fault', 5: 'write fault', 6: 'o
 
 
 class Fault(Exception):
-    """The program ended without answers: its exit status, and what it wrote to standard error."""
+    """The program ended without all answers: its exit status, and what it wrote to standard error.
+
+    A negative status is the number of the signal that ended it.
+    """
 
     def __init__(self, status: int, text: str) -> None:
         super().__init__('%s: %s' % (STATUSES.get(status, 'status %d' % status), text.strip()))
@@ -38,7 +34,10 @@ class Fault(Exception):
 
 @dataclass(frozen=True)
 class Route:
-    """What an AS holds: its class (origin, customer, peer or provider), its path, and the number of RFC 9234 or None."""
+    """What an AS holds: its class (origin, customer, peer or provider), its path, and the number of RFC 9234 or None.
+
+    The path begins with the AS itself.
+    """
     kind: str
     path: Tuple[int, ...]
     otc: Optional[int] = None
@@ -46,7 +45,7 @@ class Route:
 
 @dataclass(frozen=True)
 class Trace:
-    """How a packet's way ends (delivered, no-route or loop), and the ASes that it passes."""
+    """How a packet's way ends (delivered, no-route or loop), and the ASes that it passes, from the first on."""
     end: str
     path: Tuple[int, ...]
 
@@ -75,7 +74,10 @@ class Changed:
 
 @dataclass(frozen=True)
 class Refusal:
-    """A line that was refused: the reason, as `unknown-as`, and the words behind it."""
+    """A line that was refused: the reason, as `unknown-as`, and the words behind it.
+
+    The two ASes of an absent link are two words, and so are the ASes of a provider cycle.
+    """
     reason: str
     words: Tuple[str, ...]
 
@@ -94,8 +96,9 @@ Announcement = Union[Tuple[str, int], Tuple[str, int, Sequence[int]]]
 class World:
     """A relationship file and what happens over it.
 
-    links and payloads are names of files.  policies gives the policy of an AS that has another one than plain; leaks has
-    a list of ASes for each round from round 2 on; watch has the addresses that reports may ask for.
+    links and payloads are names of files, of which the program says what is wrong with them.  policies gives the policy of
+    an AS that has another one than plain; leaks has a list of ASes for each round from round 2 on; watch has the addresses
+    that reports may ask for.
     """
     links: str
     announcements: Sequence[Announcement] = ()
@@ -119,12 +122,16 @@ class World:
                            'watch': list(self.watch)}) + '\n'
 
 
+def _numbers(text: str) -> Tuple[int, ...]:
+    return tuple(map(int, text.split(' ')))
+
+
 def _row(line: str) -> Tuple[int, Optional[Route]]:
-    asn, kind, path, *more = line.split('|')
+    # 7|none| or 3|origin|3 1 5 or 3|origin|3 1 5|otc 1
+    asn, kind, path, *mark = line.split('|')
     if kind == 'none':
         return int(asn), None
-    otc = int(more[0].split(' ')[1]) if more else None
-    return int(asn), Route(kind, tuple(map(int, path.split(' '))), otc)
+    return int(asn), Route(kind, _numbers(path), int(mark[0].split(' ')[1]) if mark else None)
 
 
 def _table(lines: Sequence[str]) -> Table:
@@ -132,11 +139,13 @@ def _table(lines: Sequence[str]) -> Table:
 
 
 def _trace(lines: Sequence[str]) -> Trace:
-    end, _, path = lines[0].partition('|')
-    return Trace(end, tuple(map(int, path.split(' '))))
+    # delivered|3 1 2 6
+    end, path = lines[0].split('|')
+    return Trace(end, _numbers(path))
 
 
 def _report(lines: Sequence[str]) -> Report:
+    # total|ases|7, then total|to 4|4 for some ASes, total|no-route|0 and total|loop|0
     found: Report = {}
     for line in lines:
         group, what, count = line.split('|')
@@ -153,6 +162,7 @@ def _ranks(lines: Sequence[str]) -> Dict[int, int]:
 
 
 def _validity(lines: Sequence[str]) -> Validity:
+    # state|valid, then 4|10.0.0.0/8|8 for each payload that covers the prefix
     rows = (line.split('|') for line in lines[1:])
     return Validity(lines[0].split('|')[1], tuple((int(asn), prefix, int(most)) for asn, prefix, most in rows))
 
@@ -165,7 +175,8 @@ class Script:
     """The lines of a script, each answered in the world that the lines before it leave.
 
     A round is counted from 1, a prefix and an address are texts, and a relation is -1 where the first AS is the provider
-    of the second, and 0 where they are peers.
+    of the second, and 0 where they are peers.  A call adds a line; what it asks for is the answer at that line's place in
+    what run gives, or a Refusal.
     """
 
     def __init__(self) -> None:
@@ -173,6 +184,8 @@ class Script:
         self._readers: List[Callable[[Sequence[str]], Answer]] = []
 
     def _add(self, line: str, reader: Callable[[Sequence[str]], Answer]) -> None:
+        if '\n' in line:
+            raise ValueError('a line feed in a line of a script: %r' % line)
         self.lines.append(line)
         self._readers.append(reader)
 
@@ -193,7 +206,7 @@ class Script:
         self._add('report %d %s' % (round_, address), _report)
 
     def ranks(self) -> None:
-        """Asks for how far down the customers of each AS go; the answer is a dict.  An AS of rank 0 has none."""
+        """Asks for how many links the longest way down from each AS has; the answer is a dict from ASes to ranks."""
         self._add('ranks', _ranks)
 
     def validity(self, prefix: str, origin: int) -> None:
@@ -229,19 +242,21 @@ class Script:
         self._add('withdraw %s %d' % (prefix, asn), _changed)
 
     def read(self, output: str) -> List[Answer]:
-        """The answers in what the program printed, one for each line of the script."""
+        """The answers in what the program printed, one for each line of the script, each behind its head line."""
         found: List[List[str]] = []
         for line in output.splitlines():
             if line.startswith('# '):
                 found.append([])
             else:
                 found[-1].append(line)
+        if len(found) != len(self._readers):
+            raise ValueError('%d answers to %d lines' % (len(found), len(self._readers)))
         return [_answer(lines, reader) for lines, reader in zip(found, self._readers)]
 
 
 def _answer(lines: Sequence[str], reader: Callable[[Sequence[str]], Answer]) -> Answer:
     if lines and lines[0].startswith('refused '):
-        _, reason, *words = lines[0].split(' ')
+        _, reason, *words = re.split('[ |]', lines[0])
         return Refusal(reason, tuple(words))
     return reader(lines)
 
@@ -249,13 +264,14 @@ def _answer(lines: Sequence[str], reader: Callable[[Sequence[str]], Answer]) -> 
 def run(world: World, script: Script, program: str = './asprop', seconds: Optional[float] = None) -> List[Answer]:
     """Runs the program over the world and gives the answers, one for each line of the script.
 
-    A line that is refused has a Refusal as its answer.  Raises Fault where the program ends without answers, and
-    subprocess.TimeoutExpired where it takes longer than so many seconds.
+    A line that is refused has a Refusal as its answer.  Raises Fault where the program ends without all answers, with the
+    status 125 where ./asprop couldn't build it, and subprocess.TimeoutExpired where it takes longer than so many seconds.
+    Nothing stands on the program's standard input.
     """
     with tempfile.TemporaryDirectory(prefix='asprop.') as folder:
         names = {'scenario': world.scenario(), 'script': ''.join(line + '\n' for line in script.lines)}
         for name, text in names.items():
-            with open(os.path.join(folder, name), 'w', encoding='ascii') as file:
+            with open(os.path.join(folder, name), 'w', encoding='utf8') as file:
                 file.write(text)
         words = [program, world.links] + (['--vrps', world.payloads] if world.payloads is not None else [])
         for name in names:

@@ -16,38 +16,42 @@ import concurrent.futures
 import os
 import random
 import sys
-import tempfile
+from typing import Dict, Sequence, Tuple
 
 import asprop
 
-ADDRESS = '10.128.0.1'
+PREFIX, HALF, ADDRESS = '10.0.0.0/8', '10.128.0.0/9', '10.128.0.1'
 
 
-def customers_of(links):
+def customers_of(links: str) -> Dict[int, int]:
     """How many customers each AS of a relationship file has."""
-    counts = collections.Counter()
+    counts: Dict[int, int] = collections.Counter()
     with open(links, encoding='latin-1') as file:
         for line in file:
-            if not line.startswith('#') and line.count('|') >= 2:
+            if line.strip() and not line.startswith('#'):
                 first, second, relation = line.split('|')[:3]
                 counts[int(first)] += relation.strip() == '-1'
                 counts[int(second)] += 0
     return counts
 
 
-def hijack(links, payloads, pair, validators, program):
-    """The counts of all ASes in the world of one pair."""
+def hijack(links: str, pair: Tuple[int, int], validators: Sequence[int], program: str) -> asprop.Counts:
+    """The counts of all ASes in the world of one pair.  Raises where the attack isn't what the study is about."""
     attacker, victim = pair
-    world = asprop.World(links=links, payloads=payloads, watch=[ADDRESS],
-                         announcements=[('10.0.0.0/8', victim), ('10.128.0.0/9', attacker)],
+    world = asprop.World(links, [(PREFIX, victim), (HALF, attacker)], watch=[ADDRESS],
                          policies={asn: 'drop-invalid' for asn in validators})
     script = asprop.Script()
-    script.vrp_add(victim, '10.0.0.0/8', 8)
+    script.vrp_add(victim, PREFIX, 8)
+    script.validity(PREFIX, victim)
+    script.validity(HALF, attacker)
     script.report(1, ADDRESS)
-    return asprop.run(world, script, program)[1]['total']
+    _, good, bad, report = asprop.run(world, script, program)
+    if (good.state, bad.state) != ('valid', 'invalid'):
+        raise ValueError('the victim\'s route is %s and the attacker\'s %s' % (good.state, bad.state))
+    return report['total']
 
 
-def main():
+def main() -> int:
     words = argparse.ArgumentParser(description=__doc__.split('\n')[0])
     words.add_argument('links')
     words.add_argument('--program', default='./asprop')
@@ -63,11 +67,8 @@ def main():
     pairs = [tuple(draw.sample(stubs, 2)) for _ in range(given.pairs)]
     print('attacker|victim|to attacker|to victim|nowhere')
     sums = [0, 0, 0]
-    with tempfile.NamedTemporaryFile('w', suffix='.csv') as payloads, \
-            concurrent.futures.ThreadPoolExecutor(given.jobs) as pool:
-        payloads.write('ASN,IP Prefix,Max Length,Trust Anchor\n')
-        payloads.flush()
-        runs = [pool.submit(hijack, given.links, payloads.name, pair, largest, given.program) for pair in pairs]
+    with concurrent.futures.ThreadPoolExecutor(given.jobs) as pool:
+        runs = [pool.submit(hijack, given.links, pair, largest, given.program) for pair in pairs]
         for (attacker, victim), ran in zip(pairs, runs):
             counts = ran.result()
             row = [counts.to.get(attacker, 0), counts.to.get(victim, 0), counts.no_route + counts.loop]

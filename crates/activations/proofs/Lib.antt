@@ -6,3 +6,4 @@ mod Heights
 mod Words
 mod Lines
 pub mod Sound
+mod Said

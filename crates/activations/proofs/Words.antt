@@ -2,7 +2,6 @@
 use Rattle.std.proofs.Common.{◌≡◌, ℕ, ◌+◌, ◌<◌, true, false, List, [], ◌∷◌, ◌++◌, length, take, drop, Option, Some, None, option_map, append_assoc, append-nil, refl, ap, sym, ◌∙◌, arith}
 use Rattle.std.proofs.lemmas.List.{length-drop}
 use Rattle.std.proofs.lemmas.List.Splits.{join_with_byte-slice_split}
-use Rattle.std.specs.List.{join_with_byte}
 use Rattle.std.specs.Prelude.{bytes_eq, codes}
 use Rattle.net_names.specs.Texts.{asn_of, cut_at, fields, numeral}
 use Rattle.net_names.proofs.Cuts.{fields_uncut, fields_cut}

@@ -1,3 +1,4 @@
 pub mod Pieces
 pub mod Files
 pub mod Named
+pub mod Laws

@@ -7,12 +7,14 @@
 mod acts;
 mod forms;
 mod height;
+mod laws;
 mod pieces;
 mod reading;
 mod running;
 
 pub use acts::{Acts, NamedAses};
 pub use height::height_of;
+pub use laws::acts_are_those_said;
 pub use pieces::full_pieces;
 pub use reading::{ActsError, MOST_ACTIVATIONS, read_acts};
 pub use running::run_activations;

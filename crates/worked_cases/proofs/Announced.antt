@@ -1,5 +1,5 @@
--- A plan with one more announcement, and one with one less: that it is within the limits, and who announces.
-use Rattle.std.proofs.Common.{◌≡◌, ◌⊎◌, inl, inr, ℕ, ◌+◌, ◌-◌, ◌<◌, ◌≤◌, Bool, true, false, IsTrue, cond, is_some, Option, None, Some, List, length, refl, sym, ap, subst, ◌∙◌, arith}
+-- A plan with one more announcement: that it is within the limits, and who announces.
+use Rattle.std.proofs.Common.{◌≡◌, ◌⊎◌, inl, inr, ℕ, ◌+◌, ◌<◌, ◌≤◌, Bool, true, false, IsTrue, cond, is_some, Option, None, Some, List, length, refl, sym, ap, subst, ◌∙◌, arith}
 use Rattle.std.proofs.lemmas.List.{length-map}
 use Rattle.std.specs.Ordering.{eq_by_cmp}
 use Rattle.std.specs.declared.cmp.Ordering.{Ordering}
@@ -8,7 +8,6 @@ use Rattle.std.specs.FinMap as fin
 use Rattle.net_names.specs.Orders.{announcement_total, exact_announcement, prefix_total}
 use Rattle.net_names.specs.Prefixes.{PrefixValue, prefix_cmp}
 use Rattle.stability_laws.specs.Plans.{Plan, announcement_cmp, announcer_of, announces, empty_plan, prefixes_of, with_announcement}
-use Rattle.stability_laws.specs.SeedEdits.{without_announcement}
 use Rattle.stability_laws.proofs.KeyLists.{eq_is}
 use Rattle.leak_round.specs.Limits.{IsWithinLimits}
 
@@ -69,35 +68,3 @@ announcer_is plan prefix q path a is =
 -- nobody announces anything in the empty plan
 pub none_announces : (q : PrefixValue) (a : ℕ) → IsTrue (announces empty_plan q a) → ⊥
 none_announces q a is = let wrong : false ≡ true = sym (ap is_some (fin.get-empty announcement_cmp (q, a))) ∙ is in cc
-
--- one key less is no more
-one_less : {K X : Type 0} {R : K → K → Ordering} → IsTotalOrder R → (m : fin.FinMap R X) (k : K) → fin.len (fin.remove m k) ≤ fin.len m
-one_less o m k = omega (arith, fin.len-remove o m k, by (fin.contains_key m k))
-  where
-    by : (b : Bool) → cond b (fin.len m - 1) (fin.len m) ≤ fin.len m
-    by true = omega arith
-    by false = omega arith
-
--- what is found with one key less was found before
-was_there : (b : Bool) (o : Option (List ℕ)) (y : List ℕ) → cond b None o ≡ Some y → o ≡ Some y
-was_there true o y e = let wrong : None ≡ Some y = e in cc
-was_there false o y e = e
-
--- with one announcement less, an announced path was announced before
-still_announced : (plan : Plan) (prefix q : PrefixValue) (asn a : ℕ) (path : List ℕ) → fin.get (without_announcement plan prefix asn).announced (q, a) ≡ Some path → fin.get plan.announced (q, a) ≡ Some path
-still_announced plan prefix q asn a path e = was_there (eq_by_cmp announcement_cmp (q, a) (prefix, asn)) _ path (sym (fin.get-remove announcement_total plan.announced (prefix, asn) (q, a)) ∙ e)
-
-pub one_less_within : (plan : Plan) (prefix : PrefixValue) (asn : ℕ) → IsWithinLimits plan → IsWithinLimits (without_announcement plan prefix asn)
-one_less_within plan prefix asn within = record {
-  prefixes = within.prefixes;
-  announcements = omega (arith, within.announcements, one_less announcement_total plan.announced (prefix, asn));
-  paths = λ q a path e. within.paths q a path (still_announced plan prefix q asn a path e);
-}
-
--- with one announcement less, who announces announced before
-pub announcer_was : (plan : Plan) (prefix q : PrefixValue) (asn a : ℕ) → IsTrue (announces (without_announcement plan prefix asn) q a) → IsTrue (announces plan q a)
-announcer_was plan prefix q asn a is = by (fin.get (without_announcement plan prefix asn).announced (q, a)) refl is
-  where
-    by : (o : Option (List ℕ)) → fin.get (without_announcement plan prefix asn).announced (q, a) ≡ o → IsTrue (is_some o) → IsTrue (announces plan q a)
-    by (Some path) e is = ap is_some (still_announced plan prefix q asn a path e)
-    by None e is = let wrong : false ≡ true = is in cc

@@ -1,4 +1,5 @@
 //! Each law is one that a caller can cite.
+use activations::acts_are_those_said;
 use as_graph::{
     ases_are_kept, edits_are_undone, fitting_are_ranks, links_are_set, links_are_sound,
     links_are_taken, one_rank, ranks_fit,
@@ -28,6 +29,7 @@ fn laws_of_graphs_are_called() {
 
 #[test]
 fn laws_of_files_and_texts_are_called() {
+    acts_are_those_said();
     links_are_those_given();
     payloads_are_those_given();
     scenarios_are_those_said();

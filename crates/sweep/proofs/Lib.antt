@@ -1,0 +1,8 @@
+pub mod NumberLists
+pub mod Linewise
+pub mod Lists
+pub mod KindChanges
+pub mod Drawn
+pub mod Front
+pub mod Parts
+pub mod Least

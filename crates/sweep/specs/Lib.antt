@@ -1,0 +1,6 @@
+pub mod Adopters
+pub mod Trials
+pub mod Swept
+pub mod Texts
+pub mod Reading
+pub mod Laws

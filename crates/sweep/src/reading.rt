@@ -1,0 +1,66 @@
+//! Reading a file of sweeps.
+ghost use Rattle.std.specs.Prelude.{◌≡◌, ◌≤◌, Ok, IfErr, OnOk, length};
+ghost use Rattle.sweep.specs.Reading.{Fails, Gives, sweeps_of, with_line};
+
+use crate::forms::sweep;
+use crate::sweeps::{MOST_SWEEPS, Sweeps};
+use net_names::next_kept;
+use std::alloc::Global;
+
+/// Why a file of sweeps is refused: the fault of its first faulty line. Lines are numbered from 1, and skipped lines
+/// count. A line is judged in the order of the last two variants.
+#[derive(Clone, Copy, Debug, PartialEq, Eq)]
+pub enum SweepsError {
+    /// Memory ran out.
+    Memory,
+    /// The line has not the form.
+    Unreadable {
+        /// The number of the line.
+        line: u32,
+    },
+    /// 1,000 lines that aren't skipped stand before the line.
+    TooMany {
+        /// The number of the line.
+        line: u32,
+    },
+}
+
+// Puts the sweep of a line, which has this number and isn't skipped, behind the others.
+fn put_line(alloc: Global, sweeps: &mut Sweeps, number: u32, text: &[u8]) -> Result<(), SweepsError>
+    ensures ok { OnOk result (with_line sweeps.old (number, text.now) ≡ Ok sweeps.new) }
+    ensures err { IfErr result (λ e. Fails e (with_line sweeps.old (number, text.now))) }
+{
+    match sweep(alloc, number, text) {
+        Err(_) => Err(SweepsError::Memory),
+        Ok(None) => Err(SweepsError::Unreadable { line: number }),
+        Ok(Some(sweep)) => {
+            if sweeps.len() >= MOST_SWEEPS {
+                return Err(SweepsError::TooMany { line: number });
+            }
+            match sweeps.push(sweep) {
+                Ok(()) => Ok(()),
+                Err(_) => Err(SweepsError::Memory),
+            }
+        }
+    }
+}
+
+/// The sweeps of a file of at most 16,777,216 bytes, a line each. A line ends with a line feed, before which one carriage
+/// return may stand; a line that is empty or begins with `#` is skipped. The format is this project's own.
+///
+/// `Unreadable` exactly where the first faulty line has not the form, and `TooMany` exactly where it has it and 1,000
+/// lines that aren't skipped stand before it; `Memory` where there is not enough memory.
+pub fn read_sweeps(alloc: Global, bytes: &[u8]) -> Result<Sweeps, SweepsError>
+    requires { length bytes.now ≤ 16777216 }
+    ensures { Gives result (sweeps_of bytes.now) }
+{
+    let mut sweeps = Sweeps::new(alloc);
+    let mut rest = bytes;
+    let mut number: u32 = 1;
+    'lines: while let Some(kept) = next_kept(rest, number) {
+        put_line(alloc, &mut sweeps, kept.number, kept.line)?;
+        rest = kept.rest;
+        number = kept.number + 1;
+    }
+    Ok(sweeps)
+}

@@ -1,0 +1,183 @@
+//! All trials of a line.
+ghost use Rattle.std.specs.Prelude.{◌≡◌, ℕ, ◌+◌, ◌≤◌, ◌++◌, true, List, Some, All, IfOk, OnOk, OnErr, length, map, slice_get, take};
+ghost use Rattle.std.specs.List.{flat_map};
+ghost use Rattle.std.specs.FinMap as fin;
+ghost use Rattle.net_names.specs.Numbers.{IsDistinct};
+ghost use Rattle.policy_kinds.specs.declared.kind.Kind.{Kind as AKind};
+ghost use Rattle.sweep.specs.Trials.{adopted as with_adopters, with_kinds};
+ghost use Rattle.sweep.specs.Swept.{Appends, IsInWorld, IsMadeOf, IsSwept, IsTrialText, trials_of};
+ghost use Rattle.sweep.specs.Texts.{text_at, AreGrown, AreNone, HaveTrials};
+
+use crate::drawing::{next_word, order_of};
+use crate::rows::{Which, append_trial};
+use crate::standing::standing_of;
+use crate::stepping::{change, shift};
+use crate::sweeps::Sweep;
+use crate::trial::Trial;
+use net_names::{Asn, NoMemory};
+use policy_kinds::Kind;
+use rand_core::SeedableRng;
+use rand_xoshiro::SplitMix64;
+use std::alloc::Global;
+
+// So many texts, all empty.
+fn no_texts(alloc: Global, count: usize) -> Result<Vec<Vec<u8>>, NoMemory>
+    ensures { IfOk result (λ v. AreNone count v.items) }
+{
+    let mut texts = Vec::new(alloc);
+    for _i in 0..count {
+        match texts.push(Vec::new(alloc)) {
+            Ok(()) => {}
+            Err(_) => return Err(NoMemory),
+        }
+    }
+    Ok(texts)
+}
+
+// The first number, or 0 where there is none.
+fn first_of(ks: &[u32]) -> usize
+    ensures { (n : ℕ) → All (λ k. k ≤ n) ks.now → result ≤ n }
+{
+    match ks.first() {
+        Some(k) => *k as usize,
+        None => 0,
+    }
+}
+
+// The worlds of one trial: puts the adopters of the trial before back, and appends the rows of a trial for each number of
+// adopters to its text. It says how many of the first ASes of the order have the kind at last.
+fn run_trial<T: Trial>(
+    alloc: Global,
+    trial: &mut T,
+    line: &Sweep,
+    t: u32,
+    adopted: &[(Asn, Kind)],
+    order: &[(Asn, Kind)],
+    texts: &mut Vec<Vec<u8>>,
+) -> Result<usize, NoMemory>
+    requires watched { T.is_watched (T.base trial.old) line.now.round line.now.addr ≡ true }
+    requires few { All (λ k. k ≤ length order.now) line.now.ks }
+    requires texts { length texts.old.items ≡ length line.now.ks }
+    requires back { All (λ c. fin.contains_key (T.ases (T.base trial.old)) c.0 ≡ true) adopted.now }
+    requires known { All (λ c. fin.contains_key (T.ases (T.base trial.old)) c.0 ≡ true) order.now }
+    requires apart { IsDistinct (map (λ c. c.0) order.now) }
+    requires right { T.IsRight trial.old }
+    ensures held { IfOk result (λ held. held ≤ length order.now) }
+    ensures kinds { IfOk result (λ held. (f : ℕ → AKind) (xs ys : List ℕ) → order.now ≡ with_kinds f xs →
+        adopted.now ≡ with_kinds f ys → ((a : ℕ) → T.kinds trial.old a ≡ with_adopters f line.now.kind ys a) →
+        (a : ℕ) → T.kinds trial.new a ≡ with_adopters f line.now.kind (take held xs) a) }
+    ensures texts { OnOk result ((f : ℕ → AKind) (xs ys : List ℕ) → order.now ≡ with_kinds f xs →
+        adopted.now ≡ with_kinds f ys → ((a : ℕ) → T.kinds trial.old a ≡ with_adopters f line.now.kind ys a) →
+        AreGrown (T.announcers (T.base trial.old))
+        (λ k. T.AreNumbers (T.base trial.old) (with_adopters f line.now.kind (take k xs)) line.now.round line.now.addr)
+        t line.now.ks texts.old.items texts.new.items) }
+    ensures len { length texts.new.items ≡ length texts.old.items }
+    ensures base { T.base trial.new ≡ T.base trial.old }
+    ensures right { T.IsRight trial.new }
+{
+    let ks = line.ks.as_slice();
+    let mut held = first_of(ks);
+    change(alloc, trial, adopted, &order[..held], line.kind)?;
+    'numbers: for i in 0..ks.len() {
+        let k = ks[i];
+        match shift(alloc, trial, order, held, k as usize, line.kind) {
+            Ok(()) => {}
+            Err(_) => return Err(NoMemory),
+        }
+        held = k as usize;
+        match append_trial(&mut texts[i], trial, line, Which { k, t }) {
+            Ok(()) => {}
+            Err(_) => return Err(NoMemory),
+        }
+    }
+    Ok(held)
+}
+
+// All trials of a line: appends their rows to the texts, one for each number of adopters. At the end all have their kinds
+// again.
+fn sweep_all<T: Trial>(
+    alloc: Global,
+    trial: &mut T,
+    line: &Sweep,
+    standing: &[(Asn, Kind)],
+    texts: &mut Vec<Vec<u8>>,
+) -> Result<(), NoMemory>
+    requires standing { standing.now ≡ with_kinds (T.kinds trial.old) (fin.keys (T.ases (T.base trial.old))) }
+    requires in_world { IsInWorld (T.ases (T.base trial.old)) (T.is_watched (T.base trial.old)) line.now }
+    requires right { T.IsRight trial.old }
+    requires texts { AreNone (length line.now.ks) texts.old.items }
+    ensures texts { OnOk result (HaveTrials (IsTrialText (T.ases (T.base trial.old)) (T.announcers (T.base trial.old))
+        (λ kinds. T.AreNumbers (T.base trial.old) kinds line.now.round line.now.addr) (T.kinds trial.old) line.now)
+        line.now.trials line.now.ks texts.new.items) }
+    ensures kinds { OnOk result ((a : ℕ) → T.kinds trial.new a ≡ T.kinds trial.old a) }
+    ensures base { T.base trial.new ≡ T.base trial.old }
+    ensures right { T.IsRight trial.new }
+{
+    let mut rng = SplitMix64::seed_from_u64(line.seed as u64);
+    let mut last: Vec<(Asn, Kind)> = Vec::new(alloc);
+    let mut held: usize = 0;
+    'trials: for t in 0..line.trials {
+        let word = next_word(&mut rng);
+        let order = match order_of(alloc, standing, word) {
+            Ok(order) => order,
+            Err(_) => return Err(NoMemory),
+        };
+        let adopted = &last.as_slice()[..held];
+        held = match run_trial(alloc, trial, line, t + 1, adopted, order.as_slice(), texts) {
+            Ok(held) => held,
+            Err(_) => return Err(NoMemory),
+        };
+        last = order;
+    }
+    change(alloc, trial, &last.as_slice()[..held], &[], line.kind)
+}
+
+// Appends the texts, one after the other.
+fn append_texts(out: &mut Vec<u8>, texts: &[Vec<u8>]) -> Result<(), NoMemory>
+    ensures ok { OnOk result (out.new.items ≡ out.old.items ++ flat_map (λ v. v.items) texts.now) }
+    ensures err { OnErr result (take (length out.old.items) out.new.items ≡ out.old.items) }
+{
+    for text in texts {
+        match out.extend_from_slice(text.as_slice()) {
+            Ok(()) => {}
+            Err(_) => return Err(NoMemory),
+        }
+    }
+    Ok(())
+}
+
+/// Appends the text of a sweep: for each number of adopters in the line's order, and for each trial of it from 1 on, the
+/// rows `K|t|to A|n` for each announcing AS at which the packets of n ASes, at least 1, are delivered, `K|t|no-route|n` and
+/// `K|t|loop|n`. The adopters are the ASes with the least draws. The line is in the world: its round and its watched address
+/// are there, and no number of adopters is above that of the ASes. Afterwards the kinds are as before. Where memory runs
+/// out, `out` is as it was, and the kinds may be those of some adopters. The format is this project's own.
+///
+/// The worlds of a trial follow one another in the line's order, each made of the one before by one call that changes
+/// the ASes between the two numbers of adopters alone; the first of a trial is made by one call from the last of the trial
+/// before.
+pub fn sweep_rows<T: Trial>(
+    alloc: Global,
+    trial: &mut T,
+    line: &Sweep,
+    out: &mut Vec<u8>,
+) -> Result<(), NoMemory>
+    requires in_world { IsInWorld (T.ases (T.base trial.old)) (T.is_watched (T.base trial.old)) line.now }
+    requires right { T.IsRight trial.old }
+    ensures ok { OnOk result (Appends (IsSwept (T.ases (T.base trial.old)) (T.announcers (T.base trial.old))
+        (λ kinds. T.AreNumbers (T.base trial.old) kinds line.now.round line.now.addr) (T.kinds trial.old) line.now)
+        out.old.items out.new.items) }
+    ensures err { OnErr result (out.new.items ≡ out.old.items) }
+    ensures kinds { OnOk result ((a : ℕ) → T.kinds trial.new a ≡ T.kinds trial.old a) }
+    ensures base { T.base trial.new ≡ T.base trial.old }
+    ensures right { T.IsRight trial.new }
+{
+    let standing = standing_of(alloc, trial)?;
+    let mut texts = no_texts(alloc, line.ks.as_slice().len())?;
+    sweep_all(alloc, trial, line, standing.as_slice(), &mut texts)?;
+    let kept = out.len();
+    if append_texts(out, texts.as_slice()).is_err() {
+        out.truncate(kept);
+        return Err(NoMemory);
+    }
+    Ok(())
+}
