@@ -20,13 +20,13 @@ use Rattle.stability_laws.specs.AnyOrder.{IsActivated}
 use Rattle.stability_laws.specs.Book.{PolicyBook}
 use Rattle.stability_laws.specs.Laws.{IsHeight}
 use Rattle.stability_laws.specs.Offers.{Setting}
-use Rattle.stability_laws.specs.Runs.{HasOnly}
+use Rattle.stability_laws.specs.Runs.{HasOnly, IsRunBy}
 use Rattle.stability_laws.specs.Stable.{IsStable}
+use Rattle.stability_laws.specs.Steps.{IsStepWhole}
 use Rattle.stability_laws.specs.World.{setting}
 use Rattle.stability_laws.specs.declared.entry.Entry.{Entry}
 use Rattle.stability_laws.specs.declared.entry.Seed.{Seed}
 use Rattle.asprop_run.specs.Inside.{IsInside}
-use Rattle.asprop_run.specs.Settling.{IsSettled}
 use Rattle.asprop_run.proofs.Named.{none_named}
 use Rattle.asprop_run.specs.Task.{outside}
 use Rattle.task_reading.specs.Jobs.{Job, acts_job}
@@ -61,7 +61,8 @@ pub settled_in : LentIsSetting → (w : World) (k : Kept) (acts : Acts) (g : Top
     → ((a : ℕ) → fin.get seeds a ≡ seeds_kept w k acts.round acts.prefix a) → ((a : ℕ) → fin.get start a ≡ fin.get acts.held a)
     → IsActivated (setting kind_policy g book (state_of payloads acts.prefix)) (fin.get seeds) acts.list (fin.get start) (fin.get new)
     → (IsTrue stable ↔ IsStable (setting kind_policy g book (state_of payloads acts.prefix)) (fin.get seeds) (fin.get new))
-    → IsSettled w k acts (fin.get new) stable
+    → IsRunBy (IsStepWhole (setting_of w acts.prefix) (seeds_kept w k acts.round acts.prefix)) acts.list (fin.get acts.held) (fin.get new)
+    × (IsTrue stable ↔ IsStable (setting_of w acts.prefix) (seeds_kept w k acts.round acts.prefix) (fin.get new))
 settled_in lent w k acts g book payloads seeds start new stable is_graph is_book same_payloads same_seeds same_start run settled =
     let here : setting kind_policy g book (state_of payloads acts.prefix) ≡ setting_of w acts.prefix =
     ap (λ (p : Payloads). setting kind_policy g book (state_of p acts.prefix)) same_payloads ∙ lent w g book is_graph is_book acts.prefix in

@@ -3,7 +3,7 @@ use Rattle.std.specs.Prelude.{◌≡◌, ◌||◌, ℕ, Bool, true, false, Some,
 use Rattle.std.specs.FinMap as fin
 use Rattle.clap.specs.Walk.{Text}
 use Rattle.scenario_text.specs.declared.acts.Act.{Act}
-use Rattle.scenario_text.specs.declared.acts.Act.TheVariants as act
+use Rattle.scenario_text.specs.declared.acts.Act.TheVariants.{Edit, Query}
 use Rattle.sim_core.specs.World.{World, topology}
 use Rattle.sim_core.specs.Kept.{Kept, IsKept}
 use Rattle.sim_core.specs.Answers.{IsAnswer, refusal_of}
@@ -17,12 +17,12 @@ use Rattle.asprop_run.specs.Settling.{IsActsText, fact}
 
 -- the text is what is told for what a line asks, and the world after it: a query is answered, or refused for its reason; an edit that is allowed leaves the edited world, and the text says how many entries of the one family of routings differ from those of the one family after it; one that is refused says why, and the world stays (own format)
 abbrev pub IsReply : World → Kept → Act → Text → Bool → World → Type 0
-IsReply w kept (act.Query q) text false after = (refusal_of w q ≡ None) × IsAnswer w kept q text × (after ≡ w)
-IsReply w kept (act.Query q) text true after = (e : QueryError) × (refusal_of w q ≡ Some e) × (text ≡ refusal_text e) × (after ≡ w)
-IsReply w kept (act.Edit e) text false after =
+IsReply w k (Query q) text false after = (refusal_of w q ≡ None) × IsAnswer w k q text × (after ≡ w)
+IsReply w k (Query q) text true after = (e : QueryError) × (refusal_of w q ≡ Some e) × (text ≡ refusal_text e) × (after ≡ w)
+IsReply w k (Edit e) text false after =
     IsAllowed w e × (after ≡ edited w e) × (now : Kept) × IsKept after now
-    × (routes : ℕ) × HasChanges after.plan after.rounds kept.routings now.routings routes × (text ≡ codes "ok " ++ (decimal routes ++ 10 ∷ []))
-IsReply w kept (act.Edit e) text true after = (error : EditError) × IsReason w e error × (text ≡ edit_refusal_text error) × (after ≡ w)
+    × (routes : ℕ) × HasChanges after.plan after.rounds k.routings now.routings routes × (text ≡ codes "ok " ++ (decimal routes ++ 10 ∷ []))
+IsReply w k (Edit e) text true after = (error : EditError) × IsReason w e error × (text ≡ edit_refusal_text error) × (after ≡ w)
 
 -- the reply to what a line asks was appended (own format)
 pub record AppendsReply (w : World) (kept : Kept) (asks : Act) (refused : Bool) (old new : Text) (after : World) : Type 0 where
@@ -37,7 +37,7 @@ head heads number = if heads then codes "# " ++ (decimal number ++ 10 ∷ []) el
 -- the text is the whole answer to the job, by the one and only stable routings of the world's rounds and by the ranks of its ASes, and the job leaves this world: the numbers of ASes and links; the head line and what is told for a line; or what activations come to (own format; Gao and Rexford 2001)
 abbrev pub AnswersJob : World → Job → Text → Bool → World → Type 0
 AnswersJob w counts_job text refused after = (refused ≡ false) × (after ≡ w)
-    × (text ≡ fact "ases" (decimal (as_count (topology w))) ++ fact "links" (decimal (fin.len w.links)))
+    × (text ≡ fact "ases" (as_count (topology w)) ++ fact "links" (fin.len w.links))
 AnswersJob w (line_job heads line) text refused after = (k : Kept) × IsKept w k × (answer : Text)
     × IsReply w k line.act answer refused after × (text ≡ head heads line.number ++ answer)
 AnswersJob w (acts_job acts) text refused after = (refused ≡ false) × (after ≡ w)

@@ -1,5 +1,5 @@
 -- How a run ends, what it writes, and what it says of a fault.
-use Rattle.std.specs.Prelude.{◌≡◌, ◌⊎◌, Bool, List, [], Option, Some, Result, Ok, Err}
+use Rattle.std.specs.Prelude.{◌≡◌, ◌⊎◌, Bool, List, [], Option, Result, Ok, Err}
 use Rattle.clap.specs.Walk.{Text}
 use Rattle.as_graph.specs.Topology.{relation}
 use Rattle.cycle_check.specs.Cycles.{IsCycleFromLowest}
@@ -7,7 +7,7 @@ use Rattle.sim_core.specs.World.{HasCycle, topology}
 use Rattle.asprop_run.specs.Streams.{Stream}
 use Rattle.task_reading.specs.Sources.{Source}
 use Rattle.task_reading.specs.Words.{Form, form_of}
-use Rattle.asprop_run.specs.Task.{HasAnswers, Task, fault_outside, task_of}
+use Rattle.asprop_run.specs.Task.{HasAnswers, IsOutside, Task, task_of}
 use Rattle.task_reading.specs.Asking.{Reads}
 use Rattle.asprop_run.specs.Texts.{ending_of}
 use Rattle.task_reading.specs.Files.{AreReads}
@@ -24,7 +24,7 @@ Outcome (Ok t) (Ok refused) o = HasAnswers t × Wrote t.world t.jobs refused o.w
 Outcome (Ok t) (Err Memory) o = o.wrote [] ⊎ (HasAnswers t × WroteSome t o.wrote)
 Outcome (Ok t) (Err Write) o = HasAnswers t × WroteSome t o.failed
 Outcome (Ok t) (Err (Cycle c)) o = IsCycleFromLowest (relation (topology t.world)) c × o.wrote []
-Outcome (Ok t) (Err (failure.Fault f)) o = (HasCycle t.world → ⊥) × (fault_outside t ≡ Some f) × o.wrote []
+Outcome (Ok t) (Err (failure.Fault f)) o = (HasCycle t.world → ⊥) × IsOutside t f × o.wrote []
 Outcome (Err fault) (Err Memory) o = o.wrote []
 Outcome (Err fault) (Err (failure.Fault found)) o = (found ≡ fault) × o.wrote []
 Outcome _ _ o = ⊥

@@ -17,14 +17,14 @@ use Rattle.stability_laws.specs.Stable.{IsStable}
 use Rattle.stability_laws.specs.Steps.{IsStepWhole}
 use Rattle.stability_laws.specs.declared.entry.Entry.{Entry}
 
--- a row that gives the value of what has this name (own format)
-abbrev pub fact : String → Text → Text
-fact name value = row (codes name ∷ value ∷ [])
+-- a row that gives the number of what has this name (own format)
+abbrev pub fact : String → ℕ → Text
+fact name number = row (codes name ∷ decimal number ∷ [])
 
 -- how many full pieces a list of activations has, how many ASes the longest chain of the world has, and whether the routing is stable (own format)
 abbrev pub settled_rows : ℕ → ℕ → Bool → Text
-settled_rows pieces height settled = fact "pieces" (decimal pieces)
-    ++ (fact "height" (decimal height) ++ fact "settled" (codes (if settled then "yes" else "no")))
+settled_rows pieces height settled = fact "pieces" pieces ++ (fact "height" height
+    ++ row (codes "settled" ∷ codes (if settled then "yes" else "no") ∷ []))
 
 -- the text says what the activations come to, from what ASes hold at first and with the seeds of the round that follow from the round before: the rows of all ASes in the routing then, and what is said of the list and the routing (own format; Gao and Rexford 2001)
 abbrev pub IsActsText : World → Kept → Acts → Text → Type 0
@@ -34,8 +34,3 @@ IsActsText w k acts text = (f : ℕ → Option Entry) × (pieces height : ℕ) �
     IsRunBy (IsStepWhole here seeds) acts.list (fin.get acts.held) f × IsHeight (topology w) height
     × IsMostPieces (has (topology w)) acts.list pieces × (IsTrue settled ↔ IsStable here seeds f)
     × (text ≡ table (topology w) (λ a. entry_row a (f a)) ++ settled_rows pieces height settled)
-
--- the routing that the activations end in, and whether it is stable
-abbrev pub IsSettled : World → Kept → Acts → (ℕ → Option Entry) → Bool → Type 0
-IsSettled w k acts f settled = let here = setting_of w acts.prefix in let seeds = seeds_of w.plan acts.round acts.prefix (k.routings (acts.round - 1) acts.prefix) in
-    IsRunBy (IsStepWhole here seeds) acts.list (fin.get acts.held) f × (IsTrue settled ↔ IsStable here seeds f)

@@ -30,9 +30,9 @@ outside w (acts_job acts ∷ jobs) = if has_round w acts.round && has_prefix w.p
     then first_foreign_in (has (topology w)) acts.named else Some acts.for_line
 outside w jobs = None
 
--- the fault of the first line that names what the world has not
-abbrev pub fault_outside : Task → Option Fault
-fault_outside t = option_map (λ n. InFile Script (NotInWorld n)) (outside t.world t.jobs)
+-- the task has this fault: a line, the first such one, names what the world has not
+abbrev pub IsOutside : Task → Fault → Type 0
+IsOutside t f = option_map (λ n. InFile Script (NotInWorld n)) (outside t.world t.jobs) ≡ Some f
 
 -- the task has answers: its world has no provider cycle, and has all that is named
 abbrev pub HasAnswers : Task → Type 0

@@ -11,7 +11,7 @@ ghost use Rattle.stability_laws.specs.EntryTexts.{entry_row};
 ghost use Rattle.stability_laws.specs.Plans.{has_prefix};
 ghost use Rattle.asprop_run.specs.Inside.{IsInside};
 ghost use Rattle.asprop_run.specs.Replies.{AnswersJob};
-ghost use Rattle.asprop_run.specs.Settling.{IsSettled, settled_rows};
+ghost use Rattle.asprop_run.specs.Settling.{settled_rows};
 ghost use Rattle.asprop_run.specs.Task.{outside};
 ghost use Rattle.task_reading.specs.Jobs.{acts_job};
 
@@ -93,30 +93,6 @@ fn same_routing(alloc: Global, ases: &[Asn], held: &Routing) -> Result<Routing, 
     Ok(routing)
 }
 
-// The routing after the activations, and whether it is stable.
-fn settle(alloc: Global, sim: &Sim, acts: &Acts) -> Result<(Routing, bool), NoMemory>
-    requires sound { AreSound acts.now }
-    requires inside { IsInside (world_seen sim.now) (acts_job acts.now) }
-    requires no_cycle { HasCycle (world_seen sim.now) → ⊥ }
-    ensures { IfOk result (λ r. IsSettled (world_seen sim.now) (kept sim.now) acts.now (fin.get r.0) r.1) }
-{
-    kept_are_stable();
-    let graph = sim.graph();
-    let Ok(seeds) = sim.seeds(alloc, acts.round, acts.prefix) else {
-        return Err(NoMemory);
-    };
-    let states = states_at(alloc, sim, acts.prefix)?;
-    let mut routing = same_routing(alloc, graph.ases(), &acts.held)?;
-    let world = World {
-        graph,
-        book: sim.book(),
-        states: &states,
-    };
-    let list = acts.list.as_slice();
-    let stable = run_activations(alloc, &world, acts.prefix, &seeds, &mut routing, list)?;
-    Ok((routing, stable))
-}
-
 // Appends the rows of all ASes in the routing, in rising number.
 fn put_rows(text: &mut Vec<u8>, graph: &Graph, routing: &Routing) -> Result<(), NoMemory>
     ensures { OnOk result (text.new.items ≡ text.old.items ++ table graph.now (λ a. entry_row a (fin.get routing.now a))) }
@@ -167,9 +143,20 @@ pub fn answer_activations(
     ensures { OnOk result (AnswersJob (world_seen sim.now) (acts_job acts.now) text.new.items false (world_seen sim.now)) }
 {
     kept_are_stable();
-    let (routing, settled) = settle(alloc, sim, acts)?;
-    let graph = sim.graph();
-    let pieces = full_pieces(alloc, graph, acts.list.as_slice())?;
+    let (graph, list) = (sim.graph(), acts.list.as_slice());
+    // The world has the round and the prefix.
+    let Ok(seeds) = sim.seeds(alloc, acts.round, acts.prefix) else {
+        return Err(NoMemory);
+    };
+    let states = states_at(alloc, sim, acts.prefix)?;
+    let mut routing = same_routing(alloc, graph.ases(), &acts.held)?;
+    let world = World {
+        graph,
+        book: sim.book(),
+        states: &states,
+    };
+    let settled = run_activations(alloc, &world, acts.prefix, &seeds, &mut routing, list)?;
+    let pieces = full_pieces(alloc, graph, list)?;
     let height = height_of(graph, sim.ranks());
     text.clear();
     put_rows(text, graph, &routing)?;

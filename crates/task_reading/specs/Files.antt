@@ -28,7 +28,7 @@ IsReadAs from name = IsRead (option_map_or from.holds name (Some [])) (IsSomeAnd
 -- Each file was read under the name that the form gives it, so that these are the bytes that are told of it, or a read of it failed. One that isn't named counts as empty, and no read of it fails.
 abbrev pub AreReads : Source → Option Form → Reads → Type 0
 AreReads from form reads = (file : File) → let name = name_by form file in MatchOption (reads file)
-    (IsSomeAnd name from.fails) (λ bytes. Keeps (option_map_or from.holds name (Some [])) (Some bytes))
+    (IsSomeAnd name from.fails) (λ b. Keeps (option_map_or from.holds name (Some [])) (Some b))
 
 -- the error is the value's fault, unless memory ran out
 abbrev pub IsFaultOf : {A : Type 0} → AskError → Result A Fault → Type 0

@@ -34,7 +34,7 @@ HasSize (Some (origin_form rel origin)) = Unit {0}
 HasSize (Some (demo_form size)) = (4 ≤ size) × (size ≤ 20000)
 
 -- the table of the forms, by the options with a file for what is asked that stand, of which one at most may, and by the values of the word and of the other options that stand; where none of those stands, a script is asked for that has no name; a size is 1 to 5 digits, from 4 to 20000 (own format)
-abbrev pub form_by : List (FileOption × Text) → (rel vrps plan origin demo : Option Text) → Option Form
+abbrev pub form_by : List (FileOption × Text) → (rel vrps plan asn demo : Option Text) → Option Form
 form_by [] (Some rel) vrps plan None None = Some (file_form rel vrps plan None option.Script)
 form_by (o ∷ []) (Some rel) vrps plan None None = Some (file_form rel vrps plan (Some o.1) o.0)
 form_by [] (Some rel) None None (Some number) None = option_map (origin_form rel) (asn_of number)
@@ -46,7 +46,7 @@ form_by _ _ _ _ _ _ = None
 unfoldable pub form_of : List Text → Option Form
 form_of words = let value = λ (n : String). first_of (codes n) (matches_of asprop_command words) in
     let files = filter_map (λ (o : FileOption × String). option_map (λ f. (o.0, f)) (value o.1))
-        ((option.Script, "script") ∷ (option.Activations, "activations") ∷ []) in
+    ((option.Script, "script") ∷ (option.Activations, "activations") ∷ []) in
     if is_empty (fault_of asprop_command words) then form_by files (value "rel") (value "vrps") (value "scenario") (value "origin") (value "demo") else None
 
 -- the name that a form gives to a file, if it names one; the file of an option is read in the place of the script (own format)

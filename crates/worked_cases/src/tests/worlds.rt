@@ -8,7 +8,9 @@ ghost use Rattle.rank_order.specs.Ranks.{rank_at};
 ghost use Rattle.route_choice.specs.Resources.{AreEntriesLive, AreSeedsLive};
 
 use as_graph::Graph;
-use net_names::{Asn, Class, Links, Path, Prefix, Rel, State, Vrp, put_asn, read_prefix};
+use net_names::{
+    Addr, Asn, Class, Links, Path, Prefix, Rel, State, Vrp, put_asn, read_addr, read_prefix,
+};
 use path_pool::PathPool;
 use policy_laws::{NoStates, RoutePolicy, View};
 use rank_order::Ranks;
@@ -35,6 +37,10 @@ pub(super) fn number(n: u32) -> Result<Asn, Fail>
 
 pub(super) fn prefix(text: &[u8]) -> Result<Prefix, Fail> {
     Ok(read_prefix(text).ok_or("a prefix")?)
+}
+
+pub(super) fn addr(text: &[u8]) -> Result<Addr, Fail> {
+    Ok(read_addr(text).ok_or("an address")?)
 }
 
 pub(super) fn main_prefix() -> Result<Prefix, Fail> {

@@ -12,13 +12,13 @@ announcing-requires-2-clause-ranks g c = λ a. subst (λ (m : RankMap). IsRank (
 
 pub announcing-requires-2-clause-announcers : goal.announcing-requires-2-clause-announcers
 announcing-requires-2-clause-announcers g c = λ q a is.
-    let plans : plan_of c.undo.new.self ≡ c.in_ok-seeds.seeds = c.undo.ensures.plan ∙ (c.announcing.ensures.plan ∙ c.in_ok-rounds.ensures.plan) in
-    subst (λ (x : ℕ). has c.args.graph.now x ≡ true) (sym (c.in_ok-seeds.ensures.origin q a (subst (λ (p : Plan). IsTrue (announces p q a)) plans is))) (search rules)
+    let plans : plan_of c.undo.new.self ≡ plan_of c.in_ok-rounds.rounds = c.undo.ensures.plan ∙ c.announcing.ensures.plan in
+    let five : a ≡ 5 = c.in_ok-rounds.ensures.five q a (subst (λ (p : Plan). IsTrue (announces p q a)) plans is) in
+    subst (λ (x : ℕ). has c.args.graph.now x ≡ true) (c.in_ok-five.ensures ∙ sym five) (search rules)
 
 pub announcing-requires-2-clause-stable : goal.announcing-requires-2-clause-stable
 announcing-requires-2-clause-stable g c =
     let was = c.in_ok-rounds.rounds in
     let now = c.undo.new.self in
-    same_rounds _ c.in_ok-seeds.seeds (plan_of now) 2 (round_count now) (kept was) (kept now)
-    (c.undo.ensures.plan ∙ (c.announcing.ensures.plan ∙ c.in_ok-rounds.ensures.plan)) (c.undo.ensures.rounds ∙ (c.announcing.ensures.rounds ∙ c.in_ok-rounds.ensures.count))
+    same_rounds _ (plan_of was) (plan_of now) 2 (round_count now) (kept was) (kept now) (c.undo.ensures.plan ∙ c.announcing.ensures.plan) (c.undo.ensures.rounds ∙ (c.announcing.ensures.rounds ∙ c.in_ok-rounds.ensures.count))
     (λ round prefix a. c.undo.ensures.kept round prefix a ∙ c.announcing.ensures.kept round prefix a) c.in_ok-rounds.ensures.stable
