@@ -101,6 +101,41 @@ fn ten_bytes(alloc: Global) -> Result<MemInputs, Fail> {
 }
 
 #[test]
+fn each_failing_call_is_a_read_fault(rt: HostRuntime) -> Result<(), Fail> {
+    // `begin`, and then 4, 4, 2 and 0 bytes
+    for call in 1..7u64 {
+        let mut inputs = ten_bytes(rt.alloc())?;
+        inputs.fail_at(call)?;
+        let expected = if call == 6 {
+            b"0123456789".as_slice()
+        } else {
+            b"FAULT".as_slice()
+        };
+        expect_read(&rt, rt.alloc(), &mut inputs, "ten", 10, expected)?;
+    }
+    Ok(())
+}
+
+#[test]
+fn each_failing_call_leaves_a_front_written(rt: HostRuntime) -> Result<(), Fail> {
+    for (call, front) in [
+        (1, b"".as_slice()),
+        (2, b"0123".as_slice()),
+        (3, b"01234567".as_slice()),
+        (4, b"0123456789".as_slice()),
+    ] {
+        let room = Vec::with_capacity(rt.alloc(), 16)?;
+        let mut sink = MemSink::new(rt.alloc(), room);
+        sink.most(4);
+        sink.fail_at(call)?;
+        let written = write_all(&mut sink, b"0123456789");
+        assert_eq!(rt; written.is_ok(), call == 4);
+        expect_text(&rt, sink.bytes(), front);
+    }
+    Ok(())
+}
+
+#[test]
 fn exactly_the_named_reads_fail(rt: HostRuntime) -> Result<(), Fail> {
     let mut inputs = ten_bytes(rt.alloc())?;
     inputs.fail_at(5)?;

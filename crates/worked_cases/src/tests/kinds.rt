@@ -1,9 +1,14 @@
-//! The table of the kinds, worked by hand.
+//! The table of the kinds, worked by hand, and their names.
 use super::worlds::{likes, takes, view};
 use net_names::{Asn, Class, Rel, State};
-use policy_kinds::Kind;
-use policy_laws::RoutePolicy;
+use policy_kinds::{Kind, put_kind, read_kind};
+use policy_laws::{Labelled, RoutePolicy};
 use std::test::Fail;
+
+// What the bound gives, so that the call goes through the trait.
+fn group<P: Labelled>(policy: &P) -> u8 {
+    policy.label()
+}
 
 #[test]
 fn kinds_rank_as_their_table_says(rt: HostRuntime) -> Result<(), Fail> {
@@ -53,5 +58,27 @@ fn kinds_accept_and_export_as_their_table_says(rt: HostRuntime) -> Result<(), Fa
     assert!(rt; Kind::Otc.exports(Class::Origin, None, Rel::Peer));
     assert!(rt; Kind::Otc.marks() && !Kind::Plain.marks());
     assert!(rt; Kind::PreferValid.reads_state() && !Kind::ProviderFirst.reads_state());
+    Ok(())
+}
+
+#[test]
+fn names_are_read_and_printed_and_labels_rise(rt: HostRuntime) -> Result<(), Fail> {
+    let rows: [(&[u8], u8); 6] = [
+        (b"plain", 0),
+        (b"drop-invalid", 1),
+        (b"prefer-valid", 2),
+        (b"provider-first", 3),
+        (b"otc", 4),
+        (b"drop-invalid+otc", 5),
+    ];
+    for row in &rows {
+        let kind = read_kind(row.0).ok_or("a kind")?;
+        assert_eq!(rt; group(&kind), row.1);
+        let mut out = Vec::new(rt.alloc());
+        put_kind(&mut out, kind)?;
+        assert!(rt; out.as_slice() == row.0);
+    }
+    assert!(rt; read_kind(b"Plain").is_none());
+    assert!(rt; read_kind(b"drop-invalid+").is_none());
     Ok(())
 }

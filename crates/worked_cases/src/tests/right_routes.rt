@@ -1,27 +1,19 @@
 //! What is right at an AS, policies by AS, and what goes along a link, worked by hand.
-use super::worlds::{ACROSS, DOWN, Row, graph_of, main_prefix, number, path_of};
+use super::worlds::{ACROSS, DOWN, graph_of, main_prefix, number, path_of};
 use as_graph::Neighbour;
 use net_names::{Asn, Class, Path, Prefix, Rel};
 use policy_kinds::Kind;
 use policy_laws::NoStates;
 use stability_laws::{
-    Book, Entry, Routing, Seed, Seeds, World, Wrong, carried, check_at, class_from, number_sent,
-    offered_view, right_entry,
+    Book, Entry, Routing, Seed, Seeds, World, Wrong, any_order_settles, carried, check_at,
+    class_from, customers_decide, nothing_up, number_sent, offer_follows, offer_names,
+    offered_view, one_answer, one_family, one_stable_routing, right_by_offers, right_follows,
 };
 use std::alloc::Global;
 use std::process::Abort;
 use std::test::Fail;
 
-// AS 1 is the provider of 2 and 3, which are peers and the providers of 4.
-pub(super) const DIAMOND: [Row; 5] = [
-    (1, 2, DOWN),
-    (1, 3, DOWN),
-    (2, 3, ACROSS),
-    (2, 4, DOWN),
-    (3, 4, DOWN),
-];
-
-pub(super) fn routing_of(
+fn routing_of(
     rt: &impl Abort,
     alloc: Global,
     entries: &[(Class, &[u32])],
@@ -41,7 +33,7 @@ pub(super) fn routing_of(
     Ok(routing)
 }
 
-pub(super) fn seed_at_four(rt: &impl Abort, alloc: Global) -> Result<Seeds, Fail> {
+fn seed_at_four(rt: &impl Abort, alloc: Global) -> Result<Seeds, Fail> {
     let mut seeds = Seeds::new(alloc);
     let path = path_of(alloc, &[4])?;
     assert!(rt; path.as_slice().len() < 10);
@@ -64,7 +56,8 @@ fn expect_each(
     }
 }
 
-// What is told of ASes of the diamond where these are the entries and 4 has a seed.
+// What is told of ASes where these are the entries. AS 1 is the provider of 2 and 3, which are peers and the providers of 4,
+// and 4 has a seed.
 fn expect_told(
     rt: &impl Abort,
     alloc: Global,
@@ -72,7 +65,14 @@ fn expect_told(
     told: &[(Asn, Result<(), Wrong>)],
 ) -> Result<(), Fail> {
     let prefix = main_prefix()?;
-    let graph = graph_of(rt, alloc, &DIAMOND)?;
+    let diamond = [
+        (1, 2, DOWN),
+        (1, 3, DOWN),
+        (2, 3, ACROSS),
+        (2, 4, DOWN),
+        (3, 4, DOWN),
+    ];
+    let graph = graph_of(rt, alloc, &diamond)?;
     let seeds = seed_at_four(rt, alloc)?;
     let routing = routing_of(rt, alloc, entries)?;
     let book = Book::new(alloc, Kind::Plain);
@@ -133,33 +133,6 @@ fn entries_that_nobody_gave_are_told(rt: HostRuntime) -> Result<(), Fail> {
         (number(5)?, Err(Wrong::Unexpected)),
     ];
     expect_told(&rt, rt.alloc(), &entries, &told)
-}
-
-#[test]
-fn what_is_right_is_the_seed_the_best_offer_or_nothing(rt: HostRuntime) -> Result<(), Fail> {
-    let (alloc, prefix) = (rt.alloc(), main_prefix()?);
-    let entries: [(Class, &[u32]); 2] = [(Class::Customer, &[2, 4]), (Class::Peer, &[3, 2, 4])];
-    let graph = graph_of(&rt, alloc, &DIAMOND)?;
-    let seeds = seed_at_four(&rt, alloc)?;
-    let mut routing = routing_of(&rt, alloc, &entries)?;
-    let book = Book::new(alloc, Kind::Plain);
-    let world = World {
-        graph: &graph,
-        book: &book,
-        states: &NoStates,
-    };
-    for (asn, numbers) in [(1, [1, 2, 4].as_slice()), (4, [4].as_slice())] {
-        let right = right_entry(alloc, &world, prefix, &seeds, &routing, number(asn)?)?;
-        let entry = right.ok_or("an entry")?;
-        assert!(rt; entry.path.as_slice() == path_of(alloc, numbers)?.as_slice());
-    }
-    let (two, three) = (number(2)?, number(3)?);
-    assert!(rt; right_entry(alloc, &world, prefix, &seeds, &routing, two)?.is_none());
-    assert_eq!(rt; routing.next(None), Some(two));
-    routing.clear(two);
-    assert_eq!(rt; routing.next(None), Some(three));
-    assert_eq!(rt; routing.next(Some(three)), None);
-    Ok(())
 }
 
 #[test]
@@ -236,4 +209,18 @@ fn an_entry_without_a_path_is_not_offered(rt: HostRuntime) -> Result<(), Fail> {
     );
     assert!(rt; view.is_none());
     Ok(())
+}
+
+#[test]
+fn the_laws_hold_of_the_kinds() {
+    offer_follows::<Kind>();
+    offer_names::<Kind>();
+    right_by_offers::<Kind>();
+    right_follows::<Kind>();
+    one_answer::<Kind>();
+    nothing_up::<Kind>();
+    customers_decide::<Kind>();
+    one_stable_routing::<Kind>();
+    one_family::<Kind>();
+    any_order_settles::<Kind>();
 }
