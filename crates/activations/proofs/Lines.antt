@@ -7,7 +7,7 @@ use Rattle.scenario_text.specs.Forms.{for_of}
 use Rattle.activations.specs.declared.acts.Acts.{Acts}
 use Rattle.activations.specs.declared.reading.ActsError.{ActsError}
 use Rattle.activations.specs.declared.reading.ActsError.TheVariants.{Memory, Unreadable, Twice, TooMany, NoFor}
-use Rattle.activations.specs.Files.{Fails, Gives, acts_by, only_for, with_line}
+use Rattle.activations.specs.Files.{Fails, Gives, acts_by, no_acts, with_line}
 
 -- the fault of a line is that of the file
 pub fails_at : (e : ActsError) (acts : Acts) (line : ℕ × List ℕ) (lines more : List (ℕ × List ℕ)) (whole : Result Acts ActsError) → lines ≡ line ∷ more → Fails e (with_line acts line) → said_on with_line acts lines ≡ whole → Fails e whole
@@ -28,6 +28,6 @@ unfolding acts_by
 unnamed ls rest number line e f = rw (e, ← f) refl
 
 pub named : (ls rest : List (ℕ × List ℕ)) (number : ℕ) (line : List ℕ) (names : ℕ × PrefixValue) (start : Acts) (r : Result Acts ActsError) → ls ≡ (number, line) ∷ rest → Some names ≡ for_of line
-    → start ≡ only_for number names → Gives r (said_on with_line start rest) → Gives r (acts_by ls)
+    → start ≡ no_acts number names → Gives r (said_on with_line start rest) → Gives r (acts_by ls)
 unfolding acts_by
 named ls rest number line names start r is f new given = rw (is, ← f) (subst (λ (a : Acts). Gives r (said_on with_line a rest)) new given)

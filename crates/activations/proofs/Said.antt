@@ -28,7 +28,7 @@ use Rattle.activations.specs.declared.acts.Acts.{Acts}
 use Rattle.activations.specs.declared.reading.ActsError.{ActsError}
 use Rattle.activations.specs.declared.reading.ActsError.TheVariants.{Unreadable, Twice, TooMany}
 use Rattle.activations.specs.declared.reading.TheConstants.{MOST_ACTIVATIONS}
-use Rattle.activations.specs.Files.{act_of, acts_by, hold_of, numbers_in, only_for, with_acts, with_hold, with_line}
+use Rattle.activations.specs.Files.{act_of, acts_by, hold_of, numbers_in, no_acts, with_acts, with_hold, with_line}
 use Rattle.activations.specs.Laws.{AreSaid, IsFile, said_by}
 
 abbrev Says : Type 0
@@ -118,7 +118,7 @@ record Open (n : ℕ) (names : ℕ × PrefixValue) (lines : List (ℕ × List �
   pub first : s.for_line ≡ n
   pub named : ◌≡◌ {A = ℕ × PrefixValue} (s.round, s.prefix) names
 
-opened : (n : ℕ) (names : ℕ × PrefixValue) → Open n names [] (only_for n names)
+opened : (n : ℕ) (names : ℕ × PrefixValue) → Open n names [] (no_acts n names)
 opened n names = record {
   said = record { holds = []; runs = []; say = refl; once = tt; few = omega arith; held = refl; list = refl; named = refl };
   closed = inl refl;
@@ -300,10 +300,10 @@ unfolding acts_by
 file_said [] acts is = absurd cc
 file_said (l ∷ ls) acts is = by (for_of l.1) refl is
   where
-    by : (o : Option (ℕ × PrefixValue)) → for_of l.1 ≡ o → (ok_or o (Unreadable l.0) >>= λ x. said_on with_line (only_for l.0 x) ls) ≡ Ok acts → IsFile (l ∷ ls) acts
+    by : (o : Option (ℕ × PrefixValue)) → for_of l.1 ≡ o → (ok_or o (Unreadable l.0) >>= λ x. said_on with_line (no_acts l.0 x) ls) ≡ Ok acts → IsFile (l ∷ ls) acts
     by None e is = absurd cc
     by (Some x) e is =
-        let o = all_said l.0 x [] ls (only_for l.0 x) acts (opened l.0 x) is in
+        let o = all_said l.0 x [] ls (no_acts l.0 x) acts (opened l.0 x) is in
         record { text = l.1; rest = ls; lines_are = ap (λ n. (n, l.1) ∷ ls) (sym o.first); names = e ∙ ap (λ (y : ℕ × PrefixValue). Some y) (sym o.named); said = o.said }
 
 pub said_file : (lines : List (ℕ × List ℕ)) (acts : Acts) → IsFile lines acts → acts_by lines ≡ Ok acts
@@ -311,5 +311,5 @@ unfolding acts_by
 said_file lines acts f =
     let said = f.said in
     let few : length (flat_map (λ r. r.1) said.runs) ≤ MOST_ACTIVATIONS = subst (λ t. length t ≤ MOST_ACTIVATIONS) said.list said.few in
-    rw (f.lines_are, f.names) (holds_made said.holds said.runs f.rest (only_for acts.for_line (acts.round, acts.prefix)) [] refl refl said.say said.once few
+    rw (f.lines_are, f.names) (holds_made said.holds said.runs f.rest (no_acts acts.for_line (acts.round, acts.prefix)) [] refl refl said.say said.once few
     ∙ (λ i. Ok (record acts { held = sym said.held i; list = sym said.list i; named = sym said.named i })))

@@ -15,7 +15,7 @@ use Rattle.stability_laws.specs.declared.entry.Entry.{Entry}
 use Rattle.stability_laws.specs.Runs.{HasOnly}
 use Rattle.stability_laws.proofs.Pieces.{occurs_left, occurs_right}
 use Rattle.activations.specs.declared.acts.Acts.{Acts}
-use Rattle.activations.specs.Files.{only_for}
+use Rattle.activations.specs.Files.{no_acts}
 use Rattle.activations.specs.Named.{AreSound, asns_of, first_foreign_in}
 
 none_some : (e : Entry) (Q : Type 0) → None ≡ Some e → Q
@@ -27,7 +27,7 @@ asns_more [] line (a ∷ ases) = ap (λ t. a ∷ t) (asns_more [] line ases)
 asns_more (x ∷ named) line ases = ap (λ t. x.1 ∷ t) (asns_more named line ases)
 
 -- the first line alone says nothing of an AS
-pub sound_none : (acts : Acts) (line : ℕ) (names : ℕ × PrefixValue) → acts ≡ only_for line names → AreSound acts
+pub sound_none : (acts : Acts) (line : ℕ) (names : ℕ × PrefixValue) → acts ≡ no_acts line names → AreSound acts
 sound_none acts line names is = record {
   own = λ a e h. none_some e (StartsWith a e.path × (length e.path < 16777216)) (none a ∙ h);
   held = λ a e h. none_some e (occurs a (asns_of acts.named) ≡ true) (none a ∙ h);

@@ -29,13 +29,13 @@ hold_of text = option_filter (λ x. starts_with nat_eq x.1.path (x.0 ∷ []))
 
 -- A A .. are activated in turn (own format)
 unfoldable pub act_of : List ℕ → Option (List ℕ)
-act_of text = option_map (λ x. x.0) (option_filter (λ x. not (is_some x.1)) (numbers_in (fields 32 text)))
+act_of t = option_map (λ x. x.0) (option_filter (λ x. not (is_some x.1)) (numbers_in (fields 32 t)))
 
 -- with what A holds: before all activations, and of each AS once (own format)
 abbrev pub with_hold : Acts → ℕ → ℕ × Entry → Result Acts ActsError
-with_hold acts line hold = if nat_lt 0 (length acts.list) then Err (Unreadable line)
-    else (if is_some (map.get acts.held hold.0) then Err (Twice line)
-    else Ok (record acts { held = map.insert acts.held hold.0 hold.1; named = acts.named ++ (line, hold.0) ∷ [] }))
+with_hold all n h = if nat_lt 0 (length all.list) then Err (Unreadable n)
+    else (if is_some (map.get all.held h.0) then Err (Twice n)
+    else Ok (record all { held = map.insert all.held h.0 h.1; named = all.named ++ (n, h.0) ∷ [] }))
 
 -- with ASes that are activated: at most 1,000,000 in all (own format)
 abbrev pub with_acts : Acts → ℕ → List ℕ → Result Acts ActsError
@@ -44,17 +44,16 @@ with_acts acts line ases = if nat_le (length acts.list + length ases) MOST_ACTIV
 
 -- with a line, `hold A CLASS N N ..` or `act A A ..`, behind what was said before (own format)
 abbrev pub with_line : Acts → ℕ × List ℕ → Result Acts ActsError
-with_line acts l = unwrap_or (option_or (form "hold " hold_of (with_hold acts l.0) l.1) (form "act " act_of (with_acts acts l.0) l.1))
-    (Err (Unreadable l.0))
+with_line acts l = unwrap_or (option_or (form "hold " hold_of (with_hold acts l.0) l.1) (form "act " act_of (with_acts acts l.0) l.1)) (Err (Unreadable l.0))
 
 -- what a line `for R P` says alone
-abbrev pub only_for : ℕ → ℕ × PrefixValue → Acts
-only_for line x = record { for_line = line; round = x.0; prefix = x.1; held = map.empty; list = []; named = [] }
+abbrev pub no_acts : ℕ → ℕ × PrefixValue → Acts
+no_acts line x = record { for_line = line; round = x.0; prefix = x.1; held = map.empty; list = []; named = [] }
 
 -- what the lines say, of which the first is `for R P` (own format)
 unfoldable pub acts_by : List (ℕ × List ℕ) → Result Acts ActsError
 acts_by [] = Err NoFor
-acts_by (l ∷ ls) = ok_or (for_of l.1) (Unreadable l.0) >>= λ x. said_on with_line (only_for l.0 x) ls
+acts_by (l ∷ ls) = ok_or (for_of l.1) (Unreadable l.0) >>= λ x. said_on with_line (no_acts l.0 x) ls
 
 -- what a file says
 abbrev pub acts_of : List ℕ → Result Acts ActsError

@@ -2,7 +2,7 @@
 ghost use Rattle.std.specs.Prelude.{◌≡◌, ◌==◌ as nat_eq, ◌+◌, ◌^◌, ◌<◌, ◌≤◌, [], ◌∷◌, IfOk, true, length};
 ghost use Rattle.std.specs.List.{starts_with};
 ghost use Rattle.net_names.specs.Lines.{kept_from, said_on};
-ghost use Rattle.activations.specs.Files.{Gives, acts_of, only_for, with_acts, with_hold, with_line};
+ghost use Rattle.activations.specs.Files.{Gives, acts_of, no_acts, with_acts, with_hold, with_line};
 ghost use Rattle.activations.specs.Named.{AreSound};
 
 use crate::acts::{Acts, NamedAses};
@@ -128,7 +128,7 @@ fn put_lines(alloc: Global, acts: Acts, number: u32, bytes: &[u8]) -> Result<Act
 
 // What a line of this number says alone that names these.
 fn begun(alloc: Global, number: u32, names: (u32, Prefix)) -> Acts
-    ensures { result ≡ only_for number names }
+    ensures { result ≡ no_acts number names }
 {
     let (round, prefix) = names;
     Acts {

@@ -13,7 +13,7 @@ use Rattle.sim_core.specs.declared.errors.EditError.TheVariants as edit
 use Rattle.sim_core.specs.Laws.{IsCycle, OneAnswer, OneCount, OneReason}
 use Rattle.asprop_run.specs.Inside.{IsInside}
 use Rattle.asprop_run.specs.Laws.{ClosesAct, ClosesCycle, OneText}
-use Rattle.asprop_run.specs.Refusals.{edit_refusal_text, refusal_text}
+use Rattle.asprop_run.specs.Refusals.{edit_refusal, refusal_text}
 use Rattle.asprop_run.specs.Replies.{AnswersJob, AnswersJobs, IsReply, head}
 use Rattle.asprop_run.proofs.Named.{in_world}
 use Rattle.asprop_run.proofs.OneSettling.{one_acts_text}
@@ -42,8 +42,8 @@ closes_by : (w : World) (e : Edit) (x : EditError) → IsReason w e x → IsCycl
 closes_by w e x h c = (c.0, subst (IsReason w e) c.1 h)
 
 -- the texts of two reasons
-refusal_agrees : (w : World) (e : Edit) (x y : EditError) (s t : Text) → IsReason w e x → s ≡ edit_refusal_text x → t ≡ edit_refusal_text y → (x ≡ y) ⊎ (IsCycle x × IsCycle y) → (ClosesAct w (act.Edit e) → ⊥) → s ≡ t
-refusal_agrees w e x y s t h a b (inl same) none = a ∙ ap edit_refusal_text same ∙ sym b
+refusal_agrees : (w : World) (e : Edit) (x y : EditError) (s t : Text) → IsReason w e x → s ≡ edit_refusal x → t ≡ edit_refusal y → (x ≡ y) ⊎ (IsCycle x × IsCycle y) → (ClosesAct w (act.Edit e) → ⊥) → s ≡ t
+refusal_agrees w e x y s t h a b (inl same) none = a ∙ ap edit_refusal same ∙ sym b
 refusal_agrees w e x y s t h a b (inr cycles) none = absurd (none (closes_by w e x h cycles.0))
 
 -- the entries that differ, counted over one world after the edit

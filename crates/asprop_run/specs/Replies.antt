@@ -12,7 +12,7 @@ use Rattle.sim_core.specs.declared.errors.EditError.{EditError}
 use Rattle.sim_core.specs.declared.errors.QueryError.{QueryError}
 use Rattle.as_graph.specs.Topology.{as_count}
 use Rattle.task_reading.specs.Jobs.{Job, acts_job, counts_job, line_job}
-use Rattle.asprop_run.specs.Refusals.{edit_refusal_text, refusal_text}
+use Rattle.asprop_run.specs.Refusals.{edit_refusal, refusal_text}
 use Rattle.asprop_run.specs.Settling.{IsActsText, fact}
 
 -- the text is what is told for what a line asks, and the world after it: a query is answered, or refused for its reason; an edit that is allowed leaves the edited world, and the text says how many entries of the one family of routings differ from those of the one family after it; one that is refused says why, and the world stays (own format)
@@ -22,7 +22,7 @@ IsReply w k (Query q) text true after = (e : QueryError) × (refusal_of w q ≡ 
 IsReply w k (Edit e) text false after =
     IsAllowed w e × (after ≡ edited w e) × (now : Kept) × IsKept after now
     × (routes : ℕ) × HasChanges after.plan after.rounds k.routings now.routings routes × (text ≡ codes "ok " ++ (decimal routes ++ 10 ∷ []))
-IsReply w k (Edit e) text true after = (error : EditError) × IsReason w e error × (text ≡ edit_refusal_text error) × (after ≡ w)
+IsReply w k (Edit e) text true after = (error : EditError) × IsReason w e error × (text ≡ edit_refusal error) × (after ≡ w)
 
 -- the reply to what a line asks was appended (own format)
 pub record AppendsReply (w : World) (kept : Kept) (asks : Act) (refused : Bool) (old new : Text) (after : World) : Type 0 where

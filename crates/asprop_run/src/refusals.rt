@@ -1,8 +1,8 @@
 //! The texts of refused queries, and of edits.
 ghost use Rattle.std.specs.Prelude.{◌≡◌, ◌≢◌, ◌++◌, [], ◌∷◌, OnOk, codes, decimal};
-ghost use Rattle.sim_core.specs.declared.errors.QueryError.TheVariants.{NotWatched, UnknownAs, UnknownRound};
+ghost use Rattle.sim_core.specs.declared.errors.QueryError.TheVariants.{NotWatched, UnknownAs, UnknownPrefix, UnknownRound};
 ghost use Rattle.sim_core.specs.declared.errors.EditError.TheVariants.{AbsentAnnouncement, AbsentLink, AbsentVrp, Limit, Memory, ProviderCycle};
-ghost use Rattle.asprop_run.specs.Refusals.{edit_refusal_text, limit_name as limit_name_of, refusal_text, unknown_prefix_text};
+ghost use Rattle.asprop_run.specs.Refusals.{edit_refusal, limit_name as limit_name_of, refusal_text};
 
 use cycle_check::Cycle;
 use net_names::{Addr, Asn, NoMemory, Prefix, Vrp, put_addr, put_asn, put_prefix};
@@ -30,7 +30,7 @@ fn put_unknown_round(out: &mut Vec<u8>, round: u32) -> Result<(), NoMemory>
 }
 
 fn put_unknown_prefix(out: &mut Vec<u8>, prefix: Prefix) -> Result<(), NoMemory>
-    ensures { OnOk result (out.new.items ≡ out.old.items ++ unknown_prefix_text prefix) }
+    ensures { OnOk result (out.new.items ≡ out.old.items ++ refusal_text (UnknownPrefix prefix)) }
 {
     put_bytes(out, b"refused unknown-prefix ")?;
     put_prefix(out, prefix)?;
@@ -78,7 +78,7 @@ pub fn put_done(out: &mut Vec<u8>, routes: u64) -> Result<(), NoMemory>
 }
 
 fn put_absent_link(out: &mut Vec<u8>, lo: Asn, hi: Asn) -> Result<(), NoMemory>
-    ensures { OnOk result (out.new.items ≡ out.old.items ++ edit_refusal_text (AbsentLink lo hi)) }
+    ensures { OnOk result (out.new.items ≡ out.old.items ++ edit_refusal (AbsentLink lo hi)) }
 {
     put_bytes(out, b"refused absent-link ")?;
     put_asn(out, lo)?;
@@ -98,7 +98,7 @@ fn put_number(out: &mut Vec<u8>, number: u32) -> Result<(), NoMemory>
 }
 
 fn put_absent_vrp(out: &mut Vec<u8>, vrp: Vrp) -> Result<(), NoMemory>
-    ensures { OnOk result (out.new.items ≡ out.old.items ++ edit_refusal_text (AbsentVrp vrp)) }
+    ensures { OnOk result (out.new.items ≡ out.old.items ++ edit_refusal (AbsentVrp vrp)) }
 {
     put_bytes(out, b"refused absent-vrp ")?;
     put_number(out, vrp.asn())?;
@@ -110,7 +110,7 @@ fn put_absent_vrp(out: &mut Vec<u8>, vrp: Vrp) -> Result<(), NoMemory>
 }
 
 fn put_absent_announcement(out: &mut Vec<u8>, prefix: Prefix, asn: Asn) -> Result<(), NoMemory>
-    ensures { OnOk result (out.new.items ≡ out.old.items ++ edit_refusal_text (AbsentAnnouncement prefix asn)) }
+    ensures { OnOk result (out.new.items ≡ out.old.items ++ edit_refusal (AbsentAnnouncement prefix asn)) }
 {
     put_bytes(out, b"refused absent-announcement ")?;
     put_prefix(out, prefix)?;
@@ -131,7 +131,7 @@ fn limit_name(which: EditLimit) -> &'static str
 }
 
 fn put_limit(out: &mut Vec<u8>, which: EditLimit) -> Result<(), NoMemory>
-    ensures { OnOk result (out.new.items ≡ out.old.items ++ edit_refusal_text (Limit which)) }
+    ensures { OnOk result (out.new.items ≡ out.old.items ++ edit_refusal (Limit which)) }
 {
     let alloc = *out.allocator();
     let name = limit_name(which);
@@ -142,7 +142,7 @@ fn put_limit(out: &mut Vec<u8>, which: EditLimit) -> Result<(), NoMemory>
 }
 
 fn put_cycle(out: &mut Vec<u8>, cycle: &Cycle) -> Result<(), NoMemory>
-    ensures { OnOk result (out.new.items ≡ out.old.items ++ edit_refusal_text (ProviderCycle cycle.now)) }
+    ensures { OnOk result (out.new.items ≡ out.old.items ++ edit_refusal (ProviderCycle cycle.now)) }
 {
     put_bytes(out, b"refused provider-cycle ")?;
     put_numbers(out, cycle.as_slice())?;
@@ -151,7 +151,7 @@ fn put_cycle(out: &mut Vec<u8>, cycle: &Cycle) -> Result<(), NoMemory>
 
 /// Appends what a refused edit is told. Nothing is told of want of memory.
 pub fn put_edit_refusal(out: &mut Vec<u8>, error: &EditError) -> Result<(), NoMemory>
-    ensures text { OnOk result (out.new.items ≡ out.old.items ++ edit_refusal_text error.now) }
+    ensures text { OnOk result (out.new.items ≡ out.old.items ++ edit_refusal error.now) }
     ensures told { OnOk result (error.now ≢ Memory) }
 {
     match error {

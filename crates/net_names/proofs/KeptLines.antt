@@ -12,17 +12,17 @@ pub line_uncut : (bytes : List ℕ) → None ≡ cut_at 10 bytes → IsLineAndRe
 line_uncut bytes c number = rw (fields_uncut 10 bytes (sym c)) refl
 
 -- what the lines say where another is left
-pub goes_on : {S E : Type 0} (says : S → ℕ × List ℕ → Result S E) (said now : S) (line : ℕ × List ℕ) (lines more : List (ℕ × List ℕ)) (whole : Result S E)
+pub goes_on : {S X E : Type 0} (says : S → X → Result S E) (said now : S) (line : X) (lines more : List X) (whole : Result S E)
     → lines ≡ line ∷ more → says said line ≡ Ok now → said_on says said lines ≡ whole → said_on says now more ≡ whole
 unfolding said_on
 goes_on says said now line lines more whole e read so_far = let h = rw (e, read) at so_far in h
 
-pub stops : {S E : Type 0} (says : S → ℕ × List ℕ → Result S E) (fault : E) (said : S) (line : ℕ × List ℕ) (lines more : List (ℕ × List ℕ)) (whole : Result S E)
+pub stops : {S X E : Type 0} (says : S → X → Result S E) (fault : E) (said : S) (line : X) (lines more : List X) (whole : Result S E)
     → lines ≡ line ∷ more → says said line ≡ Err fault → said_on says said lines ≡ whole → whole ≡ Err fault
 unfolding said_on
 stops says fault said line lines more whole e read so_far = let h = rw (e, read) at so_far in sym h
 
-pub ends : {S E : Type 0} (says : S → ℕ × List ℕ → Result S E) (said : S) (lines : List (ℕ × List ℕ)) (whole : Result S E)
+pub ends : {S X E : Type 0} (says : S → X → Result S E) (said : S) (lines : List X) (whole : Result S E)
     → lines ≡ [] → said_on says said lines ≡ whole → whole ≡ Ok said
 unfolding said_on
 ends says said lines whole e so_far = let h = rw e at so_far in sym h

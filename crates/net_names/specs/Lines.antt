@@ -14,7 +14,7 @@ abbrev pub IsLineAndRest : List ℕ → List ℕ → List ℕ → Type 0
 IsLineAndRest bytes line rest = (number : ℕ) → kept_from number bytes
     ≡ (if not (is_skipped line) then (number, line) ∷ kept_from (number + 1) rest else kept_from (number + 1) rest)
 
--- what the lines say one after the other, behind what was said before, or the first fault (own format)
-unfoldable pub said_on : {S E : Type 0} → (S → ℕ × List ℕ → Result S E) → S → List (ℕ × List ℕ) → Result S E
+-- what lines, or other items, say one after the other, behind what was said before, or the first fault (own format)
+unfoldable pub said_on : {S X E : Type 0} → (S → X → Result S E) → S → List X → Result S E
 said_on says said [] = Ok said
-said_on says said (line ∷ lines) = says said line >>= λ now. said_on says now lines
+said_on says said (x ∷ xs) = says said x >>= λ now. said_on says now xs

@@ -17,5 +17,5 @@ unless fault value = option_map_or Err fault value
 
 -- the first fault of items that stand behind others, where it is told which fault an item has behind those before it
 abbrev pub first_fault : {A E : Type 0} → (List A → A → Option E) → List A → List A → Option E
-first_fault fault before [] = None
-first_fault fault before (x ∷ more) = option_or (fault before x) (first_fault fault (before ++ x ∷ []) more)
+first_fault fault ys [] = None
+first_fault fault ys (x ∷ xs) = option_or (fault ys x) (first_fault fault (ys ++ x ∷ []) xs)

@@ -46,8 +46,7 @@ refusal_of w q =
 abbrev pub IsAnswer : World → Kept → Query → List ℕ → Type 0
 IsAnswer w k (Routes n p) t = t ≡ table (topology w) (λ a. entry_row a (k.routings n p a))
 IsAnswer w k (Route n p a) t = t ≡ entry_row a (k.routings n p a)
-IsAnswer w k (Trace n a addr) t = (walk : List ℕ) × (end : End) ×
-    IsTrace (next_hop w.plan (k.routings n) addr) a walk end × (t ≡ row (end_word end ∷ numbers_text walk ∷ []))
+IsAnswer w k (Trace n a addr) t = (walk : List ℕ) × (end : End) × IsTrace (next_hop w.plan (k.routings n) addr) a walk end × (t ≡ row (end_word end ∷ numbers_text walk ∷ []))
 IsAnswer w k (Report n addr) t = t ≡ report_text (λ g. how_many w (in_group w k g))
     (λ g e. how_many w (λ a. in_group w k g a && (same_end.ghosts).eq (k.ends n addr a) e)) (announcers_of w.plan)
 IsAnswer w k Ranks t = t ≡ table (topology w) (λ a. row (decimal a ∷ decimal (k.ranks a) ∷ []))

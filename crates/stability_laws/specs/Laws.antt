@@ -115,6 +115,6 @@ PathsGoOn {P} meaning =
     (slice_get e.path 0 ≡ Some a) × (announces plan prefix a ≡ false → (b : ℕ) × (slice_get e.path 1 ≡ Some b) × (has w b ≡ true))
 
 -- the height of a world is how many ASes its longest chain of providers and customers has (Gao and Rexford 2001)
-pub record IsHeight (w : Topology) (height : ℕ) : Type 0 where
-  pub most : (a : ℕ) (xs : List ℕ) → has w a ≡ true → IsChainFrom (relation w) a xs → length xs ≤ height
-  pub reached : (height ≡ 0) ⊎ ((a : ℕ) × (xs : List ℕ) × (has w a ≡ true) × IsChainFrom (relation w) a xs × (length xs ≡ height))
+pub record IsHeight (w : Topology) (h : ℕ) : Type 0 where
+  pub most : (a : ℕ) (xs : List ℕ) → has w a ≡ true → IsChainFrom (relation w) a xs → length xs ≤ h
+  pub reached : (h ≡ 0) ⊎ ((a : ℕ) × (xs : List ℕ) × (has w a ≡ true) × IsChainFrom (relation w) a xs × (length xs ≡ h))

@@ -18,4 +18,4 @@ HasOnly has xs = (a : ℕ) → occurs a xs ≡ true → has a ≡ true
 -- the list begins with so many pieces, in each of which every AS stands (Gao and Rexford 2001, fair activation)
 abbrev pub HasPieces : (ℕ → Bool) → ℕ → List ℕ → Type 0
 HasPieces has zero xs = ⊤
-HasPieces has (suc k) xs = (ys : List ℕ) × (zs : List ℕ) × (xs ≡ ys ++ zs) × HasAll has ys × HasPieces has k zs
+HasPieces has (suc k) xs = (ys zs : List ℕ) × (xs ≡ ys ++ zs) × HasAll has ys × HasPieces has k zs

@@ -7,6 +7,7 @@ use Rattle.caida_reader.specs.declared.errors.RelError.TheVariants as rel
 use Rattle.caida_reader.specs.declared.errors.RelError.TheVariants.{SelfLink, Conflict, TooManyLinks}
 use Rattle.roa_table.specs.declared.errors.VrpError.TheVariants as vrp
 use Rattle.scenario_text.specs.PlaceTexts.{place_text}
+use Rattle.scenario_text.specs.declared.faults.LimitOf.{LimitOf}
 use Rattle.scenario_text.specs.declared.faults.LimitOf.TheVariants.{Announcements, Prefixes, Path, Rounds, Leakers, Watch}
 use Rattle.scenario_text.specs.declared.faults.ScenarioError.TheVariants as scenario
 use Rattle.scenario_text.specs.declared.faults.ScenarioError.TheVariants.{Limit}
@@ -29,6 +30,15 @@ message text = codes "asprop: " ++ text ++ 10 ∷ []
 abbrev pub placed : String → ℕ → String → Text
 placed word n text = codes word ++ codes " " ++ (decimal n ++ (codes ": " ++ codes text))
 
+-- what a scenario has at most (own format)
+abbrev pub limit_text : LimitOf → String
+limit_text Announcements = "64 announcements"
+limit_text Prefixes = "32 prefixes"
+limit_text Path = "64 numbers in a path"
+limit_text Rounds = "4 rounds"
+limit_text Leakers = "64 leakers in a round"
+limit_text Watch = "16 watched addresses"
+
 -- the table of causes: the status and the text, with the place in the file, of each (own format). Of a reader that memory runs out in nothing is told by this table: the run ends for want of memory, and the last row is never asked for
 abbrev pub cause_of : Cause → Status × Text
 cause_of Unread = (status.ReadFault, codes "read fault")
@@ -46,17 +56,7 @@ cause_of (Scenario scenario.NotJson) = (BadInput, codes "not JSON")
 cause_of (Scenario (scenario.Shape place)) = (BadInput, place_text place ++ codes ": wrong shape")
 cause_of (Scenario (scenario.Value place)) = (BadInput, place_text place ++ codes ": bad value")
 cause_of (Scenario (scenario.Twice place)) = (BadInput, place_text place ++ codes ": named twice")
-cause_of (Scenario (Limit which)) = (
-  TooLarge,
-  codes "more than " ++ codes (elim which [
-    | Announcements ↦ "64 announcements"
-    | Prefixes ↦ "32 prefixes"
-    | Path ↦ "64 numbers in a path"
-    | Rounds ↦ "4 rounds"
-    | Leakers ↦ "64 leakers in a round"
-    | Watch ↦ "16 watched addresses"
-  ]),
-)
+cause_of (Scenario (Limit which)) = (TooLarge, codes "more than " ++ codes (limit_text which))
 cause_of (Script (script.Unreadable n)) = (BadInput, placed "line" n "unreadable")
 cause_of (Script (script.TooMany n)) = (TooLarge, placed "line" n "more than 100000 commands")
 cause_of (Acts (acts.Unreadable n)) = (BadInput, placed "line" n "unreadable")
