@@ -19,9 +19,12 @@ use Rattle.std.specs.Result.{result_map_both}
 use Rattle.activations.specs.Files.{acts_of}
 use Rattle.activations.specs.declared.reading.ActsError.{ActsError}
 use Rattle.activations.specs.declared.reading.ActsError.TheVariants as acts
+use Rattle.message_sim.specs.Files.{deliveries_of}
+use Rattle.message_sim.specs.declared.reading.DeliveriesError.{DeliveriesError}
+use Rattle.message_sim.specs.declared.reading.DeliveriesError.TheVariants as deliveries
 use Rattle.task_reading.specs.declared.words.FileOption.{FileOption}
 use Rattle.task_reading.specs.declared.words.FileOption.TheVariants as option
-use Rattle.task_reading.specs.Jobs.{acts_job, line_job}
+use Rattle.task_reading.specs.Jobs.{acts_job, line_job, messages_job}
 use Rattle.task_reading.specs.Asking.{Reads, asked, jobs_in, read_as, bytes_of}
 use Rattle.task_reading.specs.Words.{Form, origin_form, file_form, demo_form}
 use Rattle.task_reading.specs.declared.types.File.{File}
@@ -103,6 +106,12 @@ other_acts form which (acts.Twice n) = bad form _ refl
 other_acts form which (acts.TooMany n) = large form _ refl
 other_acts form which acts.NoFor = bad form _ refl
 
+pub other_deliveries : (form : Option Form) (which : File) (e : DeliveriesError) → IsOther form (fault.InFile which (cause.Deliveries e))
+other_deliveries form which deliveries.Memory = bad form _ refl
+other_deliveries form which (deliveries.Unreadable n) = bad form _ refl
+other_deliveries form which (deliveries.TooMany n) = large form _ refl
+other_deliveries form which deliveries.NoFor = bad form _ refl
+
 -- a value that is none has a cause of its reader
 cause_by : {A B E : Type 0} (f : A → B) (as_cause : E → Cause) (form : Option Form) (which : File) → ((e : E) → IsOther form (fault.InFile which (as_cause e)))
     → (value : Result A E) (c : Cause) → result_map_both f as_cause value ≡ Err c → IsOther form (fault.InFile which c)
@@ -112,6 +121,7 @@ cause_by f as_cause form which others (Err e) c h = let is : as_cause e ≡ c = 
 other_jobs : (form : Option Form) (which : File) (o : FileOption) (bytes : List ℕ) (c : Cause) → jobs_in o bytes ≡ Err c → IsOther form (fault.InFile which c)
 other_jobs form which option.Script bytes c h = cause_by (map (line_job true)) cause.Script form which (other_script form which) (script_of bytes) c h
 other_jobs form which option.Activations bytes c h = cause_by (λ acts. acts_job acts ∷ []) cause.Acts form which (other_acts form which) (acts_of bytes) c h
+other_jobs form which option.Messages bytes c h = cause_by (λ deliveries. messages_job deliveries ∷ []) cause.Deliveries form which (other_deliveries form which) (deliveries_of bytes) c h
 
 -- a line that names what isn't in the world
 pub other_line : (form : Option Form) (which : File) (line : ℕ) → IsOther form (fault.InFile which (cause.NotInWorld line))

@@ -2,7 +2,7 @@
 use Rattle.std.proofs.Common.{inl, inr, Bool, true, false, All, List, [], ◌∷◌, map, refl}
 use Rattle.std.proofs.lemmas.List.Elements.{All-cons, All-nil}
 use Rattle.scenario_text.specs.LineValues.{LineValue}
-use Rattle.task_reading.specs.Jobs.{AreAlike, IsOfLines, counts_job, jobs_of, line_job}
+use Rattle.task_reading.specs.Jobs.{AreAlike, IsOfLines, acts_job, counts_job, jobs_of, line_job, messages_job}
 use Rattle.task_reading.specs.declared.jobs.Asks.{Asks}
 use Rattle.task_reading.specs.declared.jobs.Asks.TheVariants as asks
 
@@ -13,4 +13,5 @@ of_lines heads (line ∷ lines) = All-cons IsOfLines (line_job heads line) (map 
 pub alike : (a : Asks) → AreAlike (jobs_of a)
 alike (asks.Lines true heads lines) = inl (All-cons IsOfLines counts_job (map (line_job heads) lines) tt (of_lines heads lines))
 alike (asks.Lines false heads lines) = inl (of_lines heads lines)
-alike (asks.Activations acts) = inr (acts, refl)
+alike (asks.Activations acts) = inr (acts_job acts, refl)
+alike (asks.Messages deliveries) = inr (messages_job deliveries, refl)

@@ -5,6 +5,7 @@ use Rattle.clap.specs.Walk.{Text}
 use Rattle.activations.specs.declared.reading.ActsError.TheVariants as acts
 use Rattle.caida_reader.specs.declared.errors.RelError.TheVariants as rel
 use Rattle.caida_reader.specs.declared.errors.RelError.TheVariants.{SelfLink, Conflict, TooManyLinks}
+use Rattle.message_sim.specs.declared.reading.DeliveriesError.TheVariants as deliveries
 use Rattle.roa_table.specs.declared.errors.VrpError.TheVariants as vrp
 use Rattle.scenario_text.specs.PlaceTexts.{place_text}
 use Rattle.scenario_text.specs.declared.faults.LimitOf.{LimitOf}
@@ -14,7 +15,7 @@ use Rattle.scenario_text.specs.declared.faults.ScenarioError.TheVariants.{Limit}
 use Rattle.scenario_text.specs.declared.script.ScriptError.TheVariants as script
 use Rattle.task_reading.specs.Words.{Form, name_by}
 use Rattle.task_reading.specs.declared.types.Cause.{Cause}
-use Rattle.task_reading.specs.declared.types.Cause.TheVariants.{Unread, TooLong, Relation, Payload, Scenario, Script, Acts, NotInWorld}
+use Rattle.task_reading.specs.declared.types.Cause.TheVariants.{Unread, TooLong, Relation, Payload, Scenario, Script, Acts, Deliveries, NotInWorld}
 use Rattle.task_reading.specs.declared.types.Fault.{Fault}
 use Rattle.task_reading.specs.declared.types.Fault.TheVariants as fault
 use Rattle.task_reading.specs.declared.types.Fault.TheVariants.{InFile, TooManyAses}
@@ -63,12 +64,15 @@ cause_of (Acts (acts.Unreadable n)) = (BadInput, placed "line" n "unreadable")
 cause_of (Acts (acts.Twice n)) = (BadInput, placed "line" n "named twice")
 cause_of (Acts (acts.TooMany n)) = (TooLarge, placed "line" n "more than 1000000 activations")
 cause_of (Acts acts.NoFor) = (BadInput, codes "no for line")
+cause_of (Deliveries (deliveries.Unreadable n)) = (BadInput, placed "line" n "unreadable")
+cause_of (Deliveries (deliveries.TooMany n)) = (TooLarge, placed "line" n "more than 1000000 deliveries")
+cause_of (Deliveries deliveries.NoFor) = (BadInput, codes "no for line")
 cause_of (NotInWorld n) = (BadInput, placed "line" n "not in the world")
 cause_of _ = (BadInput, [])
 
 -- the table of the faults that a run may end with, each with its status and its text; that of the words has the forms, a line each (own format)
 abbrev pub fault_ending : Option Form → Fault → Status × Text
-fault_ending form fault.Usage = (status.Usage, codes "usage: asprop REL [--vrps FILE] [--scenario FILE] [--script FILE]\n       asprop REL --origin N\n       asprop --demo N\n       asprop REL [--vrps FILE] [--scenario FILE] --activations FILE\n")
+fault_ending form fault.Usage = (status.Usage, codes "usage: asprop REL [--vrps FILE] [--scenario FILE] [--script FILE]\n       asprop REL --origin N\n       asprop --demo N\n       asprop REL [--vrps FILE] [--scenario FILE] --activations FILE\n       asprop REL [--vrps FILE] [--scenario FILE] --messages FILE\n")
 fault_ending form TooManyAses = (TooLarge, message (codes "more than 150000 ASes"))
 fault_ending form (InFile which cause) = ((cause_of cause).0, codes "asprop: " ++ (unwrap_or (name_by form which) [] ++ (codes ": " ++ ((cause_of cause).1 ++ 10 ∷ []))))
 

@@ -16,6 +16,9 @@ ghost use Rattle.scenario_text.specs.declared.script.ScriptError.{ScriptError as
 ghost use Rattle.activations.specs.Files.{Fails as ActsFails};
 ghost use Rattle.activations.specs.declared.acts.Acts.{Acts as SomeActs};
 ghost use Rattle.activations.specs.declared.reading.ActsError.{ActsError as AnActsError};
+ghost use Rattle.message_sim.specs.Files.{Fails as DeliveriesFails};
+ghost use Rattle.message_sim.specs.declared.deliveries.Deliveries.{Deliveries as SomeDeliveries};
+ghost use Rattle.message_sim.specs.declared.reading.DeliveriesError.{DeliveriesError as ADeliveriesError};
 ghost use Rattle.task_reading.specs.Files.{IsFaultOf};
 ghost use Rattle.task_reading.specs.declared.types.File.TheVariants as file;
 ghost use Rattle.task_reading.specs.declared.types.Cause.TheVariants as cause;
@@ -24,6 +27,7 @@ ghost use Rattle.task_reading.specs.declared.types.Fault.TheVariants as fault;
 use crate::types::{AskError, Cause, Fault, File};
 use activations::ActsError;
 use caida_reader::RelError;
+use message_sim::DeliveriesError;
 use roa_table::VrpError;
 use scenario_text::{ScenarioError, ScriptError};
 
@@ -74,5 +78,15 @@ pub fn of_acts(error: ActsError) -> AskError
     match error {
         ActsError::Memory => AskError::Memory,
         _ => AskError::Fault(Fault::InFile(File::Script, Cause::Acts(error))),
+    }
+}
+
+/// The error for a fault of the file of deliveries.
+pub fn of_deliveries(error: DeliveriesError) -> AskError
+    ensures { (value : Result SomeDeliveries ADeliveriesError) → DeliveriesFails error value → IsFaultOf result (result_map_both (λ x. x) (λ e. fault.InFile file.Script (cause.Deliveries e)) value) }
+{
+    match error {
+        DeliveriesError::Memory => AskError::Memory,
+        _ => AskError::Fault(Fault::InFile(File::Script, Cause::Deliveries(error))),
     }
 }

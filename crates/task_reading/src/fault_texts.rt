@@ -7,12 +7,13 @@ use crate::types::{Cause, Fault, File, Status};
 use crate::words::WordForm;
 use activations::ActsError;
 use caida_reader::RelError;
+use message_sim::DeliveriesError;
 use roa_table::VrpError;
 use scenario_text::{LimitOf, ScenarioError, ScriptError, place_string};
 use std::alloc::{AllocError, Global};
 
 const USAGE: &str =
-    "usage: asprop REL [--vrps FILE] [--scenario FILE] [--script FILE]\n       asprop REL --origin N\n       asprop --demo N\n       asprop REL [--vrps FILE] [--scenario FILE] --activations FILE\n";
+    "usage: asprop REL [--vrps FILE] [--scenario FILE] [--script FILE]\n       asprop REL --origin N\n       asprop --demo N\n       asprop REL [--vrps FILE] [--scenario FILE] --activations FILE\n       asprop REL [--vrps FILE] [--scenario FILE] --messages FILE\n";
 
 fn relation_text(alloc: Global, error: RelError) -> Result<String, AllocError>
     ensures { IfOk result (λ text. string_bytes text ≡ (cause_of (Cause.Relation error)).1) }
@@ -104,6 +105,19 @@ fn acts_text(alloc: Global, error: ActsError) -> Result<String, AllocError>
     }
 }
 
+fn deliveries_text(alloc: Global, error: DeliveriesError) -> Result<String, AllocError>
+    ensures { IfOk result (λ text. string_bytes text ≡ (cause_of (Cause.Deliveries error)).1) }
+{
+    match error {
+        DeliveriesError::Memory => Ok(String::new(alloc)),
+        DeliveriesError::Unreadable { line } => format!(in alloc; "line {line}: unreadable"),
+        DeliveriesError::TooMany { line } => format!(in alloc;
+            "line {line}: more than 1000000 deliveries"
+        ),
+        DeliveriesError::NoFor => String::from_str(alloc, "no for line"),
+    }
+}
+
 // What is said of a file that isn't taken, with the place in it.
 fn cause_text(alloc: Global, cause: Cause) -> Result<String, AllocError>
     ensures { IfOk result (λ text. string_bytes text ≡ (cause_of cause).1) }
@@ -116,6 +130,7 @@ fn cause_text(alloc: Global, cause: Cause) -> Result<String, AllocError>
         Cause::Scenario(error) => scenario_text(alloc, error),
         Cause::Script(error) => script_text(alloc, error),
         Cause::Acts(error) => acts_text(alloc, error),
+        Cause::Deliveries(error) => deliveries_text(alloc, error),
         Cause::NotInWorld(line) => format!(in alloc; "line {line}: not in the world"),
     }
 }
@@ -165,6 +180,8 @@ fn cause_status(cause: Cause) -> Status
         Cause::Script(_) => Status::BadInput,
         Cause::Acts(ActsError::TooMany { line: _ }) => Status::TooLarge,
         Cause::Acts(_) => Status::BadInput,
+        Cause::Deliveries(DeliveriesError::TooMany { line: _ }) => Status::TooLarge,
+        Cause::Deliveries(_) => Status::BadInput,
         Cause::NotInWorld(_) => Status::BadInput,
     }
 }

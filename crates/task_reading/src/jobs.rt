@@ -2,9 +2,10 @@
 ghost use Rattle.std.specs.Prelude.{◌≡◌, [], ◌∷◌, IfSome, length, map, option_map, slice_get};
 ghost use Rattle.activations.specs.Named.{AreSound};
 ghost use Rattle.scenario_text.specs.LineValues.{AreSoundLines};
-ghost use Rattle.task_reading.specs.Jobs.{AreAlike, IsSoundJob, acts_job, counts_job, job_seen, line_job, line_jobs};
+ghost use Rattle.task_reading.specs.Jobs.{AreAlike, IsSoundJob, acts_job, counts_job, job_seen, line_job, line_jobs, messages_job};
 
 use activations::Acts;
+use message_sim::Deliveries;
 use scenario_text::{Line, Lines};
 use std::marker::Model;
 
@@ -17,6 +18,8 @@ pub enum Job<'a> {
     Line(bool, &'a Line),
     /// What activations of ASes in turn come to.
     Activations(&'a Acts),
+    /// What deliveries of messages come to.
+    Messages(&'a Deliveries),
 }
 
 // How jobs are kept.
@@ -26,6 +29,8 @@ enum Asks {
     Lines(bool, bool, Lines),
     // What activations come to.
     Activations(Acts),
+    // What deliveries come to.
+    Messages(Deliveries),
 }
 
 // The job of the line at a place.
@@ -62,18 +67,19 @@ impl Model for Jobs {
     ghost use Rattle.std.specs.Prelude.{List};
     ghost use Rattle.std.specs.Coded.{codes};
     ghost use Rattle.activations.specs.contracts.acts.Acts as acts;
+    ghost use Rattle.message_sim.specs.contracts.deliveries.Deliveries as deliveries;
     ghost use Rattle.task_reading.specs.Jobs.{Job as AJob, IsSoundAsks, jobs_of};
 
     ghost Value = { List AJob };
 
-    ghost coded = { Prim.hlevel (codes, acts.the_row.coded) };
+    ghost coded = { Prim.hlevel (codes, acts.the_row.coded, deliveries.the_row.coded) };
 
     ghost view = { λ j. jobs_of j.asks };
 
     ghost invariant = { λ j. IsSoundAsks j.asks };
 }
 
-/// All jobs are lines, and before them perhaps the numbers of ASes and links, or they are activations alone.
+/// All jobs are lines, and before them perhaps the numbers of ASes and links, or they are activations or deliveries alone.
 pub fn jobs_are_alike(jobs: &Jobs)
     ensures { AreAlike jobs.now }
 {
@@ -100,6 +106,15 @@ impl Jobs {
         }
     }
 
+    /// What deliveries come to.
+    pub(crate) fn of_deliveries(deliveries: Deliveries) -> Jobs
+        ensures { result ≡ messages_job deliveries ∷ [] }
+    {
+        Jobs {
+            asks: Asks::Messages(deliveries),
+        }
+    }
+
     /// How many jobs there are.
     pub fn count(&self) -> usize
         ensures { result ≡ length self.now }
@@ -107,7 +122,7 @@ impl Jobs {
         match &self.asks {
             Asks::Lines(true, _, lines) => lines.as_slice().len() + 1,
             Asks::Lines(false, _, lines) => lines.as_slice().len(),
-            Asks::Activations(_) => 1,
+            Asks::Activations(_) | Asks::Messages(_) => 1,
         }
     }
 
@@ -122,6 +137,13 @@ impl Jobs {
             Asks::Activations(acts) => {
                 if place == 0 {
                     Some(Job::Activations(acts))
+                } else {
+                    None
+                }
+            }
+            Asks::Messages(deliveries) => {
+                if place == 0 {
+                    Some(Job::Messages(deliveries))
                 } else {
                     None
                 }

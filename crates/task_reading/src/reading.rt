@@ -13,13 +13,14 @@ ghost use Rattle.task_reading.specs.Words.{text_seen};
 ghost use Rattle.task_reading.specs.declared.types.File.TheVariants as files;
 ghost use Rattle.task_reading.specs.declared.types.Cause.TheVariants as cause;
 
-use crate::errors::{of_acts, of_payloads, of_relations, of_scenario, of_script};
+use crate::errors::{of_acts, of_deliveries, of_payloads, of_relations, of_scenario, of_script};
 use crate::jobs::Jobs;
 use crate::types::{AskError, Cause, Fault, File};
 use crate::words::FileOption;
 use activations::read_acts;
 use caida_reader::Reader;
 use io_edge::{Failed, Inputs, ReadAllError, read_all};
+use message_sim::read_deliveries;
 use net_names::Links;
 use roa_table::Vrps;
 use scenario_text::{Scenario, read_scenario, read_script};
@@ -174,6 +175,10 @@ fn jobs_in(alloc: Global, option: FileOption, bytes: &[u8]) -> Result<Jobs, AskE
         FileOption::Activations => match read_acts(alloc, bytes) {
             Ok(acts) => Ok(Jobs::of_activations(acts)),
             Err(error) => Err(of_acts(error)),
+        },
+        FileOption::Messages => match read_deliveries(alloc, bytes) {
+            Ok(deliveries) => Ok(Jobs::of_deliveries(deliveries)),
+            Err(error) => Err(of_deliveries(error)),
         },
     }
 }

@@ -4,6 +4,7 @@ ghost use Rattle.task_reading.specs.Texts.{number_of};
 
 use activations::ActsError;
 use caida_reader::RelError;
+use message_sim::DeliveriesError;
 use roa_table::VrpError;
 use scenario_text::{ScenarioError, ScriptError};
 
@@ -57,6 +58,8 @@ pub enum Cause {
     Script(ScriptError),
     /// The file of activations has this fault.
     Acts(ActsError),
+    /// The file of deliveries has this fault.
+    Deliveries(DeliveriesError),
     /// The line of this number, the first such one, names what isn't in the world.
     NotInWorld(u32),
 }

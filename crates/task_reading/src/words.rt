@@ -20,6 +20,8 @@ pub enum FileOption {
     Script,
     /// `--activations FILE`.
     Activations,
+    /// `--messages FILE`.
+    Messages,
 }
 
 /// A form that the words may have.
@@ -170,9 +172,14 @@ pub fn read_words<'a>(alloc: Global, words: &'a [String]) -> Result<Option<WordF
         }
     };
     let files = with_option(
+        FileOption::Messages,
+        matches.get_str("messages"),
+        Standing::None,
+    );
+    let files = with_option(
         FileOption::Activations,
         matches.get_str("activations"),
-        Standing::None,
+        files,
     );
     let files = with_option(FileOption::Script, matches.get_str("script"), files);
     Ok(form_by(
