@@ -11,5 +11,6 @@ pub mod Acting
 pub mod Populated
 pub mod Insides
 pub mod Copies
+mod Delivered
 pub mod Facts
 pub mod OneText

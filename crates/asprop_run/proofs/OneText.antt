@@ -15,9 +15,10 @@ use Rattle.asprop_run.specs.Inside.{IsInside}
 use Rattle.asprop_run.specs.Laws.{ClosesAct, ClosesCycle, OneText}
 use Rattle.asprop_run.specs.Refusals.{edit_refusal, refusal_text}
 use Rattle.asprop_run.specs.Replies.{AnswersJob, AnswersJobs, IsReply, head}
-use Rattle.asprop_run.proofs.Named.{in_world}
+use Rattle.asprop_run.proofs.Delivered.{one_net_text}
+use Rattle.asprop_run.proofs.Named.{delivered_in_world, in_world}
 use Rattle.asprop_run.proofs.OneSettling.{one_acts_text}
-use Rattle.task_reading.specs.Jobs.{Job, acts_job, counts_job, line_job}
+use Rattle.task_reading.specs.Jobs.{Job, acts_job, counts_job, line_job, messages_job}
 use Rattle.policy_kinds.specs.Kinds.{kind_policy}
 use Rattle.stability_laws.specs.Laws.{OneAnswer as OneRight}
 
@@ -83,6 +84,9 @@ module _ (answer : OneAnswer) (count : OneCount) (reason : OneReason) (right : O
   job_agrees w (acts_job acts) s t r q x y inside h g =
       let named = in_world w acts inside.0 in
       record { refused = h.0 ∙ sym g.0; after = h.1 ∙ sym g.1; text = λ none. one_acts_text right w h.2 g.2 h.3 g.3 acts named.0 named.1 s t h.4 g.4 }
+  job_agrees w (messages_job d) s t r q x y inside h g =
+      let named = delivered_in_world w d inside.0 in
+      record { refused = h.0 ∙ sym g.0; after = h.1 ∙ sym g.1; text = λ none. one_net_text w h.2 g.2 h.3 g.3 d named.0 named.1 s t h.4 g.4 }
 
   -- job by job, both texts go on in the same world
   pub one_text : OneText

@@ -4,6 +4,7 @@ use Rattle.std.specs.FinMap as fin
 use Rattle.clap.specs.Walk.{Text}
 use Rattle.activations.specs.Named.{AreSound, asns_of}
 use Rattle.net_names.specs.Numbers.{occurs}
+use Rattle.net_names.specs.Prefixes.{PrefixValue}
 use Rattle.activations.specs.Pieces.{IsMostPieces}
 use Rattle.activations.specs.declared.acts.Acts.{Acts}
 use Rattle.activations.proofs.Sound.{none_foreign, nothing_outside, only_ases}
@@ -32,10 +33,10 @@ use Rattle.asprop_run.proofs.OneSettling.{book_of, one_height, one_most, one_see
 use Rattle.task_reading.specs.Jobs.{acts_job}
 
 -- a query for routes that are there is answered by their rows
-pub routes_rows : (w : World) (l : Kept) (answer : Text) (acts : Acts) (refused : Bool) (after : World) → has_round w acts.round ≡ true → has_prefix w.plan acts.prefix ≡ true
-    → IsReply w l (act.Query (Routes acts.round acts.prefix)) answer refused after → answer ≡ table (topology w) (λ a. entry_row a (l.routings acts.round acts.prefix a))
-routes_rows w l answer acts false after there known h = h.1
-routes_rows w l answer acts true after there known h = absurd (let none : None ≡ Some h.0 = (rw (there, known) at h.1) in cc)
+pub routes_rows : (w : World) (l : Kept) (answer : Text) (round : ℕ) (prefix : PrefixValue) (refused : Bool) (after : World) → has_round w round ≡ true → has_prefix w.plan prefix ≡ true
+    → IsReply w l (act.Query (Routes round prefix)) answer refused after → answer ≡ table (topology w) (λ a. entry_row a (l.routings round prefix a))
+routes_rows w l answer round prefix false after there known h = h.1
+routes_rows w l answer round prefix true after there known h = absurd (let none : None ≡ Some h.0 = (rw (there, known) at h.1) in cc)
 
 module _ (settles : AnyOrderSettles kind_policy) (only : NoOtherIsStable) (w : World) (none : HasCycle w → ⊥) (acts : Acts) (inside : IsInside w (acts_job acts)) (sound : AreSound acts)
     (pieces height : ℕ) (most : IsMostPieces (has (topology w)) acts.list pieces) (high : IsHeight (topology w) height) (enough : height + height ≤ pieces) where

@@ -1,5 +1,6 @@
 -- What holds of all runs, and of all told texts.
-use Rattle.std.specs.Prelude.{◌≡◌, ◌≤◌, ◌+◌, ℕ, Bool, true, false, List, [], ◌∷◌, ◌++◌, Option}
+use Rattle.std.specs.Prelude.{◌≡◌, ◌≤◌, ◌+◌, ◌*◌, ◌^◌, ◌⊎◌, ℕ, Bool, true, false, not, filter, length, List, [], ◌∷◌, ◌++◌, Option}
+use Rattle.std.specs.Option.{is_some}
 use Rattle.clap.specs.Walk.{Text}
 use Rattle.scenario_text.specs.declared.acts.Act.{Act}
 use Rattle.scenario_text.specs.declared.acts.Act.TheVariants as act
@@ -7,14 +8,17 @@ use Rattle.scenario_text.specs.declared.acts.Query.TheVariants.{Routes}
 use Rattle.activations.specs.Named.{AreSound}
 use Rattle.activations.specs.Pieces.{IsMostPieces}
 use Rattle.activations.specs.declared.acts.Acts.{Acts}
-use Rattle.as_graph.specs.Topology.{has}
+use Rattle.as_graph.specs.Topology.{as_count, has}
+use Rattle.message_sim.specs.Turns.{turns_of}
+use Rattle.message_sim.specs.declared.steps.Deliveries.{Deliveries}
 use Rattle.stability_laws.specs.Laws.{IsHeight}
 use Rattle.sim_core.specs.World.{HasCycle, World, topology}
 use Rattle.sim_core.specs.Edits.{IsReason}
 use Rattle.sim_core.specs.declared.errors.EditError.TheVariants as edit
+use Rattle.asprop_run.specs.Delivering.{message_rows}
 use Rattle.asprop_run.specs.Inside.{AreInside, IsInside}
 use Rattle.asprop_run.specs.Settling.{settled_rows}
-use Rattle.task_reading.specs.Jobs.{Job, acts_job, line_job}
+use Rattle.task_reading.specs.Jobs.{Job, acts_job, line_job, messages_job}
 use Rattle.asprop_run.specs.Replies.{AnswersJob, AnswersJobs}
 use Rattle.asprop_run.specs.Runs.{IsRun}
 use Rattle.asprop_run.specs.Streams.{Stream, stream_of}
@@ -53,3 +57,11 @@ OrdersSettle = (w after later : World) (acts : Acts) (pieces height number : ℕ
     (HasCycle w → ⊥) → IsInside w (acts_job acts) → AreSound acts → IsMostPieces (has (topology w)) acts.list pieces → IsHeight (topology w) height → height + height ≤ pieces →
     AnswersJob w (acts_job acts) text refused after → AnswersJob w (line_job false (record { number = number; act = act.Query (Routes acts.round acts.prefix) })) routes other later →
     text ≡ routes ++ settled_rows pieces height true
+
+-- deliveries are answered by rows, and then by what is said of the messages. Where none is under way in the end, or where as many turns as n ^ (2 * h) name no link, none is under way, and the rows are those of the query for the routes of the round and the prefix; the world has n ASes, and its longest chain has h (Gao and Rexford 2001, safety)
+abbrev pub DeliveriesSettle : Type 0
+DeliveriesSettle = (w after later : World) (d : Deliveries) (height number : ℕ) (text routes : Text) (refused other : Bool) →
+    (HasCycle w → ⊥) → IsInside w (messages_job d) → IsHeight (topology w) height →
+    AnswersJob w (messages_job d) text refused after → AnswersJob w (line_job false (record { number = number; act = act.Query (Routes d.round d.prefix) })) routes other later →
+    (rows : Text) × (made queued : ℕ) × (text ≡ rows ++ message_rows made queued)
+    × ((queued ≡ 0) ⊎ (as_count (topology w) ^ (2 * height) ≤ length (filter (λ t. not (is_some t)) (turns_of d.steps))) → (rows ≡ routes) × (queued ≡ 0))

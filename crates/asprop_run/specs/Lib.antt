@@ -1,6 +1,7 @@
 pub mod Streams
 pub mod Task
 pub mod Settling
+pub mod Delivering
 pub mod Refusals
 pub mod Replies
 pub mod Laws

@@ -21,10 +21,13 @@ use Rattle.stability_laws.specs.declared.entry.Entry.{Entry}
 abbrev pub fact : String → ℕ → Text
 fact name number = row (codes name ∷ decimal number ∷ [])
 
+-- a row that says whether what has this name holds (own format)
+abbrev pub said : String → Bool → Text
+said name holds = row (codes name ∷ codes (if holds then "yes" else "no") ∷ [])
+
 -- how many full pieces a list of activations has, how many ASes the longest chain of the world has, and whether the routing is stable (own format)
 abbrev pub settled_rows : ℕ → ℕ → Bool → Text
-settled_rows pieces height settled = fact "pieces" pieces ++ (fact "height" height
-    ++ row (codes "settled" ∷ codes (if settled then "yes" else "no") ∷ []))
+settled_rows pieces height settled = fact "pieces" pieces ++ (fact "height" height ++ said "settled" settled)
 
 -- the text says what the activations come to, from what ASes hold at first and with the seeds of the round that follow from the round before: the rows of all ASes in the routing then, and what is said of the list and the routing (own format; Gao and Rexford 2001)
 abbrev pub IsActsText : World → Kept → Acts → Text → Type 0

@@ -45,12 +45,19 @@ pub fn first_outside(sim: &Sim, jobs: &Jobs) -> Option<u32>
                 Some(acts.for_line)
             }
         }
+        Some(Job::Messages(deliveries)) => {
+            if has_table(sim, deliveries.round, deliveries.prefix) {
+                deliveries.first_foreign(sim.graph())
+            } else {
+                Some(deliveries.for_line)
+            }
+        }
         _ => None,
     }
 }
 
-// The states by the payloads. Those of the prefix with the origins that announce it are found ahead.
-fn states_at<'a>(alloc: Global, sim: &'a Sim, prefix: Prefix) -> Result<KnownStates<'a>, NoMemory>
+/// The states by the payloads. Those of the prefix with the origins that announce it are found ahead.
+pub fn states_at<'a>(alloc: Global, sim: &'a Sim, prefix: Prefix) -> Result<KnownStates<'a>, NoMemory>
     ensures { IfOk result (λ states. states.payloads ≡ (world_seen sim.now).payloads) }
 {
     let mut states = KnownStates::of(alloc, sim.vrps());

@@ -13,6 +13,7 @@ ghost use Rattle.asprop_run.specs.Streams.{stream_of};
 ghost use Rattle.asprop_run.specs.Written.{Answering, IsPassedOn};
 
 use crate::activating::answer_activations;
+use crate::delivering::answer_deliveries;
 use crate::refusals::{put_bytes, put_done, put_edit_refusal, put_refusal};
 use crate::types::Failure;
 use io_edge::{Failed, Sink, write_all};
@@ -150,6 +151,10 @@ fn answer_job(
         Job::Line(heads, line) => answer_line(alloc, sim, heads, line, text),
         Job::Activations(acts) => {
             answer_activations(alloc, sim, acts, text)?;
+            Ok(false)
+        }
+        Job::Messages(deliveries) => {
+            answer_deliveries(alloc, sim, deliveries, text)?;
             Ok(false)
         }
     }

@@ -1,8 +1,9 @@
 //! What holds of all runs, and of all told texts.
-ghost use Rattle.asprop_run.specs.Laws.{EachRun, OneText, OrdersSettle};
+ghost use Rattle.asprop_run.specs.Laws.{DeliveriesSettle, EachRun, OneText, OrdersSettle};
 ghost use Rattle.asprop_run.specs.Statuses.{IsComplete, RunsAsTold};
 
 use io_edge::{Inputs, Sink};
+use message_sim::turns_settle;
 use policy_kinds::Kind;
 use sim_core::kept_are_stable;
 use stability_laws::{any_order_settles, one_answer};
@@ -30,5 +31,15 @@ pub fn orders_settle()
     ensures { OrdersSettle }
 {
     any_order_settles::<Kind>();
+    kept_are_stable();
+}
+
+/// Whatever the order in which messages are delivered: where none is under way in the end, or where `rest` asks for n ^ (2 h)
+/// deliveries or more, none is, and the rows are those of `routes` for the round and the prefix, in a world of n ASes without a
+/// provider cycle whose longest chain has h, and that has all that is named (Gao and Rexford 2001, safety).
+pub fn messages_settle()
+    ensures { DeliveriesSettle }
+{
+    turns_settle::<Kind>();
     kept_are_stable();
 }

@@ -1,0 +1,88 @@
+//! Deliveries of messages, and what they come to.
+ghost use Rattle.std.specs.Prelude.{◌≡◌, ◌++◌, ℕ, codes, false, if◌then◌else◌, OnOk};
+ghost use Rattle.message_sim.specs.Nets.{net_of};
+ghost use Rattle.reports.specs.Rows.{table};
+ghost use Rattle.sim_core.specs.Kept.{IsKept};
+ghost use Rattle.sim_core.specs.Sims.{kept, world_seen};
+ghost use Rattle.sim_core.specs.World.{HasCycle};
+ghost use Rattle.stability_laws.specs.EntryTexts.{entry_row};
+ghost use Rattle.asprop_run.specs.Delivering.{message_rows};
+ghost use Rattle.asprop_run.specs.Inside.{IsInside};
+ghost use Rattle.asprop_run.specs.Replies.{AnswersJob};
+ghost use Rattle.task_reading.specs.Jobs.{messages_job};
+
+use crate::activating::states_at;
+use crate::refusals::put_bytes;
+use as_graph::Graph;
+use message_sim::{Deliveries, Net};
+use net_names::NoMemory;
+use origin_validation::KnownStates;
+use policy_kinds::Kind;
+use reports::put_entry;
+use sim_core::{Sim, kept_are_stable};
+use std::alloc::Global;
+
+// Appends the rows of what all ASes chose, in rising number.
+fn put_choices(
+    text: &mut Vec<u8>,
+    graph: &Graph,
+    net: &Net<'_, Kind, KnownStates<'_>>,
+) -> Result<(), NoMemory>
+    ensures { OnOk result (text.new.items ≡ text.old.items ++ table graph.now (λ a. entry_row a ((net_of net.now).choice a))) }
+{
+    let ases = graph.ases();
+    for asn in ases {
+        put_entry(text, *asn, net.choice(*asn))?;
+    }
+    Ok(())
+}
+
+// Whether no message is under way, in a word.
+fn quiet_word(queued: u64) -> &'static str
+    ensures { result.now ≡ codes (if queued == 0 then "yes" else "no") }
+{
+    if queued == 0 { "yes" } else { "no" }
+}
+
+// Appends what is said of the messages.
+fn put_messages(
+    alloc: Global,
+    text: &mut Vec<u8>,
+    delivered: u32,
+    queued: u64,
+) -> Result<(), NoMemory>
+    ensures { OnOk result (text.new.items ≡ text.old.items ++ message_rows delivered queued) }
+{
+    let word = quiet_word(queued);
+    match format!(in alloc; "delivered|{delivered}\nqueued|{queued}\nquiet|{word}\n") {
+        Ok(rows) => put_bytes(text, rows.as_bytes()),
+        Err(_) => Err(NoMemory),
+    }
+}
+
+/// Makes the answer to deliveries: the rows of what all ASes chose after them, how many messages were taken out, how many
+/// are under way, and whether none is.
+pub fn answer_deliveries(
+    alloc: Global,
+    sim: &Sim,
+    deliveries: &Deliveries,
+    text: &mut Vec<u8>,
+) -> Result<(), NoMemory>
+    requires inside { IsInside (world_seen sim.now) (messages_job deliveries.now) }
+    requires kept { IsKept (world_seen sim.now) (kept sim.now) }
+    requires no_cycle { HasCycle (world_seen sim.now) → ⊥ }
+    ensures { OnOk result (AnswersJob (world_seen sim.now) (messages_job deliveries.now) text.new.items false (world_seen sim.now)) }
+{
+    kept_are_stable();
+    let graph = sim.graph();
+    // The world has the round and the prefix.
+    let Ok(seeds) = sim.seeds(alloc, deliveries.round, deliveries.prefix) else {
+        return Err(NoMemory);
+    };
+    let states = states_at(alloc, sim, deliveries.prefix)?;
+    let mut net = Net::new(alloc, graph, sim.book(), &states, deliveries.prefix, &seeds)?;
+    let delivered = net.run(alloc, &deliveries.steps)?;
+    text.clear();
+    put_choices(text, graph, &net)?;
+    put_messages(alloc, text, delivered, net.queued())
+}
