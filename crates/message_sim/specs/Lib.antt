@@ -1,0 +1,14 @@
+pub mod Messages
+pub mod Delivery
+pub mod Agreement
+pub mod Laws
+pub mod Nets
+pub mod Rows
+pub mod Best
+pub mod News
+pub mod Starts
+pub mod Kept
+pub mod StepValues
+pub mod Turns
+pub mod Files
+pub mod FileLaws

@@ -1,0 +1,259 @@
+//! What an AS chooses once it has received a new message.
+ghost use Rattle.std.specs.Prelude.{◌≡◌, ◌≢◌, ◌↔◌, ℕ, Some, None, IfOk, IsTrue, option_map, option_copied};
+ghost use Rattle.as_graph.specs.Topology.{relation};
+ghost use Rattle.as_graph.specs.Neighbours.{AreNeighbours};
+ghost use Rattle.stability_laws.specs.Book.{policy_at};
+ghost use Rattle.stability_laws.specs.Offers.{passed_on};
+ghost use Rattle.stability_laws.specs.BestView.{IsBestView, better_of};
+ghost use Rattle.stability_laws.specs.World.{setting};
+ghost use Rattle.message_sim.specs.Rows.{received_at};
+ghost use Rattle.message_sim.specs.Best.{received_with, IsChosen, offers_now, offers_after, IsChoiceAfter, IsNoWorse, IsKeptView};
+
+use crate::held::Held;
+use crate::line::Line;
+use as_graph::{Graph, Neighbour};
+use indexmap::IndexMap;
+use net_names::{Asn, NoMemory, Prefix, Rel};
+use policy_laws::{OriginStates, RoutePolicy, View};
+use stability_laws::{Book, better, carried, class_from, offered_view};
+use std::alloc::Global;
+
+/// What an AS newly holds, and the view of the offer that it comes from.
+#[derive(Drop)]
+pub struct Choice {
+    pub(crate) best: Option<View>,
+    pub(crate) held: Option<Held>,
+}
+
+/// What was received last over a link.
+fn received_over(lines: &IndexMap<(Asn, Asn), Line>, from: Asn, to: Asn) -> Option<&Held>
+    ensures { option_copied result ≡ received_at lines.now.entries from to }
+{
+    match lines.get(&(from, to)) {
+        Some(line) => line.received.as_ref(),
+        None => None,
+    }
+}
+
+/// What `to` has received last of `n`, where the message of `from` is a new one.
+fn heard<'a>(
+    lines: &'a IndexMap<(Asn, Asn), Line>,
+    from: Asn,
+    to: Asn,
+    message: Option<&'a Held>,
+    n: Asn,
+) -> Option<&'a Held>
+    ensures { option_copied result ≡ received_with (λ m. received_at lines.now.entries m to) from (option_copied message.entry) n }
+{
+    if n == from {
+        message
+    } else {
+        received_over(lines, n, to)
+    }
+}
+
+/// The view of the offer that a neighbour makes, where it makes one.
+fn view_from<P: RoutePolicy, V: OriginStates>(
+    graph: &Graph,
+    book: &Book<P>,
+    states: &V,
+    prefix: Prefix,
+    lines: &IndexMap<(Asn, Asn), Line>,
+    from: Asn,
+    to: Asn,
+    message: Option<&Held>,
+    neighbour: &Neighbour,
+) -> Option<View>
+    requires { relation graph.now to neighbour.now.asn ≡ Some neighbour.now.rel }
+    ensures { result ≡ option_map (λ o. o.view) (offers_after (setting P.meaning graph.now book.now (V.state_of states.now prefix)) lines.now.entries to from (option_copied message.entry) neighbour.now.asn) }
+{
+    let held = heard(lines, from, to, message, neighbour.asn)?;
+    offered_view(
+        book.policy(neighbour.asn),
+        book.policy(to),
+        states,
+        prefix,
+        neighbour,
+        to,
+        held.entry(),
+    )
+}
+
+/// The view of the best offer of all neighbours, where one makes an offer.
+fn best_of_all<P: RoutePolicy, V: OriginStates>(
+    graph: &Graph,
+    neighbours: &[Neighbour],
+    book: &Book<P>,
+    states: &V,
+    prefix: Prefix,
+    lines: &IndexMap<(Asn, Asn), Line>,
+    from: Asn,
+    to: Asn,
+    message: Option<&Held>,
+) -> Option<View>
+    requires { AreNeighbours (relation graph.now) to neighbours.now }
+    ensures { IsBestView (P.meaning (policy_at book.now to)) (offers_after (setting P.meaning graph.now book.now (V.state_of states.now prefix)) lines.now.entries to from (option_copied message.entry)) result }
+{
+    let own = book.policy(to);
+    let mut best: Option<View> = None;
+    for neighbour in neighbours {
+        let view = view_from(
+            graph, book, states, prefix, lines, from, to, message, neighbour,
+        );
+        best = better(own, best, view);
+    }
+    best
+}
+
+/// Whether the new view is there and comes before the old one, or is the old one.
+fn is_no_worse<P: RoutePolicy>(policy: &P, old: &View, new: &Option<View>) -> bool
+    ensures { IsTrue result → IsNoWorse (P.meaning policy.now) old.now new.now }
+{
+    match new {
+        Some(view) => *view == *old || policy.before(view, old),
+        None => false,
+    }
+}
+
+/// The view of the best offer once the message has been received, given that of the best one before. All
+/// offers are looked at only where the best one was of this neighbour and has become worse.
+fn best_after<P: RoutePolicy, V: OriginStates>(
+    graph: &Graph,
+    book: &Book<P>,
+    states: &V,
+    prefix: Prefix,
+    lines: &IndexMap<(Asn, Asn), Line>,
+    from: Asn,
+    to: Asn,
+    rel: Rel,
+    message: Option<&Held>,
+    best: Option<View>,
+) -> Option<View>
+    requires linked { relation graph.now to from ≡ Some rel }
+    requires best { IsBestView (P.meaning (policy_at book.now to)) (offers_now (setting P.meaning graph.now book.now (V.state_of states.now prefix)) lines.now.entries to) best }
+    ensures { IsBestView (P.meaning (policy_at book.now to)) (offers_after (setting P.meaning graph.now book.now (V.state_of states.now prefix)) lines.now.entries to from (option_copied message.entry)) result }
+{
+    let own = book.policy(to);
+    let sender = Neighbour { asn: from, rel };
+    let new = view_from(
+        graph, book, states, prefix, lines, from, to, message, &sender,
+    );
+    match best {
+        None => new,
+        Some(old) => {
+            if old.neighbour != from {
+                return better(own, Some(old), new);
+            }
+            if is_no_worse(own, &old, &new) {
+                return new;
+            }
+            best_of_all(
+                graph,
+                graph.neighbours(to),
+                book,
+                states,
+                prefix,
+                lines,
+                from,
+                to,
+                message,
+            )
+        }
+    }
+}
+
+/// What an AS holds of an entry of `n`, which is `rel` to it.
+fn held_of<P: RoutePolicy>(
+    alloc: Global,
+    sender: &P,
+    receiver: &P,
+    n: Asn,
+    a: Asn,
+    rel: Rel,
+    given: &Held,
+) -> Result<Held, NoMemory>
+    ensures { IfOk result (λ h. h ≡ passed_on (P.meaning sender.now).marks (P.meaning receiver.now).marks n a rel given.now) }
+{
+    let entry = given.entry();
+    let otc = carried(sender, receiver, n, rel.converse(), entry.otc);
+    Held::put_before(alloc, class_from(rel), a, entry.path.as_slice(), otc)
+}
+
+/// What an AS holds where this is the view of its best offer.
+fn held_by_view<P: RoutePolicy, V: OriginStates>(
+    alloc: Global,
+    graph: &Graph,
+    book: &Book<P>,
+    states: &V,
+    prefix: Prefix,
+    lines: &IndexMap<(Asn, Asn), Line>,
+    from: Asn,
+    to: Asn,
+    message: Option<&Held>,
+    best: Option<View>,
+) -> Result<Option<Held>, NoMemory>
+    requires { IsBestView (P.meaning (policy_at book.now to)) (offers_after (setting P.meaning graph.now book.now (V.state_of states.now prefix)) lines.now.entries to from (option_copied message)) best }
+    ensures { IfOk result (IsChosen (P.meaning (policy_at book.now to)) (offers_after (setting P.meaning graph.now book.now (V.state_of states.now prefix)) lines.now.entries to from (option_copied message.entry)) best) }
+{
+    let Some(view) = best else {
+        return Ok(None);
+    };
+    let n = view.neighbour;
+    match heard(lines, from, to, message, n) {
+        Some(given) => {
+            let held = held_of(
+                alloc,
+                book.policy(n),
+                book.policy(to),
+                n,
+                to,
+                view.rel,
+                given,
+            )?;
+            Ok(Some(held))
+        }
+        None => Ok(None),
+    }
+}
+
+/// Whether the best view is as before, and is not that of this neighbour.
+fn is_kept(from: Asn, old: &Option<View>, new: &Option<View>) -> bool
+    ensures { IsTrue result → IsKeptView from old.now new.now }
+{
+    match (old, new) {
+        (None, None) => true,
+        (Some(old), Some(new)) => *old == *new && old.neighbour != from,
+        (Some(_), None) | (None, Some(_)) => false,
+    }
+}
+
+/// The new choice of an AS that has no seed, once it has received the message; `None` where the old one
+/// stays.
+pub(crate) fn choose<P: RoutePolicy, V: OriginStates>(
+    alloc: Global,
+    graph: &Graph,
+    book: &Book<P>,
+    states: &V,
+    prefix: Prefix,
+    lines: &IndexMap<(Asn, Asn), Line>,
+    from: Asn,
+    to: Asn,
+    rel: Rel,
+    message: Option<&Held>,
+    best: Option<View>,
+) -> Result<Option<Choice>, NoMemory>
+    requires linked { relation graph.now to from ≡ Some rel }
+    requires best { IsBestView (P.meaning (policy_at book.now to)) (offers_now (setting P.meaning graph.now book.now (V.state_of states.now prefix)) lines.now.entries to) best }
+    ensures { IfOk result (IsChoiceAfter (P.meaning (policy_at book.now to)) (offers_now (setting P.meaning graph.now book.now (V.state_of states.now prefix)) lines.now.entries to) (offers_after (setting P.meaning graph.now book.now (V.state_of states.now prefix)) lines.now.entries to from (option_copied message.entry)) best) }
+{
+    let after = best_after(
+        graph, book, states, prefix, lines, from, to, rel, message, best,
+    );
+    if is_kept(from, &best, &after) {
+        return Ok(None);
+    }
+    let held = held_by_view(
+        alloc, graph, book, states, prefix, lines, from, to, message, after,
+    )?;
+    Ok(Some(Choice { best: after, held }))
+}

@@ -1,0 +1,134 @@
+//! What an AS holds, with a path that one AS more can be put before.
+ghost use Rattle.std.specs.Prelude.{◌≡◌, ◌↔◌, ◌∷◌, ◌<◌, ◌≤◌, ◌-◌, ◌^◌, length, IsTrue, IfOk, Some};
+ghost use Rattle.stability_laws.specs.Entries.{seed_entry};
+
+use net_names::{Asn, Class, NoMemory, Path};
+use stability_laws::{Entry, Seed, same_class, same_number, same_path};
+use std::alloc::Global;
+use std::marker::Model;
+
+/// An entry whose path has at most 4294967294 numbers.
+#[derive(Drop)]
+pub struct Held {
+    entry: Entry,
+}
+
+impl Model for Held {
+    ghost use Rattle.std.specs.Prelude.{◌<◌, ◌-◌, ◌^◌, length};
+    ghost use Rattle.stability_laws.specs.declared.entry.Entry.{Entry as AnEntry};
+    ghost use Rattle.stability_laws.specs.contracts.entry.Entry as entry_contract;
+
+    ghost Value = { AnEntry };
+
+    ghost coded = { entry_contract.the_row.coded };
+
+    ghost view = { λ h. h.entry };
+
+    ghost invariant = { λ h. length h.entry.path < 2 ^ 32 - 1 };
+}
+
+impl Held {
+    /// The entry.
+    pub fn entry(&self) -> &Entry
+        ensures value { result.now ≡ self.now }
+        ensures short { length self.now.path < 2 ^ 32 - 1 }
+    {
+        &self.entry
+    }
+
+    /// A copy of it.
+    pub(crate) fn copy(&self, alloc: Global) -> Result<Held, NoMemory>
+        ensures { IfOk result (λ h. h ≡ self.now) }
+    {
+        let path = copied(alloc, self.entry.path.as_slice())?;
+        Ok(Held {
+            entry: Entry {
+                class: self.entry.class,
+                path,
+                otc: self.entry.otc,
+            },
+        })
+    }
+
+    /// What an AS with the seed holds.
+    pub(crate) fn of_seed(alloc: Global, seed: &Seed) -> Result<Held, NoMemory>
+        requires { length seed.now.path < 2 ^ 32 - 1 }
+        ensures { IfOk result (λ h. h ≡ seed_entry seed.now) }
+    {
+        let path = copied(alloc, seed.path.as_slice())?;
+        Ok(Held {
+            entry: Entry {
+                class: Class::Origin,
+                path,
+                otc: seed.otc,
+            },
+        })
+    }
+
+    /// The entry with this class, the path of `first` and then the rest, and this number. A path that
+    /// has no room for one AS more counts as one that no memory is found for.
+    pub(crate) fn put_before(
+        alloc: Global,
+        class: Class,
+        first: Asn,
+        rest: &[Asn],
+        otc: Option<Asn>,
+    ) -> Result<Held, NoMemory>
+        ensures { IfOk result (λ h. h ≡ record { class = class; path = first ∷ rest.now; otc = otc }) }
+    {
+        if rest.len() > 4_294_967_290 {
+            return Err(NoMemory);
+        }
+        let path = longer(alloc, first, rest)?;
+        Ok(Held {
+            entry: Entry { class, path, otc },
+        })
+    }
+}
+
+/// A copy of a path.
+fn copied(alloc: Global, path: &[Asn]) -> Result<Path, NoMemory>
+    ensures { IfOk result (λ p. p ≡ path.now) }
+{
+    match Vec::from_slice(alloc, path) {
+        Ok(numbers) => Ok(Path::from_vec(numbers)),
+        Err(_) => Err(NoMemory),
+    }
+}
+
+/// The path of an AS and then the rest.
+fn longer(alloc: Global, first: Asn, rest: &[Asn]) -> Result<Path, NoMemory>
+    requires { length rest.now < 2 ^ 32 }
+    ensures { IfOk result (λ p. p ≡ first ∷ rest.now) }
+{
+    let Ok(mut numbers) = Vec::with_capacity(alloc, rest.len() + 1) else {
+        return Err(NoMemory);
+    };
+    if numbers.push(first).is_err() {
+        return Err(NoMemory);
+    }
+    match numbers.extend_from_slice(rest) {
+        Ok(()) => Ok(Path::from_vec(numbers)),
+        Err(_) => Err(NoMemory),
+    }
+}
+
+fn same_entry(a: &Entry, b: &Entry) -> bool
+    ensures { IsTrue result ↔ (a.now ≡ b.now) }
+{
+    let class = same_class(a.class, b.class);
+    let path = same_path(a.path.as_slice(), b.path.as_slice());
+    let otc = same_number(a.otc, b.otc);
+    class & path & otc
+}
+
+/// Whether the same is held.
+pub(crate) fn same_held(a: &Option<Held>, b: &Option<Held>) -> bool
+    ensures { IsTrue result ↔ (a.now ≡ b.now) }
+{
+    match (a, b) {
+        (None, None) => true,
+        (Some(a), Some(b)) => same_entry(a.entry(), b.entry()),
+        (Some(_), None) | (None, Some(_)) => false,
+    }
+}

@@ -1,0 +1,111 @@
+//! Reading a file of deliveries.
+ghost use Rattle.std.specs.Prelude.{◌≡◌, ◌+◌, ◌≤◌, [], length};
+ghost use Rattle.net_names.specs.Lines.{kept_from, said_on};
+ghost use Rattle.message_sim.specs.Files.{Gives, deliveries_by, with_line, with_step};
+
+use crate::forms::step;
+use crate::steps::{Deliveries, MOST_DELIVERIES, Step, Steps};
+use net_names::{Prefix, next_kept};
+use scenario_text::read_for;
+use std::alloc::Global;
+
+/// Why a file of deliveries is refused: the fault of its first faulty line, where it has one. Lines are
+/// numbered from 1, and skipped lines count. A line is judged in the order Unreadable, TooMany.
+#[derive(Clone, Copy, Debug, PartialEq, Eq)]
+pub enum DeliveriesError {
+    /// Memory ran out.
+    Memory,
+    /// The line has not the form: the first line that isn't skipped names the round and the prefix, and
+    /// each later one asks for deliveries.
+    Unreadable {
+        /// The number of the line.
+        line: u32,
+    },
+    /// With this line the file asks for more than 1,000,000 deliveries.
+    TooMany {
+        /// The number of the line.
+        line: u32,
+    },
+    /// Each line is skipped.
+    NoFor,
+}
+
+// Puts in a step.
+fn put_step(mut deliveries: Deliveries, step: Step) -> Result<Deliveries, DeliveriesError>
+    ensures { Gives result (with_step deliveries step) }
+{
+    if step.most > MOST_DELIVERIES - deliveries.steps.asked() {
+        return Err(DeliveriesError::TooMany { line: step.line });
+    }
+    match deliveries.steps.push(step) {
+        Ok(()) => Ok(deliveries),
+        Err(_) => Err(DeliveriesError::Memory),
+    }
+}
+
+// Puts in what the line of this number asks for.
+fn put_line(deliveries: Deliveries, number: u32, line: &[u8]) -> Result<Deliveries, DeliveriesError>
+    ensures { Gives result (with_line deliveries (number, line.now)) }
+{
+    match step(number, line) {
+        Some(step) => put_step(deliveries, step),
+        None => Err(DeliveriesError::Unreadable { line: number }),
+    }
+}
+
+// Puts in what the lines of these bytes ask for, of which the first has this number.
+fn put_lines(
+    deliveries: Deliveries,
+    number: u32,
+    bytes: &[u8],
+) -> Result<Deliveries, DeliveriesError>
+    requires first { 1 ≤ number }
+    requires short { number + length bytes.now ≤ 16777217 }
+    ensures { Gives result (said_on with_line deliveries (kept_from number bytes.now)) }
+{
+    let mut deliveries = deliveries;
+    let mut number = number;
+    let mut rest = bytes;
+    while let Some(kept) = next_kept(rest, number) {
+        rest = kept.rest;
+        number = kept.number + 1;
+        deliveries = put_line(deliveries, kept.number, kept.line)?;
+    }
+    Ok(deliveries)
+}
+
+// What a line of this number says alone that names these.
+fn begun(alloc: Global, number: u32, names: (u32, Prefix)) -> Deliveries
+    ensures { result ≡ record { for_line = number; round = names.0; prefix = names.1; steps = [] } }
+{
+    let (round, prefix) = names;
+    Deliveries {
+        for_line: number,
+        round,
+        prefix,
+        steps: Steps::new(alloc),
+    }
+}
+
+/// What a file of at most 16,777,216 bytes asks for. A line ends with a line feed, before which one
+/// carriage return may stand; a line that is empty or begins with `#` is skipped. The first other line is
+/// `for R P`, with the round R and the prefix P. Then come lines `deliver N A`, for a delivery of the
+/// oldest message from AS N to another AS A, and lines `rest K`, for up to K deliveries, each of the
+/// oldest message on the lowest link on which one is under way. The format is this project's own.
+///
+/// `NoFor` exactly where each line is skipped; `Unreadable` exactly where the first faulty line has not
+/// the form, and `TooMany` exactly where it has it and the file asks with it for more than 1,000,000
+/// deliveries; `Memory` where there is not enough memory.
+pub fn read_deliveries(alloc: Global, bytes: &[u8]) -> Result<Deliveries, DeliveriesError>
+    requires { length bytes.now ≤ 16777216 }
+    ensures { Gives result (deliveries_by (kept_from 1 bytes.now)) }
+{
+    let Some(first) = next_kept(bytes, 1) else {
+        return Err(DeliveriesError::NoFor);
+    };
+    let Some(names) = read_for(first.line) else {
+        return Err(DeliveriesError::Unreadable { line: first.number });
+    };
+    let deliveries = begun(alloc, first.number, names);
+    put_lines(deliveries, first.number + 1, first.rest)
+}
