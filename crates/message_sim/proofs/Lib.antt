@@ -24,3 +24,5 @@ pub mod Heights
 pub mod Resting
 pub mod FileLines
 pub mod Said
+pub mod OneNet
+pub mod NoneQueued

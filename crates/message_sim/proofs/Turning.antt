@@ -47,7 +47,7 @@ module _ (w : Setting) (seeds : ℕ → Option Seed) where
 
   -- ---- how turns end
 
-  not_empty : (x y : MessageNet) (n a : ℕ) → IsDelivery w seeds x n a y → x.queue n a ≢ []
+  pub not_empty : (x y : MessageNet) (n a : ℕ) → IsDelivery w seeds x n a y → x.queue n a ≢ []
   not_empty x y n a d none = let some : x.queue n a ≡ y.received n a ∷ drop 1 (x.queue n a) = d.oldest in cc
 
   quiet_stays : (ts : List (Option (ℕ × ℕ))) (x y : MessageNet) (k : ℕ) → AreTurns w seeds ts x k y → IsQuiet x → IsQuiet y
