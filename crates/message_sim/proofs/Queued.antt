@@ -3,11 +3,9 @@ use Rattle.std.proofs.Common.{◌≡◌, ◌≢◌, inl, inr, ℕ, ◌+◌, Bool
 use Rattle.std.specs.declared.cmp.Ordering.{Ordering}
 use Rattle.std.specs.declared.cmp.Ordering.TheVariants.{Less, Equal, Greater}
 use Rattle.std.specs.Ordering.{nat_cmp, is_eq, is_lt}
-use Rattle.std.specs.Cmp.{nat_eq_equiv, unsigned_tied}
+use Rattle.std.specs.Cmp.{nat_cmp_total, nat_eq_equiv, unsigned_tied}
 use Rattle.std.specs.FinMap as fin
-use Rattle.std.specs.FinSet as set
-use Rattle.std.specs.FinSet.{items}
-use Rattle.std.specs.List.{IsDistinct as AreApart}
+use Rattle.std.specs.List.{IsDistinct as AreApart, list_any}
 use Rattle.std.specs.Map.{lookup, keys_of}
 use Rattle.std.proofs.lemmas.Bool.{cases_eq, eq-eqb, ne_eqb, or_cases, eqb-true}
 use Rattle.std.proofs.lemmas.List.Sums.{sum_by-cons}
@@ -16,7 +14,6 @@ use Rattle.net_names.specs.Links.{converse}
 use Rattle.net_names.specs.Numbers.{occurs, IsDistinct}
 use Rattle.as_graph.specs.Topology.{Topology, ases, relation}
 use Rattle.as_graph.proofs.Links.{linked_end, relation_mutual}
-use Rattle.as_graph.proofs.RowAses.{occurs-items}
 use Rattle.message_sim.specs.declared.line.Line.{Line}
 use Rattle.message_sim.specs.Nets.{queue_on, waiting_in}
 use Rattle.message_sim.specs.Rows.{AreWithin, LineRows, link_eq, queue_at}
@@ -48,26 +45,46 @@ once : (es : List (ℕ × Unit {0})) → T (fin.is_sorted nat_cmp es) → IsDist
 once [] h = tt
 once (e ∷ es) h = (above e.0 es (left (fin.Entries.below_all nat_cmp e.0 es) (fin.is_sorted nat_cmp es) h), once es (right (fin.Entries.below_all nat_cmp e.0 es) (fin.is_sorted nat_cmp es) h))
 
-pub items_once : (s : set.FinSet nat_cmp) → IsDistinct (set.items s)
-unfolding items
-items_once s = once (fin.entries s) (fin.entries_sorted s)
+abbrev pub marks : List ℕ → List (ℕ × Unit {0})
+marks = map (λ a. (a, tt {0}))
+
+found_mark : (q : ℕ) (xs : List ℕ) → fin.find nat_cmp q (marks xs) ≡ cond (occurs q xs) (Some (tt {0})) None
+found_mark q [] = refl
+found_mark q (x ∷ xs) = (λ i. cond ((unsigned_tied q x ∙ nat_eq_equiv.symm q x) i) (Some (tt {0})) (found_mark q xs i)) ∙ by (x == q) (occurs q xs)
+  where
+    by : (t u : Bool) → cond t (Some (tt {0})) (cond u (Some (tt {0})) None) ≡ cond (t || u) (Some (tt {0})) None
+    by true u = refl
+    by false u = refl
+
+abbrev pub each : Topology → List ℕ
+each g = fin.keys (fin.from_entries {R = nat_cmp} (marks (ases g)))
+
+pub each_once : (g : Topology) → IsDistinct (each g)
+each_once g = once (fin.entries (fin.from_entries {R = nat_cmp} (marks (ases g)))) (fin.entries_sorted (fin.from_entries {R = nat_cmp} (marks (ases g))))
+
+among : (g : Topology) (b : ℕ) → occurs b (ases g) ≡ true → occurs b (each g) ≡ true
+among g b here =
+    (λ i. list_any (λ x. (nat_eq_equiv.symm x b ∙ sym (unsigned_tied b x)) i) (each g))
+    ∙ sym (fin.contains_key-keys (fin.from_entries {R = nat_cmp} (marks (ases g))) b)
+    ∙ ap is_some (fin.get-from_entries nat_cmp_total (marks (ases g)) b ∙ found_mark b (ases g))
+    ∙ ap (λ t. is_some (cond t (Some (tt {0})) None)) here
 
 -- both ends of a link are among the ASes
-pub ends_in : (g : Topology) (n a : ℕ) → is_some (relation g a n) ≡ true → (occurs n (set.items (set.from_list {R = nat_cmp} (ases g))) ≡ true) × (occurs a (set.items (set.from_list {R = nat_cmp} (ases g))) ≡ true)
+pub ends_in : (g : Topology) (n a : ℕ) → is_some (relation g a n) ≡ true → (occurs n (each g) ≡ true) × (occurs a (each g) ≡ true)
 ends_in g n a linked = by (relation g a n) refl linked
   where
-    among : (b : ℕ) → occurs b (ases g) ≡ true → occurs b (set.items (set.from_list {R = nat_cmp} (ases g))) ≡ true
-    among b here = occurs-items (set.from_list (ases g)) b ∙ set.contains-from_list_nat (ases g) b ∙ here
-
-    by : (r : Option Rel) → relation g a n ≡ r → is_some r ≡ true → (occurs n (set.items (set.from_list {R = nat_cmp} (ases g))) ≡ true) × (occurs a (set.items (set.from_list {R = nat_cmp} (ases g))) ≡ true)
+    by : (r : Option Rel) → relation g a n ≡ r → is_some r ≡ true → (occurs n (each g) ≡ true) × (occurs a (each g) ≡ true)
     by None is h = absurd (true≢false (sym h))
-    by (Some r) is h = (among n (linked_end g a n r is), among a (linked_end g n a (converse r) (relation_mutual g a n ∙ ap (option_map converse) is)))
+    by (Some r) is h = (among g n (linked_end g a n r is), among g a (linked_end g n a (converse r) (relation_mutual g a n ∙ ap (option_map converse) is)))
 
 -- ---- sums
 
 sum_none : (xs : List ℕ) → sum_by (λ (_ : ℕ). 0) xs ≡ 0
 sum_none [] = refl
-sum_none (x ∷ xs) = sum_by-cons (λ (_ : ℕ). 0) x xs ∙ sum_none xs
+sum_none (x ∷ xs) =
+    let cons = sum_by-cons (λ (_ : ℕ). 0) x xs in
+    let rest = sum_none xs in
+    omega (arith, cons, rest)
 
 sum_both : (f g : ℕ → ℕ) (xs : List ℕ) → sum_by (λ a. f a + g a) xs ≡ sum_by f xs + sum_by g xs
 sum_both f g [] = refl

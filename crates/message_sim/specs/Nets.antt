@@ -1,10 +1,9 @@
 -- A net and its world as plain data.
-use Rattle.std.specs.Prelude.{zero, suc, ◌≤◌, ◌<◌, ◌≡◌, ◌≢◌, ℕ, ◌+◌, Bool, true, false, Option, None, Some, length, sum_by, List, [], ◌∷◌, refl}
+use Rattle.std.specs.Prelude.{zero, suc, ◌≤◌, ◌<◌, ◌≡◌, ◌≢◌, ℕ, ◌+◌, Bool, true, false, Option, None, Some, length, map, sum_by, List, [], ◌∷◌, refl}
 use Rattle.message_sim.specs.Delivery.{IsDelivery}
 use Rattle.std.specs.Coded.{Coded, code_by, coded×, coded_ℕ, coded_option}
 use Rattle.std.specs.Ordering.{nat_cmp, is_gt}
 use Rattle.std.specs.FinMap as fin
-use Rattle.std.specs.FinSet as set
 use Rattle.net_names.specs.declared.routes.State.{State}
 use Rattle.net_names.specs.Links.{pair_cmp}
 use Rattle.net_names.specs.Prefixes.{PrefixValue, prefix_code}
@@ -88,7 +87,7 @@ waiting_in (e ∷ es) = length e.1.queue + waiting_in es
 
 -- how many messages are under way between the ASes of a graph
 abbrev pub queued_in : Topology → MessageNet → ℕ
-queued_in g x = let each = set.items (set.from_list {R = nat_cmp} (ases g)) in sum_by (λ n. sum_by (λ a. length (x.queue n a)) each) each
+queued_in g x = let each = fin.keys (fin.from_entries {R = nat_cmp} (map (λ a. (a, tt {0})) (ases g))) in sum_by (λ n. sum_by (λ a. length (x.queue n a)) each) each
 
 -- the value of a net that keeps these rows
 abbrev pub value_of : {P V : Type 0} → NetWorld P V → List (ℕ × Option Entry) → List ((ℕ × ℕ) × Line) → NetValue P V
