@@ -57,7 +57,11 @@ pub fn first_outside(sim: &Sim, jobs: &Jobs) -> Option<u32>
 }
 
 /// The states by the payloads. Those of the prefix with the origins that announce it are found ahead.
-pub fn states_at<'a>(alloc: Global, sim: &'a Sim, prefix: Prefix) -> Result<KnownStates<'a>, NoMemory>
+pub fn states_at<'a>(
+    alloc: Global,
+    sim: &'a Sim,
+    prefix: Prefix,
+) -> Result<KnownStates<'a>, NoMemory>
     ensures { IfOk result (λ states. states.payloads ≡ (world_seen sim.now).payloads) }
 {
     let mut states = KnownStates::of(alloc, sim.vrps());

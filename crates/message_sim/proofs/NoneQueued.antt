@@ -1,19 +1,17 @@
 -- No message is counted exactly where none is under way.
-use Rattle.std.proofs.Common.{◌≡◌, ℕ, Bool, true, is_some, Option, Some, None, List, [], ◌∷◌, ◌||◌, ◌==◌, length, sum_by, inl, inr, refl, sym, ◌∙◌, ap, subst, arith}
-use Rattle.std.specs.FinSet as set
-use Rattle.std.specs.Ordering.{nat_cmp}
+use Rattle.std.proofs.Common.{◌≡◌, ℕ, true, is_some, Option, Some, None, List, [], ◌∷◌, ◌==◌, length, sum_by, inl, inr, refl, sym, ◌∙◌, ap, subst, arith}
 use Rattle.std.proofs.lemmas.Bool.{or_cases, eqb-true}
-use Rattle.std.proofs.lemmas.List.{sum_by-cons}
+use Rattle.std.proofs.lemmas.List.Sums.{sum_by-cons}
 use Rattle.net_names.specs.declared.routes.Rel.{Rel}
 use Rattle.net_names.specs.Numbers.{occurs}
-use Rattle.as_graph.specs.Topology.{Topology, ases, relation}
+use Rattle.as_graph.specs.Topology.{Topology, relation}
 use Rattle.as_graph.proofs.Chains.{IsMutual}
 use Rattle.stability_laws.specs.declared.entry.Seed.{Seed}
 use Rattle.stability_laws.specs.Offers.{Setting}
 use Rattle.message_sim.specs.Messages.{Message, MessageNet, IsQuiet}
 use Rattle.message_sim.specs.Nets.{queued_in}
 use Rattle.message_sim.specs.Turns.{AreTurns}
-use Rattle.message_sim.proofs.Queued.{ends_in}
+use Rattle.message_sim.proofs.Queued.{each, ends_in}
 use Rattle.message_sim.proofs.Settling.{OnLinks, delivery_on_links}
 use Rattle.message_sim.proofs.Turning.{not_empty}
 
@@ -48,9 +46,9 @@ quiet_where_none g x on none n a = by (relation g a n) refl
     by : (r : Option Rel) → relation g a n ≡ r → x.queue n a ≡ []
     by None is = on n a is
     by (Some r) is =
-        let all : List ℕ = set.items (set.from_list {R = nat_cmp} (ases g)) in
-        let ends = ends_in g a n (ap is_some is) in
-        empty_by (x.queue n a) (each_none (λ b. length (x.queue n b)) all (each_none (λ m. sum_by (λ b. length (x.queue m b)) all) all none n ends.1) a ends.0)
+        let ends = ends_in g n a (ap is_some is) in
+        empty_by (x.queue n a) (each_none (λ b. length (x.queue n b)) (each g) (each_none (λ m. sum_by (λ b. length (x.queue m b)) (each g)) (each g) none n ends.0) a ends.1)
 
 pub none_where_quiet : (g : Topology) (x : MessageNet) → IsQuiet x → queued_in g x ≡ 0
-none_where_quiet g x quiet = all_none _ _ (λ n. all_none (λ a. length (x.queue n a)) _ (λ a. ap length (quiet n a)))
+none_where_quiet g x quiet =
+    all_none (λ n. sum_by (λ a. length (x.queue n a)) (each g)) (each g) (λ n. all_none (λ a. length (x.queue n a)) (each g) (λ a. ap length (quiet n a)))

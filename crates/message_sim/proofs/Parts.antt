@@ -1,5 +1,5 @@
 -- A delivery, part by part: what it changes at its link, at its receiver, and what it leaves.
-use Rattle.std.proofs.Common.{◌≡◌, ◌≢◌, inl, inr, ℕ, true, false, ◌==◌, ◌&&◌, cond, Option, None, Some, List, [], ◌∷◌, drop, refl, sym, ◌∙◌, ap, subst}
+use Rattle.std.proofs.Common.{◌≡◌, ◌≢◌, inl, inr, ℕ, ◌==◌, ◌&&◌, cond, Option, None, Some, List, [], ◌∷◌, drop, refl, sym, ◌∙◌, ap, subst}
 use Rattle.std.proofs.lemmas.Bool.{cases_eq, eq-eqb, ne_eqb}
 use Rattle.net_names.specs.declared.routes.Rel.{Rel}
 use Rattle.stability_laws.specs.declared.entry.Seed.{Seed}

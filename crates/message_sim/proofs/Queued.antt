@@ -1,5 +1,5 @@
 -- How many messages are under way between the ASes of a graph.
-use Rattle.std.proofs.Common.{◌≡◌, ◌≢◌, inl, inr, ℕ, ◌+◌, Bool, true, false, ◌||◌, ◌&&◌, ◌==◌, nat_eq, cond, T, true≢false, is_some, sum_by, Option, Some, None, List, [], ◌∷◌, length, map, option_map, refl, sym, ◌∙◌, ap, subst, arith}
+use Rattle.std.proofs.Common.{◌≡◌, ℕ, ◌+◌, Bool, true, false, ◌||◌, ◌&&◌, ◌==◌, nat_eq, cond, T, true≢false, is_some, sum_by, Option, Some, None, List, [], ◌∷◌, length, map, option_map, refl, sym, ◌∙◌, ap, arith}
 use Rattle.std.specs.declared.cmp.Ordering.{Ordering}
 use Rattle.std.specs.declared.cmp.Ordering.TheVariants.{Less, Equal, Greater}
 use Rattle.std.specs.Ordering.{nat_cmp, is_eq, is_lt}
@@ -7,7 +7,7 @@ use Rattle.std.specs.Cmp.{nat_cmp_total, nat_eq_equiv, unsigned_tied}
 use Rattle.std.specs.FinMap as fin
 use Rattle.std.specs.List.{IsDistinct as AreApart, list_any}
 use Rattle.std.specs.Map.{lookup, keys_of}
-use Rattle.std.proofs.lemmas.Bool.{cases_eq, eq-eqb, ne_eqb, or_cases, eqb-true}
+use Rattle.std.proofs.lemmas.Bool.{eqb-true}
 use Rattle.std.proofs.lemmas.List.Sums.{sum_by-cons}
 use Rattle.net_names.specs.declared.routes.Rel.{Rel}
 use Rattle.net_names.specs.Links.{converse}
@@ -18,7 +18,7 @@ use Rattle.message_sim.specs.declared.line.Line.{Line}
 use Rattle.message_sim.specs.Nets.{queue_on, waiting_in}
 use Rattle.message_sim.specs.Rows.{AreWithin, LineRows, link_eq, queue_at}
 use Rattle.message_sim.proofs.Lines.{link_refl}
-use Rattle.message_sim.proofs.Values.{absent, link_is}
+use Rattle.message_sim.proofs.Values.{absent}
 
 -- ---- each AS once
 

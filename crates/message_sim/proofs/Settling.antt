@@ -1,6 +1,6 @@
 -- After deliveries from the start a message can be delivered, or none is under way.
 use Rattle.std.proofs.Common.{◌≡◌, ◌≢◌, ◌⊎◌, inl, inr, ℕ, true, false, ◌==◌, true≢false, Option, Some, None, option_map, List, [], ◌∷◌, refl, sym, ◌∙◌, ap, subst, zero, suc, ◌++◌, ◌&&◌, cond, drop, length}
-use Rattle.std.proofs.lemmas.Bool.{cases_eq, or_cases, eqb-true}
+use Rattle.std.proofs.lemmas.Bool.{or_cases, eqb-true}
 use Rattle.net_names.specs.declared.routes.Rel.{Rel}
 use Rattle.net_names.specs.Links.{converse}
 use Rattle.net_names.specs.Numbers.{occurs}

@@ -1,18 +1,14 @@
 -- The rows of a net as finite maps.
-use Rattle.std.proofs.Common.{◌≡◌, ℕ, ◌+◌, Bool, true, false, ◌&&◌, cond, nat_eq, true≢false, Some, None, List, [], ◌∷◌, length, refl, sym, ◌∙◌, ap, arith}
-use Rattle.std.specs.Ordering.{nat_cmp, is_eq}
-use Rattle.std.specs.declared.cmp.Ordering.{Ordering}
-use Rattle.std.specs.declared.cmp.Ordering.TheVariants.{Less, Equal, Greater}
+use Rattle.std.proofs.Common.{◌≡◌, ℕ, Bool, true, false, ◌&&◌, cond, nat_eq, true≢false, Some, None, List, [], ◌∷◌, length, refl, sym, ◌∙◌, ap, arith}
+use Rattle.std.specs.Ordering.{nat_cmp}
 use Rattle.std.specs.Cmp.{nat_cmp_total, unsigned_tied}
 use Rattle.std.specs.List.{AllByRecursion, IsDistinct}
 use Rattle.std.specs.Map.{lookup, keys_of}
 use Rattle.std.specs.FinMap as fin
-use Rattle.std.specs.FinMap.Entries.{by_order}
 use Rattle.std.proofs.lemmas.Bool.{eqb-true}
 use Rattle.net_names.specs.Links.{pair_cmp}
 use Rattle.net_names.proofs.Pairs.{pairs_total}
 use Rattle.as_graph.proofs.RowLinks.{pair_tied}
-use Rattle.message_sim.specs.declared.line.Line.{Line}
 use Rattle.message_sim.specs.Nets.{NetWorld, net_of, value_of, chosen, received_on, queue_on, waiting_in}
 use Rattle.message_sim.specs.Rows.{ChoiceRows, LineRows, link_eq, queue_at}
 use Rattle.message_sim.specs.Kept.{net_in}

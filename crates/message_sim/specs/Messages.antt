@@ -1,5 +1,5 @@
 -- A net of ASes that tell their neighbours what they hold, over links that keep the order of messages.
-use Rattle.std.specs.Prelude.{◌≡◌, ◌≢◌, ◌⊎◌, ℕ, Option, None, Some, option_map, List, [], ◌∷◌, ◌++◌}
+use Rattle.std.specs.Prelude.{◌≡◌, ◌≢◌, ◌⊎◌, ℕ, Option, None, option_map, List, [], ◌∷◌, ◌++◌}
 use Rattle.net_names.specs.declared.routes.Rel.{Rel}
 use Rattle.net_names.specs.Steps.{◌>>=◌, option_filter}
 use Rattle.policy_laws.specs.Policy.{Policy}

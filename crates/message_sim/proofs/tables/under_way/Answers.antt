@@ -1,5 +1,5 @@
-use Rattle.std.proofs.Common.{◌≡◌, [], sym, ◌∙◌, ap}
-use Rattle.message_sim.proofs.Queued.{counted, grid}
+use Rattle.std.proofs.Common.{sym, ◌∙◌}
+use Rattle.message_sim.proofs.Queued.{counted}
 use Rattle.message_sim.proofs.Values.{nothing}
 use Rattle.message_sim.proofs.tables.under_way.Goals as goal
 

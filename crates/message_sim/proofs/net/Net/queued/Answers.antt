@@ -1,4 +1,4 @@
-use Rattle.std.proofs.Common.{◌≡◌, ℕ, sym, ◌∙◌, ap, subst}
+use Rattle.std.proofs.Common.{◌≡◌, sym, ◌∙◌, subst}
 use Rattle.message_sim.specs.Messages.{MessageNet}
 use Rattle.message_sim.specs.Nets.{NetWorld, NetValue, net_of, queued_in}
 use Rattle.message_sim.proofs.Queued.{each, each_once, ends_in}

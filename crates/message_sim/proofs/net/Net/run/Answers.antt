@@ -1,7 +1,7 @@
-use Rattle.std.proofs.Common.{◌≡◌, ◌+◌, ◌≤◌, ◌<◌, ◌∙◌, ◌++◌, [], ◌∷◌, None, List, length, suc, take, sym, ap, subst, arith}
+use Rattle.std.proofs.Common.{◌≡◌, ◌+◌, ◌<◌, ◌∙◌, ◌++◌, [], ◌∷◌, List, length, suc, take, sym, ap, subst, arith}
 use Rattle.std.proofs.Math.Seq.{take-suc}
 use Rattle.std.proofs.lemmas.Bool.Decides.{nat_tests}
-use Rattle.as_graph.specs.Topology.{Topology, relation}
+use Rattle.as_graph.specs.Topology.{relation}
 use Rattle.message_sim.specs.Nets.{NetWorld, net_of, net_setting, seeds_in}
 use Rattle.message_sim.specs.StepValues.{StepValue}
 use Rattle.message_sim.specs.Turns.{AreTurns, first_foreign_in, is_foreign, turns_of}
