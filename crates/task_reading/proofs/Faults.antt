@@ -19,7 +19,8 @@ use Rattle.std.specs.Result.{result_map_both}
 use Rattle.activations.specs.Files.{acts_of}
 use Rattle.activations.specs.declared.reading.ActsError.{ActsError}
 use Rattle.activations.specs.declared.reading.ActsError.TheVariants as acts
-use Rattle.message_sim.specs.Files.{deliveries_of}
+use Rattle.message_sim.specs.Files.{deliveries_by}
+use Rattle.net_names.specs.Lines.{kept_from}
 use Rattle.message_sim.specs.declared.reading.DeliveriesError.{DeliveriesError}
 use Rattle.message_sim.specs.declared.reading.DeliveriesError.TheVariants as deliveries
 use Rattle.task_reading.specs.declared.words.FileOption.{FileOption}
@@ -121,7 +122,7 @@ cause_by f as_cause form which others (Err e) c h = let is : as_cause e ≡ c = 
 other_jobs : (form : Option Form) (which : File) (o : FileOption) (bytes : List ℕ) (c : Cause) → jobs_in o bytes ≡ Err c → IsOther form (fault.InFile which c)
 other_jobs form which option.Script bytes c h = cause_by (map (line_job true)) cause.Script form which (other_script form which) (script_of bytes) c h
 other_jobs form which option.Activations bytes c h = cause_by (λ acts. acts_job acts ∷ []) cause.Acts form which (other_acts form which) (acts_of bytes) c h
-other_jobs form which option.Messages bytes c h = cause_by (λ deliveries. messages_job deliveries ∷ []) cause.Deliveries form which (other_deliveries form which) (deliveries_of bytes) c h
+other_jobs form which option.Messages bytes c h = cause_by (λ deliveries. messages_job deliveries ∷ []) cause.Deliveries form which (other_deliveries form which) (deliveries_by (kept_from 1 bytes)) c h
 
 -- a line that names what isn't in the world
 pub other_line : (form : Option Form) (which : File) (line : ℕ) → IsOther form (fault.InFile which (cause.NotInWorld line))

@@ -18,7 +18,8 @@ use Rattle.topo_gen.specs.Drawn.{drawn_links}
 use Rattle.topo_gen.specs.Scenarios.{drawn_payloads, drawn_scenario}
 use Rattle.topo_gen.specs.Lines.{drawn_lines}
 use Rattle.activations.specs.Files.{acts_of}
-use Rattle.message_sim.specs.Files.{deliveries_of}
+use Rattle.message_sim.specs.Files.{deliveries_by}
+use Rattle.net_names.specs.Lines.{kept_from}
 use Rattle.task_reading.specs.Jobs.{Job, acts_job, counts_job, line_job, messages_job}
 use Rattle.task_reading.specs.Words.{Form, file_form, origin_form, demo_form}
 use Rattle.task_reading.specs.declared.asking.Asked.{Asked}
@@ -50,7 +51,7 @@ read_as which most as_cause value reads = bytes_of which most (reads which) >>= 
 abbrev pub jobs_in : FileOption → Text → Result (List Job) Cause
 jobs_in option.Script bytes = result_map_both (map (line_job true)) cause.Script (script_of bytes)
 jobs_in option.Activations bytes = result_map_both (λ a. acts_job a ∷ []) cause.Acts (acts_of bytes)
-jobs_in option.Messages bytes = result_map_both (λ d. messages_job d ∷ []) cause.Deliveries (deliveries_of bytes)
+jobs_in option.Messages bytes = result_map_both (λ d. messages_job d ∷ []) cause.Deliveries (deliveries_by (kept_from 1 bytes))
 
 -- what the form and the files ask for, or the first fault: the generated input, with the numbers of its ASes and links first; the routes of all ASes in round 1 to one origin, which announces 0.0.0.0/0 (RFC 4632, section 3.1) with its own number as the path, without payloads and without a head line;
 -- what an option's file asks for. A file that isn't named is empty, and so has no payloads or lines; without a scenario its four lists are empty

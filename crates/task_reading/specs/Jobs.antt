@@ -2,7 +2,7 @@
 use Rattle.std.specs.Prelude.{◌≡◌, ◌⊎◌, All, Bool, List, [], ◌∷◌, false, true, map}
 use Rattle.activations.specs.Named.{AreSound}
 use Rattle.activations.specs.declared.acts.Acts.{Acts}
-use Rattle.message_sim.specs.declared.deliveries.Deliveries.{Deliveries}
+use Rattle.message_sim.specs.declared.steps.Deliveries.{Deliveries}
 use Rattle.scenario_text.specs.LineValues.{IsSoundAct, LineValue}
 use Rattle.task_reading.specs.declared.jobs.Asks.{Asks}
 use Rattle.task_reading.specs.declared.jobs.Asks.TheVariants.{Lines, Activations, Messages}

@@ -17,7 +17,7 @@ ghost use Rattle.activations.specs.Files.{Fails as ActsFails};
 ghost use Rattle.activations.specs.declared.acts.Acts.{Acts as SomeActs};
 ghost use Rattle.activations.specs.declared.reading.ActsError.{ActsError as AnActsError};
 ghost use Rattle.message_sim.specs.Files.{Fails as DeliveriesFails};
-ghost use Rattle.message_sim.specs.declared.deliveries.Deliveries.{Deliveries as SomeDeliveries};
+ghost use Rattle.message_sim.specs.declared.steps.Deliveries.{Deliveries as SomeDeliveries};
 ghost use Rattle.message_sim.specs.declared.reading.DeliveriesError.{DeliveriesError as ADeliveriesError};
 ghost use Rattle.task_reading.specs.Files.{IsFaultOf};
 ghost use Rattle.task_reading.specs.declared.types.File.TheVariants as file;

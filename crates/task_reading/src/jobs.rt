@@ -67,7 +67,7 @@ impl Model for Jobs {
     ghost use Rattle.std.specs.Prelude.{List};
     ghost use Rattle.std.specs.Coded.{codes};
     ghost use Rattle.activations.specs.contracts.acts.Acts as acts;
-    ghost use Rattle.message_sim.specs.contracts.deliveries.Deliveries as deliveries;
+    ghost use Rattle.message_sim.specs.contracts.steps.Deliveries as deliveries;
     ghost use Rattle.task_reading.specs.Jobs.{Job as AJob, IsSoundAsks, jobs_of};
 
     ghost Value = { List AJob };

@@ -1,8 +1,10 @@
 //! The files of a run: each is read to its end, or to one byte past its limit, before it is judged.
-ghost use Rattle.std.specs.Prelude.{◌≡◌, ◌<◌, ◌≤◌, Some, Ok, length};
+ghost use Rattle.std.specs.Prelude.{◌≡◌, ◌<◌, ◌≤◌, ◌⊎◌, ◌+◌, Some, Ok, length};
+ghost use Rattle.std.specs.Io.KnownBytes.{IsAtEnd};
 ghost use Rattle.std.specs.Option.{option_map_or};
 ghost use Rattle.caida_reader.specs.Value.{links_of};
 ghost use Rattle.io_edge.specs.Faults.{KeepsNames};
+ghost use Rattle.io_edge.specs.Whole.{TakesAtMost};
 ghost use Rattle.roa_table.specs.Files.{payloads_in};
 ghost use Rattle.scenario_text.specs.Readings.{scenario_of_bytes};
 ghost use Rattle.scenario_text.specs.Scenarios.{nothing};
@@ -35,7 +37,8 @@ pub const MOST_TEXT_BYTES: usize = 16_777_216;
 // How many bytes are taken at once.
 const PIECE: usize = 65_536;
 
-// Reads the relationship file in pieces as long as the room.
+// Reads the relationship file in pieces as long as the room. It takes at most one byte past the limit; where `begin` failed
+// nothing is begun.
 fn read_pieces<I: Inputs>(
     alloc: Global,
     inputs: &mut I,
@@ -45,6 +48,7 @@ fn read_pieces<I: Inputs>(
     requires { 0 < length room.old }
     ensures found { ReadsAs (source_of I.holds I.is_sound I.faults inputs.old inputs.new) (Some name.now)
         (λ links. links) result (read_as files.Relations MOST_LIST_BYTES cause.Relation links_of) }
+    ensures taken { IsAtEnd (I.left inputs.new) ⊎ TakesAtMost (MOST_LIST_BYTES + 1) (I.holds inputs.old name.now) (I.left inputs.new) }
     ensures keeps { KeepsNames I.holds I.is_sound I.faults inputs.old inputs.new }
 {
     if inputs.begin(name).is_err() {

@@ -18,4 +18,5 @@ returns c =
     let origin = added c.in_ok-arg-4.ensures c.option-4.ensures.local script c.option-4.ensures.rule in
     let demo = added c.in_ok-arg-5.ensures c.option-5.ensures.local origin c.option-5.ensures.rule in
     let activations = added c.in_ok-arg-6.ensures c.option-6.ensures.local demo c.option-6.ensures.rule in
-    IfOk-weaker c.arg-7.result _ _ (λ command adds. added adds c.word.ensures.local activations c.word.ensures.rule) c.arg-7.ensures
+    let messages = added c.in_ok-arg-7.ensures c.option-7.ensures.local activations c.option-7.ensures.rule in
+    IfOk-weaker c.arg-8.result _ _ (λ command adds. added adds c.word.ensures.local messages c.word.ensures.rule) c.arg-8.ensures

@@ -1,5 +1,6 @@
-use Rattle.std.proofs.Common.{◌≡◌, arith, refl, length, take, ap, sym, drop, ◌++◌, ◌∙◌, length-append, length-drop}
+use Rattle.std.proofs.Common.{◌≡◌, inr, arith, refl, length, take, ap, sym, drop, ◌++◌, ◌∙◌, length-append, length-drop}
 use Rattle.std.proofs.lemmas.List.{take-append-le, length-take}
+use Rattle.std.proofs.KnownBytes.{Consumes-kept}
 use Rattle.task_reading.proofs.Feeding.{more_fed, ends_ok, ends_err, ends_long}
 use Rattle.task_reading.proofs.reading.read_pieces.Goals as goal
 
@@ -43,3 +44,8 @@ pieces-preserved g c =
 
 pub returns-clause-found : goal.returns-clause-found
 returns-clause-found g c = ends_long c.pieces.invariant.fed (omega (arith, c.pieces-test.false))
+
+pub returns-in-Err-clause-taken : goal.returns-in-Err-clause-taken
+returns-in-Err-clause-taken g c =
+    let fed = c.pieces.invariant.fed in
+    inr (record { bytes = fed.bytes; within = omega (arith, fed.long, c.pieces.invariant.within); taken = Consumes-kept _ _ _ fed.bytes fed.took c.in-Err.ensures.bytes })
