@@ -7,6 +7,7 @@ ghost use Rattle.table_check.specs.Checked.{IsVerdict};
 ghost use Rattle.table_check.specs.Walk.{IsFault};
 
 use crate::lowest::lowest_wrong;
+use crate::placed::{Placed, held_by_rows};
 use crate::tables::Tables;
 use crate::verdict::{Fault, Verdict};
 use net_names::{NoMemory, Prefix};
@@ -27,7 +28,10 @@ fn fault_in<P: RoutePolicy, V: OriginStates>(
     ensures { IfOk result (IsFault (setting_in P.meaning V.state_of world.now prefix) (seeds_of plan.now round prefix (map.get before.now)) (map.get routing.now)) }
 {
     let seeds = seeds_at(alloc, plan, round, prefix, before)?;
-    let Some(asn) = lowest_wrong(world, prefix, &seeds, routing) else {
+    let rows = world.graph.rows();
+    let held = held_by_rows(alloc, rows, routing)?;
+    let placed = Placed::new(routing, rows, &held);
+    let Some(asn) = lowest_wrong(world, prefix, &seeds, &placed) else {
         return Ok(None);
     };
     if !world.graph.has(asn) {

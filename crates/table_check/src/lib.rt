@@ -9,8 +9,11 @@ mod check;
 mod forms;
 mod laws;
 mod lowest;
+mod near;
+mod placed;
 mod reading;
 mod rows;
+mod same;
 mod tables;
 mod verdict;
 

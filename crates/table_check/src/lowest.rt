@@ -6,6 +6,8 @@ ghost use Rattle.as_graph.specs.Following.{IsAbove};
 ghost use Rattle.stability_laws.specs.World.{setting_in};
 ghost use Rattle.table_check.specs.Walk.{IsFine, IsLowestWrong, IsNextNamed, IsUnnamed, lower_of};
 
+use crate::near::is_right_near;
+use crate::placed::Placed;
 use as_graph::Graph;
 use net_names::{Asn, Prefix};
 use policy_laws::{OriginStates, RoutePolicy};
@@ -16,16 +18,18 @@ fn is_fine<P: RoutePolicy, V: OriginStates>(
     world: &World<'_, P, V>,
     prefix: Prefix,
     seeds: &Seeds,
-    routing: &Routing,
+    placed: &Placed<'_>,
     asn: Asn,
 ) -> bool
-    ensures { IsTrue result ↔ IsFine (setting_in P.meaning V.state_of world.now prefix) (map.get seeds.now) (map.get routing.now) asn }
+    ensures { IsTrue result ↔ IsFine (setting_in P.meaning V.state_of world.now prefix) (map.get seeds.now) (map.get placed.now.routing.now) asn }
 {
-    if world.graph.has(asn) {
-        check_at(world, prefix, seeds, routing, asn).is_ok()
-    } else {
-        routing.get(asn).is_none()
+    if !world.graph.has(asn) {
+        return placed.routing.get(asn).is_none();
     }
+    if is_right_near(world, prefix, seeds, placed, asn) {
+        return true;
+    }
+    check_at(world, prefix, seeds, placed.routing, asn).is_ok()
 }
 
 /// The lower one of two numbers that may be missing.
@@ -58,14 +62,14 @@ pub(crate) fn lowest_wrong<P: RoutePolicy, V: OriginStates>(
     world: &World<'_, P, V>,
     prefix: Prefix,
     seeds: &Seeds,
-    routing: &Routing,
+    placed: &Placed<'_>,
 ) -> Option<Asn>
-    ensures found { IfSome result (IsLowestWrong (setting_in P.meaning V.state_of world.now prefix) (map.get seeds.now) (map.get routing.now)) }
-    ensures none { IfNone result ((a : ℕ) → IsFine (setting_in P.meaning V.state_of world.now prefix) (map.get seeds.now) (map.get routing.now) a) }
+    ensures found { IfSome result (IsLowestWrong (setting_in P.meaning V.state_of world.now prefix) (map.get seeds.now) (map.get placed.now.routing.now)) }
+    ensures none { IfNone result ((a : ℕ) → IsFine (setting_in P.meaning V.state_of world.now prefix) (map.get seeds.now) (map.get placed.now.routing.now) a) }
 {
     let mut after: Option<Asn> = None;
-    'named: while let Some(asn) = next_named(world.graph, routing, after) {
-        if !is_fine(world, prefix, seeds, routing, asn) {
+    'named: while let Some(asn) = next_named(world.graph, placed.routing, after) {
+        if !is_fine(world, prefix, seeds, placed, asn) {
             return Some(asn);
         }
         let _number = asn.get();

@@ -29,20 +29,27 @@ impl Model for Rows {
     ghost invariant = { λ r. HasShortRows (map.from_entries r.entries.entries) };
 }
 
+/// A copy of the entry.
+pub(crate) fn copy_of(alloc: Global, entry: &Entry) -> Result<Entry, NoMemory>
+    ensures { IfOk result (λ copy. copy ≡ entry.now) }
+{
+    match Vec::from_slice(alloc, entry.path.as_slice()) {
+        Ok(numbers) => Ok(Entry {
+            class: entry.class,
+            path: Path::from_vec(numbers),
+            otc: entry.otc,
+        }),
+        Err(_) => Err(NoMemory),
+    }
+}
+
 // Makes the AS hold a copy of this.
 fn put_copy(alloc: Global, routing: &mut Routing, asn: Asn, held: &Entry) -> Result<(), NoMemory>
     requires { length held.now.path ≤ 4294967294 }
     ensures { OnOk result (routing.new ≡ map.insert routing.old asn held.now) }
 {
-    let Ok(numbers) = Vec::from_slice(alloc, held.path.as_slice()) else {
-        return Err(NoMemory);
-    };
-    let entry = Entry {
-        class: held.class,
-        path: Path::from_vec(numbers),
-        otc: held.otc,
-    };
-    routing.put(asn, entry)?;
+    let copy = copy_of(alloc, held)?;
+    routing.put(asn, copy)?;
     Ok(())
 }
 
