@@ -39,7 +39,7 @@ module _ {P : Type 0} (meaning : P → Policy) (one : OneStableRouting meaning) 
   seeds_are (suc k) h a = same_seeds plan t.prefix (suc (suc k)) (held (suc k)) (g (suc k) t.prefix) (h k refl) a
 
   stable_in : (before : ℕ) → ((a : ℕ) → IsInOrder here plan t before a) → IsStable here (seeds before) (held (suc before))
-  stable_in before h = record { only_ases = λ a is. (h a).outside is; right = λ a is. (h a).inside is }
+  stable_in before h = record { only_ases = λ a is. (h a).1 is; right = λ a is. (h a).0 is }
 
   round_is : (before : ℕ) → before < length t.starts → ((a : ℕ) → seeds before a ≡ seeds_of plan (suc before) t.prefix (g before t.prefix) a) → IsStable here (seeds before) (g (suc before) t.prefix)
   round_is before less same = let F : (ℕ → Option Seed) → Type 0 = λ s. IsStable here s (g (suc before) t.prefix) in subst F (λ i a. sym (same a) i) (are before t.prefix (omega arith) known)
@@ -55,7 +55,7 @@ module _ {P : Type 0} (meaning : P → Policy) (one : OneStableRouting meaning) 
   are_accepted same before a less =
       let F : (ℕ → Option Entry) → Type 0 = λ f. IsStable here (seeds before) f in
       let stable = subst F (λ i b. sym (same before less b) i) (round_is before less (seeds_are before (λ k e b. earlier before less k e b))) in
-      record { inside = λ is. stable.right a is; outside = λ is. stable.only_ases a is }
+      ((λ is. stable.right a is), (λ is. stable.only_ases a is))
     where
       earlier : (b : ℕ) → b < length t.starts → (k : ℕ) → b ≡ suc k → (a : ℕ) → held b a ≡ g b t.prefix a
       earlier zero l k e = absurd (omega arith)

@@ -7,6 +7,7 @@ use Rattle.std.specs.Ordering.{eq_by_cmp}
 use Rattle.std.specs.Cmp.{nat_eq_equiv, unsigned_tied}
 use Rattle.std.specs.FinMap as map
 use Rattle.std.proofs.lemmas.Bool.{cases_eq, or_left, or_right, eqb-true, ne_eqb}
+use Rattle.net_names.specs.Lines.{kept_from}
 use Rattle.net_names.specs.Links.{pair_cmp}
 use Rattle.net_names.specs.Numbers.{occurs, IsDistinct}
 use Rattle.net_names.specs.Prefixes.{PrefixValue}
@@ -20,7 +21,7 @@ use Rattle.stability_laws.specs.Rounds.{Family}
 use Rattle.table_check.specs.declared.tables.Tables.{Tables}
 use Rattle.table_check.specs.Printed.{for_text, sections_text, with_rounds, IsPrintable, IsRow, IsSection}
 use Rattle.table_check.specs.Laws.{IsTableOf, PrintedRoundsAreAccepted, rounds_text}
-use Rattle.table_check.specs.Reading.{tables_of}
+use Rattle.table_check.specs.Reading.{tables_by}
 use Rattle.table_check.proofs.AcceptedRounds.{are_accepted}
 use Rattle.table_check.proofs.Listed.{asns_of, listed_once, listed_are}
 use Rattle.table_check.proofs.ReadSections.{tables_again}
@@ -135,7 +136,7 @@ printed_accepted meaning one w book state plan rounds g prefix more acyclic are 
     ap (λ (o : Option (Option Entry)). option_and_then (λ h. h) o) (map.get-from_entries pairs_total (with_rounds 1 (rounds_from asns held 1 (suc more))) (suc before, a)
     ∙ find_round asns held 1 (suc more) (suc before) a (omega arith) (omega (arith, less, len)))
     ∙ at_as (occurs a asns) (held (suc before) a) (λ out. (are before prefix (omega (arith, less, len, few)) known).only_ases a (sym (listed a) ∙ out)) refl in
-    (t, ap tables_of (text_is w g prefix 1 (suc more)) ∙ read, refl, len, same, are_accepted meaning one w book state plan rounds g t acyclic are known (omega (arith, len, few)) same)
+    (t, ap (λ text. tables_by (kept_from 1 text)) (text_is w g prefix 1 (suc more)) ∙ read, refl, len, same, are_accepted meaning one w book state plan rounds g t acyclic are known (omega (arith, len, few)) same)
   where
     at_as : (b : Bool) (o : Option Entry) → (b ≡ false → o ≡ None) → b ≡ b → option_and_then (λ h. h) (cond b (Some o) None) ≡ o
     at_as true o only e = refl

@@ -48,10 +48,10 @@ in_section w plan t before round last now is seeds held found given =
     held_here = held_by t.rows (suc before)
 
     fits : (a : ℕ) (o : Option Entry) → Fits w seeds_here held_here a o → IsRightIn w plan t before a o
-    fits a o h = record { inside = h.inside; outside = h.outside }
+    fits a o h = (h.inside, h.outside)
 
     fitting : (a : ℕ) (o : Option Entry) → IsRightIn w plan t before a o → Fits w seeds_here held_here a o
-    fitting a o h = record { inside = h.inside; outside = h.outside }
+    fitting a o h = record { inside = h.0; outside = h.1 }
 
     said : (found : Option Fault) → IsFault w seeds_here held_here found → Found w plan t before found
     said None h = λ a. fits a (held_here a) (h a)

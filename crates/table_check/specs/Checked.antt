@@ -11,9 +11,9 @@ use Rattle.table_check.specs.declared.verdict.Verdict.TheVariants.{Stable, Wrong
 use Rattle.table_check.specs.Rows.{held_by}
 
 -- in the section after `before`, a is right with this, or with nothing: an AS of the world with what the others hold there and with the seeds that follow from the section before, any other number with nothing (own rule)
-pub record IsRightIn (w : Setting) (plan : Plan) (t : Tables) (before a : ℕ) (held : Option Entry) : Type 0 where
-  pub inside : w.has a ≡ true → IsRightWith w (seeds_of plan (suc before) t.prefix (held_by t.rows before)) (held_by t.rows (suc before)) a held
-  pub outside : w.has a ≡ false → held ≡ None
+abbrev pub IsRightIn : Setting → Plan → Tables → ℕ → ℕ → Option Entry → Type 0
+IsRightIn w plan t before a held = (w.has a ≡ true → IsRightWith w (seeds_of plan (suc before) t.prefix (held_by t.rows before)) (held_by t.rows (suc before)) a held)
+    × (w.has a ≡ false → held ≡ None)
 
 -- in the section after `before`, a is right with what it holds there (own rule)
 abbrev pub IsInOrder : Setting → Plan → Tables → ℕ → ℕ → Type 0

@@ -4,6 +4,7 @@ use Rattle.std.specs.List.{flat_map}
 use Rattle.std.specs.Ordering.{nat_cmp}
 use Rattle.std.specs.FinMap as map
 use Rattle.net_names.specs.declared.routes.State.{State}
+use Rattle.net_names.specs.Lines.{kept_from}
 use Rattle.net_names.specs.Prefixes.{PrefixValue, IsPrefix}
 use Rattle.policy_laws.specs.Policy.{Policy}
 use Rattle.as_graph.specs.Topology.{Topology, ases, has, relation}
@@ -17,7 +18,7 @@ use Rattle.stability_laws.specs.Rounds.{AreRounds, Family}
 use Rattle.table_check.specs.declared.tables.Tables.{Tables}
 use Rattle.table_check.specs.Rows.{held_by}
 use Rattle.table_check.specs.Checked.{IsAccepted}
-use Rattle.table_check.specs.Reading.{tables_of}
+use Rattle.table_check.specs.Reading.{tables_by}
 use Rattle.table_check.specs.Printed.{for_text, IsAsn, IsPrintable}
 
 -- each section of the table is the routing of its round
@@ -49,4 +50,4 @@ PrintedRoundsAreAccepted {P} meaning =
     HasNoProviderCycle (relation w) → AreRounds here plan rounds g → IsTrue (has_prefix plan prefix) → IsPrefix prefix.family prefix.addr prefix.len →
     ((a : ℕ) → has w a ≡ true → IsAsn a) → ((round a : ℕ) (e : Entry) → 1 ≤ round → round ≤ more + 1 → g round prefix a ≡ Some e → IsPrintable e) →
     more + 1 ≤ rounds → more + 1 < 10 ^ 9 →
-    (t : Tables) × (tables_of (rounds_text w g prefix 1 (suc more)) ≡ Ok t) × (t.prefix ≡ prefix) × (length t.starts ≡ suc more) × IsTableOf g t × IsAccepted (here prefix) plan t
+    (t : Tables) × (tables_by (kept_from 1 (rounds_text w g prefix 1 (suc more))) ≡ Ok t) × (t.prefix ≡ prefix) × (length t.starts ≡ suc more) × IsTableOf g t × IsAccepted (here prefix) plan t

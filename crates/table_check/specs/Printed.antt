@@ -2,12 +2,13 @@
 use Rattle.std.specs.Prelude.{◌≡◌, ℕ, ◌+◌, ◌^◌, ◌<◌, ◌≤◌, Option, List, [], ◌∷◌, ◌++◌, codes, decimal, length, map as each, IfSome, suc, Ok}
 use Rattle.std.specs.List.{AllByRecursion, flat_map}
 use Rattle.std.specs.FinMap as map
+use Rattle.net_names.specs.Lines.{kept_from}
 use Rattle.net_names.specs.Numbers.{IsDistinct}
 use Rattle.net_names.specs.Prefixes.{PrefixValue, IsPrefix}
 use Rattle.net_names.specs.Texts.{prefix_text}
 use Rattle.stability_laws.specs.EntryTexts.{entry_row}
 use Rattle.stability_laws.specs.declared.entry.Entry.{Entry}
-use Rattle.table_check.specs.Reading.{tables_of}
+use Rattle.table_check.specs.Reading.{tables_by}
 
 -- the line with which a section begins, without its line feed (own format)
 abbrev pub for_text : ℕ → PrefixValue → List ℕ
@@ -47,4 +48,4 @@ abbrev pub PrintedTablesAreRead : Type 0
 PrintedTablesAreRead = (prefix : PrefixValue) (rows : List (ℕ × Option Entry)) (more : List (List (ℕ × Option Entry))) →
     IsPrefix prefix.family prefix.addr prefix.len → AllByRecursion IsSection (rows ∷ more) → length more + 1 < 10 ^ 9 →
     (starts : List ℕ) × (length starts ≡ length more + 1)
-    × (tables_of (sections_text 1 prefix (rows ∷ more)) ≡ Ok (record { prefix = prefix; starts = starts; rows = map.from_entries (with_rounds 1 (rows ∷ more)) }))
+    × (tables_by (kept_from 1 (sections_text 1 prefix (rows ∷ more))) ≡ Ok (record { prefix = prefix; starts = starts; rows = map.from_entries (with_rounds 1 (rows ∷ more)) }))

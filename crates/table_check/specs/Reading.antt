@@ -3,7 +3,7 @@ use Rattle.std.specs.Prelude.{◌≡◌, ℕ, ◌+◌, ◌&&◌, ◌==◌, List,
 use Rattle.std.specs.Option.{option_or}
 use Rattle.std.specs.Ordering.{eq_by_cmp}
 use Rattle.std.specs.FinMap as map
-use Rattle.net_names.specs.Lines.{kept_from, said_on}
+use Rattle.net_names.specs.Lines.{said_on}
 use Rattle.net_names.specs.Prefixes.{prefix_cmp}
 use Rattle.net_names.specs.Steps.{option_filter}
 use Rattle.net_names.specs.Trials.{◌>>=◌}
@@ -29,10 +29,6 @@ with_line t l = unwrap_or (option_or
 unfoldable pub tables_by : List (ℕ × List ℕ) → Result Tables TablesError
 tables_by [] = Err NoFor
 tables_by (l ∷ ls) = ok_or (for_of l.1) (Unreadable l.0) >>= λ x. said_on with_line (record { prefix = x.1; starts = []; rows = map.empty }) (l ∷ ls)
-
--- what a file says
-abbrev pub tables_of : List ℕ → Result Tables TablesError
-tables_of bytes = tables_by (kept_from 1 bytes)
 
 -- a reading fails in this way; want of memory says nothing of it
 abbrev pub Fails : {X : Type 0} → TablesError → Result X TablesError → Type 0

@@ -15,7 +15,7 @@ abbrev pub row_map_code : Coded RowMap
 row_map_code = map.code (coded× coded_ℕ coded_ℕ) (coded_option entry.the_row.coded)
 
 -- what the AS holds in the round by the rows; nothing where it has no row (own format)
-abbrev pub held_by : RowMap → ℕ → ℕ → Option Entry
+abbrev pub held_by : map.FinMap pair_cmp (Option Entry) → ℕ → ℕ → Option Entry
 held_by rows round a = option_and_then (λ held. held) (map.get rows (round, a))
 
 -- each path has at most 4294967294 numbers

@@ -4,7 +4,7 @@ ghost use Rattle.std.specs.FinMap as map;
 ghost use Rattle.std.specs.Ordering.{eq_by_cmp};
 ghost use Rattle.net_names.specs.Lines.{kept_from, said_on};
 ghost use Rattle.net_names.specs.Prefixes.{prefix_cmp};
-ghost use Rattle.table_check.specs.Reading.{Gives, tables_of, with_line, with_row};
+ghost use Rattle.table_check.specs.Reading.{Gives, tables_by, with_line, with_row};
 
 use crate::forms::row;
 use crate::rows::Rows;
@@ -129,7 +129,7 @@ fn begun(alloc: Global, prefix: Prefix) -> Tables
 /// `Memory` where there is not enough memory.
 pub fn read_tables(alloc: Global, bytes: &[u8]) -> Result<Tables, TablesError>
     requires { length bytes.now ≤ 268435456 }
-    ensures { Gives result (tables_of bytes.now) }
+    ensures { Gives result (tables_by (kept_from 1 bytes.now)) }
 {
     let Some(first) = next_kept(bytes, 1) else {
         return Err(TablesError::NoFor);
