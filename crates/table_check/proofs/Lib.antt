@@ -9,3 +9,4 @@ pub mod ReadRows
 pub mod ReadSections
 pub mod AcceptedRounds
 pub mod PrintedRounds
+pub mod OneVerdict

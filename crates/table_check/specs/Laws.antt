@@ -17,7 +17,8 @@ use Rattle.stability_laws.specs.Plans.{Plan, has_prefix}
 use Rattle.stability_laws.specs.Rounds.{AreRounds, Family}
 use Rattle.table_check.specs.declared.tables.Tables.{Tables}
 use Rattle.table_check.specs.Rows.{held_by}
-use Rattle.table_check.specs.Checked.{IsAccepted}
+use Rattle.table_check.specs.declared.verdict.Verdict.{Verdict}
+use Rattle.table_check.specs.Checked.{IsAccepted, IsVerdict}
 use Rattle.table_check.specs.Reading.{tables_by}
 use Rattle.table_check.specs.Printed.{for_text, IsAsn, IsPrintable}
 
@@ -51,3 +52,9 @@ PrintedRoundsAreAccepted {P} meaning =
     ((a : ℕ) → has w a ≡ true → IsAsn a) → ((round a : ℕ) (e : Entry) → 1 ≤ round → round ≤ more + 1 → g round prefix a ≡ Some e → IsPrintable e) →
     more + 1 ≤ rounds → more + 1 < 10 ^ 9 →
     (t : Tables) × (tables_by (kept_from 1 (rounds_text w g prefix 1 (suc more))) ≡ Ok t) × (t.prefix ≡ prefix) × (length t.starts ≡ suc more) × IsTableOf g t × IsAccepted (here prefix) plan t
+
+-- a table has one verdict
+abbrev pub OneVerdict : {P : Type 0} → (P → Policy) → Type 0
+OneVerdict {P} meaning =
+    (w : Topology) (book : PolicyBook P) (state : ℕ → State) (plan : Plan) (t : Tables) (v u : Verdict) →
+    IsVerdict (setting meaning w book state) plan t v → IsVerdict (setting meaning w book state) plan t u → v ≡ u

@@ -1,6 +1,6 @@
 //! What acceptance means, and that a table is read as it is printed. Each law is a function without
 //! effect: who needs it calls it, and has its clause.
-ghost use Rattle.table_check.specs.Laws.{AcceptedAreRounds, PrintedRoundsAreAccepted};
+ghost use Rattle.table_check.specs.Laws.{AcceptedAreRounds, OneVerdict, PrintedRoundsAreAccepted};
 ghost use Rattle.table_check.specs.Printed.{PrintedTablesAreRead};
 
 use policy_laws::RoutePolicy;
@@ -26,3 +26,8 @@ pub fn printed_rounds_are_accepted<P: RoutePolicy>()
 {
     one_stable_routing::<P>();
 }
+
+/// A table has one verdict.
+pub fn one_verdict<P: RoutePolicy>()
+    ensures { OneVerdict P.meaning }
+{}

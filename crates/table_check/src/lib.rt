@@ -18,7 +18,9 @@ mod tables;
 mod verdict;
 
 pub use check::check_tables;
-pub use laws::{accepted_are_rounds, printed_rounds_are_accepted, printed_tables_are_read};
+pub use laws::{
+    accepted_are_rounds, one_verdict, printed_rounds_are_accepted, printed_tables_are_read,
+};
 pub use reading::{TablesError, read_tables};
 pub use rows::Rows;
 pub use tables::{Starts, Tables};
