@@ -12,10 +12,9 @@ use Rattle.stability_laws.specs.Rounds.{seeds_of}
 use Rattle.stability_laws.specs.World.{setting}
 use Rattle.stability_laws.proofs.Local.{one_right}
 use Rattle.table_check.specs.declared.tables.Tables.{Tables}
-use Rattle.table_check.specs.declared.verdict.Verdict.{Verdict}
 use Rattle.table_check.specs.declared.verdict.Verdict.TheVariants.{Stable, Wrong}
 use Rattle.table_check.specs.Rows.{held_by}
-use Rattle.table_check.specs.Checked.{IsFirstWrong, IsRightIn, IsVerdict}
+use Rattle.table_check.specs.Checked.{IsFirstWrong, IsRightIn}
 use Rattle.table_check.specs.Laws.{OneVerdict}
 
 module _ (w : Setting) (plan : Plan) (t : Tables) (b c a d : ℕ) (x y : Option Entry) (h : IsFirstWrong w plan t b a x) (k : IsFirstWrong w plan t c d y) where
