@@ -1,0 +1,12 @@
+pub mod RowMaps
+pub mod PathNumbers
+pub mod Lines
+pub mod Walking
+pub mod Sectioning
+pub mod Freely
+pub mod Listed
+pub mod ReadRows
+pub mod ReadSections
+pub mod AcceptedRounds
+pub mod PrintedRounds
+pub mod OneVerdict

@@ -1,0 +1,7 @@
+pub mod Forms
+pub mod Rows
+pub mod Reading
+pub mod Checked
+pub mod Walk
+pub mod Printed
+pub mod Laws

@@ -1,0 +1,148 @@
+//! Whether a routing is right at an AS, sought by the places of the graph's rows.
+ghost use Rattle.std.specs.Prelude.{◌≡◌, IsTrue, Some, option_map};
+ghost use Rattle.std.specs.FinMap as map;
+ghost use Rattle.as_graph.specs.Topology.{relation};
+ghost use Rattle.as_graph.specs.Neighbours.{AreNeighbours};
+ghost use Rattle.stability_laws.specs.BestView.{IsBestView};
+ghost use Rattle.stability_laws.specs.Book.{policy_at};
+ghost use Rattle.stability_laws.specs.Offers.{Offer, offer};
+ghost use Rattle.stability_laws.specs.Stable.{IsRight};
+ghost use Rattle.stability_laws.specs.World.{setting_in};
+
+use crate::placed::Placed;
+use crate::same::holds_given;
+use as_graph::Neighbour;
+use net_names::{Asn, Prefix};
+use policy_laws::{OriginStates, RoutePolicy, View};
+use stability_laws::{Entry, Seeds, World, better, offered_view};
+
+/// A view that may be missing, and a place at which to look for the neighbour that it names.
+#[derive(Drop)]
+struct Best {
+    view: Option<View>,
+    place: usize,
+}
+
+// A place at which to look, of those of neighbours.
+fn place_at(places: &[u32], index: usize) -> usize {
+    match places.get(index) {
+        Some(place) => *place as usize,
+        None => 0,
+    }
+}
+
+// The place of the neighbour, where the view names it, or else the other one.
+fn place_of(view: &Option<View>, neighbour: Asn, place: usize, other: usize) -> usize {
+    match view {
+        Some(view) => if view.neighbour == neighbour {
+            place
+        } else {
+            other
+        },
+        None => other,
+    }
+}
+
+// The view of the offer that the neighbour makes, where it makes one.
+fn view_from<P: RoutePolicy, V: OriginStates>(
+    world: &World<'_, P, V>,
+    prefix: Prefix,
+    placed: &Placed<'_>,
+    asn: Asn,
+    neighbour: &Neighbour,
+    place: usize,
+) -> Option<View>
+    requires { relation world.now.graph.now asn neighbour.now.asn ≡ Some neighbour.now.rel }
+    ensures { result ≡ option_map (λ o. o.view) (offer (setting_in P.meaning V.state_of world.now prefix) (map.get placed.now.routing.now) neighbour.now.asn asn) }
+{
+    let held = placed.near(neighbour.asn, place)?;
+    offered_view(
+        world.book.policy(neighbour.asn),
+        world.book.policy(asn),
+        world.states,
+        prefix,
+        neighbour,
+        asn,
+        held,
+    )
+}
+
+// The view of the best offer of the neighbours, where one makes an offer.
+fn best_view<P: RoutePolicy, V: OriginStates>(
+    world: &World<'_, P, V>,
+    neighbours: &[Neighbour],
+    places: &[u32],
+    prefix: Prefix,
+    placed: &Placed<'_>,
+    asn: Asn,
+) -> Best
+    requires { AreNeighbours (relation world.now.graph.now) asn neighbours.now }
+    ensures { IsBestView (P.meaning (policy_at world.now.book.now asn)) (λ n. offer (setting_in P.meaning V.state_of world.now prefix) (map.get placed.now.routing.now) n asn) result.view }
+{
+    let own = world.book.policy(asn);
+    let mut best: Option<View> = None;
+    let mut at = 0usize;
+    let mut index = 0usize;
+    for neighbour in neighbours {
+        let place = place_at(places, index);
+        let view = view_from(world, prefix, placed, asn, neighbour, place);
+        best = better(own, best, view);
+        at = place_of(&best, neighbour.asn, place, at);
+        index = index.wrapping_add(1);
+    }
+    Best {
+        view: best,
+        place: at,
+    }
+}
+
+// Whether the entry is that of the offer with this view.
+fn is_offer<P: RoutePolicy, V: OriginStates>(
+    world: &World<'_, P, V>,
+    prefix: Prefix,
+    placed: &Placed<'_>,
+    asn: Asn,
+    view: &View,
+    place: usize,
+    entry: &Entry,
+) -> bool
+    ensures { (o : Offer) → offer (setting_in P.meaning V.state_of world.now prefix) (map.get placed.now.routing.now) view.now.neighbour asn ≡ Some o → o.view ≡ view.now → IsTrue result → entry.now ≡ o.entry }
+{
+    match placed.near(view.neighbour, place) {
+        Some(given) => holds_given(
+            world.book.policy(view.neighbour),
+            world.book.policy(asn),
+            view.neighbour,
+            asn,
+            view.rel,
+            given,
+            entry,
+        ),
+        None => false,
+    }
+}
+
+/// Whether it is quickly seen that the routing is right at the AS.
+pub(crate) fn is_right_near<P: RoutePolicy, V: OriginStates>(
+    world: &World<'_, P, V>,
+    prefix: Prefix,
+    seeds: &Seeds,
+    placed: &Placed<'_>,
+    asn: Asn,
+) -> bool
+    ensures { IsTrue result → IsRight (setting_in P.meaning V.state_of world.now prefix) (map.get seeds.now) (map.get placed.now.routing.now) asn }
+{
+    if let Some(_) = seeds.get(asn) {
+        return false;
+    }
+    let row = world.graph.place_near(asn, 0);
+    let neighbours = world.graph.neighbours_near(asn, row);
+    let places = world.graph.neighbour_places(row);
+    let best = best_view(world, neighbours, places, prefix, placed, asn);
+    match (best.view, placed.near(asn, row)) {
+        (None, None) => true,
+        (Some(view), Some(entry)) => is_offer(world, prefix, placed, asn, &view, best.place, entry),
+        (None, Some(_)) => false,
+        (Some(_), None) => false,
+    }
+}

@@ -1,0 +1,109 @@
+//! The rows of a printed table.
+ghost use Rattle.std.specs.Prelude.{◌≡◌, ℕ, ◌≤◌, not, length, option_copied, IfOk, IfSome, OnOk};
+ghost use Rattle.std.specs.FinMap as map;
+ghost use Rattle.table_check.specs.Rows.{HasShortRows, held_by};
+
+use net_names::{Asn, NoMemory, Path};
+use stability_laws::{Entry, Routing};
+use std::alloc::Global;
+use std::collections::BTreeMap;
+use std::marker::Model;
+
+/// The rows of all sections, by round and AS. Contracts see a finite map; each path has at most
+/// 4294967294 numbers.
+#[derive(Drop)]
+pub struct Rows {
+    entries: BTreeMap<(u32, Asn), Option<Entry>>,
+}
+
+impl Model for Rows {
+    ghost use Rattle.std.specs.FinMap as map;
+    ghost use Rattle.table_check.specs.Rows.{HasShortRows, RowMap, row_map_code};
+
+    ghost Value = { RowMap };
+
+    ghost coded = { row_map_code };
+
+    ghost view = { λ r. map.from_entries r.entries.entries };
+
+    ghost invariant = { λ r. HasShortRows (map.from_entries r.entries.entries) };
+}
+
+/// A copy of the entry.
+pub(crate) fn copy_of(alloc: Global, entry: &Entry) -> Result<Entry, NoMemory>
+    ensures { IfOk result (λ copy. copy ≡ entry.now) }
+{
+    match Vec::from_slice(alloc, entry.path.as_slice()) {
+        Ok(numbers) => Ok(Entry {
+            class: entry.class,
+            path: Path::from_vec(numbers),
+            otc: entry.otc,
+        }),
+        Err(_) => Err(NoMemory),
+    }
+}
+
+// Makes the AS hold a copy of this.
+fn put_copy(alloc: Global, routing: &mut Routing, asn: Asn, held: &Entry) -> Result<(), NoMemory>
+    requires { length held.now.path ≤ 4294967294 }
+    ensures { OnOk result (routing.new ≡ map.insert routing.old asn held.now) }
+{
+    let copy = copy_of(alloc, held)?;
+    routing.put(asn, copy)?;
+    Ok(())
+}
+
+impl Rows {
+    /// No rows.
+    pub(crate) fn new(alloc: Global) -> Rows
+        ensures { result ≡ map.empty }
+    {
+        Rows {
+            entries: BTreeMap::new(alloc),
+        }
+    }
+
+    /// Puts in the row of an AS in a round, and says whether it had none. Where it had one, it has this now.
+    pub(crate) fn put(
+        &mut self,
+        round: u32,
+        asn: Asn,
+        held: Option<Entry>,
+    ) -> Result<bool, NoMemory>
+        requires { IfSome held (λ e. length e.path ≤ 4294967294) }
+        ensures new { IfOk result (λ is_new. is_new ≡ not (map.contains_key self.old (round, asn))) }
+        ensures with { OnOk result (self.new ≡ map.insert self.old (round, asn) held) }
+    {
+        match self.entries.insert((round, asn), held) {
+            Ok(None) => Ok(true),
+            Ok(Some(_)) => Ok(false),
+            Err(_) => Err(NoMemory),
+        }
+    }
+
+    /// What the AS holds in the round; `None` exactly where it has no row or holds nothing.
+    pub fn held(&self, round: u32, asn: Asn) -> Option<&Entry>
+        ensures { option_copied result ≡ held_by self.now round asn }
+    {
+        match self.entries.get(&(round, asn)) {
+            Some(Some(entry)) => Some(entry),
+            Some(None) => None,
+            None => None,
+        }
+    }
+
+    /// What all ASes hold in the round.
+    pub(crate) fn routing(&self, alloc: Global, round: u32) -> Result<Routing, NoMemory>
+        ensures { IfOk result (λ f. (a : ℕ) → map.get f a ≡ held_by self.now round a) }
+    {
+        let mut routing = Routing::new(alloc);
+        'rows: for (key, held) in self.entries.iter() {
+            if let Some(entry) = held {
+                if key.0 == round {
+                    put_copy(alloc, &mut routing, key.1, entry)?;
+                }
+            }
+        }
+        Ok(routing)
+    }
+}
