@@ -18,7 +18,6 @@ use Rattle.origin_validation.specs.Judging.{state_of}
 use Rattle.policy_kinds.specs.KindLaws.{kind_ranks_offers}
 use Rattle.policy_kinds.specs.Kinds.{kind_policy}
 use Rattle.policy_kinds.specs.declared.kind.Kind.{Kind}
-use Rattle.policy_laws.specs.Policy.{RanksOffers}
 use Rattle.reports.specs.Rows.{table}
 use Rattle.roa_table.specs.Sets.{Payloads}
 use Rattle.sim_core.specs.Kept.{Kept, IsKept}
@@ -68,12 +67,11 @@ module _ (w : World) (k l : Kept) (x : IsKept w k) (y : IsKept w l) (d : Deliver
   pub one_net_text : (s t : Text) → IsNetText w k d s → IsNetText w l d t → s ≡ t
   one_net_text s t g h =
       let here : Setting = setting_of w d.prefix in
-      let ranks : (a : ℕ) → RanksOffers (here.policy a) = λ a. kind_ranks_offers (kind_at w a) in
       let same_seeds : seeds_kept w l d.round d.prefix ≡ seeds_kept w k d.round d.prefix = sym (one_seeds w k l x y d.round d.prefix there known) in
       let start = subst (λ (seeds : ℕ → Option Seed). IsStart here seeds h.0) same_seeds h.3.0 in
       let first : g.0 ≡ h.0 = one_start here (seeds_kept w k d.round d.prefix) g.0 h.0 g.3.0 start in
       let run = subst (λ (seeds : ℕ → Option Seed). AreTurns here seeds (turns_of d.steps) h.0 h.2 h.1) same_seeds h.3.1 in
-      let ends = one_turns here ranks (seeds_kept w k d.round d.prefix) (turns_of d.steps) g.0 g.1 h.1 g.2 h.2 g.3.1 (subst (λ (u : MessageNet). AreTurns here (seeds_kept w k d.round d.prefix) (turns_of d.steps) u h.2 h.1) (sym first) run) in
+      let ends = one_turns here (λ a. kind_ranks_offers (kind_at w a)) (seeds_kept w k d.round d.prefix) (turns_of d.steps) g.0 g.1 h.1 g.2 h.2 g.3.1 (subst (λ (u : MessageNet). AreTurns here (seeds_kept w k d.round d.prefix) (turns_of d.steps) u h.2 h.1) (sym first) run) in
       g.3.2 ∙ ((λ i. table (topology w) (λ a. entry_row a ((ends.1 i).choice a)) ++ message_rows (ends.0 i) (queued_in (topology w) (ends.1 i))) ∙ sym h.3.2)
 
 module _ (settles : TurnsSettle kind_policy) (only : NoOtherIsStable) (w : World) (none : HasCycle w → ⊥) (d : Deliveries) (inside : IsInside w (messages_job d)) (height : ℕ) (high : IsHeight (topology w) height) where

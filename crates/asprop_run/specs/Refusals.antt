@@ -33,9 +33,9 @@ limit_name limit.Vrps = codes "payloads"
 -- the text of a refused edit: what is not there, the prefix that the world has not, the limit, or the provider cycle from the new link on (own format)
 abbrev pub edit_refusal : EditError → Text
 edit_refusal edit.Memory = []
-edit_refusal (edit.AbsentLink lo hi) = refused "absent-link" (decimal lo ++ 124 ∷ decimal hi ++ 10 ∷ [])
-edit_refusal (edit.AbsentVrp vrp) = refused "absent-vrp" (decimal vrp.asn ++ 32 ∷ prefix_text vrp.prefix ++ 32 ∷ decimal vrp.max ++ 10 ∷ [])
+edit_refusal (edit.AbsentLink lo hi) = refused "absent-link" (decimal lo ++ 124 ∷ (decimal hi ++ 10 ∷ []))
+edit_refusal (edit.AbsentVrp vrp) = refused "absent-vrp" (decimal vrp.asn ++ 32 ∷ (prefix_text vrp.prefix ++ 32 ∷ (decimal vrp.max ++ 10 ∷ [])))
 edit_refusal (edit.UnknownPrefix prefix) = refused "unknown-prefix" (prefix_text prefix ++ 10 ∷ [])
-edit_refusal (edit.AbsentAnnouncement prefix asn) = refused "absent-announcement" (prefix_text prefix ++ 32 ∷ decimal asn ++ 10 ∷ [])
+edit_refusal (edit.AbsentAnnouncement prefix asn) = refused "absent-announcement" (prefix_text prefix ++ 32 ∷ (decimal asn ++ 10 ∷ []))
 edit_refusal (edit.Limit which) = refused "limit" (limit_name which ++ 10 ∷ [])
 edit_refusal (edit.ProviderCycle cycle) = refused "provider-cycle" (numbers_text cycle ++ 10 ∷ [])

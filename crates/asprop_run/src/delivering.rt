@@ -1,5 +1,5 @@
 //! Deliveries of messages, and what they come to.
-ghost use Rattle.std.specs.Prelude.{◌≡◌, ◌++◌, ℕ, codes, false, if◌then◌else◌, OnOk};
+ghost use Rattle.std.specs.Prelude.{◌≡◌, ◌++◌, ◌==◌, ℕ, codes, false, if◌then◌else◌, OnOk};
 ghost use Rattle.message_sim.specs.Nets.{net_of};
 ghost use Rattle.reports.specs.Rows.{table};
 ghost use Rattle.sim_core.specs.Kept.{IsKept};
