@@ -65,7 +65,7 @@ module _ (w : Setting) (seeds : ℕ → Option Seed) (turns : IsMutual w.relatio
       by true = refl
       by false = refl
 
-  pub starts_kept : ((k : ℕ) → k < length t.lines.entries → (e : (ℕ × ℕ) × Line) → slice_get t.lines.entries k ≡ Some e → contains pair_cmp t.waiting e.0 ≡ true) → t.queued ≡ waiting_in t.lines.entries → t.queued ≤ 4611686018427387904 → IsKept w seeds t
+  pub starts_kept : ((k : ℕ) → k < length t.lines.entries → (e : (ℕ × ℕ) × Line) → slice_get t.lines.entries k ≡ Some e → e.1.queue ≢ [] → contains pair_cmp t.waiting e.0 ≡ true) → t.queued ≡ waiting_in t.lines.entries → t.queued ≤ 4611686018427387904 → IsKept w seeds t
   starts_kept noted counted few = record {
     agrees = start_agrees w seeds only (net_in t.choices.entries t.lines.entries) starts;
     choice_rows = λ a here. ap is_some (choices a ∙ ap (λ b. cond b (Some (option_map seed_entry (seeds a))) None) (listed a ∙ here));
@@ -83,4 +83,4 @@ module _ (w : Setting) (seeds : ℕ → Option Seed) (turns : IsMutual w.relatio
       waits_at n a None e ne = absurd (ne (sym (ap queue_on e)))
       waits_at n a (Some l) e ne =
           let (k, x, lt, at, passes) = place_of (link_eq (n, a)) t.lines.entries l e in
-          subst (λ q. contains pair_cmp t.waiting q ≡ true) (sym (link_is (n, a) x passes)) (noted k lt (x, l) at)
+          subst (λ q. contains pair_cmp t.waiting q ≡ true) (sym (link_is (n, a) x passes)) (noted k lt (x, l) at (λ none. ne (sym (ap queue_on e) ∙ none)))
