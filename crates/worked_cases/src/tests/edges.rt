@@ -4,11 +4,11 @@ ghost use Rattle.std.specs.Prelude.{IsErr};
 use io_edge::{DirInputs, ReadAllError, StdSink, read_all, write_all};
 use std::alloc::{Allocator, Global};
 use std::fs::{Metadata, OpenFile, OpenOptions};
+use std::io;
 use std::io::{ErrorKind, Read, Seek, SeekFrom, Write};
 use std::process::Abort;
 use std::rt::Files;
 use std::test::Fail;
-use std::io;
 
 const TEXT: &[u8] = b"1|2|-1\n1|3|-1\n";
 

@@ -118,7 +118,19 @@ fn a_customers_route_stops_below_providers_and_after_three_ases(
     let ranks = ranks_of(rt.alloc(), &graph)?;
     let book = Book::new(rt.alloc(), Narrow);
     let blank = Blank::new(1);
-    let text = stable_text::<Narrow, Brand>(rt.alloc(), &graph, &ranks, &book, prefix, three, blank)?;
-    expect_text(&rt, text.as_slice(), b"2 customer 2 3\n3 origin 3\n4 peer 4 2 3\n");
+    let text = stable_text::<Narrow, Brand>(
+        rt.alloc(),
+        &graph,
+        &ranks,
+        &book,
+        prefix,
+        three,
+        blank,
+    )?;
+    expect_text(
+        &rt,
+        text.as_slice(),
+        b"2 customer 2 3\n3 origin 3\n4 peer 4 2 3\n",
+    );
     Ok(())
 }

@@ -64,15 +64,12 @@ fn a_path_is_read_from_its_head(rt: HostRuntime) -> Result<(), Fail> {
     let (two, four) = (number(&rt, 2), number(&rt, 4));
     let mut pool = PathPool::new(rt.alloc(), 2);
     pool.reserve(2)?;
-    assert!(rt; pool.spare() == 2);
     let end = pool.cons(four, None);
     let path = pool.cons(two, Some(end));
     pool.hold(path);
-    assert!(rt; pool.head(path) == two && pool.length(path) == 2);
-    assert!(rt; pool.last(path) == four && pool.last(end) == four);
-    assert!(rt; pool.tail(path) == Some(end) && pool.tail(end).is_none());
-    assert!(rt; pool.contains(path, four) && !pool.contains(end, two));
-    assert!(rt; pool.count(path) == 2 && pool.count(end) == 2);
+    assert!(rt; pool.head(path) == two && pool.last(path) == four && pool.length(path) == 2);
+    assert!(rt; pool.tail(path) == Some(end) && pool.contains(path, four));
+    assert!(rt; pool.count(path) == 2);
     Ok(())
 }
 

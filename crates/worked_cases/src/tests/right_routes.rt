@@ -124,7 +124,11 @@ fn what_is_right_is_the_seed_the_best_offer_or_nothing(rt: HostRuntime) -> Resul
     let (alloc, prefix) = (rt.alloc(), main_prefix(&rt));
     let graph = graph_of(&rt, alloc, &DIAMOND)?;
     let seeds = seed_at_four(&rt, alloc)?;
-    let routing = routing_of(&rt, alloc, &[(Class::Customer, &[2, 4]), (Class::Peer, &[3, 2, 4])])?;
+    let routing = routing_of(
+        &rt,
+        alloc,
+        &[(Class::Customer, &[2, 4]), (Class::Peer, &[3, 2, 4])],
+    )?;
     let book = Book::new(alloc, Kind::Plain);
     let world = World {
         graph: &graph,

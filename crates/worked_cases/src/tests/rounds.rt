@@ -21,9 +21,10 @@ use super::worlds::{
 };
 use crate::Narrow;
 use as_graph::{Graph, ases_are_kept, links_are_sound, links_are_taken, ranks_fit};
+use data_trace::{Hop, next_hop};
 use dirty_recompute::PlannedRanks;
 use leak_round::{Rounds, RoundsPlan, Touched};
-use net_names::{Asn, Path, Prefix};
+use net_names::{Asn, Path, Prefix, read_addr};
 use policy_kinds::Kind;
 use policy_laws::{NoStates, OriginStates, RoutePolicy};
 use route_choice::Steps;
@@ -142,6 +143,16 @@ fn withdrawing<P: RoutePolicy, V: OriginStates, L: Ledger>(
     Ok(rounds.plan(alloc, world, &after, &touched, Some(&edit), steps)?)
 }
 
+// In the first round the packets of AS 2 go to AS 3.
+fn expect_hop(rt: &impl Abort, rounds: &Rounds) -> Result<(), Fail> {
+    let (two, three) = (number(rt, 2), number(rt, 3));
+    let addr = read_addr(b"192.0.2.1").expect(rt, "an address");
+    let tables = rounds.round(1).ok_or("a round")?;
+    let (pool, plan) = (rounds.pool(), rounds.seed_plan());
+    assert!(rt; next_hop(tables, pool, plan, two, addr) == Hop::To(three));
+    Ok(())
+}
+
 // AS 1 and AS 4 announce the prefix.
 const OF_TWO: &[u8] = b"1 origin 1\n2 customer 2 3 4\n3 customer 3 4\n4 origin 4\n5 customer 5 1\n";
 
@@ -170,6 +181,7 @@ fn give_up<L: Ledger>(
     let plan = withdrawing(rt, alloc, &world, &mut rounds, prefix, one, &mut steps)?;
     rounds.undo(plan);
     assert!(rt; rounds.pool().live() <= live);
+    expect_hop(rt, &rounds)?;
     expect_round(rt, alloc, graph, &rounds, OF_TWO)
 }
 

@@ -18,7 +18,12 @@ fn announce(rt: &impl Abort, plan: &mut SeedPlan, prefix: Prefix, path: Path) ->
 fn plan_of_two_prefixes(rt: &impl Abort, alloc: Global) -> Result<SeedPlan, Fail> {
     let mut plan = SeedPlan::new(alloc);
     announce(rt, &mut plan, main_prefix(rt), path_of(rt, alloc, &[6, 4])?)?;
-    announce(rt, &mut plan, prefix(rt, b"10.0.0.0/8"), path_of(rt, alloc, &[5])?)?;
+    announce(
+        rt,
+        &mut plan,
+        prefix(rt, b"10.0.0.0/8"),
+        path_of(rt, alloc, &[5])?,
+    )?;
     for (round, n) in [(3, 7), (2, 9), (2, 3), (2, 9)] {
         plan.leaker(round, number(rt, n))?;
     }

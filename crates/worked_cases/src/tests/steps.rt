@@ -108,7 +108,14 @@ fn choices<L: Ledger>(
 fn a_seed_is_chosen_and_nothing_where_nobody_offers(rt: HostRuntime) -> Result<(), Fail> {
     let (two, four) = (number(&rt, 2), number(&rt, 4));
     let graph = graph_of(&rt, rt.alloc(), &[(2, 4, DOWN)])?;
-    let found = choices::<Brand>(rt.alloc(), &graph, main_prefix(&rt), two, four, Blank::new(1))?;
+    let found = choices::<Brand>(
+        rt.alloc(),
+        &graph,
+        main_prefix(&rt),
+        two,
+        four,
+        Blank::new(1),
+    )?;
     assert!(rt; found == (Choice::Seed, Choice::Nothing, false));
     Ok(())
 }
