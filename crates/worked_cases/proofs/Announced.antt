@@ -1,15 +1,14 @@
--- A plan with one more announcement, and one with one less: that it is within the limits, and who announces.
-use Rattle.std.proofs.Common.{◌≡◌, ◌⊎◌, inl, inr, ℕ, ◌+◌, ◌-◌, ◌<◌, ◌≤◌, Bool, true, false, IsTrue, cond, is_some, Option, None, Some, List, length, refl, sym, ap, subst, ◌∙◌, arith}
+-- A plan with one more announcement: that it is within the limits, and who announces.
+use Rattle.std.proofs.Common.{◌≡◌, ◌⊎◌, inl, inr, ℕ, ◌+◌, ◌<◌, ◌≤◌, Bool, true, false, IsTrue, cond, is_some, Option, None, Some, List, length, refl, sym, ap, subst, ◌∙◌, arith}
 use Rattle.std.proofs.lemmas.List.{length-map}
 use Rattle.std.specs.Ordering.{eq_by_cmp}
 use Rattle.std.specs.declared.cmp.Ordering.{Ordering}
 use Rattle.std.specs.Cmp.{IsTotalOrder}
 use Rattle.std.specs.FinMap as fin
-use Rattle.net_names.specs.Orders.{announcement_total, exact_announcement, exact_prefix, prefix_total}
+use Rattle.net_names.specs.Orders.{announcement_total, exact_announcement, prefix_total}
 use Rattle.net_names.specs.Prefixes.{PrefixValue, prefix_cmp}
-use Rattle.stability_laws.specs.Plans.{Plan, announcement_cmp, announcer_of, announces, empty_plan, has_prefix, prefixes_of, with_announcement}
-use Rattle.stability_laws.specs.SeedEdits.{without_announcement}
-use Rattle.stability_laws.proofs.KeyLists.{eq_is, eq_same}
+use Rattle.stability_laws.specs.Plans.{Plan, announcement_cmp, announcer_of, announces, empty_plan, prefixes_of, with_announcement}
+use Rattle.stability_laws.proofs.KeyLists.{eq_is}
 use Rattle.leak_round.specs.Limits.{IsWithinLimits}
 
 -- one more key is at most one more
@@ -69,47 +68,3 @@ announcer_is plan prefix q path a is =
 -- nobody announces anything in the empty plan
 pub none_announces : (q : PrefixValue) (a : ℕ) → IsTrue (announces empty_plan q a) → ⊥
 none_announces q a is = let wrong : false ≡ true = sym (ap is_some (fin.get-empty announcement_cmp (q, a))) ∙ is in cc
-
--- one key less is no more
-one_less : {K X : Type 0} {R : K → K → Ordering} → IsTotalOrder R → (m : fin.FinMap R X) (k : K) → fin.len (fin.remove m k) ≤ fin.len m
-one_less o m k = omega (arith, fin.len-remove o m k, by (fin.contains_key m k))
-  where
-    by : (b : Bool) → cond b (fin.len m - 1) (fin.len m) ≤ fin.len m
-    by true = omega arith
-    by false = omega arith
-
--- what is found with one key less was found before
-was_there : (b : Bool) (o : Option (List ℕ)) (y : List ℕ) → cond b None o ≡ Some y → o ≡ Some y
-was_there true o y e = let wrong : None ≡ Some y = e in cc
-was_there false o y e = e
-
--- with one announcement less, an announced path was announced before
-still_announced : (plan : Plan) (prefix q : PrefixValue) (asn a : ℕ) (path : List ℕ) → fin.get (without_announcement plan prefix asn).announced (q, a) ≡ Some path → fin.get plan.announced (q, a) ≡ Some path
-still_announced plan prefix q asn a path e = was_there (eq_by_cmp announcement_cmp (q, a) (prefix, asn)) _ path (sym (fin.get-remove announcement_total plan.announced (prefix, asn) (q, a)) ∙ e)
-
-pub one_less_within : (plan : Plan) (prefix : PrefixValue) (asn : ℕ) → IsWithinLimits plan → IsWithinLimits (without_announcement plan prefix asn)
-one_less_within plan prefix asn within = record {
-  prefixes = within.prefixes;
-  announcements = omega (arith, within.announcements, one_less announcement_total plan.announced (prefix, asn));
-  paths = λ q a path e. within.paths q a path (still_announced plan prefix q asn a path e);
-}
-
--- with one announcement less, who announces announced before
-pub announcer_was : (plan : Plan) (prefix q : PrefixValue) (asn a : ℕ) → IsTrue (announces (without_announcement plan prefix asn) q a) → IsTrue (announces plan q a)
-announcer_was plan prefix q asn a is = by (fin.get (without_announcement plan prefix asn).announced (q, a)) refl is
-  where
-    by : (o : Option (List ℕ)) → fin.get (without_announcement plan prefix asn).announced (q, a) ≡ o → IsTrue (is_some o) → IsTrue (announces plan q a)
-    by (Some path) e is = ap is_some (still_announced plan prefix q asn a path e)
-    by None e is = let wrong : false ≡ true = is in cc
-
--- a plan with one announcement has its prefix alone
-pub prefix_is : (prefix q : PrefixValue) (path : List ℕ) → IsTrue (has_prefix (with_announcement empty_plan prefix path) q) → q ≡ prefix
-prefix_is prefix q path is = by (eq_by_cmp prefix_cmp q prefix) refl (sym (ap is_some (fin.get-insert prefix_total empty_plan.prefixes prefix tt q)) ∙ is)
-  where
-    by : (b : Bool) → eq_by_cmp prefix_cmp q prefix ≡ b → is_some (cond b (Some (tt {0})) (fin.get empty_plan.prefixes q)) ≡ true → q ≡ prefix
-    by true same here = eq_is prefix_total exact_prefix q prefix same
-    by false other here = let wrong : false ≡ true = sym (ap is_some (fin.get-empty prefix_cmp q)) ∙ here in cc
-
--- and it has it
-pub has_own : (prefix : PrefixValue) (path : List ℕ) → IsTrue (has_prefix (with_announcement empty_plan prefix path) prefix)
-has_own prefix path = ap is_some (fin.get-insert prefix_total empty_plan.prefixes prefix tt prefix ∙ ap (λ (b : Bool). cond b (Some (tt {0})) (fin.get empty_plan.prefixes prefix)) (eq_same prefix_total exact_prefix prefix prefix refl))
