@@ -1,26 +1,20 @@
-//! The cases by subject, each in a module of its own. What several of them build stands in `worlds`.
-mod answers;
+//! What no script of the program shows: types of a test's own, calls that the program doesn't make, and values that it
+//! doesn't print. What a script shows is a case of cases/bundle. What several modules build stands in `worlds`.
+mod activation_files;
 mod cycles;
 mod edges;
 mod files;
-mod forwarding;
-mod graph_edits;
-mod graphs;
 mod kinds;
+mod laws;
+mod lent_worlds;
 mod narrow_policy;
 mod path_cells;
-mod payloads;
-mod plans;
-mod ranks;
 mod relationship_files;
 mod right_routes;
 mod rounds;
 mod scenarios;
-mod scripts;
-mod simulations;
-mod stable_routes;
+mod seeds;
 mod steps;
-mod texts;
-mod validation_states;
+mod tables;
 mod values;
 mod worlds;

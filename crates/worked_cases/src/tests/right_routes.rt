@@ -1,26 +1,37 @@
 //! What is right at an AS, policies by AS, and what goes along a link, worked by hand.
-use super::worlds::{ACROSS, DOWN, graph_of, main_prefix, number, path_of};
+use super::worlds::{ACROSS, DOWN, Row, graph_of, main_prefix, number, path_of};
 use as_graph::Neighbour;
-use net_names::{Asn, Class, Path, Prefix, Rel};
+use net_names::{Asn, Class, Path, Rel};
 use policy_kinds::Kind;
 use policy_laws::NoStates;
 use stability_laws::{
-    Book, Entry, Routing, Seed, Seeds, World, Wrong, any_order_settles, carried, check_at,
-    class_from, customers_decide, nothing_up, number_sent, offer_follows, offer_names,
-    offered_view, one_answer, one_family, one_stable_routing, right_by_offers, right_follows,
+    Book, Entry, Routing, Seed, Seeds, World, Wrong, carried, check_at, class_from, number_sent,
+    offered_view, right_entry,
 };
 use std::alloc::Global;
 use std::process::Abort;
 use std::test::Fail;
 
-fn routing_of(
+// AS 1 is the provider of 2 and 3, which are peers and the providers of 4.
+pub(super) const DIAMOND: [Row; 5] = [
+    (1, 2, DOWN),
+    (1, 3, DOWN),
+    (2, 3, ACROSS),
+    (2, 4, DOWN),
+    (3, 4, DOWN),
+];
+
+// The class and the path of each entry.
+type Entries = &'static [(Class, &'static [u32])];
+
+pub(super) fn routing_of(
     rt: &impl Abort,
     alloc: Global,
     entries: &[(Class, &[u32])],
 ) -> Result<Routing, Fail> {
     let mut routing = Routing::new(alloc);
     for (class, numbers) in entries {
-        let path = path_of(alloc, *numbers)?;
+        let path = path_of(rt, alloc, *numbers)?;
         assert!(rt; path.as_slice().len() < 10);
         let asn = *path.as_slice().first().ok_or("a path")?;
         let entry = Entry {
@@ -33,112 +44,131 @@ fn routing_of(
     Ok(routing)
 }
 
-fn seed_at_four(rt: &impl Abort, alloc: Global) -> Result<Seeds, Fail> {
+pub(super) fn seed_at_four(rt: &impl Abort, alloc: Global) -> Result<Seeds, Fail> {
     let mut seeds = Seeds::new(alloc);
-    let path = path_of(alloc, &[4])?;
+    let path = path_of(rt, alloc, &[4])?;
     assert!(rt; path.as_slice().len() < 10);
-    seeds.put(number(4)?, Seed { path, otc: None })?;
+    seeds.put(number(rt, 4), Seed { path, otc: None })?;
     Ok(seeds)
 }
 
-// What is told of each of these ASes, where all have the plain policy.
-fn expect_each(
-    rt: &impl Abort,
-    world: &World<'_, Kind, NoStates>,
-    prefix: Prefix,
-    seeds: &Seeds,
-    routing: &Routing,
-    told: &[(Asn, Result<(), Wrong>)],
-) {
-    for (asn, wrong) in told {
-        let found = check_at(world, prefix, seeds, routing, *asn);
-        assert_eq!(rt; found, *wrong);
+const STABLE: Entries = &[
+    (Class::Customer, &[1, 2, 4]),
+    (Class::Customer, &[2, 4]),
+    (Class::Customer, &[3, 4]),
+    (Class::Origin, &[4]),
+];
+
+const WITHOUT_TWO: Entries = &[
+    (Class::Customer, &[1, 2, 4]),
+    (Class::Customer, &[3, 4]),
+    (Class::Origin, &[4]),
+];
+
+const WRONG: Entries = &[
+    (Class::Customer, &[1, 2, 4]),
+    (Class::Peer, &[3, 2, 4]),
+    (Class::Customer, &[4]),
+    (Class::Provider, &[5, 1]),
+];
+
+// Entries, an AS, and what is told of it where 4 has a seed: a word, and who makes the best offer.
+const TABLE: [(Entries, u32, &str, u32); 12] = [
+    (STABLE, 1, "right", 0),
+    (STABLE, 2, "right", 0),
+    (STABLE, 3, "right", 0),
+    (STABLE, 4, "right", 0),
+    (STABLE, 5, "right", 0),
+    (WITHOUT_TWO, 1, "not the best", 3),
+    (WITHOUT_TWO, 2, "absent", 4),
+    (WITHOUT_TWO, 3, "right", 0),
+    (WRONG, 1, "unexpected", 0),
+    (WRONG, 3, "not the best", 4),
+    (WRONG, 4, "seed not held", 0),
+    (WRONG, 5, "unexpected", 0),
+];
+
+fn words_of(told: Result<(), Wrong>) -> (&'static str, u32) {
+    match told {
+        Ok(()) => ("right", 0),
+        Err(Wrong::SeedNotHeld) => ("seed not held", 0),
+        Err(Wrong::Unexpected) => ("unexpected", 0),
+        Err(Wrong::Absent { by }) => ("absent", by.get()),
+        Err(Wrong::NotBest { by }) => ("not the best", by.get()),
     }
 }
 
-// What is told of ASes where these are the entries. AS 1 is the provider of 2 and 3, which are peers and the providers of 4,
-// and 4 has a seed.
-fn expect_told(
-    rt: &impl Abort,
-    alloc: Global,
-    entries: &[(Class, &[u32])],
-    told: &[(Asn, Result<(), Wrong>)],
+#[test]
+fn what_is_wrong_at_an_as_is_told_with_who_makes_the_best_offer(
+    rt: HostRuntime,
 ) -> Result<(), Fail> {
-    let prefix = main_prefix()?;
-    let diamond = [
-        (1, 2, DOWN),
-        (1, 3, DOWN),
-        (2, 3, ACROSS),
-        (2, 4, DOWN),
-        (3, 4, DOWN),
-    ];
-    let graph = graph_of(rt, alloc, &diamond)?;
-    let seeds = seed_at_four(rt, alloc)?;
-    let routing = routing_of(rt, alloc, entries)?;
+    let (alloc, prefix) = (rt.alloc(), main_prefix(&rt));
+    let graph = graph_of(&rt, alloc, &DIAMOND)?;
+    let seeds = seed_at_four(&rt, alloc)?;
     let book = Book::new(alloc, Kind::Plain);
     let world = World {
         graph: &graph,
         book: &book,
         states: &NoStates,
     };
-    expect_each(rt, &world, prefix, &seeds, &routing, told);
+    for (entries, n, word, by) in TABLE {
+        let routing = routing_of(&rt, alloc, entries)?;
+        let told = check_at(&world, prefix, &seeds, &routing, number(&rt, n));
+        assert!(rt; words_of(told) == (word, by), "AS {n}");
+    }
     Ok(())
 }
 
 #[test]
-fn the_stable_routing_of_a_diamond_is_right_everywhere(rt: HostRuntime) -> Result<(), Fail> {
-    let entries: [(Class, &[u32]); 4] = [
-        (Class::Customer, &[1, 2, 4]),
-        (Class::Customer, &[2, 4]),
-        (Class::Customer, &[3, 4]),
-        (Class::Origin, &[4]),
-    ];
-    let told = [
-        (number(1)?, Ok(())),
-        (number(2)?, Ok(())),
-        (number(3)?, Ok(())),
-        (number(4)?, Ok(())),
-        (number(5)?, Ok(())),
-    ];
-    expect_told(&rt, rt.alloc(), &entries, &told)
+fn what_is_right_is_the_seed_the_best_offer_or_nothing(rt: HostRuntime) -> Result<(), Fail> {
+    let (alloc, prefix) = (rt.alloc(), main_prefix(&rt));
+    let graph = graph_of(&rt, alloc, &DIAMOND)?;
+    let seeds = seed_at_four(&rt, alloc)?;
+    let routing = routing_of(
+        &rt,
+        alloc,
+        &[(Class::Customer, &[2, 4]), (Class::Peer, &[3, 2, 4])],
+    )?;
+    let book = Book::new(alloc, Kind::Plain);
+    let world = World {
+        graph: &graph,
+        book: &book,
+        states: &NoStates,
+    };
+    for (n, numbers) in [
+        (1, [1, 2, 4].as_slice()),
+        (2, [].as_slice()),
+        (4, [4].as_slice()),
+    ] {
+        let expected = path_of(&rt, alloc, numbers)?;
+        match right_entry(alloc, &world, prefix, &seeds, &routing, number(&rt, n))? {
+            Some(entry) => assert!(rt; entry.path.as_slice() == expected.as_slice()),
+            None => assert!(rt; expected.as_slice().is_empty()),
+        }
+    }
+    Ok(())
 }
 
 #[test]
-fn a_missing_entry_is_told_with_who_makes_the_best_offer(rt: HostRuntime) -> Result<(), Fail> {
+fn entries_are_put_and_cleared_in_rising_order(rt: HostRuntime) -> Result<(), Fail> {
+    let (two, three) = (number(&rt, 2), number(&rt, 3));
     let entries: [(Class, &[u32]); 3] = [
-        (Class::Customer, &[1, 2, 4]),
-        (Class::Customer, &[3, 4]),
-        (Class::Origin, &[4]),
+        (Class::Peer, &[3, 4]),
+        (Class::Peer, &[2, 4]),
+        (Class::Customer, &[2, 3, 4]),
     ];
-    let told = [
-        (number(1)?, Err(Wrong::NotBest { by: number(3)? })),
-        (number(2)?, Err(Wrong::Absent { by: number(4)? })),
-        (number(3)?, Ok(())),
-    ];
-    expect_told(&rt, rt.alloc(), &entries, &told)
-}
-
-#[test]
-fn entries_that_nobody_gave_are_told(rt: HostRuntime) -> Result<(), Fail> {
-    let entries: [(Class, &[u32]); 4] = [
-        (Class::Customer, &[1, 2, 4]),
-        (Class::Peer, &[3, 2, 4]),
-        (Class::Customer, &[4]),
-        (Class::Provider, &[5, 1]),
-    ];
-    let told = [
-        (number(1)?, Err(Wrong::Unexpected)),
-        (number(3)?, Err(Wrong::NotBest { by: number(4)? })),
-        (number(4)?, Err(Wrong::SeedNotHeld)),
-        (number(5)?, Err(Wrong::Unexpected)),
-    ];
-    expect_told(&rt, rt.alloc(), &entries, &told)
+    let mut routing = routing_of(&rt, rt.alloc(), &entries)?;
+    assert!(rt; routing.get(two).map_or(0, |e| e.path.as_slice().len()) == 3);
+    assert!(rt; routing.next(None) == Some(two) && routing.next(Some(three)).is_none());
+    routing.clear(two);
+    assert!(rt; routing.next(None) == Some(three) && routing.get(two).is_none());
+    Ok(())
 }
 
 #[test]
 fn a_named_as_has_its_own_policy_until_it_is_cleared(rt: HostRuntime) -> Result<(), Fail> {
+    let seven = number(&rt, 7);
     let mut book = Book::new(rt.alloc(), Kind::Otc);
-    let seven = number(7)?;
     assert!(rt; *book.policy(seven) == Kind::Otc);
     book.room(seven)?;
     book.set(seven, Kind::Plain);
@@ -148,46 +178,31 @@ fn a_named_as_has_its_own_policy_until_it_is_cleared(rt: HostRuntime) -> Result<
     Ok(())
 }
 
-#[test]
-fn the_last_entry_that_is_put_stays(rt: HostRuntime) -> Result<(), Fail> {
-    let (two, three) = (number(2)?, number(3)?);
-    let entries: [(Class, &[u32]); 2] = [(Class::Peer, &[2, 4]), (Class::Customer, &[2, 3, 4])];
-    let routing = routing_of(&rt, rt.alloc(), &entries)?;
-    let hops = routing.get(two).map_or(0, |e| e.path.as_slice().len());
-    assert!(rt; hops == 3 && routing.get(three).is_none());
-    Ok(())
-}
+// Who sends, who receives, what the receiver is to AS 1, the number that AS 1 has, and the number that is kept of what
+// it sends.
+const KEPT: [(Kind, Kind, Rel, u32, u32); 5] = [
+    (Kind::Plain, Kind::Plain, Rel::Customer, 0, 0),
+    (Kind::Otc, Kind::Plain, Rel::Peer, 0, 1),
+    (Kind::Otc, Kind::Otc, Rel::Provider, 0, 0),
+    (Kind::Plain, Kind::Otc, Rel::Customer, 0, 1),
+    (Kind::Plain, Kind::Plain, Rel::Customer, 9, 9),
+];
 
-// The number that is kept of what AS 1 sends, given who marks, what the receiver is to it, and the
-// number that it has.
-fn kept(sender: Kind, receiver: Kind, to: Rel, held: u32) -> Option<u32> {
-    let one = Asn::new(1)?;
-    match carried(&sender, &receiver, one, to, Asn::new(held)) {
-        Some(number) => Some(number.get()),
-        None => None,
+#[test]
+fn numbers_go_along_links_as_marking_asks(rt: HostRuntime) {
+    let (one, nine) = (number(&rt, 1), Asn::new(9));
+    for (sender, receiver, to, held, kept) in KEPT {
+        let found = carried(&sender, &receiver, one, to, Asn::new(held));
+        assert!(rt; found == Asn::new(kept));
     }
-}
-
-#[test]
-fn numbers_go_along_links_as_marking_asks(rt: HostRuntime) -> Result<(), Fail> {
-    assert_eq!(rt; kept(Kind::Plain, Kind::Plain, Rel::Customer, 0), None);
-    assert_eq!(rt; kept(Kind::Otc, Kind::Plain, Rel::Peer, 0), Some(1));
-    assert_eq!(rt; kept(Kind::Otc, Kind::Otc, Rel::Provider, 0), None);
-    assert_eq!(rt; kept(Kind::Plain, Kind::Otc, Rel::Customer, 0), Some(1));
-    assert_eq!(rt; kept(Kind::Plain, Kind::Plain, Rel::Customer, 9), Some(9));
-    let one = number(1)?;
-    assert_eq!(rt; number_sent(true, one, Rel::Peer, None), Some(one));
-    assert_eq!(rt; number_sent(true, one, Rel::Provider, None), None);
-    assert_eq!(rt;
-        number_sent(false, one, Rel::Provider, Asn::new(9)),
-        Asn::new(9)
-    );
+    assert!(rt; number_sent(true, one, Rel::Peer, None) == Some(one));
+    assert!(rt; number_sent(true, one, Rel::Provider, None).is_none());
+    assert!(rt; number_sent(false, one, Rel::Provider, nine) == nine);
     assert!(rt; class_from(Rel::Peer) == Class::Peer);
-    Ok(())
 }
 
 #[test]
-fn an_entry_without_a_path_is_not_offered(rt: HostRuntime) -> Result<(), Fail> {
+fn an_entry_without_a_path_is_not_offered(rt: HostRuntime) {
     let entry = Entry {
         class: Class::Origin,
         path: Path::new(rt.alloc()),
@@ -195,32 +210,9 @@ fn an_entry_without_a_path_is_not_offered(rt: HostRuntime) -> Result<(), Fail> {
     };
     let kind = Kind::Plain;
     let peer = Neighbour {
-        asn: number(1)?,
+        asn: number(&rt, 1),
         rel: Rel::Peer,
     };
-    let view = offered_view(
-        &kind,
-        &kind,
-        &NoStates,
-        main_prefix()?,
-        &peer,
-        number(9)?,
-        &entry,
-    );
-    assert!(rt; view.is_none());
-    Ok(())
-}
-
-#[test]
-fn the_laws_hold_of_the_kinds() {
-    offer_follows::<Kind>();
-    offer_names::<Kind>();
-    right_by_offers::<Kind>();
-    right_follows::<Kind>();
-    one_answer::<Kind>();
-    nothing_up::<Kind>();
-    customers_decide::<Kind>();
-    one_stable_routing::<Kind>();
-    one_family::<Kind>();
-    any_order_settles::<Kind>();
+    let (prefix, nine) = (main_prefix(&rt), number(&rt, 9));
+    assert!(rt; offered_view(&kind, &kind, &NoStates, prefix, &peer, nine, &entry).is_none());
 }

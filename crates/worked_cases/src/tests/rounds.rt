@@ -1,40 +1,46 @@
 //! Rounds of small worlds, worked by hand.
 
-ghost use Rattle.std.specs.Prelude.{◌≡◌, ℕ, suc, ◌<◌, ◌≤◌, ◌∷◌, [], true, false, IsTrue, IfOk, Option};
+ghost use Rattle.std.specs.Prelude.{◌≡◌, ℕ, ◌<◌, ◌≤◌, ◌∷◌, [], true, false, IsTrue, IfOk};
 ghost use Rattle.net_names.specs.Prefixes.{PrefixValue};
 ghost use Rattle.as_graph.specs.Hierarchy.{HasNoProviderCycle, IsRank};
 ghost use Rattle.as_graph.specs.Topology.{has, relation};
 ghost use Rattle.path_pool.specs.Pool.{live_count};
 ghost use Rattle.rank_order.specs.Ranks.{rank_at};
-ghost use Rattle.stability_laws.specs.Plans.{IsSound, announces};
+ghost use Rattle.stability_laws.specs.Plans.{announces};
 ghost use Rattle.stability_laws.specs.Rounds.{AreRounds};
 ghost use Rattle.stability_laws.specs.World.{setting_in};
-ghost use Rattle.stability_laws.specs.declared.entry.Entry.{Entry as AnEntry};
-ghost use Rattle.data_trace.specs.Rounds.{IsHeldInRound};
-ghost use Rattle.data_trace.specs.Watches.{StaysInside};
 ghost use Rattle.leak_round.specs.Limits.{IsWithinLimits};
 ghost use Rattle.leak_round.specs.Plans.{IsOpenPlan};
 ghost use Rattle.leak_round.specs.Rounds.{is_open, kept, plan_of as planned, pool_of, round_count};
 ghost use Rattle.leak_round.specs.declared.rounds.TheConstants.{MOST_CELLS};
 
-use super::worlds::{
-    ACROSS, DOWN, expect_text, graph_of, main_prefix, number, ranks_of, routes_text,
-};
+use super::worlds::{ACROSS, DOWN, expect_text, graph_of, ranks_of, routes_text};
+use crate::Narrow;
 use as_graph::{Graph, links_are_sound, ranks_fit};
-use data_trace::rounds_stay_inside;
+use data_trace::{Hop, next_hop};
 use dirty_recompute::PlannedRanks;
 use leak_round::{Rounds, RoundsPlan, Touched};
-use net_names::{Asn, Path};
+use net_names::{Asn, Path, Prefix, read_addr, read_prefix};
 use policy_kinds::Kind;
 use policy_laws::{NoStates, OriginStates, RoutePolicy};
 use rank_order::Ranks;
 use route_choice::Steps;
-use stability_laws::{Book, SeedEdit, SeedPlan, World, plans_are_sound};
+use stability_laws::{Book, SeedEdit, SeedPlan, World};
 use std::alloc::Global;
 use std::marker::Brand;
 use std::process::Abort;
 use std::sync::ledger::{Blank, Ledger};
 use std::test::Fail;
+
+fn number(n: u32) -> Result<Asn, Fail>
+    ensures { IfOk result (λ a. a ≡ n) }
+{
+    Ok(Asn::new(n).ok_or("a number of an AS")?)
+}
+
+fn main_prefix() -> Result<Prefix, Fail> {
+    Ok(read_prefix(b"192.0.2.0/24").ok_or("a prefix")?)
+}
 
 // The path by which an AS announces its own prefix.
 fn own_path(alloc: Global, asn: Asn) -> Result<Path, Fail>
@@ -79,6 +85,16 @@ fn expect_round(
     Ok(())
 }
 
+// In the second round the packets of AS 2 go to AS 3.
+fn expect_hop(rt: &impl Abort, rounds: &Rounds) -> Result<(), Fail> {
+    let (two, three) = (number(2)?, number(3)?);
+    let addr = read_addr(b"192.0.2.1").ok_or("an address")?;
+    let tables = rounds.round(2).ok_or("a round")?;
+    let (pool, plan) = (rounds.pool(), rounds.seed_plan());
+    assert!(rt; next_hop(tables, pool, plan, two, addr) == Hop::To(three));
+    Ok(())
+}
+
 // The rounds of a world in which these ASes leak.
 fn built<P: RoutePolicy, V: OriginStates, L: Ledger>(
     rt: &impl Abort,
@@ -97,42 +113,35 @@ fn built<P: RoutePolicy, V: OriginStates, L: Ledger>(
     ensures count { IfOk result (λ r. round_count r ≡ rounds) }
     ensures limits { IfOk result (λ r. IsWithinLimits (planned r)) }
     ensures five { IfOk result (λ r. (prefix : PrefixValue) (a : ℕ) → IsTrue (announces (planned r) prefix a) → a ≡ 5) }
-    ensures sound { IfOk result (λ r. IsSound (planned r)) }
     ensures stable { IfOk result (λ r. AreRounds (setting_in P.meaning V.state_of world.now) (planned r) rounds (kept r)) }
 {
     let plan = plan_of(rt, alloc, leakers)?;
-    plans_are_sound(&plan);
     Ok(Rounds::build(alloc, world, ranks, plan, rounds, steps)?)
 }
 
-// The rounds over these links in which these ASes leak.
-pub(super) fn rounds_of<L: Ledger>(
+// The first round of a world in which every AS has the narrow policy.
+fn narrow_rounds<L: Ledger>(
     rt: &impl Abort,
     alloc: Global,
     graph: &Graph,
-    leakers: &[(u32, u32)],
-    rounds: u32,
     blank: Blank,
 ) -> Result<Rounds, Fail>
-    requires rounds { rounds ≤ 4 }
     requires name { blank.name ≡ L.name }
     requires parts { blank.parts ≡ L.parts }
     requires some { 0 < L.parts }
-    ensures inside { IfOk result (λ r. (before : ℕ) → before < rounds → (held : PrefixValue → ℕ → Option AnEntry) → IsHeldInRound (planned r) (kept r (suc before)) held → StaysInside graph.now (planned r) held) }
 {
-    rounds_stay_inside::<Kind>();
     let ranks = ranks_of(alloc, graph)?;
-    let book = Book::new(alloc, Kind::Plain);
+    let book = Book::new(alloc, Narrow);
     let mut steps = Steps::<L>::new(blank);
     let world = World {
         graph,
         book: &book,
         states: &NoStates,
     };
-    built(rt, alloc, &world, &ranks, leakers, rounds, &mut steps)
+    built(rt, alloc, &world, &ranks, &[], 1, &mut steps)
 }
 
-// The same rounds, made anew in a pool of their own.
+// The rounds over these links in which these ASes leak, made anew in a pool of their own.
 fn tidied<L: Ledger>(
     rt: &impl Abort,
     alloc: Global,
@@ -200,22 +209,6 @@ fn announcing<P: RoutePolicy, V: OriginStates, L: Ledger>(
 }
 
 #[test]
-fn a_provider_route_leaks_in_the_rounds_of_its_leaker(rt: HostRuntime) -> Result<(), Fail> {
-    let links = [(1, 3, DOWN), (2, 3, DOWN), (1, 5, DOWN), (1, 2, ACROSS)];
-    let graph = graph_of(&rt, rt.alloc(), &links)?;
-    let rounds = rounds_of::<Brand>(&rt, rt.alloc(), &graph, &[(2, 3), (4, 3)], 4, Blank::new(1))?;
-    let plain = b"1 customer 1 5\n2 peer 2 1 5\n3 provider 3 1 5\n5 origin 5\n".as_slice();
-    let leaked = b"1 customer 1 5\n2 customer 2 3 1 5\n3 origin 3 1 5\n5 origin 5\n".as_slice();
-    for (round, expected) in [(1, plain), (2, leaked), (3, plain), (4, leaked)] {
-        expect_round(&rt, rt.alloc(), &graph, &rounds, round, expected)?;
-    }
-    assert!(rt; rounds.round(0).is_none() && rounds.round(5).is_none());
-    assert!(rt; rounds.pool().live() <= 17);
-    assert_eq!(rt; rounds.seed_plan().leaker_at(4, 0), Asn::new(3));
-    Ok(())
-}
-
-#[test]
 fn tidied_rounds_hold_what_they_held(rt: HostRuntime) -> Result<(), Fail> {
     let links = [(1, 3, DOWN), (2, 3, DOWN), (1, 5, DOWN), (1, 2, ACROSS)];
     let graph = graph_of(&rt, rt.alloc(), &links)?;
@@ -225,6 +218,7 @@ fn tidied_rounds_hold_what_they_held(rt: HostRuntime) -> Result<(), Fail> {
     for (round, expected) in [(1, plain), (2, leaked), (3, plain), (4, leaked)] {
         expect_round(&rt, rt.alloc(), &graph, &rounds, round, expected)?;
     }
+    expect_hop(&rt, &rounds)?;
     assert!(rt; rounds.pool().live() <= 17);
     assert_eq!(rt; rounds.seed_plan().leaker_at(4, 0), Asn::new(3));
     Ok(())
@@ -318,24 +312,10 @@ fn a_plan_is_undone_and_then_put_in_place(rt: HostRuntime) -> Result<(), Fail> {
 }
 
 #[test]
-fn two_leakers_lean_on_each_other(rt: HostRuntime) -> Result<(), Fail> {
-    let links = [
-        (5, 1, DOWN),
-        (5, 2, DOWN),
-        (1, 3, DOWN),
-        (2, 3, DOWN),
-        (1, 6, DOWN),
-        (6, 4, DOWN),
-        (2, 4, DOWN),
-    ];
+fn paths_of_three_ases_are_the_longest_that_narrow_ases_take(rt: HostRuntime) -> Result<(), Fail> {
+    let links = [(1, 2, DOWN), (2, 3, DOWN), (2, 4, ACROSS), (4, 5, DOWN)];
     let graph = graph_of(&rt, rt.alloc(), &links)?;
-    let rounds = rounds_of::<Brand>(&rt, rt.alloc(), &graph, &[(2, 3), (2, 4)], 2, Blank::new(1))?;
-    expect_round(
-        &rt,
-        rt.alloc(),
-        &graph,
-        &rounds,
-        2,
-        b"1 customer 1 6 4 2 5\n2 customer 2 3 1 5\n3 origin 3 1 5\n4 origin 4 2 5\n5 origin 5\n6 customer 6 4 2 5\n",
-    )
+    let rounds = narrow_rounds::<Brand>(&rt, rt.alloc(), &graph, Blank::new(1))?;
+    let table = b"2 peer 2 4 5\n4 customer 4 5\n5 origin 5\n";
+    expect_round(&rt, rt.alloc(), &graph, &rounds, 1, table)
 }
