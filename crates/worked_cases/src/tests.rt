@@ -1,26 +1,18 @@
 //! The cases by subject, each in a module of its own. What several of them build stands in `worlds`.
-mod answers;
 mod cycles;
 mod edges;
 mod files;
 mod forwarding;
-mod graph_edits;
 mod graphs;
 mod kinds;
 mod narrow_policy;
 mod path_cells;
-mod payloads;
 mod plans;
 mod ranks;
 mod relationship_files;
 mod right_routes;
 mod rounds;
 mod scenarios;
-mod scripts;
-mod simulations;
-mod stable_routes;
 mod steps;
-mod texts;
-mod validation_states;
 mod values;
 mod worlds;
