@@ -2,6 +2,7 @@
 ghost use Rattle.std.specs.Prelude.{◌≡◌, ◌≤◌, ℕ, false, None, IfOk, IfErr, OnOk};
 ghost use Rattle.std.specs.FinMap as fin;
 ghost use Rattle.as_graph.specs.Topology.{as_count, has};
+ghost use Rattle.leak_round.specs.Limits.{IsWithinLimits};
 ghost use Rattle.leak_round.specs.SeedPaths.{HaveAtMost};
 ghost use Rattle.rank_order.specs.Ranks.{rank_at};
 ghost use Rattle.scenario_text.specs.declared.acts.Query.TheVariants as query;
@@ -72,7 +73,8 @@ impl Base {
 
     /// Who announces what, and who leaks in which round.
     pub fn plan(&self) -> &SeedPlan
-        ensures { result.now ≡ (base_world self.now).plan }
+        ensures value { result.now ≡ (base_world self.now).plan }
+        ensures small { IsWithinLimits result.now }
     {
         &self.plan
     }
