@@ -1,6 +1,7 @@
 //! What a world lends: a simulation, and one without what is kept of it.
 ghost use Rattle.std.specs.Prelude.{◌≡◌, ◌≤◌, ℕ, false, None, IfOk, IfErr, OnOk};
 ghost use Rattle.std.specs.FinMap as fin;
+ghost use Rattle.std.specs.FinSet as set;
 ghost use Rattle.as_graph.specs.Topology.{as_count, has};
 ghost use Rattle.leak_round.specs.Limits.{IsWithinLimits};
 ghost use Rattle.leak_round.specs.SeedPaths.{HaveAtMost};
@@ -17,9 +18,10 @@ ghost use Rattle.sim_core.specs.World.{HasCycle, topology};
 ghost use Rattle.as_graph.specs.declared.build.TheConstants.{MOST_ASES};
 
 use crate::loading::load_base;
+use crate::watching::place_of_addr;
 use crate::{Base, LoadError, QueryError, Sim};
 use as_graph::Graph;
-use net_names::{Links, Prefix};
+use net_names::{Addr, Links, Prefix};
 use policy_kinds::Kind;
 use rank_order::Ranks;
 use roa_table::Vrps;
@@ -85,6 +87,16 @@ impl Base {
         ensures few { result ≤ 4 }
     {
         self.rounds
+    }
+
+    /// Whether the address is watched.
+    pub fn is_watched(&self, addr: Addr) -> bool
+        ensures { result ≡ set.contains (base_world self.now).watched addr }
+    {
+        match place_of_addr(self.watched.as_slice(), addr) {
+            Some(_) => true,
+            None => false,
+        }
     }
 }
 
