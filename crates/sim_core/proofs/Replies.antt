@@ -1,4 +1,4 @@
--- An accepted query has one answer.
+-- What is kept of a world is one, and an accepted query has one answer.
 use Rattle.std.proofs.Common.{◌≡◌, ℕ, ◌&&◌, Bool, true, false, IsTrue, Option, None, List, [], ◌∷◌, decimal, refl, sym, ap, subst, ◌∙◌}
 use Rattle.std.specs.FinSet as set
 use Rattle.net_names.specs.Addresses.{AddrValue}
@@ -24,6 +24,7 @@ use Rattle.reports.specs.declared.group.Group.{Group}
 use Rattle.sim_core.specs.Answers.{IsAnswer, refusal_of, needs}
 use Rattle.sim_core.specs.Counting.{how_many, in_group}
 use Rattle.sim_core.specs.Kept.{IsKept, Kept}
+use Rattle.sim_core.specs.Laws.{AreSameIn}
 use Rattle.sim_core.specs.World.{World, has_round, topology}
 use Rattle.sim_core.proofs.Families.{one_family, same_next}
 use Rattle.sim_core.proofs.Rows.{many_alike, same_members}
@@ -40,6 +41,20 @@ module _ (w : World) (k l : Kept) (x : IsKept w k) (y : IsKept w l) where
 
   next_same : (round : ℕ) (addr : AddrValue) → IsTrue (has_round w round) → ◌≡◌ {A = ℕ → Hop} (next_hop w.plan (l.routings round) addr) (next_hop w.plan (k.routings round) addr)
   next_same round addr there = λ i a. same_next w.plan (l.routings round) (k.routings round) addr (λ p known b. sym (same_entry round p there known b)) a i
+
+  same_rank : (n : ℕ) → k.ranks n ≡ l.ranks n
+  same_rank n = one_rank_at (relation (topology w)) n (k.ranks n) (l.ranks n) (x.ranks n) (y.ranks n)
+
+  same_end_at : (round : ℕ) (addr : AddrValue) (n : ℕ) → IsTrue (has_round w round) → IsTrue (set.contains w.watched addr) → IsTrue (has (topology w) n) → k.ends round addr n ≡ l.ends round addr n
+  same_end_at round addr n there watched known =
+      let next : ℕ → Hop = next_hop w.plan (k.routings round) addr in
+      let (walk, trace) = x.ends round addr n there watched known in
+      let (other, theirs) = y.ends round addr n there watched known in
+      let same : IsTrace next n other (l.ends round addr n) = subst (λ (h : ℕ → Hop). IsTrace h n other (l.ends round addr n)) (next_same round addr there) theirs in
+      one_end next n (l.ends round addr n) (k.ends round addr n) (trace_ends next n other (l.ends round addr n) same) (trace_ends next n walk (k.ends round addr n) trace)
+
+  pub one_kept : AreSameIn w k l
+  one_kept = record { routings = same_entry; ranks = same_rank; ends = same_end_at }
 
   -- what two keep gives the same answers
   pub one_answer : (q : Query) (s t : List ℕ) → refusal_of w q ≡ None → IsAnswer w k q s → IsAnswer w l q t → s ≡ t
@@ -61,17 +76,10 @@ module _ (w : World) (k l : Kept) (x : IsKept w k) (y : IsKept w l) where
   one_answer (query.Report round addr) s t accepted a b =
       let asked = none_wanting (has_round w round) _ _ accepted in
       let watched = none_wanting (set.contains w.watched addr) _ _ asked.1 in
-      let ranks : (n : ℕ) → k.ranks n ≡ l.ranks n = λ n. one_rank_at (relation (topology w)) n (k.ranks n) (l.ranks n) (x.ranks n) (y.ranks n) in
-      let members : (g : Group) (n : ℕ) → in_group w k g n ≡ in_group w l g n = same_members w k l ranks in
-      let next : ℕ → Hop = next_hop w.plan (k.routings round) addr in
-      let ends : (n : ℕ) → has (topology w) n ≡ true → k.ends round addr n ≡ l.ends round addr n = λ n there.
-      let (walk, trace) = x.ends round addr n asked.0 watched.0 there in
-      let (other, theirs) = y.ends round addr n asked.0 watched.0 there in
-      let same : IsTrace next n other (l.ends round addr n) = subst (λ (h : ℕ → Hop). IsTrace h n other (l.ends round addr n)) (next_same round addr asked.0) theirs in
-      one_end next n (l.ends round addr n) (k.ends round addr n) (trace_ends next n other (l.ends round addr n) same) (trace_ends next n walk (k.ends round addr n) trace)
-      in
+      let members : (g : Group) (n : ℕ) → in_group w k g n ≡ in_group w l g n = same_members w k l same_rank in
+      let ends : (n : ℕ) → has (topology w) n ≡ true → k.ends round addr n ≡ l.ends round addr n = λ n there. same_end_at round addr n asked.0 watched.0 there in
       let counts : (g : Group) (e : End) → how_many w (λ n. in_group w k g n && (same_end.ghosts).eq (k.ends round addr n) e) ≡ how_many w (λ n. in_group w l g n && (same_end.ghosts).eq (l.ends round addr n) e) =
       λ g e. many_alike w (λ n. in_group w k g n && (same_end.ghosts).eq (k.ends round addr n) e) (λ n. in_group w l g n && (same_end.ghosts).eq (l.ends round addr n) e) (λ n there i. members g n i && (same_end.ghosts).eq (ends n there i) e) in
       a ∙ ((λ i. report_text (λ g. how_many w (λ n. members g n i)) (λ g e. counts g e i) (announcers_of w.plan)) ∙ sym b)
-  one_answer query.Ranks s t accepted a b = a ∙ ((λ i. table (topology w) (λ asn. row (decimal asn ∷ decimal (one_rank_at (relation (topology w)) asn (k.ranks asn) (l.ranks asn) (x.ranks asn) (y.ranks asn) i) ∷ []))) ∙ sym b)
+  one_answer query.Ranks s t accepted a b = a ∙ ((λ i. table (topology w) (λ asn. row (decimal asn ∷ decimal (same_rank asn i) ∷ []))) ∙ sym b)
   one_answer (query.Validity prefix asn) s t accepted a b = a ∙ sym b

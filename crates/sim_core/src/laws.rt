@@ -1,5 +1,5 @@
 //! What holds of all worlds.
-ghost use Rattle.sim_core.specs.Laws.{OneAnswer, OneCount, OneReason};
+ghost use Rattle.sim_core.specs.Laws.{OneAnswer, OneCount, OneKept, OneReason};
 ghost use Rattle.sim_core.specs.Lent.{KeptIsStable, LentHasNoCycle, LentIsRanked, LentIsSetting, NoOtherIsStable};
 
 use policy_kinds::Kind;
@@ -12,6 +12,13 @@ pub fn answers_are_one()
     ensures answer { OneAnswer }
     ensures count { OneCount }
     ensures reason { OneReason }
+{}
+
+/// What is kept of a world is one: two that are right for it are the same in the routings of its rounds and
+/// prefixes, in the ranks, and in where its packets end. So what a simulation keeps after any edits is what
+/// a load of the edited world keeps (Gao and Rexford 2001).
+pub fn kept_is_one()
+    ensures { OneKept }
 {}
 
 /// The graph, the policies and the payloads that a world lends are what its routings rest on: with them

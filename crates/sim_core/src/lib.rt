@@ -37,5 +37,5 @@ mod watching;
 pub use base::Base;
 pub use editing::Changed;
 pub use errors::{EditError, EditLimit, LoadError, QueryError};
-pub use laws::{answers_are_one, kept_are_stable};
+pub use laws::{answers_are_one, kept_are_stable, kept_is_one};
 pub use sim::Sim;
