@@ -65,7 +65,9 @@ fn view_from<P: RoutePolicy, V: OriginStates>(
     neighbour: &Neighbour,
 ) -> Option<View>
     requires { relation graph.now to neighbour.now.asn ≡ Some neighbour.now.rel }
-    ensures { result ≡ option_map (λ o. o.view) (offers_after (setting P.meaning graph.now book.now (V.state_of states.now prefix)) lines.now.entries to from (option_copied message.entry) neighbour.now.asn) }
+    ensures { result ≡ option_map (λ o. o.view) (offers_after
+        (setting P.meaning graph.now book.now (V.state_of states.now prefix)) lines.now.entries to from
+        (option_copied message.entry) neighbour.now.asn) }
 {
     let held = heard(lines, from, to, message, neighbour.asn)?;
     offered_view(
@@ -92,7 +94,9 @@ fn best_of_all<P: RoutePolicy, V: OriginStates>(
     message: Option<&Held>,
 ) -> Option<View>
     requires { AreNeighbours (relation graph.now) to neighbours.now }
-    ensures { IsBestView (P.meaning (policy_at book.now to)) (offers_after (setting P.meaning graph.now book.now (V.state_of states.now prefix)) lines.now.entries to from (option_copied message.entry)) result }
+    ensures { IsBestView (P.meaning (policy_at book.now to))
+        (offers_after (setting P.meaning graph.now book.now (V.state_of states.now prefix)) lines.now.entries to from
+        (option_copied message.entry)) result }
 {
     let own = book.policy(to);
     let mut best: Option<View> = None;
@@ -130,8 +134,11 @@ fn best_after<P: RoutePolicy, V: OriginStates>(
     best: Option<View>,
 ) -> Option<View>
     requires linked { relation graph.now to from ≡ Some rel }
-    requires best { IsBestView (P.meaning (policy_at book.now to)) (offers_now (setting P.meaning graph.now book.now (V.state_of states.now prefix)) lines.now.entries to) best }
-    ensures { IsBestView (P.meaning (policy_at book.now to)) (offers_after (setting P.meaning graph.now book.now (V.state_of states.now prefix)) lines.now.entries to from (option_copied message.entry)) result }
+    requires best { IsBestView (P.meaning (policy_at book.now to))
+        (offers_now (setting P.meaning graph.now book.now (V.state_of states.now prefix)) lines.now.entries to) best }
+    ensures { IsBestView (P.meaning (policy_at book.now to))
+        (offers_after (setting P.meaning graph.now book.now (V.state_of states.now prefix)) lines.now.entries to from
+        (option_copied message.entry)) result }
 {
     let own = book.policy(to);
     let sender = Neighbour { asn: from, rel };
@@ -192,8 +199,12 @@ fn held_by_view<P: RoutePolicy, V: OriginStates>(
     message: Option<&Held>,
     best: Option<View>,
 ) -> Result<Option<Held>, NoMemory>
-    requires { IsBestView (P.meaning (policy_at book.now to)) (offers_after (setting P.meaning graph.now book.now (V.state_of states.now prefix)) lines.now.entries to from (option_copied message)) best }
-    ensures { IfOk result (IsChosen (P.meaning (policy_at book.now to)) (offers_after (setting P.meaning graph.now book.now (V.state_of states.now prefix)) lines.now.entries to from (option_copied message.entry)) best) }
+    requires { IsBestView (P.meaning (policy_at book.now to))
+        (offers_after (setting P.meaning graph.now book.now (V.state_of states.now prefix)) lines.now.entries to from
+        (option_copied message)) best }
+    ensures { IfOk result (IsChosen (P.meaning (policy_at book.now to))
+        (offers_after (setting P.meaning graph.now book.now (V.state_of states.now prefix)) lines.now.entries to from
+        (option_copied message.entry)) best) }
 {
     let Some(view) = best else {
         return Ok(None);
@@ -243,8 +254,12 @@ pub(crate) fn choose<P: RoutePolicy, V: OriginStates>(
     best: Option<View>,
 ) -> Result<Option<Choice>, NoMemory>
     requires linked { relation graph.now to from ≡ Some rel }
-    requires best { IsBestView (P.meaning (policy_at book.now to)) (offers_now (setting P.meaning graph.now book.now (V.state_of states.now prefix)) lines.now.entries to) best }
-    ensures { IfOk result (IsChoiceAfter (P.meaning (policy_at book.now to)) (offers_now (setting P.meaning graph.now book.now (V.state_of states.now prefix)) lines.now.entries to) (offers_after (setting P.meaning graph.now book.now (V.state_of states.now prefix)) lines.now.entries to from (option_copied message.entry)) best) }
+    requires best { IsBestView (P.meaning (policy_at book.now to))
+        (offers_now (setting P.meaning graph.now book.now (V.state_of states.now prefix)) lines.now.entries to) best }
+    ensures { IfOk result (IsChoiceAfter (P.meaning (policy_at book.now to))
+        (offers_now (setting P.meaning graph.now book.now (V.state_of states.now prefix)) lines.now.entries to)
+        (offers_after (setting P.meaning graph.now book.now (V.state_of states.now prefix)) lines.now.entries to from
+        (option_copied message.entry)) best) }
 {
     let after = best_after(
         graph, book, states, prefix, lines, from, to, rel, message, best,

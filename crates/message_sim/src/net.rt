@@ -122,7 +122,9 @@ impl<'a, P: RoutePolicy, V: OriginStates> Net<'a, P, V> {
     pub fn quiet(&self) -> bool
         ensures quiet { IsTrue result ↔ IsQuiet (net_of self.now) }
         ensures stable { IsTrue result → IsStable (net_setting P.meaning V.state_of self.now.world) (seeds_in self.now.world) (net_of self.now).choice }
-        ensures the_one { IsTrue result → (f : ℕ → Option AnEntry) → IsStable (net_setting P.meaning V.state_of self.now.world) (seeds_in self.now.world) f → (a : ℕ) → f a ≡ (net_of self.now).choice a }
+        ensures the_one { IsTrue result → (f : ℕ → Option AnEntry) →
+            IsStable (net_setting P.meaning V.state_of self.now.world) (seeds_in self.now.world) f → (a : ℕ) →
+            f a ≡ (net_of self.now).choice a }
     {
         one_stable_routing::<P>();
         are_none_waiting(&self.tables.lines, self.tables.queued)
@@ -172,7 +174,8 @@ impl<'a, P: RoutePolicy, V: OriginStates> Net<'a, P, V> {
     fn turn(&mut self, alloc: Global, from: Asn, to: Asn, most: u32) -> Result<u32, NoMemory>
         requires { relation self.old.world.graph to from ≢ None }
         ensures world { self.new.world ≡ self.old.world }
-        ensures run { IfOk result (λ made. AreTurns (net_setting P.meaning V.state_of self.old.world) (seeds_in self.old.world) (replicate most (Some (from, to))) (net_of self.old) made (net_of self.new)) }
+        ensures run { IfOk result (λ made. AreTurns (net_setting P.meaning V.state_of self.old.world)
+            (seeds_in self.old.world) (replicate most (Some (from, to))) (net_of self.old) made (net_of self.new)) }
     {
         let mut made: u32 = 0;
         for k in 0..most {
@@ -185,7 +188,9 @@ impl<'a, P: RoutePolicy, V: OriginStates> Net<'a, P, V> {
     fn make(&mut self, alloc: Global, step: &Step) -> Result<u32, NoMemory>
         requires { is_foreign (relation self.old.world.graph) step.now ≡ false }
         ensures world { self.new.world ≡ self.old.world }
-        ensures run { IfOk result (λ made. AreTurns (net_setting P.meaning V.state_of self.old.world) (seeds_in self.old.world) (replicate step.now.most step.now.link) (net_of self.old) made (net_of self.new)) }
+        ensures run { IfOk result (λ made. AreTurns (net_setting P.meaning V.state_of self.old.world)
+            (seeds_in self.old.world) (replicate step.now.most step.now.link) (net_of self.old) made
+            (net_of self.new)) }
     {
         match step.link {
             Some((from, to)) => self.turn(alloc, from, to, step.most),
@@ -198,7 +203,8 @@ impl<'a, P: RoutePolicy, V: OriginStates> Net<'a, P, V> {
     pub fn run(&mut self, alloc: Global, steps: &Steps) -> Result<u32, NoMemory>
         requires linked { first_foreign_in (relation self.old.world.graph) steps.now ≡ None }
         ensures world { self.new.world ≡ self.old.world }
-        ensures run { IfOk result (λ made. AreTurns (net_setting P.meaning V.state_of self.old.world) (seeds_in self.old.world) (turns_of steps.now) (net_of self.old) made (net_of self.new)) }
+        ensures run { IfOk result (λ made. AreTurns (net_setting P.meaning V.state_of self.old.world)
+            (seeds_in self.old.world) (turns_of steps.now) (net_of self.old) made (net_of self.new)) }
     {
         let mut made: u32 = 0;
         for step in steps.as_slice() {

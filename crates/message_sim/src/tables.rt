@@ -92,7 +92,8 @@ fn change_to<P: RoutePolicy>(
 ) -> Result<Change, NoMemory>
     requires { is_some (lookup (nat_eq a) choices.now.entries) ≡ true }
     ensures choice { IfOk result (λ c. c.choice ≡ choice) }
-    ensures news { IfOk result (λ c. AreNewsAt (P.meaning (policy_at book.now a)) (relation graph.now a) (choice_at choices.now.entries a) (held_after choice (choice_at choices.now.entries a)) c.news.items) }
+    ensures news { IfOk result (λ c. AreNewsAt (P.meaning (policy_at book.now a)) (relation graph.now a)
+        (choice_at choices.now.entries a) (held_after choice (choice_at choices.now.entries a)) c.news.items) }
 {
     match choice {
         None => Ok(Change {
@@ -125,7 +126,9 @@ fn change_by<P: RoutePolicy, V: OriginStates>(
 ) -> Result<Change, NoMemory>
     requires linked { relation graph.now to from ≡ Some rel }
     requires kept { IsKept (setting P.meaning graph.now book.now (V.state_of states.now prefix)) (map.get seeds.now) tables.now }
-    ensures { IfOk result (λ c. IsChange (setting P.meaning graph.now book.now (V.state_of states.now prefix)) (map.get seeds.now) tables.now.choices.entries tables.now.bests.entries tables.now.lines.entries from to message.now c.choice c.news.items) }
+    ensures { IfOk result (λ c. IsChange (setting P.meaning graph.now book.now (V.state_of states.now prefix))
+        (map.get seeds.now) tables.now.choices.entries tables.now.bests.entries tables.now.lines.entries from to
+        message.now c.choice c.news.items) }
 {
     match seeds.get(to) {
         Some(_) => Ok(Change {
@@ -216,7 +219,8 @@ pub(crate) fn deliver_in<P: RoutePolicy, V: OriginStates>(
     requires linked { relation graph.now to from ≢ None }
     requires kept { IsKept (setting P.meaning graph.now book.now (V.state_of states.now prefix)) (map.get seeds.now) tables.old }
     ensures kept { IsKept (setting P.meaning graph.now book.now (V.state_of states.now prefix)) (map.get seeds.now) tables.new }
-    ensures ok { IfOk result (IsTurnIn (setting P.meaning graph.now book.now (V.state_of states.now prefix)) (map.get seeds.now) tables.old tables.new from to) }
+    ensures ok { IfOk result (IsTurnIn (setting P.meaning graph.now book.now (V.state_of states.now prefix))
+        (map.get seeds.now) tables.old tables.new from to) }
     ensures err { OnErr result (IsSameNet tables.old tables.new) }
 {
     let Some(rel) = graph.rel(to, from) else {
@@ -337,7 +341,8 @@ pub(crate) fn are_none_waiting(lines: &IndexMap<(Asn, Asn), Line>, queued: u64) 
 /// each line.
 pub(crate) fn under_way(lines: &IndexMap<(Asn, Asn), Line>, queued: u64) -> u64
     requires { queued ≡ waiting_in lines.now.entries }
-    ensures { (ns : List ℕ) → IsDistinct ns → AreWithin ns lines.now.entries → result ≡ sum_by (λ n. sum_by (λ a. length (queue_at lines.now.entries n a)) ns) ns }
+    ensures { (ns : List ℕ) → IsDistinct ns → AreWithin ns lines.now.entries →
+        result ≡ sum_by (λ n. sum_by (λ a. length (queue_at lines.now.entries n a)) ns) ns }
 {
     if lines.len() == 0 {
         return 0;

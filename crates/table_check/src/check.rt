@@ -25,7 +25,8 @@ fn fault_in<P: RoutePolicy, V: OriginStates>(
     before: &Routing,
     routing: &Routing,
 ) -> Result<Option<Fault>, NoMemory>
-    ensures { IfOk result (IsFault (setting_in P.meaning V.state_of world.now prefix) (seeds_of plan.now round prefix (map.get before.now)) (map.get routing.now)) }
+    ensures { IfOk result (IsFault (setting_in P.meaning V.state_of world.now prefix)
+        (seeds_of plan.now round prefix (map.get before.now)) (map.get routing.now)) }
 {
     let seeds = seeds_at(alloc, plan, round, prefix, before)?;
     let rows = world.graph.rows();

@@ -53,7 +53,8 @@ fn view_from<P: RoutePolicy, V: OriginStates>(
     place: usize,
 ) -> Option<View>
     requires { relation world.now.graph.now asn neighbour.now.asn ≡ Some neighbour.now.rel }
-    ensures { result ≡ option_map (λ o. o.view) (offer (setting_in P.meaning V.state_of world.now prefix) (map.get placed.now.routing.now) neighbour.now.asn asn) }
+    ensures { result ≡ option_map (λ o. o.view) (offer (setting_in P.meaning V.state_of world.now prefix)
+        (map.get placed.now.routing.now) neighbour.now.asn asn) }
 {
     let held = placed.near(neighbour.asn, place)?;
     offered_view(
@@ -77,7 +78,9 @@ fn best_view<P: RoutePolicy, V: OriginStates>(
     asn: Asn,
 ) -> Best
     requires { AreNeighbours (relation world.now.graph.now) asn neighbours.now }
-    ensures { IsBestView (P.meaning (policy_at world.now.book.now asn)) (λ n. offer (setting_in P.meaning V.state_of world.now prefix) (map.get placed.now.routing.now) n asn) result.view }
+    ensures { IsBestView (P.meaning (policy_at world.now.book.now asn))
+        (λ n. offer (setting_in P.meaning V.state_of world.now prefix) (map.get placed.now.routing.now) n asn)
+        result.view }
 {
     let own = world.book.policy(asn);
     let mut best: Option<View> = None;
@@ -106,7 +109,8 @@ fn is_offer<P: RoutePolicy, V: OriginStates>(
     place: usize,
     entry: &Entry,
 ) -> bool
-    ensures { (o : Offer) → offer (setting_in P.meaning V.state_of world.now prefix) (map.get placed.now.routing.now) view.now.neighbour asn ≡ Some o → o.view ≡ view.now → IsTrue result → entry.now ≡ o.entry }
+    ensures { (o : Offer) → offer (setting_in P.meaning V.state_of world.now prefix) (map.get placed.now.routing.now)
+        view.now.neighbour asn ≡ Some o → o.view ≡ view.now → IsTrue result → entry.now ≡ o.entry }
 {
     match placed.near(view.neighbour, place) {
         Some(given) => holds_given(
