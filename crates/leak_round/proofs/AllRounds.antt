@@ -8,15 +8,12 @@ use Rattle.net_names.specs.Prefixes.{PrefixValue}
 use Rattle.path_pool.specs.declared.pool.PathPool.{PathPool}
 use Rattle.path_pool.specs.Pool.{holds_of, live_count}
 use Rattle.stability_laws.specs.declared.entry.Entry.{Entry}
-use Rattle.stability_laws.specs.Offers.{Setting}
-use Rattle.stability_laws.specs.Stable.{IsStable}
 use Rattle.stability_laws.specs.Plans.{Plan, has_prefix}
-use Rattle.stability_laws.specs.Rounds.{AreRounds, seeds_of}
 use Rattle.route_choice.specs.declared.round_tables.RoundTables.{RoundTables}
 use Rattle.route_choice.specs.RoundTables.{tables_uses, round_routing}
 use Rattle.leak_round.specs.Entries.{HasEntries, of_round, of_rounds}
 use Rattle.leak_round.specs.Growth.{KeepsPaths}
-use Rattle.leak_round.specs.Tables.{tables_in, kept_in, entry_uses, AreFull, AreRoundsFull, IsRound}
+use Rattle.leak_round.specs.Tables.{tables_in, kept_in, entry_uses, AreFull, AreRoundsFull}
 use Rattle.leak_round.proofs.Counting.{more_entries, no_entries, none_some}
 use Rattle.leak_round.proofs.Listing.{got_either}
 use Rattle.leak_round.proofs.Keeping.{keeps_itself, keeps_on, full_kept, all_kept}
@@ -34,21 +31,21 @@ got_past : {X : Type 0} (xs : List X) → slice_get xs (length xs) ≡ None
 got_past [] = refl
 got_past (x ∷ xs) = got_past xs
 
--- what the rounds so far are, since the pool was this one
-pub record AreRoundsSoFar (setting : PrefixValue → Setting) (plan : Plan) (first pool : PathPool) (rounds : List RoundTables) : Type 0 where
+-- what the rounds so far are, each of which fits the one before, since the pool was this one
+pub record AreRoundsSoFar (Fits : ℕ → PrefixValue → (ℕ → Option Entry) → (ℕ → Option Entry) → Type 0) (plan : Plan) (first pool : PathPool) (rounds : List RoundTables) : Type 0 where
   pub keeps : KeepsPaths first pool
   pub holds : (k : ℕ) → holds_of pool k ≡ holds_of first k + entry_uses rounds k
-  pub stable : AreRounds setting plan (length rounds) (kept_in pool rounds)
+  pub fits : (before : ℕ) (p : PrefixValue) → before < length rounds → IsTrue (has_prefix plan p) → Fits before p (kept_in pool rounds before p) (kept_in pool rounds (suc before) p)
   pub full : AreRoundsFull pool plan rounds
   pub cells : HasEntries (of_rounds (kept_in pool rounds)) (live_count pool - live_count first)
 
-module _ (setting : PrefixValue → Setting) (plan : Plan) (first : PathPool) where
+module _ (Fits : ℕ → PrefixValue → (ℕ → Option Entry) → (ℕ → Option Entry) → Type 0) (plan : Plan) (first : PathPool) where
   -- no round yet
-  pub rounds_start : AreRoundsSoFar setting plan first first []
+  pub rounds_start : AreRoundsSoFar Fits plan first first []
   rounds_start = record {
     keeps = keeps_itself first;
     holds = λ k. omega arith;
-    stable = λ before p less known. absurd (omega (arith, less));
+    fits = λ before p less known. absurd (omega (arith, less));
     full = λ round tables at. absurd (none_some (tables_in [] round) (nothing round) (subst IsSome (sym at) refl));
     cells = no_entries (of_rounds (kept_in first [])) (live_count first - live_count first) (omega arith);
   }
@@ -57,7 +54,7 @@ module _ (setting : PrefixValue → Setting) (plan : Plan) (first : PathPool) wh
       nothing zero = refl
       nothing (suc i) = refl
 
-  module _ (pool next : PathPool) (rounds : List RoundTables) (t : RoundTables) (so_far : AreRoundsSoFar setting plan first pool rounds) (keeps : KeepsPaths pool next) where
+  module _ (pool next : PathPool) (rounds : List RoundTables) (t : RoundTables) (so_far : AreRoundsSoFar Fits plan first pool rounds) (keeps : KeepsPaths pool next) where
     earlier_round : (round : ℕ) → round ≤ length rounds → tables_in (rounds ++ t ∷ []) round ≡ tables_in rounds round
     earlier_round zero within = refl
     earlier_round (suc i) within = got_before rounds t i (omega arith)
@@ -69,20 +66,17 @@ module _ (setting : PrefixValue → Setting) (plan : Plan) (first : PathPool) wh
     kept_new : (p : PrefixValue) (a : ℕ) → kept_in next (rounds ++ t ∷ []) (suc (length rounds)) p a ≡ round_routing next t p a
     kept_new p a = ap (option_and_then (λ (x : RoundTables). round_routing next x p a)) (got_last rounds t)
 
-    module _ (stable : IsRound setting plan (suc (length rounds)) (kept_in pool rounds (length rounds)) (round_routing next t)) (full : AreFull next plan t) (holds : (k : ℕ) → holds_of next k ≡ holds_of pool k + tables_uses t k) (cells : HasEntries (of_round (round_routing next t)) (live_count next - live_count pool)) where
-      stable_at : (before : ℕ) (p : PrefixValue) → (before < length rounds) ⊎ (before ≡ length rounds) → IsTrue (has_prefix plan p) → IsStable (setting p) (seeds_of plan (suc before) p (kept_in next (rounds ++ t ∷ []) before p)) (kept_in next (rounds ++ t ∷ []) (suc before) p)
-      stable_at before p (inl less) known =
-          let F : (ℕ → Option Entry) → (ℕ → Option Entry) → Type 0 = λ f g. IsStable (setting p) (seeds_of plan (suc before) p f) g in
+    module _ (fits : (p : PrefixValue) → IsTrue (has_prefix plan p) → Fits (length rounds) p (kept_in pool rounds (length rounds) p) (round_routing next t p)) (full : AreFull next plan t) (holds : (k : ℕ) → holds_of next k ≡ holds_of pool k + tables_uses t k) (cells : HasEntries (of_round (round_routing next t)) (live_count next - live_count pool)) where
+      fits_at : (before : ℕ) (p : PrefixValue) → (before < length rounds) ⊎ (before ≡ length rounds) → IsTrue (has_prefix plan p) → Fits before p (kept_in next (rounds ++ t ∷ []) before p) (kept_in next (rounds ++ t ∷ []) (suc before) p)
+      fits_at before p (inl less) known =
           let one = kept_still before (omega (arith, less)) p in
           let two = kept_still (suc before) (omega (arith, less)) p in
-          coe 1 0 (i. F (λ a. one a i) (λ a. two a i)) (so_far.stable before p less known)
-      stable_at before p (inr e) known =
-          let F : ℕ → (ℕ → Option Entry) → (ℕ → Option Entry) → Type 0 = λ n f g. IsStable (setting p) (seeds_of plan (suc n) p f) g in
+          coe 1 0 (i. Fits before p (λ a. one a i) (λ a. two a i)) (so_far.fits before p less known)
+      fits_at before p (inr e) known =
           let one = kept_still (length rounds) (omega arith) p in
           let two = kept_new p in
-          let last : IsStable (setting p) (seeds_of plan (suc (length rounds)) p (kept_in next (rounds ++ t ∷ []) (length rounds) p)) (kept_in next (rounds ++ t ∷ []) (suc (length rounds)) p) =
-          coe 1 0 (i. F (length rounds) (λ a. one a i) (λ a. two a i)) (stable p known) in
-          subst (λ n. IsStable (setting p) (seeds_of plan (suc n) p (kept_in next (rounds ++ t ∷ []) n p)) (kept_in next (rounds ++ t ∷ []) (suc n) p)) (sym e) last
+          let last = coe 1 0 (i. Fits (length rounds) p (λ a. one a i) (λ a. two a i)) (fits p known) in
+          subst (λ n. Fits n p (kept_in next (rounds ++ t ∷ []) n p) (kept_in next (rounds ++ t ∷ []) (suc n) p)) (sym e) last
 
       full_at : (round : ℕ) (tables : RoundTables) → tables_in (rounds ++ t ∷ []) round ≡ Some tables → AreFull next plan tables
       full_at zero tables e = cc
@@ -107,11 +101,11 @@ module _ (setting : PrefixValue → Setting) (plan : Plan) (first : PathPool) wh
           none_past (suc i) past = none_at rounds i (omega arith)
 
       -- one round more
-      pub rounds_more : AreRoundsSoFar setting plan first next (rounds ++ t ∷ [])
+      pub rounds_more : AreRoundsSoFar Fits plan first next (rounds ++ t ∷ [])
       rounds_more = record {
         keeps = keeps_on first pool next so_far.keeps keeps;
         holds = λ k. (let more = sum_by_push (λ (x : RoundTables). tables_uses x k) rounds t in omega (arith, more, holds k, so_far.holds k));
-        stable = λ before p less known. stable_at before p (which before less) known;
+        fits = λ before p less known. fits_at before p (which before less) known;
         full = full_at;
         cells = more_entries (of_rounds (kept_in pool rounds)) (of_rounds (kept_in next (rounds ++ t ∷ []))) (of_round (round_routing next t)) (λ x. (suc (length rounds), x)) (λ x y e. ap (λ (z : ℕ × (PrefixValue × ℕ)). z.1) e)
             (λ x. ap (option_and_then (λ (y : RoundTables). round_routing pool y x.0 x.1)) (got_past rounds)) entry_still (λ x h. subst IsSome (sym (kept_new x.0 x.1)) h)

@@ -27,4 +27,8 @@ mod Sizes
 mod Opening
 mod Undoing
 mod Starting
+mod HolderLists
+mod Moves
+mod PassedOn
+mod MovedTables
 pub mod PathsOut

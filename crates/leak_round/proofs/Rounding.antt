@@ -7,10 +7,7 @@ use Rattle.net_names.specs.Prefixes.{PrefixValue, prefix_cmp}
 use Rattle.path_pool.specs.declared.pool.PathPool.{PathPool}
 use Rattle.path_pool.specs.Pool.{holds_of, live_count}
 use Rattle.stability_laws.specs.declared.entry.Entry.{Entry}
-use Rattle.stability_laws.specs.Offers.{Setting}
-use Rattle.stability_laws.specs.Stable.{IsStable}
 use Rattle.stability_laws.specs.Plans.{Plan, ListsRising, has_prefix, prefixes_of}
-use Rattle.stability_laws.specs.Rounds.{seeds_of}
 use Rattle.stability_laws.proofs.KeyLists.{eq_is, eq_same, apart_later, seen_before_end}
 use Rattle.net_names.specs.Orders.{exact_prefix, prefix_total}
 use Rattle.route_choice.specs.declared.round_tables.RoundTables.{RoundTables}
@@ -21,7 +18,7 @@ use Rattle.route_choice.specs.RoundTables.{table_at, tables_uses, uses_at, round
 use Rattle.route_choice.specs.Tables.{table_uses}
 use Rattle.leak_round.specs.Entries.{HasEntries}
 use Rattle.leak_round.specs.Growth.{KeepsPaths, GrowsBy}
-use Rattle.leak_round.specs.Tables.{AreFull, AreOfSize, IsRound}
+use Rattle.leak_round.specs.Tables.{AreFull, AreOfSize}
 use Rattle.leak_round.proofs.Counting.{more_entries, no_entries, none_some}
 use Rattle.leak_round.proofs.Keeping.{keeps_itself, keeps_on, grows_on, round_kept, live_kept}
 use Rattle.stability_laws.proofs.Listing.{at_next}
@@ -56,12 +53,12 @@ sized plan listed old new prefix t place at puts size small = record {
       | inr more ↦ λ e. apart_later prefix_cmp prefix_total (λ p. IsTrue (has_prefix plan p)) (prefixes_of plan) listed place j prefix q (omega (arith, more, ne)) at is (sym e)
     ]
 
--- the tables of the prefixes before a place: since the round began, the pool keeps its paths and grows by so many tables
-pub record IsRoundSoFar (setting : PrefixValue → Setting) (plan : Plan) (round : ℕ) (before : PrefixValue → ℕ → Option Entry) (first pool : PathPool) (tables : RoundTables) (place : ℕ) : Type 0 where
+-- the tables of the prefixes before a place, each of which fits: since the round began, the pool keeps its paths and grows by so many tables
+pub record IsRoundSoFar (Fits : PrefixValue → (ℕ → Option Entry) → Type 0) (plan : Plan) (first pool : PathPool) (tables : RoundTables) (place : ℕ) : Type 0 where
   pub keeps : KeepsPaths first pool
   pub grows : GrowsBy first pool (150000 * place)
   pub holds : (k : ℕ) → holds_of pool k ≡ holds_of first k + tables_uses tables k
-  pub stable : (p : PrefixValue) → IsSome (table_at tables p) → IsStable (setting p) (seeds_of plan round p (before p)) (round_routing pool tables p)
+  pub fits : (p : PrefixValue) → IsSome (table_at tables p) → Fits p (round_routing pool tables p)
   pub live : AreAllLive pool tables
   pub by_prefix : AreByPrefix tables
   pub only : (p : PrefixValue) → IsSome (table_at tables p) → (i : ℕ) × (i < place) × (slice_get (prefixes_of plan) i ≡ Some p)
@@ -69,14 +66,14 @@ pub record IsRoundSoFar (setting : PrefixValue → Setting) (plan : Plan) (round
   pub cells : HasEntries (λ (x : PrefixValue × ℕ). round_routing pool tables x.0 x.1) (live_count pool - live_count first)
   pub size : AreOfSize plan tables
 
-module _ (setting : PrefixValue → Setting) (plan : Plan) (round : ℕ) (before : PrefixValue → ℕ → Option Entry) (first : PathPool) where
+module _ (Fits : PrefixValue → (ℕ → Option Entry) → Type 0) (plan : Plan) (first : PathPool) where
   -- no table yet
-  pub round_start : (tables : RoundTables) → ((p : PrefixValue) → table_at tables p ≡ None) → ((k : ℕ) → tables_uses tables k ≡ 0) → IsRoundSoFar setting plan round before first first tables 0
+  pub round_start : (tables : RoundTables) → ((p : PrefixValue) → table_at tables p ≡ None) → ((k : ℕ) → tables_uses tables k ≡ 0) → IsRoundSoFar Fits plan first first tables 0
   round_start tables none unused = record {
     keeps = keeps_itself first;
     grows = record { cells = omega arith; counts = λ k. omega arith; limit = refl };
     holds = λ k. omega (arith, unused k);
-    stable = λ p h. absurd (none_some (table_at tables p) (none p) h);
+    fits = λ p h. absurd (none_some (table_at tables p) (none p) h);
     live = λ p t at. absurd (none_some (table_at tables p) (none p) (subst IsSome (sym at) refl));
     by_prefix = λ p t at. absurd (none_some (table_at tables p) (none p) (subst IsSome (sym at) refl));
     only = λ p h. absurd (none_some (table_at tables p) (none p) h);
@@ -91,7 +88,7 @@ module _ (setting : PrefixValue → Setting) (plan : Plan) (round : ℕ) (before
       unused_at : (p : PrefixValue) (k : ℕ) → uses_at tables p k ≡ 0
       unused_at p k = ap (λ o. unwrap_or (option_map (λ (x : Table). table_uses x k) o) 0) (none p)
 
-  module _ (pool next : PathPool) (tables more : RoundTables) (place : ℕ) (prefix : PrefixValue) (t : Table) (so_far : IsRoundSoFar setting plan round before first pool tables place) (listed : ListsRising prefix_cmp (λ p. IsTrue (has_prefix plan p)) (prefixes_of plan)) (at : slice_get (prefixes_of plan) place ≡ Some prefix) where
+  module _ (pool next : PathPool) (tables more : RoundTables) (place : ℕ) (prefix : PrefixValue) (t : Table) (so_far : IsRoundSoFar Fits plan first pool tables place) (listed : ListsRising prefix_cmp (λ p. IsTrue (has_prefix plan p)) (prefixes_of plan)) (at : slice_get (prefixes_of plan) place ≡ Some prefix) where
     -- a prefix has no table before its turn
     pub none_yet : table_at tables prefix ≡ None
     none_yet = by (table_at tables prefix) refl
@@ -103,20 +100,16 @@ module _ (setting : PrefixValue → Setting) (plan : Plan) (round : ℕ) (before
             absurd (apart_later prefix_cmp prefix_total (λ p. IsTrue (has_prefix plan p)) (prefixes_of plan) listed i place prefix prefix less is at refl)
 
     module _ (keeps : KeepsPaths pool next) (grows : GrowsBy pool next 150000) (holds : (k : ℕ) → holds_of next k ≡ holds_of pool k + table_uses t k) (live : AreEntriesLive next t)
-        (stable : IsStable (setting prefix) (seeds_of plan round prefix (before prefix)) (table_routing next t)) (cells : HasEntries (table_routing next t) (live_count next - live_count pool)) (puts : PutsTable tables more prefix t) (by_prefix : AreByPrefix tables → AreByPrefix more) (small : (k : ℕ) → table_uses t k ≤ 150000) where
+        (fits : Fits prefix (table_routing next t)) (cells : HasEntries (table_routing next t) (live_count next - live_count pool)) (puts : PutsTable tables more prefix t) (by_prefix : AreByPrefix tables → AreByPrefix more) (small : (k : ℕ) → table_uses t k ≤ 150000) where
       here : (p : PrefixValue) → p ≡ prefix → (a : ℕ) → round_routing next more p a ≡ table_routing next t a
       here p e a = ap (λ q. round_routing next more q a) e ∙ ap (option_and_then (λ (x : Table). table_routing next x a)) puts.this
 
       there : (p : PrefixValue) → p ≢ prefix → (a : ℕ) → round_routing next more p a ≡ round_routing pool tables p a
       there p ne a = ap (option_and_then (λ (x : Table). table_routing next x a)) (puts.others p ne) ∙ round_kept pool next keeps tables so_far.live p a
 
-      stable_at : (p : PrefixValue) → (p ≡ prefix) ⊎ (p ≢ prefix) → IsSome (table_at more p) → IsStable (setting p) (seeds_of plan round p (before p)) (round_routing next more p)
-      stable_at p (inl e) h =
-          let F : PrefixValue → (ℕ → Option Entry) → Type 0 = λ q f. IsStable (setting q) (seeds_of plan round q (before q)) f in
-          coe 1 0 (i. F (e i) (λ a. here p e a i)) stable
-      stable_at p (inr ne) h =
-          let F : (ℕ → Option Entry) → Type 0 = λ f. IsStable (setting p) (seeds_of plan round p (before p)) f in
-          coe 1 0 (i. F (λ a. there p ne a i)) (so_far.stable p (subst IsSome (puts.others p ne) h))
+      fits_at : (p : PrefixValue) → (p ≡ prefix) ⊎ (p ≢ prefix) → IsSome (table_at more p) → Fits p (round_routing next more p)
+      fits_at p (inl e) h = coe 1 0 (i. Fits (e i) (λ a. here p e a i)) fits
+      fits_at p (inr ne) h = coe 1 0 (i. Fits p (λ a. there p ne a i)) (so_far.fits p (subst IsSome (puts.others p ne) h))
 
       live_at : (p : PrefixValue) (x : Table) → (p ≡ prefix) ⊎ (p ≢ prefix) → table_at more p ≡ Some x → AreEntriesLive next x
       live_at p x (inl e) is =
@@ -138,12 +131,12 @@ module _ (setting : PrefixValue → Setting) (plan : Plan) (round : ℕ) (before
       entry_still x (inr ne) h = subst IsSome (sym (there x.0 ne x.1)) h
 
       -- one table more
-      pub round_more : IsRoundSoFar setting plan round before first next more (place + 1)
+      pub round_more : IsRoundSoFar Fits plan first next more (place + 1)
       round_more = record {
         keeps = keeps_on first pool next so_far.keeps keeps;
         grows = grows_on first pool next (150000 * place) 150000 (150000 * (place + 1)) so_far.grows grows (omega arith);
         holds = λ k. (let none : uses_at tables prefix k ≡ 0 = ap (λ o. unwrap_or (option_map (λ (x : Table). table_uses x k) o) 0) none_yet in omega (arith, holds k, so_far.holds k, puts.uses k, none));
-        stable = λ p h. stable_at p (same_or_not p prefix) h;
+        fits = λ p h. fits_at p (same_or_not p prefix) h;
         live = λ p x is. live_at p x (same_or_not p prefix) is;
         by_prefix = by_prefix so_far.by_prefix;
         only = λ p h. only_at p (same_or_not p prefix) h;
@@ -154,7 +147,7 @@ module _ (setting : PrefixValue → Setting) (plan : Plan) (round : ℕ) (before
         size = sized plan listed tables more prefix t place at puts so_far.size small;
       }
 
-  module _ (pool : PathPool) (tables : RoundTables) (end : ℕ) (so_far : IsRoundSoFar setting plan round before first pool tables end) (listed : ListsRising prefix_cmp (λ p. IsTrue (has_prefix plan p)) (prefixes_of plan)) (past : slice_get (prefixes_of plan) end ≡ None) where
+  module _ (pool : PathPool) (tables : RoundTables) (end : ℕ) (so_far : IsRoundSoFar Fits plan first pool tables end) (listed : ListsRising prefix_cmp (λ p. IsTrue (has_prefix plan p)) (prefixes_of plan)) (past : slice_get (prefixes_of plan) end ≡ None) where
     all_put : (p : PrefixValue) → IsTrue (has_prefix plan p) → IsSome (table_at tables p)
     all_put p known = let (i, less, is) = seen_before_end prefix_cmp (λ q. IsTrue (has_prefix plan q)) (prefixes_of plan) listed end past p known in so_far.put i p less is
 
@@ -168,6 +161,6 @@ module _ (setting : PrefixValue → Setting) (plan : Plan) (round : ℕ) (before
         by p false known false is = refl
         by p false known true is = let (i, less, e) = so_far.only p is in let known' : has_prefix plan p ≡ true = listed.only i p e in cc
 
-    -- and stable
-    pub round_stable : IsRound setting plan round before (round_routing pool tables)
-    round_stable p known = so_far.stable p (all_put p known)
+    -- and each fits
+    pub round_fits : (p : PrefixValue) → IsTrue (has_prefix plan p) → Fits p (round_routing pool tables p)
+    round_fits p known = so_far.fits p (all_put p known)

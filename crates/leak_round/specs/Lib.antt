@@ -17,3 +17,4 @@ pub mod Plans
 pub mod Told
 pub mod Planners
 pub mod SeedPaths
+pub mod Moved

@@ -31,3 +31,4 @@ pub mod Replies
 pub mod Differences
 pub mod Reasons
 pub mod Lent
+pub mod Tidying

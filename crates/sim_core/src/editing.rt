@@ -14,10 +14,8 @@ use crate::EditError;
 use crate::parts::Parts;
 use leak_round::MOST_CELLS;
 use net_names::NoMemory;
-use origin_validation::States;
 use route_choice::Steps;
 use scenario_text::Edit;
-use stability_laws::World;
 use std::alloc::Global;
 use std::sync::ledger::Ledger;
 
@@ -30,23 +28,17 @@ pub struct Changed {
 
 impl Parts {
     // Makes the pool of the paths anew where too many of its cells are live.
-    fn tidied<L: Ledger>(&mut self, alloc: Global, steps: &mut Steps<L>) -> Result<(), NoMemory>
+    fn tidied(&mut self, alloc: Global) -> Result<(), NoMemory>
         requires right { AreRight self.old }
         requires no_cycle { HasCycle (world_seen self.old) → ⊥ }
         ensures unchanged { IsUnchanged self.old self.new }
         ensures few_cells { OnOk result (live_count (pool_of self.new.rounds) ≤ MOST_CELLS) }
-        ensures idle { live_count (pool_of self.old.rounds) ≤ MOST_CELLS → steps.new ≡ steps.old }
     {
         if self.rounds.pool().live() <= MOST_CELLS {
             return Ok(());
         }
-        let states = States::of(&self.vrps);
-        let world = World {
-            graph: &self.graph,
-            book: &self.book,
-            states: &states,
-        };
-        self.rounds.tidy(alloc, &world, &self.ranks, steps)
+        let _count = self.graph.as_count();
+        self.rounds.tidy(alloc, self.graph.rows())
     }
 
     // Edits the world, where few cells are live.
@@ -88,12 +80,12 @@ impl Parts {
         ensures allowed { OnOk result (IsAllowed (world_seen self.old) edit.now) }
         ensures right { AreRight self.new }
         ensures changed { IfOk result (λ c. HasChanges (world_seen self.new).plan (world_seen self.new).rounds (kept self.old).routings (kept self.new).routings c.routes) }
-        ensures quick { live_count (pool_of self.old.rounds) ≤ MOST_CELLS → OnOk result (IsQuick (world_seen self.old) (world_seen self.new) edit.now (kept self.old).routings (kept self.new).routings steps.old steps.new) }
+        ensures quick { OnOk result (IsQuick (world_seen self.old) (world_seen self.new) edit.now (kept self.old).routings (kept self.new).routings steps.old steps.new) }
         ensures refused { IfErr result (IsEditRefusal (world_seen self.old) edit.now) }
         ensures same_world { OnErr result (world_seen self.new ≡ world_seen self.old) }
         ensures same_kept { OnErr result (kept self.new ≡ kept self.old) }
     {
-        match self.tidied(alloc, steps) {
+        match self.tidied(alloc) {
             Ok(()) => {}
             Err(_) => return Err(EditError::Memory),
         }

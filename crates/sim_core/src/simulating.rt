@@ -2,8 +2,6 @@
 ghost use Rattle.std.specs.Prelude.{◌≡◌, ◌≤◌, IfOk, IfErr, OnOk, OnErr};
 ghost use Rattle.as_graph.specs.Topology.{as_count};
 ghost use Rattle.leak_round.specs.Changes.{HasChanges};
-ghost use Rattle.leak_round.specs.Rounds.{pool_of};
-ghost use Rattle.path_pool.specs.Pool.{live_count};
 ghost use Rattle.scenario_text.specs.LineValues.{IsWellFormed};
 ghost use Rattle.sim_core.specs.Edits.{IsAllowed, IsEditRefusal, edited};
 ghost use Rattle.sim_core.specs.Kept.{IsKept};
@@ -13,7 +11,6 @@ ghost use Rattle.sim_core.specs.Sims.{kept, world_seen};
 ghost use Rattle.sim_core.specs.Steps.{IsQuick};
 ghost use Rattle.sim_core.specs.World.{HasCycle, topology};
 ghost use Rattle.as_graph.specs.declared.build.TheConstants.{MOST_ASES};
-ghost use Rattle.leak_round.specs.declared.rounds.TheConstants.{MOST_CELLS};
 
 use crate::loading::{keep, load_base};
 use crate::{Changed, EditError, LoadError, Sim};
@@ -60,10 +57,9 @@ impl Sim {
     /// stays in the world when its last announcement goes.
     ///
     /// It takes at most two steps for each round, prefix and AS that the edit touches, whose seed differs, or
-    /// that has a neighbour whose entry differs; more only where more than 20,000,000 cells of the pool are
-    /// live, which is then made anew first. Touched are the ends of a link; the AS of a policy and, where it
-    /// begins or ceases to mark, its neighbours; and where a payload covers the prefix, the ASes whose policy
-    /// reads the states.
+    /// that has a neighbour whose entry differs. Touched are the ends of a link; the AS of a policy and, where
+    /// it begins or ceases to mark, its neighbours; and where a payload covers the prefix, the ASes whose
+    /// policy reads the states.
     ///
     /// It is refused with the first reason in this order: `UnknownPrefix` exactly where the world has not
     /// the prefix; `AbsentLink`, `AbsentVrp` and `AbsentAnnouncement` exactly where what is to be taken away
@@ -84,7 +80,7 @@ impl Sim {
         ensures allowed { OnOk result (IsAllowed (world_seen self.old) edit.now) }
         ensures kept { OnOk result (IsKept (world_seen self.new) (kept self.new)) }
         ensures changed { IfOk result (λ c. HasChanges (world_seen self.new).plan (world_seen self.new).rounds (kept self.old).routings (kept self.new).routings c.routes) }
-        ensures quick { live_count (pool_of self.old.parts.rounds) ≤ MOST_CELLS → OnOk result (IsQuick (world_seen self.old) (world_seen self.new) edit.now (kept self.old).routings (kept self.new).routings steps.old steps.new) }
+        ensures quick { OnOk result (IsQuick (world_seen self.old) (world_seen self.new) edit.now (kept self.old).routings (kept self.new).routings steps.old steps.new) }
         ensures refused { IfErr result (IsEditRefusal (world_seen self.old) edit.now) }
         ensures same_world { OnErr result (world_seen self.new ≡ world_seen self.old) }
         ensures same_kept { OnErr result (kept self.new ≡ kept self.old) }

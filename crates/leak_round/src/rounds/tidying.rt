@@ -1,48 +1,55 @@
 //! Rounds with no more cells than they need.
 
-ghost use Rattle.std.specs.Prelude.{◌≡◌, ℕ, ◌+◌, ◌-◌, ◌*◌, ◌≤◌, false, length, OnOk, OnErr};
+ghost use Rattle.std.specs.Prelude.{◌≡◌, ℕ, suc, ◌-◌, ◌<◌, ◌≤◌, true, false, nat_eq, IsTrue, IsSome, IfOk, OnOk, OnErr};
+ghost use Rattle.std.specs.List.{IsDistinct};
+ghost use Rattle.net_names.specs.Numbers.{occurs};
 ghost use Rattle.net_names.specs.Prefixes.{PrefixValue};
-ghost use Rattle.as_graph.specs.Topology.{relation, as_count};
-ghost use Rattle.as_graph.specs.Hierarchy.{HasNoProviderCycle, IsRank};
-ghost use Rattle.rank_order.specs.Ranks.{rank_at};
 ghost use Rattle.path_pool.specs.Pool.{live_count};
-ghost use Rattle.stability_laws.specs.Plans.{prefixes_of};
+ghost use Rattle.stability_laws.specs.Offers.{Setting};
+ghost use Rattle.stability_laws.specs.Plans.{has_prefix};
 ghost use Rattle.stability_laws.specs.Rounds.{AreRounds};
 ghost use Rattle.leak_round.specs.Entries.{HasEntries, of_rounds};
-ghost use Rattle.stability_laws.specs.World.{setting_in};
 ghost use Rattle.leak_round.specs.Limits.{numbers_of};
 ghost use Rattle.leak_round.specs.Rounds.{is_open, plan_of, pool_of, round_count, kept};
+ghost use Rattle.leak_round.specs.Overlays.{AreFew};
 ghost use Rattle.leak_round.specs.declared.rounds.TheConstants.{MOST_CELLS};
 
-use super::Rounds;
-use net_names::NoMemory;
-use policy_laws::{OriginStates, RoutePolicy};
-use rank_order::Ranks;
-use route_choice::Steps;
-use stability_laws::World;
+use super::{MAX_CELLS, Rounds};
+use crate::announced::announce_all;
+use crate::moving::{Moving, moved_rounds};
+use as_places::AsPlaces;
+use net_names::{Asn, NoMemory};
+use path_pool::PathPool;
+use stability_laws::plans_are_sound;
 use std::alloc::Global;
-use std::sync::ledger::Ledger;
+use std::rc::Rc;
+
+// Some ASes, each at a place, as a list that tables can share.
+fn shared(alloc: Global, ases: &[Asn]) -> Result<Rc<AsPlaces>, NoMemory>
+    requires { IsDistinct nat_eq ases.now }
+    ensures { IfOk result (λ r. r.value.ases ≡ ases.now) }
+{
+    let places = AsPlaces::of(alloc, ases)?;
+    match Rc::new(alloc, places) {
+        Ok(list) => Ok(list),
+        Err(_) => Err(NoMemory),
+    }
+}
 
 impl Rounds {
     /// Makes the pool anew, where no plan is open. Afterwards no more cells are live than all tables have
     /// entries and the announced paths have numbers, which are at most 20,000,000. What each AS holds
-    /// stays, and so does the plan of seeds.
+    /// stays, and so does the plan of seeds. No AS chooses anew.
     ///
-    /// The graph has no provider cycle, the ranks are its ranks, and the tables stand for the world: they
-    /// are made anew from it, in at most two steps for each AS, prefix and round. `Err` where there is
+    /// Each of the ASes is named once, and all that hold something are among them. What they hold is stable
+    /// in some world, and of a prefix in a round no more than 150,000 hold something. `Err` where there is
     /// not enough memory; then all is as before.
-    pub fn tidy<P: RoutePolicy, V: OriginStates, L: Ledger>(
-        &mut self,
-        alloc: Global,
-        world: &World<'_, P, V>,
-        ranks: &Ranks,
-        steps: &mut Steps<L>,
-    ) -> Result<(), NoMemory>
+    pub fn tidy(&mut self, alloc: Global, ases: &[Asn]) -> Result<(), NoMemory>
         requires closed { is_open self.old ≡ false }
-        requires no_cycle { HasNoProviderCycle (relation world.now.graph.now) }
-        requires ranks { (a : ℕ) → IsRank (relation world.now.graph.now) a (rank_at ranks.now a) }
-        requires stable { AreRounds (setting_in P.meaning V.state_of world.now) (plan_of self.old) (round_count self.old) (kept self.old) }
-        ensures cost { steps.new ≤ steps.old + 2 * as_count world.now.graph.now * length (prefixes_of (plan_of self.old)) * round_count self.old }
+        requires apart { IsDistinct nat_eq ases.now }
+        requires few { (before : ℕ) (prefix : PrefixValue) → before < round_count self.old → IsTrue (has_prefix (plan_of self.old) prefix) → AreFew (kept self.old (suc before) prefix) }
+        requires among { (before : ℕ) (prefix : PrefixValue) (a : ℕ) → before < round_count self.old → IsTrue (has_prefix (plan_of self.old) prefix) → IsSome (kept self.old (suc before) prefix a) → occurs a ases.now ≡ true }
+        requires stable { (world : PrefixValue → Setting) × AreRounds world (plan_of self.old) (round_count self.old) (kept self.old) }
         ensures closed { is_open self.new ≡ false }
         ensures plan { plan_of self.new ≡ plan_of self.old }
         ensures count { round_count self.new ≡ round_count self.old }
@@ -52,8 +59,27 @@ impl Rounds {
         ensures err { OnErr result (self.new ≡ self.old) }
     {
         let plan = self.plan.copied(alloc)?;
-        let rounds = self.tables.len() as u32;
-        let made = Rounds::build(alloc, world, ranks, plan, rounds, steps)?;
+        plans_are_sound(&plan);
+        let places = shared(alloc, ases)?;
+        let mut pool = PathPool::new(alloc, MAX_CELLS);
+        let announced = announce_all(alloc, &plan, &mut pool)?;
+        let moving = Moving {
+            alloc,
+            ases: &places,
+            plan: &plan,
+            announced: announced.as_slice(),
+            tables: self.tables.as_slice(),
+            from: &self.pool,
+        };
+        let tables = moved_rounds(&moving, &mut pool)?;
+        let made = Rounds {
+            pool,
+            plan,
+            announced,
+            own: Vec::new(alloc),
+            tables,
+            planned: false,
+        };
         *self = made;
         Ok(())
     }

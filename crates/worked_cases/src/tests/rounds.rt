@@ -153,7 +153,7 @@ fn tidied<L: Ledger>(
         states: &NoStates,
     };
     let mut rounds = built(rt, alloc, &world, &ranks, leakers, 4, &mut steps)?;
-    rounds.tidy(alloc, &world, &ranks, &mut steps)?;
+    rounds.tidy(alloc, graph.rows())?;
     Ok(rounds)
 }
 

@@ -1,6 +1,7 @@
 use Rattle.std.proofs.Common.{ℕ, ◌+◌, ◌*◌, ◌<◌, Option, length, sym, ap, subst, ◌∙◌, arith}
 use Rattle.std.proofs.lemmas.Option.{slice_get_within}
 use Rattle.as_graph.specs.Topology.{as_count}
+use Rattle.net_names.specs.Prefixes.{PrefixValue}
 use Rattle.stability_laws.specs.declared.entry.Entry.{Entry}
 use Rattle.stability_laws.specs.Stable.{IsStable}
 use Rattle.stability_laws.specs.Plans.{prefixes_of}
@@ -11,7 +12,7 @@ use Rattle.stability_laws.specs.World.{setting_in}
 use Rattle.leak_round.specs.Tables.{kept_in}
 use Rattle.leak_round.proofs.Listing.{cost_more}
 use Rattle.leak_round.proofs.Keeping.{announced_kept, rounds_full_kept, all_kept, room_left}
-use Rattle.leak_round.proofs.Rounding.{round_start, none_yet, round_more, round_full, round_stable}
+use Rattle.leak_round.proofs.Rounding.{round_start, none_yet, round_more, round_full, round_fits}
 use Rattle.leak_round.proofs.round.make_round.Goals as goal
 
 pub make_table-requires-clause-announced : goal.make_table-requires-clause-announced
@@ -34,7 +35,7 @@ pub push-requires : goal.push-requires
 push-requires g c =
     let at = setting_in g.P.RoutePolicy.meaning g.V.OriginStates.state_of c.args.building.now.world.now in
     ap (table_at c.prefixes.tables) c.in_ok-table.ensures.prefix
-    ∙ none_yet at c.args.building.now.plan.now c.args.round (kept_in c.args.pool.now c.args.earlier.now (length c.args.earlier.now)) c.args.pool.now c.prefixes.pool c.make_table.new.pool c.prefixes.tables c.prefixes.tables c.prefixes.place c.in-Some.prefix c.in_ok-table.table c.prefixes.invariant.so_far c.in-Some.ensures.listed (sym c.in-Some.ensures.value)
+    ∙ none_yet (λ (q : PrefixValue) (f : ℕ → Option Entry). IsStable (at q) (seeds_of c.args.building.now.plan.now c.args.round q (kept_in c.args.pool.now c.args.earlier.now (length c.args.earlier.now) q)) f) c.args.building.now.plan.now c.args.pool.now c.prefixes.pool c.make_table.new.pool c.prefixes.tables c.prefixes.tables c.prefixes.place c.in-Some.prefix c.in_ok-table.table c.prefixes.invariant.so_far c.in-Some.ensures.listed (sym c.in-Some.ensures.value)
 
 pub returns-in_err-push-clause-cost : goal.returns-in_err-push-clause-cost
 returns-in_err-push-clause-cost g c =
@@ -58,7 +59,7 @@ prefixes-preserved g c =
     let same = all_kept first c.prefixes.pool c.prefixes.invariant.so_far.keeps plan earlier c.requires.earlier (length earlier) p in
     let F : (ℕ → Option Entry) → Type 0 = λ f. IsStable (at p) (seeds_of plan c.args.round p f) (table_routing c.make_table.new.pool c.in_ok-table.table) in
     record {
-      so_far = round_more at plan c.args.round (kept_in first earlier (length earlier)) first c.prefixes.pool c.make_table.new.pool c.prefixes.tables c.push.new.self c.prefixes.place p c.in_ok-table.table c.prefixes.invariant.so_far c.in-Some.ensures.listed (sym c.in-Some.ensures.value)
+      so_far = round_more (λ (q : PrefixValue) (f : ℕ → Option Entry). IsStable (at q) (seeds_of plan c.args.round q (kept_in first earlier (length earlier) q)) f) plan first c.prefixes.pool c.make_table.new.pool c.prefixes.tables c.push.new.self c.prefixes.place p c.in_ok-table.table c.prefixes.invariant.so_far c.in-Some.ensures.listed (sym c.in-Some.ensures.value)
           table.keeps table.grows table.holds table.live (subst F (λ i a. same a i) table.stable) table.cells
           (subst (λ q. PutsTable c.prefixes.tables c.push.new.self q c.in_ok-table.table) table.prefix c.in_ok-push.ensures.ok) c.in_ok-push.ensures.by_prefix table.small;
       within = omega (arith, within);
@@ -69,12 +70,12 @@ prefixes-preserved g c =
 pub returns-clause-stable : goal.returns-clause-stable
 returns-clause-stable g c =
     let at = setting_in g.P.RoutePolicy.meaning g.V.OriginStates.state_of c.args.building.now.world.now in
-    round_stable at c.args.building.now.plan.now c.args.round (kept_in c.args.pool.now c.args.earlier.now (length c.args.earlier.now)) c.args.pool.now c.prefixes.pool c.prefixes.tables c.prefixes.place c.prefixes.invariant.so_far c.prefix_at.ensures.listed (sym c.prefix_at.ensures.value ∙ c.in_default.is)
+    round_fits (λ (q : PrefixValue) (f : ℕ → Option Entry). IsStable (at q) (seeds_of c.args.building.now.plan.now c.args.round q (kept_in c.args.pool.now c.args.earlier.now (length c.args.earlier.now) q)) f) c.args.building.now.plan.now c.args.pool.now c.prefixes.pool c.prefixes.tables c.prefixes.place c.prefixes.invariant.so_far c.prefix_at.ensures.listed (sym c.prefix_at.ensures.value ∙ c.in_default.is)
 
 pub returns-clause-full : goal.returns-clause-full
 returns-clause-full g c =
     let at = setting_in g.P.RoutePolicy.meaning g.V.OriginStates.state_of c.args.building.now.world.now in
-    round_full at c.args.building.now.plan.now c.args.round (kept_in c.args.pool.now c.args.earlier.now (length c.args.earlier.now)) c.args.pool.now c.prefixes.pool c.prefixes.tables c.prefixes.place c.prefixes.invariant.so_far c.prefix_at.ensures.listed (sym c.prefix_at.ensures.value ∙ c.in_default.is)
+    round_full (λ (q : PrefixValue) (f : ℕ → Option Entry). IsStable (at q) (seeds_of c.args.building.now.plan.now c.args.round q (kept_in c.args.pool.now c.args.earlier.now (length c.args.earlier.now) q)) f) c.args.building.now.plan.now c.args.pool.now c.prefixes.pool c.prefixes.tables c.prefixes.place c.prefixes.invariant.so_far c.prefix_at.ensures.listed (sym c.prefix_at.ensures.value ∙ c.in_default.is)
 
 pub returns-clause-holds : goal.returns-clause-holds
 returns-clause-holds g c = c.prefixes.invariant.so_far.holds
@@ -95,7 +96,7 @@ pub prefixes-init : goal.prefixes-init
 prefixes-init g c =
     let at = setting_in g.P.RoutePolicy.meaning g.V.OriginStates.state_of c.args.building.now.world.now in
     record {
-      so_far = round_start at c.args.building.now.plan.now c.args.round (kept_in c.args.pool.now c.args.earlier.now (length c.args.earlier.now)) c.args.pool.now c.new-tables.result c.new-tables.ensures.none c.new-tables.ensures.uses;
+      so_far = round_start (λ (q : PrefixValue) (f : ℕ → Option Entry). IsStable (at q) (seeds_of c.args.building.now.plan.now c.args.round q (kept_in c.args.pool.now c.args.earlier.now (length c.args.earlier.now) q)) f) c.args.building.now.plan.now c.args.pool.now c.new-tables.result c.new-tables.ensures.none c.new-tables.ensures.uses;
       within = omega arith;
       scratch = c.requires.scratch;
       cost = omega arith;

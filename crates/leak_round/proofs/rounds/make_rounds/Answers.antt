@@ -3,6 +3,8 @@ use Rattle.std.proofs.Math.Nat.{mul-le-mul_right}
 use Rattle.std.proofs.lemmas.List.{length-append}
 use Rattle.as_graph.specs.Topology.{as_count}
 use Rattle.stability_laws.specs.Plans.{prefixes_of}
+use Rattle.stability_laws.specs.Rounds.{seeds_of}
+use Rattle.stability_laws.specs.Stable.{IsStable}
 use Rattle.route_choice.specs.declared.round_tables.RoundTables.{RoundTables}
 use Rattle.route_choice.specs.RoundTables.{round_routing}
 use Rattle.leak_round.specs.Growth.{GrowsBy}
@@ -45,10 +47,10 @@ loop-past-preserved g c =
     let number : c.loop-past.past + 1 ≡ suc (length xs) = omega (arith, old.count) in
     let F : ℕ → List RoundTables → Type 0 = λ n ys. IsRound at plan n (kept_in c.loop-past.pool ys (length ys)) (round_routing next t) in
     let stable : IsRound at plan (suc (length xs)) (kept_in c.loop-past.pool xs (length xs)) (round_routing next t) = coe 0 1 (i. F (number i) (is i)) now.stable in
-    let more = rounds_more at plan first c.loop-past.pool next xs t old.so_far now.keeps stable now.full now.holds now.cells in
+    let more = rounds_more (λ before p f g. IsStable (at p) (seeds_of plan (suc before) p f) g) plan first c.loop-past.pool next xs t old.so_far now.keeps stable now.full now.holds now.cells in
     let items : c.push.new.self.items ≡ xs ++ t ∷ [] = c.in-Ok.ensures.items in
     record {
-      so_far = subst (AreRoundsSoFar at plan first next) (sym items) more;
+      so_far = subst (AreRoundsSoFar (λ before p f g. IsStable (at p) (seeds_of plan (suc before) p f) g) plan first next) (sym items) more;
       count = ap length items ∙ length-append xs (t ∷ []) ∙ ap (λ n. n + 1) old.count;
       grows = grows_on first c.loop-past.pool next (150000 * (c.loop-past.past * size)) (150000 * size) (150000 * ((c.loop-past.past + 1) * size)) old.grows now.grows (omega arith);
       scratch = c.in_ok-next.ensures.scratch;

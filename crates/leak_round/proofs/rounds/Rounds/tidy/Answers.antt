@@ -1,17 +1,92 @@
-use Rattle.std.proofs.Common.{◌≡◌, ap, ◌∙◌, arith}
-use Rattle.stability_laws.specs.Plans.{has_prefix}
+use Rattle.std.proofs.Common.{◌≡◌, ◌-◌, ◌≤◌, List, length, sym, ap, subst, ◌∙◌, arith}
+use Rattle.std.specs.Prelude.{IsSome}
+use Rattle.net_names.specs.Numbers.{occurs}
+use Rattle.path_pool.specs.Pool.{live_count}
+use Rattle.stability_laws.specs.Plans.{prefixes_of}
 use Rattle.stability_laws.specs.Rounds.{AreRounds}
-use Rattle.stability_laws.specs.World.{setting_in}
-use Rattle.leak_round.specs.Rounds.{round_count, kept}
-use Rattle.leak_round.proofs.Tidying.{kept_anew}
+use Rattle.route_choice.specs.declared.round_tables.RoundTables.{RoundTables}
+use Rattle.leak_round.specs.Entries.{of_rounds}
+use Rattle.leak_round.specs.Limits.{IsWithinLimits, numbers_of}
+use Rattle.leak_round.specs.Overlays.{AreFew}
+use Rattle.leak_round.specs.Tables.{kept_in, AreRoundsFull}
+use Rattle.leak_round.proofs.Built.{all_announced, all_room, few_cells}
+use Rattle.leak_round.proofs.Counting.{fewer_entries}
+use Rattle.leak_round.proofs.Keeping.{announced_kept}
+use Rattle.leak_round.proofs.Numbers.{numbers_counted}
+use Rattle.leak_round.proofs.Owning.{own_none}
+use Rattle.leak_round.proofs.PassedOn.{passed_on}
+use Rattle.leak_round.proofs.Tidying.{few_anywhere, kept_anew, kept_there}
 use Rattle.leak_round.proofs.rounds.Rounds.tidy.Goals as goal
 
-pub returns-clause-kept : goal.returns-clause-kept
-returns-clause-kept g c =
+pub invariant_of-moving : goal.invariant_of-moving
+invariant_of-moving c =
     let old = c.args.self.now in
-    let made = c.in_ok-made.made in
-    let at = setting_in g.P.RoutePolicy.meaning g.V.OriginStates.state_of c.args.world.now in
-    let count : c.len-rounds.result ≡ round_count old = omega (arith, c.len-rounds.ensures, c.args.self.now.tables.ok.0) in
-    let are = coe 1 0 (i. AreRounds at (c.in_ok-plan.ensures i) (count i) (kept old)) c.requires.stable in
-    kept_anew old made (c.in_ok-made.ensures.plan ∙ c.in_ok-plan.ensures) (c.in_ok-made.ensures.count ∙ count)
-    (λ before prefix less known a. c.in_ok-made.ensures.only (kept old) are before prefix (omega (arith, less, count)) (ap (λ p. has_prefix p prefix) c.in_ok-plan.ensures ∙ known) a)
+    let is : c.as_slice-2.result.now ≡ old.tables.items = c.as_slice-2.ensures.value in
+    let same : length c.as_slice-2.result.now ≡ length old.tables.items = ap (λ (ts : List RoundTables). length ts) is in
+    record {
+      full = coe 1 0 (i. AreRoundsFull old.pool (c.in_ok-plan.ensures i) (is i)) old.full;
+      among = λ round prefix a h.
+          (let held = subst (λ ts. IsSome (kept_in old.pool ts round prefix a)) is h in
+          let (before, number, less, known) = kept_there old.plan old.pool old.tables.items old.full round prefix a held in
+          ap (occurs a) c.in_ok-places.ensures ∙ c.requires.among before prefix a less known (subst (λ n. IsSome (kept_in old.pool old.tables.items n prefix a)) number held));
+      few = λ round prefix. subst (λ ts. AreFew (kept_in old.pool ts round prefix)) (sym is) (few_anywhere old.plan old.pool old.tables.items old.full c.requires.few round prefix);
+      rounds = omega (arith, same, old.few);
+      prefixes = subst (λ p. length (prefixes_of p) ≤ 32) (sym c.in_ok-plan.ensures) old.limits.prefixes;
+    }
+
+pub moved_rounds-requires-clause-passed_on : goal.moved_rounds-requires-clause-passed_on
+moved_rounds-requires-clause-passed_on c =
+    let old = c.args.self.now in
+    let is : c.as_slice-2.result.now ≡ old.tables.items = c.as_slice-2.ensures.value in
+    let (world, are) = c.requires.stable in
+    passed_on world c.in_ok-plan.plan c.plans_are_sound.ensures (length c.as_slice-2.result.now) (kept_in old.pool c.as_slice-2.result.now) (coe 1 0 (i. AreRounds world (c.in_ok-plan.ensures i) (length (is i)) (kept_in old.pool (is i))) are)
+
+pub moved_rounds-requires-clause-room : goal.moved_rounds-requires-clause-room
+moved_rounds-requires-clause-room c =
+    let old = c.args.self.now in
+    let plan = c.in_ok-plan.plan in
+    let same : length c.as_slice-2.result.now ≡ length old.tables.items = ap (λ (ts : List RoundTables). length ts) c.as_slice-2.ensures.value in
+    let counted = numbers_counted plan in
+    let few : live_count c.announce_all.new.pool ≤ numbers_of plan = omega (arith, counted, c.in_ok-announced.ensures.cells, c.new-pool.ensures.live) in
+    all_room c.announce_all.new.pool plan (length c.as_slice-2.result.now) (subst IsWithinLimits (sym c.in_ok-plan.ensures) old.limits) (omega (arith, same, old.few)) few c.in_ok-announced.ensures.so_far.counts (c.announce_all.ensures.limit ∙ c.new-pool.ensures.limit)
+
+pub invariant_of-made : goal.invariant_of-made
+invariant_of-made c =
+    let old = c.args.self.now in
+    let plan = c.in_ok-plan.plan in
+    let pool = c.announce_all.new.pool in
+    let xs = c.in_ok-announced.announced.items in
+    let same : length c.as_slice-2.result.now ≡ length old.tables.items = ap (λ (ts : List RoundTables). length ts) c.as_slice-2.ensures.value in
+    record {
+      announcements = announced_kept pool c.moved_rounds.new.pool c.in_ok-tables.ensures.keeps plan xs (all_announced pool plan xs c.in_ok-announced.ensures.so_far c.in_ok-announced.ensures.whole c.in_ok-announced.ensures.few);
+      own_seeds = own_none plan xs c.new.result.items c.new.ensures.items;
+      full = c.in_ok-tables.ensures.full;
+      held = λ k. omega (arith, c.in_ok-tables.ensures.holds k, c.in_ok-announced.ensures.so_far.holds k);
+      closed = λ shut k. omega (arith, c.in_ok-tables.ensures.holds k, c.in_ok-announced.ensures.so_far.holds k);
+      limits = subst IsWithinLimits (sym c.in_ok-plan.ensures) old.limits;
+      few = omega (arith, c.in_ok-tables.ensures.count, same, old.few);
+      cells = c.in_ok-tables.ensures.grows.limit ∙ c.announce_all.ensures.limit ∙ c.new-pool.ensures.limit;
+    }
+
+pub returns-clause-kept : goal.returns-clause-kept
+returns-clause-kept c =
+    let old = c.args.self.now in
+    let plan = c.in_ok-plan.plan in
+    kept_anew plan old.pool c.moved_rounds.new.pool old.tables.items c.in_ok-tables.tables.items (subst (λ p. AreRoundsFull old.pool p old.tables.items) (sym c.in_ok-plan.ensures) old.full) c.in_ok-tables.ensures.full
+    c.as_slice-2.result.now c.as_slice-2.ensures.value c.in_ok-tables.ensures.count c.in_ok-tables.ensures.same
+
+pub returns-clause-cells : goal.returns-clause-cells
+returns-clause-cells c =
+    let plan = c.in_ok-plan.plan in
+    let counted = numbers_counted plan in
+    let few : live_count c.announce_all.new.pool ≤ numbers_of plan = omega (arith, counted, c.in_ok-announced.ensures.cells, c.new-pool.ensures.live) in
+    fewer_entries (of_rounds (kept_in c.moved_rounds.new.pool c.in_ok-tables.tables.items)) (live_count c.moved_rounds.new.pool - numbers_of plan) (live_count c.moved_rounds.new.pool - live_count c.announce_all.new.pool) c.in_ok-tables.ensures.cells (omega (arith, few))
+
+pub returns-clause-few : goal.returns-clause-few
+returns-clause-few c =
+    let old = c.args.self.now in
+    let plan = c.in_ok-plan.plan in
+    let same : length c.as_slice-2.result.now ≡ length old.tables.items = ap (λ (ts : List RoundTables). length ts) c.as_slice-2.ensures.value in
+    let counted = numbers_counted plan in
+    let few : live_count c.announce_all.new.pool ≤ numbers_of plan = omega (arith, counted, c.in_ok-announced.ensures.cells, c.new-pool.ensures.live) in
+    few_cells c.announce_all.new.pool c.moved_rounds.new.pool plan (length c.as_slice-2.result.now) (subst IsWithinLimits (sym c.in_ok-plan.ensures) old.limits) (omega (arith, same, old.few)) few c.in_ok-tables.ensures.grows.cells

@@ -1,4 +1,4 @@
-use Rattle.std.proofs.Common.{ℕ, OnOk, subst}
+use Rattle.std.proofs.Common.{OnOk, subst}
 use Rattle.sim_core.specs.Views.{kept, world_seen}
 use Rattle.sim_core.specs.Steps.{IsQuick}
 use Rattle.sim_core.specs.Kept.{Kept}
@@ -43,7 +43,7 @@ pub returns-clause-same_kept : goal.returns-clause-same_kept
 returns-clause-same_kept g c = on_undone c.args.self.now c.edit_tidied.new.self c.args.edit.now c.edit_tidied.result (edited_from c.args.self.now c.tidied.new.self c.edit_tidied.new.self c.args.edit.now c.edit_tidied.result c.tidied.ensures.unchanged c.edit_tidied.ensures.edited) (λ h. h.same_kept)
 
 pub returns-clause-quick : goal.returns-clause-quick
-returns-clause-quick g c few =
+returns-clause-quick g c =
     let same = c.tidied.ensures.unchanged in
-    subst (λ (t : (World × Kept) × ℕ). OnOk c.edit_tidied.result (IsQuick t.0.0 (world_seen c.edit_tidied.new.self) c.args.edit.now t.0.1.routings (kept c.edit_tidied.new.self).routings t.1 c.edit_tidied.new.steps))
-    (λ i. ((unchanged_world c.args.self.now c.tidied.new.self same i, unchanged_kept c.args.self.now c.tidied.new.self same i), c.tidied.ensures.idle few i)) c.edit_tidied.ensures.quick
+    subst (λ (t : World × Kept). OnOk c.edit_tidied.result (IsQuick t.0 (world_seen c.edit_tidied.new.self) c.args.edit.now t.1.routings (kept c.edit_tidied.new.self).routings c.args.steps.now c.edit_tidied.new.steps))
+    (λ i. (unchanged_world c.args.self.now c.tidied.new.self same i, unchanged_kept c.args.self.now c.tidied.new.self same i)) c.edit_tidied.ensures.quick
