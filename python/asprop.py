@@ -1,7 +1,7 @@
 """A client of asprop: it makes the scenario and the script, runs the built program, and gives the answers as values.
 
 A World says what the files hold, a Script what is asked and edited, and run gives an answer for each line of the script;
-README.md shows them.  What is proved of asprop is proved of the program alone.  This file proves nothing: it writes text,
+docs/GUIDE.md shows them.  check tells where tables are wrong.  What is proved of asprop is proved of the program alone.  This file proves nothing: it writes text,
 starts the program and reads text, and its own tests are the command `.ci/python`.  It needs Python 3.9 or newer and the
 standard library.
 """
@@ -80,6 +80,15 @@ class Refusal:
     """
     reason: str
     words: Tuple[str, ...]
+
+
+@dataclass(frozen=True)
+class Wrong:
+    """Where tables are wrong: the first such round, its lowest wrong AS, the route that it has there, and the right one."""
+    round: int
+    asn: int
+    holds: Optional[Route]
+    right: Optional[Route]
 
 
 #: The rows of a table by AS; None where an AS has no route.
@@ -261,6 +270,20 @@ def _answer(lines: Sequence[str], reader: Callable[[Sequence[str]], Answer]) -> 
     return reader(lines)
 
 
+def _output(world: World, form: str, text: str, program: str, seconds: Optional[float]) -> str:
+    """What the program prints over the world and a file with this text, which is given by the option of this name."""
+    with tempfile.TemporaryDirectory(prefix='asprop.') as folder:
+        words = [program, world.links] + (['--vrps', world.payloads] if world.payloads is not None else [])
+        for name, content in (('scenario', world.scenario()), (form, text)):
+            with open(os.path.join(folder, name), 'w', encoding='utf8') as file:
+                file.write(content)
+            words += ['--' + name, file.name]
+        done = subprocess.run(words, stdin=subprocess.DEVNULL, capture_output=True, timeout=seconds, check=False)
+    if done.returncode not in (0, 1):
+        raise Fault(done.returncode, done.stderr.decode(errors='replace'))
+    return done.stdout.decode('ascii')
+
+
 def run(world: World, script: Script, program: str = './asprop', seconds: Optional[float] = None) -> List[Answer]:
     """Runs the program over the world and gives the answers, one for each line of the script.
 
@@ -268,15 +291,27 @@ def run(world: World, script: Script, program: str = './asprop', seconds: Option
     status 125 where ./asprop couldn't build it, and subprocess.TimeoutExpired where it takes longer than so many seconds.
     Nothing stands on the program's standard input.
     """
-    with tempfile.TemporaryDirectory(prefix='asprop.') as folder:
-        names = {'scenario': world.scenario(), 'script': ''.join(line + '\n' for line in script.lines)}
-        for name, text in names.items():
-            with open(os.path.join(folder, name), 'w', encoding='utf8') as file:
-                file.write(text)
-        words = [program, world.links] + (['--vrps', world.payloads] if world.payloads is not None else [])
-        for name in names:
-            words += ['--' + name, os.path.join(folder, name)]
-        done = subprocess.run(words, stdin=subprocess.DEVNULL, capture_output=True, timeout=seconds, check=False)
-    if done.returncode not in (0, 1):
-        raise Fault(done.returncode, done.stderr.decode(errors='replace'))
-    return script.read(done.stdout.decode('ascii'))
+    return script.read(_output(world, 'script', ''.join(line + '\n' for line in script.lines), program, seconds))
+
+
+def _row_text(asn: int, route: Optional[Route]) -> str:
+    if route is None:
+        return '%d|none|\n' % asn
+    mark = '' if route.otc is None else '|otc %d' % route.otc
+    return '%d|%s|%s%s\n' % (asn, route.kind, ' '.join(map(str, route.path)), mark)
+
+
+def check(world: World, prefix: str, tables: Sequence[Table], program: str = './asprop',
+          seconds: Optional[float] = None) -> Optional[Wrong]:
+    """Where the tables of a prefix, of round 1 and the rounds after it, are wrong; None where each is the stable routing.
+
+    An AS that a table doesn't name has no route in it.  Raises as run does.
+    """
+    text = ''
+    for number, table in enumerate(tables, 1):
+        text += 'for %d %s\n' % (number, prefix) + ''.join(_row_text(asn, route) for asn, route in table.items())
+    answer = dict(line.split('|', 1) for line in _output(world, 'check', text, program, seconds).splitlines())
+    if answer['stable'] == 'yes':
+        return None
+    asn, holds = _row(answer['holds'])
+    return Wrong(int(answer['round']), asn, holds, _row(answer['right'])[1])
