@@ -1,9 +1,9 @@
 """A client of asprop: it makes the scenario and the script, runs the built program, and gives the answers as values.
 
 A World says what the files hold, a Script what is asked and edited, and run gives an answer for each line of the script;
-docs/GUIDE.md shows them.  check tells where tables are wrong.  What is proved of asprop is proved of the program alone.  This file proves nothing: it writes text,
-starts the program and reads text, and its own tests are the command `.ci/python`.  It needs Python 3.9 or newer and the
-standard library.
+docs/GUIDE.md shows them.  check tells where tables are wrong.  What is proved of asprop is proved of the program alone.  This
+file proves nothing: it writes text, starts the program and reads text, and its own tests are the command `.ci/python`.  It
+needs Python 3.9 or newer and the standard library.
 """
 from __future__ import annotations
 
