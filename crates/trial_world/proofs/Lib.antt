@@ -1,0 +1,13 @@
+mod PartPlans
+mod Subsets
+mod KindBooks
+mod LoneAses
+mod SeenLinks
+mod NextHops
+mod Routings
+mod TrialWorlds
+mod RowCounts
+mod TrialNumbers
+mod Watched
+mod Following
+mod Lines

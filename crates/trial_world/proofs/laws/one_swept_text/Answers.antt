@@ -1,0 +1,15 @@
+use Rattle.std.proofs.Common.{◌≤◌, ◌&&◌}
+use Rattle.std.proofs.lemmas.Bool.{and_parts}
+use Rattle.stability_laws.specs.Plans.{announcers_of}
+use Rattle.sim_core.specs.World.{has_round, kind_at}
+use Rattle.sim_core.proofs.Watches.{round_within}
+use Rattle.sweep.proofs.Parts.{swept_once}
+use Rattle.trial_world.specs.Sweeps.{AreNumbers, as_set, with_kinds}
+use Rattle.trial_world.proofs.TrialNumbers.{one_number}
+use Rattle.trial_world.proofs.laws.one_swept_text.Goals as goal
+
+pub returns : goal.returns
+returns c = λ w line x y none inside.
+    let some : 1 ≤ line.round = (round_within w.rounds line.round (and_parts (has_round w line.round) _ inside).0).0 in
+    swept_once (as_set w) (announcers_of w.plan) (λ kinds. AreNumbers (with_kinds w kinds) line.round line.addr) (kind_at w) line
+    (λ f m n. one_number c.one_stable_routing.ensures (with_kinds w f) (λ xs cycle. none (xs, cycle)) line.round line.addr m n some) x y

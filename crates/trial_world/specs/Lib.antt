@@ -1,0 +1,4 @@
+pub mod Sweeps
+pub mod Laws
+pub mod Fixed
+pub mod Trials

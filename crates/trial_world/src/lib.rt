@@ -1,0 +1,26 @@
+//! Adoption sweeps over a world.
+//!
+//! [`is_inside`] tells whether a line of a sweep is in a world, and [`put_sweep`] appends the text of a line that is. For
+//! a line it keeps what the line asks for alone: the announcements of the prefixes that hold its address, the rounds up to
+//! its round, and one watch. Each world of a trial makes the rounds and the watch anew. The laws say that a line has one
+//! text, and that its numbers are those that a report over the world of the trial counts.
+#![tactic(auto)]
+
+mod fixed;
+mod inside;
+mod kinds;
+mod laws;
+mod lone;
+mod lower;
+mod parts;
+mod states;
+mod sweeping;
+mod trial;
+mod watching;
+
+pub use inside::is_inside;
+pub use laws::{one_swept_text, swept_numbers_are_reported};
+pub use sweeping::put_sweep;
+
+#[cfg(test)]
+mod tests;

@@ -1,0 +1,45 @@
+//! ASes that no link, no announcement and no leak names: they are there by their policy alone.
+ghost use Rattle.std.specs.Prelude.{◌≡◌, IfOk};
+ghost use Rattle.trial_world.specs.Fixed.{AreLone, AreLower, is_lone as is_lone_in};
+ghost use Rattle.trial_world.specs.Trials.{plain_in};
+
+use crate::kinds::is_other;
+use as_graph::Graph;
+use net_names::{Asn, NoMemory};
+use policy_kinds::Kind;
+use stability_laws::{Book, SeedPlan};
+use std::alloc::Global;
+
+// Whether neither a link nor an announcement or a leak names the AS.
+fn is_lone(graph: &Graph, plan: &SeedPlan, asn: Asn) -> bool
+    requires { AreLower graph.now.links }
+    ensures { result ≡ is_lone_in graph.now plan.now asn }
+{
+    graph.neighbours(asn).is_empty() && !plan.names(asn)
+}
+
+/// The ASes of the graph that have no link and that the plan doesn't name.
+pub fn lone_ases(alloc: Global, graph: &Graph, plan: &SeedPlan) -> Result<Vec<Asn>, NoMemory>
+    requires { AreLower graph.now.links }
+    ensures { IfOk result (λ v. AreLone graph.now plan.now v.items) }
+{
+    let mut lone = Vec::new(alloc);
+    for asn in graph.ases() {
+        if is_lone(graph, plan, *asn) {
+            match lone.push(*asn) {
+                Ok(()) => {}
+                Err(_) => return Err(NoMemory),
+            }
+        }
+    }
+    Ok(lone)
+}
+
+/// How many of the ASes have the plain kind. Where they are lone, these are no ASes of the world.
+pub fn plain_count(lone: &[Asn], book: &Book<Kind>) -> u64
+    ensures { result ≡ plain_in lone.now book.now }
+{
+    lone.iter()
+        .filter(|asn| !is_other(*book.policy(**asn)))
+        .count() as u64
+}

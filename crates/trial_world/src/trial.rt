@@ -1,0 +1,141 @@
+//! A trial of a line.
+ghost use Rattle.std.specs.Prelude.{◌≡◌, ℕ, true, IfOk};
+ghost use Rattle.as_graph.specs.Hierarchy.{IsRank};
+ghost use Rattle.as_graph.specs.Topology.{relation};
+ghost use Rattle.rank_order.specs.Ranks.{rank_at};
+ghost use Rattle.sim_core.specs.Bases.{base_world};
+ghost use Rattle.sim_core.specs.World.{HasCycle, kind_at, topology};
+ghost use Rattle.stability_laws.specs.Book.{policy_at};
+ghost use Rattle.trial_world.specs.Sweeps.{end_of as the_end_of, is_inside};
+ghost use Rattle.trial_world.specs.Trials.{IsRight, gone_with as gone_with_fate, line_base, number_in};
+
+use crate::fixed::{Fixed, fixed_for};
+use crate::kinds::{copy_at, give_all, kinds_of, room_for};
+use crate::lone::plain_count;
+use crate::watching::watch_by;
+use data_trace::{End, Watch, Which};
+use net_names::{Addr, Asn, NoMemory};
+use policy_kinds::Kind;
+use rank_order::Ranks;
+use sim_core::Base;
+use stability_laws::Book;
+use std::alloc::Global;
+use sweep::{Fate, Sweep, Trial};
+
+/// A trial of a line: the kind of each AS now, the watch of the line's round and address, and how many of the ASes at the
+/// start are none of this world.
+#[derive(Drop)]
+pub struct LineTrial<'a> {
+    pub(crate) fixed: Fixed<'a>,
+    pub(crate) book: Book<Kind>,
+    pub(crate) watch: Watch,
+    pub(crate) gone: u64,
+}
+
+// How the traces of the packets with a fate end.
+fn end_of(fate: Fate) -> End
+    ensures { result ≡ the_end_of fate }
+{
+    match fate {
+        Fate::At(asn) => End::At(asn),
+        Fate::NoRoute => End::NoRoute,
+        Fate::Loop => End::Loop,
+    }
+}
+
+// How many of so many ASes that are gone have no route, where that is the fate.
+fn gone_with(fate: &Fate, gone: u64) -> u64
+    ensures { result ≡ gone_with_fate fate.now gone }
+{
+    match fate {
+        Fate::NoRoute => gone,
+        _ => 0,
+    }
+}
+
+/// The trial of a line in which no AS has changed its kind yet.
+pub fn trial_for<'a>(
+    alloc: Global,
+    base: &'a Base,
+    ranks: &'a Ranks,
+    line: &Sweep,
+) -> Result<LineTrial<'a>, NoMemory>
+    requires ranks { (a : ℕ) → IsRank (relation (topology (base_world base.now))) a (rank_at ranks.now a) }
+    requires no_cycle { HasCycle (base_world base.now) → ⊥ }
+    requires inside { is_inside (base_world base.now) line.now ≡ true }
+    ensures right { IfOk result IsRight }
+    ensures base { IfOk result (λ t. line_base t ≡ (base_world base.now, (line.now.round, line.now.addr))) }
+    ensures kinds { IfOk result (λ t. (a : ℕ) → policy_at t.book a ≡ kind_at (base_world base.now) a) }
+{
+    let fixed = fixed_for(alloc, base, ranks, line)?;
+    let book = copy_at(alloc, base.book(), fixed.graph.ases())?;
+    let watch = watch_by(&fixed, &book)?;
+    let gone = plain_count(fixed.lone.as_slice(), &book);
+    Ok(LineTrial {
+        fixed,
+        book,
+        watch,
+        gone,
+    })
+}
+
+impl<'a> Trial for LineTrial<'a> {
+    ghost use Rattle.net_names.specs.Addresses.{AddrValue};
+    ghost use Rattle.sim_core.specs.World.{World};
+    ghost use Rattle.stability_laws.specs.Plans.{announcers_of};
+    ghost use Rattle.trial_world.specs.Sweeps.{AreNumbers, as_set, with_kinds};
+    ghost use Rattle.trial_world.specs.Trials.{is_of_line};
+
+    ghost Base = { World × (ℕ × AddrValue) };
+
+    ghost base = { line_base };
+
+    ghost ases = { λ b. as_set b.0 };
+
+    ghost announcers = { λ b. announcers_of b.0.plan };
+
+    ghost is_watched = { is_of_line };
+
+    ghost kinds = { λ t. policy_at t.book };
+
+    ghost numbers = { λ t round addr. number_in t.watch t.gone };
+
+    ghost AreNumbers = { λ b kinds round addr. AreNumbers (with_kinds b.0 kinds) round addr };
+
+    ghost IsRight = { IsRight };
+
+    fn next_as(&self, after: Option<Asn>) -> Option<Asn> {
+        self.fixed.base.graph().next(after)
+    }
+
+    fn announcer_at(&self, place: usize) -> Option<Asn> {
+        self.fixed.base.plan().announcers().get(place).copied()
+    }
+
+    fn kind(&self, asn: Asn) -> Kind {
+        *self.book.policy(asn)
+    }
+
+    fn count(&self, _round: u32, _addr: Addr, fate: Fate) -> u64 {
+        let gone = gone_with(&fate, self.gone);
+        let count = self.watch.count(Which::All, end_of(fate));
+        count.saturating_sub(gone)
+    }
+
+    fn adopt_all(&mut self, changes: &[(Asn, Kind)]) -> Result<(), NoMemory> {
+        let before = kinds_of(self.fixed.alloc, &self.book, changes)?;
+        room_for(&mut self.book, changes)?;
+        give_all(&mut self.book, changes);
+        match watch_by(&self.fixed, &self.book) {
+            Ok(watch) => {
+                self.watch = watch;
+                self.gone = plain_count(self.fixed.lone.as_slice(), &self.book);
+                Ok(())
+            }
+            Err(_) => {
+                give_all(&mut self.book, before.as_slice());
+                Err(NoMemory)
+            }
+        }
+    }
+}
