@@ -153,6 +153,7 @@ fn tidied<L: Ledger>(
         states: &NoStates,
     };
     let mut rounds = built(rt, alloc, &world, &ranks, leakers, 4, &mut steps)?;
+    let _count = graph.as_count();
     rounds.tidy(alloc, graph.rows())?;
     Ok(rounds)
 }
