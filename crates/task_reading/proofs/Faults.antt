@@ -25,8 +25,11 @@ use Rattle.message_sim.specs.declared.reading.DeliveriesError.{DeliveriesError}
 use Rattle.message_sim.specs.declared.reading.DeliveriesError.TheVariants as deliveries
 use Rattle.task_reading.specs.declared.words.FileOption.{FileOption}
 use Rattle.task_reading.specs.declared.words.FileOption.TheVariants as option
-use Rattle.task_reading.specs.Jobs.{acts_job, line_job, messages_job}
-use Rattle.task_reading.specs.Asking.{Reads, asked, jobs_in, read_as, bytes_of}
+use Rattle.table_check.specs.Reading.{tables_by}
+use Rattle.table_check.specs.declared.reading.TablesError.{TablesError}
+use Rattle.table_check.specs.declared.reading.TablesError.TheVariants as tables
+use Rattle.task_reading.specs.Jobs.{acts_job, line_job, messages_job, tables_job}
+use Rattle.task_reading.specs.Asking.{Reads, asked, jobs_in, most_bytes, read_as, bytes_of}
 use Rattle.task_reading.specs.Words.{Form, origin_form, file_form, demo_form}
 use Rattle.task_reading.specs.declared.types.File.{File}
 use Rattle.task_reading.specs.declared.types.File.TheVariants as file
@@ -113,6 +116,12 @@ other_deliveries form which (deliveries.Unreadable n) = bad form _ refl
 other_deliveries form which (deliveries.TooMany n) = large form _ refl
 other_deliveries form which deliveries.NoFor = bad form _ refl
 
+pub other_tables : (form : Option Form) (which : File) (e : TablesError) → IsOther form (fault.InFile which (cause.Tables e))
+other_tables form which tables.Memory = bad form _ refl
+other_tables form which (tables.Unreadable n) = bad form _ refl
+other_tables form which (tables.Twice n) = bad form _ refl
+other_tables form which tables.NoFor = bad form _ refl
+
 -- a value that is none has a cause of its reader
 cause_by : {A B E : Type 0} (f : A → B) (as_cause : E → Cause) (form : Option Form) (which : File) → ((e : E) → IsOther form (fault.InFile which (as_cause e)))
     → (value : Result A E) (c : Cause) → result_map_both f as_cause value ≡ Err c → IsOther form (fault.InFile which c)
@@ -123,6 +132,7 @@ other_jobs : (form : Option Form) (which : File) (o : FileOption) (bytes : List 
 other_jobs form which option.Script bytes c h = cause_by (map (line_job true)) cause.Script form which (other_script form which) (script_of bytes) c h
 other_jobs form which option.Activations bytes c h = cause_by (λ acts. acts_job acts ∷ []) cause.Acts form which (other_acts form which) (acts_of bytes) c h
 other_jobs form which option.Messages bytes c h = cause_by (λ deliveries. messages_job deliveries ∷ []) cause.Deliveries form which (other_deliveries form which) (deliveries_by (kept_from 1 bytes)) c h
+other_jobs form which option.Check bytes c h = cause_by (λ t. tables_job t ∷ []) cause.Tables form which (other_tables form which) (tables_by (kept_from 1 bytes)) c h
 
 -- a line that names what isn't in the world
 pub other_line : (form : Option Form) (which : File) (line : ℕ) → IsOther form (fault.InFile which (cause.NotInWorld line))
@@ -163,7 +173,7 @@ module _ (form : Option Form) (reads : Reads) where
   of_scenario (Some name) e h = of_read file.Scenario 16777216 cause.Scenario scenario_of_bytes (λ _ e _. other_scenario form file.Scenario e) e h
 
   of_jobs : (o : FileOption) (e : Fault) → jobs_by o (reads file.Script) ≡ Err e → Stopped form reads e
-  of_jobs o e h = of_read file.Script 16777216 (λ c. c) (jobs_in o) (other_jobs form file.Script o) e h
+  of_jobs o e h = of_read file.Script (most_bytes o) (λ c. c) (jobs_in o) (other_jobs form file.Script o) e h
 
 -- each fault of what is asked for has its reason
 pub of_asked : (form : Option Form) (reads : Reads) (e : Fault) → asked form reads ≡ Err e → Stopped form reads e

@@ -15,7 +15,7 @@ use Rattle.roa_table.specs.Files.{payloads_in}
 use Rattle.roa_table.specs.Sets.{Payloads}
 use Rattle.scenario_text.specs.Readings.{scenario_of_bytes}
 use Rattle.scenario_text.specs.Scenarios.{ScenarioValue, nothing}
-use Rattle.task_reading.specs.Asking.{Reads, jobs_in, bytes_of, read_as}
+use Rattle.task_reading.specs.Asking.{Reads, jobs_in, bytes_of, most_bytes, read_as}
 use Rattle.task_reading.specs.declared.types.File.TheVariants as file
 use Rattle.task_reading.specs.declared.types.File.{File}
 use Rattle.task_reading.specs.declared.types.Fault.{Fault}
@@ -56,7 +56,7 @@ scenario_by name read = option_map_or (λ _. read_as file.Scenario 16777216 caus
 
 -- what is asked by what was read of the option's file
 abbrev pub jobs_by : FileOption → Option (List ℕ) → Result (List Job) Fault
-jobs_by option read = read_as file.Script 16777216 (λ c. c) (jobs_in option) (λ _. read)
+jobs_by option read = read_as file.Script (most_bytes option) (λ c. c) (jobs_in option) (λ _. read)
 
 -- something was read of each file
 some_read : (held : Option (List ℕ)) (fails : Type 0) → (read : Option (List ℕ)) × IsRead held fails read
@@ -112,9 +112,15 @@ pub no_bytes : {X Y A B : Type 0} {held : Option (List ℕ)} {fails : Type 0} (o
 no_bytes of_y view first f s found = record { read = found.read; is_read = found.is_read; finds = bind_error (first (λ _. found.read)) f s found.finds }
 
 -- what is asked was found in the bytes of the option's file, and so in what was read
-pub jobs_found : (result : Result (List Job) AskError) (value : Result (List Job) Cause) → FindsJobs result value → Finds (λ (jobs : List Job). jobs) result (or_fault file.Script (λ (c : Cause). c) value)
-jobs_found (Ok jobs) value h = ap (or_fault file.Script (λ (c : Cause). c)) h
-jobs_found (Err e) value h = h
+found_in : (result : Result (List Job) AskError) (value : Result (List Job) Cause) → FindsJobs result value → Finds (λ (jobs : List Job). jobs) result (or_fault file.Script (λ (c : Cause). c) value)
+found_in (Ok jobs) value h = ap (or_fault file.Script (λ (c : Cause). c)) h
+found_in (Err e) value h = h
+
+-- what is asked was found in no bytes, and so in a file that isn't named
+pub jobs_found : (o : FileOption) (result : Result (List Job) AskError) → FindsJobs result (jobs_in o []) → Finds (λ (jobs : List Job). jobs) result (jobs_by o (Some []))
+jobs_found o result h =
+    subst (λ (bytes : Result (List ℕ) Fault). Finds (λ (jobs : List Job). jobs) result (bytes >>= λ b. or_fault file.Script (λ (c : Cause). c) (jobs_in o b))) (sym (whole file.Script (most_bytes o) [] (omega arith)))
+    (found_in result (jobs_in o []) h)
 
 -- what is known of a file that was read in the middle is known of the inputs at their start and end
 module _ {I : Type 0} {holds : I → List ℕ → Option (List ℕ)} {is_sound : I → List ℕ → Type 0} {faults : I → ℕ} where

@@ -20,7 +20,8 @@ use Rattle.topo_gen.specs.Lines.{drawn_lines}
 use Rattle.activations.specs.Files.{acts_of}
 use Rattle.message_sim.specs.Files.{deliveries_by}
 use Rattle.net_names.specs.Lines.{kept_from}
-use Rattle.task_reading.specs.Jobs.{Job, acts_job, counts_job, line_job, messages_job}
+use Rattle.table_check.specs.Reading.{tables_by}
+use Rattle.task_reading.specs.Jobs.{Job, acts_job, counts_job, line_job, messages_job, tables_job}
 use Rattle.task_reading.specs.Words.{Form, file_form, origin_form, demo_form}
 use Rattle.task_reading.specs.declared.asking.Asked.{Asked}
 use Rattle.task_reading.specs.declared.reading.TheConstants.{MOST_LIST_BYTES, MOST_TEXT_BYTES}
@@ -52,6 +53,12 @@ abbrev pub jobs_in : FileOption → Text → Result (List Job) Cause
 jobs_in option.Script bytes = result_map_both (map (line_job true)) cause.Script (script_of bytes)
 jobs_in option.Activations bytes = result_map_both (λ a. acts_job a ∷ []) cause.Acts (acts_of bytes)
 jobs_in option.Messages bytes = result_map_both (λ d. messages_job d ∷ []) cause.Deliveries (deliveries_by (kept_from 1 bytes))
+jobs_in option.Check bytes = result_map_both (λ t. tables_job t ∷ []) cause.Tables (tables_by (kept_from 1 bytes))
+
+-- how many bytes an option's file may have (own format)
+abbrev pub most_bytes : FileOption → ℕ
+most_bytes option.Check = MOST_LIST_BYTES
+most_bytes _ = MOST_TEXT_BYTES
 
 -- what the form and the files ask for, or the first fault: the generated input, with the numbers of its ASes and links first; the routes of all ASes in round 1 to one origin, which announces 0.0.0.0/0 (RFC 4632, section 3.1) with its own number as the path, without payloads and without a head line;
 -- what an option's file asks for. A file that isn't named is empty, and so has no payloads or lines; without a scenario its four lists are empty
@@ -66,5 +73,5 @@ asked (Some (file_form _ _ scenario _ option)) reads = do
   links ← read_as file.Relations MOST_LIST_BYTES cause.Relation links_of reads
   payloads ← read_as file.Payloads MOST_LIST_BYTES cause.Payload payloads_in reads
   plan ← option_map_or (λ _. read_as file.Scenario MOST_TEXT_BYTES cause.Scenario scenario_of_bytes reads) scenario (Ok nothing)
-  jobs ← read_as file.Script MOST_TEXT_BYTES (λ c. c) (jobs_in option) reads
+  jobs ← read_as file.Script (most_bytes option) (λ c. c) (jobs_in option) reads
   Ok (record { links = links; vrps = payloads; scenario = plan; jobs = jobs })

@@ -4,17 +4,19 @@ use Rattle.activations.specs.Named.{AreSound}
 use Rattle.activations.specs.declared.acts.Acts.{Acts}
 use Rattle.message_sim.specs.declared.steps.Deliveries.{Deliveries}
 use Rattle.scenario_text.specs.LineValues.{IsSoundAct, LineValue}
+use Rattle.table_check.specs.declared.tables.Tables.{Tables as PrintedTables}
 use Rattle.task_reading.specs.declared.jobs.Asks.{Asks}
-use Rattle.task_reading.specs.declared.jobs.Asks.TheVariants.{Lines, Activations, Messages}
+use Rattle.task_reading.specs.declared.jobs.Asks.TheVariants.{Lines, Activations, Messages, Tables}
 use Rattle.task_reading.specs.declared.jobs.Job.{Job as LentJob}
 use Rattle.task_reading.specs.declared.jobs.Job.TheVariants as lent
 
--- a job has one answer: the numbers of ASes and links; the answer to a line, with its number before it or without; or what activations of ASes in turn, or deliveries of messages, come to (own format)
+-- a job has one answer: the numbers of ASes and links; the answer to a line, with its number before it or without; what activations of ASes in turn, or deliveries of messages, come to; or whether a printed table is right (own format)
 pub data Job : Type 0 where
   counts_job : Job
   line_job : (heads : Bool) (line : LineValue) → Job
   acts_job : (acts : Acts) → Job
   messages_job : (deliveries : Deliveries) → Job
+  tables_job : (tables : PrintedTables) → Job
 
 -- the jobs of lines, and before them the numbers of ASes and links, if they come first
 abbrev pub line_jobs : Bool → Bool → List LineValue → List Job
@@ -26,6 +28,7 @@ abbrev pub jobs_of : Asks → List Job
 jobs_of (Lines counts heads lines) = line_jobs counts heads lines
 jobs_of (Activations acts) = acts_job acts ∷ []
 jobs_of (Messages deliveries) = messages_job deliveries ∷ []
+jobs_of (Tables tables) = tables_job tables ∷ []
 
 -- a job that is lent
 abbrev pub job_seen : LentJob → Job
@@ -33,19 +36,23 @@ job_seen lent.Counts = counts_job
 job_seen (lent.Line heads line) = line_job heads line.now
 job_seen (lent.Activations acts) = acts_job acts.now
 job_seen (lent.Messages deliveries) = messages_job deliveries.now
+job_seen (lent.Tables tables) = tables_job tables.now
 
 -- what is kept of activations is sound
 abbrev pub IsSoundAsks : Asks → Type 0
-IsSoundAsks (Lines counts heads lines) = Unit {0}
 IsSoundAsks (Activations acts) = AreSound acts
-IsSoundAsks (Messages deliveries) = Unit {0}
+IsSoundAsks _ = Unit {0}
 
 -- what a line asks for and what a file of activations says are sound
 abbrev pub IsSoundJob : Job → Type 0
-IsSoundJob counts_job = Unit {0}
 IsSoundJob (line_job heads line) = IsSoundAct line.act
 IsSoundJob (acts_job acts) = AreSound acts
-IsSoundJob (messages_job deliveries) = Unit {0}
+IsSoundJob _ = Unit {0}
+
+-- the answer reads what is kept of a world; whether a printed table is right is seen by the world alone
+abbrev pub reads_kept : Job → Bool
+reads_kept (tables_job tables) = false
+reads_kept _ = true
 
 -- the job is that of a line, or the numbers of ASes and links
 abbrev pub IsOfLines : Job → Type 0

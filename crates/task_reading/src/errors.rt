@@ -19,6 +19,9 @@ ghost use Rattle.activations.specs.declared.reading.ActsError.{ActsError as AnAc
 ghost use Rattle.message_sim.specs.Files.{Fails as DeliveriesFails};
 ghost use Rattle.message_sim.specs.declared.steps.Deliveries.{Deliveries as SomeDeliveries};
 ghost use Rattle.message_sim.specs.declared.reading.DeliveriesError.{DeliveriesError as ADeliveriesError};
+ghost use Rattle.table_check.specs.Reading.{Fails as TablesFails};
+ghost use Rattle.table_check.specs.declared.reading.TablesError.{TablesError as ATablesError};
+ghost use Rattle.table_check.specs.declared.tables.Tables.{Tables as SomeTables};
 ghost use Rattle.task_reading.specs.Files.{IsFaultOf};
 ghost use Rattle.task_reading.specs.declared.types.File.TheVariants as file;
 ghost use Rattle.task_reading.specs.declared.types.Cause.TheVariants as cause;
@@ -30,6 +33,7 @@ use caida_reader::RelError;
 use message_sim::DeliveriesError;
 use roa_table::VrpError;
 use scenario_text::{ScenarioError, ScriptError};
+use table_check::TablesError;
 
 /// The error for a fault of the relationship file.
 pub fn of_relations(error: RelError) -> AskError
@@ -88,5 +92,16 @@ pub fn of_deliveries(error: DeliveriesError) -> AskError
     match error {
         DeliveriesError::Memory => AskError::Memory,
         _ => AskError::Fault(Fault::InFile(File::Script, Cause::Deliveries(error))),
+    }
+}
+
+/// The error for a fault of the printed table.
+pub fn of_tables(error: TablesError) -> AskError
+    ensures { (value : Result SomeTables ATablesError) → TablesFails error value
+        → IsFaultOf result (result_map_both (λ x. x) (λ e. fault.InFile file.Script (cause.Tables e)) value) }
+{
+    match error {
+        TablesError::Memory => AskError::Memory,
+        _ => AskError::Fault(Fault::InFile(File::Script, Cause::Tables(error))),
     }
 }

@@ -11,9 +11,10 @@ use message_sim::DeliveriesError;
 use roa_table::VrpError;
 use scenario_text::{LimitOf, ScenarioError, ScriptError, place_string};
 use std::alloc::{AllocError, Global};
+use table_check::TablesError;
 
 const USAGE: &str =
-    "usage: asprop REL [--vrps FILE] [--scenario FILE] [--script FILE]\n       asprop REL --origin N\n       asprop --demo N\n       asprop REL [--vrps FILE] [--scenario FILE] --activations FILE\n       asprop REL [--vrps FILE] [--scenario FILE] --messages FILE\n";
+    "usage: asprop REL [--vrps FILE] [--scenario FILE] [--script FILE]\n       asprop REL --origin N\n       asprop --demo N\n       asprop REL [--vrps FILE] [--scenario FILE] --activations FILE\n       asprop REL [--vrps FILE] [--scenario FILE] --messages FILE\n       asprop REL [--vrps FILE] [--scenario FILE] --check FILE\n";
 
 fn relation_text(alloc: Global, error: RelError) -> Result<String, AllocError>
     ensures { IfOk result (λ text. string_bytes text ≡ (cause_of (Cause.Relation error)).1) }
@@ -118,6 +119,17 @@ fn deliveries_text(alloc: Global, error: DeliveriesError) -> Result<String, Allo
     }
 }
 
+fn tables_text(alloc: Global, error: TablesError) -> Result<String, AllocError>
+    ensures { IfOk result (λ text. string_bytes text ≡ (cause_of (Cause.Tables error)).1) }
+{
+    match error {
+        TablesError::Memory => Ok(String::new(alloc)),
+        TablesError::Unreadable { line } => format!(in alloc; "line {line}: unreadable"),
+        TablesError::Twice { line } => format!(in alloc; "line {line}: named twice"),
+        TablesError::NoFor => String::from_str(alloc, "no for line"),
+    }
+}
+
 // What is said of a file that isn't taken, with the place in it.
 fn cause_text(alloc: Global, cause: Cause) -> Result<String, AllocError>
     ensures { IfOk result (λ text. string_bytes text ≡ (cause_of cause).1) }
@@ -131,6 +143,7 @@ fn cause_text(alloc: Global, cause: Cause) -> Result<String, AllocError>
         Cause::Script(error) => script_text(alloc, error),
         Cause::Acts(error) => acts_text(alloc, error),
         Cause::Deliveries(error) => deliveries_text(alloc, error),
+        Cause::Tables(error) => tables_text(alloc, error),
         Cause::NotInWorld(line) => format!(in alloc; "line {line}: not in the world"),
     }
 }
@@ -182,6 +195,7 @@ fn cause_status(cause: Cause) -> Status
         Cause::Acts(_) => Status::BadInput,
         Cause::Deliveries(DeliveriesError::TooMany { line: _ }) => Status::TooLarge,
         Cause::Deliveries(_) => Status::BadInput,
+        Cause::Tables(_) => Status::BadInput,
         Cause::NotInWorld(_) => Status::BadInput,
     }
 }

@@ -1,13 +1,14 @@
 //! What is asked in a world: jobs, one after the other.
-ghost use Rattle.std.specs.Prelude.{◌≡◌, [], ◌∷◌, IfSome, length, map, option_map, slice_get};
+ghost use Rattle.std.specs.Prelude.{◌≡◌, [], ◌∷◌, All, IfSome, length, map, option_map, slice_get};
 ghost use Rattle.activations.specs.Named.{AreSound};
 ghost use Rattle.scenario_text.specs.LineValues.{AreSoundLines};
-ghost use Rattle.task_reading.specs.Jobs.{AreAlike, IsSoundJob, acts_job, counts_job, job_seen, line_job, line_jobs, messages_job};
+ghost use Rattle.task_reading.specs.Jobs.{AreAlike, IsSoundJob, acts_job, counts_job, job_seen, line_job, line_jobs, messages_job, reads_kept, tables_job};
 
 use activations::Acts;
 use message_sim::Deliveries;
 use scenario_text::{Line, Lines};
 use std::marker::Model;
+use table_check::Tables;
 
 /// A job, which has one answer.
 #[derive(Clone, Copy)]
@@ -20,6 +21,8 @@ pub enum Job<'a> {
     Activations(&'a Acts),
     /// What deliveries of messages come to.
     Messages(&'a Deliveries),
+    /// Whether a printed table is that of the stable routings.
+    Tables(&'a Tables),
 }
 
 // How jobs are kept.
@@ -31,6 +34,8 @@ enum Asks {
     Activations(Acts),
     // What deliveries come to.
     Messages(Deliveries),
+    // Whether a printed table is right.
+    Tables(Tables),
 }
 
 // The job of the line at a place.
@@ -68,18 +73,20 @@ impl Model for Jobs {
     ghost use Rattle.std.specs.Coded.{codes};
     ghost use Rattle.activations.specs.contracts.acts.Acts as acts;
     ghost use Rattle.message_sim.specs.contracts.steps.Deliveries as deliveries;
+    ghost use Rattle.table_check.specs.contracts.tables.Tables as tables;
     ghost use Rattle.task_reading.specs.Jobs.{Job as AJob, IsSoundAsks, jobs_of};
 
     ghost Value = { List AJob };
 
-    ghost coded = { Prim.hlevel (codes, acts.the_row.coded, deliveries.the_row.coded) };
+    ghost coded = { Prim.hlevel (codes, acts.the_row.coded, deliveries.the_row.coded, tables.the_row.coded) };
 
     ghost view = { λ j. jobs_of j.asks };
 
     ghost invariant = { λ j. IsSoundAsks j.asks };
 }
 
-/// All jobs are lines, and before them perhaps the numbers of ASes and links, or they are activations or deliveries alone.
+/// All jobs are lines, and before them perhaps the numbers of ASes and links, or they are activations, deliveries
+/// or a printed table alone.
 pub fn jobs_are_alike(jobs: &Jobs)
     ensures { AreAlike jobs.now }
 {
@@ -115,6 +122,25 @@ impl Jobs {
         }
     }
 
+    /// Whether a printed table is right.
+    pub(crate) fn of_tables(tables: Tables) -> Jobs
+        ensures { result ≡ tables_job tables ∷ [] }
+    {
+        Jobs {
+            asks: Asks::Tables(tables),
+        }
+    }
+
+    /// Whether the answers read what is kept of a world.
+    pub fn read_kept(&self) -> bool
+        ensures { All (λ job. reads_kept job ≡ result) self.now }
+    {
+        match &self.asks {
+            Asks::Lines(_, _, _) | Asks::Activations(_) | Asks::Messages(_) => true,
+            Asks::Tables(_) => false,
+        }
+    }
+
     /// How many jobs there are.
     pub fn count(&self) -> usize
         ensures { result ≡ length self.now }
@@ -122,7 +148,7 @@ impl Jobs {
         match &self.asks {
             Asks::Lines(true, _, lines) => lines.as_slice().len() + 1,
             Asks::Lines(false, _, lines) => lines.as_slice().len(),
-            Asks::Activations(_) | Asks::Messages(_) => 1,
+            Asks::Activations(_) | Asks::Messages(_) | Asks::Tables(_) => 1,
         }
     }
 
@@ -144,6 +170,13 @@ impl Jobs {
             Asks::Messages(deliveries) => {
                 if place == 0 {
                     Some(Job::Messages(deliveries))
+                } else {
+                    None
+                }
+            }
+            Asks::Tables(tables) => {
+                if place == 0 {
+                    Some(Job::Tables(tables))
                 } else {
                     None
                 }

@@ -8,14 +8,16 @@ ghost use Rattle.io_edge.specs.Whole.{TakesAtMost};
 ghost use Rattle.roa_table.specs.Files.{payloads_in};
 ghost use Rattle.scenario_text.specs.Readings.{scenario_of_bytes};
 ghost use Rattle.scenario_text.specs.Scenarios.{nothing};
-ghost use Rattle.task_reading.specs.Asking.{bytes_of, jobs_in, read_as};
+ghost use Rattle.task_reading.specs.Asking.{bytes_of, jobs_in, most_bytes, read_as};
 ghost use Rattle.task_reading.specs.Files.{FindsJobs, ReadsAs};
 ghost use Rattle.task_reading.specs.Sources.{source_of};
 ghost use Rattle.task_reading.specs.Words.{text_seen};
 ghost use Rattle.task_reading.specs.declared.types.File.TheVariants as files;
 ghost use Rattle.task_reading.specs.declared.types.Cause.TheVariants as cause;
 
-use crate::errors::{of_acts, of_deliveries, of_payloads, of_relations, of_scenario, of_script};
+use crate::errors::{
+    of_acts, of_deliveries, of_payloads, of_relations, of_scenario, of_script, of_tables,
+};
 use crate::jobs::Jobs;
 use crate::types::{AskError, Cause, Fault, File};
 use crate::words::FileOption;
@@ -27,11 +29,12 @@ use net_names::Links;
 use roa_table::Vrps;
 use scenario_text::{Scenario, read_scenario, read_script};
 use std::alloc::Global;
+use table_check::read_tables;
 
-/// How many bytes a relationship file and a payload file have at most.
+/// How many bytes a relationship file, a payload file and a printed table have at most.
 pub const MOST_LIST_BYTES: usize = 268_435_456;
 
-/// How many bytes a scenario has at most, and the file for what is asked.
+/// How many bytes a scenario has at most, and each other file for what is asked.
 pub const MOST_TEXT_BYTES: usize = 16_777_216;
 
 // How many bytes are taken at once.
@@ -166,9 +169,20 @@ pub fn read_plan<I: Inputs>(
     }
 }
 
+// How many bytes an option's file has at most.
+fn most_bytes(option: FileOption) -> usize
+    ensures value { result ≡ most_bytes option }
+    ensures most { result ≤ MOST_LIST_BYTES }
+{
+    match option {
+        FileOption::Check => MOST_LIST_BYTES,
+        FileOption::Script | FileOption::Activations | FileOption::Messages => MOST_TEXT_BYTES,
+    }
+}
+
 // The jobs that the bytes of an option's file ask for.
 fn jobs_in(alloc: Global, option: FileOption, bytes: &[u8]) -> Result<Jobs, AskError>
-    requires { length bytes.now ≤ MOST_TEXT_BYTES }
+    requires { length bytes.now ≤ most_bytes option }
     ensures { FindsJobs result (jobs_in option bytes.now) }
 {
     match option {
@@ -184,6 +198,10 @@ fn jobs_in(alloc: Global, option: FileOption, bytes: &[u8]) -> Result<Jobs, AskE
             Ok(deliveries) => Ok(Jobs::of_deliveries(deliveries)),
             Err(error) => Err(of_deliveries(error)),
         },
+        FileOption::Check => match read_tables(alloc, bytes) {
+            Ok(tables) => Ok(Jobs::of_tables(tables)),
+            Err(error) => Err(of_tables(error)),
+        },
     }
 }
 
@@ -195,13 +213,13 @@ pub fn read_jobs<I: Inputs>(
     name: Option<&str>,
 ) -> Result<Jobs, AskError>
     ensures found { ReadsAs (source_of I.holds I.is_sound I.faults inputs.old inputs.new) (text_seen name.entry)
-        (λ jobs. jobs) result (read_as files.Script MOST_TEXT_BYTES (λ c. c) (jobs_in option)) }
+        (λ jobs. jobs) result (read_as files.Script (most_bytes option) (λ c. c) (jobs_in option)) }
     ensures keeps { KeepsNames I.holds I.is_sound I.faults inputs.old inputs.new }
 {
     let Some(name) = name else {
         return jobs_in(alloc, option, b"");
     };
-    match read_bytes(alloc, inputs, File::Script, MOST_TEXT_BYTES, name) {
+    match read_bytes(alloc, inputs, File::Script, most_bytes(option), name) {
         Ok(bytes) => jobs_in(alloc, option, &bytes),
         Err(error) => Err(error),
     }

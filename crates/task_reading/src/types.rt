@@ -7,6 +7,7 @@ use caida_reader::RelError;
 use message_sim::DeliveriesError;
 use roa_table::VrpError;
 use scenario_text::{ScenarioError, ScriptError};
+use table_check::TablesError;
 
 /// The part that a file has in a run.
 #[derive(Clone, Copy, Debug, PartialEq, Eq)]
@@ -60,6 +61,8 @@ pub enum Cause {
     Acts(ActsError),
     /// The file of deliveries has this fault.
     Deliveries(DeliveriesError),
+    /// The printed table has this fault.
+    Tables(TablesError),
     /// The line of this number, the first such one, names what isn't in the world.
     NotInWorld(u32),
 }

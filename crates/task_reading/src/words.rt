@@ -22,6 +22,8 @@ pub enum FileOption {
     Activations,
     /// `--messages FILE`.
     Messages,
+    /// `--check FILE`.
+    Check,
 }
 
 /// A form that the words may have.
@@ -171,11 +173,8 @@ pub fn read_words<'a>(alloc: Global, words: &'a [String]) -> Result<Option<WordF
             return Ok(None);
         }
     };
-    let files = with_option(
-        FileOption::Messages,
-        matches.get_str("messages"),
-        Standing::None,
-    );
+    let files = with_option(FileOption::Check, matches.get_str("check"), Standing::None);
+    let files = with_option(FileOption::Messages, matches.get_str("messages"), files);
     let files = with_option(
         FileOption::Activations,
         matches.get_str("activations"),

@@ -19,4 +19,5 @@ returns c =
     let demo = added c.in_ok-arg-5.ensures c.option-5.ensures.local origin c.option-5.ensures.rule in
     let activations = added c.in_ok-arg-6.ensures c.option-6.ensures.local demo c.option-6.ensures.rule in
     let messages = added c.in_ok-arg-7.ensures c.option-7.ensures.local activations c.option-7.ensures.rule in
-    IfOk-weaker c.arg-8.result _ _ (λ command adds. added adds c.word.ensures.local messages c.word.ensures.rule) c.arg-8.ensures
+    let check = added c.in_ok-arg-8.ensures c.option-8.ensures.local messages c.option-8.ensures.rule in
+    IfOk-weaker c.arg-9.result _ _ (λ command adds. added adds c.word.ensures.local check c.word.ensures.rule) c.arg-9.ensures
