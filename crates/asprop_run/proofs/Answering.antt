@@ -1,9 +1,10 @@
 -- Answers to jobs, one after the other.
-use Rattle.std.proofs.Common.{◌≡◌, ◌<◌, ◌≤◌, ◌+◌, ◌||◌, ℕ, Bool, true, false, List, [], ◌∷◌, ◌++◌, length, take, drop, slice_get, Option, Some, Result, Ok, Err, IfOk, OnErr, ap, subst, refl, sym, ◌∙◌, append_assoc, append-nil, arith, add-one, drop-cons, length-append, ◌⊎◌, inl, inr, cond}
+use Rattle.std.proofs.Common.{◌≡◌, ◌<◌, ◌≤◌, ◌+◌, ◌||◌, ℕ, Bool, true, false, All, List, [], ◌∷◌, ◌++◌, length, take, drop, slice_get, Option, Some, Result, Ok, Err, IfOk, OnErr, ap, subst, refl, sym, ◌∙◌, append_assoc, append-nil, arith, add-one, drop-cons, length-append, ◌⊎◌, inl, inr, cond}
 use Rattle.std.proofs.Math.Seq.{take-append-add}
 use Rattle.std.proofs.lemmas.List.{take_more, take_all}
 use Rattle.std.proofs.lemmas.Option.{get_or_from_slice_get, slice_get_within}
 use Rattle.std.proofs.lemmas.Bool.{true≢false}
+use Rattle.std.proofs.lemmas.List.Elements.{All-drop, All-head}
 use Rattle.io_edge.specs.Bytes.{Appends, AppendsFront}
 use Rattle.io_edge.proofs.Appending.{Appends-nil, Appends-trans}
 use Rattle.scenario_text.specs.LineValues.{LineValue}
@@ -125,6 +126,10 @@ take_next jobs i job at = take_more jobs i job (slice_get_within jobs i job at) 
 drop_next : (jobs : List Job) (i : ℕ) (job : Job) → slice_get jobs i ≡ Some job → drop i jobs ≡ job ∷ drop (i + 1) jobs
 drop_next jobs i job at = let within : i < length jobs = slice_get_within jobs i job at in
     rw (add-one, drop-cons jobs i job within, get_or_from_slice_get jobs i job job at) refl
+
+-- what holds of all jobs holds of the one at a place
+pub of_all : (P : Job → Type 0) (jobs : List Job) (i : ℕ) (job : Job) → slice_get jobs i ≡ Some job → All P jobs → P job
+of_all P jobs i job at all = All-head P job (drop (i + 1) jobs) (subst (All P) (drop_next jobs i job at) (All-drop P i jobs all))
 
 -- the job at a place has an answer, and so have those behind it once it is answered
 pub inside_at : (w : World) (jobs : List Job) (i : ℕ) (job : Job) → slice_get jobs i ≡ Some job → AreInside w (drop i jobs) → AreInside w (job ∷ drop (i + 1) jobs)

@@ -1,5 +1,5 @@
 -- What deliveries come to: over what a world lends, in one text alone, and where they end.
-use Rattle.std.proofs.Common.{◌≡◌, ◌≤◌, ◌-◌, ◌⊎◌, ◌*◌, ◌^◌, ◌++◌, inl, inr, ℕ, Bool, true, false, not, is_some, Option, Some, None, List, [], ◌∷◌, length, slice_get, ◌&&◌, if◌then◌else◌, refl, sym, ap, subst, ◌∙◌}
+use Rattle.std.proofs.Common.{◌≡◌, ◌≤◌, ◌-◌, ◌⊎◌, ◌*◌, ◌^◌, ◌++◌, inl, inr, ℕ, true, false, not, is_some, Option, Some, None, List, [], ◌∷◌, length, slice_get, ◌&&◌, if◌then◌else◌, refl, sym, ap, subst, ◌∙◌}
 use Rattle.std.specs.Prelude.{filter}
 use Rattle.std.specs.FinMap as fin
 use Rattle.std.specs.Ordering.{nat_cmp}
@@ -7,7 +7,7 @@ use Rattle.clap.specs.Walk.{Text}
 use Rattle.as_graph.specs.Topology.{Topology, as_count, has, relation}
 use Rattle.as_graph.proofs.Links.{relation_mutual}
 use Rattle.message_sim.specs.Laws.{IsSettled, TurnsSettle}
-use Rattle.message_sim.specs.Messages.{IsQuiet, IsStart, MessageNet}
+use Rattle.message_sim.specs.Messages.{IsStart, MessageNet}
 use Rattle.message_sim.specs.Nets.{queued_in}
 use Rattle.message_sim.specs.Turns.{AreTurns, first_foreign_in, turns_of}
 use Rattle.message_sim.specs.declared.steps.Deliveries.{Deliveries}
@@ -31,7 +31,6 @@ use Rattle.stability_laws.specs.Offers.{Setting}
 use Rattle.stability_laws.specs.Plans.{has_prefix}
 use Rattle.stability_laws.specs.Stable.{IsStable}
 use Rattle.stability_laws.specs.World.{setting}
-use Rattle.stability_laws.specs.declared.entry.Entry.{Entry}
 use Rattle.stability_laws.specs.declared.entry.Seed.{Seed}
 use Rattle.asprop_run.specs.Delivering.{IsNetText, message_rows}
 use Rattle.asprop_run.specs.Inside.{IsInside}

@@ -1,6 +1,9 @@
 -- Facts one after the other are one text.
-use Rattle.std.proofs.Common.{◌≡◌, Bool, [], ◌∷◌, ◌++◌, ℕ, codes, decimal, ◌==◌, sym, ap, ◌∙◌, append_assoc, if◌then◌else◌}
+use Rattle.std.proofs.Common.{◌≡◌, Bool, [], ◌∷◌, ◌++◌, ℕ, codes, decimal, ◌==◌, sym, ap, ◌∙◌, append_assoc, if◌then◌else◌, Option, Result, Ok, Err, OnOk}
 use Rattle.clap.specs.Walk.{Text}
+use Rattle.stability_laws.specs.EntryTexts.{entry_row}
+use Rattle.stability_laws.specs.declared.entry.Entry.{Entry}
+use Rattle.asprop_run.specs.Checking.{wrong_rows}
 use Rattle.asprop_run.specs.Delivering.{message_rows}
 use Rattle.asprop_run.specs.Settling.{fact, said, settled_rows}
 
@@ -20,3 +23,17 @@ messages_text made queued word is =
     ap (λ t. codes "delivered|" ++ (decimal made ++ 10 ∷ (codes "queued|" ++ (decimal queued ++ 10 ∷ (codes "quiet|" ++ (t ++ 10 ∷ [])))))) is
     ∙ ap (λ t. codes "delivered|" ++ (decimal made ++ 10 ∷ (codes "queued|" ++ t))) (sym (append_assoc (decimal queued) (10 ∷ []) (said "quiet" (queued == 0))))
     ∙ ap (λ t. codes "delivered|" ++ t) (sym (append_assoc (decimal made) (10 ∷ []) _))
+
+-- what is said of a wrong table, in four pieces
+pub wrong_text : {T E : Type 0} (r : Result T E) (old front : Text) (round a : ℕ) (holds right : Option Entry) (one two three last : Text)
+    → front ≡ codes "stable|no\nround|" ++ (decimal round ++ 10 ∷ codes "holds|") → one ≡ old ++ front → two ≡ one ++ entry_row a holds → three ≡ two ++ codes "right|"
+    → OnOk r (last ≡ three ++ entry_row a right) → OnOk r (last ≡ old ++ wrong_rows round a holds right)
+wrong_text (Ok x) old front round a holds right one two three last is p q s h =
+    let rest : Text = entry_row a holds ++ (codes "right|" ++ entry_row a right) in
+    let joined : front ++ rest ≡ wrong_rows round a holds right =
+    ap (λ t. t ++ rest) is ∙ ap (λ t. codes "stable|no\nround|" ++ t) (append_assoc (decimal round) (10 ∷ codes "holds|") rest ∙ sym (append_assoc (decimal round) (10 ∷ []) (codes "holds|" ++ rest))) in
+    h ∙ ap (λ t. t ++ entry_row a right) (s ∙ ap (λ t. t ++ codes "right|") (q ∙ ap (λ t. t ++ entry_row a holds) p))
+    ∙ append_assoc ((old ++ front) ++ entry_row a holds) (codes "right|") (entry_row a right)
+    ∙ append_assoc (old ++ front) (entry_row a holds) (codes "right|" ++ entry_row a right)
+    ∙ append_assoc old front rest ∙ ap (λ t. old ++ t) joined
+wrong_text (Err e) old front round a holds right one two three last is p q s h = h

@@ -8,13 +8,14 @@ use Rattle.stability_laws.specs.Plans.{has_prefix}
 use Rattle.asprop_run.specs.Inside.{AreInside, IsInside}
 use Rattle.asprop_run.specs.Task.{outside}
 use Rattle.asprop_run.proofs.Named.{delivered_in_world, in_world}
-use Rattle.task_reading.specs.Jobs.{AreAlike, IsOfLines, Job, acts_job, counts_job, line_job, messages_job}
+use Rattle.task_reading.specs.Jobs.{AreAlike, IsOfLines, Job, acts_job, counts_job, line_job, messages_job, tables_job}
 
 line_inside : (w : World) (job : Job) → IsOfLines job → IsInside w job
 line_inside w counts_job h = tt
 line_inside w (line_job heads line) h = tt
 line_inside w (acts_job acts) h = absurd h
 line_inside w (messages_job deliveries) h = absurd h
+line_inside w (tables_job t) h = absurd h
 
 lines_inside : (w : World) (jobs : List Job) → All IsOfLines jobs → AreInside w jobs
 lines_inside w [] h = tt
@@ -26,6 +27,7 @@ alone_inside w counts_job none populated = tt
 alone_inside w (line_job heads line) none populated = tt
 alone_inside w (acts_job acts) none populated = (none, populated acts.prefix (in_world w acts none).1)
 alone_inside w (messages_job deliveries) none populated = (none, populated deliveries.prefix (delivered_in_world w deliveries none).1)
+alone_inside w (tables_job t) none populated = none
 
 -- jobs that are alike, in a world that has what they name, and an AS where it has a prefix
 pub all_inside : (w : World) (jobs : List Job) → AreAlike jobs → outside w jobs ≡ None → ((p : PrefixValue) → has_prefix w.plan p ≡ true → 0 < as_count (topology w)) → AreInside w jobs

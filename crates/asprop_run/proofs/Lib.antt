@@ -12,5 +12,7 @@ pub mod Populated
 pub mod Insides
 pub mod Copies
 mod Delivered
+mod Checked
+mod PrintedRight
 pub mod Facts
 pub mod OneText

@@ -5,14 +5,14 @@ use Rattle.as_graph.specs.Topology.{as_count}
 use Rattle.sim_core.specs.World.{World, topology}
 use Rattle.asprop_run.specs.Replies.{AnswersJob}
 use Rattle.asprop_run.specs.Task.{outside}
-use Rattle.task_reading.specs.Jobs.{Job, acts_job, counts_job, line_job, messages_job}
+use Rattle.task_reading.specs.Jobs.{Job, acts_job, messages_job, tables_job}
 
--- what activations or deliveries name is in the world, which has an AS; of lines nothing is asked
+-- what activations or deliveries name is in the world, which has an AS, and so are the sections of a printed table; of lines nothing is asked
 abbrev pub IsInside : World → Job → Type 0
 IsInside w (acts_job acts) = (outside w (acts_job acts ∷ []) ≡ None) × (0 < as_count (topology w))
 IsInside w (messages_job d) = (outside w (messages_job d ∷ []) ≡ None) × (0 < as_count (topology w))
-IsInside w counts_job = Unit {0}
-IsInside w (line_job heads line) = Unit {0}
+IsInside w (tables_job t) = outside w (tables_job t ∷ []) ≡ None
+IsInside w _ = Unit {0}
 
 -- so of each job, in the world that the jobs before it leave
 abbrev pub AreInside : World → List Job → Type 0

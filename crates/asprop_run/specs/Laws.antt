@@ -1,5 +1,5 @@
 -- What holds of all runs, and of all told texts.
-use Rattle.std.specs.Prelude.{◌≡◌, ◌≤◌, ◌+◌, ◌*◌, ◌^◌, ◌⊎◌, ℕ, Bool, true, false, not, filter, length, List, [], ◌∷◌, ◌++◌, Option}
+use Rattle.std.specs.Prelude.{◌≡◌, ◌↔◌, ◌≤◌, ◌<◌, ◌+◌, ◌*◌, ◌^◌, ◌⊎◌, ℕ, zero, suc, Bool, true, false, not, filter, length, List, [], ◌∷◌, ◌++◌, Option, Some, Ok}
 use Rattle.std.specs.Option.{is_some}
 use Rattle.clap.specs.Walk.{Text}
 use Rattle.scenario_text.specs.declared.acts.Act.{Act}
@@ -12,13 +12,22 @@ use Rattle.as_graph.specs.Topology.{as_count, has}
 use Rattle.message_sim.specs.Turns.{turns_of}
 use Rattle.message_sim.specs.declared.steps.Deliveries.{Deliveries}
 use Rattle.stability_laws.specs.Laws.{IsHeight}
+use Rattle.net_names.specs.Lines.{kept_from}
+use Rattle.net_names.specs.Prefixes.{PrefixValue, IsPrefix}
+use Rattle.stability_laws.specs.Plans.{has_prefix}
+use Rattle.stability_laws.specs.declared.entry.Entry.{Entry}
+use Rattle.table_check.specs.Laws.{IsTableOf}
+use Rattle.table_check.specs.Printed.{IsAsn, IsPrintable, for_text}
+use Rattle.table_check.specs.Reading.{tables_by}
+use Rattle.table_check.specs.declared.tables.Tables.{Tables}
+use Rattle.sim_core.specs.Kept.{Kept, IsKept}
 use Rattle.sim_core.specs.World.{HasCycle, World, topology}
 use Rattle.sim_core.specs.Edits.{IsReason}
 use Rattle.sim_core.specs.declared.errors.EditError.TheVariants as edit
 use Rattle.asprop_run.specs.Delivering.{message_rows}
 use Rattle.asprop_run.specs.Inside.{AreInside, IsInside}
 use Rattle.asprop_run.specs.Settling.{settled_rows}
-use Rattle.task_reading.specs.Jobs.{Job, acts_job, line_job, messages_job}
+use Rattle.task_reading.specs.Jobs.{Job, acts_job, line_job, messages_job, tables_job}
 use Rattle.asprop_run.specs.Replies.{AnswersJob, AnswersJobs}
 use Rattle.asprop_run.specs.Runs.{IsRun}
 use Rattle.asprop_run.specs.Streams.{Stream, stream_of}
@@ -65,3 +74,23 @@ DeliveriesSettle = (w after later : World) (d : Deliveries) (height number : ℕ
     AnswersJob w (messages_job d) text refused after → AnswersJob w (line_job false (record { number = number; act = act.Query (Routes d.round d.prefix) })) routes other later →
     (rows : Text) × (made queued : ℕ) × (text ≡ rows ++ message_rows made queued)
     × ((queued ≡ 0) ⊎ (as_count (topology w) ^ (2 * height) ≤ length (filter (λ t. not (is_some t)) (turns_of d.steps))) → (rows ≡ routes) × (queued ≡ 0))
+
+-- a printed table is not refused exactly where each section is the one stable routing of its round, in a world without a provider cycle that has what is named (Gao and Rexford 2001)
+abbrev pub StableTablesAreKept : Type 0
+StableTablesAreKept = (w after : World) (k : Kept) (t : Tables) (text : Text) (refused : Bool) →
+    (HasCycle w → ⊥) → IsKept w k → IsInside w (tables_job t) → AnswersJob w (tables_job t) text refused after →
+    (refused ≡ false) ↔ IsTableOf k.routings t
+
+-- the answers to queries for the routes of a prefix in so many rounds, from this one on, each behind its line `for R P` (own format)
+abbrev pub sections : (ℕ → Text) → PrefixValue → ℕ → ℕ → Text
+sections answers prefix round zero = []
+sections answers prefix round (suc count) = for_text round prefix ++ (10 ∷ (answers round ++ sections answers prefix (suc round) count))
+
+-- what is printed is right: the answers to queries for the routes of a prefix in the rounds from the first on, as the sections of a file, are read as a table that is inside the world and is not refused, in a world without a provider cycle of which all that is held in these rounds can be printed (Gao and Rexford 2001)
+abbrev pub PrintedRoutesAreRight : Type 0
+PrintedRoutesAreRight = (w : World) (k : Kept) (prefix : PrefixValue) (more number : ℕ) (answers : ℕ → Text) →
+    (HasCycle w → ⊥) → IsKept w k → has_prefix w.plan prefix ≡ true → more < w.rounds → w.rounds < 10 ^ 9 → IsPrefix prefix.family prefix.addr prefix.len →
+    ((a : ℕ) → has (topology w) a ≡ true → IsAsn a) → ((round a : ℕ) (e : Entry) → 1 ≤ round → round ≤ suc more → k.routings round prefix a ≡ Some e → IsPrintable e) →
+    ((round : ℕ) → 1 ≤ round → round ≤ suc more → AnswersJob w (line_job false (record { number = number; act = act.Query (Routes round prefix) })) (answers round) false w) →
+    (t : Tables) × (tables_by (kept_from 1 (sections answers prefix 1 (suc more))) ≡ Ok t) × IsInside w (tables_job t)
+    × ((text : Text) (refused : Bool) (after : World) → AnswersJob w (tables_job t) text refused after → refused ≡ false)

@@ -2,11 +2,13 @@ pub mod Streams
 pub mod Task
 pub mod Settling
 pub mod Delivering
+pub mod Checking
 pub mod Refusals
 pub mod Replies
 pub mod Laws
 pub mod Texts
 pub mod Inside
+pub mod Loaded
 pub mod Written
 pub mod Runs
 pub mod Statuses

@@ -2,7 +2,6 @@
 use Prim.Native.String.{String}
 use Rattle.std.specs.Prelude.{[], ◌∷◌, ◌++◌, codes, decimal}
 use Rattle.clap.specs.Walk.{Text}
-use Rattle.net_names.specs.Prefixes.{PrefixValue}
 use Rattle.net_names.specs.Texts.{addr_text, prefix_text, numbers_text}
 use Rattle.sim_core.specs.declared.errors.EditError.{EditError}
 use Rattle.sim_core.specs.declared.errors.EditError.TheVariants as edit

@@ -10,62 +10,66 @@ ghost use Rattle.sim_core.specs.World.{HasCycle, has_round};
 ghost use Rattle.stability_laws.specs.EntryTexts.{entry_row};
 ghost use Rattle.stability_laws.specs.Plans.{has_prefix};
 ghost use Rattle.asprop_run.specs.Inside.{IsInside};
+ghost use Rattle.asprop_run.specs.Loaded.{loaded_world};
 ghost use Rattle.asprop_run.specs.Replies.{AnswersJob};
 ghost use Rattle.asprop_run.specs.Settling.{settled_rows};
 ghost use Rattle.asprop_run.specs.Task.{outside};
 ghost use Rattle.task_reading.specs.Jobs.{acts_job};
 
+use crate::loaded::Loaded;
 use crate::refusals::put_bytes;
 use activations::{Acts, full_pieces, height_of, run_activations};
 use as_graph::Graph;
 use net_names::{Asn, NoMemory, Path, Prefix};
 use origin_validation::KnownStates;
 use reports::put_entry;
+use roa_table::Vrps;
 use sim_core::{Sim, kept_are_stable};
-use stability_laws::{Entry, Routing, World};
+use stability_laws::{Entry, Routing, SeedPlan, World};
 use std::alloc::Global;
 use task_reading::{Job, Jobs};
 
 // Whether the world has the round and the prefix.
-fn has_table(sim: &Sim, round: u32, prefix: Prefix) -> bool
-    ensures { result ≡ (has_round (world_seen sim.now) round && has_prefix (world_seen sim.now).plan prefix) }
+fn has_table(loaded: &Loaded, round: u32, prefix: Prefix) -> bool
+    ensures { result ≡ (has_round (loaded_world loaded.now) round && has_prefix (loaded_world loaded.now).plan prefix) }
 {
-    round >= 1 && round <= sim.rounds() && sim.plan().has_prefix(prefix)
+    round >= 1 && round <= loaded.rounds() && loaded.plan().has_prefix(prefix)
 }
 
-/// The first line of an option's file that names what isn't in the world: its round or its prefix, or an AS.
-pub fn first_outside(sim: &Sim, jobs: &Jobs) -> Option<u32>
-    ensures { result ≡ outside (world_seen sim.now) jobs.now }
+/// The first line of an option's file that names what isn't in the world: its round or its prefix, an AS or a link.
+pub fn first_outside(loaded: &Loaded, jobs: &Jobs) -> Option<u32>
+    ensures { result ≡ outside (loaded_world loaded.now) jobs.now }
 {
     match jobs.at(0) {
         Some(Job::Activations(acts)) => {
-            if has_table(sim, acts.round, acts.prefix) {
-                acts.first_foreign(sim.graph())
+            if has_table(loaded, acts.round, acts.prefix) {
+                acts.first_foreign(loaded.graph())
             } else {
                 Some(acts.for_line)
             }
         }
         Some(Job::Messages(deliveries)) => {
-            if has_table(sim, deliveries.round, deliveries.prefix) {
-                deliveries.first_foreign(sim.graph())
+            if has_table(loaded, deliveries.round, deliveries.prefix) {
+                deliveries.first_foreign(loaded.graph())
             } else {
                 Some(deliveries.for_line)
             }
         }
-        _ => None,
+        Some(Job::Tables(tables)) => tables.first_outside(loaded.plan(), loaded.rounds()),
+        Some(Job::Counts) | Some(Job::Line(_, _)) | None => None,
     }
 }
 
 /// The states by the payloads. Those of the prefix with the origins that announce it are found ahead.
 pub fn states_at<'a>(
     alloc: Global,
-    sim: &'a Sim,
+    vrps: &'a Vrps,
+    plan: &SeedPlan,
     prefix: Prefix,
 ) -> Result<KnownStates<'a>, NoMemory>
-    ensures { IfOk result (λ states. states.payloads ≡ (world_seen sim.now).payloads) }
+    ensures { IfOk result (λ states. states.payloads ≡ vrps.now) }
 {
-    let mut states = KnownStates::of(alloc, sim.vrps());
-    let plan = sim.plan();
+    let mut states = KnownStates::of(alloc, vrps);
     for asn in plan.announcers() {
         if let Some(path) = plan.path(prefix, *asn) {
             if let Some(origin) = path.as_slice().last() {
@@ -159,7 +163,7 @@ pub fn answer_activations(
     let Ok(seeds) = sim.seeds(alloc, acts.round, acts.prefix) else {
         return Err(NoMemory);
     };
-    let states = states_at(alloc, sim, acts.prefix)?;
+    let states = states_at(alloc, sim.vrps(), sim.plan(), acts.prefix)?;
     let mut routing = same_routing(alloc, graph.ases(), &acts.held)?;
     let world = World {
         graph,

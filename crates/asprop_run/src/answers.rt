@@ -1,26 +1,30 @@
 //! Answers to jobs.
-ghost use Rattle.std.specs.Prelude.{◌≡◌, ◌<◌, ◌++◌, false, true, string_bytes, IfOk, OnOk, OnErr};
+ghost use Rattle.std.specs.Prelude.{◌≡◌, ◌<◌, ◌++◌, All, false, true, string_bytes, IfOk, OnOk, OnErr};
 ghost use Rattle.io_edge.specs.Bytes.{AppendsFront};
 ghost use Rattle.io_edge.specs.Faults.{HasCause};
+ghost use Rattle.sim_core.specs.Bases.{base_world};
 ghost use Rattle.sim_core.specs.Kept.{IsKept};
 ghost use Rattle.sim_core.specs.Sims.{kept, world_seen};
 ghost use Rattle.sim_core.specs.World.{HasCycle};
 ghost use Rattle.scenario_text.specs.LineValues.{IsWellFormed, IsSoundAct};
-ghost use Rattle.task_reading.specs.Jobs.{IsSoundJob, counts_job, job_seen, line_job};
+ghost use Rattle.task_reading.specs.Jobs.{Job as AJob, IsSoundJob, counts_job, job_seen, line_job, reads_kept};
 ghost use Rattle.asprop_run.specs.Inside.{AreInside, IsInside};
+ghost use Rattle.asprop_run.specs.Loaded.{Serves, loaded_world};
 ghost use Rattle.asprop_run.specs.Replies.{AnswersJob, AppendsReply, head};
 ghost use Rattle.asprop_run.specs.Streams.{stream_of};
 ghost use Rattle.asprop_run.specs.Written.{Answering, IsPassedOn};
 
 use crate::activating::answer_activations;
+use crate::checking::answer_check;
 use crate::delivering::answer_deliveries;
+use crate::loaded::Loaded;
 use crate::refusals::{put_bytes, put_done, put_edit_refusal, put_refusal};
 use crate::types::Failure;
 use io_edge::{Failed, Sink, write_all};
 use net_names::NoMemory;
 use route_choice::Steps;
 use scenario_text::{Act, Edit, Line, Query};
-use sim_core::{QueryError, Sim};
+use sim_core::{Base, QueryError, Sim};
 use std::alloc::{AllocError, Global};
 use std::marker::Brand;
 use std::sync::ledger::{Blank, Ledger};
@@ -128,8 +132,8 @@ fn answer_counts(alloc: Global, sim: &Sim, text: &mut Vec<u8>) -> Result<(), NoM
     }
 }
 
-// Makes the whole answer to a job, and says whether it is a refusal.
-fn answer_job(
+// Makes the whole answer to a job by what is kept of a world, and says whether it is a refusal.
+fn answer_whole(
     alloc: Global,
     sim: &mut Sim,
     job: Job<'_>,
@@ -137,6 +141,7 @@ fn answer_job(
 ) -> Result<bool, NoMemory>
     requires sound { IsSoundJob (job_seen job) }
     requires inside { IsInside (world_seen sim.old) (job_seen job) }
+    requires reads { reads_kept (job_seen job) ≡ true }
     requires kept { IsKept (world_seen sim.old) (kept sim.old) }
     requires no_cycle { HasCycle (world_seen sim.old) → ⊥ }
     ensures answered { IfOk result (λ refused. AnswersJob (world_seen sim.old) (job_seen job.entry) text.new.items refused (world_seen sim.new)) }
@@ -157,6 +162,44 @@ fn answer_job(
             answer_deliveries(alloc, sim, deliveries, text)?;
             Ok(false)
         }
+        Job::Tables(_) => unreachable!(),
+    }
+}
+
+// Makes the whole answer to a job that reads nothing that is kept, and says whether it is a refusal.
+fn answer_bare(
+    alloc: Global,
+    base: &Base,
+    job: Job<'_>,
+    text: &mut Vec<u8>,
+) -> Result<bool, NoMemory>
+    requires reads { reads_kept (job_seen job) ≡ false }
+    ensures { IfOk result (λ refused. AnswersJob (base_world base.now) (job_seen job.entry) text.new.items refused (base_world base.now)) }
+{
+    match job {
+        Job::Tables(tables) => answer_check(alloc, base, tables, text),
+        Job::Counts | Job::Line(_, _) | Job::Activations(_) | Job::Messages(_) => unreachable!(),
+    }
+}
+
+// Makes the whole answer to a job, and says whether it is a refusal.
+fn answer_job(
+    alloc: Global,
+    loaded: &mut Loaded,
+    job: Job<'_>,
+    text: &mut Vec<u8>,
+) -> Result<bool, NoMemory>
+    requires sound { IsSoundJob (job_seen job) }
+    requires inside { IsInside (loaded_world loaded.old) (job_seen job) }
+    requires serves { Serves loaded.old (job_seen job) }
+    requires no_cycle { HasCycle (loaded_world loaded.old) → ⊥ }
+    ensures answered { IfOk result (λ refused. AnswersJob (loaded_world loaded.old) (job_seen job.entry) text.new.items refused (loaded_world loaded.new)) }
+    ensures serves { OnOk result ((other : AJob) → Serves loaded.old other → Serves loaded.new other) }
+    ensures no_cycle { OnOk result (HasCycle (loaded_world loaded.new) → ⊥) }
+{
+    match loaded {
+        Loaded::Whole(sim) => answer_whole(alloc, sim, job, text),
+        Loaded::Bare(base) => answer_bare(alloc, base, job, text),
     }
 }
 
@@ -180,14 +223,14 @@ fn pass_on<O: Sink>(text: &[u8], held: &mut Vec<u8>, out: &mut O) -> Result<(), 
 /// before are written.
 pub fn write_answers<O: Sink>(
     alloc: Global,
-    sim: &mut Sim,
+    loaded: &mut Loaded,
     jobs: &Jobs,
     out: &mut O,
 ) -> Result<bool, Failure>
-    requires inside { AreInside (world_seen sim.old) jobs.now }
-    requires kept { IsKept (world_seen sim.old) (kept sim.old) }
-    requires no_cycle { HasCycle (world_seen sim.old) → ⊥ }
-    ensures { Answering (record { world = world_seen sim.old; jobs = jobs.now }) result (stream_of O.written O.faults out.old out.new) }
+    requires inside { AreInside (loaded_world loaded.old) jobs.now }
+    requires serves { All (Serves loaded.old) jobs.now }
+    requires no_cycle { HasCycle (loaded_world loaded.old) → ⊥ }
+    ensures { Answering (record { world = loaded_world loaded.old; jobs = jobs.now }) result (stream_of O.written O.faults out.old out.new) }
 {
     let mut text: Vec<u8> = Vec::new(alloc);
     let mut held: Vec<u8> = Vec::new(alloc);
@@ -196,7 +239,7 @@ pub fn write_answers<O: Sink>(
         let Some(job) = jobs.at(place) else {
             unreachable!();
         };
-        match answer_job(alloc, sim, job, &mut text) {
+        match answer_job(alloc, loaded, job, &mut text) {
             Err(_) => {
                 return match write_all(out, &held) {
                     Err(Failed) => Err(Failure::Write),

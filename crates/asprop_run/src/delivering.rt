@@ -79,7 +79,7 @@ pub fn answer_deliveries(
     let Ok(seeds) = sim.seeds(alloc, deliveries.round, deliveries.prefix) else {
         return Err(NoMemory);
     };
-    let states = states_at(alloc, sim, deliveries.prefix)?;
+    let states = states_at(alloc, sim.vrps(), sim.plan(), deliveries.prefix)?;
     let mut net = Net::new(alloc, graph, sim.book(), &states, deliveries.prefix, &seeds)?;
     let delivered = net.run(alloc, &deliveries.steps)?;
     text.clear();

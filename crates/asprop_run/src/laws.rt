@@ -1,5 +1,5 @@
 //! What holds of all runs, and of all told texts.
-ghost use Rattle.asprop_run.specs.Laws.{DeliveriesSettle, EachRun, OneText, OrdersSettle};
+ghost use Rattle.asprop_run.specs.Laws.{DeliveriesSettle, EachRun, OneText, OrdersSettle, PrintedRoutesAreRight, StableTablesAreKept};
 ghost use Rattle.asprop_run.specs.Statuses.{IsComplete, RunsAsTold};
 
 use io_edge::{Inputs, Sink};
@@ -7,6 +7,7 @@ use message_sim::turns_settle;
 use policy_kinds::Kind;
 use sim_core::kept_are_stable;
 use stability_laws::{any_order_settles, one_answer};
+use table_check::{accepted_are_rounds, one_verdict, printed_rounds_are_accepted};
 
 /// Each run over files whose bytes are told, where no read of them fails, is one over those bytes. And where
 /// these files are accepted and no write fails, it ends with Done or SomeRefused, or memory ran out.
@@ -22,6 +23,7 @@ pub fn answers_are_one_text()
     ensures { OneText }
 {
     one_answer::<Kind>();
+    one_verdict::<Kind>();
 }
 
 /// Whatever the order in which ASes act, and whatever they hold at first: activations with at least twice as many full
@@ -42,4 +44,22 @@ pub fn messages_settle()
 {
     turns_settle::<Kind>();
     kept_are_stable();
+}
+
+/// A printed table is answered by `stable|yes` exactly where each section is the one stable routing of its round, in a world
+/// without a provider cycle that has all rounds of the table and its prefix (Gao and Rexford 2001).
+pub fn stable_tables_are_kept()
+    ensures { StableTablesAreKept }
+{
+    accepted_are_rounds::<Kind>();
+}
+
+/// The answers to queries for the routes of a prefix, one for each round from the first on and each behind its line `for R P`,
+/// are a printed table that is answered by `stable|yes`, in a world without a provider cycle of which all that is held in
+/// these rounds can be printed (Gao and Rexford 2001).
+pub fn printed_routes_are_right()
+    ensures { PrintedRoutesAreRight }
+{
+    accepted_are_rounds::<Kind>();
+    printed_rounds_are_accepted::<Kind>();
 }

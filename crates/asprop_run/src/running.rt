@@ -13,9 +13,10 @@ ghost use Rattle.task_reading.specs.declared.types.Fault.TheVariants.{InFile};
 use crate::activating::first_outside;
 use crate::answers::write_answers;
 use crate::explain::explain;
+use crate::loaded::Loaded;
 use crate::types::Failure;
 use io_edge::{Inputs, Sink};
-use sim_core::{LoadError, Sim};
+use sim_core::LoadError;
 use std::alloc::Global;
 use task_reading::{
     AskError, Asked, Cause, Fault, File, Status, WordForm, ask, jobs_are_alike, read_words,
@@ -50,10 +51,10 @@ fn work<I: Inputs, O: Sink>(
         Err(AskError::Fault(fault)) => return Err(Failure::Fault(fault)),
     };
     jobs_are_alike(&jobs);
-    match Sim::load(alloc, links, vrps, scenario) {
-        Ok(mut sim) => match first_outside(&sim, &jobs) {
+    match Loaded::load(alloc, links, vrps, scenario, &jobs) {
+        Ok(mut loaded) => match first_outside(&loaded, &jobs) {
             Some(line) => Err(Failure::Fault(not_in_world(line))),
-            None => write_answers(alloc, &mut sim, &jobs, out),
+            None => write_answers(alloc, &mut loaded, &jobs, out),
         },
         Err(LoadError::Memory) => Err(Failure::Memory),
         Err(LoadError::TooManyAses) => Err(Failure::Fault(Fault::TooManyAses)),

@@ -36,7 +36,7 @@ returns c =
     let g = c.graph-graph.result.now in
     let f = fin.get c.run_activations.new.routing in
     let run = settled_in c.kept_are_stable.ensures.setting w (kept c.args.sim.now) c.args.acts.now g c.book.result.now _ c.in-Ok.seeds c.in_ok-routing.routing c.run_activations.new.routing c.in_ok-settled.settled
-    c.graph-graph.ensures c.book.ensures c.in_ok-states.ensures c.in-Ok.ensures.seeds c.in_ok-routing.ensures (rw c.as_slice-list.ensures at c.in_ok-settled.ensures.activated) c.in_ok-settled.ensures.stable in
+    c.graph-graph.ensures c.book.ensures (c.in_ok-states.ensures ∙ c.vrps.ensures) c.in-Ok.ensures.seeds c.in_ok-routing.ensures (rw c.as_slice-list.ensures at c.in_ok-settled.ensures.activated) c.in_ok-settled.ensures.stable in
     let pieces : IsMostPieces (has (topology w)) c.args.acts.now.list c.in_ok-pieces.pieces =
     subst (λ (t : (ℕ → Bool) × List ℕ). IsMostPieces t.0 t.1 c.in_ok-pieces.pieces) (λ i. (same_has w g c.graph-graph.ensures i, c.as_slice-list.ensures i)) c.in_ok-pieces.ensures in
     let rows : c.put_rows.new.text.items ≡ table (topology w) (λ a. entry_row a (f a)) =

@@ -1,20 +1,24 @@
 use Rattle.std.proofs.Common.{◌≡◌, ◌||◌, Bool, Result, arith, inl, inr, subst, sym}
-use Rattle.sim_core.specs.Sims.{world_seen}
+use Rattle.std.proofs.lemmas.List.Elements.{All-weaker}
+use Rattle.asprop_run.specs.Loaded.{Serves, loaded_world}
 use Rattle.asprop_run.specs.Streams.{stream_of}
 use Rattle.asprop_run.specs.Written.{Answering, IsPassedOn}
 use Rattle.asprop_run.specs.declared.types.Failure.{Failure}
-use Rattle.asprop_run.proofs.Answering.{all, either, held_part, inside_at, next, part, whole}
+use Rattle.asprop_run.proofs.Answering.{all, either, held_part, inside_at, next, of_all, part, whole}
 use Rattle.task_reading.specs.Jobs.{job_seen}
 use Rattle.task_reading.proofs.ReadLemmas.{rose_earlier}
 use Rattle.asprop_run.proofs.answers.write_answers.Goals as goal
 use Rattle.asprop_run.proofs.answers.write_answers.Goals.{then-first, else-first, in-Err-write_all, in-Ok-write_all}
 
 pub answer_job-requires-clause-inside : goal.answer_job-requires-clause-inside
-answer_job-requires-clause-inside g c = (inside_at (world_seen c.jobs.sim) c.args.jobs.now c.jobs.place (job_seen c.in-Some.job) (sym c.in-Some.ensures.value) c.jobs.invariant.inside).0
+answer_job-requires-clause-inside g c = (inside_at (loaded_world c.jobs.loaded) c.args.jobs.now c.jobs.place (job_seen c.in-Some.job) (sym c.in-Some.ensures.value) c.jobs.invariant.inside).0
+
+pub answer_job-requires-clause-serves : goal.answer_job-requires-clause-serves
+answer_job-requires-clause-serves g c = of_all (Serves c.jobs.loaded) c.args.jobs.now c.jobs.place (job_seen c.in-Some.job) (sym c.in-Some.ensures.value) c.jobs.invariant.serves
 
 pub returns-in-Err : goal.returns-in-Err
 returns-in-Err g c =
-    let Run : Result Bool Failure → Type 0 = λ r. Answering (record { world = world_seen c.args.sim.now; jobs = c.args.jobs.now }) r (stream_of g.O.Sink.written g.O.Sink.faults c.args.out.now c.write_all.new.sink) in
+    let Run : Result Bool Failure → Type 0 = λ r. Answering (record { world = loaded_world c.args.loaded.now; jobs = c.args.jobs.now }) r (stream_of g.O.Sink.written g.O.Sink.faults c.args.out.now c.write_all.new.sink) in
     elim c.match-write_all.branch [
       | in-Err-write_all w ↦
           subst Run (sym w.result-is)
@@ -42,7 +46,7 @@ jobs-preserved g c =
       later = omega (arith, c.pass_on.ensures.cause.later, c.jobs.invariant.later);
       so_far = rw refused (next _ _ _ _ _ (job_seen c.in-Some.job) _ _ _ _ _ _ _ _ (sym c.in-Some.ensures.value) c.jobs.invariant.so_far c.in-Ok.ensures.answered
           (subst (λ t. IsPassedOn (g.O.Sink.written c.jobs.out) (g.O.Sink.written c.pass_on.new.out) c.jobs.held.items t c.pass_on.new.held.items) c.deref-in-Ok.ensures.value c.in-Ok-pass_on.ensures.ok));
-      inside = (inside_at (world_seen c.jobs.sim) c.args.jobs.now c.jobs.place (job_seen c.in-Some.job) (sym c.in-Some.ensures.value) c.jobs.invariant.inside).1 _ _ _ c.in-Ok.ensures.answered;
-      kept = c.in-Ok.ensures.kept;
+      inside = (inside_at (loaded_world c.jobs.loaded) c.args.jobs.now c.jobs.place (job_seen c.in-Some.job) (sym c.in-Some.ensures.value) c.jobs.invariant.inside).1 _ _ _ c.in-Ok.ensures.answered;
+      serves = All-weaker (Serves c.jobs.loaded) (Serves c.answer_job.new.loaded) c.in-Ok.ensures.serves c.args.jobs.now c.jobs.invariant.serves;
       no_cycle = c.in-Ok.ensures.no_cycle;
     }

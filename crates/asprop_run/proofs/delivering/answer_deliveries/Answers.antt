@@ -38,7 +38,7 @@ returns c =
     let start = subst (λ (u : NetWorld Kind Known). IsStart (net_setting kind_policy (λ (s : Known). state_of s.payloads) u) (seeds_in u) x) c.in_ok-net.ensures.world c.in_ok-net.ensures.start in
     let run = subst (λ (u : NetWorld Kind Known). AreTurns (net_setting kind_policy (λ (s : Known). state_of s.payloads) u) (seeds_in u) (turns_of d.steps) x made y) c.in_ok-net.ensures.world c.in_ok-delivered.ensures.run in
     let ends = delivered_in c.kept_are_stable.ensures.setting w (kept c.args.sim.now) d g c.book.result.now c.in_ok-states.states.payloads c.in-Ok.seeds x y made
-    c.graph-graph.ensures c.book.ensures c.in_ok-states.ensures c.in-Ok.ensures.seeds start run in
+    c.graph-graph.ensures c.book.ensures (c.in_ok-states.ensures ∙ c.vrps.ensures) c.in-Ok.ensures.seeds start run in
     let rows : c.put_choices.new.text.items ≡ table (topology w) (λ a. entry_row a (y.choice a)) =
     c.in_ok-put_choices.ensures ∙ ap (λ (l : List ℕ). l ++ table g (λ a. entry_row a (y.choice a))) c.clear.ensures.items ∙ same_table w g c.graph-graph.ensures (λ a. entry_row a (y.choice a)) in
     let queued : c.queued.result ≡ queued_in (topology w) y =

@@ -1,0 +1,74 @@
+//! The check of a printed table.
+ghost use Rattle.std.specs.Prelude.{◌≡◌, ◌++◌, IfOk, OnOk, option_copied};
+ghost use Rattle.sim_core.specs.Bases.{base_world};
+ghost use Rattle.asprop_run.specs.Checking.{wrong_rows};
+ghost use Rattle.asprop_run.specs.Replies.{AnswersJob};
+ghost use Rattle.task_reading.specs.Jobs.{tables_job};
+
+use crate::activating::states_at;
+use crate::refusals::put_bytes;
+use net_names::{Asn, NoMemory};
+use reports::put_entry;
+use sim_core::{Base, kept_are_stable};
+use stability_laws::{Entry, World};
+use std::alloc::Global;
+use table_check::{Tables, Verdict, check_tables};
+
+// Appends what is said of the first AS that is wrong.
+fn put_wrong(
+    alloc: Global,
+    text: &mut Vec<u8>,
+    round: u32,
+    asn: Asn,
+    holds: Option<&Entry>,
+    right: Option<&Entry>,
+) -> Result<(), NoMemory>
+    ensures { OnOk result (text.new.items ≡ text.old.items
+        ++ wrong_rows round asn (option_copied holds.entry) (option_copied right.entry)) }
+{
+    let Ok(front) = format!(in alloc; "stable|no\nround|{round}\nholds|") else {
+        return Err(NoMemory);
+    };
+    put_bytes(text, front.as_bytes())?;
+    put_entry(text, asn, holds)?;
+    put_bytes(text, b"right|")?;
+    put_entry(text, asn, right)
+}
+
+/// Makes the answer to a printed table: that it is that of the stable routings, or the first round that is wrong, and there
+/// the lowest AS that is wrong, with what it holds and what it should hold. Says whether the table is refused.
+pub fn answer_check(
+    alloc: Global,
+    base: &Base,
+    tables: &Tables,
+    text: &mut Vec<u8>,
+) -> Result<bool, NoMemory>
+    ensures { IfOk result (λ refused. AnswersJob (base_world base.now) (tables_job tables.now) text.new.items refused (base_world base.now)) }
+{
+    kept_are_stable();
+    let states = states_at(alloc, base.vrps(), base.plan(), tables.prefix)?;
+    let world = World {
+        graph: base.graph(),
+        book: base.book(),
+        states: &states,
+    };
+    let verdict = check_tables(alloc, &world, base.plan(), tables)?;
+    text.clear();
+    match verdict {
+        Verdict::Stable => {
+            put_bytes(text, b"stable|yes\n")?;
+            Ok(false)
+        }
+        Verdict::Wrong { round, asn, right } => {
+            put_wrong(
+                alloc,
+                text,
+                round,
+                asn,
+                tables.rows.held(round, asn),
+                right.as_ref(),
+            )?;
+            Ok(true)
+        }
+    }
+}
