@@ -1,5 +1,5 @@
 -- The set of the ASes of a world: the next one, and how many there are.
-use Rattle.std.proofs.Common.{◌≡◌, ◌∙◌, ◌+◌, ◌==◌, ◌||◌, ℕ, Bool, true, false, cond, is_some, List, [], ◌∷◌, map, Option, None, Some, IfSome, IfNone, refl, ap, sym}
+use Rattle.std.proofs.Common.{◌≡◌, ◌∙◌, ◌+◌, ◌||◌, ℕ, Bool, true, false, cond, is_some, List, [], ◌∷◌, map, Option, None, Some, IfSome, IfNone, refl, ap, sym}
 use Rattle.std.specs.FinMap as fin
 use Rattle.std.specs.FinSet as set
 use Rattle.std.specs.Ordering.{eq_by_cmp, nat_cmp}

@@ -1,13 +1,12 @@
 -- Lines that are in a world.
-use Rattle.std.proofs.Common.{◌≡◌, ◌∙◌, ◌≤◌, ◌&&◌, ◌==◌, ℕ, Bool, true, get_or, refl, ap, sym, subst}
+use Rattle.std.proofs.Common.{◌≡◌, ◌≤◌, ◌&&◌, ℕ, true, get_or, refl, sym, subst}
 use Rattle.std.specs.FinMap as fin
 use Rattle.std.specs.FinSet as set
 use Rattle.std.specs.Prelude.{nat_le}
 use Rattle.std.specs.List.{All, list_all}
-use Rattle.std.specs.Ordering.{eq_by_cmp}
 use Rattle.std.proofs.lemmas.Bool.{and_parts, eq-eqb, leb-true}
 use Rattle.std.proofs.lemmas.List.Sums.{AllPass-from_list_all}
-use Rattle.net_names.specs.Addresses.{AddrValue, addr_cmp}
+use Rattle.net_names.specs.Addresses.{AddrValue}
 use Rattle.net_names.specs.Orders.{addr_total, exact_addr}
 use Rattle.as_graph.specs.Topology.{as_count}
 use Rattle.stability_laws.proofs.KeyLists.{eq_same}

@@ -1,18 +1,17 @@
 -- Lone ASes.
-use Rattle.std.proofs.Common.{◌≡◌, ◌≢◌, ⊎_elim, inl, inr, ℕ, ◌<◌, ◌&&◌, ◌==◌, ◌||◌, not, Bool, true, false, cond, Option, None, Some, List, [], ◌∷◌, length, map, refl, sym, ap, subst, ◌∙◌, arith, eqb-true, true≢false}
+use Rattle.std.proofs.Common.{◌≡◌, ◌≢◌, inl, inr, ℕ, ◌&&◌, ◌==◌, ◌||◌, not, Bool, true, false, cond, None, Some, List, [], ◌∷◌, length, refl, sym, ap, subst, ◌∙◌, arith, eqb-true, true≢false}
 use Rattle.std.specs.Prelude.{filter, nat_eq, nat_lt, option_map}
 use Rattle.std.specs.List.{AllByRecursion, IsDistinct}
 use Rattle.std.specs.FinMap as fin
 use Rattle.std.specs.FinSet as set
 use Rattle.std.specs.Ordering.{nat_cmp}
-use Rattle.std.proofs.lemmas.Bool.{lt-ltb, ltb-true}
+use Rattle.std.proofs.lemmas.Bool.{lt-ltb}
 use Rattle.std.proofs.lemmas.Map.Views.{any-filter_same}
-use Rattle.net_names.specs.Links.{LinkMap, between, converse, pair_cmp}
+use Rattle.net_names.specs.Links.{LinkMap, converse}
 use Rattle.net_names.specs.Numbers.{occurs}
 use Rattle.net_names.specs.declared.routes.Rel.{Rel}
-use Rattle.as_graph.specs.Edits.{LinksAreSound}
-use Rattle.as_graph.specs.Neighbours.{AreNeighbours, asns}
-use Rattle.as_graph.specs.Topology.{Topology, ases, has, relation, unmarked}
+use Rattle.as_graph.specs.Neighbours.{AreNeighbours}
+use Rattle.as_graph.specs.Topology.{Topology, has, relation, unmarked}
 use Rattle.as_graph.specs.declared.neighbour.Neighbour.{Neighbour}
 use Rattle.as_graph.proofs.Links.{ends_of, linked_end, relation_mutual}
 use Rattle.as_graph.proofs.RowAses.{end_found, occurs-append, occurs-items}

@@ -1,10 +1,9 @@
 -- The part of a plan that an address and the rounds up to one depend on.
-use Rattle.std.proofs.Common.{◌≡◌, ◌⊎◌, inl, inr, ℕ, ◌+◌, ◌<◌, ◌≤◌, Bool, true, false, ◌||◌, ◌&&◌, ◌==◌, IsTrue, is_some, cond, Option, None, Some, Result, Ok, Err, OnOk, List, [], ◌∷◌, length, take, refl, sym, ap, subst, ◌∙◌, arith, eqb-true, true≢false}
+use Rattle.std.proofs.Common.{◌≡◌, ℕ, ◌+◌, ◌<◌, ◌≤◌, Bool, true, false, ◌||◌, ◌&&◌, ◌==◌, is_some, cond, Option, None, Some, Result, Ok, Err, OnOk, List, length, take, refl, sym, ap, ◌∙◌, arith, eqb-true, true≢false}
 use Rattle.std.specs.Prelude.{slice_get, slice_index}
 use Rattle.std.specs.FinMap as fin
-use Rattle.std.specs.List.{Any}
 use Rattle.std.specs.Ordering.{eq_by_cmp}
-use Rattle.std.proofs.lemmas.Bool.{and_parts, eq-eqb, or_cases}
+use Rattle.std.proofs.lemmas.Bool.{and_parts, eq-eqb}
 use Rattle.std.proofs.lemmas.List.Folds.{Any-from_list_any}
 use Rattle.std.proofs.lemmas.Option.{get_or_from_slice_get, slice_get_within, slice_get-get_or}
 use Rattle.net_names.proofs.Pairs.{exact_pair, pairs_total}

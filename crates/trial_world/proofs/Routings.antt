@@ -1,6 +1,5 @@
 -- Stable routings of one prefix in the rounds, and in worlds that differ at lone ASes.
-use Rattle.std.proofs.Common.{◌≡◌, ◌⊎◌, inl, inr, ℕ, zero, suc, ◌<◌, ◌≤◌, Bool, true, false, ◌&&◌, nat_lt, option_map, Option, Some, None, List, refl, sym, ap, subst, ◌∙◌, arith, true≢false}
-use Rattle.std.specs.FinMap as fin
+use Rattle.std.proofs.Common.{◌≡◌, inr, ℕ, zero, suc, ◌<◌, Bool, true, false, ◌&&◌, nat_lt, option_map, Option, Some, None, List, refl, sym, ap, subst, ◌∙◌, arith, true≢false}
 use Rattle.net_names.specs.Addresses.{AddrValue}
 use Rattle.net_names.specs.Coverage.{holds}
 use Rattle.net_names.specs.Links.{LinkMap, converse}
@@ -12,18 +11,16 @@ use Rattle.as_graph.specs.Topology.{Topology, has, relation, unmarked}
 use Rattle.as_graph.proofs.Links.{linked_end, relation_mutual}
 use Rattle.policy_kinds.specs.Kinds.{kind_policy}
 use Rattle.policy_kinds.specs.declared.kind.Kind.{Kind}
-use Rattle.policy_laws.specs.Policy.{Policy}
 use Rattle.stability_laws.specs.Book.{PolicyBook, policy_at}
 use Rattle.stability_laws.specs.Laws.{OneStableRouting, RightFollows}
 use Rattle.stability_laws.specs.Offers.{Setting, offer, offer_given}
 use Rattle.stability_laws.specs.Plans.{Plan, announced_path, leaks_in}
 use Rattle.stability_laws.specs.Rounds.{seed_given, seeds_of}
-use Rattle.stability_laws.specs.Stable.{IsRight, IsRightGiven, IsStable}
+use Rattle.stability_laws.specs.Stable.{IsRightGiven, IsStable}
 use Rattle.stability_laws.specs.World.{setting}
 use Rattle.stability_laws.specs.declared.entry.Entry.{Entry}
 use Rattle.stability_laws.specs.declared.entry.Seed.{Seed}
 use Rattle.trial_world.specs.Fixed.{IsPlanFor}
-use Rattle.trial_world.proofs.LoneAses.{off}
 
 -- in round 1 nothing of an earlier round is read
 first_round : (plan : Plan) (prefix : PrefixValue) (f g : ℕ → Option Entry) (a : ℕ) → seeds_of plan 1 prefix f a ≡ seeds_of plan 1 prefix g a

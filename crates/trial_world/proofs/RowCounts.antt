@@ -1,5 +1,5 @@
 -- What the rows of a watch count is what the ASes of a trial's world count.
-use Rattle.std.proofs.Common.{◌≡◌, ℕ, suc, ◌+◌, ◌-◌, Bool, true, false, not, ◌==◌, ◌&&◌, ◌||◌, cond, Some, List, [], ◌∷◌, map, refl, sym, ap, ◌∙◌, arith}
+use Rattle.std.proofs.Common.{◌≡◌, ℕ, ◌+◌, ◌-◌, Bool, true, false, not, ◌&&◌, cond, Some, List, [], ◌∷◌, map, refl, sym, ap, ◌∙◌, arith}
 use Rattle.std.specs.Prelude.{count_by, filter, nat_eq, slice_get}
 use Rattle.std.specs.FinSet as set
 use Rattle.std.specs.List.{IsDistinct}
@@ -10,8 +10,7 @@ use Rattle.std.proofs.lemmas.Map.Keys.{IsDistinct-head, IsDistinct-tail}
 use Rattle.net_names.specs.Numbers.{occurs}
 use Rattle.as_graph.specs.Topology.{Topology, ases, has}
 use Rattle.as_graph.proofs.RowAses.{any_none}
-use Rattle.data_trace.specs.Traces.{IsTrace}
-use Rattle.data_trace.specs.Watches.{AreRows, Row, count_of, in_group, is_end}
+use Rattle.data_trace.specs.Watches.{AreRows, Row, count_of, is_end}
 use Rattle.data_trace.specs.contracts.kinds.EndPartialEq.TheImpl as same_end_test
 use Rattle.data_trace.specs.declared.kinds.End.{End}
 use Rattle.data_trace.specs.declared.kinds.End.TheVariants as the_end

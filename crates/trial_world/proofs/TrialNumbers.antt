@@ -1,5 +1,5 @@
 -- The numbers of ASes with each fate in a world: there is one of each, and a watch has it.
-use Rattle.std.proofs.Common.{◌≡◌, ℕ, zero, suc, ◌<◌, ◌≤◌, ◌&&◌, ◌||◌, Bool, true, false, not, cond, is_some, true≢false, Option, None, Some, List, refl, sym, ap, subst, ◌∙◌, arith}
+use Rattle.std.proofs.Common.{◌≡◌, ℕ, zero, suc, ◌<◌, ◌≤◌, ◌&&◌, ◌||◌, Bool, true, false, not, cond, is_some, true≢false, Option, None, List, refl, sym, ap, subst, ◌∙◌, arith}
 use Rattle.std.specs.Prelude.{count_by, if◌then◌else◌}
 use Rattle.std.specs.FinMap as fin
 use Rattle.std.specs.FinSet as set
@@ -28,10 +28,8 @@ use Rattle.data_trace.specs.Traces.{IsTrace}
 use Rattle.data_trace.specs.Views.{rows_of}
 use Rattle.data_trace.specs.Watches.{Row}
 use Rattle.data_trace.specs.contracts.kinds.EndPartialEq.TheImpl as same_end_test
-use Rattle.data_trace.specs.declared.kinds.End.{End}
 use Rattle.data_trace.specs.declared.kinds.End.TheVariants as the_end
 use Rattle.data_trace.specs.declared.kinds.Hop.{Hop}
-use Rattle.data_trace.specs.declared.kinds.Hop.TheVariants.{NoRoute}
 use Rattle.data_trace.specs.declared.watch.Watch.{Watch}
 use Rattle.sweep.specs.declared.trial.Fate.{Fate}
 use Rattle.sim_core.specs.Counting.{how_many}
@@ -45,7 +43,6 @@ use Rattle.trial_world.specs.Fixed.{AreLone, IsFixed, IsPlanFor, is_lone, is_nam
 use Rattle.trial_world.specs.Sweeps.{AreNumbers, end_of, with_kinds}
 use Rattle.trial_world.specs.Trials.{AreCounted, IsWatchIn, number_in, plain_in}
 use Rattle.trial_world.specs.declared.fixed.Fixed.{Fixed}
-use Rattle.trial_world.proofs.LoneAses.{off}
 use Rattle.trial_world.proofs.NextHops.{lost_end, no_next, same_end, same_next}
 use Rattle.trial_world.proofs.PartPlans.{unknown}
 use Rattle.trial_world.proofs.Routings.{nothing_stable, one_to, seeds_whole, stable_moved}

@@ -1,6 +1,6 @@
 -- A watch of the tables of a part of a plan, by the whole plan.
 use Rattle.std.specs.Prelude.{option_and_then}
-use Rattle.std.proofs.Common.{◌≡◌, ℕ, zero, suc, ◌<◌, ◌≤◌, Bool, true, false, IsTrue, is_some, List, Option, Some, None, refl, sym, ap, ◌∙◌, arith, true≢false}
+use Rattle.std.proofs.Common.{◌≡◌, ℕ, zero, suc, ◌≤◌, Bool, true, false, IsTrue, is_some, Option, Some, None, refl, sym, ap, ◌∙◌, arith, true≢false}
 use Rattle.net_names.specs.Prefixes.{PrefixValue}
 use Rattle.path_pool.specs.declared.pool.PathPool.{PathPool}
 use Rattle.route_choice.specs.declared.table.Table.{Table}

@@ -1,5 +1,5 @@
 -- What no trial of a line changes.
-use Rattle.std.specs.Prelude.{◌≡◌, ◌<◌, ◌≤◌, ℕ, Bool, true, false, ◌||◌, ◌&&◌, not, IsTrue, Some, List, map, nat_eq}
+use Rattle.std.specs.Prelude.{◌≡◌, ◌<◌, ◌≤◌, ℕ, Bool, true, ◌||◌, ◌&&◌, not, Some, List, map, nat_eq}
 use Rattle.std.specs.List.{IsDistinct}
 use Rattle.std.specs.FinMap as fin
 use Rattle.net_names.specs.Addresses.{AddrValue}

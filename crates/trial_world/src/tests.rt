@@ -51,6 +51,7 @@ fn base_of(
 {
     let links = links_of(rt, alloc, pairs)?;
     let vrps = roa_table::read(alloc, PAYLOADS)?;
+    assert!(rt; scenario.len() <= 16_777_216);
     let scenario = read_scenario(alloc, scenario)?;
     match Base::load(alloc, links, vrps, scenario) {
         Ok(base) => Ok(base),

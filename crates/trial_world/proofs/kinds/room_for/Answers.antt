@@ -1,4 +1,4 @@
-use Rattle.std.proofs.Common.{◌≡◌, ◌∙◌, ap}
+use Rattle.std.proofs.Common.{◌∙◌, ap}
 use Rattle.policy_kinds.specs.declared.kind.Kind.{Kind}
 use Rattle.stability_laws.specs.Book.{PolicyBook}
 use Rattle.trial_world.proofs.KindBooks.{room_more}

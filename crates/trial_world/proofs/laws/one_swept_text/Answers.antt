@@ -1,4 +1,4 @@
-use Rattle.std.proofs.Common.{◌≤◌, ◌&&◌}
+use Rattle.std.proofs.Common.{◌≤◌}
 use Rattle.std.proofs.lemmas.Bool.{and_parts}
 use Rattle.stability_laws.specs.Plans.{announcers_of}
 use Rattle.sim_core.specs.World.{has_round, kind_at}

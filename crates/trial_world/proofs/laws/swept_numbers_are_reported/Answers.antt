@@ -1,4 +1,3 @@
-use Rattle.std.proofs.Common.{◌≤◌}
 use Rattle.sim_core.proofs.Watches.{round_within}
 use Rattle.trial_world.proofs.TrialNumbers.{kept_numbers, one_number}
 use Rattle.trial_world.proofs.laws.swept_numbers_are_reported.Goals as goal

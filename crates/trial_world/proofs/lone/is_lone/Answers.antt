@@ -1,4 +1,4 @@
-use Rattle.std.proofs.Common.{◌≡◌, ◌∙◌, length, sym, eqb-true, true≢false}
+use Rattle.std.proofs.Common.{◌∙◌, length, sym, eqb-true, true≢false}
 use Rattle.std.proofs.lemmas.Bool.{eq-eqb}
 use Rattle.trial_world.proofs.LoneAses.{lone_if, not_lone}
 use Rattle.trial_world.proofs.lone.is_lone.Goals as goal

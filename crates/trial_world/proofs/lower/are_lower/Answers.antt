@@ -1,4 +1,4 @@
-use Rattle.std.proofs.Common.{◌≡◌, ◌≤◌, ◌∙◌, ◌+◌, ℕ, Bool, length, take, ap, sym, subst, arith, eqb-true}
+use Rattle.std.proofs.Common.{◌∙◌, ◌+◌, ℕ, length, take, sym, subst, arith, eqb-true}
 use Rattle.std.specs.Prelude.{filter, nat_lt}
 use Rattle.as_graph.specs.declared.neighbour.Neighbour.{Neighbour}
 use Rattle.trial_world.proofs.SeenLinks.{AreSeen, all_lower, at_most, none_seen, seen_more}

@@ -1,5 +1,5 @@
-use Rattle.std.proofs.Common.{◌≡◌, ◌∙◌, ap, false, sym, Some, Result, Ok, Err, OnOk, Option, List, ℕ, refl}
-use Rattle.stability_laws.specs.Plans.{announced_path, announcer_of, announces}
+use Rattle.std.proofs.Common.{◌∙◌, ap, sym, Some}
+use Rattle.stability_laws.specs.Plans.{announces}
 use Rattle.trial_world.proofs.PartPlans.{first_is, here_now, on_ok, part_more, some_numbers, still_announced}
 use Rattle.trial_world.proofs.parts.announce_at.Goals as goal
 

@@ -1,8 +1,8 @@
-use Rattle.std.proofs.Common.{◌≡◌, ◌∙◌, ap, sym, subst, Some, ℕ, ◌<◌, ◌+◌, ◌≤◌, List, length, true, false, refl, arith}
+use Rattle.std.proofs.Common.{◌≡◌, ◌∙◌, ap, sym, subst, Some, ℕ, ◌<◌, ◌+◌, ◌≤◌, List, length, refl, arith}
 use Rattle.std.specs.Prelude.{slice_get}
 use Rattle.std.proofs.lemmas.Option.{slice_get-get_or}
 use Rattle.net_names.specs.Prefixes.{PrefixValue}
-use Rattle.stability_laws.specs.Plans.{Plan, prefixes_of}
+use Rattle.stability_laws.specs.Plans.{Plan}
 use Rattle.trial_world.specs.Fixed.{IsPart}
 use Rattle.trial_world.proofs.PartPlans.{HasAll, all_held, next_away, next_held, nothing_is}
 use Rattle.trial_world.proofs.parts.announce_holding.Goals.{then-holds+in_ok-announce_prefix, else-holds}

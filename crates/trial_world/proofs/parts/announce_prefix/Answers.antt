@@ -1,7 +1,6 @@
-use Rattle.std.proofs.Common.{◌≡◌, ◌∙◌, ap, sym, take, ℕ, Bool, true, false, refl}
+use Rattle.std.proofs.Common.{◌∙◌, ap}
 use Rattle.std.proofs.lemmas.List.{take_all}
 use Rattle.net_names.specs.Numbers.{occurs}
-use Rattle.stability_laws.specs.Plans.{announced_path, announcers_of}
 use Rattle.trial_world.proofs.PartPlans.{all_announced}
 use Rattle.trial_world.proofs.parts.announce_prefix.Goals as goal
 

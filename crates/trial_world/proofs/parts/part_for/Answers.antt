@@ -1,4 +1,4 @@
-use Rattle.std.proofs.Common.{◌≡◌, ◌∙◌, ap}
+use Rattle.std.proofs.Common.{◌∙◌, ap}
 use Rattle.std.specs.FinMap as fin
 use Rattle.stability_laws.specs.Plans.{Plan, leaks_in}
 use Rattle.trial_world.proofs.PartPlans.{leaks_none, or_none, part_kept, part_small}

@@ -1,16 +1,11 @@
-use Rattle.std.proofs.Common.{◌≡◌, ◌∙◌, ◌≤◌, ◌&&◌, ◌==◌, ℕ, Bool, true, ap, sym, subst}
+use Rattle.std.proofs.Common.{◌∙◌, ◌≤◌, ℕ, ap, sym, subst}
 use Rattle.std.specs.FinMap as fin
-use Rattle.std.specs.Prelude.{nat_le}
-use Rattle.std.specs.List.{All, list_all}
-use Rattle.std.specs.Ordering.{eq_by_cmp}
-use Rattle.std.proofs.lemmas.Bool.{and_parts, eq-eqb}
-use Rattle.net_names.specs.Addresses.{AddrValue, addr_cmp}
-use Rattle.as_graph.specs.Topology.{as_count}
+use Rattle.std.specs.List.{All}
+use Rattle.net_names.specs.Addresses.{AddrValue}
 use Rattle.policy_kinds.specs.declared.kind.Kind.{Kind}
-use Rattle.stability_laws.specs.Book.{policy_at}
 use Rattle.stability_laws.specs.Plans.{announcers_of}
 use Rattle.sim_core.specs.Bases.{base_world}
-use Rattle.sim_core.specs.World.{World, topology}
+use Rattle.sim_core.specs.World.{World}
 use Rattle.sweep.specs.Swept.{Appends, IsSwept}
 use Rattle.trial_world.specs.Sweeps.{AreNumbers, as_set, with_kinds}
 use Rattle.trial_world.specs.Trials.{is_of_line}

@@ -1,4 +1,4 @@
-use Rattle.std.proofs.Common.{◌≡◌, ◌∙◌, ℕ, ap, sym, subst}
+use Rattle.std.proofs.Common.{◌∙◌, ap, sym, subst}
 use Rattle.sim_core.specs.Bases.{base_world}
 use Rattle.sim_core.specs.Lent.{IsGraphOf}
 use Rattle.sim_core.specs.declared.base.Base.{Base}

@@ -1,4 +1,4 @@
-use Rattle.std.proofs.Common.{◌≡◌, ◌∙◌, ◌≤◌, ℕ, Some, None, false, is_some, ap, sym, subst}
+use Rattle.std.proofs.Common.{◌≡◌, ◌∙◌, ℕ, is_some, ap, sym, subst}
 use Rattle.net_names.specs.Prefixes.{PrefixValue}
 use Rattle.path_pool.specs.declared.pool.PathPool.{PathPool}
 use Rattle.origin_validation.specs.Judging.{state_of}
@@ -8,9 +8,8 @@ use Rattle.route_choice.specs.RoundTables.{round_routing, table_at}
 use Rattle.stability_laws.specs.Plans.{Plan, announces, has_prefix}
 use Rattle.stability_laws.specs.Rounds.{AreRounds}
 use Rattle.stability_laws.specs.World.{setting}
-use Rattle.leak_round.specs.Rounds.{kept, plan_of}
+use Rattle.leak_round.specs.Rounds.{kept}
 use Rattle.data_trace.specs.Indexes.{has_as}
-use Rattle.data_trace.specs.Views.{rows_of}
 use Rattle.data_trace.proofs.Inside.{ok_gives}
 use Rattle.sim_core.proofs.Hops.{same_rows}
 use Rattle.trial_world.specs.Fixed.{world_of}
