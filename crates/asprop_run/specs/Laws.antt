@@ -2,8 +2,8 @@
 use Rattle.std.specs.Prelude.{◌≡◌, ◌↔◌, ◌≤◌, ◌<◌, ◌+◌, ◌*◌, ◌^◌, ◌⊎◌, ℕ, zero, suc, Bool, true, false, not, filter, length, List, [], ◌∷◌, ◌++◌, Option, Some, Ok}
 use Rattle.std.specs.Option.{is_some}
 use Rattle.clap.specs.Walk.{Text}
-use Rattle.scenario_text.specs.declared.acts.Act.{Act}
 use Rattle.scenario_text.specs.declared.acts.Act.TheVariants as act
+use Rattle.scenario_text.specs.declared.acts.Edit.{Edit}
 use Rattle.scenario_text.specs.declared.acts.Query.TheVariants.{Routes}
 use Rattle.activations.specs.Named.{AreSound}
 use Rattle.activations.specs.Pieces.{IsMostPieces}
@@ -28,7 +28,8 @@ use Rattle.asprop_run.specs.Delivering.{message_rows}
 use Rattle.asprop_run.specs.Inside.{AreInside, IsInside}
 use Rattle.asprop_run.specs.Settling.{settled_rows}
 use Rattle.task_reading.specs.Jobs.{Job, acts_job, line_job, messages_job, tables_job}
-use Rattle.asprop_run.specs.Replies.{AnswersJob, AnswersJobs}
+use Rattle.asprop_run.specs.Refusals.{edit_refusal}
+use Rattle.asprop_run.specs.Replies.{AnswersJob, AnswersJobs, head}
 use Rattle.asprop_run.specs.Runs.{IsRun}
 use Rattle.asprop_run.specs.Streams.{Stream, stream_of}
 use Rattle.task_reading.specs.Sources.{Source, source_of}
@@ -41,24 +42,25 @@ EachRun {I} {O} {E} holds sound faults written out_faults said err_faults Holds 
     → IsRun (source_of holds sound faults old new) words s (stream_of written out_faults out after) (stream_of said err_faults err told)
     → Holds (source_of holds sound faults old new) words s (stream_of written out_faults out after) (stream_of said err_faults err told)
 
--- what a line asks is an edit that is refused for a provider cycle
-abbrev pub ClosesAct : World → Act → Type 0
-ClosesAct w (act.Edit e) = (cycle : List ℕ) × IsReason w e (edit.ProviderCycle cycle)
-ClosesAct w (act.Query q) = ⊥
+-- behind these bytes the text refuses the edit for a provider cycle that its link closes (own format)
+abbrev pub TellsCycle : World → Edit → Text → Text → Type 0
+TellsCycle w e front s = (cycle : List ℕ) × IsReason w e (edit.ProviderCycle cycle) × (s ≡ front ++ edit_refusal (edit.ProviderCycle cycle))
 
--- the job is a line that asks so
-abbrev pub ClosesCycle : World → Job → Type 0
-ClosesCycle w (line_job heads line) = ClosesAct w line.act
-ClosesCycle w job = ⊥
+-- two texts of one job are the same; or the job is a line whose edit both refuse, each for a provider cycle that its link closes, of which there may be several
+abbrev pub IsOneButForCycle : World → Job → Text → Text → Type 0
+IsOneButForCycle w (line_job heads line) s t = (s ≡ t)
+    ⊎ ((e : Edit) × (line.act ≡ act.Edit e) × TellsCycle w e (head heads line.number) s × TellsCycle w e (head heads line.number) t)
+IsOneButForCycle w job s t = s ≡ t
 
--- no job is refused for a provider cycle
-abbrev pub NoneCloses : World → List Job → Type 0
-NoneCloses w [] = Unit {0}
-NoneCloses w (job ∷ jobs) = (ClosesCycle w job → ⊥) × ((text : Text) (refused : Bool) (after : World) → AnswersJob w job text refused after → NoneCloses after jobs)
+-- two texts that answer jobs are so job by job, each in the world that the jobs before it leave
+abbrev pub AreOneByJob : World → List Job → Text → Text → Type 0
+AreOneByJob w [] s t = (s ≡ []) × (t ≡ [])
+AreOneByJob w (job ∷ jobs) s t = (a b c d : Text) × (refused : Bool) × (after : World) × AnswersJob w job a refused after
+    × IsOneButForCycle w job a b × AreOneByJob after jobs c d × (s ≡ a ++ c) × (t ≡ b ++ d)
 
--- all texts that answer jobs, of a world that has all that they name, agree on whether an answer is a refusal; and where no line is refused for a provider cycle, of which there may be several to print, they are one text
+-- all texts that answer jobs, of a world that has all that they name, agree on whether an answer is a refusal, and job by job they are one text, but where both refuse the same link for a provider cycle
 abbrev pub OneText : Type 0
-OneText = (w : World) (jobs : List Job) (s t : Text) (r q : Bool) → AreInside w jobs → AnswersJobs w jobs s r → AnswersJobs w jobs t q → (r ≡ q) × (NoneCloses w jobs → s ≡ t)
+OneText = (w : World) (jobs : List Job) (s t : Text) (r q : Bool) → AreInside w jobs → AnswersJobs w jobs s r → AnswersJobs w jobs t q → (r ≡ q) × AreOneByJob w jobs s t
 
 -- activations with twice as many full pieces as the longest chain has ASes end in the routing that is kept: their text is the rows of the query for the routes of the round and the prefix, and then says that the routing is stable (Gao and Rexford 2001)
 abbrev pub OrdersSettle : Type 0

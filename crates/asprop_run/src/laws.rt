@@ -16,9 +16,9 @@ pub fn told_files_are_answered<I: Inputs, O: Sink, E: Sink>()
     ensures complete { EachRun I.holds I.is_sound I.faults O.written O.faults E.written E.faults IsComplete }
 {}
 
-/// All texts that answer jobs over one world, which has all that they name, agree on whether an answer is a refusal. They
-/// are one text where no edit is refused for a provider cycle; such a link may close several cycles, of which an answer
-/// names one.
+/// All texts that answer jobs over one world, which has all that they name, agree on whether an answer is a refusal. Job by
+/// job they are one text, but where both refuse the same link for a provider cycle: it may close several cycles, of which an
+/// answer names one.
 pub fn answers_are_one_text()
     ensures { OneText }
 {
