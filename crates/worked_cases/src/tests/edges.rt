@@ -1,14 +1,14 @@
 //! Files and streams of the system, in whose place stand some that fail, are slow or are interrupted.
 ghost use Rattle.std.specs.Prelude.{IsErr};
 
-use io_edge::{DirInputs, Failed, Inputs, ReadAllError, StdSink, read_all, write_all};
+use io_edge::{DirInputs, ReadAllError, StdSink, read_all, write_all};
 use std::alloc::{Allocator, Global};
 use std::fs::{Metadata, OpenFile, OpenOptions};
+use std::io;
 use std::io::{ErrorKind, Read, Seek, SeekFrom, Write};
 use std::process::Abort;
 use std::rt::Files;
 use std::test::Fail;
-use std::{fs, io};
 
 const TEXT: &[u8] = b"1|2|-1\n1|3|-1\n";
 
@@ -186,49 +186,24 @@ impl Write for SlowStream {
 }
 
 // The file of which the calls of these numbers fail and are interrupted is read whole, or a read of it fails.
-fn check_read(
-    rt: &impl Abort,
-    alloc: Global,
-    fails: u64,
-    interrupted: u64,
-    whole: bool,
-) -> Result<(), Fail> {
+fn check_read(rt: &impl Abort, alloc: Global, fails: u64, interrupted: u64, whole: bool) {
     let mut inputs = DirInputs::new(SlowFiles {
         calls: Calls::of(fails, interrupted),
     });
     match read_all(alloc, &mut inputs, "rel", 14) {
-        Ok(bytes) => {
-            assert!(rt; whole, "call {fails} fails, {interrupted} is interrupted");
-            assert_eq!(rt; bytes.as_slice(), TEXT);
-        }
-        Err(error) => {
-            assert!(rt; !whole, "call {fails} fails, {interrupted} is interrupted");
-            assert_eq!(rt; error, ReadAllError::ReadFault);
-        }
+        Ok(bytes) => assert!(rt; whole && bytes.as_slice() == TEXT),
+        Err(error) => assert!(rt; !whole && error == ReadAllError::ReadFault),
     }
-    Ok(())
 }
 
 #[test]
-fn a_file_that_fails_in_the_middle_does_not_end_there(rt: HostRuntime) -> Result<(), Fail> {
+fn a_file_that_fails_in_the_middle_does_not_end_there(rt: HostRuntime) {
     // Each of 14 calls gives a byte, and one more tells the end.
     for call in 1..17u64 {
-        check_read(&rt, rt.alloc(), call, 0, call == 16)?;
-        check_read(&rt, rt.alloc(), 0, call, true)?;
-        check_read(&rt, rt.alloc(), call.saturating_add(1), call, call == 16)?;
+        check_read(&rt, rt.alloc(), call, 0, call == 16);
+        check_read(&rt, rt.alloc(), 0, call, true);
+        check_read(&rt, rt.alloc(), call.saturating_add(1), call, call == 16);
     }
-    Ok(())
-}
-
-#[test]
-fn a_folder_is_begun_and_not_read(rt: HostRuntime) -> Result<(), Fail> {
-    fs::create_dir(&rt, "io_edge_folder")?;
-    let mut inputs = DirInputs::new(rt);
-    assert_eq!(rt; inputs.begin("io_edge_folder"), Ok(()));
-    assert_eq!(rt; inputs.take(&mut [0u8; 4]), Err(Failed));
-    assert_eq!(rt; inputs.take(&mut [0u8; 4]), Err(Failed));
-    fs::remove_dir(&rt, "io_edge_folder")?;
-    Ok(())
 }
 
 // A stream of which the calls of these numbers fail and are interrupted gets so many of the bytes, each once.
@@ -246,12 +221,8 @@ fn check_written(
     let mut sink = StdSink::new(&mut stream);
     let written = write_all(&mut sink, TEXT);
     drop(sink);
-    assert_eq!(rt;
-        written.is_ok(),
-        count == 14,
-        "call {fails} fails, {interrupted} is interrupted"
-    );
-    assert_eq!(rt; Some(stream.kept.as_slice()), TEXT.get(..count));
+    assert!(rt; written.is_ok() == (count == 14));
+    assert!(rt; Some(stream.kept.as_slice()) == TEXT.get(..count));
     Ok(())
 }
 

@@ -1,141 +1,62 @@
-//! A small graph worked by hand, and graphs at the limits.
-ghost use Rattle.std.specs.Prelude.{◌≤◌};
-
-use super::worlds::{ACROSS, DOWN, graph_of, number};
-use as_graph::{
-    Graph, GraphError, fitting_are_ranks, links_are_set, links_are_sound, one_rank, ranks_fit,
-};
-use net_names::{Asn, Links, Rel};
-use std::alloc::Global;
+//! Several cycles, of which any may be told, and the ASes of a graph by number, by place and by rank.
+use super::worlds::{graph_of, number, ranks_of};
+use as_graph::Graph;
+use cycle_check::find_cycle;
+use net_names::Rel;
+use rank_order::by_rank;
 use std::process::Abort;
-use std::test::Fail;
 
-// The graph of the links 1|2, 1|3, 2|4 and 3|4, provider first, with 9 marked.
-fn diamond(rt: &impl Abort, alloc: Global) -> Result<Graph, Fail> {
-    let links = [(3, 4, DOWN), (1, 2, DOWN), (2, 4, DOWN), (1, 3, DOWN)];
-    let mut graph = graph_of(rt, alloc, &links)?;
-    for n in [9, 9, 2] {
-        graph.mark(number(n)?)?;
-    }
-    Ok(graph)
+#[test]
+fn one_of_two_cycles_is_told(rt: HostRuntime) {
+    let links = b"30|10|-1\n10|20|-1\n20|30|-1\n6|4|-1\n4|5|-1\n5|6|-1\n";
+    let graph = graph_of(&rt, rt.alloc(), links);
+    let found = find_cycle(rt.alloc(), &graph).expect(&rt, "memory");
+    let cycle = found.expect(&rt, "a cycle");
+    let told = cycle.as_slice();
+    assert!(rt; told.len() == 3);
+    let numbers = (told[0].get(), told[1].get(), told[2].get());
+    assert!(rt; numbers == (10, 20, 30) || numbers == (4, 5, 6));
 }
 
-// The neighbours of an AS are these, in this order.
-fn expect_neighbours(rt: &impl Abort, graph: &Graph, a: Asn, expected: &[(u32, Rel)]) {
-    let found = graph.neighbours(a);
-    assert_eq!(rt; found.len(), expected.len());
-    for (neighbour, (b, rel)) in found.iter().zip(expected.iter()) {
-        assert!(rt; neighbour.asn.get() == *b && neighbour.rel == *rel);
-        assert_eq!(rt; graph.rel(a, neighbour.asn), Some(*rel));
-    }
-    assert!(rt; graph.rel(a, a).is_none());
+fn expect_ases(rt: &impl Abort, graph: &Graph) {
+    let (two, five, nine) = (number(rt, 2), number(rt, 5), number(rt, 9));
+    assert!(rt; graph.ases() == [two, five, nine].as_slice());
+    assert!(rt; graph.next(None) == Some(two) && graph.next(Some(nine)).is_none());
+    assert!(rt; graph.next(Some(five)) == Some(nine) && graph.has(five));
+    assert!(rt; graph.as_count() == 3 && graph.link_count() == 2);
+}
+
+fn expect_neighbours(rt: &impl Abort, graph: &Graph) {
+    let (two, nine) = (number(rt, 2), number(rt, 9));
+    let neighbours = graph.neighbours(two);
+    assert!(rt; neighbours.len() == 2);
+    assert!(rt; neighbours[0].asn.get() == 5 && neighbours[0].rel == Rel::Peer);
+    assert!(rt; neighbours[1].asn.get() == 9 && neighbours[1].rel == Rel::Provider);
+    assert!(rt; graph.rel(nine, two) == Some(Rel::Customer) && graph.rel(two, two).is_none());
+}
+
+// Hints may miss.
+fn expect_places(rt: &impl Abort, graph: &Graph) {
+    let (two, nine) = (number(rt, 2), number(rt, 9));
+    assert!(rt; graph.place_near(nine, 0) == 2 && graph.place_near(two, 2) == 0);
+    assert!(rt; graph.neighbours_near(two, 2) == graph.neighbours(two));
+    assert!(rt; graph.rows().len() == 3 && graph.neighbour_places(2) == [0].as_slice());
 }
 
 #[test]
-fn neighbours_of_a_diamond_are_seen_from_both_ends(rt: HostRuntime) -> Result<(), Fail> {
-    let rows: [(Asn, &[(u32, Rel)]); 6] = [
-        (number(1)?, &[(2, Rel::Customer), (3, Rel::Customer)]),
-        (number(2)?, &[(1, Rel::Provider), (4, Rel::Customer)]),
-        (number(3)?, &[(1, Rel::Provider), (4, Rel::Customer)]),
-        (number(4)?, &[(2, Rel::Provider), (3, Rel::Provider)]),
-        (number(5)?, &[]),
-        (number(9)?, &[]),
-    ];
-    let graph = diamond(&rt, rt.alloc())?;
-    for (a, neighbours) in &rows {
-        expect_neighbours(&rt, &graph, *a, *neighbours);
-    }
-    Ok(())
-}
-
-// The ASes of a graph are these, and each comes behind the one before.
-fn expect_ases(rt: &impl Abort, graph: &Graph, expected: &[Asn]) {
-    assert_eq!(rt; graph.ases(), expected);
-    let mut last = None;
-    for asn in expected {
-        last = graph.next(last);
-        assert!(rt; last == Some(*asn) && graph.has(*asn));
-    }
-    assert!(rt; graph.next(last).is_none());
-    assert_eq!(rt; graph.as_count(), expected.len());
+fn ases_and_neighbours_come_in_rising_order_and_are_found_by_hints(rt: HostRuntime) {
+    let graph = graph_of(&rt, rt.alloc(), b"9|2|-1\n5|2|0\n");
+    expect_ases(&rt, &graph);
+    expect_neighbours(&rt, &graph);
+    expect_places(&rt, &graph);
 }
 
 #[test]
-fn ases_of_a_diamond_come_in_rising_order(rt: HostRuntime) -> Result<(), Fail> {
-    let ases = [number(1)?, number(2)?, number(3)?, number(4)?, number(9)?];
-    let (five, nine) = (number(5)?, number(9)?);
-    let graph = diamond(&rt, rt.alloc())?;
-    expect_ases(&rt, &graph, &ases);
-    assert!(rt; graph.next(Some(five)) == Some(nine) && !graph.has(five));
-    assert_eq!(rt; graph.link_count(), 4);
-    Ok(())
-}
-
-// The neighbours of the AS in this row are found near any place, and their rows are told.
-fn expect_places(rt: &impl Abort, graph: &Graph, place: usize, a: Asn) {
-    let neighbours = graph.neighbours(a);
-    assert_eq!(rt; graph.place_near(a, 0), place);
-    assert!(rt; graph.neighbours_near(a, place) == neighbours);
-    assert!(rt; graph.neighbours_near(a, 2) == neighbours);
-    let places = graph.neighbour_places(place);
-    assert_eq!(rt; places.len(), neighbours.len());
-    for (neighbour, there) in neighbours.iter().zip(places.iter()) {
-        assert_eq!(rt;
-            graph.rows().get(*there as usize).copied(),
-            Some(neighbour.asn)
-        );
-    }
-}
-
-#[test]
-fn neighbours_are_found_near_any_place(rt: HostRuntime) -> Result<(), Fail> {
-    let graph = diamond(&rt, rt.alloc())?;
-    assert_eq!(rt; graph.rows().len(), 5);
-    for (place, a) in graph.rows().iter().enumerate() {
-        expect_places(&rt, &graph, place, *a);
-    }
-    Ok(())
-}
-
-// So many links of two ASes that no other link has.
-fn disjoint(rt: &impl Abort, alloc: Global, count: u32) -> Result<Links, Fail>
-    requires { count ≤ 1000000 }
-{
-    let mut links = Links::new(alloc);
-    for i in 0..count {
-        let (a, b) = (number(i * 2 + 1)?, number(i * 2 + 2)?);
-        assert!(rt; a != b);
-        links.set(a, b, ACROSS)?;
-    }
-    Ok(links)
-}
-
-#[test]
-fn no_as_is_marked_or_linked_past_150000(rt: HostRuntime) -> Result<(), Fail> {
-    let new = number(150_001)?;
-    let links = disjoint(&rt, rt.alloc(), 75_000)?;
-    let mut graph = Graph::build(rt.alloc(), &links)?;
-    assert_eq!(rt; graph.as_count(), 150_000);
-    assert!(rt; graph.mark(new) == Err(GraphError::TooManyAses));
-    let one = number(1)?;
-    assert!(rt; one != new);
-    assert!(rt; graph.link(one, new, DOWN) == Err(GraphError::TooManyAses));
-    Ok(())
-}
-
-#[test]
-fn links_of_more_than_150000_ases_are_refused(rt: HostRuntime) -> Result<(), Fail> {
-    let links = disjoint(&rt, rt.alloc(), 75_001)?;
-    let fault = Graph::build(rt.alloc(), &links).err();
-    assert!(rt; fault == Some(GraphError::TooManyAses));
-    Ok(())
-}
-
-#[test]
-fn laws_of_graphs_are_called() {
-    fitting_are_ranks();
-    ranks_fit();
-    one_rank();
-    links_are_sound();
-    links_are_set();
+fn each_as_comes_behind_its_customers(rt: HostRuntime) {
+    let (one, two, three) = (number(&rt, 1), number(&rt, 2), number(&rt, 3));
+    let graph = graph_of(&rt, rt.alloc(), b"1|2|-1\n2|3|-1\n");
+    let ranks = ranks_of(&rt, rt.alloc(), &graph);
+    let ases = by_rank(rt.alloc(), &graph, &ranks).expect(&rt, "memory");
+    assert!(rt; ases.as_slice() == [three, two, one].as_slice());
+    assert!(rt; ranks.rank(one) == 2 && ranks.rank(number(&rt, 7)) == 0);
 }

@@ -1,22 +1,16 @@
-//! The table of the kinds, worked by hand, and their names.
+//! The table of the kinds, worked by hand.
 use super::worlds::{likes, takes, view};
 use net_names::{Asn, Class, Rel, State};
-use policy_kinds::{Kind, put_kind, read_kind};
-use policy_laws::{Labelled, RoutePolicy};
-use std::test::Fail;
-
-// What the bound gives, so that the call goes through the trait.
-fn group<P: Labelled>(policy: &P) -> u8 {
-    policy.label()
-}
+use policy_kinds::Kind;
+use policy_laws::RoutePolicy;
 
 #[test]
-fn kinds_rank_as_their_table_says(rt: HostRuntime) -> Result<(), Fail> {
-    let customer = view(Rel::Customer, 9, 5, State::Invalid, None)?;
-    let peer = view(Rel::Peer, 8, 2, State::Valid, None)?;
-    let provider = view(Rel::Provider, 7, 2, State::Valid, None)?;
-    let shorter = view(Rel::Peer, 9, 1, State::NotFound, None)?;
-    let lower = view(Rel::Peer, 2, 2, State::Valid, None)?;
+fn kinds_rank_as_their_table_says(rt: HostRuntime) {
+    let customer = view(&rt, Rel::Customer, 9, 5, State::Invalid, None);
+    let peer = view(&rt, Rel::Peer, 8, 2, State::Valid, None);
+    let provider = view(&rt, Rel::Provider, 7, 2, State::Valid, None);
+    let shorter = view(&rt, Rel::Peer, 9, 1, State::NotFound, None);
+    let lower = view(&rt, Rel::Peer, 2, 2, State::Valid, None);
     for kind in [
         Kind::Plain,
         Kind::DropInvalid,
@@ -33,18 +27,17 @@ fn kinds_rank_as_their_table_says(rt: HostRuntime) -> Result<(), Fail> {
     assert!(rt; likes(&Kind::ProviderFirst, &provider, &peer));
     assert!(rt; likes(&Kind::Plain, &shorter, &peer));
     assert!(rt; likes(&Kind::PreferValid, &peer, &shorter));
-    Ok(())
 }
 
 #[test]
-fn kinds_accept_and_export_as_their_table_says(rt: HostRuntime) -> Result<(), Fail> {
+fn kinds_accept_and_export_as_their_table_says(rt: HostRuntime) {
     let eight = Asn::new(8);
     let nine = Asn::new(9);
-    let invalid = view(Rel::Provider, 8, 2, State::Invalid, None)?;
-    let not_found = view(Rel::Provider, 8, 2, State::NotFound, None)?;
-    let leaked = view(Rel::Customer, 8, 2, State::NotFound, nine)?;
-    let own = view(Rel::Peer, 8, 2, State::NotFound, eight)?;
-    let other = view(Rel::Peer, 8, 2, State::NotFound, nine)?;
+    let invalid = view(&rt, Rel::Provider, 8, 2, State::Invalid, None);
+    let not_found = view(&rt, Rel::Provider, 8, 2, State::NotFound, None);
+    let leaked = view(&rt, Rel::Customer, 8, 2, State::NotFound, nine);
+    let own = view(&rt, Rel::Peer, 8, 2, State::NotFound, eight);
+    let other = view(&rt, Rel::Peer, 8, 2, State::NotFound, nine);
     assert!(rt; !takes(&Kind::DropInvalid, &invalid) && takes(&Kind::DropInvalid, &not_found));
     assert!(rt; takes(&Kind::PreferValid, &invalid) && takes(&Kind::Plain, &leaked));
     assert!(rt;
@@ -58,27 +51,4 @@ fn kinds_accept_and_export_as_their_table_says(rt: HostRuntime) -> Result<(), Fa
     assert!(rt; Kind::Otc.exports(Class::Origin, None, Rel::Peer));
     assert!(rt; Kind::Otc.marks() && !Kind::Plain.marks());
     assert!(rt; Kind::PreferValid.reads_state() && !Kind::ProviderFirst.reads_state());
-    Ok(())
-}
-
-#[test]
-fn names_are_read_and_printed_and_labels_rise(rt: HostRuntime) -> Result<(), Fail> {
-    let rows: [(&[u8], u8); 6] = [
-        (b"plain", 0),
-        (b"drop-invalid", 1),
-        (b"prefer-valid", 2),
-        (b"provider-first", 3),
-        (b"otc", 4),
-        (b"drop-invalid+otc", 5),
-    ];
-    for row in &rows {
-        let kind = read_kind(row.0).ok_or("a kind")?;
-        assert_eq!(rt; group(&kind), row.1);
-        let mut out = Vec::new(rt.alloc());
-        put_kind(&mut out, kind)?;
-        assert!(rt; out.as_slice() == row.0);
-    }
-    assert!(rt; read_kind(b"Plain").is_none());
-    assert!(rt; read_kind(b"drop-invalid+").is_none());
-    Ok(())
 }

@@ -10,7 +10,7 @@ pub returns : goal.returns
 returns c = record {
   changes = record {
     held = λ k. omega (arith, c.new-table.ensures.uses k, c.in_ok-room.ensures.uses k, c.new-overlay.ensures.uses k);
-    seeds_live = λ a s e. elim (cases_eq a c.in_ok-four.four) [
+    seeds_live = λ a s e. elim (cases_eq a c.args.four) [
       | inl same ↦
           let mine : SeedHeld = record { path = c.cons-path.result; otc = None } in
           let there : seed_at c.put.new.self a ≡ Some mine = ap (seed_at c.put.new.self) same ∙ c.in_ok-put.ensures.this in
