@@ -86,10 +86,14 @@ module _ (answer : OneAnswer) (count : OneCount) (reason : OneReason) (right : O
   line_agrees heads w line s t r q x y h g =
       let front : Text = head heads line.number in
       let reply = reply_agrees w h.0 g.0 line.act h.2 g.2 r q x y h.1 g.1 h.3 g.3 in
-      record { refused = reply.refused; after = reply.after; text = elim reply.text [
-        | inl same ↦ inl (h.4 ∙ ap (λ text. front ++ text) same ∙ sym g.4)
-        | inr both ↦ inr (both.0, both.1, behind w both.0 front h.2 s both.2 h.4, behind w both.0 front g.2 t both.3 g.4)
-      ] }
+      record {
+        refused = reply.refused;
+        after = reply.after;
+        text = elim reply.text [
+          | inl same ↦ inl (h.4 ∙ ap (λ text. front ++ text) same ∙ sym g.4)
+          | inr both ↦ inr (both.0, both.1, behind w both.0 front h.2 s both.2 h.4, behind w both.0 front g.2 t both.3 g.4)
+        ];
+      }
 
   -- two answers to a job
   job_agrees : (w : World) (job : Job) (s t : Text) (r q : Bool) (x y : World) → IsInside w job → AnswersJob w job s r x → AnswersJob w job t q y → Agree (IsOneButForCycle w job s t) r q x y
