@@ -10,6 +10,7 @@ mod narrow_policy;
 mod path_cells;
 mod relationship_files;
 mod right_routes;
+mod rounds;
 mod seeds;
 mod steps;
 mod tables;

@@ -12,7 +12,7 @@ use std::alloc::Global;
 use std::process::Abort;
 
 // AS 3 leaks what it has from a provider.
-const LEAK: &[u8] = b"1|3|-1\n2|3|-1\n1|5|-1\n1|2|0\n";
+pub(super) const LEAK: &[u8] = b"1|3|-1\n2|3|-1\n1|5|-1\n1|2|0\n";
 
 const SCENARIO: &[u8] =
     br#"{"announcements":[{"prefix":"10.0.0.0/8","as":5}],"leaks":[[3]],"watch":["10.0.0.1"]}"#;
@@ -40,7 +40,7 @@ fn leak(rt: &impl Abort, alloc: Global) -> Sim {
 }
 
 // The world of these links with the scenario of the leak, of which nothing is kept.
-fn base_of(rt: &impl Abort, alloc: Global, links: &[u8]) -> Result<Base, LoadError> {
+pub(super) fn base_of(rt: &impl Abort, alloc: Global, links: &[u8]) -> Result<Base, LoadError> {
     let links = read_links(alloc, links).expect(rt, "links");
     let (vrps, scenario) = (no_payloads(rt, alloc), leak_scenario(rt, alloc));
     Base::load(alloc, links, vrps, scenario)
