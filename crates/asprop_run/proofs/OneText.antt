@@ -25,7 +25,7 @@ use Rattle.stability_laws.specs.Laws.{OneAnswer as OneRight}
 use Rattle.table_check.specs.Laws.{OneVerdict}
 
 -- two replies to one line are the same, or both are the refusal of its edit for a provider cycle
-SameReply : World → Act → Text → Text → Type 0
+abbrev SameReply : World → Act → Text → Text → Type 0
 SameReply w a s t = (s ≡ t) ⊎ ((e : Edit) × (a ≡ act.Edit e) × TellsCycle w e [] s × TellsCycle w e [] t)
 
 -- two texts of one job: both refuse or neither does, both leave one world, and they are alike
