@@ -25,10 +25,13 @@ use Rattle.message_sim.specs.declared.reading.DeliveriesError.{DeliveriesError}
 use Rattle.message_sim.specs.declared.reading.DeliveriesError.TheVariants as deliveries
 use Rattle.task_reading.specs.declared.words.FileOption.{FileOption}
 use Rattle.task_reading.specs.declared.words.FileOption.TheVariants as option
+use Rattle.sweep.specs.Reading.{sweeps_of}
+use Rattle.sweep.specs.declared.reading.SweepsError.{SweepsError}
+use Rattle.sweep.specs.declared.reading.SweepsError.TheVariants as sweeps
 use Rattle.table_check.specs.Reading.{tables_by}
 use Rattle.table_check.specs.declared.reading.TablesError.{TablesError}
 use Rattle.table_check.specs.declared.reading.TablesError.TheVariants as tables
-use Rattle.task_reading.specs.Jobs.{acts_job, line_job, messages_job, tables_job}
+use Rattle.task_reading.specs.Jobs.{acts_job, line_job, messages_job, sweep_job, tables_job}
 use Rattle.task_reading.specs.Asking.{Reads, asked, jobs_in, most_bytes, read_as, bytes_of}
 use Rattle.task_reading.specs.Words.{Form, origin_form, file_form, demo_form}
 use Rattle.task_reading.specs.declared.types.File.{File}
@@ -116,6 +119,11 @@ other_deliveries form which (deliveries.Unreadable n) = bad form _ refl
 other_deliveries form which (deliveries.TooMany n) = large form _ refl
 other_deliveries form which deliveries.NoFor = bad form _ refl
 
+pub other_sweeps : (form : Option Form) (which : File) (e : SweepsError) → IsOther form (fault.InFile which (cause.Sweeps e))
+other_sweeps form which sweeps.Memory = bad form _ refl
+other_sweeps form which (sweeps.Unreadable n) = bad form _ refl
+other_sweeps form which (sweeps.TooMany n) = large form _ refl
+
 pub other_tables : (form : Option Form) (which : File) (e : TablesError) → IsOther form (fault.InFile which (cause.Tables e))
 other_tables form which tables.Memory = bad form _ refl
 other_tables form which (tables.Unreadable n) = bad form _ refl
@@ -132,6 +140,7 @@ other_jobs : (form : Option Form) (which : File) (o : FileOption) (bytes : List 
 other_jobs form which option.Script bytes c h = cause_by (map (line_job true)) cause.Script form which (other_script form which) (script_of bytes) c h
 other_jobs form which option.Activations bytes c h = cause_by (λ acts. acts_job acts ∷ []) cause.Acts form which (other_acts form which) (acts_of bytes) c h
 other_jobs form which option.Messages bytes c h = cause_by (λ deliveries. messages_job deliveries ∷ []) cause.Deliveries form which (other_deliveries form which) (deliveries_by (kept_from 1 bytes)) c h
+other_jobs form which option.Sweep bytes c h = cause_by (map sweep_job) cause.Sweeps form which (other_sweeps form which) (sweeps_of bytes) c h
 other_jobs form which option.Check bytes c h = cause_by (λ t. tables_job t ∷ []) cause.Tables form which (other_tables form which) (tables_by (kept_from 1 bytes)) c h
 
 -- a line that names what isn't in the world

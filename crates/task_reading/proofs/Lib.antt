@@ -8,3 +8,4 @@ pub mod Faults
 pub mod Feeding
 pub mod NoPayloads
 pub mod Shapes
+pub mod FewSweeps

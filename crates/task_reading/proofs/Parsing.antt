@@ -11,7 +11,7 @@ use Rattle.clap.proofs.WalkLemmas.{first_value-rows}
 use Rattle.task_reading.specs.Command.{asprop_command}
 use Rattle.task_reading.specs.Words.{Form, form_by, form_of}
 use Rattle.task_reading.specs.declared.words.FileOption.{FileOption}
-use Rattle.task_reading.specs.declared.words.FileOption.TheVariants.{Script, Activations, Messages, Check}
+use Rattle.task_reading.specs.declared.words.FileOption.TheVariants.{Script, Activations, Messages, Sweep, Check}
 
 -- the faults that the command finds in the words
 unfoldable pub faults_in : List Text → Kinds
@@ -22,14 +22,14 @@ unfoldable pub rows_in : List Text → List Row
 rows_in words = matches_of asprop_command words
 
 -- the options with a file that stand, by the values of all of them
-abbrev pub files_of : (script activations messages check : Option Text) → List (FileOption × Text)
-files_of script activations messages check = cons_option (option_map (λ (name : Text). (Script, name)) script)
-    (cons_option (option_map (λ (name : Text). (Activations, name)) activations) (cons_option (option_map (λ (name : Text). (Messages, name)) messages) (cons_option (option_map (λ (name : Text). (Check, name)) check) [])))
+abbrev pub files_of : (script activations messages sweep check : Option Text) → List (FileOption × Text)
+files_of script activations messages sweep check = cons_option (option_map (λ (name : Text). (Script, name)) script)
+    (cons_option (option_map (λ (name : Text). (Activations, name)) activations) (cons_option (option_map (λ (name : Text). (Messages, name)) messages) (cons_option (option_map (λ (name : Text). (Sweep, name)) sweep) (cons_option (option_map (λ (name : Text). (Check, name)) check) []))))
 
 -- the form of these values
 abbrev form_by_rows : List Row → Option Form
 form_by_rows rows =
-    form_by (files_of (first_of (codes "script") rows) (first_of (codes "activations") rows) (first_of (codes "messages") rows) (first_of (codes "check") rows))
+    form_by (files_of (first_of (codes "script") rows) (first_of (codes "activations") rows) (first_of (codes "messages") rows) (first_of (codes "sweep") rows) (first_of (codes "check") rows))
     (first_of (codes "rel") rows) (first_of (codes "vrps") rows) (first_of (codes "scenario") rows)
     (first_of (codes "origin") rows) (first_of (codes "demo") rows)
 
@@ -88,11 +88,11 @@ pub stands : (m : ArgMatches) (rows : List Row) (id : Text) → rows_of (found_o
 stands m rows id is = first_value-rows (found_of m) id ∙ ap (first_of id) is
 
 -- words without a fault have the form of their values
-pub accepted : (words : List Text) (rel vrps scenario script activations messages check origin demo : Option Text) (form : Option Form) → faults_in words ≡ []
+pub accepted : (words : List Text) (rel vrps scenario script activations messages sweep check origin demo : Option Text) (form : Option Form) → faults_in words ≡ []
     → rel ≡ first_of (codes "rel") (rows_in words) → vrps ≡ first_of (codes "vrps") (rows_in words) → scenario ≡ first_of (codes "scenario") (rows_in words)
     → script ≡ first_of (codes "script") (rows_in words) → activations ≡ first_of (codes "activations") (rows_in words) → messages ≡ first_of (codes "messages") (rows_in words)
-    → check ≡ first_of (codes "check") (rows_in words)
+    → sweep ≡ first_of (codes "sweep") (rows_in words) → check ≡ first_of (codes "check") (rows_in words)
     → origin ≡ first_of (codes "origin") (rows_in words) → demo ≡ first_of (codes "demo") (rows_in words)
-    → form ≡ form_by (files_of script activations messages check) rel vrps scenario origin demo → form ≡ form_of words
-accepted words rel vrps scenario script activations messages check origin demo form takes rel_is vrps_is scenario_is script_is activations_is messages_is check_is origin_is demo_is form_is =
-    rw (form_of-in words, takes, form_is, rel_is, vrps_is, scenario_is, script_is, activations_is, messages_is, check_is, origin_is, demo_is) refl
+    → form ≡ form_by (files_of script activations messages sweep check) rel vrps scenario origin demo → form ≡ form_of words
+accepted words rel vrps scenario script activations messages sweep check origin demo form takes rel_is vrps_is scenario_is script_is activations_is messages_is sweep_is check_is origin_is demo_is form_is =
+    rw (form_of-in words, takes, form_is, rel_is, vrps_is, scenario_is, script_is, activations_is, messages_is, sweep_is, check_is, origin_is, demo_is) refl

@@ -20,8 +20,9 @@ use Rattle.topo_gen.specs.Lines.{drawn_lines}
 use Rattle.activations.specs.Files.{acts_of}
 use Rattle.message_sim.specs.Files.{deliveries_by}
 use Rattle.net_names.specs.Lines.{kept_from}
+use Rattle.sweep.specs.Reading.{sweeps_of}
 use Rattle.table_check.specs.Reading.{tables_by}
-use Rattle.task_reading.specs.Jobs.{Job, acts_job, counts_job, line_job, messages_job, tables_job}
+use Rattle.task_reading.specs.Jobs.{Job, acts_job, counts_job, line_job, messages_job, sweep_job, tables_job}
 use Rattle.task_reading.specs.Words.{Form, file_form, origin_form, demo_form}
 use Rattle.task_reading.specs.declared.asking.Asked.{Asked}
 use Rattle.task_reading.specs.declared.reading.TheConstants.{MOST_LIST_BYTES, MOST_TEXT_BYTES}
@@ -53,6 +54,7 @@ abbrev pub jobs_in : FileOption → Text → Result (List Job) Cause
 jobs_in option.Script bytes = result_map_both (map (line_job true)) cause.Script (script_of bytes)
 jobs_in option.Activations bytes = result_map_both (λ a. acts_job a ∷ []) cause.Acts (acts_of bytes)
 jobs_in option.Messages bytes = result_map_both (λ d. messages_job d ∷ []) cause.Deliveries (deliveries_by (kept_from 1 bytes))
+jobs_in option.Sweep bytes = result_map_both (map sweep_job) cause.Sweeps (sweeps_of bytes)
 jobs_in option.Check bytes = result_map_both (λ t. tables_job t ∷ []) cause.Tables (tables_by (kept_from 1 bytes))
 
 -- how many bytes an option's file may have (own format)

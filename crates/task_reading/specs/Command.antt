@@ -4,8 +4,8 @@ use Rattle.clap.specs.Walk.{Rule, Text}
 use Rattle.clap.specs.Simple.{App, new_app, new_rule, on_top, with_rule}
 use Rattle.clap.specs.declared.builder.action.ArgAction.TheVariants.{Set}
 
--- the program's command: eight options with a value each and one word, each of which stands at most once and none of which must stand, and no options for help and for the version (own format)
+-- the program's command: nine options with a value each and one word, each of which stands at most once and none of which must stand, and no options for help and for the version (own format)
 unfoldable pub asprop_command : App
 asprop_command = let bare = on_top (λ s. record s { disable_help_flag = true; disable_version_flag = true }) (new_app (codes "asprop")) in
     let option : Text → Rule = λ n. record (new_rule n) { action = Some Set; long = Some n } in
-    fold with_rule bare (map option (map codes ("vrps" ∷ "scenario" ∷ "script" ∷ "origin" ∷ "demo" ∷ "activations" ∷ "messages" ∷ "check" ∷ [])) ++ record (new_rule (codes "rel")) { action = Some Set } ∷ [])
+    fold with_rule bare (map option (map codes ("vrps" ∷ "scenario" ∷ "script" ∷ "origin" ∷ "demo" ∷ "activations" ∷ "messages" ∷ "sweep" ∷ "check" ∷ [])) ++ record (new_rule (codes "rel")) { action = Some Set } ∷ [])

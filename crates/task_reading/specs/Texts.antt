@@ -13,10 +13,11 @@ use Rattle.scenario_text.specs.declared.faults.LimitOf.TheVariants.{Announcement
 use Rattle.scenario_text.specs.declared.faults.ScenarioError.TheVariants as scenario
 use Rattle.scenario_text.specs.declared.faults.ScenarioError.TheVariants.{Limit}
 use Rattle.scenario_text.specs.declared.script.ScriptError.TheVariants as script
+use Rattle.sweep.specs.declared.reading.SweepsError.TheVariants as sweeps
 use Rattle.table_check.specs.declared.reading.TablesError.TheVariants as tables
 use Rattle.task_reading.specs.Words.{Form, name_by}
 use Rattle.task_reading.specs.declared.types.Cause.{Cause}
-use Rattle.task_reading.specs.declared.types.Cause.TheVariants.{Unread, TooLong, Relation, Payload, Scenario, Script, Acts, Deliveries, Tables, NotInWorld}
+use Rattle.task_reading.specs.declared.types.Cause.TheVariants.{Unread, TooLong, Relation, Payload, Scenario, Script, Acts, Deliveries, Sweeps, Tables, NotInWorld}
 use Rattle.task_reading.specs.declared.types.Fault.{Fault}
 use Rattle.task_reading.specs.declared.types.Fault.TheVariants as fault
 use Rattle.task_reading.specs.declared.types.Fault.TheVariants.{InFile, TooManyAses}
@@ -68,6 +69,8 @@ cause_of (Acts acts.NoFor) = (BadInput, codes "no for line")
 cause_of (Deliveries (deliveries.Unreadable n)) = (BadInput, placed "line" n "unreadable")
 cause_of (Deliveries (deliveries.TooMany n)) = (TooLarge, placed "line" n "more than 1000000 deliveries")
 cause_of (Deliveries deliveries.NoFor) = (BadInput, codes "no for line")
+cause_of (Sweeps (sweeps.Unreadable n)) = (BadInput, placed "line" n "unreadable")
+cause_of (Sweeps (sweeps.TooMany n)) = (TooLarge, placed "line" n "more than 1000 sweeps")
 cause_of (Tables (tables.Unreadable n)) = (BadInput, placed "line" n "unreadable")
 cause_of (Tables (tables.Twice n)) = (BadInput, placed "line" n "named twice")
 cause_of (Tables tables.NoFor) = (BadInput, codes "no for line")
@@ -76,7 +79,7 @@ cause_of _ = (BadInput, [])
 
 -- the table of the faults that a run may end with, each with its status and its text; that of the words has the forms, a line each (own format)
 abbrev pub fault_ending : Option Form → Fault → Status × Text
-fault_ending form fault.Usage = (status.Usage, codes "usage: asprop REL [--vrps FILE] [--scenario FILE] [--script FILE]\n       asprop REL --origin N\n       asprop --demo N\n       asprop REL [--vrps FILE] [--scenario FILE] --activations FILE\n       asprop REL [--vrps FILE] [--scenario FILE] --messages FILE\n       asprop REL [--vrps FILE] [--scenario FILE] --check FILE\n")
+fault_ending form fault.Usage = (status.Usage, codes "usage: asprop REL [--vrps FILE] [--scenario FILE] [--script FILE]\n       asprop REL --origin N\n       asprop --demo N\n       asprop REL [--vrps FILE] [--scenario FILE] --activations FILE\n       asprop REL [--vrps FILE] [--scenario FILE] --messages FILE\n       asprop REL [--vrps FILE] [--scenario FILE] --sweep FILE\n       asprop REL [--vrps FILE] [--scenario FILE] --check FILE\n")
 fault_ending form TooManyAses = (TooLarge, message (codes "more than 150000 ASes"))
 fault_ending form (InFile which cause) = ((cause_of cause).0, codes "asprop: " ++ (unwrap_or (name_by form which) [] ++ (codes ": " ++ ((cause_of cause).1 ++ 10 ∷ []))))
 

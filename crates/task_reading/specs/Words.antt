@@ -46,7 +46,7 @@ form_by _ _ _ _ _ _ = None
 unfoldable pub form_of : List Text → Option Form
 form_of words = let value = λ (n : String). first_of (codes n) (matches_of asprop_command words) in
     let files = filter_map (λ (o : FileOption × String). option_map (λ f. (o.0, f)) (value o.1))
-    ((option.Script, "script") ∷ (option.Activations, "activations") ∷ (option.Messages, "messages") ∷ (option.Check, "check") ∷ []) in
+    ((option.Script, "script") ∷ (option.Activations, "activations") ∷ (option.Messages, "messages") ∷ (option.Sweep, "sweep") ∷ (option.Check, "check") ∷ []) in
     if is_empty (fault_of asprop_command words) then form_by files (value "rel") (value "vrps") (value "scenario") (value "origin") (value "demo") else None
 
 -- the name that a form gives to a file, if it names one; the file of an option is read in the place of the script (own format)

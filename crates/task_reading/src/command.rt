@@ -24,7 +24,7 @@ fn word<'a>(alloc: Global, name: &'a str) -> Arg<'a>
     Arg::new(alloc, name).action(ArgAction::Set)
 }
 
-/// The command with its eight options and its one word.
+/// The command with its nine options and its one word.
 #[tactic(auto, unfolding(crate::specs::Command::asprop_command))]
 pub fn new_command<'a>(alloc: Global) -> Result<Command<'a>, AllocError>
     ensures { IfOk result (λ command. app_of command ≡ asprop_command) }
@@ -39,6 +39,7 @@ pub fn new_command<'a>(alloc: Global) -> Result<Command<'a>, AllocError>
         .arg(option(alloc, "demo"))?
         .arg(option(alloc, "activations"))?
         .arg(option(alloc, "messages"))?
+        .arg(option(alloc, "sweep"))?
         .arg(option(alloc, "check"))?
         .arg(word(alloc, "rel"))
 }

@@ -19,6 +19,9 @@ ghost use Rattle.activations.specs.declared.reading.ActsError.{ActsError as AnAc
 ghost use Rattle.message_sim.specs.Files.{Fails as DeliveriesFails};
 ghost use Rattle.message_sim.specs.declared.steps.Deliveries.{Deliveries as SomeDeliveries};
 ghost use Rattle.message_sim.specs.declared.reading.DeliveriesError.{DeliveriesError as ADeliveriesError};
+ghost use Rattle.sweep.specs.Reading.{Fails as SweepsFails};
+ghost use Rattle.sweep.specs.declared.reading.SweepsError.{SweepsError as ASweepsError};
+ghost use Rattle.sweep.specs.declared.sweeps.Sweep.{Sweep as ASweep};
 ghost use Rattle.table_check.specs.Reading.{Fails as TablesFails};
 ghost use Rattle.table_check.specs.declared.reading.TablesError.{TablesError as ATablesError};
 ghost use Rattle.table_check.specs.declared.tables.Tables.{Tables as SomeTables};
@@ -33,6 +36,7 @@ use caida_reader::RelError;
 use message_sim::DeliveriesError;
 use roa_table::VrpError;
 use scenario_text::{ScenarioError, ScriptError};
+use sweep::SweepsError;
 use table_check::TablesError;
 
 /// The error for a fault of the relationship file.
@@ -92,6 +96,16 @@ pub fn of_deliveries(error: DeliveriesError) -> AskError
     match error {
         DeliveriesError::Memory => AskError::Memory,
         _ => AskError::Fault(Fault::InFile(File::Script, Cause::Deliveries(error))),
+    }
+}
+
+/// The error for a fault of the file of sweeps.
+pub fn of_sweeps(error: SweepsError) -> AskError
+    ensures { (value : Result (List ASweep) ASweepsError) → SweepsFails error value → IsFaultOf result (result_map_both (λ x. x) (λ e. fault.InFile file.Script (cause.Sweeps e)) value) }
+{
+    match error {
+        SweepsError::Memory => AskError::Memory,
+        _ => AskError::Fault(Fault::InFile(File::Script, Cause::Sweeps(error))),
     }
 }
 

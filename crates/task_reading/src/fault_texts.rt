@@ -11,10 +11,11 @@ use message_sim::DeliveriesError;
 use roa_table::VrpError;
 use scenario_text::{LimitOf, ScenarioError, ScriptError, place_string};
 use std::alloc::{AllocError, Global};
+use sweep::SweepsError;
 use table_check::TablesError;
 
 const USAGE: &str =
-    "usage: asprop REL [--vrps FILE] [--scenario FILE] [--script FILE]\n       asprop REL --origin N\n       asprop --demo N\n       asprop REL [--vrps FILE] [--scenario FILE] --activations FILE\n       asprop REL [--vrps FILE] [--scenario FILE] --messages FILE\n       asprop REL [--vrps FILE] [--scenario FILE] --check FILE\n";
+    "usage: asprop REL [--vrps FILE] [--scenario FILE] [--script FILE]\n       asprop REL --origin N\n       asprop --demo N\n       asprop REL [--vrps FILE] [--scenario FILE] --activations FILE\n       asprop REL [--vrps FILE] [--scenario FILE] --messages FILE\n       asprop REL [--vrps FILE] [--scenario FILE] --sweep FILE\n       asprop REL [--vrps FILE] [--scenario FILE] --check FILE\n";
 
 fn relation_text(alloc: Global, error: RelError) -> Result<String, AllocError>
     ensures { IfOk result (λ text. string_bytes text ≡ (cause_of (Cause.Relation error)).1) }
@@ -119,6 +120,16 @@ fn deliveries_text(alloc: Global, error: DeliveriesError) -> Result<String, Allo
     }
 }
 
+fn sweeps_text(alloc: Global, error: SweepsError) -> Result<String, AllocError>
+    ensures { IfOk result (λ text. string_bytes text ≡ (cause_of (Cause.Sweeps error)).1) }
+{
+    match error {
+        SweepsError::Memory => Ok(String::new(alloc)),
+        SweepsError::Unreadable { line } => format!(in alloc; "line {line}: unreadable"),
+        SweepsError::TooMany { line } => format!(in alloc; "line {line}: more than 1000 sweeps"),
+    }
+}
+
 fn tables_text(alloc: Global, error: TablesError) -> Result<String, AllocError>
     ensures { IfOk result (λ text. string_bytes text ≡ (cause_of (Cause.Tables error)).1) }
 {
@@ -143,6 +154,7 @@ fn cause_text(alloc: Global, cause: Cause) -> Result<String, AllocError>
         Cause::Script(error) => script_text(alloc, error),
         Cause::Acts(error) => acts_text(alloc, error),
         Cause::Deliveries(error) => deliveries_text(alloc, error),
+        Cause::Sweeps(error) => sweeps_text(alloc, error),
         Cause::Tables(error) => tables_text(alloc, error),
         Cause::NotInWorld(line) => format!(in alloc; "line {line}: not in the world"),
     }
@@ -195,6 +207,8 @@ fn cause_status(cause: Cause) -> Status
         Cause::Acts(_) => Status::BadInput,
         Cause::Deliveries(DeliveriesError::TooMany { line: _ }) => Status::TooLarge,
         Cause::Deliveries(_) => Status::BadInput,
+        Cause::Sweeps(SweepsError::TooMany { line: _ }) => Status::TooLarge,
+        Cause::Sweeps(_) => Status::BadInput,
         Cause::Tables(_) => Status::BadInput,
         Cause::NotInWorld(_) => Status::BadInput,
     }

@@ -1,13 +1,15 @@
 //! What is asked in a world: jobs, one after the other.
-ghost use Rattle.std.specs.Prelude.{◌≡◌, [], ◌∷◌, All, IfSome, length, map, option_map, slice_get};
+ghost use Rattle.std.specs.Prelude.{◌≡◌, ◌≤◌, [], ◌∷◌, All, IfSome, length, map, option_map, slice_get};
 ghost use Rattle.activations.specs.Named.{AreSound};
 ghost use Rattle.scenario_text.specs.LineValues.{AreSoundLines};
-ghost use Rattle.task_reading.specs.Jobs.{AreAlike, IsSoundJob, acts_job, counts_job, job_seen, line_job, line_jobs, messages_job, reads_kept, tables_job};
+ghost use Rattle.sweep.specs.declared.sweeps.TheConstants.{MOST_SWEEPS};
+ghost use Rattle.task_reading.specs.Jobs.{AreAlike, IsSoundJob, acts_job, counts_job, job_seen, line_job, line_jobs, messages_job, needs_of, sweep_job, tables_job};
 
 use activations::Acts;
 use message_sim::Deliveries;
 use scenario_text::{Line, Lines};
 use std::marker::Model;
+use sweep::{Sweep, Sweeps};
 use table_check::Tables;
 
 /// A job, which has one answer.
@@ -21,8 +23,21 @@ pub enum Job<'a> {
     Activations(&'a Acts),
     /// What deliveries of messages come to.
     Messages(&'a Deliveries),
+    /// The trials of a sweep.
+    Sweep(&'a Sweep),
     /// Whether a printed table is that of the stable routings.
     Tables(&'a Tables),
+}
+
+/// What of a world answers are made from.
+#[derive(Clone, Copy, Debug, PartialEq, Eq)]
+pub enum Needs {
+    /// What is kept of it.
+    Kept,
+    /// The world alone.
+    World,
+    /// The world, and the ranks of its ASes.
+    Ranks,
 }
 
 // How jobs are kept.
@@ -34,6 +49,8 @@ enum Asks {
     Activations(Acts),
     // What deliveries come to.
     Messages(Deliveries),
+    // The trials of sweeps.
+    Sweeps(Sweeps),
     // Whether a printed table is right.
     Tables(Tables),
 }
@@ -62,6 +79,18 @@ fn line_behind_counts(heads: bool, lines: &[Line], place: usize) -> Option<Job<'
     line_at(heads, lines, place - 1)
 }
 
+// How many sweeps there are.
+fn count_of(sweeps: &Sweeps) -> usize
+    requires { length sweeps.now ≤ MOST_SWEEPS }
+    ensures { result ≡ length sweeps.now }
+{
+    let mut count = 0usize;
+    'sweeps: while let Some(_) = sweeps.at(count) {
+        count += 1;
+    }
+    count
+}
+
 /// Jobs, which are done one after the other. Contracts see the list of them.
 #[derive(Drop)]
 pub struct Jobs {
@@ -73,20 +102,21 @@ impl Model for Jobs {
     ghost use Rattle.std.specs.Coded.{codes};
     ghost use Rattle.activations.specs.contracts.acts.Acts as acts;
     ghost use Rattle.message_sim.specs.contracts.steps.Deliveries as deliveries;
+    ghost use Rattle.sweep.specs.contracts.sweeps.Sweep as sweep;
     ghost use Rattle.table_check.specs.contracts.tables.Tables as tables;
     ghost use Rattle.task_reading.specs.Jobs.{Job as AJob, IsSoundAsks, jobs_of};
 
     ghost Value = { List AJob };
 
-    ghost coded = { Prim.hlevel (codes, acts.the_row.coded, deliveries.the_row.coded, tables.the_row.coded) };
+    ghost coded = { Prim.hlevel (codes, acts.the_row.coded, deliveries.the_row.coded, sweep.the_row.coded, tables.the_row.coded) };
 
     ghost view = { λ j. jobs_of j.asks };
 
     ghost invariant = { λ j. IsSoundAsks j.asks };
 }
 
-/// All jobs are lines, and before them perhaps the numbers of ASes and links, or they are activations, deliveries
-/// or a printed table alone.
+/// All jobs are lines, and before them perhaps the numbers of ASes and links, or all are sweeps, or they
+/// are activations, deliveries or a printed table alone.
 pub fn jobs_are_alike(jobs: &Jobs)
     ensures { AreAlike jobs.now }
 {
@@ -122,6 +152,16 @@ impl Jobs {
         }
     }
 
+    /// The trials of sweeps, each a job.
+    pub(crate) fn of_sweeps(sweeps: Sweeps) -> Jobs
+        requires { length sweeps ≤ MOST_SWEEPS }
+        ensures { result ≡ map sweep_job sweeps }
+    {
+        Jobs {
+            asks: Asks::Sweeps(sweeps),
+        }
+    }
+
     /// Whether a printed table is right.
     pub(crate) fn of_tables(tables: Tables) -> Jobs
         ensures { result ≡ tables_job tables ∷ [] }
@@ -131,13 +171,14 @@ impl Jobs {
         }
     }
 
-    /// Whether the answers read what is kept of a world.
-    pub fn read_kept(&self) -> bool
-        ensures { All (λ job. reads_kept job ≡ result) self.now }
+    /// What of a world the answers are made from.
+    pub fn needs(&self) -> Needs
+        ensures { All (λ job. needs_of job ≡ result) self.now }
     {
         match &self.asks {
-            Asks::Lines(_, _, _) | Asks::Activations(_) | Asks::Messages(_) => true,
-            Asks::Tables(_) => false,
+            Asks::Lines(_, _, _) | Asks::Activations(_) | Asks::Messages(_) => Needs::Kept,
+            Asks::Sweeps(_) => Needs::Ranks,
+            Asks::Tables(_) => Needs::World,
         }
     }
 
@@ -148,6 +189,7 @@ impl Jobs {
         match &self.asks {
             Asks::Lines(true, _, lines) => lines.as_slice().len() + 1,
             Asks::Lines(false, _, lines) => lines.as_slice().len(),
+            Asks::Sweeps(sweeps) => count_of(sweeps),
             Asks::Activations(_) | Asks::Messages(_) | Asks::Tables(_) => 1,
         }
     }
@@ -174,6 +216,10 @@ impl Jobs {
                     None
                 }
             }
+            Asks::Sweeps(sweeps) => match sweeps.at(place) {
+                Some(sweep) => Some(Job::Sweep(sweep)),
+                None => None,
+            },
             Asks::Tables(tables) => {
                 if place == 0 {
                     Some(Job::Tables(tables))

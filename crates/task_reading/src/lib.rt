@@ -17,6 +17,6 @@ mod words;
 
 pub use asking::{Asked, ask};
 pub use fault_texts::{fault_message, fault_status};
-pub use jobs::{Job, Jobs, jobs_are_alike};
+pub use jobs::{Job, Jobs, Needs, jobs_are_alike};
 pub use types::{AskError, Cause, Fault, File, Status};
 pub use words::{FileOption, WordForm, read_words};

@@ -16,7 +16,7 @@ ghost use Rattle.task_reading.specs.declared.types.File.TheVariants as files;
 ghost use Rattle.task_reading.specs.declared.types.Cause.TheVariants as cause;
 
 use crate::errors::{
-    of_acts, of_deliveries, of_payloads, of_relations, of_scenario, of_script, of_tables,
+    of_acts, of_deliveries, of_payloads, of_relations, of_scenario, of_script, of_sweeps, of_tables,
 };
 use crate::jobs::Jobs;
 use crate::types::{AskError, Cause, Fault, File};
@@ -29,6 +29,7 @@ use net_names::Links;
 use roa_table::Vrps;
 use scenario_text::{Scenario, read_scenario, read_script};
 use std::alloc::Global;
+use sweep::read_sweeps;
 use table_check::read_tables;
 
 /// How many bytes a relationship file, a payload file and a printed table have at most.
@@ -176,7 +177,8 @@ fn most_bytes(option: FileOption) -> usize
 {
     match option {
         FileOption::Check => MOST_LIST_BYTES,
-        FileOption::Script | FileOption::Activations | FileOption::Messages => MOST_TEXT_BYTES,
+        FileOption::Script | FileOption::Activations | FileOption::Messages | FileOption::Sweep =>
+            MOST_TEXT_BYTES,
     }
 }
 
@@ -197,6 +199,10 @@ fn jobs_in(alloc: Global, option: FileOption, bytes: &[u8]) -> Result<Jobs, AskE
         FileOption::Messages => match read_deliveries(alloc, bytes) {
             Ok(deliveries) => Ok(Jobs::of_deliveries(deliveries)),
             Err(error) => Err(of_deliveries(error)),
+        },
+        FileOption::Sweep => match read_sweeps(alloc, bytes) {
+            Ok(sweeps) => Ok(Jobs::of_sweeps(sweeps)),
+            Err(error) => Err(of_sweeps(error)),
         },
         FileOption::Check => match read_tables(alloc, bytes) {
             Ok(tables) => Ok(Jobs::of_tables(tables)),

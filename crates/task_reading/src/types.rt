@@ -7,6 +7,7 @@ use caida_reader::RelError;
 use message_sim::DeliveriesError;
 use roa_table::VrpError;
 use scenario_text::{ScenarioError, ScriptError};
+use sweep::SweepsError;
 use table_check::TablesError;
 
 /// The part that a file has in a run.
@@ -61,6 +62,8 @@ pub enum Cause {
     Acts(ActsError),
     /// The file of deliveries has this fault.
     Deliveries(DeliveriesError),
+    /// The file of sweeps has this fault.
+    Sweeps(SweepsError),
     /// The printed table has this fault.
     Tables(TablesError),
     /// The line of this number, the first such one, names what isn't in the world.

@@ -22,6 +22,8 @@ pub enum FileOption {
     Activations,
     /// `--messages FILE`.
     Messages,
+    /// `--sweep FILE`.
+    Sweep,
     /// `--check FILE`.
     Check,
 }
@@ -174,6 +176,7 @@ pub fn read_words<'a>(alloc: Global, words: &'a [String]) -> Result<Option<WordF
         }
     };
     let files = with_option(FileOption::Check, matches.get_str("check"), Standing::None);
+    let files = with_option(FileOption::Sweep, matches.get_str("sweep"), files);
     let files = with_option(FileOption::Messages, matches.get_str("messages"), files);
     let files = with_option(
         FileOption::Activations,

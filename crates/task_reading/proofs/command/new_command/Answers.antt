@@ -19,5 +19,6 @@ returns c =
     let demo = added c.in_ok-arg-5.ensures c.option-5.ensures.local origin c.option-5.ensures.rule in
     let activations = added c.in_ok-arg-6.ensures c.option-6.ensures.local demo c.option-6.ensures.rule in
     let messages = added c.in_ok-arg-7.ensures c.option-7.ensures.local activations c.option-7.ensures.rule in
-    let check = added c.in_ok-arg-8.ensures c.option-8.ensures.local messages c.option-8.ensures.rule in
-    IfOk-weaker c.arg-9.result _ _ (λ command adds. added adds c.word.ensures.local check c.word.ensures.rule) c.arg-9.ensures
+    let sweep = added c.in_ok-arg-8.ensures c.option-8.ensures.local messages c.option-8.ensures.rule in
+    let check = added c.in_ok-arg-9.ensures c.option-9.ensures.local sweep c.option-9.ensures.rule in
+    IfOk-weaker c.arg-10.result _ _ (λ command adds. added adds c.word.ensures.local check c.word.ensures.rule) c.arg-10.ensures

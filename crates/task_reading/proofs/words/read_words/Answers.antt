@@ -18,10 +18,10 @@ returns c =
     let words = map string_bytes c.args.words.now in
     let rows = found _ words _ c.in-Ok.ensures c.in-Ok-try_get_matches_from.ensures.matches in
     record {
-      form = accepted words _ _ _ _ _ _ _ _ _ _ (taken _ words c.in-Ok.ensures c.in-Ok-try_get_matches_from.ensures.kinds)
-          (c.get_str-5.ensures ∙ stands _ _ _ rows) (c.get_str-6.ensures ∙ stands _ _ _ rows) (c.get_str-7.ensures ∙ stands _ _ _ rows)
-          (c.get_str-4.ensures ∙ stands _ _ _ rows) (c.get_str-3.ensures ∙ stands _ _ _ rows) (c.get_str-2.ensures ∙ stands _ _ _ rows) (c.get_str.ensures ∙ stands _ _ _ rows)
-          (c.get_str-8.ensures ∙ stands _ _ _ rows) (c.get_str-9.ensures ∙ stands _ _ _ rows)
-          (c.form_by.ensures.form _ (c.with_option-files-4.ensures _ (c.with_option-files-3.ensures _ (c.with_option-files-2.ensures _ (c.with_option-files.ensures [] refl)))));
+      form = accepted words _ _ _ _ _ _ _ _ _ _ _ (taken _ words c.in-Ok.ensures c.in-Ok-try_get_matches_from.ensures.kinds)
+          (c.get_str-6.ensures ∙ stands _ _ _ rows) (c.get_str-7.ensures ∙ stands _ _ _ rows) (c.get_str-8.ensures ∙ stands _ _ _ rows)
+          (c.get_str-5.ensures ∙ stands _ _ _ rows) (c.get_str-4.ensures ∙ stands _ _ _ rows) (c.get_str-3.ensures ∙ stands _ _ _ rows) (c.get_str-2.ensures ∙ stands _ _ _ rows) (c.get_str.ensures ∙ stands _ _ _ rows)
+          (c.get_str-9.ensures ∙ stands _ _ _ rows) (c.get_str-10.ensures ∙ stands _ _ _ rows)
+          (c.form_by.ensures.form _ (c.with_option-files-5.ensures _ (c.with_option-files-4.ensures _ (c.with_option-files-3.ensures _ (c.with_option-files-2.ensures _ (c.with_option-files.ensures [] refl))))));
       sized = c.form_by.ensures.sized;
     }
