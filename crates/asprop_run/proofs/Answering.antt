@@ -123,7 +123,7 @@ take_next : (jobs : List Job) (i : ℕ) (job : Job) → slice_get jobs i ≡ Som
 take_next jobs i job at = take_more jobs i job (slice_get_within jobs i job at) ∙ ap (λ (x : Job). take i jobs ++ x ∷ []) (get_or_from_slice_get jobs i job job at)
 
 -- the jobs from one on are that one and the rest
-drop_next : (jobs : List Job) (i : ℕ) (job : Job) → slice_get jobs i ≡ Some job → drop i jobs ≡ job ∷ drop (i + 1) jobs
+pub drop_next : (jobs : List Job) (i : ℕ) (job : Job) → slice_get jobs i ≡ Some job → drop i jobs ≡ job ∷ drop (i + 1) jobs
 drop_next jobs i job at = let within : i < length jobs = slice_get_within jobs i job at in
     rw (add-one, drop-cons jobs i job within, get_or_from_slice_get jobs i job job at) refl
 

@@ -90,12 +90,17 @@ many_ases : (x : Asked) → 150000 < as_count (topology (task_in x).world) → w
 many_ases x many = rw (lt-ltb 150000 (as_count (topology (task_in x).world)) many) refl
 
 -- what was written of the answers of a task that has some
-answering : (task : Task) (result : Result Bool Failure) (out : Stream) → HasAnswers task → Answering task result out → Outcome (Ok task) result out
+pub answering : (task : Task) (result : Result Bool Failure) (out : Stream) → HasAnswers task → Answering task result out → Outcome (Ok task) result out
 answering task (Ok refused) out has h = (has, h)
 answering task (Err failure.Memory) out has h = inr (has, h)
 answering task (Err failure.Write) out has h = (has, h)
 answering task (Err (failure.Cycle cycle)) out has h = absurd h
 answering task (Err (failure.Fault f)) out has h = absurd h
+
+-- a line names what isn't in the world
+pub foreign : (task : Task) (line : ℕ) (f : Fault) (out : Stream) → (HasCycle task.world → ⊥) → outside task.world task.jobs ≡ Some line
+    → f ≡ fault.InFile file.Script (cause.NotInWorld line) → out.wrote [] → Outcome (Ok task) (Err (failure.Fault f)) out
+foreign task line f out none names is nil = (none, ap (option_map (λ n. fault.InFile file.Script (cause.NotInWorld n))) names ∙ ap Some (sym is), nil)
 
 module _ {from : Source} {form : Option Form} {out : Stream} where
   -- the task is the one that was asked for
@@ -106,20 +111,12 @@ module _ {from : Source} {form : Option Form} {out : Stream} where
     works = subst (λ (t : Result Task Fault). Outcome t result out) (sym (ap (λ (t : Result Asked Fault). t >>= within_limits) p.finds ∙ few_ases x few)) w;
   }
 
-  -- answers were written
-  pub worked : (x : Asked) (w : World) (result : Result Bool Failure) → Prepares from form (Ok x) → w ≡ (task_in x).world → as_count (topology w) ≤ 150000 → (HasCycle w → ⊥) → outside w x.jobs ≡ None
-      → Answering (record { world = w; jobs = x.jobs }) result out → Worked from form result out
-  worked x w result p is few none inside h =
+  -- the work over the task in the world that was loaded ended so
+  pub worked : (x : Asked) (w : World) (result : Result Bool Failure) → Prepares from form (Ok x) → w ≡ (task_in x).world → as_count (topology w) ≤ 150000
+      → Outcome (Ok (record { world = w; jobs = x.jobs })) result out → Worked from form result out
+  worked x w result p is few h =
       on_task x p result (subst (λ (w : World). as_count (topology w) ≤ 150000) is few)
-      (subst (λ (w : World). Outcome (Ok (record { world = w; jobs = x.jobs })) result out) is (answering (record { world = w; jobs = x.jobs }) result out (none, inside) h))
-
-  -- a line names what isn't in the world
-  pub foreign : (x : Asked) (w : World) (line : ℕ) (f : Fault) → Prepares from form (Ok x) → w ≡ (task_in x).world → as_count (topology w) ≤ 150000 → (HasCycle w → ⊥) → outside w x.jobs ≡ Some line
-      → f ≡ fault.InFile file.Script (cause.NotInWorld line) → out.wrote [] → Worked from form (Err (failure.Fault f)) out
-  foreign x w line f p is few none names is_fault nil =
-      on_task x p (Err (failure.Fault f)) (subst (λ (w : World). as_count (topology w) ≤ 150000) is few)
-      (subst (λ (w : World). Outcome (Ok (record { world = w; jobs = x.jobs })) (Err (failure.Fault f)) out) is
-      (none, ap (option_map (λ n. fault.InFile file.Script (cause.NotInWorld n))) names ∙ ap Some (sym is_fault), nil))
+      (subst (λ (w : World). Outcome (Ok (record { world = w; jobs = x.jobs })) result out) is h)
 
   -- the world has a provider cycle
   pub cyclic : (x : Asked) (cycle : List ℕ) → Prepares from form (Ok x) → (as_count (topology (task_in x).world) ≤ 150000) × IsCycleFromLowest (relation (topology (task_in x).world)) cycle → out.wrote []

@@ -14,5 +14,6 @@ pub mod Copies
 mod Delivered
 mod Checked
 mod PrintedRight
+mod Sweeps
 pub mod Facts
 pub mod OneText

@@ -19,10 +19,11 @@ use Rattle.asprop_run.proofs.Checked.{one_check_text}
 use Rattle.asprop_run.proofs.Delivered.{one_net_text}
 use Rattle.asprop_run.proofs.Named.{delivered_in_world, in_world}
 use Rattle.asprop_run.proofs.OneSettling.{one_acts_text}
-use Rattle.task_reading.specs.Jobs.{Job, acts_job, counts_job, line_job, messages_job, tables_job}
+use Rattle.task_reading.specs.Jobs.{Job, acts_job, counts_job, line_job, messages_job, sweep_job, tables_job}
 use Rattle.policy_kinds.specs.Kinds.{kind_policy}
 use Rattle.stability_laws.specs.Laws.{OneAnswer as OneRight}
 use Rattle.table_check.specs.Laws.{OneVerdict}
+use Rattle.trial_world.specs.Laws.{OneSweptText}
 
 -- two replies to one line are the same, or both are the refusal of its edit for a provider cycle
 abbrev SameReply : World → Act → Text → Text → Type 0
@@ -64,7 +65,7 @@ same_count count w e k l now then m n x y allowed is others p q here there a b =
     count w e k l now then m n allowed.0 is others (subst (λ x. IsKept x now) p here) (subst (λ y. IsKept y then) q there)
     (subst (λ (x : World). HasChanges x.plan x.rounds k.routings now.routings m) p a) (subst (λ (y : World). HasChanges y.plan y.rounds l.routings then.routings n) q b)
 
-module _ (answer : OneAnswer) (count : OneCount) (reason : OneReason) (right : OneRight kind_policy) (verdict : OneVerdict kind_policy) where
+module _ (answer : OneAnswer) (count : OneCount) (reason : OneReason) (right : OneRight kind_policy) (verdict : OneVerdict kind_policy) (swept : OneSweptText) where
   -- two texts of what is told for what a line asks
   reply_agrees : (w : World) (k l : Kept) (a : Act) (s t : Text) (r q : Bool) (x y : World) → IsKept w k → IsKept w l → IsReply w k a s r x → IsReply w l a t q y → Agree (SameReply w a s t) r q x y
   reply_agrees w k l (act.Query a) s t false false x y is others h g = record { refused = refl; after = h.2 ∙ sym g.2; text = inl (answer w k l a s t is others h.0 h.1 g.1) }
@@ -105,6 +106,7 @@ module _ (answer : OneAnswer) (count : OneCount) (reason : OneReason) (right : O
   job_agrees w (messages_job d) s t r q x y inside h g =
       let named = delivered_in_world w d inside.0 in
       record { refused = h.0 ∙ sym g.0; after = h.1 ∙ sym g.1; text = one_net_text w h.2 g.2 h.3 g.3 d named.0 named.1 s t h.4 g.4 }
+  job_agrees w (sweep_job line) s t r q x y inside h g = record { refused = h.0 ∙ sym g.0; after = h.1 ∙ sym g.1; text = swept w line s t inside.1 inside.0 h.2 g.2 }
   job_agrees w (tables_job tables) s t r q x y inside h g =
       let same = one_check_text verdict w tables r q s t h.1 g.1 in
       record { refused = same.0; after = h.0 ∙ sym g.0; text = same.1 }

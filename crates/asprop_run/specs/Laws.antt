@@ -1,5 +1,5 @@
 -- What holds of all runs, and of all told texts.
-use Rattle.std.specs.Prelude.{◌≡◌, ◌↔◌, ◌≤◌, ◌<◌, ◌+◌, ◌*◌, ◌^◌, ◌⊎◌, ℕ, zero, suc, Bool, true, false, not, filter, length, List, [], ◌∷◌, ◌++◌, Option, Some, Ok}
+use Rattle.std.specs.Prelude.{◌≡◌, ◌↔◌, ◌≤◌, ◌<◌, ◌+◌, ◌*◌, ◌^◌, ◌⊎◌, ℕ, zero, suc, Bool, true, false, not, filter, length, List, map, [], ◌∷◌, ◌++◌, Option, Some, Ok}
 use Rattle.std.specs.Option.{is_some}
 use Rattle.clap.specs.Walk.{Text}
 use Rattle.scenario_text.specs.declared.acts.Act.TheVariants as act
@@ -27,7 +27,8 @@ use Rattle.sim_core.specs.declared.errors.EditError.TheVariants as edit
 use Rattle.asprop_run.specs.Delivering.{message_rows}
 use Rattle.asprop_run.specs.Inside.{AreInside, IsInside}
 use Rattle.asprop_run.specs.Settling.{settled_rows}
-use Rattle.task_reading.specs.Jobs.{Job, acts_job, line_job, messages_job, tables_job}
+use Rattle.task_reading.specs.Jobs.{Job, acts_job, line_job, messages_job, sweep_job, tables_job}
+use Rattle.sweep.specs.declared.sweeps.Sweep.{Sweep}
 use Rattle.asprop_run.specs.Refusals.{edit_refusal}
 use Rattle.asprop_run.specs.Replies.{AnswersJob, AnswersJobs, head}
 use Rattle.asprop_run.specs.Runs.{IsRun}
@@ -96,3 +97,9 @@ PrintedRoutesAreRight = (w : World) (k : Kept) (prefix : PrefixValue) (more numb
     ((round : ℕ) → 1 ≤ round → round ≤ suc more → AnswersJob w (line_job false (record { number = number; act = act.Query (Routes round prefix) })) (answers round) false w) →
     (t : Tables) × (tables_by (kept_from 1 (sections answers prefix 1 (suc more))) ≡ Ok t) × IsInside w (tables_job t)
     × ((text : Text) (refused : Bool) (after : World) → AnswersJob w (tables_job t) text refused after → refused ≡ false)
+
+-- sweeps are independent: a text that answers a list of them, put together from two, is one that answers the first and then one that answers the second, and none is refused
+abbrev pub SweepsAreIndependent : Type 0
+SweepsAreIndependent = (w : World) (first second : List Sweep) (text : Text) (refused : Bool) →
+    AnswersJobs w (map sweep_job (first ++ second)) text refused
+    ↔ ((s t : Text) × AnswersJobs w (map sweep_job first) s false × AnswersJobs w (map sweep_job second) t false × (text ≡ s ++ t) × (refused ≡ false))

@@ -11,7 +11,8 @@ use Rattle.sim_core.specs.Edits.{HasChanges, IsAllowed, IsReason, edited}
 use Rattle.sim_core.specs.declared.errors.EditError.{EditError}
 use Rattle.sim_core.specs.declared.errors.QueryError.{QueryError}
 use Rattle.as_graph.specs.Topology.{as_count}
-use Rattle.task_reading.specs.Jobs.{Job, acts_job, counts_job, line_job, messages_job, tables_job}
+use Rattle.task_reading.specs.Jobs.{Job, acts_job, counts_job, line_job, messages_job, sweep_job, tables_job}
+use Rattle.trial_world.specs.Sweeps.{IsSweptIn}
 use Rattle.asprop_run.specs.Checking.{IsCheckText}
 use Rattle.asprop_run.specs.Delivering.{IsNetText}
 use Rattle.asprop_run.specs.Refusals.{edit_refusal, refusal_text}
@@ -36,7 +37,7 @@ pub record AppendsReply (w : World) (kept : Kept) (asks : Act) (refused : Bool) 
 abbrev pub head : Bool → ℕ → Text
 head heads number = if heads then codes "# " ++ (decimal number ++ 10 ∷ []) else []
 
--- the text is the whole answer to the job, by the one and only stable routings of the world's rounds and by the ranks of its ASes, and the job leaves this world: the numbers of ASes and links; the head line and what is told for a line; what activations or deliveries come to; or whether a printed table is right, where one that is not is refused (own format; Gao and Rexford 2001)
+-- the text is the whole answer to the job, by the one and only stable routings of the world's rounds and by the ranks of its ASes, and the job leaves this world: the numbers of ASes and links; the head line and what is told for a line; what activations or deliveries come to; the counts of the trials of a sweep; or whether a printed table is right, where one that is not is refused (own format; Gao and Rexford 2001)
 abbrev pub AnswersJob : World → Job → Text → Bool → World → Type 0
 AnswersJob w counts_job text refused after = (refused ≡ false) × (after ≡ w)
     × (text ≡ fact "ases" (as_count (topology w)) ++ fact "links" (fin.len w.links))
@@ -46,6 +47,7 @@ AnswersJob w (acts_job acts) text refused after = (refused ≡ false) × (after 
     × (k : Kept) × IsKept w k × IsActsText w k acts text
 AnswersJob w (messages_job deliveries) text refused after = (refused ≡ false) × (after ≡ w)
     × (k : Kept) × IsKept w k × IsNetText w k deliveries text
+AnswersJob w (sweep_job line) text refused after = (refused ≡ false) × (after ≡ w) × IsSweptIn w line text
 AnswersJob w (tables_job tables) text refused after = (after ≡ w) × IsCheckText w tables refused text
 
 -- the text answers the jobs one after the other, each in the world that the jobs before it leave; `refused` says whether an answer is a refusal (own format)

@@ -9,7 +9,8 @@ use Rattle.sim_core.specs.Loaded.{world_of}
 use Rattle.sim_core.specs.World.{HasCycle, World, has_round, topology}
 use Rattle.stability_laws.specs.Plans.{has_prefix}
 use Rattle.task_reading.specs.Asking.{Reads, asked}
-use Rattle.task_reading.specs.Jobs.{Job, acts_job, messages_job, tables_job}
+use Rattle.task_reading.specs.Jobs.{Job, acts_job, messages_job, sweep_job, tables_job}
+use Rattle.trial_world.specs.Sweeps.{is_inside}
 use Rattle.task_reading.specs.Words.{Form}
 use Rattle.task_reading.specs.declared.types.Cause.TheVariants.{NotInWorld}
 use Rattle.task_reading.specs.declared.types.File.TheVariants.{Script}
@@ -25,12 +26,13 @@ abbrev pub task_of : Option Form → Reads → Result Task Fault
 task_of form reads = asked form reads >>= λ a. let world = world_of a.links a.vrps a.scenario in
     if nat_lt MOST_ASES (as_count (topology world)) then Err TooManyAses else Ok (record { world = world; jobs = a.jobs })
 
--- the first line of an option's file that names what the world has not: its round or its prefix, an AS, or a link (own format)
+-- the first line of an option's file that names what the world has not: its round or its prefix, an AS, a link, or what a sweep asks for (own format)
 abbrev pub outside : World → List Job → Option ℕ
 outside w (acts_job acts ∷ jobs) = if has_round w acts.round && has_prefix w.plan acts.prefix
     then first_foreign_in (has (topology w)) acts.named else Some acts.for_line
 outside w (messages_job d ∷ jobs) = if has_round w d.round && has_prefix w.plan d.prefix
     then first_unlinked_in (relation (topology w)) d.steps else Some d.for_line
+outside w (sweep_job line ∷ jobs) = if is_inside w line then outside w jobs else Some line.line
 outside w (tables_job t ∷ jobs) = slice_get t.starts (if has_prefix w.plan t.prefix then w.rounds else 0)
 outside w jobs = None
 

@@ -1,20 +1,23 @@
 //! Activations of ASes: what is named in the world, and what the activations come to.
-ghost use Rattle.std.specs.Prelude.{◌≡◌, ◌++◌, ◌&&◌, ℕ, None, codes, false, if◌then◌else◌, IfOk, OnOk};
+ghost use Rattle.std.specs.Prelude.{◌≡◌, ◌++◌, All, ◌&&◌, ℕ, None, codes, false, if◌then◌else◌, IfOk, OnOk, List, ◌∷◌};
+ghost use Rattle.std.specs.Option.{option_or};
 ghost use Rattle.std.specs.FinMap as fin;
 ghost use Rattle.activations.specs.Named.{AreSound};
 ghost use Rattle.net_names.specs.Numbers.{occurs};
 ghost use Rattle.reports.specs.Rows.{table};
+ghost use Rattle.sim_core.specs.Bases.{base_world};
 ghost use Rattle.sim_core.specs.Kept.{IsKept};
 ghost use Rattle.sim_core.specs.Sims.{kept, world_seen};
 ghost use Rattle.sim_core.specs.World.{HasCycle, has_round};
 ghost use Rattle.stability_laws.specs.EntryTexts.{entry_row};
 ghost use Rattle.stability_laws.specs.Plans.{has_prefix};
 ghost use Rattle.asprop_run.specs.Inside.{IsInside};
-ghost use Rattle.asprop_run.specs.Loaded.{loaded_world};
+ghost use Rattle.asprop_run.specs.Loaded.{Serves, loaded_world};
 ghost use Rattle.asprop_run.specs.Replies.{AnswersJob};
 ghost use Rattle.asprop_run.specs.Settling.{settled_rows};
 ghost use Rattle.asprop_run.specs.Task.{outside};
-ghost use Rattle.task_reading.specs.Jobs.{acts_job};
+ghost use Rattle.task_reading.specs.Jobs.{Job as AJob, acts_job, job_seen, needs_of};
+ghost use Rattle.task_reading.specs.declared.jobs.Needs.TheVariants as needs;
 
 use crate::loaded::Loaded;
 use crate::refusals::put_bytes;
@@ -24,10 +27,11 @@ use net_names::{Asn, NoMemory, Path, Prefix};
 use origin_validation::KnownStates;
 use reports::put_entry;
 use roa_table::Vrps;
-use sim_core::{Sim, kept_are_stable};
+use sim_core::{Base, Sim, kept_are_stable};
 use stability_laws::{Entry, Routing, SeedPlan, World};
 use std::alloc::Global;
 use task_reading::{Job, Jobs};
+use trial_world::is_inside;
 
 // Whether the world has the round and the prefix.
 fn has_table(loaded: &Loaded, round: u32, prefix: Prefix) -> bool
@@ -36,10 +40,47 @@ fn has_table(loaded: &Loaded, round: u32, prefix: Prefix) -> bool
     round >= 1 && round <= loaded.rounds() && loaded.plan().has_prefix(prefix)
 }
 
-/// The first line of an option's file that names what isn't in the world: its round or its prefix, an AS or a link.
+// The line of the sweep that the job is, where it isn't in the world.
+fn line_outside(base: &Base, job: Job<'_>) -> Option<u32>
+    requires { needs_of (job_seen job) ≡ needs.Ranks }
+    ensures { (jobs : List AJob) → outside (base_world base.now) (job_seen job.entry ∷ jobs) ≡ option_or result (outside (base_world base.now) jobs) }
+{
+    match job {
+        Job::Sweep(line) => if is_inside(base, line) {
+            None
+        } else {
+            Some(line.line)
+        },
+        Job::Counts | Job::Line(_, _) | Job::Activations(_) | Job::Messages(_) | Job::Tables(_) =>
+            unreachable!(),
+    }
+}
+
+// The first line of sweeps that isn't in the world.
+fn first_sweep_outside(base: &Base, jobs: &Jobs) -> Option<u32>
+    requires { All (λ job. needs_of job ≡ needs.Ranks) jobs.now }
+    ensures { result ≡ outside (base_world base.now) jobs.now }
+{
+    'jobs: for place in 0..jobs.count() {
+        let Some(job) = jobs.at(place) else {
+            unreachable!();
+        };
+        if let Some(line) = line_outside(base, job) {
+            return Some(line);
+        }
+    }
+    None
+}
+
+/// The first line of an option's file that names what isn't in the world: its round or its prefix, an AS or a link, or
+/// what a sweep asks for.
 pub fn first_outside(loaded: &Loaded, jobs: &Jobs) -> Option<u32>
+    requires { All (Serves loaded.now) jobs.now }
     ensures { result ≡ outside (loaded_world loaded.now) jobs.now }
 {
+    if let Loaded::Ranked(base, _) = loaded {
+        return first_sweep_outside(base, jobs);
+    }
     match jobs.at(0) {
         Some(Job::Activations(acts)) => {
             if has_table(loaded, acts.round, acts.prefix) {
@@ -57,6 +98,7 @@ pub fn first_outside(loaded: &Loaded, jobs: &Jobs) -> Option<u32>
         }
         Some(Job::Tables(tables)) => tables.first_outside(loaded.plan(), loaded.rounds()),
         Some(Job::Counts) | Some(Job::Line(_, _)) | None => None,
+        Some(Job::Sweep(_)) => unreachable!(),
     }
 }
 

@@ -7,9 +7,10 @@ ghost use Rattle.sim_core.specs.Kept.{IsKept};
 ghost use Rattle.sim_core.specs.Sims.{kept, world_seen};
 ghost use Rattle.sim_core.specs.World.{HasCycle};
 ghost use Rattle.scenario_text.specs.LineValues.{IsWellFormed, IsSoundAct};
-ghost use Rattle.task_reading.specs.Jobs.{Job as AJob, IsSoundJob, counts_job, job_seen, line_job, reads_kept};
+ghost use Rattle.task_reading.specs.Jobs.{Job as AJob, IsSoundJob, counts_job, job_seen, line_job, needs_of};
+ghost use Rattle.task_reading.specs.declared.jobs.Needs.TheVariants as needs;
 ghost use Rattle.asprop_run.specs.Inside.{AreInside, IsInside};
-ghost use Rattle.asprop_run.specs.Loaded.{Serves, loaded_world};
+ghost use Rattle.asprop_run.specs.Loaded.{AreRanks, Serves, loaded_world};
 ghost use Rattle.asprop_run.specs.Replies.{AnswersJob, AppendsReply, head};
 ghost use Rattle.asprop_run.specs.Streams.{stream_of};
 ghost use Rattle.asprop_run.specs.Written.{Answering, IsPassedOn};
@@ -22,6 +23,7 @@ use crate::refusals::{put_bytes, put_done, put_edit_refusal, put_refusal};
 use crate::types::Failure;
 use io_edge::{Failed, Sink, write_all};
 use net_names::NoMemory;
+use rank_order::Ranks;
 use route_choice::Steps;
 use scenario_text::{Act, Edit, Line, Query};
 use sim_core::{Base, QueryError, Sim};
@@ -29,6 +31,7 @@ use std::alloc::{AllocError, Global};
 use std::marker::Brand;
 use std::sync::ledger::{Blank, Ledger};
 use task_reading::{Job, Jobs};
+use trial_world::put_sweep;
 
 // So many bytes of answers are held back at most, and then written together.
 const HELD_BACK: usize = 65_536;
@@ -141,7 +144,7 @@ fn answer_whole(
 ) -> Result<bool, NoMemory>
     requires sound { IsSoundJob (job_seen job) }
     requires inside { IsInside (world_seen sim.old) (job_seen job) }
-    requires reads { reads_kept (job_seen job) ≡ true }
+    requires needs { needs_of (job_seen job) ≡ needs.Kept }
     requires kept { IsKept (world_seen sim.old) (kept sim.old) }
     requires no_cycle { HasCycle (world_seen sim.old) → ⊥ }
     ensures answered { IfOk result (λ refused. AnswersJob (world_seen sim.old) (job_seen job.entry) text.new.items refused (world_seen sim.new)) }
@@ -162,23 +165,47 @@ fn answer_whole(
             answer_deliveries(alloc, sim, deliveries, text)?;
             Ok(false)
         }
-        Job::Tables(_) => unreachable!(),
+        Job::Sweep(_) | Job::Tables(_) => unreachable!(),
     }
 }
 
-// Makes the whole answer to a job that reads nothing that is kept, and says whether it is a refusal.
+// Makes the whole answer to a job by the world alone, and says whether it is a refusal.
 fn answer_bare(
     alloc: Global,
     base: &Base,
     job: Job<'_>,
     text: &mut Vec<u8>,
 ) -> Result<bool, NoMemory>
-    requires reads { reads_kept (job_seen job) ≡ false }
+    requires needs { needs_of (job_seen job) ≡ needs.World }
     ensures { IfOk result (λ refused. AnswersJob (base_world base.now) (job_seen job.entry) text.new.items refused (base_world base.now)) }
 {
     match job {
         Job::Tables(tables) => answer_check(alloc, base, tables, text),
-        Job::Counts | Job::Line(_, _) | Job::Activations(_) | Job::Messages(_) => unreachable!(),
+        Job::Counts | Job::Line(_, _) | Job::Activations(_) | Job::Messages(_) | Job::Sweep(_) =>
+            unreachable!(),
+    }
+}
+
+// Makes the whole answer to a job by the world and its ranks.
+fn answer_ranked(
+    alloc: Global,
+    base: &Base,
+    ranks: &Ranks,
+    job: Job<'_>,
+    text: &mut Vec<u8>,
+) -> Result<(), NoMemory>
+    requires needs { needs_of (job_seen job) ≡ needs.Ranks }
+    requires inside { IsInside (base_world base.now) (job_seen job) }
+    requires ranks { AreRanks (base_world base.now) ranks.now }
+    ensures { OnOk result (AnswersJob (base_world base.now) (job_seen job.entry) text.new.items false (base_world base.now)) }
+{
+    match job {
+        Job::Sweep(line) => {
+            text.clear();
+            put_sweep(alloc, base, ranks, line, text)
+        }
+        Job::Counts | Job::Line(_, _) | Job::Activations(_) | Job::Messages(_) | Job::Tables(_) =>
+            unreachable!(),
     }
 }
 
@@ -200,6 +227,10 @@ fn answer_job(
     match loaded {
         Loaded::Whole(sim) => answer_whole(alloc, sim, job, text),
         Loaded::Bare(base) => answer_bare(alloc, base, job, text),
+        Loaded::Ranked(base, ranks) => {
+            answer_ranked(alloc, base, ranks, job, text)?;
+            Ok(false)
+        }
     }
 }
 

@@ -1,5 +1,5 @@
 //! What holds of all runs, and of all told texts.
-ghost use Rattle.asprop_run.specs.Laws.{DeliveriesSettle, EachRun, OneText, OrdersSettle, PrintedRoutesAreRight, StableTablesAreKept};
+ghost use Rattle.asprop_run.specs.Laws.{DeliveriesSettle, EachRun, OneText, OrdersSettle, PrintedRoutesAreRight, StableTablesAreKept, SweepsAreIndependent};
 ghost use Rattle.asprop_run.specs.Statuses.{IsComplete, RunsAsTold};
 
 use io_edge::{Inputs, Sink};
@@ -8,6 +8,7 @@ use policy_kinds::Kind;
 use sim_core::kept_are_stable;
 use stability_laws::{any_order_settles, one_answer};
 use table_check::{accepted_are_rounds, one_verdict, printed_rounds_are_accepted};
+use trial_world::one_swept_text;
 
 /// Each run over files whose bytes are told, where no read of them fails, is one over those bytes. And where
 /// these files are accepted and no write fails, it ends with Done or SomeRefused, or memory ran out.
@@ -23,6 +24,7 @@ pub fn answers_are_one_text()
     ensures { OneText }
 {
     one_answer::<Kind>();
+    one_swept_text();
     one_verdict::<Kind>();
 }
 
@@ -63,3 +65,9 @@ pub fn printed_routes_are_right()
     accepted_are_rounds::<Kind>();
     printed_rounds_are_accepted::<Kind>();
 }
+
+/// The text that answers the sweeps of a file is those that answer its parts, one behind the other, wherever it is cut: so many
+/// machines, each with a part, give the same bytes as one.
+pub fn sweeps_are_independent()
+    ensures { SweepsAreIndependent }
+{}

@@ -2,8 +2,8 @@
 //!
 //! [`run`] reads the words and the files that they name, writes the answers, and says why it stopped; its contract is the
 //! claim of the program. [`start`] is `run` over the arguments of a process. [`told_files_are_answered`],
-//! [`answers_are_one_text`], [`orders_settle`], [`messages_settle`], [`stable_tables_are_kept`] and
-//! [`printed_routes_are_right`] are laws of all runs, and of all texts that answer what is asked.
+//! [`answers_are_one_text`], [`orders_settle`], [`messages_settle`], [`stable_tables_are_kept`],
+//! [`printed_routes_are_right`] and [`sweeps_are_independent`] are laws of all runs, and of all texts that answer what is asked.
 #![tactic(auto)]
 
 mod activating;
@@ -20,7 +20,7 @@ mod types;
 
 pub use laws::{
     answers_are_one_text, messages_settle, orders_settle, printed_routes_are_right,
-    stable_tables_are_kept, told_files_are_answered,
+    stable_tables_are_kept, sweeps_are_independent, told_files_are_answered,
 };
 pub use running::run;
 pub use starting::start;

@@ -6,24 +6,52 @@ ghost use Rattle.sim_core.specs.Lent.{IsGraphOf};
 ghost use Rattle.sim_core.specs.Loaded.{world_of};
 ghost use Rattle.sim_core.specs.Loading.{IsLoadRefusal};
 ghost use Rattle.sim_core.specs.World.{HasCycle, topology};
-ghost use Rattle.asprop_run.specs.Loaded.{Serves, loaded_world};
+ghost use Rattle.sim_core.specs.Bases.{base_world};
+ghost use Rattle.asprop_run.specs.Loaded.{AreRanks, Serves, loaded_world};
 
 use as_graph::Graph;
 use net_names::Links;
+use rank_order::Ranks;
 use roa_table::Vrps;
 use scenario_text::Scenario;
 use sim_core::{Base, LoadError, Sim};
 use stability_laws::SeedPlan;
 use std::alloc::Global;
-use task_reading::Jobs;
+use task_reading::{Jobs, Needs};
 
-/// A world, with what is kept of it or without.
+/// A world, with what answers are made from.
 #[derive(Drop)]
 pub enum Loaded {
     /// With what is kept of it.
     Whole(Sim),
-    /// Without.
+    /// The world alone.
     Bare(Base),
+    /// With the ranks of its ASes.
+    Ranked(Base, Ranks),
+}
+
+// The world of these links, these payloads and this scenario, with its ranks.
+fn load_ranked(
+    alloc: Global,
+    links: Links,
+    vrps: Vrps,
+    scenario: Scenario,
+) -> Result<(Base, Ranks), LoadError>
+    ensures world { IfOk result (λ r. base_world r.0 ≡ world_of links vrps scenario) }
+    ensures no_cycle { IfOk result (λ r. HasCycle (base_world r.0) → ⊥) }
+    ensures few { IfOk result (λ r. as_count (topology (base_world r.0)) ≤ MOST_ASES) }
+    ensures ranks { IfOk result (λ r. AreRanks (base_world r.0) r.1) }
+    ensures refused { IfErr result (IsLoadRefusal (world_of links vrps scenario)) }
+{
+    let base = match Base::load(alloc, links, vrps, scenario) {
+        Ok(base) => base,
+        Err(error) => return Err(error),
+    };
+    match Ranks::build(alloc, base.graph()) {
+        Ok(ranks) => Ok((base, ranks)),
+        // The world has no provider cycle.
+        Err(_) => Err(LoadError::Memory),
+    }
 }
 
 impl Loaded {
@@ -42,16 +70,19 @@ impl Loaded {
         ensures serves { IfOk result (λ loaded. All (Serves loaded) jobs.now) }
         ensures refused { IfErr result (IsLoadRefusal (world_of links vrps scenario)) }
     {
-        if jobs.read_kept() {
-            match Sim::load(alloc, links, vrps, scenario) {
+        match jobs.needs() {
+            Needs::Kept => match Sim::load(alloc, links, vrps, scenario) {
                 Ok(sim) => Ok(Loaded::Whole(sim)),
                 Err(error) => Err(error),
-            }
-        } else {
-            match Base::load(alloc, links, vrps, scenario) {
+            },
+            Needs::World => match Base::load(alloc, links, vrps, scenario) {
                 Ok(base) => Ok(Loaded::Bare(base)),
                 Err(error) => Err(error),
-            }
+            },
+            Needs::Ranks => match load_ranked(alloc, links, vrps, scenario) {
+                Ok((base, ranks)) => Ok(Loaded::Ranked(base, ranks)),
+                Err(error) => Err(error),
+            },
         }
     }
 
@@ -61,7 +92,7 @@ impl Loaded {
     {
         match self {
             Loaded::Whole(sim) => sim.graph(),
-            Loaded::Bare(base) => base.graph(),
+            Loaded::Bare(base) | Loaded::Ranked(base, _) => base.graph(),
         }
     }
 
@@ -71,7 +102,7 @@ impl Loaded {
     {
         match self {
             Loaded::Whole(sim) => sim.plan(),
-            Loaded::Bare(base) => base.plan(),
+            Loaded::Bare(base) | Loaded::Ranked(base, _) => base.plan(),
         }
     }
 
@@ -81,7 +112,7 @@ impl Loaded {
     {
         match self {
             Loaded::Whole(sim) => sim.rounds(),
-            Loaded::Bare(base) => base.rounds(),
+            Loaded::Bare(base) | Loaded::Ranked(base, _) => base.rounds(),
         }
     }
 }

@@ -1,7 +1,13 @@
 //! The top call.
-ghost use Rattle.std.specs.Prelude.{◌≡◌, ◌⊎◌, IsSomeAnd, map, option_map, string_bytes};
+ghost use Rattle.std.specs.Prelude.{◌≡◌, ◌<◌, ◌⊎◌, All, Ok, true, IsSomeAnd, map, option_map, string_bytes};
 ghost use Rattle.io_edge.specs.Faults.{HasRisen};
-ghost use Rattle.asprop_run.specs.Runs.{IsRun, Worked};
+ghost use Rattle.net_names.specs.Prefixes.{PrefixValue};
+ghost use Rattle.as_graph.specs.Topology.{as_count};
+ghost use Rattle.sim_core.specs.World.{HasCycle, topology};
+ghost use Rattle.stability_laws.specs.Plans.{has_prefix};
+ghost use Rattle.asprop_run.specs.Loaded.{Serves, loaded_world};
+ghost use Rattle.asprop_run.specs.Runs.{IsRun, Outcome, Worked};
+ghost use Rattle.task_reading.specs.Jobs.{AreAlike};
 ghost use Rattle.asprop_run.specs.Streams.{stream_of};
 ghost use Rattle.task_reading.specs.Sources.{source_of};
 ghost use Rattle.task_reading.specs.Words.{HasSize, form_of, form_seen, name_by};
@@ -19,7 +25,7 @@ use io_edge::{Inputs, Sink};
 use sim_core::LoadError;
 use std::alloc::Global;
 use task_reading::{
-    AskError, Asked, Cause, Fault, File, Status, WordForm, ask, jobs_are_alike, read_words,
+    AskError, Asked, Cause, Fault, File, Jobs, Status, WordForm, ask, jobs_are_alike, read_words,
 };
 
 // The fault of a line of the option's file.
@@ -27,6 +33,25 @@ fn not_in_world(line: u32) -> Fault
     ensures { result ≡ InFile Script (NotInWorld line) }
 {
     Fault::InFile(File::Script, Cause::NotInWorld(line))
+}
+
+// Writes the answers to the jobs, where the world that is loaded has all that they name.
+fn answer_in<O: Sink>(
+    alloc: Global,
+    mut loaded: Loaded,
+    jobs: &Jobs,
+    out: &mut O,
+) -> Result<bool, Failure>
+    requires alike { AreAlike jobs.now }
+    requires serves { All (Serves loaded) jobs.now }
+    requires no_cycle { HasCycle (loaded_world loaded) → ⊥ }
+    requires populated { (p : PrefixValue) → has_prefix (loaded_world loaded).plan p ≡ true → 0 < as_count (topology (loaded_world loaded)) }
+    ensures { Outcome (Ok (record { world = loaded_world loaded; jobs = jobs.now })) result (stream_of O.written O.faults out.old out.new) }
+{
+    match first_outside(&loaded, jobs) {
+        Some(line) => Err(Failure::Fault(not_in_world(line))),
+        None => write_answers(alloc, &mut loaded, jobs, out),
+    }
 }
 
 // Reads the files that the form names, and writes the answers.
@@ -52,10 +77,7 @@ fn work<I: Inputs, O: Sink>(
     };
     jobs_are_alike(&jobs);
     match Loaded::load(alloc, links, vrps, scenario, &jobs) {
-        Ok(mut loaded) => match first_outside(&loaded, &jobs) {
-            Some(line) => Err(Failure::Fault(not_in_world(line))),
-            None => write_answers(alloc, &mut loaded, &jobs, out),
-        },
+        Ok(loaded) => answer_in(alloc, loaded, &jobs, out),
         Err(LoadError::Memory) => Err(Failure::Memory),
         Err(LoadError::TooManyAses) => Err(Failure::Fault(Fault::TooManyAses)),
         Err(LoadError::ProviderCycle(cycle)) => Err(Failure::Cycle(cycle)),
