@@ -1,9 +1,9 @@
 """A client of asprop: it makes the scenario and the script, runs the built program, and gives the answers as values.
 
 A World says what the files hold, a Script what is asked and edited, and run gives an answer for each line of the script;
-docs/GUIDE.md shows them.  check tells where tables are wrong.  What is proved of asprop is proved of the program alone.  This
-file proves nothing: it writes text, starts the program and reads text, and its own tests are the command `.ci/python`.  It
-needs Python 3.9 or newer and the standard library.
+docs/GUIDE.md shows them.  check tells where tables are wrong, and sweep counts trials in which ASes adopt a policy.  What is
+proved of asprop is proved of the program alone.  This file proves nothing: it writes text, starts the program and reads
+text, and its own tests are the command `.ci/python`.  It needs Python 3.9 or newer and the standard library.
 """
 from __future__ import annotations
 
@@ -89,6 +89,27 @@ class Wrong:
     asn: int
     holds: Optional[Route]
     right: Optional[Route]
+
+
+@dataclass(frozen=True)
+class Sweep:
+    """What is swept: a policy, the round and watched address whose packets are counted, a seed, how many trials, and the numbers
+    of ASes that adopt the policy.
+    """
+    kind: str
+    round: int
+    address: str
+    seed: int
+    trials: int
+    adopters: Sequence[int]
+
+
+@dataclass(frozen=True)
+class Trial:
+    """How many ASes adopt in a trial, the number of the trial from 1 on, and the counts of all ASes."""
+    adopters: int
+    number: int
+    counts: Counts
 
 
 #: The rows of a table by AS; None where an AS has no route.
@@ -315,3 +336,33 @@ def check(world: World, prefix: str, tables: Sequence[Table], program: str = './
         return None
     asn, holds = _row(answer['holds'])
     return Wrong(int(answer['round']), asn, holds, _row(answer['right'])[1])
+
+
+def _trials(output: str) -> List[Trial]:
+    # 40|1|to 4|3 for some ASes, then 40|1|no-route|0 and 40|1|loop|0, and so on
+    found: List[Trial] = []
+    counts = Counts()
+    for line in output.splitlines():
+        adopters, number, what, count = line.split('|')
+        counts.ases += int(count)
+        if what.startswith('to '):
+            counts.to[int(what[3:])] = int(count)
+        elif what == 'no-route':
+            counts.no_route = int(count)
+        else:
+            counts.loop = int(count)
+            found.append(Trial(int(adopters), int(number), counts))
+            counts = Counts()
+    return found
+
+
+def sweep(world: World, sweeps: Iterable[Sweep], program: str = './asprop', seconds: Optional[float] = None) -> List[Trial]:
+    """The trials of all sweeps, one after the other: of each sweep for each number of adopters all trials, as they are given.
+
+    Raises as run does.
+    """
+    text = ''
+    for it in sweeps:
+        numbers = ' '.join(map(str, it.adopters))
+        text += 'sweep %s %d %s %d %d %s\n' % (it.kind, it.round, it.address, it.seed, it.trials, numbers)
+    return _trials(_output(world, 'sweep', text, program, seconds))
