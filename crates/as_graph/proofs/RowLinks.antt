@@ -1,5 +1,5 @@
 -- The links that rows make are those that the rows show.
-use Rattle.std.proofs.Common.{◌≡◌, inl, inr, ℕ, ◌<◌, ◌≤◌, Bool, true, false, ◌&&◌, ◌==◌, cond, nat_lt, nat_eq, Option, Some, None, option_map, List, [], ◌∷◌, ◌++◌, refl, sym, ◌∙◌, ap, subst, arith}
+use Rattle.std.proofs.Common.{◌≡◌, inl, inr, ℕ, ◌<◌, ◌≤◌, Bool, true, false, ◌&&◌, ◌==◌, cond, nat_lt, nat_eq, Option, Some, None, is_some, option_map, true≢false, List, [], ◌∷◌, ◌++◌, refl, sym, ◌∙◌, ap, subst, arith}
 use Rattle.std.proofs.lemmas.Bool.{cases_Bool, ltb-true, ltb-false, lt-ltb, eqb-true}
 use Rattle.std.proofs.lemmas.Bool.Decides.{nat_tests}
 use Rattle.std.specs.declared.cmp.Ordering.{Ordering}
@@ -117,6 +117,13 @@ pub get-links_of : (m : Rows) → IsUnique nat_eq m → (q : ℕ × ℕ) → map
 get-links_of m unique q = map.get-from_entries pairs_total (row_links m.entries) q ∙ elim (cases_Bool (nat_lt q.0 q.1)) [
   | inl e ↦ rows_find m.entries unique q.0 q.1 (ltb-true q.0 q.1 e) ∙ sym (ap (λ t. cond t (rel_of m q.0 q.1) None) e)
   | inr e ↦ rows_low m.entries q.0 q.1 (ltb-false q.0 q.1 e) ∙ sym (ap (λ t. cond t (rel_of m q.0 q.1) None) e)
+]
+
+-- each link of rows stands at the pair with the lower AS first
+pub links_of-lower : (m : Rows) → IsUnique nat_eq m → (q : ℕ × ℕ) (r : Rel) → map.get (links_of m) q ≡ Some r → q.0 < q.1
+links_of-lower m unique q r got = elim (cases_Bool (nat_lt q.0 q.1)) [
+  | inl e ↦ ltb-true q.0 q.1 e
+  | inr e ↦ absurd (true≢false (ap is_some (sym got ∙ get-links_of m unique q ∙ ap (λ t. cond t (rel_of m q.0 q.1) None) e)))
 ]
 
 -- what the topology says of two ASes, the row of the first says

@@ -1,10 +1,11 @@
 //! The graph.
-ghost use Rattle.std.specs.Prelude.{◌≡◌, ◌<◌, ◌≤◌, ℕ, length, nat_eq, true, false, IfOk, IfErr, OnOk, OnErr, IfSome, IfNone};
+ghost use Rattle.std.specs.Prelude.{◌≡◌, ◌<◌, ◌≤◌, ℕ, Some, length, nat_eq, true, false, IfOk, IfErr, OnOk, OnErr, IfSome, IfNone};
 ghost use Rattle.std.specs.List.{IsDistinct};
 ghost use Rattle.std.specs.List.Sorted.{IsStrictlyIncreasing};
 ghost use Rattle.std.specs.FinMap as map;
 ghost use Rattle.std.specs.FinSet as set;
 ghost use Rattle.net_names.specs.Numbers.{occurs};
+ghost use Rattle.net_names.specs.declared.routes.Rel.{Rel as ARel};
 ghost use Rattle.as_graph.specs.Neighbours.{AreNeighbours};
 ghost use Rattle.as_graph.specs.Topology.{relation, has, as_count, unmarked};
 ghost use Rattle.as_graph.specs.Following.{IsAbove, IsNext};
@@ -82,6 +83,14 @@ impl Graph {
         ensures { result ≡ relation self.now a b }
     {
         self.rows.get(&a)?.rel(b)
+    }
+
+    /// Each link stands at the pair with the lower AS first.
+    pub fn links_stand_lower_first(&self)
+        ensures { (q : ℕ × ℕ) (r : ARel) → map.get self.now.links q ≡ Some r → q.0 < q.1 }
+    {
+        // It is so of the rows of every graph.
+        let _ = self.rows.len();
     }
 
     /// The neighbours of an AS in rising order of their numbers; none where the AS is not there.

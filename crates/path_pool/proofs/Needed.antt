@@ -1,12 +1,12 @@
 -- Who needs a cell.
-use Rattle.std.proofs.Common.{◌≡◌, ◌≢◌, ℕ, ◌<◌, ◌≤◌, Bool, true, false, ◌&&◌, ltb, eqb, cond, List, length, refl, ap, ◌∙◌, arith, inl, inr, Option, Some, None}
+use Rattle.std.proofs.Common.{◌≡◌, ◌≢◌, ℕ, ◌<◌, ◌≤◌, Bool, true, false, ◌&&◌, ltb, eqb, cond, ◌+◌, subst, List, length, refl, ap, ◌∙◌, arith, inl, inr, Option, Some, None}
 use Rattle.std.specs.Prelude.{◌⊎◌}
 use Rattle.std.proofs.lemmas.Bool.{cases_lt, ltb-true, eqb-true, and_parts}
 use Rattle.std.proofs.lemmas.List.Sums.{get_or-le-sum_by}
 use Rattle.path_pool.specs.declared.pool.Cell.{Cell}
 use Rattle.path_pool.specs.declared.path_id.PathId.{PathId}
-use Rattle.path_pool.specs.Region.{blank, cell_at, tail_of, IsLive, is_above, cells_above, holds_of, IsRegion, GainsCell}
-use Rattle.path_pool.proofs.RegionLemmas.{one_if, count_some, above_is, live_inside}
+use Rattle.path_pool.specs.Region.{blank, cell_at, tail_of, list_of, IsLive, is_above, cells_above, holds_of, IsRegion, GainsCell}
+use Rattle.path_pool.proofs.RegionLemmas.{one_if, count_some, above_is, live_inside, length-list_of}
 
 some_tail : (b : Bool) (t k : ℕ) → (let o : Option PathId = cond b (Some (record { 0 = t })) None in o ≡ Some (record { 0 = k })) → (b ≡ true) × (t ≡ k)
 some_tail true t k e =
@@ -26,6 +26,15 @@ needed_live xs free spare limit k r (inr o) =
     let above : is_above k c ≡ true = above_is k c o.1.0 (ltb-true 1 c.len parts.0) parts.1 in
     let one : one_if (is_above k c) ≤ cells_above xs k = get_or-le-sum_by (λ c. one_if (is_above k c)) xs o.0 blank (live_inside xs o.0 o.1.0) in
     omega (arith, one, ap one_if above, r.counted k)
+
+-- a path is one AS longer than its tail
+pub tail_shorter : (xs : List Cell) (free spare limit j k : ℕ) → IsRegion xs free spare limit → IsLive xs j → tail_of (cell_at xs j) ≡ Some (record { 0 = k }) →
+    length (list_of xs j) ≡ length (list_of xs k) + 1
+tail_shorter xs free spare limit j k r live is =
+    let c : Cell = cell_at xs j in
+    let tail : (ltb 1 c.len ≡ true) × (c.tail ≡ k) = some_tail (ltb 1 c.len) c.tail k is in
+    let less : (cell_at xs k).len + 1 ≡ c.len = subst (λ (t : ℕ). (cell_at xs t).len + 1 ≡ c.len) tail.1 ((r.linked j (live_inside xs j live)).shorter (ltb-true 1 c.len tail.0)) in
+    omega (arith, length-list_of xs j, length-list_of xs k, less)
 
 -- one that is live is needed
 pub live_needed : (xs : List Cell) (k : ℕ) → IsLive xs k →

@@ -184,7 +184,7 @@ fn look_at<P: RoutePolicy, V: OriginStates>(
     let Some(held) = held_near(at.table, overlay, neighbour.asn, place) else {
         return;
     };
-    let sender = at.book.policy(neighbour.asn);
+    let sender = at.book.policy_near(neighbour.asn, place);
     if !sender.exports(held.class, held.otc, neighbour.rel.converse()) {
         return;
     }
@@ -216,7 +216,7 @@ pub(crate) fn best_view<P: RoutePolicy, V: OriginStates>(
 {
     let chooser = Chooser {
         asn: turn.asn,
-        own: at.book.policy(turn.asn),
+        own: at.book.policy_near(turn.asn, turn.place),
         reads,
         may_loop: turn.may_loop,
         part: turn.part,

@@ -42,7 +42,7 @@ pub(crate) fn evaluate_among<P: RoutePolicy, V: OriginStates, L: Ledger>(
             place: 0,
         };
     }
-    let reads = at.book.policy(turn.asn).reads_state();
+    let reads = at.book.policy_near(turn.asn, turn.place).reads_state();
     let Best { view, place } = best_view(at, reads, pool, overlay, turn, neighbours, places);
     match view {
         Some(view) => ChoiceNear {

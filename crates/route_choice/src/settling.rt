@@ -55,7 +55,7 @@ fn wanted_by<P: RoutePolicy, V>(
         },
         Choice::Via { neighbour, rel } => match held_near(at.table, overlay, neighbour, from) {
             Some(given) => {
-                let sender = at.book.policy(neighbour);
+                let sender = at.book.policy_near(neighbour, from);
                 let receiver = at.book.policy(asn);
                 Wanted::Longer(Held {
                     class: class_from(rel),

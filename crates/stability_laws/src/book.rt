@@ -1,9 +1,9 @@
 //! Which policy an AS has.
-ghost use Rattle.std.specs.Prelude.{◌≡◌, ◌==◌, IsTrue, OnOk, OnErr, nat_eq, position};
+ghost use Rattle.std.specs.Prelude.{◌≡◌, ◌==◌, IsTrue, OnOk, OnErr, IfSome, Some, nat_eq, position};
 ghost use Rattle.std.specs.List.{IsDistinct};
 ghost use Rattle.std.specs.FinMap as map;
 ghost use Rattle.std.specs.FinSet as set;
-ghost use Rattle.indexmap.specs.IndexMap.{keys};
+ghost use Rattle.indexmap.specs.IndexMap.{keys, get};
 ghost use Rattle.stability_laws.specs.Book.{policy_at, with_room, with_policy, without_policy};
 
 use indexmap::IndexMap;
@@ -24,6 +24,20 @@ fn row_of<P>(named: &IndexMap<Asn, Option<P>>, asn: Asn) -> Option<usize>
         return named.get_index_of(&asn);
     }
     ases.iter().position(|a| asn == *a)
+}
+
+// The row at a place, where it is that of the AS.
+#[inline(always)]
+fn row_near<P>(named: &IndexMap<Asn, Option<P>>, asn: Asn, place: usize) -> Option<&Option<P>>
+    ensures row { IfSome result (λ kept. get nat_eq named.now asn ≡ Some kept.now) }
+    ensures once { IsDistinct nat_eq (keys named.now) }
+{
+    // It says that each AS has one row.
+    let _ = named.keys();
+    match named.get_index(place) {
+        Some((found, kept)) if *found == asn => Some(kept),
+        _ => None,
+    }
 }
 
 /// A policy for each AS: that of the named ones, and one for the rest. Contracts see the policy of the
@@ -67,6 +81,22 @@ impl<P> Book<P> {
             return &self.rest;
         }
         self.policy_by_row(asn)
+    }
+
+    /// The policy of an AS, as `policy` gives it, sought first at a place among the ASes for which there is room. The
+    /// place is a hint.
+    #[inline(always)]
+    pub fn policy_near(&self, asn: Asn, place: usize) -> &P
+        ensures { result.now ≡ policy_at self.now asn }
+    {
+        if self.named.is_empty() {
+            return &self.rest;
+        }
+        match row_near(&self.named, asn, place) {
+            Some(Some(policy)) => policy,
+            Some(None) => &self.rest,
+            None => self.policy_by_row(asn),
+        }
     }
 
     // The policy of an AS, where some are named.

@@ -11,7 +11,7 @@ pub returns-in-Some-clause-choice : goal.returns-in-Some-clause-choice
 returns-in-Some-clause-choice g c =
     let none : seeds_of c.args.pool.now c.args.at.now.seeds.now c.args.turn.asn ≡ None = search rules in
     let reads : c.reads_state-reads.result ≡ (g.P.RoutePolicy.meaning (policy_at c.args.at.now.book.now c.args.turn.asn)).reads_state =
-    c.reads_state-reads.ensures ∙ ap (λ p. (g.P.RoutePolicy.meaning p).reads_state) c.policy.ensures in
+    c.reads_state-reads.ensures ∙ ap (λ p. (g.P.RoutePolicy.meaning p).reads_state) c.policy_near.ensures in
     choice_seen g.P.RoutePolicy.meaning c.args.at.now.graph.now c.args.at.now.book.now (routing_of c.args.pool.now c.args.at.now.table.now c.args.overlay.now) c.args.turn.asn
     (g.met.P.RoutePolicy.ignores_state (policy_at c.args.at.now.book.now c.args.turn.asn)) c.args.turn.part (g.V.OriginStates.state_of c.args.at.now.states.now (prefix_of c.args.at.now.table.now))
     c.reads_state-reads.result reads (seeds_of c.args.pool.now c.args.at.now.seeds.now c.args.turn.asn) none c.in-Some.view (rw c.in-Some.is at c.best_view-place.ensures)
@@ -20,7 +20,7 @@ pub returns-in-None-clause-choice : goal.returns-in-None-clause-choice
 returns-in-None-clause-choice g c =
     let none : seeds_of c.args.pool.now c.args.at.now.seeds.now c.args.turn.asn ≡ None = search rules in
     let reads : c.reads_state-reads.result ≡ (g.P.RoutePolicy.meaning (policy_at c.args.at.now.book.now c.args.turn.asn)).reads_state =
-    c.reads_state-reads.ensures ∙ ap (λ p. (g.P.RoutePolicy.meaning p).reads_state) c.policy.ensures in (
+    c.reads_state-reads.ensures ∙ ap (λ p. (g.P.RoutePolicy.meaning p).reads_state) c.policy_near.ensures in (
       none,
       nothing_seen g.P.RoutePolicy.meaning c.args.at.now.graph.now c.args.at.now.book.now (routing_of c.args.pool.now c.args.at.now.table.now c.args.overlay.now) c.args.turn.asn
           (g.met.P.RoutePolicy.ignores_state (policy_at c.args.at.now.book.now c.args.turn.asn)) c.args.turn.part (g.V.OriginStates.state_of c.args.at.now.states.now (prefix_of c.args.at.now.table.now))
