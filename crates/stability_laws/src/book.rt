@@ -92,10 +92,12 @@ impl<P> Book<P> {
         if self.named.is_empty() {
             return &self.rest;
         }
-        match row_near(&self.named, asn, place) {
-            Some(Some(policy)) => policy,
-            Some(None) => &self.rest,
-            None => self.policy_by_row(asn),
+        let Some(kept) = row_near(&self.named, asn, place) else {
+            return self.policy_by_row(asn);
+        };
+        match kept {
+            Some(policy) => policy,
+            None => &self.rest,
         }
     }
 
