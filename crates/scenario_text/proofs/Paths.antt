@@ -8,7 +8,7 @@ use Rattle.std.proofs.lemmas.Bool.{le-leb, lt-leb}
 use Rattle.net_names.specs.Steps.{◌>>=◌}
 use Rattle.net_names.specs.Texts.{asn_of, cut_at, fields}
 use Rattle.net_names.proofs.Cuts.{fields_uncut, fields_cut}
-use Rattle.scenario_text.specs.Forms.{path_of}
+use Rattle.scenario_text.specs.Forms.{few_numbers}
 
 -- the numbers that the rest of the text writes, behind those so far, where all are at most 64
 abbrev pub path_on : List ℕ → Option (List ℕ) → Option (List ℕ)
@@ -51,8 +51,8 @@ limited : (os : List (Option ℕ)) (all : Bool) → list_all is_some os ≡ all
 limited os true e = rw (length-some_prefix os e) (few_or_not (nat_le (length os) 64) (some_prefix os))
 limited os false e = refl
 
-pub starts : (text : List ℕ) → path_on [] (numbers_of text) ≡ path_of text
-unfolding path_of
+pub starts : (text : List ℕ) → path_on [] (numbers_of text) ≡ few_numbers asn_of text
+unfolding few_numbers
 starts text =
     let os = map asn_of (fields 32 text) in
     starts_with (all_some os) ∙ ap (λ (o : Option (List ℕ)). o >>= λ ns. if nat_le (length ns) 64 then Some ns else None) (all_are os) ∙ limited os (list_all is_some os) refl

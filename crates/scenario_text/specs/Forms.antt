@@ -26,9 +26,9 @@ pair byte first second text = cut_at byte text >>= λ p. option_zip (first p.0) 
 unfoldable pub vrp_of : List ℕ → Option VrpValue
 vrp_of t = pair 32 vrp_asn_of (pair 32 prefix_of (numeral 10 3)) t >>= λ v. vrp_at v.1.0 v.1.1 v.0
 
--- a path is 1 to 64 AS numbers with one space between (own format)
-unfoldable pub path_of : List ℕ → Option (List ℕ)
-path_of text = let ns = map asn_of (fields 32 text) in
+-- 1 to 64 numbers, each in this grammar, with one space between (own format)
+unfoldable pub few_numbers : (List ℕ → Option ℕ) → List ℕ → Option (List ℕ)
+few_numbers number text = let ns = map number (fields 32 text) in
     then_some (list_all is_some ns && nat_le (length ns) MOST_NUMBERS) (some_prefix ns)
 
 -- a line that begins with this word, and goes on with these fields, asks for this (own format)
@@ -56,5 +56,5 @@ act_of l = fold option_or (option_map act.Query (query_of l)) (map (λ f. option
     form "unlink " (λ t. option_filter (λ x. not (x.0 == x.1)) (pair 124 asn_of asn_of t)) (λ x. Unlink x.0 x.1) ∷
     form "policy " (pair 32 asn_of kind_named) (λ x. Policy x.0 x.1) ∷
     form "vrp-add " vrp_of VrpAdd ∷ form "vrp-take " vrp_of VrpTake ∷
-    form "announce " (pair 32 prefix_of path_of) (λ x. Announce x.0 x.1) ∷
+    form "announce " (pair 32 prefix_of (few_numbers asn_of)) (λ x. Announce x.0 x.1) ∷
     form "withdraw " (pair 32 prefix_of asn_of) (λ x. Withdraw x.0 x.1) ∷ []))

@@ -1,10 +1,10 @@
 //! The forms of a script's line.
 ghost use Rattle.std.specs.Prelude.{◌≡◌, ◌^◌, ◌<◌, ◌≤◌, length, Some, IfOk, IfSome, option_and_then, option_map};
-ghost use Rattle.net_names.specs.Texts.{after, prefix_of};
+ghost use Rattle.net_names.specs.Texts.{after, asn_of, prefix_of};
 ghost use Rattle.scenario_text.specs.declared.acts.Act.TheVariants.{Edit as AnEdit};
 ghost use Rattle.scenario_text.specs.declared.acts.Edit.TheVariants.{Announce as AnAnnounce};
 ghost use Rattle.scenario_text.specs.LineValues.{IsSoundAct};
-ghost use Rattle.scenario_text.specs.Forms.{path_of, pair, form, for_of, query_of, act_of};
+ghost use Rattle.scenario_text.specs.Forms.{few_numbers, pair, form, for_of, query_of, act_of};
 
 use crate::acts::{Act, Edit, Query};
 use crate::fields::{
@@ -17,7 +17,7 @@ use std::alloc::Global;
 
 // The ASes of a path.
 fn path(alloc: Global, text: &[u8]) -> Result<Option<Path>, NoMemory>
-    ensures gives { IfOk result (λ path. path ≡ path_of text.now) }
+    ensures gives { IfOk result (λ path. path ≡ few_numbers asn_of text.now) }
     ensures few { IfOk result (λ path. IfSome path (λ ns. (1 ≤ length ns) × (length ns ≤ MOST_NUMBERS))) }
 {
     let mut path = Path::new(alloc);
@@ -68,7 +68,7 @@ pub fn read_for(line: &[u8]) -> Option<(u32, Prefix)>
 // What a line asks for that announces.
 #[tactic(auto, unfolding(crate::specs::Forms::pair))]
 fn announcement(alloc: Global, line: &[u8]) -> Result<Option<Act>, NoMemory>
-    ensures gives { IfOk result (λ act. act ≡ option_map AnEdit (form "announce " (pair 32 prefix_of path_of) (λ x. AnAnnounce x.0 x.1) line.now)) }
+    ensures gives { IfOk result (λ act. act ≡ option_map AnEdit (form "announce " (pair 32 prefix_of (few_numbers asn_of)) (λ x. AnAnnounce x.0 x.1) line.now)) }
     ensures sound { IfOk result (λ act. IfSome act IsSoundAct) }
 {
     let Some(rest) = strip(line, b"announce ") else {
