@@ -66,7 +66,10 @@ fn is_held_by_offer<P: RoutePolicy, V>(
 ) -> bool
     requires held { AreHeld pool.now at.now.table.now overlay.now }
     requires before { before.now ≡ joined at.now.table.now overlay.now asn }
-    ensures { IsTrue result → (seed : Option ASeed) → named_by (λ n. P.meaning (policy_at at.now.book.now n)) seed (routing_of pool.now at.now.table.now overlay.now) asn choice ≡ routing_of pool.now at.now.table.now overlay.now asn }
+    ensures { IsTrue result → (seed : Option ASeed) →
+        named_by (λ n. P.meaning (policy_at at.now.book.now n)) seed
+        (routing_of pool.now at.now.table.now overlay.now) asn choice
+        ≡ routing_of pool.now at.now.table.now overlay.now asn }
 {
     let Some(have) = before else {
         return false;
@@ -99,10 +102,13 @@ fn reserve_cell(pool: &mut PathPool) -> Result<(), NoMemory>
 
 // Makes room for one more entry. All ASes hold what they held.
 fn make_room(pool: &mut PathPool, overlay: &mut Overlay) -> Result<(), NoMemory>
-    ensures can { OnOk result ((seeds : TheSeeds) (table : ATable) → CanTurn pool.old seeds table overlay.old → CanStep pool.new seeds table overlay.new 1) }
-    ensures same { (table : ATable) → AreHeld pool.old table overlay.old → SameHeld pool.old pool.new table overlay.old overlay.new }
+    ensures can { OnOk result ((seeds : TheSeeds) (table : ATable) → CanTurn pool.old seeds table overlay.old →
+        CanStep pool.new seeds table overlay.new 1) }
+    ensures same { (table : ATable) → AreHeld pool.old table overlay.old →
+        SameHeld pool.old pool.new table overlay.old overlay.new }
     ensures paths { SamePaths pool.old pool.new }
-    ensures kept { (seeds : TheSeeds) → AreSeedsLive pool.old seeds → IsKept pool.old pool.new seeds overlay.old overlay.new }
+    ensures kept { (seeds : TheSeeds) → AreSeedsLive pool.old seeds →
+        IsKept pool.old pool.new seeds overlay.old overlay.new }
 {
     overlay.room(1)?;
     reserve_cell(pool)?;
@@ -120,9 +126,15 @@ fn give_entry<P: RoutePolicy, V>(
 ) -> Result<bool, NoMemory>
     requires can { CanTurn pool.old at.now.seeds.now at.now.table.now overlay.old }
     requires choice { IsNameable at.now.seeds.now at.now.table.now overlay.old asn chosen.choice }
-    requires some { IsSome (named_by (λ n. P.meaning (policy_at at.now.book.now n)) (seeds_of pool.old at.now.seeds.now asn) (routing_of pool.old at.now.table.now overlay.old) asn chosen.choice) }
-    requires kept { GivesUpNone pool.old at.now.table.now overlay.old asn (named_by (λ n. P.meaning (policy_at at.now.book.now n)) (seeds_of pool.old at.now.seeds.now asn) (routing_of pool.old at.now.table.now overlay.old) asn chosen.choice) }
-    ensures given { IfOk result (IsGiven pool.old pool.new at.now.table.now overlay.old overlay.new asn (named_by (λ n. P.meaning (policy_at at.now.book.now n)) (seeds_of pool.old at.now.seeds.now asn) (routing_of pool.old at.now.table.now overlay.old) asn chosen.choice)) }
+    requires some { IsSome (named_by (λ n. P.meaning (policy_at at.now.book.now n))
+        (seeds_of pool.old at.now.seeds.now asn) (routing_of pool.old at.now.table.now overlay.old) asn
+        chosen.choice) }
+    requires kept { GivesUpNone pool.old at.now.table.now overlay.old asn
+        (named_by (λ n. P.meaning (policy_at at.now.book.now n)) (seeds_of pool.old at.now.seeds.now asn)
+        (routing_of pool.old at.now.table.now overlay.old) asn chosen.choice) }
+    ensures given { IfOk result (IsGiven pool.old pool.new at.now.table.now overlay.old overlay.new asn
+        (named_by (λ n. P.meaning (policy_at at.now.book.now n)) (seeds_of pool.old at.now.seeds.now asn)
+        (routing_of pool.old at.now.table.now overlay.old) asn chosen.choice)) }
     ensures err { OnErr result (SameHeld pool.old pool.new at.now.table.now overlay.old overlay.new) }
     ensures kept { IsKept pool.old pool.new at.now.seeds.now overlay.old overlay.new }
 {
@@ -143,7 +155,8 @@ fn take_away(
     requires fresh { (h : AHeld) → before.now ≡ Some h → change_at overlay.old asn ≡ None }
     ensures none { OnOk result (joined table.now overlay.new asn ≡ None) }
     ensures others { (a : ℕ) → a ≢ asn → change_at overlay.new a ≡ change_at overlay.old a }
-    ensures changed { IfOk result (λ b. IsTrue b → (joined table.now overlay.old asn ≢ None) × (has_change overlay.new asn ≡ true)) }
+    ensures changed { IfOk result (λ b. IsTrue b → (joined table.now overlay.old asn ≢ None) ×
+        (has_change overlay.new asn ≡ true)) }
     ensures unchanged { IfOk result (λ b. b ≡ false → overlay.new ≡ overlay.old) }
     ensures err { OnErr result (change_at overlay.new asn ≡ change_at overlay.old asn) }
     ensures uses { (k : ℕ) → overlay_uses overlay.new k ≡ overlay_uses overlay.old k }
@@ -170,8 +183,12 @@ pub(crate) fn give_chosen<P: RoutePolicy, V>(
     requires can { CanTurn pool.old at.now.seeds.now at.now.table.now overlay.old }
     requires choice { IsNameable at.now.seeds.now at.now.table.now overlay.old asn chosen.choice }
     requires before { before.now ≡ joined at.now.table.now overlay.old asn }
-    requires kept { GivesUpNone pool.old at.now.table.now overlay.old asn (named_by (λ n. P.meaning (policy_at at.now.book.now n)) (seeds_of pool.old at.now.seeds.now asn) (routing_of pool.old at.now.table.now overlay.old) asn chosen.choice) }
-    ensures given { IfOk result (IsGiven pool.old pool.new at.now.table.now overlay.old overlay.new asn (named_by (λ n. P.meaning (policy_at at.now.book.now n)) (seeds_of pool.old at.now.seeds.now asn) (routing_of pool.old at.now.table.now overlay.old) asn chosen.choice)) }
+    requires kept { GivesUpNone pool.old at.now.table.now overlay.old asn
+        (named_by (λ n. P.meaning (policy_at at.now.book.now n)) (seeds_of pool.old at.now.seeds.now asn)
+        (routing_of pool.old at.now.table.now overlay.old) asn chosen.choice) }
+    ensures given { IfOk result (IsGiven pool.old pool.new at.now.table.now overlay.old overlay.new asn
+        (named_by (λ n. P.meaning (policy_at at.now.book.now n)) (seeds_of pool.old at.now.seeds.now asn)
+        (routing_of pool.old at.now.table.now overlay.old) asn chosen.choice)) }
     ensures err { OnErr result (SameHeld pool.old pool.new at.now.table.now overlay.old overlay.new) }
     ensures kept { IsKept pool.old pool.new at.now.seeds.now overlay.old overlay.new }
 {

@@ -67,15 +67,25 @@ fn go_up<P: RoutePolicy, V: OriginStates, L: Ledger>(
     overlay: &mut Overlay,
     steps: &mut Steps<L>,
 ) -> Result<Queue, NoMemory>
-    requires falls { (a b : ℕ) → relation world.now.at.graph.now a b ≡ Some Customer → suc (rank_of world.now.ranks b) ≤ rank_of world.now.ranks a }
+    requires falls { (a b : ℕ) → relation world.now.at.graph.now a b ≡ Some Customer →
+        suc (rank_of world.now.ranks b) ≤ rank_of world.now.ranks a }
     requires few { as_count world.now.at.graph.now ≤ MOST_ASES }
     requires seeds { (b : ℕ) → has world.now.at.graph.now b ≡ false → seed_at world.now.at.seeds.now b ≡ None }
     requires fresh { (b : ℕ) → change_at overlay.old b ≡ None }
-    requires entries { (b : ℕ) → has world.now.at.graph.now b ≡ false → occurs b touched.now ≡ false → held_at world.now.at.table.now b ≡ None }
-    requires right { (b : ℕ) → has world.now.at.graph.now b ≡ true → occurs b touched.now ≡ false → IsRight (setting_at P.meaning V.state_of world.now.at) (seeds_of pool.old world.now.at.seeds.now) (table_routing pool.old world.now.at.table.now) b }
-    requires can { (first : APool) × CanGoOn (has world.now.at.graph.now) first pool.old world.now.at.seeds.now world.now.at.table.now overlay.old }
-    ensures done { IfOk result (λ q. (n : ℕ) × (steps.new ≡ steps.old + n) × HasGoneDown (setting_at P.meaning V.state_of world.now.at) (rank_of world.now.ranks) touched.now pool.new world.now.at.seeds.now world.now.at.table.now overlay.new q n 0) }
-    ensures can { OnOk result ((first : APool) → CanGoOn (has world.now.at.graph.now) first pool.old world.now.at.seeds.now world.now.at.table.now overlay.old → CanGoOn (has world.now.at.graph.now) first pool.new world.now.at.seeds.now world.now.at.table.now overlay.new) }
+    requires entries { (b : ℕ) → has world.now.at.graph.now b ≡ false → occurs b touched.now ≡ false →
+        held_at world.now.at.table.now b ≡ None }
+    requires right { (b : ℕ) → has world.now.at.graph.now b ≡ true → occurs b touched.now ≡ false →
+        IsRight (setting_at P.meaning V.state_of world.now.at) (seeds_of pool.old world.now.at.seeds.now)
+        (table_routing pool.old world.now.at.table.now) b }
+    requires can { (first : APool) × CanGoOn (has world.now.at.graph.now) first pool.old world.now.at.seeds.now
+        world.now.at.table.now overlay.old }
+    ensures done { IfOk result (λ q. (n : ℕ) × (steps.new ≡ steps.old + n) ×
+        HasGoneDown (setting_at P.meaning V.state_of world.now.at) (rank_of world.now.ranks) touched.now pool.new
+        world.now.at.seeds.now world.now.at.table.now overlay.new q n 0) }
+    ensures can { OnOk result ((first : APool) →
+        CanGoOn (has world.now.at.graph.now) first pool.old world.now.at.seeds.now world.now.at.table.now
+        overlay.old → CanGoOn (has world.now.at.graph.now) first pool.new world.now.at.seeds.now
+        world.now.at.table.now overlay.new) }
     ensures kept { IsKept pool.old pool.new world.now.at.seeds.now overlay.old overlay.new }
 {
     offer_names::<P>();
@@ -105,14 +115,26 @@ fn go_down<P: RoutePolicy, V: OriginStates, L: Ledger>(
     steps: &mut Steps<L>,
 ) -> Result<(), NoMemory>
     requires no_cycle { HasNoProviderCycle (relation world.now.at.graph.now) }
-    requires falls { (a b : ℕ) → relation world.now.at.graph.now a b ≡ Some Customer → suc (rank_of world.now.ranks b) ≤ rank_of world.now.ranks a }
+    requires falls { (a b : ℕ) → relation world.now.at.graph.now a b ≡ Some Customer →
+        suc (rank_of world.now.ranks b) ≤ rank_of world.now.ranks a }
     requires few { as_count world.now.at.graph.now ≤ MOST_ASES }
     requires seeds { (b : ℕ) → has world.now.at.graph.now b ≡ false → seed_at world.now.at.seeds.now b ≡ None }
-    requires work { (n : ℕ) × HasGoneDown (setting_at P.meaning V.state_of world.now.at) (rank_of world.now.ranks) touched.now pool.old world.now.at.seeds.now world.now.at.table.now overlay.old whole.old n 0 }
-    requires can { (first : APool) × CanGoOn (has world.now.at.graph.now) first pool.old world.now.at.seeds.now world.now.at.table.now overlay.old }
-    ensures exact { OnOk result (IsExact (setting_at P.meaning V.state_of world.now.at) (seeds_of pool.new world.now.at.seeds.now) (table_routing pool.new world.now.at.table.now) (routing_of pool.new world.now.at.table.now overlay.new) (has_change overlay.new)) }
-    ensures enough { OnOk result ((first n : ℕ) → steps.old ≡ first + n → HasGoneDown (setting_at P.meaning V.state_of world.now.at) (rank_of world.now.ranks) touched.now pool.old world.now.at.seeds.now world.now.at.table.now overlay.old whole.old n 0 → AreEnough (relation world.now.at.graph.now) (λ b. occurs b touched.now) (has_change overlay.new) first steps.new) }
-    ensures can { OnOk result ((first : APool) → CanGoOn (has world.now.at.graph.now) first pool.old world.now.at.seeds.now world.now.at.table.now overlay.old → CanGoOn (has world.now.at.graph.now) first pool.new world.now.at.seeds.now world.now.at.table.now overlay.new) }
+    requires work { (n : ℕ) × HasGoneDown (setting_at P.meaning V.state_of world.now.at) (rank_of world.now.ranks)
+        touched.now pool.old world.now.at.seeds.now world.now.at.table.now overlay.old whole.old n 0 }
+    requires can { (first : APool) × CanGoOn (has world.now.at.graph.now) first pool.old world.now.at.seeds.now
+        world.now.at.table.now overlay.old }
+    ensures exact { OnOk result (IsExact (setting_at P.meaning V.state_of world.now.at)
+        (seeds_of pool.new world.now.at.seeds.now) (table_routing pool.new world.now.at.table.now)
+        (routing_of pool.new world.now.at.table.now overlay.new) (has_change overlay.new)) }
+    ensures enough { OnOk result ((first n : ℕ) → steps.old ≡ first + n →
+        HasGoneDown (setting_at P.meaning V.state_of world.now.at) (rank_of world.now.ranks) touched.now pool.old
+        world.now.at.seeds.now world.now.at.table.now overlay.old whole.old n 0 →
+        AreEnough (relation world.now.at.graph.now) (λ b. occurs b touched.now) (has_change overlay.new) first
+        steps.new) }
+    ensures can { OnOk result ((first : APool) →
+        CanGoOn (has world.now.at.graph.now) first pool.old world.now.at.seeds.now world.now.at.table.now
+        overlay.old → CanGoOn (has world.now.at.graph.now) first pool.new world.now.at.seeds.now
+        world.now.at.table.now overlay.new) }
     ensures kept { IsKept pool.old pool.new world.now.at.seeds.now overlay.old overlay.new }
 {
     offer_names::<P>();
@@ -137,15 +159,24 @@ fn put_changes<P: RoutePolicy, V: OriginStates, L: Ledger>(
     steps: &mut Steps<L>,
 ) -> Result<(), NoMemory>
     requires no_cycle { HasNoProviderCycle (relation world.now.at.graph.now) }
-    requires falls { (a b : ℕ) → relation world.now.at.graph.now a b ≡ Some Customer → suc (rank_of world.now.ranks b) ≤ rank_of world.now.ranks a }
+    requires falls { (a b : ℕ) → relation world.now.at.graph.now a b ≡ Some Customer →
+        suc (rank_of world.now.ranks b) ≤ rank_of world.now.ranks a }
     requires seeds { (b : ℕ) → has world.now.at.graph.now b ≡ false → seed_at world.now.at.seeds.now b ≡ None }
     requires fresh { (b : ℕ) → change_at overlay.old b ≡ None }
-    requires entries { (b : ℕ) → has world.now.at.graph.now b ≡ false → occurs b touched.now ≡ false → held_at world.now.at.table.now b ≡ None }
-    requires right { (b : ℕ) → has world.now.at.graph.now b ≡ true → occurs b touched.now ≡ false → IsRight (setting_at P.meaning V.state_of world.now.at) (seeds_of pool.old world.now.at.seeds.now) (table_routing pool.old world.now.at.table.now) b }
-    requires can { CanGoOn (has world.now.at.graph.now) pool.old pool.old world.now.at.seeds.now world.now.at.table.now overlay.old }
-    ensures exact { OnOk result (IsExact (setting_at P.meaning V.state_of world.now.at) (seeds_of pool.new world.now.at.seeds.now) (table_routing pool.new world.now.at.table.now) (routing_of pool.new world.now.at.table.now overlay.new) (has_change overlay.new)) }
-    ensures enough { OnOk result (AreEnough (relation world.now.at.graph.now) (λ b. occurs b touched.now) (has_change overlay.new) steps.old steps.new) }
-    ensures can { OnOk result (CanGoOn (has world.now.at.graph.now) pool.old pool.new world.now.at.seeds.now world.now.at.table.now overlay.new) }
+    requires entries { (b : ℕ) → has world.now.at.graph.now b ≡ false → occurs b touched.now ≡ false →
+        held_at world.now.at.table.now b ≡ None }
+    requires right { (b : ℕ) → has world.now.at.graph.now b ≡ true → occurs b touched.now ≡ false →
+        IsRight (setting_at P.meaning V.state_of world.now.at) (seeds_of pool.old world.now.at.seeds.now)
+        (table_routing pool.old world.now.at.table.now) b }
+    requires can { CanGoOn (has world.now.at.graph.now) pool.old pool.old world.now.at.seeds.now
+        world.now.at.table.now overlay.old }
+    ensures exact { OnOk result (IsExact (setting_at P.meaning V.state_of world.now.at)
+        (seeds_of pool.new world.now.at.seeds.now) (table_routing pool.new world.now.at.table.now)
+        (routing_of pool.new world.now.at.table.now overlay.new) (has_change overlay.new)) }
+    ensures enough { OnOk result (AreEnough (relation world.now.at.graph.now) (λ b. occurs b touched.now)
+        (has_change overlay.new) steps.old steps.new) }
+    ensures can { OnOk result (CanGoOn (has world.now.at.graph.now) pool.old pool.new world.now.at.seeds.now
+        world.now.at.table.now overlay.new) }
     ensures kept { IsKept pool.old pool.new world.now.at.seeds.now overlay.old overlay.new }
 {
     // there are few ASes, so no count of the pool can grow too great
@@ -183,17 +214,24 @@ pub fn plan_edit<P: RoutePolicy, V: OriginStates, L: Ledger>(
 ) -> Result<Overlay, NoMemory>
     requires no_cycle { HasNoProviderCycle (relation world.now.graph.now) }
     requires plan { IsLastPlan ranks.now.ranks.now ranks.now.plan.now }
-    requires ranks { (a : ℕ) → IsRank (relation world.now.graph.now) a (rank_after ranks.now.ranks.now ranks.now.plan.now a) }
-    requires entries { (b : ℕ) → has world.now.graph.now b ≡ false → occurs b edit.now.touched.now ≡ false → held_at table.old b ≡ None }
-    requires right { (b : ℕ) → has world.now.graph.now b ≡ true → occurs b edit.now.touched.now ≡ false → IsRight (setting_in P.meaning V.state_of world.now (prefix_of table.old)) (seeds_of pool.old edit.now.seeds.now) (table_routing pool.old table.old) b }
+    requires ranks { (a : ℕ) → IsRank (relation world.now.graph.now) a
+        (rank_after ranks.now.ranks.now ranks.now.plan.now a) }
+    requires entries { (b : ℕ) → has world.now.graph.now b ≡ false → occurs b edit.now.touched.now ≡ false →
+        held_at table.old b ≡ None }
+    requires right { (b : ℕ) → has world.now.graph.now b ≡ true → occurs b edit.now.touched.now ≡ false →
+        IsRight (setting_in P.meaning V.state_of world.now (prefix_of table.old))
+        (seeds_of pool.old edit.now.seeds.now) (table_routing pool.old table.old) b }
     requires seeds { (b : ℕ) → has world.now.graph.now b ≡ false → seed_at edit.now.seeds.now b ≡ None }
     requires seeds_live { AreSeedsLive pool.old edit.now.seeds.now }
     requires entries_live { AreEntriesLive pool.old table.old }
     requires held { (k : ℕ) → table_uses table.old k ≤ holds_of pool.old k }
     requires counts { (k : ℕ) → count_of pool.old k ≤ 4000000000 }
     requires room { live_count pool.old + 2 * as_count world.now.graph.now ≤ limit_of pool.old }
-    ensures exact { IfOk result (λ o. IsExact (setting_in P.meaning V.state_of world.now (prefix_of table.old)) (seeds_of pool.old edit.now.seeds.now) (table_routing pool.old table.old) (routing_of pool.new table.new o) (has_change o)) }
-    ensures enough { IfOk result (λ o. AreEnough (relation world.now.graph.now) (λ b. occurs b edit.now.touched.now) (has_change o) steps.old steps.new) }
+    ensures exact { IfOk result (λ o. IsExact (setting_in P.meaning V.state_of world.now (prefix_of table.old))
+        (seeds_of pool.old edit.now.seeds.now) (table_routing pool.old table.old) (routing_of pool.new table.new o)
+        (has_change o)) }
+    ensures enough { IfOk result (λ o. AreEnough (relation world.now.graph.now) (λ b. occurs b edit.now.touched.now)
+        (has_change o) steps.old steps.new) }
     ensures table { SameTable table.old table.new }
     ensures spare { IfOk result (λ o. length (places_of o) ≤ table_spare table.new) }
     ensures holds { IfOk result (λ o. (k : ℕ) → holds_of pool.new k ≡ holds_of pool.old k + overlay_uses o k) }

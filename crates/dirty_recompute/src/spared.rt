@@ -26,7 +26,8 @@ const MOST_LOOKED_AT: u32 = 64;
 pub(crate) fn may_be_over(pool: &PathPool, have: &Option<Held>, before: &Option<Held>) -> bool
     requires have { (h : AHeld) → have.now ≡ Some h → IsLive pool.now h.path.0 }
     requires before { (k : AHeld) → before.now ≡ Some k → IsLive pool.now k.path.0 }
-    ensures { result ≡ false → (b : ℕ) (h k : AHeld) → have.now ≡ Some h → before.now ≡ Some k → list_of pool.now h.path.0 ≢ b ∷ list_of pool.now k.path.0 }
+    ensures { result ≡ false → (b : ℕ) (h k : AHeld) → have.now ≡ Some h → before.now ≡ Some k →
+        list_of pool.now h.path.0 ≢ b ∷ list_of pool.now k.path.0 }
 {
     paths_are_not_empty(pool);
     let Some(one) = have else {
@@ -65,7 +66,8 @@ fn is_rival<P: RoutePolicy, V: OriginStates>(
     view: &View,
 ) -> bool
     requires held { AreHeld pool.now at.now.table.now overlay.now }
-    ensures { IsTrue result → HasRival (setting_at P.meaning V.state_of at.now) (routing_of pool.now at.now.table.now overlay.now) asn neighbour view.now }
+    ensures { IsTrue result → HasRival (setting_at P.meaning V.state_of at.now)
+        (routing_of pool.now at.now.table.now overlay.now) asn neighbour view.now }
 {
     if other == asn {
         return false;
@@ -95,7 +97,8 @@ pub(crate) fn has_rival<P: RoutePolicy, V: OriginStates>(
 ) -> bool
     requires held { AreHeld pool.now at.now.table.now overlay.now }
     requires have { (h : AHeld) → have.now ≡ Some h → IsLive pool.now h.path.0 }
-    ensures { IsTrue result → HasRival (setting_at P.meaning V.state_of at.now) (routing_of pool.now at.now.table.now overlay.now) asn neighbour view.now }
+    ensures { IsTrue result → HasRival (setting_at P.meaning V.state_of at.now)
+        (routing_of pool.now at.now.table.now overlay.now) asn neighbour view.now }
 {
     let Some(entry) = have else {
         return false;

@@ -68,7 +68,8 @@ fn is_nothing(choice: Choice) -> bool
 // Whether an entry is held that no customer and no seed gave.
 fn is_high(held: &Option<Held>) -> bool
     ensures stays { result ≡ true → (p : APool) → low (option_map (entry_of p) held.now) ≡ None }
-    ensures goes { result ≡ false → (p : APool) → without_low (low (option_map (entry_of p) held.now)) (option_map (entry_of p) held.now) ≡ None }
+    ensures goes { result ≡ false → (p : APool) →
+        without_low (low (option_map (entry_of p) held.now)) (option_map (entry_of p) held.now) ≡ None }
 {
     match held {
         Some(entry) => match entry.class {
@@ -92,13 +93,19 @@ pub(crate) fn step_up<P: RoutePolicy, V: OriginStates, L: Ledger>(
 ) -> Result<Stepped, NoMemory>
     requires can { CanTurn pool.old at.now.seeds.now at.now.table.now overlay.old }
     requires fresh { change_at overlay.old asn ≡ None }
-    ensures chosen { IfOk result (λ r. IsChosenUp (setting_at P.meaning V.state_of at.now) (seeds_of pool.old at.now.seeds.now) asn (routing_of pool.old at.now.table.now overlay.old) (routing_of pool.new at.now.table.now overlay.new) r.nothing) }
-    ensures only { OnOk result (ChangesOnly asn (routing_of pool.old at.now.table.now overlay.old) (routing_of pool.new at.now.table.now overlay.new) (has_change overlay.old) (has_change overlay.new)) }
+    ensures chosen { IfOk result (λ r. IsChosenUp (setting_at P.meaning V.state_of at.now)
+        (seeds_of pool.old at.now.seeds.now) asn (routing_of pool.old at.now.table.now overlay.old)
+        (routing_of pool.new at.now.table.now overlay.new) r.nothing) }
+    ensures only { OnOk result (ChangesOnly asn (routing_of pool.old at.now.table.now overlay.old)
+        (routing_of pool.new at.now.table.now overlay.new) (has_change overlay.old) (has_change overlay.new)) }
     ensures changed { IfOk result (λ r. IsTrue r.changed → has_change overlay.new asn ≡ true) }
-    ensures unchanged { IfOk result (λ r. r.changed ≡ false → routing_of pool.new at.now.table.now overlay.new asn ≡ routing_of pool.old at.now.table.now overlay.old asn) }
-    ensures before { IfOk result (λ r. IsBefore pool.new at.now.table.now overlay.new asn r.before (routing_of pool.old at.now.table.now overlay.old)) }
+    ensures unchanged { IfOk result (λ r. r.changed ≡ false →
+        routing_of pool.new at.now.table.now overlay.new asn ≡ routing_of pool.old at.now.table.now overlay.old asn) }
+    ensures before { IfOk result (λ r. IsBefore pool.new at.now.table.now overlay.new asn r.before
+        (routing_of pool.old at.now.table.now overlay.old)) }
     ensures cost { OnOk result (steps.new ≡ steps.old + 1) }
-    ensures paid { OnOk result (IsPaidFor pool.old pool.new (routing_of pool.old at.now.table.now overlay.old) (routing_of pool.new at.now.table.now overlay.new) asn) }
+    ensures paid { OnOk result (IsPaidFor pool.old pool.new (routing_of pool.old at.now.table.now overlay.old)
+        (routing_of pool.new at.now.table.now overlay.new) asn) }
     ensures kept { IsKept pool.old pool.new at.now.seeds.now overlay.old overlay.new }
     ensures refused { OnErr result (SameHeld pool.old pool.new at.now.table.now overlay.old overlay.new) }
 {
@@ -140,14 +147,24 @@ pub(crate) fn step_whole<P: RoutePolicy, V: OriginStates, L: Ledger>(
     steps: &mut Steps<L>,
 ) -> Result<Stepped, NoMemory>
     requires can { CanTurn pool.old at.now.seeds.now at.now.table.now overlay.old }
-    requires settled { has_change overlay.old asn ≡ true → (routing_of pool.old at.now.table.now overlay.old asn ≡ None) ⊎ IsRight (setting_at P.meaning V.state_of at.now) (seeds_of pool.old at.now.seeds.now) (routing_of pool.old at.now.table.now overlay.old) asn }
-    ensures chosen { OnOk result (IsRightGiven (P.meaning (policy_at at.now.book.now asn)) (seeds_of pool.old at.now.seeds.now asn) (λ n. offer (setting_at P.meaning V.state_of at.now) (routing_of pool.old at.now.table.now overlay.old) n asn) (routing_of pool.new at.now.table.now overlay.new asn)) }
-    ensures only { OnOk result (ChangesOnly asn (routing_of pool.old at.now.table.now overlay.old) (routing_of pool.new at.now.table.now overlay.new) (has_change overlay.old) (has_change overlay.new)) }
+    requires settled { has_change overlay.old asn ≡ true →
+        (routing_of pool.old at.now.table.now overlay.old asn ≡ None) ⊎
+        IsRight (setting_at P.meaning V.state_of at.now) (seeds_of pool.old at.now.seeds.now)
+        (routing_of pool.old at.now.table.now overlay.old) asn }
+    ensures chosen { OnOk result (IsRightGiven (P.meaning (policy_at at.now.book.now asn))
+        (seeds_of pool.old at.now.seeds.now asn)
+        (λ n. offer (setting_at P.meaning V.state_of at.now) (routing_of pool.old at.now.table.now overlay.old) n asn)
+        (routing_of pool.new at.now.table.now overlay.new asn)) }
+    ensures only { OnOk result (ChangesOnly asn (routing_of pool.old at.now.table.now overlay.old)
+        (routing_of pool.new at.now.table.now overlay.new) (has_change overlay.old) (has_change overlay.new)) }
     ensures changed { IfOk result (λ r. IsTrue r.changed → has_change overlay.new asn ≡ true) }
-    ensures unchanged { IfOk result (λ r. r.changed ≡ false → routing_of pool.new at.now.table.now overlay.new asn ≡ routing_of pool.old at.now.table.now overlay.old asn) }
-    ensures before { IfOk result (λ r. IsBefore pool.new at.now.table.now overlay.new asn r.before (routing_of pool.old at.now.table.now overlay.old)) }
+    ensures unchanged { IfOk result (λ r. r.changed ≡ false →
+        routing_of pool.new at.now.table.now overlay.new asn ≡ routing_of pool.old at.now.table.now overlay.old asn) }
+    ensures before { IfOk result (λ r. IsBefore pool.new at.now.table.now overlay.new asn r.before
+        (routing_of pool.old at.now.table.now overlay.old)) }
     ensures cost { OnOk result (steps.new ≡ steps.old + 1) }
-    ensures paid { OnOk result (IsPaidFor pool.old pool.new (routing_of pool.old at.now.table.now overlay.old) (routing_of pool.new at.now.table.now overlay.new) asn) }
+    ensures paid { OnOk result (IsPaidFor pool.old pool.new (routing_of pool.old at.now.table.now overlay.old)
+        (routing_of pool.new at.now.table.now overlay.new) asn) }
     ensures kept { IsKept pool.old pool.new at.now.seeds.now overlay.old overlay.new }
     ensures refused { OnErr result (SameHeld pool.old pool.new at.now.table.now overlay.old overlay.new) }
 {
@@ -180,8 +197,12 @@ pub(crate) fn is_left<P: RoutePolicy, V: OriginStates>(
 ) -> bool
     requires held { AreHeld pool.now at.now.table.now overlay.now }
     requires seeds { AreSeedsLive pool.now at.now.seeds.now }
-    requires live { (f : ℕ → Option AnEntry) × IsBefore pool.now at.now.table.now overlay.now turned.now.asn turned.now.before f }
-    ensures { IsTrue result → (f : ℕ → Option AnEntry) → IsBefore pool.now at.now.table.now overlay.now turned.now.asn turned.now.before f → IsLeft (setting_at P.meaning V.state_of at.now) (seeds_of pool.now at.now.seeds.now) f (routing_of pool.now at.now.table.now overlay.now) turned.now.asn neighbour }
+    requires live { (f : ℕ → Option AnEntry) ×
+        IsBefore pool.now at.now.table.now overlay.now turned.now.asn turned.now.before f }
+    ensures { IsTrue result → (f : ℕ → Option AnEntry) →
+        IsBefore pool.now at.now.table.now overlay.now turned.now.asn turned.now.before f →
+        IsLeft (setting_at P.meaning V.state_of at.now) (seeds_of pool.now at.now.seeds.now) f
+        (routing_of pool.now at.now.table.now overlay.now) turned.now.asn neighbour }
 {
     offer_path::<P>();
     links_are_sound();

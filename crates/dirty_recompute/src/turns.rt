@@ -40,7 +40,11 @@ fn queue_one<P: RoutePolicy, V: OriginStates>(
     requires held { AreHeld pool.now world.now.at.table.now overlay.now }
     requires seeds { AreSeedsLive pool.now world.now.at.seeds.now }
     requires live { (h : AHeld) → turned.now.before ≡ Some h → IsLive pool.now h.path.0 }
-    ensures { OnOk result (AreQueued (rank_of world.now.ranks) queue.old queue.new (λ b. (b ≡ neighbour.asn) × (neighbour.rel ≡ wanted)) (IsLeft (setting_at P.meaning V.state_of world.now.at) (seeds_of pool.now world.now.at.seeds.now) (as_before pool.now world.now.at.table.now overlay.now turned.now.asn turned.now.before) (routing_of pool.now world.now.at.table.now overlay.now) turned.now.asn)) }
+    ensures { OnOk result (AreQueued (rank_of world.now.ranks) queue.old queue.new (λ b. (b ≡ neighbour.asn) ×
+        (neighbour.rel ≡ wanted)) (IsLeft (setting_at P.meaning V.state_of world.now.at)
+        (seeds_of pool.now world.now.at.seeds.now)
+        (as_before pool.now world.now.at.table.now overlay.now turned.now.asn turned.now.before)
+        (routing_of pool.now world.now.at.table.now overlay.now) turned.now.asn)) }
 {
     if neighbour.rel == wanted {
         if !is_left(&world.at, pool, overlay, turned, neighbour.asn) {
@@ -63,7 +67,10 @@ fn queue_those<P: RoutePolicy, V: OriginStates>(
     requires held { AreHeld pool.now world.now.at.table.now overlay.now }
     requires seeds { AreSeedsLive pool.now world.now.at.seeds.now }
     requires live { (h : AHeld) → turned.now.before ≡ Some h → IsLive pool.now h.path.0 }
-    ensures { OnOk result (AreQueued (rank_of world.now.ranks) queue.old queue.new (IsAmong neighbours.now wanted) (IsLeft (setting_at P.meaning V.state_of world.now.at) (seeds_of pool.now world.now.at.seeds.now) (as_before pool.now world.now.at.table.now overlay.now turned.now.asn turned.now.before) (routing_of pool.now world.now.at.table.now overlay.now) turned.now.asn)) }
+    ensures { OnOk result (AreQueued (rank_of world.now.ranks) queue.old queue.new (IsAmong neighbours.now wanted)
+        (IsLeft (setting_at P.meaning V.state_of world.now.at) (seeds_of pool.now world.now.at.seeds.now)
+        (as_before pool.now world.now.at.table.now overlay.now turned.now.asn turned.now.before)
+        (routing_of pool.now world.now.at.table.now overlay.now) turned.now.asn)) }
 {
     for neighbour in neighbours {
         queue_one(world, pool, overlay, turned, *neighbour, wanted, queue)?;
@@ -98,8 +105,19 @@ fn queue_around<P: RoutePolicy, V: OriginStates>(
     requires held { AreHeld pool.now world.now.at.table.now overlay.now }
     requires seeds { AreSeedsLive pool.now world.now.at.seeds.now }
     requires live { (h : AHeld) → turned.now.before ≡ Some h → IsLive pool.now h.path.0 }
-    ensures up { OnOk result (AreQueued (rank_of world.now.ranks) queues.old.up queues.new.up (λ b. (relation world.now.at.graph.now turned.now.asn b ≡ Some rel.Provider) × (turned.now.changed ≡ true)) (IsLeft (setting_at P.meaning V.state_of world.now.at) (seeds_of pool.now world.now.at.seeds.now) (as_before pool.now world.now.at.table.now overlay.now turned.now.asn turned.now.before) (routing_of pool.now world.now.at.table.now overlay.now) turned.now.asn)) }
-    ensures whole { OnOk result (AreQueued (rank_of world.now.ranks) queues.old.whole queues.new.whole (λ b. ((relation world.now.at.graph.now turned.now.asn b ≡ Some rel.Customer) ⊎ (relation world.now.at.graph.now turned.now.asn b ≡ Some rel.Peer)) × (turned.now.changed ≡ true)) (IsLeft (setting_at P.meaning V.state_of world.now.at) (seeds_of pool.now world.now.at.seeds.now) (as_before pool.now world.now.at.table.now overlay.now turned.now.asn turned.now.before) (routing_of pool.now world.now.at.table.now overlay.now) turned.now.asn)) }
+    ensures up { OnOk result (AreQueued (rank_of world.now.ranks) queues.old.up queues.new.up
+        (λ b. (relation world.now.at.graph.now turned.now.asn b ≡ Some rel.Provider) ×
+        (turned.now.changed ≡ true)) (IsLeft (setting_at P.meaning V.state_of world.now.at)
+        (seeds_of pool.now world.now.at.seeds.now)
+        (as_before pool.now world.now.at.table.now overlay.now turned.now.asn turned.now.before)
+        (routing_of pool.now world.now.at.table.now overlay.now) turned.now.asn)) }
+    ensures whole { OnOk result (AreQueued (rank_of world.now.ranks) queues.old.whole queues.new.whole
+        (λ b. ((relation world.now.at.graph.now turned.now.asn b ≡ Some rel.Customer) ⊎
+        (relation world.now.at.graph.now turned.now.asn b ≡ Some rel.Peer)) ×
+        (turned.now.changed ≡ true)) (IsLeft (setting_at P.meaning V.state_of world.now.at)
+        (seeds_of pool.now world.now.at.seeds.now)
+        (as_before pool.now world.now.at.table.now overlay.now turned.now.asn turned.now.before)
+        (routing_of pool.now world.now.at.table.now overlay.now) turned.now.asn)) }
 {
     if turned.changed {
         let near = world.at.graph.neighbours_near(turned.asn, turned.place);
@@ -145,7 +163,12 @@ fn queue_customers<P: RoutePolicy, V: OriginStates>(
     requires held { AreHeld pool.now world.now.at.table.now overlay.now }
     requires seeds { AreSeedsLive pool.now world.now.at.seeds.now }
     requires live { (h : AHeld) → turned.now.before ≡ Some h → IsLive pool.now h.path.0 }
-    ensures { OnOk result (AreQueued (rank_of world.now.ranks) whole.old whole.new (λ b. (relation world.now.at.graph.now turned.now.asn b ≡ Some rel.Customer) × (turned.now.changed ≡ true)) (IsLeft (setting_at P.meaning V.state_of world.now.at) (seeds_of pool.now world.now.at.seeds.now) (as_before pool.now world.now.at.table.now overlay.now turned.now.asn turned.now.before) (routing_of pool.now world.now.at.table.now overlay.now) turned.now.asn)) }
+    ensures { OnOk result (AreQueued (rank_of world.now.ranks) whole.old whole.new
+        (λ b. (relation world.now.at.graph.now turned.now.asn b ≡ Some rel.Customer) ×
+        (turned.now.changed ≡ true)) (IsLeft (setting_at P.meaning V.state_of world.now.at)
+        (seeds_of pool.now world.now.at.seeds.now)
+        (as_before pool.now world.now.at.table.now overlay.now turned.now.asn turned.now.before)
+        (routing_of pool.now world.now.at.table.now overlay.now) turned.now.asn)) }
 {
     if turned.changed {
         let near = world.at.graph.neighbours_near(turned.asn, turned.place);
@@ -167,9 +190,14 @@ pub(crate) fn turn_up<P: RoutePolicy, V: OriginStates, L: Ledger>(
 ) -> Result<(), NoMemory>
     requires can { CanTurn pool.old world.now.at.seeds.now world.now.at.table.now overlay.old }
     requires fresh { change_at overlay.old asn ≡ None }
-    ensures turn { OnOk result (IsTurnUp (setting_at P.meaning V.state_of world.now.at) (seeds_of pool.old world.now.at.seeds.now) (rank_of world.now.ranks) asn (routing_of pool.old world.now.at.table.now overlay.old) (routing_of pool.new world.now.at.table.now overlay.new) (has_change overlay.old) (has_change overlay.new) queues.old.up queues.new.up queues.old.whole queues.new.whole) }
+    ensures turn { OnOk result (IsTurnUp (setting_at P.meaning V.state_of world.now.at)
+        (seeds_of pool.old world.now.at.seeds.now) (rank_of world.now.ranks) asn
+        (routing_of pool.old world.now.at.table.now overlay.old)
+        (routing_of pool.new world.now.at.table.now overlay.new) (has_change overlay.old) (has_change overlay.new)
+        queues.old.up queues.new.up queues.old.whole queues.new.whole) }
     ensures cost { OnOk result (steps.new ≡ steps.old + 1) }
-    ensures paid { OnOk result (IsPaidFor pool.old pool.new (routing_of pool.old world.now.at.table.now overlay.old) (routing_of pool.new world.now.at.table.now overlay.new) asn) }
+    ensures paid { OnOk result (IsPaidFor pool.old pool.new (routing_of pool.old world.now.at.table.now overlay.old)
+        (routing_of pool.new world.now.at.table.now overlay.new) asn) }
     ensures kept { IsKept pool.old pool.new world.now.at.seeds.now overlay.old overlay.new }
 {
     let seen = step_up(&world.at, pool, overlay, asn, near, steps)?;
@@ -196,10 +224,18 @@ pub(crate) fn turn_down<P: RoutePolicy, V: OriginStates, L: Ledger>(
     steps: &mut Steps<L>,
 ) -> Result<(), NoMemory>
     requires can { CanTurn pool.old world.now.at.seeds.now world.now.at.table.now overlay.old }
-    requires settled { has_change overlay.old asn ≡ true → (routing_of pool.old world.now.at.table.now overlay.old asn ≡ None) ⊎ IsRight (setting_at P.meaning V.state_of world.now.at) (seeds_of pool.old world.now.at.seeds.now) (routing_of pool.old world.now.at.table.now overlay.old) asn }
-    ensures turn { OnOk result (IsTurnDown (setting_at P.meaning V.state_of world.now.at) (seeds_of pool.old world.now.at.seeds.now) (rank_of world.now.ranks) asn (routing_of pool.old world.now.at.table.now overlay.old) (routing_of pool.new world.now.at.table.now overlay.new) (has_change overlay.old) (has_change overlay.new) whole.old whole.new) }
+    requires settled { has_change overlay.old asn ≡ true →
+        (routing_of pool.old world.now.at.table.now overlay.old asn ≡ None) ⊎
+        IsRight (setting_at P.meaning V.state_of world.now.at) (seeds_of pool.old world.now.at.seeds.now)
+        (routing_of pool.old world.now.at.table.now overlay.old) asn }
+    ensures turn { OnOk result (IsTurnDown (setting_at P.meaning V.state_of world.now.at)
+        (seeds_of pool.old world.now.at.seeds.now) (rank_of world.now.ranks) asn
+        (routing_of pool.old world.now.at.table.now overlay.old)
+        (routing_of pool.new world.now.at.table.now overlay.new) (has_change overlay.old) (has_change overlay.new)
+        whole.old whole.new) }
     ensures cost { OnOk result (steps.new ≡ steps.old + 1) }
-    ensures paid { OnOk result (IsPaidFor pool.old pool.new (routing_of pool.old world.now.at.table.now overlay.old) (routing_of pool.new world.now.at.table.now overlay.new) asn) }
+    ensures paid { OnOk result (IsPaidFor pool.old pool.new (routing_of pool.old world.now.at.table.now overlay.old)
+        (routing_of pool.new world.now.at.table.now overlay.new) asn) }
     ensures kept { IsKept pool.old pool.new world.now.at.seeds.now overlay.old overlay.new }
 {
     let seen = step_whole(&world.at, pool, overlay, asn, near, steps)?;

@@ -22,7 +22,8 @@ fn exchange_in(
     ensures old { result ≡ unwrap_or (get nat_eq slots.old asn) None }
     ensures this { get nat_eq slots.new asn ≡ Some entry }
     ensures others { (a : ℕ) → a ≢ asn → get nat_eq slots.new a ≡ get nat_eq slots.old a }
-    ensures uses { (k : ℕ) → uses_in slots.new.entries k + use_of k result ≡ uses_in slots.old.entries k + use_of k entry }
+    ensures uses { (k : ℕ) → uses_in slots.new.entries k + use_of k result
+        ≡ uses_in slots.old.entries k + use_of k entry }
     ensures spare { spare slots.old ≤ spare slots.new + 1 }
     ensures kept { IsSome (get nat_eq slots.old asn) → keys slots.new ≡ keys slots.old }
     ensures kept_spare { IsSome (get nat_eq slots.old asn) → spare slots.new ≡ spare slots.old }
@@ -158,12 +159,17 @@ impl Beside {
         requires { IsSome (lookup (nat_eq asn) (beside_entries self.old)) ⊎ (0 < beside_spare self.old) }
         ensures old { result ≡ unwrap_or (lookup (nat_eq asn) (beside_entries self.old)) None }
         ensures this { lookup (nat_eq asn) (beside_entries self.new) ≡ Some entry }
-        ensures others { (a : ℕ) → a ≢ asn → lookup (nat_eq a) (beside_entries self.new) ≡ lookup (nat_eq a) (beside_entries self.old) }
-        ensures uses { (k : ℕ) → uses_in (beside_entries self.new) k + use_of k result ≡ uses_in (beside_entries self.old) k + use_of k entry }
+        ensures others { (a : ℕ) → a ≢ asn →
+            lookup (nat_eq a) (beside_entries self.new) ≡ lookup (nat_eq a) (beside_entries self.old) }
+        ensures uses { (k : ℕ) → uses_in (beside_entries self.new) k + use_of k result
+            ≡ uses_in (beside_entries self.old) k + use_of k entry }
         ensures spare { beside_spare self.old ≤ beside_spare self.new + 1 }
-        ensures kept { IsSome (lookup (nat_eq asn) (beside_entries self.old)) → keys_of (beside_entries self.new) ≡ keys_of (beside_entries self.old) }
-        ensures kept_spare { IsSome (lookup (nat_eq asn) (beside_entries self.old)) → beside_spare self.new ≡ beside_spare self.old }
-        ensures new_place { lookup (nat_eq asn) (beside_entries self.old) ≡ None → keys_of (beside_entries self.new) ≡ keys_of (beside_entries self.old) ++ asn ∷ [] }
+        ensures kept { IsSome (lookup (nat_eq asn) (beside_entries self.old)) →
+            keys_of (beside_entries self.new) ≡ keys_of (beside_entries self.old) }
+        ensures kept_spare { IsSome (lookup (nat_eq asn) (beside_entries self.old)) →
+            beside_spare self.new ≡ beside_spare self.old }
+        ensures new_place { lookup (nat_eq asn) (beside_entries self.old) ≡ None →
+            keys_of (beside_entries self.new) ≡ keys_of (beside_entries self.old) ++ asn ∷ [] }
     {
         let Some(first) = self.first else {
             self.first = Some(First { asn, entry, near });

@@ -42,7 +42,8 @@ fn state_of<P, V: OriginStates>(
     path: PathId,
 ) -> State
     requires { IsLive pool.now path.0 }
-    ensures { result ≡ state_seen reads (V.state_of at.now.states.now (prefix_of at.now.table.now)) (last_or 0 (list_of pool.now path.0)) }
+    ensures { result ≡ state_seen reads (V.state_of at.now.states.now (prefix_of at.now.table.now))
+        (last_or 0 (list_of pool.now path.0)) }
 {
     if reads {
         at.states.state(at.table.prefix(), pool.last(path))
@@ -90,8 +91,13 @@ fn view_of<P: RoutePolicy, V: OriginStates>(
     given: &Given<'_, P>,
 ) -> Option<View>
     requires live { IsLive pool.now given.now.held.path.0 }
-    requires exported { (P.meaning given.now.sender.now).exports given.now.held.class given.now.held.otc (converse given.now.neighbour.now.rel) ≡ true }
-    ensures { (a : ℕ) → option_map (λ o. o.view) (offer_given (P.meaning given.now.sender.now) (P.meaning chooser.now.own.now) (state_seen chooser.now.reads (V.state_of at.now.states.now (prefix_of at.now.table.now))) given.now.neighbour.now.asn a (Some given.now.neighbour.now.rel) (Some (entry_of pool.now given.now.held))) ≡ (if occurs a (list_of pool.now given.now.held.path.0) then None else result) }
+    requires exported { (P.meaning given.now.sender.now).exports given.now.held.class given.now.held.otc
+        (converse given.now.neighbour.now.rel) ≡ true }
+    ensures { (a : ℕ) → option_map (λ o. o.view)
+        (offer_given (P.meaning given.now.sender.now) (P.meaning chooser.now.own.now)
+        (state_seen chooser.now.reads (V.state_of at.now.states.now (prefix_of at.now.table.now)))
+        given.now.neighbour.now.asn a (Some given.now.neighbour.now.rel) (Some (entry_of pool.now given.now.held)))
+        ≡ (if occurs a (list_of pool.now given.now.held.path.0) then None else result) }
 {
     let Neighbour { asn, rel } = *given.neighbour;
     let held = given.held;
@@ -128,7 +134,9 @@ fn is_better<P: RoutePolicy>(
 ) -> bool
     requires live { IsLive pool.now path.0 }
     requires no_loops { chooser.now.may_loop ≡ false → occurs chooser.now.asn (list_of pool.now path.0) ≡ false }
-    ensures { (if result then Some view.now else best.now) ≡ better_of (P.meaning chooser.now.own.now) best.now (if occurs chooser.now.asn (list_of pool.now path.0) then None else Some view.now) }
+    ensures { (if result then Some view.now else best.now)
+        ≡ better_of (P.meaning chooser.now.own.now) best.now
+        (if occurs chooser.now.asn (list_of pool.now path.0) then None else Some view.now) }
 {
     let wins = match best {
         None => true,
@@ -148,9 +156,15 @@ fn weigh<P: RoutePolicy, V: OriginStates>(
     best: &mut Best,
 )
     requires live { IsLive pool.now given.now.held.path.0 }
-    requires no_loops { chooser.now.may_loop ≡ false → occurs chooser.now.asn (list_of pool.now given.now.held.path.0) ≡ false }
-    requires exported { (P.meaning given.now.sender.now).exports given.now.held.class given.now.held.otc (converse given.now.neighbour.now.rel) ≡ true }
-    ensures { best.new.view ≡ better_of (P.meaning chooser.now.own.now) best.old.view (option_map (λ o. o.view) (offer_given (P.meaning given.now.sender.now) (P.meaning chooser.now.own.now) (state_seen chooser.now.reads (V.state_of at.now.states.now (prefix_of at.now.table.now))) given.now.neighbour.now.asn chooser.now.asn (Some given.now.neighbour.now.rel) (Some (entry_of pool.now given.now.held)))) }
+    requires no_loops { chooser.now.may_loop ≡ false →
+        occurs chooser.now.asn (list_of pool.now given.now.held.path.0) ≡ false }
+    requires exported { (P.meaning given.now.sender.now).exports given.now.held.class given.now.held.otc
+        (converse given.now.neighbour.now.rel) ≡ true }
+    ensures { best.new.view ≡ better_of (P.meaning chooser.now.own.now) best.old.view
+        (option_map (λ o. o.view) (offer_given (P.meaning given.now.sender.now) (P.meaning chooser.now.own.now)
+        (state_seen chooser.now.reads (V.state_of at.now.states.now (prefix_of at.now.table.now)))
+        given.now.neighbour.now.asn chooser.now.asn (Some given.now.neighbour.now.rel)
+        (Some (entry_of pool.now given.now.held)))) }
 {
     if let Some(view) = view_of(at, chooser, pool, given) {
         if is_better(chooser, pool, &best.view, &view, given.held.path) {
@@ -174,9 +188,15 @@ fn look_at<P: RoutePolicy, V: OriginStates>(
 )
     requires linked { relation at.now.graph.now chooser.now.asn neighbour.now.asn ≡ Some neighbour.now.rel }
     requires live { AreLive pool.now at.now.table.now overlay.now }
-    requires no_loops { chooser.now.may_loop ≡ false → HasNoLoops chooser.now.part (relation at.now.graph.now) (λ n. P.meaning (policy_at at.now.book.now n)) (routing_of pool.now at.now.table.now overlay.now) chooser.now.asn }
+    requires no_loops { chooser.now.may_loop ≡ false →
+        HasNoLoops chooser.now.part (relation at.now.graph.now) (λ n. P.meaning (policy_at at.now.book.now n))
+        (routing_of pool.now at.now.table.now overlay.now) chooser.now.asn }
     requires own { chooser.now.own.now ≡ policy_at at.now.book.now chooser.now.asn }
-    ensures { best.new.view ≡ better_of (P.meaning (policy_at at.now.book.now chooser.now.asn)) best.old.view (option_map (λ o. o.view) (offers_of chooser.now.part (setting P.meaning at.now.graph.now at.now.book.now (state_seen chooser.now.reads (V.state_of at.now.states.now (prefix_of at.now.table.now)))) (routing_of pool.now at.now.table.now overlay.now) chooser.now.asn neighbour.now.asn)) }
+    ensures { best.new.view ≡ better_of (P.meaning (policy_at at.now.book.now chooser.now.asn)) best.old.view
+        (option_map (λ o. o.view) (offers_of chooser.now.part
+        (setting P.meaning at.now.graph.now at.now.book.now
+        (state_seen chooser.now.reads (V.state_of at.now.states.now (prefix_of at.now.table.now))))
+        (routing_of pool.now at.now.table.now overlay.now) chooser.now.asn neighbour.now.asn)) }
 {
     if !looks_at(chooser.part, neighbour.rel) {
         return;
@@ -209,10 +229,16 @@ pub(crate) fn best_view<P: RoutePolicy, V: OriginStates>(
     neighbours: &[Neighbour],
     places: &[u32],
 ) -> Best
-    requires givers { AreGivers turn.part (relation at.now.graph.now) (λ n. P.meaning (policy_at at.now.book.now n)) (routing_of pool.now at.now.table.now overlay.now) turn.asn neighbours.now }
+    requires givers { AreGivers turn.part (relation at.now.graph.now) (λ n. P.meaning (policy_at at.now.book.now n))
+        (routing_of pool.now at.now.table.now overlay.now) turn.asn neighbours.now }
     requires live { AreLive pool.now at.now.table.now overlay.now }
-    requires no_loops { turn.may_loop ≡ false → HasNoLoops turn.part (relation at.now.graph.now) (λ n. P.meaning (policy_at at.now.book.now n)) (routing_of pool.now at.now.table.now overlay.now) turn.asn }
-    ensures { IsBestView (P.meaning (policy_at at.now.book.now turn.asn)) (λ n. offers_of turn.part (setting P.meaning at.now.graph.now at.now.book.now (state_seen reads (V.state_of at.now.states.now (prefix_of at.now.table.now)))) (routing_of pool.now at.now.table.now overlay.now) turn.asn n) result.view }
+    requires no_loops { turn.may_loop ≡ false →
+        HasNoLoops turn.part (relation at.now.graph.now) (λ n. P.meaning (policy_at at.now.book.now n))
+        (routing_of pool.now at.now.table.now overlay.now) turn.asn }
+    ensures { IsBestView (P.meaning (policy_at at.now.book.now turn.asn))
+        (λ n. offers_of turn.part (setting P.meaning at.now.graph.now at.now.book.now
+        (state_seen reads (V.state_of at.now.states.now (prefix_of at.now.table.now))))
+        (routing_of pool.now at.now.table.now overlay.now) turn.asn n) result.view }
 {
     let chooser = Chooser {
         asn: turn.asn,

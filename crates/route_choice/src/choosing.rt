@@ -30,9 +30,15 @@ pub(crate) fn evaluate_among<P: RoutePolicy, V: OriginStates, L: Ledger>(
     steps: &mut Steps<L>,
 ) -> ChoiceNear
     requires live { AreLive pool.now at.now.table.now overlay.now }
-    requires givers { AreGivers turn.part (relation at.now.graph.now) (λ n. P.meaning (policy_at at.now.book.now n)) (routing_of pool.now at.now.table.now overlay.now) turn.asn neighbours.now }
-    requires no_loops { turn.may_loop ≡ false → HasNoLoops turn.part (relation at.now.graph.now) (λ n. P.meaning (policy_at at.now.book.now n)) (routing_of pool.now at.now.table.now overlay.now) turn.asn }
-    ensures choice { IsChoice (P.meaning (policy_at at.now.book.now turn.asn)) (seeds_of pool.now at.now.seeds.now turn.asn) (λ n. offers_of turn.part (setting_at P.meaning V.state_of at.now) (routing_of pool.now at.now.table.now overlay.now) turn.asn n) result.choice }
+    requires givers { AreGivers turn.part (relation at.now.graph.now) (λ n. P.meaning (policy_at at.now.book.now n))
+        (routing_of pool.now at.now.table.now overlay.now) turn.asn neighbours.now }
+    requires no_loops { turn.may_loop ≡ false →
+        HasNoLoops turn.part (relation at.now.graph.now) (λ n. P.meaning (policy_at at.now.book.now n))
+        (routing_of pool.now at.now.table.now overlay.now) turn.asn }
+    ensures choice { IsChoice (P.meaning (policy_at at.now.book.now turn.asn))
+        (seeds_of pool.now at.now.seeds.now turn.asn)
+        (λ n. offers_of turn.part (setting_at P.meaning V.state_of at.now)
+        (routing_of pool.now at.now.table.now overlay.now) turn.asn n) result.choice }
     ensures cost { steps.new ≡ steps.old + 1 }
 {
     steps.tick();
@@ -70,8 +76,13 @@ pub fn evaluate_near<P: RoutePolicy, V: OriginStates, L: Ledger>(
     steps: &mut Steps<L>,
 ) -> ChoiceNear
     requires live { AreLive pool.now at.now.table.now overlay.now }
-    requires no_loops { turn.may_loop ≡ false → HasNoLoops turn.part (relation at.now.graph.now) (λ n. P.meaning (policy_at at.now.book.now n)) (routing_of pool.now at.now.table.now overlay.now) turn.asn }
-    ensures choice { IsChoice (P.meaning (policy_at at.now.book.now turn.asn)) (seeds_of pool.now at.now.seeds.now turn.asn) (λ n. offers_of turn.part (setting_at P.meaning V.state_of at.now) (routing_of pool.now at.now.table.now overlay.now) turn.asn n) result.choice }
+    requires no_loops { turn.may_loop ≡ false →
+        HasNoLoops turn.part (relation at.now.graph.now) (λ n. P.meaning (policy_at at.now.book.now n))
+        (routing_of pool.now at.now.table.now overlay.now) turn.asn }
+    ensures choice { IsChoice (P.meaning (policy_at at.now.book.now turn.asn))
+        (seeds_of pool.now at.now.seeds.now turn.asn)
+        (λ n. offers_of turn.part (setting_at P.meaning V.state_of at.now)
+        (routing_of pool.now at.now.table.now overlay.now) turn.asn n) result.choice }
     ensures cost { steps.new ≡ steps.old + 1 }
 {
     let neighbours = at.graph.neighbours_near(turn.asn, turn.place);
@@ -90,7 +101,9 @@ pub fn evaluate<P: RoutePolicy, V: OriginStates, L: Ledger>(
     steps: &mut Steps<L>,
 ) -> Choice
     requires { AreLive pool.now at.now.table.now overlay.now }
-    ensures choice { IsChoice (P.meaning (policy_at at.now.book.now asn)) (seeds_of pool.now at.now.seeds.now asn) (λ n. offers_of part (setting_at P.meaning V.state_of at.now) (routing_of pool.now at.now.table.now overlay.now) asn n) result }
+    ensures choice { IsChoice (P.meaning (policy_at at.now.book.now asn)) (seeds_of pool.now at.now.seeds.now asn)
+        (λ n. offers_of part (setting_at P.meaning V.state_of at.now)
+        (routing_of pool.now at.now.table.now overlay.now) asn n) result }
     ensures cost { steps.new ≡ steps.old + 1 }
 {
     let turn = Turn {

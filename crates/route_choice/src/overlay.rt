@@ -38,7 +38,8 @@ impl Overlay {
 
     /// No entry at each of these ASes, in this order, and room for `n` more ASes. The list is shared.
     pub fn blank(alloc: Global, ases: &Rc<AsPlaces>, n: usize) -> Result<Overlay, NoMemory>
-        ensures changes { IfOk result (λ o. (a : ℕ) → change_at o a ≡ (if occurs a ases.now.value.ases then Some None else None)) }
+        ensures changes { IfOk result (λ o. (a : ℕ) →
+            change_at o a ≡ (if occurs a ases.now.value.ases then Some None else None)) }
         ensures places { IfOk result (λ o. places_of o ≡ ases.now.value.ases) }
         ensures uses { IfOk result (λ o. (k : ℕ) → overlay_uses o k ≡ 0) }
         ensures room { IfOk result (λ o. n ≤ overlay_spare o) }
@@ -90,7 +91,8 @@ impl Overlay {
         requires { HasPlace self.old asn }
         ensures this { change_at self.new asn ≡ Some held }
         ensures others { (a : ℕ) → a ≢ asn → change_at self.new a ≡ change_at self.old a }
-        ensures uses { (k : ℕ) → overlay_uses self.new k + use_of k (unwrap_or (change_at self.old asn) None) ≡ overlay_uses self.old k + use_of k held }
+        ensures uses { (k : ℕ) → overlay_uses self.new k + use_of k (unwrap_or (change_at self.old asn) None)
+            ≡ overlay_uses self.old k + use_of k held }
         ensures spare { overlay_spare self.old ≤ overlay_spare self.new + 1 }
         ensures kept { IsSome (change_at self.old asn) → places_of self.new ≡ places_of self.old }
         ensures new_place { change_at self.old asn ≡ None → places_of self.new ≡ places_of self.old ++ asn ∷ [] }

@@ -39,8 +39,11 @@ fn wanted_by<P: RoutePolicy, V>(
     choice: Choice,
     from: usize,
 ) -> Wanted
-    ensures entry { (p : APool) → wanted_entry p asn result ≡ named_by (λ n. P.meaning (policy_at at.now.book.now n)) (seeds_of p at.now.seeds.now asn) (routing_of p at.now.table.now overlay.now) asn choice }
-    ensures live { (p : APool) → AreLive p at.now.table.now overlay.now → AreSeedsLive p at.now.seeds.now → IsWantedLive p result }
+    ensures entry { (p : APool) → wanted_entry p asn result
+        ≡ named_by (λ n. P.meaning (policy_at at.now.book.now n)) (seeds_of p at.now.seeds.now asn)
+        (routing_of p at.now.table.now overlay.now) asn choice }
+    ensures live { (p : APool) → AreLive p at.now.table.now overlay.now → AreSeedsLive p at.now.seeds.now →
+        IsWantedLive p result }
     ensures via { IsLonger result → IsVia choice }
 {
     match choice {
@@ -160,7 +163,8 @@ fn replace(pool: &mut PathPool, overlay: &mut Overlay, asn: Asn, place: usize, w
     requires counts { (k : ℕ) → count_of pool.old k < 4294967295 }
     requires held { (k : ℕ) → overlay_uses overlay.old k ≤ holds_of pool.old k }
     requires room { HasPlace overlay.old asn }
-    ensures put { IsSomeAnd (change_at overlay.new asn) (λ e. option_map (entry_of pool.new) e ≡ wanted_entry pool.old asn wanted) }
+    ensures put { IsSomeAnd (change_at overlay.new asn) (λ e. option_map (entry_of pool.new) e
+        ≡ wanted_entry pool.old asn wanted) }
     ensures spent { Spends pool.old pool.new overlay.old overlay.new asn }
     ensures kept { unwrap_or (change_at overlay.old asn) None ≡ None → (k : ℕ) → IsLive pool.old k → IsLive pool.new k }
     ensures live { live_count pool.old < live_count pool.new → IsLonger wanted }
@@ -185,15 +189,21 @@ pub fn settle_near<P: RoutePolicy, V>(
     requires choice { IsNameable at.now.seeds.now at.now.table.now overlay.old asn chosen.choice }
     requires pool { CanChange pool.old at.now.seeds.now at.now.table.now overlay.old 1 }
     requires room { HasPlace overlay.old asn }
-    ensures named { routing_of pool.new at.now.table.now overlay.new asn ≡ named_by (λ n. P.meaning (policy_at at.now.book.now n)) (seeds_of pool.old at.now.seeds.now asn) (routing_of pool.old at.now.table.now overlay.old) asn chosen.choice }
-    ensures others { (n : ℕ) → n ≢ asn → routing_of pool.new at.now.table.now overlay.new n ≡ routing_of pool.old at.now.table.now overlay.old n }
-    ensures changed { IsTrue result ↔ (routing_of pool.new at.now.table.now overlay.new asn ≢ routing_of pool.old at.now.table.now overlay.old asn) }
+    ensures named { routing_of pool.new at.now.table.now overlay.new asn
+        ≡ named_by (λ n. P.meaning (policy_at at.now.book.now n)) (seeds_of pool.old at.now.seeds.now asn)
+        (routing_of pool.old at.now.table.now overlay.old) asn chosen.choice }
+    ensures others { (n : ℕ) → n ≢ asn → routing_of pool.new at.now.table.now overlay.new n
+        ≡ routing_of pool.old at.now.table.now overlay.old n }
+    ensures changed { IsTrue result ↔ (routing_of pool.new at.now.table.now overlay.new asn
+        ≢ routing_of pool.old at.now.table.now overlay.old asn) }
     ensures unchanged { result ≡ false → (pool.new ≡ pool.old) × (overlay.new ≡ overlay.old) }
     ensures put { IsTrue result → IsSome (change_at overlay.new asn) }
     ensures spent { Spends pool.old pool.new overlay.old overlay.new asn }
     ensures live { live_count pool.old < live_count pool.new → IsVia chosen.choice }
-    ensures next { (n : ℕ) → CanChange pool.old at.now.seeds.now at.now.table.now overlay.old (suc n) → AreSeedsLive pool.new at.now.seeds.now → CanChange pool.new at.now.seeds.now at.now.table.now overlay.new n }
-    ensures kept { GivesUpNothing overlay.old (routing_of pool.old at.now.table.now overlay.old) (routing_of pool.new at.now.table.now overlay.new) asn → Keeps pool.old pool.new at.now.seeds.now }
+    ensures next { (n : ℕ) → CanChange pool.old at.now.seeds.now at.now.table.now overlay.old (suc n) →
+        AreSeedsLive pool.new at.now.seeds.now → CanChange pool.new at.now.seeds.now at.now.table.now overlay.new n }
+    ensures kept { GivesUpNothing overlay.old (routing_of pool.old at.now.table.now overlay.old)
+        (routing_of pool.new at.now.table.now overlay.new) asn → Keeps pool.old pool.new at.now.seeds.now }
 {
     let wanted = wanted_by(at, overlay, asn, chosen.choice, chosen.place);
     let have = held_near(at.table, overlay, asn, place);
@@ -218,15 +228,21 @@ pub fn settle<P: RoutePolicy, V>(
     requires choice { IsNameable at.now.seeds.now at.now.table.now overlay.old asn choice }
     requires pool { CanChange pool.old at.now.seeds.now at.now.table.now overlay.old 1 }
     requires room { HasPlace overlay.old asn }
-    ensures named { routing_of pool.new at.now.table.now overlay.new asn ≡ named_by (λ n. P.meaning (policy_at at.now.book.now n)) (seeds_of pool.old at.now.seeds.now asn) (routing_of pool.old at.now.table.now overlay.old) asn choice }
-    ensures others { (n : ℕ) → n ≢ asn → routing_of pool.new at.now.table.now overlay.new n ≡ routing_of pool.old at.now.table.now overlay.old n }
-    ensures changed { IsTrue result ↔ (routing_of pool.new at.now.table.now overlay.new asn ≢ routing_of pool.old at.now.table.now overlay.old asn) }
+    ensures named { routing_of pool.new at.now.table.now overlay.new asn
+        ≡ named_by (λ n. P.meaning (policy_at at.now.book.now n)) (seeds_of pool.old at.now.seeds.now asn)
+        (routing_of pool.old at.now.table.now overlay.old) asn choice }
+    ensures others { (n : ℕ) → n ≢ asn → routing_of pool.new at.now.table.now overlay.new n
+        ≡ routing_of pool.old at.now.table.now overlay.old n }
+    ensures changed { IsTrue result ↔ (routing_of pool.new at.now.table.now overlay.new asn
+        ≢ routing_of pool.old at.now.table.now overlay.old asn) }
     ensures unchanged { result ≡ false → (pool.new ≡ pool.old) × (overlay.new ≡ overlay.old) }
     ensures put { IsTrue result → IsSome (change_at overlay.new asn) }
     ensures spent { Spends pool.old pool.new overlay.old overlay.new asn }
     ensures live { live_count pool.old < live_count pool.new → IsVia choice }
-    ensures next { (n : ℕ) → CanChange pool.old at.now.seeds.now at.now.table.now overlay.old (suc n) → AreSeedsLive pool.new at.now.seeds.now → CanChange pool.new at.now.seeds.now at.now.table.now overlay.new n }
-    ensures kept { GivesUpNothing overlay.old (routing_of pool.old at.now.table.now overlay.old) (routing_of pool.new at.now.table.now overlay.new) asn → Keeps pool.old pool.new at.now.seeds.now }
+    ensures next { (n : ℕ) → CanChange pool.old at.now.seeds.now at.now.table.now overlay.old (suc n) →
+        AreSeedsLive pool.new at.now.seeds.now → CanChange pool.new at.now.seeds.now at.now.table.now overlay.new n }
+    ensures kept { GivesUpNothing overlay.old (routing_of pool.old at.now.table.now overlay.old)
+        (routing_of pool.new at.now.table.now overlay.new) asn → Keeps pool.old pool.new at.now.seeds.now }
 {
     let chosen = ChoiceNear { choice, place: 0 };
     settle_near(at, pool, overlay, asn, 0, chosen)

@@ -197,7 +197,8 @@ fn replace(slots: &mut Slots, pool: &mut PathPool, asn: Asn, place: usize, entry
     requires held { (k : ℕ) → uses_of slots.old k ≤ holds_of pool.old k }
     ensures this { slot_at slots.new asn ≡ Some entry }
     ensures others { (a : ℕ) → a ≢ asn → slot_at slots.new a ≡ slot_at slots.old a }
-    ensures holds { (k : ℕ) → uses_of slots.new k + holds_of pool.old k ≡ uses_of slots.old k + holds_of pool.new k + use_of k entry }
+    ensures holds { (k : ℕ) → uses_of slots.new k + holds_of pool.old k
+        ≡ uses_of slots.old k + holds_of pool.new k + use_of k entry }
     ensures back { GivesBack pool.old pool.new }
     ensures spare { slots.old.spare ≤ slots.new.spare + 1 }
 {
@@ -210,7 +211,8 @@ pub(crate) fn replace_all(slots: &mut Slots, changes: &Slots, pool: &mut PathPoo
     requires room { length (keys changes.now) ≤ slots.old.spare }
     requires held { (k : ℕ) → uses_of slots.old k + uses_of changes.now k ≤ holds_of pool.old k }
     ensures entries { (a : ℕ) → entry_at slots.new a ≡ over (slot_at changes.now a) (entry_at slots.old a) }
-    ensures holds { (k : ℕ) → uses_of slots.new k + holds_of pool.old k ≡ uses_of slots.old k + uses_of changes.now k + holds_of pool.new k }
+    ensures holds { (k : ℕ) → uses_of slots.new k + holds_of pool.old k
+        ≡ uses_of slots.old k + uses_of changes.now k + holds_of pool.new k }
     ensures back { GivesBack pool.old pool.new }
 {
     for place in 0..changes.len() {

@@ -31,16 +31,24 @@ pub fn visit<P: RoutePolicy, V: OriginStates, L: Ledger>(
     steps: &mut Steps<L>,
 ) -> bool
     requires can { CanStep pool.old at.now.seeds.now at.now.table.now overlay.old 1 }
-    requires no_loops { turn.may_loop ≡ false → HasNoLoops turn.part (relation at.now.graph.now) (λ n. P.meaning (policy_at at.now.book.now n)) (routing_of pool.old at.now.table.now overlay.old) turn.asn }
+    requires no_loops { turn.may_loop ≡ false →
+        HasNoLoops turn.part (relation at.now.graph.now) (λ n. P.meaning (policy_at at.now.book.now n))
+        (routing_of pool.old at.now.table.now overlay.old) turn.asn }
     ensures cost { steps.new ≡ steps.old + 1 }
-    ensures step { IsStepOf turn.part (setting_at P.meaning V.state_of at.now) (seeds_of pool.old at.now.seeds.now) (routing_of pool.old at.now.table.now overlay.old) turn.asn (routing_of pool.new at.now.table.now overlay.new) }
-    ensures changed { IsTrue result ↔ (routing_of pool.new at.now.table.now overlay.new turn.asn ≢ routing_of pool.old at.now.table.now overlay.old turn.asn) }
+    ensures step { IsStepOf turn.part (setting_at P.meaning V.state_of at.now) (seeds_of pool.old at.now.seeds.now)
+        (routing_of pool.old at.now.table.now overlay.old) turn.asn
+        (routing_of pool.new at.now.table.now overlay.new) }
+    ensures changed { IsTrue result ↔ (routing_of pool.new at.now.table.now overlay.new turn.asn
+        ≢ routing_of pool.old at.now.table.now overlay.old turn.asn) }
     ensures unchanged { result ≡ false → (pool.new ≡ pool.old) × (overlay.new ≡ overlay.old) }
     ensures put { IsTrue result → IsSome (change_at overlay.new turn.asn) }
     ensures spent { Spends pool.old pool.new overlay.old overlay.new turn.asn }
-    ensures live { live_count pool.old < live_count pool.new → IsSome (routing_of pool.new at.now.table.now overlay.new turn.asn) }
-    ensures next { (n : ℕ) → CanStep pool.old at.now.seeds.now at.now.table.now overlay.old (suc n) → AreSeedsLive pool.new at.now.seeds.now → CanStep pool.new at.now.seeds.now at.now.table.now overlay.new n }
-    ensures kept { GivesUpNothing overlay.old (routing_of pool.old at.now.table.now overlay.old) (routing_of pool.new at.now.table.now overlay.new) turn.asn → Keeps pool.old pool.new at.now.seeds.now }
+    ensures live { live_count pool.old < live_count pool.new →
+        IsSome (routing_of pool.new at.now.table.now overlay.new turn.asn) }
+    ensures next { (n : ℕ) → CanStep pool.old at.now.seeds.now at.now.table.now overlay.old (suc n) →
+        AreSeedsLive pool.new at.now.seeds.now → CanStep pool.new at.now.seeds.now at.now.table.now overlay.new n }
+    ensures kept { GivesUpNothing overlay.old (routing_of pool.old at.now.table.now overlay.old)
+        (routing_of pool.new at.now.table.now overlay.new) turn.asn → Keeps pool.old pool.new at.now.seeds.now }
 {
     let neighbours = at.graph.neighbours_near(turn.asn, turn.place);
     let places = at.graph.neighbour_places(turn.place);
@@ -60,17 +68,26 @@ pub fn visit_among<P: RoutePolicy, V: OriginStates, L: Ledger>(
     steps: &mut Steps<L>,
 ) -> bool
     requires can { CanStep pool.old at.now.seeds.now at.now.table.now overlay.old 1 }
-    requires givers { AreGivers turn.part (relation at.now.graph.now) (λ n. P.meaning (policy_at at.now.book.now n)) (routing_of pool.old at.now.table.now overlay.old) turn.asn neighbours.now }
-    requires no_loops { turn.may_loop ≡ false → HasNoLoops turn.part (relation at.now.graph.now) (λ n. P.meaning (policy_at at.now.book.now n)) (routing_of pool.old at.now.table.now overlay.old) turn.asn }
+    requires givers { AreGivers turn.part (relation at.now.graph.now) (λ n. P.meaning (policy_at at.now.book.now n))
+        (routing_of pool.old at.now.table.now overlay.old) turn.asn neighbours.now }
+    requires no_loops { turn.may_loop ≡ false →
+        HasNoLoops turn.part (relation at.now.graph.now) (λ n. P.meaning (policy_at at.now.book.now n))
+        (routing_of pool.old at.now.table.now overlay.old) turn.asn }
     ensures cost { steps.new ≡ steps.old + 1 }
-    ensures step { IsStepOf turn.part (setting_at P.meaning V.state_of at.now) (seeds_of pool.old at.now.seeds.now) (routing_of pool.old at.now.table.now overlay.old) turn.asn (routing_of pool.new at.now.table.now overlay.new) }
-    ensures changed { IsTrue result ↔ (routing_of pool.new at.now.table.now overlay.new turn.asn ≢ routing_of pool.old at.now.table.now overlay.old turn.asn) }
+    ensures step { IsStepOf turn.part (setting_at P.meaning V.state_of at.now) (seeds_of pool.old at.now.seeds.now)
+        (routing_of pool.old at.now.table.now overlay.old) turn.asn
+        (routing_of pool.new at.now.table.now overlay.new) }
+    ensures changed { IsTrue result ↔ (routing_of pool.new at.now.table.now overlay.new turn.asn
+        ≢ routing_of pool.old at.now.table.now overlay.old turn.asn) }
     ensures unchanged { result ≡ false → (pool.new ≡ pool.old) × (overlay.new ≡ overlay.old) }
     ensures put { IsTrue result → IsSome (change_at overlay.new turn.asn) }
     ensures spent { Spends pool.old pool.new overlay.old overlay.new turn.asn }
-    ensures live { live_count pool.old < live_count pool.new → IsSome (routing_of pool.new at.now.table.now overlay.new turn.asn) }
-    ensures next { (n : ℕ) → CanStep pool.old at.now.seeds.now at.now.table.now overlay.old (suc n) → AreSeedsLive pool.new at.now.seeds.now → CanStep pool.new at.now.seeds.now at.now.table.now overlay.new n }
-    ensures kept { GivesUpNothing overlay.old (routing_of pool.old at.now.table.now overlay.old) (routing_of pool.new at.now.table.now overlay.new) turn.asn → Keeps pool.old pool.new at.now.seeds.now }
+    ensures live { live_count pool.old < live_count pool.new →
+        IsSome (routing_of pool.new at.now.table.now overlay.new turn.asn) }
+    ensures next { (n : ℕ) → CanStep pool.old at.now.seeds.now at.now.table.now overlay.old (suc n) →
+        AreSeedsLive pool.new at.now.seeds.now → CanStep pool.new at.now.seeds.now at.now.table.now overlay.new n }
+    ensures kept { GivesUpNothing overlay.old (routing_of pool.old at.now.table.now overlay.old)
+        (routing_of pool.new at.now.table.now overlay.new) turn.asn → Keeps pool.old pool.new at.now.seeds.now }
 {
     let Turn { asn, place, .. } = turn;
     let chosen = evaluate_among(at, pool, overlay, turn, neighbours, places, steps);

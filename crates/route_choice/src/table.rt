@@ -101,7 +101,8 @@ impl Table {
         ensures prefix { prefix_of self.new ≡ prefix_of self.old }
         ensures entries { (a : ℕ) → held_at self.new a ≡ joined self.old overlay a }
         ensures routing { (a : ℕ) → table_routing pool.new self.new a ≡ routing_of pool.old self.old overlay a }
-        ensures holds { (k : ℕ) → table_uses self.new k + holds_of pool.old k ≡ table_uses self.old k + overlay_uses overlay k + holds_of pool.new k }
+        ensures holds { (k : ℕ) → table_uses self.new k + holds_of pool.old k
+            ≡ table_uses self.old k + overlay_uses overlay k + holds_of pool.new k }
         ensures back { GivesBack pool.old pool.new }
     {
         if self.slots.len() == 0 {

@@ -47,9 +47,12 @@ fn has_none_to_take(told: &Told, named: &AsnSet, asn: Asn, place: usize) -> bool
 // told it that it holds something. The answer is whether all of them are there.
 fn gather(course: &Course, place: usize, told: &Told, asn: Asn, looks: &mut Looks) -> bool
     requires { place < count_of course.now.above }
-    ensures each { result ≡ true → (w : ℕ → ℕ → Option ARel) → AreTrue w told.now → All (λ x. w asn x.asn ≡ Some x.rel) (list_at course.now.above place) → All (λ x. w asn x.asn ≡ Some x.rel) looks.new.neighbours.items }
+    ensures each { result ≡ true → (w : ℕ → ℕ → Option ARel) → AreTrue w told.now →
+        All (λ x. w asn x.asn ≡ Some x.rel) (list_at course.now.above place) →
+        All (λ x. w asn x.asn ≡ Some x.rel) looks.new.neighbours.items }
     ensures told { result ≡ true → (b : ℕ) → IsTold told.now asn b → occurs b (asns looks.new.neighbours.items) ≡ true }
-    ensures above { result ≡ true → (n : ℕ) → occurs n (asns (list_at course.now.above place)) ≡ true → occurs n (asns looks.new.neighbours.items) ≡ true }
+    ensures above { result ≡ true → (n : ℕ) → occurs n (asns (list_at course.now.above place)) ≡ true →
+        occurs n (asns looks.new.neighbours.items) ≡ true }
 {
     looks.clear();
     looks.put_all(course.above.list(place), course.above.places(place))
@@ -71,16 +74,23 @@ fn step<P: RoutePolicy, V: OriginStates, L: Ledger>(
     requires inside { turn.place < count_of course.now.above }
     requires above { AreProviders (relation at.now.graph.now) turn.asn (list_at course.now.above turn.place) }
     requires true_notes { AreTrue (relation at.now.graph.now) gathered.old.told }
-    requires told { HaveTold (IsTold gathered.old.told) (setting_at P.meaning V.state_of at.now) (routing_of pool.old at.now.table.now overlay.old) turn.asn }
-    requires no_loops { turn.may_loop ≡ false → HasNoLoops turn.part (relation at.now.graph.now) (λ n. P.meaning (policy_at at.now.book.now n)) (routing_of pool.old at.now.table.now overlay.old) turn.asn }
+    requires told { HaveTold (IsTold gathered.old.told) (setting_at P.meaning V.state_of at.now)
+        (routing_of pool.old at.now.table.now overlay.old) turn.asn }
+    requires no_loops { turn.may_loop ≡ false →
+        HasNoLoops turn.part (relation at.now.graph.now) (λ n. P.meaning (policy_at at.now.book.now n))
+        (routing_of pool.old at.now.table.now overlay.old) turn.asn }
     ensures cost { steps.new ≡ steps.old + 1 }
-    ensures step { IsStepOf turn.part (setting_at P.meaning V.state_of at.now) (seeds_of pool.old at.now.seeds.now) (routing_of pool.old at.now.table.now overlay.old) turn.asn (routing_of pool.new at.now.table.now overlay.new) }
-    ensures changed { IsTrue result ↔ (routing_of pool.new at.now.table.now overlay.new turn.asn ≢ routing_of pool.old at.now.table.now overlay.old turn.asn) }
+    ensures step { IsStepOf turn.part (setting_at P.meaning V.state_of at.now) (seeds_of pool.old at.now.seeds.now)
+        (routing_of pool.old at.now.table.now overlay.old) turn.asn
+        (routing_of pool.new at.now.table.now overlay.new) }
+    ensures changed { IsTrue result ↔ (routing_of pool.new at.now.table.now overlay.new turn.asn
+        ≢ routing_of pool.old at.now.table.now overlay.old turn.asn) }
     ensures unchanged { result ≡ false → (pool.new ≡ pool.old) × (overlay.new ≡ overlay.old) }
     ensures put { IsTrue result → IsSome (change_at overlay.new turn.asn) }
     ensures told { gathered.new.told ≡ gathered.old.told }
     ensures spent { Spends pool.old pool.new overlay.old overlay.new turn.asn }
-    ensures kept { GivesUpNothing overlay.old (routing_of pool.old at.now.table.now overlay.old) (routing_of pool.new at.now.table.now overlay.new) turn.asn → Keeps pool.old pool.new at.now.seeds.now }
+    ensures kept { GivesUpNothing overlay.old (routing_of pool.old at.now.table.now overlay.old)
+        (routing_of pool.new at.now.table.now overlay.new) turn.asn → Keeps pool.old pool.new at.now.seeds.now }
 {
     let told = &gathered.told;
     let looks = &mut gathered.looks;
@@ -113,19 +123,30 @@ fn step_up<P: RoutePolicy, V: OriginStates, L: Ledger>(
 )
     requires course { IsCourse at.now.graph.now pass.now.course.now }
     requires inside { place < length pass.now.course.now.order.ases.items }
-    requires nothing { routing_of pool.old at.now.table.now overlay.old (slice_index pass.now.course.now.order.ases.items place) ≡ None }
-    requires unnamed { is_among pass.now.named (slice_index pass.now.course.now.order.ases.items place) ≡ false → seed_at at.now.seeds.now (slice_index pass.now.course.now.order.ases.items place) ≡ None }
+    requires nothing { routing_of pool.old at.now.table.now overlay.old
+        (slice_index pass.now.course.now.order.ases.items place) ≡ None }
+    requires unnamed { is_among pass.now.named (slice_index pass.now.course.now.order.ases.items place) ≡ false →
+        seed_at at.now.seeds.now (slice_index pass.now.course.now.order.ases.items place) ≡ None }
     requires true_notes { AreTrue (relation at.now.graph.now) gathered.old.told }
-    requires told { HaveTold (IsTold gathered.old.told) (setting_at P.meaning V.state_of at.now) (routing_of pool.old at.now.table.now overlay.old) (slice_index pass.now.course.now.order.ases.items place) }
-    requires no_loops { is_among pass.now.named (slice_index pass.now.course.now.order.ases.items place) ≡ false → HasNoLoops Part.Up (relation at.now.graph.now) (λ n. P.meaning (policy_at at.now.book.now n)) (routing_of pool.old at.now.table.now overlay.old) (slice_index pass.now.course.now.order.ases.items place) }
+    requires told { HaveTold (IsTold gathered.old.told) (setting_at P.meaning V.state_of at.now)
+        (routing_of pool.old at.now.table.now overlay.old) (slice_index pass.now.course.now.order.ases.items place) }
+    requires no_loops { is_among pass.now.named (slice_index pass.now.course.now.order.ases.items place) ≡ false →
+        HasNoLoops Part.Up (relation at.now.graph.now) (λ n. P.meaning (policy_at at.now.book.now n))
+        (routing_of pool.old at.now.table.now overlay.old) (slice_index pass.now.course.now.order.ases.items place) }
     requires room { CanGo pool.old at.now.seeds.now at.now.table.now overlay.old pass.now.course.now.order.ases.items }
     ensures cost { steps.new ≤ steps.old + 1 }
-    ensures step { IsStepOf Part.Up (setting_at P.meaning V.state_of at.now) (seeds_of pool.old at.now.seeds.now) (routing_of pool.old at.now.table.now overlay.old) (slice_index pass.now.course.now.order.ases.items place) (routing_of pool.new at.now.table.now overlay.new) }
-    ensures around { routing_of pool.new at.now.table.now overlay.new (slice_index pass.now.course.now.order.ases.items place) ≢ None → (n : ℕ) (r : ARel) → relation at.now.graph.now (slice_index pass.now.course.now.order.ases.items place) n ≡ Some r → r ≢ Customer → IsTold gathered.new.told n (slice_index pass.now.course.now.order.ases.items place) }
+    ensures step { IsStepOf Part.Up (setting_at P.meaning V.state_of at.now) (seeds_of pool.old at.now.seeds.now)
+        (routing_of pool.old at.now.table.now overlay.old) (slice_index pass.now.course.now.order.ases.items place)
+        (routing_of pool.new at.now.table.now overlay.new) }
+    ensures around { routing_of pool.new at.now.table.now overlay.new
+        (slice_index pass.now.course.now.order.ases.items place) ≢ None → (n : ℕ) (r : ARel) →
+        relation at.now.graph.now (slice_index pass.now.course.now.order.ases.items place) n ≡ Some r → r ≢ Customer →
+        IsTold gathered.new.told n (slice_index pass.now.course.now.order.ases.items place) }
     ensures others { (a b : ℕ) → IsTold gathered.old.told a b → IsTold gathered.new.told a b }
     ensures true_notes { AreTrue (relation at.now.graph.now) gathered.new.told }
     ensures room { CanGo pool.new at.now.seeds.now at.now.table.now overlay.new pass.now.course.now.order.ases.items }
-    ensures spent { HasSpent pool.old pool.new at.now.seeds.now at.now.table.now overlay.old overlay.new pass.now.course.now.order.ases.items }
+    ensures spent { HasSpent pool.old pool.new at.now.seeds.now at.now.table.now overlay.old overlay.new
+        pass.now.course.now.order.ases.items }
 {
     let asn = pass.course.order.ases[place];
     if has_none_to_take(&gathered.told, &pass.named, asn, place) {
@@ -162,11 +183,15 @@ pub fn go_up<P: RoutePolicy, V: OriginStates, L: Ledger>(
     requires true_notes { AreTrue (relation at.now.graph.now) gathered.old.told }
     requires room { CanGo pool.old at.now.seeds.now at.now.table.now overlay.old pass.now.course.now.order.ases.items }
     ensures cost { steps.new ≤ steps.old + length pass.now.course.now.order.ases.items }
-    ensures done { AfterUp (setting_at P.meaning V.state_of at.now) (seeds_of pool.old at.now.seeds.now) pass.now.course.now.order.ases.items (routing_of pool.new at.now.table.now overlay.new) }
-    ensures told { (b n : ℕ) (r : ARel) → occurs b pass.now.course.now.order.ases.items ≡ true → routing_of pool.new at.now.table.now overlay.new b ≢ None → relation at.now.graph.now b n ≡ Some r → r ≢ Customer → IsTold gathered.new.told n b }
+    ensures done { AfterUp (setting_at P.meaning V.state_of at.now) (seeds_of pool.old at.now.seeds.now)
+        pass.now.course.now.order.ases.items (routing_of pool.new at.now.table.now overlay.new) }
+    ensures told { (b n : ℕ) (r : ARel) → occurs b pass.now.course.now.order.ases.items ≡ true →
+        routing_of pool.new at.now.table.now overlay.new b ≢ None → relation at.now.graph.now b n ≡ Some r →
+        r ≢ Customer → IsTold gathered.new.told n b }
     ensures true_notes { AreTrue (relation at.now.graph.now) gathered.new.told }
     ensures room { CanGo pool.new at.now.seeds.now at.now.table.now overlay.new pass.now.course.now.order.ases.items }
-    ensures spent { HasSpent pool.old pool.new at.now.seeds.now at.now.table.now overlay.old overlay.new pass.now.course.now.order.ases.items }
+    ensures spent { HasSpent pool.old pool.new at.now.seeds.now at.now.table.now overlay.old overlay.new
+        pass.now.course.now.order.ases.items }
 {
     for place in 0..pass.course.order.ases.len() {
         step_up(at, pass, gathered, pool, overlay, place, steps);
@@ -185,19 +210,31 @@ fn step_down<P: RoutePolicy, V: OriginStates, L: Ledger>(
 ) -> bool
     requires can { CanStep pool.old at.now.seeds.now at.now.table.now overlay.old 1 }
     requires inside { placed.place < count_of pass.now.course.now.above }
-    requires above { AreProviders (relation at.now.graph.now) placed.asn (list_at pass.now.course.now.above placed.place) }
-    requires held { routing_of pool.old at.now.table.now overlay.old placed.asn ≢ None → IsStepOf Part.Whole (setting_at P.meaning V.state_of at.now) (seeds_of pool.old at.now.seeds.now) (routing_of pool.old at.now.table.now overlay.old) placed.asn (routing_of pool.old at.now.table.now overlay.old) }
+    requires above { AreProviders (relation at.now.graph.now) placed.asn
+        (list_at pass.now.course.now.above placed.place) }
+    requires held { routing_of pool.old at.now.table.now overlay.old placed.asn ≢ None →
+        IsStepOf Part.Whole (setting_at P.meaning V.state_of at.now) (seeds_of pool.old at.now.seeds.now)
+        (routing_of pool.old at.now.table.now overlay.old) placed.asn
+        (routing_of pool.old at.now.table.now overlay.old) }
     requires true_notes { AreTrue (relation at.now.graph.now) gathered.old.told }
-    requires told { HaveTold (IsTold gathered.old.told) (setting_at P.meaning V.state_of at.now) (routing_of pool.old at.now.table.now overlay.old) placed.asn }
-    requires no_loops { routing_of pool.old at.now.table.now overlay.old placed.asn ≡ None → is_among pass.now.named placed.asn ≡ false → HasNoLoops Part.Whole (relation at.now.graph.now) (λ n. P.meaning (policy_at at.now.book.now n)) (routing_of pool.old at.now.table.now overlay.old) placed.asn }
+    requires told { HaveTold (IsTold gathered.old.told) (setting_at P.meaning V.state_of at.now)
+        (routing_of pool.old at.now.table.now overlay.old) placed.asn }
+    requires no_loops { routing_of pool.old at.now.table.now overlay.old placed.asn ≡ None →
+        is_among pass.now.named placed.asn ≡ false →
+        HasNoLoops Part.Whole (relation at.now.graph.now) (λ n. P.meaning (policy_at at.now.book.now n))
+        (routing_of pool.old at.now.table.now overlay.old) placed.asn }
     ensures cost { steps.new ≤ steps.old + 1 }
-    ensures step { IsStepOf Part.Whole (setting_at P.meaning V.state_of at.now) (seeds_of pool.old at.now.seeds.now) (routing_of pool.old at.now.table.now overlay.old) placed.asn (routing_of pool.new at.now.table.now overlay.new) }
-    ensures changed { IsTrue result ↔ (routing_of pool.new at.now.table.now overlay.new placed.asn ≢ routing_of pool.old at.now.table.now overlay.old placed.asn) }
+    ensures step { IsStepOf Part.Whole (setting_at P.meaning V.state_of at.now) (seeds_of pool.old at.now.seeds.now)
+        (routing_of pool.old at.now.table.now overlay.old) placed.asn
+        (routing_of pool.new at.now.table.now overlay.new) }
+    ensures changed { IsTrue result ↔ (routing_of pool.new at.now.table.now overlay.new placed.asn
+        ≢ routing_of pool.old at.now.table.now overlay.old placed.asn) }
     ensures unchanged { result ≡ false → (pool.new ≡ pool.old) × (overlay.new ≡ overlay.old) }
     ensures put { IsTrue result → IsSome (change_at overlay.new placed.asn) }
     ensures told { gathered.new.told ≡ gathered.old.told }
     ensures spent { Spends pool.old pool.new overlay.old overlay.new placed.asn }
-    ensures kept { GivesUpNothing overlay.old (routing_of pool.old at.now.table.now overlay.old) (routing_of pool.new at.now.table.now overlay.new) placed.asn → Keeps pool.old pool.new at.now.seeds.now }
+    ensures kept { GivesUpNothing overlay.old (routing_of pool.old at.now.table.now overlay.old)
+        (routing_of pool.new at.now.table.now overlay.new) placed.asn → Keeps pool.old pool.new at.now.seeds.now }
 {
     if holds(at.table, overlay, placed.asn, placed.place) {
         return false;
@@ -224,14 +261,18 @@ pub fn go_down<P: RoutePolicy, V: OriginStates, L: Ledger>(
     requires no_cycle { HasNoProviderCycle (relation at.now.graph.now) }
     requires course { IsCourse at.now.graph.now pass.now.course.now }
     requires true_notes { AreTrue (relation at.now.graph.now) gathered.old.told }
-    requires told { (a : ℕ) → HaveTold (IsTold gathered.old.told) (setting_at P.meaning V.state_of at.now) (routing_of pool.old at.now.table.now overlay.old) a }
+    requires told { (a : ℕ) → HaveTold (IsTold gathered.old.told) (setting_at P.meaning V.state_of at.now)
+        (routing_of pool.old at.now.table.now overlay.old) a }
     requires named { AreNamed (is_among pass.now.named) (seeds_of pool.old at.now.seeds.now) }
-    requires up { AfterUp (setting_at P.meaning V.state_of at.now) (seeds_of pool.old at.now.seeds.now) pass.now.course.now.order.ases.items (routing_of pool.old at.now.table.now overlay.old) }
+    requires up { AfterUp (setting_at P.meaning V.state_of at.now) (seeds_of pool.old at.now.seeds.now)
+        pass.now.course.now.order.ases.items (routing_of pool.old at.now.table.now overlay.old) }
     requires room { CanGo pool.old at.now.seeds.now at.now.table.now overlay.old pass.now.course.now.order.ases.items }
     ensures cost { steps.new ≤ steps.old + length pass.now.course.now.order.ases.items }
-    ensures done { IsStable (setting_at P.meaning V.state_of at.now) (seeds_of pool.old at.now.seeds.now) (routing_of pool.new at.now.table.now overlay.new) }
+    ensures done { IsStable (setting_at P.meaning V.state_of at.now) (seeds_of pool.old at.now.seeds.now)
+        (routing_of pool.new at.now.table.now overlay.new) }
     ensures room { CanGo pool.new at.now.seeds.now at.now.table.now overlay.new pass.now.course.now.order.ases.items }
-    ensures spent { HasSpent pool.old pool.new at.now.seeds.now at.now.table.now overlay.old overlay.new pass.now.course.now.order.ases.items }
+    ensures spent { HasSpent pool.old pool.new at.now.seeds.now at.now.table.now overlay.old overlay.new
+        pass.now.course.now.order.ases.items }
 {
     let mut left = pass.course.order.ases.len();
     while left > 0 {

@@ -14,13 +14,16 @@ fn hand_one(from: &mut Overlay, to: &mut Overlay, asn: Asn, from_place: usize, t
     requires there { IsSome (change_at to.old asn) }
     requires one { (unwrap_or (change_at from.old asn) None ≡ None) ⊎ (unwrap_or (change_at to.old asn) None ≡ None) }
     ensures none { unwrap_or (change_at from.new asn) None ≡ None }
-    ensures given_to { unwrap_or (change_at to.old asn) None ≡ None → unwrap_or (change_at to.new asn) None ≡ unwrap_or (change_at from.old asn) None }
-    ensures kept_to { unwrap_or (change_at from.old asn) None ≡ None → unwrap_or (change_at to.new asn) None ≡ unwrap_or (change_at to.old asn) None }
+    ensures given_to { unwrap_or (change_at to.old asn) None ≡ None →
+        unwrap_or (change_at to.new asn) None ≡ unwrap_or (change_at from.old asn) None }
+    ensures kept_to { unwrap_or (change_at from.old asn) None ≡ None →
+        unwrap_or (change_at to.new asn) None ≡ unwrap_or (change_at to.old asn) None }
     ensures others_from { (a : ℕ) → a ≢ asn → change_at from.new a ≡ change_at from.old a }
     ensures others_to { (a : ℕ) → a ≢ asn → change_at to.new a ≡ change_at to.old a }
     ensures place_from { IsSome (change_at from.old asn) → IsSome (change_at from.new asn) }
     ensures place_to { IsSome (change_at to.new asn) }
-    ensures uses { (k : ℕ) → overlay_uses to.new k + overlay_uses from.new k ≡ overlay_uses to.old k + overlay_uses from.old k }
+    ensures uses { (k : ℕ) → overlay_uses to.new k + overlay_uses from.new k
+        ≡ overlay_uses to.old k + overlay_uses from.old k }
     ensures room { overlay_spare from.new ≡ overlay_spare from.old }
 {
     match from.get_near(asn, from_place) {

@@ -103,7 +103,8 @@ impl<'a> Told<'a> {
         requires { self.old.all ≡ false }
         ensures this { result ≡ true → IsTold self.new to from.asn }
         ensures others { (a b : ℕ) → IsTold self.old a b → IsTold self.new a b }
-        ensures sound { (w : ℕ → ℕ → Option ARel) → w to from.asn ≡ Some from.rel → AreTrue w self.old → AreTrue w self.new }
+        ensures sound { (w : ℕ → ℕ → Option ARel) → w to from.asn ≡ Some from.rel → AreTrue w self.old →
+            AreTrue w self.new }
     {
         if !stands_at(self.order, at, to) {
             return false;
@@ -130,7 +131,8 @@ impl<'a> Told<'a> {
     fn tell(&mut self, to: Asn, at: usize, from: Neighbour, place: u32)
         ensures this { IsTold self.new to from.asn }
         ensures others { (a b : ℕ) → IsTold self.old a b → IsTold self.new a b }
-        ensures sound { (w : ℕ → ℕ → Option ARel) → w to from.asn ≡ Some from.rel → AreTrue w self.old → AreTrue w self.new }
+        ensures sound { (w : ℕ → ℕ → Option ARel) → w to from.asn ≡ Some from.rel → AreTrue w self.old →
+            AreTrue w self.new }
     {
         if self.all {
             return;
@@ -144,7 +146,8 @@ impl<'a> Told<'a> {
     fn tell_if_above(&mut self, neighbour: &Neighbour, at: usize, asn: Asn, place: u32)
         ensures this { neighbour.now.rel ≢ Customer → IsTold self.new neighbour.now.asn asn }
         ensures others { (a b : ℕ) → IsTold self.old a b → IsTold self.new a b }
-        ensures sound { (w : ℕ → ℕ → Option ARel) → w neighbour.now.asn asn ≡ Some (converse neighbour.now.rel) → AreTrue w self.old → AreTrue w self.new }
+        ensures sound { (w : ℕ → ℕ → Option ARel) → w neighbour.now.asn asn ≡ Some (converse neighbour.now.rel) →
+            AreTrue w self.old → AreTrue w self.new }
     {
         if neighbour.rel != Rel::Customer {
             let from = Neighbour {
@@ -182,7 +185,8 @@ impl<'a> Told<'a> {
         table: &Table,
         overlay: &Overlay,
     )
-        ensures around { joined table.now overlay.now asn ≢ None → (n : ℕ) (r : ARel) → relation graph.now asn n ≡ Some r → r ≢ Customer → IsTold self.new n asn }
+        ensures around { joined table.now overlay.now asn ≢ None → (n : ℕ) (r : ARel) →
+            relation graph.now asn n ≡ Some r → r ≢ Customer → IsTold self.new n asn }
         ensures others { (a b : ℕ) → IsTold self.old a b → IsTold self.new a b }
         ensures sound { AreTrue (relation graph.now) self.old → AreTrue (relation graph.now) self.new }
     {
@@ -194,9 +198,13 @@ impl<'a> Told<'a> {
     /// Puts those that told an AS, which is sought at a place, behind a list. The answer is whether all of
     /// them are there.
     pub fn put_tellers(&self, asn: Asn, at: usize, looks: &mut Looks) -> bool
-        ensures told { result ≡ true → (b : ℕ) → IsTold self.now asn b → occurs b (asns looks.new.neighbours.items) ≡ true }
-        ensures others { result ≡ true → (b : ℕ) → occurs b (asns looks.old.neighbours.items) ≡ true → occurs b (asns looks.new.neighbours.items) ≡ true }
-        ensures each { result ≡ true → (w : ℕ → ℕ → Option ARel) → AreTrue w self.now → All (λ x. w asn x.asn ≡ Some x.rel) looks.old.neighbours.items → All (λ x. w asn x.asn ≡ Some x.rel) looks.new.neighbours.items }
+        ensures told { result ≡ true → (b : ℕ) → IsTold self.now asn b →
+            occurs b (asns looks.new.neighbours.items) ≡ true }
+        ensures others { result ≡ true → (b : ℕ) → occurs b (asns looks.old.neighbours.items) ≡ true →
+            occurs b (asns looks.new.neighbours.items) ≡ true }
+        ensures each { result ≡ true → (w : ℕ → ℕ → Option ARel) → AreTrue w self.now →
+            All (λ x. w asn x.asn ≡ Some x.rel) looks.old.neighbours.items →
+            All (λ x. w asn x.asn ≡ Some x.rel) looks.new.neighbours.items }
     {
         if self.all {
             return false;
