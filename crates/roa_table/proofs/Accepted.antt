@@ -17,10 +17,10 @@ use Rattle.net_names.specs.Payloads.{VrpValue, vrp_at, vrp_cmp}
 use Rattle.net_names.specs.Orders.{vrp_total, exact_vrp}
 use Rattle.roa_table.specs.Sets.{count}
 use Rattle.roa_table.specs.Lists.{stands_in}
-use Rattle.roa_table.specs.Records.{max_of, payload_of}
+use Rattle.roa_table.specs.Records.{payload_of}
 use Rattle.roa_table.specs.Files.{given, fault_of}
 use Rattle.roa_table.specs.Standing.{Record}
-use Rattle.roa_table.specs.Judging.{payloads_of}
+use Rattle.roa_table.specs.Judging.{max_of, payloads_of}
 use Rattle.roa_table.specs.Laws.{HasPayloads, row_of, IsFirstFaulty}
 use Rattle.roa_table.specs.declared.errors.VrpError.{VrpError}
 use Rattle.roa_table.specs.declared.errors.VrpError.TheVariants as fault

@@ -1,9 +1,8 @@
 //! The payload of a record.
 ghost use Rattle.std.specs.Prelude.{◌≡◌, ◌∷◌, [], option_and_then, ok_or};
 ghost use Rattle.csv.specs.Records.{fields_of};
-ghost use Rattle.roa_table.specs.Records.{max_of};
 ghost use Rattle.net_names.specs.Payloads.{vrp_at};
-ghost use Rattle.roa_table.specs.Judging.{judged};
+ghost use Rattle.roa_table.specs.Judging.{judged, max_of};
 
 use crate::errors::VrpError;
 use csv::ByteRecord;
