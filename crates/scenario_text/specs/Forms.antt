@@ -1,7 +1,7 @@
 -- The forms of a script's line, a row each; a later form is a further row (own format).
 -- The fields of a line have exactly one space or one `|` between, since no field's grammar has either in it or an empty text.
 use Prim.Native.String.{String}
-use Rattle.std.specs.Prelude.{ℕ, not, ◌&&◌, ◌==◌, List, [], ◌∷◌, length, map, fold, nat_le, bytes_eq, codes, Option, None, option_map}
+use Rattle.std.specs.Prelude.{ℕ, not, ◌&&◌, ◌==◌, List, [], ◌∷◌, length, map, fold, nat_le, bytes_eq, codes, Option, option_map}
 use Rattle.std.specs.Bool.{then_some}
 use Rattle.std.specs.List.{list_all}
 use Rattle.std.specs.Option.{is_some, option_or, option_zip, some_prefix}
@@ -39,14 +39,13 @@ form word fields asks line = option_map asks (after (codes word) line >>= fields
 unfoldable pub for_of : List ℕ → Option (ℕ × PrefixValue)
 for_of = form "for " (pair 32 (numeral 10 9) prefix_of) (λ x. x)
 
--- the forms of queries: of round R the table of prefix P, the row of AS A in it, the trace from A to address D, and the counts for D; all ranks; the state of P with origin A. A round is 1 to 9 digits; leading zeros are allowed (own format)
+-- the forms of queries: all ranks; of round R the table of prefix P, the row of AS A in it, the trace from A to address D, and the counts for D; the state of P with origin A. A round is 1 to 9 digits; leading zeros are allowed (own format)
 unfoldable pub query_of : List ℕ → Option Query
-query_of line = fold option_or None (map (λ asks. asks line) (
+query_of l = fold option_or (then_some (bytes_eq l (codes "ranks")) Ranks) (map (λ f. f l) (
     form "routes " (pair 32 (numeral 10 9) prefix_of) (λ x. Routes x.0 x.1) ∷
     form "route " (pair 32 (numeral 10 9) (pair 32 prefix_of asn_of)) (λ x. Route x.0 x.1.0 x.1.1) ∷
     form "trace " (pair 32 (numeral 10 9) (pair 32 asn_of addr_of)) (λ x. Trace x.0 x.1.0 x.1.1) ∷
     form "report " (pair 32 (numeral 10 9) addr_of) (λ x. Report x.0 x.1) ∷
-    (λ text. then_some (bytes_eq text (codes "ranks")) Ranks) ∷
     form "validity " (pair 32 prefix_of asn_of) (λ x. Validity x.0 x.1) ∷ []))
 
 -- what a line asks for: it has the form of a query, or of an edit: A|B|-1 makes A the provider of B, A|B|0 makes them peers, and A and B differ; a kind is of A; the first AS of the path A B .. announces P (own format)

@@ -8,7 +8,7 @@ use Rattle.policy_kinds.specs.Names.{kind_named}
 use Rattle.policy_kinds.specs.declared.kind.Kind.{Kind}
 use Rattle.serde_json.specs.Data.{Data, Items, no_items, item as json_item, Members, no_members, member}
 use Rattle.serde_json.specs.Find.{get, as_str, as_number, as_u64, as_array, as_object}
-use Rattle.scenario_text.specs.declared.faults.ScenarioError.{ScenarioError}
+use Rattle.scenario_text.specs.declared.faults.ScenarioError.{ScenarioError as Fault}
 use Rattle.scenario_text.specs.declared.faults.ScenarioError.TheVariants.{Shape, Value}
 use Rattle.scenario_text.specs.declared.places.Member.TheVariants.{Announcements, Policies, Leaks, Watch}
 use Rattle.scenario_text.specs.declared.places.PartOf.TheVariants.{Prefix, Number, Path, Policy}
@@ -19,7 +19,7 @@ use Rattle.scenario_text.specs.Walks.{◌>>=◌, Reader}
 
 -- the parts so far and the next one are both read: the first fault counts, but each wrong type comes before each bad value (own format)
 infixl 10 ◌⊛◌
-abbrev pub ◌⊛◌ : {A B : Type 0} → Result (A → B) ScenarioError → Result A ScenarioError → Result B ScenarioError
+abbrev pub ◌⊛◌ : {A B : Type 0} → Result (A → B) Fault → Result A Fault → Result B Fault
 (Err (Value p)) ⊛ (Err (Shape q)) = Err (Shape q)
 f ⊛ x = f >>= λ g. x >>= λ y. Ok (g y)
 
@@ -71,10 +71,9 @@ policy p d = object (map part_name (Number ∷ Policy ∷ [])) p d >>= λ _. Ok 
     ⊛ needed asn (in_part p Number) d ⊛ needed (text kind_named) (in_part p Policy) d
 
 -- the four lists of a document: it has announcements, and may have policies, lists of the leakers of a round, and watched addresses; a list that isn't there is empty (own format)
-unfoldable pub lists_in : Data → Result ScenarioValue ScenarioError
+unfoldable pub lists_in : Data → Result ScenarioValue Fault
 lists_in d = object (map member_name (Announcements ∷ Policies ∷ Leaks ∷ Watch ∷ [])) document d
     >>= λ _. Ok (λ a p l w. record { announcements = a; policies = unwrap_or p []; leaks = unwrap_or l []; watch = unwrap_or w [] })
     ⊛ needed (list announcement) (in_member Announcements) d
-    ⊛ optional (list policy) (in_member Policies) d
-    ⊛ optional (list (list asn)) (in_member Leaks) d
+    ⊛ optional (list policy) (in_member Policies) d ⊛ optional (list (list asn)) (in_member Leaks) d
     ⊛ optional (list (text addr_of)) (in_member Watch) d

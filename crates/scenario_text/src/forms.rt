@@ -92,6 +92,9 @@ fn announcement(alloc: Global, line: &[u8]) -> Result<Option<Act>, NoMemory>
 fn query(line: &[u8]) -> Option<Query>
     ensures { result ≡ query_of line.now }
 {
+    if line == b"ranks".as_slice() {
+        return Some(Query::Ranks);
+    }
     if let Some((round, prefix)) = behind::<Spaced<RoundField, PrefixField>>(line, b"routes ") {
         return Some(Query::Routes { round, prefix });
     }
@@ -108,9 +111,6 @@ fn query(line: &[u8]) -> Option<Query>
     }
     if let Some((round, addr)) = behind::<Spaced<RoundField, AddrField>>(line, b"report ") {
         return Some(Query::Report { round, addr });
-    }
-    if line == b"ranks".as_slice() {
-        return Some(Query::Ranks);
     }
     match behind::<Spaced<PrefixField, AsnField>>(line, b"validity ") {
         Some((prefix, asn)) => Some(Query::Validity { prefix, asn }),
