@@ -1,42 +1,28 @@
 -- A file of sweeps: a line for each, or the fault of its first faulty line (own format).
-use Rattle.std.specs.Prelude.{◌≡◌, ℕ, ◌^◌, ◌&&◌, List, [], ◌∷◌, ◌++◌, map, length, nat_lt, nat_le, Option, ok_or, Result, Ok, Err, if◌then◌else◌}
-use Rattle.std.specs.Bool.{then_some}
-use Rattle.std.specs.List.{list_all}
-use Rattle.std.specs.Option.{is_some, some_prefix}
+use Rattle.std.specs.Prelude.{◌≡◌, ℕ, ◌^◌, ◌&&◌, List, [], ◌∷◌, ◌++◌, length, nat_lt, nat_le, Option, ok_or, Result, Ok, Err, if◌then◌else◌}
 use Rattle.net_names.specs.Lines.{kept_from, said_on}
 use Rattle.net_names.specs.Steps.{option_filter}
-use Rattle.net_names.specs.Texts.{fields, numeral, addr_of}
+use Rattle.net_names.specs.Texts.{numeral, addr_of}
 use Rattle.net_names.specs.Trials.{◌>>=◌}
 use Rattle.policy_kinds.specs.Names.{kind_named}
-use Rattle.scenario_text.specs.Forms.{form, pair}
+use Rattle.scenario_text.specs.Forms.{few_numbers, form, pair}
 use Rattle.sweep.specs.declared.sweeps.Sweep.{Sweep}
 use Rattle.sweep.specs.declared.sweeps.TheConstants.{MOST_NUMBERS, MOST_SWEEPS, MOST_TRIALS}
 use Rattle.sweep.specs.declared.reading.SweepsError.{SweepsError}
 use Rattle.sweep.specs.declared.reading.SweepsError.TheVariants.{Memory, Unreadable, TooMany}
 
--- a seed is 1 to 10 digits, with a value up to 4294967295 (own format)
-unfoldable pub seed_of : List ℕ → Option ℕ
-seed_of text = option_filter (λ n. nat_lt n (2 ^ 32)) (numeral 10 10 text)
-
--- the number of trials is 1 to 4 digits, with a value from 1 to 1,000 (own format)
-unfoldable pub trials_read : List ℕ → Option ℕ
-trials_read text = option_filter (λ n. nat_lt 0 n && nat_le n MOST_TRIALS) (numeral 10 4 text)
-
--- the numbers of adopters: 1 to 32, each of 1 to 6 digits, with one space between (own format)
-unfoldable pub numbers_of : List ℕ → Option (List ℕ)
-numbers_of text = let ns = map (numeral 10 6) (fields 32 text) in
-    then_some (list_all is_some ns && nat_le (length ns) MOST_NUMBERS) (some_prefix ns)
-
--- the sweep that the line of this number asks for: `sweep KIND R D SEED TRIALS K ..`, a round R being 1 to 9 digits, D an address (own format)
+-- the sweep that the line of this number asks for: `sweep KIND R D SEED TRIALS K ..`, a round R being 1 to 9 digits, D an address, a seed 1 to 10 digits with a value up to 4294967295, the number of trials 1 to 4 digits with a value from 1 to 1,000, and the numbers of adopters 1 to 32 of 1 to 6 digits each, with one space between (own format)
 unfoldable pub sweep_of : ℕ → List ℕ → Option Sweep
-sweep_of number = form "sweep "
-    (pair 32 kind_named (pair 32 (numeral 10 9) (pair 32 addr_of (pair 32 seed_of (pair 32 trials_read numbers_of)))))
+sweep_of number = form "sweep " (pair 32 kind_named (pair 32 (numeral 10 9) (pair 32 addr_of
+    (pair 32 (λ t. option_filter (λ n. nat_lt n (2 ^ 32)) (numeral 10 10 t)) (pair 32
+    (λ t. option_filter (λ n. nat_lt 0 n && nat_le n MOST_TRIALS) (numeral 10 4 t))
+    (λ t. option_filter (λ ks. nat_le (length ks) MOST_NUMBERS) (few_numbers (numeral 10 6) t)))))))
     (λ x. record { line = number; kind = x.0; round = x.1.0; addr = x.1.1.0; seed = x.1.1.1.0; trials = x.1.1.1.1.0; ks = x.1.1.1.1.1 })
 
 -- the sweeps with that of one line more, which isn't skipped and is given with its number: its form is judged first, and then that fewer than 1,000 stand before it (own format)
 abbrev pub with_line : List Sweep → (ℕ × List ℕ) → Result (List Sweep) SweepsError
-with_line sweeps l = ok_or (sweep_of l.0 l.1) (Unreadable l.0) >>= λ s. if nat_lt (length sweeps) MOST_SWEEPS
-    then Ok (sweeps ++ s ∷ []) else Err (TooMany l.0)
+with_line sweeps l = ok_or (sweep_of l.0 l.1) (Unreadable l.0) >>= λ s.
+    if nat_lt (length sweeps) MOST_SWEEPS then Ok (sweeps ++ s ∷ []) else Err (TooMany l.0)
 
 -- the sweeps of a file, or the fault of its first faulty line (own format)
 unfoldable pub sweeps_of : List ℕ → Result (List Sweep) SweepsError

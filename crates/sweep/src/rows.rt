@@ -1,7 +1,8 @@
 //! The rows of a trial.
 ghost use Rattle.std.specs.Prelude.{◌≡◌, ◌==◌, ◌++◌, [], true, OnOk, codes, decimal, if◌then◌else◌};
 ghost use Rattle.std.specs.List.{flat_map};
-ghost use Rattle.sweep.specs.Swept.{row, delivered_row, trial_text};
+ghost use Rattle.sweep.specs.Swept.{trial_text};
+ghost use Rattle.sweep.specs.Texts.{delivered_row, row};
 
 use crate::bytes::{put_bytes, put_number};
 use crate::sweeps::Sweep;

@@ -5,8 +5,8 @@ ghost use Rattle.std.specs.FinMap as fin;
 ghost use Rattle.net_names.specs.Numbers.{IsDistinct};
 ghost use Rattle.policy_kinds.specs.declared.kind.Kind.{Kind as AKind};
 ghost use Rattle.sweep.specs.Trials.{adopted as with_adopters, with_kinds};
-ghost use Rattle.sweep.specs.Swept.{Appends, IsInWorld, IsMadeOf, IsSwept, IsTrialText, trials_of};
-ghost use Rattle.sweep.specs.Texts.{text_at, AreGrown, AreNone, HaveTrials};
+ghost use Rattle.sweep.specs.Swept.{Appends, IsInWorld, IsSwept};
+ghost use Rattle.sweep.specs.Texts.{text_at, AreGrown, AreNone, HaveTrials, IsTrialText};
 
 use crate::drawing::{next_word, order_of};
 use crate::rows::{Which, append_trial};
