@@ -94,7 +94,8 @@ pub fn announce_all(
     ensures so_far { IfOk result (λ v. IsAnnouncing pool.new plan.now v.items) }
     ensures whole { IfOk result (λ v. (prefix : PrefixValue) (a : ℕ) → IsTrue (has_prefix plan.now prefix) → HasAnnounced plan.now v.items prefix a) }
     ensures few { IfOk result (λ v. length v.items ≤ fin.len plan.now.announced) }
-    ensures cells { OnOk result (live_count pool.new ≤ live_count pool.old + sum_by (λ prefix. sum_by (announced_length plan.now prefix) (announcers_of plan.now)) (prefixes_of plan.now)) }
+    ensures cells { OnOk result (live_count pool.new ≤ live_count pool.old +
+        sum_by (λ prefix. sum_by (announced_length plan.now prefix) (announcers_of plan.now)) (prefixes_of plan.now)) }
     ensures limit { limit_of pool.new ≡ limit_of pool.old }
 {
     let mut announced = Vec::new(alloc);

@@ -43,7 +43,8 @@ fn commit_change(tables: &mut Vec<RoundTables>, change: Change, pool: &mut PathP
     requires fits { FitsIn tables.old.items change }
     requires held { (k : ℕ) → entry_uses tables.old.items k + overlay_uses change.overlay k ≤ holds_of pool.old k }
     ensures put { IsCommitted tables.old.items tables.new.items change }
-    ensures holds { (k : ℕ) → entry_uses tables.new.items k + holds_of pool.old k ≡ entry_uses tables.old.items k + overlay_uses change.overlay k + holds_of pool.new k }
+    ensures holds { (k : ℕ) → entry_uses tables.new.items k + holds_of pool.old k ≡
+        entry_uses tables.old.items k + overlay_uses change.overlay k + holds_of pool.new k }
     ensures back { GivesBack pool.old pool.new }
 {
     let place = change.round as usize - 1;
@@ -54,7 +55,10 @@ fn commit_change(tables: &mut Vec<RoundTables>, change: Change, pool: &mut PathP
 pub fn commit_changes(tables: &mut Vec<RoundTables>, changes: Vec<Change>, pool: &mut PathPool)
     requires changes { AreChangesOf tables.old.items changes.items }
     requires held { (k : ℕ) → entry_uses tables.old.items k + changes_uses changes.items k ≤ holds_of pool.old k }
-    ensures laid { (plan : Plan) (routings : ℕ → PrefixValue → ℕ → Option AnEntry) (others : ℕ → ℕ) → ListsRising prefix_cmp (λ p. IsTrue (has_prefix plan p)) (prefixes_of plan) → ((round : ℕ) (prefix : PrefixValue) → AreFew (routings round prefix)) → IsLaid plan routings others pool.old tables.old.items changes.items → IsLaid plan routings others pool.new tables.new.items [] }
+    ensures laid { (plan : Plan) (routings : ℕ → PrefixValue → ℕ → Option AnEntry) (others : ℕ → ℕ) →
+        ListsRising prefix_cmp (λ p. IsTrue (has_prefix plan p)) (prefixes_of plan) →
+        ((round : ℕ) (prefix : PrefixValue) → AreFew (routings round prefix)) →
+        IsLaid plan routings others pool.old tables.old.items changes.items → IsLaid plan routings others pool.new tables.new.items [] }
     ensures count { length tables.new.items ≡ length tables.old.items }
     ensures back { GivesBack pool.old pool.new }
 {

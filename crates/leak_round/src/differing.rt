@@ -131,9 +131,14 @@ pub fn seeds_and_wrong<P, V>(
     pool: &PathPool,
 ) -> Result<(SeedIds, Vec<Asn>), NoMemory>
     requires from { 1 ≤ at.now.round }
-    requires before { (seeds : SomeSeeds) → AreSeedsWith planner.now.plan.now planner.now.announced.now tables.now [] at.now.round at.now.prefix seeds → AreSeedsLive pool.now seeds }
-    requires after { (seeds : SomeSeeds) → AreSeedsWith (seeds_after planner.now.edited.now planner.now.plan.now) (announced_after planner.now.edited.now planner.now.announced.now) tables.now changes.now at.now.round at.now.prefix seeds → AreSeedsLive pool.now seeds }
-    ensures { IfOk result (λ r. AreWrongIn planner.now.plan.now (seeds_after planner.now.edited.now planner.now.plan.now) planner.now.announced.now (announced_after planner.now.edited.now planner.now.announced.now) tables.now changes.now at.now.round at.now.prefix (touches planner.now.touched.now at.now.prefix) pool.now r.0 r.1.items) }
+    requires before { (seeds : SomeSeeds) →
+        AreSeedsWith planner.now.plan.now planner.now.announced.now tables.now [] at.now.round at.now.prefix seeds → AreSeedsLive pool.now seeds }
+    requires after { (seeds : SomeSeeds) → AreSeedsWith (seeds_after planner.now.edited.now planner.now.plan.now)
+        (announced_after planner.now.edited.now planner.now.announced.now) tables.now changes.now at.now.round at.now.prefix seeds →
+        AreSeedsLive pool.now seeds }
+    ensures { IfOk result (λ r. AreWrongIn planner.now.plan.now (seeds_after planner.now.edited.now planner.now.plan.now) planner.now.announced.now
+        (announced_after planner.now.edited.now planner.now.announced.now) tables.now changes.now at.now.round at.now.prefix
+        (touches planner.now.touched.now at.now.prefix) pool.now r.0 r.1.items) }
 {
     let (alloc, plan, announced) = (planner.alloc, planner.plan, planner.announced);
     let before = seeds_with(alloc, plan, announced, tables, &[], at.round, at.prefix)?;

@@ -104,7 +104,8 @@ pub fn leak_all(
     seeds: &mut SeedIds,
 ) -> Result<(), NoMemory>
     requires { 1 ≤ round }
-    ensures { OnOk result ((a : ℕ) → seed_at seeds.new a ≡ own_or_leaked (seed_at seeds.old a) (leaks_in plan.now round a) (held_with tables.now changes.now (round - 1) prefix a)) }
+    ensures { OnOk result ((a : ℕ) → seed_at seeds.new a ≡ own_or_leaked (seed_at seeds.old a) (leaks_in plan.now round a)
+        (held_with tables.now changes.now (round - 1) prefix a)) }
 {
     let before = round - 1;
     let mut place = 0;

@@ -103,7 +103,8 @@ fn move_entry(
 )
     requires live { AreEntriesLive from.now table.now }
     requires there { IsSome (table_routing from.now table.now one.now.asn) }
-    requires source { (e : AnEntry) → table_routing from.now table.now one.now.asn ≡ Some e → HasSource pool.old made.old (seed_at seeds.now one.now.asn) one.now.asn e.path }
+    requires source { (e : AnEntry) → table_routing from.now table.now one.now.asn ≡ Some e →
+        HasSource pool.old made.old (seed_at seeds.now one.now.asn) one.now.asn e.path }
     requires place { change_at made.old one.now.asn ≡ Some None }
     requires spare { 0 < spare_of pool.old }
     requires counts { (k : ℕ) → count_of pool.old k < 4294967295 }
@@ -168,10 +169,13 @@ fn moved_table(
     requires at { table_in moving.now.tables.now round prefix ≡ Some table.now }
     requires announced { AreAnnounced pool.old moving.now.plan.now moving.now.announced.now }
     requires earlier { AreRoundsFull pool.old moving.now.plan.now earlier.now }
-    requires before { (a : ℕ) → kept_in pool.old earlier.now (length earlier.now) prefix a ≡ kept_in moving.now.from.now moving.now.tables.now (length earlier.now) prefix a }
+    requires before { (a : ℕ) → kept_in pool.old earlier.now (length earlier.now) prefix a ≡
+        kept_in moving.now.from.now moving.now.tables.now (length earlier.now) prefix a }
     requires round { round ≡ suc (length earlier.now) }
     requires known { IsTrue (has_prefix moving.now.plan.now prefix) }
-    requires passed_on { ArePassedOn (seeds_in moving.now.plan.now round prefix (kept_in moving.now.from.now moving.now.tables.now (length earlier.now) prefix)) (kept_in moving.now.from.now moving.now.tables.now round prefix) }
+    requires passed_on { ArePassedOn
+        (seeds_in moving.now.plan.now round prefix (kept_in moving.now.from.now moving.now.tables.now (length earlier.now) prefix))
+        (kept_in moving.now.from.now moving.now.tables.now round prefix) }
     requires room { HasRoomFor pool.old 1 }
     ensures prefix { IfOk result (λ t. prefix_of t ≡ prefix) }
     ensures same { IfOk result (λ t. (a : ℕ) → table_routing pool.new t a ≡ kept_in moving.now.from.now moving.now.tables.now round prefix a) }
@@ -214,11 +218,15 @@ fn moved_round(
     requires at { tables_in moving.now.tables.now round ≡ Some old.now }
     requires announced { AreAnnounced pool.old moving.now.plan.now moving.now.announced.now }
     requires earlier { AreRoundsFull pool.old moving.now.plan.now earlier.now }
-    requires before { (prefix : PrefixValue) (a : ℕ) → IsTrue (has_prefix moving.now.plan.now prefix) → kept_in pool.old earlier.now (length earlier.now) prefix a ≡ kept_in moving.now.from.now moving.now.tables.now (length earlier.now) prefix a }
+    requires before { (prefix : PrefixValue) (a : ℕ) → IsTrue (has_prefix moving.now.plan.now prefix) →
+        kept_in pool.old earlier.now (length earlier.now) prefix a ≡ kept_in moving.now.from.now moving.now.tables.now (length earlier.now) prefix a }
     requires round { round ≡ suc (length earlier.now) }
-    requires passed_on { (prefix : PrefixValue) → IsTrue (has_prefix moving.now.plan.now prefix) → ArePassedOn (seeds_in moving.now.plan.now round prefix (kept_in moving.now.from.now moving.now.tables.now (length earlier.now) prefix)) (kept_in moving.now.from.now moving.now.tables.now round prefix) }
+    requires passed_on { (prefix : PrefixValue) → IsTrue (has_prefix moving.now.plan.now prefix) →
+        ArePassedOn (seeds_in moving.now.plan.now round prefix (kept_in moving.now.from.now moving.now.tables.now (length earlier.now) prefix))
+        (kept_in moving.now.from.now moving.now.tables.now round prefix) }
     requires room { HasRoomFor pool.old (length (prefixes_of moving.now.plan.now)) }
-    ensures same { IfOk result (λ t. (prefix : PrefixValue) → IsTrue (has_prefix moving.now.plan.now prefix) → (a : ℕ) → round_routing pool.new t prefix a ≡ kept_in moving.now.from.now moving.now.tables.now round prefix a) }
+    ensures same { IfOk result (λ t. (prefix : PrefixValue) → IsTrue (has_prefix moving.now.plan.now prefix) → (a : ℕ) →
+        round_routing pool.new t prefix a ≡ kept_in moving.now.from.now moving.now.tables.now round prefix a) }
     ensures full { IfOk result (AreFull pool.new moving.now.plan.now) }
     ensures holds { IfOk result (λ t. (k : ℕ) → holds_of pool.new k ≡ holds_of pool.old k + tables_uses t k) }
     ensures cells { IfOk result (λ t. HasEntries (of_round (round_routing pool.new t)) (live_count pool.new - live_count pool.old)) }
@@ -241,10 +249,15 @@ fn moved_round(
 // The tables of all rounds with their paths in the new pool.
 pub fn moved_rounds(moving: &Moving<'_>, pool: &mut PathPool) -> Result<Vec<RoundTables>, NoMemory>
     requires announced { AreAnnounced pool.old moving.now.plan.now moving.now.announced.now }
-    requires passed_on { (before : ℕ) (prefix : PrefixValue) → before < length moving.now.tables.now → IsTrue (has_prefix moving.now.plan.now prefix) → ArePassedOn (seeds_in moving.now.plan.now (suc before) prefix (kept_in moving.now.from.now moving.now.tables.now before prefix)) (kept_in moving.now.from.now moving.now.tables.now (suc before) prefix) }
+    requires passed_on { (before : ℕ) (prefix : PrefixValue) → before < length moving.now.tables.now →
+        IsTrue (has_prefix moving.now.plan.now prefix) →
+        ArePassedOn (seeds_in moving.now.plan.now (suc before) prefix (kept_in moving.now.from.now moving.now.tables.now before prefix))
+        (kept_in moving.now.from.now moving.now.tables.now (suc before) prefix) }
     requires room { HasRoomFor pool.old (length moving.now.tables.now * length (prefixes_of moving.now.plan.now)) }
     ensures count { IfOk result (λ v. length v.items ≡ length moving.now.tables.now) }
-    ensures same { IfOk result (λ v. (before : ℕ) (prefix : PrefixValue) → before < length moving.now.tables.now → IsTrue (has_prefix moving.now.plan.now prefix) → (a : ℕ) → kept_in pool.new v.items (suc before) prefix a ≡ kept_in moving.now.from.now moving.now.tables.now (suc before) prefix a) }
+    ensures same { IfOk result (λ v. (before : ℕ) (prefix : PrefixValue) → before < length moving.now.tables.now →
+        IsTrue (has_prefix moving.now.plan.now prefix) →
+        (a : ℕ) → kept_in pool.new v.items (suc before) prefix a ≡ kept_in moving.now.from.now moving.now.tables.now (suc before) prefix a) }
     ensures full { IfOk result (λ v. AreRoundsFull pool.new moving.now.plan.now v.items) }
     ensures holds { IfOk result (λ v. (k : ℕ) → holds_of pool.new k ≡ holds_of pool.old k + entry_uses v.items k) }
     ensures cells { IfOk result (λ v. HasEntries (of_rounds (kept_in pool.new v.items)) (live_count pool.new - live_count pool.old)) }

@@ -51,7 +51,8 @@ fn place_of(prefixes: &[Prefix], prefix: Prefix) -> Option<usize>
 
 // Puts other seeds of a prefix in place of those that are kept of it.
 pub fn put_own_seeds(plan: &SeedPlan, prefix: Prefix, seeds: SeedIds, own: &mut Vec<SeedIds>)
-    ensures { (xs ys : List AnAnnouncement) → AreOwnSeeds plan.now xs own.old.items → AreOthersKept (Some prefix) xs ys → AreOwn ys prefix seeds → AreOwnSeeds plan.now ys own.new.items }
+    ensures { (xs ys : List AnAnnouncement) → AreOwnSeeds plan.now xs own.old.items → AreOthersKept (Some prefix) xs ys → AreOwn ys prefix seeds →
+        AreOwnSeeds plan.now ys own.new.items }
 {
     match place_of(plan.prefixes(), prefix) {
         Some(place) if place < own.len() => own[place] = seeds,
@@ -84,7 +85,11 @@ pub fn unchanged_seeds<'a>(
     edited: &Option<EditedSeeds>,
     at: &RoundPrefix,
 ) -> Option<&'a SeedIds>
-    ensures { IfSome result (λ s. (xs ys : List AnAnnouncement) (rounds : List SomeTables) (changes : List AChange) → AreOwnSeeds plan.now xs own.now → slice_get (prefixes_of plan.now) at.now.place ≡ Some at.now.prefix → AreOthersKept (prefix_edited edited.now) xs ys → AreSeedsWith plan.now xs rounds [] at.now.round at.now.prefix s.now × AreSeedsWith (seeds_after edited.now plan.now) ys rounds changes at.now.round at.now.prefix s.now) }
+    ensures { IfSome result (λ s. (xs ys : List AnAnnouncement) (rounds : List SomeTables) (changes : List AChange) →
+        AreOwnSeeds plan.now xs own.now → slice_get (prefixes_of plan.now) at.now.place ≡ Some at.now.prefix →
+        AreOthersKept (prefix_edited edited.now) xs ys →
+        AreSeedsWith plan.now xs rounds [] at.now.round at.now.prefix s.now ×
+        AreSeedsWith (seeds_after edited.now plan.now) ys rounds changes at.now.round at.now.prefix s.now) }
 {
     let after = plan_after(edited, plan);
     if is_edited(edited, at.prefix) || has_leakers(plan, at.round) || has_leakers(after, at.round) {
@@ -101,7 +106,10 @@ pub fn edited_seeds<'a>(
     edited: &'a Option<EditedSeeds>,
     at: &RoundPrefix,
 ) -> Option<(&'a SeedIds, &'a SeedIds)>
-    ensures { IfSome result (λ s. (xs : List AnAnnouncement) (rounds : List SomeTables) (changes : List AChange) → AreOwnSeeds plan.now xs own.now → slice_get (prefixes_of plan.now) at.now.place ≡ Some at.now.prefix → AreOwnEdited edited.now → AreSeedsWith plan.now xs rounds [] at.now.round at.now.prefix s.0.now × AreSeedsWith (seeds_after edited.now plan.now) (announced_after edited.now xs) rounds changes at.now.round at.now.prefix s.1.now) }
+    ensures { IfSome result (λ s. (xs : List AnAnnouncement) (rounds : List SomeTables) (changes : List AChange) →
+        AreOwnSeeds plan.now xs own.now → slice_get (prefixes_of plan.now) at.now.place ≡ Some at.now.prefix → AreOwnEdited edited.now →
+        AreSeedsWith plan.now xs rounds [] at.now.round at.now.prefix s.0.now ×
+        AreSeedsWith (seeds_after edited.now plan.now) (announced_after edited.now xs) rounds changes at.now.round at.now.prefix s.1.now) }
 {
     let Some(seeds) = edited else {
         return None;

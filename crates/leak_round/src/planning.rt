@@ -57,9 +57,13 @@ fn plan_with_seeds<P: RoutePolicy, V: OriginStates, L: Ledger>(
 ) -> Result<(), NoMemory>
     requires ranks { AreRanked planner.now }
     requires there { IsSome (table_in tables.old.items at.now.round at.now.prefix) }
-    requires can { (t : ATable) → table_in tables.old.items at.now.round at.now.prefix ≡ Some t → CanPlanTable (setting_in P.meaning V.state_of planner.now.world.now at.now.prefix) planner.now.world.now.graph.now at.now.prefix edit.now.seeds.now edit.now.touched.now pool.old t }
+    requires can { (t : ATable) → table_in tables.old.items at.now.round at.now.prefix ≡ Some t →
+        CanPlanTable (setting_in P.meaning V.state_of planner.now.world.now at.now.prefix) planner.now.world.now.graph.now at.now.prefix
+        edit.now.seeds.now edit.now.touched.now pool.old t }
     requires room { HasRoomFor pool.old 1 }
-    ensures added { OnOk result (IsTableAdded (setting_in P.meaning V.state_of planner.now.world.now at.now.prefix) planner.now.world.now.graph.now edit.now.seeds.now edit.now.touched.now pool.old pool.new tables.old.items tables.new.items changes.old.items changes.new.items at.now.round at.now.prefix steps.old steps.new) }
+    ensures added { OnOk result (IsTableAdded (setting_in P.meaning V.state_of planner.now.world.now at.now.prefix) planner.now.world.now.graph.now
+        edit.now.seeds.now edit.now.touched.now pool.old pool.new tables.old.items tables.new.items
+        changes.old.items changes.new.items at.now.round at.now.prefix steps.old steps.new) }
     ensures more { OnOk result (IsAdded changes.old.items changes.new.items at.now.round at.now.prefix) }
     ensures paid { OnOk result (IsPaid pool.old pool.new changes.old.items changes.new.items 1) }
     ensures cut { IsCutOff pool.old pool.new changes.old.items changes.new.items }
@@ -95,7 +99,9 @@ fn plan_reseeded<P: RoutePolicy, V: OriginStates, L: Ledger>(
     requires room { HasRoomFor pool.old 1 }
     requires so_far { (first : ℕ) × ArePlannedBy P.meaning V.state_of planner.now pool.old tables.old.items changes.old.items first steps.old }
     requires turn { IsTurn planner.now.plan.now (length tables.old.items) changes.old.items at.now.round at.now.prefix }
-    ensures planned { OnOk result ((first : ℕ) → ArePlannedBy P.meaning V.state_of planner.now pool.old tables.old.items changes.old.items first steps.old → ArePlannedBy P.meaning V.state_of planner.now pool.new tables.new.items changes.new.items first steps.new) }
+    ensures planned { OnOk result ((first : ℕ) →
+        ArePlannedBy P.meaning V.state_of planner.now pool.old tables.old.items changes.old.items first steps.old →
+        ArePlannedBy P.meaning V.state_of planner.now pool.new tables.new.items changes.new.items first steps.new) }
     ensures more { OnOk result (IsAdded changes.old.items changes.new.items at.now.round at.now.prefix) }
     ensures paid { OnOk result (IsPaid pool.old pool.new changes.old.items changes.new.items 1) }
     ensures cut { IsCutOff pool.old pool.new changes.old.items changes.new.items }
@@ -139,7 +145,9 @@ fn plan_change<P: RoutePolicy, V: OriginStates, L: Ledger>(
     requires room { HasRoomFor pool.old 1 }
     requires so_far { (first : ℕ) × ArePlannedBy P.meaning V.state_of planner.now pool.old tables.old.items changes.old.items first steps.old }
     requires turn { IsTurn planner.now.plan.now (length tables.old.items) changes.old.items at.now.round at.now.prefix }
-    ensures planned { OnOk result ((first : ℕ) → ArePlannedBy P.meaning V.state_of planner.now pool.old tables.old.items changes.old.items first steps.old → ArePlannedBy P.meaning V.state_of planner.now pool.new tables.new.items changes.new.items first steps.new) }
+    ensures planned { OnOk result ((first : ℕ) →
+        ArePlannedBy P.meaning V.state_of planner.now pool.old tables.old.items changes.old.items first steps.old →
+        ArePlannedBy P.meaning V.state_of planner.now pool.new tables.new.items changes.new.items first steps.new) }
     ensures more { OnOk result (IsAdded changes.old.items changes.new.items at.now.round at.now.prefix) }
     ensures paid { OnOk result (IsPaid pool.old pool.new changes.old.items changes.new.items 1) }
     ensures cut { IsCutOff pool.old pool.new changes.old.items changes.new.items }
@@ -176,7 +184,9 @@ fn plan_round<P: RoutePolicy, V: OriginStates, L: Ledger>(
     requires from { 1 ≤ round }
     requires to { round ≤ length tables.old.items }
     requires earlier { AreRoundsPlanned planner.now.plan.now changes.old.items (round - 1) }
-    ensures planned { OnOk result ((first : ℕ) → ArePlannedBy P.meaning V.state_of planner.now pool.old tables.old.items changes.old.items first steps.old → ArePlannedBy P.meaning V.state_of planner.now pool.new tables.new.items changes.new.items first steps.new) }
+    ensures planned { OnOk result ((first : ℕ) →
+        ArePlannedBy P.meaning V.state_of planner.now pool.old tables.old.items changes.old.items first steps.old →
+        ArePlannedBy P.meaning V.state_of planner.now pool.new tables.new.items changes.new.items first steps.new) }
     ensures more { OnOk result (AreRoundsPlanned planner.now.plan.now changes.new.items round) }
     ensures paid { OnOk result (IsPaid pool.old pool.new changes.old.items changes.new.items (length (prefixes_of planner.now.plan.now))) }
     ensures cut { IsCutOff pool.old pool.new changes.old.items changes.new.items }

@@ -47,7 +47,8 @@ fn make_table<P: RoutePolicy, V: OriginStates, L: Ledger>(
     requires room { HasRoomFor pool.old 1 }
     ensures cost { steps.new ≤ steps.old + 2 * as_count building.now.world.now.graph.now }
     ensures prefix { IfOk result (λ t. prefix_of t ≡ prefix) }
-    ensures stable { IfOk result (λ t. IsStable (setting_in P.meaning V.state_of building.now.world.now prefix) (seeds_of building.now.plan.now round prefix (kept_in pool.old earlier.now (length earlier.now) prefix)) (table_routing pool.new t)) }
+    ensures stable { IfOk result (λ t. IsStable (setting_in P.meaning V.state_of building.now.world.now prefix)
+        (seeds_of building.now.plan.now round prefix (kept_in pool.old earlier.now (length earlier.now) prefix)) (table_routing pool.new t)) }
     ensures live { IfOk result (AreEntriesLive pool.new) }
     ensures holds { IfOk result (λ t. (k : ℕ) → holds_of pool.new k ≡ holds_of pool.old k + table_uses t k) }
     ensures cells { IfOk result (λ t. HasEntries (table_routing pool.new t) (live_count pool.new - live_count pool.old)) }
@@ -90,7 +91,8 @@ pub fn make_round<P: RoutePolicy, V: OriginStates, L: Ledger>(
     requires round { round ≡ suc (length earlier.now) }
     requires room { HasRoomFor pool.old (length (prefixes_of building.now.plan.now)) }
     ensures cost { steps.new ≤ steps.old + 2 * as_count building.now.world.now.graph.now * length (prefixes_of building.now.plan.now) }
-    ensures stable { IfOk result (λ t. IsRound (setting_in P.meaning V.state_of building.now.world.now) building.now.plan.now round (kept_in pool.old earlier.now (length earlier.now)) (round_routing pool.new t)) }
+    ensures stable { IfOk result (λ t. IsRound (setting_in P.meaning V.state_of building.now.world.now) building.now.plan.now round
+        (kept_in pool.old earlier.now (length earlier.now)) (round_routing pool.new t)) }
     ensures full { IfOk result (AreFull pool.new building.now.plan.now) }
     ensures holds { IfOk result (λ t. (k : ℕ) → holds_of pool.new k ≡ holds_of pool.old k + tables_uses t k) }
     ensures cells { IfOk result (λ t. HasEntries (of_round (round_routing pool.new t)) (live_count pool.new - live_count pool.old)) }

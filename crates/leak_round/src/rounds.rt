@@ -81,7 +81,8 @@ fn make_rounds<P: RoutePolicy, V: OriginStates, L: Ledger>(
     requires room { HasRoomFor pool.old (rounds * length (prefixes_of building.now.plan.now)) }
     ensures cost { steps.new ≤ steps.old + 2 * as_count building.now.world.now.graph.now * length (prefixes_of building.now.plan.now) * rounds }
     ensures count { IfOk result (λ v. length v.items ≡ rounds) }
-    ensures stable { IfOk result (λ v. AreRounds (setting_in P.meaning V.state_of building.now.world.now) building.now.plan.now rounds (kept_in pool.new v.items)) }
+    ensures stable { IfOk result (λ v. AreRounds (setting_in P.meaning V.state_of building.now.world.now) building.now.plan.now rounds
+        (kept_in pool.new v.items)) }
     ensures full { IfOk result (λ v. AreRoundsFull pool.new building.now.plan.now v.items) }
     ensures holds { IfOk result (λ v. (k : ℕ) → holds_of pool.new k ≡ holds_of pool.old k + entry_uses v.items k) }
     ensures cells { IfOk result (λ v. HasEntries (of_rounds (kept_in pool.new v.items)) (live_count pool.new - live_count pool.old)) }
@@ -129,7 +130,9 @@ impl Rounds {
         ensures plan { IfOk result (λ r. plan_of r ≡ plan) }
         ensures count { IfOk result (λ r. round_count r ≡ rounds) }
         ensures stable { IfOk result (λ r. AreRounds (setting_in P.meaning V.state_of world.now) plan rounds (kept r)) }
-        ensures only { IfOk result (λ r. (other : ℕ → PrefixValue → ℕ → Option AnEntry) → AreRounds (setting_in P.meaning V.state_of world.now) plan rounds other → (before : ℕ) (prefix : PrefixValue) → before < rounds → IsTrue (has_prefix plan prefix) → (a : ℕ) → other (suc before) prefix a ≡ kept r (suc before) prefix a) }
+        ensures only { IfOk result (λ r. (other : ℕ → PrefixValue → ℕ → Option AnEntry) →
+            AreRounds (setting_in P.meaning V.state_of world.now) plan rounds other → (before : ℕ) (prefix : PrefixValue) → before < rounds →
+            IsTrue (has_prefix plan prefix) → (a : ℕ) → other (suc before) prefix a ≡ kept r (suc before) prefix a) }
         ensures cells { IfOk result (λ r. HasEntries (of_rounds (kept r)) (live_count (pool_of r) - numbers_of plan)) }
         ensures few { IfOk result (λ r. live_count (pool_of r) ≤ MOST_CELLS) }
     {

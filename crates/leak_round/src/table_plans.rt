@@ -30,9 +30,11 @@ fn plan_table<P: RoutePolicy, V: OriginStates, L: Ledger>(
     steps: &mut Steps<L>,
 ) -> Result<Overlay, NoMemory>
     requires ranks { AreRanked planner.now }
-    requires can { CanPlanTable (setting_in P.meaning V.state_of planner.now.world.now (prefix_of table.old)) planner.now.world.now.graph.now (prefix_of table.old) edit.now.seeds.now edit.now.touched.now pool.old table.old }
+    requires can { CanPlanTable (setting_in P.meaning V.state_of planner.now.world.now (prefix_of table.old)) planner.now.world.now.graph.now
+        (prefix_of table.old) edit.now.seeds.now edit.now.touched.now pool.old table.old }
     requires room { HasRoomFor pool.old 1 }
-    ensures planned { IfOk result (IsTablePlanned (setting_in P.meaning V.state_of planner.now.world.now (prefix_of table.old)) planner.now.world.now.graph.now edit.now.seeds.now edit.now.touched.now pool.old pool.new table.old table.new steps.old steps.new) }
+    ensures planned { IfOk result (IsTablePlanned (setting_in P.meaning V.state_of planner.now.world.now (prefix_of table.old))
+        planner.now.world.now.graph.now edit.now.seeds.now edit.now.touched.now pool.old pool.new table.old table.new steps.old steps.new) }
     ensures same { SameTable table.old table.new }
     ensures limit { limit_of pool.new ≡ limit_of pool.old }
     ensures err { OnErr result (IsUndone pool.old pool.new) }
@@ -62,9 +64,13 @@ fn plan_in_round<P: RoutePolicy, V: OriginStates, L: Ledger>(
 ) -> Result<Overlay, NoMemory>
     requires ranks { AreRanked planner.now }
     requires there { IsSome (table_at tables.old prefix) }
-    requires can { (t : ATable) → table_at tables.old prefix ≡ Some t → CanPlanTable (setting_in P.meaning V.state_of planner.now.world.now prefix) planner.now.world.now.graph.now prefix edit.now.seeds.now edit.now.touched.now pool.old t }
+    requires can { (t : ATable) → table_at tables.old prefix ≡ Some t →
+        CanPlanTable (setting_in P.meaning V.state_of planner.now.world.now prefix) planner.now.world.now.graph.now prefix edit.now.seeds.now
+        edit.now.touched.now pool.old t }
     requires room { HasRoomFor pool.old 1 }
-    ensures planned { IfOk result (λ o. (t u : ATable) → table_at tables.old prefix ≡ Some t → table_at tables.new prefix ≡ Some u → IsTablePlanned (setting_in P.meaning V.state_of planner.now.world.now prefix) planner.now.world.now.graph.now edit.now.seeds.now edit.now.touched.now pool.old pool.new t u steps.old steps.new o) }
+    ensures planned { IfOk result (λ o. (t u : ATable) → table_at tables.old prefix ≡ Some t → table_at tables.new prefix ≡ Some u →
+        IsTablePlanned (setting_in P.meaning V.state_of planner.now.world.now prefix) planner.now.world.now.graph.now edit.now.seeds.now
+        edit.now.touched.now pool.old pool.new t u steps.old steps.new o) }
     ensures roomed { IsRoomed tables.old tables.new prefix }
     ensures limit { limit_of pool.new ≡ limit_of pool.old }
     ensures err { OnErr result (IsUndone pool.old pool.new) }
@@ -86,9 +92,14 @@ pub fn plan_in_rounds<P: RoutePolicy, V: OriginStates, L: Ledger>(
 ) -> Result<Overlay, NoMemory>
     requires ranks { AreRanked planner.now }
     requires there { IsSome (table_in tables.old.items at.now.round at.now.prefix) }
-    requires can { (t : ATable) → table_in tables.old.items at.now.round at.now.prefix ≡ Some t → CanPlanTable (setting_in P.meaning V.state_of planner.now.world.now at.now.prefix) planner.now.world.now.graph.now at.now.prefix edit.now.seeds.now edit.now.touched.now pool.old t }
+    requires can { (t : ATable) → table_in tables.old.items at.now.round at.now.prefix ≡ Some t →
+        CanPlanTable (setting_in P.meaning V.state_of planner.now.world.now at.now.prefix) planner.now.world.now.graph.now at.now.prefix
+        edit.now.seeds.now edit.now.touched.now pool.old t }
     requires room { HasRoomFor pool.old 1 }
-    ensures planned { IfOk result (λ o. (t u : ATable) → table_in tables.old.items at.now.round at.now.prefix ≡ Some t → table_in tables.new.items at.now.round at.now.prefix ≡ Some u → IsTablePlanned (setting_in P.meaning V.state_of planner.now.world.now at.now.prefix) planner.now.world.now.graph.now edit.now.seeds.now edit.now.touched.now pool.old pool.new t u steps.old steps.new o) }
+    ensures planned { IfOk result (λ o. (t u : ATable) → table_in tables.old.items at.now.round at.now.prefix ≡ Some t →
+        table_in tables.new.items at.now.round at.now.prefix ≡ Some u →
+        IsTablePlanned (setting_in P.meaning V.state_of planner.now.world.now at.now.prefix) planner.now.world.now.graph.now edit.now.seeds.now
+        edit.now.touched.now pool.old pool.new t u steps.old steps.new o) }
     ensures roomed { AreRoomed tables.old.items tables.new.items at.now.round at.now.prefix }
     ensures same { AreSame tables.old.items tables.new.items }
     ensures limit { limit_of pool.new ≡ limit_of pool.old }

@@ -92,7 +92,8 @@ fn told_in(
     edited: &Option<Asn>,
 ) -> Result<Vec<Asn>, NoMemory>
     requires listed { (i : ℕ) (x : AChange) → slice_get changes.now i ≡ Some x → IsListed x.overlay }
-    requires apart { (i j : ℕ) (x y : AChange) → i < j → slice_get changes.now i ≡ Some x → slice_get changes.now j ≡ Some y → (x.round ≢ y.round) ⊎ (x.prefix ≢ y.prefix) }
+    requires apart { (i j : ℕ) (x y : AChange) → i < j → slice_get changes.now i ≡ Some x → slice_get changes.now j ≡ Some y →
+        (x.round ≢ y.round) ⊎ (x.prefix ≢ y.prefix) }
     ensures { IfOk result (λ v. ListsRising nat_cmp (IsToldOf changes.now edited.now round) v.items) }
 {
     let mut ases = changed_in(alloc, changes, round)?;
@@ -110,9 +111,12 @@ pub fn listed(
     edited: Option<Asn>,
 ) -> Result<RoundsDone, NoMemory>
     requires listed { (i : ℕ) (x : AChange) → slice_get changes.now i ≡ Some x → IsListed x.overlay }
-    requires apart { (i j : ℕ) (x y : AChange) → i < j → slice_get changes.now i ≡ Some x → slice_get changes.now j ≡ Some y → (x.round ≢ y.round) ⊎ (x.prefix ≢ y.prefix) }
+    requires apart { (i j : ℕ) (x y : AChange) → i < j → slice_get changes.now i ≡ Some x → slice_get changes.now j ≡ Some y →
+        (x.round ≢ y.round) ⊎ (x.prefix ≢ y.prefix) }
     ensures count { IfOk result (λ d. count_told d ≡ changes_count changes.now) }
-    ensures told { IfOk result (λ d. (round : ℕ) → 1 ≤ round → round ≤ rounds → ListsRising nat_cmp (λ a. ((prefix : PrefixValue) × IsTrue (is_some (change_in changes.now round prefix a))) ⊎ (edited ≡ Some a)) (ases_told d round)) }
+    ensures told { IfOk result (λ d. (round : ℕ) → 1 ≤ round → round ≤ rounds →
+        ListsRising nat_cmp (λ a. ((prefix : PrefixValue) × IsTrue (is_some (change_in changes.now round prefix a))) ⊎ (edited ≡ Some a))
+        (ases_told d round)) }
 {
     let count = count_all(changes)?;
     let mut changed = Vec::new(alloc);

@@ -94,7 +94,8 @@ pub fn plan_and_tell<P: RoutePolicy, V: OriginStates, L: Ledger>(
     ensures cut { IsCutOff pool.old pool.new [] changes.new.items }
     ensures same { AreSame tables.old.items tables.new.items }
     ensures count { IfOk result (λ d. count_told d ≡ changes_count changes.new.items) }
-    ensures told { IfOk result (λ d. (round : ℕ) → 1 ≤ round → round ≤ length tables.old.items → ListsRising nat_cmp (IsToldOf changes.new.items (option_map (λ e. e.asn) planner.now.edited.now) round) (ases_told d round)) }
+    ensures told { IfOk result (λ d. (round : ℕ) → 1 ≤ round → round ≤ length tables.old.items →
+        ListsRising nat_cmp (IsToldOf changes.new.items (option_map (λ e. e.asn) planner.now.edited.now) round) (ases_told d round)) }
 {
     let rounds = tables.len();
     plan_rounds(planner, tables, changes, pool, steps)?;

@@ -82,16 +82,24 @@ impl Rounds {
         requires known { (e : AnEdit) → option_copied edit ≡ Some e → IsEditOf (plan_of self.old) e }
         requires within { (e : AnEdit) → option_copied edit ≡ Some e → IsEditWithin 64 e }
         requires limits { (e : AnEdit) → option_copied edit ≡ Some e → IsWithinLimits (edited (plan_of self.old) e) }
-        requires announcers { (prefix : PrefixValue) (a : ℕ) → IsTrue (announces (plan_edited (option_copied edit) (plan_of self.old)) prefix a) → has world.now.graph.now a ≡ true }
-        requires entries { (round : ℕ) (prefix : PrefixValue) (b : ℕ) → 1 ≤ round → round ≤ round_count self.old → IsTrue (has_prefix (plan_of self.old) prefix) → has world.now.graph.now b ≡ false → touches touched.now prefix b ≡ false → kept self.old round prefix b ≡ None }
-        requires right { (before : ℕ) (prefix : PrefixValue) (b : ℕ) → before < round_count self.old → IsTrue (has_prefix (plan_of self.old) prefix) → has world.now.graph.now b ≡ true → touches touched.now prefix b ≡ false → IsRight (setting_in P.meaning V.state_of world.now prefix) (seeds_of (plan_of self.old) (suc before) prefix (kept self.old before prefix)) (kept self.old (suc before) prefix) b }
+        requires announcers { (prefix : PrefixValue) (a : ℕ) → IsTrue (announces (plan_edited (option_copied edit) (plan_of self.old)) prefix a) →
+            has world.now.graph.now a ≡ true }
+        requires entries { (round : ℕ) (prefix : PrefixValue) (b : ℕ) → 1 ≤ round → round ≤ round_count self.old →
+            IsTrue (has_prefix (plan_of self.old) prefix) → has world.now.graph.now b ≡ false → touches touched.now prefix b ≡ false →
+            kept self.old round prefix b ≡ None }
+        requires right { (before : ℕ) (prefix : PrefixValue) (b : ℕ) → before < round_count self.old →
+            IsTrue (has_prefix (plan_of self.old) prefix) → has world.now.graph.now b ≡ true → touches touched.now prefix b ≡ false →
+            IsRight (setting_in P.meaning V.state_of world.now prefix)
+            (seeds_of (plan_of self.old) (suc before) prefix (kept self.old before prefix)) (kept self.old (suc before) prefix) b }
         ensures open { IfOk result (λ p. IsOpenPlan self.new p) }
         ensures before { IfOk result (λ p. cells_before p ≡ live_count (pool_of self.old)) }
         ensures edited { IfOk result (λ p. plan_after self.new p ≡ plan_edited (option_copied edit.entry) (plan_of self.old)) }
         ensures asn { IfOk result (λ p. asn_edited p ≡ option_map edit_asn (option_copied edit.entry)) }
         ensures numbers { IfOk result (λ p. numbers_added p ≡ option_map_or edit_numbers (option_copied edit.entry) 0) }
-        ensures stable { IfOk result (λ p. AreRounds (setting_in P.meaning V.state_of world.now) (plan_after self.new p) (round_count self.new) (kept_with self.new p)) }
-        ensures enough { IfOk result (λ p. AreEnoughFor (relation world.now.graph.now) (course self.new p (touches touched.now)) (round_count self.new) steps.old steps.new) }
+        ensures stable { IfOk result (λ p. AreRounds (setting_in P.meaning V.state_of world.now) (plan_after self.new p) (round_count self.new)
+            (kept_with self.new p)) }
+        ensures enough { IfOk result (λ p. AreEnoughFor (relation world.now.graph.now) (course self.new p (touches touched.now))
+            (round_count self.new) steps.old steps.new) }
         ensures plan { plan_of self.new ≡ plan_of self.old }
         ensures rounds { round_count self.new ≡ round_count self.old }
         ensures kept { (round : ℕ) (prefix : PrefixValue) (a : ℕ) → kept self.new round prefix a ≡ kept self.old round prefix a }

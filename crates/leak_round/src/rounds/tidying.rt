@@ -47,8 +47,10 @@ impl Rounds {
     pub fn tidy(&mut self, alloc: Global, ases: &[Asn]) -> Result<(), NoMemory>
         requires closed { is_open self.old ≡ false }
         requires apart { IsDistinct nat_eq ases.now }
-        requires few { (before : ℕ) (prefix : PrefixValue) → before < round_count self.old → IsTrue (has_prefix (plan_of self.old) prefix) → AreFew (kept self.old (suc before) prefix) }
-        requires among { (before : ℕ) (prefix : PrefixValue) (a : ℕ) → before < round_count self.old → IsTrue (has_prefix (plan_of self.old) prefix) → IsSome (kept self.old (suc before) prefix a) → occurs a ases.now ≡ true }
+        requires few { (before : ℕ) (prefix : PrefixValue) → before < round_count self.old → IsTrue (has_prefix (plan_of self.old) prefix) →
+            AreFew (kept self.old (suc before) prefix) }
+        requires among { (before : ℕ) (prefix : PrefixValue) (a : ℕ) → before < round_count self.old →
+            IsTrue (has_prefix (plan_of self.old) prefix) → IsSome (kept self.old (suc before) prefix a) → occurs a ases.now ≡ true }
         requires stable { (world : PrefixValue → Setting) × AreRounds world (plan_of self.old) (round_count self.old) (kept self.old) }
         ensures closed { is_open self.new ≡ false }
         ensures plan { plan_of self.new ≡ plan_of self.old }
