@@ -31,4 +31,5 @@ mod HolderLists
 mod Moves
 mod PassedOn
 mod MovedTables
+mod Reaching
 pub mod PathsOut

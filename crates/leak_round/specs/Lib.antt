@@ -18,3 +18,4 @@ pub mod Told
 pub mod Planners
 pub mod SeedPaths
 pub mod Moved
+pub mod Reached

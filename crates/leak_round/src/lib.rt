@@ -12,6 +12,7 @@ mod changes;
 mod differing;
 mod edited;
 mod holders;
+mod laws;
 mod leaked;
 mod moving;
 mod own_seeds;
@@ -28,6 +29,7 @@ mod told;
 mod touched;
 mod whole_plans;
 
+pub use laws::live_cells_are_reached;
 pub use plans::{RoundsDone, RoundsPlan};
 pub use rounds::{MOST_CELLS, Rounds};
 pub use touched::Touched;
