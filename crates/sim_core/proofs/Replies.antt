@@ -40,7 +40,7 @@ module _ (w : World) (k l : Kept) (x : IsKept w k) (y : IsKept w l) where
   same_entry round p there known a = let within = round_within w.rounds round there in one_family w k.routings l.routings x.routings y.routings round p within.0 within.1 known a
 
   next_same : (round : ℕ) (addr : AddrValue) → IsTrue (has_round w round) → ◌≡◌ {A = ℕ → Hop} (next_hop w.plan (l.routings round) addr) (next_hop w.plan (k.routings round) addr)
-  next_same round addr there = λ i a. same_next w.plan (l.routings round) (k.routings round) addr (λ p known b. sym (same_entry round p there known b)) a i
+  next_same round addr there = λ i a. same_next w.plan (l.routings round) (k.routings round) addr a (λ p known over. sym (same_entry round p there known a)) i
 
   same_rank : (n : ℕ) → k.ranks n ≡ l.ranks n
   same_rank n = one_rank_at (relation (topology w)) n (k.ranks n) (l.ranks n) (x.ranks n) (y.ranks n)

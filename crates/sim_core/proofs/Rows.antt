@@ -54,13 +54,13 @@ same_bool true c to back = sym (to refl)
 same_bool false true to back = back refl
 same_bool false false to back = refl
 
-and_false : (b : Bool) → (b && false) ≡ false
+pub and_false : (b : Bool) → (b && false) ≡ false
 and_false true = refl
 and_false false = refl
 
 -- ---- counts
 
-one_more : {X : Type 0} (p : X → Bool) (x : X) (xs : List X) → count_by p (x ∷ xs) ≡ cond (p x) 1 0 + count_by p xs
+pub one_more : {X : Type 0} (p : X → Bool) (x : X) (xs : List X) → count_by p (x ∷ xs) ≡ cond (p x) 1 0 + count_by p xs
 one_more p x xs = sum_by-cons (λ y. cond (p y) 1 0) x xs
 
 -- two tests that say the same of each item count the same
@@ -69,7 +69,7 @@ count_alike p q [] each = refl
 count_alike p q (x ∷ xs) each =
     one_more p x xs ∙ (λ i. cond (each 0 x refl i) 1 0 + count_alike p q xs (λ k. each (suc k)) i) ∙ sym (one_more q x xs)
 
-count_named : (test : ℕ → Bool) (rows : List Row) → count_by (λ r. test r.asn) rows ≡ count_by test (map (λ r. r.asn) rows)
+pub count_named : (test : ℕ → Bool) (rows : List Row) → count_by (λ r. test r.asn) rows ≡ count_by test (map (λ r. r.asn) rows)
 count_named test [] = refl
 count_named test (r ∷ rows) =
     one_more (λ (s : Row). test s.asn) r rows ∙ ap (λ n. cond (test r.asn) 1 0 + n) (count_named test rows) ∙ sym (one_more test r.asn (map (λ s. s.asn) rows))
@@ -107,7 +107,7 @@ label_is ProviderFirst = refl
 label_is Otc = refl
 label_is DropInvalidOtc = refl
 
-is_end_same : (e f : End) → is_end e f ≡ (same_end.ghosts).eq e f
+pub is_end_same : (e f : End) → is_end e f ≡ (same_end.ghosts).eq e f
 is_end_same (the_end.At a) (the_end.At b) = refl
 is_end_same (the_end.At a) the_end.NoRoute = refl
 is_end_same (the_end.At a) the_end.Loop = refl
@@ -148,16 +148,16 @@ one_place rows apart i j r s at there same =
 
 -- ---- the ASes of a world
 
-in_filter : (test : ℕ → Bool) (ks : List ℕ) (a : ℕ) → occurs a (filter test ks) ≡ (test a && occurs a ks)
+pub in_filter : (test : ℕ → Bool) (ks : List ℕ) (a : ℕ) → occurs a (filter test ks) ≡ (test a && occurs a ks)
 in_filter test ks a = any-filter_same (λ x. x == a) test (test a) (λ k e. ap test (eqb-true k a e)) ks
 
 -- as many pass one test as another where the same numbers do
-same_many : (p q : ℕ → Bool) (xs ys : List ℕ) → ((a : ℕ) → (p a && occurs a xs) ≡ (q a && occurs a ys)) → set.len (set.from_list {R = nat_cmp} (filter p xs)) ≡ set.len (set.from_list {R = nat_cmp} (filter q ys))
+pub same_many : (p q : ℕ → Bool) (xs ys : List ℕ) → ((a : ℕ) → (p a && occurs a xs) ≡ (q a && occurs a ys)) → set.len (set.from_list {R = nat_cmp} (filter p xs)) ≡ set.len (set.from_list {R = nat_cmp} (filter q ys))
 same_many p q xs ys same =
     ap set.len (set.same_set nat_cmp_total set.nat_cmp-IsAntisymmetric _ _ (λ a. set.contains-from_list_nat (filter p xs) a ∙ in_filter p xs a ∙ same a ∙ sym (in_filter q ys a) ∙ sym (set.contains-from_list_nat (filter q ys) a)))
 
 -- numbers that differ are counted one by one
-counted_once : (test : ℕ → Bool) (ks : List ℕ) → IsDistinct nat_eq ks → set.len (set.from_list {R = nat_cmp} (filter test ks)) ≡ count_by test ks
+pub counted_once : (test : ℕ → Bool) (ks : List ℕ) → IsDistinct nat_eq ks → set.len (set.from_list {R = nat_cmp} (filter test ks)) ≡ count_by test ks
 counted_once test [] d = set.len-empty nat_cmp
 counted_once test (k ∷ ks) d = by (test k) (counted_once test ks (IsDistinct-tail nat_eq k ks d)) ∙ sym (one_more test k ks)
   where

@@ -47,8 +47,8 @@ fn ranks_of(alloc: Global, graph: &Graph) -> Result<Ranks, LoadError>
     }
 }
 
-// The tables of all rounds of a plan, by the states over the payloads.
-fn rounds_of<L: Ledger>(
+/// The tables of the rounds of a plan, of which there are so many, by the states over the payloads.
+pub fn rounds_of<L: Ledger>(
     alloc: Global,
     world: &World<'_, Kind, KnownStates<'_>>,
     ranks: &Ranks,
@@ -141,13 +141,11 @@ pub fn load_base(
     }
 }
 
-/// The parts of the simulation of a world: the world, its ranks, and what is kept of it. The states that
-/// the policies ask for are found ahead in the scenario.
+/// The parts of the simulation of a world: the world, its ranks, and what is kept of it.
 pub fn keep<L: Ledger>(
     alloc: Global,
     base: Base,
     ranks: Ranks,
-    scenario: &Scenario,
     blank: Blank,
 ) -> Result<Parts, NoMemory>
     requires ledger { (blank.name ≡ L.name) × (blank.parts ≡ L.parts) × (0 < L.parts) }
@@ -166,7 +164,7 @@ pub fn keep<L: Ledger>(
     } = base;
     let readers = readers_of(alloc, &graph, &book)?;
     let rounds = {
-        let states = known_states(alloc, &vrps, scenario)?;
+        let states = known_states(alloc, &vrps, &plan)?;
         let world = World {
             graph: &graph,
             book: &book,

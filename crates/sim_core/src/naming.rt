@@ -44,7 +44,7 @@ fn mark_all(graph: &mut Graph, names: &[Asn]) -> Result<(), LoadError>
     Ok(())
 }
 
-// Whether the kind is another than the plain one.
+/// Whether the kind is another than the plain one.
 pub fn is_other(kind: Kind) -> bool
     ensures { (a : ℕ) → result ≡ is_other_policy (a, kind) }
 {

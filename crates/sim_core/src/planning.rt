@@ -17,11 +17,10 @@ use std::alloc::Global;
 pub fn copy_of(alloc: Global, path: &Path) -> Result<Path, NoMemory>
     ensures { IfOk result (λ p. p ≡ path.now) }
 {
-    let mut copy = Path::new(alloc);
-    for asn in path.as_slice() {
-        copy.push(*asn)?;
+    match Vec::from_slice(alloc, path.as_slice()) {
+        Ok(numbers) => Ok(Path::from_vec(numbers)),
+        Err(_) => Err(NoMemory),
     }
-    Ok(copy)
 }
 
 // Makes the ASes announce.

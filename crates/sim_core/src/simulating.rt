@@ -46,7 +46,7 @@ impl Sim {
             Ok(both) => both,
             Err(error) => return Err(error),
         };
-        match keep::<Brand>(alloc, base, ranks, &scenario, Blank::new(1)) {
+        match keep::<Brand>(alloc, base, ranks, Blank::new(1)) {
             Ok(parts) => Ok(Sim { parts }),
             Err(_) => Err(LoadError::Memory),
         }

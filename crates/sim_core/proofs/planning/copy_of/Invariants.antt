@@ -1,5 +1,0 @@
-use Rattle.std.proofs.Common.{◌≡◌, take}
-use Rattle.sim_core.proofs.planning.copy_of.Given as goal
-
-abbrev pub invariant-loop-asn : goal.invariant-loop-asn
-invariant-loop-asn l = l.copy ≡ take l.asn-index l.asn-items
