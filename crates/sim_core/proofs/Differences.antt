@@ -6,7 +6,6 @@ use Rattle.std.specs.Option.{option_or}
 use Rattle.std.proofs.lemmas.List.Sorted.{length_permutation}
 use Rattle.net_names.specs.Prefixes.{PrefixValue}
 use Rattle.stability_laws.specs.Plans.{Plan, has_prefix}
-use Rattle.stability_laws.specs.declared.seed_plan.edits.SeedEdit.TheVariants as seeds
 use Rattle.leak_round.specs.Changes.{Family, HasChanges}
 use Rattle.scenario_text.specs.declared.acts.Edit.{Edit}
 use Rattle.scenario_text.specs.declared.acts.Edit.TheVariants as edit
@@ -15,8 +14,6 @@ use Rattle.sim_core.specs.Kept.{IsKept, Kept}
 use Rattle.sim_core.specs.World.{World}
 use Rattle.sim_core.proofs.Elements.{same_elements}
 use Rattle.sim_core.proofs.Families.{one_family}
-use Rattle.sim_core.proofs.Replies.{none_wanting}
-use Rattle.sim_core.proofs.SeedEdits.{edited_prefixes}
 
 -- two families are the same at the rounds and prefixes
 abbrev AreSame : Plan → ℕ → Family → Family → Type 0
@@ -57,15 +54,15 @@ same_rounds w (edit.VrpTake vrp) = refl
 same_rounds w (edit.Announce prefix path) = refl
 same_rounds w (edit.Withdraw prefix a) = refl
 
--- an edit that names nothing that is wanting leaves the prefixes
-same_prefixes : (w : World) (e : Edit) → absent w e ≡ None → (edited w e).plan.prefixes ≡ w.plan.prefixes
-same_prefixes w (edit.Link a b rel) h = refl
-same_prefixes w (edit.Unlink a b) h = refl
-same_prefixes w (edit.Policy a kind) h = refl
-same_prefixes w (edit.VrpAdd vrp) h = refl
-same_prefixes w (edit.VrpTake vrp) h = refl
-same_prefixes w (edit.Announce prefix path) h = let known = none_wanting (has_prefix w.plan prefix) _ _ h in edited_prefixes w.plan (seeds.Announce prefix path) known.0
-same_prefixes w (edit.Withdraw prefix a) h = refl
+-- an edit leaves the prefixes
+same_prefixes : (w : World) (e : Edit) → (edited w e).plan.prefixes ≡ w.plan.prefixes
+same_prefixes w (edit.Link a b rel) = refl
+same_prefixes w (edit.Unlink a b) = refl
+same_prefixes w (edit.Policy a kind) = refl
+same_prefixes w (edit.VrpAdd vrp) = refl
+same_prefixes w (edit.VrpTake vrp) = refl
+same_prefixes w (edit.Announce prefix path) = refl
+same_prefixes w (edit.Withdraw prefix a) = refl
 
 -- one number of entries differ after an edit that is not refused
 pub one_edit_count : (w : World) (e : Edit) (k l now again : Kept) (m n : ℕ) → refusal_of_edit w e ≡ None → IsKept w k → IsKept w l → IsKept (edited w e) now → IsKept (edited w e) again

@@ -43,16 +43,17 @@ use Rattle.sim_core.proofs.Doing.{allowed_by, no_limit}
 use Rattle.sim_core.proofs.Grounds.{seller}
 use Rattle.sim_core.proofs.PolicyEdits.{Kinds, named_by}
 use Rattle.sim_core.proofs.Unnamed.{is_named, gone_unnamed, lone_nothing, lone_right, unannounced, unleaked, unseeded}
-use Rattle.sim_core.proofs.SeedEdits.{other_prefixes, edited_leakers, edited_within, other_announcers}
+use Rattle.sim_core.proofs.SeedEdits.{other_prefixes, edited_leakers, edited_prefixes, edited_within, other_announcers}
 use Rattle.sim_core.proofs.SeedMarks.{marks_back, marks_seeded}
 
 -- the world with this plan of seeds
 abbrev pub with_plan : World → Plan → World
 with_plan w plan = record w { plan = plan }
 
-planned : (w : World) (e : SeedEdit) → with_plan w (edited_plan w.plan e) ≡ edited w (edit_of e)
-planned w (Announce prefix path) = refl
-planned w (Withdraw prefix a) = refl
+-- which of an announcement leaves the prefixes, as the prefix is one of them
+planned : (w : World) (e : SeedEdit) → IsEditOf w.plan e → with_plan w (edited_plan w.plan e) ≡ edited w (edit_of e)
+planned w (Announce prefix path) known = ap (λ (s : set.FinSet prefix_cmp). with_plan w (record w.plan { prefixes = s; announced = fin.insert w.plan.announced (prefix, announcer_of path) path })) (edited_prefixes w.plan (Announce prefix path) known)
+planned w (Withdraw prefix a) known = refl
 
 others_there : AsesAreKept → (g : Topology) (a x : ℕ) (t : Bool) → x ≢ a → has (with_mark_if g a t) x ≡ has g x
 others_there ases g a x true other = ases.marked g a x ∙ ap (λ b. b || has g x) (unlike (x == a) refl)
@@ -117,7 +118,7 @@ module _ (s : Parts) (e : SeedEdit) (plan : Plan) (a : ℕ) (t : Bool) (graph : 
   new_named = ap (graph_of graph.links) new_marks
 
   pub new_world : with_plan (world_seen s) plan ≡ edited (world_seen s) (edit_of e)
-  new_world = ap (with_plan (world_seen s)) plan_is ∙ planned (world_seen s) e
+  new_world = ap (with_plan (world_seen s)) plan_is ∙ planned (world_seen s) e accepted.known
 
   new_count : as_count graph ≡ as_count (topology (with_plan (world_seen s) plan))
   new_count = λ i. as_count (graph_of (new_links i) (new_marks i))

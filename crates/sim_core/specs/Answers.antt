@@ -3,7 +3,6 @@ use Rattle.std.specs.Prelude.{◌≡◌, ℕ, ◌&&◌, Bool, Option, None, Some
 use Rattle.std.specs.FinSet as set
 use Rattle.scenario_text.specs.declared.acts.Query.{Query}
 use Rattle.scenario_text.specs.declared.acts.Query.TheVariants.{Routes, Route, Trace, Report, Ranks, Validity}
-use Rattle.net_names.specs.Prefixes.{PrefixValue}
 use Rattle.as_graph.specs.Topology.{has}
 use Rattle.roa_table.specs.Cover.{covering}
 use Rattle.origin_validation.specs.Judging.{state_of}
@@ -28,19 +27,18 @@ use Rattle.sim_core.specs.declared.errors.QueryError.TheVariants.{UnknownRound, 
 abbrev pub needs : {E : Type 0} → Bool → E → Option E → Option E
 needs there e others = if there then others else Some e
 
+-- the round is refused, or else what the rest refuses
+abbrev pub in_round : World → ℕ → Option QueryError → Option QueryError
+in_round w n = needs (has_round w n) (UnknownRound n)
+
 -- why a query is refused: the first thing in the order round, prefix, AS, watched address that it names and that the world has not
 abbrev pub refusal_of : World → Query → Option QueryError
-refusal_of w q =
-    let round = λ (n : ℕ). needs (has_round w n) (UnknownRound n) in
-    let prefix = λ (p : PrefixValue). needs (has_prefix w.plan p) (UnknownPrefix p) in
-    let known = λ (a : ℕ). needs (has (topology w) a) (UnknownAs a) in
-    elim q [
-      | Routes n p ↦ round n (prefix p None)
-      | Route n p a ↦ round n (prefix p (known a None))
-      | Trace n a _ ↦ round n (known a None)
-      | Report n addr ↦ round n (needs (set.contains w.watched addr) (NotWatched addr) None)
-      | _ ↦ None
-    ]
+refusal_of w (Routes n p) = in_round w n (needs (has_prefix w.plan p) (UnknownPrefix p) None)
+refusal_of w (Route n p a) = in_round w n
+    (needs (has_prefix w.plan p) (UnknownPrefix p) (needs (has (topology w) a) (UnknownAs a) None))
+refusal_of w (Trace n a _) = in_round w n (needs (has (topology w) a) (UnknownAs a) None)
+refusal_of w (Report n x) = in_round w n (needs (set.contains w.watched x) (NotWatched x) None)
+refusal_of w q = None
 
 -- the text is the answer to a query, by what is kept of the world and by its payloads (own format; `(same_end.ghosts).eq` says whether two ends are the same)
 abbrev pub IsAnswer : World → Kept → Query → List ℕ → Type 0

@@ -1,5 +1,5 @@
 -- Edited worlds: what an edit makes of a world, and why it is refused.
-use Rattle.std.specs.Prelude.{◌≡◌, ◌⊎◌, ℕ, nat_lt, nat_le, if◌then◌else◌, is_some, slice_index, take, [], ◌∷◌, Option, None, Some, option_map}
+use Rattle.std.specs.Prelude.{◌≡◌, ◌⊎◌, ℕ, nat_le, min, max, if◌then◌else◌, is_some, slice_index, take, [], ◌∷◌, Option, None, Some, option_map}
 use Rattle.std.specs.FinMap as fin
 use Rattle.std.specs.Option.{option_or}
 use Rattle.net_names.specs.Links.{between, with_relation}
@@ -30,12 +30,12 @@ edited w (Unlink a b) = record w { links = without_relation w.links a b }
 edited w (Policy a kind) = record w { kinds = if is_other (a, kind) then fin.insert w.kinds a kind else fin.remove w.kinds a }
 edited w (VrpAdd vrp) = record w { payloads = fin.insert w.payloads vrp tt }
 edited w (VrpTake vrp) = record w { payloads = fin.remove w.payloads vrp }
-edited w (Announce p path) = record w { plan = record w.plan { prefixes = fin.insert w.plan.prefixes p tt; announced = fin.insert w.plan.announced (p, slice_index path 0) path } }
+edited w (Announce p path) = record w { plan = record w.plan { announced = fin.insert w.plan.announced (p, slice_index path 0) path } }
 edited w (Withdraw p a) = record w { plan = record w.plan { announced = fin.remove w.plan.announced (p, a) } }
 
 -- what the edit names or takes away and the world has not: the link of the pair, told with the lower number first, the payload, the prefix, or else the AS's announcement of it
 abbrev pub absent : World → Edit → Option EditError
-absent w (Unlink a b) = needs (is_some (between w.links a b)) (if nat_lt a b then AbsentLink a b else AbsentLink b a) None
+absent w (Unlink a b) = needs (is_some (between w.links a b)) (AbsentLink (min a b) (max a b)) None
 absent w (VrpTake vrp) = needs (fin.contains_key w.payloads vrp) (AbsentVrp vrp) None
 absent w (Announce p path) = needs (has_prefix w.plan p) (UnknownPrefix p) None
 absent w (Withdraw p a) = needs (has_prefix w.plan p) (UnknownPrefix p) (needs (announces w.plan p a) (AbsentAnnouncement p a) None)

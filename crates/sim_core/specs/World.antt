@@ -35,7 +35,7 @@ graph_of links marks = record { links = links; marked = marks; room = None }
 
 -- the graph of a world: its links, and the ASes that an announcement, a leak or a policy names, which are there without a link too; it has no room
 abbrev pub topology : World → Topology
-topology w = record { links = w.links; marked = set.from_list (named w.plan w.kinds); room = None }
+topology w = record { links = w.links; room = None; marked = set.from_list (announcers_of w.plan ++ (map (λ e. e.1) (fin.keys w.plan.leakers) ++ fin.keys w.kinds)) }
 
 -- rounds are counted from 1
 abbrev pub has_round : World → ℕ → Bool

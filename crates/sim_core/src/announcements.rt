@@ -108,7 +108,8 @@ impl Parts {
         requires right { AreRight self.old }
         requires no_cycle { HasCycle (world_seen self.old) → ⊥ }
         ensures edited { IsEdited self.old self.new (edit_of edit.now) result }
-        ensures quick { OnOk result (IsQuick (world_seen self.old) (world_seen self.new) (edit_of edit.now) (kept self.old).routings (kept self.new).routings steps.old steps.new) }
+        ensures quick { OnOk result (IsQuick (world_seen self.old) (world_seen self.new) (edit_of edit.now)
+            (kept self.old).routings (kept self.new).routings steps.old steps.new) }
     {
         ases_are_kept();
         links_are_sound();
@@ -174,7 +175,8 @@ impl Parts {
         requires right { AreRight self.old }
         requires no_cycle { HasCycle (world_seen self.old) → ⊥ }
         ensures edited { IsEdited self.old self.new (Announce prefix path.now) result }
-        ensures quick { OnOk result (IsQuick (world_seen self.old) (world_seen self.new) (Announce prefix path.now) (kept self.old).routings (kept self.new).routings steps.old steps.new) }
+        ensures quick { OnOk result (IsQuick (world_seen self.old) (world_seen self.new) (Announce prefix path.now)
+            (kept self.old).routings (kept self.new).routings steps.old steps.new) }
     {
         self.is_small();
         if !self.rounds.seed_plan().has_prefix(prefix) {
@@ -203,7 +205,8 @@ impl Parts {
         requires right { AreRight self.old }
         requires no_cycle { HasCycle (world_seen self.old) → ⊥ }
         ensures edited { IsEdited self.old self.new (Withdraw prefix asn) result }
-        ensures quick { OnOk result (IsQuick (world_seen self.old) (world_seen self.new) (Withdraw prefix asn) (kept self.old).routings (kept self.new).routings steps.old steps.new) }
+        ensures quick { OnOk result (IsQuick (world_seen self.old) (world_seen self.new) (Withdraw prefix asn)
+            (kept self.old).routings (kept self.new).routings steps.old steps.new) }
     {
         let plan = self.rounds.seed_plan();
         if !plan.has_prefix(prefix) {

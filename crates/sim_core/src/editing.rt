@@ -53,7 +53,8 @@ impl Parts {
         requires right { AreRight self.old }
         requires no_cycle { HasCycle (world_seen self.old) → ⊥ }
         ensures edited { IsEdited self.old self.new edit.now result }
-        ensures quick { OnOk result (IsQuick (world_seen self.old) (world_seen self.new) edit.now (kept self.old).routings (kept self.new).routings steps.old steps.new) }
+        ensures quick { OnOk result (IsQuick (world_seen self.old) (world_seen self.new) edit.now
+            (kept self.old).routings (kept self.new).routings steps.old steps.new) }
     {
         match edit {
             Edit::Link { a, b, rel } => self.edit_link(alloc, *a, *b, *rel, steps),
@@ -79,8 +80,10 @@ impl Parts {
         ensures world { OnOk result (world_seen self.new ≡ edited (world_seen self.old) edit.now) }
         ensures allowed { OnOk result (IsAllowed (world_seen self.old) edit.now) }
         ensures right { AreRight self.new }
-        ensures changed { IfOk result (λ c. HasChanges (world_seen self.new).plan (world_seen self.new).rounds (kept self.old).routings (kept self.new).routings c.routes) }
-        ensures quick { OnOk result (IsQuick (world_seen self.old) (world_seen self.new) edit.now (kept self.old).routings (kept self.new).routings steps.old steps.new) }
+        ensures changed { IfOk result (λ c. HasChanges (world_seen self.new).plan (world_seen self.new).rounds
+            (kept self.old).routings (kept self.new).routings c.routes) }
+        ensures quick { OnOk result (IsQuick (world_seen self.old) (world_seen self.new) edit.now
+            (kept self.old).routings (kept self.new).routings steps.old steps.new) }
         ensures refused { IfErr result (IsEditRefusal (world_seen self.old) edit.now) }
         ensures same_world { OnErr result (world_seen self.new ≡ world_seen self.old) }
         ensures same_kept { OnErr result (kept self.new ≡ kept self.old) }

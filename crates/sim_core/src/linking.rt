@@ -1,5 +1,5 @@
 //! Edits of links.
-ghost use Rattle.std.specs.Prelude.{◌≡◌, ◌≢◌, ◌≤◌, ℕ, nat_lt, if◌then◌else◌, true, Some, None, [], ◌∷◌, IfOk, IfErr, OnOk, OnErr, IfNone, IfSome};
+ghost use Rattle.std.specs.Prelude.{◌≡◌, ◌≢◌, ◌≤◌, ℕ, min, max, true, Some, None, [], ◌∷◌, IfOk, IfErr, OnOk, OnErr, IfNone, IfSome};
 ghost use Rattle.as_graph.specs.declared.error.GraphError.{GraphError as AGraphError};
 ghost use Rattle.as_graph.specs.Hierarchy.{HasNoProviderCycle};
 ghost use Rattle.as_graph.specs.Refusals.{IsLinkRefusal};
@@ -34,7 +34,7 @@ use std::sync::ledger::Ledger;
 
 // The refusal of a pair without a link.
 fn absent_link(a: Asn, b: Asn) -> EditError
-    ensures { result ≡ (if nat_lt a b then AbsentLink a b else AbsentLink b a) }
+    ensures { result ≡ AbsentLink (min a b) (max a b) }
 {
     if a < b {
         EditError::AbsentLink { lo: a, hi: b }
@@ -99,9 +99,12 @@ impl Parts {
         requires there { HasNoProviderCycle (without_pair self.old.graph a b) }
         requires back { HasNoProviderCycle (without_pair self.old.graph b a) }
         requires few_cells { live_count (pool_of self.old.rounds) ≤ MOST_CELLS }
-        requires from { (old : AGround) × BelongTo old self.old.ranks self.old.rounds self.old.watches.items × DiffersAround old (ground_of self.old) self.old.rounds (a ∷ b ∷ []) (touches touched.now) }
+        requires from { (old : AGround) × BelongTo old self.old.ranks self.old.rounds self.old.watches.items
+            × DiffersAround old (ground_of self.old) self.old.rounds (a ∷ b ∷ []) (touches touched.now) }
         ensures changed { IfOk result (λ c. IsChanged self.old self.new None c.routes) }
-        ensures quick { OnOk result (AreFewSteps (relation self.old.graph) (plan_of self.old.rounds) (plan_of self.new.rounds) (kept_rounds self.old.rounds) (kept_rounds self.new.rounds) (λ p x. touches touched.now p x ≡ true) (round_count self.old.rounds) steps.old steps.new) }
+        ensures quick { OnOk result (AreFewSteps (relation self.old.graph) (plan_of self.old.rounds) (plan_of self.new.rounds)
+            (kept_rounds self.old.rounds) (kept_rounds self.new.rounds)
+            (λ p x. touches touched.now p x ≡ true) (round_count self.old.rounds) steps.old steps.new) }
         ensures no_cycle { OnOk result (HasNoProviderCycle (relation self.old.graph)) }
         ensures err { OnErr result (IsUnchanged self.old self.new) }
         ensures refused { IfErr result (IsLinkStop self.old.graph a b rel) }
@@ -131,7 +134,8 @@ impl Parts {
         requires right { AreRight self.old }
         requires no_cycle { HasCycle (world_seen self.old) → ⊥ }
         ensures edited { IsEdited self.old self.new (Link a b rel) result }
-        ensures quick { OnOk result (IsQuick (world_seen self.old) (world_seen self.new) (Link a b rel) (kept self.old).routings (kept self.new).routings steps.old steps.new) }
+        ensures quick { OnOk result (IsQuick (world_seen self.old) (world_seen self.new) (Link a b rel)
+            (kept self.old).routings (kept self.new).routings steps.old steps.new) }
     {
         links_are_sound();
         links_are_set();
@@ -186,7 +190,8 @@ impl Parts {
         requires right { AreRight self.old }
         requires no_cycle { HasCycle (world_seen self.old) → ⊥ }
         ensures edited { IsEdited self.old self.new (Unlink a b) result }
-        ensures quick { OnOk result (IsQuick (world_seen self.old) (world_seen self.new) (Unlink a b) (kept self.old).routings (kept self.new).routings steps.old steps.new) }
+        ensures quick { OnOk result (IsQuick (world_seen self.old) (world_seen self.new) (Unlink a b)
+            (kept self.old).routings (kept self.new).routings steps.old steps.new) }
     {
         links_are_sound();
         links_are_set();

@@ -102,7 +102,7 @@ fn base_of(
     ensures world { IfOk result (λ base. base_world base ≡ world_of _links.now vrps scenario.now) }
     ensures graph { IfOk result (λ base. base.graph ≡ graph) }
 {
-    let book = policies(alloc, scenario)?;
+    let book = policies(alloc, scenario, &graph)?;
     let plan = seed_plan(alloc, scenario)?;
     let Ok(watched) = watched_addrs(alloc, scenario) else {
         return Err(NoMemory);

@@ -31,8 +31,10 @@ use std::sync::ledger::Ledger;
 impl Parts {
     // The ASes whose policy reads states that differ with the payload and without it.
     fn touched_by(&self, alloc: Global, vrp: Vrp) -> Result<Touched, NoMemory>
-        ensures only { IfOk result (λ t. (prefix : PrefixValue) (a : ℕ) → touches t prefix a ≡ true → (covers vrp.prefix prefix ≡ true) × ((kind_policy (policy_at self.now.book a)).reads_state ≡ true)) }
-        ensures these { IfOk result (λ t. (prefix : PrefixValue) → IsTrue (has_prefix (plan_of self.now.rounds) prefix) → AreReadersTouched self.now.readers.ases self.now.book self.now.vrps vrp (plan_of self.now.rounds) prefix (touches t prefix)) }
+        ensures only { IfOk result (λ t. (prefix : PrefixValue) (a : ℕ) → touches t prefix a ≡ true → (covers vrp.prefix prefix ≡ true)
+            × ((kind_policy (policy_at self.now.book a)).reads_state ≡ true)) }
+        ensures these { IfOk result (λ t. (prefix : PrefixValue) → IsTrue (has_prefix (plan_of self.now.rounds) prefix) →
+            AreReadersTouched self.now.readers.ases self.now.book self.now.vrps vrp (plan_of self.now.rounds) prefix (touches t prefix)) }
     {
         touched_readers(
             alloc,
@@ -55,7 +57,10 @@ impl Parts {
         requires no_cycle { HasNoProviderCycle (relation self.old.graph) }
         requires from { BelongTo (ground_less self.old (Some vrp)) self.old.ranks self.old.rounds self.old.watches.items }
         ensures changed { IfOk result (λ c. IsChanged self.old self.new None c.routes) }
-        ensures quick { OnOk result (AreFewSteps (relation self.old.graph) (plan_of self.old.rounds) (plan_of self.new.rounds) (kept_rounds self.old.rounds) (kept_rounds self.new.rounds) (λ p a. (covers vrp.prefix p ≡ true) × ((kind_policy (policy_at self.old.book a)).reads_state ≡ true)) (round_count self.old.rounds) steps.old steps.new) }
+        ensures quick { OnOk result (AreFewSteps (relation self.old.graph) (plan_of self.old.rounds) (plan_of self.new.rounds)
+            (kept_rounds self.old.rounds) (kept_rounds self.new.rounds)
+            (λ p a. (covers vrp.prefix p ≡ true) × ((kind_policy (policy_at self.old.book a)).reads_state ≡ true))
+            (round_count self.old.rounds) steps.old steps.new) }
         ensures err { OnErr result (IsUnchanged self.old self.new) }
     {
         let touched = self.touched_by(alloc, vrp)?;
@@ -73,7 +78,8 @@ impl Parts {
         requires right { AreRight self.old }
         requires no_cycle { HasCycle (world_seen self.old) → ⊥ }
         ensures edited { IsEdited self.old self.new (VrpAdd vrp) result }
-        ensures quick { OnOk result (IsQuick (world_seen self.old) (world_seen self.new) (VrpAdd vrp) (kept self.old).routings (kept self.new).routings steps.old steps.new) }
+        ensures quick { OnOk result (IsQuick (world_seen self.old) (world_seen self.new) (VrpAdd vrp)
+            (kept self.old).routings (kept self.new).routings steps.old steps.new) }
     {
         self.is_small();
         if self.vrps.has(vrp) {
@@ -109,7 +115,8 @@ impl Parts {
         requires right { AreRight self.old }
         requires no_cycle { HasCycle (world_seen self.old) → ⊥ }
         ensures edited { IsEdited self.old self.new (VrpTake vrp) result }
-        ensures quick { OnOk result (IsQuick (world_seen self.old) (world_seen self.new) (VrpTake vrp) (kept self.old).routings (kept self.new).routings steps.old steps.new) }
+        ensures quick { OnOk result (IsQuick (world_seen self.old) (world_seen self.new) (VrpTake vrp)
+            (kept self.old).routings (kept self.new).routings steps.old steps.new) }
     {
         if !self.vrps.has(vrp) {
             return Err(EditError::AbsentVrp { vrp });

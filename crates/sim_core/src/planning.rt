@@ -3,10 +3,12 @@ ghost use Rattle.std.specs.Prelude.{◌≡◌, ◌≢◌, ◌≤◌, ◌++◌, �
 ghost use Rattle.policy_kinds.specs.declared.kind.Kind.{Kind as AKind};
 ghost use Rattle.policy_kinds.specs.declared.kind.Kind.TheVariants.{Plain};
 ghost use Rattle.std.specs.FinMap as fin;
+ghost use Rattle.std.specs.List.{list_any};
 ghost use Rattle.stability_laws.specs.Plans.{Plan, empty_plan};
 ghost use Rattle.sim_core.specs.Loaded.{is_other as is_other_policy, plan_of};
 
 use crate::naming::is_other;
+use as_graph::Graph;
 use net_names::{Asn, NoMemory, Path};
 use policy_kinds::Kind;
 use scenario_text::{Announcement, Scenario};
@@ -38,7 +40,8 @@ fn announce_all(alloc: Global, plan: &mut SeedPlan, scenario: &Scenario) -> Resu
 // Makes the ASes leak in the round.
 fn leak_all(plan: &mut SeedPlan, round: u32, leakers: &[Asn]) -> Result<(), NoMemory>
     requires { 2 ≤ round }
-    ensures { OnOk result ((before : Plan) (leaks : List ((ℕ × ℕ) × Unit {0})) → plan.old ≡ record before { leakers = fin.from_entries leaks } → plan.new ≡ record before { leakers = fin.from_entries (leaks ++ map (λ a. ((round, a), tt)) leakers.now) }) }
+    ensures { OnOk result ((before : Plan) (leaks : List ((ℕ × ℕ) × Unit {0})) → plan.old ≡ record before { leakers = fin.from_entries leaks } →
+        plan.new ≡ record before { leakers = fin.from_entries (leaks ++ map (λ a. ((round, a), tt)) leakers.now) }) }
 {
     for asn in leakers {
         plan.leaker(round, *asn)?;
@@ -63,7 +66,9 @@ pub fn seed_plan(alloc: Global, scenario: &Scenario) -> Result<SeedPlan, NoMemor
 // Names the AS, where its policy is another than the plain one.
 fn name_policy(book: &mut Book<Kind>, policy: (Asn, Kind)) -> Result<(), NoMemory>
     ensures rest { book.new.rest ≡ book.old.rest }
-    ensures named { OnOk result ((before : List (ℕ × AKind)) → All (λ p. p.0 ≢ policy.0) before → book.old.named ≡ fin.from_entries (filter is_other_policy before) → book.new.named ≡ fin.from_entries (filter is_other_policy (before ++ policy ∷ []))) }
+    ensures named { OnOk result ((before : List (ℕ × AKind)) → All (λ p. p.0 ≢ policy.0) before →
+        book.old.named ≡ fin.from_entries (filter is_other_policy before) →
+        book.new.named ≡ fin.from_entries (filter is_other_policy (before ++ policy ∷ []))) }
 {
     if !is_other(policy.1) {
         return Ok(());
@@ -77,12 +82,36 @@ fn name_policy(book: &mut Book<Kind>, policy: (Asn, Kind)) -> Result<(), NoMemor
     }
 }
 
-/// The policies that the scenario gives, and the plain one for the rest.
-pub fn policies(alloc: Global, scenario: &Scenario) -> Result<Book<Kind>, NoMemory>
+// Whether one of the policies is another than the plain one.
+fn some_other(policies: &[(Asn, Kind)]) -> bool
+    ensures { result ≡ list_any is_other_policy policies.now }
+{
+    policies.iter().any(|policy| is_other(policy.1))
+}
+
+// Makes room for the ASes of the graph, in the order of its rows, where one of the policies is another than the plain
+// one: an AS's policy then stands where its row does.
+fn make_rows(book: &mut Book<Kind>, graph: &Graph, policies: &[(Asn, Kind)]) -> Result<(), NoMemory>
+    ensures rest { book.new.rest ≡ book.old.rest }
+    ensures named { book.new.named ≡ book.old.named }
+{
+    if !some_other(policies) {
+        return Ok(());
+    }
+    for asn in graph.rows() {
+        book.room(*asn)?;
+    }
+    Ok(())
+}
+
+/// The policies that the scenario gives, and the plain one for the rest. Where none but the plain one is given, the book
+/// stays empty.
+pub fn policies(alloc: Global, scenario: &Scenario, graph: &Graph) -> Result<Book<Kind>, NoMemory>
     ensures rest { IfOk result (λ book. book.rest ≡ Plain) }
     ensures named { IfOk result (λ book. book.named ≡ fin.from_entries (filter is_other_policy scenario.now.policies)) }
 {
     let mut book = Book::new(alloc, Kind::Plain);
+    make_rows(&mut book, graph, scenario.policies())?;
     for policy in scenario.policies() {
         name_policy(&mut book, *policy)?;
     }

@@ -152,9 +152,12 @@ impl Parts {
     // The ASes whose entries may be wrong where the policy of an AS becomes another: that AS, and where
     // it begins or ceases to mark, its neighbours too.
     fn touched_with(&self, alloc: Global, asn: Asn, kind: Kind) -> Result<Touched, NoMemory>
-        ensures only { IfOk result (λ t. (prefix : PrefixValue) (x : ℕ) → touches t prefix x ≡ true → (x ≡ asn) ⊎ (((kind_policy kind).marks ≢ (kind_policy (policy_at self.now.book asn)).marks) × (r : ARel) × (relation self.now.graph asn x ≡ Some r))) }
+        ensures only { IfOk result (λ t. (prefix : PrefixValue) (x : ℕ) → touches t prefix x ≡ true →
+            (x ≡ asn) ⊎ (((kind_policy kind).marks ≢ (kind_policy (policy_at self.now.book asn)).marks) × (r : ARel)
+            × (relation self.now.graph asn x ≡ Some r))) }
         ensures own { IfOk result (λ t. (prefix : PrefixValue) → IsTrue (has_prefix (plan_of self.now.rounds) prefix) → touches t prefix asn ≡ true) }
-        ensures neighbours { IfOk result (λ t. (prefix : PrefixValue) (n : ℕ) (r : ARel) → IsTrue (has_prefix (plan_of self.now.rounds) prefix) → (kind_policy kind).marks ≢ (kind_policy (policy_at self.now.book asn)).marks → relation self.now.graph asn n ≡ Some r → touches t prefix n ≡ true) }
+        ensures neighbours { IfOk result (λ t. (prefix : PrefixValue) (n : ℕ) (r : ARel) → IsTrue (has_prefix (plan_of self.now.rounds) prefix) →
+            (kind_policy kind).marks ≢ (kind_policy (policy_at self.now.book asn)).marks → relation self.now.graph asn n ≡ Some r → touches t prefix n ≡ true) }
     {
         let mut ases = Vec::new(alloc);
         match ases.push(asn) {
@@ -179,7 +182,8 @@ impl Parts {
         requires right { AreRight self.old }
         requires no_cycle { HasCycle (world_seen self.old) → ⊥ }
         ensures edited { IsEdited self.old self.new (Policy asn kind) result }
-        ensures quick { OnOk result (IsQuick (world_seen self.old) (world_seen self.new) (Policy asn kind) (kept self.old).routings (kept self.new).routings steps.old steps.new) }
+        ensures quick { OnOk result (IsQuick (world_seen self.old) (world_seen self.new) (Policy asn kind)
+            (kept self.old).routings (kept self.new).routings steps.old steps.new) }
     {
         links_are_sound();
         let was = self.kind_of(asn);

@@ -79,8 +79,10 @@ impl Sim {
         ensures world { OnOk result (world_seen self.new ≡ edited (world_seen self.old) edit.now) }
         ensures allowed { OnOk result (IsAllowed (world_seen self.old) edit.now) }
         ensures kept { OnOk result (IsKept (world_seen self.new) (kept self.new)) }
-        ensures changed { IfOk result (λ c. HasChanges (world_seen self.new).plan (world_seen self.new).rounds (kept self.old).routings (kept self.new).routings c.routes) }
-        ensures quick { OnOk result (IsQuick (world_seen self.old) (world_seen self.new) edit.now (kept self.old).routings (kept self.new).routings steps.old steps.new) }
+        ensures changed { IfOk result (λ c. HasChanges (world_seen self.new).plan (world_seen self.new).rounds
+            (kept self.old).routings (kept self.new).routings c.routes) }
+        ensures quick { OnOk result (IsQuick (world_seen self.old) (world_seen self.new) edit.now
+            (kept self.old).routings (kept self.new).routings steps.old steps.new) }
         ensures refused { IfErr result (IsEditRefusal (world_seen self.old) edit.now) }
         ensures same_world { OnErr result (world_seen self.new ≡ world_seen self.old) }
         ensures same_kept { OnErr result (kept self.new ≡ kept self.old) }

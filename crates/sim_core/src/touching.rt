@@ -34,7 +34,8 @@ fn touch(touched: &mut Touched, prefix: Prefix, ases: &[Asn]) -> Result<(), NoMe
 
 /// These ASes, for each prefix of the plan.
 pub fn touched_ases(alloc: Global, plan: &SeedPlan, ases: &[Asn]) -> Result<Touched, NoMemory>
-    ensures these { IfOk result (λ t. (prefix : PrefixValue) (a : ℕ) → IsTrue (has_prefix plan.now prefix) → occurs a ases.now ≡ true → touches t prefix a ≡ true) }
+    ensures these { IfOk result (λ t. (prefix : PrefixValue) (a : ℕ) → IsTrue (has_prefix plan.now prefix) → occurs a ases.now ≡ true →
+        touches t prefix a ≡ true) }
     ensures only { IfOk result (λ t. (prefix : PrefixValue) (a : ℕ) → touches t prefix a ≡ true → occurs a ases.now ≡ true) }
 {
     let _first = plan.prefix_at(0);
@@ -52,9 +53,11 @@ fn touch_readers(
     book: &Book<Kind>,
     prefix: Prefix,
 ) -> Result<(), NoMemory>
-    ensures these { OnOk result ((a : ℕ) → occurs a readers.now ≡ true → (kind_policy (policy_at book.now a)).reads_state ≡ true → touches touched.new prefix a ≡ true) }
+    ensures these { OnOk result ((a : ℕ) → occurs a readers.now ≡ true → (kind_policy (policy_at book.now a)).reads_state ≡ true →
+        touches touched.new prefix a ≡ true) }
     ensures more { (p : PrefixValue) (a : ℕ) → touches touched.old p a ≡ true → touches touched.new p a ≡ true }
-    ensures only { (p : PrefixValue) (a : ℕ) → touches touched.new p a ≡ true → touches touched.old p a ≡ false → (p ≡ prefix) × ((kind_policy (policy_at book.now a)).reads_state ≡ true) }
+    ensures only { (p : PrefixValue) (a : ℕ) → touches touched.new p a ≡ true → touches touched.old p a ≡ false → (p ≡ prefix)
+        × ((kind_policy (policy_at book.now a)).reads_state ≡ true) }
 {
     for asn in readers {
         if book.policy(*asn).reads_state() {
@@ -120,7 +123,8 @@ fn touch_covered(
 ) -> Result<(), NoMemory>
     ensures these { OnOk result (AreReadersTouched readers.now book.now vrps.now vrp plan.now prefix (touches touched.new prefix)) }
     ensures more { (p : PrefixValue) (a : ℕ) → touches touched.old p a ≡ true → touches touched.new p a ≡ true }
-    ensures only { (p : PrefixValue) (a : ℕ) → touches touched.new p a ≡ true → touches touched.old p a ≡ false → (covers_it vrp.prefix p ≡ true) × ((kind_policy (policy_at book.now a)).reads_state ≡ true) }
+    ensures only { (p : PrefixValue) (a : ℕ) → touches touched.new p a ≡ true → touches touched.old p a ≡ false → (covers_it vrp.prefix p ≡ true)
+        × ((kind_policy (policy_at book.now a)).reads_state ≡ true) }
 {
     if !covers(vrp.prefix(), prefix) {
         return Ok(());
@@ -141,8 +145,10 @@ pub fn touched_readers(
     vrp: Vrp,
     plan: &SeedPlan,
 ) -> Result<Touched, NoMemory>
-    ensures these { IfOk result (λ t. (prefix : PrefixValue) → IsTrue (has_prefix plan.now prefix) → AreReadersTouched readers.now book.now vrps.now vrp plan.now prefix (touches t prefix)) }
-    ensures only { IfOk result (λ t. (prefix : PrefixValue) (a : ℕ) → touches t prefix a ≡ true → (covers_it vrp.prefix prefix ≡ true) × ((kind_policy (policy_at book.now a)).reads_state ≡ true)) }
+    ensures these { IfOk result (λ t. (prefix : PrefixValue) → IsTrue (has_prefix plan.now prefix) →
+        AreReadersTouched readers.now book.now vrps.now vrp plan.now prefix (touches t prefix)) }
+    ensures only { IfOk result (λ t. (prefix : PrefixValue) (a : ℕ) → touches t prefix a ≡ true → (covers_it vrp.prefix prefix ≡ true)
+        × ((kind_policy (policy_at book.now a)).reads_state ≡ true)) }
 {
     let _first = plan.prefix_at(0);
     let mut touched = Touched::new(alloc);

@@ -1,4 +1,4 @@
-use Rattle.std.proofs.Common.{◌∙◌, nat_lt, if◌then◌else◌, None, sym, ap}
+use Rattle.std.proofs.Common.{◌∙◌, min, max, None, sym, ap}
 use Rattle.as_graph.specs.Topology.{Topology, relation}
 use Rattle.leak_round.specs.Touched.{touches}
 use Rattle.scenario_text.specs.declared.acts.Edit.TheVariants.{Unlink}
@@ -37,7 +37,7 @@ returns-in-Ok-change_at-clause-edited g c =
     let world = links_world old mid c.args.a c.args.b _ h in
     let none = cut_no_cycle c.links_are_sound.ensures c.links_are_set.ensures c.links_are_taken.ensures old mid c.args.a c.args.b h c.requires.no_cycle in
     changed_done old mid c.change_at.new.self e c.in-Ok-change_at.changed.routes world h.rest
-    (allowed_by (world_seen old) (world_seen mid) e world (absent_cut (relation old.graph c.args.a c.args.b) (if nat_lt c.args.a c.args.b then AbsentLink c.args.a c.args.b else AbsentLink c.args.b c.args.a) c.in-Ok-cut_link.ensures.there) (small_world mid c.is_small-2.ensures) none)
+    (allowed_by (world_seen old) (world_seen mid) e world (absent_cut (relation old.graph c.args.a c.args.b) (AbsentLink (min c.args.a c.args.b) (max c.args.a c.args.b)) c.in-Ok-cut_link.ensures.there) (small_world mid c.is_small-2.ensures) none)
     c.in-Ok-change_at.ensures.changed
 
 pub set_back-requires-clause-apart : goal.set_back-requires-clause-apart
