@@ -20,7 +20,7 @@ use Rattle.route_choice.specs.declared.round_tables.RoundTables.{RoundTables}
 use Rattle.leak_round.specs.declared.rounds.Rounds.{Rounds}
 use Rattle.leak_round.specs.Rounds.{kept as kept_rounds, plan_of, pool_of, round_count}
 use Rattle.sim_core.specs.World.{World, graph_of, named, has_round}
-use Rattle.sim_core.specs.Answers.{needs}
+use Rattle.sim_core.specs.Answers.{in_round, needs}
 use Rattle.sim_core.specs.Families.{Family}
 use Rattle.sim_core.specs.declared.errors.QueryError.{QueryError}
 use Rattle.sim_core.specs.declared.errors.QueryError.TheVariants as refused
@@ -59,8 +59,8 @@ pub record AreTablesOf (w : World) (rounds : Rounds) (round : ℕ) (tables : Rou
 
 -- why there is no such table: the round or the prefix is not there
 abbrev pub no_table : World → ℕ → PrefixValue → Option QueryError
-no_table w round prefix = needs (has_round w round) (refused.UnknownRound round) (needs (has_prefix w.plan prefix) (refused.UnknownPrefix prefix) None)
+no_table w round prefix = in_round w round (needs (has_prefix w.plan prefix) (refused.UnknownPrefix prefix) None)
 
 -- why there are no such tables: the round is not there
 abbrev pub no_round : World → ℕ → Option QueryError
-no_round w round = needs (has_round w round) (refused.UnknownRound round) None
+no_round w round = in_round w round None

@@ -26,7 +26,7 @@ use Rattle.sim_core.specs.declared.errors.QueryError.TheVariants as refused
 use Rattle.sim_core.specs.declared.watching.RoundWatches.{RoundWatches}
 use Rattle.sim_core.specs.World.{World, has_round, kind_at, topology}
 use Rattle.sim_core.specs.Families.{Family}
-use Rattle.sim_core.specs.Answers.{needs}
+use Rattle.sim_core.specs.Answers.{in_round, needs}
 use Rattle.sim_core.specs.Kept.{Kept}
 
 -- where an AS does not announce a prefix of the plan, the second AS of its entry's path is an AS of the graph
@@ -114,4 +114,4 @@ pub record IsWatchOf (w : World) (k : Kept) (round : ℕ) (addr : AddrValue) (wa
 
 -- why there is no such watch: the round is not there, or the address is not watched
 abbrev pub no_watch : World → ℕ → AddrValue → Option QueryError
-no_watch w round addr = needs (has_round w round) (refused.UnknownRound round) (needs (set.contains w.watched addr) (refused.NotWatched addr) None)
+no_watch w round addr = in_round w round (needs (set.contains w.watched addr) (refused.NotWatched addr) None)
