@@ -16,15 +16,11 @@ group_name g = elim g [ Total ↦ codes "total" | Stub ↦ codes "stub" | Of kin
 abbrev pub count_row : Group → List ℕ → ℕ → List ℕ
 count_row g what n = row (group_name g ∷ what ∷ decimal n ∷ [])
 
--- the row of an AS at which packets of a group are delivered; there is none where none are (own format)
-unfoldable pub delivered_text : (Group → End → ℕ) → Group → ℕ → List ℕ
-delivered_text count g a = if count g (At a) == 0 then [] else count_row g (codes "to " ++ decimal a) (count g (At a))
-
--- the rows of a group: how many ASes it has, from how many of them packets are delivered at each announcing AS, from how many there is no route, and from how many packets run in a loop (own format)
+-- the rows of a group: how many ASes it has, from how many of them packets are delivered at each announcing AS, where any are, from how many there is no route, and from how many packets run in a loop (own format)
 unfoldable pub group_text : (Group → ℕ) → (Group → End → ℕ) → List ℕ → Group → List ℕ
-group_text size count announcers g =
-    count_row g (codes "ases") (size g) ++ (flat_map (delivered_text count g) announcers ++
-    (count_row g (codes "no-route") (count g NoRoute) ++ count_row g (codes "loop") (count g Loop)))
+group_text size count ases g = let line = count_row g in line (codes "ases") (size g) ++ flat_map (
+    λ a. if count g (At a) == 0 then [] else line (codes "to " ++ decimal a) (count g (At a))) ases
+    ++ line (codes "no-route") (count g NoRoute) ++ line (codes "loop") (count g Loop)
 
 -- the counts group by group: of all ASes, of those without customers, and of those of each kind that some AS has, where the groups are so large, and the traces of so many ASes of a group have such an end (own format)
 unfoldable pub report_text : (Group → ℕ) → (Group → End → ℕ) → List ℕ → List ℕ

@@ -4,8 +4,8 @@ ghost use Rattle.std.specs.List.{flat_map};
 ghost use Rattle.stability_laws.specs.Plans.{announcers_of};
 ghost use Rattle.data_trace.specs.Views.{rows_of};
 ghost use Rattle.reports.specs.Growth.{Grows};
-ghost use Rattle.reports.specs.Counts.{count_row, delivered_text, group_text, report_text};
-ghost use Rattle.reports.specs.Groups.{group_count, group_size, printed_text};
+ghost use Rattle.reports.specs.Counts.{count_row, group_text, report_text};
+ghost use Rattle.reports.specs.Groups.{delivered_text, group_count, group_size, printed_text};
 
 use crate::bytes::{put_bytes, put_number};
 use crate::group::Group;
@@ -62,7 +62,6 @@ fn append_some(out: &mut Vec<u8>, group: Group, asn: Asn, count: u64) -> Result<
 }
 
 // Appends the row of an AS at which packets of a group are delivered, if some are, by a watch.
-#[tactic(auto, unfolding(crate::specs::Counts::delivered_text))]
 fn append_delivered(
     out: &mut Vec<u8>,
     watch: &Watch,

@@ -1,8 +1,7 @@
 use Rattle.std.proofs.Common.{◌≡◌, ◌++◌, take}
 use Rattle.std.specs.List.{flat_map}
 use Rattle.data_trace.specs.Views.{rows_of}
-use Rattle.reports.specs.Counts.{delivered_text}
-use Rattle.reports.specs.Groups.{group_count}
+use Rattle.reports.specs.Groups.{delivered_text, group_count}
 use Rattle.reports.proofs.report.append_all_delivered.Given as goal
 
 abbrev pub invariant-loop-asn : goal.invariant-loop-asn
