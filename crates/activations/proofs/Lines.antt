@@ -7,7 +7,8 @@ use Rattle.scenario_text.specs.Forms.{for_of}
 use Rattle.activations.specs.declared.acts.Acts.{Acts}
 use Rattle.activations.specs.declared.reading.ActsError.{ActsError}
 use Rattle.activations.specs.declared.reading.ActsError.TheVariants.{Memory, Unreadable, Twice, TooMany, NoFor}
-use Rattle.activations.specs.Files.{Fails, Gives, acts_by, no_acts, with_line}
+use Rattle.activations.specs.Files.{Fails, Gives, acts_by, with_line}
+use Rattle.activations.proofs.Sound.{no_acts}
 
 -- the fault of a line is that of the file
 pub fails_at : (e : ActsError) (acts : Acts) (line : ℕ × List ℕ) (lines more : List (ℕ × List ℕ)) (whole : Result Acts ActsError) → lines ≡ line ∷ more → Fails e (with_line acts line) → said_on with_line acts lines ≡ whole → Fails e whole

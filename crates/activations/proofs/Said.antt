@@ -1,6 +1,6 @@
 -- What lines say one after the other is what they say all at once.
 use Rattle.std.proofs.Common.{◌≡◌, ◌⊎◌, inl, inr, ℕ, ◌+◌, ◌<◌, ◌≤◌, Bool, true, false, ◌==◌, ◌||◌, nat_lt, List, [], ◌∷◌, ◌++◌, length, map as each, Option, Some, None, is_some, Result, Ok, Err, refl, sym, ap, subst, ◌∙◌, append_assoc, append-nil, arith}
-use Rattle.std.specs.Prelude.{not, bytes_eq, codes, if◌then◌else◌, nat_le, ok_or, option_and_then, option_map, unwrap_or}
+use Rattle.std.specs.Prelude.{not, bytes_eq, codes, if◌then◌else◌, ok_or, option_and_then, option_map, unwrap_or}
 use Rattle.std.specs.List.{flat_map, join_with_byte, list_any}
 use Rattle.std.specs.Option.{option_or}
 use Rattle.std.specs.Ordering.{nat_cmp, eq_by_cmp}
@@ -28,8 +28,9 @@ use Rattle.activations.specs.declared.acts.Acts.{Acts}
 use Rattle.activations.specs.declared.reading.ActsError.{ActsError}
 use Rattle.activations.specs.declared.reading.ActsError.TheVariants.{Unreadable, Twice, TooMany}
 use Rattle.activations.specs.declared.reading.TheConstants.{MOST_ACTIVATIONS}
-use Rattle.activations.specs.Files.{act_of, acts_by, hold_of, numbers_in, no_acts, with_acts, with_hold, with_line}
+use Rattle.activations.specs.Files.{act_of, acts_by, hold_of, numbers_in, with_acts, with_hold, with_line}
 use Rattle.activations.specs.Laws.{AreSaid, IsFile, said_by}
+use Rattle.activations.proofs.Sound.{no_acts}
 
 abbrev Says : Type 0
 Says = Option ((ℕ × Entry) ⊎ List ℕ)
@@ -103,9 +104,9 @@ hold_ok true c x t n h = absurd cc
 hold_ok false true x t n h = absurd cc
 hold_ok false false x t n h = (refl, refl, cc)
 
-acts_ok : (b : Bool) (x t : Acts) (n : ℕ) → (if b then Ok x else Err (TooMany n)) ≡ Ok t → (b ≡ true) × (x ≡ t)
-acts_ok true x t n h = (refl, cc)
-acts_ok false x t n h = absurd cc
+acts_ok : (b : Bool) (x t : Acts) (n : ℕ) → (if b then Err (TooMany n) else Ok x) ≡ Ok t → (b ≡ false) × (x ≡ t)
+acts_ok true x t n h = absurd cc
+acts_ok false x t n h = (refl, cc)
 
 none_is : {X : Type 0} (o : Option X) → is_some o ≡ false → o ≡ None
 none_is None h = refl
@@ -185,7 +186,7 @@ module _ (n : ℕ) (names : ℕ × PrefixValue) (lines : List (ℕ × List ℕ))
         named = o.named;
       }
 
-  one_run : (ases : List ℕ) → said_by l.1 ≡ Some (inr ases) → nat_le (length s.list + length ases) MOST_ACTIVATIONS ≡ true
+  one_run : (ases : List ℕ) → said_by l.1 ≡ Some (inr ases) → nat_lt MOST_ACTIVATIONS (length s.list + length ases) ≡ false
       → Open n names (lines ++ l ∷ []) (record s { list = s.list ++ ases; named = s.named ++ each (λ a. (l.0, a)) ases })
   one_run ases is few =
       let r : ℕ × List ℕ = (l.0, ases) in
@@ -250,7 +251,7 @@ not_found done a apart =
 taken : (b c : Bool) (u : Acts) (n : ℕ) → b ≡ false → c ≡ false → (if b then Err (Unreadable n) else (if c then Err (Twice n) else Ok u)) ≡ Ok u
 taken b c u n no_list no_hold = rw (no_list, no_hold) refl
 
-run_taken : (b : Bool) (u : Acts) (n : ℕ) → b ≡ true → (if b then Ok u else Err (TooMany n)) ≡ Ok u
+run_taken : (b : Bool) (u : Acts) (n : ℕ) → b ≡ false → (if b then Err (TooMany n) else Ok u) ≡ Ok u
 run_taken b u n few = rw few refl
 
 runs_made : (runs : List (ℕ × List ℕ)) (ls : List (ℕ × List ℕ)) (s : Acts) → each of_line ls ≡ each of_run runs → length s.list + length (flat_map (λ r. r.1) runs) ≤ MOST_ACTIVATIONS
@@ -264,7 +265,7 @@ runs_made (r ∷ rs) (l ∷ ls) s e few =
     let tail : each of_line ls ≡ each of_run rs = cc in
     let u = record s { list = s.list ++ r.1; named = s.named ++ run_named r } in
     let parts : length (r.1 ++ flat_map (λ r. r.1) rs) ≡ length r.1 + length (flat_map (λ r. r.1) rs) = length-append r.1 (flat_map (λ r. r.1) rs) in
-    let fits : nat_le (length s.list + length r.1) MOST_ACTIVATIONS ≡ true = grind (arith, nat_tests) in
+    let fits : nat_lt MOST_ACTIVATIONS (length s.list + length r.1) ≡ false = grind (arith, nat_tests) in
     let here : with_line s l ≡ Ok u = with_line-step s l ∙ (λ i. step s (head i).0 (head i).1) ∙ run_taken _ u r.0 fits in
     ap (λ (x : Result Acts ActsError). x >>= λ t. said_on with_line t ls) here
     ∙ runs_made rs ls u tail (omega (arith, length-append s.list r.1))

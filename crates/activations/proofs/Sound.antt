@@ -15,7 +15,6 @@ use Rattle.stability_laws.specs.declared.entry.Entry.{Entry}
 use Rattle.stability_laws.specs.Runs.{HasOnly}
 use Rattle.stability_laws.proofs.Pieces.{occurs_left, occurs_right}
 use Rattle.activations.specs.declared.acts.Acts.{Acts}
-use Rattle.activations.specs.Files.{no_acts}
 use Rattle.activations.specs.Named.{AreSound, asns_of, first_foreign_in}
 
 none_some : (e : Entry) (Q : Type 0) → None ≡ Some e → Q
@@ -26,7 +25,11 @@ asns_more [] line [] = refl
 asns_more [] line (a ∷ ases) = ap (λ t. a ∷ t) (asns_more [] line ases)
 asns_more (x ∷ named) line ases = ap (λ t. x.1 ∷ t) (asns_more named line ases)
 
--- the first line alone says nothing of an AS
+-- what a line `for R P` says alone
+abbrev pub no_acts : ℕ → ℕ × PrefixValue → Acts
+no_acts line x = record { for_line = line; round = x.0; prefix = x.1; held = map.empty; list = []; named = [] }
+
+-- it says nothing of an AS
 pub sound_none : (acts : Acts) (line : ℕ) (names : ℕ × PrefixValue) → acts ≡ no_acts line names → AreSound acts
 sound_none acts line names is = record {
   own = λ a e h. none_some e (StartsWith a e.path × (length e.path < 16777216)) (none a ∙ h);

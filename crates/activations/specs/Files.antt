@@ -1,10 +1,9 @@
 -- A file of activations: its round and prefix, what ASes hold, and which ASes are activated, or the first fault (own format).
-use Rattle.std.specs.Prelude.{◌≡◌, ℕ, ◌+◌, ◌==◌ as nat_eq, not, List, [], ◌∷◌, ◌++◌, map as each, length, nat_le, nat_lt, bytes_eq, codes, Option, None, Some, option_map, option_and_then, ok_or, unwrap_or, Result, Ok, Err, if◌then◌else◌}
+use Rattle.std.specs.Prelude.{◌≡◌, ℕ, ◌+◌, ◌==◌ as nat_eq, not, List, [], ◌∷◌, ◌++◌, map as each, length, nat_lt, bytes_eq, codes, Option, None, Some, option_map, option_and_then, ok_or, unwrap_or, Result, Ok, Err, if◌then◌else◌}
 use Rattle.std.specs.List.{join_with_byte, starts_with}
 use Rattle.std.specs.Option.{is_some, option_or}
 use Rattle.std.specs.FinMap as map
-use Rattle.net_names.specs.Lines.{kept_from, said_on}
-use Rattle.net_names.specs.Prefixes.{PrefixValue}
+use Rattle.net_names.specs.Lines.{said_on}
 use Rattle.net_names.specs.Steps.{option_filter}
 use Rattle.net_names.specs.Texts.{asn_of, class_named, fields}
 use Rattle.net_names.specs.Trials.{◌>>=◌}
@@ -33,31 +32,24 @@ act_of t = option_map (λ x. x.0) (option_filter (λ x. not (is_some x.1)) (numb
 
 -- with what A holds: before all activations, and of each AS once (own format)
 abbrev pub with_hold : Acts → ℕ → ℕ × Entry → Result Acts ActsError
-with_hold all n h = if nat_lt 0 (length all.list) then Err (Unreadable n)
-    else (if is_some (map.get all.held h.0) then Err (Twice n)
-    else Ok (record all { held = map.insert all.held h.0 h.1; named = all.named ++ (n, h.0) ∷ [] }))
+with_hold s n h = if nat_lt 0 (length s.list) then Err (Unreadable n)
+    else (if is_some (map.get s.held h.0) then Err (Twice n)
+    else Ok (record s { held = map.insert s.held h.0 h.1; named = s.named ++ (n, h.0) ∷ [] }))
 
 -- with ASes that are activated: at most 1,000,000 in all (own format)
 abbrev pub with_acts : Acts → ℕ → List ℕ → Result Acts ActsError
-with_acts acts line ases = if nat_le (length acts.list + length ases) MOST_ACTIVATIONS
-    then Ok (record acts { list = acts.list ++ ases; named = acts.named ++ each (λ a. (line, a)) ases }) else Err (TooMany line)
+with_acts s n ases = if nat_lt MOST_ACTIVATIONS (length s.list + length ases) then Err (TooMany n)
+    else Ok (record s { list = s.list ++ ases; named = s.named ++ each (λ a. (n, a)) ases })
 
 -- with a line, `hold A CLASS N N ..` or `act A A ..`, behind what was said before (own format)
 abbrev pub with_line : Acts → ℕ × List ℕ → Result Acts ActsError
-with_line acts l = unwrap_or (option_or (form "hold " hold_of (with_hold acts l.0) l.1) (form "act " act_of (with_acts acts l.0) l.1)) (Err (Unreadable l.0))
-
--- what a line `for R P` says alone
-abbrev pub no_acts : ℕ → ℕ × PrefixValue → Acts
-no_acts line x = record { for_line = line; round = x.0; prefix = x.1; held = map.empty; list = []; named = [] }
+with_line s l = unwrap_or (option_or (form "hold " hold_of (with_hold s l.0) l.1)
+    (form "act " act_of (with_acts s l.0) l.1)) (Err (Unreadable l.0))
 
 -- what the lines say, of which the first is `for R P` (own format)
 unfoldable pub acts_by : List (ℕ × List ℕ) → Result Acts ActsError
 acts_by [] = Err NoFor
-acts_by (l ∷ ls) = ok_or (for_of l.1) (Unreadable l.0) >>= λ x. said_on with_line (no_acts l.0 x) ls
-
--- what a file says
-abbrev pub acts_of : List ℕ → Result Acts ActsError
-acts_of bytes = acts_by (kept_from 1 bytes)
+acts_by (l ∷ ls) = ok_or (for_of l.1) (Unreadable l.0) >>= λ x. said_on with_line (record { for_line = l.0; round = x.0; prefix = x.1; held = map.empty; list = []; named = [] }) ls
 
 -- a reading fails in this way; want of memory says nothing of it
 abbrev pub Fails : {X : Type 0} → ActsError → Result X ActsError → Type 0

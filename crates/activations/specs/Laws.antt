@@ -10,7 +10,7 @@ use Rattle.scenario_text.specs.Forms.{for_of, form}
 use Rattle.stability_laws.specs.declared.entry.Entry.{Entry}
 use Rattle.activations.specs.declared.acts.Acts.{Acts}
 use Rattle.activations.specs.declared.reading.TheConstants.{MOST_ACTIVATIONS}
-use Rattle.activations.specs.Files.{act_of, acts_of, hold_of}
+use Rattle.activations.specs.Files.{act_of, acts_by, hold_of}
 
 -- what a line says behind the first: what an AS holds, or which ASes are activated (own format)
 abbrev pub said_by : List ℕ → Option ((ℕ × Entry) ⊎ List ℕ)
@@ -37,4 +37,4 @@ pub record IsFile (lines : List (ℕ × List ℕ)) (acts : Acts) : Type 0 where
 
 -- a file is accepted, and says this, exactly where its lines that aren't skipped do (own format)
 abbrev pub ActsAreThoseSaid : Type 0
-ActsAreThoseSaid = (bytes : List ℕ) (acts : Acts) → (acts_of bytes ≡ Ok acts) ↔ IsFile (kept_from 1 bytes) acts
+ActsAreThoseSaid = (bytes : List ℕ) (acts : Acts) → (acts_by (kept_from 1 bytes) ≡ Ok acts) ↔ IsFile (kept_from 1 bytes) acts

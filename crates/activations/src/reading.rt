@@ -1,8 +1,9 @@
 //! Reading a file of activations.
 ghost use Rattle.std.specs.Prelude.{◌≡◌, ◌==◌ as nat_eq, ◌+◌, ◌^◌, ◌<◌, ◌≤◌, [], ◌∷◌, IfOk, true, length};
 ghost use Rattle.std.specs.List.{starts_with};
+ghost use Rattle.std.specs.FinMap as map;
 ghost use Rattle.net_names.specs.Lines.{kept_from, said_on};
-ghost use Rattle.activations.specs.Files.{Gives, acts_of, no_acts, with_acts, with_hold, with_line};
+ghost use Rattle.activations.specs.Files.{Gives, acts_by, with_acts, with_hold, with_line};
 ghost use Rattle.activations.specs.Named.{AreSound};
 
 use crate::acts::{Acts, NamedAses};
@@ -128,7 +129,7 @@ fn put_lines(alloc: Global, acts: Acts, number: u32, bytes: &[u8]) -> Result<Act
 
 // What a line of this number says alone that names these.
 fn begun(alloc: Global, number: u32, names: (u32, Prefix)) -> Acts
-    ensures { result ≡ no_acts number names }
+    ensures { result ≡ record { for_line = number; round = names.0; prefix = names.1; held = map.empty; list = []; named = [] } }
 {
     let (round, prefix) = names;
     Acts {
@@ -153,7 +154,7 @@ fn begun(alloc: Global, number: u32, names: (u32, Prefix)) -> Acts
 /// where there is not enough memory.
 pub fn read_acts(alloc: Global, bytes: &[u8]) -> Result<Acts, ActsError>
     requires { length bytes.now ≤ 16777216 }
-    ensures gives { Gives result (acts_of bytes.now) }
+    ensures gives { Gives result (acts_by (kept_from 1 bytes.now)) }
     ensures sound { IfOk result AreSound }
 {
     let Some(first) = next_kept(bytes, 1) else {
