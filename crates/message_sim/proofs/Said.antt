@@ -13,7 +13,7 @@ use Rattle.message_sim.specs.StepValues.{StepValue}
 use Rattle.message_sim.specs.declared.steps.TheConstants.{MOST_DELIVERIES}
 use Rattle.message_sim.specs.declared.reading.DeliveriesError.{DeliveriesError}
 use Rattle.message_sim.specs.declared.reading.DeliveriesError.TheVariants.{Unreadable, TooMany}
-use Rattle.message_sim.specs.Files.{deliveries_by, step_of, with_line, with_step}
+use Rattle.message_sim.specs.Files.{deliveries_by, step_of, with_line}
 use Rattle.message_sim.specs.FileLaws.{IsFile}
 
 -- the steps of the lines, behind those that stand there
@@ -42,7 +42,7 @@ all_said (l ∷ ls) d end few is = by (λ s fits h. all_said ls (record d { step
         record { more = s ∷ later.more; steps = λ i. e i ∷ later.steps i; whole = later.whole ∙ (λ i. record d { steps = append_assoc d.steps (s ∷ []) later.more i }); few = later.few }
 
     by : ((s : StepValue) → length (turns_of (d.steps ++ s ∷ [])) ≤ MOST_DELIVERIES → said_on with_line (record d { steps = d.steps ++ s ∷ [] }) ls ≡ Ok end → Says ls (record d { steps = d.steps ++ s ∷ [] }) end)
-        → (o : Option StepValue) → step_of l ≡ o → ((ok_or o (Unreadable l.0) >>= with_step d) >>= λ t. said_on with_line t ls) ≡ Ok end → Says (l ∷ ls) d end
+        → (o : Option StepValue) → step_of l ≡ o → ((ok_or o (Unreadable l.0) >>= λ s. if nat_le (length (turns_of (d.steps ++ s ∷ []))) MOST_DELIVERIES then Ok (record d { steps = d.steps ++ s ∷ [] }) else Err (TooMany s.line)) >>= λ t. said_on with_line t ls) ≡ Ok end → Says (l ∷ ls) d end
     by rest None e h = absurd cc
     by rest (Some s) e h = taken s (nat_le (length (turns_of (d.steps ++ s ∷ []))) MOST_DELIVERIES) e refl h rest
 

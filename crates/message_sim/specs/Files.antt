@@ -13,27 +13,18 @@ use Rattle.message_sim.specs.declared.reading.DeliveriesError.TheVariants.{Memor
 use Rattle.message_sim.specs.declared.steps.TheConstants.{MOST_DELIVERIES}
 use Rattle.message_sim.specs.Turns.{turns_of}
 
--- N A: the link from AS N to another AS A (own format)
-unfoldable pub link_of : List ℕ → Option (ℕ × ℕ)
-link_of t = option_filter (λ x. not (x.0 == x.1)) (pair 32 asn_of asn_of t)
-
--- K is 1 to 7 digits with a value from 1 to 1,000,000 (own format)
-unfoldable pub most_of : List ℕ → Option ℕ
-most_of t = option_filter (λ k. nat_lt 0 k && nat_le k MOST_DELIVERIES) (numeral 10 7 t)
-
--- `deliver N A` asks for one turn of the link from N to A, and `rest K` for K turns, each of the lowest link with a message (own format)
+-- `deliver N A` asks for one turn of the link from AS N to another AS A, and `rest K` for K turns, each of the lowest link with a message; K is 1 to 7 digits with a value from 1 to 1,000,000 (own format)
 abbrev pub step_of : ℕ × List ℕ → Option StepValue
-step_of l = option_or (form "deliver " link_of (λ x. record { line = l.0; link = Some x; most = 1 }) l.1)
-    (form "rest " most_of (λ k. record { line = l.0; link = None; most = k }) l.1)
+step_of l = option_or (form "deliver " (λ t. option_filter (λ x. not (x.0 == x.1))
+    (pair 32 asn_of asn_of t)) (λ x. record { line = l.0; link = Some x; most = 1 }) l.1)
+    (form "rest " (λ t. option_filter (λ k. nat_lt 0 k && nat_le k MOST_DELIVERIES)
+    (numeral 10 7 t)) (λ k. record { line = l.0; link = None; most = k }) l.1)
 
--- with a step more: at most 1,000,000 turns in all (own format)
-abbrev pub with_step : Deliveries → StepValue → Result Deliveries DeliveriesError
-with_step d s = if nat_le (length (turns_of (d.steps ++ s ∷ []))) MOST_DELIVERIES
-    then Ok (record d { steps = d.steps ++ s ∷ [] }) else Err (TooMany s.line)
-
--- with the step of a line, behind what was said before (own format)
+-- with the step of a line, behind what was said before: at most 1,000,000 turns in all (own format)
 abbrev pub with_line : Deliveries → ℕ × List ℕ → Result Deliveries DeliveriesError
-with_line d l = ok_or (step_of l) (Unreadable l.0) >>= with_step d
+with_line d l = ok_or (step_of l) (Unreadable l.0) >>= λ s.
+    if nat_le (length (turns_of (d.steps ++ s ∷ []))) MOST_DELIVERIES
+    then Ok (record d { steps = d.steps ++ s ∷ [] }) else Err (TooMany s.line)
 
 -- what the lines say, of which the first is `for R P` (own format)
 unfoldable pub deliveries_by : List (ℕ × List ℕ) → Result Deliveries DeliveriesError

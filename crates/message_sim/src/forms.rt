@@ -1,15 +1,17 @@
 //! The forms of a line of a file of deliveries.
-ghost use Rattle.std.specs.Prelude.{◌≡◌};
-ghost use Rattle.scenario_text.specs.Forms.{form};
-ghost use Rattle.message_sim.specs.Files.{link_of, most_of, step_of};
+ghost use Rattle.std.specs.Prelude.{◌≡◌, ◌==◌, ◌&&◌, nat_le, nat_lt, not};
+ghost use Rattle.net_names.specs.Steps.{option_filter};
+ghost use Rattle.net_names.specs.Texts.{asn_of, numeral};
+ghost use Rattle.scenario_text.specs.Forms.{form, pair};
+ghost use Rattle.message_sim.specs.Files.{step_of};
 
 use crate::steps::{MOST_DELIVERIES, Step};
 use net_names::{Asn, cut, number, read_asn, strip};
 
 // The link that the line names; `None` exactly where the line has not the form.
-#[tactic(auto, unfolding(crate::specs::Files::link_of, scenario_text::specs::Forms::pair))]
+#[tactic(auto, unfolding(scenario_text::specs::Forms::pair))]
 fn link(line: &[u8]) -> Option<(Asn, Asn)>
-    ensures { result ≡ form "deliver " link_of (λ x. x) line.now }
+    ensures { result ≡ form "deliver " (λ t. option_filter (λ x. not (x.0 == x.1)) (pair 32 asn_of asn_of t)) (λ x. x) line.now }
 {
     let rest = strip(line, b"deliver ")?;
     let (first, second) = cut(rest, b' ')?;
@@ -22,9 +24,8 @@ fn link(line: &[u8]) -> Option<(Asn, Asn)>
 }
 
 // How many deliveries the line asks for; `None` exactly where the line has not the form.
-#[tactic(auto, unfolding(crate::specs::Files::most_of))]
 fn most(line: &[u8]) -> Option<u32>
-    ensures { result ≡ form "rest " most_of (λ x. x) line.now }
+    ensures { result ≡ form "rest " (λ t. option_filter (λ k. nat_lt 0 k && nat_le k MOST_DELIVERIES) (numeral 10 7 t)) (λ x. x) line.now }
 {
     let text = strip(line, b"rest ")?;
     let most = number(text, 10, 7)?;

@@ -1,10 +1,10 @@
 //! Reading a file of deliveries.
 ghost use Rattle.std.specs.Prelude.{◌≡◌, ◌+◌, ◌≤◌, [], length};
 ghost use Rattle.net_names.specs.Lines.{kept_from, said_on};
-ghost use Rattle.message_sim.specs.Files.{Gives, deliveries_by, with_line, with_step};
+ghost use Rattle.message_sim.specs.Files.{Gives, deliveries_by, with_line};
 
 use crate::forms::step;
-use crate::steps::{Deliveries, MOST_DELIVERIES, Step, Steps};
+use crate::steps::{Deliveries, MOST_DELIVERIES, Steps};
 use net_names::{Prefix, next_kept};
 use scenario_text::read_for;
 use std::alloc::Global;
@@ -30,26 +30,23 @@ pub enum DeliveriesError {
     NoFor,
 }
 
-// Puts in a step.
-fn put_step(mut deliveries: Deliveries, step: Step) -> Result<Deliveries, DeliveriesError>
-    ensures { Gives result (with_step deliveries step) }
+// Puts in what the line of this number asks for.
+fn put_line(
+    mut deliveries: Deliveries,
+    number: u32,
+    line: &[u8],
+) -> Result<Deliveries, DeliveriesError>
+    ensures { Gives result (with_line deliveries (number, line.now)) }
 {
+    let Some(step) = step(number, line) else {
+        return Err(DeliveriesError::Unreadable { line: number });
+    };
     if step.most > MOST_DELIVERIES - deliveries.steps.asked() {
         return Err(DeliveriesError::TooMany { line: step.line });
     }
     match deliveries.steps.push(step) {
         Ok(()) => Ok(deliveries),
         Err(_) => Err(DeliveriesError::Memory),
-    }
-}
-
-// Puts in what the line of this number asks for.
-fn put_line(deliveries: Deliveries, number: u32, line: &[u8]) -> Result<Deliveries, DeliveriesError>
-    ensures { Gives result (with_line deliveries (number, line.now)) }
-{
-    match step(number, line) {
-        Some(step) => put_step(deliveries, step),
-        None => Err(DeliveriesError::Unreadable { line: number }),
     }
 }
 
