@@ -25,7 +25,7 @@ abbrev pub group_count : List Row → Group → End → ℕ
 group_count rows g e = count_of rows (which_of g) e
 
 -- the row of an AS at which packets of a group are delivered; there is none where none are (own format)
-abbrev pub delivered_text : (Group → End → ℕ) → Group → ℕ → List ℕ
+unfoldable pub delivered_text : (Group → End → ℕ) → Group → ℕ → List ℕ
 delivered_text count g a = if count g (At a) == 0 then [] else count_row g (codes "to " ++ decimal a) (count g (At a))
 
 -- a kind that no AS has is not printed (own format)

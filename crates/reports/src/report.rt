@@ -62,6 +62,7 @@ fn append_some(out: &mut Vec<u8>, group: Group, asn: Asn, count: u64) -> Result<
 }
 
 // Appends the row of an AS at which packets of a group are delivered, if some are, by a watch.
+#[tactic(auto, unfolding(crate::specs::Groups::delivered_text))]
 fn append_delivered(
     out: &mut Vec<u8>,
     watch: &Watch,
@@ -116,7 +117,7 @@ fn append_end(
 }
 
 // Appends the rows of a group.
-#[tactic(auto, unfolding(crate::specs::Counts::group_text))]
+#[tactic(auto, unfolding(crate::specs::Counts::group_text, crate::specs::Groups::delivered_text))]
 fn append_rows(
     out: &mut Vec<u8>,
     announcers: &[Asn],
