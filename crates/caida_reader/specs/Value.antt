@@ -17,36 +17,32 @@ use Rattle.caida_reader.specs.declared.errors.RelError.TheVariants as fault
 use Rattle.caida_reader.specs.declared.errors.RelError.TheVariants.{SelfLink, Conflict, TooManyLinks}
 use Rattle.net_names.specs.declared.links.TheConstants.{MOST_LINKS}
 
--- What each line of a file says. The lines are the bytes between line feeds. What stands after the last line feed is a line too; where nothing stands there, that line is empty, and so it is skipped.
-abbrev pub said_in : List ℕ → List Said
-said_in bytes = map says (fields 10 bytes)
-
 -- The links that lines give, each under its pair, the lower AS and the higher one, with the number of its line, where the first line has this number.
 abbrev pub numbered : ℕ → List Said → List ((ℕ × ℕ) × First)
 numbered n said = flat_map (λ x. elim x.1 [ Link lo hi r ↦ ((lo, hi), record { rel = r; line = x.0 }) ∷ [] | _ ↦ [] ]) (enumerate_from n said)
 
--- The links that lines give, as a map. Where lines give a pair twice, the first of them counts.
-abbrev pub links_in : List Said → LinkMap
-links_in said = fin.from_entries (map (λ e. (e.0, e.1.rel)) (numbered 1 said))
-
--- The fault of a link in a line of this number: its pair stands with another relation (`sameb` says whether two are the same), or it is new and 1,500,000 pairs stand.
+-- The fault of a link in a line of this number, where so many pairs stand: its pair stands with another relation (`sameb` says whether two are the same), or it is new and 1,500,000 pairs stand.
 abbrev pub link_fault : ℕ → Rel → ℕ → Option First → Option RelError
 link_fault n r pairs None = if nat_lt pairs MOST_LINKS then None else Some (TooManyLinks n)
 link_fault n r pairs (Some f) = if sameb the_type f.rel r then None else Some (Conflict n f.line)
 
 -- The fault of a line of this number, where the lines before it give these pairs, each with its first line.
 abbrev pub fault_at : fin.FinMap pair_cmp First → ℕ → Said → Option RelError
-fault_at before n said = elim said [
-  | Nothing ↦ None
-  | Unreadable ↦ Some (fault.Unreadable n)
-  | Itself ↦ Some (SelfLink n)
-  | Link lo hi r ↦ link_fault n r (fin.len before) (fin.get before (lo, hi))
-]
+fault_at before n said = elim said [ Nothing ↦ None | Unreadable ↦ Some (fault.Unreadable n) | Itself ↦ Some (SelfLink n) | Link lo hi r ↦ link_fault n r (fin.len before) (fin.get before (lo, hi)) ]
 
 -- The fault of a line that stands behind these lines.
 abbrev pub fault_after : List Said → Said → Option RelError
 fault_after before said = fault_at (fin.from_entries (numbered 1 before)) (length before + 1) said
 
--- The links that the lines of a file give, or the fault of its first faulty line.
+-- The links that the lines of a file give, each pair with the relation of the first line that gives it, or the fault of the first faulty line. The lines are the bytes between line feeds. What stands after the last line feed is a line too; where nothing stands there, that line is empty, and so it is skipped.
 abbrev pub links_of : List ℕ → Result LinkMap RelError
-links_of file = unless (first_fault fault_after [] (said_in file)) (Ok (links_in (said_in file)))
+links_of file = let said = map says (fields 10 file) in unless (first_fault fault_after [] said)
+    (Ok (fin.from_entries (map (λ e. (e.0, e.1.rel)) (numbered 1 said))))
+
+-- What each line of a file says.
+abbrev pub said_in : List ℕ → List Said
+said_in bytes = map says (fields 10 bytes)
+
+-- The links that lines give, as a map. Where lines give a pair twice, the first of them counts.
+abbrev pub links_in : List Said → LinkMap
+links_in said = fin.from_entries (map (λ e. (e.0, e.1.rel)) (numbered 1 said))
