@@ -73,7 +73,7 @@ len-fold [] d = omega arith
 len-fold (a ∷ xs) d = omega (arith, len-with_as d a, len-fold xs (with_as d a))
 
 pub len-drawn_links : (n : ℕ) → n ≤ 20000 → fin.len (drawn_links n) ≤ MOST_LINKS
-unfolding drawn_links
+unfolding drawn_links first_peers
 len-drawn_links n most =
     let first = len-first_peers (min n 8) (omega arith) in
     let others = len-fold (range_with_len 9 (n - 8)) (first_peers (min n 8), n) in

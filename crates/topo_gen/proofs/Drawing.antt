@@ -98,5 +98,5 @@ more_ases k start now after h e =
     ∙ sym (ap (fold with_as start) (range_with_len-push 9 k (k + 9) (omega arith)) ∙ fold-append with_as start (range_with_len 9 k) ((k + 9) ∷ []))
 
 pub all_ases : (n k : ℕ) (now : LinkMap × ℕ) → k ≡ n - 8 → now ≡ fold with_as (first_peers (min n 8), n) (range_with_len 9 k) → now.0 ≡ drawn_links n
-unfolding drawn_links
+unfolding drawn_links first_peers
 all_ases n k now k_is h = ap (λ (d : LinkMap × ℕ). d.0) h ∙ rw k_is refl

@@ -1,6 +1,6 @@
 -- The lines of a generated input (own format).
 use Rattle.std.specs.Prelude.{ℕ, ◌+◌, ◌*◌, ◌%◌, List, [], ◌∷◌, ◌++◌, slice_get}
-use Rattle.std.specs.FinMap as map
+use Rattle.std.specs.FinMap.{entries, len}
 use Rattle.std.specs.List.{flat_map, range_with_len}
 use Rattle.std.specs.Option.{option_map_or}
 use Rattle.net_names.specs.Links.{LinkMap}
@@ -15,13 +15,14 @@ use Rattle.topo_gen.specs.Scenarios.{host}
 abbrev pub report : ℕ → ℕ → ℕ → LineValue
 report number round half = record { number = number; act = Query (Report round (host half)) }
 
--- the link is cut in the line of this number and joined again in the next
-abbrev pub rejoined : ℕ → (ℕ × ℕ) × Rel → List LineValue
-rejoined n ((a, b), rel) = record { number = n; act = Edit (Unlink a b) }
-    ∷ record { number = n + 1; act = Edit (Link a b rel) } ∷ []
-
 -- reports of both rounds and addresses; from line 5 on ten links cut and joined again, those at every 37th place, round and round, in the rising order of their pairs; and the first report of round 2 once more
 unfoldable pub drawn_lines : LinkMap → List LineValue
 drawn_lines links = report 1 1 0 ∷ report 2 1 1 ∷ report 3 2 0 ∷ report 4 2 1 ∷ flat_map (λ i.
-    option_map_or (rejoined (5 + 2 * i)) (slice_get (map.entries links) (37 * i % map.len links))
-    []) (range_with_len 0 10) ++ report 25 2 0 ∷ []
+    option_map_or (λ e. record { number = 5 + 2 * i; act = Edit (Unlink e.0.0 e.0.1) } ∷
+    record { number = 5 + 2 * i + 1; act = Edit (Link e.0.0 e.0.1 e.1) } ∷ [])
+    (slice_get (entries links) (37 * i % len links)) []) (range_with_len 0 10) ++ report 25 2 0 ∷ []
+
+-- the link is cut in the line of this number and joined again in the next
+abbrev pub rejoined : ℕ → (ℕ × ℕ) × Rel → List LineValue
+rejoined n e = record { number = n; act = Edit (Unlink e.0.0 e.0.1) }
+    ∷ record { number = n + 1; act = Edit (Link e.0.0 e.0.1 e.1) } ∷ []
