@@ -1,3 +1,4 @@
+pub mod Behind
 pub mod RowMaps
 pub mod PathNumbers
 pub mod Lines

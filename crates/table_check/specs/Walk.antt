@@ -1,10 +1,11 @@
 -- A walk over the ASes and over who else holds something (private clauses cite these words).
-use Rattle.std.specs.Prelude.{◌≡◌, ℕ, ◌<◌, nat_lt, if◌then◌else◌, Bool, true, false, Option, None, Some}
+use Rattle.std.specs.Prelude.{◌≡◌, ℕ, ◌+◌, ◌<◌, length, nat_lt, if◌then◌else◌, Bool, true, false, Option, None, Some}
 use Rattle.as_graph.specs.Following.{IsAbove}
 use Rattle.stability_laws.specs.declared.entry.Entry.{Entry}
 use Rattle.stability_laws.specs.declared.entry.Seed.{Seed}
 use Rattle.stability_laws.specs.Answers.{IsRightWith}
 use Rattle.stability_laws.specs.Offers.{Setting}
+use Rattle.table_check.specs.declared.placed.Brief.{Brief}
 use Rattle.table_check.specs.declared.verdict.Fault.{Fault}
 
 -- a is right with this, or with nothing: an AS of the world with these seeds and with what the others hold, any other number with nothing (own rule)
@@ -35,6 +36,10 @@ pub record IsUnnamed (has : ℕ → Bool) (f : ℕ → Option Entry) (a : ℕ) :
 pub record IsNextNamed (has : ℕ → Bool) (f : ℕ → Option Entry) (bound : Option ℕ) (a : ℕ) : Type 0 where
   pub above : IsAbove bound a
   pub between : (k : ℕ) → IsAbove bound k → k < a → IsUnnamed has f k
+
+-- what an offer of the entry shows without a look at its path: its class, its number, and how long the path is with one AS more
+abbrev pub brief_of : Entry → Brief
+brief_of e = record { class = e.class; otc = e.otc; length = length e.path + 1 }
 
 -- the lower one of two numbers that may be missing (own rule)
 abbrev pub lower_of : Option ℕ → Option ℕ → Option ℕ

@@ -1,5 +1,5 @@
 //! The forms of a printed table's rows.
-ghost use Rattle.std.specs.Prelude.{◌≡◌, ◌+◌, ◌≤◌, length, Some, IfOk, IfSome};
+ghost use Rattle.std.specs.Prelude.{◌≡◌, ◌+◌, ◌≤◌, [], length, Some, IfOk, IfSome};
 ghost use Rattle.net_names.specs.Texts.{asn_of};
 ghost use Rattle.scenario_text.specs.Forms.{form};
 ghost use Rattle.table_check.specs.Forms.{numbers_of, row_of, way_of};
@@ -16,12 +16,28 @@ fn otc(text: &[u8]) -> Option<Asn>
     read_asn(rest)
 }
 
+// The empty path, with room for the numbers of the text.
+fn room_for(alloc: Global, text: &[u8]) -> Result<Path, NoMemory>
+    ensures { IfOk result (λ p. p ≡ []) }
+{
+    let mut count = 1usize;
+    for byte in text {
+        if *byte == b' ' {
+            count = count.wrapping_add(1);
+        }
+    }
+    match Vec::with_capacity(alloc, count) {
+        Ok(numbers) => Ok(Path::from_vec(numbers)),
+        Err(_) => Err(NoMemory),
+    }
+}
+
 // The numbers of a text with one space between.
 fn numbers(alloc: Global, text: &[u8]) -> Result<Option<Path>, NoMemory>
     ensures value { IfOk result (λ p. p ≡ numbers_of text.now) }
     ensures few { IfOk result (λ p. IfSome p (λ ns. length ns ≤ length text.now + 1)) }
 {
-    let mut path = Path::new(alloc);
+    let mut path = room_for(alloc, text)?;
     let mut rest = text;
     while let Some((word, more)) = cut(rest, b' ') {
         let Some(asn) = read_asn(word) else {

@@ -1,20 +1,23 @@
 //! Whether a routing is right at an AS, sought by the places of the graph's rows.
-ghost use Rattle.std.specs.Prelude.{◌≡◌, IsTrue, Some, option_map};
+ghost use Rattle.std.specs.Prelude.{◌≡◌, ℕ, IsTrue, Some, option_map};
 ghost use Rattle.std.specs.FinMap as map;
+ghost use Rattle.net_names.specs.declared.routes.State.{State as AState};
 ghost use Rattle.as_graph.specs.Topology.{relation};
 ghost use Rattle.as_graph.specs.Neighbours.{AreNeighbours};
-ghost use Rattle.stability_laws.specs.BestView.{IsBestView};
+ghost use Rattle.stability_laws.specs.declared.entry.Entry.{Entry as AnEntry};
+ghost use Rattle.stability_laws.specs.BestView.{IsBestView, better_of};
 ghost use Rattle.stability_laws.specs.Book.{policy_at};
-ghost use Rattle.stability_laws.specs.Offers.{Offer, offer};
+ghost use Rattle.stability_laws.specs.Offers.{Offer, offer, offer_given};
 ghost use Rattle.stability_laws.specs.Stable.{IsRight};
 ghost use Rattle.stability_laws.specs.World.{setting_in};
+ghost use Rattle.table_check.specs.Walk.{brief_of};
 
-use crate::placed::Placed;
+use crate::placed::{Brief, Placed};
 use crate::same::holds_given;
 use as_graph::Neighbour;
-use net_names::{Asn, Prefix};
+use net_names::{Asn, Prefix, State};
 use policy_laws::{OriginStates, RoutePolicy, View};
-use stability_laws::{Entry, Seeds, World, better, offered_view};
+use stability_laws::{Entry, Seeds, World, better, number_sent, offered_view};
 
 /// A view that may be missing, and a place at which to look for the neighbour that it names.
 #[derive(Drop)]
@@ -43,29 +46,67 @@ fn place_of(view: &Option<View>, neighbour: Asn, place: usize, other: usize) -> 
     }
 }
 
-// The view of the offer that the neighbour makes, where it makes one.
-fn view_from<P: RoutePolicy, V: OriginStates>(
+// Whether an offer of an entry of the neighbour, which shows this, is surely not better than the best one so far.
+fn is_no_better<P: RoutePolicy>(
+    own: &P,
+    sender: &P,
+    neighbour: &Neighbour,
+    brief: Brief,
+    best: &Option<View>,
+) -> bool
+    ensures { IsTrue result → (state : ℕ → AState) (a : ℕ) (e : AnEntry) → brief_of e ≡ brief → best.now ≡ better_of (P.meaning own.now) best.now
+        (option_map (λ o. o.view) (offer_given (P.meaning sender.now) (P.meaning own.now) state
+        neighbour.now.asn a (Some neighbour.now.rel) (Some e))) }
+{
+    let Neighbour { asn, rel } = *neighbour;
+    let to = rel.converse();
+    if !sender.exports(brief.class, brief.otc, to) {
+        return true;
+    }
+    let Some(old) = best else {
+        return false;
+    };
+    if own.reads_state() {
+        return false;
+    }
+    let view = View {
+        rel,
+        neighbour: asn,
+        length: brief.length,
+        state: State::NotFound,
+        otc: number_sent(sender.marks(), asn, to, brief.otc),
+    };
+    !own.before(&view, old)
+}
+
+// The better one of the best view so far and that of the offer that the neighbour makes, where it makes one.
+fn better_with<P: RoutePolicy, V: OriginStates>(
     world: &World<'_, P, V>,
     prefix: Prefix,
     placed: &Placed<'_>,
     asn: Asn,
     neighbour: &Neighbour,
     place: usize,
+    best: Option<View>,
 ) -> Option<View>
     requires { relation world.now.graph.now asn neighbour.now.asn ≡ Some neighbour.now.rel }
-    ensures { result ≡ option_map (λ o. o.view) (offer (setting_in P.meaning V.state_of world.now prefix)
-        (map.get placed.now.routing.now) neighbour.now.asn asn) }
+    ensures { result ≡ better_of (P.meaning (policy_at world.now.book.now asn)) best
+        (option_map (λ o. o.view) (offer (setting_in P.meaning V.state_of world.now prefix)
+        (map.get placed.now.routing.now) neighbour.now.asn asn)) }
 {
-    let held = placed.near(neighbour.asn, place)?;
-    offered_view(
-        world.book.policy(neighbour.asn),
-        world.book.policy(asn),
-        world.states,
-        prefix,
-        neighbour,
-        asn,
-        held,
-    )
+    let Some(brief) = placed.brief_near(neighbour.asn, place) else {
+        return best;
+    };
+    let own = world.book.policy(asn);
+    let sender = world.book.policy(neighbour.asn);
+    if is_no_better(own, sender, neighbour, brief, &best) {
+        return best;
+    }
+    let Some(held) = placed.near(neighbour.asn, place) else {
+        return best;
+    };
+    let view = offered_view(sender, own, world.states, prefix, neighbour, asn, held);
+    better(own, best, view)
 }
 
 // The view of the best offer of the neighbours, where one makes an offer.
@@ -82,14 +123,12 @@ fn best_view<P: RoutePolicy, V: OriginStates>(
         (λ n. offer (setting_in P.meaning V.state_of world.now prefix) (map.get placed.now.routing.now) n asn)
         result.view }
 {
-    let own = world.book.policy(asn);
     let mut best: Option<View> = None;
     let mut at = 0usize;
     let mut index = 0usize;
     for neighbour in neighbours {
         let place = place_at(places, index);
-        let view = view_from(world, prefix, placed, asn, neighbour, place);
-        best = better(own, best, view);
+        best = better_with(world, prefix, placed, asn, neighbour, place, best);
         at = place_of(&best, neighbour.asn, place, at);
         index = index.wrapping_add(1);
     }

@@ -1,38 +1,84 @@
 //! What the ASes hold, by the places of the graph's rows.
-ghost use Rattle.std.specs.Prelude.{◌≡◌, map as each, option_copied, IfOk};
+ghost use Rattle.std.specs.Prelude.{◌≡◌, ◌<◌, ◌-◌, ◌^◌, length, map as each, option_copied, option_map, IfOk};
 ghost use Rattle.std.specs.FinMap as map;
 ghost use Rattle.stability_laws.specs.Short.{HasShortPaths};
+ghost use Rattle.table_check.specs.Walk.{brief_of};
 
-use crate::rows::copy_of;
-use net_names::{Asn, NoMemory};
+use net_names::{Asn, Class, NoMemory};
 use stability_laws::{Entry, Routing};
 use std::alloc::Global;
+
+/// What an offer of an entry shows of it without a look at its path.
+#[derive(Clone, Copy)]
+pub(crate) struct Brief {
+    pub(crate) class: Class,
+    pub(crate) otc: Option<Asn>,
+    /// How many numbers the path has with one more.
+    pub(crate) length: u32,
+}
 
 /// What the ASes hold in a section, by AS, and what those of the graph's rows hold, by place.
 #[derive(Drop)]
 pub(crate) struct Placed<'a> {
     pub(crate) routing: &'a Routing,
     rows: &'a [Asn],
-    held: &'a [Option<Entry>],
-    ghost same: { held.now ≡ each (λ a. map.get routing.now a) rows.now },
+    briefs: &'a [Option<Brief>],
+    held: &'a [Option<&'a Entry>],
+    ghost shown: { briefs.now ≡ each (λ a. option_map brief_of (map.get routing.now a)) rows.now },
+    ghost same: { each option_copied held.now ≡ each (λ a. map.get routing.now a) rows.now },
     ghost short: { HasShortPaths routing.now },
 }
 
-/// What these ASes hold, in their order.
-pub(crate) fn held_by_rows(
+// What an offer of the entry shows.
+fn brief_from(entry: &Entry) -> Brief
+    requires { length entry.now.path < 2 ^ 32 - 1 }
+    ensures { result ≡ brief_of entry.now }
+{
+    Brief {
+        class: entry.class,
+        otc: entry.otc,
+        length: entry.path.as_slice().len() as u32 + 1,
+    }
+}
+
+// What an offer of what the AS holds shows.
+fn brief_at(routing: &Routing, asn: Asn) -> Option<Brief>
+    ensures { result ≡ option_map brief_of (map.get routing.now asn) }
+{
+    match routing.get(asn) {
+        Some(entry) => Some(brief_from(entry)),
+        None => None,
+    }
+}
+
+/// What offers of what these ASes hold show, in their order.
+pub(crate) fn briefs_by_rows(
     alloc: Global,
     rows: &[Asn],
     routing: &Routing,
-) -> Result<Vec<Option<Entry>>, NoMemory>
-    ensures { IfOk result (λ held. held.items ≡ each (λ a. map.get routing.now a) rows.now) }
+) -> Result<Vec<Option<Brief>>, NoMemory>
+    ensures { IfOk result (λ briefs. briefs.items ≡ each (λ a. option_map brief_of (map.get routing.now a)) rows.now) }
+{
+    let mut briefs = Vec::new(alloc);
+    for asn in rows {
+        if briefs.push(brief_at(routing, *asn)).is_err() {
+            return Err(NoMemory);
+        }
+    }
+    Ok(briefs)
+}
+
+/// What these ASes hold, in their order.
+pub(crate) fn held_by_rows<'a>(
+    alloc: Global,
+    rows: &[Asn],
+    routing: &'a Routing,
+) -> Result<Vec<Option<&'a Entry>>, NoMemory>
+    ensures { IfOk result (λ held. each option_copied held.items ≡ each (λ a. map.get routing.now a) rows.now) }
 {
     let mut held = Vec::new(alloc);
     for asn in rows {
-        let copy = match routing.get(*asn) {
-            Some(entry) => Some(copy_of(alloc, entry)?),
-            None => None,
-        };
-        if held.push(copy).is_err() {
+        if held.push(routing.get(*asn)).is_err() {
             return Err(NoMemory);
         }
     }
@@ -44,9 +90,11 @@ impl<'a> Placed<'a> {
     pub(crate) fn new(
         routing: &'a Routing,
         rows: &'a [Asn],
-        held: &'a [Option<Entry>],
+        briefs: &'a [Option<Brief>],
+        held: &'a [Option<&'a Entry>],
     ) -> Placed<'a>
-        requires { held.now ≡ each (λ a. map.get routing.now a) rows.now }
+        requires shown { briefs.now ≡ each (λ a. option_map brief_of (map.get routing.now a)) rows.now }
+        requires same { each option_copied held.now ≡ each (λ a. map.get routing.now a) rows.now }
         ensures { result.routing.now ≡ routing.now }
     {
         let Some(asn) = Asn::new(1) else {
@@ -57,7 +105,19 @@ impl<'a> Placed<'a> {
         Placed {
             routing,
             rows,
+            briefs,
             held,
+        }
+    }
+
+    /// What an offer of what the AS holds shows, sought first at a place.
+    pub(crate) fn brief_near(&self, asn: Asn, place: usize) -> Option<Brief>
+        ensures { result ≡ option_map brief_of (map.get self.now.routing.now asn) }
+    {
+        if place < self.rows.len() && self.rows[place] == asn {
+            self.briefs[place]
+        } else {
+            brief_at(self.routing, asn)
         }
     }
 
@@ -67,7 +127,7 @@ impl<'a> Placed<'a> {
         ensures short { HasShortPaths self.now.routing.now }
     {
         if place < self.rows.len() && self.rows[place] == asn {
-            self.held[place].as_ref()
+            self.held[place]
         } else {
             self.routing.get(asn)
         }

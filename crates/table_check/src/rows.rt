@@ -29,8 +29,8 @@ impl Model for Rows {
     ghost invariant = { λ r. HasShortRows (map.from_entries r.entries.entries) };
 }
 
-/// A copy of the entry.
-pub(crate) fn copy_of(alloc: Global, entry: &Entry) -> Result<Entry, NoMemory>
+// A copy of the entry.
+fn copy_of(alloc: Global, entry: &Entry) -> Result<Entry, NoMemory>
     ensures { IfOk result (λ copy. copy ≡ entry.now) }
 {
     match Vec::from_slice(alloc, entry.path.as_slice()) {

@@ -5,8 +5,8 @@ use Rattle.table_check.proofs.forms.numbers.Goals as goal
 
 pub loop-word-init : goal.loop-word-init
 loop-word-init c = record {
-  so_far = rw c.new-path.ensures (starts c.args.text.now);
-  few = rw c.new-path.ensures (omega arith);
+  so_far = rw c.in_ok-path.ensures (starts c.args.text.now);
+  few = rw c.in_ok-path.ensures (omega arith);
 }
 
 pub returns-in_default-read_asn-clause-value : goal.returns-in_default-read_asn-clause-value

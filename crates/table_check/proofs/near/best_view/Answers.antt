@@ -1,11 +1,11 @@
-use Rattle.std.proofs.Common.{◌≡◌, ℕ, ◌+◌, ◌⊎◌, true, sym, subst, take, take_all}
+use Rattle.std.proofs.Common.{◌≡◌, ℕ, ◌+◌, ◌⊎◌, true, refl, sym, subst, take, take_all}
 use Rattle.std.specs.FinMap as map
 use Rattle.net_names.specs.Numbers.{occurs}
 use Rattle.as_graph.specs.Neighbours.{asns}
 use Rattle.as_graph.specs.Topology.{relation}
 use Rattle.stability_laws.specs.Book.{policy_at}
 use Rattle.stability_laws.specs.Offers.{offer, GivenBy}
-use Rattle.stability_laws.specs.BestView.{IsBestViewOf, better_of}
+use Rattle.stability_laws.specs.BestView.{IsBestViewOf}
 use Rattle.stability_laws.specs.World.{setting}
 use Rattle.stability_laws.proofs.Local.{given_by}
 use Rattle.stability_laws.proofs.BestViews.{among_more, one_more, best_of_all}
@@ -22,11 +22,8 @@ loop-neighbour-preserved g c =
     let step = one_more (here.policy c.args.asn) (g.met.P.RoutePolicy.ranks_offers own) offers (λ n o e. (given n o e).neighbour)
     c.neighbour-item.result.asn (asns (take i xs)) (asns (take (i + 1) xs))
     (λ m is. subst (λ t. (t.asn ≡ m) ⊎ (occurs m (asns (take i xs)) ≡ true)) (sym c.neighbour-item.is) (among_more xs i m c.neighbour-item.result c.loop-neighbour-test.true is))
-    c.loop-neighbour.best c.view_from-view.result c.view_from-view.ensures c.loop-neighbour.invariant in
-    let seen : c.better-best.result ≡ better_of (g.P.RoutePolicy.meaning c.policy-own.result.now) c.loop-neighbour.best c.view_from-view.result = c.better-best.ensures in
-    let is : c.better-best.result ≡ better_of (here.policy c.args.asn) c.loop-neighbour.best c.view_from-view.result =
-    subst (λ p. c.better-best.result ≡ better_of (g.P.RoutePolicy.meaning p) c.loop-neighbour.best c.view_from-view.result) c.policy-own.ensures seen in
-    subst (IsBestViewOf (here.policy c.args.asn) offers (asns (take (i + 1) xs))) (sym is) step
+    c.loop-neighbour.best _ refl c.loop-neighbour.invariant in
+    subst (IsBestViewOf (here.policy c.args.asn) offers (asns (take (i + 1) xs))) (sym c.better_with-best.ensures) step
 
 pub returns : goal.returns
 returns g c =
