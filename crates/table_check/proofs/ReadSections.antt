@@ -1,8 +1,7 @@
 -- Printed sections are read again.
 use Rattle.std.proofs.Common.{◌≡◌, ◌≢◌, ℕ, suc, ◌+◌, ◌^◌, ◌<◌, ◌≤◌, Bool, true, false, cond, ◌&&◌, List, [], ◌∷◌, ◌++◌, length, map as each, Option, Some, None, option_map, Result, Ok, Err, append_assoc, append-nil, length-append, lit<, true≢false, refl, ap, sym, ◌∙◌, arith, eq-eqb}
-use Rattle.std.specs.Prelude.{codes, decimal, ◌==◌, if◌then◌else◌, is_some, unwrap_or}
+use Rattle.std.specs.Prelude.{codes, decimal, ◌==◌, if◌then◌else◌, is_some, ok_or, unwrap_or}
 use Rattle.std.specs.List.{AllByRecursion, flat_map}
-use Rattle.std.specs.Option.{option_or}
 use Rattle.std.specs.Ordering.{eq_by_cmp, is_eq}
 use Rattle.std.specs.Cmp.{tied_itself}
 use Rattle.std.specs.FinMap as map
@@ -128,9 +127,9 @@ at prefix starts es = record { prefix = prefix; starts = starts; rows = map.from
 
 -- what a line makes of what is read so far, by what it is read as
 abbrev line_by : Tables → ℕ → Option (ℕ × PrefixValue) → Option (ℕ × Option Entry) → Result Tables TablesError
-line_by t number start row = unwrap_or (option_or
+line_by t number start row = unwrap_or
     (option_map (λ _. Ok (record t { starts = t.starts ++ number ∷ [] })) (start >>=ᵒ λ x. if (x.0 == length t.starts + 1) && eq_by_cmp prefix_cmp t.prefix x.1 then Some x else None))
-    (option_map (with_row t number) row)) (Err (Unreadable number))
+    (ok_or row (Unreadable number) >>= with_row t number)
 
 row_at : (prefix : PrefixValue) (starts : List ℕ) (es : List Row) (row : ℕ × Option Entry) (number : ℕ) → IsRow row → map.find pair_cmp (length starts, row.0) es ≡ None
     → with_line (at prefix starts es) (number, row_text row) ≡ Ok (at prefix starts (es ++ ((length starts, row.0), row.1) ∷ []))
@@ -179,7 +178,7 @@ module _ (prefix : PrefixValue) (is : IsPrefix prefix.family prefix.addr prefix.
       let t = at prefix starts es in
       let a : (round == length starts + 1) ≡ true = eq-eqb round (length starts + 1) e in
       let b : eq_by_cmp prefix_cmp prefix prefix ≡ true = ap is_eq (tied_itself prefix_total prefix) in
-      let F : Bool → Result Tables TablesError = λ c. unwrap_or (option_or (option_map {T = ℕ × PrefixValue} (λ _. Ok (at prefix (starts ++ number ∷ []) es)) (if c then Some (round, prefix) else None)) (option_map (with_row t number) (row_of (for_text round prefix)))) (Err (Unreadable number)) in
+      let F : Bool → Result Tables TablesError = λ c. unwrap_or (option_map {T = ℕ × PrefixValue} (λ _. Ok (at prefix (starts ++ number ∷ []) es)) (if c then Some (round, prefix) else None)) (ok_or (row_of (for_text round prefix)) (Unreadable number) >>= with_row t number) in
       ap (λ (f : Option (ℕ × PrefixValue)). line_by t number f (row_of (for_text round prefix))) (for_again round prefix small is) ∙ ap F (λ i. a i && b i)
 
   -- all entries so far are of earlier rounds

@@ -10,10 +10,10 @@ use Rattle.table_check.specs.declared.verdict.Verdict.{Verdict}
 use Rattle.table_check.specs.declared.verdict.Verdict.TheVariants.{Stable, Wrong}
 use Rattle.table_check.specs.Rows.{held_by}
 
--- in the section after `before`, a is right with this, or with nothing: an AS of the world with what the others hold there and with the seeds that follow from the section before, any other number with nothing (own rule)
+-- in the section after `last`, a is right with this, or with nothing: an AS of the world with what the others hold there and with the seeds that follow from the section before, any other number with nothing (own rule)
 abbrev pub IsRightIn : Setting → Plan → Tables → ℕ → ℕ → Option Entry → Type 0
-IsRightIn w plan t before a held = (w.has a ≡ true → IsRightWith w (seeds_of plan (suc before) t.prefix (held_by t.rows before)) (held_by t.rows (suc before)) a held)
-    × (w.has a ≡ false → held ≡ None)
+IsRightIn w plan t last a held = (w.has a ≡ true → IsRightWith w (seeds_of plan (suc last) t.prefix
+    (held_by t.rows last)) (held_by t.rows (suc last)) a held) × (w.has a ≡ false → held ≡ None)
 
 -- in the section after `before`, a is right with what it holds there (own rule)
 abbrev pub IsInOrder : Setting → Plan → Tables → ℕ → ℕ → Type 0

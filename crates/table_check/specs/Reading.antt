@@ -1,6 +1,5 @@
 -- A printed table: its rows and where its sections begin, or the fault of its first faulty line (own format).
-use Rattle.std.specs.Prelude.{◌≡◌, ℕ, ◌+◌, ◌&&◌, ◌==◌, List, [], ◌∷◌, ◌++◌, length, Option, option_map, ok_or, unwrap_or, Result, Ok, Err, if◌then◌else◌}
-use Rattle.std.specs.Option.{option_or}
+use Rattle.std.specs.Prelude.{◌≡◌, ℕ, ◌+◌, ◌&&◌, ◌==◌, List, [], ◌∷◌, ◌++◌, length, Option, option_map, ok_or, slice_get, unwrap_or, Result, Ok, Err, if◌then◌else◌}
 use Rattle.std.specs.Ordering.{eq_by_cmp}
 use Rattle.std.specs.FinMap as map
 use Rattle.net_names.specs.Lines.{said_on}
@@ -21,14 +20,14 @@ with_row t n row = if map.contains_key t.rows (length t.starts, row.0) then Err 
 
 -- with a line: `for R P` begins a section where R is the next round, from 1 on, and P is the prefix; any other line is a row (own format)
 abbrev pub with_line : Tables → ℕ × List ℕ → Result Tables TablesError
-with_line t l = unwrap_or (option_or
-    (option_map (λ _. Ok (record t { starts = t.starts ++ l.0 ∷ [] })) (option_filter (λ x. (x.0 == length t.starts + 1) && eq_by_cmp prefix_cmp t.prefix x.1) (for_of l.1)))
-    (option_map (with_row t l.0) (row_of l.1))) (Err (Unreadable l.0))
+with_line t l = unwrap_or (option_map (λ _. Ok (record t { starts = t.starts ++ l.0 ∷ [] }))
+    (option_filter (λ x. (x.0 == length t.starts + 1) && eq_by_cmp prefix_cmp t.prefix x.1)
+    (for_of l.1))) (ok_or (row_of l.1) (Unreadable l.0) >>= with_row t l.0)
 
 -- what lines say, of which the first is `for R P` (own format)
 unfoldable pub tables_by : List (ℕ × List ℕ) → Result Tables TablesError
-tables_by [] = Err NoFor
-tables_by (l ∷ ls) = ok_or (for_of l.1) (Unreadable l.0) >>= λ x. said_on with_line (record { prefix = x.1; starts = []; rows = map.empty }) (l ∷ ls)
+tables_by ls = ok_or (slice_get ls 0) NoFor >>= λ l. ok_or (for_of l.1) (Unreadable l.0) >>= λ x.
+    said_on with_line (record { prefix = x.1; starts = []; rows = map.empty }) ls
 
 -- a reading fails in this way; want of memory says nothing of it
 abbrev pub Fails : {X : Type 0} → TablesError → Result X TablesError → Type 0
