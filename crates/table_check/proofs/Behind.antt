@@ -1,5 +1,5 @@
 -- What the offer of one neighbour more changes.
-use Rattle.std.proofs.Common.{◌≡◌, ℕ, Bool, true, false, not, ◌&&◌, cond, Option, Some, None, option_map, is_some, slice_get, refl, sym, ap, subst, ◌∙◌}
+use Rattle.std.proofs.Common.{◌≡◌, ℕ, Bool, true, false, not, ◌&&◌, cond, Option, Some, None, option_map, is_some, slice_get, refl, sym, ap, subst}
 use Rattle.net_names.specs.declared.routes.Rel.{Rel}
 use Rattle.net_names.specs.declared.routes.State.{State}
 use Rattle.net_names.specs.Links.{converse}

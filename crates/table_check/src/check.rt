@@ -7,7 +7,7 @@ ghost use Rattle.table_check.specs.Checked.{IsVerdict};
 ghost use Rattle.table_check.specs.Walk.{IsFault};
 
 use crate::lowest::lowest_wrong;
-use crate::placed::{Placed, briefs_by_rows, held_by_rows};
+use crate::placed::{Placed, held_by_rows};
 use crate::tables::Tables;
 use crate::verdict::{Fault, Verdict};
 use net_names::{NoMemory, Prefix};
@@ -30,8 +30,7 @@ fn fault_in<P: RoutePolicy, V: OriginStates>(
 {
     let seeds = seeds_at(alloc, plan, round, prefix, before)?;
     let rows = world.graph.rows();
-    let briefs = briefs_by_rows(alloc, rows, routing)?;
-    let held = held_by_rows(alloc, rows, routing)?;
+    let (briefs, held) = held_by_rows(alloc, rows, routing)?;
     let placed = Placed::new(routing, rows, &briefs, &held);
     let Some(asn) = lowest_wrong(world, prefix, &seeds, &placed) else {
         return Ok(None);

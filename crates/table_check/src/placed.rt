@@ -41,48 +41,38 @@ fn brief_from(entry: &Entry) -> Brief
     }
 }
 
-// What an offer of what the AS holds shows.
-fn brief_at(routing: &Routing, asn: Asn) -> Option<Brief>
-    ensures { result ≡ option_map brief_of (map.get routing.now asn) }
+// What an offer of what the AS holds shows, and what it holds.
+fn found_at<'a>(routing: &'a Routing, asn: Asn) -> (Option<Brief>, Option<&'a Entry>)
+    ensures brief { result.0 ≡ option_map brief_of (map.get routing.now asn) }
+    ensures held { option_copied result.1 ≡ map.get routing.now asn }
 {
     match routing.get(asn) {
-        Some(entry) => Some(brief_from(entry)),
-        None => None,
+        Some(entry) => (Some(brief_from(entry)), Some(entry)),
+        None => (None, None),
     }
 }
 
-/// What offers of what these ASes hold show, in their order.
-pub(crate) fn briefs_by_rows(
-    alloc: Global,
-    rows: &[Asn],
-    routing: &Routing,
-) -> Result<Vec<Option<Brief>>, NoMemory>
-    ensures { IfOk result (λ briefs. briefs.items ≡ each (λ a. option_map brief_of (map.get routing.now a)) rows.now) }
-{
-    let mut briefs = Vec::new(alloc);
-    for asn in rows {
-        if briefs.push(brief_at(routing, *asn)).is_err() {
-            return Err(NoMemory);
-        }
-    }
-    Ok(briefs)
-}
-
-/// What these ASes hold, in their order.
+/// What these ASes hold, in their order: what offers of it show, and what it is.
 pub(crate) fn held_by_rows<'a>(
     alloc: Global,
     rows: &[Asn],
     routing: &'a Routing,
-) -> Result<Vec<Option<&'a Entry>>, NoMemory>
-    ensures { IfOk result (λ held. each option_copied held.items ≡ each (λ a. map.get routing.now a) rows.now) }
+) -> Result<(Vec<Option<Brief>>, Vec<Option<&'a Entry>>), NoMemory>
+    ensures briefs { IfOk result (λ found. found.0.items ≡ each (λ a. option_map brief_of (map.get routing.now a)) rows.now) }
+    ensures held { IfOk result (λ found. each option_copied found.1.items ≡ each (λ a. map.get routing.now a) rows.now) }
 {
+    let mut briefs = Vec::new(alloc);
     let mut held = Vec::new(alloc);
     for asn in rows {
-        if held.push(routing.get(*asn)).is_err() {
+        let (brief, entry) = found_at(routing, *asn);
+        if briefs.push(brief).is_err() {
+            return Err(NoMemory);
+        }
+        if held.push(entry).is_err() {
             return Err(NoMemory);
         }
     }
-    Ok(held)
+    Ok((briefs, held))
 }
 
 impl<'a> Placed<'a> {
@@ -117,7 +107,7 @@ impl<'a> Placed<'a> {
         if place < self.rows.len() && self.rows[place] == asn {
             self.briefs[place]
         } else {
-            brief_at(self.routing, asn)
+            found_at(self.routing, asn).0
         }
     }
 

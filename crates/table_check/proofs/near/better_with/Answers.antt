@@ -1,4 +1,4 @@
-use Rattle.std.proofs.Common.{◌≡◌, sym, ◌∙◌}
+use Rattle.std.proofs.Common.{sym, ◌∙◌}
 use Rattle.stability_laws.specs.BestView.{better_of}
 use Rattle.stability_laws.specs.Offers.{offer_given}
 use Rattle.table_check.proofs.Behind.{seen}

@@ -1,4 +1,4 @@
-use Rattle.std.proofs.Common.{◌≡◌, Bool, true, false, not, Option, Some, sym, ap, subst, ◌∙◌}
+use Rattle.std.proofs.Common.{◌≡◌, Option, Some, sym, ap, subst, ◌∙◌}
 use Rattle.net_names.specs.declared.routes.State.TheVariants.{NotFound}
 use Rattle.net_names.specs.Links.{converse}
 use Rattle.policy_laws.specs.declared.policy.View.{View}
