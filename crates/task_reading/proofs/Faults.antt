@@ -1,5 +1,5 @@
 -- The faults of the words and the files.
-use Rattle.std.proofs.Common.{◌≡◌, ◌⊎◌, inl, inr, ℕ, List, [], ◌∷◌, map, Option, Some, None, Result, Ok, Err, refl, ap, subst, ◌∙◌, Bool, true, false, cond}
+use Rattle.std.proofs.Common.{◌≡◌, ◌⊎◌, inl, inr, ℕ, List, [], ◌∷◌, map, Option, Some, None, Result, Ok, Err, refl, sym, ap, subst, ◌∙◌, Bool, true, false, cond}
 use Rattle.caida_reader.specs.Value.{links_of}
 use Rattle.caida_reader.specs.declared.errors.RelError.{RelError}
 use Rattle.scenario_text.specs.Readings.{scenario_of_bytes}
@@ -16,7 +16,7 @@ use Rattle.scenario_text.specs.declared.script.ScriptError.TheVariants as script
 use Rattle.scenario_text.specs.Walks.{◌>>=◌}
 use Rattle.task_reading.specs.Texts.{fault_ending}
 use Rattle.std.specs.Result.{result_map_both}
-use Rattle.activations.specs.Files.{acts_of}
+use Rattle.activations.specs.Files.{acts_by}
 use Rattle.activations.specs.declared.reading.ActsError.{ActsError}
 use Rattle.activations.specs.declared.reading.ActsError.TheVariants as acts
 use Rattle.message_sim.specs.Files.{deliveries_by}
@@ -32,7 +32,7 @@ use Rattle.table_check.specs.Reading.{tables_by}
 use Rattle.table_check.specs.declared.reading.TablesError.{TablesError}
 use Rattle.table_check.specs.declared.reading.TablesError.TheVariants as tables
 use Rattle.task_reading.specs.Jobs.{acts_job, line_job, messages_job, sweep_job, tables_job}
-use Rattle.task_reading.specs.Asking.{Reads, asked, jobs_in, most_bytes, read_as, bytes_of}
+use Rattle.task_reading.specs.Asking.{asked, jobs_in, most_bytes, read_as}
 use Rattle.task_reading.specs.Words.{Form, origin_form, file_form, demo_form}
 use Rattle.task_reading.specs.declared.types.File.{File}
 use Rattle.task_reading.specs.declared.types.File.TheVariants as file
@@ -43,7 +43,7 @@ use Rattle.task_reading.specs.declared.types.Cause.TheVariants as cause
 use Rattle.task_reading.specs.declared.types.Status.{Status}
 use Rattle.task_reading.specs.declared.types.Status.TheVariants as status
 use Rattle.task_reading.proofs.Preparing.{origin_task, file_task}
-use Rattle.task_reading.proofs.ReadLemmas.{or_fault, relations, payloads_of, scenario_by, jobs_by}
+use Rattle.task_reading.proofs.ReadLemmas.{Reads, by_bytes, bytes_of, or_fault, relations, payloads_of, scenario_by, jobs_by}
 
 -- a fault of two steps is one of the first or of the second
 pub bind_err : {A B : Type 0} (r : Result A Fault) (f : A → Result B Fault) (e : Fault) → (r >>= f) ≡ Err e → (r ≡ Err e) ⊎ ((x : A) × (r ≡ Ok x) × (f x ≡ Err e))
@@ -138,7 +138,7 @@ cause_by f as_cause form which others (Err e) c h = let is : as_cause e ≡ c = 
 
 other_jobs : (form : Option Form) (which : File) (o : FileOption) (bytes : List ℕ) (c : Cause) → jobs_in o bytes ≡ Err c → IsOther form (fault.InFile which c)
 other_jobs form which option.Script bytes c h = cause_by (map (line_job true)) cause.Script form which (other_script form which) (script_of bytes) c h
-other_jobs form which option.Activations bytes c h = cause_by (λ acts. acts_job acts ∷ []) cause.Acts form which (other_acts form which) (acts_of bytes) c h
+other_jobs form which option.Activations bytes c h = cause_by (λ acts. acts_job acts ∷ []) cause.Acts form which (other_acts form which) (acts_by (kept_from 1 bytes)) c h
 other_jobs form which option.Messages bytes c h = cause_by (λ deliveries. messages_job deliveries ∷ []) cause.Deliveries form which (other_deliveries form which) (deliveries_by (kept_from 1 bytes)) c h
 other_jobs form which option.Sweep bytes c h = cause_by (map sweep_job) cause.Sweeps form which (other_sweeps form which) (sweeps_of bytes) c h
 other_jobs form which option.Check bytes c h = cause_by (λ t. tables_job t ∷ []) cause.Tables form which (other_tables form which) (tables_by (kept_from 1 bytes)) c h
@@ -169,7 +169,7 @@ module _ (form : Option Form) (reads : Reads) where
 
   of_read : {A E : Type 0} (which : File) (most : ℕ) (as_cause : E → Cause) (value : List ℕ → Result A E) → ((bytes : List ℕ) (e : E) → value bytes ≡ Err e → IsOther form (fault.InFile which (as_cause e))) → (e : Fault) → read_as which most as_cause value reads ≡ Err e → Stopped form reads e
   of_read which most as_cause value others e h =
-      elim (bind_err (bytes_of which most (reads which)) (λ bytes. or_fault which as_cause (value bytes)) e h) [
+      elim (bind_err (bytes_of which most (reads which)) (λ bytes. or_fault which as_cause (value bytes)) e (sym (by_bytes which most as_cause value (reads which)) ∙ h)) [
         | inl early ↦ of_bytes which most (reads which) refl e early
         | inr late ↦ of_value which as_cause (value late.0) (others late.0) e late.2
       ]

@@ -15,15 +15,15 @@ use Rattle.task_reading.specs.declared.types.AskError.{AskError}
 use Rattle.task_reading.specs.declared.types.AskError.TheVariants as error
 use Rattle.task_reading.specs.declared.types.Fault.TheVariants as fault
 use Rattle.task_reading.specs.declared.types.Cause.TheVariants as cause
-use Rattle.task_reading.proofs.ReadLemmas.{or_fault, relations, whole, too_long}
+use Rattle.task_reading.proofs.ReadLemmas.{by_bytes, or_fault, relations, whole, too_long}
 
 -- a relationship file within its limit
 whole_links : (bytes : List ℕ) → length bytes ≤ 268435456 → relations (Some bytes) ≡ or_fault file.Relations cause.Relation (links_of bytes)
-whole_links bytes h = ap (λ r. r >>= λ b. or_fault file.Relations cause.Relation (links_of b)) (whole file.Relations 268435456 bytes h)
+whole_links bytes h = by_bytes file.Relations 268435456 cause.Relation links_of (Some bytes) ∙ ap (λ r. r >>= λ b. or_fault file.Relations cause.Relation (links_of b)) (whole file.Relations 268435456 bytes h)
 
 -- a relationship file that is longer
 long_links : (bytes : List ℕ) → 268435456 < length bytes → relations (Some bytes) ≡ Err (fault.InFile file.Relations (cause.TooLong 268435456))
-long_links bytes h = ap (λ r. r >>= λ b. or_fault file.Relations cause.Relation (links_of b)) (too_long file.Relations 268435456 bytes h)
+long_links bytes h = by_bytes file.Relations 268435456 cause.Relation links_of (Some bytes) ∙ ap (λ r. r >>= λ b. or_fault file.Relations cause.Relation (links_of b)) (too_long file.Relations 268435456 bytes h)
 
 -- What was taken so far, and what the reader knows of it.
 pub record Fed (held left : Option (List ℕ)) (reader : Progress) (taken : ℕ) : Type 0 where

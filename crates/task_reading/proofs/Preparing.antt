@@ -12,7 +12,7 @@ use Rattle.topo_gen.specs.Drawn.{drawn_links}
 use Rattle.topo_gen.specs.Scenarios.{drawn_payloads, drawn_scenario}
 use Rattle.topo_gen.specs.Lines.{drawn_lines}
 use Rattle.task_reading.specs.Words.{Form, file_form, origin_form, demo_form, name_by}
-use Rattle.task_reading.specs.Asking.{Reads, asked}
+use Rattle.task_reading.specs.Asking.{asked}
 use Rattle.task_reading.specs.Files.{IsReadAs, AreReads, IsFaultOf, Finds, ReadsAs, Prepares}
 use Rattle.task_reading.specs.Sources.{Source}
 use Rattle.task_reading.specs.declared.asking.Asked.{Asked}
@@ -23,7 +23,7 @@ use Rattle.task_reading.specs.declared.types.AskError.{AskError}
 use Rattle.task_reading.specs.declared.types.AskError.TheVariants as error
 use Rattle.task_reading.specs.declared.types.Fault.{Fault}
 use Rattle.task_reading.specs.declared.types.Fault.TheVariants as fault
-use Rattle.task_reading.proofs.ReadLemmas.{relations, payloads_of, scenario_by, jobs_by, some_read_as, bind_error}
+use Rattle.task_reading.proofs.ReadLemmas.{Reads, relations, payloads_of, scenario_by, jobs_by, some_read_as, bind_error}
 
 -- what was asked for was found, or the error says why not
 abbrev Found : Result Asked AskError → Result Asked Fault → Type 0

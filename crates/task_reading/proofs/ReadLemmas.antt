@@ -15,7 +15,7 @@ use Rattle.roa_table.specs.Files.{payloads_in}
 use Rattle.roa_table.specs.Sets.{Payloads}
 use Rattle.scenario_text.specs.Readings.{scenario_of_bytes}
 use Rattle.scenario_text.specs.Scenarios.{ScenarioValue, nothing}
-use Rattle.task_reading.specs.Asking.{Reads, jobs_in, bytes_of, most_bytes, read_as}
+use Rattle.task_reading.specs.Asking.{jobs_in, most_bytes, read_as}
 use Rattle.task_reading.specs.declared.types.File.TheVariants as file
 use Rattle.task_reading.specs.declared.types.File.{File}
 use Rattle.task_reading.specs.declared.types.Fault.{Fault}
@@ -38,9 +38,26 @@ rose_by false false a b c m low high le h = omega (arith, le, h)
 pub rose_earlier : (a b c : ℕ) → a ≤ b → HasRisen b c → HasRisen a c
 rose_earlier a b c le h = rose_by (nat_lt a (2 ^ 64 - 1)) (nat_lt b (2 ^ 64 - 1)) a b c (2 ^ 64 - 1) (ltb-true a (2 ^ 64 - 1)) (ltb-false b (2 ^ 64 - 1)) le h
 
+-- what was read of each file
+abbrev pub Reads : Type 0
+Reads = File → Option (List ℕ)
+
 -- the value that was read, or its fault as one of the file
 abbrev pub or_fault : {A E : Type 0} → File → (E → Cause) → Result A E → Result A Fault
 or_fault which as_cause value = result_map_both (λ x. x) (λ e. fault.InFile which (as_cause e)) value
+
+-- the bytes of a file that was read and has no more than so many
+abbrev pub bytes_of : File → ℕ → Option (List ℕ) → Result (List ℕ) Fault
+bytes_of which most read = read_as which most (λ (c : Cause). c) Ok (λ _. read)
+
+chosen_then : {A B : Type 0} (long : Bool) (e : Fault) (x : A) (f : A → Result B Fault) → cond long (Err e) (f x) ≡ (cond long (Err e) (Ok x) >>= f)
+chosen_then true e x f = refl
+chosen_then false e x f = refl
+
+-- the value of a file is that of its bytes
+pub by_bytes : {A E : Type 0} (which : File) (most : ℕ) (as_cause : E → Cause) (value : List ℕ → Result A E) (read : Option (List ℕ)) → read_as which most as_cause value (λ _. read) ≡ (bytes_of which most read >>= λ bytes. or_fault which as_cause (value bytes))
+by_bytes which most as_cause value None = refl
+by_bytes which most as_cause value (Some bytes) = chosen_then (nat_lt most (length bytes)) (fault.InFile which (cause.TooLong most)) bytes (λ bytes. or_fault which as_cause (value bytes))
 
 -- the links of what was read
 abbrev pub relations : Option (List ℕ) → Result LinkMap Fault
@@ -103,13 +120,22 @@ bind_error value f error.Memory h = tt
 bind_error value f (error.Fault e) h = ap (λ r. r >>= f) h
 
 -- what was found of the bytes is found of the file
-pub of_bytes : {X Y A B : Type 0} {held : Option (List ℕ)} {fails : Type 0} (of_y : Y → A) (view : X → B) (y : Y) (first : Reads → Result A Fault) (f : A → Result B Fault) (result : Result X AskError)
-    → ReadsTo held fails of_y (Ok y) first → Finds view result (f (of_y y)) → ReadsTo held fails view result (λ reads. first reads >>= f)
-of_bytes of_y view y first f result found h = record { read = found.read; is_read = found.is_read; finds = subst (λ v. Finds view result (v >>= f)) (sym found.finds) h }
+pub of_bytes : {X Y A E : Type 0} {held : Option (List ℕ)} {fails : Type 0} (of_y : Y → List ℕ) (view : X → A) (y : Y) (which : File) (most : ℕ) (as_cause : E → Cause) (value : List ℕ → Result A E) (result : Result X AskError)
+    → ReadsTo held fails of_y (Ok y) (read_as which most (λ (c : Cause). c) Ok) → Finds view result (or_fault which as_cause (value (of_y y))) → ReadsTo held fails view result (read_as which most as_cause value)
+of_bytes {A} of_y view y which most as_cause value result found h = record {
+  read = found.read;
+  is_read = found.is_read;
+  finds = subst (λ (v : Result A Fault). Finds view result v) (sym (by_bytes which most as_cause value found.read))
+      (subst (λ (v : Result (List ℕ) Fault). Finds view result (v >>= λ bytes. or_fault which as_cause (value bytes))) (sym found.finds) h);
+}
 
-pub no_bytes : {X Y A B : Type 0} {held : Option (List ℕ)} {fails : Type 0} (of_y : Y → A) (view : X → B) (first : Reads → Result A Fault) (f : A → Result B Fault) (s : AskError)
-    → ReadsTo held fails of_y (Err s) first → ReadsTo held fails view (Err s) (λ reads. first reads >>= f)
-no_bytes of_y view first f s found = record { read = found.read; is_read = found.is_read; finds = bind_error (first (λ _. found.read)) f s found.finds }
+pub no_bytes : {X Y A E : Type 0} {held : Option (List ℕ)} {fails : Type 0} (of_y : Y → List ℕ) (view : X → A) (which : File) (most : ℕ) (as_cause : E → Cause) (value : List ℕ → Result A E) (s : AskError)
+    → ReadsTo held fails of_y (Err s) (read_as which most (λ (c : Cause). c) Ok) → ReadsTo held fails view (Err s) (read_as which most as_cause value)
+no_bytes {A} of_y view which most as_cause value s found = record {
+  read = found.read;
+  is_read = found.is_read;
+  finds = subst (λ (v : Result A Fault). IsFaultOf s v) (sym (by_bytes which most as_cause value found.read)) (bind_error (bytes_of which most found.read) (λ bytes. or_fault which as_cause (value bytes)) s found.finds);
+}
 
 -- what is asked was found in the bytes of the option's file, and so in what was read
 found_in : (result : Result (List Job) AskError) (value : Result (List Job) Cause) → FindsJobs result value → Finds (λ (jobs : List Job). jobs) result (or_fault file.Script (λ (c : Cause). c) value)
@@ -119,8 +145,9 @@ found_in (Err e) value h = h
 -- what is asked was found in no bytes, and so in a file that isn't named
 pub jobs_found : (o : FileOption) (result : Result (List Job) AskError) → FindsJobs result (jobs_in o []) → Finds (λ (jobs : List Job). jobs) result (jobs_by o (Some []))
 jobs_found o result h =
-    subst (λ (bytes : Result (List ℕ) Fault). Finds (λ (jobs : List Job). jobs) result (bytes >>= λ b. or_fault file.Script (λ (c : Cause). c) (jobs_in o b))) (sym (whole file.Script (most_bytes o) [] (omega arith)))
-    (found_in result (jobs_in o []) h)
+    subst (λ (v : Result (List Job) Fault). Finds (λ (jobs : List Job). jobs) result v) (sym (by_bytes file.Script (most_bytes o) (λ (c : Cause). c) (jobs_in o) (Some [])))
+    (subst (λ (bytes : Result (List ℕ) Fault). Finds (λ (jobs : List Job). jobs) result (bytes >>= λ b. or_fault file.Script (λ (c : Cause). c) (jobs_in o b))) (sym (whole file.Script (most_bytes o) [] (omega arith)))
+    (found_in result (jobs_in o []) h))
 
 -- what is known of a file that was read in the middle is known of the inputs at their start and end
 module _ {I : Type 0} {holds : I → List ℕ → Option (List ℕ)} {is_sound : I → List ℕ → Type 0} {faults : I → ℕ} where

@@ -17,7 +17,7 @@ use Rattle.scenario_text.specs.declared.acts.Query.TheVariants.{Routes}
 use Rattle.topo_gen.specs.Drawn.{drawn_links}
 use Rattle.topo_gen.specs.Scenarios.{drawn_payloads, drawn_scenario}
 use Rattle.topo_gen.specs.Lines.{drawn_lines}
-use Rattle.activations.specs.Files.{acts_of}
+use Rattle.activations.specs.Files.{acts_by}
 use Rattle.message_sim.specs.Files.{deliveries_by}
 use Rattle.net_names.specs.Lines.{kept_from}
 use Rattle.sweep.specs.Reading.{sweeps_of}
@@ -30,41 +30,34 @@ use Rattle.task_reading.specs.declared.types.File.{File}
 use Rattle.task_reading.specs.declared.types.File.TheVariants as file
 use Rattle.task_reading.specs.declared.types.Cause.{Cause}
 use Rattle.task_reading.specs.declared.types.Cause.TheVariants as cause
-use Rattle.task_reading.specs.declared.types.Cause.TheVariants.{Unread, TooLong}
+use Rattle.task_reading.specs.declared.types.Cause.TheVariants.{Unread, TooLong, Acts, Deliveries, Sweeps, Tables}
 use Rattle.task_reading.specs.declared.types.Fault.{Fault}
 use Rattle.task_reading.specs.declared.types.Fault.TheVariants as fault
 use Rattle.task_reading.specs.declared.types.Fault.TheVariants.{InFile}
 use Rattle.task_reading.specs.declared.words.FileOption.{FileOption}
-use Rattle.task_reading.specs.declared.words.FileOption.TheVariants as option
+use Rattle.task_reading.specs.declared.words.FileOption.TheVariants.{Script, Activations, Messages, Sweep, Check}
 
--- what was read of each file: its bytes, or nothing where a read failed
-abbrev pub Reads : Type 0
-Reads = File → Option Text
-
--- the bytes of a file, where it was read and has no more than so many, or its fault
-abbrev pub bytes_of : File → ℕ → Option Text → Result Text Fault
-bytes_of which most read = ok_or read (InFile which Unread) >>= λ bytes. if nat_lt most (length bytes) then Err (InFile which (TooLong most)) else Ok bytes
-
--- the value that the bytes of a file say, which may be so many, or its fault
-abbrev pub read_as : {A E : Type 0} → File → ℕ → (E → Cause) → (Text → Result A E) → Reads → Result A Fault
-read_as which most as_cause value reads = bytes_of which most (reads which) >>= λ bytes. result_map_both (λ x. x) (λ e. InFile which (as_cause e)) (value bytes)
+-- the value that the bytes of a file say, where it was read and has no more than so many, or its fault
+abbrev pub read_as : {A E : Type 0} → File → ℕ → (E → Cause) → (Text → Result A E) → (File → Option Text) → Result A Fault
+read_as which most as_cause value reads = ok_or (reads which) (InFile which Unread) >>= λ bytes.
+    if nat_lt most (length bytes) then Err (InFile which (TooLong most))
+    else result_map_both (λ x. x) (λ e. InFile which (as_cause e)) (value bytes)
 
 -- the jobs that the bytes of an option's file ask for, or why they say nothing (own format)
 abbrev pub jobs_in : FileOption → Text → Result (List Job) Cause
-jobs_in option.Script bytes = result_map_both (map (line_job true)) cause.Script (script_of bytes)
-jobs_in option.Activations bytes = result_map_both (λ a. acts_job a ∷ []) cause.Acts (acts_of bytes)
-jobs_in option.Messages bytes = result_map_both (λ d. messages_job d ∷ []) cause.Deliveries (deliveries_by (kept_from 1 bytes))
-jobs_in option.Sweep bytes = result_map_both (map sweep_job) cause.Sweeps (sweeps_of bytes)
-jobs_in option.Check bytes = result_map_both (λ t. tables_job t ∷ []) cause.Tables (tables_by (kept_from 1 bytes))
+jobs_in Script text = result_map_both (map (line_job true)) cause.Script (script_of text)
+jobs_in Activations text = result_map_both (λ a. acts_job a ∷ []) Acts (acts_by (kept_from 1 text))
+jobs_in Messages text = result_map_both (λ d. messages_job d ∷ []) Deliveries (deliveries_by (kept_from 1 text))
+jobs_in Sweep text = result_map_both (map sweep_job) Sweeps (sweeps_of text)
+jobs_in Check text = result_map_both (λ t. tables_job t ∷ []) Tables (tables_by (kept_from 1 text))
 
 -- how many bytes an option's file may have (own format)
 abbrev pub most_bytes : FileOption → ℕ
-most_bytes option.Check = MOST_LIST_BYTES
-most_bytes _ = MOST_TEXT_BYTES
+most_bytes option = elim option [ Check ↦ MOST_LIST_BYTES | _ ↦ MOST_TEXT_BYTES ]
 
--- what the form and the files ask for, or the first fault: the generated input, with the numbers of its ASes and links first; the routes of all ASes in round 1 to one origin, which announces 0.0.0.0/0 (RFC 4632, section 3.1) with its own number as the path, without payloads and without a head line;
+-- what the form and the files ask for, given the bytes that were read of each file, or nothing where a read of it failed; or the first fault: the generated input, with the numbers of its ASes and links first; the routes of all ASes in round 1 to one origin, which announces 0.0.0.0/0 (RFC 4632, section 3.1) with its own number as the path, without payloads and without a head line;
 -- what an option's file asks for. A file that isn't named is empty, and so has no payloads or lines; without a scenario its four lists are empty
-abbrev pub asked : Option Form → Reads → Result Asked Fault
+abbrev pub asked : Option Form → (File → Option Text) → Result Asked Fault
 asked None reads = Err fault.Usage
 asked (Some (demo_form n)) reads = Ok (record { links = drawn_links n; vrps = drawn_payloads n; scenario = drawn_scenario n; jobs = counts_job ∷ map (line_job true) (drawn_lines (drawn_links n)) })
 asked (Some (origin_form _ origin)) reads = do

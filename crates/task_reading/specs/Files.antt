@@ -6,7 +6,7 @@ use Rattle.clap.specs.Walk.{Text}
 use Rattle.task_reading.specs.Sources.{Source}
 use Rattle.task_reading.specs.Words.{Form, name_by}
 use Rattle.task_reading.specs.Jobs.{Job}
-use Rattle.task_reading.specs.Asking.{Reads, asked}
+use Rattle.task_reading.specs.Asking.{asked}
 use Rattle.task_reading.specs.declared.asking.Asked.{Asked}
 use Rattle.std.specs.Result.{result_map_both}
 use Rattle.task_reading.specs.declared.types.Cause.{Cause}
@@ -26,7 +26,7 @@ abbrev pub IsReadAs : Source → Option Text → Option Text → Type 0
 IsReadAs from name = IsRead (option_map_or from.holds name (Some [])) (IsSomeAnd name from.fails)
 
 -- Each file was read under the name that the form gives it, so that these are the bytes that are told of it, or a read of it failed. One that isn't named counts as empty, and no read of it fails.
-abbrev pub AreReads : Source → Option Form → Reads → Type 0
+abbrev pub AreReads : Source → Option Form → (File → Option Text) → Type 0
 AreReads from form reads = (file : File) → let name = name_by form file in MatchOption (reads file)
     (IsSomeAnd name from.fails) (λ b. Keeps (option_map_or from.holds name (Some [])) (Some b))
 
@@ -46,17 +46,17 @@ Finds view (Ok x) value = value ≡ Ok (view x)
 Finds view (Err e) value = IsFaultOf e value
 
 -- One file was read, and what was found is the value of what was read.
-pub record ReadsTo {X A : Type 0} (held : Option Text) (fails : Type 0) (view : X → A) (result : Result X AskError) (value : Reads → Result A Fault) : Type 0 where
+pub record ReadsTo {X A : Type 0} (held : Option Text) (fails : Type 0) (view : X → A) (result : Result X AskError) (value : (File → Option Text) → Result A Fault) : Type 0 where
   pub read : Option Text
   pub is_read : IsRead held fails read
   pub finds : Finds view result (value (λ _. read))
 
 -- One file was read under its name, if it has one, and what was found is the value of what was read.
-abbrev pub ReadsAs : {X A : Type 0} → Source → Option Text → (X → A) → Result X AskError → (Reads → Result A Fault) → Type 0
+abbrev pub ReadsAs : {X A : Type 0} → Source → Option Text → (X → A) → Result X AskError → ((File → Option Text) → Result A Fault) → Type 0
 ReadsAs from name view result value = ReadsTo (option_map_or from.holds name (Some [])) (IsSomeAnd name from.fails) view result value
 
 -- The files were read under the names of the form, and what was found is what they ask for.
 pub record Prepares (from : Source) (form : Option Form) (result : Result Asked AskError) : Type 0 where
-  pub reads : Reads
+  pub reads : File → Option Text
   pub are_read : AreReads from form reads
   pub finds : Finds (λ (found : Asked). found) result (asked form reads)

@@ -1,20 +1,21 @@
 -- The statuses and texts of faults, and the numbers of statuses.
 use Prim.Native.String.{String}
-use Rattle.std.specs.Prelude.{ℕ, [], ◌∷◌, ◌++◌, codes, Option, unwrap_or, decimal}
+use Rattle.std.specs.Prelude.{ℕ, [], ◌∷◌, ◌++◌, codes, drop, Option, unwrap_or, decimal}
+use Rattle.std.specs.List.{flat_map}
 use Rattle.clap.specs.Walk.{Text}
 use Rattle.activations.specs.declared.reading.ActsError.TheVariants as acts
 use Rattle.caida_reader.specs.declared.errors.RelError.TheVariants as rel
 use Rattle.caida_reader.specs.declared.errors.RelError.TheVariants.{SelfLink, Conflict, TooManyLinks}
-use Rattle.message_sim.specs.declared.reading.DeliveriesError.TheVariants as deliveries
+use Rattle.message_sim.specs.declared.reading.DeliveriesError.TheVariants as steps
 use Rattle.roa_table.specs.declared.errors.VrpError.TheVariants as vrp
 use Rattle.scenario_text.specs.PlaceTexts.{place_text}
-use Rattle.scenario_text.specs.declared.faults.LimitOf.{LimitOf}
 use Rattle.scenario_text.specs.declared.faults.LimitOf.TheVariants.{Announcements, Prefixes, Path, Rounds, Leakers, Watch}
 use Rattle.scenario_text.specs.declared.faults.ScenarioError.TheVariants as scenario
 use Rattle.scenario_text.specs.declared.faults.ScenarioError.TheVariants.{Limit}
 use Rattle.scenario_text.specs.declared.script.ScriptError.TheVariants as script
 use Rattle.sweep.specs.declared.reading.SweepsError.TheVariants as sweeps
 use Rattle.table_check.specs.declared.reading.TablesError.TheVariants as tables
+use Rattle.task_reading.specs.Command.{file_options}
 use Rattle.task_reading.specs.Words.{Form, name_by}
 use Rattle.task_reading.specs.declared.types.Cause.{Cause}
 use Rattle.task_reading.specs.declared.types.Cause.TheVariants.{Unread, TooLong, Relation, Payload, Scenario, Script, Acts, Deliveries, Sweeps, Tables, NotInWorld}
@@ -33,53 +34,51 @@ message text = codes "asprop: " ++ text ++ 10 ∷ []
 abbrev pub placed : String → ℕ → String → Text
 placed word n text = codes word ++ codes " " ++ (decimal n ++ (codes ": " ++ codes text))
 
--- what a scenario has at most (own format)
-abbrev pub limit_text : LimitOf → String
-limit_text Announcements = "64 announcements"
-limit_text Prefixes = "32 prefixes"
-limit_text Path = "64 numbers in a path"
-limit_text Rounds = "4 rounds"
-limit_text Leakers = "64 leakers in a round"
-limit_text Watch = "16 watched addresses"
-
--- the table of causes: the status and the text, with the place in the file, of each (own format). Of a reader that memory runs out in nothing is told by this table: the run ends for want of memory, and the last row is never asked for
+-- the table of causes: the status and the text, with the place in the file, of each (own format). Where memory runs out in a reader the run ends for want of memory, and its row here is never asked for
 abbrev pub cause_of : Cause → Status × Text
 cause_of Unread = (status.ReadFault, codes "read fault")
 cause_of (TooLong most) = (TooLarge, codes "more than " ++ decimal most ++ codes " bytes")
+cause_of (Relation rel.Memory) = (BadInput, [])
 cause_of (Relation (rel.Unreadable n)) = (BadInput, placed "line" n "unreadable")
 cause_of (Relation (SelfLink n)) = (BadInput, placed "line" n "an AS linked to itself")
 cause_of (Relation (Conflict n m)) = (BadInput, placed "line" n "conflicts with line " ++ decimal m)
 cause_of (Relation (TooManyLinks n)) = (TooLarge, placed "line" n "more than 1500000 links")
+cause_of (Payload vrp.Memory) = (BadInput, [])
 cause_of (Payload (vrp.Fields n)) = (BadInput, placed "row" n "fewer than three fields")
 cause_of (Payload (vrp.BadAsn n)) = (BadInput, placed "row" n "bad AS number")
 cause_of (Payload (vrp.BadPrefix n)) = (BadInput, placed "row" n "bad prefix")
 cause_of (Payload (vrp.BadMax n)) = (BadInput, placed "row" n "bad maximum length")
 cause_of (Payload (vrp.TooMany n)) = (TooLarge, placed "row" n "more than 2000000 payloads")
+cause_of (Scenario scenario.Memory) = (BadInput, [])
 cause_of (Scenario scenario.NotJson) = (BadInput, codes "not JSON")
 cause_of (Scenario (scenario.Shape place)) = (BadInput, place_text place ++ codes ": wrong shape")
 cause_of (Scenario (scenario.Value place)) = (BadInput, place_text place ++ codes ": bad value")
 cause_of (Scenario (scenario.Twice place)) = (BadInput, place_text place ++ codes ": named twice")
-cause_of (Scenario (Limit which)) = (TooLarge, codes "more than " ++ codes (limit_text which))
+cause_of (Scenario (Limit which)) = (TooLarge, codes "more than " ++ codes (elim which [ Announcements ↦ "64 announcements" | Prefixes ↦ "32 prefixes" | Path ↦ "64 numbers in a path" | Rounds ↦ "4 rounds" | Leakers ↦ "64 leakers in a round" | Watch ↦ "16 watched addresses" ]))
+cause_of (Script script.Memory) = (BadInput, [])
 cause_of (Script (script.Unreadable n)) = (BadInput, placed "line" n "unreadable")
 cause_of (Script (script.TooMany n)) = (TooLarge, placed "line" n "more than 100000 commands")
+cause_of (Acts acts.Memory) = (BadInput, [])
 cause_of (Acts (acts.Unreadable n)) = (BadInput, placed "line" n "unreadable")
 cause_of (Acts (acts.Twice n)) = (BadInput, placed "line" n "named twice")
 cause_of (Acts (acts.TooMany n)) = (TooLarge, placed "line" n "more than 1000000 activations")
 cause_of (Acts acts.NoFor) = (BadInput, codes "no for line")
-cause_of (Deliveries (deliveries.Unreadable n)) = (BadInput, placed "line" n "unreadable")
-cause_of (Deliveries (deliveries.TooMany n)) = (TooLarge, placed "line" n "more than 1000000 deliveries")
-cause_of (Deliveries deliveries.NoFor) = (BadInput, codes "no for line")
+cause_of (Deliveries steps.Memory) = (BadInput, [])
+cause_of (Deliveries (steps.Unreadable n)) = (BadInput, placed "line" n "unreadable")
+cause_of (Deliveries (steps.TooMany n)) = (TooLarge, placed "line" n "more than 1000000 deliveries")
+cause_of (Deliveries steps.NoFor) = (BadInput, codes "no for line")
+cause_of (Sweeps sweeps.Memory) = (BadInput, [])
 cause_of (Sweeps (sweeps.Unreadable n)) = (BadInput, placed "line" n "unreadable")
 cause_of (Sweeps (sweeps.TooMany n)) = (TooLarge, placed "line" n "more than 1000 sweeps")
+cause_of (Tables tables.Memory) = (BadInput, [])
 cause_of (Tables (tables.Unreadable n)) = (BadInput, placed "line" n "unreadable")
 cause_of (Tables (tables.Twice n)) = (BadInput, placed "line" n "named twice")
 cause_of (Tables tables.NoFor) = (BadInput, codes "no for line")
 cause_of (NotInWorld n) = (BadInput, placed "line" n "not in the world")
-cause_of _ = (BadInput, [])
 
 -- the table of the faults that a run may end with, each with its status and its text; that of the words has the forms, a line each (own format)
 abbrev pub fault_ending : Option Form → Fault → Status × Text
-fault_ending form fault.Usage = (status.Usage, codes "usage: asprop REL [--vrps FILE] [--scenario FILE] [--script FILE]\n       asprop REL --origin N\n       asprop --demo N\n       asprop REL [--vrps FILE] [--scenario FILE] --activations FILE\n       asprop REL [--vrps FILE] [--scenario FILE] --messages FILE\n       asprop REL [--vrps FILE] [--scenario FILE] --sweep FILE\n       asprop REL [--vrps FILE] [--scenario FILE] --check FILE\n")
+fault_ending form fault.Usage = (status.Usage, codes "usage: asprop REL [--vrps FILE] [--scenario FILE] [--script FILE]\n       asprop REL --origin N\n       asprop --demo N\n" ++ flat_map (λ o. codes "       asprop REL [--vrps FILE] [--scenario FILE] --" ++ (codes o.1 ++ codes " FILE\n")) (drop 1 file_options))
 fault_ending form TooManyAses = (TooLarge, message (codes "more than 150000 ASes"))
 fault_ending form (InFile which cause) = ((cause_of cause).0, codes "asprop: " ++ (unwrap_or (name_by form which) [] ++ (codes ": " ++ ((cause_of cause).1 ++ 10 ∷ []))))
 

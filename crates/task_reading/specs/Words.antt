@@ -7,7 +7,7 @@ use Rattle.clap.specs.Simple.{matches_of}
 use Rattle.clap.specs.Walk.{Text, first_of, is_empty}
 use Rattle.net_names.specs.Steps.{option_filter}
 use Rattle.net_names.specs.Texts.{asn_of, numeral}
-use Rattle.task_reading.specs.Command.{asprop_command}
+use Rattle.task_reading.specs.Command.{asprop_command, file_options}
 use Rattle.task_reading.specs.declared.types.File.{File}
 use Rattle.task_reading.specs.declared.types.File.TheVariants.{Relations, Payloads, Scenario, Script}
 use Rattle.task_reading.specs.declared.words.FileOption.{FileOption}
@@ -45,8 +45,7 @@ form_by _ _ _ _ _ _ = None
 -- the form of the words: that of the values of the word and of the options where the command finds no fault in the words, and else none (own format)
 unfoldable pub form_of : List Text → Option Form
 form_of words = let value = λ (n : String). first_of (codes n) (matches_of asprop_command words) in
-    let files = filter_map (λ (o : FileOption × String). option_map (λ f. (o.0, f)) (value o.1))
-    ((option.Script, "script") ∷ (option.Activations, "activations") ∷ (option.Messages, "messages") ∷ (option.Sweep, "sweep") ∷ (option.Check, "check") ∷ []) in
+    let files = filter_map (λ o. option_map (λ f. (o.0, f)) (value o.1)) file_options in
     if is_empty (fault_of asprop_command words) then form_by files (value "rel") (value "vrps") (value "scenario") (value "origin") (value "demo") else None
 
 -- the name that a form gives to a file, if it names one; the file of an option is read in the place of the script (own format)

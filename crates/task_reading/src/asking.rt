@@ -44,7 +44,10 @@ fn all_v4_addresses() -> Prefix
 
 // The scenario in which an AS announces 0.0.0.0/0 by its own number.
 fn origin_scenario(alloc: Global, origin: Asn) -> Result<Scenario, NoMemory>
-    ensures { IfOk result (λ s. s ≡ record nothing { announcements = record { prefix = record { family = V4; addr = 0; len = 0 }; asn = origin; path = origin ∷ [] } ∷ [] }) }
+    ensures { IfOk result (λ s. s ≡ record nothing {
+      announcements =
+          record { prefix = record { family = V4; addr = 0; len = 0 }; asn = origin; path = origin ∷ [] } ∷ [];
+    }) }
 {
     let mut path = Path::new(alloc);
     path.push(origin)?;

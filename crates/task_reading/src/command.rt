@@ -34,9 +34,9 @@ pub fn new_command<'a>(alloc: Global) -> Result<Command<'a>, AllocError>
         .disable_version_flag(true);
     bare.arg(option(alloc, "vrps"))?
         .arg(option(alloc, "scenario"))?
-        .arg(option(alloc, "script"))?
         .arg(option(alloc, "origin"))?
         .arg(option(alloc, "demo"))?
+        .arg(option(alloc, "script"))?
         .arg(option(alloc, "activations"))?
         .arg(option(alloc, "messages"))?
         .arg(option(alloc, "sweep"))?

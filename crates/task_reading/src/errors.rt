@@ -41,7 +41,8 @@ use table_check::TablesError;
 
 /// The error for a fault of the relationship file.
 pub fn of_relations(error: RelError) -> AskError
-    ensures { (value : Result LinkMap ARelError) → RelationFails error value → IsFaultOf result (result_map_both (λ x. x) (λ e. fault.InFile file.Relations (cause.Relation e)) value) }
+    ensures { (value : Result LinkMap ARelError) → RelationFails error value
+        → IsFaultOf result (result_map_both (λ x. x) (λ e. fault.InFile file.Relations (cause.Relation e)) value) }
 {
     match error {
         RelError::Memory => AskError::Memory,
@@ -51,7 +52,8 @@ pub fn of_relations(error: RelError) -> AskError
 
 /// The error for a fault of the payload file.
 pub fn of_payloads(error: VrpError) -> AskError
-    ensures { (value : Result Payloads AVrpError) → Gives (Err error) value → IsFaultOf result (result_map_both (λ x. x) (λ e. fault.InFile file.Payloads (cause.Payload e)) value) }
+    ensures { (value : Result Payloads AVrpError) → Gives (Err error) value
+        → IsFaultOf result (result_map_both (λ x. x) (λ e. fault.InFile file.Payloads (cause.Payload e)) value) }
 {
     match error {
         VrpError::Memory => AskError::Memory,
@@ -61,7 +63,8 @@ pub fn of_payloads(error: VrpError) -> AskError
 
 /// The error for a fault of the scenario.
 pub fn of_scenario(error: ScenarioError) -> AskError
-    ensures { (value : Result ScenarioValue AScenarioError) → ScenarioFails error value → IsFaultOf result (result_map_both (λ x. x) (λ e. fault.InFile file.Scenario (cause.Scenario e)) value) }
+    ensures { (value : Result ScenarioValue AScenarioError) → ScenarioFails error value
+        → IsFaultOf result (result_map_both (λ x. x) (λ e. fault.InFile file.Scenario (cause.Scenario e)) value) }
 {
     match error {
         ScenarioError::Memory => AskError::Memory,
@@ -71,7 +74,8 @@ pub fn of_scenario(error: ScenarioError) -> AskError
 
 /// The error for a fault of the script.
 pub fn of_script(error: ScriptError) -> AskError
-    ensures { (value : Result (List LineValue) AScriptError) → ScriptFails error value → IsFaultOf result (result_map_both (λ x. x) (λ e. fault.InFile file.Script (cause.Script e)) value) }
+    ensures { (value : Result (List LineValue) AScriptError) → ScriptFails error value
+        → IsFaultOf result (result_map_both (λ x. x) (λ e. fault.InFile file.Script (cause.Script e)) value) }
 {
     match error {
         ScriptError::Memory => AskError::Memory,
@@ -81,7 +85,8 @@ pub fn of_script(error: ScriptError) -> AskError
 
 /// The error for a fault of the file of activations.
 pub fn of_acts(error: ActsError) -> AskError
-    ensures { (value : Result SomeActs AnActsError) → ActsFails error value → IsFaultOf result (result_map_both (λ x. x) (λ e. fault.InFile file.Script (cause.Acts e)) value) }
+    ensures { (value : Result SomeActs AnActsError) → ActsFails error value
+        → IsFaultOf result (result_map_both (λ x. x) (λ e. fault.InFile file.Script (cause.Acts e)) value) }
 {
     match error {
         ActsError::Memory => AskError::Memory,
@@ -91,7 +96,8 @@ pub fn of_acts(error: ActsError) -> AskError
 
 /// The error for a fault of the file of deliveries.
 pub fn of_deliveries(error: DeliveriesError) -> AskError
-    ensures { (value : Result SomeDeliveries ADeliveriesError) → DeliveriesFails error value → IsFaultOf result (result_map_both (λ x. x) (λ e. fault.InFile file.Script (cause.Deliveries e)) value) }
+    ensures { (value : Result SomeDeliveries ADeliveriesError) → DeliveriesFails error value
+        → IsFaultOf result (result_map_both (λ x. x) (λ e. fault.InFile file.Script (cause.Deliveries e)) value) }
 {
     match error {
         DeliveriesError::Memory => AskError::Memory,
@@ -101,7 +107,8 @@ pub fn of_deliveries(error: DeliveriesError) -> AskError
 
 /// The error for a fault of the file of sweeps.
 pub fn of_sweeps(error: SweepsError) -> AskError
-    ensures { (value : Result (List ASweep) ASweepsError) → SweepsFails error value → IsFaultOf result (result_map_both (λ x. x) (λ e. fault.InFile file.Script (cause.Sweeps e)) value) }
+    ensures { (value : Result (List ASweep) ASweepsError) → SweepsFails error value
+        → IsFaultOf result (result_map_both (λ x. x) (λ e. fault.InFile file.Script (cause.Sweeps e)) value) }
 {
     match error {
         SweepsError::Memory => AskError::Memory,

@@ -8,7 +8,7 @@ ghost use Rattle.io_edge.specs.Whole.{TakesAtMost};
 ghost use Rattle.roa_table.specs.Files.{payloads_in};
 ghost use Rattle.scenario_text.specs.Readings.{scenario_of_bytes};
 ghost use Rattle.scenario_text.specs.Scenarios.{nothing};
-ghost use Rattle.task_reading.specs.Asking.{bytes_of, jobs_in, most_bytes, read_as};
+ghost use Rattle.task_reading.specs.Asking.{jobs_in, most_bytes, read_as};
 ghost use Rattle.task_reading.specs.Files.{FindsJobs, ReadsAs};
 ghost use Rattle.task_reading.specs.Sources.{source_of};
 ghost use Rattle.task_reading.specs.Words.{text_seen};
@@ -110,7 +110,7 @@ fn read_bytes<I: Inputs>(
 ) -> Result<Vec<u8>, AskError>
     requires { most ≤ MOST_LIST_BYTES }
     ensures found { ReadsAs (source_of I.holds I.is_sound I.faults inputs.old inputs.new) (Some name.now)
-        (λ bytes. bytes.items) result (λ reads. bytes_of file most (reads file)) }
+        (λ bytes. bytes.items) result (read_as file most (λ c. c) Ok) }
     ensures keeps { KeepsNames I.holds I.is_sound I.faults inputs.old inputs.new }
 {
     match read_all(alloc, inputs, name, most) {
@@ -154,7 +154,8 @@ pub fn read_plan<I: Inputs>(
     name: Option<&str>,
 ) -> Result<Scenario, AskError>
     ensures found { ReadsAs (source_of I.holds I.is_sound I.faults inputs.old inputs.new) (text_seen name.entry)
-        (λ scenario. scenario) result (λ reads. option_map_or (λ _. read_as files.Scenario MOST_TEXT_BYTES cause.Scenario scenario_of_bytes reads) (text_seen name.entry) (Ok nothing)) }
+        (λ scenario. scenario) result
+        (λ reads. option_map_or (λ _. read_as files.Scenario MOST_TEXT_BYTES cause.Scenario scenario_of_bytes reads) (text_seen name.entry) (Ok nothing)) }
     ensures keeps { KeepsNames I.holds I.is_sound I.faults inputs.old inputs.new }
 {
     let Some(name) = name else {

@@ -14,10 +14,10 @@ returns c =
     no_version ∙ ap (on_top (λ s. record s { disable_version_flag = true })) (no_help ∙ ap (on_top (λ s. record s { disable_help_flag = true })) c.new.ensures.app) in
     let vrps = added c.in_ok-arg.ensures c.option.ensures.local bare c.option.ensures.rule in
     let scenario = added c.in_ok-arg-2.ensures c.option-2.ensures.local vrps c.option-2.ensures.rule in
-    let script = added c.in_ok-arg-3.ensures c.option-3.ensures.local scenario c.option-3.ensures.rule in
-    let origin = added c.in_ok-arg-4.ensures c.option-4.ensures.local script c.option-4.ensures.rule in
-    let demo = added c.in_ok-arg-5.ensures c.option-5.ensures.local origin c.option-5.ensures.rule in
-    let activations = added c.in_ok-arg-6.ensures c.option-6.ensures.local demo c.option-6.ensures.rule in
+    let origin = added c.in_ok-arg-3.ensures c.option-3.ensures.local scenario c.option-3.ensures.rule in
+    let demo = added c.in_ok-arg-4.ensures c.option-4.ensures.local origin c.option-4.ensures.rule in
+    let script = added c.in_ok-arg-5.ensures c.option-5.ensures.local demo c.option-5.ensures.rule in
+    let activations = added c.in_ok-arg-6.ensures c.option-6.ensures.local script c.option-6.ensures.rule in
     let messages = added c.in_ok-arg-7.ensures c.option-7.ensures.local activations c.option-7.ensures.rule in
     let sweep = added c.in_ok-arg-8.ensures c.option-8.ensures.local messages c.option-8.ensures.rule in
     let check = added c.in_ok-arg-9.ensures c.option-9.ensures.local sweep c.option-9.ensures.rule in
