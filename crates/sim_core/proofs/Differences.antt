@@ -1,15 +1,14 @@
 -- Between two worlds with the same rounds and prefixes one number of entries differ.
-use Rattle.std.proofs.Common.{◌≡◌, ℕ, ◌≤◌, IsTrue, Option, Some, None, refl, sym, ap, ◌∙◌, arith}
+use Rattle.std.proofs.Common.{◌≡◌, ℕ, ◌≤◌, IsTrue, None, refl, sym, ap, ◌∙◌, arith}
 use Rattle.std.specs.FinMap as fin
 use Rattle.std.specs.List.{Contains}
-use Rattle.std.specs.Option.{option_or}
 use Rattle.std.proofs.lemmas.List.Sorted.{length_permutation}
 use Rattle.net_names.specs.Prefixes.{PrefixValue}
 use Rattle.stability_laws.specs.Plans.{Plan, has_prefix}
 use Rattle.leak_round.specs.Changes.{Family, HasChanges}
 use Rattle.scenario_text.specs.declared.acts.Edit.{Edit}
 use Rattle.scenario_text.specs.declared.acts.Edit.TheVariants as edit
-use Rattle.sim_core.specs.Edits.{absent, edited, refusal_of_edit}
+use Rattle.sim_core.specs.Edits.{edited, refusal_of_edit}
 use Rattle.sim_core.specs.Kept.{IsKept, Kept}
 use Rattle.sim_core.specs.World.{World}
 use Rattle.sim_core.proofs.Elements.{same_elements}
@@ -41,10 +40,6 @@ one_count w after k l now again m n x y u v rounds prefixes =
     (λ round p low high known a. one_family w k.routings l.routings x.routings y.routings round p low (omega (arith, high, rounds)) (sym (prefixes p) ∙ known) a)
     (λ round p low high known a. one_family after now.routings again.routings u.routings v.routings round p low high known a)
 
-none_first : {T : Type 0} (first second : Option T) → option_or first second ≡ None → first ≡ None
-none_first None second h = refl
-none_first (Some x) second h = cc
-
 same_rounds : (w : World) (e : Edit) → (edited w e).rounds ≡ w.rounds
 same_rounds w (edit.Link a b rel) = refl
 same_rounds w (edit.Unlink a b) = refl
@@ -68,5 +63,5 @@ same_prefixes w (edit.Withdraw prefix a) = refl
 pub one_edit_count : (w : World) (e : Edit) (k l now again : Kept) (m n : ℕ) → refusal_of_edit w e ≡ None → IsKept w k → IsKept w l → IsKept (edited w e) now → IsKept (edited w e) again
     → HasChanges (edited w e).plan (edited w e).rounds k.routings now.routings m → HasChanges (edited w e).plan (edited w e).rounds l.routings again.routings n → m ≡ n
 one_edit_count w e k l now again m n accepted x y u v =
-    let prefixes = same_prefixes w e (none_first (absent w e) _ accepted) in
+    let prefixes = same_prefixes w e in
     one_count w (edited w e) k l now again m n x y u v (same_rounds w e) (λ p. ap (λ s. fin.contains_key s p) prefixes)

@@ -3,7 +3,6 @@ ghost use Rattle.std.specs.Prelude.{◌≡◌, ◌≢◌, ◌≤◌, ◌++◌, �
 ghost use Rattle.policy_kinds.specs.declared.kind.Kind.{Kind as AKind};
 ghost use Rattle.policy_kinds.specs.declared.kind.Kind.TheVariants.{Plain};
 ghost use Rattle.std.specs.FinMap as fin;
-ghost use Rattle.std.specs.List.{list_any};
 ghost use Rattle.stability_laws.specs.Plans.{Plan, empty_plan};
 ghost use Rattle.sim_core.specs.Loaded.{is_other as is_other_policy, plan_of};
 
@@ -14,6 +13,9 @@ use policy_kinds::Kind;
 use scenario_text::{Announcement, Scenario};
 use stability_laws::{Book, SeedPlan};
 use std::alloc::Global;
+
+// So many ASes with a policy of their own, at most, are looked at one after the other.
+const FEW: usize = 4;
 
 /// The same path once more.
 pub fn copy_of(alloc: Global, path: &Path) -> Result<Path, NoMemory>
@@ -82,20 +84,14 @@ fn name_policy(book: &mut Book<Kind>, policy: (Asn, Kind)) -> Result<(), NoMemor
     }
 }
 
-// Whether one of the policies is another than the plain one.
-fn some_other(policies: &[(Asn, Kind)]) -> bool
-    ensures { result ≡ list_any is_other_policy policies.now }
-{
-    policies.iter().any(|policy| is_other(policy.1))
-}
-
-// Makes room for the ASes of the graph, in the order of its rows, where one of the policies is another than the plain
-// one: an AS's policy then stands where its row does.
+// Makes room for the ASes of the graph, in the order of its rows, where more than a few policies are other ones than the
+// plain one: an AS's policy then stands where its row does, and is found there.
 fn make_rows(book: &mut Book<Kind>, graph: &Graph, policies: &[(Asn, Kind)]) -> Result<(), NoMemory>
     ensures rest { book.new.rest ≡ book.old.rest }
     ensures named { book.new.named ≡ book.old.named }
 {
-    if !some_other(policies) {
+    let others = policies.iter().filter(|policy| is_other(policy.1)).count();
+    if others <= FEW {
         return Ok(());
     }
     for asn in graph.rows() {
