@@ -20,7 +20,8 @@ use Rattle.table_check.specs.Rows.{held_by}
 use Rattle.table_check.specs.declared.tables.Tables.{Tables}
 use Rattle.table_check.specs.declared.verdict.Verdict.{Verdict}
 use Rattle.table_check.specs.declared.verdict.Verdict.TheVariants.{Stable, Wrong}
-use Rattle.asprop_run.specs.Checking.{IsCheckText, wrong_rows}
+use Rattle.asprop_run.specs.Checking.{IsCheckText}
+use Rattle.asprop_run.proofs.Facts.{wrong_rows}
 use Rattle.asprop_run.specs.Settling.{said}
 use Rattle.asprop_run.specs.Task.{outside}
 use Rattle.asprop_run.proofs.OneSettling.{book_of}

@@ -61,17 +61,18 @@ unlinked_first w (job ∷ jobs) d line first there is =
     let same : job ≡ messages_job d = (let first : Some (messages_job d) ≡ Some job = first in cc) in
     subst (λ (j : Job). line ≡ outside w (j ∷ jobs)) (sym same) (is ∙ ap (λ b. if b then first_foreign_in (relation (topology w)) d.steps else Some d.for_line) (sym there))
 
-module _ (w : World) (k l : Kept) (x : IsKept w k) (y : IsKept w l) (d : Deliveries) (there : has_round w d.round ≡ true) (known : has_prefix w.plan d.prefix ≡ true) where
+module _ (w : World) (d : Deliveries) (there : has_round w d.round ≡ true) (known : has_prefix w.plan d.prefix ≡ true) where
   -- two texts of what deliveries come to
-  pub one_net_text : (s t : Text) → IsNetText w k d s → IsNetText w l d t → s ≡ t
+  pub one_net_text : (s t : Text) → IsNetText w d s → IsNetText w d t → s ≡ t
   one_net_text s t g h =
       let here : Setting = setting_of w d.prefix in
-      let same_seeds : seeds_kept w l d.round d.prefix ≡ seeds_kept w k d.round d.prefix = sym (one_seeds w k l x y d.round d.prefix there known) in
-      let start = subst (λ (seeds : ℕ → Option Seed). IsStart here seeds h.0) same_seeds h.3.0 in
-      let first : g.0 ≡ h.0 = one_start here (seeds_kept w k d.round d.prefix) g.0 h.0 g.3.0 start in
-      let run = subst (λ (seeds : ℕ → Option Seed). AreTurns here seeds (turns_of d.steps) h.0 h.2 h.1) same_seeds h.3.1 in
-      let ends = one_turns here (λ a. kind_ranks_offers (kind_at w a)) (seeds_kept w k d.round d.prefix) (turns_of d.steps) g.0 g.1 h.1 g.2 h.2 g.3.1 (subst (λ (u : MessageNet). AreTurns here (seeds_kept w k d.round d.prefix) (turns_of d.steps) u h.2 h.1) (sym first) run) in
-      g.3.2 ∙ ((λ i. table (topology w) (λ a. entry_row a ((ends.1 i).choice a)) ++ message_rows (ends.0 i) (queued_in (topology w) (ends.1 i))) ∙ sym h.3.2)
+      let seeds : ℕ → Option Seed = seeds_kept w g.0 d.round d.prefix in
+      let same_seeds : seeds_kept w h.0 d.round d.prefix ≡ seeds = sym (one_seeds w g.0 h.0 g.1 h.1 d.round d.prefix there known) in
+      let start = subst (λ (seeds : ℕ → Option Seed). IsStart here seeds h.2) same_seeds h.5.0 in
+      let first : g.2 ≡ h.2 = one_start here seeds g.2 h.2 g.5.0 start in
+      let run = subst (λ (seeds : ℕ → Option Seed). AreTurns here seeds (turns_of d.steps) h.2 h.4 h.3) same_seeds h.5.1 in
+      let ends = one_turns here (λ a. kind_ranks_offers (kind_at w a)) seeds (turns_of d.steps) g.2 g.3 h.3 g.4 h.4 g.5.1 (subst (λ (u : MessageNet). AreTurns here seeds (turns_of d.steps) u h.4 h.3) (sym first) run) in
+      g.5.2 ∙ ((λ i. table (topology w) (λ a. entry_row a ((ends.1 i).choice a)) ++ message_rows (ends.0 i) (queued_in (topology w) (ends.1 i))) ∙ sym h.5.2)
 
 module _ (settles : TurnsSettle kind_policy) (only : NoOtherIsStable) (w : World) (none : HasCycle w → ⊥) (d : Deliveries) (inside : IsInside w (messages_job d)) (height : ℕ) (high : IsHeight (topology w) height) where
   -- seeds stand at ASes alone
@@ -95,13 +96,13 @@ module _ (settles : TurnsSettle kind_policy) (only : NoOtherIsStable) (w : World
       (only w l d.round d.prefix none ll there.0 there.1 y.choice stable, none_where_quiet (topology w) y ends.quiet)
 
   -- the text of deliveries that end so is that of the routes, and then what is said of the messages
-  pub settled_net_text : (k l : Kept) (text answer : Text) → IsKept w k → IsKept w l → IsNetText w k d text → answer ≡ table (topology w) (λ a. entry_row a (l.routings d.round d.prefix a))
+  pub settled_net_text : (l : Kept) (text answer : Text) → IsKept w l → IsNetText w d text → answer ≡ table (topology w) (λ a. entry_row a (l.routings d.round d.prefix a))
       → (rows : Text) × (made queued : ℕ) × (text ≡ rows ++ message_rows made queued)
       × ((queued ≡ 0) ⊎ (as_count (topology w) ^ (2 * height) ≤ length (filter (λ t. not (is_some t)) (turns_of d.steps))) → (rows ≡ answer) × (queued ≡ 0))
-  settled_net_text k l text answer kk ll h is = (
-    table (topology w) (λ a. entry_row a (h.1.choice a)),
-    h.2,
-    queued_in (topology w) h.1,
-    h.3.2,
-    λ why. (let ends = settled_net k l kk ll h.0 h.1 h.2 h.3.0 h.3.1 why in ((λ i. table (topology w) (λ a. entry_row a (ends.0 a i))) ∙ sym is, ends.1)),
+  settled_net_text l text answer ll h is = (
+    table (topology w) (λ a. entry_row a (h.3.choice a)),
+    h.4,
+    queued_in (topology w) h.3,
+    h.5.2,
+    λ why. (let ends = settled_net h.0 l h.1 ll h.2 h.3 h.4 h.5.0 h.5.1 why in ((λ i. table (topology w) (λ a. entry_row a (ends.0 a i))) ∙ sym is, ends.1)),
   )

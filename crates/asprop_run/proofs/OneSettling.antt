@@ -5,7 +5,7 @@ use Rattle.clap.specs.Walk.{Text}
 use Rattle.net_names.specs.Prefixes.{PrefixValue}
 use Rattle.activations.specs.Pieces.{IsMostPieces}
 use Rattle.activations.specs.declared.acts.Acts.{Acts}
-use Rattle.asprop_run.specs.Settling.{IsActsText, settled_rows}
+use Rattle.asprop_run.specs.Settling.{IsActsText, acts_rows}
 use Rattle.reports.specs.Rows.{table}
 use Rattle.stability_laws.specs.EntryTexts.{entry_row}
 use Rattle.as_graph.specs.Topology.{Topology, has}
@@ -93,18 +93,18 @@ module _ (w : World) (k l : Kept) (x : IsKept w k) (y : IsKept w l) (round : ℕ
   pub one_seeds : seeds_of w.plan round prefix (k.routings (round - 1) prefix) ≡ seeds_of w.plan round prefix (l.routings (round - 1) prefix)
   one_seeds = λ i a. seed_alike (announced_path w.plan prefix a) (nat_lt 1 round) (fin.contains_key w.plan.leakers (round, a)) (k.routings (round - 1) prefix a) (l.routings (round - 1) prefix a) (before_alike a) i
 
-module _ (one : OneAnswer kind_policy) (w : World) (k l : Kept) (x : IsKept w k) (y : IsKept w l) (acts : Acts) (there : has_round w acts.round ≡ true) (known : has_prefix w.plan acts.prefix ≡ true) where
+module _ (one : OneAnswer kind_policy) (w : World) (acts : Acts) (there : has_round w acts.round ≡ true) (known : has_prefix w.plan acts.prefix ≡ true) where
   abbrev seeds_by : Kept → ℕ → Option Seed
   seeds_by kept = seeds_of w.plan acts.round acts.prefix (kept.routings (acts.round - 1) acts.prefix)
 
   -- two texts of what activations come to
-  pub one_acts_text : (s t : Text) → IsActsText w k acts s → IsActsText w l acts t → s ≡ t
+  pub one_acts_text : (s t : Text) → IsActsText w acts s → IsActsText w acts t → s ≡ t
   one_acts_text s t g h =
-      let same_seeds : seeds_by l ≡ seeds_by k = sym (one_seeds w k l x y acts.round acts.prefix there known) in
-      let activated = subst (λ (seeds : ℕ → Option Seed). IsActivated (setting_of w acts.prefix) seeds acts.list (fin.get acts.held) h.0) same_seeds h.4.0 in
-      let same : g.0 ≡ h.0 = one_run one w acts.prefix (seeds_by k) acts.list (fin.get acts.held) g.0 h.0 g.4.0 activated in
-      let stable = subst (λ (seeds : ℕ → Option Seed). IsTrue h.3 ↔ IsStable (setting_of w acts.prefix) seeds h.0) same_seeds h.4.3 in
-      let pieces = one_most (has (topology w)) acts.list g.1 h.1 g.4.2 h.4.2 in
-      let height = one_height (topology w) g.2 h.2 g.4.1 h.4.1 in
-      let settled = one_test g.3 h.3 g.4.3 (subst (λ (f : ℕ → Option Entry). IsTrue h.3 ↔ IsStable (setting_of w acts.prefix) (seeds_by k) f) (sym same) stable) in
-      g.4.4 ∙ ((λ i. table (topology w) (λ a. entry_row a (same i a)) ++ settled_rows (pieces i) (height i) (settled i)) ∙ sym h.4.4)
+      let same_seeds : seeds_by h.0 ≡ seeds_by g.0 = sym (one_seeds w g.0 h.0 g.1 h.1 acts.round acts.prefix there known) in
+      let activated = subst (λ (seeds : ℕ → Option Seed). IsActivated (setting_of w acts.prefix) seeds acts.list (fin.get acts.held) h.2) same_seeds h.6.0 in
+      let same : g.2 ≡ h.2 = one_run one w acts.prefix (seeds_by g.0) acts.list (fin.get acts.held) g.2 h.2 g.6.0 activated in
+      let stable = subst (λ (seeds : ℕ → Option Seed). IsTrue h.5 ↔ IsStable (setting_of w acts.prefix) seeds h.2) same_seeds h.6.3 in
+      let pieces = one_most (has (topology w)) acts.list g.3 h.3 g.6.2 h.6.2 in
+      let height = one_height (topology w) g.4 h.4 g.6.1 h.6.1 in
+      let settled = one_test g.5 h.5 g.6.3 (subst (λ (f : ℕ → Option Entry). IsTrue h.5 ↔ IsStable (setting_of w acts.prefix) (seeds_by g.0) f) (sym same) stable) in
+      g.6.4 ∙ ((λ i. table (topology w) (λ a. entry_row a (same i a)) ++ acts_rows (pieces i) (height i) (settled i)) ∙ sym h.6.4)

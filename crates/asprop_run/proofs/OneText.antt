@@ -102,10 +102,10 @@ module _ (answer : OneAnswer) (count : OneCount) (reason : OneReason) (right : O
   job_agrees w (line_job heads line) s t r q x y inside h g = line_agrees heads w line s t r q x y h g
   job_agrees w (acts_job acts) s t r q x y inside h g =
       let named = in_world w acts inside.0 in
-      record { refused = h.0 ∙ sym g.0; after = h.1 ∙ sym g.1; text = one_acts_text right w h.2 g.2 h.3 g.3 acts named.0 named.1 s t h.4 g.4 }
+      record { refused = h.0 ∙ sym g.0; after = h.1 ∙ sym g.1; text = one_acts_text right w acts named.0 named.1 s t h.2 g.2 }
   job_agrees w (messages_job d) s t r q x y inside h g =
       let named = delivered_in_world w d inside.0 in
-      record { refused = h.0 ∙ sym g.0; after = h.1 ∙ sym g.1; text = one_net_text w h.2 g.2 h.3 g.3 d named.0 named.1 s t h.4 g.4 }
+      record { refused = h.0 ∙ sym g.0; after = h.1 ∙ sym g.1; text = one_net_text w d named.0 named.1 s t h.2 g.2 }
   job_agrees w (sweep_job line) s t r q x y inside h g = record { refused = h.0 ∙ sym g.0; after = h.1 ∙ sym g.1; text = swept w line s t inside.1 inside.0 h.2 g.2 }
   job_agrees w (tables_job tables) s t r q x y inside h g =
       let same = one_check_text verdict w tables r q s t h.1 g.1 in

@@ -27,7 +27,7 @@ use Rattle.stability_laws.specs.declared.entry.Entry.{Entry}
 use Rattle.stability_laws.specs.declared.entry.Seed.{Seed}
 use Rattle.asprop_run.specs.Inside.{IsInside}
 use Rattle.asprop_run.specs.Replies.{IsReply}
-use Rattle.asprop_run.specs.Settling.{IsActsText, settled_rows}
+use Rattle.asprop_run.specs.Settling.{IsActsText, acts_rows}
 use Rattle.asprop_run.proofs.Named.{in_world, none_named}
 use Rattle.asprop_run.proofs.OneSettling.{book_of, one_height, one_most, one_seeds}
 use Rattle.task_reading.specs.Jobs.{acts_job}
@@ -54,15 +54,16 @@ module _ (settles : AnyOrderSettles kind_policy) (only : NoOtherIsStable) (w : W
       (λ cycle is. none (cycle, is)) high (only_ases (has (topology w)) acts sound named) ((most (height + height)).1 enough) (nothing_outside (has (topology w)) acts sound named) run
 
   -- the text of the activations is that of the routes and what is said of the list
-  pub settled_text : (k l : Kept) (text answer : Text) → IsKept w k → IsKept w l → IsActsText w k acts text
-      → answer ≡ table (topology w) (λ a. entry_row a (l.routings acts.round acts.prefix a)) → text ≡ answer ++ settled_rows pieces height true
-  settled_text k l text answer x y h is =
+  pub settled_text : (l : Kept) (text answer : Text) → IsKept w l → IsActsText w acts text
+      → answer ≡ table (topology w) (λ a. entry_row a (l.routings acts.round acts.prefix a)) → text ≡ answer ++ acts_rows pieces height true
+  settled_text l text answer y h is =
       let there = in_world w acts inside.0 in
-      let f : ℕ → Option Entry = h.0 in
-      let good : IsStable (setting_of w acts.prefix) (seeds_by k) f = ends_stable (seeds_by k) f h.4.0 in
-      let other : IsStable (setting_of w acts.prefix) (seeds_by l) f = subst (λ (seeds : ℕ → Option Seed). IsStable (setting_of w acts.prefix) seeds f) (one_seeds w k l x y acts.round acts.prefix there.0 there.1) good in
+      let k : Kept = h.0 in
+      let f : ℕ → Option Entry = h.2 in
+      let good : IsStable (setting_of w acts.prefix) (seeds_by k) f = ends_stable (seeds_by k) f h.6.0 in
+      let other : IsStable (setting_of w acts.prefix) (seeds_by l) f = subst (λ (seeds : ℕ → Option Seed). IsStable (setting_of w acts.prefix) seeds f) (one_seeds w k l h.1 y acts.round acts.prefix there.0 there.1) good in
       let same : (a : ℕ) → f a ≡ l.routings acts.round acts.prefix a = only w l acts.round acts.prefix none y there.0 there.1 f other in
-      let settled : h.3 ≡ true = h.4.3.1 good in
-      let p : h.1 ≡ pieces = one_most (has (topology w)) acts.list h.1 pieces h.4.2 most in
-      let q : h.2 ≡ height = one_height (topology w) h.2 height h.4.1 high in
-      h.4.4 ∙ (λ i. table (topology w) (λ a. entry_row a (same a i)) ++ settled_rows (p i) (q i) (settled i)) ∙ ap (λ t. t ++ settled_rows pieces height true) (sym is)
+      let settled : h.5 ≡ true = h.6.3.1 good in
+      let p : h.3 ≡ pieces = one_most (has (topology w)) acts.list h.3 pieces h.6.2 most in
+      let q : h.4 ≡ height = one_height (topology w) h.4 height h.6.1 high in
+      h.6.4 ∙ (λ i. table (topology w) (λ a. entry_row a (same a i)) ++ acts_rows (p i) (q i) (settled i)) ∙ ap (λ t. t ++ acts_rows pieces height true) (sym is)

@@ -4,7 +4,6 @@ use Rattle.std.specs.Option.{option_map_or}
 use Rattle.asprop_run.specs.Streams.{Stream}
 use Rattle.task_reading.specs.Sources.{Source}
 use Rattle.asprop_run.specs.Task.{HasAnswers, Task, outside}
-use Rattle.task_reading.specs.Asking.{Reads}
 use Rattle.asprop_run.specs.Texts.{ending_of}
 use Rattle.task_reading.specs.Words.{Form, form_of, name_by}
 use Rattle.task_reading.specs.Files.{IsRead}
@@ -19,6 +18,7 @@ use Rattle.asprop_run.specs.declared.types.Failure.{Failure}
 use Rattle.asprop_run.specs.declared.types.Failure.TheVariants as failure
 use Rattle.task_reading.specs.declared.types.Status.{Status}
 use Rattle.task_reading.specs.declared.types.Status.TheVariants as status
+use Rattle.task_reading.proofs.ReadLemmas.{Reads}
 
 -- what was read of a file is what is told of it
 read_is : (held : Option (List ℕ)) (fails : Type 0) (read : Option (List ℕ)) (bytes : List ℕ) → IsRead held fails read → held ≡ Some bytes → (fails → ⊥) → read ≡ Some bytes

@@ -3,7 +3,7 @@ use Rattle.std.proofs.Common.{◌≡◌, ◌⊎◌, inl, inr, ℕ, Bool, true, f
 use Rattle.asprop_run.specs.Streams.{Stream}
 use Rattle.task_reading.specs.Sources.{Source}
 use Rattle.asprop_run.specs.Task.{Task, outside, task_of}
-use Rattle.task_reading.specs.Asking.{Reads, asked}
+use Rattle.task_reading.specs.Asking.{asked}
 use Rattle.task_reading.specs.declared.asking.Asked.{Asked}
 use Rattle.asprop_run.specs.Texts.{ending_of}
 use Rattle.task_reading.specs.Words.{Form, form_of, name_by}
@@ -18,6 +18,7 @@ use Rattle.asprop_run.specs.declared.types.Failure.{Failure}
 use Rattle.asprop_run.specs.declared.types.Failure.TheVariants as failure
 use Rattle.task_reading.specs.declared.types.Status.{Status}
 use Rattle.task_reading.specs.declared.types.Status.TheVariants as status
+use Rattle.task_reading.proofs.ReadLemmas.{Reads}
 use Rattle.task_reading.proofs.Faults.{Stopped, no_form, unread, by_value, bind_err, chosen_err, of_asked, other_line, status_of, too_many}
 use Rattle.asprop_run.proofs.Ending.{task_in, within_limits}
 

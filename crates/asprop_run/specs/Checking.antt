@@ -9,12 +9,10 @@ use Rattle.table_check.specs.Rows.{held_by}
 use Rattle.table_check.specs.declared.tables.Tables.{Tables}
 use Rattle.asprop_run.specs.Settling.{fact, said}
 
--- the round, the row that the AS has in the table, and the row with which it would be right (own format)
-abbrev pub wrong_rows : ℕ → ℕ → (holds right : Option Entry) → Text
-wrong_rows round a holds right = said "stable" false ++ (fact "round" round ++ (codes "holds|" ++ (entry_row a holds ++ (codes "right|" ++ entry_row a right))))
-
--- the text says that each AS is right in each section of the table, with the seeds of a round that follow from the section before, and no other number holds anything; or, and then `wrong` is true, it says the first section that is not so, its lowest such AS or number, what that holds, and what would be right (own format)
+-- the text says that each AS is right in each section of the table, with the seeds of a round that follow from the section before, and no other number holds anything; or, and then `wrong` is true, it says the first section that is not so, its lowest such AS or number, the row that it has in the table, and the row with which it would be right (own format)
 abbrev pub IsCheckText : World → Tables → (wrong : Bool) → Text → Type 0
 IsCheckText w t false text = IsAccepted (setting_of w t.prefix) w.plan t × (text ≡ said "stable" true)
-IsCheckText w t true text = (before a : ℕ) × (right : Option Entry) × IsFirstWrong (setting_of w t.prefix) w.plan t before a right
-    × (text ≡ wrong_rows (suc before) a (held_by t.rows (suc before) a) right)
+IsCheckText w t true text = (before a : ℕ) × (right : Option Entry)
+    × IsFirstWrong (setting_of w t.prefix) w.plan t before a right × (text ≡ said "stable" false
+    ++ (fact "round" (suc before) ++ (codes "holds|" ++ (entry_row a (held_by t.rows (suc before) a)
+    ++ (codes "right|" ++ entry_row a right)))))

@@ -26,7 +26,7 @@ use Rattle.sim_core.specs.Edits.{IsReason}
 use Rattle.sim_core.specs.declared.errors.EditError.TheVariants as edit
 use Rattle.asprop_run.specs.Delivering.{message_rows}
 use Rattle.asprop_run.specs.Inside.{AreInside, IsInside}
-use Rattle.asprop_run.specs.Settling.{settled_rows}
+use Rattle.asprop_run.specs.Settling.{acts_rows}
 use Rattle.task_reading.specs.Jobs.{Job, acts_job, line_job, messages_job, sweep_job, tables_job}
 use Rattle.sweep.specs.declared.sweeps.Sweep.{Sweep}
 use Rattle.asprop_run.specs.Refusals.{edit_refusal}
@@ -68,7 +68,7 @@ abbrev pub OrdersSettle : Type 0
 OrdersSettle = (w after later : World) (acts : Acts) (pieces height number : ℕ) (text routes : Text) (refused other : Bool) →
     (HasCycle w → ⊥) → IsInside w (acts_job acts) → AreSound acts → IsMostPieces (has (topology w)) acts.list pieces → IsHeight (topology w) height → height + height ≤ pieces →
     AnswersJob w (acts_job acts) text refused after → AnswersJob w (line_job false (record { number = number; act = act.Query (Routes acts.round acts.prefix) })) routes other later →
-    text ≡ routes ++ settled_rows pieces height true
+    text ≡ routes ++ acts_rows pieces height true
 
 -- deliveries are answered by rows, and then by what is said of the messages. Where none is under way in the end, or where as many turns as n ^ (2 * h) name no link, none is under way, and the rows are those of the query for the routes of the round and the prefix; the world has n ASes, and its longest chain has h (Gao and Rexford 2001, safety)
 abbrev pub DeliveriesSettle : Type 0

@@ -22,9 +22,9 @@ use Rattle.asprop_run.specs.Settling.{IsActsText, fact}
 abbrev pub IsReply : World → Kept → Act → Text → Bool → World → Type 0
 IsReply w k (Query q) text false after = (refusal_of w q ≡ None) × IsAnswer w k q text × (after ≡ w)
 IsReply w k (Query q) text true after = (e : QueryError) × (refusal_of w q ≡ Some e) × (text ≡ refusal_text e) × (after ≡ w)
-IsReply w k (Edit e) text false after =
-    IsAllowed w e × (after ≡ edited w e) × (now : Kept) × IsKept after now
-    × (routes : ℕ) × HasChanges after.plan after.rounds k.routings now.routings routes × (text ≡ codes "ok " ++ (decimal routes ++ 10 ∷ []))
+IsReply w k (Edit e) text false after = IsAllowed w e × (after ≡ edited w e) × (now : Kept)
+    × IsKept after now × (n : ℕ) × HasChanges after.plan after.rounds k.routings now.routings n
+    × (text ≡ codes "ok " ++ (decimal n ++ 10 ∷ []))
 IsReply w k (Edit e) text true after = (error : EditError) × IsReason w e error × (text ≡ edit_refusal error) × (after ≡ w)
 
 -- the reply to what a line asks was appended (own format)
@@ -43,12 +43,10 @@ AnswersJob w counts_job text refused after = (refused ≡ false) × (after ≡ w
     × (text ≡ fact "ases" (as_count (topology w)) ++ fact "links" (fin.len w.links))
 AnswersJob w (line_job heads line) text refused after = (k : Kept) × IsKept w k × (answer : Text)
     × IsReply w k line.act answer refused after × (text ≡ head heads line.number ++ answer)
-AnswersJob w (acts_job acts) text refused after = (refused ≡ false) × (after ≡ w)
-    × (k : Kept) × IsKept w k × IsActsText w k acts text
-AnswersJob w (messages_job deliveries) text refused after = (refused ≡ false) × (after ≡ w)
-    × (k : Kept) × IsKept w k × IsNetText w k deliveries text
-AnswersJob w (sweep_job line) text refused after = (refused ≡ false) × (after ≡ w) × IsSweptIn w line text
-AnswersJob w (tables_job tables) text refused after = (after ≡ w) × IsCheckText w tables refused text
+AnswersJob w (acts_job a) text refused after = (refused ≡ false) × (after ≡ w) × IsActsText w a text
+AnswersJob w (messages_job d) text refused after = (refused ≡ false) × (after ≡ w) × IsNetText w d text
+AnswersJob w (sweep_job s) text refused after = (refused ≡ false) × (after ≡ w) × IsSweptIn w s text
+AnswersJob w (tables_job t) text refused after = (after ≡ w) × IsCheckText w t refused text
 
 -- the text answers the jobs one after the other, each in the world that the jobs before it leave; `refused` says whether an answer is a refusal (own format)
 abbrev pub AnswersJobs : World → List Job → Text → Bool → Type 0

@@ -7,7 +7,7 @@ use Rattle.activations.specs.Pieces.{IsMostPieces}
 use Rattle.activations.specs.declared.acts.Acts.{Acts}
 use Rattle.as_graph.specs.Topology.{has}
 use Rattle.reports.specs.Rows.{table}
-use Rattle.sim_core.specs.Kept.{Kept}
+use Rattle.sim_core.specs.Kept.{Kept, IsKept}
 use Rattle.sim_core.specs.World.{World, setting_of, topology}
 use Rattle.stability_laws.specs.EntryTexts.{entry_row, row}
 use Rattle.stability_laws.specs.Laws.{IsHeight}
@@ -26,14 +26,14 @@ abbrev pub said : String → Bool → Text
 said name holds = row (codes name ∷ codes (if holds then "yes" else "no") ∷ [])
 
 -- how many full pieces a list of activations has, how many ASes the longest chain of the world has, and whether the routing is stable (own format)
-abbrev pub settled_rows : ℕ → ℕ → Bool → Text
-settled_rows pieces height settled = fact "pieces" pieces ++ (fact "height" height ++ said "settled" settled)
+abbrev pub acts_rows : ℕ → ℕ → Bool → Text
+acts_rows full height stable = fact "pieces" full ++ (fact "height" height ++ said "settled" stable)
 
--- the text says what the activations come to, from what ASes hold at first and with the seeds of the round that follow from the round before: the rows of all ASes in the routing then, and what is said of the list and the routing (own format; Gao and Rexford 2001)
-abbrev pub IsActsText : World → Kept → Acts → Text → Type 0
-IsActsText w k acts text = (f : ℕ → Option Entry) × (pieces height : ℕ) × (settled : Bool) ×
-    let here = setting_of w acts.prefix in
+-- the text says what the activations come to, from what ASes hold at first and with the seeds of the round that follow from the routing that is kept of the round before: the rows of all ASes in the routing then, and what is said of the list and the routing (own format; Gao and Rexford 2001)
+abbrev pub IsActsText : World → Acts → Text → Type 0
+IsActsText w acts text = (k : Kept) × IsKept w k × (f : ℕ → Option Entry) × (pieces height : ℕ)
+    × (settled : Bool) × let here = setting_of w acts.prefix in
     let seeds = seeds_of w.plan acts.round acts.prefix (k.routings (acts.round - 1) acts.prefix) in
     IsRunBy (IsStepWhole here seeds) acts.list (fin.get acts.held) f × IsHeight (topology w) height
     × IsMostPieces (has (topology w)) acts.list pieces × (IsTrue settled ↔ IsStable here seeds f)
-    × (text ≡ table (topology w) (λ a. entry_row a (f a)) ++ settled_rows pieces height settled)
+    × (text ≡ table (topology w) (λ a. entry_row a (f a)) ++ acts_rows pieces height settled)

@@ -14,7 +14,7 @@ ghost use Rattle.stability_laws.specs.Plans.{has_prefix};
 ghost use Rattle.asprop_run.specs.Inside.{IsInside};
 ghost use Rattle.asprop_run.specs.Loaded.{Serves, loaded_world};
 ghost use Rattle.asprop_run.specs.Replies.{AnswersJob};
-ghost use Rattle.asprop_run.specs.Settling.{settled_rows};
+ghost use Rattle.asprop_run.specs.Settling.{acts_rows};
 ghost use Rattle.asprop_run.specs.Task.{outside};
 ghost use Rattle.task_reading.specs.Jobs.{Job as AJob, acts_job, job_seen, needs_of};
 ghost use Rattle.task_reading.specs.declared.jobs.Needs.TheVariants as needs;
@@ -176,7 +176,7 @@ fn put_settled(
     height: u64,
     settled: bool,
 ) -> Result<(), NoMemory>
-    ensures { OnOk result (text.new.items ≡ text.old.items ++ settled_rows pieces height settled) }
+    ensures { OnOk result (text.new.items ≡ text.old.items ++ acts_rows pieces height settled) }
 {
     let word = settled_word(settled);
     match format!(in alloc; "pieces|{pieces}\nheight|{height}\nsettled|{word}\n") {

@@ -46,7 +46,8 @@ fn put_head(alloc: Global, number: u32, text: &mut Vec<u8>) -> Result<(), AllocE
 
 // Appends the answer to a query, or the text of its refusal, and says whether it is refused.
 fn put_reply(sim: &Sim, query: &Query, text: &mut Vec<u8>) -> Result<bool, NoMemory>
-    ensures { IfOk result (λ refused. AppendsReply (world_seen sim.now) (kept sim.now) (Act.Query query.now) refused text.old.items text.new.items (world_seen sim.now)) }
+    ensures { IfOk result (λ refused. AppendsReply (world_seen sim.now) (kept sim.now) (Act.Query query.now)
+        refused text.old.items text.new.items (world_seen sim.now)) }
 {
     match sim.answer(query, text) {
         Ok(()) => Ok(false),
@@ -84,7 +85,8 @@ fn put_edit<L: Ledger>(
     requires ends { IsWellFormed edit.now }
     requires kept { IsKept (world_seen sim.old) (kept sim.old) }
     requires no_cycle { HasCycle (world_seen sim.old) → ⊥ }
-    ensures reply { IfOk result (λ refused. AppendsReply (world_seen sim.old) (kept sim.old) (Act.Edit edit.now) refused text.old.items text.new.items (world_seen sim.new)) }
+    ensures reply { IfOk result (λ refused. AppendsReply (world_seen sim.old) (kept sim.old) (Act.Edit edit.now)
+        refused text.old.items text.new.items (world_seen sim.new)) }
     ensures kept { OnOk result (IsKept (world_seen sim.new) (kept sim.new)) }
     ensures no_cycle { OnOk result (HasCycle (world_seen sim.new) → ⊥) }
 {

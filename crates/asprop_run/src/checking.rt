@@ -1,8 +1,9 @@
 //! The check of a printed table.
-ghost use Rattle.std.specs.Prelude.{◌≡◌, ◌++◌, IfOk, OnOk, option_copied};
+ghost use Rattle.std.specs.Prelude.{◌≡◌, ◌++◌, IfOk, OnOk, codes, false, option_copied};
 ghost use Rattle.sim_core.specs.Bases.{base_world};
-ghost use Rattle.asprop_run.specs.Checking.{wrong_rows};
+ghost use Rattle.stability_laws.specs.EntryTexts.{entry_row};
 ghost use Rattle.asprop_run.specs.Replies.{AnswersJob};
+ghost use Rattle.asprop_run.specs.Settling.{fact, said};
 ghost use Rattle.task_reading.specs.Jobs.{tables_job};
 
 use crate::activating::states_at;
@@ -24,7 +25,8 @@ fn put_wrong(
     right: Option<&Entry>,
 ) -> Result<(), NoMemory>
     ensures { OnOk result (text.new.items ≡ text.old.items
-        ++ wrong_rows round asn (option_copied holds.entry) (option_copied right.entry)) }
+        ++ (said "stable" false ++ (fact "round" round ++ (codes "holds|" ++ (entry_row asn (option_copied holds.entry)
+        ++ (codes "right|" ++ entry_row asn (option_copied right.entry))))))) }
 {
     let Ok(front) = format!(in alloc; "stable|no\nround|{round}\nholds|") else {
         return Err(NoMemory);

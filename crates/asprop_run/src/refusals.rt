@@ -2,7 +2,8 @@
 ghost use Rattle.std.specs.Prelude.{◌≡◌, ◌≢◌, ◌++◌, [], ◌∷◌, OnOk, codes, decimal};
 ghost use Rattle.sim_core.specs.declared.errors.QueryError.TheVariants.{NotWatched, UnknownAs, UnknownPrefix, UnknownRound};
 ghost use Rattle.sim_core.specs.declared.errors.EditError.TheVariants.{AbsentAnnouncement, AbsentLink, AbsentVrp, Limit, Memory, ProviderCycle};
-ghost use Rattle.asprop_run.specs.Refusals.{edit_refusal, limit_name as limit_name_of, refusal_text};
+ghost use Rattle.sim_core.specs.declared.errors.EditLimit.TheVariants.{Announcements, Ases, Links, Vrps};
+ghost use Rattle.asprop_run.specs.Refusals.{edit_refusal, refusal_text};
 
 use cycle_check::Cycle;
 use net_names::{Addr, Asn, NoMemory, Prefix, Vrp, put_addr, put_asn, put_prefix};
@@ -120,7 +121,7 @@ fn put_absent_announcement(out: &mut Vec<u8>, prefix: Prefix, asn: Asn) -> Resul
 }
 
 fn limit_name(which: EditLimit) -> &'static str
-    ensures { result.now ≡ limit_name_of which }
+    ensures { result.now ≡ codes (elim which [ Links ↦ "links" | Announcements ↦ "announcements" | Ases ↦ "ases" | Vrps ↦ "payloads" ]) }
 {
     match which {
         EditLimit::Links => "links",

@@ -9,7 +9,7 @@ use Rattle.reports.specs.Rows.{table}
 use Rattle.stability_laws.specs.EntryTexts.{entry_row}
 use Rattle.sim_core.specs.Sims.{kept, world_seen}
 use Rattle.sim_core.specs.World.{topology}
-use Rattle.asprop_run.specs.Settling.{settled_rows}
+use Rattle.asprop_run.specs.Settling.{acts_rows}
 use Rattle.asprop_run.proofs.Acting.{activates_ases, holds_at_ases, same_has, same_height, same_table, settled_in}
 use Rattle.asprop_run.proofs.activating.answer_activations.Goals as goal
 
@@ -57,7 +57,7 @@ returns c =
           same_height w g c.graph-graph.ensures c.height_of-height.result c.height_of-height.ensures,
           pieces,
           run.1,
-          is ∙ ap (λ (l : List ℕ). l ++ settled_rows c.in_ok-pieces.pieces c.height_of-height.result c.in_ok-settled.settled) rows,
+          is ∙ ap (λ (l : List ℕ). l ++ acts_rows c.in_ok-pieces.pieces c.height_of-height.result c.in_ok-settled.settled) rows,
         ),
       ),
     ))

@@ -3,8 +3,8 @@ use Rattle.sim_core.specs.Bases.{base_world}
 use Rattle.sim_core.specs.World.{setting_of}
 use Rattle.table_check.specs.Checked.{IsVerdict}
 use Rattle.table_check.specs.Rows.{held_by}
-use Rattle.asprop_run.specs.Checking.{wrong_rows}
 use Rattle.asprop_run.proofs.Checked.{verdict_in}
+use Rattle.asprop_run.proofs.Facts.{wrong_rows}
 use Rattle.asprop_run.proofs.checking.answer_check.Goals as goal
 
 pub returns-in-Stable : goal.returns-in-Stable
