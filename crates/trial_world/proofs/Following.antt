@@ -10,7 +10,7 @@ use Rattle.as_graph.specs.Topology.{Topology, as_count, ases, has}
 use Rattle.sim_core.specs.Lent.{IsGraphOf}
 use Rattle.sim_core.specs.World.{World, topology}
 use Rattle.sweep.specs.Trials.{IsAbove, IsNext}
-use Rattle.trial_world.specs.Sweeps.{as_set}
+use Rattle.trial_world.specs.Trials.{as_set}
 use Rattle.trial_world.proofs.KindBooks.{is_key}
 
 abbrev keyed : List ℕ → set.FinSet nat_cmp

@@ -75,21 +75,13 @@ module _ (f old new : ℕ → Kind) (xs : List ℕ) (i x : ℕ) (longer : take (
   more : (a : ℕ) → occurs a (take (i + 1) xs) ≡ (occurs a (take i xs) || (x == a))
   more = occurs_more (take i xs) (take (i + 1) xs) x longer
 
-  pub copied_other : ((a : ℕ) → new a ≡ (if x == a then f x else old a)) → (a : ℕ) → new a ≡ (if occurs a (take (i + 1) xs) then f a else Plain)
-  copied_other is a = is a ∙ ap (λ (k : Kind). if x == a then f x else k) (so_far a) ∙ by (x == a) refl (occurs a (take i xs)) ∙ ap (λ (t : Bool). if t then f a else Plain) (sym (more a))
+  pub copied : ((a : ℕ) → new a ≡ (if x == a then f x else old a)) → (a : ℕ) → new a ≡ (if occurs a (take (i + 1) xs) then f a else Plain)
+  copied is a = is a ∙ ap (λ (k : Kind). if x == a then f x else k) (so_far a) ∙ by (x == a) refl (occurs a (take i xs)) ∙ ap (λ (t : Bool). if t then f a else Plain) (sym (more a))
     where
       by : (t : Bool) → (x == a) ≡ t → (u : Bool) → (if t then f x else (if u then f a else Plain)) ≡ (if u || t then f a else Plain)
       by true e true = ap f (eqb-true x a e)
       by true e false = ap f (eqb-true x a e)
       by false e true = refl
-      by false e false = refl
-
-  pub copied_plain : f x ≡ Plain → ((a : ℕ) → new a ≡ old a) → (a : ℕ) → new a ≡ (if occurs a (take (i + 1) xs) then f a else Plain)
-  copied_plain plain is a = is a ∙ so_far a ∙ by (x == a) refl (occurs a (take i xs)) ∙ ap (λ (t : Bool). if t then f a else Plain) (sym (more a))
-    where
-      by : (t : Bool) → (x == a) ≡ t → (u : Bool) → (if u then f a else Plain) ≡ (if u || t then f a else Plain)
-      by t e true = refl
-      by true e false = sym plain ∙ ap f (eqb-true x a e)
       by false e false = refl
 
 -- ---- kinds that are given back

@@ -2,7 +2,6 @@ mod PartPlans
 mod Subsets
 mod KindBooks
 mod LoneAses
-mod SeenLinks
 mod NextHops
 mod Routings
 mod TrialWorlds

@@ -12,7 +12,8 @@ use Rattle.as_graph.specs.Topology.{as_count}
 use Rattle.stability_laws.proofs.KeyLists.{eq_same}
 use Rattle.sim_core.specs.World.{World, has_round, topology}
 use Rattle.sweep.specs.declared.sweeps.Sweep.{Sweep}
-use Rattle.trial_world.specs.Sweeps.{as_set, is_inside}
+use Rattle.trial_world.specs.Sweeps.{is_inside}
+use Rattle.trial_world.specs.Trials.{as_set}
 use Rattle.trial_world.specs.Trials.{is_of_line}
 use Rattle.trial_world.proofs.Following.{as_many}
 

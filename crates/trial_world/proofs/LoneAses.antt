@@ -1,12 +1,11 @@
 -- Lone ASes.
-use Rattle.std.proofs.Common.{◌≡◌, ◌≢◌, inl, inr, ℕ, ◌&&◌, ◌==◌, ◌||◌, not, Bool, true, false, cond, None, Some, List, [], ◌∷◌, length, refl, sym, ap, subst, ◌∙◌, arith, eqb-true, true≢false}
+use Rattle.std.proofs.Common.{◌≡◌, ◌≢◌, ◌<◌, inl, inr, ℕ, ◌&&◌, ◌==◌, ◌||◌, not, Bool, true, false, cond, None, Some, List, [], ◌∷◌, length, refl, sym, ap, subst, ◌∙◌, arith, eqb-true, true≢false}
 use Rattle.std.specs.Prelude.{filter, nat_eq, nat_lt, option_map}
 use Rattle.std.specs.List.{AllByRecursion, IsDistinct}
 use Rattle.std.specs.FinMap as fin
 use Rattle.std.specs.FinSet as set
 use Rattle.std.specs.Ordering.{nat_cmp}
 use Rattle.std.proofs.lemmas.Bool.{lt-ltb}
-use Rattle.std.proofs.lemmas.Map.Views.{any-filter_same}
 use Rattle.net_names.specs.Links.{LinkMap, converse}
 use Rattle.net_names.specs.Numbers.{occurs}
 use Rattle.net_names.specs.declared.routes.Rel.{Rel}
@@ -16,10 +15,8 @@ use Rattle.as_graph.specs.declared.neighbour.Neighbour.{Neighbour}
 use Rattle.as_graph.proofs.Links.{ends_of, linked_end, relation_mutual}
 use Rattle.as_graph.proofs.RowAses.{end_found, occurs-append, occurs-items}
 use Rattle.stability_laws.specs.Plans.{Plan}
-use Rattle.trial_world.specs.Fixed.{AreLone, AreLower, is_lone, is_named}
-
-pub in_filter : (test : ℕ → Bool) (ks : List ℕ) (a : ℕ) → occurs a (filter test ks) ≡ (test a && occurs a ks)
-in_filter test ks a = any-filter_same (λ x. x == a) test (test a) (λ k e. ap test (eqb-true k a e)) ks
+use Rattle.sim_core.proofs.Rows.{in_filter}
+use Rattle.trial_world.specs.Fixed.{AreLone, is_lone, is_named}
 
 pub off : (t : Bool) → (t ≡ true → ⊥) → t ≡ false
 off true h = absurd (h refl)
@@ -28,6 +25,10 @@ off false h = refl
 -- ends of links are the ASes of the graph without marks
 pub ends_alone : (links : LinkMap) (a : ℕ) → has (unmarked links) a ≡ occurs a (ends_of (fin.entries links))
 ends_alone links a = occurs-append a (set.items set.empty) (ends_of (fin.entries links)) ∙ ap (λ t. t || occurs a (ends_of (fin.entries links))) (occurs-items set.empty a ∙ set.contains-empty nat_cmp a)
+
+-- each link stands at the pair with the lower end first
+abbrev pub AreLower : LinkMap → Type 0
+AreLower links = (p : ℕ × ℕ) (r : Rel) → fin.get links p ≡ Some r → p.0 < p.1
 
 -- where the lower ends stand first, each end of a link has a neighbour
 pub end_linked : (links : LinkMap) → AreLower links → (a : ℕ) → has (unmarked links) a ≡ true → (b : ℕ) × (r : Rel) × (relation (unmarked links) a b ≡ Some r)

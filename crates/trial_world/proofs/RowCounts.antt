@@ -1,18 +1,11 @@
 -- What the rows of a watch count is what the ASes of a trial's world count.
 use Rattle.std.proofs.Common.{◌≡◌, ℕ, ◌+◌, ◌-◌, Bool, true, false, not, ◌&&◌, cond, Some, List, [], ◌∷◌, map, refl, sym, ap, ◌∙◌, arith}
-use Rattle.std.specs.Prelude.{count_by, filter, nat_eq, slice_get}
-use Rattle.std.specs.FinSet as set
+use Rattle.std.specs.Prelude.{count_by, nat_eq, slice_get}
 use Rattle.std.specs.List.{IsDistinct}
-use Rattle.std.specs.Ordering.{nat_cmp}
-use Rattle.std.proofs.lemmas.Cmp.{nat_cmp_total}
-use Rattle.std.proofs.lemmas.List.Sums.{sum_by-cons}
-use Rattle.std.proofs.lemmas.Map.Keys.{IsDistinct-head, IsDistinct-tail}
 use Rattle.net_names.specs.Numbers.{occurs}
 use Rattle.as_graph.specs.Topology.{Topology, ases, has}
-use Rattle.as_graph.proofs.RowAses.{any_none}
 use Rattle.data_trace.specs.Watches.{AreRows, Row, count_of, is_end}
 use Rattle.data_trace.specs.contracts.kinds.EndPartialEq.TheImpl as same_end_test
-use Rattle.data_trace.specs.declared.kinds.End.{End}
 use Rattle.data_trace.specs.declared.kinds.End.TheVariants as the_end
 use Rattle.data_trace.specs.declared.kinds.Hop.{Hop}
 use Rattle.data_trace.specs.declared.kinds.Which.TheVariants.{All}
@@ -23,16 +16,12 @@ use Rattle.trial_world.specs.Sweeps.{end_of}
 use Rattle.sim_core.specs.Watching.{end_at}
 use Rattle.trial_world.specs.Trials.{gone_with}
 use Rattle.sim_core.specs.World.{World, topology}
-use Rattle.trial_world.proofs.LoneAses.{in_filter}
 use Rattle.trial_world.proofs.NextHops.{same_end}
-use Rattle.sim_core.proofs.Rows.{count_alike, ends_at}
+use Rattle.sim_core.proofs.Rows.{and_false, count_alike, count_named, counted_once, ends_at, is_end_same, one_more, same_many}
 use Rattle.sim_core.proofs.Standing.{stands}
 use Rattle.sim_core.proofs.Watches.{map_at}
 
 -- ---- counts
-one_more : {X : Type 0} (p : X → Bool) (x : X) (xs : List X) → count_by p (x ∷ xs) ≡ cond (p x) 1 0 + count_by p xs
-one_more p x xs = sum_by-cons (λ y. cond (p y) 1 0) x xs
-
 -- those that pass one test are those that pass another too and those that don't
 split : {X : Type 0} (p q : X → Bool) (xs : List X) → count_by p xs ≡ count_by (λ x. q x && p x) xs + count_by (λ x. not (q x) && p x) xs
 split p q [] = refl
@@ -50,49 +39,9 @@ none_pass : {X : Type 0} (xs : List X) → count_by (λ x. false) xs ≡ 0
 none_pass [] = refl
 none_pass (x ∷ xs) = (let rest = none_pass xs in let more = one_more (λ y. false) x xs in omega (arith, more, rest))
 
-count_named : (test : ℕ → Bool) (rows : List Row) → count_by (λ r. test r.asn) rows ≡ count_by test (map (λ r. r.asn) rows)
-count_named test [] = refl
-count_named test (r ∷ rows) =
-    one_more (λ (s : Row). test s.asn) r rows ∙ ap (λ n. cond (test r.asn) 1 0 + n) (count_named test rows) ∙ sym (one_more test r.asn (map (λ s. s.asn) rows))
-
-and_false : (b : Bool) → (b && false) ≡ false
-and_false true = refl
-and_false false = refl
-
--- as many pass one test as another where the same numbers do
-same_many : (p q : ℕ → Bool) (xs ys : List ℕ) → ((a : ℕ) → (p a && occurs a xs) ≡ (q a && occurs a ys)) → set.len (set.from_list {R = nat_cmp} (filter p xs)) ≡ set.len (set.from_list {R = nat_cmp} (filter q ys))
-same_many p q xs ys same =
-    ap set.len (set.same_set nat_cmp_total set.nat_cmp-IsAntisymmetric _ _ (λ a. set.contains-from_list_nat (filter p xs) a ∙ in_filter p xs a ∙ same a ∙ sym (in_filter q ys a) ∙ sym (set.contains-from_list_nat (filter q ys) a)))
-
--- numbers that differ are counted one by one
-counted_once : (test : ℕ → Bool) (ks : List ℕ) → IsDistinct nat_eq ks → set.len (set.from_list {R = nat_cmp} (filter test ks)) ≡ count_by test ks
-counted_once test [] d = set.len-empty nat_cmp
-counted_once test (k ∷ ks) d = by (test k) (counted_once test ks (IsDistinct-tail nat_eq k ks d)) ∙ sym (one_more test k ks)
-  where
-    rest : List ℕ
-    rest = filter test ks
-
-    new : set.contains (set.from_list {R = nat_cmp} rest) k ≡ false
-    new = set.contains-from_list_nat rest k ∙ in_filter test ks k ∙ ap (λ b. test k && b) (any_none ks k (IsDistinct-head nat_eq k ks d)) ∙ and_false (test k)
-
-    by : (b : Bool) → set.len (set.from_list {R = nat_cmp} rest) ≡ count_by test ks → set.len (set.from_list {R = nat_cmp} (cond b (k ∷ rest) rest)) ≡ cond b 1 0 + count_by test ks
-    by true more = set.len-insert nat_cmp_total (set.from_list rest) k ∙ ap (λ t. cond t (set.len (set.from_list {R = nat_cmp} rest)) (set.len (set.from_list {R = nat_cmp} rest) + 1)) new ∙ omega (arith, more)
-    by false more = omega (arith, more)
-
 -- as many pass one test among some distinct numbers as another among others, where the same numbers do
 same_count : (p q : ℕ → Bool) (xs ys : List ℕ) → IsDistinct nat_eq xs → IsDistinct nat_eq ys → ((a : ℕ) → (p a && occurs a xs) ≡ (q a && occurs a ys)) → count_by p xs ≡ count_by q ys
 same_count p q xs ys d e same = sym (counted_once p xs d) ∙ same_many p q xs ys same ∙ counted_once q ys e
-
-pub is_end_same : (e f : End) → is_end e f ≡ (same_end_test.ghosts).eq e f
-is_end_same (the_end.At a) (the_end.At b) = refl
-is_end_same (the_end.At a) the_end.NoRoute = refl
-is_end_same (the_end.At a) the_end.Loop = refl
-is_end_same the_end.NoRoute (the_end.At b) = refl
-is_end_same the_end.NoRoute the_end.NoRoute = refl
-is_end_same the_end.NoRoute the_end.Loop = refl
-is_end_same the_end.Loop (the_end.At b) = refl
-is_end_same the_end.Loop the_end.NoRoute = refl
-is_end_same the_end.Loop the_end.Loop = refl
 
 module _ (g : Topology) (next : ℕ → Hop) (label_of : ℕ → ℕ) (rows : List Row) (are : AreRows g next label_of rows) (v : World) (fewer : (a : ℕ) → has (topology v) a ≡ true → has g a ≡ true) (lost : (a : ℕ) → has g a ≡ true → has (topology v) a ≡ false → end_at rows a ≡ the_end.NoRoute)
     (lone : List ℕ) (apart : IsDistinct nat_eq lone) (plain : ℕ → Bool) (gone_are : (a : ℕ) → has g a ≡ true → (not (has (topology v) a)) ≡ (occurs a lone && plain a)) (there : (a : ℕ) → occurs a lone ≡ true → has g a ≡ true) where

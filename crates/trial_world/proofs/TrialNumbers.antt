@@ -43,7 +43,8 @@ use Rattle.trial_world.specs.Fixed.{AreLone, IsFixed, IsPlanFor, is_lone, is_nam
 use Rattle.trial_world.specs.Sweeps.{AreNumbers, end_of, with_kinds}
 use Rattle.trial_world.specs.Trials.{AreCounted, IsWatchIn, number_in, plain_in}
 use Rattle.trial_world.specs.declared.fixed.Fixed.{Fixed}
-use Rattle.trial_world.proofs.NextHops.{lost_end, no_next, same_end, same_next}
+use Rattle.trial_world.proofs.NextHops.{lost_end, no_next, same_end}
+use Rattle.sim_core.proofs.Families.{same_next}
 use Rattle.trial_world.proofs.PartPlans.{unknown}
 use Rattle.trial_world.proofs.Routings.{nothing_stable, one_to, seeds_whole, stable_moved}
 use Rattle.trial_world.proofs.RowCounts.{number_is}

@@ -1,12 +1,10 @@
 -- What no trial of a line changes.
-use Rattle.std.specs.Prelude.{◌≡◌, ◌<◌, ◌≤◌, ℕ, Bool, true, ◌||◌, ◌&&◌, not, Some, List, map, nat_eq}
+use Rattle.std.specs.Prelude.{◌≡◌, ◌≤◌, ℕ, Bool, true, ◌||◌, ◌&&◌, not, List, map, nat_eq}
 use Rattle.std.specs.List.{IsDistinct}
 use Rattle.std.specs.FinMap as fin
 use Rattle.net_names.specs.Addresses.{AddrValue}
 use Rattle.net_names.specs.Coverage.{holds}
-use Rattle.net_names.specs.Links.{LinkMap}
 use Rattle.net_names.specs.Numbers.{occurs}
-use Rattle.net_names.specs.declared.routes.Rel.{Rel}
 use Rattle.net_names.specs.Prefixes.{PrefixValue}
 use Rattle.as_graph.specs.Hierarchy.{HasNoProviderCycle, IsRank}
 use Rattle.as_graph.specs.Topology.{Topology, has, relation, unmarked}
@@ -34,10 +32,6 @@ pub record IsPlanFor (addr : AddrValue) (last : ℕ) (whole part : Plan) : Type 
 abbrev pub is_named : Plan → ℕ → Bool
 is_named plan a = occurs a (announcers_of plan) || occurs a (map (λ x. x.1) (fin.keys plan.leakers))
 
--- each link stands at the pair with the lower end first
-abbrev pub AreLower : LinkMap → Type 0
-AreLower links = (p : ℕ × ℕ) (r : Rel) → fin.get links p ≡ Some r → p.0 < p.1
-
 -- neither a link nor an announcement or a leak names the AS
 abbrev pub is_lone : Topology → Plan → ℕ → Bool
 is_lone g plan a = not (has (unmarked g.links) a) && not (is_named plan a)
@@ -55,7 +49,6 @@ world_of f = base_world f.base.now
 pub record IsFixed (f : Fixed) : Type 0 where
   pub graph : IsGraphOf (world_of f) f.graph.now
   pub payloads : f.states.payloads ≡ (world_of f).payloads
-  pub lower : AreLower f.graph.now.links
   pub ranked : (a : ℕ) → IsRank (relation f.graph.now) a (rank_at f.ranks.now a)
   pub no_cycle : HasNoProviderCycle (relation f.graph.now)
   pub plan : IsPlanFor f.addr f.round (world_of f).plan f.plan

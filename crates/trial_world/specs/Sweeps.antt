@@ -3,7 +3,6 @@ use Rattle.std.specs.Prelude.{◌≡◌, ◌<◌, ℕ, suc, ◌&&◌, nat_le, Bo
 use Rattle.std.specs.List.{list_all}
 use Rattle.std.specs.FinMap as fin
 use Rattle.std.specs.FinSet as set
-use Rattle.std.specs.Ordering.{nat_cmp}
 use Rattle.net_names.specs.Addresses.{AddrValue}
 use Rattle.net_names.specs.Coverage.{holds}
 use Rattle.net_names.specs.Prefixes.{PrefixValue}
@@ -16,7 +15,7 @@ use Rattle.data_trace.specs.Hops.{next_hop}
 use Rattle.data_trace.specs.Traces.{IsTrace}
 use Rattle.data_trace.specs.contracts.kinds.EndPartialEq.TheImpl as same_end
 use Rattle.data_trace.specs.declared.kinds.End.{End}
-use Rattle.data_trace.specs.declared.kinds.End.TheVariants as the_end
+use Rattle.data_trace.specs.declared.kinds.End.TheVariants as end
 use Rattle.sim_core.specs.Counting.{how_many}
 use Rattle.sim_core.specs.Families.{Family}
 use Rattle.sim_core.specs.Loaded.{is_other}
@@ -36,7 +35,7 @@ with_kinds w kinds = record w { kinds = fin.from_entries (filter is_other (map (
 
 -- how the traces of the packets with a fate end
 abbrev pub end_of : Fate → End
-end_of f = elim f [ fate.At a ↦ the_end.At a | fate.NoRoute ↦ the_end.NoRoute | fate.Loop ↦ the_end.Loop ]
+end_of f = elim f [ fate.At a ↦ end.At a | fate.NoRoute ↦ end.NoRoute | fate.Loop ↦ end.Loop ]
 
 -- these are the numbers of ASes with each fate in a round: the rounds up to it have stable routings of the prefixes that hold the address, each with the seeds that follow from the round before, and by the last of them each AS has a trace with its end (Gao and Rexford 2001; RFC 7908, section 3)
 pub record AreNumbers (w : World) (round : ℕ) (addr : AddrValue) (numbers : Fate → ℕ) : Type 0 where
@@ -46,10 +45,7 @@ pub record AreNumbers (w : World) (round : ℕ) (addr : AddrValue) (numbers : Fa
   pub traces : (a : ℕ) → IsTrue (has (topology w) a) → (walk : List ℕ) × IsTrace (next_hop w.plan (held round) addr) a walk (ends a)
   pub counted : (f : Fate) → numbers f ≡ how_many w (λ a. (same_end.ghosts).eq (ends a) (end_of f))
 
--- the set of the ASes of a world
-abbrev pub as_set : World → set.FinSet nat_cmp
-as_set w = fin.from_entries (map (λ a. (a, tt {0})) (ases (topology w)))
-
 -- the text of a sweep over the world (own format)
 abbrev pub IsSweptIn : World → Sweep → List ℕ → Type 0
-IsSweptIn w line = IsSwept (as_set w) (announcers_of w.plan) (λ kinds. AreNumbers (with_kinds w kinds) line.round line.addr) (kind_at w) line
+IsSweptIn w line = IsSwept (fin.from_entries (map (λ a. (a, tt {0})) (ases (topology w))))
+    (announcers_of w.plan) (λ f. AreNumbers (with_kinds w f) line.round line.addr) (kind_at w) line

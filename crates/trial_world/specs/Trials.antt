@@ -1,9 +1,11 @@
 -- What is kept of the world of a trial.
-use Rattle.std.specs.Prelude.{◌≡◌, ℕ, ◌-◌, ◌==◌, ◌&&◌, Bool, false, not, None, List, count_by}
-use Rattle.std.specs.Ordering.{eq_by_cmp}
+use Rattle.std.specs.Prelude.{◌≡◌, ℕ, ◌-◌, ◌==◌, ◌&&◌, Bool, false, not, None, List, count_by, map}
+use Rattle.std.specs.Ordering.{eq_by_cmp, nat_cmp}
+use Rattle.std.specs.FinMap as fin
+use Rattle.std.specs.FinSet as set
 use Rattle.net_names.specs.Addresses.{AddrValue, addr_cmp}
 use Rattle.net_names.specs.Prefixes.{PrefixValue}
-use Rattle.as_graph.specs.Topology.{Topology}
+use Rattle.as_graph.specs.Topology.{Topology, ases}
 use Rattle.origin_validation.specs.Judging.{state_of}
 use Rattle.policy_kinds.specs.Kinds.{kind_policy}
 use Rattle.policy_kinds.specs.declared.kind.Kind.{Kind}
@@ -19,7 +21,7 @@ use Rattle.data_trace.specs.declared.kinds.Which.TheVariants.{All}
 use Rattle.data_trace.specs.declared.watch.Watch.{Watch}
 use Rattle.sim_core.specs.Families.{Family}
 use Rattle.sim_core.specs.Loaded.{is_other}
-use Rattle.sim_core.specs.World.{World}
+use Rattle.sim_core.specs.World.{World, topology}
 use Rattle.sweep.specs.declared.trial.Fate.{Fate}
 use Rattle.sweep.specs.declared.trial.Fate.TheVariants as fate
 use Rattle.trial_world.specs.Fixed.{IsFixed, world_of}
@@ -46,6 +48,10 @@ plain_in lone book = count_by (λ a. not (is_other (a, policy_at book a))) lone
 -- how many ASes of the watch have the fate, less those that are gone
 abbrev pub number_in : Watch → ℕ → Fate → ℕ
 number_in watch gone f = count_of (rows_of watch) All (end_of f) - gone_with f gone
+
+-- the set of the ASes of a world
+abbrev pub as_set : World → set.FinSet nat_cmp
+as_set w = fin.from_entries (map (λ a. (a, tt {0})) (ases (topology w)))
 
 -- the world of a trial, and the round and the address of its line
 abbrev pub line_base : LineTrial → World × (ℕ × AddrValue)

@@ -9,15 +9,13 @@ ghost use Rattle.trial_world.specs.Fixed.{IsFixed};
 ghost use Rattle.trial_world.specs.Sweeps.{is_inside};
 
 use crate::lone::lone_ases;
-use crate::lower::are_lower;
 use crate::parts::part_for;
-use crate::states::states_for;
 use as_graph::Graph;
 use data_trace::WatchIndex;
 use net_names::{Addr, Asn, NoMemory};
 use origin_validation::KnownStates;
 use rank_order::Ranks;
-use sim_core::{Base, kept_are_stable};
+use sim_core::{Base, kept_are_stable, known_states};
 use stability_laws::SeedPlan;
 use std::alloc::Global;
 use sweep::Sweep;
@@ -57,12 +55,8 @@ pub fn fixed_for<'a>(
     kept_are_stable();
     let (graph, whole) = (base.graph(), base.plan());
     let _rounds = base.rounds();
-    // It is so of every graph, though none of its calls says so.
-    if !are_lower(graph) {
-        return Err(NoMemory);
-    }
     let plan = part_for(alloc, whole, line.addr, line.round)?;
-    let states = states_for(alloc, base.vrps(), &plan)?;
+    let states = known_states(alloc, base.vrps(), &plan)?;
     let index = WatchIndex::of(alloc, graph, base.book())?;
     let lone = lone_ases(alloc, graph, whole)?;
     Ok(Fixed {

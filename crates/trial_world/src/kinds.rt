@@ -3,7 +3,6 @@ ghost use Rattle.std.specs.Prelude.{◌≡◌, ℕ, Bool, true, false, IsTrue, A
 ghost use Rattle.std.specs.FinSet as set;
 ghost use Rattle.net_names.specs.Numbers.{occurs};
 ghost use Rattle.policy_kinds.specs.declared.kind.Kind.TheVariants as kind;
-ghost use Rattle.sim_core.specs.Loaded.{is_other as is_other_kind};
 ghost use Rattle.stability_laws.specs.Book.{policy_at};
 ghost use Rattle.sweep.specs.Trials.{changed, with_kinds};
 
@@ -11,16 +10,6 @@ use net_names::{Asn, NoMemory};
 use policy_kinds::Kind;
 use stability_laws::Book;
 use std::alloc::Global;
-
-/// Whether the kind is another than the plain one.
-pub fn is_other(kind: Kind) -> bool
-    ensures { result ≡ is_other_kind (0, kind) }
-{
-    match kind {
-        Kind::Plain => false,
-        _ => true,
-    }
-}
 
 /// Makes room for the ASes of the changes. Their kinds stay, whatever the result.
 pub fn room_for(book: &mut Book<Kind>, changes: &[(Asn, Kind)]) -> Result<(), NoMemory>
@@ -71,16 +60,14 @@ fn give(book: &mut Book<Kind>, asn: Asn, kind: Kind) -> Result<(), NoMemory>
     Ok(())
 }
 
-/// The book in which these ASes have the kinds that they have in another one, and the rest has the plain one.
+/// The book in which these ASes have the kinds that they have in another one, and the rest has the plain one. There is
+/// room for them, in their order.
 pub fn copy_at(alloc: Global, book: &Book<Kind>, ases: &[Asn]) -> Result<Book<Kind>, NoMemory>
     ensures { IfOk result (λ copy. (a : ℕ) → policy_at copy a ≡ (if occurs a ases.now then policy_at book.now a else kind.Plain)) }
 {
     let mut copy = Book::new(alloc, Kind::Plain);
     for asn in ases {
-        let kind = *book.policy(*asn);
-        if is_other(kind) {
-            give(&mut copy, *asn, kind)?;
-        }
+        give(&mut copy, *asn, *book.policy(*asn))?;
     }
     Ok(copy)
 }

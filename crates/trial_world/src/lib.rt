@@ -11,9 +11,7 @@ mod inside;
 mod kinds;
 mod laws;
 mod lone;
-mod lower;
 mod parts;
-mod states;
 mod sweeping;
 mod trial;
 mod watching;
@@ -21,6 +19,3 @@ mod watching;
 pub use inside::is_inside;
 pub use laws::{one_swept_text, swept_numbers_are_reported};
 pub use sweeping::put_sweep;
-
-#[cfg(test)]
-mod tests;

@@ -7,19 +7,10 @@ ghost use Rattle.leak_round.specs.Limits.{IsWithinLimits};
 ghost use Rattle.stability_laws.specs.Plans.{announced_path, announces, leaks_in, has_prefix, empty_plan};
 ghost use Rattle.trial_world.specs.Fixed.{IsPart, IsPlanFor};
 
-use net_names::{Addr, Asn, NoMemory, Path, Prefix, holds};
+use net_names::{Addr, Asn, NoMemory, Prefix, holds};
+use sim_core::copy_of;
 use stability_laws::{SeedPlan, plans_are_sound};
 use std::alloc::Global;
-
-// The same path once more.
-fn copy_of(alloc: Global, path: &Path) -> Result<Path, NoMemory>
-    ensures { IfOk result (λ p. p ≡ path.now) }
-{
-    match Vec::from_slice(alloc, path.as_slice()) {
-        Ok(numbers) => Ok(Path::from_vec(numbers)),
-        Err(_) => Err(NoMemory),
-    }
-}
 
 // Announces what the AS announces of the prefix in the whole plan, if that is anything and isn't announced yet.
 fn announce_at(

@@ -16,7 +16,7 @@ use crate::watching::watch_by;
 use data_trace::{End, Watch, Which};
 use net_names::{Addr, Asn, NoMemory};
 use policy_kinds::Kind;
-use rank_order::Ranks;
+use rank_order::{Ranks, by_rank};
 use sim_core::Base;
 use stability_laws::Book;
 use std::alloc::Global;
@@ -68,7 +68,9 @@ pub fn trial_for<'a>(
     ensures kinds { IfOk result (λ t. (a : ℕ) → policy_at t.book a ≡ kind_at (base_world base.now) a) }
 {
     let fixed = fixed_for(alloc, base, ranks, line)?;
-    let book = copy_at(alloc, base.book(), fixed.graph.ases())?;
+    // Policies are sought at the places of ASes by rank first, as propagation goes along them.
+    let order = by_rank(alloc, fixed.graph, ranks)?;
+    let book = copy_at(alloc, base.book(), order.as_slice())?;
     let watch = watch_by(&fixed, &book)?;
     let gone = plain_count(fixed.lone.as_slice(), &book);
     Ok(LineTrial {
@@ -83,8 +85,8 @@ impl<'a> Trial for LineTrial<'a> {
     ghost use Rattle.net_names.specs.Addresses.{AddrValue};
     ghost use Rattle.sim_core.specs.World.{World};
     ghost use Rattle.stability_laws.specs.Plans.{announcers_of};
-    ghost use Rattle.trial_world.specs.Sweeps.{AreNumbers, as_set, with_kinds};
-    ghost use Rattle.trial_world.specs.Trials.{is_of_line};
+    ghost use Rattle.trial_world.specs.Sweeps.{AreNumbers, with_kinds};
+    ghost use Rattle.trial_world.specs.Trials.{as_set, is_of_line};
 
     ghost Base = { World × (ℕ × AddrValue) };
 

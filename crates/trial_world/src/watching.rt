@@ -1,52 +1,16 @@
 //! The watch of a trial.
-ghost use Rattle.std.specs.Prelude.{◌≡◌, ◌<◌, ◌≤◌, ℕ, IfOk};
-ghost use Rattle.as_graph.specs.Hierarchy.{HasNoProviderCycle, IsRank};
-ghost use Rattle.as_graph.specs.Topology.{relation};
-ghost use Rattle.rank_order.specs.Ranks.{rank_at};
-ghost use Rattle.leak_round.specs.Limits.{IsWithinLimits};
-ghost use Rattle.leak_round.specs.Rounds.{kept, plan_of, round_count};
-ghost use Rattle.origin_validation.specs.Judging.{state_of};
-ghost use Rattle.policy_kinds.specs.Kinds.{kind_policy};
-ghost use Rattle.stability_laws.specs.Rounds.{AreRounds};
-ghost use Rattle.stability_laws.specs.World.{setting};
+ghost use Rattle.std.specs.Prelude.{IfOk};
 ghost use Rattle.trial_world.specs.Fixed.{IsFixed};
 ghost use Rattle.trial_world.specs.Trials.{AreCounted, plain_in};
 
 use crate::fixed::Fixed;
 use data_trace::Watch;
-use leak_round::Rounds;
 use net_names::NoMemory;
-use origin_validation::KnownStates;
 use policy_kinds::Kind;
-use rank_order::Ranks;
-use route_choice::Steps;
-use stability_laws::{Book, SeedPlan, World, paths_go_on, plans_are_sound, right_follows};
-use std::alloc::Global;
+use sim_core::rounds_of;
+use stability_laws::{Book, World, paths_go_on, plans_are_sound, right_follows};
 use std::marker::Brand;
-use std::sync::ledger::{Blank, Ledger};
-
-// The tables of the rounds of a plan, of which there are so many.
-fn rounds_of<L: Ledger>(
-    alloc: Global,
-    world: &World<'_, Kind, KnownStates<'_>>,
-    ranks: &Ranks,
-    plan: SeedPlan,
-    count: u32,
-    blank: Blank,
-) -> Result<Rounds, NoMemory>
-    requires ledger { (blank.name ≡ L.name) × (blank.parts ≡ L.parts) × (0 < L.parts) }
-    requires no_cycle { HasNoProviderCycle (relation world.now.graph.now) }
-    requires ranks { (a : ℕ) → IsRank (relation world.now.graph.now) a (rank_at ranks.now a) }
-    requires small { IsWithinLimits plan }
-    requires few { count ≤ 4 }
-    ensures plan { IfOk result (λ r. plan_of r ≡ plan) }
-    ensures count { IfOk result (λ r. round_count r ≡ count) }
-    ensures stable { IfOk result (λ r. AreRounds (λ p. setting kind_policy world.now.graph.now
-        world.now.book.now (state_of world.now.states.now.payloads p)) plan count (kept r)) }
-{
-    let mut steps = Steps::<L>::new(blank);
-    Rounds::build(alloc, world, ranks, plan, count, &mut steps)
-}
+use std::sync::ledger::Blank;
 
 /// The watch for the line's address in its round, where the ASes have the kinds of the book.
 pub fn watch_by(fixed: &Fixed<'_>, book: &Book<Kind>) -> Result<Watch, NoMemory>

@@ -21,7 +21,6 @@ returns-clause-right c =
     record {
       graph = c.graph-graph.ensures;
       payloads = c.in_ok-states.ensures ∙ c.vrps.ensures;
-      lower = c.are_lower.ensures c.if-not-are_lower.false;
       ranked = λ a. subst (λ (t : Topology). IsRank (relation t) a (rank_at c.args.ranks.now a)) (sym c.graph-graph.ensures) (c.requires.ranks a);
       no_cycle = c.kept_are_stable.ensures.no_cycle w g c.graph-graph.ensures c.requires.no_cycle;
       plan = subst (λ (t : Plan). IsPlanFor c.args.line.now.addr c.args.line.now.round t c.in_ok-plan.plan) whole c.in_ok-plan.ensures.part;

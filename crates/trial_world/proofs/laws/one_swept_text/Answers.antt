@@ -4,7 +4,8 @@ use Rattle.stability_laws.specs.Plans.{announcers_of}
 use Rattle.sim_core.specs.World.{has_round, kind_at}
 use Rattle.sim_core.proofs.Watches.{round_within}
 use Rattle.sweep.proofs.Parts.{swept_once}
-use Rattle.trial_world.specs.Sweeps.{AreNumbers, as_set, with_kinds}
+use Rattle.trial_world.specs.Sweeps.{AreNumbers, with_kinds}
+use Rattle.trial_world.specs.Trials.{as_set}
 use Rattle.trial_world.proofs.TrialNumbers.{one_number}
 use Rattle.trial_world.proofs.laws.one_swept_text.Goals as goal
 

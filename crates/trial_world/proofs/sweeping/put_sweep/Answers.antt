@@ -7,7 +7,8 @@ use Rattle.stability_laws.specs.Plans.{announcers_of}
 use Rattle.sim_core.specs.Bases.{base_world}
 use Rattle.sim_core.specs.World.{World}
 use Rattle.sweep.specs.Swept.{Appends, IsSwept}
-use Rattle.trial_world.specs.Sweeps.{AreNumbers, as_set, with_kinds}
+use Rattle.trial_world.specs.Sweeps.{AreNumbers, with_kinds}
+use Rattle.trial_world.specs.Trials.{as_set}
 use Rattle.trial_world.specs.Trials.{is_of_line}
 use Rattle.trial_world.proofs.Lines.{few_numbers, own_line}
 use Rattle.trial_world.proofs.PartPlans.{on_ok}

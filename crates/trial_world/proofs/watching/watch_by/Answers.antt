@@ -28,9 +28,9 @@ by_index-requires-clause-inside c =
     let part : c.in_ok-plan.plan ≡ f.plan = c.in_ok-plan.ensures in
     let each : (p : PrefixValue) (a : ℕ) → round_routing c.pool-pool.result.now tables p a ≡ kept rounds f.round p a = λ p a.
     ap (λ (pool : PathPool). round_routing pool tables p a) c.pool-pool.ensures.value ∙ c.in-Some.ensures.routing p a in
-    let full : (p : PrefixValue) → is_some (table_at tables p) ≡ has_prefix f.plan p = λ p. c.in-Some.ensures.prefixes p ∙ ap (λ (t : Plan). has_prefix t p) (c.in_ok-rounds.ensures.plan ∙ part) in
+    let full : (p : PrefixValue) → is_some (table_at tables p) ≡ has_prefix f.plan p = λ p. c.in-Some.ensures.prefixes p ∙ ap (λ (t : Plan). has_prefix t p) (c.in_ok-rounds.ensures.rounds.plan_is ∙ part) in
     let stable : AreRounds (λ p. setting kind_policy f.graph.now c.args.book.now (state_of f.states.payloads p)) f.plan f.round (kept rounds) =
-    subst (λ (t : Plan). AreRounds (λ p. setting kind_policy f.graph.now c.args.book.now (state_of f.states.payloads p)) t f.round (kept rounds)) part c.in_ok-rounds.ensures.stable in
+    subst (λ (t : Plan). AreRounds (λ p. setting kind_policy f.graph.now c.args.book.now (state_of f.states.payloads p)) t f.round (kept rounds)) part c.in_ok-rounds.ensures.rounds.stable in
     tables_inside (has_as f.index) c.pool-pool.result.now tables c.plan-whole.result.now f.plan (kept rounds f.round) each full
     (λ p a h. ap (λ (t : Plan). announces t p a) whole ∙ announces_whole f.addr (world_of f).plan f.plan c.requires.plan.is_part p a h)
     (inside_part c.paths_go_on.ensures f.graph.now c.args.book.now f.states.payloads f.index c.requires.index.listed f.plan c.plans_are_sound.ensures f.round c.requires.from (kept rounds) stable)
@@ -44,9 +44,9 @@ returns c =
     let part : c.in_ok-plan.plan ≡ f.plan = c.in_ok-plan.ensures in
     let each : (p : PrefixValue) (a : ℕ) → round_routing c.pool-pool.result.now tables p a ≡ kept rounds f.round p a = λ p a.
     ap (λ (pool : PathPool). round_routing pool tables p a) c.pool-pool.ensures.value ∙ c.in-Some.ensures.routing p a in
-    let full : (p : PrefixValue) → is_some (table_at tables p) ≡ has_prefix f.plan p = λ p. c.in-Some.ensures.prefixes p ∙ ap (λ (t : Plan). has_prefix t p) (c.in_ok-rounds.ensures.plan ∙ part) in
+    let full : (p : PrefixValue) → is_some (table_at tables p) ≡ has_prefix f.plan p = λ p. c.in-Some.ensures.prefixes p ∙ ap (λ (t : Plan). has_prefix t p) (c.in_ok-rounds.ensures.rounds.plan_is ∙ part) in
     let stable : AreRounds (λ p. setting kind_policy f.graph.now c.args.book.now (state_of (world_of f).payloads p)) f.plan f.round (kept rounds) =
-    subst (λ (t : Plan × Payloads). AreRounds (λ p. setting kind_policy f.graph.now c.args.book.now (state_of t.1 p)) t.0 f.round (kept rounds)) (λ i. (part i, c.requires.payloads i)) c.in_ok-rounds.ensures.stable in
+    subst (λ (t : Plan × Payloads). AreRounds (λ p. setting kind_policy f.graph.now c.args.book.now (state_of t.1 p)) t.0 f.round (kept rounds)) (λ i. (part i, c.requires.payloads i)) c.in_ok-rounds.ensures.rounds.stable in
     ok_gives _ (λ watch. AreCounted f c.args.book.now watch (plain_in f.lone.items c.args.book.now)) c.by_index.result
     (λ watch rows. numbers_for c.right_follows.ensures f c.requires c.plans_are_sound.ensures c.args.book.now watch (record {
       held = kept rounds;

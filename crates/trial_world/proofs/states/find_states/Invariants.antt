@@ -1,5 +1,0 @@
-use Rattle.std.proofs.Common.{◌≡◌}
-use Rattle.trial_world.proofs.states.find_states.Given as goal
-
-abbrev pub invariant-loop-asn : goal.invariant-loop-asn
-invariant-loop-asn l = l.states.payloads ≡ l.fn.states.payloads
