@@ -1,2 +1,3 @@
 pub mod Narrows
 pub mod NarrowLaws
+pub mod Settled

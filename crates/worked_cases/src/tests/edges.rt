@@ -8,7 +8,6 @@ use std::io;
 use std::io::{ErrorKind, Read, Seek, SeekFrom, Write};
 use std::process::Abort;
 use std::rt::Files;
-use std::test::Fail;
 
 const TEXT: &[u8] = b"1|2|-1\n1|3|-1\n";
 
@@ -207,15 +206,9 @@ fn a_file_that_fails_in_the_middle_does_not_end_there(rt: HostRuntime) {
 }
 
 // A stream of which the calls of these numbers fail and are interrupted gets so many of the bytes, each once.
-fn check_written(
-    rt: &impl Abort,
-    alloc: Global,
-    fails: u64,
-    interrupted: u64,
-    count: usize,
-) -> Result<(), Fail> {
+fn check_written(rt: &impl Abort, alloc: Global, fails: u64, interrupted: u64, count: usize) {
     let mut stream = SlowStream {
-        kept: Vec::with_capacity(alloc, 16)?,
+        kept: Vec::with_capacity(alloc, 16).expect(rt, "memory"),
         calls: Calls::of(fails, interrupted),
     };
     let mut sink = StdSink::new(&mut stream);
@@ -223,15 +216,13 @@ fn check_written(
     drop(sink);
     assert!(rt; written.is_ok() == (count == 14));
     assert!(rt; Some(stream.kept.as_slice()) == TEXT.get(..count));
-    Ok(())
 }
 
 #[test]
-fn a_slow_stream_gets_each_byte_once_or_a_front(rt: HostRuntime) -> Result<(), Fail> {
+fn a_slow_stream_gets_each_byte_once_or_a_front(rt: HostRuntime) {
     for count in 0..15usize {
         let next = (count as u64).saturating_add(1);
-        check_written(&rt, rt.alloc(), next, 0, count)?;
-        check_written(&rt, rt.alloc(), 0, next, 14)?;
+        check_written(&rt, rt.alloc(), next, 0, count);
+        check_written(&rt, rt.alloc(), 0, next, 14);
     }
-    Ok(())
 }

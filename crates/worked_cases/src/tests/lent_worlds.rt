@@ -14,11 +14,10 @@ use std::process::Abort;
 // AS 3 leaks what it has from a provider.
 pub(super) const LEAK: &[u8] = b"1|3|-1\n2|3|-1\n1|5|-1\n1|2|0\n";
 
-const SCENARIO: &[u8] =
+pub(super) const LEAKING: &[u8] =
     br#"{"announcements":[{"prefix":"10.0.0.0/8","as":5}],"leaks":[[3]],"watch":["10.0.0.1"]}"#;
 
-fn leak_scenario(rt: &impl Abort, alloc: Global) -> Scenario {
-    let text = SCENARIO;
+fn scenario_of(rt: &impl Abort, alloc: Global, text: &[u8]) -> Scenario {
     assert!(rt; text.len() < 1000);
     match read_scenario(alloc, text) {
         Ok(scenario) => scenario,
@@ -32,18 +31,30 @@ fn no_payloads(rt: &impl Abort, alloc: Global) -> Vrps {
 
 fn leak(rt: &impl Abort, alloc: Global) -> Sim {
     let links = read_links(alloc, LEAK).expect(rt, "links");
-    let (vrps, scenario) = (no_payloads(rt, alloc), leak_scenario(rt, alloc));
+    let (vrps, scenario) = (no_payloads(rt, alloc), scenario_of(rt, alloc, LEAKING));
     match Sim::load(alloc, links, vrps, scenario) {
         Ok(sim) => sim,
         Err(_) => panic!(rt; "a simulation"),
     }
 }
 
-// The world of these links with the scenario of the leak, of which nothing is kept.
-pub(super) fn base_of(rt: &impl Abort, alloc: Global, links: &[u8]) -> Result<Base, LoadError> {
+fn loaded(
+    rt: &impl Abort,
+    alloc: Global,
+    links: &[u8],
+    scenario: &[u8],
+) -> Result<Base, LoadError> {
     let links = read_links(alloc, links).expect(rt, "links");
-    let (vrps, scenario) = (no_payloads(rt, alloc), leak_scenario(rt, alloc));
+    let (vrps, scenario) = (no_payloads(rt, alloc), scenario_of(rt, alloc, scenario));
     Base::load(alloc, links, vrps, scenario)
+}
+
+// The world of these links and this scenario, of which nothing is kept.
+pub(super) fn base_of(rt: &impl Abort, alloc: Global, links: &[u8], scenario: &[u8]) -> Base {
+    match loaded(rt, alloc, links, scenario) {
+        Ok(base) => base,
+        Err(_) => panic!(rt; "a world"),
+    }
 }
 
 fn expect_seed(rt: &impl Abort, seeds: &Seeds, asn: Asn, path: &[Asn]) {
@@ -106,16 +117,14 @@ fn expect_base(rt: &impl Abort, base: &Base) {
 
 #[test]
 fn a_world_of_which_nothing_is_kept_lends_the_same(rt: HostRuntime) {
-    match base_of(&rt, rt.alloc(), LEAK) {
-        Ok(base) => expect_base(&rt, &base),
-        Err(_) => assert!(rt; false),
-    }
+    let base = base_of(&rt, rt.alloc(), LEAK, LEAKING);
+    expect_base(&rt, &base);
 }
 
 #[test]
 fn a_world_with_a_provider_cycle_is_refused_without_routings(rt: HostRuntime) {
     let cycle = [number(&rt, 1), number(&rt, 2), number(&rt, 3)];
-    match base_of(&rt, rt.alloc(), b"1|2|-1\n2|3|-1\n3|1|-1\n") {
+    match loaded(&rt, rt.alloc(), b"1|2|-1\n2|3|-1\n3|1|-1\n", LEAKING) {
         Err(LoadError::ProviderCycle(found)) => {
             assert!(rt; found.as_slice() == cycle.as_slice());
         }

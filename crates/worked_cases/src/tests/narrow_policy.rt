@@ -1,25 +1,29 @@
-//! What the narrow policy answers, and the stable routing where every AS has it, worked by hand.
+//! What the narrow policy answers, and the stable routing where every AS has it, before and after an edit, worked by hand.
 
-ghost use Rattle.std.specs.Prelude.{◌≡◌, ℕ, ◌+◌, ◌*◌, ◌<◌, ◌≤◌, IfOk};
-ghost use Rattle.as_graph.specs.Hierarchy.{HasNoProviderCycle, IsRank};
-ghost use Rattle.as_graph.specs.Topology.{as_count, relation};
+ghost use Rattle.std.specs.Prelude.{◌≡◌, ◌≢◌, ℕ, ◌<◌, ◌≤◌, None};
+ghost use Rattle.net_names.specs.declared.routes.State.TheVariants.{NotFound};
 ghost use Rattle.path_pool.specs.Pool.{count_of, live_count, limit_of};
-ghost use Rattle.rank_order.specs.Ranks.{rank_at};
 ghost use Rattle.route_choice.specs.Resources.{AreSeedsLive};
+ghost use Rattle.route_choice.specs.Tables.{seed_at};
+ghost use Rattle.stability_laws.specs.World.{setting};
+ghost use Rattle.worked_cases.specs.Narrows.{narrow_policy};
+ghost use Rattle.worked_cases.specs.Settled.{IsSettled};
 
-use super::worlds::{expect_routes, graph_of, likes, main_prefix, number, ranks_of, takes, view};
+use super::worlds::{
+    expect_routes, graph_of, likes, main_prefix, number, planned_ranks, ranks_of, takes, view,
+};
 use crate::Narrow;
-use as_graph::Graph;
+use as_graph::{Graph, ases_are_kept, links_are_taken};
+use dirty_recompute::{PlannedRanks, PrefixEdit, plan_edit};
 use net_names::{Asn, Class, Rel, State};
 use path_pool::PathPool;
 use policy_laws::{NoStates, RoutePolicy};
-use route_choice::{SeedHeld, SeedIds, Steps};
-use stability_laws::{Book, World};
+use route_choice::{Overlay, SeedHeld, SeedIds, Steps, Table};
+use stability_laws::{Book, World, right_follows};
 use std::alloc::Global;
 use std::marker::Brand;
 use std::process::Abort;
 use std::sync::ledger::{Blank, Ledger};
-use std::test::Fail;
 use three_pass::propagate;
 
 fn hands_on<P: RoutePolicy>(policy: &P, held: Class, to: Rel) -> bool {
@@ -54,66 +58,142 @@ fn routes_of_customers_go_to_customers_and_peers(rt: HostRuntime) {
     }
 }
 
-// A pool and the seed of an AS that announces the prefix.
+// A pool, the seed of an AS that announces the prefix, and what each AS holds of it.
 #[derive(Drop)]
-struct Announcement {
+struct Settled {
     pool: PathPool,
     seeds: SeedIds,
+    table: Table,
 }
 
-fn announce(alloc: Global, asn: Asn, limit: usize) -> Result<Announcement, Fail>
+// A pool of so many cells and the seed of an AS that announces the prefix.
+fn announce(rt: &impl Abort, alloc: Global, asn: Asn, limit: usize) -> (PathPool, SeedIds)
     requires { limit < 1000 }
-    ensures seeds { IfOk result (λ d. AreSeedsLive d.pool d.seeds) }
-    ensures counts { IfOk result (λ d. (k : ℕ) → count_of d.pool k ≤ 1) }
-    ensures live { IfOk result (λ d. live_count d.pool ≡ 1) }
-    ensures limit { IfOk result (λ d. limit_of d.pool ≡ limit) }
+    ensures only { (a : ℕ) → a ≢ asn → seed_at result.1 a ≡ None }
+    ensures seeds { AreSeedsLive result.0 result.1 }
+    ensures counts { (k : ℕ) → count_of result.0 k ≤ 1 }
+    ensures live { live_count result.0 ≡ 1 }
+    ensures limit { limit_of result.0 ≡ limit }
 {
     let mut pool = PathPool::new(alloc, limit);
-    pool.reserve(1)?;
+    let Ok(()) = pool.reserve(1) else {
+        panic!(rt; "room");
+    };
     let path = pool.cons(asn, None);
     let mut seeds = SeedIds::new(alloc);
-    seeds.put(asn, SeedHeld { path, otc: None })?;
-    Ok(Announcement { pool, seeds })
+    match seeds.put(asn, SeedHeld { path, otc: None }) {
+        Ok(()) => (pool, seeds),
+        Err(_) => panic!(rt; "memory"),
+    }
 }
 
-// The rows of the stable routing where one AS announces the prefix, by these policies and ranks, in a pool that is just
-// large enough.
-fn expect_stable<P: RoutePolicy, L: Ledger>(
+// The stable routing of the prefix that the AS announces, in a pool of so many cells.
+fn settle<L: Ledger>(
     rt: &impl Abort,
     alloc: Global,
     graph: &Graph,
-    book: &Book<P>,
+    book: &Book<Narrow>,
     origin: Asn,
-    blank: Blank,
-    rows: &[u8],
-) -> Result<(), Fail>
-    requires name { blank.name ≡ L.name }
-    requires parts { blank.parts ≡ L.parts }
-    requires some { 0 < L.parts }
+    limit: usize,
+    steps: &mut Steps<L>,
+) -> Settled
+    requires { limit < 1000 }
+    ensures settled { IsSettled (setting (λ p. narrow_policy) graph.now book.now (λ asn. NotFound)) origin result.pool result.seeds result.table }
+    ensures limit { limit_of result.pool ≡ limit }
 {
-    assert!(rt; graph.as_count() < 100);
+    assert!(rt; 2 * graph.as_count() < limit);
+    let (mut pool, seeds) = announce(rt, alloc, origin, limit);
     let ranks = ranks_of(rt, alloc, graph);
-    let Announcement { mut pool, seeds } = announce(alloc, origin, 1 + 2 * graph.as_count())?;
-    let mut steps = Steps::<L>::new(blank);
     let world = World {
         graph,
         book,
         states: &NoStates,
     };
-    let prefix = main_prefix(rt);
-    let table = propagate(alloc, &world, &ranks, prefix, &seeds, &mut pool, &mut steps)?;
-    expect_routes(rt, alloc, graph, &table, &pool, rows);
-    Ok(())
+    match propagate(
+        alloc,
+        &world,
+        &ranks,
+        main_prefix(rt),
+        &seeds,
+        &mut pool,
+        steps,
+    ) {
+        Ok(table) => Settled { pool, seeds, table },
+        Err(_) => panic!(rt; "memory"),
+    }
+}
+
+// What changes of the table when the link between the two goes.
+fn cut<L: Ledger>(
+    rt: &impl Abort,
+    alloc: Global,
+    graph: &mut Graph,
+    book: &Book<Narrow>,
+    origin: Asn,
+    ends: (Asn, Asn),
+    at: &mut Settled,
+    steps: &mut Steps<L>,
+) -> Overlay
+    requires settled { IsSettled (setting (λ p. narrow_policy) graph.old book.now (λ asn. NotFound)) origin at.old.pool at.old.seeds at.old.table }
+    requires limit { limit_of at.old.pool ≡ 100 }
+{
+    links_are_taken();
+    ases_are_kept();
+    right_follows::<Narrow>();
+    let Ok(()) = graph.unlink(ends.0, ends.1) else {
+        panic!(rt; "a link");
+    };
+    let (ranks, plan) = planned_ranks(rt, alloc, graph);
+    let ranks = PlannedRanks {
+        ranks: &ranks,
+        plan: &plan,
+    };
+    let world = World {
+        graph: &*graph,
+        book,
+        states: &NoStates,
+    };
+    let edit = PrefixEdit {
+        seeds: &at.seeds,
+        touched: &[ends.0, ends.1],
+    };
+    let (table, pool) = (&mut at.table, &mut at.pool);
+    assert!(rt; world.graph.has(origin));
+    assert!(rt; pool.live() < 50 && world.graph.as_count() < 20);
+    match plan_edit(alloc, &world, &ranks, &edit, table, pool, steps) {
+        Ok(overlay) => overlay,
+        Err(_) => panic!(rt; "memory"),
+    }
+}
+
+// What each AS holds where AS 3 announces a prefix.
+pub(super) const LINKS: &[u8] = b"1|2|-1\n2|3|-1\n2|4|0\n4|5|-1\n";
+
+pub(super) const ROWS: &[u8] = b"1|none|\n2|customer|2 3\n3|origin|3\n4|peer|4 2 3\n5|none|\n";
+
+// In a pool that is just large enough and in a larger one; and without the link between AS 2 and AS 4, AS 4 holds nothing,
+// and nothing else changes.
+fn expect_settled_and_cut<L: Ledger>(rt: &impl Abort, alloc: Global, blank: Blank)
+    requires name { blank.name ≡ L.name }
+    requires parts { blank.parts ≡ L.parts }
+    requires some { 0 < L.parts }
+{
+    let (two, three, four) = (number(rt, 2), number(rt, 3), number(rt, 4));
+    let mut graph = graph_of(rt, alloc, LINKS);
+    let book = Book::new(alloc, Narrow);
+    let mut steps = Steps::<L>::new(blank);
+    let tight = settle(rt, alloc, &graph, &book, three, 11, &mut steps);
+    expect_routes(rt, alloc, &graph, &tight.table, &tight.pool, ROWS);
+    let mut wide = settle(rt, alloc, &graph, &book, three, 100, &mut steps);
+    expect_routes(rt, alloc, &graph, &wide.table, &wide.pool, ROWS);
+    let ends = (two, four);
+    let overlay = cut(
+        rt, alloc, &mut graph, &book, three, ends, &mut wide, &mut steps,
+    );
+    assert!(rt; overlay.len() == 1 && overlay.get(four) == Some(None));
 }
 
 #[test]
-fn a_customers_route_stops_below_providers_and_after_three_ases(
-    rt: HostRuntime,
-) -> Result<(), Fail> {
-    let three = number(&rt, 3);
-    let graph = graph_of(&rt, rt.alloc(), b"1|2|-1\n2|3|-1\n2|4|0\n4|5|-1\n");
-    let book = Book::new(rt.alloc(), Narrow);
-    let rows = b"1|none|\n2|customer|2 3\n3|origin|3\n4|peer|4 2 3\n5|none|\n";
-    let blank = Blank::new(1);
-    expect_stable::<Narrow, Brand>(&rt, rt.alloc(), &graph, &book, three, blank, rows)
+fn a_route_stops_below_providers_after_three_ases_and_where_a_link_went(rt: HostRuntime) {
+    expect_settled_and_cut::<Brand>(&rt, rt.alloc(), Blank::new(1));
 }

@@ -1,74 +1,35 @@
-//! Rounds whose paths are moved to another pool, worked by hand.
+//! Rounds that are planned anew, and whose paths are moved to another pool, worked by hand.
 
-ghost use Rattle.std.specs.Prelude.{◌≡◌, ℕ, ◌<◌, false, IfOk};
-ghost use Rattle.as_graph.specs.Hierarchy.{HasNoProviderCycle, IsRank};
-ghost use Rattle.as_graph.specs.Topology.{relation};
+ghost use Rattle.std.specs.Prelude.{◌≡◌, ℕ, ◌<◌, ◌≤◌, true, false, IsTrue};
+ghost use Rattle.as_graph.specs.Topology.{has};
 ghost use Rattle.leak_round.specs.Limits.{IsWithinLimits};
-ghost use Rattle.leak_round.specs.Rounds.{is_open, kept, plan_of as planned, round_count};
-ghost use Rattle.rank_order.specs.Ranks.{rank_at};
+ghost use Rattle.leak_round.specs.Plans.{IsOpenPlan, kept_with, plan_after};
+ghost use Rattle.leak_round.specs.Rounds.{is_open, kept, plan_of as planned, pool_of, round_count};
+ghost use Rattle.leak_round.specs.declared.rounds.TheConstants.{MOST_CELLS};
+ghost use Rattle.net_names.specs.Prefixes.{PrefixValue};
+ghost use Rattle.net_names.specs.declared.routes.State.TheVariants.{NotFound};
+ghost use Rattle.path_pool.specs.Pool.{live_count};
+ghost use Rattle.policy_kinds.specs.Kinds.{kind_policy};
+ghost use Rattle.stability_laws.specs.Offers.{Setting};
+ghost use Rattle.stability_laws.specs.Plans.{announces};
 ghost use Rattle.stability_laws.specs.Rounds.{AreRounds};
-ghost use Rattle.stability_laws.specs.World.{setting_in};
+ghost use Rattle.stability_laws.specs.World.{setting};
 
-use super::lent_worlds::{LEAK, base_of};
-use super::worlds::{expect_routes, prefix, ranks_of};
+use super::lent_worlds::{LEAK, LEAKING, base_of};
+use super::narrow_policy::{LINKS, ROWS};
+use super::worlds::{expect_routes, number, planned_ranks, prefix, ranks_of};
+use crate::Narrow;
 use as_graph::Graph;
-use leak_round::Rounds;
+use dirty_recompute::PlannedRanks;
+use leak_round::{Rounds, RoundsPlan, Touched};
 use policy_kinds::Kind;
-use policy_laws::{NoStates, OriginStates, RoutePolicy};
-use rank_order::Ranks;
+use policy_laws::NoStates;
 use route_choice::Steps;
-use stability_laws::{Book, SeedPlan, World};
+use stability_laws::{Book, SeedEdit, SeedPlan, World};
 use std::alloc::Global;
 use std::marker::Brand;
 use std::process::Abort;
 use std::sync::ledger::{Blank, Ledger};
-use std::test::Fail;
-
-// Two rounds of the plan.
-fn built<P: RoutePolicy, V: OriginStates, L: Ledger>(
-    alloc: Global,
-    world: &World<'_, P, V>,
-    ranks: &Ranks,
-    plan: SeedPlan,
-    steps: &mut Steps<L>,
-) -> Result<Rounds, Fail>
-    requires no_cycle { HasNoProviderCycle (relation world.now.graph.now) }
-    requires ranks { (a : ℕ) → IsRank (relation world.now.graph.now) a (rank_at ranks.now a) }
-    requires limits { IsWithinLimits plan }
-    ensures closed { IfOk result (λ r. is_open r ≡ false) }
-    ensures count { IfOk result (λ r. round_count r ≡ 2) }
-    ensures stable { IfOk result (λ r. AreRounds (setting_in P.meaning V.state_of world.now) (planned r) 2 (kept r)) }
-{
-    Ok(Rounds::build(alloc, world, ranks, plan, 2, steps)?)
-}
-
-// The rounds of the plan, with their paths in a pool of their own.
-fn tidied<L: Ledger>(
-    rt: &impl Abort,
-    alloc: Global,
-    graph: &Graph,
-    book: &Book<Kind>,
-    plan: SeedPlan,
-    blank: Blank,
-) -> Result<Rounds, Fail>
-    requires name { blank.name ≡ L.name }
-    requires parts { blank.parts ≡ L.parts }
-    requires some { 0 < L.parts }
-    requires limits { IsWithinLimits plan }
-{
-    let ranks = ranks_of(rt, alloc, graph);
-    let mut steps = Steps::<L>::new(blank);
-    let world = World {
-        graph,
-        book,
-        states: &NoStates,
-    };
-    let mut rounds = built(alloc, &world, &ranks, plan, &mut steps)?;
-    // What it answers has a bound, which the next call asks for.
-    let _count = graph.as_count();
-    rounds.tidy(alloc, graph.rows())?;
-    Ok(rounds)
-}
 
 fn expect_round(
     rt: &impl Abort,
@@ -84,19 +45,193 @@ fn expect_round(
     expect_routes(rt, alloc, graph, table, rounds.pool(), rows);
 }
 
-#[test]
-fn tidied_rounds_hold_what_they_held(rt: HostRuntime) -> Result<(), Fail> {
-    let base = match base_of(&rt, rt.alloc(), LEAK) {
-        Ok(base) => base,
-        Err(_) => panic!(rt; "a world"),
+// One round of the plan, where every AS has the narrow policy.
+fn narrow<L: Ledger>(
+    rt: &impl Abort,
+    alloc: Global,
+    graph: &Graph,
+    plan: &SeedPlan,
+    blank: Blank,
+) -> Rounds
+    requires limits { IsWithinLimits plan.now }
+    requires name { blank.name ≡ L.name }
+    requires parts { blank.parts ≡ L.parts }
+    requires some { 0 < L.parts }
+{
+    let ranks = ranks_of(rt, alloc, graph);
+    let book = Book::new(alloc, Narrow);
+    let mut steps = Steps::<L>::new(blank);
+    let world = World {
+        graph,
+        book: &book,
+        states: &NoStates,
     };
-    let plan = base.plan().copied(rt.alloc())?;
+    let Ok(plan) = plan.copied(alloc) else {
+        panic!(rt; "memory");
+    };
+    Rounds::build(alloc, &world, &ranks, plan, 1, &mut steps).expect(rt, "memory")
+}
+
+#[test]
+fn a_round_of_the_narrow_policy_has_the_routing_of_propagation(rt: HostRuntime) {
+    let scenario = br#"{"announcements":[{"prefix":"10.0.0.0/8","as":3}]}"#;
+    let base = base_of(&rt, rt.alloc(), LINKS, scenario);
+    let rounds = narrow::<Brand>(&rt, rt.alloc(), base.graph(), base.plan(), Blank::new(1));
+    expect_round(&rt, rt.alloc(), base.graph(), &rounds, 1, ROWS);
+}
+
+// Moves the paths of rounds that are stable in some world of these ASes to a pool of their own.
+fn tidy(rt: &impl Abort, alloc: Global, graph: &Graph, rounds: &mut Rounds)
+    requires closed { is_open rounds.old ≡ false }
+    requires stable { (world : PrefixValue → Setting) × ((p : PrefixValue) (a : ℕ) → (world p).has a ≡ has graph.now a) × AreRounds world (planned rounds.old) (round_count rounds.old) (kept rounds.old) }
+{
+    // What it answers has a bound, which the next call asks for.
+    let _count = graph.as_count();
+    rounds.tidy(alloc, graph.rows()).expect(rt, "memory");
+}
+
+// Two rounds of the plan, with their paths in a pool of their own.
+fn tidied<L: Ledger>(
+    rt: &impl Abort,
+    alloc: Global,
+    graph: &Graph,
+    book: &Book<Kind>,
+    plan: &SeedPlan,
+    blank: Blank,
+) -> Rounds
+    requires limits { IsWithinLimits plan.now }
+    requires name { blank.name ≡ L.name }
+    requires parts { blank.parts ≡ L.parts }
+    requires some { 0 < L.parts }
+{
+    let ranks = ranks_of(rt, alloc, graph);
+    let mut steps = Steps::<L>::new(blank);
+    let world = World {
+        graph,
+        book,
+        states: &NoStates,
+    };
+    let Ok(plan) = plan.copied(alloc) else {
+        panic!(rt; "memory");
+    };
+    let Ok(mut rounds) = Rounds::build(alloc, &world, &ranks, plan, 2, &mut steps) else {
+        panic!(rt; "memory");
+    };
+    tidy(rt, alloc, graph, &mut rounds);
+    rounds
+}
+
+#[test]
+fn tidied_rounds_hold_what_they_held(rt: HostRuntime) {
+    let base = base_of(&rt, rt.alloc(), LEAK, LEAKING);
     let (graph, book) = (base.graph(), base.book());
-    let rounds = tidied::<Brand>(&rt, rt.alloc(), graph, book, plan, Blank::new(1))?;
-    let plain = b"1|customer|1 5\n2|peer|2 1 5\n3|provider|3 1 5\n5|origin|5\n".as_slice();
-    let leaked = b"1|customer|1 5\n2|customer|2 3 1 5\n3|origin|3 1 5\n5|origin|5\n".as_slice();
+    let rounds = tidied::<Brand>(&rt, rt.alloc(), graph, book, base.plan(), Blank::new(1));
+    let plain = b"1|customer|1 5\n2|peer|2 1 5\n3|provider|3 1 5\n5|origin|5\n";
+    let leaked = b"1|customer|1 5\n2|customer|2 3 1 5\n3|origin|3 1 5\n5|origin|5\n";
     expect_round(&rt, rt.alloc(), graph, &rounds, 1, plain);
     expect_round(&rt, rt.alloc(), graph, &rounds, 2, leaked);
     assert!(rt; rounds.pool().live() <= 9);
-    Ok(())
+}
+
+// What changes where AS 1 announces the prefix no more.
+fn withdrawing<L: Ledger>(
+    rt: &impl Abort,
+    alloc: Global,
+    graph: &Graph,
+    book: &Book<Kind>,
+    rounds: &mut Rounds,
+    steps: &mut Steps<L>,
+) -> RoundsPlan
+    requires closed { is_open rounds.old ≡ false }
+    requires few { live_count (pool_of rounds.old) ≤ MOST_CELLS }
+    requires limits { IsWithinLimits (planned rounds.old) }
+    requires announcers { (p : PrefixValue) (a : ℕ) → IsTrue (announces (planned rounds.old) p a) → has graph.now a ≡ true }
+    requires stable { AreRounds (λ p. setting kind_policy graph.now book.now (λ origin. NotFound)) (planned rounds.old) (round_count rounds.old) (kept rounds.old) }
+    ensures open { IsOpenPlan rounds.new result }
+    ensures after { AreRounds (λ p. setting kind_policy graph.now book.now (λ origin. NotFound)) (plan_after rounds.new result) (round_count rounds.new) (kept_with rounds.new result) }
+    ensures plan { planned rounds.new ≡ planned rounds.old }
+    ensures count { round_count rounds.new ≡ round_count rounds.old }
+    ensures kept { (round : ℕ) (p : PrefixValue) (a : ℕ) → kept rounds.new round p a ≡ kept rounds.old round p a }
+{
+    let (announced, one) = (prefix(rt, b"10.0.0.0/8"), number(rt, 1));
+    assert!(rt; rounds.seed_plan().has_prefix(announced));
+    let (ranks, plan) = planned_ranks(rt, alloc, graph);
+    let after = PlannedRanks {
+        ranks: &ranks,
+        plan: &plan,
+    };
+    let world = World {
+        graph,
+        book,
+        states: &NoStates,
+    };
+    let edit = SeedEdit::Withdraw {
+        prefix: announced,
+        asn: one,
+    };
+    let touched = Touched::new(alloc);
+    match rounds.plan(alloc, &world, &after, &touched, Some(&edit), steps) {
+        Ok(plan) => plan,
+        Err(_) => panic!(rt; "memory"),
+    }
+}
+
+// AS 1 announces the path that its customer gives it too. The plan of its withdrawal is given up at first, and then put
+// in place: AS 1 has the same path from its customer, and AS 5 what it had. The cells that AS 1 announced are needed
+// until the paths are moved: then five entries have one each, and the announced number of AS 4 has one.
+fn withdrawn<L: Ledger>(
+    rt: &impl Abort,
+    alloc: Global,
+    graph: &Graph,
+    book: &Book<Kind>,
+    plan: &SeedPlan,
+    blank: Blank,
+)
+    requires limits { IsWithinLimits plan.now }
+    requires announcers { (p : PrefixValue) (a : ℕ) → IsTrue (announces plan.now p a) → has graph.now a ≡ true }
+    requires name { blank.name ≡ L.name }
+    requires parts { blank.parts ≡ L.parts }
+    requires some { 0 < L.parts }
+{
+    let ranks = ranks_of(rt, alloc, graph);
+    let mut steps = Steps::<L>::new(blank);
+    let world = World {
+        graph,
+        book,
+        states: &NoStates,
+    };
+    let Ok(plan) = plan.copied(alloc) else {
+        panic!(rt; "memory");
+    };
+    let Ok(mut rounds) = Rounds::build(alloc, &world, &ranks, plan, 1, &mut steps) else {
+        panic!(rt; "memory");
+    };
+    let plan = withdrawing(rt, alloc, graph, book, &mut rounds, &mut steps);
+    rounds.undo(plan);
+    assert!(rt; rounds.pool().live() <= 10);
+    let rows =
+        b"1|origin|1 2 3 4\n2|customer|2 3 4\n3|customer|3 4\n4|origin|4\n5|customer|5 1 2 3 4\n";
+    expect_round(rt, alloc, graph, &rounds, 1, rows);
+    let plan = withdrawing(rt, alloc, graph, book, &mut rounds, &mut steps);
+    let done = rounds.commit(plan);
+    assert!(rt; done.count() == 1 && done.changed_in(1) == [number(rt, 1)].as_slice());
+    tidy(rt, alloc, graph, &mut rounds);
+    assert!(rt; rounds.pool().live() <= 6);
+    let rows =
+        b"1|customer|1 2 3 4\n2|customer|2 3 4\n3|customer|3 4\n4|origin|4\n5|customer|5 1 2 3 4\n";
+    expect_round(rt, alloc, graph, &rounds, 1, rows);
+}
+
+#[test]
+fn a_withdrawal_is_given_up_and_put_in_place_and_its_cells_are_given_back(rt: HostRuntime) {
+    let scenario =
+        br#"{"announcements":[{"prefix":"10.0.0.0/8","as":4},{"prefix":"10.0.0.0/8","as":1,"path":[1,2,3,4]}]}"#;
+    let base = base_of(
+        &rt,
+        rt.alloc(),
+        b"5|1|-1\n1|2|-1\n2|3|-1\n3|4|-1\n",
+        scenario,
+    );
+    let (graph, book) = (base.graph(), base.book());
+    withdrawn::<Brand>(&rt, rt.alloc(), graph, book, base.plan(), Blank::new(1));
 }

@@ -3,15 +3,16 @@
 ghost use Rattle.std.specs.Prelude.{◌≡◌, ℕ};
 ghost use Rattle.as_graph.specs.Hierarchy.{HasNoProviderCycle, IsRank};
 ghost use Rattle.as_graph.specs.Topology.{relation};
+ghost use Rattle.rank_order.specs.Plans.{rank_after, IsLastPlan};
 ghost use Rattle.rank_order.specs.Ranks.{rank_at};
 ghost use Rattle.route_choice.specs.Resources.{AreEntriesLive};
 
-use as_graph::Graph;
+use as_graph::{Graph, links_are_sound, ranks_fit};
 use caida_reader::read_links;
 use net_names::{Asn, Path, Prefix, Rel, State, read_prefix};
 use path_pool::PathPool;
 use policy_laws::{RoutePolicy, View};
-use rank_order::Ranks;
+use rank_order::{RankPlan, Ranks};
 use reports::put_routes;
 use route_choice::Table;
 use std::alloc::Global;
@@ -50,6 +51,21 @@ pub(super) fn ranks_of(rt: &impl Abort, alloc: Global, graph: &Graph) -> Ranks
     match Ranks::build(alloc, graph) {
         Ok(ranks) => ranks,
         Err(_) => panic!(rt; "ranks"),
+    }
+}
+
+// The ranks of a graph, and the plan of them after no edit.
+pub(super) fn planned_ranks(rt: &impl Abort, alloc: Global, graph: &Graph) -> (Ranks, RankPlan)
+    ensures no_cycle { HasNoProviderCycle (relation graph.now) }
+    ensures last { IsLastPlan result.0 result.1 }
+    ensures after { (a : ℕ) → IsRank (relation graph.now) a (rank_after result.0 result.1 a) }
+{
+    links_are_sound();
+    ranks_fit();
+    let mut ranks = ranks_of(rt, alloc, graph);
+    match ranks.plan(alloc, graph, &[]) {
+        Ok(plan) => (ranks, plan),
+        Err(_) => panic!(rt; "memory"),
     }
 }
 
