@@ -14,7 +14,7 @@ use Rattle.net_names.specs.declared.routes.Rel.TheVariants.{Customer}
 use Rattle.net_names.specs.declared.routes.State.{State}
 use Rattle.policy_laws.specs.Policy.{Policy}
 use Rattle.as_graph.proofs.RowAses.{length-le-as_count}
-use Rattle.as_graph.specs.Edits.{LinksAreSound, LinksAreTaken, without_link}
+use Rattle.as_graph.specs.Edits.{AsesAreKept, LinksAreSound, LinksAreTaken, without_link}
 use Rattle.as_graph.specs.Hierarchy.{HasNoProviderCycle, IsRank, RanksFit}
 use Rattle.as_graph.specs.Topology.{Topology, as_count, has, relation}
 use Rattle.stability_laws.specs.Book.{PolicyBook}
@@ -58,6 +58,10 @@ none_some (Some x) e h = cc
 -- different ASes that hold something are at most as many as the graph has
 pub few_hold : (g : Topology) (f : ℕ → Option Entry) (ases : List ℕ) → IsDistinct ases → ((a : ℕ) → occurs a ases ≡ true → IsSome (f a)) → ((a : ℕ) → has g a ≡ false → f a ≡ None) → length ases ≤ as_count g
 few_hold g f ases apart held only = length-le-as_count g ases (apart_from_distinct ases apart) (λ a o. elim (cases_Bool (has g a)) [ inl there ↦ there | inr away ↦ absurd (none_some (f a) (only a away) (held a o)) ])
+
+-- beside the two ends of a link that went, the same ASes are there
+pub still_has : AsesAreKept → (w other : Topology) (a b x : ℕ) (t : Bool) → other ≡ without_link w a b → x ≢ a → x ≢ b → has other x ≡ t → has w x ≡ t
+still_has kept w other a b x t is not_a not_b there = sym (kept.other_ends w a b x not_a not_b) ∙ (ap (λ (g : Topology). has g x) (sym is) ∙ there)
 
 -- who is neither of the two listed differs from both
 pub neither : (a b x : ℕ) → occurs x (a ∷ b ∷ []) ≡ false → (x ≢ a) × (x ≢ b)
