@@ -45,9 +45,9 @@ returns c =
     (λ is. (
       refl,
       refl,
-      kept c.args.sim.now,
-      c.requires.kept,
       (
+        kept c.args.sim.now,
+        c.requires.kept,
         f,
         c.in_ok-pieces.pieces,
         c.height_of-height.result,

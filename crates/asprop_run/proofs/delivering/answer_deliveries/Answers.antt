@@ -47,8 +47,13 @@ returns c =
     (λ is. (
       refl,
       refl,
-      kept c.args.sim.now,
-      c.requires.kept,
-      (x, y, made, (ends.0, ends.1, is ∙ (λ i. rows i ++ message_rows made (queued i)))),
+      (
+        kept c.args.sim.now,
+        c.requires.kept,
+        x,
+        y,
+        made,
+        (ends.0, ends.1, is ∙ (λ i. rows i ++ message_rows made (queued i))),
+      ),
     ))
     c.put_messages.ensures
