@@ -1,6 +1,7 @@
 //! A reader of a relationship file after a fault, and a file that comes in pieces.
 use caida_reader::{Reader, RelError, read_pieces};
 use net_names::Rel;
+use std::test::Fail;
 
 #[test]
 fn a_reader_that_has_failed_stays_so(rt: HostRuntime) {
@@ -16,13 +17,12 @@ fn a_reader_that_has_failed_stays_so(rt: HostRuntime) {
 }
 
 #[test]
-fn a_file_in_two_pieces_is_read_whole(rt: HostRuntime) {
+fn a_file_in_two_pieces_is_read_whole(rt: HostRuntime) -> Result<(), Fail> {
     let mut pieces = Vec::new(rt.alloc());
-    for piece in [b"1|".as_slice(), b"2|0".as_slice()] {
-        let copy = piece.to_vec(rt.alloc()).expect(&rt, "memory");
-        pieces.push(copy).expect(&rt, "memory");
-    }
-    let links = read_pieces(rt.alloc(), &pieces).expect(&rt, "links");
+    pieces.push(b"1|".to_vec(rt.alloc())?)?;
+    pieces.push(b"2|0".to_vec(rt.alloc())?)?;
+    let links = read_pieces(rt.alloc(), &pieces)?;
     let link = links.at(0).expect(&rt, "a link");
     assert!(rt; link.lo.get() == 1 && link.hi.get() == 2 && link.rel == Rel::Peer);
+    Ok(())
 }
