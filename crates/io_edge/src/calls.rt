@@ -38,10 +38,8 @@ impl CallList {
         ensures ok { OnOk result (self.new ≡ record self.old { fails = self.old.fails ++ call ∷ [] }) }
         ensures err { OnErr result (self.new ≡ self.old) }
     {
-        match self.fails.push(call) {
-            Ok(()) => Ok(()),
-            Err(_) => Err(NoMemory),
-        }
+        self.fails.push(call)?;
+        Ok(())
     }
 
     /// Counts a call, and says whether it is to fail; then it is a fault.

@@ -4,12 +4,24 @@ ghost use Rattle.std.specs.Option.{option_map};
 ghost use Rattle.io_edge.specs.Files.{held, bytes_under};
 ghost use Rattle.io_edge.specs.Kept.{place_of};
 
-use std::alloc::Global;
+use std::alloc::{AllocError, AllocFailed, Global};
 use std::marker::Model;
 
 /// Memory ran out.
 #[derive(Clone, Copy, Debug, PartialEq, Eq)]
 pub struct NoMemory;
+
+impl From<AllocError> for NoMemory {
+    fn from(_e: AllocError) -> NoMemory {
+        NoMemory
+    }
+}
+
+impl<T: Drop> From<AllocFailed<T>> for NoMemory {
+    fn from(_e: AllocFailed<T>) -> NoMemory {
+        NoMemory
+    }
+}
 
 #[derive(Drop)]
 pub(crate) struct MemFile {
@@ -58,19 +70,11 @@ impl NamedFiles {
         ensures err { OnErr result (self.new ≡ self.old) }
     {
         let alloc = self.all.allocator();
-        let Ok(name) = String::from_str(*alloc, name) else {
-            return Err(NoMemory);
-        };
-        let Ok(bytes) = Vec::from_slice(*alloc, bytes) else {
-            return Err(NoMemory);
-        };
-        match self.all.insert(0, MemFile { name, bytes }) {
-            Ok(()) => {
-                self.begun = next_place(self.begun);
-                Ok(())
-            }
-            Err(_) => Err(NoMemory),
-        }
+        let name = String::from_str(*alloc, name)?;
+        let bytes = Vec::from_slice(*alloc, bytes)?;
+        self.all.insert(0, MemFile { name, bytes })?;
+        self.begun = next_place(self.begun);
+        Ok(())
     }
 
     /// Begins the first file of this name, if there is one, and else nothing.

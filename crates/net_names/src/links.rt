@@ -6,10 +6,11 @@ ghost use Rattle.std.specs.List.{HoldsAt};
 ghost use Rattle.std.specs.List.Sorted.{IsSearchInRange, IsBinarySearchResult};
 ghost use Rattle.net_names.specs.Links.{pair_cmp, between, with_relation};
 ghost use Rattle.net_names.specs.LinkLists.{entry_of, map_of, AreLinks};
+ghost use Rattle.net_names.specs.declared.links.LinksError.TheVariants.{Memory};
 
 use crate::numbers::Asn;
 use crate::routes::Rel;
-use std::alloc::Global;
+use std::alloc::{AllocFailed, Global};
 use std::marker::Model;
 
 /// A link of two ASes.
@@ -30,6 +31,14 @@ pub enum LinksError {
     Memory,
     /// The pair has no link yet, and there are 1,500,000 links.
     TooMany,
+}
+
+impl<T: Drop> From<AllocFailed<T>> for LinksError {
+    ghost from_gives = { λ _ e. e ≡ Memory };
+
+    fn from(_e: AllocFailed<T>) -> LinksError {
+        LinksError::Memory
+    }
 }
 
 /// How many links there are at most.
@@ -160,10 +169,7 @@ impl Links {
                 if self.items.len() == MOST_LINKS {
                     return Err(LinksError::TooMany);
                 }
-                match self.items.insert(at, Link { lo, hi, rel }) {
-                    Ok(()) => {}
-                    Err(_) => return Err(LinksError::Memory),
-                }
+                self.items.insert(at, Link { lo, hi, rel })?;
                 Ok(())
             }
         }

@@ -2,7 +2,7 @@
 ghost use Rattle.std.specs.Prelude.{◌≡◌, ℕ, ◌≤◌, ◌++◌, ◌∷◌, [], List, OnOk, OnErr};
 ghost use Rattle.std.specs.Option.{SomeIff};
 
-use std::alloc::Global;
+use std::alloc::{AllocError, AllocFailed, Global};
 use std::marker::Model;
 
 /// The number of an AS, from 1 to 4294967295 (RFC 6793; RFC 7607 rules out 0). Contracts see the number.
@@ -46,6 +46,18 @@ impl Asn {
 #[derive(Clone, Copy, Debug, PartialEq, Eq)]
 pub struct NoMemory;
 
+impl From<AllocError> for NoMemory {
+    fn from(_e: AllocError) -> NoMemory {
+        NoMemory
+    }
+}
+
+impl<T: Drop> From<AllocFailed<T>> for NoMemory {
+    fn from(_e: AllocFailed<T>) -> NoMemory {
+        NoMemory
+    }
+}
+
 /// A list of ASes, as the path of a route: the nearest AS first, the origin last (RFC 4271, section
 /// 4.3). Contracts see the list of their numbers.
 #[derive(Drop)]
@@ -81,10 +93,8 @@ impl Path {
         ensures ok { OnOk result (self.new ≡ self.old ++ asn ∷ []) }
         ensures err { OnErr result (self.new ≡ self.old) }
     {
-        match self.numbers.push(asn) {
-            Ok(()) => Ok(()),
-            Err(_) => Err(NoMemory),
-        }
+        self.numbers.push(asn)?;
+        Ok(())
     }
 
     /// The ASes in their order.

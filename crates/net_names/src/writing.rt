@@ -22,10 +22,8 @@ pub fn put_asn(out: &mut Vec<u8>, asn: Asn) -> Result<(), NoMemory>
     ensures err { OnErr result (out.new.items ≡ out.old.items) }
 {
     let mut digits = Buffer::new();
-    match out.extend_from_slice(digits.format(asn.get()).as_bytes()) {
-        Ok(()) => Ok(()),
-        Err(_) => Err(NoMemory),
-    }
+    out.extend_from_slice(digits.format(asn.get()).as_bytes())?;
+    Ok(())
 }
 
 /// Appends the text of the value, which is at most `MOST_BYTES` long.
@@ -37,10 +35,8 @@ fn put<D: Display + Drop>(out: &mut Vec<u8>, value: D) -> Result<(), NoMemory>
     if text.write(value).is_err() {
         return Err(NoMemory);
     }
-    match out.extend_from_slice(text.as_str().as_bytes()) {
-        Ok(()) => Ok(()),
-        Err(_) => Err(NoMemory),
-    }
+    out.extend_from_slice(text.as_str().as_bytes())?;
+    Ok(())
 }
 
 /// What is read as an IPv4 address is the one text of that address, and that text is read again.

@@ -18,8 +18,8 @@ appended s t (Some text) old new intact empty writes e =
     let whole = after_calls s writes.parts t intact writes.calls ∙ ap (λ (l : List ℕ). l ++ concat writes.parts) empty ∙ writes.whole in
     e ∙ ap (λ (l : List ℕ). old ++ l) whole
 
-pub returns-in-Ok-clause-ok : goal.returns-in-Ok-clause-ok
-returns-in-Ok-clause-ok g c =
+pub returns-clause-ok : goal.returns-clause-ok
+returns-clause-ok g c =
     let o = g.D.Display.output c.args.value in
     let writes : WritesText AppendsIfIntact c.new-text.result o c.write.new.self = search rules in
     let e : c.extend_from_slice.new.self.items ≡ c.args.out.now.items ++ inline_text c.write.new.self = search rules in
