@@ -11,9 +11,9 @@ use Rattle.std.specs.Net.Text.{ipv4_text, hex_groups_text}
 use Rattle.std.specs.Net.Reader.{whole_value, read_ipv4, read_ipv6, dot}
 use Rattle.net_names.specs.declared.addresses.Family.TheVariants.{V4, V6}
 use Rattle.net_names.specs.declared.routes.Class.{Class}
-use Rattle.net_names.specs.declared.routes.Class.TheVariants as class
+use Rattle.net_names.specs.declared.routes.Class.TheVariants.{Origin, Customer, Peer, Provider}
 use Rattle.net_names.specs.declared.routes.Rel.{Rel}
-use Rattle.net_names.specs.declared.routes.Rel.TheVariants.{Customer, Peer}
+use Rattle.net_names.specs.declared.routes.Rel.TheVariants as rel
 use Rattle.net_names.specs.Numbers.{occurs}
 use Rattle.net_names.specs.Addresses.{width, AddrValue}
 use Rattle.net_names.specs.Prefixes.{PrefixValue}
@@ -33,15 +33,15 @@ is_skipped line = option_map_or (λ byte. byte == 35) (slice_get line 0) true
 
 -- what the second AS of a link is to the first: a customer for `-1`, a peer for `0` (CAIDA AS Relationships, serial-1)
 unfoldable pub rel_of : List ℕ → Option Rel
-rel_of text = if bytes_eq text (codes "-1") then Some Customer else (if bytes_eq text (codes "0") then Some Peer else None)
+rel_of text = if bytes_eq text (codes "-1") then Some rel.Customer else (if bytes_eq text (codes "0") then Some rel.Peer else None)
 
 -- the word for a class (own format)
 abbrev pub class_word : Class → List ℕ
-class_word c = elim c [ class.Origin ↦ codes "origin" | class.Customer ↦ codes "customer" | class.Peer ↦ codes "peer" | class.Provider ↦ codes "provider" ]
+class_word c = elim c [ Origin ↦ codes "origin" | Customer ↦ codes "customer" | Peer ↦ codes "peer" | Provider ↦ codes "provider" ]
 
 -- the class whose word the text is (own format)
 unfoldable pub class_named : List ℕ → Option Class
-class_named text = find (λ c. bytes_eq text (class_word c)) (class.Origin ∷ class.Customer ∷ class.Peer ∷ class.Provider ∷ [])
+class_named t = find (λ c. bytes_eq t (class_word c)) (Origin ∷ Customer ∷ Peer ∷ Provider ∷ [])
 
 -- the numbers with one space between (own format)
 abbrev pub numbers_text : List ℕ → List ℕ
@@ -67,9 +67,8 @@ prefix_text p = addr_text (record { family = p.family; bits = p.addr }) ++ (47 �
 -- the address that the text writes: IPv4 by four numbers up to 255 with dots between them (RFC 3986, section 3.2.2, IPv4address),
 -- IPv6 in the forms 1 and 2 of RFC 4291, section 2.2; its form with a dotted end is not read
 unfoldable pub addr_of : List ℕ → Option AddrValue
-addr_of text =
-    option_or (option_map (λ octets. record { family = V4; bits = from_be_bytes w32 octets }) (whole_value (read_ipv4 text)))
-    (if occurs dot text then None else option_map (λ groups. record { family = V6; bits = from_be_bytes w128 (octets_of groups) }) (whole_value (read_ipv6 text)))
+addr_of t = option_or (option_map (λ o. record { family = V4; bits = from_be_bytes w32 o }) (whole_value (read_ipv4 t)))
+    (if occurs dot t then None else option_map (λ g. record { family = V6; bits = from_be_bytes w128 (octets_of g) }) (whole_value (read_ipv6 t)))
 
 -- the prefix that an address, a slash and a length of at most the width write, where the length has no needless zero in front,
 -- and no bit past the length is set (RFC 4632, section 3.1; RFC 4291, section 2.3)

@@ -53,7 +53,8 @@ fn skips(line: &[u8]) -> bool
 /// that is empty or begins with `#` is skipped. The format is this project's own.
 pub fn next_kept(bytes: &[u8], number: u32) -> Option<KeptLine<'_>>
     requires { number + length bytes.now < 2 ^ 32 }
-    ensures some { IfSome result (λ k. kept_from number bytes.now ≡ (k.number, k.line.now) ∷ kept_from (k.number + 1) k.rest.now) }
+    ensures some { IfSome result (λ k. kept_from number bytes.now ≡
+        (k.number, k.line.now) ∷ kept_from (k.number + 1) k.rest.now) }
     ensures none { IfNone result (kept_from number bytes.now ≡ []) }
     ensures later { IfSome result (λ k. number ≤ k.number) }
     ensures room { IfSome result (λ k. k.number + 1 + length k.rest.now ≤ number + length bytes.now) }

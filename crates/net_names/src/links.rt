@@ -66,7 +66,8 @@ impl Model for Links {
 
 /// Whether the pair is above all of the links, where they rise.
 fn is_past(links: &[Link], lo: Asn, hi: Asn) -> bool
-    ensures { IsTrue result → (0 < length links.now) × HoldsAt (λ l. pair_cmp (l.lo, l.hi) (lo, hi) ≡ Less) links.now (length links.now - 1) }
+    ensures { IsTrue result → (0 < length links.now) ×
+        HoldsAt (λ l. pair_cmp (l.lo, l.hi) (lo, hi) ≡ Less) links.now (length links.now - 1) }
 {
     match links.last() {
         Some(last) => (last.lo, last.hi) < (lo, hi),
@@ -144,7 +145,8 @@ impl Links {
     pub fn set(&mut self, a: Asn, b: Asn, rel: Rel) -> Result<(), LinksError>
         requires { a ≢ b }
         ensures ok { OnOk result (self.new ≡ with_relation self.old a b rel) }
-        ensures too_many { (result ≡ Err LinksError.TooMany) ↔ ((between self.old a b ≡ None) × (map.len self.old ≡ MOST_LINKS)) }
+        ensures too_many { (result ≡ Err LinksError.TooMany) ↔
+            ((between self.old a b ≡ None) × (map.len self.old ≡ MOST_LINKS)) }
         ensures err { OnErr result (self.new ≡ self.old) }
     {
         if a < b {
@@ -157,7 +159,8 @@ impl Links {
     fn put(&mut self, lo: Asn, hi: Asn, rel: Rel) -> Result<(), LinksError>
         requires { lo < hi }
         ensures ok { OnOk result (self.new ≡ map.insert self.old (lo, hi) rel) }
-        ensures too_many { (result ≡ Err LinksError.TooMany) ↔ ((map.get self.old (lo, hi) ≡ None) × (map.len self.old ≡ MOST_LINKS)) }
+        ensures too_many { (result ≡ Err LinksError.TooMany) ↔
+            ((map.get self.old (lo, hi) ≡ None) × (map.len self.old ≡ MOST_LINKS)) }
         ensures err { OnErr result (self.new ≡ self.old) }
     {
         match place_of(self.items.as_slice(), lo, hi) {

@@ -102,7 +102,8 @@ fn read_v4(text: &[u8]) -> Option<u32>
 
 /// A dotted end is not read.
 fn read_v6(text: &[u8]) -> Option<u128>
-    ensures { result ≡ (if occurs dot text.now then None else option_map (λ groups. from_be_bytes w128 (octets_of groups)) (whole_value (read_ipv6 text.now))) }
+    ensures { result ≡ (if occurs dot text.now then None else
+        option_map (λ groups. from_be_bytes w128 (octets_of groups)) (whole_value (read_ipv6 text.now))) }
 {
     if text.contains(&b'.') {
         return None;

@@ -41,13 +41,16 @@ fn put<D: Display + Drop>(out: &mut Vec<u8>, value: D) -> Result<(), NoMemory>
 
 /// What is read as an IPv4 address is the one text of that address, and that text is read again.
 pub fn v4_has_one_text()
-    ensures found { (text : List ℕ) (bits : ℕ) → addr_of text ≡ Some (record { family = V4; bits = bits }) → (text ≡ addr_text (record { family = V4; bits = bits })) × (bits < 2 ^ 32) }
-    ensures again { (bits : ℕ) → bits < 2 ^ 32 → addr_of (addr_text (record { family = V4; bits = bits })) ≡ Some (record { family = V4; bits = bits }) }
+    ensures found { (text : List ℕ) (bits : ℕ) → addr_of text ≡ Some (record { family = V4; bits = bits }) →
+        (text ≡ addr_text (record { family = V4; bits = bits })) × (bits < 2 ^ 32) }
+    ensures again { (bits : ℕ) → bits < 2 ^ 32 → addr_of (addr_text (record { family = V4; bits = bits })) ≡
+        Some (record { family = V4; bits = bits }) }
 {}
 
 /// An IPv6 address may be written in several ways. Its one printed text is read again as the address.
 pub fn v6_has_one_text()
-    ensures again { (bits : ℕ) → bits < 2 ^ 128 → addr_of (addr_text (record { family = V6; bits = bits })) ≡ Some (record { family = V6; bits = bits }) }
+    ensures again { (bits : ℕ) → bits < 2 ^ 128 → addr_of (addr_text (record { family = V6; bits = bits })) ≡
+        Some (record { family = V6; bits = bits }) }
 {}
 
 /// The printed text of a class, an AS number, an address or a prefix is read again as that value.
