@@ -1,6 +1,6 @@
 // The calls of an object in memory, some of which are to fail.
-ghost use Rattle.std.specs.Prelude.{◌≡◌, ◌+◌, ◌↔◌, [], ◌∷◌, ◌++◌, OnOk, OnErr, IsTrue, if◌then◌else◌};
-ghost use Rattle.io_edge.specs.Calls.{FailsNext, after_call, after_fault, one_more};
+ghost use Rattle.std.specs.Prelude.{◌≡◌, ◌+◌, ◌↔◌, [], OnOk, OnErr, IsTrue, if◌then◌else◌};
+ghost use Rattle.io_edge.specs.Calls.{FailsNext, after_call, after_fault, one_more, with_failure};
 
 use crate::NoMemory;
 use std::alloc::Global;
@@ -35,7 +35,7 @@ impl CallList {
 
     /// The call of this number is to fail.
     pub(crate) fn fail_at(&mut self, call: u64) -> Result<(), NoMemory>
-        ensures ok { OnOk result (self.new ≡ record self.old { fails = self.old.fails ++ call ∷ [] }) }
+        ensures ok { OnOk result (self.new ≡ with_failure self.old call) }
         ensures err { OnErr result (self.new ≡ self.old) }
     {
         self.fails.push(call)?;

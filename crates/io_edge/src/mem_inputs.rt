@@ -1,8 +1,8 @@
 // Files in memory, read by calls of which some are to fail.
-ghost use Rattle.std.specs.Prelude.{◌≡◌, ◌≤◌, ◌-◌, ◌^◌, ◌↔◌, ◌⊎◌, ℕ, List, Some, [], ◌∷◌, ◌++◌, length, take, drop, min, IfOk, OnOk, OnErr, IsErr, IsSome, IsNone};
+ghost use Rattle.std.specs.Prelude.{◌≡◌, ◌≤◌, ◌-◌, ◌^◌, ◌↔◌, ◌⊎◌, ℕ, List, Some, [], ◌∷◌, length, take, drop, min, IfOk, OnOk, OnErr, IsErr, IsSome, IsNone};
 ghost use Rattle.std.specs.Io.KnownBytes.{ReadConsumes};
 ghost use Rattle.io_edge.specs.Files.{held, bytes_under};
-ghost use Rattle.io_edge.specs.Calls.{IsPast, FailsNext, after_call, after_fault};
+ghost use Rattle.io_edge.specs.Calls.{IsPast, FailsNext, after_call, after_fault, with_failure};
 
 use crate::calls::CallList;
 use crate::files::NamedFiles;
@@ -60,8 +60,7 @@ impl MemInputs {
 
     /// The call of this number is to fail, besides those that were named before.
     pub fn fail_at(&mut self, call: u64) -> Result<(), NoMemory>
-        ensures ok { OnOk result
-            (self.new ≡ record self.old { calls = record self.old.calls { fails = self.old.calls.fails ++ call ∷ [] } }) }
+        ensures ok { OnOk result (self.new ≡ record self.old { calls = with_failure self.old.calls call }) }
         ensures err { OnErr result (self.new ≡ self.old) }
     {
         self.calls.fail_at(call)
@@ -90,7 +89,10 @@ impl Inputs for MemInputs {
     fn begin(&mut self, name: &str) -> Result<(), Failed>
         ensures fails { IsErr result ↔ (FailsNext self.old.calls ⊎ IsNone (held self.old.files name.now)) }
         ensures ok { OnOk result
-            (self.new ≡ record self.old { left = bytes_under self.old.files name.now; calls = after_call self.old.calls }) }
+            (self.new ≡ record self.old {
+              left = bytes_under self.old.files name.now;
+              calls = after_call self.old.calls;
+            }) }
         ensures err { OnErr result (self.new ≡ record self.old { left = []; calls = after_fault self.old.calls }) }
     {
         if self.calls.next() {

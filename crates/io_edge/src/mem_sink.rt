@@ -1,6 +1,6 @@
 // A sink in memory, written by calls of which some are to fail.
-ghost use Rattle.std.specs.Prelude.{◌≡◌, ◌≤◌, ◌<◌, ◌-◌, ◌^◌, ◌↔◌, [], ◌∷◌, ◌++◌, length, take, min, true, vec_capacity, IfOk, OnOk, OnErr, IsErr};
-ghost use Rattle.io_edge.specs.Calls.{FailsNext, after_call, after_fault};
+ghost use Rattle.std.specs.Prelude.{◌≡◌, ◌≤◌, ◌<◌, ◌-◌, ◌^◌, ◌↔◌, [], length, take, min, true, vec_capacity, IfOk, OnOk, OnErr, IsErr};
+ghost use Rattle.io_edge.specs.Calls.{FailsNext, after_call, after_fault, with_failure};
 ghost use Rattle.io_edge.specs.Room.{told, with_bytes};
 
 use crate::calls::CallList;
@@ -48,8 +48,7 @@ impl MemSink {
 
     /// The call of this number is to fail, besides those that were named before.
     pub fn fail_at(&mut self, call: u64) -> Result<(), NoMemory>
-        ensures ok { OnOk result
-            (self.new ≡ record self.old { calls = record self.old.calls { fails = self.old.calls.fails ++ call ∷ [] } }) }
+        ensures ok { OnOk result (self.new ≡ record self.old { calls = with_failure self.old.calls call }) }
         ensures err { OnErr result (self.new ≡ self.old) }
     {
         self.calls.fail_at(call)
@@ -80,8 +79,11 @@ impl Sink for MemSink {
         ensures fails { IsErr result ↔ FailsNext self.old.calls }
         ensures count { IfOk result (λ n. n ≡ min self.old.most (length piece.now)) }
         ensures goes_on { 0 < length piece.now → IfOk result (λ n. 0 < n) }
-        ensures ok { IfOk result (λ n.
-            self.new ≡ record self.old { kept = with_bytes self.old.kept (take n piece.now); calls = after_call self.old.calls }) }
+        ensures ok { IfOk result
+            (λ n. self.new ≡ record self.old {
+              kept = with_bytes self.old.kept (take n piece.now);
+              calls = after_call self.old.calls;
+            }) }
         ensures err { OnErr result (self.new ≡ record self.old { calls = after_fault self.old.calls }) }
     {
         if self.calls.next() {

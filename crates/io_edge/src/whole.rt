@@ -4,9 +4,10 @@ ghost use Rattle.std.specs.Io.KnownBytes.{Keeps};
 ghost use Rattle.io_edge.specs.Faults.{HasRisen, HasCause, KeepsNames};
 ghost use Rattle.io_edge.specs.Bytes.{Appends, AppendsFront};
 ghost use Rattle.io_edge.specs.Whole.{NoCallFailed, IsReadOf, Takes};
+ghost use Rattle.io_edge.specs.declared.whole.ReadAllError.TheVariants.{Memory, ReadFault};
 
 use crate::{Failed, Inputs, Sink};
-use std::alloc::Global;
+use std::alloc::{AllocError, Global};
 
 /// Why a file wasn't read whole.
 #[derive(Clone, Copy, Debug, PartialEq, Eq)]
@@ -17,6 +18,22 @@ pub enum ReadAllError {
     ReadFault,
     /// The file has more bytes than the limit.
     TooLong,
+}
+
+impl From<AllocError> for ReadAllError {
+    ghost from_gives = { λ _ e. e ≡ Memory };
+
+    fn from(_e: AllocError) -> ReadAllError {
+        ReadAllError::Memory
+    }
+}
+
+impl From<Failed> for ReadAllError {
+    ghost from_gives = { λ _ e. e ≡ ReadFault };
+
+    fn from(_e: Failed) -> ReadAllError {
+        ReadAllError::ReadFault
+    }
 }
 
 /// The whole file of this name, if it has at most `limit` bytes.
@@ -44,21 +61,14 @@ pub fn read_all<I: Inputs>(
     ensures taken { Takes (I.holds inputs.old name.now) (I.left inputs.new) limit result }
     ensures keeps { KeepsNames I.holds I.is_sound I.faults inputs.old inputs.new }
 {
-    if inputs.begin(name).is_err() {
-        return Err(ReadAllError::ReadFault);
-    }
+    inputs.begin(name)?;
     let mut bytes: Vec<u8> = Vec::new(alloc);
     let mut room = [0u8; 4096];
     'pieces: while bytes.len() <= limit {
         let want = (limit + 1 - bytes.len()).min(4096);
-        match inputs.take(&mut room[..want]) {
-            Err(Failed) => return Err(ReadAllError::ReadFault),
-            Ok(0) => return Ok(bytes),
-            Ok(count) => {
-                if bytes.extend_from_slice(&room[..count]).is_err() {
-                    return Err(ReadAllError::Memory);
-                }
-            }
+        match inputs.take(&mut room[..want])? {
+            0 => return Ok(bytes),
+            count => bytes.extend_from_slice(&room[..count])?,
         }
     }
     Err(ReadAllError::TooLong)
@@ -74,10 +84,8 @@ pub fn write_all<S: Sink>(sink: &mut S, piece: &[u8]) -> Result<(), Failed>
 {
     let mut done = 0usize;
     'pieces: while done < piece.len() {
-        match sink.put(&piece[done..]) {
-            Err(Failed) => return Err(Failed),
-            Ok(count) => done += count,
-        }
+        let count = sink.put(&piece[done..])?;
+        done += count;
     }
     Ok(())
 }

@@ -4,8 +4,8 @@ use Rattle.io_edge.proofs.whole.write_all.Goals as goal
 
 pub pieces-preserved : goal.pieces-preserved
 pieces-preserved g c = record {
-  within = omega (arith, c.in-Ok.ensures.bound);
+  within = omega (arith, c.in_ok-count.ensures.bound);
   later = omega (arith, c.put.ensures.cause.later);
-  so_far = rw (take-more c.pieces.done c.in-Ok.count c.args.piece.now)
-      (Appends-trans _ _ _ _ _ c.pieces.invariant.so_far c.in-Ok.ensures.appends);
+  so_far = rw (take-more c.pieces.done c.in_ok-count.count c.args.piece.now)
+      (Appends-trans _ _ _ _ _ c.pieces.invariant.so_far c.in_ok-count.ensures.appends);
 }
