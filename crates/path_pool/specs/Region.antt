@@ -1,6 +1,6 @@
 -- A region of cells: the path of a cell, who needs a cell, and when a region is sound.
 -- Paths that share their ends are the nodes of a forest whose edges point towards the root.
-use Rattle.std.specs.Prelude.{◌≡◌, ◌≢◌, ℕ, suc, zero, ◌+◌, ◌-◌, ◌<◌, ◌≤◌, Bool, ◌&&◌, ◌==◌, nat_lt, List, [], ◌∷◌, length, slice_index_or, count_by, Option, None, Some, if◌then◌else◌}
+use Rattle.std.specs.Prelude.{◌≡◌, ◌≢◌, ℕ, suc, zero, ◌+◌, ◌-◌, ◌<◌, ◌≤◌, Bool, ◌&&◌, ◌==◌, nat_lt, List, [], ◌∷◌, length, slice_index_or, slice_set, count_by, Option, None, Some, if◌then◌else◌}
 use Rattle.path_pool.specs.declared.pool.Cell.{Cell}
 use Rattle.path_pool.specs.declared.path_id.PathId.{PathId}
 
@@ -11,6 +11,18 @@ blank = record { head = 0; tail = 0; len = 0; count = 0; last = 0 }
 -- The cell at a place.
 abbrev pub cell_at : List Cell → ℕ → Cell
 cell_at cells i = slice_index_or cells i blank
+
+-- The cell of a new path's first AS, with one hold.
+abbrev pub first_cell : ℕ → ℕ → ℕ → ℕ → Cell
+first_cell head tail len last = record { head = head; tail = tail; len = len; count = 1; last = last }
+
+-- A cell that belongs to no path, from which so many such cells hang together.
+abbrev pub dead_cell : ℕ → ℕ → ℕ → Cell
+dead_cell head next len = record { head = head; tail = next; len = len; count = 0; last = head }
+
+-- The cells, of which the one at a place has this count.
+abbrev pub with_count : List Cell → ℕ → ℕ → List Cell
+with_count cells i count = slice_set cells i (record (cell_at cells i) { count = count })
 
 -- The ASes of n cells, from the place i on, along the tails.
 abbrev pub walk : List Cell → ℕ → ℕ → List ℕ

@@ -1,3 +1,9 @@
+//! Why a pool has no room.
+ghost use Rattle.std.specs.Prelude.{◌≡◌};
+ghost use Rattle.path_pool.specs.declared.error.PoolError.TheVariants.{Memory};
+
+use std::alloc::AllocError;
+
 /// Why a pool has no room for the cells that were asked for.
 #[derive(Clone, Copy, Debug, PartialEq, Eq)]
 pub enum PoolError {
@@ -12,4 +18,12 @@ pub enum PoolError {
         /// How many cells may be live.
         limit: usize,
     },
+}
+
+impl From<AllocError> for PoolError {
+    ghost from_gives = { λ _ e. e ≡ Memory };
+
+    fn from(_e: AllocError) -> PoolError {
+        PoolError::Memory
+    }
 }

@@ -22,12 +22,6 @@ pub fn cells_are_within(pool: &PathPool)
     ensures limit { limit_of pool.now < 4294967295 }
 {}
 
-/// A path is one AS longer than its tail, and no longer than there are live cells.
-pub fn tails_are_shorter(pool: &PathPool)
-    ensures shorter { (j k : ℕ) → IsOver pool.now j k → length (list_of pool.now j) ≡ length (list_of pool.now k) + 1 }
-    ensures few { (k : ℕ) → IsLive pool.now k → length (list_of pool.now k) ≤ live_count pool.now }
-{}
-
 /// A path has at least one AS.
 pub fn paths_are_not_empty(pool: &PathPool)
     ensures { (k : ℕ) → IsLive pool.now k → 0 < length (list_of pool.now k) }

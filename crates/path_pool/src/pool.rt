@@ -41,7 +41,7 @@ pub struct PathPool {
 }
 
 impl PathPool {
-    ghost use Rattle.path_pool.specs.Region.{CanFollow, cell_at, cells_above};
+    ghost use Rattle.path_pool.specs.Region.{CanFollow, cells_above, with_count, first_cell, dead_cell};
     ghost use Rattle.path_pool.specs.Pool.{IsLive, GainsPath, PassesHold, GainsWholePath, GainsHold, LosesHold, SamePaths, IsRefusal, tail_list, list_of, holds_of, count_of, live_count, spare_of, limit_of};
 
     /// A pool without paths, in which at most `limit` cells may be live at once.
@@ -84,9 +84,7 @@ impl PathPool {
         }
         if n > self.dead + self.room {
             let room = n - self.dead;
-            if self.cells.reserve(room).is_err() {
-                return Err(PoolError::Memory);
-            }
+            self.cells.reserve(room)?;
             self.room = room;
         }
         Ok(())
@@ -204,7 +202,7 @@ impl PathPool {
         requires live { IsLive self.old id.0 }
         requires some { 0 < count }
         requires enough { cells_above self.old.cells.items id.0 ≤ count }
-        ensures cells { self.new.cells.items ≡ slice_set self.old.cells.items id.0 (record (cell_at self.old.cells.items id.0) { count = count }) }
+        ensures cells { self.new.cells.items ≡ with_count self.old.cells.items id.0 count }
         ensures free { self.new.free ≡ self.old.free }
         ensures spare { self.new.dead ≡ self.old.dead }
         ensures room { self.new.room ≡ self.old.room }
@@ -217,9 +215,10 @@ impl PathPool {
     // Takes the first free cell for a new path.
     fn take_cell(&mut self, head: Asn, tail: u32, len: u32, last: Asn) -> PathId
         requires spare { 0 < self.old.dead }
-        requires follows { CanFollow self.old.cells.items (record { head = head; tail = tail; len = len; count = 1; last = last }) }
+        requires follows { CanFollow self.old.cells.items (first_cell head tail len last) }
         ensures which { result.0 ≡ self.old.free }
-        ensures cells { self.new.cells.items ≡ slice_set self.old.cells.items self.old.free (record { head = head; tail = tail; len = len; count = 1; last = last }) }
+        ensures cells { self.new.cells.items ≡
+            slice_set self.old.cells.items self.old.free (first_cell head tail len last) }
         ensures live { live_count self.new ≡ live_count self.old + 1 }
         ensures spare { self.new.dead + 1 ≡ self.old.dead }
         ensures room { self.new.room ≡ self.old.room }
@@ -242,7 +241,8 @@ impl PathPool {
     fn free_cell(&mut self, id: PathId, head: Asn)
         requires live { IsLive self.old id.0 }
         requires none { cells_above self.old.cells.items id.0 ≡ 0 }
-        ensures cells { self.new.cells.items ≡ slice_set self.old.cells.items id.0 (record { head = head; tail = self.old.free; len = self.old.dead + 1; count = 0; last = head }) }
+        ensures cells { self.new.cells.items ≡
+            slice_set self.old.cells.items id.0 (dead_cell head self.old.free (self.old.dead + 1)) }
         ensures spare { self.new.dead ≡ self.old.dead + 1 }
         ensures room { self.new.room ≡ self.old.room }
         ensures limit { limit_of self.new ≡ limit_of self.old }
