@@ -31,12 +31,14 @@ pub enum Kind {
     DropInvalidOtc,
 }
 
+// Whether an offer with this state is taken, where those whose state is Invalid are dropped or not.
 fn state_passes(drops: bool, state: State) -> bool
     ensures { result ≡ not (drops && sameb state_type state Invalid) }
 {
     !drops || state != State::Invalid
 }
 
+// Whether the offer is a route leak (RFC 9234, section 5, rules 1 and 2 on receipt).
 fn is_leak(v: &View) -> bool
     ensures { result ≡ is_route_leak v.now }
 {
@@ -47,12 +49,14 @@ fn is_leak(v: &View) -> bool
     }
 }
 
+// Whether a neighbour that is this is a customer.
 fn is_customer(to: Rel) -> bool
     ensures { result ≡ sameb rel_type to Customer }
 {
     to == Rel::Customer
 }
 
+// Whether an entry of this class is the AS's own or a customer's.
 fn is_own_or_customers(held: Class) -> bool
     ensures { result ≡ is_of_own_or_customers held }
 {

@@ -26,6 +26,7 @@ pub fn read_kind(text: &[u8]) -> Option<Kind>
     }
 }
 
+// The name of a kind.
 fn name(kind: Kind) -> &'static [u8]
     ensures { result.now ≡ name_of kind }
 {
@@ -44,8 +45,6 @@ pub fn put_kind(out: &mut Vec<u8>, kind: Kind) -> Result<(), NoMemory>
     ensures ok { OnOk result (out.new.items ≡ out.old.items ++ name_of kind) }
     ensures err { OnErr result (out.new.items ≡ out.old.items) }
 {
-    match out.extend_from_slice(name(kind)) {
-        Ok(()) => Ok(()),
-        Err(_) => Err(NoMemory),
-    }
+    out.extend_from_slice(name(kind))?;
+    Ok(())
 }
