@@ -8,7 +8,7 @@ use Rattle.std.specs.List.Sorted.{IsStrictlyIncreasing}
 use Rattle.std.specs.Option.{option_map_or}
 use Rattle.std.specs.FinMap as map
 use Rattle.std.specs.FinSet as set
-use Rattle.indexmap.specs.IndexMap.{get, index_map_len}
+use Rattle.indexmap.specs.IndexMap.{get, IsUnique, index_map_len}
 use Rattle.net_names.specs.Links.{converse}
 use Rattle.net_names.specs.Numbers.{occurs}
 use Rattle.as_graph.specs.declared.row.Row.{Row}
@@ -29,20 +29,28 @@ there_is m a = by (get nat_eq m a)
     by None = refl
     by (Some r) = refl
 
--- rows that tell the same make the same graph
-module _ (l m : Rows) (keeps : KeepsRows l m) where
-  same_told : (j k : ℕ) → rel_of m j k ≡ rel_of l j k
-  same_told j k = ap (λ ns. rel_in ns k) (keeps.neighbours j)
+-- rows with the same neighbours have the same links
+module _ (l m : Rows) (unique : IsUnique nat_eq m) (same : (j : ℕ) → neighbours_of m j ≡ neighbours_of l j) where
+  same_rel : (j k : ℕ) → rel_of m j k ≡ rel_of l j k
+  same_rel j k = ap (λ ns. rel_in ns k) (same j)
 
-  pub kept_graph : IsGraph l → IsGraph m
-  kept_graph graph = record {
-    unique = keeps.unique;
-    alike = λ j k. same_told k j ∙ graph.alike j k ∙ sym (ap (option_map converse) (same_told j k));
-    apart = λ j. same_told j j ∙ graph.apart j;
+  same_graph : IsGraph l → IsGraph m
+  same_graph graph = record {
+    unique = unique;
+    alike = λ j k. same_rel k j ∙ graph.alike j k ∙ sym (ap (option_map converse) (same_rel j k));
+    apart = λ j. same_rel j j ∙ graph.apart j;
   }
 
+  same_links : IsGraph l → links_of m ≡ links_of l
+  same_links graph = map.same_map pairs_total exact_pair _ _ (λ q. get-links_of m unique q ∙ ap (λ o. cond (nat_lt q.0 q.1) o None) (same_rel q.0 q.1) ∙ sym (get-links_of l graph.unique q))
+
+-- rows that tell the same make the same graph
+module _ (l m : Rows) (keeps : KeepsRows l m) where
+  pub kept_graph : IsGraph l → IsGraph m
+  kept_graph = same_graph l m keeps.unique keeps.neighbours
+
   kept_links : IsGraph l → links_of m ≡ links_of l
-  kept_links graph = map.same_map pairs_total exact_pair _ _ (λ q. get-links_of m keeps.unique q ∙ ap (λ o. cond (nat_lt q.0 q.1) o None) (same_told q.0 q.1) ∙ sym (get-links_of l graph.unique q))
+  kept_links = same_links l m keeps.unique keeps.neighbours
 
   pub topology_of-kept : IsGraph l → topology_of m ≡ topology_of l
   topology_of-kept graph =
@@ -66,23 +74,13 @@ module _ (l m : Rows) (keeps : KeepsRows l m) where
   pub roomy-kept : (places : ℕ) (room : Option (ℕ × ℕ)) (old : ℕ) → IsRoomy l old room → index_map_len m ≤ places → IsRoomy m places room
   roomy-kept places room old roomy ordered = record {
     ordered = ordered;
-    paired = λ a b is none. let was = roomy.paired a b is (sym (same_told a b) ∙ none) in (keeps.rooms a was.0, keeps.rooms b was.1);
+    paired = λ a b is none. let was = roomy.paired a b is (sym (same_rel l m keeps.unique keeps.neighbours a b) ∙ none) in (keeps.rooms a was.0, keeps.rooms b was.1);
   }
 
 -- a mark is set or taken away
 module _ (l m : Rows) (a : ℕ) (mark : Bool) (marks : SetsMark l m a mark) where
-  same_rel : (j k : ℕ) → rel_of m j k ≡ rel_of l j k
-  same_rel j k = ap (λ ns. rel_in ns k) (marks.neighbours j)
-
-  pub marked_graph : IsGraph l → IsGraph m
-  marked_graph graph = record {
-    unique = marks.unique;
-    alike = λ j k. same_rel k j ∙ graph.alike j k ∙ sym (ap (option_map converse) (same_rel j k));
-    apart = λ j. same_rel j j ∙ graph.apart j;
-  }
-
-  same_links : IsGraph l → links_of m ≡ links_of l
-  same_links graph = map.same_map pairs_total exact_pair _ _ (λ q. get-links_of m marks.unique q ∙ ap (λ o. cond (nat_lt q.0 q.1) o None) (same_rel q.0 q.1) ∙ sym (get-links_of l graph.unique q))
+  marked_links : IsGraph l → links_of m ≡ links_of l
+  marked_links = same_links l m marks.unique marks.neighbours
 
   marked_is : (j : ℕ) → is_marked m j ≡ cond (nat_eq j a) mark (is_marked l j)
   marked_is j = elim (cases_eq j a) [
@@ -98,18 +96,18 @@ module _ (l m : Rows) (a : ℕ) (mark : Bool) (marks : SetsMark l m a mark) wher
 
   pub kept-marked : (old new : List ℕ) (count : ℕ) → IsKept l old count → ((j : ℕ) → occurs j new ≡ is_there m j) → IsStrictlyIncreasing new → length new ≤ 150000 → IsKept m new count
   kept-marked old new count kept listed rising few = record {
-    graph = marked_graph kept.graph;
+    graph = same_graph l m marks.unique marks.neighbours kept.graph;
     listed = listed;
     rising = rising;
     few_ases = few;
-    counted = ap map.len (same_links kept.graph) ∙ kept.counted;
+    counted = ap map.len (marked_links kept.graph) ∙ kept.counted;
     few_links = kept.few_links;
   }
 
   pub roomy-marked : (places old : ℕ) (was room : Option (ℕ × ℕ)) → IsRoomy l old was → index_map_len l ≤ places → ((a b : ℕ) → room ≡ Some (a, b) → was ≡ Some (a, b)) → IsRoomy m places room
   roomy-marked places old was room roomy ordered stays = record {
     ordered = (let c = marks.count in omega (arith, c, ordered));
-    paired = λ x y is none. let had = roomy.paired x y (stays x y is) (sym (same_rel x y) ∙ none) in (marks.rooms x ∙ had.0, marks.rooms y ∙ had.1);
+    paired = λ x y is none. let had = roomy.paired x y (stays x y is) (sym (same_rel l m marks.unique marks.neighbours x y) ∙ none) in (marks.rooms x ∙ had.0, marks.rooms y ∙ had.1);
   }
 
 -- the graph has one mark more
@@ -118,7 +116,7 @@ module _ (l m : Rows) (a : ℕ) (marks : SetsMark l m a true) where
   topology_of-marked graph =
       let more : (topology_of m).marked ≡ set.insert (topology_of l).marked a = set.same_set nat_cmp_total set.nat_cmp-IsAntisymmetric _ _ (λ q.
       contains-marked m marks.unique q ∙ marked_is l m a true marks q ∙ sym (set.contains-insert nat_cmp_total (topology_of l).marked a q ∙ (λ i. unsigned_tied q a i || contains-marked l graph.unique q i) ∙ by (nat_eq q a) (is_marked l q))) in
-      λ i. record { links = same_links l m a true marks graph i; marked = more i; room = None }
+      λ i. record { links = marked_links l m a true marks graph i; marked = more i; room = None }
     where
       by : (x y : Bool) → (x || y) ≡ cond x true y
       by true y = refl
@@ -139,7 +137,7 @@ pub topology_of-unmarked : (l m : Rows) (a : ℕ) → SetsMark l m a false → I
 topology_of-unmarked l m a marks graph =
     let less : (topology_of m).marked ≡ set.remove (topology_of l).marked a = set.same_set nat_cmp_total set.nat_cmp-IsAntisymmetric _ _ (λ q.
     contains-marked m marks.unique q ∙ marked_is l m a false marks q ∙ sym (set.contains-remove nat_cmp_total (topology_of l).marked a q ∙ (λ i. not (unsigned_tied q a i) && contains-marked l graph.unique q i) ∙ by (nat_eq q a) (is_marked l q))) in
-    λ i. record { links = same_links l m a false marks graph i; marked = less i; room = None }
+    λ i. record { links = marked_links l m a false marks graph i; marked = less i; room = None }
   where
     by : (x y : Bool) → (not x && y) ≡ cond x false y
     by true y = refl

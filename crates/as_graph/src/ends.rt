@@ -121,7 +121,8 @@ pub fn take_run(row: &mut Row, ends: &[End], from: usize, asn: Asn) -> Result<us
     requires by_as { AreByAs ends.now }
     requires least { (k : ℕ) (d : End) → from ≤ k → k < length ends.now → asn ≤ (slice_index_or ends.now k d).at }
     requires rising { IsRising (row.old.neighbours.items ++ ends_at asn (drop from ends.now)) }
-    ensures taken { OnOk result (row.new.neighbours.items ≡ row.old.neighbours.items ++ ends_at asn (drop from ends.now)) }
+    ensures taken { OnOk result
+        (row.new.neighbours.items ≡ row.old.neighbours.items ++ ends_at asn (drop from ends.now)) }
     ensures marked { row.new.marked ≡ row.old.marked }
     ensures run { IfOk result (IsRun ends.now asn from) }
 {

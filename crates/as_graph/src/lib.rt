@@ -1,8 +1,9 @@
 //! The graph of ASes: links between customers, peers and providers, and marked ASes.
 //!
 //! Contracts see a graph as a finite map of links and a finite set of marked ASes, and see the pair of
-//! ASes whose edits take no memory. Its ASes are the ends of its links and the marked ones. The neighbours of an AS, and the ASes, come in rising order
-//! of their numbers. The laws say what provider cycles and ranks are, for any graph.
+//! ASes whose edits take no memory. Its ASes are the ends of its links and the marked ones. The
+//! neighbours of an AS, and the ASes, come in rising order of their numbers. The laws say what
+//! provider cycles and ranks are, for any graph.
 #![tactic(auto)]
 
 mod build;

@@ -91,7 +91,8 @@ impl Row {
     /// Puts a neighbour behind the others.
     pub fn push(&mut self, asn: Asn, rel: Rel) -> Result<(), AllocError>
         requires { AreBelow self.old.neighbours.items asn }
-        ensures ok { OnOk result (self.new.neighbours.items ≡ self.old.neighbours.items ++ record { asn = asn; rel = rel } ∷ []) }
+        ensures ok { OnOk result
+            (self.new.neighbours.items ≡ self.old.neighbours.items ++ record { asn = asn; rel = rel } ∷ []) }
         ensures marked { self.new.marked ≡ self.old.marked }
     {
         Ok(self.neighbours.push(Neighbour { asn, rel })?)
