@@ -10,7 +10,8 @@ use Rattle.std.specs.FinMap as fin
 use Rattle.net_names.specs.Prefixes.{PrefixValue, prefix_cmp}
 use Rattle.net_names.specs.Links.{pair_cmp}
 use Rattle.net_names.proofs.Pairs.{exact_pair, pairs_total}
-use Rattle.stability_laws.specs.Plans.{announcement_cmp, Plan, announced_path, has_prefix, announcer_of, with_announcement, with_leaker, announcing_set, empty_plan, IsSound}
+use Rattle.stability_laws.specs.Plans.{announcement_cmp, Plan, announced_path, has_prefix, announcer_of, with_announcement, with_leaker, empty_plan, IsSound}
+use Rattle.stability_laws.specs.PlanLists.{announcing_set}
 use Rattle.net_names.specs.Orders.{prefix_total, exact_prefix, announcement_total, exact_announcement}
 use Rattle.stability_laws.proofs.KeyLists.{eq_is, eq_same}
 

@@ -2,7 +2,6 @@
 use Rattle.std.proofs.Common.{◌≡◌, ◌≢◌, ◌⊎◌, inl, inr, ℕ, zero, suc, ◌<◌, Bool, true, false, cond, ◌||◌, ◌&&◌, IsTrue, T, List, [], ◌∷◌, map, length, ◌≤◌, refl, sym, ap, subst, ◌∙◌, arith, Result, Ok, Err, IsOk, OnOk, Option, Some, None, IfSome, MatchOption, slice_get, get_or}
 use Rattle.std.specs.Option.{option_copied}
 use Rattle.std.specs.Borrow.{Bor}
-use Rattle.std.specs.Prelude.{is_err}
 use Rattle.std.proofs.lemmas.Bool.{true≢false, cases_lt}
 use Rattle.std.proofs.lemmas.Option.{none-some, same_Some, slice_get-get_or, slice_get_past, slice_get_within}
 use Rattle.std.proofs.lemmas.Map.Lookups.{CmpEqualImpliesEq}
@@ -53,10 +52,6 @@ keys_set_of {K} R xs h = ap (map (λ (e : K × Unit {0}). e.0)) (fin.entries-fro
 pub copied_at : {X : Type 0} (xs : List X) (i : ℕ) (r : Option (Bor X)) → IfSome r (λ x. x.now ≡ get_or xs i x.now) → MatchOption r (length xs ≤ i) (λ x. (i < length xs) × HoldsAt (λ y. x.now ≡ y) xs i) → option_copied r ≡ slice_get xs i
 copied_at xs i None is at = sym (slice_get_past xs i at)
 copied_at xs i (Some x) is at = sym (slice_get-get_or xs i x.now at.0 ∙ ap (λ y. Some y) (sym is))
-
-pub not_err : {A E P : Type 0} (r : Result A E) → is_err r ≡ false → OnOk r P → P
-not_err (Ok x) e h = h
-not_err (Err x) e h = absurd (true≢false e)
 
 -- the key is among the keys, in the words of an order that is the same
 pub put_as : {K E : Type 0} (cmp own : K → K → Ordering) → own ≡ cmp → (old before new : List K) (k : K) (r : Result (Unit {0}) E) → before ≡ old

@@ -18,8 +18,8 @@ use Rattle.std.specs.FinMap as fin
 use Rattle.net_names.specs.Prefixes.{PrefixValue}
 use Rattle.net_names.specs.Links.{pair_cmp}
 use Rattle.net_names.proofs.Pairs.{exact_pair, pairs_total}
-use Rattle.stability_laws.specs.Plans.{announcement_cmp, Plan, announcing_set, announcers_of, leaks_in, in_round, leakers_of, IsAnnouncer, ListsRising}
-use Rattle.stability_laws.specs.PlanLists.{marks, IsRising, set_of}
+use Rattle.stability_laws.specs.Plans.{announcement_cmp, Plan, announcers_of, leaks_in, in_round, leakers_of, IsAnnouncer, ListsRising}
+use Rattle.stability_laws.specs.PlanLists.{marks, IsRising, set_of, announcing_set}
 use Rattle.net_names.specs.Orders.{announcement_total, exact_announcement}
 use Rattle.stability_laws.proofs.KeyLists.{keys_listed, listed_as, eq_is, eq_same, keys_set_of, left, right, below_later, copied_at}
 use Rattle.stability_laws.proofs.Announcements.{by_as, get-announcing_set}

@@ -11,8 +11,8 @@ use Rattle.net_names.proofs.Rising as rising
 use Rattle.net_names.specs.Prefixes.{PrefixValue, prefix_cmp}
 use Rattle.net_names.specs.Links.{pair_cmp}
 use Rattle.stability_laws.specs.declared.seed_plan.Announcement.{Announcement}
-use Rattle.stability_laws.specs.Plans.{announcement_cmp, Plan, announced_path, announces, announcer_of, with_announcement, with_leaker, announcing_set, prefixes_of, announcers_of, in_round, leakers_of, empty_plan, IsSound}
-use Rattle.stability_laws.specs.PlanLists.{set_of, IsRising, entry_of, plan_of, ArePlan}
+use Rattle.stability_laws.specs.Plans.{announcement_cmp, Plan, announced_path, announces, announcer_of, with_announcement, with_leaker, prefixes_of, announcers_of, in_round, leakers_of, empty_plan, IsSound}
+use Rattle.stability_laws.specs.PlanLists.{set_of, announcing_set, IsRising, entry_of, plan_of, ArePlan}
 use Rattle.net_names.specs.Orders.{announcement_total, exact_announcement}
 use Rattle.stability_laws.proofs.KeyLists.{set_of_none, keys_set_of}
 use Rattle.stability_laws.proofs.Announcements.{announcing_set-with_announcement, announcing_set-empty_plan, sound_empty_plan, sound_with_announcement, sound_with_leaker}

@@ -18,7 +18,8 @@ use Rattle.stability_laws.specs.Laws.{IsHeight}
 abbrev pub IsActivated : Setting → (ℕ → Option Seed) → List ℕ → (ℕ → Option Entry) → (ℕ → Option Entry) → Type 0
 IsActivated w seeds xs f g = IsRunBy (IsStepWhole w seeds) xs f g
 
--- from any routing, activations with twice as many full pieces as the longest chain has ASes end in a stable routing, in a world without a provider cycle (Gao and Rexford 2001)
+-- from any routing, activations with twice as many full pieces as the longest chain has ASes end in
+-- a stable routing, in a world without a provider cycle (Gao and Rexford 2001)
 abbrev pub AnyOrderSettles : {P : Type 0} → (P → Policy) → Type 0
 AnyOrderSettles {P} meaning =
     (w : Topology) (book : PolicyBook P) (state : ℕ → State) (seeds : ℕ → Option Seed) (height : ℕ) (xs : List ℕ) (f g : ℕ → Option Entry) →

@@ -6,7 +6,8 @@ use Rattle.net_names.specs.Numbers.{occurs}
 use Rattle.stability_laws.specs.Offers.{Offer}
 use Rattle.stability_laws.specs.Stable.{IsBest}
 
--- of the ASes of the list, the one that the view names makes the offer with that view, before the offers of the others; without a view none makes an offer (RFC 4271, section 9.1.2)
+-- of the ASes of the list, the one that the view names makes the offer with that view, before the
+-- offers of the others; without a view none makes an offer (RFC 4271, section 9.1.2)
 pub record IsFirstOf (p : Policy) (offers : ℕ → Option Offer) (xs : List ℕ) (v : View) : Type 0 where
   pub offer : Offer
   pub made : offers v.neighbour ≡ Some offer

@@ -9,7 +9,8 @@ use Rattle.stability_laws.specs.declared.entry.Entry.{Entry}
 abbrev pub row : List (List ℕ) → List ℕ
 row cells = join_with_byte 124 cells ++ 10 ∷ []
 
--- what a row says of the entry: the class word, `|`, the path, and at the end the number of RFC 9234 that it has; `none` and `|` where there is no entry (own format)
+-- what a row says of the entry: the class word, `|`, the path, and at the end the number of RFC
+-- 9234 that it has; `none` and `|` where there is no entry (own format)
 abbrev pub entry_text : Option Entry → List ℕ
 entry_text held = elim held [ None ↦ codes "none|" | Some e ↦ class_word e.class ++ (124 ∷ (numbers_text e.path ++ option_map_or (λ n. codes "|otc " ++ decimal n) e.otc [])) ]
 

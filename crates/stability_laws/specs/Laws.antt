@@ -17,7 +17,8 @@ use Rattle.stability_laws.specs.Plans.{Plan, IsSound, has_prefix, announces}
 use Rattle.stability_laws.specs.Rounds.{AreRounds}
 use Rattle.net_names.specs.Prefixes.{PrefixValue}
 
--- two settings and routings are alike around AS a: its links, its policy, what its neighbours export and whether they mark, what they hold, and, where its policy reads them, the states
+-- two settings and routings are alike around AS a: its links, its policy, what its neighbours
+-- export and whether they mark, what they hold, and, where its policy reads them, the states
 pub record SameAround (v w : Setting) (f g : ℕ → Option Entry) (a : ℕ) : Type 0 where
   pub links : (n : ℕ) → v.relation a n ≡ w.relation a n
   pub policy : v.policy a ≡ w.policy a
@@ -42,7 +43,8 @@ if_customer (Some Provider) o = None
 abbrev pub customer_offer : Setting → (ℕ → Option Entry) → ℕ → ℕ → Option Offer
 customer_offer w f n a = if_customer (w.relation a n) (offer w f n a)
 
--- the offer that n makes to a follows from their link, what n exports and whether it marks, the policy of a, the states, and the entry at n
+-- the offer that n makes to a follows from their link, what n exports and whether it marks, the
+-- policy of a, the states, and the entry at n
 abbrev pub OfferFollows : {P : Type 0} → (P → Policy) → Type 0
 OfferFollows {P} meaning =
     (v w : Topology) (book other_book : PolicyBook P) (state : ℕ → State) (f g : ℕ → Option Entry) (n a : ℕ) →
@@ -78,13 +80,15 @@ OneAnswer {P} meaning =
     let right = λ (held : Option Entry). IsRightGiven (meaning (policy_at book a)) (seeds a) (λ n. offer (setting meaning w book state) f n a) held in
     (held : Option Entry) × right held × ((other : Option Entry) → right other → other ≡ held)
 
--- who holds nothing of class Origin or Customer makes no offer to a peer or a provider of its own (Gao and Rexford 2001)
+-- who holds nothing of class Origin or Customer makes no offer to a peer or a provider of its own
+-- (Gao and Rexford 2001)
 abbrev pub NothingUp : {P : Type 0} → (P → Policy) → Type 0
 NothingUp {P} meaning =
     (w : Topology) (book : PolicyBook P) (state : ℕ → State) (f : ℕ → Option Entry) (n a : ℕ) (r : Rel) →
     relation w n a ≡ Some r → r ≢ Customer → IsForCustomersOnly (f n) → offer (setting meaning w book state) f n a ≡ None
 
--- an AS without a seed that a customer makes an offer is right exactly with the best of its customers' offers (Gao and Rexford 2001, Guideline A)
+-- an AS without a seed that a customer makes an offer is right exactly with the best of its
+-- customers' offers (Gao and Rexford 2001, Guideline A)
 abbrev pub CustomersDecide : {P : Type 0} → (P → Policy) → Type 0
 CustomersDecide {P} meaning =
     (w : Topology) (book : PolicyBook P) (state : ℕ → State) (f : ℕ → Option Entry) (a customer : ℕ) (o : Offer) →
@@ -92,7 +96,8 @@ CustomersDecide {P} meaning =
     customer_offer here f customer a ≡ Some o → (held : Option Entry) →
     IsRightGiven (here.policy a) None (λ n. offer here f n a) held ↔ IsRightGiven (here.policy a) None (λ n. customer_offer here f n a) held
 
--- two stable routings of one world without a provider cycle, for one prefix's states and the same seeds, are equal (Gao and Rexford 2001)
+-- two stable routings of one world without a provider cycle, for one prefix's states and the same
+-- seeds, are equal (Gao and Rexford 2001)
 abbrev pub OneStableRouting : {P : Type 0} → (P → Policy) → Type 0
 OneStableRouting {P} meaning =
     (w : Topology) (book : PolicyBook P) (state : ℕ → State) (seeds : ℕ → Option Seed) (f g : ℕ → Option Entry) →
@@ -106,7 +111,8 @@ OneFamily {P} meaning =
     HasNoProviderCycle (relation w) → AreRounds here plan rounds g → AreRounds here plan rounds h →
     (before : ℕ) (prefix : PrefixValue) → before < rounds → IsTrue (has_prefix plan prefix) → (a : ℕ) → g (suc before) prefix a ≡ h (suc before) prefix a
 
--- in the rounds of a plan each path starts with its AS, and where the AS does not announce the prefix the path goes on to an AS of the world (RFC 4271, section 5.1.2)
+-- in the rounds of a plan each path starts with its AS, and where the AS does not announce the
+-- prefix the path goes on to an AS of the world (RFC 4271, section 5.1.2)
 abbrev pub PathsGoOn : {P : Type 0} → (P → Policy) → Type 0
 PathsGoOn {P} meaning =
     (w : Topology) (book : PolicyBook P) (state : PrefixValue → ℕ → State) (plan : Plan) (rounds : ℕ) (g : ℕ → PrefixValue → ℕ → Option Entry) →

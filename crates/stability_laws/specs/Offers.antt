@@ -14,14 +14,18 @@ use Rattle.net_names.specs.Numbers.{occurs, last_or}
 use Rattle.stability_laws.specs.declared.entry.Entry.{Entry}
 use Rattle.stability_laws.specs.Entries.{class_of}
 
--- what stability at one prefix reads of a world: which numbers are ASes, what the second AS is to the first, the policy of each AS, and the state of the prefix with each origin
+-- what stability at one prefix reads of a world: which numbers are ASes, what the second AS is to
+-- the first, the policy of each AS, and the state of the prefix with each origin
 pub record Setting : Type 0 where
   pub has : ℕ → Bool
   pub relation : ℕ → ℕ → Option Rel
   pub policy : ℕ → Policy
   pub state : ℕ → State
 
--- the number of a route on its way from AS n to one that is `to` to it, after an end of that link that marks routes or does not: the number that it has; else n, where that end marks and the receiver is a customer or a peer of n (RFC 9234, section 5, rule 1 on sending and rule 3 on receipt); `sameb` says whether two are the same
+-- the number of a route on its way from AS n to one that is `to` to it, after an end of that link
+-- that marks routes or does not: the number that it has; else n, where that end marks and the
+-- receiver is a customer or a peer of n (RFC 9234, section 5, rule 1 on sending and rule 3 on
+-- receipt); `sameb` says whether two are the same
 abbrev pub marked : Bool → ℕ → Rel → Option ℕ → Option ℕ
 marked marks n to otc = option_or otc (then_some (marks && not (sameb rel to Provider)) n)
 
@@ -30,15 +34,21 @@ pub record Offer : Type 0 where
   pub view : View
   pub entry : Entry
 
--- what an AS to which n is `from` sees of n's entry: the relation, the neighbour, the length of the path with itself put before it, the state of the prefix with the path's last number, and the number that is sent (RFC 4271, section 9.1.2; RFC 6811, section 2; RFC 9234, section 5)
+-- what an AS to which n is `from` sees of n's entry: the relation, the neighbour, the length of the
+-- path with itself put before it, the state of the prefix with the path's last number, and the
+-- number that is sent (RFC 4271, section 9.1.2; RFC 6811, section 2; RFC 9234, section 5)
 abbrev pub view_of : Bool → (ℕ → State) → ℕ → Rel → Entry → View
 view_of marks state n from e = record { rel = from; neighbour = n; length = length e.path + 1; state = state (last_or 0 e.path); otc = marked marks n (converse from) e.otc }
 
--- the entry that AS a would hold of n's entry: its class names what n is, its path is a followed by n's path, and its number is the one that a keeps (RFC 4271, section 5.1.2; RFC 9234, section 5)
+-- the entry that AS a would hold of n's entry: its class names what n is, its path is a followed by
+-- n's path, and its number is the one that a keeps (RFC 4271, section 5.1.2; RFC 9234, section 5)
 abbrev pub passed_on : Bool → Bool → ℕ → ℕ → Rel → Entry → Entry
 passed_on n_marks a_marks n a from e = record { class = class_of from; path = a ∷ e.path; otc = marked a_marks n (converse from) (marked n_marks n (converse from) e.otc) }
 
--- the offer that n, with the policy s, makes to a, with the policy r, given the states, what n is to a, and what n holds: there is one where there is a link and an entry, n exports the entry to what a is to n, its path is not empty, a does not stand in its path, and a accepts the view (Gao and Rexford 2001; RFC 4271, section 9.1, and section 9.1.2 on AS loops)
+-- the offer that n, with the policy s, makes to a, with the policy r, given the states, what n is
+-- to a, and what n holds: there is one where there is a link and an entry, n exports the entry to
+-- what a is to n, its path is not empty, a does not stand in its path, and a accepts the view (Gao
+-- and Rexford 2001; RFC 4271, section 9.1, and section 9.1.2 on AS loops)
 abbrev pub offer_given : Policy → Policy → (ℕ → State) → ℕ → ℕ → Option Rel → Option Entry → Option Offer
 offer_given s r state n a (Some from) (Some e) = let view = view_of s.marks state n from e in
     if s.exports e.class e.otc (converse from) && (is_some (slice_get e.path 0) && (not (occurs a e.path) && r.accepts view))

@@ -7,7 +7,7 @@ use Rattle.std.specs.FinSet as set
 use Rattle.net_names.specs.Prefixes.{PrefixValue, prefix_cmp}
 use Rattle.net_names.specs.Links.{pair_cmp}
 use Rattle.stability_laws.specs.declared.seed_plan.Announcement.{Announcement}
-use Rattle.stability_laws.specs.Plans.{announcement_cmp, Plan, announcing_set, IsSound}
+use Rattle.stability_laws.specs.Plans.{announcement_cmp, Plan, IsSound}
 
 -- the keys as the entries of a set
 abbrev pub marks : {K : Type 0} → List K → List (K × Unit {0})
@@ -32,6 +32,10 @@ plan_of prefixes announced leakers = record {
   announced = fin.from_sorted (map entry_of announced);
   leakers = set_of pair_cmp leakers;
 }
+
+-- the set of the ASes that announce a prefix
+abbrev pub announcing_set : Plan → set.FinSet nat_cmp
+announcing_set plan = fin.from_entries (map (λ x. (x.1, tt)) (fin.keys plan.announced))
 
 -- the lists rise, the plan that they make is sound, and the announcers are the ASes that announce in it
 pub record ArePlan (prefixes : List PrefixValue) (announced : List Announcement) (announcers : List ℕ) (leakers : List (ℕ × ℕ)) : Type 0 where

@@ -55,7 +55,8 @@ with_announcement plan p path = record plan { prefixes = fin.insert plan.prefixe
 abbrev pub with_leaker : Plan → ℕ → ℕ → Plan
 with_leaker plan round a = record plan { leakers = fin.insert plan.leakers (round, a) tt }
 
--- each announced path starts with its AS and has at most 4294967294 numbers, its prefix is one of the plan's, and there are leakers in rounds from 2 on alone
+-- each announced path starts with its AS and has at most 4294967294 numbers, its prefix is one of
+-- the plan's, and there are leakers in rounds from 2 on alone
 pub record IsSound (plan : Plan) : Type 0 where
   pub starts : (prefix : PrefixValue) (a : ℕ) (path : List ℕ) → announced_path plan prefix a ≡ Some path → slice_get path 0 ≡ Some a
   pub short : (prefix : PrefixValue) (a : ℕ) (path : List ℕ) → announced_path plan prefix a ≡ Some path → length path ≤ 4294967294
@@ -66,13 +67,9 @@ pub record IsSound (plan : Plan) : Type 0 where
 abbrev pub prefixes_of : Plan → List PrefixValue
 prefixes_of plan = fin.keys plan.prefixes
 
--- the set of the ASes that announce a prefix
-abbrev pub announcing_set : Plan → set.FinSet nat_cmp
-announcing_set plan = fin.from_entries (map (λ x. (x.1, tt)) (fin.keys plan.announced))
-
 -- the ASes that announce a prefix, in rising order
 abbrev pub announcers_of : Plan → List ℕ
-announcers_of plan = fin.keys (announcing_set plan)
+announcers_of plan = fin.keys (fin.from_entries {R = nat_cmp} (map (λ x. (x.1, tt {0})) (fin.keys plan.announced)))
 
 -- of pairs of a round and an AS, the ASes of that round
 abbrev pub in_round : ℕ → List (ℕ × ℕ) → List ℕ

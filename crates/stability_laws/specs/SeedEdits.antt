@@ -24,7 +24,8 @@ abbrev pub edit_asn : SeedEdit → ℕ
 edit_asn (Announce prefix path) = announcer_of path
 edit_asn (Withdraw prefix a) = a
 
--- the plan after the edit: the first AS of the path announces the prefix with this path, in place of an earlier one, or the AS does not announce the prefix
+-- the plan after the edit: the first AS of the path announces the prefix with this path, in place
+-- of an earlier one, or the AS does not announce the prefix
 abbrev pub edited : Plan → SeedEdit → Plan
 edited plan (Announce prefix path) = with_announcement plan prefix path
 edited plan (Withdraw prefix a) = without_announcement plan prefix a

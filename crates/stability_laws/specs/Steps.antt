@@ -5,8 +5,8 @@ use Rattle.net_names.specs.declared.routes.Class.TheVariants as class
 use Rattle.policy_laws.specs.Policy.{Policy}
 use Rattle.stability_laws.specs.declared.entry.Entry.{Entry}
 use Rattle.stability_laws.specs.declared.entry.Seed.{Seed}
-use Rattle.stability_laws.specs.Offers.{Setting, Offer, offer}
-use Rattle.stability_laws.specs.Stable.{IsRightGiven}
+use Rattle.stability_laws.specs.Offers.{Setting, Offer}
+use Rattle.stability_laws.specs.Stable.{IsRightGiven, IsRightWith}
 use Rattle.stability_laws.specs.Laws.{customer_offer}
 
 -- the entry, where its class is Origin or Customer
@@ -25,7 +25,8 @@ low (Some e) = low_by e.class e
 abbrev pub lows : (ℕ → Option Entry) → ℕ → Option Entry
 lows f n = low (f n)
 
--- from f to g nothing but the entry at a may change, and at a stands what is right with these offers (Gao and Rexford 2001, activation)
+-- from f to g nothing but the entry at a may change, and at a stands what is right with these
+-- offers (Gao and Rexford 2001, activation)
 pub record IsStep (p : Policy) (seed : Option Seed) (offers : ℕ → Option Offer) (f : ℕ → Option Entry) (a : ℕ) (g : ℕ → Option Entry) : Type 0 where
   pub others : (n : ℕ) → n ≢ a → g n ≡ f n
   pub right : IsRightGiven p seed offers (g a)
@@ -34,9 +35,11 @@ pub record IsStep (p : Policy) (seed : Option Seed) (offers : ℕ → Option Off
 abbrev pub IsStepUp : Setting → (ℕ → Option Seed) → (ℕ → Option Entry) → ℕ → (ℕ → Option Entry) → Type 0
 IsStepUp w seeds f a g = IsStep (w.policy a) (seeds a) (λ n. customer_offer w f n a) f a g
 
--- a step of a in which it looks at all offers: an activation (Gao and Rexford 2001)
-abbrev pub IsStepWhole : Setting → (ℕ → Option Seed) → (ℕ → Option Entry) → ℕ → (ℕ → Option Entry) → Type 0
-IsStepWhole w seeds f a g = IsStep (w.policy a) (seeds a) (λ n. offer w f n a) f a g
+-- an activation of a: nothing but its entry may change, and it holds what it is right with then, by all offers that its
+-- neighbours make in f (Gao and Rexford 2001)
+pub record IsStepWhole (w : Setting) (seeds : ℕ → Option Seed) (f : ℕ → Option Entry) (a : ℕ) (g : ℕ → Option Entry) : Type 0 where
+  pub others : (n : ℕ) → n ≢ a → g n ≡ f n
+  pub right : IsRightWith w seeds f a (g a)
 
 -- what a holds is right with its customers' offers alone
 abbrev pub IsRightUp : Setting → (ℕ → Option Seed) → (ℕ → Option Entry) → ℕ → Type 0

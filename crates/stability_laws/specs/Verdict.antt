@@ -8,7 +8,8 @@ use Rattle.stability_laws.specs.Entries.{seed_entry}
 use Rattle.stability_laws.specs.Offers.{Setting, Offer, offer}
 use Rattle.stability_laws.specs.Stable.{IsBest, IsRight}
 
--- what each refusal says: a seed that is not held; an entry without an offer; no entry though `by` makes the best offer; an entry that is not the best offer, which `by` makes
+-- what each refusal says: a seed that is not held; an entry without an offer; no entry though `by`
+-- makes the best offer; an entry that is not the best offer, which `by` makes
 abbrev pub IsVerdictOn : Setting → (ℕ → Option Seed) → (ℕ → Option Entry) → ℕ → Wrong → Type 0
 IsVerdictOn w seeds f a SeedNotHeld = (s : Seed) × (seeds a ≡ Some s) × (f a ≢ Some (seed_entry s))
 IsVerdictOn w seeds f a Unexpected = (seeds a ≡ None) × ((n : ℕ) → offer w f n a ≡ None) × (f a ≢ None)

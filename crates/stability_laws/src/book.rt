@@ -128,10 +128,8 @@ impl<P: Drop> Book<P> {
         if self.named.get_index_of(&asn).is_some() {
             return Ok(());
         }
-        match self.named.insert(asn, None) {
-            Ok(_) => Ok(()),
-            Err(_) => Err(NoMemory),
-        }
+        self.named.insert(asn, None)?;
+        Ok(())
     }
 
     /// Names an AS with this policy, in place of an earlier one. It takes no memory and keeps the room.

@@ -30,7 +30,8 @@ fn view_from<P: RoutePolicy, V: OriginStates>(
     neighbour: &Neighbour,
 ) -> Option<View>
     requires { relation world.now.graph.now asn neighbour.now.asn ≡ Some neighbour.now.rel }
-    ensures { result ≡ option_map (λ o. o.view) (offer (setting_in P.meaning V.state_of world.now prefix) (map.get routing.now) neighbour.now.asn asn) }
+    ensures { result ≡ option_map (λ o. o.view)
+        (offer (setting_in P.meaning V.state_of world.now prefix) (map.get routing.now) neighbour.now.asn asn) }
 {
     let held = routing.get(neighbour.asn)?;
     offered_view(
@@ -68,7 +69,8 @@ pub(crate) fn best_view<P: RoutePolicy, V: OriginStates>(
     asn: Asn,
 ) -> Option<View>
     requires { AreNeighbours (relation world.now.graph.now) asn neighbours.now }
-    ensures { IsBestView (P.meaning (policy_at world.now.book.now asn)) (λ n. offer (setting_in P.meaning V.state_of world.now prefix) (map.get routing.now) n asn) result }
+    ensures { IsBestView (P.meaning (policy_at world.now.book.now asn))
+        (λ n. offer (setting_in P.meaning V.state_of world.now prefix) (map.get routing.now) n asn) result }
 {
     let own = world.book.policy(asn);
     let mut best: Option<View> = None;
@@ -79,8 +81,8 @@ pub(crate) fn best_view<P: RoutePolicy, V: OriginStates>(
     best
 }
 
-/// Whether the entry is what the AS `a` holds of an entry of `n`, which is `from` to it.
-fn holds_given<P: RoutePolicy>(
+/// Whether the entry is what the AS `a` holds of an entry of `n`, which is `from` to it. It takes no memory.
+pub fn holds_given<P: RoutePolicy>(
     sender: &P,
     receiver: &P,
     n: Asn,
@@ -89,7 +91,8 @@ fn holds_given<P: RoutePolicy>(
     given: &Entry,
     entry: &Entry,
 ) -> bool
-    ensures { IsTrue result ↔ (entry.now ≡ passed_on (P.meaning sender.now).marks (P.meaning receiver.now).marks n a from given.now) }
+    ensures { IsTrue result ↔
+        (entry.now ≡ passed_on (P.meaning sender.now).marks (P.meaning receiver.now).marks n a from given.now) }
 {
     let otc = carried(sender, receiver, n, from.converse(), given.otc);
     has_parts(entry, class_from(from), a, given.path.as_slice(), otc)
@@ -104,7 +107,9 @@ fn is_offer<P: RoutePolicy, V: OriginStates>(
     view: &View,
     entry: &Entry,
 ) -> bool
-    ensures { (o : Offer) → offer (setting_in P.meaning V.state_of world.now prefix) (map.get routing.now) view.now.neighbour asn ≡ Some o → o.view ≡ view.now → IsTrue result ↔ (entry.now ≡ o.entry) }
+    ensures { (o : Offer) →
+        offer (setting_in P.meaning V.state_of world.now prefix) (map.get routing.now) view.now.neighbour asn ≡ Some o →
+        o.view ≡ view.now → IsTrue result ↔ (entry.now ≡ o.entry) }
 {
     match routing.get(view.neighbour) {
         Some(given) => holds_given(
@@ -140,8 +145,10 @@ fn check_among<P: RoutePolicy, V: OriginStates>(
     asn: Asn,
 ) -> Result<(), Wrong>
     requires { AreNeighbours (relation world.now.graph.now) asn neighbours.now }
-    ensures verdict { IsVerdict (setting_in P.meaning V.state_of world.now prefix) (map.get seeds.now) (map.get routing.now) asn result }
-    ensures right { IsRight (setting_in P.meaning V.state_of world.now prefix) (map.get seeds.now) (map.get routing.now) asn → IsOk result }
+    ensures verdict { IsVerdict (setting_in P.meaning V.state_of world.now prefix) (map.get seeds.now)
+        (map.get routing.now) asn result }
+    ensures right { IsRight (setting_in P.meaning V.state_of world.now prefix) (map.get seeds.now)
+        (map.get routing.now) asn → IsOk result }
 {
     if let Some(seed) = seeds.get(asn) {
         return if holds_seed(routing, asn, seed) {
@@ -176,8 +183,10 @@ pub fn check_at<P: RoutePolicy, V: OriginStates>(
     routing: &Routing,
     asn: Asn,
 ) -> Result<(), Wrong>
-    ensures verdict { IsVerdict (setting_in P.meaning V.state_of world.now prefix) (map.get seeds.now) (map.get routing.now) asn result }
-    ensures right { IsRight (setting_in P.meaning V.state_of world.now prefix) (map.get seeds.now) (map.get routing.now) asn → IsOk result }
+    ensures verdict { IsVerdict (setting_in P.meaning V.state_of world.now prefix) (map.get seeds.now)
+        (map.get routing.now) asn result }
+    ensures right { IsRight (setting_in P.meaning V.state_of world.now prefix) (map.get seeds.now)
+        (map.get routing.now) asn → IsOk result }
 {
     check_among(
         world,

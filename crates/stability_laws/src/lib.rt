@@ -23,7 +23,7 @@ mod world;
 mod wrong;
 
 pub use book::Book;
-pub use check::{better, check_at};
+pub use check::{better, check_at, holds_given};
 pub use entry::{Entry, Seed};
 pub use laws::{
     any_order_settles, customers_decide, nothing_up, offer_follows, offer_names, one_answer,

@@ -72,7 +72,9 @@ pub fn offered_view<P: RoutePolicy, V: OriginStates>(
     held: &Entry,
 ) -> Option<View>
     requires { length held.now.path < 2 ^ 32 - 1 }
-    ensures { result ≡ option_map (λ o. o.view) (offer_given (P.meaning sender.now) (P.meaning receiver.now) (V.state_of states.now prefix) neighbour.now.asn a (Some neighbour.now.rel) (Some held.now)) }
+    ensures { result ≡ option_map (λ o. o.view)
+        (offer_given (P.meaning sender.now) (P.meaning receiver.now) (V.state_of states.now prefix)
+        neighbour.now.asn a (Some neighbour.now.rel) (Some held.now)) }
 {
     let Neighbour { asn, rel } = *neighbour;
     let path = held.path.as_slice();

@@ -22,10 +22,8 @@ use std::alloc::Global;
 pub(crate) fn path_of(alloc: Global, numbers: &[Asn]) -> Result<Path, NoMemory>
     ensures { IfOk result (λ p. p ≡ numbers.now) }
 {
-    match Vec::from_slice(alloc, numbers) {
-        Ok(items) => Ok(Path::from_vec(items)),
-        Err(_) => Err(NoMemory),
-    }
+    let items = Vec::from_slice(alloc, numbers)?;
+    Ok(Path::from_vec(items))
 }
 
 /// The path of the AS, followed by these.
@@ -33,12 +31,8 @@ fn path_after(alloc: Global, asn: Asn, rest: &[Asn]) -> Result<Path, NoMemory>
     ensures { IfOk result (λ p. p ≡ asn ∷ rest.now) }
 {
     let mut numbers = Vec::new(alloc);
-    if numbers.push(asn).is_err() {
-        return Err(NoMemory);
-    }
-    if numbers.extend_from_slice(rest).is_err() {
-        return Err(NoMemory);
-    }
+    numbers.push(asn)?;
+    numbers.extend_from_slice(rest)?;
     Ok(Path::from_vec(numbers))
 }
 
@@ -63,7 +57,8 @@ fn entry_given<P: RoutePolicy>(
     from: Rel,
     given: &Entry,
 ) -> Result<Entry, NoMemory>
-    ensures { IfOk result (λ e. e ≡ passed_on (P.meaning sender.now).marks (P.meaning receiver.now).marks n a from given.now) }
+    ensures { IfOk result
+        (λ e. e ≡ passed_on (P.meaning sender.now).marks (P.meaning receiver.now).marks n a from given.now) }
 {
     let otc = carried(sender, receiver, n, from.converse(), given.otc);
     let path = path_after(alloc, a, given.path.as_slice())?;
@@ -85,7 +80,8 @@ fn right_among<P: RoutePolicy, V: OriginStates>(
     asn: Asn,
 ) -> Result<Option<Entry>, NoMemory>
     requires { AreNeighbours (relation world.now.graph.now) asn neighbours.now }
-    ensures { IfOk result (IsRightWith (setting_in P.meaning V.state_of world.now prefix) (map.get seeds.now) (map.get routing.now) asn) }
+    ensures { IfOk result (IsRightWith (setting_in P.meaning V.state_of world.now prefix) (map.get seeds.now)
+        (map.get routing.now) asn) }
 {
     if let Some(seed) = seeds.get(asn) {
         let entry = entry_of_seed(alloc, seed)?;
@@ -120,7 +116,8 @@ pub fn right_entry<P: RoutePolicy, V: OriginStates>(
     routing: &Routing,
     asn: Asn,
 ) -> Result<Option<Entry>, NoMemory>
-    ensures { IfOk result (IsRightWith (setting_in P.meaning V.state_of world.now prefix) (map.get seeds.now) (map.get routing.now) asn) }
+    ensures { IfOk result (IsRightWith (setting_in P.meaning V.state_of world.now prefix) (map.get seeds.now)
+        (map.get routing.now) asn) }
 {
     right_among(
         alloc,

@@ -19,8 +19,7 @@ fn put_seed(asn: Asn, seed: Seed, seeds: &mut Seeds) -> Result<(), NoMemory>
     ensures this { OnOk result (map.get seeds.new asn ≡ Some seed) }
     ensures others { OnOk result ((a : ℕ) → a ≢ asn → map.get seeds.new a ≡ map.get seeds.old a) }
 {
-    seeds.put(asn, seed)?;
-    Ok(())
+    seeds.put(asn, seed)
 }
 
 /// Puts in what the AS announces of the prefix, where it announces it.
@@ -39,8 +38,7 @@ fn announce(
         return Ok(());
     };
     let path = path_of(alloc, announced.as_slice())?;
-    put_seed(asn, Seed { path, otc: None }, seeds)?;
-    Ok(())
+    put_seed(asn, Seed { path, otc: None }, seeds)
 }
 
 /// The seeds of those who announce the prefix.
@@ -70,7 +68,8 @@ fn is_own_or_given_by_customer(class: Class) -> bool
 
 /// Puts in what a leaker leaks of what it held in the round before, unless it has a seed.
 fn leak(alloc: Global, asn: Asn, before: &Routing, seeds: &mut Seeds) -> Result<(), NoMemory>
-    ensures this { OnOk result (map.get seeds.new asn ≡ own_or_leaked (map.get seeds.old asn) true (map.get before.now asn)) }
+    ensures this { OnOk result (map.get seeds.new asn ≡
+        own_or_leaked (map.get seeds.old asn) true (map.get before.now asn)) }
     ensures others { OnOk result ((a : ℕ) → a ≢ asn → map.get seeds.new a ≡ map.get seeds.old a) }
 {
     if let Some(_) = seeds.get(asn) {
@@ -83,15 +82,8 @@ fn leak(alloc: Global, asn: Asn, before: &Routing, seeds: &mut Seeds) -> Result<
         return Ok(());
     }
     let path = path_of(alloc, held.path.as_slice())?;
-    put_seed(
-        asn,
-        Seed {
-            path,
-            otc: held.otc,
-        },
-        seeds,
-    )?;
-    Ok(())
+    let otc = held.otc;
+    put_seed(asn, Seed { path, otc }, seeds)
 }
 
 /// Puts in what the leakers of the round leak, unless they have seeds.
@@ -102,7 +94,8 @@ fn leak_all(
     before: &Routing,
     seeds: &mut Seeds,
 ) -> Result<(), NoMemory>
-    ensures { OnOk result ((a : ℕ) → map.get seeds.new a ≡ own_or_leaked (map.get seeds.old a) (leaks_in plan.now round a) (map.get before.now a)) }
+    ensures { OnOk result ((a : ℕ) → map.get seeds.new a ≡
+        own_or_leaked (map.get seeds.old a) (leaks_in plan.now round a) (map.get before.now a)) }
 {
     let mut place = 0;
     'leakers: while let Some(asn) = plan.leaker_at(round, place) {

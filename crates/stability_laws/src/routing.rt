@@ -54,10 +54,8 @@ impl Routing {
         ensures ok { OnOk result (self.new ≡ map.insert self.old asn entry) }
         ensures err { OnErr result (self.new ≡ self.old) }
     {
-        match self.entries.insert(asn, entry) {
-            Ok(_) => Ok(()),
-            Err(_) => Err(NoMemory),
-        }
+        self.entries.insert(asn, entry)?;
+        Ok(())
     }
 
     /// What the AS holds.
@@ -129,10 +127,8 @@ impl Seeds {
         ensures ok { OnOk result (self.new ≡ map.insert self.old asn seed) }
         ensures err { OnErr result (self.new ≡ self.old) }
     {
-        match self.seeds.insert(asn, seed) {
-            Ok(_) => Ok(()),
-            Err(_) => Err(NoMemory),
-        }
+        self.seeds.insert(asn, seed)?;
+        Ok(())
     }
 
     /// What the AS puts in.

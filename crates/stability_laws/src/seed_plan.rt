@@ -10,14 +10,14 @@ ghost use Rattle.net_names.specs.Prefixes.{prefix_cmp};
 ghost use Rattle.stability_laws.specs.Plans.{announcement_cmp, announces, announced_path, announcer_of, empty_plan, with_announcement, with_leaker, has_prefix, leaks_in, prefixes_of, announcers_of, in_round, leakers_of, IsAnnouncer, IsSound, ListsRising};
 ghost use Rattle.stability_laws.specs.PlanLists.{set_of, IsRising};
 
+mod copied;
 mod edits;
+mod names;
 
 pub use edits::SeedEdit;
 use net_names::{Asn, NoMemory, Path, Prefix};
 use std::alloc::Global;
 use std::marker::Model;
-
-mod copied;
 
 // A path, with the prefix and the AS that announce it.
 #[derive(Drop)]
@@ -54,7 +54,8 @@ impl Model for SeedPlan {
 // Where the announcement of the prefix by the AS stands, or where it has to be put in.
 fn place_of(announced: &[Announcement], prefix: Prefix, asn: Asn) -> Result<usize, usize>
     ensures bound { IsSearchInRange result (length announced.now) }
-    ensures position { IsBinarySearchResult (λ x. announcement_cmp (x.prefix, x.asn) (prefix, asn)) announced.now result }
+    ensures position { IsBinarySearchResult (λ x. announcement_cmp (x.prefix, x.asn) (prefix, asn))
+        announced.now result }
 {
     announced.binary_search_by_key(&(prefix, asn), |x| (x.prefix, x.asn))
 }
@@ -70,10 +71,10 @@ fn put_key<K: Ord + Copy>(keys: &mut Vec<K>, key: K) -> Result<(), NoMemory>
 {
     match keys.as_slice().binary_search(&key) {
         Ok(_) => Ok(()),
-        Err(at) => match keys.insert(at, key) {
-            Ok(()) => Ok(()),
-            Err(_) => Err(NoMemory),
-        },
+        Err(at) => {
+            keys.insert(at, key)?;
+            Ok(())
+        }
     }
 }
 
@@ -83,15 +84,11 @@ fn leaker_in(leakers: &[(u32, Asn)], round: u32, place: usize) -> Option<Asn>
     ensures { result ≡ slice_get (in_round round leakers.now) place }
 {
     let first = leakers.partition_point(|leaker| leaker.0 < round);
-    match leakers[first..].get(place) {
-        Some(leaker) => {
-            if leaker.0 == round {
-                Some(leaker.1)
-            } else {
-                None
-            }
-        }
-        None => None,
+    let leaker = leakers[first..].get(place)?;
+    if leaker.0 == round {
+        Some(leaker.1)
+    } else {
+        None
     }
 }
 
@@ -107,6 +104,7 @@ fn stands_in(prefixes: &[Prefix], prefix: Prefix) -> bool
 pub fn plans_are_sound(plan: &SeedPlan)
     ensures { IsSound plan.now }
 {
+    // A list of the plan is read for what its type says of every plan.
     let _announcers = plan.announcers.as_slice();
 }
 
@@ -135,23 +133,14 @@ impl SeedPlan {
     {
         let asn = path.as_slice()[0];
         // Two lists get their room before the third is written, so that a failure changes none.
-        if self.prefixes.reserve(1).is_err() {
-            return Err(NoMemory);
-        }
-        if self.announcers.reserve(1).is_err() {
-            return Err(NoMemory);
-        }
+        self.prefixes.reserve(1)?;
+        self.announcers.reserve(1)?;
         let at = match place_of(self.announced.as_slice(), prefix, asn) {
             Ok(at) => at,
             Err(at) => at,
         };
-        match self
-            .announced
-            .insert(at, Announcement { prefix, asn, path })
-        {
-            Ok(()) => {}
-            Err(_) => return Err(NoMemory),
-        }
+        self.announced
+            .insert(at, Announcement { prefix, asn, path })?;
         let _ = put_key(&mut self.prefixes, prefix);
         let _ = put_key(&mut self.announcers, asn);
         Ok(())
@@ -208,7 +197,8 @@ impl SeedPlan {
     /// the place is not below their number. It takes a constant time.
     pub fn prefix_at(&self, place: usize) -> Option<Prefix>
         ensures value { result ≡ slice_get (prefixes_of self.now) place }
-        ensures listed { ListsRising prefix_cmp (λ prefix. IsTrue (has_prefix self.now prefix)) (prefixes_of self.now) }
+        ensures listed { ListsRising prefix_cmp (λ prefix. IsTrue (has_prefix self.now prefix))
+            (prefixes_of self.now) }
     {
         self.prefixes.get(place).copied()
     }

@@ -5,8 +5,9 @@ ghost use Rattle.std.specs.Ordering.{eq_by_cmp};
 ghost use Rattle.stability_laws.specs.Plans.{announcement_cmp, announces, announcer_of, with_announcement};
 ghost use Rattle.stability_laws.specs.SeedEdits.{silent, without_announcement, edited, IsEditWithin, IsEditOf};
 
-use super::copied::copy_of;
+use super::copied::items_of;
 use super::{Announcement, SeedPlan};
+use crate::right::path_of;
 use net_names::{Asn, NoMemory, Path, Prefix};
 use std::alloc::Global;
 
@@ -30,12 +31,14 @@ fn announce_unless(
     requires some { 1 ≤ length one.now.path }
     requires short { length one.now.path ≤ 4294967294 }
     requires new { announces plan.old one.now.prefix (announcer_of one.now.path) ≡ false }
-    ensures { OnOk result (plan.new ≡ (if eq_by_cmp announcement_cmp (one.now.prefix, one.now.asn) (prefix, asn) then plan.old else with_announcement plan.old one.now.prefix one.now.path)) }
+    ensures { OnOk result (plan.new ≡
+        (if eq_by_cmp announcement_cmp (one.now.prefix, one.now.asn) (prefix, asn)
+        then plan.old else with_announcement plan.old one.now.prefix one.now.path)) }
 {
     if one.prefix == prefix && one.asn == asn {
         return Ok(());
     }
-    let path = copy_of(alloc, &one.path)?;
+    let path = path_of(alloc, one.path.as_slice())?;
     plan.announce(one.prefix, path)
 }
 
@@ -44,17 +47,11 @@ impl SeedPlan {
     fn silent(&self, alloc: Global) -> Result<SeedPlan, NoMemory>
         ensures { IfOk result (λ p. p ≡ silent self.now) }
     {
-        let Ok(prefixes) = Vec::from_slice(alloc, self.prefixes.as_slice()) else {
-            return Err(NoMemory);
-        };
-        let Ok(leakers) = Vec::from_slice(alloc, self.leakers.as_slice()) else {
-            return Err(NoMemory);
-        };
         Ok(SeedPlan {
-            prefixes,
+            prefixes: items_of(alloc, self.prefixes.as_slice())?,
             announced: Vec::new(alloc),
             announcers: Vec::new(alloc),
-            leakers,
+            leakers: items_of(alloc, self.leakers.as_slice())?,
         })
     }
 
@@ -81,7 +78,7 @@ impl SeedPlan {
         match edit {
             SeedEdit::Announce { prefix, path } => {
                 let mut plan = self.without(alloc, *prefix, path.as_slice()[0])?;
-                let path = copy_of(alloc, path)?;
+                let path = path_of(alloc, path.as_slice())?;
                 plan.announce(*prefix, path)?;
                 Ok(plan)
             }

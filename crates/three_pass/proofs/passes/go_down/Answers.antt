@@ -8,6 +8,7 @@ use Rattle.as_graph.proofs.Links.{relation_mutual, relation_self, topology-AreLi
 use Rattle.as_graph.proofs.Ranks.{ranks_fall}
 use Rattle.stability_laws.specs.Book.{policy_at}
 use Rattle.stability_laws.specs.Stable.{IsLawful}
+use Rattle.stability_laws.specs.Steps.{IsStepWhole}
 use Rattle.route_choice.specs.declared.choice.Part.TheVariants.{Whole}
 use Rattle.route_choice.specs.Routings.{routing_of, seeds_of}
 use Rattle.route_choice.specs.PrefixWorlds.{setting_at}
@@ -134,7 +135,8 @@ loop-left-preserved g c =
     let more : take (i + 1) xs ≡ take i xs ++ a ∷ [] = take_more xs i a within ∙ ap (λ t. take i xs ++ t ∷ []) (sym c.index-asn.ensures) in
     let there : occurs a xs ≡ true = list_any_at (λ y. y == a) xs i a within (eq-eqb _ a (sym c.index-asn.ensures)) in
     let so_far = subst (λ k. AfterWhole here seeds (take k xs) f) (sym back) c.loop-left.invariant.so_far in
-    let step = step_seeds Whole here (seeds_of c.loop-left.pool c.args.at.now.seeds.now) seeds f a f' c.step_down.ensures.step (c.loop-left.invariant.spent.keeps.same_seeds a) in
+    let taken = step_seeds Whole here (seeds_of c.loop-left.pool c.args.at.now.seeds.now) seeds f a f' c.step_down.ensures.step (c.loop-left.invariant.spent.keeps.same_seeds a) in
+    let step : IsStepWhole here seeds f a f' = record { others = taken.others; right = taken.right } in
     let fresh = down_fresh here lawful (relation_mutual w) (relation_self w) seeds c.requires.course.rank falls xs c.requires.course.order i a a f f' within c.index-asn.ensures more step so_far in
     let both = visited c.args.pool.now c.loop-left.pool c.step_down.new.pool c.args.at.now.seeds.now c.args.at.now.table.now c.args.overlay.now c.loop-left.overlay c.step_down.new.overlay xs a c.step_down.result
     c.requires.course.order.apart there c.loop-left.invariant.room c.loop-left.invariant.spent c.step_down.ensures.changed c.step_down.ensures.unchanged step.others c.step_down.ensures.spent c.step_down.ensures.kept c.step_down.ensures.put fresh in

@@ -7,7 +7,7 @@ use Rattle.net_names.proofs.DerivedOrders.{prefix_orders}
 use Rattle.stability_laws.specs.declared.seed_plan.Announcement.{Announcement}
 use Rattle.stability_laws.specs.Plans.{announcer_of, announces}
 use Rattle.stability_laws.specs.PlanLists.{set_of, IsRising, plan_of, ArePlan}
-use Rattle.stability_laws.proofs.KeyLists.{put_as, not_err}
+use Rattle.stability_laws.proofs.KeyLists.{put_as}
 use Rattle.stability_laws.proofs.PlanReads.{plan_announced, are_announced, not_new, first_is, Answers}
 use Rattle.stability_laws.proofs.seed_plan.SeedPlan.announce.Goals as goal
 use Rattle.stability_laws.proofs.seed_plan.SeedPlan.announce.Goals.{in-Ok, in-Err}
@@ -15,13 +15,13 @@ use Rattle.stability_laws.proofs.seed_plan.SeedPlan.announce.Goals.{in-Ok, in-Er
 module _ (c : goal.After-put_key-2) where
   prefixes : IsRising prefix_cmp c.put_key.new.keys.items × (set_of prefix_cmp c.put_key.new.keys.items ≡ fin.insert (set_of prefix_cmp c.self.inside.prefixes.items) c.args.prefix tt)
   prefixes =
-      let room = not_err c.reserve.result (sym c.is_err.ensures.value ∙ c.if-is_err.false) c.reserve.ensures.ok in
+      let room = c.in_ok-reserve.ensures.ok in
       put_as prefix_cmp _ prefix_orders c.self.inside.prefixes.items c.reserve.new.self.items c.put_key.new.keys.items c.args.prefix c.put_key.result c.reserve.ensures.items
       (c.put_key.ensures.room (omega (arith, room))) c.put_key.ensures.ok c.put_key.ensures.rising
 
   announcers : IsRising nat_cmp c.put_key-2.new.keys.items × (set_of nat_cmp c.put_key-2.new.keys.items ≡ fin.insert (set_of nat_cmp c.self.inside.announcers.items) c.index-as_slice-0.result tt)
   announcers =
-      let room = not_err c.reserve-2.result (sym c.is_err-2.ensures.value ∙ c.if-is_err-2.false) c.reserve-2.ensures.ok in
+      let room = c.in_ok-reserve-2.ensures.ok in
       put_as nat_cmp _ refl c.self.inside.announcers.items c.reserve-2.new.self.items c.put_key-2.new.keys.items c.index-as_slice-0.result c.put_key-2.result c.reserve-2.ensures.items
       (c.put_key-2.ensures.room (omega (arith, room))) c.put_key-2.ensures.ok c.put_key-2.ensures.rising
 
@@ -49,12 +49,12 @@ put_key-requires-clause-rising c =
 
 pub returns-clause-ok : goal.returns-clause-ok
 returns-clause-ok c =
-    ap (λ (xs : List Announcement). plan_of c.put_key.new.keys.items xs c.self.inside.leakers.items) c.in-Ok-insert.ensures.items
+    ap (λ (xs : List Announcement). plan_of c.put_key.new.keys.items xs c.self.inside.leakers.items) c.in_ok-insert.ensures.items
     ∙ plan_announced c.self.inside.prefixes.items c.self.inside.announced.items c.self.inside.announcers.items c.self.inside.leakers.items c.self.invariant c.args.self.now c.self.view_is c.as_slice-2.result.now c.as_slice-2.ensures.value c.args.prefix c.index-as_slice-0.result
     c.match-place_of.at (missed c) c.args.path (first c) c.requires.some c.requires.short c.put_key.new.keys.items (prefixes c).0 (prefixes c).1 c.put_key-2.new.keys.items (announcers c).0 (announcers c).1
 
 pub invariant_of-self-2 : goal.invariant_of-self-2
 invariant_of-self-2 c =
-    subst (λ (xs : List Announcement). ArePlan c.put_key.new.keys.items xs c.put_key-2.new.keys.items c.self.inside.leakers.items) (sym c.in-Ok-insert.ensures.items)
+    subst (λ (xs : List Announcement). ArePlan c.put_key.new.keys.items xs c.put_key-2.new.keys.items c.self.inside.leakers.items) (sym c.in_ok-insert.ensures.items)
     (are_announced c.self.inside.prefixes.items c.self.inside.announced.items c.self.inside.announcers.items c.self.inside.leakers.items c.self.invariant c.args.self.now c.self.view_is c.as_slice-2.result.now c.as_slice-2.ensures.value c.args.prefix c.index-as_slice-0.result
     c.match-place_of.at (missed c) c.args.path (first c) c.requires.some c.requires.short c.put_key.new.keys.items (prefixes c).0 (prefixes c).1 c.put_key-2.new.keys.items (announcers c).0 (announcers c).1)
