@@ -3,18 +3,7 @@ use Rattle.std.proofs.Common.{◌≡◌, ℕ, zero, suc, ◌<◌, ◌≤◌, len
 use Rattle.std.specs.Result.{OnErr}
 use Rattle.std.specs.List.{insert, remove, list_any, list_all, filter, AllByRecursion}
 use Rattle.std.proofs.lemmas.List.Elements.{filter-append}
-
--- two tests that both hold
-pub record BothTrue (a b : Bool) : Type 0 where
-  pub left : a ≡ true
-  pub right : b ≡ true
-
-pub both : (a b : Bool) → (a && b) ≡ true → BothTrue a b
-both true b e = record { left = refl; right = e }
-both false b e = cc e
-
-pub both_true : (a b : Bool) → a ≡ true → b ≡ true → (a && b) ≡ true
-both_true a b e f = (λ i. e i && b) ∙ f
+use Rattle.net_names.proofs.Shortening.{both, both_true}
 
 pub either_true : (a b : Bool) → (a || b) ≡ true → (a ≡ true) ⊎ (b ≡ true)
 either_true true b e = inl refl

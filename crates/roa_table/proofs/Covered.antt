@@ -11,11 +11,11 @@ use Rattle.net_names.specs.Prefixes.{PrefixValue, prefix_cmp}
 use Rattle.net_names.specs.Payloads.{VrpValue, vrp_cmp}
 use Rattle.net_names.specs.Orders.{prefix_total, exact_prefix, vrp_total, exact_vrp}
 use Rattle.net_names.specs.Coverage.{covers, shortened}
-use Rattle.net_names.proofs.Shortening.{IsWhole, covers_to, shortened_covers, shorter_first}
+use Rattle.net_names.proofs.Shortening.{IsWhole, both, both_true, covers_to, shortened_covers, shorter_first}
 use Rattle.roa_table.specs.Sets.{Payloads, has, items}
 use Rattle.roa_table.specs.Lists.{is_rising}
 use Rattle.roa_table.specs.Cover.{of_prefix, covering, cover_cmp, rows_below}
-use Rattle.roa_table.proofs.Booleans.{both, both_true, either_true, or_left, or_right}
+use Rattle.roa_table.proofs.Booleans.{either_true, or_left, or_right}
 use Rattle.roa_table.proofs.Rising.{eq_is, tie_self, rising_keys, rising_filter, rising_append, strictly_from_rising, same_lists, any_filter}
 
 -- what holds of each member holds of each element

@@ -1,4 +1,4 @@
--- Shelves that are cut in two, and shelves that are filled one after the other.
+-- Chunks that are cut in two, and chunks that are filled one after the other.
 use Rattle.std.proofs.Common.{◌≡◌, ℕ, zero, suc, ◌+◌, ◌≤◌, ◌<◌, Bool, true, false, not, List, [], ◌∷◌, ◌++◌, length, take, drop, get_or, set, refl, sym, ap, subst, ◌∙◌, arith, add-one}
 use Rattle.std.specs.List.{insert, list_all, AllByRecursion}
 use Rattle.std.specs.Cmp.{tied_itself}
@@ -6,20 +6,21 @@ use Rattle.std.specs.Ordering.{is_lt}
 use Rattle.net_names.specs.Prefixes.{PrefixValue, prefix_cmp}
 use Rattle.net_names.specs.Payloads.{VrpValue, vrp_cmp}
 use Rattle.net_names.specs.Orders.{prefix_total, exact_prefix, vrp_total, exact_vrp}
-use Rattle.roa_table.specs.declared.shelf.Shelf.{Shelf}
+use Rattle.roa_table.specs.declared.chunk.Chunk.{Chunk}
 use Rattle.roa_table.specs.Lists.{is_rising, IsRising, is_below, is_from, are_apart, IsPart}
-use Rattle.roa_table.specs.Shelves.{all_of, IsBefore, IsInOrder}
-use Rattle.roa_table.proofs.Booleans.{both, both_true, not_true, not-false, list_all_mono, list_all_left, list_all_right, each_mono, each_both, each_append}
+use Rattle.roa_table.specs.Chunks.{all_of, IsBefore, IsInOrder}
+use Rattle.net_names.proofs.Shortening.{both, both_true}
+use Rattle.roa_table.proofs.Booleans.{not_true, not-false, list_all_mono, list_all_left, list_all_right, each_mono, each_both, each_append}
 use Rattle.roa_table.proofs.Rising.{lt_le, rising_left, rising_right, rising_take}
 use Rattle.roa_table.proofs.Placed.{no_lower}
-use Rattle.roa_table.proofs.Shelving.{Around, around, in_order, all_of-append, whole_at}
+use Rattle.roa_table.proofs.Chunking.{Around, around, in_order, all_of-append, whole_at}
 
 -- the first payload's prefix is the lowest one
 head_low : (v : VrpValue) (vs : List VrpValue) → IsRising (v ∷ vs) → list_all (is_from v.prefix) (v ∷ vs) ≡ true
 head_low v vs h = both_true _ _ (ap (λ r. not (is_lt r)) (tied_itself prefix_total v.prefix)) (list_all_mono (λ w. is_lt (vrp_cmp v w)) (is_from v.prefix) (λ w e. not-false _ (no_lower v w e)) vs (both _ _ h).left)
 
--- a shelf of the front of another one's payloads, and one of their rest
-pub record AreParts (s t u : Shelf) (n : ℕ) : Type 0 where
+-- a chunk of the front of another one's payloads, and one of their rest
+pub record AreParts (s t u : Chunk) (n : ℕ) : Type 0 where
   pub part : IsPart s.vrps.items n
   pub inside : n < length s.vrps.items
   pub front : t.vrps.items ≡ take n s.vrps.items
@@ -28,7 +29,7 @@ pub record AreParts (s t u : Shelf) (n : ℕ) : Type 0 where
   pub next : (d : VrpValue) → u.low ≡ (get_or s.vrps.items n d).prefix
 
 -- what those parts are to each other
-record ArePieces (s t u : Shelf) : Type 0 where
+record ArePieces (s t u : Chunk) : Type 0 where
   rising : IsRising t.vrps.items
   rising_next : IsRising u.vrps.items
   pair : IsBefore t u
@@ -41,7 +42,7 @@ record ArePieces (s t u : Shelf) : Type 0 where
   some_next : (p : VrpValue → Bool) → list_all p u.vrps.items ≡ true → p second ≡ true
   is_next : second.prefix ≡ u.low
 
-pieces : (s t u : Shelf) (n : ℕ) → IsRising s.vrps.items → AreParts s t u n → ArePieces s t u
+pieces : (s t u : Chunk) (n : ℕ) → IsRising s.vrps.items → AreParts s t u n → ArePieces s t u
 pieces s t u n h a = by (take n s.vrps.items) (drop n s.vrps.items) a.front a.back (lists n s.vrps.items) (starts n s.vrps.items a.part.some a.inside) (goes_on n s.vrps.items a.inside) a.part.apart
   where
     lists : (k : ℕ) (xs : List VrpValue) → xs ≡ take k xs ++ drop k xs
@@ -96,8 +97,8 @@ pieces s t u n h a = by (take n s.vrps.items) (drop n s.vrps.items) a.front a.ba
 abbrev not_less : PrefixValue → PrefixValue → Type 0
 not_less p q = is_lt (prefix_cmp p q) ≡ false
 
--- a piece of a shelf is behind all that are before the shelf
-before_piece : (F : List Shelf) (s x : Shelf) → list_all (is_from x.low) x.vrps.items ≡ true → (0 < length F → not_less x.low s.low) → AllByRecursion (λ f. IsBefore f s) F → AllByRecursion (λ f. IsBefore f x) F
+-- a piece of a chunk is behind all that are before the chunk
+before_piece : (F : List Chunk) (s x : Chunk) → list_all (is_from x.low) x.vrps.items ≡ true → (0 < length F → not_less x.low s.low) → AllByRecursion (λ f. IsBefore f s) F → AllByRecursion (λ f. IsBefore f x) F
 before_piece [] s x own le h = tt
 before_piece (f ∷ F) s x own le h = (
   record {
@@ -108,11 +109,11 @@ before_piece (f ∷ F) s x own le h = (
   before_piece F s x own (λ e. le (omega arith)) h.1,
 )
 
-from_before : (F : List Shelf) (s : Shelf) → 0 < length F → AllByRecursion (λ f. IsBefore f s) F → list_all (is_from s.low) s.vrps.items ≡ true
+from_before : (F : List Chunk) (s : Chunk) → 0 < length F → AllByRecursion (λ f. IsBefore f s) F → list_all (is_from s.low) s.vrps.items ≡ true
 from_before [] s e k = absurd (omega (arith, e))
 from_before (f ∷ F) s e k = k.0.from
 
-module _ (F : List Shelf) (s : Shelf) (G : List Shelf) (a : Around F s G) (t u : Shelf) (n : ℕ) (parts : AreParts s t u n) where
+module _ (F : List Chunk) (s : Chunk) (G : List Chunk) (a : Around F s G) (t u : Chunk) (n : ℕ) (parts : AreParts s t u n) where
   abbrev cut_in : ArePieces s t u
   cut_in = pieces s t u n a.here parts
 
@@ -124,20 +125,20 @@ module _ (F : List Shelf) (s : Shelf) (G : List Shelf) (a : Around F s G) (t u :
   low_second e = ap (λ p. is_lt (prefix_cmp p s.low)) (sym cut_in.is_next)
       ∙ not_true _ (cut_in.some_next (is_from s.low) (list_all_right (is_from s.low) t.vrps.items u.vrps.items (ap (list_all (is_from s.low)) (sym cut_in.whole) ∙ from_before F s e a.before)))
 
-  all_below : (g : Shelf) → IsBefore s g → list_all (is_below g.low) (t.vrps.items ++ u.vrps.items) ≡ true
+  all_below : (g : Chunk) → IsBefore s g → list_all (is_below g.low) (t.vrps.items ++ u.vrps.items) ≡ true
   all_below g k = ap (list_all (is_below g.low)) (sym cut_in.whole) ∙ k.below
 
-  after_first : (g : Shelf) → IsBefore s g → IsBefore t g
+  after_first : (g : Chunk) → IsBefore s g → IsBefore t g
   after_first g k =
       let below = list_all_left (is_below g.low) t.vrps.items u.vrps.items (all_below g k) in
       record { low = ap (λ p. is_lt (prefix_cmp p g.low)) (sym cut_in.is_low) ∙ cut_in.some (is_below g.low) below; below = below; from = k.from }
 
-  after_second : (g : Shelf) → IsBefore s g → IsBefore u g
+  after_second : (g : Chunk) → IsBefore s g → IsBefore u g
   after_second g k =
       let below = list_all_right (is_below g.low) t.vrps.items u.vrps.items (all_below g k) in
       record { low = ap (λ p. is_lt (prefix_cmp p g.low)) (sym cut_in.is_next) ∙ cut_in.some_next (is_below g.low) below; below = below; from = k.from }
 
-  -- the shelves are in order after the cut, with the same payloads
+  -- the chunks are in order after the cut, with the same payloads
   pub cut_order : IsInOrder (F ++ (t ∷ (u ∷ G)))
   cut_order = in_order F t (u ∷ G) (record {
     front = a.front;
@@ -155,7 +156,7 @@ module _ (F : List Shelf) (s : Shelf) (G : List Shelf) (a : Around F s G) (t u :
       assoc [] ys zs = refl
       assoc (x ∷ xs) ys zs = ap (λ l. x ∷ l) (assoc xs ys zs)
 
--- a shelf put in behind another one, which is changed then
+-- a chunk put in behind another one, which is changed then
 pub set-insert_next : {A : Type 0} (xs : List A) (k : ℕ) (t u : A) → k < length xs → set (insert xs (k + 1) u) k t ≡ take k xs ++ (t ∷ (u ∷ drop (suc k) xs))
 set-insert_next {A = A} xs k t u h = ap (λ n. set (insert xs n u) k t) (add-one k) ∙ by xs k h
   where
@@ -165,12 +166,12 @@ set-insert_next {A = A} xs k t u h = ap (λ n. set (insert xs n u) k t) (add-one
     by (y ∷ (z ∷ ys)) zero h = refl
     by (y ∷ ys) (suc n) h = ap (λ l. y ∷ l) (by ys n (omega (arith, h)))
 
--- the shelves after a cut
-pub record IsCut (old new : List Shelf) : Type 0 where
+-- the chunks after a cut
+pub record IsCut (old new : List Chunk) : Type 0 where
   pub order : IsInOrder new
   pub same : all_of new ≡ all_of old
 
-pub cut_at : (ss : List Shelf) (k : ℕ) (s t u : Shelf) (n : ℕ) → IsInOrder ss → k < length ss → s ≡ get_or ss k s → AreParts s t u n → IsCut ss (set (insert ss (k + 1) u) k t)
+pub cut_at : (ss : List Chunk) (k : ℕ) (s t u : Chunk) (n : ℕ) → IsInOrder ss → k < length ss → s ≡ get_or ss k s → AreParts s t u n → IsCut ss (set (insert ss (k + 1) u) k t)
 cut_at ss k s t u n order lt at parts =
     let F = take k ss in
     let G = drop (suc k) ss in
@@ -182,8 +183,8 @@ cut_at ss k s t u n order lt at parts =
       same = ap all_of new ∙ cut_same F s G a t u n parts ∙ ap all_of (sym whole);
     }
 
--- the shelf and its payloads are below payloads that are still to be put up
-pub record IsAheadOf (rest : List VrpValue) (s : Shelf) : Type 0 where
+-- the chunk and its payloads are below payloads that are still to be put up
+pub record IsAheadOf (rest : List VrpValue) (s : Chunk) : Type 0 where
   pub low : list_all (λ w. is_lt (prefix_cmp s.low w.prefix)) rest ≡ true
   pub vrps : are_apart s.vrps.items rest ≡ true
 
@@ -210,8 +211,8 @@ take-append-drop (suc n) (x ∷ xs) = ap (λ l. x ∷ l) (take-append-drop n xs)
 all_right : (p : VrpValue → Bool) (n : ℕ) (xs : List VrpValue) → list_all p xs ≡ true → list_all p (drop n xs) ≡ true
 all_right p n xs h = list_all_right p (take n xs) (drop n xs) (ap (list_all p) (take-append-drop n xs) ∙ h)
 
--- a shelf with the front of the payloads that are still to be put up
-module _ (F : List Shelf) (rest : List VrpValue) (n : ℕ) (t : Shelf) (rising : IsRising rest) (part : IsPart rest n) (items : t.vrps.items ≡ take n rest) (low : (d : VrpValue) → t.low ≡ (get_or rest 0 d).prefix) (order : IsInOrder F) (ahead : AllByRecursion (IsAheadOf rest) F) where
+-- a chunk with the front of the payloads that are still to be put up
+module _ (F : List Chunk) (rest : List VrpValue) (n : ℕ) (t : Chunk) (rising : IsRising rest) (part : IsPart rest n) (items : t.vrps.items ≡ take n rest) (low : (d : VrpValue) → t.low ≡ (get_or rest 0 d).prefix) (order : IsInOrder F) (ahead : AllByRecursion (IsAheadOf rest) F) where
   abbrev begun : StartWith rest (take n rest) t.low
   begun = start_with rest n t.low part.some part.inside low
 
@@ -224,7 +225,7 @@ module _ (F : List Shelf) (rest : List VrpValue) (n : ℕ) (t : Shelf) (rising :
   own_from : list_all (is_from t.low) t.vrps.items ≡ true
   own_from = ap (list_all (is_from t.low)) item_list ∙ ap (λ p. list_all (is_from p) (begun.first ∷ begun.cut)) (sym begun.at) ∙ head_low begun.first begun.cut (subst IsRising item_list own_rising)
 
-  behind : (f : Shelf) → IsAheadOf rest f → IsBefore f t
+  behind : (f : Chunk) → IsAheadOf rest f → IsBefore f t
   behind f k = record {
     low = ap (λ p. is_lt (prefix_cmp f.low p)) (sym begun.at) ∙ (both _ _ (ap (list_all (λ w. is_lt (prefix_cmp f.low w.prefix))) (sym begun.is) ∙ k.low)).left;
     below = list_all_mono (λ v. list_all (λ w. is_below w.prefix v) rest) (is_below t.low) (λ v e. ap (λ p. is_below p v) (sym begun.at) ∙ (both _ _ (ap (list_all (λ w. is_below w.prefix v)) (sym begun.is) ∙ e)).left) f.vrps.items k.vrps;

@@ -21,7 +21,7 @@ use Rattle.roa_table.specs.Judging.{judged, payloads_of, fault_at}
 use Rattle.roa_table.specs.Gathering.{JoinsIn}
 use Rattle.roa_table.specs.declared.errors.VrpError.{VrpError}
 use Rattle.roa_table.specs.declared.errors.VrpError.TheVariants as fault
-use Rattle.roa_table.proofs.Booleans.{both}
+use Rattle.net_names.proofs.Shortening.{both}
 use Rattle.roa_table.proofs.Rising.{eq_is}
 use Rattle.roa_table.proofs.Placed.{same_set_of, count_set_of}
 

@@ -1,7 +1,7 @@
 pub mod Booleans
 pub mod Rising
 pub mod Placed
-pub mod Shelving
+pub mod Chunking
 pub mod Cutting
 pub mod Covered
 pub mod Tabled

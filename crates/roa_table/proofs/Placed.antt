@@ -15,7 +15,8 @@ use Rattle.net_names.specs.Payloads.{VrpValue, vrp_cmp}
 use Rattle.net_names.specs.Orders.{prefix_total, exact_prefix, vrp_total, exact_vrp}
 use Rattle.roa_table.specs.Sets.{Payloads, no_payloads, has, added, taken, items, count, set_of}
 use Rattle.roa_table.specs.Lists.{IsRising, is_below, is_to, is_above, row_in, CutsAt, are_apart, IsPart, is_rising, stands_in, PutsIn, TakesOut}
-use Rattle.roa_table.proofs.Booleans.{both, both_true, not_true, not_false, not-false, list_all_mono, list_any_opposite, list_all_opposite, filter_middle, list_any_take, all_take, all_drop, in_front, all_insert, all_remove}
+use Rattle.net_names.proofs.Shortening.{both, both_true}
+use Rattle.roa_table.proofs.Booleans.{not_true, not_false, not-false, list_all_mono, list_any_opposite, list_all_opposite, filter_middle, list_any_take, all_take, all_drop, in_front, all_insert, all_remove}
 use Rattle.roa_table.proofs.Rising.{less, lt_le, le_lt, lt_not, lt_not_tied, gt_not_tied, tied, rising_at, rising_keys, same_lists, same_members, contains_insert, contains_remove, any_insert, any_remove, found_by, gap_by, place_by, rising_insert, rising_remove, eq_is}
 
 -- the payloads of a lower prefix come first

@@ -19,7 +19,8 @@ use Rattle.roa_table.specs.Gathering.{JoinsIn, Gathers, IsTidied, EndsWith, AreA
 use Rattle.roa_table.specs.declared.errors.VrpError.{VrpError}
 use Rattle.roa_table.specs.declared.gather.Stop.{Stop}
 use Rattle.roa_table.specs.declared.gather.Stop.TheVariants as stops
-use Rattle.roa_table.proofs.Booleans.{both_true, list_all_append, either_true}
+use Rattle.net_names.proofs.Shortening.{both_true}
+use Rattle.roa_table.proofs.Booleans.{list_all_append, either_true}
 use Rattle.roa_table.proofs.Rising.{eq_is}
 use Rattle.roa_table.proofs.Placed.{same_set_of, count_set_of}
 use Rattle.roa_table.proofs.CsvRecords.{ended, more}

@@ -12,7 +12,8 @@ use Rattle.std.proofs.lemmas.Map.Lookups.{CmpEqualImpliesEq}
 use Rattle.std.proofs.lemmas.List.Folds.{list_any-append}
 use Rattle.std.specs.FinMap as fin
 use Rattle.roa_table.specs.Lists.{is_rising}
-use Rattle.roa_table.proofs.Booleans.{both, both_true, list_all_mono, list_all_append, list_all_left, all_take, all_drop, or_left, or_right}
+use Rattle.net_names.proofs.Shortening.{both, both_true}
+use Rattle.roa_table.proofs.Booleans.{list_all_mono, list_all_append, list_all_left, all_take, all_drop, or_left, or_right}
 
 pub less : (r : Ordering) → is_lt r ≡ true → r ≡ Less
 less Less e = refl

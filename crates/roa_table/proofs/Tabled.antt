@@ -1,26 +1,26 @@
--- A table of shelves and the set that it stands for.
+-- A table of chunks and the set that it stands for.
 use Rattle.std.proofs.Common.{◌≡◌, ℕ, zero, suc, ◌+◌, ◌-◌, ◌≤◌, ◌<◌, Bool, true, false, cond, not, List, [], refl, sym, ap, subst, ◌∙◌, arith, ◌⊎◌, inl, inr}
 use Rattle.std.specs.Ordering.{eq_by_cmp}
 use Rattle.std.specs.FinMap as fin
 use Rattle.net_names.specs.Prefixes.{PrefixValue}
 use Rattle.net_names.specs.Payloads.{VrpValue, vrp_cmp}
 use Rattle.net_names.specs.Orders.{vrp_total, exact_vrp}
-use Rattle.net_names.proofs.Shortening.{IsWhole}
-use Rattle.roa_table.specs.declared.shelf.Shelf.{Shelf}
+use Rattle.net_names.proofs.Shortening.{IsWhole, both}
+use Rattle.roa_table.specs.declared.chunk.Chunk.{Chunk}
 use Rattle.roa_table.specs.Sets.{IsSound, AreSound, Payloads, no_payloads, has, added, taken, items, count, set_of}
 use Rattle.roa_table.specs.Lists.{row_in, stands_in}
 use Rattle.roa_table.specs.Cover.{of_prefix}
-use Rattle.roa_table.specs.Shelves.{all_of, IsInOrder, IsTable}
-use Rattle.roa_table.proofs.Booleans.{both, either_true}
+use Rattle.roa_table.specs.Chunks.{all_of, IsInOrder, IsTable}
+use Rattle.roa_table.proofs.Booleans.{either_true}
 use Rattle.roa_table.proofs.Rising.{eq_is, contains_insert, contains_remove}
 use Rattle.roa_table.proofs.Placed.{has_set_of, items_set_of, count_set_of}
-use Rattle.roa_table.proofs.Shelving.{rising_all}
+use Rattle.roa_table.proofs.Chunking.{rising_all}
 
-pub empty_table : (ss : List Shelf) → ss ≡ [] → IsTable ss 0
+pub empty_table : (ss : List Chunk) → ss ≡ [] → IsTable ss 0
 empty_table ss e = subst (λ l. IsTable l 0) (sym e) (record { order = tt; sound = λ v h. cc h; counted = refl; bound = omega arith })
 
--- shelves of so many payloads, which are sound
-pub table_of : (ss : List Shelf) (n : ℕ) → IsInOrder ss → AreSound (set_of (all_of ss)) → n ≡ count (set_of (all_of ss)) → n ≤ 2000000 → IsTable ss n
+-- chunks of so many payloads, which are sound
+pub table_of : (ss : List Chunk) (n : ℕ) → IsInOrder ss → AreSound (set_of (all_of ss)) → n ≡ count (set_of (all_of ss)) → n ≤ 2000000 → IsTable ss n
 table_of ss n order sound counted bound = record {
   order = order;
   sound = λ v h. sound v (has_set_of (all_of ss) v ∙ h);
@@ -28,14 +28,14 @@ table_of ss n order sound counted bound = record {
   bound = bound;
 }
 
-module _ (ss : List Shelf) (n : ℕ) (t : IsTable ss n) (s : Payloads) (seen : set_of (all_of ss) ≡ s) where
+module _ (ss : List Chunk) (n : ℕ) (t : IsTable ss n) (s : Payloads) (seen : set_of (all_of ss) ≡ s) where
   pub has_is : (v : VrpValue) → stands_in (all_of ss) v ≡ has s v
   has_is v = sym (has_set_of (all_of ss) v) ∙ ap (λ x. has x v) seen
 
   pub count_is : n ≡ count s
   count_is = t.counted ∙ sym (count_set_of (all_of ss) (rising_all ss t.order)) ∙ ap count seen
 
-  -- the payloads of all shelves are those of the set, in their order
+  -- the payloads of all chunks are those of the set, in their order
   pub items_is : all_of ss ≡ items s
   items_is = sym (items_set_of (all_of ss) (rising_all ss t.order)) ∙ ap items seen
 
@@ -48,7 +48,7 @@ module _ (ss : List Shelf) (n : ℕ) (t : IsTable ss n) (s : Payloads) (seen : s
   pub whole_is : (v : VrpValue) → has s v ≡ true → IsWhole v.prefix
   whole_is v h = (sound_is v h).prefix
 
-  module _ (new : List Shelf) (order : IsInOrder new) (v : VrpValue) where
+  module _ (new : List Chunk) (order : IsInOrder new) (v : VrpValue) where
     -- after a payload was put in
     module _ (sound : IsSound v) (set : set_of (all_of new) ≡ added (set_of (all_of ss)) v) (absent : has s v ≡ false) where
       sound_added : (q : VrpValue) → has (set_of (all_of new)) q ≡ true → IsSound q

@@ -1,7 +1,7 @@
 pub mod Sets
 pub mod Cover
 pub mod Lists
-pub mod Shelves
+pub mod Chunks
 pub mod Records
 pub mod Files
 pub mod Judging

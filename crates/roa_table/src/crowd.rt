@@ -22,20 +22,14 @@ fn admit(vrps: &mut BTreeSet<Vrp>, row: u64, fields: &ByteRecord) -> Result<(), 
     ensures err { IfErr result
         (λ e. Faults e (fault_at (set_of vrps.old.keys) row (judged row (fields_of fields.now)))) }
 {
-    match judge(row, fields) {
-        Err(e) => Err(e),
-        Ok(vrp) => {
-            let count = vrps.len();
-            let known = vrps.contains(&vrp);
-            if !known && count >= MOST_PAYLOADS {
-                return Err(VrpError::TooMany { row });
-            }
-            match vrps.insert(vrp) {
-                Ok(_) => Ok(()),
-                Err(_) => Err(VrpError::Memory),
-            }
-        }
+    let vrp = judge(row, fields)?;
+    let count = vrps.len();
+    let known = vrps.contains(&vrp);
+    if !known && count >= MOST_PAYLOADS {
+        return Err(VrpError::TooMany { row });
     }
+    vrps.insert(vrp)?;
+    Ok(())
 }
 
 /// The first fault of a file that has one.

@@ -1,4 +1,9 @@
 //! Why a payload is not put into a set, and why a file has no payloads.
+ghost use Rattle.std.specs.Prelude.{◌≡◌};
+ghost use Rattle.roa_table.specs.declared.errors.AddError.TheVariants as add_error;
+ghost use Rattle.roa_table.specs.declared.errors.VrpError.TheVariants as fault;
+
+use std::alloc::{AllocError, AllocFailed};
 
 /// Why a payload is not put into a set.
 #[derive(Clone, Copy, Debug, PartialEq, Eq)]
@@ -7,6 +12,14 @@ pub enum AddError {
     Memory,
     /// The payload is new, and 2,000,000 stand.
     TooMany,
+}
+
+impl From<AllocError> for AddError {
+    ghost from_gives = { λ _ e. e ≡ add_error.Memory };
+
+    fn from(_e: AllocError) -> AddError {
+        AddError::Memory
+    }
 }
 
 /// Why a file has no payloads: the first fault of its first faulty row. Rows are the records of the file,
@@ -40,4 +53,20 @@ pub enum VrpError {
         /// The number of the row.
         row: u64,
     },
+}
+
+impl From<AllocError> for VrpError {
+    ghost from_gives = { λ _ e. e ≡ fault.Memory };
+
+    fn from(_e: AllocError) -> VrpError {
+        VrpError::Memory
+    }
+}
+
+impl<T: Drop> From<AllocFailed<T>> for VrpError {
+    ghost from_gives = { λ _ e. e ≡ fault.Memory };
+
+    fn from(_e: AllocFailed<T>) -> VrpError {
+        VrpError::Memory
+    }
 }

@@ -18,10 +18,7 @@ pub fn read(alloc: Global, bytes: &[u8]) -> Result<Vrps, VrpError>
     ensures { Gives result (payloads_in bytes.now) }
 {
     match gather(alloc, bytes) {
-        Ok(vrps) => match Vrps::from_sorted(alloc, vrps.as_slice()) {
-            Ok(set) => Ok(set),
-            Err(_) => Err(VrpError::Memory),
-        },
+        Ok(vrps) => Ok(Vrps::from_sorted(alloc, vrps.as_slice())?),
         Err(Stop::Memory) => Err(VrpError::Memory),
         Err(Stop::Crowded) => Err(first_fault(alloc, bytes)),
         Err(Stop::Fault(e)) => Err(e),

@@ -6,14 +6,15 @@ ghost use Rattle.roa_table.specs.Lists.{IsRising, stands_in};
 ghost use Rattle.roa_table.specs.Judging.{judged};
 ghost use Rattle.roa_table.specs.Files.{payloads_in};
 ghost use Rattle.roa_table.specs.Gathering.{Gathers, StopsAt, IsTidied, EndsWith, AreAll, Explains};
+ghost use Rattle.roa_table.specs.declared.gather.Stop.TheVariants as stop;
 
 use crate::errors::VrpError;
 use crate::record::judge;
 use crate::rows::{open, step};
 use crate::table::MOST_PAYLOADS;
 use csv::ByteRecord;
-use net_names::Vrp;
-use std::alloc::Global;
+use net_names::{NoMemory, Vrp};
+use std::alloc::{AllocFailed, Global};
 
 /// Where so many payloads are gathered, they are sorted, and those that stand twice are dropped.
 const MANY: usize = 2 * MOST_PAYLOADS;
@@ -27,6 +28,30 @@ pub(crate) enum Stop {
     Crowded,
     /// A row has this fault.
     Fault(VrpError),
+}
+
+impl From<NoMemory> for Stop {
+    ghost from_gives = { λ _ e. e ≡ stop.Memory };
+
+    fn from(_e: NoMemory) -> Stop {
+        Stop::Memory
+    }
+}
+
+impl<T: Drop> From<AllocFailed<T>> for Stop {
+    ghost from_gives = { λ _ e. e ≡ stop.Memory };
+
+    fn from(_e: AllocFailed<T>) -> Stop {
+        Stop::Memory
+    }
+}
+
+impl From<VrpError> for Stop {
+    ghost from_gives = { λ fault e. e ≡ stop.Fault fault };
+
+    fn from(fault: VrpError) -> Stop {
+        Stop::Fault(fault)
+    }
 }
 
 /// Puts the payloads in rising order, each once.
@@ -45,22 +70,17 @@ fn gather_row(vrps: &mut Vec<Vrp>, row: u64, fields: &ByteRecord) -> Result<(), 
     ensures err { IfErr result
         (StopsAt (judged row (fields_of fields.now)) vrps.old.items vrps.new.items) }
 {
-    match judge(row, fields) {
-        Err(e) => Err(Stop::Fault(e)),
-        Ok(vrp) => {
-            let _ = vrp.max();
-            if vrps.len() >= MANY {
-                tidy(vrps);
-                if vrps.len() > MOST_PAYLOADS {
-                    return Err(Stop::Crowded);
-                }
-            }
-            match vrps.push(vrp) {
-                Ok(()) => Ok(()),
-                Err(_) => Err(Stop::Memory),
-            }
+    let vrp = judge(row, fields)?;
+    // `max` is called for its clause that the payload is sound, which the proof cites.
+    let _ = vrp.max();
+    if vrps.len() >= MANY {
+        tidy(vrps);
+        if vrps.len() > MOST_PAYLOADS {
+            return Err(Stop::Crowded);
         }
     }
+    vrps.push(vrp)?;
+    Ok(())
 }
 
 /// The gathered payloads in rising order, unless a fault came behind them or they are too many.
@@ -86,21 +106,18 @@ pub(crate) fn gather(alloc: Global, bytes: &[u8]) -> Result<Vec<Vrp>, Stop>
     let mut reader = open(alloc, bytes);
     let mut fields = ByteRecord::new(alloc);
     let mut vrps = Vec::new(alloc);
-    match step(&mut reader, &mut fields) {
-        Ok(true) => {}
-        Ok(false) => return Ok(vrps),
-        Err(_) => return Err(Stop::Memory),
+    if !step(&mut reader, &mut fields)? {
+        return Ok(vrps);
     }
     for row in 2..u64::MAX {
-        match step(&mut reader, &mut fields) {
-            Ok(true) => match gather_row(&mut vrps, row, &fields) {
-                Ok(()) => {}
-                Err(Stop::Fault(e)) => return finish(vrps, Some(e)),
-                Err(Stop::Crowded) => return Err(Stop::Crowded),
-                Err(Stop::Memory) => return Err(Stop::Memory),
-            },
-            Ok(false) => return finish(vrps, None),
-            Err(_) => return Err(Stop::Memory),
+        if !step(&mut reader, &mut fields)? {
+            return finish(vrps, None);
+        }
+        match gather_row(&mut vrps, row, &fields) {
+            Ok(()) => {}
+            Err(Stop::Fault(e)) => return finish(vrps, Some(e)),
+            Err(Stop::Crowded) => return Err(Stop::Crowded),
+            Err(Stop::Memory) => return Err(Stop::Memory),
         }
     }
     Err(Stop::Memory)

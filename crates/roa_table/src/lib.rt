@@ -6,6 +6,8 @@
 //! that some row gives ([`payloads_are_those_given`]).
 #![tactic(auto)]
 
+mod chunk;
+mod chunks;
 mod covering;
 mod crowd;
 mod errors;
@@ -15,8 +17,6 @@ mod laws;
 mod record;
 mod row;
 mod rows;
-mod shelf;
-mod shelves;
 mod table;
 
 pub use covering::Covering;

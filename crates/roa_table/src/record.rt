@@ -21,7 +21,8 @@ fn read_max(prefix: Prefix, text: &[u8]) -> Option<u64>
 
 /// The payload of a number and a prefix with the maximum length that a text says, in a row of this number.
 fn judge_max(row: u64, asn: u32, prefix: Prefix, text: &[u8]) -> Result<Vrp, VrpError>
-    ensures { result ≡ ok_or (option_and_then (λ m. vrp_at prefix m asn) (max_of prefix text.now)) (VrpError.BadMax row) }
+    ensures { result ≡
+        ok_or (option_and_then (λ m. vrp_at prefix m asn) (max_of prefix text.now)) (VrpError.BadMax row) }
 {
     match read_max(prefix, text) {
         Some(max) => {

@@ -6,10 +6,10 @@ ghost use Rattle.roa_table.specs.Lists.{IsRising};
 ghost use Rattle.roa_table.specs.Gathering.{AllSound};
 ghost use Rattle.roa_table.specs.Cover.{of_prefix, covering as covering_of, cover_cmp, rows_below};
 
+use crate::chunk::Chunk;
+use crate::chunks::{chunked, payloads_from, put, row_of, stands, take};
 use crate::covering::Covering;
 use crate::errors::AddError;
-use crate::shelf::Shelf;
-use crate::shelves::{payloads_from, put, row_of, shelved, stands, take};
 use net_names::{NoMemory, Prefix, Vrp};
 use std::alloc::{AllocError, Global};
 use std::marker::Model;
@@ -22,21 +22,21 @@ pub const MOST_PAYLOADS: usize = 2_000_000;
 /// It takes 32 bytes a payload, and finds one by two searches in rising order.
 #[derive(Drop)]
 pub struct Vrps {
-    shelves: Vec<Shelf>,
+    chunks: Vec<Chunk>,
     count: usize,
 }
 
 impl Model for Vrps {
     ghost use Rattle.roa_table.specs.Sets.{Payloads, payloads_code, set_of};
-    ghost use Rattle.roa_table.specs.Shelves.{all_of, IsTable};
+    ghost use Rattle.roa_table.specs.Chunks.{all_of, IsTable};
 
     ghost Value = { Payloads };
 
     ghost coded = { payloads_code };
 
-    ghost view = { λ a. set_of (all_of a.shelves.items) };
+    ghost view = { λ a. set_of (all_of a.chunks.items) };
 
-    ghost invariant = { λ a. IsTable a.shelves.items a.count };
+    ghost invariant = { λ a. IsTable a.chunks.items a.count };
 }
 
 impl Vrps {
@@ -45,7 +45,7 @@ impl Vrps {
         ensures { result ≡ no_payloads }
     {
         Vrps {
-            shelves: Vec::new(alloc),
+            chunks: Vec::new(alloc),
             count: 0,
         }
     }
@@ -57,9 +57,9 @@ impl Vrps {
         requires sound { AllSound vrps.now }
         ensures { IfOk result (λ s. s ≡ set_of vrps.now) }
     {
-        let shelves = shelved(alloc, vrps)?;
+        let chunks = chunked(alloc, vrps)?;
         Ok(Vrps {
-            shelves,
+            chunks,
             count: vrps.len(),
         })
     }
@@ -76,7 +76,7 @@ impl Vrps {
     pub fn has(&self, vrp: Vrp) -> bool
         ensures { result ≡ has self.now vrp }
     {
-        stands(self.shelves.as_slice(), vrp)
+        stands(self.chunks.as_slice(), vrp)
     }
 
     /// Puts the payload in, and tells whether it is new. `TooMany` exactly where it is new and 2,000,000
@@ -88,6 +88,7 @@ impl Vrps {
             ↔ ((has self.old vrp ≡ false) × (count self.old ≡ MOST_PAYLOADS)) }
         ensures err { OnErr result (self.new ≡ self.old) }
     {
+        // `max` is called for its clause that the payload is sound, which the proof cites.
         let _ = vrp.max();
         let known = self.has(vrp);
         let count = self.count;
@@ -97,15 +98,10 @@ impl Vrps {
         if count >= MOST_PAYLOADS {
             return Err(AddError::TooMany);
         }
-        let alloc = *self.shelves.allocator();
-        let outcome = put(&mut self.shelves, alloc, vrp);
-        match outcome {
-            Ok(()) => {
-                self.count = count + 1;
-                Ok(true)
-            }
-            Err(_) => Err(AddError::Memory),
-        }
+        let alloc = *self.chunks.allocator();
+        put(&mut self.chunks, alloc, vrp)?;
+        self.count = count + 1;
+        Ok(true)
     }
 
     /// Takes the payload out, and tells whether it was there. It takes no memory.
@@ -113,7 +109,7 @@ impl Vrps {
         ensures gone { self.new ≡ taken self.old vrp }
         ensures found { result ≡ has self.old vrp }
     {
-        let found = take(&mut self.shelves, vrp);
+        let found = take(&mut self.chunks, vrp);
         if found {
             self.count -= 1;
         }
@@ -124,7 +120,7 @@ impl Vrps {
     pub fn of_prefix(&self, prefix: Prefix) -> &[Vrp]
         ensures { result.now ≡ of_prefix self.now prefix }
     {
-        row_of(self.shelves.as_slice(), prefix)
+        row_of(self.chunks.as_slice(), prefix)
     }
 
     /// Payloads from this place on, in rising order: those that stand side by side, at least one where one
@@ -133,23 +129,24 @@ impl Vrps {
         ensures next { result.now ≡ take_front (length result.now) (drop place (items self.now)) }
         ensures some { place < count self.now → 0 < length result.now }
     {
-        payloads_from(self.shelves.as_slice(), place)
+        payloads_from(self.chunks.as_slice(), place)
     }
 
     /// What covers a prefix are the payloads of the prefixes to which it is shortened, one length after
-    /// the other, and they stand in the order of `covering`. It does nothing.
+    /// the other, and they stand in the order of `covering`. It does nothing, and is called for its clauses.
     pub fn rows_cover(&self, prefix: Prefix)
         ensures rows { rows_below self.now prefix (suc prefix.len) ≡ covering_of self.now prefix }
         ensures order { IsStrictlySortedBy cover_cmp (covering_of self.now prefix) }
     {
-        let _ = &self.shelves;
+        let _ = &self.chunks;
     }
 
-    /// Each payload has a maximum length from its prefix's length to the family's width. It does nothing.
+    /// Each payload has a maximum length from its prefix's length to the family's width. It does nothing, and is
+    /// called for its clause.
     pub fn are_sound(&self)
         ensures { AreSound self.now }
     {
-        let _ = &self.shelves;
+        let _ = &self.chunks;
     }
 
     /// The payloads that cover the prefix, in rising order of prefix length, maximum length and number.
@@ -159,10 +156,7 @@ impl Vrps {
     {
         let mut vrps = Vec::new(alloc);
         for len in 0..prefix.len() + 1 {
-            match vrps.extend_from_slice(self.of_prefix(prefix.shortened(len))) {
-                Ok(()) => {}
-                Err(_) => return Err(NoMemory),
-            }
+            vrps.extend_from_slice(self.of_prefix(prefix.shortened(len)))?;
         }
         self.rows_cover(prefix);
         Ok(Covering::of(vrps))

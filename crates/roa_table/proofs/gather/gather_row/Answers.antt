@@ -14,9 +14,9 @@ returns-then-len-gt-MOST_PAYLOADS-clause-err c =
     let all : count (set_of c.args.vrps.now.items) ≡ length c.tidy.new.vrps.items = count_same c.args.vrps.now.items c.tidy.new.vrps.items c.tidy.ensures.rising c.tidy.ensures.members in
     omega (arith, all)
 
-pub returns-in-Ok-push-clause-ok : goal.returns-in-Ok-push-clause-ok
-returns-in-Ok-push-clause-ok c =
+pub returns-clause-ok : goal.returns-clause-ok
+returns-clause-ok c =
     let same : (q : VrpValue) → stands_in c.if-len-ge-MANY.vrps.items q ≡ stands_in c.args.vrps.now.items q =
     elim c.if-len-ge-MANY.branch [ then-len-ge-MANY+else-len-gt-MOST_PAYLOADS w ↦ λ q. ap (λ (v : Vec VrpValue Global). stands_in v.items q) w.vrps-is ∙ w.tidy.ensures.members q | else-len-ge-MANY w ↦ λ q. ap (λ (v : Vec VrpValue Global). stands_in v.items q) w.vrps-is ] in
-    let new : c.push.new.self.items ≡ c.if-len-ge-MANY.vrps.items ++ (c.in-Ok.vrp ∷ []) = search rules in
-    subst (λ r. Gathers r c.args.vrps.now.items c.push.new.self.items) c.in-Ok.ensures (joins c.in-Ok.vrp c.args.vrps.now.items c.if-len-ge-MANY.vrps.items c.push.new.self.items c.max.ensures.sound same new)
+    let new : c.push.new.self.items ≡ c.if-len-ge-MANY.vrps.items ++ (c.in_ok-vrp.vrp ∷ []) = search rules in
+    subst (λ r. Gathers r c.args.vrps.now.items c.push.new.self.items) c.in_ok-vrp.ensures (joins c.in_ok-vrp.vrp c.args.vrps.now.items c.if-len-ge-MANY.vrps.items c.push.new.self.items c.max.ensures.sound same new)

@@ -1,9 +1,0 @@
-use Rattle.std.proofs.Common.{rules}
-use Rattle.std.proofs.lemmas.List.Sorted.{IsPartitionPoint-from_clause}
-use Rattle.roa_table.proofs.Shelving.{is_low, parted_low, home_by}
-use Rattle.roa_table.proofs.shelves.home.Goals as goal
-
-pub returns : goal.returns
-returns c =
-    home_by c.args.prefix c.args.shelves.now c.partition_point.result c.saturating_sub.result c.requires.some c.partition_point.ensures.bound c.saturating_sub.ensures
-    (IsPartitionPoint-from_clause (is_low c.args.prefix) c.args.shelves.now c.partition_point.result c.partition_point.ensures.partitioned (parted_low c.args.prefix c.args.shelves.now c.requires.order) (λ a r f k. search rules))
