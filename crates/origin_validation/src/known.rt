@@ -61,14 +61,12 @@ impl<'a> KnownStates<'a> {
         ensures err { OnErr result (self.new ≡ self.old) }
     {
         let state = judge(self.vrps, &None, prefix, origin);
-        match self.found.push(Found {
+        self.found.push(Found {
             prefix,
             origin,
             state,
-        }) {
-            Ok(()) => Ok(()),
-            Err(_) => Err(NoMemory),
-        }
+        })?;
+        Ok(())
     }
 }
 
