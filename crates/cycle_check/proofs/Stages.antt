@@ -8,7 +8,7 @@ use Rattle.net_names.specs.Numbers.{occurs, IsDistinct}
 use Rattle.net_names.specs.declared.routes.Rel.TheVariants.{Customer}
 use Rattle.as_graph.specs.Hierarchy.{RankFits}
 use Rattle.cycle_check.specs.Rows.{relation_by}
-use Rattle.cycle_check.specs.Stages.{waiting, IsStage, IsTelling, freed, AreFree}
+use Rattle.cycle_check.specs.Stages.{waiting, IsStage, IsNotifying, freed, AreFree}
 use Rattle.cycle_check.specs.Ways.{AllLeftBelow}
 use Rattle.cycle_check.proofs.Descents.{occurs_push, occurs_before, occurs_last, distinct_push}
 use Rattle.cycle_check.proofs.Listing.{occurs_head, occurs_rest, occurs_cons, occurs_get, occurs_take, take_occurs, take_step, take_before, take_here, not_before, distinct_below}
@@ -43,7 +43,7 @@ first_stage rows n counts order counted free = record {
   rising = λ i j d le lt. (let a = zeros_get n (get_or order i d) in let b = zeros_get n (get_or order j d) in omega (arith, a, b));
 }
 
--- ---- a place begins to tell
+-- ---- a place begins to notify
 
 module _ (rows : ℕ → List ℕ) (n : ℕ) (counts ranks order : List ℕ) where
   -- there are no more places in the order than there are places
@@ -99,8 +99,8 @@ module _ (rows : ℕ → List ℕ) (n : ℕ) (counts ranks order : List ℕ) whe
       rising = s.rising;
     }
 
-    pub begun_telling : IsTelling rows ranks (take (h + 1) order) (rows (get_or order h 0)) (get_or order h 0) (get_or ranks (get_or order h 0) 0)
-    begun_telling = record {
+    pub begun_notifying : IsNotifying rows ranks (take (h + 1) order) (rows (get_or order h 0)) (get_or order h 0) (get_or ranks (get_or order h 0) 0)
+    begun_notifying = record {
       own = λ p o. o;
       here = take_here h order less;
       rank = refl;
@@ -112,7 +112,7 @@ module _ (rows : ℕ → List ℕ) (n : ℕ) (counts ranks order : List ℕ) whe
       room = (let old = s.small (get_or order h 0) in omega (arith, old, taken, taken_more));
     }
 
--- ---- a provider is told
+-- ---- a provider is notified
 
 occurs_freed : (c : ℕ) (order : List ℕ) (p q : ℕ) → occurs p order ≡ true → occurs p (freed c order q) ≡ true
 occurs_freed zero order p q o = occurs_before p order q o
@@ -131,7 +131,7 @@ module _ (rows : ℕ → List ℕ) (n : ℕ) (counts ranks order done : List ℕ
   apart_from : (a : ℕ) → occurs a order ≡ true → a ≢ q
   apart_from a o e = let there : occurs q order ≡ true = subst (λ t. occurs t order ≡ true) e o in let away = not_ended in cc
 
-  module _ (counted : length counts ≡ n) (ranked : length ranks ≡ n) (b r : ℕ) (t : IsTelling rows ranks done (q ∷ rest) b r) (k : ℕ) (one_more : k ≡ suc r) where
+  module _ (counted : length counts ≡ n) (ranked : length ranks ≡ n) (b r : ℕ) (t : IsNotifying rows ranks done (q ∷ rest) b r) (k : ℕ) (one_more : k ≡ suc r) where
     here : (p : ℕ) → p ≡ q → get_or (set ranks q k) p 0 ≡ k
     here p e = get_or-set_at ranks q p k 0 e (omega (arith, inside, ranked))
 
@@ -196,8 +196,8 @@ module _ (rows : ℕ → List ℕ) (n : ℕ) (counts ranks order done : List ℕ
     freed_rising zero = rising_push
     freed_rising (suc c) = rising_kept
 
-    pub told_stage : (c : ℕ) → c ≡ get_or counts q 0 - 1 → IsStage rows n (set counts q c) (set ranks q k) (freed c order q) done rest
-    told_stage c less = record {
+    pub notified_stage : (c : ℕ) → c ≡ get_or counts q 0 - 1 → IsStage rows n (set counts q c) (set ranks q k) (freed c order q) done rest
+    notified_stage c less = record {
       counted = λ p l. elim (cases_eq p q) [
         | inl e ↦ (
             let at = get_or-set_at counts q p c 0 e (omega (arith, inside, counted)) in
@@ -243,8 +243,8 @@ module _ (rows : ℕ → List ℕ) (n : ℕ) (counts ranks order done : List ℕ
       rising = freed_rising c;
     }
 
-    pub told_telling : IsTelling rows (set ranks q k) done rest b r
-    told_telling = record {
+    pub rest_notified : IsNotifying rows (set ranks q k) done rest b r
+    rest_notified = record {
       own = λ p o. t.own p (occurs_rest p q rest o);
       here = t.here;
       rank = of_done b t.here ∙ t.rank;
@@ -266,7 +266,7 @@ length_freed zero order q = omega (arith, length_push order q)
 length_freed (suc c) order q = omega arith
 
 module _ (rows : ℕ → List ℕ) (n : ℕ) (counts ranks order : List ℕ) (h : ℕ) (q : ℕ) (rest : List ℕ) (within : h ≤ length order) (s : IsStage rows n counts ranks order (take h order) (q ∷ rest)) (inside : q < n)
-    (counted : length counts ≡ n) (ranked : length ranks ≡ n) (b r : ℕ) (t : IsTelling rows ranks (take h order) (q ∷ rest) b r) (k : ℕ) (one_more : k ≡ suc r)
+    (counted : length counts ≡ n) (ranked : length ranks ≡ n) (b r : ℕ) (t : IsNotifying rows ranks (take h order) (q ∷ rest) b r) (k : ℕ) (one_more : k ≡ suc r)
     (new_counts new_ranks new_order : List ℕ) (counts_are : new_counts ≡ set counts q (get_or counts q 0 - 1)) (ranks_are : new_ranks ≡ set ranks q k) (order_is : new_order ≡ freed (get_or counts q 0 - 1) order q) where
   same_done_after : take h new_order ≡ take h order
   same_done_after = ap (take h) order_is ∙ take_freed h (get_or counts q 0 - 1) order q within
@@ -281,13 +281,13 @@ module _ (rows : ℕ → List ℕ) (n : ℕ) (counts ranks order : List ℕ) (h 
       (subst (λ xs. IsStage rows n new_counts new_ranks xs (take h order) rest) (sym order_is)
       (subst (λ xs. IsStage rows n new_counts xs (freed m order q) (take h order) rest) (sym ranks_are)
       (subst (λ xs. IsStage rows n xs (set ranks q k) (freed m order q) (take h order) rest) (sym counts_are)
-      (told_stage rows n counts ranks order (take h order) q rest s inside counted ranked b r t k one_more m refl))))
+      (notified_stage rows n counts ranks order (take h order) q rest s inside counted ranked b r t k one_more m refl))))
 
-  pub next_telling : IsTelling rows new_ranks (take h new_order) rest b r
-  next_telling =
-      subst (λ xs. IsTelling rows new_ranks xs rest b r) (sym same_done_after)
-      (subst (λ xs. IsTelling rows xs (take h order) rest b r) (sym ranks_are)
-      (told_telling rows n counts ranks order (take h order) q rest s inside counted ranked b r t k one_more))
+  pub next_notifying : IsNotifying rows new_ranks (take h new_order) rest b r
+  next_notifying =
+      subst (λ xs. IsNotifying rows new_ranks xs rest b r) (sym same_done_after)
+      (subst (λ xs. IsNotifying rows xs (take h order) rest b r) (sym ranks_are)
+      (rest_notified rows n counts ranks order (take h order) q rest s inside counted ranked b r t k one_more))
 
 -- ---- the last stage
 

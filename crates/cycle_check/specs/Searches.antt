@@ -1,5 +1,5 @@
 -- A search that goes up from an AS to its providers and theirs, or down to its customers and theirs.
-use Rattle.std.specs.Prelude.{◌≡◌, ◌⊎◌, ℕ, ◌<◌, ◌≤◌, Bool, true, false, ◌&&◌, ◌||◌, not, ◌==◌, if◌then◌else◌, nat_eq, is_some, Option, None, Some, List, [], ◌∷◌, ◌++◌, length, slice_index_or, slice_index}
+use Rattle.std.specs.Prelude.{◌≡◌, ◌≢◌, ◌⊎◌, ℕ, ◌<◌, ◌≤◌, Bool, true, false, ◌&&◌, ◌||◌, not, ◌==◌, if◌then◌else◌, nat_eq, is_some, Option, None, Some, List, [], ◌∷◌, ◌++◌, length, slice_index_or, slice_index}
 use Rattle.std.specs.List.{IsDistinct as AreApart}
 use Rattle.std.specs.Map.{lookup, keys_of}
 use Rattle.net_names.specs.declared.routes.Rel.{Rel}
@@ -8,13 +8,17 @@ use Rattle.net_names.specs.Numbers.{occurs, IsDistinct, last_or}
 use Rattle.as_graph.specs.declared.neighbour.Neighbour.{Neighbour}
 use Rattle.as_graph.specs.Hierarchy.{IsDescent}
 use Rattle.as_graph.specs.Topology.{Topology}
-use Rattle.cycle_check.specs.Cycles.{without_pair}
+use Rattle.cycle_check.specs.Cycles.{IsClosedBy, without_pair}
 use Rattle.cycle_check.specs.declared.search.Search.{Search}
 
 -- the relation as it is for a search up, and turned for one down
 abbrev pub toward : Bool → (ℕ → ℕ → Option Rel) → ℕ → ℕ → Option Rel
 toward true relation = relation
 toward false relation = λ a b. relation b a
+
+-- what ASes are to each other without a link of this pair, as a search up sees it, or one down
+abbrev pub search_relation : Bool → Topology → ℕ → ℕ → ℕ → ℕ → Option Rel
+search_relation up g provider customer = toward up (without_pair g provider customer)
 
 -- a search up goes to providers, a search down to customers
 abbrev pub is_wanted : Bool → Rel → Bool
@@ -79,12 +83,12 @@ start_of up provider customer = if up then provider else customer
 -- a search in the links without the pair's, which has not met the other AS of the pair
 pub record IsRunning (g : Topology) (provider customer : ℕ) (up : Bool) (s : Search) : Type 0 where
   pub direction : s.up ≡ up
-  pub search : IsSearch (toward up (without_pair g provider customer)) (start_of up provider customer) s.reached.entries s.done
+  pub search : IsSearch (search_relation up g provider customer) (start_of up provider customer) s.reached.entries s.done
   pub unmet : is_reached s.reached.entries (start_of up customer provider) ≡ false
 
 -- a search has met the other AS of the pair, at a place
 pub record HasMet (g : Topology) (provider customer : ℕ) (up : Bool) (es : List (ℕ × ℕ)) (at : ℕ) : Type 0 where
-  pub reached : AreReached (toward up (without_pair g provider customer)) (start_of up provider customer) es
+  pub reached : AreReached (search_relation up g provider customer) (start_of up provider customer) es
   pub inside : at < length es
   pub found : reached_at es at ≡ start_of up customer provider
 
@@ -95,7 +99,19 @@ pub record IsWayTo (relation : ℕ → ℕ → Option Rel) (from to : ℕ) (xs :
   pub first : slice_index xs 0 ≡ from
   pub last : last_or 0 xs ≡ to
 
--- the way back from a place is told so far: it comes to the AS at another place next
+-- a way from the AS at a place back to the start, by each relation by which the ASes are reached
+abbrev pub IsWayBack : ℕ → List (ℕ × ℕ) → ℕ → List ℕ → Type 0
+IsWayBack start es from xs = (relation : ℕ → ℕ → Option Rel) → AreReached relation start es → IsWayTo relation (reached_at es from) start xs
+
+-- the list is the cycle that a link of the pair closes, where this is a way from the customer to the provider
+abbrev pub ClosesWay : ℕ → ℕ → List ℕ → List ℕ → Type 0
+ClosesWay provider customer way xs = (g : Topology) → provider ≢ customer → IsWayTo (without_pair g provider customer) customer provider way → IsClosedBy g provider customer xs
+
+-- the list is that cycle, where a search has met the other AS of the pair, at a place
+abbrev pub ClosesMet : ℕ → ℕ → Bool → List (ℕ × ℕ) → ℕ → List ℕ → Type 0
+ClosesMet provider customer up es at xs = (g : Topology) → provider ≢ customer → HasMet g provider customer up es at → IsClosedBy g provider customer xs
+
+-- the way back from a place is listed so far: it comes to the AS at another place next
 pub record IsBack (relation : ℕ → ℕ → Option Rel) (es : List (ℕ × ℕ)) (from place : ℕ) (way : List ℕ) : Type 0 where
   pub descends : IsDescent relation way
   pub distinct : IsDistinct way

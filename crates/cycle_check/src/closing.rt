@@ -1,10 +1,9 @@
 //! Whether a new provider link closes a cycle.
 ghost use Rattle.std.specs.Prelude.{◌≡◌, ◌≢◌, ◌↔◌, ◌<◌, ◌≤◌, ◌⊎◌, ◌+◌, Bool, true, false, nat_eq, ℕ, ◌++◌, ◌∷◌, length, IfOk, IfSome, IfNone, IsNone, OnOk};
 ghost use Rattle.indexmap.specs.IndexMap.{IsUnique};
-ghost use Rattle.as_graph.specs.Topology.{Topology};
 ghost use Rattle.as_graph.specs.Hierarchy.{HasNoProviderCycle};
 ghost use Rattle.cycle_check.specs.Cycles.{IsClosedBy, with_provider, without_pair};
-ghost use Rattle.cycle_check.specs.Searches.{start_of, AreFromEarlier, HasMet, IsRunning, IsWayTo};
+ghost use Rattle.cycle_check.specs.Searches.{start_of, AreFromEarlier, ClosesMet, ClosesWay, IsRunning};
 
 use crate::cycle::{Cycle, cycle_of};
 use crate::search::{Pair, Search};
@@ -14,13 +13,11 @@ use std::alloc::Global;
 
 // The cycle of a way from the customer to the provider.
 fn closed(mut way: Vec<Asn>, pair: &Pair) -> Result<Cycle, NoMemory>
-    ensures { IfOk result (λ cycle. (g : Topology) → pair.now.provider ≢ pair.now.customer → IsWayTo (without_pair g pair.now.provider pair.now.customer) pair.now.customer pair.now.provider way.items → IsClosedBy g pair.now.provider pair.now.customer cycle) }
+    ensures { IfOk result (ClosesWay pair.now.provider pair.now.customer way.items) }
 {
     let _provider = way.pop();
-    match way.insert(0, pair.provider) {
-        Ok(()) => Ok(cycle_of(way)),
-        Err(_) => Err(NoMemory),
-    }
+    way.insert(0, pair.provider)?;
+    Ok(cycle_of(way))
 }
 
 // The cycle of a search that has met the other AS of the pair, at a place.
@@ -28,7 +25,8 @@ fn met(search: &Search, pair: &Pair, at: usize) -> Result<Cycle, NoMemory>
     requires unique { IsUnique nat_eq search.now.reached }
     requires earlier { AreFromEarlier search.now.reached.entries }
     requires inside { at < length search.now.reached.entries }
-    ensures { IfOk result (λ cycle. (g : Topology) → pair.now.provider ≢ pair.now.customer → HasMet g pair.now.provider pair.now.customer search.now.up search.now.reached.entries at → IsClosedBy g pair.now.provider pair.now.customer cycle) }
+    ensures { IfOk result
+        (ClosesMet pair.now.provider pair.now.customer search.now.up search.now.reached.entries at) }
 {
     if search.up {
         return closed(search.way_back(at, pair.provider)?, pair);
@@ -52,7 +50,8 @@ fn turn(
     requires start { start ≡ start_of search.old.up pair.now.provider pair.now.customer }
     requires other { other ≡ start_of search.old.up pair.now.customer pair.now.provider }
     ensures cycle { IfOk result (λ found. IfSome found (IsClosedBy graph.now pair.now.provider pair.now.customer)) }
-    ensures running { IfOk result (λ found. IfNone found (IsRunning graph.now pair.now.provider pair.now.customer search.old.up search.new)) }
+    ensures running { IfOk result (λ found. IfNone found
+        (IsRunning graph.now pair.now.provider pair.now.customer search.old.up search.new)) }
     ensures done { OnOk result (search.new.done ≡ search.old.done + 1) }
 {
     search.step(graph, pair, start)?;
@@ -75,8 +74,10 @@ fn cheaper_turn(
     requires up_open { up.old.done < length up.old.reached.entries }
     requires down_open { down.old.done < length down.old.reached.entries }
     ensures cycle { IfOk result (λ found. IfSome found (IsClosedBy graph.now pair.now.provider pair.now.customer)) }
-    ensures up { IfOk result (λ found. IfNone found (IsRunning graph.now pair.now.provider pair.now.customer true up.new)) }
-    ensures down { IfOk result (λ found. IfNone found (IsRunning graph.now pair.now.provider pair.now.customer false down.new)) }
+    ensures up { IfOk result (λ found. IfNone found
+        (IsRunning graph.now pair.now.provider pair.now.customer true up.new)) }
+    ensures down { IfOk result (λ found. IfNone found
+        (IsRunning graph.now pair.now.provider pair.now.customer false down.new)) }
     ensures done { OnOk result (up.new.done + down.new.done ≡ up.old.done + down.old.done + 1) }
 {
     if up.next_cost(graph) <= down.next_cost(graph) {
@@ -90,7 +91,8 @@ fn cheaper_turn(
 fn are_open(up: &Search, down: &Search) -> bool
     ensures up { result ≡ true → up.now.done < length up.now.reached.entries }
     ensures down { result ≡ true → down.now.done < length down.now.reached.entries }
-    ensures ended { result ≡ false → (length up.now.reached.entries ≤ up.now.done) ⊎ (length down.now.reached.entries ≤ down.now.done) }
+    ensures ended { result ≡ false →
+        (length up.now.reached.entries ≤ up.now.done) ⊎ (length down.now.reached.entries ≤ down.now.done) }
 {
     if up.is_open() { down.is_open() } else { false }
 }
@@ -111,7 +113,8 @@ pub fn closes(
     requires differ { provider ≢ customer }
     requires without { HasNoProviderCycle (without_pair graph.now provider customer) }
     ensures cycle { IfOk result (λ found. IfSome found (IsClosedBy graph.now provider customer)) }
-    ensures none { IfOk result (λ found. IsNone found ↔ HasNoProviderCycle (with_provider graph.now provider customer)) }
+    ensures none { IfOk result (λ found.
+        IsNone found ↔ HasNoProviderCycle (with_provider graph.now provider customer)) }
 {
     let pair = Pair { provider, customer };
     let mut up = Search::new(alloc, true, provider)?;

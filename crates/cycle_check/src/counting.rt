@@ -7,7 +7,7 @@ ghost use Rattle.cycle_check.specs.Ways.{AllLeftBelow};
 ghost use Rattle.cycle_check.specs.Stages.{IsStage};
 
 use crate::lowest_first::cycle_from;
-use crate::telling::{free, give_ranks, tally, zeros};
+use crate::notifying::{free, give_ranks, tally, zeros};
 use crate::way::{first_left, way_back};
 use net_names::NoMemory;
 use std::alloc::Global;

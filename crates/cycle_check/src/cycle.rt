@@ -43,10 +43,7 @@ pub fn cycle_at(alloc: Global, ases: &[Asn], places: &[u32]) -> Result<Cycle, No
 {
     let mut numbers = Vec::new(alloc);
     for place in places {
-        match numbers.push(ases[*place as usize]) {
-            Ok(()) => {}
-            Err(_) => return Err(NoMemory),
-        }
+        numbers.push(ases[*place as usize])?;
     }
     Ok(Cycle { numbers })
 }

@@ -1,4 +1,4 @@
-//! A provider cycle, told from its lowest number on.
+//! A provider cycle, listed from its lowest number on.
 ghost use Rattle.std.specs.Prelude.{◌≡◌, ℕ, ◌<◌, ◌≤◌, ◌++◌, nat_lt, true, length, drop, IfOk, OnOk};
 ghost use Rattle.std.specs.List.{IsFirstBest};
 ghost use Rattle.net_names.specs.Numbers.{occurs};
@@ -37,10 +37,8 @@ fn turned(alloc: Global, numbers: &[u32]) -> Result<Vec<u32>, NoMemory>
 fn append(list: &mut Vec<u32>, more: &[u32]) -> Result<(), NoMemory>
     ensures { OnOk result (list.new.items ≡ list.old.items ++ more.now) }
 {
-    match list.extend_from_slice(more) {
-        Ok(()) => Ok(()),
-        Err(_) => Err(NoMemory),
-    }
+    list.extend_from_slice(more)?;
+    Ok(())
 }
 
 // The first place of a number in a list, or the list's length where it isn't there.

@@ -7,8 +7,8 @@ ghost use Rattle.cycle_check.specs.Places.{place_in};
 ghost use Rattle.cycle_check.specs.Providers.{AreAses, AreFilled, AreProviderRows, IsRowPut, provider_places, put_provider};
 ghost use Rattle.as_graph.specs.declared.build.TheConstants.{MOST_ASES};
 
+use crate::notifying::{push, zeros};
 use crate::placing::place_near;
-use crate::telling::{push, zeros};
 use as_graph::{Graph, Neighbour, links_are_sound};
 use net_names::{Asn, NoMemory, Rel};
 use std::alloc::Global;
@@ -20,8 +20,9 @@ pub struct ProviderRows {
     pub items: Vec<u32>,
 }
 
-// For each row of the graph, the place of its AS among the ASes. These are hints.
-fn places_of_rows(alloc: Global, graph: &Graph, ases: &[Asn]) -> Result<Vec<u32>, NoMemory> {
+/// For each row of the graph, the place of its AS among the ASes. These are hints: no contract says
+/// what they are. The only refusal is want of memory.
+pub fn places_of_rows(alloc: Global, graph: &Graph, ases: &[Asn]) -> Result<Vec<u32>, NoMemory> {
     let mut places = zeros(alloc, graph.rows().len())?;
     for (place, asn) in ases.iter().enumerate() {
         if let Some(kept) = places.get_mut(graph.place_near(*asn, place)) {
@@ -51,7 +52,8 @@ fn put(
 ) -> Result<(), NoMemory>
     requires rising { IsStrictlyIncreasing ases.now }
     requires few { length ases.now ≤ MOST_ASES }
-    ensures { OnOk result (items.new.items ≡ items.old.items ++ put_provider neighbour.rel (place_in ases.now neighbour.asn) []) }
+    ensures { OnOk result (items.new.items ≡
+        items.old.items ++ put_provider neighbour.rel (place_in ases.now neighbour.asn) []) }
 {
     match neighbour.rel {
         Rel::Customer | Rel::Peer => Ok(()),
@@ -113,7 +115,8 @@ fn put_end(starts: &mut Vec<u32>, end: usize) -> Result<(), NoMemory>
 fn filled(alloc: Global, graph: &Graph, ases: &[Asn]) -> Result<ProviderRows, NoMemory>
     requires ases { AreAses graph.now ases.now }
     requires few { length ases.now ≤ MOST_ASES }
-    ensures { IfOk result (λ r. AreFilled (relation graph.now) ases.now r.starts.items r.items.items (length ases.now)) }
+    ensures { IfOk result (λ r.
+        AreFilled (relation graph.now) ases.now r.starts.items r.items.items (length ases.now)) }
 {
     let near = places_of_rows(alloc, graph, ases)?;
     let mut starts = Vec::new(alloc);
@@ -131,7 +134,8 @@ pub fn provider_rows(alloc: Global, graph: &Graph, ases: &[Asn]) -> Result<Provi
     requires ases { AreAses graph.now ases.now }
     requires few { length ases.now ≤ MOST_ASES }
     ensures rows { IfOk result (λ r. AreRows r.starts.items r.items.items) }
-    ensures providers { IfOk result (λ r. AreProviderRows (relation graph.now) ases.now r.starts.items r.items.items) }
+    ensures providers { IfOk result (λ r.
+        AreProviderRows (relation graph.now) ases.now r.starts.items r.items.items) }
 {
     links_are_sound();
     Ok(filled(alloc, graph, ases)?)

@@ -43,19 +43,12 @@ fn with_ranks(alloc: Global, ases: &[Asn], ranks: &[u32]) -> Result<Vec<RankedAs
     ensures asns { IfOk result (λ v. numbers_of v.items ≡ ases.now) }
     ensures ranks { IfOk result (λ v. ranks_of v.items ≡ ranks.now) }
 {
-    let mut ranked = match Vec::with_capacity(alloc, ases.len()) {
-        Ok(ranked) => ranked,
-        Err(_) => return Err(NoMemory),
-    };
+    let mut ranked = Vec::with_capacity(alloc, ases.len())?;
     for place in 0..ases.len() {
-        let one = RankedAs {
+        ranked.push(RankedAs {
             asn: ases[place],
             rank: ranks[place],
-        };
-        match ranked.push(one) {
-            Ok(()) => {}
-            Err(_) => return Err(NoMemory),
-        }
+        })?;
     }
     Ok(ranked)
 }
@@ -69,6 +62,7 @@ pub fn rank_ases(alloc: Global, graph: &Graph) -> Result<Ranking, NoMemory>
 {
     fitting_are_ranks();
     let ases = graph.ases();
+    // `as_count` is called for its clause that the ASes are few.
     let _count = graph.as_count();
     let rows = provider_rows(alloc, graph, ases)?;
     match count_ranks(alloc, &rows.starts, &rows.items)? {

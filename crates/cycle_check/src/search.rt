@@ -1,9 +1,7 @@
 //! A search up from an AS, or down from it, in the links of a graph but one pair's.
-ghost use Rattle.std.specs.Prelude.{◌≡◌, ◌<◌, ◌≤◌, ◌+◌, ◌++◌, ℕ, Option, Bool, true, false, nat_eq, [], ◌∷◌, length, slice_index_or, IfOk, IfSome, IfNone, OnOk};
+ghost use Rattle.std.specs.Prelude.{◌≡◌, ◌<◌, ◌≤◌, ◌+◌, ◌++◌, ℕ, Some, Bool, true, false, nat_eq, [], ◌∷◌, length, slice_index_or, IfOk, IfSome, IfNone, OnOk};
 ghost use Rattle.indexmap.specs.IndexMap.{IsUnique};
-ghost use Rattle.net_names.specs.declared.routes.Rel.{Rel as ARel};
 ghost use Rattle.net_names.specs.declared.routes.Rel.TheVariants.{Customer};
-ghost use Rattle.cycle_check.specs.Cycles.{without_pair};
 
 use as_graph::{Graph, Neighbour};
 use indexmap::IndexMap;
@@ -42,7 +40,7 @@ impl Pair {
 }
 
 impl Search {
-    ghost use Rattle.cycle_check.specs.Searches.{toward, is_wanted, reached_at, is_reached, gains, gains_wanted, AreFromEarlier, AreReached, GoesOn, IsSearch, IsWayTo};
+    ghost use Rattle.cycle_check.specs.Searches.{search_relation, is_wanted, reached_at, is_reached, gains, gains_wanted, AreFromEarlier, GoesOn, IsSearch, IsWayBack};
 
     /// A search that goes up from an AS, or down from it.
     pub fn new(alloc: Global, up: bool, start: Asn) -> Result<Search, NoMemory>
@@ -52,16 +50,14 @@ impl Search {
         ensures done { IfOk result (λ s. s.done ≡ 0) }
     {
         let mut reached = IndexMap::new(alloc);
-        match reached.insert(start, 0) {
-            Ok(_) => Ok(Search {
-                alloc,
-                up,
-                reached,
-                done: 0,
-                cost: 0,
-            }),
-            Err(_) => Err(NoMemory),
-        }
+        reached.insert(start, 0)?;
+        Ok(Search {
+            alloc,
+            up,
+            reached,
+            done: 0,
+            cost: 0,
+        })
     }
 
     /// Whether there is an AS from which the search can go on.
@@ -100,10 +96,8 @@ impl Search {
         if reached.contains_key(&asn) {
             return Ok(());
         }
-        match reached.insert(asn, from) {
-            Ok(_) => Ok(()),
-            Err(_) => Err(NoMemory),
-        }
+        reached.insert(asn, from)?;
+        Ok(())
     }
 
     // Reaches a neighbour of the AS at a place, if it is wanted.
@@ -116,7 +110,8 @@ impl Search {
         neighbour: Neighbour,
     ) -> Result<(), NoMemory>
         requires { IsUnique nat_eq reached.old }
-        ensures gains { OnOk result (reached.new.entries ≡ gains_wanted up pair.now.provider pair.now.customer asn from reached.old.entries neighbour) }
+        ensures gains { OnOk result (reached.new.entries ≡
+            gains_wanted up pair.now.provider pair.now.customer asn from reached.old.entries neighbour) }
         ensures unique { IsUnique nat_eq reached.new }
     {
         if Search::wants(up, neighbour.rel) {
@@ -138,8 +133,11 @@ impl Search {
         from: usize,
     ) -> Result<(), NoMemory>
         requires { IsUnique nat_eq reached.old }
-        ensures goes_on { OnOk result (GoesOn (toward up (without_pair graph.now pair.now.provider pair.now.customer)) asn from reached.old.entries reached.new.entries) }
-        ensures all { OnOk result ((y : ℕ) → toward up (without_pair graph.now pair.now.provider pair.now.customer) y asn ≡ Some Customer → is_reached reached.new.entries y ≡ true) }
+        ensures goes_on { OnOk result (GoesOn (search_relation up graph.now pair.now.provider pair.now.customer)
+            asn from reached.old.entries reached.new.entries) }
+        ensures all { OnOk result ((y : ℕ) →
+            search_relation up graph.now pair.now.provider pair.now.customer y asn ≡ Some Customer →
+            is_reached reached.new.entries y ≡ true) }
         ensures unique { IsUnique nat_eq reached.new }
     {
         let neighbours = graph.neighbours(asn);
@@ -151,9 +149,12 @@ impl Search {
 
     /// Goes on from the next AS.
     pub fn step(&mut self, graph: &Graph, pair: &Pair, start: Asn) -> Result<(), NoMemory>
-        requires search { IsSearch (toward self.old.up (without_pair graph.now pair.now.provider pair.now.customer)) start self.old.reached.entries self.old.done }
+        requires search { IsSearch (search_relation self.old.up graph.now pair.now.provider pair.now.customer) start
+            self.old.reached.entries self.old.done }
         requires more { self.old.done < length self.old.reached.entries }
-        ensures search { OnOk result (IsSearch (toward self.old.up (without_pair graph.now pair.now.provider pair.now.customer)) start self.new.reached.entries self.new.done) }
+        ensures search { OnOk result (IsSearch
+            (search_relation self.old.up graph.now pair.now.provider pair.now.customer) start
+            self.new.reached.entries self.new.done) }
         ensures up { self.new.up ≡ self.old.up }
         ensures done { OnOk result (self.new.done ≡ self.old.done + 1) }
     {
@@ -191,25 +192,16 @@ impl Search {
         requires unique { IsUnique nat_eq self.now.reached }
         requires earlier { AreFromEarlier self.now.reached.entries }
         requires inside { from < length self.now.reached.entries }
-        ensures { IfOk result (λ v. (relation : ℕ → ℕ → Option ARel) → AreReached relation start self.now.reached.entries → IsWayTo relation (reached_at self.now.reached.entries from) start v.items) }
+        ensures { IfOk result (λ v. IsWayBack start self.now.reached.entries from v.items) }
     {
         let mut way = Vec::new(self.alloc);
         let mut place = from;
         while place != 0 {
             let (asn, earlier) = self.at(place);
-            push(&mut way, asn)?;
+            way.push(asn)?;
             place = earlier;
         }
-        push(&mut way, start)?;
+        way.push(start)?;
         Ok(way)
-    }
-}
-
-fn push(way: &mut Vec<Asn>, asn: Asn) -> Result<(), NoMemory>
-    ensures { OnOk result (way.new.items ≡ way.old.items ++ asn ∷ []) }
-{
-    match way.push(asn) {
-        Ok(()) => Ok(()),
-        Err(_) => Err(NoMemory),
     }
 }

@@ -4,8 +4,8 @@ ghost use Rattle.net_names.specs.Numbers.{occurs};
 ghost use Rattle.cycle_check.specs.Rows.{AreRows, count_of, row, relation};
 ghost use Rattle.cycle_check.specs.Ways.{IsNoted, AllLeftBelow, AreLeftBelow, LeadsBack};
 
+use crate::notifying::{push, zeros};
 use crate::row::row;
-use crate::telling::{push, zeros};
 use net_names::NoMemory;
 use std::alloc::Global;
 
@@ -32,7 +32,8 @@ pub fn first_left(counts: &[u32]) -> usize
 // Writes the customer at each place of its list of providers.
 fn note_customer(providers: &[u32], below: &mut [u32], customer: u32)
     requires within { (k : ℕ) → k < length providers.now → slice_index providers.now k < length below.old }
-    ensures { (p : ℕ) → p < length below.old → IsNoted providers.now customer p (slice_index below.old p) (slice_index below.new p) }
+    ensures { (p : ℕ) → p < length below.old →
+        IsNoted providers.now customer p (slice_index below.old p) (slice_index below.new p) }
 {
     for provider in providers {
         below[*provider as usize] = customer;

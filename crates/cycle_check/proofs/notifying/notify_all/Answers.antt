@@ -2,11 +2,11 @@ use Rattle.std.proofs.Common.{◌≡◌, ◌+◌, ◌≤◌, suc, true, [], leng
 use Rattle.std.proofs.lemmas.List.{get_or_read, drop_more, drop_all, length-take-le}
 use Rattle.net_names.specs.Numbers.{occurs}
 use Rattle.cycle_check.specs.Rows.{row, count_of}
-use Rattle.cycle_check.specs.Stages.{IsStage, IsTelling}
+use Rattle.cycle_check.specs.Stages.{IsStage, IsNotifying}
 use Rattle.cycle_check.proofs.Listing.{occurs_get}
 use Rattle.cycle_check.proofs.Regions.{row_within}
-use Rattle.cycle_check.proofs.Stages.{order_few, head_inside, begun_stage, begun_telling, waits, next_within, next_stage, next_telling}
-use Rattle.cycle_check.proofs.telling.tell_all.Goals as goal
+use Rattle.cycle_check.proofs.Stages.{order_few, head_inside, begun_stage, begun_notifying, waits, next_within, next_stage, next_notifying}
+use Rattle.cycle_check.proofs.notifying.notify_all.Goals as goal
 
 pub bounds-ranks-place : goal.bounds-ranks-place
 bounds-ranks-place c =
@@ -43,27 +43,27 @@ loop-provider-init c =
     record {
       more = c.requires.head;
       stage = subst (λ xs. IsStage rows n counts ranks order (take (head + 1) order) xs) (sym list) (begun_stage rows n counts ranks order head c.requires.head c.requires.stage);
-      telling = subst (λ xs. IsTelling rows ranks (take (head + 1) order) xs (get_or order head 0) (get_or ranks (get_or order head 0) 0)) (sym list) (begun_telling rows n counts ranks order head c.requires.head c.requires.stage);
+      notifying = subst (λ xs. IsNotifying rows ranks (take (head + 1) order) xs (get_or order head 0) (get_or ranks (get_or order head 0) 0)) (sym list) (begun_notifying rows n counts ranks order head c.requires.head c.requires.stage);
     }
 
-pub tell-requires-clause-inside : goal.tell-requires-clause-inside
-tell-requires-clause-inside c =
+pub notify-requires-clause-inside : goal.notify-requires-clause-inside
+notify-requires-clause-inside c =
     let xs = c.row-provider-items.result.now in
     let i = c.loop-provider.provider-index in
     let there = subst (λ v. occurs (get_or xs i 0) v ≡ true) c.row-provider-items.ensures (occurs_get xs i 0 c.loop-provider-test.true) in
     let less = row_within c.args.starts.now c.args.items.now c.requires.rows (get_or xs i 0) c.index.result.now there in
     omega (arith, less, c.requires.counts, c.loop-provider.auto.counts)
 
-pub tell-requires-clause-ranked : goal.tell-requires-clause-ranked
-tell-requires-clause-ranked c =
+pub notify-requires-clause-ranked : goal.notify-requires-clause-ranked
+notify-requires-clause-ranked c =
     let xs = c.row-provider-items.result.now in
     let i = c.loop-provider.provider-index in
     let there = subst (λ v. occurs (get_or xs i 0) v ≡ true) c.row-provider-items.ensures (occurs_get xs i 0 c.loop-provider-test.true) in
     let less = row_within c.args.starts.now c.args.items.now c.requires.rows (get_or xs i 0) c.index.result.now there in
     omega (arith, less, c.requires.ranks, c.loop-provider.auto.ranks)
 
-pub tell-requires-clause-waits : goal.tell-requires-clause-waits
-tell-requires-clause-waits c =
+pub notify-requires-clause-waits : goal.notify-requires-clause-waits
+notify-requires-clause-waits c =
     let rows = row c.args.starts.now c.args.items.now in
     let n = count_of c.args.starts.now in
     let counts = c.loop-provider.counts in
@@ -99,20 +99,20 @@ loop-provider-preserved c =
     let less = row_within c.args.starts.now c.args.items.now c.requires.rows q c.index.result.now there in
     let split = drop_more xs i 0 c.loop-provider-test.true in
     let stage = subst (λ v. IsStage rows n counts ranks order done v) split c.loop-provider.invariant.stage in
-    let telling = subst (λ v. IsTelling rows ranks done v b r) split c.loop-provider.invariant.telling in
+    let notifying = subst (λ v. IsNotifying rows ranks done v b r) split c.loop-provider.invariant.notifying in
     let within = c.loop-provider.invariant.more in
     let counted : length counts ≡ n = omega (arith, c.requires.counts, c.loop-provider.auto.counts) in
     let ranked : length ranks ≡ n = omega (arith, c.requires.ranks, c.loop-provider.auto.ranks) in
     let high : h ≤ length order = omega (arith, within) in
-    let new_counts = c.tell.new.counts in
-    let new_ranks = c.tell.new.ranks in
-    let new_order = c.tell.new.order.items in
-    let e = c.in_ok-tell.ensures in
-    let longer = next_within rows n counts ranks order h q rest high stage less counted ranked b r telling k one_more new_counts new_ranks new_order e.counts e.ranks e.order in
+    let new_counts = c.notify.new.counts in
+    let new_ranks = c.notify.new.ranks in
+    let new_order = c.notify.new.order.items in
+    let e = c.in_ok-notify.ensures in
+    let longer = next_within rows n counts ranks order h q rest high stage less counted ranked b r notifying k one_more new_counts new_ranks new_order e.counts e.ranks e.order in
     record {
       more = omega (arith, longer);
-      stage = next_stage rows n counts ranks order h q rest high stage less counted ranked b r telling k one_more new_counts new_ranks new_order e.counts e.ranks e.order;
-      telling = next_telling rows n counts ranks order h q rest high stage less counted ranked b r telling k one_more new_counts new_ranks new_order e.counts e.ranks e.order;
+      stage = next_stage rows n counts ranks order h q rest high stage less counted ranked b r notifying k one_more new_counts new_ranks new_order e.counts e.ranks e.order;
+      notifying = next_notifying rows n counts ranks order h q rest high stage less counted ranked b r notifying k one_more new_counts new_ranks new_order e.counts e.ranks e.order;
     }
 
 pub returns-clause-stage : goal.returns-clause-stage

@@ -1,7 +1,7 @@
 use Rattle.std.proofs.Common.{[], take, arith}
 use Rattle.cycle_check.specs.Rows.{row, count_of}
 use Rattle.cycle_check.proofs.Stages.{order_few}
-use Rattle.cycle_check.proofs.telling.give_ranks.Goals as goal
+use Rattle.cycle_check.proofs.notifying.give_ranks.Goals as goal
 
 pub loop-head-smaller : goal.loop-head-smaller
 loop-head-smaller c =

@@ -1,7 +1,7 @@
 use Rattle.std.proofs.Common.{◌-◌, ◌≤◌, [], length, take}
 use Rattle.cycle_check.specs.Rows.{count_of, row}
 use Rattle.cycle_check.specs.Stages.{IsStage}
-use Rattle.cycle_check.proofs.telling.give_ranks.Given as goal
+use Rattle.cycle_check.proofs.notifying.give_ranks.Given as goal
 
 abbrev pub invariant-loop-head : goal.invariant-loop-head
 invariant-loop-head l = record {

@@ -1,8 +1,8 @@
 use Rattle.std.proofs.Common.{◌≡◌, ◌+◌, ◌++◌, [], ◌∷◌, sym, subst, arith}
 use Rattle.cycle_check.specs.Stages.{AreFree}
 use Rattle.cycle_check.proofs.Stages.{free_push, free_keep}
-use Rattle.cycle_check.proofs.telling.free.Goals as goal
-use Rattle.cycle_check.proofs.telling.free.Goals.{then-counts-place-eq0+in_ok-push, else-counts-place-eq0}
+use Rattle.cycle_check.proofs.notifying.free.Goals as goal
+use Rattle.cycle_check.proofs.notifying.free.Goals.{then-counts-place-eq0+in_ok-push, else-counts-place-eq0}
 
 pub loop-place-preserved : goal.loop-place-preserved
 loop-place-preserved c =

@@ -4,7 +4,7 @@ use Rattle.std.proofs.lemmas.List.{take_more, length-take-le}
 use Rattle.std.proofs.lemmas.Grind.{get_or-set_at}
 use Rattle.cycle_check.specs.Stages.{times}
 use Rattle.cycle_check.proofs.Tallies.{times_append, times_same, times_other, times_le}
-use Rattle.cycle_check.proofs.telling.tally.Goals as goal
+use Rattle.cycle_check.proofs.notifying.tally.Goals as goal
 
 pub overflow_add-counts : goal.overflow_add-counts
 overflow_add-counts c =
