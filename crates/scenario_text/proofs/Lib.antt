@@ -5,7 +5,7 @@ pub mod Shaping
 pub mod Repeats
 pub mod Sound
 pub mod Texts
-pub mod Paths
+pub mod NumberLists
 pub mod Accepted
 pub mod Passing
 pub mod Members

@@ -4,7 +4,7 @@ use Rattle.std.specs.Option.{option_map_or}
 use Rattle.scenario_text.specs.declared.places.Member.{Member}
 use Rattle.scenario_text.specs.declared.places.Member.TheVariants.{Announcements, Policies, Leaks, Watch}
 use Rattle.scenario_text.specs.declared.places.PartOf.{PartOf}
-use Rattle.scenario_text.specs.declared.places.PartOf.TheVariants.{Prefix, Number, Path, Policy}
+use Rattle.scenario_text.specs.declared.places.PartOf.TheVariants.{Prefix, Number, Path}
 use Rattle.scenario_text.specs.declared.places.Place.{Place}
 
 -- the document itself (own format)
@@ -29,7 +29,7 @@ member_name m = elim m [ Announcements ↦ codes "announcements" | Policies ↦ 
 
 -- the names of the members of an announcement and of a policy (own format)
 abbrev pub part_name : PartOf → List ℕ
-part_name p = elim p [ Prefix ↦ codes "prefix" | Number ↦ codes "as" | Path ↦ codes "path" | Policy ↦ codes "policy" ]
+part_name p = codes (elim p [ Prefix ↦ "prefix" | Number ↦ "as" | Path ↦ "path" | _ ↦ "policy" ])
 
 -- the name of the member that stands at a place; the document itself has none (own format)
 abbrev pub name_at : Place → List ℕ

@@ -57,10 +57,8 @@ fn path(alloc: Global, place: Place, asn: u64, value: &Value) -> Result<Numbers,
         Some(value) => numbers(alloc, place, value),
         None => {
             let mut numbers = Vec::new(alloc);
-            match numbers.push(asn) {
-                Ok(()) => Ok(Numbers { numbers }),
-                Err(_) => Err(ScenarioError::Memory),
-            }
+            numbers.push(asn)?;
+            Ok(Numbers { numbers })
         }
     }
 }

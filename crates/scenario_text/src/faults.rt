@@ -1,5 +1,9 @@
 //! Why a scenario is refused.
+ghost use Rattle.std.specs.Prelude.{◌≡◌};
+ghost use Rattle.scenario_text.specs.declared.faults.ScenarioError.TheVariants.{Memory};
+
 use crate::places::Place;
+use std::alloc::{AllocError, AllocFailed};
 
 /// The limits of a scenario, in the order in which they are tested.
 #[derive(Clone, Copy, Debug, PartialEq, Eq)]
@@ -10,7 +14,7 @@ pub enum LimitOf {
     Prefixes,
     /// 64 numbers in a path.
     Path,
-    /// 2 rounds, that is, leakers of one round after the first.
+    /// 4 rounds, that is, leakers of three rounds after the first.
     Rounds,
     /// 64 leakers in a round.
     Leakers,
@@ -46,4 +50,20 @@ pub enum ScenarioError {
         /// The first limit that is passed.
         which: LimitOf,
     },
+}
+
+impl From<AllocError> for ScenarioError {
+    ghost from_gives = { λ _ e. e ≡ Memory };
+
+    fn from(_e: AllocError) -> ScenarioError {
+        ScenarioError::Memory
+    }
+}
+
+impl<T: Drop> From<AllocFailed<T>> for ScenarioError {
+    ghost from_gives = { λ _ e. e ≡ Memory };
+
+    fn from(_e: AllocFailed<T>) -> ScenarioError {
+        ScenarioError::Memory
+    }
 }

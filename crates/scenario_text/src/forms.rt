@@ -68,7 +68,8 @@ pub fn read_for(line: &[u8]) -> Option<(u32, Prefix)>
 // What a line asks for that announces.
 #[tactic(auto, unfolding(crate::specs::Forms::pair))]
 fn announcement(alloc: Global, line: &[u8]) -> Result<Option<Act>, NoMemory>
-    ensures gives { IfOk result (λ act. act ≡ option_map AnEdit (form "announce " (pair 32 prefix_of (few_numbers asn_of)) (λ x. AnAnnounce x.0 x.1) line.now)) }
+    ensures gives { IfOk result (λ act. act ≡ option_map AnEdit
+        (form "announce " (pair 32 prefix_of (few_numbers asn_of)) (λ x. AnAnnounce x.0 x.1) line.now)) }
     ensures sound { IfOk result (λ act. IfSome act IsSoundAct) }
 {
     let Some(rest) = strip(line, b"announce ") else {
@@ -80,11 +81,10 @@ fn announcement(alloc: Global, line: &[u8]) -> Result<Option<Act>, NoMemory>
     let Some(prefix) = read_prefix(word) else {
         return Ok(None);
     };
-    match path(alloc, numbers) {
-        Ok(Some(path)) => Ok(Some(Act::Edit(Edit::Announce { prefix, path }))),
-        Ok(None) => Ok(None),
-        Err(_) => Err(NoMemory),
-    }
+    let Some(path) = path(alloc, numbers)? else {
+        return Ok(None);
+    };
+    Ok(Some(Act::Edit(Edit::Announce { prefix, path })))
 }
 
 // What a line asks for that has the form of a query.

@@ -78,9 +78,7 @@ pub(crate) fn test_limits(alloc: Global, lists: &Lists) -> Result<(), ScenarioEr
             which: LimitOf::Announcements,
         });
     }
-    let Ok(prefixes) = count_prefixes(alloc, &lists.announcements) else {
-        return Err(ScenarioError::Memory);
-    };
+    let prefixes = count_prefixes(alloc, &lists.announcements)?;
     if prefixes > MOST_PREFIXES {
         return Err(ScenarioError::Limit {
             which: LimitOf::Prefixes,

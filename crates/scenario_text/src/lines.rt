@@ -63,10 +63,8 @@ impl Lines {
         ensures ok { OnOk result (self.new ≡ self.old ++ line ∷ []) }
         ensures err { OnErr result (self.new ≡ self.old) }
     {
-        match self.items.push(line) {
-            Ok(()) => Ok(()),
-            Err(_) => Err(NoMemory),
-        }
+        self.items.push(line)?;
+        Ok(())
     }
 
     /// The line at a place, counted from 0; `None` exactly where the place is not below their number.

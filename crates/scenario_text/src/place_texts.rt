@@ -59,11 +59,7 @@ pub fn put_place(out: &mut Vec<u8>, place: Place) -> Result<(), NoMemory>
     ensures err { OnErr result (out.new.items ≡ out.old.items) }
 {
     let alloc = *out.allocator();
-    match place_string(alloc, place) {
-        Ok(text) => match out.extend_from_slice(text.as_bytes()) {
-            Ok(()) => Ok(()),
-            Err(_) => Err(NoMemory),
-        },
-        Err(_) => Err(NoMemory),
-    }
+    let text = place_string(alloc, place)?;
+    out.extend_from_slice(text.as_bytes())?;
+    Ok(())
 }

@@ -78,13 +78,12 @@ impl Scenario {
         requires few_prefixes { prefix_count (self.old.announcements ++ announcement ∷ []) ≤ MOST_PREFIXES }
         requires short { length announcement.path ≤ MOST_NUMBERS }
         requires own_path { StartsWith announcement.asn announcement.path }
-        ensures ok { OnOk result (self.new ≡ record self.old { announcements = self.old.announcements ++ announcement ∷ [] }) }
+        ensures ok { OnOk result (self.new ≡
+            record self.old { announcements = self.old.announcements ++ announcement ∷ [] }) }
         ensures err { OnErr result (self.new ≡ self.old) }
     {
-        match self.announcements.push(announcement) {
-            Ok(()) => Ok(()),
-            Err(_) => Err(NoMemory),
-        }
+        self.announcements.push(announcement)?;
+        Ok(())
     }
 
     /// Puts a policy at the end, of an AS that has none yet. `Err` where there is not enough memory; then the scenario stays
@@ -94,10 +93,8 @@ impl Scenario {
         ensures ok { OnOk result (self.new ≡ record self.old { policies = self.old.policies ++ (asn, kind) ∷ [] }) }
         ensures err { OnErr result (self.new ≡ self.old) }
     {
-        match self.policies.push((asn, kind)) {
-            Ok(()) => Ok(()),
-            Err(_) => Err(NoMemory),
-        }
+        self.policies.push((asn, kind))?;
+        Ok(())
     }
 
     /// Puts an empty list of leakers at the end: one more round, in which nobody leaks yet. There are fewer than 3 so far.
@@ -108,12 +105,10 @@ impl Scenario {
         ensures err { OnErr result (self.new ≡ self.old) }
     {
         let alloc = *self.leaks.allocator();
-        match self.leaks.push(Leakers {
+        self.leaks.push(Leakers {
             numbers: Vec::new(alloc),
-        }) {
-            Ok(()) => Ok(()),
-            Err(_) => Err(NoMemory),
-        }
+        })?;
+        Ok(())
     }
 
     /// Puts a leaker at the end of the last list of leakers, of which it is none yet. There is a list, and it has fewer than
@@ -126,10 +121,8 @@ impl Scenario {
         ensures err { OnErr result (self.new ≡ self.old) }
     {
         let last = self.leaks.len() - 1;
-        match self.leaks[last].numbers.push(asn) {
-            Ok(()) => Ok(()),
-            Err(_) => Err(NoMemory),
-        }
+        self.leaks[last].numbers.push(asn)?;
+        Ok(())
     }
 
     /// Puts a watched address at the end, which is not watched yet; there are fewer than 16. `Err` where there is not enough
@@ -140,10 +133,8 @@ impl Scenario {
         ensures ok { OnOk result (self.new ≡ record self.old { watch = self.old.watch ++ addr ∷ [] }) }
         ensures err { OnErr result (self.new ≡ self.old) }
     {
-        match self.watch.push(addr) {
-            Ok(()) => Ok(()),
-            Err(_) => Err(NoMemory),
-        }
+        self.watch.push(addr)?;
+        Ok(())
     }
 
     /// The announcement at a place, counted from 0; `None` exactly where the place is not below their number.

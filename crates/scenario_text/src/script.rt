@@ -1,11 +1,12 @@
 //! Reading a script.
 ghost use Rattle.std.specs.Prelude.{◌≡◌, ◌≤◌, length, IfOk};
+ghost use Rattle.scenario_text.specs.declared.script.ScriptError.TheVariants.{Memory};
 ghost use Rattle.scenario_text.specs.LineValues.{IsSoundAct};
 ghost use Rattle.scenario_text.specs.Script.{Gives, command, script_of};
 
 use crate::forms::act;
 use crate::lines::{Line, Lines};
-use net_names::next_kept;
+use net_names::{NoMemory, next_kept};
 use std::alloc::Global;
 
 /// Why a script is refused: the fault of its first faulty line. Lines are numbered from 1, and skipped lines count. A
@@ -26,6 +27,14 @@ pub enum ScriptError {
     },
 }
 
+impl From<NoMemory> for ScriptError {
+    ghost from_gives = { λ _ e. e ≡ Memory };
+
+    fn from(_e: NoMemory) -> ScriptError {
+        ScriptError::Memory
+    }
+}
+
 /// How many lines of a script ask or edit at most.
 pub const MOST_COMMANDS: u32 = 100_000;
 
@@ -34,16 +43,13 @@ fn command_of(alloc: Global, line: &[u8], number: u32, before: u32) -> Result<Li
     ensures gives { Gives result (command before (number, line.now)) }
     ensures sound { IfOk result (λ l. IsSoundAct l.act) }
 {
-    match act(alloc, line) {
-        Err(_) => Err(ScriptError::Memory),
-        Ok(None) => Err(ScriptError::Unreadable { line: number }),
-        Ok(Some(act)) => {
-            if before < MOST_COMMANDS {
-                Ok(Line { number, act })
-            } else {
-                Err(ScriptError::TooMany { line: number })
-            }
-        }
+    let Some(act) = act(alloc, line)? else {
+        return Err(ScriptError::Unreadable { line: number });
+    };
+    if before < MOST_COMMANDS {
+        Ok(Line { number, act })
+    } else {
+        Err(ScriptError::TooMany { line: number })
     }
 }
 
@@ -65,10 +71,7 @@ pub fn read_script(alloc: Global, bytes: &[u8]) -> Result<Lines, ScriptError>
         number = kept.number + 1;
         let next = command_of(alloc, kept.line, kept.number, count)?;
         count += 1;
-        match lines.push(next) {
-            Ok(()) => {}
-            Err(_) => return Err(ScriptError::Memory),
-        }
+        lines.push(next)?;
     }
     Ok(lines)
 }

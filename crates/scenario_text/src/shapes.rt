@@ -52,10 +52,10 @@ pub(crate) fn text(alloc: Global, place: Place, value: &Value) -> Result<Text, S
     ensures { Gives result (text_at place (view value.now)) }
 {
     match value.as_str() {
-        Some(text) => match String::from_str(alloc, text) {
-            Ok(text) => Ok(Text { text }),
-            Err(_) => Err(ScenarioError::Memory),
-        },
+        Some(text) => {
+            let text = String::from_str(alloc, text)?;
+            Ok(Text { text })
+        }
         None => Err(ScenarioError::Shape { place }),
     }
 }

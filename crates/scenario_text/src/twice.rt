@@ -28,14 +28,11 @@ where
 {
     let mut seen: BTreeSet<K> = BTreeSet::new(alloc);
     for (i, key) in keys.iter().enumerate() {
-        match seen.insert(*key) {
-            Ok(true) => {}
-            Ok(false) => {
-                return Err(ScenarioError::Twice {
-                    place: place.item(i),
-                });
-            }
-            Err(_) => return Err(ScenarioError::Memory),
+        let added = seen.insert(*key)?;
+        if !added {
+            return Err(ScenarioError::Twice {
+                place: place.item(i),
+            });
         }
     }
     Ok(())
@@ -81,19 +78,15 @@ fn announcements_once(
 ) -> Result<(), ScenarioError>
     ensures { Gives result (once_in announcement_cmp place (map announcement_name announcements.now)) }
 {
-    match names(alloc, announcements) {
-        Ok(names) => names_once(alloc, place, &names),
-        Err(_) => Err(ScenarioError::Memory),
-    }
+    let names = names(alloc, announcements)?;
+    names_once(alloc, place, &names)
 }
 
 fn policies_once(alloc: Global, place: Place, policies: &[(Asn, Kind)]) -> Result<(), ScenarioError>
     ensures { Gives result (once_in nat_cmp place (map (λ p. p.0) policies.now)) }
 {
-    match ruled(alloc, policies) {
-        Ok(numbers) => numbers_once(alloc, place, &numbers),
-        Err(_) => Err(ScenarioError::Memory),
-    }
+    let numbers = ruled(alloc, policies)?;
+    numbers_once(alloc, place, &numbers)
 }
 
 struct LeakersOnce;

@@ -32,10 +32,7 @@ pub(crate) fn each<R: Reading>(
     let mut out = Vec::new(alloc);
     for (i, item) in items.iter().enumerate() {
         let next = R::read(alloc, place.item(i), item)?;
-        match out.push(next) {
-            Ok(()) => {}
-            Err(_) => return Err(ScenarioError::Memory),
-        }
+        out.push(next)?;
     }
     Ok(out)
 }

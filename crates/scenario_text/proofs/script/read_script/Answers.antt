@@ -19,8 +19,8 @@ returns-in_err-next c =
 
 pub loop-kept-preserved : goal.loop-kept-preserved
 loop-kept-preserved c = record {
-  so_far = rw c.in-Ok.ensures.ok (keeps_at c.loop-kept.count c.loop-kept.lines _ _ _ c.in_ok-next.next _ c.loop-kept.invariant.count c.in-Some.ensures.some c.in_ok-next.ensures.gives c.loop-kept.invariant.so_far);
-  count = rw c.in-Ok.ensures.ok (omega (arith, length-append c.loop-kept.lines (c.in_ok-next.next ∷ []), c.loop-kept.invariant.count));
+  so_far = rw c.in_ok-push.ensures.ok (keeps_at c.loop-kept.count c.loop-kept.lines _ _ _ c.in_ok-next.next _ c.loop-kept.invariant.count c.in-Some.ensures.some c.in_ok-next.ensures.gives c.loop-kept.invariant.so_far);
+  count = rw c.in_ok-push.ensures.ok (omega (arith, length-append c.loop-kept.lines (c.in_ok-next.next ∷ []), c.loop-kept.invariant.count));
   number = omega (arith, c.loop-kept.invariant.number, c.in-Some.ensures.room);
   few = omega (arith, c.loop-kept.invariant.few, c.in-Some.ensures.later);
 }

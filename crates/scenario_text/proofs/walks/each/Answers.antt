@@ -17,7 +17,7 @@ returns-in_err-next g c =
 pub loop-i-preserved : goal.loop-i-preserved
 loop-i-preserved g c =
     let h = rw (c.index-items-i.is, c.item.ensures) at c.in_ok-next.ensures in
-    rw c.in-Ok.ensures.items (goes_on (λ i. g.R.Reading.gives (item c.args.place i)) c.args.items.now c.loop-i.out.items c.loop-i.i c.index-items-i.result c.in_ok-next.next _ (omega arith) h c.loop-i.invariant)
+    rw c.in_ok-push.ensures.items (goes_on (λ i. g.R.Reading.gives (item c.args.place i)) c.args.items.now c.loop-i.out.items c.loop-i.i c.index-items-i.result c.in_ok-next.next _ (omega arith) h c.loop-i.invariant)
 
 pub returns : goal.returns
 returns g c = ends (λ i. g.R.Reading.gives (item c.args.place i)) c.args.items.now c.loop-i.out.items c.loop-i.i _ (omega arith) c.loop-i.invariant
