@@ -109,10 +109,8 @@ impl Beside {
         ensures same { beside_entries self.new ≡ beside_entries self.old }
     {
         let left = left_for(&self.first, n);
-        match self.others.reserve(left) {
-            Ok(()) => Ok(()),
-            Err(_) => Err(NoMemory),
-        }
+        self.others.reserve(left)?;
+        Ok(())
     }
 
     /// The AS at an index, and what stands at it.

@@ -12,8 +12,7 @@ ghost use Rattle.stability_laws.specs.World.{setting};
 ghost use Rattle.route_choice.specs.Tables.{prefix_of};
 ghost use Rattle.route_choice.specs.Routings.{entry_of, routing_of};
 ghost use Rattle.route_choice.specs.Choices.{is_looked_at, offers_of, state_seen};
-ghost use Rattle.route_choice.specs.Givers.{AreGivers};
-ghost use Rattle.route_choice.specs.Loops.{HasNoLoops};
+ghost use Rattle.route_choice.specs.PrefixWorlds.{AreGiversAt, HasNoLoopsAt};
 ghost use Rattle.route_choice.specs.Resources.{AreLive};
 
 use crate::looks::{held_near, place_at};
@@ -189,8 +188,7 @@ fn look_at<P: RoutePolicy, V: OriginStates>(
     requires linked { relation at.now.graph.now chooser.now.asn neighbour.now.asn ≡ Some neighbour.now.rel }
     requires live { AreLive pool.now at.now.table.now overlay.now }
     requires no_loops { chooser.now.may_loop ≡ false →
-        HasNoLoops chooser.now.part (relation at.now.graph.now) (λ n. P.meaning (policy_at at.now.book.now n))
-        (routing_of pool.now at.now.table.now overlay.now) chooser.now.asn }
+        HasNoLoopsAt P.meaning at.now pool.now overlay.now chooser.now.part chooser.now.asn }
     requires own { chooser.now.own.now ≡ policy_at at.now.book.now chooser.now.asn }
     ensures { best.new.view ≡ better_of (P.meaning (policy_at at.now.book.now chooser.now.asn)) best.old.view
         (option_map (λ o. o.view) (offers_of chooser.now.part
@@ -229,12 +227,10 @@ pub(crate) fn best_view<P: RoutePolicy, V: OriginStates>(
     neighbours: &[Neighbour],
     places: &[u32],
 ) -> Best
-    requires givers { AreGivers turn.part (relation at.now.graph.now) (λ n. P.meaning (policy_at at.now.book.now n))
-        (routing_of pool.now at.now.table.now overlay.now) turn.asn neighbours.now }
+    requires givers { AreGiversAt P.meaning at.now pool.now overlay.now turn.part turn.asn neighbours.now }
     requires live { AreLive pool.now at.now.table.now overlay.now }
     requires no_loops { turn.may_loop ≡ false →
-        HasNoLoops turn.part (relation at.now.graph.now) (λ n. P.meaning (policy_at at.now.book.now n))
-        (routing_of pool.now at.now.table.now overlay.now) turn.asn }
+        HasNoLoopsAt P.meaning at.now pool.now overlay.now turn.part turn.asn }
     ensures { IsBestView (P.meaning (policy_at at.now.book.now turn.asn))
         (λ n. offers_of turn.part (setting P.meaning at.now.graph.now at.now.book.now
         (state_seen reads (V.state_of at.now.states.now (prefix_of at.now.table.now))))

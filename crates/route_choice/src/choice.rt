@@ -1,3 +1,5 @@
+//! What an AS chooses, and among which offers.
+
 use net_names::{Asn, Rel};
 
 /// Which offers a step looks at.

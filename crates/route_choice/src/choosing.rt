@@ -1,13 +1,10 @@
 //! What an AS chooses.
 
 ghost use Rattle.std.specs.Prelude.{◌≡◌, ◌+◌, false};
-ghost use Rattle.as_graph.specs.Topology.{relation};
 ghost use Rattle.stability_laws.specs.Book.{policy_at};
 ghost use Rattle.route_choice.specs.Routings.{routing_of, seeds_of};
-ghost use Rattle.route_choice.specs.PrefixWorlds.{setting_at};
+ghost use Rattle.route_choice.specs.PrefixWorlds.{setting_at, AreGiversAt, HasNoLoopsAt};
 ghost use Rattle.route_choice.specs.Choices.{offers_of, IsChoice};
-ghost use Rattle.route_choice.specs.Givers.{AreGivers};
-ghost use Rattle.route_choice.specs.Loops.{HasNoLoops};
 ghost use Rattle.route_choice.specs.Resources.{AreLive};
 
 use crate::best::{Best, best_view};
@@ -30,11 +27,9 @@ pub(crate) fn evaluate_among<P: RoutePolicy, V: OriginStates, L: Ledger>(
     steps: &mut Steps<L>,
 ) -> ChoiceNear
     requires live { AreLive pool.now at.now.table.now overlay.now }
-    requires givers { AreGivers turn.part (relation at.now.graph.now) (λ n. P.meaning (policy_at at.now.book.now n))
-        (routing_of pool.now at.now.table.now overlay.now) turn.asn neighbours.now }
+    requires givers { AreGiversAt P.meaning at.now pool.now overlay.now turn.part turn.asn neighbours.now }
     requires no_loops { turn.may_loop ≡ false →
-        HasNoLoops turn.part (relation at.now.graph.now) (λ n. P.meaning (policy_at at.now.book.now n))
-        (routing_of pool.now at.now.table.now overlay.now) turn.asn }
+        HasNoLoopsAt P.meaning at.now pool.now overlay.now turn.part turn.asn }
     ensures choice { IsChoice (P.meaning (policy_at at.now.book.now turn.asn))
         (seeds_of pool.now at.now.seeds.now turn.asn)
         (λ n. offers_of turn.part (setting_at P.meaning V.state_of at.now)
@@ -77,8 +72,7 @@ pub fn evaluate_near<P: RoutePolicy, V: OriginStates, L: Ledger>(
 ) -> ChoiceNear
     requires live { AreLive pool.now at.now.table.now overlay.now }
     requires no_loops { turn.may_loop ≡ false →
-        HasNoLoops turn.part (relation at.now.graph.now) (λ n. P.meaning (policy_at at.now.book.now n))
-        (routing_of pool.now at.now.table.now overlay.now) turn.asn }
+        HasNoLoopsAt P.meaning at.now pool.now overlay.now turn.part turn.asn }
     ensures choice { IsChoice (P.meaning (policy_at at.now.book.now turn.asn))
         (seeds_of pool.now at.now.seeds.now turn.asn)
         (λ n. offers_of turn.part (setting_at P.meaning V.state_of at.now)

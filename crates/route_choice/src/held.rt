@@ -1,3 +1,5 @@
+//! Entries and seeds whose paths stand in a pool.
+
 use net_names::{Asn, Class};
 use path_pool::PathId;
 

@@ -58,10 +58,8 @@ impl RoundTables {
         ensures by_prefix { OnOk result (AreByPrefix self.old → AreByPrefix self.new) }
         ensures err { OnErr result (SameTables self.old self.new) }
     {
-        match self.tables.insert(table.prefix(), table) {
-            Ok(_) => Ok(()),
-            Err(_) => Err(NoMemory),
-        }
+        self.tables.insert(table.prefix(), table)?;
+        Ok(())
     }
 
     /// The table of a prefix, if there is one.

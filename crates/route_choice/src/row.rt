@@ -19,18 +19,12 @@ pub(crate) fn rows_of(alloc: Global, ases: &[Asn]) -> Result<Vec<Row>, NoMemory>
     ensures { IfOk result (λ v. v.items ≡ empty_rows ases.now) }
 {
     let mut rows = Vec::new(alloc);
-    if rows.reserve(ases.len()).is_err() {
-        return Err(NoMemory);
-    }
+    rows.reserve(ases.len())?;
     for asn in ases {
-        let row = Row {
+        rows.push(Row {
             asn: *asn,
             slot: Slot::Empty,
-        };
-        match rows.push(row) {
-            Ok(()) => {}
-            Err(_) => return Err(NoMemory),
-        }
+        })?;
     }
     Ok(rows)
 }

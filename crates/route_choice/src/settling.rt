@@ -1,14 +1,12 @@
 //! The entry that a choice names, put in place.
 
-ghost use Rattle.std.specs.Prelude.{◌≡◌, ◌≢◌, ◌↔◌, ℕ, ◌+◌, ◌<◌, ◌≤◌, IsTrue, IsSome, IsSomeAnd, Some, None, false, option_map, suc, unwrap_or, ◌∷◌};
+ghost use Rattle.std.specs.Prelude.{◌≡◌, ◌≢◌, ◌↔◌, ℕ, ◌<◌, ◌≤◌, IsTrue, IsSome, IsSomeAnd, Some, None, false, option_map, suc, unwrap_or, ◌∷◌};
 ghost use Rattle.route_choice.specs.declared.held.Held.{Held as AHeld};
 ghost use Rattle.path_pool.specs.declared.pool.PathPool.{PathPool as APool};
-ghost use Rattle.path_pool.specs.Pool.{IsLive, list_of, holds_of, count_of, live_count, spare_of, limit_of};
-ghost use Rattle.stability_laws.specs.Book.{policy_at};
-ghost use Rattle.route_choice.specs.Slots.{use_of};
+ghost use Rattle.path_pool.specs.Pool.{IsLive, list_of, holds_of, count_of, live_count, spare_of};
 ghost use Rattle.route_choice.specs.Tables.{change_at, overlay_uses, HasPlace};
-ghost use Rattle.route_choice.specs.Routings.{entry_of, routing_of, seeds_of};
-ghost use Rattle.route_choice.specs.Choices.{named_by};
+ghost use Rattle.route_choice.specs.Routings.{entry_of, routing_of};
+ghost use Rattle.route_choice.specs.PrefixWorlds.{named_at};
 ghost use Rattle.route_choice.specs.Named.{wanted_entry, IsWantedLive, IsLonger, Takes};
 ghost use Rattle.route_choice.specs.Resources.{AreLive, AreSeedsLive, CanChange, IsNameable, IsVia, Spends, GivesUpNothing, Keeps};
 
@@ -31,17 +29,17 @@ pub(crate) enum Wanted {
     Longer(Held),
 }
 
-// The entry that the choice names. The place where the neighbour may stand is a hint.
+// The entry that the choice of an AS names. The places where the AS and the neighbour may stand are hints.
 fn wanted_by<P: RoutePolicy, V>(
     at: &PrefixWorld<'_, P, V>,
     overlay: &Overlay,
     asn: Asn,
+    place: usize,
     choice: Choice,
     from: usize,
 ) -> Wanted
     ensures entry { (p : APool) → wanted_entry p asn result
-        ≡ named_by (λ n. P.meaning (policy_at at.now.book.now n)) (seeds_of p at.now.seeds.now asn)
-        (routing_of p at.now.table.now overlay.now) asn choice }
+        ≡ named_at P.meaning at.now p overlay.now asn choice }
     ensures live { (p : APool) → AreLive p at.now.table.now overlay.now → AreSeedsLive p at.now.seeds.now →
         IsWantedLive p result }
     ensures via { IsLonger result → IsVia choice }
@@ -59,7 +57,7 @@ fn wanted_by<P: RoutePolicy, V>(
         Choice::Via { neighbour, rel } => match held_near(at.table, overlay, neighbour, from) {
             Some(given) => {
                 let sender = at.book.policy_near(neighbour, from);
-                let receiver = at.book.policy(asn);
+                let receiver = at.book.policy_near(asn, place);
                 Wanted::Longer(Held {
                     class: class_from(rel),
                     path: given.path,
@@ -190,8 +188,7 @@ pub fn settle_near<P: RoutePolicy, V>(
     requires pool { CanChange pool.old at.now.seeds.now at.now.table.now overlay.old 1 }
     requires room { HasPlace overlay.old asn }
     ensures named { routing_of pool.new at.now.table.now overlay.new asn
-        ≡ named_by (λ n. P.meaning (policy_at at.now.book.now n)) (seeds_of pool.old at.now.seeds.now asn)
-        (routing_of pool.old at.now.table.now overlay.old) asn chosen.choice }
+        ≡ named_at P.meaning at.now pool.old overlay.old asn chosen.choice }
     ensures others { (n : ℕ) → n ≢ asn → routing_of pool.new at.now.table.now overlay.new n
         ≡ routing_of pool.old at.now.table.now overlay.old n }
     ensures changed { IsTrue result ↔ (routing_of pool.new at.now.table.now overlay.new asn
@@ -205,7 +202,7 @@ pub fn settle_near<P: RoutePolicy, V>(
     ensures kept { GivesUpNothing overlay.old (routing_of pool.old at.now.table.now overlay.old)
         (routing_of pool.new at.now.table.now overlay.new) asn → Keeps pool.old pool.new at.now.seeds.now }
 {
-    let wanted = wanted_by(at, overlay, asn, chosen.choice, chosen.place);
+    let wanted = wanted_by(at, overlay, asn, place, chosen.choice, chosen.place);
     let have = held_near(at.table, overlay, asn, place);
     if is_held(pool, asn, &have, &wanted) {
         return false;
@@ -229,8 +226,7 @@ pub fn settle<P: RoutePolicy, V>(
     requires pool { CanChange pool.old at.now.seeds.now at.now.table.now overlay.old 1 }
     requires room { HasPlace overlay.old asn }
     ensures named { routing_of pool.new at.now.table.now overlay.new asn
-        ≡ named_by (λ n. P.meaning (policy_at at.now.book.now n)) (seeds_of pool.old at.now.seeds.now asn)
-        (routing_of pool.old at.now.table.now overlay.old) asn choice }
+        ≡ named_at P.meaning at.now pool.old overlay.old asn choice }
     ensures others { (n : ℕ) → n ≢ asn → routing_of pool.new at.now.table.now overlay.new n
         ≡ routing_of pool.old at.now.table.now overlay.old n }
     ensures changed { IsTrue result ↔ (routing_of pool.new at.now.table.now overlay.new asn

@@ -89,9 +89,7 @@ impl Slots {
     pub(crate) fn blank(alloc: Global, ases: &Rc<AsPlaces>, more: usize) -> Result<Slots, NoMemory>
         ensures { IfOk result (IsBlank ases.now.value.ases more) }
     {
-        let Ok(shared) = ases.clone() else {
-            return Err(NoMemory);
-        };
+        let shared = ases.clone()?;
         let rows = rows_of(alloc, ases.as_slice())?;
         let beside = Beside::with_room(alloc, more)?;
         Ok(Slots {

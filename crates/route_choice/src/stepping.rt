@@ -1,16 +1,11 @@
 //! One step of an AS.
 
-ghost use Rattle.std.specs.Prelude.{◌≡◌, ◌≢◌, ◌↔◌, ℕ, suc, ◌+◌, ◌<◌, IsTrue, IsSome, false};
+ghost use Rattle.std.specs.Prelude.{◌≡◌, ℕ, suc, ◌+◌, ◌<◌, IsSome, false};
 ghost use Rattle.path_pool.specs.Pool.{live_count};
-ghost use Rattle.as_graph.specs.Topology.{relation};
-ghost use Rattle.stability_laws.specs.Book.{policy_at};
-ghost use Rattle.route_choice.specs.Tables.{change_at};
-ghost use Rattle.route_choice.specs.Routings.{routing_of, seeds_of};
-ghost use Rattle.route_choice.specs.PrefixWorlds.{setting_at};
-ghost use Rattle.route_choice.specs.Choices.{IsStepOf};
-ghost use Rattle.route_choice.specs.Givers.{AreGivers};
-ghost use Rattle.route_choice.specs.Loops.{HasNoLoops};
-ghost use Rattle.route_choice.specs.Resources.{AreSeedsLive, CanStep, Spends, GivesUpNothing, Keeps};
+ghost use Rattle.route_choice.specs.Routings.{routing_of};
+ghost use Rattle.route_choice.specs.PrefixWorlds.{setting_at, AreGiversAt, HasNoLoopsAt};
+ghost use Rattle.route_choice.specs.Resources.{AreSeedsLive, CanStep};
+ghost use Rattle.route_choice.specs.Visits.{IsVisit};
 
 use crate::choosing::evaluate_among;
 use crate::settling::settle_near;
@@ -32,23 +27,14 @@ pub fn visit<P: RoutePolicy, V: OriginStates, L: Ledger>(
 ) -> bool
     requires can { CanStep pool.old at.now.seeds.now at.now.table.now overlay.old 1 }
     requires no_loops { turn.may_loop ≡ false →
-        HasNoLoops turn.part (relation at.now.graph.now) (λ n. P.meaning (policy_at at.now.book.now n))
-        (routing_of pool.old at.now.table.now overlay.old) turn.asn }
+        HasNoLoopsAt P.meaning at.now pool.old overlay.old turn.part turn.asn }
     ensures cost { steps.new ≡ steps.old + 1 }
-    ensures step { IsStepOf turn.part (setting_at P.meaning V.state_of at.now) (seeds_of pool.old at.now.seeds.now)
-        (routing_of pool.old at.now.table.now overlay.old) turn.asn
-        (routing_of pool.new at.now.table.now overlay.new) }
-    ensures changed { IsTrue result ↔ (routing_of pool.new at.now.table.now overlay.new turn.asn
-        ≢ routing_of pool.old at.now.table.now overlay.old turn.asn) }
-    ensures unchanged { result ≡ false → (pool.new ≡ pool.old) × (overlay.new ≡ overlay.old) }
-    ensures put { IsTrue result → IsSome (change_at overlay.new turn.asn) }
-    ensures spent { Spends pool.old pool.new overlay.old overlay.new turn.asn }
+    ensures visit { IsVisit turn.part (setting_at P.meaning V.state_of at.now) at.now.seeds.now at.now.table.now
+        pool.old pool.new overlay.old overlay.new turn.asn result }
     ensures live { live_count pool.old < live_count pool.new →
         IsSome (routing_of pool.new at.now.table.now overlay.new turn.asn) }
     ensures next { (n : ℕ) → CanStep pool.old at.now.seeds.now at.now.table.now overlay.old (suc n) →
         AreSeedsLive pool.new at.now.seeds.now → CanStep pool.new at.now.seeds.now at.now.table.now overlay.new n }
-    ensures kept { GivesUpNothing overlay.old (routing_of pool.old at.now.table.now overlay.old)
-        (routing_of pool.new at.now.table.now overlay.new) turn.asn → Keeps pool.old pool.new at.now.seeds.now }
 {
     let neighbours = at.graph.neighbours_near(turn.asn, turn.place);
     let places = at.graph.neighbour_places(turn.place);
@@ -68,26 +54,16 @@ pub fn visit_among<P: RoutePolicy, V: OriginStates, L: Ledger>(
     steps: &mut Steps<L>,
 ) -> bool
     requires can { CanStep pool.old at.now.seeds.now at.now.table.now overlay.old 1 }
-    requires givers { AreGivers turn.part (relation at.now.graph.now) (λ n. P.meaning (policy_at at.now.book.now n))
-        (routing_of pool.old at.now.table.now overlay.old) turn.asn neighbours.now }
+    requires givers { AreGiversAt P.meaning at.now pool.old overlay.old turn.part turn.asn neighbours.now }
     requires no_loops { turn.may_loop ≡ false →
-        HasNoLoops turn.part (relation at.now.graph.now) (λ n. P.meaning (policy_at at.now.book.now n))
-        (routing_of pool.old at.now.table.now overlay.old) turn.asn }
+        HasNoLoopsAt P.meaning at.now pool.old overlay.old turn.part turn.asn }
     ensures cost { steps.new ≡ steps.old + 1 }
-    ensures step { IsStepOf turn.part (setting_at P.meaning V.state_of at.now) (seeds_of pool.old at.now.seeds.now)
-        (routing_of pool.old at.now.table.now overlay.old) turn.asn
-        (routing_of pool.new at.now.table.now overlay.new) }
-    ensures changed { IsTrue result ↔ (routing_of pool.new at.now.table.now overlay.new turn.asn
-        ≢ routing_of pool.old at.now.table.now overlay.old turn.asn) }
-    ensures unchanged { result ≡ false → (pool.new ≡ pool.old) × (overlay.new ≡ overlay.old) }
-    ensures put { IsTrue result → IsSome (change_at overlay.new turn.asn) }
-    ensures spent { Spends pool.old pool.new overlay.old overlay.new turn.asn }
+    ensures visit { IsVisit turn.part (setting_at P.meaning V.state_of at.now) at.now.seeds.now at.now.table.now
+        pool.old pool.new overlay.old overlay.new turn.asn result }
     ensures live { live_count pool.old < live_count pool.new →
         IsSome (routing_of pool.new at.now.table.now overlay.new turn.asn) }
     ensures next { (n : ℕ) → CanStep pool.old at.now.seeds.now at.now.table.now overlay.old (suc n) →
         AreSeedsLive pool.new at.now.seeds.now → CanStep pool.new at.now.seeds.now at.now.table.now overlay.new n }
-    ensures kept { GivesUpNothing overlay.old (routing_of pool.old at.now.table.now overlay.old)
-        (routing_of pool.new at.now.table.now overlay.new) turn.asn → Keeps pool.old pool.new at.now.seeds.now }
 {
     let Turn { asn, place, .. } = turn;
     let chosen = evaluate_among(at, pool, overlay, turn, neighbours, places, steps);

@@ -5,8 +5,8 @@ ghost use Rattle.std.specs.Prelude.{◌≡◌, ◌+◌, ◌<◌};
 use std::marker::Model;
 use std::sync::ledger::{Blank, Book, Ledger, Share};
 
-/// How many steps were taken. Contracts see the number; only [`evaluate`](crate::evaluate) adds to
-/// it, one for each call.
+/// How many steps were taken. Contracts see the number. Each choice of an AS adds one, as
+/// [`evaluate_near`](crate::evaluate_near) makes it; nothing else does.
 #[derive(Drop)]
 pub struct Steps<L: Ledger> {
     book: Book<L>,

@@ -1,5 +1,16 @@
+//! Which step an AS makes, and where it stands.
+
 use crate::Part;
 use net_names::Asn;
+
+/// An AS with a place.
+#[derive(Clone, Copy)]
+pub struct PlacedAs {
+    /// The AS.
+    pub asn: Asn,
+    /// The place.
+    pub place: usize,
+}
 
 /// Which step is made.
 #[derive(Clone, Copy)]

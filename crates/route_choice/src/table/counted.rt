@@ -10,5 +10,6 @@ use super::Table;
 pub fn uses_are_counted(table: &Table)
     ensures { (k : ℕ) → AreUsesCounted table.now k }
 {
+    // `len` is called for its clause that no AS stands twice, which the proof cites.
     let _count = table.slots.len();
 }

@@ -1,6 +1,8 @@
-use Rattle.std.proofs.Common.{arith}
+use Rattle.std.proofs.Common.{◌≡◌, true, false, arith}
 use Rattle.indexmap.specs.IndexMap.{spare}
 use Rattle.route_choice.proofs.first.Beside.room.Goals as goal
 
-pub returns-in-Err-clause-succeeds : goal.returns-in-Err-clause-succeeds
-returns-in-Err-clause-succeeds c = λ fits. c.in-Err.ensures.succeeds (c.left_for-left.ensures.least (spare c.args.self.now.others) (omega (arith, fits)))
+pub returns-in_err-reserve-clause-succeeds : goal.returns-in_err-reserve-clause-succeeds
+returns-in_err-reserve-clause-succeeds c = λ fits.
+    let done : false ≡ true = c.in_err-reserve.ensures.succeeds (c.left_for-left.ensures.least (spare c.args.self.now.others) (omega (arith, fits))) in
+    cc

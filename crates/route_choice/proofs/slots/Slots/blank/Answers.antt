@@ -7,10 +7,10 @@ use Rattle.route_choice.proofs.slots.Slots.blank.Goals as goal
 
 pub invariant_of-result : goal.invariant_of-result
 invariant_of-result c =
-    let same = c.deref.ensures ∙ sym c.in-Ok.ensures.cases in
+    let same = c.deref.ensures ∙ sym c.in_ok-shared.ensures.cases in
     let list = c.as_slice.ensures.list ∙ ap (λ (p : PlacedAses). p.ases) same in
     let apart = subst (λ (p : PlacedAses). IsDistinct nat_eq p.ases) same c.as_slice.ensures.apart in
-    blank_kept c.in-Ok.shared.value.ases (c.in_ok-rows.ensures ∙ ap (λ l. empty_rows l) list) c.in_ok-beside.ensures.none apart
+    blank_kept c.in_ok-shared.shared.value.ases (c.in_ok-rows.ensures ∙ ap (λ l. empty_rows l) list) c.in_ok-beside.ensures.none apart
 
 pub returns : goal.returns
 returns c =
