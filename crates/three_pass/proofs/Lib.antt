@@ -1,4 +1,5 @@
 pub mod NoLoops
+pub mod ByRank
 pub mod InOrder
 pub mod Counts
 pub mod Spending

@@ -120,9 +120,7 @@ fn providers_of(
 
 // For each row the place in the order of the AS that has it, where these are the rows in the order.
 fn places_by_row(alloc: Global, count: usize, rows: &[u32]) -> Result<Vec<u32>, NoMemory> {
-    let Ok(mut places) = Vec::from_elem(alloc, 0u32, count) else {
-        return Err(NoMemory);
-    };
+    let mut places = Vec::from_elem(alloc, 0u32, count)?;
     for (place, row) in rows.iter().enumerate() {
         if let Some(kept) = places.get_mut(*row as usize) {
             *kept = u32::try_from(place).unwrap_or(0);
@@ -137,10 +135,8 @@ fn shared(alloc: Global, ases: &[Asn]) -> Result<Rc<AsPlaces>, NoMemory>
     ensures { IfOk result (λ r. r.value.ases ≡ ases.now) }
 {
     let places = AsPlaces::of(alloc, ases)?;
-    match Rc::new(alloc, places) {
-        Ok(list) => Ok(list),
-        Err(_) => Err(NoMemory),
-    }
+    let list = Rc::new(alloc, places)?;
+    Ok(list)
 }
 
 impl Course {

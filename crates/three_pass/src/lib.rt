@@ -1,5 +1,5 @@
-//! The stable routing of a prefix: the routes of customers, of peers and of providers, which are the three
-//! of the name, by two passes over the ASes in an order by rank.
+//! The stable routing of a prefix, as three passes find it: of customers' routes, of peers' and of providers'. The
+//! last two go as one here, so that two passes are made over the ASes, in an order by rank.
 //!
 //! Upwards each AS takes its seed or the best of its customers' offers. Then, from the top down, each
 //! takes its seed or the best of all offers: peers' routes go across and providers' routes down.

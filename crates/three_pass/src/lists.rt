@@ -6,7 +6,7 @@ ghost use Rattle.three_pass.specs.Starts.{AreStarts};
 use crate::looks::Looks;
 use as_graph::Neighbour;
 use net_names::NoMemory;
-use std::alloc::{AllocError, Global};
+use std::alloc::Global;
 
 /// Lists of providers: each begins where the one before it ends.
 #[derive(Drop)]
@@ -25,14 +25,12 @@ impl ProviderLists {
     pub fn none(alloc: Global) -> Result<ProviderLists, NoMemory>
         ensures { IfOk result (λ l. count_of l ≡ 0) }
     {
-        match Vec::from_elem(alloc, 0, 1) {
-            Ok(starts) => Ok(ProviderLists {
-                starts,
-                items: Vec::new(alloc),
-                places: Vec::new(alloc),
-            }),
-            Err(_) => Err(NoMemory),
-        }
+        let starts = Vec::from_elem(alloc, 0, 1)?;
+        Ok(ProviderLists {
+            starts,
+            items: Vec::new(alloc),
+            places: Vec::new(alloc),
+        })
     }
 
     /// The list at a place.
@@ -66,8 +64,8 @@ impl ProviderLists {
         }
     }
 
-    // One more list, behind the others, which stay.
-    fn push_list(&mut self, list: &Looks) -> Result<(), AllocError>
+    /// Puts one more list behind the others, which stay.
+    pub fn push(&mut self, list: &Looks) -> Result<(), NoMemory>
         ensures count { OnOk result (count_of self.new ≡ count_of self.old + 1) }
         ensures others { OnOk result ((k : ℕ) → k < count_of self.old → list_at self.new k ≡ list_at self.old k) }
         ensures this { OnOk result (list_at self.new (count_of self.old) ≡ list.now.neighbours.items) }
@@ -78,18 +76,6 @@ impl ProviderLists {
         match self.starts.push(self.items.len()) {
             Ok(()) => Ok(()),
             Err(_) => unreachable!(),
-        }
-    }
-
-    /// Puts one more list behind the others, which stay.
-    pub fn push(&mut self, list: &Looks) -> Result<(), NoMemory>
-        ensures count { OnOk result (count_of self.new ≡ count_of self.old + 1) }
-        ensures others { OnOk result ((k : ℕ) → k < count_of self.old → list_at self.new k ≡ list_at self.old k) }
-        ensures this { OnOk result (list_at self.new (count_of self.old) ≡ list.now.neighbours.items) }
-    {
-        match self.push_list(list) {
-            Ok(()) => Ok(()),
-            Err(_) => Err(NoMemory),
         }
     }
 }

@@ -4,7 +4,6 @@ use crate::asn_set::AsnSet;
 use crate::course::Course;
 use crate::looks::Looks;
 use crate::told::Told;
-use net_names::Asn;
 
 /// What a pass goes along, and what is known of its seeds.
 #[derive(Drop)]
@@ -22,13 +21,4 @@ pub struct Gathered<'a> {
     pub told: Told<'a>,
     /// The neighbours at which one step looks, and what is met ahead of the steps.
     pub looks: Looks,
-}
-
-/// An AS, and its place in the order.
-#[derive(Clone, Copy)]
-pub struct PlacedAs {
-    /// The AS.
-    pub asn: Asn,
-    /// The place.
-    pub place: usize,
 }

@@ -1,20 +1,19 @@
 //! The two passes along a course. The rows and places of ASes are hints.
 
-ghost use Rattle.std.specs.Prelude.{◌≡◌, ◌≢◌, ◌↔◌, ℕ, IsTrue, IsSome, true, false, Some, None, length, slice_index, ◌<◌, ◌≤◌, ◌+◌, Option, All};
+ghost use Rattle.std.specs.Prelude.{◌≡◌, ◌≢◌, ℕ, true, false, Some, None, length, slice_index, ◌<◌, ◌≤◌, ◌+◌, Option, All};
 ghost use Rattle.net_names.specs.Numbers.{occurs};
 ghost use Rattle.net_names.specs.declared.routes.Rel.{Rel as ARel};
 ghost use Rattle.net_names.specs.declared.routes.Rel.TheVariants.{Customer};
 ghost use Rattle.as_graph.specs.Topology.{relation};
 ghost use Rattle.as_graph.specs.Hierarchy.{HasNoProviderCycle};
 ghost use Rattle.as_graph.specs.Neighbours.{asns};
-ghost use Rattle.stability_laws.specs.Book.{policy_at};
 ghost use Rattle.stability_laws.specs.Stable.{IsStable};
-ghost use Rattle.route_choice.specs.Tables.{change_at, joined, seed_at};
-ghost use Rattle.route_choice.specs.PrefixWorlds.{setting_at};
+ghost use Rattle.route_choice.specs.Tables.{joined, seed_at};
+ghost use Rattle.route_choice.specs.PrefixWorlds.{setting_at, HasNoLoopsAt};
 ghost use Rattle.route_choice.specs.Choices.{IsStepOf};
-ghost use Rattle.route_choice.specs.Loops.{HasNoLoops};
 ghost use Rattle.route_choice.specs.Routings.{routing_of, seeds_of};
-ghost use Rattle.route_choice.specs.Resources.{CanStep, Spends, GivesUpNothing, Keeps};
+ghost use Rattle.route_choice.specs.Resources.{CanStep};
+ghost use Rattle.route_choice.specs.Visits.{IsVisit};
 ghost use Rattle.three_pass.specs.AsnSets.{is_among};
 ghost use Rattle.three_pass.specs.Courses.{IsCourse};
 ghost use Rattle.three_pass.specs.Lists.{AreProviders, count_of, list_at};
@@ -28,12 +27,12 @@ use crate::ahead::look_ahead;
 use crate::asn_set::AsnSet;
 use crate::course::{Course, place_at};
 use crate::looks::Looks;
-use crate::pass::{Gathered, Pass, PlacedAs};
+use crate::pass::{Gathered, Pass};
 use crate::told::{Told, holds};
 use net_names::Asn;
 use path_pool::PathPool;
 use policy_laws::{OriginStates, RoutePolicy};
-use route_choice::{Overlay, Part, PrefixWorld, Steps, Turn, visit, visit_among};
+use route_choice::{Overlay, Part, PlacedAs, PrefixWorld, Steps, Turn, visit, visit_among};
 use std::sync::ledger::Ledger;
 
 // Whether an AS has no seed, and no customer and no peer of it told it that it holds something.
@@ -77,20 +76,11 @@ fn step<P: RoutePolicy, V: OriginStates, L: Ledger>(
     requires told { HaveTold (IsTold gathered.old.told) (setting_at P.meaning V.state_of at.now)
         (routing_of pool.old at.now.table.now overlay.old) turn.asn }
     requires no_loops { turn.may_loop ≡ false →
-        HasNoLoops turn.part (relation at.now.graph.now) (λ n. P.meaning (policy_at at.now.book.now n))
-        (routing_of pool.old at.now.table.now overlay.old) turn.asn }
+        HasNoLoopsAt P.meaning at.now pool.old overlay.old turn.part turn.asn }
     ensures cost { steps.new ≡ steps.old + 1 }
-    ensures step { IsStepOf turn.part (setting_at P.meaning V.state_of at.now) (seeds_of pool.old at.now.seeds.now)
-        (routing_of pool.old at.now.table.now overlay.old) turn.asn
-        (routing_of pool.new at.now.table.now overlay.new) }
-    ensures changed { IsTrue result ↔ (routing_of pool.new at.now.table.now overlay.new turn.asn
-        ≢ routing_of pool.old at.now.table.now overlay.old turn.asn) }
-    ensures unchanged { result ≡ false → (pool.new ≡ pool.old) × (overlay.new ≡ overlay.old) }
-    ensures put { IsTrue result → IsSome (change_at overlay.new turn.asn) }
+    ensures visit { IsVisit turn.part (setting_at P.meaning V.state_of at.now) at.now.seeds.now at.now.table.now
+        pool.old pool.new overlay.old overlay.new turn.asn result }
     ensures told { gathered.new.told ≡ gathered.old.told }
-    ensures spent { Spends pool.old pool.new overlay.old overlay.new turn.asn }
-    ensures kept { GivesUpNothing overlay.old (routing_of pool.old at.now.table.now overlay.old)
-        (routing_of pool.new at.now.table.now overlay.new) turn.asn → Keeps pool.old pool.new at.now.seeds.now }
 {
     let told = &gathered.told;
     let looks = &mut gathered.looks;
@@ -118,37 +108,33 @@ fn step_up<P: RoutePolicy, V: OriginStates, L: Ledger>(
     gathered: &mut Gathered<'_>,
     pool: &mut PathPool,
     overlay: &mut Overlay,
-    place: usize,
+    placed: PlacedAs,
     steps: &mut Steps<L>,
 )
     requires course { IsCourse at.now.graph.now pass.now.course.now }
-    requires inside { place < length pass.now.course.now.order.ases.items }
-    requires nothing { routing_of pool.old at.now.table.now overlay.old
-        (slice_index pass.now.course.now.order.ases.items place) ≡ None }
-    requires unnamed { is_among pass.now.named (slice_index pass.now.course.now.order.ases.items place) ≡ false →
-        seed_at at.now.seeds.now (slice_index pass.now.course.now.order.ases.items place) ≡ None }
+    requires inside { placed.place < length pass.now.course.now.order.ases.items }
+    requires there { slice_index pass.now.course.now.order.ases.items placed.place ≡ placed.asn }
+    requires nothing { routing_of pool.old at.now.table.now overlay.old placed.asn ≡ None }
+    requires unnamed { is_among pass.now.named placed.asn ≡ false → seed_at at.now.seeds.now placed.asn ≡ None }
     requires true_notes { AreTrue (relation at.now.graph.now) gathered.old.told }
     requires told { HaveTold (IsTold gathered.old.told) (setting_at P.meaning V.state_of at.now)
-        (routing_of pool.old at.now.table.now overlay.old) (slice_index pass.now.course.now.order.ases.items place) }
-    requires no_loops { is_among pass.now.named (slice_index pass.now.course.now.order.ases.items place) ≡ false →
-        HasNoLoops Part.Up (relation at.now.graph.now) (λ n. P.meaning (policy_at at.now.book.now n))
-        (routing_of pool.old at.now.table.now overlay.old) (slice_index pass.now.course.now.order.ases.items place) }
+        (routing_of pool.old at.now.table.now overlay.old) placed.asn }
+    requires no_loops { is_among pass.now.named placed.asn ≡ false →
+        HasNoLoopsAt P.meaning at.now pool.old overlay.old Part.Up placed.asn }
     requires room { CanGo pool.old at.now.seeds.now at.now.table.now overlay.old pass.now.course.now.order.ases.items }
     ensures cost { steps.new ≤ steps.old + 1 }
     ensures step { IsStepOf Part.Up (setting_at P.meaning V.state_of at.now) (seeds_of pool.old at.now.seeds.now)
-        (routing_of pool.old at.now.table.now overlay.old) (slice_index pass.now.course.now.order.ases.items place)
+        (routing_of pool.old at.now.table.now overlay.old) placed.asn
         (routing_of pool.new at.now.table.now overlay.new) }
-    ensures around { routing_of pool.new at.now.table.now overlay.new
-        (slice_index pass.now.course.now.order.ases.items place) ≢ None → (n : ℕ) (r : ARel) →
-        relation at.now.graph.now (slice_index pass.now.course.now.order.ases.items place) n ≡ Some r → r ≢ Customer →
-        IsTold gathered.new.told n (slice_index pass.now.course.now.order.ases.items place) }
+    ensures around { routing_of pool.new at.now.table.now overlay.new placed.asn ≢ None → (n : ℕ) (r : ARel) →
+        relation at.now.graph.now placed.asn n ≡ Some r → r ≢ Customer → IsTold gathered.new.told n placed.asn }
     ensures others { (a b : ℕ) → IsTold gathered.old.told a b → IsTold gathered.new.told a b }
     ensures true_notes { AreTrue (relation at.now.graph.now) gathered.new.told }
     ensures room { CanGo pool.new at.now.seeds.now at.now.table.now overlay.new pass.now.course.now.order.ases.items }
     ensures spent { HasSpent pool.old pool.new at.now.seeds.now at.now.table.now overlay.old overlay.new
         pass.now.course.now.order.ases.items }
 {
-    let asn = pass.course.order.ases[place];
+    let PlacedAs { asn, place } = placed;
     if has_none_to_take(&gathered.told, &pass.named, asn, place) {
         return;
     }
@@ -194,7 +180,9 @@ pub fn go_up<P: RoutePolicy, V: OriginStates, L: Ledger>(
         pass.now.course.now.order.ases.items }
 {
     for place in 0..pass.course.order.ases.len() {
-        step_up(at, pass, gathered, pool, overlay, place, steps);
+        let asn = pass.course.order.ases[place];
+        let next = PlacedAs { asn, place };
+        step_up(at, pass, gathered, pool, overlay, next, steps);
     }
 }
 
@@ -221,20 +209,11 @@ fn step_down<P: RoutePolicy, V: OriginStates, L: Ledger>(
         (routing_of pool.old at.now.table.now overlay.old) placed.asn }
     requires no_loops { routing_of pool.old at.now.table.now overlay.old placed.asn ≡ None →
         is_among pass.now.named placed.asn ≡ false →
-        HasNoLoops Part.Whole (relation at.now.graph.now) (λ n. P.meaning (policy_at at.now.book.now n))
-        (routing_of pool.old at.now.table.now overlay.old) placed.asn }
+        HasNoLoopsAt P.meaning at.now pool.old overlay.old Part.Whole placed.asn }
     ensures cost { steps.new ≤ steps.old + 1 }
-    ensures step { IsStepOf Part.Whole (setting_at P.meaning V.state_of at.now) (seeds_of pool.old at.now.seeds.now)
-        (routing_of pool.old at.now.table.now overlay.old) placed.asn
-        (routing_of pool.new at.now.table.now overlay.new) }
-    ensures changed { IsTrue result ↔ (routing_of pool.new at.now.table.now overlay.new placed.asn
-        ≢ routing_of pool.old at.now.table.now overlay.old placed.asn) }
-    ensures unchanged { result ≡ false → (pool.new ≡ pool.old) × (overlay.new ≡ overlay.old) }
-    ensures put { IsTrue result → IsSome (change_at overlay.new placed.asn) }
+    ensures visit { IsVisit Part.Whole (setting_at P.meaning V.state_of at.now) at.now.seeds.now at.now.table.now
+        pool.old pool.new overlay.old overlay.new placed.asn result }
     ensures told { gathered.new.told ≡ gathered.old.told }
-    ensures spent { Spends pool.old pool.new overlay.old overlay.new placed.asn }
-    ensures kept { GivesUpNothing overlay.old (routing_of pool.old at.now.table.now overlay.old)
-        (routing_of pool.new at.now.table.now overlay.new) placed.asn → Keeps pool.old pool.new at.now.seeds.now }
 {
     if holds(at.table, overlay, placed.asn, placed.place) {
         return false;

@@ -58,16 +58,14 @@ impl<'a> Told<'a> {
         ensures none { IfOk result (λ t. (a b : ℕ) → ¬ IsTold t a b) }
         ensures sound { IfOk result (λ t. (w : ℕ → ℕ → Option ARel) → AreTrue w t) }
     {
-        match Vec::from_elem(alloc, 0u32, order.len()) {
-            Ok(last) => Ok(Told {
-                order,
-                places,
-                last,
-                notes: Vec::new(alloc),
-                all: false,
-            }),
-            Err(_) => Err(NoMemory),
-        }
+        let last = Vec::from_elem(alloc, 0u32, order.len())?;
+        Ok(Told {
+            order,
+            places,
+            last,
+            notes: Vec::new(alloc),
+            all: false,
+        })
     }
 
     /// Whether an AS, which is sought at a place, was told nothing for certain.

@@ -1,13 +1,7 @@
-use Rattle.std.proofs.Common.{arith, true, false, ◌||◌, refl, ◌≡◌, ◌==◌, ℕ, ◌+◌, ◌-◌, ◌<◌, ◌∷◌, ◌++◌, [], length, take, sym, subst, ap, ◌∙◌}
-use Rattle.std.proofs.lemmas.Bool.{eq-eqb, or_right}
-use Rattle.std.proofs.lemmas.List.{get_or_read, take_more, take_all}
-use Rattle.std.proofs.lemmas.List.Folds.{list_any-append, list_any_at}
+use Rattle.std.proofs.Common.{arith, true, refl, ◌≡◌, ℕ, ◌+◌, ◌-◌, ◌<◌, length, take, sym, subst, ap, ◌∙◌}
+use Rattle.std.proofs.lemmas.List.{get_or_read, take_all}
 use Rattle.net_names.specs.Numbers.{occurs}
-use Rattle.as_graph.specs.Topology.{relation, ases}
-use Rattle.as_graph.proofs.Links.{relation_mutual, relation_self, topology-AreLinks}
-use Rattle.as_graph.proofs.Ranks.{ranks_fall}
-use Rattle.stability_laws.specs.Book.{policy_at}
-use Rattle.stability_laws.specs.Stable.{IsLawful}
+use Rattle.as_graph.specs.Topology.{relation}
 use Rattle.stability_laws.specs.Steps.{IsStepWhole}
 use Rattle.route_choice.specs.declared.choice.Part.TheVariants.{Whole}
 use Rattle.route_choice.specs.Routings.{routing_of, seeds_of}
@@ -15,6 +9,7 @@ use Rattle.route_choice.specs.PrefixWorlds.{setting_at}
 use Rattle.three_pass.specs.AsnSets.{is_among}
 use Rattle.three_pass.specs.Lists.{AreProviders, list_at}
 use Rattle.three_pass.specs.Progress.{AfterWhole}
+use Rattle.three_pass.proofs.ByRank.{by_rank, stands_at, is_listed, is_reached}
 use Rattle.three_pass.proofs.InOrder.{turn, down_same, down_more, down_fresh, no_loops_downwards, all_right}
 use Rattle.three_pass.specs.Told.{AreTrue, IsTold}
 use Rattle.three_pass.specs.Telling.{HaveTold}
@@ -53,11 +48,8 @@ step_down-requires-clause-true_notes g c = subst (AreTrue (relation c.args.at.no
 
 pub step_down-requires-clause-held : goal.step_down-requires-clause-held
 step_down-requires-clause-held g c = λ some.
-    let meaning = g.P.RoutePolicy.meaning in
-    let w = c.args.at.now.graph.now in
-    let here = setting_at meaning g.V.OriginStates.state_of c.args.at.now in
-    let lawful = λ (a : ℕ). (let p = policy_at c.args.at.now.book.now a in
-    let is : IsLawful (meaning p) = record { ranks_offers = g.met.P.RoutePolicy.ranks_offers p; prefers_customers = g.met.P.RoutePolicy.prefers_customers p; exports_down_only = g.met.P.RoutePolicy.exports_down_only p } in is) in
+    let here = setting_at g.P.RoutePolicy.meaning g.V.OriginStates.state_of c.args.at.now in
+    let ranked = by_rank g.P.RoutePolicy.meaning g.met.P.RoutePolicy.ranks_offers g.met.P.RoutePolicy.prefers_customers g.met.P.RoutePolicy.exports_down_only g.V.OriginStates.state_of c.args.at.now c.args.pass.now.course.now c.requires.no_cycle c.requires.course in
     let xs = c.args.pass.now.course.now.order.ases.items in
     let i = c.loop-left.left - 1 in
     let a = c.index-asn.result.now in
@@ -65,22 +57,16 @@ step_down-requires-clause-held g c = λ some.
     let seeds = seeds_of c.args.pool.now c.args.at.now.seeds.now in
     let f = routing_of c.loop-left.pool c.args.at.now.table.now c.loop-left.overlay in
     let back : i + 1 ≡ c.loop-left.left = omega arith in
-    let within : i < length xs = omega (arith, c.loop-left.invariant.within) in
-    let more : take (i + 1) xs ≡ take i xs ++ a ∷ [] = take_more xs i a within ∙ ap (λ t. take i xs ++ t ∷ []) (sym c.index-asn.ensures) in
-    let there : occurs a xs ≡ true = list_any_at (λ y. y == a) xs i a within (eq-eqb _ a (sym c.index-asn.ensures)) in
-    let still : occurs a (take c.loop-left.left xs) ≡ true = ap (λ k. occurs a (take k xs)) (sym back) ∙ ap (occurs a) more ∙ list_any-append (λ y. y == a) (take i xs) (a ∷ []) ∙ or_right (occurs a (take i xs)) _ (ap (λ t. t || false) (eq-eqb a a refl)) in
+    let at = stands_at xs i a (omega (arith, c.loop-left.invariant.within)) c.index-asn.ensures in
+    let still : occurs a (take c.loop-left.left xs) ≡ true = ap (λ k. occurs a (take k xs)) (sym back) ∙ is_reached xs i a at in
     step_seeds Whole here seeds (seeds_of c.loop-left.pool c.args.at.now.seeds.now) f a f
-    (settled here lawful f a seeds some (c.loop-left.invariant.so_far.still a still) (c.loop-left.invariant.so_far.low a (sym (c.requires.course.order.complete a) ∙ there)))
+    (settled here ranked.lawful f a seeds some (c.loop-left.invariant.so_far.still a still) (c.loop-left.invariant.so_far.low a (sym (c.requires.course.order.complete a) ∙ is_listed xs i a at)))
     (sym (c.loop-left.invariant.spent.keeps.same_seeds a))
 
 pub step_down-requires-clause-no_loops : goal.step_down-requires-clause-no_loops
 step_down-requires-clause-no_loops g c =
-    let meaning = g.P.RoutePolicy.meaning in
-    let w = c.args.at.now.graph.now in
-    let here = setting_at meaning g.V.OriginStates.state_of c.args.at.now in
-    let lawful = λ (a : ℕ). (let p = policy_at c.args.at.now.book.now a in
-    let is : IsLawful (meaning p) = record { ranks_offers = g.met.P.RoutePolicy.ranks_offers p; prefers_customers = g.met.P.RoutePolicy.prefers_customers p; exports_down_only = g.met.P.RoutePolicy.exports_down_only p } in is) in
-    let falls = (ranks_fall (relation w) (ases w) (topology-AreLinks w) c.requires.no_cycle c.requires.course.rank c.requires.course.ranks).falls in
+    let here = setting_at g.P.RoutePolicy.meaning g.V.OriginStates.state_of c.args.at.now in
+    let ranked = by_rank g.P.RoutePolicy.meaning g.met.P.RoutePolicy.ranks_offers g.met.P.RoutePolicy.prefers_customers g.met.P.RoutePolicy.exports_down_only g.V.OriginStates.state_of c.args.at.now c.args.pass.now.course.now c.requires.no_cycle c.requires.course in
     let xs = c.args.pass.now.course.now.order.ases.items in
     let i = c.loop-left.left - 1 in
     let a = c.index-asn.result.now in
@@ -88,19 +74,14 @@ step_down-requires-clause-no_loops g c =
     let seeds = seeds_of c.args.pool.now c.args.at.now.seeds.now in
     let f = routing_of c.loop-left.pool c.args.at.now.table.now c.loop-left.overlay in
     let back : i + 1 ≡ c.loop-left.left = omega arith in
-    let within : i < length xs = omega (arith, c.loop-left.invariant.within) in
-    let more : take (i + 1) xs ≡ take i xs ++ a ∷ [] = take_more xs i a within ∙ ap (λ t. take i xs ++ t ∷ []) (sym c.index-asn.ensures) in
-    no_loops_downwards here lawful (relation_mutual w) (relation_self w) seeds c.requires.course.rank falls xs c.requires.course.order
-    (is_among c.args.pass.now.named) c.requires.named i a a f within c.index-asn.ensures more (subst (λ k. AfterWhole here seeds (take k xs) f) (sym back) c.loop-left.invariant.so_far)
+    let at = stands_at xs i a (omega (arith, c.loop-left.invariant.within)) c.index-asn.ensures in
+    no_loops_downwards ranked seeds (is_among c.args.pass.now.named) c.requires.named i a f at
+    (subst (λ k. AfterWhole here seeds (take k xs) f) (sym back) c.loop-left.invariant.so_far)
 
 pub loop-left-init : goal.loop-left-init
 loop-left-init g c =
-    let meaning = g.P.RoutePolicy.meaning in
-    let w = c.args.at.now.graph.now in
-    let here = setting_at meaning g.V.OriginStates.state_of c.args.at.now in
-    let lawful = λ (a : ℕ). (let p = policy_at c.args.at.now.book.now a in
-    let is : IsLawful (meaning p) = record { ranks_offers = g.met.P.RoutePolicy.ranks_offers p; prefers_customers = g.met.P.RoutePolicy.prefers_customers p; exports_down_only = g.met.P.RoutePolicy.exports_down_only p } in is) in
-    let falls = (ranks_fall (relation w) (ases w) (topology-AreLinks w) c.requires.no_cycle c.requires.course.rank c.requires.course.ranks).falls in
+    let here = setting_at g.P.RoutePolicy.meaning g.V.OriginStates.state_of c.args.at.now in
+    let ranked = by_rank g.P.RoutePolicy.meaning g.met.P.RoutePolicy.ranks_offers g.met.P.RoutePolicy.prefers_customers g.met.P.RoutePolicy.exports_down_only g.V.OriginStates.state_of c.args.at.now c.args.pass.now.course.now c.requires.no_cycle c.requires.course in
     let xs = c.args.pass.now.course.now.order.ases.items in
     let seeds = seeds_of c.args.pool.now c.args.at.now.seeds.now in
     let f = routing_of c.args.pool.now c.args.at.now.table.now c.args.overlay.now in
@@ -108,7 +89,7 @@ loop-left-init g c =
       within = omega (arith, c.len-left.ensures);
       steps = omega (arith, c.len-left.ensures);
       so_far = subst (λ ys. AfterWhole here seeds ys f) (sym (take_all c.len-left.result xs (omega (arith, c.len-left.ensures))))
-          (turn here lawful (relation_mutual w) (relation_self w) seeds c.requires.course.rank falls xs c.requires.course.order f c.requires.up);
+          (turn ranked seeds f c.requires.up);
       same = refl;
       told = c.requires.told;
       room = c.requires.room;
@@ -117,12 +98,8 @@ loop-left-init g c =
 
 pub loop-left-preserved : goal.loop-left-preserved
 loop-left-preserved g c =
-    let meaning = g.P.RoutePolicy.meaning in
-    let w = c.args.at.now.graph.now in
-    let here = setting_at meaning g.V.OriginStates.state_of c.args.at.now in
-    let lawful = λ (a : ℕ). (let p = policy_at c.args.at.now.book.now a in
-    let is : IsLawful (meaning p) = record { ranks_offers = g.met.P.RoutePolicy.ranks_offers p; prefers_customers = g.met.P.RoutePolicy.prefers_customers p; exports_down_only = g.met.P.RoutePolicy.exports_down_only p } in is) in
-    let falls = (ranks_fall (relation w) (ases w) (topology-AreLinks w) c.requires.no_cycle c.requires.course.rank c.requires.course.ranks).falls in
+    let here = setting_at g.P.RoutePolicy.meaning g.V.OriginStates.state_of c.args.at.now in
+    let ranked = by_rank g.P.RoutePolicy.meaning g.met.P.RoutePolicy.ranks_offers g.met.P.RoutePolicy.prefers_customers g.met.P.RoutePolicy.exports_down_only g.V.OriginStates.state_of c.args.at.now c.args.pass.now.course.now c.requires.no_cycle c.requires.course in
     let xs = c.args.pass.now.course.now.order.ases.items in
     let i = c.loop-left.left - 1 in
     let a = c.index-asn.result.now in
@@ -131,21 +108,19 @@ loop-left-preserved g c =
     let f = routing_of c.loop-left.pool c.args.at.now.table.now c.loop-left.overlay in
     let f' = routing_of c.step_down.new.pool c.args.at.now.table.now c.step_down.new.overlay in
     let back : i + 1 ≡ c.loop-left.left = omega arith in
-    let within : i < length xs = omega (arith, c.loop-left.invariant.within) in
-    let more : take (i + 1) xs ≡ take i xs ++ a ∷ [] = take_more xs i a within ∙ ap (λ t. take i xs ++ t ∷ []) (sym c.index-asn.ensures) in
-    let there : occurs a xs ≡ true = list_any_at (λ y. y == a) xs i a within (eq-eqb _ a (sym c.index-asn.ensures)) in
+    let at = stands_at xs i a (omega (arith, c.loop-left.invariant.within)) c.index-asn.ensures in
     let so_far = subst (λ k. AfterWhole here seeds (take k xs) f) (sym back) c.loop-left.invariant.so_far in
-    let taken = step_seeds Whole here (seeds_of c.loop-left.pool c.args.at.now.seeds.now) seeds f a f' c.step_down.ensures.step (c.loop-left.invariant.spent.keeps.same_seeds a) in
+    let taken = step_seeds Whole here (seeds_of c.loop-left.pool c.args.at.now.seeds.now) seeds f a f' c.step_down.ensures.visit.step (c.loop-left.invariant.spent.keeps.same_seeds a) in
     let step : IsStepWhole here seeds f a f' = record { others = taken.others; right = taken.right } in
-    let fresh = down_fresh here lawful (relation_mutual w) (relation_self w) seeds c.requires.course.rank falls xs c.requires.course.order i a a f f' within c.index-asn.ensures more step so_far in
-    let both = visited c.args.pool.now c.loop-left.pool c.step_down.new.pool c.args.at.now.seeds.now c.args.at.now.table.now c.args.overlay.now c.loop-left.overlay c.step_down.new.overlay xs a c.step_down.result
-    c.requires.course.order.apart there c.loop-left.invariant.room c.loop-left.invariant.spent c.step_down.ensures.changed c.step_down.ensures.unchanged step.others c.step_down.ensures.spent c.step_down.ensures.kept c.step_down.ensures.put fresh in
+    let fresh = down_fresh ranked seeds i a f f' at step so_far in
+    let both = visited c.args.pool.now c.loop-left.pool c.step_down.new.pool c.args.at.now.seeds.now c.args.at.now.table.now c.args.overlay.now c.loop-left.overlay c.step_down.new.overlay xs a
+    c.requires.course.order.apart (is_listed xs i a at) c.loop-left.invariant.room c.loop-left.invariant.spent c.step_down.ensures.visit fresh in
     record {
       within = omega (arith, c.loop-left.invariant.within);
       steps = omega (arith, c.step_down.ensures.cost, c.loop-left.invariant.steps);
-      so_far = down_more here lawful (relation_mutual w) (relation_self w) seeds c.requires.course.rank falls xs c.requires.course.order i a a f f' within c.index-asn.ensures more step so_far;
+      so_far = down_more ranked seeds i a f f' at step so_far;
       same = c.step_down.ensures.told ∙ c.loop-left.invariant.same;
-      told = λ b. still_told (IsTold c.args.gathered.now.told) here f f' b (down_same here lawful (relation_mutual w) (relation_self w) seeds c.requires.course.rank falls xs c.requires.course.order i a a f f' within c.index-asn.ensures step so_far) (c.loop-left.invariant.told b);
+      told = λ b. still_told (IsTold c.args.gathered.now.told) here f f' b (down_same ranked seeds i a f f' at step so_far) (c.loop-left.invariant.told b);
       room = both.0;
       spent = both.1;
     }

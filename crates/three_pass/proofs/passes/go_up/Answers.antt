@@ -1,17 +1,15 @@
-use Rattle.std.proofs.Common.{arith, inl, inr, ◌≡◌, ℕ, ◌+◌, ◌∷◌, ◌++◌, ◌∙◌, [], slice_index, length, ◌<◌, refl, sym, option_map, take, ap, subst}
+use Rattle.std.proofs.Common.{arith, inl, inr, ◌≡◌, ℕ, ◌+◌, ◌∙◌, sym, option_map, take, ap, subst}
 use Rattle.std.proofs.lemmas.Bool.{cases_eq}
-use Rattle.std.proofs.lemmas.List.{take_more, take_all}
+use Rattle.std.proofs.lemmas.List.{get_or_read, take_all}
 use Rattle.net_names.specs.Numbers.{occurs}
-use Rattle.as_graph.specs.Topology.{relation, ases}
-use Rattle.as_graph.proofs.Links.{relation_mutual, relation_self, topology-AreLinks}
-use Rattle.as_graph.proofs.Ranks.{ranks_fall}
-use Rattle.stability_laws.specs.Book.{policy_at}
-use Rattle.stability_laws.specs.Stable.{IsLawful}
+use Rattle.as_graph.specs.Topology.{relation}
+use Rattle.as_graph.proofs.Links.{relation_mutual}
 use Rattle.route_choice.specs.declared.choice.Part.TheVariants.{Up}
 use Rattle.route_choice.specs.Routings.{entry_of, routing_of, seeds_of}
 use Rattle.route_choice.specs.PrefixWorlds.{setting_at}
 use Rattle.three_pass.specs.AsnSets.{is_among}
 use Rattle.three_pass.specs.Told.{IsTold}
+use Rattle.three_pass.proofs.ByRank.{by_rank, stands_at}
 use Rattle.three_pass.proofs.InOrder.{in_more, none_yet, up_more, up_fresh, no_loops_upwards}
 use Rattle.three_pass.proofs.Quiet.{told_from}
 use Rattle.three_pass.proofs.Spending.{spent_nothing, spent_more, step_seeds}
@@ -30,63 +28,51 @@ loop-place-init g c =
       spent = spent_nothing pool c.args.at.now.seeds.now c.args.at.now.table.now c.args.overlay.now c.args.pass.now.course.now.order.ases.items;
     }
 
+pub step_up-requires-clause-there : goal.step_up-requires-clause-there
+step_up-requires-clause-there g c =
+    sym (get_or_read c.args.pass.now.course.now.order.ases.items c.loop-place.place c.index-asn.result.now (omega (arith, c.loop-place-test.true, c.len-place-end.ensures)) c.index-asn.ensures 0)
+
 pub step_up-requires-clause-nothing : goal.step_up-requires-clause-nothing
 step_up-requires-clause-nothing g c =
-    let meaning = g.P.RoutePolicy.meaning in
-    let w = c.args.at.now.graph.now in
-    let here = setting_at meaning g.V.OriginStates.state_of c.args.at.now in
-    let lawful = λ (a : ℕ). (let p = policy_at c.args.at.now.book.now a in
-    let is : IsLawful (meaning p) = record { ranks_offers = g.met.P.RoutePolicy.ranks_offers p; prefers_customers = g.met.P.RoutePolicy.prefers_customers p; exports_down_only = g.met.P.RoutePolicy.exports_down_only p } in is) in
-    let falls = (ranks_fall (relation w) (ases w) (topology-AreLinks w) c.requires.no_cycle c.requires.course.rank c.requires.course.ranks).falls in
+    let ranked = by_rank g.P.RoutePolicy.meaning g.met.P.RoutePolicy.ranks_offers g.met.P.RoutePolicy.prefers_customers g.met.P.RoutePolicy.exports_down_only g.V.OriginStates.state_of c.args.at.now c.args.pass.now.course.now c.requires.no_cycle c.requires.course in
     let xs = c.args.pass.now.course.now.order.ases.items in
     let i = c.loop-place.place in
-    up_fresh here lawful (relation_mutual w) (relation_self w) (seeds_of c.args.pool.now c.args.at.now.seeds.now) c.requires.course.rank falls xs c.requires.course.order
-    i 0 (slice_index xs i) (routing_of c.loop-place.pool c.args.at.now.table.now c.loop-place.overlay) (omega (arith, c.loop-place-test.true, c.len-place-end.ensures)) refl c.loop-place.invariant.so_far
+    let a = c.index-asn.result.now in
+    let at = stands_at xs i a (omega (arith, c.loop-place-test.true, c.len-place-end.ensures)) c.index-asn.ensures in
+    up_fresh ranked (seeds_of c.args.pool.now c.args.at.now.seeds.now) i a (routing_of c.loop-place.pool c.args.at.now.table.now c.loop-place.overlay) at c.loop-place.invariant.so_far
 
 pub step_up-requires-clause-no_loops : goal.step_up-requires-clause-no_loops
 step_up-requires-clause-no_loops g c =
-    let meaning = g.P.RoutePolicy.meaning in
-    let w = c.args.at.now.graph.now in
-    let here = setting_at meaning g.V.OriginStates.state_of c.args.at.now in
-    let lawful = λ (a : ℕ). (let p = policy_at c.args.at.now.book.now a in
-    let is : IsLawful (meaning p) = record { ranks_offers = g.met.P.RoutePolicy.ranks_offers p; prefers_customers = g.met.P.RoutePolicy.prefers_customers p; exports_down_only = g.met.P.RoutePolicy.exports_down_only p } in is) in
-    let falls = (ranks_fall (relation w) (ases w) (topology-AreLinks w) c.requires.no_cycle c.requires.course.rank c.requires.course.ranks).falls in
-    let xs = c.args.pass.now.course.now.order.ases.items in
-    let i = c.loop-place.place in
-    no_loops_upwards here lawful (relation_mutual w) (relation_self w) (seeds_of c.args.pool.now c.args.at.now.seeds.now) c.requires.course.rank falls xs c.requires.course.order
-    (is_among c.args.pass.now.named) c.requires.named (take i xs) (routing_of c.loop-place.pool c.args.at.now.table.now c.loop-place.overlay) c.loop-place.invariant.so_far (slice_index xs i)
+    let ranked = by_rank g.P.RoutePolicy.meaning g.met.P.RoutePolicy.ranks_offers g.met.P.RoutePolicy.prefers_customers g.met.P.RoutePolicy.exports_down_only g.V.OriginStates.state_of c.args.at.now c.args.pass.now.course.now c.requires.no_cycle c.requires.course in
+    let done = take c.loop-place.place c.args.pass.now.course.now.order.ases.items in
+    no_loops_upwards ranked (seeds_of c.args.pool.now c.args.at.now.seeds.now) (is_among c.args.pass.now.named) c.requires.named
+    done (routing_of c.loop-place.pool c.args.at.now.table.now c.loop-place.overlay) c.loop-place.invariant.so_far c.index-asn.result.now
 
 pub step_up-requires-clause-told : goal.step_up-requires-clause-told
 step_up-requires-clause-told g c =
     let here = setting_at g.P.RoutePolicy.meaning g.V.OriginStates.state_of c.args.at.now in
-    let xs = c.args.pass.now.course.now.order.ases.items in
-    let i = c.loop-place.place in
-    told_from (IsTold c.loop-place.gathered.told) here (routing_of c.loop-place.pool c.args.at.now.table.now c.loop-place.overlay) (take i xs) (relation_mutual c.args.at.now.graph.now)
-    c.loop-place.invariant.so_far.rest c.loop-place.invariant.holders (slice_index xs i)
+    let done = take c.loop-place.place c.args.pass.now.course.now.order.ases.items in
+    told_from (IsTold c.loop-place.gathered.told) here (routing_of c.loop-place.pool c.args.at.now.table.now c.loop-place.overlay) done (relation_mutual c.args.at.now.graph.now)
+    c.loop-place.invariant.so_far.rest c.loop-place.invariant.holders c.index-asn.result.now
 
 pub loop-place-preserved : goal.loop-place-preserved
 loop-place-preserved g c =
-    let meaning = g.P.RoutePolicy.meaning in
-    let w = c.args.at.now.graph.now in
-    let here = setting_at meaning g.V.OriginStates.state_of c.args.at.now in
-    let lawful = λ (a : ℕ). (let p = policy_at c.args.at.now.book.now a in
-    let is : IsLawful (meaning p) = record { ranks_offers = g.met.P.RoutePolicy.ranks_offers p; prefers_customers = g.met.P.RoutePolicy.prefers_customers p; exports_down_only = g.met.P.RoutePolicy.exports_down_only p } in is) in
-    let falls = (ranks_fall (relation w) (ases w) (topology-AreLinks w) c.requires.no_cycle c.requires.course.rank c.requires.course.ranks).falls in
+    let here = setting_at g.P.RoutePolicy.meaning g.V.OriginStates.state_of c.args.at.now in
+    let ranked = by_rank g.P.RoutePolicy.meaning g.met.P.RoutePolicy.ranks_offers g.met.P.RoutePolicy.prefers_customers g.met.P.RoutePolicy.exports_down_only g.V.OriginStates.state_of c.args.at.now c.args.pass.now.course.now c.requires.no_cycle c.requires.course in
     let xs = c.args.pass.now.course.now.order.ases.items in
     let i = c.loop-place.place in
-    let a = slice_index xs i in
+    let a = c.index-asn.result.now in
     let seeds = seeds_of c.args.pool.now c.args.at.now.seeds.now in
     let f = routing_of c.loop-place.pool c.args.at.now.table.now c.loop-place.overlay in
     let f' = routing_of c.step_up.new.pool c.args.at.now.table.now c.step_up.new.overlay in
-    let inside : i < length xs = omega (arith, c.loop-place-test.true, c.len-place-end.ensures) in
-    let more : take (i + 1) xs ≡ take i xs ++ a ∷ [] = take_more xs i 0 inside in
+    let at = stands_at xs i a (omega (arith, c.loop-place-test.true, c.len-place-end.ensures)) c.index-asn.ensures in
     let step = step_seeds Up here (seeds_of c.loop-place.pool c.args.at.now.seeds.now) seeds f a f' c.step_up.ensures.step (c.loop-place.invariant.spent.keeps.same_seeds a) in
     record {
       steps = omega (arith, c.step_up.ensures.cost, c.loop-place.invariant.steps);
-      so_far = up_more here lawful (relation_mutual w) (relation_self w) seeds c.requires.course.rank falls xs c.requires.course.order i 0 a f f' inside refl more step c.loop-place.invariant.so_far;
+      so_far = up_more ranked seeds i a f f' at step c.loop-place.invariant.so_far;
       holders = λ b n r there some linked other. elim (cases_eq b a) [
-        | inl e ↦ subst (IsTold c.step_up.new.gathered.told n) (sym e) (c.step_up.ensures.around (λ none. some (ap f' e ∙ none)) n r (ap (λ t. relation w t n) (sym e) ∙ linked) other)
-        | inr ne ↦ elim (in_more b a (take i xs) (take (i + 1) xs) more there) [
+        | inl e ↦ subst (IsTold c.step_up.new.gathered.told n) (sym e) (c.step_up.ensures.around (λ none. some (ap f' e ∙ none)) n r (ap (λ t. relation c.args.at.now.graph.now t n) (sym e) ∙ linked) other)
+        | inr ne ↦ elim (in_more b a (take i xs) (take (i + 1) xs) at.more there) [
           | inl e ↦ absurd (ne (sym e))
           | inr e ↦ c.step_up.ensures.others n b (c.loop-place.invariant.holders b n r e (λ none. some (step.others b ne ∙ none)) linked other)
         ]

@@ -3,6 +3,7 @@ use Rattle.path_pool.specs.declared.pool.PathPool.{PathPool}
 use Rattle.route_choice.specs.declared.held.Held.{Held}
 use Rattle.route_choice.specs.Routings.{entry_of, routing_of}
 use Rattle.route_choice.specs.Tables.{joined}
+use Rattle.route_choice.proofs.Room.{keeps_itself}
 use Rattle.three_pass.proofs.passes.step_down.Goals as goal
 
 -- who holds something holds an entry
@@ -10,27 +11,25 @@ joined_some : (pool : PathPool) (h : Option Held) → is_some h ≡ true → opt
 joined_some pool None some none = cc
 joined_some pool (Some x) some none = cc
 
-pub returns-then-holds-clause-step : goal.returns-then-holds-clause-step
-returns-then-holds-clause-step g c = c.requires.held (λ none. joined_some c.args.pool.now (joined c.args.at.now.table.now c.args.overlay.now c.args.placed.asn) (sym c.holds.ensures ∙ c.if-holds.true) none)
-
-pub returns-then-holds-clause-spent : goal.returns-then-holds-clause-spent
-returns-then-holds-clause-spent g c = record {
-  holds = λ k. refl;
-  lists = λ k live live'. refl;
-  counts = λ k. omega arith;
-  live = omega arith;
-  spare = omega arith;
-  limit = refl;
-  others = λ b ne. refl;
-  room = omega arith;
-  same_room = λ some. refl;
+pub returns-then-holds-clause-visit : goal.returns-then-holds-clause-visit
+returns-then-holds-clause-visit g c = record {
+  step = c.requires.held (λ none. joined_some c.args.pool.now (joined c.args.at.now.table.now c.args.overlay.now c.args.placed.asn) (sym c.holds.ensures ∙ c.if-holds.true) none);
+  changed = (λ no. (let x : false ≡ true = no in cc), λ other. absurd (other refl));
+  unchanged = λ same. (refl, refl);
+  put = λ no. (let x : false ≡ true = no in cc);
+  spent = record {
+    holds = λ k. refl;
+    lists = λ k live live'. refl;
+    counts = λ k. omega arith;
+    live = omega arith;
+    spare = omega arith;
+    limit = refl;
+    others = λ b ne. refl;
+    room = omega arith;
+    same_room = λ some. refl;
+  };
+  kept = λ up. keeps_itself c.args.pool.now c.args.at.now.seeds.now;
 }
-
-pub returns-then-holds-clause-kept : goal.returns-then-holds-clause-kept
-returns-then-holds-clause-kept g c = λ up. record { live = λ k live. live; lists = λ k live. refl; same_seeds = λ a. refl }
-
-pub returns-then-holds-clause-changed : goal.returns-then-holds-clause-changed
-returns-then-holds-clause-changed g c = (λ no. (let x : false ≡ true = no in cc), λ other. absurd (other refl))
 
 joined_none : (pool : PathPool) (h : Option Held) → is_some h ≡ false → option_map (entry_of pool) h ≡ None
 joined_none pool None none = refl

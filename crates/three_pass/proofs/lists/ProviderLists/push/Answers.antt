@@ -1,5 +1,5 @@
 use Rattle.three_pass.proofs.ListLemmas.{kept}
-use Rattle.three_pass.proofs.lists.ProviderLists.push_list.Goals as goal
+use Rattle.three_pass.proofs.lists.ProviderLists.push.Goals as goal
 
 pub returns-clause-others : goal.returns-clause-others
 returns-clause-others c k lt =
