@@ -1,5 +1,5 @@
 pub mod Lists
 pub mod Ranks
 pub mod Placed
-pub mod Mending
 pub mod Plans
+pub mod Mending

@@ -4,7 +4,11 @@ use Rattle.net_names.specs.declared.routes.Rel.{Rel}
 use Rattle.net_names.specs.declared.routes.Rel.TheVariants.{Customer, Peer, Provider}
 use Rattle.as_graph.specs.declared.neighbour.Neighbour.{Neighbour}
 use Rattle.as_graph.specs.Rows.{blank}
+use Rattle.as_graph.specs.Topology.{Topology, relation as relation_of}
 use Rattle.as_graph.specs.Hierarchy.{RankFits}
+use Rattle.rank_order.specs.declared.plan.RankPlan.{RankPlan}
+use Rattle.rank_order.specs.Ranks.{KeptRanks, rank_at}
+use Rattle.rank_order.specs.Plans.{is_numbered, rank_after}
 
 -- the neighbour at a place of a list
 abbrev pub neighbour_at : List Neighbour → ℕ → Neighbour
@@ -40,3 +44,7 @@ AllBear numbered old before later ns i = (k : ℕ) → k < i → (neighbour_at n
 pub record IsMended (relation : ℕ → ℕ → Option Rel) (numbered : ℕ → Bool) (old new : ℕ → ℕ) (a : ℕ) : Type 0 where
   pub fits : RankFits relation new a
   pub providers : (new a ≡ old a) ⊎ ((p : ℕ) → relation p a ≡ Some Customer → Bears numbered old (old a) (new a) p)
+
+-- the number that the plan gives to a fits in the graph, and each provider of a bears its change
+abbrev pub MendsAt : Topology → KeptRanks → RankPlan → ℕ → Type 0
+MendsAt g ranks p a = IsMended (relation_of g) (is_numbered p) (rank_at ranks) (rank_after ranks p) a

@@ -3,10 +3,10 @@ ghost use Rattle.std.specs.Prelude.{◌≡◌, ℕ, ◌<◌, ◌^◌, true, leng
 ghost use Rattle.std.specs.List.Sorted.{IsStrictlyIncreasing};
 ghost use Rattle.net_names.specs.Numbers.{occurs};
 ghost use Rattle.net_names.specs.declared.routes.Rel.TheVariants.{Provider};
-ghost use Rattle.as_graph.specs.Topology.{relation, has};
+ghost use Rattle.as_graph.specs.Topology.{has};
 ghost use Rattle.rank_order.specs.Ranks.{rank_at};
 ghost use Rattle.rank_order.specs.Plans.{is_numbered, rank_after};
-ghost use Rattle.rank_order.specs.Mending.{IsNumberOver, Bears, AllBear, IsMended, grown};
+ghost use Rattle.rank_order.specs.Mending.{IsNumberOver, Bears, AllBear, MendsAt, grown};
 
 use crate::plan::RankPlan;
 use crate::ranks::Ranks;
@@ -74,7 +74,8 @@ fn bears(plan: &RankPlan, ranks: &Ranks, provider: Asn, before: u32, later: u32)
 
 // Whether a neighbour bears the change of a customer's number, if it is a provider.
 fn bears_at(plan: &RankPlan, ranks: &Ranks, neighbour: Neighbour, before: u32, later: u32) -> bool
-    ensures { result ≡ true → neighbour.rel ≡ Provider → Bears (is_numbered plan.now) (rank_at ranks.now) before later neighbour.asn }
+    ensures { result ≡ true → neighbour.rel ≡ Provider →
+        Bears (is_numbered plan.now) (rank_at ranks.now) before later neighbour.asn }
 {
     match neighbour.rel {
         Rel::Provider => bears(plan, ranks, neighbour.asn, before, later),
@@ -90,7 +91,8 @@ fn all_bear(
     before: u32,
     later: u32,
 ) -> bool
-    ensures { result ≡ true → AllBear (is_numbered plan.now) (rank_at ranks.now) before later neighbours.now (length neighbours.now) }
+    ensures { result ≡ true → AllBear (is_numbered plan.now) (rank_at ranks.now) before later
+        neighbours.now (length neighbours.now) }
 {
     for at in 0..neighbours.len() {
         if !bears_at(plan, ranks, neighbours[at], before, later) {
@@ -103,7 +105,7 @@ fn all_bear(
 // Whether the plan's number fits at an AS of the graph, and its providers bear its change.
 fn is_mended(graph: &Graph, plan: &RankPlan, ranks: &Ranks, asn: Asn) -> bool
     ensures inside { result ≡ true → has graph.now asn ≡ true }
-    ensures mended { result ≡ true → IsMended (relation graph.now) (is_numbered plan.now) (rank_at ranks.now) (rank_after ranks.now plan.now) asn }
+    ensures mended { result ≡ true → MendsAt graph.now ranks.now plan.now asn }
 {
     links_are_sound();
     if !graph.has(asn) {
@@ -123,7 +125,7 @@ fn is_mended(graph: &Graph, plan: &RankPlan, ranks: &Ranks, asn: Asn) -> bool
 // Whether that holds at each AS that the plan numbers.
 fn are_mended(graph: &Graph, plan: &RankPlan, ranks: &Ranks) -> bool
     ensures inside { result ≡ true → (a : ℕ) → is_numbered plan.now a ≡ true → has graph.now a ≡ true }
-    ensures mended { result ≡ true → (a : ℕ) → is_numbered plan.now a ≡ true → IsMended (relation graph.now) (is_numbered plan.now) (rank_at ranks.now) (rank_after ranks.now plan.now) a }
+    ensures mended { result ≡ true → (a : ℕ) → is_numbered plan.now a ≡ true → MendsAt graph.now ranks.now plan.now a }
 {
     for at in 0..plan.ases.len() {
         if !is_mended(graph, plan, ranks, plan.ases[at]) {
@@ -135,7 +137,8 @@ fn are_mended(graph: &Graph, plan: &RankPlan, ranks: &Ranks) -> bool
 
 // Whether the plan numbers each of the ASes that is in the graph.
 fn has_all(graph: &Graph, plan: &RankPlan, ends: &[Asn]) -> bool
-    ensures { result ≡ true → (a : ℕ) → occurs a ends.now ≡ true → has graph.now a ≡ true → is_numbered plan.now a ≡ true }
+    ensures { result ≡ true → (a : ℕ) → occurs a ends.now ≡ true → has graph.now a ≡ true →
+        is_numbered plan.now a ≡ true }
 {
     for at in 0..ends.len() {
         if graph.has(ends[at]) && !plan.is_numbered(ends[at]) {
@@ -149,8 +152,9 @@ fn has_all(graph: &Graph, plan: &RankPlan, ends: &[Asn]) -> bool
 /// each, and nothing above changes but what it numbers.
 pub fn is_sound(graph: &Graph, plan: &RankPlan, ranks: &Ranks, ends: &[Asn]) -> bool
     ensures inside { result ≡ true → (a : ℕ) → is_numbered plan.now a ≡ true → has graph.now a ≡ true }
-    ensures complete { result ≡ true → (a : ℕ) → occurs a ends.now ≡ true → has graph.now a ≡ true → is_numbered plan.now a ≡ true }
-    ensures mended { result ≡ true → (a : ℕ) → is_numbered plan.now a ≡ true → IsMended (relation graph.now) (is_numbered plan.now) (rank_at ranks.now) (rank_after ranks.now plan.now) a }
+    ensures complete { result ≡ true → (a : ℕ) → occurs a ends.now ≡ true → has graph.now a ≡ true →
+        is_numbered plan.now a ≡ true }
+    ensures mended { result ≡ true → (a : ℕ) → is_numbered plan.now a ≡ true → MendsAt graph.now ranks.now plan.now a }
 {
     has_all(graph, plan, ends) && are_mended(graph, plan, ranks)
 }

@@ -18,7 +18,9 @@ fn put_all(ranks: &mut Ranks, ases: &[Asn], given: &[u32])
     requires rising { IsStrictlyIncreasing ases.now }
     requires each { length given.now ≡ length ases.now }
     requires room { AreAtMost ranks.old.spare (Lacks ranks.old ases.now) }
-    ensures { (a : ℕ) → map.get ranks.new.by_as a ≡ (if occurs a ases.now then Some (rank_by ases.now given.now a) else map.get ranks.old.by_as a) }
+    ensures { (a : ℕ) → map.get ranks.new.by_as a ≡ (if occurs a ases.now
+        then Some (rank_by ases.now given.now a)
+        else map.get ranks.old.by_as a) }
 {
     for at in 0..ases.len() {
         ranks.put(ases[at], given[at]);
@@ -28,7 +30,9 @@ fn put_all(ranks: &mut Ranks, ases: &[Asn], given: &[u32])
 // Takes an AS out, if it is not one of these.
 fn take_other(ranks: &mut Ranks, ases: &[Asn], asn: Asn)
     requires rising { IsStrictlyIncreasing ases.now }
-    ensures { (a : ℕ) → map.get ranks.new.by_as a ≡ (if occurs a ases.now then map.get ranks.old.by_as a else if asn == a then None else map.get ranks.old.by_as a) }
+    ensures { (a : ℕ) → map.get ranks.new.by_as a ≡ (if occurs a ases.now
+        then map.get ranks.old.by_as a
+        else if asn == a then None else map.get ranks.old.by_as a) }
 {
     if place_in(ases, asn) == ases.len() {
         ranks.take(asn);
@@ -38,7 +42,9 @@ fn take_other(ranks: &mut Ranks, ases: &[Asn], asn: Asn)
 // Takes out those ends that are none of the ASes.
 fn take_others(ranks: &mut Ranks, ases: &[Asn], ends: &[Asn])
     requires rising { IsStrictlyIncreasing ases.now }
-    ensures { (a : ℕ) → map.get ranks.new.by_as a ≡ (if occurs a ases.now then map.get ranks.old.by_as a else if occurs a ends.now then None else map.get ranks.old.by_as a) }
+    ensures { (a : ℕ) → map.get ranks.new.by_as a ≡ (if occurs a ases.now
+        then map.get ranks.old.by_as a
+        else if occurs a ends.now then None else map.get ranks.old.by_as a) }
 {
     for asn in ends {
         take_other(ranks, ases, *asn);

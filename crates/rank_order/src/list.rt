@@ -35,7 +35,9 @@ pub fn put_in(ases: &mut Vec<Asn>, ranks: &mut Vec<u32>, asn: Asn, rank: u32)
     requires room { occurs asn ases.old.items ≡ false → 0 < spare_in ases.old ranks.old }
     ensures rising { IsStrictlyIncreasing ases.new.items }
     ensures each { length ranks.new.items ≡ length ases.new.items }
-    ensures entries { (a : ℕ) → map.get (rank_map ases.new.items ranks.new.items) a ≡ (if asn == a then Some rank else map.get (rank_map ases.old.items ranks.old.items) a) }
+    ensures entries { (a : ℕ) → map.get (rank_map ases.new.items ranks.new.items) a ≡ (if asn == a
+        then Some rank
+        else map.get (rank_map ases.old.items ranks.old.items) a) }
     ensures spare { spare_in ases.old ranks.old ≤ spare_in ases.new ranks.new + 1 }
     ensures kept { occurs asn ases.old.items ≡ true → spare_in ases.old ranks.old ≤ spare_in ases.new ranks.new }
 {
@@ -53,7 +55,9 @@ pub fn take_in(ases: &mut Vec<Asn>, ranks: &mut Vec<u32>, asn: Asn)
     requires each { length ranks.old.items ≡ length ases.old.items }
     ensures rising { IsStrictlyIncreasing ases.new.items }
     ensures each { length ranks.new.items ≡ length ases.new.items }
-    ensures entries { (a : ℕ) → map.get (rank_map ases.new.items ranks.new.items) a ≡ (if asn == a then None else map.get (rank_map ases.old.items ranks.old.items) a) }
+    ensures entries { (a : ℕ) → map.get (rank_map ases.new.items ranks.new.items) a ≡ (if asn == a
+        then None
+        else map.get (rank_map ases.old.items ranks.old.items) a) }
 {
     match ases.binary_search(&asn) {
         Ok(at) => {

@@ -113,10 +113,7 @@ pub fn placed_by_rank(alloc: Global, graph: &Graph, ranks: &Ranks) -> Result<Ran
     ensures order { IfOk result (λ o. IsRankOrder (has graph.now) (rank_at ranks.now) o.ases.items) }
     ensures count { IfOk result (λ o. length o.ases.items ≡ as_count graph.now) }
 {
-    match ready_or_sorted(alloc, graph, ranks) {
-        Ok(order) => Ok(order),
-        Err(_) => Err(NoMemory),
-    }
+    Ok(ready_or_sorted(alloc, graph, ranks)?)
 }
 
 /// The ASes of the graph, each once, by rising rank. With the graph's own ranks each AS comes behind

@@ -28,7 +28,9 @@ impl RankPlan {
 
     // The rank that the plan itself tells of an AS, if it tells one.
     fn told(&self, asn: Asn) -> Option<u32>
-        ensures { result ≡ (if is_numbered self.now asn then Some (rank_by self.now.ases.items self.now.ranks.items asn) else if occurs asn self.now.ends.items then Some 0 else None) }
+        ensures { result ≡ (if is_numbered self.now asn
+            then Some (rank_by self.now.ases.items self.now.ranks.items asn)
+            else if occurs asn self.now.ends.items then Some 0 else None) }
     {
         let place = place_in(&self.ases, asn);
         if place < self.ases.len() {

@@ -42,7 +42,8 @@ fn small_plan(
     ranks: &Ranks,
     ends: &[Asn],
 ) -> Result<Option<RankPlan>, AllocError>
-    requires fits { (a : ℕ) → has graph.now a ≡ true → occurs a ends.now ≡ false → RankFits (relation graph.now) (rank_at ranks.now) a }
+    requires fits { (a : ℕ) → has graph.now a ≡ true → occurs a ends.now ≡ false →
+        RankFits (relation graph.now) (rank_at ranks.now) a }
     requires only { (a : ℕ) → has graph.now a ≡ false → occurs a ends.now ≡ false → rank_at ranks.now a ≡ 0 }
     ensures { IfOk result (λ found. IfSome found (IsPlanFor graph.now ends.now ranks.now)) }
 {
@@ -81,10 +82,7 @@ fn whole_plan(
     ensures { IfOk result (IsPlanFor graph.now ends.now ranks.now) }
 {
     match rank_ases(alloc, graph)? {
-        Ranking::Ranks(ranked) => match plan_with(alloc, &ranked.ases, ends) {
-            Ok(plan) => Ok(plan),
-            Err(_) => Err(NoMemory),
-        },
+        Ranking::Ranks(ranked) => Ok(plan_with(alloc, &ranked.ases, ends)?),
         Ranking::Cycle(_) => unreachable!(),
     }
 }
@@ -92,14 +90,14 @@ fn whole_plan(
 // The plan for a graph: a small one if that suffices, and else the one that numbers all ASes.
 fn plan_for(alloc: Global, graph: &Graph, ranks: &Ranks, ends: &[Asn]) -> Result<RankPlan, NoMemory>
     requires no_cycle { HasNoProviderCycle (relation graph.now) }
-    requires fits { (a : ℕ) → has graph.now a ≡ true → occurs a ends.now ≡ false → RankFits (relation graph.now) (rank_at ranks.now) a }
+    requires fits { (a : ℕ) → has graph.now a ≡ true → occurs a ends.now ≡ false →
+        RankFits (relation graph.now) (rank_at ranks.now) a }
     requires only { (a : ℕ) → has graph.now a ≡ false → occurs a ends.now ≡ false → rank_at ranks.now a ≡ 0 }
     ensures { IfOk result (IsPlanFor graph.now ends.now ranks.now) }
 {
-    match small_plan(alloc, graph, ranks, ends) {
-        Ok(Some(plan)) => Ok(plan),
-        Ok(None) => whole_plan(alloc, graph, ranks, ends),
-        Err(_) => Err(NoMemory),
+    match small_plan(alloc, graph, ranks, ends)? {
+        Some(plan) => Ok(plan),
+        None => whole_plan(alloc, graph, ranks, ends),
     }
 }
 
@@ -114,17 +112,17 @@ impl Ranks {
     /// neighbours of these; where ranks change again and again on the way, it is that of `build`.
     pub fn plan(&mut self, alloc: Global, graph: &Graph, ends: &[Asn]) -> Result<RankPlan, NoMemory>
         requires no_cycle { HasNoProviderCycle (relation graph.now) }
-        requires fits { (a : ℕ) → has graph.now a ≡ true → occurs a ends.now ≡ false → RankFits (relation graph.now) (rank_at self.old) a }
+        requires fits { (a : ℕ) → has graph.now a ≡ true → occurs a ends.now ≡ false →
+            RankFits (relation graph.now) (rank_at self.old) a }
         requires only { (a : ℕ) → has graph.now a ≡ false → occurs a ends.now ≡ false → rank_at self.old a ≡ 0 }
         ensures same { self.new.by_as ≡ self.old.by_as }
         ensures plan { IfOk result (IsLastPlan self.new) }
         ensures ranks { IfOk result (λ p. (a : ℕ) → IsRank (relation graph.now) a (rank_after self.new p a)) }
-        ensures ases { ((a : ℕ) → occurs a ends.now ≡ false → is_some (map.get self.old.by_as a) ≡ has graph.now a) → IfOk result (λ p. (a : ℕ) → is_some (entry_after self.new p a) ≡ has graph.now a) }
+        ensures ases { ((a : ℕ) → occurs a ends.now ≡ false → is_some (map.get self.old.by_as a) ≡ has graph.now a) →
+            IfOk result (λ p. (a : ℕ) → is_some (entry_after self.new p a) ≡ has graph.now a) }
     {
         let plan = plan_for(alloc, graph, self, ends)?;
-        match self.make_room(plan.ases.len()) {
-            Ok(()) => Ok(plan),
-            Err(_) => Err(NoMemory),
-        }
+        self.make_room(plan.ases.len())?;
+        Ok(plan)
     }
 }

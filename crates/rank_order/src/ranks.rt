@@ -10,12 +10,13 @@ ghost use Rattle.cycle_check.specs.Counting.{ArePlacesByRank};
 ghost use Rattle.cycle_check.specs.Providers.{rank_by};
 ghost use Rattle.cycle_check.specs.Rankings.{numbers_of, ranks_of, rank_told};
 ghost use Rattle.rank_order.specs.Ranks.{rank_at, IsRankOrder, IsRankRefusal};
+ghost use Rattle.rank_order.specs.declared.ranks.RankError.TheVariants.{Memory};
 
 use crate::list::{put_in, take_in};
 use crate::order::{RankOrder, order_at};
 use as_graph::Graph;
-use cycle_check::{Cycle, RankedAs, Ranking, place_in, place_near, rank_ases};
-use net_names::Asn;
+use cycle_check::{Cycle, RankedAs, Ranking, place_in, place_near, places_of_rows, rank_ases};
+use net_names::{Asn, NoMemory};
 use std::alloc::{AllocError, Global};
 use std::marker::Model;
 
@@ -26,6 +27,14 @@ pub enum RankError {
     Memory,
     /// The graph has a provider cycle: this one, from its lowest number on.
     ProviderCycle(Cycle),
+}
+
+impl From<NoMemory> for RankError {
+    ghost from_gives = { λ _ e. e ≡ Memory };
+
+    fn from(_e: NoMemory) -> RankError {
+        RankError::Memory
+    }
 }
 
 /// A rank for each AS of a graph, and the ASes by rising rank. Contracts see the finite map from the
@@ -67,18 +76,11 @@ impl Ranks {
         ensures no_cycle { OnOk result (HasNoProviderCycle (relation graph.now)) }
         ensures cycle { IfErr result (IsRankRefusal (relation graph.now)) }
     {
-        match rank_ases(alloc, graph) {
-            Ok(Ranking::Ranks(ranked)) => match Ranks::keep(
-                alloc,
-                graph,
-                &ranked.ases,
-                &ranked.order,
-            ) {
-                Ok(ranks) => Ok(ranks),
-                Err(_) => Err(RankError::Memory),
-            },
-            Ok(Ranking::Cycle(cycle)) => Err(RankError::ProviderCycle(cycle)),
-            Err(_) => Err(RankError::Memory),
+        match rank_ases(alloc, graph)? {
+            Ranking::Ranks(ranked) => {
+                Ok(Ranks::keep(alloc, graph, &ranked.ases, &ranked.order)?)
+            }
+            Ranking::Cycle(cycle) => Err(RankError::ProviderCycle(cycle)),
         }
     }
 
@@ -88,7 +90,7 @@ impl Ranks {
         graph: &Graph,
         ranked: &[RankedAs],
         by_rank: &[u32],
-    ) -> Result<Ranks, AllocError>
+    ) -> Result<Ranks, NoMemory>
         requires rising { IsStrictlyIncreasing (numbers_of ranked.now) }
         requires by_rank { ArePlacesByRank (length ranked.now) (ranks_of ranked.now) by_rank.now }
         ensures told { IfOk result (λ r. (a : ℕ) → map.get r.by_as a ≡ rank_told ranked.now a) }
@@ -127,7 +129,8 @@ impl Ranks {
     // The order of these ASes by rising rank, if they are just those that have a rank, in rising
     // number, and none has changed since the order was made.
     pub(crate) fn order_over(&self, ases: &[Asn]) -> Option<&RankOrder>
-        ensures order { IfSome result (λ o. IsRankOrder (λ a. occurs a ases.now) (rank_at self.now) o.now.ases.items) }
+        ensures order { IfSome result (λ o.
+            IsRankOrder (λ a. occurs a ases.now) (rank_at self.now) o.now.ases.items) }
     {
         if self.in_order && self.ases.as_slice() == ases {
             Some(&self.order)
@@ -139,7 +142,8 @@ impl Ranks {
     // Gives an AS a rank. One that has none takes up room, of which there is enough.
     pub(crate) fn put(&mut self, asn: Asn, rank: u32)
         requires { is_some (map.get self.old.by_as asn) ≡ false → 0 < self.old.spare }
-        ensures entries { (a : ℕ) → map.get self.new.by_as a ≡ (if asn == a then Some rank else map.get self.old.by_as a) }
+        ensures entries { (a : ℕ) → map.get self.new.by_as a ≡
+            (if asn == a then Some rank else map.get self.old.by_as a) }
         ensures spare { self.old.spare ≤ self.new.spare + 1 }
         ensures kept { is_some (map.get self.old.by_as asn) ≡ true → self.old.spare ≤ self.new.spare }
     {
@@ -185,15 +189,4 @@ pub(crate) fn rank_of(ranks: &[u32], place: usize) -> u32
     ensures { result ≡ slice_index ranks.now place }
 {
     if place < ranks.len() { ranks[place] } else { 0 }
-}
-
-// For each row of the graph, the place of its AS among the ASes.
-fn places_of_rows(alloc: Global, graph: &Graph, ases: &[Asn]) -> Result<Vec<u32>, AllocError> {
-    let mut places = Vec::from_elem(alloc, 0u32, graph.rows().len())?;
-    for (place, asn) in ases.iter().enumerate() {
-        if let Some(kept) = places.get_mut(graph.place_near(*asn, place)) {
-            *kept = u32::try_from(place).unwrap_or(0);
-        }
-    }
-    Ok(places)
 }

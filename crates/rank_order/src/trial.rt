@@ -48,10 +48,8 @@ fn number_over(
 // Puts an AS into the queue.
 fn wake(numbering: &mut Numbering, ranks: &Ranks, asn: Asn) -> Result<(), AllocError> {
     let number = number(&numbering.numbers, ranks, asn, 0);
-    match numbering.queue.insert((number, asn)) {
-        Ok(_) => Ok(()),
-        Err(_) => Err(AllocError),
-    }
+    numbering.queue.insert((number, asn))?;
+    Ok(())
 }
 
 // Puts those providers into the queue whose number may change with that of a customer.
@@ -89,9 +87,7 @@ fn renumber(
         neighbours,
         graph.neighbour_places(row),
     );
-    if numbering.numbers.insert(asn, later).is_err() {
-        return Err(AllocError);
-    }
+    numbering.numbers.insert(asn, later)?;
     if before != later {
         wake_providers(numbering, ranks, neighbours, before, later)?;
     }
