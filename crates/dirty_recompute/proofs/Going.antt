@@ -9,6 +9,7 @@ use Rattle.as_graph.proofs.RowAses.{length-le-as_count}
 use Rattle.path_pool.specs.declared.pool.PathPool.{PathPool}
 use Rattle.path_pool.specs.Pool.{IsLive, count_of, holds_of}
 use Rattle.stability_laws.specs.declared.entry.Entry.{Entry}
+use Rattle.route_choice.specs.declared.counts.TheConstants.{MOST_COUNTED}
 use Rattle.route_choice.specs.declared.held.Held.{Held}
 use Rattle.route_choice.specs.declared.overlay.Overlay.{Overlay}
 use Rattle.route_choice.specs.declared.seeds.SeedIds.{SeedIds}
@@ -19,25 +20,21 @@ use Rattle.route_choice.specs.Routings.{entry_of, routing_of, seeds_of, table_ro
 use Rattle.route_choice.specs.Tables.{change_at, held_at, overlay_uses, table_uses}
 use Rattle.route_choice.specs.Slots.{over}
 use Rattle.route_choice.proofs.Lists.{entries_same, held_live}
-use Rattle.route_choice.proofs.Room.{seeds_kept}
+use Rattle.route_choice.proofs.Room.{keeps_itself, keeps_more, seeds_kept}
 use Rattle.dirty_recompute.specs.Resources.{has_change, CanTurn, FewNewCells, IsKept, IsPaidFor, IsUndone}
 use Rattle.dirty_recompute.specs.Steps.{ChangesOnly}
 use Rattle.dirty_recompute.specs.Work.{CanGoOn}
 
 pub kept_itself : (p : PathPool) (seeds : SeedIds) (o : Overlay) → IsKept p p seeds o o
 kept_itself p seeds o = record {
-  keeps = record { live = λ k l. l; lists = λ k l. refl; same_seeds = λ a. refl };
+  keeps = keeps_itself p seeds;
   holds = λ k. refl;
   limit = refl;
 }
 
 pub kept_more : (p q r : PathPool) (seeds : SeedIds) (x y z : Overlay) → IsKept p q seeds x y → IsKept q r seeds y z → IsKept p r seeds x z
 kept_more p q r seeds x y z h k = record {
-  keeps = record {
-    live = λ i l. k.keeps.live i (h.keeps.live i l);
-    lists = λ i l. k.keeps.lists i (h.keeps.live i l) ∙ h.keeps.lists i l;
-    same_seeds = λ a. k.keeps.same_seeds a ∙ h.keeps.same_seeds a;
-  };
+  keeps = keeps_more p q r seeds h.keeps k.keeps;
   holds = λ i. omega (arith, h.holds i, k.holds i);
   limit = k.limit ∙ h.limit;
 }
@@ -174,7 +171,7 @@ few_new_cells g seeds table p q o can = record {
 }
 
 -- nothing was done yet
-pub can_start : (g : Topology) (seeds : SeedIds) (table : Table) (pool : PathPool) (o : Overlay) → ((k : ℕ) → count_of pool k ≤ 4000000000) → ((k : ℕ) → table_uses table k ≤ holds_of pool k) → ((k : ℕ) → overlay_uses o k ≡ 0) → AreEntriesLive pool table → AreSeedsLive pool seeds → CanGoOn (has g) pool pool seeds table o
+pub can_start : (g : Topology) (seeds : SeedIds) (table : Table) (pool : PathPool) (o : Overlay) → ((k : ℕ) → count_of pool k ≤ MOST_COUNTED) → ((k : ℕ) → table_uses table k ≤ holds_of pool k) → ((k : ℕ) → overlay_uses o k ≡ 0) → AreEntriesLive pool table → AreSeedsLive pool seeds → CanGoOn (has g) pool pool seeds table o
 can_start g seeds table pool o few held none entries_live seeds_live = record {
   ases = [];
   distinct = tt;

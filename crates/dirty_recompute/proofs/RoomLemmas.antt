@@ -22,6 +22,7 @@ use Rattle.route_choice.specs.Resources.{AreHeld, AreSeedsLive, Keeps, Spends, G
 use Rattle.route_choice.proofs.Lists.{entries_same, joined_live}
 use Rattle.dirty_recompute.specs.Resources.{IsKept, IsBefore}
 use Rattle.dirty_recompute.specs.Giving.{SameHeld, IsGiven, GivesUpNone}
+use Rattle.dirty_recompute.proofs.Going.{kept_more}
 
 seed_same : (p q : PathPool) (o : Option SeedHeld) → ((s : SeedHeld) → o ≡ Some s → list_of q s.path.0 ≡ list_of p s.path.0) → option_map (seed_of q) o ≡ option_map (seed_of p) o
 seed_same p q None same = refl
@@ -48,17 +49,6 @@ same_kept p q seeds o o' live same limit uses = record {
   };
   holds = λ k. omega (arith, same.holds k, uses k);
   limit = limit;
-}
-
-pub kept_more : (p q r : PathPool) (seeds : SeedIds) (x y z : Overlay) → IsKept p q seeds x y → IsKept q r seeds y z → IsKept p r seeds x z
-kept_more p q r seeds x y z h k = record {
-  keeps = record {
-    live = λ i l. k.keeps.live i (h.keeps.live i l);
-    lists = λ i l. k.keeps.lists i (h.keeps.live i l) ∙ h.keeps.lists i l;
-    same_seeds = λ a. k.keeps.same_seeds a ∙ h.keeps.same_seeds a;
-  };
-  holds = λ i. omega (arith, h.holds i, k.holds i);
-  limit = k.limit ∙ h.limit;
 }
 
 some_is : {X : Type 0} (o : Option X) → IsSome o → is_some o ≡ true

@@ -104,6 +104,13 @@ counted_on : (relation : ℕ → ℕ → Option Rel) (touched overlay overlay' :
 counted_on relation touched o o' b grows (inl t) = inl t
 counted_on relation touched o o' b grows (inr (c, r, linked, is)) = inr (c, r, linked, grows c is)
 
+-- an AS that is changed stays so, where a alone may come to be changed
+stays_changed : (a : ℕ) (overlay overlay' : ℕ → Bool) → ((b : ℕ) → b ≢ a → overlay' b ≡ overlay b) → (overlay' a ≡ overlay a) ⊎ (overlay' a ≡ true) → (c : ℕ) → overlay c ≡ true → overlay' c ≡ true
+stays_changed a overlay overlay' others settled c t = elim (cases_eq c a) [
+  | inl e ↦ elim settled [ inl s ↦ ap overlay' e ∙ s ∙ ap overlay (sym e) ∙ t | inr s ↦ ap overlay' e ∙ s ]
+  | inr ne ↦ others c ne ∙ t
+]
+
 module _ (LowRight Right : (ℕ → Option Entry) → ℕ → Type 0) (le : ℕ → ℕ → Type 0) (trans : (x y z : ℕ) → le x y → le y z → le x z) (relation : ℕ → ℕ → Option Rel) (touched : ℕ → Bool) (table : ℕ → Option Entry) where
   module _ (above : (a b : ℕ) → relation b a ≡ Some Customer → le a b × (le b a → ⊥)) (a : ℕ) (f : ℕ → Option Entry) (overlay up whole : ℕ → Bool) (taken : List ℕ) (g : ℕ → Option Entry) (overlay' up' whole' : ℕ → Bool) where
     pub up_step : up a ≡ true → ((b : ℕ) → up b ≡ true → le a b) → IsUpWork LowRight Right le relation touched table f overlay up whole taken → IsUpStep LowRight Right relation a f overlay up whole g overlay' up' whole' → IsUpWork LowRight Right le relation touched table g overlay' up' whole' (a ∷ taken)
@@ -141,14 +148,8 @@ module _ (LowRight Right : (ℕ → Option Entry) → ℕ → Type 0) (le : ℕ 
       ];
     }
       where
-        grows : (c : ℕ) → overlay c ≡ true → overlay' c ≡ true
-        grows c t = elim (cases_eq c a) [
-          | inl e ↦ elim step.settled [ inl s ↦ ap overlay' e ∙ s.1 ∙ ap overlay (sym e) ∙ t | inr s ↦ ap overlay' e ∙ s.1 ]
-          | inr ne ↦ step.changed_others c ne ∙ t
-        ]
-
         on : (b : ℕ) → IsCounted relation touched overlay b → IsCounted relation touched overlay' b
-        on b c = counted_on relation touched overlay overlay' b grows c
+        on b c = counted_on relation touched overlay overlay' b (stays_changed a overlay overlay' step.changed_others (elim step.settled [ inl s ↦ inl s.1 | inr s ↦ inr s.1 ])) c
 
         not_put : overlay a ≡ false
         not_put = by (overlay a) refl
@@ -235,14 +236,8 @@ module _ (LowRight Right : (ℕ → Option Entry) → ℕ → Type 0) (le : ℕ 
       distinct_up = was.distinct_up;
     }
       where
-        grows : (c : ℕ) → overlay c ≡ true → overlay' c ≡ true
-        grows c t = elim (cases_eq c a) [
-          | inl e ↦ elim step.settled [ inl s ↦ ap overlay' e ∙ s.1 ∙ ap overlay (sym e) ∙ t | inr s ↦ ap overlay' e ∙ s.1 ]
-          | inr ne ↦ step.changed_others c ne ∙ t
-        ]
-
         on : (b : ℕ) → IsCounted relation touched overlay b → IsCounted relation touched overlay' b
-        on b c = counted_on relation touched overlay overlay' b grows c
+        on b c = counted_on relation touched overlay overlay' b (stays_changed a overlay overlay' step.changed_others (elim step.settled [ inl s ↦ inl s.1 | inr s ↦ inr s.1 ])) c
 
         same_here : ((g a ≡ f a) × (overlay' a ≡ overlay a)) ⊎ ((g a ≢ f a) × (overlay' a ≡ true)) → overlay' a ≡ false → g a ≡ table a
         same_here (inl s) n = s.0 ∙ was.same a (sym s.1 ∙ n)

@@ -2,13 +2,28 @@
 use Rattle.std.specs.Prelude.{◌≡◌, ◌≢◌, ◌⊎◌, ℕ, Bool, true, Option, None, Some}
 use Rattle.net_names.specs.declared.routes.Rel.{Rel}
 use Rattle.net_names.specs.declared.routes.Rel.TheVariants.{Customer, Provider}
+use Rattle.net_names.specs.declared.routes.State.{State}
+use Rattle.net_names.specs.Prefixes.{PrefixValue as Prefix}
+use Rattle.policy_laws.specs.Policy.{Policy}
+use Rattle.path_pool.specs.declared.pool.PathPool.{PathPool}
 use Rattle.stability_laws.specs.declared.entry.Entry.{Entry}
 use Rattle.stability_laws.specs.declared.entry.Seed.{Seed}
 use Rattle.stability_laws.specs.Offers.{Setting, offer}
 use Rattle.stability_laws.specs.Stable.{IsRightGiven}
+use Rattle.route_choice.specs.declared.overlay.Overlay.{Overlay}
+use Rattle.route_choice.specs.declared.prefix_world.PrefixWorld.{PrefixWorld}
+use Rattle.route_choice.specs.PrefixWorlds.{setting_at}
+use Rattle.route_choice.specs.Routings.{routing_of, seeds_of}
+use Rattle.dirty_recompute.specs.declared.stepping.Turned.{Turned}
+use Rattle.dirty_recompute.specs.Resources.{as_before}
 use Rattle.dirty_recompute.specs.Steps.{ChangesOnly, IsChosenUp, IsLeft}
 use Rattle.dirty_recompute.specs.declared.queue.Queue.{Queue}
 use Rattle.dirty_recompute.specs.Queues.{waits, HasRanks}
+
+-- b need not choose anew after the AS has made its step, since when it holds what stands in the overlay
+abbrev pub MayBeLeft : {P V : Type 0} → (P → Policy) → (V → Prefix → ℕ → State) → PrefixWorld P V → PathPool → Overlay → Turned → ℕ → Type 0
+MayBeLeft meaning state_of at pool overlay turned b =
+    IsLeft (setting_at meaning state_of at) (seeds_of pool at.seeds.now) (as_before pool at.table.now overlay turned.asn turned.before) (routing_of pool at.table.now overlay) turned.asn b
 
 -- after a turn upwards of a: its providers wait in the queue upwards, its peers and customers in one of the two queues, but such as may be left; a itself waits in the queue downwards where it has nothing from below; and nobody else came in
 pub record AreQueuedUp (w : Setting) (seeds : ℕ → Option Seed) (a : ℕ) (f g : ℕ → Option Entry) (changed nothing : Bool) (up up' whole whole' : ℕ → Bool) : Type 0 where

@@ -9,6 +9,7 @@ use Rattle.stability_laws.specs.declared.entry.Seed.{Seed}
 use Rattle.stability_laws.specs.Offers.{Setting}
 use Rattle.stability_laws.specs.Stable.{IsRight}
 use Rattle.stability_laws.specs.Steps.{low}
+use Rattle.route_choice.specs.declared.counts.TheConstants.{MOST_COUNTED}
 use Rattle.route_choice.specs.declared.overlay.Overlay.{Overlay}
 use Rattle.route_choice.specs.declared.seeds.SeedIds.{SeedIds}
 use Rattle.route_choice.specs.declared.table.Table.{Table}
@@ -87,7 +88,7 @@ pub record CanGoOn (has : ℕ → Bool) (first pool : PathPool) (seeds : SeedIds
   pub are : (b : ℕ) → occurs b ases ≡ true → (has b ≡ true) × (has_change overlay b ≡ true) × IsSome (routing_of pool table overlay b)
   pub live : live_count pool ≤ live_count first + length ases
   pub counts : (k : ℕ) → count_of pool k ≤ count_of first k + length ases
-  pub few : (k : ℕ) → count_of first k ≤ 4000000000
+  pub few : (k : ℕ) → count_of first k ≤ MOST_COUNTED
   pub held : AreHeld pool table overlay
   pub entries_live : AreEntriesLive pool table
   pub seeds_live : AreSeedsLive pool seeds

@@ -1,7 +1,7 @@
 //! An AS is given an entry, or none. Room is made first, so that after a refusal all ASes hold what
 //! they held.
 
-ghost use Rattle.std.specs.Prelude.{◌≡◌, ◌≢◌, ℕ, ◌<◌, ◌≤◌, Some, None, IsTrue, IsSome, true, false, OnOk, OnErr, IfOk, Option};
+ghost use Rattle.std.specs.Prelude.{◌≡◌, ◌≢◌, ℕ, ◌<◌, Some, None, IsTrue, IsSome, true, false, OnOk, OnErr, IfOk, Option};
 ghost use Rattle.path_pool.specs.Pool.{IsLive, SamePaths, limit_of, spare_of};
 ghost use Rattle.stability_laws.specs.Book.{policy_at};
 ghost use Rattle.stability_laws.specs.declared.entry.Seed.{Seed as ASeed};
@@ -9,8 +9,9 @@ ghost use Rattle.route_choice.specs.declared.held.Held.{Held as AHeld};
 ghost use Rattle.route_choice.specs.declared.seeds.SeedIds.{SeedIds as TheSeeds};
 ghost use Rattle.route_choice.specs.declared.table.Table.{Table as ATable};
 ghost use Rattle.route_choice.specs.Choices.{named_by};
+ghost use Rattle.route_choice.specs.PrefixWorlds.{named_at};
 ghost use Rattle.route_choice.specs.Resources.{AreHeld, AreSeedsLive, CanStep, IsNameable};
-ghost use Rattle.route_choice.specs.Routings.{entry_of, routing_of, seeds_of};
+ghost use Rattle.route_choice.specs.Routings.{entry_of, routing_of};
 ghost use Rattle.route_choice.specs.Tables.{change_at, joined, overlay_uses};
 ghost use Rattle.dirty_recompute.specs.Resources.{CanTurn, IsKept, has_change};
 ghost use Rattle.dirty_recompute.specs.Giving.{with_first, GivesUpNone, IsGiven, SameHeld};
@@ -54,32 +55,34 @@ fn is_with_first(
 }
 
 // Whether the choice is an offer that gives an AS the entry that it holds, by the first cell of its path. The
-// place where the neighbour may stand is a hint.
+// places where the AS and the neighbour may stand are hints.
 fn is_held_by_offer<P: RoutePolicy, V>(
     at: &PrefixWorld<'_, P, V>,
     pool: &PathPool,
     overlay: &Overlay,
     asn: Asn,
+    place: usize,
     before: &Option<Held>,
-    choice: Choice,
-    from: usize,
+    chosen: &ChoiceNear,
 ) -> bool
     requires held { AreHeld pool.now at.now.table.now overlay.now }
     requires before { before.now ≡ joined at.now.table.now overlay.now asn }
     ensures { IsTrue result → (seed : Option ASeed) →
         named_by (λ n. P.meaning (policy_at at.now.book.now n)) seed
-        (routing_of pool.now at.now.table.now overlay.now) asn choice
+        (routing_of pool.now at.now.table.now overlay.now) asn chosen.now.choice
         ≡ routing_of pool.now at.now.table.now overlay.now asn }
 {
     let Some(have) = before else {
         return false;
     };
+    let choice = chosen.choice;
+    let from = chosen.place;
     match choice {
         Choice::Nothing | Choice::Seed => false,
         Choice::Via { neighbour, rel } => match held_near(at.table, overlay, neighbour, from) {
             Some(given) => {
-                let sender = at.book.policy(neighbour);
-                let receiver = at.book.policy(asn);
+                let sender = at.book.policy_near(neighbour, from);
+                let receiver = at.book.policy_near(asn, place);
                 let otc = carried(sender, receiver, neighbour, rel.converse(), given.otc);
                 is_with_first(pool, have, asn, class_from(rel), given.path, otc)
             }
@@ -126,15 +129,11 @@ fn give_entry<P: RoutePolicy, V>(
 ) -> Result<bool, NoMemory>
     requires can { CanTurn pool.old at.now.seeds.now at.now.table.now overlay.old }
     requires choice { IsNameable at.now.seeds.now at.now.table.now overlay.old asn chosen.choice }
-    requires some { IsSome (named_by (λ n. P.meaning (policy_at at.now.book.now n))
-        (seeds_of pool.old at.now.seeds.now asn) (routing_of pool.old at.now.table.now overlay.old) asn
-        chosen.choice) }
+    requires some { IsSome (named_at P.meaning at.now pool.old overlay.old asn chosen.choice) }
     requires kept { GivesUpNone pool.old at.now.table.now overlay.old asn
-        (named_by (λ n. P.meaning (policy_at at.now.book.now n)) (seeds_of pool.old at.now.seeds.now asn)
-        (routing_of pool.old at.now.table.now overlay.old) asn chosen.choice) }
+        (named_at P.meaning at.now pool.old overlay.old asn chosen.choice) }
     ensures given { IfOk result (IsGiven pool.old pool.new at.now.table.now overlay.old overlay.new asn
-        (named_by (λ n. P.meaning (policy_at at.now.book.now n)) (seeds_of pool.old at.now.seeds.now asn)
-        (routing_of pool.old at.now.table.now overlay.old) asn chosen.choice)) }
+        (named_at P.meaning at.now pool.old overlay.old asn chosen.choice)) }
     ensures err { OnErr result (SameHeld pool.old pool.new at.now.table.now overlay.old overlay.new) }
     ensures kept { IsKept pool.old pool.new at.now.seeds.now overlay.old overlay.new }
 {
@@ -184,16 +183,13 @@ pub(crate) fn give_chosen<P: RoutePolicy, V>(
     requires choice { IsNameable at.now.seeds.now at.now.table.now overlay.old asn chosen.choice }
     requires before { before.now ≡ joined at.now.table.now overlay.old asn }
     requires kept { GivesUpNone pool.old at.now.table.now overlay.old asn
-        (named_by (λ n. P.meaning (policy_at at.now.book.now n)) (seeds_of pool.old at.now.seeds.now asn)
-        (routing_of pool.old at.now.table.now overlay.old) asn chosen.choice) }
+        (named_at P.meaning at.now pool.old overlay.old asn chosen.choice) }
     ensures given { IfOk result (IsGiven pool.old pool.new at.now.table.now overlay.old overlay.new asn
-        (named_by (λ n. P.meaning (policy_at at.now.book.now n)) (seeds_of pool.old at.now.seeds.now asn)
-        (routing_of pool.old at.now.table.now overlay.old) asn chosen.choice)) }
+        (named_at P.meaning at.now pool.old overlay.old asn chosen.choice)) }
     ensures err { OnErr result (SameHeld pool.old pool.new at.now.table.now overlay.old overlay.new) }
     ensures kept { IsKept pool.old pool.new at.now.seeds.now overlay.old overlay.new }
 {
-    let from = chosen.place;
-    if is_held_by_offer(at, pool, overlay, asn, before, chosen.choice, from) {
+    if is_held_by_offer(at, pool, overlay, asn, place, before, &chosen) {
         return Ok(false);
     }
     match chosen.choice {

@@ -10,6 +10,7 @@ ghost use Rattle.path_pool.specs.Pool.{holds_of, count_of, live_count, limit_of}
 ghost use Rattle.rank_order.specs.Plans.{rank_after, IsLastPlan};
 ghost use Rattle.stability_laws.specs.Stable.{IsRight};
 ghost use Rattle.stability_laws.specs.World.{setting_in};
+ghost use Rattle.route_choice.specs.declared.counts.TheConstants.{MOST_COUNTED};
 ghost use Rattle.route_choice.specs.PrefixWorlds.{setting_at};
 ghost use Rattle.route_choice.specs.Resources.{AreEntriesLive, AreSeedsLive, Keeps};
 ghost use Rattle.route_choice.specs.Routings.{routing_of, seeds_of, table_routing};
@@ -225,7 +226,7 @@ pub fn plan_edit<P: RoutePolicy, V: OriginStates, L: Ledger>(
     requires seeds_live { AreSeedsLive pool.old edit.now.seeds.now }
     requires entries_live { AreEntriesLive pool.old table.old }
     requires held { (k : ℕ) → table_uses table.old k ≤ holds_of pool.old k }
-    requires counts { (k : ℕ) → count_of pool.old k ≤ 4000000000 }
+    requires counts { (k : ℕ) → count_of pool.old k ≤ MOST_COUNTED }
     requires room { live_count pool.old + 2 * as_count world.now.graph.now ≤ limit_of pool.old }
     ensures exact { IfOk result (λ o. IsExact (setting_in P.meaning V.state_of world.now (prefix_of table.old))
         (seeds_of pool.old edit.now.seeds.now) (table_routing pool.old table.old) (routing_of pool.new table.new o)

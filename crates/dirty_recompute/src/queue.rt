@@ -38,10 +38,8 @@ impl Queue {
         ensures ok { OnOk result (keys.Updates key_cmp many.old many.new key true) }
         ensures err { OnErr result (many.new.keys ≡ many.old.keys) }
     {
-        match many.insert(key) {
-            Ok(_) => Ok(()),
-            Err(_) => Err(NoMemory),
-        }
+        many.insert(key)?;
+        Ok(())
     }
 
     // Puts an AS under its rank into the queue.

@@ -1,9 +1,7 @@
 //! Whether what a neighbour holds shows that it need not choose anew.
 
-ghost use Rattle.std.specs.Prelude.{◌≡◌, ◌≢◌, ℕ, Some, IsTrue, true, false, ◌∷◌, option_map};
-ghost use Rattle.as_graph.specs.Topology.{relation};
+ghost use Rattle.std.specs.Prelude.{◌≡◌, ◌≢◌, ℕ, Some, IsTrue, false, ◌∷◌, option_map};
 ghost use Rattle.path_pool.specs.Pool.{IsLive, list_of};
-ghost use Rattle.stability_laws.specs.Book.{policy_at};
 ghost use Rattle.route_choice.specs.declared.held.Held.{Held as AHeld};
 ghost use Rattle.route_choice.specs.PrefixWorlds.{setting_at};
 ghost use Rattle.route_choice.specs.Resources.{AreHeld};
@@ -15,7 +13,7 @@ use crate::giving::held_near;
 use net_names::Asn;
 use path_pool::{PathPool, paths_are_not_empty};
 use policy_laws::{OriginStates, RoutePolicy, View};
-use route_choice::{Held, Overlay, PrefixWorld, view_but_for_loops};
+use route_choice::{Held, Overlay, PlacedAs, PrefixWorld, view_but_for_loops};
 
 /// How many ASes of a path are looked at, at most, before a neighbour is made to choose anew: so none
 /// costs more than a fixed time.
@@ -55,50 +53,58 @@ fn is_clear(pool: &PathPool, held: &Option<Held>, asn: Asn) -> bool
     }
 }
 
-// Whether an AS other than `asn` makes the neighbour an offer which its policy puts before the view.
+// Whether an AS other than `asn` makes the neighbour an offer which its policy puts before the view. The place of the
+// neighbour is a hint.
 fn is_rival<P: RoutePolicy, V: OriginStates>(
     at: &PrefixWorld<'_, P, V>,
     pool: &PathPool,
     overlay: &Overlay,
     asn: Asn,
-    neighbour: Asn,
+    neighbour: &PlacedAs,
     other: Asn,
     view: &View,
 ) -> bool
     requires held { AreHeld pool.now at.now.table.now overlay.now }
     ensures { IsTrue result → HasRival (setting_at P.meaning V.state_of at.now)
-        (routing_of pool.now at.now.table.now overlay.now) asn neighbour view.now }
+        (routing_of pool.now at.now.table.now overlay.now) asn neighbour.now.asn view.now }
 {
     if other == asn {
         return false;
     }
-    let Some(rel) = at.graph.rel(neighbour, other) else {
+    let Some(rel) = at.graph.rel(neighbour.asn, other) else {
         return false;
     };
-    let given = held_near(at.table, overlay, other, at.graph.place_near(other, 0));
-    match view_but_for_loops(at, pool, other, neighbour, rel, given) {
+    let place = at.graph.place_near(other, 0);
+    let given = held_near(at.table, overlay, other, place);
+    let giver = PlacedAs { asn: other, place };
+    let receiver = PlacedAs {
+        asn: neighbour.asn,
+        place: neighbour.place,
+    };
+    match view_but_for_loops(at, pool, giver, receiver, rel, given) {
         Some(offered) => {
-            at.book.policy(neighbour).before(&offered, view) && is_clear(pool, &given, neighbour)
+            let own = at.book.policy_near(neighbour.asn, neighbour.place);
+            own.before(&offered, view) && is_clear(pool, &given, neighbour.asn)
         }
         None => false,
     }
 }
 
 /// Whether the AS that comes second on the path of what the neighbour holds makes it an offer which its
-/// policy puts before the view.
+/// policy puts before the view. The place of the neighbour is a hint.
 pub(crate) fn has_rival<P: RoutePolicy, V: OriginStates>(
     at: &PrefixWorld<'_, P, V>,
     pool: &PathPool,
     overlay: &Overlay,
     asn: Asn,
-    neighbour: Asn,
+    neighbour: &PlacedAs,
     have: &Option<Held>,
     view: &View,
 ) -> bool
     requires held { AreHeld pool.now at.now.table.now overlay.now }
     requires have { (h : AHeld) → have.now ≡ Some h → IsLive pool.now h.path.0 }
     ensures { IsTrue result → HasRival (setting_at P.meaning V.state_of at.now)
-        (routing_of pool.now at.now.table.now overlay.now) asn neighbour view.now }
+        (routing_of pool.now at.now.table.now overlay.now) asn neighbour.now.asn view.now }
 {
     let Some(entry) = have else {
         return false;

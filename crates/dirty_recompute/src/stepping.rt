@@ -1,8 +1,8 @@
 //! One step of an AS whose entry may be wrong after an edit, and which of its neighbours may be left
 //! alone after it.
 
-ghost use Rattle.std.specs.Prelude.{◌≡◌, ◌≢◌, ◌⊎◌, ℕ, ◌+◌, ◌≤◌, Option, ◌↔◌, IsTrue, IsSome, None, true, false, OnOk, OnErr, IfOk, option_map};
-ghost use Rattle.as_graph.specs.Topology.{relation, has};
+ghost use Rattle.std.specs.Prelude.{◌≡◌, ◌⊎◌, ℕ, ◌+◌, Option, ◌↔◌, IsTrue, None, true, false, OnOk, OnErr, IfOk, option_map};
+ghost use Rattle.as_graph.specs.Topology.{has};
 ghost use Rattle.stability_laws.specs.declared.entry.Entry.{Entry as AnEntry};
 ghost use Rattle.stability_laws.specs.Book.{policy_at};
 ghost use Rattle.stability_laws.specs.Offers.{offer};
@@ -24,7 +24,8 @@ use net_names::{Asn, Class, NoMemory};
 use path_pool::PathPool;
 use policy_laws::{OriginStates, RoutePolicy};
 use route_choice::{
-    Choice, Held, Overlay, Part, PrefixWorld, Steps, Turn, evaluate_near, view_but_for_loops,
+    Choice, Held, Overlay, Part, PlacedAs, PrefixWorld, Steps, Turn, evaluate_near,
+    view_but_for_loops,
 };
 use stability_laws::{offer_path, one_answer};
 use std::sync::ledger::Ledger;
@@ -209,12 +210,8 @@ pub(crate) fn is_left<P: RoutePolicy, V: OriginStates>(
     if at.seeds.get(neighbour).is_some() {
         return true;
     }
-    let have = held_near(
-        at.table,
-        overlay,
-        neighbour,
-        at.graph.place_near(neighbour, 0),
-    );
+    let place = at.graph.place_near(neighbour, 0);
+    let have = held_near(at.table, overlay, neighbour, place);
     if may_be_over(pool, &have, &turned.before) {
         return false;
     }
@@ -222,8 +219,22 @@ pub(crate) fn is_left<P: RoutePolicy, V: OriginStates>(
         return true;
     };
     let now = held_near(at.table, overlay, turned.asn, turned.place);
-    match view_but_for_loops(at, pool, turned.asn, neighbour, rel, now) {
-        Some(view) => has_rival(at, pool, overlay, turned.asn, neighbour, &have, &view),
+    let giver = PlacedAs {
+        asn: turned.asn,
+        place: turned.place,
+    };
+    let receiver = PlacedAs {
+        asn: neighbour,
+        place,
+    };
+    match view_but_for_loops(at, pool, giver, receiver, rel, now) {
+        Some(view) => {
+            let chooser = PlacedAs {
+                asn: neighbour,
+                place,
+            };
+            has_rival(at, pool, overlay, turned.asn, &chooser, &have, &view)
+        }
         None => true,
     }
 }

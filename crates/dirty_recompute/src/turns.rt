@@ -12,9 +12,8 @@ ghost use Rattle.route_choice.specs.Routings.{routing_of, seeds_of};
 ghost use Rattle.route_choice.specs.Tables.{change_at};
 ghost use Rattle.dirty_recompute.specs.PlannedRanks.{rank_of};
 ghost use Rattle.dirty_recompute.specs.Queues.{IsAdded, AreQueued, IsAmong};
-ghost use Rattle.dirty_recompute.specs.Resources.{has_change, as_before, CanTurn, IsKept, IsPaidFor};
-ghost use Rattle.dirty_recompute.specs.Steps.{IsLeft};
-ghost use Rattle.dirty_recompute.specs.Turns.{IsTurnUp, IsTurnDown};
+ghost use Rattle.dirty_recompute.specs.Resources.{has_change, CanTurn, IsKept, IsPaidFor};
+ghost use Rattle.dirty_recompute.specs.Turns.{IsTurnUp, IsTurnDown, MayBeLeft};
 
 use crate::planned_ranks::PlannedRanks;
 use crate::queue::{Queue, Queues};
@@ -27,7 +26,7 @@ use policy_laws::{OriginStates, RoutePolicy};
 use route_choice::{Overlay, Steps};
 use std::sync::ledger::Ledger;
 
-// Puts the neighbour into the queue if it is this to the AS, and may not be left.
+// Puts the neighbour into the queue if it has the wanted relation to the AS and may have to choose anew.
 fn queue_one<P: RoutePolicy, V: OriginStates>(
     world: &RankedWorld<'_, P, V>,
     pool: &PathPool,
@@ -41,10 +40,8 @@ fn queue_one<P: RoutePolicy, V: OriginStates>(
     requires seeds { AreSeedsLive pool.now world.now.at.seeds.now }
     requires live { (h : AHeld) → turned.now.before ≡ Some h → IsLive pool.now h.path.0 }
     ensures { OnOk result (AreQueued (rank_of world.now.ranks) queue.old queue.new (λ b. (b ≡ neighbour.asn) ×
-        (neighbour.rel ≡ wanted)) (IsLeft (setting_at P.meaning V.state_of world.now.at)
-        (seeds_of pool.now world.now.at.seeds.now)
-        (as_before pool.now world.now.at.table.now overlay.now turned.now.asn turned.now.before)
-        (routing_of pool.now world.now.at.table.now overlay.now) turned.now.asn)) }
+        (neighbour.rel ≡ wanted))
+        (MayBeLeft P.meaning V.state_of world.now.at pool.now overlay.now turned.now)) }
 {
     if neighbour.rel == wanted {
         if !is_left(&world.at, pool, overlay, turned, neighbour.asn) {
@@ -54,7 +51,7 @@ fn queue_one<P: RoutePolicy, V: OriginStates>(
     Ok(())
 }
 
-// Puts the neighbours into the queue that are this to the AS, but such as may be left.
+// Puts the neighbours into the queue that have the wanted relation to the AS, but for those that need not choose anew.
 fn queue_those<P: RoutePolicy, V: OriginStates>(
     world: &RankedWorld<'_, P, V>,
     pool: &PathPool,
@@ -68,9 +65,7 @@ fn queue_those<P: RoutePolicy, V: OriginStates>(
     requires seeds { AreSeedsLive pool.now world.now.at.seeds.now }
     requires live { (h : AHeld) → turned.now.before ≡ Some h → IsLive pool.now h.path.0 }
     ensures { OnOk result (AreQueued (rank_of world.now.ranks) queue.old queue.new (IsAmong neighbours.now wanted)
-        (IsLeft (setting_at P.meaning V.state_of world.now.at) (seeds_of pool.now world.now.at.seeds.now)
-        (as_before pool.now world.now.at.table.now overlay.now turned.now.asn turned.now.before)
-        (routing_of pool.now world.now.at.table.now overlay.now) turned.now.asn)) }
+        (MayBeLeft P.meaning V.state_of world.now.at pool.now overlay.now turned.now)) }
 {
     for neighbour in neighbours {
         queue_one(world, pool, overlay, turned, *neighbour, wanted, queue)?;
@@ -93,8 +88,8 @@ fn queue_itself(
     Ok(())
 }
 
-// Puts providers into the queue upwards, and peers and customers into the one downwards, but such
-// as may be left.
+// Puts providers into the queue upwards, and peers and customers into the one downwards, but for those that
+// need not choose anew.
 fn queue_around<P: RoutePolicy, V: OriginStates>(
     world: &RankedWorld<'_, P, V>,
     pool: &PathPool,
@@ -107,17 +102,13 @@ fn queue_around<P: RoutePolicy, V: OriginStates>(
     requires live { (h : AHeld) → turned.now.before ≡ Some h → IsLive pool.now h.path.0 }
     ensures up { OnOk result (AreQueued (rank_of world.now.ranks) queues.old.up queues.new.up
         (λ b. (relation world.now.at.graph.now turned.now.asn b ≡ Some rel.Provider) ×
-        (turned.now.changed ≡ true)) (IsLeft (setting_at P.meaning V.state_of world.now.at)
-        (seeds_of pool.now world.now.at.seeds.now)
-        (as_before pool.now world.now.at.table.now overlay.now turned.now.asn turned.now.before)
-        (routing_of pool.now world.now.at.table.now overlay.now) turned.now.asn)) }
+        (turned.now.changed ≡ true))
+        (MayBeLeft P.meaning V.state_of world.now.at pool.now overlay.now turned.now)) }
     ensures whole { OnOk result (AreQueued (rank_of world.now.ranks) queues.old.whole queues.new.whole
         (λ b. ((relation world.now.at.graph.now turned.now.asn b ≡ Some rel.Customer) ⊎
         (relation world.now.at.graph.now turned.now.asn b ≡ Some rel.Peer)) ×
-        (turned.now.changed ≡ true)) (IsLeft (setting_at P.meaning V.state_of world.now.at)
-        (seeds_of pool.now world.now.at.seeds.now)
-        (as_before pool.now world.now.at.table.now overlay.now turned.now.asn turned.now.before)
-        (routing_of pool.now world.now.at.table.now overlay.now) turned.now.asn)) }
+        (turned.now.changed ≡ true))
+        (MayBeLeft P.meaning V.state_of world.now.at pool.now overlay.now turned.now)) }
 {
     if turned.changed {
         let near = world.at.graph.neighbours_near(turned.asn, turned.place);
@@ -152,7 +143,7 @@ fn queue_around<P: RoutePolicy, V: OriginStates>(
     Ok(())
 }
 
-// Puts customers into the queue downwards, but such as may be left.
+// Puts customers into the queue downwards, but for those that need not choose anew.
 fn queue_customers<P: RoutePolicy, V: OriginStates>(
     world: &RankedWorld<'_, P, V>,
     pool: &PathPool,
@@ -165,10 +156,8 @@ fn queue_customers<P: RoutePolicy, V: OriginStates>(
     requires live { (h : AHeld) → turned.now.before ≡ Some h → IsLive pool.now h.path.0 }
     ensures { OnOk result (AreQueued (rank_of world.now.ranks) whole.old whole.new
         (λ b. (relation world.now.at.graph.now turned.now.asn b ≡ Some rel.Customer) ×
-        (turned.now.changed ≡ true)) (IsLeft (setting_at P.meaning V.state_of world.now.at)
-        (seeds_of pool.now world.now.at.seeds.now)
-        (as_before pool.now world.now.at.table.now overlay.now turned.now.asn turned.now.before)
-        (routing_of pool.now world.now.at.table.now overlay.now) turned.now.asn)) }
+        (turned.now.changed ≡ true))
+        (MayBeLeft P.meaning V.state_of world.now.at pool.now overlay.now turned.now)) }
 {
     if turned.changed {
         let near = world.at.graph.neighbours_near(turned.asn, turned.place);

@@ -4,6 +4,9 @@ use Rattle.stability_laws.specs.Book.{policy_at}
 use Rattle.route_choice.specs.Choices.{named_by}
 use Rattle.route_choice.specs.Routings.{routing_of, seeds_of}
 use Rattle.dirty_recompute.proofs.RoomLemmas.{given_after, kept_after, same_named, still_nameable}
+use Rattle.dirty_recompute.specs.Giving.{IsGiven}
+use Rattle.dirty_recompute.specs.Resources.{IsKept}
+use Rattle.dirty_recompute.proofs.giving.give_entry.Given as given
 use Rattle.dirty_recompute.proofs.giving.give_entry.Goals as goal
 
 pub returns-in_err-make_room-clause-kept : goal.returns-in_err-make_room-clause-kept
@@ -19,8 +22,10 @@ settle_near-requires-clause-pool g c = (c.in_ok-make_room.ensures.can c.args.at.
 pub settle_near-requires-clause-room : goal.settle_near-requires-clause-room
 settle_near-requires-clause-room g c = inr (c.in_ok-make_room.ensures.can c.args.at.now.seeds.now c.args.at.now.table.now c.requires.can).room
 
-pub returns-clause-given : goal.returns-clause-given
-returns-clause-given g c =
+-- what the step left
+both : (g : given.Over) (c : goal.After-settle_near g) → IsGiven c.args.pool.now c.settle_near.new.pool c.args.at.now.table.now c.args.overlay.now c.settle_near.new.overlay c.args.asn (named_by (λ n. g.P.RoutePolicy.meaning (policy_at c.args.at.now.book.now n)) (seeds_of c.args.pool.now c.args.at.now.seeds.now c.args.asn) (routing_of c.args.pool.now c.args.at.now.table.now c.args.overlay.now) c.args.asn c.args.chosen.choice) c.settle_near.result
+    × IsKept c.args.pool.now c.settle_near.new.pool c.args.at.now.seeds.now c.args.overlay.now c.settle_near.new.overlay
+both g c =
     let p = c.args.pool.now in let q = c.make_room.new.pool in let r = c.settle_near.new.pool in
     let x = c.args.overlay.now in let y = c.make_room.new.overlay in let z = c.settle_near.new.overlay in
     let seeds = c.args.at.now.seeds.now in let t = c.args.at.now.table.now in let a = c.args.asn in
@@ -30,19 +35,13 @@ returns-clause-given g c =
     let kept = c.make_room.ensures.kept seeds c.requires.can.seeds_live in
     let paths = c.make_room.ensures.paths in
     let done = c.settle_near.ensures in
-    let at = same_named p q r seeds t x y z a same paths kept policy c.args.chosen.choice done.named in
-    given_after p q r seeds t x y z a same paths kept new c.settle_near.result c.requires.some at done.others done.changed done.unchanged done.put done.spent
+    let at = same_named p q r seeds t x y z a same paths kept policy c.args.chosen.choice done.named in (
+      given_after p q r seeds t x y z a same paths kept new c.settle_near.result c.requires.some at done.others done.changed done.unchanged done.put done.spent,
+      kept_after p q r seeds t x y z a same paths kept new c.requires.kept at done.spent done.kept,
+    )
+
+pub returns-clause-given : goal.returns-clause-given
+returns-clause-given g c = (both g c).0
 
 pub returns-clause-kept : goal.returns-clause-kept
-returns-clause-kept g c =
-    let p = c.args.pool.now in let q = c.make_room.new.pool in let r = c.settle_near.new.pool in
-    let x = c.args.overlay.now in let y = c.make_room.new.overlay in let z = c.settle_near.new.overlay in
-    let seeds = c.args.at.now.seeds.now in let t = c.args.at.now.table.now in let a = c.args.asn in
-    let policy : ℕ → Policy = λ n. g.P.RoutePolicy.meaning (policy_at c.args.at.now.book.now n) in
-    let new = named_by policy (seeds_of p seeds a) (routing_of p t x) a c.args.chosen.choice in
-    let same = c.make_room.ensures.same t c.requires.can.held in
-    let kept = c.make_room.ensures.kept seeds c.requires.can.seeds_live in
-    let paths = c.make_room.ensures.paths in
-    let done = c.settle_near.ensures in
-    let at = same_named p q r seeds t x y z a same paths kept policy c.args.chosen.choice done.named in
-    kept_after p q r seeds t x y z a same paths kept new c.requires.kept at done.spent done.kept
+returns-clause-kept g c = (both g c).1

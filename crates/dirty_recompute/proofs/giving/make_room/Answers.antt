@@ -1,9 +1,10 @@
 use Rattle.std.proofs.Common.{arith, refl}
+use Rattle.route_choice.proofs.Room.{keeps_itself}
 use Rattle.dirty_recompute.proofs.RoomLemmas.{same_held, same_kept}
 use Rattle.dirty_recompute.proofs.giving.make_room.Goals as goal
 
 pub returns-in_err-room-clause-kept : goal.returns-in_err-room-clause-kept
-returns-in_err-room-clause-kept c = λ seeds live. record { keeps = record { live = λ k l. l; lists = λ k l. refl; same_seeds = λ a. refl }; holds = λ k. omega (arith, c.room.ensures.uses k); limit = refl }
+returns-in_err-room-clause-kept c = λ seeds live. record { keeps = keeps_itself c.args.pool.now seeds; holds = λ k. omega (arith, c.room.ensures.uses k); limit = refl }
 
 pub returns-in_err-reserve_cell-clause-same : goal.returns-in_err-reserve_cell-clause-same
 returns-in_err-reserve_cell-clause-same c = λ table held. same_held c.args.pool.now c.reserve_cell.new.pool table c.args.overlay.now c.room.new.self held c.reserve_cell.ensures.same c.room.ensures.same

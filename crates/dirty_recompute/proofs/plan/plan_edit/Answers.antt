@@ -1,5 +1,5 @@
-use Rattle.std.proofs.Common.{◌≡◌, refl, sym, ◌∙◌, subst, arith}
-use Rattle.stability_laws.proofs.KeyLists.{not_err}
+use Rattle.std.proofs.Common.{◌≡◌, false, true≢false, Result, Ok, Err, refl, sym, ◌∙◌, subst, arith}
+use Rattle.std.specs.Prelude.{is_err, OnOk}
 use Rattle.stability_laws.specs.World.{setting_in}
 use Rattle.route_choice.specs.Routings.{routing_of, seeds_of, table_routing}
 use Rattle.route_choice.specs.Tables.{prefix_of}
@@ -9,6 +9,11 @@ use Rattle.dirty_recompute.specs.Resources.{has_change, SameTable}
 use Rattle.dirty_recompute.proofs.Going.{can_start, few_new_cells, same_routing, seeds_same, table_same, undone}
 use Rattle.dirty_recompute.proofs.plan.plan_edit.Goals as goal
 use Rattle.dirty_recompute.proofs.plan.plan_edit.Goals.{then-is_err-via-then-is_err, then-is_err-via-else-is_err+then-is_err-2}
+
+-- a call that gave no error ensures what it ensures on success
+not_err : {A E P : Type 0} (r : Result A E) → is_err r ≡ false → OnOk r P → P
+not_err (Ok x) e h = h
+not_err (Err x) e h = absurd (true≢false e)
 
 pub put_changes-put-requires-clause-falls : goal.put_changes-put-requires-clause-falls
 put_changes-put-requires-clause-falls g c = they_fall _ c.args.world.now.graph.now c.ranks_fit.ensures c.requires.no_cycle c.requires.ranks

@@ -20,11 +20,11 @@ returns-then-before g c = λ clear.
     let meaning = g.P.RoutePolicy.meaning in
     let here : Setting = setting_at meaning g.V.OriginStates.state_of c.args.at.now in
     let f : ℕ → Option Entry = routing_of c.args.pool.now c.args.at.now.table.now c.args.overlay.now in
-    let b = c.args.neighbour in
+    let b = c.args.neighbour.now.asn in
     let m = c.args.other in
     let result = c.view_but_for_loops.result in
     let held : f m ≡ option_map (entry_of c.args.pool.now) c.held_near-given.result = ap (option_map (entry_of c.args.pool.now)) (sym c.held_near-given.ensures) in
     let other : m ≢ c.args.asn = λ e. both_ways c.eq.result c.if-eq.false (c.eq.ensures ∙ eq-eqb m c.args.asn e) in
     let seen = c.view_but_for_loops.ensures c.args.at.now.graph.now f (sym c.in-Some.ensures) held in
     rival_by here f c.args.asn b m result c.in-Some-view_but_for_loops.offered c.args.view.now other seen (ap (λ (o : Option Entry). goes_through o b) held ∙ c.is_clear.ensures clear) c.in-Some-view_but_for_loops.is
-    (ap (λ p. (meaning p).before c.in-Some-view_but_for_loops.offered c.args.view.now) (sym c.policy.ensures) ∙ sym c.before-in-Some-view_but_for_loops.ensures ∙ c.if-before.true)
+    (ap (λ p. (meaning p).before c.in-Some-view_but_for_loops.offered c.args.view.now) (sym c.policy_near-own.ensures) ∙ sym c.before-in-Some-view_but_for_loops.ensures ∙ c.if-before.true)
