@@ -12,7 +12,7 @@ use Rattle.data_trace.specs.Marks.{hop_at}
 use Rattle.data_trace.specs.Lists.{link_at, target, Unlinks, owner_with, owner_but, HasLists}
 use Rattle.data_trace.proofs.Walking.{last_in}
 use Rattle.data_trace.proofs.ListLemmas.{is_this, or_none, unlinked, owner_same, owner_other, eqb_no}
-use Rattle.data_trace.proofs.Joining.{lists_same, no_owner}
+use Rattle.data_trace.proofs.Joining.{lists_same, lists_owned, no_owner}
 
 or_false : (b : Bool) → (b || false) ≡ b
 or_false true = refl
@@ -31,19 +31,7 @@ owner_push hops queue a x = ⊎_elim here there (cases_eq x a)
 
 module _ (hops : List PlaceHop) (queue : List ℕ) (first before after first' before' after' : List (Option ℕ)) (a : ℕ) (h : HasLists hops queue first before after) (out : list_any (nat_eq a) queue ≡ false) where
   pub leave_none : target (hop_at hops a) ≡ None → HasLists hops (queue ++ a ∷ []) first before after
-  leave_none t = record {
-    first_len = h.first_len;
-    before_len = h.before_len;
-    after_len = h.after_len;
-    first_below = h.first_below;
-    before_below = h.before_below;
-    after_below = h.after_below;
-    lists = ∥∥₁_map h.lists (λ r. (
-      r.0,
-      lists_same (owner_but hops queue) (owner_but hops (queue ++ a ∷ [])) (link_at first) (link_at before) (link_at after) r.0
-          (λ x. owner_push hops queue a x ∙ no_owner (owner_but hops queue) a None (ap (λ b. cond b None (target (hop_at hops a))) out ∙ t) x) r.1,
-    ));
-  }
+  leave_none t = lists_owned hops hops queue (queue ++ a ∷ []) first before after refl (λ x. owner_push hops queue a x ∙ no_owner (owner_but hops queue) a None (ap (λ b. cond b None (target (hop_at hops a))) out ∙ t) x) h
 
   pub leave_to : (b : ℕ) → hop_at hops a ≡ To b → length first' ≡ length first → length before' ≡ length before → length after' ≡ length after →
       Unlinks (link_at first) (link_at before) (link_at after) (link_at first') (link_at before') (link_at after') b (link_at before a) (link_at after a) → HasLists hops (queue ++ a ∷ []) first' before' after'

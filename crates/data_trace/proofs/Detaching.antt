@@ -57,9 +57,7 @@ module _ (s : Source) (keys : List ℕ) where
     lists = u.lists;
     unknown = u.unknown;
     room = omega (arith, can.room, can.places, u.room, u.places);
-    few = can.few;
-    counted = u.counted;
-    sums_room = omega (arith, can.sums_room, u.sums_room);
+    sums = record { few = can.sums.few; counted = u.counted; room = omega (arith, can.sums.room, u.sums_room) };
   }
 
 module _ (s : Source) (keys : List ℕ) (hops : List PlaceHop) (a : ℕ) (h : PlaceHop) (inside : a < length hops) (right : named keys h ≡ sends s (name_at keys a)) where

@@ -26,6 +26,19 @@ lists_same owner other first before after rank e h = record {
 pub no_owner : (owner : ℕ → Option ℕ) (a : ℕ) (o : Option ℕ) → owner a ≡ o → (x : ℕ) → owner_with owner a o x ≡ owner x
 no_owner owner a o e x = ⊎_elim (λ (q : x ≡ a). ap (owner_with owner a o) q ∙ owner_same owner a o ∙ sym e ∙ ap owner (sym q)) (λ (q : x ≢ a). owner_other owner a x o q) (cases_eq x a)
 
+-- the lists stay where each place is in the list that it was in
+pub lists_owned : (hops hops' : List PlaceHop) (queue queue' : List ℕ) (first before after : List (Option ℕ)) → length hops' ≡ length hops → ((x : ℕ) → owner_but hops' queue' x ≡ owner_but hops queue x) →
+    HasLists hops queue first before after → HasLists hops' queue' first before after
+lists_owned hops hops' queue queue' first before after len same h = record {
+  first_len = h.first_len ∙ sym len;
+  before_len = h.before_len ∙ sym len;
+  after_len = h.after_len ∙ sym len;
+  first_below = λ x y e. subst (λ n. y < n) (sym len) (h.first_below x y e);
+  before_below = λ x y e. subst (λ n. y < n) (sym len) (h.before_below x y e);
+  after_below = λ x y e. subst (λ n. y < n) (sym len) (h.after_below x y e);
+  lists = ∥∥₁_map h.lists (λ r. (r.0, lists_same (owner_but hops queue) (owner_but hops' queue') (link_at first) (link_at before) (link_at after) r.0 same r.1));
+}
+
 -- ---- a place joins the list of its next hop
 
 owner_joins : (hops : List PlaceHop) (rest : List ℕ) (a x : ℕ) → list_any (nat_eq a) rest ≡ false → owner_but hops rest x ≡ owner_with (owner_but hops (a ∷ rest)) a (target (hop_at hops a)) x
@@ -43,19 +56,7 @@ module _ (hops : List PlaceHop) (rest : List ℕ) (first before after first' bef
   no_list = ap (λ b. cond (b || list_any (nat_eq a) rest) None (target (hop_at hops a))) (eq-eqb a a refl)
 
   pub join_none : target (hop_at hops a) ≡ None → HasLists hops rest first before after
-  join_none t = record {
-    first_len = h.first_len;
-    before_len = h.before_len;
-    after_len = h.after_len;
-    first_below = h.first_below;
-    before_below = h.before_below;
-    after_below = h.after_below;
-    lists = ∥∥₁_map h.lists (λ r. (
-      r.0,
-      lists_same (owner_but hops (a ∷ rest)) (owner_but hops rest) (link_at first) (link_at before) (link_at after) r.0
-          (λ x. owner_joins hops rest a x out ∙ no_owner (owner_but hops (a ∷ rest)) a (target (hop_at hops a)) (no_list ∙ sym t) x) r.1,
-    ));
-  }
+  join_none t = lists_owned hops hops (a ∷ rest) rest first before after refl (λ x. owner_joins hops rest a x out ∙ no_owner (owner_but hops (a ∷ rest)) a (target (hop_at hops a)) (no_list ∙ sym t) x) h
 
   pub join_to : (b : ℕ) → hop_at hops a ≡ To b → length first' ≡ length first → length before' ≡ length before → length after' ≡ length after →
       LinksFirst (link_at first) (link_at before) (link_at after) (link_at first') (link_at before') (link_at after') a b (link_at first b) → HasLists hops rest first' before' after'
@@ -92,18 +93,11 @@ module _ (hops : List PlaceHop) (rest : List ℕ) (first before after first' bef
 -- the lists stay where only places of the queue get other next hops
 pub lists_rewritten : (hops hops' : List PlaceHop) (queue : List ℕ) (first before after : List (Option ℕ)) → length hops' ≡ length hops → ((x : ℕ) → list_any (nat_eq x) queue ≡ false → hop_at hops' x ≡ hop_at hops x) →
     HasLists hops queue first before after → HasLists hops' queue first before after
-lists_rewritten hops hops' queue first before after len same h = record {
-  first_len = h.first_len ∙ sym len;
-  before_len = h.before_len ∙ sym len;
-  after_len = h.after_len ∙ sym len;
-  first_below = λ x y e. subst (λ n. y < n) (sym len) (h.first_below x y e);
-  before_below = λ x y e. subst (λ n. y < n) (sym len) (h.before_below x y e);
-  after_below = λ x y e. subst (λ n. y < n) (sym len) (h.after_below x y e);
-  lists = ∥∥₁_map h.lists (λ r. (r.0, lists_same (owner_but hops queue) (owner_but hops' queue) (link_at first) (link_at before) (link_at after) r.0 (λ x. owner x (list_any (nat_eq x) queue) refl) r.1));
-} where
-  owner : (x : ℕ) (v : Bool) → list_any (nat_eq x) queue ≡ v → cond v None (target (hop_at hops' x)) ≡ cond v None (target (hop_at hops x))
-  owner x true e = refl
-  owner x false e = ap target (same x e)
+lists_rewritten hops hops' queue first before after len same h = lists_owned hops hops' queue queue first before after len (λ x. owner x (list_any (nat_eq x) queue) refl) h
+  where
+    owner : (x : ℕ) (v : Bool) → list_any (nat_eq x) queue ≡ v → cond v None (target (hop_at hops' x)) ≡ cond v None (target (hop_at hops x))
+    owner x true e = refl
+    owner x false e = ap target (same x e)
 
 -- equal columns have the same lists
 pub lists_equal : {hops hops' : List PlaceHop} {queue queue' : List ℕ} {first first' before before' after after' : List (Option ℕ)} → hops' ≡ hops → queue' ≡ queue → first' ≡ first → before' ≡ before → after' ≡ after →

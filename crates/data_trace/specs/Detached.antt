@@ -12,7 +12,7 @@ use Rattle.data_trace.specs.Lists.{HasLists}
 use Rattle.data_trace.specs.Keeping.{HasRoom}
 use Rattle.data_trace.specs.Spreads.{IsFront}
 use Rattle.data_trace.specs.Sums.{room_of}
-use Rattle.data_trace.specs.Counted.{AreCounted}
+use Rattle.data_trace.specs.Counted.{AreCounted, CanCount}
 use Rattle.data_trace.specs.Sources.{HasHop, HopsChange}
 
 -- each place that is not in the queue stands in its list, each place without a known end is in the queue and has the next hop of its AS, and there is room for all places
@@ -25,9 +25,7 @@ pub record CanDetach (s : Source) (ases : List ℕ) (columns : Columns) (l : Lis
   pub lists : HasLists columns.hops.items l.queue.items l.first.items l.before.items l.after.items
   pub unknown : (x : ℕ) → x < length columns.hops.items → mark_of columns.marks.items x ≡ Unknown → HasHop s ases columns.hops.items x
   pub room : length columns.hops.items ≤ vec_capacity l.queue
-  pub few : length ases < 4294967292
-  pub counted : AreCounted columns.sums ases columns.marks.items columns.groups.items
-  pub sums_room : length ases ≤ room_of columns.sums
+  pub sums : CanCount columns.sums ases columns.marks.items columns.groups.items
 
 -- places came to the queue, left their lists and have the next hops of their ASes, their ends are no longer known, and all else stays
 pub record IsDetached (s : Source) (ases : List ℕ) (old new : Columns) (l l' : Lists) : Type 0 where

@@ -4,10 +4,12 @@ pub mod Steps
 pub mod Best
 pub mod Candidates
 pub mod Announcers
+pub mod NextHops
 pub mod Packed
 pub mod Marks
 pub mod Lists
 pub mod Keeping
+pub mod Growing
 pub mod Watches
 pub mod Spreads
 pub mod Sums

@@ -1,11 +1,13 @@
 //! The columns of a watch, of which each has an entry for each place.
 ghost use Rattle.std.specs.Prelude.{◌≡◌, ℕ, ◌<◌, ◌≤◌, true, not, length, IfOk, nat_eq};
+ghost use Rattle.data_trace.specs.declared.places.TheConstants.{PLACE_LIMIT};
 ghost use Rattle.std.specs.List.{list_any, IsDistinct};
 ghost use Rattle.net_names.specs.Numbers.{occurs};
 ghost use Rattle.as_graph.specs.Topology.{has};
 ghost use Rattle.route_choice.specs.RoundTables.{round_routing, AreAllLive};
 ghost use Rattle.stability_laws.specs.Book.{policy_at};
 ghost use Rattle.data_trace.specs.Hops.{next_hop as next_hop_of};
+ghost use Rattle.data_trace.specs.NextHops.{hops_by};
 ghost use Rattle.data_trace.specs.Columns.{named, name_at, is_customer, is_here as is_here_standing, is_stub as is_stub_standing, AreHops, AreGroups, IsGroup, IsAmong};
 ghost use Rattle.data_trace.specs.declared.places.PlaceHop.TheVariants as APlaceHop;
 ghost use Rattle.as_graph.specs.declared.build.TheConstants.{MOST_ASES};
@@ -41,6 +43,7 @@ pub fn ases_of(alloc: Global, graph: &Graph) -> Result<AsPlaces, NoMemory>
     ensures few { IfOk result (λ p. length p.ases ≤ MOST_ASES) }
     ensures apart { IfOk result (λ p. IsDistinct nat_eq p.ases) }
 {
+    // `as_count` is called for its clause that there are few ASes, which the proof cites
     let _count = graph.as_count();
     AsPlaces::of(alloc, graph.ases())
 }
@@ -48,7 +51,7 @@ pub fn ases_of(alloc: Global, graph: &Graph) -> Result<AsPlaces, NoMemory>
 /// The next hop, with the place in place of its AS, which is sought first at a place.
 pub fn place_of(ases: &AsPlaces, hop: Hop, near: usize) -> PlaceHop
     requires among { IsAmong ases.now.ases hop }
-    requires few { length ases.now.ases < 4294967292 }
+    requires few { length ases.now.ases < PLACE_LIMIT }
     ensures named { named ases.now.ases result ≡ hop }
     ensures within { (y : ℕ) → result ≡ APlaceHop.To y → y < length ases.now.ases }
 {
@@ -69,21 +72,17 @@ fn hops_of(
     ases: &AsPlaces,
     hints: &Hints,
 ) -> Result<Vec<PackedHop>, NoMemory>
-    requires among { (a : ℕ) → IsAmong ases.now.ases (next_hop_of forwarding.now.plan.now (round_routing forwarding.now.pool.now forwarding.now.tables.now) forwarding.now.addr a) }
+    requires among { (a : ℕ) → IsAmong ases.now.ases (hops_by forwarding.now a) }
     requires few { length ases.now.ases ≤ MOST_ASES }
-    ensures { IfOk result (λ v. AreHops (next_hop_of forwarding.now.plan.now (round_routing forwarding.now.pool.now forwarding.now.tables.now) forwarding.now.addr) ases.now.ases v.items) }
+    ensures { IfOk result (λ v. AreHops (hops_by forwarding.now) ases.now.ases v.items) }
 {
     let numbers = ases.as_slice();
-    let Ok(mut hops) = Vec::with_capacity(alloc, numbers.len()) else {
-        return Err(NoMemory);
-    };
+    let mut hops = Vec::with_capacity(alloc, numbers.len())?;
     for place in 0..numbers.len() {
         let hop = forwarding.next(numbers[place], place);
         let near = hints.near(&hop);
         let placed = place_of(ases, hop, near);
-        if hops.push(PackedHop::of(placed)).is_err() {
-            return Err(NoMemory);
-        }
+        hops.push(PackedHop::of(placed))?;
     }
     Ok(hops)
 }
@@ -100,9 +99,11 @@ pub fn next_hops(
     hints: &Hints,
 ) -> Result<Vec<PackedHop>, NoMemory>
     requires live { AreAllLive pool.now tables.now }
-    requires among { (a : ℕ) → IsAmong ases.now.ases (next_hop_of plan.now (round_routing pool.now tables.now) addr a) }
+    requires among { (a : ℕ) →
+        IsAmong ases.now.ases (next_hop_of plan.now (round_routing pool.now tables.now) addr a) }
     requires few { length ases.now.ases ≤ MOST_ASES }
-    ensures { IfOk result (λ v. AreHops (next_hop_of plan.now (round_routing pool.now tables.now) addr) ases.now.ases v.items) }
+    ensures { IfOk result (λ v.
+        AreHops (next_hop_of plan.now (round_routing pool.now tables.now) addr) ases.now.ases v.items) }
 {
     let forwarding = Forwarding::new(alloc, tables, pool, plan, addr)?;
     hops_of(alloc, &forwarding, ases, hints)
@@ -186,16 +187,9 @@ pub fn groups_of<P: Labelled>(
     requires { (x : ℕ) → x < length ases.now → has graph.now (name_at ases.now x) ≡ true }
     ensures { IfOk result (λ v. AreGroups graph.now (λ a. P.label_of (policy_at book.now a)) ases.now v.items) }
 {
-    let Ok(mut groups) = Vec::with_capacity(alloc, ases.len()) else {
-        return Err(NoMemory);
-    };
+    let mut groups = Vec::with_capacity(alloc, ases.len())?;
     for place in 0..ases.len() {
-        if groups
-            .push(group_of(graph, book, ases[place], place))
-            .is_err()
-        {
-            return Err(NoMemory);
-        }
+        groups.push(group_of(graph, book, ases[place], place))?;
     }
     Ok(groups)
 }

@@ -1,11 +1,12 @@
 //! Marks and groups of places, with the sums that count them.
 ghost use Rattle.std.specs.Prelude.{◌≡◌, ℕ, ◌+◌, ◌<◌, ◌≤◌, Bool, true, length, slice_set, Option, IfOk};
+ghost use Rattle.data_trace.specs.declared.places.TheConstants.{PLACE_LIMIT};
 ghost use Rattle.data_trace.specs.declared.kinds.End.{End as AnEnd};
 ghost use Rattle.data_trace.specs.declared.places.PlaceEnd.TheVariants as APlaceEnd;
 ghost use Rattle.data_trace.specs.declared.places.Mark.TheVariants as AMark;
 ghost use Rattle.data_trace.specs.Marks.{mark_of};
 ghost use Rattle.data_trace.specs.Sums.{total, room_of};
-ghost use Rattle.data_trace.specs.Counted.{kept_end, adds, AreCounted};
+ghost use Rattle.data_trace.specs.Counted.{kept_end, adds, AreCounted, CanCount};
 
 use crate::End;
 use crate::packed::{PackedMark, mark_in, write_mark};
@@ -32,7 +33,7 @@ pub fn end_told(ases: &[Asn], mark: Mark) -> Option<End>
 // Counts an AS with this end and these groups.
 fn join(sums: &mut Sums, end: Option<End>, group: Group)
     requires room { total (λ e s l. true) sums.old + adds (λ e s l. true) end group ≤ room_of sums.old }
-    requires few { total (λ e s l. true) sums.old + adds (λ e s l. true) end group < 4294967292 }
+    requires few { total (λ e s l. true) sums.old + adds (λ e s l. true) end group < PLACE_LIMIT }
     ensures added { (p : AnEnd → Bool → ℕ → Bool) → total p sums.new ≡ total p sums.old + adds p end group }
     ensures room { room_of sums.old ≤ room_of sums.new }
 {
@@ -72,10 +73,8 @@ pub fn put_mark(
     mark: Mark,
 )
     requires inside { place < length ases.now }
-    requires few { length ases.now < 4294967292 }
     requires below { (y : ℕ) → mark ≡ AMark.Known (APlaceEnd.At y) → y < length ases.now }
-    requires counted { AreCounted sums.old ases.now marks.old groups.now }
-    requires room { length ases.now ≤ room_of sums.old }
+    requires sums { CanCount sums.old ases.now marks.old groups.now }
     ensures marks { marks.new ≡ slice_set marks.old place mark }
     ensures counted { AreCounted sums.new ases.now marks.new groups.now }
     ensures room { room_of sums.old ≤ room_of sums.new }
@@ -96,9 +95,7 @@ pub fn put_group(
     group: Group,
 )
     requires inside { place < length ases.now }
-    requires few { length ases.now < 4294967292 }
-    requires counted { AreCounted sums.old ases.now marks.now groups.old }
-    requires room { length ases.now ≤ room_of sums.old }
+    requires sums { CanCount sums.old ases.now marks.now groups.old }
     ensures groups { groups.new ≡ slice_set groups.old place group }
     ensures counted { AreCounted sums.new ases.now marks.now groups.new }
     ensures room { room_of sums.old ≤ room_of sums.new }
@@ -112,7 +109,7 @@ pub fn put_group(
 
 /// Counts all places, of which none is counted yet.
 pub fn count_all(sums: &mut Sums, ases: &[Asn], marks: &[PackedMark], groups: &[Group])
-    requires few { length ases.now < 4294967292 }
+    requires few { length ases.now < PLACE_LIMIT }
     requires marks_len { length marks.now ≡ length ases.now }
     requires groups_len { length groups.now ≡ length ases.now }
     requires below { (x y : ℕ) → mark_of marks.now x ≡ AMark.Known (APlaceEnd.At y) → y < length ases.now }

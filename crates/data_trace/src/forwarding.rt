@@ -1,7 +1,6 @@
 //! The next hops of one round and one address.
 ghost use Rattle.std.specs.Prelude.{◌≡◌, ℕ, OnOk, IfOk, length, option_and_then, option_copied};
-ghost use Rattle.route_choice.specs.RoundTables.{round_routing, AreAllLive};
-ghost use Rattle.data_trace.specs.Hops.{next_hop as next_hop_of};
+ghost use Rattle.route_choice.specs.RoundTables.{AreAllLive};
 ghost use Rattle.data_trace.specs.Best.{better_of, best_in, holding};
 ghost use Rattle.route_choice.specs.Tables.{held_at};
 ghost use Rattle.data_trace.specs.Candidates.{best_among};
@@ -37,7 +36,9 @@ fn add_candidate<'a>(
     prefix: Prefix,
     table: Option<&'a Table>,
 ) -> Result<(), NoMemory>
-    ensures { OnOk result ((a : ℕ) → best_among candidates.new.items a ≡ better_of (best_among candidates.old.items a) prefix (option_and_then (λ t. held_at t a) (option_copied table.entry))) }
+    ensures { OnOk result ((a : ℕ) →
+        best_among candidates.new.items a ≡ better_of (best_among candidates.old.items a) prefix
+        (option_and_then (λ t. held_at t a) (option_copied table.entry))) }
 {
     let Some(table) = table else {
         return Ok(());
@@ -78,6 +79,8 @@ fn best_at(candidates: &[Candidate], asn: Asn, place: usize) -> Option<Best>
 }
 
 impl<'a> Forwarding<'a> {
+    ghost use Rattle.data_trace.specs.NextHops.{hops_by};
+
     /// The next hops to the address.
     pub fn new(
         alloc: Global,
@@ -106,7 +109,7 @@ impl<'a> Forwarding<'a> {
     // Where an AS sends a packet where there is one table.
     fn next_in_one(&self, asn: Asn, place: usize) -> Hop
         requires { length self.now.candidates.items ≡ 1 }
-        ensures { result ≡ next_hop_of self.now.plan.now (round_routing self.now.pool.now self.now.tables.now) self.now.addr asn }
+        ensures { result ≡ hops_by self.now asn }
     {
         let one = &self.candidates[0];
         let best = Best::better(None, one.prefix, one.table.get_near(asn, place));
@@ -115,7 +118,7 @@ impl<'a> Forwarding<'a> {
 
     /// Where an AS sends a packet, whose entries are sought first at a place.
     pub fn next(&self, asn: Asn, place: usize) -> Hop
-        ensures { result ≡ next_hop_of self.now.plan.now (round_routing self.now.pool.now self.now.tables.now) self.now.addr asn }
+        ensures { result ≡ hops_by self.now asn }
     {
         if self.candidates.len() == 1 {
             return self.next_in_one(asn, place);

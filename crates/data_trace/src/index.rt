@@ -41,13 +41,11 @@ impl WatchIndex {
     {
         let ases = ases_of(alloc, graph)?;
         let groups = groups_of(alloc, graph, book, ases.as_slice())?;
-        match Hints::of(alloc, ases.as_slice()) {
-            Ok(hints) => Ok(WatchIndex {
-                ases,
-                hints,
-                groups,
-            }),
-            Err(_) => Err(NoMemory),
-        }
+        let hints = Hints::of(alloc, ases.as_slice())?;
+        Ok(WatchIndex {
+            ases,
+            hints,
+            groups,
+        })
     }
 }

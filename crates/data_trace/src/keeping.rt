@@ -1,5 +1,6 @@
 //! The lists of a watch, and room for what an update goes through.
-ghost use Rattle.std.specs.Prelude.{◌≡◌, ℕ, ◌+◌, ◌<◌, ◌≤◌, [], ◌∷◌, ◌++◌, None, length, vec_capacity, IfOk, OnOk};
+ghost use Rattle.std.specs.Prelude.{◌+◌, ◌<◌, ◌≤◌, length, vec_capacity, IfOk, OnOk};
+ghost use Rattle.data_trace.specs.declared.places.TheConstants.{PLACE_LIMIT};
 ghost use Rattle.data_trace.specs.Marks.{IsWithin};
 ghost use Rattle.data_trace.specs.Lists.{AreNone};
 
@@ -20,6 +21,7 @@ pub struct Lists {
 
 impl Lists {
     ghost use Rattle.data_trace.specs.Keeping.{HasRoom, AreKept};
+    ghost use Rattle.data_trace.specs.Growing.{AreLinked, StayLinks, HasRoomForOne, AddsPlace};
 
     /// No lists. Takes no memory.
     pub fn none(alloc: Global) -> Lists {
@@ -35,7 +37,7 @@ impl Lists {
     /// The lists of all places.
     pub fn of(alloc: Global, hops: &[PackedHop]) -> Result<Lists, AllocError>
         requires within { IsWithin hops.now }
-        requires few { length hops.now < 4294967292 }
+        requires few { length hops.now < PLACE_LIMIT }
         ensures { IfOk result (λ l. AreKept hops.now (length hops.now) l) }
     {
         let count = hops.len();
@@ -57,7 +59,7 @@ impl Lists {
         path: Vec<u32>,
     ) -> Lists
         requires within { IsWithin hops.now }
-        requires few { length hops.now < 4294967292 }
+        requires few { length hops.now < PLACE_LIMIT }
         requires first { AreNone first.items (length hops.now) }
         requires before { AreNone before.items (length hops.now) }
         requires after { AreNone after.items (length hops.now) }
@@ -80,16 +82,11 @@ impl Lists {
         }
     }
 
-    /// Makes room for so many places more.
+    /// Makes room for `more` further places.
     pub fn reserve(&mut self, places: usize, more: usize) -> Result<(), AllocError>
-        requires few { places + more < 4294967292 }
-        requires first { length self.old.first.items ≡ places }
-        requires before { length self.old.before.items ≡ places }
-        requires after { length self.old.after.items ≡ places }
-        ensures first { self.new.first.items ≡ self.old.first.items }
-        ensures before { self.new.before.items ≡ self.old.before.items }
-        ensures after { self.new.after.items ≡ self.old.after.items }
-        ensures kept { (n : ℕ) → HasRoom n self.old → HasRoom n self.new }
+        requires few { places + more < PLACE_LIMIT }
+        requires linked { AreLinked places self.old }
+        ensures stay { StayLinks self.old self.new }
         ensures room { OnOk result (HasRoom (places + more) self.new) }
     {
         self.first.reserve(more)?;
@@ -100,14 +97,9 @@ impl Lists {
     }
 
     /// Puts a place at the end, which stands in no list. Takes no memory.
-    pub fn add(&mut self)
-        requires first { length self.old.first.items < vec_capacity self.old.first }
-        requires before { length self.old.before.items < vec_capacity self.old.before }
-        requires after { length self.old.after.items < vec_capacity self.old.after }
-        ensures first { self.new.first.items ≡ self.old.first.items ++ None ∷ [] }
-        ensures before { self.new.before.items ≡ self.old.before.items ++ None ∷ [] }
-        ensures after { self.new.after.items ≡ self.old.after.items ++ None ∷ [] }
-        ensures kept { (n : ℕ) → HasRoom n self.old → HasRoom n self.new }
+    pub fn add_place(&mut self)
+        requires { HasRoomForOne self.old }
+        ensures { AddsPlace self.old self.new }
     {
         put_last(&mut self.first, None);
         put_last(&mut self.before, None);

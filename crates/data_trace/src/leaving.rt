@@ -30,8 +30,8 @@ fn unlink(
     requires b_inside { b < length first.old }
     requires before_below { AreBelow before.old (length after.old) }
     requires after_below { AreBelow after.old (length before.old) }
-    ensures { Unlinks (link_at first.old) (link_at before.old) (link_at after.old) (link_at first.new) (link_at before.new) (link_at after.new) b
-        (link_at before.old a) (link_at after.old a) }
+    ensures { Unlinks (link_at first.old) (link_at before.old) (link_at after.old)
+        (link_at first.new) (link_at before.new) (link_at after.new) b (link_at before.old a) (link_at after.old a) }
 {
     let previous = before[a as usize];
     let next = after[a as usize];
@@ -52,8 +52,8 @@ fn leave(
     requires inside { a < length hops.now }
     requires within { IsWithin hops.now }
     requires lists { (queue : List ℕ) × HasLists hops.now queue first.old before.old after.old }
-    ensures { (queue : List ℕ) → HasLists hops.now queue first.old before.old after.old → list_any (nat_eq a) queue ≡ false →
-        HasLists hops.now (queue ++ a ∷ []) first.new before.new after.new }
+    ensures { (queue : List ℕ) → HasLists hops.now queue first.old before.old after.old →
+        list_any (nat_eq a) queue ≡ false → HasLists hops.now (queue ++ a ∷ []) first.new before.new after.new }
 {
     let PlaceHop::To(b) = hop_in(hops, a) else {
         return;
@@ -134,9 +134,11 @@ pub fn detach(
     near: usize,
 )
     requires { CanDetach source.now ases.now.ases columns.old lists.old }
-    ensures changed { (x : ℕ) → x < length ases.now.ases → occurs (name_at ases.now.ases x) changed.now ≡ true → HasHop source.now ases.now.ases columns.new.hops.items x }
+    ensures changed { (x : ℕ) → x < length ases.now.ases → occurs (name_at ases.now.ases x) changed.now ≡ true →
+        HasHop source.now ases.now.ases columns.new.hops.items x }
     ensures detached { IsDetached source.now ases.now.ases columns.old columns.new lists.old lists.new }
 {
+    // `as_slice` is called for its clause that no AS stands twice, which the proof cites
     let _numbers = ases.as_slice();
     'changed: for asn in changed {
         let row = source.graph.place_near(*asn, near);

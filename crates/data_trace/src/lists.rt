@@ -1,5 +1,6 @@
 //! Which places send to which, in lists through the places.
 ghost use Rattle.std.specs.Prelude.{◌≡◌, ◌≢◌, ℕ, ◌<◌, ◌≤◌, [], ◌∷◌, ◌++◌, length, List, slice_index, nat_eq, false, vec_capacity, IfOk, IfSome, Some};
+ghost use Rattle.data_trace.specs.declared.places.TheConstants.{PLACE_LIMIT};
 ghost use Rattle.std.specs.List.{list_any, IsDistinct};
 ghost use Rattle.data_trace.specs.Marks.{IsWithin};
 ghost use Rattle.data_trace.specs.Lists.{link_at, AreBelow, LinksFirst, HasLists, AreNone};
@@ -30,8 +31,8 @@ fn link(
     requires a_inside { (a < length before.old) × (a < length after.old) }
     requires b_inside { b < length first.old }
     requires first_below { AreBelow first.old (length before.old) }
-    ensures { LinksFirst (link_at first.old) (link_at before.old) (link_at after.old) (link_at first.new) (link_at before.new) (link_at after.new) a b
-        (link_at first.old b) }
+    ensures { LinksFirst (link_at first.old) (link_at before.old) (link_at after.old)
+        (link_at first.new) (link_at before.new) (link_at after.new) a b (link_at first.old b) }
 {
     let next = first[b as usize];
     first[b as usize] = Some(a);
@@ -51,8 +52,8 @@ fn join(
     requires inside { a < length hops.now }
     requires within { IsWithin hops.now }
     requires lists { (rest : List ℕ) × HasLists hops.now rest first.old before.old after.old }
-    ensures { (rest : List ℕ) → HasLists hops.now (a ∷ rest) first.old before.old after.old → list_any (nat_eq a) rest ≡ false →
-        HasLists hops.now rest first.new before.new after.new }
+    ensures { (rest : List ℕ) → HasLists hops.now (a ∷ rest) first.old before.old after.old →
+        list_any (nat_eq a) rest ≡ false → HasLists hops.now rest first.new before.new after.new }
 {
     let PlaceHop::To(b) = hop_in(hops, a) else {
         return;
@@ -87,7 +88,7 @@ pub fn link_all(
     after: &mut [Option<u32>],
 )
     requires within { IsWithin hops.now }
-    requires few { length hops.now < 4294967292 }
+    requires few { length hops.now < PLACE_LIMIT }
     requires first { AreNone first.old (length hops.now) }
     requires before { AreNone before.old (length hops.now) }
     requires after { AreNone after.old (length hops.now) }

@@ -1,5 +1,6 @@
 //! Next hops and marks in four bytes each.
 ghost use Rattle.std.specs.Prelude.{◌≡◌, ℕ, ◌<◌, length, slice_set};
+ghost use Rattle.data_trace.specs.declared.places.TheConstants.{PLACE_LIMIT};
 ghost use Rattle.data_trace.specs.declared.places.Mark.TheVariants as AMark;
 ghost use Rattle.data_trace.specs.declared.places.PlaceEnd.TheVariants as APlaceEnd;
 ghost use Rattle.data_trace.specs.declared.places.PlaceHop.TheVariants as APlaceHop;
@@ -32,7 +33,7 @@ impl PackedHop {
     /// The next hop in four bytes.
     #[inline(always)]
     pub fn of(hop: PlaceHop) -> PackedHop
-        requires { (y : ℕ) → hop ≡ APlaceHop.To y → y < 4294967292 }
+        requires { (y : ℕ) → hop ≡ APlaceHop.To y → y < PLACE_LIMIT }
         ensures { result ≡ hop }
     {
         match hop {
@@ -79,7 +80,7 @@ impl PackedMark {
     /// The mark in four bytes.
     #[inline(always)]
     pub fn of(mark: Mark) -> PackedMark
-        requires { (y : ℕ) → mark ≡ AMark.Known (APlaceEnd.At y) → y < 4294967292 }
+        requires { (y : ℕ) → mark ≡ AMark.Known (APlaceEnd.At y) → y < PLACE_LIMIT }
         ensures { result ≡ mark }
     {
         match mark {
@@ -132,7 +133,7 @@ pub fn mark_in(marks: &[PackedMark], place: u32) -> Mark
 #[inline(always)]
 pub fn put_hop(hops: &mut [PackedHop], place: u32, hop: PlaceHop)
     requires inside { place < length hops.old }
-    requires fits { (y : ℕ) → hop ≡ APlaceHop.To y → y < 4294967292 }
+    requires fits { (y : ℕ) → hop ≡ APlaceHop.To y → y < PLACE_LIMIT }
     ensures { hops.new ≡ slice_set hops.old place hop }
 {
     hops[place as usize] = PackedHop::of(hop);
@@ -142,7 +143,7 @@ pub fn put_hop(hops: &mut [PackedHop], place: u32, hop: PlaceHop)
 #[inline(always)]
 pub fn write_mark(marks: &mut [PackedMark], place: u32, mark: Mark)
     requires inside { place < length marks.old }
-    requires fits { (y : ℕ) → mark ≡ AMark.Known (APlaceEnd.At y) → y < 4294967292 }
+    requires fits { (y : ℕ) → mark ≡ AMark.Known (APlaceEnd.At y) → y < PLACE_LIMIT }
     ensures { marks.new ≡ slice_set marks.old place mark }
 {
     marks[place as usize] = PackedMark::of(mark);

@@ -1,5 +1,8 @@
 //! ASes as places, which are numbered from 0.
 
+/// There are fewer places than this, so that each next hop and each end fits in four bytes.
+pub const PLACE_LIMIT: usize = 4_294_967_292;
+
 /// Where the AS at a place sends a packet.
 #[derive(Clone, Copy, Debug, PartialEq, Eq)]
 pub enum PlaceHop {

@@ -6,7 +6,7 @@ ghost use Rattle.stability_laws.specs.Book.{policy_at};
 ghost use Rattle.data_trace.specs.Marks.{next_of, hop_at, IsWithin, AreEnds};
 ghost use Rattle.data_trace.specs.Keeping.{HasRoom, AreKept};
 ghost use Rattle.data_trace.specs.Sums.{room_of};
-ghost use Rattle.data_trace.specs.Counted.{AreCounted};
+ghost use Rattle.data_trace.specs.Counted.{AreCounted, CanCount};
 ghost use Rattle.data_trace.specs.Columns.{named, name_at, group_at, AreHops, IsGroup};
 ghost use Rattle.data_trace.specs.Sources.{sends};
 
@@ -35,12 +35,12 @@ pub fn regroup<P: Labelled>(
     regrouped: &[Asn],
     near: usize,
 )
-    requires few { length ases.now.ases < 4294967292 }
-    requires counted { AreCounted columns.old.sums ases.now.ases columns.old.marks.items columns.old.groups.items }
-    requires sums_room { length ases.now.ases ≤ room_of columns.old.sums }
+    requires sums { CanCount columns.old.sums ases.now.ases columns.old.marks.items columns.old.groups.items }
     ensures regrouped { (x : ℕ) → x < length ases.now.ases → occurs (name_at ases.now.ases x) regrouped.now ≡ true →
-        IsGroup graph.now (λ a. P.label_of (policy_at book.now a)) (name_at ases.now.ases x) (group_at columns.new.groups.items x) }
-    ensures others { (x : ℕ) → x < length ases.now.ases → occurs (name_at ases.now.ases x) regrouped.now ≡ false → group_at columns.new.groups.items x ≡ group_at columns.old.groups.items x }
+        IsGroup graph.now (λ a. P.label_of (policy_at book.now a)) (name_at ases.now.ases x)
+        (group_at columns.new.groups.items x) }
+    ensures others { (x : ℕ) → x < length ases.now.ases → occurs (name_at ases.now.ases x) regrouped.now ≡ false →
+        group_at columns.new.groups.items x ≡ group_at columns.old.groups.items x }
     ensures counted { AreCounted columns.new.sums ases.now.ases columns.new.marks.items columns.new.groups.items }
     ensures hops { columns.new.hops ≡ columns.old.hops }
     ensures marks { columns.new.marks ≡ columns.old.marks }
@@ -70,16 +70,16 @@ pub fn renew(
     differing: &Differing<'_>,
     near: usize,
 )
-    requires few { length ases.now.ases < 4294967292 }
     requires listed { (a : ℕ) → has source.now.graph.now a ≡ true → occurs a ases.now.ases ≡ true }
     requires len { length columns.old.hops.items ≡ length ases.now.ases }
     requires within { IsWithin columns.old.hops.items }
-    requires others { (x : ℕ) → x < length ases.now.ases → occurs (name_at ases.now.ases x) differing.now.hops.now ≡ false → occurs (name_at ases.now.ases x) differing.now.groups.now ≡ false →
+    requires others { (x : ℕ) → x < length ases.now.ases →
+        occurs (name_at ases.now.ases x) differing.now.hops.now ≡ false →
+        occurs (name_at ases.now.ases x) differing.now.groups.now ≡ false →
         named ases.now.ases (hop_at columns.old.hops.items x) ≡ sends source.now (name_at ases.now.ases x) }
     requires ends { AreEnds (next_of columns.old.hops.items) (length columns.old.hops.items) columns.old.marks.items }
     requires lists { AreKept columns.old.hops.items (length ases.now.ases) lists.old }
-    requires counted { AreCounted columns.old.sums ases.now.ases columns.old.marks.items columns.old.groups.items }
-    requires sums_room { length ases.now.ases ≤ room_of columns.old.sums }
+    requires sums { CanCount columns.old.sums ases.now.ases columns.old.marks.items columns.old.groups.items }
     ensures hops { AreHops (sends source.now) ases.now.ases columns.new.hops.items }
     ensures within { IsWithin columns.new.hops.items }
     ensures ends { AreEnds (next_of columns.new.hops.items) (length columns.new.hops.items) columns.new.marks.items }

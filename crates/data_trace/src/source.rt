@@ -1,5 +1,6 @@
 //! The next hops of the ASes of a graph, as places.
 ghost use Rattle.std.specs.Prelude.{◌≡◌, ℕ, ◌<◌, true, length};
+ghost use Rattle.data_trace.specs.declared.places.TheConstants.{PLACE_LIMIT};
 ghost use Rattle.net_names.specs.Numbers.{occurs};
 ghost use Rattle.as_graph.specs.Topology.{has};
 ghost use Rattle.route_choice.specs.RoundTables.{round_routing, AreAllLive};
@@ -45,7 +46,7 @@ impl<'a> Source<'a> {
     /// Where an AS of the graph sends, and no route of others. The place where its row and its entries
     /// may stand is a hint.
     pub fn hop(&self, ases: &AsPlaces, asn: Asn, place: usize) -> PlaceHop
-        requires few { length ases.now.ases < 4294967292 }
+        requires few { length ases.now.ases < PLACE_LIMIT }
         requires listed { (a : ℕ) → has self.now.graph.now a ≡ true → occurs a ases.now.ases ≡ true }
         ensures named { named ases.now.ases result ≡ sends self.now asn }
         ensures within { (y : ℕ) → result ≡ APlaceHop.To y → y < length ases.now.ases }

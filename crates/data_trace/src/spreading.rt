@@ -4,7 +4,7 @@ ghost use Rattle.data_trace.specs.Marks.{is_known};
 ghost use Rattle.data_trace.specs.Lists.{link_at, AreBelow};
 ghost use Rattle.data_trace.specs.Spreads.{IsFront, HasSpread, Forgets};
 ghost use Rattle.data_trace.specs.Sums.{room_of};
-ghost use Rattle.data_trace.specs.Counted.{AreCounted};
+ghost use Rattle.data_trace.specs.Counted.{AreCounted, CanCount};
 
 use crate::counting::put_mark;
 use crate::packed::{PackedMark, mark_in};
@@ -23,9 +23,7 @@ pub fn forget_place(
 )
     requires inside { x < length marks.old }
     requires queued { length queue.old.items + count_by is_known marks.old ≤ vec_capacity queue.old }
-    requires few { length ases.now < 4294967292 }
-    requires counted { AreCounted sums.old ases.now marks.old groups.now }
-    requires sums_room { length ases.now ≤ room_of sums.old }
+    requires sums { CanCount sums.old ases.now marks.old groups.now }
     ensures forgets { Forgets (Some x) marks.old queue.old.items marks.new queue.new.items }
     ensures counted { AreCounted sums.new ases.now marks.new groups.now }
     ensures room { vec_capacity queue.old ≤ vec_capacity queue.new }
@@ -49,9 +47,7 @@ fn forget(
 )
     requires inside { IfSome x (λ a. a < length marks.old) }
     requires queued { length queue.old.items + count_by is_known marks.old ≤ vec_capacity queue.old }
-    requires few { length ases.now < 4294967292 }
-    requires counted { AreCounted sums.old ases.now marks.old groups.now }
-    requires sums_room { length ases.now ≤ room_of sums.old }
+    requires sums { CanCount sums.old ases.now marks.old groups.now }
     ensures forgets { Forgets x marks.old queue.old.items marks.new queue.new.items }
     ensures counted { AreCounted sums.new ases.now marks.new groups.now }
     ensures room { vec_capacity queue.old ≤ vec_capacity queue.new }
@@ -86,11 +82,10 @@ pub fn spread(
     requires after_len { length after.now ≡ length marks.old }
     requires front { IsFront marks.old marks.old queue.old.items }
     requires room { length marks.old ≤ vec_capacity queue.old }
-    requires few { length ases.now < 4294967292 }
-    requires counted { AreCounted sums.old ases.now marks.old groups.now }
-    requires sums_room { length ases.now ≤ room_of sums.old }
+    requires sums { CanCount sums.old ases.now marks.old groups.now }
     ensures front { IsFront marks.old marks.new queue.new.items }
-    ensures spread { HasSpread (link_at first.now) (link_at after.now) marks.new queue.new.items (length queue.old.items) (length queue.new.items) }
+    ensures spread { HasSpread (link_at first.now) (link_at after.now) marks.new queue.new.items
+        (length queue.old.items) (length queue.new.items) }
     ensures roots { take (length queue.old.items) queue.new.items ≡ queue.old.items }
     ensures counted { AreCounted sums.new ases.now marks.new groups.now }
     ensures room { vec_capacity queue.old ≤ vec_capacity queue.new }

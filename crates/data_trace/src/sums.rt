@@ -5,6 +5,7 @@ ghost use Rattle.data_trace.specs.Watches.{in_group as is_in_group, is_end};
 ghost use Rattle.data_trace.specs.Sums.{part, is_same_flag, is_counted as counts};
 ghost use Rattle.data_trace.specs.declared.kinds.End.{End as AnEnd};
 ghost use Rattle.data_trace.specs.declared.cell.Cell.{Cell as ACell};
+ghost use Rattle.data_trace.specs.declared.sums.TheConstants.{NEAR};
 
 use crate::cell::Cell;
 use crate::{End, Which};
@@ -24,7 +25,7 @@ const NEAR: usize = 1024;
 
 // The remainder of an end and groups.
 fn remainder(end: &End, stub: bool, label: u8) -> usize
-    ensures { result < 1024 }
+    ensures { result < NEAR }
 {
     let number = match end {
         End::At(asn) => asn.get() as usize,
@@ -82,7 +83,8 @@ fn is_counted(cell: &Cell, end: &End, stub: bool, label: u8) -> bool
 
 // The place of the cell that counts ASes of this end and these groups, if there is one.
 fn find(cells: &[Cell], end: &End, stub: bool, label: u8) -> Option<usize>
-    ensures some { IfSome result (λ i. (i < length cells.now) × ((d : ACell) → counts end.now stub label (slice_index_or cells.now i d) ≡ true)) }
+    ensures some { IfSome result (λ i. (i < length cells.now)
+        × ((d : ACell) → counts end.now stub label (slice_index_or cells.now i d) ≡ true)) }
     ensures none { IfNone result (list_any (counts end.now stub label) cells.now ≡ false) }
 {
     for place in 0..cells.len() {
@@ -95,7 +97,8 @@ fn find(cells: &[Cell], end: &End, stub: bool, label: u8) -> Option<usize>
 
 // The same, sought first at a place.
 fn find_near(cells: &[Cell], near: usize, end: &End, stub: bool, label: u8) -> Option<usize>
-    ensures some { IfSome result (λ i. (i < length cells.now) × ((d : ACell) → counts end.now stub label (slice_index_or cells.now i d) ≡ true)) }
+    ensures some { IfSome result (λ i. (i < length cells.now)
+        × ((d : ACell) → counts end.now stub label (slice_index_or cells.now i d) ≡ true)) }
     ensures none { IfNone result (list_any (counts end.now stub label) cells.now ≡ false) }
 {
     if near < cells.len() && is_counted(&cells[near], end, stub, label) {
@@ -106,7 +109,8 @@ fn find_near(cells: &[Cell], near: usize, end: &End, stub: bool, label: u8) -> O
 
 // The place of a cell that counts no AS, if there is one.
 fn free(cells: &[Cell]) -> Option<usize>
-    ensures some { IfSome result (λ i. (i < length cells.now) × ((d : ACell) → (slice_index_or cells.now i d).count ≡ 0)) }
+    ensures some { IfSome result (λ i. (i < length cells.now)
+        × ((d : ACell) → (slice_index_or cells.now i d).count ≡ 0)) }
     ensures none { IfNone result (length cells.now ≤ sum_by (part (λ e s l. true)) cells.now) }
 {
     for place in 0..cells.len() {
@@ -183,7 +187,8 @@ impl Sums {
     // A cell for one AS.
     fn open(&mut self, end: End, stub: bool, label: u8)
         requires room { total (λ e s l. true) self.old < room_of self.old }
-        ensures added { (p : AnEnd → Bool → ℕ → Bool) → total p self.new ≡ total p self.old + (if p end stub label then 1 else 0) }
+        ensures added { (p : AnEnd → Bool → ℕ → Bool) →
+            total p self.new ≡ total p self.old + (if p end stub label then 1 else 0) }
         ensures room { room_of self.old ≤ room_of self.new }
     {
         let cell = Cell {
@@ -223,7 +228,8 @@ impl Sums {
     pub fn add(&mut self, end: End, stub: bool, label: u8)
         requires room { total (λ e s l. true) self.old < room_of self.old }
         requires few { total (λ e s l. true) self.old < 4294967295 }
-        ensures added { (p : AnEnd → Bool → ℕ → Bool) → total p self.new ≡ total p self.old + (if p end stub label then 1 else 0) }
+        ensures added { (p : AnEnd → Bool → ℕ → Bool) →
+            total p self.new ≡ total p self.old + (if p end stub label then 1 else 0) }
         ensures room { room_of self.old ≤ room_of self.new }
     {
         let at = remainder(&end, stub, label);
@@ -239,7 +245,8 @@ impl Sums {
     /// One AS less, which is counted.
     pub fn take(&mut self, end: End, stub: bool, label: u8)
         requires { (p : AnEnd → Bool → ℕ → Bool) → p end stub label ≡ true → 1 ≤ total p self.old }
-        ensures taken { (p : AnEnd → Bool → ℕ → Bool) → total p self.new + (if p end stub label then 1 else 0) ≡ total p self.old }
+        ensures taken { (p : AnEnd → Bool → ℕ → Bool) →
+            total p self.new + (if p end stub label then 1 else 0) ≡ total p self.old }
         ensures room { room_of self.old ≤ room_of self.new }
     {
         let Some(place) = find(&self.cells, &end, stub, label) else {

@@ -2,6 +2,7 @@
 ghost use Rattle.std.specs.Prelude.{◌≡◌, [], IfOk, ◌∷◌};
 ghost use Rattle.route_choice.specs.RoundTables.{round_routing, AreAllLive};
 ghost use Rattle.data_trace.specs.Hops.{next_hop as next_hop_of};
+ghost use Rattle.data_trace.specs.NextHops.{hops_by};
 ghost use Rattle.data_trace.specs.Traces.{IsTrace};
 
 use crate::forwarding::Forwarding;
@@ -23,12 +24,10 @@ struct Walk {
 
 // Follows next hops from an AS on.
 fn follow(alloc: Global, forwarding: &Forwarding<'_>, asn: Asn) -> Result<Walk, NoMemory>
-    ensures { IfOk result (λ w. IsTrace (next_hop_of forwarding.now.plan.now (round_routing forwarding.now.pool.now forwarding.now.tables.now) forwarding.now.addr) asn w.ases.keys w.end) }
+    ensures { IfOk result (λ w. IsTrace (hops_by forwarding.now) asn w.ases.keys w.end) }
 {
     let mut ases = IndexSet::new(alloc);
-    if ases.insert(asn).is_err() {
-        return Err(NoMemory);
-    }
+    ases.insert(asn)?;
     let mut last = asn;
     'steps: loop {
         match forwarding.next(last, 0) {
@@ -44,16 +43,15 @@ fn follow(alloc: Global, forwarding: &Forwarding<'_>, asn: Asn) -> Result<Walk, 
                     end: End::NoRoute,
                 });
             }
-            Hop::To(next) => match ases.insert(next) {
-                Ok(true) => last = next,
-                Ok(false) => {
+            Hop::To(next) => {
+                if !ases.insert(next)? {
                     return Ok(Walk {
                         ases,
                         end: End::Loop,
                     });
                 }
-                Err(_) => return Err(NoMemory),
-            },
+                last = next;
+            }
         }
     }
 }
@@ -74,15 +72,14 @@ pub fn trace(
     addr: Addr,
 ) -> Result<Trace, NoMemory>
     requires { AreAllLive pool.now tables.now }
-    ensures { IfOk result (λ t. IsTrace (next_hop_of plan.now (round_routing pool.now tables.now) addr) asn t.walk t.end) }
+    ensures { IfOk result (λ t.
+        IsTrace (next_hop_of plan.now (round_routing pool.now tables.now) addr) asn t.walk t.end) }
 {
     let forwarding = Forwarding::new(alloc, tables, pool, plan, addr)?;
     let walk = follow(alloc, &forwarding, asn)?;
-    match walk.ases.as_slice().to_vec(alloc) {
-        Ok(numbers) => Ok(Trace {
-            walk: Path::from_vec(numbers),
-            end: walk.end,
-        }),
-        Err(_) => Err(NoMemory),
-    }
+    let numbers = walk.ases.as_slice().to_vec(alloc)?;
+    Ok(Trace {
+        walk: Path::from_vec(numbers),
+        end: walk.end,
+    })
 }

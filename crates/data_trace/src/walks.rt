@@ -1,9 +1,10 @@
 //! The ends of all places, by walks that mark what they pass.
 ghost use Rattle.std.specs.Prelude.{◌≡◌, ◌≢◌, ℕ, ◌<◌, ◌≤◌, [], length, slice_index, vec_capacity};
+ghost use Rattle.data_trace.specs.declared.places.TheConstants.{PLACE_LIMIT};
 ghost use Rattle.data_trace.specs.Marks.{next_of, mark_of, end_in, IsWithin, AreRight, IsWalked, Settles};
 ghost use Rattle.data_trace.specs.declared.places.PlaceEnd.TheVariants as APlaceEnd;
 ghost use Rattle.data_trace.specs.Sums.{room_of};
-ghost use Rattle.data_trace.specs.Counted.{AreCounted};
+ghost use Rattle.data_trace.specs.Counted.{AreCounted, CanCount};
 ghost use Rattle.data_trace.specs.declared.places.Mark.TheVariants as AMark;
 
 use crate::counting::put_mark;
@@ -61,9 +62,7 @@ fn settle(
     requires inside { from < length hops.now }
     requires right { AreRight (next_of hops.now) marks.old }
     requires room { length hops.now ≤ vec_capacity path.old }
-    requires few { length ases.now < 4294967292 }
-    requires counted { AreCounted sums.old ases.now marks.old groups.now }
-    requires sums_room { length ases.now ≤ room_of sums.old }
+    requires sums { CanCount sums.old ases.now marks.old groups.now }
     ensures settles { Settles (next_of hops.now) marks.old marks.new from }
     ensures counted { AreCounted sums.new ases.now marks.new groups.now }
     ensures room { vec_capacity path.old ≤ vec_capacity path.new }
@@ -91,9 +90,7 @@ pub fn settle_each(
     requires places { (k : ℕ) → k < length places.now → slice_index places.now k < length hops.now }
     requires right { AreRight (next_of hops.now) marks.old }
     requires room { length hops.now ≤ vec_capacity path.old }
-    requires few { length ases.now < 4294967292 }
-    requires counted { AreCounted sums.old ases.now marks.old groups.now }
-    requires sums_room { length ases.now ≤ room_of sums.old }
+    requires sums { CanCount sums.old ases.now marks.old groups.now }
     ensures right { AreRight (next_of hops.now) marks.new }
     ensures kept { (x : ℕ) → mark_of marks.old x ≢ AMark.Unknown → mark_of marks.new x ≡ mark_of marks.old x }
     ensures known { (k : ℕ) → k < length places.now → mark_of marks.new (slice_index places.now k) ≢ AMark.Unknown }
@@ -109,7 +106,7 @@ pub fn settle_each(
 // Finds the end of `from`, and of all that it passes, of which no sums are kept.
 fn find_end(hops: &[PackedHop], marks: &mut [PackedMark], path: &mut Vec<u32>, from: u32)
     requires within { IsWithin hops.now }
-    requires few { length hops.now < 4294967292 }
+    requires few { length hops.now < PLACE_LIMIT }
     requires len { length marks.old ≡ length hops.now }
     requires inside { from < length hops.now }
     requires right { AreRight (next_of hops.now) marks.old }
@@ -129,7 +126,7 @@ fn find_end(hops: &[PackedHop], marks: &mut [PackedMark], path: &mut Vec<u32>, f
 /// Finds the ends of all places.
 pub fn find_all(hops: &[PackedHop], marks: &mut [PackedMark], path: &mut Vec<u32>)
     requires within { IsWithin hops.now }
-    requires few { length hops.now < 4294967292 }
+    requires few { length hops.now < PLACE_LIMIT }
     requires len { length marks.old ≡ length hops.now }
     requires right { AreRight (next_of hops.now) marks.old }
     requires below { (x y : ℕ) → mark_of marks.old x ≡ AMark.Known (APlaceEnd.At y) → y < length hops.now }

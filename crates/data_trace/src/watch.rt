@@ -1,5 +1,6 @@
 //! The ends of all traces of one round and one address.
 ghost use Rattle.std.specs.Prelude.{◌≡◌, ℕ, ◌+◌, ◌<◌, ◌≤◌, [], ◌∷◌, ◌++◌, Bool, true, false, length, vec_capacity, nat_eq, IfOk, OnOk, IfSome, IfNone};
+ghost use Rattle.data_trace.specs.declared.places.TheConstants.{PLACE_LIMIT};
 ghost use Rattle.std.specs.List.{IsDistinct};
 ghost use Rattle.std.proofs.Props.{props};
 ghost use Rattle.net_names.specs.Numbers.{occurs};
@@ -28,7 +29,7 @@ use crate::index::WatchIndex;
 use crate::keeping::Lists;
 use crate::lists::put_last;
 use crate::packed::{PackedHop, PackedMark, mark_in};
-use crate::places::{Group, Mark, PlaceEnd, PlaceHop, Standing};
+use crate::places::{Group, Mark, PLACE_LIMIT, PlaceEnd, PlaceHop, Standing};
 use crate::renewal::{regroup, renew};
 use crate::source::Source;
 use crate::sums::Sums;
@@ -42,9 +43,6 @@ use policy_laws::Labelled;
 use route_choice::RoundTables;
 use stability_laws::{Book, SeedPlan};
 use std::alloc::Global;
-
-// A watch has at most so many places, so that each next hop and each end fits in four bytes.
-const MOST_PLACES: usize = 4_294_967_291;
 
 /// Of each AS of a graph its next hop, the end of its trace and its groups, for one round and one
 /// address. Contracts see a row for each AS, the address, and how many ASes a graph may have of which
@@ -60,7 +58,7 @@ pub struct Watch {
     columns: Columns,
     has_lists: bool,
     lists: Lists,
-    ghost few: { length ases.ases + spare < 4294967292 },
+    ghost few: { length ases.ases + spare < PLACE_LIMIT },
     ghost apart: { IsDistinct nat_eq ases.ases } by { Prim.hlevel props },
     ghost hops_len: { length columns.hops.items ≡ length ases.ases },
     ghost within: { IsWithin columns.hops.items },
@@ -105,7 +103,9 @@ impl Watch {
     ) -> Result<Watch, NoMemory>
         requires live { AreAllLive pool.now tables.now }
         requires inside { StaysInside graph.now plan.now (round_routing pool.now tables.now) }
-        ensures rows { IfOk result (λ w. AreRows graph.now (next_hop_of plan.now (round_routing pool.now tables.now) addr) (λ a. P.label_of (policy_at book.now a)) (rows_of w)) }
+        ensures rows { IfOk result (λ w.
+            AreRows graph.now (next_hop_of plan.now (round_routing pool.now tables.now) addr)
+            (λ a. P.label_of (policy_at book.now a)) (rows_of w)) }
         ensures addr { IfOk result (λ w. addr_of w ≡ addr) }
     {
         let index = WatchIndex::of(alloc, graph, book)?;
@@ -127,15 +127,14 @@ impl Watch {
     ) -> Result<Watch, NoMemory>
         requires live { AreAllLive pool.now tables.now }
         requires inside { StaysAmong index.now plan.now (round_routing pool.now tables.now) }
-        ensures rows { IfOk result (λ w. (g : Topology) (label : ℕ → ℕ) → IsIndexOf g label index.now → AreRows g (next_hop_of plan.now (round_routing pool.now tables.now) addr) label (rows_of w)) }
+        ensures rows { IfOk result (λ w. (g : Topology) (label : ℕ → ℕ) → IsIndexOf g label index.now →
+            AreRows g (next_hop_of plan.now (round_routing pool.now tables.now) addr) label (rows_of w)) }
         ensures addr { IfOk result (λ w. addr_of w ≡ addr) }
     {
         let next = next_hops(alloc, tables, pool, plan, addr, &index.ases, &index.hints)?;
         let ases = AsPlaces::of(alloc, index.ases.as_slice())?;
-        match Vec::from_slice(alloc, index.groups.as_slice()) {
-            Ok(groups) => Watch::over(alloc, addr, ases, next, groups),
-            Err(_) => Err(NoMemory),
-        }
+        let groups = Vec::from_slice(alloc, index.groups.as_slice())?;
+        Watch::over(alloc, addr, ases, next, groups)
     }
 
     // A watch of these ASes, next hops and groups.
@@ -146,7 +145,7 @@ impl Watch {
         hops: Vec<PackedHop>,
         groups: Vec<Group>,
     ) -> Result<Watch, NoMemory>
-        requires few { length ases.ases < 4294967292 }
+        requires few { length ases.ases < PLACE_LIMIT }
         requires apart { IsDistinct nat_eq ases.ases }
         requires len { length hops.items ≡ length ases.ases }
         requires groups_len { length groups.items ≡ length ases.ases }
@@ -157,20 +156,16 @@ impl Watch {
         ensures groups { IfOk result (λ w. w.columns.groups.items ≡ groups.items) }
         ensures addr { IfOk result (λ w. w.addr ≡ addr) }
     {
-        match Blank::of(alloc, ases.as_slice()) {
-            Ok(blank) => {
-                let columns = Columns {
-                    hops,
-                    marks: blank.marks,
-                    groups,
-                    sums: blank.sums,
-                };
-                let mut watch = Watch::filled(alloc, addr, ases, columns, blank.path);
-                watch.trim()?;
-                Ok(watch)
-            }
-            Err(_) => Err(NoMemory),
-        }
+        let blank = Blank::of(alloc, ases.as_slice())?;
+        let columns = Columns {
+            hops,
+            marks: blank.marks,
+            groups,
+            sums: blank.sums,
+        };
+        let mut watch = Watch::filled(alloc, addr, ases, columns, blank.path);
+        watch.trim()?;
+        Ok(watch)
     }
 
     // The watch of these columns, with its ends, which are counted at last. It goes along the path.
@@ -181,7 +176,7 @@ impl Watch {
         mut columns: Columns,
         mut path: Vec<u32>,
     ) -> Watch
-        requires few { length ases.ases < 4294967292 }
+        requires few { length ases.ases < PLACE_LIMIT }
         requires apart { IsDistinct nat_eq ases.ases }
         requires len { length columns.hops.items ≡ length ases.ases }
         requires within { IsWithin columns.hops.items }
@@ -225,13 +220,8 @@ impl Watch {
         requires { self.old.has_lists ≡ false }
         ensures { SameColumns self.old self.new }
     {
-        match self.columns.sums.copied(self.alloc) {
-            Ok(sums) => {
-                self.columns.sums = sums;
-                Ok(())
-            }
-            Err(_) => Err(NoMemory),
-        }
+        self.columns.sums = self.columns.sums.copied(self.alloc)?;
+        Ok(())
     }
 
     // The watch of no AS. Takes no memory.
@@ -257,23 +247,15 @@ impl Watch {
         if self.has_lists {
             return Ok(());
         }
-        match self.columns.sums.reserve(self.ases.len() + self.spare) {
-            Ok(()) => {}
-            Err(_) => return Err(NoMemory),
-        }
-        match Lists::of(self.alloc, self.columns.hops.as_slice()) {
-            Ok(lists) => {
-                self.lists = lists;
-                self.has_lists = true;
-                Ok(())
-            }
-            Err(_) => Err(NoMemory),
-        }
+        self.columns.sums.reserve(self.ases.len() + self.spare)?;
+        self.lists = Lists::of(self.alloc, self.columns.hops.as_slice())?;
+        self.has_lists = true;
+        Ok(())
     }
 
-    // Makes room in all columns for so many places more.
+    // Makes room in all columns for `more` further places.
     fn reserve(&mut self, more: usize) -> Result<(), NoMemory>
-        requires few { length self.old.ases.ases + more < 4294967292 }
+        requires few { length self.old.ases.ases + more < PLACE_LIMIT }
         requires lists { self.old.has_lists ≡ true }
         ensures same { SameColumns self.old self.new }
         ensures spare { OnOk result (self.new.spare ≡ more) }
@@ -298,7 +280,7 @@ impl Watch {
         if count <= self.spare {
             return Ok(());
         }
-        if self.ases.len() + count > MOST_PLACES {
+        if self.ases.len() + count >= PLACE_LIMIT {
             return Err(NoMemory);
         }
         self.list_all()?;
@@ -327,7 +309,7 @@ impl Watch {
             label: 0,
         };
         put_last(&mut self.columns.groups, gone);
-        self.lists.add();
+        self.lists.add_place();
         self.spare -= 1;
     }
 
@@ -338,9 +320,11 @@ impl Watch {
         ensures comes { Comes graph.now coming.now self.old.ases.ases self.new.ases.ases }
         ensures addr { self.new.addr ≡ self.old.addr }
         ensures hops { (x : ℕ) → hop_at self.new.columns.hops.items x ≡ hop_at self.old.columns.hops.items x }
-        ensures groups { (x : ℕ) → group_at self.new.columns.groups.items x ≡ group_at self.old.columns.groups.items x }
+        ensures groups { (x : ℕ) →
+            group_at self.new.columns.groups.items x ≡ group_at self.old.columns.groups.items x }
         ensures lists { self.new.has_lists ≡ self.old.has_lists }
     {
+        // `ases` is called for its clause that these are the ASes of the graph, which the proof cites
         let _all = graph.ases();
         'coming: for asn in coming {
             match self.ases.place_near(*asn, graph.place_near(*asn, near)) {
@@ -374,12 +358,18 @@ impl Watch {
         requires spare { as_count graph.now ≤ spare_of self.old }
         requires live { AreAllLive pool.now tables.now }
         requires inside { StaysInside graph.now plan.now (round_routing pool.now tables.now) }
-        requires hops { KeepsHops graph.now (next_hop_of plan.now (round_routing pool.now tables.now) (addr_of self.old)) differing.now.hops.now differing.now.groups.now (rows_of self.old) }
-        requires groups { KeepsGroups graph.now (λ a. P.label_of (policy_at book.now a)) differing.now.groups.now (rows_of self.old) }
-        ensures rows { AreRows graph.now (next_hop_of plan.now (round_routing pool.now tables.now) (addr_of self.old)) (λ a. P.label_of (policy_at book.now a)) (rows_of self.new) }
+        requires hops { KeepsHops graph.now
+            (next_hop_of plan.now (round_routing pool.now tables.now) (addr_of self.old))
+            differing.now.hops.now differing.now.groups.now (rows_of self.old) }
+        requires groups { KeepsGroups graph.now (λ a. P.label_of (policy_at book.now a)) differing.now.groups.now
+            (rows_of self.old) }
+        ensures rows { AreRows graph.now
+            (next_hop_of plan.now (round_routing pool.now tables.now) (addr_of self.old))
+            (λ a. P.label_of (policy_at book.now a)) (rows_of self.new) }
         ensures addr { addr_of self.new ≡ addr_of self.old }
     {
         if graph.as_count() == 0 {
+            // `ases` is called for its clause that these are the ASes of the graph, which the proof cites
             let _all = graph.ases();
             *self = Watch::of_none(self.alloc, self.addr);
             return;

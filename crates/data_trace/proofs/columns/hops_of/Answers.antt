@@ -1,10 +1,9 @@
 use Rattle.std.proofs.Common.{rules, ◌≡◌, ℕ, ◌<◌, ◌+◌, List, [], ◌∷◌, ◌++◌, length, get_or, sym, ◌∙◌, ap, subst, arith}
 use Rattle.std.proofs.lemmas.List.{length_push, get_or_default}
-use Rattle.route_choice.specs.RoundTables.{round_routing}
 use Rattle.data_trace.specs.declared.kinds.Hop.{Hop}
 use Rattle.data_trace.specs.declared.places.PlaceHop.{PlaceHop}
 use Rattle.data_trace.specs.declared.places.PlaceHop.TheVariants.{To}
-use Rattle.data_trace.specs.Hops.{next_hop}
+use Rattle.data_trace.specs.NextHops.{hops_by}
 use Rattle.data_trace.specs.Marks.{hop_at}
 use Rattle.data_trace.specs.Columns.{named, name_at}
 use Rattle.data_trace.proofs.Naming.{within_push, follows_push}
@@ -16,7 +15,7 @@ of-requires c = λ y e. omega (arith, c.place_of-placed.ensures.within y e, c.re
 pub loop-place-preserved : goal.loop-place-preserved
 loop-place-preserved c =
     let f = c.args.forwarding.now in
-    let next : ℕ → Hop = next_hop f.plan.now (round_routing f.pool.now f.tables.now) f.addr in
+    let next : ℕ → Hop = hops_by f in
     let keys : List ℕ = c.args.ases.now.ases in
     let old : List PlaceHop = c.loop-place.hops.items in
     let h : PlaceHop = c.place_of-placed.result in

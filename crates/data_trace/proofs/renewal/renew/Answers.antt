@@ -37,9 +37,7 @@ detach-requires c =
       lists = lists_equal refl c.clear.ensures.items refl refl refl c.requires.lists.lists;
       unknown = λ x l u. absurd (true≢false (sym (none.in_queue x (omega (arith, l, c.requires.ends.len)) u) ∙ ap (list_any (nat_eq x)) c.clear.ensures.items));
       room = omega (arith, c.requires.lists.room.queue, c.clear.ensures.capacity, c.requires.len);
-      few = c.requires.few;
-      counted = c.requires.counted;
-      sums_room = c.requires.sums_room;
+      sums = c.requires.sums;
     }
 
 pub detach-requires-2 : goal.detach-requires-2
@@ -55,9 +53,7 @@ detach-requires-2 c =
       lists = first.lists;
       unknown = first.unknown;
       room = omega (arith, c.requires.lists.room.queue, c.clear.ensures.capacity, first.room, first.places);
-      few = c.requires.few;
-      counted = first.counted;
-      sums_room = omega (arith, c.requires.sums_room, first.sums_room);
+      sums = record { few = c.requires.sums.few; counted = first.counted; room = omega (arith, c.requires.sums.room, first.sums_room) };
     }
 
 pub spread-requires-clause-front : goal.spread-requires-clause-front

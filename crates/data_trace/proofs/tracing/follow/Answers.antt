@@ -2,10 +2,9 @@ use Rattle.std.proofs.Common.{rules, ◌≡◌, ℕ, ◌<◌, length, false, nat
 use Rattle.std.specs.List.{list_any}
 use Rattle.std.proofs.lemmas.List.{length_push}
 use Rattle.std.proofs.lemmas.Map.Steps.{length-le_from_distinct_below}
-use Rattle.route_choice.specs.RoundTables.{round_routing}
 use Rattle.data_trace.specs.declared.kinds.Hop.{Hop}
 use Rattle.data_trace.specs.declared.kinds.Hop.TheVariants.{To}
-use Rattle.data_trace.specs.Hops.{next_hop}
+use Rattle.data_trace.specs.NextHops.{hops_by}
 use Rattle.data_trace.specs.Traces.{IsIn}
 use Rattle.data_trace.proofs.Traces.{IsWay, last_of, way_push, below_push, last_push}
 use Rattle.data_trace.proofs.tracing.follow.Goals as goal
@@ -23,7 +22,7 @@ steps-smaller c =
 pub steps-preserved : goal.steps-preserved
 steps-preserved c =
     let f = c.args.forwarding.now in
-    let next : ℕ → Hop = next_hop f.plan.now (round_routing f.pool.now f.tables.now) f.addr in
+    let next : ℕ → Hop = hops_by f in
     let e : c.insert-in-To.new.self.keys ≡ c.steps.ases.keys ++ c.in-To.next ∷ [] = search rules in
     let out : list_any (nat_eq c.in-To.next) c.steps.ases.keys ≡ false = search rules in
     let s : next (last_of c.steps.ases.keys) ≡ To c.in-To.next = ap next c.steps.invariant.last ∙ sym c.in-To.ensures in

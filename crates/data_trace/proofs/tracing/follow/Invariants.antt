@@ -1,13 +1,12 @@
 use Rattle.std.proofs.Common.{◌≡◌, ℕ, ◌<◌, ◌-◌, length}
-use Rattle.route_choice.specs.RoundTables.{round_routing}
-use Rattle.data_trace.specs.Hops.{next_hop}
+use Rattle.data_trace.specs.NextHops.{hops_by}
 use Rattle.data_trace.specs.Traces.{IsIn}
 use Rattle.data_trace.proofs.Traces.{IsWay, last_of}
 use Rattle.data_trace.proofs.tracing.follow.Given as goal
 
 abbrev pub invariant-steps : goal.invariant-steps
 invariant-steps l = record {
-  way : IsWay (next_hop l.forwarding.plan.now (round_routing l.forwarding.pool.now l.forwarding.tables.now) l.forwarding.addr) l.fn.asn l.ases.keys;
+  way : IsWay (hops_by l.forwarding) l.fn.asn l.ases.keys;
   last : last_of l.ases.keys ≡ l.last;
   small : (q : ℕ) → IsIn q l.ases.keys → q < 4294967296;
 }

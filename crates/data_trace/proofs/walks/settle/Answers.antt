@@ -14,7 +14,7 @@ known_same d e q = cc
 pub path-init : goal.path-init
 path-init c = record {
   settling = settling_none _ _;
-  counted = same_counted c.args.sums.now c.args.ases.now c.args.marks.now c.walk-end.new.marks c.args.groups.now c.walk-end.ensures.walked.len c.walk-end.ensures.same c.requires.counted;
+  counted = same_counted c.args.sums.now c.args.ases.now c.args.marks.now c.walk-end.new.marks c.args.groups.now c.walk-end.ensures.walked.len c.walk-end.ensures.same c.requires.sums.counted;
   sums_room = omega arith;
 }
 
@@ -24,10 +24,10 @@ put_mark-requires-clause-inside c =
     let i : ℕ = c.path.at-index in
     let l : get_or xs i 0 < length c.walk-end.new.marks = walked_inside c.walk-end.new.marks _ (subst (λ ys. mark_of c.walk-end.new.marks (get_or ys i 0) ≡ Walked) (sym c.as_slice-at-items.ensures.value)
     (c.walk-end.ensures.walked.all_walked i (omega (arith, c.path-test.true, ap length c.as_slice-at-items.ensures.value)))) in
-    omega (arith, l, c.walk-end.ensures.walked.len, c.requires.counted.marks_len)
+    omega (arith, l, c.walk-end.ensures.walked.len, c.requires.sums.counted.marks_len)
 
 pub put_mark-requires-clause-below : goal.put_mark-requires-clause-below
-put_mark-requires-clause-below c = λ y e. omega (arith, c.walk-end.ensures.below y (known_same c.walk-end.result (At y) e), c.requires.len, c.requires.counted.marks_len)
+put_mark-requires-clause-below c = λ y e. omega (arith, c.walk-end.ensures.below y (known_same c.walk-end.result (At y) e), c.requires.len, c.requires.sums.counted.marks_len)
 
 pub path-preserved : goal.path-preserved
 path-preserved c =

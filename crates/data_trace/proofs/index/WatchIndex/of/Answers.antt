@@ -13,8 +13,8 @@ invariant_of-result-clause-here g c = λ x l.
 pub invariant_of-result-clause-groups_len : goal.invariant_of-result-clause-groups_len
 invariant_of-result-clause-groups_len g c = c.in_ok-groups.ensures.len ∙ ap length c.as_slice.ensures.list
 
-pub returns-in-Ok : goal.returns-in-Ok
-returns-in-Ok g c = record {
+pub returns : goal.returns
+returns g c = record {
   listed = c.in_ok-ases.ensures.listed;
   groups = subst (λ (ks : List ℕ). AreGroups c.args.graph.now (λ a. g.P.Labelled.label_of (policy_at c.args.book.now a)) ks c.in_ok-groups.groups.items) c.as_slice.ensures.list c.in_ok-groups.ensures;
 }

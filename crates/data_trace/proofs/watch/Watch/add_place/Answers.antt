@@ -33,8 +33,8 @@ invariant_of-self-clause-kept c = λ e.
     let w = c.args.self.now in
     let n = length w.ases.ases + w.spare in
     let k : AreKept w.columns.hops.items n w.lists = w.kept e in
-    subst (λ m. AreKept c.put_last.new.values.items m c.add-2.new.self) (omega (arith, ap length c.add.ensures.list, length_push w.ases.ases c.args.asn, c.requires.spare))
-    (kept_added w.columns.hops.items c.put_last.new.values.items w.lists c.add-2.new.self n (c.put_last.ensures.items ∙ ap (λ (h : PlaceHop). c.args.self.now.columns.hops.items ++ h ∷ []) c.of.ensures) c.add-2.ensures.first c.add-2.ensures.before c.add-2.ensures.after (c.add-2.ensures.kept n k.room) k)
+    subst (λ m. AreKept c.put_last.new.values.items m c.add_place.new.self) (omega (arith, ap length c.add.ensures.list, length_push w.ases.ases c.args.asn, c.requires.spare))
+    (kept_added w.columns.hops.items c.put_last.new.values.items w.lists c.add_place.new.self n (c.put_last.ensures.items ∙ ap (λ (h : PlaceHop). c.args.self.now.columns.hops.items ++ h ∷ []) c.of.ensures) c.add_place.ensures.first c.add_place.ensures.before c.add_place.ensures.after (c.add_place.ensures.room n k.room) k)
 
 pub invariant_of-self-clause-ends : goal.invariant_of-self-clause-ends
 invariant_of-self-clause-ends c =
