@@ -1,15 +1,11 @@
 -- The lines of a file of sweeps, one after the other.
-use Rattle.std.proofs.Common.{◌≡◌, ℕ, List, [], ◌∷◌, Result, refl}
-use Rattle.net_names.specs.Lines.{kept_from, said_on}
+use Rattle.std.proofs.Common.{◌≡◌, ℕ, List, ◌∷◌, Result}
+use Rattle.net_names.specs.Lines.{said_on}
 use Rattle.net_names.proofs.KeptLines.{stops}
 use Rattle.sweep.specs.declared.sweeps.Sweep.{Sweep}
 use Rattle.sweep.specs.declared.reading.SweepsError.{SweepsError}
 use Rattle.sweep.specs.declared.reading.SweepsError.TheVariants.{Memory, Unreadable, TooMany}
-use Rattle.sweep.specs.Reading.{Fails, sweeps_of, with_line}
-
-pub starts : (bytes : List ℕ) → said_on with_line [] (kept_from 1 bytes) ≡ sweeps_of bytes
-unfolding sweeps_of
-starts bytes = refl
+use Rattle.sweep.specs.Reading.{Fails, with_line}
 
 -- where a line fails, the whole fails so
 pub fails_on : (e : SweepsError) (sweeps : List Sweep) (line : ℕ × List ℕ) (lines more : List (ℕ × List ℕ)) (whole : Result (List Sweep) SweepsError)

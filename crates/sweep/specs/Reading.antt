@@ -1,6 +1,5 @@
 -- A file of sweeps: a line for each, or the fault of its first faulty line (own format).
 use Rattle.std.specs.Prelude.{◌≡◌, ℕ, ◌^◌, ◌&&◌, List, [], ◌∷◌, ◌++◌, length, nat_lt, nat_le, Option, ok_or, Result, Ok, Err, if◌then◌else◌}
-use Rattle.net_names.specs.Lines.{kept_from, said_on}
 use Rattle.net_names.specs.Steps.{option_filter}
 use Rattle.net_names.specs.Texts.{numeral, addr_of}
 use Rattle.net_names.specs.Trials.{◌>>=◌}
@@ -23,10 +22,6 @@ sweep_of number = form "sweep " (pair 32 kind_named (pair 32 (numeral 10 9) (pai
 abbrev pub with_line : List Sweep → (ℕ × List ℕ) → Result (List Sweep) SweepsError
 with_line sweeps l = ok_or (sweep_of l.0 l.1) (Unreadable l.0) >>= λ s.
     if nat_lt (length sweeps) MOST_SWEEPS then Ok (sweeps ++ s ∷ []) else Err (TooMany l.0)
-
--- the sweeps of a file, or the fault of its first faulty line (own format)
-unfoldable pub sweeps_of : List ℕ → Result (List Sweep) SweepsError
-sweeps_of bytes = said_on with_line [] (kept_from 1 bytes)
 
 -- a reading fails in this way; want of memory says nothing of it
 abbrev pub Fails : {X : Type 0} → SweepsError → Result X SweepsError → Type 0

@@ -1,10 +1,12 @@
 //! Reading a file of sweeps.
-ghost use Rattle.std.specs.Prelude.{◌≡◌, ◌≤◌, Ok, IfErr, OnOk, length};
-ghost use Rattle.sweep.specs.Reading.{Fails, Gives, sweeps_of, with_line};
+ghost use Rattle.std.specs.Prelude.{◌≡◌, ◌≤◌, [], Ok, IfErr, OnOk, length};
+ghost use Rattle.net_names.specs.Lines.{kept_from, said_on};
+ghost use Rattle.sweep.specs.declared.reading.SweepsError.TheVariants.{Memory};
+ghost use Rattle.sweep.specs.Reading.{Fails, Gives, with_line};
 
 use crate::forms::sweep;
 use crate::sweeps::{MOST_SWEEPS, Sweeps};
-use net_names::next_kept;
+use net_names::{NoMemory, next_kept};
 use std::alloc::Global;
 
 /// Why a file of sweeps is refused: the fault of its first faulty line. Lines are numbered from 1, and skipped lines
@@ -25,24 +27,27 @@ pub enum SweepsError {
     },
 }
 
+impl From<NoMemory> for SweepsError {
+    ghost from_gives = { λ _ e. e ≡ Memory };
+
+    fn from(_e: NoMemory) -> SweepsError {
+        SweepsError::Memory
+    }
+}
+
 // Puts the sweep of a line, which has this number and isn't skipped, behind the others.
 fn put_line(alloc: Global, sweeps: &mut Sweeps, number: u32, text: &[u8]) -> Result<(), SweepsError>
     ensures ok { OnOk result (with_line sweeps.old (number, text.now) ≡ Ok sweeps.new) }
     ensures err { IfErr result (λ e. Fails e (with_line sweeps.old (number, text.now))) }
 {
-    match sweep(alloc, number, text) {
-        Err(_) => Err(SweepsError::Memory),
-        Ok(None) => Err(SweepsError::Unreadable { line: number }),
-        Ok(Some(sweep)) => {
-            if sweeps.len() >= MOST_SWEEPS {
-                return Err(SweepsError::TooMany { line: number });
-            }
-            match sweeps.push(sweep) {
-                Ok(()) => Ok(()),
-                Err(_) => Err(SweepsError::Memory),
-            }
-        }
+    let Some(sweep) = sweep(alloc, number, text)? else {
+        return Err(SweepsError::Unreadable { line: number });
+    };
+    if sweeps.len() >= MOST_SWEEPS {
+        return Err(SweepsError::TooMany { line: number });
     }
+    sweeps.push(sweep)?;
+    Ok(())
 }
 
 /// The sweeps of a file of at most 16,777,216 bytes, a line each. A line ends with a line feed, before which one carriage
@@ -52,7 +57,7 @@ fn put_line(alloc: Global, sweeps: &mut Sweeps, number: u32, text: &[u8]) -> Res
 /// lines that aren't skipped stand before it; `Memory` where there is not enough memory.
 pub fn read_sweeps(alloc: Global, bytes: &[u8]) -> Result<Sweeps, SweepsError>
     requires { length bytes.now ≤ 16777216 }
-    ensures { Gives result (sweeps_of bytes.now) }
+    ensures { Gives result (said_on with_line [] (kept_from 1 bytes.now)) }
 {
     let mut sweeps = Sweeps::new(alloc);
     let mut rest = bytes;

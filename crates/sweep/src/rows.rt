@@ -84,10 +84,7 @@ fn append_all_delivered<T: Trial>(
 {
     let mut place: usize = 0;
     'places: while let Some(asn) = trial.announcer_at(place) {
-        match append_delivered(out, trial, line, which, asn) {
-            Ok(()) => {}
-            Err(_) => return Err(NoMemory),
-        }
+        append_delivered(out, trial, line, which, asn)?;
         place += 1;
     }
     Ok(())
@@ -103,8 +100,8 @@ pub(crate) fn append_trial<T: Trial>(
 ) -> Result<(), NoMemory>
     requires watched { T.is_watched (T.base trial.now) line.now.round line.now.addr ≡ true }
     requires right { T.IsRight trial.now }
-    ensures rows { OnOk result (out.new.items ≡ out.old.items ++
-        trial_text (T.announcers (T.base trial.now)) which.k which.t (T.numbers trial.now line.now.round line.now.addr)) }
+    ensures rows { OnOk result (out.new.items ≡ out.old.items ++ trial_text (T.announcers (T.base trial.now))
+        which.k which.t (T.numbers trial.now line.now.round line.now.addr)) }
     ensures numbers { T.AreNumbers (T.base trial.now) (T.kinds trial.now) line.now.round line.now.addr
         (T.numbers trial.now line.now.round line.now.addr) }
 {

@@ -46,10 +46,8 @@ pub(crate) fn change<T: Trial>(
     if back.is_empty() && ahead.is_empty() {
         return Ok(());
     }
-    match changes_of(alloc, back, ahead, kind) {
-        Ok(changes) => trial.adopt_all(&changes),
-        Err(_) => Err(NoMemory),
-    }
+    let changes = changes_of(alloc, back, ahead, kind)?;
+    trial.adopt_all(&changes)
 }
 
 /// Where the first `held` ASes of the order have this kind, and all others theirs, makes it the first `k`. Only the kinds

@@ -26,10 +26,7 @@ fn no_texts(alloc: Global, count: usize) -> Result<Vec<Vec<u8>>, NoMemory>
 {
     let mut texts = Vec::new(alloc);
     for _i in 0..count {
-        match texts.push(Vec::new(alloc)) {
-            Ok(()) => {}
-            Err(_) => return Err(NoMemory),
-        }
+        texts.push(Vec::new(alloc))?;
     }
     Ok(texts)
 }
@@ -80,15 +77,9 @@ fn run_trial<T: Trial>(
     change(alloc, trial, adopted, &order[..held], line.kind)?;
     'numbers: for i in 0..ks.len() {
         let k = ks[i];
-        match shift(alloc, trial, order, held, k as usize, line.kind) {
-            Ok(()) => {}
-            Err(_) => return Err(NoMemory),
-        }
+        shift(alloc, trial, order, held, k as usize, line.kind)?;
         held = k as usize;
-        match append_trial(&mut texts[i], trial, line, Which { k, t }) {
-            Ok(()) => {}
-            Err(_) => return Err(NoMemory),
-        }
+        append_trial(&mut texts[i], trial, line, Which { k, t })?;
     }
     Ok(held)
 }
@@ -118,15 +109,9 @@ fn sweep_all<T: Trial>(
     let mut held: usize = 0;
     'trials: for t in 0..line.trials {
         let word = next_word(&mut rng);
-        let order = match order_of(alloc, standing, word) {
-            Ok(order) => order,
-            Err(_) => return Err(NoMemory),
-        };
+        let order = order_of(alloc, standing, word)?;
         let adopted = &last.as_slice()[..held];
-        held = match run_trial(alloc, trial, line, t + 1, adopted, order.as_slice(), texts) {
-            Ok(held) => held,
-            Err(_) => return Err(NoMemory),
-        };
+        held = run_trial(alloc, trial, line, t + 1, adopted, order.as_slice(), texts)?;
         last = order;
     }
     change(alloc, trial, &last.as_slice()[..held], &[], line.kind)
@@ -138,10 +123,7 @@ fn append_texts(out: &mut Vec<u8>, texts: &[Vec<u8>]) -> Result<(), NoMemory>
     ensures err { OnErr result (take (length out.old.items) out.new.items ≡ out.old.items) }
 {
     for text in texts {
-        match out.extend_from_slice(text.as_slice()) {
-            Ok(()) => {}
-            Err(_) => return Err(NoMemory),
-        }
+        out.extend_from_slice(text.as_slice())?;
     }
     Ok(())
 }

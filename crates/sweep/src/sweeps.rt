@@ -44,10 +44,8 @@ impl Ks {
         ensures ok { OnOk result (self.new ≡ self.old ++ number ∷ []) }
         ensures err { OnErr result (self.new ≡ self.old) }
     {
-        match self.numbers.push(number) {
-            Ok(()) => Ok(()),
-            Err(_) => Err(NoMemory),
-        }
+        self.numbers.push(number)?;
+        Ok(())
     }
 
     /// The numbers in their order.
@@ -115,10 +113,8 @@ impl Sweeps {
         ensures ok { OnOk result (self.new ≡ self.old ++ sweep ∷ []) }
         ensures err { OnErr result (self.new ≡ self.old) }
     {
-        match self.items.push(sweep) {
-            Ok(()) => Ok(()),
-            Err(_) => Err(NoMemory),
-        }
+        self.items.push(sweep)?;
+        Ok(())
     }
 
     /// The sweep at a place, counted from 0; `None` exactly where the place is not below their number.

@@ -1,13 +1,13 @@
-use Rattle.std.proofs.Common.{◌+◌, arith}
+use Rattle.std.proofs.Common.{◌+◌, arith, refl}
 use Rattle.std.proofs.lemmas.Result.{err_from_is_err_and}
 use Rattle.net_names.specs.Lines.{kept_from}
 use Rattle.net_names.proofs.KeptLines.{ends, goes_on}
 use Rattle.sweep.specs.Reading.{with_line}
-use Rattle.sweep.proofs.Linewise.{fails_on, starts}
+use Rattle.sweep.proofs.Linewise.{fails_on}
 use Rattle.sweep.proofs.reading.read_sweeps.Goals as goal
 
 pub lines-init : goal.lines-init
-lines-init c = record { so_far = rw c.new-sweeps.ensures (starts c.args.bytes.now); room = omega arith }
+lines-init c = record { so_far = rw c.new-sweeps.ensures refl; room = omega arith }
 
 pub returns-in_err-put_line : goal.returns-in_err-put_line
 returns-in_err-put_line c =
