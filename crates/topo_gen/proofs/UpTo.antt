@@ -13,7 +13,7 @@ use Rattle.policy_kinds.specs.declared.kind.Kind.{Kind}
 use Rattle.net_names.specs.Links.{LinkMap}
 use Rattle.scenario_text.specs.LineValues.{LineValue}
 use Rattle.topo_gen.specs.Scenarios.{kind_of}
-use Rattle.topo_gen.specs.Lines.{rejoined}
+use Rattle.topo_gen.specs.Lines.{edits_at}
 
 -- the AS leaks in round 2
 abbrev pub leaks : ℕ → Bool
@@ -73,11 +73,11 @@ few (suc k) = let on : k + 1 ≡ suc k = omega arith in subst (λ n. length (fil
 
 -- the edits of the places up to i
 abbrev pub edits : ℕ → LinkMap → List LineValue
-edits i links = flat_map (λ j. option_map_or (rejoined (5 + 2 * j)) (slice_get (fin.entries links) (37 * j % fin.len links)) []) (range_with_len 0 i)
+edits i links = flat_map (edits_at links) (range_with_len 0 i)
 
 pub more_edits : (i : ℕ) (links : LinkMap) (start now after : List LineValue) → now ≡ start ++ edits i links
-    → after ≡ now ++ option_map_or (rejoined (5 + 2 * i)) (slice_get (fin.entries links) (37 * i % fin.len links)) [] → after ≡ start ++ edits (i + 1) links
+    → after ≡ now ++ edits_at links i → after ≡ start ++ edits (i + 1) links
 more_edits i links start now after h e =
-    let cuts : ℕ → List LineValue = λ j. option_map_or (rejoined (5 + 2 * j)) (slice_get (fin.entries links) (37 * j % fin.len links)) [] in
+    let cuts : ℕ → List LineValue = edits_at links in
     e ∙ ap (λ xs. xs ++ cuts i) h ∙ append_assoc start (edits i links) _
     ∙ ap (λ xs. start ++ xs) (sym (ap (flat_map cuts) (range_with_len-push 0 i i (omega arith)) ∙ flat_map-append cuts (range_with_len 0 i) (i ∷ []) ∙ ap (λ xs. edits i links ++ xs) (append-nil (cuts i))))

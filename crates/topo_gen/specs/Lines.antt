@@ -26,3 +26,7 @@ drawn_lines links = report 1 1 0 ∷ report 2 1 1 ∷ report 3 2 0 ∷ report 4 
 abbrev pub rejoined : ℕ → (ℕ × ℕ) × Rel → List LineValue
 rejoined n e = record { number = n; act = Edit (Unlink e.0.0 e.0.1) }
     ∷ record { number = n + 1; act = Edit (Link e.0.0 e.0.1 e.1) } ∷ []
+
+-- the lines that cut the link at the 37th place of the number i, round and round, and join it again
+abbrev pub edits_at : LinkMap → ℕ → List LineValue
+edits_at links i = option_map_or (rejoined (5 + 2 * i)) (slice_get (entries links) (37 * i % len links)) []

@@ -1,5 +1,5 @@
 -- The scenario and the payloads of a generated input (own format).
-use Rattle.std.specs.Prelude.{ℕ, ◌+◌, ◌*◌, ◌^◌, ◌/◌, ◌%◌, ◌==◌, [], ◌∷◌, if◌then◌else◌, map, filter, min}
+use Rattle.std.specs.Prelude.{ℕ, ◌+◌, ◌*◌, ◌^◌, ◌/◌, ◌%◌, ◌==◌, List, [], ◌∷◌, if◌then◌else◌, map, filter, min}
 use Rattle.std.specs.FinMap as fin
 use Rattle.std.specs.List.{range_with_len}
 use Rattle.net_names.specs.Addresses.{AddrValue}
@@ -28,6 +28,10 @@ abbrev pub drawn_scenario : ℕ → ScenarioValue
 drawn_scenario n = let leaking = filter (λ a. a % 100 == 50) (range_with_len 1 (min n 5000)) in
     let own : ℕ → ℕ → Announcement = λ l a. record { prefix = block l; asn = a; path = a ∷ [] } in
     record { announcements = own 8 n ∷ own 9 (1 + n / 2) ∷ []; policies = map (λ a. (a, kind_of a)) (range_with_len 1 n); leaks = leaking ∷ []; watch = host 0 ∷ host 1 ∷ [] }
+
+-- those of the ASes 1 to k that leak in round 2
+abbrev pub leakers_to : ℕ → List ℕ
+leakers_to k = filter (λ a. a % 100 == 50) (range_with_len 1 k)
 
 -- one payload alone: AS n may announce 10.0.0.0/8, and nothing longer
 abbrev pub drawn_payloads : ℕ → Payloads

@@ -3,10 +3,9 @@ ghost use Rattle.std.specs.Prelude.{◌≡◌, ◌<◌, ◌≤◌, ◌++◌, ◌
 ghost use Rattle.net_names.specs.LinkLists.{entry_of};
 ghost use Rattle.std.specs.FinMap as map;
 ghost use Rattle.std.specs.List.{flat_map, range_with_len};
-ghost use Rattle.std.specs.Option.{option_map_or};
 ghost use Rattle.scenario_text.specs.declared.acts.Act.TheVariants.{Query as AQuery};
 ghost use Rattle.scenario_text.specs.declared.acts.Query.TheVariants.{Report as AReport};
-ghost use Rattle.topo_gen.specs.Lines.{rejoined, drawn_lines};
+ghost use Rattle.topo_gen.specs.Lines.{rejoined, edits_at, drawn_lines};
 
 use crate::scenario::{high_addr, low_addr};
 use net_names::{Addr, Link, Links, NoMemory};
@@ -15,7 +14,8 @@ use std::alloc::Global;
 
 // Asks for a report.
 fn push_report(lines: &mut Lines, number: u32, round: u32, addr: Addr) -> Result<(), NoMemory>
-    ensures { OnOk result (lines.new ≡ lines.old ++ record { number = number; act = AQuery (AReport round addr) } ∷ []) }
+    ensures { OnOk result
+        (lines.new ≡ lines.old ++ record { number = number; act = AQuery (AReport round addr) } ∷ []) }
 {
     lines.push(Line {
         number,
@@ -60,7 +60,7 @@ fn push_edits(lines: &mut Lines, number: u32, link: Link) -> Result<(), NoMemory
 // Cuts the link at one of those places and joins it again.
 fn push_edits_at(lines: &mut Lines, links: &Links, i: u32) -> Result<(), NoMemory>
     requires { i ≤ 10 }
-    ensures { OnOk result (lines.new ≡ lines.old ++ option_map_or (rejoined (5 + 2 * i)) (slice_get (map.entries links.now) (37 * i % map.len links.now)) []) }
+    ensures { OnOk result (lines.new ≡ lines.old ++ edits_at links.now i) }
 {
     match link_at(links, i) {
         Some(link) => push_edits(lines, 5 + 2 * i, link),
@@ -70,8 +70,7 @@ fn push_edits_at(lines: &mut Lines, links: &Links, i: u32) -> Result<(), NoMemor
 
 // Cuts ten links and joins each again.
 fn push_all_edits(lines: &mut Lines, links: &Links) -> Result<(), NoMemory>
-    ensures { OnOk result (lines.new ≡ lines.old
-        ++ flat_map (λ i. option_map_or (rejoined (5 + 2 * i)) (slice_get (map.entries links.now) (37 * i % map.len links.now)) []) (range_with_len 0 10)) }
+    ensures { OnOk result (lines.new ≡ lines.old ++ flat_map (edits_at links.now) (range_with_len 0 10)) }
 {
     'edits: for i in 0..10 {
         push_edits_at(lines, links, i)?;

@@ -48,10 +48,8 @@ impl Pairs {
         if self.entries.contains_key(&(lo, hi)) {
             return Ok(());
         }
-        match self.entries.insert((lo, hi), rel) {
-            Ok(_) => Ok(()),
-            Err(_) => Err(NoMemory),
-        }
+        self.entries.insert((lo, hi), rel)?;
+        Ok(())
     }
 
     // The links of the pairs, in their rising order.
@@ -67,9 +65,7 @@ impl Pairs {
                 hi: pair.1,
                 rel: *rel,
             };
-            if links.push(link).is_err() {
-                return Err(NoMemory);
-            }
+            links.push(link)?;
         }
         Ok(links)
     }

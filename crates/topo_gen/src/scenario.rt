@@ -1,6 +1,6 @@
 //! The scenario and the payloads of a generated input.
-ghost use Rattle.std.specs.Prelude.{◌≡◌, ◌<◌, ◌≤◌, ◌+◌, ◌%◌, ◌==◌, ◌∷◌, [], IfOk, OnOk, map, filter, min};
-ghost use Rattle.topo_gen.specs.Scenarios.{block, drawn_payloads, drawn_scenario, host, kind_of as kind_by};
+ghost use Rattle.std.specs.Prelude.{◌≡◌, ◌<◌, ◌≤◌, ◌+◌, ◌∷◌, [], IfOk, OnOk, map, min};
+ghost use Rattle.topo_gen.specs.Scenarios.{block, drawn_payloads, drawn_scenario, host, kind_of as kind_by, leakers_to};
 ghost use Rattle.std.specs.List.{range_with_len};
 ghost use Rattle.scenario_text.specs.Scenarios.{nothing};
 
@@ -91,7 +91,8 @@ fn kind_of(number: u32) -> Kind
 fn set_policies(scenario: &mut Scenario, n: u32) -> Result<(), NoMemory>
     requires few { n ≤ 20000 }
     requires none { scenario.old.policies ≡ [] }
-    ensures { OnOk result (scenario.new ≡ record scenario.old { policies = map (λ a. (a, kind_by a)) (range_with_len 1 n) }) }
+    ensures { OnOk result
+        (scenario.new ≡ record scenario.old { policies = map (λ a. (a, kind_by a)) (range_with_len 1 n) }) }
 {
     'ases: for k in 0..n {
         scenario.set_policy(as_of(k + 1), kind_of(k + 1))?;
@@ -102,8 +103,8 @@ fn set_policies(scenario: &mut Scenario, n: u32) -> Result<(), NoMemory>
 // Makes the AS of the number after `k` leak in round 2, if it is one that does.
 fn leak(scenario: &mut Scenario, k: u32) -> Result<(), NoMemory>
     requires few { k < 5000 }
-    requires leaks { scenario.old.leaks ≡ filter (λ a. a % 100 == 50) (range_with_len 1 k) ∷ [] }
-    ensures { OnOk result (scenario.new ≡ record scenario.old { leaks = filter (λ a. a % 100 == 50) (range_with_len 1 (k + 1)) ∷ [] }) }
+    requires leaks { scenario.old.leaks ≡ leakers_to k ∷ [] }
+    ensures { OnOk result (scenario.new ≡ record scenario.old { leaks = leakers_to (k + 1) ∷ [] }) }
 {
     let number = k + 1;
     if number % 100 != 50 {
@@ -116,7 +117,7 @@ fn leak(scenario: &mut Scenario, k: u32) -> Result<(), NoMemory>
 fn leak_all(scenario: &mut Scenario, n: u32) -> Result<(), NoMemory>
     requires few { n ≤ 5000 }
     requires none { scenario.old.leaks ≡ [] }
-    ensures { OnOk result (scenario.new ≡ record scenario.old { leaks = filter (λ a. a % 100 == 50) (range_with_len 1 n) ∷ [] }) }
+    ensures { OnOk result (scenario.new ≡ record scenario.old { leaks = leakers_to n ∷ [] }) }
 {
     scenario.new_round()?;
     'ases: for k in 0..n {
