@@ -19,7 +19,7 @@ use Rattle.table_check.specs.declared.tables.Tables.{Tables}
 use Rattle.table_check.specs.Rows.{held_by}
 use Rattle.table_check.specs.Checked.{IsAccepted, IsInOrder}
 use Rattle.table_check.specs.Laws.{IsTableOf}
-use Rattle.table_check.proofs.Sectioning.{first_seeds, same_seeds}
+use Rattle.table_check.proofs.Leakers.{first_seeds, same_seeds}
 
 module _ {P : Type 0} (meaning : P → Policy) (one : OneStableRouting meaning) (w : Topology) (book : PolicyBook P) (state : PrefixValue → ℕ → State) (plan : Plan) (rounds : ℕ) (g : Family) (t : Tables)
     (acyclic : HasNoProviderCycle (relation w)) (are : AreRounds (λ (p : PrefixValue). setting meaning w book (state p)) plan rounds g) (known : IsTrue (has_prefix plan t.prefix)) (few : length t.starts ≤ rounds) where

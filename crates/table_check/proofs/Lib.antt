@@ -4,6 +4,7 @@ pub mod PathNumbers
 pub mod Lines
 pub mod Walking
 pub mod Sectioning
+pub mod Leakers
 pub mod Freely
 pub mod Listed
 pub mod ReadRows

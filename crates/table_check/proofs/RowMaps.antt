@@ -1,11 +1,12 @@
 -- Rows as a finite map, whose entries a tree keeps in order.
-use Rattle.std.proofs.Common.{◌≡◌, ℕ, ◌≤◌, Bool, true, false, cond, ◌==◌, List, [], ◌∷◌, ◌++◌, ◌&&◌, length, Option, Some, None, refl, sym, ap, subst, ◌∙◌}
-use Rattle.std.specs.Prelude.{option_and_then, IfSome, map}
-use Rattle.std.proofs.lemmas.Bool.{eq-eqb, ne_eqb}
+use Rattle.std.proofs.Common.{◌≡◌, ℕ, ◌+◌, ◌-◌, ◌^◌, ◌<◌, ◌≤◌, Bool, true, false, not, ◌||◌, cond, ◌==◌, List, [], ◌∷◌, ◌++◌, ◌&&◌, length, Option, Some, None, refl, sym, ap, subst, ◌∙◌, arith}
+use Rattle.std.specs.Prelude.{option_and_then, IfSome, is_some, map}
+use Rattle.std.proofs.lemmas.Bool.{and_parts, eq-eqb, ne_eqb, true≢false}
 use Rattle.std.proofs.lemmas.List.{map-append}
+use Rattle.std.proofs.lemmas.List.Folds.{list_all-append}
 use Rattle.std.specs.Cmp.{eq_by_cmp_equiv, nat_cmp_total, nat_eq_equiv, unsigned_tied}
 use Rattle.std.specs.FinMap as fin
-use Rattle.std.specs.List.{AllByRecursion}
+use Rattle.std.specs.List.{AllByRecursion, list_all}
 use Rattle.std.specs.List.Sorted.{IsStrictlySortedBy}
 use Rattle.std.specs.Map.{keys_of, lookup}
 use Rattle.std.specs.Option.{option_or}
@@ -16,7 +17,7 @@ use Rattle.std.specs.declared.cmp.Ordering.TheVariants.{Less, Equal, Greater}
 use Rattle.net_names.specs.Links.{pair_cmp}
 use Rattle.net_names.proofs.Pairs.{exact_pair, pairs_total}
 use Rattle.stability_laws.specs.declared.entry.Entry.{Entry}
-use Rattle.table_check.specs.Rows.{RowMap, HasShortRows, held_by}
+use Rattle.table_check.specs.Rows.{RowMap, HasShortRows, HoldsShort, held_by, inside_row}
 
 abbrev pub Row : Type 0
 Row = (ℕ × ℕ) × Option Entry
@@ -105,7 +106,7 @@ absent k [] h = refl
 absent k (e ∷ es) h = ap (λ r. cond (is_eq r) (Some e.1) (row_at es k)) h.0 ∙ absent k es h.1
 
 -- what a row says of its AS
-abbrev flat : Option (Option Entry) → Option Entry
+abbrev pub flat : Option (Option Entry) → Option Entry
 flat o = option_and_then (λ held. held) o
 
 entries_get : (round a : ℕ) (es : List Row) (f : fin.FinMap nat_cmp Entry) → IsStrictlySortedBy pair_cmp (keys_of es) → fin.get (with_entries round f es) a ≡ option_or (flat (row_at es (round, a))) (fin.get f a)
@@ -146,3 +147,39 @@ pub one_more : {A : Type 0} (shows : A → Row) (round : ℕ) (f now next : fin.
     → now ≡ with_entries round f (map shows xs) → next ≡ with_entry round now (shows x) → next ≡ with_entries round f (map shows (xs ++ x ∷ []))
 one_more shows round f now next xs x so_far step =
     step ∙ ap (λ m. with_entry round m (shows x)) so_far ∙ sym (with_entries-snoc round f (map shows xs) (shows x)) ∙ ap (with_entries round f) (sym (map-append shows xs (x ∷ [])))
+
+-- ---- what is looked for in the rows
+
+pub none_stands : {X : Type 0} (o : Option X) (b : Bool) → is_some o ≡ not b → b ≡ not (is_some o)
+none_stands o true e = sym (ap not e)
+none_stands o false e = sym (ap not e)
+
+-- what is held by short rows is short
+pub holds_short : (rows : RowMap) → HasShortRows rows → HoldsShort rows
+holds_short rows h round a e is = by (fin.get rows (round, a)) refl is
+  where
+    by : (o : Option (Option Entry)) → fin.get rows (round, a) ≡ o → flat o ≡ Some e → length e.path < 2 ^ 32 - 1
+    by None at held = absurd cc
+    by (Some o) at held = let le = h (round, a) e (at ∙ ap (λ x. Some x) held) in omega (arith, le)
+
+-- what holds of each and of one more
+pub all_more : {A : Type 0} (shows : A → Row) (P : Row → Bool) (xs : List A) (x : A) → list_all P (map shows xs) ≡ true → P (shows x) ≡ true → list_all P (map shows (xs ++ x ∷ [])) ≡ true
+all_more shows P xs x so_far here = ap (list_all P) (map-append shows xs (x ∷ [])) ∙ list_all-append P (map shows xs) (shows x ∷ []) ∙ (λ i. so_far i && (here i && true))
+
+stranger : (has : ℕ → Bool) (round a : ℕ) (k : ℕ × ℕ) (o : Option Entry) → (round, a) ≡ k → inside_row has round (k, o) ≡ true → has a ≡ false → o ≡ None
+stranger has round a k None is inside out = refl
+stranger has round a k (Some e) is inside out =
+    let there : (not (round == round) || has a) ≡ true = subst (λ (q : ℕ × ℕ). (not (q.0 == round) || has q.1) ≡ true) (sym is) inside in
+    let same : (not (round == round) || has a) ≡ has a = ap (λ b. not b || has a) (eq-eqb round round refl) in
+    absurd (true≢false (sym there ∙ same ∙ out))
+
+-- where all rows of a round are of ASes of the world, nobody else holds anything
+pub nobody_else : (has : ℕ → Bool) (round a : ℕ) (es : List Row) → list_all (inside_row has round) es ≡ true → has a ≡ false → flat (row_at es (round, a)) ≡ None
+nobody_else has round a [] all out = refl
+nobody_else has round a (e ∷ es) all out =
+    let (here, later) = and_parts (inside_row has round e) (list_all (inside_row has round) es) all in
+    by here (nobody_else has round a es later out) (eq_by_cmp pair_cmp (round, a) e.0) refl
+  where
+    by : inside_row has round e ≡ true → flat (row_at es (round, a)) ≡ None → (b : Bool) → eq_by_cmp pair_cmp (round, a) e.0 ≡ b → flat (cond b (Some e.1) (row_at es (round, a))) ≡ None
+    by here rest true h = stranger has round a e.0 e.1 (same_pair (round, a) e.0 h) here out
+    by here rest false h = rest

@@ -10,7 +10,9 @@ use Rattle.table_check.specs.declared.verdict.Verdict.{Verdict}
 use Rattle.table_check.specs.declared.verdict.Verdict.TheVariants.{Stable, Wrong}
 use Rattle.table_check.specs.Rows.{held_by}
 
--- in the section after `last`, a is right with this, or with nothing: an AS of the world with what the others hold there and with the seeds that follow from the section before, any other number with nothing (own rule)
+-- in the section after `last`, a is right with this, or with nothing: an AS of the world with what
+-- the others hold there and with the seeds that follow from the section before, any other number
+-- with nothing (own rule)
 abbrev pub IsRightIn : Setting → Plan → Tables → ℕ → ℕ → Option Entry → Type 0
 IsRightIn w plan t last a held = (w.has a ≡ true → IsRightWith w (seeds_of plan (suc last) t.prefix
     (held_by t.rows last)) (held_by t.rows (suc last)) a held) × (w.has a ≡ false → held ≡ None)
@@ -19,7 +21,8 @@ IsRightIn w plan t last a held = (w.has a ≡ true → IsRightWith w (seeds_of p
 abbrev pub IsInOrder : Setting → Plan → Tables → ℕ → ℕ → Type 0
 IsInOrder w plan t before a = IsRightIn w plan t before a (held_by t.rows (suc before) a)
 
--- in the section after `before`, the first with somebody who isn't right, a is the lowest such, and would be right with `right` (own rule)
+-- in the section after `before`, the first with somebody who isn't right, a is the lowest such, and
+-- would be right with `right` (own rule)
 pub record IsFirstWrong (w : Setting) (plan : Plan) (t : Tables) (before a : ℕ) (right : Option Entry) : Type 0 where
   pub within : before < length t.starts
   pub wrong : IsInOrder w plan t before a → ⊥

@@ -26,7 +26,8 @@ use Rattle.table_check.specs.Printed.{for_text, IsAsn, IsPrintable}
 abbrev pub IsTableOf : Family → Tables → Type 0
 IsTableOf g t = (before : ℕ) → before < length t.starts → (a : ℕ) → held_by t.rows (suc before) a ≡ g (suc before) t.prefix a
 
--- in a world without a provider cycle, a table of a prefix is accepted exactly where each section is the one stable routing of its round (Gao and Rexford 2001)
+-- in a world without a provider cycle, a table of a prefix is accepted exactly where each section
+-- is the one stable routing of its round (Gao and Rexford 2001)
 abbrev pub AcceptedAreRounds : {P : Type 0} → (P → Policy) → Type 0
 AcceptedAreRounds {P} meaning =
     (w : Topology) (book : PolicyBook P) (state : PrefixValue → ℕ → State) (plan : Plan) (rounds : ℕ) (g : Family) (t : Tables) →
@@ -38,12 +39,15 @@ AcceptedAreRounds {P} meaning =
 abbrev pub table : Topology → (ℕ → List ℕ) → List ℕ
 table w f = flat_map f (map.keys (map.from_entries {R = nat_cmp} (each (λ a. (a, tt {0})) (ases w))))
 
--- so many rounds from this one on, each printed as a section: its `for` line, and then the table that the query for the routes of the round and the prefix has for its answer (own format)
+-- so many rounds from this one on, each printed as a section: its `for` line, and then the table
+-- that the query for the routes of the round and the prefix has for its answer (own format)
 abbrev pub rounds_text : Topology → Family → PrefixValue → ℕ → ℕ → List ℕ
 rounds_text w g prefix round zero = []
 rounds_text w g prefix round (suc count) = for_text round prefix ++ (10 ∷ (table w (λ a. entry_row a (g round prefix a)) ++ rounds_text w g prefix (suc round) count))
 
--- in a world without a provider cycle, the printed tables of the stable routings of the rounds from the first on are read as a table of just these, and it is accepted, where all that the ASes hold in these rounds can be printed (Gao and Rexford 2001)
+-- in a world without a provider cycle, the printed tables of the stable routings of the rounds from
+-- the first on are read as a table of just these, and it is accepted, where all that the ASes hold
+-- in these rounds can be printed (Gao and Rexford 2001)
 abbrev pub PrintedRoundsAreAccepted : {P : Type 0} → (P → Policy) → Type 0
 PrintedRoundsAreAccepted {P} meaning =
     (w : Topology) (book : PolicyBook P) (state : PrefixValue → ℕ → State) (plan : Plan) (rounds : ℕ) (g : Family) (prefix : PrefixValue) (more : ℕ) →

@@ -18,7 +18,8 @@ abbrev pub with_row : Tables → ℕ → ℕ × Option Entry → Result Tables T
 with_row t n row = if map.contains_key t.rows (length t.starts, row.0) then Err (Twice n)
     else Ok (record t { rows = map.insert t.rows (length t.starts, row.0) row.1 })
 
--- with a line: `for R P` begins a section where R is the next round, from 1 on, and P is the prefix; any other line is a row (own format)
+-- with a line: `for R P` begins a section where R is the next round, from 1 on, and P is the
+-- prefix; any other line is a row (own format)
 abbrev pub with_line : Tables → ℕ × List ℕ → Result Tables TablesError
 with_line t l = unwrap_or (option_map (λ _. Ok (record t { starts = t.starts ++ l.0 ∷ [] }))
     (option_filter (λ x. (x.0 == length t.starts + 1) && eq_by_cmp prefix_cmp t.prefix x.1)

@@ -8,7 +8,8 @@ use Rattle.stability_laws.specs.Offers.{Setting}
 use Rattle.table_check.specs.declared.placed.Brief.{Brief}
 use Rattle.table_check.specs.declared.verdict.Fault.{Fault}
 
--- a is right with this, or with nothing: an AS of the world with these seeds and with what the others hold, any other number with nothing (own rule)
+-- a is right with this, or with nothing: an AS of the world with these seeds and with what the
+-- others hold, any other number with nothing (own rule)
 pub record Fits (w : Setting) (seeds : ℕ → Option Seed) (f : ℕ → Option Entry) (a : ℕ) (held : Option Entry) : Type 0 where
   pub inside : w.has a ≡ true → IsRightWith w seeds f a held
   pub outside : w.has a ≡ false → held ≡ None
@@ -37,7 +38,8 @@ pub record IsNextNamed (has : ℕ → Bool) (f : ℕ → Option Entry) (bound : 
   pub above : IsAbove bound a
   pub between : (k : ℕ) → IsAbove bound k → k < a → IsUnnamed has f k
 
--- what an offer of the entry shows without a look at its path: its class, its number, and how long the path is with one AS more
+-- what an offer of the entry shows without a look at its path: its class, its number, and how long
+-- the path is with one AS more
 abbrev pub brief_of : Entry → Brief
 brief_of e = record { class = e.class; otc = e.otc; length = length e.path + 1 }
 

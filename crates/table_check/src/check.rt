@@ -1,44 +1,53 @@
 //! The check of a printed table.
-ghost use Rattle.std.specs.Prelude.{◌≡◌, ℕ, IfOk};
-ghost use Rattle.std.specs.FinMap as map;
+ghost use Rattle.std.specs.Prelude.{◌<◌, ◌+◌, ◌-◌, ◌^◌, IfOk};
 ghost use Rattle.stability_laws.specs.World.{setting_in};
 ghost use Rattle.stability_laws.specs.Rounds.{seeds_of};
 ghost use Rattle.table_check.specs.Checked.{IsVerdict};
+ghost use Rattle.table_check.specs.Rows.{held_by};
 ghost use Rattle.table_check.specs.Walk.{IsFault};
 
+use crate::everywhere::is_right_everywhere;
 use crate::lowest::lowest_wrong;
 use crate::placed::{Placed, held_by_rows};
+use crate::seeds::seeds_after;
 use crate::tables::Tables;
 use crate::verdict::{Fault, Verdict};
-use net_names::{NoMemory, Prefix};
+use net_names::NoMemory;
 use policy_laws::{OriginStates, RoutePolicy};
-use stability_laws::{Routing, SeedPlan, World, right_entry, seeds_at};
+use stability_laws::{SeedPlan, World, right_entry};
 use std::alloc::Global;
 
-/// What is wrong in a section, given the one before it.
-fn fault_in<P: RoutePolicy, V: OriginStates>(
+// What is wrong in the section after `before`.
+fn fault_after<P: RoutePolicy, V: OriginStates>(
     alloc: Global,
     world: &World<'_, P, V>,
     plan: &SeedPlan,
-    prefix: Prefix,
-    round: u32,
-    before: &Routing,
-    routing: &Routing,
+    tables: &Tables,
+    before: u32,
 ) -> Result<Option<Fault>, NoMemory>
-    ensures { IfOk result (IsFault (setting_in P.meaning V.state_of world.now prefix)
-        (seeds_of plan.now round prefix (map.get before.now)) (map.get routing.now)) }
+    requires { before < 2 ^ 32 - 1 }
+    ensures { IfOk result (IsFault (setting_in P.meaning V.state_of world.now tables.now.prefix)
+        (seeds_of plan.now (before + 1) tables.now.prefix (held_by tables.now.rows before))
+        (held_by tables.now.rows (before + 1))) }
 {
-    let seeds = seeds_at(alloc, plan, round, prefix, before)?;
+    let round = before + 1;
+    let prefix = tables.prefix;
+    let table = &tables.rows;
+    let seeds = seeds_after(alloc, plan, prefix, table, before)?;
     let rows = world.graph.rows();
-    let (briefs, held) = held_by_rows(alloc, rows, routing)?;
-    let placed = Placed::new(routing, rows, &briefs, &held);
-    let Some(asn) = lowest_wrong(world, prefix, &seeds, &placed) else {
+    let (briefs, held) = held_by_rows(alloc, rows, table, round)?;
+    let placed = Placed::new(table, round, rows, &briefs, &held);
+    if is_right_everywhere(world, prefix, &seeds, &placed) {
+        return Ok(None);
+    }
+    let routing = table.routing(alloc, round)?;
+    let Some(asn) = lowest_wrong(world, prefix, &seeds, &routing, &placed) else {
         return Ok(None);
     };
     if !world.graph.has(asn) {
         return Ok(Some(Fault { asn, right: None }));
     }
-    let right = right_entry(alloc, world, prefix, &seeds, routing, asn)?;
+    let right = right_entry(alloc, world, prefix, &seeds, &routing, asn)?;
     Ok(Some(Fault { asn, right }))
 }
 
@@ -52,21 +61,18 @@ pub fn check_tables<P: RoutePolicy, V: OriginStates>(
     plan: &SeedPlan,
     tables: &Tables,
 ) -> Result<Verdict, NoMemory>
-    ensures { IfOk result (IsVerdict (setting_in P.meaning V.state_of world.now tables.now.prefix) plan.now tables.now) }
+    ensures { IfOk result
+        (IsVerdict (setting_in P.meaning V.state_of world.now tables.now.prefix) plan.now tables.now) }
 {
-    let mut before = Routing::new(alloc);
-    for place in 0..tables.starts.len() {
-        let round = place + 1;
-        let routing = tables.rows.routing(alloc, round)?;
-        let found = fault_in(alloc, world, plan, tables.prefix, round, &before, &routing)?;
+    for before in 0..tables.starts.len() {
+        let found = fault_after(alloc, world, plan, tables, before)?;
         if let Some(fault) = found {
             return Ok(Verdict::Wrong {
-                round,
+                round: before + 1,
                 asn: fault.asn,
                 right: fault.right,
             });
         }
-        before = routing;
     }
     Ok(Verdict::Stable)
 }

@@ -8,6 +8,9 @@ use net_names::{Asn, NoMemory, Path, cut, read_asn, read_class, strip};
 use stability_laws::Entry;
 use std::alloc::Global;
 
+// How many bytes a number of five digits takes with the space behind it.
+const BYTES_OF_FIVE_DIGITS: usize = 6;
+
 // The number behind the word `otc`.
 fn otc(text: &[u8]) -> Option<Asn>
     ensures { result ≡ form "otc " asn_of (λ m. m) text.now }
@@ -16,20 +19,13 @@ fn otc(text: &[u8]) -> Option<Asn>
     read_asn(rest)
 }
 
-// The empty path, with room for the numbers of the text.
+// The empty path, with room for the numbers of the text where each has five digits or more. A path of shorter
+// numbers grows.
 fn room_for(alloc: Global, text: &[u8]) -> Result<Path, NoMemory>
     ensures { IfOk result (λ p. p ≡ []) }
 {
-    let mut count = 1usize;
-    for byte in text {
-        if *byte == b' ' {
-            count = count.wrapping_add(1);
-        }
-    }
-    match Vec::with_capacity(alloc, count) {
-        Ok(numbers) => Ok(Path::from_vec(numbers)),
-        Err(_) => Err(NoMemory),
-    }
+    let numbers = Vec::with_capacity(alloc, text.len() / BYTES_OF_FIVE_DIGITS + 1)?;
+    Ok(Path::from_vec(numbers))
 }
 
 // The numbers of a text with one space between.

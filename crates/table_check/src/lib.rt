@@ -6,6 +6,7 @@
 #![tactic(auto)]
 
 mod check;
+mod everywhere;
 mod forms;
 mod laws;
 mod lowest;
@@ -13,7 +14,7 @@ mod near;
 mod placed;
 mod reading;
 mod rows;
-mod same;
+mod seeds;
 mod tables;
 mod verdict;
 

@@ -3,7 +3,9 @@ ghost use Rattle.std.specs.Prelude.{◌≡◌, ◌↔◌, ℕ, ◌<◌, IsTrue, 
 ghost use Rattle.std.specs.FinMap as map;
 ghost use Rattle.as_graph.specs.Topology.{has};
 ghost use Rattle.as_graph.specs.Following.{IsAbove};
+ghost use Rattle.stability_laws.specs.Stable.{IsRight};
 ghost use Rattle.stability_laws.specs.World.{setting_in};
+ghost use Rattle.table_check.specs.Rows.{held_by};
 ghost use Rattle.table_check.specs.Walk.{IsFine, IsLowestWrong, IsNextNamed, IsUnnamed, lower_of};
 
 use crate::near::is_right_near;
@@ -13,23 +15,43 @@ use net_names::{Asn, Prefix};
 use policy_laws::{OriginStates, RoutePolicy};
 use stability_laws::{Routing, Seeds, World, check_at};
 
-/// Whether the routing is right at the number, where it is an AS, or has no entry there.
+// Whether it is quickly seen that the routing, which is that of the section, is right at the AS.
+fn is_seen_right<P: RoutePolicy, V: OriginStates>(
+    world: &World<'_, P, V>,
+    prefix: Prefix,
+    seeds: &Seeds,
+    routing: &Routing,
+    placed: &Placed<'_>,
+    asn: Asn,
+) -> bool
+    requires { (a : ℕ) → map.get routing.now a ≡ held_by placed.now.table.now placed.now.round a }
+    ensures { IsTrue result → IsRight (setting_in P.meaning V.state_of world.now prefix) (map.get seeds.now)
+        (map.get routing.now) asn }
+{
+    let place = world.graph.place_near(asn, 0);
+    is_right_near(world, prefix, seeds, placed, asn, place)
+}
+
+// Whether the routing is right at the number, where it is an AS, or has no entry there.
 fn is_fine<P: RoutePolicy, V: OriginStates>(
     world: &World<'_, P, V>,
     prefix: Prefix,
     seeds: &Seeds,
+    routing: &Routing,
     placed: &Placed<'_>,
     asn: Asn,
 ) -> bool
-    ensures { IsTrue result ↔ IsFine (setting_in P.meaning V.state_of world.now prefix) (map.get seeds.now) (map.get placed.now.routing.now) asn }
+    requires { (a : ℕ) → map.get routing.now a ≡ held_by placed.now.table.now placed.now.round a }
+    ensures { IsTrue result ↔ IsFine (setting_in P.meaning V.state_of world.now prefix) (map.get seeds.now)
+        (map.get routing.now) asn }
 {
     if !world.graph.has(asn) {
-        return placed.routing.get(asn).is_none();
+        return routing.get(asn).is_none();
     }
-    if is_right_near(world, prefix, seeds, placed, asn) {
+    if is_seen_right(world, prefix, seeds, routing, placed, asn) {
         return true;
     }
-    check_at(world, prefix, seeds, placed.routing, asn).is_ok()
+    check_at(world, prefix, seeds, routing, asn).is_ok()
 }
 
 /// The lower one of two numbers that may be missing.
@@ -57,21 +79,26 @@ fn next_named(graph: &Graph, routing: &Routing, after: Option<Asn>) -> Option<As
     }
 }
 
-/// The lowest number that is wrong; `None` exactly where none is.
+/// The lowest number at which the routing, which is that of the section, is wrong; `None` exactly where there is none.
 pub(crate) fn lowest_wrong<P: RoutePolicy, V: OriginStates>(
     world: &World<'_, P, V>,
     prefix: Prefix,
     seeds: &Seeds,
+    routing: &Routing,
     placed: &Placed<'_>,
 ) -> Option<Asn>
-    ensures found { IfSome result (IsLowestWrong (setting_in P.meaning V.state_of world.now prefix) (map.get seeds.now) (map.get placed.now.routing.now)) }
-    ensures none { IfNone result ((a : ℕ) → IsFine (setting_in P.meaning V.state_of world.now prefix) (map.get seeds.now) (map.get placed.now.routing.now) a) }
+    requires { (a : ℕ) → map.get routing.now a ≡ held_by placed.now.table.now placed.now.round a }
+    ensures found { IfSome result (IsLowestWrong (setting_in P.meaning V.state_of world.now prefix) (map.get seeds.now)
+        (map.get routing.now)) }
+    ensures none { IfNone result ((a : ℕ) → IsFine (setting_in P.meaning V.state_of world.now prefix)
+        (map.get seeds.now) (map.get routing.now) a) }
 {
     let mut after: Option<Asn> = None;
-    'named: while let Some(asn) = next_named(world.graph, placed.routing, after) {
-        if !is_fine(world, prefix, seeds, placed, asn) {
+    'named: while let Some(asn) = next_named(world.graph, routing, after) {
+        if !is_fine(world, prefix, seeds, routing, placed, asn) {
             return Some(asn);
         }
+        // A number has 32 bits, so that the walk ends.
         let _number = asn.get();
         after = Some(asn);
     }

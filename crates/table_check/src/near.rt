@@ -10,14 +10,22 @@ ghost use Rattle.stability_laws.specs.Book.{policy_at};
 ghost use Rattle.stability_laws.specs.Offers.{Offer, offer, offer_given};
 ghost use Rattle.stability_laws.specs.Stable.{IsRight};
 ghost use Rattle.stability_laws.specs.World.{setting_in};
+ghost use Rattle.table_check.specs.Rows.{held_by};
 ghost use Rattle.table_check.specs.Walk.{brief_of};
 
 use crate::placed::{Brief, Placed};
-use crate::same::holds_given;
+use crate::seeds::is_of_seed;
 use as_graph::Neighbour;
 use net_names::{Asn, Prefix, State};
 use policy_laws::{OriginStates, RoutePolicy, View};
-use stability_laws::{Entry, Seeds, World, better, number_sent, offered_view};
+use stability_laws::{Entry, Seeds, World, better, holds_given, number_sent, offered_view};
+
+/// The AS whose offers are looked at, and a place at which its row is sought first.
+#[derive(Drop)]
+struct Receiver {
+    asn: Asn,
+    place: usize,
+}
 
 /// A view that may be missing, and a place at which to look for the neighbour that it names.
 #[derive(Drop)]
@@ -54,8 +62,9 @@ fn is_no_better<P: RoutePolicy>(
     brief: Brief,
     best: &Option<View>,
 ) -> bool
-    ensures { IsTrue result → (state : ℕ → AState) (a : ℕ) (e : AnEntry) → brief_of e ≡ brief → best.now ≡ better_of (P.meaning own.now) best.now
-        (option_map (λ o. o.view) (offer_given (P.meaning sender.now) (P.meaning own.now) state
+    ensures { IsTrue result → (state : ℕ → AState) (a : ℕ) (e : AnEntry) → brief_of e ≡ brief →
+        best.now ≡ better_of (P.meaning own.now) best.now (option_map (λ o. o.view)
+        (offer_given (P.meaning sender.now) (P.meaning own.now) state
         neighbour.now.asn a (Some neighbour.now.rel) (Some e))) }
 {
     let Neighbour { asn, rel } = *neighbour;
@@ -84,28 +93,36 @@ fn better_with<P: RoutePolicy, V: OriginStates>(
     world: &World<'_, P, V>,
     prefix: Prefix,
     placed: &Placed<'_>,
-    asn: Asn,
+    receiver: &Receiver,
     neighbour: &Neighbour,
     place: usize,
     best: Option<View>,
 ) -> Option<View>
-    requires { relation world.now.graph.now asn neighbour.now.asn ≡ Some neighbour.now.rel }
-    ensures { result ≡ better_of (P.meaning (policy_at world.now.book.now asn)) best
+    requires { relation world.now.graph.now receiver.now.asn neighbour.now.asn ≡ Some neighbour.now.rel }
+    ensures { result ≡ better_of (P.meaning (policy_at world.now.book.now receiver.now.asn)) best
         (option_map (λ o. o.view) (offer (setting_in P.meaning V.state_of world.now prefix)
-        (map.get placed.now.routing.now) neighbour.now.asn asn)) }
+        (held_by placed.now.table.now placed.now.round) neighbour.now.asn receiver.now.asn)) }
 {
     let Some(brief) = placed.brief_near(neighbour.asn, place) else {
         return best;
     };
-    let own = world.book.policy(asn);
-    let sender = world.book.policy(neighbour.asn);
+    let own = world.book.policy_near(receiver.asn, receiver.place);
+    let sender = world.book.policy_near(neighbour.asn, place);
     if is_no_better(own, sender, neighbour, brief, &best) {
         return best;
     }
     let Some(held) = placed.near(neighbour.asn, place) else {
         return best;
     };
-    let view = offered_view(sender, own, world.states, prefix, neighbour, asn, held);
+    let view = offered_view(
+        sender,
+        own,
+        world.states,
+        prefix,
+        neighbour,
+        receiver.asn,
+        held,
+    );
     better(own, best, view)
 }
 
@@ -116,19 +133,19 @@ fn best_view<P: RoutePolicy, V: OriginStates>(
     places: &[u32],
     prefix: Prefix,
     placed: &Placed<'_>,
-    asn: Asn,
+    receiver: &Receiver,
 ) -> Best
-    requires { AreNeighbours (relation world.now.graph.now) asn neighbours.now }
-    ensures { IsBestView (P.meaning (policy_at world.now.book.now asn))
-        (λ n. offer (setting_in P.meaning V.state_of world.now prefix) (map.get placed.now.routing.now) n asn)
-        result.view }
+    requires { AreNeighbours (relation world.now.graph.now) receiver.now.asn neighbours.now }
+    ensures { IsBestView (P.meaning (policy_at world.now.book.now receiver.now.asn))
+        (λ n. offer (setting_in P.meaning V.state_of world.now prefix)
+        (held_by placed.now.table.now placed.now.round) n receiver.now.asn) result.view }
 {
     let mut best: Option<View> = None;
     let mut at = 0usize;
     let mut index = 0usize;
     for neighbour in neighbours {
         let place = place_at(places, index);
-        best = better_with(world, prefix, placed, asn, neighbour, place, best);
+        best = better_with(world, prefix, placed, receiver, neighbour, place, best);
         at = place_of(&best, neighbour.asn, place, at);
         index = index.wrapping_add(1);
     }
@@ -148,8 +165,9 @@ fn is_offer<P: RoutePolicy, V: OriginStates>(
     place: usize,
     entry: &Entry,
 ) -> bool
-    ensures { (o : Offer) → offer (setting_in P.meaning V.state_of world.now prefix) (map.get placed.now.routing.now)
-        view.now.neighbour asn ≡ Some o → o.view ≡ view.now → IsTrue result → entry.now ≡ o.entry }
+    ensures { (o : Offer) → offer (setting_in P.meaning V.state_of world.now prefix)
+        (held_by placed.now.table.now placed.now.round) view.now.neighbour asn ≡ Some o →
+        o.view ≡ view.now → IsTrue result → entry.now ≡ o.entry }
 {
     match placed.near(view.neighbour, place) {
         Some(given) => holds_given(
@@ -165,24 +183,30 @@ fn is_offer<P: RoutePolicy, V: OriginStates>(
     }
 }
 
-/// Whether it is quickly seen that the routing is right at the AS.
+/// Whether it is quickly seen that the section is right at the AS, whose row is sought first at a place.
 pub(crate) fn is_right_near<P: RoutePolicy, V: OriginStates>(
     world: &World<'_, P, V>,
     prefix: Prefix,
     seeds: &Seeds,
     placed: &Placed<'_>,
     asn: Asn,
+    place: usize,
 ) -> bool
-    ensures { IsTrue result → IsRight (setting_in P.meaning V.state_of world.now prefix) (map.get seeds.now) (map.get placed.now.routing.now) asn }
+    ensures { IsTrue result → IsRight (setting_in P.meaning V.state_of world.now prefix) (map.get seeds.now)
+        (held_by placed.now.table.now placed.now.round) asn }
 {
-    if let Some(_) = seeds.get(asn) {
-        return false;
+    let held = placed.near(asn, place);
+    if let Some(seed) = seeds.get(asn) {
+        return match held {
+            Some(entry) => is_of_seed(entry, seed),
+            None => false,
+        };
     }
-    let row = world.graph.place_near(asn, 0);
-    let neighbours = world.graph.neighbours_near(asn, row);
-    let places = world.graph.neighbour_places(row);
-    let best = best_view(world, neighbours, places, prefix, placed, asn);
-    match (best.view, placed.near(asn, row)) {
+    let neighbours = world.graph.neighbours_near(asn, place);
+    let places = world.graph.neighbour_places(place);
+    let receiver = Receiver { asn, place };
+    let best = best_view(world, neighbours, places, prefix, placed, &receiver);
+    match (best.view, held) {
         (None, None) => true,
         (Some(view), Some(entry)) => is_offer(world, prefix, placed, asn, &view, best.place, entry),
         (None, Some(_)) => false,

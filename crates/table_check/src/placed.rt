@@ -1,11 +1,11 @@
-//! What the ASes hold, by the places of the graph's rows.
+//! What the ASes hold in a section, by the places of the graph's rows.
 ghost use Rattle.std.specs.Prelude.{◌≡◌, ◌<◌, ◌-◌, ◌^◌, length, map as each, option_copied, option_map, IfOk};
-ghost use Rattle.std.specs.FinMap as map;
-ghost use Rattle.stability_laws.specs.Short.{HasShortPaths};
+ghost use Rattle.table_check.specs.Rows.{HoldsShort, held_by};
 ghost use Rattle.table_check.specs.Walk.{brief_of};
 
+use crate::rows::Rows;
 use net_names::{Asn, Class, NoMemory};
-use stability_laws::{Entry, Routing};
+use stability_laws::Entry;
 use std::alloc::Global;
 
 /// What an offer of an entry shows of it without a look at its path.
@@ -20,13 +20,14 @@ pub(crate) struct Brief {
 /// What the ASes hold in a section, by AS, and what those of the graph's rows hold, by place.
 #[derive(Drop)]
 pub(crate) struct Placed<'a> {
-    pub(crate) routing: &'a Routing,
+    pub(crate) table: &'a Rows,
+    pub(crate) round: u32,
     rows: &'a [Asn],
     briefs: &'a [Option<Brief>],
     held: &'a [Option<&'a Entry>],
-    ghost shown: { briefs.now ≡ each (λ a. option_map brief_of (map.get routing.now a)) rows.now },
-    ghost same: { each option_copied held.now ≡ each (λ a. map.get routing.now a) rows.now },
-    ghost short: { HasShortPaths routing.now },
+    ghost shown: { briefs.now ≡ each (λ a. option_map brief_of (held_by table.now round a)) rows.now },
+    ghost same: { each option_copied held.now ≡ each (held_by table.now round) rows.now },
+    ghost short: { HoldsShort table.now },
 }
 
 // What an offer of the entry shows.
@@ -41,59 +42,57 @@ fn brief_from(entry: &Entry) -> Brief
     }
 }
 
-// What an offer of what the AS holds shows, and what it holds.
-fn found_at<'a>(routing: &'a Routing, asn: Asn) -> (Option<Brief>, Option<&'a Entry>)
-    ensures brief { result.0 ≡ option_map brief_of (map.get routing.now asn) }
-    ensures held { option_copied result.1 ≡ map.get routing.now asn }
+// What an offer of what the AS holds in the round shows, and what it holds.
+fn found_at<'a>(table: &'a Rows, round: u32, asn: Asn) -> (Option<Brief>, Option<&'a Entry>)
+    ensures brief { result.0 ≡ option_map brief_of (held_by table.now round asn) }
+    ensures held { option_copied result.1 ≡ held_by table.now round asn }
 {
-    match routing.get(asn) {
+    table.paths_are_short();
+    match table.held(round, asn) {
         Some(entry) => (Some(brief_from(entry)), Some(entry)),
         None => (None, None),
     }
 }
 
-/// What these ASes hold, in their order: what offers of it show, and what it is.
+/// What these ASes hold in the round, in their order: what offers of it show, and what it is.
 pub(crate) fn held_by_rows<'a>(
     alloc: Global,
     rows: &[Asn],
-    routing: &'a Routing,
+    table: &'a Rows,
+    round: u32,
 ) -> Result<(Vec<Option<Brief>>, Vec<Option<&'a Entry>>), NoMemory>
-    ensures briefs { IfOk result (λ found. found.0.items ≡ each (λ a. option_map brief_of (map.get routing.now a)) rows.now) }
-    ensures held { IfOk result (λ found. each option_copied found.1.items ≡ each (λ a. map.get routing.now a) rows.now) }
+    ensures briefs { IfOk result
+        (λ found. found.0.items ≡ each (λ a. option_map brief_of (held_by table.now round a)) rows.now) }
+    ensures held { IfOk result (λ found. each option_copied found.1.items ≡ each (held_by table.now round) rows.now) }
 {
     let mut briefs = Vec::new(alloc);
     let mut held = Vec::new(alloc);
     for asn in rows {
-        let (brief, entry) = found_at(routing, *asn);
-        if briefs.push(brief).is_err() {
-            return Err(NoMemory);
-        }
-        if held.push(entry).is_err() {
-            return Err(NoMemory);
-        }
+        let (brief, entry) = found_at(table, round, *asn);
+        briefs.push(brief)?;
+        held.push(entry)?;
     }
     Ok((briefs, held))
 }
 
 impl<'a> Placed<'a> {
-    /// The routing, and what these ASes hold in it.
+    /// The rows of the round, and what these ASes hold by them.
     pub(crate) fn new(
-        routing: &'a Routing,
+        table: &'a Rows,
+        round: u32,
         rows: &'a [Asn],
         briefs: &'a [Option<Brief>],
         held: &'a [Option<&'a Entry>],
     ) -> Placed<'a>
-        requires shown { briefs.now ≡ each (λ a. option_map brief_of (map.get routing.now a)) rows.now }
-        requires same { each option_copied held.now ≡ each (λ a. map.get routing.now a) rows.now }
-        ensures { result.routing.now ≡ routing.now }
+        requires shown { briefs.now ≡ each (λ a. option_map brief_of (held_by table.now round a)) rows.now }
+        requires same { each option_copied held.now ≡ each (held_by table.now round) rows.now }
+        ensures table { result.table.now ≡ table.now }
+        ensures round { result.round ≡ round }
     {
-        let Some(asn) = Asn::new(1) else {
-            unreachable!();
-        };
-        // Whoever is looked up, it is known then that all paths are short.
-        let _held = routing.get(asn);
+        table.paths_are_short();
         Placed {
-            routing,
+            table,
+            round,
             rows,
             briefs,
             held,
@@ -102,24 +101,24 @@ impl<'a> Placed<'a> {
 
     /// What an offer of what the AS holds shows, sought first at a place.
     pub(crate) fn brief_near(&self, asn: Asn, place: usize) -> Option<Brief>
-        ensures { result ≡ option_map brief_of (map.get self.now.routing.now asn) }
+        ensures { result ≡ option_map brief_of (held_by self.now.table.now self.now.round asn) }
     {
         if place < self.rows.len() && self.rows[place] == asn {
             self.briefs[place]
         } else {
-            found_at(self.routing, asn).0
+            found_at(self.table, self.round, asn).0
         }
     }
 
     /// What the AS holds, sought first at a place.
     pub(crate) fn near(&self, asn: Asn, place: usize) -> Option<&Entry>
-        ensures value { option_copied result ≡ map.get self.now.routing.now asn }
-        ensures short { HasShortPaths self.now.routing.now }
+        ensures value { option_copied result ≡ held_by self.now.table.now self.now.round asn }
+        ensures short { HoldsShort self.now.table.now }
     {
         if place < self.rows.len() && self.rows[place] == asn {
             self.held[place]
         } else {
-            self.routing.get(asn)
+            self.table.held(self.round, asn)
         }
     }
 }

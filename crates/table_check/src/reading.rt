@@ -4,12 +4,13 @@ ghost use Rattle.std.specs.FinMap as map;
 ghost use Rattle.std.specs.Ordering.{eq_by_cmp};
 ghost use Rattle.net_names.specs.Lines.{kept_from, said_on};
 ghost use Rattle.net_names.specs.Prefixes.{prefix_cmp};
+ghost use Rattle.table_check.specs.declared.reading.TablesError.TheVariants.{Memory};
 ghost use Rattle.table_check.specs.Reading.{Gives, tables_by, with_line, with_row};
 
 use crate::forms::row;
 use crate::rows::Rows;
 use crate::tables::{Starts, Tables};
-use net_names::{Asn, Prefix, next_kept};
+use net_names::{Asn, NoMemory, Prefix, next_kept};
 use scenario_text::read_for;
 use stability_laws::Entry;
 use std::alloc::Global;
@@ -34,6 +35,14 @@ pub enum TablesError {
     NoFor,
 }
 
+impl From<NoMemory> for TablesError {
+    ghost from_gives = { λ _ e. e ≡ Memory };
+
+    fn from(_e: NoMemory) -> TablesError {
+        TablesError::Memory
+    }
+}
+
 // Whether a section of this round and prefix is the next one.
 fn is_next(tables: &Tables, round: u32, prefix: Prefix) -> bool
     ensures { result ≡ (round == length tables.now.starts + 1) && eq_by_cmp prefix_cmp tables.now.prefix prefix }
@@ -52,10 +61,11 @@ fn put_row(
     ensures gives { Gives result (with_row tables number (asn, held)) }
     ensures few { IfOk result (λ t. t.starts ≡ tables.starts) }
 {
-    match tables.rows.put(tables.starts.len(), asn, held) {
-        Ok(true) => Ok(tables),
-        Ok(false) => Err(TablesError::Twice { line: number }),
-        Err(_) => Err(TablesError::Memory),
+    let is_new = tables.rows.put(tables.starts.len(), asn, held)?;
+    if is_new {
+        Ok(tables)
+    } else {
+        Err(TablesError::Twice { line: number })
     }
 }
 
@@ -73,16 +83,13 @@ fn put_line(
 {
     if let Some((round, prefix)) = read_for(line) {
         if is_next(&tables, round, prefix) {
-            return match tables.starts.push(number) {
-                Ok(()) => Ok(tables),
-                Err(_) => Err(TablesError::Memory),
-            };
+            tables.starts.push(number)?;
+            return Ok(tables);
         }
     }
-    match row(alloc, line) {
-        Err(_) => Err(TablesError::Memory),
-        Ok(None) => Err(TablesError::Unreadable { line: number }),
-        Ok(Some((asn, held))) => put_row(tables, number, asn, held),
+    match row(alloc, line)? {
+        Some((asn, held)) => put_row(tables, number, asn, held),
+        None => Err(TablesError::Unreadable { line: number }),
     }
 }
 

@@ -1,8 +1,10 @@
 //! The rows of a printed table.
-ghost use Rattle.std.specs.Prelude.{◌≡◌, ℕ, ◌≤◌, not, length, option_copied, IfOk, IfSome, OnOk};
+ghost use Rattle.std.specs.Prelude.{◌≡◌, ℕ, ◌≤◌, false, not, IsTrue, None, length, option_copied, IfOk, IfSome, OnOk};
 ghost use Rattle.std.specs.FinMap as map;
-ghost use Rattle.table_check.specs.Rows.{HasShortRows, held_by};
+ghost use Rattle.as_graph.specs.Topology.{has};
+ghost use Rattle.table_check.specs.Rows.{HasShortRows, HoldsShort, held_by, inside_row};
 
+use as_graph::Graph;
 use net_names::{Asn, NoMemory, Path};
 use stability_laws::{Entry, Routing};
 use std::alloc::Global;
@@ -33,24 +35,37 @@ impl Model for Rows {
 fn copy_of(alloc: Global, entry: &Entry) -> Result<Entry, NoMemory>
     ensures { IfOk result (λ copy. copy ≡ entry.now) }
 {
-    match Vec::from_slice(alloc, entry.path.as_slice()) {
-        Ok(numbers) => Ok(Entry {
-            class: entry.class,
-            path: Path::from_vec(numbers),
-            otc: entry.otc,
-        }),
-        Err(_) => Err(NoMemory),
-    }
+    let numbers = Vec::from_slice(alloc, entry.path.as_slice())?;
+    Ok(Entry {
+        class: entry.class,
+        path: Path::from_vec(numbers),
+        otc: entry.otc,
+    })
 }
 
-// Makes the AS hold a copy of this.
-fn put_copy(alloc: Global, routing: &mut Routing, asn: Asn, held: &Entry) -> Result<(), NoMemory>
+/// Makes the AS hold a copy of this.
+pub(crate) fn put_copy(
+    alloc: Global,
+    routing: &mut Routing,
+    asn: Asn,
+    held: &Entry,
+) -> Result<(), NoMemory>
     requires { length held.now.path ≤ 4294967294 }
     ensures { OnOk result (routing.new ≡ map.insert routing.old asn held.now) }
 {
     let copy = copy_of(alloc, held)?;
     routing.put(asn, copy)?;
     Ok(())
+}
+
+// Whether the row is of another round, says that nothing is held, or is of an AS of the graph.
+fn is_inside(graph: &Graph, round: u32, key: (u32, Asn), held: &Option<Entry>) -> bool
+    ensures { result ≡ inside_row (has graph.now) round (key, held.now) }
+{
+    match held {
+        Some(_) => key.0 != round || graph.has(key.1),
+        None => true,
+    }
 }
 
 impl Rows {
@@ -74,11 +89,8 @@ impl Rows {
         ensures new { IfOk result (λ is_new. is_new ≡ not (map.contains_key self.old (round, asn))) }
         ensures with { OnOk result (self.new ≡ map.insert self.old (round, asn) held) }
     {
-        match self.entries.insert((round, asn), held) {
-            Ok(None) => Ok(true),
-            Ok(Some(_)) => Ok(false),
-            Err(_) => Err(NoMemory),
-        }
+        let old = self.entries.insert((round, asn), held)?;
+        Ok(old.is_none())
     }
 
     /// What the AS holds in the round; `None` exactly where it has no row or holds nothing.
@@ -90,6 +102,26 @@ impl Rows {
             Some(None) => None,
             None => None,
         }
+    }
+
+    /// Each path in the rows is short.
+    pub(crate) fn paths_are_short(&self)
+        ensures { HoldsShort self.now }
+    {
+        // The rows are read for what their type says of every path.
+        let _count = self.entries.len();
+    }
+
+    /// Whether all that hold something in the round are ASes of the graph.
+    pub(crate) fn are_inside(&self, round: u32, graph: &Graph) -> bool
+        ensures { IsTrue result → (a : ℕ) → has graph.now a ≡ false → held_by self.now round a ≡ None }
+    {
+        'rows: for (key, held) in self.entries.iter() {
+            if !is_inside(graph, round, *key, held) {
+                return false;
+            }
+        }
+        true
     }
 
     /// What all ASes hold in the round.

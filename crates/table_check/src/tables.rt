@@ -41,10 +41,8 @@ impl Starts {
         ensures ok { OnOk result (self.new ≡ self.old ++ line ∷ []) }
         ensures err { OnErr result (self.new ≡ self.old) }
     {
-        match self.lines.push(line) {
-            Ok(()) => Ok(()),
-            Err(_) => Err(NoMemory),
-        }
+        self.lines.push(line)?;
+        Ok(())
     }
 
     /// How many sections there are.

@@ -1,10 +1,10 @@
 use Rattle.std.proofs.Common.{◌≡◌, ◌↔◌, IsTrue, sym, ◌∙◌, subst}
-use Rattle.std.specs.FinMap as map
 use Rattle.as_graph.specs.Topology.{relation}
 use Rattle.stability_laws.specs.declared.entry.Entry.{Entry}
 use Rattle.stability_laws.specs.Book.{policy_at}
 use Rattle.stability_laws.specs.Offers.{passed_on}
 use Rattle.stability_laws.proofs.Verdicts.{entry_of}
+use Rattle.table_check.specs.Rows.{held_by}
 use Rattle.table_check.proofs.near.is_offer.Goals as goal
 
 pub returns-in-Some : goal.returns-in-Some
@@ -12,7 +12,7 @@ returns-in-Some g c = λ o made seen holds.
     let m = g.P.RoutePolicy.meaning in
     let n = c.args.view.now.neighbour in
     let is : o.entry ≡ passed_on (m (policy_at c.args.world.now.book.now n)).marks (m (policy_at c.args.world.now.book.now c.args.asn)).marks n c.args.asn o.view.rel c.in-Some.given.now =
-    entry_of (m (policy_at c.args.world.now.book.now n)) (m (policy_at c.args.world.now.book.now c.args.asn)) (g.V.OriginStates.state_of c.args.world.now.states.now c.args.prefix) n c.args.asn (relation c.args.world.now.graph.now c.args.asn n) (map.get c.args.placed.now.routing.now n) o c.in-Some.given.now made (sym c.in-Some.ensures.value) in
+    entry_of (m (policy_at c.args.world.now.book.now n)) (m (policy_at c.args.world.now.book.now c.args.asn)) (g.V.OriginStates.state_of c.args.world.now.states.now c.args.prefix) n c.args.asn (relation c.args.world.now.graph.now c.args.asn n) (held_by c.args.placed.now.table.now c.args.placed.now.round n) o c.in-Some.given.now made (sym c.in-Some.ensures.value) in
     let same : passed_on (m c.policy.result.now).marks (m c.policy-in-Some.result.now).marks n c.args.asn c.args.view.now.rel c.in-Some.given.now ≡ o.entry =
     (λ i. passed_on (m (c.policy.ensures i)).marks (m (c.policy-in-Some.ensures i)).marks n c.args.asn (sym seen i).rel c.in-Some.given.now) ∙ sym is in
     let F : Entry → Type 0 = λ e. IsTrue c.holds_given.result ↔ (c.args.entry.now ≡ e) in

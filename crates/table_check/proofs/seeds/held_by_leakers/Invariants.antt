@@ -1,0 +1,16 @@
+use Rattle.std.proofs.Common.{◌≡◌, ℕ, ◌+◌, ◌-◌, ◌≤◌, None, length, take}
+use Rattle.std.specs.FinMap as map
+use Rattle.net_names.specs.Numbers.{occurs}
+use Rattle.stability_laws.specs.Plans.{leakers_of}
+use Rattle.table_check.specs.Rows.{held_by}
+use Rattle.table_check.proofs.Leakers.{given}
+use Rattle.table_check.proofs.seeds.held_by_leakers.Given as goal
+
+abbrev pub invariant-leakers : goal.invariant-leakers
+invariant-leakers l = record {
+  so_far : (a : ℕ) → map.get l.routing a ≡ given None (occurs a (take l.place (leakers_of l.plan (l.before + 1)))) (held_by l.table l.before a);
+  within : l.place ≤ length (leakers_of l.plan (l.before + 1));
+}
+
+abbrev pub decreases-leakers : goal.decreases-leakers
+decreases-leakers l = length (leakers_of l.plan (l.before + 1)) - l.place
