@@ -16,6 +16,7 @@ mod Paying
 mod Committing
 mod Changing
 mod Planned
+mod NextTables
 mod Turns
 mod Telling
 mod Closing

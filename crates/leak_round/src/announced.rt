@@ -39,7 +39,8 @@ fn announce(
     ensures so_far { OnOk result (IsAnnouncing pool.new plan.now announced.new.items) }
     ensures more { OnOk result (KeepsAnnounced announced.old.items announced.new.items) }
     ensures this { OnOk result (HasAnnounced plan.now announced.new.items prefix asn) }
-    ensures few { OnOk result (length announced.new.items ≤ length announced.old.items + announced_count plan.now prefix asn) }
+    ensures few { OnOk result (length announced.new.items ≤
+        length announced.old.items + announced_count plan.now prefix asn) }
     ensures cells { OnOk result (live_count pool.new ≤ live_count pool.old + announced_length plan.now prefix asn) }
     ensures limit { limit_of pool.new ≡ limit_of pool.old }
 {
@@ -52,10 +53,8 @@ fn announce(
         Err(_) => return Err(NoMemory),
     }
     let path = pool.copy_in(numbers);
-    match announced.push(Announced { prefix, asn, path }) {
-        Ok(()) => Ok(()),
-        Err(_) => Err(NoMemory),
-    }
+    announced.push(Announced { prefix, asn, path })?;
+    Ok(())
 }
 
 // Puts the announced paths of a prefix into the pool.
@@ -69,8 +68,10 @@ fn announce_prefix(
     ensures so_far { OnOk result (IsAnnouncing pool.new plan.now announced.new.items) }
     ensures more { OnOk result (KeepsAnnounced announced.old.items announced.new.items) }
     ensures whole { OnOk result ((a : ℕ) → HasAnnounced plan.now announced.new.items prefix a) }
-    ensures few { OnOk result (length announced.new.items ≤ length announced.old.items + sum_by (announced_count plan.now prefix) (announcers_of plan.now)) }
-    ensures cells { OnOk result (live_count pool.new ≤ live_count pool.old + sum_by (announced_length plan.now prefix) (announcers_of plan.now)) }
+    ensures few { OnOk result (length announced.new.items ≤
+        length announced.old.items + sum_by (announced_count plan.now prefix) (announcers_of plan.now)) }
+    ensures cells { OnOk result (live_count pool.new ≤
+        live_count pool.old + sum_by (announced_length plan.now prefix) (announcers_of plan.now)) }
     ensures limit { limit_of pool.new ≡ limit_of pool.old }
 {
     let mut place = 0;
@@ -92,7 +93,8 @@ pub fn announce_all(
     requires few { length (prefixes_of plan.now) ≤ 32 }
     requires so_far { IsAnnouncing pool.old plan.now [] }
     ensures so_far { IfOk result (λ v. IsAnnouncing pool.new plan.now v.items) }
-    ensures whole { IfOk result (λ v. (prefix : PrefixValue) (a : ℕ) → IsTrue (has_prefix plan.now prefix) → HasAnnounced plan.now v.items prefix a) }
+    ensures whole { IfOk result (λ v. (prefix : PrefixValue) (a : ℕ) → IsTrue (has_prefix plan.now prefix) →
+        HasAnnounced plan.now v.items prefix a) }
     ensures few { IfOk result (λ v. length v.items ≤ fin.len plan.now.announced) }
     ensures cells { OnOk result (live_count pool.new ≤ live_count pool.old +
         sum_by (λ prefix. sum_by (announced_length plan.now prefix) (announcers_of plan.now)) (prefixes_of plan.now)) }
@@ -130,7 +132,8 @@ pub fn announced_seeds(
 
 // Takes one hold more of each announced path.
 pub fn hold_all(announced: &[Announced], pool: &mut PathPool)
-    requires live { (place : ℕ) (x : AnAnnouncement) → slice_get announced.now place ≡ Some x → IsLive pool.old x.path.0 }
+    requires live { (place : ℕ) (x : AnAnnouncement) → slice_get announced.now place ≡ Some x →
+        IsLive pool.old x.path.0 }
     requires counts { (k : ℕ) → count_of pool.old k + length announced.now < 4294967295 }
     ensures holds { (k : ℕ) → holds_of pool.new k ≡ holds_of pool.old k + announced_uses announced.now k }
     ensures keeps { KeepsPaths pool.old pool.new }

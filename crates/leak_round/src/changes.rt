@@ -58,7 +58,8 @@ pub fn commit_changes(tables: &mut Vec<RoundTables>, changes: Vec<Change>, pool:
     ensures laid { (plan : Plan) (routings : ℕ → PrefixValue → ℕ → Option AnEntry) (others : ℕ → ℕ) →
         ListsRising prefix_cmp (λ p. IsTrue (has_prefix plan p)) (prefixes_of plan) →
         ((round : ℕ) (prefix : PrefixValue) → AreFew (routings round prefix)) →
-        IsLaid plan routings others pool.old tables.old.items changes.items → IsLaid plan routings others pool.new tables.new.items [] }
+        IsLaid plan routings others pool.old tables.old.items changes.items →
+        IsLaid plan routings others pool.new tables.new.items [] }
     ensures count { length tables.new.items ≡ length tables.old.items }
     ensures back { GivesBack pool.old pool.new }
 {

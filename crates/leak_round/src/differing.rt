@@ -1,15 +1,14 @@
 //! Which ASes may hold something wrong after an edit: the touched ones, and those whose seed differs.
 
-ghost use Rattle.std.specs.Prelude.{◌≡◌, ◌↔◌, ◌≤◌, IsTrue, Some, [], IfOk, OnOk, option_map};
+ghost use Rattle.std.specs.Prelude.{◌≡◌, ◌↔◌, ◌≤◌, IsTrue, Some, IfOk, OnOk, option_map};
 ghost use Rattle.path_pool.specs.Pool.{IsLive, list_of};
 ghost use Rattle.route_choice.specs.declared.held.SeedHeld.{SeedHeld as ASeed};
 ghost use Rattle.route_choice.specs.declared.seeds.SeedIds.{SeedIds as SomeSeeds};
 ghost use Rattle.route_choice.specs.Resources.{AreSeedsLive};
 ghost use Rattle.route_choice.specs.Routings.{seed_of};
 ghost use Rattle.leak_round.specs.Touched.{touches};
-ghost use Rattle.leak_round.specs.Edited.{announced_after, seeds_after};
-ghost use Rattle.leak_round.specs.Differing.{AddsDiffering, AreWrong, AreWrongIn};
-ghost use Rattle.leak_round.specs.Leaked.{AreSeedsWith};
+ghost use Rattle.leak_round.specs.Differing.{AddsDiffering, AreWrong};
+ghost use Rattle.leak_round.specs.Planners.{AreSeedsAfter, AreSeedsBefore, AreWrongBy};
 
 use crate::changes::Change;
 use crate::edited::{announcements_after, plan_after};
@@ -68,7 +67,8 @@ fn same_seed(
 ) -> Result<bool, NoMemory>
     requires old { (s : ASeed) → old ≡ Some s → IsLive pool.now s.path.0 }
     requires new { (s : ASeed) → new ≡ Some s → IsLive pool.now s.path.0 }
-    ensures { IfOk result (λ same. IsTrue same ↔ (option_map (seed_of pool.now) new ≡ option_map (seed_of pool.now) old)) }
+    ensures { IfOk result (λ same. IsTrue same ↔
+        (option_map (seed_of pool.now) new ≡ option_map (seed_of pool.now) old)) }
 {
     match (old, new) {
         (None, None) => Ok(true),
@@ -93,10 +93,7 @@ fn add_differing(
     for asn in names {
         let same = same_seed(alloc, pool, old.get(*asn), new.get(*asn))?;
         if !same {
-            match ases.push(*asn) {
-                Ok(()) => {}
-                Err(_) => return Err(NoMemory),
-            }
+            ases.push(*asn)?;
         }
     }
     Ok(())
@@ -131,14 +128,11 @@ pub fn seeds_and_wrong<P, V>(
     pool: &PathPool,
 ) -> Result<(SeedIds, Vec<Asn>), NoMemory>
     requires from { 1 ≤ at.now.round }
-    requires before { (seeds : SomeSeeds) →
-        AreSeedsWith planner.now.plan.now planner.now.announced.now tables.now [] at.now.round at.now.prefix seeds → AreSeedsLive pool.now seeds }
-    requires after { (seeds : SomeSeeds) → AreSeedsWith (seeds_after planner.now.edited.now planner.now.plan.now)
-        (announced_after planner.now.edited.now planner.now.announced.now) tables.now changes.now at.now.round at.now.prefix seeds →
+    requires before { (seeds : SomeSeeds) → AreSeedsBefore planner.now at.now tables.now seeds →
         AreSeedsLive pool.now seeds }
-    ensures { IfOk result (λ r. AreWrongIn planner.now.plan.now (seeds_after planner.now.edited.now planner.now.plan.now) planner.now.announced.now
-        (announced_after planner.now.edited.now planner.now.announced.now) tables.now changes.now at.now.round at.now.prefix
-        (touches planner.now.touched.now at.now.prefix) pool.now r.0 r.1.items) }
+    requires after { (seeds : SomeSeeds) → AreSeedsAfter planner.now at.now tables.now changes.now seeds →
+        AreSeedsLive pool.now seeds }
+    ensures { IfOk result (λ r. AreWrongBy planner.now at.now tables.now changes.now pool.now r.0 r.1.items) }
 {
     let (alloc, plan, announced) = (planner.alloc, planner.plan, planner.announced);
     let before = seeds_with(alloc, plan, announced, tables, &[], at.round, at.prefix)?;

@@ -72,7 +72,8 @@ pub fn take_seeds(
     requires held { (k : ℕ) → announced_uses announced.old.items k ≤ holds_of pool.old k }
     requires own { AreOwnSeeds plan.old announced.old.items own.old.items }
     requires prefixes { (seeds_after edited plan.old).prefixes ≡ plan.old.prefixes }
-    requires others { AreOthersKept (prefix_edited edited) announced.old.items (announced_after edited announced.old.items) }
+    requires others { AreOthersKept (prefix_edited edited) announced.old.items
+        (announced_after edited announced.old.items) }
     requires fresh { AreOwnEdited edited }
     ensures plan { plan.new ≡ option_map_or (λ e. e.plan) edited plan.old }
     ensures announced { announced.new.items ≡ option_map_or (λ e. e.announced.items) edited announced.old.items }
@@ -122,10 +123,7 @@ fn others_of(
     let mut others = Vec::new(alloc);
     for one in announced {
         if !is_of(one, prefix, asn) {
-            match others.push(*one) {
-                Ok(()) => {}
-                Err(_) => return Err(NoMemory),
-            }
+            others.push(*one)?;
         }
     }
     Ok(others)
@@ -140,7 +138,8 @@ fn add_path(
     pool: &mut PathPool,
 ) -> Result<(), NoMemory>
     requires some { 1 ≤ length path.now }
-    requires live { (place : ℕ) (x : AnAnnouncement) → slice_get announced.old.items place ≡ Some x → IsLive pool.old x.path.0 }
+    requires live { (place : ℕ) (x : AnAnnouncement) → slice_get announced.old.items place ≡ Some x →
+        IsLive pool.old x.path.0 }
     requires few { length announced.old.items ≤ 64 }
     requires counts { (k : ℕ) → count_of pool.old k ≤ 4000000000 }
     ensures last { OnOk result (EndsWithPath pool.new prefix path.now announced.old.items announced.new.items) }
@@ -149,10 +148,7 @@ fn add_path(
     ensures limit { limit_of pool.new ≡ limit_of pool.old }
 {
     let numbers = path.as_slice();
-    match announced.reserve(1) {
-        Ok(()) => {}
-        Err(_) => return Err(NoMemory),
-    }
+    announced.reserve(1)?;
     match pool.reserve(numbers.len()) {
         Ok(()) => {}
         Err(_) => return Err(NoMemory),
@@ -178,7 +174,8 @@ fn seeds_or_release(
     requires { (k : ℕ) → announced_uses announced.now k ≤ holds_of pool.old k }
     ensures own { IfOk result (AreOwn announced.now prefix) }
     ensures ok { OnOk result (pool.new ≡ pool.old) }
-    ensures holds { OnErr result ((k : ℕ) → holds_of pool.new k + announced_uses announced.now k ≡ holds_of pool.old k) }
+    ensures holds { OnErr result ((k : ℕ) → holds_of pool.new k + announced_uses announced.now k ≡
+        holds_of pool.old k) }
     ensures back { OnErr result (GivesBack pool.old pool.new) }
     ensures limit { limit_of pool.new ≡ limit_of pool.old }
 {
@@ -217,14 +214,8 @@ fn announce_anew(
     let numbers = path.as_slice();
     let asn = numbers[0];
     let mut others = others_of(alloc, announced, prefix, asn)?;
-    match add_path(prefix, path, &mut others, pool) {
-        Ok(()) => {}
-        Err(_) => return Err(NoMemory),
-    }
-    let own = match seeds_or_release(alloc, others.as_slice(), prefix, pool) {
-        Ok(own) => own,
-        Err(_) => return Err(NoMemory),
-    };
+    add_path(prefix, path, &mut others, pool)?;
+    let own = seeds_or_release(alloc, others.as_slice(), prefix, pool)?;
     Ok(EditedSeeds {
         plan: after,
         announced: others,
@@ -292,7 +283,8 @@ pub fn edit_seeds(
     ensures asn { IfOk result (λ e. e.asn ≡ edit_asn edit.now) }
     ensures numbers { IfOk result (λ e. e.numbers ≡ edit_numbers edit.now) }
     ensures few { IfOk result (λ e. e.numbers ≤ 64) }
-    ensures holds { IfOk result (λ e. (k : ℕ) → holds_of pool.new k ≡ holds_of pool.old k + announced_uses e.announced.items k) }
+    ensures holds { IfOk result (λ e. (k : ℕ) →
+        holds_of pool.new k ≡ holds_of pool.old k + announced_uses e.announced.items k) }
     ensures keeps { OnOk result (KeepsPaths pool.old pool.new) }
     ensures cells { IfOk result (λ e. live_count pool.new ≤ live_count pool.old + e.numbers) }
     ensures counts { OnOk result ((k : ℕ) → count_of pool.new k ≤ count_of pool.old k + 129) }

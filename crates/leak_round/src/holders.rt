@@ -52,10 +52,7 @@ fn holders_among(
     let mut holders = Vec::new(alloc);
     for (place, asn) in ases.iter().enumerate() {
         if let Some(one) = holder_at(pool, table, *asn, place) {
-            match holders.push(one) {
-                Ok(()) => {}
-                Err(_) => return Err(NoMemory),
-            }
+            holders.push(one)?;
         }
     }
     Ok(holders)

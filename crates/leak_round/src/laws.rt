@@ -11,5 +11,6 @@ use crate::rounds::Rounds;
 /// announcement: it is the cell of that path, or one tail after the other leads from there to it.
 pub fn live_cells_are_reached(rounds: &Rounds)
     requires closed { is_open rounds.now ≡ false }
-    ensures { (k : ℕ) → IsLive (pool_of rounds.now) k ↔ ((j : ℕ) × (0 < uses_of rounds.now j) × LiesOn (pool_of rounds.now) k j) }
+    ensures { (k : ℕ) → IsLive (pool_of rounds.now) k ↔
+        ((j : ℕ) × (0 < uses_of rounds.now j) × LiesOn (pool_of rounds.now) k j) }
 {}

@@ -78,7 +78,8 @@ fn leak(
     before: u32,
     seeds: &mut SeedIds,
 ) -> Result<(), NoMemory>
-    ensures this { OnOk result (seed_at seeds.new asn ≡ own_or_leaked (seed_at seeds.old asn) true (held_with tables.now changes.now before prefix asn)) }
+    ensures this { OnOk result (seed_at seeds.new asn ≡
+        own_or_leaked (seed_at seeds.old asn) true (held_with tables.now changes.now before prefix asn)) }
     ensures others { OnOk result ((a : ℕ) → a ≢ asn → seed_at seeds.new a ≡ seed_at seeds.old a) }
 {
     if seeds.get(asn).is_some() {
@@ -104,7 +105,8 @@ pub fn leak_all(
     seeds: &mut SeedIds,
 ) -> Result<(), NoMemory>
     requires { 1 ≤ round }
-    ensures { OnOk result ((a : ℕ) → seed_at seeds.new a ≡ own_or_leaked (seed_at seeds.old a) (leaks_in plan.now round a)
+    ensures { OnOk result ((a : ℕ) → seed_at seeds.new a ≡
+        own_or_leaked (seed_at seeds.old a) (leaks_in plan.now round a)
         (held_with tables.now changes.now (round - 1) prefix a)) }
 {
     let before = round - 1;

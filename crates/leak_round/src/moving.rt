@@ -108,11 +108,13 @@ fn move_entry(
     requires place { change_at made.old one.now.asn ≡ Some None }
     requires spare { 0 < spare_of pool.old }
     requires counts { (k : ℕ) → count_of pool.old k < 4294967295 }
-    ensures entry { option_map (entry_of pool.new) (unwrap_or (change_at made.new one.now.asn) None) ≡ table_routing from.now table.now one.now.asn }
+    ensures entry { option_map (entry_of pool.new) (unwrap_or (change_at made.new one.now.asn) None) ≡
+        table_routing from.now table.now one.now.asn }
     ensures live { (h : AHeld) → change_at made.new one.now.asn ≡ Some (Some h) → IsLive pool.new h.path.0 }
     ensures there { IsSome (change_at made.new one.now.asn) }
     ensures others { (a : ℕ) → a ≢ one.now.asn → change_at made.new a ≡ change_at made.old a }
-    ensures holds { (k : ℕ) → holds_of pool.new k + overlay_uses made.old k ≡ holds_of pool.old k + overlay_uses made.new k }
+    ensures holds { (k : ℕ) → holds_of pool.new k + overlay_uses made.old k ≡
+        holds_of pool.old k + overlay_uses made.new k }
     ensures keeps { KeepsPaths pool.old pool.new }
     ensures grows { GrowsBy pool.old pool.new 1 }
     ensures spare { spare_of pool.old ≤ spare_of pool.new + 1 }
@@ -145,7 +147,8 @@ fn move_entries(
     requires unused { (k : ℕ) → overlay_uses made.old k ≡ 0 }
     requires spare { length holders.now ≤ spare_of pool.old }
     requires counts { (k : ℕ) → count_of pool.old k + length holders.now < 4294967295 }
-    ensures same { (a : ℕ) → option_map (entry_of pool.new) (unwrap_or (change_at made.new a) None) ≡ table_routing from.now table.now a }
+    ensures same { (a : ℕ) → option_map (entry_of pool.new) (unwrap_or (change_at made.new a) None) ≡
+        table_routing from.now table.now a }
     ensures live { (a : ℕ) (h : AHeld) → change_at made.new a ≡ Some (Some h) → IsLive pool.new h.path.0 }
     ensures holds { (k : ℕ) → holds_of pool.new k ≡ holds_of pool.old k + overlay_uses made.new k }
     ensures keeps { KeepsPaths pool.old pool.new }
@@ -174,14 +177,17 @@ fn moved_table(
     requires round { round ≡ suc (length earlier.now) }
     requires known { IsTrue (has_prefix moving.now.plan.now prefix) }
     requires passed_on { ArePassedOn
-        (seeds_in moving.now.plan.now round prefix (kept_in moving.now.from.now moving.now.tables.now (length earlier.now) prefix))
+        (seeds_in moving.now.plan.now round prefix
+        (kept_in moving.now.from.now moving.now.tables.now (length earlier.now) prefix))
         (kept_in moving.now.from.now moving.now.tables.now round prefix) }
     requires room { HasRoomFor pool.old 1 }
     ensures prefix { IfOk result (λ t. prefix_of t ≡ prefix) }
-    ensures same { IfOk result (λ t. (a : ℕ) → table_routing pool.new t a ≡ kept_in moving.now.from.now moving.now.tables.now round prefix a) }
+    ensures same { IfOk result (λ t. (a : ℕ) →
+        table_routing pool.new t a ≡ kept_in moving.now.from.now moving.now.tables.now round prefix a) }
     ensures live { IfOk result (AreEntriesLive pool.new) }
     ensures holds { IfOk result (λ t. (k : ℕ) → holds_of pool.new k ≡ holds_of pool.old k + table_uses t k) }
-    ensures cells { IfOk result (λ t. HasEntries (table_routing pool.new t) (live_count pool.new - live_count pool.old)) }
+    ensures cells { IfOk result (λ t. HasEntries (table_routing pool.new t)
+        (live_count pool.new - live_count pool.old)) }
     ensures keeps { OnOk result (KeepsPaths pool.old pool.new) }
     ensures grows { OnOk result (GrowsBy pool.old pool.new MOST_ASES) }
     ensures small { IfOk result (λ t. (k : ℕ) → table_uses t k ≤ MOST_ASES) }
@@ -219,17 +225,22 @@ fn moved_round(
     requires announced { AreAnnounced pool.old moving.now.plan.now moving.now.announced.now }
     requires earlier { AreRoundsFull pool.old moving.now.plan.now earlier.now }
     requires before { (prefix : PrefixValue) (a : ℕ) → IsTrue (has_prefix moving.now.plan.now prefix) →
-        kept_in pool.old earlier.now (length earlier.now) prefix a ≡ kept_in moving.now.from.now moving.now.tables.now (length earlier.now) prefix a }
+        kept_in pool.old earlier.now (length earlier.now) prefix a ≡
+        kept_in moving.now.from.now moving.now.tables.now (length earlier.now) prefix a }
     requires round { round ≡ suc (length earlier.now) }
     requires passed_on { (prefix : PrefixValue) → IsTrue (has_prefix moving.now.plan.now prefix) →
-        ArePassedOn (seeds_in moving.now.plan.now round prefix (kept_in moving.now.from.now moving.now.tables.now (length earlier.now) prefix))
+        ArePassedOn
+        (seeds_in moving.now.plan.now round prefix
+        (kept_in moving.now.from.now moving.now.tables.now (length earlier.now) prefix))
         (kept_in moving.now.from.now moving.now.tables.now round prefix) }
     requires room { HasRoomFor pool.old (length (prefixes_of moving.now.plan.now)) }
-    ensures same { IfOk result (λ t. (prefix : PrefixValue) → IsTrue (has_prefix moving.now.plan.now prefix) → (a : ℕ) →
-        round_routing pool.new t prefix a ≡ kept_in moving.now.from.now moving.now.tables.now round prefix a) }
+    ensures same { IfOk result (λ t. (prefix : PrefixValue) → IsTrue (has_prefix moving.now.plan.now prefix) →
+        (a : ℕ) → round_routing pool.new t prefix a ≡
+        kept_in moving.now.from.now moving.now.tables.now round prefix a) }
     ensures full { IfOk result (AreFull pool.new moving.now.plan.now) }
     ensures holds { IfOk result (λ t. (k : ℕ) → holds_of pool.new k ≡ holds_of pool.old k + tables_uses t k) }
-    ensures cells { IfOk result (λ t. HasEntries (of_round (round_routing pool.new t)) (live_count pool.new - live_count pool.old)) }
+    ensures cells { IfOk result (λ t. HasEntries (of_round (round_routing pool.new t))
+        (live_count pool.new - live_count pool.old)) }
     ensures keeps { OnOk result (KeepsPaths pool.old pool.new) }
     ensures grows { OnOk result (GrowsBy pool.old pool.new (MOST_ASES * length (prefixes_of moving.now.plan.now))) }
 {
@@ -251,28 +262,30 @@ pub fn moved_rounds(moving: &Moving<'_>, pool: &mut PathPool) -> Result<Vec<Roun
     requires announced { AreAnnounced pool.old moving.now.plan.now moving.now.announced.now }
     requires passed_on { (before : ℕ) (prefix : PrefixValue) → before < length moving.now.tables.now →
         IsTrue (has_prefix moving.now.plan.now prefix) →
-        ArePassedOn (seeds_in moving.now.plan.now (suc before) prefix (kept_in moving.now.from.now moving.now.tables.now before prefix))
+        ArePassedOn
+        (seeds_in moving.now.plan.now (suc before) prefix
+        (kept_in moving.now.from.now moving.now.tables.now before prefix))
         (kept_in moving.now.from.now moving.now.tables.now (suc before) prefix) }
     requires room { HasRoomFor pool.old (length moving.now.tables.now * length (prefixes_of moving.now.plan.now)) }
     ensures count { IfOk result (λ v. length v.items ≡ length moving.now.tables.now) }
     ensures same { IfOk result (λ v. (before : ℕ) (prefix : PrefixValue) → before < length moving.now.tables.now →
         IsTrue (has_prefix moving.now.plan.now prefix) →
-        (a : ℕ) → kept_in pool.new v.items (suc before) prefix a ≡ kept_in moving.now.from.now moving.now.tables.now (suc before) prefix a) }
+        (a : ℕ) → kept_in pool.new v.items (suc before) prefix a ≡
+        kept_in moving.now.from.now moving.now.tables.now (suc before) prefix a) }
     ensures full { IfOk result (λ v. AreRoundsFull pool.new moving.now.plan.now v.items) }
     ensures holds { IfOk result (λ v. (k : ℕ) → holds_of pool.new k ≡ holds_of pool.old k + entry_uses v.items k) }
-    ensures cells { IfOk result (λ v. HasEntries (of_rounds (kept_in pool.new v.items)) (live_count pool.new - live_count pool.old)) }
+    ensures cells { IfOk result (λ v. HasEntries (of_rounds (kept_in pool.new v.items))
+        (live_count pool.new - live_count pool.old)) }
     ensures keeps { OnOk result (KeepsPaths pool.old pool.new) }
-    ensures grows { OnOk result (GrowsBy pool.old pool.new (MOST_ASES * (length moving.now.tables.now * length (prefixes_of moving.now.plan.now)))) }
+    ensures grows { OnOk result (GrowsBy pool.old pool.new
+        (MOST_ASES * (length moving.now.tables.now * length (prefixes_of moving.now.plan.now)))) }
 {
     let mut rounds = Vec::new(moving.alloc);
     for old in moving.tables {
         let earlier = rounds.as_slice();
         let round = earlier.len() as u32 + 1;
         let next = moved_round(moving, old, earlier, round, pool)?;
-        match rounds.push(next) {
-            Ok(()) => {}
-            Err(_) => return Err(NoMemory),
-        }
+        rounds.push(next)?;
     }
     Ok(rounds)
 }

@@ -29,10 +29,7 @@ pub fn fill_own_seeds(
 {
     'prefixes: while let Some(prefix) = plan.prefix_at(own.len()) {
         let seeds = announced_seeds(alloc, announced, prefix)?;
-        match own.push(seeds) {
-            Ok(()) => {}
-            Err(_) => return Err(NoMemory),
-        }
+        own.push(seeds)?;
     }
     Ok(())
 }
@@ -51,8 +48,8 @@ fn place_of(prefixes: &[Prefix], prefix: Prefix) -> Option<usize>
 
 // Puts other seeds of a prefix in place of those that are kept of it.
 pub fn put_own_seeds(plan: &SeedPlan, prefix: Prefix, seeds: SeedIds, own: &mut Vec<SeedIds>)
-    ensures { (xs ys : List AnAnnouncement) → AreOwnSeeds plan.now xs own.old.items → AreOthersKept (Some prefix) xs ys → AreOwn ys prefix seeds →
-        AreOwnSeeds plan.now ys own.new.items }
+    ensures { (xs ys : List AnAnnouncement) → AreOwnSeeds plan.now xs own.old.items →
+        AreOthersKept (Some prefix) xs ys → AreOwn ys prefix seeds → AreOwnSeeds plan.now ys own.new.items }
 {
     match place_of(plan.prefixes(), prefix) {
         Some(place) if place < own.len() => own[place] = seeds,
@@ -107,9 +104,11 @@ pub fn edited_seeds<'a>(
     at: &RoundPrefix,
 ) -> Option<(&'a SeedIds, &'a SeedIds)>
     ensures { IfSome result (λ s. (xs : List AnAnnouncement) (rounds : List SomeTables) (changes : List AChange) →
-        AreOwnSeeds plan.now xs own.now → slice_get (prefixes_of plan.now) at.now.place ≡ Some at.now.prefix → AreOwnEdited edited.now →
+        AreOwnSeeds plan.now xs own.now → slice_get (prefixes_of plan.now) at.now.place ≡ Some at.now.prefix →
+        AreOwnEdited edited.now →
         AreSeedsWith plan.now xs rounds [] at.now.round at.now.prefix s.0.now ×
-        AreSeedsWith (seeds_after edited.now plan.now) (announced_after edited.now xs) rounds changes at.now.round at.now.prefix s.1.now) }
+        AreSeedsWith (seeds_after edited.now plan.now) (announced_after edited.now xs) rounds changes
+        at.now.round at.now.prefix s.1.now) }
 {
     let Some(seeds) = edited else {
         return None;

@@ -1,15 +1,14 @@
 //! The changes of the tables of all rounds after an edit, table by table.
 
-ghost use Rattle.std.specs.Prelude.{◌≡◌, ℕ, ◌+◌, ◌-◌, ◌*◌, ◌<◌, ◌≤◌, Some, IsSome, [], ◌∷◌, ◌++◌, length, slice_get, OnOk};
+ghost use Rattle.std.specs.Prelude.{◌≡◌, ℕ, ◌+◌, ◌-◌, ◌*◌, ◌<◌, ◌≤◌, Some, IsSome, [], ◌∷◌, ◌++◌, length, OnOk};
 ghost use Rattle.std.specs.Vec.{vec_capacity};
 ghost use Rattle.path_pool.specs.Pool.{holds_of};
 ghost use Rattle.stability_laws.specs.Plans.{prefixes_of};
 ghost use Rattle.route_choice.specs.declared.table.Table.{Table as ATable};
 ghost use Rattle.leak_round.specs.Growth.{HasRoomFor};
 ghost use Rattle.leak_round.specs.Overlays.{changes_uses, table_in};
-ghost use Rattle.stability_laws.specs.World.{setting_in};
-ghost use Rattle.leak_round.specs.Planning.{CanPlanTable, AreRoundsPlanned, AreSame, IsAdded, IsCutOff, IsPaid, IsTableAdded, IsTurn};
-ghost use Rattle.leak_round.specs.Planners.{ArePlannedBy, AreRanked, CanPlanBy};
+ghost use Rattle.leak_round.specs.Planning.{AreRoundsPlanned, AreSame, IsAdded, IsCutOff, IsPaid};
+ghost use Rattle.leak_round.specs.Planners.{AreAllPlanned, ArePlannedBy, AreRanked, CanPlanAll, CanPlanBy, CanPlanNext, CanPlanTableBy, IsNextPlanned, IsTableAddedBy};
 ghost use Rattle.leak_round.specs.Tables.{entry_uses};
 
 use crate::changes::Change;
@@ -30,10 +29,8 @@ fn make_place(changes: &mut Vec<Change>) -> Result<(), NoMemory>
     ensures room { OnOk result (length changes.new.items < vec_capacity changes.new) }
     ensures same { changes.new.items ≡ changes.old.items }
 {
-    match changes.reserve(1) {
-        Ok(()) => Ok(()),
-        Err(_) => Err(NoMemory),
-    }
+    changes.reserve(1)?;
+    Ok(())
 }
 
 // Adds a change in the room that there is.
@@ -58,12 +55,10 @@ fn plan_with_seeds<P: RoutePolicy, V: OriginStates, L: Ledger>(
     requires ranks { AreRanked planner.now }
     requires there { IsSome (table_in tables.old.items at.now.round at.now.prefix) }
     requires can { (t : ATable) → table_in tables.old.items at.now.round at.now.prefix ≡ Some t →
-        CanPlanTable (setting_in P.meaning V.state_of planner.now.world.now at.now.prefix) planner.now.world.now.graph.now at.now.prefix
-        edit.now.seeds.now edit.now.touched.now pool.old t }
+        CanPlanTableBy P.meaning V.state_of planner.now at.now.prefix edit.now pool.old t }
     requires room { HasRoomFor pool.old 1 }
-    ensures added { OnOk result (IsTableAdded (setting_in P.meaning V.state_of planner.now.world.now at.now.prefix) planner.now.world.now.graph.now
-        edit.now.seeds.now edit.now.touched.now pool.old pool.new tables.old.items tables.new.items
-        changes.old.items changes.new.items at.now.round at.now.prefix steps.old steps.new) }
+    ensures added { OnOk result (IsTableAddedBy P.meaning V.state_of planner.now at.now edit.now pool.old pool.new
+        tables.old.items tables.new.items changes.old.items changes.new.items steps.old steps.new) }
     ensures more { OnOk result (IsAdded changes.old.items changes.new.items at.now.round at.now.prefix) }
     ensures paid { OnOk result (IsPaid pool.old pool.new changes.old.items changes.new.items 1) }
     ensures cut { IsCutOff pool.old pool.new changes.old.items changes.new.items }
@@ -92,18 +87,10 @@ fn plan_reseeded<P: RoutePolicy, V: OriginStates, L: Ledger>(
     pool: &mut PathPool,
     steps: &mut Steps<L>,
 ) -> Result<(), NoMemory>
-    requires ranks { AreRanked planner.now }
-    requires can { CanPlanBy P.meaning V.state_of planner.now pool.old tables.old.items }
-    requires at { slice_get (prefixes_of planner.now.plan.now) at.now.place ≡ Some at.now.prefix }
-    requires held { (k : ℕ) → entry_uses tables.old.items k + changes_uses changes.old.items k ≤ holds_of pool.old k }
-    requires room { HasRoomFor pool.old 1 }
-    requires so_far { (first : ℕ) × ArePlannedBy P.meaning V.state_of planner.now pool.old tables.old.items changes.old.items first steps.old }
-    requires turn { IsTurn planner.now.plan.now (length tables.old.items) changes.old.items at.now.round at.now.prefix }
-    ensures planned { OnOk result ((first : ℕ) →
-        ArePlannedBy P.meaning V.state_of planner.now pool.old tables.old.items changes.old.items first steps.old →
-        ArePlannedBy P.meaning V.state_of planner.now pool.new tables.new.items changes.new.items first steps.new) }
-    ensures more { OnOk result (IsAdded changes.old.items changes.new.items at.now.round at.now.prefix) }
-    ensures paid { OnOk result (IsPaid pool.old pool.new changes.old.items changes.new.items 1) }
+    requires { CanPlanNext P.meaning V.state_of planner.now at.now pool.old tables.old.items changes.old.items
+        steps.old }
+    ensures planned { OnOk result (IsNextPlanned P.meaning V.state_of planner.now at.now pool.old pool.new
+        tables.old.items tables.new.items changes.old.items changes.new.items steps.old steps.new) }
     ensures cut { IsCutOff pool.old pool.new changes.old.items changes.new.items }
     ensures same { AreSame tables.old.items tables.new.items }
 {
@@ -138,18 +125,10 @@ fn plan_change<P: RoutePolicy, V: OriginStates, L: Ledger>(
     pool: &mut PathPool,
     steps: &mut Steps<L>,
 ) -> Result<(), NoMemory>
-    requires ranks { AreRanked planner.now }
-    requires can { CanPlanBy P.meaning V.state_of planner.now pool.old tables.old.items }
-    requires at { slice_get (prefixes_of planner.now.plan.now) at.now.place ≡ Some at.now.prefix }
-    requires held { (k : ℕ) → entry_uses tables.old.items k + changes_uses changes.old.items k ≤ holds_of pool.old k }
-    requires room { HasRoomFor pool.old 1 }
-    requires so_far { (first : ℕ) × ArePlannedBy P.meaning V.state_of planner.now pool.old tables.old.items changes.old.items first steps.old }
-    requires turn { IsTurn planner.now.plan.now (length tables.old.items) changes.old.items at.now.round at.now.prefix }
-    ensures planned { OnOk result ((first : ℕ) →
-        ArePlannedBy P.meaning V.state_of planner.now pool.old tables.old.items changes.old.items first steps.old →
-        ArePlannedBy P.meaning V.state_of planner.now pool.new tables.new.items changes.new.items first steps.new) }
-    ensures more { OnOk result (IsAdded changes.old.items changes.new.items at.now.round at.now.prefix) }
-    ensures paid { OnOk result (IsPaid pool.old pool.new changes.old.items changes.new.items 1) }
+    requires { CanPlanNext P.meaning V.state_of planner.now at.now pool.old tables.old.items changes.old.items
+        steps.old }
+    ensures planned { OnOk result (IsNextPlanned P.meaning V.state_of planner.now at.now pool.old pool.new
+        tables.old.items tables.new.items changes.old.items changes.new.items steps.old steps.new) }
     ensures cut { IsCutOff pool.old pool.new changes.old.items changes.new.items }
     ensures same { AreSame tables.old.items tables.new.items }
 {
@@ -180,7 +159,8 @@ fn plan_round<P: RoutePolicy, V: OriginStates, L: Ledger>(
     requires can { CanPlanBy P.meaning V.state_of planner.now pool.old tables.old.items }
     requires held { (k : ℕ) → entry_uses tables.old.items k + changes_uses changes.old.items k ≤ holds_of pool.old k }
     requires room { HasRoomFor pool.old (length (prefixes_of planner.now.plan.now)) }
-    requires so_far { (first : ℕ) × ArePlannedBy P.meaning V.state_of planner.now pool.old tables.old.items changes.old.items first steps.old }
+    requires so_far { (first : ℕ) × ArePlannedBy P.meaning V.state_of planner.now pool.old tables.old.items
+        changes.old.items first steps.old }
     requires from { 1 ≤ round }
     requires to { round ≤ length tables.old.items }
     requires earlier { AreRoundsPlanned planner.now.plan.now changes.old.items (round - 1) }
@@ -188,7 +168,8 @@ fn plan_round<P: RoutePolicy, V: OriginStates, L: Ledger>(
         ArePlannedBy P.meaning V.state_of planner.now pool.old tables.old.items changes.old.items first steps.old →
         ArePlannedBy P.meaning V.state_of planner.now pool.new tables.new.items changes.new.items first steps.new) }
     ensures more { OnOk result (AreRoundsPlanned planner.now.plan.now changes.new.items round) }
-    ensures paid { OnOk result (IsPaid pool.old pool.new changes.old.items changes.new.items (length (prefixes_of planner.now.plan.now))) }
+    ensures paid { OnOk result (IsPaid pool.old pool.new changes.old.items changes.new.items
+        (length (prefixes_of planner.now.plan.now))) }
     ensures cut { IsCutOff pool.old pool.new changes.old.items changes.new.items }
     ensures same { AreSame tables.old.items tables.new.items }
 {
@@ -213,15 +194,10 @@ pub fn plan_rounds<P: RoutePolicy, V: OriginStates, L: Ledger>(
     pool: &mut PathPool,
     steps: &mut Steps<L>,
 ) -> Result<(), NoMemory>
-    requires ranks { AreRanked planner.now }
-    requires can { CanPlanBy P.meaning V.state_of planner.now pool.old tables.old.items }
-    requires held { (k : ℕ) → entry_uses tables.old.items k ≤ holds_of pool.old k }
-    requires few { length tables.old.items ≤ 4 }
-    requires room { HasRoomFor pool.old (length tables.old.items * length (prefixes_of planner.now.plan.now)) }
+    requires can { CanPlanAll P.meaning V.state_of planner.now pool.old tables.old.items }
     requires none { changes.old.items ≡ [] }
-    ensures planned { OnOk result (ArePlannedBy P.meaning V.state_of planner.now pool.new tables.new.items changes.new.items steps.old steps.new) }
-    ensures more { OnOk result (AreRoundsPlanned planner.now.plan.now changes.new.items (length tables.old.items)) }
-    ensures paid { OnOk result (IsPaid pool.old pool.new [] changes.new.items (length tables.old.items * length (prefixes_of planner.now.plan.now))) }
+    ensures planned { OnOk result (AreAllPlanned P.meaning V.state_of planner.now pool.old pool.new
+        tables.old.items tables.new.items changes.new.items steps.old steps.new) }
     ensures cut { IsCutOff pool.old pool.new [] changes.new.items }
     ensures same { AreSame tables.old.items tables.new.items }
 {

@@ -48,10 +48,12 @@ fn make_table<P: RoutePolicy, V: OriginStates, L: Ledger>(
     ensures cost { steps.new ≤ steps.old + 2 * as_count building.now.world.now.graph.now }
     ensures prefix { IfOk result (λ t. prefix_of t ≡ prefix) }
     ensures stable { IfOk result (λ t. IsStable (setting_in P.meaning V.state_of building.now.world.now prefix)
-        (seeds_of building.now.plan.now round prefix (kept_in pool.old earlier.now (length earlier.now) prefix)) (table_routing pool.new t)) }
+        (seeds_of building.now.plan.now round prefix (kept_in pool.old earlier.now (length earlier.now) prefix))
+        (table_routing pool.new t)) }
     ensures live { IfOk result (AreEntriesLive pool.new) }
     ensures holds { IfOk result (λ t. (k : ℕ) → holds_of pool.new k ≡ holds_of pool.old k + table_uses t k) }
-    ensures cells { IfOk result (λ t. HasEntries (table_routing pool.new t) (live_count pool.new - live_count pool.old)) }
+    ensures cells { IfOk result (λ t. HasEntries (table_routing pool.new t)
+        (live_count pool.new - live_count pool.old)) }
     ensures keeps { OnOk result (KeepsPaths pool.old pool.new) }
     ensures grows { OnOk result (GrowsBy pool.old pool.new MOST_ASES) }
     ensures scratch { OnOk result (IsScratch building.now.course.now scratch.new) }
@@ -64,15 +66,12 @@ fn make_table<P: RoutePolicy, V: OriginStates, L: Ledger>(
         plan,
         announced,
     } = *building;
+    // `as_count` is called for its clause that there are at most 150,000 ASes.
     let _count = world.graph.as_count();
     let seeds = seeds_with(alloc, plan, announced, earlier, &[], round, prefix)?;
-    match propagate_along(world, course, prefix, &seeds, pool, scratch, steps) {
-        Ok(table) => {
-            uses_are_counted(&table);
-            Ok(table)
-        }
-        Err(_) => Err(NoMemory),
-    }
+    let table = propagate_along(world, course, prefix, &seeds, pool, scratch, steps)?;
+    uses_are_counted(&table);
+    Ok(table)
 }
 
 // The tables of a round, one for each prefix. They are made in an overlay for the course.
@@ -90,12 +89,14 @@ pub fn make_round<P: RoutePolicy, V: OriginStates, L: Ledger>(
     requires earlier { AreRoundsFull pool.old building.now.plan.now earlier.now }
     requires round { round ≡ suc (length earlier.now) }
     requires room { HasRoomFor pool.old (length (prefixes_of building.now.plan.now)) }
-    ensures cost { steps.new ≤ steps.old + 2 * as_count building.now.world.now.graph.now * length (prefixes_of building.now.plan.now) }
-    ensures stable { IfOk result (λ t. IsRound (setting_in P.meaning V.state_of building.now.world.now) building.now.plan.now round
-        (kept_in pool.old earlier.now (length earlier.now)) (round_routing pool.new t)) }
+    ensures cost { steps.new ≤
+        steps.old + 2 * as_count building.now.world.now.graph.now * length (prefixes_of building.now.plan.now) }
+    ensures stable { IfOk result (λ t. IsRound (setting_in P.meaning V.state_of building.now.world.now)
+        building.now.plan.now round (kept_in pool.old earlier.now (length earlier.now)) (round_routing pool.new t)) }
     ensures full { IfOk result (AreFull pool.new building.now.plan.now) }
     ensures holds { IfOk result (λ t. (k : ℕ) → holds_of pool.new k ≡ holds_of pool.old k + tables_uses t k) }
-    ensures cells { IfOk result (λ t. HasEntries (of_round (round_routing pool.new t)) (live_count pool.new - live_count pool.old)) }
+    ensures cells { IfOk result (λ t. HasEntries (of_round (round_routing pool.new t))
+        (live_count pool.new - live_count pool.old)) }
     ensures keeps { OnOk result (KeepsPaths pool.old pool.new) }
     ensures grows { OnOk result (GrowsBy pool.old pool.new (MOST_ASES * length (prefixes_of building.now.plan.now))) }
     ensures scratch { OnOk result (IsScratch building.now.course.now scratch.new) }

@@ -19,6 +19,7 @@ ghost use Rattle.leak_round.specs.Growth.{GrowsBy, KeepsPaths, HasRoomFor};
 ghost use Rattle.stability_laws.specs.World.{setting_in};
 ghost use Rattle.leak_round.specs.OwnSeeds.{AreOwnSeeds};
 ghost use Rattle.leak_round.specs.Tables.{kept_in, entry_uses, AreRoundsFull};
+ghost use Rattle.leak_round.specs.declared.rounds.TheConstants.{MAX_CELLS};
 ghost use Rattle.as_graph.specs.declared.build.TheConstants.{MOST_ASES};
 
 mod commits;
@@ -64,7 +65,7 @@ pub struct Rounds {
     ghost closed: { planned ≡ false → (k : ℕ) → holds_of pool k ≡ entry_uses tables.items k + announced_uses announced.items k },
     ghost limits: { IsWithinLimits plan },
     ghost few: { length tables.items ≤ 4 },
-    ghost cells: { limit_of pool ≡ 40000000 },
+    ghost cells: { limit_of pool ≡ MAX_CELLS },
 }
 
 // The tables of the rounds, one after the other. They are made in an overlay for the course.
@@ -79,24 +80,24 @@ fn make_rounds<P: RoutePolicy, V: OriginStates, L: Ledger>(
     requires scratch { IsScratch building.now.course.now scratch.old }
     requires announced { AreAnnounced pool.old building.now.plan.now building.now.announced.now }
     requires room { HasRoomFor pool.old (rounds * length (prefixes_of building.now.plan.now)) }
-    ensures cost { steps.new ≤ steps.old + 2 * as_count building.now.world.now.graph.now * length (prefixes_of building.now.plan.now) * rounds }
+    ensures cost { steps.new ≤ steps.old +
+        2 * as_count building.now.world.now.graph.now * length (prefixes_of building.now.plan.now) * rounds }
     ensures count { IfOk result (λ v. length v.items ≡ rounds) }
-    ensures stable { IfOk result (λ v. AreRounds (setting_in P.meaning V.state_of building.now.world.now) building.now.plan.now rounds
-        (kept_in pool.new v.items)) }
+    ensures stable { IfOk result (λ v. AreRounds (setting_in P.meaning V.state_of building.now.world.now)
+        building.now.plan.now rounds (kept_in pool.new v.items)) }
     ensures full { IfOk result (λ v. AreRoundsFull pool.new building.now.plan.now v.items) }
     ensures holds { IfOk result (λ v. (k : ℕ) → holds_of pool.new k ≡ holds_of pool.old k + entry_uses v.items k) }
-    ensures cells { IfOk result (λ v. HasEntries (of_rounds (kept_in pool.new v.items)) (live_count pool.new - live_count pool.old)) }
+    ensures cells { IfOk result (λ v. HasEntries (of_rounds (kept_in pool.new v.items))
+        (live_count pool.new - live_count pool.old)) }
     ensures keeps { OnOk result (KeepsPaths pool.old pool.new) }
-    ensures grows { OnOk result (GrowsBy pool.old pool.new (MOST_ASES * (rounds * length (prefixes_of building.now.plan.now)))) }
+    ensures grows { OnOk result (GrowsBy pool.old pool.new
+        (MOST_ASES * (rounds * length (prefixes_of building.now.plan.now)))) }
 {
     let mut tables = Vec::new(building.alloc);
     for past in 0..rounds {
         let earlier = tables.as_slice();
         let next = make_round(building, earlier, past + 1, pool, scratch, steps)?;
-        match tables.push(next) {
-            Ok(()) => {}
-            Err(_) => return Err(NoMemory),
-        }
+        tables.push(next)?;
     }
     Ok(tables)
 }
@@ -129,22 +130,56 @@ impl Rounds {
         ensures closed { IfOk result (λ r. is_open r ≡ false) }
         ensures plan { IfOk result (λ r. plan_of r ≡ plan) }
         ensures count { IfOk result (λ r. round_count r ≡ rounds) }
-        ensures stable { IfOk result (λ r. AreRounds (setting_in P.meaning V.state_of world.now) plan rounds (kept r)) }
+        ensures stable { IfOk result (λ r.
+            AreRounds (setting_in P.meaning V.state_of world.now) plan rounds (kept r)) }
         ensures only { IfOk result (λ r. (other : ℕ → PrefixValue → ℕ → Option AnEntry) →
-            AreRounds (setting_in P.meaning V.state_of world.now) plan rounds other → (before : ℕ) (prefix : PrefixValue) → before < rounds →
-            IsTrue (has_prefix plan prefix) → (a : ℕ) → other (suc before) prefix a ≡ kept r (suc before) prefix a) }
-        ensures cells { IfOk result (λ r. HasEntries (of_rounds (kept r)) (live_count (pool_of r) - numbers_of plan)) }
+            AreRounds (setting_in P.meaning V.state_of world.now) plan rounds other →
+            (before : ℕ) (prefix : PrefixValue) → before < rounds → IsTrue (has_prefix plan prefix) →
+            (a : ℕ) → other (suc before) prefix a ≡ kept r (suc before) prefix a) }
+        ensures cells { IfOk result (λ r.
+            HasEntries (of_rounds (kept r)) (live_count (pool_of r) - numbers_of plan)) }
+        ensures few { IfOk result (λ r. live_count (pool_of r) ≤ MOST_CELLS) }
+    {
+        let course = Course::of(alloc, world.graph, ranks)?;
+        Rounds::build_along(alloc, world, &course, plan, rounds, steps)
+    }
+
+    /// The tables of the rounds, as [`Rounds::build`] makes them, along a course of the graph that was made
+    /// before. A course stands as long as its graph does, whatever the policies and the seeds are.
+    pub fn build_along<P: RoutePolicy, V: OriginStates, L: Ledger>(
+        alloc: Global,
+        world: &World<'_, P, V>,
+        course: &Course,
+        plan: SeedPlan,
+        rounds: u32,
+        steps: &mut Steps<L>,
+    ) -> Result<Rounds, NoMemory>
+        requires no_cycle { HasNoProviderCycle (relation world.now.graph.now) }
+        requires course { IsCourse world.now.graph.now course.now }
+        requires limits { IsWithinLimits plan }
+        requires rounds { rounds ≤ 4 }
+        ensures cost { steps.new ≤ steps.old + 2 * as_count world.now.graph.now * length (prefixes_of plan) * rounds }
+        ensures closed { IfOk result (λ r. is_open r ≡ false) }
+        ensures plan { IfOk result (λ r. plan_of r ≡ plan) }
+        ensures count { IfOk result (λ r. round_count r ≡ rounds) }
+        ensures stable { IfOk result (λ r.
+            AreRounds (setting_in P.meaning V.state_of world.now) plan rounds (kept r)) }
+        ensures only { IfOk result (λ r. (other : ℕ → PrefixValue → ℕ → Option AnEntry) →
+            AreRounds (setting_in P.meaning V.state_of world.now) plan rounds other →
+            (before : ℕ) (prefix : PrefixValue) → before < rounds → IsTrue (has_prefix plan prefix) →
+            (a : ℕ) → other (suc before) prefix a ≡ kept r (suc before) prefix a) }
+        ensures cells { IfOk result (λ r.
+            HasEntries (of_rounds (kept r)) (live_count (pool_of r) - numbers_of plan)) }
         ensures few { IfOk result (λ r. live_count (pool_of r) ≤ MOST_CELLS) }
     {
         one_family::<P>();
         let mut pool = PathPool::new(alloc, MAX_CELLS);
         let announced = announce_all(alloc, &plan, &mut pool)?;
-        let course = Course::of(alloc, world.graph, ranks)?;
         let mut scratch = course.scratch()?;
         let building = Building {
             alloc,
             world,
-            course: &course,
+            course,
             plan: &plan,
             announced: announced.as_slice(),
         };
@@ -163,8 +198,10 @@ impl Rounds {
     /// round. Rounds are numbered from 1.
     pub fn round(&self, round: u32) -> Option<&RoundTables>
         ensures there { IsSome result ↔ ((1 ≤ round) × (round ≤ round_count self.now)) }
-        ensures routing { IfSome result (λ t. (prefix : PrefixValue) (a : ℕ) → round_routing (pool_of self.now) t.now prefix a ≡ kept self.now round prefix a) }
-        ensures prefixes { IfSome result (λ t. (prefix : PrefixValue) → is_some (table_at t.now prefix) ≡ has_prefix (plan_of self.now) prefix) }
+        ensures routing { IfSome result (λ t. (prefix : PrefixValue) (a : ℕ) →
+            round_routing (pool_of self.now) t.now prefix a ≡ kept self.now round prefix a) }
+        ensures prefixes { IfSome result (λ t. (prefix : PrefixValue) →
+            is_some (table_at t.now prefix) ≡ has_prefix (plan_of self.now) prefix) }
         ensures by_prefix { IfSome result (λ t. AreByPrefix t.now) }
         ensures live { IfSome result (λ t. AreAllLive (pool_of self.now) t.now) }
     {

@@ -20,6 +20,8 @@ fn seed_out(alloc: Global, pool: &PathPool, held: SeedHeld) -> Result<Seed, NoMe
     ensures seed { IfOk result (λ s. s ≡ seed_of pool.now held) }
     ensures short { IfOk result (λ s. length s.path ≤ limit_of pool.now) }
 {
+    // `length` and `live` are called for their clauses: a path has no more numbers than there are live cells, and
+    // there are no more of them than the limit.
     let (_numbers, _cells) = (pool.length(held.path), pool.live());
     let path = pool.copy_out(alloc, held.path)?;
     Ok(Seed {

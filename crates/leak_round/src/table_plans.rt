@@ -6,11 +6,10 @@ ghost use Rattle.route_choice.specs.declared.table.Table.{Table as ATable};
 ghost use Rattle.route_choice.specs.RoundTables.{table_at};
 ghost use Rattle.route_choice.specs.Tables.{prefix_of};
 ghost use Rattle.dirty_recompute.specs.Resources.{IsUndone, SameTable};
-ghost use Rattle.stability_laws.specs.World.{setting_in};
 ghost use Rattle.leak_round.specs.Growth.{HasRoomFor};
 ghost use Rattle.leak_round.specs.Overlays.{table_in};
-ghost use Rattle.leak_round.specs.Planners.{AreRanked};
-ghost use Rattle.leak_round.specs.Planning.{CanPlanTable, IsTablePlanned, IsRoomed, AreRoomed, AreSame};
+ghost use Rattle.leak_round.specs.Planners.{AreRanked, CanPlanTableBy, IsTablePlannedBy};
+ghost use Rattle.leak_round.specs.Planning.{IsRoomed, AreRoomed, AreSame};
 
 use crate::planner::Planner;
 use crate::round_prefix::RoundPrefix;
@@ -30,15 +29,15 @@ fn plan_table<P: RoutePolicy, V: OriginStates, L: Ledger>(
     steps: &mut Steps<L>,
 ) -> Result<Overlay, NoMemory>
     requires ranks { AreRanked planner.now }
-    requires can { CanPlanTable (setting_in P.meaning V.state_of planner.now.world.now (prefix_of table.old)) planner.now.world.now.graph.now
-        (prefix_of table.old) edit.now.seeds.now edit.now.touched.now pool.old table.old }
+    requires can { CanPlanTableBy P.meaning V.state_of planner.now (prefix_of table.old) edit.now pool.old table.old }
     requires room { HasRoomFor pool.old 1 }
-    ensures planned { IfOk result (IsTablePlanned (setting_in P.meaning V.state_of planner.now.world.now (prefix_of table.old))
-        planner.now.world.now.graph.now edit.now.seeds.now edit.now.touched.now pool.old pool.new table.old table.new steps.old steps.new) }
+    ensures planned { IfOk result (IsTablePlannedBy P.meaning V.state_of planner.now (prefix_of table.old) edit.now
+        pool.old pool.new table.old table.new steps.old steps.new) }
     ensures same { SameTable table.old table.new }
     ensures limit { limit_of pool.new ≡ limit_of pool.old }
     ensures err { OnErr result (IsUndone pool.old pool.new) }
 {
+    // `as_count` is called for its clause that there are at most 150,000 ASes.
     let _count = planner.world.graph.as_count();
     let overlay = plan_edit(
         planner.alloc,
@@ -49,6 +48,7 @@ fn plan_table<P: RoutePolicy, V: OriginStates, L: Ledger>(
         pool,
         steps,
     )?;
+    // `len` is called for its clauses that the ASes with a change are listed, each once.
     let _changes = overlay.len();
     Ok(overlay)
 }
@@ -65,12 +65,12 @@ fn plan_in_round<P: RoutePolicy, V: OriginStates, L: Ledger>(
     requires ranks { AreRanked planner.now }
     requires there { IsSome (table_at tables.old prefix) }
     requires can { (t : ATable) → table_at tables.old prefix ≡ Some t →
-        CanPlanTable (setting_in P.meaning V.state_of planner.now.world.now prefix) planner.now.world.now.graph.now prefix edit.now.seeds.now
-        edit.now.touched.now pool.old t }
+        CanPlanTableBy P.meaning V.state_of planner.now prefix edit.now pool.old t }
     requires room { HasRoomFor pool.old 1 }
-    ensures planned { IfOk result (λ o. (t u : ATable) → table_at tables.old prefix ≡ Some t → table_at tables.new prefix ≡ Some u →
-        IsTablePlanned (setting_in P.meaning V.state_of planner.now.world.now prefix) planner.now.world.now.graph.now edit.now.seeds.now
-        edit.now.touched.now pool.old pool.new t u steps.old steps.new o) }
+    ensures planned { IfOk result (λ o. (t u : ATable) → table_at tables.old prefix ≡ Some t →
+        table_at tables.new prefix ≡ Some u →
+        IsTablePlannedBy P.meaning V.state_of planner.now prefix edit.now pool.old pool.new t u
+        steps.old steps.new o) }
     ensures roomed { IsRoomed tables.old tables.new prefix }
     ensures limit { limit_of pool.new ≡ limit_of pool.old }
     ensures err { OnErr result (IsUndone pool.old pool.new) }
@@ -93,13 +93,13 @@ pub fn plan_in_rounds<P: RoutePolicy, V: OriginStates, L: Ledger>(
     requires ranks { AreRanked planner.now }
     requires there { IsSome (table_in tables.old.items at.now.round at.now.prefix) }
     requires can { (t : ATable) → table_in tables.old.items at.now.round at.now.prefix ≡ Some t →
-        CanPlanTable (setting_in P.meaning V.state_of planner.now.world.now at.now.prefix) planner.now.world.now.graph.now at.now.prefix
-        edit.now.seeds.now edit.now.touched.now pool.old t }
+        CanPlanTableBy P.meaning V.state_of planner.now at.now.prefix edit.now pool.old t }
     requires room { HasRoomFor pool.old 1 }
-    ensures planned { IfOk result (λ o. (t u : ATable) → table_in tables.old.items at.now.round at.now.prefix ≡ Some t →
+    ensures planned { IfOk result (λ o. (t u : ATable) →
+        table_in tables.old.items at.now.round at.now.prefix ≡ Some t →
         table_in tables.new.items at.now.round at.now.prefix ≡ Some u →
-        IsTablePlanned (setting_in P.meaning V.state_of planner.now.world.now at.now.prefix) planner.now.world.now.graph.now edit.now.seeds.now
-        edit.now.touched.now pool.old pool.new t u steps.old steps.new o) }
+        IsTablePlannedBy P.meaning V.state_of planner.now at.now.prefix edit.now pool.old pool.new t u
+        steps.old steps.new o) }
     ensures roomed { AreRoomed tables.old.items tables.new.items at.now.round at.now.prefix }
     ensures same { AreSame tables.old.items tables.new.items }
     ensures limit { limit_of pool.new ≡ limit_of pool.old }

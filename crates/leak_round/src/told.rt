@@ -1,15 +1,14 @@
 //! What is told of changes of rounds.
 
-ghost use Rattle.std.specs.Prelude.{◌≡◌, ◌≢◌, ◌⊎◌, ℕ, ◌+◌, ◌<◌, ◌≤◌, ◌++◌, Some, IsTrue, IfOk, OnOk, is_some, slice_get};
+ghost use Rattle.std.specs.Prelude.{◌≡◌, ◌≢◌, ◌⊎◌, ℕ, ◌+◌, ◌<◌, ◌≤◌, ◌++◌, Some, IsTrue, IfOk, OnOk, slice_get};
 ghost use Rattle.std.specs.Option.{option_to_list};
 ghost use Rattle.std.specs.Ordering.{nat_cmp};
 ghost use Rattle.net_names.specs.Numbers.{occurs};
-ghost use Rattle.net_names.specs.Prefixes.{PrefixValue};
 ghost use Rattle.stability_laws.specs.Plans.{ListsRising};
 ghost use Rattle.route_choice.specs.Tables.{places_of};
 ghost use Rattle.leak_round.specs.declared.changes.Change.{Change as AChange};
 ghost use Rattle.leak_round.specs.Told.{changes_at, IsToldOf};
-ghost use Rattle.leak_round.specs.Overlays.{change_in, changes_count, IsListed};
+ghost use Rattle.leak_round.specs.Overlays.{changes_count, IsListed};
 ghost use Rattle.leak_round.specs.Plans.{count_told, ases_told};
 
 use crate::changes::Change;
@@ -24,11 +23,9 @@ fn count_all(changes: &[Change]) -> Result<u64, NoMemory>
 {
     let mut count: u64 = 0;
     for change in changes {
-        match count.checked_add(change.overlay.len() as u64) {
-            Some(more) => count = more,
-            // No memory has room for so many changes.
-            None => return Err(NoMemory),
-        }
+        // No memory has room for so many changes.
+        let more = count.checked_add(change.overlay.len() as u64);
+        count = more.ok_or(NoMemory)?;
     }
     Ok(count)
 }
@@ -37,13 +34,11 @@ fn count_all(changes: &[Change]) -> Result<u64, NoMemory>
 fn push_changed(overlay: &Overlay, ases: &mut Vec<Asn>) -> Result<(), NoMemory>
     ensures { OnOk result (ases.new.items ≡ ases.old.items ++ places_of overlay.now) }
 {
+    // `len` is called for its clause: it is how many ASes have a change, and no place is higher.
     let _count = overlay.len();
     let mut place = 0;
     'places: while let Some(asn) = overlay.at(place) {
-        match ases.push(asn) {
-            Ok(()) => {}
-            Err(_) => return Err(NoMemory),
-        }
+        ases.push(asn)?;
         place += 1;
     }
     Ok(())
@@ -69,10 +64,8 @@ fn push_edited(edited: &Option<Asn>, ases: &mut Vec<Asn>) -> Result<(), NoMemory
     let Some(asn) = edited else {
         return Ok(());
     };
-    match ases.push(*asn) {
-        Ok(()) => Ok(()),
-        Err(_) => Err(NoMemory),
-    }
+    ases.push(*asn)?;
+    Ok(())
 }
 
 // Puts the ASes in rising order, each once.
@@ -92,8 +85,8 @@ fn told_in(
     edited: &Option<Asn>,
 ) -> Result<Vec<Asn>, NoMemory>
     requires listed { (i : ℕ) (x : AChange) → slice_get changes.now i ≡ Some x → IsListed x.overlay }
-    requires apart { (i j : ℕ) (x y : AChange) → i < j → slice_get changes.now i ≡ Some x → slice_get changes.now j ≡ Some y →
-        (x.round ≢ y.round) ⊎ (x.prefix ≢ y.prefix) }
+    requires apart { (i j : ℕ) (x y : AChange) → i < j → slice_get changes.now i ≡ Some x →
+        slice_get changes.now j ≡ Some y → (x.round ≢ y.round) ⊎ (x.prefix ≢ y.prefix) }
     ensures { IfOk result (λ v. ListsRising nat_cmp (IsToldOf changes.now edited.now round) v.items) }
 {
     let mut ases = changed_in(alloc, changes, round)?;
@@ -111,21 +104,17 @@ pub fn listed(
     edited: Option<Asn>,
 ) -> Result<RoundsDone, NoMemory>
     requires listed { (i : ℕ) (x : AChange) → slice_get changes.now i ≡ Some x → IsListed x.overlay }
-    requires apart { (i j : ℕ) (x y : AChange) → i < j → slice_get changes.now i ≡ Some x → slice_get changes.now j ≡ Some y →
-        (x.round ≢ y.round) ⊎ (x.prefix ≢ y.prefix) }
+    requires apart { (i j : ℕ) (x y : AChange) → i < j → slice_get changes.now i ≡ Some x →
+        slice_get changes.now j ≡ Some y → (x.round ≢ y.round) ⊎ (x.prefix ≢ y.prefix) }
     ensures count { IfOk result (λ d. count_told d ≡ changes_count changes.now) }
     ensures told { IfOk result (λ d. (round : ℕ) → 1 ≤ round → round ≤ rounds →
-        ListsRising nat_cmp (λ a. ((prefix : PrefixValue) × IsTrue (is_some (change_in changes.now round prefix a))) ⊎ (edited ≡ Some a))
-        (ases_told d round)) }
+        ListsRising nat_cmp (IsToldOf changes.now edited round) (ases_told d round)) }
 {
     let count = count_all(changes)?;
     let mut changed = Vec::new(alloc);
     for before in 0..rounds {
         let ases = told_in(alloc, changes, before + 1, &edited)?;
-        match changed.push(ases) {
-            Ok(()) => {}
-            Err(_) => return Err(NoMemory),
-        }
+        changed.push(ases)?;
     }
     Ok(RoundsDone {
         count,

@@ -27,13 +27,12 @@ impl Touched {
     pub fn add(&mut self, prefix: Prefix, asn: Asn) -> Result<(), NoMemory>
         ensures this { OnOk result (touches self.new prefix asn ≡ true) }
         ensures more { (p : PrefixValue) (a : ℕ) → touches self.old p a ≡ true → touches self.new p a ≡ true }
-        ensures only { (p : PrefixValue) (a : ℕ) → touches self.new p a ≡ true → touches self.old p a ≡ false → (p ≡ prefix) × (a ≡ asn) }
+        ensures only { (p : PrefixValue) (a : ℕ) → touches self.new p a ≡ true → touches self.old p a ≡ false →
+            (p ≡ prefix) × (a ≡ asn) }
         ensures err { OnErr result ((p : PrefixValue) (a : ℕ) → touches self.new p a ≡ touches self.old p a) }
     {
-        match self.pairs.push((prefix, asn)) {
-            Ok(()) => Ok(()),
-            Err(_) => Err(NoMemory),
-        }
+        self.pairs.push((prefix, asn))?;
+        Ok(())
     }
 
     // The touched ASes of a prefix, perhaps with repeats.
@@ -52,10 +51,7 @@ impl Touched {
         ases.clear();
         for pair in self.pairs.as_slice() {
             if pair.0 == prefix {
-                match ases.push(pair.1) {
-                    Ok(()) => {}
-                    Err(_) => return Err(NoMemory),
-                }
+                ases.push(pair.1)?;
             }
         }
         Ok(())

@@ -1,23 +1,21 @@
 //! The changes of all tables after an edit, also of who announces what.
 
-ghost use Rattle.std.specs.Prelude.{◌≡◌, ℕ, ◌+◌, ◌*◌, ◌≤◌, [], Some, length, option_map, IfOk, OnOk, OnErr};
+ghost use Rattle.std.specs.Prelude.{◌≡◌, ℕ, ◌+◌, ◌≤◌, [], Some, length, option_map, IfOk, OnOk, OnErr};
 ghost use Rattle.std.specs.Option.{option_copied};
 ghost use Rattle.std.specs.Ordering.{nat_cmp};
-ghost use Rattle.path_pool.specs.Pool.{holds_of, count_of, live_count, limit_of};
+ghost use Rattle.path_pool.specs.Pool.{count_of, live_count, limit_of};
 ghost use Rattle.stability_laws.specs.declared.seed_plan.edits.SeedEdit.{SeedEdit as AnEdit};
-ghost use Rattle.stability_laws.specs.Plans.{ListsRising, prefixes_of};
+ghost use Rattle.stability_laws.specs.Plans.{ListsRising};
 ghost use Rattle.stability_laws.specs.SeedEdits.{edited, IsEditOf, IsEditWithin};
 ghost use Rattle.dirty_recompute.specs.Resources.{IsUndone};
 ghost use Rattle.leak_round.specs.Announced.{AreAnnounced};
 ghost use Rattle.leak_round.specs.Edited.{announced_after, prefix_edited, IsEdited};
-ghost use Rattle.leak_round.specs.Growth.{HasRoomFor};
 ghost use Rattle.leak_round.specs.Limits.{IsWithinLimits};
 ghost use Rattle.leak_round.specs.Overlays.{changes_count};
 ghost use Rattle.leak_round.specs.OwnSeeds.{AreOthersKept, AreOwnEdited};
-ghost use Rattle.leak_round.specs.Planning.{AreRoundsPlanned, AreSame, IsCutOff, IsPaid};
-ghost use Rattle.leak_round.specs.Planners.{ArePlannedBy, AreRanked, CanPlanBy};
+ghost use Rattle.leak_round.specs.Planning.{AreSame, IsCutOff};
+ghost use Rattle.leak_round.specs.Planners.{AreAllPlanned, CanPlanAll};
 ghost use Rattle.leak_round.specs.Plans.{count_told, ases_told};
-ghost use Rattle.leak_round.specs.Tables.{entry_uses};
 ghost use Rattle.leak_round.specs.Told.{IsToldOf};
 
 use crate::announced::Announced;
@@ -50,7 +48,8 @@ pub fn edit_if_any(
     requires room { live_count pool.old + 64 ≤ limit_of pool.old }
     requires counts { (k : ℕ) → count_of pool.old k ≤ 4000000000 }
     ensures made { IfOk result (IsEdited pool.old pool.new plan.now (option_copied edit.entry)) }
-    ensures others { IfOk result (λ o. AreOthersKept (prefix_edited o) announced.now (announced_after o announced.now)) }
+    ensures others { IfOk result (λ o. AreOthersKept (prefix_edited o) announced.now
+        (announced_after o announced.now)) }
     ensures own { IfOk result AreOwnEdited }
     ensures limit { limit_of pool.new ≡ limit_of pool.old }
     ensures err { OnErr result (IsUndone pool.old pool.new) }
@@ -82,20 +81,16 @@ pub fn plan_and_tell<P: RoutePolicy, V: OriginStates, L: Ledger>(
     pool: &mut PathPool,
     steps: &mut Steps<L>,
 ) -> Result<RoundsDone, NoMemory>
-    requires ranks { AreRanked planner.now }
-    requires can { CanPlanBy P.meaning V.state_of planner.now pool.old tables.old.items }
-    requires held { (k : ℕ) → entry_uses tables.old.items k ≤ holds_of pool.old k }
-    requires few { length tables.old.items ≤ 4 }
-    requires room { HasRoomFor pool.old (length tables.old.items * length (prefixes_of planner.now.plan.now)) }
+    requires can { CanPlanAll P.meaning V.state_of planner.now pool.old tables.old.items }
     requires none { changes.old.items ≡ [] }
-    ensures planned { OnOk result (ArePlannedBy P.meaning V.state_of planner.now pool.new tables.new.items changes.new.items steps.old steps.new) }
-    ensures more { OnOk result (AreRoundsPlanned planner.now.plan.now changes.new.items (length tables.old.items)) }
-    ensures paid { OnOk result (IsPaid pool.old pool.new [] changes.new.items (length tables.old.items * length (prefixes_of planner.now.plan.now))) }
+    ensures planned { OnOk result (AreAllPlanned P.meaning V.state_of planner.now pool.old pool.new
+        tables.old.items tables.new.items changes.new.items steps.old steps.new) }
     ensures cut { IsCutOff pool.old pool.new [] changes.new.items }
     ensures same { AreSame tables.old.items tables.new.items }
     ensures count { IfOk result (λ d. count_told d ≡ changes_count changes.new.items) }
     ensures told { IfOk result (λ d. (round : ℕ) → 1 ≤ round → round ≤ length tables.old.items →
-        ListsRising nat_cmp (IsToldOf changes.new.items (option_map (λ e. e.asn) planner.now.edited.now) round) (ases_told d round)) }
+        ListsRising nat_cmp (IsToldOf changes.new.items (option_map (λ e. e.asn) planner.now.edited.now) round)
+        (ases_told d round)) }
 {
     let rounds = tables.len();
     plan_rounds(planner, tables, changes, pool, steps)?;

@@ -23,9 +23,12 @@ impl Rounds {
         ensures closed { is_open self.new ≡ false }
         ensures plan { plan_of self.new ≡ plan_after self.old plan }
         ensures rounds { round_count self.new ≡ round_count self.old }
-        ensures kept { (round : ℕ) (prefix : PrefixValue) (a : ℕ) → kept self.new round prefix a ≡ kept_with self.old plan round prefix a }
-        ensures count { HasChanges (plan_of self.new) (round_count self.new) (kept self.old) (kept self.new) (count_told result) }
-        ensures told { (round : ℕ) → 1 ≤ round → round ≤ round_count self.new → ListsRising nat_cmp (IsTold plan round) (ases_told result round) }
+        ensures kept { (round : ℕ) (prefix : PrefixValue) (a : ℕ) →
+            kept self.new round prefix a ≡ kept_with self.old plan round prefix a }
+        ensures count { HasChanges (plan_of self.new) (round_count self.new) (kept self.old) (kept self.new)
+            (count_told result) }
+        ensures told { (round : ℕ) → 1 ≤ round → round ≤ round_count self.new →
+            ListsRising nat_cmp (IsTold plan round) (ases_told result round) }
         ensures cells { live_count (pool_of self.new) ≤ cells_before plan + count_told result + numbers_added plan }
     {
         let RoundsPlan {
@@ -52,7 +55,8 @@ impl Rounds {
         ensures closed { is_open self.new ≡ false }
         ensures plan { plan_of self.new ≡ plan_of self.old }
         ensures rounds { round_count self.new ≡ round_count self.old }
-        ensures kept { (round : ℕ) (prefix : PrefixValue) (a : ℕ) → kept self.new round prefix a ≡ kept self.old round prefix a }
+        ensures kept { (round : ℕ) (prefix : PrefixValue) (a : ℕ) →
+            kept self.new round prefix a ≡ kept self.old round prefix a }
         ensures cells { live_count (pool_of self.new) ≤ live_count (pool_of self.old) }
     {
         let RoundsPlan {

@@ -44,10 +44,8 @@ const FEW_TABLES: usize = 8;
 fn no_changes(alloc: Global) -> Result<Vec<Change>, NoMemory>
     ensures { IfOk result (λ v. v.items ≡ []) }
 {
-    match Vec::with_capacity(alloc, FEW_TABLES) {
-        Ok(changes) => Ok(changes),
-        Err(_) => Err(NoMemory),
-    }
+    let changes = Vec::with_capacity(alloc, FEW_TABLES)?;
+    Ok(changes)
 }
 
 impl Rounds {
@@ -78,33 +76,40 @@ impl Rounds {
         requires few_cells { live_count (pool_of self.old) ≤ MOST_CELLS }
         requires no_cycle { HasNoProviderCycle (relation world.now.graph.now) }
         requires last { IsLastPlan ranks.now.ranks.now ranks.now.plan.now }
-        requires ranks { (a : ℕ) → IsRank (relation world.now.graph.now) a (rank_after ranks.now.ranks.now ranks.now.plan.now a) }
+        requires ranks { (a : ℕ) → IsRank (relation world.now.graph.now) a
+            (rank_after ranks.now.ranks.now ranks.now.plan.now a) }
         requires known { (e : AnEdit) → option_copied edit ≡ Some e → IsEditOf (plan_of self.old) e }
         requires within { (e : AnEdit) → option_copied edit ≡ Some e → IsEditWithin 64 e }
         requires limits { (e : AnEdit) → option_copied edit ≡ Some e → IsWithinLimits (edited (plan_of self.old) e) }
-        requires announcers { (prefix : PrefixValue) (a : ℕ) → IsTrue (announces (plan_edited (option_copied edit) (plan_of self.old)) prefix a) →
+        requires announcers { (prefix : PrefixValue) (a : ℕ) →
+            IsTrue (announces (plan_edited (option_copied edit) (plan_of self.old)) prefix a) →
             has world.now.graph.now a ≡ true }
         requires entries { (round : ℕ) (prefix : PrefixValue) (b : ℕ) → 1 ≤ round → round ≤ round_count self.old →
-            IsTrue (has_prefix (plan_of self.old) prefix) → has world.now.graph.now b ≡ false → touches touched.now prefix b ≡ false →
-            kept self.old round prefix b ≡ None }
+            IsTrue (has_prefix (plan_of self.old) prefix) → has world.now.graph.now b ≡ false →
+            touches touched.now prefix b ≡ false → kept self.old round prefix b ≡ None }
         requires right { (before : ℕ) (prefix : PrefixValue) (b : ℕ) → before < round_count self.old →
-            IsTrue (has_prefix (plan_of self.old) prefix) → has world.now.graph.now b ≡ true → touches touched.now prefix b ≡ false →
-            IsRight (setting_in P.meaning V.state_of world.now prefix)
-            (seeds_of (plan_of self.old) (suc before) prefix (kept self.old before prefix)) (kept self.old (suc before) prefix) b }
+            IsTrue (has_prefix (plan_of self.old) prefix) → has world.now.graph.now b ≡ true →
+            touches touched.now prefix b ≡ false → IsRight (setting_in P.meaning V.state_of world.now prefix)
+            (seeds_of (plan_of self.old) (suc before) prefix (kept self.old before prefix))
+            (kept self.old (suc before) prefix) b }
         ensures open { IfOk result (λ p. IsOpenPlan self.new p) }
         ensures before { IfOk result (λ p. cells_before p ≡ live_count (pool_of self.old)) }
-        ensures edited { IfOk result (λ p. plan_after self.new p ≡ plan_edited (option_copied edit.entry) (plan_of self.old)) }
+        ensures edited { IfOk result (λ p. plan_after self.new p ≡
+            plan_edited (option_copied edit.entry) (plan_of self.old)) }
         ensures asn { IfOk result (λ p. asn_edited p ≡ option_map edit_asn (option_copied edit.entry)) }
-        ensures numbers { IfOk result (λ p. numbers_added p ≡ option_map_or edit_numbers (option_copied edit.entry) 0) }
-        ensures stable { IfOk result (λ p. AreRounds (setting_in P.meaning V.state_of world.now) (plan_after self.new p) (round_count self.new)
-            (kept_with self.new p)) }
-        ensures enough { IfOk result (λ p. AreEnoughFor (relation world.now.graph.now) (course self.new p (touches touched.now))
-            (round_count self.new) steps.old steps.new) }
+        ensures numbers { IfOk result (λ p. numbers_added p ≡
+            option_map_or edit_numbers (option_copied edit.entry) 0) }
+        ensures stable { IfOk result (λ p. AreRounds (setting_in P.meaning V.state_of world.now)
+            (plan_after self.new p) (round_count self.new) (kept_with self.new p)) }
+        ensures enough { IfOk result (λ p. AreEnoughFor (relation world.now.graph.now)
+            (course self.new p (touches touched.now)) (round_count self.new) steps.old steps.new) }
         ensures plan { plan_of self.new ≡ plan_of self.old }
         ensures rounds { round_count self.new ≡ round_count self.old }
-        ensures kept { (round : ℕ) (prefix : PrefixValue) (a : ℕ) → kept self.new round prefix a ≡ kept self.old round prefix a }
+        ensures kept { (round : ℕ) (prefix : PrefixValue) (a : ℕ) →
+            kept self.new round prefix a ≡ kept self.old round prefix a }
         ensures err { OnErr result (is_open self.new ≡ false) }
     {
+        // `as_count` is called for its clause that there are at most 150,000 ASes.
         let _count = world.graph.as_count();
         let mut changes = no_changes(alloc)?;
         fill_own_seeds(alloc, &self.plan, &self.announced, &mut self.own)?;

@@ -6,6 +6,7 @@ ghost use Rattle.stability_laws.specs.Plans.{has_prefix};
 ghost use Rattle.stability_laws.specs.Rounds.{seeds_of};
 ghost use Rattle.leak_round.specs.Rounds.{kept, plan_of};
 ghost use Rattle.leak_round.specs.SeedPaths.{HaveAtMost};
+ghost use Rattle.leak_round.specs.declared.rounds.TheConstants.{MAX_CELLS};
 
 use super::Rounds;
 use crate::round_seeds::seeds_with;
@@ -22,8 +23,9 @@ impl Rounds {
     pub fn seeds(&self, alloc: Global, round: u32, prefix: Prefix) -> Result<Seeds, NoMemory>
         requires from { 1 ≤ round }
         requires known { IsTrue (has_prefix (plan_of self.now) prefix) }
-        ensures seeds { IfOk result (λ s. (a : ℕ) → map.get s a ≡ seeds_of (plan_of self.now) round prefix (kept self.now (round - 1) prefix) a) }
-        ensures short { IfOk result (HaveAtMost 40000000) }
+        ensures seeds { IfOk result (λ s. (a : ℕ) →
+            map.get s a ≡ seeds_of (plan_of self.now) round prefix (kept self.now (round - 1) prefix) a) }
+        ensures short { IfOk result (HaveAtMost MAX_CELLS) }
     {
         let (plan, announced) = (&self.plan, self.announced.as_slice());
         let tables = self.tables.as_slice();

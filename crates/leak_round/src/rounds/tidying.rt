@@ -30,10 +30,8 @@ fn shared(alloc: Global, ases: &[Asn]) -> Result<Rc<AsPlaces>, NoMemory>
     ensures { IfOk result (λ r. r.value.ases ≡ ases.now) }
 {
     let places = AsPlaces::of(alloc, ases)?;
-    match Rc::new(alloc, places) {
-        Ok(list) => Ok(list),
-        Err(_) => Err(NoMemory),
-    }
+    let list = Rc::new(alloc, places)?;
+    Ok(list)
 }
 
 impl Rounds {
@@ -47,16 +45,20 @@ impl Rounds {
     pub fn tidy(&mut self, alloc: Global, ases: &[Asn]) -> Result<(), NoMemory>
         requires closed { is_open self.old ≡ false }
         requires apart { IsDistinct nat_eq ases.now }
-        requires few { (before : ℕ) (prefix : PrefixValue) → before < round_count self.old → IsTrue (has_prefix (plan_of self.old) prefix) →
-            AreFew (kept self.old (suc before) prefix) }
+        requires few { (before : ℕ) (prefix : PrefixValue) → before < round_count self.old →
+            IsTrue (has_prefix (plan_of self.old) prefix) → AreFew (kept self.old (suc before) prefix) }
         requires among { (before : ℕ) (prefix : PrefixValue) (a : ℕ) → before < round_count self.old →
-            IsTrue (has_prefix (plan_of self.old) prefix) → IsSome (kept self.old (suc before) prefix a) → occurs a ases.now ≡ true }
-        requires stable { (world : PrefixValue → Setting) × AreRounds world (plan_of self.old) (round_count self.old) (kept self.old) }
+            IsTrue (has_prefix (plan_of self.old) prefix) → IsSome (kept self.old (suc before) prefix a) →
+            occurs a ases.now ≡ true }
+        requires stable { (world : PrefixValue → Setting) ×
+            AreRounds world (plan_of self.old) (round_count self.old) (kept self.old) }
         ensures closed { is_open self.new ≡ false }
         ensures plan { plan_of self.new ≡ plan_of self.old }
         ensures count { round_count self.new ≡ round_count self.old }
-        ensures kept { (round : ℕ) (prefix : PrefixValue) (a : ℕ) → kept self.new round prefix a ≡ kept self.old round prefix a }
-        ensures cells { OnOk result (HasEntries (of_rounds (kept self.new)) (live_count (pool_of self.new) - numbers_of (plan_of self.new))) }
+        ensures kept { (round : ℕ) (prefix : PrefixValue) (a : ℕ) →
+            kept self.new round prefix a ≡ kept self.old round prefix a }
+        ensures cells { OnOk result (HasEntries (of_rounds (kept self.new))
+            (live_count (pool_of self.new) - numbers_of (plan_of self.new))) }
         ensures few { OnOk result (live_count (pool_of self.new) ≤ MOST_CELLS) }
         ensures err { OnErr result (self.new ≡ self.old) }
     {

@@ -11,10 +11,10 @@ copy_in-path-requires-clause-some c =
     let is : announced_path c.args.plan.now c.args.prefix c.args.asn ≡ Some numbers = sym c.in-Some.ensures.value ∙ ap (λ l. Some l) (sym c.as_slice-numbers.ensures) in
     slice_get_within numbers 0 c.args.asn (c.in-Some.ensures.sound.starts c.args.prefix c.args.asn numbers is)
 
-pub returns-in-Ok-push-clause-so_far : goal.returns-in-Ok-push-clause-so_far
-returns-in-Ok-push-clause-so_far c =
+pub returns-clause-so_far : goal.returns-clause-so_far
+returns-clause-so_far c =
     let numbers = c.as_slice-numbers.result.now in
     let is : announced_path c.args.plan.now c.args.prefix c.args.asn ≡ Some numbers = sym c.in-Some.ensures.value ∙ ap (λ l. Some l) (sym c.as_slice-numbers.ensures) in
     let some : 0 < length numbers = slice_get_within numbers 0 c.args.asn (c.in-Some.ensures.sound.starts c.args.prefix c.args.asn numbers is) in
     let x : Announced = record { prefix = c.args.prefix; asn = c.args.asn; path = c.copy_in-path.result } in
-    rw c.in-Ok-push.ensures.items (announced_more c.args.pool.now c.reserve.new.self c.copy_in-path.new.self c.args.plan.now c.args.announced.now.items x numbers c.requires.so_far c.in-Ok.ensures.kept c.copy_in-path.ensures.made c.copy_in-path.ensures.live some is)
+    rw c.in_ok-push.ensures.items (announced_more c.args.pool.now c.reserve.new.self c.copy_in-path.new.self c.args.plan.now c.args.announced.now.items x numbers c.requires.so_far c.in-Ok.ensures.kept c.copy_in-path.ensures.made c.copy_in-path.ensures.live some is)

@@ -9,8 +9,8 @@ pub returns-clause-held : goal.returns-clause-held
 returns-clause-held c =
     let xs = c.reserve.new.self.items in
     let x : Announced = record { prefix = c.args.prefix; asn = c.index-numbers-0.result; path = c.copy_in-path.result } in
-    let items : c.push.new.self.items ≡ xs ++ x ∷ [] = c.push.ensures.items ∙ ap (λ b. cond b (xs ++ x ∷ []) xs) (c.push.ensures.succeeds (omega (arith, c.in-Ok.ensures.ok))) in
-    let same = c.in-Ok-reserve.ensures.kept in
+    let items : c.push.new.self.items ≡ xs ++ x ∷ [] = c.push.ensures.items ∙ ap (λ b. cond b (xs ++ x ∷ []) xs) (c.push.ensures.succeeds (omega (arith, c.in_ok-reserve.ensures.ok))) in
+    let same = c.in-Ok.ensures.kept in
     let made = c.copy_in-path.ensures.made in
     let held = c.hold_all.ensures in
     let gained = whole_gained c.args.pool.now c.reserve-2.new.self c.copy_in-path.new.self c.copy_in-path.result c.as_slice-numbers.result.now same made in
@@ -21,5 +21,5 @@ returns-clause-held c =
         lists = λ k l. held.keeps.lists k (made.stays_live k (same.stays_live k l)) ∙ made.lists k (same.stays_live k l) ∙ same.lists k l;
       };
       cells = omega (arith, held.cells, c.copy_in-path.ensures.live, same.live, ap length c.as_slice-numbers.ensures);
-      counts = λ k. omega (arith, held.counts k, made.counts k, same.counts k, c.requires.few, ap length c.as_slice.ensures.value, ap length c.in-Ok.ensures.items);
+      counts = λ k. omega (arith, held.counts k, made.counts k, same.counts k, c.requires.few, ap length c.as_slice.ensures.value, ap length c.in_ok-reserve.ensures.items);
     }

@@ -1,10 +1,11 @@
-use Rattle.std.proofs.Common.{◌≡◌, ℕ, List, length, refl, sym, ap, subst, ◌∙◌, arith}
-use Rattle.std.specs.Prelude.{slice_get}
+use Rattle.std.proofs.Common.{◌≡◌, ℕ, Result, Ok, Err, List, length, refl, sym, ap, subst, ◌∙◌, arith}
+use Rattle.std.specs.Prelude.{slice_get, OnErr}
 use Rattle.path_pool.specs.declared.pool.PathPool.{PathPool}
 use Rattle.path_pool.specs.Pool.{holds_of}
 use Rattle.stability_laws.specs.Plans.{announcer_of}
 use Rattle.stability_laws.proofs.PlanEdits.{announcer_is}
 use Rattle.route_choice.proofs.Lists.{held_live}
+use Rattle.dirty_recompute.specs.Resources.{IsUndone}
 use Rattle.leak_round.specs.Announced.{announced_uses}
 use Rattle.leak_round.specs.declared.announced.Announced.{Announced}
 use Rattle.leak_round.specs.declared.edited.EditedSeeds.{EditedSeeds}
@@ -26,19 +27,25 @@ add_path-requires-clause-few c =
     omega (arith, fit, ap (λ (ys : List Announced). length ys) are)
 
 pub seeds_or_release-requires : goal.seeds_or_release-requires
-seeds_or_release-requires c = λ k. omega (arith, c.in-Ok.ensures.held.holds k, ap (λ (ys : List Announced). announced_uses ys k) c.as_slice.ensures.value)
+seeds_or_release-requires c = λ k. omega (arith, c.in_ok-add_path.ensures.held.holds k, ap (λ (ys : List Announced). announced_uses ys k) c.as_slice.ensures.value)
 
-pub returns-in-Err-seeds_or_release-clause-err : goal.returns-in-Err-seeds_or_release-clause-err
-returns-in-Err-seeds_or_release-clause-err c =
-    let held = c.in-Ok.ensures.held in
-    let back = c.in-Err-seeds_or_release.ensures.back in
+-- what holds anyway holds at an error
+at_error : {T E P : Type 0} (r : Result T E) → P → OnErr r P
+at_error (Ok x) holds = tt
+at_error (Err e) holds = holds
+
+pub returns-in_err-own-clause-err : goal.returns-in_err-own-clause-err
+returns-in_err-own-clause-err c =
+    let held = c.in_ok-add_path.ensures.held in
+    let back = c.in_err-own.ensures.back in
     let new = c.seeds_or_release.new.pool in
-    let same : (k : ℕ) → holds_of new k ≡ holds_of c.args.pool.now k = λ k. omega (arith, held.holds k, c.in-Err-seeds_or_release.ensures.holds k, ap (λ (ys : List Announced). announced_uses ys k) c.as_slice.ensures.value) in
-    record {
+    let same : (k : ℕ) → holds_of new k ≡ holds_of c.args.pool.now k = λ k. omega (arith, held.holds k, c.in_err-own.ensures.holds k, ap (λ (ys : List Announced). announced_uses ys k) c.as_slice.ensures.value) in
+    let undone : IsUndone c.args.pool.now new = record {
       holds = same;
       held_live = λ k some. held_live new k (omega (arith, some, same k));
       lists = λ k was is. back.lists k is ∙ held.keeps.lists k was;
-    }
+    } in
+    at_error c.from_residual-in_err-own.result undone
 
 pub returns-clause-made : goal.returns-clause-made
 returns-clause-made c =
@@ -47,18 +54,18 @@ returns-clause-made c =
     let numbers = c.as_slice-numbers.result.now in
     let first = announcer_is c.args.path.now numbers c.index-numbers-0.result c.requires.some c.as_slice-numbers.ensures c.index-numbers-0.is in
     let are = c.in_ok-others.ensures ∙ ap (λ a. others_of c.args.prefix a c.args.announced.now) first in
-    let e : EditedSeeds = record { plan = c.args.after; announced = c.add_path.new.announced; own = c.in-Ok-seeds_or_release.own; prefix = c.args.prefix; asn = c.index-numbers-0.result; numbers = length numbers } in
+    let e : EditedSeeds = record { plan = c.args.after; announced = c.add_path.new.announced; own = c.in_ok-own.own; prefix = c.args.prefix; asn = c.index-numbers-0.result; numbers = length numbers } in
     let made : AreMade old new c.args.plan.now c.args.after (announcer_of c.args.path.now) (length c.args.path.now) e = record {
-      seeds = seeds_instead old new c.args.plan.now c.args.announced.now c.requires.announced c.in-Ok.ensures.held.keeps c.args.prefix c.requires.known e c.requires.limits c.args.path.now c.in_ok-others.others.items are c.requires.after c.in-Ok.ensures.last;
+      seeds = seeds_instead old new c.args.plan.now c.args.announced.now c.requires.announced c.in_ok-add_path.ensures.held.keeps c.args.prefix c.requires.known e c.requires.limits c.args.path.now c.in_ok-others.others.items are c.requires.after c.in_ok-add_path.ensures.last;
       plan_is = refl;
       asn_is = first;
       numbers_is = ap length c.as_slice-numbers.ensures;
       few = omega (arith, c.requires.short, ap length c.as_slice-numbers.ensures);
-      held = subst (AreHeldToo old new c.add_path.new.announced.items) (sym (ap length c.as_slice-numbers.ensures)) c.in-Ok.ensures.held;
+      held = subst (AreHeldToo old new c.add_path.new.announced.items) (sym (ap length c.as_slice-numbers.ensures)) c.in_ok-add_path.ensures.held;
     } in
-    subst (λ (q : PathPool). AreMade old q c.args.plan.now c.args.after (announcer_of c.args.path.now) (length c.args.path.now) e) (sym c.in-Ok-seeds_or_release.ensures.ok) made
+    subst (λ (q : PathPool). AreMade old q c.args.plan.now c.args.after (announcer_of c.args.path.now) (length c.args.path.now) e) (sym c.in_ok-own.ensures.ok) made
 
 pub returns-clause-others : goal.returns-clause-others
 returns-clause-others c =
     others_instead c.add_path.new.pool c.args.prefix c.args.path.now c.index-numbers-0.result c.args.announced.now c.add_path.new.announced.items
-    (subst (λ (zs : List Announced). EndsWithPath c.add_path.new.pool c.args.prefix c.args.path.now zs c.add_path.new.announced.items) c.in_ok-others.ensures c.in-Ok.ensures.last)
+    (subst (λ (zs : List Announced). EndsWithPath c.add_path.new.pool c.args.prefix c.args.path.now zs c.add_path.new.announced.items) c.in_ok-others.ensures c.in_ok-add_path.ensures.last)

@@ -8,7 +8,7 @@ use Rattle.route_choice.specs.Routings.{table_routing}
 use Rattle.leak_round.specs.declared.holders.Holder.{Holder}
 use Rattle.leak_round.proofs.HolderLists.{all_holders, more_holders}
 use Rattle.leak_round.proofs.holders.holders_among.Goals as goal
-use Rattle.leak_round.proofs.holders.holders_among.Goals.{in-Some+in-Ok, in_default}
+use Rattle.leak_round.proofs.holders.holders_among.Goals.{in-Some+in_ok-push, in_default}
 
 pub loop-place-preserved : goal.loop-place-preserved
 loop-place-preserved c =
@@ -18,7 +18,7 @@ loop-place-preserved c =
     let a = c.index-ases-place.result in
     let at : slice_get ases c.loop-place.place ≡ Some a = slice_get_read ases (length ases) c.loop-place.place a refl c.loop-place-test.true c.index-ases-place.is in
     let items : c.match-holder_at.holders.items ≡ c.loop-place.holders.items ++ option_to_list c.holder_at.result = elim c.match-holder_at.branch [
-      | in-Some+in-Ok w ↦ ap (λ (v : Vec Holder Global). v.items) w.holders-is ∙ w.in-Ok.ensures.items ∙ ap (λ o. c.loop-place.holders.items ++ option_to_list o) (sym w.in-Some.is)
+      | in-Some+in_ok-push w ↦ ap (λ (v : Vec Holder Global). v.items) w.holders-is ∙ w.in_ok-push.ensures.items ∙ ap (λ o. c.loop-place.holders.items ++ option_to_list o) (sym w.in-Some.is)
       | in_default w ↦ ap (λ (v : Vec Holder Global). v.items) w.holders-is ∙ sym (append-nil c.loop-place.holders.items) ∙ ap (λ o. c.loop-place.holders.items ++ option_to_list o) (sym w.in_default.is)
     ] in
     let both = more_holders f ases c.loop-place.place a c.loop-place.holders.items c.match-holder_at.holders.items c.holder_at.result at c.holder_at.ensures items old.asns old.entries in

@@ -27,7 +27,7 @@ loop-old-preserved c =
     let number : length c.as_slice-earlier.result.now + 1 ≡ suc (length xs) = (let is = ap (λ (ys : List RoundTables). length ys) c.as_slice-earlier.ensures.value in omega (arith, is)) in
     let same = λ (p : PrefixValue) (known : IsTrue (has_prefix plan p)) (a : ℕ). now.same p known a ∙ ap (λ n. kept_in c.args.moving.now.from.now c.args.moving.now.tables.now n p a) number in
     let more = rounds_more Fits plan first c.loop-old.pool next xs t old.so_far now.keeps same now.full now.holds now.cells in
-    let items : c.push.new.self.items ≡ xs ++ t ∷ [] = c.in-Ok.ensures.items in
+    let items : c.push.new.self.items ≡ xs ++ t ∷ [] = c.in_ok-push.ensures.items in
     record {
       so_far = subst (AreRoundsSoFar Fits plan first next) (sym items) more;
       count = ap length items ∙ length-append xs (t ∷ []) ∙ ap (λ n. n + 1) old.count;

@@ -9,5 +9,5 @@ pub prefixes-preserved : goal.prefixes-preserved
 prefixes-preserved c =
     let own = c.prefixes.own.items in
     let at : slice_get (prefixes_of c.args.plan.now) (length own) ≡ Some c.in-Some.prefix = ap (slice_get (prefixes_of c.args.plan.now)) (sym (omega (arith, c.len.ensures, c.prefixes.own.ok.0))) ∙ sym c.in-Some.ensures.value in
-    subst (AreOwnSeeds c.args.plan.now c.args.announced.now) (sym c.in-Ok.ensures.items)
+    subst (AreOwnSeeds c.args.plan.now c.args.announced.now) (sym c.in_ok-push.ensures.items)
     (own_more c.args.plan.now c.args.announced.now own c.in-Some.prefix c.in_ok-seeds.seeds c.prefixes.invariant at c.in_ok-seeds.ensures)

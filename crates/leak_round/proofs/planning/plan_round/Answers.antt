@@ -11,28 +11,22 @@ use Rattle.leak_round.proofs.Roomed.{same_on}
 use Rattle.leak_round.proofs.Turns.{can_still, up_end, up_more, up_turn}
 use Rattle.leak_round.proofs.planning.plan_round.Goals as goal
 
-pub plan_change-requires-clause-can : goal.plan_change-requires-clause-can
-plan_change-requires-clause-can g c =
+pub plan_change-requires : goal.plan_change-requires
+plan_change-requires g c =
     let x = c.args.planner.now in
     let w = setting_in g.P.RoutePolicy.meaning g.V.OriginStates.state_of x.world.now in
-    can_still w x.world.now.graph.now (touches x.touched.now) x.plan.now (seeds_after x.edited.now x.plan.now) x.announced.now (announced_after x.edited.now x.announced.now) c.args.pool.now c.prefixes.pool c.args.tables.now.items c.prefixes.tables.items c.requires.can c.prefixes.invariant.paid.keeps c.prefixes.invariant.same
-
-pub plan_change-requires-clause-at : goal.plan_change-requires-clause-at
-plan_change-requires-clause-at g c = sym c.in-Some.ensures.value
-
-pub plan_change-requires-clause-room : goal.plan_change-requires-clause-room
-plan_change-requires-clause-room g c =
-    let x = c.args.planner.now in
-    let within = slice_get_within (prefixes_of x.plan.now) c.prefixes.place c.in-Some.prefix (sym c.in-Some.ensures.value) in
-    room_left c.args.pool.now c.prefixes.pool c.prefixes.place 1 (length (prefixes_of x.plan.now)) c.prefixes.invariant.paid.grows c.requires.room (omega (arith, within))
-
-pub plan_change-requires-clause-so_far : goal.plan_change-requires-clause-so_far
-plan_change-requires-clause-so_far g c = (c.requires.so_far.0, c.prefixes.invariant.planned c.requires.so_far.0 c.requires.so_far.1)
-
-pub plan_change-requires-clause-turn : goal.plan_change-requires-clause-turn
-plan_change-requires-clause-turn g c =
-    let x = c.args.planner.now in
-    up_turn x.plan.now c.prefixes.changes.items c.args.round c.prefixes.place c.prefixes.invariant.up c.requires.from c.in-Some.ensures.listed c.in-Some.prefix (length c.prefixes.tables.items) (sym c.in-Some.ensures.value) (omega (arith, c.requires.to, c.prefixes.invariant.same.count))
+    let old = c.prefixes.invariant in
+    let at : slice_get (prefixes_of x.plan.now) c.prefixes.place ≡ Some c.in-Some.prefix = sym c.in-Some.ensures.value in
+    let within = slice_get_within (prefixes_of x.plan.now) c.prefixes.place c.in-Some.prefix at in
+    record {
+      ranks = c.requires.ranks;
+      can = can_still w x.world.now.graph.now (touches x.touched.now) x.plan.now (seeds_after x.edited.now x.plan.now) x.announced.now (announced_after x.edited.now x.announced.now) c.args.pool.now c.prefixes.pool c.args.tables.now.items c.prefixes.tables.items c.requires.can old.paid.keeps old.same;
+      place = at;
+      held = λ k. omega (arith, c.requires.held k, old.paid.holds k, old.same.uses k);
+      room = room_left c.args.pool.now c.prefixes.pool c.prefixes.place 1 (length (prefixes_of x.plan.now)) old.paid.grows c.requires.room (omega (arith, within));
+      so_far = (c.requires.so_far.0, old.planned c.requires.so_far.0 c.requires.so_far.1);
+      turn = up_turn x.plan.now c.prefixes.changes.items c.args.round c.prefixes.place old.up c.requires.from c.in-Some.ensures.listed c.in-Some.prefix (length c.prefixes.tables.items) at (omega (arith, c.requires.to, old.same.count));
+    }
 
 pub returns-in_err-plan_change-clause-same : goal.returns-in_err-plan_change-clause-same
 returns-in_err-plan_change-clause-same g c = same_on c.args.tables.now.items c.prefixes.tables.items c.plan_change.new.tables.items c.prefixes.invariant.same c.plan_change.ensures.same
@@ -51,12 +45,12 @@ prefixes-preserved g c =
     let p = c.in-Some.prefix in
     let at : slice_get (prefixes_of plan) i ≡ Some p = sym c.in-Some.ensures.value in
     let old = c.prefixes.invariant in
-    let now = c.in_ok-plan_change.ensures in
+    let now = c.in_ok-plan_change.ensures.planned in
     record {
       planned = λ first so_far. now.planned first (old.planned first so_far);
-      up = up_more plan c.prefixes.changes.items c.args.round i old.up c.requires.from c.plan_change.new.changes.items p at now.more;
+      up = up_more plan c.prefixes.changes.items c.args.round i old.up c.requires.from c.plan_change.new.changes.items p at now.added;
       paid = paid_on c.args.pool.now c.prefixes.pool c.plan_change.new.pool c.args.changes.now.items c.prefixes.changes.items c.plan_change.new.changes.items i 1 (i + 1) old.paid now.paid refl;
-      same = same_on c.args.tables.now.items c.prefixes.tables.items c.plan_change.new.tables.items old.same now.same;
+      same = same_on c.args.tables.now.items c.prefixes.tables.items c.plan_change.new.tables.items old.same c.plan_change.ensures.same;
       within = (let within = slice_get_within (prefixes_of plan) i p at in omega (arith, within));
     }
 

@@ -9,38 +9,20 @@ use Rattle.leak_round.proofs.planning.plan_with_seeds.Goals as goal
 pub returns-in_err-overlay-clause-cut : goal.returns-in_err-overlay-clause-cut
 returns-in_err-overlay-clause-cut g c = subst (IsCutOff c.args.pool.now c.plan_in_rounds.new.pool c.args.changes.now.items) (sym c.make_place.ensures.same) (cut_undone c.args.pool.now c.plan_in_rounds.new.pool c.args.changes.now.items c.in_err-overlay.ensures.err c.plan_in_rounds.ensures.limit)
 
-pub returns-clause-added : goal.returns-clause-added
-returns-clause-added g c =
+pub returns : goal.returns
+returns g c =
+    let world = c.args.planner.now.world.now in
+    let w = setting_in g.P.RoutePolicy.meaning g.V.OriginStates.state_of world in
+    let old = c.args.changes.now.items in
+    let x : Change = record { round = c.args.at.now.round; prefix = c.args.at.now.prefix; overlay = c.in_ok-overlay.overlay } in
     let roomed = c.plan_in_rounds.ensures.roomed in
+    let planned = c.in_ok-overlay.ensures.planned roomed.was roomed.now roomed.was_at roomed.now_at in
+    let items : c.add_change.new.changes.items ≡ old ++ x ∷ [] = c.add_change.ensures ∙ ap (λ (zs : List Change). zs ++ x ∷ []) c.make_place.ensures.same in
+    let paid = paid_more (w c.args.at.now.prefix) world.graph.now c.args.edit.now.seeds.now c.args.edit.now.touched.now c.args.pool.now c.plan_in_rounds.new.pool roomed.was roomed.now c.args.steps.now c.plan_in_rounds.new.steps old x planned in
     record {
-      overlay = c.in_ok-overlay.overlay;
-      items = c.add_change.ensures ∙ ap (λ (zs : List Change). zs ++ record { round = c.args.at.now.round; prefix = c.args.at.now.prefix; overlay = c.in_ok-overlay.overlay } ∷ []) c.make_place.ensures.same;
-      roomed = roomed;
-      planned = c.in_ok-overlay.ensures.planned roomed.was roomed.now roomed.was_at roomed.now_at;
+      added = record { overlay = c.in_ok-overlay.overlay; items = items; roomed = roomed; planned = planned };
+      more = subst (λ (zs : List Change). IsAdded old zs c.args.at.now.round c.args.at.now.prefix) (sym items) (added old x);
+      paid = subst (λ (zs : List Change). IsPaid c.args.pool.now c.plan_in_rounds.new.pool old zs 1) (sym items) paid;
+      cut = subst (λ (zs : List Change). IsCutOff c.args.pool.now c.plan_in_rounds.new.pool old zs) (sym items) (cut_paid c.args.pool.now c.plan_in_rounds.new.pool old (old ++ x ∷ []) 1 paid);
+      same = c.plan_in_rounds.ensures.same;
     }
-
-pub returns-clause-more : goal.returns-clause-more
-returns-clause-more g c =
-    let x : Change = record { round = c.args.at.now.round; prefix = c.args.at.now.prefix; overlay = c.in_ok-overlay.overlay } in
-    let items : c.add_change.new.changes.items ≡ c.args.changes.now.items ++ x ∷ [] = c.add_change.ensures ∙ ap (λ (zs : List Change). zs ++ x ∷ []) c.make_place.ensures.same in
-    subst (λ (zs : List Change). IsAdded c.args.changes.now.items zs c.args.at.now.round c.args.at.now.prefix) (sym items) (added c.args.changes.now.items x)
-
-pub returns-clause-paid : goal.returns-clause-paid
-returns-clause-paid g c =
-    let world = c.args.planner.now.world.now in
-    let w = setting_in g.P.RoutePolicy.meaning g.V.OriginStates.state_of world in
-    let x : Change = record { round = c.args.at.now.round; prefix = c.args.at.now.prefix; overlay = c.in_ok-overlay.overlay } in
-    let roomed = c.plan_in_rounds.ensures.roomed in
-    let made = c.in_ok-overlay.ensures.planned roomed.was roomed.now roomed.was_at roomed.now_at in
-    let items : c.add_change.new.changes.items ≡ c.args.changes.now.items ++ x ∷ [] = c.add_change.ensures ∙ ap (λ (zs : List Change). zs ++ x ∷ []) c.make_place.ensures.same in
-    subst (λ (zs : List Change). IsPaid c.args.pool.now c.plan_in_rounds.new.pool c.args.changes.now.items zs 1) (sym items) (paid_more (w c.args.at.now.prefix) world.graph.now c.args.edit.now.seeds.now c.args.edit.now.touched.now c.args.pool.now c.plan_in_rounds.new.pool roomed.was roomed.now c.args.steps.now c.plan_in_rounds.new.steps c.args.changes.now.items x made)
-
-pub returns-clause-cut : goal.returns-clause-cut
-returns-clause-cut g c =
-    let world = c.args.planner.now.world.now in
-    let w = setting_in g.P.RoutePolicy.meaning g.V.OriginStates.state_of world in
-    let x : Change = record { round = c.args.at.now.round; prefix = c.args.at.now.prefix; overlay = c.in_ok-overlay.overlay } in
-    let roomed = c.plan_in_rounds.ensures.roomed in
-    let made = c.in_ok-overlay.ensures.planned roomed.was roomed.now roomed.was_at roomed.now_at in
-    let items : c.add_change.new.changes.items ≡ c.args.changes.now.items ++ x ∷ [] = c.add_change.ensures ∙ ap (λ (zs : List Change). zs ++ x ∷ []) c.make_place.ensures.same in
-    subst (λ (zs : List Change). IsCutOff c.args.pool.now c.plan_in_rounds.new.pool c.args.changes.now.items zs) (sym items) (cut_paid c.args.pool.now c.plan_in_rounds.new.pool c.args.changes.now.items (c.args.changes.now.items ++ x ∷ []) 1 (paid_more (w c.args.at.now.prefix) world.graph.now c.args.edit.now.seeds.now c.args.edit.now.touched.now c.args.pool.now c.plan_in_rounds.new.pool roomed.was roomed.now c.args.steps.now c.plan_in_rounds.new.steps c.args.changes.now.items x made))

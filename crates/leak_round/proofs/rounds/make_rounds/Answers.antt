@@ -29,8 +29,8 @@ make_round-requires-clause-room g c =
 pub returns-in_err-next-clause-cost : goal.returns-in_err-next-clause-cost
 returns-in_err-next-clause-cost g c = cost_more c.args.steps.now c.loop-past.steps c.make_round.new.steps (2 * as_count c.args.building.now.world.now.graph.now * length (prefixes_of c.args.building.now.plan.now)) c.loop-past.past c.args.rounds c.loop-past.invariant.cost c.make_round.ensures.cost (omega arith)
 
-pub returns-in-Err-clause-cost : goal.returns-in-Err-clause-cost
-returns-in-Err-clause-cost g c = cost_more c.args.steps.now c.loop-past.steps c.make_round.new.steps (2 * as_count c.args.building.now.world.now.graph.now * length (prefixes_of c.args.building.now.plan.now)) c.loop-past.past c.args.rounds c.loop-past.invariant.cost c.make_round.ensures.cost (omega arith)
+pub returns-in_err-push-clause-cost : goal.returns-in_err-push-clause-cost
+returns-in_err-push-clause-cost g c = cost_more c.args.steps.now c.loop-past.steps c.make_round.new.steps (2 * as_count c.args.building.now.world.now.graph.now * length (prefixes_of c.args.building.now.plan.now)) c.loop-past.past c.args.rounds c.loop-past.invariant.cost c.make_round.ensures.cost (omega arith)
 
 pub loop-past-preserved : goal.loop-past-preserved
 loop-past-preserved g c =
@@ -48,7 +48,7 @@ loop-past-preserved g c =
     let F : ℕ → List RoundTables → Type 0 = λ n ys. IsRound at plan n (kept_in c.loop-past.pool ys (length ys)) (round_routing next t) in
     let stable : IsRound at plan (suc (length xs)) (kept_in c.loop-past.pool xs (length xs)) (round_routing next t) = coe 0 1 (i. F (number i) (is i)) now.stable in
     let more = rounds_more (λ before p f g. IsStable (at p) (seeds_of plan (suc before) p f) g) plan first c.loop-past.pool next xs t old.so_far now.keeps stable now.full now.holds now.cells in
-    let items : c.push.new.self.items ≡ xs ++ t ∷ [] = c.in-Ok.ensures.items in
+    let items : c.push.new.self.items ≡ xs ++ t ∷ [] = c.in_ok-push.ensures.items in
     record {
       so_far = subst (AreRoundsSoFar (λ before p f g. IsStable (at p) (seeds_of plan (suc before) p f) g) plan first next) (sym items) more;
       count = ap length items ∙ length-append xs (t ∷ []) ∙ ap (λ n. n + 1) old.count;

@@ -11,7 +11,7 @@ pub loop-before-preserved : goal.loop-before-preserved
 loop-before-preserved c =
     let xs : List (Vec ℕ Global) = c.loop-before.changed.items in
     let v : Vec ℕ Global = c.in_ok-ases.ases in
-    let items : c.push.new.self.items ≡ xs ++ v ∷ [] = c.in-Ok.ensures.items in
+    let items : c.push.new.self.items ≡ xs ++ v ∷ [] = c.in_ok-push.ensures.items in
     let P : ℕ → Vec ℕ Global → Type 0 = λ i w. ListsRising nat_cmp (IsToldOf c.args.changes.now c.args.edited (suc i)) w.items in
     let number : c.loop-before.before + 1 ≡ suc (length xs) = omega (arith, c.loop-before.invariant.count) in
     let here : P (length xs) v = subst (λ n. ListsRising nat_cmp (IsToldOf c.args.changes.now c.args.edited n) v.items) number c.in_ok-ases.ensures in

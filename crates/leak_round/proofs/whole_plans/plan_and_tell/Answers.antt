@@ -10,7 +10,7 @@ use Rattle.leak_round.proofs.Roomed.{if_ok}
 use Rattle.leak_round.proofs.whole_plans.plan_and_tell.Goals as goal
 
 pub listed-requires-clause-listed : goal.listed-requires-clause-listed
-listed-requires-clause-listed g c = λ i x at. c.in_ok-plan_rounds.ensures.planned.changes.listed i x (ap (λ (xs : List Change). slice_get xs i) (sym c.as_slice.ensures.value) ∙ at)
+listed-requires-clause-listed g c = λ i x at. c.in_ok-plan_rounds.ensures.planned.planned.changes.listed i x (ap (λ (xs : List Change). slice_get xs i) (sym c.as_slice.ensures.value) ∙ at)
 
 pub returns-clause-told : goal.returns-clause-told
 returns-clause-told g c =

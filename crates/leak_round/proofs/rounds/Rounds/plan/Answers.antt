@@ -27,9 +27,20 @@ edit_if_any-requires-clause-counts g c =
 pub plan_and_tell-requires-clause-can : goal.plan_and_tell-requires-clause-can
 plan_and_tell-requires-clause-can g c =
     let r = c.args.self.now in
-    let w = (setting_in g.P.RoutePolicy.meaning g.V.OriginStates.state_of c.args.world.now) in
-    subst (λ (xs : List Announced). CanPlan w c.args.world.now.graph.now (touches c.args.touched.now) r.plan (seeds_after c.in_ok-edited.edited r.plan) xs (announced_after c.in_ok-edited.edited xs) c.edit_if_any.new.pool r.tables.items) (sym c.as_slice.ensures.value)
-    (can_start r.plan r.announced.items r.pool c.edit_if_any.new.pool r.limits r.announcements (option_copied c.args.edit) c.in_ok-edited.edited c.in_ok-edited.ensures.made w c.args.world.now.graph.now (touches c.args.touched.now) r.tables.items r.full (λ p b. refl) c.requires.announcers c.requires.entries c.requires.right)
+    let w = setting_in g.P.RoutePolicy.meaning g.V.OriginStates.state_of c.args.world.now in
+    let graph = c.args.world.now.graph.now in
+    let touched = touches c.args.touched.now in
+    let edited = c.in_ok-edited.edited in
+    let made = c.in_ok-edited.ensures.made in
+    let next = c.edit_if_any.new.pool in
+    record {
+      ranks = c.requires.ranks;
+      can = subst (λ (xs : List Announced). CanPlan w graph touched r.plan (seeds_after edited r.plan) xs (announced_after edited xs) next r.tables.items) (sym c.as_slice.ensures.value)
+          (can_start r.plan r.announced.items r.pool next r.limits r.announcements (option_copied c.args.edit) edited made w graph touched r.tables.items r.full (λ p b. refl) c.requires.announcers c.requires.entries c.requires.right);
+      held = λ k. omega (arith, made.holds k, r.held k);
+      few = r.few;
+      room = changes_room r.pool r.plan r.announced.items r.tables.items r.limits r.announcements r.full r.few (r.closed c.requires.closed) c.requires.few_cells next (c.edit_if_any.ensures.limit ∙ r.cells) (omega (arith, made.cells, made.few)) made.counts;
+    }
 
 pub invariant_of-planner : goal.invariant_of-planner
 invariant_of-planner g c =
@@ -42,15 +53,6 @@ invariant_of-planner g c =
       others = subst (λ (xs : List Announced). AreOthersKept (prefix_edited c.in_ok-edited.edited) xs (announced_after c.in_ok-edited.edited xs)) (c.deref-2.ensures.value ∙ sym c.as_slice.ensures.value) c.in_ok-edited.ensures.others;
     }
 
-pub plan_and_tell-requires-clause-room : goal.plan_and_tell-requires-clause-room
-plan_and_tell-requires-clause-room g c =
-    let r = c.args.self.now in
-    let made = c.in_ok-edited.ensures.made in
-    changes_room r.pool r.plan r.announced.items r.tables.items r.limits r.announcements r.full r.few (r.closed c.requires.closed) c.requires.few_cells c.edit_if_any.new.pool (c.edit_if_any.ensures.limit ∙ r.cells) (omega (arith, made.cells, made.few)) made.counts
-
-pub plan_and_tell-requires-clause-held : goal.plan_and_tell-requires-clause-held
-plan_and_tell-requires-clause-held g c = λ k. omega (arith, c.in_ok-edited.ensures.made.holds k, c.args.self.now.held k)
-
 pub invariant_of-self-in-Ok : goal.invariant_of-self-in-Ok
 invariant_of-self-in-Ok g c =
     let r = c.args.self.now in
@@ -58,80 +60,61 @@ invariant_of-self-in-Ok g c =
     let next = c.edit_if_any.new.pool in
     let pool = c.plan_and_tell.new.pool in
     let now = c.in-Ok.ensures in
+    let all = now.planned in
+    let keeps = keeps_on r.pool next pool made.keeps all.paid.keeps in
     record {
-      announcements = announced_kept r.pool pool (keeps_on r.pool next pool made.keeps now.paid.keeps) r.plan r.announced.items r.announcements;
+      announcements = announced_kept r.pool pool keeps r.plan r.announced.items r.announcements;
       own_seeds = subst (λ (xs : List Announced). AreOwnSeeds r.plan xs c.fill_own_seeds.new.own.items) c.deref.ensures.value c.fill_own_seeds.ensures;
-      full = now.same.full pool r.plan (rounds_full_kept r.pool pool (keeps_on r.pool next pool made.keeps now.paid.keeps) r.plan r.tables.items r.full);
-      held = λ k. omega (arith, now.paid.holds k, made.holds k, r.closed c.requires.closed k, now.same.uses k);
+      full = now.same.full pool r.plan (rounds_full_kept r.pool pool keeps r.plan r.tables.items r.full);
+      held = λ k. omega (arith, all.paid.holds k, made.holds k, r.closed c.requires.closed k, now.same.uses k);
       closed = λ shut. absurd (true≢false shut);
       limits = r.limits;
       few = omega (arith, r.few, now.same.count);
-      cells = now.paid.grows.limit ∙ c.edit_if_any.ensures.limit ∙ r.cells;
+      cells = all.paid.grows.limit ∙ c.edit_if_any.ensures.limit ∙ r.cells;
     }
 
-pub returns-in-Ok-clause-open : goal.returns-in-Ok-clause-open
-returns-in-Ok-clause-open g c =
+pub returns-in-Ok : goal.returns-in-Ok
+returns-in-Ok g c =
     let r = c.args.self.now in
+    let w = setting_in g.P.RoutePolicy.meaning g.V.OriginStates.state_of c.args.world.now in
+    let graph = c.args.world.now.graph.now in
+    let touched = touches c.args.touched.now in
+    let edited = c.in_ok-edited.edited in
+    let after = seeds_after edited r.plan in
     let made = c.in_ok-edited.ensures.made in
     let next = c.edit_if_any.new.pool in
-    let pool = c.plan_and_tell.new.pool in
+    let new = c.plan_and_tell.new in
+    let pool = new.pool in
     let now = c.in-Ok.ensures in
-    let full = (now.same.full pool r.plan (rounds_full_kept r.pool pool (keeps_on r.pool next pool made.keeps now.paid.keeps) r.plan r.tables.items r.full)) in
-    let more = (subst (AreRoundsPlanned r.plan c.plan_and_tell.new.changes.items) (sym now.same.count) now.more) in
+    let all = now.planned in
+    let keeps = keeps_on r.pool next pool made.keeps all.paid.keeps in
+    let full = now.same.full pool r.plan (rounds_full_kept r.pool pool keeps r.plan r.tables.items r.full) in
+    let more = subst (AreRoundsPlanned r.plan new.changes.items) (sym now.same.count) all.whole in
     record {
-      planned = refl;
-      holds = λ k. omega (arith, now.paid.holds k, made.holds k, r.closed c.requires.closed k, now.same.uses k);
-      changes = now.planned.changes;
-      differs = laid_differs (setting_in g.P.RoutePolicy.meaning g.V.OriginStates.state_of c.args.world.now) c.args.world.now.graph.now (touches c.args.touched.now) r.plan (seeds_after c.in_ok-edited.edited r.plan) pool c.plan_and_tell.new.tables.items c.plan_and_tell.new.changes.items c.args.steps.now c.plan_and_tell.new.steps now.planned more full;
-      few = few_laid (setting_in g.P.RoutePolicy.meaning g.V.OriginStates.state_of c.args.world.now) c.args.world.now.graph.now (touches c.args.touched.now) r.plan (seeds_after c.in_ok-edited.edited r.plan) pool c.plan_and_tell.new.tables.items c.plan_and_tell.new.changes.items c.args.steps.now c.plan_and_tell.new.steps now.planned more full (omega (arith, c.as_count-count.ensures.value, c.as_count-count.ensures.few)) (λ p b. refl);
-      edited = edited_kept next pool r.plan c.in_ok-edited.edited now.paid.keeps made.seeds;
-      others = subst (λ (xs : List Announced). AreOthersKept (prefix_edited c.in_ok-edited.edited) xs (announced_after c.in_ok-edited.edited xs)) c.deref-2.ensures.value c.in_ok-edited.ensures.others;
-      own = c.in_ok-edited.ensures.own;
-      count = now.count;
-      told = λ round from to. now.told round from (omega (arith, to, now.same.count));
-      cells = omega (arith, now.paid.cells, made.cells, now.count, c.live-before.ensures.value);
+      «open» = record {
+        planned = refl;
+        holds = λ k. omega (arith, all.paid.holds k, made.holds k, r.closed c.requires.closed k, now.same.uses k);
+        changes = all.planned.changes;
+        differs = laid_differs w graph touched r.plan after pool new.tables.items new.changes.items c.args.steps.now new.steps all.planned more full;
+        few = few_laid w graph touched r.plan after pool new.tables.items new.changes.items c.args.steps.now new.steps all.planned more full (omega (arith, c.as_count-count.ensures.value, c.as_count-count.ensures.few)) (λ p b. refl);
+        edited = edited_kept next pool r.plan edited all.paid.keeps made.seeds;
+        others = subst (λ (xs : List Announced). AreOthersKept (prefix_edited edited) xs (announced_after edited xs)) c.deref-2.ensures.value c.in_ok-edited.ensures.others;
+        own = c.in_ok-edited.ensures.own;
+        count = now.count;
+        told = λ round from to. now.told round from (omega (arith, to, now.same.count));
+        cells = omega (arith, all.paid.cells, made.cells, now.count, c.live-before.ensures.value);
+      };
+      before = c.live-before.ensures.value;
+      edited = made.plan_is;
+      asn = made.asn_is;
+      numbers = made.numbers_is;
+      stable = rounds_stable w graph touched r.plan after pool new.tables.items new.changes.items c.args.steps.now new.steps all.planned more full (prefixes_stay r.plan r.announced.items r.pool next r.limits r.announcements (option_copied c.args.edit) edited made);
+      enough = steps_enough w graph touched r.plan after pool new.tables.items new.changes.items c.args.steps.now new.steps all.planned more full;
+      plan = refl;
+      rounds = now.same.count;
+      kept = kept_same r.plan r.pool pool r.tables.items new.tables.items keeps now.same r.full;
+      err = tt;
     }
-
-pub returns-in-Ok-clause-edited : goal.returns-in-Ok-clause-edited
-returns-in-Ok-clause-edited g c = c.in_ok-edited.ensures.made.plan_is
-
-pub returns-in-Ok-clause-asn : goal.returns-in-Ok-clause-asn
-returns-in-Ok-clause-asn g c = c.in_ok-edited.ensures.made.asn_is
-
-pub returns-in-Ok-clause-numbers : goal.returns-in-Ok-clause-numbers
-returns-in-Ok-clause-numbers g c = c.in_ok-edited.ensures.made.numbers_is
-
-pub returns-in-Ok-clause-stable : goal.returns-in-Ok-clause-stable
-returns-in-Ok-clause-stable g c =
-    let r = c.args.self.now in
-    let made = c.in_ok-edited.ensures.made in
-    let next = c.edit_if_any.new.pool in
-    let pool = c.plan_and_tell.new.pool in
-    let now = c.in-Ok.ensures in
-    let full = (now.same.full pool r.plan (rounds_full_kept r.pool pool (keeps_on r.pool next pool made.keeps now.paid.keeps) r.plan r.tables.items r.full)) in
-    rounds_stable (setting_in g.P.RoutePolicy.meaning g.V.OriginStates.state_of c.args.world.now) c.args.world.now.graph.now (touches c.args.touched.now) r.plan (seeds_after c.in_ok-edited.edited r.plan) pool c.plan_and_tell.new.tables.items c.plan_and_tell.new.changes.items c.args.steps.now c.plan_and_tell.new.steps now.planned (subst (AreRoundsPlanned r.plan c.plan_and_tell.new.changes.items) (sym now.same.count) now.more) full (prefixes_stay r.plan r.announced.items r.pool next r.limits r.announcements (option_copied c.args.edit) c.in_ok-edited.edited made)
-
-pub returns-in-Ok-clause-enough : goal.returns-in-Ok-clause-enough
-returns-in-Ok-clause-enough g c =
-    let r = c.args.self.now in
-    let made = c.in_ok-edited.ensures.made in
-    let next = c.edit_if_any.new.pool in
-    let pool = c.plan_and_tell.new.pool in
-    let now = c.in-Ok.ensures in
-    let full = (now.same.full pool r.plan (rounds_full_kept r.pool pool (keeps_on r.pool next pool made.keeps now.paid.keeps) r.plan r.tables.items r.full)) in
-    steps_enough (setting_in g.P.RoutePolicy.meaning g.V.OriginStates.state_of c.args.world.now) c.args.world.now.graph.now (touches c.args.touched.now) r.plan (seeds_after c.in_ok-edited.edited r.plan) pool c.plan_and_tell.new.tables.items c.plan_and_tell.new.changes.items c.args.steps.now c.plan_and_tell.new.steps now.planned (subst (AreRoundsPlanned r.plan c.plan_and_tell.new.changes.items) (sym now.same.count) now.more) full
-
-pub returns-in-Ok-clause-rounds : goal.returns-in-Ok-clause-rounds
-returns-in-Ok-clause-rounds g c = c.in-Ok.ensures.same.count
-
-pub returns-in-Ok-clause-kept : goal.returns-in-Ok-clause-kept
-returns-in-Ok-clause-kept g c =
-    let r = c.args.self.now in
-    let made = c.in_ok-edited.ensures.made in
-    let next = c.edit_if_any.new.pool in
-    let pool = c.plan_and_tell.new.pool in
-    let now = c.in-Ok.ensures in
-    kept_same r.plan r.pool pool r.tables.items c.plan_and_tell.new.tables.items (keeps_on r.pool next pool made.keeps now.paid.keeps) now.same r.full
 
 pub undo_changes-requires : goal.undo_changes-requires
 undo_changes-requires g c = λ k. omega (arith, c.plan_and_tell.ensures.cut.holds k)

@@ -10,7 +10,7 @@ use Rattle.leak_round.proofs.Counting.{fewer_entries}
 use Rattle.leak_round.proofs.Keeping.{announced_kept}
 use Rattle.leak_round.proofs.Numbers.{numbers_counted}
 use Rattle.leak_round.proofs.Owning.{own_none}
-use Rattle.leak_round.proofs.rounds.Rounds.build.Goals as goal
+use Rattle.leak_round.proofs.rounds.Rounds.build_along.Goals as goal
 
 pub make_rounds-requires-clause-announced : goal.make_rounds-requires-clause-announced
 make_rounds-requires-clause-announced g c =
