@@ -10,34 +10,34 @@ use Rattle.net_names.specs.declared.routes.Rel.{Rel}
 use Rattle.caida_reader.specs.Value.{links_in, fault_after}
 use Rattle.caida_reader.specs.Firsts.{FirstMap, firsts, with_first, with_said}
 use Rattle.caida_reader.specs.Laws.{HasLinks}
-use Rattle.caida_reader.specs.declared.line.Said.{Said}
-use Rattle.caida_reader.specs.declared.line.Said.TheVariants.{Nothing, Unreadable, Itself, Link}
+use Rattle.caida_reader.specs.declared.line.Line.{Line}
+use Rattle.caida_reader.specs.declared.line.Line.TheVariants.{Skipped, Unreadable, SelfLink, Link}
 use Rattle.caida_reader.specs.declared.firsts.First.{First}
 use Rattle.caida_reader.proofs.Values.{first_fault, firsts-push}
 use Rattle.caida_reader.proofs.Given.{len-links_in, agree_with, fine_if, few_if}
 
 -- ---- the number of pairs
-len-push : (before : List Said) (said : Said) → len (links_in (before ++ said ∷ [])) ≡ len (with_said (firsts before) (length before + 1) said)
+len-push : (before : List Line) (said : Line) → len (links_in (before ++ said ∷ [])) ≡ len (with_said (firsts before) (length before + 1) said)
 len-push before said = len-links_in (before ++ said ∷ []) ∙ ap (λ (m : FirstMap). len m) (firsts-push before said)
 
 -- ---- a line behind lines that have links
-readable_if : (before : List Said) (said : Said) → fault_after before said ≡ None → (said ≢ Unreadable) × (said ≢ Itself)
-readable_if before Nothing h = ((λ e. cc), λ e. cc)
+readable_if : (before : List Line) (said : Line) → fault_after before said ≡ None → (said ≢ Unreadable) × (said ≢ SelfLink)
+readable_if before Skipped h = ((λ e. cc), λ e. cc)
 readable_if before Unreadable h = cc
-readable_if before Itself h = cc
+readable_if before SelfLink h = cc
 readable_if before (Link lo hi rel) h = ((λ e. cc), λ e. cc)
 
-few_push : (before : List Said) (said : Said) → len (firsts before) ≤ 1500000 → fault_after before said ≡ None → len (with_said (firsts before) (length before + 1) said) ≤ 1500000
-few_push before Nothing few h = few
+few_push : (before : List Line) (said : Line) → len (firsts before) ≤ 1500000 → fault_after before said ≡ None → len (with_said (firsts before) (length before + 1) said) ≤ 1500000
+few_push before Skipped few h = few
 few_push before Unreadable few h = few
-few_push before Itself few h = few
+few_push before SelfLink few h = few
 few_push before (Link lo hi rel) few h = few_if before lo hi rel (get (firsts before) (lo, hi)) refl few h
 
-module _ (before : List Said) (h : HasLinks before) where
-  new_agrees : (said : Said) (lo hi : ℕ) (rel other : Rel) → said ≡ Link lo hi rel → fault_after before said ≡ None → Contains before (Link lo hi other) → other ≡ rel
+module _ (before : List Line) (h : HasLinks before) where
+  new_agrees : (said : Line) (lo hi : ℕ) (rel other : Rel) → said ≡ Link lo hi rel → fault_after before said ≡ None → Contains before (Link lo hi other) → other ≡ rel
   new_agrees said lo hi rel other is fine given = agree_with before lo hi rel h other given (get (firsts before) (lo, hi)) refl (rw is at fine)
 
-  agree_push : (said : Said) → fault_after before said ≡ None → (lo hi : ℕ) (rel other : Rel) → Contains (before ++ said ∷ []) (Link lo hi rel) → Contains (before ++ said ∷ []) (Link lo hi other) → rel ≡ other
+  agree_push : (said : Line) → fault_after before said ≡ None → (lo hi : ℕ) (rel other : Rel) → Contains (before ++ said ∷ []) (Link lo hi rel) → Contains (before ++ said ∷ []) (Link lo hi other) → rel ≡ other
   agree_push said fine lo hi rel other one two =
       elim (Contains-push_cases before said (Link lo hi rel) one) as (λ _. rel ≡ other) [
         | inl a ↦ elim (Contains-push_cases before said (Link lo hi other) two) as (λ _. rel ≡ other) [
@@ -50,19 +50,19 @@ module _ (before : List Said) (h : HasLinks before) where
         ]
       ]
 
-  pub HasLinks-push : (said : Said) → fault_after before said ≡ None → HasLinks (before ++ said ∷ [])
+  pub HasLinks-push : (said : Line) → fault_after before said ≡ None → HasLinks (before ++ said ∷ [])
   HasLinks-push said fine = record {
     readable = All-push (λ line. line ≢ Unreadable) before said h.readable (readable_if before said fine).0;
-    apart = All-push (λ line. line ≢ Itself) before said h.apart (readable_if before said fine).1;
+    apart = All-push (λ line. line ≢ SelfLink) before said h.apart (readable_if before said fine).1;
     agree = agree_push said fine;
     few = rw (len-push before said) (few_push before said (rw (len-links_in before) at h.few) fine);
   }
 
 -- a line without a fault, where all lines up to it have links
-pub fine_of_HasLinks : (before : List Said) (said : Said) → HasLinks (before ++ said ∷ []) → fault_after before said ≡ None
-fine_of_HasLinks before Nothing h = refl
+pub fine_of_HasLinks : (before : List Line) (said : Line) → HasLinks (before ++ said ∷ []) → fault_after before said ≡ None
+fine_of_HasLinks before Skipped h = refl
 fine_of_HasLinks before Unreadable h = absurd (All-contains (λ line. line ≢ Unreadable) (before ++ Unreadable ∷ []) Unreadable h.readable (Contains-push before Unreadable) refl)
-fine_of_HasLinks before Itself h = absurd (All-contains (λ line. line ≢ Itself) (before ++ Itself ∷ []) Itself h.apart (Contains-push before Itself) refl)
+fine_of_HasLinks before SelfLink h = absurd (All-contains (λ line. line ≢ SelfLink) (before ++ SelfLink ∷ []) SelfLink h.apart (Contains-push before SelfLink) refl)
 fine_of_HasLinks before (Link lo hi rel) h = fine_if before lo hi rel h (get (firsts before) (lo, hi)) refl (rw (len-push before (Link lo hi rel)) at h.few)
 
 -- ---- lines in front
@@ -76,23 +76,23 @@ len-with_first m k v = by_found (get m k) refl
     by_found None is = rw (is, len-insert pairs_total m k v, is) (omega arith)
     by_found (Some x) is = rw is (omega arith)
 
-len-with_said : (m : FirstMap) (line : ℕ) (said : Said) → len m ≤ len (with_said m line said)
-len-with_said m line Nothing = omega arith
+len-with_said : (m : FirstMap) (line : ℕ) (said : Line) → len m ≤ len (with_said m line said)
+len-with_said m line Skipped = omega arith
 len-with_said m line Unreadable = omega arith
-len-with_said m line Itself = omega arith
+len-with_said m line SelfLink = omega arith
 len-with_said m line (Link lo hi rel) = len-with_first m (lo, hi) (record { rel = rel; line = line })
 
-len-front : (xs ys : List Said) → len (firsts xs) ≤ len (firsts (xs ++ ys))
+len-front : (xs ys : List Line) → len (firsts xs) ≤ len (firsts (xs ++ ys))
 len-front xs [] = rw (append-nil xs) (omega arith)
 len-front xs (y ∷ ys) =
     let step : len (firsts xs) ≤ len (firsts (xs ++ y ∷ [])) = rw (firsts-push xs y) (len-with_said (firsts xs) (length xs + 1) y) in
     let rest : len (firsts (xs ++ y ∷ [])) ≤ len (firsts (xs ++ y ∷ ys)) = rw (append_assoc xs (y ∷ []) ys) at (len-front (xs ++ y ∷ []) ys) in
     omega (arith, step, rest)
 
-pub HasLinks-front : (xs ys : List Said) → HasLinks (xs ++ ys) → HasLinks xs
+pub HasLinks-front : (xs ys : List Line) → HasLinks (xs ++ ys) → HasLinks xs
 HasLinks-front xs ys h = record {
   readable = All-front (λ line. line ≢ Unreadable) xs ys h.readable;
-  apart = All-front (λ line. line ≢ Itself) xs ys h.apart;
+  apart = All-front (λ line. line ≢ SelfLink) xs ys h.apart;
   agree = λ lo hi rel other a b. h.agree lo hi rel other (Contains-append_left xs ys _ a) (Contains-append_left xs ys _ b);
   few = let all : len (firsts (xs ++ ys)) ≤ 1500000 = rw (len-links_in (xs ++ ys)) at h.few in rw (len-links_in xs) (let front = len-front xs ys in omega (arith, front, all));
 }
@@ -100,7 +100,7 @@ HasLinks-front xs ys h = record {
 pub nothing_has_links : HasLinks []
 nothing_has_links = record {
   readable = All-nil (λ line. line ≢ Unreadable);
-  apart = All-nil (λ line. line ≢ Itself);
+  apart = All-nil (λ line. line ≢ SelfLink);
   agree = λ lo hi rel other a b. absurd (omega (arith, a.1));
   few = rw (len-empty pair_cmp Rel) (omega arith);
 }
@@ -110,13 +110,13 @@ both_none : {A : Type 0} (f g : Option A) → option_or f g ≡ None → (f ≡ 
 both_none None g h = (refl, h)
 both_none (Some e) g h = cc
 
-pub HasLinks-from_faultless : (before more : List Said) → HasLinks before → first_fault before more ≡ None → HasLinks (before ++ more)
+pub HasLinks-from_faultless : (before more : List Line) → HasLinks before → first_fault before more ≡ None → HasLinks (before ++ more)
 HasLinks-from_faultless before [] h none = rw (append-nil before) h
 HasLinks-from_faultless before (said ∷ more) h none =
     let parts = both_none (fault_after before said) (first_fault (before ++ said ∷ []) more) none in
     rw (append_assoc before (said ∷ []) more) at (HasLinks-from_faultless (before ++ said ∷ []) more (HasLinks-push before h said parts.0) parts.1)
 
-pub faultless_of_HasLinks : (before more : List Said) → HasLinks (before ++ more) → first_fault before more ≡ None
+pub faultless_of_HasLinks : (before more : List Line) → HasLinks (before ++ more) → first_fault before more ≡ None
 faultless_of_HasLinks before [] h = refl
 faultless_of_HasLinks before (said ∷ more) h =
     let all : HasLinks ((before ++ said ∷ []) ++ more) = rw (append_assoc before (said ∷ []) more) h in

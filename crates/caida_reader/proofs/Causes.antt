@@ -15,8 +15,8 @@ use Rattle.net_names.specs.declared.routes.Rel.TheVariants.{Customer, Peer, Prov
 use Rattle.caida_reader.specs.Firsts.{firsts}
 use Rattle.caida_reader.specs.Value.{links_in, numbered, link_fault, fault_after}
 use Rattle.caida_reader.specs.Laws.{SaysAt, IsConflict, IsOneTooMany, IsCause}
-use Rattle.caida_reader.specs.declared.line.Said.{Said}
-use Rattle.caida_reader.specs.declared.line.Said.TheVariants.{Nothing, Unreadable, Itself, Link}
+use Rattle.caida_reader.specs.declared.line.Line.{Line}
+use Rattle.caida_reader.specs.declared.line.Line.TheVariants.{Skipped, Unreadable, SelfLink, Link}
 use Rattle.caida_reader.specs.declared.firsts.First.{First}
 use Rattle.caida_reader.specs.declared.errors.RelError.{RelError}
 use Rattle.caida_reader.specs.declared.errors.RelError.TheVariants as fault
@@ -35,7 +35,7 @@ slice_get-front (x ∷ xs) (suc n) zero lt = refl
 slice_get-front (x ∷ xs) (suc n) (suc k) lt = slice_get-front xs n k (omega (arith, lt))
 
 -- the first line of a pair among lines that are numbered on from n
-pub record FirstOf (n : ℕ) (said : List Said) (lo hi : ℕ) (first : First) : Type 0 where
+pub record FirstOf (n : ℕ) (said : List Line) (lo hi : ℕ) (first : First) : Type 0 where
   pub place : ℕ
   pub line : first.line ≡ n + place
   pub at : slice_get said place ≡ Some (Link lo hi first.rel)
@@ -49,7 +49,7 @@ tied lo hi c d rel s apart e =
     let t : eq_by_cmp pair_cmp (lo, hi) (lo, hi) ≡ true = ap is_eq (tied_itself pairs_total (lo, hi)) in
     cc
 
-later : (n : ℕ) (x : Said) (said : List Said) (lo hi : ℕ) (first : First) → ((rel : Rel) → x ≡ Link lo hi rel → ⊥) → FirstOf (n + 1) said lo hi first → FirstOf n (x ∷ said) lo hi first
+later : (n : ℕ) (x : Line) (said : List Line) (lo hi : ℕ) (first : First) → ((rel : Rel) → x ≡ Link lo hi rel → ⊥) → FirstOf (n + 1) said lo hi first → FirstOf n (x ∷ said) lo hi first
 later n x said lo hi first other h = record {
   place = suc h.place;
   line = omega (arith, h.line);
@@ -61,7 +61,7 @@ later n x said lo hi first other h = record {
     before zero rel lt is = other rel (cc)
     before (suc k) rel lt is = h.none k rel (omega (arith, lt)) is
 
-by_tie : (n : ℕ) (c d : ℕ) (s : Rel) (said : List Said) (lo hi : ℕ) (first : First) (b : Bool) → eq_by_cmp pair_cmp (lo, hi) (c, d) ≡ b → (rest : Option First)
+by_tie : (n : ℕ) (c d : ℕ) (s : Rel) (said : List Line) (lo hi : ℕ) (first : First) (b : Bool) → eq_by_cmp pair_cmp (lo, hi) (c, d) ≡ b → (rest : Option First)
     → (rest ≡ Some first → FirstOf (n + 1) said lo hi first) → cond b (Some (record { rel = s; line = n })) rest ≡ Some first → FirstOf n (Link c d s ∷ said) lo hi first
 by_tie n c d s said lo hi first true is rest further h =
     let same : ◌≡◌ {A = ℕ × ℕ} (lo, hi) (c, d) = same_pair (lo, hi) (c, d) is in
@@ -74,29 +74,29 @@ by_tie n c d s said lo hi first true is rest further h =
     }
 by_tie n c d s said lo hi first false is rest further h = later n (Link c d s) said lo hi first (λ rel e. tied lo hi c d rel s is e) (further h)
 
-pub first_of : (n : ℕ) (said : List Said) (lo hi : ℕ) (first : First) → find pair_cmp (lo, hi) (numbered n said) ≡ Some first → FirstOf n said lo hi first
+pub first_of : (n : ℕ) (said : List Line) (lo hi : ℕ) (first : First) → find pair_cmp (lo, hi) (numbered n said) ≡ Some first → FirstOf n said lo hi first
 first_of n [] lo hi first h = cc
 first_of n (Link c d s ∷ said) lo hi first h = by_tie n c d s said lo hi first (eq_by_cmp pair_cmp (lo, hi) (c, d)) refl (find pair_cmp (lo, hi) (numbered (n + 1) said)) (λ e. first_of (n + 1) said lo hi first e) h
-first_of n (Nothing ∷ said) lo hi first h = later n Nothing said lo hi first (λ rel e. cc) (first_of (n + 1) said lo hi first h)
+first_of n (Skipped ∷ said) lo hi first h = later n Skipped said lo hi first (λ rel e. cc) (first_of (n + 1) said lo hi first h)
 first_of n (Unreadable ∷ said) lo hi first h = later n Unreadable said lo hi first (λ rel e. cc) (first_of (n + 1) said lo hi first h)
-first_of n (Itself ∷ said) lo hi first h = later n Itself said lo hi first (λ rel e. cc) (first_of (n + 1) said lo hi first h)
+first_of n (SelfLink ∷ said) lo hi first h = later n SelfLink said lo hi first (λ rel e. cc) (first_of (n + 1) said lo hi first h)
 
 not_same : (r q : Rel) → sameb the_type r q ≡ false → q ≢ r
 not_same Customer q h e = let f : sameb the_type Customer Customer ≡ false = rw e at h in cc
 not_same Peer q h e = let f : sameb the_type Peer Peer ≡ false = rw e at h in cc
 not_same Provider q h e = let f : sameb the_type Provider Provider ≡ false = rw e at h in cc
 
-module _ (said : List Said) (place : ℕ) (inside : place < length said) where
-  abbrev front : List Said
+module _ (said : List Line) (place : ℕ) (inside : place < length said) where
+  abbrev front : List Line
   front = take place said
 
   number : length front + 1 ≡ place + 1
   number = ap (λ n. n + 1) (length-take-le place said (omega (arith, inside)))
 
-  says_at : (what : Said) → slice_get said place ≡ Some what → SaysAt said (length front + 1) what
+  says_at : (what : Line) → slice_get said place ≡ Some what → SaysAt said (length front + 1) what
   says_at what is = (omega arith, ap (slice_get said) (let n = number in omega (arith, n)) ∙ is)
 
-  in_front : (line : ℕ) (what : Said) → line < length front + 1 → SaysAt said line what → slice_get front (line - 1) ≡ Some what
+  in_front : (line : ℕ) (what : Line) → line < length front + 1 → SaysAt said line what → slice_get front (line - 1) ≡ Some what
   in_front line what lt h = slice_get-front said place (line - 1) (let n = number in omega (arith, n, lt, h.0)) ∙ h.1
 
   too_many : (lo hi : ℕ) (rel : Rel) → slice_get said place ≡ Some (Link lo hi rel) → get (firsts front) (lo, hi) ≡ None → len (firsts front) ≤ 1500000 → 1500000 ≤ len (firsts front) → IsOneTooMany said (length front + 1)
@@ -143,14 +143,14 @@ module _ (said : List Said) (place : ℕ) (inside : place < length said) where
           let same : fault.Conflict (length front + 1) first.line ≡ e = cc in
           subst (IsCause said) same (conflict lo hi rel first is stands s)
 
-  by_line : (what : Said) (e : RelError) → slice_get said place ≡ Some what → len (firsts front) ≤ 1500000 → fault_after front what ≡ Some e → IsCause said e
-  by_line Nothing e is most h = cc
+  by_line : (what : Line) (e : RelError) → slice_get said place ≡ Some what → len (firsts front) ≤ 1500000 → fault_after front what ≡ Some e → IsCause said e
+  by_line Skipped e is most h = cc
   by_line Unreadable e is most h = let same : fault.Unreadable (length front + 1) ≡ e = cc in subst (IsCause said) same (says_at Unreadable is)
-  by_line Itself e is most h = let same : fault.SelfLink (length front + 1) ≡ e = cc in subst (IsCause said) same (says_at Itself is)
+  by_line SelfLink e is most h = let same : fault.SelfLink (length front + 1) ≡ e = cc in subst (IsCause said) same (says_at SelfLink is)
   by_line (Link lo hi rel) e is most h = by_first lo hi rel e is most (get (firsts front) (lo, hi)) refl h
 
 -- the fault of lines is one that they have
-pub cause : (said : List Said) (e : RelError) → AtFault [] said e → IsCause said e
+pub cause : (said : List Line) (e : RelError) → AtFault [] said e → IsCause said e
 cause said e at =
     let before = HasLinks-from_faultless [] (take at.place said) nothing_has_links at.none in
     by_line said at.place at.inside at.said e at.says (rw (len-links_in (take at.place said)) at before.few) at.faulty

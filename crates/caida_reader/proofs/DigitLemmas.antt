@@ -18,8 +18,8 @@ use Rattle.net_names.proofs.Cuts.{fields_cut}
 use Rattle.caida_reader.specs.Lines.{IsOneLine}
 use Rattle.caida_reader.specs.Says.{link, said_by, says}
 use Rattle.caida_reader.specs.Plain.{BeginsWithAsn, BeginsWithLine}
-use Rattle.caida_reader.specs.declared.line.Said.{Said}
-use Rattle.caida_reader.specs.declared.line.Said.TheVariants as what
+use Rattle.caida_reader.specs.declared.line.Line.{Line}
+use Rattle.caida_reader.specs.declared.line.Line.TheVariants as what
 
 pub more : (n i d : ℕ) → n < 10 ^ i → d < 10 → n * 10 + d < 10 ^ (i + 1)
 more n i d small lt =
@@ -80,11 +80,11 @@ strip_carriage_return-behind front (b ∷ bs) =
     by_last false = refl
 
 -- what a text without its carriage return says
-abbrev said_of : List ℕ → Said
-said_of text = if is_skipped text then what.Nothing else said_by (fields 124 text)
+abbrev said_of : List ℕ → Line
+said_of text = if is_skipped text then what.Skipped else said_by (fields 124 text)
 
 -- what two AS numbers and a relation say
-abbrev pub linked : ℕ → ℕ → Option Rel → Said
+abbrev pub linked : ℕ → ℕ → Option Rel → Line
 linked a b rel = unwrap_or (option_map (link a b) rel) what.Unreadable
 
 -- a line whose first two fields are AS numbers
@@ -104,12 +104,12 @@ module _ (text one two end rest : List ℕ) (a b : ℕ) (first : BeginsWithAsn t
   said : (third : List ℕ) (further : List (List ℕ)) → fields 124 (strip_carriage_return end) ≡ third ∷ further → says line ≡ linked a b (rel_of third)
   said third further is =
       ap said_of (strip_carriage_return-behind first.field (second.field ++ 124 ∷ end) ∙ ap (λ l. first.field ++ 124 ∷ l) (strip_carriage_return-behind second.field end))
-      ∙ ap (λ (s : Bool). if s then what.Nothing else said_by (fields 124 (first.field ++ 124 ∷ (second.field ++ 124 ∷ strip_carriage_return end)))) (not_skipped first.field (124 ∷ (second.field ++ 124 ∷ strip_carriage_return end)) first.some first.digits)
+      ∙ ap (λ (s : Bool). if s then what.Skipped else said_by (fields 124 (first.field ++ 124 ∷ (second.field ++ 124 ∷ strip_carriage_return end)))) (not_skipped first.field (124 ∷ (second.field ++ 124 ∷ strip_carriage_return end)) first.some first.digits)
       ∙ ap said_by (fields_digits first.field (second.field ++ 124 ∷ strip_carriage_return end) first.digits ∙ ap (λ l. first.field ∷ l) (fields_digits second.field (strip_carriage_return end) second.digits ∙ ap (λ l. second.field ∷ l) is))
       ∙ ap (λ o. unwrap_or (o >>= λ x. asn_of second.field >>= λ y. option_map (link x y) (rel_of third)) what.Unreadable) first.value
       ∙ ap (λ o. unwrap_or (o >>= λ y. option_map (link a y) (rel_of third)) what.Unreadable) second.value
 
-  pub begins : (third : List ℕ) (further : List (List ℕ)) (s : Said) → fields 124 (strip_carriage_return end) ≡ third ∷ further → s ≡ linked a b (rel_of third) → BeginsWithLine text s rest
+  pub begins : (third : List ℕ) (further : List (List ℕ)) (s : Line) → fields 124 (strip_carriage_return end) ≡ third ∷ further → s ≡ linked a b (rel_of third) → BeginsWithLine text s rest
   begins third further s is value = record { line = line; whole = parted; one_line = line-one_line; value = value ∙ sym (said third further is) }
 
 pub asn_again : (text : List ℕ) (n : ℕ) → numeral 10 10 text ≡ Some n → 1 ≤ n → n < 2 ^ 32 → asn_of text ≡ Some n

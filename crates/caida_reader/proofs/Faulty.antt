@@ -9,8 +9,8 @@ use Rattle.net_names.specs.contracts.routes.Rel.{the_type}
 use Rattle.caida_reader.specs.Firsts.{firsts, FirstMap}
 use Rattle.caida_reader.specs.Value.{link_fault, fault_at, fault_after}
 use Rattle.caida_reader.specs.Laws.{line_of}
-use Rattle.caida_reader.specs.declared.line.Said.{Said}
-use Rattle.caida_reader.specs.declared.line.Said.TheVariants.{Nothing, Unreadable, Itself, Link}
+use Rattle.caida_reader.specs.declared.line.Line.{Line}
+use Rattle.caida_reader.specs.declared.line.Line.TheVariants.{Skipped, Unreadable, SelfLink, Link}
 use Rattle.caida_reader.specs.declared.firsts.First.{First}
 use Rattle.caida_reader.specs.declared.errors.RelError.{RelError}
 use Rattle.caida_reader.specs.declared.errors.RelError.TheVariants as fault
@@ -25,16 +25,16 @@ link_line line rel pairs None e h = ap line_of (sym (if_some (nat_lt pairs 15000
 link_line line rel pairs (Some first) e h = ap line_of (sym (if_some (sameb the_type first.rel rel) (fault.Conflict line first.line) e h))
 
 -- a fault names its line
-line_of-fault_at : (before : FirstMap) (line : ℕ) (said : Said) (e : RelError) → fault_at before line said ≡ Some e → line_of e ≡ line
-line_of-fault_at before line Nothing e h = cc
+line_of-fault_at : (before : FirstMap) (line : ℕ) (said : Line) (e : RelError) → fault_at before line said ≡ Some e → line_of e ≡ line
+line_of-fault_at before line Skipped e h = cc
 line_of-fault_at before line Unreadable e h = ap line_of (let same : fault.Unreadable line ≡ e = cc in sym same)
-line_of-fault_at before line Itself e h = ap line_of (let same : fault.SelfLink line ≡ e = cc in sym same)
+line_of-fault_at before line SelfLink e h = ap line_of (let same : fault.SelfLink line ≡ e = cc in sym same)
 line_of-fault_at before line (Link lo hi rel) e h = link_line line rel (len before) (get before (lo, hi)) e h
 
 -- where the first fault stands among the lines
-pub record AtFault (before more : List Said) (e : RelError) : Type 0 where
+pub record AtFault (before more : List Line) (e : RelError) : Type 0 where
   pub place : ℕ
-  pub said : Said
+  pub said : Line
   pub says : slice_get more place ≡ Some said
   pub faulty : fault_after (before ++ take place more) said ≡ Some e
   pub inside : place < length more
@@ -42,7 +42,7 @@ pub record AtFault (before more : List Said) (e : RelError) : Type 0 where
   pub none : first_fault before (take place more) ≡ None
   pub here : first_fault before (take (suc place) more) ≡ Some e
 
-found_here : (before : List Said) (said : Said) (more : List Said) (e : RelError) → fault_after before said ≡ Some e → AtFault before (said ∷ more) e
+found_here : (before : List Line) (said : Line) (more : List Line) (e : RelError) → fault_after before said ≡ Some e → AtFault before (said ∷ more) e
 found_here before said more e is = record {
   place = 0;
   said = said;
@@ -54,7 +54,7 @@ found_here before said more e is = record {
   here = rw is refl;
 }
 
-found_later : (before : List Said) (said : Said) (more : List Said) (e : RelError) → fault_after before said ≡ None → AtFault (before ++ said ∷ []) more e → AtFault before (said ∷ more) e
+found_later : (before : List Line) (said : Line) (more : List Line) (e : RelError) → fault_after before said ≡ None → AtFault (before ++ said ∷ []) more e → AtFault before (said ∷ more) e
 found_later before said more e is later = record {
   place = suc later.place;
   said = later.said;
@@ -66,7 +66,7 @@ found_later before said more e is later = record {
   here = rw is later.here;
 }
 
-pub at_fault : (before more : List Said) (e : RelError) → first_fault before more ≡ Some e → AtFault before more e
+pub at_fault : (before more : List Line) (e : RelError) → first_fault before more ≡ Some e → AtFault before more e
 at_fault before [] e h = cc
 at_fault before (said ∷ more) e h = by_first (fault_after before said) refl h (λ found. at_fault (before ++ said ∷ []) more e found)
   where
@@ -76,7 +76,7 @@ at_fault before (said ∷ more) e h = by_first (fault_after before said) refl h 
     by_first None is found later = found_later before said more e is (later found)
 
 -- lines in front of lines without a fault
-pub front_faultless : (before xs ys : List Said) → first_fault before (xs ++ ys) ≡ None → first_fault before xs ≡ None
+pub front_faultless : (before xs ys : List Line) → first_fault before (xs ++ ys) ≡ None → first_fault before xs ≡ None
 front_faultless before [] ys h = refl
 front_faultless before (x ∷ xs) ys h = by_first (fault_after before x) refl h (λ none. front_faultless (before ++ x ∷ []) xs ys none)
   where
@@ -91,6 +91,6 @@ take-take (suc k) zero xs le = absurd (omega (arith, le))
 take-take (suc k) (suc n) [] le = refl
 take-take (suc k) (suc n) (x ∷ xs) le = ap (λ ys. x ∷ ys) (take-take k n xs (omega (arith, le)))
 
-pub take_faultless : (said : List Said) (k n : ℕ) → k ≤ n → first_fault [] (take n said) ≡ None → first_fault [] (take k said) ≡ None
+pub take_faultless : (said : List Line) (k n : ℕ) → k ≤ n → first_fault [] (take n said) ≡ None → first_fault [] (take k said) ≡ None
 take_faultless said k n le h =
     rw (take-take k n said le) at (front_faultless [] (take k (take n said)) (drop k (take n said)) (rw (take-append-drop k (take n said)) h))

@@ -17,8 +17,8 @@ use Rattle.net_names.specs.declared.routes.Rel.TheVariants.{Customer, Peer, Prov
 use Rattle.caida_reader.specs.Value.{links_in, link_fault}
 use Rattle.caida_reader.specs.Firsts.{FirstMap, firsts, with_first, relations, link_at}
 use Rattle.caida_reader.specs.Laws.{HasLinks}
-use Rattle.caida_reader.specs.declared.line.Said.{Said}
-use Rattle.caida_reader.specs.declared.line.Said.TheVariants.{Nothing, Unreadable, Itself, Link}
+use Rattle.caida_reader.specs.declared.line.Line.{Line}
+use Rattle.caida_reader.specs.declared.line.Line.TheVariants.{Skipped, Unreadable, SelfLink, Link}
 use Rattle.caida_reader.specs.declared.firsts.First.{First}
 use Rattle.caida_reader.specs.declared.errors.RelError.TheVariants as fault
 use Rattle.caida_reader.proofs.PairLemmas.{same_pair}
@@ -44,11 +44,11 @@ len-relations m =
     ap (λ (links : LinkMap). len links) same ∙ len-entries (from_sorted (map link_at (entries m)))
     ∙ ap (λ (es : List ((ℕ × ℕ) × Rel)). length es) (entries-from_sorted pair_cmp (map link_at (entries m)) rising) ∙ length-map (entries m) link_at ∙ sym (len-entries m)
 
-pub len-links_in : (said : List Said) → len (links_in said) ≡ len (firsts said)
+pub len-links_in : (said : List Line) → len (links_in said) ≡ len (firsts said)
 len-links_in said = ap (λ (links : LinkMap). len links) (sym (relations-firsts said)) ∙ len-relations (firsts said)
 
 -- what stands of a pair
-pub find-firsts : (said : List Said) (q : ℕ × ℕ) → find pair_cmp q (links_given said) ≡ option_map (λ (f : First). f.rel) (get (firsts said) q)
+pub find-firsts : (said : List Line) (q : ℕ × ℕ) → find pair_cmp q (links_given said) ≡ option_map (λ (f : First). f.rel) (get (firsts said) q)
 find-firsts said q = sym (get-from_entries pairs_total (links_given said) q) ∙ ap (λ (links : LinkMap). get links q) (sym (links_in-given said) ∙ sym (relations-firsts said)) ∙ get-relations (firsts said) q
 
 -- ---- elements of a list
@@ -65,25 +65,25 @@ pub Contains-there : {X : Type 0} (y x : X) (xs : List X) → Contains xs x → 
 Contains-there y x xs h = Contains-append_right (y ∷ []) xs x h
 
 -- ---- a link that is found is given, and one that is given is found
-found-step : (b : Bool) (lo hi c d : ℕ) (rel s : Rel) (rest : Option Rel) (more : List Said) → (b ≡ true → ◌≡◌ {A = ℕ × ℕ} (lo, hi) (c, d)) → (rest ≡ Some rel → Contains more (Link lo hi rel))
+found-step : (b : Bool) (lo hi c d : ℕ) (rel s : Rel) (rest : Option Rel) (more : List Line) → (b ≡ true → ◌≡◌ {A = ℕ × ℕ} (lo, hi) (c, d)) → (rest ≡ Some rel → Contains more (Link lo hi rel))
     → cond b (Some s) rest ≡ Some rel → Contains (Link c d s ∷ more) (Link lo hi rel)
 found-step true lo hi c d rel s rest more same later h =
     let r : s ≡ rel = cc in
     subst (Contains (Link c d s ∷ more)) (ap (λ (p : ℕ × ℕ). Link p.0 p.1 s) (sym (same refl)) ∙ ap (Link lo hi) r) (Contains-here (Link c d s) more)
 found-step false lo hi c d rel s rest more same later h = Contains-there _ _ more (later h)
 
-pub found_is_given : (said : List Said) (lo hi : ℕ) (rel : Rel) → find pair_cmp (lo, hi) (links_given said) ≡ Some rel → Contains said (Link lo hi rel)
+pub found_is_given : (said : List Line) (lo hi : ℕ) (rel : Rel) → find pair_cmp (lo, hi) (links_given said) ≡ Some rel → Contains said (Link lo hi rel)
 found_is_given [] lo hi rel h = cc
 found_is_given (Link c d s ∷ more) lo hi rel h = found-step (eq_by_cmp pair_cmp (lo, hi) (c, d)) lo hi c d rel s (find pair_cmp (lo, hi) (links_given more)) more (same_pair (lo, hi) (c, d)) (found_is_given more lo hi rel) h
-found_is_given (Nothing ∷ more) lo hi rel h = Contains-there _ _ more (found_is_given more lo hi rel h)
+found_is_given (Skipped ∷ more) lo hi rel h = Contains-there _ _ more (found_is_given more lo hi rel h)
 found_is_given (Unreadable ∷ more) lo hi rel h = Contains-there _ _ more (found_is_given more lo hi rel h)
-found_is_given (Itself ∷ more) lo hi rel h = Contains-there _ _ more (found_is_given more lo hi rel h)
+found_is_given (SelfLink ∷ more) lo hi rel h = Contains-there _ _ more (found_is_given more lo hi rel h)
 
 cond-none : (b : Bool) (s : Rel) (rest : Option Rel) → cond b (Some s) rest ≡ None → (b ≡ false) × (rest ≡ None)
 cond-none true s rest h = cc
 cond-none false s rest h = (refl, h)
 
-pub missing_is_not_given : (said : List Said) (lo hi : ℕ) (rel : Rel) → find pair_cmp (lo, hi) (links_given said) ≡ None → Contains said (Link lo hi rel) → ⊥
+pub missing_is_not_given : (said : List Line) (lo hi : ℕ) (rel : Rel) → find pair_cmp (lo, hi) (links_given said) ≡ None → Contains said (Link lo hi rel) → ⊥
 missing_is_not_given [] lo hi rel h given = omega (arith, given.1)
 missing_is_not_given (Link c d s ∷ more) lo hi rel h given =
     let none = cond-none (eq_by_cmp pair_cmp (lo, hi) (c, d)) s (find pair_cmp (lo, hi) (links_given more)) h in
@@ -96,9 +96,9 @@ missing_is_not_given (Link c d s ∷ more) lo hi rel h given =
           cc
       | inr later ↦ missing_is_not_given more lo hi rel none.1 later
     ]
-missing_is_not_given (Nothing ∷ more) lo hi rel h given = elim (Contains-cons_cases Nothing (Link lo hi rel) more given) as (λ _. ⊥) [ inl e ↦ cc | inr later ↦ missing_is_not_given more lo hi rel h later ]
+missing_is_not_given (Skipped ∷ more) lo hi rel h given = elim (Contains-cons_cases Skipped (Link lo hi rel) more given) as (λ _. ⊥) [ inl e ↦ cc | inr later ↦ missing_is_not_given more lo hi rel h later ]
 missing_is_not_given (Unreadable ∷ more) lo hi rel h given = elim (Contains-cons_cases Unreadable (Link lo hi rel) more given) as (λ _. ⊥) [ inl e ↦ cc | inr later ↦ missing_is_not_given more lo hi rel h later ]
-missing_is_not_given (Itself ∷ more) lo hi rel h given = elim (Contains-cons_cases Itself (Link lo hi rel) more given) as (λ _. ⊥) [ inl e ↦ cc | inr later ↦ missing_is_not_given more lo hi rel h later ]
+missing_is_not_given (SelfLink ∷ more) lo hi rel h given = elim (Contains-cons_cases SelfLink (Link lo hi rel) more given) as (λ _. ⊥) [ inl e ↦ cc | inr later ↦ missing_is_not_given more lo hi rel h later ]
 
 -- ---- one line more
 same_rel-refl : (r q : Rel) → r ≡ q → sameb the_type r q ≡ true
@@ -132,7 +132,7 @@ has_room line rel pairs h = ltb-true pairs 1500000 (by_test (nat_lt pairs 150000
     by_test true h = refl
     by_test false h = cc
 
-module _ (before : List Said) (lo hi : ℕ) (rel : Rel) where
+module _ (before : List Line) (lo hi : ℕ) (rel : Rel) where
   abbrev line : ℕ
   line = length before + 1
 

@@ -88,7 +88,3 @@ stands_put m s given = get-insert pairs_total m s given s ∙ ap (λ r. cond (is
 pub ok_by_test : {T E : Type 0} (r : Result T E) (P : Type 0) → is_ok r ≡ true → OnOk r P → P
 ok_by_test (Ok x) P is ok = ok
 ok_by_test (Err e) P is ok = cc
-
--- what a list is after a growth that is tested to be no error
-pub ok_items : {T E X : Type 0} (r : Result T E) (xs ys zs : List X) → is_ok r ≡ true → xs ≡ (if is_ok r then ys else zs) → xs ≡ ys
-ok_items r xs ys zs is e = e ∙ ap (λ b. if b then ys else zs) is

@@ -9,7 +9,7 @@ use Rattle.caida_reader.specs.Value.{said_in, fault_at, links_of}
 use Rattle.caida_reader.specs.Firsts.{FirstMap, with_said, relations, Judges}
 use Rattle.caida_reader.specs.Progress.{Progress, outcome, value_from, EndsLine, Gives, Fails, UnlessMemory, joined}
 use Rattle.caida_reader.specs.Plain.{BeginsWithLine}
-use Rattle.caida_reader.specs.declared.line.Said.{Said}
+use Rattle.caida_reader.specs.declared.line.Line.{Line}
 use Rattle.caida_reader.specs.declared.errors.RelError.{RelError}
 use Rattle.caida_reader.specs.declared.errors.RelError.TheVariants as fault
 use Rattle.caida_reader.proofs.Cutting.{lines-ended, lines-last}
@@ -64,7 +64,7 @@ line_ended p new end rest failed r goes one judges empty is = rw (empty, is) (fo
     (judged p.table new p.line (p.rest ++ end) (λ table. value_from table (p.line + 1) (said_in more)) r judges)))
 
 -- the same of a line that lies whole in a text
-pub whole_line_ended : (p : Progress) (new : FirstMap) (text rest : List ℕ) (said : Said) (failed : Option RelError) (r : Result (Unit {0}) RelError) → p.failed ≡ None → p.rest ≡ []
+pub whole_line_ended : (p : Progress) (new : FirstMap) (text rest : List ℕ) (said : Line) (failed : Option RelError) (r : Result (Unit {0}) RelError) → p.failed ≡ None → p.rest ≡ []
     → BeginsWithLine text said rest → Judges p.table new p.line said r → failed ≡ result_err r → EndsLine p (record { table = new; line = p.line + 1; rest = p.rest; failed = failed }) text rest
 whole_line_ended p new text rest said failed r goes empty begins judges is =
     let here : begins.line ≡ p.rest ++ begins.line = sym (ap (λ l. l ++ begins.line) empty) in

@@ -12,8 +12,8 @@ use Rattle.caida_reader.specs.Value.{links_in, numbered, fault_after}
 use Rattle.caida_reader.specs.Laws.{value_of}
 use Rattle.caida_reader.specs.Firsts.{firsts, with_first, with_said, relations, link_at}
 use Rattle.caida_reader.specs.Progress.{value_from}
-use Rattle.caida_reader.specs.declared.line.Said.{Said}
-use Rattle.caida_reader.specs.declared.line.Said.TheVariants.{Nothing, Unreadable, Itself, Link}
+use Rattle.caida_reader.specs.declared.line.Line.{Line}
+use Rattle.caida_reader.specs.declared.line.Line.TheVariants.{Skipped, Unreadable, SelfLink, Link}
 use Rattle.caida_reader.specs.declared.firsts.First.{First}
 use Rattle.caida_reader.specs.declared.errors.RelError.{RelError}
 use Rattle.caida_reader.proofs.PairLemmas.{same_pair}
@@ -52,45 +52,45 @@ push es k v =
     ]) refl
     ∙ ap (λ o. if is_some o then from_entries es else insert (from_entries es) k v) (sym (get-from_entries pairs_total es k))
 
-numbered-append : (line : ℕ) (before : List Said) (said : Said) → numbered line (before ++ said ∷ []) ≡ numbered line before ++ numbered (line + length before) (said ∷ [])
+numbered-append : (line : ℕ) (before : List Line) (said : Line) → numbered line (before ++ said ∷ []) ≡ numbered line before ++ numbered (line + length before) (said ∷ [])
 numbered-append line [] said = ap (λ n. numbered n (said ∷ [])) (omega arith)
 numbered-append line (Link lo hi rel ∷ before) said = ap (λ es. ((lo, hi), record { rel = rel; line = line }) ∷ es) (numbered-append (line + 1) before said ∙ ap (λ n. numbered (line + 1) before ++ numbered n (said ∷ [])) (omega arith))
-numbered-append line (Nothing ∷ before) said = numbered-append (line + 1) before said ∙ ap (λ n. numbered (line + 1) before ++ numbered n (said ∷ [])) (omega arith)
+numbered-append line (Skipped ∷ before) said = numbered-append (line + 1) before said ∙ ap (λ n. numbered (line + 1) before ++ numbered n (said ∷ [])) (omega arith)
 numbered-append line (Unreadable ∷ before) said = numbered-append (line + 1) before said ∙ ap (λ n. numbered (line + 1) before ++ numbered n (said ∷ [])) (omega arith)
-numbered-append line (Itself ∷ before) said = numbered-append (line + 1) before said ∙ ap (λ n. numbered (line + 1) before ++ numbered n (said ∷ [])) (omega arith)
+numbered-append line (SelfLink ∷ before) said = numbered-append (line + 1) before said ∙ ap (λ n. numbered (line + 1) before ++ numbered n (said ∷ [])) (omega arith)
 
 -- the first lines with one line more
-pub firsts-push : (before : List Said) (said : Said) → firsts (before ++ said ∷ []) ≡ with_said (firsts before) (length before + 1) said
+pub firsts-push : (before : List Line) (said : Line) → firsts (before ++ said ∷ []) ≡ with_said (firsts before) (length before + 1) said
 firsts-push before said = ap (λ (es : Entries). from_entries es) (numbered-append 1 before said) ∙ by_line said (1 + length before) (length before + 1) (omega arith)
   where
-    by_line : (said : Said) (m n : ℕ) → m ≡ n → from_entries {R = pair_cmp} (numbered 1 before ++ numbered m (said ∷ [])) ≡ with_said (firsts before) n said
+    by_line : (said : Line) (m n : ℕ) → m ≡ n → from_entries {R = pair_cmp} (numbered 1 before ++ numbered m (said ∷ [])) ≡ with_said (firsts before) n said
     by_line (Link lo hi rel) m n e = rw e (push (numbered 1 before) (lo, hi) (record { rel = rel; line = n }))
-    by_line Nothing m n e = ap (λ (es : Entries). from_entries es) (append-nil (numbered 1 before))
+    by_line Skipped m n e = ap (λ (es : Entries). from_entries es) (append-nil (numbered 1 before))
     by_line Unreadable m n e = ap (λ (es : Entries). from_entries es) (append-nil (numbered 1 before))
-    by_line Itself m n e = ap (λ (es : Entries). from_entries es) (append-nil (numbered 1 before))
+    by_line SelfLink m n e = ap (λ (es : Entries). from_entries es) (append-nil (numbered 1 before))
 
 -- the links that lines give, each under its pair
-abbrev pub links_given : List Said → List ((ℕ × ℕ) × Rel)
+abbrev pub links_given : List Line → List ((ℕ × ℕ) × Rel)
 links_given [] = []
 links_given (Link lo hi rel ∷ more) = ((lo, hi), rel) ∷ links_given more
 links_given (said ∷ more) = links_given more
 
-links-numbered : (line : ℕ) (said : List Said) → map link_at (numbered line said) ≡ links_given said
+links-numbered : (line : ℕ) (said : List Line) → map link_at (numbered line said) ≡ links_given said
 links-numbered line [] = refl
 links-numbered line (Link lo hi rel ∷ more) = ap (λ es. ((lo, hi), rel) ∷ es) (links-numbered (line + 1) more)
-links-numbered line (Nothing ∷ more) = links-numbered (line + 1) more
+links-numbered line (Skipped ∷ more) = links-numbered (line + 1) more
 links-numbered line (Unreadable ∷ more) = links-numbered (line + 1) more
-links-numbered line (Itself ∷ more) = links-numbered (line + 1) more
+links-numbered line (SelfLink ∷ more) = links-numbered (line + 1) more
 
-pub links_in-given : (said : List Said) → links_in said ≡ from_entries (links_given said)
+pub links_in-given : (said : List Line) → links_in said ≡ from_entries (links_given said)
 links_in-given said = ap from_entries (links-numbered 1 said)
 
 -- the links of the first lines are those that the lines give
-pub relations-firsts : (said : List Said) → relations (firsts said) ≡ links_in said
+pub relations-firsts : (said : List Line) → relations (firsts said) ≡ links_in said
 relations-firsts said = sym (relations-from_entries (numbered 1 said))
 
 -- the first fault of lines behind others
-abbrev pub first_fault : List Said → List Said → Option RelError
+abbrev pub first_fault : List Line → List Line → Option RelError
 first_fault = steps.first_fault fault_after
 
 unless-option_or : (f g : Option RelError) (value : Result LinkMap RelError) → unless f (unless g value) ≡ unless (option_or f g) value
@@ -98,7 +98,7 @@ unless-option_or None g value = refl
 unless-option_or (Some e) g value = refl
 
 -- lines judged one after the other, behind others
-pub value_from-firsts : (before more : List Said) → value_from (firsts before) (length before + 1) more ≡ unless (first_fault before more) (Ok (links_in (before ++ more)))
+pub value_from-firsts : (before more : List Line) → value_from (firsts before) (length before + 1) more ≡ unless (first_fault before more) (Ok (links_in (before ++ more)))
 value_from-firsts before [] = ap (λ links. Ok links) (relations-firsts before ∙ ap links_in (sym (append-nil before)))
 value_from-firsts before (said ∷ more) =
     let n : length before + 1 ≡ length (before ++ said ∷ []) = sym (length-append before (said ∷ [])) in
@@ -109,5 +109,5 @@ value_from-firsts before (said ∷ more) =
     ∙ ap (λ all. unless (first_fault (before ++ said ∷ []) more) (Ok (links_in all))) (append_assoc before (said ∷ []) more))
     ∙ unless-option_or (fault_after before said) (first_fault (before ++ said ∷ []) more) (Ok (links_in (before ++ said ∷ more)))
 
-pub value_of_all : (said : List Said) → value_from (firsts []) 1 said ≡ value_of said
+pub value_of_all : (said : List Line) → value_from (firsts []) 1 said ≡ value_of said
 value_of_all said = value_from-firsts [] said

@@ -6,8 +6,8 @@ use Rattle.std.specs.FinMap as fin
 use Rattle.net_names.specs.Links.{pair_cmp, LinkMap}
 use Rattle.net_names.specs.declared.routes.Rel.{Rel}
 use Rattle.caida_reader.specs.Value.{numbered, fault_at}
-use Rattle.caida_reader.specs.declared.line.Said.{Said}
-use Rattle.caida_reader.specs.declared.line.Said.TheVariants.{Link}
+use Rattle.caida_reader.specs.declared.line.Line.{Line}
+use Rattle.caida_reader.specs.declared.line.Line.TheVariants.{Link}
 use Rattle.caida_reader.specs.declared.firsts.First.{First}
 use Rattle.caida_reader.specs.contracts.firsts.First as first
 use Rattle.caida_reader.specs.declared.errors.RelError.{RelError}
@@ -23,7 +23,7 @@ abbrev pub first_map_code : Coded FirstMap
 first_map_code = fin.code (coded× coded_ℕ coded_ℕ) first.the_row.coded
 
 -- The pairs that lines give, each with its first line.
-abbrev pub firsts : List Said → FirstMap
+abbrev pub firsts : List Line → FirstMap
 firsts said = fin.from_entries (numbered 1 said)
 
 -- The pairs with one more, unless it stands already.
@@ -31,12 +31,12 @@ abbrev pub with_first : FirstMap → ℕ × ℕ → First → FirstMap
 with_first before pair given = if is_some (fin.get before pair) then before else fin.insert before pair given
 
 -- The pairs after a line of this number.
-abbrev pub with_said : FirstMap → ℕ → Said → FirstMap
+abbrev pub with_said : FirstMap → ℕ → Line → FirstMap
 with_said before line (Link lo hi rel) = with_first before (lo, hi) (record { rel = rel; line = line })
 with_said before line said = before
 
 -- The line has no fault, and these are the pairs after it; or it has this fault; or memory ran out.
-abbrev pub Judges : FirstMap → FirstMap → ℕ → Said → Result (Unit {0}) RelError → Type 0
+abbrev pub Judges : FirstMap → FirstMap → ℕ → Line → Result (Unit {0}) RelError → Type 0
 Judges old new line said (Ok _) = (fault_at old line said ≡ None) × (new ≡ with_said old line said)
 Judges old new line said (Err fault.Memory) = Unit {0}
 Judges old new line said (Err e) = fault_at old line said ≡ Some e

@@ -6,16 +6,16 @@ use Rattle.net_names.specs.Texts.{fields}
 use Rattle.net_names.specs.declared.routes.Rel.{Rel}
 use Rattle.net_names.specs.Steps.{unless, first_fault}
 use Rattle.caida_reader.specs.Value.{said_in, links_in, fault_after, links_of}
-use Rattle.caida_reader.specs.declared.line.Said.{Said}
-use Rattle.caida_reader.specs.declared.line.Said.TheVariants.{Unreadable, Itself, Link}
+use Rattle.caida_reader.specs.declared.line.Line.{Line}
+use Rattle.caida_reader.specs.declared.line.Line.TheVariants.{Unreadable, SelfLink, Link}
 use Rattle.caida_reader.specs.declared.errors.RelError.{RelError}
 use Rattle.caida_reader.specs.declared.errors.RelError.TheVariants as fault
 use Rattle.net_names.specs.declared.links.TheConstants.{MOST_LINKS}
 
 -- Lines that have links: each that isn't skipped has the form, each link joins two ASes, no two lines give one pair two relations, and 1,500,000 pairs are given at most.
-pub record HasLinks (said : List Said) : Type 0 where
+pub record HasLinks (said : List Line) : Type 0 where
   pub readable : All (λ line. line ≢ Unreadable) said
-  pub apart : All (λ line. line ≢ Itself) said
+  pub apart : All (λ line. line ≢ SelfLink) said
   pub agree : (lo hi : ℕ) (rel other : Rel) → Contains said (Link lo hi rel) → Contains said (Link lo hi other) → rel ≡ other
   pub few : fin.len (links_in said) ≤ MOST_LINKS
 
@@ -40,11 +40,11 @@ line_of (fault.Conflict line earlier) = line
 line_of (fault.TooManyLinks line) = line
 
 -- What lines stand for: the links that they give, unless one of them has a fault.
-abbrev pub value_of : List Said → Result LinkMap RelError
+abbrev pub value_of : List Line → Result LinkMap RelError
 value_of said = unless (first_fault fault_after [] said) (Ok (links_in said))
 
 -- The fault's line is the first one at which the lines up to it have no links.
-pub record IsFirstFaulty (said : List Said) (e : RelError) : Type 0 where
+pub record IsFirstFaulty (said : List Line) (e : RelError) : Type 0 where
   pub inside : line_of e ≤ length said
   pub before : (line : ℕ) → line < line_of e → IsOk (value_of (take line said))
   pub here : value_of (take (line_of e) said) ≡ Err e
@@ -54,15 +54,15 @@ abbrev pub FirstFaulty : Type 0
 FirstFaulty = (bytes : List ℕ) (e : RelError) → links_of bytes ≡ Err e → IsFirstFaulty (said_in bytes) e
 
 -- The line of this number says this; lines are numbered from 1.
-abbrev pub SaysAt : List Said → ℕ → Said → Type 0
+abbrev pub SaysAt : List Line → ℕ → Line → Type 0
 SaysAt said line what = (1 ≤ line) × (slice_get said (line - 1) ≡ Some what)
 
 -- No line before this one gives the pair.
-abbrev pub NoneBefore : List Said → ℕ → ℕ → ℕ → Type 0
+abbrev pub NoneBefore : List Line → ℕ → ℕ → ℕ → Type 0
 NoneBefore said line lo hi = (earlier : ℕ) (rel : Rel) → earlier < line → SaysAt said earlier (Link lo hi rel) → ⊥
 
 -- A conflict: the line gives another relation than the first line of its pair, which is the earlier one.
-pub record IsConflict (said : List Said) (line earlier : ℕ) : Type 0 where
+pub record IsConflict (said : List Line) (line earlier : ℕ) : Type 0 where
   pub lo : ℕ
   pub hi : ℕ
   pub rel : Rel
@@ -74,7 +74,7 @@ pub record IsConflict (said : List Said) (line earlier : ℕ) : Type 0 where
   pub differ : rel ≢ other
 
 -- A pair too many: no line before this one gives its pair, and those lines give 1,500,000 others.
-pub record IsOneTooMany (said : List Said) (line : ℕ) : Type 0 where
+pub record IsOneTooMany (said : List Line) (line : ℕ) : Type 0 where
   pub lo : ℕ
   pub hi : ℕ
   pub rel : Rel
@@ -83,10 +83,10 @@ pub record IsOneTooMany (said : List Said) (line : ℕ) : Type 0 where
   pub full : fin.len (links_in (take (line - 1) said)) ≡ MOST_LINKS
 
 -- What a fault says of the lines.
-abbrev pub IsCause : List Said → RelError → Type 0
+abbrev pub IsCause : List Line → RelError → Type 0
 IsCause said fault.Memory = ⊥
 IsCause said (fault.Unreadable line) = SaysAt said line Unreadable
-IsCause said (fault.SelfLink line) = SaysAt said line Itself
+IsCause said (fault.SelfLink line) = SaysAt said line SelfLink
 IsCause said (fault.Conflict line earlier) = IsConflict said line earlier
 IsCause said (fault.TooManyLinks line) = IsOneTooMany said line
 

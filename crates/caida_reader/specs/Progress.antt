@@ -6,7 +6,7 @@ use Rattle.net_names.specs.Steps.{unless}
 use Rattle.net_names.specs.Links.{LinkMap}
 use Rattle.caida_reader.specs.Value.{said_in, fault_at}
 use Rattle.caida_reader.specs.Firsts.{FirstMap, with_said, relations}
-use Rattle.caida_reader.specs.declared.line.Said.{Said}
+use Rattle.caida_reader.specs.declared.line.Line.{Line}
 use Rattle.caida_reader.specs.declared.errors.RelError.{RelError}
 use Rattle.caida_reader.specs.declared.errors.RelError.TheVariants as fault
 
@@ -18,7 +18,7 @@ pub record Progress : Type 0 where
   pub failed : Option RelError
 
 -- What lines from this number on come to, where the lines before them give these pairs.
-abbrev pub value_from : FirstMap → ℕ → List Said → Result LinkMap RelError
+abbrev pub value_from : FirstMap → ℕ → List Line → Result LinkMap RelError
 value_from before line [] = Ok (relations before)
 value_from before line (said ∷ more) = unless (fault_at before line said) (value_from (with_said before line said) (line + 1) more)
 

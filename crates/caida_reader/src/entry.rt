@@ -1,5 +1,5 @@
 // A pair with its first line, in twelve bytes.
-ghost use Rattle.std.specs.Prelude.{◌≡◌, ◌<◌, ◌^◌};
+ghost use Rattle.std.specs.Prelude.{◌≡◌, ◌<◌};
 ghost use Rattle.caida_reader.specs.Entries.{rel_at as rel_of_code, first_in, entry_of};
 ghost use Rattle.caida_reader.specs.Runs.{link_of, turned};
 
@@ -42,7 +42,7 @@ fn rel_at(code: u32) -> Rel
 impl Entry {
     /// The entry of a pair and its first line.
     pub(crate) fn new(a: Asn, b: Asn, first: First) -> Entry
-        requires { first.line < 2 ^ 30 }
+        requires { first.line < LINES }
         ensures { entry_of result ≡ ((a, b), first) }
     {
         let line = first.line as u32;

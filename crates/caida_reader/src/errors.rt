@@ -1,4 +1,8 @@
 // Why a relationship file has no links.
+ghost use Rattle.std.specs.Prelude.{◌≡◌};
+ghost use Rattle.caida_reader.specs.declared.errors.RelError.TheVariants.{Memory};
+
+use net_names::NoMemory;
 
 /// Why a relationship file has no links: the first fault of its first faulty line. Lines are numbered from 1, and those that
 /// are skipped count. A line is judged in the order of these variants.
@@ -28,4 +32,12 @@ pub enum RelError {
         /// The number of the line.
         line: u64,
     },
+}
+
+impl From<NoMemory> for RelError {
+    ghost from_gives = { λ _ e. e ≡ Memory };
+
+    fn from(_e: NoMemory) -> RelError {
+        RelError::Memory
+    }
 }

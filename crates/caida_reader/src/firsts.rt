@@ -8,7 +8,7 @@ ghost use denote.Enum.Bare.{sameb};
 ghost use Rattle.caida_reader.specs.Runs.{AreApart, Puts, Lists};
 
 use crate::RelError;
-use crate::line::Said;
+use crate::line::Line;
 use crate::others::Others;
 use crate::runs::Runs;
 use net_names::{Asn, Link, Links, MOST_LINKS, NoMemory, Rel};
@@ -103,7 +103,8 @@ impl Firsts {
 
 // A link whose pair stands: it is a conflict where the first line gives another relation.
 fn compare(first: First, given: First) -> Result<(), RelError>
-    ensures { result ≡ (if sameb the_type first.rel given.rel then Ok tt else Err (RelError.Conflict given.line first.line)) }
+    ensures { result ≡
+        (if sameb the_type first.rel given.rel then Ok tt else Err (RelError.Conflict given.line first.line)) }
 {
     if first.rel == given.rel {
         return Ok(());
@@ -128,7 +129,7 @@ impl Firsts {
     // Judges a link where no further pair may stand.
     fn judge_full(&self, lo: Asn, hi: Asn, given: First) -> Result<(), RelError>
         requires { fin.len self.now ≡ MOST_LINKS }
-        ensures { Judges self.now self.now given.line (Said.Link lo hi given.rel) result }
+        ensures { Judges self.now self.now given.line (Line.Link lo hi given.rel) result }
     {
         match self.get(lo, hi) {
             Some(first) => compare(first, given),
@@ -139,27 +140,25 @@ impl Firsts {
     // Judges a link, and counts it in.
     fn judge_link(&mut self, lo: Asn, hi: Asn, given: First) -> Result<(), RelError>
         requires { lo < hi }
-        ensures { Judges self.old self.new given.line (Said.Link lo hi given.rel) result }
+        ensures { Judges self.old self.new given.line (Line.Link lo hi given.rel) result }
     {
         if self.count == MOST_LINKS {
             return self.judge_full(lo, hi, given);
         }
-        match self.first(lo, hi, given) {
-            Ok(first) => compare(first, given),
-            Err(_) => Err(RelError::Memory),
-        }
+        let first = self.first(lo, hi, given)?;
+        compare(first, given)
     }
 
     /// Judges the line of this number, and counts its link in.
-    pub(crate) fn judge(&mut self, line: u64, said: Said) -> Result<(), RelError>
+    pub(crate) fn judge(&mut self, line: u64, said: Line) -> Result<(), RelError>
         requires { IsRising said }
         ensures { Judges self.old self.new line said result }
     {
         match said {
-            Said::Nothing => Ok(()),
-            Said::Unreadable => Err(RelError::Unreadable { line }),
-            Said::Itself => Err(RelError::SelfLink { line }),
-            Said::Link { lo, hi, rel } => self.judge_link(lo, hi, First { rel, line }),
+            Line::Skipped => Ok(()),
+            Line::Unreadable => Err(RelError::Unreadable { line }),
+            Line::SelfLink => Err(RelError::SelfLink { line }),
+            Line::Link { lo, hi, rel } => self.judge_link(lo, hi, First { rel, line }),
         }
     }
 }

@@ -10,10 +10,14 @@ use net_names::{Asn, Rel, cut, read_asn};
 
 /// What a line says: nothing where it is skipped, and else a link, unless it is faulty by itself.
 #[derive(Clone, Copy, Debug, PartialEq, Eq)]
-pub(crate) enum Said {
-    Nothing,
+pub(crate) enum Line {
+    /// It is empty or a comment.
+    Skipped,
+    /// It doesn't have the form.
     Unreadable,
-    Itself,
+    /// It gives a link of an AS with itself.
+    SelfLink,
+    /// It gives this link, whose lower end comes first.
     Link { lo: Asn, hi: Asn, rel: Rel },
 }
 
@@ -29,17 +33,17 @@ fn read_rel(text: &[u8]) -> Option<Rel>
 }
 
 // The link of two ASes, of which the second is this to the first.
-fn make_link(a: Asn, b: Asn, rel: Rel) -> Said
+fn make_link(a: Asn, b: Asn, rel: Rel) -> Line
     ensures value { result ≡ link a b rel }
     ensures rising { IsRising result }
 {
     if a == b {
-        return Said::Itself;
+        return Line::SelfLink;
     }
     if a < b {
-        return Said::Link { lo: a, hi: b, rel };
+        return Line::Link { lo: a, hi: b, rel };
     }
-    Said::Link {
+    Line::Link {
         lo: b,
         hi: a,
         rel: rel.converse(),
@@ -47,14 +51,14 @@ fn make_link(a: Asn, b: Asn, rel: Rel) -> Said
 }
 
 // The link of two numbers, of which the second is this to the first, where it is known what.
-fn make_said(a: u32, b: u32, rel: Option<Rel>) -> Said
+fn make_said(a: u32, b: u32, rel: Option<Rel>) -> Line
     requires first { 1 ≤ a }
     requires second { 1 ≤ b }
-    ensures value { result ≡ unwrap_or (option_map (link a b) rel) Said.Unreadable }
+    ensures value { result ≡ unwrap_or (option_map (link a b) rel) Line.Unreadable }
     ensures rising { IsRising result }
 {
     let Some(rel) = rel else {
-        return Said::Unreadable;
+        return Line::Unreadable;
     };
     let (Some(a), Some(b)) = (Asn::new(a), Asn::new(b)) else {
         unreachable!();
@@ -74,15 +78,15 @@ fn first_field(text: &[u8]) -> &[u8]
 }
 
 #[tactic(auto, using(crate::proofs::Cutting::cutting))]
-fn read_fields(text: &[u8]) -> Said
+fn read_fields(text: &[u8]) -> Line
     ensures value { result ≡ said_by (fields 124 text.now) }
     ensures rising { IsRising result }
 {
     let Some((first, rest)) = cut(text, b'|') else {
-        return Said::Unreadable;
+        return Line::Unreadable;
     };
     let Some((second, rest)) = cut(rest, b'|') else {
-        return Said::Unreadable;
+        return Line::Unreadable;
     };
     match (
         read_asn(first),
@@ -90,7 +94,7 @@ fn read_fields(text: &[u8]) -> Said
         read_rel(first_field(rest)),
     ) {
         (Some(a), Some(b), Some(rel)) => make_link(a, b, rel),
-        _ => Said::Unreadable,
+        _ => Line::Unreadable,
     }
 }
 
@@ -105,20 +109,20 @@ fn strip_cr(line: &[u8]) -> &[u8]
 }
 
 /// What a line says.
-pub(crate) fn read_line(line: &[u8]) -> Said
+pub(crate) fn read_line(line: &[u8]) -> Line
     ensures value { result ≡ says line.now }
     ensures rising { IsRising result }
 {
     let text = strip_cr(line);
     match text {
-        [] | [b'#', ..] => Said::Nothing,
+        [] | [b'#', ..] => Line::Skipped,
         _ => read_fields(text),
     }
 }
 
 /// What the first line of a text says, and what stands behind its line feed. `None` where the line doesn't begin with two AS
 /// numbers, and where no line feed ends it.
-pub(crate) fn read_first_link(text: &[u8]) -> Option<(Said, &[u8])>
+pub(crate) fn read_first_link(text: &[u8]) -> Option<(Line, &[u8])>
     ensures line { IfSome result (λ p. BeginsWithLine text.now p.0 p.1.now) }
     ensures rising { IfSome result (λ p. IsRising p.0) }
 {

@@ -49,10 +49,7 @@ fn spot_of(count: usize, lo: Asn, hi: Asn) -> Spot
 
 // Words without a mark.
 fn make_words(alloc: Global, count: usize) -> Result<Vec<u64>, NoMemory> {
-    match vec![in alloc; 0; count] {
-        Ok(words) => Ok(words),
-        Err(_) => Err(NoMemory),
-    }
+    Ok(vec![in alloc; 0; count]?)
 }
 
 impl Marks {

@@ -50,14 +50,13 @@ impl Others {
         ensures after { OnOk result (self.new ≡ with_first self.old (lo, hi) given) }
         ensures err { OnErr result (self.new ≡ self.old) }
     {
-        match self.entries.insert((lo, hi), given) {
-            Ok(None) => Ok(None),
-            Ok(Some(first)) => {
+        match self.entries.insert((lo, hi), given)? {
+            None => Ok(None),
+            Some(first) => {
                 // The pair stands, so its first line is put back.
                 let _ = self.entries.insert((lo, hi), first);
                 Ok(Some(first))
             }
-            Err(_) => Err(NoMemory),
         }
     }
 
@@ -72,9 +71,7 @@ impl Others {
                 hi: pair.1,
                 rel: first.rel,
             };
-            if links.push(link).is_err() {
-                return Err(NoMemory);
-            }
+            links.push(link)?;
         }
         Ok(links)
     }

@@ -8,7 +8,7 @@ ghost use Rattle.caida_reader.specs.Progress.{outcome, EndsLine, Gives, Fails, U
 
 use crate::RelError;
 use crate::firsts::Firsts;
-use crate::line::{Said, read_first_link, read_line};
+use crate::line::{Line, read_first_link, read_line};
 use net_names::{Links, cut};
 use std::alloc::Global;
 use std::marker::Model;
@@ -40,7 +40,7 @@ impl Model for Reader {
 }
 
 // What the line says that began with the kept bytes and ends with these. No bytes are kept then.
-fn read_ended(rest: &mut Vec<u8>, end: &[u8]) -> Option<Said>
+fn read_ended(rest: &mut Vec<u8>, end: &[u8]) -> Option<Line>
     ensures said { IfSome result (λ said. (said ≡ says (rest.old.items ++ end.now)) × IsRising said) }
     ensures rest { IfSome result (λ said. rest.new.items ≡ []) }
 {
@@ -175,14 +175,8 @@ impl Reader {
             None => {}
         }
         let said = read_line(&self.rest);
-        match self.table.judge(self.line, said) {
-            Ok(()) => {}
-            Err(error) => return Err(error),
-        }
-        match self.table.links(*self.rest.allocator()) {
-            Ok(links) => Ok(links),
-            Err(_) => Err(RelError::Memory),
-        }
+        self.table.judge(self.line, said)?;
+        Ok(self.table.links(*self.rest.allocator())?)
     }
 }
 
@@ -193,10 +187,7 @@ pub fn read_pieces(alloc: Global, pieces: &[Vec<u8>]) -> Result<Links, RelError>
 {
     let mut reader = Reader::new(alloc);
     'pieces: for piece in pieces {
-        match reader.feed(piece) {
-            Ok(()) => {}
-            Err(error) => return Err(error),
-        }
+        reader.feed(piece)?;
     }
     reader.finish()
 }
@@ -206,8 +197,6 @@ pub fn read_links(alloc: Global, bytes: &[u8]) -> Result<Links, RelError>
     ensures { Gives (λ links. links) result (links_of bytes.now) }
 {
     let mut reader = Reader::new(alloc);
-    match reader.feed(bytes) {
-        Ok(()) => reader.finish(),
-        Err(error) => Err(error),
-    }
+    reader.feed(bytes)?;
+    reader.finish()
 }

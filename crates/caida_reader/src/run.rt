@@ -1,5 +1,5 @@
 // Pairs that come in rising order.
-ghost use Rattle.std.specs.Prelude.{◌≡◌, ◌<◌, ◌-◌, ◌^◌, IsTrue, OnOk, OnErr, length, map};
+ghost use Rattle.std.specs.Prelude.{◌≡◌, ◌<◌, ◌-◌, IsTrue, OnOk, OnErr, length, map};
 ghost use Rattle.std.specs.FinMap as fin;
 ghost use Rattle.std.specs.List.{HoldsAt};
 ghost use Rattle.std.specs.List.Sorted.{IsSearchInRange, IsBinarySearchResult};
@@ -8,7 +8,7 @@ ghost use Rattle.net_names.specs.Links.{pair_cmp};
 ghost use Rattle.caida_reader.specs.Entries.{entry_of};
 ghost use Rattle.caida_reader.specs.Runs.{IsPast};
 
-use crate::entry::Entry;
+use crate::entry::{Entry, LINES};
 use crate::firsts::First;
 use net_names::{Asn, NoMemory};
 use std::alloc::Global;
@@ -38,7 +38,8 @@ impl Model for Run {
 
 // Whether a pair is above the last one, where there is one.
 fn is_past_last(entries: &[Entry], a: Asn, b: Asn) -> bool
-    ensures { IsTrue result → 0 < length entries.now → HoldsAt (λ e. pair_cmp (e.a, e.b) (a, b) ≡ Less) entries.now (length entries.now - 1) }
+    ensures { IsTrue result → 0 < length entries.now →
+        HoldsAt (λ e. pair_cmp (e.a, e.b) (a, b) ≡ Less) entries.now (length entries.now - 1) }
 {
     match entries.last() {
         Some(last) => (last.a, last.b) < (a, b),
@@ -94,15 +95,12 @@ impl Run {
     /// Puts in a pair that is above all, with a line that fits into an entry.
     pub(crate) fn push(&mut self, a: Asn, b: Asn, first: First) -> Result<(), NoMemory>
         requires past { IsPast self.old (a, b) }
-        requires fits { first.line < 2 ^ 30 }
+        requires fits { first.line < LINES }
         ensures ok { OnOk result (self.new ≡ fin.insert self.old (a, b) first) }
         ensures err { OnErr result (self.new ≡ self.old) }
     {
         let entry = Entry::new(a, b, first);
-        match self.entries.push(entry) {
-            Ok(()) => {}
-            Err(_) => return Err(NoMemory),
-        }
+        self.entries.push(entry)?;
         Ok(())
     }
 }

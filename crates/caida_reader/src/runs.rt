@@ -66,20 +66,15 @@ fn get_marked(run: &Run, marks: &Marks, lo: Asn, hi: Asn) -> Option<First>
 
 // The links of entries whose ends are exchanged, and further ones.
 fn gather_back(alloc: Global, exchanged: &[Entry], further: &[Link]) -> Result<Vec<Link>, NoMemory>
-    ensures { IfOk result (λ links. links.items ≡ map (λ e. link_of (turned (entry_of e))) exchanged.now ++ further.now) }
+    ensures { IfOk result (λ links. links.items ≡
+        map (λ e. link_of (turned (entry_of e))) exchanged.now ++ further.now) }
 {
-    let Ok(mut links) = Vec::with_capacity(alloc, exchanged.len()) else {
-        return Err(NoMemory);
-    };
+    let mut links = Vec::with_capacity(alloc, exchanged.len())?;
     'exchanged: for entry in exchanged {
-        if links.push(entry.turned_link()).is_err() {
-            return Err(NoMemory);
-        }
+        links.push(entry.turned_link())?;
     }
-    match links.extend_from_slice(further) {
-        Ok(()) => Ok(links),
-        Err(_) => Err(NoMemory),
-    }
+    links.extend_from_slice(further)?;
+    Ok(links)
 }
 
 impl Runs {
@@ -133,7 +128,8 @@ impl Runs {
 
     /// The links of the pairs and further ones: in rising order where the further ones are links too.
     pub(crate) fn links(&self, alloc: Global, further: &[Link]) -> Result<Vec<Link>, NoMemory>
-        ensures { IfOk result (λ links. (more : FirstMap) → AreApart self.now more → Lists further.now more → Lists links.items (joined self.now more)) }
+        ensures { IfOk result (λ links. (more : FirstMap) → AreApart self.now more →
+            Lists further.now more → Lists links.items (joined self.now more)) }
     {
         let mut back = gather_back(alloc, self.turned.as_slice(), further)?;
         back.sort_unstable_by_key(|link| both_ends(link.lo, link.hi));

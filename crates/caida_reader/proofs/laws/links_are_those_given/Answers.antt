@@ -9,8 +9,8 @@ use Rattle.caida_reader.specs.Says.{says}
 use Rattle.caida_reader.specs.Value.{said_in, links_in}
 use Rattle.net_names.specs.Steps.{unless}
 use Rattle.caida_reader.specs.Laws.{HasLinks, line_of}
-use Rattle.caida_reader.specs.declared.line.Said.{Said}
-use Rattle.caida_reader.specs.declared.line.Said.TheVariants.{Unreadable, Itself, Link}
+use Rattle.caida_reader.specs.declared.line.Line.{Line}
+use Rattle.caida_reader.specs.declared.line.Line.TheVariants.{Unreadable, SelfLink, Link}
 use Rattle.caida_reader.specs.declared.errors.RelError.{RelError}
 use Rattle.caida_reader.proofs.Values.{first_fault, links_given, links_in-given}
 use Rattle.caida_reader.proofs.Given.{found_is_given, missing_is_not_given}
@@ -31,7 +31,7 @@ err_part : (f : Option RelError) (links : LinkMap) (e : RelError) → unless f (
 err_part None links e h = cc
 err_part (Some f) links e h = let same : f ≡ e = cc in ap (λ x. Some x) same
 
-has_links : (said : List Said) → first_fault [] said ≡ None → HasLinks said
+has_links : (said : List Line) → first_fault [] said ≡ None → HasLinks said
 has_links said none = HasLinks-from_faultless [] said nothing_has_links none
 
 pub returns-clause-accepted : goal.returns-clause-accepted
@@ -41,7 +41,7 @@ returns-clause-accepted c = λ bytes. (
 )
 
 -- a link that is given, where all that are given agree
-found_if_given : (said : List Said) → HasLinks said → (lo hi : ℕ) (rel : Rel) → Contains said (Link lo hi rel) → (o : Option Rel) → find pair_cmp (lo, hi) (links_given said) ≡ o → o ≡ Some rel
+found_if_given : (said : List Line) → HasLinks said → (lo hi : ℕ) (rel : Rel) → Contains said (Link lo hi rel) → (o : Option Rel) → find pair_cmp (lo, hi) (links_given said) ≡ o → o ≡ Some rel
 found_if_given said h lo hi rel given None is = absurd (missing_is_not_given said lo hi rel is given)
 found_if_given said h lo hi rel given (Some other) is = ap (λ r. Some r) (h.agree lo hi other rel (found_is_given said lo hi other is) given)
 
@@ -55,7 +55,7 @@ returns-clause-given c = λ bytes links is lo hi rel.
     )
 
 -- the same links in another order
-module _ (said others : List Said) (perm : IsPermutation said others) (h : HasLinks said) where
+module _ (said others : List Line) (perm : IsPermutation said others) (h : HasLinks said) where
   back : IsPermutation others said
   back = IsPermutation-sym said others perm
 
@@ -77,7 +77,7 @@ module _ (said others : List Said) (perm : IsPermutation said others) (h : HasLi
   others_have_links : HasLinks others
   others_have_links = record {
     readable = All-permutation (λ line. line ≡ Unreadable → ⊥) said others perm h.readable;
-    apart = All-permutation (λ line. line ≡ Itself → ⊥) said others perm h.apart;
+    apart = All-permutation (λ line. line ≡ SelfLink → ⊥) said others perm h.apart;
     agree = λ lo hi rel other a b. h.agree lo hi rel other (Contains-permutation others said _ back a) (Contains-permutation others said _ back b);
     few = rw same_links h.few;
   }

@@ -17,12 +17,12 @@ pub invariant_of-self-2 : goal.invariant_of-self-2
 invariant_of-self-2 c =
     let es = c.self.inside.entries.items in
     let past = is_past (map_of es) c.args.self.now (c.args.a, c.args.b) c.args.first c.new-entry.result c.self.view_is c.new-entry.ensures c.requires.past in
-    subst (λ (fs : List Entry). T (fin.is_sorted pair_cmp (map entry_of fs))) (sym c.in-Ok.ensures.items) (sorted-push es c.self.invariant c.new-entry.result past)
+    subst (λ (fs : List Entry). T (fin.is_sorted pair_cmp (map entry_of fs))) (sym c.in_ok-push.ensures.items) (sorted-push es c.self.invariant c.new-entry.result past)
 
 pub returns-clause-ok : goal.returns-clause-ok
 returns-clause-ok c =
     let es = c.self.inside.entries.items in
     let past = is_past (map_of es) c.args.self.now (c.args.a, c.args.b) c.args.first c.new-entry.result c.self.view_is c.new-entry.ensures c.requires.past in
-    ap map_of c.in-Ok.ensures.items ∙ map_of-push es c.self.invariant c.new-entry.result past
+    ap map_of c.in_ok-push.ensures.items ∙ map_of-push es c.self.invariant c.new-entry.result past
     ∙ ap (λ (m : FirstMap). fin.insert m (entry_of c.new-entry.result).0 (entry_of c.new-entry.result).1) c.self.view_is
     ∙ ap (λ (f : (ℕ × ℕ) × First). fin.insert c.args.self.now f.0 f.1) c.new-entry.ensures
