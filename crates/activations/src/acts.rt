@@ -40,10 +40,8 @@ impl NamedAses {
         ensures ok { OnOk result (self.new ≡ self.old ++ (line, asn) ∷ []) }
         ensures err { OnErr result (self.new ≡ self.old) }
     {
-        match self.items.push((line, asn)) {
-            Ok(()) => Ok(()),
-            Err(_) => Err(NoMemory),
-        }
+        self.items.push((line, asn))?;
+        Ok(())
     }
 
     /// The line of the first one that is no AS of the graph; `None` exactly where each is one.

@@ -5,10 +5,11 @@ ghost use Rattle.std.specs.FinMap as map;
 ghost use Rattle.net_names.specs.Lines.{kept_from, said_on};
 ghost use Rattle.activations.specs.Files.{Gives, acts_by, with_acts, with_hold, with_line};
 ghost use Rattle.activations.specs.Named.{AreSound};
+ghost use Rattle.activations.specs.declared.reading.ActsError.TheVariants.{Memory};
 
 use crate::acts::{Acts, NamedAses};
 use crate::forms::{act, hold};
-use net_names::{Asn, Path, Prefix, next_kept};
+use net_names::{Asn, NoMemory, Path, Prefix, next_kept};
 use scenario_text::read_for;
 use stability_laws::{Entry, Routing};
 use std::alloc::Global;
@@ -42,6 +43,14 @@ pub enum ActsError {
     NoFor,
 }
 
+impl From<NoMemory> for ActsError {
+    ghost from_gives = { λ _ e. e ≡ Memory };
+
+    fn from(_e: NoMemory) -> ActsError {
+        ActsError::Memory
+    }
+}
+
 // Puts in what an AS holds, as the line of this number says.
 fn put_hold(mut acts: Acts, number: u32, asn: Asn, entry: Entry) -> Result<Acts, ActsError>
     requires sound { AreSound acts }
@@ -56,14 +65,8 @@ fn put_hold(mut acts: Acts, number: u32, asn: Asn, entry: Entry) -> Result<Acts,
     if let Some(_) = acts.held.get(asn) {
         return Err(ActsError::Twice { line: number });
     }
-    match acts.held.put(asn, entry) {
-        Ok(()) => {}
-        Err(_) => return Err(ActsError::Memory),
-    }
-    match acts.named.push(number, asn) {
-        Ok(()) => {}
-        Err(_) => return Err(ActsError::Memory),
-    }
+    acts.held.put(asn, entry)?;
+    acts.named.push(number, asn)?;
     Ok(acts)
 }
 
@@ -77,14 +80,8 @@ fn put_acts(mut acts: Acts, number: u32, ases: &[Asn]) -> Result<Acts, ActsError
         return Err(ActsError::TooMany { line: number });
     }
     for asn in ases {
-        match acts.list.push(*asn) {
-            Ok(()) => {}
-            Err(_) => return Err(ActsError::Memory),
-        }
-        match acts.named.push(number, *asn) {
-            Ok(()) => {}
-            Err(_) => return Err(ActsError::Memory),
-        }
+        acts.list.push(*asn)?;
+        acts.named.push(number, *asn)?;
     }
     Ok(acts)
 }
@@ -96,15 +93,12 @@ fn put_line(alloc: Global, acts: Acts, number: u32, line: &[u8]) -> Result<Acts,
     ensures gives { Gives result (with_line acts (number, line.now)) }
     ensures sound { IfOk result AreSound }
 {
-    match hold(alloc, line) {
-        Err(_) => return Err(ActsError::Memory),
-        Ok(Some((asn, entry))) => return put_hold(acts, number, asn, entry),
-        Ok(None) => {}
+    if let Some((asn, entry)) = hold(alloc, line)? {
+        return put_hold(acts, number, asn, entry);
     }
-    match act(alloc, line) {
-        Err(_) => Err(ActsError::Memory),
-        Ok(None) => Err(ActsError::Unreadable { line: number }),
-        Ok(Some(ases)) => put_acts(acts, number, ases.as_slice()),
+    match act(alloc, line)? {
+        Some(ases) => put_acts(acts, number, ases.as_slice()),
+        None => Err(ActsError::Unreadable { line: number }),
     }
 }
 
@@ -129,7 +123,14 @@ fn put_lines(alloc: Global, acts: Acts, number: u32, bytes: &[u8]) -> Result<Act
 
 // What a line of this number says alone that names these.
 fn begun(alloc: Global, number: u32, names: (u32, Prefix)) -> Acts
-    ensures { result ≡ record { for_line = number; round = names.0; prefix = names.1; held = map.empty; list = []; named = [] } }
+    ensures { result ≡ record {
+      for_line = number;
+      round = names.0;
+      prefix = names.1;
+      held = map.empty;
+      list = [];
+      named = [];
+    } }
 {
     let (round, prefix) = names;
     Acts {
