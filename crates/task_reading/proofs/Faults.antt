@@ -20,12 +20,12 @@ use Rattle.activations.specs.Files.{acts_by}
 use Rattle.activations.specs.declared.reading.ActsError.{ActsError}
 use Rattle.activations.specs.declared.reading.ActsError.TheVariants as acts
 use Rattle.message_sim.specs.Files.{deliveries_by}
-use Rattle.net_names.specs.Lines.{kept_from}
+use Rattle.net_names.specs.Lines.{kept_from, said_on}
 use Rattle.message_sim.specs.declared.reading.DeliveriesError.{DeliveriesError}
 use Rattle.message_sim.specs.declared.reading.DeliveriesError.TheVariants as deliveries
 use Rattle.task_reading.specs.declared.words.FileOption.{FileOption}
 use Rattle.task_reading.specs.declared.words.FileOption.TheVariants as option
-use Rattle.sweep.specs.Reading.{sweeps_of}
+use Rattle.sweep.specs.Reading.{with_line}
 use Rattle.sweep.specs.declared.reading.SweepsError.{SweepsError}
 use Rattle.sweep.specs.declared.reading.SweepsError.TheVariants as sweeps
 use Rattle.table_check.specs.Reading.{tables_by}
@@ -140,7 +140,7 @@ other_jobs : (form : Option Form) (which : File) (o : FileOption) (bytes : List 
 other_jobs form which option.Script bytes c h = cause_by (map (line_job true)) cause.Script form which (other_script form which) (script_of bytes) c h
 other_jobs form which option.Activations bytes c h = cause_by (λ acts. acts_job acts ∷ []) cause.Acts form which (other_acts form which) (acts_by (kept_from 1 bytes)) c h
 other_jobs form which option.Messages bytes c h = cause_by (λ deliveries. messages_job deliveries ∷ []) cause.Deliveries form which (other_deliveries form which) (deliveries_by (kept_from 1 bytes)) c h
-other_jobs form which option.Sweep bytes c h = cause_by (map sweep_job) cause.Sweeps form which (other_sweeps form which) (sweeps_of bytes) c h
+other_jobs form which option.Sweep bytes c h = cause_by (map sweep_job) cause.Sweeps form which (other_sweeps form which) (said_on with_line [] (kept_from 1 bytes)) c h
 other_jobs form which option.Check bytes c h = cause_by (λ t. tables_job t ∷ []) cause.Tables form which (other_tables form which) (tables_by (kept_from 1 bytes)) c h
 
 -- a line that names what isn't in the world

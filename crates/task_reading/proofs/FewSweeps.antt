@@ -3,7 +3,7 @@ use Rattle.std.proofs.Common.{◌≡◌, ◌≤◌, ℕ, Bool, true, false, cond
 use Rattle.std.proofs.lemmas.Bool.{ltb-true}
 use Rattle.net_names.specs.Lines.{kept_from, said_on}
 use Rattle.net_names.specs.Trials.{◌>>=◌}
-use Rattle.sweep.specs.Reading.{sweep_of, sweeps_of, with_line}
+use Rattle.sweep.specs.Reading.{sweep_of, with_line}
 use Rattle.sweep.specs.declared.reading.SweepsError.{SweepsError}
 use Rattle.sweep.specs.declared.reading.SweepsError.TheVariants.{Unreadable, TooMany}
 use Rattle.sweep.specs.declared.sweeps.Sweep.{Sweep}
@@ -29,6 +29,5 @@ few_after [] before now few h = let same : before ≡ now = cc in omega (arith, 
 few_after (line ∷ lines) before now few h =
     few_with (with_line before line) lines now (λ mid short is. few_after lines mid now short is) (λ mid is. few_by (sweep_of line.0 line.1) before mid line.0 is) h
 
-pub few_sweeps : (bytes : List ℕ) (s : List Sweep) → sweeps_of bytes ≡ Ok s → length s ≤ 1000
-unfolding sweeps_of
+pub few_sweeps : (bytes : List ℕ) (s : List Sweep) → said_on with_line [] (kept_from 1 bytes) ≡ Ok s → length s ≤ 1000
 few_sweeps bytes s h = few_after (kept_from 1 bytes) [] s (omega arith) h
