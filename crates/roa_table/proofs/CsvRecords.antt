@@ -105,7 +105,7 @@ enough (suc n) (suc m) s xs h a b = by (next_record default_config s [] [] xs) r
         let l = next_shorter s xs p h e in
         ap (λ t. p.0 ∷ t) (f p.1 p.2 k.start (omega (arith, l, a)) (omega (arith, l, b)))
 
-records_suc : (n : ℕ) (s : State) (xs : List ℕ) → records_from default_config (suc n) s xs ≡ records_next (records_from default_config n) (next_record default_config s [] [] xs)
+pub records_suc : (n : ℕ) (s : State) (xs : List ℕ) → records_from default_config (suc n) s xs ≡ records_next (records_from default_config n) (next_record default_config s [] [] xs)
 unfolding records_from
 records_suc n s xs = refl
 

@@ -6,6 +6,7 @@ pub mod Cutting
 pub mod Covered
 pub mod Tabled
 pub mod CsvRecords
+pub mod PlainRows
 pub mod Judged
 pub mod Gathered
 pub mod Reading

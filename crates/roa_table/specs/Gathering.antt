@@ -1,5 +1,5 @@
 -- How far a file has been read.
-use Rattle.std.specs.Prelude.{◌≡◌, ℕ, ◌+◌, ◌<◌, ◌≤◌, ◌||◌, true, List, [], ◌++◌, length, Option, Some, None, Result, Ok, Err, IsErr, is_ok, ⊤}
+use Rattle.std.specs.Prelude.{◌≡◌, ℕ, ◌+◌, ◌<◌, ◌≤◌, ◌||◌, true, List, [], ◌∷◌, ◌++◌, length, Option, Some, None, Result, Ok, Err, IsErr, is_ok, ⊤}
 use Rattle.std.specs.List.{list_all}
 use Rattle.std.specs.Ordering.{eq_by_cmp}
 use Rattle.net_names.specs.Payloads.{VrpValue, vrp_cmp}
@@ -8,7 +8,8 @@ use Rattle.roa_table.specs.Lists.{IsRising, stands_in}
 use Rattle.roa_table.specs.Records.{payload_of}
 use Rattle.net_names.specs.Steps.{first_fault}
 use Rattle.roa_table.specs.Files.{rows_of, given, fault_of}
-use Rattle.roa_table.specs.Standing.{Record, ByteReader, Stands}
+use Rattle.csv.specs.declared.parser.State.TheVariants as st
+use Rattle.roa_table.specs.Standing.{Record, ByteReader, records_left, Stands}
 use Rattle.roa_table.specs.Judging.{fault_at, payloads_of}
 use Rattle.roa_table.specs.declared.errors.VrpError.{VrpError}
 use Rattle.roa_table.specs.declared.errors.VrpError.TheVariants as fault
@@ -31,10 +32,10 @@ Gathers (Ok v) old new = JoinsIn v old new
 Gathers (Err e) old new = ⊥
 
 -- why the payload of a record has not been gathered: it has none, there are more than 2,000,000 already, or memory ran out
-abbrev pub StopsAt : Result VrpValue VrpError → List VrpValue → List VrpValue → Stop → Type 0
-StopsAt outcome old new (stop.Fault e) = (outcome ≡ Err e) × (new ≡ old)
-StopsAt outcome old new stop.Crowded = MOST_PAYLOADS < count (set_of old)
-StopsAt outcome old new stop.Memory = ⊤
+abbrev pub StopsAt : Result VrpValue VrpError → List VrpValue → Stop → Type 0
+StopsAt outcome old (stop.Fault e) = (outcome ≡ Err e) × (count (set_of old) ≤ MOST_PAYLOADS)
+StopsAt outcome old stop.Crowded = MOST_PAYLOADS < count (set_of old)
+StopsAt outcome old stop.Memory = ⊤
 
 -- the payloads in rising order, where they are 2,000,000 at most
 pub record IsTidied (old new : List VrpValue) : Type 0 where
@@ -42,11 +43,11 @@ pub record IsTidied (old new : List VrpValue) : Type 0 where
   pub few : length new ≤ MOST_PAYLOADS
   pub members : (q : VrpValue) → stands_in new q ≡ stands_in old q
 
--- why gathered payloads are not answered: a fault came behind them, or they are too many
-abbrev pub EndsWith : Option VrpError → List VrpValue → Stop → Type 0
-EndsWith end old (stop.Fault e) = (end ≡ Some e) × (count (set_of old) ≤ MOST_PAYLOADS)
-EndsWith end old stop.Crowded = MOST_PAYLOADS < count (set_of old)
-EndsWith end old stop.Memory = ⊥
+-- why gathered payloads are not answered where this fault came behind them: by the fault, or since they are too many
+abbrev pub EndsWith : VrpError → List VrpValue → Stop → Type 0
+EndsWith found old (stop.Fault e) = (e ≡ found) × (count (set_of old) ≤ MOST_PAYLOADS)
+EndsWith found old stop.Crowded = MOST_PAYLOADS < count (set_of old)
+EndsWith found old stop.Memory = ⊥
 
 -- all payloads of a file, in rising order
 pub record AreAll (vs : List VrpValue) (value : Result Payloads VrpError) : Type 0 where
@@ -69,12 +70,26 @@ pub record IsReading (reader : ByteReader) (bytes : List ℕ) (row : ℕ) : Type
   pub stands : Stands reader left
   pub counted : row ≡ length done + 2
 
--- the payloads of the rows that have been read have been gathered
-pub record IsGathering (reader : ByteReader) (bytes : List ℕ) (row : ℕ) (vs : List VrpValue) : Type 0 where
-  pub reading : IsReading reader bytes row
-  pub readable : list_all (λ r. is_ok (payload_of r)) reading.done ≡ true
-  pub members : (q : VrpValue) → stands_in vs q ≡ stands_in (payloads_of reading.done) q
+-- the payloads of a file's rows before these have been gathered, and the first of these has this number
+pub record HasGathered (bytes : List ℕ) (left : List Record) (row : ℕ) (vs : List VrpValue) : Type 0 where
+  pub done : List Record
+  pub rows : rows_of bytes ≡ done ++ left
+  pub counted : row ≡ length done + 2
+  pub readable : list_all (λ r. is_ok (payload_of r)) done ≡ true
+  pub members : (q : VrpValue) → stands_in vs q ≡ stands_in (payloads_of done) q
   pub sound : AllSound vs
+
+-- the payloads of the rows before those that the reader has still to read have been gathered
+pub record IsGathering (reader : ByteReader) (bytes : List ℕ) (row : ℕ) (vs : List VrpValue) : Type 0 where
+  pub left : List Record
+  pub gathered : HasGathered bytes left row vs
+  pub stands : Stands reader left
+
+-- the payloads of the rows before those of this text have been gathered, and the text begins with a line feed
+pub record IsAtLine (text : List ℕ) (bytes : List ℕ) (row : ℕ) (vs : List VrpValue) : Type 0 where
+  pub gathered : HasGathered bytes (records_left st.StartRecord text) row vs
+  pub behind : List ℕ
+  pub begins : text ≡ 10 ∷ behind
 
 -- the payload of a record of this number has been let in, where it is no fault
 abbrev pub Admits : ℕ → Result VrpValue VrpError → List VrpValue → List VrpValue → Type 0

@@ -6,5 +6,6 @@ pub mod Records
 pub mod Files
 pub mod Judging
 pub mod Standing
+pub mod Plain
 pub mod Gathering
 pub mod Laws

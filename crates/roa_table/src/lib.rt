@@ -14,6 +14,7 @@ mod errors;
 mod file;
 mod gather;
 mod laws;
+mod plain;
 mod record;
 mod row;
 mod rows;

@@ -39,7 +39,7 @@ fn judge_max(row: u64, asn: u32, prefix: Prefix, text: &[u8]) -> Result<Vrp, Vrp
 }
 
 /// The payload that three texts say, in a row of this number.
-fn judge_texts(row: u64, asn: &[u8], prefix: &[u8], max: &[u8]) -> Result<Vrp, VrpError>
+pub(crate) fn judge_texts(row: u64, asn: &[u8], prefix: &[u8], max: &[u8]) -> Result<Vrp, VrpError>
     ensures { result ≡ judged row (asn.now ∷ prefix.now ∷ max.now ∷ []) }
 {
     match read_vrp_asn(asn) {

@@ -1,4 +1,4 @@
-use Rattle.std.proofs.Common.{◌≡◌, ◌∙◌, ap, subst, arith, rules, length, ◌++◌, ◌∷◌, []}
+use Rattle.std.proofs.Common.{◌≡◌, ◌∙◌, ap, subst, sym, arith, rules, length, ◌++◌, ◌∷◌, []}
 use Rattle.std.specs.declared.vec.Vec.{Vec}
 use Rattle.std.specs.declared.alloc.Global.{Global}
 use Rattle.net_names.specs.Payloads.{VrpValue}
@@ -18,5 +18,5 @@ pub returns-clause-ok : goal.returns-clause-ok
 returns-clause-ok c =
     let same : (q : VrpValue) → stands_in c.if-len-ge-MANY.vrps.items q ≡ stands_in c.args.vrps.now.items q =
     elim c.if-len-ge-MANY.branch [ then-len-ge-MANY+else-len-gt-MOST_PAYLOADS w ↦ λ q. ap (λ (v : Vec VrpValue Global). stands_in v.items q) w.vrps-is ∙ w.tidy.ensures.members q | else-len-ge-MANY w ↦ λ q. ap (λ (v : Vec VrpValue Global). stands_in v.items q) w.vrps-is ] in
-    let new : c.push.new.self.items ≡ c.if-len-ge-MANY.vrps.items ++ (c.in_ok-vrp.vrp ∷ []) = search rules in
-    subst (λ r. Gathers r c.args.vrps.now.items c.push.new.self.items) c.in_ok-vrp.ensures (joins c.in_ok-vrp.vrp c.args.vrps.now.items c.if-len-ge-MANY.vrps.items c.push.new.self.items c.max.ensures.sound same new)
+    let new : c.push.new.self.items ≡ c.if-len-ge-MANY.vrps.items ++ (c.in-Ok.vrp ∷ []) = search rules in
+    subst (λ r. Gathers r c.args.vrps.now.items c.push.new.self.items) (sym c.in-Ok.is) (joins c.in-Ok.vrp c.args.vrps.now.items c.if-len-ge-MANY.vrps.items c.push.new.self.items c.max.ensures.sound same new)
