@@ -49,6 +49,25 @@ gains_single xs f spare limit y r s w one =
       lists = take_lists_at xs f spare limit y r s;
     }
 
+-- a cell can be put over a tail after one more hold of the tail
+pub follows_over : (xs : List Cell) (free spare limit t h : ℕ) → IsRegion xs free spare limit → IsLive xs t →
+    (n : ℕ) → n ≡ (cell_at xs t).count + 1 → (l : ℕ) → l ≡ (cell_at xs t).len + 1 → (z : ℕ) → z ≡ (cell_at xs t).last →
+    CanFollow (set xs t (record (cell_at xs t) { count = n })) (record { head = h; tail = t; len = l; count = 1; last = z })
+follows_over xs f spare limit t h r a n en l el z ez =
+    let some : 0 < n = omega (arith, en) in
+    let ylen : (cell_at (set xs t (record (cell_at xs t) { count = n })) t).len ≡ (cell_at xs t).len = (rehold_kind xs t n t a some).len in
+    let above1 = rehold_above xs t n t a some in
+    let long : 1 < l = omega (arith, el, (r.linked t (live_inside xs t a)).some) in
+    record {
+      held = refl;
+      some = omega (arith, el);
+      live = λ _. omega (arith, some, rehold_at xs t n a);
+      free_hold = λ _. omega (arith, above1, rehold_at xs t n a, en, r.counted t);
+      shorter = λ _. omega (arith, ylen, el);
+      single_last = λ one. absurd (omega (arith, one, long));
+      longer_last = λ _. ez ∙ sym (rehold_kind xs t n t a some).last;
+    }
+
 -- over a tail: the cell y on the free place, after one more hold of its tail
 pub gains_over : (xs : List Cell) (free spare limit t h : ℕ) → IsRegion xs free spare limit → 0 < spare → IsLive xs t →
     (n : ℕ) → n ≡ (cell_at xs t).count + 1 → (l : ℕ) → l ≡ (cell_at xs t).len + 1 → (z : ℕ) → z ≡ (cell_at xs t).last →
@@ -64,15 +83,7 @@ gains_over xs f spare limit t h r s a n en l el z ez =
     let above1 : (k : ℕ) → cells_above ys k ≡ cells_above xs k = λ k. rehold_above xs t n k a some in
     let region : IsRegion ys f spare limit = rehold_region xs f spare limit t n r a some (omega (arith, en, r.counted t)) in
     let long : 1 < l = omega (arith, el, (r.linked t inside).some) in
-    let w : CanFollow ys y = record {
-      held = refl;
-      some = omega (arith, el);
-      live = λ _. omega (arith, some, rehold_at xs t n a);
-      free_hold = λ _. omega (arith, above1 t, rehold_at xs t n a, en, r.counted t);
-      shorter = λ _. omega (arith, ylen, el);
-      single_last = λ one. absurd (omega (arith, one, long));
-      longer_last = λ _. ez ∙ sym (rehold_kind xs t n t a some).last;
-    } in
+    let w : CanFollow ys y = follows_over xs f spare limit t h r a n en l el z ez in
     let yin : f < length ys = region.first_inside s in
     let dead : (cell_at ys f).count ≡ 0 = region.first_dead s in
     let apart : t ≢ f = tail_apart ys f spare limit y region s w long in

@@ -5,3 +5,4 @@ pub mod ReleaseLemmas
 pub mod GrowLemmas
 pub mod Needed
 pub mod Counts
+pub mod PushLemmas

@@ -92,6 +92,7 @@ impl PathPool {
 
     /// A new path: `head`, and then the path `tail`, or nothing. It comes with one outside hold,
     /// and each other path and hold stays. Takes no memory.
+    #[inline(always)]
     pub fn cons(&mut self, head: Asn, tail: Option<PathId>) -> PathId
         requires spare { 0 < spare_of self.old }
         requires tail_live { ForSome tail (λ t. IsLive self.old t.0) }
@@ -101,10 +102,18 @@ impl PathPool {
         ensures spare { spare_of self.new + 1 ≡ spare_of self.old }
         ensures limit { limit_of self.new ≡ limit_of self.old }
     {
-        self.find_cell();
         match tail {
-            None => self.take_cell(head, 0, 1, head),
-            Some(t) => self.cons_over(head, t),
+            None => {
+                self.find_cell();
+                self.take_cell(head, 0, 1, head)
+            }
+            Some(t) => {
+                if self.dead == 0 {
+                    self.push_over(head, t)
+                } else {
+                    self.cons_over(head, t)
+                }
+            }
         }
     }
 
@@ -182,7 +191,51 @@ impl PathPool {
         self.dead - before
     }
 
-    // A new path over one that is there.
+    // A new path over one that is there, in a cell behind the others.
+    #[inline(always)]
+    fn push_over(&mut self, head: Asn, tail: PathId) -> PathId
+        requires room { 0 < self.old.room }
+        requires tail_live { IsLive self.old tail.0 }
+        requires tail_room { count_of self.old tail.0 < 4294967295 }
+        ensures made { GainsPath self.old self.new result.0 (head ∷ list_of self.old tail.0) }
+        ensures live { live_count self.new ≡ live_count self.old + 1 }
+        ensures spare { spare_of self.new + 1 ≡ spare_of self.old }
+        ensures limit { limit_of self.new ≡ limit_of self.old }
+    {
+        let cell = self.cells[tail.0 as usize];
+        self.set_count(tail, cell.count + 1);
+        self.push_cell(head, tail.0, cell.len + 1, cell.last)
+    }
+
+    // Puts the cell of a new path behind the others, where there is room for one.
+    #[inline(always)]
+    fn push_cell(&mut self, head: Asn, tail: u32, len: u32, last: Asn) -> PathId
+        requires room { 0 < self.old.room }
+        requires follows { CanFollow self.old.cells.items (first_cell head tail len last) }
+        ensures which { result.0 ≡ length self.old.cells.items }
+        ensures cells { self.new.cells.items ≡ self.old.cells.items ++ first_cell head tail len last ∷ [] }
+        ensures live { live_count self.new ≡ live_count self.old + 1 }
+        ensures dead { self.new.dead ≡ self.old.dead }
+        ensures room { self.new.room + 1 ≡ self.old.room }
+        ensures limit { limit_of self.new ≡ limit_of self.old }
+    {
+        let at = self.cells.len();
+        match self.cells.push(Cell {
+            head,
+            tail,
+            len,
+            count: 1,
+            last,
+        }) {
+            Ok(()) => {}
+            Err(_) => unreachable!(),
+        }
+        self.room -= 1;
+        PathId(at as u32)
+    }
+
+    // A new path over one that is there, in a cell that is free.
+    #[inline(never)]
     fn cons_over(&mut self, head: Asn, tail: PathId) -> PathId
         requires spare { 0 < self.old.dead }
         requires tail_live { IsLive self.old tail.0 }
@@ -198,6 +251,7 @@ impl PathPool {
     }
 
     // Writes how often a live cell is needed.
+    #[inline(always)]
     fn set_count(&mut self, id: PathId, count: u32)
         requires live { IsLive self.old id.0 }
         requires some { 0 < count }
