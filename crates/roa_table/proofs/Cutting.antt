@@ -1,6 +1,7 @@
 -- Chunks that are cut in two, and chunks that are filled one after the other.
-use Rattle.std.proofs.Common.{◌≡◌, ℕ, zero, suc, ◌+◌, ◌≤◌, ◌<◌, Bool, true, false, not, List, [], ◌∷◌, ◌++◌, length, take, drop, get_or, set, refl, sym, ap, subst, ◌∙◌, arith, add-one}
+use Rattle.std.proofs.Common.{◌≡◌, ℕ, zero, suc, ◌+◌, ◌≤◌, ◌<◌, Bool, true, false, not, List, [], ◌∷◌, ◌++◌, length, take, take-append-drop, drop, get_or, set, refl, sym, ap, subst, ◌∙◌, arith, add-one}
 use Rattle.std.specs.List.{insert, list_all, AllByRecursion}
+use Rattle.std.proofs.lemmas.List.{drop_more}
 use Rattle.std.specs.Cmp.{tied_itself}
 use Rattle.std.specs.Ordering.{is_lt}
 use Rattle.net_names.specs.Prefixes.{PrefixValue, prefix_cmp}
@@ -8,7 +9,7 @@ use Rattle.net_names.specs.Payloads.{VrpValue, vrp_cmp}
 use Rattle.net_names.specs.Orders.{prefix_total, exact_prefix, vrp_total, exact_vrp}
 use Rattle.roa_table.specs.declared.chunk.Chunk.{Chunk}
 use Rattle.roa_table.specs.Lists.{is_rising, IsRising, is_below, is_from, are_apart, IsPart}
-use Rattle.roa_table.specs.Chunks.{all_of, IsBefore, IsInOrder}
+use Rattle.roa_table.specs.Chunks.{all_of, IsBefore, IsInOrder, TakesLast}
 use Rattle.net_names.proofs.Shortening.{both, both_true}
 use Rattle.roa_table.proofs.Booleans.{not_true, not-false, list_all_mono, list_all_left, list_all_right, each_mono, each_both, each_append}
 use Rattle.roa_table.proofs.Rising.{lt_le, rising_left, rising_right, rising_take}
@@ -183,81 +184,69 @@ cut_at ss k s t u n order lt at parts =
       same = ap all_of new ∙ cut_same F s G a t u n parts ∙ ap all_of (sym whole);
     }
 
--- the chunk and its payloads are below payloads that are still to be put up
-pub record IsAheadOf (rest : List VrpValue) (s : Chunk) : Type 0 where
-  pub low : list_all (λ w. is_lt (prefix_cmp s.low w.prefix)) rest ≡ true
-  pub vrps : are_apart s.vrps.items rest ≡ true
+-- the chunk and its payloads are above payloads that are still to be put up
+pub record IsBehind (front : List VrpValue) (s : Chunk) : Type 0 where
+  pub below : list_all (is_below s.low) front ≡ true
+  pub from : list_all (is_from s.low) s.vrps.items ≡ true
 
--- both lists begin with one payload of that prefix
-record StartWith (xs ys : List VrpValue) (p : PrefixValue) : Type 0 where
-  first : VrpValue
-  more : List VrpValue
-  is : xs ≡ first ∷ more
-  cut : List VrpValue
-  front : ys ≡ first ∷ cut
-  at : first.prefix ≡ p
+-- a chunk put before others
+module _ (old new : List VrpValue) (t : Chunk) (G : List Chunk) (takes : TakesLast old new t) (rising : IsRising old) (order : IsInOrder G) (behind : AllByRecursion (IsBehind old) G) where
+  abbrev first : VrpValue
+  first = get_or old takes.at (record { prefix = t.low; max = 0; asn = 0 })
 
-start_with : (xs : List VrpValue) (k : ℕ) (p : PrefixValue) → 1 ≤ k → k ≤ length xs → ((d : VrpValue) → p ≡ (get_or xs 0 d).prefix) → StartWith xs (take k xs) p
-start_with xs zero p pos le l = absurd (omega (arith, pos))
-start_with [] (suc k) p pos le l = absurd (omega (arith, le))
-start_with (x ∷ xs) (suc k) p pos le l = record { first = x; more = xs; is = refl; cut = take k xs; front = refl; at = sym (l x) }
+  abbrev more : List VrpValue
+  more = drop (takes.at + 1) old
 
-take-append-drop : (n : ℕ) (xs : List VrpValue) → take n xs ++ drop n xs ≡ xs
-take-append-drop zero [] = refl
-take-append-drop zero (x ∷ xs) = refl
-take-append-drop (suc n) [] = refl
-take-append-drop (suc n) (x ∷ xs) = ap (λ l. x ∷ l) (take-append-drop n xs)
+  is_low : first.prefix ≡ t.low
+  is_low = sym (takes.low (record { prefix = t.low; max = 0; asn = 0 }))
 
-all_right : (p : VrpValue → Bool) (n : ℕ) (xs : List VrpValue) → list_all p xs ≡ true → list_all p (drop n xs) ≡ true
-all_right p n xs h = list_all_right p (take n xs) (drop n xs) (ap (list_all p) (take-append-drop n xs) ∙ h)
+  back_is : drop takes.at old ≡ first ∷ more
+  back_is = drop_more old takes.at (record { prefix = t.low; max = 0; asn = 0 }) takes.within
 
--- a chunk with the front of the payloads that are still to be put up
-module _ (F : List Chunk) (rest : List VrpValue) (n : ℕ) (t : Chunk) (rising : IsRising rest) (part : IsPart rest n) (items : t.vrps.items ≡ take n rest) (low : (d : VrpValue) → t.low ≡ (get_or rest 0 d).prefix) (order : IsInOrder F) (ahead : AllByRecursion (IsAheadOf rest) F) where
-  abbrev begun : StartWith rest (take n rest) t.low
-  begun = start_with rest n t.low part.some part.inside low
+  joined : take takes.at old ++ drop takes.at old ≡ old
+  joined = take-append-drop takes.at old
 
-  item_list : t.vrps.items ≡ begun.first ∷ begun.cut
-  item_list = items ∙ begun.front
+  both_rise : IsRising (take takes.at old ++ drop takes.at old)
+  both_rise = subst IsRising (sym joined) rising
 
-  own_rising : IsRising t.vrps.items
-  own_rising = ap (λ l. is_rising vrp_cmp l) items ∙ rising_take vrp_total exact_vrp n rest rising
+  back_rising : IsRising (drop takes.at old)
+  back_rising = rising_right vrp_cmp (take takes.at old) (drop takes.at old) both_rise
 
   own_from : list_all (is_from t.low) t.vrps.items ≡ true
-  own_from = ap (list_all (is_from t.low)) item_list ∙ ap (λ p. list_all (is_from p) (begun.first ∷ begun.cut)) (sym begun.at) ∙ head_low begun.first begun.cut (subst IsRising item_list own_rising)
+  own_from = ap (list_all (is_from t.low)) (takes.back ∙ back_is) ∙ ap (λ p. list_all (is_from p) (first ∷ more)) (sym is_low) ∙ head_low first more (subst IsRising back_is back_rising)
 
-  behind : (f : Chunk) → IsAheadOf rest f → IsBefore f t
-  behind f k = record {
-    low = ap (λ p. is_lt (prefix_cmp f.low p)) (sym begun.at) ∙ (both _ _ (ap (list_all (λ w. is_lt (prefix_cmp f.low w.prefix))) (sym begun.is) ∙ k.low)).left;
-    below = list_all_mono (λ v. list_all (λ w. is_below w.prefix v) rest) (is_below t.low) (λ v e. ap (λ p. is_below p v) (sym begun.at) ∙ (both _ _ (ap (list_all (λ w. is_below w.prefix v)) (sym begun.is) ∙ e)).left) f.vrps.items k.vrps;
-    from = own_from;
-  }
+  own_below : list_all (is_below t.low) new ≡ true
+  own_below = ap (list_all (is_below t.low)) takes.front
+      ∙ list_all_mono (λ v. list_all (λ w. is_below w.prefix v) (drop takes.at old)) (is_below t.low) (λ v e. ap (λ p. is_below p v) (sym is_low) ∙ (both _ _ (ap (list_all (λ w. is_below w.prefix v)) (sym back_is) ∙ e)).left) (take takes.at old) takes.apart
 
-  pub push_order : IsInOrder (F ++ (t ∷ []))
-  push_order = in_order F t [] (record { front = order; before = each_mono (IsAheadOf rest) (λ f. IsBefore f t) behind F ahead; across = each_mono (IsAheadOf rest) (λ f. Unit {0}) (λ f k. tt) F ahead; here = own_rising; after = tt; back = tt })
+  split : (p : VrpValue → Bool) → list_all p old ≡ true → list_all p (take takes.at old ++ drop takes.at old) ≡ true
+  split p h = ap (list_all p) joined ∙ h
 
-  pub push_ahead : AllByRecursion (IsAheadOf (drop n rest)) (F ++ (t ∷ []))
-  push_ahead = each_append (IsAheadOf (drop n rest)) F (t ∷ [])
-      (each_mono (IsAheadOf rest) (IsAheadOf (drop n rest))
-      (λ f k. record {
-        low = all_right (λ w. is_lt (prefix_cmp f.low w.prefix)) n rest k.low;
-        vrps = list_all_mono (λ v. list_all (λ w. is_below w.prefix v) rest) (λ v. list_all (λ w. is_below w.prefix v) (drop n rest)) (λ v e. all_right (λ w. is_below w.prefix v) n rest e) f.vrps.items k.vrps;
-      }) F ahead) (
-        record {
-          low = ap (λ p. list_all (λ w. is_lt (prefix_cmp p w.prefix)) (drop n rest)) (sym begun.at) ∙ (both _ _ (ap (λ l. are_apart l (drop n rest)) (sym begun.front) ∙ part.apart)).left;
-          vrps = ap (λ l. are_apart l (drop n rest)) items ∙ part.apart;
-        },
-        tt,
-      )
+  before : (u : Chunk) → IsBehind old u → IsBefore t u
+  before u k =
+      let below : list_all (is_below u.low) (drop takes.at old) ≡ true = list_all_right (is_below u.low) (take takes.at old) (drop takes.at old) (split (is_below u.low) k.below) in
+      record {
+        low = ap (λ p. is_lt (prefix_cmp p u.low)) (sym is_low) ∙ (both _ _ (ap (list_all (is_below u.low)) (sym back_is) ∙ below)).left;
+        below = ap (list_all (is_below u.low)) takes.back ∙ below;
+        from = k.from;
+      }
 
-  pub push_all : all_of (F ++ (t ∷ [])) ++ drop n rest ≡ all_of F ++ rest
-  push_all =
-      ap (λ l. l ++ drop n rest) (all_of-append F (t ∷ []) ∙ ap (λ l. all_of F ++ l) (append_none t.vrps.items ∙ items))
-      ∙ sym (assoc (all_of F) (take n rest) (drop n rest)) ∙ ap (λ l. all_of F ++ l) (take-append-drop n rest)
+  pub put_order : IsInOrder (t ∷ G)
+  put_order = (subst IsRising (sym takes.back) back_rising, each_mono (IsBehind old) (IsBefore t) before G behind, order)
+
+  pub put_behind : AllByRecursion (IsBehind new) (t ∷ G)
+  put_behind = (
+    record { below = own_below; from = own_from },
+    each_mono (IsBehind old) (IsBehind new)
+        (λ u k. record { below = ap (list_all (is_below u.low)) takes.front ∙ list_all_left (is_below u.low) (take takes.at old) (drop takes.at old) (split (is_below u.low) k.below); from = k.from }) G behind,
+  )
+
+  pub put_all : new ++ all_of (t ∷ G) ≡ old ++ all_of G
+  put_all = (λ i. takes.front i ++ (takes.back i ++ all_of G)) ∙ assoc (take takes.at old) (drop takes.at old) (all_of G) ∙ ap (λ l. l ++ all_of G) joined
     where
-      append_none : (xs : List VrpValue) → xs ++ [] ≡ xs
-      append_none [] = refl
-      append_none (x ∷ xs) = ap (λ l. x ∷ l) (append_none xs)
-
       assoc : (xs ys zs : List VrpValue) → xs ++ (ys ++ zs) ≡ (xs ++ ys) ++ zs
       assoc [] ys zs = refl
       assoc (x ∷ xs) ys zs = ap (λ l. x ∷ l) (assoc xs ys zs)
+
+  pub put_rising : IsRising new
+  put_rising = subst IsRising (sym takes.front) (rising_left vrp_cmp (take takes.at old) (drop takes.at old) both_rise)

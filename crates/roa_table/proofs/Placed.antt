@@ -131,8 +131,12 @@ none_apart [] = refl
 none_apart (v ∷ vs) = none_apart vs
 
 -- the end of a list parts its prefixes
-pub end_parts : (vs : List VrpValue) → 1 ≤ length vs → IsPart vs (length vs)
-end_parts vs h = record { inside = omega arith; some = h; apart = ap (are_apart (take (length vs) vs)) (drop-all vs) ∙ none_apart (take (length vs) vs) }
+pub parts_below : (q : PrefixValue) (vs : List VrpValue) (n : ℕ) → CutsAt (is_below q) vs n → are_apart (take n vs) (drop n vs) ≡ true
+parts_below q vs n c = apart_below q (take n vs) (drop n vs) c.front c.back
+
+pub nothing_before : (vs : List VrpValue) → are_apart (take 0 vs) (drop 0 vs) ≡ true
+nothing_before [] = refl
+nothing_before (v ∷ vs) = refl
 
 pub below_parts : (q : PrefixValue) (vs : List VrpValue) (n : ℕ) → CutsAt (is_below q) vs n → 1 ≤ n → IsPart vs n
 below_parts q vs n c h = record { inside = c.inside; some = h; apart = apart_below q (take n vs) (drop n vs) c.front c.back }

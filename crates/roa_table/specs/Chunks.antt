@@ -1,11 +1,11 @@
 -- All payloads in rising order, in chunks.
-use Rattle.std.specs.Prelude.{◌≡◌, ℕ, suc, ◌<◌, ◌≤◌, true, false, List, [], ◌∷◌, ◌++◌, length, drop, slice_index_or, ⊤}
+use Rattle.std.specs.Prelude.{◌≡◌, ℕ, suc, ◌<◌, ◌≤◌, true, false, List, [], ◌∷◌, ◌++◌, length, take, drop, get_or, slice_index_or, ⊤}
 use Rattle.std.specs.List.{list_all, AllByRecursion}
 use Rattle.std.specs.Ordering.{is_lt}
 use Rattle.net_names.specs.Prefixes.{PrefixValue, prefix_cmp}
 use Rattle.net_names.specs.Payloads.{VrpValue}
 use Rattle.roa_table.specs.Sets.{IsSound}
-use Rattle.roa_table.specs.Lists.{IsRising, is_below, is_from, stands_in}
+use Rattle.roa_table.specs.Lists.{IsRising, is_below, is_from, are_apart, stands_in}
 use Rattle.roa_table.specs.declared.chunk.Chunk.{Chunk}
 use Rattle.roa_table.specs.declared.table.TheConstants.{MOST_PAYLOADS}
 
@@ -37,3 +37,12 @@ pub record IsTable (ss : List Chunk) (n : ℕ) : Type 0 where
   pub sound : (v : VrpValue) → stands_in (all_of ss) v ≡ true → IsSound v
   pub counted : n ≡ length (all_of ss)
   pub bound : n ≤ MOST_PAYLOADS
+
+-- the payloads from a place between two prefixes on have become this chunk
+pub record TakesLast (old new : List VrpValue) (t : Chunk) : Type 0 where
+  pub at : ℕ
+  pub within : at < length old
+  pub apart : are_apart (take at old) (drop at old) ≡ true
+  pub front : new ≡ take at old
+  pub back : t.vrps.items ≡ drop at old
+  pub low : (d : VrpValue) → t.low ≡ (get_or old at d).prefix

@@ -2,10 +2,10 @@
 ghost use Rattle.std.specs.Prelude.{◌≡◌, ◌<◌, ◌∷◌, [], length, take as take_front, drop as drop_front, OnOk, OnErr, IfOk};
 ghost use Rattle.roa_table.specs.Lists.{IsRising, row_in, stands_in};
 ghost use Rattle.roa_table.specs.Sets.{added, taken, set_of};
-ghost use Rattle.roa_table.specs.Chunks.{all_of, IsInOrder, IsHome};
+ghost use Rattle.roa_table.specs.Chunks.{all_of, IsInOrder, IsHome, TakesLast};
 
 use crate::chunk::Chunk;
-use crate::row::{middle, part_after, row};
+use crate::row::{middle, part_before, row};
 use net_names::{Prefix, Vrp};
 use std::alloc::{AllocError, Global};
 
@@ -14,6 +14,9 @@ const MANY: usize = 1024;
 
 /// At least so many payloads go into a chunk at first, unless there are fewer.
 const FEW: usize = 512;
+
+/// The room of so many payloads is given back.
+const MUCH: usize = 65_536;
 
 /// The chunk in which payloads of this prefix stand.
 fn home(chunks: &[Chunk], prefix: Prefix) -> usize
@@ -167,21 +170,44 @@ pub(crate) fn take(chunks: &mut Vec<Chunk>, vrp: Vrp) -> bool
     found
 }
 
-/// Chunks with these payloads.
-pub(crate) fn chunked(alloc: Global, vrps: &[Vrp]) -> Result<Vec<Chunk>, AllocError>
-    requires { IsRising vrps.now }
-    ensures order { IfOk result (λ ss. IsInOrder ss.items) }
-    ensures all { IfOk result (λ ss. all_of ss.items ≡ vrps.now) }
+/// Gives back what room the payloads leave, where it is much.
+fn give_back(vrps: &mut Vec<Vrp>)
+    ensures { vrps.new.items ≡ vrps.old.items }
 {
-    let mut chunks = Vec::new(alloc);
-    let mut rest = vrps;
-    'rest: while !rest.is_empty() {
-        let n = part_after(rest, FEW);
-        chunks.push(Chunk {
-            low: rest[0].prefix(),
-            vrps: Vec::from_slice(alloc, &rest[..n])?,
-        })?;
-        rest = &rest[n..];
+    if vrps.capacity() - vrps.len() >= MUCH {
+        vrps.shrink_to_fit();
     }
+}
+
+/// Takes the last payloads into a chunk of their own.
+fn take_last(alloc: Global, vrps: &mut Vec<Vrp>) -> Result<Chunk, AllocError>
+    requires rising { IsRising vrps.old.items }
+    requires some { 0 < length vrps.old.items }
+    ensures { IfOk result (λ chunk. TakesLast vrps.old.items vrps.new.items chunk) }
+{
+    let at = part_before(vrps.as_slice(), FEW);
+    let last = &vrps.as_slice()[at..];
+    let chunk = Chunk {
+        low: last[0].prefix(),
+        vrps: Vec::from_slice(alloc, last)?,
+    };
+    vrps.truncate(at);
+    give_back(vrps);
+    Ok(chunk)
+}
+
+/// Chunks with these payloads.
+pub(crate) fn chunked(alloc: Global, mut vrps: Vec<Vrp>) -> Result<Vec<Chunk>, AllocError>
+    requires { IsRising vrps.items }
+    ensures order { IfOk result (λ ss. IsInOrder ss.items) }
+    ensures all { IfOk result (λ ss. all_of ss.items ≡ vrps.items) }
+{
+    // The last ones are put up first, so that the room of those put up is given back on the way.
+    let mut chunks = Vec::new(alloc);
+    'rest: while !vrps.is_empty() {
+        let chunk = take_last(alloc, &mut vrps)?;
+        chunks.push(chunk)?;
+    }
+    chunks.reverse();
     Ok(chunks)
 }

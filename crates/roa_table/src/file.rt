@@ -18,7 +18,7 @@ pub fn read(alloc: Global, bytes: &[u8]) -> Result<Vrps, VrpError>
     ensures { Gives result (payloads_in bytes.now) }
 {
     match gather(alloc, bytes) {
-        Ok(vrps) => Ok(Vrps::from_sorted(alloc, vrps.as_slice())?),
+        Ok(vrps) => Ok(Vrps::from_sorted(alloc, vrps)?),
         Err(Stop::Memory) => Err(VrpError::Memory),
         Err(Stop::Crowded) => Err(first_fault(alloc, bytes)),
         Err(Stop::Fault(e)) => Err(e),

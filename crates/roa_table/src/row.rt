@@ -1,6 +1,6 @@
 //! Payloads in rising order: the payloads of one prefix, and the places between prefixes.
-ghost use Rattle.std.specs.Prelude.{◌≡◌, ◌<◌, length};
-ghost use Rattle.roa_table.specs.Lists.{IsRising, is_below as is_below_of, is_to as is_to_of, row_in, CutsAt, IsPart};
+ghost use Rattle.std.specs.Prelude.{◌≡◌, ◌<◌, true, length, take, drop};
+ghost use Rattle.roa_table.specs.Lists.{IsRising, is_below as is_below_of, is_to as is_to_of, row_in, are_apart, CutsAt, IsPart};
 
 use net_names::{Prefix, Vrp};
 
@@ -50,17 +50,19 @@ pub(crate) fn row(vrps: &[Vrp], prefix: Prefix) -> &[Vrp]
     &rest[..count_to(rest, prefix)]
 }
 
-/// A place between two prefixes, or the end: the first one where at least so many payloads stand before it.
-pub(crate) fn part_after(vrps: &[Vrp], few: usize) -> usize
+/// A place between two prefixes, or the start: the last one where at least so many payloads stand behind it.
+pub(crate) fn part_before(vrps: &[Vrp], few: usize) -> usize
     requires rising { IsRising vrps.now }
     requires some { 0 < length vrps.now }
     requires few { 0 < few }
-    ensures { IsPart vrps.now result }
+    ensures within { result < length vrps.now }
+    ensures apart { are_apart (take result vrps.now) (drop result vrps.now) ≡ true }
 {
     if vrps.len() <= few {
-        return vrps.len();
+        return 0;
     }
-    count_to(vrps, vrps[few - 1].prefix())
+    let at = count_below(vrps, vrps[vrps.len() - few].prefix());
+    if at < vrps.len() { at } else { 0 }
 }
 
 /// A place between two prefixes near the middle, or the end where there is one prefix alone.

@@ -51,17 +51,15 @@ impl Vrps {
     }
 
     /// The set of payloads that stand in rising order.
-    pub(crate) fn from_sorted(alloc: Global, vrps: &[Vrp]) -> Result<Vrps, AllocError>
-        requires rising { IsRising vrps.now }
-        requires few { length vrps.now ≤ MOST_PAYLOADS }
-        requires sound { AllSound vrps.now }
-        ensures { IfOk result (λ s. s ≡ set_of vrps.now) }
+    pub(crate) fn from_sorted(alloc: Global, vrps: Vec<Vrp>) -> Result<Vrps, AllocError>
+        requires rising { IsRising vrps.items }
+        requires few { length vrps.items ≤ MOST_PAYLOADS }
+        requires sound { AllSound vrps.items }
+        ensures { IfOk result (λ s. s ≡ set_of vrps.items) }
     {
+        let count = vrps.len();
         let chunks = chunked(alloc, vrps)?;
-        Ok(Vrps {
-            chunks,
-            count: vrps.len(),
-        })
+        Ok(Vrps { chunks, count })
     }
 
     /// How many payloads there are, at most 2,000,000.
