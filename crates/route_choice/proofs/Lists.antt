@@ -11,10 +11,11 @@ use Rattle.route_choice.specs.declared.held.SeedHeld.{SeedHeld}
 use Rattle.route_choice.specs.Slots.{Slots, entry_at, over, use_of, uses_of}
 use Rattle.route_choice.specs.Holds.{GivesBack}
 use Rattle.route_choice.specs.Routings.{entry_of, seed_of, routing_of}
-use Rattle.route_choice.specs.Tables.{held_at, change_at, joined}
-use Rattle.route_choice.specs.Resources.{AreHeld, AreLive, Spends}
+use Rattle.route_choice.specs.Tables.{held_at, change_at, joined, seed_at}
+use Rattle.route_choice.specs.Resources.{AreHeld, AreLive, AreSeedsLive, Spends, GivesUpNothing, Keeps}
 use Rattle.route_choice.specs.declared.table.Table.{Table}
 use Rattle.route_choice.specs.declared.overlay.Overlay.{Overlay}
+use Rattle.route_choice.specs.declared.seeds.SeedIds.{SeedIds}
 use Rattle.route_choice.proofs.Uses.{use_of-le, use_of-itself}
 
 -- a path that is held is live
@@ -74,3 +75,31 @@ one_use p h k held = elim (cases_eq h.path.0 k) [
   | inl same ↦ subst (λ i. use_of i (Some h) ≤ holds_of p i) same (omega (arith, held, use_of-itself h))
   | inr apart ↦ (let none : use_of k (Some h) ≡ 0 = ap {B = ℕ} (λ b. cond b 1 0) (ne_eqb h.path.0 k apart) in omega (arith, none))
 ]
+
+-- seeds are as before where their paths are
+pub seeds_same : (p q : PathPool) (o : Option SeedHeld) → ((s : SeedHeld) → o ≡ Some s → list_of q s.path.0 ≡ list_of p s.path.0) → option_map (seed_of q) o ≡ option_map (seed_of p) o
+seeds_same p q None same = refl
+seeds_same p q (Some s) same =
+    let with : List ℕ → Seed = λ l. record { path = l; otc = s.otc } in
+    ap Some (ap with (same s refl))
+
+-- who holds nothing has no entry among the changes
+pub none_among : (p : PathPool) (x : Option (Option Held)) (below : Option Held) → option_map (entry_of p) (over x below) ≡ None → unwrap_or x None ≡ None
+none_among p None below none = refl
+none_among p (Some None) below none = refl
+none_among p (Some (Some h)) below none = cc
+
+-- a change that gives nothing up keeps all that was live
+pub keeps_entry : (p q : PathPool) (s : SeedIds) (t : Table) (o o' : Overlay) (a : ℕ) → AreSeedsLive p s →
+    ((k : ℕ) → IsLive p k → IsLive q k → list_of q k ≡ list_of p k) → (unwrap_or (change_at o a) None ≡ None → (k : ℕ) → IsLive p k → IsLive q k) →
+    routing_of q t o' a ≢ routing_of p t o a → GivesUpNothing o (routing_of p t o) (routing_of q t o') a → Keeps p q s
+keeps_entry p q s t o o' a seeds lists kept changed up =
+    let none : unwrap_or (change_at o a) None ≡ None = elim up [
+      | inl absent ↦ ap (λ (x : Option (Option Held)). unwrap_or x None) absent
+      | inr held ↦ elim held [ inl nothing ↦ none_among p (change_at o a) (held_at t a) nothing | inr same ↦ absurd (changed same) ]
+    ] in
+    record {
+      live = kept none;
+      lists = λ k l. lists k l (kept none k l);
+      same_seeds = λ b. seeds_same p q (seed_at s b) (λ x e. lists x.path.0 (seeds b x e) (kept none x.path.0 (seeds b x e)));
+    }

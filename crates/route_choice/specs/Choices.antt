@@ -4,6 +4,7 @@ use Rattle.net_names.specs.declared.routes.State.{State}
 use Rattle.net_names.specs.declared.routes.State.TheVariants.{NotFound}
 use Rattle.net_names.specs.declared.routes.Rel.{Rel}
 use Rattle.net_names.specs.declared.routes.Rel.TheVariants.{Customer, Peer, Provider}
+use Rattle.policy_laws.specs.declared.policy.View.{View}
 use Rattle.policy_laws.specs.Policy.{Policy}
 use Rattle.stability_laws.specs.declared.entry.Entry.{Entry}
 use Rattle.stability_laws.specs.declared.entry.Seed.{Seed}
@@ -12,6 +13,7 @@ use Rattle.stability_laws.specs.Offers.{Setting, Offer, offer, passed_on}
 use Rattle.stability_laws.specs.Stable.{IsBest}
 use Rattle.stability_laws.specs.Laws.{customer_offer}
 use Rattle.stability_laws.specs.Steps.{IsStep}
+use Rattle.route_choice.specs.declared.held.Held.{Held}
 use Rattle.route_choice.specs.declared.choice.Part.{Part}
 use Rattle.route_choice.specs.declared.choice.Part.TheVariants.{Up, Whole}
 use Rattle.route_choice.specs.declared.choice.Choice.{Choice}
@@ -34,6 +36,17 @@ abbrev pub IsChoice : Policy → Option Seed → (ℕ → Option Offer) → Choi
 IsChoice p seed offers choice.Nothing = (seed ≡ None) × ((n : ℕ) → offers n ≡ None)
 IsChoice p seed offers choice.Seed = (s : Seed) × (seed ≡ Some s)
 IsChoice p seed offers (choice.Via n r) = (seed ≡ None) × ((o : Offer) × IsBest p offers n o × (o.view.rel ≡ r))
+
+-- the view's neighbour holds this
+abbrev pub IsGiven : (ℕ → Option Held) → Option View → Option Held → Type 0
+IsGiven f None given = Unit {0}
+IsGiven f (Some v) given = given ≡ f v.neighbour
+
+-- the neighbour whose offer is chosen holds this
+abbrev pub IsChosenGiven : (ℕ → Option Held) → Choice → Option Held → Type 0
+IsChosenGiven f choice.Nothing given = Unit {0}
+IsChosenGiven f choice.Seed given = Unit {0}
+IsChosenGiven f (choice.Via n r) given = given ≡ f n
 
 -- the entry that a choice names where the ASes hold f: the seed's, or the neighbour's as it is passed on
 abbrev pub named_by : (ℕ → Policy) → Option Seed → (ℕ → Option Entry) → ℕ → Choice → Option Entry

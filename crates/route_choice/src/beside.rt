@@ -12,6 +12,14 @@ use indexmap::IndexMap;
 use net_names::{Asn, NoMemory};
 use std::alloc::Global;
 
+// What stands at an AS, by its hash.
+#[inline(never)]
+fn look_up(slots: &IndexMap<Asn, Option<Held>>, asn: Asn) -> Option<Option<Held>>
+    ensures { result ≡ get nat_eq slots.now asn }
+{
+    slots.get(&asn).copied()
+}
+
 // Puts an entry, or none, at an AS. Returns what stood there.
 fn exchange_in(
     slots: &mut IndexMap<Asn, Option<Held>>,
@@ -140,7 +148,7 @@ impl Beside {
         if first.asn == asn {
             return Some(first.entry);
         }
-        self.others.get(&asn).copied()
+        look_up(&self.others, asn)
     }
 
     /// Where the AS that came first may stand in a table. It is a hint.
@@ -153,6 +161,7 @@ impl Beside {
 
     /// Puts an entry, or none, at an AS, which may stand at that place in a table. Returns what stood
     /// there.
+    #[inline(never)]
     pub fn exchange(&mut self, asn: Asn, near: usize, entry: Option<Held>) -> Option<Held>
         requires { IsSome (lookup (nat_eq asn) (beside_entries self.old)) ⊎ (0 < beside_spare self.old) }
         ensures old { result ≡ unwrap_or (lookup (nat_eq asn) (beside_entries self.old)) None }

@@ -1,6 +1,6 @@
 //! The best of the offers that an AS gets, found by one pass over its neighbours.
 
-ghost use Rattle.std.specs.Prelude.{◌≡◌, ℕ, ◌<◌, true, false, None, Some, option_map, if◌then◌else◌};
+ghost use Rattle.std.specs.Prelude.{◌≡◌, ℕ, ◌<◌, true, false, Option, None, Some, IfSome, option_map, if◌then◌else◌};
 ghost use Rattle.as_graph.specs.Topology.{relation};
 ghost use Rattle.net_names.specs.Numbers.{occurs, last_or};
 ghost use Rattle.net_names.specs.Links.{converse};
@@ -9,9 +9,10 @@ ghost use Rattle.stability_laws.specs.Book.{policy_at};
 ghost use Rattle.stability_laws.specs.Offers.{offer_given};
 ghost use Rattle.stability_laws.specs.BestView.{IsBestView, better_of};
 ghost use Rattle.stability_laws.specs.World.{setting};
-ghost use Rattle.route_choice.specs.Tables.{prefix_of};
+ghost use Rattle.route_choice.specs.declared.held.Held.{Held as AHeld};
+ghost use Rattle.route_choice.specs.Tables.{joined, prefix_of};
 ghost use Rattle.route_choice.specs.Routings.{entry_of, routing_of};
-ghost use Rattle.route_choice.specs.Choices.{is_looked_at, offers_of, state_seen};
+ghost use Rattle.route_choice.specs.Choices.{is_looked_at, offers_of, state_seen, IsGiven};
 ghost use Rattle.route_choice.specs.PrefixWorlds.{AreGiversAt, HasNoLoopsAt};
 ghost use Rattle.route_choice.specs.Resources.{AreLive};
 
@@ -51,11 +52,12 @@ fn state_of<P, V: OriginStates>(
     }
 }
 
-/// The best view so far, if there is one, and the place where its neighbour was last found, which is a
-/// hint.
+/// The best view so far, if there is one, what its neighbour holds, and the place where the neighbour was last
+/// found, which is a hint.
 #[derive(Drop)]
 pub(crate) struct Best {
     pub(crate) view: Option<View>,
+    pub(crate) given: Option<Held>,
     pub(crate) place: usize,
 }
 
@@ -92,11 +94,12 @@ fn view_of<P: RoutePolicy, V: OriginStates>(
     requires live { IsLive pool.now given.now.held.path.0 }
     requires exported { (P.meaning given.now.sender.now).exports given.now.held.class given.now.held.otc
         (converse given.now.neighbour.now.rel) ≡ true }
-    ensures { (a : ℕ) → option_map (λ o. o.view)
+    ensures view { (a : ℕ) → option_map (λ o. o.view)
         (offer_given (P.meaning given.now.sender.now) (P.meaning chooser.now.own.now)
         (state_seen chooser.now.reads (V.state_of at.now.states.now (prefix_of at.now.table.now)))
         given.now.neighbour.now.asn a (Some given.now.neighbour.now.rel) (Some (entry_of pool.now given.now.held)))
         ≡ (if occurs a (list_of pool.now given.now.held.path.0) then None else result) }
+    ensures neighbour { IfSome result (λ v. v.neighbour ≡ given.now.neighbour.now.asn) }
 {
     let Neighbour { asn, rel } = *given.neighbour;
     let held = given.held;
@@ -124,6 +127,7 @@ fn goes_through<P>(chooser: &Chooser<'_, P>, pool: &PathPool, path: PathId) -> b
 }
 
 // Whether a view comes before the best one so far and its path is not through the AS.
+#[inline(always)]
 fn is_better<P: RoutePolicy>(
     chooser: &Chooser<'_, P>,
     pool: &PathPool,
@@ -159,15 +163,18 @@ fn weigh<P: RoutePolicy, V: OriginStates>(
         occurs chooser.now.asn (list_of pool.now given.now.held.path.0) ≡ false }
     requires exported { (P.meaning given.now.sender.now).exports given.now.held.class given.now.held.otc
         (converse given.now.neighbour.now.rel) ≡ true }
-    ensures { best.new.view ≡ better_of (P.meaning chooser.now.own.now) best.old.view
+    ensures view { best.new.view ≡ better_of (P.meaning chooser.now.own.now) best.old.view
         (option_map (λ o. o.view) (offer_given (P.meaning given.now.sender.now) (P.meaning chooser.now.own.now)
         (state_seen chooser.now.reads (V.state_of at.now.states.now (prefix_of at.now.table.now)))
         given.now.neighbour.now.asn chooser.now.asn (Some given.now.neighbour.now.rel)
         (Some (entry_of pool.now given.now.held)))) }
+    ensures given { (f : ℕ → Option AHeld) → f given.now.neighbour.now.asn ≡ Some given.now.held →
+        IsGiven f best.old.view best.old.given → IsGiven f best.new.view best.new.given }
 {
     if let Some(view) = view_of(at, chooser, pool, given) {
         if is_better(chooser, pool, &best.view, &view, given.held.path) {
             best.view = Some(view);
+            best.given = Some(given.held);
             best.place = given.place;
         }
     }
@@ -190,11 +197,13 @@ fn look_at<P: RoutePolicy, V: OriginStates>(
     requires no_loops { chooser.now.may_loop ≡ false →
         HasNoLoopsAt P.meaning at.now pool.now overlay.now chooser.now.part chooser.now.asn }
     requires own { chooser.now.own.now ≡ policy_at at.now.book.now chooser.now.asn }
-    ensures { best.new.view ≡ better_of (P.meaning (policy_at at.now.book.now chooser.now.asn)) best.old.view
+    ensures view { best.new.view ≡ better_of (P.meaning (policy_at at.now.book.now chooser.now.asn)) best.old.view
         (option_map (λ o. o.view) (offers_of chooser.now.part
         (setting P.meaning at.now.graph.now at.now.book.now
         (state_seen chooser.now.reads (V.state_of at.now.states.now (prefix_of at.now.table.now))))
         (routing_of pool.now at.now.table.now overlay.now) chooser.now.asn neighbour.now.asn)) }
+    ensures given { IsGiven (joined at.now.table.now overlay.now) best.old.view best.old.given →
+        IsGiven (joined at.now.table.now overlay.now) best.new.view best.new.given }
 {
     if !looks_at(chooser.part, neighbour.rel) {
         return;
@@ -218,6 +227,7 @@ fn look_at<P: RoutePolicy, V: OriginStates>(
 /// The view of the best offer of the part, if there is an offer, where all that make one are among these
 /// neighbours. The places, in the order of the neighbours, are hints. Where `reads` is not set, no state is
 /// asked for.
+#[inline(always)]
 pub(crate) fn best_view<P: RoutePolicy, V: OriginStates>(
     at: &PrefixWorld<'_, P, V>,
     reads: bool,
@@ -231,10 +241,11 @@ pub(crate) fn best_view<P: RoutePolicy, V: OriginStates>(
     requires live { AreLive pool.now at.now.table.now overlay.now }
     requires no_loops { turn.may_loop ≡ false →
         HasNoLoopsAt P.meaning at.now pool.now overlay.now turn.part turn.asn }
-    ensures { IsBestView (P.meaning (policy_at at.now.book.now turn.asn))
+    ensures best { IsBestView (P.meaning (policy_at at.now.book.now turn.asn))
         (λ n. offers_of turn.part (setting P.meaning at.now.graph.now at.now.book.now
         (state_seen reads (V.state_of at.now.states.now (prefix_of at.now.table.now))))
         (routing_of pool.now at.now.table.now overlay.now) turn.asn n) result.view }
+    ensures given { IsGiven (joined at.now.table.now overlay.now) result.view result.given }
 {
     let chooser = Chooser {
         asn: turn.asn,
@@ -245,6 +256,7 @@ pub(crate) fn best_view<P: RoutePolicy, V: OriginStates>(
     };
     let mut best = Best {
         view: None,
+        given: None,
         place: 0,
     };
     for (index, neighbour) in neighbours.iter().enumerate() {

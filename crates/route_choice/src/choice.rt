@@ -1,5 +1,6 @@
 //! What an AS chooses, and among which offers.
 
+use crate::Held;
 use net_names::{Asn, Rel};
 
 /// Which offers a step looks at.
@@ -34,4 +35,11 @@ pub struct ChoiceNear {
     pub choice: Choice,
     /// The place.
     pub place: usize,
+}
+
+/// A choice, and what the AS whose offer it names holds.
+#[derive(Clone, Copy)]
+pub(crate) struct Chosen {
+    pub(crate) near: ChoiceNear,
+    pub(crate) given: Option<Held>,
 }

@@ -1,7 +1,7 @@
 //! What ASes hold, sought first where they may stand.
 
 ghost use Rattle.std.specs.Prelude.{◌≡◌};
-ghost use Rattle.route_choice.specs.Tables.{joined};
+ghost use Rattle.route_choice.specs.Tables.{held_at, joined};
 
 use crate::{Held, Overlay, Table};
 use net_names::Asn;
@@ -13,8 +13,16 @@ pub(crate) fn held_near(table: &Table, overlay: &Overlay, asn: Asn, place: usize
 {
     match overlay.slot_near(asn, place) {
         Some(change) => change,
-        None => table.held_near(asn, place),
+        None => held_below(table, asn, place),
     }
+}
+
+// What an AS holds in a table, sought first at a place.
+#[inline(never)]
+fn held_below(table: &Table, asn: Asn, place: usize) -> Option<Held>
+    ensures { result ≡ held_at table.now asn }
+{
+    table.held_near(asn, place)
 }
 
 /// The place at an index, or the first one where there is none.

@@ -4,15 +4,18 @@ ghost use Rattle.std.specs.Prelude.{◌≡◌, ◌≢◌, ◌↔◌, ℕ, ◌<�
 ghost use Rattle.route_choice.specs.declared.held.Held.{Held as AHeld};
 ghost use Rattle.path_pool.specs.declared.pool.PathPool.{PathPool as APool};
 ghost use Rattle.path_pool.specs.Pool.{IsLive, list_of, holds_of, count_of, live_count, spare_of};
-ghost use Rattle.route_choice.specs.Tables.{change_at, overlay_uses, HasPlace};
+ghost use Rattle.route_choice.specs.declared.overlay.Overlay.{Overlay as AnOverlay};
+ghost use Rattle.route_choice.specs.Choices.{IsChosenGiven};
+ghost use Rattle.route_choice.specs.Tables.{change_at, joined, overlay_uses, HasPlace};
 ghost use Rattle.route_choice.specs.Routings.{entry_of, routing_of};
 ghost use Rattle.route_choice.specs.PrefixWorlds.{named_at};
 ghost use Rattle.route_choice.specs.Named.{wanted_entry, IsWantedLive, IsLonger, Takes};
 ghost use Rattle.route_choice.specs.Resources.{AreLive, AreSeedsLive, CanChange, IsNameable, IsVia, Spends, GivesUpNothing, Keeps};
 
+use crate::choice::Chosen;
 use crate::looks::held_near;
 use crate::slots::let_go;
-use crate::{Choice, ChoiceNear, Held, Overlay, PrefixWorld};
+use crate::{Choice, ChoiceNear, Held, Overlay, PrefixWorld, Table};
 use net_names::{Asn, Class};
 use path_pool::{PathId, PathPool, paths_are_not_empty};
 use policy_laws::RoutePolicy;
@@ -29,21 +32,26 @@ pub(crate) enum Wanted {
     Longer(Held),
 }
 
-// The entry that the choice of an AS names. The places where the AS and the neighbour may stand are hints.
+// The entry that the choice of an AS names. The place where the AS may stand is a hint.
+#[inline(always)]
 fn wanted_by<P: RoutePolicy, V>(
     at: &PrefixWorld<'_, P, V>,
-    overlay: &Overlay,
     asn: Asn,
     place: usize,
-    choice: Choice,
-    from: usize,
+    chosen: Chosen,
 ) -> Wanted
-    ensures entry { (p : APool) → wanted_entry p asn result
-        ≡ named_at P.meaning at.now p overlay.now asn choice }
-    ensures live { (p : APool) → AreLive p at.now.table.now overlay.now → AreSeedsLive p at.now.seeds.now →
-        IsWantedLive p result }
-    ensures via { IsLonger result → IsVia choice }
+    ensures entry { (p : APool) (o : AnOverlay) →
+        IsChosenGiven (joined at.now.table.now o) chosen.near.choice chosen.given →
+        wanted_entry p asn result ≡ named_at P.meaning at.now p o asn chosen.near.choice }
+    ensures live { (p : APool) (o : AnOverlay) →
+        IsChosenGiven (joined at.now.table.now o) chosen.near.choice chosen.given → AreLive p at.now.table.now o →
+        AreSeedsLive p at.now.seeds.now → IsWantedLive p result }
+    ensures via { IsLonger result → IsVia chosen.near.choice }
 {
+    let ChoiceNear {
+        choice,
+        place: from,
+    } = chosen.near;
     match choice {
         Choice::Nothing => Wanted::Nothing,
         Choice::Seed => match at.seeds.get(asn) {
@@ -54,7 +62,7 @@ fn wanted_by<P: RoutePolicy, V>(
             }),
             None => Wanted::Nothing,
         },
-        Choice::Via { neighbour, rel } => match held_near(at.table, overlay, neighbour, from) {
+        Choice::Via { neighbour, rel } => match chosen.given {
             Some(given) => {
                 let sender = at.book.policy_near(neighbour, from);
                 let receiver = at.book.policy_near(asn, place);
@@ -70,6 +78,7 @@ fn wanted_by<P: RoutePolicy, V>(
 }
 
 // Whether two paths have the same ASes.
+#[inline(never)]
 fn same_path(pool: &PathPool, a: PathId, b: PathId) -> bool
     requires first { IsLive pool.now a.0 }
     requires second { IsLive pool.now b.0 }
@@ -95,6 +104,7 @@ fn same_path(pool: &PathPool, a: PathId, b: PathId) -> bool
 }
 
 // Whether a path is the AS and then the other path.
+#[inline(never)]
 fn is_longer(pool: &PathPool, path: PathId, asn: Asn, rest: PathId) -> bool
     requires first { IsLive pool.now path.0 }
     requires second { IsLive pool.now rest.0 }
@@ -118,6 +128,7 @@ fn same_kind(a: &Held, b: &Held) -> bool
 }
 
 // Whether the wanted entry is held.
+#[inline(always)]
 fn is_held(pool: &PathPool, asn: Asn, have: &Option<Held>, wanted: &Wanted) -> bool
     requires have { (h : AHeld) → have.now ≡ Some h → IsLive pool.now h.path.0 }
     requires wanted { IsWantedLive pool.now wanted.now }
@@ -132,6 +143,7 @@ fn is_held(pool: &PathPool, asn: Asn, have: &Option<Held>, wanted: &Wanted) -> b
 }
 
 // Makes the wanted entry, with a hold of its path.
+#[inline(always)]
 fn made(pool: &mut PathPool, asn: Asn, wanted: Wanted) -> Option<Held>
     requires live { IsWantedLive pool.old wanted }
     requires spare { 0 < spare_of pool.old }
@@ -155,6 +167,7 @@ fn made(pool: &mut PathPool, asn: Asn, wanted: Wanted) -> Option<Held>
 }
 
 // Puts the wanted entry in place, and gives back the hold of a change that was there.
+#[inline(always)]
 fn replace(pool: &mut PathPool, overlay: &mut Overlay, asn: Asn, place: usize, wanted: Wanted)
     requires live { IsWantedLive pool.old wanted }
     requires spare { 0 < spare_of pool.old }
@@ -170,6 +183,54 @@ fn replace(pool: &mut PathPool, overlay: &mut Overlay, asn: Asn, place: usize, w
     let new = made(pool, asn, wanted);
     let old = overlay.exchange_near(asn, place, new);
     let_go(pool, old);
+}
+
+/// Puts the entry that a choice names, as [`settle_near`] does, where it is known what the neighbour holds.
+#[inline(always)]
+pub(crate) fn settle_chosen<P: RoutePolicy, V>(
+    at: &PrefixWorld<'_, P, V>,
+    pool: &mut PathPool,
+    overlay: &mut Overlay,
+    asn: Asn,
+    place: usize,
+    chosen: Chosen,
+) -> bool
+    requires choice { IsNameable at.now.seeds.now at.now.table.now overlay.old asn chosen.near.choice }
+    requires given { IsChosenGiven (joined at.now.table.now overlay.old) chosen.near.choice chosen.given }
+    requires pool { CanChange pool.old at.now.seeds.now at.now.table.now overlay.old 1 }
+    requires room { HasPlace overlay.old asn }
+    ensures named { routing_of pool.new at.now.table.now overlay.new asn
+        ≡ named_at P.meaning at.now pool.old overlay.old asn chosen.near.choice }
+    ensures others { (n : ℕ) → n ≢ asn → routing_of pool.new at.now.table.now overlay.new n
+        ≡ routing_of pool.old at.now.table.now overlay.old n }
+    ensures changed { IsTrue result ↔ (routing_of pool.new at.now.table.now overlay.new asn
+        ≢ routing_of pool.old at.now.table.now overlay.old asn) }
+    ensures unchanged { result ≡ false → (pool.new ≡ pool.old) × (overlay.new ≡ overlay.old) }
+    ensures put { IsTrue result → IsSome (change_at overlay.new asn) }
+    ensures spent { Spends pool.old pool.new overlay.old overlay.new asn }
+    ensures live { live_count pool.old < live_count pool.new → IsVia chosen.near.choice }
+    ensures next { (n : ℕ) → CanChange pool.old at.now.seeds.now at.now.table.now overlay.old (suc n) →
+        AreSeedsLive pool.new at.now.seeds.now → CanChange pool.new at.now.seeds.now at.now.table.now overlay.new n }
+    ensures kept { GivesUpNothing overlay.old (routing_of pool.old at.now.table.now overlay.old)
+        (routing_of pool.new at.now.table.now overlay.new) asn → Keeps pool.old pool.new at.now.seeds.now }
+{
+    let wanted = wanted_by(at, asn, place, chosen);
+    let have = held_near(at.table, overlay, asn, place);
+    if is_held(pool, asn, &have, &wanted) {
+        return false;
+    }
+    replace(pool, overlay, asn, place, wanted);
+    true
+}
+
+// What the neighbour holds whose offer is chosen.
+fn given_by(table: &Table, overlay: &Overlay, chosen: &ChoiceNear) -> Option<Held>
+    ensures { IsChosenGiven (joined table.now overlay.now) chosen.now.choice result }
+{
+    match chosen.choice {
+        Choice::Via { neighbour, .. } => held_near(table, overlay, neighbour, chosen.place),
+        Choice::Nothing | Choice::Seed => None,
+    }
 }
 
 /// Puts the entry that a choice names, and answers whether it is another one than before, by its
@@ -202,13 +263,12 @@ pub fn settle_near<P: RoutePolicy, V>(
     ensures kept { GivesUpNothing overlay.old (routing_of pool.old at.now.table.now overlay.old)
         (routing_of pool.new at.now.table.now overlay.new) asn → Keeps pool.old pool.new at.now.seeds.now }
 {
-    let wanted = wanted_by(at, overlay, asn, place, chosen.choice, chosen.place);
-    let have = held_near(at.table, overlay, asn, place);
-    if is_held(pool, asn, &have, &wanted) {
-        return false;
-    }
-    replace(pool, overlay, asn, place, wanted);
-    true
+    let given = given_by(at.table, overlay, &chosen);
+    let known = Chosen {
+        near: chosen,
+        given,
+    };
+    settle_chosen(at, pool, overlay, asn, place, known)
 }
 
 /// Puts the entry that a choice names, and answers whether it is another one than before, by its

@@ -48,13 +48,21 @@ impl Model for Slots {
     ghost invariant = { λ s. AreByPlace (placed_in rc_value s.ases) s.rows.items (beside_entries s.beside) };
 }
 
+// The place of an AS in a list, by its hash.
+#[inline(never)]
+fn place_by_hash(places: &AsPlaces, asn: Asn) -> Option<usize>
+    ensures { result ≡ place_of places.now.ases asn }
+{
+    places.place(asn)
+}
+
 // The place of an AS, if it has one.
 #[inline(always)]
 fn place_in(ases: &Option<Rc<AsPlaces>>, asn: Asn) -> Option<usize>
     ensures { result ≡ place_of (placed_in rc_value ases.now) asn }
 {
     match ases {
-        Some(places) => places.place(asn),
+        Some(places) => place_by_hash(places, asn),
         None => None,
     }
 }
@@ -178,6 +186,7 @@ impl Slots {
 }
 
 // Gives back the hold of an entry's path.
+#[inline(always)]
 pub(crate) fn let_go(pool: &mut PathPool, entry: Option<Held>)
     requires { (k : ℕ) → use_of k entry ≤ holds_of pool.old k }
     ensures holds { (k : ℕ) → holds_of pool.new k + use_of k entry ≡ holds_of pool.old k }

@@ -8,7 +8,7 @@ ghost use Rattle.route_choice.specs.Resources.{AreSeedsLive, CanStep};
 ghost use Rattle.route_choice.specs.Visits.{IsVisit};
 
 use crate::choosing::evaluate_among;
-use crate::settling::settle_near;
+use crate::settling::settle_chosen;
 use crate::{Overlay, PrefixWorld, Steps, Turn};
 use as_graph::Neighbour;
 use path_pool::PathPool;
@@ -67,5 +67,5 @@ pub fn visit_among<P: RoutePolicy, V: OriginStates, L: Ledger>(
 {
     let Turn { asn, place, .. } = turn;
     let chosen = evaluate_among(at, pool, overlay, turn, neighbours, places, steps);
-    settle_near(at, pool, overlay, asn, place, chosen)
+    settle_chosen(at, pool, overlay, asn, place, chosen)
 }

@@ -24,11 +24,11 @@ loop-index-preserved g c =
     let step = one_more (here.policy c.args.turn.asn) (g.met.P.RoutePolicy.ranks_offers own) offers (λ n o e. (given n o e).neighbour)
     c.index-neighbours-index.result.asn (asns (take i xs)) (asns (take (i + 1) xs))
     (λ m is. subst (λ t. (t.asn ≡ m) ⊎ (occurs m (asns (take i xs)) ≡ true)) (sym c.index-neighbours-index.is) (among_more xs i m c.index-neighbours-index.result c.loop-index-test.true is))
-    c.loop-index.best.view (option_map (λ (o : Offer). o.view) (offers c.index-neighbours-index.result.asn)) refl c.loop-index.invariant in
-    subst (IsBestViewOf (here.policy c.args.turn.asn) offers (asns (take (i + 1) xs))) (sym c.look_at.ensures) step
+    c.loop-index.best.view (option_map (λ (o : Offer). o.view) (offers c.index-neighbours-index.result.asn)) refl c.loop-index.invariant.0 in
+    (subst (IsBestViewOf (here.policy c.args.turn.asn) offers (asns (take (i + 1) xs))) (sym c.look_at.ensures.view) step, c.look_at.ensures.given c.loop-index.invariant.1)
 
-pub returns : goal.returns
-returns g c =
+pub returns-clause-best : goal.returns-clause-best
+returns-clause-best g c =
     let here = setting g.P.RoutePolicy.meaning c.args.at.now.graph.now c.args.at.now.book.now (state_seen c.args.reads (g.V.OriginStates.state_of c.args.at.now.states.now (prefix_of c.args.at.now.table.now))) in
     let own = policy_at c.args.at.now.book.now c.args.turn.asn in
     let offers = λ (n : ℕ). offers_of c.args.turn.part here (routing_of c.args.pool.now c.args.at.now.table.now c.args.overlay.now) c.args.turn.asn n in
@@ -39,4 +39,4 @@ returns g c =
     best_of_all (here.policy c.args.turn.asn) (g.met.P.RoutePolicy.ranks_offers own) offers (λ n o e. (given n o e).neighbour)
     (asns xs) (λ n o e. let by : Giver c.args.turn.part here f c.args.turn.asn n = giver c.args.turn.part here f c.args.turn.asn n o e in
     c.requires.givers.complete n by.exports.from by.exports.entry by.exports.linked by.looked by.exports.is by.exports.exported)
-    c.loop-index.best.view (subst (λ ys. IsBestViewOf (here.policy c.args.turn.asn) offers (asns ys) c.loop-index.best.view) (take_all i xs c.loop-index-test.false) c.loop-index.invariant)
+    c.loop-index.best.view (subst (λ ys. IsBestViewOf (here.policy c.args.turn.asn) offers (asns ys) c.loop-index.best.view) (take_all i xs c.loop-index-test.false) c.loop-index.invariant.0)

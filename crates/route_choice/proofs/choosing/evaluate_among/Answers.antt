@@ -14,7 +14,7 @@ returns-in-Some-clause-choice g c =
     c.reads_state-reads.ensures ∙ ap (λ p. (g.P.RoutePolicy.meaning p).reads_state) c.policy_near.ensures in
     choice_seen g.P.RoutePolicy.meaning c.args.at.now.graph.now c.args.at.now.book.now (routing_of c.args.pool.now c.args.at.now.table.now c.args.overlay.now) c.args.turn.asn
     (g.met.P.RoutePolicy.ignores_state (policy_at c.args.at.now.book.now c.args.turn.asn)) c.args.turn.part (g.V.OriginStates.state_of c.args.at.now.states.now (prefix_of c.args.at.now.table.now))
-    c.reads_state-reads.result reads (seeds_of c.args.pool.now c.args.at.now.seeds.now c.args.turn.asn) none c.in-Some.view (rw c.in-Some.is at c.best_view-place.ensures)
+    c.reads_state-reads.result reads (seeds_of c.args.pool.now c.args.at.now.seeds.now c.args.turn.asn) none c.in-Some.view (rw c.in-Some.is at c.best_view-place.ensures.best)
 
 pub returns-in-None-clause-choice : goal.returns-in-None-clause-choice
 returns-in-None-clause-choice g c =
@@ -24,7 +24,7 @@ returns-in-None-clause-choice g c =
       none,
       nothing_seen g.P.RoutePolicy.meaning c.args.at.now.graph.now c.args.at.now.book.now (routing_of c.args.pool.now c.args.at.now.table.now c.args.overlay.now) c.args.turn.asn
           (g.met.P.RoutePolicy.ignores_state (policy_at c.args.at.now.book.now c.args.turn.asn)) c.args.turn.part (g.V.OriginStates.state_of c.args.at.now.states.now (prefix_of c.args.at.now.table.now))
-          c.reads_state-reads.result reads (rw c.in-None.is at c.best_view-place.ensures),
+          c.reads_state-reads.result reads (rw c.in-None.is at c.best_view-place.ensures.best),
     )
 
 pub returns-then-is_some-clause-choice : goal.returns-then-is_some-clause-choice
