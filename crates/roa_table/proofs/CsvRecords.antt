@@ -49,7 +49,7 @@ step_ends st.AfterQuote c h = after_quote_ends (c == 34) c h
 step_ends st.InComment c h = cond_ends (c == 10) (st.StartRecord, act.Skip) (st.InComment, act.Skip) (λ e. cc) (λ e. cc) h
 step_ends st.AfterCr c h = cond_ends (c == 10) (st.StartRecord, act.Skip) (start_record default_config c) (λ e. cc) (record_ends ((c == 13) || (c == 10)) (c == 34) c) h
 
-some_is : {A : Type 0} (x y : A) → Some x ≡ Some y → x ≡ y
+pub some_is : {A : Type 0} (x y : A) → Some x ≡ Some y → x ≡ y
 some_is {A} x y e = ap from e
   where
     from : Option A → A

@@ -7,6 +7,7 @@ pub mod Covered
 pub mod Tabled
 pub mod CsvRecords
 pub mod PlainRows
+pub mod PrintedPrefixes
 pub mod Judged
 pub mod Gathered
 pub mod Reading

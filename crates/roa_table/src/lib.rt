@@ -15,6 +15,7 @@ mod file;
 mod gather;
 mod laws;
 mod plain;
+mod printed;
 mod record;
 mod row;
 mod rows;

@@ -37,7 +37,7 @@ fn find_line_stop(text: &[u8]) -> Option<usize>
 }
 
 /// What stands behind this byte, where the text begins with it.
-fn behind(text: &[u8], byte: u8) -> Option<&[u8]>
+pub(crate) fn behind(text: &[u8], byte: u8) -> Option<&[u8]>
     ensures { IfSome result (λ rest. text.now ≡ byte ∷ rest.now) }
 {
     if text.is_empty() || text[0] != byte {

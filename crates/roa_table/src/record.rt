@@ -5,8 +5,9 @@ ghost use Rattle.net_names.specs.Payloads.{vrp_at};
 ghost use Rattle.roa_table.specs.Judging.{judged, max_of};
 
 use crate::errors::VrpError;
+use crate::printed::read_any;
 use csv::ByteRecord;
-use net_names::{Prefix, Vrp, number, read_prefix, read_vrp_asn};
+use net_names::{Prefix, Vrp, number, read_vrp_asn};
 
 /// The maximum length that a text says for a prefix.
 fn read_max(prefix: Prefix, text: &[u8]) -> Option<u64>
@@ -43,7 +44,7 @@ pub(crate) fn judge_texts(row: u64, asn: &[u8], prefix: &[u8], max: &[u8]) -> Re
     ensures { result ≡ judged row (asn.now ∷ prefix.now ∷ max.now ∷ []) }
 {
     match read_vrp_asn(asn) {
-        Some(asn) => match read_prefix(prefix) {
+        Some(asn) => match read_any(prefix) {
             Some(prefix) => judge_max(row, asn, prefix, max),
             None => Err(VrpError::BadPrefix { row }),
         },
