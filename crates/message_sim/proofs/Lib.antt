@@ -2,6 +2,7 @@ pub mod Parts
 pub mod Sending
 pub mod Quiet
 pub mod Choices
+pub mod Upon
 pub mod Lines
 pub mod Telling
 pub mod RowsMade

@@ -5,6 +5,7 @@ pub mod Laws
 pub mod Nets
 pub mod Rows
 pub mod Best
+pub mod Arrivals
 pub mod News
 pub mod Starts
 pub mod Kept

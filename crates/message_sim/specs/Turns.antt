@@ -19,8 +19,9 @@ IsTurnOn x None l = (n a : ℕ) → x.queue n a ≢ [] → (x.queue l.0 l.1 ≢ 
 -- from x to y by these turns, which take out so many messages: a turn delivers the oldest message on its link, and changes nothing where none is there (own format)
 abbrev pub AreTurns : Setting → (ℕ → Option Seed) → List (Option (ℕ × ℕ)) → MessageNet → ℕ → MessageNet → Type 0
 AreTurns w seeds [] x made y = (made ≡ 0) × (x ≡ y)
-AreTurns w seeds (t ∷ ts) x made y = (l : ℕ × ℕ) × IsTurnOn x t l × (((x.queue l.0 l.1 ≡ []) × AreTurns w seeds ts x made y)
-    ⊎ ((z : MessageNet) × (k : ℕ) × (made ≡ suc k) × IsDelivery w seeds x l.0 l.1 z × AreTurns w seeds ts z k y))
+AreTurns w seeds (t ∷ ts) x made y = (l : ℕ × ℕ) × IsTurnOn x t l
+    × (((x.queue l.0 l.1 ≡ []) × AreTurns w seeds ts x made y) ⊎ ((z : MessageNet) × (k : ℕ)
+    × (made ≡ suc k) × IsDelivery w seeds x l.0 l.1 z × AreTurns w seeds ts z k y))
 
 -- the turns that steps ask for (own format)
 abbrev pub turns_of : List StepValue → List (Option (ℕ × ℕ))

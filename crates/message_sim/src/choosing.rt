@@ -5,17 +5,18 @@ ghost use Rattle.as_graph.specs.Neighbours.{AreNeighbours};
 ghost use Rattle.stability_laws.specs.Book.{policy_at};
 ghost use Rattle.stability_laws.specs.Offers.{passed_on};
 ghost use Rattle.stability_laws.specs.BestView.{IsBestView, better_of};
-ghost use Rattle.stability_laws.specs.World.{setting};
 ghost use Rattle.message_sim.specs.Rows.{received_at};
-ghost use Rattle.message_sim.specs.Best.{received_with, IsChosen, offers_now, offers_after, IsChoiceAfter, IsNoWorse, IsKeptView};
+ghost use Rattle.message_sim.specs.Arrivals.{offers_before, offers_upon};
+ghost use Rattle.message_sim.specs.Best.{received_with, IsChosen, IsChoiceAfter, IsNoWorse, IsKeptView};
 
+use crate::arrival::Arrival;
 use crate::held::Held;
 use crate::line::Line;
-use as_graph::{Graph, Neighbour};
+use as_graph::Neighbour;
 use indexmap::IndexMap;
-use net_names::{Asn, NoMemory, Prefix, Rel};
+use net_names::{Asn, NoMemory, Rel};
 use policy_laws::{OriginStates, RoutePolicy, View};
-use stability_laws::{Book, better, carried, class_from, offered_view};
+use stability_laws::{better, carried, class_from, offered_view};
 use std::alloc::Global;
 
 /// What an AS newly holds, and the view of the offer that it comes from.
@@ -35,75 +36,52 @@ fn received_over(lines: &IndexMap<(Asn, Asn), Line>, from: Asn, to: Asn) -> Opti
     }
 }
 
-/// What `to` has received last of `n`, where the message of `from` is a new one.
-fn heard<'a>(
-    lines: &'a IndexMap<(Asn, Asn), Line>,
-    from: Asn,
-    to: Asn,
-    message: Option<&'a Held>,
-    n: Asn,
-) -> Option<&'a Held>
-    ensures { option_copied result ≡ received_with (λ m. received_at lines.now.entries m to) from (option_copied message.entry) n }
+/// What the receiver has received last of `n`, once it has received the message.
+fn heard<'a, P, V>(arrival: &Arrival<'a, P, V>, n: Asn) -> Option<&'a Held>
+    ensures { option_copied result ≡
+        received_with (λ m. received_at arrival.now.lines.now.entries m arrival.now.to) arrival.now.from
+        (option_copied arrival.now.message) n }
 {
-    if n == from {
-        message
+    if n == arrival.from {
+        arrival.message
     } else {
-        received_over(lines, n, to)
+        received_over(arrival.lines, n, arrival.to)
     }
 }
 
 /// The view of the offer that a neighbour makes, where it makes one.
 fn view_from<P: RoutePolicy, V: OriginStates>(
-    graph: &Graph,
-    book: &Book<P>,
-    states: &V,
-    prefix: Prefix,
-    lines: &IndexMap<(Asn, Asn), Line>,
-    from: Asn,
-    to: Asn,
-    message: Option<&Held>,
+    arrival: &Arrival<'_, P, V>,
     neighbour: &Neighbour,
 ) -> Option<View>
-    requires { relation graph.now to neighbour.now.asn ≡ Some neighbour.now.rel }
-    ensures { result ≡ option_map (λ o. o.view) (offers_after
-        (setting P.meaning graph.now book.now (V.state_of states.now prefix)) lines.now.entries to from
-        (option_copied message.entry) neighbour.now.asn) }
+    requires { relation arrival.now.graph.now arrival.now.to neighbour.now.asn ≡ Some neighbour.now.rel }
+    ensures { result ≡ option_map (λ o. o.view) (offers_upon P.meaning V.state_of arrival.now neighbour.now.asn) }
 {
-    let held = heard(lines, from, to, message, neighbour.asn)?;
+    let held = heard(arrival, neighbour.asn)?;
     offered_view(
-        book.policy(neighbour.asn),
-        book.policy(to),
-        states,
-        prefix,
+        arrival.book.policy(neighbour.asn),
+        arrival.book.policy(arrival.to),
+        arrival.states,
+        arrival.prefix,
         neighbour,
-        to,
+        arrival.to,
         held.entry(),
     )
 }
 
 /// The view of the best offer of all neighbours, where one makes an offer.
 fn best_of_all<P: RoutePolicy, V: OriginStates>(
-    graph: &Graph,
+    arrival: &Arrival<'_, P, V>,
     neighbours: &[Neighbour],
-    book: &Book<P>,
-    states: &V,
-    prefix: Prefix,
-    lines: &IndexMap<(Asn, Asn), Line>,
-    from: Asn,
-    to: Asn,
-    message: Option<&Held>,
 ) -> Option<View>
-    requires { AreNeighbours (relation graph.now) to neighbours.now }
-    ensures { IsBestView (P.meaning (policy_at book.now to))
-        (offers_after (setting P.meaning graph.now book.now (V.state_of states.now prefix)) lines.now.entries to from
-        (option_copied message.entry)) result }
+    requires { AreNeighbours (relation arrival.now.graph.now) arrival.now.to neighbours.now }
+    ensures { IsBestView (P.meaning (policy_at arrival.now.book.now arrival.now.to))
+        (offers_upon P.meaning V.state_of arrival.now) result }
 {
-    let own = book.policy(to);
+    let own = arrival.book.policy(arrival.to);
     let mut best: Option<View> = None;
     for neighbour in neighbours {
-        let view = view_from(
-            graph, book, states, prefix, lines, from, to, message, neighbour,
-        );
+        let view = view_from(arrival, neighbour);
         best = better(own, best, view);
     }
     best
@@ -122,49 +100,32 @@ fn is_no_worse<P: RoutePolicy>(policy: &P, old: &View, new: &Option<View>) -> bo
 /// The view of the best offer once the message has been received, given that of the best one before. All
 /// offers are looked at only where the best one was of this neighbour and has become worse.
 fn best_after<P: RoutePolicy, V: OriginStates>(
-    graph: &Graph,
-    book: &Book<P>,
-    states: &V,
-    prefix: Prefix,
-    lines: &IndexMap<(Asn, Asn), Line>,
-    from: Asn,
-    to: Asn,
+    arrival: &Arrival<'_, P, V>,
     rel: Rel,
-    message: Option<&Held>,
     best: Option<View>,
 ) -> Option<View>
-    requires linked { relation graph.now to from ≡ Some rel }
-    requires best { IsBestView (P.meaning (policy_at book.now to))
-        (offers_now (setting P.meaning graph.now book.now (V.state_of states.now prefix)) lines.now.entries to) best }
-    ensures { IsBestView (P.meaning (policy_at book.now to))
-        (offers_after (setting P.meaning graph.now book.now (V.state_of states.now prefix)) lines.now.entries to from
-        (option_copied message.entry)) result }
+    requires linked { relation arrival.now.graph.now arrival.now.to arrival.now.from ≡ Some rel }
+    requires best { IsBestView (P.meaning (policy_at arrival.now.book.now arrival.now.to))
+        (offers_before P.meaning V.state_of arrival.now) best }
+    ensures { IsBestView (P.meaning (policy_at arrival.now.book.now arrival.now.to))
+        (offers_upon P.meaning V.state_of arrival.now) result }
 {
-    let own = book.policy(to);
-    let sender = Neighbour { asn: from, rel };
-    let new = view_from(
-        graph, book, states, prefix, lines, from, to, message, &sender,
-    );
+    let own = arrival.book.policy(arrival.to);
+    let sender = Neighbour {
+        asn: arrival.from,
+        rel,
+    };
+    let new = view_from(arrival, &sender);
     match best {
         None => new,
         Some(old) => {
-            if old.neighbour != from {
+            if old.neighbour != arrival.from {
                 return better(own, Some(old), new);
             }
             if is_no_worse(own, &old, &new) {
                 return new;
             }
-            best_of_all(
-                graph,
-                graph.neighbours(to),
-                book,
-                states,
-                prefix,
-                lines,
-                from,
-                to,
-                message,
-            )
+            best_of_all(arrival, arrival.graph.neighbours(arrival.to))
         }
     }
 }
@@ -179,7 +140,8 @@ fn held_of<P: RoutePolicy>(
     rel: Rel,
     given: &Held,
 ) -> Result<Held, NoMemory>
-    ensures { IfOk result (λ h. h ≡ passed_on (P.meaning sender.now).marks (P.meaning receiver.now).marks n a rel given.now) }
+    ensures { IfOk result (λ h. h ≡
+        passed_on (P.meaning sender.now).marks (P.meaning receiver.now).marks n a rel given.now) }
 {
     let entry = given.entry();
     let otc = carried(sender, receiver, n, rel.converse(), entry.otc);
@@ -189,35 +151,26 @@ fn held_of<P: RoutePolicy>(
 /// What an AS holds where this is the view of its best offer.
 fn held_by_view<P: RoutePolicy, V: OriginStates>(
     alloc: Global,
-    graph: &Graph,
-    book: &Book<P>,
-    states: &V,
-    prefix: Prefix,
-    lines: &IndexMap<(Asn, Asn), Line>,
-    from: Asn,
-    to: Asn,
-    message: Option<&Held>,
+    arrival: &Arrival<'_, P, V>,
     best: Option<View>,
 ) -> Result<Option<Held>, NoMemory>
-    requires { IsBestView (P.meaning (policy_at book.now to))
-        (offers_after (setting P.meaning graph.now book.now (V.state_of states.now prefix)) lines.now.entries to from
-        (option_copied message)) best }
-    ensures { IfOk result (IsChosen (P.meaning (policy_at book.now to))
-        (offers_after (setting P.meaning graph.now book.now (V.state_of states.now prefix)) lines.now.entries to from
-        (option_copied message.entry)) best) }
+    requires { IsBestView (P.meaning (policy_at arrival.now.book.now arrival.now.to))
+        (offers_upon P.meaning V.state_of arrival.now) best }
+    ensures { IfOk result (IsChosen (P.meaning (policy_at arrival.now.book.now arrival.now.to))
+        (offers_upon P.meaning V.state_of arrival.now) best) }
 {
     let Some(view) = best else {
         return Ok(None);
     };
     let n = view.neighbour;
-    match heard(lines, from, to, message, n) {
+    match heard(arrival, n) {
         Some(given) => {
             let held = held_of(
                 alloc,
-                book.policy(n),
-                book.policy(to),
+                arrival.book.policy(n),
+                arrival.book.policy(arrival.to),
                 n,
-                to,
+                arrival.to,
                 view.rel,
                 given,
             )?;
@@ -242,33 +195,21 @@ fn is_kept(from: Asn, old: &Option<View>, new: &Option<View>) -> bool
 /// stays.
 pub(crate) fn choose<P: RoutePolicy, V: OriginStates>(
     alloc: Global,
-    graph: &Graph,
-    book: &Book<P>,
-    states: &V,
-    prefix: Prefix,
-    lines: &IndexMap<(Asn, Asn), Line>,
-    from: Asn,
-    to: Asn,
+    arrival: &Arrival<'_, P, V>,
     rel: Rel,
-    message: Option<&Held>,
     best: Option<View>,
 ) -> Result<Option<Choice>, NoMemory>
-    requires linked { relation graph.now to from ≡ Some rel }
-    requires best { IsBestView (P.meaning (policy_at book.now to))
-        (offers_now (setting P.meaning graph.now book.now (V.state_of states.now prefix)) lines.now.entries to) best }
-    ensures { IfOk result (IsChoiceAfter (P.meaning (policy_at book.now to))
-        (offers_now (setting P.meaning graph.now book.now (V.state_of states.now prefix)) lines.now.entries to)
-        (offers_after (setting P.meaning graph.now book.now (V.state_of states.now prefix)) lines.now.entries to from
-        (option_copied message.entry)) best) }
+    requires linked { relation arrival.now.graph.now arrival.now.to arrival.now.from ≡ Some rel }
+    requires best { IsBestView (P.meaning (policy_at arrival.now.book.now arrival.now.to))
+        (offers_before P.meaning V.state_of arrival.now) best }
+    ensures { IfOk result (IsChoiceAfter (P.meaning (policy_at arrival.now.book.now arrival.now.to))
+        (offers_before P.meaning V.state_of arrival.now)
+        (offers_upon P.meaning V.state_of arrival.now) best) }
 {
-    let after = best_after(
-        graph, book, states, prefix, lines, from, to, rel, message, best,
-    );
-    if is_kept(from, &best, &after) {
+    let after = best_after(arrival, rel, best);
+    if is_kept(arrival.from, &best, &after) {
         return Ok(None);
     }
-    let held = held_by_view(
-        alloc, graph, book, states, prefix, lines, from, to, message, after,
-    )?;
+    let held = held_by_view(alloc, arrival, after)?;
     Ok(Some(Choice { best: after, held }))
 }

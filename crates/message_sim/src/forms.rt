@@ -11,7 +11,8 @@ use net_names::{Asn, cut, number, read_asn, strip};
 // The link that the line names; `None` exactly where the line has not the form.
 #[tactic(auto, unfolding(scenario_text::specs::Forms::pair))]
 fn link(line: &[u8]) -> Option<(Asn, Asn)>
-    ensures { result ≡ form "deliver " (λ t. option_filter (λ x. not (x.0 == x.1)) (pair 32 asn_of asn_of t)) (λ x. x) line.now }
+    ensures { result ≡
+        form "deliver " (λ t. option_filter (λ x. not (x.0 == x.1)) (pair 32 asn_of asn_of t)) (λ x. x) line.now }
 {
     let rest = strip(line, b"deliver ")?;
     let (first, second) = cut(rest, b' ')?;
@@ -25,7 +26,9 @@ fn link(line: &[u8]) -> Option<(Asn, Asn)>
 
 // How many deliveries the line asks for; `None` exactly where the line has not the form.
 fn most(line: &[u8]) -> Option<u32>
-    ensures { result ≡ form "rest " (λ t. option_filter (λ k. nat_lt 0 k && nat_le k MOST_DELIVERIES) (numeral 10 7 t)) (λ x. x) line.now }
+    ensures { result ≡
+        form "rest " (λ t. option_filter (λ k. nat_lt 0 k && nat_le k MOST_DELIVERIES) (numeral 10 7 t))
+        (λ x. x) line.now }
 {
     let text = strip(line, b"rest ")?;
     let most = number(text, 10, 7)?;

@@ -90,10 +90,8 @@ impl Held {
 fn copied(alloc: Global, path: &[Asn]) -> Result<Path, NoMemory>
     ensures { IfOk result (λ p. p ≡ path.now) }
 {
-    match Vec::from_slice(alloc, path) {
-        Ok(numbers) => Ok(Path::from_vec(numbers)),
-        Err(_) => Err(NoMemory),
-    }
+    let numbers = Vec::from_slice(alloc, path)?;
+    Ok(Path::from_vec(numbers))
 }
 
 /// The path of an AS and then the rest.
@@ -101,16 +99,10 @@ fn longer(alloc: Global, first: Asn, rest: &[Asn]) -> Result<Path, NoMemory>
     requires { length rest.now < 2 ^ 32 }
     ensures { IfOk result (λ p. p ≡ first ∷ rest.now) }
 {
-    let Ok(mut numbers) = Vec::with_capacity(alloc, rest.len() + 1) else {
-        return Err(NoMemory);
-    };
-    if numbers.push(first).is_err() {
-        return Err(NoMemory);
-    }
-    match numbers.extend_from_slice(rest) {
-        Ok(()) => Ok(Path::from_vec(numbers)),
-        Err(_) => Err(NoMemory),
-    }
+    let mut numbers = Vec::with_capacity(alloc, rest.len() + 1)?;
+    numbers.push(first)?;
+    numbers.extend_from_slice(rest)?;
+    Ok(Path::from_vec(numbers))
 }
 
 fn same_entry(a: &Entry, b: &Entry) -> bool

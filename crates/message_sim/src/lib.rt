@@ -5,6 +5,7 @@
 //! the order of the deliveries, a net without messages under way holds the one stable routing.
 #![tactic(auto)]
 
+mod arrival;
 mod choosing;
 mod forms;
 mod held;

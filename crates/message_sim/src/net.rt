@@ -70,8 +70,10 @@ impl<'a, P: RoutePolicy, V: OriginStates> Net<'a, P, V> {
         requires no_cycle { HasNoProviderCycle (relation graph.now) }
         requires only_ases { (a : ℕ) → has graph.now a ≡ false → map.get seeds.now a ≡ None }
         requires short { HasShortSeeds (map.get seeds.now) }
-        ensures world { IfOk result (λ n. n.world ≡ record { graph = graph.now; book = book.now; states = states.now; prefix = prefix; seeds = seeds.now }) }
-        ensures start { IfOk result (λ n. IsStart (net_setting P.meaning V.state_of n.world) (seeds_in n.world) (net_of n)) }
+        ensures world { IfOk result (λ n. n.world ≡
+            record { graph = graph.now; book = book.now; states = states.now; prefix = prefix; seeds = seeds.now }) }
+        ensures start { IfOk result (λ n.
+            IsStart (net_setting P.meaning V.state_of n.world) (seeds_in n.world) (net_of n)) }
     {
         let choices = first_choices(alloc, graph.ases(), seeds)?;
         let bests = no_bests(alloc, graph.ases())?;
@@ -102,7 +104,8 @@ impl<'a, P: RoutePolicy, V: OriginStates> Net<'a, P, V> {
     pub fn deliver(&mut self, alloc: Global, from: Asn, to: Asn) -> Result<bool, NoMemory>
         requires { relation self.old.world.graph to from ≢ None }
         ensures world { self.new.world ≡ self.old.world }
-        ensures delivered { IfOk result (IsTurnOf (net_setting P.meaning V.state_of self.old.world) (seeds_in self.old.world) self.old from to self.new) }
+        ensures delivered { IfOk result (IsTurnOf (net_setting P.meaning V.state_of self.old.world)
+            (seeds_in self.old.world) self.old from to self.new) }
         ensures err { OnErr result (self.new ≡ self.old) }
     {
         deliver_in(
@@ -121,7 +124,9 @@ impl<'a, P: RoutePolicy, V: OriginStates> Net<'a, P, V> {
     /// Whether no message is under way. Then what the ASes hold is the one stable routing of the seeds.
     pub fn quiet(&self) -> bool
         ensures quiet { IsTrue result ↔ IsQuiet (net_of self.now) }
-        ensures stable { IsTrue result → IsStable (net_setting P.meaning V.state_of self.now.world) (seeds_in self.now.world) (net_of self.now).choice }
+        ensures stable { IsTrue result →
+            IsStable (net_setting P.meaning V.state_of self.now.world) (seeds_in self.now.world)
+            (net_of self.now).choice }
         ensures the_one { IsTrue result → (f : ℕ → Option AnEntry) →
             IsStable (net_setting P.meaning V.state_of self.now.world) (seeds_in self.now.world) f → (a : ℕ) →
             f a ≡ (net_of self.now).choice a }
@@ -159,7 +164,8 @@ impl<'a, P: RoutePolicy, V: OriginStates> Net<'a, P, V> {
     /// then the deliveries before were made.
     pub fn rest(&mut self, alloc: Global, most: u32) -> Result<u32, NoMemory>
         ensures world { self.new.world ≡ self.old.world }
-        ensures rested { IfOk result (IsRested (net_setting P.meaning V.state_of self.old.world) (seeds_in self.old.world) self.old most self.new) }
+        ensures rested { IfOk result (IsRested (net_setting P.meaning V.state_of self.old.world)
+            (seeds_in self.old.world) self.old most self.new) }
     {
         for k in 0..most {
             let Some(link) = self.next_link() else {

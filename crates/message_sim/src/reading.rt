@@ -2,10 +2,11 @@
 ghost use Rattle.std.specs.Prelude.{◌≡◌, ◌+◌, ◌≤◌, [], length};
 ghost use Rattle.net_names.specs.Lines.{kept_from, said_on};
 ghost use Rattle.message_sim.specs.Files.{Gives, deliveries_by, with_line};
+ghost use Rattle.message_sim.specs.declared.reading.DeliveriesError.TheVariants.{Memory};
 
 use crate::forms::step;
 use crate::steps::{Deliveries, MOST_DELIVERIES, Steps};
-use net_names::{Prefix, next_kept};
+use net_names::{NoMemory, Prefix, next_kept};
 use scenario_text::read_for;
 use std::alloc::Global;
 
@@ -30,6 +31,14 @@ pub enum DeliveriesError {
     NoFor,
 }
 
+impl From<NoMemory> for DeliveriesError {
+    ghost from_gives = { λ _ e. e ≡ Memory };
+
+    fn from(_e: NoMemory) -> DeliveriesError {
+        DeliveriesError::Memory
+    }
+}
+
 // Puts in what the line of this number asks for.
 fn put_line(
     mut deliveries: Deliveries,
@@ -44,10 +53,8 @@ fn put_line(
     if step.most > MOST_DELIVERIES - deliveries.steps.asked() {
         return Err(DeliveriesError::TooMany { line: step.line });
     }
-    match deliveries.steps.push(step) {
-        Ok(()) => Ok(deliveries),
-        Err(_) => Err(DeliveriesError::Memory),
-    }
+    deliveries.steps.push(step)?;
+    Ok(deliveries)
 }
 
 // Puts in what the lines of these bytes ask for, of which the first has this number.

@@ -79,13 +79,9 @@ impl Steps {
         ensures err { OnErr result (self.new ≡ self.old) }
     {
         let more = step.most;
-        match self.items.push(step) {
-            Ok(()) => {
-                self.asked += more;
-                Ok(())
-            }
-            Err(_) => Err(NoMemory),
-        }
+        self.items.push(step)?;
+        self.asked += more;
+        Ok(())
     }
 
     /// The steps, in their order.

@@ -14,6 +14,7 @@ ghost use Rattle.message_sim.specs.Kept.{IsKept, IsChange, AreNewsAt, IsTurnIn, 
 ghost use Rattle.message_sim.specs.Nets.{waiting_in};
 ghost use Rattle.message_sim.specs.News.{news_count};
 
+use crate::arrival::Arrival;
 use crate::choosing::{Choice, choose};
 use crate::held::{Held, same_held};
 use crate::line::Line;
@@ -67,7 +68,8 @@ fn news_at<P: RoutePolicy>(
     new: &Option<Held>,
 ) -> Result<Vec<News>, NoMemory>
     requires { is_some (lookup (nat_eq a) choices.now.entries) ≡ true }
-    ensures { IfOk result (λ v. AreNewsAt (P.meaning (policy_at book.now a)) (relation graph.now a) (choice_at choices.now.entries a) new.now v.items) }
+    ensures { IfOk result (λ v. AreNewsAt (P.meaning (policy_at book.now a)) (relation graph.now a)
+        (choice_at choices.now.entries a) new.now v.items) }
 {
     match choices.get(&a) {
         Some(old) => {
@@ -125,7 +127,8 @@ fn change_by<P: RoutePolicy, V: OriginStates>(
     message: &Option<Held>,
 ) -> Result<Change, NoMemory>
     requires linked { relation graph.now to from ≡ Some rel }
-    requires kept { IsKept (setting P.meaning graph.now book.now (V.state_of states.now prefix)) (map.get seeds.now) tables.now }
+    requires kept { IsKept (setting P.meaning graph.now book.now (V.state_of states.now prefix))
+        (map.get seeds.now) tables.now }
     ensures { IfOk result (λ c. IsChange (setting P.meaning graph.now book.now (V.state_of states.now prefix))
         (map.get seeds.now) tables.now.choices.entries tables.now.bests.entries tables.now.lines.entries from to
         message.now c.choice c.news.items) }
@@ -137,19 +140,17 @@ fn change_by<P: RoutePolicy, V: OriginStates>(
         }),
         None => {
             let best = best_of(&tables.bests, to);
-            let choice = choose(
-                alloc,
+            let arrival = Arrival {
                 graph,
                 book,
                 states,
                 prefix,
-                &tables.lines,
+                lines: &tables.lines,
                 from,
                 to,
-                rel,
-                message.as_ref(),
-                best,
-            )?;
+                message: message.as_ref(),
+            };
+            let choice = choose(alloc, &arrival, rel, best)?;
             let change = change_to(alloc, graph, book, &tables.choices, to, choice)?;
             Ok(change)
         }
@@ -196,7 +197,8 @@ fn forget(
     from: Asn,
     to: Asn,
 )
-    ensures { (n a : ℕ) → contains pair_cmp waiting.old (n, a) ≡ true → queue_at lines.now.entries n a ≢ [] → contains pair_cmp waiting.new (n, a) ≡ true }
+    ensures { (n a : ℕ) → contains pair_cmp waiting.old (n, a) ≡ true →
+        queue_at lines.now.entries n a ≢ [] → contains pair_cmp waiting.new (n, a) ≡ true }
 {
     if is_waiting(lines, from, to) {
         return;
@@ -217,8 +219,10 @@ pub(crate) fn deliver_in<P: RoutePolicy, V: OriginStates>(
     to: Asn,
 ) -> Result<bool, NoMemory>
     requires linked { relation graph.now to from ≢ None }
-    requires kept { IsKept (setting P.meaning graph.now book.now (V.state_of states.now prefix)) (map.get seeds.now) tables.old }
-    ensures kept { IsKept (setting P.meaning graph.now book.now (V.state_of states.now prefix)) (map.get seeds.now) tables.new }
+    requires kept { IsKept (setting P.meaning graph.now book.now (V.state_of states.now prefix))
+        (map.get seeds.now) tables.old }
+    ensures kept { IsKept (setting P.meaning graph.now book.now (V.state_of states.now prefix))
+        (map.get seeds.now) tables.new }
     ensures ok { IfOk result (IsTurnIn (setting P.meaning graph.now book.now (V.state_of states.now prefix))
         (map.get seeds.now) tables.old tables.new from to) }
     ensures err { OnErr result (IsSameNet tables.old tables.new) }
