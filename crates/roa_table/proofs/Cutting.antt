@@ -6,13 +6,13 @@ use Rattle.std.specs.Cmp.{tied_itself}
 use Rattle.std.specs.Ordering.{is_lt}
 use Rattle.net_names.specs.Prefixes.{PrefixValue, prefix_cmp}
 use Rattle.net_names.specs.Payloads.{VrpValue, vrp_cmp}
-use Rattle.net_names.specs.Orders.{prefix_total, exact_prefix, vrp_total, exact_vrp}
+use Rattle.net_names.specs.Orders.{prefix_total, exact_prefix}
 use Rattle.roa_table.specs.declared.chunk.Chunk.{Chunk}
-use Rattle.roa_table.specs.Lists.{is_rising, IsRising, is_below, is_from, are_apart, IsPart}
+use Rattle.roa_table.specs.Lists.{IsRising, is_below, is_from, are_apart, IsPart}
 use Rattle.roa_table.specs.Chunks.{all_of, IsBefore, IsInOrder, TakesLast}
 use Rattle.net_names.proofs.Shortening.{both, both_true}
-use Rattle.roa_table.proofs.Booleans.{not_true, not-false, list_all_mono, list_all_left, list_all_right, each_mono, each_both, each_append}
-use Rattle.roa_table.proofs.Rising.{lt_le, rising_left, rising_right, rising_take}
+use Rattle.roa_table.proofs.Booleans.{not_true, not-false, list_all_mono, list_all_left, list_all_right, each_mono, each_both}
+use Rattle.roa_table.proofs.Rising.{lt_le, rising_left, rising_right}
 use Rattle.roa_table.proofs.Placed.{no_lower}
 use Rattle.roa_table.proofs.Chunking.{Around, around, in_order, all_of-append, whole_at}
 

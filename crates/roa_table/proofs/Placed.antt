@@ -118,19 +118,7 @@ pub apart_to : (q : PrefixValue) (vs ws : List VrpValue) → list_all (is_to q) 
 apart_to q vs ws f b = list_all_mono (is_to q) (λ v. list_all (λ w. is_below w.prefix v) ws)
     (λ v e. list_all_mono (is_above q) (λ w. is_below w.prefix v) (λ w k. le_lt prefix_total exact_prefix v.prefix q w.prefix (not_true _ e) k) ws (list_all_opposite (is_to q) (is_above q) (λ w k. not_false _ k) ws b)) vs f
 
-take-all : {A : Type 0} (xs : List A) → take (length xs) xs ≡ xs
-take-all [] = refl
-take-all (x ∷ xs) = ap (λ l. x ∷ l) (take-all xs)
-
-drop-all : {A : Type 0} (xs : List A) → drop (length xs) xs ≡ []
-drop-all [] = refl
-drop-all (x ∷ xs) = drop-all xs
-
-none_apart : (vs : List VrpValue) → are_apart vs [] ≡ true
-none_apart [] = refl
-none_apart (v ∷ vs) = none_apart vs
-
--- the end of a list parts its prefixes
+-- a place before which all are below a prefix, and none behind it is, parts the prefixes
 pub parts_below : (q : PrefixValue) (vs : List VrpValue) (n : ℕ) → CutsAt (is_below q) vs n → are_apart (take n vs) (drop n vs) ≡ true
 parts_below q vs n c = apart_below q (take n vs) (drop n vs) c.front c.back
 
