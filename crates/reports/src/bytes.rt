@@ -10,10 +10,8 @@ pub(crate) fn put_bytes(out: &mut Vec<u8>, bytes: &[u8]) -> Result<(), NoMemory>
     ensures ok { OnOk result (out.new.items ≡ out.old.items ++ bytes.now) }
     ensures err { OnErr result (Grows out.old.items out.new.items) }
 {
-    match out.extend_from_slice(bytes) {
-        Ok(()) => Ok(()),
-        Err(_) => Err(NoMemory),
-    }
+    out.extend_from_slice(bytes)?;
+    Ok(())
 }
 
 // Appends the number in decimal digits.

@@ -24,7 +24,8 @@ fn append_rank(out: &mut Vec<u8>, asn: Asn, rank: u32) -> Result<(), NoMemory>
 /// Appends the ranks of a graph's ASes: for each AS, in rising number, a row with the AS, `|` and its
 /// rank. Where memory runs out, nothing changes. The format is this project's own.
 pub fn put_ranks(out: &mut Vec<u8>, graph: &Graph, ranks: &Ranks) -> Result<(), NoMemory>
-    ensures ok { OnOk result (out.new.items ≡ out.old.items ++ table_of graph.now (λ a. row (decimal a ∷ decimal (rank_at ranks.now a) ∷ []))) }
+    ensures ok { OnOk result (out.new.items ≡ out.old.items ++
+        table_of graph.now (λ a. row (decimal a ∷ decimal (rank_at ranks.now a) ∷ []))) }
     ensures err { OnErr result (out.new.items ≡ out.old.items) }
 {
     let kept = out.len();

@@ -49,7 +49,8 @@ fn append_row(out: &mut Vec<u8>, group: Group, what: &[u8], count: u64) -> Resul
 
 // Appends the row of an AS at which packets of a group are delivered, if some are.
 fn append_some(out: &mut Vec<u8>, group: Group, asn: Asn, count: u64) -> Result<(), NoMemory>
-    ensures ok { OnOk result (out.new.items ≡ out.old.items ++ (if count == 0 then [] else count_row group (codes "to " ++ decimal asn) count)) }
+    ensures ok { OnOk result (out.new.items ≡ out.old.items ++
+        (if count == 0 then [] else count_row group (codes "to " ++ decimal asn) count)) }
     ensures err { OnErr result (Grows out.old.items out.new.items) }
 {
     if count == 0 {
@@ -69,7 +70,8 @@ fn append_delivered(
     group: Group,
     asn: Asn,
 ) -> Result<(), NoMemory>
-    ensures ok { OnOk result (out.new.items ≡ out.old.items ++ delivered_text (group_count (rows_of watch.now)) group asn) }
+    ensures ok { OnOk result (out.new.items ≡ out.old.items ++
+        delivered_text (group_count (rows_of watch.now)) group asn) }
     ensures err { OnErr result (Grows out.old.items out.new.items) }
 {
     append_some(out, group, asn, watch.count(group.which(), End::At(asn)))
@@ -82,21 +84,20 @@ fn append_all_delivered(
     watch: &Watch,
     group: Group,
 ) -> Result<(), NoMemory>
-    ensures ok { OnOk result (out.new.items ≡ out.old.items ++ flat_map (delivered_text (group_count (rows_of watch.now)) group) announcers.now) }
+    ensures ok { OnOk result (out.new.items ≡ out.old.items ++
+        flat_map (delivered_text (group_count (rows_of watch.now)) group) announcers.now) }
     ensures err { OnErr result (Grows out.old.items out.new.items) }
 {
     for asn in announcers {
-        match append_delivered(out, watch, group, *asn) {
-            Ok(()) => {}
-            Err(_) => return Err(NoMemory),
-        }
+        append_delivered(out, watch, group, *asn)?;
     }
     Ok(())
 }
 
 // Appends the row of the number of a group's ASes.
 fn append_size(out: &mut Vec<u8>, watch: &Watch, group: Group) -> Result<(), NoMemory>
-    ensures ok { OnOk result (out.new.items ≡ out.old.items ++ count_row group (codes "ases") (group_size (rows_of watch.now) group)) }
+    ensures ok { OnOk result (out.new.items ≡ out.old.items ++
+        count_row group (codes "ases") (group_size (rows_of watch.now) group)) }
     ensures err { OnErr result (Grows out.old.items out.new.items) }
 {
     append_row(out, group, b"ases", watch.ases(group.which()))
@@ -110,7 +111,8 @@ fn append_end(
     what: &[u8],
     end: End,
 ) -> Result<(), NoMemory>
-    ensures ok { OnOk result (out.new.items ≡ out.old.items ++ count_row group what.now (group_count (rows_of watch.now) group end)) }
+    ensures ok { OnOk result (out.new.items ≡ out.old.items ++
+        count_row group what.now (group_count (rows_of watch.now) group end)) }
     ensures err { OnErr result (Grows out.old.items out.new.items) }
 {
     append_row(out, group, what, watch.count(group.which(), end))
@@ -124,7 +126,8 @@ fn append_rows(
     watch: &Watch,
     group: Group,
 ) -> Result<(), NoMemory>
-    ensures ok { OnOk result (out.new.items ≡ out.old.items ++ group_text (group_size (rows_of watch.now)) (group_count (rows_of watch.now)) announcers.now group) }
+    ensures ok { OnOk result (out.new.items ≡ out.old.items ++
+        group_text (group_size (rows_of watch.now)) (group_count (rows_of watch.now)) announcers.now group) }
     ensures err { OnErr result (Grows out.old.items out.new.items) }
 {
     append_size(out, watch, group)?;
@@ -156,14 +159,12 @@ fn append_groups(
     watch: &Watch,
     groups: &[Group],
 ) -> Result<(), NoMemory>
-    ensures ok { OnOk result (out.new.items ≡ out.old.items ++ flat_map (printed_text (rows_of watch.now) announcers.now) groups.now) }
+    ensures ok { OnOk result (out.new.items ≡ out.old.items ++
+        flat_map (printed_text (rows_of watch.now) announcers.now) groups.now) }
     ensures err { OnErr result (Grows out.old.items out.new.items) }
 {
     for group in groups {
-        match append_group(out, announcers, watch, *group) {
-            Ok(()) => {}
-            Err(_) => return Err(NoMemory),
-        }
+        append_group(out, announcers, watch, *group)?;
     }
     Ok(())
 }
@@ -176,7 +177,8 @@ fn append_groups(
 /// The format is this project's own.
 #[tactic(auto, unfolding(crate::specs::Counts::report_text))]
 pub fn put_report(out: &mut Vec<u8>, plan: &SeedPlan, watch: &Watch) -> Result<(), NoMemory>
-    ensures ok { OnOk result (out.new.items ≡ out.old.items ++ report_text (group_size (rows_of watch.now)) (group_count (rows_of watch.now)) (announcers_of plan.now)) }
+    ensures ok { OnOk result (out.new.items ≡ out.old.items ++
+        report_text (group_size (rows_of watch.now)) (group_count (rows_of watch.now)) (announcers_of plan.now)) }
     ensures err { OnErr result (out.new.items ≡ out.old.items) }
 {
     let kept = out.len();

@@ -90,10 +90,7 @@ fn append_path(out: &mut Vec<u8>, pool: &PathPool, path: PathId) -> Result<(), N
         let Some(next) = pool.tail(at) else {
             unreachable!();
         };
-        match append_number(out, pool.head(next)) {
-            Ok(()) => {}
-            Err(_) => return Err(NoMemory),
-        }
+        append_number(out, pool.head(next))?;
         at = next;
         left -= 1;
     }
@@ -167,7 +164,8 @@ pub fn put_routes(
     pool: &PathPool,
 ) -> Result<(), NoMemory>
     requires { AreEntriesLive pool.now table.now }
-    ensures ok { OnOk result (out.new.items ≡ out.old.items ++ table_of graph.now (λ a. entry_row a (table_routing pool.now table.now a))) }
+    ensures ok { OnOk result (out.new.items ≡ out.old.items ++
+        table_of graph.now (λ a. entry_row a (table_routing pool.now table.now a))) }
     ensures err { OnErr result (out.new.items ≡ out.old.items) }
 {
     let kept = out.len();

@@ -35,7 +35,8 @@ fn append_trace(out: &mut Vec<u8>, walk: &[Asn], end: End) -> Result<(), NoMemor
 /// passes with one space between. Where memory runs out, nothing changes. The format is this project's
 /// own.
 pub fn put_trace(out: &mut Vec<u8>, trace: &Trace) -> Result<(), NoMemory>
-    ensures ok { OnOk result (out.new.items ≡ out.old.items ++ row (end_word trace.now.end ∷ numbers_text trace.now.walk ∷ [])) }
+    ensures ok { OnOk result (out.new.items ≡ out.old.items ++
+        row (end_word trace.now.end ∷ numbers_text trace.now.walk ∷ [])) }
     ensures err { OnErr result (out.new.items ≡ out.old.items) }
 {
     let kept = out.len();

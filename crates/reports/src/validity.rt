@@ -65,7 +65,8 @@ fn append_validity(out: &mut Vec<u8>, state: State, vrps: &[Vrp]) -> Result<(), 
 /// or `not-found`, and then a row for each payload in its order, with the payload's number, which may be 0,
 /// `|`, its prefix, `|` and its maximum length. Where memory runs out, nothing changes. The format is this project's own.
 pub fn put_validity(out: &mut Vec<u8>, explained: &Explained) -> Result<(), NoMemory>
-    ensures ok { OnOk result (out.new.items ≡ out.old.items ++ validity_text explained.now.state explained.now.covering) }
+    ensures ok { OnOk result (out.new.items ≡ out.old.items ++
+        validity_text explained.now.state explained.now.covering) }
     ensures err { OnErr result (out.new.items ≡ out.old.items) }
 {
     let kept = out.len();
