@@ -1,5 +1,5 @@
 -- Lone ASes.
-use Rattle.std.proofs.Common.{◌≡◌, ◌≢◌, ◌<◌, inl, inr, ℕ, ◌&&◌, ◌==◌, ◌||◌, not, Bool, true, false, cond, None, Some, List, [], ◌∷◌, length, refl, sym, ap, subst, ◌∙◌, arith, eqb-true, true≢false}
+use Rattle.std.proofs.Common.{◌≡◌, ◌≢◌, ◌<◌, inl, inr, ℕ, ◌&&◌, ◌||◌, not, Bool, true, false, cond, None, Some, List, [], ◌∷◌, length, refl, sym, ap, subst, ◌∙◌, arith, true≢false}
 use Rattle.std.specs.Prelude.{filter, nat_eq, nat_lt, option_map}
 use Rattle.std.specs.List.{AllByRecursion, IsDistinct}
 use Rattle.std.specs.FinMap as fin

@@ -6,9 +6,9 @@ use Rattle.net_names.specs.Addresses.{AddrValue}
 use Rattle.net_names.specs.Coverage.{holds}
 use Rattle.net_names.specs.Numbers.{occurs}
 use Rattle.net_names.specs.Prefixes.{PrefixValue}
-use Rattle.as_graph.specs.Hierarchy.{HasNoProviderCycle, IsRank}
+use Rattle.as_graph.specs.Hierarchy.{HasNoProviderCycle}
 use Rattle.as_graph.specs.Topology.{Topology, has, relation, unmarked}
-use Rattle.rank_order.specs.Ranks.{rank_at}
+use Rattle.three_pass.specs.Courses.{IsCourse}
 use Rattle.stability_laws.specs.Plans.{Plan, announced_path, announcers_of, announces, has_prefix, leaks_in}
 use Rattle.leak_round.specs.Limits.{IsWithinLimits}
 use Rattle.data_trace.specs.Indexes.{IsIndexOf}
@@ -49,7 +49,7 @@ world_of f = base_world f.base.now
 pub record IsFixed (f : Fixed) : Type 0 where
   pub graph : IsGraphOf (world_of f) f.graph.now
   pub payloads : f.states.payloads ≡ (world_of f).payloads
-  pub ranked : (a : ℕ) → IsRank (relation f.graph.now) a (rank_at f.ranks.now a)
+  pub course : IsCourse f.graph.now f.course
   pub no_cycle : HasNoProviderCycle (relation f.graph.now)
   pub plan : IsPlanFor f.addr f.round (world_of f).plan f.plan
   pub small : IsWithinLimits f.plan

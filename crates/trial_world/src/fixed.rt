@@ -19,6 +19,7 @@ use sim_core::{Base, kept_are_stable, known_states};
 use stability_laws::SeedPlan;
 use std::alloc::Global;
 use sweep::Sweep;
+use three_pass::Course;
 
 /// The world that a line is over, with what its round and its address depend on.
 #[derive(Drop)]
@@ -26,7 +27,8 @@ pub struct Fixed<'a> {
     pub(crate) alloc: Global,
     pub(crate) base: &'a Base,
     pub(crate) graph: &'a Graph,
-    pub(crate) ranks: &'a Ranks,
+    // What propagation goes along, which no policy changes.
+    pub(crate) course: Course,
     pub(crate) states: KnownStates<'a>,
     // The announcements of the prefixes that hold the address, and the leaks of the rounds up to the round.
     pub(crate) plan: SeedPlan,
@@ -41,7 +43,7 @@ pub struct Fixed<'a> {
 pub fn fixed_for<'a>(
     alloc: Global,
     base: &'a Base,
-    ranks: &'a Ranks,
+    ranks: &Ranks,
     line: &Sweep,
 ) -> Result<Fixed<'a>, NoMemory>
     requires ranks { (a : ℕ) → IsRank (relation (topology (base_world base.now))) a (rank_at ranks.now a) }
@@ -55,6 +57,7 @@ pub fn fixed_for<'a>(
     kept_are_stable();
     let (graph, whole) = (base.graph(), base.plan());
     let _rounds = base.rounds();
+    let course = Course::of(alloc, graph, ranks)?;
     let plan = part_for(alloc, whole, line.addr, line.round)?;
     let states = known_states(alloc, base.vrps(), &plan)?;
     let index = WatchIndex::of(alloc, graph, base.book())?;
@@ -63,7 +66,7 @@ pub fn fixed_for<'a>(
         alloc,
         base,
         graph,
-        ranks,
+        course,
         states,
         plan,
         index,

@@ -43,10 +43,7 @@ pub fn kinds_of(
 {
     let mut kinds = Vec::new(alloc);
     for change in changes {
-        match kinds.push((change.0, *book.policy(change.0))) {
-            Ok(()) => {}
-            Err(_) => return Err(NoMemory),
-        }
+        kinds.push((change.0, *book.policy(change.0)))?;
     }
     Ok(kinds)
 }
@@ -63,7 +60,8 @@ fn give(book: &mut Book<Kind>, asn: Asn, kind: Kind) -> Result<(), NoMemory>
 /// The book in which these ASes have the kinds that they have in another one, and the rest has the plain one. There is
 /// room for them, in their order.
 pub fn copy_at(alloc: Global, book: &Book<Kind>, ases: &[Asn]) -> Result<Book<Kind>, NoMemory>
-    ensures { IfOk result (λ copy. (a : ℕ) → policy_at copy a ≡ (if occurs a ases.now then policy_at book.now a else kind.Plain)) }
+    ensures { IfOk result (λ copy. (a : ℕ) →
+        policy_at copy a ≡ (if occurs a ases.now then policy_at book.now a else kind.Plain)) }
 {
     let mut copy = Book::new(alloc, Kind::Plain);
     for asn in ases {

@@ -27,10 +27,7 @@ pub fn lone_ases(alloc: Global, graph: &Graph, plan: &SeedPlan) -> Result<Vec<As
     let mut lone = Vec::new(alloc);
     for asn in graph.ases() {
         if is_lone(graph, plan, *asn) {
-            match lone.push(*asn) {
-                Ok(()) => {}
-                Err(_) => return Err(NoMemory),
-            }
+            lone.push(*asn)?;
         }
     }
     Ok(lone)

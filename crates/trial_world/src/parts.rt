@@ -24,7 +24,8 @@ fn announce_at(
         IsPart addr whole.now part.old → IsPart addr whole.now part.new) }
     ensures there { OnOk result ((addr : AddrValue) → holds_of prefix addr ≡ true → IsPart addr whole.now part.old →
         announced_path part.new prefix asn ≡ announced_path whole.now prefix asn) }
-    ensures more { OnOk result ((p : PrefixValue) (a : ℕ) → announces part.old p a ≡ true → announces part.new p a ≡ true) }
+    ensures more { OnOk result ((p : PrefixValue) (a : ℕ) →
+        announces part.old p a ≡ true → announces part.new p a ≡ true) }
     ensures leakers { part.new.leakers ≡ part.old.leakers }
 {
     if part.announces(prefix, asn) {
@@ -50,7 +51,8 @@ fn announce_prefix(
         IsPart addr whole.now part.old → IsPart addr whole.now part.new) }
     ensures there { OnOk result ((addr : AddrValue) → holds_of prefix addr ≡ true → IsPart addr whole.now part.old →
         (a : ℕ) → announced_path part.new prefix a ≡ announced_path whole.now prefix a) }
-    ensures more { OnOk result ((p : PrefixValue) (a : ℕ) → announces part.old p a ≡ true → announces part.new p a ≡ true) }
+    ensures more { OnOk result ((p : PrefixValue) (a : ℕ) →
+        announces part.old p a ≡ true → announces part.new p a ≡ true) }
     ensures leakers { part.new.leakers ≡ part.old.leakers }
 {
     for asn in whole.announcers() {

@@ -8,7 +8,8 @@ ghost use Rattle.sim_core.specs.World.{HasCycle, topology};
 ghost use Rattle.sweep.specs.Swept.{Appends};
 ghost use Rattle.trial_world.specs.Sweeps.{IsSweptIn, is_inside};
 
-use crate::trial::trial_for;
+use crate::fixed::fixed_for;
+use crate::trial::trial_of;
 use net_names::NoMemory;
 use rank_order::Ranks;
 use sim_core::Base;
@@ -31,6 +32,7 @@ pub fn put_sweep(
     ensures ok { OnOk result (Appends (IsSweptIn (base_world base.now) line.now) out.old.items out.new.items) }
     ensures err { OnErr result (out.new.items ≡ out.old.items) }
 {
-    let mut trial = trial_for(alloc, base, ranks, line)?;
+    let fixed = fixed_for(alloc, base, ranks, line)?;
+    let mut trial = trial_of(fixed, ranks)?;
     sweep_rows(alloc, &mut trial, line, out)
 }

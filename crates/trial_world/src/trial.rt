@@ -1,15 +1,12 @@
 //! A trial of a line.
-ghost use Rattle.std.specs.Prelude.{◌≡◌, ℕ, true, IfOk};
-ghost use Rattle.as_graph.specs.Hierarchy.{IsRank};
-ghost use Rattle.as_graph.specs.Topology.{relation};
-ghost use Rattle.rank_order.specs.Ranks.{rank_at};
-ghost use Rattle.sim_core.specs.Bases.{base_world};
-ghost use Rattle.sim_core.specs.World.{HasCycle, kind_at, topology};
+ghost use Rattle.std.specs.Prelude.{◌≡◌, ℕ, IfOk};
+ghost use Rattle.sim_core.specs.World.{kind_at};
 ghost use Rattle.stability_laws.specs.Book.{policy_at};
-ghost use Rattle.trial_world.specs.Sweeps.{end_of as the_end_of, is_inside};
+ghost use Rattle.trial_world.specs.Fixed.{IsFixed, world_of};
+ghost use Rattle.trial_world.specs.Sweeps.{end_of as the_end_of};
 ghost use Rattle.trial_world.specs.Trials.{IsRight, gone_with as gone_with_fate, line_base, number_in};
 
-use crate::fixed::{Fixed, fixed_for};
+use crate::fixed::Fixed;
 use crate::kinds::{copy_at, give_all, kinds_of, room_for};
 use crate::lone::plain_count;
 use crate::watching::watch_by;
@@ -17,10 +14,8 @@ use data_trace::{End, Watch, Which};
 use net_names::{Addr, Asn, NoMemory};
 use policy_kinds::Kind;
 use rank_order::{Ranks, by_rank};
-use sim_core::Base;
 use stability_laws::Book;
-use std::alloc::Global;
-use sweep::{Fate, Sweep, Trial};
+use sweep::{Fate, Trial};
 
 /// A trial of a line: the kind of each AS now, the watch of the line's round and address, and how many of the ASes at the
 /// start are none of this world.
@@ -54,23 +49,16 @@ fn gone_with(fate: &Fate, gone: u64) -> u64
 }
 
 /// The trial of a line in which no AS has changed its kind yet.
-pub fn trial_for<'a>(
-    alloc: Global,
-    base: &'a Base,
-    ranks: &'a Ranks,
-    line: &Sweep,
-) -> Result<LineTrial<'a>, NoMemory>
-    requires ranks { (a : ℕ) → IsRank (relation (topology (base_world base.now))) a (rank_at ranks.now a) }
-    requires no_cycle { HasCycle (base_world base.now) → ⊥ }
-    requires inside { is_inside (base_world base.now) line.now ≡ true }
+pub fn trial_of<'a>(fixed: Fixed<'a>, ranks: &Ranks) -> Result<LineTrial<'a>, NoMemory>
+    requires { IsFixed fixed }
     ensures right { IfOk result IsRight }
-    ensures base { IfOk result (λ t. line_base t ≡ (base_world base.now, (line.now.round, line.now.addr))) }
-    ensures kinds { IfOk result (λ t. (a : ℕ) → policy_at t.book a ≡ kind_at (base_world base.now) a) }
+    ensures base { IfOk result (λ t. line_base t ≡ (world_of fixed.entry, (fixed.entry.round, fixed.entry.addr))) }
+    ensures kinds { IfOk result (λ t. (a : ℕ) → policy_at t.book a ≡ kind_at (world_of fixed.entry) a) }
 {
-    let fixed = fixed_for(alloc, base, ranks, line)?;
+    let alloc = fixed.alloc;
     // Policies are sought at the places of ASes by rank first, as propagation goes along them.
     let order = by_rank(alloc, fixed.graph, ranks)?;
-    let book = copy_at(alloc, base.book(), order.as_slice())?;
+    let book = copy_at(alloc, fixed.base.book(), order.as_slice())?;
     let watch = watch_by(&fixed, &book)?;
     let gone = plain_count(fixed.lone.as_slice(), &book);
     Ok(LineTrial {

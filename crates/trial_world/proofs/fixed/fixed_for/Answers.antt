@@ -12,6 +12,9 @@ use Rattle.sim_core.proofs.Watches.{round_within}
 use Rattle.trial_world.specs.Fixed.{AreLone, IsPlanFor}
 use Rattle.trial_world.proofs.fixed.fixed_for.Goals as goal
 
+pub of-requires : goal.of-requires
+of-requires c = λ a. subst (λ (t : Topology). IsRank (relation t) a (rank_at c.args.ranks.now a)) (sym c.graph-graph.ensures) (c.requires.ranks a)
+
 pub returns-clause-right : goal.returns-clause-right
 returns-clause-right c =
     let w = base_world c.args.base.now in
@@ -21,7 +24,7 @@ returns-clause-right c =
     record {
       graph = c.graph-graph.ensures;
       payloads = c.in_ok-states.ensures ∙ c.vrps.ensures;
-      ranked = λ a. subst (λ (t : Topology). IsRank (relation t) a (rank_at c.args.ranks.now a)) (sym c.graph-graph.ensures) (c.requires.ranks a);
+      course = c.in_ok-course.ensures;
       no_cycle = c.kept_are_stable.ensures.no_cycle w g c.graph-graph.ensures c.requires.no_cycle;
       plan = subst (λ (t : Plan). IsPlanFor c.args.line.now.addr c.args.line.now.round t c.in_ok-plan.plan) whole c.in_ok-plan.ensures.part;
       small = c.in_ok-plan.ensures.small;

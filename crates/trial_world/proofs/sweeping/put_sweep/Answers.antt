@@ -1,29 +1,39 @@
-use Rattle.std.proofs.Common.{◌∙◌, ◌≤◌, ℕ, ap, sym, subst}
+use Rattle.std.proofs.Common.{◌≡◌, ◌∙◌, ◌≤◌, ℕ, ap, sym, subst}
 use Rattle.std.specs.FinMap as fin
 use Rattle.std.specs.List.{All}
 use Rattle.net_names.specs.Addresses.{AddrValue}
 use Rattle.policy_kinds.specs.declared.kind.Kind.{Kind}
 use Rattle.stability_laws.specs.Plans.{announcers_of}
 use Rattle.sim_core.specs.Bases.{base_world}
-use Rattle.sim_core.specs.World.{World}
+use Rattle.sim_core.specs.World.{World, kind_at}
+use Rattle.sim_core.specs.declared.base.Base.{Base}
 use Rattle.sweep.specs.Swept.{Appends, IsSwept}
 use Rattle.trial_world.specs.Sweeps.{AreNumbers, with_kinds}
-use Rattle.trial_world.specs.Trials.{as_set}
-use Rattle.trial_world.specs.Trials.{is_of_line}
+use Rattle.trial_world.specs.Trials.{as_set, is_of_line}
+use Rattle.trial_world.specs.declared.fixed.Fixed.{Fixed}
 use Rattle.trial_world.proofs.Lines.{few_numbers, own_line}
 use Rattle.trial_world.proofs.PartPlans.{on_ok}
 use Rattle.trial_world.proofs.sweeping.put_sweep.Goals as goal
 
+-- what a trial is over is the world, the round and the address that its line is made for
+over : (b : World × (ℕ × AddrValue)) (f : Fixed) (base : Base) (round : ℕ) (addr : AddrValue) → b ≡ (base_world f.base.now, (f.round, f.addr)) → f.base.now ≡ base → f.round ≡ round → f.addr ≡ addr → b ≡ (base_world base, (round, addr))
+over b f base round addr is bases rounds addrs = is ∙ (λ i. (base_world (bases i), (rounds i, addrs i)))
+
 pub sweep_rows-requires-clause-in_world : goal.sweep_rows-requires-clause-in_world
 sweep_rows-requires-clause-in_world c =
-    let line = c.args.line.now in (
-      ap (λ (b : World × (ℕ × AddrValue)). is_of_line b line.round line.addr) c.in_ok-trial.ensures.base ∙ own_line (base_world c.args.base.now) line.round line.addr,
-      subst (λ (b : World × (ℕ × AddrValue)). All (λ k. k ≤ fin.len (as_set b.0)) line.ks) (sym c.in_ok-trial.ensures.base) (few_numbers (base_world c.args.base.now) line c.requires.inside),
+    let line = c.args.line.now in
+    let fixed = c.in_ok-fixed.ensures in
+    let base = over _ c.in_ok-fixed.fixed c.args.base.now line.round line.addr c.in_ok-trial.ensures.base fixed.base fixed.round fixed.addr in (
+      ap (λ (b : World × (ℕ × AddrValue)). is_of_line b line.round line.addr) base ∙ own_line (base_world c.args.base.now) line.round line.addr,
+      subst (λ (b : World × (ℕ × AddrValue)). All (λ k. k ≤ fin.len (as_set b.0)) line.ks) (sym base) (few_numbers (base_world c.args.base.now) line c.requires.inside),
     )
 
 pub returns-clause-ok : goal.returns-clause-ok
 returns-clause-ok c =
     let line = c.args.line.now in
+    let fixed = c.in_ok-fixed.ensures in
+    let base = over _ c.in_ok-fixed.fixed c.args.base.now line.round line.addr c.in_ok-trial.ensures.base fixed.base fixed.round fixed.addr in
+    let kinds = λ (a : ℕ). c.in_ok-trial.ensures.kinds a ∙ ap (λ (b : Base). kind_at (base_world b) a) fixed.base in
     on_ok c.sweep_rows.result (λ text. subst (λ (s : (World × (ℕ × AddrValue)) × (ℕ → Kind)).
     Appends (IsSwept (as_set s.0.0) (announcers_of s.0.0.plan) (λ kinds. AreNumbers (with_kinds s.0.0 kinds) line.round line.addr) s.1 line) c.args.out.now.items c.sweep_rows.new.out.items)
-    (λ i. (c.in_ok-trial.ensures.base i, λ a. c.in_ok-trial.ensures.kinds a i)) text) c.sweep_rows.ensures.ok
+    (λ i. (base i, λ a. kinds a i)) text) c.sweep_rows.ensures.ok

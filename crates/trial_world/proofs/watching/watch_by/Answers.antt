@@ -5,10 +5,12 @@ use Rattle.origin_validation.specs.Judging.{state_of}
 use Rattle.policy_kinds.specs.Kinds.{kind_policy}
 use Rattle.roa_table.specs.Sets.{Payloads}
 use Rattle.route_choice.specs.RoundTables.{round_routing, table_at}
+use Rattle.route_choice.specs.declared.round_tables.RoundTables.{RoundTables}
 use Rattle.stability_laws.specs.Plans.{Plan, announces, has_prefix}
 use Rattle.stability_laws.specs.Rounds.{AreRounds}
 use Rattle.stability_laws.specs.World.{setting}
-use Rattle.leak_round.specs.Rounds.{kept}
+use Rattle.leak_round.specs.Rounds.{kept, plan_of, pool_of}
+use Rattle.leak_round.specs.declared.rounds.Rounds.{Rounds}
 use Rattle.data_trace.specs.Indexes.{has_as}
 use Rattle.data_trace.proofs.Inside.{ok_gives}
 use Rattle.sim_core.proofs.Hops.{same_rows}
@@ -19,6 +21,13 @@ use Rattle.trial_world.proofs.TrialNumbers.{numbers_for}
 use Rattle.trial_world.proofs.Watched.{inside_part, no_table, tables_inside}
 use Rattle.trial_world.proofs.watching.watch_by.Goals as goal
 
+-- the tables of a round have the routings that are kept of it, and one for each prefix of the plan
+seen : (pool : PathPool) (tables : RoundTables) (rounds : Rounds) (round : ℕ) (plan : Plan) → pool ≡ pool_of rounds → ((p : PrefixValue) (a : ℕ) → round_routing (pool_of rounds) tables p a ≡ kept rounds round p a)
+    → ((p : PrefixValue) → is_some (table_at tables p) ≡ has_prefix (plan_of rounds) p) → plan_of rounds ≡ plan
+    → ((p : PrefixValue) (a : ℕ) → round_routing pool tables p a ≡ kept rounds round p a) × ((p : PrefixValue) → is_some (table_at tables p) ≡ has_prefix plan p)
+seen pool tables rounds round plan is routing prefixes plans =
+    ((λ p a. ap (λ (x : PathPool). round_routing x tables p a) is ∙ routing p a), λ p. prefixes p ∙ ap (λ (t : Plan). has_prefix t p) plans)
+
 pub by_index-requires-clause-inside : goal.by_index-requires-clause-inside
 by_index-requires-clause-inside c =
     let f = c.args.fixed.now in
@@ -26,9 +35,7 @@ by_index-requires-clause-inside c =
     let tables = c.in-Some.tables.now in
     let whole : c.plan-whole.result.now ≡ (world_of f).plan = c.plan-whole.ensures.value in
     let part : c.in_ok-plan.plan ≡ f.plan = c.in_ok-plan.ensures in
-    let each : (p : PrefixValue) (a : ℕ) → round_routing c.pool-pool.result.now tables p a ≡ kept rounds f.round p a = λ p a.
-    ap (λ (pool : PathPool). round_routing pool tables p a) c.pool-pool.ensures.value ∙ c.in-Some.ensures.routing p a in
-    let full : (p : PrefixValue) → is_some (table_at tables p) ≡ has_prefix f.plan p = λ p. c.in-Some.ensures.prefixes p ∙ ap (λ (t : Plan). has_prefix t p) (c.in_ok-rounds.ensures.rounds.plan_is ∙ part) in
+    let (each, full) = seen c.pool-pool.result.now tables rounds f.round f.plan c.pool-pool.ensures.value c.in-Some.ensures.routing c.in-Some.ensures.prefixes (c.in_ok-rounds.ensures.rounds.plan_is ∙ part) in
     let stable : AreRounds (λ p. setting kind_policy f.graph.now c.args.book.now (state_of f.states.payloads p)) f.plan f.round (kept rounds) =
     subst (λ (t : Plan). AreRounds (λ p. setting kind_policy f.graph.now c.args.book.now (state_of f.states.payloads p)) t f.round (kept rounds)) part c.in_ok-rounds.ensures.rounds.stable in
     tables_inside (has_as f.index) c.pool-pool.result.now tables c.plan-whole.result.now f.plan (kept rounds f.round) each full
@@ -42,9 +49,7 @@ returns c =
     let tables = c.in-Some.tables.now in
     let whole : c.plan-whole.result.now ≡ (world_of f).plan = c.plan-whole.ensures.value in
     let part : c.in_ok-plan.plan ≡ f.plan = c.in_ok-plan.ensures in
-    let each : (p : PrefixValue) (a : ℕ) → round_routing c.pool-pool.result.now tables p a ≡ kept rounds f.round p a = λ p a.
-    ap (λ (pool : PathPool). round_routing pool tables p a) c.pool-pool.ensures.value ∙ c.in-Some.ensures.routing p a in
-    let full : (p : PrefixValue) → is_some (table_at tables p) ≡ has_prefix f.plan p = λ p. c.in-Some.ensures.prefixes p ∙ ap (λ (t : Plan). has_prefix t p) (c.in_ok-rounds.ensures.rounds.plan_is ∙ part) in
+    let (each, full) = seen c.pool-pool.result.now tables rounds f.round f.plan c.pool-pool.ensures.value c.in-Some.ensures.routing c.in-Some.ensures.prefixes (c.in_ok-rounds.ensures.rounds.plan_is ∙ part) in
     let stable : AreRounds (λ p. setting kind_policy f.graph.now c.args.book.now (state_of (world_of f).payloads p)) f.plan f.round (kept rounds) =
     subst (λ (t : Plan × Payloads). AreRounds (λ p. setting kind_policy f.graph.now c.args.book.now (state_of t.1 p)) t.0 f.round (kept rounds)) (λ i. (part i, c.requires.payloads i)) c.in_ok-rounds.ensures.rounds.stable in
     ok_gives _ (λ watch. AreCounted f c.args.book.now watch (plain_in f.lone.items c.args.book.now)) c.by_index.result

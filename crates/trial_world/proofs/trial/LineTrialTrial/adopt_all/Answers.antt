@@ -38,3 +38,11 @@ returns-clause-right c =
       fixed = c.requires.right.fixed;
       numbers = subst (λ (kinds : ℕ → Kind). AreNumbers (with_kinds (world_of f) kinds) f.round f.addr (number_in c.args.self.now.watch c.args.self.now.gone)) (λ i a. sym (same a) i) c.requires.right.numbers;
     }
+
+pub returns-in_err-room_for-clause-right : goal.returns-in_err-room_for-clause-right
+returns-in_err-room_for-clause-right c =
+    let f = c.args.self.now.fixed in
+    record {
+      fixed = c.requires.right.fixed;
+      numbers = subst (λ (kinds : ℕ → Kind). AreNumbers (with_kinds (world_of f) kinds) f.round f.addr (number_in c.args.self.now.watch c.args.self.now.gone)) (λ i a. sym (c.room_for.ensures.same a) i) c.requires.right.numbers;
+    }
