@@ -68,5 +68,6 @@ asked (Some (file_form _ _ scenario _ option)) reads = do
   links ← read_as file.Relations MOST_LIST_BYTES cause.Relation links_of reads
   payloads ← read_as file.Payloads MOST_LIST_BYTES cause.Payload payloads_in reads
   plan ← option_map_or (λ _. read_as file.Scenario MOST_TEXT_BYTES cause.Scenario scenario_of_bytes reads) scenario (Ok nothing)
-  jobs ← read_as file.Script (most_bytes option) (λ c. c) (jobs_in option) reads
+  jobs ← read_as file.Script (elim option [ Check ↦ MOST_LIST_BYTES | _ ↦ MOST_TEXT_BYTES ])
+      (λ c. c) (jobs_in option) reads
   Ok (record { links = links; vrps = payloads; scenario = plan; jobs = jobs })

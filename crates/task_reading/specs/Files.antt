@@ -35,10 +35,14 @@ abbrev pub IsFaultOf : {A : Type 0} → AskError → Result A Fault → Type 0
 IsFaultOf error.Memory value = Unit {0}
 IsFaultOf (error.Fault fault) value = value ≡ Err fault
 
+-- the error is the value's fault of this file, unless memory ran out
+abbrev pub IsFaultIn : {A E : Type 0} → File → (E → Cause) → AskError → Result A E → Type 0
+IsFaultIn which as_cause error value = IsFaultOf error (result_map_both (λ x. x) (λ e. InFile which (as_cause e)) value)
+
 -- the jobs were found in the bytes of the option's file, or the error says why there are none
 abbrev pub FindsJobs : Result (List Job) AskError → Result (List Job) Cause → Type 0
 FindsJobs (Ok jobs) value = value ≡ Ok jobs
-FindsJobs (Err e) value = IsFaultOf e (result_map_both (λ x. x) (InFile file.Script) value)
+FindsJobs (Err e) value = IsFaultIn file.Script (λ c. c) e value
 
 -- what was found is the value, or the error says why there is none
 abbrev pub Finds : {X A : Type 0} → (X → A) → Result X AskError → Result A Fault → Type 0

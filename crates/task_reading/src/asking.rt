@@ -62,7 +62,8 @@ fn origin_scenario(alloc: Global, origin: Asn) -> Result<Scenario, NoMemory>
 
 // The line that asks for the routes of 0.0.0.0/0.
 fn origin_lines(alloc: Global) -> Result<Lines, NoMemory>
-    ensures { IfOk result (λ lines. lines ≡ record { number = 1; act = act.Query (query.Routes 1 (record { family = V4; addr = 0; len = 0 })) } ∷ []) }
+    ensures { IfOk result (λ lines. lines ≡
+        record { number = 1; act = act.Query (query.Routes 1 (record { family = V4; addr = 0; len = 0 })) } ∷ []) }
 {
     let mut lines = Lines::new(alloc);
     let prefix = all_v4_addresses();
@@ -83,16 +84,9 @@ fn ask_origin<I: Inputs>(
     ensures { Prepares (source_of I.holds I.is_sound I.faults inputs.old inputs.new)
         (Some (origin_form rel.now origin)) result }
 {
-    let links = match read_relations(alloc, inputs, rel) {
-        Ok(links) => links,
-        Err(error) => return Err(error),
-    };
-    let Ok(scenario) = origin_scenario(alloc, origin) else {
-        return Err(AskError::Memory);
-    };
-    let Ok(lines) = origin_lines(alloc) else {
-        return Err(AskError::Memory);
-    };
+    let links = read_relations(alloc, inputs, rel)?;
+    let scenario = origin_scenario(alloc, origin)?;
+    let lines = origin_lines(alloc)?;
     Ok(Asked {
         links,
         vrps: Vrps::new(alloc),
@@ -112,29 +106,19 @@ fn ask_file<I: Inputs>(
     inputs: &mut I,
 ) -> Result<Asked, AskError>
     ensures { Prepares (source_of I.holds I.is_sound I.faults inputs.old inputs.new)
-        (Some (file_form rel.now (text_seen vrps.entry) (text_seen scenario.entry) (text_seen file.entry) option)) result }
+        (Some (file_form rel.now (text_seen vrps.entry) (text_seen scenario.entry) (text_seen file.entry) option))
+        result }
 {
-    let links = match read_relations(alloc, inputs, rel) {
-        Ok(links) => links,
-        Err(error) => return Err(error),
-    };
-    let vrps = match read_payloads(alloc, inputs, vrps) {
-        Ok(vrps) => vrps,
-        Err(error) => return Err(error),
-    };
-    let scenario = match read_plan(alloc, inputs, scenario) {
-        Ok(scenario) => scenario,
-        Err(error) => return Err(error),
-    };
-    match read_jobs(alloc, inputs, option, file) {
-        Ok(jobs) => Ok(Asked {
-            links,
-            vrps,
-            scenario,
-            jobs,
-        }),
-        Err(error) => Err(error),
-    }
+    let links = read_relations(alloc, inputs, rel)?;
+    let vrps = read_payloads(alloc, inputs, vrps)?;
+    let scenario = read_plan(alloc, inputs, scenario)?;
+    let jobs = read_jobs(alloc, inputs, option, file)?;
+    Ok(Asked {
+        links,
+        vrps,
+        scenario,
+        jobs,
+    })
 }
 
 // The generated input of so many ASes. It reads no file.
@@ -144,17 +128,12 @@ fn ask_demo<I: Inputs>(alloc: Global, size: u32, _inputs: &mut I) -> Result<Aske
     ensures { Prepares (source_of I.holds I.is_sound I.faults _inputs.old _inputs.new)
         (Some (demo_form size)) result }
 {
-    let Ok(
-        Demo {
-            links,
-            vrps,
-            scenario,
-            lines,
-        },
-    ) = generate(alloc, size)
-    else {
-        return Err(AskError::Memory);
-    };
+    let Demo {
+        links,
+        vrps,
+        scenario,
+        lines,
+    } = generate(alloc, size)?;
     Ok(Asked {
         links,
         vrps,

@@ -1,6 +1,5 @@
 //! The faults of files as errors of asking.
 ghost use Rattle.std.specs.Prelude.{Result, List, Err};
-ghost use Rattle.std.specs.Result.{result_map_both};
 ghost use Rattle.net_names.specs.Links.{LinkMap};
 ghost use Rattle.caida_reader.specs.Progress.{Fails as RelationFails};
 ghost use Rattle.caida_reader.specs.declared.errors.RelError.{RelError as ARelError};
@@ -25,10 +24,9 @@ ghost use Rattle.sweep.specs.declared.sweeps.Sweep.{Sweep as ASweep};
 ghost use Rattle.table_check.specs.Reading.{Fails as TablesFails};
 ghost use Rattle.table_check.specs.declared.reading.TablesError.{TablesError as ATablesError};
 ghost use Rattle.table_check.specs.declared.tables.Tables.{Tables as SomeTables};
-ghost use Rattle.task_reading.specs.Files.{IsFaultOf};
+ghost use Rattle.task_reading.specs.Files.{IsFaultIn};
 ghost use Rattle.task_reading.specs.declared.types.File.TheVariants as file;
 ghost use Rattle.task_reading.specs.declared.types.Cause.TheVariants as cause;
-ghost use Rattle.task_reading.specs.declared.types.Fault.TheVariants as fault;
 
 use crate::types::{AskError, Cause, Fault, File};
 use activations::ActsError;
@@ -42,7 +40,7 @@ use table_check::TablesError;
 /// The error for a fault of the relationship file.
 pub fn of_relations(error: RelError) -> AskError
     ensures { (value : Result LinkMap ARelError) → RelationFails error value
-        → IsFaultOf result (result_map_both (λ x. x) (λ e. fault.InFile file.Relations (cause.Relation e)) value) }
+        → IsFaultIn file.Relations cause.Relation result value }
 {
     match error {
         RelError::Memory => AskError::Memory,
@@ -53,7 +51,7 @@ pub fn of_relations(error: RelError) -> AskError
 /// The error for a fault of the payload file.
 pub fn of_payloads(error: VrpError) -> AskError
     ensures { (value : Result Payloads AVrpError) → Gives (Err error) value
-        → IsFaultOf result (result_map_both (λ x. x) (λ e. fault.InFile file.Payloads (cause.Payload e)) value) }
+        → IsFaultIn file.Payloads cause.Payload result value }
 {
     match error {
         VrpError::Memory => AskError::Memory,
@@ -64,7 +62,7 @@ pub fn of_payloads(error: VrpError) -> AskError
 /// The error for a fault of the scenario.
 pub fn of_scenario(error: ScenarioError) -> AskError
     ensures { (value : Result ScenarioValue AScenarioError) → ScenarioFails error value
-        → IsFaultOf result (result_map_both (λ x. x) (λ e. fault.InFile file.Scenario (cause.Scenario e)) value) }
+        → IsFaultIn file.Scenario cause.Scenario result value }
 {
     match error {
         ScenarioError::Memory => AskError::Memory,
@@ -75,7 +73,7 @@ pub fn of_scenario(error: ScenarioError) -> AskError
 /// The error for a fault of the script.
 pub fn of_script(error: ScriptError) -> AskError
     ensures { (value : Result (List LineValue) AScriptError) → ScriptFails error value
-        → IsFaultOf result (result_map_both (λ x. x) (λ e. fault.InFile file.Script (cause.Script e)) value) }
+        → IsFaultIn file.Script cause.Script result value }
 {
     match error {
         ScriptError::Memory => AskError::Memory,
@@ -86,7 +84,7 @@ pub fn of_script(error: ScriptError) -> AskError
 /// The error for a fault of the file of activations.
 pub fn of_acts(error: ActsError) -> AskError
     ensures { (value : Result SomeActs AnActsError) → ActsFails error value
-        → IsFaultOf result (result_map_both (λ x. x) (λ e. fault.InFile file.Script (cause.Acts e)) value) }
+        → IsFaultIn file.Script cause.Acts result value }
 {
     match error {
         ActsError::Memory => AskError::Memory,
@@ -97,7 +95,7 @@ pub fn of_acts(error: ActsError) -> AskError
 /// The error for a fault of the file of deliveries.
 pub fn of_deliveries(error: DeliveriesError) -> AskError
     ensures { (value : Result SomeDeliveries ADeliveriesError) → DeliveriesFails error value
-        → IsFaultOf result (result_map_both (λ x. x) (λ e. fault.InFile file.Script (cause.Deliveries e)) value) }
+        → IsFaultIn file.Script cause.Deliveries result value }
 {
     match error {
         DeliveriesError::Memory => AskError::Memory,
@@ -108,7 +106,7 @@ pub fn of_deliveries(error: DeliveriesError) -> AskError
 /// The error for a fault of the file of sweeps.
 pub fn of_sweeps(error: SweepsError) -> AskError
     ensures { (value : Result (List ASweep) ASweepsError) → SweepsFails error value
-        → IsFaultOf result (result_map_both (λ x. x) (λ e. fault.InFile file.Script (cause.Sweeps e)) value) }
+        → IsFaultIn file.Script cause.Sweeps result value }
 {
     match error {
         SweepsError::Memory => AskError::Memory,
@@ -119,7 +117,7 @@ pub fn of_sweeps(error: SweepsError) -> AskError
 /// The error for a fault of the printed table.
 pub fn of_tables(error: TablesError) -> AskError
     ensures { (value : Result SomeTables ATablesError) → TablesFails error value
-        → IsFaultOf result (result_map_both (λ x. x) (λ e. fault.InFile file.Script (cause.Tables e)) value) }
+        → IsFaultIn file.Script cause.Tables result value }
 {
     match error {
         TablesError::Memory => AskError::Memory,

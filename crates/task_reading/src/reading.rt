@@ -52,7 +52,8 @@ fn read_pieces<I: Inputs>(
     requires { 0 < length room.old }
     ensures found { ReadsAs (source_of I.holds I.is_sound I.faults inputs.old inputs.new) (Some name.now)
         (λ links. links) result (read_as files.Relations MOST_LIST_BYTES cause.Relation links_of) }
-    ensures taken { IsAtEnd (I.left inputs.new) ⊎ TakesAtMost (MOST_LIST_BYTES + 1) (I.holds inputs.old name.now) (I.left inputs.new) }
+    ensures taken { IsAtEnd (I.left inputs.new) ⊎
+        TakesAtMost (MOST_LIST_BYTES + 1) (I.holds inputs.old name.now) (I.left inputs.new) }
     ensures keeps { KeepsNames I.holds I.is_sound I.faults inputs.old inputs.new }
 {
     if inputs.begin(name).is_err() {
@@ -94,9 +95,7 @@ pub fn read_relations<I: Inputs>(
         (λ links. links) result (read_as files.Relations MOST_LIST_BYTES cause.Relation links_of) }
     ensures keeps { KeepsNames I.holds I.is_sound I.faults inputs.old inputs.new }
 {
-    let Ok(mut room) = vec![in alloc; 0u8; PIECE] else {
-        return Err(AskError::Memory);
-    };
+    let mut room = vec![in alloc; 0u8; PIECE]?;
     read_pieces(alloc, inputs, name, room.as_mut_slice())
 }
 
@@ -137,10 +136,7 @@ pub fn read_payloads<I: Inputs>(
     let Some(name) = name else {
         return Ok(Vrps::new(alloc));
     };
-    let bytes = match read_bytes(alloc, inputs, File::Payloads, MOST_LIST_BYTES, name) {
-        Ok(bytes) => bytes,
-        Err(error) => return Err(error),
-    };
+    let bytes = read_bytes(alloc, inputs, File::Payloads, MOST_LIST_BYTES, name)?;
     match roa_table::read(alloc, &bytes) {
         Ok(vrps) => Ok(vrps),
         Err(error) => Err(of_payloads(error)),
@@ -155,16 +151,14 @@ pub fn read_plan<I: Inputs>(
 ) -> Result<Scenario, AskError>
     ensures found { ReadsAs (source_of I.holds I.is_sound I.faults inputs.old inputs.new) (text_seen name.entry)
         (λ scenario. scenario) result
-        (λ reads. option_map_or (λ _. read_as files.Scenario MOST_TEXT_BYTES cause.Scenario scenario_of_bytes reads) (text_seen name.entry) (Ok nothing)) }
+        (λ reads. option_map_or (λ _. read_as files.Scenario MOST_TEXT_BYTES cause.Scenario scenario_of_bytes reads)
+        (text_seen name.entry) (Ok nothing)) }
     ensures keeps { KeepsNames I.holds I.is_sound I.faults inputs.old inputs.new }
 {
     let Some(name) = name else {
         return Ok(Scenario::new(alloc));
     };
-    let bytes = match read_bytes(alloc, inputs, File::Scenario, MOST_TEXT_BYTES, name) {
-        Ok(bytes) => bytes,
-        Err(error) => return Err(error),
-    };
+    let bytes = read_bytes(alloc, inputs, File::Scenario, MOST_TEXT_BYTES, name)?;
     match read_scenario(alloc, &bytes) {
         Ok(scenario) => Ok(scenario),
         Err(error) => Err(of_scenario(error)),
@@ -226,8 +220,6 @@ pub fn read_jobs<I: Inputs>(
     let Some(name) = name else {
         return jobs_in(alloc, option, b"");
     };
-    match read_bytes(alloc, inputs, File::Script, most_bytes(option), name) {
-        Ok(bytes) => jobs_in(alloc, option, &bytes),
-        Err(error) => Err(error),
-    }
+    let bytes = read_bytes(alloc, inputs, File::Script, most_bytes(option), name)?;
+    jobs_in(alloc, option, &bytes)
 }

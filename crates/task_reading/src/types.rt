@@ -1,12 +1,15 @@
 //! What a run is about.
 ghost use Rattle.std.specs.Prelude.{◌≡◌};
 ghost use Rattle.task_reading.specs.Texts.{number_of};
+ghost use Rattle.task_reading.specs.declared.types.AskError.TheVariants.{Memory};
 
 use activations::ActsError;
 use caida_reader::RelError;
 use message_sim::DeliveriesError;
+use net_names::NoMemory;
 use roa_table::VrpError;
 use scenario_text::{ScenarioError, ScriptError};
+use std::alloc::AllocError;
 use sweep::SweepsError;
 use table_check::TablesError;
 
@@ -41,6 +44,22 @@ pub enum AskError {
     Memory,
     /// The words or a file have this fault.
     Fault(Fault),
+}
+
+impl From<NoMemory> for AskError {
+    ghost from_gives = { λ _ e. e ≡ Memory };
+
+    fn from(_e: NoMemory) -> AskError {
+        AskError::Memory
+    }
+}
+
+impl From<AllocError> for AskError {
+    ghost from_gives = { λ _ e. e ≡ Memory };
+
+    fn from(_e: AllocError) -> AskError {
+        AskError::Memory
+    }
 }
 
 /// Why a file isn't taken.

@@ -123,7 +123,8 @@ fn form_by<'a>(
     demo: Option<&'a str>,
 ) -> Option<WordForm<'a>>
     ensures form { (stand : List (AFileOption × Text)) → IsStanding files.entry stand → option_map form_seen result
-        ≡ form_by stand (text_seen rel.entry) (text_seen vrps.entry) (text_seen scenario.entry) (text_seen origin.entry) (text_seen demo.entry) }
+        ≡ form_by stand (text_seen rel.entry) (text_seen vrps.entry) (text_seen scenario.entry)
+        (text_seen origin.entry) (text_seen demo.entry) }
     ensures sized { HasSize (option_map form_seen result) }
 {
     match (files, rel, vrps, scenario, origin, demo) {
@@ -162,10 +163,7 @@ pub fn read_words<'a>(alloc: Global, words: &'a [String]) -> Result<Option<WordF
     ensures form { IfOk result (λ form. option_map form_seen form ≡ form_of (map string_bytes words.now)) }
     ensures sized { IfOk result (λ form. HasSize (option_map form_seen form)) }
 {
-    let command = match new_command(alloc) {
-        Ok(command) => command,
-        Err(_) => return Err(NoMemory),
-    };
+    let command = new_command(alloc)?;
     let matches = match command.try_get_matches_from(words) {
         Ok(matches) => matches,
         Err(error) => {

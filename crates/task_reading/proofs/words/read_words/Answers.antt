@@ -4,21 +4,21 @@ use Rattle.clap.specs.declared.error.kind.ErrorKind.TheVariants.{OutOfMemory}
 use Rattle.task_reading.proofs.Parsing.{accepted, failed, found, refused, stands, taken}
 use Rattle.task_reading.proofs.words.read_words.Goals as goal
 
-pub returns-in-Err-try_get_matches_from : goal.returns-in-Err-try_get_matches_from
-returns-in-Err-try_get_matches_from c =
-    let other : kind_of c.in-Err-try_get_matches_from.error ≡ OutOfMemory → ⊥ =
+pub returns-in-Err : goal.returns-in-Err
+returns-in-Err c =
+    let other : kind_of c.in-Err.error ≡ OutOfMemory → ⊥ =
     λ h. let same : c.kind.result ≡ OutOfMemory = c.kind.ensures ∙ h in let is = rw same at c.eq.ensures in cc in
     record {
-      form = refused (map string_bytes c.args.words.now) c.in-Err-try_get_matches_from.error (failed _ _ c.in-Err-try_get_matches_from.error c.in-Ok.ensures c.in-Err-try_get_matches_from.ensures.kinds) other;
+      form = refused (map string_bytes c.args.words.now) c.in-Err.error (failed _ _ c.in-Err.error c.in_ok-command.ensures c.in-Err.ensures.kinds) other;
       sized = tt;
     }
 
 pub returns : goal.returns
 returns c =
     let words = map string_bytes c.args.words.now in
-    let rows = found _ words _ c.in-Ok.ensures c.in-Ok-try_get_matches_from.ensures.matches in
+    let rows = found _ words _ c.in_ok-command.ensures c.in-Ok.ensures.matches in
     record {
-      form = accepted words _ _ _ _ _ _ _ _ _ _ _ (taken _ words c.in-Ok.ensures c.in-Ok-try_get_matches_from.ensures.kinds)
+      form = accepted words _ _ _ _ _ _ _ _ _ _ _ (taken _ words c.in_ok-command.ensures c.in-Ok.ensures.kinds)
           (c.get_str-6.ensures ∙ stands _ _ _ rows) (c.get_str-7.ensures ∙ stands _ _ _ rows) (c.get_str-8.ensures ∙ stands _ _ _ rows)
           (c.get_str-5.ensures ∙ stands _ _ _ rows) (c.get_str-4.ensures ∙ stands _ _ _ rows) (c.get_str-3.ensures ∙ stands _ _ _ rows) (c.get_str-2.ensures ∙ stands _ _ _ rows) (c.get_str.ensures ∙ stands _ _ _ rows)
           (c.get_str-9.ensures ∙ stands _ _ _ rows) (c.get_str-10.ensures ∙ stands _ _ _ rows)
