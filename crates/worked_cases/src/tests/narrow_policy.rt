@@ -98,7 +98,8 @@ fn settle<L: Ledger>(
     steps: &mut Steps<L>,
 ) -> Settled
     requires { limit < 1000 }
-    ensures settled { IsSettled (setting (λ p. narrow_policy) graph.now book.now (λ asn. NotFound)) origin result.pool result.seeds result.table }
+    ensures settled { IsSettled (setting (λ p. narrow_policy) graph.now book.now (λ asn. NotFound))
+        origin result.pool result.seeds result.table }
     ensures limit { limit_of result.pool ≡ limit }
 {
     assert!(rt; 2 * graph.as_count() < limit);
@@ -134,7 +135,8 @@ fn cut<L: Ledger>(
     at: &mut Settled,
     steps: &mut Steps<L>,
 ) -> Overlay
-    requires settled { IsSettled (setting (λ p. narrow_policy) graph.old book.now (λ asn. NotFound)) origin at.old.pool at.old.seeds at.old.table }
+    requires settled { IsSettled (setting (λ p. narrow_policy) graph.old book.now (λ asn. NotFound))
+        origin at.old.pool at.old.seeds at.old.table }
     requires limit { limit_of at.old.pool ≡ 100 }
 {
     links_are_taken();

@@ -83,7 +83,9 @@ fn a_round_of_the_narrow_policy_has_the_routing_of_propagation(rt: HostRuntime) 
 // Moves the paths of rounds that are stable in some world of these ASes to a pool of their own.
 fn tidy(rt: &impl Abort, alloc: Global, graph: &Graph, rounds: &mut Rounds)
     requires closed { is_open rounds.old ≡ false }
-    requires stable { (world : PrefixValue → Setting) × ((p : PrefixValue) (a : ℕ) → (world p).has a ≡ has graph.now a) × AreRounds world (planned rounds.old) (round_count rounds.old) (kept rounds.old) }
+    requires stable { (world : PrefixValue → Setting)
+        × ((p : PrefixValue) (a : ℕ) → (world p).has a ≡ has graph.now a)
+        × AreRounds world (planned rounds.old) (round_count rounds.old) (kept rounds.old) }
 {
     // What it answers has a bound, which the next call asks for.
     let _count = graph.as_count();
@@ -145,10 +147,13 @@ fn withdrawing<L: Ledger>(
     requires closed { is_open rounds.old ≡ false }
     requires few { live_count (pool_of rounds.old) ≤ MOST_CELLS }
     requires limits { IsWithinLimits (planned rounds.old) }
-    requires announcers { (p : PrefixValue) (a : ℕ) → IsTrue (announces (planned rounds.old) p a) → has graph.now a ≡ true }
-    requires stable { AreRounds (λ p. setting kind_policy graph.now book.now (λ origin. NotFound)) (planned rounds.old) (round_count rounds.old) (kept rounds.old) }
+    requires announcers { (p : PrefixValue) (a : ℕ) → IsTrue (announces (planned rounds.old) p a) →
+        has graph.now a ≡ true }
+    requires stable { AreRounds (λ p. setting kind_policy graph.now book.now (λ origin. NotFound))
+        (planned rounds.old) (round_count rounds.old) (kept rounds.old) }
     ensures open { IsOpenPlan rounds.new result }
-    ensures after { AreRounds (λ p. setting kind_policy graph.now book.now (λ origin. NotFound)) (plan_after rounds.new result) (round_count rounds.new) (kept_with rounds.new result) }
+    ensures after { AreRounds (λ p. setting kind_policy graph.now book.now (λ origin. NotFound))
+        (plan_after rounds.new result) (round_count rounds.new) (kept_with rounds.new result) }
     ensures plan { planned rounds.new ≡ planned rounds.old }
     ensures count { round_count rounds.new ≡ round_count rounds.old }
     ensures kept { (round : ℕ) (p : PrefixValue) (a : ℕ) → kept rounds.new round p a ≡ kept rounds.old round p a }
