@@ -64,7 +64,8 @@ fn touched_unless(
     is_named: bool,
 ) -> Result<Touched, NoMemory>
     ensures this { is_named ≡ false → IfOk result (λ t. touches t (edit_prefix edit.now) asn ≡ true) }
-    ensures only { IfOk result (λ t. (p : PrefixValue) (a : ℕ) → touches t p a ≡ true → (is_named ≡ false) × (p ≡ edit_prefix edit.now) × (a ≡ asn)) }
+    ensures only { IfOk result (λ t. (p : PrefixValue) (a : ℕ) → touches t p a ≡ true → (is_named ≡ false)
+        × (p ≡ edit_prefix edit.now) × (a ≡ asn)) }
 {
     let mut touched = Touched::new(alloc);
     if !is_named {
@@ -76,7 +77,8 @@ fn touched_unless(
 impl Parts {
     // Whether an announcement, a leak or a policy names the AS.
     fn is_named(&self, asn: Asn) -> bool
-        ensures { result ≡ set.contains (set.from_list {R = nat_cmp} (named (plan_of self.now.rounds) self.now.book.named)) asn }
+        ensures { result ≡ set.contains (set.from_list {R = nat_cmp}
+            (named (plan_of self.now.rounds) self.now.book.named)) asn }
     {
         let by_plan = self.rounds.seed_plan().names(asn);
         by_plan | is_other(self.kind_of(asn))
@@ -85,7 +87,8 @@ impl Parts {
     // Whether an announcement, a leak or a policy names the AS whose announcement is edited, after the edit.
     fn is_named_after(&self, edit: &SeedEdit, asn: Asn) -> bool
         requires { asn ≡ edit_asn edit.now }
-        ensures { result ≡ set.contains (set.from_list {R = nat_cmp} (named (edited (plan_of self.now.rounds) edit.now) self.now.book.named)) asn }
+        ensures { result ≡ set.contains (set.from_list {R = nat_cmp}
+            (named (edited (plan_of self.now.rounds) edit.now) self.now.book.named)) asn }
     {
         match edit {
             SeedEdit::Announce { prefix: _, path: _ } => true,
@@ -154,7 +157,8 @@ impl Parts {
     // Whether there are too many announcements with this one.
     fn is_one_too_many(&self, prefix: Prefix, path: &Path) -> bool
         requires { 1 ≤ length path.now }
-        ensures { result ≡ nat_lt MOST_ANNOUNCEMENTS (fin.len (with_announcement (plan_of self.now.rounds) prefix path.now).announced) }
+        ensures { result ≡ nat_lt MOST_ANNOUNCEMENTS
+            (fin.len (with_announcement (plan_of self.now.rounds) prefix path.now).announced) }
     {
         let plan = self.rounds.seed_plan();
         let known = plan.announces(prefix, path.as_slice()[0]);

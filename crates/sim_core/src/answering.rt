@@ -40,7 +40,8 @@ impl Sim {
 
     // Appends the table of a round for a prefix.
     fn put_routes(&self, round: u32, prefix: Prefix, out: &mut Vec<u8>) -> Result<(), QueryError>
-        ensures answered { OnOk result (Answers (world_seen self.now) (kept self.now) (query.Routes round prefix) out.old.items out.new.items) }
+        ensures answered { OnOk result (Answers (world_seen self.now) (kept self.now)
+            (query.Routes round prefix) out.old.items out.new.items) }
         ensures refused { IfErr result (IsQueryRefusal (world_seen self.now) (query.Routes round prefix)) }
         ensures err { OnErr result (out.new.items ≡ out.old.items) }
     {
@@ -62,7 +63,8 @@ impl Sim {
         asn: Asn,
         out: &mut Vec<u8>,
     ) -> Result<(), QueryError>
-        ensures answered { OnOk result (Answers (world_seen self.now) (kept self.now) (query.Route round prefix asn) out.old.items out.new.items) }
+        ensures answered { OnOk result (Answers (world_seen self.now) (kept self.now)
+            (query.Route round prefix asn) out.old.items out.new.items) }
         ensures refused { IfErr result (IsQueryRefusal (world_seen self.now) (query.Route round prefix asn)) }
         ensures err { OnErr result (out.new.items ≡ out.old.items) }
     {
@@ -100,7 +102,8 @@ impl Sim {
         addr: Addr,
     ) -> Result<Trace, NoMemory>
         requires { AreTablesOf (world_seen self.now) self.now.parts.rounds _round tables.now }
-        ensures { IfOk result (λ t. IsTrace (next_hop (world_seen self.now).plan ((kept self.now).routings _round) addr) asn t.walk t.end) }
+        ensures { IfOk result (λ t. IsTrace
+            (next_hop (world_seen self.now).plan ((kept self.now).routings _round) addr) asn t.walk t.end) }
     {
         let (pool, plan) = (self.parts.rounds.pool(), self.parts.rounds.seed_plan());
         trace(alloc, tables, pool, plan, asn, addr)
@@ -114,7 +117,8 @@ impl Sim {
         addr: Addr,
         out: &mut Vec<u8>,
     ) -> Result<(), QueryError>
-        ensures answered { OnOk result (Answers (world_seen self.now) (kept self.now) (query.Trace round asn addr) out.old.items out.new.items) }
+        ensures answered { OnOk result (Answers (world_seen self.now) (kept self.now)
+            (query.Trace round asn addr) out.old.items out.new.items) }
         ensures refused { IfErr result (IsQueryRefusal (world_seen self.now) (query.Trace round asn addr)) }
         ensures err { OnErr result (out.new.items ≡ out.old.items) }
     {
@@ -161,7 +165,8 @@ impl Sim {
 
     // Appends the counts of a watched address.
     fn put_report(&self, round: u32, addr: Addr, out: &mut Vec<u8>) -> Result<(), QueryError>
-        ensures answered { OnOk result (Answers (world_seen self.now) (kept self.now) (query.Report round addr) out.old.items out.new.items) }
+        ensures answered { OnOk result (Answers (world_seen self.now) (kept self.now)
+            (query.Report round addr) out.old.items out.new.items) }
         ensures refused { IfErr result (IsQueryRefusal (world_seen self.now) (query.Report round addr)) }
         ensures err { OnErr result (out.new.items ≡ out.old.items) }
     {
@@ -177,7 +182,8 @@ impl Sim {
 
     // Appends the ranks of all ASes.
     fn put_ranks(&self, out: &mut Vec<u8>) -> Result<(), QueryError>
-        ensures answered { OnOk result (Answers (world_seen self.now) (kept self.now) query.Ranks out.old.items out.new.items) }
+        ensures answered { OnOk result (Answers (world_seen self.now)
+            (kept self.now) query.Ranks out.old.items out.new.items) }
         ensures refused { IfErr result (IsQueryRefusal (world_seen self.now) query.Ranks) }
         ensures err { OnErr result (out.new.items ≡ out.old.items) }
     {
@@ -189,7 +195,8 @@ impl Sim {
 
     // Appends the state of a prefix with an origin, and the payloads that cover the prefix.
     fn put_validity(&self, prefix: Prefix, origin: Asn, out: &mut Vec<u8>) -> Result<(), QueryError>
-        ensures answered { OnOk result (Answers (world_seen self.now) (kept self.now) (query.Validity prefix origin) out.old.items out.new.items) }
+        ensures answered { OnOk result (Answers (world_seen self.now) (kept self.now)
+            (query.Validity prefix origin) out.old.items out.new.items) }
         ensures refused { IfErr result (IsQueryRefusal (world_seen self.now) (query.Validity prefix origin)) }
         ensures err { OnErr result (out.new.items ≡ out.old.items) }
     {
@@ -206,7 +213,8 @@ impl Sim {
     /// not: `UnknownRound`, `UnknownPrefix`, `UnknownAs` or `NotWatched`, tested in this order among what
     /// it names. After a refusal `out` is as it was.
     pub fn answer(&self, query: &Query, out: &mut Vec<u8>) -> Result<(), QueryError>
-        ensures answered { OnOk result (Answers (world_seen self.now) (kept self.now) query.now out.old.items out.new.items) }
+        ensures answered { OnOk result (Answers (world_seen self.now)
+            (kept self.now) query.now out.old.items out.new.items) }
         ensures refused { IfErr result (IsQueryRefusal (world_seen self.now) query.now) }
         ensures err { OnErr result (out.new.items ≡ out.old.items) }
     {

@@ -152,8 +152,10 @@ impl Sim {
     /// `UnknownRound` comes exactly where the world has not the round, and else `UnknownPrefix` exactly
     /// where it has not the prefix, unless memory runs out.
     pub fn seeds(&self, alloc: Global, round: u32, prefix: Prefix) -> Result<Seeds, QueryError>
-        ensures seeds { IfOk result (λ s. (a : ℕ) → fin.get s a ≡ seeds_kept (world_seen self.now) (kept self.now) round prefix a) }
-        ensures inside { IfOk result (λ s. (a : ℕ) → has (topology (world_seen self.now)) a ≡ false → fin.get s a ≡ None) }
+        ensures seeds { IfOk result (λ s. (a : ℕ) → fin.get s a
+            ≡ seeds_kept (world_seen self.now) (kept self.now) round prefix a) }
+        ensures inside { IfOk result (λ s. (a : ℕ) → has (topology (world_seen self.now)) a ≡ false →
+            fin.get s a ≡ None) }
         ensures own { IfOk result (λ s. IsKept (world_seen self.now) (kept self.now) → StartAtOwnAs s) }
         ensures short { IfOk result (HaveAtMost 40000000) }
         ensures known { OnOk result (refusal_of (world_seen self.now) (query.Routes round prefix) ≡ None) }

@@ -102,7 +102,8 @@ impl Parts {
         requires from { (old : AGround) × BelongTo old self.old.ranks self.old.rounds self.old.watches.items
             × DiffersAround old (ground_of self.old) self.old.rounds (a ∷ b ∷ []) (touches touched.now) }
         ensures changed { IfOk result (λ c. IsChanged self.old self.new None c.routes) }
-        ensures quick { OnOk result (AreFewSteps (relation self.old.graph) (plan_of self.old.rounds) (plan_of self.new.rounds)
+        ensures quick { OnOk result (AreFewSteps (relation self.old.graph) (plan_of self.old.rounds)
+            (plan_of self.new.rounds)
             (kept_rounds self.old.rounds) (kept_rounds self.new.rounds)
             (λ p x. touches touched.now p x ≡ true) (round_count self.old.rounds) steps.old steps.new) }
         ensures no_cycle { OnOk result (HasNoProviderCycle (relation self.old.graph)) }

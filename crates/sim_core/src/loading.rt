@@ -61,7 +61,8 @@ pub fn rounds_of<L: Ledger>(
     requires ranks { (a : ℕ) → IsRank (relation world.now.graph.now) a (rank_at ranks.now a) }
     requires small { IsWithinLimits plan }
     requires few { count ≤ 4 }
-    ensures rounds { IfOk result (AreRoundsOf world.now.graph.now world.now.states.now.payloads world.now.book.now plan count) }
+    ensures rounds { IfOk result (AreRoundsOf world.now.graph.now world.now.states.now.payloads world.now.book.now
+        plan count) }
     ensures closed { IfOk result (λ rounds. is_open rounds ≡ false) }
 {
     let mut steps = Steps::<L>::new(blank);

@@ -42,7 +42,8 @@ fn announce_all(alloc: Global, plan: &mut SeedPlan, scenario: &Scenario) -> Resu
 // Makes the ASes leak in the round.
 fn leak_all(plan: &mut SeedPlan, round: u32, leakers: &[Asn]) -> Result<(), NoMemory>
     requires { 2 ≤ round }
-    ensures { OnOk result ((before : Plan) (leaks : List ((ℕ × ℕ) × Unit {0})) → plan.old ≡ record before { leakers = fin.from_entries leaks } →
+    ensures { OnOk result ((before : Plan) (leaks : List ((ℕ × ℕ) × Unit {0})) →
+        plan.old ≡ record before { leakers = fin.from_entries leaks } →
         plan.new ≡ record before { leakers = fin.from_entries (leaks ++ map (λ a. ((round, a), tt)) leakers.now) }) }
 {
     for asn in leakers {

@@ -48,9 +48,11 @@ fn unmark_unless(graph: &mut Graph, named: bool, asn: Asn)
 
 // Puts the neighbours of an AS behind the others.
 fn push_neighbours(graph: &Graph, asn: Asn, ases: &mut Vec<Asn>) -> Result<(), NoMemory>
-    ensures neighbours { OnOk result ((n : ℕ) (r : ARel) → relation graph.now asn n ≡ Some r → occurs n ases.new.items ≡ true) }
+    ensures neighbours { OnOk result ((n : ℕ) (r : ARel) → relation graph.now asn n ≡ Some r →
+        occurs n ases.new.items ≡ true) }
     ensures more { (a : ℕ) → occurs a ases.old.items ≡ true → occurs a ases.new.items ≡ true }
-    ensures only { (a : ℕ) → occurs a ases.new.items ≡ true → occurs a ases.old.items ≡ false → (r : ARel) × (relation graph.now asn a ≡ Some r) }
+    ensures only { (a : ℕ) → occurs a ases.new.items ≡ true → occurs a ases.old.items ≡ false →
+        (r : ARel) × (relation graph.now asn a ≡ Some r) }
 {
     for neighbour in graph.neighbours(asn) {
         match ases.push(neighbour.asn) {
@@ -155,9 +157,12 @@ impl Parts {
         ensures only { IfOk result (λ t. (prefix : PrefixValue) (x : ℕ) → touches t prefix x ≡ true →
             (x ≡ asn) ⊎ (((kind_policy kind).marks ≢ (kind_policy (policy_at self.now.book asn)).marks) × (r : ARel)
             × (relation self.now.graph asn x ≡ Some r))) }
-        ensures own { IfOk result (λ t. (prefix : PrefixValue) → IsTrue (has_prefix (plan_of self.now.rounds) prefix) → touches t prefix asn ≡ true) }
-        ensures neighbours { IfOk result (λ t. (prefix : PrefixValue) (n : ℕ) (r : ARel) → IsTrue (has_prefix (plan_of self.now.rounds) prefix) →
-            (kind_policy kind).marks ≢ (kind_policy (policy_at self.now.book asn)).marks → relation self.now.graph asn n ≡ Some r → touches t prefix n ≡ true) }
+        ensures own { IfOk result (λ t. (prefix : PrefixValue) →
+            IsTrue (has_prefix (plan_of self.now.rounds) prefix) → touches t prefix asn ≡ true) }
+        ensures neighbours { IfOk result (λ t. (prefix : PrefixValue) (n : ℕ) (r : ARel) →
+            IsTrue (has_prefix (plan_of self.now.rounds) prefix) →
+            (kind_policy kind).marks ≢ (kind_policy (policy_at self.now.book asn)).marks →
+            relation self.now.graph asn n ≡ Some r → touches t prefix n ≡ true) }
     {
         let mut ases = Vec::new(alloc);
         match ases.push(asn) {

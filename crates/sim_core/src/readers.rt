@@ -40,7 +40,8 @@ pub fn list_if_reads(readers: &mut AsPlaces, asn: Asn, kind: Kind) -> Result<(),
 
 /// All ASes of the graph whose policy reads the states.
 pub fn readers_of(alloc: Global, graph: &Graph, book: &Book<Kind>) -> Result<AsPlaces, NoMemory>
-    ensures { IfOk result (λ r. (a : ℕ) → has graph.now a ≡ true → (kind_policy (policy_at book.now a)).reads_state ≡ true → occurs a r.ases ≡ true) }
+    ensures { IfOk result (λ r. (a : ℕ) → has graph.now a ≡ true →
+        (kind_policy (policy_at book.now a)).reads_state ≡ true → occurs a r.ases ≡ true) }
 {
     let mut readers = AsPlaces::new(alloc);
     for asn in graph.ases() {

@@ -52,7 +52,8 @@ fn renew_in(
     requires to { round ≤ round_count rounds.now }
     requires inside { GoesOnInside graph.now (plan_of rounds.now) (kept_rounds rounds.now round) }
     requires roomy { AreRoomy graph.now one.old }
-    requires follow { CanFollow graph.now (plan_of rounds.now) (kept_rounds rounds.now round) book.now changed.now ends.now (seen_in one.old) }
+    requires follow { CanFollow graph.now (plan_of rounds.now)
+        (kept_rounds rounds.now round) book.now changed.now ends.now (seen_in one.old) }
     ensures rows { AreWatches graph.now (plan_of rounds.now) (kept_rounds rounds.now round) book.now (seen_in one.new) }
     ensures addrs { addrs_in one.new ≡ addrs_in one.old }
 {
@@ -80,11 +81,14 @@ pub fn renew(
     all: &mut Vec<RoundWatches>,
 )
     requires count { length all.old.items ≡ round_count rounds.now }
-    requires inside { (before : ℕ) → before < round_count rounds.now → GoesOnInside graph.now (plan_of rounds.now) (kept_rounds rounds.now (suc before)) }
+    requires inside { (before : ℕ) → before < round_count rounds.now →
+        GoesOnInside graph.now (plan_of rounds.now) (kept_rounds rounds.now (suc before)) }
     requires roomy { AreRoundsRoomy graph.now all.old.items }
     requires few { round_count rounds.now ≤ 4 }
-    requires follow { CanAllFollow graph.now (plan_of rounds.now) (kept_rounds rounds.now) book.now (ases_told done.now) ends.now (map seen_in all.old.items) }
-    ensures rows { AreRoundWatches graph.now (plan_of rounds.now) (kept_rounds rounds.now) book.now (round_count rounds.now) (map seen_in all.new.items) }
+    requires follow { CanAllFollow graph.now (plan_of rounds.now) (kept_rounds rounds.now) book.now
+        (ases_told done.now) ends.now (map seen_in all.old.items) }
+    ensures rows { AreRoundWatches graph.now (plan_of rounds.now) (kept_rounds rounds.now) book.now
+        (round_count rounds.now) (map seen_in all.new.items) }
     ensures addrs { map addrs_in all.new.items ≡ map addrs_in all.old.items }
 {
     for place in 0..all.len() {

@@ -24,7 +24,8 @@ use std::alloc::Global;
 fn touch(touched: &mut Touched, prefix: Prefix, ases: &[Asn]) -> Result<(), NoMemory>
     ensures these { OnOk result ((a : ℕ) → occurs a ases.now ≡ true → touches touched.new prefix a ≡ true) }
     ensures more { (p : PrefixValue) (a : ℕ) → touches touched.old p a ≡ true → touches touched.new p a ≡ true }
-    ensures only { (p : PrefixValue) (a : ℕ) → touches touched.new p a ≡ true → touches touched.old p a ≡ false → (p ≡ prefix) × (occurs a ases.now ≡ true) }
+    ensures only { (p : PrefixValue) (a : ℕ) → touches touched.new p a ≡ true → touches touched.old p a ≡ false →
+        (p ≡ prefix) × (occurs a ases.now ≡ true) }
 {
     for asn in ases {
         touched.add(prefix, *asn)?;
@@ -34,9 +35,11 @@ fn touch(touched: &mut Touched, prefix: Prefix, ases: &[Asn]) -> Result<(), NoMe
 
 /// These ASes, for each prefix of the plan.
 pub fn touched_ases(alloc: Global, plan: &SeedPlan, ases: &[Asn]) -> Result<Touched, NoMemory>
-    ensures these { IfOk result (λ t. (prefix : PrefixValue) (a : ℕ) → IsTrue (has_prefix plan.now prefix) → occurs a ases.now ≡ true →
+    ensures these { IfOk result (λ t. (prefix : PrefixValue) (a : ℕ) → IsTrue (has_prefix plan.now prefix) →
+        occurs a ases.now ≡ true →
         touches t prefix a ≡ true) }
-    ensures only { IfOk result (λ t. (prefix : PrefixValue) (a : ℕ) → touches t prefix a ≡ true → occurs a ases.now ≡ true) }
+    ensures only { IfOk result (λ t. (prefix : PrefixValue) (a : ℕ) → touches t prefix a ≡ true →
+        occurs a ases.now ≡ true) }
 {
     let _first = plan.prefix_at(0);
     let mut touched = Touched::new(alloc);
@@ -53,10 +56,12 @@ fn touch_readers(
     book: &Book<Kind>,
     prefix: Prefix,
 ) -> Result<(), NoMemory>
-    ensures these { OnOk result ((a : ℕ) → occurs a readers.now ≡ true → (kind_policy (policy_at book.now a)).reads_state ≡ true →
+    ensures these { OnOk result ((a : ℕ) → occurs a readers.now ≡ true →
+        (kind_policy (policy_at book.now a)).reads_state ≡ true →
         touches touched.new prefix a ≡ true) }
     ensures more { (p : PrefixValue) (a : ℕ) → touches touched.old p a ≡ true → touches touched.new p a ≡ true }
-    ensures only { (p : PrefixValue) (a : ℕ) → touches touched.new p a ≡ true → touches touched.old p a ≡ false → (p ≡ prefix)
+    ensures only { (p : PrefixValue) (a : ℕ) → touches touched.new p a ≡ true → touches touched.old p a ≡ false →
+        (p ≡ prefix)
         × ((kind_policy (policy_at book.now a)).reads_state ≡ true) }
 {
     for asn in readers {
@@ -86,7 +91,8 @@ fn origin_of(plan: &SeedPlan, prefix: Prefix, asn: Asn) -> Option<Asn>
 
 // Whether the state of an origin differs with the payload and without it.
 fn differs(vrps: &Vrps, vrp: Vrp, prefix: Prefix, origin: Option<Asn>) -> bool
-    ensures { (o : ℕ) → origin ≡ Some o → result ≡ false → state_of (taken vrps.now vrp) prefix o ≡ state_of vrps.now prefix o }
+    ensures { (o : ℕ) → origin ≡ Some o → result ≡ false → state_of (taken vrps.now vrp) prefix o
+        ≡ state_of vrps.now prefix o }
 {
     match origin {
         Some(origin) => {
@@ -99,7 +105,8 @@ fn differs(vrps: &Vrps, vrp: Vrp, prefix: Prefix, origin: Option<Asn>) -> bool
 
 // Whether the state of an announced origin of the prefix differs with the payload and without it.
 fn differs_at(vrps: &Vrps, vrp: Vrp, plan: &SeedPlan, prefix: Prefix) -> bool
-    ensures { result ≡ false → (origin : ℕ) → IsOrigin plan.now prefix origin → state_of (taken vrps.now vrp) prefix origin ≡ state_of vrps.now prefix origin }
+    ensures { result ≡ false → (origin : ℕ) → IsOrigin plan.now prefix origin →
+        state_of (taken vrps.now vrp) prefix origin ≡ state_of vrps.now prefix origin }
 {
     let _first = plan.announcer_at(0);
     for asn in plan.announcers() {
@@ -121,9 +128,11 @@ fn touch_covered(
     plan: &SeedPlan,
     prefix: Prefix,
 ) -> Result<(), NoMemory>
-    ensures these { OnOk result (AreReadersTouched readers.now book.now vrps.now vrp plan.now prefix (touches touched.new prefix)) }
+    ensures these { OnOk result (AreReadersTouched readers.now book.now vrps.now vrp plan.now prefix
+        (touches touched.new prefix)) }
     ensures more { (p : PrefixValue) (a : ℕ) → touches touched.old p a ≡ true → touches touched.new p a ≡ true }
-    ensures only { (p : PrefixValue) (a : ℕ) → touches touched.new p a ≡ true → touches touched.old p a ≡ false → (covers_it vrp.prefix p ≡ true)
+    ensures only { (p : PrefixValue) (a : ℕ) → touches touched.new p a ≡ true → touches touched.old p a ≡ false →
+        (covers_it vrp.prefix p ≡ true)
         × ((kind_policy (policy_at book.now a)).reads_state ≡ true) }
 {
     if !covers(vrp.prefix(), prefix) {
@@ -147,7 +156,8 @@ pub fn touched_readers(
 ) -> Result<Touched, NoMemory>
     ensures these { IfOk result (λ t. (prefix : PrefixValue) → IsTrue (has_prefix plan.now prefix) →
         AreReadersTouched readers.now book.now vrps.now vrp plan.now prefix (touches t prefix)) }
-    ensures only { IfOk result (λ t. (prefix : PrefixValue) (a : ℕ) → touches t prefix a ≡ true → (covers_it vrp.prefix prefix ≡ true)
+    ensures only { IfOk result (λ t. (prefix : PrefixValue) (a : ℕ) → touches t prefix a ≡ true →
+        (covers_it vrp.prefix prefix ≡ true)
         × ((kind_policy (policy_at book.now a)).reads_state ≡ true)) }
 {
     let _first = plan.prefix_at(0);

@@ -62,7 +62,8 @@ fn watch_round(
     requires from { 1 ≤ round }
     requires to { round ≤ round_count rounds.now }
     requires inside { GoesOnAmong index.now (plan_of rounds.now) (kept_rounds rounds.now round) }
-    ensures rows { IfOk result (λ one. (g : Topology) (book : PolicyBook AKind) → IsIndexOf g (λ a. label (policy_at book a)) index.now →
+    ensures rows { IfOk result (λ one. (g : Topology) (book : PolicyBook AKind) →
+        IsIndexOf g (λ a. label (policy_at book a)) index.now →
         AreWatches g (plan_of rounds.now) (kept_rounds rounds.now round) book (seen_in one)) }
     ensures addrs { IfOk result (λ one. addrs_in one ≡ addrs.now) }
 {
@@ -106,9 +107,11 @@ pub fn watch_rounds(
     count: u32,
 ) -> Result<Vec<RoundWatches>, NoMemory>
     requires count { count ≡ round_count rounds.now }
-    requires stable { (payloads : Payloads) × AreRounds (λ p. setting kind_policy graph.now book.now (state_of payloads p)) (plan_of rounds.now)
+    requires stable { (payloads : Payloads)
+        × AreRounds (λ p. setting kind_policy graph.now book.now (state_of payloads p)) (plan_of rounds.now)
         (round_count rounds.now) (kept_rounds rounds.now) }
-    ensures rows { IfOk result (λ all. AreRoundWatches graph.now (plan_of rounds.now) (kept_rounds rounds.now) book.now (round_count rounds.now)
+    ensures rows { IfOk result (λ all. AreRoundWatches graph.now (plan_of rounds.now)
+        (kept_rounds rounds.now) book.now (round_count rounds.now)
         (map seen_in all.items)) }
     ensures addrs { IfOk result (λ all. HasWatches (round_count rounds.now) addrs.now all.items) }
 {
