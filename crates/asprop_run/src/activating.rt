@@ -43,7 +43,8 @@ fn has_table(loaded: &Loaded, round: u32, prefix: Prefix) -> bool
 // The line of the sweep that the job is, where it isn't in the world.
 fn line_outside(base: &Base, job: Job<'_>) -> Option<u32>
     requires { needs_of (job_seen job) ≡ needs.Ranks }
-    ensures { (jobs : List AJob) → outside (base_world base.now) (job_seen job.entry ∷ jobs) ≡ option_or result (outside (base_world base.now) jobs) }
+    ensures { (jobs : List AJob) → outside (base_world base.now) (job_seen job.entry ∷ jobs)
+        ≡ option_or result (outside (base_world base.now) jobs) }
 {
     match job {
         Job::Sweep(line) => if is_inside(base, line) {
@@ -152,7 +153,8 @@ fn same_routing(alloc: Global, ases: &[Asn], held: &Routing) -> Result<Routing, 
 
 // Appends the rows of all ASes in the routing, in rising number.
 fn put_rows(text: &mut Vec<u8>, graph: &Graph, routing: &Routing) -> Result<(), NoMemory>
-    ensures { OnOk result (text.new.items ≡ text.old.items ++ table graph.now (λ a. entry_row a (fin.get routing.now a))) }
+    ensures { OnOk result (text.new.items ≡ text.old.items ++
+        table graph.now (λ a. entry_row a (fin.get routing.now a))) }
 {
     let ases = graph.ases();
     for asn in ases {
@@ -197,7 +199,8 @@ pub fn answer_activations(
     requires inside { IsInside (world_seen sim.now) (acts_job acts.now) }
     requires kept { IsKept (world_seen sim.now) (kept sim.now) }
     requires no_cycle { HasCycle (world_seen sim.now) → ⊥ }
-    ensures { OnOk result (AnswersJob (world_seen sim.now) (acts_job acts.now) text.new.items false (world_seen sim.now)) }
+    ensures { OnOk result (AnswersJob (world_seen sim.now) (acts_job acts.now) text.new.items false
+        (world_seen sim.now)) }
 {
     kept_are_stable();
     let (graph, list) = (sim.graph(), acts.list.as_slice());

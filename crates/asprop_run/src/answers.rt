@@ -114,7 +114,8 @@ fn answer_line(
     requires sound { IsSoundAct line.now.act }
     requires kept { IsKept (world_seen sim.old) (kept sim.old) }
     requires no_cycle { HasCycle (world_seen sim.old) → ⊥ }
-    ensures answered { IfOk result (λ refused. AnswersJob (world_seen sim.old) (line_job heads line.now) text.new.items refused (world_seen sim.new)) }
+    ensures answered { IfOk result (λ refused. AnswersJob (world_seen sim.old)
+        (line_job heads line.now) text.new.items refused (world_seen sim.new)) }
     ensures kept { OnOk result (IsKept (world_seen sim.new) (kept sim.new)) }
     ensures no_cycle { OnOk result (HasCycle (world_seen sim.new) → ⊥) }
 {
@@ -149,7 +150,8 @@ fn answer_whole(
     requires needs { needs_of (job_seen job) ≡ needs.Kept }
     requires kept { IsKept (world_seen sim.old) (kept sim.old) }
     requires no_cycle { HasCycle (world_seen sim.old) → ⊥ }
-    ensures answered { IfOk result (λ refused. AnswersJob (world_seen sim.old) (job_seen job.entry) text.new.items refused (world_seen sim.new)) }
+    ensures answered { IfOk result (λ refused. AnswersJob (world_seen sim.old)
+        (job_seen job.entry) text.new.items refused (world_seen sim.new)) }
     ensures kept { OnOk result (IsKept (world_seen sim.new) (kept sim.new)) }
     ensures no_cycle { OnOk result (HasCycle (world_seen sim.new) → ⊥) }
 {
@@ -179,7 +181,8 @@ fn answer_bare(
     text: &mut Vec<u8>,
 ) -> Result<bool, NoMemory>
     requires needs { needs_of (job_seen job) ≡ needs.World }
-    ensures { IfOk result (λ refused. AnswersJob (base_world base.now) (job_seen job.entry) text.new.items refused (base_world base.now)) }
+    ensures { IfOk result (λ refused. AnswersJob (base_world base.now) (job_seen job.entry) text.new.items refused
+        (base_world base.now)) }
 {
     match job {
         Job::Tables(tables) => answer_check(alloc, base, tables, text),
@@ -199,7 +202,8 @@ fn answer_ranked(
     requires needs { needs_of (job_seen job) ≡ needs.Ranks }
     requires inside { IsInside (base_world base.now) (job_seen job) }
     requires ranks { AreRanks (base_world base.now) ranks.now }
-    ensures { OnOk result (AnswersJob (base_world base.now) (job_seen job.entry) text.new.items false (base_world base.now)) }
+    ensures { OnOk result (AnswersJob (base_world base.now) (job_seen job.entry) text.new.items false
+        (base_world base.now)) }
 {
     match job {
         Job::Sweep(line) => {
@@ -222,7 +226,8 @@ fn answer_job(
     requires inside { IsInside (loaded_world loaded.old) (job_seen job) }
     requires serves { Serves loaded.old (job_seen job) }
     requires no_cycle { HasCycle (loaded_world loaded.old) → ⊥ }
-    ensures answered { IfOk result (λ refused. AnswersJob (loaded_world loaded.old) (job_seen job.entry) text.new.items refused (loaded_world loaded.new)) }
+    ensures answered { IfOk result (λ refused. AnswersJob (loaded_world loaded.old)
+        (job_seen job.entry) text.new.items refused (loaded_world loaded.new)) }
     ensures serves { OnOk result ((other : AJob) → Serves loaded.old other → Serves loaded.new other) }
     ensures no_cycle { OnOk result (HasCycle (loaded_world loaded.new) → ⊥) }
 {
@@ -238,7 +243,8 @@ fn answer_job(
 
 // Holds a text back behind what is held back already, where that takes few bytes; else writes both.
 fn pass_on<O: Sink>(text: &[u8], held: &mut Vec<u8>, out: &mut O) -> Result<(), Failed>
-    ensures ok { OnOk result (IsPassedOn (O.written out.old) (O.written out.new) held.old.items text.now held.new.items) }
+    ensures ok { OnOk result (IsPassedOn (O.written out.old)
+        (O.written out.new) held.old.items text.now held.new.items) }
     ensures err { OnErr result (AppendsFront (O.written out.old) (O.written out.new) (held.old.items ++ text.now)) }
     ensures cause { HasCause (O.faults out.old) (O.faults out.new) result }
 {
@@ -263,7 +269,8 @@ pub fn write_answers<O: Sink>(
     requires inside { AreInside (loaded_world loaded.old) jobs.now }
     requires serves { All (Serves loaded.old) jobs.now }
     requires no_cycle { HasCycle (loaded_world loaded.old) → ⊥ }
-    ensures { Answering (record { world = loaded_world loaded.old; jobs = jobs.now }) result (stream_of O.written O.faults out.old out.new) }
+    ensures { Answering (record { world = loaded_world loaded.old; jobs = jobs.now }) result
+        (stream_of O.written O.faults out.old out.new) }
 {
     let mut text: Vec<u8> = Vec::new(alloc);
     let mut held: Vec<u8> = Vec::new(alloc);

@@ -45,7 +45,8 @@ pub fn answer_check(
     tables: &Tables,
     text: &mut Vec<u8>,
 ) -> Result<bool, NoMemory>
-    ensures { IfOk result (λ refused. AnswersJob (base_world base.now) (tables_job tables.now) text.new.items refused (base_world base.now)) }
+    ensures { IfOk result (λ refused. AnswersJob (base_world base.now)
+        (tables_job tables.now) text.new.items refused (base_world base.now)) }
 {
     kept_are_stable();
     let states = states_at(alloc, base.vrps(), base.plan(), tables.prefix)?;

@@ -28,7 +28,8 @@ fn put_choices(
     graph: &Graph,
     net: &Net<'_, Kind, KnownStates<'_>>,
 ) -> Result<(), NoMemory>
-    ensures { OnOk result (text.new.items ≡ text.old.items ++ table graph.now (λ a. entry_row a ((net_of net.now).choice a))) }
+    ensures { OnOk result (text.new.items ≡ text.old.items ++
+        table graph.now (λ a. entry_row a ((net_of net.now).choice a))) }
 {
     let ases = graph.ases();
     for asn in ases {
@@ -71,7 +72,8 @@ pub fn answer_deliveries(
     requires inside { IsInside (world_seen sim.now) (messages_job deliveries.now) }
     requires kept { IsKept (world_seen sim.now) (kept sim.now) }
     requires no_cycle { HasCycle (world_seen sim.now) → ⊥ }
-    ensures { OnOk result (AnswersJob (world_seen sim.now) (messages_job deliveries.now) text.new.items false (world_seen sim.now)) }
+    ensures { OnOk result (AnswersJob (world_seen sim.now) (messages_job deliveries.now) text.new.items false
+        (world_seen sim.now)) }
 {
     kept_are_stable();
     let graph = sim.graph();

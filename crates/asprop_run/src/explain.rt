@@ -42,7 +42,8 @@ pub fn explain<E: Sink>(
     failure: &Failure,
     err: &mut E,
 ) -> Status
-    ensures { Explained (option_map form_seen form.now) failure.now result (stream_of E.written E.faults err.old err.new) }
+    ensures { Explained (option_map form_seen form.now) failure.now result
+        (stream_of E.written E.faults err.old err.new) }
 {
     match failure {
         Failure::Memory => {

@@ -121,7 +121,12 @@ fn put_absent_announcement(out: &mut Vec<u8>, prefix: Prefix, asn: Asn) -> Resul
 }
 
 fn limit_name(which: EditLimit) -> &'static str
-    ensures { result.now ≡ codes (elim which [ Links ↦ "links" | Announcements ↦ "announcements" | Ases ↦ "ases" | Vrps ↦ "payloads" ]) }
+    ensures { result.now ≡ codes (elim which [
+      | Links ↦ "links"
+      | Announcements ↦ "announcements"
+      | Ases ↦ "ases"
+      | Vrps ↦ "payloads"
+    ]) }
 {
     match which {
         EditLimit::Links => "links",

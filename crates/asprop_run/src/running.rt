@@ -45,8 +45,10 @@ fn answer_in<O: Sink>(
     requires alike { AreAlike jobs.now }
     requires serves { All (Serves loaded) jobs.now }
     requires no_cycle { HasCycle (loaded_world loaded) → ⊥ }
-    requires populated { (p : PrefixValue) → has_prefix (loaded_world loaded).plan p ≡ true → 0 < as_count (topology (loaded_world loaded)) }
-    ensures { Outcome (Ok (record { world = loaded_world loaded; jobs = jobs.now })) result (stream_of O.written O.faults out.old out.new) }
+    requires populated { (p : PrefixValue) → has_prefix (loaded_world loaded).plan p ≡ true →
+        0 < as_count (topology (loaded_world loaded)) }
+    ensures { Outcome (Ok (record { world = loaded_world loaded; jobs = jobs.now })) result
+        (stream_of O.written O.faults out.old out.new) }
 {
     match first_outside(&loaded, jobs) {
         Some(line) => Err(Failure::Fault(not_in_world(line))),
