@@ -1,4 +1,7 @@
 pub mod RankLemmas
+pub mod FewLemmas
+pub mod SpotLemmas
+pub mod CrowdLemmas
 pub mod QueueLemmas
 pub mod TurnLemmas
 pub mod Befores

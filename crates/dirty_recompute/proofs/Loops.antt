@@ -1,5 +1,5 @@
 -- The two loops: what each iteration keeps.
-use Rattle.std.proofs.Common.{◌≡◌, ◌≢◌, ◌⊎◌, inl, inr, ℕ, zero, suc, ◌≤◌, ◌+◌, Bool, true, false, ◌||◌, ◌==◌, true≢false, Option, Some, None, List, [], ◌∷◌, ◌++◌, length, refl, sym, ◌∙◌, ap, subst, arith}
+use Rattle.std.proofs.Common.{◌≡◌, ◌≢◌, ◌⊎◌, inl, inr, ℕ, zero, suc, ◌≤◌, ◌+◌, Bool, true, false, ◌||◌, ◌==◌, true≢false, is_some, Option, Some, None, List, [], ◌∷◌, ◌++◌, length, refl, sym, ◌∙◌, ap, subst, arith}
 use Rattle.std.proofs.lemmas.Bool.{eq-eqb, eqb-true, or_right}
 use Rattle.std.specs.List.{slice_get}
 use Rattle.dirty_recompute.specs.Queues.{IsIn}
@@ -198,8 +198,11 @@ just_in rank queue after xs empty added b = by (waits rank after b) (occurs b xs
     by true false x y = elim (added.from b x) [ inl old ↦ absurd (true≢false (sym old ∙ empty (rank b, b))) | inr (i, at) ↦ absurd (true≢false (sym (in_occurs xs b i at) ∙ y)) ]
     by false true x y = absurd (true≢false (sym (added.put b (occurs_in xs b y)) ∙ x))
 
-pub no_ranks : (rank : ℕ → ℕ) (queue : Queue) → ((k : ℕ × ℕ) → contains rank queue k ≡ false) → HasRanks rank queue
-no_ranks rank queue empty k t = absurd (true≢false (sym t ∙ empty k))
+pub no_ranks : (rank : ℕ → ℕ) (queue : Queue) → ((k : ℕ × ℕ) → contains rank queue k ≡ false) → queue.spots ≡ None → HasRanks rank queue
+no_ranks rank queue empty none = record {
+  keys = λ k t. absurd (true≢false (sym t ∙ empty k));
+  spots = λ s some. absurd (true≢false (sym (ap is_some some) ∙ ap is_some none));
+}
 
 pub enough_from : (relation : ℕ → ℕ → Option Rel) (touched changed : ℕ → Bool) (steps first last : ℕ) → last ≡ first + steps → AreEnough relation touched changed 0 steps → AreEnough relation touched changed first last
 enough_from relation touched changed steps first last is enough = record { ases = enough.ases; distinct = enough.distinct; counted = enough.counted; enough = omega (arith, is, enough.enough) }

@@ -1,39 +1,23 @@
 -- What a queue by rank does.
-use Rattle.std.proofs.Common.{◌≡◌, ◌≢◌, ◌⊎◌, inl, inr, ℕ, ◌<◌, ◌≤◌, Bool, true, false, cond, true≢false, IsTrue, refl, sym, ◌∙◌, ap, subst, arith}
-use Rattle.std.proofs.Common.{[], List, Some, ◌+◌}
+use Rattle.std.proofs.Common.{◌≡◌, ◌≢◌, ◌⊎◌, inl, inr, ℕ, ◌<◌, Bool, true, false, cond, true≢false, refl, sym, ◌∙◌, ap, subst, arith}
+use Rattle.std.proofs.Common.{List, Some, None, ◌+◌, ◌||◌, Option, is_some, IfSome, IfNone, OnOk, Result, Ok, Err}
+use Rattle.std.proofs.lemmas.Option.{IfSome_then, none-some, same_Some}
 use Rattle.std.proofs.lemmas.Bool.{cases_eq}
-use Rattle.std.specs.List.{slice_get}
+use Rattle.std.specs.List.{slice_get, list_any}
+use Rattle.std.specs.BTreeMap.{is_at}
 use Rattle.net_names.specs.declared.routes.Rel.{Rel}
 use Rattle.as_graph.specs.declared.neighbour.Neighbour.{Neighbour}
-use Rattle.std.specs.List.{list_any}
-use Rattle.std.specs.Prelude.{◌||◌, None}
-use Rattle.std.proofs.lemmas.Bool.{cases_order}
-use Rattle.std.proofs.lemmas.Cmp.{nat_cmp_total, on_total, then_total, tied_itself}
-use Rattle.std.proofs.lemmas.Map.Lookups.{exact_pairs, exact_unsigned}
-use Rattle.std.specs.declared.cmp.Ordering.{Ordering}
-use Rattle.std.specs.Ordering.{nat_cmp, is_eq, is_gt, is_lt, ordering_then}
-use Rattle.std.specs.Cmp.{IsTotalOrder}
-use Rattle.std.specs.BTreeSet as keys
-use Rattle.std.specs.BTreeMap.{is_at}
-use Rattle.as_graph.proofs.Links.{is_equal}
 use Rattle.dirty_recompute.specs.declared.queue.Queue.{Queue}
-use Rattle.dirty_recompute.specs.Queues.{key_cmp, is_one, contains, waits, HasRanks, HasTurned, IsAdded, IsTaken, IsLowest, IsHighest, AreQueued}
+use Rattle.dirty_recompute.specs.declared.spots.Spots.{Spots}
+use Rattle.dirty_recompute.specs.declared.spot.Spot.{Spot}
+use Rattle.dirty_recompute.specs.Spots.{key_cmp, spots_have, AreRanked, IsSpotOf, IsMarked, IsFirstTaken, IsLastTaken, NoneWaits}
+use Rattle.dirty_recompute.specs.Fews.{few_has, AreKeys, HasTurned, IsLowestOf, IsHighestOf}
+use Rattle.dirty_recompute.specs.Queues.{contains, spots_in, waits, HasRanks, IsAdded, IsSame, IsTaken, IsLowest, IsHighest, AreQueued}
+use Rattle.dirty_recompute.proofs.FewLemmas.{either, key_is, key_at, only_many}
+use Rattle.dirty_recompute.proofs.SpotLemmas.{marked_turned, marked_ranked, first_lowest, last_highest, none_has}
 
-keys_total : IsTotalOrder key_cmp
-keys_total = then_total (on_total (λ (p : ℕ × ℕ). p.0) nat_cmp_total) (on_total (λ (p : ℕ × ℕ). p.1) nat_cmp_total)
-
-key_is : (k q : ℕ × ℕ) → is_at (key_cmp k) q ≡ true → k ≡ q
-key_is k q e = exact_pairs nat_cmp nat_cmp exact_unsigned exact_unsigned k q (is_equal _ e)
-
-key_at : (k : ℕ × ℕ) → is_at (key_cmp k) k ≡ true
-key_at k = ap is_eq (tied_itself keys_total k)
-
-either : (b : Bool) → (b ≡ true) ⊎ (b ≡ false)
-either true = inl refl
-either false = inr refl
-
-pub added : (rank : ℕ → ℕ) (before after : Queue) (a : ℕ) → HasTurned rank before after (rank a, a) true → IsAdded rank before after (λ b. b ≡ a)
-added rank before after a up = record {
+pub added : (rank : ℕ → ℕ) (before after : Queue) (a : ℕ) → HasTurned (contains rank before) (contains rank after) (rank a, a) true → (HasRanks rank before → (s : Spots) → after.spots ≡ Some s → AreRanked rank s.items.items) → IsAdded rank before after (λ b. b ≡ a)
+added rank before after a up spots = record {
   ranks = ranks;
   kept = λ b t. elim (either (is_at (key_cmp k) (rank b, b))) [ inl e ↦ at (rank b, b) ∙ ap (λ x. cond x true (contains rank before (rank b, b))) e | inr e ↦ at (rank b, b) ∙ ap (λ x. cond x true (contains rank before (rank b, b))) e ∙ t ];
   put = λ b is. at (rank b, b) ∙ ap (λ x. cond x true (contains rank before (rank b, b))) (subst (λ t. is_at (key_cmp k) (rank t, t) ≡ true) (sym is) (key_at k));
@@ -47,69 +31,157 @@ added rank before after a up = record {
     at q = up q
 
     ranks : HasRanks rank before → HasRanks rank after
-    ranks was q t = elim (either (is_at (key_cmp k) q)) [
-      | inl e ↦ subst (λ (p : ℕ × ℕ). p.0 ≡ rank p.1) (key_is k q e) refl
-      | inr e ↦ was q (sym (at q ∙ ap (λ x. cond x true (contains rank before q)) e) ∙ t)
-    ]
+    ranks was = record {
+      keys = λ q t. elim (either (is_at (key_cmp k) q)) [
+        | inl e ↦ subst (λ (p : ℕ × ℕ). p.0 ≡ rank p.1) (key_is k q e) refl
+        | inr e ↦ was.keys q (sym (at q ∙ ap (λ x. cond x true (contains rank before q)) e) ∙ t)
+      ];
+      spots = spots was;
+    }
 
-first_le : (x y : ℕ) (o : Ordering) → is_gt (ordering_then (nat_cmp x y) o) ≡ false → x ≤ y
-first_le x y o e = elim (cases_order x y) [ inl is ↦ omega arith | inr (inl lt) ↦ omega arith | inr (inr gt) ↦ grind (arith) ]
+-- what was put into a queue that has the same pairs
+pub added_same : (rank : ℕ → ℕ) (first before after : Queue) (who : ℕ → Type 0) → IsSame rank first before → IsAdded rank before after who → IsAdded rank first after who
+added_same rank first before after who same x = record {
+  ranks = λ r. x.ranks (same.ranks r);
+  kept = λ b t. x.kept b (same.pairs (rank b, b) ∙ t);
+  put = x.put;
+  from = λ b t. elim (x.from b t) [ inl old ↦ inl (sym (same.pairs (rank b, b)) ∙ old) | inr h ↦ inr h ];
+}
 
-first_ge : (x y : ℕ) (o : Ordering) → is_lt (ordering_then (nat_cmp x y) o) ≡ false → y ≤ x
-first_ge x y o e = elim (cases_order x y) [ inl is ↦ omega arith | inr (inl lt) ↦ grind (arith) | inr (inr gt) ↦ omega arith ]
+module _ (rank : ℕ → ℕ) (before after : Queue) (a : ℕ) (was : HasRanks rank before) (member : contains rank before (rank a, a) ≡ true) (up : HasTurned (contains rank before) (contains rank after) (rank a, a) false) (spots : (s : Spots) → after.spots ≡ Some s → AreRanked rank s.items.items) where
+  abbrev k : ℕ × ℕ
+  k = (rank a, a)
 
-pub taken : (rank : ℕ → ℕ) (before after : Queue) (k : ℕ × ℕ) → HasRanks rank before → IsTrue (contains rank before k) → HasTurned rank before after k false → IsTaken rank before after k.1
-taken rank before after k was member up = record { waited = waited; gone = gone; kept = kept; from = from; ranks = ranks }
-  where
-    is : k ≡ (rank k.1, k.1)
-    is = ap (λ x. (x, k.1)) (was k member)
+  old : (q : ℕ × ℕ) → is_at (key_cmp k) q ≡ false → contains rank after q ≡ contains rank before q
+  old q e = up q ∙ ap (λ x. cond x false (contains rank before q)) e
 
-    at : (q : ℕ × ℕ) → contains rank after q ≡ cond (is_at (key_cmp k) q) false (contains rank before q)
-    at q = up q
+  none : (q : ℕ × ℕ) → is_at (key_cmp k) q ≡ true → contains rank after q ≡ false
+  none q e = up q ∙ ap (λ x. cond x false (contains rank before q)) e
 
-    waited : waits rank before k.1 ≡ true
-    waited = subst (λ q. contains rank before q ≡ true) is member
-
-    gone : waits rank after k.1 ≡ false
-    gone = at (rank k.1, k.1) ∙ ap (λ x. cond x false (contains rank before (rank k.1, k.1))) (subst (λ q. is_at (key_cmp k) q ≡ true) is (key_at k))
-
-    old : (q : ℕ × ℕ) → is_at (key_cmp k) q ≡ false → contains rank after q ≡ contains rank before q
-    old q e = at q ∙ ap (λ x. cond x false (contains rank before q)) e
-
-    none : (q : ℕ × ℕ) → is_at (key_cmp k) q ≡ true → contains rank after q ≡ false
-    none q e = at q ∙ ap (λ x. cond x false (contains rank before q)) e
-
-    kept : (b : ℕ) → b ≢ k.1 → waits rank before b ≡ true → waits rank after b ≡ true
-    kept b ne t = elim (either (is_at (key_cmp k) (rank b, b))) [
+  pub taken : IsTaken rank before after a
+  taken = record {
+    waited = member;
+    gone = none k (key_at k);
+    kept = λ b ne t. elim (either (is_at (key_cmp k) (rank b, b))) [
       | inl e ↦ absurd (ne (sym (ap (λ (p : ℕ × ℕ). p.1) (key_is k (rank b, b) e))))
       | inr e ↦ old (rank b, b) e ∙ t
-    ]
-
-    from : (b : ℕ) → waits rank after b ≡ true → waits rank before b ≡ true
-    from b t = elim (either (is_at (key_cmp k) (rank b, b))) [
+    ];
+    from = λ b t. elim (either (is_at (key_cmp k) (rank b, b))) [
       | inl e ↦ absurd (true≢false (sym t ∙ none (rank b, b) e))
       | inr e ↦ sym (old (rank b, b) e) ∙ t
-    ]
+    ];
+    ranks = record {
+      keys = λ q t. elim (either (is_at (key_cmp k) q)) [
+        | inl e ↦ absurd (true≢false (sym t ∙ none q e))
+        | inr e ↦ was.keys q (sym (old q e) ∙ t)
+      ];
+      spots = spots;
+    };
+  }
 
-    ranks : HasRanks rank after
-    ranks q t = elim (either (is_at (key_cmp k) q)) [
-      | inl e ↦ absurd (true≢false (sym t ∙ none q e))
-      | inr e ↦ was q (sym (old q e) ∙ t)
-    ]
+pub lowest : (rank : ℕ → ℕ) (before after : Queue) (a : ℕ) → HasRanks rank before → ((s : Spots) → after.spots ≡ Some s → AreRanked rank s.items.items) → IsLowestOf rank (contains rank before) (contains rank after) a → IsLowest rank before after a
+lowest rank before after a was spots x = record { taken = taken rank before after a was x.was x.turned spots; least = x.least }
 
--- no pair of the queue is below the pair
-abbrev pub IsLeast : (ℕ → ℕ) → Queue → ℕ × ℕ → Type 0
-IsLeast rank queue k = (q : ℕ × ℕ) → contains rank queue q ≡ true → is_gt (key_cmp k q) ≡ false
+pub highest : (rank : ℕ → ℕ) (before after : Queue) (a : ℕ) → HasRanks rank before → ((s : Spots) → after.spots ≡ Some s → AreRanked rank s.items.items) → IsHighestOf rank (contains rank before) (contains rank after) a → IsHighest rank before after a
+highest rank before after a was spots x = record { taken = taken rank before after a was x.was x.turned spots; greatest = x.greatest }
 
--- no pair of the queue is above the pair
-abbrev pub IsGreatest : (ℕ → ℕ) → Queue → ℕ × ℕ → Type 0
-IsGreatest rank queue k = (q : ℕ × ℕ) → contains rank queue q ≡ true → is_lt (key_cmp k q) ≡ false
+or_right : (x y : Bool) → y ≡ false → (x || y) ≡ x
+or_right true y e = refl
+or_right false y e = e
 
-pub lowest : (rank : ℕ → ℕ) (before : Queue) (k : ℕ × ℕ) → k.0 ≡ rank k.1 → IsLeast rank before k → (b : ℕ) → waits rank before b ≡ true → rank k.1 ≤ rank b
-lowest rank before k is least b t = subst (λ x. x ≤ rank b) is (first_le k.0 (rank b) _ (least (rank b, b) t))
+-- the pairs of a queue that has spots
+pub with_spots : (rank : ℕ → ℕ) (queue : Queue) (s : Spots) → queue.spots ≡ Some s → (q : ℕ × ℕ) → contains rank queue q ≡ spots_have rank s.items.items q
+with_spots rank queue s is q = ap (λ o. spots_in rank o q || few_has rank queue.few q) is ∙ or_right (spots_have rank s.items.items q) (few_has rank queue.few q) (queue.apart s is rank q)
 
-pub highest : (rank : ℕ → ℕ) (before : Queue) (k : ℕ × ℕ) → k.0 ≡ rank k.1 → IsGreatest rank before k → (b : ℕ) → waits rank before b ≡ true → rank b ≤ rank k.1
-highest rank before k is greatest b t = subst (λ x. rank b ≤ x) is (first_ge k.0 (rank b) _ (greatest (rank b, b) t))
+-- and of one that has none
+pub without_spots : (rank : ℕ → ℕ) (queue : Queue) → queue.spots ≡ None → (q : ℕ × ℕ) → contains rank queue q ≡ few_has rank queue.few q
+without_spots rank queue is q = ap (λ o. spots_in rank o q || few_has rank queue.few q) is
+
+module _ (rank : ℕ → ℕ) (before after : Queue) (f g : ℕ × ℕ → Bool) (x : (q : ℕ × ℕ) → contains rank before q ≡ f q) (y : (q : ℕ × ℕ) → contains rank after q ≡ g q) where
+  pub turned_by : (k : ℕ × ℕ) (b : Bool) → HasTurned f g k b → HasTurned (contains rank before) (contains rank after) k b
+  turned_by k b up q = y q ∙ up q ∙ sym (ap (cond (is_at (key_cmp k) q) b) (x q))
+
+  pub lowest_by : (a : ℕ) → IsLowestOf rank f g a → IsLowestOf rank (contains rank before) (contains rank after) a
+  lowest_by a l = record { was = x (rank a, a) ∙ l.was; turned = turned_by (rank a, a) false l.turned; least = λ b t. l.least b (sym (x (rank b, b)) ∙ t) }
+
+  pub highest_by : (a : ℕ) → IsHighestOf rank f g a → IsHighestOf rank (contains rank before) (contains rank after) a
+  highest_by a l = record { was = x (rank a, a) ∙ l.was; turned = turned_by (rank a, a) false l.turned; greatest = λ b t. l.greatest b (sym (x (rank b, b)) ∙ t) }
+
+-- the spots that a queue has afterwards are ranked, if those are that it got
+ranked_now : (rank : ℕ → ℕ) (after : Queue) (t : Spots) → after.spots ≡ Some t → AreRanked rank t.items.items → (u : Spots) → after.spots ≡ Some u → AreRanked rank u.items.items
+ranked_now rank after t at ranked u e = subst (λ (v : Spots). AreRanked rank v.items.items) (same_Some t u (sym at ∙ e)) ranked
+
+none_now : (rank : ℕ → ℕ) (after : Queue) → after.spots ≡ None → (u : Spots) → after.spots ≡ Some u → AreRanked rank u.items.items
+none_now rank after none u e = absurd (none-some u (sym none ∙ e))
+
+-- a queue of the same parts has the same pairs
+pub same_parts : (rank : ℕ → ℕ) (before after : Queue) → after.spots ≡ before.spots → after.few ≡ before.few → IsSame rank before after
+same_parts rank before after spots few = record { pairs = pairs; ranks = λ was. record { keys = λ k t. was.keys k (sym (pairs k) ∙ t); spots = λ u e. was.spots u (sym spots ∙ e) } }
+  where
+    pairs : (k : ℕ × ℕ) → contains rank after k ≡ contains rank before k
+    pairs k = ap (λ o. spots_in rank o k || few_has rank after.few k) spots ∙ ap (λ f. spots_in rank before.spots k || few_has rank f k) few
+
+-- a mark at the spot of an AS puts it into the queue
+pub marked_added : (rank : ℕ → ℕ) (before after : Queue) (s t : Spots) (place a : ℕ) → before.spots ≡ Some s → after.spots ≡ Some t → IsSpotOf s.items.items a place → IsMarked s.items.items t.items.items place true → IsAdded rank before after (λ b. b ≡ a)
+marked_added rank before after s t place a is at (x, got, same) m =
+    added rank before after a
+    (subst (λ n. HasTurned (contains rank before) (contains rank after) (rank n, n) true) same
+    (turned_by rank before after (spots_have rank s.items.items) (spots_have rank t.items.items) (with_spots rank before s is) (with_spots rank after t at) (rank x.asn, x.asn) true
+    (marked_turned s.items.items t.items.items place true x got m rank s.apart)))
+    (λ was. ranked_now rank after t at (marked_ranked s.items.items t.items.items place true x got m rank (was.spots s is)))
+
+-- an AS that is put into the set, once nobody has a spot
+pub gathered_put : (rank : ℕ → ℕ) (first before gathered after : Queue) (a : ℕ) → IsSame rank first before → IsSame rank before gathered → gathered.spots ≡ None → after.spots ≡ None → HasTurned (few_has rank gathered.few) (few_has rank after.few) (rank a, a) true → IsAdded rank first after (λ b. b ≡ a)
+gathered_put rank first before gathered after a one two none none' up =
+    added_same rank first before after (λ b. b ≡ a) one (added_same rank before gathered after (λ b. b ≡ a) two (added rank gathered after a
+    (turned_by rank gathered after (few_has rank gathered.few) (few_has rank after.few) (without_spots rank gathered none) (without_spots rank after none') (rank a, a) true up)
+    (λ was. none_now rank after none')))
+
+module _ (rank : ℕ → ℕ) (before after : Queue) (s t : Spots) (x : Spot) (is : before.spots ≡ Some s) (at : after.spots ≡ Some t) (was : HasRanks rank before) where
+  pub spots_lowest : IsFirstTaken s.items.items t.items.items x → IsLowest rank before after x.asn
+  spots_lowest first =
+      lowest rank before after x.asn was (ranked_now rank after t at (marked_ranked s.items.items t.items.items first.place false x first.at first.marked rank (was.spots s is)))
+      (lowest_by rank before after (spots_have rank s.items.items) (spots_have rank t.items.items) (with_spots rank before s is) (with_spots rank after t at) x.asn
+      (first_lowest rank s.items.items t.items.items x s.apart s.rising (was.spots s is) first))
+
+  pub spots_highest : IsLastTaken s.items.items t.items.items x → IsHighest rank before after x.asn
+  spots_highest last =
+      highest rank before after x.asn was (ranked_now rank after t at (marked_ranked s.items.items t.items.items last.place false x last.at last.marked rank (was.spots s is)))
+      (highest_by rank before after (spots_have rank s.items.items) (spots_have rank t.items.items) (with_spots rank before s is) (with_spots rank after t at) x.asn
+      (last_highest rank s.items.items t.items.items x s.apart s.rising (was.spots s is) last))
+
+module _ (rank : ℕ → ℕ) (before after : Queue) (none : before.spots ≡ None) (none' : after.spots ≡ None) (was : HasRanks rank before) where
+  few_keys : AreKeys rank (few_has rank before.few)
+  few_keys k t = was.keys k (without_spots rank before none k ∙ t)
+
+  pub few_lowest : (o : Option ℕ) → (AreKeys rank (few_has rank before.few) → IfSome o (IsLowestOf rank (few_has rank before.few) (few_has rank after.few))) → IfSome o (IsLowest rank before after)
+  few_lowest o taken = IfSome_then o (taken few_keys) (λ a l. lowest rank before after a was (none_now rank after none') (lowest_by rank before after (few_has rank before.few) (few_has rank after.few) (without_spots rank before none) (without_spots rank after none') a l))
+
+  pub few_highest : (o : Option ℕ) → (AreKeys rank (few_has rank before.few) → IfSome o (IsHighestOf rank (few_has rank before.few) (few_has rank after.few))) → IfSome o (IsHighest rank before after)
+  few_highest o taken = IfSome_then o (taken few_keys) (λ a l. highest rank before after a was (none_now rank after none') (highest_by rank before after (few_has rank before.few) (few_has rank after.few) (without_spots rank before none) (without_spots rank after none') a l))
+
+-- nobody waits where nobody does in the set
+pub few_nobody : (rank : ℕ → ℕ) (before : Queue) (o : Option ℕ) → before.spots ≡ None → IfNone o ((k : ℕ × ℕ) → few_has rank before.few k ≡ false) → IfNone o ((b : ℕ) → waits rank before b ≡ false)
+few_nobody rank before None none f = λ b. without_spots rank before none (rank b, b) ∙ f (rank b, b)
+few_nobody rank before (Some a) none f = f
+
+none_of : {X : Type 0} (o : Option X) → is_some o ≡ false → o ≡ None
+none_of None e = refl
+none_of (Some x) e = absurd (true≢false e)
+
+-- a queue of whose pairs spots were made
+pub widened : (rank : ℕ → ℕ) (before after : Queue) (t : Spots) (ks : List (ℕ × ℕ)) → is_some before.spots ≡ false → after.spots ≡ Some t → before.few.one ≡ None → ks ≡ before.few.many.keys → ((k : ℕ × ℕ) → spots_have rank t.items.items k ≡ list_any (is_at (key_cmp k)) ks) → AreRanked rank t.items.items → IsSame rank before after
+widened rank before after t ks bare at one is filled ranked = record { pairs = pairs; ranks = λ was. record { keys = λ k e. was.keys k (sym (pairs k) ∙ e); spots = ranked_now rank after t at ranked } }
+  where
+    pairs : (k : ℕ × ℕ) → contains rank after k ≡ contains rank before k
+    pairs k = with_spots rank after t at k ∙ filled k ∙ ap (list_any (is_at (key_cmp k))) is ∙ sym (without_spots rank before (none_of before.spots bare) k ∙ only_many rank before.few one k)
+
+pub spots_nobody : (rank : ℕ → ℕ) (before : Queue) (s : Spots) → before.spots ≡ Some s → NoneWaits s.items.items → (b : ℕ) → waits rank before b ≡ false
+spots_nobody rank before s is none b = with_spots rank before s is (rank b, b) ∙ none_has rank s.items.items none (rank b, b)
+
+pub on_ok : {T E : Type 0} (r : Result T E) {P Q : Type 0} → (P → Q) → OnOk r P → OnOk r Q
+on_ok (Ok x) f p = f p
+on_ok (Err e) f p = p
 
 -- b is one of the first neighbours, and is this
 abbrev pub IsAmongBelow : ℕ → List Neighbour → Rel → ℕ → Type 0
@@ -181,61 +253,3 @@ added_next_in rank q0 q1 q2 k xs n at x y = added_both rank q0 q1 q2 (IsInBelow 
     join : (b : ℕ) → IsInBelow k xs b ⊎ (b ≡ n) → IsInBelow (k + 1) xs b
     join b (inl (i, lt, got)) = (i, (omega arith), got)
     join b (inr is) = (k, (omega arith), at ∙ ap Some (sym is))
-
-pub is_lowest : (rank : ℕ → ℕ) (before after : Queue) (k : ℕ × ℕ) → HasRanks rank before → IsTrue (contains rank before k) → IsLeast rank before k → HasTurned rank before after k false → IsLowest rank before after k.1
-is_lowest rank before after k was member least up = record { taken = taken rank before after k was member up; least = lowest rank before k (was k member) least }
-
-pub is_highest : (rank : ℕ → ℕ) (before after : Queue) (k : ℕ × ℕ) → HasRanks rank before → IsTrue (contains rank before k) → IsGreatest rank before k → HasTurned rank before after k false → IsHighest rank before after k.1
-is_highest rank before after k was member greatest up = record { taken = taken rank before after k was member up; greatest = highest rank before k (was k member) greatest }
-
--- which pairs a queue of one has, and one of many
-module _ (rank : ℕ → ℕ) (queue : Queue) where
-  only_one : (a : ℕ) → queue.one ≡ Some a → queue.many.keys ≡ [] → (q : ℕ × ℕ) → contains rank queue q ≡ is_at (key_cmp (rank a, a)) q
-  only_one a one none q = (λ i. is_one rank (one i) q || list_any (is_at (key_cmp q)) (none i)) ∙ or_false (is_at (key_cmp (rank a, a)) q)
-    where
-      or_false : (b : Bool) → (b || false) ≡ b
-      or_false true = refl
-      or_false false = refl
-
-  only_many : queue.one ≡ None → (q : ℕ × ℕ) → contains rank queue q ≡ keys.contains key_cmp queue.many q
-  only_many none q = ap (λ o. is_one rank o q || keys.contains key_cmp queue.many q) none
-
--- a queue of no pair
-contains-none : (rank : ℕ → ℕ) (queue : Queue) → queue.one ≡ None → queue.many.keys ≡ [] → (k : ℕ × ℕ) → contains rank queue k ≡ false
-contains-none rank queue one none k = only_many rank queue one k ∙ ap (list_any (is_at (key_cmp k))) none
-
--- a pair comes into a queue of many, or goes
-put_many : (rank : ℕ → ℕ) (before after : Queue) (k : ℕ × ℕ) (b : Bool) → before.one ≡ None → after.one ≡ None → keys.Updates key_cmp before.many after.many k b → HasTurned rank before after k b
-put_many rank before after k b was is up q = only_many rank after is q ∙ up.0 q ∙ sym (ap (cond (is_at (key_cmp k) q) b) (only_many rank before was q))
-
--- the one goes
-module _ (rank : ℕ → ℕ) (before after : Queue) (a : ℕ) (one : before.one ≡ Some a) (alone : before.many.keys ≡ []) (is : after.one ≡ None) (same : after.many.keys ≡ []) where
-  abbrev key : ℕ × ℕ
-  key = (rank a, a)
-
-  here : contains rank before key ≡ true
-  here = only_one rank before a one alone key ∙ key_at key
-
-  it_is : (q : ℕ × ℕ) → contains rank before q ≡ true → key ≡ q
-  it_is q t = key_is key q (sym (only_one rank before a one alone q) ∙ t)
-
-  turned : HasTurned rank before after key false
-  turned q = contains-none rank after is same q ∙ sym (ap (cond (is_at (key_cmp key) q) false) (only_one rank before a one alone q) ∙ by (is_at (key_cmp key) q))
-    where
-      by : (b : Bool) → cond b false b ≡ false
-      by true = refl
-      by false = refl
-
-  pub one_lowest : HasRanks rank before → IsLowest rank before after a
-  one_lowest was = is_lowest rank before after key was here (λ q t. subst (λ p. is_gt (key_cmp key p) ≡ false) (it_is q t) (ap is_gt (tied_itself keys_total key))) turned
-
-  pub one_highest : HasRanks rank before → IsHighest rank before after a
-  one_highest was = is_highest rank before after key was here (λ q t. subst (λ p. is_lt (key_cmp key p) ≡ false) (it_is q t) (ap is_lt (tied_itself keys_total key))) turned
-
--- one of the many goes
-module _ (rank : ℕ → ℕ) (before after : Queue) (k : ℕ × ℕ) (was : before.one ≡ None) (is : after.one ≡ None) (member : keys.contains key_cmp before.many k ≡ true) (up : keys.Updates key_cmp before.many after.many k false) where
-  pub many_lowest : keys.IsLowerBound key_cmp before.many k → HasRanks rank before → IsLowest rank before after k.1
-  many_lowest least ranks = is_lowest rank before after k ranks (only_many rank before was k ∙ member) (λ q t. least q (sym (only_many rank before was q) ∙ t)) (put_many rank before after k false was is up)
-
-  pub many_highest : keys.IsUpperBound key_cmp before.many k → HasRanks rank before → IsHighest rank before after k.1
-  many_highest greatest ranks = is_highest rank before after k ranks (only_many rank before was k ∙ member) (λ q t. greatest q (sym (only_many rank before was q) ∙ t)) (put_many rank before after k false was is up)

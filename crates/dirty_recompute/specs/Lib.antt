@@ -1,6 +1,8 @@
 pub mod Exact
 pub mod Steps
 pub mod Resources
+pub mod Spots
+pub mod Fews
 pub mod Queues
 pub mod Turns
 pub mod Work

@@ -1,38 +1,35 @@
 -- Queues of ASes by rank: who waits, who is taken out, and who is put in.
-use Rattle.std.specs.Prelude.{◌≡◌, ◌≢◌, ◌⊎◌, ◌≤◌, ℕ, Bool, true, false, ◌||◌, if◌then◌else◌, Option, None, Some, List}
+use Rattle.std.specs.Prelude.{◌≡◌, ◌≢◌, ◌⊎◌, ◌≤◌, ℕ, Bool, true, false, ◌||◌, Option, None, Some, List}
 use Rattle.std.specs.List.{slice_get}
-use Rattle.std.specs.declared.cmp.Ordering.{Ordering}
-use Rattle.std.specs.Ordering.{nat_cmp, ordering_then}
-use Rattle.std.specs.BTreeSet as keys
-use Rattle.std.specs.BTreeMap.{is_at}
 use Rattle.net_names.specs.declared.routes.Rel.{Rel}
 use Rattle.as_graph.specs.declared.neighbour.Neighbour.{Neighbour}
 use Rattle.dirty_recompute.specs.declared.queue.Queue.{Queue}
+use Rattle.dirty_recompute.specs.declared.spots.Spots.{Spots}
+use Rattle.dirty_recompute.specs.Spots.{spots_have, AreRanked}
+use Rattle.dirty_recompute.specs.Fews.{few_has, AreKeys}
 
--- the order of the pairs: by rank, and then by number
-abbrev pub key_cmp : ℕ × ℕ → ℕ × ℕ → Ordering
-key_cmp x y = ordering_then (nat_cmp x.0 y.0) (nat_cmp x.1 y.1)
-
--- the pair is the one AS under its rank, if there is one
-abbrev pub is_one : (ℕ → ℕ) → Option ℕ → ℕ × ℕ → Bool
-is_one rank None k = false
-is_one rank (Some a) k = is_at (key_cmp (rank a, a)) k
+-- one of the spots has the pair, where there are spots
+abbrev pub spots_in : (ℕ → ℕ) → Option Spots → ℕ × ℕ → Bool
+spots_in rank None k = false
+spots_in rank (Some spots) k = spots_have rank spots.items.items k
 
 -- the queue has the pair, of a rank and an AS
 abbrev pub contains : (ℕ → ℕ) → Queue → ℕ × ℕ → Bool
-contains rank queue k = is_one rank queue.one k || keys.contains key_cmp queue.many k
-
--- the queue has the pair afterwards or has it not, as `there` says, and no other pair comes or goes
-abbrev pub HasTurned : (ℕ → ℕ) → Queue → Queue → ℕ × ℕ → Bool → Type 0
-HasTurned rank before after k there = (q : ℕ × ℕ) → contains rank after q ≡ (if is_at (key_cmp k) q then there else contains rank before q)
+contains rank queue k = spots_in rank queue.spots k || few_has rank queue.few k
 
 -- b waits in the queue, under its rank
 abbrev pub waits : (ℕ → ℕ) → Queue → ℕ → Bool
 waits rank queue b = contains rank queue (rank b, b)
 
--- each pair of the queue is an AS under its rank
-abbrev pub HasRanks : (ℕ → ℕ) → Queue → Type 0
-HasRanks rank queue = (k : ℕ × ℕ) → contains rank queue k ≡ true → k.0 ≡ rank k.1
+-- each pair of the queue is an AS under its rank, and so is each spot
+pub record HasRanks (rank : ℕ → ℕ) (queue : Queue) : Type 0 where
+  pub keys : AreKeys rank (contains rank queue)
+  pub spots : (s : Spots) → queue.spots ≡ Some s → AreRanked rank s.items.items
+
+-- the queue has the same pairs as before
+pub record IsSame (rank : ℕ → ℕ) (before after : Queue) : Type 0 where
+  pub pairs : (k : ℕ × ℕ) → contains rank after k ≡ contains rank before k
+  pub ranks : HasRanks rank before → HasRanks rank after
 
 -- just these ASes came into the queue, and all that waited wait on
 pub record IsAdded (rank : ℕ → ℕ) (before after : Queue) (who : ℕ → Type 0) : Type 0 where

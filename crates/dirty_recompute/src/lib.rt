@@ -6,6 +6,8 @@
 //! AS that was touched or has a neighbour that changed.
 #![tactic(auto)]
 
+mod crowding;
+mod few;
 mod giving;
 mod plan;
 mod planned_ranks;
@@ -13,6 +15,8 @@ mod prefix_edit;
 mod queue;
 mod ranked_world;
 mod spared;
+mod spot;
+mod spots;
 mod stepping;
 mod turns;
 

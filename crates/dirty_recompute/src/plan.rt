@@ -40,12 +40,17 @@ use std::alloc::Global;
 use std::sync::ledger::Ledger;
 
 // The touched ASes, each under its rank.
-fn queue_of(alloc: Global, ranks: &PlannedRanks, touched: &[Asn]) -> Result<Queue, NoMemory>
+fn queue_of(
+    alloc: Global,
+    graph: &Graph,
+    ranks: &PlannedRanks,
+    touched: &[Asn],
+) -> Result<Queue, NoMemory>
     ensures touched { IfOk result (λ q. (b : ℕ) → waits (rank_of ranks.now) q b ≡ occurs b touched.now) }
     ensures ranks { IfOk result (HasRanks (rank_of ranks.now)) }
 {
     let mut queue = Queue::new(alloc);
-    queue.add_all(ranks, touched)?;
+    queue.add_all(graph, ranks, touched)?;
     Ok(queue)
 }
 
@@ -96,11 +101,12 @@ fn go_up<P: RoutePolicy, V: OriginStates, L: Ledger>(
     customers_decide::<P>();
     one_stable_routing::<P>();
     let mut queues = Queues {
-        up: queue_of(alloc, &world.ranks, touched)?,
+        up: queue_of(alloc, world.at.graph, &world.ranks, touched)?,
         whole: Queue::new(alloc),
     };
     while let Some(asn) = queues.up.pop_lowest() {
-        turn_up(world, pool, overlay, asn, near, &mut queues, steps)?;
+        let row = queues.up.row_or(near);
+        turn_up(world, pool, overlay, asn, row, &mut queues, steps)?;
     }
     Ok(queues.whole)
 }
@@ -145,7 +151,8 @@ fn go_down<P: RoutePolicy, V: OriginStates, L: Ledger>(
     customers_decide::<P>();
     one_stable_routing::<P>();
     while let Some(asn) = whole.pop_highest() {
-        turn_down(world, pool, overlay, asn, near, whole, steps)?;
+        let row = whole.row_or(near);
+        turn_down(world, pool, overlay, asn, row, whole, steps)?;
     }
     Ok(())
 }

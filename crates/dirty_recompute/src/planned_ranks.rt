@@ -23,4 +23,12 @@ impl<'a> PlannedRanks<'a> {
     {
         self.plan.rank(self.ranks, asn)
     }
+
+    /// The rank of an AS, sought first at a place, which is a hint.
+    #[tactic(auto, unfolding(crate::specs::PlannedRanks::rank_of))]
+    pub(crate) fn rank_near(&self, asn: Asn, place: usize) -> u32
+        ensures { result ≡ rank_of self.now asn }
+    {
+        self.plan.rank_near(self.ranks, asn, place)
+    }
 }

@@ -1,81 +1,158 @@
 //! Queues of ASes by rank.
 
-ghost use Rattle.std.specs.Prelude.{◌≡◌, ℕ, Some, []};
+ghost use Rattle.std.specs.Prelude.{◌≡◌, ℕ, Some, false};
+ghost use Rattle.dirty_recompute.specs.Fews.{few_has};
+ghost use Rattle.dirty_recompute.specs.declared.spots.Spots.{Spots as TheSpots};
 
+use crate::crowding::{fill, put_waiting, spots_of};
+use crate::few::Few;
 use crate::planned_ranks::PlannedRanks;
+use crate::spots::Spots;
+use as_graph::Graph;
 use net_names::{Asn, NoMemory};
 use std::alloc::Global;
-use std::collections::BTreeSet;
 
-/// ASes that wait, each under its rank. A queue of one AS takes no memory, and asks for no rank.
+/// Of so many ASes of a graph one may wait in a set, before each AS gets a spot.
+const CROWD: usize = 8;
+
+/// ASes that wait, each under its rank: few in a set, and many by a mark at the spot of each.
 #[derive(Drop)]
 pub(crate) struct Queue {
-    // The one that waits, where there is just one.
-    one: Option<Asn>,
-    // All that wait, where there are more.
-    many: BTreeSet<(u32, Asn)>,
-    ghost alone: { (a : ℕ) → one ≡ Some a → many.keys ≡ [] },
+    alloc: Global,
+    // Who waits, where the ASes have no spots.
+    pub few: Few,
+    // The spots, once many have waited.
+    pub spots: Option<Spots>,
+    // The spots have been asked for.
+    asked: bool,
+    // Where the row of the AS that was taken out last may stand in the graph.
+    row: usize,
+    ghost apart: { (s : TheSpots) → spots ≡ Some s → (rank : ℕ → ℕ) (k : ℕ × ℕ) → few_has rank few k ≡ false },
 }
 
 impl Queue {
-    ghost use Rattle.std.specs.Prelude.{true, false, OnOk, OnErr, IfSome, IfNone};
-    ghost use Rattle.std.specs.BTreeSet as keys;
+    ghost use Rattle.std.specs.Prelude.{true, false, None, Some, OnOk, OnErr, IfSome, IfNone};
     ghost use Rattle.dirty_recompute.specs.PlannedRanks.{rank_of};
-    ghost use Rattle.dirty_recompute.specs.Queues.{key_cmp, contains, waits, HasRanks, HasTurned, IsAdded, IsIn, IsLowest, IsHighest};
+    ghost use Rattle.dirty_recompute.specs.Fews.{HasTurned, IsLowestOf, IsHighestOf};
+    ghost use Rattle.dirty_recompute.specs.Queues.{contains, waits, HasRanks, IsAdded, IsIn, IsLowest, IsHighest, IsSame};
 
     /// Nobody waits.
     pub(crate) fn new(alloc: Global) -> Queue
-        ensures { (rank : ℕ → ℕ) (k : ℕ × ℕ) → contains rank result k ≡ false }
+        ensures none { (rank : ℕ → ℕ) (k : ℕ × ℕ) → contains rank result k ≡ false }
+        ensures spots { result.spots ≡ None }
     {
         Queue {
-            one: None,
-            many: BTreeSet::new(alloc),
+            alloc,
+            few: Few::new(alloc),
+            spots: None,
+            asked: false,
+            row: 0,
         }
     }
 
-    // Puts an AS under its rank into a set.
-    fn put_in(many: &mut BTreeSet<(u32, Asn)>, key: (u32, Asn)) -> Result<(), NoMemory>
-        ensures ok { OnOk result (keys.Updates key_cmp many.old many.new key true) }
-        ensures err { OnErr result (many.new.keys ≡ many.old.keys) }
+    /// Whether many have waited, so that each AS has a spot.
+    pub(crate) fn is_crowded(&self) -> bool {
+        self.spots.is_some()
+    }
+
+    /// Where the row of the AS that was taken out last may stand in the graph, if that is known.
+    pub(crate) fn row_or(&self, near: usize) -> usize {
+        match self.spots {
+            Some(_) => self.row,
+            None => near,
+        }
+    }
+
+    // Gives each AS a spot, where many wait in the set.
+    fn widen(&mut self, graph: &Graph, ranks: &PlannedRanks) -> Result<(), NoMemory>
+        ensures { OnOk result (IsSame (rank_of ranks.now) self.old self.new) }
     {
-        many.insert(key)?;
+        if self.asked || self.spots.is_some() || self.few.is_within(graph.as_count() / CROWD) {
+            return Ok(());
+        }
+        self.asked = true;
+        let keys = self.few.keys(self.alloc)?;
+        let Some(mut spots) = spots_of(self.alloc, graph, ranks)? else {
+            return Ok(());
+        };
+        if fill(&mut spots, graph, keys.as_slice()) {
+            self.few = Few::new(self.alloc);
+            self.spots = Some(spots);
+            return Ok(());
+        }
         Ok(())
     }
 
-    // Puts an AS under its rank into the queue.
-    fn put(&mut self, ranks: &PlannedRanks, asn: Asn) -> Result<(), NoMemory>
-        ensures { OnOk result (HasTurned (rank_of ranks.now) self.old self.new (rank_of ranks.now asn, asn) true) }
+    // Takes the spots away, and puts those who wait into the set.
+    fn gather(&mut self, ranks: &PlannedRanks) -> Result<(), NoMemory>
+        ensures same { OnOk result (IsSame (rank_of ranks.now) self.old self.new) }
+        ensures spots { OnOk result (self.new.spots ≡ None) }
     {
-        match self.one {
-            Some(one) => {
-                Queue::put_in(&mut self.many, (ranks.rank(one), one))?;
-                self.one = None;
-                Queue::put_in(&mut self.many, (ranks.rank(asn), asn))
-            }
-            None => {
-                if self.many.is_empty() {
-                    self.one = Some(asn);
-                    Ok(())
-                } else {
-                    Queue::put_in(&mut self.many, (ranks.rank(asn), asn))
-                }
-            }
+        match self.spots.take() {
+            Some(spots) => put_waiting(&mut self.few, ranks, spots.items.as_slice()),
+            None => Ok(()),
         }
     }
 
-    /// Puts an AS into the queue, under its rank.
-    pub(crate) fn add(&mut self, ranks: &PlannedRanks, asn: Asn) -> Result<(), NoMemory>
+    // Marks the spot of an AS, whose row may stand there, and answers whether it has one.
+    fn mark_spot(&mut self, graph: &Graph, asn: Asn, row: usize) -> bool
+        ensures yes { result ≡ true → (rank : ℕ → ℕ) → IsAdded rank self.old self.new (λ b. b ≡ asn) }
+        ensures no { result ≡ false → (rank : ℕ → ℕ) → IsSame rank self.old self.new }
+    {
+        match &mut self.spots {
+            Some(spots) => match spots.find_near(graph, asn, row) {
+                Some(at) => {
+                    spots.mark(at, true);
+                    true
+                }
+                None => false,
+            },
+            None => false,
+        }
+    }
+
+    // Puts an AS into the queue, whose row may stand there.
+    fn put(
+        &mut self,
+        graph: &Graph,
+        ranks: &PlannedRanks,
+        asn: Asn,
+        row: usize,
+    ) -> Result<(), NoMemory>
         ensures { OnOk result (IsAdded (rank_of ranks.now) self.old self.new (λ b. b ≡ asn)) }
     {
-        self.put(ranks, asn)
+        if self.mark_spot(graph, asn, row) {
+            return Ok(());
+        }
+        self.gather(ranks)?;
+        self.few.put(ranks, asn)
+    }
+
+    /// Puts an AS into the queue, under its rank. Its row may stand there in the graph.
+    pub(crate) fn add(
+        &mut self,
+        graph: &Graph,
+        ranks: &PlannedRanks,
+        asn: Asn,
+        row: usize,
+    ) -> Result<(), NoMemory>
+        ensures { OnOk result (IsAdded (rank_of ranks.now) self.old self.new (λ b. b ≡ asn)) }
+    {
+        self.widen(graph, ranks)?;
+        self.put(graph, ranks, asn, row)
     }
 
     /// Puts ASes into the queue.
-    pub(crate) fn add_all(&mut self, ranks: &PlannedRanks, asns: &[Asn]) -> Result<(), NoMemory>
+    pub(crate) fn add_all(
+        &mut self,
+        graph: &Graph,
+        ranks: &PlannedRanks,
+        asns: &[Asn],
+    ) -> Result<(), NoMemory>
         ensures { OnOk result (IsAdded (rank_of ranks.now) self.old self.new (IsIn asns.now)) }
     {
         for asn in asns {
-            self.add(ranks, *asn)?;
+            self.add(graph, ranks, *asn, 0)?;
         }
         Ok(())
     }
@@ -85,15 +162,15 @@ impl Queue {
         ensures taken { (rank : ℕ → ℕ) → HasRanks rank self.old → IfSome result (IsLowest rank self.old self.new) }
         ensures none { (rank : ℕ → ℕ) → IfNone result ((b : ℕ) → waits rank self.old b ≡ false) }
     {
-        match self.one {
-            Some(asn) => {
-                self.one = None;
-                Some(asn)
-            }
-            None => match self.many.pop_first() {
-                Some((_, asn)) => Some(asn),
+        match &mut self.spots {
+            Some(spots) => match spots.take_first() {
+                Some(spot) => {
+                    self.row = spot.row as usize;
+                    Some(spot.asn)
+                }
                 None => None,
             },
+            None => self.few.pop_lowest(),
         }
     }
 
@@ -102,15 +179,15 @@ impl Queue {
         ensures taken { (rank : ℕ → ℕ) → HasRanks rank self.old → IfSome result (IsHighest rank self.old self.new) }
         ensures none { (rank : ℕ → ℕ) → IfNone result ((b : ℕ) → waits rank self.old b ≡ false) }
     {
-        match self.one {
-            Some(asn) => {
-                self.one = None;
-                Some(asn)
-            }
-            None => match self.many.pop_last() {
-                Some((_, asn)) => Some(asn),
+        match &mut self.spots {
+            Some(spots) => match spots.take_last() {
+                Some(spot) => {
+                    self.row = spot.row as usize;
+                    Some(spot.asn)
+                }
                 None => None,
             },
+            None => self.few.pop_highest(),
         }
     }
 }

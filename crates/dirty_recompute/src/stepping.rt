@@ -188,13 +188,15 @@ pub(crate) fn step_whole<P: RoutePolicy, V: OriginStates, L: Ledger>(
     })
 }
 
-/// Whether a neighbour of an AS that has made a step need not choose anew. It takes no memory.
+/// Whether a neighbour of an AS that has made a step need not choose anew. The place where its row may
+/// stand is a hint. It takes no memory.
 pub(crate) fn is_left<P: RoutePolicy, V: OriginStates>(
     at: &PrefixWorld<'_, P, V>,
     pool: &PathPool,
     overlay: &Overlay,
     turned: &Turned,
     neighbour: Asn,
+    near: usize,
 ) -> bool
     requires held { AreHeld pool.now at.now.table.now overlay.now }
     requires seeds { AreSeedsLive pool.now at.now.seeds.now }
@@ -210,7 +212,7 @@ pub(crate) fn is_left<P: RoutePolicy, V: OriginStates>(
     if at.seeds.get(neighbour).is_some() {
         return true;
     }
-    let place = at.graph.place_near(neighbour, 0);
+    let place = at.graph.place_near(neighbour, near);
     let have = held_near(at.table, overlay, neighbour, place);
     if may_be_over(pool, &have, &turned.before) {
         return false;

@@ -1,6 +1,6 @@
 //! One turn of an AS: its step, and the neighbours that are to choose anew after it.
 
-ghost use Rattle.std.specs.Prelude.{◌≡◌, ◌⊎◌, ◌+◌, true, None, Some, OnOk};
+ghost use Rattle.std.specs.Prelude.{◌≡◌, ◌⊎◌, ◌+◌, true, None, Some, IsTrue, OnOk};
 ghost use Rattle.net_names.specs.declared.routes.Rel.TheVariants as rel;
 ghost use Rattle.as_graph.specs.Topology.{relation};
 ghost use Rattle.path_pool.specs.Pool.{IsLive};
@@ -15,16 +15,53 @@ ghost use Rattle.dirty_recompute.specs.Queues.{IsAdded, AreQueued, IsAmong};
 ghost use Rattle.dirty_recompute.specs.Resources.{has_change, CanTurn, IsKept, IsPaidFor};
 ghost use Rattle.dirty_recompute.specs.Turns.{IsTurnUp, IsTurnDown, MayBeLeft};
 
+use crate::crowding::row_at;
 use crate::planned_ranks::PlannedRanks;
 use crate::queue::{Queue, Queues};
 use crate::ranked_world::RankedWorld;
 use crate::stepping::{Turned, is_left, step_up, step_whole};
-use as_graph::Neighbour;
+use as_graph::{Graph, Neighbour};
 use net_names::{Asn, NoMemory, Rel};
 use path_pool::PathPool;
 use policy_laws::{OriginStates, RoutePolicy};
 use route_choice::{Overlay, Steps};
 use std::sync::ledger::Ledger;
+
+// A neighbour, and where its row may stand in the graph.
+#[derive(Clone, Copy)]
+struct PlacedNeighbour {
+    neighbour: Neighbour,
+    row: usize,
+}
+
+// Whether a neighbour need not choose anew. Where many wait, nobody is left out, since that asks for more
+// than a step costs.
+fn is_left_out<P: RoutePolicy, V: OriginStates>(
+    world: &RankedWorld<'_, P, V>,
+    pool: &PathPool,
+    overlay: &Overlay,
+    turned: &Turned,
+    placed: &PlacedNeighbour,
+    queue: &Queue,
+) -> bool
+    requires held { AreHeld pool.now world.now.at.table.now overlay.now }
+    requires seeds { AreSeedsLive pool.now world.now.at.seeds.now }
+    requires live { (h : AHeld) → turned.now.before ≡ Some h → IsLive pool.now h.path.0 }
+    ensures { IsTrue result → MayBeLeft P.meaning V.state_of world.now.at pool.now overlay.now turned.now
+        placed.now.neighbour.asn }
+{
+    if queue.is_crowded() {
+        return false;
+    }
+    is_left(
+        &world.at,
+        pool,
+        overlay,
+        turned,
+        placed.neighbour.asn,
+        placed.row,
+    )
+}
 
 // Puts the neighbour into the queue if it has the wanted relation to the AS and may have to choose anew.
 fn queue_one<P: RoutePolicy, V: OriginStates>(
@@ -32,20 +69,25 @@ fn queue_one<P: RoutePolicy, V: OriginStates>(
     pool: &PathPool,
     overlay: &Overlay,
     turned: &Turned,
-    neighbour: Neighbour,
+    placed: &PlacedNeighbour,
     wanted: Rel,
     queue: &mut Queue,
 ) -> Result<(), NoMemory>
     requires held { AreHeld pool.now world.now.at.table.now overlay.now }
     requires seeds { AreSeedsLive pool.now world.now.at.seeds.now }
     requires live { (h : AHeld) → turned.now.before ≡ Some h → IsLive pool.now h.path.0 }
-    ensures { OnOk result (AreQueued (rank_of world.now.ranks) queue.old queue.new (λ b. (b ≡ neighbour.asn) ×
-        (neighbour.rel ≡ wanted))
+    ensures { OnOk result (AreQueued (rank_of world.now.ranks) queue.old queue.new
+        (λ b. (b ≡ placed.now.neighbour.asn) × (placed.now.neighbour.rel ≡ wanted))
         (MayBeLeft P.meaning V.state_of world.now.at pool.now overlay.now turned.now)) }
 {
-    if neighbour.rel == wanted {
-        if !is_left(&world.at, pool, overlay, turned, neighbour.asn) {
-            queue.add(&world.ranks, neighbour.asn)?;
+    if placed.neighbour.rel == wanted {
+        if !is_left_out(world, pool, overlay, turned, placed, queue) {
+            queue.add(
+                world.at.graph,
+                &world.ranks,
+                placed.neighbour.asn,
+                placed.row,
+            )?;
         }
     }
     Ok(())
@@ -67,23 +109,30 @@ fn queue_those<P: RoutePolicy, V: OriginStates>(
     ensures { OnOk result (AreQueued (rank_of world.now.ranks) queue.old queue.new (IsAmong neighbours.now wanted)
         (MayBeLeft P.meaning V.state_of world.now.at pool.now overlay.now turned.now)) }
 {
-    for neighbour in neighbours {
-        queue_one(world, pool, overlay, turned, *neighbour, wanted, queue)?;
+    let rows = world.at.graph.neighbour_places(turned.place);
+    for (index, neighbour) in neighbours.iter().enumerate() {
+        let placed = PlacedNeighbour {
+            neighbour: *neighbour,
+            row: row_at(rows, index) as usize,
+        };
+        queue_one(world, pool, overlay, turned, &placed, wanted, queue)?;
     }
     Ok(())
 }
 
 // Puts the AS into the queue downwards, if it has no seed and no offer of a customer.
 fn queue_itself(
+    graph: &Graph,
     ranks: &PlannedRanks,
     queue: &mut Queue,
     asn: Asn,
+    row: usize,
     nothing: bool,
 ) -> Result<(), NoMemory>
     ensures { OnOk result (IsAdded (rank_of ranks.now) queue.old queue.new (λ b. (b ≡ asn) × (nothing ≡ true))) }
 {
     if nothing {
-        queue.add(ranks, asn)?;
+        queue.add(graph, ranks, asn, row)?;
     }
     Ok(())
 }
@@ -190,7 +239,14 @@ pub(crate) fn turn_up<P: RoutePolicy, V: OriginStates, L: Ledger>(
     ensures kept { IsKept pool.old pool.new world.now.at.seeds.now overlay.old overlay.new }
 {
     let seen = step_up(&world.at, pool, overlay, asn, near, steps)?;
-    queue_itself(&world.ranks, &mut queues.whole, asn, seen.nothing)?;
+    queue_itself(
+        world.at.graph,
+        &world.ranks,
+        &mut queues.whole,
+        asn,
+        seen.place,
+        seen.nothing,
+    )?;
     let turned = Turned {
         asn,
         place: seen.place,

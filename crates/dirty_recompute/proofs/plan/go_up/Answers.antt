@@ -15,7 +15,7 @@ loop-asn-init g c =
     let rank = rank_of c.args.world.now.ranks in
     let state = g.V.OriginStates.state_of c.args.world.now.at.states.now (prefix_of c.args.world.now.at.table.now) in
     upward_start g.P.RoutePolicy.meaning laws c.args.world.now.at.graph.now c.args.world.now.at.book.now state rank c.args.touched.now c.args.world.now.at.seeds.now c.args.world.now.at.table.now c.requires.falls c.args.pool.now c.args.overlay.now c.in_ok-queue_of.field-0 c.new.result c.args.steps.now
-    c.requires.fresh c.in_ok-queue_of.ensures.touched (λ b. c.new.ensures rank (rank b, b)) c.in_ok-queue_of.ensures.ranks (no_ranks rank c.new.result (c.new.ensures rank))
+    c.requires.fresh c.in_ok-queue_of.ensures.touched (λ b. c.new.ensures.none rank (rank b, b)) c.in_ok-queue_of.ensures.ranks (no_ranks rank c.new.result (c.new.ensures.none rank) c.new.ensures.spots)
     c.requires.entries c.requires.seeds c.requires.right
 
 pub turn_up-requires-clause-can : goal.turn_up-requires-clause-can

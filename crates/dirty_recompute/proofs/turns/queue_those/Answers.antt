@@ -5,15 +5,15 @@ use Rattle.dirty_recompute.specs.Queues.{IsAmong}
 use Rattle.dirty_recompute.proofs.QueueLemmas.{IsAmongBelow, queued_next, queued_by}
 use Rattle.dirty_recompute.proofs.turns.queue_those.Goals as goal
 
-pub loop-neighbour-preserved : goal.loop-neighbour-preserved
-loop-neighbour-preserved g c =
-    queued_next (rank_of c.args.world.now.ranks) _ _ _ _ c.loop-neighbour.neighbour-index c.args.neighbours.now c.args.wanted c.neighbour-item.result
-    (slice_get_read c.args.neighbours.now (length c.args.neighbours.now) c.loop-neighbour.neighbour-index c.neighbour-item.result refl c.loop-neighbour-test.true c.neighbour-item.is)
-    c.loop-neighbour.invariant c.in_ok-queue_one.ensures
+pub loop-index-preserved : goal.loop-index-preserved
+loop-index-preserved g c =
+    queued_next (rank_of c.args.world.now.ranks) _ _ _ _ c.loop-index.index c.args.neighbours.now c.args.wanted c.index-neighbours-index.result
+    (slice_get_read c.args.neighbours.now (length c.args.neighbours.now) c.loop-index.index c.index-neighbours-index.result refl c.loop-index-test.true c.index-neighbours-index.is)
+    c.loop-index.invariant c.in_ok-queue_one.ensures
 
 pub returns : goal.returns
 returns g c =
-    queued_by _ _ _ (IsAmongBelow c.loop-neighbour.neighbour-index c.args.neighbours.now c.args.wanted) (IsAmong c.args.neighbours.now c.args.wanted) _
+    queued_by _ _ _ (IsAmongBelow c.loop-index.index c.args.neighbours.now c.args.wanted) (IsAmong c.args.neighbours.now c.args.wanted) _
     (λ b x. let (i, m, at, is, r) = x in
-    (i, m, (let lt : i < length c.args.neighbours.now = slice_get_within c.args.neighbours.now i m at in let le : length c.args.neighbours.now ≤ c.loop-neighbour.neighbour-index = c.loop-neighbour-test.false in omega arith), at, is, r))
-    (λ b x. let (i, m, lt, at, is, r) = x in (i, m, at, is, r)) c.loop-neighbour.invariant
+    (i, m, (let lt : i < length c.args.neighbours.now = slice_get_within c.args.neighbours.now i m at in let le : length c.args.neighbours.now ≤ c.loop-index.index = c.loop-index-test.false in omega arith), at, is, r))
+    (λ b x. let (i, m, lt, at, is, r) = x in (i, m, at, is, r)) c.loop-index.invariant

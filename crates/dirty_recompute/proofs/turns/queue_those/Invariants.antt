@@ -7,7 +7,7 @@ use Rattle.dirty_recompute.specs.Steps.{IsLeft}
 use Rattle.dirty_recompute.proofs.QueueLemmas.{IsAmongBelow}
 use Rattle.dirty_recompute.proofs.turns.queue_those.Given as goal
 
-abbrev pub invariant-loop-neighbour : goal.invariant-loop-neighbour
-invariant-loop-neighbour g l =
-    AreQueued (rank_of l.world.ranks) l.initial.queue l.queue (IsAmongBelow l.neighbour-index l.neighbours l.wanted)
+abbrev pub invariant-loop-index : goal.invariant-loop-index
+invariant-loop-index g l =
+    AreQueued (rank_of l.world.ranks) l.initial.queue l.queue (IsAmongBelow l.index l.neighbours l.wanted)
     (IsLeft (setting_at g.P.RoutePolicy.meaning g.V.OriginStates.state_of l.world.at) (seeds_of l.pool l.world.at.seeds.now) (as_before l.pool l.world.at.table.now l.overlay l.turned.asn l.turned.before) (routing_of l.pool l.world.at.table.now l.overlay) l.turned.asn)
