@@ -40,28 +40,19 @@ one_count w after k l now again m n x y u v rounds prefixes =
     (λ round p low high known a. one_family w k.routings l.routings x.routings y.routings round p low (omega (arith, high, rounds)) (sym (prefixes p) ∙ known) a)
     (λ round p low high known a. one_family after now.routings again.routings u.routings v.routings round p low high known a)
 
-same_rounds : (w : World) (e : Edit) → (edited w e).rounds ≡ w.rounds
-same_rounds w (edit.Link a b rel) = refl
-same_rounds w (edit.Unlink a b) = refl
-same_rounds w (edit.Policy a kind) = refl
-same_rounds w (edit.VrpAdd vrp) = refl
-same_rounds w (edit.VrpTake vrp) = refl
-same_rounds w (edit.Announce prefix path) = refl
-same_rounds w (edit.Withdraw prefix a) = refl
-
--- an edit leaves the prefixes
-same_prefixes : (w : World) (e : Edit) → (edited w e).plan.prefixes ≡ w.plan.prefixes
-same_prefixes w (edit.Link a b rel) = refl
-same_prefixes w (edit.Unlink a b) = refl
-same_prefixes w (edit.Policy a kind) = refl
-same_prefixes w (edit.VrpAdd vrp) = refl
-same_prefixes w (edit.VrpTake vrp) = refl
-same_prefixes w (edit.Announce prefix path) = refl
-same_prefixes w (edit.Withdraw prefix a) = refl
+-- an edit leaves the number of rounds and the prefixes
+still_there : (w : World) (e : Edit) → ((edited w e).rounds ≡ w.rounds) × ((edited w e).plan.prefixes ≡ w.plan.prefixes)
+still_there w (edit.Link a b rel) = (refl, refl)
+still_there w (edit.Unlink a b) = (refl, refl)
+still_there w (edit.Policy a kind) = (refl, refl)
+still_there w (edit.VrpAdd vrp) = (refl, refl)
+still_there w (edit.VrpTake vrp) = (refl, refl)
+still_there w (edit.Announce prefix path) = (refl, refl)
+still_there w (edit.Withdraw prefix a) = (refl, refl)
 
 -- one number of entries differ after an edit that is not refused
 pub one_edit_count : (w : World) (e : Edit) (k l now again : Kept) (m n : ℕ) → refusal_of_edit w e ≡ None → IsKept w k → IsKept w l → IsKept (edited w e) now → IsKept (edited w e) again
     → HasChanges (edited w e).plan (edited w e).rounds k.routings now.routings m → HasChanges (edited w e).plan (edited w e).rounds l.routings again.routings n → m ≡ n
 one_edit_count w e k l now again m n accepted x y u v =
-    let prefixes = same_prefixes w e in
-    one_count w (edited w e) k l now again m n x y u v (same_rounds w e) (λ p. ap (λ s. fin.contains_key s p) prefixes)
+    let prefixes = (still_there w e).1 in
+    one_count w (edited w e) k l now again m n x y u v (still_there w e).0 (λ p. ap (λ s. fin.contains_key s p) prefixes)

@@ -105,6 +105,10 @@ unchanged_rows old new is = alike_rows old new is.watched is.alike
 pub unchanged : (old new : Parts) → IsUnchanged old new → IsUndone old new
 unchanged old new is = record { world = unchanged_world old new is; same_kept = unchanged_kept old new is; same_rows = unchanged_rows old new is }
 
+-- so is one that stands
+pub as_it_was : (s : Parts) → IsUndone s s
+as_it_was s = record { world = refl; same_kept = refl; same_rows = refl }
+
 -- what is right is counted right
 pub counted_right : (s : Parts) → AreRight s → IsCounted s
 counted_right s right = record {

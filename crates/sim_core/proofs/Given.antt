@@ -39,25 +39,22 @@ use Rattle.sim_core.proofs.LinkEdits.{has_by, limit_ases, rest_both}
 use Rattle.sim_core.proofs.PolicyEdits.{get_with, given_back, is_key, kind_is, with_kind}
 use Rattle.sim_core.proofs.Doing.{all_undone, rest_kept, rest_rows, small_world, unchanged_world}
 
-pub roomed_world : (old new : Parts) (a : ℕ) → IsRoomed old new a → world_seen new ≡ world_seen old
-roomed_world old new a h = λ i. record {
-  links = h.links i;
-  payloads = h.vrps i;
-  kinds = h.named i;
-  plan = plan_of (h.rest.rounds i);
-  rounds = round_count (h.rest.rounds i);
-  watched = set.from_list (ap (λ w. w.items) h.rest.watched i);
+-- the policies that are named are others, and all else that is seen of a world stands
+seen_with : (old new : Parts) (kinds : fin.FinMap nat_cmp Kind) → new.graph.links ≡ old.graph.links → new.vrps ≡ old.vrps → new.book.named ≡ kinds → KeepsRest old new → world_seen new ≡ record (world_seen old) { kinds = kinds }
+seen_with old new kinds links vrps named rest = λ i. record {
+  links = links i;
+  payloads = vrps i;
+  kinds = named i;
+  plan = plan_of (rest.rounds i);
+  rounds = round_count (rest.rounds i);
+  watched = set.from_list (ap (λ w. w.items) rest.watched i);
 }
 
+pub roomed_world : (old new : Parts) (a : ℕ) → IsRoomed old new a → world_seen new ≡ world_seen old
+roomed_world old new a h = seen_with old new old.book.named h.links h.vrps h.named h.rest
+
 pub given_world : (old new : Parts) (a : ℕ) (k : Kind) → IsGiven old new a k → world_seen new ≡ edited (world_seen old) (Policy a k)
-given_world old new a k h = λ i. record {
-  links = h.links i;
-  payloads = h.vrps i;
-  kinds = h.named i;
-  plan = plan_of (h.rest.rounds i);
-  rounds = round_count (h.rest.rounds i);
-  watched = set.from_list (ap (λ w. w.items) h.rest.watched i);
-}
+given_world old new a k h = seen_with old new (edited (world_seen old) (Policy a k)).kinds h.links h.vrps h.named h.rest
 
 pub begun_world : (old mid new : Parts) (a : ℕ) (k : Kind) → IsRoomed old mid a → IsGiven mid new a k → world_seen new ≡ edited (world_seen old) (Policy a k)
 begun_world old mid new a k roomed given = given_world mid new a k given ∙ ap (λ w. edited w (Policy a k)) (roomed_world old mid a roomed)

@@ -1,5 +1,5 @@
 -- What is kept of a world is one, and an accepted query has one answer.
-use Rattle.std.proofs.Common.{◌≡◌, ℕ, ◌&&◌, Bool, true, false, IsTrue, Option, None, List, [], ◌∷◌, decimal, refl, sym, ap, subst, ◌∙◌}
+use Rattle.std.proofs.Common.{◌≡◌, ℕ, ◌&&◌, Bool, true, false, IsTrue, Option, None, Some, List, [], ◌∷◌, decimal, refl, sym, ap, subst, ◌∙◌}
 use Rattle.std.specs.FinSet as set
 use Rattle.net_names.specs.Addresses.{AddrValue}
 use Rattle.net_names.specs.Prefixes.{PrefixValue}
@@ -21,11 +21,13 @@ use Rattle.stability_laws.specs.EntryTexts.{entry_row, row}
 use Rattle.reports.specs.Rows.{table}
 use Rattle.reports.specs.Traces.{end_word}
 use Rattle.reports.specs.declared.group.Group.{Group}
-use Rattle.sim_core.specs.Answers.{IsAnswer, refusal_of, needs}
+use Rattle.sim_core.specs.Answers.{IsAnswer, IsQueryRefusal, refusal_of, needs}
 use Rattle.sim_core.specs.Counting.{how_many, in_group}
 use Rattle.sim_core.specs.Kept.{IsKept, Kept}
 use Rattle.sim_core.specs.Laws.{AreSameIn}
 use Rattle.sim_core.specs.World.{World, has_round, topology}
+use Rattle.sim_core.specs.declared.errors.QueryError.{QueryError}
+use Rattle.sim_core.specs.declared.errors.QueryError.TheVariants.{Memory, NotWatched, UnknownAs, UnknownPrefix, UnknownRound}
 use Rattle.sim_core.proofs.Families.{one_family, same_next}
 use Rattle.sim_core.proofs.Rows.{many_alike, same_members}
 use Rattle.sim_core.proofs.Watches.{round_within}
@@ -34,6 +36,23 @@ use Rattle.sim_core.proofs.Watches.{round_within}
 pub none_wanting : {E : Type 0} (there : Bool) (e : E) (rest : Option E) → needs there e rest ≡ None → (there ≡ true) × (rest ≡ None)
 none_wanting true e rest h = (refl, h)
 none_wanting false e rest h = cc
+
+-- what is wanting first is so whatever else is asked for
+pub wanting : {E : Type 0} (there : Bool) (e x : E) (rest more : Option E) → (rest ≡ Some x → more ≡ Some x) → needs there e rest ≡ Some x → needs there e more ≡ Some x
+wanting true e x rest more f h = f h
+wanting false e x rest more f h = h
+
+-- where nothing is wanting, nothing is refused
+pub no_reason : {E P : Type 0} (x : E) → ◌≡◌ {A = Option E} None (Some x) → P
+no_reason x h = cc
+
+-- a reason to refuse a query is a refusal of it
+pub query_refused : (w : World) (q : Query) (e : QueryError) → refusal_of w q ≡ Some e → IsQueryRefusal w q e
+query_refused w q Memory h = tt
+query_refused w q (UnknownRound n) h = h
+query_refused w q (UnknownPrefix p) h = h
+query_refused w q (UnknownAs a) h = h
+query_refused w q (NotWatched x) h = h
 
 module _ (w : World) (k l : Kept) (x : IsKept w k) (y : IsKept w l) where
   same_entry : (round : ℕ) (p : PrefixValue) → IsTrue (has_round w round) → IsTrue (has_prefix w.plan p) → (a : ℕ) → k.routings round p a ≡ l.routings round p a

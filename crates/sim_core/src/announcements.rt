@@ -64,8 +64,8 @@ fn touched_unless(
     is_named: bool,
 ) -> Result<Touched, NoMemory>
     ensures this { is_named ≡ false → IfOk result (λ t. touches t (edit_prefix edit.now) asn ≡ true) }
-    ensures only { IfOk result (λ t. (p : PrefixValue) (a : ℕ) → touches t p a ≡ true → (is_named ≡ false)
-        × (p ≡ edit_prefix edit.now) × (a ≡ asn)) }
+    ensures only { IfOk result (λ t. (p : PrefixValue) (a : ℕ) → touches t p a ≡ true →
+        (is_named ≡ false) × (p ≡ edit_prefix edit.now) × (a ≡ asn)) }
 {
     let mut touched = Touched::new(alloc);
     if !is_named {
@@ -77,8 +77,8 @@ fn touched_unless(
 impl Parts {
     // Whether an announcement, a leak or a policy names the AS.
     fn is_named(&self, asn: Asn) -> bool
-        ensures { result ≡ set.contains (set.from_list {R = nat_cmp}
-            (named (plan_of self.now.rounds) self.now.book.named)) asn }
+        ensures { result ≡ set.contains
+            (set.from_list {R = nat_cmp} (named (plan_of self.now.rounds) self.now.book.named)) asn }
     {
         let by_plan = self.rounds.seed_plan().names(asn);
         by_plan | is_other(self.kind_of(asn))
@@ -87,8 +87,8 @@ impl Parts {
     // Whether an announcement, a leak or a policy names the AS whose announcement is edited, after the edit.
     fn is_named_after(&self, edit: &SeedEdit, asn: Asn) -> bool
         requires { asn ≡ edit_asn edit.now }
-        ensures { result ≡ set.contains (set.from_list {R = nat_cmp}
-            (named (edited (plan_of self.now.rounds) edit.now) self.now.book.named)) asn }
+        ensures { result ≡ set.contains
+            (set.from_list {R = nat_cmp} (named (edited (plan_of self.now.rounds) edit.now) self.now.book.named)) asn }
     {
         match edit {
             SeedEdit::Announce { prefix: _, path: _ } => true,
@@ -121,17 +121,12 @@ impl Parts {
         let asn = asn_of(edit);
         let was = self.is_named(asn);
         let is = self.is_named_after(edit, asn);
-        let Ok(touched) = touched_unless(alloc, edit, asn, is) else {
-            return Err(EditError::Memory);
-        };
+        let touched = touched_unless(alloc, edit, asn, is)?;
         match self.graph.room(asn, asn) {
             Ok(()) => {}
             Err(_) => return Err(EditError::Memory),
         }
-        match set_mark(&mut self.graph, asn, is) {
-            Ok(()) => {}
-            Err(error) => return Err(error),
-        }
+        set_mark(&mut self.graph, asn, is)?;
         let _count = self.graph.as_count();
         let states = States::of(&self.vrps);
         let world = World {
@@ -191,9 +186,7 @@ impl Parts {
                 which: EditLimit::Announcements,
             });
         }
-        let Ok(path) = copy_of(alloc, path) else {
-            return Err(EditError::Memory);
-        };
+        let path = copy_of(alloc, path)?;
         self.edit_announcement(alloc, &SeedEdit::Announce { prefix, path }, steps)
     }
 

@@ -40,19 +40,14 @@ impl Sim {
 
     // Appends the table of a round for a prefix.
     fn put_routes(&self, round: u32, prefix: Prefix, out: &mut Vec<u8>) -> Result<(), QueryError>
-        ensures answered { OnOk result (Answers (world_seen self.now) (kept self.now)
-            (query.Routes round prefix) out.old.items out.new.items) }
+        ensures answered { OnOk result (Answers (world_seen self.now) (kept self.now) (query.Routes round prefix)
+            out.old.items out.new.items) }
         ensures refused { IfErr result (IsQueryRefusal (world_seen self.now) (query.Routes round prefix)) }
         ensures err { OnErr result (out.new.items ≡ out.old.items) }
     {
-        let table = match self.table_of(round, prefix) {
-            Ok(table) => table,
-            Err(error) => return Err(error),
-        };
-        match put_routes(out, &self.parts.graph, table, self.parts.rounds.pool()) {
-            Ok(()) => Ok(()),
-            Err(_) => Err(QueryError::Memory),
-        }
+        let table = self.table_of(round, prefix)?;
+        put_routes(out, &self.parts.graph, table, self.parts.rounds.pool())?;
+        Ok(())
     }
 
     // Appends the row of an AS in that table.
@@ -63,22 +58,17 @@ impl Sim {
         asn: Asn,
         out: &mut Vec<u8>,
     ) -> Result<(), QueryError>
-        ensures answered { OnOk result (Answers (world_seen self.now) (kept self.now)
-            (query.Route round prefix asn) out.old.items out.new.items) }
+        ensures answered { OnOk result (Answers (world_seen self.now) (kept self.now) (query.Route round prefix asn)
+            out.old.items out.new.items) }
         ensures refused { IfErr result (IsQueryRefusal (world_seen self.now) (query.Route round prefix asn)) }
         ensures err { OnErr result (out.new.items ≡ out.old.items) }
     {
-        let table = match self.table_of(round, prefix) {
-            Ok(table) => table,
-            Err(error) => return Err(error),
-        };
+        let table = self.table_of(round, prefix)?;
         if !self.parts.graph.has(asn) {
             return Err(QueryError::UnknownAs { asn });
         }
-        match put_route(out, table, self.parts.rounds.pool(), asn) {
-            Ok(()) => Ok(()),
-            Err(_) => Err(QueryError::Memory),
-        }
+        put_route(out, table, self.parts.rounds.pool(), asn)?;
+        Ok(())
     }
 
     // The tables of a round.
@@ -102,8 +92,8 @@ impl Sim {
         addr: Addr,
     ) -> Result<Trace, NoMemory>
         requires { AreTablesOf (world_seen self.now) self.now.parts.rounds _round tables.now }
-        ensures { IfOk result (λ t. IsTrace
-            (next_hop (world_seen self.now).plan ((kept self.now).routings _round) addr) asn t.walk t.end) }
+        ensures { IfOk result (λ t.
+            IsTrace (next_hop (world_seen self.now).plan ((kept self.now).routings _round) addr) asn t.walk t.end) }
     {
         let (pool, plan) = (self.parts.rounds.pool(), self.parts.rounds.seed_plan());
         trace(alloc, tables, pool, plan, asn, addr)
@@ -117,26 +107,18 @@ impl Sim {
         addr: Addr,
         out: &mut Vec<u8>,
     ) -> Result<(), QueryError>
-        ensures answered { OnOk result (Answers (world_seen self.now) (kept self.now)
-            (query.Trace round asn addr) out.old.items out.new.items) }
+        ensures answered { OnOk result (Answers (world_seen self.now) (kept self.now) (query.Trace round asn addr)
+            out.old.items out.new.items) }
         ensures refused { IfErr result (IsQueryRefusal (world_seen self.now) (query.Trace round asn addr)) }
         ensures err { OnErr result (out.new.items ≡ out.old.items) }
     {
-        let tables = match self.tables_of(round) {
-            Ok(tables) => tables,
-            Err(error) => return Err(error),
-        };
-        let known = self.parts.graph.has(asn);
-        if !known {
+        let tables = self.tables_of(round)?;
+        if !self.parts.graph.has(asn) {
             return Err(QueryError::UnknownAs { asn });
         }
-        let Ok(trace) = self.trace_of(*out.allocator(), round, tables, asn, addr) else {
-            return Err(QueryError::Memory);
-        };
-        match put_trace(out, &trace) {
-            Ok(()) => Ok(()),
-            Err(_) => Err(QueryError::Memory),
-        }
+        let trace = self.trace_of(*out.allocator(), round, tables, asn, addr)?;
+        put_trace(out, &trace)?;
+        Ok(())
     }
 
     // The watch of a round and of the address at a place.
@@ -153,10 +135,7 @@ impl Sim {
         ensures found { IfOk result (λ w. IsWatchOf (world_seen self.now) (kept self.now) round addr w.now) }
         ensures refused { IfErr result (λ e. no_watch (world_seen self.now) round addr ≡ Some e) }
     {
-        match self.tables_of(round) {
-            Ok(_) => {}
-            Err(error) => return Err(error),
-        }
+        let _tables = self.tables_of(round)?;
         match place_of_addr(self.parts.watched.as_slice(), addr) {
             Some(place) => Ok(self.watch_at(round, addr, place)),
             None => Err(QueryError::NotWatched { addr }),
@@ -165,56 +144,45 @@ impl Sim {
 
     // Appends the counts of a watched address.
     fn put_report(&self, round: u32, addr: Addr, out: &mut Vec<u8>) -> Result<(), QueryError>
-        ensures answered { OnOk result (Answers (world_seen self.now) (kept self.now)
-            (query.Report round addr) out.old.items out.new.items) }
+        ensures answered { OnOk result (Answers (world_seen self.now) (kept self.now) (query.Report round addr)
+            out.old.items out.new.items) }
         ensures refused { IfErr result (IsQueryRefusal (world_seen self.now) (query.Report round addr)) }
         ensures err { OnErr result (out.new.items ≡ out.old.items) }
     {
-        let watch = match self.watch_of(round, addr) {
-            Ok(watch) => watch,
-            Err(error) => return Err(error),
-        };
-        match put_report(out, self.parts.rounds.seed_plan(), watch) {
-            Ok(()) => Ok(()),
-            Err(_) => Err(QueryError::Memory),
-        }
+        let watch = self.watch_of(round, addr)?;
+        put_report(out, self.parts.rounds.seed_plan(), watch)?;
+        Ok(())
     }
 
     // Appends the ranks of all ASes.
     fn put_ranks(&self, out: &mut Vec<u8>) -> Result<(), QueryError>
-        ensures answered { OnOk result (Answers (world_seen self.now)
-            (kept self.now) query.Ranks out.old.items out.new.items) }
+        ensures answered { OnOk result (Answers (world_seen self.now) (kept self.now) query.Ranks
+            out.old.items out.new.items) }
         ensures refused { IfErr result (IsQueryRefusal (world_seen self.now) query.Ranks) }
         ensures err { OnErr result (out.new.items ≡ out.old.items) }
     {
-        match put_ranks(out, &self.parts.graph, &self.parts.ranks) {
-            Ok(()) => Ok(()),
-            Err(_) => Err(QueryError::Memory),
-        }
+        put_ranks(out, &self.parts.graph, &self.parts.ranks)?;
+        Ok(())
     }
 
     // Appends the state of a prefix with an origin, and the payloads that cover the prefix.
     fn put_validity(&self, prefix: Prefix, origin: Asn, out: &mut Vec<u8>) -> Result<(), QueryError>
-        ensures answered { OnOk result (Answers (world_seen self.now) (kept self.now)
-            (query.Validity prefix origin) out.old.items out.new.items) }
+        ensures answered { OnOk result (Answers (world_seen self.now) (kept self.now) (query.Validity prefix origin)
+            out.old.items out.new.items) }
         ensures refused { IfErr result (IsQueryRefusal (world_seen self.now) (query.Validity prefix origin)) }
         ensures err { OnErr result (out.new.items ≡ out.old.items) }
     {
-        let Ok(explained) = explain(*out.allocator(), &self.parts.vrps, prefix, origin) else {
-            return Err(QueryError::Memory);
-        };
-        match put_validity(out, &explained) {
-            Ok(()) => Ok(()),
-            Err(_) => Err(QueryError::Memory),
-        }
+        let explained = explain(*out.allocator(), &self.parts.vrps, prefix, origin)?;
+        put_validity(out, &explained)?;
+        Ok(())
     }
 
     /// Appends the answer to a query. It is refused exactly where it names something that the world has
     /// not: `UnknownRound`, `UnknownPrefix`, `UnknownAs` or `NotWatched`, tested in this order among what
     /// it names. After a refusal `out` is as it was.
     pub fn answer(&self, query: &Query, out: &mut Vec<u8>) -> Result<(), QueryError>
-        ensures answered { OnOk result (Answers (world_seen self.now)
-            (kept self.now) query.now out.old.items out.new.items) }
+        ensures answered { OnOk result (Answers (world_seen self.now) (kept self.now) query.now
+            out.old.items out.new.items) }
         ensures refused { IfErr result (IsQueryRefusal (world_seen self.now) query.now) }
         ensures err { OnErr result (out.new.items ≡ out.old.items) }
     {

@@ -58,16 +58,16 @@ pub fn change<L: Ledger>(
     ensures belong { OnOk result (BelongTo (ground_in world.now) ranks.new rounds.new watches.new.items) }
     ensures changed { IfOk result (λ c. HasChanges (plan_of rounds.new) (round_count rounds.new)
         (kept_rounds rounds.old) (kept_rounds rounds.new) c.routes) }
-    ensures plan { OnOk result (plan_of rounds.new
-        ≡ plan_edited (option_copied difference.now.edit) (plan_of rounds.old)) }
+    ensures plan { OnOk result (plan_of rounds.new ≡
+        plan_edited (option_copied difference.now.edit) (plan_of rounds.old)) }
     ensures quick { OnOk result (AreFewSteps (relation world.now.graph.now) (plan_of rounds.old) (plan_of rounds.new)
         (kept_rounds rounds.old) (kept_rounds rounds.new)
         (λ p a. touches difference.now.touched.now p a ≡ true) (round_count rounds.old) steps.old steps.new) }
     ensures count { round_count rounds.new ≡ round_count rounds.old }
     ensures closed { is_open rounds.new ≡ false }
     ensures addrs { map addrs_in watches.new.items ≡ map addrs_in watches.old.items }
-    ensures err { OnErr result (AreSeenAlike ranks.old ranks.new rounds.old rounds.new watches.old.items
-        watches.new.items) }
+    ensures err { OnErr result
+        (AreSeenAlike ranks.old ranks.new rounds.old rounds.new watches.old.items watches.new.items) }
 {
     links_are_sound();
     ranks_fit();
@@ -78,17 +78,13 @@ pub fn change<L: Ledger>(
     paths_go_on::<Kind>();
     plans_are_sound(rounds.seed_plan());
     make_room(world.graph, watches)?;
-    let Ok(rank_plan) = ranks.plan(alloc, world.graph, difference.ends) else {
-        return Err(NoMemory);
-    };
+    let rank_plan = ranks.plan(alloc, world.graph, difference.ends)?;
     let planned = PlannedRanks {
         ranks,
         plan: &rank_plan,
     };
     let (touched, edit) = (difference.touched, difference.edit);
-    let Ok(plan) = rounds.plan(alloc, world, &planned, touched, edit, steps) else {
-        return Err(NoMemory);
-    };
+    let plan = rounds.plan(alloc, world, &planned, touched, edit, steps)?;
     ranks.commit(rank_plan);
     let done = rounds.commit(plan);
     plans_are_sound(rounds.seed_plan());
@@ -140,8 +136,8 @@ impl Parts {
         requires from { (old : AGround) × BelongTo old self.old.ranks self.old.rounds self.old.watches.items
             × DiffersAround old (ground_less self.old but) self.old.rounds ends.now (touches touched.now) }
         ensures changed { IfOk result (λ c. IsChanged self.old self.new but c.routes) }
-        ensures quick { OnOk result (AreFewSteps (relation self.old.graph) (plan_of self.old.rounds)
-            (plan_of self.new.rounds)
+        ensures quick { OnOk result (AreFewSteps (relation self.old.graph)
+            (plan_of self.old.rounds) (plan_of self.new.rounds)
             (kept_rounds self.old.rounds) (kept_rounds self.new.rounds)
             (λ p a. touches touched.now p a ≡ true) (round_count self.old.rounds) steps.old steps.new) }
         ensures err { OnErr result (IsUnchanged self.old self.new) }

@@ -1,11 +1,9 @@
 //! Edits of a simulation.
-ghost use Rattle.std.specs.Prelude.{◌≡◌, ◌≤◌, IfOk, IfErr, OnOk, OnErr};
-ghost use Rattle.leak_round.specs.Changes.{HasChanges};
+ghost use Rattle.std.specs.Prelude.{◌≤◌, OnOk};
 ghost use Rattle.leak_round.specs.Rounds.{pool_of};
 ghost use Rattle.path_pool.specs.Pool.{live_count};
 ghost use Rattle.scenario_text.specs.LineValues.{IsWellFormed};
 ghost use Rattle.sim_core.specs.Editing.{IsEdited, IsUnchanged};
-ghost use Rattle.sim_core.specs.Edits.{IsAllowed, IsEditRefusal, edited};
 ghost use Rattle.sim_core.specs.Views.{AreRight, kept, world_seen};
 ghost use Rattle.sim_core.specs.Steps.{IsQuick};
 ghost use Rattle.sim_core.specs.World.{HasCycle};
@@ -28,7 +26,7 @@ pub struct Changed {
 
 impl Parts {
     // Makes the pool of the paths anew where too many of its cells are live.
-    fn tidied(&mut self, alloc: Global) -> Result<(), NoMemory>
+    pub(crate) fn tidied(&mut self, alloc: Global) -> Result<(), NoMemory>
         requires right { AreRight self.old }
         requires no_cycle { HasCycle (world_seen self.old) → ⊥ }
         ensures unchanged { IsUnchanged self.old self.new }
@@ -42,7 +40,7 @@ impl Parts {
     }
 
     // Edits the world, where few cells are live.
-    fn edit_tidied<L: Ledger>(
+    pub(crate) fn edit_tidied<L: Ledger>(
         &mut self,
         alloc: Global,
         edit: &Edit,
@@ -65,33 +63,5 @@ impl Parts {
             Edit::Announce { prefix, path } => self.announce(alloc, *prefix, path, steps),
             Edit::Withdraw { prefix, asn } => self.withdraw(alloc, *prefix, *asn, steps),
         }
-    }
-
-    /// Edits the world, as `Sim::edit` says.
-    pub(crate) fn edit<L: Ledger>(
-        &mut self,
-        alloc: Global,
-        edit: &Edit,
-        steps: &mut Steps<L>,
-    ) -> Result<Changed, EditError>
-        requires formed { IsWellFormed edit.now }
-        requires right { AreRight self.old }
-        requires no_cycle { HasCycle (world_seen self.old) → ⊥ }
-        ensures world { OnOk result (world_seen self.new ≡ edited (world_seen self.old) edit.now) }
-        ensures allowed { OnOk result (IsAllowed (world_seen self.old) edit.now) }
-        ensures right { AreRight self.new }
-        ensures changed { IfOk result (λ c. HasChanges (world_seen self.new).plan (world_seen self.new).rounds
-            (kept self.old).routings (kept self.new).routings c.routes) }
-        ensures quick { OnOk result (IsQuick (world_seen self.old) (world_seen self.new) edit.now
-            (kept self.old).routings (kept self.new).routings steps.old steps.new) }
-        ensures refused { IfErr result (IsEditRefusal (world_seen self.old) edit.now) }
-        ensures same_world { OnErr result (world_seen self.new ≡ world_seen self.old) }
-        ensures same_kept { OnErr result (kept self.new ≡ kept self.old) }
-    {
-        match self.tidied(alloc) {
-            Ok(()) => {}
-            Err(_) => return Err(EditError::Memory),
-        }
-        self.edit_tidied(alloc, edit, steps)
     }
 }

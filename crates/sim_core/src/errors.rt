@@ -1,6 +1,11 @@
 //! Why a world is not loaded, why an edit is refused, and why a query is.
+ghost use Rattle.std.specs.Prelude.{◌≡◌};
+ghost use Rattle.sim_core.specs.declared.errors.EditError.TheVariants as edit;
+ghost use Rattle.sim_core.specs.declared.errors.LoadError.TheVariants as load;
+ghost use Rattle.sim_core.specs.declared.errors.QueryError.TheVariants as query;
+
 use cycle_check::Cycle;
-use net_names::{Addr, Asn, Prefix, Vrp};
+use net_names::{Addr, Asn, NoMemory, Prefix, Vrp};
 use thiserror::Error;
 
 /// Why a world is not loaded.
@@ -15,6 +20,14 @@ pub enum LoadError {
     /// The links have this provider cycle.
     #[error("provider cycle")]
     ProviderCycle(Cycle),
+}
+
+impl From<NoMemory> for LoadError {
+    ghost from_gives = { λ _ e. e ≡ load.Memory };
+
+    fn from(_e: NoMemory) -> LoadError {
+        LoadError::Memory
+    }
 }
 
 /// A limit that an edited world would pass.
@@ -75,6 +88,14 @@ pub enum EditError {
     ProviderCycle(Cycle),
 }
 
+impl From<NoMemory> for EditError {
+    ghost from_gives = { λ _ e. e ≡ edit.Memory };
+
+    fn from(_e: NoMemory) -> EditError {
+        EditError::Memory
+    }
+}
+
 /// Why a query is refused: the first thing, in the order of the variants, that it names and the world has not.
 #[derive(Clone, Copy, Debug, PartialEq, Eq, Error)]
 pub enum QueryError {
@@ -105,4 +126,12 @@ pub enum QueryError {
         /// The address.
         addr: Addr,
     },
+}
+
+impl From<NoMemory> for QueryError {
+    ghost from_gives = { λ _ e. e ≡ query.Memory };
+
+    fn from(_e: NoMemory) -> QueryError {
+        QueryError::Memory
+    }
 }

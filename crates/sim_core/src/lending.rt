@@ -46,10 +46,8 @@ impl Base {
         ensures few { IfOk result (λ base. as_count (topology (base_world base)) ≤ MOST_ASES) }
         ensures refused { IfErr result (IsLoadRefusal (world_of links vrps scenario)) }
     {
-        match load_base(alloc, &links, vrps, &scenario) {
-            Ok((base, _)) => Ok(base),
-            Err(error) => Err(error),
-        }
+        let (base, _) = load_base(alloc, &links, vrps, &scenario)?;
+        Ok(base)
     }
 
     /// The ASes with their links.
@@ -152,24 +150,19 @@ impl Sim {
     /// `UnknownRound` comes exactly where the world has not the round, and else `UnknownPrefix` exactly
     /// where it has not the prefix, unless memory runs out.
     pub fn seeds(&self, alloc: Global, round: u32, prefix: Prefix) -> Result<Seeds, QueryError>
-        ensures seeds { IfOk result (λ s. (a : ℕ) → fin.get s a
-            ≡ seeds_kept (world_seen self.now) (kept self.now) round prefix a) }
-        ensures inside { IfOk result (λ s. (a : ℕ) → has (topology (world_seen self.now)) a ≡ false →
-            fin.get s a ≡ None) }
+        ensures seeds { IfOk result (λ s. (a : ℕ) →
+            fin.get s a ≡ seeds_kept (world_seen self.now) (kept self.now) round prefix a) }
+        ensures inside { IfOk result (λ s. (a : ℕ) →
+            has (topology (world_seen self.now)) a ≡ false → fin.get s a ≡ None) }
         ensures own { IfOk result (λ s. IsKept (world_seen self.now) (kept self.now) → StartAtOwnAs s) }
         ensures short { IfOk result (HaveAtMost 40000000) }
         ensures known { OnOk result (refusal_of (world_seen self.now) (query.Routes round prefix) ≡ None) }
         ensures refused { IfErr result (IsQueryRefusal (world_seen self.now) (query.Routes round prefix)) }
     {
-        match self.table_of(round, prefix) {
-            Ok(_) => {}
-            Err(error) => return Err(error),
-        }
+        let _table = self.table_of(round, prefix)?;
         paths_go_on::<Kind>();
         plans_are_sound(self.parts.rounds.seed_plan());
-        match self.parts.rounds.seeds(alloc, round, prefix) {
-            Ok(seeds) => Ok(seeds),
-            Err(_) => Err(QueryError::Memory),
-        }
+        let seeds = self.parts.rounds.seeds(alloc, round, prefix)?;
+        Ok(seeds)
     }
 }

@@ -38,7 +38,6 @@ pub use base::Base;
 pub use editing::Changed;
 pub use errors::{EditError, EditLimit, LoadError, QueryError};
 pub use laws::{answers_are_one, kept_are_stable, kept_is_one};
-pub use loading::rounds_of;
 pub use naming::is_other;
 pub use planning::copy_of;
 pub use sim::Sim;

@@ -102,23 +102,19 @@ impl Parts {
         requires from { (old : AGround) × BelongTo old self.old.ranks self.old.rounds self.old.watches.items
             × DiffersAround old (ground_of self.old) self.old.rounds (a ∷ b ∷ []) (touches touched.now) }
         ensures changed { IfOk result (λ c. IsChanged self.old self.new None c.routes) }
-        ensures quick { OnOk result (AreFewSteps (relation self.old.graph) (plan_of self.old.rounds)
-            (plan_of self.new.rounds)
+        ensures quick { OnOk result (AreFewSteps (relation self.old.graph)
+            (plan_of self.old.rounds) (plan_of self.new.rounds)
             (kept_rounds self.old.rounds) (kept_rounds self.new.rounds)
             (λ p x. touches touched.now p x ≡ true) (round_count self.old.rounds) steps.old steps.new) }
         ensures no_cycle { OnOk result (HasNoProviderCycle (relation self.old.graph)) }
         ensures err { OnErr result (IsUnchanged self.old self.new) }
         ensures refused { IfErr result (IsLinkStop self.old.graph a b rel) }
     {
-        match closed_by(alloc, &self.graph, a, b, rel) {
-            Ok(None) => {}
-            Ok(Some(cycle)) => return Err(EditError::ProviderCycle(cycle)),
-            Err(_) => return Err(EditError::Memory),
+        if let Some(cycle) = closed_by(alloc, &self.graph, a, b, rel)? {
+            return Err(EditError::ProviderCycle(cycle));
         }
-        match self.change_at(alloc, &[a, b], touched, None, steps) {
-            Ok(changed) => Ok(changed),
-            Err(_) => Err(EditError::Memory),
-        }
+        let changed = self.change_at(alloc, &[a, b], touched, None, steps)?;
+        Ok(changed)
     }
 
     // Sets a link of two ASes that differ.
@@ -144,13 +140,8 @@ impl Parts {
         edits_are_undone();
         ases_are_kept();
         let old = self.graph.rel(a, b);
-        let Ok(touched) = touched_ases(alloc, self.rounds.seed_plan(), &[a, b]) else {
-            return Err(EditError::Memory);
-        };
-        match self.set_link(a, b, rel) {
-            Ok(()) => {}
-            Err(error) => return Err(error),
-        }
+        let touched = touched_ases(alloc, self.rounds.seed_plan(), &[a, b])?;
+        self.set_link(a, b, rel)?;
         self.is_small();
         match self.change_linked(alloc, a, b, rel, &touched, steps) {
             Ok(changed) => Ok(changed),
@@ -201,13 +192,8 @@ impl Parts {
         ases_are_kept();
         let link = self.graph.rel(a, b);
         self.is_small();
-        let Ok(touched) = touched_ases(alloc, self.rounds.seed_plan(), &[a, b]) else {
-            return Err(EditError::Memory);
-        };
-        match self.cut_link(a, b) {
-            Ok(()) => {}
-            Err(error) => return Err(error),
-        }
+        let touched = touched_ases(alloc, self.rounds.seed_plan(), &[a, b])?;
+        self.cut_link(a, b)?;
         self.is_small();
         match self.change_at(alloc, &[a, b], &touched, None, steps) {
             Ok(changed) => Ok(changed),

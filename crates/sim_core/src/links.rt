@@ -41,8 +41,8 @@ pub fn closed_by(
     requires linked { relation graph.now a b ≡ Some rel }
     requires there { HasNoProviderCycle (without_pair graph.now a b) }
     requires back { HasNoProviderCycle (without_pair graph.now b a) }
-    ensures cycle { IfOk result (λ found. IfSome found
-        (λ c. IsProviderCycle (relation graph.now) c × BeginsWithLink (Link a b rel) c)) }
+    ensures cycle { IfOk result (λ found. IfSome found (λ c.
+        IsProviderCycle (relation graph.now) c × BeginsWithLink (Link a b rel) c)) }
     ensures none { IfOk result (λ found. IfNone found (HasNoProviderCycle (relation graph.now))) }
 {
     links_are_set();

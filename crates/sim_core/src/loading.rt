@@ -47,8 +47,8 @@ fn ranks_of(alloc: Global, graph: &Graph) -> Result<Ranks, LoadError>
     }
 }
 
-/// The tables of the rounds of a plan, of which there are so many, by the states over the payloads.
-pub fn rounds_of<L: Ledger>(
+// The tables of the rounds of a plan, of which there are so many, by the states over the payloads.
+fn rounds_of<L: Ledger>(
     alloc: Global,
     world: &World<'_, Kind, KnownStates<'_>>,
     ranks: &Ranks,
@@ -61,8 +61,8 @@ pub fn rounds_of<L: Ledger>(
     requires ranks { (a : ℕ) → IsRank (relation world.now.graph.now) a (rank_at ranks.now a) }
     requires small { IsWithinLimits plan }
     requires few { count ≤ 4 }
-    ensures rounds { IfOk result (AreRoundsOf world.now.graph.now world.now.states.now.payloads world.now.book.now
-        plan count) }
+    ensures rounds { IfOk result
+        (AreRoundsOf world.now.graph.now world.now.states.now.payloads world.now.book.now plan count) }
     ensures closed { IfOk result (λ rounds. is_open rounds ≡ false) }
 {
     let mut steps = Steps::<L>::new(blank);
@@ -81,14 +81,9 @@ fn graph_and_ranks(
     ensures no_cycle { IfOk result (λ r. HasNoProviderCycle (relation r.0)) }
     ensures refused { IfErr result (λ e. (vrps : Payloads) → IsLoadRefusal (world_of links.now vrps scenario.now) e) }
 {
-    let graph = match world_graph(alloc, links, scenario) {
-        Ok(graph) => graph,
-        Err(error) => return Err(error),
-    };
-    match ranks_of(alloc, &graph) {
-        Ok(ranks) => Ok((graph, ranks)),
-        Err(error) => Err(error),
-    }
+    let graph = world_graph(alloc, links, scenario)?;
+    let ranks = ranks_of(alloc, &graph)?;
+    Ok((graph, ranks))
 }
 
 // The world of a graph, payloads and a scenario.
@@ -105,9 +100,7 @@ fn base_of(
 {
     let book = policies(alloc, scenario, &graph)?;
     let plan = seed_plan(alloc, scenario)?;
-    let Ok(watched) = watched_addrs(alloc, scenario) else {
-        return Err(NoMemory);
-    };
+    let watched = watched_addrs(alloc, scenario)?;
     let rounds = scenario.leak_lists() as u32 + 1;
     Ok(Base {
         graph,
@@ -132,14 +125,9 @@ pub fn load_base(
     ensures no_cycle { IfOk result (λ r. HasNoProviderCycle (relation r.0.graph)) }
     ensures refused { IfErr result (IsLoadRefusal (world_of links.now vrps scenario.now)) }
 {
-    let (graph, ranks) = match graph_and_ranks(alloc, links, scenario) {
-        Ok(both) => both,
-        Err(error) => return Err(error),
-    };
-    match base_of(alloc, graph, vrps, links, scenario) {
-        Ok(base) => Ok((base, ranks)),
-        Err(_) => Err(LoadError::Memory),
-    }
+    let (graph, ranks) = graph_and_ranks(alloc, links, scenario)?;
+    let base = base_of(alloc, graph, vrps, links, scenario)?;
+    Ok((base, ranks))
 }
 
 /// The parts of the simulation of a world: the world, its ranks, and what is kept of it.

@@ -36,10 +36,7 @@ fn mark_all(graph: &mut Graph, names: &[Asn]) -> Result<(), LoadError>
     ensures refused { IfErr result (IsMarksRefusal graph.old names.now) }
 {
     for asn in names {
-        match mark(graph, *asn) {
-            Ok(()) => {}
-            Err(error) => return Err(error),
-        }
+        mark(graph, *asn)?;
     }
     Ok(())
 }
@@ -59,9 +56,7 @@ fn add_announcers(names: &mut Vec<Asn>, announcements: &[Announcement]) -> Resul
     ensures { OnOk result (names.new.items ≡ names.old.items ++ map (λ (a : AnAnnouncement). a.asn) announcements.now) }
 {
     for announcement in announcements {
-        if names.push(announcement.asn).is_err() {
-            return Err(NoMemory);
-        }
+        names.push(announcement.asn)?;
     }
     Ok(())
 }
@@ -71,9 +66,7 @@ fn add_leakers(names: &mut Vec<Asn>, leaks: &[Leakers]) -> Result<(), NoMemory>
     ensures { OnOk result (names.new.items ≡ names.old.items ++ flat_map (λ leakers. leakers) leaks.now) }
 {
     for leakers in leaks {
-        if names.extend_from_slice(leakers.as_slice()).is_err() {
-            return Err(NoMemory);
-        }
+        names.extend_from_slice(leakers.as_slice())?;
     }
     Ok(())
 }
@@ -85,10 +78,8 @@ fn add_other(names: &mut Vec<Asn>, policy: (Asn, Kind)) -> Result<(), NoMemory>
     if !is_other(policy.1) {
         return Ok(());
     }
-    match names.push(policy.0) {
-        Ok(()) => Ok(()),
-        Err(_) => Err(NoMemory),
-    }
+    names.push(policy.0)?;
+    Ok(())
 }
 
 // Puts the ASes with another policy than the plain one at the end.
@@ -116,17 +107,13 @@ fn names_of(alloc: Global, scenario: &Scenario) -> Result<Vec<Asn>, NoMemory>
 pub fn world_graph(alloc: Global, links: &Links, scenario: &Scenario) -> Result<Graph, LoadError>
     ensures { MakesGraph links.now (names_in scenario.now) result }
 {
-    let Ok(names) = names_of(alloc, scenario) else {
-        return Err(LoadError::Memory);
-    };
+    let names = names_of(alloc, scenario)?;
     let mut graph = match Graph::build(alloc, links) {
         Ok(graph) => graph,
         Err(GraphError::Memory) => return Err(LoadError::Memory),
         Err(GraphError::TooManyLinks) => unreachable!(),
         Err(GraphError::TooManyAses) => return Err(LoadError::TooManyAses),
     };
-    match mark_all(&mut graph, &names) {
-        Ok(()) => Ok(graph),
-        Err(error) => Err(error),
-    }
+    mark_all(&mut graph, &names)?;
+    Ok(graph)
 }

@@ -32,12 +32,11 @@ impl Parts {
     // The ASes whose policy reads states that differ with the payload and without it.
     fn touched_by(&self, alloc: Global, vrp: Vrp) -> Result<Touched, NoMemory>
         ensures only { IfOk result (λ t. (prefix : PrefixValue) (a : ℕ) → touches t prefix a ≡ true →
-            (covers vrp.prefix prefix ≡ true)
-            × ((kind_policy (policy_at self.now.book a)).reads_state ≡ true)) }
+            (covers vrp.prefix prefix ≡ true) × ((kind_policy (policy_at self.now.book a)).reads_state ≡ true)) }
         ensures these { IfOk result (λ t. (prefix : PrefixValue) →
             IsTrue (has_prefix (plan_of self.now.rounds) prefix) →
-            AreReadersTouched self.now.readers.ases self.now.book self.now.vrps vrp
-            (plan_of self.now.rounds) prefix (touches t prefix)) }
+            AreReadersTouched self.now.readers.ases self.now.book self.now.vrps vrp (plan_of self.now.rounds) prefix
+            (touches t prefix)) }
     {
         touched_readers(
             alloc,
@@ -58,11 +57,11 @@ impl Parts {
     ) -> Result<Changed, NoMemory>
         requires few_cells { live_count (pool_of self.old.rounds) ≤ MOST_CELLS }
         requires no_cycle { HasNoProviderCycle (relation self.old.graph) }
-        requires from { BelongTo (ground_less self.old (Some vrp))
-            self.old.ranks self.old.rounds self.old.watches.items }
+        requires from { BelongTo (ground_less self.old (Some vrp)) self.old.ranks self.old.rounds
+            self.old.watches.items }
         ensures changed { IfOk result (λ c. IsChanged self.old self.new None c.routes) }
-        ensures quick { OnOk result (AreFewSteps (relation self.old.graph) (plan_of self.old.rounds)
-            (plan_of self.new.rounds)
+        ensures quick { OnOk result (AreFewSteps (relation self.old.graph)
+            (plan_of self.old.rounds) (plan_of self.new.rounds)
             (kept_rounds self.old.rounds) (kept_rounds self.new.rounds)
             (λ p a. (covers vrp.prefix p ≡ true) × ((kind_policy (policy_at self.old.book a)).reads_state ≡ true))
             (round_count self.old.rounds) steps.old steps.new) }
@@ -126,14 +125,9 @@ impl Parts {
         if !self.vrps.has(vrp) {
             return Err(EditError::AbsentVrp { vrp });
         }
-        let Ok(touched) = self.touched_by(alloc, vrp) else {
-            return Err(EditError::Memory);
-        };
+        let touched = self.touched_by(alloc, vrp)?;
         self.is_small();
-        let changed = match self.change_at(alloc, &[], &touched, Some(vrp), steps) {
-            Ok(changed) => changed,
-            Err(_) => return Err(EditError::Memory),
-        };
+        let changed = self.change_at(alloc, &[], &touched, Some(vrp), steps)?;
         let _ = self.vrps.take(vrp);
         Ok(changed)
     }

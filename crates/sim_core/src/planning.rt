@@ -21,10 +21,8 @@ const FEW: usize = 4;
 pub fn copy_of(alloc: Global, path: &Path) -> Result<Path, NoMemory>
     ensures { IfOk result (λ p. p ≡ path.now) }
 {
-    match Vec::from_slice(alloc, path.as_slice()) {
-        Ok(numbers) => Ok(Path::from_vec(numbers)),
-        Err(_) => Err(NoMemory),
-    }
+    let numbers = Vec::from_slice(alloc, path.as_slice())?;
+    Ok(Path::from_vec(numbers))
 }
 
 // Makes the ASes announce.
@@ -76,13 +74,9 @@ fn name_policy(book: &mut Book<Kind>, policy: (Asn, Kind)) -> Result<(), NoMemor
     if !is_other(policy.1) {
         return Ok(());
     }
-    match book.room(policy.0) {
-        Ok(()) => {
-            book.set(policy.0, policy.1);
-            Ok(())
-        }
-        Err(_) => Err(NoMemory),
-    }
+    book.room(policy.0)?;
+    book.set(policy.0, policy.1);
+    Ok(())
 }
 
 // Makes room for the ASes of the graph, in the order of its rows, where more than a few policies are other ones than the

@@ -55,10 +55,7 @@ fn push_neighbours(graph: &Graph, asn: Asn, ases: &mut Vec<Asn>) -> Result<(), N
         (r : ARel) × (relation graph.now asn a ≡ Some r) }
 {
     for neighbour in graph.neighbours(asn) {
-        match ases.push(neighbour.asn) {
-            Ok(()) => {}
-            Err(_) => return Err(NoMemory),
-        }
+        ases.push(neighbour.asn)?;
     }
     Ok(())
 }
@@ -157,18 +154,15 @@ impl Parts {
         ensures only { IfOk result (λ t. (prefix : PrefixValue) (x : ℕ) → touches t prefix x ≡ true →
             (x ≡ asn) ⊎ (((kind_policy kind).marks ≢ (kind_policy (policy_at self.now.book asn)).marks) × (r : ARel)
             × (relation self.now.graph asn x ≡ Some r))) }
-        ensures own { IfOk result (λ t. (prefix : PrefixValue) →
-            IsTrue (has_prefix (plan_of self.now.rounds) prefix) → touches t prefix asn ≡ true) }
+        ensures own { IfOk result (λ t. (prefix : PrefixValue) → IsTrue (has_prefix (plan_of self.now.rounds) prefix) →
+            touches t prefix asn ≡ true) }
         ensures neighbours { IfOk result (λ t. (prefix : PrefixValue) (n : ℕ) (r : ARel) →
             IsTrue (has_prefix (plan_of self.now.rounds) prefix) →
             (kind_policy kind).marks ≢ (kind_policy (policy_at self.now.book asn)).marks →
             relation self.now.graph asn n ≡ Some r → touches t prefix n ≡ true) }
     {
         let mut ases = Vec::new(alloc);
-        match ases.push(asn) {
-            Ok(()) => {}
-            Err(_) => return Err(NoMemory),
-        }
+        ases.push(asn)?;
         if kind.marks() != self.kind_of(asn).marks() {
             push_neighbours(&self.graph, asn, &mut ases)?;
         }
@@ -193,17 +187,9 @@ impl Parts {
         links_are_sound();
         let was = self.kind_of(asn);
         self.is_small();
-        let Ok(touched) = self.touched_with(alloc, asn, kind) else {
-            return Err(EditError::Memory);
-        };
-        match self.make_room(asn, kind) {
-            Ok(()) => {}
-            Err(_) => return Err(EditError::Memory),
-        }
-        match self.give(asn, kind) {
-            Ok(()) => {}
-            Err(error) => return Err(error),
-        }
+        let touched = self.touched_with(alloc, asn, kind)?;
+        self.make_room(asn, kind)?;
+        self.give(asn, kind)?;
         self.is_small();
         match self.change_at(alloc, &[asn], &touched, None, steps) {
             Ok(changed) => Ok(changed),

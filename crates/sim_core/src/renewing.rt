@@ -52,8 +52,8 @@ fn renew_in(
     requires to { round ≤ round_count rounds.now }
     requires inside { GoesOnInside graph.now (plan_of rounds.now) (kept_rounds rounds.now round) }
     requires roomy { AreRoomy graph.now one.old }
-    requires follow { CanFollow graph.now (plan_of rounds.now)
-        (kept_rounds rounds.now round) book.now changed.now ends.now (seen_in one.old) }
+    requires follow { CanFollow graph.now (plan_of rounds.now) (kept_rounds rounds.now round) book.now
+        changed.now ends.now (seen_in one.old) }
     ensures rows { AreWatches graph.now (plan_of rounds.now) (kept_rounds rounds.now round) book.now (seen_in one.new) }
     ensures addrs { addrs_in one.new ≡ addrs_in one.old }
 {

@@ -42,14 +42,9 @@ impl Sim {
         ensures few { IfOk result (λ sim. as_count (topology (world_seen sim)) ≤ MOST_ASES) }
         ensures refused { IfErr result (IsLoadRefusal (world_of links vrps scenario)) }
     {
-        let (base, ranks) = match load_base(alloc, &links, vrps, &scenario) {
-            Ok(both) => both,
-            Err(error) => return Err(error),
-        };
-        match keep::<Brand>(alloc, base, ranks, Blank::new(1)) {
-            Ok(parts) => Ok(Sim { parts }),
-            Err(_) => Err(LoadError::Memory),
-        }
+        let (base, ranks) = load_base(alloc, &links, vrps, &scenario)?;
+        let parts = keep::<Brand>(alloc, base, ranks, Blank::new(1))?;
+        Ok(Sim { parts })
     }
 
     /// Edits the world. Every kept part is then that of the edited world, and the answer says how many
@@ -87,6 +82,7 @@ impl Sim {
         ensures same_world { OnErr result (world_seen self.new ≡ world_seen self.old) }
         ensures same_kept { OnErr result (kept self.new ≡ kept self.old) }
     {
-        self.parts.edit(alloc, edit, steps)
+        self.parts.tidied(alloc)?;
+        self.parts.edit_tidied(alloc, edit, steps)
     }
 }

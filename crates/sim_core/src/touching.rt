@@ -36,8 +36,7 @@ fn touch(touched: &mut Touched, prefix: Prefix, ases: &[Asn]) -> Result<(), NoMe
 /// These ASes, for each prefix of the plan.
 pub fn touched_ases(alloc: Global, plan: &SeedPlan, ases: &[Asn]) -> Result<Touched, NoMemory>
     ensures these { IfOk result (λ t. (prefix : PrefixValue) (a : ℕ) → IsTrue (has_prefix plan.now prefix) →
-        occurs a ases.now ≡ true →
-        touches t prefix a ≡ true) }
+        occurs a ases.now ≡ true → touches t prefix a ≡ true) }
     ensures only { IfOk result (λ t. (prefix : PrefixValue) (a : ℕ) → touches t prefix a ≡ true →
         occurs a ases.now ≡ true) }
 {
@@ -57,12 +56,10 @@ fn touch_readers(
     prefix: Prefix,
 ) -> Result<(), NoMemory>
     ensures these { OnOk result ((a : ℕ) → occurs a readers.now ≡ true →
-        (kind_policy (policy_at book.now a)).reads_state ≡ true →
-        touches touched.new prefix a ≡ true) }
+        (kind_policy (policy_at book.now a)).reads_state ≡ true → touches touched.new prefix a ≡ true) }
     ensures more { (p : PrefixValue) (a : ℕ) → touches touched.old p a ≡ true → touches touched.new p a ≡ true }
     ensures only { (p : PrefixValue) (a : ℕ) → touches touched.new p a ≡ true → touches touched.old p a ≡ false →
-        (p ≡ prefix)
-        × ((kind_policy (policy_at book.now a)).reads_state ≡ true) }
+        (p ≡ prefix) × ((kind_policy (policy_at book.now a)).reads_state ≡ true) }
 {
     for asn in readers {
         if book.policy(*asn).reads_state() {
@@ -91,8 +88,8 @@ fn origin_of(plan: &SeedPlan, prefix: Prefix, asn: Asn) -> Option<Asn>
 
 // Whether the state of an origin differs with the payload and without it.
 fn differs(vrps: &Vrps, vrp: Vrp, prefix: Prefix, origin: Option<Asn>) -> bool
-    ensures { (o : ℕ) → origin ≡ Some o → result ≡ false → state_of (taken vrps.now vrp) prefix o
-        ≡ state_of vrps.now prefix o }
+    ensures { (o : ℕ) → origin ≡ Some o → result ≡ false →
+        state_of (taken vrps.now vrp) prefix o ≡ state_of vrps.now prefix o }
 {
     match origin {
         Some(origin) => {
@@ -132,8 +129,7 @@ fn touch_covered(
         (touches touched.new prefix)) }
     ensures more { (p : PrefixValue) (a : ℕ) → touches touched.old p a ≡ true → touches touched.new p a ≡ true }
     ensures only { (p : PrefixValue) (a : ℕ) → touches touched.new p a ≡ true → touches touched.old p a ≡ false →
-        (covers_it vrp.prefix p ≡ true)
-        × ((kind_policy (policy_at book.now a)).reads_state ≡ true) }
+        (covers_it vrp.prefix p ≡ true) × ((kind_policy (policy_at book.now a)).reads_state ≡ true) }
 {
     if !covers(vrp.prefix(), prefix) {
         return Ok(());
@@ -157,8 +153,7 @@ pub fn touched_readers(
     ensures these { IfOk result (λ t. (prefix : PrefixValue) → IsTrue (has_prefix plan.now prefix) →
         AreReadersTouched readers.now book.now vrps.now vrp plan.now prefix (touches t prefix)) }
     ensures only { IfOk result (λ t. (prefix : PrefixValue) (a : ℕ) → touches t prefix a ≡ true →
-        (covers_it vrp.prefix prefix ≡ true)
-        × ((kind_policy (policy_at book.now a)).reads_state ≡ true)) }
+        (covers_it vrp.prefix prefix ≡ true) × ((kind_policy (policy_at book.now a)).reads_state ≡ true)) }
 {
     let _first = plan.prefix_at(0);
     let mut touched = Touched::new(alloc);

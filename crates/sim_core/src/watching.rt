@@ -74,10 +74,7 @@ fn watch_round(
     let mut watches = Vec::new(alloc);
     for addr in addrs {
         let watch = Watch::by_index(alloc, index, tables, pool, plan, *addr)?;
-        match watches.push(watch) {
-            Ok(()) => {}
-            Err(_) => return Err(NoMemory),
-        }
+        watches.push(watch)?;
     }
     Ok(RoundWatches { watches })
 }
@@ -89,10 +86,7 @@ fn watch_none(alloc: Global, count: u32) -> Result<Vec<RoundWatches>, NoMemory>
     let mut all = Vec::new(alloc);
     for _past in 0..count {
         let watches = Vec::new(alloc);
-        match all.push(RoundWatches { watches }) {
-            Ok(()) => {}
-            Err(_) => return Err(NoMemory),
-        }
+        all.push(RoundWatches { watches })?;
     }
     Ok(all)
 }
@@ -107,12 +101,11 @@ pub fn watch_rounds(
     count: u32,
 ) -> Result<Vec<RoundWatches>, NoMemory>
     requires count { count ≡ round_count rounds.now }
-    requires stable { (payloads : Payloads)
-        × AreRounds (λ p. setting kind_policy graph.now book.now (state_of payloads p)) (plan_of rounds.now)
-        (round_count rounds.now) (kept_rounds rounds.now) }
-    ensures rows { IfOk result (λ all. AreRoundWatches graph.now (plan_of rounds.now)
-        (kept_rounds rounds.now) book.now (round_count rounds.now)
-        (map seen_in all.items)) }
+    requires stable { (payloads : Payloads) ×
+        AreRounds (λ p. setting kind_policy graph.now book.now (state_of payloads p))
+        (plan_of rounds.now) (round_count rounds.now) (kept_rounds rounds.now) }
+    ensures rows { IfOk result (λ all. AreRoundWatches graph.now (plan_of rounds.now) (kept_rounds rounds.now) book.now
+        (round_count rounds.now) (map seen_in all.items)) }
     ensures addrs { IfOk result (λ all. HasWatches (round_count rounds.now) addrs.now all.items) }
 {
     if addrs.is_empty() {
@@ -124,10 +117,7 @@ pub fn watch_rounds(
     let mut all = Vec::new(alloc);
     for past in 0..count {
         let one = watch_round(alloc, &index, rounds, addrs, past + 1)?;
-        match all.push(one) {
-            Ok(()) => {}
-            Err(_) => return Err(NoMemory),
-        }
+        all.push(one)?;
     }
     Ok(all)
 }

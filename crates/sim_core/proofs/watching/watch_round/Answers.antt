@@ -35,9 +35,9 @@ loop-addr-preserved c =
     let longer : take (c.loop-addr.addr-index + 1) c.args.addrs.now ≡ take c.loop-addr.addr-index c.args.addrs.now ++ c.addr-item.result ∷ [] =
     take_more c.args.addrs.now c.loop-addr.addr-index c.addr-item.result c.loop-addr-test.true ∙ ap (λ a. take c.loop-addr.addr-index c.args.addrs.now ++ a ∷ []) (sym c.addr-item.is) in
     record {
-      rows = λ g book is. subst (λ (ws : List Watch). AreWatches g plan held book (map seen_of ws)) (sym c.in-Ok.ensures.items)
+      rows = λ g book is. subst (λ (ws : List Watch). AreWatches g plan held book (map seen_of ws)) (sym c.in_ok-push.ensures.items)
           (one_watch_more g plan held book old watch (c.loop-addr.invariant.rows g book is) (subst (λ (x : AddrValue). AreRows g (next_hop plan held x) (λ a. label (policy_at book a)) (rows_of watch)) (sym c.in_ok-watch.ensures.addr) (rows g book is)));
-      addrs = ap (map addr_of) c.in-Ok.ensures.items ∙ one_addr_more old watch (take c.loop-addr.addr-index c.args.addrs.now) c.addr-item.result c.loop-addr.invariant.addrs c.in_ok-watch.ensures.addr ∙ sym longer;
+      addrs = ap (map addr_of) c.in_ok-push.ensures.items ∙ one_addr_more old watch (take c.loop-addr.addr-index c.args.addrs.now) c.addr-item.result c.loop-addr.invariant.addrs c.in_ok-watch.ensures.addr ∙ sym longer;
     }
 
 pub returns-clause-rows : goal.returns-clause-rows

@@ -31,7 +31,7 @@ loop-past-preserved c =
     let here = subst (λ r. AreWatches c.args.graph.now plan (kept c.args.rounds.now r) c.args.book.now (seen_in one)) next (c.in_ok-one.ensures.rows c.args.graph.now c.args.book.now c.in_ok-index.ensures) in
     subst
     (λ (all : List RoundWatches). AreRoundWatches c.args.graph.now plan (kept c.args.rounds.now) c.args.book.now (c.loop-past.past + 1) (map seen_in all) × HasWatches (c.loop-past.past + 1) c.args.addrs.now all)
-    (sym c.in-Ok.ensures.items)
+    (sym c.in_ok-push.ensures.items)
     (one_round_more c.args.graph.now plan (kept c.args.rounds.now) c.args.book.now c.loop-past.past c.loop-past.all.items one c.loop-past.invariant.0 here, one_round_longer c.args.addrs.now c.loop-past.past c.loop-past.all.items one c.loop-past.invariant.1 c.in_ok-one.ensures.addrs)
 
 no_addrs : (addrs : List AddrValue) → length addrs ≡ 0 → [] ≡ addrs

@@ -1,4 +1,5 @@
 use Rattle.std.proofs.Common.{◌≡◌, ◌≢◌, ◌≤◌, ◌-◌, ◌∙◌, ◌∷◌, [], ℕ, inl, inr, true, Some, refl, sym, ap, subst, arith}
+use Rattle.std.proofs.lemmas.Result.{err_from_is_err_and}
 use Rattle.std.specs.Ordering.{nat_cmp}
 use Rattle.std.specs.FinSet as set
 use Rattle.as_graph.specs.Topology.{Topology, as_count, relation}
@@ -17,36 +18,38 @@ use Rattle.sim_core.specs.Views.{world_seen}
 use Rattle.sim_core.specs.Watching.{HasWatches}
 use Rattle.sim_core.specs.World.{graph_of, named}
 use Rattle.sim_core.specs.declared.errors.EditError.{EditError}
-use Rattle.sim_core.proofs.Doing.{belongs, edit_done, seen_undone}
+use Rattle.sim_core.proofs.Doing.{as_it_was, belongs, edit_done, seen_undone}
 use Rattle.sim_core.proofs.Grounds.{quick_by}
 use Rattle.sim_core.proofs.PayloadEdits.{vrps_undone}
 use Rattle.sim_core.proofs.Reseeded.{graph_back, new_allowed, new_differs, new_limits, new_links, new_named, new_no_cycle, new_refused, new_seeds, new_world, seed_differs}
 use Rattle.sim_core.proofs.Watches.{has_watches}
 use Rattle.sim_core.proofs.parts.Parts.edit_announcement.Goals as goal
 
-pub returns-in-Err-set_mark-clause-edited : goal.returns-in-Err-set_mark-clause-edited
-returns-in-Err-set_mark-clause-edited g c =
+pub returns-in_err-set_mark-clause-edited : goal.returns-in_err-set_mark-clause-edited
+returns-in_err-set_mark-clause-edited g c =
     let s = c.args.self.now in
     let e = c.args.edit.now in
     let a = c.asn_of-asn.result in
-    let t = c.is_named_after-is.result in (
-      subst (λ (x : EditError). IsEditRefusal (world_seen s) (edit_of e) x) (sym c.in-Err-set_mark.ensures.limit)
-          (new_refused s e (edited (plan_of c.args.self.now.rounds) c.args.edit.now) a t (with_mark_if c.room.new.self a t) c.requires.accepted refl c.asn_of-asn.ensures c.is_named_after-is.ensures (ap (λ (x : Topology). with_mark_if x a t) c.in-Ok-room.ensures.ok) c.is_small.ensures c.in-Err-set_mark.ensures.many),
-      vrps_undone s _ (ap (λ (x : Topology). x.links) (c.in-Err-set_mark.ensures.err ∙ c.in-Ok-room.ensures.ok)) refl refl (record { ranks = refl; rounds = refl; watched = refl; watches = refl }),
+    let t = c.is_named_after-is.result in
+    let p = err_from_is_err_and c.from_residual-in_err-set_mark.result c.from_residual-in_err-set_mark.ensures.1 in
+    rw (p.1, p.2) (
+      subst (λ (x : EditError). IsEditRefusal (world_seen s) (edit_of e) x) (sym c.in_err-set_mark.ensures.limit)
+          (new_refused s e (edited (plan_of c.args.self.now.rounds) c.args.edit.now) a t (with_mark_if c.room.new.self a t) c.requires.accepted refl c.asn_of-asn.ensures c.is_named_after-is.ensures (ap (λ (x : Topology). with_mark_if x a t) c.in-Ok.ensures.ok) c.is_small.ensures c.in_err-set_mark.ensures.many),
+      vrps_undone s _ (ap (λ (x : Topology). x.links) (c.in_err-set_mark.ensures.err ∙ c.in-Ok.ensures.ok)) refl refl (record { ranks = refl; rounds = refl; watched = refl; watches = refl }),
     )
 
 pub change-requires-clause-no_cycle : goal.change-requires-clause-no_cycle
 change-requires-clause-no_cycle g c =
     let a = c.asn_of-asn.result in
     let t = c.is_named_after-is.result in
-    let graph = c.in-Ok-set_mark.ensures.ok ∙ ap (λ (x : Topology). with_mark_if x a t) c.in-Ok-room.ensures.ok in
+    let graph = c.in_ok-set_mark.ensures.ok ∙ ap (λ (x : Topology). with_mark_if x a t) c.in-Ok.ensures.ok in
     new_no_cycle c.args.self.now c.args.edit.now (edited (plan_of c.args.self.now.rounds) c.args.edit.now) a t c.set_mark.new.graph c.requires.accepted refl c.asn_of-asn.ensures c.is_named_after-is.ensures graph c.requires.no_cycle
 
 pub change-requires-clause-seeds : goal.change-requires-clause-seeds
 change-requires-clause-seeds g c =
     let a = c.asn_of-asn.result in
     let t = c.is_named_after-is.result in
-    let graph = c.in-Ok-set_mark.ensures.ok ∙ ap (λ (x : Topology). with_mark_if x a t) c.in-Ok-room.ensures.ok in
+    let graph = c.in_ok-set_mark.ensures.ok ∙ ap (λ (x : Topology). with_mark_if x a t) c.in-Ok.ensures.ok in
     new_seeds c.args.self.now c.args.edit.now (edited (plan_of c.args.self.now.rounds) c.args.edit.now) a t c.set_mark.new.graph c.requires.accepted refl c.asn_of-asn.ensures c.is_named_after-is.ensures graph (Some c.args.edit.now) refl
 
 pub change-requires-clause-from : goal.change-requires-clause-from
@@ -54,17 +57,17 @@ change-requires-clause-from g c =
     let s = c.args.self.now in
     let a = c.asn_of-asn.result in
     let t = c.is_named_after-is.result in
-    let graph = c.in-Ok-set_mark.ensures.ok ∙ ap (λ (x : Topology). with_mark_if x a t) c.in-Ok-room.ensures.ok in
+    let graph = c.in_ok-set_mark.ensures.ok ∙ ap (λ (x : Topology). with_mark_if x a t) c.in-Ok.ensures.ok in
     let belong = belongs s c.requires.right c.requires.no_cycle in
-    let differs = new_differs s c.args.edit.now (edited (plan_of c.args.self.now.rounds) c.args.edit.now) a t c.set_mark.new.graph c.requires.accepted refl c.asn_of-asn.ensures c.is_named_after-is.ensures graph c.ases_are_kept.ensures c.right_follows.ensures c.links_are_sound.ensures belong (touches c.in-Ok.touched) c.in-Ok.ensures.this in
-    (ground_of s, belong, subst (λ (v : Payloads). DiffersAround (ground_of s) (record { graph = c.set_mark.new.graph; payloads = v; book = s.book }) s.rounds (a ∷ []) (touches c.in-Ok.touched)) (sym c.of-states.ensures) differs)
+    let differs = new_differs s c.args.edit.now (edited (plan_of c.args.self.now.rounds) c.args.edit.now) a t c.set_mark.new.graph c.requires.accepted refl c.asn_of-asn.ensures c.is_named_after-is.ensures graph c.ases_are_kept.ensures c.right_follows.ensures c.links_are_sound.ensures belong (touches c.in_ok-touched.touched) c.in_ok-touched.ensures.this in
+    (ground_of s, belong, subst (λ (v : Payloads). DiffersAround (ground_of s) (record { graph = c.set_mark.new.graph; payloads = v; book = s.book }) s.rounds (a ∷ []) (touches c.in_ok-touched.touched)) (sym c.of-states.ensures) differs)
 
 pub invariant_of-self-in-Ok-change : goal.invariant_of-self-in-Ok-change
 invariant_of-self-in-Ok-change g c =
     let s = c.args.self.now in
     let a = c.asn_of-asn.result in
     let t = c.is_named_after-is.result in
-    let graph = c.in-Ok-set_mark.ensures.ok ∙ ap (λ (x : Topology). with_mark_if x a t) c.in-Ok-room.ensures.ok in
+    let graph = c.in_ok-set_mark.ensures.ok ∙ ap (λ (x : Topology). with_mark_if x a t) c.in-Ok.ensures.ok in
     let plan : plan_of c.change.new.rounds ≡ (edited (plan_of c.args.self.now.rounds) c.args.edit.now) = c.in-Ok-change.ensures.plan in
     record {
       named = new_named s c.args.edit.now (edited (plan_of c.args.self.now.rounds) c.args.edit.now) a t c.set_mark.new.graph c.requires.accepted refl c.asn_of-asn.ensures c.is_named_after-is.ensures graph
@@ -83,7 +86,7 @@ pub set_mark_back-requires-clause-few : goal.set_mark_back-requires-clause-few
 set_mark_back-requires-clause-few g c =
     let s = c.args.self.now in
     let a = c.asn_of-asn.result in
-    let graph = c.in-Ok-set_mark.ensures.ok ∙ ap (λ (x : Topology). with_mark_if x a c.is_named_after-is.result) c.in-Ok-room.ensures.ok in
+    let graph = c.in_ok-set_mark.ensures.ok ∙ ap (λ (x : Topology). with_mark_if x a c.is_named_after-is.result) c.in-Ok.ensures.ok in
     let was = c.is_named-was.ensures in
     subst (λ (x : Topology). as_count x ≤ 150000) (sym (graph_back s a c.is_named_after-is.result c.is_named-was.result c.set_mark.new.graph (with_mark_if c.set_mark.new.graph a c.is_named-was.result) was graph refl)) c.is_small.ensures.ases
 
@@ -92,7 +95,7 @@ invariant_of-self-in-Err-change g c =
     let s = c.args.self.now in
     let a = c.asn_of-asn.result in
     let alike = c.in-Err-change.ensures.err in
-    let graph = c.in-Ok-set_mark.ensures.ok ∙ ap (λ (x : Topology). with_mark_if x a c.is_named_after-is.result) c.in-Ok-room.ensures.ok in
+    let graph = c.in_ok-set_mark.ensures.ok ∙ ap (λ (x : Topology). with_mark_if x a c.is_named_after-is.result) c.in-Ok.ensures.ok in
     let was = c.is_named-was.ensures in
     let back = graph_back s a c.is_named_after-is.result c.is_named-was.result c.set_mark.new.graph c.set_mark_back.new.graph was graph c.set_mark_back.ensures in
     record {
@@ -114,7 +117,7 @@ returns-in-Ok-change-clause-edited g c =
     let a = c.asn_of-asn.result in
     let t = c.is_named_after-is.result in
     let now = c.set_mark.new.graph in
-    let graph = c.in-Ok-set_mark.ensures.ok ∙ ap (λ (x : Topology). with_mark_if x a t) c.in-Ok-room.ensures.ok in
+    let graph = c.in_ok-set_mark.ensures.ok ∙ ap (λ (x : Topology). with_mark_if x a t) c.in-Ok.ensures.ok in
     let links = new_links s e (edited (plan_of c.args.self.now.rounds) c.args.edit.now) a t now c.requires.accepted refl c.asn_of-asn.ensures c.is_named_after-is.ensures graph in
     let world = new_world s e (edited (plan_of c.args.self.now.rounds) c.args.edit.now) a t now c.requires.accepted refl c.asn_of-asn.ensures c.is_named_after-is.ensures graph in
     let few : as_count now ≤ 150000 = omega (arith, c.as_count-count.ensures.value, c.as_count-count.ensures.few) in
@@ -130,7 +133,7 @@ pub returns-clause-edited : goal.returns-clause-edited
 returns-clause-edited g c =
     let s = c.args.self.now in
     let a = c.asn_of-asn.result in
-    let graph = c.in-Ok-set_mark.ensures.ok ∙ ap (λ (x : Topology). with_mark_if x a c.is_named_after-is.result) c.in-Ok-room.ensures.ok in
+    let graph = c.in_ok-set_mark.ensures.ok ∙ ap (λ (x : Topology). with_mark_if x a c.is_named_after-is.result) c.in-Ok.ensures.ok in
     let was = c.is_named-was.ensures in
     let back = graph_back s a c.is_named_after-is.result c.is_named-was.result c.set_mark.new.graph c.set_mark_back.new.graph was graph c.set_mark_back.ensures in
     (tt, seen_undone s _ (ap (λ (t : Topology). t.links) back) refl refl refl c.in-Err-change.ensures.err)
@@ -142,11 +145,11 @@ returns-in-Ok-change-clause-quick g c =
     let a = c.asn_of-asn.result in
     let t = c.is_named_after-is.result in
     let now = c.set_mark.new.graph in
-    let graph = c.in-Ok-set_mark.ensures.ok ∙ ap (λ (x : Topology). with_mark_if x a t) c.in-Ok-room.ensures.ok in
+    let graph = c.in_ok-set_mark.ensures.ok ∙ ap (λ (x : Topology). with_mark_if x a t) c.in-Ok.ensures.ok in
     let plan : plan_of c.change.new.rounds ≡ (edited (plan_of c.args.self.now.rounds) c.args.edit.now) = c.in-Ok-change.ensures.plan in
-    quick_by s c.change.new.rounds (relation now) (relation now) (edit_of e) c.args.steps.now c.change.new.steps (λ p x. touches c.in-Ok.touched p x ≡ true) refl
+    quick_by s c.change.new.rounds (relation now) (relation now) (edit_of e) c.args.steps.now c.change.new.steps (λ p x. touches c.in_ok-touched.touched p x ≡ true) refl
     (λ x n there.
-    let (out, prefix_is, asn_is) = c.in-Ok.ensures.only x.1.0 x.1.1 there in
+    let (out, prefix_is, asn_is) = c.in_ok-touched.ensures.only x.1.0 x.1.1 there in
     record {
       from = n.from;
       to = n.to;
@@ -155,3 +158,8 @@ returns-in-Ok-change-clause-quick g c =
           (seed_differs s e (edited (plan_of c.args.self.now.rounds) c.args.edit.now) a t now c.requires.accepted refl c.asn_of-asn.ensures c.is_named_after-is.ensures graph x.0 (kept_rounds c.change.new.rounds (x.0 - 1) x.1.0) (kept_rounds s.rounds (x.0 - 1) x.1.0) x.1.0 x.1.1 out prefix_is asn_is)));
     })
     c.in-Ok-change.ensures.quick
+
+pub returns-in_err-touched-clause-edited : goal.returns-in_err-touched-clause-edited
+returns-in_err-touched-clause-edited g c =
+    let p = err_from_is_err_and c.from_residual.result c.from_residual.ensures.1 in
+    rw (p.1, p.2) (tt, as_it_was c.args.self.now)

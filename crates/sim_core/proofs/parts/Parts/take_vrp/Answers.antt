@@ -1,4 +1,5 @@
 use Rattle.std.proofs.Common.{◌≡◌, ◌∙◌, Some, None, cond, refl, sym, ap, subst}
+use Rattle.std.proofs.lemmas.Result.{err_from_is_err_and}
 use Rattle.std.specs.FinSet as set
 use Rattle.roa_table.specs.Sets.{Payloads, taken}
 use Rattle.leak_round.specs.Touched.{touches}
@@ -6,7 +7,7 @@ use Rattle.scenario_text.specs.declared.acts.Edit.TheVariants.{VrpTake}
 use Rattle.sim_core.specs.Editing.{ground_of}
 use Rattle.sim_core.specs.Ground.{BelongTo, Ground}
 use Rattle.sim_core.specs.declared.errors.EditError.TheVariants as refused
-use Rattle.sim_core.proofs.Doing.{belongs, edit_done, unchanged}
+use Rattle.sim_core.proofs.Doing.{as_it_was, belongs, edit_done, unchanged}
 use Rattle.sim_core.proofs.Grounds.{quick_done}
 use Rattle.sim_core.proofs.PayloadEdits.{reads_kind, payload_allowed, payload_differs, small_taken}
 use Rattle.sim_core.proofs.parts.Parts.take_vrp.Goals as goal
@@ -15,19 +16,21 @@ pub change_at-requires-clause-from : goal.change_at-requires-clause-from
 change_at-requires-clause-from g c =
     let s = c.args.self.now in
     let now : Ground = record { graph = s.graph; payloads = taken s.vrps c.args.vrp; book = s.book } in
-    (ground_of s, belongs s c.requires.right c.requires.no_cycle, payload_differs (ground_of s) now s.rounds (touches c.in-Ok.touched) refl refl (λ p known a there reads. c.in-Ok.ensures.these p known a (s.reading a reads) reads))
+    (ground_of s, belongs s c.requires.right c.requires.no_cycle, payload_differs (ground_of s) now s.rounds (touches c.in_ok-touched.touched) refl refl (λ p known a there reads. c.in_ok-touched.ensures.these p known a (s.reading a reads) reads))
 
-pub returns-in-Err-clause-edited : goal.returns-in-Err-clause-edited
-returns-in-Err-clause-edited g c = (tt, unchanged c.args.self.now c.change_at.new.self c.in-Err.ensures.err)
+pub returns-in_err-changed-clause-edited : goal.returns-in_err-changed-clause-edited
+returns-in_err-changed-clause-edited g c =
+    let p = err_from_is_err_and c.from_residual-in_err-changed.result c.from_residual-in_err-changed.ensures.1 in
+    rw (p.1, p.2) (tt, unchanged c.args.self.now c.change_at.new.self c.in_err-changed.ensures.err)
 
 pub returns-clause-edited : goal.returns-clause-edited
 returns-clause-edited g c =
     let s = c.args.self.now in
     let mid = c.change_at.new.self in
     let e = VrpTake c.args.vrp in
-    let is = c.in-Ok-change_at.ensures.changed in
+    let is = c.in_ok-changed.ensures.changed in
     let vrps : c.take.new.self ≡ taken s.vrps c.args.vrp = c.take.ensures.gone ∙ ap (λ (v : Payloads). taken v c.args.vrp) is.vrps in
-    edit_done s _ e c.in-Ok-change_at.changed.routes
+    edit_done s _ e c.in_ok-changed.changed.routes
     (λ i. record { links = (is.graph i).links; payloads = vrps i; kinds = (is.book i).named; plan = is.plan i; rounds = is.count i; watched = set.from_list (ap (λ w. w.items) is.watched i) })
     (payload_allowed s e (taken s.vrps c.args.vrp) refl (ap (λ t. cond t None (Some (refused.AbsentVrp c.args.vrp))) (sym c.if-not-has.ensures)) (small_taken s.graph s.vrps c.args.vrp c.is_small.ensures) c.requires.no_cycle)
     (subst (λ (g : Ground). BelongTo g mid.ranks mid.rounds mid.watches.items) (λ i. record { graph = sym is.graph i; payloads = sym vrps i; book = sym is.book i }) is.belong)
@@ -35,5 +38,10 @@ returns-clause-edited g c =
 
 pub returns-clause-quick : goal.returns-clause-quick
 returns-clause-quick g c =
-    quick_done c.args.self.now c.args.self.now c.change_at.new.self (VrpTake c.args.vrp) (touches c.in-Ok.touched) c.args.steps.now c.change_at.new.steps c.in-Ok-change_at.ensures.quick refl c.in-Ok-change_at.ensures.changed.graph
-    (λ p x there. (let (covered, reads) = c.in-Ok.ensures.only p x there in (covered, reads_kind c.args.self.now x reads)))
+    quick_done c.args.self.now c.args.self.now c.change_at.new.self (VrpTake c.args.vrp) (touches c.in_ok-touched.touched) c.args.steps.now c.change_at.new.steps c.in_ok-changed.ensures.quick refl c.in_ok-changed.ensures.changed.graph
+    (λ p x there. (let (covered, reads) = c.in_ok-touched.ensures.only p x there in (covered, reads_kind c.args.self.now x reads)))
+
+pub returns-in_err-touched-clause-edited : goal.returns-in_err-touched-clause-edited
+returns-in_err-touched-clause-edited g c =
+    let p = err_from_is_err_and c.from_residual.result c.from_residual.ensures.1 in
+    rw (p.1, p.2) (tt, as_it_was c.args.self.now)
