@@ -13,6 +13,11 @@ use Rattle.task_reading.specs.Words.{Form, form_of}
 use Rattle.asprop_run.specs.Task.{HasAnswers, Task, outside, task_of}
 use Rattle.task_reading.specs.declared.asking.Asked.{Asked}
 use Rattle.task_reading.specs.declared.types.AskError.{AskError}
+use Rattle.sim_core.specs.Loading.{IsLoadRefusal}
+use Rattle.sim_core.specs.declared.errors.LoadError.{LoadError}
+use Rattle.sim_core.specs.declared.errors.LoadError.TheVariants as load_error
+use Rattle.task_reading.specs.declared.types.AskError.TheVariants as ask_error
+use Rattle.asprop_run.specs.Failures.{unasked, unloaded}
 use Rattle.asprop_run.specs.Texts.{ending_of}
 use Rattle.asprop_run.specs.Runs.{Outcome, Explained, Reports, IsRun, Worked}
 use Rattle.asprop_run.specs.declared.types.Failure.{Failure}
@@ -72,7 +77,7 @@ unformed {from} {words} {out} {err} s h nil =
     }
 
 -- the files were read as far as memory held them, and it ran out before an answer
-pub no_memory : {from : Source} {form : Option Form} {result : Result Asked AskError} {out : Stream} → Prepares from form result → out.wrote [] → Worked from form (Err failure.Memory) out
+no_memory : {from : Source} {form : Option Form} {result : Result Asked AskError} {out : Stream} → Prepares from form result → out.wrote [] → Worked from form (Err failure.Memory) out
 no_memory {form} {out} p nil = record { reads = p.reads; are_read = p.are_read; works = idle (task_of form p.reads) out nil }
 
 -- the task in the world of what was asked for
@@ -119,17 +124,32 @@ module _ {from : Source} {form : Option Form} {out : Stream} where
       (subst (λ (w : World). Outcome (Ok (record { world = w; jobs = x.jobs })) result out) is h)
 
   -- the world has a provider cycle
-  pub cyclic : (x : Asked) (cycle : List ℕ) → Prepares from form (Ok x) → (as_count (topology (task_in x).world) ≤ 150000) × IsCycleFromLowest (relation (topology (task_in x).world)) cycle → out.wrote []
+  cyclic : (x : Asked) (cycle : List ℕ) → Prepares from form (Ok x) → (as_count (topology (task_in x).world) ≤ 150000) × IsCycleFromLowest (relation (topology (task_in x).world)) cycle → out.wrote []
       → Worked from form (Err (failure.Cycle cycle)) out
   cyclic x cycle p h nil = on_task x p (Err (failure.Cycle cycle)) h.0 (h.1, nil)
 
   -- the world is too large
-  pub too_many : (x : Asked) → Prepares from form (Ok x) → 150000 < as_count (topology (task_in x).world) → out.wrote [] → Worked from form (Err (failure.Fault fault.TooManyAses)) out
+  too_many : (x : Asked) → Prepares from form (Ok x) → 150000 < as_count (topology (task_in x).world) → out.wrote [] → Worked from form (Err (failure.Fault fault.TooManyAses)) out
   too_many x p many nil = record {
     reads = p.reads;
     are_read = p.are_read;
     works = subst (λ (t : Result Task Fault). Outcome t (Err (failure.Fault fault.TooManyAses)) out) (sym (ap (λ (t : Result Asked Fault). t >>= within_limits) p.finds ∙ many_ases x many)) (refl, nil);
   }
+
+  -- nothing was asked for
+  pub not_asked : (e : AskError) → Prepares from form (Err e) → out.wrote [] → Worked from form (Err (unasked e)) out
+  not_asked ask_error.Memory p nil = no_memory p nil
+  not_asked (ask_error.Fault f) p nil = record {
+    reads = p.reads;
+    are_read = p.are_read;
+    works = subst (λ (t : Result Task Fault). Outcome t (Err (failure.Fault f)) out) (sym (ap (λ (t : Result Asked Fault). t >>= within_limits) p.finds)) (refl, nil);
+  }
+
+  -- no world was loaded
+  pub not_loaded : (x : Asked) (e : LoadError) → Prepares from form (Ok x) → IsLoadRefusal (task_in x).world e → out.wrote [] → Worked from form (Err (unloaded e)) out
+  not_loaded x load_error.Memory p refused nil = no_memory p nil
+  not_loaded x load_error.TooManyAses p many nil = too_many x p many nil
+  not_loaded x (load_error.ProviderCycle cycle) p h nil = cyclic x cycle p h nil
 
 -- a failure is explained by its own text
 pub own : {form : Option Form} {s : Status} {err : Stream} (reason : Failure) → s ≡ (ending_of form (Err reason)).0 → Reports (ending_of form (Err reason)).1 err → Explained form reason s err

@@ -1,5 +1,5 @@
 -- A world with a prefix has an AS that announces it.
-use Rattle.std.proofs.Common.{◌≡◌, ◌<◌, ◌≤◌, ◌||◌, ◌==◌, ℕ, Bool, true, false, List, [], ◌∷◌, map, refl, sym, ap, subst, ◌∙◌, arith, length}
+use Rattle.std.proofs.Common.{◌≡◌, ◌<◌, ◌≤◌, ◌||◌, ◌==◌, ℕ, Bool, true, false, List, [], ◌∷◌, map, Ok, Option, refl, sym, ap, subst, ◌∙◌, arith, length}
 use Rattle.std.proofs.lemmas.Bool.{eq-eqb, eqb-true, or_left}
 use Rattle.std.specs.Prelude.{nat_eq}
 use Rattle.std.specs.List.{IsDistinct}
@@ -15,9 +15,13 @@ use Rattle.roa_table.specs.Sets.{Payloads}
 use Rattle.scenario_text.specs.Scenarios.{ScenarioValue}
 use Rattle.scenario_text.specs.declared.scenario.Announcement.{Announcement}
 use Rattle.sim_core.specs.Loaded.{names_in, plan_of, world_of}
-use Rattle.sim_core.specs.World.{named, topology}
+use Rattle.sim_core.specs.World.{World, named, topology}
 use Rattle.sim_core.proofs.Within.{same_names}
 use Rattle.stability_laws.specs.Plans.{has_prefix}
+use Rattle.task_reading.specs.Files.{Prepares}
+use Rattle.task_reading.specs.Sources.{Source}
+use Rattle.task_reading.specs.Words.{Form}
+use Rattle.task_reading.specs.declared.asking.Asked.{Asked}
 
 module _ (links : LinkMap) (vrps : Payloads) (s : ScenarioValue) where
   -- who is named is an AS
@@ -47,9 +51,15 @@ module _ (links : LinkMap) (vrps : Payloads) (s : ScenarioValue) where
       omega (arith, one)
 
   -- a prefix of the plan is announced
-  pub has_an_as : (p : PrefixValue) → has_prefix (plan_of s) p ≡ true → 0 < as_count (topology (world_of links vrps s))
+  has_an_as : (p : PrefixValue) → has_prefix (plan_of s) p ≡ true → 0 < as_count (topology (world_of links vrps s))
   has_an_as p h = by s.announcements refl
     where
       by : (l : List Announcement) → s.announcements ≡ l → 0 < as_count (topology (world_of links vrps s))
       by [] is = absurd (let none : false ≡ true = sym (ap is_some (fin.get-empty prefix_cmp p)) ∙ sym (ap (λ l. fin.contains_key (fin.from_entries {R = prefix_cmp} (map (λ (a : Announcement). (a.prefix, tt {0})) l)) p) is) ∙ h in cc)
       by (first ∷ more) is = announced first more is
+
+-- so it is in the world of what was asked for
+pub asked_has_an_as : {from : Source} {form : Option Form} {x : Asked} → Prepares from form (Ok x) → (w : World) → w ≡ world_of x.links x.vrps x.scenario
+    → (p : PrefixValue) → has_prefix w.plan p ≡ true → 0 < as_count (topology w)
+asked_has_an_as {x} h w is p known =
+    subst (λ (w : World). 0 < as_count (topology w)) (sym is) (has_an_as x.links x.vrps x.scenario p (subst (λ (w : World). has_prefix w.plan p ≡ true) is known))

@@ -11,8 +11,7 @@ use Rattle.asprop_run.specs.Settling.{fact, said}
 
 -- the text says that each AS is right in each section of the table, with the seeds of a round that follow from the section before, and no other number holds anything; or, and then `wrong` is true, it says the first section that is not so, its lowest such AS or number, the row that it has in the table, and the row with which it would be right (own format)
 abbrev pub IsCheckText : World → Tables → (wrong : Bool) → Text → Type 0
-IsCheckText w t false text = IsAccepted (setting_of w t.prefix) w.plan t × (text ≡ said "stable" true)
-IsCheckText w t true text = (before a : ℕ) × (right : Option Entry)
-    × IsFirstWrong (setting_of w t.prefix) w.plan t before a right × (text ≡ said "stable" false
-    ++ (fact "round" (suc before) ++ (codes "holds|" ++ (entry_row a (held_by t.rows (suc before) a)
-    ++ (codes "right|" ++ entry_row a right)))))
+IsCheckText w t false s = IsAccepted (setting_of w t.prefix) w.plan t × (s ≡ said "stable" true)
+IsCheckText w t true s = (n a : ℕ) × (right : Option Entry) × IsFirstWrong (setting_of w t.prefix)
+    w.plan t n a right × (s ≡ said "stable" false ++ (fact "round" (suc n) ++ (codes "holds|"
+    ++ (entry_row a (held_by t.rows (suc n) a) ++ (codes "right|" ++ entry_row a right)))))

@@ -7,6 +7,7 @@ pub mod Refusals
 pub mod Replies
 pub mod Laws
 pub mod Texts
+pub mod Failures
 pub mod Inside
 pub mod Loaded
 pub mod Written

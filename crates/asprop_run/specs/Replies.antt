@@ -39,18 +39,18 @@ head heads number = if heads then codes "# " ++ (decimal number ++ 10 ∷ []) el
 
 -- the text is the whole answer to the job, by the one and only stable routings of the world's rounds and by the ranks of its ASes, and the job leaves this world: the numbers of ASes and links; the head line and what is told for a line; what activations or deliveries come to; the counts of the trials of a sweep; or whether a printed table is right, where one that is not is refused (own format; Gao and Rexford 2001)
 abbrev pub AnswersJob : World → Job → Text → Bool → World → Type 0
-AnswersJob w counts_job text refused after = (refused ≡ false) × (after ≡ w)
+AnswersJob w counts_job text refused new = (refused ≡ false) × (new ≡ w)
     × (text ≡ fact "ases" (as_count (topology w)) ++ fact "links" (fin.len w.links))
-AnswersJob w (line_job heads line) text refused after = (k : Kept) × IsKept w k × (answer : Text)
-    × IsReply w k line.act answer refused after × (text ≡ head heads line.number ++ answer)
-AnswersJob w (acts_job a) text refused after = (refused ≡ false) × (after ≡ w) × IsActsText w a text
-AnswersJob w (messages_job d) text refused after = (refused ≡ false) × (after ≡ w) × IsNetText w d text
-AnswersJob w (sweep_job s) text refused after = (refused ≡ false) × (after ≡ w) × IsSweptIn w s text
-AnswersJob w (tables_job t) text refused after = (after ≡ w) × IsCheckText w t refused text
+AnswersJob w (line_job heads line) text refused new = (k : Kept) × IsKept w k × (answer : Text)
+    × IsReply w k line.act answer refused new × (text ≡ (if heads
+    then codes "# " ++ (decimal line.number ++ 10 ∷ []) else []) ++ answer)
+AnswersJob w (acts_job a) text refused new = (refused ≡ false) × (new ≡ w) × IsActsText w a text
+AnswersJob w (messages_job d) text refused new = (refused ≡ false) × (new ≡ w) × IsNetText w d text
+AnswersJob w (sweep_job s) text refused new = (refused ≡ false) × (new ≡ w) × IsSweptIn w s text
+AnswersJob w (tables_job t) text refused new = (new ≡ w) × IsCheckText w t refused text
 
 -- the text answers the jobs one after the other, each in the world that the jobs before it leave; `refused` says whether an answer is a refusal (own format)
 abbrev pub AnswersJobs : World → List Job → Text → Bool → Type 0
 AnswersJobs w [] text refused = (text ≡ []) × (refused ≡ false)
-AnswersJobs w (job ∷ jobs) text refused = (s t : Text) × (first others : Bool) × (after : World)
-    × AnswersJob w job s first after × AnswersJobs after jobs t others
-    × (text ≡ s ++ t) × (refused ≡ (first || others))
+AnswersJobs w (job ∷ jobs) text refused = (s t : Text) × (p q : Bool) × (new : World)
+    × AnswersJob w job s p new × AnswersJobs new jobs t q × (text ≡ s ++ t) × (refused ≡ (p || q))

@@ -31,9 +31,9 @@ acts_rows full height stable = fact "pieces" full ++ (fact "height" height ++ sa
 
 -- the text says what the activations come to, from what ASes hold at first and with the seeds of the round that follow from the routing that is kept of the round before: the rows of all ASes in the routing then, and what is said of the list and the routing (own format; Gao and Rexford 2001)
 abbrev pub IsActsText : World → Acts → Text → Type 0
-IsActsText w acts text = (k : Kept) × IsKept w k × (f : ℕ → Option Entry) × (pieces height : ℕ)
-    × (settled : Bool) × let here = setting_of w acts.prefix in
+IsActsText w acts text = (k : Kept) × IsKept w k × (f : ℕ → Option Entry) × (n h : ℕ) × (yes : Bool)
+    × let g = topology w in let here = setting_of w acts.prefix in
     let seeds = seeds_of w.plan acts.round acts.prefix (k.routings (acts.round - 1) acts.prefix) in
-    IsRunBy (IsStepWhole here seeds) acts.list (fin.get acts.held) f × IsHeight (topology w) height
-    × IsMostPieces (has (topology w)) acts.list pieces × (IsTrue settled ↔ IsStable here seeds f)
-    × (text ≡ table (topology w) (λ a. entry_row a (f a)) ++ acts_rows pieces height settled)
+    IsRunBy (IsStepWhole here seeds) acts.list (fin.get acts.held) f × IsHeight g h
+    × IsMostPieces (has g) acts.list n × (IsTrue yes ↔ IsStable here seeds f) × (text ≡ table g
+    (λ a. entry_row a (f a)) ++ (fact "pieces" n ++ (fact "height" h ++ said "settled" yes)))

@@ -43,8 +43,8 @@ fn has_table(loaded: &Loaded, round: u32, prefix: Prefix) -> bool
 // The line of the sweep that the job is, where it isn't in the world.
 fn line_outside(base: &Base, job: Job<'_>) -> Option<u32>
     requires { needs_of (job_seen job) ≡ needs.Ranks }
-    ensures { (jobs : List AJob) → outside (base_world base.now) (job_seen job.entry ∷ jobs)
-        ≡ option_or result (outside (base_world base.now) jobs) }
+    ensures { (jobs : List AJob) → outside (base_world base.now) (job_seen job.entry ∷ jobs) ≡
+        option_or result (outside (base_world base.now) jobs) }
 {
     match job {
         Job::Sweep(line) => if is_inside(base, line) {
@@ -127,14 +127,12 @@ pub fn states_at<'a>(
 fn same_entry(alloc: Global, entry: &Entry) -> Result<Entry, NoMemory>
     ensures { IfOk result (λ e. e ≡ entry.now) }
 {
-    match Vec::from_slice(alloc, entry.path.as_slice()) {
-        Ok(numbers) => Ok(Entry {
-            class: entry.class,
-            path: Path::from_vec(numbers),
-            otc: entry.otc,
-        }),
-        Err(_) => Err(NoMemory),
-    }
+    let numbers = Vec::from_slice(alloc, entry.path.as_slice())?;
+    Ok(Entry {
+        class: entry.class,
+        path: Path::from_vec(numbers),
+        otc: entry.otc,
+    })
 }
 
 // The same routing, whose entries stand at these ASes alone.
@@ -181,10 +179,8 @@ fn put_settled(
     ensures { OnOk result (text.new.items ≡ text.old.items ++ acts_rows pieces height settled) }
 {
     let word = settled_word(settled);
-    match format!(in alloc; "pieces|{pieces}\nheight|{height}\nsettled|{word}\n") {
-        Ok(rows) => put_bytes(text, rows.as_bytes()),
-        Err(_) => Err(NoMemory),
-    }
+    let rows = format!(in alloc; "pieces|{pieces}\nheight|{height}\nsettled|{word}\n")?;
+    put_bytes(text, rows.as_bytes())
 }
 
 /// Makes the answer to activations: the rows of all ASes after them, how many full pieces the list has, how many ASes the
@@ -199,8 +195,8 @@ pub fn answer_activations(
     requires inside { IsInside (world_seen sim.now) (acts_job acts.now) }
     requires kept { IsKept (world_seen sim.now) (kept sim.now) }
     requires no_cycle { HasCycle (world_seen sim.now) → ⊥ }
-    ensures { OnOk result (AnswersJob (world_seen sim.now) (acts_job acts.now) text.new.items false
-        (world_seen sim.now)) }
+    ensures { OnOk result (AnswersJob (world_seen sim.now) (acts_job acts.now)
+        text.new.items false (world_seen sim.now)) }
 {
     kept_are_stable();
     let (graph, list) = (sim.graph(), acts.list.as_slice());

@@ -27,7 +27,7 @@ use rank_order::Ranks;
 use route_choice::Steps;
 use scenario_text::{Act, Edit, Line, Query};
 use sim_core::{Base, QueryError, Sim};
-use std::alloc::{AllocError, Global};
+use std::alloc::Global;
 use std::marker::Brand;
 use std::sync::ledger::{Blank, Ledger};
 use task_reading::{Job, Jobs};
@@ -37,11 +37,11 @@ use trial_world::put_sweep;
 const HELD_BACK: usize = 65_536;
 
 // Appends the head line.
-fn put_head(alloc: Global, number: u32, text: &mut Vec<u8>) -> Result<(), AllocError>
+fn put_head(alloc: Global, number: u32, text: &mut Vec<u8>) -> Result<(), NoMemory>
     ensures { OnOk result (text.new.items ≡ text.old.items ++ head true number) }
 {
     let line = format!(in alloc; "# {number}\n")?;
-    text.extend_from_slice(line.as_bytes())
+    put_bytes(text, line.as_bytes())
 }
 
 // Appends the answer to a query, or the text of its refusal, and says whether it is refused.
@@ -67,10 +67,7 @@ fn begin_text(alloc: Global, heads: bool, line: &Line, text: &mut Vec<u8>) -> Re
     if !heads {
         return Ok(());
     }
-    match put_head(alloc, line.number, text) {
-        Ok(()) => Ok(()),
-        Err(_) => Err(NoMemory),
-    }
+    put_head(alloc, line.number, text)
 }
 
 // Edits the world, appends how many entries differ, or the text of the refusal, and says whether it is refused.
@@ -114,8 +111,8 @@ fn answer_line(
     requires sound { IsSoundAct line.now.act }
     requires kept { IsKept (world_seen sim.old) (kept sim.old) }
     requires no_cycle { HasCycle (world_seen sim.old) → ⊥ }
-    ensures answered { IfOk result (λ refused. AnswersJob (world_seen sim.old)
-        (line_job heads line.now) text.new.items refused (world_seen sim.new)) }
+    ensures answered { IfOk result (λ refused. AnswersJob (world_seen sim.old) (line_job heads line.now)
+        text.new.items refused (world_seen sim.new)) }
     ensures kept { OnOk result (IsKept (world_seen sim.new) (kept sim.new)) }
     ensures no_cycle { OnOk result (HasCycle (world_seen sim.new) → ⊥) }
 {
@@ -132,10 +129,8 @@ fn answer_counts(alloc: Global, sim: &Sim, text: &mut Vec<u8>) -> Result<(), NoM
 {
     text.clear();
     let (ases, links) = (sim.as_count(), sim.link_count());
-    match format!(in alloc; "ases|{ases}\nlinks|{links}\n") {
-        Ok(rows) => put_bytes(text, rows.as_bytes()),
-        Err(_) => Err(NoMemory),
-    }
+    let rows = format!(in alloc; "ases|{ases}\nlinks|{links}\n")?;
+    put_bytes(text, rows.as_bytes())
 }
 
 // Makes the whole answer to a job by what is kept of a world, and says whether it is a refusal.
@@ -150,8 +145,8 @@ fn answer_whole(
     requires needs { needs_of (job_seen job) ≡ needs.Kept }
     requires kept { IsKept (world_seen sim.old) (kept sim.old) }
     requires no_cycle { HasCycle (world_seen sim.old) → ⊥ }
-    ensures answered { IfOk result (λ refused. AnswersJob (world_seen sim.old)
-        (job_seen job.entry) text.new.items refused (world_seen sim.new)) }
+    ensures answered { IfOk result (λ refused. AnswersJob (world_seen sim.old) (job_seen job.entry)
+        text.new.items refused (world_seen sim.new)) }
     ensures kept { OnOk result (IsKept (world_seen sim.new) (kept sim.new)) }
     ensures no_cycle { OnOk result (HasCycle (world_seen sim.new) → ⊥) }
 {
@@ -181,8 +176,8 @@ fn answer_bare(
     text: &mut Vec<u8>,
 ) -> Result<bool, NoMemory>
     requires needs { needs_of (job_seen job) ≡ needs.World }
-    ensures { IfOk result (λ refused. AnswersJob (base_world base.now) (job_seen job.entry) text.new.items refused
-        (base_world base.now)) }
+    ensures { IfOk result (λ refused. AnswersJob (base_world base.now) (job_seen job.entry)
+        text.new.items refused (base_world base.now)) }
 {
     match job {
         Job::Tables(tables) => answer_check(alloc, base, tables, text),
@@ -202,8 +197,8 @@ fn answer_ranked(
     requires needs { needs_of (job_seen job) ≡ needs.Ranks }
     requires inside { IsInside (base_world base.now) (job_seen job) }
     requires ranks { AreRanks (base_world base.now) ranks.now }
-    ensures { OnOk result (AnswersJob (base_world base.now) (job_seen job.entry) text.new.items false
-        (base_world base.now)) }
+    ensures { OnOk result (AnswersJob (base_world base.now) (job_seen job.entry)
+        text.new.items false (base_world base.now)) }
 {
     match job {
         Job::Sweep(line) => {
@@ -226,8 +221,8 @@ fn answer_job(
     requires inside { IsInside (loaded_world loaded.old) (job_seen job) }
     requires serves { Serves loaded.old (job_seen job) }
     requires no_cycle { HasCycle (loaded_world loaded.old) → ⊥ }
-    ensures answered { IfOk result (λ refused. AnswersJob (loaded_world loaded.old)
-        (job_seen job.entry) text.new.items refused (loaded_world loaded.new)) }
+    ensures answered { IfOk result (λ refused. AnswersJob (loaded_world loaded.old) (job_seen job.entry)
+        text.new.items refused (loaded_world loaded.new)) }
     ensures serves { OnOk result ((other : AJob) → Serves loaded.old other → Serves loaded.new other) }
     ensures no_cycle { OnOk result (HasCycle (loaded_world loaded.new) → ⊥) }
 {
@@ -243,8 +238,8 @@ fn answer_job(
 
 // Holds a text back behind what is held back already, where that takes few bytes; else writes both.
 fn pass_on<O: Sink>(text: &[u8], held: &mut Vec<u8>, out: &mut O) -> Result<(), Failed>
-    ensures ok { OnOk result (IsPassedOn (O.written out.old)
-        (O.written out.new) held.old.items text.now held.new.items) }
+    ensures ok { OnOk result (IsPassedOn (O.written out.old) (O.written out.new)
+        held.old.items text.now held.new.items) }
     ensures err { OnErr result (AppendsFront (O.written out.old) (O.written out.new) (held.old.items ++ text.now)) }
     ensures cause { HasCause (O.faults out.old) (O.faults out.new) result }
 {
@@ -281,24 +276,17 @@ pub fn write_answers<O: Sink>(
         };
         match answer_job(alloc, loaded, job, &mut text) {
             Err(_) => {
-                return match write_all(out, &held) {
-                    Err(Failed) => Err(Failure::Write),
-                    Ok(()) => Err(Failure::Memory),
-                };
+                write_all(out, &held)?;
+                return Err(Failure::Memory);
             }
             Ok(first) => {
-                match pass_on(&text, &mut held, out) {
-                    Err(Failed) => return Err(Failure::Write),
-                    Ok(()) => {}
-                }
+                pass_on(&text, &mut held, out)?;
                 if first {
                     refused = true;
                 }
             }
         }
     }
-    match write_all(out, &held) {
-        Err(Failed) => Err(Failure::Write),
-        Ok(()) => Ok(refused),
-    }
+    write_all(out, &held)?;
+    Ok(refused)
 }

@@ -28,9 +28,7 @@ fn put_wrong(
         ++ (said "stable" false ++ (fact "round" round ++ (codes "holds|" ++ (entry_row asn (option_copied holds.entry)
         ++ (codes "right|" ++ entry_row asn (option_copied right.entry))))))) }
 {
-    let Ok(front) = format!(in alloc; "stable|no\nround|{round}\nholds|") else {
-        return Err(NoMemory);
-    };
+    let front = format!(in alloc; "stable|no\nround|{round}\nholds|")?;
     put_bytes(text, front.as_bytes())?;
     put_entry(text, asn, holds)?;
     put_bytes(text, b"right|")?;
@@ -45,8 +43,8 @@ pub fn answer_check(
     tables: &Tables,
     text: &mut Vec<u8>,
 ) -> Result<bool, NoMemory>
-    ensures { IfOk result (λ refused. AnswersJob (base_world base.now)
-        (tables_job tables.now) text.new.items refused (base_world base.now)) }
+    ensures { IfOk result (λ refused. AnswersJob (base_world base.now) (tables_job tables.now)
+        text.new.items refused (base_world base.now)) }
 {
     kept_are_stable();
     let states = states_at(alloc, base.vrps(), base.plan(), tables.prefix)?;

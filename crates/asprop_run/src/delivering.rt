@@ -55,10 +55,8 @@ fn put_messages(
     ensures { OnOk result (text.new.items ≡ text.old.items ++ message_rows delivered queued) }
 {
     let word = quiet_word(queued);
-    match format!(in alloc; "delivered|{delivered}\nqueued|{queued}\nquiet|{word}\n") {
-        Ok(rows) => put_bytes(text, rows.as_bytes()),
-        Err(_) => Err(NoMemory),
-    }
+    let rows = format!(in alloc; "delivered|{delivered}\nqueued|{queued}\nquiet|{word}\n")?;
+    put_bytes(text, rows.as_bytes())
 }
 
 /// Makes the answer to deliveries: the rows of what all ASes chose after them, how many messages were taken out, how many
@@ -72,8 +70,8 @@ pub fn answer_deliveries(
     requires inside { IsInside (world_seen sim.now) (messages_job deliveries.now) }
     requires kept { IsKept (world_seen sim.now) (kept sim.now) }
     requires no_cycle { HasCycle (world_seen sim.now) → ⊥ }
-    ensures { OnOk result (AnswersJob (world_seen sim.now) (messages_job deliveries.now) text.new.items false
-        (world_seen sim.now)) }
+    ensures { OnOk result (AnswersJob (world_seen sim.now) (messages_job deliveries.now)
+        text.new.items false (world_seen sim.now)) }
 {
     kept_are_stable();
     let graph = sim.graph();

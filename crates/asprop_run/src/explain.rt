@@ -18,14 +18,10 @@ fn cycle_message(alloc: Global, cycle: &Cycle) -> Result<Vec<u8>, NoMemory>
     ensures { IfOk result (λ text. text.items ≡ (ending_of None (Err (Failure.Cycle cycle.now))).1) }
 {
     let mut text = Vec::new(alloc);
-    if text.extend_from_slice(b"asprop: provider cycle: ").is_err() {
-        return Err(NoMemory);
-    }
+    text.extend_from_slice(b"asprop: provider cycle: ")?;
     put_numbers(&mut text, cycle.as_slice())?;
-    match text.push(b'\n') {
-        Ok(()) => Ok(text),
-        Err(_) => Err(NoMemory),
-    }
+    text.push(b'\n')?;
+    Ok(text)
 }
 
 // Writes a text as far as the sink takes it.

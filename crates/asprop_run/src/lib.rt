@@ -11,6 +11,7 @@ mod answers;
 mod checking;
 mod delivering;
 mod explain;
+mod failing;
 mod laws;
 mod loaded;
 mod refusals;

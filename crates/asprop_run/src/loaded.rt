@@ -43,10 +43,7 @@ fn load_ranked(
     ensures ranks { IfOk result (λ r. AreRanks (base_world r.0) r.1) }
     ensures refused { IfErr result (IsLoadRefusal (world_of links vrps scenario)) }
 {
-    let base = match Base::load(alloc, links, vrps, scenario) {
-        Ok(base) => base,
-        Err(error) => return Err(error),
-    };
+    let base = Base::load(alloc, links, vrps, scenario)?;
     match Ranks::build(alloc, base.graph()) {
         Ok(ranks) => Ok((base, ranks)),
         // The world has no provider cycle.
@@ -71,18 +68,12 @@ impl Loaded {
         ensures refused { IfErr result (IsLoadRefusal (world_of links vrps scenario)) }
     {
         match jobs.needs() {
-            Needs::Kept => match Sim::load(alloc, links, vrps, scenario) {
-                Ok(sim) => Ok(Loaded::Whole(sim)),
-                Err(error) => Err(error),
-            },
-            Needs::World => match Base::load(alloc, links, vrps, scenario) {
-                Ok(base) => Ok(Loaded::Bare(base)),
-                Err(error) => Err(error),
-            },
-            Needs::Ranks => match load_ranked(alloc, links, vrps, scenario) {
-                Ok((base, ranks)) => Ok(Loaded::Ranked(base, ranks)),
-                Err(error) => Err(error),
-            },
+            Needs::Kept => Ok(Loaded::Whole(Sim::load(alloc, links, vrps, scenario)?)),
+            Needs::World => Ok(Loaded::Bare(Base::load(alloc, links, vrps, scenario)?)),
+            Needs::Ranks => {
+                let (base, ranks) = load_ranked(alloc, links, vrps, scenario)?;
+                Ok(Loaded::Ranked(base, ranks))
+            }
         }
     }
 

@@ -14,20 +14,16 @@ use sim_core::{EditError, EditLimit, QueryError};
 pub fn put_bytes(out: &mut Vec<u8>, bytes: &[u8]) -> Result<(), NoMemory>
     ensures { OnOk result (out.new.items ≡ out.old.items ++ bytes.now) }
 {
-    match out.extend_from_slice(bytes) {
-        Ok(()) => Ok(()),
-        Err(_) => Err(NoMemory),
-    }
+    out.extend_from_slice(bytes)?;
+    Ok(())
 }
 
 fn put_unknown_round(out: &mut Vec<u8>, round: u32) -> Result<(), NoMemory>
     ensures { OnOk result (out.new.items ≡ out.old.items ++ refusal_text (UnknownRound round)) }
 {
     let alloc = *out.allocator();
-    match format!(in alloc; "refused unknown-round {round}\n") {
-        Ok(text) => put_bytes(out, text.as_bytes()),
-        Err(_) => Err(NoMemory),
-    }
+    let text = format!(in alloc; "refused unknown-round {round}\n")?;
+    put_bytes(out, text.as_bytes())
 }
 
 fn put_unknown_prefix(out: &mut Vec<u8>, prefix: Prefix) -> Result<(), NoMemory>
@@ -72,10 +68,8 @@ pub fn put_done(out: &mut Vec<u8>, routes: u64) -> Result<(), NoMemory>
     ensures { OnOk result (out.new.items ≡ out.old.items ++ (codes "ok " ++ (decimal routes ++ 10 ∷ []))) }
 {
     let alloc = *out.allocator();
-    match format!(in alloc; "ok {routes}\n") {
-        Ok(text) => put_bytes(out, text.as_bytes()),
-        Err(_) => Err(NoMemory),
-    }
+    let text = format!(in alloc; "ok {routes}\n")?;
+    put_bytes(out, text.as_bytes())
 }
 
 fn put_absent_link(out: &mut Vec<u8>, lo: Asn, hi: Asn) -> Result<(), NoMemory>
@@ -92,10 +86,8 @@ fn put_number(out: &mut Vec<u8>, number: u32) -> Result<(), NoMemory>
     ensures { OnOk result (out.new.items ≡ out.old.items ++ decimal number) }
 {
     let alloc = *out.allocator();
-    match format!(in alloc; "{number}") {
-        Ok(text) => put_bytes(out, text.as_bytes()),
-        Err(_) => Err(NoMemory),
-    }
+    let text = format!(in alloc; "{number}")?;
+    put_bytes(out, text.as_bytes())
 }
 
 fn put_absent_vrp(out: &mut Vec<u8>, vrp: Vrp) -> Result<(), NoMemory>
@@ -121,12 +113,8 @@ fn put_absent_announcement(out: &mut Vec<u8>, prefix: Prefix, asn: Asn) -> Resul
 }
 
 fn limit_name(which: EditLimit) -> &'static str
-    ensures { result.now ≡ codes (elim which [
-      | Links ↦ "links"
-      | Announcements ↦ "announcements"
-      | Ases ↦ "ases"
-      | Vrps ↦ "payloads"
-    ]) }
+    ensures { result.now ≡ codes (elim which
+        [ Links ↦ "links" | Announcements ↦ "announcements" | Ases ↦ "ases" | Vrps ↦ "payloads" ]) }
 {
     match which {
         EditLimit::Links => "links",
@@ -141,10 +129,8 @@ fn put_limit(out: &mut Vec<u8>, which: EditLimit) -> Result<(), NoMemory>
 {
     let alloc = *out.allocator();
     let name = limit_name(which);
-    match format!(in alloc; "refused limit {name}\n") {
-        Ok(text) => put_bytes(out, text.as_bytes()),
-        Err(_) => Err(NoMemory),
-    }
+    let text = format!(in alloc; "refused limit {name}\n")?;
+    put_bytes(out, text.as_bytes())
 }
 
 fn put_cycle(out: &mut Vec<u8>, cycle: &Cycle) -> Result<(), NoMemory>

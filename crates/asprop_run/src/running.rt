@@ -22,10 +22,9 @@ use crate::explain::explain;
 use crate::loaded::Loaded;
 use crate::types::Failure;
 use io_edge::{Inputs, Sink};
-use sim_core::LoadError;
 use std::alloc::Global;
 use task_reading::{
-    AskError, Asked, Cause, Fault, File, Jobs, Status, WordForm, ask, jobs_are_alike, read_words,
+    Asked, Cause, Fault, File, Jobs, Status, WordForm, ask, jobs_are_alike, read_words,
 };
 
 // The fault of a line of the option's file.
@@ -72,18 +71,10 @@ fn work<I: Inputs, O: Sink>(
         vrps,
         scenario,
         jobs,
-    } = match ask(alloc, form, inputs) {
-        Ok(asked) => asked,
-        Err(AskError::Memory) => return Err(Failure::Memory),
-        Err(AskError::Fault(fault)) => return Err(Failure::Fault(fault)),
-    };
+    } = ask(alloc, form, inputs)?;
     jobs_are_alike(&jobs);
-    match Loaded::load(alloc, links, vrps, scenario, &jobs) {
-        Ok(loaded) => answer_in(alloc, loaded, &jobs, out),
-        Err(LoadError::Memory) => Err(Failure::Memory),
-        Err(LoadError::TooManyAses) => Err(Failure::Fault(Fault::TooManyAses)),
-        Err(LoadError::ProviderCycle(cycle)) => Err(Failure::Cycle(cycle)),
-    }
+    let loaded = Loaded::load(alloc, links, vrps, scenario, &jobs)?;
+    answer_in(alloc, loaded, &jobs, out)
 }
 
 /// Reads the words and the files that they name, writes the answers to `out`, and says on `err` why

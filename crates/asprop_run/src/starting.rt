@@ -31,10 +31,7 @@ fn words_of(alloc: Global, args: io::Result<Args>) -> Result<Vec<String>, Failur
     ensures { IsWordsOf args result }
 {
     match args {
-        Ok(args) => match args.collect::<Vec<String>>(alloc) {
-            Ok(words) => Ok(words),
-            Err(_) => Err(Failure::Memory),
-        },
+        Ok(args) => Ok(args.collect::<Vec<String>>(alloc)?),
         Err(error) => Err(reason(&error)),
     }
 }

@@ -1,0 +1,19 @@
+-- Why the work stops where there is no world to work in (private clauses cite these words).
+use Rattle.sim_core.specs.declared.errors.LoadError.{LoadError}
+use Rattle.sim_core.specs.declared.errors.LoadError.TheVariants as load_error
+use Rattle.task_reading.specs.declared.types.AskError.{AskError}
+use Rattle.task_reading.specs.declared.types.AskError.TheVariants as ask_error
+use Rattle.task_reading.specs.declared.types.Fault.TheVariants.{TooManyAses}
+use Rattle.asprop_run.specs.declared.types.Failure.{Failure}
+use Rattle.asprop_run.specs.declared.types.Failure.TheVariants as failure
+
+-- nothing is asked for
+abbrev pub unasked : AskError → Failure
+unasked ask_error.Memory = failure.Memory
+unasked (ask_error.Fault fault) = failure.Fault fault
+
+-- no world is loaded
+abbrev pub unloaded : LoadError → Failure
+unloaded load_error.Memory = failure.Memory
+unloaded load_error.TooManyAses = failure.Fault TooManyAses
+unloaded (load_error.ProviderCycle cycle) = failure.Cycle cycle
