@@ -1,5 +1,5 @@
 // One line of a relationship file.
-ghost use Rattle.std.specs.Prelude.{◌≡◌, ◌∷◌, ◌≤◌, ℕ, List, option_map, unwrap_or, IfSome};
+ghost use Rattle.std.specs.Prelude.{◌≡◌, ◌∷◌, ◌++◌, ◌≤◌, ℕ, List, codes, option_map, unwrap_or, IfSome};
 ghost use Rattle.std.specs.Str.Lines.{strip_carriage_return};
 ghost use Rattle.net_names.specs.Texts.{fields, rel_of};
 ghost use Rattle.caida_reader.specs.Plain.{BeginsWithLine};
@@ -120,6 +120,28 @@ pub(crate) fn read_line(line: &[u8]) -> Line
     }
 }
 
+// What stands behind `-1` and a line feed, with which the lines of most links end.
+#[inline(always)]
+fn behind_customer(text: &[u8]) -> Option<&[u8]>
+    ensures { IfSome result (λ rest. text.now ≡ codes "-1\n" ++ rest.now) }
+{
+    match text {
+        [b'-', b'1', b'\n', rest @ ..] => Some(rest),
+        _ => None,
+    }
+}
+
+// What stands behind `0` and a line feed, with which the lines of most other links end.
+#[inline(always)]
+fn behind_peer(text: &[u8]) -> Option<&[u8]>
+    ensures { IfSome result (λ rest. text.now ≡ codes "0\n" ++ rest.now) }
+{
+    match text {
+        [b'0', b'\n', rest @ ..] => Some(rest),
+        _ => None,
+    }
+}
+
 /// What the first line of a text says, and what stands behind its line feed. `None` where the line doesn't begin with two AS
 /// numbers, and where no line feed ends it.
 pub(crate) fn read_first_link(text: &[u8]) -> Option<(Line, &[u8])>
@@ -128,6 +150,12 @@ pub(crate) fn read_first_link(text: &[u8]) -> Option<(Line, &[u8])>
 {
     let (first, one) = read_asn_field(text)?;
     let (second, two) = read_asn_field(one)?;
+    if let Some(rest) = behind_customer(two) {
+        return Some((make_said(first, second, Some(Rel::Customer)), rest));
+    }
+    if let Some(rest) = behind_peer(two) {
+        return Some((make_said(first, second, Some(Rel::Peer)), rest));
+    }
     let (end, rest) = cut(two, b'\n')?;
     let rel = read_rel(first_field(strip_cr(end)));
     Some((make_said(first, second, rel), rest))

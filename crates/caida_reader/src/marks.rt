@@ -32,6 +32,7 @@ struct Spot {
 }
 
 #[tactic(auto, unfolding(crate::specs::Marks::word_of, crate::specs::Marks::bits_of))]
+#[inline(always)]
 fn spot_of(count: usize, lo: Asn, hi: Asn) -> Spot
     ensures word { result.word ≡ word_of count (lo, hi) }
     ensures bits { result.bits ≡ bits_of (lo, hi) }
@@ -63,6 +64,7 @@ impl Marks {
     }
 
     /// Whether the pair is marked.
+    #[inline(always)]
     pub(crate) fn has(&self, lo: Asn, hi: Asn) -> bool
         ensures { IsTrue result ↔ IsMarked self.now (lo, hi) }
     {
@@ -74,6 +76,7 @@ impl Marks {
     }
 
     /// Marks the pair. What was marked stays so.
+    #[inline(always)]
     pub(crate) fn mark(&mut self, lo: Asn, hi: Asn)
         ensures marked { IsMarked self.new (lo, hi) }
         ensures kept { (pair : ℕ × ℕ) → IsMarked self.old pair → IsMarked self.new pair }

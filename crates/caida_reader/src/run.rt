@@ -73,6 +73,7 @@ impl Run {
     }
 
     /// Whether a pair is above all.
+    #[inline(always)]
     pub(crate) fn is_past(&self, a: Asn, b: Asn) -> bool
         ensures { IsTrue result → IsPast self.now (a, b) }
     {
@@ -93,6 +94,7 @@ impl Run {
     }
 
     /// Puts in a pair that is above all, with a line that fits into an entry.
+    #[inline(always)]
     pub(crate) fn push(&mut self, a: Asn, b: Asn, first: First) -> Result<(), NoMemory>
         requires past { IsPast self.old (a, b) }
         requires fits { first.line < LINES }
