@@ -97,6 +97,11 @@ impl RoutePolicy for Kind {
         Row::of(*self).marks
     }
 
+    #[tactic(auto, using(crate::specs::KindLaws::plain_alone))]
+    fn is_plain(&self) -> bool {
+        *self == Kind::Plain
+    }
+
     ghost ranks_offers = { kind_ranks_offers };
 
     ghost prefers_customers = { kind_prefers_customers };

@@ -1,6 +1,7 @@
 //! Policies and what they see.
-ghost use Rattle.std.specs.Prelude.{◌≡◌, ℕ};
+ghost use Rattle.std.specs.Prelude.{◌≡◌, ◌↔◌, ℕ, IsTrue};
 ghost use Rattle.policy_laws.specs.Policy.{Policy, RanksOffers, PrefersCustomers, ExportsDownOnly, IgnoresState};
+ghost use Rattle.policy_laws.specs.Plain.{IsPlain as IsPlainPolicy};
 
 use net_names::{Asn, Class, Rel, State};
 
@@ -45,6 +46,10 @@ pub trait RoutePolicy {
     /// Whether the AS marks routes with the attribute Only to Customer, as RFC 9234, section 5, says.
     fn marks(&self) -> bool
         ensures { result ≡ (meaning self.now).marks };
+
+    /// Whether this is the plain policy of Gao and Rexford (2001).
+    fn is_plain(&self) -> bool
+        ensures { IsTrue result ↔ IsPlainPolicy (meaning self.now) };
 
     /// It ranks the offers of different neighbours strictly.
     ghost ranks_offers: { (p : Self) → RanksOffers (meaning p) };

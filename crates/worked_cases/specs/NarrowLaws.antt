@@ -1,5 +1,5 @@
 -- The narrow policy meets the laws of every policy; the laws of the implementation cite these lemmas.
-use Rattle.std.specs.Prelude.{◌≡◌, ◌≢◌, true, false, None, refl}
+use Rattle.std.specs.Prelude.{◌≡◌, ◌≢◌, ◌↔◌, true, false, IsTrue, None, refl}
 use Rattle.std.proofs.Common.{sym}
 use Rattle.std.specs.declared.cmp.Ordering.{Ordering}
 use Rattle.std.specs.declared.cmp.Ordering.TheVariants.{Equal}
@@ -8,8 +8,10 @@ use Rattle.std.proofs.lemmas.Cmp.{ranked, nat_cmp_total, on_total, then_total, b
 use Rattle.net_names.specs.declared.routes.Class.TheVariants as class
 use Rattle.net_names.specs.declared.routes.Rel.{Rel}
 use Rattle.net_names.specs.declared.routes.Rel.TheVariants.{Customer, Peer, Provider}
+use Rattle.net_names.specs.declared.routes.State.TheVariants.{NotFound}
 use Rattle.policy_laws.specs.declared.policy.View.{View}
 use Rattle.policy_laws.specs.Policy.{RanksOffers, PrefersCustomers, ExportsDownOnly, IgnoresState}
+use Rattle.policy_laws.specs.Plain.{IsPlain}
 use Rattle.policy_laws.specs.Ranking.{ranks_by, last_tied}
 use Rattle.worked_cases.specs.Narrows.{class_place, narrow_cmp, narrow_policy}
 
@@ -41,3 +43,7 @@ narrow_exports_down_only = record { from_peer = λ otc to h. from_peer to h; fro
 
 pub narrow_ignores_state : IgnoresState narrow_policy
 narrow_ignores_state = record { accepts = λ unread x s. refl; before = λ unread x y s t. refl }
+
+-- the narrow policy refuses a path of four numbers, so it is not the plain one
+pub narrow_is_not_plain : IsTrue false ↔ IsPlain narrow_policy
+narrow_is_not_plain = ((λ e. (let f : false ≡ true = e in cc)), (λ p. let e : false ≡ true = p.accepts (record { rel = Customer; neighbour = 0; length = 4; state = NotFound; otc = None }) in cc))

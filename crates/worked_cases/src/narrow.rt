@@ -54,6 +54,11 @@ impl RoutePolicy for Narrow {
         false
     }
 
+    #[tactic(auto, using(crate::specs::NarrowLaws::narrow_is_not_plain))]
+    fn is_plain(&self) -> bool {
+        false
+    }
+
     ghost ranks_offers = { λ p. narrow_ranks_offers };
 
     ghost prefers_customers = { λ p. narrow_prefers_customers };
