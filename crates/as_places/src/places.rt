@@ -9,6 +9,7 @@ use indexmap::IndexSet;
 use net_names::{Asn, NoMemory};
 use std::alloc::Global;
 use std::marker::Model;
+use std::rc::Rc;
 
 /// Distinct AS numbers, each at a place, which is its index in a list. Contracts see the list, and
 /// for how many more numbers there is room without memory.
@@ -63,6 +64,15 @@ impl AsPlaces {
             }),
             Err(_) => Err(NoMemory),
         }
+    }
+
+    /// These numbers, each at its index, in a list that tables can share.
+    pub fn shared(alloc: Global, ases: &[Asn]) -> Result<Rc<AsPlaces>, NoMemory>
+        requires { IsDistinct nat_eq ases.now }
+        ensures { IfOk result (λ r. r.value.ases ≡ ases.now) }
+    {
+        let list = Rc::new(alloc, AsPlaces::of(alloc, ases)?)?;
+        Ok(list)
     }
 
     /// The number at a place; `None` exactly past the last one.
