@@ -129,16 +129,6 @@ fn places_by_row(alloc: Global, count: usize, rows: &[u32]) -> Result<Vec<u32>, 
     Ok(places)
 }
 
-// A list of ASes that tables can share.
-fn shared(alloc: Global, ases: &[Asn]) -> Result<Rc<AsPlaces>, NoMemory>
-    requires { IsDistinct nat_eq ases.now }
-    ensures { IfOk result (λ r. r.value.ases ≡ ases.now) }
-{
-    let places = AsPlaces::of(alloc, ases)?;
-    let list = Rc::new(alloc, places)?;
-    Ok(list)
-}
-
 impl Course {
     /// The course of a graph and its ranks. The only refusal is want of memory.
     pub fn of(alloc: Global, graph: &Graph, ranks: &Ranks) -> Result<Course, NoMemory>
@@ -146,7 +136,7 @@ impl Course {
         ensures { IfOk result (IsCourse graph.now) }
     {
         let order = placed_by_rank(alloc, graph, ranks)?;
-        let rows = shared(alloc, graph.rows())?;
+        let rows = AsPlaces::shared(alloc, graph.rows())?;
         let places = places_by_row(alloc, rows.len(), &order.places)?;
         let above = providers_of(alloc, graph, &order.ases, &order.places, &places)?;
         Ok(Course {
@@ -164,7 +154,7 @@ impl Course {
         requires { IsDistinct nat_eq self.now.order.ases.items }
         ensures { IfOk result (IsScratch self.now) }
     {
-        let places = shared(self.alloc, self.order.ases.as_slice())?;
+        let places = AsPlaces::shared(self.alloc, self.order.ases.as_slice())?;
         let overlay = Overlay::blank(self.alloc, &places, 1)?;
         Ok(overlay)
     }

@@ -22,17 +22,6 @@ use net_names::{Asn, NoMemory};
 use path_pool::PathPool;
 use stability_laws::plans_are_sound;
 use std::alloc::Global;
-use std::rc::Rc;
-
-// Some ASes, each at a place, as a list that tables can share.
-fn shared(alloc: Global, ases: &[Asn]) -> Result<Rc<AsPlaces>, NoMemory>
-    requires { IsDistinct nat_eq ases.now }
-    ensures { IfOk result (λ r. r.value.ases ≡ ases.now) }
-{
-    let places = AsPlaces::of(alloc, ases)?;
-    let list = Rc::new(alloc, places)?;
-    Ok(list)
-}
 
 impl Rounds {
     /// Makes the pool anew, where no plan is open. Afterwards no more cells are live than all tables have
@@ -64,7 +53,7 @@ impl Rounds {
     {
         let plan = self.plan.copied(alloc)?;
         plans_are_sound(&plan);
-        let places = shared(alloc, ases)?;
+        let places = AsPlaces::shared(alloc, ases)?;
         let mut pool = PathPool::new(alloc, MAX_CELLS);
         let announced = announce_all(alloc, &plan, &mut pool)?;
         let moving = Moving {
