@@ -1,5 +1,6 @@
 pub mod Distinct
 pub mod Rising
+pub mod Marks
 pub mod Pairs
 pub mod LinkLemmas
 pub mod Numerals

@@ -15,6 +15,11 @@ more n i radix d small r lt =
     let e : (n + 1) * radix ≡ n * radix + radix = grind arith in
     omega (arith, a, b, e, lt)
 
+pub more_decimal : (n i d : ℕ) → n < 10 ^ i → d < 10 → n * 10 + d < 10 ^ (i + 1)
+more_decimal n i d small lt =
+    let b : 10 ^ (i + 1) ≡ 10 ^ i * 10 = rw add-one (pow-suc 10 i) in
+    omega (arith, small, b, lt)
+
 -- ten digits at most fit
 pub within : (n i radix d : ℕ) → n < 16 ^ i → radix ≤ 16 → d < radix → i < 10 → n * radix + d < 2 ^ 40
 within n i radix d small r lt short =

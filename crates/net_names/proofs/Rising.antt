@@ -12,20 +12,20 @@ use Rattle.std.proofs.lemmas.Map.Keys.{sorted_head, sorted_tail}
 use Rattle.std.proofs.lemmas.Map.Lookups.{CmpEqualImpliesEq}
 use Rattle.std.specs.FinMap as fin
 
-less : (r : Ordering) → T (is_lt r) → r ≡ Less
+pub less : (r : Ordering) → T (is_lt r) → r ≡ Less
 less Less p = refl
 less Equal p = absurd p
 less Greater p = absurd p
 
-left : (a b : Bool) → T (a && b) → T a
+pub left : (a b : Bool) → T (a && b) → T a
 left true b p = tt
 left false b p = p
 
-right : (a b : Bool) → T (a && b) → T b
+pub right : (a b : Bool) → T (a && b) → T b
 right true b p = p
 right false b p = absurd p
 
-both : (a b : Bool) → T a → T b → T (a && b)
+pub both : (a b : Bool) → T a → T b → T (a && b)
 both true b p q = q
 both false b p q = p
 
@@ -66,10 +66,34 @@ module _ {K X : Type 0} (R : K → K → Ordering) where
   is_below k [] h = tt
   is_below k (e ∷ es) h = rw h.0 (is_below k es h.1)
 
+  is_less : (k : K) (es : List (K × X)) → T (fin.Entries.below_all R k es) → AllByRecursion (λ q. R k q ≡ Less) (map (λ (e : K × X). e.0) es)
+  is_less k [] h = tt
+  is_less k (e ∷ es) h = (less (R k e.0) (left (is_lt (R k e.0)) (fin.Entries.below_all R k es) h), is_less k es (right (is_lt (R k e.0)) (fin.Entries.below_all R k es) h))
+
+  -- the keys of entries in order rise
+  pub strict_entries : (es : List (K × X)) → T (fin.is_sorted R es) → IsStrictlySortedBy R (map (λ (e : K × X). e.0) es)
+  unfolding IsStrictlySortedBy
+  strict_entries [] h = tt
+  strict_entries (e ∷ es) h = (is_less e.0 es (left (fin.Entries.below_all R e.0 es) (fin.is_sorted R es) h), strict_entries es (right (fin.Entries.below_all R e.0 es) (fin.is_sorted R es) h))
+
   -- entries whose keys rise are those of a map
   pub rises_strictly : (es : List (K × X)) → IsStrictlySortedBy R (keys_of es) → T (fin.is_sorted R es)
   rises_strictly [] h = tt
   rises_strictly (e ∷ es) h = both _ _ (is_below e.0 es (sorted_head R e.0 (keys_of es) h)) (rises_strictly es (sorted_tail R e.0 (keys_of es) h))
+
+module _ {K : Type 0} (R : K → K → Ordering) (o : IsTotalOrder R) (exact : CmpEqualImpliesEq R) where
+  -- what the other way round is compared as
+  pub turned : (x y : K) (r : Ordering) → R x y ≡ r → R y x ≡ ordering_reverse r
+  turned x y r e = o.antisymm y x ∙ ap ordering_reverse e
+
+  -- a lower key is compared no higher
+  pub mono : (x y k : K) → R x y ≡ Less → ordering_index (R x k) ≤ ordering_index (R y k)
+  mono x y k e =
+      elim (R y k) as (λ r. R y k ≡ r → ordering_index (R x k) ≤ ordering_index r) [
+        | Less ↦ λ f. subst (λ r. ordering_index r ≤ 0) (sym (o.trans x y k e f)) (omega arith)
+        | Equal ↦ λ f. subst (λ r. ordering_index r ≤ 1) (sym (ap (R x) (sym (exact y k f)) ∙ e)) (omega arith)
+        | Greater ↦ λ f. index_high (R x k)
+      ] refl
 
 module _ {L K X : Type 0} (R : K → K → Ordering) (key : L → K) (value : L → X) where
   -- the entries that the elements make
@@ -120,21 +144,10 @@ module _ {L K X : Type 0} (R : K → K → Ordering) (key : L → K) (value : L 
   earlier_below (x ∷ xs) (suc i) (suc j) d h lt in_l = earlier_below xs i j d (right _ _ h) (omega (arith, lt)) (omega (arith, in_l))
 
   module _ (o : IsTotalOrder R) (exact : CmpEqualImpliesEq R) where
-    turned : (x y : K) (r : Ordering) → R x y ≡ r → R y x ≡ ordering_reverse r
-    turned x y r e = o.antisymm y x ∙ ap ordering_reverse e
-
-    mono : (x y k : K) → R x y ≡ Less → ordering_index (R x k) ≤ ordering_index (R y k)
-    mono x y k e =
-        elim (R y k) as (λ r. R y k ≡ r → ordering_index (R x k) ≤ ordering_index r) [
-          | Less ↦ λ f. subst (λ r. ordering_index r ≤ 0) (sym (o.trans x y k e f)) (omega arith)
-          | Equal ↦ λ f. subst (λ r. ordering_index r ≤ 1) (sym (ap (R x) (sym (exact y k f)) ∙ e)) (omega arith)
-          | Greater ↦ λ f. index_high (R x k)
-        ] refl
-
     rises : (k : K) (xs : List L) → IsRising xs → IsNonDecreasingBy (λ y. ordering_index (R (key y) k)) xs
     rises k [] h i j d le lt = absurd (omega (arith, lt))
     rises k (x ∷ xs) h zero zero d le lt = omega arith
-    rises k (x ∷ xs) h zero (suc j) d le lt = mono (key x) (key (get_or xs j d)) k (below_at (key x) xs j d (left _ _ h) (omega (arith, lt)))
+    rises k (x ∷ xs) h zero (suc j) d le lt = mono R o exact (key x) (key (get_or xs j d)) k (below_at (key x) xs j d (left _ _ h) (omega (arith, lt)))
     rises k (x ∷ xs) h (suc i) zero d le lt = absurd (omega (arith, le))
     rises k (x ∷ xs) h (suc i) (suc j) d le lt = rises k xs (right _ _ h) i j d (omega (arith, le)) (omega (arith, lt))
 
@@ -150,30 +163,30 @@ module _ {L K X : Type 0} (R : K → K → Ordering) (key : L → K) (value : L 
     put_gap : (xs : List L) (l : L) (at : ℕ) → IsGap xs (key l) at → fin.Entries.put R (key l) (value l) (pairs xs) ≡ pairs (insert xs at l)
     put_gap [] l zero g = refl
     put_gap [] l (suc at) g = absurd (omega (arith, g.inside))
-    put_gap (x ∷ xs) l zero g = rw (turned (key x) (key l) Greater (g.above 0 x (omega arith) (omega arith))) refl
+    put_gap (x ∷ xs) l zero g = rw (turned R o exact (key x) (key l) Greater (g.above 0 x (omega arith) (omega arith))) refl
     put_gap (x ∷ xs) l (suc at) g =
-        rw (turned (key x) (key l) Less (g.below 0 x (omega arith) (omega arith))) (ap (λ es. (key x, value x) ∷ es) (put_gap xs l at (gap_after x xs (key l) at g)))
+        rw (turned R o exact (key x) (key l) Less (g.below 0 x (omega arith) (omega arith))) (ap (λ es. (key x, value x) ∷ es) (put_gap xs l at (gap_after x xs (key l) at g)))
 
     put_place : (xs : List L) (l : L) (at : ℕ) → IsRising xs → IsPlace xs (key l) at → fin.Entries.put R (key l) (value l) (pairs xs) ≡ pairs (set xs at l)
     put_place [] l at h p = absurd (omega (arith, p.inside))
-    put_place (x ∷ xs) l zero h p = rw (turned (key x) (key l) Equal (p.here x), exact (key x) (key l) (p.here x)) refl
+    put_place (x ∷ xs) l zero h p = rw (turned R o exact (key x) (key l) Equal (p.here x), exact (key x) (key l) (p.here x)) refl
     put_place (x ∷ xs) l (suc at) h p =
         let q = place_after x xs (key l) at p in
         let low : R (key x) (key l) ≡ Less = subst (λ y. R (key x) y ≡ Less) (exact _ (key l) (q.here l)) (below_at (key x) xs at l (left _ _ h) q.inside) in
-        rw (turned (key x) (key l) Less low) (ap (λ es. (key x, value x) ∷ es) (put_place xs l at (right _ _ h) q))
+        rw (turned R o exact (key x) (key l) Less low) (ap (λ es. (key x, value x) ∷ es) (put_place xs l at (right _ _ h) q))
 
     find_gap : (xs : List L) (k : K) (at : ℕ) → IsGap xs k at → fin.find R k (pairs xs) ≡ None
     find_gap [] k at g = refl
-    find_gap (x ∷ xs) k zero g = rw (turned (key x) k Greater (g.above 0 x (omega arith) (omega arith))) (find_gap xs k zero (gap_first x xs k g))
-    find_gap (x ∷ xs) k (suc at) g = rw (turned (key x) k Less (g.below 0 x (omega arith) (omega arith))) (find_gap xs k at (gap_after x xs k at g))
+    find_gap (x ∷ xs) k zero g = rw (turned R o exact (key x) k Greater (g.above 0 x (omega arith) (omega arith))) (find_gap xs k zero (gap_first x xs k g))
+    find_gap (x ∷ xs) k (suc at) g = rw (turned R o exact (key x) k Less (g.below 0 x (omega arith) (omega arith))) (find_gap xs k at (gap_after x xs k at g))
 
     find_place : (xs : List L) (k : K) (at : ℕ) (d : L) → IsRising xs → IsPlace xs k at → fin.find R k (pairs xs) ≡ Some (value (get_or xs at d))
     find_place [] k at d h p = absurd (omega (arith, p.inside))
-    find_place (x ∷ xs) k zero d h p = rw (turned (key x) k Equal (p.here x)) refl
+    find_place (x ∷ xs) k zero d h p = rw (turned R o exact (key x) k Equal (p.here x)) refl
     find_place (x ∷ xs) k (suc at) d h p =
         let q = place_after x xs k at p in
         let low : R (key x) k ≡ Less = subst (λ y. R (key x) y ≡ Less) (exact _ k (q.here d)) (below_at (key x) xs at d (left _ _ h) q.inside) in
-        rw (turned (key x) k Less low) (find_place xs k at d (right _ _ h) q)
+        rw (turned R o exact (key x) k Less low) (find_place xs k at d (right _ _ h) q)
 
     -- the map of a rising list
     pub get_gap : (xs : List L) (k : K) (at : ℕ) → IsRising xs → IsGap xs k at → fin.get (fin.from_sorted {R = R} (pairs xs)) k ≡ None

@@ -50,7 +50,7 @@ pub bytes_eq_same : (text : List ℕ) → bytes_eq text text ≡ true
 bytes_eq_same [] = refl
 bytes_eq_same (b ∷ bs) = rw (eq-eqb b b refl) (bytes_eq_same bs)
 
-same_bytes : (a b : List ℕ) → bytes_eq a b ≡ true → a ≡ b
+pub same_bytes : (a b : List ℕ) → bytes_eq a b ≡ true → a ≡ b
 same_bytes [] [] e = refl
 same_bytes [] (y ∷ ys) e = absurd cc
 same_bytes (x ∷ xs) [] e = absurd cc

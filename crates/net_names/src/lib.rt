@@ -7,6 +7,7 @@
 
 mod addresses;
 mod coverage;
+mod digits;
 mod lines;
 mod links;
 mod numbers;
@@ -18,6 +19,7 @@ mod writing;
 
 pub use addresses::{Addr, Family};
 pub use coverage::{covers, holds};
+pub use digits::{Digits, read_digits};
 pub use lines::{KeptLine, next_kept};
 pub use links::{Link, Links, LinksError, MOST_LINKS};
 pub use numbers::{Asn, NoMemory, Path};
