@@ -1,9 +1,9 @@
 -- What `cons` and `lengthen` leave.
-use Rattle.std.proofs.Common.{◌≡◌, ◌≢◌, ℕ, suc, ◌+◌, ◌-◌, ◌<◌, List, [], ◌∷◌, length, set, refl, ap, sym, ◌∙◌, subst, arith, inl, inr}
+use Rattle.std.proofs.Common.{◌≡◌, ◌≢◌, ℕ, suc, ◌+◌, ◌-◌, ◌<◌, ◌≤◌, List, [], ◌∷◌, length, get_or, set, refl, ap, sym, ◌∙◌, subst, arith, inl, inr}
 use Rattle.std.proofs.lemmas.Bool.{cases_eq}
 use Rattle.path_pool.specs.declared.pool.Cell.{Cell}
-use Rattle.path_pool.specs.Region.{cell_at, walk, list_of, IsLive, cells_above, holds_of, IsRegion, CanFollow, GainsCell, PassesHold, GainsCells, SameCells}
-use Rattle.path_pool.proofs.RegionLemmas.{at_same, at_other, live_inside, take_above_other, take_above_tail, take_lists_at}
+use Rattle.path_pool.specs.Region.{cell_at, walk, list_of, live_count, IsLive, cells_above, holds_of, IsRegion, CanFollow, GainsCell, PassesHold, GainsCells, SameCells}
+use Rattle.path_pool.proofs.RegionLemmas.{at_same, at_other, cell_read, live_inside, len_le_live, take_above_other, take_above_tail, take_lists_at}
 use Rattle.path_pool.proofs.HoldLemmas.{rehold_kind, rehold_above, rehold_at, rehold_region, rehold_lists}
 
 -- a cell put on the first free place
@@ -67,6 +67,13 @@ follows_over xs f spare limit t h r a n en l el z ez =
       single_last = λ one. absurd (omega (arith, one, long));
       longer_last = λ _. ez ∙ sym (rehold_kind xs t n t a some).last;
     }
+
+-- the path over a live one is no longer than a cell can say
+pub longer_fits : (xs : List Cell) (free spare limit t : ℕ) (v : Cell) → IsRegion xs free spare limit → IsLive xs t → v ≡ get_or xs t v → v.len + 1 < 4294967296
+longer_fits xs free spare limit t v r live read =
+    let small : (cell_at xs t).len ≤ live_count xs = len_le_live xs free spare limit t r live in
+    let len : v.len ≡ (cell_at xs t).len = ap (λ (c : Cell). c.len) (cell_read xs t v (live_inside xs t live) read) in
+    omega (arith, small, len, r.all_counted, r.within, r.limited)
 
 -- over a tail: the cell y on the free place, after one more hold of its tail
 pub gains_over : (xs : List Cell) (free spare limit t h : ℕ) → IsRegion xs free spare limit → 0 < spare → IsLive xs t →

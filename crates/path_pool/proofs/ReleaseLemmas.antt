@@ -1,9 +1,9 @@
 -- What one step of a release leaves.
-use Rattle.std.proofs.Common.{◌≡◌, ◌≢◌, ℕ, ◌+◌, ◌<◌, ◌≤◌, Bool, true, false, ◌&&◌, ltb, eqb, List, length, set, refl, ap, sym, ◌∙◌, subst, arith, length-set, inl, inr}
+use Rattle.std.proofs.Common.{◌≡◌, ◌≢◌, ℕ, ◌+◌, ◌<◌, ◌≤◌, Bool, true, false, ◌&&◌, ltb, eqb, List, length, get_or, set, refl, ap, sym, ◌∙◌, subst, arith, length-set, inl, inr}
 use Rattle.std.proofs.lemmas.Bool.{cases_eq, lt-ltb, eq-eqb, ne_eqb, ltb-true, false≢true}
 use Rattle.path_pool.specs.declared.pool.Cell.{Cell}
 use Rattle.path_pool.specs.Region.{cell_at, list_of, IsLive, is_above, cells_above, holds_of, IsRegion, LosesHold}
-use Rattle.path_pool.proofs.RegionLemmas.{at_same, at_other, live_inside, one_if, drop_above, drop_lists}
+use Rattle.path_pool.proofs.RegionLemmas.{at_same, at_other, cell_read, live_inside, one_if, drop_above, drop_lists}
 use Rattle.path_pool.proofs.HoldLemmas.{rehold_kind, rehold_above, rehold_at, rehold_lists}
 
 -- On the way of a release of id: where `more` says so, the cell `at` still has a hold to be given back.
@@ -14,6 +14,13 @@ pub record IsReleasing (old new : List Cell) (id at : ℕ) (more : Bool) : Type 
   pub was_live : (k : ℕ) → IsLive new k → IsLive old k
   pub lists : (k : ℕ) → IsLive new k → list_of new k ≡ list_of old k
   pub size : length new ≡ length old
+
+-- what is read where a hold is to be given back is the cell, and it is live
+pub read_owed : (xs : List Cell) (i : ℕ) (v : Cell) → 0 < holds_of xs i → v ≡ get_or xs i v → (v ≡ cell_at xs i) × (0 < v.count)
+read_owed xs i v owed read =
+    let live : IsLive xs i = omega (arith, owed) in
+    let e : v ≡ cell_at xs i = cell_read xs i v (live_inside xs i live) read in
+    (e, (let count : v.count ≡ (cell_at xs i).count = ap (λ (c : Cell). c.count) e in omega (arith, count, live)))
 
 pub releasing_start : (xs : List Cell) (id : ℕ) → 0 < holds_of xs id → IsReleasing xs xs id id true
 releasing_start xs id h = record {

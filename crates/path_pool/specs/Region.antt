@@ -2,6 +2,7 @@
 -- Paths that share their ends are the nodes of a forest whose edges point towards the root.
 use Rattle.std.specs.Prelude.{◌≡◌, ◌≢◌, ℕ, suc, zero, ◌+◌, ◌-◌, ◌<◌, ◌≤◌, Bool, ◌&&◌, ◌==◌, nat_lt, List, [], ◌∷◌, length, slice_index_or, slice_set, count_by, Option, None, Some, if◌then◌else◌}
 use Rattle.path_pool.specs.declared.pool.Cell.{Cell}
+use Rattle.path_pool.specs.declared.pool.TheConstants.{MOST_COUNT}
 use Rattle.path_pool.specs.declared.path_id.PathId.{PathId}
 
 -- What is read past the last cell: a cell that nothing needs.
@@ -90,7 +91,7 @@ pub record IsRegion (cells : List Cell) (free dead limit : ℕ) : Type 0 where
   pub dead_apart : (i j : ℕ) → i < length cells → j < length cells → (cell_at cells i).count ≡ 0 → (cell_at cells j).count ≡ 0 → (cell_at cells i).len ≡ (cell_at cells j).len → i ≡ j
   pub all_counted : live_count cells + dead ≡ length cells
   pub within : length cells ≤ limit
-  pub limited : limit < 4294967295
+  pub limited : limit < MOST_COUNT
 
 -- A cell can be put over its tail, where it has one: the tail is live, one AS shorter, ends with the same AS, and has a
 -- hold left for it.

@@ -2,6 +2,7 @@
 ghost use Rattle.std.specs.Prelude.{◌≡◌};
 ghost use Rattle.path_pool.specs.declared.error.PoolError.TheVariants.{Memory};
 
+use net_names::NoMemory;
 use std::alloc::AllocError;
 
 /// Why a pool has no room for the cells that were asked for.
@@ -25,5 +26,11 @@ impl From<AllocError> for PoolError {
 
     fn from(_e: AllocError) -> PoolError {
         PoolError::Memory
+    }
+}
+
+impl From<PoolError> for NoMemory {
+    fn from(_e: PoolError) -> NoMemory {
+        NoMemory
     }
 }

@@ -3,7 +3,7 @@
 ghost use Rattle.path_pool.specs.Pool.{IsLive, IsOver, list_of, count_of, holds_of, over_count, live_count, spare_of, limit_of};
 ghost use Rattle.std.specs.Prelude.{◌≡◌, ℕ, ◌+◌, ◌<◌, ◌≤◌, ◌⊎◌, ◌↔◌, length};
 
-use crate::PathPool;
+use crate::{MOST_COUNT, PathPool};
 
 /// The count of a cell is its outside holds and the live cells over it.
 pub fn counts_are_holds(pool: &PathPool)
@@ -16,10 +16,10 @@ pub fn needed_are_live(pool: &PathPool)
 {}
 
 /// The live cells and the spare ones are together at most as many as the limit, which is below
-/// 4294967295.
+/// [`MOST_COUNT`].
 pub fn cells_are_within(pool: &PathPool)
     ensures within { live_count pool.now + spare_of pool.now ≤ limit_of pool.now }
-    ensures limit { limit_of pool.now < 4294967295 }
+    ensures limit { limit_of pool.now < MOST_COUNT }
 {}
 
 /// A path has at least one AS.

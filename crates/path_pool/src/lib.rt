@@ -13,4 +13,4 @@ mod pool;
 pub use error::PoolError;
 pub use laws::{cells_are_within, counts_are_holds, needed_are_live, paths_are_not_empty};
 pub use path_id::PathId;
-pub use pool::PathPool;
+pub use pool::{MOST_COUNT, PathPool};

@@ -10,6 +10,9 @@ use crate::{PathId, PoolError};
 use net_names::Asn;
 use std::alloc::Global;
 
+/// The most that a count of holds, a length or a place in a pool can be.
+pub const MOST_COUNT: u32 = 4_294_967_295;
+
 /// One AS of a path, and where the rest of the path stands. A cell that is not live belongs to no
 /// path: its tail is the next such cell.
 #[derive(Clone, Copy)]
@@ -46,7 +49,7 @@ impl PathPool {
 
     /// A pool without paths, in which at most `limit` cells may be live at once.
     pub fn new(alloc: Global, limit: usize) -> PathPool
-        requires { limit < 4294967295 }
+        requires { limit < MOST_COUNT }
         ensures none { (k : ℕ) → ¬ IsLive result k }
         ensures live { live_count result ≡ 0 }
         ensures spare { spare_of result ≡ 0 }
@@ -96,7 +99,7 @@ impl PathPool {
     pub fn cons(&mut self, head: Asn, tail: Option<PathId>) -> PathId
         requires spare { 0 < spare_of self.old }
         requires tail_live { ForSome tail (λ t. IsLive self.old t.0) }
-        requires tail_room { ForSome tail (λ t. count_of self.old t.0 < 4294967295) }
+        requires tail_room { ForSome tail (λ t. count_of self.old t.0 < MOST_COUNT) }
         ensures made { GainsPath self.old self.new result.0 (head ∷ tail_list self.old tail) }
         ensures live { live_count self.new ≡ live_count self.old + 1 }
         ensures spare { spare_of self.new + 1 ≡ spare_of self.old }
@@ -107,13 +110,7 @@ impl PathPool {
                 self.find_cell();
                 self.take_cell(head, 0, 1, head)
             }
-            Some(t) => {
-                if self.dead == 0 {
-                    self.push_over(head, t)
-                } else {
-                    self.cons_over(head, t)
-                }
-            }
+            Some(t) => self.cons_over(head, t),
         }
     }
 
@@ -154,7 +151,7 @@ impl PathPool {
     /// One outside hold of the path more. All else stays. Takes no memory.
     pub fn hold(&mut self, id: PathId)
         requires live { IsLive self.old id.0 }
-        requires room { count_of self.old id.0 < 4294967295 }
+        requires room { count_of self.old id.0 < MOST_COUNT }
         ensures held { GainsHold self.old self.new id.0 }
         ensures live { live_count self.new ≡ live_count self.old }
         ensures spare { spare_of self.new ≡ spare_of self.old }
@@ -191,22 +188,6 @@ impl PathPool {
         self.dead - before
     }
 
-    // A new path over one that is there, in a cell behind the others.
-    #[inline(always)]
-    fn push_over(&mut self, head: Asn, tail: PathId) -> PathId
-        requires room { 0 < self.old.room }
-        requires tail_live { IsLive self.old tail.0 }
-        requires tail_room { count_of self.old tail.0 < 4294967295 }
-        ensures made { GainsPath self.old self.new result.0 (head ∷ list_of self.old tail.0) }
-        ensures live { live_count self.new ≡ live_count self.old + 1 }
-        ensures spare { spare_of self.new + 1 ≡ spare_of self.old }
-        ensures limit { limit_of self.new ≡ limit_of self.old }
-    {
-        let cell = self.cells[tail.0 as usize];
-        self.set_count(tail, cell.count + 1);
-        self.push_cell(head, tail.0, cell.len + 1, cell.last)
-    }
-
     // Puts the cell of a new path behind the others, where there is room for one.
     #[inline(always)]
     fn push_cell(&mut self, head: Asn, tail: u32, len: u32, last: Asn) -> PathId
@@ -234,12 +215,12 @@ impl PathPool {
         PathId(at as u32)
     }
 
-    // A new path over one that is there, in a cell that is free.
-    #[inline(never)]
+    // A new path over one that is there: in a free cell, or behind the others where none is free.
+    #[inline(always)]
     fn cons_over(&mut self, head: Asn, tail: PathId) -> PathId
-        requires spare { 0 < self.old.dead }
+        requires spare { 0 < spare_of self.old }
         requires tail_live { IsLive self.old tail.0 }
-        requires tail_room { count_of self.old tail.0 < 4294967295 }
+        requires tail_room { count_of self.old tail.0 < MOST_COUNT }
         ensures made { GainsPath self.old self.new result.0 (head ∷ list_of self.old tail.0) }
         ensures live { live_count self.new ≡ live_count self.old + 1 }
         ensures spare { spare_of self.new + 1 ≡ spare_of self.old }
@@ -247,7 +228,12 @@ impl PathPool {
     {
         let cell = self.cells[tail.0 as usize];
         self.set_count(tail, cell.count + 1);
-        self.take_cell(head, tail.0, cell.len + 1, cell.last)
+        let len = cell.len + 1;
+        if self.dead == 0 {
+            self.push_cell(head, tail.0, len, cell.last)
+        } else {
+            self.take_cell(head, tail.0, len, cell.last)
+        }
     }
 
     // Writes how often a live cell is needed.
@@ -267,6 +253,7 @@ impl PathPool {
     }
 
     // Takes the first free cell for a new path.
+    #[inline(never)]
     fn take_cell(&mut self, head: Asn, tail: u32, len: u32, last: Asn) -> PathId
         requires spare { 0 < self.old.dead }
         requires follows { CanFollow self.old.cells.items (first_cell head tail len last) }

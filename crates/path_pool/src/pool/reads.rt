@@ -3,7 +3,7 @@
 ghost use Rattle.net_names.specs.Numbers.{last_or, occurs};
 ghost use Rattle.std.specs.Prelude.{◌≡◌, ◌+◌, ◌<◌, ◌≤◌, ◌∷◌, length, IfSome, IfOk, slice_index};
 
-use super::PathPool;
+use super::{MOST_COUNT, PathPool};
 use crate::PathId;
 use net_names::{Asn, NoMemory, Path};
 use std::alloc::Global;
@@ -67,13 +67,13 @@ impl PathPool {
     }
 
     /// How many ASes the path has: at least one, and never more than there are live cells, which is
-    /// less than 4294967295.
+    /// less than [`MOST_COUNT`].
     pub fn length(&self, id: PathId) -> u32
         requires { IsLive self.now id.0 }
         ensures value { result ≡ length (list_of self.now id.0) }
         ensures some { 0 < result }
         ensures short { result ≤ live_count self.now }
-        ensures fits { result < 4294967295 }
+        ensures fits { result < MOST_COUNT }
     {
         self.cells[id.0 as usize].len
     }

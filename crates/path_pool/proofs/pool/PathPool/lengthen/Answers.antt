@@ -1,20 +1,16 @@
-use Rattle.std.proofs.Common.{arith, ◌≡◌, ℕ, ◌+◌, ◌<◌, ◌≤◌, List, ◌∷◌, set, sym, ap, subst}
+use Rattle.std.proofs.Common.{arith, ◌≡◌, ℕ, ◌+◌, ◌<◌, List, ◌∷◌, set, sym, ap, subst}
 use Rattle.path_pool.specs.declared.pool.Cell.{Cell}
-use Rattle.path_pool.specs.Region.{IsLive, PassesHold, list_of, holds_of, cell_at, live_count}
-use Rattle.path_pool.proofs.RegionLemmas.{cell_read, live_inside, len_le_live}
-use Rattle.path_pool.proofs.ConsLemmas.{passes_over, passes_after}
+use Rattle.path_pool.specs.Region.{IsLive, PassesHold, list_of, holds_of, cell_at}
+use Rattle.path_pool.proofs.RegionLemmas.{cell_read, live_inside}
+use Rattle.path_pool.proofs.ConsLemmas.{longer_fits, passes_over, passes_after}
 use Rattle.path_pool.proofs.pool.PathPool.lengthen.Goals as goal
 
 pub overflow_add-cell : goal.overflow_add-cell
 overflow_add-cell c =
-    let xs : List Cell = c.find_cell.new.self.cells.items in
-    let t : ℕ = c.args.rest.0 in
-    let alive : IsLive xs t = omega (arith, c.find_cell.ensures.same.holds t, c.requires.held) in
-    let e : c.index-cell.result.now ≡ cell_at xs t = cell_read xs t c.index-cell.result.now (live_inside xs t alive) c.index-cell.ensures in
-    let small : (cell_at xs t).len ≤ live_count xs = len_le_live xs c.find_cell.new.self.free c.find_cell.new.self.dead c.find_cell.new.self.limit t c.find_cell.new.self.region alive in
-    let all : live_count xs < 4294967295 = omega (arith, c.find_cell.new.self.region.all_counted, c.find_cell.new.self.region.within, c.find_cell.new.self.region.limited) in
-    let len : c.index-cell.result.now.len ≡ (cell_at xs t).len = ap (λ (x : Cell). x.len) e in
-    omega (arith, small, all, len)
+    let pool = c.find_cell.new.self in
+    let alive : IsLive pool.cells.items c.args.rest.0 = omega (arith, c.find_cell.ensures.same.holds c.args.rest.0, c.requires.held) in
+    let fits = longer_fits pool.cells.items pool.free pool.dead pool.limit c.args.rest.0 c.index-cell.result.now pool.region alive c.index-cell.ensures in
+    omega (arith, fits)
 
 pub take_cell-requires-clause-follows : goal.take_cell-requires-clause-follows
 take_cell-requires-clause-follows c =
