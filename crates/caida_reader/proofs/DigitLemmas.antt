@@ -21,18 +21,6 @@ use Rattle.caida_reader.specs.Plain.{BeginsWithAsn, BeginsWithLine}
 use Rattle.caida_reader.specs.declared.line.Line.{Line}
 use Rattle.caida_reader.specs.declared.line.Line.TheVariants as what
 
-pub more : (n i d : ℕ) → n < 10 ^ i → d < 10 → n * 10 + d < 10 ^ (i + 1)
-more n i d small lt =
-    let b : 10 ^ (i + 1) ≡ 10 ^ i * 10 = rw add-one (pow-suc 10 i) in
-    omega (arith, small, b, lt)
-
-pub digits_go_on : (i : ℕ) (text : List ℕ) → i < length text → list_all (λ c. is_digit c 10) (take i text) ≡ true → digit_value (get_or text i 0) < 10
-    → list_all (λ c. is_digit c 10) (take (i + 1) text) ≡ true
-digits_go_on i text lt so_far d =
-    let e = list_all_more (λ c. is_digit c 10) text i 0 lt in
-    let t : is_digit (get_or text i 0) 10 ≡ true = lt-ltb (digit_value (get_or text i 0)) 10 d in
-    rw (e, so_far, t) refl
-
 -- digits before a bar
 pub whole : (text : List ℕ) (n : ℕ) → n < length text → get_or text n 0 ≡ 124 → text ≡ take n text ++ 124 ∷ take (length text - (n + 1)) (drop (n + 1) text)
 whole text n lt bar =
