@@ -20,6 +20,7 @@ use Rattle.as_graph.specs.Ends.{lower_ends, higher_ends, ends_at, row_of, AreTur
 use Rattle.as_graph.specs.Graphs.{Rows, rel_of, links_of, IsBuilt}
 use Rattle.as_graph.specs.Gathering.{AreGathered, HasManyAses}
 use Rattle.net_names.proofs.Pairs.{pairs_total, exact_pair}
+use Rattle.net_names.proofs.Rising.{less, left, right}
 use Rattle.as_graph.proofs.Links.{relation_mutual, relation_self, ends_of}
 use Rattle.as_graph.proofs.RowAses.{occurs-append, length-le-as_count}
 use Rattle.as_graph.proofs.RowLinks.{first_some, pair_tied, get-links_of}
@@ -28,19 +29,6 @@ abbrev Entries : Type 0
 Entries = List ((ℕ × ℕ) × Rel)
 
 -- ---- entries in order
-
-less : (r : Ordering) → T (is_lt r) → r ≡ Less
-less Less p = refl
-less Equal p = absurd p
-less Greater p = absurd p
-
-left : (a b : Bool) → T (a && b) → T a
-left true b p = tt
-left false b p = p
-
-right : (a b : Bool) → T (a && b) → T b
-right true b p = p
-right false b p = absurd p
 
 -- by the first numbers, and where these are equal by the second
 pair_less : (p q : ℕ × ℕ) → pair_cmp p q ≡ Less → (p.0 < q.0) ⊎ ((p.0 ≡ q.0) × (p.1 < q.1))

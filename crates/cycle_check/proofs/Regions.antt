@@ -5,7 +5,7 @@ use Rattle.std.proofs.lemmas.List.{take-append-drop, take-take, drop-take, take_
 use Rattle.net_names.specs.Numbers.{occurs}
 use Rattle.cycle_check.specs.Rows.{count_of, row, AreRows}
 use Rattle.cycle_check.specs.Stages.{times, waiting}
-use Rattle.cycle_check.proofs.Listing.{occurs_take}
+use Rattle.cycle_check.proofs.Listing.{occurs_get, occurs_take}
 use Rattle.cycle_check.proofs.Tallies.{times_append}
 
 take_split : (s m : ℕ) (xs : List ℕ) → take (s + m) xs ≡ take s xs ++ take m (drop s xs)
@@ -53,3 +53,7 @@ module _ (starts items : List ℕ) (rows : AreRows starts items) where
       let at = get_or-drop start items i 0 in
       let long = length-drop start items in
       subst (λ x. x < count_of starts) (sym at ∙ is) (rows.within (start + i) (omega (arith, less, long)))
+
+  -- also by index
+  pub item_within : (list : List ℕ) (b i : ℕ) → list ≡ row starts items b → i < length list → get_or list i 0 < count_of starts
+  item_within list b i is less = row_within (get_or list i 0) b (subst (λ xs. occurs (get_or list i 0) xs ≡ true) is (occurs_get list i 0 less))

@@ -15,7 +15,7 @@ ghost use Rattle.rank_order.specs.declared.ranks.RankError.TheVariants.{Memory};
 use crate::list::{put_in, take_in};
 use crate::order::{RankOrder, order_at};
 use as_graph::Graph;
-use cycle_check::{Cycle, RankedAs, Ranking, place_in, place_near, places_of_rows, rank_ases};
+use cycle_check::{Cycle, RankedAs, Ranking, place_near, places_of_rows, rank_ases};
 use net_names::{Asn, NoMemory};
 use std::alloc::{AllocError, Global};
 use std::marker::Model;
@@ -112,7 +112,7 @@ impl Ranks {
     pub fn rank(&self, asn: Asn) -> u32
         ensures { result ≡ rank_at self.now asn }
     {
-        rank_of(&self.ranks, place_in(&self.ases, asn))
+        self.rank_near(asn, self.places.len())
     }
 
     /// The rank of an AS, as `rank` gives it, sought first at a place, which is a hint.

@@ -12,7 +12,9 @@ use Rattle.std.specs.declared.cmp.Ordering.TheVariants.{Less, Equal, Greater}
 use Rattle.std.specs.Ordering.{eq_by_cmp, is_eq, is_lt}
 use Rattle.std.specs.Cmp.{IsTotalOrder, tied_itself}
 use Rattle.std.specs.FinMap as fin
+use Rattle.net_names.proofs.Marks.{keys_of_marks}
 use Rattle.net_names.proofs.Rising as rising
+pub use Rattle.net_names.proofs.Rising.{less as is_less, left, right}
 use Rattle.stability_laws.specs.Plans.{ListsRising}
 use Rattle.stability_laws.specs.PlanLists.{marks, set_of, IsRising}
 
@@ -21,26 +23,9 @@ is_equal Less e = cc
 is_equal Equal e = refl
 is_equal Greater e = cc
 
-pub is_less : (r : Ordering) → T (is_lt r) → r ≡ Less
-is_less Less p = refl
-is_less Equal p = absurd p
-is_less Greater p = absurd p
-
-pub left : (a b : Bool) → T (a && b) → T a
-left true b p = tt
-left false b p = p
-
-pub right : (a b : Bool) → T (a && b) → T b
-right true b p = p
-right false b p = absurd p
-
 pub or_later : (a b : Bool) → b ≡ true → (a || b) ≡ true
 or_later true b e = refl
 or_later false b e = e
-
-keys_of_marks : {K : Type 0} (xs : List K) → map (λ (e : K × Unit {0}). e.0) (marks xs) ≡ xs
-keys_of_marks [] = refl
-keys_of_marks (x ∷ xs) = ap (λ l. x ∷ l) (keys_of_marks xs)
 
 pub set_of_none : {K : Type 0} (R : K → K → Ordering) → set_of R [] ≡ fin.empty
 set_of_none R = fin.empty_of_len _ (fin.len-entries _ ∙ ap length (fin.entries-from_sorted R [] tt))

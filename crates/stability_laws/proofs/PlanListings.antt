@@ -21,6 +21,7 @@ use Rattle.net_names.proofs.Pairs.{exact_pair, pairs_total}
 use Rattle.stability_laws.specs.Plans.{announcement_cmp, Plan, announcers_of, leaks_in, in_round, leakers_of, IsAnnouncer, ListsRising}
 use Rattle.stability_laws.specs.PlanLists.{marks, IsRising, set_of, announcing_set}
 use Rattle.net_names.specs.Orders.{announcement_total, exact_announcement}
+use Rattle.net_names.proofs.Rising.{both}
 use Rattle.stability_laws.proofs.KeyLists.{keys_listed, listed_as, eq_is, eq_same, keys_set_of, left, right, below_later, copied_at}
 use Rattle.stability_laws.proofs.Announcements.{by_as, get-announcing_set}
 
@@ -81,10 +82,6 @@ any_in_round r a (x ∷ xs) = by (x.0 == r) (any_in_round r a xs) ∙ ap (λ b. 
         → list_any (eq_by_cmp nat_cmp a) (map (λ y. y.1) (cond b (x ∷ filter (λ y. y.0 == r) xs) (filter (λ y. y.0 == r) xs))) ≡ ((b && eq_by_cmp nat_cmp a x.1) || list_any (eq_by_cmp pair_cmp (r, a)) xs)
     by true rest = ap (λ b. eq_by_cmp nat_cmp a x.1 || b) rest
     by false rest = rest
-
-both : (a b : Bool) → T a → T b → T (a && b)
-both true b p q = q
-both false b p q = absurd p
 
 second_less : (x y : ℕ × ℕ) → x.0 ≡ y.0 → T (is_lt (pair_cmp x y)) → T (is_lt (nat_cmp x.1 y.1))
 second_less x y e h = subst (λ (o : Ordering). T (is_lt (ordering_then o (nat_cmp x.1 y.1)))) (sym (nat_cmp_is x.0 y.0 Equal e)) h

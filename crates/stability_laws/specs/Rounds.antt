@@ -11,8 +11,8 @@ use Rattle.stability_laws.specs.Stable.{IsStable}
 pub use Rattle.stability_laws.specs.Plans.{Plan, announcement_cmp}
 
 -- the seed of an AS: the path that it announces, without a number; else, at a leaker, the path and
--- the number of what it held in the round before, where a peer or a provider gave it (RFC 7908,
--- section 3, route leaks)
+-- the number of what it held in the round before, where a peer or a provider gave it
+-- (RFC 7908, section 3, route leaks)
 abbrev pub seed_given : Option (List ℕ) → Bool → Option Entry → Option Seed
 seed_given (Some path) leaks held = Some (record { path = path; otc = None })
 seed_given None leaks held = if leaks then option_and_then (λ e. if is_own_or_customers e.class then None else Some (record { path = e.path; otc = e.otc })) held else None

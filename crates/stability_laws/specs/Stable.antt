@@ -13,8 +13,8 @@ pub record IsBest (p : Policy) (offers : ℕ → Option Offer) (n : ℕ) (o : Of
   pub first : (m : ℕ) (x : Offer) → offers m ≡ Some x → m ≢ n → IsTrue (p.before o.view x.view)
 
 -- what an AS holds is right: with a seed it is the seed's entry; without a seed and without an
--- offer it is nothing; without a seed and with offers it is the best offer's entry (RFC 4271,
--- section 9.1.2)
+-- offer it is nothing; without a seed and with offers it is the best offer's entry
+-- (RFC 4271, section 9.1.2)
 abbrev pub IsRightGiven : Policy → Option Seed → (ℕ → Option Offer) → Option Entry → Type 0
 IsRightGiven p (Some s) offers held = held ≡ Some (seed_entry s)
 IsRightGiven p None offers None = (n : ℕ) → offers n ≡ None

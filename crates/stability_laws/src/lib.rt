@@ -30,7 +30,7 @@ pub use laws::{
     one_family, one_stable_routing, paths_go_on, right_by_offers, right_follows,
 };
 pub use offer_paths::offer_path;
-pub use offers::{carried, class_from, number_sent, offered_view};
+pub use offers::{carried, class_from, last_of, number_sent, offered_view};
 pub use right::right_entry;
 pub use round_seeds::seeds_at;
 pub use routing::{Routing, Seeds};

@@ -52,8 +52,8 @@ pub fn carried<P: RoutePolicy>(
     number_sent(receiver.marks(), from, to, sent)
 }
 
-/// The last number of a path, where it has one.
-fn last_of(path: &[Asn]) -> Option<Asn>
+/// The last number of a path, where it has one. It takes no memory.
+pub fn last_of(path: &[Asn]) -> Option<Asn>
     ensures { result ≡ option_map (λ _. last_or 0 path.now) (slice_get path.now 0) }
 {
     path.last().copied()

@@ -1,10 +1,8 @@
-use Rattle.std.proofs.Common.{◌≡◌, ◌+◌, ◌≤◌, suc, true, [], length, take, drop, get_or, sym, ap, subst, arith, ◌∙◌, add-one}
+use Rattle.std.proofs.Common.{◌≡◌, ◌+◌, ◌≤◌, suc, [], length, take, drop, get_or, sym, ap, subst, arith, ◌∙◌, add-one}
 use Rattle.std.proofs.lemmas.List.{get_or_read, drop_more, drop_all, length-take-le}
-use Rattle.net_names.specs.Numbers.{occurs}
 use Rattle.cycle_check.specs.Rows.{row, count_of}
 use Rattle.cycle_check.specs.Stages.{IsStage, IsNotifying}
-use Rattle.cycle_check.proofs.Listing.{occurs_get}
-use Rattle.cycle_check.proofs.Regions.{row_within}
+use Rattle.cycle_check.proofs.Regions.{item_within}
 use Rattle.cycle_check.proofs.Stages.{order_few, head_inside, begun_stage, begun_notifying, waits, next_within, next_stage, next_notifying}
 use Rattle.cycle_check.proofs.notifying.notify_all.Goals as goal
 
@@ -48,18 +46,12 @@ loop-provider-init c =
 
 pub notify-requires-clause-inside : goal.notify-requires-clause-inside
 notify-requires-clause-inside c =
-    let xs = c.row-provider-items.result.now in
-    let i = c.loop-provider.provider-index in
-    let there = subst (λ v. occurs (get_or xs i 0) v ≡ true) c.row-provider-items.ensures (occurs_get xs i 0 c.loop-provider-test.true) in
-    let less = row_within c.args.starts.now c.args.items.now c.requires.rows (get_or xs i 0) c.index.result.now there in
+    let less = item_within c.args.starts.now c.args.items.now c.requires.rows c.row-provider-items.result.now c.index.result.now c.loop-provider.provider-index c.row-provider-items.ensures c.loop-provider-test.true in
     omega (arith, less, c.requires.counts, c.loop-provider.auto.counts)
 
 pub notify-requires-clause-ranked : goal.notify-requires-clause-ranked
 notify-requires-clause-ranked c =
-    let xs = c.row-provider-items.result.now in
-    let i = c.loop-provider.provider-index in
-    let there = subst (λ v. occurs (get_or xs i 0) v ≡ true) c.row-provider-items.ensures (occurs_get xs i 0 c.loop-provider-test.true) in
-    let less = row_within c.args.starts.now c.args.items.now c.requires.rows (get_or xs i 0) c.index.result.now there in
+    let less = item_within c.args.starts.now c.args.items.now c.requires.rows c.row-provider-items.result.now c.index.result.now c.loop-provider.provider-index c.row-provider-items.ensures c.loop-provider-test.true in
     omega (arith, less, c.requires.ranks, c.loop-provider.auto.ranks)
 
 pub notify-requires-clause-waits : goal.notify-requires-clause-waits
@@ -72,8 +64,7 @@ notify-requires-clause-waits c =
     let xs = c.row-provider-items.result.now in
     let i = c.loop-provider.provider-index in
     let done = take (c.args.head + 1) order in
-    let there = subst (λ v. occurs (get_or xs i 0) v ≡ true) c.row-provider-items.ensures (occurs_get xs i 0 c.loop-provider-test.true) in
-    let less = row_within c.args.starts.now c.args.items.now c.requires.rows (get_or xs i 0) c.index.result.now there in
+    let less = item_within c.args.starts.now c.args.items.now c.requires.rows xs c.index.result.now i c.row-provider-items.ensures c.loop-provider-test.true in
     let stage = subst (λ v. IsStage rows n counts ranks order done v) (drop_more xs i 0 c.loop-provider-test.true) c.loop-provider.invariant.stage in
     waits rows n counts ranks order done (get_or xs i 0) (drop (i + 1) xs) stage less
 
@@ -95,8 +86,7 @@ loop-provider-preserved c =
     let one_more = add-one (get_or c.args.ranks.now c.index.result.now 0) ∙ ap (λ x. suc (get_or c.args.ranks.now x 0)) is in
     let q = get_or xs i 0 in
     let rest = drop (i + 1) xs in
-    let there = subst (λ v. occurs q v ≡ true) c.row-provider-items.ensures (occurs_get xs i 0 c.loop-provider-test.true) in
-    let less = row_within c.args.starts.now c.args.items.now c.requires.rows q c.index.result.now there in
+    let less = item_within c.args.starts.now c.args.items.now c.requires.rows xs c.index.result.now i c.row-provider-items.ensures c.loop-provider-test.true in
     let split = drop_more xs i 0 c.loop-provider-test.true in
     let stage = subst (λ v. IsStage rows n counts ranks order done v) split c.loop-provider.invariant.stage in
     let notifying = subst (λ v. IsNotifying rows ranks done v b r) split c.loop-provider.invariant.notifying in

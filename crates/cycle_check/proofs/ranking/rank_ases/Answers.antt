@@ -47,29 +47,23 @@ returns-in-Ranks c =
       },
     )
 
+-- the cycle that was counted on the lists as they were lent is one of the lists
+cycle_of : (starts items lent-starts lent-items places : List ℕ) → lent-starts ≡ starts → lent-items ≡ items → IsCycleFromLowest (relation_at lent-starts lent-items) places → IsCycleFromLowest (relation_at starts items) places
+cycle_of starts items lent-starts lent-items places same-starts same-items found =
+    subst (λ xs. IsCycleFromLowest (relation_at starts xs) places) same-items (subst (λ xs. IsCycleFromLowest (relation_at xs lent-items) places) same-starts found)
+
 pub cycle_at-requires : goal.cycle_at-requires
 cycle_at-requires c =
-    let w = relation c.args.graph.now in
-    let ases = c.ases-ases.result.now in
-    let starts = c.in_ok-rows.rows.starts.items in
-    let items = c.in_ok-rows.rows.items.items in
-    let region = c.in_ok-rows.ensures in
+    let rows = c.in_ok-rows.rows in
     let places = c.in-Cycle.places.items in
-    let found : IsCycleFromLowest (relation_at c.deref.result.now c.deref-2.result.now) places = subst (IsCounted c.deref.result.now c.deref-2.result.now) c.in-Cycle.is c.in_ok-found.ensures in
-    let cycle : IsCycleFromLowest (relation_at starts items) places =
-    subst (λ xs. IsCycleFromLowest (relation_at starts xs) places) c.deref-2.ensures.value (subst (λ xs. IsCycleFromLowest (relation_at xs c.deref-2.result.now) places) c.deref.ensures.value found) in
-    subst (λ (xs : List ℕ). (k : ℕ) → k < length xs → get_or xs k 0 < length ases) (sym c.deref-in-Cycle.ensures.value) (cycle_inside w ases starts items region.rows region.providers places cycle.cycle)
+    let cycle = cycle_of rows.starts.items rows.items.items c.deref.result.now c.deref-2.result.now places c.deref.ensures.value c.deref-2.ensures.value (subst (IsCounted c.deref.result.now c.deref-2.result.now) c.in-Cycle.is c.in_ok-found.ensures) in
+    let inside = cycle_inside (relation c.args.graph.now) c.ases-ases.result.now rows.starts.items rows.items.items c.in_ok-rows.ensures.rows c.in_ok-rows.ensures.providers places cycle.cycle in
+    subst (λ (xs : List ℕ). (k : ℕ) → k < length xs → get_or xs k 0 < length c.ases-ases.result.now) (sym c.deref-in-Cycle.ensures.value) inside
 
 pub returns : goal.returns
 returns c =
-    let w = relation c.args.graph.now in
-    let ases = c.ases-ases.result.now in
-    let starts = c.in_ok-rows.rows.starts.items in
-    let items = c.in_ok-rows.rows.items.items in
-    let region = c.in_ok-rows.ensures in
+    let rows = c.in_ok-rows.rows in
     let places = c.in-Cycle.places.items in
-    let found : IsCycleFromLowest (relation_at c.deref.result.now c.deref-2.result.now) places = subst (IsCounted c.deref.result.now c.deref-2.result.now) c.in-Cycle.is c.in_ok-found.ensures in
-    let cycle : IsCycleFromLowest (relation_at starts items) places =
-    subst (λ xs. IsCycleFromLowest (relation_at starts xs) places) c.deref-2.ensures.value (subst (λ xs. IsCycleFromLowest (relation_at xs c.deref-2.result.now) places) c.deref.ensures.value found) in
-    let are = c.in_ok-cycle_at-in-Cycle.ensures ∙ ap (map (λ (p : ℕ). get_or ases p 0)) c.deref-in-Cycle.ensures.value in
-    subst (IsCycleFromLowest w) (sym are) (carried_lowest w ases starts items region.rows region.providers places cycle)
+    let cycle = cycle_of rows.starts.items rows.items.items c.deref.result.now c.deref-2.result.now places c.deref.ensures.value c.deref-2.ensures.value (subst (IsCounted c.deref.result.now c.deref-2.result.now) c.in-Cycle.is c.in_ok-found.ensures) in
+    let are = c.in_ok-cycle_at-in-Cycle.ensures ∙ ap (map (λ (p : ℕ). get_or c.ases-ases.result.now p 0)) c.deref-in-Cycle.ensures.value in
+    subst (IsCycleFromLowest (relation c.args.graph.now)) (sym are) (carried_lowest (relation c.args.graph.now) c.ases-ases.result.now rows.starts.items rows.items.items c.in_ok-rows.ensures.rows c.in_ok-rows.ensures.providers places cycle)
