@@ -170,8 +170,8 @@ pub fn put_routes(
 {
     let kept = out.len();
     let ases = graph.ases();
-    for asn in ases {
-        if append_row(out, pool, *asn, table.get(*asn)).is_err() {
+    for (place, asn) in ases.iter().enumerate() {
+        if append_row(out, pool, *asn, table.get_near(*asn, place)).is_err() {
             out.truncate(kept);
             return Err(NoMemory);
         }
