@@ -14,22 +14,9 @@ use Rattle.net_names.specs.Addresses.{width}
 use Rattle.net_names.specs.Prefixes.{PrefixValue, IsPrefix, prefix_at}
 use Rattle.net_names.specs.Texts.{addr_text, prefix_of, prefix_text}
 use Rattle.net_names.proofs.AddressTexts.{text_v4, v4_text}
-use Rattle.net_names.proofs.TextLaws.{numeral_again, plain_is}
+use Rattle.net_names.proofs.TextLaws.{numeral_again, plain_is, same_bytes}
 use Rattle.net_names.proofs.Again.{prefix_again}
 use Rattle.roa_table.proofs.CsvRecords.{some_is}
-
-pub more : (n i d : ℕ) → n < 10 ^ i → d < 10 → n * 10 + d < 10 ^ (i + 1)
-more n i d small lt =
-    let b : 10 ^ (i + 1) ≡ 10 ^ i * 10 = rw add-one (pow-suc 10 i) in
-    omega (arith, small, b, lt)
-
-same_bytes : (a b : List ℕ) → bytes_eq a b ≡ true → a ≡ b
-same_bytes [] [] e = refl
-same_bytes [] (y ∷ ys) e = absurd cc
-same_bytes (x ∷ xs) [] e = absurd cc
-same_bytes (x ∷ xs) (y ∷ ys) e =
-    let p = and_parts (nat_eq x y) (bytes_eq xs ys) e in
-    λ i. eqb-true x y p.0 i ∷ same_bytes xs ys p.1 i
 
 -- digits without a needless zero in front are what is printed of their number
 pub printed_number : (digits : List ℕ) (n : ℕ) → 0 < length digits → length digits ≤ 3 → list_all (λ c. is_digit c 10) digits ≡ true → digits_value 10 digits ≡ n → (nat_lt 1 (length digits) && (get_or digits 0 0 == 48)) ≡ false → digits ≡ decimal n

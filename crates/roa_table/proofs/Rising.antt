@@ -12,6 +12,8 @@ use Rattle.std.proofs.lemmas.Map.Lookups.{CmpEqualImpliesEq}
 use Rattle.std.proofs.lemmas.List.Folds.{list_any-append}
 use Rattle.std.specs.FinMap as fin
 use Rattle.roa_table.specs.Lists.{is_rising}
+use Rattle.net_names.proofs.Marks.{marks, keys_of_marks}
+use Rattle.net_names.proofs.Rising.{mono}
 use Rattle.net_names.proofs.Shortening.{both, both_true}
 use Rattle.roa_table.proofs.Booleans.{list_all_mono, list_all_append, list_all_left, all_take, all_drop, or_left, or_right}
 
@@ -24,18 +26,6 @@ pub equal : (r : Ordering) → is_eq r ≡ true → r ≡ Equal
 equal Less e = cc e
 equal Equal e = refl
 equal Greater e = cc e
-
-index_high : (r : Ordering) → ordering_index r ≤ 2
-index_high Less = omega arith
-index_high Equal = omega arith
-index_high Greater = omega arith
-
-abbrev pub marks : {K : Type 0} → List K → List (K × Unit {0})
-marks = map (λ k. (k, tt))
-
-pub keys_of_marks : {K : Type 0} (xs : List K) → map (λ (e : K × Unit {0}). e.0) (marks xs) ≡ xs
-keys_of_marks [] = refl
-keys_of_marks (x ∷ xs) = ap (λ l. x ∷ l) (keys_of_marks xs)
 
 marks_of_keys : {K : Type 0} (es : List (K × Unit {0})) → marks (map (λ (e : K × Unit {0}). e.0) es) ≡ es
 marks_of_keys [] = refl
@@ -169,18 +159,10 @@ module _ {K : Type 0} {R : K → K → Ordering} (o : IsTotalOrder R) (exact : C
   rising_at (x ∷ xs) h zero (suc j) d lt inside = ap is_lt (below_at x xs j d (both _ _ h).left (omega (arith, inside)))
   rising_at (x ∷ xs) h (suc i) (suc j) d lt inside = rising_at xs (both _ _ h).right i j d (omega (arith, lt)) (omega (arith, inside))
 
-  mono : (x y k : K) → R x y ≡ Less → ordering_index (R x k) ≤ ordering_index (R y k)
-  mono x y k e =
-      elim (R y k) as (λ r. R y k ≡ r → ordering_index (R x k) ≤ ordering_index r) [
-        | Less ↦ λ f. subst (λ r. ordering_index r ≤ 0) (sym (o.trans x y k e f)) (omega arith)
-        | Equal ↦ λ f. subst (λ r. ordering_index r ≤ 1) (sym (ap (R x) (sym (exact y k f)) ∙ e)) (omega arith)
-        | Greater ↦ λ f. index_high (R x k)
-      ] refl
-
   rises : (k : K) (xs : List K) → is_rising R xs ≡ true → IsNonDecreasingBy (λ y. ordering_index (R y k)) xs
   rises k [] h i j d le lt = absurd (omega (arith, lt))
   rises k (x ∷ xs) h zero zero d le lt = omega arith
-  rises k (x ∷ xs) h zero (suc j) d le lt = mono x (get_or xs j d) k (below_at x xs j d (both _ _ h).left (omega (arith, lt)))
+  rises k (x ∷ xs) h zero (suc j) d le lt = mono R o exact x (get_or xs j d) k (below_at x xs j d (both _ _ h).left (omega (arith, lt)))
   rises k (x ∷ xs) h (suc i) zero d le lt = absurd (omega (arith, le))
   rises k (x ∷ xs) h (suc i) (suc j) d le lt = rises k xs (both _ _ h).right i j d (omega (arith, le)) (omega (arith, lt))
 

@@ -1,41 +1,9 @@
 //! IPv4 prefixes that stand as they are printed.
-ghost use Rattle.std.specs.Prelude.{◌≡◌, ◌<◌, ◌≤◌, ◌^◌, ◌++◌, ◌==◌, ◌&&◌, nat_lt, get_or, true, length, take, decimal, Some, IfSome};
-ghost use Rattle.std.specs.Char.{is_digit};
-ghost use Rattle.std.specs.List.{list_all};
-ghost use Rattle.std.specs.Str.Parse.{digits_value};
+ghost use Rattle.std.specs.Prelude.{◌≡◌, ◌≤◌, ◌++◌, ◌==◌, ◌&&◌, nat_lt, get_or, length, decimal, Some, IfSome};
 ghost use Rattle.net_names.specs.Texts.{prefix_of};
 
 use crate::plain::behind;
-use net_names::{Family, Prefix, read_prefix};
-
-/// Digits at the head of a text.
-#[derive(Clone, Copy, Debug, PartialEq, Eq)]
-struct Digits {
-    /// The number that they write.
-    value: u64,
-    /// How many they are, at most three.
-    len: usize,
-}
-
-/// The digits at the head of a text, at most three, found and read by one pass.
-fn read_digits(text: &[u8]) -> Digits
-    ensures value { result.value ≡ digits_value 10 (take result.len text.now) }
-    ensures digits { list_all (λ c. is_digit c 10) (take result.len text.now) ≡ true }
-    ensures within { result.len ≤ length text.now }
-    ensures short { result.len ≤ 3 }
-    ensures small { result.value < 10 ^ result.len }
-{
-    let mut len = 0usize;
-    let mut value = 0u64;
-    while len < text.len() && len < 3 {
-        let Some(digit) = (text[len] as char).to_digit(10) else {
-            return Digits { value, len };
-        };
-        value = value * 10 + digit as u64;
-        len += 1;
-    }
-    Digits { value, len }
-}
+use net_names::{Family, Prefix, read_digits, read_prefix};
 
 /// Whether digits have a zero in front that no number needs.
 fn leads(digits: &[u8]) -> bool
@@ -49,7 +17,7 @@ fn read_plain(text: &[u8], limit: u64) -> Option<(u64, &[u8])>
     ensures whole { IfSome result (λ p. text.now ≡ decimal p.0 ++ p.1.now) }
     ensures limit { IfSome result (λ p. p.0 ≤ limit) }
 {
-    let run = read_digits(text);
+    let run = read_digits(text, 3);
     if run.len == 0 || run.value > limit {
         return None;
     }
