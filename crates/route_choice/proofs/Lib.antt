@@ -8,3 +8,4 @@ pub mod Room
 pub mod RoundLemmas
 pub mod RowLemmas
 pub mod Counted
+pub mod Leads

@@ -168,7 +168,13 @@ fn made(pool: &mut PathPool, asn: Asn, wanted: Wanted) -> Option<Held>
 
 // Puts the wanted entry in place, and gives back the hold of a change that was there.
 #[inline(always)]
-fn replace(pool: &mut PathPool, overlay: &mut Overlay, asn: Asn, place: usize, wanted: Wanted)
+pub(crate) fn replace(
+    pool: &mut PathPool,
+    overlay: &mut Overlay,
+    asn: Asn,
+    place: usize,
+    wanted: Wanted,
+)
     requires live { IsWantedLive pool.old wanted }
     requires spare { 0 < spare_of pool.old }
     requires counts { (k : ℕ) → count_of pool.old k < 4294967295 }
