@@ -1,6 +1,7 @@
 -- What steps need and what they leave: holds, cells, counts and room.
 use Rattle.std.specs.Prelude.{◌≡◌, ◌≢◌, ◌⊎◌, ℕ, ◌+◌, ◌≤◌, Option, None, Some, IsSome}
 use Rattle.path_pool.specs.declared.pool.PathPool.{PathPool}
+use Rattle.path_pool.specs.declared.pool.TheConstants.{MOST_COUNT}
 use Rattle.path_pool.specs.Pool.{IsLive, list_of, holds_of, count_of, live_count, spare_of, limit_of}
 use Rattle.stability_laws.specs.declared.entry.Entry.{Entry}
 use Rattle.route_choice.specs.declared.held.Held.{Held}
@@ -35,7 +36,7 @@ pub record CanChange (pool : PathPool) (seeds : SeedIds) (table : Table) (overla
   pub held : AreHeld pool table overlay
   pub seeds_live : AreSeedsLive pool seeds
   pub spare : n ≤ spare_of pool
-  pub counts : (k : ℕ) → count_of pool k + n ≤ 4294967295
+  pub counts : (k : ℕ) → count_of pool k + n ≤ MOST_COUNT
 
 -- n more steps can be made: the pool allows n more changes, and the overlay has room for n more ASes.
 pub record CanStep (pool : PathPool) (seeds : SeedIds) (table : Table) (overlay : Overlay) (n : ℕ) : Type 0 where

@@ -3,6 +3,7 @@
 ghost use Rattle.std.specs.Prelude.{◌≡◌, ◌≢◌, ◌↔◌, ℕ, ◌<◌, ◌≤◌, IsTrue, IsSome, IsSomeAnd, Some, None, false, option_map, suc, unwrap_or, ◌∷◌};
 ghost use Rattle.route_choice.specs.declared.held.Held.{Held as AHeld};
 ghost use Rattle.path_pool.specs.declared.pool.PathPool.{PathPool as APool};
+ghost use Rattle.path_pool.specs.declared.pool.TheConstants.{MOST_COUNT};
 ghost use Rattle.path_pool.specs.Pool.{IsLive, list_of, holds_of, count_of, live_count, spare_of};
 ghost use Rattle.route_choice.specs.declared.overlay.Overlay.{Overlay as AnOverlay};
 ghost use Rattle.route_choice.specs.Choices.{IsChosenGiven};
@@ -147,7 +148,7 @@ fn is_held(pool: &PathPool, asn: Asn, have: &Option<Held>, wanted: &Wanted) -> b
 fn made(pool: &mut PathPool, asn: Asn, wanted: Wanted) -> Option<Held>
     requires live { IsWantedLive pool.old wanted }
     requires spare { 0 < spare_of pool.old }
-    requires counts { (k : ℕ) → count_of pool.old k < 4294967295 }
+    requires counts { (k : ℕ) → count_of pool.old k < MOST_COUNT }
     ensures entry { option_map (entry_of pool.new) result ≡ wanted_entry pool.old asn wanted }
     ensures takes { Takes pool.old pool.new result }
     ensures live { live_count pool.old < live_count pool.new → IsLonger wanted }
@@ -177,7 +178,7 @@ pub(crate) fn replace(
 )
     requires live { IsWantedLive pool.old wanted }
     requires spare { 0 < spare_of pool.old }
-    requires counts { (k : ℕ) → count_of pool.old k < 4294967295 }
+    requires counts { (k : ℕ) → count_of pool.old k < MOST_COUNT }
     requires held { (k : ℕ) → overlay_uses overlay.old k ≤ holds_of pool.old k }
     requires room { HasPlace overlay.old asn }
     ensures put { IsSomeAnd (change_at overlay.new asn) (λ e. option_map (entry_of pool.new) e
