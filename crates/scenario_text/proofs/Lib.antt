@@ -1,6 +1,8 @@
 pub mod Walking
 pub mod Commands
 pub mod Faulty
+pub mod JsonData
+pub mod Tokens
 pub mod Shaping
 pub mod Repeats
 pub mod Sound

@@ -92,3 +92,19 @@ pub ends : {A B E : Type 0} (f : ℕ → A → Result B E) (xs : List A) (front 
 unfolding each_from
 ends {B = B} f xs front i whole le so_far =
     let one : going f xs front i ≡ Ok front = rw (drop_of_length-le xs {i = i} le) (ap (λ (zs : List B). Ok zs) (append-nil front)) in sym so_far ∙ one
+
+-- one more item is read, the item fails, or none is left
+pub next_read : {A B E : Type 0} (f : ℕ → A → Result B E) (front : List B) (x : A) (xs : List A) (y : B) → f (length front) x ≡ Ok y
+    → with_front front (each_from f (length front) (x ∷ xs)) ≡ with_front (front ++ y ∷ []) (each_from f (length (front ++ y ∷ [])) xs)
+unfolding each_from
+next_read f front x xs y e =
+    let longer : length (front ++ y ∷ []) ≡ suc (length front) = omega (arith, length-append front (y ∷ [])) in
+    rw (e, longer) (with_front-cons front y (each_from f (suc (length front)) xs))
+
+pub next_fails : {A B E : Type 0} (f : ℕ → A → Result B E) (front : List B) (x : A) (xs : List A) (e : E) → f (length front) x ≡ Err e → with_front front (each_from f (length front) (x ∷ xs)) ≡ Err e
+unfolding each_from
+next_fails f front x xs e h = rw h refl
+
+pub none_left : {A B E : Type 0} (f : ℕ → A → Result B E) (front : List B) → with_front front (each_from f (length front) []) ≡ Ok front
+unfolding each_from
+none_left {B = B} f front = ap (λ (zs : List B). Ok zs) (append-nil front)

@@ -8,6 +8,7 @@ pub mod Faults
 pub mod Scenarios
 pub mod Members
 pub mod Documents
+pub mod Tokens
 pub mod Shapes
 pub mod Values
 pub mod Twice

@@ -1,15 +1,15 @@
 //! The first pass over a document: the types of its values, and the members of its objects.
 ghost use Rattle.std.specs.Prelude.{◌≡◌, ◌∷◌, []};
-ghost use Rattle.serde_json.specs.View.{view};
 ghost use Rattle.scenario_text.specs.Faults.{Gives, GivesBy};
 ghost use Rattle.scenario_text.specs.Members.{needed};
+ghost use Rattle.scenario_text.specs.Tokens.{data_at};
 ghost use Rattle.scenario_text.specs.Shapes.{text_at, number_at, list_at, optional_or, announcement_at, policy_at, document_of};
 
 use crate::documents::{AnnouncementText, Document, Numbers, PolicyText, Text};
 use crate::faults::ScenarioError;
+use crate::json_values::JsonValue;
 use crate::places::{Member, PartOf, Place};
 use crate::shapes::{Shape, list, number, object, text};
-use serde_json::Value;
 use std::alloc::Global;
 
 struct NumberShape;
@@ -19,42 +19,55 @@ impl Shape for NumberShape {
 
     ghost reads = { number_at };
 
-    fn shape(_alloc: Global, place: Place, value: &Value) -> Result<u64, ScenarioError> {
+    fn shape(
+        _alloc: Global,
+        place: Place,
+        value: &JsonValue<'_, '_>,
+    ) -> Result<u64, ScenarioError> {
         number(place, value)
     }
 }
 
-fn numbers(alloc: Global, place: Place, value: &Value) -> Result<Numbers, ScenarioError>
-    ensures { Gives result (list_at number_at place (view value.now)) }
+fn numbers(alloc: Global, place: Place, value: &JsonValue<'_, '_>) -> Result<Numbers, ScenarioError>
+    ensures { Gives result (list_at number_at place (data_at value.now.element)) }
 {
     let numbers = list::<NumberShape>(alloc, place, value)?;
     Ok(Numbers { numbers })
 }
 
-fn needed_text(alloc: Global, place: Place, value: &Value) -> Result<Text, ScenarioError>
-    ensures { Gives result (needed text_at place (view value.now)) }
+fn needed_text(
+    alloc: Global,
+    place: Place,
+    value: &JsonValue<'_, '_>,
+) -> Result<Text, ScenarioError>
+    ensures { Gives result (needed text_at place (data_at value.now.element)) }
 {
     match value.get(place.name()) {
-        Some(value) => text(alloc, place, value),
+        Some(value) => text(alloc, place, &value),
         None => Err(ScenarioError::Shape { place }),
     }
 }
 
-fn needed_number(place: Place, value: &Value) -> Result<u64, ScenarioError>
-    ensures { Gives result (needed number_at place (view value.now)) }
+fn needed_number(place: Place, value: &JsonValue<'_, '_>) -> Result<u64, ScenarioError>
+    ensures { Gives result (needed number_at place (data_at value.now.element)) }
 {
     match value.get(place.name()) {
-        Some(value) => number(place, value),
+        Some(value) => number(place, &value),
         None => Err(ScenarioError::Shape { place }),
     }
 }
 
 // The path, or the list of this number alone where there is none.
-fn path(alloc: Global, place: Place, asn: u64, value: &Value) -> Result<Numbers, ScenarioError>
-    ensures { Gives result (optional_or (asn ∷ []) (list_at number_at) place (view value.now)) }
+fn path(
+    alloc: Global,
+    place: Place,
+    asn: u64,
+    value: &JsonValue<'_, '_>,
+) -> Result<Numbers, ScenarioError>
+    ensures { Gives result (optional_or (asn ∷ []) (list_at number_at) place (data_at value.now.element)) }
 {
     match value.get(place.name()) {
-        Some(value) => numbers(alloc, place, value),
+        Some(value) => numbers(alloc, place, &value),
         None => {
             let mut numbers = Vec::new(alloc);
             numbers.push(asn)?;
@@ -74,7 +87,7 @@ impl Shape for AnnouncementShape {
     fn shape(
         alloc: Global,
         place: Place,
-        value: &Value,
+        value: &JsonValue<'_, '_>,
     ) -> Result<AnnouncementText, ScenarioError> {
         object(&["prefix", "as", "path"], place, value)?;
         let prefix = needed_text(alloc, place.part(PartOf::Prefix), value)?;
@@ -96,7 +109,11 @@ impl Shape for PolicyShape {
     ghost reads = { policy_at };
 
     #[tactic(auto, unfolding(crate::specs::Shapes::policy_at))]
-    fn shape(alloc: Global, place: Place, value: &Value) -> Result<PolicyText, ScenarioError> {
+    fn shape(
+        alloc: Global,
+        place: Place,
+        value: &JsonValue<'_, '_>,
+    ) -> Result<PolicyText, ScenarioError> {
         object(&["as", "policy"], place, value)?;
         let number = needed_number(place.part(PartOf::Number), value)?;
         let policy = needed_text(alloc, place.part(PartOf::Policy), value)?;
@@ -111,7 +128,11 @@ impl Shape for LeakersShape {
 
     ghost reads = { list_at number_at };
 
-    fn shape(alloc: Global, place: Place, value: &Value) -> Result<Numbers, ScenarioError> {
+    fn shape(
+        alloc: Global,
+        place: Place,
+        value: &JsonValue<'_, '_>,
+    ) -> Result<Numbers, ScenarioError> {
         numbers(alloc, place, value)
     }
 }
@@ -123,7 +144,11 @@ impl Shape for WatchedShape {
 
     ghost reads = { text_at };
 
-    fn shape(alloc: Global, place: Place, value: &Value) -> Result<Text, ScenarioError> {
+    fn shape(
+        alloc: Global,
+        place: Place,
+        value: &JsonValue<'_, '_>,
+    ) -> Result<Text, ScenarioError> {
         text(alloc, place, value)
     }
 }
@@ -131,12 +156,12 @@ impl Shape for WatchedShape {
 fn needed_list<S: Shape>(
     alloc: Global,
     place: Place,
-    value: &Value,
+    value: &JsonValue<'_, '_>,
 ) -> Result<Vec<S::To>, ScenarioError>
-    ensures { GivesBy (λ v. v.items) result (needed (list_at S.reads) place (view value.now)) }
+    ensures { GivesBy (λ v. v.items) result (needed (list_at S.reads) place (data_at value.now.element)) }
 {
     match value.get(place.name()) {
-        Some(value) => list::<S>(alloc, place, value),
+        Some(value) => list::<S>(alloc, place, &value),
         None => Err(ScenarioError::Shape { place }),
     }
 }
@@ -144,20 +169,20 @@ fn needed_list<S: Shape>(
 fn optional_list<S: Shape>(
     alloc: Global,
     place: Place,
-    value: &Value,
+    value: &JsonValue<'_, '_>,
 ) -> Result<Vec<S::To>, ScenarioError>
-    ensures { GivesBy (λ v. v.items) result (optional_or [] (list_at S.reads) place (view value.now)) }
+    ensures { GivesBy (λ v. v.items) result (optional_or [] (list_at S.reads) place (data_at value.now.element)) }
 {
     match value.get(place.name()) {
-        Some(value) => list::<S>(alloc, place, value),
+        Some(value) => list::<S>(alloc, place, &value),
         None => Ok(Vec::new(alloc)),
     }
 }
 
 /// The document with each value of its type, or the first place at which one isn't.
 #[tactic(auto, unfolding(crate::specs::Shapes::document_of))]
-pub(crate) fn document(alloc: Global, value: &Value) -> Result<Document, ScenarioError>
-    ensures { Gives result (document_of (view value.now)) }
+pub(crate) fn document(alloc: Global, value: &JsonValue<'_, '_>) -> Result<Document, ScenarioError>
+    ensures { Gives result (document_of (data_at value.now.element)) }
 {
     object(
         &["announcements", "policies", "leaks", "watch"],

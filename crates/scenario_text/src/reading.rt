@@ -1,41 +1,39 @@
 //! Reading a scenario.
-ghost use Rattle.std.specs.Prelude.{◌≡◌, ◌≤◌, length, ok_or};
-ghost use Rattle.serde_json.specs.View.{view};
-ghost use Rattle.scenario_text.specs.declared.faults.ScenarioError.TheVariants.{NotJson};
-ghost use Rattle.scenario_text.specs.Faults.{Gives, GivesBy};
-ghost use Rattle.scenario_text.specs.Members.{lists_in};
-ghost use Rattle.scenario_text.specs.Readings.{json_of, scenario_of_bytes};
+ghost use Rattle.std.specs.Prelude.{◌≤◌, length};
+ghost use Rattle.scenario_text.specs.Faults.{Gives};
+ghost use Rattle.scenario_text.specs.Readings.{document_in, lists_of_bytes, scenario_of_bytes};
 
 use crate::document_shapes::document;
+use crate::documents::Document;
 use crate::faults::ScenarioError;
+use crate::json_values::JsonValue;
 use crate::limits::test_limits;
 use crate::lists::Lists;
 use crate::scenario::Scenario;
+use crate::tapes::tape;
 use crate::twice::test_once;
 use crate::values::lists;
-use serde_json::Value;
+use json::Scratch;
 use std::alloc::Global;
 
-fn json(alloc: Global, bytes: &[u8]) -> Result<Value, ScenarioError>
-    ensures { GivesBy view result (ok_or (json_of bytes.now) NotJson) }
+fn document_in(alloc: Global, text: &str) -> Result<Document, ScenarioError>
+    ensures { Gives result (document_in text.now) }
 {
-    match Value::from_slice(alloc, bytes) {
-        Ok(value) => Ok(value),
-        Err(e) => {
-            if e.is_memory() {
-                Err(ScenarioError::Memory)
-            } else {
-                Err(ScenarioError::NotJson)
-            }
-        }
-    }
+    let mut scratch = Scratch::new(alloc);
+    let tape = tape(alloc, text, &mut scratch)?;
+    document(alloc, &JsonValue::of(tape.root()))
 }
 
-fn said(alloc: Global, value: &Value) -> Result<Lists, ScenarioError>
-    ensures { Gives result (lists_in (view value.now)) }
+fn said(alloc: Global, bytes: &[u8]) -> Result<Lists, ScenarioError>
+    ensures { Gives result (lists_of_bytes bytes.now) }
 {
-    let document = document(alloc, value)?;
-    lists(alloc, &document)
+    match simdutf8::basic::from_utf8(bytes) {
+        Ok(text) => {
+            let document = document_in(alloc, text)?;
+            lists(alloc, &document)
+        }
+        Err(_) => Err(ScenarioError::NotJson),
+    }
 }
 
 /// The scenario that a text of at most 16,777,216 bytes says. The text is a JSON object (RFC 8259): `announcements` is a
@@ -52,8 +50,7 @@ pub fn read_scenario(alloc: Global, bytes: &[u8]) -> Result<Scenario, ScenarioEr
     requires { length bytes.now ≤ 16777216 }
     ensures { Gives result (scenario_of_bytes bytes.now) }
 {
-    let value = json(alloc, bytes)?;
-    let lists = said(alloc, &value)?;
+    let lists = said(alloc, bytes)?;
     test_once(alloc, &lists)?;
     test_limits(alloc, &lists)?;
     Ok(Scenario::from_lists(lists))
