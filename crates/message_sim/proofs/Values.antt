@@ -1,5 +1,5 @@
 -- The rows of a net as finite maps.
-use Rattle.std.proofs.Common.{◌≡◌, ℕ, Bool, true, false, ◌&&◌, cond, nat_eq, true≢false, Some, None, List, [], ◌∷◌, length, refl, sym, ◌∙◌, ap, arith}
+use Rattle.std.proofs.Common.{◌≡◌, ℕ, Bool, true, false, ◌&&◌, cond, nat_eq, true≢false, Some, None, List, [], ◌∷◌, length, refl, sym, ◌∙◌, ap, subst, arith}
 use Rattle.std.specs.Ordering.{nat_cmp}
 use Rattle.std.specs.Cmp.{nat_cmp_total, unsigned_tied}
 use Rattle.std.specs.List.{AllByRecursion, IsDistinct}
@@ -9,7 +9,8 @@ use Rattle.std.proofs.lemmas.Bool.{eqb-true}
 use Rattle.net_names.specs.Links.{pair_cmp}
 use Rattle.net_names.proofs.Pairs.{pairs_total}
 use Rattle.as_graph.proofs.RowLinks.{pair_tied}
-use Rattle.message_sim.specs.Nets.{NetWorld, net_of, value_of, chosen, received_on, queue_on, waiting_in}
+use Rattle.message_sim.specs.Messages.{MessageNet}
+use Rattle.message_sim.specs.Nets.{NetWorld, NetValue, net_of, value_of, chosen, received_on, queue_on, waiting_in}
 use Rattle.message_sim.specs.Rows.{ChoiceRows, LineRows, link_eq, queue_at}
 use Rattle.message_sim.specs.Kept.{net_in}
 use Rattle.message_sim.proofs.Lines.{link_refl}
@@ -35,6 +36,11 @@ net_is world choices lines = λ i. record {
   received = λ n a. received_on (line_got lines (n, a) i);
   queue = λ n a. queue_on (line_got lines (n, a) i);
 }
+
+-- what holds of the net of the rows holds of the net that contracts see
+pub seen_as : {P V : Type 0} (world : NetWorld P V) (choices : ChoiceRows) (lines : LineRows) (v : NetValue P V) → value_of world choices lines ≡ v
+    → (H : NetWorld P V → MessageNet → Type 0) → H world (net_in choices lines) → H v.world (net_of v)
+seen_as {P} {V} world choices lines v view H here = subst (λ (n : NetValue P V). H n.world (net_of n)) view (subst (H world) (sym (net_is world choices lines)) here)
 
 pub absent : (es : LineRows) (q : ℕ × ℕ) → AllByRecursion (λ y. link_eq q y ≡ false) (keys_of es) → lookup (link_eq q) es ≡ None
 absent [] q h = refl

@@ -7,8 +7,13 @@ use Rattle.stability_laws.specs.Offers.{Offer, Setting}
 use Rattle.stability_laws.specs.World.{setting}
 use Rattle.message_sim.specs.Best.{offers_after, offers_now}
 use Rattle.message_sim.specs.declared.arrival.Arrival.{Arrival}
+use Rattle.message_sim.specs.declared.ground.Ground.{Ground}
 
--- what stability reads of the world of the net
+-- what stability reads of the world of a net
+abbrev pub ground_setting : {P V : Type 0} → (P → Policy) → (V → PrefixValue → ℕ → State) → Ground P V → Setting
+ground_setting meaning state_of x = setting meaning x.graph.now x.book.now (state_of x.states.now x.prefix)
+
+-- the same of an arrival in it
 abbrev pub setting_of : {P V : Type 0} → (P → Policy) → (V → PrefixValue → ℕ → State) → Arrival P V → Setting
 setting_of meaning state_of x = setting meaning x.graph.now x.book.now (state_of x.states.now x.prefix)
 

@@ -8,6 +8,7 @@
 mod arrival;
 mod choosing;
 mod forms;
+mod ground;
 mod held;
 mod laws;
 mod line;

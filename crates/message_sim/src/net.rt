@@ -10,6 +10,7 @@ ghost use Rattle.message_sim.specs.Nets.{net_of, net_setting, seeds_in, queued_i
 ghost use Rattle.message_sim.specs.Starts.{HasShortSeeds};
 ghost use Rattle.message_sim.specs.Turns.{AreTurns, first_foreign_in, is_foreign, turns_of};
 
+use crate::ground::Ground;
 use crate::starting::{count, first_choices, first_lines, no_bests, waiting_links};
 use crate::steps::{Step, Steps};
 use crate::tables::{Tables, are_none_waiting, choice_in, deliver_in, lowest, under_way};
@@ -108,17 +109,14 @@ impl<'a, P: RoutePolicy, V: OriginStates> Net<'a, P, V> {
             (seeds_in self.old.world) self.old from to self.new) }
         ensures err { OnErr result (self.new ≡ self.old) }
     {
-        deliver_in(
-            alloc,
-            self.graph,
-            self.book,
-            self.states,
-            self.prefix,
-            self.seeds,
-            &mut self.tables,
-            from,
-            to,
-        )
+        let ground = Ground {
+            graph: self.graph,
+            book: self.book,
+            states: self.states,
+            prefix: self.prefix,
+            seeds: self.seeds,
+        };
+        deliver_in(alloc, &ground, &mut self.tables, from, to)
     }
 
     /// Whether no message is under way. Then what the ASes hold is the one stable routing of the seeds.

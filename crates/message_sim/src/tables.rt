@@ -7,8 +7,8 @@ ghost use Rattle.std.specs.BTreeSet.{contains};
 ghost use Rattle.net_names.specs.Links.{pair_cmp};
 ghost use Rattle.net_names.specs.Numbers.{IsDistinct};
 ghost use Rattle.as_graph.specs.Topology.{relation};
-ghost use Rattle.stability_laws.specs.World.{setting};
 ghost use Rattle.stability_laws.specs.Book.{policy_at};
+ghost use Rattle.message_sim.specs.Arrivals.{ground_setting};
 ghost use Rattle.message_sim.specs.Rows.{AreWithin, choice_at, best_at, queue_at, link_eq};
 ghost use Rattle.message_sim.specs.Kept.{IsKept, IsChange, AreNewsAt, IsTurnIn, IsSameNet, IsPutChange, IsMoved, IsLowest, lower_of, waiting_link, held_after};
 ghost use Rattle.message_sim.specs.Nets.{waiting_in};
@@ -16,6 +16,7 @@ ghost use Rattle.message_sim.specs.News.{news_count};
 
 use crate::arrival::Arrival;
 use crate::choosing::{Choice, choose};
+use crate::ground::Ground;
 use crate::held::{Held, same_held};
 use crate::line::Line;
 use crate::news::{News, news_of};
@@ -23,9 +24,9 @@ use crate::starting::MOST_MESSAGES;
 use crate::writes::{is_waiting, note, oldest, put_best, put_choice, send_all, take};
 use as_graph::Graph;
 use indexmap::IndexMap;
-use net_names::{Asn, NoMemory, Prefix, Rel};
+use net_names::{Asn, NoMemory, Rel};
 use policy_laws::{OriginStates, RoutePolicy, View};
-use stability_laws::{Book, Entry, Seeds};
+use stability_laws::{Book, Entry};
 use std::alloc::Global;
 use std::collections::BTreeSet;
 
@@ -115,25 +116,21 @@ fn change_to<P: RoutePolicy>(
 /// What the message changes at its receiver.
 fn change_by<P: RoutePolicy, V: OriginStates>(
     alloc: Global,
-    graph: &Graph,
-    book: &Book<P>,
-    states: &V,
-    prefix: Prefix,
-    seeds: &Seeds,
+    ground: &Ground<'_, P, V>,
     tables: &Tables,
     from: Asn,
     to: Asn,
     rel: Rel,
     message: &Option<Held>,
 ) -> Result<Change, NoMemory>
-    requires linked { relation graph.now to from ≡ Some rel }
-    requires kept { IsKept (setting P.meaning graph.now book.now (V.state_of states.now prefix))
-        (map.get seeds.now) tables.now }
-    ensures { IfOk result (λ c. IsChange (setting P.meaning graph.now book.now (V.state_of states.now prefix))
-        (map.get seeds.now) tables.now.choices.entries tables.now.bests.entries tables.now.lines.entries from to
-        message.now c.choice c.news.items) }
+    requires linked { relation ground.now.graph.now to from ≡ Some rel }
+    requires kept { IsKept (ground_setting P.meaning V.state_of ground.now)
+        (map.get ground.now.seeds.now) tables.now }
+    ensures { IfOk result (λ c. IsChange (ground_setting P.meaning V.state_of ground.now)
+        (map.get ground.now.seeds.now) tables.now.choices.entries tables.now.bests.entries
+        tables.now.lines.entries from to message.now c.choice c.news.items) }
 {
-    match seeds.get(to) {
+    match ground.seeds.get(to) {
         Some(_) => Ok(Change {
             choice: None,
             news: Vec::new(alloc),
@@ -141,17 +138,24 @@ fn change_by<P: RoutePolicy, V: OriginStates>(
         None => {
             let best = best_of(&tables.bests, to);
             let arrival = Arrival {
-                graph,
-                book,
-                states,
-                prefix,
+                graph: ground.graph,
+                book: ground.book,
+                states: ground.states,
+                prefix: ground.prefix,
                 lines: &tables.lines,
                 from,
                 to,
                 message: message.as_ref(),
             };
             let choice = choose(alloc, &arrival, rel, best)?;
-            let change = change_to(alloc, graph, book, &tables.choices, to, choice)?;
+            let change = change_to(
+                alloc,
+                ground.graph,
+                ground.book,
+                &tables.choices,
+                to,
+                choice,
+            )?;
             Ok(change)
         }
     }
@@ -209,31 +213,25 @@ fn forget(
 /// Delivers the oldest message on a link; whether there was one.
 pub(crate) fn deliver_in<P: RoutePolicy, V: OriginStates>(
     alloc: Global,
-    graph: &Graph,
-    book: &Book<P>,
-    states: &V,
-    prefix: Prefix,
-    seeds: &Seeds,
+    ground: &Ground<'_, P, V>,
     tables: &mut Tables,
     from: Asn,
     to: Asn,
 ) -> Result<bool, NoMemory>
-    requires linked { relation graph.now to from ≢ None }
-    requires kept { IsKept (setting P.meaning graph.now book.now (V.state_of states.now prefix))
-        (map.get seeds.now) tables.old }
-    ensures kept { IsKept (setting P.meaning graph.now book.now (V.state_of states.now prefix))
-        (map.get seeds.now) tables.new }
-    ensures ok { IfOk result (IsTurnIn (setting P.meaning graph.now book.now (V.state_of states.now prefix))
-        (map.get seeds.now) tables.old tables.new from to) }
+    requires linked { relation ground.now.graph.now to from ≢ None }
+    requires kept { IsKept (ground_setting P.meaning V.state_of ground.now)
+        (map.get ground.now.seeds.now) tables.old }
+    ensures kept { IsKept (ground_setting P.meaning V.state_of ground.now)
+        (map.get ground.now.seeds.now) tables.new }
+    ensures ok { IfOk result (IsTurnIn (ground_setting P.meaning V.state_of ground.now)
+        (map.get ground.now.seeds.now) tables.old tables.new from to) }
     ensures err { OnErr result (IsSameNet tables.old tables.new) }
 {
-    let Some(rel) = graph.rel(to, from) else {
+    let Some(rel) = ground.graph.rel(to, from) else {
         return Ok(false);
     };
     let change = match oldest(&tables.lines, from, to) {
-        Some(message) => change_by(
-            alloc, graph, book, states, prefix, seeds, tables, from, to, rel, message,
-        )?,
+        Some(message) => change_by(alloc, ground, tables, from, to, rel, message)?,
         None => return Ok(false),
     };
     let more = change.news.len() as u64;
