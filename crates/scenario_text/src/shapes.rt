@@ -85,7 +85,8 @@ fn is_known(known: &[&str], name: &str) -> bool
 }
 
 fn has_known(known: &[&str], value: &JsonValue<'_, '_>) -> bool
-    ensures { result ≡ option_map_or (all_in (map (λ k. k.now) known.now)) (as_object (data_at value.now.element)) false }
+    ensures { result ≡
+        option_map_or (all_in (map (λ k. k.now) known.now)) (as_object (data_at value.now.element)) false }
 {
     let Some(mut members) = value.element.members() else {
         return false;
