@@ -8,7 +8,7 @@ ghost use Rattle.stability_laws.specs.Plans.{prefixes_of};
 use crate::announced::Announced;
 use stability_laws::{SeedPlan, World};
 use std::alloc::Global;
-use three_pass::Course;
+use three_pass::Way;
 
 /// What the tables of all rounds are built by, lent. The graph has no provider cycle, and the plan has at
 /// most 32 prefixes.
@@ -16,8 +16,8 @@ use three_pass::Course;
 pub struct Building<'a, P, V> {
     pub alloc: Global,
     pub world: &'a World<'a, P, V>,
-    /// The course through the graph of the world.
-    pub course: &'a Course,
+    /// The way along a course through the graph of the world.
+    pub way: &'a Way<'a>,
     /// Who announces what, and who leaks in which round.
     pub plan: &'a SeedPlan,
     /// The announced paths of the plan.

@@ -2,8 +2,8 @@
 
 ghost use Rattle.std.specs.Prelude.{◌≡◌, ℕ, suc, ◌+◌, ◌-◌, ◌*◌, ◌≤◌, length, IsTrue, IfOk, OnOk};
 ghost use Rattle.as_graph.specs.Topology.{as_count};
-ghost use Rattle.three_pass.specs.Courses.{IsCourse};
 ghost use Rattle.three_pass.specs.Scratches.{IsScratch};
+ghost use Rattle.three_pass.specs.Ways.{IsWay};
 ghost use Rattle.path_pool.specs.Pool.{holds_of, live_count};
 ghost use Rattle.stability_laws.specs.Stable.{IsStable};
 ghost use Rattle.stability_laws.specs.Plans.{has_prefix, prefixes_of};
@@ -38,8 +38,8 @@ fn make_table<P: RoutePolicy, V: OriginStates, L: Ledger>(
     scratch: &mut Overlay,
     steps: &mut Steps<L>,
 ) -> Result<Table, NoMemory>
-    requires course { IsCourse building.now.world.now.graph.now building.now.course.now }
-    requires scratch { IsScratch building.now.course.now scratch.old }
+    requires way { IsWay P.meaning building.now.world.now building.now.way.now }
+    requires scratch { IsScratch building.now.way.now.course.now scratch.old }
     requires announced { AreAnnounced pool.old building.now.plan.now building.now.announced.now }
     requires earlier { AreRoundsFull pool.old building.now.plan.now earlier.now }
     requires round { round ≡ suc (length earlier.now) }
@@ -56,20 +56,20 @@ fn make_table<P: RoutePolicy, V: OriginStates, L: Ledger>(
         (live_count pool.new - live_count pool.old)) }
     ensures keeps { OnOk result (KeepsPaths pool.old pool.new) }
     ensures grows { OnOk result (GrowsBy pool.old pool.new MOST_ASES) }
-    ensures scratch { OnOk result (IsScratch building.now.course.now scratch.new) }
+    ensures scratch { OnOk result (IsScratch building.now.way.now.course.now scratch.new) }
     ensures small { IfOk result (λ t. (k : ℕ) → table_uses t k ≤ MOST_ASES) }
 {
     let Building {
         alloc,
         world,
-        course,
+        way,
         plan,
         announced,
     } = *building;
     // `as_count` is called for its clause that there are at most 150,000 ASes.
     let _count = world.graph.as_count();
     let seeds = seeds_with(alloc, plan, announced, earlier, &[], round, prefix)?;
-    let table = propagate_along(world, course, prefix, &seeds, pool, scratch, steps)?;
+    let table = propagate_along(world, way, prefix, &seeds, pool, scratch, steps)?;
     uses_are_counted(&table);
     Ok(table)
 }
@@ -83,8 +83,8 @@ pub fn make_round<P: RoutePolicy, V: OriginStates, L: Ledger>(
     scratch: &mut Overlay,
     steps: &mut Steps<L>,
 ) -> Result<RoundTables, NoMemory>
-    requires course { IsCourse building.now.world.now.graph.now building.now.course.now }
-    requires scratch { IsScratch building.now.course.now scratch.old }
+    requires way { IsWay P.meaning building.now.world.now building.now.way.now }
+    requires scratch { IsScratch building.now.way.now.course.now scratch.old }
     requires announced { AreAnnounced pool.old building.now.plan.now building.now.announced.now }
     requires earlier { AreRoundsFull pool.old building.now.plan.now earlier.now }
     requires round { round ≡ suc (length earlier.now) }
@@ -99,7 +99,7 @@ pub fn make_round<P: RoutePolicy, V: OriginStates, L: Ledger>(
         (live_count pool.new - live_count pool.old)) }
     ensures keeps { OnOk result (KeepsPaths pool.old pool.new) }
     ensures grows { OnOk result (GrowsBy pool.old pool.new (MOST_ASES * length (prefixes_of building.now.plan.now))) }
-    ensures scratch { OnOk result (IsScratch building.now.course.now scratch.new) }
+    ensures scratch { OnOk result (IsScratch building.now.way.now.course.now scratch.new) }
 {
     let mut tables = RoundTables::new(building.alloc);
     let mut place = 0;

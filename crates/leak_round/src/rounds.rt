@@ -7,6 +7,7 @@ ghost use Rattle.as_graph.specs.Hierarchy.{HasNoProviderCycle, IsRank};
 ghost use Rattle.rank_order.specs.Ranks.{rank_at};
 ghost use Rattle.three_pass.specs.Courses.{IsCourse};
 ghost use Rattle.three_pass.specs.Scratches.{IsScratch};
+ghost use Rattle.three_pass.specs.Ways.{IsWay};
 ghost use Rattle.path_pool.specs.Pool.{holds_of, live_count, limit_of};
 ghost use Rattle.stability_laws.specs.declared.entry.Entry.{Entry as AnEntry};
 ghost use Rattle.stability_laws.specs.Plans.{has_prefix, prefixes_of};
@@ -38,7 +39,7 @@ use route_choice::{Overlay, RoundTables, SeedIds, Steps};
 use stability_laws::{SeedPlan, World, one_family};
 use std::alloc::Global;
 use std::sync::ledger::Ledger;
-use three_pass::Course;
+use three_pass::{Course, Way};
 
 // The most cells of a pool. The entries of four rounds of 32 prefixes and the announced paths have fewer.
 const MAX_CELLS: usize = 40_000_000;
@@ -76,8 +77,8 @@ fn make_rounds<P: RoutePolicy, V: OriginStates, L: Ledger>(
     scratch: &mut Overlay,
     steps: &mut Steps<L>,
 ) -> Result<Vec<RoundTables>, NoMemory>
-    requires course { IsCourse building.now.world.now.graph.now building.now.course.now }
-    requires scratch { IsScratch building.now.course.now scratch.old }
+    requires way { IsWay P.meaning building.now.world.now building.now.way.now }
+    requires scratch { IsScratch building.now.way.now.course.now scratch.old }
     requires announced { AreAnnounced pool.old building.now.plan.now building.now.announced.now }
     requires room { HasRoomFor pool.old (rounds * length (prefixes_of building.now.plan.now)) }
     ensures cost { steps.new ≤ steps.old +
@@ -176,10 +177,11 @@ impl Rounds {
         let mut pool = PathPool::new(alloc, MAX_CELLS);
         let announced = announce_all(alloc, &plan, &mut pool)?;
         let mut scratch = course.scratch()?;
+        let way = Way::of(world, course)?;
         let building = Building {
             alloc,
             world,
-            course,
+            way: &way,
             plan: &plan,
             announced: announced.as_slice(),
         };

@@ -15,3 +15,4 @@ pub mod Noted
 pub mod Chains
 pub mod Emptied
 pub mod Adding
+pub mod Marking

@@ -18,6 +18,8 @@ mod passes;
 mod scratch;
 mod stable;
 mod told;
+mod way;
 
 pub use course::Course;
 pub use stable::{propagate, propagate_along};
+pub use way::Way;

@@ -10,6 +10,8 @@ use crate::told::Told;
 pub struct Pass<'a> {
     /// The ASes in their order, and their providers.
     pub course: &'a Course,
+    /// For each place of the order whether the AS there and all its providers have the plain policy for certain.
+    pub plain: &'a [bool],
     /// The numbers on the paths of the seeds, and the ASes that have these.
     pub named: AsnSet,
 }

@@ -1,12 +1,13 @@
 //! The two passes along a course. The rows and places of ASes are hints.
 
-ghost use Rattle.std.specs.Prelude.{◌≡◌, ◌≢◌, ℕ, true, false, Some, None, length, slice_index, ◌<◌, ◌≤◌, ◌+◌, Option, All};
+ghost use Rattle.std.specs.Prelude.{◌≡◌, ◌≢◌, ℕ, true, false, Some, None, length, slice_get, slice_index, ◌<◌, ◌≤◌, ◌+◌, Option, All};
 ghost use Rattle.net_names.specs.Numbers.{occurs};
 ghost use Rattle.net_names.specs.declared.routes.Rel.{Rel as ARel};
 ghost use Rattle.net_names.specs.declared.routes.Rel.TheVariants.{Customer};
 ghost use Rattle.as_graph.specs.Topology.{relation};
 ghost use Rattle.as_graph.specs.Hierarchy.{HasNoProviderCycle};
 ghost use Rattle.as_graph.specs.Neighbours.{asns};
+ghost use Rattle.stability_laws.specs.Book.{policy_at};
 ghost use Rattle.stability_laws.specs.Stable.{IsStable};
 ghost use Rattle.route_choice.specs.Tables.{joined, seed_at};
 ghost use Rattle.route_choice.specs.PrefixWorlds.{setting_at, HasNoLoopsAt};
@@ -22,6 +23,7 @@ ghost use Rattle.three_pass.specs.Progress.{AfterUp};
 ghost use Rattle.three_pass.specs.Spending.{CanGo, HasSpent};
 ghost use Rattle.three_pass.specs.Telling.{HaveTold};
 ghost use Rattle.three_pass.specs.Told.{AreTrue, IsTold};
+ghost use Rattle.three_pass.specs.Ways.{ArePlainMarks};
 
 use crate::ahead::look_ahead;
 use crate::asn_set::AsnSet;
@@ -32,7 +34,9 @@ use crate::told::{Told, holds};
 use net_names::Asn;
 use path_pool::PathPool;
 use policy_laws::{OriginStates, RoutePolicy};
-use route_choice::{Overlay, Part, PlacedAs, PrefixWorld, Steps, Turn, visit, visit_among};
+use route_choice::{
+    Overlay, Part, PlacedAs, PrefixWorld, Steps, Turn, visit, visit_among, visit_providers,
+};
 use std::sync::ledger::Ledger;
 
 // Whether an AS has no seed, and no customer and no peer of it told it that it holds something.
@@ -186,6 +190,26 @@ pub fn go_up<P: RoutePolicy, V: OriginStates, L: Ledger>(
     }
 }
 
+// Whether a place is marked.
+fn is_marked_at(marks: &[bool], place: usize) -> bool
+    ensures { result ≡ true → slice_get marks.now place ≡ Some true }
+{
+    match marks.get(place) {
+        Some(mark) => *mark,
+        None => false,
+    }
+}
+
+// Whether an AS is not named and was told nothing, and its place is marked.
+#[inline(always)]
+fn is_plainly_untold(told: &Told, marks: &[bool], named: bool, asn: Asn, place: usize) -> bool
+    ensures unnamed { result ≡ true → named ≡ false }
+    ensures marked { result ≡ true → slice_get marks.now place ≡ Some true }
+    ensures untold { result ≡ true → (b : ℕ) → ¬ IsTold told.now asn b }
+{
+    !named && is_marked_at(marks, place) && told.is_untold(asn, place)
+}
+
 // The step downwards of the AS at a place of the order. Who holds something, and is right with it, takes none.
 fn step_down<P: RoutePolicy, V: OriginStates, L: Ledger>(
     at: &PrefixWorld<'_, P, V>,
@@ -200,6 +224,10 @@ fn step_down<P: RoutePolicy, V: OriginStates, L: Ledger>(
     requires inside { placed.place < count_of pass.now.course.now.above }
     requires above { AreProviders (relation at.now.graph.now) placed.asn
         (list_at pass.now.course.now.above placed.place) }
+    requires there { slice_index pass.now.course.now.order.ases.items placed.place ≡ placed.asn }
+    requires plain { ArePlainMarks (λ a. P.meaning (policy_at at.now.book.now a)) pass.now.course.now
+        pass.now.plain.now }
+    requires unnamed { is_among pass.now.named placed.asn ≡ false → seed_at at.now.seeds.now placed.asn ≡ None }
     requires held { routing_of pool.old at.now.table.now overlay.old placed.asn ≢ None →
         IsStepOf Part.Whole (setting_at P.meaning V.state_of at.now) (seeds_of pool.old at.now.seeds.now)
         (routing_of pool.old at.now.table.now overlay.old) placed.asn
@@ -215,13 +243,19 @@ fn step_down<P: RoutePolicy, V: OriginStates, L: Ledger>(
         pool.old pool.new overlay.old overlay.new placed.asn result }
     ensures told { gathered.new.told ≡ gathered.old.told }
 {
-    if holds(at.table, overlay, placed.asn, placed.place) {
+    let PlacedAs { asn, place } = placed;
+    if holds(at.table, overlay, asn, place) {
         return false;
     }
-    let may_loop = pass.named.has(placed.asn);
+    let may_loop = pass.named.has(asn);
+    if is_plainly_untold(&gathered.told, pass.plain, may_loop, asn, place) {
+        let above = pass.course.above.list(place);
+        let above_places = pass.course.above.places(place);
+        return visit_providers(at, pool, overlay, placed, above, above_places, steps);
+    }
     let turn = Turn {
-        asn: placed.asn,
-        place: placed.place,
+        asn,
+        place,
         may_loop,
         part: Part::Whole,
     };
@@ -242,7 +276,10 @@ pub fn go_down<P: RoutePolicy, V: OriginStates, L: Ledger>(
     requires true_notes { AreTrue (relation at.now.graph.now) gathered.old.told }
     requires told { (a : ℕ) → HaveTold (IsTold gathered.old.told) (setting_at P.meaning V.state_of at.now)
         (routing_of pool.old at.now.table.now overlay.old) a }
+    requires plain { ArePlainMarks (λ a. P.meaning (policy_at at.now.book.now a)) pass.now.course.now
+        pass.now.plain.now }
     requires named { AreNamed (is_among pass.now.named) (seeds_of pool.old at.now.seeds.now) }
+    requires unnamed { (a : ℕ) → is_among pass.now.named a ≡ false → seed_at at.now.seeds.now a ≡ None }
     requires up { AfterUp (setting_at P.meaning V.state_of at.now) (seeds_of pool.old at.now.seeds.now)
         pass.now.course.now.order.ases.items (routing_of pool.old at.now.table.now overlay.old) }
     requires room { CanGo pool.old at.now.seeds.now at.now.table.now overlay.old pass.now.course.now.order.ases.items }

@@ -13,7 +13,7 @@ abbrev pub invariant-prefixes : goal.invariant-prefixes
 invariant-prefixes g l = record {
   so_far : IsRoundSoFar (λ p f. IsStable (setting_in g.P.RoutePolicy.meaning g.V.OriginStates.state_of l.building.world.now p) (seeds_of l.building.plan.now l.round p (kept_in l.fn.pool l.earlier (length l.earlier) p)) f) l.building.plan.now l.fn.pool l.pool l.tables l.place;
   within : l.place ≤ length (prefixes_of l.building.plan.now);
-  scratch : IsScratch l.building.course.now l.scratch;
+  scratch : IsScratch l.building.way.now.course.now l.scratch;
   cost : l.steps ≤ l.fn.steps + 2 * as_count l.building.world.now.graph.now * l.place;
 }
 

@@ -14,6 +14,6 @@ invariant-loop-past g l = record {
   so_far : AreRoundsSoFar (λ before p f h. IsStable (setting_in g.P.RoutePolicy.meaning g.V.OriginStates.state_of l.building.world.now p) (seeds_of l.building.plan.now (suc before) p f) h) l.building.plan.now l.fn.pool l.pool l.tables.items;
   count : length l.tables.items ≡ l.past;
   grows : GrowsBy l.fn.pool l.pool (150000 * (l.past * length (prefixes_of l.building.plan.now)));
-  scratch : IsScratch l.building.course.now l.scratch;
+  scratch : IsScratch l.building.way.now.course.now l.scratch;
   cost : l.steps ≤ l.fn.steps + 2 * as_count l.building.world.now.graph.now * length (prefixes_of l.building.plan.now) * l.past;
 }

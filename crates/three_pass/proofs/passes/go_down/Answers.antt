@@ -36,6 +36,17 @@ step_down-requires-clause-above g c =
     let read = get_or_read xs i c.index-asn.result.now within c.index-asn.ensures 0 in
     subst (λ (a : ℕ). AreProviders (relation c.args.at.now.graph.now) a (list_at c.args.pass.now.course.now.above i)) (sym read) (c.requires.course.above.each i within)
 
+pub step_down-requires-clause-there : goal.step_down-requires-clause-there
+step_down-requires-clause-there g c =
+    let xs = c.args.pass.now.course.now.order.ases.items in
+    let i = c.loop-left.left - 1 in
+    let left = c.loop-left-test.true in
+    let within : i < length xs = omega (arith, c.loop-left.invariant.within) in
+    sym (get_or_read xs i c.index-asn.result.now within c.index-asn.ensures 0)
+
+pub step_down-requires-clause-unnamed : goal.step_down-requires-clause-unnamed
+step_down-requires-clause-unnamed g c = c.requires.unnamed c.index-asn.result.now
+
 pub step_down-requires-clause-told : goal.step_down-requires-clause-told
 step_down-requires-clause-told g c =
     let here = setting_at g.P.RoutePolicy.meaning g.V.OriginStates.state_of c.args.at.now in

@@ -1,4 +1,4 @@
-use Rattle.std.proofs.Common.{arith, inl, inr, ◌≡◌, ℕ, ◌+◌, ◌∙◌, sym, option_map, take, ap, subst}
+use Rattle.std.proofs.Common.{arith, inl, inr, ◌+◌, ◌∙◌, sym, option_map, take, ap, subst}
 use Rattle.std.proofs.lemmas.Bool.{cases_eq}
 use Rattle.std.proofs.lemmas.List.{get_or_read, take_all}
 use Rattle.net_names.specs.Numbers.{occurs}

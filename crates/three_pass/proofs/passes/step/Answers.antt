@@ -1,4 +1,4 @@
-use Rattle.std.proofs.Common.{ℕ, sym, subst}
+use Rattle.std.proofs.Common.{sym, subst}
 use Rattle.as_graph.specs.Topology.{relation}
 use Rattle.stability_laws.specs.Book.{policy_at}
 use Rattle.route_choice.specs.Givers.{AreGivers}

@@ -1,9 +1,20 @@
-use Rattle.std.proofs.Common.{◌≡◌, ◌≢◌, true, false, Option, Some, None, is_some, option_map, arith, refl, sym, ◌∙◌}
+use Rattle.std.proofs.Common.{◌≡◌, ◌≢◌, true, false, Option, Some, None, is_some, option_map, arith, refl, sym, ◌∙◌, subst}
 use Rattle.path_pool.specs.declared.pool.PathPool.{PathPool}
 use Rattle.route_choice.specs.declared.held.Held.{Held}
 use Rattle.route_choice.specs.Routings.{entry_of, routing_of}
 use Rattle.route_choice.specs.Tables.{joined}
 use Rattle.route_choice.proofs.Room.{keeps_itself}
+use Rattle.as_graph.specs.Topology.{relation}
+use Rattle.policy_laws.specs.Plain.{IsPlain}
+use Rattle.stability_laws.specs.Book.{policy_at}
+use Rattle.route_choice.specs.declared.choice.Part.TheVariants.{Whole}
+use Rattle.route_choice.specs.Givers.{AreGivers}
+use Rattle.route_choice.specs.Leads.{ArePlainProviders}
+use Rattle.route_choice.specs.PrefixWorlds.{setting_at}
+use Rattle.three_pass.specs.Lists.{list_at}
+use Rattle.three_pass.specs.Told.{IsTold}
+use Rattle.three_pass.proofs.ByRank.{all_lawful}
+use Rattle.three_pass.proofs.Quiet.{givers}
 use Rattle.three_pass.proofs.passes.step_down.Goals as goal
 
 -- who holds something holds an entry
@@ -34,6 +45,37 @@ returns-then-holds-clause-visit g c = record {
 joined_none : (pool : PathPool) (h : Option Held) → is_some h ≡ false → option_map (entry_of pool) h ≡ None
 joined_none pool None none = refl
 joined_none pool (Some x) none = cc
+
+pub visit_providers-requires-clause-nothing : goal.visit_providers-requires-clause-nothing
+visit_providers-requires-clause-nothing g c = joined_none c.args.pool.now (joined c.args.at.now.table.now c.args.overlay.now c.args.placed.asn) (sym c.holds.ensures ∙ c.if-holds.false)
+
+pub visit_providers-requires-clause-unseeded : goal.visit_providers-requires-clause-unseeded
+visit_providers-requires-clause-unseeded g c = c.requires.unnamed (sym c.has-may_loop.ensures ∙ c.is_plainly_untold.ensures.unnamed c.if-is_plainly_untold.true)
+
+pub visit_providers-requires-clause-own : goal.visit_providers-requires-clause-own
+visit_providers-requires-clause-own g c =
+    let marked = c.requires.plain c.args.placed.place (c.is_plainly_untold.ensures.marked c.if-is_plainly_untold.true) in
+    subst (λ a. IsPlain (g.P.RoutePolicy.meaning (policy_at c.args.at.now.book.now a))) c.requires.there marked.0
+
+pub visit_providers-requires-clause-plain : goal.visit_providers-requires-clause-plain
+visit_providers-requires-clause-plain g c =
+    let marked = c.requires.plain c.args.placed.place (c.is_plainly_untold.ensures.marked c.if-is_plainly_untold.true) in
+    subst (ArePlainProviders (λ n. g.P.RoutePolicy.meaning (policy_at c.args.at.now.book.now n))) (sym c.list-above.ensures) marked.1
+
+pub visit_providers-requires-clause-givers : goal.visit_providers-requires-clause-givers
+visit_providers-requires-clause-givers g c =
+    let w = relation c.args.at.now.graph.now in
+    let here = setting_at g.P.RoutePolicy.meaning g.V.OriginStates.state_of c.args.at.now in
+    let lawful = all_lawful g.P.RoutePolicy.meaning g.met.P.RoutePolicy.ranks_offers g.met.P.RoutePolicy.prefers_customers g.met.P.RoutePolicy.exports_down_only (policy_at c.args.at.now.book.now) in
+    let f = routing_of c.args.pool.now c.args.at.now.table.now c.args.overlay.now in
+    subst (AreGivers Whole w here.policy f c.args.placed.asn) (sym c.list-above.ensures)
+    (givers here lawful f c.args.placed.asn Whole (IsTold c.args.gathered.now.told) (list_at c.args.pass.now.course.now.above c.args.placed.place) c.requires.told
+    c.requires.above.each (λ b told. absurd (c.is_plainly_untold.ensures.untold c.if-is_plainly_untold.true b told)) (λ whole. c.requires.above.complete))
+
+pub visit_providers-requires-clause-no_loops : goal.visit_providers-requires-clause-no_loops
+visit_providers-requires-clause-no_loops g c =
+    let none : routing_of c.args.pool.now c.args.at.now.table.now c.args.overlay.now c.args.placed.asn ≡ None = joined_none c.args.pool.now (joined c.args.at.now.table.now c.args.overlay.now c.args.placed.asn) (sym c.holds.ensures ∙ c.if-holds.false) in
+    c.requires.no_loops none (sym c.has-may_loop.ensures ∙ c.is_plainly_untold.ensures.unnamed c.if-is_plainly_untold.true)
 
 pub step-requires-clause-no_loops : goal.step-requires-clause-no_loops
 step-requires-clause-no_loops g c = λ out n r e linked looked held exported.

@@ -1,6 +1,8 @@
 use Rattle.std.proofs.Common.{◌-◌, ◌≤◌, arith, sym, subst, ◌∙◌}
 use Rattle.net_names.specs.Prefixes.{PrefixValue}
 use Rattle.path_pool.specs.Pool.{live_count}
+use Rattle.three_pass.specs.declared.course.Course.{Course}
+use Rattle.three_pass.specs.Scratches.{IsScratch}
 use Rattle.leak_round.specs.Announced.{AreAnnounced}
 use Rattle.leak_round.specs.Entries.{of_rounds}
 use Rattle.leak_round.specs.Limits.{numbers_of}
@@ -11,6 +13,9 @@ use Rattle.leak_round.proofs.Keeping.{announced_kept}
 use Rattle.leak_round.proofs.Numbers.{numbers_counted}
 use Rattle.leak_round.proofs.Owning.{own_none}
 use Rattle.leak_round.proofs.rounds.Rounds.build_along.Goals as goal
+
+pub make_rounds-requires-clause-scratch : goal.make_rounds-requires-clause-scratch
+make_rounds-requires-clause-scratch g c = subst (λ (x : Course). IsScratch x c.in_ok-scratch.scratch) (sym c.in_ok-way.ensures.course) c.in_ok-scratch.ensures
 
 pub make_rounds-requires-clause-announced : goal.make_rounds-requires-clause-announced
 make_rounds-requires-clause-announced g c =

@@ -1,0 +1,21 @@
+-- What is known of the policies along a course.
+use Rattle.std.specs.Prelude.{◌≡◌, ℕ, Bool, true, Some, List, slice_get, slice_index}
+use Rattle.policy_laws.specs.Plain.{IsPlain}
+use Rattle.policy_laws.specs.Policy.{Policy}
+use Rattle.stability_laws.specs.Book.{policy_at}
+use Rattle.stability_laws.specs.declared.world.World.{World}
+use Rattle.route_choice.specs.Leads.{ArePlainProviders}
+use Rattle.three_pass.specs.declared.course.Course.{Course}
+use Rattle.three_pass.specs.declared.way.Way.{Way}
+use Rattle.three_pass.specs.Courses.{IsCourse}
+use Rattle.three_pass.specs.Lists.{list_at}
+
+-- where a place of the order is marked, its AS and all its providers have the plain policy
+abbrev pub ArePlainMarks : (ℕ → Policy) → Course → List Bool → Type 0
+ArePlainMarks policy c marks = (k : ℕ) → slice_get marks k ≡ Some true →
+    IsPlain (policy (slice_index c.order.ases.items k)) × ArePlainProviders policy (list_at c.above k)
+
+-- the course is one of the world's graph, and the marks are right with the world's policies
+pub record IsWay {P V : Type 0} (meaning : P → Policy) (w : World P V) (way : Way) : Type 0 where
+  pub course : IsCourse w.graph.now way.course.now
+  pub plain : ArePlainMarks (λ a. meaning (policy_at w.book.now a)) way.course.now way.plain.items
