@@ -4,8 +4,8 @@ ghost use Rattle.reports.specs.Growth.{Grows};
 ghost use Rattle.stability_laws.specs.EntryTexts.{entry_text, entry_row};
 
 use crate::bytes::put_bytes;
-use crate::rows::{append_numbers, append_otc, class_name};
-use net_names::{Asn, NoMemory, put_asn};
+use crate::rows::{append_numbers, append_otc, begin_entry, begin_row};
+use net_names::{Asn, NoMemory};
 use stability_laws::Entry;
 
 // Appends what a row says of an entry.
@@ -13,8 +13,7 @@ fn append_one(out: &mut Vec<u8>, entry: &Entry) -> Result<(), NoMemory>
     ensures ok { OnOk result (out.new.items ≡ out.old.items ++ entry_text (Some entry.now)) }
     ensures err { OnErr result (Grows out.old.items out.new.items) }
 {
-    put_bytes(out, class_name(entry.class).as_bytes())?;
-    put_bytes(out, b"|")?;
+    begin_entry(out, entry.class)?;
     append_numbers(out, entry.path.as_slice())?;
     append_otc(out, entry.otc)
 }
@@ -35,8 +34,7 @@ fn append_entry(out: &mut Vec<u8>, asn: Asn, held: Option<&Entry>) -> Result<(),
     ensures ok { OnOk result (out.new.items ≡ out.old.items ++ entry_row asn (option_copied held.entry)) }
     ensures err { OnErr result (Grows out.old.items out.new.items) }
 {
-    put_asn(out, asn)?;
-    put_bytes(out, b"|")?;
+    begin_row(out, asn)?;
     append_any(out, held)?;
     put_bytes(out, b"\n")
 }

@@ -17,7 +17,7 @@ use path_pool::{PathId, PathPool};
 use route_choice::{Held, Table};
 
 // The word for a class.
-pub(crate) fn class_name(class: Class) -> &'static str
+fn class_name(class: Class) -> &'static str
     ensures { result.now ≡ class_word class }
 {
     match class {
@@ -26,6 +26,24 @@ pub(crate) fn class_name(class: Class) -> &'static str
         Class::Peer => "peer",
         Class::Provider => "provider",
     }
+}
+
+// Appends the number of an AS, as its row begins.
+pub(crate) fn begin_row(out: &mut Vec<u8>, asn: Asn) -> Result<(), NoMemory>
+    ensures ok { OnOk result (out.new.items ≡ out.old.items ++ (decimal asn ++ 124 ∷ [])) }
+    ensures err { OnErr result (Grows out.old.items out.new.items) }
+{
+    put_asn(out, asn)?;
+    put_bytes(out, b"|")
+}
+
+// Appends the word for a class, as what a row says of an entry begins.
+pub(crate) fn begin_entry(out: &mut Vec<u8>, class: Class) -> Result<(), NoMemory>
+    ensures ok { OnOk result (out.new.items ≡ out.old.items ++ (class_word class ++ 124 ∷ [])) }
+    ensures err { OnErr result (Grows out.old.items out.new.items) }
+{
+    put_bytes(out, class_name(class).as_bytes())?;
+    put_bytes(out, b"|")
 }
 
 // Appends each number after a space.
@@ -118,8 +136,7 @@ fn append_held(out: &mut Vec<u8>, pool: &PathPool, held: Held) -> Result<(), NoM
     ensures ok { OnOk result (out.new.items ≡ out.old.items ++ entry_text (Some (entry_of pool.now held))) }
     ensures err { OnErr result (Grows out.old.items out.new.items) }
 {
-    put_bytes(out, class_name(held.class).as_bytes())?;
-    put_bytes(out, b"|")?;
+    begin_entry(out, held.class)?;
     append_path(out, pool, held.path)?;
     append_otc(out, held.otc)
 }
@@ -147,8 +164,7 @@ fn append_row(
     ensures ok { OnOk result (out.new.items ≡ out.old.items ++ entry_row asn (option_map (entry_of pool.now) held)) }
     ensures err { OnErr result (Grows out.old.items out.new.items) }
 {
-    put_asn(out, asn)?;
-    put_bytes(out, b"|")?;
+    begin_row(out, asn)?;
     append_entry(out, pool, held)?;
     put_bytes(out, b"\n")
 }

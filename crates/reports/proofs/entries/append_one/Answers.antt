@@ -2,11 +2,8 @@ use Rattle.std.proofs.lemmas.Result.{on_err_weaker}
 use Rattle.reports.proofs.Paths.{grown, grown_on}
 use Rattle.reports.proofs.entries.append_one.Goals as goal
 
-pub returns-in_err-put_bytes-2-clause-err : goal.returns-in_err-put_bytes-2-clause-err
-returns-in_err-put_bytes-2-clause-err c = grown_on _ _ _ _ _ c.in_ok-put_bytes.ensures.ok c.in_err-put_bytes-2.ensures.err
-
 pub returns-in_err-append_numbers-clause-err : goal.returns-in_err-append_numbers-clause-err
-returns-in_err-append_numbers-clause-err c = grown_on _ _ _ _ _ c.in_ok-put_bytes.ensures.ok (grown _ _ _ _ c.in_ok-put_bytes-2.ensures.ok c.in_err-append_numbers.ensures.err)
+returns-in_err-append_numbers-clause-err c = grown_on _ _ _ _ _ c.in_ok-begin_entry.ensures.ok c.in_err-append_numbers.ensures.err
 
 pub returns-clause-err : goal.returns-clause-err
-returns-clause-err c = on_err_weaker c.append_otc.result (λ g. grown _ _ _ _ c.in_ok-put_bytes.ensures.ok (grown _ _ _ _ c.in_ok-put_bytes-2.ensures.ok (grown _ _ _ _ c.in_ok-append_numbers.ensures.ok g))) c.append_otc.ensures.err
+returns-clause-err c = on_err_weaker c.append_otc.result (λ g. grown _ _ _ _ c.in_ok-begin_entry.ensures.ok (grown _ _ _ _ c.in_ok-append_numbers.ensures.ok g)) c.append_otc.ensures.err
