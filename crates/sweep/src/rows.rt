@@ -1,5 +1,5 @@
 //! The rows of a trial.
-ghost use Rattle.std.specs.Prelude.{◌≡◌, ◌==◌, ◌++◌, [], true, OnOk, codes, decimal, if◌then◌else◌};
+ghost use Rattle.std.specs.Prelude.{◌≡◌, ◌==◌, ◌++◌, ◌∷◌, [], true, OnOk, codes, decimal, if◌then◌else◌};
 ghost use Rattle.std.specs.List.{flat_map};
 ghost use Rattle.sweep.specs.Swept.{trial_text};
 ghost use Rattle.sweep.specs.Texts.{delivered_row, row};
@@ -16,18 +16,33 @@ pub(crate) struct Which {
     pub t: u32,
 }
 
-// Appends a row.
-fn append_row(out: &mut Vec<u8>, which: Which, what: &[u8], count: u64) -> Result<(), NoMemory>
-    ensures { OnOk result (out.new.items ≡ out.old.items ++ row which.k which.t what.now count) }
+// Appends which trial it is, as each row begins.
+fn put_which(out: &mut Vec<u8>, which: Which) -> Result<(), NoMemory>
+    ensures { OnOk result (out.new.items ≡
+        out.old.items ++ (decimal which.k ++ 124 ∷ (decimal which.t ++ 124 ∷ []))) }
 {
     put_number(out, which.k as u64)?;
     put_bytes(out, b"|")?;
     put_number(out, which.t as u64)?;
-    put_bytes(out, b"|")?;
-    put_bytes(out, what)?;
+    put_bytes(out, b"|")
+}
+
+// Appends the count, as each row ends.
+fn put_count(out: &mut Vec<u8>, count: u64) -> Result<(), NoMemory>
+    ensures { OnOk result (out.new.items ≡ out.old.items ++ (124 ∷ (decimal count ++ 10 ∷ []))) }
+{
     put_bytes(out, b"|")?;
     put_number(out, count)?;
     put_bytes(out, b"\n")
+}
+
+// Appends a row.
+fn append_row(out: &mut Vec<u8>, which: Which, what: &[u8], count: u64) -> Result<(), NoMemory>
+    ensures { OnOk result (out.new.items ≡ out.old.items ++ row which.k which.t what.now count) }
+{
+    put_which(out, which)?;
+    put_bytes(out, what)?;
+    put_count(out, count)
 }
 
 // Appends the row of an AS at which packets are delivered, if some are.
@@ -38,14 +53,10 @@ fn append_some(out: &mut Vec<u8>, which: Which, asn: Asn, count: u64) -> Result<
     if count == 0 {
         return Ok(());
     }
-    put_number(out, which.k as u64)?;
-    put_bytes(out, b"|")?;
-    put_number(out, which.t as u64)?;
-    put_bytes(out, b"|to ")?;
+    put_which(out, which)?;
+    put_bytes(out, b"to ")?;
     put_asn(out, asn)?;
-    put_bytes(out, b"|")?;
-    put_number(out, count)?;
-    put_bytes(out, b"\n")
+    put_count(out, count)
 }
 
 // Appends the row of an AS at which packets are delivered, if some are.
