@@ -16,6 +16,7 @@ use Rattle.std.specs.declared.cmp.Ordering.{Ordering}
 use Rattle.std.specs.declared.cmp.Ordering.TheVariants.{Less, Equal, Greater}
 use Rattle.net_names.specs.Links.{pair_cmp}
 use Rattle.net_names.proofs.Pairs.{exact_pair, pairs_total}
+use Rattle.stability_laws.proofs.KeyLists.{eq_is}
 use Rattle.stability_laws.specs.declared.entry.Entry.{Entry}
 use Rattle.table_check.specs.Rows.{RowMap, HasShortRows, HoldsShort, held_by, inside_row}
 
@@ -92,14 +93,9 @@ entry_get round a f (k, Some e) = by (k.0 == round) ∙ ap (λ b. cond b (Some e
     by true = fin.get-insert nat_cmp_total f k.1 e a
     by false = refl
 
-equal : (r : Ordering) → is_eq r ≡ true → r ≡ Equal
-equal Less h = cc
-equal Equal h = refl
-equal Greater h = cc
-
 -- only equal pairs tie
 pub same_pair : (q s : ℕ × ℕ) → eq_by_cmp pair_cmp q s ≡ true → q ≡ s
-same_pair q s h = exact_pair q s (equal (pair_cmp q s) h)
+same_pair = eq_is pairs_total exact_pair
 
 absent : (k : ℕ × ℕ) (es : List Row) → AllByRecursion (λ q. pair_cmp k q ≡ Less) (keys_of es) → row_at es k ≡ None
 absent k [] h = refl
