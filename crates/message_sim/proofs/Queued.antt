@@ -1,17 +1,13 @@
 -- How many messages are under way between the ASes of a graph.
-use Rattle.std.proofs.Common.{◌≡◌, ℕ, ◌+◌, Bool, true, false, ◌||◌, ◌&&◌, ◌==◌, nat_eq, cond, T, true≢false, is_some, sum_by, Option, Some, None, List, [], ◌∷◌, length, map, option_map, refl, sym, ◌∙◌, ap, arith}
-use Rattle.std.specs.declared.cmp.Ordering.{Ordering}
-use Rattle.std.specs.declared.cmp.Ordering.TheVariants.{Less, Equal, Greater}
-use Rattle.std.specs.Ordering.{nat_cmp, is_eq, is_lt}
-use Rattle.std.specs.Cmp.{nat_cmp_total, nat_eq_equiv, unsigned_tied}
-use Rattle.std.specs.FinMap as fin
-use Rattle.std.specs.List.{IsDistinct as AreApart, list_any}
+use Rattle.std.proofs.Common.{◌≡◌, ℕ, ◌+◌, Bool, true, false, ◌||◌, ◌&&◌, nat_eq, cond, true≢false, is_some, sum_by, Option, Some, None, List, [], ◌∷◌, length, option_map, refl, sym, ◌∙◌, ap, arith}
+use Rattle.std.specs.List.{IsDistinct as AreApart}
 use Rattle.std.specs.Map.{lookup, keys_of}
 use Rattle.std.proofs.lemmas.Bool.{eqb-true}
 use Rattle.std.proofs.lemmas.List.Sums.{sum_by-cons}
 use Rattle.net_names.specs.declared.routes.Rel.{Rel}
 use Rattle.net_names.specs.Links.{converse}
 use Rattle.net_names.specs.Numbers.{occurs, IsDistinct}
+use Rattle.net_names.proofs.Marks.{in_order, distinct-in_order, occurs-in_order}
 use Rattle.as_graph.specs.Topology.{Topology, ases, relation}
 use Rattle.as_graph.proofs.Links.{linked_end, relation_mutual}
 use Rattle.message_sim.specs.declared.line.Line.{Line}
@@ -22,52 +18,14 @@ use Rattle.message_sim.proofs.Values.{absent}
 
 -- ---- each AS once
 
-strict : (r : Ordering) → T (is_lt r) → is_eq r ≡ false
-strict Less p = refl
-strict Equal p = absurd p
-strict Greater p = absurd p
-
-left : (a b : Bool) → T (a && b) → T a
-left true b p = tt
-left false b p = p
-
-right : (a b : Bool) → T (a && b) → T b
-right true b p = p
-right false b p = absurd p
-
-above : (k : ℕ) (es : List (ℕ × Unit {0})) → T (fin.Entries.below_all nat_cmp k es) → occurs k (map (λ (e : ℕ × Unit {0}). e.0) es) ≡ false
-above k [] h = refl
-above k (e ∷ es) h =
-    let differs : (e.0 == k) ≡ false = nat_eq_equiv.symm e.0 k ∙ sym (unsigned_tied k e.0) ∙ strict (nat_cmp k e.0) (left (is_lt (nat_cmp k e.0)) (fin.Entries.below_all nat_cmp k es) h) in
-    ap (λ b. b || occurs k (map (λ (e : ℕ × Unit {0}). e.0) es)) differs ∙ above k es (right (is_lt (nat_cmp k e.0)) (fin.Entries.below_all nat_cmp k es) h)
-
-once : (es : List (ℕ × Unit {0})) → T (fin.is_sorted nat_cmp es) → IsDistinct (map (λ (e : ℕ × Unit {0}). e.0) es)
-once [] h = tt
-once (e ∷ es) h = (above e.0 es (left (fin.Entries.below_all nat_cmp e.0 es) (fin.is_sorted nat_cmp es) h), once es (right (fin.Entries.below_all nat_cmp e.0 es) (fin.is_sorted nat_cmp es) h))
-
-abbrev pub marks : List ℕ → List (ℕ × Unit {0})
-marks = map (λ a. (a, tt {0}))
-
-found_mark : (q : ℕ) (xs : List ℕ) → fin.find nat_cmp q (marks xs) ≡ cond (occurs q xs) (Some (tt {0})) None
-found_mark q [] = refl
-found_mark q (x ∷ xs) = (λ i. cond ((unsigned_tied q x ∙ nat_eq_equiv.symm q x) i) (Some (tt {0})) (found_mark q xs i)) ∙ by (x == q) (occurs q xs)
-  where
-    by : (t u : Bool) → cond t (Some (tt {0})) (cond u (Some (tt {0})) None) ≡ cond (t || u) (Some (tt {0})) None
-    by true u = refl
-    by false u = refl
-
 abbrev pub each : Topology → List ℕ
-each g = fin.keys (fin.from_entries {R = nat_cmp} (marks (ases g)))
+each g = in_order (ases g)
 
 pub each_once : (g : Topology) → IsDistinct (each g)
-each_once g = once (fin.entries (fin.from_entries {R = nat_cmp} (marks (ases g)))) (fin.entries_sorted (fin.from_entries {R = nat_cmp} (marks (ases g))))
+each_once g = distinct-in_order (ases g)
 
 among : (g : Topology) (b : ℕ) → occurs b (ases g) ≡ true → occurs b (each g) ≡ true
-among g b here =
-    (λ i. list_any (λ x. (nat_eq_equiv.symm x b ∙ sym (unsigned_tied b x)) i) (each g))
-    ∙ sym (fin.contains_key-keys (fin.from_entries {R = nat_cmp} (marks (ases g))) b)
-    ∙ ap is_some (fin.get-from_entries nat_cmp_total (marks (ases g)) b ∙ found_mark b (ases g))
-    ∙ ap (λ t. is_some (cond t (Some (tt {0})) None)) here
+among g b here = occurs-in_order (ases g) b ∙ here
 
 -- both ends of a link are among the ASes
 pub ends_in : (g : Topology) (n a : ℕ) → is_some (relation g a n) ≡ true → (occurs n (each g) ≡ true) × (occurs a (each g) ≡ true)

@@ -11,7 +11,7 @@ use Rattle.std.proofs.lemmas.Bool.{or_left, or_right}
 use Rattle.std.proofs.lemmas.Map.Keys.{IsDistinct-from_sorted, IsDistinct-head, IsDistinct-tail}
 use Rattle.std.proofs.lemmas.List.{length-map}
 use Rattle.stability_laws.proofs.KeyLists.{eq_is, eq_same}
-use Rattle.sweep.proofs.Drawn.{strict_keys}
+use Rattle.net_names.proofs.Marks.{strict_keys}
 
 module _ {K : Type 0} {R : K → K → Ordering} (total : IsTotalOrder R) (exact : CmpEqualImpliesEq R) where
   absent : (k : K) (ks : List K) → AllByRecursion (λ y. eq_by_cmp R k y ≡ false) ks → list_any (eq_by_cmp R k) ks ≡ false
