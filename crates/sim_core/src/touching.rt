@@ -1,5 +1,5 @@
 //! The ASes whose entries may be wrong after an edit.
-ghost use Rattle.std.specs.Prelude.{◌≡◌, ℕ, true, false, IsTrue, IfOk, OnOk, Some, List, option_map, slice_get};
+ghost use Rattle.std.specs.Prelude.{◌≡◌, ℕ, true, false, IsTrue, IfOk, OnOk, Some, List};
 ghost use Rattle.net_names.specs.Coverage.{covers as covers_it};
 ghost use Rattle.net_names.specs.Numbers.{last_or, occurs};
 ghost use Rattle.origin_validation.specs.Judging.{state_of};
@@ -17,7 +17,7 @@ use origin_validation::States;
 use policy_kinds::Kind;
 use policy_laws::{OriginStates, RoutePolicy};
 use roa_table::Vrps;
-use stability_laws::{Book, SeedPlan};
+use stability_laws::{Book, SeedPlan, last_of};
 use std::alloc::Global;
 
 // Touches these ASes for a prefix.
@@ -67,13 +67,6 @@ fn touch_readers(
         }
     }
     Ok(())
-}
-
-// The last number of a path, where it has one.
-fn last_of(path: &[Asn]) -> Option<Asn>
-    ensures { result ≡ option_map (λ _. last_or 0 path.now) (slice_get path.now 0) }
-{
-    path.last().copied()
 }
 
 // The last number of the path that an AS announces of a prefix, if it announces it.
