@@ -1,18 +1,24 @@
 -- What a step takes, by its choice.
-use Rattle.std.proofs.Common.{◌≡◌, ◌≢◌, ℕ, ◌↔◌, Bool, IsTrue, Option, Some, None, refl, sym, ◌∙◌, ap}
+use Rattle.std.proofs.Common.{◌≡◌, ◌≢◌, inl, inr, ℕ, ◌↔◌, Bool, IsTrue, Option, Some, None, refl, sym, ◌∙◌, ap}
 use Rattle.std.specs.Prelude.{IsSome, is_some}
 use Rattle.policy_laws.specs.Policy.{Policy}
 use Rattle.stability_laws.specs.declared.entry.Entry.{Entry}
 use Rattle.stability_laws.specs.declared.entry.Seed.{Seed}
-use Rattle.stability_laws.specs.Offers.{Setting, Offer}
+use Rattle.stability_laws.specs.Offers.{Setting, Offer, offer}
 use Rattle.stability_laws.specs.Stable.{IsRightGiven}
-use Rattle.stability_laws.specs.Steps.{low}
-use Rattle.route_choice.specs.declared.choice.Part.TheVariants.{Up}
+use Rattle.path_pool.specs.declared.pool.PathPool.{PathPool}
+use Rattle.route_choice.specs.declared.choice.Part.{Part}
+use Rattle.route_choice.specs.declared.choice.Part.TheVariants.{Up, Whole}
+use Rattle.route_choice.specs.declared.overlay.Overlay.{Overlay}
+use Rattle.route_choice.specs.declared.table.Table.{Table}
+use Rattle.route_choice.specs.Routings.{routing_of}
 use Rattle.route_choice.specs.declared.choice.Choice.{Choice}
 use Rattle.route_choice.specs.declared.choice.Choice.TheVariants as choice
 use Rattle.route_choice.specs.Choices.{IsChoice, named_by, offers_of}
 use Rattle.route_choice.proofs.Chosen.{named_is_right}
-use Rattle.dirty_recompute.specs.Steps.{after_up, without_low, IsChosenUp}
+use Rattle.dirty_recompute.specs.Giving.{GivesUpNone}
+use Rattle.dirty_recompute.specs.Steps.{after, IsChosen, IsReady}
+use Rattle.dirty_recompute.proofs.RoomLemmas.{gives_none}
 
 -- a choice that isn't nothing names an entry
 choice_some : (p : Policy) (seed : Option Seed) (offers : ℕ → Option Offer) (c : Choice) (new : Option Entry) → IsChoice p seed offers c → IsRightGiven p seed offers new → c ≢ choice.Nothing → IsSome new
@@ -23,37 +29,52 @@ choice_some p (Some s) offers (choice.Via n r) new h right ne = (let x : Some s 
 choice_some p None offers (choice.Via n r) None (none, (o, best, is_r)) right ne = (let x : offers n ≡ None = right n in let y : offers n ≡ Some o = best.made in cc)
 choice_some p None offers (choice.Via n r) (Some e) h right ne = refl
 
-stays_some : (new held : Option Entry) → IsSome new → new ≡ after_up new held
-stays_some None held h = cc
-stays_some (Some e) held h = refl
+stays_some : (part : Part) (new held : Option Entry) → IsSome new → new ≡ after part new held
+stays_some Up None held h = cc
+stays_some Up (Some e) held h = refl
+stays_some Whole new held h = refl
 
--- in a step upwards the AS takes what its choice names, where it holds no entry that stays
-pub chosen_up : (w : Setting) (seeds : ℕ → Option Seed) (a : ℕ) (f g : ℕ → Option Entry) (c : Choice) (nothing : Bool) → IsChoice (w.policy a) (seeds a) (λ n. offers_of Up w f a n) c →
-    (IsTrue nothing ↔ (c ≡ choice.Nothing)) → g a ≡ named_by w.policy (seeds a) f a c → (c ≡ choice.Nothing → without_low (low (f a)) (f a) ≡ None) → IsChosenUp w seeds a f g nothing
-chosen_up w seeds a f g c nothing chosen says at goes = record {
-  new = new;
-  right = right;
-  at = at ∙ by c refl;
-  none = λ e. says.1 (is_nothing c refl e);
-}
-  where
-    new : Option Entry
-    new = named_by w.policy (seeds a) f a c
+module _ (part : Part) (w : Setting) (seeds : ℕ → Option Seed) (a : ℕ) (f : ℕ → Option Entry) (c : Choice) (nothing : Bool) (chosen : IsChoice (w.policy a) (seeds a) (λ n. offers_of part w f a n) c) (says : IsTrue nothing ↔ (c ≡ choice.Nothing)) where
+  abbrev new : Option Entry
+  new = named_by w.policy (seeds a) f a c
 
-    right : IsRightGiven (w.policy a) (seeds a) (λ n. offers_of Up w f a n) new
-    right = named_is_right Up w f a (seeds a) c chosen
+  pub right : IsRightGiven (w.policy a) (seeds a) (λ n. offers_of part w f a n) new
+  right = named_is_right part w f a (seeds a) c chosen
 
-    some : c ≢ choice.Nothing → IsSome new
-    some = choice_some (w.policy a) (seeds a) (λ n. offers_of Up w f a n) c new chosen right
+  some : c ≢ choice.Nothing → IsSome new
+  some = choice_some (w.policy a) (seeds a) (λ n. offers_of part w f a n) c new chosen right
 
-    by : (d : Choice) → c ≡ d → new ≡ after_up new (f a)
-    by choice.Nothing e =
-        let none : new ≡ None = ap (named_by w.policy (seeds a) f a) e in
-        none ∙ sym (goes e) ∙ sym (ap (λ x. after_up x (f a)) none)
-    by choice.Seed e = stays_some new (f a) (some (λ x. (let y : choice.Seed ≡ choice.Nothing = sym e ∙ x in cc)))
-    by (choice.Via n r) e = stays_some new (f a) (some (λ x. (let y : choice.Via n r ≡ choice.Nothing = sym e ∙ x in cc)))
+  is_nothing : (d : Choice) → c ≡ d → new ≡ None → c ≡ choice.Nothing
+  is_nothing choice.Nothing e none = e
+  is_nothing choice.Seed e none = (let y : IsSome new = some (λ x. (let y : choice.Seed ≡ choice.Nothing = sym e ∙ x in cc)) in cc)
+  is_nothing (choice.Via n r) e none = (let y : IsSome new = some (λ x. (let y : choice.Via n r ≡ choice.Nothing = sym e ∙ x in cc)) in cc)
 
-    is_nothing : (d : Choice) → c ≡ d → new ≡ None → c ≡ choice.Nothing
-    is_nothing choice.Nothing e none = e
-    is_nothing choice.Seed e none = (let y : IsSome new = some (λ x. (let y : choice.Seed ≡ choice.Nothing = sym e ∙ x in cc)) in cc)
-    is_nothing (choice.Via n r) e none = (let y : IsSome new = some (λ x. (let y : choice.Via n r ≡ choice.Nothing = sym e ∙ x in cc)) in cc)
+  -- the AS takes what its choice names, where it holds no entry that stays
+  pub chosen_in : (g : ℕ → Option Entry) → g a ≡ new → (c ≡ choice.Nothing → after part None (f a) ≡ None) → IsChosen part w seeds a f g nothing
+  chosen_in g at goes = record {
+    new = new;
+    right = right;
+    at = at ∙ by c refl;
+    none = λ e. says.1 (is_nothing c refl e);
+  }
+    where
+      by : (d : Choice) → c ≡ d → new ≡ after part new (f a)
+      by choice.Nothing e =
+          let none : new ≡ None = ap (named_by w.policy (seeds a) f a) e in
+          none ∙ sym (goes e) ∙ sym (ap (λ x. after part x (f a)) none)
+      by choice.Seed e = stays_some part new (f a) (some (λ x. (let y : choice.Seed ≡ choice.Nothing = sym e ∙ x in cc)))
+      by (choice.Via n r) e = stays_some part new (f a) (some (λ x. (let y : choice.Via n r ≡ choice.Nothing = sym e ∙ x in cc)))
+
+  -- an AS that is to take nothing keeps an entry that stays
+  pub chosen_none : IsTrue nothing → after part None (f a) ≡ f a → IsChosen part w seeds a f f nothing
+  chosen_none at_once keeps = record { new = new; right = right; at = sym keeps ∙ sym (ap (λ x. after part x (f a)) none); none = λ e. at_once }
+    where
+      none : new ≡ None
+      none = ap (named_by w.policy (seeds a) f a) (says.0 at_once)
+
+-- an AS that can make the step gives nothing up that the overlay holds
+pub gives_up_none : (part : Part) (w : Setting) (seeds : ℕ → Option Seed) (p : PathPool) (t : Table) (o : Overlay) (a : ℕ) (new the : Option Entry) →
+    ((held : Option Entry) → IsRightGiven (w.policy a) (seeds a) (λ n. offer w (routing_of p t o) n a) held → held ≡ the) →
+    IsRightGiven (w.policy a) (seeds a) (λ n. offers_of part w (routing_of p t o) a n) new → IsReady part w seeds (routing_of p t o) o a → GivesUpNone p t o a new
+gives_up_none Up w seeds p t o a entry the one chosen ready = inl ready
+gives_up_none Whole w seeds p t o a entry the one chosen ready = gives_none p t o a entry (λ changed. elim (ready changed) [ inl none ↦ inl none | inr is ↦ inr (one entry chosen ∙ sym (one (routing_of p t o a) is)) ])

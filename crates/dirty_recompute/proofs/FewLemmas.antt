@@ -14,7 +14,10 @@ use Rattle.std.specs.BTreeMap.{is_at}
 use Rattle.as_graph.proofs.Links.{is_equal}
 use Rattle.dirty_recompute.specs.declared.few.Few.{Few}
 use Rattle.dirty_recompute.specs.Spots.{key_cmp}
-use Rattle.dirty_recompute.specs.Fews.{is_one, few_has, AreKeys, HasTurned, IsLowestOf, IsHighestOf}
+use Rattle.dirty_recompute.specs.Fews.{is_one, few_has, AreKeys, HasTurned, IsNextKey, IsNextOf}
+use Rattle.dirty_recompute.specs.declared.way.Way.{Way}
+use Rattle.dirty_recompute.specs.declared.way.Way.TheVariants.{Up, Down}
+use Rattle.dirty_recompute.specs.Ways.{IsNoLater}
 
 pub keys_total : IsTotalOrder key_cmp
 keys_total = then_total (on_total (λ (p : ℕ × ℕ). p.0) nat_cmp_total) (on_total (λ (p : ℕ × ℕ). p.1) nat_cmp_total)
@@ -35,30 +38,26 @@ first_le x y o e = elim (cases_order x y) [ inl is ↦ omega arith | inr (inl lt
 first_ge : (x y : ℕ) (o : Ordering) → is_lt (ordering_then (nat_cmp x y) o) ≡ false → y ≤ x
 first_ge x y o e = elim (cases_order x y) [ inl is ↦ omega arith | inr (inl lt) ↦ grind (arith) | inr (inr gt) ↦ omega arith ]
 
--- no pair is below the pair
-abbrev pub IsLeast : (ℕ × ℕ → Bool) → ℕ × ℕ → Type 0
-IsLeast has k = (q : ℕ × ℕ) → has q ≡ true → is_gt (key_cmp k q) ≡ false
+pub no_later_itself : (way : Way) (x : ℕ) → IsNoLater way x x
+no_later_itself Up x = omega arith
+no_later_itself Down x = omega arith
 
--- no pair is above the pair
-abbrev pub IsGreatest : (ℕ × ℕ → Bool) → ℕ × ℕ → Type 0
-IsGreatest has k = (q : ℕ × ℕ) → has q ≡ true → is_lt (key_cmp k q) ≡ false
+-- no pair is below the least in rank, and none above the greatest
+pub next_least : (many : keys.BTreeSet (ℕ × ℕ)) (k : ℕ × ℕ) → keys.IsLowerBound key_cmp many k → IsNextKey Up (keys.contains key_cmp many) k
+next_least many k least q there = first_le k.0 q.0 _ (least q there)
 
-module _ (rank : ℕ → ℕ) (before after : ℕ × ℕ → Bool) (k : ℕ × ℕ) (was : AreKeys rank before) (member : before k ≡ true) (up : HasTurned before after k false) where
+pub next_greatest : (many : keys.BTreeSet (ℕ × ℕ)) (k : ℕ × ℕ) → keys.IsUpperBound key_cmp many k → IsNextKey Down (keys.contains key_cmp many) k
+next_greatest many k greatest q there = first_ge k.0 q.0 _ (greatest q there)
+
+module _ (way : Way) (rank : ℕ → ℕ) (before after : ℕ × ℕ → Bool) (k : ℕ × ℕ) (was : AreKeys rank before) (member : before k ≡ true) (up : HasTurned before after k false) where
   is : k ≡ (rank k.1, k.1)
   is = ap (λ x. (x, k.1)) (was k member)
 
-  pub is_lowest : IsLeast before k → IsLowestOf rank before after k.1
-  is_lowest least = record {
+  pub is_next : IsNextKey way before k → IsNextOf way rank before after k.1
+  is_next next = record {
     was = subst (λ q. before q ≡ true) is member;
     turned = subst (λ q. HasTurned before after q false) is up;
-    least = λ b t. subst (λ x. x ≤ rank b) (was k member) (first_le k.0 (rank b) _ (least (rank b, b) t));
-  }
-
-  pub is_highest : IsGreatest before k → IsHighestOf rank before after k.1
-  is_highest greatest = record {
-    was = subst (λ q. before q ≡ true) is member;
-    turned = subst (λ q. HasTurned before after q false) is up;
-    greatest = λ b t. subst (λ x. rank b ≤ x) (was k member) (first_ge k.0 (rank b) _ (greatest (rank b, b) t));
+    next = λ b t. subst (λ x. IsNoLater way x (rank b)) (was k member) (next (rank b, b) t);
   }
 
 -- which pairs a set of one has, and one of many
@@ -95,22 +94,16 @@ module _ (rank : ℕ → ℕ) (before : Few) (after : ℕ × ℕ → Bool) (a : 
       by true = refl
       by false = refl
 
-  pub one_lowest : AreKeys rank (few_has rank before) → IsLowestOf rank (few_has rank before) after a
-  one_lowest was = is_lowest rank (few_has rank before) after key was here turned (λ q t. subst (λ p. is_gt (key_cmp key p) ≡ false) (it_is q t) (ap is_gt (tied_itself keys_total key)))
-
-  pub one_highest : AreKeys rank (few_has rank before) → IsHighestOf rank (few_has rank before) after a
-  one_highest was = is_highest rank (few_has rank before) after key was here turned (λ q t. subst (λ p. is_lt (key_cmp key p) ≡ false) (it_is q t) (ap is_lt (tied_itself keys_total key)))
+  pub one_next : (way : Way) → AreKeys rank (few_has rank before) → IsNextOf way rank (few_has rank before) after a
+  one_next way was = is_next way rank (few_has rank before) after key was here turned (λ q t. subst (λ (p : ℕ × ℕ). IsNoLater way (rank a) p.0) (it_is q t) (no_later_itself way (rank a)))
 
 -- one of the many goes
 module _ (rank : ℕ → ℕ) (before : Few) (after : ℕ × ℕ → Bool) (k : ℕ × ℕ) (was : before.one ≡ None) (member : keys.contains key_cmp before.many k ≡ true) (up : HasTurned (keys.contains key_cmp before.many) after k false) where
   turned_many : HasTurned (few_has rank before) after k false
   turned_many q = up q ∙ sym (ap (cond (is_at (key_cmp k) q) false) (only_many rank before was q))
 
-  pub many_lowest : keys.IsLowerBound key_cmp before.many k → AreKeys rank (few_has rank before) → IsLowestOf rank (few_has rank before) after k.1
-  many_lowest least ranks = is_lowest rank (few_has rank before) after k ranks (only_many rank before was k ∙ member) turned_many (λ q t. least q (sym (only_many rank before was q) ∙ t))
-
-  pub many_highest : keys.IsUpperBound key_cmp before.many k → AreKeys rank (few_has rank before) → IsHighestOf rank (few_has rank before) after k.1
-  many_highest greatest ranks = is_highest rank (few_has rank before) after k ranks (only_many rank before was k ∙ member) turned_many (λ q t. greatest q (sym (only_many rank before was q) ∙ t))
+  pub many_next : (way : Way) → IsNextKey way (keys.contains key_cmp before.many) k → AreKeys rank (few_has rank before) → IsNextOf way rank (few_has rank before) after k.1
+  many_next way next ranks = is_next way rank (few_has rank before) after k ranks (only_many rank before was k ∙ member) turned_many (λ q t. next q (sym (only_many rank before was q) ∙ t))
 
 -- where nothing is in a set
 pub nothing_in : (ks : List (ℕ × ℕ)) → ks ≡ [] → (k : ℕ × ℕ) → list_any (is_at (key_cmp k)) ks ≡ false

@@ -1,5 +1,5 @@
 -- What turns leave of the pool, the table and the overlay.
-use Rattle.std.proofs.Common.{nat_eq, ◌≡◌, ◌≢◌, ◌⊎◌, inl, inr, ℕ, ◌+◌, ◌≤◌, Bool, true, false, ◌||◌, ◌==◌, true≢false, IsSome, is_some, Option, Some, None, option_map, List, [], ◌∷◌, refl, sym, ◌∙◌, subst, arith}
+use Rattle.std.proofs.Common.{nat_eq, ◌≡◌, ◌≢◌, ◌⊎◌, inl, inr, ℕ, ◌+◌, ◌≤◌, Bool, true, false, ◌||◌, ◌==◌, true≢false, IsSome, is_some, Option, Some, None, option_map, List, [], ◌∷◌, length, refl, sym, ◌∙◌, subst, arith}
 use Rattle.std.specs.List.{AllByRecursion, IsDistinct as AreApart}
 use Rattle.std.proofs.lemmas.Bool.{cases_eq, cases_Bool, or_cases, eqb-true}
 use Rattle.std.proofs.lemmas.Cmp.{nat_eq_equiv}
@@ -7,7 +7,7 @@ use Rattle.net_names.specs.Numbers.{occurs, IsDistinct}
 use Rattle.as_graph.specs.Topology.{Topology, has, as_count}
 use Rattle.as_graph.proofs.RowAses.{length-le-as_count}
 use Rattle.path_pool.specs.declared.pool.PathPool.{PathPool}
-use Rattle.path_pool.specs.Pool.{IsLive, count_of, holds_of}
+use Rattle.path_pool.specs.Pool.{IsLive, count_of, holds_of, live_count}
 use Rattle.stability_laws.specs.declared.entry.Entry.{Entry}
 use Rattle.route_choice.specs.declared.counts.TheConstants.{MOST_COUNTED}
 use Rattle.route_choice.specs.declared.held.Held.{Held}
@@ -23,7 +23,7 @@ use Rattle.route_choice.proofs.Lists.{entries_same, held_live}
 use Rattle.route_choice.proofs.Room.{keeps_itself, keeps_more, seeds_kept}
 use Rattle.dirty_recompute.specs.Resources.{has_change, CanTurn, FewNewCells, IsKept, IsPaidFor, IsUndone}
 use Rattle.dirty_recompute.specs.Steps.{ChangesOnly}
-use Rattle.dirty_recompute.specs.Work.{CanGoOn}
+use Rattle.dirty_recompute.specs.Work.{CanGoOn, GoesOn}
 
 pub kept_itself : (p : PathPool) (seeds : SeedIds) (o : Overlay) → IsKept p p seeds o o
 kept_itself p seeds o = record {
@@ -76,8 +76,8 @@ apart (x ∷ xs) (h, d) = (apart_all x xs h, apart xs d)
 
 module _ (g : Topology) (seeds : SeedIds) (table : Table) where
   -- a turn can be taken
-  pub can_turn : (first pool : PathPool) (overlay : Overlay) → as_count g ≤ 150000 → CanGoOn (has g) first pool seeds table overlay → CanTurn pool seeds table overlay
-  can_turn first pool overlay few can = record {
+  pub can_turn : (p0 pool : PathPool) (o0 overlay : Overlay) → as_count g ≤ 150000 → (first : PathPool) × CanGoOn (has g) first p0 seeds table o0 → GoesOn (has g) p0 pool seeds table o0 overlay → CanTurn pool seeds table overlay
+  can_turn p0 pool o0 overlay few (first, could) goes = let can : CanGoOn (has g) first pool seeds table overlay = goes first could in record {
     held = can.held;
     seeds_live = can.seeds_live;
     counts = λ k. omega (arith, can.counts k, can.few k, length-le-as_count g can.ases (apart can.ases can.distinct) (λ x there. (can.are x there).0), few);
@@ -136,29 +136,22 @@ module _ (g : Topology) (seeds : SeedIds) (table : Table) where
         cases : (b : ℕ) → occurs b (a ∷ can.ases) ≡ true → (a ≡ b) ⊎ (occurs b can.ases ≡ true)
         cases b there = elim (or_cases (a == b) (occurs b can.ases) there) [ inl e ↦ inl (eqb-true a b e) | inr e ↦ inr e ]
 
+        with_ases : (ases : List ℕ) → IsDistinct ases → ((b : ℕ) → occurs b ases ≡ true → Is o' h b) → live_count q ≤ live_count first + length ases → ((k : ℕ) → count_of q k ≤ count_of first k + length ases) → CanGoOn (has g) first q seeds table o'
+        with_ases ases distinct are live counts = record {
+          ases = ases;
+          distinct = distinct;
+          are = are;
+          live = live;
+          counts = counts;
+          few = can.few;
+          held = λ k. omega (arith, can.held k, kept.holds k);
+          entries_live = entries_live;
+          seeds_live = seeds_kept p q seeds kept.keeps can.seeds_live;
+        }
+
         by : IsPaidFor p q f h a → CanGoOn (has g) first q seeds table o'
-        by (inl (live, counts)) = record {
-          ases = can.ases;
-          distinct = can.distinct;
-          are = λ b there. on b (can.are b there);
-          live = omega (arith, can.live, live);
-          counts = λ k. omega (arith, can.counts k, counts k);
-          few = can.few;
-          held = λ k. omega (arith, can.held k, kept.holds k);
-          entries_live = entries_live;
-          seeds_live = seeds_kept p q seeds kept.keeps can.seeds_live;
-        }
-        by (inr (ne, some, live, counts)) = record {
-          ases = a ∷ can.ases;
-          distinct = (not_yet ne, can.distinct);
-          are = λ b there. among b ne some (cases b there);
-          live = omega (arith, can.live, live);
-          counts = λ k. omega (arith, can.counts k, counts k);
-          few = can.few;
-          held = λ k. omega (arith, can.held k, kept.holds k);
-          entries_live = entries_live;
-          seeds_live = seeds_kept p q seeds kept.keeps can.seeds_live;
-        }
+        by (inl (live, counts)) = with_ases can.ases can.distinct (λ b there. on b (can.are b there)) (omega (arith, can.live, live)) (λ k. omega (arith, can.counts k, counts k))
+        by (inr (ne, some, live, counts)) = with_ases (a ∷ can.ases) (not_yet ne, can.distinct) (λ b there. among b ne some (cases b there)) (omega (arith, can.live, live)) (λ k. omega (arith, can.counts k, counts k))
 
 -- the cells that the changes need
 pub few_new_cells : (g : Topology) (seeds : SeedIds) (table : Table) (p q : PathPool) (o : Overlay) → CanGoOn (has g) p q seeds table o → FewNewCells p q o

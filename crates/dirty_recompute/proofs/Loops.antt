@@ -5,7 +5,7 @@ use Rattle.std.specs.List.{slice_get}
 use Rattle.dirty_recompute.specs.Queues.{IsIn}
 use Rattle.net_names.specs.declared.routes.Rel.{Rel}
 use Rattle.net_names.specs.declared.routes.Rel.TheVariants.{Customer, Provider}
-use Rattle.policy_laws.specs.Policy.{Policy, RanksOffers, PrefersCustomers}
+use Rattle.policy_laws.specs.Policy.{Policy}
 use Rattle.net_names.specs.declared.routes.State.{State}
 use Rattle.as_graph.specs.Topology.{Topology, relation, has, ases}
 use Rattle.net_names.specs.Links.{converse}
@@ -19,8 +19,8 @@ use Rattle.stability_laws.specs.Book.{PolicyBook}
 use Rattle.stability_laws.specs.World.{setting}
 use Rattle.stability_laws.specs.Offers.{Setting}
 use Rattle.stability_laws.specs.Stable.{IsRight}
-use Rattle.stability_laws.specs.Laws.{OfferNames, OfferFollows, RightByOffers, NothingUp, CustomersDecide, OneStableRouting}
 use Rattle.dirty_recompute.specs.Exact.{IsCounted, IsExact, AreEnough}
+use Rattle.dirty_recompute.specs.Laws.{AreLaws}
 use Rattle.dirty_recompute.specs.Steps.{IsRightLow}
 use Rattle.dirty_recompute.specs.Work.{IsUpLoop, IsWholeLoop}
 use Rattle.dirty_recompute.proofs.Parts.{right_low}
@@ -30,16 +30,6 @@ use Rattle.dirty_recompute.specs.declared.queue.Queue.{Queue}
 use Rattle.dirty_recompute.specs.Queues.{contains, waits, HasRanks, IsAdded, IsTaken}
 use Rattle.dirty_recompute.specs.Turns.{IsTurnUp, IsTurnDown}
 use Rattle.dirty_recompute.proofs.TurnLemmas.{turned}
-
-pub record AreLaws {P : Type 0} (meaning : P → Policy) : Type 0 where
-  pub ranks_offers : (p : P) → RanksOffers (meaning p)
-  pub prefers : (p : P) → PrefersCustomers (meaning p)
-  pub names : OfferNames meaning
-  pub follows : OfferFollows meaning
-  pub by_offers : RightByOffers meaning
-  pub nothing_up : NothingUp meaning
-  pub decide : CustomersDecide meaning
-  pub one : OneStableRouting meaning
 
 occurs_append : (b : ℕ) (xs ys : List ℕ) → (occurs b xs ≡ true) ⊎ (occurs b ys ≡ true) → occurs b (xs ++ ys) ≡ true
 occurs_append b [] ys (inl e) = absurd (true≢false (sym e))
@@ -58,6 +48,15 @@ counted_in g touched overlay b (inr (c, r, link, t)) = occurs_append b touched (
 unless : (x y : Bool) → (x ≡ true → y ≡ true) → y ≡ false → x ≡ false
 unless true y h n = absurd (true≢false (sym (h refl) ∙ n))
 unless false y h n = refl
+
+-- who waits once a was taken out is not a, and waited before
+module _ (g : Topology) (rank : ℕ → ℕ) (a : ℕ) (queue between : Queue) (out : IsTaken rank queue between a) (r : Rel) (changed : Bool) where
+  not_itself : (b : ℕ) → relation g b a ≡ Some r → b ≢ a
+  not_itself b link e = (let x : None ≡ Some r = sym (relation_self g a) ∙ ap (λ t. relation g t a) (sym e) ∙ link in cc)
+
+  pub from_others : (b : ℕ) → (waits rank between b ≡ true) ⊎ ((relation g b a ≡ Some r) × (changed ≡ true)) → (b ≢ a) × ((waits rank queue b ≡ true) ⊎ ((relation g b a ≡ Some r) × (changed ≡ true)))
+  from_others b (inl t) = ((λ e. true≢false (sym t ∙ ap (waits rank between) e ∙ out.gone)), inl (out.from b t))
+  from_others b (inr n) = (not_itself b n.0, inr n)
 
 module _ {P : Type 0} (meaning : P → Policy) (l : AreLaws meaning) (g : Topology) (book : PolicyBook P) (state : ℕ → State) (seeds : ℕ → Option Seed) (rank : ℕ → ℕ) (touched : List ℕ) (table : ℕ → Option Entry) where
   abbrev here : Setting
@@ -82,21 +81,11 @@ module _ {P : Type 0} (meaning : P → Policy) (l : AreLaws meaning) (g : Topolo
     count = ap suc was.count;
   }
     where
-      not_itself : (b : ℕ) → relation g b a ≡ Some Customer → b ≢ a
-      not_itself b link e = (let x : None ≡ Some Customer = sym (relation_self g a) ∙ ap (λ t. relation g t a) (sym e) ∙ link in cc)
-
-      not_there : (b : ℕ) → waits rank between b ≡ true → b ≢ a
-      not_there b t e = true≢false (sym t ∙ ap (waits rank between) e ∙ out.gone)
-
-      from : (b : ℕ) → (waits rank between b ≡ true) ⊎ ((relation g b a ≡ Some Customer) × (overlay' a ≡ true)) → (b ≢ a) × ((waits rank up b ≡ true) ⊎ ((relation g b a ≡ Some Customer) × (overlay' a ≡ true)))
-      from b (inl t) = (not_there b t, inl (out.from b t))
-      from b (inr n) = (not_itself b n.0, inr n)
-
       step : IsUpStep Low Right (relation g) a f overlay (waits rank up) (waits rank whole) h overlay' (waits rank up') (waits rank whole')
       step = up_turn meaning l.ranks_offers l.prefers l.names l.follows l.by_offers l.nothing_up l.decide g book state seeds a f overlay (waits rank up) (waits rank whole) h overlay' (waits rank up') (waits rank whole')
           done.chosen.new done.chosen.right done.chosen.at done.only.others done.only.changed_others done.only.settled
           (λ n. done.queued.itself (done.chosen.none n)) (λ b ne t. done.queued.kept b (out.kept b ne t)) done.queued.kept_whole done.queued.asked done.queued.asked_whole
-          (λ b t. from b (done.queued.from b t)) done.queued.from_whole
+          (λ b t. from_others g rank a up between out Customer (overlay' a) b (done.queued.from b t)) done.queued.from_whole
 
   pub next_whole : ((a b : ℕ) → relation g a b ≡ Some Customer → suc (rank b) ≤ rank a) → (f h : ℕ → Option Entry) (overlay overlay' : ℕ → Bool) (whole between whole' : Queue) (earlier steps a : ℕ) →
       IsWholeLoop here seeds rank touched table f overlay whole earlier steps → IsTaken rank whole between a → ((b : ℕ) → waits rank whole b ≡ true → rank b ≤ rank a) →
@@ -112,20 +101,10 @@ module _ {P : Type 0} (meaning : P → Policy) (l : AreLaws meaning) (g : Topolo
     count = ap suc was.count;
   }
     where
-      not_itself : (b : ℕ) → relation g b a ≡ Some Provider → b ≢ a
-      not_itself b link e = (let x : None ≡ Some Provider = sym (relation_self g a) ∙ ap (λ t. relation g t a) (sym e) ∙ link in cc)
-
-      not_there : (b : ℕ) → waits rank between b ≡ true → b ≢ a
-      not_there b t e = true≢false (sym t ∙ ap (waits rank between) e ∙ out.gone)
-
-      from : (b : ℕ) → (waits rank between b ≡ true) ⊎ ((relation g b a ≡ Some Provider) × (overlay' a ≡ true)) → (b ≢ a) × ((waits rank whole b ≡ true) ⊎ ((relation g b a ≡ Some Provider) × (overlay' a ≡ true)))
-      from b (inl t) = (not_there b t, inl (out.from b t))
-      from b (inr n) = (not_itself b n.0, inr n)
-
       step : IsWholeStep Low Right (relation g) a f overlay (waits rank whole) h overlay' (waits rank whole')
       step = whole_turn meaning l.ranks_offers l.prefers l.names l.follows l.by_offers l.nothing_up l.decide g book state seeds a f overlay (waits rank whole) h overlay' (waits rank whole')
           (was.work.low_right a) done.chosen done.only.others done.only.changed_others done.only.settled
-          (λ b ne t. done.queued.kept b (out.kept b ne t)) done.queued.asked (λ b t. from b (done.queued.from b t))
+          (λ b ne t. done.queued.kept b (out.kept b ne t)) done.queued.asked (λ b t. from_others g rank a whole between out Provider (overlay' a) b (done.queued.from b t))
 
   pub few_up : (f : ℕ → Option Entry) (overlay : ℕ → Bool) (up whole : Queue) (steps : ℕ) → IsUpLoop here seeds rank touched table f overlay up whole steps → steps ≤ length (touched ++ ases g)
   few_up f overlay up whole steps was = subst (λ n. n ≤ length (touched ++ ases g)) was.count (distinct_le was.taken (touched ++ ases g) was.work.order.distinct (λ b t. counted_in g touched overlay b (was.work.done b t)))

@@ -118,15 +118,15 @@ module _ {P : Type 0} (meaning : P → Policy) (ranks_offers : (p : P) → Ranks
       by Peer x = inl (ap (λ (t : Entry). t.class) is ∙ from.class ∙ ap class_of x)
       by Provider x = inr (ap (λ (t : Entry). t.class) is ∙ from.class ∙ ap class_of x)
 
+  pub unlinked : (h : ℕ → Option Entry) (a b : ℕ) → relation w b a ≡ None → offer there h a b ≡ None
+  unlinked h a b none = by (offer there h a b) refl
+    where
+      by : (o : Option Offer) → offer there h a b ≡ o → o ≡ None
+      by None e = refl
+      by (Some o) e = let from : GivenBy (relation w b a) a o = names w book state h a b o e in let x : None ≡ Some from.from = sym none ∙ from.linked in cc
+
   -- f and g differ at a alone, where neither holds anything for others than customers
   module _ (f g : ℕ → Option Entry) (a : ℕ) (others : (n : ℕ) → n ≢ a → f n ≡ g n) (f_down : IsForCustomersOnly (f a)) (g_down : IsForCustomersOnly (g a)) where
-    unlinked : (h : ℕ → Option Entry) (b : ℕ) → relation w b a ≡ None → offer there h a b ≡ None
-    unlinked h b none = by (offer there h a b) refl
-      where
-        by : (o : Option Offer) → offer there h a b ≡ o → o ≡ None
-        by None e = refl
-        by (Some o) e = let from : GivenBy (relation w b a) a o = names w book state h a b o e in let x : None ≡ Some from.from = sym none ∙ from.linked in cc
-
     not_to_customer : (r : Rel) → r ≢ Provider → converse r ≢ Customer
     not_to_customer Customer p e = (let x : Provider ≡ Customer = e in cc)
     not_to_customer Peer p e = (let x : Peer ≡ Customer = e in cc)
@@ -137,7 +137,7 @@ module _ {P : Type 0} (meaning : P → Policy) (ranks_offers : (p : P) → Ranks
     none_of_a h down b not_provider = by (relation w b a) refl
       where
         by : (r : Option Rel) → relation w b a ≡ r → offer there h a b ≡ None
-        by None e = unlinked h b e
+        by None e = unlinked h a b e
         by (Some r) e = nothing_up w book state h a b (converse r) (relation_mutual w b a ∙ ap (option_map converse) e) (not_to_customer r (λ p. not_provider (e ∙ ap Some p))) down
 
     pub same_offers : (b : ℕ) → (relation w b a ≢ Some Provider) → (n : ℕ) → offer there f n b ≡ offer there g n b

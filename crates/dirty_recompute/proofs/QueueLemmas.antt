@@ -10,11 +10,12 @@ use Rattle.as_graph.specs.declared.neighbour.Neighbour.{Neighbour}
 use Rattle.dirty_recompute.specs.declared.queue.Queue.{Queue}
 use Rattle.dirty_recompute.specs.declared.spots.Spots.{Spots}
 use Rattle.dirty_recompute.specs.declared.spot.Spot.{Spot}
-use Rattle.dirty_recompute.specs.Spots.{key_cmp, spots_have, AreRanked, IsSpotOf, IsMarked, IsFirstTaken, IsLastTaken, NoneWaits}
-use Rattle.dirty_recompute.specs.Fews.{few_has, AreKeys, HasTurned, IsLowestOf, IsHighestOf}
-use Rattle.dirty_recompute.specs.Queues.{contains, spots_in, waits, HasRanks, IsAdded, IsSame, IsTaken, IsLowest, IsHighest, AreQueued}
+use Rattle.dirty_recompute.specs.declared.way.Way.{Way}
+use Rattle.dirty_recompute.specs.Spots.{key_cmp, spots_have, AreRanked, IsSpotOf, IsMarked, IsNextTaken, NoneWaits}
+use Rattle.dirty_recompute.specs.Fews.{few_has, AreKeys, HasTurned, IsNextOf}
+use Rattle.dirty_recompute.specs.Queues.{contains, spots_in, waits, HasRanks, IsAdded, IsSame, IsTaken, IsNext, AreQueued}
 use Rattle.dirty_recompute.proofs.FewLemmas.{either, key_is, key_at, only_many}
-use Rattle.dirty_recompute.proofs.SpotLemmas.{marked_turned, marked_ranked, first_lowest, last_highest, none_has}
+use Rattle.dirty_recompute.proofs.SpotLemmas.{marked_turned, marked_ranked, next_spot, none_has}
 
 pub added : (rank : ℕ → ℕ) (before after : Queue) (a : ℕ) → HasTurned (contains rank before) (contains rank after) (rank a, a) true → (HasRanks rank before → (s : Spots) → after.spots ≡ Some s → AreRanked rank s.items.items) → IsAdded rank before after (λ b. b ≡ a)
 added rank before after a up spots = record {
@@ -79,11 +80,8 @@ module _ (rank : ℕ → ℕ) (before after : Queue) (a : ℕ) (was : HasRanks r
     };
   }
 
-pub lowest : (rank : ℕ → ℕ) (before after : Queue) (a : ℕ) → HasRanks rank before → ((s : Spots) → after.spots ≡ Some s → AreRanked rank s.items.items) → IsLowestOf rank (contains rank before) (contains rank after) a → IsLowest rank before after a
-lowest rank before after a was spots x = record { taken = taken rank before after a was x.was x.turned spots; least = x.least }
-
-pub highest : (rank : ℕ → ℕ) (before after : Queue) (a : ℕ) → HasRanks rank before → ((s : Spots) → after.spots ≡ Some s → AreRanked rank s.items.items) → IsHighestOf rank (contains rank before) (contains rank after) a → IsHighest rank before after a
-highest rank before after a was spots x = record { taken = taken rank before after a was x.was x.turned spots; greatest = x.greatest }
+pub next_taken : (way : Way) (rank : ℕ → ℕ) (before after : Queue) (a : ℕ) → HasRanks rank before → ((s : Spots) → after.spots ≡ Some s → AreRanked rank s.items.items) → IsNextOf way rank (contains rank before) (contains rank after) a → IsNext way rank before after a
+next_taken way rank before after a was spots x = record { taken = taken rank before after a was x.was x.turned spots; next = x.next }
 
 or_right : (x y : Bool) → y ≡ false → (x || y) ≡ x
 or_right true y e = refl
@@ -101,11 +99,8 @@ module _ (rank : ℕ → ℕ) (before after : Queue) (f g : ℕ × ℕ → Bool)
   pub turned_by : (k : ℕ × ℕ) (b : Bool) → HasTurned f g k b → HasTurned (contains rank before) (contains rank after) k b
   turned_by k b up q = y q ∙ up q ∙ sym (ap (cond (is_at (key_cmp k) q) b) (x q))
 
-  pub lowest_by : (a : ℕ) → IsLowestOf rank f g a → IsLowestOf rank (contains rank before) (contains rank after) a
-  lowest_by a l = record { was = x (rank a, a) ∙ l.was; turned = turned_by (rank a, a) false l.turned; least = λ b t. l.least b (sym (x (rank b, b)) ∙ t) }
-
-  pub highest_by : (a : ℕ) → IsHighestOf rank f g a → IsHighestOf rank (contains rank before) (contains rank after) a
-  highest_by a l = record { was = x (rank a, a) ∙ l.was; turned = turned_by (rank a, a) false l.turned; greatest = λ b t. l.greatest b (sym (x (rank b, b)) ∙ t) }
+  pub next_by : (way : Way) (a : ℕ) → IsNextOf way rank f g a → IsNextOf way rank (contains rank before) (contains rank after) a
+  next_by way a l = record { was = x (rank a, a) ∙ l.was; turned = turned_by (rank a, a) false l.turned; next = λ b t. l.next b (sym (x (rank b, b)) ∙ t) }
 
 -- the spots that a queue has afterwards are ranked, if those are that it got
 ranked_now : (rank : ℕ → ℕ) (after : Queue) (t : Spots) → after.spots ≡ Some t → AreRanked rank t.items.items → (u : Spots) → after.spots ≡ Some u → AreRanked rank u.items.items
@@ -138,27 +133,18 @@ gathered_put rank first before gathered after a one two none none' up =
     (λ was. none_now rank after none')))
 
 module _ (rank : ℕ → ℕ) (before after : Queue) (s t : Spots) (x : Spot) (is : before.spots ≡ Some s) (at : after.spots ≡ Some t) (was : HasRanks rank before) where
-  pub spots_lowest : IsFirstTaken s.items.items t.items.items x → IsLowest rank before after x.asn
-  spots_lowest first =
-      lowest rank before after x.asn was (ranked_now rank after t at (marked_ranked s.items.items t.items.items first.place false x first.at first.marked rank (was.spots s is)))
-      (lowest_by rank before after (spots_have rank s.items.items) (spots_have rank t.items.items) (with_spots rank before s is) (with_spots rank after t at) x.asn
-      (first_lowest rank s.items.items t.items.items x s.apart s.rising (was.spots s is) first))
-
-  pub spots_highest : IsLastTaken s.items.items t.items.items x → IsHighest rank before after x.asn
-  spots_highest last =
-      highest rank before after x.asn was (ranked_now rank after t at (marked_ranked s.items.items t.items.items last.place false x last.at last.marked rank (was.spots s is)))
-      (highest_by rank before after (spots_have rank s.items.items) (spots_have rank t.items.items) (with_spots rank before s is) (with_spots rank after t at) x.asn
-      (last_highest rank s.items.items t.items.items x s.apart s.rising (was.spots s is) last))
+  pub spots_next : (way : Way) → IsNextTaken way s.items.items t.items.items x → IsNext way rank before after x.asn
+  spots_next way next =
+      next_taken way rank before after x.asn was (ranked_now rank after t at (marked_ranked s.items.items t.items.items next.place false x next.at next.marked rank (was.spots s is)))
+      (next_by rank before after (spots_have rank s.items.items) (spots_have rank t.items.items) (with_spots rank before s is) (with_spots rank after t at) way x.asn
+      (next_spot way rank s.items.items t.items.items x s.apart s.rising (was.spots s is) next))
 
 module _ (rank : ℕ → ℕ) (before after : Queue) (none : before.spots ≡ None) (none' : after.spots ≡ None) (was : HasRanks rank before) where
   few_keys : AreKeys rank (few_has rank before.few)
   few_keys k t = was.keys k (without_spots rank before none k ∙ t)
 
-  pub few_lowest : (o : Option ℕ) → (AreKeys rank (few_has rank before.few) → IfSome o (IsLowestOf rank (few_has rank before.few) (few_has rank after.few))) → IfSome o (IsLowest rank before after)
-  few_lowest o taken = IfSome_then o (taken few_keys) (λ a l. lowest rank before after a was (none_now rank after none') (lowest_by rank before after (few_has rank before.few) (few_has rank after.few) (without_spots rank before none) (without_spots rank after none') a l))
-
-  pub few_highest : (o : Option ℕ) → (AreKeys rank (few_has rank before.few) → IfSome o (IsHighestOf rank (few_has rank before.few) (few_has rank after.few))) → IfSome o (IsHighest rank before after)
-  few_highest o taken = IfSome_then o (taken few_keys) (λ a l. highest rank before after a was (none_now rank after none') (highest_by rank before after (few_has rank before.few) (few_has rank after.few) (without_spots rank before none) (without_spots rank after none') a l))
+  pub few_next : (way : Way) (o : Option ℕ) → (AreKeys rank (few_has rank before.few) → IfSome o (IsNextOf way rank (few_has rank before.few) (few_has rank after.few))) → IfSome o (IsNext way rank before after)
+  few_next way o taken = IfSome_then o (taken few_keys) (λ a l. next_taken way rank before after a was (none_now rank after none') (next_by rank before after (few_has rank before.few) (few_has rank after.few) (without_spots rank before none) (without_spots rank after none') way a l))
 
 -- nobody waits where nobody does in the set
 pub few_nobody : (rank : ℕ → ℕ) (before : Queue) (o : Option ℕ) → before.spots ≡ None → IfNone o ((k : ℕ × ℕ) → few_has rank before.few k ≡ false) → IfNone o ((b : ℕ) → waits rank before b ≡ false)

@@ -1,13 +1,16 @@
 -- What a mark at a spot changes.
-use Rattle.std.proofs.Common.{◌≡◌, inl, inr, ℕ, zero, suc, ◌<◌, ◌≤◌, Bool, true, false, ◌&&◌, ◌||◌, cond, true≢false, refl, sym, ◌∙◌, ap, subst, arith, List, [], ◌∷◌, Some, slice_get}
+use Rattle.std.proofs.Common.{◌≡◌, ◌≢◌, ◌+◌, ◌-◌, inl, inr, ℕ, zero, suc, ◌<◌, ◌≤◌, Bool, true, false, ◌&&◌, ◌||◌, cond, true≢false, refl, sym, ◌∙◌, ap, subst, arith, List, [], ◌∷◌, Some, slice_get}
 use Rattle.std.proofs.lemmas.Bool.{cases_eq}
 use Rattle.std.proofs.lemmas.List.Folds.{list_any_at}
 use Rattle.std.proofs.lemmas.Option.{slice_get_within, get_or_from_slice_get}
 use Rattle.std.specs.List.{list_any}
 use Rattle.std.specs.BTreeMap.{is_at}
 use Rattle.dirty_recompute.specs.declared.spot.Spot.{Spot}
-use Rattle.dirty_recompute.specs.Spots.{key_cmp, waits_at, spots_have, AreApart, AreRising, AreWithin, AreRanked, NoneWaits, IsMarked, IsFirstTaken, IsLastTaken}
-use Rattle.dirty_recompute.specs.Fews.{HasTurned, IsLowestOf, IsHighestOf}
+use Rattle.dirty_recompute.specs.Spots.{key_cmp, waits_at, spots_have, AreApart, AreRising, AreWithin, AreRanked, NoneWaits, IsMarked, IsNextPlace, IsNextTaken, place_after}
+use Rattle.dirty_recompute.specs.Fews.{HasTurned, IsNextOf}
+use Rattle.dirty_recompute.specs.declared.way.Way.{Way}
+use Rattle.dirty_recompute.specs.declared.way.Way.TheVariants.{Up, Down}
+use Rattle.dirty_recompute.specs.Ways.{IsNoLater}
 use Rattle.dirty_recompute.proofs.FewLemmas.{either, key_is, key_at}
 
 pub any_in : {X : Type 0} (p : X → Bool) (xs : List X) (j : ℕ) (x : X) → slice_get xs j ≡ Some x → p x ≡ true → list_any p xs ≡ true
@@ -121,29 +124,67 @@ module _ (before after : List Spot) (i : ℕ) (b : Bool) (s : Spot) (at : slice_
       | inr e ↦ elsewhere q e ∙ sym (ap (λ x. cond x b (spots_have rank before q)) e)
     ]
 
-module _ (rank : ℕ → ℕ) (before after : List Spot) (s : Spot) (apart : AreApart before) (rising : AreRising before) (ranked : AreRanked rank before) where
-  pub first_lowest : IsFirstTaken before after s → IsLowestOf rank (spots_have rank before) (spots_have rank after) s.asn
-  first_lowest x =
-      let ((u, got, w), first) = x.first in
-      let same : u ≡ s = same_spot u s (sym got ∙ x.at) in
-      record {
-        was = has_own rank before x.place s x.at (sym (ap (λ (t : Spot). t.waits) same) ∙ w);
-        turned = marked_turned before after x.place false s x.at x.marked rank apart;
-        least = λ b t. (let (j, v, gv, wv) = any_out (waits_at rank (rank b, b)) before t in
-            let le : s.rank ≤ v.rank = rising x.place j s v (first j v gv (waits_of rank (rank b, b) v wv)) x.at gv in
-            let is : rank b ≡ rank v.asn = ap (λ (p : ℕ × ℕ). p.0) (pair_of rank (rank b, b) v wv) in
-            omega (arith, le, is, ranked x.place s x.at, ranked j v gv));
-      }
+-- a spot that comes no later has a rank that comes no later
+no_later_rank : (way : Way) (spots : List Spot) → AreRising spots → (i j : ℕ) (s t : Spot) → IsNoLater way i j → slice_get spots i ≡ Some s → slice_get spots j ≡ Some t → IsNoLater way s.rank t.rank
+no_later_rank Up spots rising i j s t le at_i at_j = rising i j s t le at_i at_j
+no_later_rank Down spots rising i j s t le at_i at_j = rising j i t s le at_j at_i
 
-  pub last_highest : IsLastTaken before after s → IsHighestOf rank (spots_have rank before) (spots_have rank after) s.asn
-  last_highest x =
-      let ((u, got, w), last) = x.last in
-      let same : u ≡ s = same_spot u s (sym got ∙ x.at) in
-      record {
-        was = has_own rank before x.place s x.at (sym (ap (λ (t : Spot). t.waits) same) ∙ w);
-        turned = marked_turned before after x.place false s x.at x.marked rank apart;
-        greatest = λ b t. (let (j, v, gv, wv) = any_out (waits_at rank (rank b, b)) before t in
-            let le : v.rank ≤ s.rank = rising j x.place v s (last j v gv (waits_of rank (rank b, b) v wv)) gv x.at in
-            let is : rank b ≡ rank v.asn = ap (λ (p : ℕ × ℕ). p.0) (pair_of rank (rank b, b) v wv) in
-            omega (arith, le, is, ranked x.place s x.at, ranked j v gv));
-      }
+pub next_spot : (way : Way) (rank : ℕ → ℕ) (before after : List Spot) (s : Spot) → AreApart before → AreRising before → AreRanked rank before → IsNextTaken way before after s → IsNextOf way rank (spots_have rank before) (spots_have rank after) s.asn
+next_spot way rank before after s apart rising ranked x =
+    let ((u, got, w), first) = x.next in
+    let same : u ≡ s = same_spot u s (sym got ∙ x.at) in
+    record {
+      was = has_own rank before x.place s x.at (sym (ap (λ (t : Spot). t.waits) same) ∙ w);
+      turned = marked_turned before after x.place false s x.at x.marked rank apart;
+      next = λ b t. (let (j, v, gv, wv) = any_out (waits_at rank (rank b, b)) before t in
+          let le : IsNoLater way s.rank v.rank = no_later_rank way before rising x.place j s v (first j v gv (waits_of rank (rank b, b) v wv)) x.at gv in
+          let is : rank b ≡ rank v.asn = ap (λ (p : ℕ × ℕ). p.0) (pair_of rank (rank b, b) v wv) in
+          subst (λ n. IsNoLater way n (rank b)) (ranked x.place s x.at) (subst (IsNoLater way s.rank) (ranked j v gv ∙ sym is) le));
+    }
+
+-- who waits comes at so many places on this way or later
+abbrev pub AreAhead : Way → ℕ → ℕ → ℕ → List Spot → Type 0
+AreAhead Up low high step spots = (j : ℕ) (t : Spot) → slice_get spots j ≡ Some t → t.waits ≡ true → (low + step ≤ j) × (j < high)
+AreAhead Down low high step spots = (j : ℕ) (t : Spot) → slice_get spots j ≡ Some t → t.waits ≡ true → (low ≤ j) × (j + step < high)
+
+pub ahead_at_first : (way : Way) (low high : ℕ) (spots : List Spot) → AreWithin low high spots → AreAhead way low high 0 spots
+ahead_at_first Up low high spots within = λ j t got w. let is = within j t got w in (omega (arith, is.0), is.1)
+ahead_at_first Down low high spots within = λ j t got w. let is = within j t got w in (is.0, omega (arith, is.1))
+
+-- they come at that place or later
+pub ahead_of_place : (way : Way) (low high step : ℕ) (spots : List Spot) → AreAhead way low high step spots → (j : ℕ) (t : Spot) → slice_get spots j ≡ Some t → t.waits ≡ true → IsNoLater way (place_after way low high step) j
+ahead_of_place Up low high step spots ahead j t got w = (ahead j t got w).0
+ahead_of_place Down low high step spots ahead j t got w = let is = ahead j t got w in omega (arith, is.1)
+
+-- where nobody waits at a place, they come at the next one or later
+pub ahead_next : (way : Way) (low high step : ℕ) (spots : List Spot) → step < high - low → ((t : Spot) → slice_get spots (place_after way low high step) ≡ Some t → t.waits ≡ false) → AreAhead way low high step spots → AreAhead way low high (step + 1) spots
+ahead_next Up low high step spots some none ahead = λ j t got w.
+    let is = ahead j t got w in
+    let apart : j ≢ low + step = λ e. true≢false (sym w ∙ none t (ap (slice_get spots) (sym e) ∙ got)) in
+    (omega (arith, is.0, apart), is.1)
+ahead_next Down low high step spots some none ahead = λ j t got w.
+    let is = ahead j t got w in
+    let apart : j ≢ high - (step + 1) = λ e. true≢false (sym w ∙ none t (ap (slice_get spots) (sym e) ∙ got)) in
+    (is.0, omega (arith, is.1, apart, some))
+
+-- and where all places are passed nobody waits
+pub none_ahead : (way : Way) (low high step : ℕ) (spots : List Spot) → high - low ≤ step → AreAhead way low high step spots → NoneWaits spots
+none_ahead way low high step spots past ahead i s got = by s.waits refl
+  where
+    no : (x : Way) → AreAhead x low high step spots → s.waits ≡ true → ⊥
+    no Up all w = let is = all i s got w in omega (arith, is.0, is.1, past)
+    no Down all w = let is = all i s got w in omega (arith, is.0, is.1, past)
+
+    by : (x : Bool) → s.waits ≡ x → x ≡ false
+    by false e = refl
+    by true e = absurd (no way ahead e)
+
+-- with nobody before the next place, all who wait stand within the new bounds
+pub next_within : (low high at : ℕ) (spots : List Spot) → AreWithin low high spots → (IsNextPlace Up spots at → AreWithin at high spots) × (IsNextPlace Down spots at → AreWithin low (at + 1) spots)
+next_within low high at spots within = (up, down)
+  where
+    up : IsNextPlace Up spots at → AreWithin at high spots
+    up next = λ j t got w. (next.1 j t got w, (within j t got w).1)
+
+    down : IsNextPlace Down spots at → AreWithin low (at + 1) spots
+    down next = λ j t got w. let le : j ≤ at = next.1 j t got w in ((within j t got w).0, omega (arith, le))

@@ -1,5 +1,5 @@
 -- A turn, from its parts.
-use Rattle.std.proofs.Common.{◌≡◌, ◌≢◌, ◌⊎◌, inl, inr, ℕ, zero, suc, Bool, true, false, ◌||◌, ◌==◌, true≢false, Option, Some, None, option_map, List, [], ◌∷◌, refl, sym, ◌∙◌, ap, subst, All}
+use Rattle.std.proofs.Common.{◌≡◌, ◌≢◌, ◌⊎◌, inl, inr, ℕ, zero, suc, Bool, true, false, ◌||◌, ◌==◌, true≢false, IsTrue, Option, Some, None, option_map, List, [], ◌∷◌, refl, sym, ◌∙◌, ap, subst, All}
 use Rattle.std.specs.List.{slice_get}
 use Rattle.std.proofs.lemmas.Bool.{eqb-true}
 use Rattle.std.proofs.lemmas.Option.{slice_get_within, get_or_from_slice_get}
@@ -15,10 +15,22 @@ use Rattle.stability_laws.specs.declared.entry.Entry.{Entry}
 use Rattle.stability_laws.specs.declared.entry.Seed.{Seed}
 use Rattle.stability_laws.specs.Offers.{Setting, offer}
 use Rattle.stability_laws.specs.Stable.{IsRightGiven}
-use Rattle.dirty_recompute.specs.Steps.{ChangesOnly, IsChosenUp, IsLeft}
+use Rattle.dirty_recompute.specs.Steps.{ChangesOnly, IsChosen, IsLeft}
+use Rattle.path_pool.specs.declared.pool.PathPool.{PathPool}
+use Rattle.route_choice.specs.declared.choice.Part.{Part}
+use Rattle.route_choice.specs.declared.choice.Part.TheVariants.{Up, Whole}
+use Rattle.route_choice.specs.declared.overlay.Overlay.{Overlay}
+use Rattle.route_choice.specs.declared.seeds.SeedIds.{SeedIds}
+use Rattle.route_choice.specs.declared.table.Table.{Table}
+use Rattle.route_choice.specs.Resources.{Keeps}
+use Rattle.route_choice.specs.Routings.{routing_of, seeds_of}
 use Rattle.dirty_recompute.specs.declared.queue.Queue.{Queue}
 use Rattle.dirty_recompute.specs.Queues.{waits, IsAdded, AreQueued, IsAmong}
-use Rattle.dirty_recompute.specs.Turns.{IsTurnUp, IsTurnDown}
+use Rattle.dirty_recompute.specs.declared.queue.Queues.{Queues}
+use Rattle.dirty_recompute.specs.declared.after_step.Stepped.{Stepped}
+use Rattle.dirty_recompute.specs.Resources.{as_before, has_change, IsBefore}
+use Rattle.dirty_recompute.specs.Turns.{IsTurn, IsTurnUp, IsTurnDown}
+use Rattle.dirty_recompute.proofs.Befores.{before_is}
 
 element : (xs : List Neighbour) (b : ℕ) → occurs b (asns xs) ≡ true → (i : ℕ) × (n : Neighbour) × (slice_get xs i ≡ Some n) × (n.asn ≡ b)
 element [] b e = absurd (true≢false (sym e))
@@ -55,7 +67,7 @@ module _ (w : Setting) (g : Topology) (is : w.relation ≡ relation g) (seeds : 
   at b r e = ap (λ t. t b a) is ∙ turned g a b r e
 
   pub turn_up : (up up' whole between whole' : Queue) (changed nothing : Bool) →
-      IsChosenUp w seeds a f h nothing → ChangesOnly a f h changes changed' → (changed ≡ true → changed' a ≡ true) → (changed ≡ false → h a ≡ f a) →
+      IsChosen Up w seeds a f h nothing → ChangesOnly a f h changes changed' → (changed ≡ true → changed' a ≡ true) → (changed ≡ false → h a ≡ f a) →
       IsAdded rank whole between (λ b. (b ≡ a) × (nothing ≡ true)) → AreQueued rank up up' (λ b. (relation g a b ≡ Some Provider) × (changed ≡ true)) (IsLeft w seeds f h a) →
       AreQueued rank between whole' (λ b. ((relation g a b ≡ Some Customer) ⊎ (relation g a b ≡ Some Peer)) × (changed ≡ true)) (IsLeft w seeds f h a) →
       IsTurnUp w seeds rank a f h changes changed' up up' whole whole'
@@ -110,12 +122,12 @@ module _ (w : Setting) (g : Topology) (is : w.relation ≡ relation g) (seeds : 
       from_whole b (inr (inl l, e)) = inr (inr (Provider, at b Customer l, put e))
       from_whole b (inr (inr l, e)) = inr (inr (Peer, at b Peer l, put e))
 
-  pub turn_down : (whole whole' : Queue) (changed : Bool) →
-      IsRightGiven (w.policy a) (seeds a) (λ n. offer w f n a) (h a) → ChangesOnly a f h changes changed' → (changed ≡ true → changed' a ≡ true) → (changed ≡ false → h a ≡ f a) →
+  pub turn_down : (whole whole' : Queue) (changed nothing : Bool) →
+      IsChosen Whole w seeds a f h nothing → ChangesOnly a f h changes changed' → (changed ≡ true → changed' a ≡ true) → (changed ≡ false → h a ≡ f a) →
       AreQueued rank whole whole' (λ b. (relation g a b ≡ Some Customer) × (changed ≡ true)) (IsLeft w seeds f h a) → IsTurnDown w seeds rank a f h changes changed' whole whole'
-  turn_down whole whole' changed chosen only put unchanged fall = record {
+  turn_down whole whole' changed nothing chosen only put unchanged fall = record {
     only = only;
-    chosen = chosen;
+    chosen = subst (IsRightGiven (w.policy a) (seeds a) (λ n. offer w f n a)) (sym chosen.at) chosen.right;
     queued = record { kept = fall.kept; asked = λ b ne. asked b changed refl; from = λ b t. from b (fall.from b t) };
     ranks = fall.ranks;
   }
@@ -138,3 +150,34 @@ module _ (w : Setting) (g : Topology) (is : w.relation ≡ relation g) (seeds : 
 pub queued_from : (w : Setting) (rank : ℕ → ℕ) (a : ℕ) (h : ℕ → Option Entry) (q q' : Queue) (who : ℕ → Type 0) (seeds seeds' : ℕ → Option Seed) (f f' : ℕ → Option Entry) → seeds' ≡ seeds → f' ≡ f →
     AreQueued rank q q' who (IsLeft w seeds' f' h a) → AreQueued rank q q' who (IsLeft w seeds f h a)
 queued_from w rank a h q q' who seeds seeds' f f' same_seeds same x = coe 0 1 (i. AreQueued rank q q' who (IsLeft w (same_seeds i) (same i) h a)) x
+
+-- a turn, from what its step came to and who was put into the queues after it
+module _ (w : Setting) (g : Topology) (is : w.relation ≡ relation g) (rank : ℕ → ℕ) (a : ℕ) (p q : PathPool) (s : SeedIds) (t : Table) (o o' : Overlay) (seen : Stepped) (part : Part)
+    (kept : Keeps p q s) (chosen : IsChosen part w (seeds_of p s) a (routing_of p t o) (routing_of q t o') seen.nothing) (only : ChangesOnly a (routing_of p t o) (routing_of q t o') (has_change o) (has_change o'))
+    (changed : IsTrue seen.changed → has_change o' a ≡ true) (unchanged : seen.changed ≡ false → routing_of q t o' a ≡ routing_of p t o a) (was : IsBefore q t o' a seen.before (routing_of p t o)) where
+  abbrev Left : ℕ → Type 0
+  Left = IsLeft w (seeds_of q s) (as_before q t o' a seen.before) (routing_of q t o') a
+
+  abbrev IsTurned : Part → Queues → Queues → Type 0
+  IsTurned x before after = IsTurn x w (seeds_of p s) rank a (routing_of p t o) (routing_of q t o') (has_change o) (has_change o') before after
+
+  left_as : (q0 q1 : Queue) (who : ℕ → Type 0) → AreQueued rank q0 q1 who Left → AreQueued rank q0 q1 who (IsLeft w (seeds_of p s) (routing_of p t o) (routing_of q t o') a)
+  left_as q0 q1 who x =
+      queued_from w rank a (routing_of q t o') q0 q1 who (seeds_of p s) (seeds_of q s) (routing_of p t o) (as_before q t o' a seen.before) (λ i n. kept.same_seeds n i) (before_is q t o' a seen.before (routing_of p t o) was) x
+
+  chosen_as : (x : Part) → part ≡ x → IsChosen x w (seeds_of p s) a (routing_of p t o) (routing_of q t o') seen.nothing
+  chosen_as x e = subst (λ y. IsChosen y w (seeds_of p s) a (routing_of p t o) (routing_of q t o') seen.nothing) e chosen
+
+  pub turned_up : (before after : Queues) (between : Queue) → part ≡ Up → IsAdded rank before.whole between (λ b. (b ≡ a) × (seen.nothing ≡ true)) →
+      AreQueued rank before.up after.up (λ b. (relation g a b ≡ Some Provider) × (seen.changed ≡ true)) Left →
+      AreQueued rank between after.whole (λ b. ((relation g a b ≡ Some Customer) ⊎ (relation g a b ≡ Some Peer)) × (seen.changed ≡ true)) Left → IsTurned part before after
+  turned_up before after between up off rise fall =
+      subst (λ x. IsTurned x before after) (sym up)
+      (turn_up w g is (seeds_of p s) rank a (routing_of p t o) (routing_of q t o') (has_change o) (has_change o') before.up after.up before.whole between after.whole seen.changed seen.nothing
+      (chosen_as Up up) only changed unchanged off (left_as before.up after.up _ rise) (left_as between after.whole _ fall))
+
+  pub turned_down : (before after : Queues) → part ≡ Whole → AreQueued rank before.whole after.whole (λ b. (relation g a b ≡ Some Customer) × (seen.changed ≡ true)) Left → IsTurned part before after
+  turned_down before after down fall =
+      subst (λ x. IsTurned x before after) (sym down)
+      (turn_down w g is (seeds_of p s) rank a (routing_of p t o) (routing_of q t o') (has_change o) (has_change o') before.whole after.whole seen.changed seen.nothing
+      (chosen_as Whole down) only changed unchanged (left_as before.whole after.whole _ fall))

@@ -21,7 +21,7 @@ use Rattle.stability_laws.proofs.Local.{not_both}
 use Rattle.stability_laws.specs.Steps.{low, low_by}
 use Rattle.dirty_recompute.specs.Steps.{IsRightLow, without_low, after_up, IsLeft}
 use Rattle.dirty_recompute.specs.Work.{IsWholeWork}
-use Rattle.dirty_recompute.proofs.Parts.{low_some, down_low, stays, right_of_low, whole_choice, by_customer, same_offers}
+use Rattle.dirty_recompute.proofs.Parts.{low_some, down_low, stays, right_of_low, whole_choice, by_customer, same_offers, unlinked}
 use Rattle.dirty_recompute.specs.Exact.{IsCounted, IsExact, AreEnough}
 use Rattle.dirty_recompute.proofs.Working.{IsUpStep, IsWholeStep}
 
@@ -71,18 +71,19 @@ module _ {P : Type 0} (meaning : P → Policy) (ranks_offers : (p : P) → Ranks
         (stays (meaning (policy_at book b)) (ranks_offers (policy_at book b)) (seeds b) (λ n. offer here f n b) (λ n. offer here g n b) (f b) a (of_others b)
         (record { not_held = spared.not_held; beaten = spared.beaten }) right)
 
+    -- the customers of who isn't a's provider make the offers that they made
+    customers_same : (b : ℕ) → relation w b a ≢ Some Customer → (n : ℕ) → customer_offer here f n b ≡ customer_offer here g n b
+    customers_same b not_customer n = by (relation w b n) refl
+      where
+        by : (r : Option Rel) → relation w b n ≡ r → if_customer r (offer here f n b) ≡ if_customer r (offer here g n b)
+        by None e = refl
+        by (Some Peer) e = refl
+        by (Some Provider) e = refl
+        by (Some Customer) e = of_others b n (λ x. not_customer (ap (relation w b) (sym x) ∙ e))
+
     -- a changes nothing for who isn't its provider
     pub low_across : (b : ℕ) → b ≢ a → relation w b a ≢ Some Customer → Low f b → Low g b
-    low_across b ne not_customer right = low_with b ne same right
-      where
-        same : (n : ℕ) → customer_offer here f n b ≡ customer_offer here g n b
-        same n = by (relation w b n) refl
-          where
-            by : (r : Option Rel) → relation w b n ≡ r → if_customer r (offer here f n b) ≡ if_customer r (offer here g n b)
-            by None e = refl
-            by (Some Peer) e = refl
-            by (Some Provider) e = refl
-            by (Some Customer) e = of_others b n (λ x. not_customer (ap (relation w b) (sym x) ∙ e))
+    low_across b ne not_customer right = low_with b ne (customers_same b not_customer) right
 
     customers_of_others : (b n : ℕ) → n ≢ a → customer_offer here f n b ≡ customer_offer here g n b
     customers_of_others b n ne = ap (if_customer (relation w b n)) (of_others b n ne)
@@ -131,13 +132,7 @@ module _ {P : Type 0} (meaning : P → Policy) (ranks_offers : (p : P) → Ranks
 
     -- a's own customers make the offers that they made
     own_low : (n : ℕ) → customer_offer here f n a ≡ customer_offer here g n a
-    own_low n = by (relation w a n) refl
-      where
-        by : (r : Option Rel) → relation w a n ≡ r → if_customer r (offer here f n a) ≡ if_customer r (offer here g n a)
-        by None e = refl
-        by (Some Peer) e = refl
-        by (Some Provider) e = refl
-        by (Some Customer) e = of_others a n (λ x. (let y : None ≡ Some Customer = sym (relation_self w a) ∙ ap (relation w a) (sym x) ∙ e in cc))
+    own_low = customers_same a (λ e. (let y : None ≡ Some Customer = sym (relation_self w a) ∙ e in cc))
 
     pub now_low : IsRightGiven (meaning (policy_at book a)) (seeds a) (λ n. customer_offer here f n a) (low (g a)) → Low g a
     now_low right =
@@ -223,12 +218,8 @@ module _ {P : Type 0} (meaning : P → Policy) (ranks_offers : (p : P) → Ranks
       back : (n : ℕ) → n ≢ a → f n ≡ g n
       back n ne = sym (others n ne)
 
-      unlinked : (h : ℕ → Option Entry) (b : ℕ) → relation w b a ≡ None → offer here h a b ≡ None
-      unlinked h b none = by (offer here h a b) refl
-        where
-          by : (o : Option Offer) → offer here h a b ≡ o → o ≡ None
-          by None e = refl
-          by (Some o) e = let from : GivenBy (relation w b a) a o = names w book state h a b o e in let x : None ≡ Some from.from = sym none ∙ from.linked in cc
+      no_offer : (h : ℕ → Option Entry) (b : ℕ) → relation w b a ≡ None → offer here h a b ≡ None
+      no_offer h = unlinked meaning ranks_offers names follows by_offers nothing_up decide w book state seeds h a
 
       is_low : low new ≡ new
       is_low = low_choice f a new chosen
@@ -269,7 +260,7 @@ module _ {P : Type 0} (meaning : P → Policy) (ranks_offers : (p : P) → Ranks
       stay : (b : ℕ) → b ≢ a → up' b ≡ false → whole' b ≡ false → (up' b ≡ true) ⊎ ((whole' b ≡ true) ⊎ ((relation w b a ≡ None) ⊎ IsLeft here seeds f g a b)) → Right f b → Right g b
       stay b ne n m (inl t) = absurd (true≢false (sym t ∙ n))
       stay b ne n m (inr (inl t)) = absurd (true≢false (sym t ∙ m))
-      stay b ne n m (inr (inr (inl none))) = left_right f g a back b ne (inr (inl (unlinked f b none ∙ sym (unlinked g b none))))
+      stay b ne n m (inr (inr (inl none))) = left_right f g a back b ne (inr (inl (no_offer f b none ∙ sym (no_offer g b none))))
       stay b ne n m (inr (inr (inr left))) = left_right f g a back b ne left
 
   -- a turn downwards

@@ -1,9 +1,9 @@
 -- The two ways: what holds of the pool, the table, the overlay and the queues from turn to turn.
-use Rattle.std.proofs.Common.{◌≡◌, ◌≢◌, ◌⊎◌, inl, inr, ℕ, zero, suc, ◌+◌, ◌≤◌, ◌++◌, Bool, true, false, true≢false, IsSome, is_some, Option, Some, None, option_map, List, length, refl, sym, ◌∙◌, ap, subst, arith}
+use Rattle.std.proofs.Common.{◌≡◌, ◌≢◌, ◌⊎◌, inl, inr, ℕ, zero, suc, ◌+◌, ◌-◌, ◌<◌, ◌≤◌, ◌++◌, Bool, true, false, true≢false, IsSome, is_some, Option, Some, None, option_map, List, length, refl, sym, ◌∙◌, ap, subst, arith}
 use Rattle.std.proofs.lemmas.Bool.{cases_Bool}
-use Rattle.net_names.specs.declared.routes.Rel.TheVariants.{Customer}
 use Rattle.net_names.specs.declared.routes.State.{State}
 use Rattle.net_names.specs.Numbers.{occurs}
+use Rattle.net_names.specs.Prefixes.{PrefixValue as Prefix}
 use Rattle.policy_laws.specs.Policy.{Policy}
 use Rattle.as_graph.specs.Topology.{Topology, relation, has, ases}
 use Rattle.path_pool.specs.declared.pool.PathPool.{PathPool}
@@ -19,17 +19,21 @@ use Rattle.route_choice.specs.declared.overlay.Overlay.{Overlay}
 use Rattle.route_choice.specs.declared.seeds.SeedIds.{SeedIds}
 use Rattle.route_choice.specs.declared.table.Table.{Table}
 use Rattle.route_choice.specs.Routings.{entry_of, seed_of, routing_of, seeds_of, table_routing}
-use Rattle.route_choice.specs.Tables.{change_at, held_at, seed_at}
+use Rattle.route_choice.specs.Tables.{change_at, held_at, prefix_of}
 use Rattle.route_choice.specs.Slots.{over}
 use Rattle.route_choice.proofs.Lists.{nothing_there}
 use Rattle.dirty_recompute.specs.declared.queue.Queue.{Queue}
 use Rattle.dirty_recompute.specs.Queues.{waits, HasRanks, IsTaken}
 use Rattle.dirty_recompute.specs.Resources.{has_change, IsKept, IsPaidFor}
 use Rattle.dirty_recompute.specs.Turns.{IsTurnUp, IsTurnDown}
-use Rattle.dirty_recompute.specs.Work.{IsUpLoop, IsWholeLoop, HasGoneUp, HasGoneDown, CanGoOn}
+use Rattle.dirty_recompute.specs.Work.{IsUpLoop, IsWholeLoop, HasGoneUp, HasGoneDown, CanGoOn, GoesOn, IsRightBut}
 use Rattle.dirty_recompute.proofs.Parts.{down_low, right_of_low, whole_choice, customer_given}
 use Rattle.dirty_recompute.proofs.Turning.{right_has, after_some}
-use Rattle.dirty_recompute.proofs.Loops.{AreLaws, start, next_up, next_whole, few_up, few_whole}
+use Rattle.dirty_recompute.specs.Exact.{IsExact, AreEnough}
+use Rattle.dirty_recompute.specs.Laws.{AreLaws}
+use Rattle.dirty_recompute.specs.PlannedRanks.{rank_of}
+use Rattle.dirty_recompute.specs.declared.ranked_world.RankedWorld.{RankedWorld}
+use Rattle.dirty_recompute.proofs.Loops.{start, next_up, next_whole, few_up, few_whole, halfway, finish}
 use Rattle.dirty_recompute.proofs.Going.{kept_itself, kept_more, table_same, seeds_same, goes_on}
 
 -- between two turns upwards, since the way began
@@ -37,7 +41,7 @@ pub record IsUpward (has : ℕ → Bool) (w : Setting) (rank : ℕ → ℕ) (tou
   pub turns : ℕ
   pub work : HasGoneUp w rank touched pool seeds table overlay up whole turns
   pub count : steps ≡ first_steps + turns
-  pub can : (start : PathPool) → CanGoOn has start first_pool seeds table first_overlay → CanGoOn has start pool seeds table overlay
+  pub can : GoesOn has first_pool pool seeds table first_overlay overlay
   pub kept : IsKept first_pool pool seeds first_overlay overlay
 
 -- and downwards
@@ -45,27 +49,50 @@ pub record IsDownward (has : ℕ → Bool) (w : Setting) (rank : ℕ → ℕ) (t
   pub turns : ℕ
   pub work : (turns_up : ℕ) → HasGoneDown w rank touched first_pool seeds table first_overlay first_whole turns_up 0 → HasGoneDown w rank touched pool seeds table overlay whole turns_up turns
   pub count : steps ≡ first_steps + turns
-  pub can : (start : PathPool) → CanGoOn has start first_pool seeds table first_overlay → CanGoOn has start pool seeds table overlay
+  pub can : GoesOn has first_pool pool seeds table first_overlay overlay
   pub kept : IsKept first_pool pool seeds first_overlay overlay
 
 pub unchanged : (o : Overlay) (a : ℕ) → has_change o a ≡ false → change_at o a ≡ None
 unchanged o a is = nothing_there (change_at o a) is
 
+-- with each turn fewer of the steps are left that there may be
+pub turns_left : (first before after turns all : ℕ) → after ≡ first + turns → after ≡ before + 1 → turns ≤ all → first + all - after < first + all - before
+turns_left first before after turns all count step few = omega (arith, count, step, few)
+
 -- the way downwards begins
 pub down_start : (has : ℕ → Bool) (w : Setting) (rank : ℕ → ℕ) (touched : List ℕ) (seeds : SeedIds) (table : Table) (pool : PathPool) (overlay : Overlay) (whole : Queue) (steps : ℕ) → IsDownward has w rank touched seeds table pool pool overlay overlay whole whole steps steps
 down_start has w rank touched seeds table pool overlay whole steps = record { turns = zero; work = λ n h. h; count = omega arith; can = λ s c. c; kept = kept_itself pool seeds overlay }
 
-module _ {P : Type 0} (meaning : P → Policy) (l : AreLaws meaning) (g : Topology) (book : PolicyBook P) (state : ℕ → State) (rank : ℕ → ℕ) (touched : List ℕ) (seeds : SeedIds) (table : Table)
-    (falls : (a b : ℕ) → relation g a b ≡ Some Customer → suc (rank b) ≤ rank a) where
+module _ {P V : Type 0} (meaning : P → Policy) (state_of : V → Prefix → ℕ → State) (l : AreLaws meaning) (world : RankedWorld P V) (touched : List ℕ) where
+  abbrev g : Topology
+  g = world.at.graph.now
+
+  abbrev book : PolicyBook P
+  book = world.at.book.now
+
+  abbrev table : Table
+  table = world.at.table.now
+
+  abbrev seeds : SeedIds
+  seeds = world.at.seeds.now
+
+  abbrev state : ℕ → State
+  state = state_of world.at.states.now (prefix_of table)
+
+  abbrev rank : ℕ → ℕ
+  rank = rank_of world.ranks
+
   abbrev here : Setting
   here = setting meaning g book state
 
+  -- only ASes of the graph have seeds
+  seeds_at : (pool : PathPool) (b : ℕ) → has g b ≡ false → seeds_of pool seeds b ≡ None
+  seeds_at pool b out = ap (option_map (seed_of pool)) (world.seeds b out)
+
   -- the way upwards begins
   pub upward_start : (pool : PathPool) (overlay : Overlay) (up whole : Queue) (steps : ℕ) → ((b : ℕ) → change_at overlay b ≡ None) → ((b : ℕ) → waits rank up b ≡ occurs b touched) → ((b : ℕ) → waits rank whole b ≡ false) → HasRanks rank up → HasRanks rank whole →
-      ((b : ℕ) → has g b ≡ false → occurs b touched ≡ false → held_at table b ≡ None) → ((b : ℕ) → has g b ≡ false → seed_at seeds b ≡ None) →
-      ((b : ℕ) → has g b ≡ true → occurs b touched ≡ false → IsRight here (seeds_of pool seeds) (table_routing pool table) b) →
-      IsUpward (has g) here rank touched seeds table pool pool overlay overlay up whole steps steps
-  upward_start pool overlay up whole steps none is empty ranks ranks_whole only seeds_at right = record {
+      IsRightBut meaning state_of world.at pool touched → IsUpward (has g) here rank touched seeds table pool pool overlay overlay up whole steps steps
+  upward_start pool overlay up whole steps none is empty ranks ranks_whole right = record {
     turns = zero;
     work = subst (λ (f : ℕ → Option Entry). IsUpLoop here (seeds_of pool seeds) rank touched (table_routing pool table) f (has_change overlay) up whole zero) (λ i b. same b i) first;
     count = omega arith;
@@ -78,7 +105,7 @@ module _ {P : Type 0} (meaning : P → Policy) (l : AreLaws meaning) (g : Topolo
 
       first : IsUpLoop here (seeds_of pool seeds) rank touched (table_routing pool table) (table_routing pool table) (has_change overlay) up whole zero
       first = start meaning l g book state (seeds_of pool seeds) rank touched (table_routing pool table) (has_change overlay) up whole (λ b. ap is_some (none b)) is empty ranks ranks_whole
-          (λ b out away. ap (option_map (entry_of pool)) (only b out away)) (λ b out. ap (option_map (seed_of pool)) (seeds_at b out)) right
+          (λ b out away. ap (option_map (entry_of pool)) (right.entries b out away)) (seeds_at pool) right.right
 
   -- who is to have a turn upwards had none, so the overlay has no change of it
   pub fresh : (pool : PathPool) (overlay : Overlay) (up whole between : Queue) (turns a : ℕ) → HasGoneUp here rank touched pool seeds table overlay up whole turns → IsTaken rank up between a → has_change overlay a ≡ false
@@ -87,7 +114,7 @@ module _ {P : Type 0} (meaning : P → Policy) (l : AreLaws meaning) (g : Topolo
     | inr none ↦ none
   ]
 
-  module _ (p0 p q : PathPool) (o0 o o' : Overlay) (s0 s s' a : ℕ) (seeds_at : (b : ℕ) → has g b ≡ false → seeds_of p seeds b ≡ None) (start : PathPool) (could : CanGoOn (has g) start p0 seeds table o0) where
+  module _ (p0 p q : PathPool) (o0 o o' : Overlay) (s0 s s' a : ℕ) (start : PathPool) (could : CanGoOn (has g) start p0 seeds table o0) where
     abbrev f : ℕ → Option Entry
     f = routing_of p table o
 
@@ -106,14 +133,14 @@ module _ {P : Type 0} (meaning : P → Policy) (l : AreLaws meaning) (g : Topolo
     }
       where
         next : IsUpLoop here (seeds_of p seeds) rank touched (table_routing p table) h (has_change o') up' whole' (suc was.turns)
-        next = next_up meaning l g book state (seeds_of p seeds) rank touched (table_routing p table) falls f h (has_change o) (has_change o') up between up' whole whole' was.turns a was.work out least turn
+        next = next_up meaning l g book state (seeds_of p seeds) rank touched (table_routing p table) world.falls f h (has_change o) (has_change o') up between up' whole whole' was.turns a was.work out least turn
 
         an_as : h a ≢ f a → IsSome (h a) → has g a ≡ true
         an_as ne some =
             let new = turn.chosen.new in
             let found : IsSome new = after_some new (f a) (λ e. ne (turn.chosen.at ∙ e)) (subst IsSome turn.chosen.at some) in
             right_has meaning l.ranks_offers l.prefers l.names l.follows l.by_offers l.nothing_up l.decide g book state (seeds_of p seeds) f a (λ n. customer_offer here f n a)
-            (λ n q made. (customer_given meaning l.ranks_offers l.names l.follows l.by_offers l.nothing_up l.decide g book state (seeds_of p seeds) f n a q made).1) seeds_at new turn.chosen.right found
+            (λ n q made. (customer_given meaning l.ranks_offers l.names l.follows l.by_offers l.nothing_up l.decide g book state (seeds_of p seeds) f n a q made).1) (seeds_at p) new turn.chosen.right found
 
         once : has_change o a ≡ true → (f a ≡ None) ⊎ (h a ≡ f a)
         once put = absurd (true≢false (sym put ∙ fresh p o up whole between was.turns a was.work out))
@@ -141,10 +168,10 @@ module _ {P : Type 0} (meaning : P → Policy) (l : AreLaws meaning) (g : Topolo
     }
       where
         next : (n : ℕ) → HasGoneDown here rank touched p0 seeds table o0 first n 0 → IsWholeLoop here (seeds_of p seeds) rank touched (table_routing p table) h (has_change o') whole' n (suc was.turns)
-        next n b = next_whole meaning l g book state (seeds_of p seeds) rank touched (table_routing p table) falls f h (has_change o) (has_change o') whole between whole' n was.turns a (was.work n b) out greatest turn
+        next n b = next_whole meaning l g book state (seeds_of p seeds) rank touched (table_routing p table) world.falls f h (has_change o) (has_change o') whole between whole' n was.turns a (was.work n b) out greatest turn
 
         an_as : h a ≢ f a → IsSome (h a) → has g a ≡ true
-        an_as ne some = right_has meaning l.ranks_offers l.prefers l.names l.follows l.by_offers l.nothing_up l.decide g book state (seeds_of p seeds) f a (λ n. offer here f n a) (λ n q made. made) seeds_at (h a) turn.chosen some
+        an_as ne some = right_has meaning l.ranks_offers l.prefers l.names l.follows l.by_offers l.nothing_up l.decide g book state (seeds_of p seeds) f a (λ n. offer here f n a) (λ n q made. made) (seeds_at p) (h a) turn.chosen some
 
         work : HasGoneDown here rank touched p seeds table o whole turns_up was.turns
         work = was.work turns_up began
@@ -161,3 +188,13 @@ module _ {P : Type 0} (meaning : P → Policy) (l : AreLaws meaning) (g : Topolo
 
   pub few_turns_down : (p0 p : PathPool) (o0 o : Overlay) (first whole : Queue) (s0 s turns_up : ℕ) → (was : IsDownward (has g) here rank touched seeds table p0 p o0 o first whole s0 s) → HasGoneDown here rank touched p0 seeds table o0 first turns_up 0 → was.turns ≤ length (touched ++ ases g)
   few_turns_down p0 p o0 o first whole s0 s turns_up was began = few_whole meaning l g book state (seeds_of p seeds) rank touched (table_routing p table) (routing_of p table o) (has_change o) whole turns_up was.turns (was.work turns_up began)
+
+  -- with nobody left to take a turn upwards, the way downwards begins
+  pub half_gone : (pool : PathPool) (overlay : Overlay) (up whole : Queue) (turns : ℕ) → ((b : ℕ) → waits rank up b ≡ false) → HasGoneUp here rank touched pool seeds table overlay up whole turns → HasGoneDown here rank touched pool seeds table overlay whole turns 0
+  half_gone pool overlay up whole turns empty was = halfway meaning l g book state (seeds_of pool seeds) rank touched (table_routing pool table) (routing_of pool table overlay) (has_change overlay) up whole turns empty was
+
+  -- with nobody left at all, the changes are exact
+  pub all_gone : (pool : PathPool) (overlay : Overlay) (whole : Queue) (turns_up turns : ℕ) → ((b : ℕ) → waits rank whole b ≡ false) → HasGoneDown here rank touched pool seeds table overlay whole turns_up turns →
+      IsExact here (seeds_of pool seeds) (table_routing pool table) (routing_of pool table overlay) (has_change overlay) × AreEnough (relation g) (λ b. occurs b touched) (has_change overlay) 0 (turns_up + turns)
+  all_gone pool overlay whole turns_up turns empty was =
+      finish meaning l g book state (seeds_of pool seeds) rank touched (table_routing pool table) (routing_of pool table overlay) (has_change overlay) whole turns_up turns world.no_cycle (seeds_at pool) empty was

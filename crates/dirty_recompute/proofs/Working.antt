@@ -111,41 +111,40 @@ stays_changed a overlay overlay' others settled c t = elim (cases_eq c a) [
   | inr ne ↦ others c ne ∙ t
 ]
 
+-- what holds at a, and away from it, holds at b
+at_or_away : (F : ℕ → Type 0) (a b : ℕ) → F a → (b ≢ a → F b) → F b
+at_or_away F a b at away = elim (cases_eq b a) [ inl e ↦ subst F (sym e) at | inr ne ↦ away ne ]
+
+-- what holds of a, and of all who had a turn before, holds of all who had one
+all_taken : (F : ℕ → Type 0) (a : ℕ) (taken : List ℕ) → F a → ((b : ℕ) → occurs b taken ≡ true → F b) → (b : ℕ) → occurs b (a ∷ taken) ≡ true → F b
+all_taken F a taken at before b t = elim (occurs_cases b a taken t) [ inl e ↦ subst F e at | inr old ↦ before b old ]
+
+-- b waits after a turn of a: it waited, or it is this to a, which has changed
+abbrev IsAsked : (ℕ → ℕ → Option Rel) → Rel → (ℕ → Bool) → (ℕ → Bool) → ℕ → ℕ → Type 0
+IsAsked relation r queue changed a b = (queue b ≡ true) ⊎ ((relation b a ≡ Some r) × (changed a ≡ true))
+
+asked_later : (relation : ℕ → ℕ → Option Rel) (r : Rel) (queue changed : ℕ → Bool) (a b : ℕ) (F : Type 0) → (relation b a ≡ Some r → F) → IsAsked relation r queue changed a b → (queue b ≡ true) ⊎ F
+asked_later relation r queue changed a b F later (inl q) = inl q
+asked_later relation r queue changed a b F later (inr (link, t)) = inr (later link)
+
+asked_counted : (relation : ℕ → ℕ → Option Rel) (touched : ℕ → Bool) (r : Rel) (queue changed : ℕ → Bool) (a b : ℕ) → (queue b ≡ true → IsCounted relation touched changed b) → IsAsked relation r queue changed a b → IsCounted relation touched changed b
+asked_counted relation touched r queue changed a b old (inl q) = old q
+asked_counted relation touched r queue changed a b old (inr (link, t)) = inr (a, r, link, t)
+
 module _ (LowRight Right : (ℕ → Option Entry) → ℕ → Type 0) (le : ℕ → ℕ → Type 0) (trans : (x y z : ℕ) → le x y → le y z → le x z) (relation : ℕ → ℕ → Option Rel) (touched : ℕ → Bool) (table : ℕ → Option Entry) where
   module _ (above : (a b : ℕ) → relation b a ≡ Some Customer → le a b × (le b a → ⊥)) (a : ℕ) (f : ℕ → Option Entry) (overlay up whole : ℕ → Bool) (taken : List ℕ) (g : ℕ → Option Entry) (overlay' up' whole' : ℕ → Bool) where
     pub up_step : up a ≡ true → ((b : ℕ) → up b ≡ true → le a b) → IsUpWork LowRight Right le relation touched table f overlay up whole taken → IsUpStep LowRight Right relation a f overlay up whole g overlay' up' whole' → IsUpWork LowRight Right le relation touched table g overlay' up' whole' (a ∷ taken)
     up_step is least was step = record {
-      low_right = λ b n. elim (cases_eq b a) [
-        | inl e ↦ subst (λ t. LowRight g t) (sym e) step.now_low
-        | inr ne ↦ (step.stay_low b ne n).1 (was.low_right b (step.stay_low b ne n).0)
-      ];
-      right = λ b n m. elim (cases_eq b a) [
-        | inl e ↦ subst (λ t. Right g t) (sym e) (step.now_right (ap whole' (sym e) ∙ m))
-        | inr ne ↦ (step.stay b ne n m).1 (was.right b (step.stay_low b ne n).0 (step.stay b ne n m).0)
-      ];
-      same = λ b n. elim (cases_eq b a) [
-        | inl e ↦ subst (λ t. g t ≡ table t) (sym e) (same_here step.settled (ap overlay' (sym e) ∙ n))
-        | inr ne ↦ step.others b ne ∙ was.same b (sym (step.changed_others b ne) ∙ n)
-      ];
-      differs = λ b t. elim (cases_eq b a) [
-        | inl e ↦ subst (λ x. low (g x) ≢ low (table x)) (sym e) (differs_here step.settled (ap overlay' (sym e) ∙ t))
-        | inr ne ↦ λ x. was.differs b (sym (step.changed_others b ne) ∙ t) (ap low (sym (step.others b ne)) ∙ x)
-      ];
-      put_low = λ b t. elim (cases_eq b a) [
-        | inl e ↦ subst (λ x. low (g x) ≡ g x) (sym e) (low_here step.settled (ap overlay' (sym e) ∙ t))
-        | inr ne ↦ ap low (step.others b ne) ∙ was.put_low b (sym (step.changed_others b ne) ∙ t) ∙ sym (step.others b ne)
-      ];
-      put = λ b t. elim (cases_eq b a) [
-        | inl e ↦ subst (λ x. occurs x (a ∷ taken) ≡ true) (sym e) (occurs_here a taken)
-        | inr ne ↦ occurs_there b a taken (was.put b (sym (step.changed_others b ne) ∙ t))
-      ];
-      order = in_order le trans a up up' taken is least (λ b q. ((step.from b q).0, later b (step.from b q).1)) was.order;
-      queued = λ b q. queued b (step.from b q).1;
+      low_right = λ b. at_or_away (λ x. up' x ≡ false → LowRight g x) a b (λ n. step.now_low) (λ ne n. (step.stay_low b ne n).1 (was.low_right b (step.stay_low b ne n).0));
+      right = λ b. at_or_away (λ x. up' x ≡ false → whole' x ≡ false → Right g x) a b (λ n m. step.now_right m) (λ ne n m. (step.stay b ne n m).1 (was.right b (step.stay_low b ne n).0 (step.stay b ne n m).0));
+      same = λ b. at_or_away (λ x. overlay' x ≡ false → g x ≡ table x) a b (same_here step.settled) (λ ne n. step.others b ne ∙ was.same b (sym (step.changed_others b ne) ∙ n));
+      differs = λ b. at_or_away (λ x. overlay' x ≡ true → low (g x) ≢ low (table x)) a b (differs_here step.settled) (λ ne t x. was.differs b (sym (step.changed_others b ne) ∙ t) (ap low (sym (step.others b ne)) ∙ x));
+      put_low = λ b. at_or_away (λ x. overlay' x ≡ true → low (g x) ≡ g x) a b (low_here step.settled) (λ ne t. ap low (step.others b ne) ∙ was.put_low b (sym (step.changed_others b ne) ∙ t) ∙ sym (step.others b ne));
+      put = λ b. at_or_away (λ x. overlay' x ≡ true → occurs x (a ∷ taken) ≡ true) a b (λ t. occurs_here a taken) (λ ne t. occurs_there b a taken (was.put b (sym (step.changed_others b ne) ∙ t)));
+      order = in_order le trans a up up' taken is least (λ b q. ((step.from b q).0, asked_later relation Customer up overlay' a b (le a b × (le b a → ⊥)) (above a b) (step.from b q).1)) was.order;
+      queued = λ b q. asked_counted relation touched Customer up overlay' a b (λ old. on b (was.queued b old)) (step.from b q).1;
       queued_whole = λ b q. queued_whole b (step.from_whole b q);
-      done = λ b t. elim (occurs_cases b a taken t) [
-        | inl e ↦ subst (λ x. IsCounted relation touched overlay' x) e (on a (was.queued a is))
-        | inr old ↦ on b (was.done b old)
-      ];
+      done = all_taken (IsCounted relation touched overlay') a taken (on a (was.queued a is)) (λ b old. on b (was.done b old));
     }
       where
         on : (b : ℕ) → IsCounted relation touched overlay b → IsCounted relation touched overlay' b
@@ -169,14 +168,6 @@ module _ (LowRight Right : (ℕ → Option Entry) → ℕ → Type 0) (le : ℕ 
         low_here : ((g a ≡ f a) × (overlay' a ≡ overlay a)) ⊎ ((low (g a) ≢ low (f a)) × (overlay' a ≡ true) × (low (g a) ≡ g a)) → overlay' a ≡ true → low (g a) ≡ g a
         low_here (inl s) t = absurd (both (overlay' a) t (s.1 ∙ not_put))
         low_here (inr s) t = s.2
-
-        later : (b : ℕ) → (up b ≡ true) ⊎ ((relation b a ≡ Some Customer) × (overlay' a ≡ true)) → (up b ≡ true) ⊎ (le a b × (le b a → ⊥))
-        later b (inl q) = inl q
-        later b (inr (link, t)) = inr (above a b link)
-
-        queued : (b : ℕ) → (up b ≡ true) ⊎ ((relation b a ≡ Some Customer) × (overlay' a ≡ true)) → IsCounted relation touched overlay' b
-        queued b (inl q) = on b (was.queued b q)
-        queued b (inr (link, t)) = inr (a, Customer, link, t)
 
         queued_whole : (b : ℕ) → (whole b ≡ true) ⊎ ((b ≡ a) ⊎ ((r : Rel) × (relation b a ≡ Some r) × (overlay' a ≡ true))) → IsCounted relation touched overlay' b
         queued_whole b (inl q) = on b (was.queued_whole b q)
@@ -204,35 +195,20 @@ module _ (LowRight Right : (ℕ → Option Entry) → ℕ → Type 0) (le : ℕ 
   module _ (below : (a b : ℕ) → relation b a ≡ Some Provider → le a b × (le b a → ⊥)) (a : ℕ) (f : ℕ → Option Entry) (overlay whole : ℕ → Bool) (earlier taken : List ℕ) (g : ℕ → Option Entry) (overlay' whole' : ℕ → Bool) where
     pub whole_step : whole a ≡ true → ((b : ℕ) → whole b ≡ true → le a b) → IsWholeWork LowRight Right le relation touched table f overlay whole earlier taken → IsWholeStep LowRight Right relation a f overlay whole g overlay' whole' → IsWholeWork LowRight Right le relation touched table g overlay' whole' earlier (a ∷ taken)
     whole_step is least was step = record {
-      low_right = λ b. elim (cases_eq b a) [
-        | inl e ↦ subst (λ t. LowRight g t) (sym e) step.now_low
-        | inr ne ↦ step.stay_low b ne (was.low_right b)
-      ];
-      right = λ b n. elim (cases_eq b a) [
-        | inl e ↦ subst (λ t. Right g t) (sym e) step.now_right
-        | inr ne ↦ (step.stay b ne n).1 (was.right b (step.stay b ne n).0)
-      ];
-      same = λ b n. elim (cases_eq b a) [
-        | inl e ↦ subst (λ t. g t ≡ table t) (sym e) (same_here step.settled (ap overlay' (sym e) ∙ n))
-        | inr ne ↦ step.others b ne ∙ was.same b (sym (step.changed_others b ne) ∙ n)
-      ];
-      differs = λ b t. elim (cases_eq b a) [
-        | inl e ↦ subst (λ x. g x ≢ table x) (sym e) (differs_here step.settled (ap overlay' (sym e) ∙ t))
-        | inr ne ↦ λ x. was.differs b (sym (step.changed_others b ne) ∙ t) (sym (step.others b ne) ∙ x)
-      ];
+      low_right = λ b. at_or_away (LowRight g) a b step.now_low (λ ne. step.stay_low b ne (was.low_right b));
+      right = λ b. at_or_away (λ x. whole' x ≡ false → Right g x) a b (λ n. step.now_right) (λ ne n. (step.stay b ne n).1 (was.right b (step.stay b ne n).0));
+      same = λ b. at_or_away (λ x. overlay' x ≡ false → g x ≡ table x) a b (same_here step.settled) (λ ne n. step.others b ne ∙ was.same b (sym (step.changed_others b ne) ∙ n));
+      differs = λ b. at_or_away (λ x. overlay' x ≡ true → g x ≢ table x) a b (differs_here step.settled) (λ ne t x. was.differs b (sym (step.changed_others b ne) ∙ t) (sym (step.others b ne) ∙ x));
       differs_low = λ b t n x.
           let later = not_later b a taken n in
           was.differs_low b (sym (step.changed_others b later.0) ∙ t) later.1 (ap low (sym (step.others b later.0)) ∙ x);
       put_low = λ b t n.
           let later = not_later b a taken n in
           ap low (step.others b later.0) ∙ was.put_low b (sym (step.changed_others b later.0) ∙ t) later.1 ∙ sym (step.others b later.0);
-      order = in_order le trans a whole whole' taken is least (λ b q. ((step.from b q).0, later b (step.from b q).1)) was.order;
-      queued = λ b q. queued b (step.from b q).1;
+      order = in_order le trans a whole whole' taken is least (λ b q. ((step.from b q).0, asked_later relation Provider whole overlay' a b (le a b × (le b a → ⊥)) (below a b) (step.from b q).1)) was.order;
+      queued = λ b q. asked_counted relation touched Provider whole overlay' a b (λ old. on b (was.queued b old)) (step.from b q).1;
       done_up = λ b t. on b (was.done_up b t);
-      done = λ b t. elim (occurs_cases b a taken t) [
-        | inl e ↦ subst (λ x. IsCounted relation touched overlay' x) e (on a (was.queued a is))
-        | inr old ↦ on b (was.done b old)
-      ];
+      done = all_taken (IsCounted relation touched overlay') a taken (on a (was.queued a is)) (λ b old. on b (was.done b old));
       distinct_up = was.distinct_up;
     }
       where
@@ -249,11 +225,3 @@ module _ (LowRight Right : (ℕ → Option Entry) → ℕ → Type 0) (le : ℕ 
           | inl old ↦ was.differs_low a old (was.order.fresh a is) (sym step.low_kept ∙ ap low x)
           | inr new ↦ s.0 (x ∙ sym (was.same a new))
         ]
-
-        later : (b : ℕ) → (whole b ≡ true) ⊎ ((relation b a ≡ Some Provider) × (overlay' a ≡ true)) → (whole b ≡ true) ⊎ (le a b × (le b a → ⊥))
-        later b (inl q) = inl q
-        later b (inr (link, t)) = inr (below a b link)
-
-        queued : (b : ℕ) → (whole b ≡ true) ⊎ ((relation b a ≡ Some Provider) × (overlay' a ≡ true)) → IsCounted relation touched overlay' b
-        queued b (inl q) = on b (was.queued b q)
-        queued b (inr (link, t)) = inr (a, Provider, link, t)

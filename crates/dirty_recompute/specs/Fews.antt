@@ -1,8 +1,10 @@
 -- ASes that wait, each under its rank, in a set.
-use Rattle.std.specs.Prelude.{◌≡◌, ◌≤◌, ℕ, Bool, true, false, ◌||◌, if◌then◌else◌, Option, None, Some}
+use Rattle.std.specs.Prelude.{◌≡◌, ℕ, Bool, true, false, ◌||◌, if◌then◌else◌, Option, None, Some}
 use Rattle.std.specs.BTreeSet as keys
 use Rattle.std.specs.BTreeMap.{is_at}
 use Rattle.dirty_recompute.specs.declared.few.Few.{Few}
+use Rattle.dirty_recompute.specs.declared.way.Way.{Way}
+use Rattle.dirty_recompute.specs.Ways.{IsNoLater}
 use Rattle.dirty_recompute.specs.Spots.{key_cmp}
 
 -- the pair is the one AS under its rank, if there is one
@@ -22,14 +24,12 @@ HasTurned before after k there = (q : ℕ × ℕ) → after q ≡ (if is_at (key
 abbrev pub AreKeys : (ℕ → ℕ) → (ℕ × ℕ → Bool) → Type 0
 AreKeys rank has = (k : ℕ × ℕ) → has k ≡ true → k.0 ≡ rank k.1
 
--- a was taken out, and none was there under a lower rank
-pub record IsLowestOf (rank : ℕ → ℕ) (before after : ℕ × ℕ → Bool) (a : ℕ) : Type 0 where
-  pub was : before (rank a, a) ≡ true
-  pub turned : HasTurned before after (rank a, a) false
-  pub least : (b : ℕ) → before (rank b, b) ≡ true → rank a ≤ rank b
+-- no pair comes earlier on this way, by its rank
+abbrev pub IsNextKey : Way → (ℕ × ℕ → Bool) → ℕ × ℕ → Type 0
+IsNextKey way has k = (q : ℕ × ℕ) → has q ≡ true → IsNoLater way k.0 q.0
 
--- a was taken out, and none was there under a higher rank
-pub record IsHighestOf (rank : ℕ → ℕ) (before after : ℕ × ℕ → Bool) (a : ℕ) : Type 0 where
+-- a was taken out, and none was there that comes earlier on this way
+pub record IsNextOf (way : Way) (rank : ℕ → ℕ) (before after : ℕ × ℕ → Bool) (a : ℕ) : Type 0 where
   pub was : before (rank a, a) ≡ true
   pub turned : HasTurned before after (rank a, a) false
-  pub greatest : (b : ℕ) → before (rank b, b) ≡ true → rank b ≤ rank a
+  pub next : (b : ℕ) → before (rank b, b) ≡ true → IsNoLater way (rank a) (rank b)

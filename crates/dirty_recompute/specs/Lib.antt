@@ -1,6 +1,8 @@
 pub mod Exact
+pub mod Laws
 pub mod Steps
 pub mod Resources
+pub mod Ways
 pub mod Spots
 pub mod Fews
 pub mod Queues

@@ -1,10 +1,12 @@
 -- Queues of ASes by rank: who waits, who is taken out, and who is put in.
-use Rattle.std.specs.Prelude.{◌≡◌, ◌≢◌, ◌⊎◌, ◌≤◌, ℕ, Bool, true, false, ◌||◌, Option, None, Some, List}
+use Rattle.std.specs.Prelude.{◌≡◌, ◌≢◌, ◌⊎◌, ℕ, Bool, true, false, ◌||◌, Option, None, Some, List}
 use Rattle.std.specs.List.{slice_get}
 use Rattle.net_names.specs.declared.routes.Rel.{Rel}
 use Rattle.as_graph.specs.declared.neighbour.Neighbour.{Neighbour}
 use Rattle.dirty_recompute.specs.declared.queue.Queue.{Queue}
 use Rattle.dirty_recompute.specs.declared.spots.Spots.{Spots}
+use Rattle.dirty_recompute.specs.declared.way.Way.{Way}
+use Rattle.dirty_recompute.specs.Ways.{IsNoLater}
 use Rattle.dirty_recompute.specs.Spots.{spots_have, AreRanked}
 use Rattle.dirty_recompute.specs.Fews.{few_has, AreKeys}
 
@@ -53,15 +55,10 @@ pub record IsTaken (rank : ℕ → ℕ) (before after : Queue) (a : ℕ) : Type 
   pub from : (b : ℕ) → waits rank after b ≡ true → waits rank before b ≡ true
   pub ranks : HasRanks rank after
 
--- a was taken out of the queue, and none waited under a lower rank
-pub record IsLowest (rank : ℕ → ℕ) (before after : Queue) (a : ℕ) : Type 0 where
+-- a was taken out of the queue, and none waited that comes earlier on this way
+pub record IsNext (way : Way) (rank : ℕ → ℕ) (before after : Queue) (a : ℕ) : Type 0 where
   pub taken : IsTaken rank before after a
-  pub least : (b : ℕ) → waits rank before b ≡ true → rank a ≤ rank b
-
--- a was taken out of the queue, and none waited under a higher rank
-pub record IsHighest (rank : ℕ → ℕ) (before after : Queue) (a : ℕ) : Type 0 where
-  pub taken : IsTaken rank before after a
-  pub greatest : (b : ℕ) → waits rank before b ≡ true → rank b ≤ rank a
+  pub next : (b : ℕ) → waits rank before b ≡ true → IsNoLater way (rank a) (rank b)
 
 -- b is one of the neighbours, and is this to the AS
 abbrev pub IsAmong : List Neighbour → Rel → ℕ → Type 0

@@ -1,10 +1,13 @@
 -- ASes in an order by rank, each with a mark where it waits.
-use Rattle.std.specs.Prelude.{◌≡◌, ◌≢◌, ◌≤◌, ◌<◌, ℕ, Bool, true, false, ◌&&◌, Some, List, slice_get}
+use Rattle.std.specs.Prelude.{◌≡◌, ◌≢◌, ◌+◌, ◌-◌, ◌≤◌, ◌<◌, ℕ, Bool, true, false, ◌&&◌, Some, List, slice_get}
 use Rattle.std.specs.List.{list_any}
 use Rattle.std.specs.declared.cmp.Ordering.{Ordering}
 use Rattle.std.specs.Ordering.{nat_cmp, ordering_then}
 use Rattle.std.specs.BTreeMap.{is_at}
 use Rattle.dirty_recompute.specs.declared.spot.Spot.{Spot}
+use Rattle.dirty_recompute.specs.declared.way.Way.{Way}
+use Rattle.dirty_recompute.specs.declared.way.Way.TheVariants.{Up, Down}
+use Rattle.dirty_recompute.specs.Ways.{IsNoLater}
 
 -- the order of the pairs: by rank, and then by number
 abbrev pub key_cmp : ℕ × ℕ → ℕ × ℕ → Ordering
@@ -46,31 +49,25 @@ AreRanked rank spots = (i : ℕ) (s : Spot) → slice_get spots i ≡ Some s →
 abbrev pub IsSpotOf : List Spot → ℕ → ℕ → Type 0
 IsSpotOf spots a i = (s : Spot) × (slice_get spots i ≡ Some s) × (s.asn ≡ a)
 
--- nobody waits before the place, at which somebody does
-abbrev pub IsFirst : List Spot → ℕ → Type 0
-IsFirst spots i = IsWaiting spots i × ((j : ℕ) (t : Spot) → slice_get spots j ≡ Some t → t.waits ≡ true → i ≤ j)
+-- somebody waits at the place, and nobody at one that comes earlier on this way
+abbrev pub IsNextPlace : Way → List Spot → ℕ → Type 0
+IsNextPlace way spots i = IsWaiting spots i × ((j : ℕ) (t : Spot) → slice_get spots j ≡ Some t → t.waits ≡ true → IsNoLater way i j)
 
--- nobody waits behind the place, at which somebody does
-abbrev pub IsLast : List Spot → ℕ → Type 0
-IsLast spots i = IsWaiting spots i × ((j : ℕ) (t : Spot) → slice_get spots j ≡ Some t → t.waits ≡ true → j ≤ i)
+-- of the places from low on and before high, the one that comes after so many on this way
+abbrev pub place_after : Way → ℕ → ℕ → ℕ → ℕ
+place_after Up low high step = low + step
+place_after Down low high step = high - (step + 1)
 
 -- at the place somebody waits afterwards, or nobody, and all else is as before
 pub record IsMarked (before after : List Spot) (i : ℕ) (waits : Bool) : Type 0 where
   pub this : (s : Spot) → slice_get before i ≡ Some s → slice_get after i ≡ Some (record s { waits = waits })
   pub others : (j : ℕ) → j ≢ i → slice_get after j ≡ slice_get before j
 
--- the first that waited does not wait any more
-pub record IsFirstTaken (before after : List Spot) (s : Spot) : Type 0 where
+-- the next that waited on this way does not wait any more
+pub record IsNextTaken (way : Way) (before after : List Spot) (s : Spot) : Type 0 where
   pub place : ℕ
   pub at : slice_get before place ≡ Some s
-  pub first : IsFirst before place
-  pub marked : IsMarked before after place false
-
--- the last that waited does not wait any more
-pub record IsLastTaken (before after : List Spot) (s : Spot) : Type 0 where
-  pub place : ℕ
-  pub at : slice_get before place ≡ Some s
-  pub last : IsLast before place
+  pub next : IsNextPlace way before place
   pub marked : IsMarked before after place false
 
 -- these are spots of the ASes, in their order, by rank, and nobody waits

@@ -1,11 +1,16 @@
 -- What one step of an AS leaves, and which neighbours need not choose anew after it.
-use Rattle.std.specs.Prelude.{◌≡◌, ◌≢◌, ◌⊎◌, ℕ, Bool, true, IsTrue, Option, None, Some}
+use Rattle.std.specs.Prelude.{◌≡◌, ◌≢◌, ◌⊎◌, ℕ, Bool, true, IsTrue, Option, None, Some, is_some}
 use Rattle.stability_laws.specs.declared.entry.Entry.{Entry}
 use Rattle.stability_laws.specs.declared.entry.Seed.{Seed}
 use Rattle.stability_laws.specs.Offers.{Setting, Offer, offer}
-use Rattle.stability_laws.specs.Stable.{IsRightGiven}
+use Rattle.stability_laws.specs.Stable.{IsRight, IsRightGiven}
 use Rattle.stability_laws.specs.Laws.{customer_offer}
 use Rattle.stability_laws.specs.Steps.{low}
+use Rattle.route_choice.specs.declared.choice.Part.{Part}
+use Rattle.route_choice.specs.declared.choice.Part.TheVariants.{Up, Whole}
+use Rattle.route_choice.specs.declared.overlay.Overlay.{Overlay}
+use Rattle.route_choice.specs.Choices.{offers_of}
+use Rattle.route_choice.specs.Tables.{change_at}
 
 -- nothing, where what is held has an Origin or Customer part
 abbrev pub without_low : Option Entry → Option Entry → Option Entry
@@ -36,9 +41,19 @@ pub record ChangesOnly (a : ℕ) (f g : ℕ → Option Entry) (changed changed' 
   pub changed_others : (b : ℕ) → b ≢ a → changed' b ≡ changed b
   pub settled : ((g a ≡ f a) × (changed' a ≡ changed a)) ⊎ ((g a ≢ f a) × (changed' a ≡ true))
 
--- a took its seed's entry or the best of its customers' offers; where there is neither, `nothing` says so (Gao and Rexford 2001)
-pub record IsChosenUp (w : Setting) (seeds : ℕ → Option Seed) (a : ℕ) (f g : ℕ → Option Entry) (nothing : Bool) : Type 0 where
+-- what a step leaves of what is held, given the seed's entry or the best of the offers it looks at: in a step over all offers just that
+abbrev pub after : Part → Option Entry → Option Entry → Option Entry
+after Up new held = after_up new held
+after Whole new held = new
+
+-- a took its seed's entry or the best of the offers that the step looks at; where there is neither, `nothing` says so (Gao and Rexford 2001)
+pub record IsChosen (part : Part) (w : Setting) (seeds : ℕ → Option Seed) (a : ℕ) (f g : ℕ → Option Entry) (nothing : Bool) : Type 0 where
   pub new : Option Entry
-  pub right : IsRightGiven (w.policy a) (seeds a) (λ n. customer_offer w f n a) new
-  pub at : g a ≡ after_up new (f a)
+  pub right : IsRightGiven (w.policy a) (seeds a) (λ n. offers_of part w f a n) new
+  pub at : g a ≡ after part new (f a)
   pub none : new ≡ None → nothing ≡ true
+
+-- a can make the step: upwards, nothing is changed of it; over all offers, where something is, it holds nothing or what is right
+abbrev pub IsReady : Part → Setting → (ℕ → Option Seed) → (ℕ → Option Entry) → Overlay → ℕ → Type 0
+IsReady Up w seeds f overlay a = change_at overlay a ≡ None
+IsReady Whole w seeds f overlay a = is_some (change_at overlay a) ≡ true → (f a ≡ None) ⊎ IsRight w seeds f a

@@ -1,7 +1,11 @@
 -- What holds between two turns.
-use Rattle.std.specs.Prelude.{◌≡◌, ◌≢◌, ◌+◌, ◌≤◌, ℕ, Bool, true, false, Option, List, length, IsSome}
+use Rattle.std.specs.Prelude.{◌≡◌, ◌≢◌, ◌+◌, ◌≤◌, ℕ, Bool, true, false, Option, None, List, length, IsSome}
 use Rattle.net_names.specs.declared.routes.Rel.{Rel}
+use Rattle.net_names.specs.declared.routes.State.{State}
 use Rattle.net_names.specs.Numbers.{occurs, IsDistinct}
+use Rattle.net_names.specs.Prefixes.{PrefixValue as Prefix}
+use Rattle.policy_laws.specs.Policy.{Policy}
+use Rattle.as_graph.specs.Topology.{has}
 use Rattle.path_pool.specs.declared.pool.PathPool.{PathPool}
 use Rattle.path_pool.specs.Pool.{count_of, live_count}
 use Rattle.stability_laws.specs.declared.entry.Entry.{Entry}
@@ -11,10 +15,13 @@ use Rattle.stability_laws.specs.Stable.{IsRight}
 use Rattle.stability_laws.specs.Steps.{low}
 use Rattle.route_choice.specs.declared.counts.TheConstants.{MOST_COUNTED}
 use Rattle.route_choice.specs.declared.overlay.Overlay.{Overlay}
+use Rattle.route_choice.specs.declared.prefix_world.PrefixWorld.{PrefixWorld}
 use Rattle.route_choice.specs.declared.seeds.SeedIds.{SeedIds}
 use Rattle.route_choice.specs.declared.table.Table.{Table}
+use Rattle.route_choice.specs.PrefixWorlds.{setting_at}
 use Rattle.route_choice.specs.Resources.{AreHeld, AreEntriesLive, AreSeedsLive}
 use Rattle.route_choice.specs.Routings.{routing_of, seeds_of, table_routing}
+use Rattle.route_choice.specs.Tables.{held_at}
 use Rattle.dirty_recompute.specs.Exact.{IsCounted}
 use Rattle.dirty_recompute.specs.Steps.{IsRightLow}
 use Rattle.dirty_recompute.specs.declared.queue.Queue.{Queue}
@@ -92,3 +99,14 @@ pub record CanGoOn (has : ℕ → Bool) (first pool : PathPool) (seeds : SeedIds
   pub held : AreHeld pool table overlay
   pub entries_live : AreEntriesLive pool table
   pub seeds_live : AreSeedsLive pool seeds
+
+-- what could go on from any first pool can go on still
+abbrev pub GoesOn : (ℕ → Bool) → PathPool → PathPool → SeedIds → Table → Overlay → Overlay → Type 0
+GoesOn has old new seeds table before after =
+    (first : PathPool) → CanGoOn has first old seeds table before → CanGoOn has first new seeds table after
+
+-- the table holds entries only for ASes of the graph and touched ones, and is right at all ASes that aren't touched
+pub record IsRightBut {P V : Type 0} (meaning : P → Policy) (state_of : V → Prefix → ℕ → State) (at : PrefixWorld P V) (pool : PathPool) (touched : List ℕ) : Type 0 where
+  pub entries : (b : ℕ) → has at.graph.now b ≡ false → occurs b touched ≡ false → held_at at.table.now b ≡ None
+  pub right : (b : ℕ) → has at.graph.now b ≡ true → occurs b touched ≡ false →
+      IsRight (setting_at meaning state_of at) (seeds_of pool at.seeds.now) (table_routing pool at.table.now) b

@@ -3,6 +3,7 @@
 ghost use Rattle.std.specs.Prelude.{◌≡◌, ℕ, Some, []};
 
 use crate::planned_ranks::PlannedRanks;
+use crate::way::Way;
 use net_names::{Asn, NoMemory};
 use std::alloc::Global;
 use std::collections::BTreeSet;
@@ -22,7 +23,7 @@ impl Few {
     ghost use Rattle.std.specs.BTreeSet as keys;
     ghost use Rattle.dirty_recompute.specs.PlannedRanks.{rank_of};
     ghost use Rattle.dirty_recompute.specs.Spots.{key_cmp};
-    ghost use Rattle.dirty_recompute.specs.Fews.{few_has, AreKeys, HasTurned, IsLowestOf, IsHighestOf};
+    ghost use Rattle.dirty_recompute.specs.Fews.{few_has, AreKeys, HasTurned, IsNextKey, IsNextOf};
 
     /// Nobody waits.
     pub(crate) fn new(alloc: Global) -> Few
@@ -83,28 +84,23 @@ impl Few {
         Ok(keys)
     }
 
-    /// Takes the AS of the lowest rank out.
-    pub(crate) fn pop_lowest(&mut self) -> Option<Asn>
-        ensures taken { (rank : ℕ → ℕ) → AreKeys rank (few_has rank self.old) →
-            IfSome result (IsLowestOf rank (few_has rank self.old) (few_has rank self.new)) }
-        ensures none { (rank : ℕ → ℕ) → IfNone result ((k : ℕ × ℕ) → few_has rank self.old k ≡ false) }
+    // Takes the next pair out of a set, on this way.
+    fn pop_of(many: &mut BTreeSet<(u32, Asn)>, way: Way) -> Option<(u32, Asn)>
+        ensures member { IfSome result (λ k. keys.contains key_cmp many.old k ≡ true) }
+        ensures updates { IfSome result (λ k. keys.Updates key_cmp many.old many.new k false) }
+        ensures next { IfSome result (IsNextKey way (keys.contains key_cmp many.old)) }
+        ensures none { IfNone result ((k : ℕ × ℕ) → keys.contains key_cmp many.old k ≡ false) }
     {
-        match self.one {
-            Some(asn) => {
-                self.one = None;
-                Some(asn)
-            }
-            None => match self.many.pop_first() {
-                Some((_, asn)) => Some(asn),
-                None => None,
-            },
+        match way {
+            Way::Up => many.pop_first(),
+            Way::Down => many.pop_last(),
         }
     }
 
-    /// Takes the AS of the highest rank out.
-    pub(crate) fn pop_highest(&mut self) -> Option<Asn>
+    /// Takes the AS out that comes next on this way.
+    pub(crate) fn pop(&mut self, way: Way) -> Option<Asn>
         ensures taken { (rank : ℕ → ℕ) → AreKeys rank (few_has rank self.old) →
-            IfSome result (IsHighestOf rank (few_has rank self.old) (few_has rank self.new)) }
+            IfSome result (IsNextOf way rank (few_has rank self.old) (few_has rank self.new)) }
         ensures none { (rank : ℕ → ℕ) → IfNone result ((k : ℕ × ℕ) → few_has rank self.old k ≡ false) }
     {
         match self.one {
@@ -112,7 +108,7 @@ impl Few {
                 self.one = None;
                 Some(asn)
             }
-            None => match self.many.pop_last() {
+            None => match Few::pop_of(&mut self.many, way) {
                 Some((_, asn)) => Some(asn),
                 None => None,
             },

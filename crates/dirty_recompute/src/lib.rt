@@ -6,9 +6,11 @@
 //! AS that was touched or has a neighbour that changed.
 #![tactic(auto)]
 
+mod after_step;
 mod crowding;
 mod few;
 mod giving;
+mod laws;
 mod plan;
 mod planned_ranks;
 mod prefix_edit;
@@ -19,6 +21,7 @@ mod spot;
 mod spots;
 mod stepping;
 mod turns;
+mod way;
 
 pub use plan::plan_edit;
 pub use planned_ranks::PlannedRanks;

@@ -1,8 +1,7 @@
 //! Who changes after an edit.
 
-ghost use Rattle.std.specs.Prelude.{◌≡◌, ℕ, suc, ◌+◌, ◌*◌, ◌≤◌, length, true, false, None, Some, OnOk, OnErr, IfOk};
+ghost use Rattle.std.specs.Prelude.{◌≡◌, ℕ, ◌+◌, ◌*◌, ◌≤◌, length, true, false, None, OnOk, OnErr, IfOk};
 ghost use Rattle.net_names.specs.Numbers.{occurs};
-ghost use Rattle.net_names.specs.declared.routes.Rel.TheVariants.{Customer};
 ghost use Rattle.as_graph.specs.Topology.{relation, has, as_count};
 ghost use Rattle.as_graph.specs.Hierarchy.{HasNoProviderCycle, IsRank};
 ghost use Rattle.path_pool.specs.declared.pool.PathPool.{PathPool as APool};
@@ -19,23 +18,22 @@ ghost use Rattle.dirty_recompute.specs.Exact.{IsExact, AreEnough};
 ghost use Rattle.dirty_recompute.specs.PlannedRanks.{rank_of};
 ghost use Rattle.dirty_recompute.specs.Queues.{waits, HasRanks};
 ghost use Rattle.dirty_recompute.specs.Resources.{has_change, FewNewCells, IsKept, IsUndone, SameTable};
-ghost use Rattle.dirty_recompute.specs.Work.{HasGoneDown, CanGoOn};
+ghost use Rattle.dirty_recompute.specs.Work.{HasGoneDown, CanGoOn, GoesOn, IsRightBut};
 ghost use Rattle.as_graph.specs.declared.build.TheConstants.{MOST_ASES};
 
+use crate::laws::laws_hold;
 use crate::planned_ranks::PlannedRanks;
 use crate::prefix_edit::PrefixEdit;
 use crate::queue::{Queue, Queues};
 use crate::ranked_world::RankedWorld;
-use crate::turns::{turn_down, turn_up};
+use crate::turns::turn;
+use crate::way::Way;
 use as_graph::{Graph, ranks_fit};
 use net_names::{Asn, NoMemory};
 use path_pool::PathPool;
 use policy_laws::{OriginStates, RoutePolicy};
-use route_choice::{Overlay, PrefixWorld, Steps, Table};
-use stability_laws::{
-    World, customers_decide, nothing_up, offer_follows, offer_names, one_stable_routing,
-    right_by_offers,
-};
+use route_choice::{Overlay, Part, PlacedAs, PrefixWorld, Steps, Table};
+use stability_laws::World;
 use std::alloc::Global;
 use std::sync::ledger::Ledger;
 
@@ -72,43 +70,30 @@ fn go_up<P: RoutePolicy, V: OriginStates, L: Ledger>(
     pool: &mut PathPool,
     overlay: &mut Overlay,
     steps: &mut Steps<L>,
-) -> Result<Queue, NoMemory>
-    requires falls { (a b : ℕ) → relation world.now.at.graph.now a b ≡ Some Customer →
-        suc (rank_of world.now.ranks b) ≤ rank_of world.now.ranks a }
+) -> Result<Queues, NoMemory>
     requires few { as_count world.now.at.graph.now ≤ MOST_ASES }
-    requires seeds { (b : ℕ) → has world.now.at.graph.now b ≡ false → seed_at world.now.at.seeds.now b ≡ None }
     requires fresh { (b : ℕ) → change_at overlay.old b ≡ None }
-    requires entries { (b : ℕ) → has world.now.at.graph.now b ≡ false → occurs b touched.now ≡ false →
-        held_at world.now.at.table.now b ≡ None }
-    requires right { (b : ℕ) → has world.now.at.graph.now b ≡ true → occurs b touched.now ≡ false →
-        IsRight (setting_at P.meaning V.state_of world.now.at) (seeds_of pool.old world.now.at.seeds.now)
-        (table_routing pool.old world.now.at.table.now) b }
+    requires right { IsRightBut P.meaning V.state_of world.now.at pool.old touched.now }
     requires can { (first : APool) × CanGoOn (has world.now.at.graph.now) first pool.old world.now.at.seeds.now
         world.now.at.table.now overlay.old }
     ensures done { IfOk result (λ q. (n : ℕ) × (steps.new ≡ steps.old + n) ×
         HasGoneDown (setting_at P.meaning V.state_of world.now.at) (rank_of world.now.ranks) touched.now pool.new
-        world.now.at.seeds.now world.now.at.table.now overlay.new q n 0) }
-    ensures can { OnOk result ((first : APool) →
-        CanGoOn (has world.now.at.graph.now) first pool.old world.now.at.seeds.now world.now.at.table.now
-        overlay.old → CanGoOn (has world.now.at.graph.now) first pool.new world.now.at.seeds.now
-        world.now.at.table.now overlay.new) }
+        world.now.at.seeds.now world.now.at.table.now overlay.new q.whole n 0) }
+    ensures can { OnOk result (GoesOn (has world.now.at.graph.now) pool.old pool.new world.now.at.seeds.now
+        world.now.at.table.now overlay.old overlay.new) }
     ensures kept { IsKept pool.old pool.new world.now.at.seeds.now overlay.old overlay.new }
 {
-    offer_names::<P>();
-    offer_follows::<P>();
-    right_by_offers::<P>();
-    nothing_up::<P>();
-    customers_decide::<P>();
-    one_stable_routing::<P>();
+    laws_hold::<P>();
     let mut queues = Queues {
         up: queue_of(alloc, world.at.graph, &world.ranks, touched)?,
         whole: Queue::new(alloc),
     };
-    while let Some(asn) = queues.up.pop_lowest() {
-        let row = queues.up.row_or(near);
-        turn_up(world, pool, overlay, asn, row, &mut queues, steps)?;
+    while let Some(asn) = queues.up.pop(Way::Up) {
+        let place = queues.up.row_or(near);
+        let placed = PlacedAs { asn, place };
+        turn(world, pool, overlay, &placed, Part::Up, &mut queues, steps)?;
     }
-    Ok(queues.whole)
+    Ok(queues)
 }
 
 // And then downwards, by falling rank. `touched` has the ASes with which the way upwards began.
@@ -118,16 +103,12 @@ fn go_down<P: RoutePolicy, V: OriginStates, L: Ledger>(
     near: usize,
     pool: &mut PathPool,
     overlay: &mut Overlay,
-    whole: &mut Queue,
+    queues: &mut Queues,
     steps: &mut Steps<L>,
 ) -> Result<(), NoMemory>
-    requires no_cycle { HasNoProviderCycle (relation world.now.at.graph.now) }
-    requires falls { (a b : ℕ) → relation world.now.at.graph.now a b ≡ Some Customer →
-        suc (rank_of world.now.ranks b) ≤ rank_of world.now.ranks a }
     requires few { as_count world.now.at.graph.now ≤ MOST_ASES }
-    requires seeds { (b : ℕ) → has world.now.at.graph.now b ≡ false → seed_at world.now.at.seeds.now b ≡ None }
     requires work { (n : ℕ) × HasGoneDown (setting_at P.meaning V.state_of world.now.at) (rank_of world.now.ranks)
-        touched.now pool.old world.now.at.seeds.now world.now.at.table.now overlay.old whole.old n 0 }
+        touched.now pool.old world.now.at.seeds.now world.now.at.table.now overlay.old queues.old.whole n 0 }
     requires can { (first : APool) × CanGoOn (has world.now.at.graph.now) first pool.old world.now.at.seeds.now
         world.now.at.table.now overlay.old }
     ensures exact { OnOk result (IsExact (setting_at P.meaning V.state_of world.now.at)
@@ -135,24 +116,18 @@ fn go_down<P: RoutePolicy, V: OriginStates, L: Ledger>(
         (routing_of pool.new world.now.at.table.now overlay.new) (has_change overlay.new)) }
     ensures enough { OnOk result ((first n : ℕ) → steps.old ≡ first + n →
         HasGoneDown (setting_at P.meaning V.state_of world.now.at) (rank_of world.now.ranks) touched.now pool.old
-        world.now.at.seeds.now world.now.at.table.now overlay.old whole.old n 0 →
+        world.now.at.seeds.now world.now.at.table.now overlay.old queues.old.whole n 0 →
         AreEnough (relation world.now.at.graph.now) (λ b. occurs b touched.now) (has_change overlay.new) first
         steps.new) }
-    ensures can { OnOk result ((first : APool) →
-        CanGoOn (has world.now.at.graph.now) first pool.old world.now.at.seeds.now world.now.at.table.now
-        overlay.old → CanGoOn (has world.now.at.graph.now) first pool.new world.now.at.seeds.now
-        world.now.at.table.now overlay.new) }
+    ensures can { OnOk result (GoesOn (has world.now.at.graph.now) pool.old pool.new world.now.at.seeds.now
+        world.now.at.table.now overlay.old overlay.new) }
     ensures kept { IsKept pool.old pool.new world.now.at.seeds.now overlay.old overlay.new }
 {
-    offer_names::<P>();
-    offer_follows::<P>();
-    right_by_offers::<P>();
-    nothing_up::<P>();
-    customers_decide::<P>();
-    one_stable_routing::<P>();
-    while let Some(asn) = whole.pop_highest() {
-        let row = whole.row_or(near);
-        turn_down(world, pool, overlay, asn, row, whole, steps)?;
+    laws_hold::<P>();
+    while let Some(asn) = queues.whole.pop(Way::Down) {
+        let place = queues.whole.row_or(near);
+        let placed = PlacedAs { asn, place };
+        turn(world, pool, overlay, &placed, Part::Whole, queues, steps)?;
     }
     Ok(())
 }
@@ -166,16 +141,8 @@ fn put_changes<P: RoutePolicy, V: OriginStates, L: Ledger>(
     overlay: &mut Overlay,
     steps: &mut Steps<L>,
 ) -> Result<(), NoMemory>
-    requires no_cycle { HasNoProviderCycle (relation world.now.at.graph.now) }
-    requires falls { (a b : ℕ) → relation world.now.at.graph.now a b ≡ Some Customer →
-        suc (rank_of world.now.ranks b) ≤ rank_of world.now.ranks a }
-    requires seeds { (b : ℕ) → has world.now.at.graph.now b ≡ false → seed_at world.now.at.seeds.now b ≡ None }
     requires fresh { (b : ℕ) → change_at overlay.old b ≡ None }
-    requires entries { (b : ℕ) → has world.now.at.graph.now b ≡ false → occurs b touched.now ≡ false →
-        held_at world.now.at.table.now b ≡ None }
-    requires right { (b : ℕ) → has world.now.at.graph.now b ≡ true → occurs b touched.now ≡ false →
-        IsRight (setting_at P.meaning V.state_of world.now.at) (seeds_of pool.old world.now.at.seeds.now)
-        (table_routing pool.old world.now.at.table.now) b }
+    requires right { IsRightBut P.meaning V.state_of world.now.at pool.old touched.now }
     requires can { CanGoOn (has world.now.at.graph.now) pool.old pool.old world.now.at.seeds.now
         world.now.at.table.now overlay.old }
     ensures exact { OnOk result (IsExact (setting_at P.meaning V.state_of world.now.at)
@@ -190,8 +157,8 @@ fn put_changes<P: RoutePolicy, V: OriginStates, L: Ledger>(
     // there are few ASes, so no count of the pool can grow too great
     let _ = world.at.graph.as_count();
     let near = row_of_first(world.at.graph, touched);
-    let mut whole = go_up(alloc, world, touched, near, pool, overlay, steps)?;
-    go_down(world, touched, near, pool, overlay, &mut whole, steps)?;
+    let mut queues = go_up(alloc, world, touched, near, pool, overlay, steps)?;
+    go_down(world, touched, near, pool, overlay, &mut queues, steps)?;
     Ok(())
 }
 

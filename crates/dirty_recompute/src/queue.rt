@@ -8,6 +8,7 @@ use crate::crowding::{fill, put_waiting, spots_of};
 use crate::few::Few;
 use crate::planned_ranks::PlannedRanks;
 use crate::spots::Spots;
+use crate::way::Way;
 use as_graph::Graph;
 use net_names::{Asn, NoMemory};
 use std::alloc::Global;
@@ -33,8 +34,7 @@ pub(crate) struct Queue {
 impl Queue {
     ghost use Rattle.std.specs.Prelude.{true, false, None, Some, OnOk, OnErr, IfSome, IfNone};
     ghost use Rattle.dirty_recompute.specs.PlannedRanks.{rank_of};
-    ghost use Rattle.dirty_recompute.specs.Fews.{HasTurned, IsLowestOf, IsHighestOf};
-    ghost use Rattle.dirty_recompute.specs.Queues.{contains, waits, HasRanks, IsAdded, IsIn, IsLowest, IsHighest, IsSame};
+    ghost use Rattle.dirty_recompute.specs.Queues.{contains, waits, HasRanks, IsAdded, IsIn, IsNext, IsSame};
 
     /// Nobody waits.
     pub(crate) fn new(alloc: Global) -> Queue
@@ -111,23 +111,6 @@ impl Queue {
         }
     }
 
-    // Puts an AS into the queue, whose row may stand there.
-    fn put(
-        &mut self,
-        graph: &Graph,
-        ranks: &PlannedRanks,
-        asn: Asn,
-        row: usize,
-    ) -> Result<(), NoMemory>
-        ensures { OnOk result (IsAdded (rank_of ranks.now) self.old self.new (λ b. b ≡ asn)) }
-    {
-        if self.mark_spot(graph, asn, row) {
-            return Ok(());
-        }
-        self.gather(ranks)?;
-        self.few.put(ranks, asn)
-    }
-
     /// Puts an AS into the queue, under its rank. Its row may stand there in the graph.
     pub(crate) fn add(
         &mut self,
@@ -139,7 +122,11 @@ impl Queue {
         ensures { OnOk result (IsAdded (rank_of ranks.now) self.old self.new (λ b. b ≡ asn)) }
     {
         self.widen(graph, ranks)?;
-        self.put(graph, ranks, asn, row)
+        if self.mark_spot(graph, asn, row) {
+            return Ok(());
+        }
+        self.gather(ranks)?;
+        self.few.put(ranks, asn)
     }
 
     /// Puts ASes into the queue.
@@ -157,37 +144,20 @@ impl Queue {
         Ok(())
     }
 
-    /// Takes the AS of the lowest rank out of the queue.
-    pub(crate) fn pop_lowest(&mut self) -> Option<Asn>
-        ensures taken { (rank : ℕ → ℕ) → HasRanks rank self.old → IfSome result (IsLowest rank self.old self.new) }
+    /// Takes the AS out of the queue that comes next on this way.
+    pub(crate) fn pop(&mut self, way: Way) -> Option<Asn>
+        ensures taken { (rank : ℕ → ℕ) → HasRanks rank self.old → IfSome result (IsNext way rank self.old self.new) }
         ensures none { (rank : ℕ → ℕ) → IfNone result ((b : ℕ) → waits rank self.old b ≡ false) }
     {
         match &mut self.spots {
-            Some(spots) => match spots.take_first() {
+            Some(spots) => match spots.take(way) {
                 Some(spot) => {
                     self.row = spot.row as usize;
                     Some(spot.asn)
                 }
                 None => None,
             },
-            None => self.few.pop_lowest(),
-        }
-    }
-
-    /// Takes the AS of the highest rank out of the queue.
-    pub(crate) fn pop_highest(&mut self) -> Option<Asn>
-        ensures taken { (rank : ℕ → ℕ) → HasRanks rank self.old → IfSome result (IsHighest rank self.old self.new) }
-        ensures none { (rank : ℕ → ℕ) → IfNone result ((b : ℕ) → waits rank self.old b ≡ false) }
-    {
-        match &mut self.spots {
-            Some(spots) => match spots.take_last() {
-                Some(spot) => {
-                    self.row = spot.row as usize;
-                    Some(spot.asn)
-                }
-                None => None,
-            },
-            None => self.few.pop_highest(),
+            None => self.few.pop(way),
         }
     }
 }

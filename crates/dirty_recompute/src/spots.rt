@@ -1,10 +1,11 @@
 //! The ASes of a graph by rising rank, each with a mark where it waits.
 
-ghost use Rattle.std.specs.Prelude.{◌≡◌, true, false, Some, slice_get, IfSome, IfNone};
+ghost use Rattle.std.specs.Prelude.{◌≡◌, ◌-◌, ◌<◌, true, false, Some, slice_get, IfSome, IfNone};
 ghost use Rattle.dirty_recompute.specs.declared.spot.Spot.{Spot as ASpot};
-ghost use Rattle.dirty_recompute.specs.Spots.{AreApart, AreRising, AreWithin, IsFirst, IsLast, IsWaiting, NoneWaits};
+ghost use Rattle.dirty_recompute.specs.Spots.{AreApart, AreRising, AreWithin, IsNextPlace, IsWaiting, NoneWaits, place_after};
 
 use crate::spot::Spot;
+use crate::way::Way;
 use as_graph::Graph;
 use net_names::Asn;
 
@@ -35,33 +36,27 @@ fn waits_here(items: &[Spot], at: usize) -> bool
     }
 }
 
-// The first place from `low` on at which somebody waits, where nobody does outside of these bounds.
-fn first_waiting(items: &[Spot], low: usize, high: usize) -> Option<usize>
-    requires within { AreWithin low high items.now }
-    ensures some { IfSome result (IsFirst items.now) }
-    ensures none { IfNone result (NoneWaits items.now) }
+// Of the places from `low` on and before `high`, the one that comes after so many on this way.
+fn nth_place(low: usize, high: usize, step: usize, way: Way) -> usize
+    requires { step < high - low }
+    ensures { result ≡ place_after way low high step }
 {
-    let mut at = low;
-    'spots: while at < high {
-        if waits_here(items, at) {
-            return Some(at);
-        }
-        at += 1;
+    match way {
+        Way::Up => low + step,
+        Way::Down => high - (step + 1),
     }
-    None
 }
 
-// The last place before `high` at which somebody waits, where nobody does outside of these bounds.
-fn last_waiting(items: &[Spot], low: usize, high: usize) -> Option<usize>
+// The place of the next who waits, where nobody does outside of these bounds.
+fn next_waiting(items: &[Spot], low: usize, high: usize, way: Way) -> Option<usize>
     requires within { AreWithin low high items.now }
-    ensures some { IfSome result (IsLast items.now) }
+    ensures some { IfSome result (IsNextPlace way items.now) }
     ensures none { IfNone result (NoneWaits items.now) }
 {
-    let mut end = high;
-    'spots: while low < end {
-        end -= 1;
-        if waits_here(items, end) {
-            return Some(end);
+    for step in 0..high.saturating_sub(low) {
+        let at = nth_place(low, high, step, way);
+        if waits_here(items, at) {
+            return Some(at);
         }
     }
     None
@@ -69,7 +64,7 @@ fn last_waiting(items: &[Spot], low: usize, high: usize) -> Option<usize>
 
 impl Spots {
     ghost use Rattle.std.specs.Prelude.{◌≡◌, ℕ, ◌<◌, length, IfSome, IfNone};
-    ghost use Rattle.dirty_recompute.specs.Spots.{IsSpotOf, IsMarked, IsFirstTaken, IsLastTaken, NoneWaits};
+    ghost use Rattle.dirty_recompute.specs.Spots.{IsSpotOf, IsMarked, IsNextPlace, IsNextTaken, NoneWaits};
 
     /// Where an AS stands, whose row may stand there in the graph.
     pub(crate) fn find(&self, asn: Asn, row: usize) -> Option<usize>
@@ -105,31 +100,27 @@ impl Spots {
         self.items[at].waits = waits;
     }
 
-    /// Takes out the first that waits.
-    pub(crate) fn take_first(&mut self) -> Option<Spot>
-        ensures some { IfSome result (IsFirstTaken self.old.items.items self.new.items.items) }
-        ensures none { IfNone result (NoneWaits self.old.items.items) }
-        ensures same { IfNone result (self.new.items.items ≡ self.old.items.items) }
+    // Nobody who waits comes earlier than at this place.
+    fn begin_at(&mut self, at: usize, way: Way)
+        requires { IsNextPlace way self.old.items.items at }
+        ensures { self.new.items ≡ self.old.items }
     {
-        let Some(at) = first_waiting(self.items.as_slice(), self.low, self.high) else {
-            return None;
-        };
-        self.low = at;
-        let spot = self.items[at];
-        self.mark(at, false);
-        Some(spot)
+        match way {
+            Way::Up => self.low = at,
+            Way::Down => self.high = at + 1,
+        }
     }
 
-    /// Takes out the last that waits.
-    pub(crate) fn take_last(&mut self) -> Option<Spot>
-        ensures some { IfSome result (IsLastTaken self.old.items.items self.new.items.items) }
+    /// Takes out the next that waits on this way.
+    pub(crate) fn take(&mut self, way: Way) -> Option<Spot>
+        ensures some { IfSome result (IsNextTaken way self.old.items.items self.new.items.items) }
         ensures none { IfNone result (NoneWaits self.old.items.items) }
         ensures same { IfNone result (self.new.items.items ≡ self.old.items.items) }
     {
-        let Some(at) = last_waiting(self.items.as_slice(), self.low, self.high) else {
+        let Some(at) = next_waiting(self.items.as_slice(), self.low, self.high, way) else {
             return None;
         };
-        self.high = at + 1;
+        self.begin_at(at, way);
         let spot = self.items[at];
         self.mark(at, false);
         Some(spot)

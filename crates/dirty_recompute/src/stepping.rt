@@ -1,22 +1,17 @@
 //! One step of an AS whose entry may be wrong after an edit, and which of its neighbours may be left
 //! alone after it.
 
-ghost use Rattle.std.specs.Prelude.{◌≡◌, ◌⊎◌, ℕ, ◌+◌, Option, ◌↔◌, IsTrue, None, true, false, OnOk, OnErr, IfOk, option_map};
-ghost use Rattle.as_graph.specs.Topology.{has};
-ghost use Rattle.stability_laws.specs.declared.entry.Entry.{Entry as AnEntry};
-ghost use Rattle.stability_laws.specs.Book.{policy_at};
-ghost use Rattle.stability_laws.specs.Offers.{offer};
+ghost use Rattle.std.specs.Prelude.{◌≡◌, ◌+◌, ◌↔◌, IsTrue, None, true, false, OnOk, OnErr, IfOk, option_map};
 ghost use Rattle.path_pool.specs.declared.pool.PathPool.{PathPool as APool};
 ghost use Rattle.stability_laws.specs.Steps.{low};
-ghost use Rattle.stability_laws.specs.Stable.{IsRight, IsRightGiven};
 ghost use Rattle.route_choice.specs.PrefixWorlds.{setting_at};
-ghost use Rattle.route_choice.specs.Resources.{AreHeld, AreSeedsLive};
 ghost use Rattle.route_choice.specs.Routings.{entry_of, routing_of, seeds_of};
-ghost use Rattle.route_choice.specs.Tables.{change_at};
-ghost use Rattle.dirty_recompute.specs.Steps.{ChangesOnly, IsChosenUp, IsLeft, without_low};
+ghost use Rattle.dirty_recompute.specs.Steps.{after, ChangesOnly, IsChosen, IsReady, without_low};
 ghost use Rattle.dirty_recompute.specs.Giving.{SameHeld};
 ghost use Rattle.dirty_recompute.specs.Resources.{has_change, CanTurn, IsKept, IsPaidFor, IsBefore};
+ghost use Rattle.dirty_recompute.specs.Turns.{MayBeLeft};
 
+use crate::after_step::{AfterStep, Stepped};
 use crate::giving::{give_chosen, held_near};
 use crate::spared::{has_rival, may_be_over};
 use as_graph::links_are_sound;
@@ -29,32 +24,6 @@ use route_choice::{
 };
 use stability_laws::{offer_path, one_answer};
 use std::sync::ledger::Ledger;
-
-/// What a step came to.
-#[derive(Clone, Copy)]
-pub(crate) struct Stepped {
-    /// The AS holds another entry than before.
-    pub changed: bool,
-    /// In a step upwards: it has no seed, and no customer makes it an offer.
-    pub nothing: bool,
-    /// What it held before.
-    pub before: Option<Held>,
-    /// Where its row stands in the graph. It is a hint.
-    pub place: usize,
-}
-
-/// An AS that has made a step.
-#[derive(Drop)]
-pub(crate) struct Turned {
-    /// The AS.
-    pub asn: Asn,
-    /// Where its row stands in the graph. It is a hint.
-    pub place: usize,
-    /// What it held before.
-    pub before: Option<Held>,
-    /// It holds another entry than before.
-    pub changed: bool,
-}
 
 // Whether a choice is to hold nothing.
 fn is_nothing(choice: Choice) -> bool
@@ -81,161 +50,126 @@ fn is_high(held: &Option<Held>) -> bool
     }
 }
 
-/// A step upwards: the AS takes its seed or the best of its customers' offers. Where there is none, it
-/// gives up an Origin or Customer entry, and keeps another one. After a refusal it holds what it held. The
-/// place where its row may stand is a hint.
-pub(crate) fn step_up<P: RoutePolicy, V: OriginStates, L: Ledger>(
-    at: &PrefixWorld<'_, P, V>,
-    pool: &mut PathPool,
-    overlay: &mut Overlay,
-    asn: Asn,
-    near: usize,
-    steps: &mut Steps<L>,
-) -> Result<Stepped, NoMemory>
-    requires can { CanTurn pool.old at.now.seeds.now at.now.table.now overlay.old }
-    requires fresh { change_at overlay.old asn ≡ None }
-    ensures chosen { IfOk result (λ r. IsChosenUp (setting_at P.meaning V.state_of at.now)
-        (seeds_of pool.old at.now.seeds.now) asn (routing_of pool.old at.now.table.now overlay.old)
-        (routing_of pool.new at.now.table.now overlay.new) r.nothing) }
-    ensures only { OnOk result (ChangesOnly asn (routing_of pool.old at.now.table.now overlay.old)
-        (routing_of pool.new at.now.table.now overlay.new) (has_change overlay.old) (has_change overlay.new)) }
-    ensures changed { IfOk result (λ r. IsTrue r.changed → has_change overlay.new asn ≡ true) }
-    ensures unchanged { IfOk result (λ r. r.changed ≡ false →
-        routing_of pool.new at.now.table.now overlay.new asn ≡ routing_of pool.old at.now.table.now overlay.old asn) }
-    ensures before { IfOk result (λ r. IsBefore pool.new at.now.table.now overlay.new asn r.before
-        (routing_of pool.old at.now.table.now overlay.old)) }
-    ensures cost { OnOk result (steps.new ≡ steps.old + 1) }
-    ensures paid { OnOk result (IsPaidFor pool.old pool.new (routing_of pool.old at.now.table.now overlay.old)
-        (routing_of pool.new at.now.table.now overlay.new) asn) }
-    ensures kept { IsKept pool.old pool.new at.now.seeds.now overlay.old overlay.new }
-    ensures refused { OnErr result (SameHeld pool.old pool.new at.now.table.now overlay.old overlay.new) }
+// Whether an AS that is to take nothing keeps what it holds: upwards it keeps what no customer and no seed
+// gave it.
+fn stays(part: Part, held: &Option<Held>) -> bool
+    ensures stays { result ≡ true → (p : APool) →
+        after part None (option_map (entry_of p) held.now) ≡ option_map (entry_of p) held.now }
+    ensures goes { result ≡ false → (p : APool) → after part None (option_map (entry_of p) held.now) ≡ None }
 {
-    let place = at.graph.place_near(asn, near);
-    let before = held_near(at.table, overlay, asn, place);
-    let turn = Turn {
-        asn,
-        place,
-        may_loop: true,
-        part: Part::Up,
-    };
-    let chosen = evaluate_near(at, pool, overlay, turn, steps);
-    let nothing = is_nothing(chosen.choice);
-    if nothing && is_high(&before) {
-        return Ok(Stepped {
-            changed: false,
-            nothing,
-            before,
-            place,
-        });
+    match part {
+        Part::Up => is_high(held),
+        Part::Whole => false,
     }
-    let changed = give_chosen(at, pool, overlay, asn, place, &before, chosen)?;
-    Ok(Stepped {
-        changed,
-        nothing,
-        before,
-        place,
-    })
 }
 
-/// A step over all offers: the AS takes its seed, or the best offer, or nothing. After a refusal it holds
-/// what it held. The place where its row may stand is a hint.
-pub(crate) fn step_whole<P: RoutePolicy, V: OriginStates, L: Ledger>(
+/// A step: the AS takes its seed, or the best of the offers that the step looks at, or nothing. Upwards, where
+/// there is neither, it gives up an Origin or Customer entry, and keeps another one. After a refusal it holds
+/// what it held. The place is a hint.
+pub(crate) fn step<P: RoutePolicy, V: OriginStates, L: Ledger>(
     at: &PrefixWorld<'_, P, V>,
     pool: &mut PathPool,
     overlay: &mut Overlay,
-    asn: Asn,
-    near: usize,
+    placed: &PlacedAs,
+    part: Part,
     steps: &mut Steps<L>,
 ) -> Result<Stepped, NoMemory>
     requires can { CanTurn pool.old at.now.seeds.now at.now.table.now overlay.old }
-    requires settled { has_change overlay.old asn ≡ true →
-        (routing_of pool.old at.now.table.now overlay.old asn ≡ None) ⊎
-        IsRight (setting_at P.meaning V.state_of at.now) (seeds_of pool.old at.now.seeds.now)
-        (routing_of pool.old at.now.table.now overlay.old) asn }
-    ensures chosen { OnOk result (IsRightGiven (P.meaning (policy_at at.now.book.now asn))
-        (seeds_of pool.old at.now.seeds.now asn)
-        (λ n. offer (setting_at P.meaning V.state_of at.now) (routing_of pool.old at.now.table.now overlay.old) n asn)
-        (routing_of pool.new at.now.table.now overlay.new asn)) }
-    ensures only { OnOk result (ChangesOnly asn (routing_of pool.old at.now.table.now overlay.old)
+    requires ready { IsReady part (setting_at P.meaning V.state_of at.now) (seeds_of pool.old at.now.seeds.now)
+        (routing_of pool.old at.now.table.now overlay.old) overlay.old placed.now.asn }
+    ensures chosen { IfOk result (λ r. IsChosen part (setting_at P.meaning V.state_of at.now)
+        (seeds_of pool.old at.now.seeds.now) placed.now.asn (routing_of pool.old at.now.table.now overlay.old)
+        (routing_of pool.new at.now.table.now overlay.new) r.nothing) }
+    ensures only { OnOk result (ChangesOnly placed.now.asn (routing_of pool.old at.now.table.now overlay.old)
         (routing_of pool.new at.now.table.now overlay.new) (has_change overlay.old) (has_change overlay.new)) }
-    ensures changed { IfOk result (λ r. IsTrue r.changed → has_change overlay.new asn ≡ true) }
-    ensures unchanged { IfOk result (λ r. r.changed ≡ false →
-        routing_of pool.new at.now.table.now overlay.new asn ≡ routing_of pool.old at.now.table.now overlay.old asn) }
-    ensures before { IfOk result (λ r. IsBefore pool.new at.now.table.now overlay.new asn r.before
+    ensures changed { IfOk result (λ r. IsTrue r.changed → has_change overlay.new placed.now.asn ≡ true) }
+    ensures unchanged { IfOk result (λ r. r.changed ≡ false → routing_of pool.new at.now.table.now overlay.new placed.now.asn
+        ≡ routing_of pool.old at.now.table.now overlay.old placed.now.asn) }
+    ensures before { IfOk result (λ r. IsBefore pool.new at.now.table.now overlay.new placed.now.asn r.before
         (routing_of pool.old at.now.table.now overlay.old)) }
     ensures cost { OnOk result (steps.new ≡ steps.old + 1) }
     ensures paid { OnOk result (IsPaidFor pool.old pool.new (routing_of pool.old at.now.table.now overlay.old)
-        (routing_of pool.new at.now.table.now overlay.new) asn) }
+        (routing_of pool.new at.now.table.now overlay.new) placed.now.asn) }
     ensures kept { IsKept pool.old pool.new at.now.seeds.now overlay.old overlay.new }
     ensures refused { OnErr result (SameHeld pool.old pool.new at.now.table.now overlay.old overlay.new) }
 {
     one_answer::<P>();
-    let place = at.graph.place_near(asn, near);
+    let asn = placed.asn;
+    let place = at.graph.place_near(asn, placed.place);
     let before = held_near(at.table, overlay, asn, place);
     let turn = Turn {
         asn,
         place,
         may_loop: true,
-        part: Part::Whole,
+        part,
     };
     let chosen = evaluate_near(at, pool, overlay, turn, steps);
+    let nothing = is_nothing(chosen.choice);
+    if nothing && stays(part, &before) {
+        return Ok(Stepped {
+            place,
+            before,
+            changed: false,
+            nothing,
+        });
+    }
     let changed = give_chosen(at, pool, overlay, asn, place, &before, chosen)?;
     Ok(Stepped {
-        changed,
-        nothing: false,
-        before,
         place,
+        before,
+        changed,
+        nothing,
     })
 }
 
 /// Whether a neighbour of an AS that has made a step need not choose anew. The place where its row may
 /// stand is a hint. It takes no memory.
 pub(crate) fn is_left<P: RoutePolicy, V: OriginStates>(
-    at: &PrefixWorld<'_, P, V>,
-    pool: &PathPool,
-    overlay: &Overlay,
-    turned: &Turned,
+    after: &AfterStep<'_, P, V>,
     neighbour: Asn,
     near: usize,
 ) -> bool
-    requires held { AreHeld pool.now at.now.table.now overlay.now }
-    requires seeds { AreSeedsLive pool.now at.now.seeds.now }
-    requires live { (f : ℕ → Option AnEntry) ×
-        IsBefore pool.now at.now.table.now overlay.now turned.now.asn turned.now.before f }
-    ensures { IsTrue result → (f : ℕ → Option AnEntry) →
-        IsBefore pool.now at.now.table.now overlay.now turned.now.asn turned.now.before f →
-        IsLeft (setting_at P.meaning V.state_of at.now) (seeds_of pool.now at.now.seeds.now) f
-        (routing_of pool.now at.now.table.now overlay.now) turned.now.asn neighbour }
+    ensures { IsTrue result → MayBeLeft P.meaning V.state_of after.now neighbour }
 {
     offer_path::<P>();
     links_are_sound();
+    let world = after.world;
+    let (at, stepped) = (&world.at, after.stepped);
     if at.seeds.get(neighbour).is_some() {
         return true;
     }
     let place = at.graph.place_near(neighbour, near);
-    let have = held_near(at.table, overlay, neighbour, place);
-    if may_be_over(pool, &have, &turned.before) {
+    let have = held_near(at.table, after.overlay, neighbour, place);
+    if may_be_over(after.pool, &have, &stepped.before) {
         return false;
     }
-    let Some(rel) = at.graph.rel(neighbour, turned.asn) else {
+    let Some(rel) = at.graph.rel(neighbour, after.asn) else {
         return true;
     };
-    let now = held_near(at.table, overlay, turned.asn, turned.place);
+    let now = held_near(at.table, after.overlay, after.asn, stepped.place);
     let giver = PlacedAs {
-        asn: turned.asn,
-        place: turned.place,
+        asn: after.asn,
+        place: stepped.place,
     };
     let receiver = PlacedAs {
         asn: neighbour,
         place,
     };
-    match view_but_for_loops(at, pool, giver, receiver, rel, now) {
+    match view_but_for_loops(at, after.pool, giver, receiver, rel, now) {
         Some(view) => {
             let chooser = PlacedAs {
                 asn: neighbour,
                 place,
             };
-            has_rival(at, pool, overlay, turned.asn, &chooser, &have, &view)
+            has_rival(
+                at,
+                after.pool,
+                after.overlay,
+                after.asn,
+                &chooser,
+                &have,
+                &view,
+            )
         }
         None => true,
     }

@@ -7,7 +7,7 @@ use Rattle.dirty_recompute.proofs.plan.go_down.Given as goal
 
 abbrev pub invariant-loop-asn : goal.invariant-loop-asn
 invariant-loop-asn g l =
-    IsDownward (has l.world.at.graph.now) (setting_at g.P.RoutePolicy.meaning g.V.OriginStates.state_of l.world.at) (rank_of l.world.ranks) l.touched l.world.at.seeds.now l.world.at.table.now l.initial.pool l.pool l.initial.overlay l.overlay l.initial.whole l.whole l.initial.steps l.steps
+    IsDownward (has l.world.at.graph.now) (setting_at g.P.RoutePolicy.meaning g.V.OriginStates.state_of l.world.at) (rank_of l.world.ranks) l.touched l.world.at.seeds.now l.world.at.table.now l.initial.pool l.pool l.initial.overlay l.overlay l.initial.queues.whole l.queues.whole l.initial.steps l.steps
 
 abbrev pub decreases-loop-asn : goal.decreases-loop-asn
 decreases-loop-asn g l = l.initial.steps + length (l.touched ++ ases l.world.at.graph.now) - l.steps

@@ -15,8 +15,12 @@ not_err : {A E P : Type 0} (r : Result A E) → is_err r ≡ false → OnOk r P 
 not_err (Ok x) e h = h
 not_err (Err x) e h = absurd (true≢false e)
 
-pub put_changes-put-requires-clause-falls : goal.put_changes-put-requires-clause-falls
-put_changes-put-requires-clause-falls g c = they_fall _ c.args.world.now.graph.now c.ranks_fit.ensures c.requires.no_cycle c.requires.ranks
+pub invariant_of-ranked : goal.invariant_of-ranked
+invariant_of-ranked g c = record {
+  no_cycle = c.requires.no_cycle;
+  falls = they_fall _ c.args.world.now.graph.now c.ranks_fit.ensures c.requires.no_cycle c.requires.ranks;
+  seeds = c.requires.seeds;
+}
 
 pub put_changes-put-requires-clause-can : goal.put_changes-put-requires-clause-can
 put_changes-put-requires-clause-can g c = can_start c.args.world.now.graph.now c.args.edit.now.seeds.now c.args.table.now c.args.pool.now c.new-overlay.result c.requires.counts c.requires.held c.new-overlay.ensures.uses c.requires.entries_live c.requires.seeds_live

@@ -2,18 +2,18 @@ use Rattle.dirty_recompute.proofs.Going.{kept_more}
 use Rattle.dirty_recompute.proofs.plan.put_changes.Goals as goal
 
 pub go_down-requires-clause-can : goal.go_down-requires-clause-can
-go_down-requires-clause-can g c = (c.args.pool.now, c.in_ok-whole.ensures.can c.args.pool.now c.requires.can)
+go_down-requires-clause-can g c = (c.args.pool.now, c.in_ok-queues.ensures.can c.args.pool.now c.requires.can)
 
 pub returns-in_err-go_down-clause-kept : goal.returns-in_err-go_down-clause-kept
 returns-in_err-go_down-clause-kept g c = kept_more c.args.pool.now c.go_up.new.pool c.go_down.new.pool c.args.world.now.at.seeds.now c.args.overlay.now c.go_up.new.overlay c.go_down.new.overlay c.go_up.ensures.kept c.go_down.ensures.kept
 
 pub returns-clause-enough : goal.returns-clause-enough
 returns-clause-enough g c =
-    let (n, count, work) = c.in_ok-whole.ensures.done in
+    let (n, count, work) = c.in_ok-queues.ensures.done in
     c.in_ok-go_down.ensures.enough c.args.steps.now n count work
 
 pub returns-clause-can : goal.returns-clause-can
-returns-clause-can g c = c.in_ok-go_down.ensures.can c.args.pool.now (c.in_ok-whole.ensures.can c.args.pool.now c.requires.can)
+returns-clause-can g c = c.in_ok-go_down.ensures.can c.args.pool.now (c.in_ok-queues.ensures.can c.args.pool.now c.requires.can)
 
 pub returns-clause-kept : goal.returns-clause-kept
 returns-clause-kept g c = kept_more c.args.pool.now c.go_up.new.pool c.go_down.new.pool c.args.world.now.at.seeds.now c.args.overlay.now c.go_up.new.overlay c.go_down.new.overlay c.go_up.ensures.kept c.go_down.ensures.kept

@@ -7,7 +7,7 @@ use Rattle.dirty_recompute.proofs.turns.queue_those.Goals as goal
 
 pub loop-index-preserved : goal.loop-index-preserved
 loop-index-preserved g c =
-    queued_next (rank_of c.args.world.now.ranks) _ _ _ _ c.loop-index.index c.args.neighbours.now c.args.wanted c.index-neighbours-index.result
+    queued_next (rank_of c.args.after.now.world.now.ranks) _ _ _ _ c.loop-index.index c.args.neighbours.now c.args.wanted c.index-neighbours-index.result
     (slice_get_read c.args.neighbours.now (length c.args.neighbours.now) c.loop-index.index c.index-neighbours-index.result refl c.loop-index-test.true c.index-neighbours-index.is)
     c.loop-index.invariant c.in_ok-queue_one.ensures
 
