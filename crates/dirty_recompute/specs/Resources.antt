@@ -2,6 +2,7 @@
 use Rattle.std.specs.Prelude.{◌≡◌, ◌≢◌, ◌⊎◌, ℕ, ◌+◌, ◌<◌, ◌≤◌, ◌==◌, if◌then◌else◌, Bool, true, List, length, Option, Some, is_some, option_map, IsSome}
 use Rattle.net_names.specs.Numbers.{occurs, IsDistinct}
 use Rattle.path_pool.specs.declared.pool.PathPool.{PathPool}
+use Rattle.path_pool.specs.declared.pool.TheConstants.{MOST_COUNT}
 use Rattle.path_pool.specs.Pool.{IsLive, list_of, holds_of, count_of, live_count, limit_of}
 use Rattle.stability_laws.specs.declared.entry.Entry.{Entry}
 use Rattle.route_choice.specs.declared.held.Held.{Held}
@@ -20,7 +21,7 @@ has_change o a = is_some (change_at o a)
 pub record CanTurn (pool : PathPool) (seeds : SeedIds) (table : Table) (overlay : Overlay) : Type 0 where
   pub held : AreHeld pool table overlay
   pub seeds_live : AreSeedsLive pool seeds
-  pub counts : (k : ℕ) → count_of pool k < 4294967295
+  pub counts : (k : ℕ) → count_of pool k < MOST_COUNT
 
 -- all that was live stays live with its path, the seeds are as before, and holds rise and fall with the overlay's entries
 pub record IsKept (old new : PathPool) (seeds : SeedIds) (before after : Overlay) : Type 0 where

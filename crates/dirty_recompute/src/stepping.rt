@@ -83,7 +83,8 @@ pub(crate) fn step<P: RoutePolicy, V: OriginStates, L: Ledger>(
     ensures only { OnOk result (ChangesOnly placed.now.asn (routing_of pool.old at.now.table.now overlay.old)
         (routing_of pool.new at.now.table.now overlay.new) (has_change overlay.old) (has_change overlay.new)) }
     ensures changed { IfOk result (λ r. IsTrue r.changed → has_change overlay.new placed.now.asn ≡ true) }
-    ensures unchanged { IfOk result (λ r. r.changed ≡ false → routing_of pool.new at.now.table.now overlay.new placed.now.asn
+    ensures unchanged { IfOk result (λ r. r.changed ≡ false →
+        routing_of pool.new at.now.table.now overlay.new placed.now.asn
         ≡ routing_of pool.old at.now.table.now overlay.old placed.now.asn) }
     ensures before { IfOk result (λ r. IsBefore pool.new at.now.table.now overlay.new placed.now.asn r.before
         (routing_of pool.old at.now.table.now overlay.old)) }
