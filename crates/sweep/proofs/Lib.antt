@@ -6,3 +6,4 @@ pub mod Drawn
 pub mod Front
 pub mod Parts
 pub mod Least
+pub mod Low

@@ -4,3 +4,4 @@ pub mod Swept
 pub mod Texts
 pub mod Reading
 pub mod Laws
+pub mod Drawing
