@@ -9,3 +9,5 @@ pub mod RoundLemmas
 pub mod RowLemmas
 pub mod Counted
 pub mod Leads
+pub mod Adding
+pub mod NoLoops

@@ -1,5 +1,7 @@
 -- Lists of AS numbers.
-use Rattle.std.proofs.Common.{◌≡◌, ℕ, zero, suc, ◌<◌, ◌||◌, ◌==◌, false, nat_eq, List, [], ◌∷◌, length, take, slice_index_or, refl, ◌∙◌, ap, arith}
+use Rattle.std.proofs.Common.{◌≡◌, ◌⊎◌, inl, inr, ℕ, zero, suc, ◌<◌, ◌||◌, ◌==◌, true, false, nat_eq, List, [], ◌∷◌, ◌++◌, length, take, slice_index_or, refl, sym, ◌∙◌, ap, arith}
+use Rattle.std.proofs.lemmas.Bool.{or_cases, eqb-true}
+use Rattle.std.proofs.lemmas.List.Folds.{list_any-append}
 use Rattle.std.specs.List.{IsDistinct, AllByRecursion}
 use Rattle.net_names.specs.Numbers.{occurs}
 
@@ -23,3 +25,10 @@ apart_at (x ∷ xs) (suc i) d (all, rest) h =
     let b = slice_index_or xs i d in
     let first : (x == b) ≡ false = all_at (λ y. nat_eq x y ≡ false) xs i d all (omega arith) in
     ap (λ t. t || occurs b (take i xs)) first ∙ apart_at xs i d rest (omega arith)
+
+-- what stands in a list with one more at its end is that one, or stood there before
+pub in_more : (b a : ℕ) (xs ys : List ℕ) → ys ≡ xs ++ a ∷ [] → occurs b ys ≡ true → (a ≡ b) ⊎ (occurs b xs ≡ true)
+in_more b a xs ys is h = elim (or_cases (occurs b xs) _ (sym (list_any-append (λ y. y == b) xs (a ∷ [])) ∙ sym (ap (occurs b) is) ∙ h)) [
+  | inl e ↦ inr e
+  | inr e ↦ elim (or_cases (a == b) false e) [ inl t ↦ inl (eqb-true a b t) | inr f ↦ (let x : false ≡ true = f in cc) ]
+]

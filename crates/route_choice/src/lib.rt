@@ -3,8 +3,12 @@
 //! step of an AS takes its seed, or else its best offer, or nothing, and puts the entry that this
 //! names into the overlay. It takes no memory, and each step is counted. Who makes steps needs only
 //! that they can be made, and learns what each leaves: the routing, the holds and the room.
+//!
+//! An AS that stands on no seed's path (`named_by`) is offered no path through itself when it takes its step in the order
+//! of ranks.
 #![tactic(auto)]
 
+mod asn_set;
 mod beside;
 mod best;
 mod choice;
@@ -14,6 +18,7 @@ mod first;
 mod held;
 mod looks;
 mod marks;
+mod named;
 mod overlay;
 mod plain;
 mod prefix_world;
@@ -29,11 +34,13 @@ mod table;
 mod turn;
 mod views;
 
+pub use asn_set::AsnSet;
 pub use choice::{Choice, ChoiceNear, Part};
 pub use choosing::{evaluate, evaluate_near};
 pub use counts::MOST_COUNTED;
 pub use held::{Held, SeedHeld};
 pub use marks::Marks;
+pub use named::named_by;
 pub use overlay::Overlay;
 pub use plain::visit_providers;
 pub use prefix_world::PrefixWorld;

@@ -1,4 +1,3 @@
-pub mod NoLoops
 pub mod ByRank
 pub mod InOrder
 pub mod Counts
@@ -14,5 +13,4 @@ pub mod Elements
 pub mod Noted
 pub mod Chains
 pub mod Emptied
-pub mod Adding
 pub mod Marking

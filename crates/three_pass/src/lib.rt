@@ -8,11 +8,9 @@
 #![tactic(auto)]
 
 mod ahead;
-mod asn_set;
 mod course;
 mod lists;
 mod looks;
-mod named;
 mod pass;
 mod passes;
 mod scratch;

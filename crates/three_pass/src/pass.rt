@@ -1,9 +1,9 @@
 //! What the steps of a pass read and gather.
 
-use crate::asn_set::AsnSet;
 use crate::course::Course;
 use crate::looks::Looks;
 use crate::told::Told;
+use route_choice::AsnSet;
 
 /// What a pass goes along, and what is known of its seeds.
 #[derive(Drop)]

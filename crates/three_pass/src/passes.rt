@@ -15,10 +15,10 @@ ghost use Rattle.route_choice.specs.Choices.{IsStepOf};
 ghost use Rattle.route_choice.specs.Routings.{routing_of, seeds_of};
 ghost use Rattle.route_choice.specs.Resources.{CanStep};
 ghost use Rattle.route_choice.specs.Visits.{IsVisit};
-ghost use Rattle.three_pass.specs.AsnSets.{is_among};
+ghost use Rattle.route_choice.specs.AsnSets.{is_among};
 ghost use Rattle.three_pass.specs.Courses.{IsCourse};
 ghost use Rattle.three_pass.specs.Lists.{AreProviders, count_of, list_at};
-ghost use Rattle.three_pass.specs.Naming.{AreNamed};
+ghost use Rattle.route_choice.specs.Naming.{AreNamed};
 ghost use Rattle.three_pass.specs.Progress.{AfterUp};
 ghost use Rattle.three_pass.specs.Spending.{CanGo, HasSpent};
 ghost use Rattle.three_pass.specs.Telling.{HaveTold};
@@ -26,7 +26,6 @@ ghost use Rattle.three_pass.specs.Told.{AreTrue, IsTold};
 ghost use Rattle.three_pass.specs.Ways.{ArePlainMarks};
 
 use crate::ahead::look_ahead;
-use crate::asn_set::AsnSet;
 use crate::course::{Course, place_at};
 use crate::looks::Looks;
 use crate::pass::{Gathered, Pass};
@@ -35,7 +34,7 @@ use net_names::Asn;
 use path_pool::PathPool;
 use policy_laws::{OriginStates, RoutePolicy};
 use route_choice::{
-    Overlay, Part, PlacedAs, PrefixWorld, Steps, Turn, visit, visit_among, visit_providers,
+    AsnSet, Overlay, Part, PlacedAs, PrefixWorld, Steps, Turn, visit, visit_among, visit_providers,
 };
 use std::sync::ledger::Ledger;
 

@@ -6,7 +6,7 @@ use Rattle.stability_laws.specs.Steps.{IsStepWhole}
 use Rattle.route_choice.specs.declared.choice.Part.TheVariants.{Whole}
 use Rattle.route_choice.specs.Routings.{routing_of, seeds_of}
 use Rattle.route_choice.specs.PrefixWorlds.{setting_at}
-use Rattle.three_pass.specs.AsnSets.{is_among}
+use Rattle.route_choice.specs.AsnSets.{is_among}
 use Rattle.three_pass.specs.Lists.{AreProviders, list_at}
 use Rattle.three_pass.specs.Progress.{AfterWhole}
 use Rattle.three_pass.proofs.ByRank.{by_rank, stands_at, is_listed, is_reached}

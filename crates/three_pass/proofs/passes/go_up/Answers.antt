@@ -7,10 +7,11 @@ use Rattle.as_graph.proofs.Links.{relation_mutual}
 use Rattle.route_choice.specs.declared.choice.Part.TheVariants.{Up}
 use Rattle.route_choice.specs.Routings.{entry_of, routing_of, seeds_of}
 use Rattle.route_choice.specs.PrefixWorlds.{setting_at}
-use Rattle.three_pass.specs.AsnSets.{is_among}
+use Rattle.route_choice.proofs.Numbers.{in_more}
+use Rattle.route_choice.specs.AsnSets.{is_among}
 use Rattle.three_pass.specs.Told.{IsTold}
 use Rattle.three_pass.proofs.ByRank.{by_rank, stands_at}
-use Rattle.three_pass.proofs.InOrder.{in_more, none_yet, up_more, up_fresh, no_loops_upwards}
+use Rattle.three_pass.proofs.InOrder.{none_yet, up_more, up_fresh, no_loops_upwards}
 use Rattle.three_pass.proofs.Quiet.{told_from}
 use Rattle.three_pass.proofs.Spending.{spent_nothing, spent_more, step_seeds}
 use Rattle.three_pass.proofs.passes.go_up.Goals as goal

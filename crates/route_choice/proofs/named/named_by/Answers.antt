@@ -10,11 +10,11 @@ use Rattle.stability_laws.specs.declared.entry.Seed.{Seed}
 use Rattle.route_choice.specs.declared.held.SeedHeld.{SeedHeld}
 use Rattle.route_choice.specs.Routings.{seed_of, seeds_of}
 use Rattle.route_choice.specs.Tables.{seed_at}
-use Rattle.three_pass.specs.AsnSets.{is_among}
-use Rattle.three_pass.specs.Naming.{is_on_seed}
-use Rattle.three_pass.proofs.Adding.{adds_old, adds_new}
-use Rattle.three_pass.proofs.InOrder.{in_more}
-use Rattle.three_pass.proofs.named.named_by.Goals as goal
+use Rattle.route_choice.specs.AsnSets.{is_among}
+use Rattle.route_choice.specs.Naming.{is_on_seed}
+use Rattle.route_choice.proofs.Adding.{adds_old, adds_new}
+use Rattle.route_choice.proofs.Numbers.{in_more}
+use Rattle.route_choice.proofs.named.named_by.Goals as goal
 
 some_map : (pool : PathPool) (o : Option SeedHeld) → is_some o ≡ true → is_some (option_map (seed_of pool) o) ≡ true
 some_map pool None is = is
@@ -45,6 +45,7 @@ loop-asn-preserved c =
         | inl is ↦ adds_new between after is_on c.add_seed.ensures x (ap (λ o. option_map_or (λ (t : Seed). occurs x t.path) (option_map (seed_of c.args.pool.now) o) false) (ap (seed_at c.args.seeds.now) is ∙ at) ∙ on)
         | inr first ↦ kept x (c.loop-asn.invariant.paths a x s first at on)
       ];
+      none = λ unseeded x. (let x : true ≡ false = sym listed ∙ c.ases-ases.ensures asn ∙ ap is_some (unseeded asn) in cc);
       only = elim (c.loop-asn.invariant.only) [
         | inl all ↦ inl (λ x. kept x (all x))
         | inr was ↦ elim (c.add_seed.ensures) [

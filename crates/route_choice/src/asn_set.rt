@@ -4,9 +4,9 @@ ghost use Rattle.std.specs.Prelude.{◌≡◌, ℕ, ◌<◌, ◌==◌, nat_eq, f
 ghost use Rattle.indexmap.specs.IndexSet.{contains};
 ghost use Rattle.route_choice.specs.Marks.{is_marked};
 
+use crate::marks::Marks;
 use indexmap::IndexSet;
 use net_names::Asn;
-use route_choice::Marks;
 use std::alloc::Global;
 
 /// Some AS numbers, or all, where they are not to be listed. The listed ones are marked, so that few
@@ -21,7 +21,7 @@ pub struct AsnSet {
 
 #[tactic(auto, unfolding(crate::specs::AsnSets::is_among))]
 impl AsnSet {
-    ghost use Rattle.three_pass.specs.AsnSets.{is_among, room_of, Adds, AddsOnly};
+    ghost use Rattle.route_choice.specs.AsnSets.{is_among, room_of, Adds, AddsOnly};
 
     /// No number.
     pub fn none(alloc: Global) -> AsnSet
