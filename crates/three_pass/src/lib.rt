@@ -7,7 +7,6 @@
 //! meets the laws, and it is the only stable one.
 #![tactic(auto)]
 
-mod ahead;
 mod course;
 mod lists;
 mod looks;

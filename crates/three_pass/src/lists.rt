@@ -52,18 +52,6 @@ impl ProviderLists {
         }
     }
 
-    /// The providers of the lists from one place up to another, list after list, and where their rows were
-    /// last found in the graph. These are hints.
-    pub fn between(&self, from: usize, to: usize) -> (&[Neighbour], &[u32]) {
-        let (Some(start), Some(end)) = (self.starts.get(from), self.starts.get(to)) else {
-            return (&[], &[]);
-        };
-        match (self.items.get(*start..*end), self.places.get(*start..*end)) {
-            (Some(providers), Some(places)) => (providers, places),
-            _ => (&[], &[]),
-        }
-    }
-
     /// Puts one more list behind the others, which stay.
     pub fn push(&mut self, list: &Looks) -> Result<(), NoMemory>
         ensures count { OnOk result (count_of self.new ≡ count_of self.old + 1) }

@@ -12,9 +12,6 @@ pub struct Looks {
     pub neighbours: Vec<Neighbour>,
     /// The places.
     pub places: Vec<u32>,
-    /// A number that was made of what was met ahead of the steps. No step asks for it: it is kept so that the
-    /// looks ahead are made.
-    pub met_ahead: u32,
 }
 
 impl Looks {
@@ -23,7 +20,6 @@ impl Looks {
         Looks {
             neighbours: Vec::new(alloc),
             places: Vec::new(alloc),
-            met_ahead: 0,
         }
     }
 

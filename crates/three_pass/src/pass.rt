@@ -21,6 +21,6 @@ pub struct Pass<'a> {
 pub struct Gathered<'a> {
     /// Who told whom that it holds something, for the steps that follow.
     pub told: Told<'a>,
-    /// The neighbours at which one step looks, and what is met ahead of the steps.
+    /// The neighbours at which one step looks.
     pub looks: Looks,
 }

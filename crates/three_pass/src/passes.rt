@@ -25,7 +25,6 @@ ghost use Rattle.three_pass.specs.Telling.{HaveTold};
 ghost use Rattle.three_pass.specs.Told.{AreTrue, IsTold};
 ghost use Rattle.three_pass.specs.Ways.{ArePlainMarks};
 
-use crate::ahead::look_ahead;
 use crate::course::{Course, place_at};
 use crate::looks::Looks;
 use crate::pass::{Gathered, Pass};
@@ -291,14 +290,6 @@ pub fn go_down<P: RoutePolicy, V: OriginStates, L: Ledger>(
 {
     let mut left = pass.course.order.ases.len();
     while left > 0 {
-        look_ahead(
-            &pass.course.above,
-            &gathered.told,
-            left,
-            pool,
-            overlay,
-            &mut gathered.looks,
-        );
         left -= 1;
         let asn = pass.course.order.ases[left];
         let next = PlacedAs { asn, place: left };

@@ -81,21 +81,6 @@ impl<'a> Told<'a> {
         self.last[place] == 0
     }
 
-    /// How many notes come at most before the last one to any of the ASes from one place up to another.
-    pub fn notes_between(&self, from: usize, to: usize) -> u32 {
-        let mut most = 0;
-        let Some(counts) = self.last.get(from..to) else {
-            return most;
-        };
-        for count in counts {
-            // 0, for no note, becomes a place behind all notes.
-            if let Some(note) = self.notes.get((*count as usize).wrapping_sub(1)) {
-                most = most.max(note.before);
-            }
-        }
-        most
-    }
-
     // Puts a note, if the AS stands at the first place and there is enough memory.
     fn put(&mut self, to: Asn, at: usize, from: Neighbour, place: u32) -> bool
         requires { self.old.all ≡ false }

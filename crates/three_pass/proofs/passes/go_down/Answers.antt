@@ -18,9 +18,6 @@ use Rattle.three_pass.proofs.Settled.{settled}
 use Rattle.three_pass.proofs.Spending.{can_step, spent_nothing, visited, step_seeds}
 use Rattle.three_pass.proofs.passes.go_down.Goals as goal
 
-pub look_ahead-requires : goal.look_ahead-requires
-look_ahead-requires g c = λ k. omega (arith, c.loop-left.invariant.room.held k)
-
 pub step_down-requires-clause-can : goal.step_down-requires-clause-can
 step_down-requires-clause-can g c = can_step c.loop-left.pool c.args.at.now.seeds.now c.args.at.now.table.now c.loop-left.overlay c.args.pass.now.course.now.order.ases.items c.loop-left.invariant.room (omega (arith, c.loop-left-test.true, c.loop-left.invariant.within))
 
