@@ -1,5 +1,5 @@
 -- The ASes of a course by their ranks, and the laws by which passes go along them.
-use Rattle.std.proofs.Common.{◌≡◌, ◌==◌, ◌||◌, ◌<◌, ◌≤◌, ℕ, suc, true, false, Option, Some, None, List, ◌+◌, ◌++◌, ◌∷◌, [], length, take, slice_index_or, refl, sym, ap, ◌∙◌}
+use Rattle.std.proofs.Common.{◌≡◌, ◌==◌, ◌||◌, ◌<◌, ◌≤◌, ℕ, suc, true, false, Some, None, List, ◌+◌, ◌++◌, ◌∷◌, [], length, take, slice_index_or, refl, sym, ap, ◌∙◌}
 use Rattle.std.proofs.lemmas.Bool.{eq-eqb, or_right}
 use Rattle.std.proofs.lemmas.List.{take_more}
 use Rattle.std.proofs.lemmas.List.Folds.{list_any-append, list_any_at}

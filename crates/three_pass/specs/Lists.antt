@@ -15,7 +15,8 @@ count_of l = length l.starts.items - 1
 abbrev pub list_at : ProviderLists → ℕ → List Neighbour
 list_at l k = take (slice_index l.starts.items (k + 1) - slice_index l.starts.items k) (drop (slice_index l.starts.items k) l.items.items)
 
--- the list has neighbours of the AS, each with what it is to the AS, and among them all of its providers
+-- the list has neighbours of the AS, each with what it is to the AS, and these are all of its providers and no others
 pub record AreProviders (relation : ℕ → ℕ → Option Rel) (a : ℕ) (xs : List Neighbour) : Type 0 where
   pub each : All (λ x. relation a x.asn ≡ Some x.rel) xs
+  pub only : All (λ x. x.rel ≡ Provider) xs
   pub complete : (n : ℕ) → relation a n ≡ Some Provider → occurs n (asns xs) ≡ true

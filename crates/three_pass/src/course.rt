@@ -42,6 +42,8 @@ fn put_if_provider(list: &mut Looks, neighbour: &Neighbour, place: u32) -> Resul
     ensures each { OnOk result ((w : ℕ → ℕ → Option ARel) (a : ℕ) → w a neighbour.now.asn ≡ Some neighbour.now.rel →
         All (λ x. w a x.asn ≡ Some x.rel) list.old.neighbours.items →
         All (λ x. w a x.asn ≡ Some x.rel) list.new.neighbours.items) }
+    ensures only { OnOk result (All (λ x. x.rel ≡ AProvider) list.old.neighbours.items →
+        All (λ x. x.rel ≡ AProvider) list.new.neighbours.items) }
     ensures this { OnOk result (neighbour.now.rel ≡ AProvider →
         occurs neighbour.now.asn (asns list.new.neighbours.items) ≡ true) }
     ensures others { OnOk result ((n : ℕ) → occurs n (asns list.old.neighbours.items) ≡ true →

@@ -1,13 +1,13 @@
 //! A course with what is known of the policies along it.
 
-ghost use Rattle.std.specs.Prelude.{◌≡◌, ◌<◌, true, length, slice_index, IfOk};
+ghost use Rattle.std.specs.Prelude.{◌≡◌, ◌<◌, ◌↔◌, IsTrue, length, IfOk};
 ghost use Rattle.net_names.specs.declared.routes.Rel.TheVariants.{Provider as AProvider};
 ghost use Rattle.policy_laws.specs.Plain.{IsPlain};
 ghost use Rattle.stability_laws.specs.Book.{policy_at};
 ghost use Rattle.route_choice.specs.Leads.{ArePlainProviders};
 ghost use Rattle.three_pass.specs.Courses.{IsCourse};
-ghost use Rattle.three_pass.specs.Lists.{count_of, list_at};
-ghost use Rattle.three_pass.specs.Ways.{IsWay};
+ghost use Rattle.three_pass.specs.Lists.{count_of};
+ghost use Rattle.three_pass.specs.Ways.{IsPlainAt, IsWay};
 
 use crate::course::{Course, place_at};
 use as_graph::Neighbour;
@@ -15,8 +15,8 @@ use net_names::{NoMemory, Rel};
 use policy_laws::RoutePolicy;
 use stability_laws::{Book, World};
 
-/// A course, and for each place of its order whether the AS there and all its providers have the plain policy for
-/// certain. It is the same for all prefixes and rounds, as long as the policies stay.
+/// A course, and for each place of its order whether the AS there and all its providers have the plain policy. It is
+/// the same for all prefixes and rounds, as long as the policies stay.
 #[derive(Drop)]
 pub struct Way<'a> {
     pub(crate) course: &'a Course,
@@ -25,8 +25,8 @@ pub struct Way<'a> {
 
 // Whether a neighbour is a provider, and has the plain policy. The place is a hint.
 fn is_plain_provider<P: RoutePolicy>(book: &Book<P>, neighbour: &Neighbour, place: usize) -> bool
-    ensures provider { result ≡ true → neighbour.now.rel ≡ AProvider }
-    ensures plain { result ≡ true → IsPlain (P.meaning (policy_at book.now neighbour.now.asn)) }
+    ensures { IsTrue result ↔ ((neighbour.now.rel ≡ AProvider) ×
+        IsPlain (P.meaning (policy_at book.now neighbour.now.asn))) }
 {
     neighbour.rel == Rel::Provider && book.policy_near(neighbour.asn, place).is_plain()
 }
@@ -37,7 +37,7 @@ fn are_plain_providers<P: RoutePolicy>(
     providers: &[Neighbour],
     places: &[u32],
 ) -> bool
-    ensures { result ≡ true → ArePlainProviders (λ a. P.meaning (policy_at book.now a)) providers.now }
+    ensures { IsTrue result ↔ ArePlainProviders (λ a. P.meaning (policy_at book.now a)) providers.now }
 {
     for (index, provider) in providers.iter().enumerate() {
         let place = place_at(places, index) as usize;
@@ -48,14 +48,11 @@ fn are_plain_providers<P: RoutePolicy>(
     true
 }
 
-// Whether the AS at a place of the order and all its providers have the plain policy for certain.
+// Whether the AS at a place of the order and all its providers have the plain policy.
 fn is_plain_at<P: RoutePolicy>(book: &Book<P>, course: &Course, place: usize) -> bool
     requires inside { place < length course.now.order.ases.items }
     requires listed { place < count_of course.now.above }
-    ensures own { result ≡ true →
-        IsPlain (P.meaning (policy_at book.now (slice_index course.now.order.ases.items place))) }
-    ensures providers { result ≡ true →
-        ArePlainProviders (λ a. P.meaning (policy_at book.now a)) (list_at course.now.above place) }
+    ensures { IsTrue result ↔ IsPlainAt (λ a. P.meaning (policy_at book.now a)) course.now place }
 {
     let asn = course.order.ases[place];
     if !book.policy_near(asn, place).is_plain() {

@@ -10,5 +10,6 @@ use Rattle.three_pass.proofs.course.put_providers.Given as goal
 abbrev pub invariant-loop-index : goal.invariant-loop-index
 invariant-loop-index l = record {
   each : All (λ x. relation l.graph l.fn.asn x.asn ≡ Some x.rel) l.list.neighbours.items;
+  only : All (λ x. x.rel ≡ Provider) l.list.neighbours.items;
   so_far : (k : ℕ) → k < l.index → (d : Neighbour) → (slice_index_or l.neighbours k d).rel ≡ Provider → occurs (slice_index_or l.neighbours k d).asn (asns l.list.neighbours.items) ≡ true;
 }
