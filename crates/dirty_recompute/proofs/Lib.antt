@@ -14,3 +14,4 @@ pub mod Ways
 pub mod RoomLemmas
 pub mod ChosenLemmas
 pub mod LeftLemmas
+pub mod NoLoopLemmas

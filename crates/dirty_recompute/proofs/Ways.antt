@@ -11,9 +11,9 @@ use Rattle.stability_laws.specs.declared.entry.Entry.{Entry}
 use Rattle.stability_laws.specs.Book.{PolicyBook}
 use Rattle.stability_laws.specs.World.{setting}
 use Rattle.stability_laws.specs.Offers.{Setting, offer}
-use Rattle.stability_laws.specs.Stable.{IsRight}
 use Rattle.stability_laws.specs.Laws.{customer_offer}
 use Rattle.stability_laws.specs.Steps.{low}
+use Rattle.route_choice.specs.declared.choice.Part.TheVariants.{Whole}
 use Rattle.route_choice.specs.declared.held.Held.{Held}
 use Rattle.route_choice.specs.declared.overlay.Overlay.{Overlay}
 use Rattle.route_choice.specs.declared.seeds.SeedIds.{SeedIds}
@@ -25,6 +25,7 @@ use Rattle.route_choice.proofs.Lists.{nothing_there}
 use Rattle.dirty_recompute.specs.declared.queue.Queue.{Queue}
 use Rattle.dirty_recompute.specs.Queues.{waits, HasRanks, IsTaken}
 use Rattle.dirty_recompute.specs.Resources.{has_change, IsKept, IsPaidFor}
+use Rattle.dirty_recompute.specs.Steps.{IsReady, IsRightIfLow}
 use Rattle.dirty_recompute.specs.Turns.{IsTurnUp, IsTurnDown}
 use Rattle.dirty_recompute.specs.Work.{IsUpLoop, IsWholeLoop, HasGoneUp, HasGoneDown, CanGoOn, GoesOn, IsRightBut}
 use Rattle.dirty_recompute.proofs.Parts.{down_low, right_of_low, whole_choice, customer_given}
@@ -145,16 +146,24 @@ module _ {P V : Type 0} (meaning : P → Policy) (state_of : V → Prefix → �
         once : has_change o a ≡ true → (f a ≡ None) ⊎ (h a ≡ f a)
         once put = absurd (true≢false (sym put ∙ fresh p o up whole between was.turns a was.work out))
 
-    -- who is to have a turn downwards holds nothing, or is right, where the overlay has a change of it
-    pub settled : (whole between : Queue) (turns_up turns : ℕ) → HasGoneDown here rank touched p seeds table o whole turns_up turns → IsTaken rank whole between a → has_change o a ≡ true → (f a ≡ None) ⊎ IsRight here (seeds_of p seeds) f a
-    settled whole between turns_up turns work out put = by (low (f a)) refl
+    -- who is to have a turn downwards is right where it holds an Origin or Customer entry, and holds such an entry or nothing where the overlay has a change of it
+    pub settled : (whole between : Queue) (turns_up turns : ℕ) → HasGoneDown here rank touched p seeds table o whole turns_up turns → IsTaken rank whole between a → IsReady Whole here (seeds_of p seeds) f o a
+    settled whole between turns_up turns work out = (
+      right,
+      λ put. elim right [
+        | inl none ↦ inl (sym (work.work.put_low a put (work.work.order.fresh a out.waited)) ∙ none)
+        | inr both ↦ inr both.1
+      ],
+    )
       where
-        is_low : low (f a) ≡ f a
-        is_low = work.work.put_low a put (work.work.order.fresh a out.waited)
+        by : (x : Option Entry) → low (f a) ≡ x → IsRightIfLow here (seeds_of p seeds) f a
+        by None e = inl e
+        by (Some d) e =
+            let low_right = work.work.low_right a in
+            inr (low_right, right_of_low meaning l.ranks_offers l.names l.follows l.by_offers l.nothing_up l.decide g book state (seeds_of p seeds) f a d e low_right)
 
-        by : (x : Option Entry) → low (f a) ≡ x → (f a ≡ None) ⊎ IsRight here (seeds_of p seeds) f a
-        by None e = inl (sym is_low ∙ e)
-        by (Some d) e = inr (right_of_low meaning l.ranks_offers l.names l.follows l.by_offers l.nothing_up l.decide g book state (seeds_of p seeds) f a d e (work.work.low_right a))
+        right : IsRightIfLow here (seeds_of p seeds) f a
+        right = by (low (f a)) refl
 
     pub downward_next : (first whole between whole' : Queue) (turns_up : ℕ) → HasGoneDown here rank touched p0 seeds table o0 first turns_up 0 → IsDownward (has g) here rank touched seeds table p0 p o0 o first whole s0 s → IsTaken rank whole between a → ((b : ℕ) → waits rank whole b ≡ true → rank b ≤ rank a) →
         IsTurnDown here (seeds_of p seeds) rank a f h (has_change o) (has_change o') between whole' → IsPaidFor p q f h a → IsKept p q seeds o o' → s' ≡ s + 1 →

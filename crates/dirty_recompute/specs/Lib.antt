@@ -10,4 +10,5 @@ pub mod Turns
 pub mod Work
 pub mod PlannedRanks
 pub mod Giving
+pub mod Named
 pub mod Spared

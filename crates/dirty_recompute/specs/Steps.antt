@@ -53,7 +53,17 @@ pub record IsChosen (part : Part) (w : Setting) (seeds : ℕ → Option Seed) (a
   pub at : g a ≡ after part new (f a)
   pub none : new ≡ None → nothing ≡ true
 
--- a can make the step: upwards, nothing is changed of it; over all offers, where something is, it holds nothing or what is right
+-- of the offers of a part those that decide, given the Origin or Customer entry that the AS holds, if it holds one: its customers' then do (Gao and Rexford 2001, Guideline A)
+abbrev pub decided_by : Part → Option Entry → Part
+decided_by Up held = Up
+decided_by Whole None = Whole
+decided_by Whole (Some e) = Up
+
+-- a holds no Origin or Customer entry, or is right with it, also by its customers' offers alone
+abbrev pub IsRightIfLow : Setting → (ℕ → Option Seed) → (ℕ → Option Entry) → ℕ → Type 0
+IsRightIfLow w seeds f a = (low (f a) ≡ None) ⊎ (IsRightLow w seeds f a × IsRight w seeds f a)
+
+-- a can make the step: upwards, nothing is changed of it; over all offers, an Origin or Customer entry that it holds is right, and where something is changed of it, it holds nothing or what is right
 abbrev pub IsReady : Part → Setting → (ℕ → Option Seed) → (ℕ → Option Entry) → Overlay → ℕ → Type 0
 IsReady Up w seeds f overlay a = change_at overlay a ≡ None
-IsReady Whole w seeds f overlay a = is_some (change_at overlay a) ≡ true → (f a ≡ None) ⊎ IsRight w seeds f a
+IsReady Whole w seeds f overlay a = IsRightIfLow w seeds f a × (is_some (change_at overlay a) ≡ true → (f a ≡ None) ⊎ IsRight w seeds f a)

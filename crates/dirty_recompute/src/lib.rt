@@ -11,6 +11,7 @@ mod crowding;
 mod few;
 mod giving;
 mod laws;
+mod named;
 mod plan;
 mod planned_ranks;
 mod prefix_edit;

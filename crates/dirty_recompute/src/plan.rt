@@ -15,6 +15,7 @@ ghost use Rattle.route_choice.specs.Resources.{AreEntriesLive, AreSeedsLive, Kee
 ghost use Rattle.route_choice.specs.Routings.{routing_of, seeds_of, table_routing};
 ghost use Rattle.route_choice.specs.Tables.{change_at, held_at, overlay_uses, places_of, prefix_of, seed_at, table_spare, table_uses};
 ghost use Rattle.dirty_recompute.specs.Exact.{IsExact, AreEnough};
+ghost use Rattle.dirty_recompute.specs.Named.{HasAll};
 ghost use Rattle.dirty_recompute.specs.PlannedRanks.{rank_of};
 ghost use Rattle.dirty_recompute.specs.Queues.{waits, HasRanks};
 ghost use Rattle.dirty_recompute.specs.Resources.{has_change, FewNewCells, IsKept, IsUndone, SameTable};
@@ -22,6 +23,7 @@ ghost use Rattle.dirty_recompute.specs.Work.{HasGoneDown, CanGoOn, GoesOn, IsRig
 ghost use Rattle.as_graph.specs.declared.build.TheConstants.{MOST_ASES};
 
 use crate::laws::laws_hold;
+use crate::named::Named;
 use crate::planned_ranks::PlannedRanks;
 use crate::prefix_edit::PrefixEdit;
 use crate::queue::{Queue, Queues};
@@ -32,10 +34,18 @@ use as_graph::{Graph, ranks_fit};
 use net_names::{Asn, NoMemory};
 use path_pool::PathPool;
 use policy_laws::{OriginStates, RoutePolicy};
-use route_choice::{Overlay, Part, PlacedAs, PrefixWorld, Steps, Table};
+use route_choice::{Overlay, Part, PrefixWorld, Steps, Table, Turn};
 use stability_laws::World;
 use std::alloc::Global;
 use std::sync::ledger::Ledger;
+
+// Where the row of the first of these ASes stands. It is a hint.
+fn row_of_first(graph: &Graph, ases: &[Asn]) -> usize {
+    match ases.first() {
+        Some(asn) => graph.place_near(*asn, 0),
+        None => 0,
+    }
+}
 
 // The touched ASes, each under its rank.
 fn queue_of(
@@ -47,31 +57,23 @@ fn queue_of(
     ensures touched { IfOk result (λ q. (b : ℕ) → waits (rank_of ranks.now) q b ≡ occurs b touched.now) }
     ensures ranks { IfOk result (HasRanks (rank_of ranks.now)) }
 {
-    let mut queue = Queue::new(alloc);
+    let mut queue = Queue::new(alloc, row_of_first(graph, touched));
     queue.add_all(graph, ranks, touched)?;
     Ok(queue)
 }
 
-// Where the row of the first of these ASes stands. It is a hint.
-fn row_of_first(graph: &Graph, ases: &[Asn]) -> usize {
-    match ases.first() {
-        Some(asn) => graph.place_near(*asn, 0),
-        None => 0,
-    }
-}
-
-// From the touched ASes upwards, by rising rank. Answers who is to choose among all offers. The place
-// where the row of one of them stands is a hint.
+// From the touched ASes upwards, by rising rank. Answers who is to choose among all offers.
 fn go_up<P: RoutePolicy, V: OriginStates, L: Ledger>(
     alloc: Global,
     world: &RankedWorld<'_, P, V>,
     touched: &[Asn],
-    near: usize,
+    named: &mut Named,
     pool: &mut PathPool,
     overlay: &mut Overlay,
     steps: &mut Steps<L>,
 ) -> Result<Queues, NoMemory>
     requires few { as_count world.now.at.graph.now ≤ MOST_ASES }
+    requires named { HasAll named.old (seeds_of pool.old world.now.at.seeds.now) }
     requires fresh { (b : ℕ) → change_at overlay.old b ≡ None }
     requires right { IsRightBut P.meaning V.state_of world.now.at pool.old touched.now }
     requires can { (first : APool) × CanGoOn (has world.now.at.graph.now) first pool.old world.now.at.seeds.now
@@ -79,19 +81,24 @@ fn go_up<P: RoutePolicy, V: OriginStates, L: Ledger>(
     ensures done { IfOk result (λ q. (n : ℕ) × (steps.new ≡ steps.old + n) ×
         HasGoneDown (setting_at P.meaning V.state_of world.now.at) (rank_of world.now.ranks) touched.now pool.new
         world.now.at.seeds.now world.now.at.table.now overlay.new q.whole n 0) }
+    ensures named { OnOk result (HasAll named.new (seeds_of pool.new world.now.at.seeds.now)) }
     ensures can { OnOk result (GoesOn (has world.now.at.graph.now) pool.old pool.new world.now.at.seeds.now
         world.now.at.table.now overlay.old overlay.new) }
     ensures kept { IsKept pool.old pool.new world.now.at.seeds.now overlay.old overlay.new }
 {
     laws_hold::<P>();
-    let mut queues = Queues {
-        up: queue_of(alloc, world.at.graph, &world.ranks, touched)?,
-        whole: Queue::new(alloc),
-    };
+    let up = queue_of(alloc, world.at.graph, &world.ranks, touched)?;
+    let whole = Queue::new(alloc, up.row());
+    let mut queues = Queues { up, whole };
     while let Some(asn) = queues.up.pop(Way::Up) {
-        let place = queues.up.row_or(near);
-        let placed = PlacedAs { asn, place };
-        turn(world, pool, overlay, &placed, Part::Up, &mut queues, steps)?;
+        let may_loop = named.may_have(world.at.seeds, pool, asn);
+        let next = Turn {
+            asn,
+            place: queues.up.row(),
+            may_loop,
+            part: Part::Up,
+        };
+        turn(world, pool, overlay, &next, &mut queues, steps)?;
     }
     Ok(queues)
 }
@@ -100,13 +107,14 @@ fn go_up<P: RoutePolicy, V: OriginStates, L: Ledger>(
 fn go_down<P: RoutePolicy, V: OriginStates, L: Ledger>(
     world: &RankedWorld<'_, P, V>,
     touched: &[Asn],
-    near: usize,
+    named: &mut Named,
     pool: &mut PathPool,
     overlay: &mut Overlay,
     queues: &mut Queues,
     steps: &mut Steps<L>,
 ) -> Result<(), NoMemory>
     requires few { as_count world.now.at.graph.now ≤ MOST_ASES }
+    requires named { HasAll named.old (seeds_of pool.old world.now.at.seeds.now) }
     requires work { (n : ℕ) × HasGoneDown (setting_at P.meaning V.state_of world.now.at) (rank_of world.now.ranks)
         touched.now pool.old world.now.at.seeds.now world.now.at.table.now overlay.old queues.old.whole n 0 }
     requires can { (first : APool) × CanGoOn (has world.now.at.graph.now) first pool.old world.now.at.seeds.now
@@ -125,9 +133,14 @@ fn go_down<P: RoutePolicy, V: OriginStates, L: Ledger>(
 {
     laws_hold::<P>();
     while let Some(asn) = queues.whole.pop(Way::Down) {
-        let place = queues.whole.row_or(near);
-        let placed = PlacedAs { asn, place };
-        turn(world, pool, overlay, &placed, Part::Whole, queues, steps)?;
+        let may_loop = named.may_have(world.at.seeds, pool, asn);
+        let next = Turn {
+            asn,
+            place: queues.whole.row(),
+            may_loop,
+            part: Part::Whole,
+        };
+        turn(world, pool, overlay, &next, queues, steps)?;
     }
     Ok(())
 }
@@ -156,9 +169,17 @@ fn put_changes<P: RoutePolicy, V: OriginStates, L: Ledger>(
 {
     // there are few ASes, so no count of the pool can grow too great
     let _ = world.at.graph.as_count();
-    let near = row_of_first(world.at.graph, touched);
-    let mut queues = go_up(alloc, world, touched, near, pool, overlay, steps)?;
-    go_down(world, touched, near, pool, overlay, &mut queues, steps)?;
+    let mut named = Named::new(alloc);
+    let mut queues = go_up(alloc, world, touched, &mut named, pool, overlay, steps)?;
+    go_down(
+        world,
+        touched,
+        &mut named,
+        pool,
+        overlay,
+        &mut queues,
+        steps,
+    )?;
     Ok(())
 }
 

@@ -26,18 +26,18 @@ pub(crate) struct Queue {
     pub spots: Option<Spots>,
     // The spots have been asked for.
     asked: bool,
-    // Where the row of the AS that was taken out last may stand in the graph.
+    // Where the row of the AS that was taken out last may stand in the graph, or of one that waits.
     row: usize,
     ghost apart: { (s : TheSpots) → spots ≡ Some s → (rank : ℕ → ℕ) (k : ℕ × ℕ) → few_has rank few k ≡ false },
 }
 
 impl Queue {
-    ghost use Rattle.std.specs.Prelude.{true, false, None, Some, OnOk, OnErr, IfSome, IfNone};
+    ghost use Rattle.std.specs.Prelude.{true, false, None, Some, OnOk, IfSome, IfNone};
     ghost use Rattle.dirty_recompute.specs.PlannedRanks.{rank_of};
     ghost use Rattle.dirty_recompute.specs.Queues.{contains, waits, HasRanks, IsAdded, IsIn, IsNext, IsSame};
 
-    /// Nobody waits.
-    pub(crate) fn new(alloc: Global) -> Queue
+    /// Nobody waits. The row of the first AS that is taken out may stand there in the graph.
+    pub(crate) fn new(alloc: Global, row: usize) -> Queue
         ensures none { (rank : ℕ → ℕ) (k : ℕ × ℕ) → contains rank result k ≡ false }
         ensures spots { result.spots ≡ None }
     {
@@ -46,7 +46,7 @@ impl Queue {
             few: Few::new(alloc),
             spots: None,
             asked: false,
-            row: 0,
+            row,
         }
     }
 
@@ -55,12 +55,9 @@ impl Queue {
         self.spots.is_some()
     }
 
-    /// Where the row of the AS that was taken out last may stand in the graph, if that is known.
-    pub(crate) fn row_or(&self, near: usize) -> usize {
-        match self.spots {
-            Some(_) => self.row,
-            None => near,
-        }
+    /// Where the row of the AS that was taken out last may stand in the graph. It is a hint.
+    pub(crate) fn row(&self) -> usize {
+        self.row
     }
 
     // Gives each AS a spot, where many wait in the set.

@@ -1,12 +1,12 @@
 //! One step of an AS whose entry may be wrong after an edit, and which of its neighbours may be left
 //! alone after it.
 
-ghost use Rattle.std.specs.Prelude.{◌≡◌, ◌+◌, ◌↔◌, IsTrue, None, true, false, OnOk, OnErr, IfOk, option_map};
+ghost use Rattle.std.specs.Prelude.{◌≡◌, ◌≢◌, ◌+◌, ◌↔◌, IsTrue, None, true, false, OnOk, OnErr, IfOk, option_map};
 ghost use Rattle.path_pool.specs.declared.pool.PathPool.{PathPool as APool};
 ghost use Rattle.stability_laws.specs.Steps.{low};
-ghost use Rattle.route_choice.specs.PrefixWorlds.{setting_at};
+ghost use Rattle.route_choice.specs.PrefixWorlds.{setting_at, HasNoLoopsAt};
 ghost use Rattle.route_choice.specs.Routings.{entry_of, routing_of, seeds_of};
-ghost use Rattle.dirty_recompute.specs.Steps.{after, ChangesOnly, IsChosen, IsReady, without_low};
+ghost use Rattle.dirty_recompute.specs.Steps.{after, decided_by, ChangesOnly, IsChosen, IsReady, without_low};
 ghost use Rattle.dirty_recompute.specs.Giving.{SameHeld};
 ghost use Rattle.dirty_recompute.specs.Resources.{has_change, CanTurn, IsKept, IsPaidFor, IsBefore};
 ghost use Rattle.dirty_recompute.specs.Turns.{MayBeLeft};
@@ -50,6 +50,27 @@ fn is_high(held: &Option<Held>) -> bool
     }
 }
 
+// Whether an entry is held that a customer or a seed gave.
+fn is_low(held: &Option<Held>) -> bool
+    ensures yes { result ≡ true → (p : APool) → low (option_map (entry_of p) held.now) ≢ None }
+    ensures no { result ≡ false → (p : APool) → low (option_map (entry_of p) held.now) ≡ None }
+{
+    match held {
+        Some(entry) => match entry.class {
+            Class::Origin | Class::Customer => true,
+            Class::Peer | Class::Provider => false,
+        },
+        None => false,
+    }
+}
+
+// Of the offers of a part those that decide, given what the AS holds.
+fn deciding(part: Part, held: &Option<Held>) -> Part
+    ensures { (p : APool) → result ≡ decided_by part (low (option_map (entry_of p) held.now)) }
+{
+    if is_low(held) { Part::Up } else { part }
+}
+
 // Whether an AS that is to take nothing keeps what it holds: upwards it keeps what no customer and no seed
 // gave it.
 fn stays(part: Part, held: &Option<Held>) -> bool
@@ -64,47 +85,51 @@ fn stays(part: Part, held: &Option<Held>) -> bool
 }
 
 /// A step: the AS takes its seed, or the best of the offers that the step looks at, or nothing. Upwards, where
-/// there is neither, it gives up an Origin or Customer entry, and keeps another one. After a refusal it holds
-/// what it held. The place is a hint.
+/// there is neither, it gives up an Origin or Customer entry, and keeps another one. In a step over all offers an AS
+/// that holds an Origin or Customer entry looks at its customers' offers alone, since these decide. Where the turn
+/// says that no path may go through the AS, no offer that it looks at has one that does. After a refusal it holds
+/// what it held.
 pub(crate) fn step<P: RoutePolicy, V: OriginStates, L: Ledger>(
     at: &PrefixWorld<'_, P, V>,
     pool: &mut PathPool,
     overlay: &mut Overlay,
-    placed: &PlacedAs,
-    part: Part,
+    turn: &Turn,
     steps: &mut Steps<L>,
 ) -> Result<Stepped, NoMemory>
     requires can { CanTurn pool.old at.now.seeds.now at.now.table.now overlay.old }
-    requires ready { IsReady part (setting_at P.meaning V.state_of at.now) (seeds_of pool.old at.now.seeds.now)
-        (routing_of pool.old at.now.table.now overlay.old) overlay.old placed.now.asn }
-    ensures chosen { IfOk result (λ r. IsChosen part (setting_at P.meaning V.state_of at.now)
-        (seeds_of pool.old at.now.seeds.now) placed.now.asn (routing_of pool.old at.now.table.now overlay.old)
+    requires ready { IsReady turn.now.part (setting_at P.meaning V.state_of at.now) (seeds_of pool.old at.now.seeds.now)
+        (routing_of pool.old at.now.table.now overlay.old) overlay.old turn.now.asn }
+    requires no_loops { turn.now.may_loop ≡ false → HasNoLoopsAt P.meaning at.now pool.old overlay.old
+        (decided_by turn.now.part (low (routing_of pool.old at.now.table.now overlay.old turn.now.asn))) turn.now.asn }
+    ensures chosen { IfOk result (λ r. IsChosen turn.now.part (setting_at P.meaning V.state_of at.now)
+        (seeds_of pool.old at.now.seeds.now) turn.now.asn (routing_of pool.old at.now.table.now overlay.old)
         (routing_of pool.new at.now.table.now overlay.new) r.nothing) }
-    ensures only { OnOk result (ChangesOnly placed.now.asn (routing_of pool.old at.now.table.now overlay.old)
+    ensures only { OnOk result (ChangesOnly turn.now.asn (routing_of pool.old at.now.table.now overlay.old)
         (routing_of pool.new at.now.table.now overlay.new) (has_change overlay.old) (has_change overlay.new)) }
-    ensures changed { IfOk result (λ r. IsTrue r.changed → has_change overlay.new placed.now.asn ≡ true) }
+    ensures changed { IfOk result (λ r. IsTrue r.changed → has_change overlay.new turn.now.asn ≡ true) }
     ensures unchanged { IfOk result (λ r. r.changed ≡ false →
-        routing_of pool.new at.now.table.now overlay.new placed.now.asn
-        ≡ routing_of pool.old at.now.table.now overlay.old placed.now.asn) }
-    ensures before { IfOk result (λ r. IsBefore pool.new at.now.table.now overlay.new placed.now.asn r.before
+        routing_of pool.new at.now.table.now overlay.new turn.now.asn
+        ≡ routing_of pool.old at.now.table.now overlay.old turn.now.asn) }
+    ensures before { IfOk result (λ r. IsBefore pool.new at.now.table.now overlay.new turn.now.asn r.before
         (routing_of pool.old at.now.table.now overlay.old)) }
     ensures cost { OnOk result (steps.new ≡ steps.old + 1) }
     ensures paid { OnOk result (IsPaidFor pool.old pool.new (routing_of pool.old at.now.table.now overlay.old)
-        (routing_of pool.new at.now.table.now overlay.new) placed.now.asn) }
+        (routing_of pool.new at.now.table.now overlay.new) turn.now.asn) }
     ensures kept { IsKept pool.old pool.new at.now.seeds.now overlay.old overlay.new }
     ensures refused { OnErr result (SameHeld pool.old pool.new at.now.table.now overlay.old overlay.new) }
 {
     one_answer::<P>();
-    let asn = placed.asn;
-    let place = at.graph.place_near(asn, placed.place);
+    let asn = turn.asn;
+    let place = at.graph.place_near(asn, turn.place);
     let before = held_near(at.table, overlay, asn, place);
-    let turn = Turn {
+    let part = deciding(turn.part, &before);
+    let decides = Turn {
         asn,
         place,
-        may_loop: true,
+        may_loop: turn.may_loop,
         part,
     };
-    let chosen = evaluate_near(at, pool, overlay, turn, steps);
+    let chosen = evaluate_near(at, pool, overlay, decides, steps);
     let nothing = is_nothing(chosen.choice);
     if nothing && stays(part, &before) {
         return Ok(Stepped {
@@ -157,21 +182,15 @@ pub(crate) fn is_left<P: RoutePolicy, V: OriginStates>(
         place,
     };
     match view_but_for_loops(at, after.pool, giver, receiver, rel, now) {
-        Some(view) => {
-            let chooser = PlacedAs {
-                asn: neighbour,
-                place,
-            };
-            has_rival(
-                at,
-                after.pool,
-                after.overlay,
-                after.asn,
-                &chooser,
-                &have,
-                &view,
-            )
-        }
+        Some(view) => has_rival(
+            at,
+            after.pool,
+            after.overlay,
+            after.asn,
+            &receiver,
+            &have,
+            &view,
+        ),
         None => true,
     }
 }

@@ -1,14 +1,15 @@
 //! One turn of an AS: its step, and the neighbours that are to choose anew after it.
 
-ghost use Rattle.std.specs.Prelude.{◌≡◌, ◌⊎◌, ◌+◌, true, Some, IsTrue, OnOk};
+ghost use Rattle.std.specs.Prelude.{◌≡◌, ◌⊎◌, ◌+◌, true, false, Some, IsTrue, OnOk};
 ghost use Rattle.net_names.specs.declared.routes.Rel.TheVariants as rel;
 ghost use Rattle.as_graph.specs.Topology.{relation};
-ghost use Rattle.route_choice.specs.PrefixWorlds.{setting_at};
+ghost use Rattle.stability_laws.specs.Steps.{low};
+ghost use Rattle.route_choice.specs.PrefixWorlds.{setting_at, HasNoLoopsAt};
 ghost use Rattle.route_choice.specs.Routings.{routing_of, seeds_of};
 ghost use Rattle.dirty_recompute.specs.PlannedRanks.{rank_of};
 ghost use Rattle.dirty_recompute.specs.Queues.{IsAdded, AreQueued, IsAmong};
 ghost use Rattle.dirty_recompute.specs.Resources.{has_change, CanTurn, IsKept, IsPaidFor};
-ghost use Rattle.dirty_recompute.specs.Steps.{IsReady};
+ghost use Rattle.dirty_recompute.specs.Steps.{decided_by, IsReady};
 ghost use Rattle.dirty_recompute.specs.Turns.{IsTurn, MayBeLeft};
 
 use crate::after_step::AfterStep;
@@ -20,7 +21,7 @@ use as_graph::Neighbour;
 use net_names::{NoMemory, Rel};
 use path_pool::PathPool;
 use policy_laws::{OriginStates, RoutePolicy};
-use route_choice::{Overlay, Part, PlacedAs, Steps};
+use route_choice::{Overlay, Part, Steps, Turn};
 use std::sync::ledger::Ledger;
 
 // A neighbour, and where its row may stand in the graph.
@@ -144,40 +145,42 @@ fn queue_customers<P: RoutePolicy, V: OriginStates>(
     Ok(())
 }
 
-/// A turn of an AS that is out of the queue, upwards or over all offers. The place is a hint. After a refusal
-/// the paths and the holds are still those of the table and the overlay.
+/// A turn of an AS that is out of the queue, upwards or over all offers, with a step as by [`step`]. After a
+/// refusal the paths and the holds are still those of the table and the overlay.
 pub(crate) fn turn<P: RoutePolicy, V: OriginStates, L: Ledger>(
     world: &RankedWorld<'_, P, V>,
     pool: &mut PathPool,
     overlay: &mut Overlay,
-    placed: &PlacedAs,
-    part: Part,
+    turn: &Turn,
     queues: &mut Queues,
     steps: &mut Steps<L>,
 ) -> Result<(), NoMemory>
     requires can { CanTurn pool.old world.now.at.seeds.now world.now.at.table.now overlay.old }
-    requires ready { IsReady part (setting_at P.meaning V.state_of world.now.at)
+    requires ready { IsReady turn.now.part (setting_at P.meaning V.state_of world.now.at)
         (seeds_of pool.old world.now.at.seeds.now) (routing_of pool.old world.now.at.table.now overlay.old)
-        overlay.old placed.now.asn }
-    ensures turn { OnOk result (IsTurn part (setting_at P.meaning V.state_of world.now.at)
-        (seeds_of pool.old world.now.at.seeds.now) (rank_of world.now.ranks) placed.now.asn
+        overlay.old turn.now.asn }
+    requires no_loops { turn.now.may_loop ≡ false → HasNoLoopsAt P.meaning world.now.at pool.old overlay.old
+        (decided_by turn.now.part (low (routing_of pool.old world.now.at.table.now overlay.old turn.now.asn)))
+        turn.now.asn }
+    ensures turn { OnOk result (IsTurn turn.now.part (setting_at P.meaning V.state_of world.now.at)
+        (seeds_of pool.old world.now.at.seeds.now) (rank_of world.now.ranks) turn.now.asn
         (routing_of pool.old world.now.at.table.now overlay.old)
         (routing_of pool.new world.now.at.table.now overlay.new) (has_change overlay.old) (has_change overlay.new)
         queues.old queues.new) }
     ensures cost { OnOk result (steps.new ≡ steps.old + 1) }
     ensures paid { OnOk result (IsPaidFor pool.old pool.new (routing_of pool.old world.now.at.table.now overlay.old)
-        (routing_of pool.new world.now.at.table.now overlay.new) placed.now.asn) }
+        (routing_of pool.new world.now.at.table.now overlay.new) turn.now.asn) }
     ensures kept { IsKept pool.old pool.new world.now.at.seeds.now overlay.old overlay.new }
 {
-    let stepped = step(&world.at, pool, overlay, placed, part, steps)?;
+    let stepped = step(&world.at, pool, overlay, turn, steps)?;
     let after = AfterStep {
         world,
         pool: &*pool,
         overlay: &*overlay,
-        asn: placed.asn,
+        asn: turn.asn,
         stepped,
     };
-    match part {
+    match turn.part {
         Part::Up => {
             queue_itself(&after, &mut queues.whole)?;
             queue_around(&after, queues)?;

@@ -4,6 +4,7 @@ pub returns : goal.returns
 returns g c = record {
   ranks_offers = g.met.P.RoutePolicy.ranks_offers;
   prefers = g.met.P.RoutePolicy.prefers_customers;
+  exports_down = g.met.P.RoutePolicy.exports_down_only;
   names = c.offer_names.ensures;
   follows = c.offer_follows.ensures;
   by_offers = c.right_by_offers.ensures;

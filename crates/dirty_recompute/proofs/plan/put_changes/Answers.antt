@@ -1,5 +1,9 @@
+use Rattle.route_choice.specs.Routings.{seeds_of}
 use Rattle.dirty_recompute.proofs.Going.{kept_more}
 use Rattle.dirty_recompute.proofs.plan.put_changes.Goals as goal
+
+pub go_up-requires-clause-named : goal.go_up-requires-clause-named
+go_up-requires-clause-named g c = c.new-named.ensures (seeds_of c.args.pool.now c.args.world.now.at.seeds.now)
 
 pub go_down-requires-clause-can : goal.go_down-requires-clause-can
 go_down-requires-clause-can g c = (c.args.pool.now, c.in_ok-queues.ensures.can c.args.pool.now c.requires.can)

@@ -1,0 +1,9 @@
+use Rattle.std.proofs.Common.{sym, ◌∙◌}
+use Rattle.route_choice.specs.AsnSets.{is_among}
+use Rattle.route_choice.specs.Routings.{seeds_of}
+use Rattle.dirty_recompute.proofs.NoLoopLemmas.{on_no_path}
+use Rattle.dirty_recompute.proofs.named.Named.may_have.Goals as goal
+
+pub returns-in-Some-clause-out : goal.returns-in-Some-clause-out
+returns-in-Some-clause-out c = λ out.
+    on_no_path (is_among c.in-Some.listed) (seeds_of c.args.pool.now c.args.seeds.now) (c.count.ensures c.in-Some.listed c.in-Some.is) c.args.asn (sym c.has.ensures ∙ out)
