@@ -1,5 +1,5 @@
 -- The rounds, one by one.
-use Rattle.std.proofs.Common.{◌≡◌, ◌⊎◌, inl, inr, ℕ, zero, suc, ◌+◌, ◌-◌, ◌<◌, ◌≤◌, Option, Some, None, List, [], ◌∷◌, ◌++◌, length, refl, sym, ap, subst, ◌∙◌, arith}
+use Rattle.std.proofs.Common.{◌≡◌, ◌⊎◌, inl, inr, ℕ, zero, suc, ◌+◌, ◌-◌, ◌*◌, ◌<◌, ◌≤◌, Option, Some, None, List, [], ◌∷◌, ◌++◌, length, refl, sym, ap, subst, ◌∙◌, arith}
 use Rattle.std.specs.Prelude.{IsSome, IsTrue, slice_get, option_and_then}
 use Rattle.std.proofs.lemmas.Bool.{cases_eq, cases_lt}
 use Rattle.std.proofs.lemmas.List.{length-append}
@@ -8,11 +8,12 @@ use Rattle.net_names.specs.Prefixes.{PrefixValue}
 use Rattle.path_pool.specs.declared.pool.PathPool.{PathPool}
 use Rattle.path_pool.specs.Pool.{holds_of, live_count}
 use Rattle.stability_laws.specs.declared.entry.Entry.{Entry}
-use Rattle.stability_laws.specs.Plans.{Plan, has_prefix}
+use Rattle.stability_laws.specs.Plans.{Plan, has_prefix, prefixes_of}
 use Rattle.route_choice.specs.declared.round_tables.RoundTables.{RoundTables}
 use Rattle.route_choice.specs.RoundTables.{tables_uses, round_routing}
 use Rattle.leak_round.specs.Entries.{HasEntries, of_round, of_rounds}
-use Rattle.leak_round.specs.Growth.{KeepsPaths}
+use Rattle.leak_round.specs.Growth.{GrowsBy, KeepsPaths}
+use Rattle.leak_round.specs.Made.{AreRoundsMade}
 use Rattle.leak_round.specs.Tables.{tables_in, kept_in, entry_uses, AreFull, AreRoundsFull}
 use Rattle.leak_round.proofs.Counting.{more_entries, no_entries, none_some}
 use Rattle.leak_round.proofs.Listing.{got_either}
@@ -114,3 +115,14 @@ module _ (Fits : ℕ → PrefixValue → (ℕ → Option Entry) → (ℕ → Opt
         where
           which : (before : ℕ) → before < length (rounds ++ t ∷ []) → (before < length rounds) ⊎ (before ≡ length rounds)
           which before less = elim (cases_eq before (length rounds)) [ inl e ↦ inr e | inr ne ↦ inl (omega (arith, less, length-append rounds (t ∷ []))) ]
+
+  -- the tables of the rounds so far are made
+  pub rounds_made : (pool : PathPool) (rounds : List RoundTables) (number all : ℕ) → AreRoundsSoFar Fits plan first pool rounds → length rounds ≡ number → GrowsBy first pool (150000 * (number * length (prefixes_of plan))) → number ≡ all → AreRoundsMade first pool plan all rounds
+  rounds_made pool rounds number all so_far count grows whole = record {
+    count = count ∙ whole;
+    full = so_far.full;
+    holds = so_far.holds;
+    cells = so_far.cells;
+    keeps = so_far.keeps;
+    grows = subst (λ (n : ℕ). GrowsBy first pool (150000 * (n * length (prefixes_of plan)))) whole grows;
+  }

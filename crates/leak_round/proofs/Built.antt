@@ -12,9 +12,11 @@ use Rattle.route_choice.specs.declared.round_tables.RoundTables.{RoundTables}
 use Rattle.leak_round.specs.declared.announced.Announced.{Announced}
 use Rattle.leak_round.specs.Announced.{own_path, IsAnnouncing, HasAnnounced, AreAnnounced}
 use Rattle.leak_round.specs.Growth.{HasRoomFor}
+use Rattle.leak_round.specs.Made.{AreRoundsMade, CanStand}
 use Rattle.leak_round.specs.Tables.{tables_in, AreFull, AreRoundsFull}
 use Rattle.leak_round.specs.Limits.{IsWithinLimits, numbers_of}
 use Rattle.leak_round.proofs.Counting.{none_some}
+use Rattle.leak_round.proofs.Keeping.{announced_kept}
 use Rattle.leak_round.proofs.Numbers.{few_numbers}
 use Rattle.std.proofs.Math.Nat.{mul-le-mul_right}
 
@@ -38,6 +40,18 @@ all_announced pool plan xs h whole few = record { live = h.live; each = h.each; 
       where
         some : {X : Type 0} {o : Option X} {x : X} → o ≡ Some x → IsSome o
         some e = ap is_some e
+
+-- where all tables are made rounds can stand on the pool
+pub can_stand : (pool next : PathPool) (plan : Plan) (xs : List Announced) (number : ℕ) (rounds : List RoundTables) → IsAnnouncing pool plan xs → ((prefix : PrefixValue) (a : ℕ) → IsTrue (has_prefix plan prefix) → HasAnnounced plan xs prefix a) → length xs ≤ fin.len plan.announced
+    → AreRoundsMade pool next plan number rounds → IsWithinLimits plan → number ≤ 4 → limit_of pool ≡ 40000000 → CanStand next plan xs rounds
+can_stand pool next plan xs number rounds h whole few made limits low limit = record {
+  announced = announced_kept pool next made.keeps plan xs (all_announced pool plan xs h whole few);
+  full = made.full;
+  holds = λ k. omega (arith, made.holds k, h.holds k);
+  limits = limits;
+  few = omega (arith, made.count, low);
+  cells = made.grows.limit ∙ limit;
+}
 
 -- there is room for all tables
 pub all_room : (pool : PathPool) (plan : Plan) (rounds : ℕ) → IsWithinLimits plan → rounds ≤ 4 → live_count pool ≤ numbers_of plan → ((k : ℕ) → count_of pool k ≤ live_count pool) → limit_of pool ≡ 40000000 → HasRoomFor pool (rounds * length (prefixes_of plan))

@@ -1,4 +1,4 @@
--- The table of a prefix in a round can be planned.
+-- The changes of the table of a prefix in a round can be found.
 use Rattle.std.proofs.Common.{◌≡◌, inl, inr, ℕ, ◌+◌, ◌-◌, ◌≤◌, Bool, true, false, ◌&&◌, nat_lt, Option, Some, None, option_map, is_some, List, [], length, refl, sym, ap, ◌∙◌, arith}
 use Rattle.std.specs.Prelude.{IsTrue, option_and_then}
 use Rattle.std.proofs.lemmas.Bool.{true≢false, cases_lt}
@@ -28,7 +28,7 @@ use Rattle.leak_round.specs.Announced.{own_path, own_seed}
 use Rattle.leak_round.specs.Differing.{AreWrong, AreWrongIn}
 use Rattle.leak_round.specs.Leaked.{leaked_by, own_or_leaked, AreSeedsWith}
 use Rattle.leak_round.specs.Overlays.{change_in, held_of, held_with, laid_in, table_in, changes_uses}
-use Rattle.leak_round.specs.Planning.{CanPlan, CanPlanTable, ArePlanned, IsTurn}
+use Rattle.leak_round.specs.Found.{CanFind, CanFindInTable, AreFound, IsTurn}
 use Rattle.leak_round.specs.Tables.{kept_in, entry_uses}
 use Rattle.leak_round.proofs.Committing.{change_from, held_with-live}
 use Rattle.leak_round.proofs.Laying.{is_at-true, kept_is, positive, table_uses_in, tables_there}
@@ -39,7 +39,7 @@ unmapped f None e = refl
 unmapped f (Some x) e = cc
 
 module _ (w : PrefixValue → Setting) (g : Topology) (touched : PrefixValue → ℕ → Bool) (plan after : Plan) (xs ys : List Announced) (pool : PathPool) (rounds : List RoundTables) (cs : List Change) (first last : ℕ)
-    (can : CanPlan w g touched plan after xs ys pool rounds) (held : (k : ℕ) → entry_uses rounds k + changes_uses cs k ≤ holds_of pool k) (so_far : ArePlanned w g touched plan after pool rounds cs first last) where
+    (can : CanFind w g touched plan after xs ys pool rounds) (held : (k : ℕ) → entry_uses rounds k + changes_uses cs k ≤ holds_of pool k) (so_far : AreFound w g touched plan after pool rounds cs first last) where
   -- nothing is held before round 1
   none_first : (prefix : PrefixValue) (a : ℕ) → held_with rounds cs 0 prefix a ≡ None
   none_first prefix a = by (change_in cs 0 prefix a) refl
@@ -103,8 +103,8 @@ module _ (w : PrefixValue → Setting) (g : Topology) (touched : PrefixValue →
             let F : Option Seed → (ℕ → Option Entry) → Type 0 = λ s f. IsRightGiven ((w prefix).policy b) s (λ n. offer (w prefix) f n b) (f b) in
             coe 1 0 (i. F (seed i) (λ a. kept_here a i)) old
 
-        -- the table can be planned
-        pub can_table : CanPlanTable (w prefix) g prefix seeds ases pool t
+        -- its changes can be found
+        pub can_table : CanFindInTable (w prefix) g prefix seeds ases pool t
         can_table =
             let (r, is, here) = tables_there rounds round prefix t at in
             record {
@@ -119,8 +119,8 @@ module _ (w : PrefixValue → Setting) (g : Topology) (touched : PrefixValue →
 
 -- so it can with the ASes that were found to be wrong
 pub can_found : (w : PrefixValue → Setting) (g : Topology) (touched : PrefixValue → ℕ → Bool) (plan after : Plan) (xs ys : List Announced) (pool : PathPool) (rounds : List RoundTables) (cs : List Change) (first last : ℕ)
-    → CanPlan w g touched plan after xs ys pool rounds → ((k : ℕ) → entry_uses rounds k + changes_uses cs k ≤ holds_of pool k) → ArePlanned w g touched plan after pool rounds cs first last
+    → CanFind w g touched plan after xs ys pool rounds → ((k : ℕ) → entry_uses rounds k + changes_uses cs k ≤ holds_of pool k) → AreFound w g touched plan after pool rounds cs first last
     → (round : ℕ) (prefix : PrefixValue) → IsTurn plan (length rounds) cs round prefix → (seeds : SeedIds) (ases : List ℕ) → AreWrongIn plan after xs ys rounds cs round prefix (touched prefix) pool seeds ases
-    → (t : Table) → table_in rounds round prefix ≡ Some t → CanPlanTable (w prefix) g prefix seeds ases pool t
+    → (t : Table) → table_in rounds round prefix ≡ Some t → CanFindInTable (w prefix) g prefix seeds ases pool t
 can_found w g touched plan after xs ys pool rounds cs first last can held so_far round prefix turn seeds ases wrong t at =
     can_table w g touched plan after xs ys pool rounds cs first last can held so_far round prefix turn wrong.was seeds wrong.was_put wrong.put t at ases wrong.wrong

@@ -1,8 +1,8 @@
 -- Holds of announced paths, one taken or given back after the other.
-use Rattle.std.proofs.Common.{◌≡◌, ℕ, ◌+◌, ◌≤◌, Bool, true, false, ◌==◌, cond, Some, List, length, take, inl, inr, refl, ap, sym, subst, arith}
-use Rattle.std.specs.Prelude.{slice_get}
+use Rattle.std.proofs.Common.{◌≡◌, ℕ, ◌+◌, ◌<◌, ◌≤◌, Bool, true, false, ◌==◌, cond, List, length, take, get_or, inl, inr, refl, ap, sym, subst, arith}
 use Rattle.std.proofs.lemmas.Bool.{cases_eq, eq-eqb, ne_eqb}
 use Rattle.std.proofs.lemmas.List.Sums.{sum_by-take-le}
+use Rattle.std.proofs.lemmas.Option.{slice_get_read}
 use Rattle.path_pool.specs.declared.pool.PathPool.{PathPool}
 use Rattle.path_pool.specs.Pool.{GainsHold, LosesHold, holds_of, live_count, spare_of, limit_of}
 use Rattle.route_choice.specs.Holds.{GivesBack}
@@ -11,8 +11,9 @@ use Rattle.leak_round.specs.Announced.{announced_uses}
 use Rattle.leak_round.proofs.Listing.{sum_next}
 use Rattle.leak_round.proofs.Sums.{sum_by-most}
 
-pub uses_next : (xs : List Announced) (i : ℕ) (x : Announced) → slice_get xs i ≡ Some x → (k : ℕ) → announced_uses (take (i + 1) xs) k ≡ announced_uses (take i xs) k + cond (x.path.0 == k) 1 0
-uses_next xs i x at k = sum_next (λ (y : Announced). cond (y.path.0 == k) 1 0) xs i x at
+-- the uses of the announcements up to the one that is read, and of that one
+pub uses_read : (xs : List Announced) (i : ℕ) (x : Announced) → i < length xs → x ≡ get_or xs i x → (k : ℕ) → announced_uses (take (i + 1) xs) k ≡ announced_uses (take i xs) k + cond (x.path.0 == k) 1 0
+uses_read xs i x less is k = sum_next (λ (y : Announced). cond (y.path.0 == k) 1 0) xs i x (slice_get_read xs (length xs) i x refl less is)
 
 pub uses_most : (xs : List Announced) (i k : ℕ) → announced_uses (take i xs) k ≤ announced_uses xs k
 uses_most xs i k = sum_by-take-le (λ (y : Announced). cond (y.path.0 == k) 1 0) xs i

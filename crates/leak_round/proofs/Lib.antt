@@ -15,7 +15,7 @@ mod Roomed
 mod Paying
 mod Committing
 mod Changing
-mod Planned
+mod Found
 mod NextTables
 mod Turns
 mod Telling

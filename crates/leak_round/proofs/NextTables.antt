@@ -11,19 +11,19 @@ use Rattle.route_choice.specs.declared.seeds.SeedIds.{SeedIds}
 use Rattle.route_choice.specs.declared.table.Table.{Table}
 use Rattle.route_choice.specs.Resources.{AreSeedsLive}
 use Rattle.leak_round.specs.declared.changes.Change.{Change}
-use Rattle.leak_round.specs.declared.planner.Planner.{Planner}
+use Rattle.leak_round.specs.declared.finding.Finding.{Finding}
 use Rattle.leak_round.specs.declared.round_prefix.RoundPrefix.{RoundPrefix}
 use Rattle.leak_round.specs.Edited.{announced_after, seeds_after}
 use Rattle.leak_round.specs.Overlays.{table_in}
-use Rattle.leak_round.specs.Planners.{AreSeedsAfter, AreSeedsBefore, AreWrongBy, CanPlanNext, IsNextPlanned}
-use Rattle.leak_round.specs.Planning.{AreSame, CanPlanTable, IsAdded, IsPaid, IsTableAdded}
+use Rattle.leak_round.specs.Findings.{AreSeedsAfter, AreSeedsBefore, AreWrongBy, CanFindNext, IsNextFound}
+use Rattle.leak_round.specs.Found.{AreSame, CanFindInTable, IsAdded, IsPaid, IsTableAdded}
 use Rattle.leak_round.specs.Touched.{touches}
 use Rattle.leak_round.proofs.Changing.{can_found, live_after, live_before}
-use Rattle.leak_round.proofs.Planned.{planned_added}
+use Rattle.leak_round.proofs.Found.{found_added}
 use Rattle.leak_round.proofs.Roomed.{table_there}
 
-module _ {P V : Type 0} {meaning : P → Policy} {state_of : V → PrefixValue → ℕ → State} {x : Planner P V} {at : RoundPrefix} {pool : PathPool} {rounds : List RoundTables} {cs : List Change} {steps : ℕ}
-    (can : CanPlanNext meaning state_of x at pool rounds cs steps) where
+module _ {P V : Type 0} {meaning : P → Policy} {state_of : V → PrefixValue → ℕ → State} {x : Finding P V} {at : RoundPrefix} {pool : PathPool} {rounds : List RoundTables} {cs : List Change} {steps : ℕ}
+    (can : CanFindNext meaning state_of x at pool rounds cs steps) where
   pub next_there : IsSome (table_in rounds at.round at.prefix)
   next_there = table_there pool x.plan.now rounds can.can.full at.round at.prefix can.turn.from can.turn.to can.turn.known
 
@@ -38,22 +38,22 @@ module _ {P V : Type 0} {meaning : P → Policy} {state_of : V → PrefixValue �
       can.can can.held can.so_far.1 at.round at.prefix seeds put
 
   module _ (seeds : SeedIds) (ases : List ℕ) (wrong : AreWrongBy x at rounds cs pool seeds ases) where
-    -- it can be planned with these seeds and ASes
-    pub next_can : (t : Table) → table_in rounds at.round at.prefix ≡ Some t → CanPlanTable (setting_in meaning state_of x.world.now at.prefix) x.world.now.graph.now at.prefix seeds ases pool t
+    -- it can be found with these seeds and ASes
+    pub next_can : (t : Table) → table_in rounds at.round at.prefix ≡ Some t → CanFindInTable (setting_in meaning state_of x.world.now at.prefix) x.world.now.graph.now at.prefix seeds ases pool t
     next_can t there =
         can_found (setting_in meaning state_of x.world.now) x.world.now.graph.now (touches x.touched.now) x.plan.now (seeds_after x.edited.now x.plan.now) x.announced.now (announced_after x.edited.now x.announced.now) pool rounds cs can.so_far.0 steps
         can.can can.held can.so_far.1 at.round at.prefix can.turn seeds ases wrong t there
 
-    -- where it is planned so, those before it stay planned
-    pub next_planned : (pool' : PathPool) (rounds' : List RoundTables) (cs' : List Change) (last : ℕ) {T E : Type 0} (r : Result T E) → AreSame rounds rounds'
+    -- where it is found so, those before it stay found
+    pub next_found : (pool' : PathPool) (rounds' : List RoundTables) (cs' : List Change) (last : ℕ) {T E : Type 0} (r : Result T E) → AreSame rounds rounds'
         → OnOk r (IsTableAdded (setting_in meaning state_of x.world.now at.prefix) x.world.now.graph.now seeds ases pool pool' rounds rounds' cs cs' at.round at.prefix steps last)
         → OnOk r (IsAdded cs cs' at.round at.prefix) → OnOk r (IsPaid pool pool' cs cs' 1)
-        → OnOk r (IsNextPlanned meaning state_of x at pool pool' rounds rounds' cs cs' steps last)
-    next_planned pool' rounds' cs' last (Ok done) same made added paid = record {
-      planned = λ first so_far.
-          planned_added (setting_in meaning state_of x.world.now) x.world.now.graph.now (touches x.touched.now) x.plan.now (seeds_after x.edited.now x.plan.now) x.announced.now (announced_after x.edited.now x.announced.now) pool rounds cs first steps
+        → OnOk r (IsNextFound meaning state_of x at pool pool' rounds rounds' cs cs' steps last)
+    next_found pool' rounds' cs' last (Ok done) same made added paid = record {
+      found = λ first so_far.
+          found_added (setting_in meaning state_of x.world.now) x.world.now.graph.now (touches x.touched.now) x.plan.now (seeds_after x.edited.now x.plan.now) x.announced.now (announced_after x.edited.now x.announced.now) pool rounds cs first steps
           can.can can.held so_far at.round at.prefix can.turn seeds ases wrong pool' rounds' cs' last same made;
       added = added;
       paid = paid;
     }
-    next_planned pool' rounds' cs' last (Err e) same made added paid = added
+    next_found pool' rounds' cs' last (Err e) same made added paid = added

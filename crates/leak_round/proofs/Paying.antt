@@ -4,7 +4,7 @@ use Rattle.path_pool.specs.declared.pool.PathPool.{PathPool}
 use Rattle.path_pool.specs.Pool.{limit_of}
 use Rattle.dirty_recompute.specs.Resources.{IsUndone}
 use Rattle.leak_round.specs.declared.changes.Change.{Change}
-use Rattle.leak_round.specs.Planning.{IsPaid, IsCutOff}
+use Rattle.leak_round.specs.Found.{IsPaid, IsCutOff}
 use Rattle.leak_round.proofs.Keeping.{keeps_itself, keeps_on, grows_on}
 
 pub paid_itself : (pool : PathPool) (xs : List Change) (n : ℕ) → IsPaid pool pool xs xs n

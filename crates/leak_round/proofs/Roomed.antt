@@ -19,7 +19,7 @@ use Rattle.route_choice.specs.Tables.{held_at, prefix_of, table_uses}
 use Rattle.route_choice.proofs.Lists.{entries_same}
 use Rattle.leak_round.specs.Growth.{KeepsPaths}
 use Rattle.leak_round.specs.Overlays.{table_in, held_of}
-use Rattle.leak_round.specs.Planning.{IsRoomed, AreRoomed, AreSame}
+use Rattle.leak_round.specs.Found.{IsRoomed, AreRoomed, AreSame}
 use Rattle.leak_round.specs.Tables.{tables_in, kept_in, entry_uses, AreFull, AreRoundsFull}
 use Rattle.leak_round.proofs.Laying.{tables_there, round_place, place_round, uses_there, got_set, got_other, kept_is}
 use Rattle.leak_round.proofs.Rounding.{same_or_not}

@@ -1,5 +1,5 @@
 -- The tables of a round, one by one.
-use Rattle.std.proofs.Common.{◌≡◌, ◌≢◌, ◌⊎◌, inl, inr, ℕ, ◌+◌, ◌-◌, ◌*◌, ◌<◌, ◌≤◌, Bool, true, false, Option, Some, None, option_map, unwrap_or, refl, sym, ap, subst, ◌∙◌, arith}
+use Rattle.std.proofs.Common.{◌≡◌, ◌≢◌, ◌⊎◌, inl, inr, ℕ, ◌+◌, ◌-◌, ◌*◌, ◌<◌, ◌≤◌, Bool, true, false, Option, Some, None, option_map, unwrap_or, length, refl, sym, ap, subst, ◌∙◌, arith}
 use Rattle.std.specs.Prelude.{IsSome, IsTrue, is_some, slice_get, option_and_then}
 use Rattle.std.proofs.lemmas.Bool.{cases_Bool, cases_lt}
 use Rattle.std.specs.Ordering.{eq_by_cmp}
@@ -18,6 +18,7 @@ use Rattle.route_choice.specs.RoundTables.{table_at, tables_uses, uses_at, round
 use Rattle.route_choice.specs.Tables.{table_uses}
 use Rattle.leak_round.specs.Entries.{HasEntries}
 use Rattle.leak_round.specs.Growth.{KeepsPaths, GrowsBy}
+use Rattle.leak_round.specs.Made.{IsRoundMade}
 use Rattle.leak_round.specs.Tables.{AreFull, AreOfSize}
 use Rattle.leak_round.proofs.Counting.{more_entries, no_entries, none_some}
 use Rattle.leak_round.proofs.Keeping.{keeps_itself, keeps_on, grows_on, round_kept, live_kept}
@@ -164,3 +165,13 @@ module _ (Fits : PrefixValue → (ℕ → Option Entry) → Type 0) (plan : Plan
     -- and each fits
     pub round_fits : (p : PrefixValue) → IsTrue (has_prefix plan p) → Fits p (round_routing pool tables p)
     round_fits p known = so_far.fits p (all_put p known)
+
+    -- so the round is made
+    pub round_made : end ≤ length (prefixes_of plan) → IsRoundMade first pool plan tables
+    round_made within = record {
+      full = round_full;
+      holds = so_far.holds;
+      cells = so_far.cells;
+      keeps = so_far.keeps;
+      grows = (let h = so_far.grows in record { cells = omega (arith, h.cells, within); counts = λ k. omega (arith, h.counts k, within); limit = h.limit });
+    }

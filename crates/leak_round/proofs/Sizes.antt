@@ -10,6 +10,7 @@ use Rattle.stability_laws.specs.Plans.{Plan, prefixes_of}
 use Rattle.route_choice.specs.declared.round_tables.RoundTables.{RoundTables}
 use Rattle.route_choice.specs.RoundTables.{tables_uses, uses_at}
 use Rattle.leak_round.specs.declared.announced.Announced.{Announced}
+use Rattle.leak_round.specs.declared.limits.TheConstants.{MOST_ANNOUNCEMENTS, MOST_NUMBERS}
 use Rattle.leak_round.specs.Announced.{announced_uses, AreAnnounced}
 use Rattle.leak_round.specs.Growth.{HasRoomFor}
 use Rattle.leak_round.specs.Limits.{IsWithinLimits}
@@ -42,7 +43,7 @@ module _ (pool : PathPool) (plan : Plan) (xs : List Announced) (rounds : List Ro
   counts_few k = omega (arith, count_of-le pool k, holds k, uses_few xs k, announced.few, limits.announcements, entry_few pool plan rounds full limits.prefixes few_rounds k, few_cells)
 
   -- and there is room for all changes, also after an edit of who announces what
-  pub changes_room : (next : PathPool) → limit_of next ≡ 40000000 → live_count next ≤ live_count pool + 64 → ((k : ℕ) → count_of next k ≤ count_of pool k + 129) → HasRoomFor next (length rounds * length (prefixes_of plan))
+  pub changes_room : (next : PathPool) → limit_of next ≡ 40000000 → live_count next ≤ live_count pool + MOST_NUMBERS → ((k : ℕ) → count_of next k ≤ count_of pool k + MOST_ANNOUNCEMENTS + 1) → HasRoomFor next (length rounds * length (prefixes_of plan))
   changes_room next limit cells counts =
       let few = few_tables (length rounds) (length (prefixes_of plan)) few_rounds limits.prefixes in
       record {

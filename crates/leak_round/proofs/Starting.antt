@@ -1,4 +1,4 @@
--- The tables can be planned after an edit of the seeds.
+-- The changes of the tables can be found after an edit of the seeds.
 use Rattle.std.proofs.Common.{◌≡◌, ℕ, suc, ◌-◌, ◌<◌, ◌≤◌, Bool, true, false, Option, None, List, length, ap, subst, ◌∙◌, arith}
 use Rattle.std.specs.Prelude.{IsTrue}
 use Rattle.std.specs.FinMap as fin
@@ -18,7 +18,7 @@ use Rattle.leak_round.specs.Announced.{AreAnnounced}
 use Rattle.leak_round.specs.Edited.{announced_after, plan_edited, seeds_after, AreEdited, IsEdited}
 use Rattle.leak_round.specs.Growth.{KeepsPaths}
 use Rattle.leak_round.specs.Limits.{IsWithinLimits}
-use Rattle.leak_round.specs.Planning.{CanPlan}
+use Rattle.leak_round.specs.Found.{CanFind}
 use Rattle.leak_round.specs.Tables.{kept_in, AreRoundsFull}
 use Rattle.leak_round.proofs.Closing.{announced_taken, prefixes_taken}
 use Rattle.leak_round.proofs.Keeping.{all_kept, announced_kept, rounds_full_kept}
@@ -28,12 +28,12 @@ module _ (plan : Plan) (xs : List Announced) (pool next : PathPool) (limits : Is
   pub prefixes_stay : (prefix : PrefixValue) → has_prefix (seeds_after o plan) prefix ≡ has_prefix plan prefix
   prefixes_stay prefix = ap (λ s. fin.contains_key s prefix) (prefixes_taken next plan xs limits (announced_kept pool next made.keeps plan xs announced) o made.seeds)
 
-  -- what could be planned before the edit of the seeds can be planned after it
+  -- what could be found before the edit of the seeds can be found after it
   pub can_start : (w : PrefixValue → Setting) (g : Topology) (touched : PrefixValue → ℕ → Bool) (rounds : List RoundTables) → AreRoundsFull pool plan rounds → ((prefix : PrefixValue) (b : ℕ) → (w prefix).has b ≡ has g b)
       → ((prefix : PrefixValue) (a : ℕ) → IsTrue (announces (plan_edited edit plan) prefix a) → has g a ≡ true)
       → ((round : ℕ) (prefix : PrefixValue) (b : ℕ) → 1 ≤ round → round ≤ length rounds → IsTrue (has_prefix plan prefix) → has g b ≡ false → touched prefix b ≡ false → kept_in pool rounds round prefix b ≡ None)
       → ((before : ℕ) (prefix : PrefixValue) (b : ℕ) → before < length rounds → IsTrue (has_prefix plan prefix) → has g b ≡ true → touched prefix b ≡ false → IsRight (w prefix) (seeds_in plan (suc before) prefix (kept_in pool rounds before prefix)) (kept_in pool rounds (suc before) prefix) b)
-      → CanPlan w g touched plan (seeds_after o plan) xs (announced_after o xs) next rounds
+      → CanFind w g touched plan (seeds_after o plan) xs (announced_after o xs) next rounds
   can_start w g touched rounds full same announcers entries right = record {
     prefixes = prefixes_stay;
     announced = announced_kept pool next made.keeps plan xs announced;

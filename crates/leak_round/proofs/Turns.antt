@@ -17,22 +17,22 @@ use Rattle.route_choice.specs.declared.round_tables.RoundTables.{RoundTables}
 use Rattle.leak_round.specs.declared.announced.Announced.{Announced}
 use Rattle.leak_round.specs.declared.changes.Change.{Change}
 use Rattle.leak_round.specs.Growth.{KeepsPaths}
-use Rattle.leak_round.specs.Planning.{CanPlan, ArePlanned, AreRoundsPlanned, AreSame, IsAdded, IsTurn, is_planned}
+use Rattle.leak_round.specs.Found.{CanFind, AreFound, AreFoundUpTo, AreSame, IsAdded, IsTurn, is_found}
 use Rattle.leak_round.specs.Tables.{kept_in}
 use Rattle.leak_round.proofs.Keeping.{announced_kept, rounds_full_kept}
 use Rattle.leak_round.proofs.Roomed.{kept_same}
 
--- the changes of all earlier rounds are planned, and of this round those of the prefixes before a place
+-- the changes of all earlier rounds are found, and of this round those of the prefixes before a place
 pub record AreUpTo (plan : Plan) (xs : List Change) (round place : ℕ) : Type 0 where
-  pub only : (r : ℕ) (p : PrefixValue) → is_planned xs r p ≡ true → (r ≤ round - 1) ⊎ ((r ≡ round) × ((i : ℕ) × (i < place) × (slice_get (prefixes_of plan) i ≡ Some p)))
-  pub whole : (r : ℕ) (p : PrefixValue) → 1 ≤ r → r ≤ round - 1 → IsTrue (has_prefix plan p) → is_planned xs r p ≡ true
-  pub put : (i : ℕ) (p : PrefixValue) → i < place → slice_get (prefixes_of plan) i ≡ Some p → is_planned xs round p ≡ true
+  pub only : (r : ℕ) (p : PrefixValue) → is_found xs r p ≡ true → (r ≤ round - 1) ⊎ ((r ≡ round) × ((i : ℕ) × (i < place) × (slice_get (prefixes_of plan) i ≡ Some p)))
+  pub whole : (r : ℕ) (p : PrefixValue) → 1 ≤ r → r ≤ round - 1 → IsTrue (has_prefix plan p) → is_found xs r p ≡ true
+  pub put : (i : ℕ) (p : PrefixValue) → i < place → slice_get (prefixes_of plan) i ≡ Some p → is_found xs round p ≡ true
 
-pub up_start : (plan : Plan) (xs : List Change) (round : ℕ) → AreRoundsPlanned plan xs (round - 1) → AreUpTo plan xs round 0
+pub up_start : (plan : Plan) (xs : List Change) (round : ℕ) → AreFoundUpTo plan xs (round - 1) → AreUpTo plan xs round 0
 up_start plan xs round h = record { only = λ r p is. inl (h.only r p is); whole = h.whole; put = λ i p less at. absurd (omega (arith, less)) }
 
 module _ (plan : Plan) (xs : List Change) (round place : ℕ) (up : AreUpTo plan xs round place) (from : 1 ≤ round) where
-  latest : (r : ℕ) (p : PrefixValue) → is_planned xs r p ≡ true → r ≤ round
+  latest : (r : ℕ) (p : PrefixValue) → is_found xs r p ≡ true → r ≤ round
   latest r p is = elim (up.only r p is) [ inl less ↦ omega (arith, less) | inr now ↦ (let e = now.0 in omega (arith, e)) ]
 
   module _ (listed : ListsRising prefix_cmp (λ p. IsTrue (has_prefix plan p)) (prefixes_of plan)) where
@@ -41,23 +41,23 @@ module _ (plan : Plan) (xs : List Change) (round place : ℕ) (up : AreUpTo plan
       from = from;
       to = to;
       known = listed.only place prefix at;
-      fresh = fresh (is_planned xs round prefix) refl;
+      fresh = fresh (is_found xs round prefix) refl;
       latest = latest;
       before = λ two. up.whole (round - 1) prefix (omega (arith, two)) (omega arith) (listed.only place prefix at);
     }
       where
-        fresh : (b : Bool) → is_planned xs round prefix ≡ b → b ≡ false
+        fresh : (b : Bool) → is_found xs round prefix ≡ b → b ≡ false
         fresh false e = refl
         fresh true e = elim (up.only round prefix e) [
           | inl less ↦ absurd (omega (arith, less, from))
           | inr now ↦ (let (same, rest) = now in let (i, less, is) = rest in absurd (apart_later prefix_cmp prefix_total (λ p. IsTrue (has_prefix plan p)) (prefixes_of plan) listed i place prefix prefix less is at refl))
         ]
 
-    pub up_end : slice_get (prefixes_of plan) place ≡ None → AreRoundsPlanned plan xs round
+    pub up_end : slice_get (prefixes_of plan) place ≡ None → AreFoundUpTo plan xs round
     up_end past = record {
       only = latest;
       whole = λ r p low high known. elim (cases_eq r round) [
-        | inl e ↦ (let (i, less, is) = seen_before_end prefix_cmp (λ q. IsTrue (has_prefix plan q)) (prefixes_of plan) listed place past p known in ap (λ n. is_planned xs n p) e ∙ up.put i p less is)
+        | inl e ↦ (let (i, less, is) = seen_before_end prefix_cmp (λ q. IsTrue (has_prefix plan q)) (prefixes_of plan) listed place past p known in ap (λ n. is_found xs n p) e ∙ up.put i p less is)
         | inr ne ↦ up.whole r p low (omega (arith, high, ne)) known
       ];
     }
@@ -72,14 +72,14 @@ module _ (plan : Plan) (xs : List Change) (round place : ℕ) (up : AreUpTo plan
       | inr here ↦ inr (here.0, (place, omega arith, at ∙ ap (λ q. Some q) (sym here.1)))
     ];
     whole = λ r p low high known. added.kept r p (up.whole r p low high known);
-    put = at_next (prefixes_of plan) place prefix (λ p. is_planned ys round p ≡ true) at added.this (λ i p less is. added.kept round p (up.put i p less is));
+    put = at_next (prefixes_of plan) place prefix (λ p. is_found ys round p ≡ true) at added.this (λ i p less is. added.kept round p (up.put i p less is));
   }
 
-pub none_planned : (plan : Plan) → AreRoundsPlanned plan [] 0
-none_planned plan = record { only = λ r p is. cc; whole = λ r p low high known. absurd (omega (arith, low, high)) }
+pub none_found : (plan : Plan) → AreFoundUpTo plan [] 0
+none_found plan = record { only = λ r p is. cc; whole = λ r p low high known. absurd (omega (arith, low, high)) }
 
--- what could be planned can be planned after a part of it
-pub can_still : (w : PrefixValue → Setting) (g : Topology) (touched : PrefixValue → ℕ → Bool) (plan after : Plan) (xs ys : List Announced) (pool pool' : PathPool) (rounds rounds' : List RoundTables) → CanPlan w g touched plan after xs ys pool rounds → KeepsPaths pool pool' → AreSame rounds rounds' → CanPlan w g touched plan after xs ys pool' rounds'
+-- what could be found can be found after a part of it
+pub can_still : (w : PrefixValue → Setting) (g : Topology) (touched : PrefixValue → ℕ → Bool) (plan after : Plan) (xs ys : List Announced) (pool pool' : PathPool) (rounds rounds' : List RoundTables) → CanFind w g touched plan after xs ys pool rounds → KeepsPaths pool pool' → AreSame rounds rounds' → CanFind w g touched plan after xs ys pool' rounds'
 can_still w g touched plan after xs ys pool pool' rounds rounds' h keeps same = record {
   prefixes = h.prefixes;
   announced = announced_kept pool pool' keeps plan xs h.announced;
@@ -96,14 +96,14 @@ can_still w g touched plan after xs ys pool pool' rounds rounds' h keeps same = 
     kept : (r : ℕ) (p : PrefixValue) (a : ℕ) → kept_in pool' rounds' r p a ≡ kept_in pool rounds r p a
     kept = kept_same plan pool pool' rounds rounds' keeps same h.full
 
--- no change is planned yet
-pub planned_none : (w : PrefixValue → Setting) (g : Topology) (touched : PrefixValue → ℕ → Bool) (plan after : Plan) (pool : PathPool) (rounds : List RoundTables) (n : ℕ) → ArePlanned w g touched plan after pool rounds [] n n
-planned_none w g touched plan after pool rounds n = record {
+-- no change is found yet
+pub found_none : (w : PrefixValue → Setting) (g : Topology) (touched : PrefixValue → ℕ → Bool) (plan after : Plan) (pool : PathPool) (rounds : List RoundTables) (n : ℕ) → AreFound w g touched plan after pool rounds [] n n
+found_none w g touched plan after pool rounds n = record {
   changes = record { fits = λ i x at. cc; apart = λ i j x y less at at'. cc; listed = λ i x at. cc };
   done = λ r p is. cc;
   triples = [];
   apart = tt;
-  of_planned = λ t s. absurd s;
+  of_tables = λ t s. absurd s;
   counted = λ t s. absurd s;
   enough = omega arith;
 }

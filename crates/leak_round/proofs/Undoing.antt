@@ -16,7 +16,7 @@ use Rattle.leak_round.specs.Announced.{announced_uses, AreAnnounced}
 use Rattle.leak_round.specs.Edited.{edited_uses}
 use Rattle.leak_round.specs.Growth.{KeepsPaths}
 use Rattle.leak_round.specs.Overlays.{changes_uses, held_of}
-use Rattle.leak_round.specs.Planning.{AreSame, IsCutOff}
+use Rattle.leak_round.specs.Found.{AreSame, IsCutOff}
 use Rattle.leak_round.specs.Tables.{kept_in, entry_uses, AreRoundsFull}
 use Rattle.leak_round.proofs.Closing.{announced_back, full_back}
 use Rattle.leak_round.proofs.Committing.{held_with-live}

@@ -42,6 +42,11 @@ pub record IsAnnouncing (pool : PathPool) (plan : Plan) (xs : List Announced) : 
 abbrev pub KeepsAnnounced : List Announced → List Announced → Type 0
 KeepsAnnounced old new = (prefix : PrefixValue) (a : ℕ) → IsSome (own_path old prefix a) → IsSome (own_path new prefix a)
 
+-- the paths of the announcements stand in the pool, and who has announced something has announced it still
+pub record AnnouncesMore (pool : PathPool) (plan : Plan) (old new : List Announced) : Type 0 where
+  pub so_far : IsAnnouncing pool plan new
+  pub kept : KeepsAnnounced old new
+
 -- what the AS announces of the prefix in the plan stands in the pool
 abbrev pub HasAnnounced : Plan → List Announced → PrefixValue → ℕ → Type 0
 HasAnnounced plan xs prefix a = IsSome (announced_path plan prefix a) → IsSome (own_path xs prefix a)

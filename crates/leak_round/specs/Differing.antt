@@ -9,6 +9,8 @@ use Rattle.route_choice.specs.declared.seeds.SeedIds.{SeedIds}
 use Rattle.route_choice.specs.Routings.{seeds_of}
 use Rattle.leak_round.specs.declared.announced.Announced.{Announced}
 use Rattle.leak_round.specs.declared.changes.Change.{Change}
+use Rattle.leak_round.specs.declared.table_seeds.TableSeeds.{TableSeeds}
+use Rattle.leak_round.specs.declared.table_seeds.TableSeeds.TheVariants.{Kept, Listed}
 use Rattle.leak_round.specs.Leaked.{AreSeedsWith}
 
 -- to a list come ASes whose seeds differ: of these names all of them, and perhaps others
@@ -29,3 +31,8 @@ pub record AreWrongIn (plan after : Plan) (xs ys : List Announced) (rounds : Lis
   pub was_put : AreSeedsWith plan xs rounds [] round prefix was
   pub put : AreSeedsWith after ys rounds changes round prefix seeds
   pub wrong : AreWrong touched pool was seeds ases
+
+-- the seeds of a table, kept or listed
+abbrev pub ids_of : TableSeeds → SeedIds
+ids_of (Kept seeds) = seeds.now
+ids_of (Listed seeds) = seeds

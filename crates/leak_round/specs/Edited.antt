@@ -11,6 +11,7 @@ use Rattle.stability_laws.specs.Plans.{Plan, announcer_of}
 use Rattle.stability_laws.specs.SeedEdits.{edited, edit_asn}
 use Rattle.leak_round.specs.declared.announced.Announced.{Announced}
 use Rattle.leak_round.specs.declared.edited.EditedSeeds.{EditedSeeds}
+use Rattle.leak_round.specs.declared.limits.TheConstants.{MOST_ANNOUNCEMENTS, MOST_NUMBERS}
 use Rattle.leak_round.specs.Announced.{is_of, announced_uses, AreAnnounced}
 use Rattle.leak_round.specs.Growth.{KeepsPaths}
 use Rattle.leak_round.specs.Limits.{IsWithinLimits}
@@ -41,12 +42,12 @@ AreEdited pool plan edited = (e : EditedSeeds) → edited ≡ Some e → AreSeed
 abbrev pub others_of : PrefixValue → ℕ → List Announced → List Announced
 others_of prefix a xs = filter (λ x. not (is_of prefix a x)) xs
 
--- each of the announcements has one hold more, each path that was live is live and the same, at most n cells more are live, and no count rises by more than 129
+-- each of the announcements has one hold more, each path that was live is live and the same, at most n cells more are live, and no count rises by more than one for each announcement that there may be, and one
 pub record AreHeldToo (old new : PathPool) (xs : List Announced) (n : ℕ) : Type 0 where
   pub holds : (k : ℕ) → holds_of new k ≡ holds_of old k + announced_uses xs k
   pub keeps : KeepsPaths old new
   pub cells : live_count new ≤ live_count old + n
-  pub counts : (k : ℕ) → count_of new k ≤ count_of old k + 129
+  pub counts : (k : ℕ) → count_of new k ≤ count_of old k + MOST_ANNOUNCEMENTS + 1
 
 -- behind the announcements that were there stands one of the prefix by the first AS of the path, which stands in the pool
 pub record EndsWithPath (pool : PathPool) (prefix : PrefixValue) (path : List ℕ) (before after : List Announced) : Type 0 where
@@ -66,7 +67,7 @@ pub record AreMade (old new : PathPool) (plan after : Plan) (a n : ℕ) (e : Edi
   pub plan_is : e.plan ≡ after
   pub asn_is : e.asn ≡ a
   pub numbers_is : e.numbers ≡ n
-  pub few : e.numbers ≤ 64
+  pub few : e.numbers ≤ MOST_NUMBERS
   pub held : AreHeldToo old new e.announced.items e.numbers
 
 -- the plan of seeds after another one has taken its place, where there is one
@@ -87,11 +88,11 @@ pub record IsEdited (old new : PathPool) (plan : Plan) (edit : Option SeedEdit) 
   pub plan_is : seeds_after o plan ≡ plan_edited edit plan
   pub asn_is : option_map (λ e. e.asn) o ≡ option_map edit_asn edit
   pub numbers_is : new_numbers o ≡ option_map_or edit_numbers edit 0
-  pub few : new_numbers o ≤ 64
+  pub few : new_numbers o ≤ MOST_NUMBERS
   pub holds : (k : ℕ) → holds_of new k ≡ holds_of old k + edited_uses o k
   pub keeps : KeepsPaths old new
   pub cells : live_count new ≤ live_count old + new_numbers o
-  pub counts : (k : ℕ) → count_of new k ≤ count_of old k + 129
+  pub counts : (k : ℕ) → count_of new k ≤ count_of old k + MOST_ANNOUNCEMENTS + 1
 
 -- the prefix of which an announcement is edited, if one is
 abbrev pub prefix_edited : Option EditedSeeds → Option PrefixValue

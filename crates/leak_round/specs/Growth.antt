@@ -3,6 +3,7 @@ use Rattle.std.specs.Prelude.{◌≡◌, ℕ, ◌+◌, ◌*◌, ◌≤◌}
 use Rattle.path_pool.specs.declared.pool.PathPool.{PathPool}
 use Rattle.path_pool.specs.Pool.{IsLive, list_of, count_of, live_count, limit_of}
 use Rattle.as_graph.specs.declared.build.TheConstants.{MOST_ASES}
+use Rattle.route_choice.specs.declared.counts.TheConstants.{MOST_COUNTED}
 
 -- each path that was live is live, with the same numbers
 pub record KeepsPaths (old new : PathPool) : Type 0 where
@@ -18,4 +19,4 @@ pub record GrowsBy (old new : PathPool) (n : ℕ) : Type 0 where
 -- the pool has room for so many more tables, each of at most 150,000 entries
 pub record HasRoomFor (pool : PathPool) (tables : ℕ) : Type 0 where
   pub cells : live_count pool + MOST_ASES * tables + MOST_ASES ≤ limit_of pool
-  pub counts : (k : ℕ) → count_of pool k + MOST_ASES * tables ≤ 4000000000
+  pub counts : (k : ℕ) → count_of pool k + MOST_ASES * tables ≤ MOST_COUNTED

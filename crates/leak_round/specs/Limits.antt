@@ -5,12 +5,13 @@ use Rattle.std.specs.Option.{option_map_or}
 use Rattle.std.specs.FinMap as fin
 use Rattle.net_names.specs.Prefixes.{PrefixValue}
 use Rattle.stability_laws.specs.Plans.{Plan, announced_path, prefixes_of}
+use Rattle.leak_round.specs.declared.limits.TheConstants.{MOST_ANNOUNCEMENTS, MOST_NUMBERS, MOST_PREFIXES}
 
 -- a plan within the limits has at most 32 prefixes and 64 announcements, whose paths have at most 64 numbers
 pub record IsWithinLimits (plan : Plan) : Type 0 where
-  pub prefixes : length (prefixes_of plan) ≤ 32
-  pub announcements : fin.len plan.announced ≤ 64
-  pub paths : (prefix : PrefixValue) (a : ℕ) (path : List ℕ) → announced_path plan prefix a ≡ Some path → length path ≤ 64
+  pub prefixes : length (prefixes_of plan) ≤ MOST_PREFIXES
+  pub announcements : fin.len plan.announced ≤ MOST_ANNOUNCEMENTS
+  pub paths : (prefix : PrefixValue) (a : ℕ) (path : List ℕ) → announced_path plan prefix a ≡ Some path → length path ≤ MOST_NUMBERS
 
 -- how many numbers the announced paths have in all
 abbrev pub numbers_of : Plan → ℕ

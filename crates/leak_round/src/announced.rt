@@ -5,13 +5,15 @@ ghost use Rattle.std.specs.List.{sum_by};
 ghost use Rattle.std.specs.FinMap as fin;
 ghost use Rattle.net_names.specs.Prefixes.{PrefixValue};
 ghost use Rattle.path_pool.specs.Pool.{IsLive, holds_of, count_of, live_count, limit_of};
+ghost use Rattle.path_pool.specs.declared.pool.TheConstants.{MOST_COUNT};
 ghost use Rattle.stability_laws.specs.Plans.{has_prefix, prefixes_of, announcers_of};
 ghost use Rattle.route_choice.specs.Tables.{seed_at};
 ghost use Rattle.leak_round.specs.Limits.{announced_length, announced_count};
 ghost use Rattle.route_choice.specs.Holds.{GivesBack};
 ghost use Rattle.leak_round.specs.declared.announced.Announced.{Announced as AnAnnouncement};
+ghost use Rattle.leak_round.specs.declared.limits.TheConstants.{MOST_PREFIXES};
 ghost use Rattle.leak_round.specs.Growth.{KeepsPaths};
-ghost use Rattle.leak_round.specs.Announced.{own_path, own_seed, announced_uses, IsAnnouncing, KeepsAnnounced, HasAnnounced};
+ghost use Rattle.leak_round.specs.Announced.{own_path, own_seed, announced_uses, AnnouncesMore, IsAnnouncing, HasAnnounced};
 
 use net_names::{Asn, NoMemory, Prefix};
 use path_pool::{PathId, PathPool};
@@ -36,8 +38,7 @@ fn announce(
     announced: &mut Vec<Announced>,
 ) -> Result<(), NoMemory>
     requires so_far { IsAnnouncing pool.old plan.now announced.old.items }
-    ensures so_far { OnOk result (IsAnnouncing pool.new plan.now announced.new.items) }
-    ensures more { OnOk result (KeepsAnnounced announced.old.items announced.new.items) }
+    ensures more { OnOk result (AnnouncesMore pool.new plan.now announced.old.items announced.new.items) }
     ensures this { OnOk result (HasAnnounced plan.now announced.new.items prefix asn) }
     ensures few { OnOk result (length announced.new.items ≤
         length announced.old.items + announced_count plan.now prefix asn) }
@@ -65,8 +66,7 @@ fn announce_prefix(
     announced: &mut Vec<Announced>,
 ) -> Result<(), NoMemory>
     requires so_far { IsAnnouncing pool.old plan.now announced.old.items }
-    ensures so_far { OnOk result (IsAnnouncing pool.new plan.now announced.new.items) }
-    ensures more { OnOk result (KeepsAnnounced announced.old.items announced.new.items) }
+    ensures more { OnOk result (AnnouncesMore pool.new plan.now announced.old.items announced.new.items) }
     ensures whole { OnOk result ((a : ℕ) → HasAnnounced plan.now announced.new.items prefix a) }
     ensures few { OnOk result (length announced.new.items ≤
         length announced.old.items + sum_by (announced_count plan.now prefix) (announcers_of plan.now)) }
@@ -90,7 +90,7 @@ pub fn announce_all(
     plan: &SeedPlan,
     pool: &mut PathPool,
 ) -> Result<Vec<Announced>, NoMemory>
-    requires few { length (prefixes_of plan.now) ≤ 32 }
+    requires few { length (prefixes_of plan.now) ≤ MOST_PREFIXES }
     requires so_far { IsAnnouncing pool.old plan.now [] }
     ensures so_far { IfOk result (λ v. IsAnnouncing pool.new plan.now v.items) }
     ensures whole { IfOk result (λ v. (prefix : PrefixValue) (a : ℕ) → IsTrue (has_prefix plan.now prefix) →
@@ -134,7 +134,7 @@ pub fn announced_seeds(
 pub fn hold_all(announced: &[Announced], pool: &mut PathPool)
     requires live { (place : ℕ) (x : AnAnnouncement) → slice_get announced.now place ≡ Some x →
         IsLive pool.old x.path.0 }
-    requires counts { (k : ℕ) → count_of pool.old k + length announced.now < 4294967295 }
+    requires counts { (k : ℕ) → count_of pool.old k + length announced.now < MOST_COUNT }
     ensures holds { (k : ℕ) → holds_of pool.new k ≡ holds_of pool.old k + announced_uses announced.now k }
     ensures keeps { KeepsPaths pool.old pool.new }
     ensures counts { (k : ℕ) → count_of pool.new k ≤ count_of pool.old k + length announced.now }

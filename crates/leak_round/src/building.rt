@@ -4,6 +4,7 @@ ghost use Rattle.std.specs.Prelude.{◌≤◌, length};
 ghost use Rattle.as_graph.specs.Topology.{relation};
 ghost use Rattle.as_graph.specs.Hierarchy.{HasNoProviderCycle};
 ghost use Rattle.stability_laws.specs.Plans.{prefixes_of};
+ghost use Rattle.leak_round.specs.declared.limits.TheConstants.{MOST_PREFIXES};
 
 use crate::announced::Announced;
 use stability_laws::{SeedPlan, World};
@@ -23,5 +24,5 @@ pub struct Building<'a, P, V> {
     /// The announced paths of the plan.
     pub announced: &'a [Announced],
     ghost no_cycle: { HasNoProviderCycle (relation world.now.graph.now) },
-    ghost few: { length (prefixes_of plan.now) ≤ 32 },
+    ghost few: { length (prefixes_of plan.now) ≤ MOST_PREFIXES },
 }

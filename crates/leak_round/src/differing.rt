@@ -1,24 +1,17 @@
 //! Which ASes may hold something wrong after an edit: the touched ones, and those whose seed differs.
 
-ghost use Rattle.std.specs.Prelude.{◌≡◌, ◌↔◌, ◌≤◌, IsTrue, Some, IfOk, OnOk, option_map};
+ghost use Rattle.std.specs.Prelude.{◌≡◌, ◌↔◌, IsTrue, Some, IfOk, OnOk, option_map};
 ghost use Rattle.path_pool.specs.Pool.{IsLive, list_of};
 ghost use Rattle.route_choice.specs.declared.held.SeedHeld.{SeedHeld as ASeed};
-ghost use Rattle.route_choice.specs.declared.seeds.SeedIds.{SeedIds as SomeSeeds};
 ghost use Rattle.route_choice.specs.Resources.{AreSeedsLive};
 ghost use Rattle.route_choice.specs.Routings.{seed_of};
 ghost use Rattle.leak_round.specs.Touched.{touches};
 ghost use Rattle.leak_round.specs.Differing.{AddsDiffering, AreWrong};
-ghost use Rattle.leak_round.specs.Planners.{AreSeedsAfter, AreSeedsBefore, AreWrongBy};
 
-use crate::changes::Change;
-use crate::edited::{announcements_after, plan_after};
-use crate::planner::Planner;
-use crate::round_prefix::RoundPrefix;
-use crate::round_seeds::seeds_with;
 use crate::touched::Touched;
 use net_names::{Asn, NoMemory, Prefix};
 use path_pool::{PathId, PathPool};
-use route_choice::{RoundTables, SeedHeld, SeedIds};
+use route_choice::{SeedHeld, SeedIds};
 use std::alloc::Global;
 
 fn same_numbers(a: &[Asn], b: &[Asn]) -> bool
@@ -99,52 +92,23 @@ fn add_differing(
     Ok(())
 }
 
-// The ASes that are touched for a prefix, and those whose seeds differ before and after.
-pub fn wrong_ases(
+// Puts the ASes that are touched for a prefix, and those whose seeds differ before and after, in place of those of
+// a list.
+pub fn put_wrong(
     alloc: Global,
     pool: &PathPool,
     touched: &Touched,
     prefix: Prefix,
     old: &SeedIds,
     new: &SeedIds,
-) -> Result<Vec<Asn>, NoMemory>
+    ases: &mut Vec<Asn>,
+) -> Result<(), NoMemory>
     requires old { AreSeedsLive pool.now old.now }
     requires new { AreSeedsLive pool.now new.now }
-    ensures { IfOk result (λ v. AreWrong (touches touched.now prefix) pool.now old.now new.now v.items) }
+    ensures { OnOk result (AreWrong (touches touched.now prefix) pool.now old.now new.now ases.new.items) }
 {
-    let mut ases = touched.ases(alloc, prefix)?;
-    add_differing(alloc, pool, old, new, old.ases(), &mut ases)?;
-    add_differing(alloc, pool, old, new, new.ases(), &mut ases)?;
-    Ok(ases)
-}
-
-// The seeds of a prefix in a round after an edit, and the ASes that are touched for the prefix or had
-// another seed before.
-pub fn seeds_and_wrong<P, V>(
-    planner: &Planner<'_, P, V>,
-    at: &RoundPrefix,
-    tables: &[RoundTables],
-    changes: &[Change],
-    pool: &PathPool,
-) -> Result<(SeedIds, Vec<Asn>), NoMemory>
-    requires from { 1 ≤ at.now.round }
-    requires before { (seeds : SomeSeeds) → AreSeedsBefore planner.now at.now tables.now seeds →
-        AreSeedsLive pool.now seeds }
-    requires after { (seeds : SomeSeeds) → AreSeedsAfter planner.now at.now tables.now changes.now seeds →
-        AreSeedsLive pool.now seeds }
-    ensures { IfOk result (λ r. AreWrongBy planner.now at.now tables.now changes.now pool.now r.0 r.1.items) }
-{
-    let (alloc, plan, announced) = (planner.alloc, planner.plan, planner.announced);
-    let before = seeds_with(alloc, plan, announced, tables, &[], at.round, at.prefix)?;
-    let seeds = seeds_with(
-        alloc,
-        plan_after(planner.edited, plan),
-        announcements_after(planner.edited, announced),
-        tables,
-        changes,
-        at.round,
-        at.prefix,
-    )?;
-    let ases = wrong_ases(alloc, pool, planner.touched, at.prefix, &before, &seeds)?;
-    Ok((seeds, ases))
+    touched.put_ases(prefix, ases)?;
+    add_differing(alloc, pool, old, new, old.ases(), ases)?;
+    add_differing(alloc, pool, old, new, new.ases(), ases)?;
+    Ok(())
 }

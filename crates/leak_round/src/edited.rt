@@ -6,8 +6,10 @@ ghost use Rattle.path_pool.specs.Pool.{IsLive, SamePaths, holds_of, count_of, li
 ghost use Rattle.stability_laws.specs.Plans.{announcer_of, has_prefix, with_announcement};
 ghost use Rattle.stability_laws.specs.SeedEdits.{edit_asn, edited, without_announcement, IsEditOf, IsEditWithin};
 ghost use Rattle.route_choice.specs.Holds.{GivesBack};
+ghost use Rattle.route_choice.specs.declared.counts.TheConstants.{MOST_COUNTED};
 ghost use Rattle.dirty_recompute.specs.Resources.{IsUndone};
 ghost use Rattle.leak_round.specs.declared.announced.Announced.{Announced as AnAnnouncement};
+ghost use Rattle.leak_round.specs.declared.limits.TheConstants.{MOST_ANNOUNCEMENTS, MOST_NUMBERS};
 ghost use Rattle.leak_round.specs.Limits.{IsWithinLimits};
 ghost use Rattle.leak_round.specs.Announced.{is_of, announced_uses, AreAnnounced};
 ghost use Rattle.leak_round.specs.Growth.{KeepsPaths};
@@ -140,8 +142,8 @@ fn add_path(
     requires some { 1 ≤ length path.now }
     requires live { (place : ℕ) (x : AnAnnouncement) → slice_get announced.old.items place ≡ Some x →
         IsLive pool.old x.path.0 }
-    requires few { length announced.old.items ≤ 64 }
-    requires counts { (k : ℕ) → count_of pool.old k ≤ 4000000000 }
+    requires few { length announced.old.items ≤ MOST_ANNOUNCEMENTS }
+    requires counts { (k : ℕ) → count_of pool.old k ≤ MOST_COUNTED }
     ensures last { OnOk result (EndsWithPath pool.new prefix path.now announced.old.items announced.new.items) }
     ensures held { OnOk result (AreHeldToo pool.old pool.new announced.new.items (length path.now)) }
     ensures err { OnErr result (SamePaths pool.old pool.new) }
@@ -200,11 +202,11 @@ fn announce_anew(
 ) -> Result<EditedSeeds, NoMemory>
     requires known { IsTrue (has_prefix plan.now prefix) }
     requires some { 1 ≤ length path.now }
-    requires short { length path.now ≤ 64 }
+    requires short { length path.now ≤ MOST_NUMBERS }
     requires after { after ≡ with_announcement plan.now prefix path.now }
     requires limits { IsWithinLimits after }
     requires announced { AreAnnounced pool.old plan.now announced.now }
-    requires counts { (k : ℕ) → count_of pool.old k ≤ 4000000000 }
+    requires counts { (k : ℕ) → count_of pool.old k ≤ MOST_COUNTED }
     ensures made { IfOk result (AreMade pool.old pool.new plan.now after (announcer_of path.now) (length path.now)) }
     ensures others { IfOk result (λ e. AreOthersKept (Some e.prefix) announced.now e.announced.items) }
     ensures own { IfOk result (λ e. AreOwn e.announced.items e.prefix e.own) }
@@ -240,7 +242,7 @@ fn withdraw(
     requires after { after ≡ without_announcement plan.now prefix asn }
     requires limits { IsWithinLimits after }
     requires announced { AreAnnounced pool.old plan.now announced.now }
-    requires counts { (k : ℕ) → count_of pool.old k ≤ 4000000000 }
+    requires counts { (k : ℕ) → count_of pool.old k ≤ MOST_COUNTED }
     ensures made { IfOk result (AreMade pool.old pool.new plan.now after asn 0) }
     ensures others { IfOk result (λ e. AreOthersKept (Some e.prefix) announced.now e.announced.items) }
     ensures own { IfOk result (λ e. AreOwn e.announced.items e.prefix e.own) }
@@ -271,23 +273,24 @@ pub fn edit_seeds(
     pool: &mut PathPool,
 ) -> Result<EditedSeeds, NoMemory>
     requires known { IsEditOf plan.now edit.now }
-    requires within { IsEditWithin 64 edit.now }
+    requires within { IsEditWithin MOST_NUMBERS edit.now }
     requires limits { IsWithinLimits (edited plan.now edit.now) }
     requires announced { AreAnnounced pool.old plan.now announced.now }
-    requires room { live_count pool.old + 64 ≤ limit_of pool.old }
-    requires counts { (k : ℕ) → count_of pool.old k ≤ 4000000000 }
+    requires room { live_count pool.old + MOST_NUMBERS ≤ limit_of pool.old }
+    requires counts { (k : ℕ) → count_of pool.old k ≤ MOST_COUNTED }
     ensures seeds { IfOk result (λ e. AreSeedsOf pool.new plan.now e) }
     ensures others { IfOk result (λ e. AreOthersKept (Some e.prefix) announced.now e.announced.items) }
     ensures own { IfOk result (λ e. AreOwn e.announced.items e.prefix e.own) }
     ensures plan { IfOk result (λ e. e.plan ≡ edited plan.now edit.now) }
     ensures asn { IfOk result (λ e. e.asn ≡ edit_asn edit.now) }
     ensures numbers { IfOk result (λ e. e.numbers ≡ edit_numbers edit.now) }
-    ensures few { IfOk result (λ e. e.numbers ≤ 64) }
+    ensures few { IfOk result (λ e. e.numbers ≤ MOST_NUMBERS) }
     ensures holds { IfOk result (λ e. (k : ℕ) →
         holds_of pool.new k ≡ holds_of pool.old k + announced_uses e.announced.items k) }
     ensures keeps { OnOk result (KeepsPaths pool.old pool.new) }
     ensures cells { IfOk result (λ e. live_count pool.new ≤ live_count pool.old + e.numbers) }
-    ensures counts { OnOk result ((k : ℕ) → count_of pool.new k ≤ count_of pool.old k + 129) }
+    ensures counts { OnOk result ((k : ℕ) →
+        count_of pool.new k ≤ count_of pool.old k + MOST_ANNOUNCEMENTS + 1) }
     ensures limit { limit_of pool.new ≡ limit_of pool.old }
     ensures err { OnErr result (IsUndone pool.old pool.new) }
 {

@@ -37,27 +37,6 @@ fn holder_at(pool: &PathPool, table: &Table, asn: Asn, place: usize) -> Option<H
     })
 }
 
-// Those of the ASes that hold something, in their order. All that do are among them.
-fn holders_among(
-    alloc: Global,
-    pool: &PathPool,
-    table: &Table,
-    ases: &[Asn],
-) -> Result<Vec<Holder>, NoMemory>
-    requires live { AreEntriesLive pool.now table.now }
-    requires apart { IsDistinct nat_eq ases.now }
-    requires among { (a : ℕ) → IsSome (table_routing pool.now table.now a) → occurs a ases.now ≡ true }
-    ensures { IfOk result (λ v. AreHolders (table_routing pool.now table.now) v.items) }
-{
-    let mut holders = Vec::new(alloc);
-    for (place, asn) in ases.iter().enumerate() {
-        if let Some(one) = holder_at(pool, table, *asn, place) {
-            holders.push(one)?;
-        }
-    }
-    Ok(holders)
-}
-
 // The ASes that hold something, by rising length of their paths. All of them are among these ASes.
 pub fn holders_by_length(
     alloc: Global,
@@ -71,7 +50,12 @@ pub fn holders_by_length(
     ensures holders { IfOk result (λ v. AreHolders (table_routing pool.now table.now) v.items) }
     ensures rising { IfOk result (λ v. IsNonDecreasingBy (λ (x : AHolder). x.length) v.items) }
 {
-    let mut holders = holders_among(alloc, pool, table, ases)?;
+    let mut holders = Vec::new(alloc);
+    for (place, asn) in ases.iter().enumerate() {
+        if let Some(one) = holder_at(pool, table, *asn, place) {
+            holders.push(one)?;
+        }
+    }
     holders.sort_unstable_by_key(|one| one.length);
     Ok(holders)
 }

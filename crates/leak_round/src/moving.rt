@@ -1,11 +1,12 @@
 //! Tables whose paths go to another pool.
 
-ghost use Rattle.std.specs.Prelude.{◌≡◌, ◌≢◌, ℕ, suc, ◌+◌, ◌-◌, ◌*◌, ◌<◌, ◌≤◌, true, length, nat_eq, slice_get, option_map, unwrap_or, IsTrue, IsSome, Some, None, IfOk, OnOk};
+ghost use Rattle.std.specs.Prelude.{◌≡◌, ◌≢◌, ℕ, suc, ◌+◌, ◌*◌, ◌<◌, ◌≤◌, true, length, nat_eq, slice_get, option_map, unwrap_or, IsTrue, IsSome, Some, None, IfOk};
 ghost use Rattle.std.specs.List.{IsDistinct};
 ghost use Rattle.std.specs.List.Sorted.{IsNonDecreasingBy};
 ghost use Rattle.net_names.specs.Numbers.{occurs};
 ghost use Rattle.net_names.specs.Prefixes.{PrefixValue};
-ghost use Rattle.path_pool.specs.Pool.{IsLive, holds_of, count_of, live_count, spare_of};
+ghost use Rattle.path_pool.specs.Pool.{IsLive, holds_of, count_of, spare_of};
+ghost use Rattle.path_pool.specs.declared.pool.TheConstants.{MOST_COUNT};
 ghost use Rattle.stability_laws.specs.Plans.{has_prefix, prefixes_of};
 ghost use Rattle.stability_laws.specs.Rounds.{seeds_of as seeds_in};
 ghost use Rattle.stability_laws.specs.declared.entry.Entry.{Entry as AnEntry};
@@ -13,16 +14,16 @@ ghost use Rattle.route_choice.specs.declared.held.Held.{Held as AHeld};
 ghost use Rattle.route_choice.specs.Named.{Takes};
 ghost use Rattle.route_choice.specs.Resources.{AreEntriesLive, AreSeedsLive};
 ghost use Rattle.route_choice.specs.Routings.{entry_of, seeds_of, table_routing};
-ghost use Rattle.route_choice.specs.RoundTables.{round_routing, tables_uses};
-ghost use Rattle.route_choice.specs.Tables.{change_at, overlay_uses, prefix_of, seed_at, table_uses};
+ghost use Rattle.route_choice.specs.RoundTables.{round_routing};
+ghost use Rattle.route_choice.specs.Tables.{change_at, overlay_uses, seed_at};
 ghost use Rattle.leak_round.specs.declared.holders.Holder.{Holder as AHolder};
+ghost use Rattle.leak_round.specs.declared.limits.TheConstants.{MOST_PREFIXES, MOST_ROUNDS};
 ghost use Rattle.leak_round.specs.Announced.{AreAnnounced};
-ghost use Rattle.leak_round.specs.Entries.{HasEntries, of_round, of_rounds};
 ghost use Rattle.leak_round.specs.Growth.{KeepsPaths, GrowsBy, HasRoomFor};
+ghost use Rattle.leak_round.specs.Made.{AreRoundsMade, IsRoundMade, IsTableMade};
 ghost use Rattle.leak_round.specs.Moved.{asns_of, AreHolders, ArePassedOn, HasSource};
 ghost use Rattle.leak_round.specs.Overlays.{table_in, AreFew};
-ghost use Rattle.leak_round.specs.Tables.{kept_in, entry_uses, tables_in, AreFull, AreRoundsFull};
-ghost use Rattle.as_graph.specs.declared.build.TheConstants.{MOST_ASES};
+ghost use Rattle.leak_round.specs.Tables.{kept_in, tables_in, AreRoundsFull};
 
 use crate::announced::Announced;
 use crate::holders::{Holder, holders_by_length};
@@ -52,8 +53,8 @@ pub struct Moving<'a> {
     ghost full: { AreRoundsFull from.now plan.now tables.now },
     ghost among: { (round : ℕ) (prefix : PrefixValue) (a : ℕ) → IsSome (kept_in from.now tables.now round prefix a) → occurs a ases.now.value.ases ≡ true },
     ghost few: { (round : ℕ) (prefix : PrefixValue) → AreFew (kept_in from.now tables.now round prefix) },
-    ghost rounds: { length tables.now ≤ 4 },
-    ghost prefixes: { length (prefixes_of plan.now) ≤ 32 },
+    ghost rounds: { length tables.now ≤ MOST_ROUNDS },
+    ghost prefixes: { length (prefixes_of plan.now) ≤ MOST_PREFIXES },
 }
 
 // What an AS holds, with its path in the new pool and a hold of it. The path is that of the seed, or the AS
@@ -69,7 +70,7 @@ fn moved(
     requires path { IsLive from.now held.path.0 }
     requires source { HasSource pool.old made.now (seed_at seeds.now asn) asn (entry_of from.now held).path }
     requires spare { 0 < spare_of pool.old }
-    requires counts { (k : ℕ) → count_of pool.old k < 4294967295 }
+    requires counts { (k : ℕ) → count_of pool.old k < MOST_COUNT }
     ensures entry { entry_of pool.new result ≡ entry_of from.now held }
     ensures live { IsLive pool.new result.path.0 }
     ensures takes { Takes pool.old pool.new (Some result) }
@@ -107,7 +108,7 @@ fn move_entry(
         HasSource pool.old made.old (seed_at seeds.now one.now.asn) one.now.asn e.path }
     requires place { change_at made.old one.now.asn ≡ Some None }
     requires spare { 0 < spare_of pool.old }
-    requires counts { (k : ℕ) → count_of pool.old k < 4294967295 }
+    requires counts { (k : ℕ) → count_of pool.old k < MOST_COUNT }
     ensures entry { option_map (entry_of pool.new) (unwrap_or (change_at made.new one.now.asn) None) ≡
         table_routing from.now table.now one.now.asn }
     ensures live { (h : AHeld) → change_at made.new one.now.asn ≡ Some (Some h) → IsLive pool.new h.path.0 }
@@ -146,7 +147,7 @@ fn move_entries(
     requires blank { (a : ℕ) → unwrap_or (change_at made.old a) None ≡ None }
     requires unused { (k : ℕ) → overlay_uses made.old k ≡ 0 }
     requires spare { length holders.now ≤ spare_of pool.old }
-    requires counts { (k : ℕ) → count_of pool.old k + length holders.now < 4294967295 }
+    requires counts { (k : ℕ) → count_of pool.old k + length holders.now < MOST_COUNT }
     ensures same { (a : ℕ) → option_map (entry_of pool.new) (unwrap_or (change_at made.new a) None) ≡
         table_routing from.now table.now a }
     ensures live { (a : ℕ) (h : AHeld) → change_at made.new a ≡ Some (Some h) → IsLive pool.new h.path.0 }
@@ -181,16 +182,9 @@ fn moved_table(
         (kept_in moving.now.from.now moving.now.tables.now (length earlier.now) prefix))
         (kept_in moving.now.from.now moving.now.tables.now round prefix) }
     requires room { HasRoomFor pool.old 1 }
-    ensures prefix { IfOk result (λ t. prefix_of t ≡ prefix) }
     ensures same { IfOk result (λ t. (a : ℕ) →
         table_routing pool.new t a ≡ kept_in moving.now.from.now moving.now.tables.now round prefix a) }
-    ensures live { IfOk result (AreEntriesLive pool.new) }
-    ensures holds { IfOk result (λ t. (k : ℕ) → holds_of pool.new k ≡ holds_of pool.old k + table_uses t k) }
-    ensures cells { IfOk result (λ t. HasEntries (table_routing pool.new t)
-        (live_count pool.new - live_count pool.old)) }
-    ensures keeps { OnOk result (KeepsPaths pool.old pool.new) }
-    ensures grows { OnOk result (GrowsBy pool.old pool.new MOST_ASES) }
-    ensures small { IfOk result (λ t. (k : ℕ) → table_uses t k ≤ MOST_ASES) }
+    ensures made { IfOk result (IsTableMade pool.old pool.new prefix) }
 {
     let Moving {
         alloc,
@@ -237,12 +231,7 @@ fn moved_round(
     ensures same { IfOk result (λ t. (prefix : PrefixValue) → IsTrue (has_prefix moving.now.plan.now prefix) →
         (a : ℕ) → round_routing pool.new t prefix a ≡
         kept_in moving.now.from.now moving.now.tables.now round prefix a) }
-    ensures full { IfOk result (AreFull pool.new moving.now.plan.now) }
-    ensures holds { IfOk result (λ t. (k : ℕ) → holds_of pool.new k ≡ holds_of pool.old k + tables_uses t k) }
-    ensures cells { IfOk result (λ t. HasEntries (of_round (round_routing pool.new t))
-        (live_count pool.new - live_count pool.old)) }
-    ensures keeps { OnOk result (KeepsPaths pool.old pool.new) }
-    ensures grows { OnOk result (GrowsBy pool.old pool.new (MOST_ASES * length (prefixes_of moving.now.plan.now))) }
+    ensures made { IfOk result (IsRoundMade pool.old pool.new moving.now.plan.now) }
 {
     let mut tables = RoundTables::new(moving.alloc);
     let mut place = 0;
@@ -267,18 +256,12 @@ pub fn moved_rounds(moving: &Moving<'_>, pool: &mut PathPool) -> Result<Vec<Roun
         (kept_in moving.now.from.now moving.now.tables.now before prefix))
         (kept_in moving.now.from.now moving.now.tables.now (suc before) prefix) }
     requires room { HasRoomFor pool.old (length moving.now.tables.now * length (prefixes_of moving.now.plan.now)) }
-    ensures count { IfOk result (λ v. length v.items ≡ length moving.now.tables.now) }
     ensures same { IfOk result (λ v. (before : ℕ) (prefix : PrefixValue) → before < length moving.now.tables.now →
         IsTrue (has_prefix moving.now.plan.now prefix) →
         (a : ℕ) → kept_in pool.new v.items (suc before) prefix a ≡
         kept_in moving.now.from.now moving.now.tables.now (suc before) prefix a) }
-    ensures full { IfOk result (λ v. AreRoundsFull pool.new moving.now.plan.now v.items) }
-    ensures holds { IfOk result (λ v. (k : ℕ) → holds_of pool.new k ≡ holds_of pool.old k + entry_uses v.items k) }
-    ensures cells { IfOk result (λ v. HasEntries (of_rounds (kept_in pool.new v.items))
-        (live_count pool.new - live_count pool.old)) }
-    ensures keeps { OnOk result (KeepsPaths pool.old pool.new) }
-    ensures grows { OnOk result (GrowsBy pool.old pool.new
-        (MOST_ASES * (length moving.now.tables.now * length (prefixes_of moving.now.plan.now)))) }
+    ensures made { IfOk result (λ v. AreRoundsMade pool.old pool.new moving.now.plan.now
+        (length moving.now.tables.now) v.items) }
 {
     let mut rounds = Vec::new(moving.alloc);
     for old in moving.tables {

@@ -1,6 +1,6 @@
 //! The tables of all rounds.
 
-ghost use Rattle.std.specs.Prelude.{◌≡◌, ◌↔◌, ℕ, suc, ◌+◌, ◌-◌, ◌*◌, ◌<◌, ◌≤◌, false, IsTrue, IsSome, IfSome, IfOk, OnOk, Option, length, is_some};
+ghost use Rattle.std.specs.Prelude.{◌≡◌, ◌↔◌, ℕ, suc, ◌+◌, ◌-◌, ◌*◌, ◌<◌, ◌≤◌, false, IsTrue, IsSome, IfSome, IfOk, Option, length, is_some};
 ghost use Rattle.net_names.specs.Prefixes.{PrefixValue};
 ghost use Rattle.as_graph.specs.Topology.{relation, as_count};
 ghost use Rattle.as_graph.specs.Hierarchy.{HasNoProviderCycle, IsRank};
@@ -16,12 +16,13 @@ ghost use Rattle.route_choice.specs.RoundTables.{table_at, round_routing, AreAll
 ghost use Rattle.leak_round.specs.Limits.{IsWithinLimits, numbers_of};
 ghost use Rattle.leak_round.specs.Announced.{AreAnnounced, announced_uses};
 ghost use Rattle.leak_round.specs.Entries.{HasEntries, of_rounds};
-ghost use Rattle.leak_round.specs.Growth.{GrowsBy, KeepsPaths, HasRoomFor};
+ghost use Rattle.leak_round.specs.Growth.{HasRoomFor};
+ghost use Rattle.leak_round.specs.Made.{AreRoundsMade, CanStand};
 ghost use Rattle.stability_laws.specs.World.{setting_in};
 ghost use Rattle.leak_round.specs.OwnSeeds.{AreOwnSeeds};
 ghost use Rattle.leak_round.specs.Tables.{kept_in, entry_uses, AreRoundsFull};
+ghost use Rattle.leak_round.specs.declared.limits.TheConstants.{MOST_ROUNDS};
 ghost use Rattle.leak_round.specs.declared.rounds.TheConstants.{MAX_CELLS};
-ghost use Rattle.as_graph.specs.declared.build.TheConstants.{MOST_ASES};
 
 mod commits;
 mod planning;
@@ -65,7 +66,7 @@ pub struct Rounds {
     ghost held: { (k : ℕ) → entry_uses tables.items k + announced_uses announced.items k ≤ holds_of pool k },
     ghost closed: { planned ≡ false → (k : ℕ) → holds_of pool k ≡ entry_uses tables.items k + announced_uses announced.items k },
     ghost limits: { IsWithinLimits plan },
-    ghost few: { length tables.items ≤ 4 },
+    ghost few: { length tables.items ≤ MOST_ROUNDS },
     ghost cells: { limit_of pool ≡ MAX_CELLS },
 }
 
@@ -83,16 +84,9 @@ fn make_rounds<P: RoutePolicy, V: OriginStates, L: Ledger>(
     requires room { HasRoomFor pool.old (rounds * length (prefixes_of building.now.plan.now)) }
     ensures cost { steps.new ≤ steps.old +
         2 * as_count building.now.world.now.graph.now * length (prefixes_of building.now.plan.now) * rounds }
-    ensures count { IfOk result (λ v. length v.items ≡ rounds) }
     ensures stable { IfOk result (λ v. AreRounds (setting_in P.meaning V.state_of building.now.world.now)
         building.now.plan.now rounds (kept_in pool.new v.items)) }
-    ensures full { IfOk result (λ v. AreRoundsFull pool.new building.now.plan.now v.items) }
-    ensures holds { IfOk result (λ v. (k : ℕ) → holds_of pool.new k ≡ holds_of pool.old k + entry_uses v.items k) }
-    ensures cells { IfOk result (λ v. HasEntries (of_rounds (kept_in pool.new v.items))
-        (live_count pool.new - live_count pool.old)) }
-    ensures keeps { OnOk result (KeepsPaths pool.old pool.new) }
-    ensures grows { OnOk result (GrowsBy pool.old pool.new
-        (MOST_ASES * (rounds * length (prefixes_of building.now.plan.now)))) }
+    ensures made { IfOk result (λ v. AreRoundsMade pool.old pool.new building.now.plan.now rounds v.items) }
 {
     let mut tables = Vec::new(building.alloc);
     for past in 0..rounds {
@@ -101,6 +95,30 @@ fn make_rounds<P: RoutePolicy, V: OriginStates, L: Ledger>(
         tables.push(next)?;
     }
     Ok(tables)
+}
+
+// Rounds of which no plan is open.
+fn closed_rounds(
+    alloc: Global,
+    pool: PathPool,
+    plan: SeedPlan,
+    announced: Vec<Announced>,
+    tables: Vec<RoundTables>,
+) -> Rounds
+    requires { CanStand pool plan announced.items tables.items }
+    ensures pool { result.pool ≡ pool }
+    ensures plan { result.plan ≡ plan }
+    ensures tables { result.tables.items ≡ tables.items }
+    ensures closed { result.planned ≡ false }
+{
+    Rounds {
+        pool,
+        plan,
+        announced,
+        own: Vec::new(alloc),
+        tables,
+        planned: false,
+    }
 }
 
 impl Rounds {
@@ -126,7 +144,7 @@ impl Rounds {
         requires no_cycle { HasNoProviderCycle (relation world.now.graph.now) }
         requires ranks { (a : ℕ) → IsRank (relation world.now.graph.now) a (rank_at ranks.now a) }
         requires limits { IsWithinLimits plan }
-        requires rounds { rounds ≤ 4 }
+        requires rounds { rounds ≤ MOST_ROUNDS }
         ensures cost { steps.new ≤ steps.old + 2 * as_count world.now.graph.now * length (prefixes_of plan) * rounds }
         ensures closed { IfOk result (λ r. is_open r ≡ false) }
         ensures plan { IfOk result (λ r. plan_of r ≡ plan) }
@@ -158,7 +176,7 @@ impl Rounds {
         requires no_cycle { HasNoProviderCycle (relation world.now.graph.now) }
         requires course { IsCourse world.now.graph.now course.now }
         requires limits { IsWithinLimits plan }
-        requires rounds { rounds ≤ 4 }
+        requires rounds { rounds ≤ MOST_ROUNDS }
         ensures cost { steps.new ≤ steps.old + 2 * as_count world.now.graph.now * length (prefixes_of plan) * rounds }
         ensures closed { IfOk result (λ r. is_open r ≡ false) }
         ensures plan { IfOk result (λ r. plan_of r ≡ plan) }
@@ -186,14 +204,7 @@ impl Rounds {
             announced: announced.as_slice(),
         };
         let tables = make_rounds(&building, rounds, &mut pool, &mut scratch, steps)?;
-        Ok(Rounds {
-            pool,
-            plan,
-            announced,
-            own: Vec::new(alloc),
-            tables,
-            planned: false,
-        })
+        Ok(closed_rounds(alloc, pool, plan, announced, tables))
     }
 
     /// The tables of a round, one for each prefix of the plan; `None` exactly where there is no such
@@ -216,7 +227,7 @@ impl Rounds {
     /// How many rounds there are, at most 4.
     pub fn count(&self) -> u32
         ensures value { result ≡ round_count self.now }
-        ensures few { result ≤ 4 }
+        ensures few { result ≤ MOST_ROUNDS }
     {
         self.tables.len() as u32
     }

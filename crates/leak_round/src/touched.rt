@@ -1,6 +1,6 @@
 //! The ASes whose entries may be wrong after an edit, prefix by prefix.
 
-ghost use Rattle.std.specs.Prelude.{◌≡◌, ℕ, false, true, OnOk, OnErr, IfOk};
+ghost use Rattle.std.specs.Prelude.{◌≡◌, ℕ, false, true, OnOk, OnErr};
 ghost use Rattle.net_names.specs.Prefixes.{PrefixValue};
 ghost use Rattle.leak_round.specs.Touched.{touches, ases_in};
 
@@ -33,15 +33,6 @@ impl Touched {
     {
         self.pairs.push((prefix, asn))?;
         Ok(())
-    }
-
-    // The touched ASes of a prefix, perhaps with repeats.
-    pub(crate) fn ases(&self, alloc: Global, prefix: Prefix) -> Result<Vec<Asn>, NoMemory>
-        ensures { IfOk result (λ v. v.items ≡ ases_in self.now.pairs.items prefix) }
-    {
-        let mut ases = Vec::new(alloc);
-        self.put_ases(prefix, &mut ases)?;
-        Ok(ases)
     }
 
     // Puts the touched ASes of a prefix, perhaps with repeats, in place of those of a list.

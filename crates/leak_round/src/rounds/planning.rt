@@ -19,16 +19,17 @@ ghost use Rattle.leak_round.specs.Limits.{IsWithinLimits};
 ghost use Rattle.leak_round.specs.Plans.{IsOpenPlan, asn_edited, cells_before, course, kept_with, numbers_added, plan_after};
 ghost use Rattle.leak_round.specs.Rounds.{is_open, plan_of, pool_of, round_count, kept};
 ghost use Rattle.leak_round.specs.Touched.{touches};
+ghost use Rattle.leak_round.specs.declared.limits.TheConstants.{MOST_NUMBERS};
 ghost use Rattle.leak_round.specs.declared.rounds.TheConstants.{MOST_CELLS};
 
 use super::Rounds;
 use crate::changes::{Change, undo_changes};
 use crate::edited::drop_seeds;
+use crate::finding::Finding;
 use crate::own_seeds::fill_own_seeds;
-use crate::planner::Planner;
 use crate::plans::RoundsPlan;
 use crate::touched::Touched;
-use crate::whole_plans::{edit_if_any, plan_and_tell};
+use crate::whole_edit::{edit_if_any, find_and_tell};
 use dirty_recompute::PlannedRanks;
 use net_names::NoMemory;
 use policy_laws::{OriginStates, RoutePolicy};
@@ -79,7 +80,7 @@ impl Rounds {
         requires ranks { (a : ℕ) → IsRank (relation world.now.graph.now) a
             (rank_after ranks.now.ranks.now ranks.now.plan.now a) }
         requires known { (e : AnEdit) → option_copied edit ≡ Some e → IsEditOf (plan_of self.old) e }
-        requires within { (e : AnEdit) → option_copied edit ≡ Some e → IsEditWithin 64 e }
+        requires within { (e : AnEdit) → option_copied edit ≡ Some e → IsEditWithin MOST_NUMBERS e }
         requires limits { (e : AnEdit) → option_copied edit ≡ Some e → IsWithinLimits (edited (plan_of self.old) e) }
         requires announcers { (prefix : PrefixValue) (a : ℕ) →
             IsTrue (announces (plan_edited (option_copied edit) (plan_of self.old)) prefix a) →
@@ -115,7 +116,7 @@ impl Rounds {
         fill_own_seeds(alloc, &self.plan, &self.announced, &mut self.own)?;
         let before = self.pool.live();
         let edited = edit_if_any(alloc, &self.plan, &self.announced, edit, &mut self.pool)?;
-        let planner = Planner {
+        let finding = Finding {
             alloc,
             world,
             ranks,
@@ -126,7 +127,7 @@ impl Rounds {
             touched,
         };
         let (tables, pool) = (&mut self.tables, &mut self.pool);
-        match plan_and_tell(&planner, tables, &mut changes, pool, steps) {
+        match find_and_tell(&finding, tables, &mut changes, pool, steps) {
             Ok(done) => {
                 self.planned = true;
                 Ok(RoundsPlan {

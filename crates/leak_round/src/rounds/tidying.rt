@@ -14,7 +14,7 @@ ghost use Rattle.leak_round.specs.Rounds.{is_open, plan_of, pool_of, round_count
 ghost use Rattle.leak_round.specs.Overlays.{AreFew};
 ghost use Rattle.leak_round.specs.declared.rounds.TheConstants.{MOST_CELLS};
 
-use super::{MAX_CELLS, Rounds};
+use super::{MAX_CELLS, Rounds, closed_rounds};
 use crate::announced::announce_all;
 use crate::moving::{Moving, moved_rounds};
 use as_places::AsPlaces;
@@ -65,14 +65,7 @@ impl Rounds {
             from: &self.pool,
         };
         let tables = moved_rounds(&moving, &mut pool)?;
-        let made = Rounds {
-            pool,
-            plan,
-            announced,
-            own: Vec::new(alloc),
-            tables,
-            planned: false,
-        };
+        let made = closed_rounds(alloc, pool, plan, announced, tables);
         *self = made;
         Ok(())
     }

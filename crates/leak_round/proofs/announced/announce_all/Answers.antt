@@ -21,19 +21,15 @@ prefixes-smaller c =
 pub prefixes-preserved : goal.prefixes-preserved
 prefixes-preserved c =
     let plan = c.args.plan.now in
-    let xs = prefixes_of plan in
-    let i = c.prefixes.place in
-    let p = c.in-Some.prefix in
-    let at : slice_get xs i ≡ Some p = sym c.in-Some.ensures.value in
-    let ys = c.announce_prefix.new.announced.items in
+    let at : slice_get (prefixes_of plan) c.prefixes.place ≡ Some c.in-Some.prefix = sym c.in-Some.ensures.value in
     let old = c.prefixes.invariant in
     let now = c.in_ok-announce_prefix.ensures in
     record {
-      so_far = now.so_far;
-      put = at_next xs i p (λ q. (a : ℕ) → HasAnnounced plan ys q a) at now.whole (λ j q less is a h. now.more q a (old.put j q less is a h));
-      few = (let next = sum_next (λ (q : PrefixValue). sum_by (announced_count plan q) (announcers_of plan)) xs i p at in omega (arith, next, now.few, old.few));
-      within = (let within = slice_get_within xs i p at in omega (arith, within));
-      cells = (let next = sum_next (λ (q : PrefixValue). sum_by (announced_length plan q) (announcers_of plan)) xs i p at in omega (arith, next, now.cells, old.cells));
+      so_far = now.more.so_far;
+      put = at_next (prefixes_of plan) c.prefixes.place c.in-Some.prefix (λ q. (a : ℕ) → HasAnnounced plan c.announce_prefix.new.announced.items q a) at now.whole (λ j q less is a h. now.more.kept q a (old.put j q less is a h));
+      few = (let next = sum_next (λ (q : PrefixValue). sum_by (announced_count plan q) (announcers_of plan)) (prefixes_of plan) c.prefixes.place c.in-Some.prefix at in omega (arith, next, now.few, old.few));
+      within = (let within = slice_get_within (prefixes_of plan) c.prefixes.place c.in-Some.prefix at in omega (arith, within));
+      cells = (let next = sum_next (λ (q : PrefixValue). sum_by (announced_length plan q) (announcers_of plan)) (prefixes_of plan) c.prefixes.place c.in-Some.prefix at in omega (arith, next, now.cells, old.cells));
       limit = now.limit ∙ old.limit;
     }
 

@@ -25,22 +25,21 @@ pub announcers-preserved : goal.announcers-preserved
 announcers-preserved c =
     let plan = c.args.plan.now in
     let prefix = c.args.prefix in
-    let xs = announcers_of plan in
-    let i = c.announcers.place in
-    let a = c.in-Some.asn in
-    let at : slice_get xs i ≡ Some a = sym c.in-Some.ensures.value in
-    let ys = c.announce.new.announced.items in
+    let at : slice_get (announcers_of plan) c.announcers.place ≡ Some c.in-Some.asn = sym c.in-Some.ensures.value in
     let old = c.announcers.invariant in
     let now = c.in_ok-announce.ensures in
     record {
-      so_far = now.so_far;
-      more = λ p b h. now.more p b (old.more p b h);
-      put = at_next xs i a (HasAnnounced plan ys prefix) at now.this (λ j b less is h. now.more prefix b (old.put j b less is h));
-      few = (let next = sum_next (announced_count plan prefix) xs i a at in omega (arith, next, now.few, old.few));
-      within = (let within = slice_get_within xs i a at in omega (arith, within));
-      cells = (let next = sum_next (announced_length plan prefix) xs i a at in omega (arith, next, now.cells, old.cells));
+      so_far = now.more.so_far;
+      more = λ p b h. now.more.kept p b (old.more p b h);
+      put = at_next (announcers_of plan) c.announcers.place c.in-Some.asn (HasAnnounced plan c.announce.new.announced.items prefix) at now.this (λ j b less is h. now.more.kept prefix b (old.put j b less is h));
+      few = (let next = sum_next (announced_count plan prefix) (announcers_of plan) c.announcers.place c.in-Some.asn at in omega (arith, next, now.few, old.few));
+      within = (let within = slice_get_within (announcers_of plan) c.announcers.place c.in-Some.asn at in omega (arith, within));
+      cells = (let next = sum_next (announced_length plan prefix) (announcers_of plan) c.announcers.place c.in-Some.asn at in omega (arith, next, now.cells, old.cells));
       limit = now.limit ∙ old.limit;
     }
+
+pub returns-clause-more : goal.returns-clause-more
+returns-clause-more c = record { so_far = c.announcers.invariant.so_far; kept = c.announcers.invariant.more }
 
 pub returns-clause-whole : goal.returns-clause-whole
 returns-clause-whole c = λ a h.

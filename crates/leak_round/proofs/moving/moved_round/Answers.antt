@@ -8,7 +8,7 @@ use Rattle.route_choice.specs.RoundTables.{table_at, PutsTable}
 use Rattle.leak_round.specs.Tables.{kept_in}
 use Rattle.leak_round.proofs.Counting.{none_some}
 use Rattle.leak_round.proofs.Keeping.{rounds_full_kept, all_kept, room_left}
-use Rattle.leak_round.proofs.Rounding.{round_start, none_yet, round_more, round_full, round_fits}
+use Rattle.leak_round.proofs.Rounding.{round_start, none_yet, round_more, round_made, round_fits}
 use Rattle.leak_round.proofs.moving.moved_round.Goals as goal
 
 pub prefixes-init : goal.prefixes-init
@@ -39,7 +39,7 @@ moved_table-requires-clause-room c =
 
 pub push-requires : goal.push-requires
 push-requires c =
-    ap (table_at c.prefixes.tables) c.in_ok-moved.ensures.prefix
+    ap (table_at c.prefixes.tables) c.in_ok-moved.ensures.made.prefix_is
     ∙ none_yet (λ (q : PrefixValue) (f : ℕ → Option Entry). (a : ℕ) → f a ≡ kept_in c.args.moving.now.from.now c.args.moving.now.tables.now c.args.round q a) c.args.moving.now.plan.now c.args.pool.now
     c.prefixes.pool c.moved_table.new.pool c.prefixes.tables c.prefixes.tables c.prefixes.place c.in-Some.prefix c.in_ok-moved.moved c.prefixes.invariant.so_far c.in-Some.ensures.listed (sym c.in-Some.ensures.value)
 
@@ -53,12 +53,12 @@ prefixes-preserved c =
     let plan = c.args.moving.now.plan.now in
     let p = c.in-Some.prefix in
     let within = slice_get_within (prefixes_of plan) c.prefixes.place p (sym c.in-Some.ensures.value) in
-    let table = c.in_ok-moved.ensures in
+    let made = c.in_ok-moved.ensures.made in
     record {
       so_far = round_more (λ (q : PrefixValue) (f : ℕ → Option Entry). (a : ℕ) → f a ≡ kept_in c.args.moving.now.from.now c.args.moving.now.tables.now c.args.round q a) plan c.args.pool.now
           c.prefixes.pool c.moved_table.new.pool c.prefixes.tables c.push.new.self c.prefixes.place p c.in_ok-moved.moved c.prefixes.invariant.so_far c.in-Some.ensures.listed (sym c.in-Some.ensures.value)
-          table.keeps table.grows table.holds table.live table.same table.cells
-          (subst (λ q. PutsTable c.prefixes.tables c.push.new.self q c.in_ok-moved.moved) table.prefix c.in_ok-push.ensures.ok) c.in_ok-push.ensures.by_prefix table.small;
+          made.keeps made.grows made.holds made.live c.in_ok-moved.ensures.same made.cells
+          (subst (λ q. PutsTable c.prefixes.tables c.push.new.self q c.in_ok-moved.moved) made.prefix_is c.in_ok-push.ensures.ok) c.in_ok-push.ensures.by_prefix made.small;
       within = omega (arith, within);
     }
 
@@ -66,21 +66,6 @@ pub returns-clause-same : goal.returns-clause-same
 returns-clause-same c = round_fits (λ (q : PrefixValue) (f : ℕ → Option Entry). (a : ℕ) → f a ≡ kept_in c.args.moving.now.from.now c.args.moving.now.tables.now c.args.round q a) c.args.moving.now.plan.now c.args.pool.now
     c.prefixes.pool c.prefixes.tables c.prefixes.place c.prefixes.invariant.so_far c.prefix_at.ensures.listed (sym c.prefix_at.ensures.value ∙ c.in_default.is)
 
-pub returns-clause-full : goal.returns-clause-full
-returns-clause-full c = round_full (λ (q : PrefixValue) (f : ℕ → Option Entry). (a : ℕ) → f a ≡ kept_in c.args.moving.now.from.now c.args.moving.now.tables.now c.args.round q a) c.args.moving.now.plan.now c.args.pool.now
-    c.prefixes.pool c.prefixes.tables c.prefixes.place c.prefixes.invariant.so_far c.prefix_at.ensures.listed (sym c.prefix_at.ensures.value ∙ c.in_default.is)
-
-pub returns-clause-holds : goal.returns-clause-holds
-returns-clause-holds c = c.prefixes.invariant.so_far.holds
-
-pub returns-clause-cells : goal.returns-clause-cells
-returns-clause-cells c = c.prefixes.invariant.so_far.cells
-
-pub returns-clause-keeps : goal.returns-clause-keeps
-returns-clause-keeps c = c.prefixes.invariant.so_far.keeps
-
-pub returns-clause-grows : goal.returns-clause-grows
-returns-clause-grows c =
-    let h = c.prefixes.invariant.so_far.grows in
-    let few = c.prefixes.invariant.within in
-    record { cells = omega (arith, h.cells, few); counts = λ k. omega (arith, h.counts k, few); limit = h.limit }
+pub returns-clause-made : goal.returns-clause-made
+returns-clause-made c = round_made (λ (q : PrefixValue) (f : ℕ → Option Entry). (a : ℕ) → f a ≡ kept_in c.args.moving.now.from.now c.args.moving.now.tables.now c.args.round q a) c.args.moving.now.plan.now c.args.pool.now
+    c.prefixes.pool c.prefixes.tables c.prefixes.place c.prefixes.invariant.so_far c.prefix_at.ensures.listed (sym c.prefix_at.ensures.value ∙ c.in_default.is) c.prefixes.invariant.within

@@ -1,13 +1,14 @@
-use Rattle.std.proofs.Common.{◌≡◌, ℕ, ◌-◌, Option, List, [], ◌&&◌, nat_lt, length, option_map, refl, sym, ap, subst, ◌∙◌, arith}
+use Rattle.std.proofs.Common.{◌≡◌, ℕ, ◌-◌, Option, Some, None, unwrap_or, List, [], ◌&&◌, nat_lt, length, option_map, refl, sym, ap, subst, ◌∙◌, arith}
 use Rattle.std.specs.Prelude.{IsSome}
 use Rattle.net_names.specs.Numbers.{occurs}
 use Rattle.as_places.specs.Places.{PlacedAses}
 use Rattle.stability_laws.specs.declared.entry.Entry.{Entry}
 use Rattle.stability_laws.specs.Plans.{announced_path, leaks_in}
 use Rattle.stability_laws.specs.Rounds.{seed_given, seeds_of as seeds_in}
+use Rattle.route_choice.specs.declared.held.Held.{Held}
 use Rattle.route_choice.specs.Resources.{AreSeedsLive}
 use Rattle.route_choice.specs.Routings.{entry_of, seeds_of, table_routing}
-use Rattle.route_choice.specs.Tables.{held_at}
+use Rattle.route_choice.specs.Tables.{change_at, held_at}
 use Rattle.leak_round.specs.declared.holders.Holder.{Holder}
 use Rattle.leak_round.specs.Growth.{KeepsPaths}
 use Rattle.leak_round.specs.Moved.{asns_of, ArePassedOn}
@@ -77,34 +78,39 @@ returns-clause-same c = λ a.
     let kept = kept_at c.args.moving.now.from.now c.args.moving.now.tables.now c.args.round c.args.prefix c.args.table.now c.requires.at in
     ap (option_map (entry_of c.move_entries.new.pool)) (c.from_changes-table.ensures.entries a) ∙ c.move_entries.ensures.same a ∙ sym (kept a)
 
-pub returns-clause-holds : goal.returns-clause-holds
-returns-clause-holds c = λ k. omega (arith, c.move_entries.ensures.holds k, c.from_changes-table.ensures.uses k, c.reserve.ensures.kept.holds k)
+-- what is put in is what is held
+placed : (o : Option (Option Held)) (h : Held) → unwrap_or o None ≡ Some h → o ≡ Some (Some h)
+placed None h e = cc
+placed (Some x) h e = ap (λ (y : Option Held). Some y) e
 
-pub returns-clause-cells : goal.returns-clause-cells
-returns-clause-cells c =
+pub returns-clause-made : goal.returns-clause-made
+returns-clause-made c =
     let f = table_routing c.args.moving.now.from.now c.args.table.now in
-    let same : length c.as_slice-2.result.now ≡ length c.in_ok-holders.holders.items = ap (λ (xs : List Holder). length xs) c.as_slice-2.ensures.value in
-    holders_counted f c.in_ok-holders.holders.items c.in_ok-holders.ensures.holders (table_routing c.move_entries.new.pool c.from_changes-table.result)
-    (λ a. ap (option_map (entry_of c.move_entries.new.pool)) (c.from_changes-table.ensures.entries a) ∙ c.move_entries.ensures.same a) _
-    (omega (arith, c.move_entries.ensures.grows.cells, c.reserve.ensures.kept.live, same))
-
-pub returns-clause-grows : goal.returns-clause-grows
-returns-clause-grows c =
-    let f = table_routing c.args.moving.now.from.now c.args.table.now in
+    let new = c.move_entries.new.pool in
+    let t = c.from_changes-table.result in
     let kept = kept_at c.args.moving.now.from.now c.args.moving.now.tables.now c.args.round c.args.prefix c.args.table.now c.requires.at in
-    let few = few_hold f c.in_ok-holders.holders.items c.in_ok-holders.ensures.holders (few_table _ f kept (c.args.moving.now.few c.args.round c.args.prefix)) in
-    let same : length c.as_slice-2.result.now ≡ length c.in_ok-holders.holders.items = ap (λ (xs : List Holder). length xs) c.as_slice-2.ensures.value in
+    let holders = c.in_ok-holders.holders.items in
+    let few = few_hold f holders c.in_ok-holders.ensures.holders (few_table _ f kept (c.args.moving.now.few c.args.round c.args.prefix)) in
+    let same : length c.as_slice-2.result.now ≡ length holders = ap (λ (xs : List Holder). length xs) c.as_slice-2.ensures.value in
+    let held = λ (a : ℕ). ap (option_map (entry_of new)) (c.from_changes-table.ensures.entries a) ∙ c.move_entries.ensures.same a in
+    let grows = c.move_entries.ensures.grows in
+    let reserved = c.reserve.ensures.kept in
     record {
-      cells = omega (arith, c.move_entries.ensures.grows.cells, c.reserve.ensures.kept.live, same, few);
-      counts = λ k. omega (arith, c.move_entries.ensures.grows.counts k, c.reserve.ensures.kept.counts k, same, few);
-      limit = c.move_entries.ensures.grows.limit ∙ c.reserve.ensures.limit;
+      prefix_is = c.from_changes-table.ensures.prefix;
+      live = λ a h e. c.move_entries.ensures.live a h (placed (change_at c.move_entries.new.made a) h (sym (c.from_changes-table.ensures.entries a) ∙ e));
+      holds = λ k. omega (arith, c.move_entries.ensures.holds k, c.from_changes-table.ensures.uses k, reserved.holds k);
+      cells = holders_counted f holders c.in_ok-holders.ensures.holders (table_routing new t) held _ (omega (arith, grows.cells, reserved.live, same));
+      keeps = record {
+        live = λ k l. c.move_entries.ensures.keeps.live k (reserved.stays_live k l);
+        lists = λ k l. c.move_entries.ensures.keeps.lists k (reserved.stays_live k l) ∙ reserved.lists k l;
+      };
+      grows = record {
+        cells = omega (arith, grows.cells, reserved.live, same, few);
+        counts = λ k. omega (arith, grows.counts k, reserved.counts k, same, few);
+        limit = grows.limit ∙ c.reserve.ensures.limit;
+      };
+      small = λ k.
+          (let u = c.uses_are_counted.ensures k in
+          let n = few_table _ f kept (c.args.moving.now.few c.args.round c.args.prefix) u.ases u.distinct (λ a o. subst IsSome (held a) (routed new (held_at t a) (u.entries a o))) in
+          omega (arith, n, u.enough));
     }
-
-pub returns-clause-small : goal.returns-clause-small
-returns-clause-small c = λ k.
-    let f = table_routing c.args.moving.now.from.now c.args.table.now in
-    let kept = kept_at c.args.moving.now.from.now c.args.moving.now.tables.now c.args.round c.args.prefix c.args.table.now c.requires.at in
-    let u = c.uses_are_counted.ensures k in
-    let held = λ (a : ℕ). ap (option_map (entry_of c.move_entries.new.pool)) (c.from_changes-table.ensures.entries a) ∙ c.move_entries.ensures.same a in
-    let n = few_table _ f kept (c.args.moving.now.few c.args.round c.args.prefix) u.ases u.distinct (λ a o. subst IsSome (held a) (routed c.move_entries.new.pool (held_at c.from_changes-table.result a) (u.entries a o))) in
-    omega (arith, n, u.enough)

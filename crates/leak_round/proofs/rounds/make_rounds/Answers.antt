@@ -7,16 +7,26 @@ use Rattle.stability_laws.specs.Rounds.{seeds_of}
 use Rattle.stability_laws.specs.Stable.{IsStable}
 use Rattle.route_choice.specs.declared.round_tables.RoundTables.{RoundTables}
 use Rattle.route_choice.specs.RoundTables.{round_routing}
-use Rattle.leak_round.specs.Growth.{GrowsBy}
 use Rattle.stability_laws.specs.World.{setting_in}
 use Rattle.leak_round.specs.Tables.{kept_in, IsRound, AreRoundsFull}
 use Rattle.leak_round.proofs.Listing.{cost_more}
 use Rattle.leak_round.proofs.Keeping.{announced_kept, room_left, grows_on}
-use Rattle.leak_round.proofs.AllRounds.{AreRoundsSoFar, rounds_more}
+use Rattle.leak_round.proofs.AllRounds.{AreRoundsSoFar, rounds_made, rounds_more}
 use Rattle.leak_round.proofs.rounds.make_rounds.Goals as goal
 
-pub make_round-requires-clause-announced : goal.make_round-requires-clause-announced
-make_round-requires-clause-announced g c = announced_kept c.args.pool.now c.loop-past.pool c.loop-past.invariant.so_far.keeps c.args.building.now.plan.now c.args.building.now.announced.now c.requires.announced
+pub make_round-requires-clause-can : goal.make_round-requires-clause-can
+make_round-requires-clause-can g c =
+    let plan = c.args.building.now.plan.now in
+    let old = c.loop-past.invariant in
+    let is = c.as_slice-earlier.ensures.value in
+    let same = ap (λ (ts : List RoundTables). length ts) is in
+    record {
+      way = c.requires.way;
+      scratch_is = old.scratch;
+      announced = announced_kept c.args.pool.now c.loop-past.pool old.so_far.keeps plan c.args.building.now.announced.now c.requires.announced;
+      earlier_full = subst (AreRoundsFull c.loop-past.pool plan) (sym is) old.so_far.full;
+      number = omega (arith, same, old.count);
+    }
 
 pub make_round-requires-clause-room : goal.make_round-requires-clause-room
 make_round-requires-clause-room g c =
@@ -42,11 +52,11 @@ loop-past-preserved g c =
     let t = c.in_ok-next.next in
     let size = length (prefixes_of plan) in
     let is : c.as_slice-earlier.result.now ≡ xs = c.as_slice-earlier.ensures.value in
-    let now = c.in_ok-next.ensures in
+    let now = c.in_ok-next.ensures.made in
     let next = c.make_round.new.pool in
     let number : c.loop-past.past + 1 ≡ suc (length xs) = omega (arith, old.count) in
     let F : ℕ → List RoundTables → Type 0 = λ n ys. IsRound at plan n (kept_in c.loop-past.pool ys (length ys)) (round_routing next t) in
-    let stable : IsRound at plan (suc (length xs)) (kept_in c.loop-past.pool xs (length xs)) (round_routing next t) = coe 0 1 (i. F (number i) (is i)) now.stable in
+    let stable : IsRound at plan (suc (length xs)) (kept_in c.loop-past.pool xs (length xs)) (round_routing next t) = coe 0 1 (i. F (number i) (is i)) c.in_ok-next.ensures.stable in
     let more = rounds_more (λ before p f g. IsStable (at p) (seeds_of plan (suc before) p f) g) plan first c.loop-past.pool next xs t old.so_far now.keeps stable now.full now.holds now.cells in
     let items : c.push.new.self.items ≡ xs ++ t ∷ [] = c.in_ok-push.ensures.items in
     record {
@@ -57,22 +67,9 @@ loop-past-preserved g c =
       cost = cost_more c.args.steps.now c.loop-past.steps c.make_round.new.steps (2 * as_count c.args.building.now.world.now.graph.now * size) c.loop-past.past (c.loop-past.past + 1) old.cost c.make_round.ensures.cost (omega arith);
     }
 
-pub returns-clause-full : goal.returns-clause-full
-returns-clause-full g c = c.loop-past.invariant.so_far.full
-
-pub returns-clause-holds : goal.returns-clause-holds
-returns-clause-holds g c = c.loop-past.invariant.so_far.holds
-
-pub returns-clause-cells : goal.returns-clause-cells
-returns-clause-cells g c = c.loop-past.invariant.so_far.cells
-
-pub returns-clause-keeps : goal.returns-clause-keeps
-returns-clause-keeps g c = c.loop-past.invariant.so_far.keeps
-
-pub make_round-requires-clause-earlier : goal.make_round-requires-clause-earlier
-make_round-requires-clause-earlier g c = subst (AreRoundsFull c.loop-past.pool c.args.building.now.plan.now) (sym c.as_slice-earlier.ensures.value) c.loop-past.invariant.so_far.full
-
-pub returns-clause-grows : goal.returns-clause-grows
-returns-clause-grows g c =
-    let whole : c.loop-past.past ≡ c.args.rounds = omega arith in
-    subst (λ (n : ℕ). GrowsBy c.args.pool.now c.loop-past.pool (150000 * (n * length (prefixes_of c.args.building.now.plan.now)))) whole c.loop-past.invariant.grows
+pub returns-clause-made : goal.returns-clause-made
+returns-clause-made g c =
+    let at = setting_in g.P.RoutePolicy.meaning g.V.OriginStates.state_of c.args.building.now.world.now in
+    let plan = c.args.building.now.plan.now in
+    let last = c.loop-past.invariant in
+    rounds_made (λ before p f h. IsStable (at p) (seeds_of plan (suc before) p f) h) plan c.args.pool.now c.loop-past.pool c.loop-past.tables.items c.loop-past.past c.args.rounds last.so_far last.count last.grows (omega arith)

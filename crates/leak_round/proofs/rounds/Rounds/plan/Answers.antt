@@ -6,7 +6,7 @@ use Rattle.leak_round.specs.declared.announced.Announced.{Announced}
 use Rattle.leak_round.specs.Announced.{AreAnnounced}
 use Rattle.leak_round.specs.Edited.{announced_after, prefix_edited, seeds_after}
 use Rattle.leak_round.specs.OwnSeeds.{AreOwnSeeds, AreOthersKept}
-use Rattle.leak_round.specs.Planning.{CanPlan, AreRoundsPlanned}
+use Rattle.leak_round.specs.Found.{CanFind, AreFoundUpTo}
 use Rattle.leak_round.specs.Touched.{touches}
 use Rattle.leak_round.proofs.Keeping.{announced_kept, keeps_on, rounds_full_kept}
 use Rattle.leak_round.proofs.Opening.{few_laid, laid_differs, rounds_stable, steps_enough}
@@ -24,8 +24,8 @@ edit_if_any-requires-clause-counts g c =
     let r = c.args.self.now in
     λ k. (let few = counts_few r.pool r.plan r.announced.items r.tables.items r.limits r.announcements r.full r.few (r.closed c.requires.closed) c.requires.few_cells k in omega (arith, few))
 
-pub plan_and_tell-requires-clause-can : goal.plan_and_tell-requires-clause-can
-plan_and_tell-requires-clause-can g c =
+pub find_and_tell-requires-clause-can : goal.find_and_tell-requires-clause-can
+find_and_tell-requires-clause-can g c =
     let r = c.args.self.now in
     let w = setting_in g.P.RoutePolicy.meaning g.V.OriginStates.state_of c.args.world.now in
     let graph = c.args.world.now.graph.now in
@@ -35,15 +35,15 @@ plan_and_tell-requires-clause-can g c =
     let next = c.edit_if_any.new.pool in
     record {
       ranks = c.requires.ranks;
-      can = subst (λ (xs : List Announced). CanPlan w graph touched r.plan (seeds_after edited r.plan) xs (announced_after edited xs) next r.tables.items) (sym c.as_slice.ensures.value)
+      can = subst (λ (xs : List Announced). CanFind w graph touched r.plan (seeds_after edited r.plan) xs (announced_after edited xs) next r.tables.items) (sym c.as_slice.ensures.value)
           (can_start r.plan r.announced.items r.pool next r.limits r.announcements (option_copied c.args.edit) edited made w graph touched r.tables.items r.full (λ p b. refl) c.requires.announcers c.requires.entries c.requires.right);
       held = λ k. omega (arith, made.holds k, r.held k);
       few = r.few;
       room = changes_room r.pool r.plan r.announced.items r.tables.items r.limits r.announcements r.full r.few (r.closed c.requires.closed) c.requires.few_cells next (c.edit_if_any.ensures.limit ∙ r.cells) (omega (arith, made.cells, made.few)) made.counts;
     }
 
-pub invariant_of-planner : goal.invariant_of-planner
-invariant_of-planner g c =
+pub invariant_of-finding : goal.invariant_of-finding
+invariant_of-finding g c =
     let r = c.args.self.now in
     record {
       no_cycle = c.requires.no_cycle;
@@ -58,9 +58,9 @@ invariant_of-self-in-Ok g c =
     let r = c.args.self.now in
     let made = c.in_ok-edited.ensures.made in
     let next = c.edit_if_any.new.pool in
-    let pool = c.plan_and_tell.new.pool in
+    let pool = c.find_and_tell.new.pool in
     let now = c.in-Ok.ensures in
-    let all = now.planned in
+    let all = now.found in
     let keeps = keeps_on r.pool next pool made.keeps all.paid.keeps in
     record {
       announcements = announced_kept r.pool pool keeps r.plan r.announced.items r.announcements;
@@ -83,20 +83,20 @@ returns-in-Ok g c =
     let after = seeds_after edited r.plan in
     let made = c.in_ok-edited.ensures.made in
     let next = c.edit_if_any.new.pool in
-    let new = c.plan_and_tell.new in
+    let new = c.find_and_tell.new in
     let pool = new.pool in
     let now = c.in-Ok.ensures in
-    let all = now.planned in
+    let all = now.found in
     let keeps = keeps_on r.pool next pool made.keeps all.paid.keeps in
     let full = now.same.full pool r.plan (rounds_full_kept r.pool pool keeps r.plan r.tables.items r.full) in
-    let more = subst (AreRoundsPlanned r.plan new.changes.items) (sym now.same.count) all.whole in
+    let more = subst (AreFoundUpTo r.plan new.changes.items) (sym now.same.count) all.whole in
     record {
       «open» = record {
         planned = refl;
         holds = λ k. omega (arith, all.paid.holds k, made.holds k, r.closed c.requires.closed k, now.same.uses k);
-        changes = all.planned.changes;
-        differs = laid_differs w graph touched r.plan after pool new.tables.items new.changes.items c.args.steps.now new.steps all.planned more full;
-        few = few_laid w graph touched r.plan after pool new.tables.items new.changes.items c.args.steps.now new.steps all.planned more full (omega (arith, c.as_count-count.ensures.value, c.as_count-count.ensures.few)) (λ p b. refl);
+        changes = all.found.changes;
+        differs = laid_differs w graph touched r.plan after pool new.tables.items new.changes.items c.args.steps.now new.steps all.found more full;
+        few = few_laid w graph touched r.plan after pool new.tables.items new.changes.items c.args.steps.now new.steps all.found more full (omega (arith, c.as_count-count.ensures.value, c.as_count-count.ensures.few)) (λ p b. refl);
         edited = edited_kept next pool r.plan edited all.paid.keeps made.seeds;
         others = subst (λ (xs : List Announced). AreOthersKept (prefix_edited edited) xs (announced_after edited xs)) c.deref-2.ensures.value c.in_ok-edited.ensures.others;
         own = c.in_ok-edited.ensures.own;
@@ -108,8 +108,8 @@ returns-in-Ok g c =
       edited = made.plan_is;
       asn = made.asn_is;
       numbers = made.numbers_is;
-      stable = rounds_stable w graph touched r.plan after pool new.tables.items new.changes.items c.args.steps.now new.steps all.planned more full (prefixes_stay r.plan r.announced.items r.pool next r.limits r.announcements (option_copied c.args.edit) edited made);
-      enough = steps_enough w graph touched r.plan after pool new.tables.items new.changes.items c.args.steps.now new.steps all.planned more full;
+      stable = rounds_stable w graph touched r.plan after pool new.tables.items new.changes.items c.args.steps.now new.steps all.found more full (prefixes_stay r.plan r.announced.items r.pool next r.limits r.announcements (option_copied c.args.edit) edited made);
+      enough = steps_enough w graph touched r.plan after pool new.tables.items new.changes.items c.args.steps.now new.steps all.found more full;
       plan = refl;
       rounds = now.same.count;
       kept = kept_same r.plan r.pool pool r.tables.items new.tables.items keeps now.same r.full;
@@ -117,24 +117,24 @@ returns-in-Ok g c =
     }
 
 pub undo_changes-requires : goal.undo_changes-requires
-undo_changes-requires g c = λ k. omega (arith, c.plan_and_tell.ensures.cut.holds k)
+undo_changes-requires g c = λ k. omega (arith, c.find_and_tell.ensures.cut.holds k)
 
 pub drop_seeds-requires : goal.drop_seeds-requires
-drop_seeds-requires g c = λ k. omega (arith, c.undo_changes.ensures.holds k, c.plan_and_tell.ensures.cut.holds k, c.in_ok-edited.ensures.made.holds k)
+drop_seeds-requires g c = λ k. omega (arith, c.undo_changes.ensures.holds k, c.find_and_tell.ensures.cut.holds k, c.in_ok-edited.ensures.made.holds k)
 
 pub invariant_of-self-in-Err : goal.invariant_of-self-in-Err
 invariant_of-self-in-Err g c =
     let r = c.args.self.now in
     let made = c.in_ok-edited.ensures.made in
-    let cut = c.plan_and_tell.ensures.cut in
-    let same = c.plan_and_tell.ensures.same in
+    let cut = c.find_and_tell.ensures.cut in
+    let same = c.find_and_tell.ensures.same in
     let pool = c.drop_seeds.new.pool in
-    let undone = all_undone r.pool c.edit_if_any.new.pool c.plan_and_tell.new.pool c.undo_changes.new.pool pool c.plan_and_tell.new.changes.items c.in_ok-edited.edited made.keeps made.holds cut c.undo_changes.ensures.back c.undo_changes.ensures.holds c.drop_seeds.ensures.back c.drop_seeds.ensures.holds in
-    let holds = holds_stay r.pool pool r.plan r.announced.items r.tables.items c.plan_and_tell.new.tables.items undone same (r.closed c.requires.closed) in
+    let undone = all_undone r.pool c.edit_if_any.new.pool c.find_and_tell.new.pool c.undo_changes.new.pool pool c.find_and_tell.new.changes.items c.in_ok-edited.edited made.keeps made.holds cut c.undo_changes.ensures.back c.undo_changes.ensures.holds c.drop_seeds.ensures.back c.drop_seeds.ensures.holds in
+    let holds = holds_stay r.pool pool r.plan r.announced.items r.tables.items c.find_and_tell.new.tables.items undone same (r.closed c.requires.closed) in
     record {
-      announcements = announced_stay r.pool pool r.plan r.announced.items r.tables.items c.plan_and_tell.new.tables.items undone same (r.closed c.requires.closed) r.announcements;
+      announcements = announced_stay r.pool pool r.plan r.announced.items r.tables.items c.find_and_tell.new.tables.items undone same (r.closed c.requires.closed) r.announcements;
       own_seeds = subst (λ (xs : List Announced). AreOwnSeeds r.plan xs c.fill_own_seeds.new.own.items) c.deref.ensures.value c.fill_own_seeds.ensures;
-      full = full_stay r.pool pool r.plan r.announced.items r.tables.items c.plan_and_tell.new.tables.items undone same (r.closed c.requires.closed) r.full;
+      full = full_stay r.pool pool r.plan r.announced.items r.tables.items c.find_and_tell.new.tables.items undone same (r.closed c.requires.closed) r.full;
       held = λ k. omega (arith, holds k);
       closed = λ shut k. holds k;
       limits = r.limits;
@@ -146,14 +146,14 @@ pub returns-in-Err-clause-kept : goal.returns-in-Err-clause-kept
 returns-in-Err-clause-kept g c =
     let r = c.args.self.now in
     let made = c.in_ok-edited.ensures.made in
-    let cut = c.plan_and_tell.ensures.cut in
-    let same = c.plan_and_tell.ensures.same in
+    let cut = c.find_and_tell.ensures.cut in
+    let same = c.find_and_tell.ensures.same in
     let pool = c.drop_seeds.new.pool in
-    let undone = all_undone r.pool c.edit_if_any.new.pool c.plan_and_tell.new.pool c.undo_changes.new.pool pool c.plan_and_tell.new.changes.items c.in_ok-edited.edited made.keeps made.holds cut c.undo_changes.ensures.back c.undo_changes.ensures.holds c.drop_seeds.ensures.back c.drop_seeds.ensures.holds in
-    kept_stays r.pool pool r.plan r.announced.items r.tables.items c.plan_and_tell.new.tables.items undone same (r.closed c.requires.closed)
+    let undone = all_undone r.pool c.edit_if_any.new.pool c.find_and_tell.new.pool c.undo_changes.new.pool pool c.find_and_tell.new.changes.items c.in_ok-edited.edited made.keeps made.holds cut c.undo_changes.ensures.back c.undo_changes.ensures.holds c.drop_seeds.ensures.back c.drop_seeds.ensures.holds in
+    kept_stays r.pool pool r.plan r.announced.items r.tables.items c.find_and_tell.new.tables.items undone same (r.closed c.requires.closed)
 
 pub returns-in-Err-clause-rounds : goal.returns-in-Err-clause-rounds
-returns-in-Err-clause-rounds g c = c.plan_and_tell.ensures.same.count
+returns-in-Err-clause-rounds g c = c.find_and_tell.ensures.same.count
 
 pub invariant_of-self-in-Break-branch-3 : goal.invariant_of-self-in-Break-branch-3
 invariant_of-self-in-Break-branch-3 g c =
