@@ -17,7 +17,9 @@ use Rattle.stability_laws.specs.Book.{PolicyBook, policy_at, with_policy}
 use Rattle.stability_laws.proofs.Leaking.{occurs_more}
 use Rattle.sweep.specs.Trials.{changed, with_kinds}
 use Rattle.sweep.proofs.KindChanges.{changed_to}
+use Rattle.sweep.proofs.Lists.{firsts}
 use Rattle.sim_core.specs.Loaded.{is_other}
+use Rattle.trial_world.specs.Tables.{HadKinds}
 
 pub is_key : (q a : ℕ) → eq_by_cmp nat_cmp q a ≡ (a == q)
 is_key q a = unsigned_tied q a ∙ nat_eq_equiv.symm q a
@@ -115,3 +117,17 @@ pub room_back : (s t : set.FinSet nat_cmp) (f : ℕ → Kind) (cs back : List (�
 room_back s t f cs back is same all = subst (λ (xs : List (ℕ × Kind)). All (λ c. IsTrue (set.contains t c.0)) xs) (sym is) (λ k d less.
     let low : k < length cs = omega (arith, less, len_of f cs) in
     (λ i. set.contains (same i) (first_of f cs k d low i)) ∙ all k d low)
+
+-- ---- kinds that were had
+each_had : (f : ℕ → Kind) (xs : List ℕ) (k : ℕ) (d : ℕ × Kind) → k < length (with_kinds f xs) → (get_or (with_kinds f xs) k d).1 ≡ f (get_or (with_kinds f xs) k d).0
+each_had f [] k d less = absurd (omega (arith, less))
+each_had f (x ∷ xs) zero d less = refl
+each_had f (x ∷ xs) (suc k) d less = each_had f xs k d (omega (arith, less))
+
+-- the ASes of changes that are made had the kinds of before, and all others have theirs
+pub had_kinds : (old mid new : PolicyBook Kind) (cs before : List (ℕ × Kind)) → before ≡ with_kinds (policy_at old) (map (λ (c : ℕ × Kind). c.0) cs) → ((a : ℕ) → policy_at mid a ≡ policy_at old a) → ((a : ℕ) → policy_at new a ≡ changed (policy_at mid) cs a) → HadKinds old new before
+had_kinds old mid new cs before is same given = record {
+  had = subst (All (λ c. c.1 ≡ policy_at old c.0)) (sym is) (each_had (policy_at old) (map (λ (c : ℕ × Kind). c.0) cs));
+  others = λ a away. given a ∙ changed_from (policy_at mid) (policy_at old) cs same a
+      ∙ changed_away (policy_at old) cs a (sym (ap (occurs a) (ap (map (λ (c : ℕ × Kind). c.0)) is ∙ firsts (policy_at old) (map (λ (c : ℕ × Kind). c.0) cs))) ∙ away);
+}

@@ -8,5 +8,7 @@ mod TrialWorlds
 mod RowCounts
 mod TrialNumbers
 mod Watched
+mod TrialTables
+mod TouchedAround
 mod Following
 mod Lines

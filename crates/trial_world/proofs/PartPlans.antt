@@ -1,5 +1,5 @@
 -- The part of a plan that an address and the rounds up to one depend on.
-use Rattle.std.proofs.Common.{◌≡◌, ℕ, ◌+◌, ◌<◌, ◌≤◌, Bool, true, false, ◌||◌, ◌&&◌, ◌==◌, is_some, cond, Option, None, Some, Result, Ok, Err, OnOk, List, length, take, refl, sym, ap, ◌∙◌, arith, eqb-true, true≢false}
+use Rattle.std.proofs.Common.{◌≡◌, ℕ, ◌+◌, ◌<◌, ◌≤◌, Bool, true, false, ◌||◌, ◌&&◌, ◌==◌, is_some, cond, Option, None, Some, Result, Ok, Err, OnOk, OnErr, List, length, take, refl, sym, ap, ◌∙◌, arith, eqb-true, true≢false}
 use Rattle.std.specs.Prelude.{slice_get, slice_index}
 use Rattle.std.specs.FinMap as fin
 use Rattle.std.specs.Ordering.{eq_by_cmp}
@@ -28,6 +28,10 @@ use Rattle.trial_world.proofs.Subsets.{keys_le, len_le}
 pub on_ok : {A E P Q : Type 0} (r : Result A E) → (P → Q) → OnOk r P → OnOk r Q
 on_ok (Ok x) f p = f p
 on_ok (Err e) f p = tt
+
+pub on_err : {A E P : Type 0} (r : Result A E) → P → OnErr r P
+on_err (Ok x) p = tt
+on_err (Err e) p = p
 
 module _ (whole : Plan) (prefix : PrefixValue) (asn : ℕ) (path : List ℕ) (sound : IsSound whole) (at : announced_path whole prefix asn ≡ Some path) where
   pub first_is : announcer_of path ≡ asn

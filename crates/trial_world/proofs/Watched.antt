@@ -10,7 +10,7 @@ use Rattle.route_choice.specs.Routings.{table_routing}
 use Rattle.stability_laws.specs.Plans.{IsSound, Plan, announces, has_prefix}
 use Rattle.stability_laws.specs.declared.entry.Entry.{Entry}
 use Rattle.data_trace.specs.Hops.{second_of}
-use Rattle.as_graph.specs.Topology.{Topology, has}
+use Rattle.as_graph.specs.Topology.{Topology}
 use Rattle.origin_validation.specs.Judging.{state_of}
 use Rattle.policy_kinds.specs.Kinds.{kind_policy}
 use Rattle.policy_kinds.specs.declared.kind.Kind.{Kind}
@@ -19,8 +19,9 @@ use Rattle.stability_laws.specs.Book.{PolicyBook}
 use Rattle.stability_laws.specs.Laws.{PathsGoOn}
 use Rattle.stability_laws.specs.Rounds.{AreRounds}
 use Rattle.stability_laws.specs.World.{setting}
-use Rattle.data_trace.specs.Indexes.{has_as}
-use Rattle.data_trace.specs.declared.index.WatchIndex.{WatchIndex}
+use Rattle.leak_round.specs.Rounds.{kept, plan_of, pool_of}
+use Rattle.leak_round.specs.declared.rounds.Rounds.{Rounds}
+use Rattle.sim_core.specs.Watching.{GoesOnInside}
 use Rattle.sim_core.proofs.Hops.{goes_on_inside}
 use Rattle.trial_world.proofs.LoneAses.{off}
 
@@ -42,9 +43,15 @@ tables_inside there pool tables whole part now each full more go_on p a b free s
     by true e = go_on p a b e (off (announces part p a) (λ h. true≢false (sym (more p a h) ∙ free))) (ap second_of (sym (each p a)) ∙ second)
     by false e = absurd (let none : None ≡ Some b = sym (ap second_of (no_table pool tables p (full p ∙ e) a)) ∙ second in cc)
 
--- in the last round the paths go on to ASes that the index has
-pub inside_part : PathsGoOn kind_policy → (g : Topology) (book : PolicyBook Kind) (payloads : Payloads) (index : WatchIndex) → ((a : ℕ) → has_as index a ≡ has g a) → (plan : Plan) → IsSound plan → (round : ℕ) → 1 ≤ round → (family : ℕ → PrefixValue → ℕ → Option Entry)
-    → AreRounds (λ p. setting kind_policy g book (state_of payloads p)) plan round family → (p : PrefixValue) (a b : ℕ) → IsTrue (has_prefix plan p) → announces plan p a ≡ false → second_of (family round p a) ≡ Some b → has_as index b ≡ true
-inside_part law g book payloads index listed plan sound zero some family are p a b known free second = absurd (omega (arith, some))
-inside_part law g book payloads index listed plan sound (suc before) some family are p a b known free second =
-    listed b ∙ goes_on_inside law g book payloads plan (suc before) family sound are before (omega arith) p a b known free second
+-- in the last round the paths go on to ASes of the graph
+pub inside_part : PathsGoOn kind_policy → (g : Topology) (book : PolicyBook Kind) (payloads : Payloads) (plan : Plan) → IsSound plan → (round : ℕ) → 1 ≤ round → (family : ℕ → PrefixValue → ℕ → Option Entry)
+    → AreRounds (λ p. setting kind_policy g book (state_of payloads p)) plan round family → GoesOnInside g plan (family round)
+inside_part law g book payloads plan sound zero some family are = absurd (omega (arith, some))
+inside_part law g book payloads plan sound (suc before) some family are = goes_on_inside law g book payloads plan (suc before) family sound are before (omega arith)
+
+-- the tables of a round have the routings that are kept of it, and one for each prefix of the plan
+pub seen : (pool : PathPool) (tables : RoundTables) (rounds : Rounds) (round : ℕ) (plan : Plan) → pool ≡ pool_of rounds → ((p : PrefixValue) (a : ℕ) → round_routing (pool_of rounds) tables p a ≡ kept rounds round p a)
+    → ((p : PrefixValue) → is_some (table_at tables p) ≡ has_prefix (plan_of rounds) p) → plan_of rounds ≡ plan
+    → ((p : PrefixValue) (a : ℕ) → round_routing pool tables p a ≡ kept rounds round p a) × ((p : PrefixValue) → is_some (table_at tables p) ≡ has_prefix plan p)
+seen pool tables rounds round plan is routing prefixes plans =
+    ((λ p a. ap (λ (x : PathPool). round_routing x tables p a) is ∙ routing p a), λ p. prefixes p ∙ ap (λ (t : Plan). has_prefix t p) plans)

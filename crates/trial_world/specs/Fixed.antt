@@ -6,15 +6,17 @@ use Rattle.net_names.specs.Addresses.{AddrValue}
 use Rattle.net_names.specs.Coverage.{holds}
 use Rattle.net_names.specs.Numbers.{occurs}
 use Rattle.net_names.specs.Prefixes.{PrefixValue}
-use Rattle.as_graph.specs.Hierarchy.{HasNoProviderCycle}
+use Rattle.as_graph.specs.Hierarchy.{HasNoProviderCycle, IsRank}
 use Rattle.as_graph.specs.Topology.{Topology, has, relation, unmarked}
+use Rattle.policy_kinds.specs.Kinds.{label}
+use Rattle.rank_order.specs.Plans.{IsLastPlan, rank_after}
 use Rattle.three_pass.specs.Courses.{IsCourse}
 use Rattle.stability_laws.specs.Plans.{Plan, announced_path, announcers_of, announces, has_prefix, leaks_in}
 use Rattle.leak_round.specs.Limits.{IsWithinLimits}
 use Rattle.data_trace.specs.Indexes.{IsIndexOf}
 use Rattle.sim_core.specs.Bases.{base_world}
 use Rattle.sim_core.specs.Lent.{IsGraphOf}
-use Rattle.sim_core.specs.World.{World}
+use Rattle.sim_core.specs.World.{World, kind_at}
 use Rattle.trial_world.specs.declared.fixed.Fixed.{Fixed}
 
 -- one plan has no other announcements than another, and they are of prefixes that hold the address
@@ -45,16 +47,21 @@ pub record AreLone (g : Topology) (plan : Plan) (lone : List ℕ) : Type 0 where
 abbrev pub world_of : Fixed → World
 world_of f = base_world f.base.now
 
+-- the number of the group of an AS's policy at the start
+abbrev pub label_in : Fixed → ℕ → ℕ
+label_in f a = label (kind_at (world_of f) a)
+
 -- what is made for a line is right
 pub record IsFixed (f : Fixed) : Type 0 where
   pub graph : IsGraphOf (world_of f) f.graph.now
   pub payloads : f.states.payloads ≡ (world_of f).payloads
   pub course : IsCourse f.graph.now f.course
   pub no_cycle : HasNoProviderCycle (relation f.graph.now)
+  pub last : IsLastPlan f.ranks f.rank_plan
+  pub ranks_are : (a : ℕ) → IsRank (relation f.graph.now) a (rank_after f.ranks f.rank_plan a)
   pub plan : IsPlanFor f.addr f.round (world_of f).plan f.plan
   pub small : IsWithinLimits f.plan
   pub from : 1 ≤ f.round
   pub to : f.round ≤ 4
-  pub label : ℕ → ℕ
-  pub index : IsIndexOf f.graph.now label f.index
+  pub index : IsIndexOf f.graph.now (label_in f) f.index
   pub lone : AreLone f.graph.now (world_of f).plan f.lone.items

@@ -1,4 +1,5 @@
 pub mod Sweeps
 pub mod Laws
 pub mod Fixed
+pub mod Tables
 pub mod Trials

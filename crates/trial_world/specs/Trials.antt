@@ -26,6 +26,7 @@ use Rattle.sweep.specs.declared.trial.Fate.{Fate}
 use Rattle.sweep.specs.declared.trial.Fate.TheVariants as fate
 use Rattle.trial_world.specs.Fixed.{IsFixed, world_of}
 use Rattle.trial_world.specs.Sweeps.{AreNumbers, end_of, with_kinds}
+use Rattle.trial_world.specs.Tables.{AreTablesIn}
 use Rattle.trial_world.specs.declared.fixed.Fixed.{Fixed}
 use Rattle.trial_world.specs.declared.trial.LineTrial.{LineTrial}
 
@@ -68,4 +69,5 @@ AreCounted f book watch gone = AreNumbers (with_kinds (world_of f) (policy_at bo
 -- what is kept of a trial is right
 pub record IsRight (t : LineTrial) : Type 0 where
   pub fixed : IsFixed t.fixed
-  pub numbers : AreCounted t.fixed t.book t.watch t.gone
+  pub tables : AreTablesIn t.fixed t.book t.tables
+  pub gone : t.gone ≡ plain_in t.fixed.lone.items t.book

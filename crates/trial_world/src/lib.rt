@@ -2,8 +2,9 @@
 //!
 //! [`is_inside`] tells whether a line of a sweep is in a world, and [`put_sweep`] appends the text of a line that is. For
 //! a line it keeps what the line asks for alone: the announcements of the prefixes that hold its address, the rounds up to
-//! its round, and one watch. Each world of a trial makes the rounds and the watch anew. The laws say that a line has one
-//! text, and that its numbers are those that a report over the world of the trial counts.
+//! its round, and one watch. From one world of a trial to the next the rounds and the watch are edited where few ASes
+//! change, and made anew where many do. The laws say that a line has one text, and that its numbers are those that a report
+//! over the world of the trial counts.
 #![tactic(auto)]
 
 mod fixed;
@@ -13,8 +14,9 @@ mod laws;
 mod lone;
 mod parts;
 mod sweeping;
+mod tables;
+mod touching;
 mod trial;
-mod watching;
 
 pub use inside::is_inside;
 pub use laws::{one_swept_text, swept_numbers_are_reported};

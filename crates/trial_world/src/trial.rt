@@ -9,21 +9,21 @@ ghost use Rattle.trial_world.specs.Trials.{IsRight, gone_with as gone_with_fate,
 use crate::fixed::Fixed;
 use crate::kinds::{copy_at, give_all, kinds_of, room_for};
 use crate::lone::plain_count;
-use crate::watching::watch_by;
-use data_trace::{End, Watch, Which};
+use crate::tables::{Tables, tables_by};
+use data_trace::{End, Which};
 use net_names::{Addr, Asn, NoMemory};
 use policy_kinds::Kind;
 use rank_order::{Ranks, by_rank};
-use stability_laws::Book;
+use stability_laws::{Book, plans_are_sound, right_follows};
 use sweep::{Fate, Trial};
 
-/// A trial of a line: the kind of each AS now, the watch of the line's round and address, and how many of the ASes at the
-/// start are none of this world.
+/// A trial of a line: the kind of each AS now, the tables of the line's rounds with the watch for its address, and how many
+/// of the ASes at the start are none of this world.
 #[derive(Drop)]
 pub struct LineTrial<'a> {
     pub(crate) fixed: Fixed<'a>,
     pub(crate) book: Book<Kind>,
-    pub(crate) watch: Watch,
+    pub(crate) tables: Tables,
     pub(crate) gone: u64,
 }
 
@@ -59,12 +59,12 @@ pub fn trial_of<'a>(fixed: Fixed<'a>, ranks: &Ranks) -> Result<LineTrial<'a>, No
     // Policies are sought at the places of ASes by rank first, as propagation goes along them.
     let order = by_rank(alloc, fixed.graph, ranks)?;
     let book = copy_at(alloc, fixed.base.book(), order.as_slice())?;
-    let watch = watch_by(&fixed, &book)?;
+    let tables = tables_by(&fixed, &book)?;
     let gone = plain_count(fixed.lone.as_slice(), &book);
     Ok(LineTrial {
         fixed,
         book,
-        watch,
+        tables,
         gone,
     })
 }
@@ -88,7 +88,7 @@ impl<'a> Trial for LineTrial<'a> {
 
     ghost kinds = { λ t. policy_at t.book };
 
-    ghost numbers = { λ t round addr. number_in t.watch t.gone };
+    ghost numbers = { λ t round addr. number_in t.tables.watch t.gone };
 
     ghost AreNumbers = { λ b kinds round addr. AreNumbers (with_kinds b.0 kinds) round addr };
 
@@ -107,8 +107,10 @@ impl<'a> Trial for LineTrial<'a> {
     }
 
     fn count(&self, _round: u32, _addr: Addr, fate: Fate) -> u64 {
+        right_follows::<Kind>();
+        plans_are_sound(&self.fixed.plan);
         let gone = gone_with(&fate, self.gone);
-        let count = self.watch.count(Which::All, end_of(fate));
+        let count = self.tables.watch.count(Which::All, end_of(fate));
         count.saturating_sub(gone)
     }
 
@@ -116,14 +118,14 @@ impl<'a> Trial for LineTrial<'a> {
         let before = kinds_of(self.fixed.alloc, &self.book, changes)?;
         room_for(&mut self.book, changes)?;
         give_all(&mut self.book, changes);
-        match watch_by(&self.fixed, &self.book) {
-            Ok(watch) => {
-                self.watch = watch;
+        let had = before.as_slice();
+        match self.tables.follow(&self.fixed, &self.book, had) {
+            Ok(()) => {
                 self.gone = plain_count(self.fixed.lone.as_slice(), &self.book);
                 Ok(())
             }
             Err(_) => {
-                give_all(&mut self.book, before.as_slice());
+                give_all(&mut self.book, had);
                 Err(NoMemory)
             }
         }

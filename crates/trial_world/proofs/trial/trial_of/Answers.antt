@@ -1,14 +1,15 @@
-use Rattle.std.proofs.Common.{◌∙◌, ap, sym, subst}
+use Rattle.std.proofs.Common.{◌∙◌, ap}
 use Rattle.net_names.specs.Numbers.{occurs}
 use Rattle.trial_world.specs.Fixed.{world_of}
-use Rattle.trial_world.specs.Trials.{AreCounted, plain_in}
+use Rattle.trial_world.specs.Trials.{plain_in}
 use Rattle.trial_world.proofs.TrialWorlds.{copied_kinds}
 use Rattle.trial_world.proofs.trial.trial_of.Goals as goal
 
 pub returns-clause-right : goal.returns-clause-right
 returns-clause-right c = record {
   fixed = c.requires;
-  numbers = subst (AreCounted c.args.fixed c.in_ok-book.book c.in_ok-watch.watch) (sym (c.plain_count-gone.ensures ∙ ap (λ xs. plain_in xs c.in_ok-book.book) c.as_slice-2.ensures.value)) c.in_ok-watch.ensures;
+  tables = c.in_ok-tables.ensures;
+  gone = c.plain_count-gone.ensures ∙ ap (λ xs. plain_in xs c.in_ok-book.book) c.as_slice-2.ensures.value;
 }
 
 pub returns-clause-kinds : goal.returns-clause-kinds
