@@ -1,5 +1,6 @@
 -- What is kept belongs to the edited world, and a refused edit leaves all as it was.
 use Rattle.std.proofs.Common.{◌≡◌, ◌≤◌, ℕ, true, nat_le, List, None, option_map, Result, Ok, Err, IfOk, IfErr, OnOk, OnErr, unwrap_or, refl, sym, ap, subst, ◌∙◌, arith}
+use Rattle.std.specs.Ordering.{nat_cmp}
 use Rattle.std.proofs.lemmas.Bool.{eq-eqb, eqb-true}
 use Rattle.std.proofs.lemmas.Bool.Decides.{nat_tests}
 use Rattle.std.specs.FinMap as fin
@@ -12,6 +13,7 @@ use Rattle.roa_table.specs.Sets.{count}
 use Rattle.leak_round.specs.Changes.{HasChanges}
 use Rattle.leak_round.specs.Rounds.{kept as kept_rounds, plan_of, round_count}
 use Rattle.leak_round.specs.declared.rounds.Rounds.{Rounds}
+use Rattle.policy_kinds.specs.declared.kind.Kind.{Kind}
 use Rattle.rank_order.specs.Ranks.{rank_at}
 use Rattle.scenario_text.specs.declared.acts.Edit.{Edit}
 use Rattle.sim_core.specs.Editing.{IsChanged, IsDone, IsEdited, IsSmall, IsUnchanged, IsUndone, KeepsRest, ground_of}
@@ -74,6 +76,17 @@ changed_done old mid new e routes world rest allowed is =
     edit_done old new e routes (changed_world mid new is.graph is.vrps is.book is.watched is.plan is.count ∙ world) allowed
     (subst (λ (g : Ground). BelongTo g new.ranks new.rounds new.watches.items) (λ i. record { graph = sym is.graph i; payloads = sym is.vrps i; book = sym is.book i }) is.belong)
     (subst (λ (r : Rounds). HasChanges (plan_of new.rounds) (round_count new.rounds) (kept_rounds r) (kept_rounds new.rounds) routes) rest.rounds is.changed)
+
+-- the policies that are named are others, and all else that is seen of a world stands
+pub seen_with : (old new : Parts) (kinds : fin.FinMap nat_cmp Kind) → new.graph.links ≡ old.graph.links → new.vrps ≡ old.vrps → new.book.named ≡ kinds → KeepsRest old new → world_seen new ≡ record (world_seen old) { kinds = kinds }
+seen_with old new kinds links vrps named rest = λ i. record {
+  links = links i;
+  payloads = vrps i;
+  kinds = named i;
+  plan = plan_of (rest.rounds i);
+  rounds = round_count (rest.rounds i);
+  watched = set.from_list (ap (λ w. w.items) rest.watched i);
+}
 
 -- what is kept stands
 pub rest_rows : (old new : Parts) → KeepsRest old new → rows_seen new ≡ rows_seen old

@@ -5,15 +5,16 @@ use Rattle.std.proofs.lemmas.Bool.{eq-eqb, eqb-true, true≢false}
 use Rattle.std.specs.FinMap as fin
 use Rattle.std.specs.FinSet as set
 use Rattle.as_graph.specs.Hierarchy.{HasNoProviderCycle}
-use Rattle.as_graph.specs.Topology.{as_count, relation, with_mark}
+use Rattle.as_graph.specs.Room.{is_room_with}
+use Rattle.as_graph.specs.Topology.{Topology, as_count, relation, with_mark}
 use Rattle.policy_kinds.specs.declared.kind.Kind.{Kind}
 use Rattle.policy_kinds.specs.declared.kind.Kind.TheVariants.{Plain}
-use Rattle.stability_laws.specs.Book.{policy_at}
+use Rattle.stability_laws.specs.Book.{PolicyBook, policy_at}
 use Rattle.leak_round.specs.Rounds.{plan_of, round_count}
 use Rattle.leak_round.specs.declared.rounds.Rounds.{Rounds}
 use Rattle.scenario_text.specs.declared.acts.Edit.{Edit}
 use Rattle.scenario_text.specs.declared.acts.Edit.TheVariants.{Policy}
-use Rattle.sim_core.specs.Editing.{IsGiven, IsRoomed, IsSmall, IsUnchanged, IsUndone, KeepsRest, ground_of}
+use Rattle.sim_core.specs.Editing.{HasRoomToGive, IsGiven, IsRoomed, IsSmall, IsUnchanged, IsUndone, KeepsRest, ground_of}
 use Rattle.sim_core.specs.Edits.{IsEditRefusal, edited, passed_limit, refusal_of_edit}
 use Rattle.sim_core.specs.Ground.{DiffersAround}
 use Rattle.sim_core.specs.Views.{world_seen}
@@ -37,19 +38,10 @@ use Rattle.sim_core.specs.declared.errors.EditLimit.TheVariants.{Ases}
 use Rattle.sim_core.specs.declared.parts.Parts.{Parts}
 use Rattle.sim_core.proofs.LinkEdits.{has_by, limit_ases, rest_both}
 use Rattle.sim_core.proofs.PolicyEdits.{get_with, given_back, is_key, kind_is, with_kind}
-use Rattle.sim_core.proofs.Doing.{all_undone, rest_kept, rest_rows, small_world, unchanged_world}
+use Rattle.sim_core.proofs.Standing.{lone}
+use Rattle.sim_core.proofs.Doing.{all_undone, rest_kept, rest_rows, seen_with, small_world, unchanged_world}
 
--- the policies that are named are others, and all else that is seen of a world stands
-seen_with : (old new : Parts) (kinds : fin.FinMap nat_cmp Kind) → new.graph.links ≡ old.graph.links → new.vrps ≡ old.vrps → new.book.named ≡ kinds → KeepsRest old new → world_seen new ≡ record (world_seen old) { kinds = kinds }
-seen_with old new kinds links vrps named rest = λ i. record {
-  links = links i;
-  payloads = vrps i;
-  kinds = named i;
-  plan = plan_of (rest.rounds i);
-  rounds = round_count (rest.rounds i);
-  watched = set.from_list (ap (λ w. w.items) rest.watched i);
-}
-
+-- the world with room for an edit of a policy, and with the policy
 pub roomed_world : (old new : Parts) (a : ℕ) → IsRoomed old new a → world_seen new ≡ world_seen old
 roomed_world old new a h = seen_with old new old.book.named h.links h.vrps h.named h.rest
 
@@ -131,7 +123,7 @@ policy_differs sound old mid new a k touched roomed given own around = record {
   presence = λ x free. given.others x (apart_one a x free) ∙ has_by old.graph mid.graph roomed.links roomed.marked x;
   links = λ x n free. same_links x n;
   policies = λ x free. same_policy x (apart_one a x free);
-  at_ends = λ prefix x known end. inl (subst (λ y. touched prefix y ≡ true) (end_is x end) (own prefix (before prefix known)));
+  at_ends = λ prefix x known end. inl (subst (λ y. touched prefix y ≡ true) (lone a x end) (own prefix (before prefix known)));
   marks = λ prefix x n r known free at. marks_at prefix x n r known free at (a == n) refl;
   states = λ prefix x known free there. inr (λ origin is. ap (λ (v : Payloads). state_of v prefix origin) (given.vrps ∙ roomed.vrps));
 }
@@ -141,13 +133,6 @@ policy_differs sound old mid new a k touched roomed given own around = record {
 
     same_links : (x n : ℕ) → relation new.graph x n ≡ relation old.graph x n
     same_links x n = ap (λ (l : LinkMap). relation (graph_of l new.graph.marked) x n) (given.links ∙ roomed.links)
-
-    end_is : (x : ℕ) → occurs x (a ∷ []) ≡ true → a ≡ x
-    end_is x end = by (a == x) refl end
-      where
-        by : (t : Bool) → (a == x) ≡ t → (t || false) ≡ true → a ≡ x
-        by true e h = eqb-true a x e
-        by false e h = cc
 
     kinds : new.book.named ≡ with_kind old.book.named a k
     kinds = given.named ∙ ap (λ m. with_kind m a k) roomed.named
@@ -189,6 +174,14 @@ touched_policy s a k p x (inl same) = inl same
 touched_policy s a k p x (inr (differ, r, link)) = inr ((λ e. differ (e ∙ ap (λ j. (kind_policy j).marks) (ap (unwrap_or (fin.get s.book.named a)) (sym s.plain)))), r, link)
 
 -- a reader that there was is listed still
-pub still_listed : (old mid new same : Parts) (a : ℕ) (k was : Kind) → was ≡ policy_at old.book a → IsRoomed old mid a → IsGiven mid new a k → IsUnchanged new same → (kind_policy was).reads_state ≡ true → occurs a same.readers.ases ≡ true
+still_listed : (old mid new same : Parts) (a : ℕ) (k was : Kind) → was ≡ policy_at old.book a → IsRoomed old mid a → IsGiven mid new a k → IsUnchanged new same → (kind_policy was).reads_state ≡ true → occurs a same.readers.ases ≡ true
 still_listed old mid new same a k was is roomed given alike reads =
     subst (λ (r : PlacedAses). occurs a r.ases ≡ true) (sym (alike.readers ∙ given.readers)) (roomed.readers a (old.reading a (ap (λ j. (kind_policy j).reads_state) (sym is) ∙ reads)))
+
+-- the room for the policy that the AS had is there still
+pub still_room : (old mid new same : Parts) (a : ℕ) (k was : Kind) → was ≡ policy_at old.book a → IsRoomed old mid a → IsGiven mid new a k → IsUnchanged new same → HasRoomToGive same a was
+still_room old mid new same a k was is roomed given alike = record {
+  listed = still_listed old mid new same a k was is roomed given alike;
+  graph = ap (λ (t : Topology). is_room_with t.room a) alike.graph ∙ (ap (λ r. is_room_with r a) given.room ∙ roomed.graph_room);
+  book = subst (λ (r : set.FinSet nat_cmp). IsTrue (set.contains r a)) (sym (ap (λ (b : PolicyBook Kind). b.room) alike.book ∙ given.book_room)) roomed.book_room;
+}

@@ -61,9 +61,7 @@ use Rattle.sim_core.specs.Parts.{AreRoundsOf}
 use Rattle.sim_core.specs.Renewing.{CanAllFollow}
 use Rattle.sim_core.specs.Views.{kept, world_seen}
 use Rattle.sim_core.specs.Steps.{AreFewSteps, Counts, IsQuick, IsTouched}
-use Rattle.sim_core.specs.World.{World, topology}
-use Rattle.sim_core.specs.declared.editing.Changed.{Changed}
-use Rattle.sim_core.specs.declared.errors.EditError.{EditError}
+use Rattle.sim_core.specs.World.{topology}
 use Rattle.sim_core.specs.declared.parts.Parts.{Parts}
 use Rattle.scenario_text.specs.declared.acts.Edit.{Edit}
 use Rattle.sim_core.specs.Watching.{AreRoundWatches}
@@ -285,10 +283,6 @@ pub quick_done : (old mid new : Parts) (e : Edit) (touched : PrefixValue → ℕ
 quick_done old mid new e touched first last few rounds graph only =
     quick_by old new.rounds (relation mid.graph) (relation (topology (world_seen new))) e first last (λ p a. touched p a ≡ true) (ap relation (sym graph)) (λ x c there. record { from = c.from; to = c.to; known = c.known; counts = inl (only x.1.0 x.1.1 there) })
     (coe 0 1 (i. AreFewSteps (relation mid.graph) (plan_of (rounds i)) (plan_of new.rounds) (kept_rounds (rounds i)) (kept_rounds new.rounds) (λ p a. touched p a ≡ true) (round_count (rounds i)) first last) few)
-
--- the same edit
-pub quick_is : (w after : World) (old new : Family) (first last : ℕ) (d e : Edit) (r : Result Changed EditError) → e ≡ d → OnOk r (IsQuick w after d old new first last) → OnOk r (IsQuick w after e old new first last)
-quick_is w after old new first last d e r same h = subst (λ (x : Edit). OnOk r (IsQuick w after x old new first last)) (sym same) h
 
 -- what follows of an answer
 pub on_map : {T E P Q : Type 0} (r : Result T E) → (P → Q) → OnOk r P → OnOk r Q

@@ -1,3 +1,4 @@
+pub mod Exits
 pub mod Marks
 pub mod Keys
 pub mod Topologies
@@ -23,6 +24,7 @@ pub mod PayloadEdits
 pub mod SeedMarks
 pub mod Unnamed
 pub mod Reseeded
+pub mod Outcomes
 pub mod Listed
 pub mod Elements
 pub mod Families

@@ -4,7 +4,6 @@ use Rattle.std.specs.List.{filter, list_any}
 use Rattle.std.specs.FinMap.Entries.{by_order}
 use Rattle.std.proofs.lemmas.Bool.{true≢false}
 use Rattle.std.specs.FinMap as fin
-use Rattle.std.specs.FinSet as set
 use Rattle.std.specs.Ordering.{eq_by_cmp, is_eq}
 use Rattle.std.specs.declared.cmp.Ordering.{Ordering}
 use Rattle.std.specs.declared.cmp.Ordering.TheVariants.{Less, Equal, Greater}
@@ -22,7 +21,7 @@ use Rattle.net_names.specs.Payloads.{VrpValue, vrp_cmp}
 use Rattle.net_names.specs.declared.routes.State.TheVariants.{Invalid, NotFound, Valid}
 use Rattle.roa_table.specs.Sets.{Payloads, added, count, has, taken}
 use Rattle.leak_round.specs.Changes.{HasChanges}
-use Rattle.leak_round.specs.Rounds.{plan_of, round_count}
+use Rattle.leak_round.specs.Rounds.{plan_of}
 use Rattle.leak_round.specs.declared.rounds.Rounds.{Rounds}
 use Rattle.scenario_text.specs.declared.acts.Edit.{Edit}
 use Rattle.scenario_text.specs.declared.acts.Edit.TheVariants.{VrpAdd}
@@ -37,7 +36,7 @@ use Rattle.sim_core.specs.declared.errors.EditLimit.TheVariants.{Vrps}
 use Rattle.sim_core.specs.Ground.{DiffersAround, Ground, IsOrigin, policy_on}
 use Rattle.sim_core.specs.declared.parts.Parts.{Parts}
 use Rattle.sim_core.proofs.LinkEdits.{over, within}
-use Rattle.sim_core.proofs.Doing.{allowed_by, no_limit, rest_kept, rest_rows, seen_count}
+use Rattle.sim_core.proofs.Doing.{allowed_by, no_limit, rest_kept, rest_rows, seen_count, seen_with}
 
 tied : (o : Ordering) → is_eq o ≡ true → o ≡ Equal
 tied Less h = cc
@@ -86,14 +85,7 @@ with_payloads w payloads = record w { payloads = payloads }
 -- nothing has changed
 pub vrps_undone : (old new : Parts) → new.graph.links ≡ old.graph.links → new.book.named ≡ old.book.named → new.vrps ≡ old.vrps → KeepsRest old new → IsUndone old new
 vrps_undone old new links named vrps rest = record {
-  world = λ i. record {
-    links = links i;
-    payloads = vrps i;
-    kinds = named i;
-    plan = plan_of (rest.rounds i);
-    rounds = round_count (rest.rounds i);
-    watched = set.from_list (ap (λ w. w.items) rest.watched i);
-  };
+  world = seen_with old new old.book.named links vrps named rest;
   same_kept = rest_kept old new rest;
   same_rows = rest_rows old new rest;
 }

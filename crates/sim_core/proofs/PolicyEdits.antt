@@ -134,7 +134,8 @@ get_with m a k q = by (is_other (a, k))
     by true = fin.get-insert nat_cmp_total m a k q
     by false = fin.get-remove nat_cmp_total m a q
 
-other_plain : (a : ℕ) (k : Kind) → is_other (a, k) ≡ false → k ≡ Plain
+-- a policy that is none of the others is the plain one
+pub other_plain : (a : ℕ) (k : Kind) → is_other (a, k) ≡ false → k ≡ Plain
 other_plain a Plain e = refl
 other_plain a DropInvalid e = cc
 other_plain a PreferValid e = cc

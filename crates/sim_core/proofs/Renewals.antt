@@ -1,5 +1,5 @@
 -- Watches that are taken to an edited world, one after the other.
-use Rattle.std.proofs.Common.{◌≡◌, ℕ, ◌<◌, ◌≤◌, Option, Some, List, length, map, get_or, sym, ap, subst, ◌∙◌, arith}
+use Rattle.std.proofs.Common.{◌≡◌, ℕ, ◌<◌, ◌≤◌, ◌+◌, Option, Some, List, length, map, get_or, set, sym, ap, subst, ◌∙◌, arith}
 use Rattle.std.specs.Prelude.{slice_get}
 use Rattle.std.proofs.lemmas.Option.{slice_get-get_or}
 use Rattle.as_graph.specs.Topology.{Topology, as_count}
@@ -18,11 +18,15 @@ use Rattle.sim_core.specs.Renewing.{AreRoomy, CanFollow, IsRightBut}
 use Rattle.sim_core.specs.Watching.{AreWatches, seen_in, seen_of}
 use Rattle.sim_core.specs.declared.watching.RoundWatches.{RoundWatches}
 use Rattle.sim_core.proofs.Watches.{got_mapped, map_at}
-use Rattle.sim_core.proofs.Working.{IsWorked, all_worked}
+use Rattle.sim_core.proofs.Working.{IsWorked, all_worked, one_worked}
 
 -- what is read at a place of a list
 pub read_at : {X : Type 0} (xs : List X) (i : ℕ) (x : X) → i < length xs → x ≡ get_or xs i x → slice_get xs i ≡ Some x
 read_at xs i x less is = slice_get-get_or xs i x less ∙ ap (λ y. Some y) (sym is)
+
+-- one item more, which was read at its place
+pub next_worked : {X : Type 0} (P : X → X → Type 0) (old mid : List X) (n : ℕ) (y x : X) → IsWorked P old mid n → n < length mid → y ≡ get_or mid n y → P y x → IsWorked P old (set mid n x) (n + 1)
+next_worked P old mid n y x so_far less at is = one_worked P old mid n y x so_far less (read_at mid n y less at) is
 
 -- ---- room
 
@@ -53,9 +57,9 @@ renewed_rows g plan held book old new n so_far whole place s at =
     subst (λ (t : AddrValue × List Row). AreRows g (next_hop plan held t.0) (λ a. label (policy_at book a)) t.1) is now.1
 
 -- what is seen of the watch that is not renewed yet
-pub left_seen : (g : Topology) (plan : Plan) (held : PrefixValue → ℕ → Option Entry) (book : PolicyBook Kind) (changed ends : List ℕ) (old mid : List Watch) (n : ℕ) (y : Watch) → IsWorked (IsRenewed g plan held book) old mid n → slice_get mid n ≡ Some y → CanFollow g plan held book changed ends (map seen_of old)
+pub left_seen : (g : Topology) (plan : Plan) (held : PrefixValue → ℕ → Option Entry) (book : PolicyBook Kind) (changed ends : List ℕ) (old mid : List Watch) (n : ℕ) (y : Watch) → IsWorked (IsRenewed g plan held book) old mid n → n < length mid → y ≡ get_or mid n y → CanFollow g plan held book changed ends (map seen_of old)
     → IsRightBut g plan held book changed ends (seen_of y)
-left_seen g plan held book changed ends old mid n y so_far at follow = follow n (seen_of y) (map_at seen_of old n y (sym (so_far.left n (omega arith)) ∙ at))
+left_seen g plan held book changed ends old mid n y so_far less at follow = follow n (seen_of y) (map_at seen_of old n y (sym (so_far.left n (omega arith)) ∙ read_at mid n y less at))
 
-pub left_roomy : (g : Topology) (plan : Plan) (held : PrefixValue → ℕ → Option Entry) (book : PolicyBook Kind) (one : RoundWatches) (mid : List Watch) (n : ℕ) (y : Watch) → IsWorked (IsRenewed g plan held book) one.watches.items mid n → slice_get mid n ≡ Some y → AreRoomy g one → as_count g ≤ spare_of y
-left_roomy g plan held book one mid n y so_far at roomy = roomy n y (sym (so_far.left n (omega arith)) ∙ at)
+pub left_roomy : (g : Topology) (plan : Plan) (held : PrefixValue → ℕ → Option Entry) (book : PolicyBook Kind) (one : RoundWatches) (mid : List Watch) (n : ℕ) (y : Watch) → IsWorked (IsRenewed g plan held book) one.watches.items mid n → n < length mid → y ≡ get_or mid n y → AreRoomy g one → as_count g ≤ spare_of y
+left_roomy g plan held book one mid n y so_far less at roomy = roomy n y (sym (so_far.left n (omega arith)) ∙ read_at mid n y less at)

@@ -1,5 +1,6 @@
 -- What is kept of a world is one, and an accepted query has one answer.
-use Rattle.std.proofs.Common.{◌≡◌, ℕ, ◌&&◌, Bool, true, false, IsTrue, Option, None, Some, List, [], ◌∷◌, decimal, refl, sym, ap, subst, ◌∙◌}
+use Rattle.std.proofs.Common.{◌≡◌, ℕ, ◌&&◌, Bool, true, false, IsTrue, Option, None, Some, List, [], ◌∷◌, decimal, Result, Ok, Err, refl, sym, ap, subst, ◌∙◌}
+use Rattle.std.specs.Prelude.{IsErrAnd}
 use Rattle.std.specs.FinSet as set
 use Rattle.net_names.specs.Addresses.{AddrValue}
 use Rattle.net_names.specs.Prefixes.{PrefixValue}
@@ -25,8 +26,10 @@ use Rattle.sim_core.specs.Answers.{IsAnswer, IsQueryRefusal, refusal_of, needs}
 use Rattle.sim_core.specs.Counting.{how_many, in_group}
 use Rattle.sim_core.specs.Kept.{IsKept, Kept}
 use Rattle.sim_core.specs.Laws.{AreSameIn}
+use Rattle.sim_core.specs.Sims.{IsAnswered, world_seen}
 use Rattle.sim_core.specs.World.{World, has_round, topology}
 use Rattle.sim_core.specs.declared.errors.QueryError.{QueryError}
+use Rattle.sim_core.specs.declared.sim.Sim.{Sim}
 use Rattle.sim_core.specs.declared.errors.QueryError.TheVariants.{Memory, NotWatched, UnknownAs, UnknownPrefix, UnknownRound}
 use Rattle.sim_core.proofs.Families.{one_family, same_next}
 use Rattle.sim_core.proofs.Rows.{many_alike, same_members}
@@ -53,6 +56,15 @@ query_refused w q (UnknownRound n) h = h
 query_refused w q (UnknownPrefix p) h = h
 query_refused w q (UnknownAs a) h = h
 query_refused w q (NotWatched x) h = h
+
+-- a query that is refused at the exit of a `?` is not answered
+pub not_answered : (sim : Sim) (q : Query) (old new : List ℕ) (e : QueryError) (r : Result (Unit {0}) QueryError) → IsErrAnd r (λ x. x ≡ e) → IsQueryRefusal (world_seen sim) q e → new ≡ old → IsAnswered sim q old new r
+not_answered sim q old new e (Ok x) is refusal same = absurd is
+not_answered sim q old new e (Err x) is refusal same = record { answered = tt; refused = subst (IsQueryRefusal (world_seen sim) q) (sym is) refusal; err = same }
+
+-- where there is a reason to refuse a query, it is not answered
+pub not_answered_for : (sim : Sim) (q : Query) (out : List ℕ) (e : QueryError) (r : Result (Unit {0}) QueryError) → IsErrAnd r (λ x. x ≡ e) → refusal_of (world_seen sim) q ≡ Some e → IsAnswered sim q out out r
+not_answered_for sim q out e r is reason = not_answered sim q out out e r is (query_refused (world_seen sim) q e reason) refl
 
 module _ (w : World) (k l : Kept) (x : IsKept w k) (y : IsKept w l) where
   same_entry : (round : ℕ) (p : PrefixValue) → IsTrue (has_round w round) → IsTrue (has_prefix w.plan p) → (a : ℕ) → k.routings round p a ≡ l.routings round p a

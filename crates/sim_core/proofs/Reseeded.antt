@@ -45,6 +45,7 @@ use Rattle.sim_core.proofs.PolicyEdits.{Kinds, named_by}
 use Rattle.sim_core.proofs.Unnamed.{is_named, gone_unnamed, lone_nothing, lone_right, unannounced, unleaked, unseeded}
 use Rattle.sim_core.proofs.SeedEdits.{other_prefixes, edited_leakers, edited_prefixes, edited_within, other_announcers}
 use Rattle.sim_core.proofs.SeedMarks.{marks_back, marks_seeded}
+use Rattle.sim_core.proofs.Standing.{lone}
 
 -- the world with this plan of seeds
 abbrev pub with_plan : World → Plan → World
@@ -193,18 +194,11 @@ module _ (s : Parts) (e : SeedEdit) (plan : Plan) (a : ℕ) (t : Bool) (graph : 
     presence = λ x free. ap (λ (g : Topology). has g x) graph_is ∙ others_there ases (with_room s.graph a a) a x t (λ is. true≢false (sym (ap (λ b. b || false) (eq-eqb a x (sym is))) ∙ free));
     links = λ x n free. same_links x n;
     policies = λ x free. refl;
-    at_ends = λ prefix x known end. end_at prefix x known (end_is x end) t refl (eq_by_cmp prefix_cmp prefix (edit_prefix e)) refl;
+    at_ends = λ prefix x known end. end_at prefix x known (lone a x end) t refl (eq_by_cmp prefix_cmp prefix (edit_prefix e)) refl;
     marks = λ prefix x n r known free at. refl;
     states = λ prefix x known free there. inr (λ origin is. refl);
   }
     where
-      end_is : (x : ℕ) → occurs x (a ∷ []) ≡ true → a ≡ x
-      end_is x end = by (a == x) refl end
-        where
-          by : (b : Bool) → (a == x) ≡ b → (b || false) ≡ true → a ≡ x
-          by true is h = eqb-true a x is
-          by false is h = cc
-
       end_at : (prefix : PrefixValue) (x : ℕ) → IsTrue (has_prefix (plan_of s.rounds) prefix) → a ≡ x → (u : Bool) → t ≡ u → (b : Bool) → eq_by_cmp prefix_cmp prefix (edit_prefix e) ≡ b → (touched prefix x ≡ true) ⊎ IsRightOn now s.rounds prefix x
       end_at prefix x known same true named b eq = inr (subst (IsRightOn now s.rounds prefix) same (still_right_on law sound belong prefix known (λ out. absurd (true≢false (sym named ∙ out)))))
       end_at prefix x known same false named false eq = inr (subst (IsRightOn now s.rounds prefix) same (still_right_on law sound belong prefix known (λ out. eq)))

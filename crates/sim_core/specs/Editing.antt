@@ -1,5 +1,5 @@
 -- What an edit does to a simulation.
-use Rattle.std.specs.Prelude.{◌≡◌, ◌≢◌, ◌≤◌, ℕ, true, IsTrue, List, ◌∷◌, Option, None, Some, Result, Ok, Err}
+use Rattle.std.specs.Prelude.{◌≡◌, ◌≢◌, ◌≤◌, ℕ, true, IsTrue, List, ◌∷◌, Option, None, Some, Result, Ok, Err, OnOk}
 use Rattle.std.specs.FinMap as fin
 use Rattle.std.specs.FinSet as set
 use Rattle.net_names.specs.Links.{LinkMap}
@@ -11,9 +11,12 @@ use Rattle.as_graph.specs.Room.{is_room_for, is_room_with}
 use Rattle.as_graph.specs.Topology.{Topology, as_count, has, relation}
 use Rattle.net_names.specs.Numbers.{occurs}
 use Rattle.net_names.specs.Payloads.{VrpValue}
+use Rattle.net_names.specs.Prefixes.{PrefixValue}
 use Rattle.origin_validation.specs.Leaving.{less}
 use Rattle.leak_round.specs.Changes.{HasChanges}
-use Rattle.leak_round.specs.Rounds.{kept as kept_rounds, plan_of, round_count}
+use Rattle.leak_round.specs.Rounds.{kept as kept_rounds, plan_of, pool_of, round_count}
+use Rattle.path_pool.specs.Pool.{live_count}
+use Rattle.policy_kinds.specs.Kinds.{kind_policy}
 use Rattle.policy_kinds.specs.declared.kind.Kind.{Kind}
 use Rattle.roa_table.specs.Sets.{Payloads, count}
 use Rattle.scenario_text.specs.declared.acts.Edit.{Edit}
@@ -23,8 +26,9 @@ use Rattle.stability_laws.specs.declared.seed_plan.edits.SeedEdit.{SeedEdit}
 use Rattle.stability_laws.specs.declared.seed_plan.edits.SeedEdit.TheVariants as seeds
 use Rattle.sim_core.specs.Edits.{IsAllowed, IsEditRefusal, absent, edited}
 use Rattle.sim_core.specs.Ground.{AreSeenAlike, BelongTo, Ground}
+use Rattle.sim_core.specs.Steps.{AreFewSteps, IsQuick}
 use Rattle.sim_core.specs.Views.{AreRight, kept, rows_seen, world_seen}
-use Rattle.sim_core.specs.World.{World}
+use Rattle.sim_core.specs.World.{HasCycle, World}
 use Rattle.sim_core.specs.declared.editing.Changed.{Changed}
 use Rattle.sim_core.specs.declared.errors.EditError.{EditError}
 use Rattle.sim_core.specs.declared.errors.EditError.TheVariants as refused
@@ -32,6 +36,7 @@ use Rattle.sim_core.specs.declared.parts.Parts.{Parts}
 use Rattle.net_names.specs.declared.links.TheConstants.{MOST_LINKS}
 use Rattle.as_graph.specs.declared.build.TheConstants.{MOST_ASES}
 use Rattle.roa_table.specs.declared.table.TheConstants.{MOST_PAYLOADS}
+use Rattle.leak_round.specs.declared.rounds.TheConstants.{MOST_CELLS}
 use Rattle.scenario_text.specs.declared.limits.TheConstants.{MOST_ANNOUNCEMENTS, MOST_NUMBERS}
 
 -- the edit is done: the world is the edited one, what is kept is that of it, and so many entries differ
@@ -51,6 +56,17 @@ pub record IsUndone (old new : Parts) : Type 0 where
 abbrev pub IsEdited : Parts → Parts → Edit → Result Changed EditError → Type 0
 IsEdited old new e (Ok changed) = IsDone old new e changed.routes
 IsEdited old new e (Err error) = IsEditRefusal (world_seen old) e error × IsUndone old new
+
+-- what every edit takes for granted: few cells of the pool are live, what is kept is that of the world, and there is no provider cycle
+pub record IsEditable (parts : Parts) : Type 0 where
+  pub few_cells : live_count (pool_of parts.rounds) ≤ MOST_CELLS
+  pub right : AreRight parts
+  pub no_cycle : HasCycle (world_seen parts) → ⊥
+
+-- the edit is done in few steps, counted from the first to the last, or refused and nothing has changed
+pub record IsEditedQuickly (old new : Parts) (e : Edit) (result : Result Changed EditError) (first last : ℕ) : Type 0 where
+  pub edited : IsEdited old new e result
+  pub quick : OnOk result (IsQuick (world_seen old) (world_seen new) e (kept old).routings (kept new).routings first last)
 
 -- an edit of announcements as an edit of the world
 abbrev pub edit_of : SeedEdit → Edit
@@ -104,6 +120,11 @@ pub record IsChanged (old new : Parts) (but : Option VrpValue) (routes : ℕ) : 
   pub count : round_count new.rounds ≡ round_count old.rounds
   pub changed : HasChanges (plan_of new.rounds) (round_count new.rounds) (kept_rounds old.rounds) (kept_rounds new.rounds) routes
 
+-- the steps from the first count to the last are at most two for each round, prefix and AS that is touched, whose seed differs, or that has a neighbour whose entry differs
+abbrev pub IsQuickChange : Parts → Parts → (PrefixValue → ℕ → Type 0) → ℕ → ℕ → Type 0
+IsQuickChange old new Touched first last =
+    AreFewSteps (relation old.graph) (plan_of old.rounds) (plan_of new.rounds) (kept_rounds old.rounds) (kept_rounds new.rounds) Touched (round_count old.rounds) first last
+
 -- a simulation is seen as it was
 pub record IsUnchanged (old new : Parts) : Type 0 where
   pub graph : new.graph ≡ old.graph
@@ -141,6 +162,12 @@ pub record IsGiven (old new : Parts) (a : ℕ) (kind : Kind) : Type 0 where
   pub readers : new.readers ≡ old.readers
   pub vrps : new.vrps ≡ old.vrps
   pub rest : KeepsRest old new
+
+-- there is room to give the AS a policy of this kind, and the AS is listed where that reads the states
+pub record HasRoomToGive (parts : Parts) (a : ℕ) (kind : Kind) : Type 0 where
+  pub listed : (kind_policy kind).reads_state ≡ true → occurs a parts.readers.ases ≡ true
+  pub graph : is_room_with parts.graph.room a ≡ true
+  pub book : IsTrue (set.contains parts.book.room a)
 
 -- there is room for an edit of the AS's policy, and all else stands as it was
 pub record IsRoomed (old new : Parts) (a : ℕ) : Type 0 where

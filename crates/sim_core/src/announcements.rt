@@ -1,21 +1,18 @@
 //! Edits of announcements.
-ghost use Rattle.std.specs.Prelude.{◌≡◌, ◌≤◌, ℕ, true, false, IfOk, OnOk, length, nat_lt};
+ghost use Rattle.std.specs.Prelude.{◌≡◌, ◌≤◌, ℕ, true, false, IfOk, length, nat_lt};
 ghost use Rattle.std.specs.FinMap as fin;
 ghost use Rattle.std.specs.FinSet as set;
 ghost use Rattle.std.specs.Ordering.{nat_cmp};
 ghost use Rattle.net_names.specs.Prefixes.{PrefixValue};
-ghost use Rattle.leak_round.specs.Rounds.{plan_of, pool_of};
+ghost use Rattle.leak_round.specs.Rounds.{plan_of};
 ghost use Rattle.leak_round.specs.Touched.{touches};
-ghost use Rattle.path_pool.specs.Pool.{live_count};
 ghost use Rattle.scenario_text.specs.declared.limits.TheConstants.{MOST_NUMBERS};
 ghost use Rattle.scenario_text.specs.declared.acts.Edit.TheVariants.{Announce, Withdraw};
 ghost use Rattle.stability_laws.specs.Plans.{with_announcement};
 ghost use Rattle.stability_laws.specs.SeedEdits.{IsEditWithin, edit_asn, edit_prefix, edited};
-ghost use Rattle.sim_core.specs.Editing.{IsEdited, IsSeedEdit, edit_of};
-ghost use Rattle.sim_core.specs.Views.{AreRight, kept, world_seen};
-ghost use Rattle.sim_core.specs.Steps.{IsQuick};
-ghost use Rattle.sim_core.specs.World.{HasCycle, named};
-ghost use Rattle.leak_round.specs.declared.rounds.TheConstants.{MOST_CELLS};
+ghost use Rattle.sim_core.specs.Editing.{IsEditable, IsEditedQuickly, IsSeedEdit, edit_of};
+ghost use Rattle.sim_core.specs.Views.{world_seen};
+ghost use Rattle.sim_core.specs.World.{named};
 
 use crate::changing::change;
 use crate::difference::Difference;
@@ -107,12 +104,8 @@ impl Parts {
         steps: &mut Steps<L>,
     ) -> Result<Changed, EditError>
         requires accepted { IsSeedEdit (world_seen self.old) edit.now }
-        requires few_cells { live_count (pool_of self.old.rounds) ≤ MOST_CELLS }
-        requires right { AreRight self.old }
-        requires no_cycle { HasCycle (world_seen self.old) → ⊥ }
-        ensures edited { IsEdited self.old self.new (edit_of edit.now) result }
-        ensures quick { OnOk result (IsQuick (world_seen self.old) (world_seen self.new) (edit_of edit.now)
-            (kept self.old).routings (kept self.new).routings steps.old steps.new) }
+        requires editable { IsEditable self.old }
+        ensures { IsEditedQuickly self.old self.new (edit_of edit.now) result steps.old steps.new }
     {
         ases_are_kept();
         links_are_sound();
@@ -170,12 +163,8 @@ impl Parts {
     ) -> Result<Changed, EditError>
         requires some { 1 ≤ length path.now }
         requires short { length path.now ≤ MOST_NUMBERS }
-        requires few_cells { live_count (pool_of self.old.rounds) ≤ MOST_CELLS }
-        requires right { AreRight self.old }
-        requires no_cycle { HasCycle (world_seen self.old) → ⊥ }
-        ensures edited { IsEdited self.old self.new (Announce prefix path.now) result }
-        ensures quick { OnOk result (IsQuick (world_seen self.old) (world_seen self.new) (Announce prefix path.now)
-            (kept self.old).routings (kept self.new).routings steps.old steps.new) }
+        requires editable { IsEditable self.old }
+        ensures { IsEditedQuickly self.old self.new (Announce prefix path.now) result steps.old steps.new }
     {
         self.is_small();
         if !self.rounds.seed_plan().has_prefix(prefix) {
@@ -198,12 +187,8 @@ impl Parts {
         asn: Asn,
         steps: &mut Steps<L>,
     ) -> Result<Changed, EditError>
-        requires few_cells { live_count (pool_of self.old.rounds) ≤ MOST_CELLS }
-        requires right { AreRight self.old }
-        requires no_cycle { HasCycle (world_seen self.old) → ⊥ }
-        ensures edited { IsEdited self.old self.new (Withdraw prefix asn) result }
-        ensures quick { OnOk result (IsQuick (world_seen self.old) (world_seen self.new) (Withdraw prefix asn)
-            (kept self.old).routings (kept self.new).routings steps.old steps.new) }
+        requires { IsEditable self.old }
+        ensures { IsEditedQuickly self.old self.new (Withdraw prefix asn) result steps.old steps.new }
     {
         let plan = self.rounds.seed_plan();
         if !plan.has_prefix(prefix) {

@@ -8,7 +8,7 @@ ghost use Rattle.scenario_text.specs.declared.acts.Query.TheVariants as query;
 ghost use Rattle.sim_core.specs.Answers.{Answers, IsQueryRefusal};
 ghost use Rattle.sim_core.specs.Parts.{AreTablesOf, IsTableOf, no_round, no_table};
 ghost use Rattle.sim_core.specs.Watching.{IsPlace, IsWatchOf, no_watch};
-ghost use Rattle.sim_core.specs.Sims.{kept, world_seen};
+ghost use Rattle.sim_core.specs.Sims.{IsAnswered, kept, world_seen};
 ghost use Rattle.sim_core.specs.World.{has_round, topology};
 ghost use Rattle.as_graph.specs.declared.build.TheConstants.{MOST_ASES};
 ghost use Rattle.net_names.specs.declared.links.TheConstants.{MOST_LINKS};
@@ -40,10 +40,7 @@ impl Sim {
 
     // Appends the table of a round for a prefix.
     fn put_routes(&self, round: u32, prefix: Prefix, out: &mut Vec<u8>) -> Result<(), QueryError>
-        ensures answered { OnOk result (Answers (world_seen self.now) (kept self.now) (query.Routes round prefix)
-            out.old.items out.new.items) }
-        ensures refused { IfErr result (IsQueryRefusal (world_seen self.now) (query.Routes round prefix)) }
-        ensures err { OnErr result (out.new.items ≡ out.old.items) }
+        ensures { IsAnswered self.now (query.Routes round prefix) out.old.items out.new.items result }
     {
         let table = self.table_of(round, prefix)?;
         put_routes(out, &self.parts.graph, table, self.parts.rounds.pool())?;
@@ -58,10 +55,7 @@ impl Sim {
         asn: Asn,
         out: &mut Vec<u8>,
     ) -> Result<(), QueryError>
-        ensures answered { OnOk result (Answers (world_seen self.now) (kept self.now) (query.Route round prefix asn)
-            out.old.items out.new.items) }
-        ensures refused { IfErr result (IsQueryRefusal (world_seen self.now) (query.Route round prefix asn)) }
-        ensures err { OnErr result (out.new.items ≡ out.old.items) }
+        ensures { IsAnswered self.now (query.Route round prefix asn) out.old.items out.new.items result }
     {
         let table = self.table_of(round, prefix)?;
         if !self.parts.graph.has(asn) {
@@ -107,10 +101,7 @@ impl Sim {
         addr: Addr,
         out: &mut Vec<u8>,
     ) -> Result<(), QueryError>
-        ensures answered { OnOk result (Answers (world_seen self.now) (kept self.now) (query.Trace round asn addr)
-            out.old.items out.new.items) }
-        ensures refused { IfErr result (IsQueryRefusal (world_seen self.now) (query.Trace round asn addr)) }
-        ensures err { OnErr result (out.new.items ≡ out.old.items) }
+        ensures { IsAnswered self.now (query.Trace round asn addr) out.old.items out.new.items result }
     {
         let tables = self.tables_of(round)?;
         if !self.parts.graph.has(asn) {
@@ -144,10 +135,7 @@ impl Sim {
 
     // Appends the counts of a watched address.
     fn put_report(&self, round: u32, addr: Addr, out: &mut Vec<u8>) -> Result<(), QueryError>
-        ensures answered { OnOk result (Answers (world_seen self.now) (kept self.now) (query.Report round addr)
-            out.old.items out.new.items) }
-        ensures refused { IfErr result (IsQueryRefusal (world_seen self.now) (query.Report round addr)) }
-        ensures err { OnErr result (out.new.items ≡ out.old.items) }
+        ensures { IsAnswered self.now (query.Report round addr) out.old.items out.new.items result }
     {
         let watch = self.watch_of(round, addr)?;
         put_report(out, self.parts.rounds.seed_plan(), watch)?;
@@ -156,10 +144,7 @@ impl Sim {
 
     // Appends the ranks of all ASes.
     fn put_ranks(&self, out: &mut Vec<u8>) -> Result<(), QueryError>
-        ensures answered { OnOk result (Answers (world_seen self.now) (kept self.now) query.Ranks
-            out.old.items out.new.items) }
-        ensures refused { IfErr result (IsQueryRefusal (world_seen self.now) query.Ranks) }
-        ensures err { OnErr result (out.new.items ≡ out.old.items) }
+        ensures { IsAnswered self.now query.Ranks out.old.items out.new.items result }
     {
         put_ranks(out, &self.parts.graph, &self.parts.ranks)?;
         Ok(())
@@ -167,10 +152,7 @@ impl Sim {
 
     // Appends the state of a prefix with an origin, and the payloads that cover the prefix.
     fn put_validity(&self, prefix: Prefix, origin: Asn, out: &mut Vec<u8>) -> Result<(), QueryError>
-        ensures answered { OnOk result (Answers (world_seen self.now) (kept self.now) (query.Validity prefix origin)
-            out.old.items out.new.items) }
-        ensures refused { IfErr result (IsQueryRefusal (world_seen self.now) (query.Validity prefix origin)) }
-        ensures err { OnErr result (out.new.items ≡ out.old.items) }
+        ensures { IsAnswered self.now (query.Validity prefix origin) out.old.items out.new.items result }
     {
         let explained = explain(*out.allocator(), &self.parts.vrps, prefix, origin)?;
         put_validity(out, &explained)?;

@@ -1,10 +1,11 @@
 //! A world without what is kept of it.
-ghost use Rattle.std.specs.Prelude.{◌≡◌, ◌≢◌, ◌≤◌, ℕ, Some, IfOk, IfErr};
+ghost use Rattle.std.specs.Prelude.{◌≡◌, ◌≢◌, ◌≤◌, ℕ, Some};
 ghost use Rattle.std.specs.List.{AllPairs};
 ghost use Rattle.std.specs.FinMap as fin;
 ghost use Rattle.leak_round.specs.Limits.{IsWithinLimits};
 ghost use Rattle.policy_kinds.specs.declared.kind.Kind.TheVariants.{Plain};
 ghost use Rattle.sim_core.specs.Parts.{IsNamed};
+ghost use Rattle.leak_round.specs.declared.limits.TheConstants.{MOST_ROUNDS};
 
 use as_graph::Graph;
 use net_names::Addr;
@@ -26,6 +27,6 @@ pub struct Base {
     ghost plain: { book.rest ≡ Plain },
     ghost other: { (a : ℕ) → fin.get book.named a ≢ Some Plain },
     ghost small: { IsWithinLimits plan },
-    ghost few: { rounds ≤ 4 },
+    ghost few: { rounds ≤ MOST_ROUNDS },
     ghost once: { AllPairs (λ a b. a ≢ b) watched.items },
 }

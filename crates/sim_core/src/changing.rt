@@ -1,5 +1,5 @@
 //! What belongs to an edited world: planned with all memory, and then put in place without any.
-ghost use Rattle.std.specs.Prelude.{◌≡◌, ◌≤◌, ℕ, false, true, Some, IfOk, OnOk, OnErr, length, map};
+ghost use Rattle.std.specs.Prelude.{◌≡◌, ◌≤◌, ℕ, false, true, Some, IfOk, OnOk, OnErr, map};
 ghost use Rattle.std.specs.Option.{option_copied};
 ghost use Rattle.as_graph.specs.Hierarchy.{HasNoProviderCycle};
 ghost use Rattle.as_graph.specs.Topology.{relation};
@@ -9,10 +9,11 @@ ghost use Rattle.leak_round.specs.Changes.{HasChanges};
 ghost use Rattle.leak_round.specs.Edited.{plan_edited};
 ghost use Rattle.leak_round.specs.Rounds.{is_open, kept as kept_rounds, plan_of, pool_of, round_count};
 ghost use Rattle.leak_round.specs.Touched.{touches};
-ghost use Rattle.sim_core.specs.Editing.{IsChanged, IsSmall, IsUnchanged, ground_less};
+ghost use Rattle.sim_core.specs.Editing.{IsChanged, IsQuickChange, IsSmall, IsUnchanged, ground_less};
 ghost use Rattle.sim_core.specs.Ground.{AreSeenAlike, BelongTo, DiffersAround, Ground as AGround, IsSeedChange, ground_in};
 ghost use Rattle.sim_core.specs.Steps.{AreFewSteps};
 ghost use Rattle.sim_core.specs.Watching.{addrs_in};
+ghost use Rattle.leak_round.specs.declared.limits.TheConstants.{MOST_ROUNDS};
 ghost use Rattle.leak_round.specs.declared.rounds.TheConstants.{MOST_CELLS};
 
 use crate::Changed;
@@ -48,7 +49,7 @@ pub fn change<L: Ledger>(
 ) -> Result<Changed, NoMemory>
     requires closed { is_open rounds.old ≡ false }
     requires few_cells { live_count (pool_of rounds.old) ≤ MOST_CELLS }
-    requires few { round_count rounds.old ≤ 4 }
+    requires few { round_count rounds.old ≤ MOST_ROUNDS }
     requires no_cycle { HasNoProviderCycle (relation world.now.graph.now) }
     requires seeds { IsSeedChange (plan_of rounds.old) world.now.graph.now difference.now.ends.now
         (option_copied difference.now.edit) }
@@ -136,10 +137,8 @@ impl Parts {
         requires from { (old : AGround) × BelongTo old self.old.ranks self.old.rounds self.old.watches.items
             × DiffersAround old (ground_less self.old but) self.old.rounds ends.now (touches touched.now) }
         ensures changed { IfOk result (λ c. IsChanged self.old self.new but c.routes) }
-        ensures quick { OnOk result (AreFewSteps (relation self.old.graph)
-            (plan_of self.old.rounds) (plan_of self.new.rounds)
-            (kept_rounds self.old.rounds) (kept_rounds self.new.rounds)
-            (λ p a. touches touched.now p a ≡ true) (round_count self.old.rounds) steps.old steps.new) }
+        ensures quick { OnOk result (IsQuickChange self.old self.new (λ p a. touches touched.now p a ≡ true)
+            steps.old steps.new) }
         ensures err { OnErr result (IsUnchanged self.old self.new) }
     {
         let states = states_but(&self.vrps, but);

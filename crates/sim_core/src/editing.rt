@@ -3,9 +3,8 @@ ghost use Rattle.std.specs.Prelude.{◌≤◌, OnOk};
 ghost use Rattle.leak_round.specs.Rounds.{pool_of};
 ghost use Rattle.path_pool.specs.Pool.{live_count};
 ghost use Rattle.scenario_text.specs.LineValues.{IsWellFormed};
-ghost use Rattle.sim_core.specs.Editing.{IsEdited, IsUnchanged};
-ghost use Rattle.sim_core.specs.Views.{AreRight, kept, world_seen};
-ghost use Rattle.sim_core.specs.Steps.{IsQuick};
+ghost use Rattle.sim_core.specs.Editing.{IsEditable, IsEditedQuickly, IsUnchanged};
+ghost use Rattle.sim_core.specs.Views.{AreRight, world_seen};
 ghost use Rattle.sim_core.specs.World.{HasCycle};
 
 use crate::EditError;
@@ -47,12 +46,8 @@ impl Parts {
         steps: &mut Steps<L>,
     ) -> Result<Changed, EditError>
         requires formed { IsWellFormed edit.now }
-        requires few_cells { live_count (pool_of self.old.rounds) ≤ MOST_CELLS }
-        requires right { AreRight self.old }
-        requires no_cycle { HasCycle (world_seen self.old) → ⊥ }
-        ensures edited { IsEdited self.old self.new edit.now result }
-        ensures quick { OnOk result (IsQuick (world_seen self.old) (world_seen self.new) edit.now
-            (kept self.old).routings (kept self.new).routings steps.old steps.new) }
+        requires editable { IsEditable self.old }
+        ensures { IsEditedQuickly self.old self.new edit.now result steps.old steps.new }
     {
         match edit {
             Edit::Link { a, b, rel } => self.edit_link(alloc, *a, *b, *rel, steps),

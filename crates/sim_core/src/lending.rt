@@ -15,6 +15,7 @@ ghost use Rattle.sim_core.specs.Loaded.{world_of};
 ghost use Rattle.sim_core.specs.Loading.{IsLoadRefusal};
 ghost use Rattle.sim_core.specs.Sims.{kept, world_seen};
 ghost use Rattle.sim_core.specs.World.{HasCycle, topology};
+ghost use Rattle.leak_round.specs.declared.limits.TheConstants.{MOST_ROUNDS};
 ghost use Rattle.as_graph.specs.declared.build.TheConstants.{MOST_ASES};
 
 use crate::loading::load_base;
@@ -82,7 +83,7 @@ impl Base {
     /// How many rounds the world has, at most 4.
     pub fn rounds(&self) -> u32
         ensures value { result ≡ (base_world self.now).rounds }
-        ensures few { result ≤ 4 }
+        ensures few { result ≤ MOST_ROUNDS }
     {
         self.rounds
     }
@@ -137,7 +138,7 @@ impl Sim {
     /// How many rounds the world has, at most 4.
     pub fn rounds(&self) -> u32
         ensures value { result ≡ (world_seen self.now).rounds }
-        ensures few { result ≤ 4 }
+        ensures few { result ≤ MOST_ROUNDS }
     {
         self.parts.rounds.count()
     }

@@ -18,7 +18,6 @@ mod errors;
 mod laws;
 mod lending;
 mod linking;
-mod links;
 mod loading;
 mod marking;
 mod naming;

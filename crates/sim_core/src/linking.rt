@@ -1,36 +1,89 @@
 //! Edits of links.
 ghost use Rattle.std.specs.Prelude.{◌≡◌, ◌≢◌, ◌≤◌, ℕ, min, max, true, Some, None, [], ◌∷◌, IfOk, IfErr, OnOk, OnErr, IfNone, IfSome};
 ghost use Rattle.as_graph.specs.declared.error.GraphError.{GraphError as AGraphError};
-ghost use Rattle.as_graph.specs.Hierarchy.{HasNoProviderCycle};
+ghost use Rattle.as_graph.specs.Edits.{AsesAreKept, EditsAreUndone, LinksAreSet, LinksAreSound, LinksAreTaken, with_link};
+ghost use Rattle.as_graph.specs.Hierarchy.{HasNoProviderCycle, IsProviderCycle};
 ghost use Rattle.as_graph.specs.Refusals.{IsLinkRefusal};
 ghost use Rattle.as_graph.specs.Room.{is_room_for};
 ghost use Rattle.as_graph.specs.Topology.{relation};
 ghost use Rattle.cycle_check.specs.Cycles.{without_pair};
-ghost use Rattle.leak_round.specs.Rounds.{kept as kept_rounds, plan_of, pool_of, round_count};
+ghost use Rattle.leak_round.specs.Rounds.{pool_of};
 ghost use Rattle.leak_round.specs.Touched.{touches};
 ghost use Rattle.path_pool.specs.Pool.{live_count};
 ghost use Rattle.scenario_text.specs.declared.acts.Edit.TheVariants.{Link, Unlink};
-ghost use Rattle.sim_core.specs.Editing.{HasLinks, IsChanged, IsEdited, IsLinkStop, IsUnchanged, IsUndone, ground_of, links_with};
+ghost use Rattle.sim_core.specs.Editing.{BeginsWithLink, HasLinks, IsChanged, IsEditable, IsEditedQuickly, IsLinkStop, IsQuickChange, IsUnchanged, IsUndone, ground_of, links_with};
 ghost use Rattle.sim_core.specs.Edits.{IsEditRefusal};
 ghost use Rattle.sim_core.specs.declared.errors.EditError.TheVariants.{AbsentLink};
 ghost use Rattle.sim_core.specs.Ground.{BelongTo, DiffersAround, Ground as AGround};
-ghost use Rattle.sim_core.specs.Views.{AreRight, kept, world_seen};
-ghost use Rattle.sim_core.specs.Steps.{AreFewSteps, IsQuick};
-ghost use Rattle.sim_core.specs.World.{HasCycle};
+ghost use Rattle.sim_core.specs.Views.{world_seen};
 ghost use Rattle.leak_round.specs.declared.rounds.TheConstants.{MOST_CELLS};
 
-use crate::links::{closed_by, relink};
 use crate::parts::Parts;
 use crate::touching::touched_ases;
 use crate::{Changed, EditError, EditLimit};
 use as_graph::{
-    GraphError, ases_are_kept, edits_are_undone, links_are_set, links_are_sound, links_are_taken,
+    Graph, GraphError, ases_are_kept, edits_are_undone, links_are_set, links_are_sound,
+    links_are_taken,
 };
+use cycle_check::{Cycle, closes};
 use leak_round::Touched;
-use net_names::{Asn, Rel};
+use net_names::{Asn, NoMemory, Rel};
 use route_choice::Steps;
 use std::alloc::Global;
 use std::sync::ledger::Ledger;
+
+// What holds of links and of their edits.
+fn link_laws()
+    ensures sound { LinksAreSound }
+    ensures set { LinksAreSet }
+    ensures taken { LinksAreTaken }
+    ensures undone { EditsAreUndone }
+    ensures kept { AsesAreKept }
+{
+    links_are_sound();
+    links_are_set();
+    links_are_taken();
+    edits_are_undone();
+    ases_are_kept();
+}
+
+// Sets the link of a pair that has room for it.
+fn relink(graph: &mut Graph, a: Asn, b: Asn, rel: Rel)
+    requires apart { a ≢ b }
+    requires room { is_room_for graph.old.room a b ≡ true }
+    requires fits { (e : AGraphError) → IsLinkRefusal graph.old a b rel e → ⊥ }
+    ensures { graph.new ≡ with_link graph.old a b rel }
+{
+    match graph.link(a, b, rel) {
+        Ok(()) => {}
+        Err(_) => unreachable!(),
+    }
+}
+
+// A provider cycle that the pair's link closes, from its provider and customer on, if there is one.
+// Without the link there is none.
+fn closed_by(
+    alloc: Global,
+    graph: &Graph,
+    a: Asn,
+    b: Asn,
+    rel: Rel,
+) -> Result<Option<Cycle>, NoMemory>
+    requires apart { a ≢ b }
+    requires linked { relation graph.now a b ≡ Some rel }
+    requires there { HasNoProviderCycle (without_pair graph.now a b) }
+    requires back { HasNoProviderCycle (without_pair graph.now b a) }
+    ensures cycle { IfOk result (λ found. IfSome found (λ c.
+        IsProviderCycle (relation graph.now) c × BeginsWithLink (Link a b rel) c)) }
+    ensures none { IfOk result (λ found. IfNone found (HasNoProviderCycle (relation graph.now))) }
+{
+    link_laws();
+    match rel {
+        Rel::Customer => closes(alloc, graph, a, b),
+        Rel::Provider => closes(alloc, graph, b, a),
+        Rel::Peer => Ok(None),
+    }
+}
 
 // The refusal of a pair without a link.
 fn absent_link(a: Asn, b: Asn) -> EditError
@@ -102,10 +155,8 @@ impl Parts {
         requires from { (old : AGround) × BelongTo old self.old.ranks self.old.rounds self.old.watches.items
             × DiffersAround old (ground_of self.old) self.old.rounds (a ∷ b ∷ []) (touches touched.now) }
         ensures changed { IfOk result (λ c. IsChanged self.old self.new None c.routes) }
-        ensures quick { OnOk result (AreFewSteps (relation self.old.graph)
-            (plan_of self.old.rounds) (plan_of self.new.rounds)
-            (kept_rounds self.old.rounds) (kept_rounds self.new.rounds)
-            (λ p x. touches touched.now p x ≡ true) (round_count self.old.rounds) steps.old steps.new) }
+        ensures quick { OnOk result (IsQuickChange self.old self.new (λ p x. touches touched.now p x ≡ true)
+            steps.old steps.new) }
         ensures no_cycle { OnOk result (HasNoProviderCycle (relation self.old.graph)) }
         ensures err { OnErr result (IsUnchanged self.old self.new) }
         ensures refused { IfErr result (IsLinkStop self.old.graph a b rel) }
@@ -127,18 +178,10 @@ impl Parts {
         steps: &mut Steps<L>,
     ) -> Result<Changed, EditError>
         requires apart { a ≢ b }
-        requires few_cells { live_count (pool_of self.old.rounds) ≤ MOST_CELLS }
-        requires right { AreRight self.old }
-        requires no_cycle { HasCycle (world_seen self.old) → ⊥ }
-        ensures edited { IsEdited self.old self.new (Link a b rel) result }
-        ensures quick { OnOk result (IsQuick (world_seen self.old) (world_seen self.new) (Link a b rel)
-            (kept self.old).routings (kept self.new).routings steps.old steps.new) }
+        requires editable { IsEditable self.old }
+        ensures { IsEditedQuickly self.old self.new (Link a b rel) result steps.old steps.new }
     {
-        links_are_sound();
-        links_are_set();
-        links_are_taken();
-        edits_are_undone();
-        ases_are_kept();
+        link_laws();
         let old = self.graph.rel(a, b);
         let touched = touched_ases(alloc, self.rounds.seed_plan(), &[a, b])?;
         self.set_link(a, b, rel)?;
@@ -178,18 +221,10 @@ impl Parts {
         b: Asn,
         steps: &mut Steps<L>,
     ) -> Result<Changed, EditError>
-        requires few_cells { live_count (pool_of self.old.rounds) ≤ MOST_CELLS }
-        requires right { AreRight self.old }
-        requires no_cycle { HasCycle (world_seen self.old) → ⊥ }
-        ensures edited { IsEdited self.old self.new (Unlink a b) result }
-        ensures quick { OnOk result (IsQuick (world_seen self.old) (world_seen self.new) (Unlink a b)
-            (kept self.old).routings (kept self.new).routings steps.old steps.new) }
+        requires { IsEditable self.old }
+        ensures { IsEditedQuickly self.old self.new (Unlink a b) result steps.old steps.new }
     {
-        links_are_sound();
-        links_are_set();
-        links_are_taken();
-        edits_are_undone();
-        ases_are_kept();
+        link_laws();
         let link = self.graph.rel(a, b);
         self.is_small();
         let touched = touched_ases(alloc, self.rounds.seed_plan(), &[a, b])?;

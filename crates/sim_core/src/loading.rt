@@ -12,6 +12,7 @@ ghost use Rattle.sim_core.specs.Loading.{IsCycleRefusal, IsLoadRefusal};
 ghost use Rattle.sim_core.specs.Marking.{marked};
 ghost use Rattle.sim_core.specs.Parts.{AreRoundsOf};
 ghost use Rattle.sim_core.specs.Views.{AreRight, world_seen};
+ghost use Rattle.leak_round.specs.declared.limits.TheConstants.{MOST_ROUNDS};
 ghost use Rattle.as_graph.specs.declared.build.TheConstants.{MOST_ASES};
 
 use crate::naming::world_graph;
@@ -60,7 +61,7 @@ fn rounds_of<L: Ledger>(
     requires no_cycle { HasNoProviderCycle (relation world.now.graph.now) }
     requires ranks { (a : ℕ) → IsRank (relation world.now.graph.now) a (rank_at ranks.now a) }
     requires small { IsWithinLimits plan }
-    requires few { count ≤ 4 }
+    requires few { count ≤ MOST_ROUNDS }
     ensures rounds { IfOk result
         (AreRoundsOf world.now.graph.now world.now.states.now.payloads world.now.book.now plan count) }
     ensures closed { IfOk result (λ rounds. is_open rounds ≡ false) }

@@ -10,6 +10,7 @@ ghost use Rattle.stability_laws.specs.Book.{policy_at};
 ghost use Rattle.policy_kinds.specs.declared.kind.Kind.TheVariants.{Plain};
 ghost use Rattle.sim_core.specs.Parts.{IsNamed};
 ghost use Rattle.sim_core.specs.Watching.{HasWatches};
+ghost use Rattle.leak_round.specs.declared.limits.TheConstants.{MOST_ROUNDS};
 
 use crate::watching::RoundWatches;
 use as_graph::Graph;
@@ -39,7 +40,7 @@ pub struct Parts {
     ghost plain: { book.rest ≡ Plain },
     ghost other: { (a : ℕ) → fin.get book.named a ≢ Some Plain },
     ghost small: { IsWithinLimits (plan_of rounds) },
-    ghost few: { round_count rounds ≤ 4 },
+    ghost few: { round_count rounds ≤ MOST_ROUNDS },
     ghost closed: { is_open rounds ≡ false },
     ghost reading: { (a : ℕ) → (kind_policy (policy_at book a)).reads_state ≡ true → occurs a readers.ases ≡ true },
     ghost once: { AllPairs (λ a b. a ≢ b) watched.items },

@@ -2,7 +2,7 @@
 ghost use Rattle.std.specs.Prelude.{◌≡◌, ◌≤◌, ℕ, true, IsTrue, IfOk, None, OnErr, OnOk, Some};
 ghost use Rattle.as_graph.specs.Hierarchy.{HasNoProviderCycle};
 ghost use Rattle.as_graph.specs.Topology.{relation};
-ghost use Rattle.leak_round.specs.Rounds.{kept as kept_rounds, plan_of, pool_of, round_count};
+ghost use Rattle.leak_round.specs.Rounds.{plan_of, pool_of};
 ghost use Rattle.leak_round.specs.Touched.{touches};
 ghost use Rattle.net_names.specs.Coverage.{covers};
 ghost use Rattle.net_names.specs.Prefixes.{PrefixValue};
@@ -11,11 +11,8 @@ ghost use Rattle.policy_kinds.specs.Kinds.{kind_policy};
 ghost use Rattle.stability_laws.specs.Book.{policy_at};
 ghost use Rattle.stability_laws.specs.Plans.{has_prefix};
 ghost use Rattle.scenario_text.specs.declared.acts.Edit.TheVariants.{VrpAdd, VrpTake};
-ghost use Rattle.sim_core.specs.Editing.{IsChanged, IsEdited, IsUnchanged, ground_less};
+ghost use Rattle.sim_core.specs.Editing.{IsChanged, IsEditable, IsEditedQuickly, IsQuickChange, IsUnchanged, ground_less};
 ghost use Rattle.sim_core.specs.Ground.{AreReadersTouched, BelongTo};
-ghost use Rattle.sim_core.specs.Views.{AreRight, kept, world_seen};
-ghost use Rattle.sim_core.specs.Steps.{AreFewSteps, IsQuick};
-ghost use Rattle.sim_core.specs.World.{HasCycle};
 ghost use Rattle.leak_round.specs.declared.rounds.TheConstants.{MOST_CELLS};
 
 use crate::parts::Parts;
@@ -60,11 +57,9 @@ impl Parts {
         requires from { BelongTo (ground_less self.old (Some vrp)) self.old.ranks self.old.rounds
             self.old.watches.items }
         ensures changed { IfOk result (λ c. IsChanged self.old self.new None c.routes) }
-        ensures quick { OnOk result (AreFewSteps (relation self.old.graph)
-            (plan_of self.old.rounds) (plan_of self.new.rounds)
-            (kept_rounds self.old.rounds) (kept_rounds self.new.rounds)
+        ensures quick { OnOk result (IsQuickChange self.old self.new
             (λ p a. (covers vrp.prefix p ≡ true) × ((kind_policy (policy_at self.old.book a)).reads_state ≡ true))
-            (round_count self.old.rounds) steps.old steps.new) }
+            steps.old steps.new) }
         ensures err { OnErr result (IsUnchanged self.old self.new) }
     {
         let touched = self.touched_by(alloc, vrp)?;
@@ -78,12 +73,8 @@ impl Parts {
         vrp: Vrp,
         steps: &mut Steps<L>,
     ) -> Result<Changed, EditError>
-        requires few_cells { live_count (pool_of self.old.rounds) ≤ MOST_CELLS }
-        requires right { AreRight self.old }
-        requires no_cycle { HasCycle (world_seen self.old) → ⊥ }
-        ensures edited { IsEdited self.old self.new (VrpAdd vrp) result }
-        ensures quick { OnOk result (IsQuick (world_seen self.old) (world_seen self.new) (VrpAdd vrp)
-            (kept self.old).routings (kept self.new).routings steps.old steps.new) }
+        requires { IsEditable self.old }
+        ensures { IsEditedQuickly self.old self.new (VrpAdd vrp) result steps.old steps.new }
     {
         self.is_small();
         if self.vrps.has(vrp) {
@@ -115,12 +106,8 @@ impl Parts {
         vrp: Vrp,
         steps: &mut Steps<L>,
     ) -> Result<Changed, EditError>
-        requires few_cells { live_count (pool_of self.old.rounds) ≤ MOST_CELLS }
-        requires right { AreRight self.old }
-        requires no_cycle { HasCycle (world_seen self.old) → ⊥ }
-        ensures edited { IsEdited self.old self.new (VrpTake vrp) result }
-        ensures quick { OnOk result (IsQuick (world_seen self.old) (world_seen self.new) (VrpTake vrp)
-            (kept self.old).routings (kept self.new).routings steps.old steps.new) }
+        requires { IsEditable self.old }
+        ensures { IsEditedQuickly self.old self.new (VrpTake vrp) result steps.old steps.new }
     {
         if !self.vrps.has(vrp) {
             return Err(EditError::AbsentVrp { vrp });

@@ -1,27 +1,21 @@
 //! Edits of policies.
-ghost use Rattle.std.specs.Prelude.{◌≡◌, ◌≢◌, ◌⊎◌, ◌≤◌, ℕ, true, false, Some, IsTrue, IfOk, IfErr, OnOk, OnErr, if◌then◌else◌};
-ghost use Rattle.std.specs.FinSet as set;
+ghost use Rattle.std.specs.Prelude.{◌≡◌, ◌≢◌, ◌⊎◌, ℕ, true, false, Some, IsTrue, IfOk, IfErr, OnOk, OnErr, if◌then◌else◌};
 ghost use Rattle.as_graph.specs.Edits.{without_mark};
-ghost use Rattle.as_graph.specs.Room.{is_room_with};
 ghost use Rattle.as_graph.specs.Topology.{relation};
 ghost use Rattle.net_names.specs.Numbers.{occurs};
 ghost use Rattle.net_names.specs.Prefixes.{PrefixValue};
 ghost use Rattle.net_names.specs.declared.routes.Rel.{Rel as ARel};
-ghost use Rattle.leak_round.specs.Rounds.{plan_of, pool_of};
+ghost use Rattle.leak_round.specs.Rounds.{plan_of};
 ghost use Rattle.leak_round.specs.Touched.{touches};
-ghost use Rattle.path_pool.specs.Pool.{live_count};
 ghost use Rattle.policy_kinds.specs.Kinds.{kind_policy};
 ghost use Rattle.scenario_text.specs.declared.acts.Edit.TheVariants.{Policy};
-ghost use Rattle.sim_core.specs.Editing.{IsEdited, IsGiven, IsRoomed, IsUndone};
-ghost use Rattle.sim_core.specs.Edits.{edited, refusal_of_edit};
+ghost use Rattle.sim_core.specs.Editing.{HasRoomToGive, IsEditable, IsEditedQuickly, IsGiven, IsRoomed, IsUndone};
+ghost use Rattle.sim_core.specs.Edits.{refusal_of_edit};
 ghost use Rattle.sim_core.specs.Loaded.{is_other as is_other_policy};
-ghost use Rattle.sim_core.specs.Views.{AreRight, kept, world_seen};
-ghost use Rattle.sim_core.specs.Steps.{IsQuick};
-ghost use Rattle.sim_core.specs.World.{HasCycle};
+ghost use Rattle.sim_core.specs.Views.{world_seen};
 ghost use Rattle.sim_core.specs.declared.errors.EditError.{EditError as AnEditError};
 ghost use Rattle.stability_laws.specs.Book.{policy_at};
 ghost use Rattle.stability_laws.specs.Plans.{has_prefix};
-ghost use Rattle.leak_round.specs.declared.rounds.TheConstants.{MOST_CELLS};
 
 use crate::naming::is_other;
 use crate::parts::Parts;
@@ -78,9 +72,7 @@ impl Parts {
     // Gives an AS a policy other than the plain one, for which there is room.
     fn give_other(&mut self, asn: Asn, kind: Kind) -> Result<(), EditError>
         requires other { is_other_policy (asn, kind) ≡ true }
-        requires listed { (kind_policy kind).reads_state ≡ true → occurs asn self.old.readers.ases ≡ true }
-        requires graph { is_room_with self.old.graph.room asn ≡ true }
-        requires book { IsTrue (set.contains self.old.book.room asn) }
+        requires room { HasRoomToGive self.old asn kind }
         ensures ok { OnOk result (IsGiven self.old self.new asn kind) }
         ensures err { OnErr result (IsUndone self.old self.new) }
         ensures refused { IfErr result (λ e. refusal_of_edit (world_seen self.old) (Policy asn kind) ≡ Some e) }
@@ -112,9 +104,7 @@ impl Parts {
 
     // Gives an AS a policy, for which there is room.
     fn give(&mut self, asn: Asn, kind: Kind) -> Result<(), EditError>
-        requires listed { (kind_policy kind).reads_state ≡ true → occurs asn self.old.readers.ases ≡ true }
-        requires graph { is_room_with self.old.graph.room asn ≡ true }
-        requires book { IsTrue (set.contains self.old.book.room asn) }
+        requires { HasRoomToGive self.old asn kind }
         ensures ok { OnOk result (IsGiven self.old self.new asn kind) }
         ensures err { OnErr result (IsUndone self.old self.new) }
         ensures refused { IfErr result (λ e. refusal_of_edit (world_seen self.old) (Policy asn kind) ≡ Some e) }
@@ -129,9 +119,7 @@ impl Parts {
 
     // Gives an AS a policy that it can have.
     fn give_back(&mut self, asn: Asn, kind: Kind)
-        requires listed { (kind_policy kind).reads_state ≡ true → occurs asn self.old.readers.ases ≡ true }
-        requires graph { is_room_with self.old.graph.room asn ≡ true }
-        requires book { IsTrue (set.contains self.old.book.room asn) }
+        requires room { HasRoomToGive self.old asn kind }
         requires fits { (e : AnEditError) → refusal_of_edit (world_seen self.old) (Policy asn kind) ≡ Some e → ⊥ }
         ensures { IsGiven self.old self.new asn kind }
     {
@@ -177,12 +165,8 @@ impl Parts {
         kind: Kind,
         steps: &mut Steps<L>,
     ) -> Result<Changed, EditError>
-        requires few_cells { live_count (pool_of self.old.rounds) ≤ MOST_CELLS }
-        requires right { AreRight self.old }
-        requires no_cycle { HasCycle (world_seen self.old) → ⊥ }
-        ensures edited { IsEdited self.old self.new (Policy asn kind) result }
-        ensures quick { OnOk result (IsQuick (world_seen self.old) (world_seen self.new) (Policy asn kind)
-            (kept self.old).routings (kept self.new).routings steps.old steps.new) }
+        requires { IsEditable self.old }
+        ensures { IsEditedQuickly self.old self.new (Policy asn kind) result steps.old steps.new }
     {
         links_are_sound();
         let was = self.kind_of(asn);

@@ -1,11 +1,10 @@
 //! Watches that are taken to an edited world: room first, and then the change without memory.
-ghost use Rattle.std.specs.Prelude.{◌≡◌, ℕ, suc, ◌<◌, ◌≤◌, Some, OnOk, length, map, slice_get};
-ghost use Rattle.as_graph.specs.Topology.{as_count};
-ghost use Rattle.data_trace.specs.declared.watch.Watch.{Watch as AWatch};
+ghost use Rattle.std.specs.Prelude.{◌≡◌, ℕ, suc, ◌<◌, ◌≤◌, Some, OnOk, length, map};
 ghost use Rattle.leak_round.specs.Plans.{ases_told};
 ghost use Rattle.leak_round.specs.Rounds.{kept as kept_rounds, plan_of, round_count};
 ghost use Rattle.sim_core.specs.Renewing.{AreRoomy, AreRoundsRoomy, CanFollow, CanAllFollow};
 ghost use Rattle.sim_core.specs.Watching.{AreRoundWatches, AreWatches, GoesOnInside, addrs_in, seen_in};
+ghost use Rattle.leak_round.specs.declared.limits.TheConstants.{MOST_ROUNDS};
 
 use crate::watching::RoundWatches;
 use as_graph::Graph;
@@ -84,7 +83,7 @@ pub fn renew(
     requires inside { (before : ℕ) → before < round_count rounds.now →
         GoesOnInside graph.now (plan_of rounds.now) (kept_rounds rounds.now (suc before)) }
     requires roomy { AreRoundsRoomy graph.now all.old.items }
-    requires few { round_count rounds.now ≤ 4 }
+    requires few { round_count rounds.now ≤ MOST_ROUNDS }
     requires follow { CanAllFollow graph.now (plan_of rounds.now) (kept_rounds rounds.now) book.now
         (ases_told done.now) ends.now (map seen_in all.old.items) }
     ensures rows { AreRoundWatches graph.now (plan_of rounds.now) (kept_rounds rounds.now) book.now

@@ -6,9 +6,9 @@ use Rattle.leak_round.specs.Rounds.{kept, plan_of, round_count}
 use Rattle.sim_core.specs.Renewing.{CanFollow}
 use Rattle.sim_core.specs.Watching.{AreWatches, GoesOnInside, addrs_in, seen_in}
 use Rattle.sim_core.specs.declared.watching.RoundWatches.{RoundWatches}
-use Rattle.sim_core.proofs.Renewals.{read_at}
+use Rattle.sim_core.proofs.Renewals.{next_worked, read_at}
 use Rattle.sim_core.proofs.Watches.{got_mapped, map_at}
-use Rattle.sim_core.proofs.Working.{map_worked, one_worked, rows_more}
+use Rattle.sim_core.proofs.Working.{map_worked, rows_more}
 use Rattle.sim_core.proofs.renewing.renew.Goals as goal
 
 pub renew_in-requires-clause-inside : goal.renew_in-requires-clause-inside
@@ -50,7 +50,7 @@ loop-place-preserved c =
     let P : ℕ → RoundWatches → Type 0 = λ k z. AreWatches c.args.graph.now (plan_of c.args.rounds.now) (kept c.args.rounds.now (suc k)) c.args.book.now (seen_in z) in
     let here : P n x = subst (λ (r : ℕ). AreWatches c.args.graph.now (plan_of c.args.rounds.now) (kept c.args.rounds.now r) c.args.book.now (seen_in x)) next c.renew_in.ensures.rows in
     record {
-      so_far = one_worked (λ u z. addrs_in z ≡ addrs_in u) old mid n y x c.loop-place.invariant.so_far less (read_at mid n y less c.index_mut.ensures.value) c.renew_in.ensures.addrs;
+      so_far = next_worked (λ u z. addrs_in z ≡ addrs_in u) old mid n y x c.loop-place.invariant.so_far less c.index_mut.ensures.value c.renew_in.ensures.addrs;
       rows = rows_more P mid n x less c.loop-place.invariant.rows here;
     }
 

@@ -15,19 +15,22 @@ use Rattle.sim_core.proofs.Grounds.{quick_by}
 use Rattle.sim_core.proofs.PayloadEdits.{added_again, added_taken, no_changes, no_steps, payload_allowed, reads_kind, too_many_payloads, vrps_undone, with_payloads}
 use Rattle.sim_core.proofs.parts.Parts.add_vrp.Goals as goal
 
-pub returns-then-has-clause-edited : goal.returns-then-has-clause-edited
-returns-then-has-clause-edited g c =
+pub returns-then-has : goal.returns-then-has
+returns-then-has g c =
     let s = c.args.self.now in
     let world = ap (λ (p : Payloads). with_payloads (world_seen s) p) (sym (added_again s.vrps c.args.vrp (sym c.if-has.ensures))) in
-    record { world = world; allowed = payload_allowed s (VrpAdd c.args.vrp) s.vrps world refl c.is_small.ensures c.requires.no_cycle; right = c.requires.right; changed = no_changes (plan_of s.rounds) (round_count s.rounds) (kept s.rounds) }
+    record {
+      edited = record { world = world; allowed = payload_allowed s (VrpAdd c.args.vrp) s.vrps world refl c.is_small.ensures c.requires.no_cycle; right = c.requires.right; changed = no_changes (plan_of s.rounds) (round_count s.rounds) (kept s.rounds) };
+      quick = no_steps (world_seen s) (world_seen s) (VrpAdd c.args.vrp) (kept s.rounds) (kept s.rounds) c.args.steps.now;
+    }
 
-pub returns-then-has-clause-quick : goal.returns-then-has-clause-quick
-returns-then-has-clause-quick g c = no_steps (world_seen c.args.self.now) (world_seen c.args.self.now) (VrpAdd c.args.vrp) (kept c.args.self.now.rounds) (kept c.args.self.now.rounds) c.args.steps.now
-
-pub returns-in-Err-TooMany-clause-edited : goal.returns-in-Err-TooMany-clause-edited
-returns-in-Err-TooMany-clause-edited g c =
+pub returns-in-Err-TooMany : goal.returns-in-Err-TooMany
+returns-in-Err-TooMany g c =
     let why = c.in-Err-TooMany.ensures.too_many.0 (ap (λ e. Err e) c.in-Err-TooMany.field-0-is) in
-    (too_many_payloads c.args.self.now c.args.vrp c.is_small.ensures why.0 why.1, vrps_undone c.args.self.now _ refl refl c.in-Err-TooMany.ensures.err (record { ranks = refl; rounds = refl; watched = refl; watches = refl }))
+    record {
+      edited = (too_many_payloads c.args.self.now c.args.vrp c.is_small.ensures why.0 why.1, vrps_undone c.args.self.now _ refl refl c.in-Err-TooMany.ensures.err (record { ranks = refl; rounds = refl; watched = refl; watches = refl }));
+      quick = tt;
+    }
 
 pub change_with-requires-clause-from : goal.change_with-requires-clause-from
 change_with-requires-clause-from g c =
@@ -35,24 +38,23 @@ change_with-requires-clause-from g c =
     let back : taken c.add.new.self c.args.vrp ≡ s.vrps = ap (λ (p : Payloads). taken p c.args.vrp) c.in-Ok.ensures.ok ∙ added_taken s.vrps c.args.vrp (sym c.if-has.ensures) in
     subst (λ (p : Payloads). BelongTo (record { graph = s.graph; payloads = p; book = s.book }) s.ranks s.rounds s.watches.items) (sym back) (belongs s c.requires.right c.requires.no_cycle)
 
-pub returns-in-Ok-change_with-clause-edited : goal.returns-in-Ok-change_with-clause-edited
-returns-in-Ok-change_with-clause-edited g c =
-    let s = c.args.self.now in
-    let e = VrpAdd c.args.vrp in
-    let world = ap (λ (p : Payloads). with_payloads (world_seen s) p) c.in-Ok.ensures.ok in
-    changed_done s _ c.change_with.new.self e c.in-Ok-change_with.changed.routes world (record { ranks = refl; rounds = refl; watched = refl; watches = refl })
-    (payload_allowed s e c.add.new.self world refl c.is_small-2.ensures c.requires.no_cycle) c.in-Ok-change_with.ensures.changed
-
-pub returns-in-Ok-change_with-clause-quick : goal.returns-in-Ok-change_with-clause-quick
-returns-in-Ok-change_with-clause-quick g c =
+pub returns-in-Ok-change_with : goal.returns-in-Ok-change_with
+returns-in-Ok-change_with g c =
     let s = c.args.self.now in
     let now = c.change_with.new.self in
-    quick_by s now.rounds (relation s.graph) (relation (topology (world_seen now))) (VrpAdd c.args.vrp) c.args.steps.now c.change_with.new.steps (λ (p : PrefixValue) (a : ℕ). (covers c.args.vrp.prefix p ≡ true) × ((kind_policy (policy_at s.book a)).reads_state ≡ true)) (ap relation (sym c.in-Ok-change_with.ensures.changed.graph))
-    (λ x n there. record { from = n.from; to = n.to; known = n.known; counts = inl (there.0, reads_kind s x.1.1 there.1) }) c.in-Ok-change_with.ensures.quick
+    let e = VrpAdd c.args.vrp in
+    let is = c.in-Ok-change_with.ensures.changed in
+    let world = ap (λ (p : Payloads). with_payloads (world_seen s) p) c.in-Ok.ensures.ok in
+    record {
+      edited = changed_done s _ now e c.in-Ok-change_with.changed.routes world (record { ranks = refl; rounds = refl; watched = refl; watches = refl })
+          (payload_allowed s e c.add.new.self world refl c.is_small-2.ensures c.requires.no_cycle) is;
+      quick = quick_by s now.rounds (relation s.graph) (relation (topology (world_seen now))) e c.args.steps.now c.change_with.new.steps (λ (p : PrefixValue) (a : ℕ). (covers c.args.vrp.prefix p ≡ true) × ((kind_policy (policy_at s.book a)).reads_state ≡ true)) (ap relation (sym is.graph))
+          (λ x n there. record { from = n.from; to = n.to; known = n.known; counts = inl (there.0, reads_kind s x.1.1 there.1) }) c.in-Ok-change_with.ensures.quick;
+    }
 
-pub returns-in-Err-clause-edited : goal.returns-in-Err-clause-edited
-returns-in-Err-clause-edited g c =
+pub returns-in-Err : goal.returns-in-Err
+returns-in-Err g c =
     let s = c.args.self.now in
     let same = c.in-Err.ensures.err in
     let vrps : c.take.new.self ≡ s.vrps = c.take.ensures.gone ∙ (ap (λ (p : Payloads). taken p c.args.vrp) (same.vrps ∙ c.in-Ok.ensures.ok) ∙ added_taken s.vrps c.args.vrp (sym c.if-has.ensures)) in
-    (tt, seen_undone s _ (ap (λ (t : Topology). t.links) same.graph) vrps same.book same.watched same.alike)
+    record { edited = (tt, seen_undone s _ (ap (λ (t : Topology). t.links) same.graph) vrps same.book same.watched same.alike); quick = tt }

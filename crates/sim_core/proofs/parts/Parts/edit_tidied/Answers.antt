@@ -1,24 +1,32 @@
-use Rattle.sim_core.specs.Views.{kept, world_seen}
-use Rattle.sim_core.proofs.Grounds.{quick_is}
+use Rattle.std.proofs.Common.{◌≡◌, ℕ, Result, sym, subst}
+use Rattle.scenario_text.specs.declared.acts.Edit.{Edit}
+use Rattle.sim_core.specs.Editing.{IsEditedQuickly}
+use Rattle.sim_core.specs.declared.editing.Changed.{Changed}
+use Rattle.sim_core.specs.declared.errors.EditError.{EditError}
+use Rattle.sim_core.specs.declared.parts.Parts.{Parts}
 use Rattle.sim_core.proofs.parts.Parts.edit_tidied.Goals as goal
 
-pub returns-in-Link-clause-quick : goal.returns-in-Link-clause-quick
-returns-in-Link-clause-quick g c = quick_is (world_seen c.args.self.now) (world_seen c.edit_link.new.self) (kept c.args.self.now).routings (kept c.edit_link.new.self).routings c.args.steps.now c.edit_link.new.steps _ c.args.edit.now c.edit_link.result c.in-Link.is c.edit_link.ensures.quick
+-- the same edit
+same_edit : (old new : Parts) (d e : Edit) (r : Result Changed EditError) (first last : ℕ) → e ≡ d → IsEditedQuickly old new d r first last → IsEditedQuickly old new e r first last
+same_edit old new d e r first last same h = subst (λ (x : Edit). IsEditedQuickly old new x r first last) (sym same) h
 
-pub returns-in-Unlink-clause-quick : goal.returns-in-Unlink-clause-quick
-returns-in-Unlink-clause-quick g c = quick_is (world_seen c.args.self.now) (world_seen c.edit_unlink.new.self) (kept c.args.self.now).routings (kept c.edit_unlink.new.self).routings c.args.steps.now c.edit_unlink.new.steps _ c.args.edit.now c.edit_unlink.result c.in-Unlink.is c.edit_unlink.ensures.quick
+pub returns-in-Link : goal.returns-in-Link
+returns-in-Link g c = same_edit _ _ _ _ _ _ _ c.in-Link.is c.edit_link.ensures
 
-pub returns-in-Policy-clause-quick : goal.returns-in-Policy-clause-quick
-returns-in-Policy-clause-quick g c = quick_is (world_seen c.args.self.now) (world_seen c.edit_policy.new.self) (kept c.args.self.now).routings (kept c.edit_policy.new.self).routings c.args.steps.now c.edit_policy.new.steps _ c.args.edit.now c.edit_policy.result c.in-Policy.is c.edit_policy.ensures.quick
+pub returns-in-Unlink : goal.returns-in-Unlink
+returns-in-Unlink g c = same_edit _ _ _ _ _ _ _ c.in-Unlink.is c.edit_unlink.ensures
 
-pub returns-in-VrpAdd-clause-quick : goal.returns-in-VrpAdd-clause-quick
-returns-in-VrpAdd-clause-quick g c = quick_is (world_seen c.args.self.now) (world_seen c.add_vrp.new.self) (kept c.args.self.now).routings (kept c.add_vrp.new.self).routings c.args.steps.now c.add_vrp.new.steps _ c.args.edit.now c.add_vrp.result c.in-VrpAdd.is c.add_vrp.ensures.quick
+pub returns-in-Policy : goal.returns-in-Policy
+returns-in-Policy g c = same_edit _ _ _ _ _ _ _ c.in-Policy.is c.edit_policy.ensures
 
-pub returns-in-VrpTake-clause-quick : goal.returns-in-VrpTake-clause-quick
-returns-in-VrpTake-clause-quick g c = quick_is (world_seen c.args.self.now) (world_seen c.take_vrp.new.self) (kept c.args.self.now).routings (kept c.take_vrp.new.self).routings c.args.steps.now c.take_vrp.new.steps _ c.args.edit.now c.take_vrp.result c.in-VrpTake.is c.take_vrp.ensures.quick
+pub returns-in-VrpAdd : goal.returns-in-VrpAdd
+returns-in-VrpAdd g c = same_edit _ _ _ _ _ _ _ c.in-VrpAdd.is c.add_vrp.ensures
 
-pub returns-in-Announce-clause-quick : goal.returns-in-Announce-clause-quick
-returns-in-Announce-clause-quick g c = quick_is (world_seen c.args.self.now) (world_seen c.announce.new.self) (kept c.args.self.now).routings (kept c.announce.new.self).routings c.args.steps.now c.announce.new.steps _ c.args.edit.now c.announce.result c.in-Announce.is c.announce.ensures.quick
+pub returns-in-VrpTake : goal.returns-in-VrpTake
+returns-in-VrpTake g c = same_edit _ _ _ _ _ _ _ c.in-VrpTake.is c.take_vrp.ensures
 
-pub returns-in-Withdraw-clause-quick : goal.returns-in-Withdraw-clause-quick
-returns-in-Withdraw-clause-quick g c = quick_is (world_seen c.args.self.now) (world_seen c.withdraw.new.self) (kept c.args.self.now).routings (kept c.withdraw.new.self).routings c.args.steps.now c.withdraw.new.steps _ c.args.edit.now c.withdraw.result c.in-Withdraw.is c.withdraw.ensures.quick
+pub returns-in-Announce : goal.returns-in-Announce
+returns-in-Announce g c = same_edit _ _ _ _ _ _ _ c.in-Announce.is c.announce.ensures
+
+pub returns-in-Withdraw : goal.returns-in-Withdraw
+returns-in-Withdraw g c = same_edit _ _ _ _ _ _ _ c.in-Withdraw.is c.withdraw.ensures

@@ -30,7 +30,7 @@ invariant_of-self c =
       small = s.small;
       few = s.few;
       closed = s.closed;
-      reading = λ a reads. reading_with s.book.named c.set.new.self.named s.book.rest c.args.asn c.args.kind s.readers.ases set_is s.reading c.requires.listed a (ap (λ (r : Kind). (kind_policy (unwrap_or (fin.get c.set.new.self.named a) r)).reads_state) (sym (ap (λ (b : PolicyBook Kind). b.rest) c.set.ensures)) ∙ reads);
+      reading = λ a reads. reading_with s.book.named c.set.new.self.named s.book.rest c.args.asn c.args.kind s.readers.ases set_is s.reading c.requires.room.listed a (ap (λ (r : Kind). (kind_policy (unwrap_or (fin.get c.set.new.self.named a) r)).reads_state) (sym (ap (λ (b : PolicyBook Kind). b.rest) c.set.ensures)) ∙ reads);
       once = s.once;
       watching = s.watching;
     }

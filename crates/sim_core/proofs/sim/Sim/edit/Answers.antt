@@ -30,15 +30,15 @@ returns-in_err-tidied-clause-refused g c =
     let p = err_from_is_err_and c.from_residual.result c.from_residual.ensures.1 in
     rw (p.1, p.2) tt
 
-pub edit_tidied-requires-clause-right : goal.edit_tidied-requires-clause-right
-edit_tidied-requires-clause-right g c =
+pub edit_tidied-requires-clause-editable : goal.edit_tidied-requires-clause-editable
+edit_tidied-requires-clause-editable g c =
     let s = c.args.self.now.parts in
-    still s c.tidied.new.self (unchanged s c.tidied.new.self c.tidied.ensures.unchanged) (right_by s c.args.self.now.counted c.requires.kept)
-
-pub edit_tidied-requires-clause-no_cycle : goal.edit_tidied-requires-clause-no_cycle
-edit_tidied-requires-clause-no_cycle g c =
-    let s = c.args.self.now.parts in
-    still_acyclic s c.tidied.new.self (unchanged s c.tidied.new.self c.tidied.ensures.unchanged) c.requires.no_cycle
+    let undone = unchanged s c.tidied.new.self c.tidied.ensures.unchanged in
+    record {
+      few_cells = c.in_ok-tidied.ensures.few_cells;
+      right = still s c.tidied.new.self undone (right_by s c.args.self.now.counted c.requires.kept);
+      no_cycle = still_acyclic s c.tidied.new.self undone c.requires.no_cycle;
+    }
 
 pub invariant_of-self-2 : goal.invariant_of-self-2
 invariant_of-self-2 g c =

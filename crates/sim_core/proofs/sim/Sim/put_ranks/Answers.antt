@@ -1,7 +1,6 @@
-use Rattle.std.proofs.lemmas.Result.{err_from_is_err_and}
+use Rattle.sim_core.specs.declared.errors.QueryError.TheVariants.{Memory}
+use Rattle.sim_core.proofs.Replies.{not_answered}
 use Rattle.sim_core.proofs.sim.Sim.put_ranks.Goals as goal
 
-pub returns-in_err-put_ranks-clause-refused : goal.returns-in_err-put_ranks-clause-refused
-returns-in_err-put_ranks-clause-refused c =
-    let p = err_from_is_err_and c.from_residual.result c.from_residual.ensures.1 in
-    rw (p.1, p.2) tt
+pub returns-in_err-put_ranks : goal.returns-in_err-put_ranks
+returns-in_err-put_ranks c = not_answered _ _ _ _ Memory c.from_residual.result c.from_residual.ensures.1 tt c.in_err-put_ranks.ensures.err

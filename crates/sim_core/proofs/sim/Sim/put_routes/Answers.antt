@@ -1,15 +1,10 @@
-use Rattle.std.proofs.lemmas.Result.{err_from_is_err_and}
 use Rattle.scenario_text.specs.declared.acts.Query.TheVariants as query
-use Rattle.sim_core.specs.Sims.{world_seen}
-use Rattle.sim_core.proofs.Replies.{query_refused}
+use Rattle.sim_core.specs.declared.errors.QueryError.TheVariants.{Memory}
+use Rattle.sim_core.proofs.Replies.{not_answered, not_answered_for}
 use Rattle.sim_core.proofs.sim.Sim.put_routes.Goals as goal
 
-pub returns-in_err-table-clause-refused : goal.returns-in_err-table-clause-refused
-returns-in_err-table-clause-refused c =
-    let p = err_from_is_err_and c.from_residual.result c.from_residual.ensures.1 in
-    rw (p.1, p.2) (query_refused (world_seen c.args.self.now) (query.Routes c.args.round c.args.prefix) c.in_err-table.field-0.0 c.in_err-table.ensures.refused)
+pub returns-in_err-table : goal.returns-in_err-table
+returns-in_err-table c = not_answered_for c.args.self.now (query.Routes c.args.round c.args.prefix) _ c.in_err-table.field-0.0 c.from_residual.result c.from_residual.ensures.1 c.in_err-table.ensures.refused
 
-pub returns-in_err-put_routes-clause-refused : goal.returns-in_err-put_routes-clause-refused
-returns-in_err-put_routes-clause-refused c =
-    let p = err_from_is_err_and c.from_residual-in_err-put_routes.result c.from_residual-in_err-put_routes.ensures.1 in
-    rw (p.1, p.2) tt
+pub returns-in_err-put_routes : goal.returns-in_err-put_routes
+returns-in_err-put_routes c = not_answered _ _ _ _ Memory c.from_residual-in_err-put_routes.result c.from_residual-in_err-put_routes.ensures.1 tt c.in_err-put_routes.ensures.err

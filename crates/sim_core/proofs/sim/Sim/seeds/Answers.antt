@@ -1,9 +1,11 @@
 use Rattle.std.proofs.Common.{◌-◌, refl, sym, subst, ◌∙◌}
-use Rattle.std.proofs.lemmas.Result.{err_from_is_err_and}
 use Rattle.scenario_text.specs.declared.acts.Query.TheVariants as query
 use Rattle.stability_laws.specs.Plans.{IsSound}
+use Rattle.sim_core.specs.Answers.{IsQueryRefusal}
 use Rattle.sim_core.specs.Sims.{kept, world_seen}
 use Rattle.sim_core.specs.World.{topology}
+use Rattle.sim_core.specs.declared.errors.QueryError.TheVariants.{Memory}
+use Rattle.sim_core.proofs.Exits.{handed_on}
 use Rattle.sim_core.proofs.Replies.{query_refused}
 use Rattle.sim_core.proofs.Lent.{seed_starts}
 use Rattle.sim_core.proofs.Unnamed.{gone_unnamed, unseeded}
@@ -26,10 +28,11 @@ returns-clause-own c = λ is a seed at.
 
 pub returns-in_err-_table-clause-refused : goal.returns-in_err-_table-clause-refused
 returns-in_err-_table-clause-refused c =
-    let p = err_from_is_err_and c.from_residual.result c.from_residual.ensures.1 in
-    rw (p.1, p.2) (query_refused (world_seen c.args.self.now) (query.Routes c.args.round c.args.prefix) c.in_err-_table.field-0.0 c.in_err-_table.ensures.refused)
+    let w = world_seen c.args.self.now in
+    let q = query.Routes c.args.round c.args.prefix in
+    let e = c.in_err-_table.field-0.0 in
+    handed_on (IsQueryRefusal w q) e c.from_residual.result c.from_residual.ensures.1 (query_refused w q e c.in_err-_table.ensures.refused)
 
 pub returns-in_err-seeds-clause-refused : goal.returns-in_err-seeds-clause-refused
 returns-in_err-seeds-clause-refused c =
-    let p = err_from_is_err_and c.from_residual-in_err-seeds.result c.from_residual-in_err-seeds.ensures.1 in
-    rw (p.1, p.2) tt
+    handed_on (IsQueryRefusal (world_seen c.args.self.now) (query.Routes c.args.round c.args.prefix)) Memory c.from_residual-in_err-seeds.result c.from_residual-in_err-seeds.ensures.1 tt
