@@ -7,6 +7,7 @@ pub mod Unread
 pub mod Room
 pub mod RoundLemmas
 pub mod RowLemmas
+pub mod Filling
 pub mod Counted
 pub mod Leads
 pub mod Adding

@@ -1,5 +1,5 @@
 -- Entries by AS, and how often each path is used by them.
-use Rattle.std.specs.Prelude.{◌≡◌, ℕ, ◌≤◌, List, Option, None, Some, ◌==◌, if◌then◌else◌, nat_eq, unwrap_or}
+use Rattle.std.specs.Prelude.{◌≡◌, ℕ, ◌≤◌, List, Option, None, Some, ◌==◌, if◌then◌else◌, map, nat_eq, unwrap_or}
 use Rattle.std.specs.List.{sum_by}
 use Rattle.std.specs.Map.{keys_of, values_of, lookup}
 use Rattle.net_names.specs.Numbers.{occurs}
@@ -21,6 +21,10 @@ slot_at m a = lookup (nat_eq a) m.entries
 -- The entry at an AS, if there is one.
 abbrev pub entry_at : Slots → ℕ → Option Held
 entry_at m a = unwrap_or (slot_at m a) None
+
+-- These ASes, in their order, each with the entry at it, if there is one.
+abbrev pub entries_at : Slots → List ℕ → List (ℕ × Option Held)
+entries_at m ases = map (λ (a : ℕ). (a, entry_at m a)) ases
 
 -- A change where there is one, else what stands below it.
 abbrev pub over : Option (Option Held) → Option Held → Option Held

@@ -6,6 +6,7 @@ use Rattle.net_names.specs.Prefixes.{PrefixValue as Prefix}
 use Rattle.route_choice.specs.declared.held.Held.{Held}
 use Rattle.route_choice.specs.declared.held.SeedHeld.{SeedHeld}
 use Rattle.route_choice.specs.declared.table.Table.{Table}
+use Rattle.route_choice.specs.declared.table.room.TableRoom.{TableRoom}
 use Rattle.route_choice.specs.declared.overlay.Overlay.{Overlay}
 use Rattle.route_choice.specs.declared.seeds.SeedIds.{SeedIds}
 use Rattle.route_choice.specs.Slots.{slot_at, entry_at, keys, over, uses_of}
@@ -25,6 +26,10 @@ table_uses t k = uses_of t.slots k
 -- For how many more ASes a table has room.
 abbrev pub table_spare : Table → ℕ
 table_spare t = t.slots.spare
+
+-- The ASes for whose table there is room, in the order of its rows.
+abbrev pub ases_of : TableRoom → List ℕ
+ases_of r = r.ases.value.ases
 
 -- The change at an AS, if there is one: a new entry, or none.
 abbrev pub change_at : Overlay → ℕ → Option (Option Held)

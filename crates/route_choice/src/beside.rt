@@ -188,4 +188,28 @@ impl Beside {
         }
         exchange_in(&mut self.others, asn, entry)
     }
+    /// Takes the entry at an AS away, which may stand at that place in a table. An AS that is there stays,
+    /// without an entry.
+    #[inline(never)]
+    pub fn take(&mut self, asn: Asn, near: usize) -> Option<Held>
+        ensures taken { result ≡ unwrap_or (lookup (nat_eq asn) (beside_entries self.old)) None }
+        ensures none { unwrap_or (lookup (nat_eq asn) (beside_entries self.new)) None ≡ None }
+        ensures others { (a : ℕ) → a ≢ asn →
+            lookup (nat_eq a) (beside_entries self.new) ≡ lookup (nat_eq a) (beside_entries self.old) }
+        ensures uses { (k : ℕ) → uses_in (beside_entries self.new) k + use_of k result
+            ≡ uses_in (beside_entries self.old) k }
+        ensures kept { IsSome (lookup (nat_eq asn) (beside_entries self.old)) →
+            IsSome (lookup (nat_eq asn) (beside_entries self.new)) }
+        ensures keys { keys_of (beside_entries self.new) ≡ keys_of (beside_entries self.old) }
+        ensures spare { beside_spare self.new ≡ beside_spare self.old }
+    {
+        match self.get(asn) {
+            Some(Some(held)) => {
+                let _held = self.exchange(asn, near, None);
+                Some(held)
+            }
+            Some(None) => None,
+            None => None,
+        }
+    }
 }

@@ -49,6 +49,6 @@ pub use seeds::SeedIds;
 pub use settling::{settle, settle_near};
 pub use stepping::{visit, visit_among};
 pub use steps::Steps;
-pub use table::{Table, uses_are_counted};
+pub use table::{Table, TableRoom, uses_are_counted};
 pub use turn::{PlacedAs, Turn};
 pub use views::view_but_for_loops;

@@ -17,11 +17,11 @@ ghost use Rattle.route_choice.specs.Leads.{ArePlainProviders, IsLead, IsSeenAs, 
 ghost use Rattle.route_choice.specs.PrefixWorlds.{setting_at, AreGiversAt, HasNoLoopsAt};
 ghost use Rattle.route_choice.specs.Resources.{AreLive, CanStep};
 ghost use Rattle.route_choice.specs.Routings.{routing_of};
-ghost use Rattle.route_choice.specs.Tables.{joined, seed_at};
+ghost use Rattle.route_choice.specs.Tables.{seed_at};
 ghost use Rattle.route_choice.specs.Visits.{IsVisit};
 
 use crate::looks::{held_near, place_at};
-use crate::settling::{Wanted, replace};
+use crate::settling::put_longer;
 use crate::{Held, Overlay, PlacedAs, PrefixWorld, Steps};
 use as_graph::Neighbour;
 use net_names::{Asn, Class};
@@ -149,11 +149,11 @@ pub fn visit_providers<P: RoutePolicy, V: OriginStates, L: Ledger>(
     let Some(given) = held_near(at.table, overlay, lead.provider, lead.place) else {
         return false;
     };
-    let wanted = Wanted::Longer(Held {
+    let longer = Held {
         class: Class::Provider,
         path: given.path,
         otc: given.otc,
-    });
-    replace(pool, overlay, asn, place, wanted);
+    };
+    put_longer(pool, overlay, asn, place, longer);
     true
 }

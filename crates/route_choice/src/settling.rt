@@ -2,6 +2,7 @@
 
 ghost use Rattle.std.specs.Prelude.{◌≡◌, ◌≢◌, ◌↔◌, ℕ, ◌<◌, ◌≤◌, IsTrue, IsSome, IsSomeAnd, Some, None, false, option_map, suc, unwrap_or, ◌∷◌};
 ghost use Rattle.route_choice.specs.declared.held.Held.{Held as AHeld};
+ghost use Rattle.route_choice.specs.declared.settling.Wanted.TheVariants.{Longer as ALonger};
 ghost use Rattle.path_pool.specs.declared.pool.PathPool.{PathPool as APool};
 ghost use Rattle.path_pool.specs.declared.pool.TheConstants.{MOST_COUNT};
 ghost use Rattle.path_pool.specs.Pool.{IsLive, list_of, holds_of, count_of, live_count, spare_of};
@@ -24,7 +25,7 @@ use stability_laws::{carried, class_from};
 
 // The entry that a choice names, before its path is made.
 #[derive(Clone, Copy)]
-pub(crate) enum Wanted {
+enum Wanted {
     // None.
     Nothing,
     // This one, with a path that is there.
@@ -169,13 +170,7 @@ fn made(pool: &mut PathPool, asn: Asn, wanted: Wanted) -> Option<Held>
 
 // Puts the wanted entry in place, and gives back the hold of a change that was there.
 #[inline(always)]
-pub(crate) fn replace(
-    pool: &mut PathPool,
-    overlay: &mut Overlay,
-    asn: Asn,
-    place: usize,
-    wanted: Wanted,
-)
+fn replace(pool: &mut PathPool, overlay: &mut Overlay, asn: Asn, place: usize, wanted: Wanted)
     requires live { IsWantedLive pool.old wanted }
     requires spare { 0 < spare_of pool.old }
     requires counts { (k : ℕ) → count_of pool.old k < MOST_COUNT }
@@ -190,6 +185,30 @@ pub(crate) fn replace(
     let new = made(pool, asn, wanted);
     let old = overlay.exchange_near(asn, place, new);
     let_go(pool, old);
+}
+
+// Puts an entry, with the AS before its path, at an AS at which there is none.
+#[inline(always)]
+pub(crate) fn put_longer(
+    pool: &mut PathPool,
+    overlay: &mut Overlay,
+    asn: Asn,
+    place: usize,
+    held: Held,
+)
+    requires live { IsLive pool.old held.path.0 }
+    requires nothing { unwrap_or (change_at overlay.old asn) None ≡ None }
+    requires spare { 0 < spare_of pool.old }
+    requires counts { (k : ℕ) → count_of pool.old k < MOST_COUNT }
+    requires held { (k : ℕ) → overlay_uses overlay.old k ≤ holds_of pool.old k }
+    requires room { HasPlace overlay.old asn }
+    ensures put { IsSomeAnd (change_at overlay.new asn) (λ e. option_map (entry_of pool.new) e
+        ≡ wanted_entry pool.old asn (ALonger held)) }
+    ensures spent { Spends pool.old pool.new overlay.old overlay.new asn }
+    ensures kept { (k : ℕ) → IsLive pool.old k → IsLive pool.new k }
+{
+    let new = made(pool, asn, Wanted::Longer(held));
+    let _none = overlay.exchange_near(asn, place, new);
 }
 
 /// Puts the entry that a choice names, as [`settle_near`] does, where it is known what the neighbour holds.

@@ -1,16 +1,18 @@
 //! Entries by AS, and the holds of their paths.
 
-ghost use Rattle.std.specs.Prelude.{◌≡◌, ◌≢◌, ◌⊎◌, ℕ, ◌+◌, ◌<◌, ◌≤◌, [], ◌∷◌, ◌++◌, length, slice_get, Some, None, IsSome, IsOk, IfOk, IfSome, OnOk, nat_eq, unwrap_or};
+ghost use Rattle.std.specs.Prelude.{◌≡◌, ◌≢◌, ◌⊎◌, ℕ, ◌+◌, ◌<◌, ◌≤◌, [], ◌∷◌, ◌++◌, true, false, length, slice_get, Some, None, IsSome, IsOk, IfOk, IfSome, OnOk, nat_eq, unwrap_or};
 ghost use Rattle.std.specs.List.{IsDistinct};
+ghost use Rattle.net_names.specs.Numbers.{occurs};
 ghost use Rattle.as_places.specs.Places.{place_of};
 ghost use Rattle.path_pool.specs.Pool.{holds_of};
-ghost use Rattle.route_choice.specs.Slots.{slot_at, entry_at, keys, over, use_of, uses_of, IsBlank};
+ghost use Rattle.route_choice.specs.Slots.{slot_at, entry_at, entries_at, keys, over, use_of, uses_in, uses_of, IsBlank};
 ghost use Rattle.route_choice.specs.Holds.{GivesBack};
-ghost use Rattle.route_choice.specs.Rows.{asns_of, placed_in};
+ghost use Rattle.route_choice.specs.Rows.{asns_of, entries_of, entry_in, placed_in};
 ghost use Rattle.std.specs.Rc.{rc_value};
 
 use crate::Held;
 use crate::first::Beside;
+use crate::looks::place_at;
 use crate::row::{Row, rows_of};
 use crate::slot::Slot;
 use as_places::AsPlaces;
@@ -107,6 +109,20 @@ impl Slots {
         })
     }
 
+    /// These ASes with these rows.
+    pub(crate) fn placed(alloc: Global, ases: Rc<AsPlaces>, rows: Vec<Row>) -> Slots
+        requires { asns_of rows.items ≡ ases.value.ases }
+        ensures { result.entries ≡ entries_of rows.items }
+    {
+        // The ASes are looked at for the clause that none stands twice.
+        let _ases = ases.as_slice();
+        Slots {
+            ases: Some(ases),
+            rows,
+            beside: Beside::new(alloc),
+        }
+    }
+
     /// How many ASes there are.
     pub(crate) fn len(&self) -> usize
         ensures count { result ≡ length self.now.entries }
@@ -172,6 +188,26 @@ impl Slots {
                 old
             }
             None => self.beside.exchange(asn, place, entry),
+        }
+    }
+
+    /// Takes the entry at an AS away, sought first at a place. An AS that is there stays, without an entry.
+    #[inline(always)]
+    pub(crate) fn take_near(&mut self, asn: Asn, place: usize) -> Slot
+        ensures taken { entry_in result ≡ entry_at self.old asn }
+        ensures none { entry_at self.new asn ≡ None }
+        ensures others { (a : ℕ) → a ≢ asn → slot_at self.new a ≡ slot_at self.old a }
+        ensures kept { IsSome (slot_at self.old asn) → IsSome (slot_at self.new asn) }
+        ensures uses { (k : ℕ) → uses_of self.new k + use_of k (entry_in result) ≡ uses_of self.old k }
+        ensures spare { self.new.spare ≡ self.old.spare }
+    {
+        match place_among(&self.ases, self.rows.as_slice(), asn, place) {
+            Some(found) => {
+                let slot = self.rows[found].slot;
+                self.rows[found].slot = Slot::Empty;
+                slot
+            }
+            None => Slot::of(self.beside.take(asn, place)),
         }
     }
 
@@ -242,4 +278,28 @@ pub(crate) fn let_all_go(slots: &Slots, pool: &mut PathPool)
         };
         let_go(pool, pair.1);
     }
+}
+
+/// The rows of these ASes, with the entries that stand in the slots at them, which go. The place of each row
+/// is where its AS may stand in the slots, a hint.
+pub(crate) fn take_rows(ases: &[Asn], room: Vec<Row>, from: &mut Slots, places: &[u32]) -> Vec<Row>
+    requires empty { room.items ≡ [] }
+    requires room { length ases.now ≤ room.cap }
+    requires apart { IsDistinct nat_eq ases.now }
+    ensures entries { entries_of result.items ≡ entries_at from.old ases.now }
+    ensures none { (a : ℕ) → occurs a ases.now ≡ true → entry_at from.new a ≡ None }
+    ensures others { (a : ℕ) → occurs a ases.now ≡ false → slot_at from.new a ≡ slot_at from.old a }
+    ensures kept { (a : ℕ) → IsSome (slot_at from.old a) → IsSome (slot_at from.new a) }
+    ensures uses { (k : ℕ) → uses_in (entries_of result.items) k + uses_of from.new k ≡ uses_of from.old k }
+    ensures spare { from.new.spare ≡ from.old.spare }
+{
+    let mut rows = room;
+    for (index, asn) in ases.iter().enumerate() {
+        let slot = from.take_near(*asn, place_at(places, index));
+        match rows.push(Row { asn: *asn, slot }) {
+            Ok(()) => {}
+            Err(_) => unreachable!(),
+        }
+    }
+    rows
 }

@@ -3,12 +3,14 @@
 ghost use Rattle.std.specs.Prelude.{◌≡◌, ℕ, ◌+◌, ◌≤◌, length, None, IsOk, OnOk, unwrap_or};
 
 mod counted;
+mod room;
 
 use crate::slots::{Slots, replace_all};
 use crate::{Held, Overlay};
 pub use counted::uses_are_counted;
 use net_names::{Asn, NoMemory, Prefix};
 use path_pool::PathPool;
+pub use room::TableRoom;
 use std::alloc::Global;
 
 /// What each AS holds of one prefix in one round. It owns one outside hold for each of its

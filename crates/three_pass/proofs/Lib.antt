@@ -12,5 +12,4 @@ pub mod ListLemmas
 pub mod Elements
 pub mod Noted
 pub mod Chains
-pub mod Emptied
 pub mod Marking

@@ -12,7 +12,6 @@ mod lists;
 mod looks;
 mod pass;
 mod passes;
-mod scratch;
 mod stable;
 mod told;
 mod way;

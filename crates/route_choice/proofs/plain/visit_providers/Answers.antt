@@ -10,22 +10,25 @@ use Rattle.route_choice.specs.Routings.{entry_of, routing_of, seed_of, seeds_of}
 use Rattle.route_choice.specs.Tables.{change_at, held_at}
 use Rattle.route_choice.proofs.Givers.{Giver, giver}
 use Rattle.route_choice.proofs.Leads.{IsTaken, lead_taken, plain_among, put_some, put_there}
-use Rattle.route_choice.proofs.Lists.{joined_live, spent_same, keeps_entry}
+use Rattle.route_choice.proofs.Lists.{joined_live, none_among, spent_same, keeps_entry}
 use Rattle.route_choice.proofs.plain.visit_providers.Goals as goal
 
 pub best_provider-requires-clause-live : goal.best_provider-requires-clause-live
 best_provider-requires-clause-live g c = joined_live c.args.pool.now c.args.at.now.table.now c.args.overlay.now c.requires.can.changes.held
 
-pub replace-requires-clause-live : goal.replace-requires-clause-live
-replace-requires-clause-live g c =
+pub put_longer-requires-clause-live : goal.put_longer-requires-clause-live
+put_longer-requires-clause-live g c =
     joined_live c.args.pool.now c.args.at.now.table.now c.args.overlay.now c.requires.can.changes.held c.in-Some.lead.provider c.in-Some-held_near.given (sym c.in-Some-held_near.ensures)
+
+pub put_longer-requires-clause-nothing : goal.put_longer-requires-clause-nothing
+put_longer-requires-clause-nothing g c = none_among c.args.pool.now (change_at c.args.overlay.now c.args.placed.asn) (held_at c.args.at.now.table.now c.args.placed.asn) c.requires.nothing
 
 pub returns-clause-visit : goal.returns-clause-visit
 returns-clause-visit g c =
     let a : ℕ = c.args.placed.asn in
     let here = setting_at g.P.RoutePolicy.meaning g.V.OriginStates.state_of c.args.at.now in
     let f = routing_of c.args.pool.now c.args.at.now.table.now c.args.overlay.now in
-    let f' = routing_of c.replace.new.pool c.args.at.now.table.now c.replace.new.overlay in
+    let f' = routing_of c.put_longer.new.pool c.args.at.now.table.now c.put_longer.new.overlay in
     let seeds = seeds_of c.args.pool.now c.args.at.now.seeds.now in
     let given : Held = c.in-Some-held_near.given in
     let taken : IsTaken here f a c.in-Some.lead.provider = lead_taken here f a c.in-Some.lead c.requires.own
@@ -37,18 +40,18 @@ returns-clause-visit g c =
     let same : taken.entry ≡ entry_of c.args.pool.now given = cc in
     let longer : Entry → Entry = λ e. record { class = class.Provider; path = a ∷ e.path; otc = e.otc } in
     let there : f' a ≡ Some (longer (entry_of c.args.pool.now given)) =
-    put_there (entry_of c.replace.new.pool) (change_at c.replace.new.overlay a) (held_at c.args.at.now.table.now a) (Some (longer (entry_of c.args.pool.now given))) c.replace.ensures.put in
+    put_there (entry_of c.put_longer.new.pool) (change_at c.put_longer.new.overlay a) (held_at c.args.at.now.table.now a) (Some (longer (entry_of c.args.pool.now given))) c.put_longer.ensures.put in
     let none : f a ≡ None = c.requires.nothing in
     let changed : f' a ≢ f a = λ e. (let x : Some (longer (entry_of c.args.pool.now given)) ≡ None = sym there ∙ e ∙ none in cc) in
     record {
       step = record {
-        others = spent_same c.args.pool.now c.replace.new.pool c.args.at.now.table.now c.args.overlay.now c.replace.new.overlay a c.requires.can.changes.held c.replace.ensures.spent;
+        others = spent_same c.args.pool.now c.put_longer.new.pool c.args.at.now.table.now c.args.overlay.now c.put_longer.new.overlay a c.requires.can.changes.held c.put_longer.ensures.spent;
         right = subst (λ s. IsRightGiven (here.policy a) s (λ n. offer here f n a) (f' a)) (sym (ap (option_map (seed_of c.args.pool.now)) c.requires.unseeded))
             (subst (IsRightGiven (here.policy a) None (λ n. offer here f n a)) (ap (λ e. Some (longer e)) same ∙ sym there) taken.right);
       };
       changed = ((λ yes. changed), (λ other. refl));
       unchanged = λ no. (let x : true ≡ false = no in cc);
-      put = λ yes. put_some _ (change_at c.replace.new.overlay a) c.replace.ensures.put;
-      spent = c.replace.ensures.spent;
-      kept = λ up. keeps_entry c.args.pool.now c.replace.new.pool c.args.at.now.seeds.now c.args.at.now.table.now c.args.overlay.now c.replace.new.overlay a c.requires.can.changes.seeds_live c.replace.ensures.spent.lists c.replace.ensures.kept changed up;
+      put = λ yes. put_some _ (change_at c.put_longer.new.overlay a) c.put_longer.ensures.put;
+      spent = c.put_longer.ensures.spent;
+      kept = λ up. keeps_entry c.args.pool.now c.put_longer.new.pool c.args.at.now.seeds.now c.args.at.now.table.now c.args.overlay.now c.put_longer.new.overlay a c.requires.can.changes.seeds_live c.put_longer.ensures.spent.lists (λ _. c.put_longer.ensures.kept) changed up;
     }
