@@ -1,5 +1,5 @@
 //! Texts to values.
-ghost use Rattle.std.specs.Prelude.{◌≡◌, ◌^◌, ◌<◌, ◌≤◌, ◌&&◌, ◌==◌, nat_le, None, bytes_eq, decimal, option_map, if◌then◌else◌, IfSome, length, position};
+ghost use Rattle.std.specs.Prelude.{◌≡◌, ◌^◌, ◌<◌, ◌≤◌, ◌&&◌, ◌==◌, nat_le, nat_lt, None, bytes_eq, decimal, option_map, if◌then◌else◌, IfSome, length, position};
 ghost use Rattle.std.specs.Int.{w32, w128, from_be_bytes};
 ghost use Rattle.std.specs.Net.Addr.{octets_of};
 ghost use Rattle.std.specs.Net.Reader.{whole_value, read_ipv4, read_ipv6, dot};
@@ -60,16 +60,24 @@ fn plain(text: &[u8], limit: u8) -> Option<u8>
     }
 }
 
+/// The number that 1 to 10 digits write, where it is at most 4294967295.
+fn number_of_32_bits(text: &[u8]) -> Option<u32>
+    ensures { result ≡ option_filter (λ n. nat_lt n (2 ^ 32)) (numeral 10 10 text.now) }
+{
+    let n = number(text, 10, 10)?;
+    if n > u32::MAX as u64 {
+        None
+    } else {
+        Some(n as u32)
+    }
+}
+
 /// None exactly where the text isn't 1 to 10 digits that say 1 to 4294967295.
 #[tactic(auto, unfolding(crate::specs::Texts::asn_of))]
 pub fn read_asn(text: &[u8]) -> Option<Asn>
     ensures { result ≡ asn_of text.now }
 {
-    let n = number(text, 10, 10)?;
-    if n > u32::MAX as u64 {
-        return None;
-    }
-    Asn::new(n as u32)
+    Asn::new(number_of_32_bits(text)?)
 }
 
 /// The class of that word; `None` exactly where the text is none of `origin`, `customer`, `peer` and `provider`. The words
@@ -130,13 +138,7 @@ pub fn strip<'a>(text: &'a [u8], front: &[u8]) -> Option<&'a [u8]>
 pub fn read_vrp_asn(text: &[u8]) -> Option<u32>
     ensures { result ≡ vrp_asn_of text.now }
 {
-    let digits = strip(text, b"AS").unwrap_or(text);
-    let n = number(digits, 10, 10)?;
-    if n > u32::MAX as u64 {
-        None
-    } else {
-        Some(n as u32)
-    }
+    number_of_32_bits(strip(text, b"AS").unwrap_or(text))
 }
 
 #[tactic(auto, unfolding(crate::specs::Texts::addr_of))]
