@@ -1,13 +1,15 @@
 -- The best view of one more neighbour.
-use Rattle.std.proofs.Common.{◌≡◌, ◌≢◌, ◌⊎◌, inl, inr, ℕ, zero, suc, ◌+◌, ◌<◌, Bool, true, false, ◌||◌, ◌==◌, cond, IsTrue, Option, Some, None, option_map, List, [], ◌∷◌, length, take, slice_index_or, refl, sym, ◌∙◌, ap, subst, arith}
+use Rattle.std.proofs.Common.{◌≡◌, ◌≢◌, ◌⊎◌, inl, inr, ℕ, zero, suc, ◌+◌, ◌<◌, Bool, true, false, ◌||◌, ◌==◌, cond, IsTrue, Option, Some, None, option_map, List, [], ◌∷◌, length, take, take_all, ◌≤◌, slice_index_or, refl, sym, ◌∙◌, ap, subst, arith}
 use Rattle.std.proofs.lemmas.Bool.{cases_eq, or_cases, or_right, eqb-true}
 use Rattle.policy_laws.specs.declared.policy.View.{View}
 use Rattle.policy_laws.specs.Policy.{Policy, RanksOffers}
 use Rattle.as_graph.specs.declared.neighbour.Neighbour.{Neighbour}
 use Rattle.net_names.specs.Numbers.{occurs}
-use Rattle.as_graph.specs.Neighbours.{asns}
-use Rattle.stability_laws.specs.Offers.{Offer}
+use Rattle.as_graph.specs.Neighbours.{asns, AreNeighbours}
+use Rattle.stability_laws.specs.declared.entry.Entry.{Entry}
+use Rattle.stability_laws.specs.Offers.{Setting, Offer, offer, GivenBy}
 use Rattle.stability_laws.specs.BestView.{IsFirstOf, IsBestViewOf, IsBestView, better_of}
+use Rattle.stability_laws.proofs.Local.{given_by}
 
 -- what is among the first i + 1 is the one at i, or among the first i
 pub among_more : (xs : List Neighbour) (i m : ℕ) (d : Neighbour) → i < length xs → occurs m (asns (take (i + 1) xs)) ≡ true → ((slice_index_or xs i d).asn ≡ m) ⊎ (occurs m (asns (take i xs)) ≡ true)
@@ -76,3 +78,20 @@ module _ (p : Policy) (ranks : RanksOffers p) (offers : ℕ → Option Offer) (o
       by n None e = e
       by n (Some o) e = r n (all n o e)
   best_of_all xs all (Some v) r = (r.offer, record { made = r.made; first = λ m q made ne. ap (λ x. p.before x q.view) r.seen ∙ r.first m q (all m q made) made ne }, r.seen)
+
+-- the neighbours of AS a, one after the other; for callers too
+module _ (w : Setting) (f : ℕ → Option Entry) (a : ℕ) (ranks : RanksOffers (w.policy a)) where
+  given : (n : ℕ) (o : Offer) → offer w f n a ≡ Some o → GivenBy (w.relation a n) n o
+  given n o made = given_by (w.policy n) (w.policy a) w.state n a (w.relation a n) (f n) o made
+
+  -- the best view of one neighbour more
+  pub best_of_next : (xs : List Neighbour) (i : ℕ) (x : Neighbour) → i < length xs → x ≡ slice_index_or xs i x → (best new : Option View) → new ≡ option_map (λ o. o.view) (offer w f x.asn a)
+      → IsBestViewOf (w.policy a) (λ n. offer w f n a) (asns (take i xs)) best → IsBestViewOf (w.policy a) (λ n. offer w f n a) (asns (take (i + 1) xs)) (better_of (w.policy a) best new)
+  best_of_next xs i x less is = one_more (w.policy a) ranks (λ n. offer w f n a) (λ n o made. (given n o made).neighbour) x.asn (asns (take i xs)) (asns (take (i + 1) xs))
+      (λ m there. subst (λ t. (t.asn ≡ m) ⊎ (occurs m (asns (take i xs)) ≡ true)) (sym is) (among_more xs i m x less there))
+
+  -- the best view of all neighbours is that of all ASes
+  pub best_of_neighbours : (xs : List Neighbour) (i : ℕ) → AreNeighbours w.relation a xs → length xs ≤ i → (best : Option View) → IsBestViewOf (w.policy a) (λ n. offer w f n a) (asns (take i xs)) best → IsBestView (w.policy a) (λ n. offer w f n a) best
+  best_of_neighbours xs i are past best right = best_of_all (w.policy a) ranks (λ n. offer w f n a) (λ n o made. (given n o made).neighbour)
+      (asns xs) (λ n o made. let from : GivenBy (w.relation a n) n o = given n o made in are.complete n from.from from.linked) best
+      (subst (λ ys. IsBestViewOf (w.policy a) (λ n. offer w f n a) (asns ys) best) (take_all i xs past) right)

@@ -1,5 +1,5 @@
 -- Lists that are walked from place to place up to the first that is past their end.
-use Rattle.std.proofs.Common.{◌≡◌, ℕ, zero, suc, ◌+◌, ◌<◌, ◌≤◌, Bool, true, false, ◌||◌, ◌==◌, Some, None, List, [], ◌∷◌, ◌++◌, length, take, take_all, get_or, refl, sym, ap, subst, ◌∙◌, arith, inl, inr}
+use Rattle.std.proofs.Common.{◌≡◌, ℕ, zero, suc, ◌+◌, ◌-◌, ◌<◌, ◌≤◌, Bool, true, false, ◌||◌, ◌==◌, Some, None, List, [], ◌∷◌, ◌++◌, length, take, take_all, get_or, refl, sym, ap, subst, ◌∙◌, arith, inl, inr}
 use Rattle.std.specs.Prelude.{IsTrue, slice_get}
 use Rattle.std.specs.Cmp.{ranked}
 use Rattle.std.specs.Ordering.{nat_cmp}
@@ -35,6 +35,18 @@ place_le P xs l (suc i) x is =
     let low : i ≤ get_or xs i 0 = place_le P xs l i (get_or xs i 0) before in
     let less : get_or xs i 0 < x = ranked (get_or xs i 0) x Less (sym (l.rises i (suc i) (get_or xs i 0) x (omega arith) before is)) in
     omega arith
+
+-- what stands at a place has the place within the list; for callers too
+pub next_place_within : {X : Type 0} (xs : List X) (place : ℕ) (x : X) → slice_get xs place ≡ Some x → place + 1 ≤ length xs
+next_place_within xs place x is = let within : place < length xs = slice_get_within xs place x is in omega arith
+
+-- less is left of a list after the place; for callers too
+pub fewer_left : {X : Type 0} (xs : List X) (place : ℕ) (x : X) → slice_get xs place ≡ Some x → length xs - (place + 1) < length xs - place
+fewer_left xs place x is = let within : place < length xs = slice_get_within xs place x is in omega arith
+
+-- what is found at a place of a list that is this one; for callers too
+pub found_at : {X : Type 0} (ys xs : List X) (i : ℕ) (x : X) → ys ≡ xs → i < length ys → x ≡ get_or ys i x → slice_get xs i ≡ Some x
+found_at ys xs i x same less is = ap (λ zs. slice_get zs i) (sym same) ∙ slice_get-get_or ys i x less ∙ ap Some (sym is)
 
 pub occurs_at : (xs : List ℕ) (i a : ℕ) → slice_get xs i ≡ Some a → occurs a xs ≡ true
 occurs_at [] i a e = cc

@@ -111,6 +111,10 @@ module _ (w : Setting) (lawful : (a : ℕ) → IsLawful (w.policy a)) where
       let class_is : e.class ≡ class.Customer = ap (λ (t : Entry). t.class) is ∙ from.class ∙ ap class_of is_customer in
       ap (λ (k : Class). low_by k e) class_is
 
+  -- who is right stays right where the offers to it and what it holds stay the same
+  right_still : (seed : Option Seed) (a : ℕ) (offers new : ℕ → Option Offer) (held now : Option Entry) → ((n : ℕ) → offers n ≡ new n) → held ≡ now → IsRightGiven (w.policy a) seed offers held → IsRightGiven (w.policy a) seed new now
+  right_still seed a offers new held now same still right = coe 0 1 (i. IsRightGiven (w.policy a) seed (λ n. same n i) (still i)) right
+
   -- a step over customers' offers
   module _ (seeds : ℕ → Option Seed) (f g : ℕ → Option Entry) (a : ℕ) (step : IsStepUp w seeds f a g) where
     same_from_customers : (b : ℕ) → w.relation b a ≢ Some Customer → (n : ℕ) → customer_offer w f n b ≡ customer_offer w g n b
@@ -121,16 +125,11 @@ module _ (w : Setting) (lawful : (a : ℕ) → IsLawful (w.policy a)) where
 
     -- who has a for no customer stays right by its customers' offers
     pub up_keeps : (b : ℕ) → b ≢ a → w.relation b a ≢ Some Customer → IsRightUp w seeds f b → IsRightUp w seeds g b
-    up_keeps b ne apart right =
-        let F : (ℕ → Option Offer) → Option Entry → Type 0 = λ os h. IsRightGiven (w.policy b) (seeds b) os h in
-        let there : f b ≡ g b = sym (step.others b ne) in
-        coe 0 1 (i. F (λ n. same_from_customers b apart n i) (there i)) right
+    up_keeps b ne apart right = right_still (seeds b) b (λ n. customer_offer w f n b) (λ n. customer_offer w g n b) (f b) (g b) (same_from_customers b apart) (sym (step.others b ne)) right
 
     -- and a becomes so
     pub up_now : w.relation a a ≡ None → IsRightUp w seeds g a
-    up_now none =
-        let F : (ℕ → Option Offer) → Type 0 = λ os. IsRightGiven (w.policy a) (seeds a) os (g a) in
-        subst F (λ i n. same_from_customers a (λ p. (let x : None ≡ Some Customer = sym none ∙ p in cc)) n i) step.right
+    up_now none = right_still (seeds a) a (λ n. customer_offer w f n a) (λ n. customer_offer w g n a) (g a) (g a) (same_from_customers a (λ p. (let x : None ≡ Some Customer = sym none ∙ p in cc))) refl step.right
 
   -- a step over all offers
   module _ (seeds : ℕ → Option Seed) (f g : ℕ → Option Entry) (a : ℕ) (step : IsStepWhole w seeds f a g) where
@@ -159,13 +158,8 @@ module _ (w : Setting) (lawful : (a : ℕ) → IsLawful (w.policy a)) where
 
       -- who has a for no provider stays right
       pub whole_keeps : (b : ℕ) → b ≢ a → w.relation b a ≢ Some Provider → IsRight w seeds f b → IsRight w seeds g b
-      whole_keeps b ne apart right =
-          let F : (ℕ → Option Offer) → Option Entry → Type 0 = λ os h. IsRightGiven (w.policy b) (seeds b) os h in
-          let there : f b ≡ g b = sym (step.others b ne) in
-          coe 0 1 (i. F (λ n. same_offers b apart n i) (there i)) right
+      whole_keeps b ne apart right = right_still (seeds b) b (λ n. offer w f n b) (λ n. offer w g n b) (f b) (g b) (same_offers b apart) (sym (step.others b ne)) right
 
       -- and a becomes right
       pub whole_now : w.relation a a ≡ None → IsRight w seeds g a
-      whole_now none =
-          let F : (ℕ → Option Offer) → Type 0 = λ os. IsRightGiven (w.policy a) (seeds a) os (g a) in
-          subst F (λ i n. same_offers a (λ p. (let x : None ≡ Some Provider = sym none ∙ p in cc)) n i) step.right
+      whole_now none = right_still (seeds a) a (λ n. offer w f n a) (λ n. offer w g n a) (g a) (g a) (same_offers a (λ p. (let x : None ≡ Some Provider = sym none ∙ p in cc))) refl step.right

@@ -12,6 +12,7 @@ use Rattle.stability_laws.specs.declared.entry.Entry.{Entry}
 use Rattle.stability_laws.specs.declared.entry.Seed.{Seed}
 use Rattle.stability_laws.specs.Plans.{Plan, ListsRising, IsAnnouncer, announced_path, announcers_of}
 use Rattle.stability_laws.specs.Seeding.{announced_seed, own_seed, leaked_by, own_or_leaked}
+use Rattle.stability_laws.proofs.Leaking.{put_again}
 use Rattle.stability_laws.proofs.Listing.{occurs_at, at_occurs}
 
 pub put_this : (m : map.FinMap nat_cmp Seed) (a : ℕ) (x : Seed) → map.get (map.insert m a x) a ≡ Some x
@@ -31,13 +32,7 @@ not_leaked o h e none some up = none ∙ sym ((λ i. own_or_leaked (none i) true
 
 -- who has a seed keeps it, and who leaks twice leaks the same
 pub leaked_again : (o : Option Seed) (b : Bool) (h : Option Entry) → own_or_leaked (own_or_leaked o b h) true h ≡ own_or_leaked o (b || true) h
-leaked_again (Some s) b h = refl
-leaked_again None false h = refl
-leaked_again None true h = by (leaked_by h) refl
-  where
-    by : (l : Option Seed) → leaked_by h ≡ l → own_or_leaked (leaked_by h) true h ≡ leaked_by h
-    by None e = ap (λ o. own_or_leaked o true h) e
-    by (Some s) e = ap (λ o. own_or_leaked o true h) e ∙ sym e
+leaked_again = put_again own_or_leaked (λ s b h. refl) (λ h. refl)
 
 -- ---- announcers
 

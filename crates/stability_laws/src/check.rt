@@ -61,7 +61,7 @@ pub fn better<P: RoutePolicy>(policy: &P, best: Option<View>, new: Option<View>)
 }
 
 /// The view of the best offer of the neighbours, where one makes an offer.
-pub(crate) fn best_view<P: RoutePolicy, V: OriginStates>(
+fn best_among<P: RoutePolicy, V: OriginStates>(
     world: &World<'_, P, V>,
     neighbours: &[Neighbour],
     prefix: Prefix,
@@ -79,6 +79,19 @@ pub(crate) fn best_view<P: RoutePolicy, V: OriginStates>(
         best = better(own, best, view);
     }
     best
+}
+
+/// The view of the best offer that the AS's neighbours make, where one makes an offer.
+pub(crate) fn best_view<P: RoutePolicy, V: OriginStates>(
+    world: &World<'_, P, V>,
+    prefix: Prefix,
+    routing: &Routing,
+    asn: Asn,
+) -> Option<View>
+    ensures { IsBestView (P.meaning (policy_at world.now.book.now asn))
+        (λ n. offer (setting_in P.meaning V.state_of world.now prefix) (map.get routing.now) n asn) result }
+{
+    best_among(world, world.graph.neighbours(asn), prefix, routing, asn)
 }
 
 /// Whether the entry is what the AS `a` holds of an entry of `n`, which is `from` to it. It takes no memory.
@@ -135,44 +148,6 @@ fn holds_seed(routing: &Routing, asn: Asn, seed: &Seed) -> bool
     }
 }
 
-/// Whether the routing is right at the AS, whose neighbours are these.
-fn check_among<P: RoutePolicy, V: OriginStates>(
-    world: &World<'_, P, V>,
-    neighbours: &[Neighbour],
-    prefix: Prefix,
-    seeds: &Seeds,
-    routing: &Routing,
-    asn: Asn,
-) -> Result<(), Wrong>
-    requires { AreNeighbours (relation world.now.graph.now) asn neighbours.now }
-    ensures verdict { IsVerdict (setting_in P.meaning V.state_of world.now prefix) (map.get seeds.now)
-        (map.get routing.now) asn result }
-    ensures right { IsRight (setting_in P.meaning V.state_of world.now prefix) (map.get seeds.now)
-        (map.get routing.now) asn → IsOk result }
-{
-    if let Some(seed) = seeds.get(asn) {
-        return if holds_seed(routing, asn, seed) {
-            Ok(())
-        } else {
-            Err(Wrong::SeedNotHeld)
-        };
-    }
-    let best = best_view(world, neighbours, prefix, routing, asn);
-    match (best, routing.get(asn)) {
-        (None, None) => Ok(()),
-        (None, Some(_)) => Err(Wrong::Unexpected),
-        (Some(view), None) => Err(Wrong::Absent { by: view.neighbour }),
-        (Some(view), Some(entry)) => {
-            let held = is_offer(world, prefix, routing, asn, &view, entry);
-            if held {
-                Ok(())
-            } else {
-                Err(Wrong::NotBest { by: view.neighbour })
-            }
-        }
-    }
-}
-
 /// Whether the routing is right at the AS: `Ok` exactly where it holds its seed's entry, or has no seed
 /// and holds the entry of the best offer that its neighbours make, or has neither a seed nor an offer
 /// and holds nothing (RFC 4271, section 9.1.2). `Wrong` says what is wrong. It takes no memory.
@@ -188,12 +163,25 @@ pub fn check_at<P: RoutePolicy, V: OriginStates>(
     ensures right { IsRight (setting_in P.meaning V.state_of world.now prefix) (map.get seeds.now)
         (map.get routing.now) asn → IsOk result }
 {
-    check_among(
-        world,
-        world.graph.neighbours(asn),
-        prefix,
-        seeds,
-        routing,
-        asn,
-    )
+    if let Some(seed) = seeds.get(asn) {
+        return if holds_seed(routing, asn, seed) {
+            Ok(())
+        } else {
+            Err(Wrong::SeedNotHeld)
+        };
+    }
+    let best = best_view(world, prefix, routing, asn);
+    match (best, routing.get(asn)) {
+        (None, None) => Ok(()),
+        (None, Some(_)) => Err(Wrong::Unexpected),
+        (Some(view), None) => Err(Wrong::Absent { by: view.neighbour }),
+        (Some(view), Some(entry)) => {
+            let held = is_offer(world, prefix, routing, asn, &view, entry);
+            if held {
+                Ok(())
+            } else {
+                Err(Wrong::NotBest { by: view.neighbour })
+            }
+        }
+    }
 }

@@ -1,21 +1,20 @@
 //! The entry with which an AS is right.
-ghost use Rattle.std.specs.Prelude.{◌≡◌, ◌∷◌, IfOk};
+ghost use Rattle.std.specs.Prelude.{◌≡◌, ◌∷◌, ℕ, IfOk};
 ghost use Rattle.std.specs.FinMap as map;
-ghost use Rattle.as_graph.specs.Topology.{relation};
-ghost use Rattle.as_graph.specs.Neighbours.{AreNeighbours};
+ghost use Rattle.stability_laws.specs.Book.{policy_at};
 ghost use Rattle.stability_laws.specs.Offers.{passed_on};
 ghost use Rattle.stability_laws.specs.Entries.{seed_entry};
 ghost use Rattle.stability_laws.specs.Answers.{IsRightWith};
 ghost use Rattle.stability_laws.specs.World.{setting_in};
 
+use crate::book::Book;
 use crate::check::best_view;
 use crate::entry::{Entry, Seed};
 use crate::offers::{carried, class_from};
 use crate::routing::{Routing, Seeds};
 use crate::world::World;
-use as_graph::Neighbour;
-use net_names::{Asn, Class, NoMemory, Path, Prefix, Rel};
-use policy_laws::{OriginStates, RoutePolicy};
+use net_names::{Asn, Class, NoMemory, Path, Prefix};
+use policy_laws::{OriginStates, RoutePolicy, View};
 use std::alloc::Global;
 
 /// The path of these ASes.
@@ -47,62 +46,26 @@ fn entry_of_seed(alloc: Global, seed: &Seed) -> Result<Entry, NoMemory>
     })
 }
 
-/// The entry that `a` holds of an entry of `n`, which is `from` to it.
+/// The entry that the AS holds of the offer with this view, where the neighbour holds the given entry.
 fn entry_given<P: RoutePolicy>(
     alloc: Global,
-    sender: &P,
-    receiver: &P,
-    n: Asn,
-    a: Asn,
-    from: Rel,
+    book: &Book<P>,
+    asn: Asn,
+    view: &View,
     given: &Entry,
 ) -> Result<Entry, NoMemory>
-    ensures { IfOk result
-        (λ e. e ≡ passed_on (P.meaning sender.now).marks (P.meaning receiver.now).marks n a from given.now) }
+    ensures { let policy = λ (a : ℕ). P.meaning (policy_at book.now a) in IfOk result (λ e. e ≡ passed_on
+        (policy view.now.neighbour).marks (policy asn).marks view.now.neighbour asn view.now.rel given.now) }
 {
-    let otc = carried(sender, receiver, n, from.converse(), given.otc);
-    let path = path_after(alloc, a, given.path.as_slice())?;
+    let sender = book.policy(view.neighbour);
+    let to = view.rel.converse();
+    let otc = carried(sender, book.policy(asn), view.neighbour, to, given.otc);
+    let path = path_after(alloc, asn, given.path.as_slice())?;
     Ok(Entry {
-        class: class_from(from),
+        class: class_from(view.rel),
         path,
         otc,
     })
-}
-
-/// The entry with which the AS, whose neighbours are these, is right.
-fn right_among<P: RoutePolicy, V: OriginStates>(
-    alloc: Global,
-    world: &World<'_, P, V>,
-    neighbours: &[Neighbour],
-    prefix: Prefix,
-    seeds: &Seeds,
-    routing: &Routing,
-    asn: Asn,
-) -> Result<Option<Entry>, NoMemory>
-    requires { AreNeighbours (relation world.now.graph.now) asn neighbours.now }
-    ensures { IfOk result (IsRightWith (setting_in P.meaning V.state_of world.now prefix) (map.get seeds.now)
-        (map.get routing.now) asn) }
-{
-    if let Some(seed) = seeds.get(asn) {
-        let entry = entry_of_seed(alloc, seed)?;
-        return Ok(Some(entry));
-    }
-    let Some(view) = best_view(world, neighbours, prefix, routing, asn) else {
-        return Ok(None);
-    };
-    let Some(given) = routing.get(view.neighbour) else {
-        unreachable!();
-    };
-    let entry = entry_given(
-        alloc,
-        world.book.policy(view.neighbour),
-        world.book.policy(asn),
-        view.neighbour,
-        asn,
-        view.rel,
-        given,
-    )?;
-    Ok(Some(entry))
 }
 
 /// The entry with which the routing would be right at the AS, or `None` where it is right with none:
@@ -119,13 +82,16 @@ pub fn right_entry<P: RoutePolicy, V: OriginStates>(
     ensures { IfOk result (IsRightWith (setting_in P.meaning V.state_of world.now prefix) (map.get seeds.now)
         (map.get routing.now) asn) }
 {
-    right_among(
-        alloc,
-        world,
-        world.graph.neighbours(asn),
-        prefix,
-        seeds,
-        routing,
-        asn,
-    )
+    if let Some(seed) = seeds.get(asn) {
+        let entry = entry_of_seed(alloc, seed)?;
+        return Ok(Some(entry));
+    }
+    let Some(view) = best_view(world, prefix, routing, asn) else {
+        return Ok(None);
+    };
+    let Some(given) = routing.get(view.neighbour) else {
+        unreachable!();
+    };
+    let entry = entry_given(alloc, world.book, asn, &view, given)?;
+    Ok(Some(entry))
 }

@@ -46,12 +46,8 @@ fn announce_all(alloc: Global, plan: &SeedPlan, prefix: Prefix) -> Result<Seeds,
     ensures { IfOk result (λ s. (a : ℕ) → map.get s a ≡ announced_seed plan.now prefix a) }
 {
     let mut seeds = Seeds::new(alloc);
-    let mut place = 0;
-    'announcers: while let Some(asn) = plan.announcer_at(place) {
-        announce(alloc, plan, prefix, asn, &mut seeds)?;
-        // The numbers rise, so that none is below its place.
-        let _number = asn.get();
-        place += 1;
+    'announcers: for asn in plan.announcers() {
+        announce(alloc, plan, prefix, *asn, &mut seeds)?;
     }
     Ok(seeds)
 }

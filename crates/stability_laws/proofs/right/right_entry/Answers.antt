@@ -1,4 +1,4 @@
-use Rattle.std.proofs.Common.{◌≡◌, ℕ, Option, Some, sym, ◌∙◌, subst}
+use Rattle.std.proofs.Common.{◌≡◌, ℕ, Option, Some, sym, ap, ◌∙◌, subst}
 use Rattle.std.specs.FinMap as map
 use Rattle.policy_laws.specs.declared.policy.View.{View}
 use Rattle.as_graph.specs.Topology.{relation}
@@ -8,7 +8,7 @@ use Rattle.stability_laws.specs.Stable.{IsRightGiven}
 use Rattle.stability_laws.specs.BestView.{IsBestView}
 use Rattle.stability_laws.specs.World.{setting}
 use Rattle.stability_laws.proofs.Verdicts.{entry_of}
-use Rattle.stability_laws.proofs.right.right_among.Goals as goal
+use Rattle.stability_laws.proofs.right.right_entry.Goals as goal
 
 pub returns : goal.returns
 returns g c =
@@ -22,8 +22,7 @@ returns g c =
     let given = c.in-Some-get.given.now in
     let is : o.entry ≡ passed_on (here.policy n).marks (here.policy a).marks n a o.view.rel given =
     entry_of (here.policy n) (here.policy a) here.state n a (relation c.args.world.now.graph.now a n) (map.get c.args.routing.now n) o given best.made (sym c.in-Some-get.ensures.value) in
-    let made : c.in_ok-entry-2.entry ≡ passed_on (m c.policy.result.now).marks (m c.policy-2.result.now).marks n a c.in-Some-best_view.view.rel given = c.in_ok-entry-2.ensures in
-    let same : passed_on (m c.policy.result.now).marks (m c.policy-2.result.now).marks n a c.in-Some-best_view.view.rel given ≡ o.entry =
-    (λ i. passed_on (m (c.policy.ensures i)).marks (m (c.policy-2.ensures i)).marks n a (sym seen i).rel given) ∙ sym is in
+    let made : c.in_ok-entry-2.entry ≡ passed_on (here.policy n).marks (here.policy a).marks n a c.in-Some-best_view.view.rel given = c.in_ok-entry-2.ensures in
+    let same : passed_on (here.policy n).marks (here.policy a).marks n a c.in-Some-best_view.view.rel given ≡ o.entry = ap (λ (v : View). passed_on (here.policy n).marks (here.policy a).marks n a v.rel given) (sym seen) ∙ sym is in
     let G : Option Seed → Type 0 = λ s. IsRightGiven (here.policy a) s offers (Some c.in_ok-entry-2.entry) in
     subst G c.in_default.ensures (n, o, best, made ∙ same)

@@ -6,7 +6,7 @@ use Rattle.stability_laws.specs.Offers.{offer}
 use Rattle.stability_laws.specs.BestView.{IsBestView}
 use Rattle.stability_laws.specs.World.{setting}
 use Rattle.stability_laws.proofs.Verdicts.{held_is_best}
-use Rattle.stability_laws.proofs.check.check_among.Goals as goal
+use Rattle.stability_laws.proofs.check.check_at.Goals as goal
 
 pub returns-else-held-clause-right : goal.returns-else-held-clause-right
 returns-else-held-clause-right g c = λ right.
