@@ -20,12 +20,9 @@ announcers-init c = record {
 
 pub announce-requires : goal.announce-requires
 announce-requires c =
-    let plan = c.args.plan.now in
-    let xs = announcers_of plan in
-    let i = c.announcers.asn-index in
-    let x = c.asn-item.result in
-    let at : slice_get xs i ≡ Some x = found_at c.announcers-asn-items.result.now xs i x c.announcers-asn-items.ensures c.announcers-test.true c.asn-item.is in
-    c.announcers.invariant.sound x (λ j less is. apart_later nat_cmp nat_cmp_total (IsAnnouncer plan) xs (announcers_listed plan) j i x x less is at refl)
+    let xs = announcers_of c.args.plan.now in
+    let at : slice_get xs c.announcers.asn-index ≡ Some c.asn-item.result = found_at c.announcers-asn-items.result.now xs c.announcers.asn-index c.asn-item.result c.announcers-asn-items.ensures c.announcers-test.true c.asn-item.is in
+    c.announcers.invariant.sound c.asn-item.result (λ j less is. apart_later nat_cmp nat_cmp_total (IsAnnouncer c.args.plan.now) xs (announcers_listed c.args.plan.now) j c.announcers.asn-index c.asn-item.result c.asn-item.result less is at refl)
 
 pub announcers-preserved : goal.announcers-preserved
 announcers-preserved c =
