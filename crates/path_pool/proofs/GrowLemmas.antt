@@ -7,7 +7,7 @@ use Rattle.std.proofs.lemmas.List.Sums.{sum_by_push}
 use Rattle.net_names.specs.Numbers.{last_or}
 use Rattle.path_pool.specs.declared.pool.Cell.{Cell}
 use Rattle.path_pool.specs.Region.{blank, cell_at, list_of, walk, IsLive, is_live, is_above, cells_above, live_count, IsLinked, IsRegion, SameCells}
-use Rattle.path_pool.proofs.RegionLemmas.{live_inside, one_if, not_above, kind_same, lists_same, linked_same}
+use Rattle.path_pool.proofs.RegionLemmas.{live_inside, cell_read, one_if, not_above, kind_same, lists_same, linked_same}
 
 grow_count : (p : Cell → Bool) (xs : List Cell) (y : Cell) → count_by p (xs ++ y ∷ []) ≡ count_by p xs + one_if (p y)
 grow_count p xs y = sum_by_push (λ c. one_if (p c)) xs y
@@ -131,7 +131,7 @@ pub record IsWalking (cells : List Cell) (n i : ℕ) : Type 0 where
 pub walking_start : (cells : List Cell) (i : ℕ) → IsLive cells i → IsWalking cells (cell_at cells i).len i
 walking_start cells i a = record { live = λ _. a; len = λ _. refl }
 
-pub walking_more : (cells : List Cell) (free spare limit n i : ℕ) → IsRegion cells free spare limit → 0 < n → IsWalking cells n i → IsWalking cells (n - 1) (cell_at cells i).tail
+walking_more : (cells : List Cell) (free spare limit n i : ℕ) → IsRegion cells free spare limit → 0 < n → IsWalking cells n i → IsWalking cells (n - 1) (cell_at cells i).tail
 walking_more cells free spare limit n i r h w =
     let linked : IsLinked cells i = r.linked i (live_inside cells i (w.live h)) in
     record {
@@ -139,12 +139,18 @@ walking_more cells free spare limit n i r h w =
       len = λ p. omega (arith, w.len h, p, linked.shorter (omega (arith, w.len h, p)));
     }
 
-pub any_here : (cells : List Cell) (n i number : ℕ) → 0 < n → (cell_at cells i).head ≡ number → list_any (λ x. eqb x number) (walk cells n i) ≡ true
-any_here cells n i number h e = ap (list_any (λ x. eqb x number)) (walk_more cells n i h) ∙ ap (λ b. b || list_any (λ x. eqb x number) (walk cells (n - 1) (cell_at cells i).tail)) (eq-eqb (cell_at cells i).head number e)
+-- a step of a walk: the walk starts with the head of the cell v that is read, and goes on at its tail
+pub walking_read : (cells : List Cell) (free spare limit n i : ℕ) (v : Cell) → IsRegion cells free spare limit → 0 < n → IsWalking cells n i → v ≡ get_or cells i v →
+    (walk cells n i ≡ v.head ∷ walk cells (n - 1) v.tail) × IsWalking cells (n - 1) v.tail
+walking_read cells free spare limit n i v r h w read =
+    subst (λ (c : Cell). (walk cells n i ≡ c.head ∷ walk cells (n - 1) c.tail) × IsWalking cells (n - 1) c.tail) (sym (cell_read cells i v (live_inside cells i (w.live h)) read))
+    (walk_more cells n i h, walking_more cells free spare limit n i r h w)
 
-pub any_later : (cells : List Cell) (n i number : ℕ) → 0 < n → (cell_at cells i).head ≢ number →
-    list_any (λ x. eqb x number) (walk cells n i) ≡ list_any (λ x. eqb x number) (walk cells (n - 1) (cell_at cells i).tail)
-any_later cells n i number h e = ap (list_any (λ x. eqb x number)) (walk_more cells n i h) ∙ ap (λ b. b || list_any (λ x. eqb x number) (walk cells (n - 1) (cell_at cells i).tail)) (ne_eqb (cell_at cells i).head number e)
+pub any_here : (all rest : List ℕ) (h number : ℕ) → all ≡ h ∷ rest → h ≡ number → list_any (λ x. eqb x number) all ≡ true
+any_here all rest h number e same = ap (list_any (λ x. eqb x number)) e ∙ ap (λ b. b || list_any (λ x. eqb x number) rest) (eq-eqb h number same)
+
+pub any_later : (all rest : List ℕ) (h number : ℕ) → all ≡ h ∷ rest → h ≢ number → list_any (λ x. eqb x number) all ≡ list_any (λ x. eqb x number) rest
+any_later all rest h number e other = ap (list_any (λ x. eqb x number)) e ∙ ap (λ b. b || list_any (λ x. eqb x number) rest) (ne_eqb h number other)
 
 -- the first number of a path is its cell's
 pub first-list_of : (cells : List Cell) (i : ℕ) → 0 < (cell_at cells i).len → get_or (list_of cells i) 0 0 ≡ (cell_at cells i).head

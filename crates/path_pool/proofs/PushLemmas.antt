@@ -1,11 +1,11 @@
 -- A new path in a cell behind the others: as if a free cell had stood there before.
-use Rattle.std.proofs.Common.{◌≡◌, ℕ, zero, suc, ◌+◌, ◌-◌, ◌<◌, List, [], ◌∷◌, ◌++◌, length, set, refl, ap, sym, ◌∙◌, subst, arith}
+use Rattle.std.proofs.Common.{◌≡◌, ℕ, zero, suc, ◌+◌, ◌-◌, ◌<◌, List, [], ◌∷◌, ◌++◌, length, get_or, set, refl, ap, sym, ◌∙◌, subst, arith}
 use Rattle.std.proofs.lemmas.List.{get_or_append_left, get_or_at}
 use Rattle.path_pool.specs.declared.pool.Cell.{Cell}
-use Rattle.path_pool.specs.Region.{blank, cell_at, list_of, IsLive, IsRegion, CanFollow, GainsCell, SameCells, dead_cell}
+use Rattle.path_pool.specs.Region.{blank, cell_at, with_count, list_of, IsLive, IsRegion, CanFollow, GainsCell, SameCells, dead_cell}
 use Rattle.path_pool.proofs.RegionLemmas.{live_inside, take_region_at}
 use Rattle.path_pool.proofs.GrowLemmas.{grow_region, grow_same}
-use Rattle.path_pool.proofs.ConsLemmas.{gains_over, gains_after}
+use Rattle.path_pool.proofs.ConsLemmas.{over, gains_over, gains_after}
 
 -- the last cell is written
 set_last : (xs : List Cell) (d y : Cell) (n : ℕ) → n ≡ length xs → set (xs ++ d ∷ []) n y ≡ xs ++ y ∷ []
@@ -58,25 +58,22 @@ push_region xs free spare limit y r room w =
     (take_region_at zs (length xs) (spare + 1) limit y d more (omega arith) (follows_more xs free spare limit y r w) (sym (get_or_at xs d [] blank (length xs) refl))))
 
 -- a path over one that is there
-pub push_over : (xs : List Cell) (free spare limit t h : ℕ) → IsRegion xs free spare limit → length xs < limit → IsLive xs t →
-    (n : ℕ) → n ≡ (cell_at xs t).count + 1 → (l : ℕ) → l ≡ (cell_at xs t).len + 1 → (z : ℕ) → z ≡ (cell_at xs t).last →
-    GainsCell xs (set xs t (record (cell_at xs t) { count = n }) ++ record { head = h; tail = t; len = l; count = 1; last = z } ∷ []) (length xs) (h ∷ list_of xs t)
-push_over xs free spare limit t h r room a n en l el z ez =
+pub push_over : (xs : List Cell) (free spare limit t h : ℕ) (v : Cell) → IsRegion xs free spare limit → IsLive xs t → v ≡ get_or xs t v → length xs < limit →
+    GainsCell xs (with_count xs t (v.count + 1) ++ over h t v ∷ []) (length xs) (h ∷ list_of xs t)
+push_over xs free spare limit t h v r a read room =
     let d : Cell = free_one free spare in
     let zs : List Cell = xs ++ d ∷ [] in
-    let y : Cell = record { head = h; tail = t; len = l; count = 1; last = z } in
-    let held : Cell = record (cell_at xs t) { count = n } in
+    let y : Cell = over h t v in
     let inside : t < length xs = live_inside xs t a in
     let left : cell_at zs t ≡ cell_at xs t = get_or_append_left xs (d ∷ []) blank t inside in
     let more : IsRegion zs (length xs) (spare + 1) limit = grow_region xs free spare limit d r room refl refl refl in
     let same : SameCells xs zs = grow_same xs free spare limit d r refl in
-    let made : GainsCell zs (set (set zs t (record (cell_at zs t) { count = n })) (length xs) y) (length xs) (h ∷ list_of zs t) =
-    (gains_over zs (length xs) (spare + 1) limit t h more (omega arith) (same.stays_live t a)
-    n (en ∙ ap (λ (c : Cell). c.count + 1) (sym left)) l (el ∙ ap (λ (c : Cell). c.len + 1) (sym left)) z (ez ∙ ap (λ (c : Cell). c.last) (sym left))).1 in
-    let cells : set (set zs t (record (cell_at zs t) { count = n })) (length xs) y ≡ set xs t held ++ y ∷ [] =
-    ap (λ (c : Cell). set (set zs t (record c { count = n })) (length xs) y) left
-    ∙ ap (λ ys. set ys (length xs) y) (set_before xs d held t inside)
-    ∙ set_last (set xs t held) d y (length xs) (sym (same_length xs t held)) in
-    gains_after xs zs (set xs t held ++ y ∷ []) (length xs) (h ∷ list_of xs t) same
+    let made : GainsCell zs (set (with_count zs t (v.count + 1)) (length xs) y) (length xs) (h ∷ list_of zs t) =
+    gains_over zs (length xs) (spare + 1) limit t h v more (same.stays_live t a) (read ∙ sym (get_or_append_left xs (d ∷ []) v t inside)) (omega arith) in
+    let cells : set (with_count zs t (v.count + 1)) (length xs) y ≡ with_count xs t (v.count + 1) ++ y ∷ [] =
+    ap (λ (c : Cell). set (set zs t (record c { count = v.count + 1 })) (length xs) y) left
+    ∙ ap (λ ys. set ys (length xs) y) (set_before xs d (record (cell_at xs t) { count = v.count + 1 }) t inside)
+    ∙ set_last (with_count xs t (v.count + 1)) d y (length xs) (sym (same_length xs t (record (cell_at xs t) { count = v.count + 1 }))) in
+    gains_after xs zs (with_count xs t (v.count + 1) ++ y ∷ []) (length xs) (h ∷ list_of xs t) same
     (subst (λ ys. GainsCell zs ys (length xs) (h ∷ list_of xs t)) cells
-    (subst (λ ns. GainsCell zs (set (set zs t (record (cell_at zs t) { count = n })) (length xs) y) (length xs) (h ∷ ns)) (same.lists t a) made))
+    (subst (λ ns. GainsCell zs (set (with_count zs t (v.count + 1)) (length xs) y) (length xs) (h ∷ ns)) (same.lists t a) made))

@@ -1,4 +1,4 @@
-use Rattle.std.proofs.Common.{arith, ◌≡◌, ℕ, ◌+◌, ◌-◌, ◌<◌, true, false, ltb, List, set, sym, ap, subst, refl, ◌∙◌}
+use Rattle.std.proofs.Common.{arith, ◌≡◌, ℕ, ◌+◌, ◌-◌, true, false, ltb, List, set, sym, ap, subst, refl, ◌∙◌}
 use Rattle.path_pool.specs.declared.pool.Cell.{Cell}
 use Rattle.path_pool.specs.Region.{cell_at}
 use Rattle.path_pool.proofs.ReleaseLemmas.{IsReleasing, read_owed, releasing_keep, releasing_free}
