@@ -17,35 +17,29 @@ use Rattle.as_graph.proofs.Marking.{there_is}
 use Rattle.as_graph.proofs.RowAses.{mark_at, occurs-keys}
 use Rattle.as_graph.proofs.RowLinks.{items_at}
 
+-- the ends xs before place j are of lower ASes than the ends ys from place i on
+abbrev AreLower : List End → List End → ℕ → ℕ → Type 0
+AreLower xs ys j i = (p q : ℕ) (d : End) → p < j → i ≤ q → q < length ys → (get_or xs p d).at < (get_or ys q d).at
+
 -- the ends before the two places are of lower ASes than those from the places on
 pub record IsSplit (hs ls : List End) (j i : ℕ) : Type 0 where
-  pub hh : (p q : ℕ) (d : End) → p < j → j ≤ q → q < length hs → (get_or hs p d).at < (get_or hs q d).at
-  pub hl : (p q : ℕ) (d : End) → p < j → i ≤ q → q < length ls → (get_or hs p d).at < (get_or ls q d).at
-  pub lh : (p q : ℕ) (d : End) → p < i → j ≤ q → q < length hs → (get_or ls p d).at < (get_or hs q d).at
-  pub ll : (p q : ℕ) (d : End) → p < i → i ≤ q → q < length ls → (get_or ls p d).at < (get_or ls q d).at
+  pub hh : AreLower hs hs j j
+  pub hl : AreLower hs ls j i
+  pub lh : AreLower ls hs i j
+  pub ll : AreLower ls ls i i
 
 pub split_none : (hs ls : List End) → IsSplit hs ls 0 0
 split_none hs ls = record { hh = λ p q d lt le h. absurd (omega arith); hl = λ p q d lt le h. absurd (omega arith); lh = λ p q d lt le h. absurd (omega arith); ll = λ p q d lt le h. absurd (omega arith) }
 
+-- so are they past the runs of the next AS
+lower_next : (xs ys : List End) (j k i l a : ℕ) → AreLower xs ys j i → IsRun xs a j k → IsRun ys a i l → AreLower xs ys k l
+lower_next xs ys j k i l a lower x y p q d lt le inside = elim (cases_lt p j) [
+  | inl before ↦ lower p q d before (omega (arith, y.start, le)) inside
+  | inr from ↦ omega (arith, x.these p d from lt, y.after q d le inside)
+]
+
 pub split_next : (hs ls : List End) (j i k l a : ℕ) → IsSplit hs ls j i → IsRun hs a j k → IsRun ls a i l → IsSplit hs ls k l
-split_next hs ls j i k l a s h t = record {
-  hh = λ p q d lt le in_hs. elim (cases_lt p j) [
-    | inl before ↦ s.hh p q d before (omega (arith, h.start, le)) in_hs
-    | inr from ↦ omega (arith, h.these p d from lt, h.after q d le in_hs)
-  ];
-  hl = λ p q d lt le in_ls. elim (cases_lt p j) [
-    | inl before ↦ s.hl p q d before (omega (arith, t.start, le)) in_ls
-    | inr from ↦ omega (arith, h.these p d from lt, t.after q d le in_ls)
-  ];
-  lh = λ p q d lt le in_hs. elim (cases_lt p i) [
-    | inl before ↦ s.lh p q d before (omega (arith, h.start, le)) in_hs
-    | inr from ↦ omega (arith, t.these p d from lt, h.after q d le in_hs)
-  ];
-  ll = λ p q d lt le in_ls. elim (cases_lt p i) [
-    | inl before ↦ s.ll p q d before (omega (arith, t.start, le)) in_ls
-    | inr from ↦ omega (arith, t.these p d from lt, t.after q d le in_ls)
-  ];
-}
+split_next hs ls j i k l a s h t = record { hh = lower_next hs hs j k j k a s.hh h h; hl = lower_next hs ls j k i l a s.hl h t; lh = lower_next ls hs i l j k a s.lh t h; ll = lower_next ls ls i l i l a s.ll t t }
 
 module _ (hs ls : List End) (j i a : ℕ) (s : IsSplit hs ls j i) (next : IsNextEnd hs ls j i a) where
   -- the next AS has no ends yet

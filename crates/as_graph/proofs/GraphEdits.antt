@@ -5,7 +5,7 @@ use Rattle.std.specs.Cmp.{nat_eq_equiv}
 use Rattle.std.specs.List.Sorted.{IsStrictlyIncreasing}
 use Rattle.std.specs.Option.{option_map_or}
 use Rattle.std.specs.FinMap as map
-use Rattle.indexmap.specs.IndexMap.{get}
+use Rattle.indexmap.specs.IndexMap.{get, index_map_len}
 use Rattle.net_names.specs.declared.routes.Rel.{Rel}
 use Rattle.net_names.specs.Links.{pair_cmp, between, converse}
 use Rattle.net_names.specs.Numbers.{occurs}
@@ -16,13 +16,13 @@ use Rattle.as_graph.specs.Room.{is_room_for, is_room_with, with_room, only_room_
 use Rattle.as_graph.specs.Edits.{with_link, without_link, without_mark}
 use Rattle.as_graph.specs.Rows.{rel_in}
 use Rattle.as_graph.specs.Graphs.{Rows, neighbours_of, rel_of, is_marked, is_needed, is_there, links_of, topology_of, graph_of, IsGraph, IsKept}
-use Rattle.as_graph.specs.Writes.{HasRoomFor, KeepsRows, SetsLink, SetsMark}
+use Rattle.as_graph.specs.Writes.{HasRoomFor, IsRoomy, KeepsRows, SetsLink, SetsMark}
 use Rattle.as_graph.proofs.Links.{linked_end, relation_mutual}
 use Rattle.as_graph.proofs.RowLinks.{relation-topology_of}
 use Rattle.as_graph.proofs.RowAses.{mark_at, contains-marked, has-topology_of, as_count-listed, rising_distinct}
 use Rattle.as_graph.proofs.TakenLinks.{mark_absent}
-use Rattle.as_graph.proofs.Marking.{there_is, kept_row, topology_of-kept, kept-kept, there_others, there_new, kept-marked}
-use Rattle.as_graph.proofs.LinkTopology.{topology_of-linked, len-linked, len-unlinked, there-linked, there-off, both_false, some_from, row_of_room}
+use Rattle.as_graph.proofs.Marking.{there_is, kept_row, topology_of-kept, kept-kept, roomy-kept, there_others, there_new, kept-marked}
+use Rattle.as_graph.proofs.LinkTopology.{topology_of-linked, len-linked, len-unlinked, there-linked, there-off, both_false, some_from, row_of_room, place_left}
 
 -- what holds anyway holds after a refusal
 pub on_err : {T E : Type 0} (r : Result T E) (P : Type 0) → P → OnErr r P
@@ -31,8 +31,20 @@ on_err (Err e) P p = p
 
 -- ---- the rows of the order
 
-pub rows_listed : (l m : Rows) (order now : List ℕ) (count : ℕ) → IsKept l order count → KeepsRows l m → now ≡ order → (x : ℕ) → occurs x now ≡ true → is_some (get nat_eq m x) ≡ true
-rows_listed l m order now count kept keeps same x h = kept_row l m x keeps (sym (kept.listed x) ∙ ap (occurs x) (sym same) ∙ h)
+-- rows are made, and the order stays
+module _ (l m : Rows) (order now : List ℕ) (count : ℕ) (kept : IsKept l order count) (keeps : KeepsRows l m) (same : now ≡ order) where
+  pub rows_listed : (x : ℕ) → occurs x now ≡ true → is_some (get nat_eq m x) ≡ true
+  rows_listed x h = kept_row l m x keeps (sym (kept.listed x) ∙ ap (occurs x) (sym same) ∙ h)
+
+  pub kept_made : IsKept m now count
+  kept_made = subst (λ (o : List ℕ). IsKept m o count) (sym same) (kept-kept l m keeps order count kept)
+
+  pub invariant_made : (places : ℕ) (room : Option (ℕ × ℕ)) (old : ℕ) → IsRoomy l old room → index_map_len m ≤ places → IsKept m now count × IsRoomy m places room
+  invariant_made places room old roomy ordered = (kept_made, roomy-kept l m keeps places room old roomy ordered)
+
+  -- a new AS has a place in the order
+  pub place_made : (a : ℕ) → is_some (get nat_eq m a) ≡ true → occurs a now ≡ false → length now + 1 ≤ index_map_len m
+  place_made a row new = (let all = kept_made in place_left m now a keeps.unique all.rising rows_listed row new)
 
 pub rows_more : (m : Rows) (order now : List ℕ) (a : ℕ) → ((j : ℕ) → occurs j now ≡ (a == j || occurs j order)) → ((x : ℕ) → occurs x order ≡ true → is_some (get nat_eq m x) ≡ true) → is_some (get nat_eq m a) ≡ true → (x : ℕ) → occurs x now ≡ true →
     is_some (get nat_eq m x) ≡ true
@@ -58,6 +70,10 @@ module _ (l n : Rows) (room now : Option (ℕ × ℕ)) (g : Topology) (seen : gr
 
   pub seen_unmarked : (a : ℕ) → topology_of n ≡ without_mark (topology_of l) a → graph_of n room ≡ without_mark g a
   seen_unmarked a t = (λ i. record { links = (t i).links; marked = (t i).marked; room = room }) ∙ ap (λ h. without_mark h a) seen
+
+-- where rows are made, a refusal leaves the graph as it was
+pub refused_made : (l m : Rows) (order : List ℕ) (count : ℕ) → IsKept l order count → KeepsRows l m → {T E : Type 0} (r : Result T E) (room : Option (ℕ × ℕ)) (g : Topology) → graph_of l room ≡ g → OnErr r (graph_of m room ≡ g)
+refused_made l m order count kept keeps r room g seen = on_err r _ (seen_same l m room room g seen (topology_of-kept l m keeps kept.graph))
 
 -- an AS without a row has no mark to take away
 pub seen_unmarked_none : (l : Rows) (room : Option (ℕ × ℕ)) (g : Topology) (a : ℕ) → IsGraph l → graph_of l room ≡ g → get nat_eq l a ≡ None → g ≡ without_mark g a

@@ -24,7 +24,7 @@ use Rattle.as_graph.specs.Edits.{with_link, without_link}
 use Rattle.as_graph.specs.Graphs.{Rows, rel_of, is_there, is_needed, links_of, topology_of, IsGraph}
 use Rattle.as_graph.specs.Writes.{has_room, has_room_at, HasRoomFor, IsRoomy, SetsLink}
 use Rattle.as_graph.proofs.RowLinks.{pair_tied, get-links_of}
-use Rattle.as_graph.proofs.RowAses.{contains-marked, has-topology_of, rising_distinct, distinct_len, len-from_list, occurs-keys}
+use Rattle.as_graph.proofs.RowAses.{row_tested, contains-marked, has-topology_of, rising_distinct, distinct_len, len-from_list, occurs-keys}
 use Rattle.as_graph.proofs.TakenLinks.{same_pair}
 use Rattle.as_graph.proofs.EditedAses.{has-with_link}
 
@@ -177,11 +177,7 @@ room_there l (Some (x, y)) a b graph rooms none h = elim (pair_of_room x y a b h
 ]
 
 pub row_of_room : (l : Rows) (a : ℕ) → has_room_at l a ≡ true → is_some (get nat_eq l a) ≡ true
-row_of_room l a h = by (get nat_eq l a) h
-  where
-    by : (o : Option Row) → option_map_or has_room o false ≡ true → is_some o ≡ true
-    by None e = cc
-    by (Some r) e = refl
+row_of_room l a h = row_tested has_room l a h
 
 -- new room
 pub roomy-new : (m : Rows) (places a b : ℕ) → index_map_len m ≤ places → (has_room_at m a ≡ true) × (has_room_at m b ≡ true) → IsRoomy m places (Some (a, b))

@@ -19,7 +19,7 @@ use Rattle.as_graph.specs.Edits.{without_mark}
 use Rattle.as_graph.specs.Writes.{IsRoomy, KeepsRows, SetsMark}
 use Rattle.net_names.proofs.Pairs.{pairs_total, exact_pair}
 use Rattle.as_graph.proofs.RowLinks.{items_at, get-links_of}
-use Rattle.as_graph.proofs.RowAses.{mark_at, contains-marked}
+use Rattle.as_graph.proofs.RowAses.{mark_at, contains-marked, row_tested}
 
 -- an AS has a row that is needed where it has a mark or a neighbour
 pub there_is : (m : Rows) (a : ℕ) → is_there m a ≡ (is_marked m a || nat_lt 0 (length (neighbours_of m a)))
@@ -145,11 +145,7 @@ topology_of-unmarked l m a marks graph =
 
 -- an AS that is there has a row
 pub there_row : (m : Rows) (a : ℕ) → is_there m a ≡ true → is_some (get nat_eq m a) ≡ true
-there_row m a h = by (get nat_eq m a) h
-  where
-    by : (o : Option Row) → option_map_or is_needed o false ≡ true → is_some o ≡ true
-    by None e = cc
-    by (Some r) e = refl
+there_row m a h = row_tested is_needed m a h
 
 -- and where rows are kept, it keeps one
 pub kept_row : (l m : Rows) (a : ℕ) → KeepsRows l m → is_there l a ≡ true → is_some (get nat_eq m a) ≡ true

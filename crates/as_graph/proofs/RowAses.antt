@@ -50,6 +50,14 @@ marked_any (e ∷ es) d a = by e.1.marked (nat_eq a e.0) refl refl (marked_any e
 pub contains-marked : (m : Rows) → IsUnique nat_eq m → (a : ℕ) → set.contains (topology_of m).marked a ≡ is_marked m a
 contains-marked m unique a = set.contains-from_list_nat (marked_rows m.entries) a ∙ marked_any m.entries unique a
 
+-- a row that passes a test is there
+pub row_tested : (test : Row → Bool) (m : Rows) (a : ℕ) → option_map_or test (get nat_eq m a) false ≡ true → is_some (get nat_eq m a) ≡ true
+row_tested test m a h = by (get nat_eq m a) h
+  where
+    by : (o : Option Row) → option_map_or test o false ≡ true → is_some o ≡ true
+    by None e = cc
+    by (Some r) e = refl
+
 -- ---- the ASes
 
 -- two tests that follow from each other are equal

@@ -135,62 +135,58 @@ rising_cons x xs above rising zero (suc j) lt h = above j (omega arith)
 rising_cons x xs above rising (suc i) zero lt h = absurd (omega arith)
 rising_cons x xs above rising (suc i) (suc j) lt h = rising i j (omega arith) (omega arith)
 
-lower_above : (es : Entries) (a b : ℕ) → T (below_all pair_cmp (a, b) es) → (i : ℕ) → i < length (ends_at a (lower_ends es)) → b < asn_at (ends_at a (lower_ends es)) i
-lower_above [] a b h i lt = absurd (omega arith)
-lower_above (f ∷ es) a b h i lt = by (f.0.0 == a) refl i lt (lower_above es a b (right _ _ h))
+-- what holds of each neighbour at the ends of an AS
+each_end : (P : ℕ → Type 0) (a : ℕ) (x : End) (xs : List End) → (x.at ≡ a → P x.neighbour.asn) → ((i : ℕ) → i < length (ends_at a xs) → P (asn_at (ends_at a xs) i)) →
+    (i : ℕ) → i < length (ends_at a (x ∷ xs)) → P (asn_at (ends_at a (x ∷ xs)) i)
+each_end P a x xs first rest = by (x.at == a) refl
   where
-    by : (t : Bool) → (f.0.0 == a) ≡ t → (i : ℕ) → i < length (cond t (record { asn = f.0.1; rel = f.1 } ∷ ends_at a (lower_ends es)) (ends_at a (lower_ends es))) →
-        ((i : ℕ) → i < length (ends_at a (lower_ends es)) → b < asn_at (ends_at a (lower_ends es)) i) → b < asn_at (cond t (record { asn = f.0.1; rel = f.1 } ∷ ends_at a (lower_ends es)) (ends_at a (lower_ends es))) i
-    by true is zero lt ih = (let at : f.0.0 ≡ a = eqb-true f.0.0 a is in elim (pair_less (a, b) f.0 (less _ (left _ _ h))) [ inl l ↦ absurd (omega (arith, at, l)) | inr r ↦ r.1 ])
-    by true is (suc i) lt ih = ih i (omega arith)
-    by false is i lt ih = ih i lt
+    by : (t : Bool) → (x.at == a) ≡ t → (i : ℕ) → i < length (cond t (x.neighbour ∷ ends_at a xs) (ends_at a xs)) → P (asn_at (cond t (x.neighbour ∷ ends_at a xs) (ends_at a xs)) i)
+    by true is zero lt = first (eqb-true x.at a is)
+    by true is (suc i) lt = rest i (omega arith)
+    by false is i lt = rest i lt
+
+rising_end : (a : ℕ) (x : End) (xs : List End) → (x.at ≡ a → (i : ℕ) → i < length (ends_at a xs) → x.neighbour.asn < asn_at (ends_at a xs) i) → IsRising (ends_at a xs) → IsRising (ends_at a (x ∷ xs))
+rising_end a x xs above rest = by (x.at == a) refl
+  where
+    by : (t : Bool) → (x.at == a) ≡ t → IsRising (cond t (x.neighbour ∷ ends_at a xs) (ends_at a xs))
+    by true is = rising_cons x.neighbour (ends_at a xs) (above (eqb-true x.at a is)) rest
+    by false is = rest
+
+-- the two ends of a link
+abbrev low_end : (ℕ × ℕ) × Rel → End
+low_end e = record { at = e.0.0; neighbour = record { asn = e.0.1; rel = e.1 } }
+
+abbrev high_end : (ℕ × ℕ) × Rel → End
+high_end e = record { at = e.0.1; neighbour = record { asn = e.0.0; rel = converse e.1 } }
+
+lower_above : (es : Entries) (a b : ℕ) → T (below_all pair_cmp (a, b) es) → (i : ℕ) → i < length (ends_at a (lower_ends es)) → b < asn_at (ends_at a (lower_ends es)) i
+lower_above [] a b h = λ i lt. absurd (omega arith)
+lower_above (f ∷ es) a b h =
+    each_end (λ n. b < n) a (low_end f) (lower_ends es) (λ at. elim (pair_less (a, b) f.0 (less _ (left _ _ h))) [ inl l ↦ absurd (omega (arith, at, l)) | inr r ↦ r.1 ]) (lower_above es a b (right _ _ h))
 
 rising_lower : (es : Entries) (a : ℕ) → T (map.is_sorted pair_cmp es) → IsRising (ends_at a (lower_ends es))
 rising_lower [] a h = λ i j lt w. absurd (omega arith)
-rising_lower (e ∷ es) a h = by (e.0.0 == a) refl (rising_lower es a (right _ _ h))
-  where
-    by : (t : Bool) → (e.0.0 == a) ≡ t → IsRising (ends_at a (lower_ends es)) → IsRising (cond t (record { asn = e.0.1; rel = e.1 } ∷ ends_at a (lower_ends es)) (ends_at a (lower_ends es)))
-    by true is rest = rising_cons _ _ (lower_above es a e.0.1 (subst (λ x. T (below_all pair_cmp (x, e.0.1) es)) (eqb-true e.0.0 a is) (left _ _ h))) rest
-    by false is rest = rest
+rising_lower (e ∷ es) a h =
+    rising_end a (low_end e) (lower_ends es) (λ at. lower_above es a e.0.1 (subst (λ x. T (below_all pair_cmp (x, e.0.1) es)) at (left _ _ h))) (rising_lower es a (right _ _ h))
 
 higher_above : (es : Entries) (a b : ℕ) → T (below_all pair_cmp (b, a) es) → (i : ℕ) → i < length (ends_at a (higher_ends es)) → b < asn_at (ends_at a (higher_ends es)) i
-higher_above [] a b h i lt = absurd (omega arith)
-higher_above (f ∷ es) a b h i lt = by (f.0.1 == a) refl i lt (higher_above es a b (right _ _ h))
-  where
-    by : (t : Bool) → (f.0.1 == a) ≡ t → (i : ℕ) → i < length (cond t (record { asn = f.0.0; rel = converse f.1 } ∷ ends_at a (higher_ends es)) (ends_at a (higher_ends es))) →
-        ((i : ℕ) → i < length (ends_at a (higher_ends es)) → b < asn_at (ends_at a (higher_ends es)) i) → b < asn_at (cond t (record { asn = f.0.0; rel = converse f.1 } ∷ ends_at a (higher_ends es)) (ends_at a (higher_ends es))) i
-    by true is zero lt ih = (let at : f.0.1 ≡ a = eqb-true f.0.1 a is in elim (pair_less (b, a) f.0 (less _ (left _ _ h))) [ inl l ↦ l | inr r ↦ absurd (omega (arith, at, r.1)) ])
-    by true is (suc i) lt ih = ih i (omega arith)
-    by false is i lt ih = ih i lt
+higher_above [] a b h = λ i lt. absurd (omega arith)
+higher_above (f ∷ es) a b h =
+    each_end (λ n. b < n) a (high_end f) (higher_ends es) (λ at. elim (pair_less (b, a) f.0 (less _ (left _ _ h))) [ inl l ↦ l | inr r ↦ absurd (omega (arith, at, r.1)) ]) (higher_above es a b (right _ _ h))
 
 rising_higher : (es : Entries) (a : ℕ) → T (map.is_sorted pair_cmp es) → IsRising (ends_at a (higher_ends es))
 rising_higher [] a h = λ i j lt w. absurd (omega arith)
-rising_higher (e ∷ es) a h = by (e.0.1 == a) refl (rising_higher es a (right _ _ h))
-  where
-    by : (t : Bool) → (e.0.1 == a) ≡ t → IsRising (ends_at a (higher_ends es)) → IsRising (cond t (record { asn = e.0.0; rel = converse e.1 } ∷ ends_at a (higher_ends es)) (ends_at a (higher_ends es)))
-    by true is rest = rising_cons _ _ (higher_above es a e.0.0 (subst (λ x. T (below_all pair_cmp (e.0.0, x) es)) (eqb-true e.0.1 a is) (left _ _ h))) rest
-    by false is rest = rest
+rising_higher (e ∷ es) a h =
+    rising_end a (high_end e) (higher_ends es) (λ at. higher_above es a e.0.0 (subst (λ x. T (below_all pair_cmp (e.0.0, x) es)) at (left _ _ h))) (rising_higher es a (right _ _ h))
 
 -- lower neighbours are below the AS, and higher ones above
 higher_under : (es : Entries) (a : ℕ) → AreTurned es → (i : ℕ) → i < length (ends_at a (higher_ends es)) → asn_at (ends_at a (higher_ends es)) i < a
-higher_under [] a turned i lt = absurd (omega arith)
-higher_under (e ∷ es) a turned i lt = by (e.0.1 == a) refl i lt (higher_under es a (turned_tail e es turned))
-  where
-    by : (t : Bool) → (e.0.1 == a) ≡ t → (i : ℕ) → i < length (cond t (record { asn = e.0.0; rel = converse e.1 } ∷ ends_at a (higher_ends es)) (ends_at a (higher_ends es))) →
-        ((i : ℕ) → i < length (ends_at a (higher_ends es)) → asn_at (ends_at a (higher_ends es)) i < a) → asn_at (cond t (record { asn = e.0.0; rel = converse e.1 } ∷ ends_at a (higher_ends es)) (ends_at a (higher_ends es))) i < a
-    by true is zero lt ih = (let at : e.0.1 ≡ a = eqb-true e.0.1 a is in let up : e.0.0 < e.0.1 = turned_head e es turned in omega (arith, at, up))
-    by true is (suc i) lt ih = ih i (omega arith)
-    by false is i lt ih = ih i lt
+higher_under [] a turned = λ i lt. absurd (omega arith)
+higher_under (e ∷ es) a turned = each_end (λ n. n < a) a (high_end e) (higher_ends es) (λ at. subst (λ x. e.0.0 < x) at (turned_head e es turned)) (higher_under es a (turned_tail e es turned))
 
 lower_over : (es : Entries) (a : ℕ) → AreTurned es → (i : ℕ) → i < length (ends_at a (lower_ends es)) → a < asn_at (ends_at a (lower_ends es)) i
-lower_over [] a turned i lt = absurd (omega arith)
-lower_over (e ∷ es) a turned i lt = by (e.0.0 == a) refl i lt (lower_over es a (turned_tail e es turned))
-  where
-    by : (t : Bool) → (e.0.0 == a) ≡ t → (i : ℕ) → i < length (cond t (record { asn = e.0.1; rel = e.1 } ∷ ends_at a (lower_ends es)) (ends_at a (lower_ends es))) →
-        ((i : ℕ) → i < length (ends_at a (lower_ends es)) → a < asn_at (ends_at a (lower_ends es)) i) → a < asn_at (cond t (record { asn = e.0.1; rel = e.1 } ∷ ends_at a (lower_ends es)) (ends_at a (lower_ends es))) i
-    by true is zero lt ih = (let at : e.0.0 ≡ a = eqb-true e.0.0 a is in let up : e.0.0 < e.0.1 = turned_head e es turned in omega (arith, at, up))
-    by true is (suc i) lt ih = ih i (omega arith)
-    by false is i lt ih = ih i lt
+lower_over [] a turned = λ i lt. absurd (omega arith)
+lower_over (e ∷ es) a turned = each_end (λ n. a < n) a (low_end e) (lower_ends es) (λ at. subst (λ x. x < e.0.1) at (turned_head e es turned)) (lower_over es a (turned_tail e es turned))
 
 rising_append : (xs ys : List Neighbour) (a : ℕ) → IsRising xs → IsRising ys → ((i : ℕ) → i < length xs → asn_at xs i < a) → ((i : ℕ) → i < length ys → a < asn_at ys i) → IsRising (xs ++ ys)
 rising_append xs ys a rx ry under over i j lt h =

@@ -53,29 +53,10 @@ fn reserve_end(rows: &mut IndexMap<Asn, Row>, asn: Asn) -> Result<(), AllocError
     row.reserve()
 }
 
-// Makes a row with room for one more neighbour.
-fn make_end(
-    rows: &mut IndexMap<Asn, Row>,
-    order: &mut Vec<Asn>,
-    alloc: Global,
-    asn: Asn,
-) -> Result<(), AllocError>
-    requires { IsUnique nat_eq rows.old }
-    ensures keeps { KeepsRows rows.old rows.new }
-    ensures room { OnOk result (has_room_at rows.new asn ≡ true) }
-    ensures order { order.new.items ≡ order.old.items }
-    ensures places { index_map_len rows.old ≤ vec_capacity order.old → index_map_len rows.new ≤ vec_capacity order.new }
-    ensures succeeds { has_room_at rows.old asn ≡ true → IsOk result }
-{
-    make_row(rows, order, alloc, asn)?;
-    reserve_end(rows, asn)
-}
-
 /// Makes rows of two ASes, each with room for one more neighbour.
 pub fn make_ends(
     rows: &mut IndexMap<Asn, Row>,
     order: &mut Vec<Asn>,
-    places: &mut Places,
     alloc: Global,
     a: Asn,
     b: Asn,
@@ -87,11 +68,22 @@ pub fn make_ends(
     ensures places { index_map_len rows.old ≤ vec_capacity order.old → index_map_len rows.new ≤ vec_capacity order.new }
     ensures succeeds { has_room_at rows.old a ≡ true → has_room_at rows.old b ≡ true → IsOk result }
 {
-    make_end(rows, order, alloc, a)?;
-    make_end(rows, order, alloc, b)?;
+    make_row(rows, order, alloc, a)?;
+    reserve_end(rows, a)?;
+    make_row(rows, order, alloc, b)?;
+    reserve_end(rows, b)
+}
+
+/// Makes room for one more place in the list of each of two rows, as far as memory serves.
+pub fn reserve_places(
+    rows: &IndexMap<Asn, Row>,
+    places: &mut Places,
+    alloc: Global,
+    a: Asn,
+    b: Asn,
+) {
     places.reserve(alloc, rows.get_index_of(&a));
     places.reserve(alloc, rows.get_index_of(&b));
-    Ok(())
 }
 
 // Sets what a neighbour is, in one row. Returns the place of a new neighbour.

@@ -12,7 +12,7 @@ use crate::build::MOST_ASES;
 use crate::error::{Absent, GraphError};
 use crate::graph::Graph;
 use crate::order::list;
-use crate::writes::{make_ends, make_row, set_mark, take_link, unlist_lone};
+use crate::writes::{make_ends, make_row, reserve_places, set_mark, take_link, unlist_lone};
 use net_names::{Asn, Rel};
 
 // The room, if it is for a pair with this AS.
@@ -35,14 +35,8 @@ impl Graph {
         ensures err { OnErr result (self.new ≡ self.old) }
         ensures refused { IfErr result (λ e. e ≡ Memory) }
     {
-        make_ends(
-            &mut self.rows,
-            &mut self.order,
-            &mut self.places,
-            self.alloc,
-            a,
-            b,
-        )?;
+        make_ends(&mut self.rows, &mut self.order, self.alloc, a, b)?;
+        reserve_places(&self.rows, &mut self.places, self.alloc, a, b);
         self.room = Some((a, b));
         Ok(())
     }

@@ -11,7 +11,7 @@ use crate::build::MOST_ASES;
 use crate::error::GraphError;
 use crate::graph::Graph;
 use crate::order::list;
-use crate::writes::{make_ends, put_link};
+use crate::writes::{make_ends, put_link, reserve_places};
 use net_names::{Asn, MOST_LINKS, Rel};
 
 // The room, if it is for this pair.
@@ -66,14 +66,8 @@ impl Graph {
         if self.as_count_with(a, b) > MOST_ASES {
             return Err(GraphError::TooManyAses);
         }
-        make_ends(
-            &mut self.rows,
-            &mut self.order,
-            &mut self.places,
-            self.alloc,
-            a,
-            b,
-        )?;
+        make_ends(&mut self.rows, &mut self.order, self.alloc, a, b)?;
+        reserve_places(&self.rows, &mut self.places, self.alloc, a, b);
         put_link(&mut self.rows, &mut self.places, a, b, rel);
         list(&mut self.order, a);
         list(&mut self.order, b);

@@ -10,20 +10,16 @@ use Rattle.as_graph.specs.Edits.{with_link}
 use Rattle.as_graph.specs.Refusals.{IsLinkRefusal}
 use Rattle.as_graph.specs.Graphs.{rel_of, topology_of, IsKept}
 use Rattle.as_graph.proofs.Kept.{rel_read}
-use Rattle.as_graph.proofs.Marking.{topology_of-kept, kept-kept, roomy-kept}
+use Rattle.as_graph.proofs.Marking.{topology_of-kept}
 use Rattle.as_graph.proofs.LinkTopology.{room_there, row_of_room, roomy-linked, place_left}
-use Rattle.as_graph.proofs.GraphEdits.{on_err, rows_listed, rows_more, seen_same, seen_linked, topology_of-added, kept-added}
+use Rattle.as_graph.proofs.GraphEdits.{rows_listed, rows_more, invariant_made, place_made, refused_made, seen_linked, topology_of-added, kept-added}
 use Rattle.as_graph.proofs.graph.Graph.add.Goals as goal
 
 pub invariant_of-self : goal.invariant_of-self
-invariant_of-self c = (
-  subst (λ (o : List ℕ). IsKept c.make_ends.new.rows o c.self.inside.links) (sym c.make_ends.ensures.order) (kept-kept c.self.inside.rows c.make_ends.new.rows c.make_ends.ensures.keeps c.self.inside.order.items c.self.inside.links c.self.invariant.0),
-  roomy-kept c.self.inside.rows c.make_ends.new.rows c.make_ends.ensures.keeps _ c.self.inside.room _ c.self.invariant.1 (c.make_ends.ensures.places c.self.invariant.1.ordered),
-)
+invariant_of-self c = invariant_made c.self.inside.rows c.make_ends.new.rows c.self.inside.order.items c.make_ends.new.order.items c.self.inside.links c.self.invariant.0 c.make_ends.ensures.keeps c.make_ends.ensures.order _ c.self.inside.room _ c.self.invariant.1 (c.make_ends.ensures.places c.self.invariant.1.ordered)
 
 pub returns-in_err-make_ends-clause-err : goal.returns-in_err-make_ends-clause-err
-returns-in_err-make_ends-clause-err c =
-    on_err c.from_residual.result _ (seen_same c.self.inside.rows c.make_ends.new.rows c.self.inside.room c.self.inside.room c.args.self.now c.self.view_is (topology_of-kept c.self.inside.rows c.make_ends.new.rows c.make_ends.ensures.keeps c.self.invariant.0.graph))
+returns-in_err-make_ends-clause-err c = refused_made c.self.inside.rows c.make_ends.new.rows c.self.inside.order.items c.self.inside.links c.self.invariant.0 c.make_ends.ensures.keeps c.from_residual.result c.self.inside.room c.args.self.now c.self.view_is
 
 pub returns-in_err-make_ends-clause-refused : goal.returns-in_err-make_ends-clause-refused
 returns-in_err-make_ends-clause-refused c =
@@ -37,17 +33,12 @@ returns-in_err-make_ends-clause-refused c =
 
 pub list-requires-clause-room : goal.list-requires-clause-room
 list-requires-clause-room c = λ new.
-    (let order = c.make_ends.ensures.order in
-    let left : length c.make_ends.new.order.items + 1 ≤ index_map_len c.make_ends.new.rows =
-    place_left c.make_ends.new.rows c.make_ends.new.order.items c.args.a c.make_ends.ensures.keeps.unique (subst IsStrictlyIncreasing (sym order) c.self.invariant.0.rising)
-    (rows_listed c.self.inside.rows c.make_ends.new.rows c.self.inside.order.items c.make_ends.new.order.items c.self.inside.links c.self.invariant.0 c.make_ends.ensures.keeps order)
-    (row_of_room c.make_ends.new.rows c.args.a c.in_ok-make_ends.ensures.room.0) new in
+    (let left = place_made c.self.inside.rows c.make_ends.new.rows c.self.inside.order.items c.make_ends.new.order.items c.self.inside.links c.self.invariant.0 c.make_ends.ensures.keeps c.make_ends.ensures.order c.args.a (row_of_room c.make_ends.new.rows c.args.a c.in_ok-make_ends.ensures.room.0) new in
     omega (arith, left, c.make_ends.ensures.places c.self.invariant.1.ordered, c.make_ends.new.order.ok.0))
 
 pub list-requires-2-clause-room : goal.list-requires-2-clause-room
 list-requires-2-clause-room c = λ new.
-    (let order = c.make_ends.ensures.order in
-    let rows = rows_listed c.self.inside.rows c.make_ends.new.rows c.self.inside.order.items c.make_ends.new.order.items c.self.inside.links c.self.invariant.0 c.make_ends.ensures.keeps order in
+    (let rows = rows_listed c.self.inside.rows c.make_ends.new.rows c.self.inside.order.items c.make_ends.new.order.items c.self.inside.links c.self.invariant.0 c.make_ends.ensures.keeps c.make_ends.ensures.order in
     let left : length c.list.new.order.items + 1 ≤ index_map_len c.make_ends.new.rows =
     place_left c.make_ends.new.rows c.list.new.order.items c.args.b c.make_ends.ensures.keeps.unique c.list.ensures.rising
     (rows_more c.make_ends.new.rows c.make_ends.new.order.items c.list.new.order.items c.args.a c.list.ensures.listed rows (row_of_room c.make_ends.new.rows c.args.a c.in_ok-make_ends.ensures.room.0))

@@ -9,9 +9,9 @@ use Rattle.as_graph.specs.Room.{is_room_with}
 use Rattle.as_graph.specs.Refusals.{IsMarkRefusal}
 use Rattle.as_graph.specs.declared.error.GraphError.TheVariants.{Memory}
 use Rattle.as_graph.proofs.Kept.{has_read, counted_read}
-use Rattle.as_graph.proofs.Marking.{there_row, kept_graph, topology_of-kept, topology_of-marked, kept-kept, roomy-kept, roomy-marked}
-use Rattle.as_graph.proofs.LinkTopology.{room_stays, place_left}
-use Rattle.as_graph.proofs.GraphEdits.{on_err, rows_listed, seen_same, seen_marked, row_there, kept-marked-there, kept-marked-new}
+use Rattle.as_graph.proofs.Marking.{there_row, kept_graph, topology_of-kept, topology_of-marked, roomy-kept, roomy-marked}
+use Rattle.as_graph.proofs.LinkTopology.{room_stays}
+use Rattle.as_graph.proofs.GraphEdits.{invariant_made, place_made, refused_made, seen_marked, row_there, kept-marked-there, kept-marked-new}
 use Rattle.as_graph.proofs.graph.Graph.mark.Goals as goal
 
 pub set_mark-requires : goal.set_mark-requires
@@ -27,6 +27,9 @@ invariant_of-self c =
           (λ a b is. (room_stays (λ o. is_room_with o c.args.asn) c.self.inside.room (a, b) (sym c.room_with-self-inside.ensures ∙ is)).0),
     )
 
+pub invariant_of-self-in_err-make_row : goal.invariant_of-self-in_err-make_row
+invariant_of-self-in_err-make_row c = invariant_made c.self.inside.rows c.make_row.new.rows c.self.inside.order.items c.make_row.new.order.items c.self.inside.links c.self.invariant.0 c.make_row.ensures.keeps c.make_row.ensures.order _ c.self.inside.room _ c.self.invariant.1 (c.make_row.ensures.places c.self.invariant.1.ordered)
+
 pub returns-then-has-clause-ok : goal.returns-then-has-clause-ok
 returns-then-has-clause-ok c =
     seen_marked c.self.inside.rows c.set_mark.new.rows c.self.inside.room c.room_with-self-inside.result c.args.self.now c.self.view_is c.args.asn (topology_of-marked c.self.inside.rows c.set_mark.new.rows c.args.asn c.set_mark.ensures c.self.invariant.0.graph) c.room_with-self-inside.ensures
@@ -38,15 +41,8 @@ returns-then-len-ge-MOST_ASES-clause-refused c = (
       omega (arith, len, counted_read c.self.inside.rows c.self.inside.order.items c.self.inside.links c.self.invariant.0 c.args.self.now c.self.inside.room c.self.view_is, c.if-len-ge-MOST_ASES.true)),
 )
 
-pub invariant_of-self-in_err-make_row : goal.invariant_of-self-in_err-make_row
-invariant_of-self-in_err-make_row c = (
-  subst (λ (o : List ℕ). IsKept c.make_row.new.rows o c.self.inside.links) (sym c.make_row.ensures.order) (kept-kept c.self.inside.rows c.make_row.new.rows c.make_row.ensures.keeps c.self.inside.order.items c.self.inside.links c.self.invariant.0),
-  roomy-kept c.self.inside.rows c.make_row.new.rows c.make_row.ensures.keeps _ c.self.inside.room _ c.self.invariant.1 (c.make_row.ensures.places c.self.invariant.1.ordered),
-)
-
 pub returns-in_err-make_row-clause-err : goal.returns-in_err-make_row-clause-err
-returns-in_err-make_row-clause-err c =
-    on_err c.from_residual.result _ (seen_same c.self.inside.rows c.make_row.new.rows c.self.inside.room c.self.inside.room c.args.self.now c.self.view_is (topology_of-kept c.self.inside.rows c.make_row.new.rows c.make_row.ensures.keeps c.self.invariant.0.graph))
+returns-in_err-make_row-clause-err c = refused_made c.self.inside.rows c.make_row.new.rows c.self.inside.order.items c.self.inside.links c.self.invariant.0 c.make_row.ensures.keeps c.from_residual.result c.self.inside.room c.args.self.now c.self.view_is
 
 pub returns-in_err-make_row-clause-refused : goal.returns-in_err-make_row-clause-refused
 returns-in_err-make_row-clause-refused c =
@@ -59,10 +55,7 @@ returns-in_err-make_row-clause-refused c =
 
 pub list-requires-clause-room : goal.list-requires-clause-room
 list-requires-clause-room c = λ new.
-    (let order = c.make_row.ensures.order in
-    let left : length c.make_row.new.order.items + 1 ≤ index_map_len c.make_row.new.rows =
-    place_left c.make_row.new.rows c.make_row.new.order.items c.args.asn c.make_row.ensures.keeps.unique (subst IsStrictlyIncreasing (sym order) c.self.invariant.0.rising)
-    (rows_listed c.self.inside.rows c.make_row.new.rows c.self.inside.order.items c.make_row.new.order.items c.self.inside.links c.self.invariant.0 c.make_row.ensures.keeps order) c.in_ok-make_row.ensures.there new in
+    (let left = place_made c.self.inside.rows c.make_row.new.rows c.self.inside.order.items c.make_row.new.order.items c.self.inside.links c.self.invariant.0 c.make_row.ensures.keeps c.make_row.ensures.order c.args.asn c.in_ok-make_row.ensures.there new in
     omega (arith, left, c.make_row.ensures.places c.self.invariant.1.ordered, c.make_row.new.order.ok.0))
 
 pub invariant_of-self-2 : goal.invariant_of-self-2
