@@ -1,7 +1,8 @@
 //! The last pass: no limit is passed.
-ghost use Rattle.std.specs.Prelude.{◌≡◌, IfOk, length, map, nat_lt};
+ghost use Rattle.std.specs.Prelude.{◌≡◌, IfErr, IfOk, OnOk, false, length, map, nat_lt, true};
 ghost use Rattle.std.specs.BTreeSet.{IsFromIterResult};
 ghost use Rattle.std.specs.List.{list_any};
+ghost use Rattle.scenario_text.specs.declared.faults.ScenarioError.TheVariants.{Limit};
 ghost use Rattle.scenario_text.specs.Faults.{GivesBy};
 ghost use Rattle.scenario_text.specs.Limits.{within};
 ghost use Rattle.scenario_text.specs.Scenarios.{prefix_count};
@@ -68,41 +69,31 @@ fn has_many_leakers(leaks: &[Leakers]) -> bool
     leaks.iter().any(|l| l.as_slice().len() > MOST_LEAKERS)
 }
 
+// Tests that this limit isn't passed.
+fn test_limit(passed: bool, which: LimitOf) -> Result<(), ScenarioError>
+    ensures ok { OnOk result (passed ≡ false) }
+    ensures err { IfErr result (λ e. (e ≡ Limit which) × (passed ≡ true)) }
+{
+    if passed {
+        Err(ScenarioError::Limit { which })
+    } else {
+        Ok(())
+    }
+}
+
 /// Tests that no limit is passed.
 #[tactic(auto, unfolding(crate::specs::Limits::within))]
 pub(crate) fn test_limits(alloc: Global, lists: &Lists) -> Result<(), ScenarioError>
     ensures { GivesBy (λ _. lists.now) result (within lists.now) }
 {
-    if lists.announcements.len() > MOST_ANNOUNCEMENTS {
-        return Err(ScenarioError::Limit {
-            which: LimitOf::Announcements,
-        });
-    }
+    test_limit(
+        lists.announcements.len() > MOST_ANNOUNCEMENTS,
+        LimitOf::Announcements,
+    )?;
     let prefixes = count_prefixes(alloc, &lists.announcements)?;
-    if prefixes > MOST_PREFIXES {
-        return Err(ScenarioError::Limit {
-            which: LimitOf::Prefixes,
-        });
-    }
-    if has_long_path(&lists.announcements) {
-        return Err(ScenarioError::Limit {
-            which: LimitOf::Path,
-        });
-    }
-    if lists.leaks.len() > MOST_LEAK_LISTS {
-        return Err(ScenarioError::Limit {
-            which: LimitOf::Rounds,
-        });
-    }
-    if has_many_leakers(&lists.leaks) {
-        return Err(ScenarioError::Limit {
-            which: LimitOf::Leakers,
-        });
-    }
-    if lists.watch.len() > MOST_WATCHED {
-        return Err(ScenarioError::Limit {
-            which: LimitOf::Watch,
-        });
-    }
-    Ok(())
+    test_limit(prefixes > MOST_PREFIXES, LimitOf::Prefixes)?;
+    test_limit(has_long_path(&lists.announcements), LimitOf::Path)?;
+    test_limit(lists.leaks.len() > MOST_LEAK_LISTS, LimitOf::Rounds)?;
+    test_limit(has_many_leakers(&lists.leaks), LimitOf::Leakers)?;
+    test_limit(lists.watch.len() > MOST_WATCHED, LimitOf::Watch)
 }
