@@ -1,4 +1,5 @@
 pub mod Behind
+mod BestNear
 pub mod RowMaps
 pub mod PathNumbers
 pub mod Lines

@@ -160,21 +160,21 @@ fn is_offer<P: RoutePolicy, V: OriginStates>(
     world: &World<'_, P, V>,
     prefix: Prefix,
     placed: &Placed<'_>,
-    asn: Asn,
     view: &View,
     place: usize,
+    receiver: &Receiver,
     entry: &Entry,
 ) -> bool
     ensures { (o : Offer) → offer (setting_in P.meaning V.state_of world.now prefix)
-        (held_by placed.now.table.now placed.now.round) view.now.neighbour asn ≡ Some o →
+        (held_by placed.now.table.now placed.now.round) view.now.neighbour receiver.now.asn ≡ Some o →
         o.view ≡ view.now → IsTrue result → entry.now ≡ o.entry }
 {
     match placed.near(view.neighbour, place) {
         Some(given) => holds_given(
-            world.book.policy(view.neighbour),
-            world.book.policy(asn),
+            world.book.policy_near(view.neighbour, place),
+            world.book.policy_near(receiver.asn, receiver.place),
             view.neighbour,
-            asn,
+            receiver.asn,
             view.rel,
             given,
             entry,
@@ -208,7 +208,9 @@ pub(crate) fn is_right_near<P: RoutePolicy, V: OriginStates>(
     let best = best_view(world, neighbours, places, prefix, placed, &receiver);
     match (best.view, held) {
         (None, None) => true,
-        (Some(view), Some(entry)) => is_offer(world, prefix, placed, asn, &view, best.place, entry),
+        (Some(view), Some(entry)) => is_offer(
+            world, prefix, placed, &view, best.place, &receiver, entry,
+        ),
         (None, Some(_)) => false,
         (Some(_), None) => false,
     }
