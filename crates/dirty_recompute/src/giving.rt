@@ -1,7 +1,7 @@
 //! An AS is given an entry, or none. Room is made first, so that after a refusal all ASes hold what
 //! they held.
 
-ghost use Rattle.std.specs.Prelude.{◌≡◌, ◌≢◌, ℕ, ◌<◌, Some, None, IsTrue, IsSome, true, false, OnOk, OnErr, IfOk, Option};
+ghost use Rattle.std.specs.Prelude.{◌≡◌, ◌≢◌, ℕ, ◌<◌, Some, None, IsTrue, true, false, OnOk, OnErr, IfOk, Option};
 ghost use Rattle.path_pool.specs.Pool.{IsLive, SamePaths, limit_of, spare_of};
 ghost use Rattle.stability_laws.specs.Book.{policy_at};
 ghost use Rattle.stability_laws.specs.declared.entry.Seed.{Seed as ASeed};
@@ -118,29 +118,6 @@ fn make_room(pool: &mut PathPool, overlay: &mut Overlay) -> Result<(), NoMemory>
     Ok(())
 }
 
-// Gives an AS the entry that a choice names, which is its seed's or an offer's.
-fn give_entry<P: RoutePolicy, V>(
-    at: &PrefixWorld<'_, P, V>,
-    pool: &mut PathPool,
-    overlay: &mut Overlay,
-    asn: Asn,
-    place: usize,
-    chosen: ChoiceNear,
-) -> Result<bool, NoMemory>
-    requires can { CanTurn pool.old at.now.seeds.now at.now.table.now overlay.old }
-    requires choice { IsNameable at.now.seeds.now at.now.table.now overlay.old asn chosen.choice }
-    requires some { IsSome (named_at P.meaning at.now pool.old overlay.old asn chosen.choice) }
-    requires kept { GivesUpNone pool.old at.now.table.now overlay.old asn
-        (named_at P.meaning at.now pool.old overlay.old asn chosen.choice) }
-    ensures given { IfOk result (IsGiven pool.old pool.new at.now.table.now overlay.old overlay.new asn
-        (named_at P.meaning at.now pool.old overlay.old asn chosen.choice)) }
-    ensures err { OnErr result (SameHeld pool.old pool.new at.now.table.now overlay.old overlay.new) }
-    ensures kept { IsKept pool.old pool.new at.now.seeds.now overlay.old overlay.new }
-{
-    make_room(pool, overlay)?;
-    Ok(settle_near(at, pool, overlay, asn, place, chosen))
-}
-
 // Takes away what an AS holds, which is an entry of the table, if anything. Answers whether there was
 // anything.
 fn take_away(
@@ -194,6 +171,9 @@ pub(crate) fn give_chosen<P: RoutePolicy, V>(
     }
     match chosen.choice {
         Choice::Nothing => take_away(at.table, overlay, asn, place, before),
-        Choice::Seed | Choice::Via { .. } => give_entry(at, pool, overlay, asn, place, chosen),
+        Choice::Seed | Choice::Via { .. } => {
+            make_room(pool, overlay)?;
+            Ok(settle_near(at, pool, overlay, asn, place, chosen))
+        }
     }
 }

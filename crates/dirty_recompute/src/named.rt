@@ -16,7 +16,7 @@ pub(crate) struct Named {
     // How many asked before the numbers were listed.
     asked: usize,
     // The numbers, once they are listed, or more of them.
-    pub listed: Option<AsnSet>,
+    pub listed: Option<Box<AsnSet>>,
 }
 
 impl Named {
@@ -37,7 +37,7 @@ impl Named {
         }
     }
 
-    // Counts who asks, and lists the numbers once there are more than a few.
+    // Counts who asks, and lists the numbers once there are more than a few. Where memory is wanting, it counts anew.
     fn count(&mut self, seeds: &SeedIds, pool: &PathPool)
         requires live { AreSeedsLive pool.now seeds.now }
         requires all { HasAll self.old (seeds_of pool.now seeds.now) }
@@ -50,7 +50,10 @@ impl Named {
             self.asked += 1;
             return;
         }
-        self.listed = Some(named_by(self.alloc, seeds, pool));
+        match Box::new(self.alloc, named_by(self.alloc, seeds, pool)) {
+            Ok(listed) => self.listed = Some(listed),
+            Err(_) => self.asked = 0,
+        }
     }
 
     /// Whether an AS may stand on the path of a seed. The first that ask may.

@@ -53,35 +53,24 @@ fn is_clear(pool: &PathPool, held: &Option<Held>, asn: Asn) -> bool
     }
 }
 
-// Whether an AS other than `asn` makes the neighbour an offer which its policy puts before the view. The place of the
-// neighbour is a hint.
+// Whether an AS makes the neighbour an offer which its policy puts before the view. The places of both are hints.
 fn is_rival<P: RoutePolicy, V: OriginStates>(
     at: &PrefixWorld<'_, P, V>,
     pool: &PathPool,
     overlay: &Overlay,
-    asn: Asn,
+    giver: &PlacedAs,
     neighbour: &PlacedAs,
-    other: Asn,
     view: &View,
 ) -> bool
     requires held { AreHeld pool.now at.now.table.now overlay.now }
-    ensures { IsTrue result → HasRival (setting_at P.meaning V.state_of at.now)
-        (routing_of pool.now at.now.table.now overlay.now) asn neighbour.now.asn view.now }
+    ensures { IsTrue result → (a : ℕ) → giver.now.asn ≢ a → HasRival (setting_at P.meaning V.state_of at.now)
+        (routing_of pool.now at.now.table.now overlay.now) a neighbour.now.asn view.now }
 {
-    if other == asn {
-        return false;
-    }
-    let Some(rel) = at.graph.rel(neighbour.asn, other) else {
+    let Some(rel) = at.graph.rel(neighbour.asn, giver.asn) else {
         return false;
     };
-    let place = at.graph.place_near(other, 0);
-    let given = held_near(at.table, overlay, other, place);
-    let giver = PlacedAs { asn: other, place };
-    let receiver = PlacedAs {
-        asn: neighbour.asn,
-        place: neighbour.place,
-    };
-    match view_but_for_loops(at, pool, giver, receiver, rel, given) {
+    let given = held_near(at.table, overlay, giver.asn, giver.place);
+    match view_but_for_loops(at, pool, *giver, *neighbour, rel, given) {
         Some(offered) => {
             let own = at.book.policy_near(neighbour.asn, neighbour.place);
             own.before(&offered, view) && is_clear(pool, &given, neighbour.asn)
@@ -113,5 +102,10 @@ pub(crate) fn has_rival<P: RoutePolicy, V: OriginStates>(
         return false;
     };
     let other = pool.head(rest);
-    is_rival(at, pool, overlay, asn, neighbour, other, view)
+    if other == asn {
+        return false;
+    }
+    let place = at.graph.place_near(other, 0);
+    let giver = PlacedAs { asn: other, place };
+    is_rival(at, pool, overlay, &giver, neighbour, view)
 }

@@ -1,4 +1,4 @@
-use Rattle.std.proofs.Common.{sym, ◌∙◌}
+use Rattle.std.proofs.Common.{sym, ◌∙◌, ap}
 use Rattle.route_choice.specs.AsnSets.{is_among}
 use Rattle.route_choice.specs.Routings.{seeds_of}
 use Rattle.dirty_recompute.proofs.NoLoopLemmas.{on_no_path}
@@ -6,4 +6,5 @@ use Rattle.dirty_recompute.proofs.named.Named.may_have.Goals as goal
 
 pub returns-in-Some-clause-out : goal.returns-in-Some-clause-out
 returns-in-Some-clause-out c = λ out.
-    on_no_path (is_among c.in-Some.listed) (seeds_of c.args.pool.now c.args.seeds.now) (c.count.ensures c.in-Some.listed c.in-Some.is) c.args.asn (sym c.has.ensures ∙ out)
+    on_no_path (is_among c.in-Some.listed.value) (seeds_of c.args.pool.now c.args.seeds.now) (c.count.ensures c.in-Some.listed c.in-Some.is) c.args.asn
+    (ap (λ s. is_among s c.args.asn) (sym c.deref.ensures) ∙ sym c.has.ensures ∙ out)
