@@ -34,12 +34,11 @@ use Rattle.leak_round.specs.Leaked.{AreSeedsWith}
 use Rattle.leak_round.specs.Overlays.{is_at, change_in, held_of, held_with, laid_in, changes_uses, FitsIn, IsListed, AreChangesOf}
 use Rattle.leak_round.specs.Found.{CanFind, AreFound, AreRoomed, AreSame, IsAdded, IsDone, IsPaid, IsTableAdded, AreTableChanges, IsTurn, is_changed_in, course_of, is_found}
 use Rattle.leak_round.specs.Tables.{kept_in, entry_uses}
-use Rattle.leak_round.proofs.AllRounds.{got_before}
 use Rattle.leak_round.proofs.Changing.{kept_here, now_are, was_are}
 use Rattle.leak_round.proofs.Committing.{held_with-live}
 use Rattle.leak_round.proofs.Counting.{apart_appended, apart_mapped, apart_numbers, from_appended, from_mapped, stands_occurs}
 use Rattle.leak_round.proofs.Laying.{apart_false, change_in-first, change_in-last, here_true, is_at-true}
-use Rattle.leak_round.proofs.Listing.{got_either}
+use Rattle.leak_round.proofs.Listing.{got_before, got_either}
 use Rattle.leak_round.proofs.Roomed.{kept_same}
 
 -- a change is of a table of which changes are found

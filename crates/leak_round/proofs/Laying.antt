@@ -22,6 +22,7 @@ use Rattle.route_choice.proofs.RoundLemmas.{same_prefixes, uses_at-le}
 use Rattle.leak_round.specs.declared.changes.Change.{Change}
 use Rattle.leak_round.specs.Tables.{tables_in, kept_in, entry_uses}
 use Rattle.leak_round.specs.Overlays.{table_in, held_of, is_at, change_in, held_with, FitsIn, CanPut, IsPut, AreChangesOf, IsCommitted}
+use Rattle.leak_round.proofs.Listing.{got_first, got_last}
 use Rattle.leak_round.proofs.Sums.{sum_by-one-le}
 
 pub got_set : {X : Type 0} (xs : List X) (i : ℕ) (x : X) → i < length xs → slice_get (set xs i x) i ≡ Some x
@@ -35,15 +36,6 @@ got_other (y ∷ xs) zero zero x ne = absurd (ne refl)
 got_other (y ∷ xs) zero (suc j) x ne = refl
 got_other (y ∷ xs) (suc i) zero x ne = refl
 got_other (y ∷ xs) (suc i) (suc j) x ne = got_other xs i j x (λ e. ne (omega (arith, e)))
-
-pub got_first : {X : Type 0} (xs : List X) (x : X) (i : ℕ) (y : X) → slice_get xs i ≡ Some y → slice_get (xs ++ x ∷ []) i ≡ Some y
-got_first [] x i y at = cc
-got_first (z ∷ xs) x zero y at = at
-got_first (z ∷ xs) x (suc i) y at = got_first xs x i y at
-
-pub got_end : {X : Type 0} (xs : List X) (x : X) → slice_get (xs ++ x ∷ []) (length xs) ≡ Some x
-got_end [] x = refl
-got_end (y ∷ xs) x = got_end xs x
 
 -- the tables of a round that has one of the prefix
 module _ (rounds : List RoundTables) (round : ℕ) (prefix : PrefixValue) (t : Table) (at : table_in rounds round prefix ≡ Some t) where
@@ -190,7 +182,7 @@ module _ (old new : List RoundTables) (xs : List Change) (x : Change) (w : AreCh
   pub others_apart : (round : ℕ) (prefix : PrefixValue) → is_at round prefix x ≡ true → (i : ℕ) (y : Change) → slice_get xs i ≡ Some y → is_at round prefix y ≡ false
   others_apart round prefix here i y at =
       let (r, p) = is_at-true round prefix x here in
-      let apart = w.apart i (length xs) y x (slice_get_within xs i y at) (got_first xs x i y at) (got_end xs x) in
+      let apart = w.apart i (length xs) y x (slice_get_within xs i y at) (got_first xs x i y at) (got_last xs x) in
       apart_false round prefix y (elim apart [ inl ne ↦ inl (λ e. ne (e ∙ sym r)) | inr ne ↦ inr (λ e. ne (e ∙ sym p)) ])
 
   pub table_other : (round : ℕ) (prefix : PrefixValue) → (round ≢ x.round) ⊎ (prefix ≢ x.prefix) → table_in new round prefix ≡ table_in old round prefix
@@ -237,7 +229,7 @@ module _ (old new : List RoundTables) (xs : List Change) (x : Change) (w : AreCh
   left_changes = record {
     fits = λ i y at.
         (let f = w.fits i y (got_first xs x i y at) in
-        let apart = w.apart i (length xs) y x (slice_get_within xs i y at) (got_first xs x i y at) (got_end xs x) in
+        let apart = w.apart i (length xs) y x (slice_get_within xs i y at) (got_first xs x i y at) (got_last xs x) in
         record { table = f.table; at = table_other y.round y.prefix apart ∙ f.at; room = f.room });
     apart = λ i j y z less at at'. w.apart i j y z less (got_first xs x i y at) (got_first xs x j z at');
     listed = λ i y at. w.listed i y (got_first xs x i y at);

@@ -1,5 +1,5 @@
 -- Lists that are walked from place to place up to the first that is past their end.
-use Rattle.std.proofs.Common.{◌≡◌, ℕ, zero, suc, ◌+◌, ◌*◌, ◌≤◌, Option, Some, None, List, [], ◌∷◌, ◌++◌, ◌⊎◌, take, refl, ap, ◌∙◌, arith, inl, inr}
+use Rattle.std.proofs.Common.{◌≡◌, ℕ, zero, suc, ◌+◌, ◌*◌, ◌<◌, ◌≤◌, Option, Some, None, List, [], ◌∷◌, ◌++◌, ◌⊎◌, length, take, refl, ap, ◌∙◌, arith, inl, inr}
 use Rattle.std.specs.Prelude.{IsSome, slice_get}
 use Rattle.std.specs.List.{sum_by}
 use Rattle.std.proofs.lemmas.List.Sums.{sum_by_push}
@@ -26,3 +26,17 @@ got_either [] x zero y e = inr (let same : x ≡ y = cc in same)
 got_either [] x (suc i) y e = cc
 got_either (z ∷ xs) x zero y e = inl e
 got_either (z ∷ xs) x (suc i) y e = got_either xs x i y e
+
+pub got_before : {X : Type 0} (xs : List X) (x : X) (i : ℕ) → i < length xs → slice_get (xs ++ x ∷ []) i ≡ slice_get xs i
+got_before [] x i less = absurd (omega arith)
+got_before (y ∷ xs) x zero less = refl
+got_before (y ∷ xs) x (suc i) less = got_before xs x i (omega arith)
+
+pub got_first : {X : Type 0} (xs : List X) (x : X) (i : ℕ) (y : X) → slice_get xs i ≡ Some y → slice_get (xs ++ x ∷ []) i ≡ Some y
+got_first [] x i y at = cc
+got_first (z ∷ xs) x zero y at = at
+got_first (z ∷ xs) x (suc i) y at = got_first xs x i y at
+
+pub got_last : {X : Type 0} (xs : List X) (x : X) → slice_get (xs ++ x ∷ []) (length xs) ≡ Some x
+got_last [] x = refl
+got_last (y ∷ xs) x = got_last xs x

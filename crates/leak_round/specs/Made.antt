@@ -1,5 +1,5 @@
 -- Tables that are made in a pool, or moved to it.
-use Rattle.std.specs.Prelude.{◌≡◌, ℕ, ◌+◌, ◌-◌, ◌*◌, ◌≤◌, suc, List, length}
+use Rattle.std.specs.Prelude.{◌≡◌, ℕ, ◌+◌, ◌-◌, ◌*◌, ◌^◌, ◌<◌, ◌≤◌, List, length}
 use Rattle.as_graph.specs.declared.build.TheConstants.{MOST_ASES}
 use Rattle.net_names.specs.Prefixes.{PrefixValue}
 use Rattle.path_pool.specs.declared.pool.PathPool.{PathPool}
@@ -17,8 +17,7 @@ use Rattle.route_choice.specs.Routings.{table_routing}
 use Rattle.route_choice.specs.Tables.{prefix_of, table_uses}
 use Rattle.leak_round.specs.declared.announced.Announced.{Announced}
 use Rattle.leak_round.specs.declared.building.Building.{Building}
-use Rattle.leak_round.specs.declared.limits.TheConstants.{MOST_ROUNDS}
-use Rattle.leak_round.specs.declared.rounds.TheConstants.{MAX_CELLS}
+use Rattle.leak_round.specs.declared.limits.TheConstants.{MAX_CELLS, MOST_ROUNDS}
 use Rattle.leak_round.specs.Announced.{announced_uses, AreAnnounced}
 use Rattle.leak_round.specs.Entries.{HasEntries, of_round, of_rounds}
 use Rattle.leak_round.specs.Growth.{GrowsBy, KeepsPaths}
@@ -34,13 +33,13 @@ pub record CanStand (pool : PathPool) (plan : Plan) (xs : List Announced) (round
   pub few : length rounds ≤ MOST_ROUNDS
   pub cells : limit_of pool ≡ MAX_CELLS
 
--- tables of the round can be made: those of all earlier rounds are there, the way is one through the world, and the overlay is for its course
-pub record CanMake {P V : Type 0} (meaning : P → Policy) (x : Building P V) (pool : PathPool) (earlier : List RoundTables) (round : ℕ) (scratch : Overlay) : Type 0 where
+-- tables of the next round can be made: those of all earlier rounds are there, the next has a number of 32 bits, the way is one through the world, and the overlay is for its course
+pub record CanMake {P V : Type 0} (meaning : P → Policy) (x : Building P V) (pool : PathPool) (earlier : List RoundTables) (scratch : Overlay) : Type 0 where
   pub way : IsWay meaning x.world.now x.way.now
   pub scratch_is : IsScratch x.way.now.course.now scratch
   pub announced : AreAnnounced pool x.plan.now x.announced.now
   pub earlier_full : AreRoundsFull pool x.plan.now earlier
-  pub number : round ≡ suc (length earlier)
+  pub number : length earlier + 1 < 2 ^ 32
 
 -- the table of the prefix stands in the pool, which has a hold more for each entry and keeps its paths: at most one cell more is live for each entry
 pub record IsTableMade (old new : PathPool) (prefix : PrefixValue) (t : Table) : Type 0 where

@@ -47,7 +47,7 @@ mod touched;
 mod whole_edit;
 
 pub use laws::live_cells_are_reached;
-pub use limits::{MOST_ANNOUNCEMENTS, MOST_NUMBERS, MOST_PREFIXES, MOST_ROUNDS};
+pub use limits::{MAX_CELLS, MOST_ANNOUNCEMENTS, MOST_NUMBERS, MOST_PREFIXES, MOST_ROUNDS};
 pub use plans::{RoundsDone, RoundsPlan};
 pub use rounds::{MOST_CELLS, Rounds};
 pub use touched::Touched;

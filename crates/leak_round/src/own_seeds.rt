@@ -38,12 +38,7 @@ pub fn fill_own_seeds(
 fn place_of(prefixes: &[Prefix], prefix: Prefix) -> Option<usize>
     ensures { IfSome result (λ i. slice_get prefixes.now i ≡ Some prefix) }
 {
-    for (place, one) in prefixes.iter().enumerate() {
-        if *one == prefix {
-            return Some(place);
-        }
-    }
-    None
+    prefixes.iter().position(|one| *one == prefix)
 }
 
 // Puts other seeds of a prefix in place of those that are kept of it.

@@ -1,6 +1,6 @@
 //! The tables of one round.
 
-ghost use Rattle.std.specs.Prelude.{◌+◌, ◌*◌, ◌≤◌, length, IsTrue, IfOk, OnOk};
+ghost use Rattle.std.specs.Prelude.{◌≡◌, ◌+◌, ◌*◌, ◌≤◌, length, IsTrue, IfOk, OnOk};
 ghost use Rattle.as_graph.specs.Topology.{as_count};
 ghost use Rattle.three_pass.specs.Scratches.{IsScratch};
 ghost use Rattle.stability_laws.specs.Stable.{IsStable};
@@ -32,7 +32,8 @@ fn make_table<P: RoutePolicy, V: OriginStates, L: Ledger>(
     scratch: &mut Overlay,
     steps: &mut Steps<L>,
 ) -> Result<Table, NoMemory>
-    requires can { CanMake P.meaning building.now pool.old earlier.now round scratch.old }
+    requires can { CanMake P.meaning building.now pool.old earlier.now scratch.old }
+    requires number { round ≡ length earlier.now + 1 }
     requires known { IsTrue (has_prefix building.now.plan.now prefix) }
     requires room { HasRoomFor pool.old 1 }
     ensures cost { steps.new ≤ steps.old + 2 * as_count building.now.world.now.graph.now }
@@ -57,24 +58,25 @@ fn make_table<P: RoutePolicy, V: OriginStates, L: Ledger>(
     Ok(table)
 }
 
-// The tables of a round, one for each prefix. They are made in an overlay for the course.
+// The tables of the next round after the earlier ones, one for each prefix. They are made in an overlay for the course.
 pub fn make_round<P: RoutePolicy, V: OriginStates, L: Ledger>(
     building: &Building<'_, P, V>,
     earlier: &[RoundTables],
-    round: u32,
     pool: &mut PathPool,
     scratch: &mut Overlay,
     steps: &mut Steps<L>,
 ) -> Result<RoundTables, NoMemory>
-    requires can { CanMake P.meaning building.now pool.old earlier.now round scratch.old }
+    requires can { CanMake P.meaning building.now pool.old earlier.now scratch.old }
     requires room { HasRoomFor pool.old (length (prefixes_of building.now.plan.now)) }
     ensures cost { steps.new ≤
         steps.old + 2 * as_count building.now.world.now.graph.now * length (prefixes_of building.now.plan.now) }
     ensures stable { IfOk result (λ t. IsRound (setting_in P.meaning V.state_of building.now.world.now)
-        building.now.plan.now round (kept_in pool.old earlier.now (length earlier.now)) (round_routing pool.new t)) }
+        building.now.plan.now (length earlier.now + 1)
+        (kept_in pool.old earlier.now (length earlier.now)) (round_routing pool.new t)) }
     ensures made { IfOk result (IsRoundMade pool.old pool.new building.now.plan.now) }
     ensures scratch { OnOk result (IsScratch building.now.way.now.course.now scratch.new) }
 {
+    let round = earlier.len() as u32 + 1;
     let mut tables = RoundTables::new(building.alloc);
     let mut place = 0;
     'prefixes: while let Some(prefix) = building.plan.prefix_at(place) {

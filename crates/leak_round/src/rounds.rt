@@ -21,8 +21,7 @@ ghost use Rattle.leak_round.specs.Made.{AreRoundsMade, CanStand};
 ghost use Rattle.stability_laws.specs.World.{setting_in};
 ghost use Rattle.leak_round.specs.OwnSeeds.{AreOwnSeeds};
 ghost use Rattle.leak_round.specs.Tables.{kept_in, entry_uses, AreRoundsFull};
-ghost use Rattle.leak_round.specs.declared.limits.TheConstants.{MOST_ROUNDS};
-ghost use Rattle.leak_round.specs.declared.rounds.TheConstants.{MAX_CELLS};
+ghost use Rattle.leak_round.specs.declared.limits.TheConstants.{MAX_CELLS, MOST_ROUNDS};
 
 mod commits;
 mod planning;
@@ -31,6 +30,7 @@ mod tidying;
 
 use crate::announced::{Announced, announce_all};
 use crate::building::Building;
+use crate::limits::MAX_CELLS;
 use crate::round::make_round;
 use net_names::NoMemory;
 use path_pool::PathPool;
@@ -41,9 +41,6 @@ use stability_laws::{SeedPlan, World, one_family};
 use std::alloc::Global;
 use std::sync::ledger::Ledger;
 use three_pass::{Course, Way};
-
-// The most cells of a pool. The entries of four rounds of 32 prefixes and the announced paths have fewer.
-const MAX_CELLS: usize = 40_000_000;
 
 /// How many cells of a pool are live at most where an edit begins.
 pub const MOST_CELLS: usize = 20_000_000;
@@ -89,9 +86,9 @@ fn make_rounds<P: RoutePolicy, V: OriginStates, L: Ledger>(
     ensures made { IfOk result (λ v. AreRoundsMade pool.old pool.new building.now.plan.now rounds v.items) }
 {
     let mut tables = Vec::new(building.alloc);
-    for past in 0..rounds {
+    for _past in 0..rounds {
         let earlier = tables.as_slice();
-        let next = make_round(building, earlier, past + 1, pool, scratch, steps)?;
+        let next = make_round(building, earlier, pool, scratch, steps)?;
         tables.push(next)?;
     }
     Ok(tables)

@@ -6,7 +6,7 @@ ghost use Rattle.stability_laws.specs.Plans.{has_prefix};
 ghost use Rattle.stability_laws.specs.Rounds.{seeds_of};
 ghost use Rattle.leak_round.specs.Rounds.{kept, plan_of};
 ghost use Rattle.leak_round.specs.SeedPaths.{HaveAtMost};
-ghost use Rattle.leak_round.specs.declared.rounds.TheConstants.{MAX_CELLS};
+ghost use Rattle.leak_round.specs.declared.limits.TheConstants.{MAX_CELLS};
 
 use super::Rounds;
 use crate::round_seeds::seeds_with;

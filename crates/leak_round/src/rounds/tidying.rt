@@ -14,8 +14,9 @@ ghost use Rattle.leak_round.specs.Rounds.{is_open, plan_of, pool_of, round_count
 ghost use Rattle.leak_round.specs.Overlays.{AreFew};
 ghost use Rattle.leak_round.specs.declared.rounds.TheConstants.{MOST_CELLS};
 
-use super::{MAX_CELLS, Rounds, closed_rounds};
+use super::{Rounds, closed_rounds};
 use crate::announced::announce_all;
+use crate::limits::MAX_CELLS;
 use crate::moving::{Moving, moved_rounds};
 use as_places::AsPlaces;
 use net_names::{Asn, NoMemory};

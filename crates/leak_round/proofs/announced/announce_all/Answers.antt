@@ -1,4 +1,4 @@
-use Rattle.std.proofs.Common.{◌≡◌, ℕ, ◌<◌, Some, length, sym, ◌∙◌, arith}
+use Rattle.std.proofs.Common.{◌≡◌, ℕ, ◌<◌, Some, sym, ◌∙◌, arith}
 use Rattle.std.specs.Prelude.{slice_get, IsTrue}
 use Rattle.std.proofs.lemmas.Option.{slice_get_within}
 use Rattle.std.specs.List.{sum_by}
@@ -14,9 +14,7 @@ use Rattle.leak_round.proofs.Numbers.{announcements_counted}
 use Rattle.leak_round.proofs.announced.announce_all.Goals as goal
 
 pub prefixes-smaller : goal.prefixes-smaller
-prefixes-smaller c =
-    let within : c.prefixes.place < length (prefixes_of c.args.plan.now) = slice_get_within (prefixes_of c.args.plan.now) c.prefixes.place c.in-Some.prefix (sym c.in-Some.ensures.value) in
-    omega arith
+prefixes-smaller c = omega (arith, slice_get_within (prefixes_of c.args.plan.now) c.prefixes.place c.in-Some.prefix (sym c.in-Some.ensures.value))
 
 pub prefixes-preserved : goal.prefixes-preserved
 prefixes-preserved c =
@@ -27,9 +25,9 @@ prefixes-preserved c =
     record {
       so_far = now.more.so_far;
       put = at_next (prefixes_of plan) c.prefixes.place c.in-Some.prefix (λ q. (a : ℕ) → HasAnnounced plan c.announce_prefix.new.announced.items q a) at now.whole (λ j q less is a h. now.more.kept q a (old.put j q less is a h));
-      few = (let next = sum_next (λ (q : PrefixValue). sum_by (announced_count plan q) (announcers_of plan)) (prefixes_of plan) c.prefixes.place c.in-Some.prefix at in omega (arith, next, now.few, old.few));
-      within = (let within = slice_get_within (prefixes_of plan) c.prefixes.place c.in-Some.prefix at in omega (arith, within));
-      cells = (let next = sum_next (λ (q : PrefixValue). sum_by (announced_length plan q) (announcers_of plan)) (prefixes_of plan) c.prefixes.place c.in-Some.prefix at in omega (arith, next, now.cells, old.cells));
+      few = omega (arith, sum_next (λ (q : PrefixValue). sum_by (announced_count plan q) (announcers_of plan)) (prefixes_of plan) c.prefixes.place c.in-Some.prefix at, now.few, old.few);
+      within = omega (arith, slice_get_within (prefixes_of plan) c.prefixes.place c.in-Some.prefix at);
+      cells = omega (arith, sum_next (λ (q : PrefixValue). sum_by (announced_length plan q) (announcers_of plan)) (prefixes_of plan) c.prefixes.place c.in-Some.prefix at, now.cells, old.cells);
       limit = now.limit ∙ old.limit;
     }
 

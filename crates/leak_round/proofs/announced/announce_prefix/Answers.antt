@@ -1,4 +1,4 @@
-use Rattle.std.proofs.Common.{◌≡◌, ◌<◌, ◌≤◌, Some, length, sym, ◌∙◌, arith}
+use Rattle.std.proofs.Common.{◌≡◌, Some, sym, ◌∙◌, arith}
 use Rattle.std.specs.Prelude.{slice_get}
 use Rattle.std.proofs.lemmas.Option.{slice_get_within}
 use Rattle.std.specs.Ordering.{nat_cmp}
@@ -11,15 +11,10 @@ use Rattle.leak_round.proofs.Listing.{sum_next, some_of}
 use Rattle.leak_round.proofs.announced.announce_prefix.Goals as goal
 
 pub overflow_add-place : goal.overflow_add-place
-overflow_add-place c =
-    let at : slice_get (announcers_of c.args.plan.now) c.announcers.place ≡ Some c.in-Some.asn = sym c.in-Some.ensures.value in
-    let low : c.announcers.place ≤ c.in-Some.asn = place_le (IsAnnouncer c.args.plan.now) (announcers_of c.args.plan.now) c.in-Some.ensures.listed c.announcers.place c.in-Some.asn at in
-    omega (arith, low, c.get-number.ensures.value, c.get-number.type_inv)
+overflow_add-place c = omega (arith, place_le (IsAnnouncer c.args.plan.now) (announcers_of c.args.plan.now) c.in-Some.ensures.listed c.announcers.place c.in-Some.asn (sym c.in-Some.ensures.value), c.get-number.ensures.value, c.get-number.type_inv)
 
 pub announcers-smaller : goal.announcers-smaller
-announcers-smaller c =
-    let within : c.announcers.place < length (announcers_of c.args.plan.now) = slice_get_within (announcers_of c.args.plan.now) c.announcers.place c.in-Some.asn (sym c.in-Some.ensures.value) in
-    omega arith
+announcers-smaller c = omega (arith, slice_get_within (announcers_of c.args.plan.now) c.announcers.place c.in-Some.asn (sym c.in-Some.ensures.value))
 
 pub announcers-preserved : goal.announcers-preserved
 announcers-preserved c =
@@ -32,9 +27,9 @@ announcers-preserved c =
       so_far = now.more.so_far;
       more = λ p b h. now.more.kept p b (old.more p b h);
       put = at_next (announcers_of plan) c.announcers.place c.in-Some.asn (HasAnnounced plan c.announce.new.announced.items prefix) at now.this (λ j b less is h. now.more.kept prefix b (old.put j b less is h));
-      few = (let next = sum_next (announced_count plan prefix) (announcers_of plan) c.announcers.place c.in-Some.asn at in omega (arith, next, now.few, old.few));
-      within = (let within = slice_get_within (announcers_of plan) c.announcers.place c.in-Some.asn at in omega (arith, within));
-      cells = (let next = sum_next (announced_length plan prefix) (announcers_of plan) c.announcers.place c.in-Some.asn at in omega (arith, next, now.cells, old.cells));
+      few = omega (arith, sum_next (announced_count plan prefix) (announcers_of plan) c.announcers.place c.in-Some.asn at, now.few, old.few);
+      within = omega (arith, slice_get_within (announcers_of plan) c.announcers.place c.in-Some.asn at);
+      cells = omega (arith, sum_next (announced_length plan prefix) (announcers_of plan) c.announcers.place c.in-Some.asn at, now.cells, old.cells);
       limit = now.limit ∙ old.limit;
     }
 

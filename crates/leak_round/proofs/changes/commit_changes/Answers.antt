@@ -5,7 +5,8 @@ use Rattle.route_choice.specs.Tables.{overlay_uses}
 use Rattle.route_choice.proofs.Uses.{back_itself, back_more}
 use Rattle.leak_round.specs.declared.changes.Change.{Change}
 use Rattle.leak_round.specs.Overlays.{changes_uses, AreChangesOf, IsLaid}
-use Rattle.leak_round.proofs.Laying.{got_end, left_changes}
+use Rattle.leak_round.proofs.Laying.{left_changes}
+use Rattle.leak_round.proofs.Listing.{got_last}
 use Rattle.leak_round.proofs.Committing.{laid_left}
 use Rattle.leak_round.proofs.changes.commit_changes.Goals as goal
 
@@ -22,7 +23,7 @@ changes-init c = record {
 }
 
 pub commit_change-requires-clause-fits : goal.commit_change-requires-clause-fits
-commit_change-requires-clause-fits c = (subst (AreChangesOf c.changes.tables.items) c.in-Some.ensures.items c.changes.invariant.changes).fits (length c.pop.new.self.items) c.in-Some.change (got_end c.pop.new.self.items c.in-Some.change)
+commit_change-requires-clause-fits c = (subst (AreChangesOf c.changes.tables.items) c.in-Some.ensures.items c.changes.invariant.changes).fits (length c.pop.new.self.items) c.in-Some.change (got_last c.pop.new.self.items c.in-Some.change)
 
 pub commit_change-requires-clause-held : goal.commit_change-requires-clause-held
 commit_change-requires-clause-held c = λ k. omega (arith, c.changes.invariant.held k, uses_last c.changes.left.items c.pop.new.self.items c.in-Some.change c.in-Some.ensures.items k)

@@ -1,4 +1,4 @@
-use Rattle.std.proofs.Common.{◌≡◌, ◌-◌, ◌<◌, ◌≤◌, Some, length, sym, ap, ◌∙◌, arith}
+use Rattle.std.proofs.Common.{◌≡◌, ◌-◌, Some, sym, ap, ◌∙◌, arith}
 use Rattle.std.specs.Prelude.{slice_get, IsTrue}
 use Rattle.std.proofs.lemmas.Option.{slice_get_within}
 use Rattle.stability_laws.specs.Plans.{leaks_in, leakers_of}
@@ -11,16 +11,10 @@ use Rattle.leak_round.proofs.Leaking.{leaked_again}
 use Rattle.leak_round.proofs.leaked.leak_all.Goals as goal
 
 pub overflow_add-place : goal.overflow_add-place
-overflow_add-place c =
-    let xs = leakers_of c.args.plan.now c.args.round in
-    let low : c.leakers.place ≤ c.in-Some.asn = place_le (λ a. IsTrue (leaks_in c.args.plan.now c.args.round a)) xs c.in-Some.ensures.listed c.leakers.place c.in-Some.asn (sym c.in-Some.ensures.value) in
-    omega (arith, low, c.get-number.ensures.value, c.get-number.type_inv)
+overflow_add-place c = omega (arith, place_le (λ a. IsTrue (leaks_in c.args.plan.now c.args.round a)) (leakers_of c.args.plan.now c.args.round) c.in-Some.ensures.listed c.leakers.place c.in-Some.asn (sym c.in-Some.ensures.value), c.get-number.ensures.value, c.get-number.type_inv)
 
 pub leakers-smaller : goal.leakers-smaller
-leakers-smaller c =
-    let xs = leakers_of c.args.plan.now c.args.round in
-    let within : c.leakers.place < length xs = slice_get_within xs c.leakers.place c.in-Some.asn (sym c.in-Some.ensures.value) in
-    omega arith
+leakers-smaller c = omega (arith, slice_get_within (leakers_of c.args.plan.now c.args.round) c.leakers.place c.in-Some.asn (sym c.in-Some.ensures.value))
 
 pub leakers-preserved : goal.leakers-preserved
 leakers-preserved c =
@@ -28,7 +22,7 @@ leakers-preserved c =
     let at : slice_get xs c.leakers.place ≡ Some c.in-Some.asn = sym c.in-Some.ensures.value in
     record {
       so_far = leaked_more own_or_leaked leaked_again (seed_at c.args.seeds.now) (seed_at c.leakers.seeds) (seed_at c.leak.new.seeds) (held_with c.args.tables.now c.args.changes.now (c.args.round - 1) c.args.prefix) xs c.leakers.place c.in-Some.asn at c.leakers.invariant.so_far c.in_ok-leak.ensures.this c.in_ok-leak.ensures.others;
-      within = (let within = slice_get_within xs c.leakers.place c.in-Some.asn at in omega (arith, within));
+      within = omega (arith, slice_get_within xs c.leakers.place c.in-Some.asn at);
     }
 
 pub returns : goal.returns

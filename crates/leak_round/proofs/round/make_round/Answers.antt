@@ -48,7 +48,7 @@ pub push-requires : goal.push-requires
 push-requires g c =
     let at = setting_in g.P.RoutePolicy.meaning g.V.OriginStates.state_of c.args.building.now.world.now in
     ap (table_at c.prefixes.tables) c.in_ok-table.ensures.made.prefix_is
-    ∙ none_yet (λ (q : PrefixValue) (f : ℕ → Option Entry). IsStable (at q) (seeds_of c.args.building.now.plan.now c.args.round q (kept_in c.args.pool.now c.args.earlier.now (length c.args.earlier.now) q)) f) c.args.building.now.plan.now c.args.pool.now c.prefixes.pool c.make_table.new.pool c.prefixes.tables c.prefixes.tables c.prefixes.place c.in-Some.prefix c.in_ok-table.table c.prefixes.invariant.so_far c.in-Some.ensures.listed (sym c.in-Some.ensures.value)
+    ∙ none_yet (λ (q : PrefixValue) (f : ℕ → Option Entry). IsStable (at q) (seeds_of c.args.building.now.plan.now (length c.args.earlier.now + 1) q (kept_in c.args.pool.now c.args.earlier.now (length c.args.earlier.now) q)) f) c.args.building.now.plan.now c.args.pool.now c.prefixes.pool c.make_table.new.pool c.prefixes.tables c.prefixes.tables c.prefixes.place c.in-Some.prefix c.in_ok-table.table c.prefixes.invariant.so_far c.in-Some.ensures.listed (sym c.in-Some.ensures.value)
 
 pub returns-in_err-push-clause-cost : goal.returns-in_err-push-clause-cost
 returns-in_err-push-clause-cost g c = cost_within g (goal.at.returns-in_err-push-clause-cost g c).After-make_table
@@ -69,9 +69,9 @@ prefixes-preserved g c =
     let table = c.in_ok-table.ensures in
     let made = table.made in
     let same = all_kept first c.prefixes.pool c.prefixes.invariant.so_far.keeps plan earlier c.requires.can.earlier_full (length earlier) p in
-    let F : (ℕ → Option Entry) → Type 0 = λ f. IsStable (at p) (seeds_of plan c.args.round p f) (table_routing c.make_table.new.pool c.in_ok-table.table) in
+    let F : (ℕ → Option Entry) → Type 0 = λ f. IsStable (at p) (seeds_of plan (length c.args.earlier.now + 1) p f) (table_routing c.make_table.new.pool c.in_ok-table.table) in
     record {
-      so_far = round_more (λ (q : PrefixValue) (f : ℕ → Option Entry). IsStable (at q) (seeds_of plan c.args.round q (kept_in first earlier (length earlier) q)) f) plan first c.prefixes.pool c.make_table.new.pool c.prefixes.tables c.push.new.self c.prefixes.place p c.in_ok-table.table c.prefixes.invariant.so_far c.in-Some.ensures.listed (sym c.in-Some.ensures.value)
+      so_far = round_more (λ (q : PrefixValue) (f : ℕ → Option Entry). IsStable (at q) (seeds_of plan (length c.args.earlier.now + 1) q (kept_in first earlier (length earlier) q)) f) plan first c.prefixes.pool c.make_table.new.pool c.prefixes.tables c.push.new.self c.prefixes.place p c.in_ok-table.table c.prefixes.invariant.so_far c.in-Some.ensures.listed (sym c.in-Some.ensures.value)
           made.keeps made.grows made.holds made.live (subst F (λ i a. same a i) table.stable) made.cells
           (subst (λ q. PutsTable c.prefixes.tables c.push.new.self q c.in_ok-table.table) made.prefix_is c.in_ok-push.ensures.ok) c.in_ok-push.ensures.by_prefix made.small;
       within = omega (arith, within);
@@ -82,18 +82,18 @@ prefixes-preserved g c =
 pub returns-clause-stable : goal.returns-clause-stable
 returns-clause-stable g c =
     let at = setting_in g.P.RoutePolicy.meaning g.V.OriginStates.state_of c.args.building.now.world.now in
-    round_fits (λ (q : PrefixValue) (f : ℕ → Option Entry). IsStable (at q) (seeds_of c.args.building.now.plan.now c.args.round q (kept_in c.args.pool.now c.args.earlier.now (length c.args.earlier.now) q)) f) c.args.building.now.plan.now c.args.pool.now c.prefixes.pool c.prefixes.tables c.prefixes.place c.prefixes.invariant.so_far c.prefix_at.ensures.listed (sym c.prefix_at.ensures.value ∙ c.in_default.is)
+    round_fits (λ (q : PrefixValue) (f : ℕ → Option Entry). IsStable (at q) (seeds_of c.args.building.now.plan.now (length c.args.earlier.now + 1) q (kept_in c.args.pool.now c.args.earlier.now (length c.args.earlier.now) q)) f) c.args.building.now.plan.now c.args.pool.now c.prefixes.pool c.prefixes.tables c.prefixes.place c.prefixes.invariant.so_far c.prefix_at.ensures.listed (sym c.prefix_at.ensures.value ∙ c.in_default.is)
 
 pub returns-clause-made : goal.returns-clause-made
 returns-clause-made g c =
     let at = setting_in g.P.RoutePolicy.meaning g.V.OriginStates.state_of c.args.building.now.world.now in
-    round_made (λ (q : PrefixValue) (f : ℕ → Option Entry). IsStable (at q) (seeds_of c.args.building.now.plan.now c.args.round q (kept_in c.args.pool.now c.args.earlier.now (length c.args.earlier.now) q)) f) c.args.building.now.plan.now c.args.pool.now c.prefixes.pool c.prefixes.tables c.prefixes.place c.prefixes.invariant.so_far c.prefix_at.ensures.listed (sym c.prefix_at.ensures.value ∙ c.in_default.is) c.prefixes.invariant.within
+    round_made (λ (q : PrefixValue) (f : ℕ → Option Entry). IsStable (at q) (seeds_of c.args.building.now.plan.now (length c.args.earlier.now + 1) q (kept_in c.args.pool.now c.args.earlier.now (length c.args.earlier.now) q)) f) c.args.building.now.plan.now c.args.pool.now c.prefixes.pool c.prefixes.tables c.prefixes.place c.prefixes.invariant.so_far c.prefix_at.ensures.listed (sym c.prefix_at.ensures.value ∙ c.in_default.is) c.prefixes.invariant.within
 
 pub prefixes-init : goal.prefixes-init
 prefixes-init g c =
     let at = setting_in g.P.RoutePolicy.meaning g.V.OriginStates.state_of c.args.building.now.world.now in
     record {
-      so_far = round_start (λ (q : PrefixValue) (f : ℕ → Option Entry). IsStable (at q) (seeds_of c.args.building.now.plan.now c.args.round q (kept_in c.args.pool.now c.args.earlier.now (length c.args.earlier.now) q)) f) c.args.building.now.plan.now c.args.pool.now c.new-tables.result c.new-tables.ensures.none c.new-tables.ensures.uses;
+      so_far = round_start (λ (q : PrefixValue) (f : ℕ → Option Entry). IsStable (at q) (seeds_of c.args.building.now.plan.now (length c.args.earlier.now + 1) q (kept_in c.args.pool.now c.args.earlier.now (length c.args.earlier.now) q)) f) c.args.building.now.plan.now c.args.pool.now c.new-tables.result c.new-tables.ensures.none c.new-tables.ensures.uses;
       within = omega arith;
       scratch = c.requires.can.scratch_is;
       cost = omega arith;

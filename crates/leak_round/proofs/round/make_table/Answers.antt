@@ -1,4 +1,4 @@
-use Rattle.std.proofs.Common.{ℕ, ◌-◌, ◌≤◌, Option, None, Some, option_map, [], length, refl, subst, ◌∙◌, arith}
+use Rattle.std.proofs.Common.{◌≡◌, ℕ, suc, ◌-◌, ◌≤◌, Option, None, Some, option_map, [], length, refl, subst, ◌∙◌, arith}
 use Rattle.std.specs.Prelude.{IsSome}
 use Rattle.stability_laws.specs.declared.entry.Seed.{Seed}
 use Rattle.stability_laws.specs.Stable.{IsStable}
@@ -31,7 +31,7 @@ pub returns-clause-stable : goal.returns-clause-stable
 returns-clause-stable g c =
     let pool = c.args.pool.now in let plan = c.args.building.now.plan.now in let earlier = c.args.earlier.now in
     let same = λ (a : ℕ). seeds_are pool plan c.args.building.now.announced.now earlier [] c.args.round c.args.prefix c.in_ok-seeds.seeds c.in_ok-seeds.ensures c.requires.can.announced (λ b. refl) c.requires.known a
-    ∙ seeds_kept pool plan earlier c.args.round c.args.prefix c.requires.can.number a in
+    ∙ seeds_kept pool plan earlier c.args.round c.args.prefix (let next : c.args.round ≡ suc (length c.args.earlier.now) = omega (arith, c.requires.number) in next) a in
     let F : (ℕ → Option Seed) → Type 0 = λ s. IsStable (setting_in g.P.RoutePolicy.meaning g.V.OriginStates.state_of c.args.building.now.world.now c.args.prefix) s (table_routing c.propagate_along.new.pool c.in_ok-table.table) in
     subst F (λ i a. same a i) c.in_ok-table.ensures.stable
 

@@ -2,6 +2,7 @@ use Rattle.std.proofs.Common.{List, refl, sym, subst, ◌∙◌, arith}
 use Rattle.std.specs.Option.{option_copied}
 use Rattle.std.proofs.lemmas.Bool.{true≢false}
 use Rattle.stability_laws.specs.World.{setting_in}
+use Rattle.dirty_recompute.specs.Resources.{IsUndone}
 use Rattle.leak_round.specs.declared.announced.Announced.{Announced}
 use Rattle.leak_round.specs.Announced.{AreAnnounced}
 use Rattle.leak_round.specs.Edited.{announced_after, prefix_edited, seeds_after}
@@ -14,7 +15,9 @@ use Rattle.leak_round.proofs.Roomed.{kept_same, same_itself}
 use Rattle.leak_round.proofs.Sizes.{changes_room, counts_few}
 use Rattle.leak_round.proofs.Starting.{can_start, edited_kept, prefixes_stay}
 use Rattle.leak_round.proofs.Undoing.{all_undone, announced_stay, full_stay, holds_stay, kept_stays}
+use Rattle.leak_round.proofs.rounds.Rounds.plan.Given as given
 use Rattle.leak_round.proofs.rounds.Rounds.plan.Goals as goal
+use Rattle.leak_round.proofs.rounds.Rounds.plan.Goals.{After-drop_seeds}
 
 pub edit_if_any-requires-clause-announced : goal.edit_if_any-requires-clause-announced
 edit_if_any-requires-clause-announced g c = subst (AreAnnounced c.args.self.now.pool c.args.self.now.plan) (sym c.deref-2.ensures.value) c.args.self.now.announcements
@@ -122,14 +125,18 @@ undo_changes-requires g c = λ k. omega (arith, c.find_and_tell.ensures.cut.hold
 pub drop_seeds-requires : goal.drop_seeds-requires
 drop_seeds-requires g c = λ k. omega (arith, c.undo_changes.ensures.holds k, c.find_and_tell.ensures.cut.holds k, c.in_ok-edited.ensures.made.holds k)
 
+-- where no changes are found the pool is undone
+pool_undone : (g : given.Over) (c : After-drop_seeds g) → IsUndone c.args.self.now.pool c.drop_seeds.new.pool
+pool_undone g c =
+    let made = c.in_ok-edited.ensures.made in
+    all_undone c.args.self.now.pool c.edit_if_any.new.pool c.find_and_tell.new.pool c.undo_changes.new.pool c.drop_seeds.new.pool c.find_and_tell.new.changes.items c.in_ok-edited.edited made.keeps made.holds c.find_and_tell.ensures.cut c.undo_changes.ensures.back c.undo_changes.ensures.holds c.drop_seeds.ensures.back c.drop_seeds.ensures.holds
+
 pub invariant_of-self-in-Err : goal.invariant_of-self-in-Err
 invariant_of-self-in-Err g c =
     let r = c.args.self.now in
-    let made = c.in_ok-edited.ensures.made in
-    let cut = c.find_and_tell.ensures.cut in
     let same = c.find_and_tell.ensures.same in
     let pool = c.drop_seeds.new.pool in
-    let undone = all_undone r.pool c.edit_if_any.new.pool c.find_and_tell.new.pool c.undo_changes.new.pool pool c.find_and_tell.new.changes.items c.in_ok-edited.edited made.keeps made.holds cut c.undo_changes.ensures.back c.undo_changes.ensures.holds c.drop_seeds.ensures.back c.drop_seeds.ensures.holds in
+    let undone = pool_undone g (goal.at.invariant_of-self-in-Err g c).After-drop_seeds in
     let holds = holds_stay r.pool pool r.plan r.announced.items r.tables.items c.find_and_tell.new.tables.items undone same (r.closed c.requires.closed) in
     record {
       announcements = announced_stay r.pool pool r.plan r.announced.items r.tables.items c.find_and_tell.new.tables.items undone same (r.closed c.requires.closed) r.announcements;
@@ -139,18 +146,13 @@ invariant_of-self-in-Err g c =
       closed = λ shut k. holds k;
       limits = r.limits;
       few = omega (arith, r.few, same.count);
-      cells = c.drop_seeds.ensures.back.limit ∙ c.undo_changes.ensures.back.limit ∙ cut.limit ∙ c.edit_if_any.ensures.limit ∙ r.cells;
+      cells = c.drop_seeds.ensures.back.limit ∙ c.undo_changes.ensures.back.limit ∙ c.find_and_tell.ensures.cut.limit ∙ c.edit_if_any.ensures.limit ∙ r.cells;
     }
 
 pub returns-in-Err-clause-kept : goal.returns-in-Err-clause-kept
 returns-in-Err-clause-kept g c =
     let r = c.args.self.now in
-    let made = c.in_ok-edited.ensures.made in
-    let cut = c.find_and_tell.ensures.cut in
-    let same = c.find_and_tell.ensures.same in
-    let pool = c.drop_seeds.new.pool in
-    let undone = all_undone r.pool c.edit_if_any.new.pool c.find_and_tell.new.pool c.undo_changes.new.pool pool c.find_and_tell.new.changes.items c.in_ok-edited.edited made.keeps made.holds cut c.undo_changes.ensures.back c.undo_changes.ensures.holds c.drop_seeds.ensures.back c.drop_seeds.ensures.holds in
-    kept_stays r.pool pool r.plan r.announced.items r.tables.items c.find_and_tell.new.tables.items undone same (r.closed c.requires.closed)
+    kept_stays r.pool c.drop_seeds.new.pool r.plan r.announced.items r.tables.items c.find_and_tell.new.tables.items (pool_undone g (goal.at.returns-in-Err-clause-kept g c).After-drop_seeds) c.find_and_tell.ensures.same (r.closed c.requires.closed)
 
 pub returns-in-Err-clause-rounds : goal.returns-in-Err-clause-rounds
 returns-in-Err-clause-rounds g c = c.find_and_tell.ensures.same.count
