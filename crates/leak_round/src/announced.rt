@@ -11,7 +11,6 @@ ghost use Rattle.route_choice.specs.Tables.{seed_at};
 ghost use Rattle.leak_round.specs.Limits.{announced_length, announced_count};
 ghost use Rattle.route_choice.specs.Holds.{GivesBack};
 ghost use Rattle.leak_round.specs.declared.announced.Announced.{Announced as AnAnnouncement};
-ghost use Rattle.leak_round.specs.declared.limits.TheConstants.{MOST_PREFIXES};
 ghost use Rattle.leak_round.specs.Growth.{KeepsPaths};
 ghost use Rattle.leak_round.specs.Announced.{own_path, own_seed, announced_uses, AnnouncesMore, IsAnnouncing, HasAnnounced};
 
@@ -74,12 +73,8 @@ fn announce_prefix(
         live_count pool.old + sum_by (announced_length plan.now prefix) (announcers_of plan.now)) }
     ensures limit { limit_of pool.new ≡ limit_of pool.old }
 {
-    let mut place = 0;
-    'announcers: while let Some(asn) = plan.announcer_at(place) {
-        announce(plan, prefix, asn, pool, announced)?;
-        // The numbers rise, so that none is below its place.
-        let _number = asn.get();
-        place += 1;
+    'announcers: for asn in plan.announcers() {
+        announce(plan, prefix, *asn, pool, announced)?;
     }
     Ok(())
 }
@@ -90,8 +85,7 @@ pub fn announce_all(
     plan: &SeedPlan,
     pool: &mut PathPool,
 ) -> Result<Vec<Announced>, NoMemory>
-    requires few { length (prefixes_of plan.now) ≤ MOST_PREFIXES }
-    requires so_far { IsAnnouncing pool.old plan.now [] }
+    requires { IsAnnouncing pool.old plan.now [] }
     ensures so_far { IfOk result (λ v. IsAnnouncing pool.new plan.now v.items) }
     ensures whole { IfOk result (λ v. (prefix : PrefixValue) (a : ℕ) → IsTrue (has_prefix plan.now prefix) →
         HasAnnounced plan.now v.items prefix a) }
@@ -101,10 +95,8 @@ pub fn announce_all(
     ensures limit { limit_of pool.new ≡ limit_of pool.old }
 {
     let mut announced = Vec::new(alloc);
-    let mut place = 0;
-    'prefixes: while let Some(prefix) = plan.prefix_at(place) {
-        announce_prefix(plan, prefix, pool, &mut announced)?;
-        place += 1;
+    'prefixes: for prefix in plan.prefixes() {
+        announce_prefix(plan, *prefix, pool, &mut announced)?;
     }
     Ok(announced)
 }

@@ -1,4 +1,4 @@
-use Rattle.std.proofs.Common.{◌≡◌, ℕ, ◌+◌, ◌-◌, ◌<◌, ◌≤◌, Some, length, take}
+use Rattle.std.proofs.Common.{◌≡◌, ℕ, ◌+◌, ◌<◌, ◌≤◌, Some, length, take}
 use Rattle.std.specs.Prelude.{slice_get}
 use Rattle.std.specs.List.{sum_by}
 use Rattle.path_pool.specs.Pool.{live_count, limit_of}
@@ -11,12 +11,8 @@ abbrev pub invariant-announcers : goal.invariant-announcers
 invariant-announcers l = record {
   so_far : IsAnnouncing l.pool l.plan l.announced.items;
   more : KeepsAnnounced l.fn.announced.items l.announced.items;
-  put : (i a : ℕ) → i < l.place → slice_get (announcers_of l.plan) i ≡ Some a → HasAnnounced l.plan l.announced.items l.prefix a;
-  few : length l.announced.items ≤ length l.fn.announced.items + sum_by (announced_count l.plan l.prefix) (take l.place (announcers_of l.plan));
-  within : l.place ≤ length (announcers_of l.plan);
-  cells : live_count l.pool ≤ live_count l.fn.pool + sum_by (announced_length l.plan l.prefix) (take l.place (announcers_of l.plan));
+  put : (i a : ℕ) → i < l.asn-index → slice_get (announcers_of l.plan) i ≡ Some a → HasAnnounced l.plan l.announced.items l.prefix a;
+  few : length l.announced.items ≤ length l.fn.announced.items + sum_by (announced_count l.plan l.prefix) (take l.asn-index (announcers_of l.plan));
+  cells : live_count l.pool ≤ live_count l.fn.pool + sum_by (announced_length l.plan l.prefix) (take l.asn-index (announcers_of l.plan));
   limit : limit_of l.pool ≡ limit_of l.fn.pool;
 }
-
-abbrev pub decreases-announcers : goal.decreases-announcers
-decreases-announcers l = length (announcers_of l.plan) - l.place
