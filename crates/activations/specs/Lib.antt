@@ -2,3 +2,4 @@ pub mod Pieces
 pub mod Files
 pub mod Named
 pub mod Laws
+pub mod Prelude

@@ -12,3 +12,4 @@ pub mod Dealing
 pub mod Graphs
 pub mod Writes
 pub mod Gathering
+pub mod Prelude

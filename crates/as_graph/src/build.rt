@@ -3,8 +3,7 @@ ghost use Rattle.std.specs.Prelude.{◌≡◌, ◌≢◌, ℕ, ◌+◌, ◌<◌,
 ghost use Rattle.std.specs.FinMap as map;
 ghost use Rattle.std.specs.List.Sorted.{IsStrictlyIncreasing};
 ghost use Rattle.indexmap.specs.IndexMap.{get, keys, ContainsKey, IsUnique, index_map_len};
-ghost use Rattle.net_names.specs.Links.{converse};
-ghost use Rattle.net_names.specs.Numbers.{occurs};
+ghost use Rattle.net_names.specs.Prelude.{converse, occurs};
 ghost use Rattle.as_graph.specs.Topology.{as_count, unmarked};
 ghost use Rattle.as_graph.specs.Refusals.{IsBuildRefusal};
 ghost use Rattle.as_graph.specs.Rows.{IsRising};

@@ -2,8 +2,7 @@
 ghost use Rattle.std.specs.Prelude.{◌≡◌, ◌≢◌, ◌≤◌, ◌&&◌, ℕ, length, Bool, nat_eq, true, false, None, Some, option_map, vec_capacity, IsOk, OnOk};
 ghost use Rattle.std.specs.List.Sorted.{IsStrictlyIncreasing};
 ghost use Rattle.indexmap.specs.IndexMap.{ContainsKey, IsUnique, index_map_len};
-ghost use Rattle.net_names.specs.Links.{converse};
-ghost use Rattle.net_names.specs.Numbers.{occurs};
+ghost use Rattle.net_names.specs.Prelude.{converse, occurs};
 ghost use Rattle.as_graph.specs.Graphs.{rel_of, is_there, IsGraph};
 ghost use Rattle.as_graph.specs.Writes.{has_room_at, HasRoomFor, KeepsRows, SetsEnd, SetsLink, SetsMark};
 

@@ -1,7 +1,7 @@
 //! The places.
 ghost use Rattle.std.specs.Prelude.{◌≡◌, ◌+◌, ◌<◌, ◌≤◌, ◌++◌, ◌∷◌, [], false, length, nat_eq, slice_get, IfNone, IfOk, IfSome, IsOk, OnOk};
 ghost use Rattle.std.specs.List.{IsDistinct};
-ghost use Rattle.net_names.specs.Numbers.{occurs};
+ghost use Rattle.net_names.specs.Prelude.{occurs};
 ghost use Rattle.as_places.specs.Places.{place_of};
 
 use crate::gathering::{gather, place_in, rising_front};

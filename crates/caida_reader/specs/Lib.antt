@@ -8,3 +8,4 @@ pub mod Marks
 pub mod Runs
 pub mod Progress
 pub mod Laws
+pub mod Prelude

@@ -1,7 +1,7 @@
 // One line of a relationship file.
 ghost use Rattle.std.specs.Prelude.{◌≡◌, ◌∷◌, ◌++◌, ◌≤◌, ℕ, List, codes, option_map, unwrap_or, IfSome};
 ghost use Rattle.std.specs.Str.Lines.{strip_carriage_return};
-ghost use Rattle.net_names.specs.Texts.{fields, rel_of};
+ghost use Rattle.net_names.specs.Prelude.{fields, rel_of};
 ghost use Rattle.caida_reader.specs.Plain.{BeginsWithLine};
 ghost use Rattle.caida_reader.specs.Says.{link, said_by, says, IsRising};
 

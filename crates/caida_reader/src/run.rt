@@ -4,7 +4,7 @@ ghost use Rattle.std.specs.FinMap as fin;
 ghost use Rattle.std.specs.List.{HoldsAt};
 ghost use Rattle.std.specs.List.Sorted.{IsSearchInRange, IsBinarySearchResult};
 ghost use Rattle.std.specs.declared.cmp.Ordering.TheVariants.{Less};
-ghost use Rattle.net_names.specs.Links.{pair_cmp};
+ghost use Rattle.net_names.specs.Prelude.{pair_cmp};
 ghost use Rattle.caida_reader.specs.Entries.{entry_of};
 ghost use Rattle.caida_reader.specs.Runs.{IsPast};
 
@@ -23,7 +23,7 @@ pub(crate) struct Run {
 impl Model for Run {
     ghost use Rattle.std.specs.Prelude.{T, map};
     ghost use Rattle.std.specs.FinMap as fin;
-    ghost use Rattle.net_names.specs.Links.{pair_cmp};
+    ghost use Rattle.net_names.specs.Prelude.{pair_cmp};
     ghost use Rattle.caida_reader.specs.Firsts.{FirstMap, first_map_code};
     ghost use Rattle.caida_reader.specs.Entries.{entry_of};
 

@@ -7,3 +7,4 @@ pub mod Counting
 pub mod Providers
 pub mod Rankings
 pub mod Searches
+pub mod Prelude

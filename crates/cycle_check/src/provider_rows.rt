@@ -1,7 +1,7 @@
 //! The lists of the providers of a graph's ASes, by place.
 ghost use Rattle.std.specs.Prelude.{◌≡◌, ℕ, ◌<◌, ◌≤◌, ◌^◌, ◌+◌, [], ◌∷◌, ◌++◌, length, slice_index, IfOk, OnOk};
 ghost use Rattle.std.specs.List.Sorted.{IsStrictlyIncreasing};
-ghost use Rattle.as_graph.specs.Topology.{relation};
+ghost use Rattle.as_graph.specs.Prelude.{relation};
 ghost use Rattle.cycle_check.specs.Rows.{AreRows};
 ghost use Rattle.cycle_check.specs.Places.{place_in};
 ghost use Rattle.cycle_check.specs.Providers.{AreAses, AreFilled, AreProviderRows, IsRowPut, provider_places, put_provider};

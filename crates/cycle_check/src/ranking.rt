@@ -1,7 +1,6 @@
 //! The ranks of a graph's ASes, or a provider cycle.
 ghost use Rattle.std.specs.Prelude.{◌≡◌, ◌↔◌, ℕ, ◌<◌, length, map, IfOk, IfSome, IsNone};
-ghost use Rattle.as_graph.specs.Topology.{relation};
-ghost use Rattle.as_graph.specs.Hierarchy.{HasNoProviderCycle};
+ghost use Rattle.as_graph.specs.Prelude.{relation, HasNoProviderCycle};
 ghost use Rattle.cycle_check.specs.Cycles.{IsCycleFromLowest};
 ghost use Rattle.cycle_check.specs.Rankings.{IsRanking, numbers_of, ranks_of};
 

@@ -23,3 +23,4 @@ pub mod Comes
 pub mod Sources
 pub mod Detached
 pub mod Rounds
+pub mod Prelude

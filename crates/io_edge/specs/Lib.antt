@@ -7,3 +7,4 @@ pub mod Calls
 pub mod Room
 pub mod Kept
 pub mod Mem
+pub mod Prelude

@@ -20,3 +20,4 @@ pub mod Findings
 pub mod SeedPaths
 pub mod Moved
 pub mod Reached
+pub mod Prelude

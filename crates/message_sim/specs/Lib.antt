@@ -13,3 +13,4 @@ pub mod StepValues
 pub mod Turns
 pub mod Files
 pub mod FileLaws
+pub mod Prelude

@@ -11,3 +11,4 @@ pub mod Trials
 pub mod Texts
 pub mod Lines
 pub mod Orders
+pub mod Prelude

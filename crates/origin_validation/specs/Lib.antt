@@ -2,3 +2,4 @@ pub mod Judging
 pub mod Leaving
 pub mod Known
 pub mod Found
+pub mod Prelude

@@ -1,6 +1,6 @@
 //! The state of a prefix with an origin, and the payloads that cover the prefix.
 ghost use Rattle.std.specs.Prelude.{◌≡◌, IfOk};
-ghost use Rattle.roa_table.specs.Cover.{covering as covering_of};
+ghost use Rattle.roa_table.specs.Prelude.{covering as covering_of};
 ghost use Rattle.origin_validation.specs.Judging.{state_of};
 
 use crate::judging::judge;

@@ -1,8 +1,8 @@
 //! Whether payloads of one prefix are left, and whether one of them matches.
 ghost use Rattle.std.specs.Prelude.{◌≡◌, ◌<◌, ◌≤◌, ◌&&◌};
 ghost use Rattle.std.specs.List.{list_any};
-ghost use Rattle.net_names.specs.Coverage.{covers as covers_of};
-ghost use Rattle.roa_table.specs.Cover.{of_prefix};
+ghost use Rattle.net_names.specs.Prelude.{covers as covers_of};
+ghost use Rattle.roa_table.specs.Prelude.{of_prefix};
 ghost use Rattle.origin_validation.specs.Judging.{matches as matches_of};
 ghost use Rattle.origin_validation.specs.Leaving.{is_left as is_left_of, stands as stands_of};
 

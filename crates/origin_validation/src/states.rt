@@ -1,6 +1,6 @@
 //! The states that routing policies read.
 ghost use Rattle.std.specs.Prelude.{◌≡◌};
-ghost use Rattle.roa_table.specs.Sets.{taken};
+ghost use Rattle.roa_table.specs.Prelude.{taken};
 
 use crate::judging::judge;
 use net_names::{Asn, Prefix, State, Vrp};
@@ -16,7 +16,7 @@ pub struct States<'a> {
 }
 
 impl<'a> Model for States<'a> {
-    ghost use Rattle.roa_table.specs.Sets.{Payloads, payloads_code};
+    ghost use Rattle.roa_table.specs.Prelude.{Payloads, payloads_code};
     ghost use Rattle.origin_validation.specs.Leaving.{less};
 
     ghost Value = { Payloads };

@@ -1,3 +1,4 @@
 pub mod Kinds
 pub mod KindLaws
 pub mod Names
+pub mod Prelude

@@ -5,7 +5,7 @@ ghost use Rattle.net_names.specs.contracts.routes.Rel.{the_type as rel_type};
 ghost use Rattle.net_names.specs.contracts.routes.State.{the_type as state_type};
 ghost use Rattle.net_names.specs.declared.routes.Rel.TheVariants.{Customer};
 ghost use Rattle.net_names.specs.declared.routes.State.TheVariants.{Invalid};
-ghost use Rattle.policy_laws.specs.Policy.{is_own_or_customers as is_of_own_or_customers};
+ghost use Rattle.policy_laws.specs.Prelude.{is_own_or_customers as is_of_own_or_customers};
 ghost use Rattle.policy_kinds.specs.Kinds.{is_leak as is_route_leak};
 
 use crate::rows::Row;

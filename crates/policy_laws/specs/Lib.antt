@@ -1,3 +1,4 @@
 pub mod Policy
 pub mod Plain
 pub mod Ranking
+pub mod Prelude

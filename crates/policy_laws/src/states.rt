@@ -1,6 +1,6 @@
 //! Validation states of routes.
 ghost use Rattle.std.specs.Prelude.{◌≡◌, ℕ};
-ghost use Rattle.net_names.specs.Prefixes.{PrefixValue};
+ghost use Rattle.net_names.specs.Prelude.{PrefixValue};
 ghost use Rattle.net_names.specs.declared.routes.State.{State as StateValue};
 
 use net_names::{Asn, Prefix, State};

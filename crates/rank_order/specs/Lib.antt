@@ -3,3 +3,4 @@ pub mod Ranks
 pub mod Placed
 pub mod Plans
 pub mod Mending
+pub mod Prelude

@@ -1,9 +1,9 @@
 //! Whether a plan's numbers fit.
 ghost use Rattle.std.specs.Prelude.{◌≡◌, ℕ, ◌<◌, ◌^◌, true, length};
 ghost use Rattle.std.specs.List.Sorted.{IsStrictlyIncreasing};
-ghost use Rattle.net_names.specs.Numbers.{occurs};
+ghost use Rattle.net_names.specs.Prelude.{occurs};
 ghost use Rattle.net_names.specs.declared.routes.Rel.TheVariants.{Provider};
-ghost use Rattle.as_graph.specs.Topology.{has};
+ghost use Rattle.as_graph.specs.Prelude.{has};
 ghost use Rattle.rank_order.specs.Ranks.{rank_at};
 ghost use Rattle.rank_order.specs.Plans.{is_numbered, rank_after};
 ghost use Rattle.rank_order.specs.Mending.{IsNumberOver, Bears, AllBear, MendsAt, grown};

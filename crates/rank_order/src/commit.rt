@@ -2,8 +2,8 @@
 ghost use Rattle.std.specs.Prelude.{◌≡◌, ◌==◌, ℕ, length, None, Some, if◌then◌else◌};
 ghost use Rattle.std.specs.List.Sorted.{IsStrictlyIncreasing};
 ghost use Rattle.std.specs.FinMap as map;
-ghost use Rattle.net_names.specs.Numbers.{occurs};
-ghost use Rattle.cycle_check.specs.Providers.{rank_by};
+ghost use Rattle.net_names.specs.Prelude.{occurs};
+ghost use Rattle.cycle_check.specs.Prelude.{rank_by};
 ghost use Rattle.rank_order.specs.Lists.{AreAtMost};
 ghost use Rattle.rank_order.specs.Ranks.{Lacks};
 ghost use Rattle.rank_order.specs.Plans.{IsLastPlan, entry_after};

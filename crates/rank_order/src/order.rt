@@ -1,6 +1,6 @@
 //! The ASes by rising rank.
 ghost use Rattle.std.specs.Prelude.{◌≡◌, ℕ, ◌<◌, length, map, slice_index, IfOk};
-ghost use Rattle.as_graph.specs.Topology.{has, as_count};
+ghost use Rattle.as_graph.specs.Prelude.{has, as_count};
 ghost use Rattle.rank_order.specs.Ranks.{rank_at, IsRankOrder, IsSortedOut};
 ghost use Rattle.rank_order.specs.Placed.{asns_of};
 

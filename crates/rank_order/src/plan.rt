@@ -1,8 +1,8 @@
 //! Plans: what ranks become with a graph that was edited.
 ghost use Rattle.std.specs.Prelude.{◌≡◌, length, None, Some, if◌then◌else◌};
 ghost use Rattle.std.specs.List.Sorted.{IsStrictlyIncreasing};
-ghost use Rattle.net_names.specs.Numbers.{occurs};
-ghost use Rattle.cycle_check.specs.Providers.{rank_by};
+ghost use Rattle.net_names.specs.Prelude.{occurs};
+ghost use Rattle.cycle_check.specs.Prelude.{rank_by};
 
 use crate::ranks::{Ranks, rank_of};
 use cycle_check::place_in;

@@ -2,10 +2,9 @@
 ghost use Rattle.std.specs.Prelude.{◌≡◌, ℕ, true, false, is_some, IfOk, IfSome};
 ghost use Rattle.std.specs.FinMap as map;
 ghost use Rattle.std.specs.List.Sorted.{IsStrictlyIncreasing};
-ghost use Rattle.net_names.specs.Numbers.{occurs};
-ghost use Rattle.as_graph.specs.Topology.{relation, has};
-ghost use Rattle.as_graph.specs.Hierarchy.{HasNoProviderCycle, RankFits, IsRank};
-ghost use Rattle.cycle_check.specs.Rankings.{numbers_of, ranks_of};
+ghost use Rattle.net_names.specs.Prelude.{occurs};
+ghost use Rattle.as_graph.specs.Prelude.{relation, has, HasNoProviderCycle, RankFits, IsRank};
+ghost use Rattle.cycle_check.specs.Prelude.{numbers_of, ranks_of};
 ghost use Rattle.rank_order.specs.Ranks.{rank_at};
 ghost use Rattle.rank_order.specs.Plans.{IsLastPlan, IsPlanFor, entry_after, rank_after};
 

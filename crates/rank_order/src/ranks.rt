@@ -3,12 +3,9 @@ ghost use Rattle.std.specs.Prelude.{◌≡◌, ◌<◌, ◌≤◌, ◌+◌, ◌=
 ghost use Rattle.std.proofs.Props.{props};
 ghost use Rattle.std.specs.List.Sorted.{IsStrictlyIncreasing};
 ghost use Rattle.std.specs.FinMap as map;
-ghost use Rattle.net_names.specs.Numbers.{occurs};
-ghost use Rattle.as_graph.specs.Topology.{relation, has};
-ghost use Rattle.as_graph.specs.Hierarchy.{HasNoProviderCycle, IsRank};
-ghost use Rattle.cycle_check.specs.Counting.{ArePlacesByRank};
-ghost use Rattle.cycle_check.specs.Providers.{rank_by};
-ghost use Rattle.cycle_check.specs.Rankings.{numbers_of, ranks_of, rank_told};
+ghost use Rattle.net_names.specs.Prelude.{occurs};
+ghost use Rattle.as_graph.specs.Prelude.{relation, has, HasNoProviderCycle, IsRank};
+ghost use Rattle.cycle_check.specs.Prelude.{ArePlacesByRank, rank_by, numbers_of, ranks_of, rank_told};
 ghost use Rattle.rank_order.specs.Ranks.{rank_at, IsRankOrder, IsRankRefusal};
 ghost use Rattle.rank_order.specs.declared.ranks.RankError.TheVariants.{Memory};
 

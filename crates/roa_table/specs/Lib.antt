@@ -9,3 +9,4 @@ pub mod Standing
 pub mod Plain
 pub mod Gathering
 pub mod Laws
+pub mod Prelude

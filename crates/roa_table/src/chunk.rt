@@ -1,7 +1,7 @@
 //! Payloads of neighbouring prefixes.
 ghost use Rattle.std.specs.Prelude.{◌≡◌, not, OnOk, OnErr};
 ghost use Rattle.std.specs.Ordering.{is_lt};
-ghost use Rattle.net_names.specs.Prefixes.{prefix_cmp};
+ghost use Rattle.net_names.specs.Prelude.{prefix_cmp};
 ghost use Rattle.roa_table.specs.Lists.{IsRising, PutsIn, TakesOut, stands_in};
 
 use net_names::{Prefix, Vrp};

@@ -14,7 +14,7 @@ pub struct Covering {
 impl Model for Covering {
     ghost use Rattle.std.specs.Prelude.{List};
     ghost use Rattle.std.specs.Coded.{coded_list};
-    ghost use Rattle.net_names.specs.Payloads.{VrpValue, vrp_code};
+    ghost use Rattle.net_names.specs.Prelude.{VrpValue, vrp_code};
 
     ghost Value = { List VrpValue };
 

@@ -1,6 +1,6 @@
 //! All payloads of a file, gathered and then sorted.
 ghost use Rattle.std.specs.Prelude.{◌≡◌, ◌<◌, OnOk, IfOk, IfErr};
-ghost use Rattle.net_names.specs.Payloads.{VrpValue};
+ghost use Rattle.net_names.specs.Prelude.{VrpValue};
 ghost use Rattle.roa_table.specs.Lists.{IsRising, stands_in};
 ghost use Rattle.roa_table.specs.Sets.{count, set_of};
 ghost use Rattle.roa_table.specs.Files.{payloads_in};

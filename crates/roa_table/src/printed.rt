@@ -1,6 +1,6 @@
 //! IPv4 prefixes that stand as they are printed.
 ghost use Rattle.std.specs.Prelude.{◌≡◌, ◌≤◌, ◌++◌, ◌==◌, ◌&&◌, nat_lt, get_or, length, decimal, Some, IfSome};
-ghost use Rattle.net_names.specs.Texts.{prefix_of};
+ghost use Rattle.net_names.specs.Prelude.{prefix_of};
 
 use crate::plain::behind;
 use net_names::{Family, Prefix, read_digits, read_prefix};

@@ -1,7 +1,7 @@
 //! The payload of a record.
 ghost use Rattle.std.specs.Prelude.{◌≡◌, ◌∷◌, [], option_and_then, ok_or};
 ghost use Rattle.csv.specs.Records.{fields_of};
-ghost use Rattle.net_names.specs.Payloads.{vrp_at};
+ghost use Rattle.net_names.specs.Prelude.{vrp_at};
 ghost use Rattle.roa_table.specs.Judging.{judged, max_of};
 
 use crate::errors::VrpError;

@@ -15,3 +15,4 @@ pub mod Twice
 pub mod Limits
 pub mod Readings
 pub mod Laws
+pub mod Prelude

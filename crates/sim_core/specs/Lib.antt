@@ -18,3 +18,4 @@ pub mod Sims
 pub mod Editing
 pub mod Laws
 pub mod Lent
+pub mod Prelude

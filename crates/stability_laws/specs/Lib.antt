@@ -20,3 +20,4 @@ pub mod AnyOrder
 pub mod Answers
 pub mod Seeding
 pub mod EntryTexts
+pub mod Prelude

@@ -1,8 +1,7 @@
 //! Whether a routing is right at one AS.
 ghost use Rattle.std.specs.Prelude.{◌≡◌, ◌↔◌, ◌∷◌, IsTrue, IsOk, ◌<◌, ◌-◌, ◌^◌, ℕ, Some, length, option_map};
 ghost use Rattle.std.specs.FinMap as map;
-ghost use Rattle.as_graph.specs.Topology.{relation};
-ghost use Rattle.as_graph.specs.Neighbours.{AreNeighbours};
+ghost use Rattle.as_graph.specs.Prelude.{relation, AreNeighbours};
 ghost use Rattle.stability_laws.specs.Book.{policy_at};
 ghost use Rattle.stability_laws.specs.Offers.{Offer, offer, passed_on};
 ghost use Rattle.stability_laws.specs.Entries.{seed_entry};

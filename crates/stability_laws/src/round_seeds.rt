@@ -3,7 +3,7 @@ ghost use Rattle.std.specs.Prelude.{◌≡◌, ◌≢◌, ◌≤◌, ℕ, true, 
 ghost use Rattle.std.specs.FinMap as map;
 ghost use Rattle.stability_laws.specs.Plans.{leaks_in};
 ghost use Rattle.stability_laws.specs.Rounds.{seeds_of};
-ghost use Rattle.policy_laws.specs.Policy.{is_own_or_customers};
+ghost use Rattle.policy_laws.specs.Prelude.{is_own_or_customers};
 ghost use Rattle.stability_laws.specs.Seeding.{announced_seed, own_or_leaked};
 
 use crate::entry::Seed;

@@ -1,7 +1,7 @@
 //! What ASes hold, and what they put in by themselves.
 ghost use Rattle.std.specs.Prelude.{◌≡◌, ◌≤◌, ℕ, None, length, option_copied, OnOk, OnErr, IfSome, IfNone};
 ghost use Rattle.std.specs.FinMap as map;
-ghost use Rattle.as_graph.specs.Following.{IsAbove};
+ghost use Rattle.as_graph.specs.Prelude.{IsAbove};
 ghost use Rattle.stability_laws.specs.Short.{HasShortPaths};
 ghost use Rattle.stability_laws.specs.Answers.{IsNextHolder};
 

@@ -5,8 +5,7 @@ ghost use Rattle.std.specs.FinMap.{IsAntisymmetric};
 ghost use Rattle.std.specs.Ordering.{eq_by_cmp, nat_cmp};
 ghost use Rattle.std.specs.List.{list_any};
 ghost use Rattle.std.specs.List.Sorted.{IsSearchInRange, IsBinarySearchResult};
-ghost use Rattle.net_names.specs.Links.{pair_cmp};
-ghost use Rattle.net_names.specs.Prefixes.{prefix_cmp};
+ghost use Rattle.net_names.specs.Prelude.{pair_cmp, prefix_cmp};
 ghost use Rattle.stability_laws.specs.Plans.{announcement_cmp, announces, announced_path, announcer_of, empty_plan, with_announcement, with_leaker, has_prefix, leaks_in, prefixes_of, announcers_of, in_round, leakers_of, IsAnnouncer, IsSound, ListsRising};
 ghost use Rattle.stability_laws.specs.PlanLists.{set_of, IsRising};
 

@@ -5,3 +5,4 @@ pub mod Texts
 pub mod Reading
 pub mod Laws
 pub mod Drawing
+pub mod Prelude

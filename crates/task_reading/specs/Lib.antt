@@ -5,3 +5,4 @@ pub mod Jobs
 pub mod Asking
 pub mod Files
 pub mod Texts
+pub mod Prelude

@@ -1,6 +1,6 @@
 //! What a pool tells. No call here changes it.
 
-ghost use Rattle.net_names.specs.Numbers.{last_or, occurs};
+ghost use Rattle.net_names.specs.Prelude.{last_or, occurs};
 ghost use Rattle.std.specs.Prelude.{◌≡◌, ◌+◌, ◌<◌, ◌≤◌, ◌∷◌, length, IfSome, IfOk, slice_index};
 
 use super::{MOST_COUNT, PathPool};

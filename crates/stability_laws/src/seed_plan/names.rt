@@ -3,8 +3,7 @@ ghost use Rattle.std.specs.Prelude.{◌≡◌, ◌&&◌, ◌||◌, ◌==◌, not
 ghost use Rattle.std.specs.List.{list_any};
 ghost use Rattle.std.specs.Ordering.{eq_by_cmp};
 ghost use Rattle.std.specs.FinMap as fin;
-ghost use Rattle.net_names.specs.Numbers.{occurs};
-ghost use Rattle.net_names.specs.Prefixes.{prefix_cmp};
+ghost use Rattle.net_names.specs.Prelude.{occurs, prefix_cmp};
 ghost use Rattle.stability_laws.specs.declared.seed_plan.Announcement.{Announcement as AnAnnouncement};
 ghost use Rattle.stability_laws.specs.Plans.{announcers_of};
 ghost use Rattle.stability_laws.specs.SeedEdits.{without_announcement};
