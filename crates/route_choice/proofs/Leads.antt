@@ -14,6 +14,8 @@ use Rattle.policy_laws.specs.Plain.{IsPlain, plain_key}
 use Rattle.policy_laws.specs.declared.policy.View.{View}
 use Rattle.as_graph.specs.declared.neighbour.Neighbour.{Neighbour}
 use Rattle.as_graph.specs.Neighbours.{asns}
+use Rattle.path_pool.specs.declared.pool.PathPool.{PathPool}
+use Rattle.path_pool.specs.Pool.{list_of}
 use Rattle.stability_laws.specs.declared.entry.Entry.{Entry}
 use Rattle.stability_laws.specs.BestView.{better_of}
 use Rattle.stability_laws.specs.Offers.{Setting, Offer, offer, offer_given, passed_on, view_of, marked}
@@ -23,16 +25,17 @@ use Rattle.route_choice.specs.declared.choice.Part.TheVariants.{Whole}
 use Rattle.route_choice.specs.declared.held.Held.{Held}
 use Rattle.route_choice.specs.declared.plain.Lead.{Lead}
 use Rattle.route_choice.specs.Slots.{over}
-use Rattle.route_choice.specs.Leads.{ArePlainProviders, IsLead, IsSeenAs, better_lead, lead_key}
+use Rattle.route_choice.specs.Routings.{entry_of as held_entry}
+use Rattle.route_choice.specs.Leads.{ArePlainProviders, IsLead, IsSeenAs, better_lead, lead_key, lead_with}
 use Rattle.route_choice.proofs.Givers.{Giver, giver}
 
 -- a list that is not empty has a first item
-pub first_there : (xs : List ℕ) → 0 < length xs → is_some (slice_get xs 0) ≡ true
+first_there : (xs : List ℕ) → 0 < length xs → is_some (slice_get xs 0) ≡ true
 first_there [] h = absurd (omega arith)
 first_there (x ∷ xs) h = refl
 
 -- a plain provider offers a plain AS what it holds, where the path is not empty and not through the AS
-pub provider_offers : (s r : Policy) → IsPlain s → IsPlain r → (st : ℕ → State) (n a : ℕ) (e : Entry) → is_some (slice_get e.path 0) ≡ true → occurs a e.path ≡ false →
+provider_offers : (s r : Policy) → IsPlain s → IsPlain r → (st : ℕ → State) (n a : ℕ) (e : Entry) → is_some (slice_get e.path 0) ≡ true → occurs a e.path ≡ false →
     option_map (λ o. o.view) (offer_given s r st n a (Some Provider) (Some e)) ≡ Some (view_of s.marks st n Provider e)
 provider_offers s r from own st n a e some out =
     let view : View = view_of s.marks st n Provider e in
@@ -47,11 +50,14 @@ leads_compare p own x y new old (rel, (len, num)) (rel', (len', num')) =
     let with : Rel → ℕ → ℕ → View = λ r l n. record x { rel = r; length = l; neighbour = n } in
     own.before x y ∙ (λ i. is_lt (slice_cmp nat_cmp (plain_key (record x { rel = rel i; length = len i; neighbour = num i })) (plain_key (record y { rel = rel' i; length = len' i; neighbour = num' i }))))
 
-pub lead_weighed : (p : Policy) → IsPlain p → (lead : Option Lead) (new : Lead) (v : Option View) (x : View) → IsSeenAs lead v → IsSeenAs (Some new) (Some x) → IsSeenAs (Some (better_lead lead new)) (better_of p v (Some x))
-lead_weighed p own None new None x seen is = is
-lead_weighed p own None new (Some y) x seen is = absurd seen
-lead_weighed p own (Some old) new None x seen is = absurd seen
-lead_weighed p own (Some old) new (Some y) x seen is = both (p.before x y) (is_lt (slice_cmp nat_cmp (lead_key new) (lead_key old))) (leads_compare p own x y new old is seen)
+pub leads_weighed : (p : Policy) → IsPlain p → (old new : Option Lead) (v x : Option View) → IsSeenAs old v → IsSeenAs new x → IsSeenAs (better_lead old new) (better_of p v x)
+leads_weighed p own None new None x seen is = is
+leads_weighed p own None new (Some y) x seen is = absurd seen
+leads_weighed p own (Some old) new None x seen is = absurd seen
+leads_weighed p own (Some old) None (Some y) None seen is = seen
+leads_weighed p own (Some old) None (Some y) (Some x) seen is = absurd is
+leads_weighed p own (Some old) (Some new) (Some y) None seen is = absurd is
+leads_weighed p own (Some old) (Some new) (Some y) (Some x) seen is = both (p.before x y) (is_lt (slice_cmp nat_cmp (lead_key new) (lead_key old))) (leads_compare p own x y new old is seen)
   where
     both : (b c : Bool) → b ≡ c → IsSeenAs (Some (cond c new old)) (cond b (Some x) (Some y))
     both true true e = is
@@ -59,10 +65,23 @@ lead_weighed p own (Some old) new (Some y) x seen is = both (p.before x y) (is_l
     both false true e = cc
     both false false e = seen
 
--- without an offer the best view stays
-pub lead_kept : (p : Policy) (lead : Option Lead) (v : Option View) → IsSeenAs lead v → IsSeenAs lead (better_of p v None)
-lead_kept p lead None seen = seen
-lead_kept p lead (Some y) seen = seen
+-- what a plain provider holds is seen by a plain AS as its lead says
+pub lead_seen : (w : Setting) (pool : PathPool) (held : ℕ → Option Held) (a n place : ℕ) → IsPlain (w.policy a) → IsPlain (w.policy n) → w.relation a n ≡ Some Provider →
+    ((h : Held) → held n ≡ Some h → (0 < length (list_of pool h.path.0)) × (occurs a (list_of pool h.path.0) ≡ false)) →
+    IsSeenAs (option_map (lead_with pool n place) (held n)) (option_map (λ (o : Offer). o.view) (offer w (λ m. option_map (held_entry pool) (held m)) n a))
+lead_seen w pool held a n place own from linked fits = by (held n) refl
+  where
+    by : (h : Option Held) → held n ≡ h → IsSeenAs (option_map (lead_with pool n place) h) (option_map (λ (o : Offer). o.view) (offer w (λ m. option_map (held_entry pool) (held m)) n a))
+    by None none =
+        subst (λ (o : Option Offer). IsSeenAs None (option_map (λ (x : Offer). x.view) o))
+        (λ i. offer_given (w.policy n) (w.policy a) w.state n a (sym linked i) (option_map (held_entry pool) (sym none i))) tt
+    by (Some h) some =
+        let e : Entry = held_entry pool h in
+        let (there, out) = fits h some in
+        let made : option_map (λ (o : Offer). o.view) (offer w (λ m. option_map (held_entry pool) (held m)) n a) ≡ Some (view_of (w.policy n).marks w.state n Provider e) =
+        (λ i. option_map (λ (o : Offer). o.view) (offer_given (w.policy n) (w.policy a) w.state n a (linked i) (option_map (held_entry pool) (some i))))
+        ∙ provider_offers (w.policy n) (w.policy a) from own w.state n a e (first_there e.path there) out in
+        subst (IsSeenAs (Some (lead_with pool n place h))) (sym made) (refl, (refl, refl))
 
 -- without a number that is sent, and where neither end marks, the number is kept
 kept_number : (n : ℕ) (to : Rel) (otc : Option ℕ) → marked false n to otc ≡ otc

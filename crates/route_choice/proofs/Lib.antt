@@ -3,6 +3,7 @@ pub mod Lists
 pub mod Numbers
 pub mod Chosen
 pub mod Givers
+mod BestOffers
 pub mod Unread
 pub mod Room
 pub mod RoundLemmas

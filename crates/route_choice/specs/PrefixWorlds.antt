@@ -1,5 +1,5 @@
 -- The world at one prefix.
-use Rattle.std.specs.Prelude.{ℕ, List, Option}
+use Rattle.std.specs.Prelude.{◌≡◌, ℕ, false, List, Option}
 use Rattle.net_names.specs.declared.routes.State.{State}
 use Rattle.net_names.specs.Prefixes.{PrefixValue as Prefix}
 use Rattle.as_graph.specs.declared.neighbour.Neighbour.{Neighbour}
@@ -14,9 +14,11 @@ use Rattle.route_choice.specs.declared.choice.Choice.{Choice}
 use Rattle.route_choice.specs.declared.choice.Part.{Part}
 use Rattle.route_choice.specs.declared.overlay.Overlay.{Overlay}
 use Rattle.route_choice.specs.declared.prefix_world.PrefixWorld.{PrefixWorld}
+use Rattle.route_choice.specs.declared.turn.Turn.{Turn}
 use Rattle.route_choice.specs.Choices.{named_by}
 use Rattle.route_choice.specs.Givers.{AreGivers}
 use Rattle.route_choice.specs.Loops.{HasNoLoops}
+use Rattle.route_choice.specs.Resources.{CanStep}
 use Rattle.route_choice.specs.Routings.{routing_of, seeds_of}
 use Rattle.route_choice.specs.Tables.{prefix_of}
 
@@ -32,6 +34,14 @@ named_at meaning w pool overlay a choice = named_by (λ n. meaning (policy_at w.
 abbrev pub AreGiversAt : {P V : Type 0} → (P → Policy) → PrefixWorld P V → PathPool → Overlay → Part → ℕ → List Neighbour → Type 0
 AreGiversAt meaning w pool overlay part a xs = AreGivers part (relation w.graph.now) (λ n. meaning (policy_at w.book.now n)) (routing_of pool w.table.now overlay) a xs
 
--- and that no entry that a neighbour of the part exports to an AS has a path through the AS.
+-- that no entry that a neighbour of the part exports to an AS has a path through the AS,
 abbrev pub HasNoLoopsAt : {P V : Type 0} → (P → Policy) → PrefixWorld P V → PathPool → Overlay → Part → ℕ → Type 0
 HasNoLoopsAt meaning w pool overlay part a = HasNoLoops part (relation w.graph.now) (λ n. meaning (policy_at w.book.now n)) (routing_of pool w.table.now overlay) a
+
+-- that this is so of the AS and the part of a turn, where the turn says so,
+abbrev pub HasNoLoopsIn : {P V : Type 0} → (P → Policy) → PrefixWorld P V → PathPool → Overlay → Turn → Type 0
+HasNoLoopsIn meaning w pool overlay turn = turn.may_loop ≡ false → HasNoLoopsAt meaning w pool overlay turn.part turn.asn
+
+-- and that n more steps can be made.
+abbrev pub CanStepAt : {P V : Type 0} → PrefixWorld P V → PathPool → Overlay → ℕ → Type 0
+CanStepAt w pool overlay n = CanStep pool w.seeds.now w.table.now overlay n

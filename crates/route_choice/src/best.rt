@@ -13,7 +13,7 @@ ghost use Rattle.route_choice.specs.declared.held.Held.{Held as AHeld};
 ghost use Rattle.route_choice.specs.Tables.{joined, prefix_of};
 ghost use Rattle.route_choice.specs.Routings.{entry_of, routing_of};
 ghost use Rattle.route_choice.specs.Choices.{is_looked_at, offers_of, state_seen, IsGiven};
-ghost use Rattle.route_choice.specs.PrefixWorlds.{AreGiversAt, HasNoLoopsAt};
+ghost use Rattle.route_choice.specs.PrefixWorlds.{AreGiversAt, HasNoLoopsAt, HasNoLoopsIn};
 ghost use Rattle.route_choice.specs.Resources.{AreLive};
 
 use crate::looks::{held_near, place_at};
@@ -148,35 +148,29 @@ fn is_better<P: RoutePolicy>(
     wins && !goes_through(chooser, pool, path)
 }
 
-// Puts the view of what a neighbour holds and exports in place of the best one so far, if it is
-// better.
+// Puts the view of what a neighbour holds in place of the best one so far, if it is better and the path is not
+// through the AS.
 #[inline(always)]
-fn weigh<P: RoutePolicy, V: OriginStates>(
-    at: &PrefixWorld<'_, P, V>,
+fn weigh<P: RoutePolicy>(
     chooser: &Chooser<'_, P>,
     pool: &PathPool,
     given: &Given<'_, P>,
+    view: View,
     best: &mut Best,
 )
     requires live { IsLive pool.now given.now.held.path.0 }
     requires no_loops { chooser.now.may_loop ≡ false →
         occurs chooser.now.asn (list_of pool.now given.now.held.path.0) ≡ false }
-    requires exported { (P.meaning given.now.sender.now).exports given.now.held.class given.now.held.otc
-        (converse given.now.neighbour.now.rel) ≡ true }
+    requires neighbour { view.neighbour ≡ given.now.neighbour.now.asn }
     ensures view { best.new.view ≡ better_of (P.meaning chooser.now.own.now) best.old.view
-        (option_map (λ o. o.view) (offer_given (P.meaning given.now.sender.now) (P.meaning chooser.now.own.now)
-        (state_seen chooser.now.reads (V.state_of at.now.states.now (prefix_of at.now.table.now)))
-        given.now.neighbour.now.asn chooser.now.asn (Some given.now.neighbour.now.rel)
-        (Some (entry_of pool.now given.now.held)))) }
+        (if occurs chooser.now.asn (list_of pool.now given.now.held.path.0) then None else Some view) }
     ensures given { (f : ℕ → Option AHeld) → f given.now.neighbour.now.asn ≡ Some given.now.held →
         IsGiven f best.old.view best.old.given → IsGiven f best.new.view best.new.given }
 {
-    if let Some(view) = view_of(at, chooser, pool, given) {
-        if is_better(chooser, pool, &best.view, &view, given.held.path) {
-            best.view = Some(view);
-            best.given = Some(given.held);
-            best.place = given.place;
-        }
+    if is_better(chooser, pool, &best.view, &view, given.held.path) {
+        best.view = Some(view);
+        best.given = Some(given.held);
+        best.place = given.place;
     }
 }
 
@@ -221,7 +215,9 @@ fn look_at<P: RoutePolicy, V: OriginStates>(
         held,
         sender,
     };
-    weigh(at, chooser, pool, &given, best);
+    if let Some(view) = view_of(at, chooser, pool, &given) {
+        weigh(chooser, pool, &given, view, best);
+    }
 }
 
 /// The view of the best offer of the part, if there is an offer, where all that make one are among these
@@ -239,8 +235,7 @@ pub(crate) fn best_view<P: RoutePolicy, V: OriginStates>(
 ) -> Best
     requires givers { AreGiversAt P.meaning at.now pool.now overlay.now turn.part turn.asn neighbours.now }
     requires live { AreLive pool.now at.now.table.now overlay.now }
-    requires no_loops { turn.may_loop ≡ false →
-        HasNoLoopsAt P.meaning at.now pool.now overlay.now turn.part turn.asn }
+    requires no_loops { HasNoLoopsIn P.meaning at.now pool.now overlay.now turn }
     ensures best { IsBestView (P.meaning (policy_at at.now.book.now turn.asn))
         (λ n. offers_of turn.part (setting P.meaning at.now.graph.now at.now.book.now
         (state_seen reads (V.state_of at.now.states.now (prefix_of at.now.table.now))))

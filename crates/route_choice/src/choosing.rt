@@ -1,9 +1,9 @@
 //! What an AS chooses.
 
-ghost use Rattle.std.specs.Prelude.{◌≡◌, ◌+◌, false};
+ghost use Rattle.std.specs.Prelude.{◌≡◌, ◌+◌};
 ghost use Rattle.stability_laws.specs.Book.{policy_at};
 ghost use Rattle.route_choice.specs.Routings.{routing_of, seeds_of};
-ghost use Rattle.route_choice.specs.PrefixWorlds.{setting_at, AreGiversAt, HasNoLoopsAt};
+ghost use Rattle.route_choice.specs.PrefixWorlds.{setting_at, AreGiversAt, HasNoLoopsIn};
 ghost use Rattle.route_choice.specs.Choices.{offers_of, IsChoice, IsChosenGiven};
 ghost use Rattle.route_choice.specs.Tables.{joined};
 ghost use Rattle.route_choice.specs.Resources.{AreLive};
@@ -31,8 +31,7 @@ pub(crate) fn evaluate_among<P: RoutePolicy, V: OriginStates, L: Ledger>(
 ) -> Chosen
     requires live { AreLive pool.now at.now.table.now overlay.now }
     requires givers { AreGiversAt P.meaning at.now pool.now overlay.now turn.part turn.asn neighbours.now }
-    requires no_loops { turn.may_loop ≡ false →
-        HasNoLoopsAt P.meaning at.now pool.now overlay.now turn.part turn.asn }
+    requires no_loops { HasNoLoopsIn P.meaning at.now pool.now overlay.now turn }
     ensures choice { IsChoice (P.meaning (policy_at at.now.book.now turn.asn))
         (seeds_of pool.now at.now.seeds.now turn.asn)
         (λ n. offers_of turn.part (setting_at P.meaning V.state_of at.now)
@@ -82,8 +81,7 @@ pub fn evaluate_near<P: RoutePolicy, V: OriginStates, L: Ledger>(
     steps: &mut Steps<L>,
 ) -> ChoiceNear
     requires live { AreLive pool.now at.now.table.now overlay.now }
-    requires no_loops { turn.may_loop ≡ false →
-        HasNoLoopsAt P.meaning at.now pool.now overlay.now turn.part turn.asn }
+    requires no_loops { HasNoLoopsIn P.meaning at.now pool.now overlay.now turn }
     ensures choice { IsChoice (P.meaning (policy_at at.now.book.now turn.asn))
         (seeds_of pool.now at.now.seeds.now turn.asn)
         (λ n. offers_of turn.part (setting_at P.meaning V.state_of at.now)

@@ -5,17 +5,13 @@
 ghost use Rattle.std.specs.Prelude.{◌≡◌, ◌+◌, Option, None, Some, option_map};
 ghost use Rattle.std.specs.Ordering.{nat_cmp, is_lt};
 ghost use Rattle.std.specs.Cmp.Lexicographic.{slice_cmp};
-ghost use Rattle.net_names.specs.declared.routes.Rel.TheVariants.{Provider as AProvider};
-ghost use Rattle.policy_laws.specs.declared.policy.View.{View as AView};
 ghost use Rattle.policy_laws.specs.Plain.{IsPlain};
-ghost use Rattle.as_graph.specs.Topology.{relation};
-ghost use Rattle.stability_laws.specs.BestView.{better_of};
 ghost use Rattle.stability_laws.specs.Book.{policy_at};
 ghost use Rattle.stability_laws.specs.Offers.{offer};
 ghost use Rattle.route_choice.specs.declared.choice.Part.TheVariants.{Whole as AWhole};
-ghost use Rattle.route_choice.specs.Leads.{ArePlainProviders, IsLead, IsSeenAs, better_lead, lead_key};
-ghost use Rattle.route_choice.specs.PrefixWorlds.{setting_at, AreGiversAt, HasNoLoopsAt};
-ghost use Rattle.route_choice.specs.Resources.{AreLive, CanStep};
+ghost use Rattle.route_choice.specs.Leads.{ArePlainProviders, IsLead, better_lead, lead_key, lead_with};
+ghost use Rattle.route_choice.specs.PrefixWorlds.{setting_at, AreGiversAt, CanStepAt, HasNoLoopsAt};
+ghost use Rattle.route_choice.specs.Resources.{AreLive};
 ghost use Rattle.route_choice.specs.Routings.{routing_of};
 ghost use Rattle.route_choice.specs.Tables.{seed_at};
 ghost use Rattle.route_choice.specs.Visits.{IsVisit};
@@ -46,49 +42,39 @@ fn is_ahead(new: &Lead, old: &Lead) -> bool
     (new.length, new.provider) < (old.length, old.provider)
 }
 
-// The better one of a lead that may be missing and another one.
+// The better one of two leads that may be missing.
 #[inline(always)]
-fn better(old: Option<Lead>, new: Lead) -> Lead
+fn better(old: Option<Lead>, new: Option<Lead>) -> Option<Lead>
     ensures { result ≡ better_lead old new }
 {
     match old {
-        Some(old) => { if is_ahead(&new, &old) { new } else { old } }
+        Some(had) => match new {
+            Some(other) => Some(if is_ahead(&other, &had) { other } else { had }),
+            None => Some(had),
+        },
         None => new,
     }
 }
 
-// The best lead so far and a provider, which is sought first at a place.
+// The lead that a provider is, if it holds something. It is sought first at the place.
 #[inline(always)]
-fn weigh<P: RoutePolicy, V: OriginStates>(
+fn lead_of<P, V>(
     at: &PrefixWorld<'_, P, V>,
     pool: &PathPool,
     overlay: &Overlay,
-    asn: Asn,
-    provider: &Neighbour,
+    provider: Asn,
     place: usize,
-    lead: Option<Lead>,
 ) -> Option<Lead>
-    requires own { IsPlain (P.meaning (policy_at at.now.book.now asn)) }
-    requires rel { provider.now.rel ≡ AProvider }
-    requires plain { IsPlain (P.meaning (policy_at at.now.book.now provider.now.asn)) }
-    requires linked { relation at.now.graph.now asn provider.now.asn ≡ Some provider.now.rel }
-    requires live { AreLive pool.now at.now.table.now overlay.now }
-    requires no_loops { HasNoLoopsAt P.meaning at.now pool.now overlay.now AWhole asn }
-    ensures { (v : Option AView) → IsSeenAs lead v → IsSeenAs result
-        (better_of (P.meaning (policy_at at.now.book.now asn)) v (option_map (λ o. o.view)
-        (offer (setting_at P.meaning V.state_of at.now) (routing_of pool.now at.now.table.now overlay.now)
-        provider.now.asn asn))) }
+    requires { AreLive pool.now at.now.table.now overlay.now }
+    ensures { result ≡ option_map (lead_with pool.now provider place) (joined at.now.table.now overlay.now provider) }
 {
-    paths_are_not_empty(pool);
-    let Some(held) = held_near(at.table, overlay, provider.asn, place) else {
-        return lead;
-    };
-    let new = Lead {
-        length: pool.length(held.path) + 1,
-        provider: provider.asn,
+    let held = held_near(at.table, overlay, provider, place)?;
+    let length = pool.length(held.path) + 1;
+    Some(Lead {
+        length,
+        provider,
         place,
-    };
-    Some(better(lead, new))
+    })
 }
 
 // The provider that makes the best offer, if there is an offer, where all that make one are among these
@@ -110,10 +96,11 @@ fn best_provider<P: RoutePolicy, V: OriginStates>(
     ensures { IsLead (P.meaning (policy_at at.now.book.now asn)) (λ n. offer (setting_at P.meaning V.state_of at.now)
         (routing_of pool.now at.now.table.now overlay.now) n asn) result }
 {
+    paths_are_not_empty(pool);
     let mut lead = None;
     for (index, provider) in providers.iter().enumerate() {
         let place = place_at(places, index);
-        lead = weigh(at, pool, overlay, asn, provider, place, lead);
+        lead = better(lead, lead_of(at, pool, overlay, provider.asn, place));
     }
     lead
 }
@@ -130,7 +117,7 @@ pub fn visit_providers<P: RoutePolicy, V: OriginStates, L: Ledger>(
     places: &[u32],
     steps: &mut Steps<L>,
 ) -> bool
-    requires can { CanStep pool.old at.now.seeds.now at.now.table.now overlay.old 1 }
+    requires can { CanStepAt at.now pool.old overlay.old 1 }
     requires nothing { routing_of pool.old at.now.table.now overlay.old placed.asn ≡ None }
     requires unseeded { seed_at at.now.seeds.now placed.asn ≡ None }
     requires own { IsPlain (P.meaning (policy_at at.now.book.now placed.asn)) }

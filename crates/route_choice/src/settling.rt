@@ -1,6 +1,6 @@
 //! The entry that a choice names, put in place.
 
-ghost use Rattle.std.specs.Prelude.{◌≡◌, ◌≢◌, ◌↔◌, ℕ, ◌<◌, ◌≤◌, IsTrue, IsSome, IsSomeAnd, Some, None, false, option_map, suc, unwrap_or, ◌∷◌};
+ghost use Rattle.std.specs.Prelude.{◌≡◌, ◌↔◌, ℕ, ◌<◌, ◌≤◌, IsTrue, IsSomeAnd, Some, None, false, option_map, unwrap_or, ◌∷◌};
 ghost use Rattle.route_choice.specs.declared.held.Held.{Held as AHeld};
 ghost use Rattle.route_choice.specs.declared.settling.Wanted.TheVariants.{Longer as ALonger};
 ghost use Rattle.path_pool.specs.declared.pool.PathPool.{PathPool as APool};
@@ -9,15 +9,16 @@ ghost use Rattle.path_pool.specs.Pool.{IsLive, list_of, holds_of, count_of, live
 ghost use Rattle.route_choice.specs.declared.overlay.Overlay.{Overlay as AnOverlay};
 ghost use Rattle.route_choice.specs.Choices.{IsChosenGiven};
 ghost use Rattle.route_choice.specs.Tables.{change_at, joined, overlay_uses, HasPlace};
-ghost use Rattle.route_choice.specs.Routings.{entry_of, routing_of};
+ghost use Rattle.route_choice.specs.Routings.{entry_of};
 ghost use Rattle.route_choice.specs.PrefixWorlds.{named_at};
+ghost use Rattle.route_choice.specs.Settled.{IsSettled};
 ghost use Rattle.route_choice.specs.Named.{wanted_entry, IsWantedLive, IsLonger, Takes};
-ghost use Rattle.route_choice.specs.Resources.{AreLive, AreSeedsLive, CanChange, IsNameable, IsVia, Spends, GivesUpNothing, Keeps};
+ghost use Rattle.route_choice.specs.Resources.{AreLive, AreSeedsLive, CanChange, IsNameable, IsVia, Spends};
 
 use crate::choice::Chosen;
 use crate::looks::held_near;
 use crate::slots::let_go;
-use crate::{Choice, ChoiceNear, Held, Overlay, PrefixWorld, Table};
+use crate::{Choice, ChoiceNear, Held, Overlay, PlacedAs, PrefixWorld, Table};
 use net_names::{Asn, Class};
 use path_pool::{PathId, PathPool, paths_are_not_empty};
 use policy_laws::RoutePolicy;
@@ -217,29 +218,17 @@ pub(crate) fn settle_chosen<P: RoutePolicy, V>(
     at: &PrefixWorld<'_, P, V>,
     pool: &mut PathPool,
     overlay: &mut Overlay,
-    asn: Asn,
-    place: usize,
+    placed: PlacedAs,
     chosen: Chosen,
 ) -> bool
-    requires choice { IsNameable at.now.seeds.now at.now.table.now overlay.old asn chosen.near.choice }
+    requires choice { IsNameable at.now.seeds.now at.now.table.now overlay.old placed.asn chosen.near.choice }
     requires given { IsChosenGiven (joined at.now.table.now overlay.old) chosen.near.choice chosen.given }
     requires pool { CanChange pool.old at.now.seeds.now at.now.table.now overlay.old 1 }
-    requires room { HasPlace overlay.old asn }
-    ensures named { routing_of pool.new at.now.table.now overlay.new asn
-        ≡ named_at P.meaning at.now pool.old overlay.old asn chosen.near.choice }
-    ensures others { (n : ℕ) → n ≢ asn → routing_of pool.new at.now.table.now overlay.new n
-        ≡ routing_of pool.old at.now.table.now overlay.old n }
-    ensures changed { IsTrue result ↔ (routing_of pool.new at.now.table.now overlay.new asn
-        ≢ routing_of pool.old at.now.table.now overlay.old asn) }
-    ensures unchanged { result ≡ false → (pool.new ≡ pool.old) × (overlay.new ≡ overlay.old) }
-    ensures put { IsTrue result → IsSome (change_at overlay.new asn) }
-    ensures spent { Spends pool.old pool.new overlay.old overlay.new asn }
-    ensures live { live_count pool.old < live_count pool.new → IsVia chosen.near.choice }
-    ensures next { (n : ℕ) → CanChange pool.old at.now.seeds.now at.now.table.now overlay.old (suc n) →
-        AreSeedsLive pool.new at.now.seeds.now → CanChange pool.new at.now.seeds.now at.now.table.now overlay.new n }
-    ensures kept { GivesUpNothing overlay.old (routing_of pool.old at.now.table.now overlay.old)
-        (routing_of pool.new at.now.table.now overlay.new) asn → Keeps pool.old pool.new at.now.seeds.now }
+    requires room { HasPlace overlay.old placed.asn }
+    ensures { IsSettled P.meaning at.now pool.old pool.new overlay.old overlay.new placed.asn chosen.near.choice
+        result }
 {
+    let PlacedAs { asn, place } = placed;
     let wanted = wanted_by(at, asn, place, chosen);
     let have = held_near(at.table, overlay, asn, place);
     if is_held(pool, asn, &have, &wanted) {
@@ -274,27 +263,14 @@ pub fn settle_near<P: RoutePolicy, V>(
     requires choice { IsNameable at.now.seeds.now at.now.table.now overlay.old asn chosen.choice }
     requires pool { CanChange pool.old at.now.seeds.now at.now.table.now overlay.old 1 }
     requires room { HasPlace overlay.old asn }
-    ensures named { routing_of pool.new at.now.table.now overlay.new asn
-        ≡ named_at P.meaning at.now pool.old overlay.old asn chosen.choice }
-    ensures others { (n : ℕ) → n ≢ asn → routing_of pool.new at.now.table.now overlay.new n
-        ≡ routing_of pool.old at.now.table.now overlay.old n }
-    ensures changed { IsTrue result ↔ (routing_of pool.new at.now.table.now overlay.new asn
-        ≢ routing_of pool.old at.now.table.now overlay.old asn) }
-    ensures unchanged { result ≡ false → (pool.new ≡ pool.old) × (overlay.new ≡ overlay.old) }
-    ensures put { IsTrue result → IsSome (change_at overlay.new asn) }
-    ensures spent { Spends pool.old pool.new overlay.old overlay.new asn }
-    ensures live { live_count pool.old < live_count pool.new → IsVia chosen.choice }
-    ensures next { (n : ℕ) → CanChange pool.old at.now.seeds.now at.now.table.now overlay.old (suc n) →
-        AreSeedsLive pool.new at.now.seeds.now → CanChange pool.new at.now.seeds.now at.now.table.now overlay.new n }
-    ensures kept { GivesUpNothing overlay.old (routing_of pool.old at.now.table.now overlay.old)
-        (routing_of pool.new at.now.table.now overlay.new) asn → Keeps pool.old pool.new at.now.seeds.now }
+    ensures { IsSettled P.meaning at.now pool.old pool.new overlay.old overlay.new asn chosen.choice result }
 {
     let given = given_by(at.table, overlay, &chosen);
     let known = Chosen {
         near: chosen,
         given,
     };
-    settle_chosen(at, pool, overlay, asn, place, known)
+    settle_chosen(at, pool, overlay, PlacedAs { asn, place }, known)
 }
 
 /// Puts the entry that a choice names, and answers whether it is another one than before, by its
@@ -311,20 +287,7 @@ pub fn settle<P: RoutePolicy, V>(
     requires choice { IsNameable at.now.seeds.now at.now.table.now overlay.old asn choice }
     requires pool { CanChange pool.old at.now.seeds.now at.now.table.now overlay.old 1 }
     requires room { HasPlace overlay.old asn }
-    ensures named { routing_of pool.new at.now.table.now overlay.new asn
-        ≡ named_at P.meaning at.now pool.old overlay.old asn choice }
-    ensures others { (n : ℕ) → n ≢ asn → routing_of pool.new at.now.table.now overlay.new n
-        ≡ routing_of pool.old at.now.table.now overlay.old n }
-    ensures changed { IsTrue result ↔ (routing_of pool.new at.now.table.now overlay.new asn
-        ≢ routing_of pool.old at.now.table.now overlay.old asn) }
-    ensures unchanged { result ≡ false → (pool.new ≡ pool.old) × (overlay.new ≡ overlay.old) }
-    ensures put { IsTrue result → IsSome (change_at overlay.new asn) }
-    ensures spent { Spends pool.old pool.new overlay.old overlay.new asn }
-    ensures live { live_count pool.old < live_count pool.new → IsVia choice }
-    ensures next { (n : ℕ) → CanChange pool.old at.now.seeds.now at.now.table.now overlay.old (suc n) →
-        AreSeedsLive pool.new at.now.seeds.now → CanChange pool.new at.now.seeds.now at.now.table.now overlay.new n }
-    ensures kept { GivesUpNothing overlay.old (routing_of pool.old at.now.table.now overlay.old)
-        (routing_of pool.new at.now.table.now overlay.new) asn → Keeps pool.old pool.new at.now.seeds.now }
+    ensures { IsSettled P.meaning at.now pool.old pool.new overlay.old overlay.new asn choice result }
 {
     let chosen = ChoiceNear { choice, place: 0 };
     settle_near(at, pool, overlay, asn, 0, chosen)

@@ -1,15 +1,12 @@
 //! One step of an AS.
 
-ghost use Rattle.std.specs.Prelude.{◌≡◌, ℕ, suc, ◌+◌, ◌<◌, IsSome, false};
-ghost use Rattle.path_pool.specs.Pool.{live_count};
-ghost use Rattle.route_choice.specs.Routings.{routing_of};
-ghost use Rattle.route_choice.specs.PrefixWorlds.{setting_at, AreGiversAt, HasNoLoopsAt};
-ghost use Rattle.route_choice.specs.Resources.{AreSeedsLive, CanStep};
-ghost use Rattle.route_choice.specs.Visits.{IsVisit};
+ghost use Rattle.std.specs.Prelude.{◌≡◌, ◌+◌};
+ghost use Rattle.route_choice.specs.PrefixWorlds.{AreGiversAt, CanStepAt, HasNoLoopsIn};
+ghost use Rattle.route_choice.specs.Visits.{IsVisitAt, LeavesSteps, NewCellIsHeld};
 
 use crate::choosing::evaluate_among;
 use crate::settling::settle_chosen;
-use crate::{Overlay, PrefixWorld, Steps, Turn};
+use crate::{Overlay, PlacedAs, PrefixWorld, Steps, Turn};
 use as_graph::Neighbour;
 use path_pool::PathPool;
 use policy_laws::{OriginStates, RoutePolicy};
@@ -25,16 +22,12 @@ pub fn visit<P: RoutePolicy, V: OriginStates, L: Ledger>(
     turn: Turn,
     steps: &mut Steps<L>,
 ) -> bool
-    requires can { CanStep pool.old at.now.seeds.now at.now.table.now overlay.old 1 }
-    requires no_loops { turn.may_loop ≡ false →
-        HasNoLoopsAt P.meaning at.now pool.old overlay.old turn.part turn.asn }
+    requires can { CanStepAt at.now pool.old overlay.old 1 }
+    requires no_loops { HasNoLoopsIn P.meaning at.now pool.old overlay.old turn }
     ensures cost { steps.new ≡ steps.old + 1 }
-    ensures visit { IsVisit turn.part (setting_at P.meaning V.state_of at.now) at.now.seeds.now at.now.table.now
-        pool.old pool.new overlay.old overlay.new turn.asn result }
-    ensures live { live_count pool.old < live_count pool.new →
-        IsSome (routing_of pool.new at.now.table.now overlay.new turn.asn) }
-    ensures next { (n : ℕ) → CanStep pool.old at.now.seeds.now at.now.table.now overlay.old (suc n) →
-        AreSeedsLive pool.new at.now.seeds.now → CanStep pool.new at.now.seeds.now at.now.table.now overlay.new n }
+    ensures visit { IsVisitAt P.meaning V.state_of at.now pool.old pool.new overlay.old overlay.new turn result }
+    ensures live { NewCellIsHeld at.now pool.old pool.new overlay.new turn.asn }
+    ensures next { LeavesSteps at.now pool.old pool.new overlay.old overlay.new }
 {
     let neighbours = at.graph.neighbours_near(turn.asn, turn.place);
     let places = at.graph.neighbour_places(turn.place);
@@ -53,19 +46,15 @@ pub fn visit_among<P: RoutePolicy, V: OriginStates, L: Ledger>(
     places: &[u32],
     steps: &mut Steps<L>,
 ) -> bool
-    requires can { CanStep pool.old at.now.seeds.now at.now.table.now overlay.old 1 }
+    requires can { CanStepAt at.now pool.old overlay.old 1 }
     requires givers { AreGiversAt P.meaning at.now pool.old overlay.old turn.part turn.asn neighbours.now }
-    requires no_loops { turn.may_loop ≡ false →
-        HasNoLoopsAt P.meaning at.now pool.old overlay.old turn.part turn.asn }
+    requires no_loops { HasNoLoopsIn P.meaning at.now pool.old overlay.old turn }
     ensures cost { steps.new ≡ steps.old + 1 }
-    ensures visit { IsVisit turn.part (setting_at P.meaning V.state_of at.now) at.now.seeds.now at.now.table.now
-        pool.old pool.new overlay.old overlay.new turn.asn result }
-    ensures live { live_count pool.old < live_count pool.new →
-        IsSome (routing_of pool.new at.now.table.now overlay.new turn.asn) }
-    ensures next { (n : ℕ) → CanStep pool.old at.now.seeds.now at.now.table.now overlay.old (suc n) →
-        AreSeedsLive pool.new at.now.seeds.now → CanStep pool.new at.now.seeds.now at.now.table.now overlay.new n }
+    ensures visit { IsVisitAt P.meaning V.state_of at.now pool.old pool.new overlay.old overlay.new turn result }
+    ensures live { NewCellIsHeld at.now pool.old pool.new overlay.new turn.asn }
+    ensures next { LeavesSteps at.now pool.old pool.new overlay.old overlay.new }
 {
     let Turn { asn, place, .. } = turn;
     let chosen = evaluate_among(at, pool, overlay, turn, neighbours, places, steps);
-    settle_chosen(at, pool, overlay, asn, place, chosen)
+    settle_chosen(at, pool, overlay, PlacedAs { asn, place }, chosen)
 }

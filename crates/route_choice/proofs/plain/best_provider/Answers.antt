@@ -1,15 +1,23 @@
-use Rattle.std.proofs.Common.{◌≡◌, ℕ, ◌+◌, ◌⊎◌, true, false, None, sym, subst, refl, option_map, take, take_all}
+use Rattle.std.proofs.Common.{◌≡◌, ◌+◌, ◌<◌, ◌⊎◌, true, false, None, Some, length, refl, sym, ◌∙◌, ap, subst, option_map, take, take_all}
+use Rattle.net_names.specs.declared.routes.Rel.TheVariants.{Provider}
 use Rattle.net_names.specs.Numbers.{occurs}
+use Rattle.policy_laws.specs.Plain.{IsPlain}
+use Rattle.path_pool.specs.Pool.{list_of}
+use Rattle.as_graph.specs.Topology.{relation}
+use Rattle.as_graph.specs.declared.neighbour.Neighbour.{Neighbour}
 use Rattle.as_graph.specs.Neighbours.{asns}
 use Rattle.stability_laws.specs.Book.{policy_at}
 use Rattle.stability_laws.specs.Offers.{Offer, offer}
 use Rattle.stability_laws.specs.BestView.{IsBestViewOf, better_of}
-use Rattle.stability_laws.proofs.BestViews.{among_more, one_more, best_of_all}
+use Rattle.stability_laws.proofs.BestViews.{among_more}
 use Rattle.route_choice.specs.declared.choice.Part.TheVariants.{Whole}
 use Rattle.route_choice.specs.PrefixWorlds.{setting_at}
-use Rattle.route_choice.specs.Routings.{routing_of}
-use Rattle.route_choice.proofs.Chosen.{given_in_part}
-use Rattle.route_choice.proofs.Givers.{Giver, giver}
+use Rattle.route_choice.specs.declared.held.Held.{Held}
+use Rattle.route_choice.specs.Leads.{IsSeenAs, better_lead, lead_with}
+use Rattle.route_choice.specs.Routings.{entry_of, routing_of}
+use Rattle.route_choice.specs.Tables.{joined}
+use Rattle.route_choice.proofs.BestOffers.{best_of_givers, best_with}
+use Rattle.route_choice.proofs.Leads.{lead_seen, leads_weighed}
 use Rattle.route_choice.proofs.plain.best_provider.Goals as goal
 
 pub loop-index-init : goal.loop-index-init
@@ -19,20 +27,27 @@ pub loop-index-preserved : goal.loop-index-preserved
 loop-index-preserved g c =
     let here = setting_at g.P.RoutePolicy.meaning g.V.OriginStates.state_of c.args.at.now in
     let f = routing_of c.args.pool.now c.args.at.now.table.now c.args.overlay.now in
-    let own = policy_at c.args.at.now.book.now c.args.asn in
-    let offers = λ (n : ℕ). offer here f n c.args.asn in
     let x = c.index-providers-index.result in
     let xs = c.args.providers.now in
     let i = c.loop-index.index in
-    let (v, (best, seen)) = c.loop-index.invariant in
-    let new = option_map (λ (o : Offer). o.view) (offers x.asn) in (
-      better_of (here.policy c.args.asn) v new,
+    let held = joined c.args.at.now.table.now c.args.overlay.now in
+    let a = c.args.asn in
+    let new = option_map (λ (o : Offer). o.view) (offer here f x.asn a) in
+    let plain : (x.rel ≡ Provider) × IsPlain (here.policy x.asn) = subst (λ (t : Neighbour). (t.rel ≡ Provider) × IsPlain (here.policy t.asn)) (sym c.index-providers-index.is) (c.requires.plain i x c.loop-index-test.true) in
+    let linked : relation c.args.at.now.graph.now a x.asn ≡ Some Provider = subst (λ (t : Neighbour). relation c.args.at.now.graph.now a t.asn ≡ Some t.rel) (sym c.index-providers-index.is) (c.requires.givers.each i x c.loop-index-test.true) ∙ ap Some plain.0 in
+    let fits : (h : Held) → held x.asn ≡ Some h → (0 < length (list_of c.args.pool.now h.path.0)) × (occurs a (list_of c.args.pool.now h.path.0) ≡ false) = λ h is. (
+      c.paths_are_not_empty.ensures h.path.0 (c.requires.live x.asn h is),
+      c.requires.no_loops x.asn Provider (entry_of c.args.pool.now h) linked refl (ap (option_map (entry_of c.args.pool.now)) is) (plain.1.to_customers h.class h.otc),
+    ) in
+    let (v, (best, seen)) = c.loop-index.invariant in (
+      better_of (here.policy a) v new,
       (
-        one_more (here.policy c.args.asn) (g.met.P.RoutePolicy.ranks_offers own) offers (λ n o e. (given_in_part Whole here f c.args.asn n o e).neighbour)
+        best_with Whole here f c.args.asn (g.met.P.RoutePolicy.ranks_offers (policy_at c.args.at.now.book.now c.args.asn))
             x.asn (asns (take i xs)) (asns (take (i + 1) xs))
             (λ m is. subst (λ t. (t.asn ≡ m) ⊎ (occurs m (asns (take i xs)) ≡ true)) (sym c.index-providers-index.is) (among_more xs i m x c.loop-index-test.true is))
-            v new refl best,
-        c.weigh-lead.ensures v seen,
+            v best,
+        subst (λ l. IsSeenAs l (better_of (here.policy a) v new)) (sym (c.better-lead.ensures ∙ ap (better_lead c.loop-index.lead) c.lead_of.ensures))
+            (leads_weighed (here.policy a) c.requires.own c.loop-index.lead (option_map (lead_with c.args.pool.now x.asn c.place_at-place.result) (held x.asn)) v new seen (lead_seen here c.args.pool.now held a x.asn c.place_at-place.result c.requires.own plain.1 linked fits)),
       ),
     )
 
@@ -40,17 +55,11 @@ pub returns : goal.returns
 returns g c =
     let here = setting_at g.P.RoutePolicy.meaning g.V.OriginStates.state_of c.args.at.now in
     let f = routing_of c.args.pool.now c.args.at.now.table.now c.args.overlay.now in
-    let own = policy_at c.args.at.now.book.now c.args.asn in
-    let offers = λ (n : ℕ). offer here f n c.args.asn in
-    let xs = c.args.providers.now in
-    let i = c.loop-index.index in
     let (v, (best, seen)) = c.loop-index.invariant in (
       v,
       (
-        best_of_all (here.policy c.args.asn) (g.met.P.RoutePolicy.ranks_offers own) offers (λ n o e. (given_in_part Whole here f c.args.asn n o e).neighbour)
-            (asns xs) (λ n o e. let by : Giver Whole here f c.args.asn n = giver Whole here f c.args.asn n o e in
-            c.requires.givers.complete n by.exports.from by.exports.entry by.exports.linked by.looked by.exports.is by.exports.exported)
-            v (subst (λ ys. IsBestViewOf (here.policy c.args.asn) offers (asns ys) v) (take_all i xs c.loop-index-test.false) best),
+        best_of_givers Whole here f c.args.asn (g.met.P.RoutePolicy.ranks_offers (policy_at c.args.at.now.book.now c.args.asn)) c.args.providers.now c.requires.givers
+            v (subst (λ ys. IsBestViewOf (here.policy c.args.asn) (λ n. offer here f n c.args.asn) (asns ys) v) (take_all c.loop-index.index c.args.providers.now c.loop-index-test.false) best),
         seen,
       ),
     )
