@@ -3,7 +3,7 @@
 ghost use Rattle.std.specs.Prelude.{◌≡◌, Some};
 ghost use Rattle.path_pool.specs.Pool.{IsLive};
 ghost use Rattle.route_choice.specs.declared.held.Held.{Held as AHeld};
-ghost use Rattle.route_choice.specs.Resources.{AreHeld, AreSeedsLive};
+ghost use Rattle.route_choice.specs.Prelude.{AreHeld, AreSeedsLive};
 
 use crate::ranked_world::RankedWorld;
 use net_names::Asn;

@@ -3,16 +3,12 @@
 
 ghost use Rattle.std.specs.Prelude.{◌≡◌, ◌≢◌, ℕ, ◌<◌, Some, None, IsTrue, true, false, OnOk, OnErr, IfOk, Option};
 ghost use Rattle.path_pool.specs.Pool.{IsLive, SamePaths, limit_of, spare_of};
-ghost use Rattle.stability_laws.specs.Book.{policy_at};
+ghost use Rattle.stability_laws.specs.Prelude.{policy_at};
 ghost use Rattle.stability_laws.specs.declared.entry.Seed.{Seed as ASeed};
 ghost use Rattle.route_choice.specs.declared.held.Held.{Held as AHeld};
 ghost use Rattle.route_choice.specs.declared.seeds.SeedIds.{SeedIds as TheSeeds};
 ghost use Rattle.route_choice.specs.declared.table.Table.{Table as ATable};
-ghost use Rattle.route_choice.specs.Choices.{named_by};
-ghost use Rattle.route_choice.specs.PrefixWorlds.{named_at};
-ghost use Rattle.route_choice.specs.Resources.{AreHeld, AreSeedsLive, CanStep, IsNameable};
-ghost use Rattle.route_choice.specs.Routings.{entry_of, routing_of};
-ghost use Rattle.route_choice.specs.Tables.{change_at, joined, overlay_uses};
+ghost use Rattle.route_choice.specs.Prelude.{named_by, named_at, AreHeld, AreSeedsLive, CanStep, IsNameable, entry_of, routing_of, change_at, joined, overlay_uses};
 ghost use Rattle.dirty_recompute.specs.Resources.{CanTurn, IsKept, has_change};
 ghost use Rattle.dirty_recompute.specs.Giving.{with_first, GivesUpNone, IsGiven, SameHeld};
 

@@ -22,8 +22,7 @@ pub(crate) struct Named {
 impl Named {
     ghost use Rattle.std.specs.Prelude.{◌≡◌, ℕ, false, Option};
     ghost use Rattle.stability_laws.specs.declared.entry.Seed.{Seed as ASeed};
-    ghost use Rattle.route_choice.specs.Resources.{AreSeedsLive};
-    ghost use Rattle.route_choice.specs.Routings.{seeds_of};
+    ghost use Rattle.route_choice.specs.Prelude.{AreSeedsLive, seeds_of};
     ghost use Rattle.dirty_recompute.specs.Named.{HasAll, IsOnNoPath};
 
     /// Nobody has asked.
@@ -37,7 +36,22 @@ impl Named {
         }
     }
 
-    // Counts who asks, and lists the numbers once there are more than a few. Where memory is wanting, it counts anew.
+    // Lists the numbers. Where memory is wanting, it counts anew. The set has a function of its own, since who has one
+    // among its locals clears it at each call.
+    #[cold]
+    #[inline(never)]
+    fn list(&mut self, seeds: &SeedIds, pool: &PathPool)
+        requires live { AreSeedsLive pool.now seeds.now }
+        requires all { HasAll self.old (seeds_of pool.now seeds.now) }
+        ensures { HasAll self.new (seeds_of pool.now seeds.now) }
+    {
+        match Box::new(self.alloc, named_by(self.alloc, seeds, pool)) {
+            Ok(listed) => self.listed = Some(listed),
+            Err(_) => self.asked = 0,
+        }
+    }
+
+    // Counts who asks, and lists the numbers once there are more than a few.
     fn count(&mut self, seeds: &SeedIds, pool: &PathPool)
         requires live { AreSeedsLive pool.now seeds.now }
         requires all { HasAll self.old (seeds_of pool.now seeds.now) }
@@ -50,10 +64,7 @@ impl Named {
             self.asked += 1;
             return;
         }
-        match Box::new(self.alloc, named_by(self.alloc, seeds, pool)) {
-            Ok(listed) => self.listed = Some(listed),
-            Err(_) => self.asked = 0,
-        }
+        self.list(seeds, pool);
     }
 
     /// Whether an AS may stand on the path of a seed. The first that ask may.

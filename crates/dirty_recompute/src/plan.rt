@@ -1,19 +1,14 @@
 //! Who changes after an edit.
 
 ghost use Rattle.std.specs.Prelude.{◌≡◌, ℕ, ◌+◌, ◌*◌, ◌≤◌, length, true, false, None, OnOk, OnErr, IfOk};
-ghost use Rattle.net_names.specs.Numbers.{occurs};
-ghost use Rattle.as_graph.specs.Topology.{relation, has, as_count};
-ghost use Rattle.as_graph.specs.Hierarchy.{HasNoProviderCycle, IsRank};
+ghost use Rattle.net_names.specs.Prelude.{occurs};
+ghost use Rattle.as_graph.specs.Prelude.{relation, has, as_count, HasNoProviderCycle, IsRank};
 ghost use Rattle.path_pool.specs.declared.pool.PathPool.{PathPool as APool};
 ghost use Rattle.path_pool.specs.Pool.{holds_of, count_of, live_count, limit_of};
-ghost use Rattle.rank_order.specs.Plans.{rank_after, IsLastPlan};
-ghost use Rattle.stability_laws.specs.Stable.{IsRight};
-ghost use Rattle.stability_laws.specs.World.{setting_in};
+ghost use Rattle.rank_order.specs.Prelude.{rank_after, IsLastPlan};
+ghost use Rattle.stability_laws.specs.Prelude.{IsRight, setting_in};
 ghost use Rattle.route_choice.specs.declared.counts.TheConstants.{MOST_COUNTED};
-ghost use Rattle.route_choice.specs.PrefixWorlds.{setting_at};
-ghost use Rattle.route_choice.specs.Resources.{AreEntriesLive, AreSeedsLive, Keeps};
-ghost use Rattle.route_choice.specs.Routings.{routing_of, seeds_of, table_routing};
-ghost use Rattle.route_choice.specs.Tables.{change_at, held_at, overlay_uses, places_of, prefix_of, seed_at, table_spare, table_uses};
+ghost use Rattle.route_choice.specs.Prelude.{setting_at, AreEntriesLive, AreSeedsLive, Keeps, routing_of, seeds_of, table_routing, change_at, held_at, overlay_uses, places_of, prefix_of, seed_at, table_spare, table_uses};
 ghost use Rattle.dirty_recompute.specs.Exact.{IsExact, AreEnough};
 ghost use Rattle.dirty_recompute.specs.Named.{HasAll};
 ghost use Rattle.dirty_recompute.specs.PlannedRanks.{rank_of};

@@ -2,9 +2,8 @@
 
 ghost use Rattle.std.specs.Prelude.{◌≡◌, ◌≤◌, ℕ, suc, false, None, Some};
 ghost use Rattle.net_names.specs.declared.routes.Rel.TheVariants.{Customer};
-ghost use Rattle.as_graph.specs.Topology.{relation, has};
-ghost use Rattle.as_graph.specs.Hierarchy.{HasNoProviderCycle};
-ghost use Rattle.route_choice.specs.Tables.{seed_at};
+ghost use Rattle.as_graph.specs.Prelude.{relation, has, HasNoProviderCycle};
+ghost use Rattle.route_choice.specs.Prelude.{seed_at};
 ghost use Rattle.dirty_recompute.specs.PlannedRanks.{rank_of};
 
 use crate::planned_ranks::PlannedRanks;

@@ -3,10 +3,7 @@
 ghost use Rattle.std.specs.Prelude.{◌≡◌, ◌≢◌, ℕ, Some, IsTrue, false, ◌∷◌, option_map};
 ghost use Rattle.path_pool.specs.Pool.{IsLive, list_of};
 ghost use Rattle.route_choice.specs.declared.held.Held.{Held as AHeld};
-ghost use Rattle.route_choice.specs.PrefixWorlds.{setting_at};
-ghost use Rattle.route_choice.specs.Resources.{AreHeld};
-ghost use Rattle.route_choice.specs.Routings.{entry_of, routing_of};
-ghost use Rattle.route_choice.specs.Views.{goes_through};
+ghost use Rattle.route_choice.specs.Prelude.{setting_at, AreHeld, entry_of, routing_of, goes_through};
 ghost use Rattle.dirty_recompute.specs.Spared.{HasRival};
 
 use crate::giving::held_near;

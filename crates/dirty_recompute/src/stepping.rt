@@ -3,9 +3,8 @@
 
 ghost use Rattle.std.specs.Prelude.{◌≡◌, ◌≢◌, ◌+◌, ◌↔◌, IsTrue, None, true, false, OnOk, OnErr, IfOk, option_map};
 ghost use Rattle.path_pool.specs.declared.pool.PathPool.{PathPool as APool};
-ghost use Rattle.stability_laws.specs.Steps.{low};
-ghost use Rattle.route_choice.specs.PrefixWorlds.{setting_at, HasNoLoopsAt};
-ghost use Rattle.route_choice.specs.Routings.{entry_of, routing_of, seeds_of};
+ghost use Rattle.stability_laws.specs.Prelude.{low};
+ghost use Rattle.route_choice.specs.Prelude.{setting_at, HasNoLoopsAt, entry_of, routing_of, seeds_of};
 ghost use Rattle.dirty_recompute.specs.Steps.{after, decided_by, ChangesOnly, IsChosen, IsReady, without_low};
 ghost use Rattle.dirty_recompute.specs.Giving.{SameHeld};
 ghost use Rattle.dirty_recompute.specs.Resources.{has_change, CanTurn, IsKept, IsPaidFor, IsBefore};

@@ -2,10 +2,9 @@
 
 ghost use Rattle.std.specs.Prelude.{◌≡◌, ◌⊎◌, ◌+◌, true, false, Some, IsTrue, OnOk};
 ghost use Rattle.net_names.specs.declared.routes.Rel.TheVariants as rel;
-ghost use Rattle.as_graph.specs.Topology.{relation};
-ghost use Rattle.stability_laws.specs.Steps.{low};
-ghost use Rattle.route_choice.specs.PrefixWorlds.{setting_at, HasNoLoopsAt};
-ghost use Rattle.route_choice.specs.Routings.{routing_of, seeds_of};
+ghost use Rattle.as_graph.specs.Prelude.{relation};
+ghost use Rattle.stability_laws.specs.Prelude.{low};
+ghost use Rattle.route_choice.specs.Prelude.{setting_at, HasNoLoopsAt, routing_of, seeds_of};
 ghost use Rattle.dirty_recompute.specs.PlannedRanks.{rank_of};
 ghost use Rattle.dirty_recompute.specs.Queues.{IsAdded, AreQueued, IsAmong};
 ghost use Rattle.dirty_recompute.specs.Resources.{has_change, CanTurn, IsKept, IsPaidFor};

@@ -1,14 +1,10 @@
 //! The best of the offers that an AS gets, found by one pass over its neighbours.
 
 ghost use Rattle.std.specs.Prelude.{◌≡◌, ℕ, ◌<◌, true, false, Option, None, Some, IfSome, option_map, if◌then◌else◌};
-ghost use Rattle.as_graph.specs.Topology.{relation};
-ghost use Rattle.net_names.specs.Numbers.{occurs, last_or};
-ghost use Rattle.net_names.specs.Links.{converse};
+ghost use Rattle.as_graph.specs.Prelude.{relation};
+ghost use Rattle.net_names.specs.Prelude.{occurs, last_or, converse};
 ghost use Rattle.path_pool.specs.Pool.{IsLive, list_of};
-ghost use Rattle.stability_laws.specs.Book.{policy_at};
-ghost use Rattle.stability_laws.specs.Offers.{offer_given};
-ghost use Rattle.stability_laws.specs.BestView.{IsBestView, better_of};
-ghost use Rattle.stability_laws.specs.World.{setting};
+ghost use Rattle.stability_laws.specs.Prelude.{policy_at, offer_given, IsBestView, better_of, setting};
 ghost use Rattle.route_choice.specs.declared.held.Held.{Held as AHeld};
 ghost use Rattle.route_choice.specs.Tables.{joined, prefix_of};
 ghost use Rattle.route_choice.specs.Routings.{entry_of, routing_of};

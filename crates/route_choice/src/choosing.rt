@@ -1,7 +1,7 @@
 //! What an AS chooses.
 
 ghost use Rattle.std.specs.Prelude.{◌≡◌, ◌+◌};
-ghost use Rattle.stability_laws.specs.Book.{policy_at};
+ghost use Rattle.stability_laws.specs.Prelude.{policy_at};
 ghost use Rattle.route_choice.specs.Routings.{routing_of, seeds_of};
 ghost use Rattle.route_choice.specs.PrefixWorlds.{setting_at, AreGiversAt, HasNoLoopsIn};
 ghost use Rattle.route_choice.specs.Choices.{offers_of, IsChoice, IsChosenGiven};

@@ -5,9 +5,8 @@
 ghost use Rattle.std.specs.Prelude.{◌≡◌, ◌+◌, Option, None, Some, option_map};
 ghost use Rattle.std.specs.Ordering.{nat_cmp, is_lt};
 ghost use Rattle.std.specs.Cmp.Lexicographic.{slice_cmp};
-ghost use Rattle.policy_laws.specs.Plain.{IsPlain};
-ghost use Rattle.stability_laws.specs.Book.{policy_at};
-ghost use Rattle.stability_laws.specs.Offers.{offer};
+ghost use Rattle.policy_laws.specs.Prelude.{IsPlain};
+ghost use Rattle.stability_laws.specs.Prelude.{policy_at, offer};
 ghost use Rattle.route_choice.specs.declared.choice.Part.TheVariants.{Whole as AWhole};
 ghost use Rattle.route_choice.specs.Leads.{ArePlainProviders, IsLead, better_lead, lead_key, lead_with};
 ghost use Rattle.route_choice.specs.PrefixWorlds.{setting_at, AreGiversAt, CanStepAt, HasNoLoopsAt};

@@ -36,7 +36,7 @@ pub struct RoundTables {
 }
 
 impl RoundTables {
-    ghost use Rattle.net_names.specs.Prefixes.{PrefixValue};
+    ghost use Rattle.net_names.specs.Prelude.{PrefixValue};
     ghost use Rattle.route_choice.specs.Tables.{prefix_of};
     ghost use Rattle.route_choice.specs.RoundTables.{table_at, tables_uses, AreByPrefix, SameTables, PutsTable, lends_table};
 

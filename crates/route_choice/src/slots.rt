@@ -2,7 +2,7 @@
 
 ghost use Rattle.std.specs.Prelude.{◌≡◌, ◌≢◌, ◌⊎◌, ℕ, ◌+◌, ◌<◌, ◌≤◌, [], ◌∷◌, ◌++◌, true, false, length, slice_get, Some, None, IsSome, IsOk, IfOk, IfSome, OnOk, nat_eq, unwrap_or};
 ghost use Rattle.std.specs.List.{IsDistinct};
-ghost use Rattle.net_names.specs.Numbers.{occurs};
+ghost use Rattle.net_names.specs.Prelude.{occurs};
 ghost use Rattle.as_places.specs.Places.{place_of};
 ghost use Rattle.path_pool.specs.Pool.{holds_of};
 ghost use Rattle.route_choice.specs.Slots.{slot_at, entry_at, entries_at, keys, over, use_of, uses_in, uses_of, IsBlank};

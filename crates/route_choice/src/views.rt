@@ -1,11 +1,10 @@
 //! What an AS would see of an offer, before its path is walked.
 
 ghost use Rattle.std.specs.Prelude.{◌≡◌, ℕ, Option, Some, None, option_map, if◌then◌else◌};
-ghost use Rattle.as_graph.specs.Topology.{Topology, relation};
+ghost use Rattle.as_graph.specs.Prelude.{Topology, relation};
 ghost use Rattle.path_pool.specs.Pool.{IsLive};
 ghost use Rattle.stability_laws.specs.declared.entry.Entry.{Entry as AnEntry};
-ghost use Rattle.stability_laws.specs.Offers.{offer};
-ghost use Rattle.stability_laws.specs.World.{setting};
+ghost use Rattle.stability_laws.specs.Prelude.{offer, setting};
 ghost use Rattle.route_choice.specs.declared.held.Held.{Held as AHeld};
 ghost use Rattle.route_choice.specs.Tables.{prefix_of};
 ghost use Rattle.route_choice.specs.Routings.{entry_of};

@@ -3,13 +3,11 @@
 
 ghost use Rattle.std.specs.Prelude.{◌≡◌, ℕ, ◌<◌, [], true, length, slice_index, IfOk, OnOk, All, Some, Option, nat_eq};
 ghost use Rattle.std.specs.List.{IsDistinct};
-ghost use Rattle.net_names.specs.Numbers.{occurs};
+ghost use Rattle.net_names.specs.Prelude.{occurs};
 ghost use Rattle.net_names.specs.declared.routes.Rel.{Rel as ARel};
 ghost use Rattle.net_names.specs.declared.routes.Rel.TheVariants.{Provider as AProvider};
-ghost use Rattle.as_graph.specs.Topology.{relation};
-ghost use Rattle.as_graph.specs.Hierarchy.{IsRank};
-ghost use Rattle.as_graph.specs.Neighbours.{asns};
-ghost use Rattle.rank_order.specs.Ranks.{rank_at};
+ghost use Rattle.as_graph.specs.Prelude.{relation, IsRank, asns};
+ghost use Rattle.rank_order.specs.Prelude.{rank_at};
 ghost use Rattle.three_pass.specs.Courses.{AreAbove, IsCourse};
 ghost use Rattle.three_pass.specs.Lists.{AreProviders};
 ghost use Rattle.three_pass.specs.Scratches.{IsScratch};

@@ -1,24 +1,14 @@
 //! The two passes along a course. The rows and places of ASes are hints.
 
 ghost use Rattle.std.specs.Prelude.{◌≡◌, ◌≢◌, ℕ, true, false, Some, None, length, slice_get, slice_index, ◌<◌, ◌≤◌, ◌+◌, Option, All};
-ghost use Rattle.net_names.specs.Numbers.{occurs};
+ghost use Rattle.net_names.specs.Prelude.{occurs};
 ghost use Rattle.net_names.specs.declared.routes.Rel.{Rel as ARel};
 ghost use Rattle.net_names.specs.declared.routes.Rel.TheVariants.{Customer};
-ghost use Rattle.as_graph.specs.Topology.{relation};
-ghost use Rattle.as_graph.specs.Hierarchy.{HasNoProviderCycle};
-ghost use Rattle.as_graph.specs.Neighbours.{asns};
-ghost use Rattle.stability_laws.specs.Book.{policy_at};
-ghost use Rattle.stability_laws.specs.Stable.{IsStable};
-ghost use Rattle.route_choice.specs.Tables.{joined, seed_at};
-ghost use Rattle.route_choice.specs.PrefixWorlds.{setting_at, HasNoLoopsAt};
-ghost use Rattle.route_choice.specs.Choices.{IsStepOf};
-ghost use Rattle.route_choice.specs.Routings.{routing_of, seeds_of};
-ghost use Rattle.route_choice.specs.Resources.{CanStep};
-ghost use Rattle.route_choice.specs.Visits.{IsVisit};
-ghost use Rattle.route_choice.specs.AsnSets.{is_among};
+ghost use Rattle.as_graph.specs.Prelude.{relation, HasNoProviderCycle, asns};
+ghost use Rattle.stability_laws.specs.Prelude.{policy_at, IsStable};
+ghost use Rattle.route_choice.specs.Prelude.{joined, seed_at, setting_at, HasNoLoopsAt, IsStepOf, routing_of, seeds_of, CanStep, IsVisit, is_among, AreNamed};
 ghost use Rattle.three_pass.specs.Courses.{IsCourse};
 ghost use Rattle.three_pass.specs.Lists.{AreProviders, count_of, list_at};
-ghost use Rattle.route_choice.specs.Naming.{AreNamed};
 ghost use Rattle.three_pass.specs.Progress.{AfterUp};
 ghost use Rattle.three_pass.specs.Spending.{CanGo, HasSpent};
 ghost use Rattle.three_pass.specs.Telling.{HaveTold};

@@ -3,13 +3,11 @@
 ghost use Rattle.std.specs.Prelude.{◌≡◌, ◌≢◌, ℕ, ◌<◌, true, false, length, Option, Some, None, IfOk, All, nat_eq, is_some};
 ghost use Rattle.std.proofs.Props.{props};
 ghost use Rattle.std.specs.List.{IsDistinct};
-ghost use Rattle.net_names.specs.Numbers.{occurs};
-ghost use Rattle.net_names.specs.Links.{converse};
+ghost use Rattle.net_names.specs.Prelude.{occurs, converse};
 ghost use Rattle.net_names.specs.declared.routes.Rel.{Rel as ARel};
 ghost use Rattle.net_names.specs.declared.routes.Rel.TheVariants.{Customer};
-ghost use Rattle.as_graph.specs.Topology.{relation};
-ghost use Rattle.as_graph.specs.Neighbours.{asns};
-ghost use Rattle.route_choice.specs.Tables.{joined};
+ghost use Rattle.as_graph.specs.Prelude.{relation, asns};
+ghost use Rattle.route_choice.specs.Prelude.{joined};
 ghost use Rattle.three_pass.specs.Notes.{befores, tos, IsChained};
 
 use crate::course::{place_at, stands_at};

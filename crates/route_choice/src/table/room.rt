@@ -1,7 +1,7 @@
 //! Tables that are filled with the entries of an overlay.
 
 ghost use Rattle.std.specs.Prelude.{◌≡◌, ◌≤◌, ℕ, [], false, length, IfOk, IsSome, None, unwrap_or};
-ghost use Rattle.net_names.specs.Numbers.{occurs};
+ghost use Rattle.net_names.specs.Prelude.{occurs};
 
 use super::Table;
 use crate::Overlay;
