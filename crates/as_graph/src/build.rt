@@ -1,10 +1,9 @@
 //! The rows and the order of a graph, from its links.
-ghost use Rattle.std.specs.Prelude.{◌≡◌, ◌≢◌, ℕ, ◌+◌, ◌<◌, ◌≤◌, ◌++◌, length, Some, None, is_some, nat_eq, slice_get, IfOk, IfErr, OnOk, OnErr};
+ghost use Rattle.std.specs.Prelude.{◌≡◌, ℕ, ◌+◌, ◌<◌, ◌≤◌, ◌++◌, length, Some, is_some, nat_eq, IfOk, IfErr};
 ghost use Rattle.std.specs.FinMap as map;
 ghost use Rattle.std.specs.List.Sorted.{IsStrictlyIncreasing};
-ghost use Rattle.indexmap.specs.IndexMap.{get, keys, ContainsKey, IsUnique, index_map_len};
-ghost use Rattle.net_names.specs.Prelude.{converse, occurs};
-ghost use Rattle.as_graph.specs.Topology.{as_count, unmarked};
+ghost use Rattle.indexmap.specs.IndexMap.{get, keys, index_map_len};
+ghost use Rattle.net_names.specs.Prelude.{occurs};
 ghost use Rattle.as_graph.specs.Refusals.{IsBuildRefusal};
 ghost use Rattle.as_graph.specs.Rows.{IsRising};
 ghost use Rattle.as_graph.specs.Ends.{ends_at, AreByAs};

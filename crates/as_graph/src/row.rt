@@ -1,5 +1,5 @@
 //! The neighbours of one AS.
-ghost use Rattle.std.specs.Prelude.{◌≡◌, ◌≢◌, ◌<◌, ◌≤◌, ◌+◌, ◌++◌, ◌∷◌, [], ◌||◌, nat_lt, length, Bool, true, false, None, Some, IsOk, IfOk, IfErr, OnOk, OnErr};
+ghost use Rattle.std.specs.Prelude.{◌≡◌, ◌≢◌, ◌<◌, ◌+◌, ◌++◌, ◌∷◌, [], ◌||◌, nat_lt, length, true, false, None, Some, IsOk, IfOk, IfErr, OnOk};
 ghost use Rattle.as_graph.specs.Rows.{IsRising};
 
 use crate::neighbour::Neighbour;

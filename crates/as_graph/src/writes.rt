@@ -1,5 +1,5 @@
 //! Writes of the rows of a graph.
-ghost use Rattle.std.specs.Prelude.{◌≡◌, ◌≢◌, ◌≤◌, ◌&&◌, ℕ, length, Bool, nat_eq, true, false, None, Some, option_map, vec_capacity, IsOk, OnOk};
+ghost use Rattle.std.specs.Prelude.{◌≡◌, ◌≢◌, ◌≤◌, ◌&&◌, ℕ, length, nat_eq, true, None, Some, vec_capacity, IsOk, OnOk};
 ghost use Rattle.std.specs.List.Sorted.{IsStrictlyIncreasing};
 ghost use Rattle.indexmap.specs.IndexMap.{ContainsKey, IsUnique, index_map_len};
 ghost use Rattle.net_names.specs.Prelude.{converse, occurs};

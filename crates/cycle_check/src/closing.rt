@@ -1,5 +1,5 @@
 //! Whether a new provider link closes a cycle.
-ghost use Rattle.std.specs.Prelude.{◌≡◌, ◌≢◌, ◌↔◌, ◌<◌, ◌≤◌, ◌⊎◌, ◌+◌, Bool, true, false, nat_eq, ℕ, ◌++◌, ◌∷◌, length, IfOk, IfSome, IfNone, IsNone, OnOk};
+ghost use Rattle.std.specs.Prelude.{◌≡◌, ◌≢◌, ◌↔◌, ◌<◌, ◌≤◌, ◌⊎◌, ◌+◌, true, false, nat_eq, length, IfOk, IfSome, IfNone, IsNone, OnOk};
 ghost use Rattle.indexmap.specs.IndexMap.{IsUnique};
 ghost use Rattle.as_graph.specs.Prelude.{HasNoProviderCycle};
 ghost use Rattle.cycle_check.specs.Cycles.{IsClosedBy, with_provider, without_pair};

@@ -1,10 +1,9 @@
 //! The ranks of places, or a provider cycle.
-ghost use Rattle.std.specs.Prelude.{◌≡◌, ◌<◌, ℕ, [], length, slice_index, IfOk};
+ghost use Rattle.std.specs.Prelude.{◌≡◌, ◌<◌, length, slice_index, IfOk};
 ghost use Rattle.cycle_check.specs.Rows.{AreRows, count_of, row, relation};
 ghost use Rattle.cycle_check.specs.Counting.{IsCounted};
 ghost use Rattle.cycle_check.specs.Cycles.{IsCycleFromLowest};
 ghost use Rattle.cycle_check.specs.Ways.{AllLeftBelow};
-ghost use Rattle.cycle_check.specs.Stages.{IsStage};
 
 use crate::lowest_first::cycle_from;
 use crate::notifying::{free, give_ranks, tally, zeros};

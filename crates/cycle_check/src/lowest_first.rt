@@ -1,5 +1,5 @@
 //! A provider cycle, listed from its lowest number on.
-ghost use Rattle.std.specs.Prelude.{◌≡◌, ℕ, ◌<◌, ◌≤◌, ◌++◌, nat_lt, true, length, drop, IfOk, OnOk};
+ghost use Rattle.std.specs.Prelude.{◌≡◌, ◌<◌, ◌≤◌, ◌++◌, nat_lt, true, length, drop, IfOk, OnOk};
 ghost use Rattle.std.specs.List.{IsFirstBest};
 ghost use Rattle.net_names.specs.Prelude.{occurs};
 ghost use Rattle.cycle_check.specs.Places.{place_in};

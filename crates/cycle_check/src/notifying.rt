@@ -1,5 +1,5 @@
 //! Each place that has its rank notifies its providers.
-ghost use Rattle.std.specs.Prelude.{◌≡◌, ℕ, ◌+◌, ◌-◌, ◌<◌, ◌≤◌, ◌^◌, [], ◌∷◌, ◌++◌, length, take, replicate, slice_index, slice_set, IfOk, OnOk};
+ghost use Rattle.std.specs.Prelude.{◌≡◌, ℕ, ◌+◌, ◌-◌, ◌<◌, ◌^◌, [], ◌∷◌, ◌++◌, length, take, replicate, slice_index, slice_set, IfOk, OnOk};
 ghost use Rattle.cycle_check.specs.Rows.{AreRows, count_of, row};
 ghost use Rattle.cycle_check.specs.Stages.{times, freed, AreFree, IsStage};
 

@@ -1,5 +1,5 @@
 //! The ranks of a graph's ASes, or a provider cycle.
-ghost use Rattle.std.specs.Prelude.{◌≡◌, ◌↔◌, ℕ, ◌<◌, length, map, IfOk, IfSome, IsNone};
+ghost use Rattle.std.specs.Prelude.{◌≡◌, ◌↔◌, ◌<◌, length, IfOk, IfSome, IsNone};
 ghost use Rattle.as_graph.specs.Prelude.{relation, HasNoProviderCycle};
 ghost use Rattle.cycle_check.specs.Cycles.{IsCycleFromLowest};
 ghost use Rattle.cycle_check.specs.Rankings.{IsRanking, numbers_of, ranks_of};

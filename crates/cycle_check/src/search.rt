@@ -1,5 +1,5 @@
 //! A search up from an AS, or down from it, in the links of a graph but one pair's.
-ghost use Rattle.std.specs.Prelude.{◌≡◌, ◌<◌, ◌≤◌, ◌+◌, ◌++◌, ℕ, Some, Bool, true, false, nat_eq, [], ◌∷◌, length, slice_index_or, IfOk, IfSome, IfNone, OnOk};
+ghost use Rattle.std.specs.Prelude.{◌≡◌, ◌<◌, ◌≤◌, ◌+◌, ℕ, Some, true, false, nat_eq, [], ◌∷◌, length, slice_index_or, IfOk, IfSome, IfNone, OnOk};
 ghost use Rattle.indexmap.specs.IndexMap.{IsUnique};
 ghost use Rattle.net_names.specs.declared.routes.Rel.TheVariants.{Customer};
 

@@ -1,6 +1,5 @@
 //! The way down through the places without a rank.
-ghost use Rattle.std.specs.Prelude.{◌≡◌, ◌⊎◌, ℕ, ◌+◌, ◌<◌, ◌≤◌, ◌^◌, length, slice_index, true, IfOk, [], ◌∷◌, ◌++◌};
-ghost use Rattle.net_names.specs.Prelude.{occurs};
+ghost use Rattle.std.specs.Prelude.{◌≡◌, ℕ, ◌<◌, ◌≤◌, ◌^◌, length, slice_index, IfOk};
 ghost use Rattle.cycle_check.specs.Rows.{AreRows, count_of, row, relation};
 ghost use Rattle.cycle_check.specs.Ways.{IsNoted, AllLeftBelow, AreLeftBelow, LeadsBack};
 

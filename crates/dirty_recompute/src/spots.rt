@@ -63,7 +63,7 @@ fn next_waiting(items: &[Spot], low: usize, high: usize, way: Way) -> Option<usi
 }
 
 impl Spots {
-    ghost use Rattle.std.specs.Prelude.{◌≡◌, ℕ, ◌<◌, length, IfSome, IfNone};
+    ghost use Rattle.std.specs.Prelude.{◌≡◌, ◌<◌, length, IfSome, IfNone};
     ghost use Rattle.dirty_recompute.specs.Spots.{IsSpotOf, IsMarked, IsNextPlace, IsNextTaken, NoneWaits};
 
     /// Where an AS stands, whose row may stand there in the graph.

@@ -1,5 +1,5 @@
 //! Whether a routing is right at one AS.
-ghost use Rattle.std.specs.Prelude.{◌≡◌, ◌↔◌, ◌∷◌, IsTrue, IsOk, ◌<◌, ◌-◌, ◌^◌, ℕ, Some, length, option_map};
+ghost use Rattle.std.specs.Prelude.{◌≡◌, ◌↔◌, IsTrue, IsOk, ◌<◌, ◌-◌, Some, option_map};
 ghost use Rattle.std.specs.FinMap as map;
 ghost use Rattle.as_graph.specs.Prelude.{relation, AreNeighbours};
 ghost use Rattle.stability_laws.specs.Book.{policy_at};

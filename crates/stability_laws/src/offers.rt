@@ -1,5 +1,5 @@
 //! Which offer one AS makes to another.
-ghost use Rattle.std.specs.Prelude.{◌≡◌, ◌<◌, ◌-◌, ◌^◌, ℕ, Some, length, option_map, slice_get};
+ghost use Rattle.std.specs.Prelude.{◌≡◌, ◌<◌, ◌-◌, ◌^◌, Some, length, option_map, slice_get};
 ghost use Rattle.net_names.specs.Prelude.{last_or};
 ghost use Rattle.stability_laws.specs.Entries.{class_of as class_of_rel};
 ghost use Rattle.stability_laws.specs.Offers.{marked, offer_given};

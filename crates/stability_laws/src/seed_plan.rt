@@ -1,5 +1,5 @@
 //! Who announces what, and who leaks in which round.
-ghost use Rattle.std.specs.Prelude.{◌≡◌, ℕ, ◌≤◌, ◌<◌, false, IsTrue, length, slice_get, option_copied, OnOk, OnErr, IsOk, vec_len, vec_capacity};
+ghost use Rattle.std.specs.Prelude.{◌≡◌, ◌≤◌, ◌<◌, false, IsTrue, length, slice_get, option_copied, OnOk, OnErr, IsOk, vec_len, vec_capacity};
 ghost use Rattle.std.specs.FinMap as fin;
 ghost use Rattle.std.specs.FinMap.{IsAntisymmetric};
 ghost use Rattle.std.specs.Ordering.{eq_by_cmp, nat_cmp};

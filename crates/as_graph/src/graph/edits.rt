@@ -1,5 +1,5 @@
 //! Room, links and marks of a graph that is made.
-ghost use Rattle.std.specs.Prelude.{◌≡◌, ◌≢◌, ◌<◌, ◌≤◌, ℕ, true, false, None, Some, if◌then◌else◌, IfErr, OnOk, OnErr};
+ghost use Rattle.std.specs.Prelude.{◌≡◌, ◌≢◌, ◌<◌, ◌≤◌, true, false, None, Some, if◌then◌else◌, IfErr, OnOk, OnErr};
 ghost use Rattle.std.specs.FinMap as map;
 ghost use Rattle.as_graph.specs.declared.error.GraphError.TheVariants.{Memory};
 ghost use Rattle.as_graph.specs.Topology.{relation, has, as_count, with_mark};
