@@ -1,7 +1,7 @@
 -- The stages of the giving of ranks.
-use Rattle.std.proofs.Common.{◌≡◌, ◌≢◌, inl, inr, ℕ, zero, suc, ◌+◌, ◌-◌, ◌<◌, ◌≤◌, true, false, nat_lt, cond, Some, None, List, [], ◌∷◌, ◌++◌, length, get_or, set, take, replicate, refl, sym, ◌∙◌, ap, subst, arith, get_or-set_other}
+use Rattle.std.proofs.Common.{◌≡◌, ◌≢◌, inl, inr, ℕ, zero, suc, ◌+◌, ◌-◌, ◌<◌, ◌≤◌, true, false, nat_lt, cond, Some, None, List, [], ◌∷◌, ◌++◌, length, get_or, set, take, drop, replicate, refl, sym, ◌∙◌, ap, subst, arith, get_or-set_other}
 use Rattle.std.proofs.lemmas.Bool.{cases_Bool, cases_lt, cases_eq, lt-ltb, le-ltb}
-use Rattle.std.proofs.lemmas.List.{length_push, length-take-le, get_or_append_left, get_or_push, take-append-le, get_or_past, length-replicate, get_or-replicate}
+use Rattle.std.proofs.lemmas.List.{length_push, length-take-le, drop_more, get_or_append_left, get_or_push, take-append-le, get_or_past, length-replicate, get_or-replicate}
 use Rattle.std.proofs.lemmas.Grind.{get_or-set_at}
 use Rattle.std.specs.List.Sorted.{IsNonDecreasingBy}
 use Rattle.net_names.specs.Numbers.{occurs, IsDistinct}
@@ -119,7 +119,7 @@ occurs_freed zero order p q o = occurs_before p order q o
 occurs_freed (suc c) order p q o = o
 
 module _ (rows : ℕ → List ℕ) (n : ℕ) (counts ranks order done : List ℕ) (q : ℕ) (rest : List ℕ) (s : IsStage rows n counts ranks order done (q ∷ rest)) (inside : q < n) where
-  pub waits : 0 < get_or counts q 0
+  waits : 0 < get_or counts q 0
   waits = let c = s.counted q inside in let t = times_same q q rest refl in omega (arith, c, t)
 
   not_ended : occurs q order ≡ false
@@ -288,6 +288,10 @@ module _ (rows : ℕ → List ℕ) (n : ℕ) (counts ranks order : List ℕ) (h 
       subst (λ xs. IsNotifying rows new_ranks xs rest b r) (sym same_done_after)
       (subst (λ xs. IsNotifying rows xs (take h order) rest b r) (sym ranks_are)
       (rest_notified rows n counts ranks order (take h order) q rest s inside counted ranked b r t k one_more))
+
+-- of the provider at a place of the list a customer waits
+pub waits_at : (rows : ℕ → List ℕ) (n : ℕ) (counts ranks order done xs : List ℕ) (i : ℕ) → i < length xs → IsStage rows n counts ranks order done (drop i xs) → get_or xs i 0 < n → 0 < get_or counts (get_or xs i 0) 0
+waits_at rows n counts ranks order done xs i inside s less = waits rows n counts ranks order done (get_or xs i 0) (drop (i + 1) xs) (subst (IsStage rows n counts ranks order done) (drop_more xs i 0 inside) s) less
 
 -- ---- the last stage
 

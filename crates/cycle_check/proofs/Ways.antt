@@ -1,7 +1,7 @@
 -- The way down.
 use Rattle.std.proofs.Common.{◌≡◌, ◌≢◌, inl, inr, ℕ, ◌+◌, ◌<◌, ◌≤◌, true, false, cond, Option, Some, None, List, [], ◌∷◌, ◌++◌, length, get_or, set, length-set, get_or-set_other, refl, sym, ◌∙◌, ap, subst, arith}
 use Rattle.std.proofs.lemmas.Bool.{cases_eq, cases_Bool}
-use Rattle.std.proofs.lemmas.List.{length_push}
+use Rattle.std.proofs.lemmas.List.{get_or_read, length_push}
 use Rattle.std.proofs.lemmas.Grind.{get_or-set_at}
 use Rattle.net_names.specs.Numbers.{occurs, IsDistinct}
 use Rattle.net_names.specs.declared.routes.Rel.{Rel}
@@ -37,10 +37,14 @@ module _ (rows : ℕ → List ℕ) (n : ℕ) (counts : List ℕ) (customer p : �
   ]
 
 module _ (rows : ℕ → List ℕ) (counts seen way : List ℕ) (at : ℕ) (w : IsWay (relation_by rows) counts seen way at) where
+  -- what is read of the place says whether it was met
+  seen_at : (v : ℕ) → v ≡ get_or seen at v → v ≡ get_or seen at 0
+  seen_at v read = get_or_read seen at v (omega (arith, w.inside, w.room)) read 0
+
   -- the way comes back to a place on it
-  pub leads_back : (get_or seen at 0 ≢ 0) → LeadsBack (relation_by rows) way at
-  leads_back some =
-      let there : occurs at way ≡ true = w.met at (elim (cases_pos (get_or seen at 0)) [ inl e ↦ absurd (some e) | inr more ↦ more ]) in
+  pub leads_back : (v : ℕ) → v ≡ get_or seen at v → v ≢ 0 → LeadsBack (relation_by rows) way at
+  leads_back v read some =
+      let there : occurs at way ≡ true = w.met at (elim (cases_pos (get_or seen at 0)) [ inl e ↦ absurd (some (seen_at v read ∙ e)) | inr more ↦ more ]) in
       record {
         descends = w.descends;
         distinct = w.distinct;
@@ -51,9 +55,9 @@ module _ (rows : ℕ → List ℕ) (counts seen way : List ℕ) (at : ℕ) (w : 
         ];
       }
 
-  module _ (below : List ℕ) (downs : AreLeftBelow rows (length counts) counts below) (unseen : get_or seen at 0 ≡ 0) where
+  module _ (below : List ℕ) (downs : AreLeftBelow rows (length counts) counts below) (v : ℕ) (read : v ≡ get_or seen at v) (unseen : v ≡ 0) where
     away : occurs at way ≡ false
-    away = w.unmet at w.inside unseen
+    away = w.unmet at w.inside (sym (seen_at v read) ∙ unseen)
 
     distinct_more : IsDistinct (way ++ at ∷ [])
     distinct_more = distinct_push way at w.distinct away

@@ -22,5 +22,5 @@ pub record ArePlaceRanks (starts items ranks order : List ℕ) : Type 0 where
 
 -- the ranks where there is no provider cycle, and else such a cycle (Gao and Rexford 2001, the hierarchy assumption)
 abbrev pub IsCounted : List ℕ → List ℕ → Counted → Type 0
-IsCounted starts items (Ranks r) = ArePlaceRanks starts items r.ranks.items r.order.items
+IsCounted starts items (Ranks ranks order) = ArePlaceRanks starts items ranks.items order.items
 IsCounted starts items (Cycle cycle) = IsCycleFromLowest (relation starts items) cycle.items

@@ -11,20 +11,11 @@ use crate::way::{first_left, way_back};
 use net_names::NoMemory;
 use std::alloc::Global;
 
-/// Ranks by place.
-#[derive(Drop)]
-pub struct PlaceRanks {
-    /// The rank of each place.
-    pub ranks: Vec<u32>,
-    /// The places by rising rank.
-    pub order: Vec<u32>,
-}
-
 /// What counting finds.
 #[derive(Drop)]
 pub enum Counted {
-    /// There is no provider cycle.
-    Ranks(PlaceRanks),
+    /// There is no provider cycle: the rank of each place, and the places by rising rank.
+    Ranks { ranks: Vec<u32>, order: Vec<u32> },
     /// A provider cycle, from its lowest place on.
     Cycle(Vec<u32>),
 }
@@ -67,5 +58,5 @@ pub fn count_ranks(alloc: Global, starts: &[u32], items: &[u32]) -> Result<Count
     if left < count {
         return Ok(Counted::Cycle(cycle_below(alloc, starts, items, &counts, left)?));
     }
-    Ok(Counted::Ranks(PlaceRanks { ranks, order }))
+    Ok(Counted::Ranks { ranks, order })
 }

@@ -65,9 +65,9 @@ pub fn rank_ases(alloc: Global, graph: &Graph) -> Result<Ranking, NoMemory>
     let _count = graph.as_count();
     let rows = provider_rows(alloc, graph, ases)?;
     match count_ranks(alloc, &rows.starts, &rows.items)? {
-        Counted::Ranks(found) => Ok(Ranking::Ranks(Ranked {
-            ases: with_ranks(alloc, ases, &found.ranks)?,
-            order: found.order,
+        Counted::Ranks { ranks, order } => Ok(Ranking::Ranks(Ranked {
+            ases: with_ranks(alloc, ases, &ranks)?,
+            order,
         })),
         Counted::Cycle(places) => Ok(Ranking::Cycle(cycle_at(alloc, ases, &places)?)),
     }

@@ -3,7 +3,7 @@ use Rattle.std.proofs.lemmas.List.{get_or_read, drop_more, drop_all, length-take
 use Rattle.cycle_check.specs.Rows.{row, count_of}
 use Rattle.cycle_check.specs.Stages.{IsStage, IsNotifying}
 use Rattle.cycle_check.proofs.Regions.{item_within}
-use Rattle.cycle_check.proofs.Stages.{order_few, head_inside, begun_stage, begun_notifying, waits, next_within, next_stage, next_notifying}
+use Rattle.cycle_check.proofs.Stages.{order_few, head_inside, begun_stage, begun_notifying, waits_at, next_within, next_stage, next_notifying}
 use Rattle.cycle_check.proofs.notifying.notify_all.Goals as goal
 
 pub bounds-ranks-place : goal.bounds-ranks-place
@@ -56,17 +56,11 @@ notify-requires-clause-ranked c =
 
 pub notify-requires-clause-waits : goal.notify-requires-clause-waits
 notify-requires-clause-waits c =
-    let rows = row c.args.starts.now c.args.items.now in
-    let n = count_of c.args.starts.now in
-    let counts = c.loop-provider.counts in
-    let ranks = c.loop-provider.ranks in
-    let order = c.loop-provider.order.items in
     let xs = c.row-provider-items.result.now in
     let i = c.loop-provider.provider-index in
-    let done = take (c.args.head + 1) order in
+    let done = take (c.args.head + 1) c.loop-provider.order.items in
     let less = item_within c.args.starts.now c.args.items.now c.requires.rows xs c.index.result.now i c.row-provider-items.ensures c.loop-provider-test.true in
-    let stage = subst (λ v. IsStage rows n counts ranks order done v) (drop_more xs i 0 c.loop-provider-test.true) c.loop-provider.invariant.stage in
-    waits rows n counts ranks order done (get_or xs i 0) (drop (i + 1) xs) stage less
+    waits_at (row c.args.starts.now c.args.items.now) (count_of c.args.starts.now) c.loop-provider.counts c.loop-provider.ranks c.loop-provider.order.items done xs i c.loop-provider-test.true c.loop-provider.invariant.stage less
 
 pub loop-provider-preserved : goal.loop-provider-preserved
 loop-provider-preserved c =
