@@ -64,7 +64,8 @@ pub fn rank_ases(alloc: Global, graph: &Graph) -> Result<Ranking, NoMemory>
     // `as_count` is called for its clause that the ASes are few.
     let _count = graph.as_count();
     let rows = provider_rows(alloc, graph, ases)?;
-    match count_ranks(alloc, &rows.starts, &rows.items)? {
+    let found = count_ranks(alloc, &rows.starts, &rows.items)?;
+    match found {
         Counted::Ranks { ranks, order } => Ok(Ranking::Ranks(Ranked {
             ases: with_ranks(alloc, ases, &ranks)?,
             order,
