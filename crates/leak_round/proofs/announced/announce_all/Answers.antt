@@ -19,16 +19,14 @@ prefixes-preserved c =
     let plan = c.args.plan.now in
     let i = c.prefixes.prefix-index in
     let x = c.prefix-item.result in
-    let items : List PrefixValue = c.prefixes-prefix-items.result.now in
-    let at : slice_get (prefixes_of plan) i ≡ Some x = subst (λ (ys : List PrefixValue). slice_get ys i ≡ Some x) c.prefixes-prefix-items.ensures (slice_get_read items (length items) i x refl c.prefixes-test.true c.prefix-item.is) in
-    let old = c.prefixes.invariant in
+    let at : slice_get (prefixes_of plan) i ≡ Some x = subst (λ (ys : List PrefixValue). slice_get ys i ≡ Some x) c.prefixes-prefix-items.ensures (slice_get_read c.prefixes-prefix-items.result.now (length c.prefixes-prefix-items.result.now) i x refl c.prefixes-test.true c.prefix-item.is) in
     let now = c.in_ok-announce_prefix.ensures in
     record {
       so_far = now.more.so_far;
-      put = at_next (prefixes_of plan) i x (λ q. (a : ℕ) → HasAnnounced plan c.announce_prefix.new.announced.items q a) at now.whole (λ j q less is a h. now.more.kept q a (old.put j q less is a h));
-      few = omega (arith, sum_next (λ (q : PrefixValue). sum_by (announced_count plan q) (announcers_of plan)) (prefixes_of plan) i x at, now.few, old.few);
-      cells = omega (arith, sum_next (λ (q : PrefixValue). sum_by (announced_length plan q) (announcers_of plan)) (prefixes_of plan) i x at, now.cells, old.cells);
-      limit = now.limit ∙ old.limit;
+      put = at_next (prefixes_of plan) i x (λ q. (a : ℕ) → HasAnnounced plan c.announce_prefix.new.announced.items q a) at now.whole (λ j q less is a h. now.more.kept q a (c.prefixes.invariant.put j q less is a h));
+      few = omega (arith, sum_next (λ (q : PrefixValue). sum_by (announced_count plan q) (announcers_of plan)) (prefixes_of plan) i x at, now.few, c.prefixes.invariant.few);
+      cells = omega (arith, sum_next (λ (q : PrefixValue). sum_by (announced_length plan q) (announcers_of plan)) (prefixes_of plan) i x at, now.cells, c.prefixes.invariant.cells);
+      limit = now.limit ∙ c.prefixes.invariant.limit;
     }
 
 pub returns-clause-whole : goal.returns-clause-whole
