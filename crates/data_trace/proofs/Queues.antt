@@ -14,6 +14,7 @@ use Rattle.data_trace.specs.declared.places.Mark.{Mark}
 use Rattle.data_trace.specs.declared.places.Mark.TheVariants.{Unknown, Walked, Known}
 use Rattle.data_trace.specs.Traces.{IsIn}
 use Rattle.data_trace.specs.Marks.{mark_of, is_unknown, is_known}
+use Rattle.data_trace.specs.Lists.{link_at, AreBelow}
 use Rattle.data_trace.specs.Spreads.{IsFront, HasSpread, Forgets}
 use Rattle.data_trace.proofs.Walking.{mark_same, mark_other, in_push, last_in}
 
@@ -150,13 +151,40 @@ spread_step first after marks queue roots done y marks' queue' marks'' queue'' l
   afters k z r e (inl d) m = h.now z (is (omega (arith, r, d)) ∙ ap (λ t. after (get_or queue t 0)) (sym d) ∙ e)
   afters k z r e (inr d) m = h.stays z (g.stays z (s.afters k z (omega (arith, d, m)) r e))
 
-pub some_below : (o : Option ℕ) (n : ℕ) → ((b : ℕ) → o ≡ Some b → b < n) → IfSome o (λ a. a < n)
+some_below : (o : Option ℕ) (n : ℕ) → ((b : ℕ) → o ≡ Some b → b < n) → IfSome o (λ a. a < n)
 some_below None n h = tt
 some_below (Some b) n h = h b refl
 
-pub behind_some : (r : Bool) (x o : Option ℕ) (b : ℕ) → x ≡ cond r None o → x ≡ Some b → o ≡ Some b
+-- the first place of a list is a place
+pub first_below : (first : List (Option ℕ)) (at n m : ℕ) → AreBelow first n → m ≡ n → IfSome (link_at first at) (λ a. a < m)
+first_below first at n m below e = some_below (link_at first at) m (λ b q. omega (arith, below at b q, e))
+
+behind_some : (r : Bool) (x o : Option ℕ) (b : ℕ) → x ≡ cond r None o → x ≡ Some b → o ≡ Some b
 behind_some true x o b e f = let q : None ≡ Some b = sym e ∙ f in cc
 behind_some false x o b e f = sym e ∙ f
+
+forgets_len : (x : Option ℕ) (marks : List Mark) (queue : List ℕ) (marks' : List Mark) (queue' : List ℕ) → Forgets x marks queue marks' queue' → length marks' ≡ length marks
+forgets_len None marks queue marks' queue' f = ap length f.0
+forgets_len (Some x) marks queue marks' queue' f = ap length f.0 ∙ length-set marks x Unknown
+
+-- what a place of the queue brings: the first place of its list, and then the place behind it
+pub record Brings (x y : Option ℕ) (marks : List Mark) (queue : List ℕ) (marks' : List Mark) (queue' : List ℕ) (marks'' : List Mark) (queue'' : List ℕ) : Type 0 where
+  pub first : Grows x marks queue marks' queue'
+  pub behind : Grows y marks' queue' marks'' queue''
+  pub front : (old : List Mark) → IsFront old marks queue → IsFront old marks'' queue''
+
+pub brings : (first after : List (Option ℕ)) (at n : ℕ) (root : Bool) (y : Option ℕ) (marks : List Mark) (queue : List ℕ) (marks' : List Mark) (queue' : List ℕ) (marks'' : List Mark) (queue'' : List ℕ) →
+    AreBelow first n → AreBelow after n → length marks ≡ n → y ≡ cond root None (link_at after at) → Forgets (link_at first at) marks queue marks' queue' → Forgets y marks' queue' marks'' queue'' →
+    Brings (link_at first at) y marks queue marks' queue' marks'' queue''
+brings first after at n root y marks queue marks' queue' marks'' queue'' firsts afters len is f g =
+    let x_below : IfSome (link_at first at) (λ a. a < length marks) = first_below first at n (length marks) firsts len in
+    let same : length marks' ≡ length marks = forgets_len (link_at first at) marks queue marks' queue' f in
+    let y_below : IfSome y (λ a. a < length marks') = some_below y (length marks') (λ b e. omega (arith, afters at b (behind_some root y (link_at after at) b is e), same, len)) in
+    record {
+      first = grows (link_at first at) marks queue marks' queue' x_below f;
+      behind = grows y marks' queue' marks'' queue'' y_below g;
+      front = λ old w. front_forgets old y marks' queue' marks'' queue'' (front_forgets old (link_at first at) marks queue marks' queue' w x_below f) y_below g;
+    }
 
 pub behind_is : (r : Bool) (x o : Option ℕ) → x ≡ cond r None o → r ≡ false → x ≡ o
 behind_is r x o e f = e ∙ ap (λ b. cond b None o) f

@@ -1,5 +1,5 @@
 //! Marks and groups of places, with the sums that count them.
-ghost use Rattle.std.specs.Prelude.{◌≡◌, ℕ, ◌+◌, ◌<◌, ◌≤◌, Bool, true, length, slice_set, Option, IfOk};
+ghost use Rattle.std.specs.Prelude.{◌≡◌, ℕ, ◌+◌, ◌<◌, ◌≤◌, Bool, true, length, slice_set, if◌then◌else◌, Option, IfOk, IfSome, IfNone};
 ghost use Rattle.data_trace.specs.declared.places.TheConstants.{PLACE_LIMIT};
 ghost use Rattle.data_trace.specs.declared.kinds.End.{End as AnEnd};
 ghost use Rattle.data_trace.specs.declared.places.PlaceEnd.TheVariants as APlaceEnd;
@@ -30,6 +30,21 @@ pub fn end_told(ases: &[Asn], mark: Mark) -> Option<End>
     }
 }
 
+// The end under which an AS with this end and these groups is counted, and whether it is counted as one
+// without customers; `None` if it is not counted.
+fn counted(end: Option<End>, group: Group) -> Option<(End, bool)>
+    ensures some { IfSome result (λ k. (p : AnEnd → Bool → ℕ → Bool) →
+        adds p end group ≡ (if p k.0 k.1 group.label then 1 else 0)) }
+    ensures none { IfNone result ((p : AnEnd → Bool → ℕ → Bool) → adds p end group ≡ 0) }
+{
+    let end = end?;
+    match group.standing {
+        Standing::Gone => None,
+        Standing::Stub => Some((end, true)),
+        Standing::Transit => Some((end, false)),
+    }
+}
+
 // Counts an AS with this end and these groups.
 fn join(sums: &mut Sums, end: Option<End>, group: Group)
     requires room { total (λ e s l. true) sums.old + adds (λ e s l. true) end group ≤ room_of sums.old }
@@ -37,13 +52,8 @@ fn join(sums: &mut Sums, end: Option<End>, group: Group)
     ensures added { (p : AnEnd → Bool → ℕ → Bool) → total p sums.new ≡ total p sums.old + adds p end group }
     ensures room { room_of sums.old ≤ room_of sums.new }
 {
-    let Some(end) = end else {
-        return;
-    };
-    match group.standing {
-        Standing::Gone => {}
-        Standing::Stub => sums.add(end, true, group.label),
-        Standing::Transit => sums.add(end, false, group.label),
+    if let Some((end, stub)) = counted(end, group) {
+        sums.add(end, stub, group.label);
     }
 }
 
@@ -53,13 +63,8 @@ fn leave(sums: &mut Sums, end: Option<End>, group: Group)
     ensures taken { (p : AnEnd → Bool → ℕ → Bool) → total p sums.new + adds p end group ≡ total p sums.old }
     ensures room { room_of sums.old ≤ room_of sums.new }
 {
-    let Some(end) = end else {
-        return;
-    };
-    match group.standing {
-        Standing::Gone => {}
-        Standing::Stub => sums.take(end, true, group.label),
-        Standing::Transit => sums.take(end, false, group.label),
+    if let Some((end, stub)) = counted(end, group) {
+        sums.take(end, stub, group.label);
     }
 }
 

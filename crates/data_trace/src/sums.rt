@@ -51,20 +51,7 @@ fn in_group(which: Which, stub: bool, label: u8) -> bool
 fn same_end(a: &End, b: &End) -> bool
     ensures { result ≡ is_end a.now b.now }
 {
-    match a {
-        End::At(x) => match b {
-            End::At(y) => *x == *y,
-            _ => false,
-        },
-        End::NoRoute => match b {
-            End::NoRoute => true,
-            _ => false,
-        },
-        End::Loop => match b {
-            End::Loop => true,
-            _ => false,
-        },
-    }
+    *a == *b
 }
 
 // Whether two flags are the same.

@@ -6,19 +6,15 @@ use Rattle.data_trace.proofs.Summing.{all}
 use Rattle.data_trace.proofs.Changes.{summed-le, adds-le}
 use Rattle.data_trace.proofs.counting.count_all.Goals as goal
 
-pub join-requires-clause-room : goal.join-requires-clause-room
-join-requires-clause-room c =
+pub join-requires : goal.join-requires
+join-requires c =
     let i : ℕ = c.places.place in
     let one : adds all c.end_told-end.result (group_at c.args.groups.now i) ≤ 1 = adds-le all c.end_told-end.result (group_at c.args.groups.now i) in
     let so_far = summed-le (adds_at all c.args.ases.now c.args.marks.now c.args.groups.now) i (λ x. adds-le all (kept_end c.args.ases.now (mark_of c.args.marks.now x)) (group_at c.args.groups.now x)) in
-    omega (arith, one, so_far, c.places.invariant.counted all, c.places-test.true, c.requires.room, c.places.invariant.room)
-
-pub join-requires-clause-few : goal.join-requires-clause-few
-join-requires-clause-few c =
-    let i : ℕ = c.places.place in
-    let one : adds all c.end_told-end.result (group_at c.args.groups.now i) ≤ 1 = adds-le all c.end_told-end.result (group_at c.args.groups.now i) in
-    let so_far = summed-le (adds_at all c.args.ases.now c.args.marks.now c.args.groups.now) i (λ x. adds-le all (kept_end c.args.ases.now (mark_of c.args.marks.now x)) (group_at c.args.groups.now x)) in
-    omega (arith, one, so_far, c.places.invariant.counted all, c.places-test.true, c.requires.few)
+    record {
+      room = omega (arith, one, so_far, c.places.invariant.counted all, c.places-test.true, c.requires.room, c.places.invariant.room);
+      few = omega (arith, one, so_far, c.places.invariant.counted all, c.places-test.true, c.requires.few);
+    }
 
 pub places-preserved : goal.places-preserved
 places-preserved c =

@@ -12,21 +12,17 @@ use Rattle.data_trace.proofs.counting.put_group.Goals as goal
 pub leave-requires : goal.leave-requires
 leave-requires c = λ p. omega (arith, ap (λ o. adds p o (group_at c.args.groups.now c.args.place)) (c.end_told-end.ensures ∙ ap (kept_end c.args.ases.now) c.mark_in.ensures), counted-le c.args.sums.now c.args.ases.now c.args.marks.now c.args.groups.now c.args.place c.requires.inside c.requires.sums.counted p)
 
-pub join-requires-clause-room : goal.join-requires-clause-room
-join-requires-clause-room c =
+pub join-requires : goal.join-requires
+join-requires c =
     let old : total all c.leave.new.sums + adds all (kept_end c.args.ases.now (mark_of c.args.marks.now c.args.place)) (group_at c.args.groups.now c.args.place) ≡ total all c.args.sums.now =
     ap (λ o. total all c.leave.new.sums + adds all o (group_at c.args.groups.now c.args.place)) (sym (c.end_told-end.ensures ∙ ap (kept_end c.args.ases.now) c.mark_in.ensures)) ∙ c.leave.ensures.taken all in
     let f = group_fits c.args.sums.now c.args.ases.now c.args.marks.now c.args.groups.now c.args.place c.requires.inside c.requires.sums.counted c.args.group (total all c.leave.new.sums) old in
     let here : group_at (slice_set c.args.groups.now c.args.place c.args.group) c.args.place ≡ c.args.group = get_or-set_same c.args.groups.now c.args.place c.args.group gone (omega (arith, c.requires.inside, c.requires.sums.counted.groups_len)) in
-    omega (arith, f, ap (λ o. adds all o (group_at (slice_set c.args.groups.now c.args.place c.args.group) c.args.place)) (c.end_told-end-2.ensures ∙ ap (kept_end c.args.ases.now) c.mark_in-2.ensures), ap (λ (g : Group). adds all (kept_end c.args.ases.now (mark_of c.args.marks.now c.args.place)) g) here, c.requires.sums.room, c.leave.ensures.room)
-
-pub join-requires-clause-few : goal.join-requires-clause-few
-join-requires-clause-few c =
-    let old : total all c.leave.new.sums + adds all (kept_end c.args.ases.now (mark_of c.args.marks.now c.args.place)) (group_at c.args.groups.now c.args.place) ≡ total all c.args.sums.now =
-    ap (λ o. total all c.leave.new.sums + adds all o (group_at c.args.groups.now c.args.place)) (sym (c.end_told-end.ensures ∙ ap (kept_end c.args.ases.now) c.mark_in.ensures)) ∙ c.leave.ensures.taken all in
-    let f = group_fits c.args.sums.now c.args.ases.now c.args.marks.now c.args.groups.now c.args.place c.requires.inside c.requires.sums.counted c.args.group (total all c.leave.new.sums) old in
-    let here : group_at (slice_set c.args.groups.now c.args.place c.args.group) c.args.place ≡ c.args.group = get_or-set_same c.args.groups.now c.args.place c.args.group gone (omega (arith, c.requires.inside, c.requires.sums.counted.groups_len)) in
-    omega (arith, f, ap (λ o. adds all o (group_at (slice_set c.args.groups.now c.args.place c.args.group) c.args.place)) (c.end_told-end-2.ensures ∙ ap (kept_end c.args.ases.now) c.mark_in-2.ensures), ap (λ (g : Group). adds all (kept_end c.args.ases.now (mark_of c.args.marks.now c.args.place)) g) here, c.requires.sums.few)
+    let told = ap (λ o. adds all o (group_at (slice_set c.args.groups.now c.args.place c.args.group) c.args.place)) (c.end_told-end-2.ensures ∙ ap (kept_end c.args.ases.now) c.mark_in-2.ensures) ∙ ap (λ (g : Group). adds all (kept_end c.args.ases.now (mark_of c.args.marks.now c.args.place)) g) here in
+    record {
+      room = omega (arith, f, told, c.requires.sums.room, c.leave.ensures.room);
+      few = omega (arith, f, told, c.requires.sums.few);
+    }
 
 pub returns-clause-counted : goal.returns-clause-counted
 returns-clause-counted c =

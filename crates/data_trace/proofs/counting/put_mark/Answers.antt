@@ -14,19 +14,16 @@ write_mark-requires-clause-fits c = λ y e. omega (arith, c.requires.below y e, 
 pub leave-requires : goal.leave-requires
 leave-requires c = λ p. omega (arith, ap (λ o. adds p o (group_at c.args.groups.now c.args.place)) (c.end_told.ensures ∙ ap (kept_end c.args.ases.now) c.mark_in.ensures), counted-le c.args.sums.now c.args.ases.now c.args.marks.now c.args.groups.now c.args.place c.requires.inside c.requires.sums.counted p)
 
-pub join-requires-clause-room : goal.join-requires-clause-room
-join-requires-clause-room c =
+pub join-requires : goal.join-requires
+join-requires c =
     let old : total all c.leave.new.sums + adds all (kept_end c.args.ases.now (mark_of c.args.marks.now c.args.place)) (group_at c.args.groups.now c.args.place) ≡ total all c.args.sums.now =
     ap (λ o. total all c.leave.new.sums + adds all o (group_at c.args.groups.now c.args.place)) (sym (c.end_told.ensures ∙ ap (kept_end c.args.ases.now) c.mark_in.ensures)) ∙ c.leave.ensures.taken all in
     let f = fits c.args.sums.now c.args.ases.now c.args.marks.now c.args.groups.now c.args.place c.requires.inside c.requires.sums.counted c.args.mark c.requires.below (total all c.leave.new.sums) old in
-    omega (arith, f, ap (λ o. adds all o (group_at c.args.groups.now c.args.place)) c.end_told-2.ensures, c.requires.sums.room, c.leave.ensures.room)
-
-pub join-requires-clause-few : goal.join-requires-clause-few
-join-requires-clause-few c =
-    let old : total all c.leave.new.sums + adds all (kept_end c.args.ases.now (mark_of c.args.marks.now c.args.place)) (group_at c.args.groups.now c.args.place) ≡ total all c.args.sums.now =
-    ap (λ o. total all c.leave.new.sums + adds all o (group_at c.args.groups.now c.args.place)) (sym (c.end_told.ensures ∙ ap (kept_end c.args.ases.now) c.mark_in.ensures)) ∙ c.leave.ensures.taken all in
-    let f = fits c.args.sums.now c.args.ases.now c.args.marks.now c.args.groups.now c.args.place c.requires.inside c.requires.sums.counted c.args.mark c.requires.below (total all c.leave.new.sums) old in
-    omega (arith, f, ap (λ o. adds all o (group_at c.args.groups.now c.args.place)) c.end_told-2.ensures, c.requires.sums.few)
+    let told = ap (λ o. adds all o (group_at c.args.groups.now c.args.place)) c.end_told-2.ensures in
+    record {
+      room = omega (arith, f, told, c.requires.sums.room, c.leave.ensures.room);
+      few = omega (arith, f, told, c.requires.sums.few);
+    }
 
 pub returns-clause-counted : goal.returns-clause-counted
 returns-clause-counted c =
