@@ -1,6 +1,6 @@
 //! The best entry of an AS, and the next hop by it.
 ghost use Rattle.std.specs.Prelude.{◌≡◌, false, slice_get, IfSome};
-ghost use Rattle.net_names.specs.Prefixes.{PrefixValue};
+ghost use Rattle.net_names.specs.Prelude.{PrefixValue};
 ghost use Rattle.path_pool.specs.Pool.{IsLive, list_of};
 
 use crate::Hop;
@@ -65,7 +65,7 @@ impl Best {
     }
 }
 
-ghost use Rattle.stability_laws.specs.Plans.{announces};
+ghost use Rattle.stability_laws.specs.Prelude.{announces};
 ghost use Rattle.std.specs.Option.{option_map_or};
 
 // Whether the AS announces the prefix. The plan is not searched where it announces none.

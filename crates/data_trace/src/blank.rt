@@ -1,5 +1,5 @@
 //! Columns before any end is sought.
-ghost use Rattle.std.specs.Prelude.{◌≡◌, length, IfOk};
+ghost use Rattle.std.specs.Prelude.{IfOk};
 ghost use Rattle.data_trace.specs.Blank.{IsBlank};
 
 use crate::packed::PackedMark;

@@ -2,10 +2,10 @@
 ghost use Rattle.std.specs.Prelude.{◌≡◌, ℕ, ◌<◌, ◌≤◌, true, not, length, IfOk, nat_eq};
 ghost use Rattle.data_trace.specs.declared.places.TheConstants.{PLACE_LIMIT};
 ghost use Rattle.std.specs.List.{list_any, IsDistinct};
-ghost use Rattle.net_names.specs.Numbers.{occurs};
-ghost use Rattle.as_graph.specs.Topology.{has};
-ghost use Rattle.route_choice.specs.RoundTables.{round_routing, AreAllLive};
-ghost use Rattle.stability_laws.specs.Book.{policy_at};
+ghost use Rattle.net_names.specs.Prelude.{occurs};
+ghost use Rattle.as_graph.specs.Prelude.{has};
+ghost use Rattle.route_choice.specs.Prelude.{round_routing, AreAllLive};
+ghost use Rattle.stability_laws.specs.Prelude.{policy_at};
 ghost use Rattle.data_trace.specs.Hops.{next_hop as next_hop_of};
 ghost use Rattle.data_trace.specs.NextHops.{hops_by};
 ghost use Rattle.data_trace.specs.Columns.{named, name_at, is_customer, is_here as is_here_standing, is_stub as is_stub_standing, AreHops, AreGroups, IsGroup, IsAmong};

@@ -1,5 +1,5 @@
 //! Marks and groups of places, with the sums that count them.
-ghost use Rattle.std.specs.Prelude.{◌≡◌, ℕ, ◌+◌, ◌<◌, ◌≤◌, Bool, true, length, slice_set, if◌then◌else◌, Option, IfOk, IfSome, IfNone};
+ghost use Rattle.std.specs.Prelude.{◌≡◌, ℕ, ◌+◌, ◌<◌, ◌≤◌, Bool, true, length, slice_set, if◌then◌else◌, Option, IfSome, IfNone};
 ghost use Rattle.data_trace.specs.declared.places.TheConstants.{PLACE_LIMIT};
 ghost use Rattle.data_trace.specs.declared.kinds.End.{End as AnEnd};
 ghost use Rattle.data_trace.specs.declared.places.PlaceEnd.TheVariants as APlaceEnd;

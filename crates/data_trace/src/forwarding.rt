@@ -1,8 +1,7 @@
 //! The next hops of one round and one address.
 ghost use Rattle.std.specs.Prelude.{◌≡◌, ℕ, OnOk, IfOk, length, option_and_then, option_copied};
-ghost use Rattle.route_choice.specs.RoundTables.{AreAllLive};
+ghost use Rattle.route_choice.specs.Prelude.{AreAllLive, held_at};
 ghost use Rattle.data_trace.specs.Best.{better_of, best_in, holding};
-ghost use Rattle.route_choice.specs.Tables.{held_at};
 ghost use Rattle.data_trace.specs.Candidates.{best_among};
 ghost use Rattle.data_trace.specs.Announcers.{AreAnnouncers};
 

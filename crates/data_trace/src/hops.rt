@@ -1,6 +1,6 @@
 //! Where an AS sends a packet.
 ghost use Rattle.std.specs.Prelude.{◌≡◌};
-ghost use Rattle.route_choice.specs.RoundTables.{round_routing, AreAllLive};
+ghost use Rattle.route_choice.specs.Prelude.{round_routing, AreAllLive};
 ghost use Rattle.data_trace.specs.Hops.{next_hop as next_hop_of};
 ghost use Rattle.data_trace.specs.Best.{held_in, best_in, holding};
 

@@ -1,6 +1,6 @@
 //! What the watches of one graph and one book begin with.
 ghost use Rattle.std.specs.Prelude.{◌≡◌, ℕ, ◌<◌, ◌≤◌, true, length, IfOk};
-ghost use Rattle.stability_laws.specs.Book.{policy_at};
+ghost use Rattle.stability_laws.specs.Prelude.{policy_at};
 ghost use Rattle.data_trace.specs.Columns.{here_at};
 ghost use Rattle.as_graph.specs.declared.build.TheConstants.{MOST_ASES};
 

@@ -1,7 +1,7 @@
 //! Places whose next hops change, and that leave the lists of the places that they send to.
 ghost use Rattle.std.specs.Prelude.{◌≡◌, ℕ, ◌<◌, [], ◌∷◌, ◌++◌, List, length, nat_eq, true, false};
 ghost use Rattle.std.specs.List.{list_any};
-ghost use Rattle.net_names.specs.Numbers.{occurs};
+ghost use Rattle.net_names.specs.Prelude.{occurs};
 ghost use Rattle.data_trace.specs.Marks.{IsWithin};
 ghost use Rattle.data_trace.specs.Lists.{link_at, AreBelow, Unlinks, HasLists};
 ghost use Rattle.data_trace.specs.Columns.{name_at};

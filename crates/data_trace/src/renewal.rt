@@ -1,8 +1,8 @@
 //! New next hops, and the ends that they change.
 ghost use Rattle.std.specs.Prelude.{◌≡◌, ℕ, ◌<◌, ◌≤◌, true, false, length, vec_capacity};
-ghost use Rattle.net_names.specs.Numbers.{occurs};
-ghost use Rattle.as_graph.specs.Topology.{has};
-ghost use Rattle.stability_laws.specs.Book.{policy_at};
+ghost use Rattle.net_names.specs.Prelude.{occurs};
+ghost use Rattle.as_graph.specs.Prelude.{has};
+ghost use Rattle.stability_laws.specs.Prelude.{policy_at};
 ghost use Rattle.data_trace.specs.Marks.{next_of, hop_at, IsWithin, AreEnds};
 ghost use Rattle.data_trace.specs.Keeping.{HasRoom, AreKept};
 ghost use Rattle.data_trace.specs.Sums.{room_of};

@@ -1,9 +1,9 @@
 //! The next hops of the ASes of a graph, as places.
 ghost use Rattle.std.specs.Prelude.{◌≡◌, ℕ, ◌<◌, true, length};
 ghost use Rattle.data_trace.specs.declared.places.TheConstants.{PLACE_LIMIT};
-ghost use Rattle.net_names.specs.Numbers.{occurs};
-ghost use Rattle.as_graph.specs.Topology.{has};
-ghost use Rattle.route_choice.specs.RoundTables.{round_routing, AreAllLive};
+ghost use Rattle.net_names.specs.Prelude.{occurs};
+ghost use Rattle.as_graph.specs.Prelude.{has};
+ghost use Rattle.route_choice.specs.Prelude.{round_routing, AreAllLive};
 ghost use Rattle.data_trace.specs.declared.places.PlaceHop.TheVariants as APlaceHop;
 ghost use Rattle.data_trace.specs.Watches.{StaysInside};
 ghost use Rattle.data_trace.specs.Columns.{named};

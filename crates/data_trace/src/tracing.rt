@@ -1,6 +1,6 @@
 //! The trace of a packet.
-ghost use Rattle.std.specs.Prelude.{◌≡◌, [], IfOk, ◌∷◌};
-ghost use Rattle.route_choice.specs.RoundTables.{round_routing, AreAllLive};
+ghost use Rattle.std.specs.Prelude.{IfOk};
+ghost use Rattle.route_choice.specs.Prelude.{round_routing, AreAllLive};
 ghost use Rattle.data_trace.specs.Hops.{next_hop as next_hop_of};
 ghost use Rattle.data_trace.specs.NextHops.{hops_by};
 ghost use Rattle.data_trace.specs.Traces.{IsTrace};

@@ -3,10 +3,10 @@ ghost use Rattle.std.specs.Prelude.{◌≡◌, ℕ, ◌+◌, ◌<◌, ◌≤◌,
 ghost use Rattle.data_trace.specs.declared.places.TheConstants.{PLACE_LIMIT};
 ghost use Rattle.std.specs.List.{IsDistinct};
 ghost use Rattle.std.proofs.Props.{props};
-ghost use Rattle.net_names.specs.Numbers.{occurs};
-ghost use Rattle.as_graph.specs.Topology.{Topology, as_count};
-ghost use Rattle.route_choice.specs.RoundTables.{round_routing, AreAllLive};
-ghost use Rattle.stability_laws.specs.Book.{policy_at};
+ghost use Rattle.net_names.specs.Prelude.{occurs};
+ghost use Rattle.as_graph.specs.Prelude.{Topology, as_count};
+ghost use Rattle.route_choice.specs.Prelude.{round_routing, AreAllLive};
+ghost use Rattle.stability_laws.specs.Prelude.{policy_at};
 ghost use Rattle.data_trace.specs.Hops.{next_hop as next_hop_of};
 ghost use Rattle.data_trace.specs.declared.kinds.End.{End as AnEnd};
 ghost use Rattle.data_trace.specs.declared.places.Mark.TheVariants as AMark;

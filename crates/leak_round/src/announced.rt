@@ -3,13 +3,12 @@
 ghost use Rattle.std.specs.Prelude.{◌≡◌, ℕ, ◌+◌, ◌<◌, ◌≤◌, None, Some, [], length, slice_get, option_map, IsTrue, IfOk, OnOk};
 ghost use Rattle.std.specs.List.{sum_by};
 ghost use Rattle.std.specs.FinMap as fin;
-ghost use Rattle.net_names.specs.Prefixes.{PrefixValue};
+ghost use Rattle.net_names.specs.Prelude.{PrefixValue};
 ghost use Rattle.path_pool.specs.Pool.{IsLive, holds_of, count_of, live_count, limit_of};
 ghost use Rattle.path_pool.specs.declared.pool.TheConstants.{MOST_COUNT};
-ghost use Rattle.stability_laws.specs.Plans.{has_prefix, prefixes_of, announcers_of};
-ghost use Rattle.route_choice.specs.Tables.{seed_at};
+ghost use Rattle.stability_laws.specs.Prelude.{has_prefix, prefixes_of, announcers_of};
+ghost use Rattle.route_choice.specs.Prelude.{seed_at, GivesBack};
 ghost use Rattle.leak_round.specs.Limits.{announced_length, announced_count};
-ghost use Rattle.route_choice.specs.Holds.{GivesBack};
 ghost use Rattle.leak_round.specs.declared.announced.Announced.{Announced as AnAnnouncement};
 ghost use Rattle.leak_round.specs.Growth.{KeepsPaths};
 ghost use Rattle.leak_round.specs.Announced.{own_path, own_seed, announced_uses, AnnouncesMore, IsAnnouncing, HasAnnounced};

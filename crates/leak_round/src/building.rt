@@ -1,9 +1,8 @@
 //! What the tables of all rounds are built by.
 
 ghost use Rattle.std.specs.Prelude.{◌≤◌, length};
-ghost use Rattle.as_graph.specs.Topology.{relation};
-ghost use Rattle.as_graph.specs.Hierarchy.{HasNoProviderCycle};
-ghost use Rattle.stability_laws.specs.Plans.{prefixes_of};
+ghost use Rattle.as_graph.specs.Prelude.{relation, HasNoProviderCycle};
+ghost use Rattle.stability_laws.specs.Prelude.{prefixes_of};
 ghost use Rattle.leak_round.specs.declared.limits.TheConstants.{MOST_PREFIXES};
 
 use crate::announced::Announced;

@@ -1,12 +1,11 @@
 //! Changes of the tables of rounds.
 
 ghost use Rattle.std.specs.Prelude.{◌≡◌, ℕ, ◌+◌, ◌≤◌, IsTrue, Option, [], length};
-ghost use Rattle.net_names.specs.Prefixes.{PrefixValue, prefix_cmp};
+ghost use Rattle.net_names.specs.Prelude.{PrefixValue, prefix_cmp};
 ghost use Rattle.path_pool.specs.Pool.{holds_of};
 ghost use Rattle.stability_laws.specs.declared.entry.Entry.{Entry as AnEntry};
-ghost use Rattle.stability_laws.specs.Plans.{Plan, ListsRising, has_prefix, prefixes_of};
-ghost use Rattle.route_choice.specs.Holds.{GivesBack};
-ghost use Rattle.route_choice.specs.Tables.{overlay_uses};
+ghost use Rattle.stability_laws.specs.Prelude.{Plan, ListsRising, has_prefix, prefixes_of};
+ghost use Rattle.route_choice.specs.Prelude.{GivesBack, overlay_uses};
 ghost use Rattle.leak_round.specs.Tables.{entry_uses};
 ghost use Rattle.leak_round.specs.Overlays.{changes_uses, CanPut, IsPut, FitsIn, IsCommitted, AreChangesOf, AreFew, IsLaid};
 

@@ -3,8 +3,7 @@
 ghost use Rattle.std.specs.Prelude.{◌≡◌, ◌↔◌, IsTrue, Some, IfOk, OnOk, option_map};
 ghost use Rattle.path_pool.specs.Pool.{IsLive, list_of};
 ghost use Rattle.route_choice.specs.declared.held.SeedHeld.{SeedHeld as ASeed};
-ghost use Rattle.route_choice.specs.Resources.{AreSeedsLive};
-ghost use Rattle.route_choice.specs.Routings.{seed_of};
+ghost use Rattle.route_choice.specs.Prelude.{AreSeedsLive, seed_of};
 ghost use Rattle.leak_round.specs.Touched.{touches};
 ghost use Rattle.leak_round.specs.Differing.{AddsDiffering, AreWrong};
 

@@ -3,9 +3,8 @@
 ghost use Rattle.std.specs.Prelude.{◌≡◌, ℕ, ◌+◌, ◌≤◌, length, slice_get, IsTrue, Some, IfOk, OnOk, OnErr};
 ghost use Rattle.std.specs.Option.{option_map_or};
 ghost use Rattle.path_pool.specs.Pool.{IsLive, SamePaths, holds_of, count_of, live_count, limit_of};
-ghost use Rattle.stability_laws.specs.Plans.{announcer_of, has_prefix, with_announcement};
-ghost use Rattle.stability_laws.specs.SeedEdits.{edit_asn, edited, without_announcement, IsEditOf, IsEditWithin};
-ghost use Rattle.route_choice.specs.Holds.{GivesBack};
+ghost use Rattle.stability_laws.specs.Prelude.{announcer_of, has_prefix, with_announcement, edit_asn, edited, without_announcement, IsEditOf, IsEditWithin};
+ghost use Rattle.route_choice.specs.Prelude.{GivesBack};
 ghost use Rattle.route_choice.specs.declared.counts.TheConstants.{MOST_COUNTED};
 ghost use Rattle.dirty_recompute.specs.Resources.{IsUndone};
 ghost use Rattle.leak_round.specs.declared.announced.Announced.{Announced as AnAnnouncement};

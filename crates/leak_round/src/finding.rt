@@ -1,8 +1,7 @@
 //! What the changes of all tables are found by.
 
-ghost use Rattle.as_graph.specs.Topology.{relation};
-ghost use Rattle.as_graph.specs.Hierarchy.{HasNoProviderCycle};
-ghost use Rattle.rank_order.specs.Plans.{IsLastPlan};
+ghost use Rattle.as_graph.specs.Prelude.{relation, HasNoProviderCycle};
+ghost use Rattle.rank_order.specs.Prelude.{IsLastPlan};
 ghost use Rattle.leak_round.specs.Edited.{announced_after, prefix_edited};
 ghost use Rattle.leak_round.specs.OwnSeeds.{AreOwnEdited, AreOwnSeeds, AreOthersKept};
 

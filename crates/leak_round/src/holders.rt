@@ -3,9 +3,8 @@
 ghost use Rattle.std.specs.Prelude.{◌≡◌, ℕ, true, nat_eq, IsSome, IfOk};
 ghost use Rattle.std.specs.List.{IsDistinct};
 ghost use Rattle.std.specs.List.Sorted.{IsNonDecreasingBy};
-ghost use Rattle.net_names.specs.Numbers.{occurs};
-ghost use Rattle.route_choice.specs.Resources.{AreEntriesLive};
-ghost use Rattle.route_choice.specs.Routings.{table_routing};
+ghost use Rattle.net_names.specs.Prelude.{occurs};
+ghost use Rattle.route_choice.specs.Prelude.{AreEntriesLive, table_routing};
 ghost use Rattle.leak_round.specs.Moved.{AreHolders, IsHolder};
 ghost use Rattle.leak_round.specs.declared.holders.Holder.{Holder as AHolder};
 

@@ -1,8 +1,8 @@
 //! What leakers put in.
 
 ghost use Rattle.std.specs.Prelude.{◌≡◌, ◌≢◌, ℕ, ◌-◌, ◌≤◌, true, OnOk};
-ghost use Rattle.stability_laws.specs.Plans.{leaks_in};
-ghost use Rattle.route_choice.specs.Tables.{seed_at};
+ghost use Rattle.stability_laws.specs.Prelude.{leaks_in};
+ghost use Rattle.route_choice.specs.Prelude.{seed_at};
 ghost use Rattle.leak_round.specs.Leaked.{leaked_of, own_or_leaked};
 ghost use Rattle.leak_round.specs.Overlays.{change_in, held_of, held_with};
 

@@ -1,21 +1,14 @@
 //! Tables whose paths go to another pool.
 
-ghost use Rattle.std.specs.Prelude.{◌≡◌, ◌≢◌, ℕ, suc, ◌+◌, ◌*◌, ◌<◌, ◌≤◌, true, length, nat_eq, slice_get, option_map, unwrap_or, IsTrue, IsSome, Some, None, IfOk};
-ghost use Rattle.std.specs.List.{IsDistinct};
+ghost use Rattle.std.specs.Prelude.{◌≡◌, ◌≢◌, ℕ, suc, ◌+◌, ◌*◌, ◌<◌, ◌≤◌, true, length, option_map, unwrap_or, IsTrue, IsSome, Some, None, IfOk};
 ghost use Rattle.std.specs.List.Sorted.{IsNonDecreasingBy};
-ghost use Rattle.net_names.specs.Numbers.{occurs};
-ghost use Rattle.net_names.specs.Prefixes.{PrefixValue};
+ghost use Rattle.net_names.specs.Prelude.{occurs, PrefixValue};
 ghost use Rattle.path_pool.specs.Pool.{IsLive, holds_of, count_of, spare_of};
 ghost use Rattle.path_pool.specs.declared.pool.TheConstants.{MOST_COUNT};
-ghost use Rattle.stability_laws.specs.Plans.{has_prefix, prefixes_of};
-ghost use Rattle.stability_laws.specs.Rounds.{seeds_of as seeds_in};
+ghost use Rattle.stability_laws.specs.Prelude.{has_prefix, prefixes_of, seeds_of as seeds_in};
 ghost use Rattle.stability_laws.specs.declared.entry.Entry.{Entry as AnEntry};
 ghost use Rattle.route_choice.specs.declared.held.Held.{Held as AHeld};
-ghost use Rattle.route_choice.specs.Named.{Takes};
-ghost use Rattle.route_choice.specs.Resources.{AreEntriesLive, AreSeedsLive};
-ghost use Rattle.route_choice.specs.Routings.{entry_of, seeds_of, table_routing};
-ghost use Rattle.route_choice.specs.RoundTables.{round_routing};
-ghost use Rattle.route_choice.specs.Tables.{change_at, overlay_uses, seed_at};
+ghost use Rattle.route_choice.specs.Prelude.{Takes, AreEntriesLive, AreSeedsLive, entry_of, seeds_of, table_routing, round_routing, change_at, overlay_uses, seed_at};
 ghost use Rattle.leak_round.specs.declared.holders.Holder.{Holder as AHolder};
 ghost use Rattle.leak_round.specs.declared.limits.TheConstants.{MOST_PREFIXES, MOST_ROUNDS};
 ghost use Rattle.leak_round.specs.Announced.{AreAnnounced};

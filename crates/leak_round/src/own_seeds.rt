@@ -1,7 +1,7 @@
 //! The seeds that announcements make, kept prefix by prefix from one edit to the next.
 
 ghost use Rattle.std.specs.Prelude.{◌≡◌, ◌≢◌, ℕ, Some, false, List, [], slice_get, IfSome};
-ghost use Rattle.stability_laws.specs.Plans.{leaks_in, prefixes_of};
+ghost use Rattle.stability_laws.specs.Prelude.{leaks_in, prefixes_of};
 ghost use Rattle.route_choice.specs.declared.round_tables.RoundTables.{RoundTables as SomeTables};
 ghost use Rattle.leak_round.specs.declared.announced.Announced.{Announced as AnAnnouncement};
 ghost use Rattle.leak_round.specs.declared.changes.Change.{Change as AChange};

@@ -1,16 +1,12 @@
 //! The tables of one round.
 
 ghost use Rattle.std.specs.Prelude.{◌≡◌, ◌+◌, ◌*◌, ◌≤◌, length, IsTrue, IfOk, OnOk};
-ghost use Rattle.as_graph.specs.Topology.{as_count};
-ghost use Rattle.three_pass.specs.Scratches.{IsScratch};
-ghost use Rattle.stability_laws.specs.Stable.{IsStable};
-ghost use Rattle.stability_laws.specs.Plans.{has_prefix, prefixes_of};
-ghost use Rattle.stability_laws.specs.Rounds.{seeds_of};
-ghost use Rattle.route_choice.specs.Routings.{table_routing};
-ghost use Rattle.route_choice.specs.RoundTables.{round_routing};
+ghost use Rattle.as_graph.specs.Prelude.{as_count};
+ghost use Rattle.three_pass.specs.Prelude.{IsScratch};
+ghost use Rattle.stability_laws.specs.Prelude.{IsStable, has_prefix, prefixes_of, seeds_of, setting_in};
+ghost use Rattle.route_choice.specs.Prelude.{table_routing, round_routing};
 ghost use Rattle.leak_round.specs.Growth.{HasRoomFor};
 ghost use Rattle.leak_round.specs.Made.{CanMake, IsRoundMade, IsTableMade};
-ghost use Rattle.stability_laws.specs.World.{setting_in};
 ghost use Rattle.leak_round.specs.Tables.{kept_in, IsRound};
 
 use crate::building::Building;

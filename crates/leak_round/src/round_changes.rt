@@ -2,7 +2,7 @@
 
 ghost use Rattle.std.specs.Prelude.{◌≡◌, ℕ, ◌<◌, Some, IsSome, [], ◌∷◌, ◌++◌, length, OnOk};
 ghost use Rattle.std.specs.Vec.{vec_capacity};
-ghost use Rattle.stability_laws.specs.Plans.{prefixes_of};
+ghost use Rattle.stability_laws.specs.Prelude.{prefixes_of};
 ghost use Rattle.route_choice.specs.declared.table.Table.{Table as ATable};
 ghost use Rattle.leak_round.specs.Growth.{HasRoomFor};
 ghost use Rattle.leak_round.specs.Overlays.{table_in};

@@ -1,6 +1,6 @@
 //! The seeds of a prefix in a round.
 
-ghost use Rattle.std.specs.Prelude.{◌≡◌, ℕ, ◌-◌, ◌≤◌, IfOk};
+ghost use Rattle.std.specs.Prelude.{◌-◌, ◌≤◌, IfOk};
 ghost use Rattle.leak_round.specs.Leaked.{AreSeedsWith};
 
 use crate::announced::{Announced, announced_seeds};

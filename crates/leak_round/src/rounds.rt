@@ -1,24 +1,19 @@
 //! The tables of all rounds.
 
 ghost use Rattle.std.specs.Prelude.{◌≡◌, ◌↔◌, ℕ, suc, ◌+◌, ◌-◌, ◌*◌, ◌<◌, ◌≤◌, false, IsTrue, IsSome, IfSome, IfOk, Option, length, is_some};
-ghost use Rattle.net_names.specs.Prefixes.{PrefixValue};
-ghost use Rattle.as_graph.specs.Topology.{relation, as_count};
-ghost use Rattle.as_graph.specs.Hierarchy.{HasNoProviderCycle, IsRank};
-ghost use Rattle.rank_order.specs.Ranks.{rank_at};
-ghost use Rattle.three_pass.specs.Courses.{IsCourse};
-ghost use Rattle.three_pass.specs.Scratches.{IsScratch};
-ghost use Rattle.three_pass.specs.Ways.{IsWay};
+ghost use Rattle.net_names.specs.Prelude.{PrefixValue};
+ghost use Rattle.as_graph.specs.Prelude.{relation, as_count, HasNoProviderCycle, IsRank};
+ghost use Rattle.rank_order.specs.Prelude.{rank_at};
+ghost use Rattle.three_pass.specs.Prelude.{IsCourse, IsScratch, IsWay};
 ghost use Rattle.path_pool.specs.Pool.{holds_of, live_count, limit_of};
 ghost use Rattle.stability_laws.specs.declared.entry.Entry.{Entry as AnEntry};
-ghost use Rattle.stability_laws.specs.Plans.{has_prefix, prefixes_of};
-ghost use Rattle.stability_laws.specs.Rounds.{AreRounds};
-ghost use Rattle.route_choice.specs.RoundTables.{table_at, round_routing, AreAllLive, AreByPrefix};
+ghost use Rattle.stability_laws.specs.Prelude.{has_prefix, prefixes_of, AreRounds, setting_in};
+ghost use Rattle.route_choice.specs.Prelude.{table_at, round_routing, AreAllLive, AreByPrefix};
 ghost use Rattle.leak_round.specs.Limits.{IsWithinLimits, numbers_of};
 ghost use Rattle.leak_round.specs.Announced.{AreAnnounced, announced_uses};
 ghost use Rattle.leak_round.specs.Entries.{HasEntries, of_rounds};
 ghost use Rattle.leak_round.specs.Growth.{HasRoomFor};
 ghost use Rattle.leak_round.specs.Made.{AreRoundsMade, CanStand};
-ghost use Rattle.stability_laws.specs.World.{setting_in};
 ghost use Rattle.leak_round.specs.OwnSeeds.{AreOwnSeeds};
 ghost use Rattle.leak_round.specs.Tables.{kept_in, entry_uses, AreRoundsFull};
 ghost use Rattle.leak_round.specs.declared.limits.TheConstants.{MAX_CELLS, MOST_ROUNDS};

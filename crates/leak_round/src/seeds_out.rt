@@ -3,9 +3,7 @@
 ghost use Rattle.std.specs.Prelude.{◌≡◌, ◌≢◌, ℕ, ◌≤◌, true, length, is_some, IfOk, OnOk};
 ghost use Rattle.std.specs.FinMap as map;
 ghost use Rattle.path_pool.specs.Pool.{IsLive, limit_of};
-ghost use Rattle.route_choice.specs.Resources.{AreSeedsLive};
-ghost use Rattle.route_choice.specs.Routings.{seed_of, seeds_of};
-ghost use Rattle.route_choice.specs.Tables.{seed_at};
+ghost use Rattle.route_choice.specs.Prelude.{AreSeedsLive, seed_of, seeds_of, seed_at};
 ghost use Rattle.leak_round.specs.SeedPaths.{HaveAtMost};
 
 use net_names::{Asn, NoMemory};

@@ -1,10 +1,9 @@
 //! The changes of one table after an edit.
 
-ghost use Rattle.std.specs.Prelude.{◌≡◌, ℕ, ◌≤◌, length, IsSome, Some, IfOk, OnErr};
+ghost use Rattle.std.specs.Prelude.{◌≡◌, IsSome, Some, IfOk, OnErr};
 ghost use Rattle.path_pool.specs.Pool.{limit_of};
 ghost use Rattle.route_choice.specs.declared.table.Table.{Table as ATable};
-ghost use Rattle.route_choice.specs.RoundTables.{table_at};
-ghost use Rattle.route_choice.specs.Tables.{prefix_of};
+ghost use Rattle.route_choice.specs.Prelude.{table_at, prefix_of};
 ghost use Rattle.dirty_recompute.specs.Resources.{IsUndone, SameTable};
 ghost use Rattle.leak_round.specs.Growth.{HasRoomFor};
 ghost use Rattle.leak_round.specs.Overlays.{table_in};

@@ -1,9 +1,9 @@
 //! The seeds of one table after an edit, and the ASes that may hold something wrong there.
 
 ghost use Rattle.std.specs.Prelude.{◌≡◌, ◌≤◌, Some, slice_get, IfOk};
-ghost use Rattle.stability_laws.specs.Plans.{prefixes_of};
+ghost use Rattle.stability_laws.specs.Prelude.{prefixes_of};
 ghost use Rattle.route_choice.specs.declared.seeds.SeedIds.{SeedIds as SomeSeeds};
-ghost use Rattle.route_choice.specs.Resources.{AreSeedsLive};
+ghost use Rattle.route_choice.specs.Prelude.{AreSeedsLive};
 ghost use Rattle.leak_round.specs.Differing.{ids_of};
 ghost use Rattle.leak_round.specs.Findings.{AreSeedsAfter, AreSeedsBefore, AreWrongBy};
 

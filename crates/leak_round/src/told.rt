@@ -3,9 +3,9 @@
 ghost use Rattle.std.specs.Prelude.{◌≡◌, ◌≢◌, ◌⊎◌, ℕ, ◌+◌, ◌<◌, ◌≤◌, ◌++◌, Some, IsTrue, IfOk, OnOk, slice_get};
 ghost use Rattle.std.specs.Option.{option_to_list};
 ghost use Rattle.std.specs.Ordering.{nat_cmp};
-ghost use Rattle.net_names.specs.Numbers.{occurs};
-ghost use Rattle.stability_laws.specs.Plans.{ListsRising};
-ghost use Rattle.route_choice.specs.Tables.{places_of};
+ghost use Rattle.net_names.specs.Prelude.{occurs};
+ghost use Rattle.stability_laws.specs.Prelude.{ListsRising};
+ghost use Rattle.route_choice.specs.Prelude.{places_of};
 ghost use Rattle.leak_round.specs.declared.changes.Change.{Change as AChange};
 ghost use Rattle.leak_round.specs.Told.{changes_at, IsToldOf};
 ghost use Rattle.leak_round.specs.Overlays.{changes_count, IsListed};

@@ -1,7 +1,7 @@
 //! The ASes whose entries may be wrong after an edit, prefix by prefix.
 
 ghost use Rattle.std.specs.Prelude.{◌≡◌, ℕ, false, true, OnOk, OnErr};
-ghost use Rattle.net_names.specs.Prefixes.{PrefixValue};
+ghost use Rattle.net_names.specs.Prelude.{PrefixValue};
 ghost use Rattle.leak_round.specs.Touched.{touches, ases_in};
 
 use net_names::{Asn, NoMemory, Prefix};

@@ -1,6 +1,6 @@
 //! The lines of a generated input.
 ghost use Rattle.std.specs.Prelude.{◌≡◌, ◌<◌, ◌≤◌, ◌++◌, ◌∷◌, [], ◌+◌, ◌*◌, ◌%◌, slice_get, option_map, IfOk, IfSome, OnOk};
-ghost use Rattle.net_names.specs.LinkLists.{entry_of};
+ghost use Rattle.net_names.specs.Prelude.{entry_of};
 ghost use Rattle.std.specs.FinMap as map;
 ghost use Rattle.std.specs.List.{flat_map, range_with_len};
 ghost use Rattle.scenario_text.specs.declared.acts.Act.TheVariants.{Query as AQuery};

@@ -1,7 +1,7 @@
 //! Links that come in any order.
 ghost use Rattle.std.specs.Prelude.{◌≡◌, ◌<◌, ◌≤◌, IfOk, OnOk};
 ghost use Rattle.std.specs.FinMap as fin;
-ghost use Rattle.net_names.specs.LinkLists.{map_of, AreLinks};
+ghost use Rattle.net_names.specs.Prelude.{map_of, AreLinks};
 ghost use Rattle.topo_gen.specs.Drawn.{joined};
 
 use net_names::{Asn, Link, Links, MOST_LINKS, NoMemory, Rel};
@@ -18,7 +18,7 @@ pub(crate) struct Pairs {
 
 impl Model for Pairs {
     ghost use Rattle.std.specs.FinMap as fin;
-    ghost use Rattle.net_names.specs.Links.{LinkMap, link_map_code};
+    ghost use Rattle.net_names.specs.Prelude.{LinkMap, link_map_code};
     ghost use Rattle.topo_gen.specs.Rising.{AreRising};
 
     ghost Value = { LinkMap };

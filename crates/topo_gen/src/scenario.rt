@@ -2,7 +2,7 @@
 ghost use Rattle.std.specs.Prelude.{◌≡◌, ◌<◌, ◌≤◌, ◌+◌, ◌∷◌, [], IfOk, OnOk, map, min};
 ghost use Rattle.topo_gen.specs.Scenarios.{block, drawn_payloads, drawn_scenario, host, kind_of as kind_by, leakers_to};
 ghost use Rattle.std.specs.List.{range_with_len};
-ghost use Rattle.scenario_text.specs.Scenarios.{nothing};
+ghost use Rattle.scenario_text.specs.Prelude.{nothing};
 
 use crate::links::as_of;
 use net_names::{Addr, Asn, Family, NoMemory, Path, Prefix, Vrp};

@@ -2,9 +2,9 @@
 
 ghost use Rattle.std.specs.Prelude.{◌≡◌, ℕ, ◌+◌, ◌≤◌, false};
 ghost use Rattle.std.specs.Ordering.{nat_cmp};
-ghost use Rattle.net_names.specs.Prefixes.{PrefixValue};
+ghost use Rattle.net_names.specs.Prelude.{PrefixValue};
 ghost use Rattle.path_pool.specs.Pool.{live_count};
-ghost use Rattle.stability_laws.specs.Plans.{ListsRising};
+ghost use Rattle.stability_laws.specs.Prelude.{ListsRising};
 ghost use Rattle.leak_round.specs.Changes.{HasChanges};
 ghost use Rattle.leak_round.specs.Rounds.{is_open, plan_of, pool_of, round_count, kept};
 ghost use Rattle.leak_round.specs.Plans.{kept_with, plan_after, numbers_added, cells_before, count_told, ases_told, IsTold, IsOpenPlan};

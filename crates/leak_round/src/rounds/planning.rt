@@ -2,19 +2,14 @@
 
 ghost use Rattle.std.specs.Prelude.{◌≡◌, ℕ, suc, ◌<◌, ◌≤◌, true, false, [], None, Some, IsTrue, IfOk, OnErr, option_map};
 ghost use Rattle.std.specs.Option.{option_copied, option_map_or};
-ghost use Rattle.net_names.specs.Prefixes.{PrefixValue};
-ghost use Rattle.as_graph.specs.Topology.{relation, has};
-ghost use Rattle.as_graph.specs.Hierarchy.{HasNoProviderCycle, IsRank};
+ghost use Rattle.net_names.specs.Prelude.{PrefixValue};
+ghost use Rattle.as_graph.specs.Prelude.{relation, has, HasNoProviderCycle, IsRank};
 ghost use Rattle.path_pool.specs.Pool.{live_count};
-ghost use Rattle.rank_order.specs.Plans.{rank_after, IsLastPlan};
+ghost use Rattle.rank_order.specs.Prelude.{rank_after, IsLastPlan};
 ghost use Rattle.stability_laws.specs.declared.seed_plan.edits.SeedEdit.{SeedEdit as AnEdit};
-ghost use Rattle.stability_laws.specs.Plans.{announces, has_prefix};
-ghost use Rattle.stability_laws.specs.Rounds.{AreRounds, seeds_of};
-ghost use Rattle.stability_laws.specs.SeedEdits.{edit_asn, edited, IsEditOf, IsEditWithin};
-ghost use Rattle.stability_laws.specs.Stable.{IsRight};
+ghost use Rattle.stability_laws.specs.Prelude.{announces, has_prefix, AreRounds, seeds_of, edit_asn, edited, IsEditOf, IsEditWithin, IsRight, setting_in};
 ghost use Rattle.leak_round.specs.Bounds.{AreEnoughFor};
 ghost use Rattle.leak_round.specs.Edited.{edit_numbers, plan_edited};
-ghost use Rattle.stability_laws.specs.World.{setting_in};
 ghost use Rattle.leak_round.specs.Limits.{IsWithinLimits};
 ghost use Rattle.leak_round.specs.Plans.{IsOpenPlan, asn_edited, cells_before, course, kept_with, numbers_added, plan_after};
 ghost use Rattle.leak_round.specs.Rounds.{is_open, plan_of, pool_of, round_count, kept};

@@ -2,8 +2,7 @@
 
 ghost use Rattle.std.specs.Prelude.{◌≡◌, ℕ, ◌-◌, ◌≤◌, IsTrue, IfOk};
 ghost use Rattle.std.specs.FinMap as map;
-ghost use Rattle.stability_laws.specs.Plans.{has_prefix};
-ghost use Rattle.stability_laws.specs.Rounds.{seeds_of};
+ghost use Rattle.stability_laws.specs.Prelude.{has_prefix, seeds_of};
 ghost use Rattle.leak_round.specs.Rounds.{kept, plan_of};
 ghost use Rattle.leak_round.specs.SeedPaths.{HaveAtMost};
 ghost use Rattle.leak_round.specs.declared.limits.TheConstants.{MAX_CELLS};

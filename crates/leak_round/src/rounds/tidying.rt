@@ -1,13 +1,10 @@
 //! Rounds with no more cells than they need.
 
-ghost use Rattle.std.specs.Prelude.{◌≡◌, ℕ, suc, ◌-◌, ◌<◌, ◌≤◌, true, false, nat_eq, IsTrue, IsSome, IfOk, OnOk, OnErr};
+ghost use Rattle.std.specs.Prelude.{◌≡◌, ℕ, suc, ◌-◌, ◌<◌, ◌≤◌, true, false, nat_eq, IsTrue, IsSome, OnOk, OnErr};
 ghost use Rattle.std.specs.List.{IsDistinct};
-ghost use Rattle.net_names.specs.Numbers.{occurs};
-ghost use Rattle.net_names.specs.Prefixes.{PrefixValue};
+ghost use Rattle.net_names.specs.Prelude.{occurs, PrefixValue};
 ghost use Rattle.path_pool.specs.Pool.{live_count};
-ghost use Rattle.stability_laws.specs.Offers.{Setting};
-ghost use Rattle.stability_laws.specs.Plans.{has_prefix};
-ghost use Rattle.stability_laws.specs.Rounds.{AreRounds};
+ghost use Rattle.stability_laws.specs.Prelude.{Setting, has_prefix, AreRounds};
 ghost use Rattle.leak_round.specs.Entries.{HasEntries, of_rounds};
 ghost use Rattle.leak_round.specs.Limits.{numbers_of};
 ghost use Rattle.leak_round.specs.Rounds.{is_open, plan_of, pool_of, round_count, kept};
