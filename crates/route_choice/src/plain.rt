@@ -12,7 +12,7 @@ ghost use Rattle.route_choice.specs.Leads.{ArePlainProviders, IsLead, better_lea
 ghost use Rattle.route_choice.specs.PrefixWorlds.{setting_at, AreGiversAt, CanStepAt, HasNoLoopsAt};
 ghost use Rattle.route_choice.specs.Resources.{AreLive};
 ghost use Rattle.route_choice.specs.Routings.{routing_of};
-ghost use Rattle.route_choice.specs.Tables.{seed_at};
+ghost use Rattle.route_choice.specs.Tables.{joined, seed_at};
 ghost use Rattle.route_choice.specs.Visits.{IsVisit};
 
 use crate::looks::{held_near, place_at};
