@@ -1,16 +1,18 @@
 //! The fields of a script's line.
-ghost use Rattle.std.specs.Prelude.{◌≡◌, ℕ, ◌^◌, ◌<◌, List, Option, IfSome};
+ghost use Rattle.std.specs.Prelude.{◌≡◌, ℕ, ◌^◌, ◌<◌, List, Option, IfOk, IfSome};
 ghost use Rattle.net_names.specs.Texts.{asn_of, prefix_of, addr_of, rel_of, vrp_asn_of, numeral};
 ghost use Rattle.policy_kinds.specs.Names.{kind_named};
 ghost use Rattle.scenario_text.specs.Forms.{pair, vrp_of};
 
 use net_names::{
-    Addr, Asn, Prefix, Rel, Vrp, cut, number, read_addr, read_asn, read_prefix, read_vrp_asn,
+    Addr, Asn, NoMemory, Prefix, Rel, Vrp, cut, number, read_addr, read_asn, read_prefix,
+    read_vrp_asn,
 };
 use policy_kinds::{Kind, read_kind};
+use std::alloc::Global;
 
 /// A grammar of texts.
-pub(crate) trait Field {
+pub trait Field {
     /// What the texts write.
     type To: Drop;
 
@@ -22,7 +24,7 @@ pub(crate) trait Field {
 }
 
 /// The number of an AS.
-pub(crate) struct AsnField;
+pub struct AsnField;
 
 impl Field for AsnField {
     type To = Asn;
@@ -35,7 +37,7 @@ impl Field for AsnField {
 }
 
 /// A prefix.
-pub(crate) struct PrefixField;
+pub struct PrefixField;
 
 impl Field for PrefixField {
     type To = Prefix;
@@ -48,7 +50,7 @@ impl Field for PrefixField {
 }
 
 /// An address.
-pub(crate) struct AddrField;
+pub struct AddrField;
 
 impl Field for AddrField {
     type To = Addr;
@@ -61,7 +63,7 @@ impl Field for AddrField {
 }
 
 /// The name of a kind of policy.
-pub(crate) struct KindField;
+pub struct KindField;
 
 impl Field for KindField {
     type To = Kind;
@@ -85,7 +87,7 @@ pub(crate) fn read_round(text: &[u8]) -> Option<u32>
 }
 
 /// A round.
-pub(crate) struct RoundField;
+pub struct RoundField;
 
 impl Field for RoundField {
     type To = u32;
@@ -202,5 +204,43 @@ impl Field for VrpField {
             return None;
         }
         Vrp::new(prefix, max as u8, asn)
+    }
+}
+
+/// A grammar of what stands at the end of a line. Reading it may need memory.
+pub trait Ending {
+    /// What the texts write.
+    type To: Drop;
+
+    ghost says: { List ℕ → Option Self.To };
+
+    /// What the text writes; `None` where it isn't in the grammar. `Err` where there is not enough memory.
+    fn read(alloc: Global, text: &[u8]) -> Result<Option<Self::To>, NoMemory>
+        ensures { IfOk result (λ x. x ≡ says text.now) };
+}
+
+/// A field and, behind a space, the end of the line.
+pub struct Before<F, E> {
+    first: F,
+    ending: E,
+}
+
+impl<F: Field, E: Ending> Ending for Before<F, E> {
+    type To = (F::To, E::To);
+
+    ghost says = { pair 32 F.says E.says };
+
+    #[tactic(auto, unfolding(crate::specs::Forms::pair))]
+    fn read(alloc: Global, text: &[u8]) -> Result<Option<(F::To, E::To)>, NoMemory> {
+        let Some((front, back)) = cut(text, b' ') else {
+            return Ok(None);
+        };
+        let Some(first) = F::read(front) else {
+            return Ok(None);
+        };
+        let Some(ending) = E::read(alloc, back)? else {
+            return Ok(None);
+        };
+        Ok(Some((first, ending)))
     }
 }

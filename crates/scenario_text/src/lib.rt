@@ -33,6 +33,7 @@ mod whole_numbers;
 
 pub use acts::{Act, Edit, Query};
 pub use faults::{LimitOf, ScenarioError};
+pub use fields::{AddrField, AsnField, Before, Ending, Field, KindField, PrefixField, RoundField};
 pub use forms::read_for;
 pub use laws::{lines_are_those_said, scenarios_are_those_said};
 pub use limits::{
