@@ -1,6 +1,7 @@
 pub mod LineValues
 pub mod Forms
 pub mod Walks
+pub mod LineFaults
 pub mod Script
 pub mod Places
 pub mod PlaceTexts

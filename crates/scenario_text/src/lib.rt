@@ -17,6 +17,7 @@ mod forms;
 mod json_values;
 mod laws;
 mod limits;
+mod line_faults;
 mod lines;
 mod lists;
 mod place_texts;
@@ -39,6 +40,7 @@ pub use laws::{lines_are_those_said, scenarios_are_those_said};
 pub use limits::{
     MOST_ANNOUNCEMENTS, MOST_LEAK_LISTS, MOST_LEAKERS, MOST_NUMBERS, MOST_PREFIXES, MOST_WATCHED,
 };
+pub use line_faults::LinesError;
 pub use lines::{Line, Lines};
 pub use lists::Leakers;
 pub use place_texts::{place_string, put_place};

@@ -1,39 +1,17 @@
 //! Reading a script.
 ghost use Rattle.std.specs.Prelude.{◌≡◌, ◌≤◌, length, IfOk};
-ghost use Rattle.scenario_text.specs.declared.script.ScriptError.TheVariants.{Memory};
 ghost use Rattle.scenario_text.specs.LineValues.{IsSoundAct};
-ghost use Rattle.scenario_text.specs.Script.{Gives, command, script_of};
+ghost use Rattle.scenario_text.specs.LineFaults.{Gives};
+ghost use Rattle.scenario_text.specs.Script.{command, script_of};
 
 use crate::forms::act;
+use crate::line_faults::LinesError;
 use crate::lines::{Line, Lines};
-use net_names::{NoMemory, next_kept};
+use net_names::next_kept;
 use std::alloc::Global;
 
-/// Why a script is refused: the fault of its first faulty line. Lines are numbered from 1, and skipped lines count. A
-/// line is judged in the order of the last two variants.
-#[derive(Clone, Copy, Debug, PartialEq, Eq)]
-pub enum ScriptError {
-    /// Memory ran out.
-    Memory,
-    /// The line has none of the forms.
-    Unreadable {
-        /// The number of the line.
-        line: u32,
-    },
-    /// 100,000 lines that aren't skipped stand before the line.
-    TooMany {
-        /// The number of the line.
-        line: u32,
-    },
-}
-
-impl From<NoMemory> for ScriptError {
-    ghost from_gives = { λ _ e. e ≡ Memory };
-
-    fn from(_e: NoMemory) -> ScriptError {
-        ScriptError::Memory
-    }
-}
+/// Why a script is refused. It may have 100,000 lines that aren't skipped.
+pub type ScriptError = LinesError;
 
 /// How many lines of a script ask or edit at most.
 pub const MOST_COMMANDS: u32 = 100_000;

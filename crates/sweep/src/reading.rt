@@ -1,39 +1,17 @@
 //! Reading a file of sweeps.
 ghost use Rattle.std.specs.Prelude.{◌≡◌, ◌≤◌, [], Ok, IfErr, OnOk, length};
 ghost use Rattle.net_names.specs.Lines.{kept_from, said_on};
-ghost use Rattle.sweep.specs.declared.reading.SweepsError.TheVariants.{Memory};
-ghost use Rattle.sweep.specs.Reading.{Fails, Gives, with_line};
+ghost use Rattle.scenario_text.specs.LineFaults.{Fails, Gives};
+ghost use Rattle.sweep.specs.Reading.{with_line};
 
 use crate::forms::sweep;
 use crate::sweeps::{MOST_SWEEPS, Sweeps};
-use net_names::{NoMemory, next_kept};
+use net_names::next_kept;
+use scenario_text::LinesError;
 use std::alloc::Global;
 
-/// Why a file of sweeps is refused: the fault of its first faulty line. Lines are numbered from 1, and skipped lines
-/// count. A line is judged in the order of the last two variants.
-#[derive(Clone, Copy, Debug, PartialEq, Eq)]
-pub enum SweepsError {
-    /// Memory ran out.
-    Memory,
-    /// The line has not the form.
-    Unreadable {
-        /// The number of the line.
-        line: u32,
-    },
-    /// 1,000 lines that aren't skipped stand before the line.
-    TooMany {
-        /// The number of the line.
-        line: u32,
-    },
-}
-
-impl From<NoMemory> for SweepsError {
-    ghost from_gives = { λ _ e. e ≡ Memory };
-
-    fn from(_e: NoMemory) -> SweepsError {
-        SweepsError::Memory
-    }
-}
+/// Why a file of sweeps is refused. It may have 1,000 lines that aren't skipped.
+pub type SweepsError = LinesError;
 
 // Puts the sweep of a line, which has this number and isn't skipped, behind the others.
 fn put_line(alloc: Global, sweeps: &mut Sweeps, number: u32, text: &[u8]) -> Result<(), SweepsError>

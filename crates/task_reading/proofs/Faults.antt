@@ -1,5 +1,5 @@
 -- The faults of the words and the files.
-use Rattle.std.proofs.Common.{◌≡◌, ◌⊎◌, inl, inr, ℕ, List, [], ◌∷◌, map, Option, Some, None, Result, Ok, Err, refl, sym, ap, subst, ◌∙◌, Bool, true, false, cond}
+use Rattle.std.proofs.Common.{◌≡◌, ◌⊎◌, inl, inr, ℕ, List, [], ◌∷◌, map, Option, Some, None, Result, Ok, Err, refl, sym, ap, subst, ◌∙◌, Bool, true, false, cond, codes}
 use Rattle.caida_reader.specs.Value.{links_of}
 use Rattle.caida_reader.specs.declared.errors.RelError.{RelError}
 use Rattle.scenario_text.specs.Readings.{scenario_of_bytes}
@@ -11,10 +11,10 @@ use Rattle.roa_table.specs.declared.errors.VrpError.TheVariants as vrp
 use Rattle.scenario_text.specs.declared.faults.ScenarioError.{ScenarioError}
 use Rattle.scenario_text.specs.declared.faults.LimitOf.TheVariants as limit
 use Rattle.scenario_text.specs.declared.faults.ScenarioError.TheVariants as scenario
-use Rattle.scenario_text.specs.declared.script.ScriptError.{ScriptError}
-use Rattle.scenario_text.specs.declared.script.ScriptError.TheVariants as script
+use Rattle.scenario_text.specs.declared.line_faults.LinesError.{LinesError}
+use Rattle.scenario_text.specs.declared.line_faults.LinesError.TheVariants as lines
 use Rattle.scenario_text.specs.Walks.{◌>>=◌}
-use Rattle.task_reading.specs.Texts.{fault_ending}
+use Rattle.task_reading.specs.Texts.{cause_of, fault_ending, lines_cause}
 use Rattle.std.specs.Result.{result_map_both}
 use Rattle.activations.specs.Files.{acts_by}
 use Rattle.activations.specs.declared.reading.ActsError.{ActsError}
@@ -26,8 +26,6 @@ use Rattle.message_sim.specs.declared.reading.DeliveriesError.TheVariants as del
 use Rattle.task_reading.specs.declared.words.FileOption.{FileOption}
 use Rattle.task_reading.specs.declared.words.FileOption.TheVariants as option
 use Rattle.sweep.specs.Reading.{with_line}
-use Rattle.sweep.specs.declared.reading.SweepsError.{SweepsError}
-use Rattle.sweep.specs.declared.reading.SweepsError.TheVariants as sweeps
 use Rattle.table_check.specs.Reading.{tables_by}
 use Rattle.table_check.specs.declared.reading.TablesError.{TablesError}
 use Rattle.table_check.specs.declared.reading.TablesError.TheVariants as tables
@@ -101,10 +99,17 @@ other_scenario form which (scenario.Limit limit.Rounds) = large form _ refl
 other_scenario form which (scenario.Limit limit.Leakers) = large form _ refl
 other_scenario form which (scenario.Limit limit.Watch) = large form _ refl
 
-pub other_script : (form : Option Form) (which : File) (e : ScriptError) → IsOther form (fault.InFile which (cause.Script e))
-other_script form which script.Memory = bad form _ refl
-other_script form which (script.Unreadable n) = bad form _ refl
-other_script form which (script.TooMany n) = large form _ refl
+-- each fault of a file of lines
+other_lines : (form : Option Form) (which : File) (c : Cause) (most : List ℕ) (e : LinesError) → cause_of c ≡ lines_cause most e → IsOther form (fault.InFile which c)
+other_lines form which c most lines.Memory is = bad form _ (ap (λ (row : Status × List ℕ). row.0) is)
+other_lines form which c most (lines.Unreadable n) is = bad form _ (ap (λ (row : Status × List ℕ). row.0) is)
+other_lines form which c most (lines.TooMany n) is = large form _ (ap (λ (row : Status × List ℕ). row.0) is)
+
+pub other_script : (form : Option Form) (which : File) (e : LinesError) → IsOther form (fault.InFile which (cause.Script e))
+other_script form which e = other_lines form which (cause.Script e) (codes "100000 commands") e refl
+
+pub other_sweeps : (form : Option Form) (which : File) (e : LinesError) → IsOther form (fault.InFile which (cause.Sweeps e))
+other_sweeps form which e = other_lines form which (cause.Sweeps e) (codes "1000 sweeps") e refl
 
 pub other_acts : (form : Option Form) (which : File) (e : ActsError) → IsOther form (fault.InFile which (cause.Acts e))
 other_acts form which acts.Memory = bad form _ refl
@@ -118,11 +123,6 @@ other_deliveries form which deliveries.Memory = bad form _ refl
 other_deliveries form which (deliveries.Unreadable n) = bad form _ refl
 other_deliveries form which (deliveries.TooMany n) = large form _ refl
 other_deliveries form which deliveries.NoFor = bad form _ refl
-
-pub other_sweeps : (form : Option Form) (which : File) (e : SweepsError) → IsOther form (fault.InFile which (cause.Sweeps e))
-other_sweeps form which sweeps.Memory = bad form _ refl
-other_sweeps form which (sweeps.Unreadable n) = bad form _ refl
-other_sweeps form which (sweeps.TooMany n) = large form _ refl
 
 pub other_tables : (form : Option Form) (which : File) (e : TablesError) → IsOther form (fault.InFile which (cause.Tables e))
 other_tables form which tables.Memory = bad form _ refl

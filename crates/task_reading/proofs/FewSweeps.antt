@@ -4,11 +4,11 @@ use Rattle.std.proofs.lemmas.Bool.{ltb-true}
 use Rattle.net_names.specs.Lines.{kept_from, said_on}
 use Rattle.net_names.specs.Trials.{◌>>=◌}
 use Rattle.sweep.specs.Reading.{sweep_of, with_line}
-use Rattle.sweep.specs.declared.reading.SweepsError.{SweepsError}
-use Rattle.sweep.specs.declared.reading.SweepsError.TheVariants.{Unreadable, TooMany}
+use Rattle.scenario_text.specs.declared.line_faults.LinesError.{LinesError}
+use Rattle.scenario_text.specs.declared.line_faults.LinesError.TheVariants.{Unreadable, TooMany}
 use Rattle.sweep.specs.declared.sweeps.Sweep.{Sweep}
 
-few_if : (before : List Sweep) (x : Sweep) (now : List Sweep) (e : SweepsError) (b : Bool) → nat_lt (length before) 1000 ≡ b → cond b (Ok (before ++ x ∷ [])) (Err e) ≡ Ok now → length now ≤ 1000
+few_if : (before : List Sweep) (x : Sweep) (now : List Sweep) (e : LinesError) (b : Bool) → nat_lt (length before) 1000 ≡ b → cond b (Ok (before ++ x ∷ [])) (Err e) ≡ Ok now → length now ≤ 1000
 few_if before x now e true less h =
     let same : before ++ x ∷ [] ≡ now = cc in
     omega (arith, ap length same, length-append before (x ∷ []), ltb-true (length before) 1000 less)
@@ -18,7 +18,7 @@ few_by : (o : Option Sweep) (before now : List Sweep) (n : ℕ) → (ok_or o (Un
 few_by None before now n h = cc
 few_by (Some x) before now n h = few_if before x now (TooMany n) (nat_lt (length before) 1000) refl h
 
-few_with : (step : Result (List Sweep) SweepsError) (lines : List (ℕ × List ℕ)) (now : List Sweep) → ((mid : List Sweep) → length mid ≤ 1000 → said_on with_line mid lines ≡ Ok now → length now ≤ 1000)
+few_with : (step : Result (List Sweep) LinesError) (lines : List (ℕ × List ℕ)) (now : List Sweep) → ((mid : List Sweep) → length mid ≤ 1000 → said_on with_line mid lines ≡ Ok now → length now ≤ 1000)
     → ((mid : List Sweep) → step ≡ Ok mid → length mid ≤ 1000) → (step >>= λ mid. said_on with_line mid lines) ≡ Ok now → length now ≤ 1000
 few_with (Ok mid) lines now more short h = more mid (short mid refl) h
 few_with (Err e) lines now more short h = cc

@@ -26,34 +26,18 @@ activations : form_of (codes "asprop" ∷ codes "rel" ∷ codes "--activations" 
 unfolding clap_on_literals form_of asprop_command
 activations = refl
 
-activations_and_script : form_of (codes "asprop" ∷ codes "rel" ∷ codes "--script" ∷ codes "a" ∷ codes "--activations" ∷ codes "b" ∷ []) ≡ None
-unfolding clap_on_literals form_of asprop_command
-activations_and_script = refl
-
-option_twice : form_of (codes "asprop" ∷ codes "rel" ∷ codes "--script" ∷ codes "a" ∷ codes "--script" ∷ codes "b" ∷ []) ≡ None
-unfolding clap_on_literals form_of asprop_command
-option_twice = refl
-
-origin_and_script : form_of (codes "asprop" ∷ codes "rel" ∷ codes "--script" ∷ codes "a" ∷ codes "--origin" ∷ codes "7" ∷ []) ≡ None
-unfolding clap_on_literals form_of asprop_command
-origin_and_script = refl
-
-origin_and_payloads : form_of (codes "asprop" ∷ codes "rel" ∷ codes "--vrps" ∷ codes "v" ∷ codes "--origin" ∷ codes "7" ∷ []) ≡ None
-unfolding clap_on_literals form_of asprop_command
-origin_and_payloads = refl
-
-help : form_of (codes "asprop" ∷ codes "rel" ∷ codes "--help" ∷ []) ≡ None
-unfolding clap_on_literals form_of asprop_command
-help = refl
-
 generated : form_of (codes "asprop" ∷ codes "--demo" ∷ codes "00004" ∷ []) ≡ Some (demo_form 4)
 unfolding clap_on_literals form_of asprop_command numeral
 generated = refl
 
-generated_too_small : form_of (codes "asprop" ∷ codes "--demo" ∷ codes "3" ∷ []) ≡ None
+-- two options with a file, an option twice, an origin with a script or with payloads, an option that isn't there, and a generated input that is too small or stands with a relationship file have no form
+without_form :
+    (form_of (codes "asprop" ∷ codes "rel" ∷ codes "--script" ∷ codes "a" ∷ codes "--activations" ∷ codes "b" ∷ []) ≡ None)
+    × (form_of (codes "asprop" ∷ codes "rel" ∷ codes "--script" ∷ codes "a" ∷ codes "--script" ∷ codes "b" ∷ []) ≡ None)
+    × (form_of (codes "asprop" ∷ codes "rel" ∷ codes "--script" ∷ codes "a" ∷ codes "--origin" ∷ codes "7" ∷ []) ≡ None)
+    × (form_of (codes "asprop" ∷ codes "rel" ∷ codes "--vrps" ∷ codes "v" ∷ codes "--origin" ∷ codes "7" ∷ []) ≡ None)
+    × (form_of (codes "asprop" ∷ codes "rel" ∷ codes "--help" ∷ []) ≡ None)
+    × (form_of (codes "asprop" ∷ codes "--demo" ∷ codes "3" ∷ []) ≡ None)
+    × (form_of (codes "asprop" ∷ codes "rel" ∷ codes "--demo" ∷ codes "4" ∷ []) ≡ None)
 unfolding clap_on_literals form_of asprop_command numeral
-generated_too_small = refl
-
-generated_and_relations : form_of (codes "asprop" ∷ codes "rel" ∷ codes "--demo" ∷ codes "4" ∷ []) ≡ None
-unfolding clap_on_literals form_of asprop_command
-generated_and_relations = refl
+without_form = (refl, refl, refl, refl, refl, refl, refl)

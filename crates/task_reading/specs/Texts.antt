@@ -12,8 +12,8 @@ use Rattle.scenario_text.specs.PlaceTexts.{place_text}
 use Rattle.scenario_text.specs.declared.faults.LimitOf.TheVariants.{Announcements, Prefixes, Path, Rounds, Leakers, Watch}
 use Rattle.scenario_text.specs.declared.faults.ScenarioError.TheVariants as scenario
 use Rattle.scenario_text.specs.declared.faults.ScenarioError.TheVariants.{Limit}
-use Rattle.scenario_text.specs.declared.script.ScriptError.TheVariants as script
-use Rattle.sweep.specs.declared.reading.SweepsError.TheVariants as sweeps
+use Rattle.scenario_text.specs.declared.line_faults.LinesError.{LinesError}
+use Rattle.scenario_text.specs.declared.line_faults.LinesError.TheVariants as lines
 use Rattle.table_check.specs.declared.reading.TablesError.TheVariants as tables
 use Rattle.task_reading.specs.Command.{file_options}
 use Rattle.task_reading.specs.Words.{Form, name_by}
@@ -33,6 +33,12 @@ message text = codes "asprop: " ++ text ++ 10 ∷ []
 -- a text behind the word for its place and the number of that, as in `line 5: unreadable` (own format)
 abbrev pub placed : String → ℕ → String → Text
 placed word n text = codes word ++ codes " " ++ (decimal n ++ (codes ": " ++ codes text))
+
+-- the rows of the causes of a file of lines, of which it may have so many (own format)
+abbrev pub lines_cause : Text → LinesError → Status × Text
+lines_cause most lines.Memory = (BadInput, [])
+lines_cause most (lines.Unreadable n) = (BadInput, placed "line" n "unreadable")
+lines_cause most (lines.TooMany n) = (TooLarge, placed "line" n "more than " ++ most)
 
 -- the table of causes: the status and the text, with the place in the file, of each (own format). Where memory runs out in a reader the run ends for want of memory, and its row here is never asked for
 abbrev pub cause_of : Cause → Status × Text
@@ -55,9 +61,7 @@ cause_of (Scenario (scenario.Shape place)) = (BadInput, place_text place ++ code
 cause_of (Scenario (scenario.Value place)) = (BadInput, place_text place ++ codes ": bad value")
 cause_of (Scenario (scenario.Twice place)) = (BadInput, place_text place ++ codes ": named twice")
 cause_of (Scenario (Limit which)) = (TooLarge, codes "more than " ++ elim which [ Announcements ↦ codes "64 announcements" | Prefixes ↦ codes "32 prefixes" | Path ↦ codes "64 numbers in a path" | Rounds ↦ codes "4 rounds" | Leakers ↦ codes "64 leakers in a round" | Watch ↦ codes "16 watched addresses" ])
-cause_of (Script script.Memory) = (BadInput, [])
-cause_of (Script (script.Unreadable n)) = (BadInput, placed "line" n "unreadable")
-cause_of (Script (script.TooMany n)) = (TooLarge, placed "line" n "more than 100000 commands")
+cause_of (Script e) = lines_cause (codes "100000 commands") e
 cause_of (Acts acts.Memory) = (BadInput, [])
 cause_of (Acts (acts.Unreadable n)) = (BadInput, placed "line" n "unreadable")
 cause_of (Acts (acts.Twice n)) = (BadInput, placed "line" n "named twice")
@@ -67,9 +71,7 @@ cause_of (Deliveries steps.Memory) = (BadInput, [])
 cause_of (Deliveries (steps.Unreadable n)) = (BadInput, placed "line" n "unreadable")
 cause_of (Deliveries (steps.TooMany n)) = (TooLarge, placed "line" n "more than 1000000 deliveries")
 cause_of (Deliveries steps.NoFor) = (BadInput, codes "no for line")
-cause_of (Sweeps sweeps.Memory) = (BadInput, [])
-cause_of (Sweeps (sweeps.Unreadable n)) = (BadInput, placed "line" n "unreadable")
-cause_of (Sweeps (sweeps.TooMany n)) = (TooLarge, placed "line" n "more than 1000 sweeps")
+cause_of (Sweeps e) = lines_cause (codes "1000 sweeps") e
 cause_of (Tables tables.Memory) = (BadInput, [])
 cause_of (Tables (tables.Unreadable n)) = (BadInput, placed "line" n "unreadable")
 cause_of (Tables (tables.Twice n)) = (BadInput, placed "line" n "named twice")

@@ -9,17 +9,15 @@ ghost use Rattle.roa_table.specs.declared.errors.VrpError.{VrpError as AVrpError
 ghost use Rattle.scenario_text.specs.Scenarios.{ScenarioValue};
 ghost use Rattle.scenario_text.specs.Faults.{Fails as ScenarioFails};
 ghost use Rattle.scenario_text.specs.LineValues.{LineValue};
-ghost use Rattle.scenario_text.specs.Script.{Fails as ScriptFails};
+ghost use Rattle.scenario_text.specs.LineFaults.{Fails as LinesFail};
 ghost use Rattle.scenario_text.specs.declared.faults.ScenarioError.{ScenarioError as AScenarioError};
-ghost use Rattle.scenario_text.specs.declared.script.ScriptError.{ScriptError as AScriptError};
+ghost use Rattle.scenario_text.specs.declared.line_faults.LinesError.{LinesError as ALinesError};
 ghost use Rattle.activations.specs.Files.{Fails as ActsFails};
 ghost use Rattle.activations.specs.declared.acts.Acts.{Acts as SomeActs};
 ghost use Rattle.activations.specs.declared.reading.ActsError.{ActsError as AnActsError};
 ghost use Rattle.message_sim.specs.Files.{Fails as DeliveriesFails};
 ghost use Rattle.message_sim.specs.declared.steps.Deliveries.{Deliveries as SomeDeliveries};
 ghost use Rattle.message_sim.specs.declared.reading.DeliveriesError.{DeliveriesError as ADeliveriesError};
-ghost use Rattle.sweep.specs.Reading.{Fails as SweepsFails};
-ghost use Rattle.sweep.specs.declared.reading.SweepsError.{SweepsError as ASweepsError};
 ghost use Rattle.sweep.specs.declared.sweeps.Sweep.{Sweep as ASweep};
 ghost use Rattle.table_check.specs.Reading.{Fails as TablesFails};
 ghost use Rattle.table_check.specs.declared.reading.TablesError.{TablesError as ATablesError};
@@ -33,8 +31,7 @@ use activations::ActsError;
 use caida_reader::RelError;
 use message_sim::DeliveriesError;
 use roa_table::VrpError;
-use scenario_text::{ScenarioError, ScriptError};
-use sweep::SweepsError;
+use scenario_text::{LinesError, ScenarioError};
 use table_check::TablesError;
 
 /// The error for a fault of the relationship file.
@@ -71,12 +68,12 @@ pub fn of_scenario(error: ScenarioError) -> AskError
 }
 
 /// The error for a fault of the script.
-pub fn of_script(error: ScriptError) -> AskError
-    ensures { (value : Result (List LineValue) AScriptError) → ScriptFails error value
+pub fn of_script(error: LinesError) -> AskError
+    ensures { (value : Result (List LineValue) ALinesError) → LinesFail error value
         → IsFaultIn file.Script cause.Script result value }
 {
     match error {
-        ScriptError::Memory => AskError::Memory,
+        LinesError::Memory => AskError::Memory,
         _ => AskError::Fault(Fault::InFile(File::Script, Cause::Script(error))),
     }
 }
@@ -104,12 +101,12 @@ pub fn of_deliveries(error: DeliveriesError) -> AskError
 }
 
 /// The error for a fault of the file of sweeps.
-pub fn of_sweeps(error: SweepsError) -> AskError
-    ensures { (value : Result (List ASweep) ASweepsError) → SweepsFails error value
+pub fn of_sweeps(error: LinesError) -> AskError
+    ensures { (value : Result (List ASweep) ALinesError) → LinesFail error value
         → IsFaultIn file.Script cause.Sweeps result value }
 {
     match error {
-        SweepsError::Memory => AskError::Memory,
+        LinesError::Memory => AskError::Memory,
         _ => AskError::Fault(Fault::InFile(File::Script, Cause::Sweeps(error))),
     }
 }

@@ -1,6 +1,6 @@
 //! The texts and statuses of faults.
 ghost use Rattle.std.specs.Prelude.{◌≡◌, [], IfOk, Option, option_map, string_bytes, unwrap_or};
-ghost use Rattle.task_reading.specs.Texts.{cause_of, fault_ending};
+ghost use Rattle.task_reading.specs.Texts.{cause_of, fault_ending, lines_cause};
 ghost use Rattle.task_reading.specs.Words.{Form, form_seen, name_by};
 
 use crate::types::{Cause, Fault, File, Status};
@@ -9,9 +9,8 @@ use activations::ActsError;
 use caida_reader::RelError;
 use message_sim::DeliveriesError;
 use roa_table::VrpError;
-use scenario_text::{LimitOf, ScenarioError, ScriptError, place_string};
+use scenario_text::{LimitOf, LinesError, ScenarioError, place_string};
 use std::alloc::{AllocError, Global};
-use sweep::SweepsError;
 use table_check::TablesError;
 
 const USAGE: &str =
@@ -81,15 +80,14 @@ fn scenario_text(alloc: Global, error: ScenarioError) -> Result<String, AllocErr
     }
 }
 
-fn script_text(alloc: Global, error: ScriptError) -> Result<String, AllocError>
-    ensures { IfOk result (λ text. string_bytes text ≡ (cause_of (Cause.Script error)).1) }
+// What is said of a fault of a file of lines, of which it may have so many.
+fn lines_text(alloc: Global, error: LinesError, most: &str) -> Result<String, AllocError>
+    ensures { IfOk result (λ text. string_bytes text ≡ (lines_cause most.now error).1) }
 {
     match error {
-        ScriptError::Memory => Ok(String::new(alloc)),
-        ScriptError::Unreadable { line } => format!(in alloc; "line {line}: unreadable"),
-        ScriptError::TooMany { line } => format!(in alloc;
-            "line {line}: more than 100000 commands"
-        ),
+        LinesError::Memory => Ok(String::new(alloc)),
+        LinesError::Unreadable { line } => format!(in alloc; "line {line}: unreadable"),
+        LinesError::TooMany { line } => format!(in alloc; "line {line}: more than {most}"),
     }
 }
 
@@ -120,16 +118,6 @@ fn deliveries_text(alloc: Global, error: DeliveriesError) -> Result<String, Allo
     }
 }
 
-fn sweeps_text(alloc: Global, error: SweepsError) -> Result<String, AllocError>
-    ensures { IfOk result (λ text. string_bytes text ≡ (cause_of (Cause.Sweeps error)).1) }
-{
-    match error {
-        SweepsError::Memory => Ok(String::new(alloc)),
-        SweepsError::Unreadable { line } => format!(in alloc; "line {line}: unreadable"),
-        SweepsError::TooMany { line } => format!(in alloc; "line {line}: more than 1000 sweeps"),
-    }
-}
-
 fn tables_text(alloc: Global, error: TablesError) -> Result<String, AllocError>
     ensures { IfOk result (λ text. string_bytes text ≡ (cause_of (Cause.Tables error)).1) }
 {
@@ -151,10 +139,10 @@ fn cause_text(alloc: Global, cause: Cause) -> Result<String, AllocError>
         Cause::Relation(error) => relation_text(alloc, error),
         Cause::Payload(error) => payload_text(alloc, error),
         Cause::Scenario(error) => scenario_text(alloc, error),
-        Cause::Script(error) => script_text(alloc, error),
+        Cause::Script(error) => lines_text(alloc, error, "100000 commands"),
         Cause::Acts(error) => acts_text(alloc, error),
         Cause::Deliveries(error) => deliveries_text(alloc, error),
-        Cause::Sweeps(error) => sweeps_text(alloc, error),
+        Cause::Sweeps(error) => lines_text(alloc, error, "1000 sweeps"),
         Cause::Tables(error) => tables_text(alloc, error),
         Cause::NotInWorld(line) => format!(in alloc; "line {line}: not in the world"),
     }
@@ -201,13 +189,13 @@ fn cause_status(cause: Cause) -> Status
         Cause::Payload(_) => Status::BadInput,
         Cause::Scenario(ScenarioError::Limit { which: _ }) => Status::TooLarge,
         Cause::Scenario(_) => Status::BadInput,
-        Cause::Script(ScriptError::TooMany { line: _ }) => Status::TooLarge,
+        Cause::Script(LinesError::TooMany { line: _ }) => Status::TooLarge,
         Cause::Script(_) => Status::BadInput,
         Cause::Acts(ActsError::TooMany { line: _ }) => Status::TooLarge,
         Cause::Acts(_) => Status::BadInput,
         Cause::Deliveries(DeliveriesError::TooMany { line: _ }) => Status::TooLarge,
         Cause::Deliveries(_) => Status::BadInput,
-        Cause::Sweeps(SweepsError::TooMany { line: _ }) => Status::TooLarge,
+        Cause::Sweeps(LinesError::TooMany { line: _ }) => Status::TooLarge,
         Cause::Sweeps(_) => Status::BadInput,
         Cause::Tables(_) => Status::BadInput,
         Cause::NotInWorld(_) => Status::BadInput,

@@ -3,7 +3,7 @@ ghost use Rattle.std.specs.Prelude.{◌≡◌, ◌≤◌, [], ◌∷◌, All, If
 ghost use Rattle.activations.specs.Named.{AreSound};
 ghost use Rattle.scenario_text.specs.LineValues.{AreSoundLines};
 ghost use Rattle.sweep.specs.declared.sweeps.TheConstants.{MOST_SWEEPS};
-ghost use Rattle.task_reading.specs.Jobs.{AreAlike, IsSoundJob, acts_job, counts_job, job_seen, line_job, line_jobs, messages_job, needs_of, sweep_job, tables_job};
+ghost use Rattle.task_reading.specs.Jobs.{AreAlike, IsSoundAsks, IsSoundJob, counts_job, job_seen, jobs_of, line_job, needs_of};
 
 use activations::Acts;
 use message_sim::Deliveries;
@@ -40,18 +40,18 @@ pub enum Needs {
     Ranks,
 }
 
-// How jobs are kept.
+/// How jobs are kept.
 #[derive(Drop)]
-enum Asks {
-    // The answers to lines, each with a head line or without, and perhaps the numbers of ASes and links before.
+pub(crate) enum Asks {
+    /// The answers to lines, each with a head line or without, and perhaps the numbers of ASes and links before.
     Lines(bool, bool, Lines),
-    // What activations come to.
+    /// What activations come to.
     Activations(Acts),
-    // What deliveries come to.
+    /// What deliveries come to.
     Messages(Deliveries),
-    // The trials of sweeps.
+    /// The trials of sweeps.
     Sweeps(Sweeps),
-    // Whether a printed table is right.
+    /// Whether a printed table is right.
     Tables(Tables),
 }
 
@@ -124,51 +124,12 @@ pub fn jobs_are_alike(jobs: &Jobs)
 }
 
 impl Jobs {
-    /// The answers to lines, each with a head line or without, and perhaps the numbers of ASes and links before.
-    pub(crate) fn of_lines(counts: bool, heads: bool, lines: Lines) -> Jobs
-        ensures { result ≡ line_jobs counts heads lines }
+    /// The jobs that are kept so.
+    pub(crate) fn of_asks(asks: Asks) -> Jobs
+        requires { IsSoundAsks asks }
+        ensures { result ≡ jobs_of asks }
     {
-        Jobs {
-            asks: Asks::Lines(counts, heads, lines),
-        }
-    }
-
-    /// What activations come to.
-    pub(crate) fn of_activations(acts: Acts) -> Jobs
-        requires { AreSound acts }
-        ensures { result ≡ acts_job acts ∷ [] }
-    {
-        Jobs {
-            asks: Asks::Activations(acts),
-        }
-    }
-
-    /// What deliveries come to.
-    pub(crate) fn of_deliveries(deliveries: Deliveries) -> Jobs
-        ensures { result ≡ messages_job deliveries ∷ [] }
-    {
-        Jobs {
-            asks: Asks::Messages(deliveries),
-        }
-    }
-
-    /// The trials of sweeps, each a job.
-    pub(crate) fn of_sweeps(sweeps: Sweeps) -> Jobs
-        requires { length sweeps ≤ MOST_SWEEPS }
-        ensures { result ≡ map sweep_job sweeps }
-    {
-        Jobs {
-            asks: Asks::Sweeps(sweeps),
-        }
-    }
-
-    /// Whether a printed table is right.
-    pub(crate) fn of_tables(tables: Tables) -> Jobs
-        ensures { result ≡ tables_job tables ∷ [] }
-    {
-        Jobs {
-            asks: Asks::Tables(tables),
-        }
+        Jobs { asks }
     }
 
     /// What of a world the answers are made from.

@@ -18,7 +18,7 @@ ghost use Rattle.task_reading.specs.declared.types.Cause.TheVariants as cause;
 use crate::errors::{
     of_acts, of_deliveries, of_payloads, of_relations, of_scenario, of_script, of_sweeps, of_tables,
 };
-use crate::jobs::Jobs;
+use crate::jobs::{Asks, Jobs};
 use crate::types::{AskError, Cause, Fault, File};
 use crate::words::FileOption;
 use activations::read_acts;
@@ -178,29 +178,30 @@ fn most_bytes(option: FileOption) -> usize
 }
 
 // The jobs that the bytes of an option's file ask for.
+#[tactic(auto, using(crate::proofs::FewSweeps::few_sweeps))]
 fn jobs_in(alloc: Global, option: FileOption, bytes: &[u8]) -> Result<Jobs, AskError>
     requires { length bytes.now ≤ most_bytes option }
     ensures { FindsJobs result (jobs_in option bytes.now) }
 {
     match option {
         FileOption::Script => match read_script(alloc, bytes) {
-            Ok(lines) => Ok(Jobs::of_lines(false, true, lines)),
+            Ok(lines) => Ok(Jobs::of_asks(Asks::Lines(false, true, lines))),
             Err(error) => Err(of_script(error)),
         },
         FileOption::Activations => match read_acts(alloc, bytes) {
-            Ok(acts) => Ok(Jobs::of_activations(acts)),
+            Ok(acts) => Ok(Jobs::of_asks(Asks::Activations(acts))),
             Err(error) => Err(of_acts(error)),
         },
         FileOption::Messages => match read_deliveries(alloc, bytes) {
-            Ok(deliveries) => Ok(Jobs::of_deliveries(deliveries)),
+            Ok(deliveries) => Ok(Jobs::of_asks(Asks::Messages(deliveries))),
             Err(error) => Err(of_deliveries(error)),
         },
         FileOption::Sweep => match read_sweeps(alloc, bytes) {
-            Ok(sweeps) => Ok(Jobs::of_sweeps(sweeps)),
+            Ok(sweeps) => Ok(Jobs::of_asks(Asks::Sweeps(sweeps))),
             Err(error) => Err(of_sweeps(error)),
         },
         FileOption::Check => match read_tables(alloc, bytes) {
-            Ok(tables) => Ok(Jobs::of_tables(tables)),
+            Ok(tables) => Ok(Jobs::of_asks(Asks::Tables(tables))),
             Err(error) => Err(of_tables(error)),
         },
     }

@@ -8,9 +8,8 @@ use caida_reader::RelError;
 use message_sim::DeliveriesError;
 use net_names::NoMemory;
 use roa_table::VrpError;
-use scenario_text::{ScenarioError, ScriptError};
+use scenario_text::{LinesError, ScenarioError};
 use std::alloc::AllocError;
-use sweep::SweepsError;
 use table_check::TablesError;
 
 /// The part that a file has in a run.
@@ -76,13 +75,13 @@ pub enum Cause {
     /// The scenario has this fault.
     Scenario(ScenarioError),
     /// The script has this fault.
-    Script(ScriptError),
+    Script(LinesError),
     /// The file of activations has this fault.
     Acts(ActsError),
     /// The file of deliveries has this fault.
     Deliveries(DeliveriesError),
     /// The file of sweeps has this fault.
-    Sweeps(SweepsError),
+    Sweeps(LinesError),
     /// The printed table has this fault.
     Tables(TablesError),
     /// The line of this number, the first such one, names what isn't in the world.

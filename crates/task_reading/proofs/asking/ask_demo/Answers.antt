@@ -10,4 +10,4 @@ returns-in_err-links g c =
     rw (p.1, p.2) (demo_found _ (Err error.Memory) tt)
 
 pub returns : goal.returns
-returns g c = demo_found _ (Ok _) (rw (c.of_lines.ensures, c.in_ok-links.ensures.links, c.in_ok-links.ensures.vrps, c.in_ok-links.ensures.scenario, c.in_ok-links.ensures.lines) refl)
+returns g c = demo_found _ (Ok _) (rw (c.of_asks.ensures, c.in_ok-links.ensures.links, c.in_ok-links.ensures.vrps, c.in_ok-links.ensures.scenario, c.in_ok-links.ensures.lines) refl)

@@ -21,4 +21,4 @@ returns-in_err-lines g c =
     rw (p.1, p.2) (origin_found _ _ (λ (links : LinkMap). links) c.in_ok-links.links (Err error.Memory) c.in_ok-links.ensures.found tt)
 
 pub returns : goal.returns
-returns g c = origin_found _ _ (λ (links : LinkMap). links) c.in_ok-links.links (Ok _) c.in_ok-links.ensures.found (rw (c.of_lines.ensures, c.new.ensures, c.in_ok-scenario.ensures, c.in_ok-lines.ensures) refl)
+returns g c = origin_found _ _ (λ (links : LinkMap). links) c.in_ok-links.links (Ok _) c.in_ok-links.ensures.found (rw (c.of_asks.ensures, c.new.ensures, c.in_ok-scenario.ensures, c.in_ok-lines.ensures) refl)

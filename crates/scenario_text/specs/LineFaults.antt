@@ -1,0 +1,15 @@
+-- Faults of a file of lines, and what a call answers of a reading.
+use Rattle.std.specs.Prelude.{◌≡◌, Result, Ok, Err}
+use Rattle.scenario_text.specs.declared.line_faults.LinesError.{LinesError}
+use Rattle.scenario_text.specs.declared.line_faults.LinesError.TheVariants.{Memory, Unreadable, TooMany}
+
+-- a reading fails in this way; want of memory says nothing of it
+abbrev pub Fails : {X : Type 0} → LinesError → Result X LinesError → Type 0
+Fails Memory reading = Unit {0}
+Fails (Unreadable line) reading = reading ≡ Err (Unreadable line)
+Fails (TooMany line) reading = reading ≡ Err (TooMany line)
+
+-- what was returned is what the reading gives, unless memory ran out
+abbrev pub Gives : {X : Type 0} → Result X LinesError → Result X LinesError → Type 0
+Gives (Ok x) reading = reading ≡ Ok x
+Gives (Err e) reading = Fails e reading
