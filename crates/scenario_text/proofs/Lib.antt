@@ -11,3 +11,4 @@ pub mod NumberLists
 pub mod Accepted
 pub mod Passing
 pub mod Members
+pub mod FileLines

@@ -17,3 +17,4 @@ pub mod Limits
 pub mod Readings
 pub mod Laws
 pub mod Prelude
+pub mod FileLines
