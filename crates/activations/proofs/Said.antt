@@ -1,6 +1,6 @@
 -- What lines say one after the other is what they say all at once.
 use Rattle.std.proofs.Common.{◌≡◌, ◌⊎◌, inl, inr, ℕ, ◌+◌, ◌<◌, ◌≤◌, Bool, true, false, ◌==◌, ◌||◌, nat_lt, List, [], ◌∷◌, ◌++◌, length, map as each, Option, Some, None, is_some, Result, Ok, Err, refl, sym, ap, subst, ◌∙◌, append_assoc, append-nil, arith}
-use Rattle.std.specs.Prelude.{not, bytes_eq, codes, if◌then◌else◌, ok_or, option_and_then, option_map, unwrap_or}
+use Rattle.std.specs.Prelude.{not, bytes_eq, codes, if◌then◌else◌, option_and_then, option_map, unwrap_or}
 use Rattle.std.specs.List.{flat_map, join_with_byte, list_any}
 use Rattle.std.specs.Option.{option_or}
 use Rattle.std.specs.Ordering.{nat_cmp, eq_by_cmp}
@@ -22,11 +22,11 @@ use Rattle.net_names.specs.Texts.{after, asn_of, cut_at, fields}
 use Rattle.net_names.proofs.Distinct.{apart_from_distinct, distinct_from_apart}
 use Rattle.net_names.proofs.Cuts.{fields_cut, fields_uncut}
 use Rattle.net_names.specs.Trials.{◌>>=◌}
-use Rattle.scenario_text.specs.Forms.{for_of}
+use Rattle.scenario_text.proofs.FileLines.{begun}
 use Rattle.stability_laws.specs.declared.entry.Entry.{Entry}
 use Rattle.activations.specs.declared.acts.Acts.{Acts}
 use Rattle.activations.specs.declared.reading.ActsError.{ActsError}
-use Rattle.activations.specs.declared.reading.ActsError.TheVariants.{Unreadable, Twice, TooMany}
+use Rattle.activations.specs.declared.reading.ActsError.TheVariants.{Unreadable, Twice, TooMany, NoFor}
 use Rattle.activations.specs.declared.reading.TheConstants.{MOST_ACTIVATIONS}
 use Rattle.activations.specs.Files.{act_of, acts_by, hold_of, numbers_in, with_acts, with_hold, with_line}
 use Rattle.activations.specs.Laws.{AreSaid, IsFile, said_by}
@@ -298,14 +298,10 @@ holds_made (h ∷ hs) runs (l ∷ ls) s done held list e once few =
 
 pub file_said : (lines : List (ℕ × List ℕ)) (acts : Acts) → acts_by lines ≡ Ok acts → IsFile lines acts
 unfolding acts_by
-file_said [] acts is = absurd cc
-file_said (l ∷ ls) acts is = by (for_of l.1) refl is
-  where
-    by : (o : Option (ℕ × PrefixValue)) → for_of l.1 ≡ o → (ok_or o (Unreadable l.0) >>= λ x. said_on with_line (no_acts l.0 x) ls) ≡ Ok acts → IsFile (l ∷ ls) acts
-    by None e is = absurd cc
-    by (Some x) e is =
-        let o = all_said l.0 x [] ls (no_acts l.0 x) acts (opened l.0 x) is in
-        record { text = l.1; rest = ls; lines_are = ap (λ n. (n, l.1) ∷ ls) (sym o.first); names = e ∙ ap (λ (y : ℕ × PrefixValue). Some y) (sym o.named); said = o.said }
+file_said lines acts is =
+    let b = begun NoFor Unreadable (λ n x. said_on with_line (no_acts n x)) lines acts is in
+    let o = all_said b.number b.names [] b.rest (no_acts b.number b.names) acts (opened b.number b.names) b.says_so in
+    record { text = b.text; rest = b.rest; lines_are = b.lines_are ∙ ap (λ n. (n, b.text) ∷ b.rest) (sym o.first); names = b.names_are ∙ ap (λ (y : ℕ × PrefixValue). Some y) (sym o.named); said = o.said }
 
 pub said_file : (lines : List (ℕ × List ℕ)) (acts : Acts) → IsFile lines acts → acts_by lines ≡ Ok acts
 unfolding acts_by

@@ -7,12 +7,18 @@ use Rattle.net_names.specs.Lines.{said_on}
 use Rattle.net_names.specs.Steps.{option_filter}
 use Rattle.net_names.specs.Texts.{asn_of, class_named, fields}
 use Rattle.net_names.specs.Trials.{◌>>=◌}
+use Rattle.scenario_text.specs.FileLines.{GivesOrFails}
 use Rattle.scenario_text.specs.Forms.{for_of, form, pair}
 use Rattle.stability_laws.specs.declared.entry.Entry.{Entry}
 use Rattle.activations.specs.declared.acts.Acts.{Acts}
 use Rattle.activations.specs.declared.reading.ActsError.{ActsError}
 use Rattle.activations.specs.declared.reading.ActsError.TheVariants.{Memory, Unreadable, Twice, TooMany, NoFor}
 use Rattle.activations.specs.declared.reading.TheConstants.{MOST_ACTIVATIONS}
+
+-- a reading fails in this way; want of memory says nothing of it
+abbrev pub Fails : {X : Type 0} → ActsError → Result X ActsError → Type 0
+Fails Memory reading = Unit {0}
+Fails e reading = reading ≡ Err e
 
 -- the numbers that the words are; in place of a number the word `otc` may stand, with one number behind it, which is the last word (own format)
 unfoldable pub numbers_in : List (List ℕ) → Option (List ℕ × Option ℕ)
@@ -51,15 +57,6 @@ unfoldable pub acts_by : List (ℕ × List ℕ) → Result Acts ActsError
 acts_by [] = Err NoFor
 acts_by (l ∷ ls) = ok_or (for_of l.1) (Unreadable l.0) >>= λ x. said_on with_line (record { for_line = l.0; round = x.0; prefix = x.1; held = map.empty; list = []; named = [] }) ls
 
--- a reading fails in this way; want of memory says nothing of it
-abbrev pub Fails : {X : Type 0} → ActsError → Result X ActsError → Type 0
-Fails Memory reading = Unit {0}
-Fails (Unreadable line) reading = reading ≡ Err (Unreadable line)
-Fails (Twice line) reading = reading ≡ Err (Twice line)
-Fails (TooMany line) reading = reading ≡ Err (TooMany line)
-Fails NoFor reading = reading ≡ Err NoFor
-
 -- what was returned is what the reading gives, unless memory ran out
 abbrev pub Gives : {X : Type 0} → Result X ActsError → Result X ActsError → Type 0
-Gives (Ok x) reading = reading ≡ Ok x
-Gives (Err e) reading = Fails e reading
+Gives result reading = GivesOrFails Fails result reading

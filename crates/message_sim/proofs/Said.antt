@@ -4,17 +4,17 @@ use Rattle.std.proofs.lemmas.Bool.{leb-true, le-leb}
 use Rattle.std.proofs.lemmas.Grind.{flat_map-append}
 use Rattle.std.specs.Prelude.{if◌then◌else◌, ok_or}
 use Rattle.net_names.specs.Lines.{said_on}
-use Rattle.net_names.specs.Prefixes.{PrefixValue}
 use Rattle.net_names.specs.Trials.{◌>>=◌}
-use Rattle.scenario_text.specs.Forms.{for_of}
+use Rattle.scenario_text.proofs.FileLines.{begun}
 use Rattle.message_sim.specs.Turns.{turns_of}
 use Rattle.message_sim.specs.declared.steps.Deliveries.{Deliveries}
 use Rattle.message_sim.specs.StepValues.{StepValue}
 use Rattle.message_sim.specs.declared.steps.TheConstants.{MOST_DELIVERIES}
 use Rattle.message_sim.specs.declared.reading.DeliveriesError.{DeliveriesError}
-use Rattle.message_sim.specs.declared.reading.DeliveriesError.TheVariants.{Unreadable, TooMany}
+use Rattle.message_sim.specs.declared.reading.DeliveriesError.TheVariants.{Unreadable, TooMany, NoFor}
 use Rattle.message_sim.specs.Files.{deliveries_by, step_of, with_line}
 use Rattle.message_sim.specs.FileLaws.{IsFile}
+use Rattle.message_sim.proofs.FileLines.{begins}
 
 -- the steps of the lines, behind those that stand there
 record Says (lines : List (ℕ × List ℕ)) (d end : Deliveries) : Type 0 where
@@ -65,22 +65,18 @@ all_made (l ∷ ls) (s ∷ ss) d e few =
 
 pub file_said : (lines : List (ℕ × List ℕ)) (d : Deliveries) → deliveries_by lines ≡ Ok d → IsFile lines d
 unfolding deliveries_by
-file_said [] d is = absurd cc
-file_said (l ∷ ls) d is = by (for_of l.1) refl is
-  where
-    by : (o : Option (ℕ × PrefixValue)) → for_of l.1 ≡ o → (ok_or o (Unreadable l.0) >>= λ x. said_on with_line (record { for_line = l.0; round = x.0; prefix = x.1; steps = [] }) ls) ≡ Ok d → IsFile (l ∷ ls) d
-    by None e is = absurd cc
-    by (Some x) e is =
-        let said = all_said ls (record { for_line = l.0; round = x.0; prefix = x.1; steps = [] }) d (omega arith) is in
-        let whole : d ≡ record { for_line = l.0; round = x.0; prefix = x.1; steps = said.more } = said.whole in
-        record {
-          text = l.1;
-          rest = ls;
-          lines_are = ap (λ (t : Deliveries). (t.for_line, l.1) ∷ ls) (sym whole);
-          names = e ∙ ap (λ (t : Deliveries). Some (t.round, t.prefix)) (sym whole);
-          steps = said.steps ∙ ap (λ (t : Deliveries). map Some t.steps) (sym whole);
-          few = said.few;
-        }
+file_said lines d is =
+    let b = begun NoFor Unreadable begins lines d is in
+    let said = all_said b.rest (record { for_line = b.number; round = b.names.0; prefix = b.names.1; steps = [] }) d (omega arith) b.says_so in
+    let whole : d ≡ record { for_line = b.number; round = b.names.0; prefix = b.names.1; steps = said.more } = said.whole in
+    record {
+      text = b.text;
+      rest = b.rest;
+      lines_are = b.lines_are ∙ ap (λ (t : Deliveries). (t.for_line, b.text) ∷ b.rest) (sym whole);
+      names = b.names_are ∙ ap (λ (t : Deliveries). Some (t.round, t.prefix)) (sym whole);
+      steps = said.steps ∙ ap (λ (t : Deliveries). map Some t.steps) (sym whole);
+      few = said.few;
+    }
 
 pub said_file : (lines : List (ℕ × List ℕ)) (d : Deliveries) → IsFile lines d → deliveries_by lines ≡ Ok d
 unfolding deliveries_by

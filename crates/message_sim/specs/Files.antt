@@ -5,6 +5,7 @@ use Rattle.net_names.specs.Lines.{said_on}
 use Rattle.net_names.specs.Steps.{option_filter}
 use Rattle.net_names.specs.Texts.{asn_of, numeral}
 use Rattle.net_names.specs.Trials.{◌>>=◌}
+use Rattle.scenario_text.specs.FileLines.{GivesOrFails}
 use Rattle.scenario_text.specs.Forms.{for_of, form, pair}
 use Rattle.message_sim.specs.declared.steps.Deliveries.{Deliveries}
 use Rattle.message_sim.specs.StepValues.{StepValue}
@@ -12,6 +13,11 @@ use Rattle.message_sim.specs.declared.reading.DeliveriesError.{DeliveriesError}
 use Rattle.message_sim.specs.declared.reading.DeliveriesError.TheVariants.{Memory, Unreadable, TooMany, NoFor}
 use Rattle.message_sim.specs.declared.steps.TheConstants.{MOST_DELIVERIES}
 use Rattle.message_sim.specs.Turns.{turns_of}
+
+-- a reading fails in this way; want of memory says nothing of it
+abbrev pub Fails : {X : Type 0} → DeliveriesError → Result X DeliveriesError → Type 0
+Fails Memory reading = Unit {0}
+Fails e reading = reading ≡ Err e
 
 -- `deliver N A` asks for one turn of the link from AS N to another AS A, and `rest K` for K turns, each of the lowest link with a message; K is 1 to 7 digits with a value from 1 to 1,000,000 (own format)
 abbrev pub step_of : ℕ × List ℕ → Option StepValue
@@ -31,14 +37,6 @@ unfoldable pub deliveries_by : List (ℕ × List ℕ) → Result Deliveries Deli
 deliveries_by [] = Err NoFor
 deliveries_by (l ∷ ls) = ok_or (for_of l.1) (Unreadable l.0) >>= λ x. said_on with_line (record { for_line = l.0; round = x.0; prefix = x.1; steps = [] }) ls
 
--- a reading fails in this way; want of memory says nothing of it
-abbrev pub Fails : {X : Type 0} → DeliveriesError → Result X DeliveriesError → Type 0
-Fails Memory reading = Unit {0}
-Fails (Unreadable line) reading = reading ≡ Err (Unreadable line)
-Fails (TooMany line) reading = reading ≡ Err (TooMany line)
-Fails NoFor reading = reading ≡ Err NoFor
-
 -- what was returned is what the reading gives, unless memory ran out
 abbrev pub Gives : {X : Type 0} → Result X DeliveriesError → Result X DeliveriesError → Type 0
-Gives (Ok x) reading = reading ≡ Ok x
-Gives (Err e) reading = Fails e reading
+Gives result reading = GivesOrFails Fails result reading

@@ -6,12 +6,18 @@ use Rattle.net_names.specs.Lines.{said_on}
 use Rattle.net_names.specs.Prefixes.{prefix_cmp}
 use Rattle.net_names.specs.Steps.{option_filter}
 use Rattle.net_names.specs.Trials.{◌>>=◌}
+use Rattle.scenario_text.specs.FileLines.{GivesOrFails}
 use Rattle.scenario_text.specs.Forms.{for_of}
 use Rattle.stability_laws.specs.declared.entry.Entry.{Entry}
 use Rattle.table_check.specs.declared.tables.Tables.{Tables}
 use Rattle.table_check.specs.declared.reading.TablesError.{TablesError}
 use Rattle.table_check.specs.declared.reading.TablesError.TheVariants.{Memory, Unreadable, Twice, NoFor}
 use Rattle.table_check.specs.Forms.{row_of}
+
+-- a reading fails in this way; want of memory says nothing of it
+abbrev pub Fails : {X : Type 0} → TablesError → Result X TablesError → Type 0
+Fails Memory reading = Unit {0}
+Fails e reading = reading ≡ Err e
 
 -- with a row of the last section, in the line of this number: an AS has one row in a section (own format)
 abbrev pub with_row : Tables → ℕ → ℕ × Option Entry → Result Tables TablesError
@@ -30,14 +36,6 @@ unfoldable pub tables_by : List (ℕ × List ℕ) → Result Tables TablesError
 tables_by ls = ok_or (slice_get ls 0) NoFor >>= λ l. ok_or (for_of l.1) (Unreadable l.0) >>= λ x.
     said_on with_line (record { prefix = x.1; starts = []; rows = map.empty }) ls
 
--- a reading fails in this way; want of memory says nothing of it
-abbrev pub Fails : {X : Type 0} → TablesError → Result X TablesError → Type 0
-Fails Memory reading = Unit {0}
-Fails (Unreadable line) reading = reading ≡ Err (Unreadable line)
-Fails (Twice line) reading = reading ≡ Err (Twice line)
-Fails NoFor reading = reading ≡ Err NoFor
-
 -- what was returned is what the reading gives, unless memory ran out
 abbrev pub Gives : {X : Type 0} → Result X TablesError → Result X TablesError → Type 0
-Gives (Ok x) reading = reading ≡ Ok x
-Gives (Err e) reading = Fails e reading
+Gives result reading = GivesOrFails Fails result reading
