@@ -1,5 +1,6 @@
 -- Turns, one after the other.
 use Rattle.std.proofs.Common.{◌≡◌, ◌≢◌, ◌⊎◌, inl, inr, ℕ, zero, suc, ◌+◌, ◌<◌, ◌≤◌, Bool, true, false, cond, not, is_some, Option, Some, None, List, [], ◌∷◌, ◌++◌, length, drop, replicate, refl, sym, ◌∙◌, ap, subst, arith, zero-le, le_of_eq, append-nil, length-append, take, get_or, find, option_map, Result, Ok, Err, IfOk}
+use Rattle.std.proofs.Math.Seq.{take-suc}
 use Rattle.std.proofs.lemmas.Grind.{flat_map-append}
 use Rattle.std.proofs.lemmas.List.{replicate-append-replicate}
 use Rattle.net_names.specs.declared.routes.Rel.{Rel}
@@ -101,11 +102,19 @@ module _ {P V : Type 0} (meaning : P → Policy) (state_of : V → PrefixValue �
       subst (λ (ts : List (Option (ℕ × ℕ))). Turns old.world ts (net_of old) (made + cond took 1 0) (net_of new)) (replicate-append-replicate k 1 (Some (n, a)))
       (more (replicate k (Some (n, a))) (Some (n, a) ∷ []) made (cond took 1 0) so_far (turn_one (net_setting meaning state_of now.world) (seeds_in now.world) now new n a took turn))
 
-  pub step_run : (steps : List StepValue) (s : StepValue) (made got : ℕ) → Turns old.world (turns_of steps) (net_of old) made (net_of now) → Turns now.world (replicate s.most s.link) (net_of now) got (net_of new)
+  step_run : (steps : List StepValue) (s : StepValue) (made got : ℕ) → Turns old.world (turns_of steps) (net_of old) made (net_of now) → Turns now.world (replicate s.most s.link) (net_of now) got (net_of new)
       → Turns old.world (turns_of (steps ++ s ∷ [])) (net_of old) (made + got) (net_of new)
   step_run steps s made got so_far then =
       subst (λ (ts : List (Option (ℕ × ℕ))). Turns old.world ts (net_of old) (made + got) (net_of new)) (sym (flat_map-append _ steps (s ∷ []) ∙ ap (λ t. turns_of steps ++ t) (append-nil (replicate s.most s.link))))
       (more (turns_of steps) (replicate s.most s.link) made got so_far then)
+
+  -- turns of the first steps and of the next one
+  pub one_step_more : (steps : List StepValue) (i : ℕ) (s : StepValue) (made got : ℕ) → i < length steps → s ≡ get_or steps i s → Turns old.world (turns_of (take i steps)) (net_of old) made (net_of now)
+      → Turns now.world (replicate s.most s.link) (net_of now) got (net_of new) → Turns old.world (turns_of (take (i + 1) steps)) (net_of old) (made + got) (net_of new)
+  one_step_more steps i s made got inside at so_far then =
+      let next : i + 1 ≡ suc i = omega arith in
+      let taken : take (i + 1) steps ≡ take i steps ++ s ∷ [] = ap (λ k. take k steps) next ∙ take-suc steps i s inside ∙ ap (λ (x : StepValue). take i steps ++ x ∷ []) (sym at) in
+      subst (λ (xs : List StepValue). Turns old.world (turns_of xs) (net_of old) (made + got) (net_of new)) (sym taken) (step_run (take i steps) s made got so_far then)
 
 pub rested_ok : {P V E : Type 0} (w : Setting) (seeds : ℕ → Option Seed) (old new : NetValue P V) (most : ℕ) (link : Option (ℕ × ℕ)) (r : Result ℕ E) → link ≡ None → IfOk r (IsRested w seeds old most new) → IfOk r (λ made. AreTurns w seeds (replicate most link) (net_of old) made (net_of new))
 rested_ok w seeds old new most link (Ok made) none h =

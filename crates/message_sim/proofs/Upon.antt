@@ -18,11 +18,11 @@ use Rattle.message_sim.proofs.Choices.{kept_choice, other_best, others_stay, sam
 
 module _ {P V : Type 0} (meaning : P → Policy) (state_of : V → PrefixValue → ℕ → State) (x : Arrival P V) where
   -- an offer of an AS is one over its link
-  pub given_upon : (n : ℕ) (o : Offer) → offers_upon meaning state_of x n ≡ Some o → GivenBy (relation x.graph.now x.to n) n o
+  pub given_upon : (n : ℕ) (o : Offer) → offers_upon meaning state_of x n ≡ Some o → GivenBy (relation x.ground.now.graph.now x.to n) n o
   given_upon n o e =
       let here = setting_of meaning state_of x in
       let heard = received_with (λ k. received_at x.lines.now.entries k x.to) x.from (option_copied x.message) in
-      given_by (here.policy n) (here.policy x.to) here.state n x.to (relation x.graph.now x.to n) (heard n) o e
+      given_by (here.policy n) (here.policy x.to) here.state n x.to (relation x.ground.now.graph.now x.to n) (heard n) o e
 
   -- an offer is of the AS that makes it
   pub from_its_neighbour : (n : ℕ) (o : Offer) → offers_upon meaning state_of x n ≡ Some o → o.view.neighbour ≡ n
@@ -33,9 +33,9 @@ module _ {P V : Type 0} (meaning : P → Policy) (state_of : V → PrefixValue �
   others_stay_upon = others_stay (setting_of meaning state_of x) x.lines.now.entries x.to x.from (option_copied x.message)
 
   -- the view of the best offer of the receiver, by how the message compares with the best one before
-  module _ (ranks : RanksOffers (meaning (policy_at x.book.now x.to))) where
+  module _ (ranks : RanksOffers (meaning (policy_at x.ground.now.book.now x.to))) where
     abbrev own : Policy
-    own = meaning (policy_at x.book.now x.to)
+    own = meaning (policy_at x.ground.now.book.now x.to)
 
     abbrev before : ℕ → Option Offer
     before = offers_before meaning state_of x

@@ -15,7 +15,7 @@ ground_setting meaning state_of x = setting meaning x.graph.now x.book.now (stat
 
 -- the same of an arrival in it
 abbrev pub setting_of : {P V : Type 0} → (P → Policy) → (V → PrefixValue → ℕ → State) → Arrival P V → Setting
-setting_of meaning state_of x = setting meaning x.graph.now x.book.now (state_of x.states.now x.prefix)
+setting_of meaning state_of x = ground_setting meaning state_of x.ground.now
 
 -- the offers that the receiver has before it receives the message
 abbrev pub offers_before : {P V : Type 0} → (P → Policy) → (V → PrefixValue → ℕ → State) → Arrival P V → ℕ → Option Offer

@@ -54,15 +54,15 @@ fn view_from<P: RoutePolicy, V: OriginStates>(
     arrival: &Arrival<'_, P, V>,
     neighbour: &Neighbour,
 ) -> Option<View>
-    requires { relation arrival.now.graph.now arrival.now.to neighbour.now.asn ≡ Some neighbour.now.rel }
+    requires { relation arrival.now.ground.now.graph.now arrival.now.to neighbour.now.asn ≡ Some neighbour.now.rel }
     ensures { result ≡ option_map (λ o. o.view) (offers_upon P.meaning V.state_of arrival.now neighbour.now.asn) }
 {
     let held = heard(arrival, neighbour.asn)?;
     offered_view(
-        arrival.book.policy(neighbour.asn),
-        arrival.book.policy(arrival.to),
-        arrival.states,
-        arrival.prefix,
+        arrival.ground.book.policy(neighbour.asn),
+        arrival.ground.book.policy(arrival.to),
+        arrival.ground.states,
+        arrival.ground.prefix,
         neighbour,
         arrival.to,
         held.entry(),
@@ -74,11 +74,11 @@ fn best_of_all<P: RoutePolicy, V: OriginStates>(
     arrival: &Arrival<'_, P, V>,
     neighbours: &[Neighbour],
 ) -> Option<View>
-    requires { AreNeighbours (relation arrival.now.graph.now) arrival.now.to neighbours.now }
-    ensures { IsBestView (P.meaning (policy_at arrival.now.book.now arrival.now.to))
+    requires { AreNeighbours (relation arrival.now.ground.now.graph.now) arrival.now.to neighbours.now }
+    ensures { IsBestView (P.meaning (policy_at arrival.now.ground.now.book.now arrival.now.to))
         (offers_upon P.meaning V.state_of arrival.now) result }
 {
-    let own = arrival.book.policy(arrival.to);
+    let own = arrival.ground.book.policy(arrival.to);
     let mut best: Option<View> = None;
     for neighbour in neighbours {
         let view = view_from(arrival, neighbour);
@@ -104,13 +104,13 @@ fn best_after<P: RoutePolicy, V: OriginStates>(
     rel: Rel,
     best: Option<View>,
 ) -> Option<View>
-    requires linked { relation arrival.now.graph.now arrival.now.to arrival.now.from ≡ Some rel }
-    requires best { IsBestView (P.meaning (policy_at arrival.now.book.now arrival.now.to))
+    requires linked { relation arrival.now.ground.now.graph.now arrival.now.to arrival.now.from ≡ Some rel }
+    requires best { IsBestView (P.meaning (policy_at arrival.now.ground.now.book.now arrival.now.to))
         (offers_before P.meaning V.state_of arrival.now) best }
-    ensures { IsBestView (P.meaning (policy_at arrival.now.book.now arrival.now.to))
+    ensures { IsBestView (P.meaning (policy_at arrival.now.ground.now.book.now arrival.now.to))
         (offers_upon P.meaning V.state_of arrival.now) result }
 {
-    let own = arrival.book.policy(arrival.to);
+    let own = arrival.ground.book.policy(arrival.to);
     let sender = Neighbour {
         asn: arrival.from,
         rel,
@@ -125,7 +125,7 @@ fn best_after<P: RoutePolicy, V: OriginStates>(
             if is_no_worse(own, &old, &new) {
                 return new;
             }
-            best_of_all(arrival, arrival.graph.neighbours(arrival.to))
+            best_of_all(arrival, arrival.ground.graph.neighbours(arrival.to))
         }
     }
 }
@@ -154,9 +154,9 @@ fn held_by_view<P: RoutePolicy, V: OriginStates>(
     arrival: &Arrival<'_, P, V>,
     best: Option<View>,
 ) -> Result<Option<Held>, NoMemory>
-    requires { IsBestView (P.meaning (policy_at arrival.now.book.now arrival.now.to))
+    requires { IsBestView (P.meaning (policy_at arrival.now.ground.now.book.now arrival.now.to))
         (offers_upon P.meaning V.state_of arrival.now) best }
-    ensures { IfOk result (IsChosen (P.meaning (policy_at arrival.now.book.now arrival.now.to))
+    ensures { IfOk result (IsChosen (P.meaning (policy_at arrival.now.ground.now.book.now arrival.now.to))
         (offers_upon P.meaning V.state_of arrival.now) best) }
 {
     let Some(view) = best else {
@@ -167,8 +167,8 @@ fn held_by_view<P: RoutePolicy, V: OriginStates>(
         Some(given) => {
             let held = held_of(
                 alloc,
-                arrival.book.policy(n),
-                arrival.book.policy(arrival.to),
+                arrival.ground.book.policy(n),
+                arrival.ground.book.policy(arrival.to),
                 n,
                 arrival.to,
                 view.rel,
@@ -199,10 +199,10 @@ pub(crate) fn choose<P: RoutePolicy, V: OriginStates>(
     rel: Rel,
     best: Option<View>,
 ) -> Result<Option<Choice>, NoMemory>
-    requires linked { relation arrival.now.graph.now arrival.now.to arrival.now.from ≡ Some rel }
-    requires best { IsBestView (P.meaning (policy_at arrival.now.book.now arrival.now.to))
+    requires linked { relation arrival.now.ground.now.graph.now arrival.now.to arrival.now.from ≡ Some rel }
+    requires best { IsBestView (P.meaning (policy_at arrival.now.ground.now.book.now arrival.now.to))
         (offers_before P.meaning V.state_of arrival.now) best }
-    ensures { IfOk result (IsChoiceAfter (P.meaning (policy_at arrival.now.book.now arrival.now.to))
+    ensures { IfOk result (IsChoiceAfter (P.meaning (policy_at arrival.now.ground.now.book.now arrival.now.to))
         (offers_before P.meaning V.state_of arrival.now)
         (offers_upon P.meaning V.state_of arrival.now) best) }
 {

@@ -85,18 +85,18 @@ fn news_at<P: RoutePolicy>(
 }
 
 /// The change to a new choice, where there is one.
-fn change_to<P: RoutePolicy>(
+fn change_to<P: RoutePolicy, V: OriginStates>(
     alloc: Global,
-    graph: &Graph,
-    book: &Book<P>,
+    ground: &Ground<'_, P, V>,
     choices: &IndexMap<Asn, Option<Held>>,
     a: Asn,
     choice: Option<Choice>,
 ) -> Result<Change, NoMemory>
     requires { is_some (lookup (nat_eq a) choices.now.entries) ≡ true }
     ensures choice { IfOk result (λ c. c.choice ≡ choice) }
-    ensures news { IfOk result (λ c. AreNewsAt (P.meaning (policy_at book.now a)) (relation graph.now a)
-        (choice_at choices.now.entries a) (held_after choice (choice_at choices.now.entries a)) c.news.items) }
+    ensures news { IfOk result (λ c. AreNewsAt (P.meaning (policy_at ground.now.book.now a))
+        (relation ground.now.graph.now a) (choice_at choices.now.entries a)
+        (held_after choice (choice_at choices.now.entries a)) c.news.items) }
 {
     match choice {
         None => Ok(Change {
@@ -104,7 +104,7 @@ fn change_to<P: RoutePolicy>(
             news: Vec::new(alloc),
         }),
         Some(choice) => {
-            let news = news_at(alloc, graph, book, choices, a, &choice.held)?;
+            let news = news_at(alloc, ground.graph, ground.book, choices, a, &choice.held)?;
             Ok(Change {
                 choice: Some(choice),
                 news,
@@ -138,24 +138,14 @@ fn change_by<P: RoutePolicy, V: OriginStates>(
         None => {
             let best = best_of(&tables.bests, to);
             let arrival = Arrival {
-                graph: ground.graph,
-                book: ground.book,
-                states: ground.states,
-                prefix: ground.prefix,
+                ground,
                 lines: &tables.lines,
                 from,
                 to,
                 message: message.as_ref(),
             };
             let choice = choose(alloc, &arrival, rel, best)?;
-            let change = change_to(
-                alloc,
-                ground.graph,
-                ground.book,
-                &tables.choices,
-                to,
-                choice,
-            )?;
+            let change = change_to(alloc, ground, &tables.choices, to, choice)?;
             Ok(change)
         }
     }
