@@ -1,7 +1,7 @@
 //! What a file of activations says.
 ghost use Rattle.std.specs.Prelude.{◌≡◌, ℕ, true, [], ◌∷◌, ◌++◌, IfNone, OnOk, OnErr};
-ghost use Rattle.net_names.specs.Numbers.{occurs};
-ghost use Rattle.as_graph.specs.Topology.{has};
+ghost use Rattle.net_names.specs.Prelude.{occurs};
+ghost use Rattle.as_graph.specs.Prelude.{has};
 ghost use Rattle.activations.specs.Named.{asns_of, first_foreign_in};
 
 use as_graph::Graph;

@@ -1,8 +1,8 @@
 //! The forms of a line of a file of activations.
 ghost use Rattle.std.specs.Prelude.{◌≡◌, ◌==◌ as nat_eq, ◌+◌, ◌<◌, ◌≤◌, [], ◌∷◌, length, IfOk, IfSome, bytes_eq, codes, true};
 ghost use Rattle.std.specs.List.{starts_with};
-ghost use Rattle.net_names.specs.Texts.{fields};
-ghost use Rattle.scenario_text.specs.Forms.{form};
+ghost use Rattle.net_names.specs.Prelude.{fields};
+ghost use Rattle.scenario_text.specs.Prelude.{form};
 ghost use Rattle.activations.specs.Files.{act_of, hold_of, numbers_in};
 
 use net_names::{Asn, NoMemory, Path, cut, read_asn, read_class, strip};

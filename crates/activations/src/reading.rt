@@ -1,8 +1,8 @@
 //! Reading a file of activations.
-ghost use Rattle.std.specs.Prelude.{◌≡◌, ◌==◌ as nat_eq, ◌+◌, ◌^◌, ◌<◌, ◌≤◌, [], ◌∷◌, IfOk, true, length};
+ghost use Rattle.std.specs.Prelude.{◌≡◌, ◌==◌ as nat_eq, ◌+◌, ◌<◌, ◌≤◌, [], ◌∷◌, IfOk, true, length};
 ghost use Rattle.std.specs.List.{starts_with};
 ghost use Rattle.std.specs.FinMap as map;
-ghost use Rattle.net_names.specs.Lines.{kept_from, said_on};
+ghost use Rattle.net_names.specs.Prelude.{kept_from, said_on};
 ghost use Rattle.activations.specs.Files.{Gives, acts_by, with_acts, with_hold, with_line};
 ghost use Rattle.activations.specs.Named.{AreSound};
 ghost use Rattle.activations.specs.declared.reading.ActsError.TheVariants.{Memory};

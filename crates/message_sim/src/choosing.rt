@@ -1,10 +1,7 @@
 //! What an AS chooses once it has received a new message.
-ghost use Rattle.std.specs.Prelude.{◌≡◌, ◌≢◌, ◌↔◌, ℕ, Some, None, IfOk, IsTrue, option_map, option_copied};
-ghost use Rattle.as_graph.specs.Topology.{relation};
-ghost use Rattle.as_graph.specs.Neighbours.{AreNeighbours};
-ghost use Rattle.stability_laws.specs.Book.{policy_at};
-ghost use Rattle.stability_laws.specs.Offers.{passed_on};
-ghost use Rattle.stability_laws.specs.BestView.{IsBestView, better_of};
+ghost use Rattle.std.specs.Prelude.{◌≡◌, Some, None, IfOk, IsTrue, option_map, option_copied};
+ghost use Rattle.as_graph.specs.Prelude.{relation, AreNeighbours};
+ghost use Rattle.stability_laws.specs.Prelude.{policy_at, passed_on, IsBestView};
 ghost use Rattle.message_sim.specs.Rows.{received_at};
 ghost use Rattle.message_sim.specs.Arrivals.{offers_before, offers_upon};
 ghost use Rattle.message_sim.specs.Best.{received_with, IsChosen, IsChoiceAfter, IsNoWorse, IsKeptView};

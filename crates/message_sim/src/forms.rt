@@ -1,8 +1,7 @@
 //! The forms of a line of a file of deliveries.
 ghost use Rattle.std.specs.Prelude.{◌≡◌, ◌==◌, ◌&&◌, nat_le, nat_lt, not};
-ghost use Rattle.net_names.specs.Steps.{option_filter};
-ghost use Rattle.net_names.specs.Texts.{asn_of, numeral};
-ghost use Rattle.scenario_text.specs.Forms.{form, pair};
+ghost use Rattle.net_names.specs.Prelude.{option_filter, asn_of, numeral};
+ghost use Rattle.scenario_text.specs.Prelude.{form, pair};
 ghost use Rattle.message_sim.specs.Files.{step_of};
 
 use crate::steps::{MOST_DELIVERIES, Step};

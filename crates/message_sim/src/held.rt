@@ -1,6 +1,6 @@
 //! What an AS holds, with a path that one AS more can be put before.
-ghost use Rattle.std.specs.Prelude.{◌≡◌, ◌↔◌, ◌∷◌, ◌<◌, ◌≤◌, ◌-◌, ◌^◌, length, IsTrue, IfOk, Some};
-ghost use Rattle.stability_laws.specs.Entries.{seed_entry};
+ghost use Rattle.std.specs.Prelude.{◌≡◌, ◌↔◌, ◌∷◌, ◌<◌, ◌-◌, ◌^◌, length, IsTrue, IfOk, Some};
+ghost use Rattle.stability_laws.specs.Prelude.{seed_entry};
 
 use net_names::{Asn, Class, NoMemory, Path};
 use stability_laws::{Entry, Seed, same_class, same_number, same_path};

@@ -1,10 +1,9 @@
 //! Nets.
 ghost use Rattle.std.specs.Prelude.{◌≡◌, ◌≢◌, ◌≤◌, ◌↔◌, ℕ, None, Some, Option, replicate, IfOk, OnErr, IfSome, IfNone, IsTrue, false, option_copied, if◌then◌else◌};
 ghost use Rattle.std.specs.FinMap as map;
-ghost use Rattle.as_graph.specs.Topology.{relation, has};
-ghost use Rattle.as_graph.specs.Hierarchy.{HasNoProviderCycle};
+ghost use Rattle.as_graph.specs.Prelude.{relation, has, HasNoProviderCycle};
 ghost use Rattle.stability_laws.specs.declared.entry.Entry.{Entry as AnEntry};
-ghost use Rattle.stability_laws.specs.Stable.{IsStable};
+ghost use Rattle.stability_laws.specs.Prelude.{IsStable};
 ghost use Rattle.message_sim.specs.Messages.{IsStart, IsQuiet};
 ghost use Rattle.message_sim.specs.Nets.{net_of, net_setting, seeds_in, queued_in, IsTurnOf, IsNextLink, IsRested};
 ghost use Rattle.message_sim.specs.Starts.{HasShortSeeds};
@@ -36,7 +35,7 @@ pub struct Net<'a, P: RoutePolicy, V: OriginStates> {
 
 impl<'a, P: RoutePolicy, V: OriginStates> Model for Net<'a, P, V> {
     ghost use Rattle.std.specs.FinMap as fin;
-    ghost use Rattle.stability_laws.specs.World.{setting};
+    ghost use Rattle.stability_laws.specs.Prelude.{setting};
     ghost use Rattle.message_sim.specs.Nets.{NetValue, net_code, value_of};
     ghost use Rattle.message_sim.specs.Kept.{IsNet};
 

@@ -1,6 +1,6 @@
 //! Reading a file of deliveries.
 ghost use Rattle.std.specs.Prelude.{◌≡◌, ◌+◌, ◌≤◌, [], length};
-ghost use Rattle.net_names.specs.Lines.{kept_from, said_on};
+ghost use Rattle.net_names.specs.Prelude.{kept_from, said_on};
 ghost use Rattle.message_sim.specs.Files.{Gives, deliveries_by, with_line};
 ghost use Rattle.message_sim.specs.declared.reading.DeliveriesError.TheVariants.{Memory};
 

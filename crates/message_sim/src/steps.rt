@@ -1,6 +1,6 @@
 //! The steps of a file of deliveries.
 ghost use Rattle.std.specs.Prelude.{◌≡◌, ◌≤◌, ◌+◌, [], ◌∷◌, ◌++◌, length, OnOk, OnErr, option_copied, slice_get};
-ghost use Rattle.as_graph.specs.Topology.{relation};
+ghost use Rattle.as_graph.specs.Prelude.{relation};
 ghost use Rattle.message_sim.specs.Turns.{first_foreign_in, is_foreign as foreign, turns_of};
 
 use as_graph::Graph;

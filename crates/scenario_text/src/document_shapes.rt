@@ -1,5 +1,5 @@
 //! The first pass over a document: the types of its values, and the members of its objects.
-ghost use Rattle.std.specs.Prelude.{◌≡◌, ◌∷◌, []};
+ghost use Rattle.std.specs.Prelude.{◌∷◌, []};
 ghost use Rattle.scenario_text.specs.Faults.{Gives, GivesBy};
 ghost use Rattle.scenario_text.specs.Members.{needed};
 ghost use Rattle.scenario_text.specs.Tokens.{data_at};

@@ -1,7 +1,7 @@
 //! The fields of a script's line.
 ghost use Rattle.std.specs.Prelude.{◌≡◌, ℕ, ◌^◌, ◌<◌, List, Option, IfOk, IfSome};
-ghost use Rattle.net_names.specs.Texts.{asn_of, prefix_of, addr_of, rel_of, vrp_asn_of, numeral};
-ghost use Rattle.policy_kinds.specs.Names.{kind_named};
+ghost use Rattle.net_names.specs.Prelude.{asn_of, prefix_of, addr_of, rel_of, vrp_asn_of, numeral};
+ghost use Rattle.policy_kinds.specs.Prelude.{kind_named};
 ghost use Rattle.scenario_text.specs.Forms.{pair, vrp_of};
 
 use net_names::{

@@ -1,6 +1,6 @@
 //! The forms of a script's line.
 ghost use Rattle.std.specs.Prelude.{◌≡◌, ◌^◌, ◌<◌, ◌≤◌, length, Some, IfOk, IfSome, option_and_then, option_map};
-ghost use Rattle.net_names.specs.Texts.{after, asn_of, prefix_of};
+ghost use Rattle.net_names.specs.Prelude.{after, asn_of, prefix_of};
 ghost use Rattle.scenario_text.specs.declared.acts.Act.TheVariants.{Edit as AnEdit};
 ghost use Rattle.scenario_text.specs.declared.acts.Edit.TheVariants.{Announce as AnAnnounce};
 ghost use Rattle.scenario_text.specs.LineValues.{IsSoundAct};

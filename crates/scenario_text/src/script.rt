@@ -1,5 +1,5 @@
 //! Reading a script.
-ghost use Rattle.std.specs.Prelude.{◌≡◌, ◌≤◌, length, IfOk};
+ghost use Rattle.std.specs.Prelude.{◌≤◌, length, IfOk};
 ghost use Rattle.scenario_text.specs.LineValues.{IsSoundAct};
 ghost use Rattle.scenario_text.specs.LineFaults.{Gives};
 ghost use Rattle.scenario_text.specs.Script.{command, script_of};

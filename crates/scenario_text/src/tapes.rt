@@ -1,5 +1,5 @@
 //! The tokens of a JSON text, each with where its value ends.
-ghost use Rattle.std.specs.Prelude.{◌≡◌, ◌↔◌, IfOk, IsTrue, IsSome, OnOk, ok_or};
+ghost use Rattle.std.specs.Prelude.{◌≡◌, ◌↔◌, IfOk, IsTrue, IsSome, ok_or};
 ghost use Rattle.std.specs.List.{list_all};
 ghost use Rattle.json.specs.Tape.{node_token};
 ghost use Rattle.serde_json.specs.Read.{read};

@@ -1,12 +1,11 @@
 //! The third pass: nothing is named twice.
 ghost use Rattle.std.specs.Prelude.{◌≡◌, IfOk, map};
 ghost use Rattle.std.specs.Ordering.{nat_cmp};
-ghost use Rattle.net_names.specs.Addresses.{addr_cmp};
+ghost use Rattle.net_names.specs.Prelude.{addr_cmp, announcement_cmp};
 ghost use Rattle.scenario_text.specs.declared.places.Member.TheVariants.{Leaks};
 ghost use Rattle.scenario_text.specs.Faults.{Gives, GivesBy};
 ghost use Rattle.scenario_text.specs.Places.{in_member, item};
 ghost use Rattle.scenario_text.specs.Scenarios.{announcement_name};
-ghost use Rattle.net_names.specs.Prefixes.{announcement_cmp};
 ghost use Rattle.scenario_text.specs.Twice.{once_in, once};
 ghost use Rattle.scenario_text.specs.Walks.{each_from};
 

@@ -1,7 +1,7 @@
 //! The second pass over a document: its numbers and texts by their grammars.
 ghost use Rattle.std.specs.Prelude.{◌≡◌, ◌==◌ as nat_eq, ◌∷◌, [], ok_or};
 ghost use Rattle.std.specs.List.{starts_with};
-ghost use Rattle.net_names.specs.Texts.{addr_of};
+ghost use Rattle.net_names.specs.Prelude.{addr_of};
 ghost use Rattle.scenario_text.specs.declared.faults.ScenarioError.TheVariants.{Value};
 ghost use Rattle.scenario_text.specs.Faults.{Gives};
 ghost use Rattle.scenario_text.specs.Values.{asn_at, announcement_of, policy_of, lists_of};

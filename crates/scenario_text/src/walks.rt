@@ -1,5 +1,4 @@
 //! Going through a list up to the first fault.
-ghost use Rattle.std.specs.Prelude.{◌≡◌};
 ghost use Rattle.scenario_text.specs.Walks.{Reader, each_at};
 ghost use Rattle.scenario_text.specs.Faults.{Gives, GivesBy};
 

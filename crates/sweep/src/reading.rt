@@ -1,7 +1,8 @@
 //! Reading a file of sweeps.
 ghost use Rattle.std.specs.Prelude.{◌≡◌, ◌≤◌, [], Ok, IfErr, OnOk, length};
-ghost use Rattle.net_names.specs.Lines.{kept_from, said_on};
-ghost use Rattle.scenario_text.specs.LineFaults.{Fails, Gives};
+ghost use Rattle.net_names.specs.Prelude.{kept_from, said_on};
+ghost use Rattle.scenario_text.specs.LineFaults.{Fails};
+ghost use Rattle.scenario_text.specs.Prelude.{Gives};
 ghost use Rattle.sweep.specs.Reading.{with_line};
 
 use crate::forms::sweep;

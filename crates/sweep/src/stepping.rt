@@ -1,7 +1,7 @@
 //! From one world of a sweep to the next.
 ghost use Rattle.std.specs.Prelude.{◌≡◌, ◌≤◌, ℕ, ◌++◌, true, All, IfOk, OnOk, List, length, map, take};
 ghost use Rattle.std.specs.FinMap as fin;
-ghost use Rattle.net_names.specs.Numbers.{IsDistinct};
+ghost use Rattle.net_names.specs.Prelude.{IsDistinct};
 ghost use Rattle.policy_kinds.specs.declared.kind.Kind.{Kind as AKind};
 ghost use Rattle.sweep.specs.Trials.{adopted, changed, with_kinds};
 

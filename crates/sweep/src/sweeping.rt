@@ -1,12 +1,12 @@
 //! All trials of a line.
-ghost use Rattle.std.specs.Prelude.{◌≡◌, ℕ, ◌+◌, ◌≤◌, ◌++◌, true, List, Some, All, IfOk, OnOk, OnErr, length, map, slice_get, take};
+ghost use Rattle.std.specs.Prelude.{◌≡◌, ℕ, ◌+◌, ◌≤◌, ◌++◌, true, List, Some, All, IfOk, OnOk, OnErr, length, map, take};
 ghost use Rattle.std.specs.List.{flat_map};
 ghost use Rattle.std.specs.FinMap as fin;
-ghost use Rattle.net_names.specs.Numbers.{IsDistinct};
+ghost use Rattle.net_names.specs.Prelude.{IsDistinct};
 ghost use Rattle.policy_kinds.specs.declared.kind.Kind.{Kind as AKind};
 ghost use Rattle.sweep.specs.Trials.{adopted as with_adopters, with_kinds};
 ghost use Rattle.sweep.specs.Swept.{Appends, IsInWorld, IsSwept};
-ghost use Rattle.sweep.specs.Texts.{text_at, AreGrown, AreNone, HaveTrials, IsTrialText};
+ghost use Rattle.sweep.specs.Texts.{AreGrown, AreNone, HaveTrials, IsTrialText};
 
 use crate::drawing::{next_word, order_of};
 use crate::rows::{Which, append_trial};

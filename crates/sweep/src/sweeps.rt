@@ -1,5 +1,5 @@
 //! The lines of sweeps.
-ghost use Rattle.std.specs.Prelude.{◌≡◌, ◌≤◌, [], ◌∷◌, ◌++◌, OnOk, OnErr, length, option_copied, slice_get};
+ghost use Rattle.std.specs.Prelude.{◌≡◌, [], ◌∷◌, ◌++◌, OnOk, OnErr, length, option_copied, slice_get};
 
 use net_names::{Addr, NoMemory};
 use policy_kinds::Kind;

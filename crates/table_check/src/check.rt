@@ -1,7 +1,6 @@
 //! The check of a printed table.
 ghost use Rattle.std.specs.Prelude.{◌<◌, ◌+◌, ◌-◌, ◌^◌, IfOk};
-ghost use Rattle.stability_laws.specs.World.{setting_in};
-ghost use Rattle.stability_laws.specs.Rounds.{seeds_of};
+ghost use Rattle.stability_laws.specs.Prelude.{setting_in, seeds_of};
 ghost use Rattle.table_check.specs.Checked.{IsVerdict};
 ghost use Rattle.table_check.specs.Rows.{held_by};
 ghost use Rattle.table_check.specs.Walk.{IsFault};

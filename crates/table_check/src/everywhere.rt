@@ -1,9 +1,8 @@
 //! Whether a section is right everywhere.
 ghost use Rattle.std.specs.Prelude.{◌≡◌, ℕ, true, IsTrue};
 ghost use Rattle.std.specs.FinMap as map;
-ghost use Rattle.as_graph.specs.Topology.{has};
-ghost use Rattle.stability_laws.specs.Stable.{IsRight};
-ghost use Rattle.stability_laws.specs.World.{setting_in};
+ghost use Rattle.as_graph.specs.Prelude.{has};
+ghost use Rattle.stability_laws.specs.Prelude.{IsRight, setting_in};
 ghost use Rattle.table_check.specs.Rows.{held_by};
 ghost use Rattle.table_check.specs.Walk.{IsFine};
 

@@ -1,7 +1,7 @@
 //! The forms of a printed table's rows.
 ghost use Rattle.std.specs.Prelude.{◌≡◌, ◌+◌, ◌≤◌, [], length, Some, IfOk, IfSome};
-ghost use Rattle.net_names.specs.Texts.{asn_of};
-ghost use Rattle.scenario_text.specs.Forms.{form};
+ghost use Rattle.net_names.specs.Prelude.{asn_of};
+ghost use Rattle.scenario_text.specs.Prelude.{form};
 ghost use Rattle.table_check.specs.Forms.{numbers_of, row_of, way_of};
 
 use net_names::{Asn, NoMemory, Path, cut, read_asn, read_class, strip};

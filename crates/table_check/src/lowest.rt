@@ -1,10 +1,8 @@
 //! The lowest number that is wrong in a routing.
 ghost use Rattle.std.specs.Prelude.{◌≡◌, ◌↔◌, ℕ, ◌<◌, IsTrue, None, IfSome, IfNone};
 ghost use Rattle.std.specs.FinMap as map;
-ghost use Rattle.as_graph.specs.Topology.{has};
-ghost use Rattle.as_graph.specs.Following.{IsAbove};
-ghost use Rattle.stability_laws.specs.Stable.{IsRight};
-ghost use Rattle.stability_laws.specs.World.{setting_in};
+ghost use Rattle.as_graph.specs.Prelude.{has, IsAbove};
+ghost use Rattle.stability_laws.specs.Prelude.{IsRight, setting_in};
 ghost use Rattle.table_check.specs.Rows.{held_by};
 ghost use Rattle.table_check.specs.Walk.{IsFine, IsLowestWrong, IsNextNamed, IsUnnamed, lower_of};
 

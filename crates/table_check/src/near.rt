@@ -2,14 +2,9 @@
 ghost use Rattle.std.specs.Prelude.{◌≡◌, ℕ, IsTrue, Some, option_map};
 ghost use Rattle.std.specs.FinMap as map;
 ghost use Rattle.net_names.specs.declared.routes.State.{State as AState};
-ghost use Rattle.as_graph.specs.Topology.{relation};
-ghost use Rattle.as_graph.specs.Neighbours.{AreNeighbours};
+ghost use Rattle.as_graph.specs.Prelude.{relation, AreNeighbours};
 ghost use Rattle.stability_laws.specs.declared.entry.Entry.{Entry as AnEntry};
-ghost use Rattle.stability_laws.specs.BestView.{IsBestView, better_of};
-ghost use Rattle.stability_laws.specs.Book.{policy_at};
-ghost use Rattle.stability_laws.specs.Offers.{Offer, offer, offer_given};
-ghost use Rattle.stability_laws.specs.Stable.{IsRight};
-ghost use Rattle.stability_laws.specs.World.{setting_in};
+ghost use Rattle.stability_laws.specs.Prelude.{IsBestView, better_of, policy_at, Offer, offer, offer_given, IsRight, setting_in};
 ghost use Rattle.table_check.specs.Rows.{held_by};
 ghost use Rattle.table_check.specs.Walk.{brief_of};
 

@@ -2,8 +2,7 @@
 ghost use Rattle.std.specs.Prelude.{◌≡◌, ◌+◌, ◌<◌, ◌≤◌, ◌&&◌, ◌==◌, [], IfOk, IfSome, length};
 ghost use Rattle.std.specs.FinMap as map;
 ghost use Rattle.std.specs.Ordering.{eq_by_cmp};
-ghost use Rattle.net_names.specs.Lines.{kept_from, said_on};
-ghost use Rattle.net_names.specs.Prefixes.{prefix_cmp};
+ghost use Rattle.net_names.specs.Prelude.{kept_from, said_on, prefix_cmp};
 ghost use Rattle.table_check.specs.declared.reading.TablesError.TheVariants.{Memory};
 ghost use Rattle.table_check.specs.Reading.{Gives, tables_by, with_line, with_row};
 

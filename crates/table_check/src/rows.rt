@@ -1,7 +1,7 @@
 //! The rows of a printed table.
 ghost use Rattle.std.specs.Prelude.{◌≡◌, ℕ, ◌≤◌, false, not, IsTrue, None, length, option_copied, IfOk, IfSome, OnOk};
 ghost use Rattle.std.specs.FinMap as map;
-ghost use Rattle.as_graph.specs.Topology.{has};
+ghost use Rattle.as_graph.specs.Prelude.{has};
 ghost use Rattle.table_check.specs.Rows.{HasShortRows, HoldsShort, held_by, inside_row};
 
 use as_graph::Graph;

@@ -1,9 +1,7 @@
 //! The seeds of a section, and whether an AS holds its own.
 ghost use Rattle.std.specs.Prelude.{◌≡◌, ◌≢◌, ◌↔◌, ◌+◌, ◌-◌, ◌<◌, ◌^◌, ℕ, IsTrue, None, OnOk, IfOk, if◌then◌else◌};
 ghost use Rattle.std.specs.FinMap as map;
-ghost use Rattle.stability_laws.specs.Entries.{seed_entry};
-ghost use Rattle.stability_laws.specs.Plans.{leaks_in};
-ghost use Rattle.stability_laws.specs.Rounds.{seeds_of};
+ghost use Rattle.stability_laws.specs.Prelude.{seed_entry, leaks_in, seeds_of};
 ghost use Rattle.table_check.specs.Rows.{held_by};
 
 use crate::rows::{Rows, put_copy};

@@ -1,6 +1,6 @@
 //! A printed table.
 ghost use Rattle.std.specs.Prelude.{◌≡◌, ◌<◌, ◌-◌, ◌^◌, [], ◌∷◌, ◌++◌, length, slice_get, OnOk, OnErr, if◌then◌else◌};
-ghost use Rattle.stability_laws.specs.Plans.{has_prefix};
+ghost use Rattle.stability_laws.specs.Prelude.{has_prefix};
 
 use crate::rows::Rows;
 use net_names::{NoMemory, Prefix};

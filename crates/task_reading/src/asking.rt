@@ -1,7 +1,7 @@
 //! From the form of the words and the files to what is asked.
 ghost use Rattle.std.specs.Prelude.{◌≡◌, ◌≤◌, ◌∷◌, [], IfOk, option_map, Some};
 ghost use Rattle.net_names.specs.declared.addresses.Family.TheVariants.{V4};
-ghost use Rattle.scenario_text.specs.Scenarios.{nothing};
+ghost use Rattle.scenario_text.specs.Prelude.{nothing};
 ghost use Rattle.scenario_text.specs.declared.acts.Act.TheVariants as act;
 ghost use Rattle.scenario_text.specs.declared.acts.Query.TheVariants as query;
 ghost use Rattle.task_reading.specs.Files.{Prepares};

@@ -1,21 +1,19 @@
 //! The faults of files as errors of asking.
 ghost use Rattle.std.specs.Prelude.{Result, List, Err};
-ghost use Rattle.net_names.specs.Links.{LinkMap};
-ghost use Rattle.caida_reader.specs.Progress.{Fails as RelationFails};
+ghost use Rattle.net_names.specs.Prelude.{LinkMap};
+ghost use Rattle.caida_reader.specs.Prelude.{Fails as RelationFails};
 ghost use Rattle.caida_reader.specs.declared.errors.RelError.{RelError as ARelError};
-ghost use Rattle.roa_table.specs.Files.{Gives};
-ghost use Rattle.roa_table.specs.Sets.{Payloads};
+ghost use Rattle.roa_table.specs.Prelude.{Gives, Payloads};
 ghost use Rattle.roa_table.specs.declared.errors.VrpError.{VrpError as AVrpError};
-ghost use Rattle.scenario_text.specs.Scenarios.{ScenarioValue};
+ghost use Rattle.scenario_text.specs.Prelude.{ScenarioValue, LineValue};
 ghost use Rattle.scenario_text.specs.Faults.{Fails as ScenarioFails};
-ghost use Rattle.scenario_text.specs.LineValues.{LineValue};
 ghost use Rattle.scenario_text.specs.LineFaults.{Fails as LinesFail};
 ghost use Rattle.scenario_text.specs.declared.faults.ScenarioError.{ScenarioError as AScenarioError};
 ghost use Rattle.scenario_text.specs.declared.line_faults.LinesError.{LinesError as ALinesError};
-ghost use Rattle.activations.specs.Files.{Fails as ActsFails};
+ghost use Rattle.activations.specs.Prelude.{Fails as ActsFails};
 ghost use Rattle.activations.specs.declared.acts.Acts.{Acts as SomeActs};
 ghost use Rattle.activations.specs.declared.reading.ActsError.{ActsError as AnActsError};
-ghost use Rattle.message_sim.specs.Files.{Fails as DeliveriesFails};
+ghost use Rattle.message_sim.specs.Prelude.{Fails as DeliveriesFails};
 ghost use Rattle.message_sim.specs.declared.steps.Deliveries.{Deliveries as SomeDeliveries};
 ghost use Rattle.message_sim.specs.declared.reading.DeliveriesError.{DeliveriesError as ADeliveriesError};
 ghost use Rattle.sweep.specs.declared.sweeps.Sweep.{Sweep as ASweep};

@@ -1,7 +1,6 @@
 //! What is asked in a world: jobs, one after the other.
-ghost use Rattle.std.specs.Prelude.{◌≡◌, ◌≤◌, [], ◌∷◌, All, IfSome, length, map, option_map, slice_get};
-ghost use Rattle.activations.specs.Named.{AreSound};
-ghost use Rattle.scenario_text.specs.LineValues.{AreSoundLines};
+ghost use Rattle.std.specs.Prelude.{◌≡◌, ◌≤◌, ◌∷◌, All, IfSome, length, map, option_map, slice_get};
+ghost use Rattle.scenario_text.specs.Prelude.{AreSoundLines};
 ghost use Rattle.sweep.specs.declared.sweeps.TheConstants.{MOST_SWEEPS};
 ghost use Rattle.task_reading.specs.Jobs.{AreAlike, IsSoundAsks, IsSoundJob, counts_job, job_seen, jobs_of, line_job, needs_of};
 

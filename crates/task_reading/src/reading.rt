@@ -2,12 +2,10 @@
 ghost use Rattle.std.specs.Prelude.{◌≡◌, ◌<◌, ◌≤◌, ◌⊎◌, ◌+◌, Some, Ok, length};
 ghost use Rattle.std.specs.Io.KnownBytes.{IsAtEnd};
 ghost use Rattle.std.specs.Option.{option_map_or};
-ghost use Rattle.caida_reader.specs.Value.{links_of};
-ghost use Rattle.io_edge.specs.Faults.{KeepsNames};
-ghost use Rattle.io_edge.specs.Whole.{TakesAtMost};
-ghost use Rattle.roa_table.specs.Files.{payloads_in};
-ghost use Rattle.scenario_text.specs.Readings.{scenario_of_bytes};
-ghost use Rattle.scenario_text.specs.Scenarios.{nothing};
+ghost use Rattle.caida_reader.specs.Prelude.{links_of};
+ghost use Rattle.io_edge.specs.Prelude.{KeepsNames, TakesAtMost};
+ghost use Rattle.roa_table.specs.Prelude.{payloads_in};
+ghost use Rattle.scenario_text.specs.Prelude.{scenario_of_bytes, nothing};
 ghost use Rattle.task_reading.specs.Asking.{jobs_in, most_bytes, read_as};
 ghost use Rattle.task_reading.specs.Files.{FindsJobs, ReadsAs};
 ghost use Rattle.task_reading.specs.Sources.{source_of};

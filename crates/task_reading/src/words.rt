@@ -2,8 +2,7 @@
 ghost use Rattle.std.specs.Prelude.{◌≡◌, ◌≤◌, ◌&&◌, IfOk, IfSome, List, Some, map, nat_le, option_map, string_bytes};
 ghost use Rattle.std.specs.List.{cons_option};
 ghost use Rattle.clap.specs.Walk.{Text};
-ghost use Rattle.net_names.specs.Steps.{option_filter};
-ghost use Rattle.net_names.specs.Texts.{numeral};
+ghost use Rattle.net_names.specs.Prelude.{option_filter, numeral};
 ghost use Rattle.task_reading.specs.Words.{HasSize, IsStanding, form_by, form_of, form_seen, name_by, text_seen};
 ghost use Rattle.task_reading.specs.declared.words.FileOption.{FileOption as AFileOption};
 
