@@ -10,7 +10,7 @@ use Rattle.trial_world.specs.Sweeps.{is_inside}
 
 -- what activations or deliveries name is in the world, which has an AS, and so are the sections of a printed table; what a sweep asks for is in the world, which has no provider cycle; of lines nothing is asked
 abbrev pub IsInside : World → Job → Type 0
-IsInside w (acts_job a) = (outside w (acts_job a ∷ []) ≡ None) × (0 < as_count (topology w))
+IsInside w (acts_job acts) = (outside w (acts_job acts ∷ []) ≡ None) × (0 < as_count (topology w))
 IsInside w (messages_job d) = (outside w (messages_job d ∷ []) ≡ None) × (0 < as_count (topology w))
 IsInside w (sweep_job line) = (is_inside w line ≡ true) × (HasCycle w → ⊥)
 IsInside w (tables_job t) = outside w (tables_job t ∷ []) ≡ None

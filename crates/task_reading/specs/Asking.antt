@@ -46,7 +46,7 @@ read_as which most as_cause value reads = ok_or (reads which) (InFile which Unre
 -- the jobs that the bytes of an option's file ask for, or why they say nothing (own format)
 abbrev pub jobs_in : FileOption → Text → Result (List Job) Cause
 jobs_in Script text = result_map_both (map (line_job true)) cause.Script (script_of text)
-jobs_in Activations t = result_map_both (λ a. acts_job a ∷ []) Acts (acts_by (kept_from 1 t))
+jobs_in Activations text = result_map_both (λ a. acts_job a ∷ []) Acts (acts_by (kept_from 1 text))
 jobs_in Messages text = result_map_both (λ d. messages_job d ∷ []) Deliveries (deliveries_by (kept_from 1 text))
 jobs_in Sweep t = result_map_both (map sweep_job) Sweeps (said_on with_line [] (kept_from 1 t))
 jobs_in Check text = result_map_both (λ t. tables_job t ∷ []) Tables (tables_by (kept_from 1 text))
