@@ -1,10 +1,8 @@
-use Rattle.std.proofs.Common.{◌≡◌, ◌∙◌, ◌+◌, ◌++◌, ◌∷◌, [], ℕ, List, true, inl, inr, Some, take, sym, ap, subst}
-use Rattle.std.proofs.lemmas.List.{map-append, take_more}
-use Rattle.as_graph.specs.Neighbours.{asns}
+use Rattle.std.proofs.Common.{◌≡◌, ◌++◌, ◌∷◌, [], ℕ, List, true, inl, inr, Some, sym, subst}
 use Rattle.as_graph.specs.Topology.{relation}
 use Rattle.as_graph.specs.declared.neighbour.Neighbour.{Neighbour}
 use Rattle.net_names.specs.Numbers.{occurs}
-use Rattle.sim_core.proofs.Pushing.{pushed_more, pushed_own, pushed_split}
+use Rattle.sim_core.proofs.Pushing.{neighbour_more, pushed_more, pushed_own, pushed_split}
 use Rattle.sim_core.proofs.policies.push_neighbours.Goals as goal
 
 pub loop-neighbour-preserved : goal.loop-neighbour-preserved
@@ -15,11 +13,9 @@ loop-neighbour-preserved c =
     let old = c.loop-neighbour.ases.items in
     let inv = c.loop-neighbour.invariant in
     let items : c.push.new.self.items ≡ old ++ x.asn ∷ [] = c.in_ok-push.ensures.items in
-    let longer : take (i + 1) xs ≡ take i xs ++ x ∷ [] = take_more xs i x c.loop-neighbour-test.true ∙ ap (λ (y : Neighbour). take i xs ++ y ∷ []) (sym c.neighbour-item.is) in
-    let named : asns (take (i + 1) xs) ≡ asns (take i xs) ++ x.asn ∷ [] = ap asns longer ∙ map-append (λ (y : Neighbour). y.asn) (take i xs) (x ∷ []) in
     let link : relation c.args.graph.now c.args.asn x.asn ≡ Some x.rel = subst (λ (y : Neighbour). relation c.args.graph.now c.args.asn y.asn ≡ Some y.rel) (sym c.neighbour-item.is) (c.neighbours-neighbour-items.ensures.each i x c.loop-neighbour-test.true) in
     record {
-      these = λ n h. elim (pushed_split n (asns (take i xs)) x.asn (subst (λ (l : List ℕ). occurs n l ≡ true) named h)) [
+      these = λ n h. elim (neighbour_more xs i x c.loop-neighbour-test.true c.neighbour-item.is n h) [
         | inl e ↦ subst (λ (l : List ℕ). occurs n l ≡ true) (sym items) (pushed_more n old x.asn (inv.these n e))
         | inr s ↦ subst (λ (l : List ℕ). occurs n l ≡ true) (sym items) (subst (λ (m : ℕ). occurs m (old ++ x.asn ∷ []) ≡ true) s (pushed_own old x.asn))
       ];
