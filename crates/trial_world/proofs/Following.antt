@@ -11,7 +11,7 @@ use Rattle.sim_core.specs.Lent.{IsGraphOf}
 use Rattle.sim_core.specs.World.{World, topology}
 use Rattle.sweep.specs.Trials.{IsAbove, IsNext}
 use Rattle.trial_world.specs.Trials.{as_set}
-use Rattle.trial_world.proofs.KindBooks.{is_key}
+use Rattle.sim_core.proofs.PolicyEdits.{is_key}
 
 abbrev keyed : List ℕ → set.FinSet nat_cmp
 keyed xs = fin.from_entries (map (λ a. (a, tt {0})) xs)

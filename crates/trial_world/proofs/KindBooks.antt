@@ -1,7 +1,6 @@
 -- Kinds of ASes in books.
 use Rattle.std.proofs.Common.{◌≡◌, inl, inr, ℕ, zero, suc, ◌+◌, ◌<◌, ◌==◌, ◌||◌, Bool, true, false, IsTrue, cond, unwrap_or, get_or, Option, Some, List, [], ◌∷◌, ◌++◌, length, map, take, refl, sym, ap, subst, ◌∙◌, arith, eqb-true}
 use Rattle.std.specs.Prelude.{if◌then◌else◌}
-use Rattle.std.specs.Cmp.{unsigned_tied, nat_eq_equiv}
 use Rattle.std.specs.FinMap as fin
 use Rattle.std.specs.List.{All}
 use Rattle.std.specs.FinSet as set
@@ -12,17 +11,14 @@ use Rattle.std.proofs.lemmas.List.{get_or_default, take_more}
 use Rattle.std.proofs.lemmas.List.Sums.{fold-append}
 use Rattle.net_names.specs.Numbers.{occurs}
 use Rattle.policy_kinds.specs.declared.kind.Kind.{Kind}
-use Rattle.policy_kinds.specs.declared.kind.Kind.TheVariants.{Plain, DropInvalid, PreferValid, ProviderFirst, Otc, DropInvalidOtc}
+use Rattle.policy_kinds.specs.declared.kind.Kind.TheVariants.{Plain}
 use Rattle.stability_laws.specs.Book.{PolicyBook, policy_at, with_policy}
 use Rattle.stability_laws.proofs.Leaking.{occurs_more}
 use Rattle.sweep.specs.Trials.{changed, with_kinds}
 use Rattle.sweep.proofs.KindChanges.{changed_to}
 use Rattle.sweep.proofs.Lists.{firsts}
-use Rattle.sim_core.specs.Loaded.{is_other}
+use Rattle.sim_core.proofs.PolicyEdits.{is_key}
 use Rattle.trial_world.specs.Tables.{HadKinds}
-
-pub is_key : (q a : ℕ) → eq_by_cmp nat_cmp q a ≡ (a == q)
-is_key q a = unsigned_tied q a ∙ nat_eq_equiv.symm q a
 
 -- ---- a kind that is given
 pub given : (b new : PolicyBook Kind) (x : ℕ) (k : Kind) → new ≡ with_policy b x k → (a : ℕ) → policy_at new a ≡ (if x == a then k else policy_at b a)
@@ -64,14 +60,6 @@ room_more s new xs i x less at is before k d low = elim (cases_eq k i) [
 -- ---- a copy
 pub plain_at : (b : PolicyBook Kind) → b.rest ≡ Plain → b.named ≡ fin.empty → (a : ℕ) → policy_at b a ≡ Plain
 plain_at b rest named a = (λ i. unwrap_or (fin.get (named i) a) (rest i)) ∙ ap (λ (o : Option Kind). unwrap_or o Plain) (fin.get-empty nat_cmp a)
-
-pub plain_kind : (n : ℕ) (k : Kind) → is_other (n, k) ≡ false → k ≡ Plain
-plain_kind n Plain e = refl
-plain_kind n DropInvalid e = cc
-plain_kind n PreferValid e = cc
-plain_kind n ProviderFirst e = cc
-plain_kind n Otc e = cc
-plain_kind n DropInvalidOtc e = cc
 
 module _ (f old new : ℕ → Kind) (xs : List ℕ) (i x : ℕ) (longer : take (i + 1) xs ≡ take i xs ++ x ∷ []) (so_far : (a : ℕ) → old a ≡ (if occurs a (take i xs) then f a else Plain)) where
   more : (a : ℕ) → occurs a (take (i + 1) xs) ≡ (occurs a (take i xs) || (x == a))

@@ -20,9 +20,8 @@ use Rattle.sim_core.specs.Loaded.{is_other}
 use Rattle.sim_core.specs.World.{World, kind_at, named, topology}
 use Rattle.trial_world.specs.Fixed.{is_lone}
 use Rattle.trial_world.specs.Sweeps.{with_kinds}
-use Rattle.trial_world.proofs.KindBooks.{is_key, plain_kind}
 use Rattle.trial_world.proofs.LoneAses.{ends_alone}
-use Rattle.sim_core.proofs.PolicyEdits.{leakers, named_by, occurs_keys}
+use Rattle.sim_core.proofs.PolicyEdits.{is_key, leakers, named_by, occurs_keys, other_plain}
 
 -- what is found of an AS among those with another kind than the plain one
 found : (f : ℕ → Kind) (a : ℕ) (xs : List ℕ) → find nat_cmp a (filter is_other (map (λ b. (b, f b)) xs)) ≡ cond (occurs a xs && is_other (a, f a)) (Some (f a)) None
@@ -58,7 +57,7 @@ module _ (w : World) (f : ℕ → Kind) (a : ℕ) where
       by : (t u : Bool) → is_other (a, f a) ≡ u → unwrap_or (cond (t && u) (Some (f a)) None) Plain ≡ cond t (f a) Plain
       by false u e = refl
       by true true e = refl
-      by true false e = sym (plain_kind a (f a) e)
+      by true false e = sym (other_plain a (f a) e)
 
   named_now : occurs a (fin.keys (with_kinds w f).kinds) ≡ (has (topology w) a && is_other (a, f a))
   named_now = occurs_keys (with_kinds w f).kinds a ∙ ap is_some got ∙ by (has (topology w) a && is_other (a, f a))

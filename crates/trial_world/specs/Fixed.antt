@@ -24,6 +24,11 @@ pub record IsPart (addr : AddrValue) (whole part : Plan) : Type 0 where
   pub announced : (p : PrefixValue) (a : ℕ) → announces part p a ≡ true → announced_path part p a ≡ announced_path whole p a
   pub known : (p : PrefixValue) → has_prefix part p ≡ true → (holds p addr ≡ true) × (has_prefix whole p ≡ true)
 
+-- a part that has grown by announcements of a prefix is a part still, for each address that the prefix holds, and has all that it had
+pub record IsGrown (whole : Plan) (prefix : PrefixValue) (old new : Plan) : Type 0 where
+  pub part : (addr : AddrValue) → holds prefix addr ≡ true → IsPart addr whole old → IsPart addr whole new
+  pub more : (p : PrefixValue) (a : ℕ) → announces old p a ≡ true → announces new p a ≡ true
+
 -- the plan has of the whole one the announcements of the prefixes that hold the address, and who leaks in the rounds up to the last
 pub record IsPlanFor (addr : AddrValue) (last : ℕ) (whole part : Plan) : Type 0 where
   pub is_part : IsPart addr whole part

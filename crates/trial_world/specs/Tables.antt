@@ -1,5 +1,5 @@
 -- The tables of a trial, with their watch.
-use Rattle.std.specs.Prelude.{◌≡◌, ◌≢◌, ℕ, Bool, true, false, IsTrue, Option, Some, List, All, map}
+use Rattle.std.specs.Prelude.{◌≡◌, ◌≢◌, ℕ, Bool, true, false, IsTrue, is_some, Option, Some, List, All, map}
 use Rattle.net_names.specs.Numbers.{occurs}
 use Rattle.net_names.specs.Prefixes.{PrefixValue}
 use Rattle.net_names.specs.declared.routes.Rel.{Rel}
@@ -12,6 +12,7 @@ use Rattle.stability_laws.specs.Plans.{Plan, has_prefix}
 use Rattle.stability_laws.specs.Rounds.{AreRounds}
 use Rattle.stability_laws.specs.World.{setting}
 use Rattle.stability_laws.specs.declared.entry.Entry.{Entry}
+use Rattle.route_choice.specs.RoundTables.{AreAllLive, round_routing, table_at}
 use Rattle.data_trace.specs.Hops.{next_hop}
 use Rattle.data_trace.specs.Views.{addr_of, rows_of}
 use Rattle.data_trace.specs.Watches.{AreRows, Row}
@@ -21,6 +22,7 @@ use Rattle.leak_round.specs.declared.rounds.Rounds.{Rounds}
 use Rattle.leak_round.specs.declared.touched.Touched.{Touched}
 use Rattle.trial_world.specs.Fixed.{label_in, world_of}
 use Rattle.trial_world.specs.declared.fixed.Fixed.{Fixed}
+use Rattle.trial_world.specs.declared.tables.Seen.{Seen}
 use Rattle.trial_world.specs.declared.tables.Tables.{Tables}
 
 -- the rows are those of all ASes for the line's address, by what is held in its round
@@ -32,6 +34,13 @@ pub record AreLineRounds (f : Fixed) (r : Rounds) : Type 0 where
   pub closed : is_open r ≡ false
   pub plan_is : plan_of r ≡ f.plan
   pub count_is : round_count r ≡ f.round
+
+-- the tables are those of the line's round, one for each prefix of the line's plan, with the pool in which their paths stand and the whole plan
+pub record IsSeen (f : Fixed) (rounds : Rounds) (seen : Seen) : Type 0 where
+  pub routing : (p : PrefixValue) (a : ℕ) → round_routing seen.pool.now seen.tables.now p a ≡ kept rounds f.round p a
+  pub prefixes : (p : PrefixValue) → is_some (table_at seen.tables.now p) ≡ has_prefix f.plan p
+  pub live : AreAllLive seen.pool.now seen.tables.now
+  pub plan : seen.plan.now ≡ (world_of f).plan
 
 -- the tables are the stable ones of the line's rounds where the ASes have the policies of the book, and the watch has the rows of the last (Gao and Rexford 2001; RFC 7908, section 3)
 pub record AreTablesIn (f : Fixed) (book : PolicyBook Kind) (t : Tables) : Type 0 where

@@ -4,8 +4,8 @@ ghost use Rattle.net_names.specs.Coverage.{holds as holds_of};
 ghost use Rattle.net_names.specs.Addresses.{AddrValue};
 ghost use Rattle.net_names.specs.Prefixes.{PrefixValue};
 ghost use Rattle.leak_round.specs.Limits.{IsWithinLimits};
-ghost use Rattle.stability_laws.specs.Plans.{announced_path, announces, leaks_in, has_prefix, empty_plan};
-ghost use Rattle.trial_world.specs.Fixed.{IsPart, IsPlanFor};
+ghost use Rattle.stability_laws.specs.Plans.{announced_path, leaks_in, has_prefix, empty_plan};
+ghost use Rattle.trial_world.specs.Fixed.{IsGrown, IsPart, IsPlanFor};
 
 use net_names::{Addr, Asn, NoMemory, Prefix, holds};
 use sim_core::copy_of;
@@ -20,12 +20,9 @@ fn announce_at(
     asn: Asn,
     part: &mut SeedPlan,
 ) -> Result<(), NoMemory>
-    ensures part { OnOk result ((addr : AddrValue) → holds_of prefix addr ≡ true →
-        IsPart addr whole.now part.old → IsPart addr whole.now part.new) }
+    ensures grown { OnOk result (IsGrown whole.now prefix part.old part.new) }
     ensures there { OnOk result ((addr : AddrValue) → holds_of prefix addr ≡ true → IsPart addr whole.now part.old →
         announced_path part.new prefix asn ≡ announced_path whole.now prefix asn) }
-    ensures more { OnOk result ((p : PrefixValue) (a : ℕ) →
-        announces part.old p a ≡ true → announces part.new p a ≡ true) }
     ensures leakers { part.new.leakers ≡ part.old.leakers }
 {
     if part.announces(prefix, asn) {
@@ -47,12 +44,9 @@ fn announce_prefix(
     prefix: Prefix,
     part: &mut SeedPlan,
 ) -> Result<(), NoMemory>
-    ensures part { OnOk result ((addr : AddrValue) → holds_of prefix addr ≡ true →
-        IsPart addr whole.now part.old → IsPart addr whole.now part.new) }
+    ensures grown { OnOk result (IsGrown whole.now prefix part.old part.new) }
     ensures there { OnOk result ((addr : AddrValue) → holds_of prefix addr ≡ true → IsPart addr whole.now part.old →
         (a : ℕ) → announced_path part.new prefix a ≡ announced_path whole.now prefix a) }
-    ensures more { OnOk result ((p : PrefixValue) (a : ℕ) →
-        announces part.old p a ≡ true → announces part.new p a ≡ true) }
     ensures leakers { part.new.leakers ≡ part.old.leakers }
 {
     for asn in whole.announcers() {

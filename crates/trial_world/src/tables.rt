@@ -11,7 +11,7 @@ ghost use Rattle.sim_core.specs.Parts.{AreRoundsOf};
 ghost use Rattle.sim_core.specs.Watching.{GoesOnInside};
 ghost use Rattle.three_pass.specs.Courses.{IsCourse};
 ghost use Rattle.trial_world.specs.Fixed.{IsFixed};
-ghost use Rattle.trial_world.specs.Tables.{AreLineRounds, AreLineRows, AreRowsBut, AreTablesBefore, AreTablesIn, StayTables};
+ghost use Rattle.trial_world.specs.Tables.{AreLineRounds, AreLineRows, AreRowsBut, AreTablesBefore, AreTablesIn, IsSeen, StayTables};
 
 use crate::fixed::Fixed;
 use crate::touching::touched_by;
@@ -21,8 +21,9 @@ use dirty_recompute::PlannedRanks;
 use leak_round::{MOST_CELLS, Rounds};
 use net_names::{Asn, NoMemory};
 use origin_validation::KnownStates;
+use path_pool::PathPool;
 use policy_kinds::Kind;
-use route_choice::Steps;
+use route_choice::{RoundTables, Steps};
 use stability_laws::{Book, SeedPlan, World, paths_go_on, plans_are_sound, right_follows};
 use std::alloc::Global;
 use std::marker::Brand;
@@ -32,8 +33,10 @@ use three_pass::Course;
 // Where at most so many ASes change their policy the tables are edited, and not made anew.
 const FEW: usize = 4;
 
-// So they are where at most one AS of so many does.
-const ONE_OF: usize = 256;
+// So they are where at most one AS of so many does. An edit costs 25 microseconds for each AS that changes, and from one
+// trial to the next twice the adopters change. Tables made anew cost 27 milliseconds over 75,000 ASes. The two meet at
+// some 1,000 changes, which is one AS of 75.
+const ONE_OF: usize = 64;
 
 /// The tables of a line's rounds in the world of a trial, and the watch for the line's address in its round.
 #[derive(Drop)]
@@ -61,7 +64,29 @@ fn rounds_of<L: Ledger>(
     ensures closed { IfOk result (λ rounds. is_open rounds ≡ false) }
 {
     let mut steps = Steps::<L>::new(blank);
-    Rounds::build_along(alloc, world, course, plan, count, &mut steps)
+    let rounds = Rounds::build_along(alloc, world, course, plan, count, &mut steps)?;
+    Ok(rounds)
+}
+
+// What a watch of the line sees: the tables of its round, the pool of their paths, and the whole plan.
+#[derive(Drop)]
+struct Seen<'a> {
+    tables: &'a RoundTables,
+    pool: &'a PathPool,
+    plan: &'a SeedPlan,
+}
+
+// What a watch of the line sees of the rounds.
+fn seen_in<'a>(fixed: &'a Fixed<'_>, rounds: &'a Rounds) -> Seen<'a>
+    requires fixed { IsFixed fixed.now }
+    requires line { AreLineRounds fixed.now rounds.now }
+    ensures { IsSeen fixed.now rounds.now result }
+{
+    let Some(tables) = rounds.round(fixed.round) else {
+        unreachable!();
+    };
+    let (pool, plan) = (rounds.pool(), fixed.base.plan());
+    Seen { tables, pool, plan }
 }
 
 // The watch of the rounds for the line's address in its round.
@@ -72,11 +97,9 @@ fn watch_of(fixed: &Fixed<'_>, rounds: &Rounds) -> Result<Watch, NoMemory>
     ensures rows { IfOk result (λ watch. AreLineRows fixed.now (kept rounds.now fixed.now.round) (rows_of watch)) }
     ensures addr { IfOk result (λ watch. addr_of watch ≡ fixed.now.addr) }
 {
-    let Some(tables) = rounds.round(fixed.round) else {
-        unreachable!();
-    };
-    let (pool, whole) = (rounds.pool(), fixed.base.plan());
-    Watch::by_index(fixed.alloc, &fixed.index, tables, pool, whole, fixed.addr)
+    let seen = seen_in(fixed, rounds);
+    let (index, addr) = (&fixed.index, fixed.addr);
+    Watch::by_index(fixed.alloc, index, seen.tables, seen.pool, seen.plan, addr)
 }
 
 /// The tables where the ASes have the policies of the book, made anew.
@@ -110,17 +133,21 @@ fn renew(fixed: &Fixed<'_>, rounds: &Rounds, changed: &[Asn], watch: &mut Watch)
     ensures rows { AreLineRows fixed.now (kept rounds.now fixed.now.round) (rows_of watch.new) }
     ensures addr { addr_of watch.new ≡ fixed.now.addr }
 {
-    let Some(tables) = rounds.round(fixed.round) else {
-        unreachable!();
-    };
-    let (pool, whole) = (rounds.pool(), fixed.base.plan());
+    let seen = seen_in(fixed, rounds);
     // A trial counts all ASes, and no groups of them: these stay those of the policies at the start.
     let book = fixed.base.book();
     let differing = Differing {
         hops: changed,
         groups: &[],
     };
-    watch.update(fixed.graph, tables, pool, whole, book, &differing);
+    watch.update(
+        fixed.graph,
+        seen.tables,
+        seen.pool,
+        seen.plan,
+        book,
+        &differing,
+    );
 }
 
 impl Tables {

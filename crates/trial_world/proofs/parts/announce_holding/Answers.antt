@@ -27,12 +27,12 @@ loop-prefix-preserved c =
           let held = sym c.holds.ensures ∙ w.if-holds.true in
           let done = w.in_ok-announce_prefix.ensures in
           let new = w.announce_prefix.new.part in
-          let are : IsPart c.args.addr whole new = done.part c.args.addr held c.loop-prefix.invariant.part in
+          let are : IsPart c.args.addr whole new = done.grown.part c.args.addr held c.loop-prefix.invariant.part in
           record {
             part = subst (IsPart c.args.addr whole) (sym w.part-is) are;
             leakers = ap (λ (t : Plan). t.leakers) w.part-is ∙ w.announce_prefix.ensures.leakers ∙ c.loop-prefix.invariant.leakers;
             there = subst (λ (t : Plan). (i : ℕ) (p : PrefixValue) → i < c.loop-prefix.prefix-index + 1 → slice_get items i ≡ Some p → HasAll c.args.addr whole t p) (sym w.part-is)
-                (next_held c.args.addr whole items c.loop-prefix.prefix-index x at c.loop-prefix.part before new are done.more (done.there c.args.addr held c.loop-prefix.invariant.part));
+                (next_held c.args.addr whole items c.loop-prefix.prefix-index x at c.loop-prefix.part before new are done.grown.more (done.there c.args.addr held c.loop-prefix.invariant.part));
           }
       | else-holds w ↦
           record {

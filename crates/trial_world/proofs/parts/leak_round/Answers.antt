@@ -1,33 +1,25 @@
-use Rattle.std.proofs.Common.{◌≡◌, ◌<◌, ◌≤◌, ◌||◌, Some, length, sym, ap, ◌∙◌, arith}
-use Rattle.std.specs.Prelude.{slice_get, IsTrue}
-use Rattle.std.proofs.lemmas.Option.{slice_get_within}
+use Rattle.std.proofs.Common.{◌||◌, sym, ap, ◌∙◌, arith}
 use Rattle.stability_laws.specs.Plans.{Plan, leaks_in, leakers_of}
-use Rattle.stability_laws.proofs.Listing.{place_le, occurs-listed}
-use Rattle.trial_world.proofs.PartPlans.{leak_more, of_round}
+use Rattle.stability_laws.proofs.Listing.{occurs-listed}
+use Rattle.trial_world.proofs.PartPlans.{leak_more, leaker_place, of_round}
 use Rattle.trial_world.proofs.parts.leak_round.Goals as goal
 
 pub overflow_add-place : goal.overflow_add-place
 overflow_add-place c =
-    let xs = leakers_of c.args.whole.now c.args.round in
-    let low : c.leakers.place ≤ c.in-Some.asn = place_le (λ a. IsTrue (leaks_in c.args.whole.now c.args.round a)) xs c.in-Some.ensures.listed c.leakers.place c.in-Some.asn (sym c.in-Some.ensures.value) in
-    omega (arith, low, c.get-number.ensures.value, c.get-number.type_inv)
+    (let (low, within) = leaker_place c.args.whole.now c.args.round c.leakers.place c.in-Some.asn c.in-Some.ensures.listed c.in-Some.ensures.value in omega (arith, low, c.get-number.ensures.value, c.get-number.type_inv))
 
 pub leakers-smaller : goal.leakers-smaller
-leakers-smaller c =
-    let xs = leakers_of c.args.whole.now c.args.round in
-    let within : c.leakers.place < length xs = slice_get_within xs c.leakers.place c.in-Some.asn (sym c.in-Some.ensures.value) in
-    omega arith
+leakers-smaller c = (let (low, within) = leaker_place c.args.whole.now c.args.round c.leakers.place c.in-Some.asn c.in-Some.ensures.listed c.in-Some.ensures.value in omega (arith, within))
 
 pub leakers-preserved : goal.leakers-preserved
 leakers-preserved c =
     let xs = leakers_of c.args.whole.now c.args.round in
-    let at : slice_get xs c.leakers.place ≡ Some c.in-Some.asn = sym c.in-Some.ensures.value in
     let is = c.in_ok-leaker.ensures.ok in
     record {
-      so_far = leak_more c.args.part.now c.leakers.part c.leaker.new.self c.args.round xs c.leakers.place c.in-Some.asn at is c.leakers.invariant.so_far;
+      so_far = leak_more c.args.part.now c.leakers.part c.leaker.new.self c.args.round xs c.leakers.place c.in-Some.asn (sym c.in-Some.ensures.value) is c.leakers.invariant.so_far;
       announced = ap (λ (p : Plan). p.announced) is ∙ c.leakers.invariant.announced;
       prefixes = ap (λ (p : Plan). p.prefixes) is ∙ c.leakers.invariant.prefixes;
-      within = (let within = slice_get_within xs c.leakers.place c.in-Some.asn at in omega (arith, within));
+      within = (let (low, within) = leaker_place c.args.whole.now c.args.round c.leakers.place c.in-Some.asn c.in-Some.ensures.listed c.in-Some.ensures.value in omega (arith, within));
     }
 
 pub returns-clause-leaks : goal.returns-clause-leaks
