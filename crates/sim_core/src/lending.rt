@@ -15,7 +15,7 @@ ghost use Rattle.sim_core.specs.Loaded.{world_of};
 ghost use Rattle.sim_core.specs.Loading.{IsLoadRefusal};
 ghost use Rattle.sim_core.specs.Sims.{kept, world_seen};
 ghost use Rattle.sim_core.specs.World.{HasCycle, topology};
-ghost use Rattle.leak_round.specs.declared.limits.TheConstants.{MOST_ROUNDS};
+ghost use Rattle.leak_round.specs.declared.limits.TheConstants.{MAX_CELLS, MOST_ROUNDS};
 ghost use Rattle.as_graph.specs.declared.build.TheConstants.{MOST_ASES};
 
 use crate::loading::load_base;
@@ -156,7 +156,7 @@ impl Sim {
         ensures inside { IfOk result (λ s. (a : ℕ) →
             has (topology (world_seen self.now)) a ≡ false → fin.get s a ≡ None) }
         ensures own { IfOk result (λ s. IsKept (world_seen self.now) (kept self.now) → StartAtOwnAs s) }
-        ensures short { IfOk result (HaveAtMost 40000000) }
+        ensures short { IfOk result (HaveAtMost MAX_CELLS) }
         ensures known { OnOk result (refusal_of (world_seen self.now) (query.Routes round prefix) ≡ None) }
         ensures refused { IfErr result (IsQueryRefusal (world_seen self.now) (query.Routes round prefix)) }
     {
