@@ -17,7 +17,7 @@ use as_graph::{Graph, ases_are_kept, links_are_taken};
 use dirty_recompute::{PlannedRanks, PrefixEdit, plan_edit};
 use net_names::{Asn, Class, Rel, State};
 use path_pool::PathPool;
-use policy_laws::{NoStates, RoutePolicy};
+use policy_laws::{NoStates, RoutePolicy, View};
 use route_choice::{Overlay, SeedHeld, SeedIds, Steps, Table};
 use stability_laws::{Book, World, right_follows};
 use std::alloc::Global;
@@ -30,14 +30,18 @@ fn hands_on<P: RoutePolicy>(policy: &P, held: Class, to: Rel) -> bool {
     policy.exports(held, Asn::new(9), to)
 }
 
+// A view of an invalid route that carries the number 9, neither of which the narrow policy reads.
+fn invalid(rt: &impl Abort, rel: Rel, neighbour: u32, length: u32) -> View {
+    view(rt, rel, neighbour, length, State::Invalid, Asn::new(9))
+}
+
 #[test]
 fn customers_then_shorter_paths_then_higher_neighbours_come_first(rt: HostRuntime) {
-    let nine = Asn::new(9);
-    let customer = view(&rt, Rel::Customer, 1, 3, State::Invalid, nine);
-    let peer = view(&rt, Rel::Peer, 2, 2, State::Invalid, nine);
-    let provider = view(&rt, Rel::Provider, 3, 2, State::Invalid, nine);
-    let shorter = view(&rt, Rel::Peer, 1, 1, State::Invalid, nine);
-    let long = view(&rt, Rel::Customer, 1, 4, State::Invalid, nine);
+    let customer = invalid(&rt, Rel::Customer, 1, 3);
+    let peer = invalid(&rt, Rel::Peer, 2, 2);
+    let provider = invalid(&rt, Rel::Provider, 3, 2);
+    let shorter = invalid(&rt, Rel::Peer, 1, 1);
+    let long = invalid(&rt, Rel::Customer, 1, 4);
     assert!(rt; likes(&Narrow, &customer, &peer) && likes(&Narrow, &customer, &provider));
     assert!(rt; likes(&Narrow, &provider, &peer) && likes(&Narrow, &shorter, &provider));
     assert!(rt; takes(&Narrow, &customer) && !takes(&Narrow, &long));

@@ -5,6 +5,7 @@ ghost use Rattle.as_graph.specs.Topology.{has};
 ghost use Rattle.leak_round.specs.Limits.{IsWithinLimits};
 ghost use Rattle.leak_round.specs.Plans.{IsOpenPlan, kept_with, plan_after};
 ghost use Rattle.leak_round.specs.Rounds.{is_open, kept, plan_of as planned, pool_of, round_count};
+ghost use Rattle.leak_round.specs.declared.limits.TheConstants.{MOST_ROUNDS};
 ghost use Rattle.leak_round.specs.declared.rounds.TheConstants.{MOST_CELLS};
 ghost use Rattle.net_names.specs.Prefixes.{PrefixValue};
 ghost use Rattle.net_names.specs.declared.routes.State.TheVariants.{NotFound};
@@ -23,8 +24,9 @@ use as_graph::Graph;
 use dirty_recompute::PlannedRanks;
 use leak_round::{Rounds, RoundsPlan, Touched};
 use policy_kinds::Kind;
-use policy_laws::NoStates;
+use policy_laws::{NoStates, RoutePolicy};
 use route_choice::Steps;
+use sim_core::Base;
 use stability_laws::{Book, SeedEdit, SeedPlan, World};
 use std::alloc::Global;
 use std::marker::Brand;
@@ -45,38 +47,54 @@ fn expect_round(
     expect_routes(rt, alloc, graph, table, rounds.pool(), rows);
 }
 
-// One round of the plan, where every AS has the narrow policy.
-fn narrow<L: Ledger>(
+// So many rounds of the plan, where there are no payloads.
+fn rounds_of<P: RoutePolicy, L: Ledger>(
     rt: &impl Abort,
     alloc: Global,
     graph: &Graph,
+    book: &Book<P>,
     plan: &SeedPlan,
-    blank: Blank,
+    count: u32,
+    steps: &mut Steps<L>,
 ) -> Rounds
     requires limits { IsWithinLimits plan.now }
-    requires name { blank.name ≡ L.name }
-    requires parts { blank.parts ≡ L.parts }
-    requires some { 0 < L.parts }
+    requires rounds { count ≤ MOST_ROUNDS }
+    ensures closed { is_open result ≡ false }
+    ensures few { live_count (pool_of result) ≤ MOST_CELLS }
+    ensures plan { planned result ≡ plan.now }
+    ensures stable { AreRounds (λ p. setting P.meaning graph.now book.now (λ origin. NotFound))
+        (planned result) (round_count result) (kept result) }
 {
     let ranks = ranks_of(rt, alloc, graph);
-    let book = Book::new(alloc, Narrow);
-    let mut steps = Steps::<L>::new(blank);
     let world = World {
         graph,
-        book: &book,
+        book,
         states: &NoStates,
     };
     let Ok(plan) = plan.copied(alloc) else {
         panic!(rt; "memory");
     };
-    Rounds::build(alloc, &world, &ranks, plan, 1, &mut steps).expect(rt, "memory")
+    match Rounds::build(alloc, &world, &ranks, plan, count, steps) {
+        Ok(rounds) => rounds,
+        Err(_) => panic!(rt; "memory"),
+    }
+}
+
+// One round of the plan, where every AS has the narrow policy.
+fn narrow<L: Ledger>(rt: &impl Abort, alloc: Global, base: &Base, blank: Blank) -> Rounds
+    requires ledger { (blank.name ≡ L.name) × (blank.parts ≡ L.parts) × (0 < L.parts) }
+{
+    let book = Book::new(alloc, Narrow);
+    let mut steps = Steps::<L>::new(blank);
+    let (graph, plan) = (base.graph(), base.plan());
+    rounds_of(rt, alloc, graph, &book, plan, 1, &mut steps)
 }
 
 #[test]
 fn a_round_of_the_narrow_policy_has_the_routing_of_propagation(rt: HostRuntime) {
     let scenario = br#"{"announcements":[{"prefix":"10.0.0.0/8","as":3}]}"#;
     let base = base_of(&rt, rt.alloc(), LINKS, scenario);
-    let rounds = narrow::<Brand>(&rt, rt.alloc(), base.graph(), base.plan(), Blank::new(1));
+    let rounds = narrow::<Brand>(&rt, rt.alloc(), &base, Blank::new(1));
     expect_round(&rt, rt.alloc(), base.graph(), &rounds, 1, ROWS);
 }
 
@@ -102,23 +120,10 @@ fn tidied<L: Ledger>(
     blank: Blank,
 ) -> Rounds
     requires limits { IsWithinLimits plan.now }
-    requires name { blank.name ≡ L.name }
-    requires parts { blank.parts ≡ L.parts }
-    requires some { 0 < L.parts }
+    requires ledger { (blank.name ≡ L.name) × (blank.parts ≡ L.parts) × (0 < L.parts) }
 {
-    let ranks = ranks_of(rt, alloc, graph);
     let mut steps = Steps::<L>::new(blank);
-    let world = World {
-        graph,
-        book,
-        states: &NoStates,
-    };
-    let Ok(plan) = plan.copied(alloc) else {
-        panic!(rt; "memory");
-    };
-    let Ok(mut rounds) = Rounds::build(alloc, &world, &ranks, plan, 2, &mut steps) else {
-        panic!(rt; "memory");
-    };
+    let mut rounds = rounds_of(rt, alloc, graph, book, plan, 2, &mut steps);
     tidy(rt, alloc, graph, &mut rounds);
     rounds
 }
@@ -175,10 +180,9 @@ fn withdrawing<L: Ledger>(
         asn: one,
     };
     let touched = Touched::new(alloc);
-    match rounds.plan(alloc, &world, &after, &touched, Some(&edit), steps) {
-        Ok(plan) => plan,
-        Err(_) => panic!(rt; "memory"),
-    }
+    rounds
+        .plan(alloc, &world, &after, &touched, Some(&edit), steps)
+        .expect(rt, "memory")
 }
 
 // AS 1 announces the path that its customer gives it too. The plan of its withdrawal is given up at first, and then put
@@ -194,23 +198,10 @@ fn withdrawn<L: Ledger>(
 )
     requires limits { IsWithinLimits plan.now }
     requires announcers { (p : PrefixValue) (a : ℕ) → IsTrue (announces plan.now p a) → has graph.now a ≡ true }
-    requires name { blank.name ≡ L.name }
-    requires parts { blank.parts ≡ L.parts }
-    requires some { 0 < L.parts }
+    requires ledger { (blank.name ≡ L.name) × (blank.parts ≡ L.parts) × (0 < L.parts) }
 {
-    let ranks = ranks_of(rt, alloc, graph);
     let mut steps = Steps::<L>::new(blank);
-    let world = World {
-        graph,
-        book,
-        states: &NoStates,
-    };
-    let Ok(plan) = plan.copied(alloc) else {
-        panic!(rt; "memory");
-    };
-    let Ok(mut rounds) = Rounds::build(alloc, &world, &ranks, plan, 1, &mut steps) else {
-        panic!(rt; "memory");
-    };
+    let mut rounds = rounds_of(rt, alloc, graph, book, plan, 1, &mut steps);
     let plan = withdrawing(rt, alloc, graph, book, &mut rounds, &mut steps);
     rounds.undo(plan);
     assert!(rt; rounds.pool().live() <= 10);

@@ -11,13 +11,13 @@ use Rattle.worked_cases.proofs.tests.rounds.withdrawn.Goals as goal
 
 pub withdrawing-plan-requires-2-clause-stable : goal.withdrawing-plan-requires-2-clause-stable
 withdrawing-plan-requires-2-clause-stable g c =
-    let built = c.in-Ok-build.rounds in
+    let built = c.rounds_of-rounds.result in
     let now = c.undo.new.self in
-    same_rounds _ c.in-Ok.plan (plan_of now) 1 (round_count now) (kept built) (kept now)
-    (c.undo.ensures.plan ∙ (c.withdrawing-plan.ensures.plan ∙ c.in-Ok-build.ensures.plan))
-    (c.undo.ensures.rounds ∙ (c.withdrawing-plan.ensures.count ∙ c.in-Ok-build.ensures.count))
+    same_rounds _ (plan_of built) (plan_of now) (round_count built) (round_count now) (kept built) (kept now)
+    (c.undo.ensures.plan ∙ c.withdrawing-plan.ensures.plan)
+    (c.undo.ensures.rounds ∙ c.withdrawing-plan.ensures.count)
     (λ round p a. c.undo.ensures.kept round p a ∙ c.withdrawing-plan.ensures.kept round p a)
-    c.in-Ok-build.ensures.stable
+    c.rounds_of-rounds.ensures.stable
 
 pub tidy-requires-clause-stable : goal.tidy-requires-clause-stable
 tidy-requires-clause-stable g c =
