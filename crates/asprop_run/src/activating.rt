@@ -2,21 +2,17 @@
 ghost use Rattle.std.specs.Prelude.{◌≡◌, ◌++◌, All, ◌&&◌, ℕ, None, codes, false, if◌then◌else◌, IfOk, OnOk, List, ◌∷◌};
 ghost use Rattle.std.specs.Option.{option_or};
 ghost use Rattle.std.specs.FinMap as fin;
-ghost use Rattle.activations.specs.Named.{AreSound};
-ghost use Rattle.net_names.specs.Numbers.{occurs};
+ghost use Rattle.activations.specs.Prelude.{AreSound};
+ghost use Rattle.net_names.specs.Prelude.{occurs};
 ghost use Rattle.reports.specs.Rows.{table};
-ghost use Rattle.sim_core.specs.Bases.{base_world};
-ghost use Rattle.sim_core.specs.Kept.{IsKept};
-ghost use Rattle.sim_core.specs.Sims.{kept, world_seen};
-ghost use Rattle.sim_core.specs.World.{HasCycle, has_round};
-ghost use Rattle.stability_laws.specs.EntryTexts.{entry_row};
-ghost use Rattle.stability_laws.specs.Plans.{has_prefix};
+ghost use Rattle.sim_core.specs.Prelude.{base_world, IsKept, kept, world_seen, HasCycle, has_round};
+ghost use Rattle.stability_laws.specs.Prelude.{entry_row, has_prefix};
 ghost use Rattle.asprop_run.specs.Inside.{IsInside};
 ghost use Rattle.asprop_run.specs.Loaded.{Serves, loaded_world};
 ghost use Rattle.asprop_run.specs.Replies.{AnswersJob};
 ghost use Rattle.asprop_run.specs.Settling.{acts_rows};
 ghost use Rattle.asprop_run.specs.Task.{outside};
-ghost use Rattle.task_reading.specs.Jobs.{Job as AJob, acts_job, job_seen, needs_of};
+ghost use Rattle.task_reading.specs.Prelude.{Job as AJob, acts_job, job_seen, needs_of};
 ghost use Rattle.task_reading.specs.declared.jobs.Needs.TheVariants as needs;
 
 use crate::loaded::Loaded;

@@ -1,13 +1,9 @@
 //! Answers to jobs.
-ghost use Rattle.std.specs.Prelude.{◌≡◌, ◌<◌, ◌++◌, All, false, true, string_bytes, IfOk, OnOk, OnErr};
-ghost use Rattle.io_edge.specs.Bytes.{AppendsFront};
-ghost use Rattle.io_edge.specs.Faults.{HasCause};
-ghost use Rattle.sim_core.specs.Bases.{base_world};
-ghost use Rattle.sim_core.specs.Kept.{IsKept};
-ghost use Rattle.sim_core.specs.Sims.{kept, world_seen};
-ghost use Rattle.sim_core.specs.World.{HasCycle};
-ghost use Rattle.scenario_text.specs.LineValues.{IsWellFormed, IsSoundAct};
-ghost use Rattle.task_reading.specs.Jobs.{Job as AJob, IsSoundJob, counts_job, job_seen, line_job, needs_of};
+ghost use Rattle.std.specs.Prelude.{◌≡◌, ◌<◌, ◌++◌, All, false, true, IfOk, OnOk, OnErr};
+ghost use Rattle.io_edge.specs.Prelude.{AppendsFront, HasCause};
+ghost use Rattle.sim_core.specs.Prelude.{base_world, IsKept, kept, world_seen, HasCycle};
+ghost use Rattle.scenario_text.specs.Prelude.{IsWellFormed, IsSoundAct};
+ghost use Rattle.task_reading.specs.Prelude.{Job as AJob, IsSoundJob, counts_job, job_seen, line_job, needs_of};
 ghost use Rattle.task_reading.specs.declared.jobs.Needs.TheVariants as needs;
 ghost use Rattle.asprop_run.specs.Inside.{AreInside, IsInside};
 ghost use Rattle.asprop_run.specs.Loaded.{AreRanks, Serves, loaded_world};

@@ -1,10 +1,10 @@
 //! The check of a printed table.
 ghost use Rattle.std.specs.Prelude.{◌≡◌, ◌++◌, IfOk, OnOk, codes, false, option_copied};
-ghost use Rattle.sim_core.specs.Bases.{base_world};
-ghost use Rattle.stability_laws.specs.EntryTexts.{entry_row};
+ghost use Rattle.sim_core.specs.Prelude.{base_world};
+ghost use Rattle.stability_laws.specs.Prelude.{entry_row};
 ghost use Rattle.asprop_run.specs.Replies.{AnswersJob};
 ghost use Rattle.asprop_run.specs.Settling.{fact, said};
-ghost use Rattle.task_reading.specs.Jobs.{tables_job};
+ghost use Rattle.task_reading.specs.Prelude.{tables_job};
 
 use crate::activating::states_at;
 use crate::refusals::put_bytes;

@@ -1,15 +1,13 @@
 //! Deliveries of messages, and what they come to.
-ghost use Rattle.std.specs.Prelude.{◌≡◌, ◌++◌, ◌==◌, ℕ, codes, false, if◌then◌else◌, OnOk};
-ghost use Rattle.message_sim.specs.Nets.{net_of};
+ghost use Rattle.std.specs.Prelude.{◌≡◌, ◌++◌, ◌==◌, codes, false, if◌then◌else◌, OnOk};
+ghost use Rattle.message_sim.specs.Prelude.{net_of};
 ghost use Rattle.reports.specs.Rows.{table};
-ghost use Rattle.sim_core.specs.Kept.{IsKept};
-ghost use Rattle.sim_core.specs.Sims.{kept, world_seen};
-ghost use Rattle.sim_core.specs.World.{HasCycle};
-ghost use Rattle.stability_laws.specs.EntryTexts.{entry_row};
+ghost use Rattle.sim_core.specs.Prelude.{IsKept, kept, world_seen, HasCycle};
+ghost use Rattle.stability_laws.specs.Prelude.{entry_row};
 ghost use Rattle.asprop_run.specs.Delivering.{message_rows};
 ghost use Rattle.asprop_run.specs.Inside.{IsInside};
 ghost use Rattle.asprop_run.specs.Replies.{AnswersJob};
-ghost use Rattle.task_reading.specs.Jobs.{messages_job};
+ghost use Rattle.task_reading.specs.Prelude.{messages_job};
 
 use crate::activating::states_at;
 use crate::refusals::put_bytes;

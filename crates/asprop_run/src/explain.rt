@@ -3,7 +3,7 @@ ghost use Rattle.std.specs.Prelude.{◌≡◌, IfOk, None, option_map};
 ghost use Rattle.asprop_run.specs.Texts.{ending_of};
 ghost use Rattle.asprop_run.specs.Runs.{Explained, Reports};
 ghost use Rattle.asprop_run.specs.Streams.{stream_of};
-ghost use Rattle.task_reading.specs.Words.{form_seen};
+ghost use Rattle.task_reading.specs.Prelude.{form_seen};
 
 use crate::types::Failure;
 use cycle_check::Cycle;

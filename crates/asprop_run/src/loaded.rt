@@ -1,12 +1,8 @@
 //! The world in which jobs are answered.
 ghost use Rattle.std.specs.Prelude.{◌≡◌, ◌≤◌, All, IfErr, IfOk};
-ghost use Rattle.as_graph.specs.Topology.{as_count};
+ghost use Rattle.as_graph.specs.Prelude.{as_count};
 ghost use Rattle.as_graph.specs.declared.build.TheConstants.{MOST_ASES};
-ghost use Rattle.sim_core.specs.Lent.{IsGraphOf};
-ghost use Rattle.sim_core.specs.Loaded.{world_of};
-ghost use Rattle.sim_core.specs.Loading.{IsLoadRefusal};
-ghost use Rattle.sim_core.specs.World.{HasCycle, topology};
-ghost use Rattle.sim_core.specs.Bases.{base_world};
+ghost use Rattle.sim_core.specs.Prelude.{IsGraphOf, world_of, IsLoadRefusal, HasCycle, topology, base_world};
 ghost use Rattle.asprop_run.specs.Loaded.{AreRanks, Serves, loaded_world};
 
 use as_graph::Graph;

@@ -1,16 +1,14 @@
 //! The top call.
 ghost use Rattle.std.specs.Prelude.{◌≡◌, ◌<◌, ◌⊎◌, All, Ok, true, IsSomeAnd, map, option_map, string_bytes};
-ghost use Rattle.io_edge.specs.Faults.{HasRisen};
-ghost use Rattle.net_names.specs.Prefixes.{PrefixValue};
-ghost use Rattle.as_graph.specs.Topology.{as_count};
-ghost use Rattle.sim_core.specs.World.{HasCycle, topology};
-ghost use Rattle.stability_laws.specs.Plans.{has_prefix};
+ghost use Rattle.io_edge.specs.Prelude.{HasRisen};
+ghost use Rattle.net_names.specs.Prelude.{PrefixValue};
+ghost use Rattle.as_graph.specs.Prelude.{as_count};
+ghost use Rattle.sim_core.specs.Prelude.{HasCycle, topology};
+ghost use Rattle.stability_laws.specs.Prelude.{has_prefix};
 ghost use Rattle.asprop_run.specs.Loaded.{Serves, loaded_world};
 ghost use Rattle.asprop_run.specs.Runs.{IsRun, Outcome, Worked};
-ghost use Rattle.task_reading.specs.Jobs.{AreAlike};
+ghost use Rattle.task_reading.specs.Prelude.{AreAlike, source_of, HasSize, form_of, form_seen, name_by};
 ghost use Rattle.asprop_run.specs.Streams.{stream_of};
-ghost use Rattle.task_reading.specs.Sources.{source_of};
-ghost use Rattle.task_reading.specs.Words.{HasSize, form_of, form_seen, name_by};
 ghost use Rattle.task_reading.specs.declared.types.File.{File as AFile};
 ghost use Rattle.task_reading.specs.declared.types.File.TheVariants.{Script};
 ghost use Rattle.task_reading.specs.declared.types.Cause.TheVariants.{NotInWorld};

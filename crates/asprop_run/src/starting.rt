@@ -3,7 +3,7 @@ ghost use Rattle.std.specs.Prelude.{◌≡◌};
 ghost use Rattle.std.specs.Process.{exit_status};
 ghost use Rattle.asprop_run.specs.Started.{IsWordsOf, Started, Starts, reason_of};
 ghost use Rattle.asprop_run.specs.Streams.{stream_of};
-ghost use Rattle.task_reading.specs.Sources.{source_of};
+ghost use Rattle.task_reading.specs.Prelude.{source_of};
 
 use crate::explain::explain;
 use crate::running::run;

@@ -1,5 +1,5 @@
 //! The text of a bundle.
-ghost use Rattle.std.specs.Prelude.{◌≡◌, ◌++◌, ◌∷◌, [], ◌<◌, IfOk, OnOk};
+ghost use Rattle.std.specs.Prelude.{◌≡◌, ◌++◌, ◌<◌, IfOk, OnOk};
 ghost use Rattle.std.specs.List.{flat_map};
 ghost use Rattle.cases.specs.Texts.{bundle_text, case_text, content, digit, file_text, line, lines, run_text, shown, wanted_text, way_text};
 

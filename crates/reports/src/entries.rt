@@ -1,7 +1,7 @@
 //! The row of an entry that stands by itself.
 ghost use Rattle.std.specs.Prelude.{◌≡◌, ◌++◌, OnOk, OnErr, Some, option_copied};
 ghost use Rattle.reports.specs.Growth.{Grows};
-ghost use Rattle.stability_laws.specs.EntryTexts.{entry_text, entry_row};
+ghost use Rattle.stability_laws.specs.Prelude.{entry_text, entry_row};
 
 use crate::bytes::put_bytes;
 use crate::rows::{append_numbers, append_otc, begin_entry, begin_row};

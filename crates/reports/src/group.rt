@@ -1,6 +1,6 @@
 //! The groups of ASes that are counted together.
 ghost use Rattle.std.specs.Prelude.{◌≡◌, ◌++◌, OnOk, OnErr};
-ghost use Rattle.data_trace.specs.Views.{rows_of};
+ghost use Rattle.data_trace.specs.Prelude.{rows_of};
 ghost use Rattle.reports.specs.Counts.{group_name};
 ghost use Rattle.reports.specs.Groups.{group_size, is_printed as is_group_printed, which_of};
 ghost use Rattle.reports.specs.Growth.{Grows};

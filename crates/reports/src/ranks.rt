@@ -1,8 +1,8 @@
 //! The ranks of all ASes.
 ghost use Rattle.std.specs.Prelude.{◌≡◌, ◌++◌, ◌∷◌, [], OnOk, OnErr, decimal};
-ghost use Rattle.rank_order.specs.Ranks.{rank_at};
+ghost use Rattle.rank_order.specs.Prelude.{rank_at};
 ghost use Rattle.reports.specs.Growth.{Grows};
-ghost use Rattle.stability_laws.specs.EntryTexts.{row};
+ghost use Rattle.stability_laws.specs.Prelude.{row};
 ghost use Rattle.reports.specs.Rows.{table as table_of};
 
 use crate::bytes::{put_bytes, put_number};

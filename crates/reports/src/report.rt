@@ -1,8 +1,8 @@
 //! The counts of a watched address.
 ghost use Rattle.std.specs.Prelude.{◌≡◌, ◌==◌, ◌++◌, ◌∷◌, [], OnOk, OnErr, codes, decimal, if◌then◌else◌};
 ghost use Rattle.std.specs.List.{flat_map};
-ghost use Rattle.stability_laws.specs.Plans.{announcers_of};
-ghost use Rattle.data_trace.specs.Views.{rows_of};
+ghost use Rattle.stability_laws.specs.Prelude.{announcers_of};
+ghost use Rattle.data_trace.specs.Prelude.{rows_of};
 ghost use Rattle.reports.specs.Growth.{Grows};
 ghost use Rattle.reports.specs.Counts.{count_row, group_text, report_text};
 ghost use Rattle.reports.specs.Groups.{delivered_text, group_count, group_size, printed_text};

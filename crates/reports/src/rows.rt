@@ -1,13 +1,12 @@
 //! The table of a routing.
-ghost use Rattle.std.specs.Prelude.{◌≡◌, ◌++◌, ◌∷◌, [], ℕ, OnOk, OnErr, Some, codes, option_map, decimal};
+ghost use Rattle.std.specs.Prelude.{◌≡◌, ◌++◌, ◌∷◌, [], OnOk, OnErr, Some, codes, option_map, decimal};
 ghost use Rattle.std.specs.Option.{option_map_or};
 ghost use Rattle.path_pool.specs.Pool.{IsLive, list_of};
-ghost use Rattle.route_choice.specs.Resources.{AreEntriesLive};
-ghost use Rattle.route_choice.specs.Routings.{entry_of, table_routing};
+ghost use Rattle.route_choice.specs.Prelude.{AreEntriesLive, entry_of, table_routing};
 ghost use Rattle.reports.specs.Growth.{Grows};
 ghost use Rattle.reports.specs.Held.{IsHeldLive};
-ghost use Rattle.net_names.specs.Texts.{class_word, numbers_text};
-ghost use Rattle.stability_laws.specs.EntryTexts.{entry_text, entry_row};
+ghost use Rattle.net_names.specs.Prelude.{class_word, numbers_text};
+ghost use Rattle.stability_laws.specs.Prelude.{entry_text, entry_row};
 ghost use Rattle.reports.specs.Rows.{more_numbers, table as table_of};
 
 use crate::bytes::put_bytes;

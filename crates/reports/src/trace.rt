@@ -1,8 +1,8 @@
 //! The line of a trace.
 ghost use Rattle.std.specs.Prelude.{◌≡◌, ◌++◌, ◌∷◌, [], OnOk, OnErr};
 ghost use Rattle.reports.specs.Growth.{Grows};
-ghost use Rattle.net_names.specs.Texts.{numbers_text};
-ghost use Rattle.stability_laws.specs.EntryTexts.{row};
+ghost use Rattle.net_names.specs.Prelude.{numbers_text};
+ghost use Rattle.stability_laws.specs.Prelude.{row};
 ghost use Rattle.reports.specs.Traces.{end_word};
 
 use crate::bytes::put_bytes;

@@ -3,13 +3,11 @@ ghost use Rattle.std.specs.Prelude.{◌≡◌, ◌≤◌, ℕ, true, false, IfOk
 ghost use Rattle.std.specs.FinMap as fin;
 ghost use Rattle.std.specs.FinSet as set;
 ghost use Rattle.std.specs.Ordering.{nat_cmp};
-ghost use Rattle.net_names.specs.Prefixes.{PrefixValue};
-ghost use Rattle.leak_round.specs.Rounds.{plan_of};
-ghost use Rattle.leak_round.specs.Touched.{touches};
+ghost use Rattle.net_names.specs.Prelude.{PrefixValue};
+ghost use Rattle.leak_round.specs.Prelude.{plan_of, touches};
 ghost use Rattle.scenario_text.specs.declared.limits.TheConstants.{MOST_NUMBERS};
 ghost use Rattle.scenario_text.specs.declared.acts.Edit.TheVariants.{Announce, Withdraw};
-ghost use Rattle.stability_laws.specs.Plans.{with_announcement};
-ghost use Rattle.stability_laws.specs.SeedEdits.{IsEditWithin, edit_asn, edit_prefix, edited};
+ghost use Rattle.stability_laws.specs.Prelude.{with_announcement, IsEditWithin, edit_asn, edit_prefix, edited};
 ghost use Rattle.sim_core.specs.Editing.{IsEditable, IsEditedQuickly, IsSeedEdit, edit_of};
 ghost use Rattle.sim_core.specs.Views.{world_seen};
 ghost use Rattle.sim_core.specs.World.{named};

@@ -1,9 +1,8 @@
 //! Answers of a simulation.
 ghost use Rattle.std.specs.Prelude.{◌≡◌, ◌≤◌, true, Some, IfOk, IfErr, OnOk, OnErr};
 ghost use Rattle.std.specs.FinMap as fin;
-ghost use Rattle.as_graph.specs.Topology.{as_count};
-ghost use Rattle.data_trace.specs.Hops.{next_hop};
-ghost use Rattle.data_trace.specs.Traces.{IsTrace};
+ghost use Rattle.as_graph.specs.Prelude.{as_count};
+ghost use Rattle.data_trace.specs.Prelude.{next_hop, IsTrace};
 ghost use Rattle.scenario_text.specs.declared.acts.Query.TheVariants as query;
 ghost use Rattle.sim_core.specs.Answers.{Answers, IsQueryRefusal};
 ghost use Rattle.sim_core.specs.Parts.{AreTablesOf, IsTableOf, no_round, no_table};

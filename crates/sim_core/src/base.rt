@@ -2,7 +2,7 @@
 ghost use Rattle.std.specs.Prelude.{◌≡◌, ◌≢◌, ◌≤◌, ℕ, Some};
 ghost use Rattle.std.specs.List.{AllPairs};
 ghost use Rattle.std.specs.FinMap as fin;
-ghost use Rattle.leak_round.specs.Limits.{IsWithinLimits};
+ghost use Rattle.leak_round.specs.Prelude.{IsWithinLimits};
 ghost use Rattle.policy_kinds.specs.declared.kind.Kind.TheVariants.{Plain};
 ghost use Rattle.sim_core.specs.Parts.{IsNamed};
 ghost use Rattle.leak_round.specs.declared.limits.TheConstants.{MOST_ROUNDS};

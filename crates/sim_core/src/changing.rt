@@ -1,14 +1,10 @@
 //! What belongs to an edited world: planned with all memory, and then put in place without any.
-ghost use Rattle.std.specs.Prelude.{◌≡◌, ◌≤◌, ℕ, false, true, Some, IfOk, OnOk, OnErr, map};
+ghost use Rattle.std.specs.Prelude.{◌≡◌, ◌≤◌, false, true, Some, IfOk, OnOk, OnErr, map};
 ghost use Rattle.std.specs.Option.{option_copied};
-ghost use Rattle.as_graph.specs.Hierarchy.{HasNoProviderCycle};
-ghost use Rattle.as_graph.specs.Topology.{relation};
-ghost use Rattle.origin_validation.specs.Leaving.{less};
+ghost use Rattle.as_graph.specs.Prelude.{HasNoProviderCycle, relation};
+ghost use Rattle.origin_validation.specs.Prelude.{less};
 ghost use Rattle.path_pool.specs.Pool.{live_count};
-ghost use Rattle.leak_round.specs.Changes.{HasChanges};
-ghost use Rattle.leak_round.specs.Edited.{plan_edited};
-ghost use Rattle.leak_round.specs.Rounds.{is_open, kept as kept_rounds, plan_of, pool_of, round_count};
-ghost use Rattle.leak_round.specs.Touched.{touches};
+ghost use Rattle.leak_round.specs.Prelude.{HasChanges, plan_edited, is_open, kept as kept_rounds, plan_of, pool_of, round_count, touches};
 ghost use Rattle.sim_core.specs.Editing.{IsChanged, IsQuickChange, IsSmall, IsUnchanged, ground_less};
 ghost use Rattle.sim_core.specs.Ground.{AreSeenAlike, BelongTo, DiffersAround, Ground as AGround, IsSeedChange, ground_in};
 ghost use Rattle.sim_core.specs.Steps.{AreFewSteps};

@@ -1,8 +1,8 @@
 //! Edits of a simulation.
 ghost use Rattle.std.specs.Prelude.{◌≤◌, OnOk};
-ghost use Rattle.leak_round.specs.Rounds.{pool_of};
+ghost use Rattle.leak_round.specs.Prelude.{pool_of};
 ghost use Rattle.path_pool.specs.Pool.{live_count};
-ghost use Rattle.scenario_text.specs.LineValues.{IsWellFormed};
+ghost use Rattle.scenario_text.specs.Prelude.{IsWellFormed};
 ghost use Rattle.sim_core.specs.Editing.{IsEditable, IsEditedQuickly, IsUnchanged};
 ghost use Rattle.sim_core.specs.Views.{AreRight, world_seen};
 ghost use Rattle.sim_core.specs.World.{HasCycle};

@@ -2,10 +2,9 @@
 ghost use Rattle.std.specs.Prelude.{◌≡◌, ◌≤◌, ℕ, false, None, IfOk, IfErr, OnOk};
 ghost use Rattle.std.specs.FinMap as fin;
 ghost use Rattle.std.specs.FinSet as set;
-ghost use Rattle.as_graph.specs.Topology.{as_count, has};
-ghost use Rattle.leak_round.specs.Limits.{IsWithinLimits};
-ghost use Rattle.leak_round.specs.SeedPaths.{HaveAtMost};
-ghost use Rattle.rank_order.specs.Ranks.{rank_at};
+ghost use Rattle.as_graph.specs.Prelude.{as_count, has};
+ghost use Rattle.leak_round.specs.Prelude.{IsWithinLimits, HaveAtMost};
+ghost use Rattle.rank_order.specs.Prelude.{rank_at};
 ghost use Rattle.scenario_text.specs.declared.acts.Query.TheVariants as query;
 ghost use Rattle.sim_core.specs.Answers.{IsQueryRefusal, refusal_of};
 ghost use Rattle.sim_core.specs.Bases.{base_world};

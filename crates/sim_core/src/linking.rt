@@ -1,14 +1,9 @@
 //! Edits of links.
-ghost use Rattle.std.specs.Prelude.{◌≡◌, ◌≢◌, ◌≤◌, ℕ, min, max, true, Some, None, [], ◌∷◌, IfOk, IfErr, OnOk, OnErr, IfNone, IfSome};
+ghost use Rattle.std.specs.Prelude.{◌≡◌, ◌≢◌, ◌≤◌, min, max, true, Some, None, [], ◌∷◌, IfOk, IfErr, OnOk, OnErr, IfNone, IfSome};
 ghost use Rattle.as_graph.specs.declared.error.GraphError.{GraphError as AGraphError};
-ghost use Rattle.as_graph.specs.Edits.{AsesAreKept, EditsAreUndone, LinksAreSet, LinksAreSound, LinksAreTaken, with_link};
-ghost use Rattle.as_graph.specs.Hierarchy.{HasNoProviderCycle, IsProviderCycle};
-ghost use Rattle.as_graph.specs.Refusals.{IsLinkRefusal};
-ghost use Rattle.as_graph.specs.Room.{is_room_for};
-ghost use Rattle.as_graph.specs.Topology.{relation};
-ghost use Rattle.cycle_check.specs.Cycles.{without_pair};
-ghost use Rattle.leak_round.specs.Rounds.{pool_of};
-ghost use Rattle.leak_round.specs.Touched.{touches};
+ghost use Rattle.as_graph.specs.Prelude.{AsesAreKept, EditsAreUndone, LinksAreSet, LinksAreSound, LinksAreTaken, with_link, HasNoProviderCycle, IsProviderCycle, IsLinkRefusal, is_room_for, relation};
+ghost use Rattle.cycle_check.specs.Prelude.{without_pair};
+ghost use Rattle.leak_round.specs.Prelude.{pool_of, touches};
 ghost use Rattle.path_pool.specs.Pool.{live_count};
 ghost use Rattle.scenario_text.specs.declared.acts.Edit.TheVariants.{Link, Unlink};
 ghost use Rattle.sim_core.specs.Editing.{BeginsWithLink, HasLinks, IsChanged, IsEditable, IsEditedQuickly, IsLinkStop, IsQuickChange, IsUnchanged, IsUndone, ground_of, links_with};

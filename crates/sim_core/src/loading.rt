@@ -1,11 +1,9 @@
 //! Making a simulation.
 ghost use Rattle.std.specs.Prelude.{◌≡◌, ◌<◌, ◌≤◌, ℕ, false, IfOk, IfErr, OnOk};
-ghost use Rattle.as_graph.specs.Topology.{as_count, relation, unmarked};
-ghost use Rattle.as_graph.specs.Hierarchy.{HasNoProviderCycle, IsRank};
-ghost use Rattle.rank_order.specs.Ranks.{rank_at};
-ghost use Rattle.leak_round.specs.Limits.{IsWithinLimits};
-ghost use Rattle.leak_round.specs.Rounds.{is_open};
-ghost use Rattle.roa_table.specs.Sets.{Payloads};
+ghost use Rattle.as_graph.specs.Prelude.{as_count, relation, unmarked, HasNoProviderCycle, IsRank};
+ghost use Rattle.rank_order.specs.Prelude.{rank_at};
+ghost use Rattle.leak_round.specs.Prelude.{IsWithinLimits, is_open};
+ghost use Rattle.roa_table.specs.Prelude.{Payloads};
 ghost use Rattle.sim_core.specs.Bases.{base_world};
 ghost use Rattle.sim_core.specs.Loaded.{names_in, world_of};
 ghost use Rattle.sim_core.specs.Loading.{IsCycleRefusal, IsLoadRefusal};

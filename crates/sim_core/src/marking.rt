@@ -1,7 +1,6 @@
 //! Marks of ASes that a graph has room for.
 ghost use Rattle.std.specs.Prelude.{◌≡◌, ◌<◌, ◌≤◌, true, IfErr, OnOk, OnErr};
-ghost use Rattle.as_graph.specs.Room.{is_room_with};
-ghost use Rattle.as_graph.specs.Topology.{as_count};
+ghost use Rattle.as_graph.specs.Prelude.{is_room_with, as_count};
 ghost use Rattle.sim_core.specs.Marking.{with_mark_if};
 ghost use Rattle.sim_core.specs.declared.errors.EditError.TheVariants as refused;
 ghost use Rattle.sim_core.specs.declared.errors.EditLimit.TheVariants.{Ases};

@@ -1,6 +1,6 @@
 //! The graph of a world: its links, and the ASes that the scenario names.
 ghost use Rattle.std.specs.Prelude.{◌≡◌, ◌≤◌, ◌∷◌, ◌++◌, [], ℕ, map, filter, flat_map, None, IfOk, OnOk, IfErr};
-ghost use Rattle.as_graph.specs.Topology.{as_count};
+ghost use Rattle.as_graph.specs.Prelude.{as_count};
 ghost use Rattle.scenario_text.specs.declared.scenario.Announcement.{Announcement as AnAnnouncement};
 ghost use Rattle.sim_core.specs.Loaded.{is_other as is_other_policy, names_in};
 ghost use Rattle.sim_core.specs.Marking.{IsMarksRefusal, MakesGraph, marked};

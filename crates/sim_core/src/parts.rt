@@ -2,11 +2,10 @@
 ghost use Rattle.std.specs.Prelude.{◌≡◌, ◌≢◌, ◌≤◌, ℕ, true, false, Some};
 ghost use Rattle.std.specs.List.{AllPairs};
 ghost use Rattle.std.specs.FinMap as fin;
-ghost use Rattle.leak_round.specs.Limits.{IsWithinLimits};
-ghost use Rattle.leak_round.specs.Rounds.{is_open, plan_of, round_count};
-ghost use Rattle.net_names.specs.Numbers.{occurs};
-ghost use Rattle.policy_kinds.specs.Kinds.{kind_policy};
-ghost use Rattle.stability_laws.specs.Book.{policy_at};
+ghost use Rattle.leak_round.specs.Prelude.{IsWithinLimits, is_open, plan_of, round_count};
+ghost use Rattle.net_names.specs.Prelude.{occurs};
+ghost use Rattle.policy_kinds.specs.Prelude.{kind_policy};
+ghost use Rattle.stability_laws.specs.Prelude.{policy_at};
 ghost use Rattle.policy_kinds.specs.declared.kind.Kind.TheVariants.{Plain};
 ghost use Rattle.sim_core.specs.Parts.{IsNamed};
 ghost use Rattle.sim_core.specs.Watching.{HasWatches};

@@ -1,15 +1,11 @@
 //! Edits of payloads.
 ghost use Rattle.std.specs.Prelude.{◌≡◌, ◌≤◌, ℕ, true, IsTrue, IfOk, None, OnErr, OnOk, Some};
-ghost use Rattle.as_graph.specs.Hierarchy.{HasNoProviderCycle};
-ghost use Rattle.as_graph.specs.Topology.{relation};
-ghost use Rattle.leak_round.specs.Rounds.{plan_of, pool_of};
-ghost use Rattle.leak_round.specs.Touched.{touches};
-ghost use Rattle.net_names.specs.Coverage.{covers};
-ghost use Rattle.net_names.specs.Prefixes.{PrefixValue};
+ghost use Rattle.as_graph.specs.Prelude.{HasNoProviderCycle, relation};
+ghost use Rattle.leak_round.specs.Prelude.{plan_of, pool_of, touches};
+ghost use Rattle.net_names.specs.Prelude.{covers, PrefixValue};
 ghost use Rattle.path_pool.specs.Pool.{live_count};
-ghost use Rattle.policy_kinds.specs.Kinds.{kind_policy};
-ghost use Rattle.stability_laws.specs.Book.{policy_at};
-ghost use Rattle.stability_laws.specs.Plans.{has_prefix};
+ghost use Rattle.policy_kinds.specs.Prelude.{kind_policy};
+ghost use Rattle.stability_laws.specs.Prelude.{policy_at, has_prefix};
 ghost use Rattle.scenario_text.specs.declared.acts.Edit.TheVariants.{VrpAdd, VrpTake};
 ghost use Rattle.sim_core.specs.Editing.{IsChanged, IsEditable, IsEditedQuickly, IsQuickChange, IsUnchanged, ground_less};
 ghost use Rattle.sim_core.specs.Ground.{AreReadersTouched, BelongTo};

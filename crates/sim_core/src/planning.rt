@@ -3,7 +3,7 @@ ghost use Rattle.std.specs.Prelude.{◌≡◌, ◌≢◌, ◌≤◌, ◌++◌, �
 ghost use Rattle.policy_kinds.specs.declared.kind.Kind.{Kind as AKind};
 ghost use Rattle.policy_kinds.specs.declared.kind.Kind.TheVariants.{Plain};
 ghost use Rattle.std.specs.FinMap as fin;
-ghost use Rattle.stability_laws.specs.Plans.{Plan, empty_plan};
+ghost use Rattle.stability_laws.specs.Prelude.{Plan, empty_plan};
 ghost use Rattle.sim_core.specs.Loaded.{is_other as is_other_policy, plan_of};
 
 use crate::naming::is_other;

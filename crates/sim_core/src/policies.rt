@@ -1,21 +1,17 @@
 //! Edits of policies.
 ghost use Rattle.std.specs.Prelude.{◌≡◌, ◌≢◌, ◌⊎◌, ℕ, true, false, Some, IsTrue, IfOk, IfErr, OnOk, OnErr, if◌then◌else◌};
-ghost use Rattle.as_graph.specs.Edits.{without_mark};
-ghost use Rattle.as_graph.specs.Topology.{relation};
-ghost use Rattle.net_names.specs.Numbers.{occurs};
-ghost use Rattle.net_names.specs.Prefixes.{PrefixValue};
+ghost use Rattle.as_graph.specs.Prelude.{without_mark, relation};
+ghost use Rattle.net_names.specs.Prelude.{occurs, PrefixValue};
 ghost use Rattle.net_names.specs.declared.routes.Rel.{Rel as ARel};
-ghost use Rattle.leak_round.specs.Rounds.{plan_of};
-ghost use Rattle.leak_round.specs.Touched.{touches};
-ghost use Rattle.policy_kinds.specs.Kinds.{kind_policy};
+ghost use Rattle.leak_round.specs.Prelude.{plan_of, touches};
+ghost use Rattle.policy_kinds.specs.Prelude.{kind_policy};
 ghost use Rattle.scenario_text.specs.declared.acts.Edit.TheVariants.{Policy};
 ghost use Rattle.sim_core.specs.Editing.{HasRoomToGive, IsEditable, IsEditedQuickly, IsGiven, IsRoomed, IsUndone};
 ghost use Rattle.sim_core.specs.Edits.{refusal_of_edit};
 ghost use Rattle.sim_core.specs.Loaded.{is_other as is_other_policy};
 ghost use Rattle.sim_core.specs.Views.{world_seen};
 ghost use Rattle.sim_core.specs.declared.errors.EditError.{EditError as AnEditError};
-ghost use Rattle.stability_laws.specs.Book.{policy_at};
-ghost use Rattle.stability_laws.specs.Plans.{has_prefix};
+ghost use Rattle.stability_laws.specs.Prelude.{policy_at, has_prefix};
 
 use crate::naming::is_other;
 use crate::parts::Parts;

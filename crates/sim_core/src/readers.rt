@@ -1,9 +1,9 @@
 //! The ASes whose policy reads the states.
 ghost use Rattle.std.specs.Prelude.{◌≡◌, ℕ, true, IfOk, OnOk};
-ghost use Rattle.as_graph.specs.Topology.{has};
-ghost use Rattle.net_names.specs.Numbers.{occurs};
-ghost use Rattle.policy_kinds.specs.Kinds.{kind_policy};
-ghost use Rattle.stability_laws.specs.Book.{policy_at};
+ghost use Rattle.as_graph.specs.Prelude.{has};
+ghost use Rattle.net_names.specs.Prelude.{occurs};
+ghost use Rattle.policy_kinds.specs.Prelude.{kind_policy};
+ghost use Rattle.stability_laws.specs.Prelude.{policy_at};
 
 use as_graph::Graph;
 use as_places::AsPlaces;

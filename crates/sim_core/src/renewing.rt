@@ -1,7 +1,6 @@
 //! Watches that are taken to an edited world: room first, and then the change without memory.
 ghost use Rattle.std.specs.Prelude.{◌≡◌, ℕ, suc, ◌<◌, ◌≤◌, Some, OnOk, length, map};
-ghost use Rattle.leak_round.specs.Plans.{ases_told};
-ghost use Rattle.leak_round.specs.Rounds.{kept as kept_rounds, plan_of, round_count};
+ghost use Rattle.leak_round.specs.Prelude.{ases_told, kept as kept_rounds, plan_of, round_count};
 ghost use Rattle.sim_core.specs.Renewing.{AreRoomy, AreRoundsRoomy, CanFollow, CanAllFollow};
 ghost use Rattle.sim_core.specs.Watching.{AreRoundWatches, AreWatches, GoesOnInside, addrs_in, seen_in};
 ghost use Rattle.leak_round.specs.declared.limits.TheConstants.{MOST_ROUNDS};

@@ -1,8 +1,8 @@
 //! How a simulation is made and edited, by its parts.
 ghost use Rattle.std.specs.Prelude.{◌≡◌, ◌≤◌, IfOk, IfErr, OnOk, OnErr};
-ghost use Rattle.as_graph.specs.Topology.{as_count};
-ghost use Rattle.leak_round.specs.Changes.{HasChanges};
-ghost use Rattle.scenario_text.specs.LineValues.{IsWellFormed};
+ghost use Rattle.as_graph.specs.Prelude.{as_count};
+ghost use Rattle.leak_round.specs.Prelude.{HasChanges};
+ghost use Rattle.scenario_text.specs.Prelude.{IsWellFormed};
 ghost use Rattle.sim_core.specs.Edits.{IsAllowed, IsEditRefusal, edited};
 ghost use Rattle.sim_core.specs.Kept.{IsKept};
 ghost use Rattle.sim_core.specs.Loaded.{world_of};

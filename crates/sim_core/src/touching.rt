@@ -1,14 +1,11 @@
 //! The ASes whose entries may be wrong after an edit.
 ghost use Rattle.std.specs.Prelude.{◌≡◌, ℕ, true, false, IsTrue, IfOk, OnOk, Some, List};
-ghost use Rattle.net_names.specs.Coverage.{covers as covers_it};
-ghost use Rattle.net_names.specs.Numbers.{last_or, occurs};
-ghost use Rattle.origin_validation.specs.Judging.{state_of};
-ghost use Rattle.roa_table.specs.Sets.{taken};
-ghost use Rattle.net_names.specs.Prefixes.{PrefixValue};
-ghost use Rattle.policy_kinds.specs.Kinds.{kind_policy};
-ghost use Rattle.stability_laws.specs.Book.{policy_at};
-ghost use Rattle.stability_laws.specs.Plans.{announced_path, has_prefix};
-ghost use Rattle.leak_round.specs.Touched.{touches};
+ghost use Rattle.net_names.specs.Prelude.{covers as covers_it, last_or, occurs, PrefixValue};
+ghost use Rattle.origin_validation.specs.Prelude.{state_of};
+ghost use Rattle.roa_table.specs.Prelude.{taken};
+ghost use Rattle.policy_kinds.specs.Prelude.{kind_policy};
+ghost use Rattle.stability_laws.specs.Prelude.{policy_at, announced_path, has_prefix};
+ghost use Rattle.leak_round.specs.Prelude.{touches};
 ghost use Rattle.sim_core.specs.Ground.{AreReadersTouched, IsOrigin};
 
 use leak_round::Touched;

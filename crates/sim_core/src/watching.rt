@@ -2,16 +2,14 @@
 ghost use Rattle.std.specs.Prelude.{◌≡◌, ◌≢◌, ◌≤◌, [], IfOk, map, position};
 ghost use Rattle.std.specs.List.{AllPairs};
 ghost use Rattle.std.specs.Ordering.{eq_by_cmp};
-ghost use Rattle.as_graph.specs.Topology.{Topology};
-ghost use Rattle.data_trace.specs.Indexes.{IsIndexOf};
-ghost use Rattle.leak_round.specs.Rounds.{kept as kept_rounds, plan_of, round_count};
-ghost use Rattle.roa_table.specs.Sets.{Payloads};
-ghost use Rattle.policy_kinds.specs.Kinds.{kind_policy, label};
-ghost use Rattle.origin_validation.specs.Judging.{state_of};
+ghost use Rattle.as_graph.specs.Prelude.{Topology};
+ghost use Rattle.data_trace.specs.Prelude.{IsIndexOf};
+ghost use Rattle.leak_round.specs.Prelude.{kept as kept_rounds, plan_of, round_count};
+ghost use Rattle.roa_table.specs.Prelude.{Payloads};
+ghost use Rattle.policy_kinds.specs.Prelude.{kind_policy, label};
+ghost use Rattle.origin_validation.specs.Prelude.{state_of};
 ghost use Rattle.policy_kinds.specs.declared.kind.Kind.{Kind as AKind};
-ghost use Rattle.stability_laws.specs.Book.{PolicyBook, policy_at};
-ghost use Rattle.stability_laws.specs.Rounds.{AreRounds};
-ghost use Rattle.stability_laws.specs.World.{setting};
+ghost use Rattle.stability_laws.specs.Prelude.{PolicyBook, policy_at, AreRounds, setting};
 ghost use Rattle.sim_core.specs.Watching.{AreRoundWatches, AreWatches, GoesOnAmong, HasWatches, IsPlaceOrNone, addrs_in, seen_in};
 
 use as_graph::Graph;

@@ -1,12 +1,9 @@
 //! What no trial of a line changes.
-ghost use Rattle.std.specs.Prelude.{◌≡◌, ◌≤◌, ℕ, true, is_some, IfOk};
+ghost use Rattle.std.specs.Prelude.{◌≡◌, ℕ, true, is_some, IfOk};
 ghost use Rattle.std.specs.FinMap as fin;
-ghost use Rattle.as_graph.specs.Hierarchy.{HasNoProviderCycle, IsRank};
-ghost use Rattle.as_graph.specs.Topology.{has, relation};
-ghost use Rattle.rank_order.specs.Plans.{IsLastPlan, rank_after};
-ghost use Rattle.rank_order.specs.Ranks.{rank_at};
-ghost use Rattle.sim_core.specs.Bases.{base_world};
-ghost use Rattle.sim_core.specs.World.{HasCycle, topology};
+ghost use Rattle.as_graph.specs.Prelude.{HasNoProviderCycle, IsRank, has, relation};
+ghost use Rattle.rank_order.specs.Prelude.{IsLastPlan, rank_after, rank_at};
+ghost use Rattle.sim_core.specs.Prelude.{base_world, HasCycle, topology};
 ghost use Rattle.trial_world.specs.Fixed.{IsFixed};
 ghost use Rattle.trial_world.specs.Sweeps.{is_inside};
 

@@ -1,8 +1,7 @@
 //! Lines that are in a world.
 ghost use Rattle.std.specs.Prelude.{◌≡◌, nat_le};
 ghost use Rattle.std.specs.List.{list_all};
-ghost use Rattle.sim_core.specs.Bases.{base_world};
-ghost use Rattle.sim_core.specs.World.{has_round};
+ghost use Rattle.sim_core.specs.Prelude.{base_world, has_round};
 ghost use Rattle.trial_world.specs.Sweeps.{is_inside as is_inside_world};
 
 use sim_core::Base;

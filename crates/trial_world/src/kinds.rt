@@ -1,10 +1,10 @@
 //! The kinds of the ASes of a trial.
-ghost use Rattle.std.specs.Prelude.{◌≡◌, ℕ, Bool, true, false, IsTrue, All, IfOk, OnOk, ◌==◌, map, if◌then◌else◌};
+ghost use Rattle.std.specs.Prelude.{◌≡◌, ℕ, IsTrue, All, IfOk, OnOk, ◌==◌, map, if◌then◌else◌};
 ghost use Rattle.std.specs.FinSet as set;
-ghost use Rattle.net_names.specs.Numbers.{occurs};
+ghost use Rattle.net_names.specs.Prelude.{occurs};
 ghost use Rattle.policy_kinds.specs.declared.kind.Kind.TheVariants as kind;
-ghost use Rattle.stability_laws.specs.Book.{policy_at};
-ghost use Rattle.sweep.specs.Trials.{changed, with_kinds};
+ghost use Rattle.stability_laws.specs.Prelude.{policy_at};
+ghost use Rattle.sweep.specs.Prelude.{changed, with_kinds};
 
 use net_names::{Asn, NoMemory};
 use policy_kinds::Kind;

@@ -1,7 +1,7 @@
 //! ASes that no link, no announcement and no leak names: they are there by their policy alone.
 ghost use Rattle.std.specs.Prelude.{◌≡◌, IfOk, not};
-ghost use Rattle.stability_laws.specs.Book.{policy_at};
-ghost use Rattle.sim_core.specs.Loaded.{is_other as is_other_policy};
+ghost use Rattle.stability_laws.specs.Prelude.{policy_at};
+ghost use Rattle.sim_core.specs.Prelude.{is_other as is_other_policy};
 ghost use Rattle.trial_world.specs.Fixed.{AreLone, is_lone as is_lone_in};
 ghost use Rattle.trial_world.specs.Trials.{plain_in};
 

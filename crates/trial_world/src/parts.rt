@@ -1,10 +1,8 @@
 //! The part of a plan that one address and the rounds up to one depend on.
-ghost use Rattle.std.specs.Prelude.{◌≡◌, ◌≤◌, ◌&&◌, ◌||◌, ◌==◌, ℕ, true, false, IfOk, OnOk};
-ghost use Rattle.net_names.specs.Coverage.{holds as holds_of};
-ghost use Rattle.net_names.specs.Addresses.{AddrValue};
-ghost use Rattle.net_names.specs.Prefixes.{PrefixValue};
-ghost use Rattle.leak_round.specs.Limits.{IsWithinLimits};
-ghost use Rattle.stability_laws.specs.Plans.{announced_path, leaks_in, has_prefix, empty_plan};
+ghost use Rattle.std.specs.Prelude.{◌≡◌, ◌≤◌, ◌&&◌, ◌||◌, ◌==◌, ℕ, true, IfOk, OnOk};
+ghost use Rattle.net_names.specs.Prelude.{holds as holds_of, AddrValue, PrefixValue};
+ghost use Rattle.leak_round.specs.Prelude.{IsWithinLimits};
+ghost use Rattle.stability_laws.specs.Prelude.{announced_path, leaks_in, empty_plan};
 ghost use Rattle.trial_world.specs.Fixed.{IsGrown, IsPart, IsPlanFor};
 
 use net_names::{Addr, Asn, NoMemory, Prefix, holds};

@@ -1,11 +1,9 @@
 //! The text of a sweep over a world.
 ghost use Rattle.std.specs.Prelude.{◌≡◌, ℕ, true, OnOk, OnErr};
-ghost use Rattle.as_graph.specs.Hierarchy.{IsRank};
-ghost use Rattle.as_graph.specs.Topology.{relation};
-ghost use Rattle.rank_order.specs.Ranks.{rank_at};
-ghost use Rattle.sim_core.specs.Bases.{base_world};
-ghost use Rattle.sim_core.specs.World.{HasCycle, topology};
-ghost use Rattle.sweep.specs.Swept.{Appends};
+ghost use Rattle.as_graph.specs.Prelude.{IsRank, relation};
+ghost use Rattle.rank_order.specs.Prelude.{rank_at};
+ghost use Rattle.sim_core.specs.Prelude.{base_world, HasCycle, topology};
+ghost use Rattle.sweep.specs.Prelude.{Appends};
 ghost use Rattle.trial_world.specs.Sweeps.{IsSweptIn, is_inside};
 
 use crate::fixed::fixed_for;

@@ -1,15 +1,12 @@
 //! The tables of a trial, with their watch.
 ghost use Rattle.std.specs.Prelude.{◌≡◌, ◌<◌, ◌≤◌, true, false, IfOk, OnOk, OnErr};
-ghost use Rattle.as_graph.specs.Hierarchy.{HasNoProviderCycle};
-ghost use Rattle.as_graph.specs.Topology.{as_count, relation};
-ghost use Rattle.data_trace.specs.Views.{addr_of, rows_of, spare_of};
-ghost use Rattle.leak_round.specs.Limits.{IsWithinLimits};
-ghost use Rattle.leak_round.specs.Rounds.{is_open, kept, pool_of};
+ghost use Rattle.as_graph.specs.Prelude.{HasNoProviderCycle, as_count, relation};
+ghost use Rattle.data_trace.specs.Prelude.{addr_of, rows_of, spare_of};
+ghost use Rattle.leak_round.specs.Prelude.{IsWithinLimits, is_open, kept, pool_of};
 ghost use Rattle.leak_round.specs.declared.rounds.TheConstants.{MOST_CELLS};
 ghost use Rattle.path_pool.specs.Pool.{live_count};
-ghost use Rattle.sim_core.specs.Parts.{AreRoundsOf};
-ghost use Rattle.sim_core.specs.Watching.{GoesOnInside};
-ghost use Rattle.three_pass.specs.Courses.{IsCourse};
+ghost use Rattle.sim_core.specs.Prelude.{AreRoundsOf, GoesOnInside};
+ghost use Rattle.three_pass.specs.Prelude.{IsCourse};
 ghost use Rattle.trial_world.specs.Fixed.{IsFixed};
 ghost use Rattle.trial_world.specs.Tables.{AreLineRounds, AreLineRows, AreRowsBut, AreTablesBefore, AreTablesIn, IsSeen, StayTables};
 

@@ -1,8 +1,8 @@
 //! The ASes whose entries may be wrong where policies changed.
 ghost use Rattle.std.specs.Prelude.{◌≡◌, ℕ, true, Some, All, IfOk, OnOk};
-ghost use Rattle.as_graph.specs.Topology.{relation};
-ghost use Rattle.leak_round.specs.Touched.{touches};
-ghost use Rattle.net_names.specs.Prefixes.{PrefixValue};
+ghost use Rattle.as_graph.specs.Prelude.{relation};
+ghost use Rattle.leak_round.specs.Prelude.{touches};
+ghost use Rattle.net_names.specs.Prelude.{PrefixValue};
 ghost use Rattle.net_names.specs.declared.routes.Rel.{Rel};
 ghost use Rattle.trial_world.specs.Tables.{AreTouched, IsTouchedAround};
 

@@ -1,7 +1,7 @@
 //! A trial of a line.
 ghost use Rattle.std.specs.Prelude.{◌≡◌, ℕ, IfOk};
-ghost use Rattle.sim_core.specs.World.{kind_at};
-ghost use Rattle.stability_laws.specs.Book.{policy_at};
+ghost use Rattle.sim_core.specs.Prelude.{kind_at};
+ghost use Rattle.stability_laws.specs.Prelude.{policy_at};
 ghost use Rattle.trial_world.specs.Fixed.{IsFixed, world_of};
 ghost use Rattle.trial_world.specs.Sweeps.{end_of as the_end_of};
 ghost use Rattle.trial_world.specs.Trials.{IsRight, gone_with as gone_with_fate, line_base, number_in};
@@ -70,9 +70,9 @@ pub fn trial_of<'a>(fixed: Fixed<'a>, ranks: &Ranks) -> Result<LineTrial<'a>, No
 }
 
 impl<'a> Trial for LineTrial<'a> {
-    ghost use Rattle.net_names.specs.Addresses.{AddrValue};
-    ghost use Rattle.sim_core.specs.World.{World};
-    ghost use Rattle.stability_laws.specs.Plans.{announcers_of};
+    ghost use Rattle.net_names.specs.Prelude.{AddrValue};
+    ghost use Rattle.sim_core.specs.Prelude.{World};
+    ghost use Rattle.stability_laws.specs.Prelude.{announcers_of};
     ghost use Rattle.trial_world.specs.Sweeps.{AreNumbers, with_kinds};
     ghost use Rattle.trial_world.specs.Trials.{as_set, is_of_line};
 

@@ -3,9 +3,8 @@
 ghost use Rattle.std.specs.Prelude.{◌≡◌, ◌≢◌, ℕ, ◌<◌, ◌≤◌, None};
 ghost use Rattle.net_names.specs.declared.routes.State.TheVariants.{NotFound};
 ghost use Rattle.path_pool.specs.Pool.{count_of, live_count, limit_of};
-ghost use Rattle.route_choice.specs.Resources.{AreSeedsLive};
-ghost use Rattle.route_choice.specs.Tables.{seed_at};
-ghost use Rattle.stability_laws.specs.World.{setting};
+ghost use Rattle.route_choice.specs.Prelude.{AreSeedsLive, seed_at};
+ghost use Rattle.stability_laws.specs.Prelude.{setting};
 ghost use Rattle.worked_cases.specs.Narrows.{narrow_policy};
 ghost use Rattle.worked_cases.specs.Settled.{IsSettled};
 

@@ -1,20 +1,15 @@
 //! Rounds that are planned anew, and whose paths are moved to another pool, worked by hand.
 
 ghost use Rattle.std.specs.Prelude.{◌≡◌, ℕ, ◌<◌, ◌≤◌, true, false, IsTrue};
-ghost use Rattle.as_graph.specs.Topology.{has};
-ghost use Rattle.leak_round.specs.Limits.{IsWithinLimits};
-ghost use Rattle.leak_round.specs.Plans.{IsOpenPlan, kept_with, plan_after};
-ghost use Rattle.leak_round.specs.Rounds.{is_open, kept, plan_of as planned, pool_of, round_count};
+ghost use Rattle.as_graph.specs.Prelude.{has};
+ghost use Rattle.leak_round.specs.Prelude.{IsWithinLimits, IsOpenPlan, kept_with, plan_after, is_open, kept, plan_of as planned, pool_of, round_count};
 ghost use Rattle.leak_round.specs.declared.limits.TheConstants.{MOST_ROUNDS};
 ghost use Rattle.leak_round.specs.declared.rounds.TheConstants.{MOST_CELLS};
-ghost use Rattle.net_names.specs.Prefixes.{PrefixValue};
+ghost use Rattle.net_names.specs.Prelude.{PrefixValue};
 ghost use Rattle.net_names.specs.declared.routes.State.TheVariants.{NotFound};
 ghost use Rattle.path_pool.specs.Pool.{live_count};
-ghost use Rattle.policy_kinds.specs.Kinds.{kind_policy};
-ghost use Rattle.stability_laws.specs.Offers.{Setting};
-ghost use Rattle.stability_laws.specs.Plans.{announces};
-ghost use Rattle.stability_laws.specs.Rounds.{AreRounds};
-ghost use Rattle.stability_laws.specs.World.{setting};
+ghost use Rattle.policy_kinds.specs.Prelude.{kind_policy};
+ghost use Rattle.stability_laws.specs.Prelude.{Setting, announces, AreRounds, setting};
 
 use super::lent_worlds::{LEAK, LEAKING, base_of};
 use super::narrow_policy::{LINKS, ROWS};

@@ -1,7 +1,7 @@
 //! Choices of ASes, and changes of tables, worked by hand.
 
 ghost use Rattle.std.specs.Prelude.{◌≡◌, ◌<◌, IfOk};
-ghost use Rattle.route_choice.specs.Resources.{CanStep};
+ghost use Rattle.route_choice.specs.Prelude.{CanStep};
 
 use super::worlds::{graph_of, main_prefix, number};
 use as_graph::Graph;

@@ -1,11 +1,9 @@
 //! What several modules build: numbers, prefixes, paths, graphs, ranks, views, and routes as text.
 
 ghost use Rattle.std.specs.Prelude.{◌≡◌, ℕ};
-ghost use Rattle.as_graph.specs.Hierarchy.{HasNoProviderCycle, IsRank};
-ghost use Rattle.as_graph.specs.Topology.{relation};
-ghost use Rattle.rank_order.specs.Plans.{rank_after, IsLastPlan};
-ghost use Rattle.rank_order.specs.Ranks.{rank_at};
-ghost use Rattle.route_choice.specs.Resources.{AreEntriesLive};
+ghost use Rattle.as_graph.specs.Prelude.{HasNoProviderCycle, IsRank, relation};
+ghost use Rattle.rank_order.specs.Prelude.{rank_after, IsLastPlan, rank_at};
+ghost use Rattle.route_choice.specs.Prelude.{AreEntriesLive};
 
 use as_graph::{Graph, links_are_sound, ranks_fit};
 use caida_reader::read_links;
