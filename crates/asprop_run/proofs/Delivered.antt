@@ -35,7 +35,8 @@ use Rattle.stability_laws.specs.declared.entry.Seed.{Seed}
 use Rattle.asprop_run.specs.Delivering.{IsNetText, message_rows}
 use Rattle.asprop_run.specs.Inside.{IsInside}
 use Rattle.asprop_run.specs.Task.{outside}
-use Rattle.asprop_run.proofs.Named.{delivered_in_world}
+use Rattle.asprop_run.proofs.Acting.{by_first, lent_here}
+use Rattle.asprop_run.proofs.Named.{deliveries_named}
 use Rattle.asprop_run.proofs.OneSettling.{book_of, one_seeds}
 use Rattle.task_reading.specs.Jobs.{Job, messages_job}
 
@@ -46,20 +47,14 @@ pub delivered_in : LentIsSetting → (w : World) (k : Kept) (d : Deliveries) (g 
     → AreTurns (setting kind_policy g book (state_of payloads d.prefix)) (fin.get seeds) (turns_of d.steps) x made y
     → IsStart (setting_of w d.prefix) (seeds_kept w k d.round d.prefix) x × AreTurns (setting_of w d.prefix) (seeds_kept w k d.round d.prefix) (turns_of d.steps) x made y
 delivered_in lent w k d g book payloads seeds x y made is_graph is_book same_payloads same_seeds start run =
-    let here : setting kind_policy g book (state_of payloads d.prefix) ≡ setting_of w d.prefix =
-    ap (λ (p : Payloads). setting kind_policy g book (state_of p d.prefix)) same_payloads ∙ lent w g book is_graph is_book d.prefix in
-    let by : fin.get seeds ≡ seeds_kept w k d.round d.prefix = λ i a. same_seeds a i in (
-      subst (λ (t : Setting × (ℕ → Option Seed)). IsStart t.0 t.1 x) (λ i. (here i, by i)) start,
-      subst (λ (t : Setting × (ℕ → Option Seed)). AreTurns t.0 t.1 (turns_of d.steps) x made y) (λ i. (here i, by i)) run,
-    )
+    let here = lent_here lent w k d.round d.prefix g book payloads seeds is_graph is_book same_payloads same_seeds in
+    subst (λ (t : Setting × (ℕ → Option Seed)). IsStart t.0 t.1 x × AreTurns t.0 t.1 (turns_of d.steps) x made y) (λ i. (here.0 i, here.1 i)) (start, run)
 
 -- the first job is one of deliveries whose round and prefix are there: what is outside is the first link that is none
 pub unlinked_first : (w : World) (jobs : List Job) (d : Deliveries) (line : Option ℕ) → Some (messages_job d) ≡ slice_get jobs 0 → (has_round w d.round && has_prefix w.plan d.prefix) ≡ true
     → line ≡ first_foreign_in (relation (topology w)) d.steps → line ≡ outside w jobs
-unlinked_first w [] d line first there is = cc
-unlinked_first w (job ∷ jobs) d line first there is =
-    let same : job ≡ messages_job d = (let first : Some (messages_job d) ≡ Some job = first in cc) in
-    subst (λ (j : Job). line ≡ outside w (j ∷ jobs)) (sym same) (is ∙ ap (λ b. if b then first_foreign_in (relation (topology w)) d.steps else Some d.for_line) (sym there))
+unlinked_first w jobs d line first there is =
+    by_first w jobs (messages_job d) line first (λ rest. is ∙ ap (λ b. if b then first_foreign_in (relation (topology w)) d.steps else Some d.for_line) (sym there))
 
 module _ (w : World) (d : Deliveries) (there : has_round w d.round ≡ true) (known : has_prefix w.plan d.prefix ≡ true) where
   -- two texts of what deliveries come to
@@ -85,7 +80,7 @@ module _ (settles : TurnsSettle kind_policy) (only : NoOtherIsStable) (w : World
       → (queued_in (topology w) y ≡ 0) ⊎ (as_count (topology w) ^ (2 * height) ≤ length (filter (λ t. not (is_some t)) (turns_of d.steps)))
       → ((a : ℕ) → y.choice a ≡ l.routings d.round d.prefix a) × (queued_in (topology w) y ≡ 0)
   settled_net k l kk ll x y made start run why =
-      let there = delivered_in_world w d inside.0 in
+      let there = (deliveries_named w d inside.0).0 in
       let here : Setting = setting_of w d.prefix in
       let seeds = seeds_kept w k d.round d.prefix in
       let both = relation_mutual (topology w) in

@@ -7,7 +7,7 @@ use Rattle.sim_core.specs.World.{HasCycle, World, topology}
 use Rattle.stability_laws.specs.Plans.{has_prefix}
 use Rattle.asprop_run.specs.Inside.{AreInside, IsInside}
 use Rattle.asprop_run.specs.Task.{outside}
-use Rattle.asprop_run.proofs.Named.{delivered_in_world, in_world}
+use Rattle.asprop_run.proofs.Named.{acts_named, deliveries_named}
 use Rattle.asprop_run.proofs.Sweeps.{passed_by, sweeps_inside}
 use Rattle.trial_world.specs.Sweeps.{is_inside}
 use Rattle.task_reading.specs.Jobs.{AreAlike, IsOfLines, Job, acts_job, counts_job, line_job, messages_job, sweep_job, tables_job}
@@ -28,8 +28,8 @@ lines_inside w (job ∷ jobs) h = (line_inside w job (All-head IsOfLines job job
 alone_inside : (w : World) (job : Job) → (HasCycle w → ⊥) → outside w (job ∷ []) ≡ None → ((p : PrefixValue) → has_prefix w.plan p ≡ true → 0 < as_count (topology w)) → IsInside w job
 alone_inside w counts_job uncycled none populated = tt
 alone_inside w (line_job heads line) uncycled none populated = tt
-alone_inside w (acts_job acts) uncycled none populated = (none, populated acts.prefix (in_world w acts none).1)
-alone_inside w (messages_job deliveries) uncycled none populated = (none, populated deliveries.prefix (delivered_in_world w deliveries none).1)
+alone_inside w (acts_job acts) uncycled none populated = (none, populated acts.prefix (acts_named w acts none).0.1)
+alone_inside w (messages_job deliveries) uncycled none populated = (none, populated deliveries.prefix (deliveries_named w deliveries none).0.1)
 alone_inside w (sweep_job line) uncycled none populated = ((passed_by (is_inside w line) None line.line none).0, uncycled)
 alone_inside w (tables_job t) uncycled none populated = none
 

@@ -17,7 +17,7 @@ use Rattle.asprop_run.specs.Refusals.{edit_refusal, refusal_text}
 use Rattle.asprop_run.specs.Replies.{AnswersJob, AnswersJobs, IsReply, head}
 use Rattle.asprop_run.proofs.Checked.{one_check_text}
 use Rattle.asprop_run.proofs.Delivered.{one_net_text}
-use Rattle.asprop_run.proofs.Named.{delivered_in_world, in_world}
+use Rattle.asprop_run.proofs.Named.{acts_named, deliveries_named}
 use Rattle.asprop_run.proofs.OneSettling.{one_acts_text}
 use Rattle.task_reading.specs.Jobs.{Job, acts_job, counts_job, line_job, messages_job, sweep_job, tables_job}
 use Rattle.policy_kinds.specs.Kinds.{kind_policy}
@@ -101,10 +101,10 @@ module _ (answer : OneAnswer) (count : OneCount) (reason : OneReason) (right : O
   job_agrees w counts_job s t r q x y inside h g = record { refused = h.0 ∙ sym g.0; after = h.1 ∙ sym g.1; text = h.2 ∙ sym g.2 }
   job_agrees w (line_job heads line) s t r q x y inside h g = line_agrees heads w line s t r q x y h g
   job_agrees w (acts_job acts) s t r q x y inside h g =
-      let named = in_world w acts inside.0 in
+      let named = (acts_named w acts inside.0).0 in
       record { refused = h.0 ∙ sym g.0; after = h.1 ∙ sym g.1; text = one_acts_text right w acts named.0 named.1 s t h.2 g.2 }
   job_agrees w (messages_job d) s t r q x y inside h g =
-      let named = delivered_in_world w d inside.0 in
+      let named = (deliveries_named w d inside.0).0 in
       record { refused = h.0 ∙ sym g.0; after = h.1 ∙ sym g.1; text = one_net_text w d named.0 named.1 s t h.2 g.2 }
   job_agrees w (sweep_job line) s t r q x y inside h g = record { refused = h.0 ∙ sym g.0; after = h.1 ∙ sym g.1; text = swept w line s t inside.1 inside.0 h.2 g.2 }
   job_agrees w (tables_job tables) s t r q x y inside h g =

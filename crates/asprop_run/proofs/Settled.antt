@@ -28,7 +28,7 @@ use Rattle.stability_laws.specs.declared.entry.Seed.{Seed}
 use Rattle.asprop_run.specs.Inside.{IsInside}
 use Rattle.asprop_run.specs.Replies.{IsReply}
 use Rattle.asprop_run.specs.Settling.{IsActsText, acts_rows}
-use Rattle.asprop_run.proofs.Named.{in_world, none_named}
+use Rattle.asprop_run.proofs.Named.{acts_named}
 use Rattle.asprop_run.proofs.OneSettling.{book_of, one_height, one_most, one_seeds}
 use Rattle.task_reading.specs.Jobs.{acts_job}
 
@@ -45,7 +45,7 @@ module _ (settles : AnyOrderSettles kind_policy) (only : NoOtherIsStable) (w : W
 
   -- all that are named are ASes
   named : (a : ℕ) → occurs a (asns_of acts.named) ≡ true → has (topology w) a ≡ true
-  named = none_foreign (has (topology w)) acts.named (sym (none_named w acts inside.0))
+  named = none_foreign (has (topology w)) acts.named (sym ((acts_named w acts inside.0).1))
 
   -- the routing after the activations is stable
   ends_stable : (seeds : ℕ → Option Seed) (f : ℕ → Option Entry) → IsActivated (setting_of w acts.prefix) seeds acts.list (fin.get acts.held) f → IsStable (setting_of w acts.prefix) seeds f
@@ -57,7 +57,7 @@ module _ (settles : AnyOrderSettles kind_policy) (only : NoOtherIsStable) (w : W
   pub settled_text : (l : Kept) (text answer : Text) → IsKept w l → IsActsText w acts text
       → answer ≡ table (topology w) (λ a. entry_row a (l.routings acts.round acts.prefix a)) → text ≡ answer ++ acts_rows pieces height true
   settled_text l text answer y h is =
-      let there = in_world w acts inside.0 in
+      let there = (acts_named w acts inside.0).0 in
       let k : Kept = h.0 in
       let f : ℕ → Option Entry = h.2 in
       let good : IsStable (setting_of w acts.prefix) (seeds_by k) f = ends_stable (seeds_by k) f h.6.0 in

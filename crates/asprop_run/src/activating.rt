@@ -157,11 +157,11 @@ fn put_rows(text: &mut Vec<u8>, graph: &Graph, routing: &Routing) -> Result<(), 
     Ok(())
 }
 
-// Whether the routing is stable, in a word.
-fn settled_word(settled: bool) -> &'static str
-    ensures { result.now ≡ codes (if settled then "yes" else "no") }
+/// The word for what holds or doesn't.
+pub(crate) fn yes_or_no(holds: bool) -> &'static str
+    ensures { result.now ≡ codes (if holds then "yes" else "no") }
 {
-    if settled { "yes" } else { "no" }
+    if holds { "yes" } else { "no" }
 }
 
 // Appends what is said of the list and the routing.
@@ -174,7 +174,7 @@ fn put_settled(
 ) -> Result<(), NoMemory>
     ensures { OnOk result (text.new.items ≡ text.old.items ++ acts_rows pieces height settled) }
 {
-    let word = settled_word(settled);
+    let word = yes_or_no(settled);
     let rows = format!(in alloc; "pieces|{pieces}\nheight|{height}\nsettled|{word}\n")?;
     put_bytes(text, rows.as_bytes())
 }

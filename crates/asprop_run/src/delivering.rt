@@ -1,5 +1,5 @@
 //! Deliveries of messages, and what they come to.
-ghost use Rattle.std.specs.Prelude.{◌≡◌, ◌++◌, ◌==◌, codes, false, if◌then◌else◌, OnOk};
+ghost use Rattle.std.specs.Prelude.{◌≡◌, ◌++◌, false, OnOk};
 ghost use Rattle.message_sim.specs.Prelude.{net_of};
 ghost use Rattle.reports.specs.Rows.{table};
 ghost use Rattle.sim_core.specs.Prelude.{IsKept, kept, world_seen, HasCycle};
@@ -9,7 +9,7 @@ ghost use Rattle.asprop_run.specs.Inside.{IsInside};
 ghost use Rattle.asprop_run.specs.Replies.{AnswersJob};
 ghost use Rattle.task_reading.specs.Prelude.{messages_job};
 
-use crate::activating::states_at;
+use crate::activating::{states_at, yes_or_no};
 use crate::refusals::put_bytes;
 use as_graph::Graph;
 use message_sim::{Deliveries, Net};
@@ -36,13 +36,6 @@ fn put_choices(
     Ok(())
 }
 
-// Whether no message is under way, in a word.
-fn quiet_word(queued: u64) -> &'static str
-    ensures { result.now ≡ codes (if queued == 0 then "yes" else "no") }
-{
-    if queued == 0 { "yes" } else { "no" }
-}
-
 // Appends what is said of the messages.
 fn put_messages(
     alloc: Global,
@@ -52,7 +45,7 @@ fn put_messages(
 ) -> Result<(), NoMemory>
     ensures { OnOk result (text.new.items ≡ text.old.items ++ message_rows delivered queued) }
 {
-    let word = quiet_word(queued);
+    let word = yes_or_no(queued == 0);
     let rows = format!(in alloc; "delivered|{delivered}\nqueued|{queued}\nquiet|{word}\n")?;
     put_bytes(text, rows.as_bytes())
 }

@@ -15,7 +15,7 @@ use Rattle.sim_core.specs.World.{topology}
 use Rattle.asprop_run.specs.Delivering.{message_rows}
 use Rattle.asprop_run.proofs.Acting.{same_table}
 use Rattle.asprop_run.proofs.Delivered.{delivered_in}
-use Rattle.asprop_run.proofs.Named.{none_unlinked}
+use Rattle.asprop_run.proofs.Named.{deliveries_named}
 use Rattle.asprop_run.proofs.delivering.answer_deliveries.Goals as goal
 
 pub run-requires : goal.run-requires
@@ -24,7 +24,7 @@ run-requires c =
     record {
       linked = ap (λ (u : NetWorld Kind Known). first_foreign_in (relation u.graph) d.steps) c.in_ok-net.ensures.world
           ∙ ap (λ (g : Topology). first_foreign_in (relation g) d.steps) c.graph-graph.ensures
-          ∙ none_unlinked (world_seen c.args.sim.now) d c.requires.inside.0;
+          ∙ (deliveries_named (world_seen c.args.sim.now) d c.requires.inside.0).1;
     }
 
 pub returns : goal.returns

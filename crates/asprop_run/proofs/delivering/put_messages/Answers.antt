@@ -7,5 +7,5 @@ use Rattle.asprop_run.proofs.delivering.put_messages.Goals as goal
 pub returns : goal.returns
 returns c =
     let text : c.as_bytes.result.now ≡ message_rows c.args.delivered c.args.queued =
-    c.as_bytes.ensures.value ∙ c.in_ok-rows.ensures.ok ∙ messages_text c.args.delivered c.args.queued _ c.quiet_word-word.ensures in
+    c.as_bytes.ensures.value ∙ c.in_ok-rows.ensures.ok ∙ messages_text c.args.delivered c.args.queued _ c.yes_or_no-word.ensures in
     on_ok_weaker c.put_bytes.result (λ is. is ∙ ap (λ (t : List ℕ). c.args.text.now.items ++ t) text) c.put_bytes.ensures
