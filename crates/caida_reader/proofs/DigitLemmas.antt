@@ -1,5 +1,5 @@
 -- Digits from the front of a text on, and the line that begins with them.
-use Rattle.std.proofs.Common.{◌≡◌, ◌≢◌, ℕ, suc, ◌+◌, ◌-◌, ◌*◌, ◌^◌, ◌<◌, ◌≤◌, Bool, true, false, List, [], ◌∷◌, ◌++◌, length, length-append, length-drop, take, drop, get_or, take-append-drop, append_assoc, Option, Some, All, refl, sym, ap, ◌∙◌, arith, add-one, inl, inr, if◌then◌else◌}
+use Rattle.std.proofs.Common.{◌≡◌, ◌≢◌, ℕ, suc, ◌+◌, ◌-◌, ◌*◌, ◌^◌, ◌<◌, ◌≤◌, Bool, true, false, List, [], ◌∷◌, ◌++◌, length, length-append, length-drop, take, drop, get_or, take-append-drop, append_assoc, Option, Some, All, codes, refl, sym, ap, ◌∙◌, arith, add-one, inl, inr, if◌then◌else◌}
 use Rattle.std.proofs.Math.Nat.{pow-suc}
 use Rattle.std.specs.Prelude.{◌==◌, nat_lt, option_map, unwrap_or}
 use Rattle.std.specs.Char.{is_digit, digit_value}
@@ -8,7 +8,7 @@ use Rattle.std.proofs.lemmas.Bool.{lt-ltb, ne_eqb, eqb-false, cases_Bool}
 use Rattle.std.proofs.Math.Seq.{get_or-append_right, take-append-add}
 use Rattle.std.proofs.lemmas.List.{drop_more, take_all}
 use Rattle.std.proofs.lemmas.List.Folds.{list_all_more, list_all_at}
-use Rattle.std.proofs.lemmas.List.Elements.{All-append, All-cons}
+use Rattle.std.proofs.lemmas.List.Elements.{All-append, All-cons, All-nil}
 use Rattle.std.specs.Str.Lines.{strip_carriage_return}
 use Rattle.net_names.specs.Steps.{◌>>=◌}
 use Rattle.net_names.specs.declared.routes.Rel.{Rel}
@@ -17,7 +17,7 @@ use Rattle.net_names.proofs.TextLaws.{cut_again}
 use Rattle.net_names.proofs.Cuts.{fields_cut}
 use Rattle.caida_reader.specs.Lines.{IsOneLine}
 use Rattle.caida_reader.specs.Says.{link, said_by, says}
-use Rattle.caida_reader.specs.Plain.{BeginsWithAsn, BeginsWithLine}
+use Rattle.caida_reader.specs.Plain.{BeginsWithAsn, BeginsWithFields, BeginsWithLine, BeginsWithRel}
 use Rattle.caida_reader.specs.declared.line.Line.{Line}
 use Rattle.caida_reader.specs.declared.line.Line.TheVariants as what
 
@@ -99,6 +99,30 @@ module _ (text one two end rest : List ℕ) (a b : ℕ) (first : BeginsWithAsn t
 
   pub begins : (third : List ℕ) (further : List (List ℕ)) (s : Line) → fields 124 (strip_carriage_return end) ≡ third ∷ further → s ≡ linked a b (rel_of third) → BeginsWithLine text s rest
   begins third further s is value = record { line = line; whole = parted; one_line = line-one_line; value = value ∙ sym (said third further is) }
+
+customer : IsOneLine (codes "-1")
+customer = All-cons (λ byte. byte ≢ 10) 45 (49 ∷ []) (λ e. cc) (All-cons (λ byte. byte ≢ 10) 49 [] (λ e. cc) (All-nil (λ byte. byte ≢ 10)))
+
+peer : IsOneLine (codes "0")
+peer = All-cons (λ byte. byte ≢ 10) 48 [] (λ e. cc) (All-nil (λ byte. byte ≢ 10))
+
+-- a line whose first two fields are AS numbers, and whose third is this relation
+module _ (text one two more rest : List ℕ) (a b : ℕ) (rel : Rel) (said : Line) (first : BeginsWithAsn text a one) (second : BeginsWithAsn one b two) (last : BeginsWithFields more rest) (value : said ≡ linked a b (Some rel)) where
+  with_field : (field : List ℕ) → rel_of field ≡ Some rel → IsOneLine field → fields 124 (strip_carriage_return (field ++ [])) ≡ field ∷ [] → ((x : List ℕ) → fields 124 (field ++ 124 ∷ x) ≡ field ∷ fields 124 x) → two ≡ field ++ more → BeginsWithLine text said rest
+  with_field field says_rel line alone barred whole_two =
+      let ended : two ≡ (field ++ last.end) ++ 10 ∷ rest = whole_two ∙ ap (λ l. field ++ l) last.whole ∙ sym (append_assoc field last.end (10 ∷ rest)) in
+      let all : IsOneLine (field ++ last.end) = All-append (λ byte. byte ≢ 10) field last.end line last.one_line in
+      let is : said ≡ linked a b (rel_of field) = value ∙ ap (linked a b) (sym says_rel) in
+      elim last.bar [
+        | inl none ↦ begins text one two (field ++ last.end) rest a b first second ended all field [] said (ap (λ l. fields 124 (strip_carriage_return (field ++ l))) none ∙ alone) is
+        | inr bar ↦ begins text one two (field ++ last.end) rest a b first second ended all field (fields 124 (strip_carriage_return bar.0)) said
+            (ap (λ l. fields 124 (strip_carriage_return (field ++ l))) bar.1 ∙ ap (fields 124) (strip_carriage_return-behind field bar.0) ∙ barred (strip_carriage_return bar.0)) is
+      ]
+
+  pub begins_plain : BeginsWithRel two rel more → BeginsWithLine text said rest
+  unfolding rel_of
+  begins_plain (inl (is, whole_two)) = with_field (codes "-1") (ap Some (sym is)) customer refl (λ x. fields_cut 124 (codes "-1" ++ 124 ∷ x) (codes "-1") x (cut_again 124 (codes "-1") x (All-cons (λ c. (c == 124) ≡ false) 45 (49 ∷ []) refl (All-cons (λ c. (c == 124) ≡ false) 49 [] refl (All-nil (λ c. (c == 124) ≡ false)))))) whole_two
+  begins_plain (inr (is, whole_two)) = with_field (codes "0") (ap Some (sym is)) peer refl (λ x. fields_cut 124 (codes "0" ++ 124 ∷ x) (codes "0") x (cut_again 124 (codes "0") x (All-cons (λ c. (c == 124) ≡ false) 48 [] refl (All-nil (λ c. (c == 124) ≡ false))))) whole_two
 
 pub asn_again : (text : List ℕ) (n : ℕ) → numeral 10 10 text ≡ Some n → 1 ≤ n → n < 2 ^ 32 → asn_of text ≡ Some n
 unfolding asn_of

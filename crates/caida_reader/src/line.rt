@@ -2,7 +2,7 @@
 ghost use Rattle.std.specs.Prelude.{◌≡◌, ◌∷◌, ◌++◌, ◌≤◌, ℕ, List, codes, option_map, unwrap_or, IfSome};
 ghost use Rattle.std.specs.Str.Lines.{strip_carriage_return};
 ghost use Rattle.net_names.specs.Prelude.{fields, rel_of};
-ghost use Rattle.caida_reader.specs.Plain.{BeginsWithLine};
+ghost use Rattle.caida_reader.specs.Plain.{BeginsWithFields, BeginsWithLine, BeginsWithRel};
 ghost use Rattle.caida_reader.specs.Says.{link, said_by, says, IsRising};
 
 use crate::digits::read_asn_field;
@@ -120,26 +120,63 @@ pub(crate) fn read_line(line: &[u8]) -> Line
     }
 }
 
-// What stands behind `-1` and a line feed, with which the lines of most links end.
+// What stands behind the relation of a customer.
 #[inline(always)]
 fn behind_customer(text: &[u8]) -> Option<&[u8]>
-    ensures { IfSome result (λ rest. text.now ≡ codes "-1\n" ++ rest.now) }
+    ensures { IfSome result (λ rest. text.now ≡ codes "-1" ++ rest.now) }
 {
     match text {
-        [b'-', b'1', b'\n', rest @ ..] => Some(rest),
+        [b'-', b'1', rest @ ..] => Some(rest),
         _ => None,
     }
 }
 
-// What stands behind `0` and a line feed, with which the lines of most other links end.
+// What stands behind the relation of a peer.
 #[inline(always)]
 fn behind_peer(text: &[u8]) -> Option<&[u8]>
-    ensures { IfSome result (λ rest. text.now ≡ codes "0\n" ++ rest.now) }
+    ensures { IfSome result (λ rest. text.now ≡ codes "0" ++ rest.now) }
 {
     match text {
-        [b'0', b'\n', rest @ ..] => Some(rest),
+        [b'0', rest @ ..] => Some(rest),
         _ => None,
     }
+}
+
+// The relation at the head of a text, and what stands behind it.
+#[inline(always)]
+fn read_first_rel(text: &[u8]) -> Option<(Rel, &[u8])>
+    ensures { IfSome result (λ p. BeginsWithRel text.now p.0 p.1.now) }
+{
+    if let Some(rest) = behind_customer(text) {
+        return Some((Rel::Customer, rest));
+    }
+    if let Some(rest) = behind_peer(text) {
+        return Some((Rel::Peer, rest));
+    }
+    None
+}
+
+// What stands behind a byte, where the text begins with it.
+#[inline(always)]
+fn behind(text: &[u8], byte: u8) -> Option<&[u8]>
+    ensures { IfSome result (λ rest. text.now ≡ byte ∷ rest.now) }
+{
+    match text {
+        [first, rest @ ..] if *first == byte => Some(rest),
+        _ => None,
+    }
+}
+
+// What stands behind the line feed of a line that ends here, or goes on with a further field.
+#[inline(always)]
+fn behind_fields(text: &[u8]) -> Option<&[u8]>
+    ensures { IfSome result (λ rest. BeginsWithFields text.now rest.now) }
+{
+    if let Some(more) = behind(text, b'|') {
+        let (_, rest) = cut(more, b'\n')?;
+        return Some(rest);
+    }
+    behind(text, b'\n')
 }
 
 /// What the first line of a text says, and what stands behind its line feed. `None` where the line doesn't begin with two AS
@@ -150,11 +187,10 @@ pub(crate) fn read_first_link(text: &[u8]) -> Option<(Line, &[u8])>
 {
     let (first, one) = read_asn_field(text)?;
     let (second, two) = read_asn_field(one)?;
-    if let Some(rest) = behind_customer(two) {
-        return Some((make_said(first, second, Some(Rel::Customer)), rest));
-    }
-    if let Some(rest) = behind_peer(two) {
-        return Some((make_said(first, second, Some(Rel::Peer)), rest));
+    if let Some((rel, end)) = read_first_rel(two) {
+        if let Some(rest) = behind_fields(end) {
+            return Some((make_said(first, second, Some(rel)), rest));
+        }
     }
     let (end, rest) = cut(two, b'\n')?;
     let rel = read_rel(first_field(strip_cr(end)));
