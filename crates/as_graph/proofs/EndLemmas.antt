@@ -9,6 +9,7 @@ use Rattle.std.specs.Ordering.{nat_cmp, is_lt}
 use Rattle.std.specs.Option.{option_map_or}
 use Rattle.std.specs.List.Sorted.{ties, IsStableByKey}
 use Rattle.net_names.specs.declared.routes.Rel.{Rel}
+use Rattle.net_names.specs.Dealing.{IsDealt, items_at}
 use Rattle.net_names.specs.Links.{converse}
 use Rattle.as_graph.specs.declared.neighbour.Neighbour.{Neighbour}
 use Rattle.as_graph.specs.declared.ends.End.{End}
@@ -92,6 +93,18 @@ ends_at-filter a (x ∷ xs) =
     by : (rest : List End) (t : Bool) → cond t (x.neighbour ∷ map (λ (y : End). y.neighbour) rest) (map (λ (y : End). y.neighbour) rest) ≡ map (λ (y : End). y.neighbour) (cond t (x ∷ rest) rest)
     by rest true = refl
     by rest false = refl
+
+-- and so does dealing them
+ends_at-items : (a : ℕ) (xs : List End) → ends_at a xs ≡ map (λ (x : End). x.neighbour) (items_at (λ (x : End). x.at) a xs)
+ends_at-items a [] = refl
+ends_at-items a (x ∷ xs) = by (x.at == a) (ends_at-items a xs)
+  where
+    by : (t : Bool) → ends_at a xs ≡ map (λ (y : End). y.neighbour) (items_at (λ (y : End). y.at) a xs) → cond t (x.neighbour ∷ ends_at a xs) (ends_at a xs) ≡ map (λ (y : End). y.neighbour) (cond t (x ∷ items_at (λ (y : End). y.at) a xs) (items_at (λ (y : End). y.at) a xs))
+    by true h = ap (λ l. x.neighbour ∷ l) h
+    by false h = h
+
+pub ends_at-dealt : (xs ys : List End) → IsDealt (λ (x : End). x.at) xs ys → (a : ℕ) → ends_at a ys ≡ ends_at a xs
+ends_at-dealt xs ys dealt a = ends_at-items a ys ∙ ap (map (λ (x : End). x.neighbour)) (dealt.each a) ∙ sym (ends_at-items a xs)
 
 pub ends_at-stable : (xs ys : List End) → IsStableByKey (λ (x : End). x.at) nat_cmp xs ys → (a : ℕ) → ends_at a ys ≡ ends_at a xs
 ends_at-stable xs ys stable a = ends_at-filter a ys ∙ ap (map (λ (x : End). x.neighbour)) (stable (record { at = a; neighbour = blank })) ∙ sym (ends_at-filter a xs)

@@ -19,6 +19,5 @@ pub mod LinkWrites
 pub mod LinkTopology
 pub mod GraphEdits
 pub mod EndLemmas
-pub mod DealLemmas
 pub mod Gathering
 pub mod RowsOfLinks

@@ -8,7 +8,6 @@ pub mod Refusals
 pub mod Order
 pub mod Rows
 pub mod Ends
-pub mod Dealing
 pub mod Graphs
 pub mod Writes
 pub mod Gathering

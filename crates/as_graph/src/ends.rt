@@ -4,10 +4,9 @@ ghost use Rattle.std.specs.FinMap as map;
 ghost use Rattle.as_graph.specs.Rows.{IsRising};
 ghost use Rattle.as_graph.specs.Ends.{lower_ends, higher_ends, ends_at, at_of, AreTurned, AreByAs, IsRun, IsNextEnd};
 
-use crate::dealing::deal_by_as;
 use crate::neighbour::Neighbour;
 use crate::row::Row;
-use net_names::{Asn, Links};
+use net_names::{Asn, Links, Numbered, deal_by_number};
 use std::alloc::{AllocError, Global};
 
 /// One end of a link: the AS that stands there, and its neighbour.
@@ -15,6 +14,14 @@ use std::alloc::{AllocError, Global};
 pub struct End {
     pub at: Asn,
     pub neighbour: Neighbour,
+}
+
+impl Numbered for End {
+    ghost number_of = { λ e. e.at };
+
+    fn number(&self) -> Asn {
+        self.at
+    }
 }
 
 /// The lower end of each link, in the links' order.
@@ -57,7 +64,7 @@ pub fn higher_side(alloc: Global, links: &Links) -> Result<Vec<End>, AllocError>
         })?;
     }
     // What is dealt so is sorted up to number 1,048,575, and then the sort only looks through it.
-    deal_by_as(alloc, &mut ends)?;
+    deal_by_number(alloc, &mut ends)?;
     ends.sort_by_key(|end| end.at)?;
     Ok(ends)
 }

@@ -7,7 +7,6 @@
 #![tactic(auto)]
 
 mod build;
-mod dealing;
 mod ends;
 mod error;
 mod finder;

@@ -10,7 +10,7 @@ use crate::firsts::First;
 use crate::marks::Marks;
 use crate::merge::{both_ends, merge};
 use crate::run::Run;
-use net_names::{Asn, Link, NoMemory};
+use net_names::{Asn, Link, NoMemory, deal_by_number};
 use std::alloc::Global;
 use std::marker::Model;
 
@@ -132,6 +132,8 @@ impl Runs {
             Lists further.now more → Lists links.items (joined self.now more)) }
     {
         let mut back = gather_back(alloc, self.turned.as_slice(), further)?;
+        // What is dealt so is sorted up to number 1,048,575, since the exchanged pairs rise.
+        deal_by_number(alloc, &mut back)?;
         back.sort_unstable_by_key(|link| both_ends(link.lo, link.hi));
         merge(alloc, self.rising.as_slice(), &back)
     }

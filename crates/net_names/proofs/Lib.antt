@@ -12,3 +12,4 @@ pub mod AddressTexts
 pub mod Again
 pub mod DerivedOrders
 pub mod Shortening
+pub mod DealLemmas

@@ -11,4 +11,5 @@ pub mod Trials
 pub mod Texts
 pub mod Lines
 pub mod Orders
+pub mod Dealing
 pub mod Prelude

@@ -2,6 +2,7 @@
 pub use Rattle.net_names.specs.Numbers.{IsDistinct, last_or, occurs}
 pub use Rattle.net_names.specs.Links.{LinkMap, converse, link_map_code, pair_cmp}
 pub use Rattle.net_names.specs.LinkLists.{AreLinks, entry_of, map_of}
+pub use Rattle.net_names.specs.Dealing.{IsDealt, items_at}
 pub use Rattle.net_names.specs.Addresses.{AddrValue, addr_cmp}
 pub use Rattle.net_names.specs.Prefixes.{PrefixValue, announcement_cmp, prefix_cmp}
 pub use Rattle.net_names.specs.Coverage.{covers, holds}

@@ -7,6 +7,7 @@
 
 mod addresses;
 mod coverage;
+mod dealing;
 mod digits;
 mod lines;
 mod links;
@@ -19,6 +20,7 @@ mod writing;
 
 pub use addresses::{Addr, Family};
 pub use coverage::{covers, holds};
+pub use dealing::{Numbered, deal_by_number};
 pub use digits::{Digits, read_digits};
 pub use lines::{KeptLine, next_kept};
 pub use links::{Link, Links, LinksError, MOST_LINKS};

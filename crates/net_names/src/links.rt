@@ -8,6 +8,7 @@ ghost use Rattle.net_names.specs.Links.{pair_cmp, between, with_relation};
 ghost use Rattle.net_names.specs.LinkLists.{entry_of, map_of, AreLinks};
 ghost use Rattle.net_names.specs.declared.links.LinksError.TheVariants.{Memory};
 
+use crate::dealing::Numbered;
 use crate::numbers::Asn;
 use crate::routes::Rel;
 use std::alloc::{AllocFailed, Global};
@@ -22,6 +23,14 @@ pub struct Link {
     pub hi: Asn,
     /// What the higher end is to the lower one.
     pub rel: Rel,
+}
+
+impl Numbered for Link {
+    ghost number_of = { λ l. l.lo };
+
+    fn number(&self) -> Asn {
+        self.lo
+    }
 }
 
 /// Why a link is refused.

@@ -4,7 +4,7 @@ use Rattle.std.proofs.lemmas.List.{take_all}
 use Rattle.std.proofs.lemmas.List.Sorted.{answers_always, IsNonDecreasingBy-from_sort}
 use Rattle.as_graph.specs.declared.ends.End.{End}
 use Rattle.as_graph.specs.Ends.{higher_ends, ends_at}
-use Rattle.as_graph.proofs.EndLemmas.{past_end, higher_ends-next, ends_at-stable}
+use Rattle.as_graph.proofs.EndLemmas.{past_end, higher_ends-next, ends_at-stable, ends_at-dealt}
 use Rattle.as_graph.proofs.ends.higher_side.Goals as goal
 
 pub unreachable-requires : goal.unreachable-requires
@@ -17,8 +17,8 @@ loop-place-preserved c =
 pub returns-clause-ends : goal.returns-clause-ends
 returns-clause-ends c = λ a.
     let all : take c.loop-place.place (map.entries c.args.links.now) ≡ map.entries c.args.links.now = take_all c.loop-place.place (map.entries c.args.links.now) (omega (arith, map.len-entries c.args.links.now, c.len-place-end.ensures.value, c.loop-place-test.false)) in
-    ends_at-stable c.deal_by_as.new.ends.items c.sort_by_key.new.self.items (c.sort_by_key.ensures.stable (λ (e : End). e.at) (answers_always _ _ _ (λ f a r g called. search rules))) a
-    ∙ c.in_ok-deal_by_as.ensures a ∙ ap (ends_at a) (c.loop-place.invariant ∙ ap higher_ends all)
+    ends_at-stable c.deal_by_number.new.items.items c.sort_by_key.new.self.items (c.sort_by_key.ensures.stable (λ (e : End). e.at) (answers_always _ _ _ (λ f a r g called. search rules))) a
+    ∙ ends_at-dealt c.loop-place.ends.items c.deal_by_number.new.items.items c.in_ok-deal_by_number.ensures a ∙ ap (ends_at a) (c.loop-place.invariant ∙ ap higher_ends all)
 
 pub returns-clause-by_as : goal.returns-clause-by_as
 returns-clause-by_as c = IsNonDecreasingBy-from_sort (λ (e : End). e.at) c.sort_by_key.new.self.items (c.in_ok-sort_by_key.ensures.sorted (λ (e : End). e.at) (answers_always _ _ _ (λ f a r g called. search rules)))

@@ -36,7 +36,7 @@ returns c =
     let sorted = c.sort_unstable_by_key.new.self.items in
     IfOk-weaker c.merge.result (λ links. IsPermutation (map link_of (map entry_of front) ++ c.deref.result.now) links.items) (λ links. (more : FirstMap) → AreApart c.args.self.now more → Lists c.args.further.now more → Lists links.items (joined c.args.self.now more))
     (λ links merged more away lists. subst (λ (m : FirstMap). Lists links.items (joined m more)) c.self.view_is
-    (listed rising exchanged front c.as_slice.result.now c.as_slice-2.ensures c.as_slice.ensures c.self.invariant.apart c.args.further.now c.in_ok-back.back.items sorted links.items more c.in_ok-back.ensures c.sort_unstable_by_key.ensures.permutation
+    (listed rising exchanged front c.as_slice.result.now c.as_slice-2.ensures c.as_slice.ensures c.self.invariant.apart c.args.further.now c.in_ok-back.back.items sorted links.items more c.in_ok-back.ensures (IsPermutation-trans _ _ sorted c.in_ok-deal_by_number.ensures.all c.sort_unstable_by_key.ensures.permutation)
     (subst (λ (xs : List Link). IsPermutation (map link_of (map entry_of front) ++ xs) links.items) c.deref.ensures.value merged)
     (subst (λ (m : FirstMap). AreApart m more) (sym c.self.view_is) away) lists))
     c.merge.ensures
