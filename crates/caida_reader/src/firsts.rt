@@ -44,8 +44,9 @@ impl Model for Firsts {
     ghost invariant = { λ a. AreFirsts a.runs a.others a.count };
 }
 
-// Puts a pair in, unless it stands: then its first line is answered.
-fn put(
+// Puts a pair in that is looked for in all parts, unless it stands: then its first line is answered.
+#[inline(never)]
+fn find_and_put(
     runs: &mut Runs,
     others: &mut Others,
     lo: Asn,
@@ -71,6 +72,26 @@ fn put(
         return Ok(None);
     }
     others.add(lo, hi, given)
+}
+
+// Puts a pair in, unless it stands: then its first line is answered. In a file whose lines rise nearly all pairs are put in
+// at once.
+#[inline(always)]
+fn put(
+    runs: &mut Runs,
+    others: &mut Others,
+    lo: Asn,
+    hi: Asn,
+    given: First,
+) -> Result<Option<First>, NoMemory>
+    requires { AreApart runs.old others.old }
+    ensures ok { IfOk result (Puts runs.old others.old (lo, hi) given runs.new others.new) }
+    ensures err { OnErr result ((runs.new ≡ runs.old) × (others.new ≡ others.old)) }
+{
+    if others.is_empty() && runs.is_new(lo, hi) && runs.put(lo, hi, given)? {
+        return Ok(None);
+    }
+    find_and_put(runs, others, lo, hi, given)
 }
 
 impl Firsts {

@@ -1,5 +1,5 @@
 // Pairs that come in any order.
-ghost use Rattle.std.specs.Prelude.{◌≡◌, IfOk, OnOk, OnErr};
+ghost use Rattle.std.specs.Prelude.{◌≡◌, ℕ, IsTrue, None, IfOk, OnOk, OnErr};
 ghost use Rattle.std.specs.FinMap as fin;
 ghost use Rattle.caida_reader.specs.Firsts.{with_first};
 ghost use Rattle.caida_reader.specs.Runs.{Lists};
@@ -35,6 +35,14 @@ impl Others {
         Others {
             entries: BTreeMap::new(alloc),
         }
+    }
+
+    /// Whether there is no pair.
+    #[inline(always)]
+    pub(crate) fn is_empty(&self) -> bool
+        ensures { IsTrue result → (pair : ℕ × ℕ) → fin.get self.now pair ≡ None }
+    {
+        self.entries.is_empty()
     }
 
     /// The first line of the pair, where it stands.

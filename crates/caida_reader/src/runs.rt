@@ -1,5 +1,5 @@
 // Pairs in two runs.
-ghost use Rattle.std.specs.Prelude.{◌≡◌, ◌++◌, None, IfOk, OnErr, map, if◌then◌else◌};
+ghost use Rattle.std.specs.Prelude.{◌≡◌, ◌++◌, IsTrue, None, IfOk, OnErr, map, if◌then◌else◌};
 ghost use Rattle.std.specs.FinMap as fin;
 ghost use Rattle.caida_reader.specs.Firsts.{FirstMap};
 ghost use Rattle.caida_reader.specs.Entries.{entry_of};
@@ -53,12 +53,24 @@ fn mark_long(run: &Run, marks: &mut Marks) -> Result<(), NoMemory>
     marks.mark_only(run.as_slice())
 }
 
+// Whether it is plain, without a search, that a pair doesn't stand in a run whose pairs are marked.
+#[inline(always)]
+fn is_new_in(run: &Run, marks: &Marks, lo: Asn, hi: Asn) -> bool
+    requires { AreMarked run.now marks.now }
+    ensures { IsTrue result → fin.get run.now (lo, hi) ≡ None }
+{
+    if run.is_past(lo, hi) {
+        return true;
+    }
+    !marks.has(lo, hi)
+}
+
 // The first line of a pair of a run whose pairs are marked. A pair that isn't marked is not searched for.
 fn get_marked(run: &Run, marks: &Marks, lo: Asn, hi: Asn) -> Option<First>
     requires { AreMarked run.now marks.now }
     ensures { result ≡ fin.get run.now (lo, hi) }
 {
-    if !run.is_past(lo, hi) && !marks.has(lo, hi) {
+    if is_new_in(run, marks, lo, hi) {
         return None;
     }
     run.get(lo, hi)
@@ -99,12 +111,21 @@ impl Runs {
         }
     }
 
+    /// Whether it is plain, without a search, that the pair doesn't stand.
+    #[inline(always)]
+    pub(crate) fn is_new(&self, lo: Asn, hi: Asn) -> bool
+        ensures { IsTrue result → fin.get self.now (lo, hi) ≡ None }
+    {
+        is_new_in(&self.rising, &self.marks, lo, hi) && self.turned.is_past(hi, lo)
+    }
+
     /// Whether `put` would put the pair in. Only time hangs on it.
     pub(crate) fn takes(&self, lo: Asn, hi: Asn) -> bool {
         self.rising.is_past(lo, hi) || self.turned.is_past(hi, lo)
     }
 
     /// Puts the pair in where it is above all pairs of a run, and says whether it is.
+    #[inline(always)]
     pub(crate) fn put(&mut self, lo: Asn, hi: Asn, first: First) -> Result<bool, NoMemory>
         requires { fin.get self.old (lo, hi) ≡ None }
         ensures ok { IfOk result (λ put. self.new ≡ (if put then fin.insert self.old (lo, hi) first else self.old)) }
