@@ -28,10 +28,11 @@ pub fn read_digits(text: &[u8], most: usize) -> Digits
     let mut len = 0usize;
     let mut value = 0u64;
     while len < text.len() && len < most {
-        let Some(digit) = (text[len] as char).to_digit(10) else {
+        let byte = text[len];
+        if !byte.is_ascii_digit() {
             return Digits { value, len };
-        };
-        value = value * 10 + digit as u64;
+        }
+        value = value * 10 + (byte - b'0') as u64;
         len += 1;
     }
     Digits { value, len }
