@@ -9,24 +9,8 @@ use crate::documents::{AnnouncementText, Document, Numbers, PolicyText, Text};
 use crate::faults::ScenarioError;
 use crate::json_values::JsonValue;
 use crate::places::{Member, PartOf, Place};
-use crate::shapes::{Shape, list, number, object, text};
+use crate::shapes::{NumberShape, Shape, TextShape, list, object};
 use std::alloc::Global;
-
-struct NumberShape;
-
-impl Shape for NumberShape {
-    type To = u64;
-
-    ghost reads = { number_at };
-
-    fn shape(
-        _alloc: Global,
-        place: Place,
-        value: &JsonValue<'_, '_>,
-    ) -> Result<u64, ScenarioError> {
-        number(place, value)
-    }
-}
 
 fn numbers(alloc: Global, place: Place, value: &JsonValue<'_, '_>) -> Result<Numbers, ScenarioError>
     ensures { Gives result (list_at number_at place (data_at value.now.element)) }
@@ -35,24 +19,15 @@ fn numbers(alloc: Global, place: Place, value: &JsonValue<'_, '_>) -> Result<Num
     Ok(Numbers { numbers })
 }
 
-fn needed_text(
+fn needed_value<S: Shape>(
     alloc: Global,
     place: Place,
     value: &JsonValue<'_, '_>,
-) -> Result<Text, ScenarioError>
-    ensures { Gives result (needed text_at place (data_at value.now.element)) }
+) -> Result<S::To, ScenarioError>
+    ensures { Gives result (needed S.reads place (data_at value.now.element)) }
 {
     match value.get(place.name()) {
-        Some(value) => text(alloc, place, &value),
-        None => Err(ScenarioError::Shape { place }),
-    }
-}
-
-fn needed_number(place: Place, value: &JsonValue<'_, '_>) -> Result<u64, ScenarioError>
-    ensures { Gives result (needed number_at place (data_at value.now.element)) }
-{
-    match value.get(place.name()) {
-        Some(value) => number(place, &value),
+        Some(value) => S::shape(alloc, place, &value),
         None => Err(ScenarioError::Shape { place }),
     }
 }
@@ -90,8 +65,8 @@ impl Shape for AnnouncementShape {
         value: &JsonValue<'_, '_>,
     ) -> Result<AnnouncementText, ScenarioError> {
         object(&["prefix", "as", "path"], place, value)?;
-        let prefix = needed_text(alloc, place.part(PartOf::Prefix), value)?;
-        let number = needed_number(place.part(PartOf::Number), value)?;
+        let prefix = needed_value::<TextShape>(alloc, place.part(PartOf::Prefix), value)?;
+        let number = needed_value::<NumberShape>(alloc, place.part(PartOf::Number), value)?;
         let path = path(alloc, place.part(PartOf::Path), number, value)?;
         Ok(AnnouncementText {
             prefix,
@@ -115,8 +90,8 @@ impl Shape for PolicyShape {
         value: &JsonValue<'_, '_>,
     ) -> Result<PolicyText, ScenarioError> {
         object(&["as", "policy"], place, value)?;
-        let number = needed_number(place.part(PartOf::Number), value)?;
-        let policy = needed_text(alloc, place.part(PartOf::Policy), value)?;
+        let number = needed_value::<NumberShape>(alloc, place.part(PartOf::Number), value)?;
+        let policy = needed_value::<TextShape>(alloc, place.part(PartOf::Policy), value)?;
         Ok(PolicyText { number, policy })
     }
 }
@@ -134,22 +109,6 @@ impl Shape for LeakersShape {
         value: &JsonValue<'_, '_>,
     ) -> Result<Numbers, ScenarioError> {
         numbers(alloc, place, value)
-    }
-}
-
-struct WatchedShape;
-
-impl Shape for WatchedShape {
-    type To = Text;
-
-    ghost reads = { text_at };
-
-    fn shape(
-        alloc: Global,
-        place: Place,
-        value: &JsonValue<'_, '_>,
-    ) -> Result<Text, ScenarioError> {
-        text(alloc, place, value)
     }
 }
 
@@ -196,7 +155,7 @@ pub(crate) fn document(alloc: Global, value: &JsonValue<'_, '_>) -> Result<Docum
     )?;
     let policies = optional_list::<PolicyShape>(alloc, Place::member(Member::Policies), value)?;
     let leaks = optional_list::<LeakersShape>(alloc, Place::member(Member::Leaks), value)?;
-    let watch = optional_list::<WatchedShape>(alloc, Place::member(Member::Watch), value)?;
+    let watch = optional_list::<TextShape>(alloc, Place::member(Member::Watch), value)?;
     Ok(Document {
         announcements,
         policies,

@@ -24,7 +24,7 @@ pub trait Field {
 }
 
 /// The number of an AS.
-pub struct AsnField;
+pub(crate) struct AsnField;
 
 impl Field for AsnField {
     type To = Asn;
@@ -37,7 +37,7 @@ impl Field for AsnField {
 }
 
 /// A prefix.
-pub struct PrefixField;
+pub(crate) struct PrefixField;
 
 impl Field for PrefixField {
     type To = Prefix;

@@ -34,7 +34,7 @@ mod whole_numbers;
 
 pub use acts::{Act, Edit, Query};
 pub use faults::{LimitOf, ScenarioError};
-pub use fields::{AddrField, AsnField, Before, Ending, Field, KindField, PrefixField, RoundField};
+pub use fields::{AddrField, Before, Ending, Field, KindField, RoundField};
 pub use forms::read_for;
 pub use laws::{lines_are_those_said, scenarios_are_those_said};
 pub use limits::{
@@ -43,7 +43,7 @@ pub use limits::{
 pub use line_faults::LinesError;
 pub use lines::{Line, Lines};
 pub use lists::Leakers;
-pub use place_texts::{place_string, put_place};
+pub use place_texts::place_string;
 pub use places::{Member, PartOf, Place};
 pub use reading::read_scenario;
 pub use scenario::{Announcement, Scenario};

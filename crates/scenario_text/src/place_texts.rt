@@ -1,11 +1,10 @@
 //! The texts of places.
-ghost use Rattle.std.specs.Prelude.{◌≡◌, ◌++◌, ◌∷◌, [], codes, string_bytes, IfOk, OnOk, OnErr};
+ghost use Rattle.std.specs.Prelude.{◌≡◌, ◌∷◌, [], codes, string_bytes, IfOk};
 ghost use Rattle.std.specs.Option.{option_map_or};
 ghost use Rattle.scenario_text.specs.Places.{member_name, part_name};
 ghost use Rattle.scenario_text.specs.PlaceTexts.{position_text, place_text};
 
 use crate::places::{Member, PartOf, Place};
-use net_names::NoMemory;
 use std::alloc::{AllocError, Global};
 
 fn member_text(member: Option<Member>) -> &'static str
@@ -35,7 +34,9 @@ fn position_string(alloc: Global, position: Option<usize>) -> Result<String, All
     }
 }
 
-/// The text of a place, as [`put_place`] appends it. `Err` where there is not enough memory.
+/// The text of a place: the member's name, or `document` where there is none; then `[i]` for a position; then `.prefix`,
+/// `.as`, `.path` or `.policy`; then `[j]` for a second position. `Err` where there is not enough memory. The format is
+/// this project's own.
 pub fn place_string(alloc: Global, place: Place) -> Result<String, AllocError>
     ensures { IfOk result (λ s. string_bytes s ≡ place_text place) }
 {
@@ -49,17 +50,4 @@ pub fn place_string(alloc: Global, place: Place) -> Result<String, AllocError>
         part.as_str(),
         second.as_str()
     )
-}
-
-/// Appends the text of a place: the member's name, or `document` where there is none; then `[i]` for a position; then
-/// `.prefix`, `.as`, `.path` or `.policy`; then `[j]` for a second position. `Err` where there is not enough memory; then
-/// `out` stays as it was. The format is this project's own.
-pub fn put_place(out: &mut Vec<u8>, place: Place) -> Result<(), NoMemory>
-    ensures ok { OnOk result (out.new.items ≡ out.old.items ++ place_text place) }
-    ensures err { OnErr result (out.new.items ≡ out.old.items) }
-{
-    let alloc = *out.allocator();
-    let text = place_string(alloc, place)?;
-    out.extend_from_slice(text.as_bytes())?;
-    Ok(())
 }

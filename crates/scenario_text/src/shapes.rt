@@ -33,29 +33,45 @@ pub(crate) trait Shape {
 }
 
 /// The value as a text.
-pub(crate) fn text(
-    alloc: Global,
-    place: Place,
-    value: &JsonValue<'_, '_>,
-) -> Result<Text, ScenarioError>
-    ensures { Gives result (text_at place (data_at value.now.element)) }
-{
-    match value.as_str() {
-        Some(text) => {
-            let text = String::from_str(alloc, text)?;
-            Ok(Text { text })
+pub(crate) struct TextShape;
+
+impl Shape for TextShape {
+    type To = Text;
+
+    ghost reads = { text_at };
+
+    fn shape(
+        alloc: Global,
+        place: Place,
+        value: &JsonValue<'_, '_>,
+    ) -> Result<Text, ScenarioError> {
+        match value.as_str() {
+            Some(text) => {
+                let text = String::from_str(alloc, text)?;
+                Ok(Text { text })
+            }
+            None => Err(ScenarioError::Shape { place }),
         }
-        None => Err(ScenarioError::Shape { place }),
     }
 }
 
 /// The value as a number from 0 to 2^64 - 1.
-pub(crate) fn number(place: Place, value: &JsonValue<'_, '_>) -> Result<u64, ScenarioError>
-    ensures { Gives result (number_at place (data_at value.now.element)) }
-{
-    match value.as_u64() {
-        Some(number) => Ok(number),
-        None => Err(ScenarioError::Shape { place }),
+pub(crate) struct NumberShape;
+
+impl Shape for NumberShape {
+    type To = u64;
+
+    ghost reads = { number_at };
+
+    fn shape(
+        _alloc: Global,
+        place: Place,
+        value: &JsonValue<'_, '_>,
+    ) -> Result<u64, ScenarioError> {
+        match value.as_u64() {
+            Some(number) => Ok(number),
+            None => Err(ScenarioError::Shape { place }),
+        }
     }
 }
 
