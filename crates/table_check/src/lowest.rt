@@ -2,7 +2,7 @@
 ghost use Rattle.std.specs.Prelude.{◌≡◌, ◌↔◌, ℕ, ◌<◌, IsTrue, None, IfSome, IfNone};
 ghost use Rattle.std.specs.FinMap as map;
 ghost use Rattle.as_graph.specs.Prelude.{has, IsAbove};
-ghost use Rattle.stability_laws.specs.Prelude.{IsRight, setting_in};
+ghost use Rattle.stability_laws.specs.Prelude.{setting_in};
 ghost use Rattle.table_check.specs.Rows.{held_by};
 ghost use Rattle.table_check.specs.Walk.{IsFine, IsLowestWrong, IsNextNamed, IsUnnamed, lower_of};
 
@@ -13,24 +13,7 @@ use net_names::{Asn, Prefix};
 use policy_laws::{OriginStates, RoutePolicy};
 use stability_laws::{Routing, Seeds, World, check_at};
 
-// Whether it is quickly seen that the routing, which is that of the section, is right at the AS.
-fn is_seen_right<P: RoutePolicy, V: OriginStates>(
-    world: &World<'_, P, V>,
-    prefix: Prefix,
-    seeds: &Seeds,
-    routing: &Routing,
-    placed: &Placed<'_>,
-    asn: Asn,
-) -> bool
-    requires { (a : ℕ) → map.get routing.now a ≡ held_by placed.now.table.now placed.now.round a }
-    ensures { IsTrue result → IsRight (setting_in P.meaning V.state_of world.now prefix) (map.get seeds.now)
-        (map.get routing.now) asn }
-{
-    let place = world.graph.place_near(asn, 0);
-    is_right_near(world, prefix, seeds, placed, asn, place)
-}
-
-// Whether the routing is right at the number, where it is an AS, or has no entry there.
+// Whether the routing, which is that of the section, is right at the number, where it is an AS, or has no entry there.
 fn is_fine<P: RoutePolicy, V: OriginStates>(
     world: &World<'_, P, V>,
     prefix: Prefix,
@@ -46,7 +29,8 @@ fn is_fine<P: RoutePolicy, V: OriginStates>(
     if !world.graph.has(asn) {
         return routing.get(asn).is_none();
     }
-    if is_seen_right(world, prefix, seeds, routing, placed, asn) {
+    let place = world.graph.place_near(asn, 0);
+    if is_right_near(world, prefix, seeds, placed, asn, place) {
         return true;
     }
     check_at(world, prefix, seeds, routing, asn).is_ok()
