@@ -201,16 +201,13 @@ impl PathPool {
         ensures limit { limit_of self.new ≡ limit_of self.old }
     {
         let at = self.cells.len();
-        match self.cells.push(Cell {
+        self.cells.push_reserved(Cell {
             head,
             tail,
             len,
             count: 1,
             last,
-        }) {
-            Ok(()) => {}
-            Err(_) => unreachable!(),
-        }
+        });
         self.room -= 1;
         PathId(at as u32)
     }
@@ -312,16 +309,13 @@ impl PathPool {
         let at = self.cells.len();
         let len = self.dead + 1;
         let asn = any_asn();
-        match self.cells.push(Cell {
+        self.cells.push_reserved(Cell {
             head: asn,
             tail: next,
             len: len as u32,
             count: 0,
             last: asn,
-        }) {
-            Ok(()) => {}
-            Err(_) => unreachable!(),
-        }
+        });
         self.free = at as u32;
         self.dead = len;
         self.room -= 1;

@@ -9,5 +9,5 @@ invariant_of-self-clause-region c =
     let xs : List Cell = c.args.self.now.cells.items in
     let y : Cell = record { head = c.args.head; tail = c.args.tail; len = c.args.len; count = 1; last = c.args.last } in
     let at : c.len-at.result ≡ length xs = search rules in
-    subst (λ ys. IsRegion ys c.args.self.now.free c.args.self.now.dead c.args.self.now.limit) (sym c.in-Ok.ensures.items)
+    subst (λ ys. IsRegion ys c.args.self.now.free c.args.self.now.dead c.args.self.now.limit) (sym c.push_reserved.ensures.items)
     (push_region xs c.args.self.now.free c.args.self.now.dead c.args.self.now.limit y c.args.self.now.region (omega (arith, at, c.len-at.ensures, c.args.self.now.within, c.requires.room)) c.requires.follows)
