@@ -34,13 +34,13 @@ pub fn lower_side(alloc: Global, links: &Links) -> Result<Vec<End>, AllocError>
         let Some(link) = links.at(place) else {
             unreachable!();
         };
-        ends.push(End {
+        ends.push_reserved(End {
             at: link.lo,
             neighbour: Neighbour {
                 asn: link.hi,
                 rel: link.rel,
             },
-        })?;
+        });
     }
     Ok(ends)
 }
@@ -55,13 +55,13 @@ pub fn higher_side(alloc: Global, links: &Links) -> Result<Vec<End>, AllocError>
         let Some(link) = links.at(place) else {
             unreachable!();
         };
-        ends.push(End {
+        ends.push_reserved(End {
             at: link.hi,
             neighbour: Neighbour {
                 asn: link.lo,
                 rel: link.rel.converse(),
             },
-        })?;
+        });
     }
     // What is dealt so is sorted up to number 1,048,575, and then the sort only looks through it.
     deal_by_number(alloc, &mut ends)?;

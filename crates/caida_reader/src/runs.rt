@@ -83,7 +83,7 @@ fn gather_back(alloc: Global, exchanged: &[Entry], further: &[Link]) -> Result<V
 {
     let mut links = Vec::with_capacity(alloc, exchanged.len())?;
     'exchanged: for entry in exchanged {
-        links.push(entry.turned_link())?;
+        links.push_reserved(entry.turned_link());
     }
     links.extend_from_slice(further)?;
     Ok(links)

@@ -1,4 +1,4 @@
-use Rattle.std.proofs.Common.{◌≡◌, take, subst, ap, ◌∙◌, arith}
+use Rattle.std.proofs.Common.{◌≡◌, take, subst, ap, ◌∙◌, ◌+◌, arith}
 use Rattle.std.specs.FinMap as map
 use Rattle.std.proofs.lemmas.List.{take_all}
 use Rattle.as_graph.specs.Ends.{lower_ends, AreTurned}
@@ -10,8 +10,10 @@ unreachable-requires c = omega (arith, past_end (map.entries c.args.links.now) c
 
 pub loop-place-preserved : goal.loop-place-preserved
 loop-place-preserved c = record {
-  ends = c.in_ok-push.ensures.items ∙ lower_ends-next (map.entries c.args.links.now) c.loop-place.place c.in-Some.link.lo c.in-Some.link.hi c.in-Some.link.rel c.in-Some.ensures.value c.loop-place.ends.items c.loop-place.invariant.ends;
+  ends = c.push_reserved.ensures.items ∙ lower_ends-next (map.entries c.args.links.now) c.loop-place.place c.in-Some.link.lo c.in-Some.link.hi c.in-Some.link.rel c.in-Some.ensures.value c.loop-place.ends.items c.loop-place.invariant.ends;
   turned = turned_next (map.entries c.args.links.now) c.loop-place.place c.in-Some.link.lo c.in-Some.link.hi c.in-Some.link.rel c.in-Some.ensures.value c.in-Some.ensures.lower c.loop-place.invariant.turned;
+  len = c.push_reserved.ensures.len ∙ ap (λ n. n + 1) c.loop-place.invariant.len;
+  room = omega (arith, c.push_reserved.ensures.capacity, c.loop-place.invariant.room);
 }
 
 pub returns-clause-ends : goal.returns-clause-ends

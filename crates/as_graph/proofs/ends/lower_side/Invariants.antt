@@ -1,4 +1,4 @@
-use Rattle.std.proofs.Common.{take, ◌≡◌}
+use Rattle.std.proofs.Common.{take, ◌≡◌, ◌≤◌, vec_len, vec_capacity}
 use Rattle.std.specs.FinMap as map
 use Rattle.as_graph.specs.Ends.{lower_ends, AreTurned}
 use Rattle.as_graph.proofs.ends.lower_side.Given as goal
@@ -7,4 +7,6 @@ abbrev pub invariant-loop-place : goal.invariant-loop-place
 invariant-loop-place l = record {
   ends : l.ends.items ≡ lower_ends (take l.place (map.entries l.links));
   turned : AreTurned (take l.place (map.entries l.links));
+  len : vec_len l.ends ≡ l.place;
+  room : map.len l.links ≤ vec_capacity l.ends;
 }
