@@ -1,9 +1,8 @@
-use Rattle.std.proofs.Common.{sym, ap, ◌∙◌}
+use Rattle.std.proofs.Common.{ap, ◌∙◌}
 use Rattle.std.specs.FinMap as fin
 use Rattle.std.proofs.lemmas.List.{nil_from_length}
 use Rattle.net_names.specs.Links.{pair_cmp}
 use Rattle.caida_reader.specs.declared.firsts.First.{First}
-use Rattle.caida_reader.proofs.PairLemmas.{get_pair}
 use Rattle.caida_reader.proofs.others.Others.is_empty.Goals as goal
 
 pub returns : goal.returns
