@@ -1,6 +1,6 @@
 //! Who changes after an edit.
 
-ghost use Rattle.std.specs.Prelude.{◌≡◌, ℕ, ◌+◌, ◌*◌, ◌≤◌, length, true, false, None, OnOk, OnErr, IfOk};
+ghost use Rattle.std.specs.Prelude.{◌≡◌, ℕ, ◌+◌, ◌*◌, ◌≤◌, true, false, None, OnOk, OnErr, IfOk};
 ghost use Rattle.net_names.specs.Prelude.{occurs};
 ghost use Rattle.as_graph.specs.Prelude.{relation, has, as_count, HasNoProviderCycle, IsRank};
 ghost use Rattle.path_pool.specs.declared.pool.PathPool.{PathPool as APool};
@@ -8,7 +8,7 @@ ghost use Rattle.path_pool.specs.Pool.{holds_of, count_of, live_count, limit_of}
 ghost use Rattle.rank_order.specs.Prelude.{rank_after, IsLastPlan};
 ghost use Rattle.stability_laws.specs.Prelude.{IsRight, setting_in};
 ghost use Rattle.route_choice.specs.declared.counts.TheConstants.{MOST_COUNTED};
-ghost use Rattle.route_choice.specs.Prelude.{setting_at, AreEntriesLive, AreSeedsLive, Keeps, routing_of, seeds_of, table_routing, change_at, held_at, overlay_uses, places_of, prefix_of, seed_at, table_spare, table_uses};
+ghost use Rattle.route_choice.specs.Prelude.{setting_at, AreEntriesLive, AreSeedsLive, Keeps, routing_of, seeds_of, table_routing, change_at, held_at, overlay_uses, prefix_of, seed_at, table_uses, HasRoomForChanges};
 ghost use Rattle.dirty_recompute.specs.Exact.{IsExact, AreEnough};
 ghost use Rattle.dirty_recompute.specs.Named.{HasAll};
 ghost use Rattle.dirty_recompute.specs.PlannedRanks.{rank_of};
@@ -224,7 +224,7 @@ pub fn plan_edit<P: RoutePolicy, V: OriginStates, L: Ledger>(
     ensures enough { IfOk result (λ o. AreEnough (relation world.now.graph.now) (λ b. occurs b edit.now.touched.now)
         (has_change o) steps.old steps.new) }
     ensures table { SameTable table.old table.new }
-    ensures spare { IfOk result (λ o. length (places_of o) ≤ table_spare table.new) }
+    ensures spare { IfOk result (HasRoomForChanges table.new) }
     ensures holds { IfOk result (λ o. (k : ℕ) → holds_of pool.new k ≡ holds_of pool.old k + overlay_uses o k) }
     ensures cells { IfOk result (FewNewCells pool.old pool.new) }
     ensures kept { OnOk result (Keeps pool.old pool.new edit.now.seeds.now) }
@@ -244,7 +244,7 @@ pub fn plan_edit<P: RoutePolicy, V: OriginStates, L: Ledger>(
         let ranked = RankedWorld { at, ranks: *ranks };
         put_changes(alloc, &ranked, edit.touched, pool, &mut overlay, steps)
     };
-    if put.is_err() || table.room(overlay.len()).is_err() {
+    if put.is_err() || table.room_for(&overlay).is_err() {
         overlay.undo(pool);
         return Err(NoMemory);
     }

@@ -18,7 +18,7 @@ use Rattle.route_choice.specs.declared.table.Table.{Table}
 use Rattle.route_choice.specs.Resources.{AreEntriesLive, AreSeedsLive}
 use Rattle.route_choice.specs.Routings.{routing_of, seeds_of, table_routing}
 use Rattle.route_choice.specs.RoundTables.{table_at, PutsTable}
-use Rattle.route_choice.specs.Tables.{held_at, overlay_uses, places_of, prefix_of, seed_at, table_spare, table_uses}
+use Rattle.route_choice.specs.Tables.{held_at, overlay_uses, places_of, prefix_of, seed_at, table_uses, HasRoomForChanges}
 use Rattle.dirty_recompute.specs.Exact.{IsExact, AreEnough}
 use Rattle.dirty_recompute.specs.Resources.{has_change, SameTable}
 use Rattle.leak_round.specs.declared.announced.Announced.{Announced}
@@ -45,7 +45,7 @@ pub record CanFindInTable (w : Setting) (g : Topology) (prefix : PrefixValue) (s
 pub record AreTableChanges (w : Setting) (g : Topology) (seeds : SeedIds) (ases : List ℕ) (pool pool' : PathPool) (t t' : Table) (first last : ℕ) (o : Overlay) : Type 0 where
   pub exact : IsExact w (seeds_of pool seeds) (table_routing pool t) (routing_of pool' t' o) (has_change o)
   pub enough : AreEnough (relation g) (λ b. occurs b ases) (has_change o) first last
-  pub spare : length (places_of o) ≤ table_spare t'
+  pub spare : HasRoomForChanges t' o
   pub listed : IsListed o
   pub holds : (k : ℕ) → holds_of pool' k ≡ holds_of pool k + overlay_uses o k
   pub keeps : KeepsPaths pool pool'

@@ -16,7 +16,7 @@ use Rattle.route_choice.specs.Counted.{AreUsesCounted}
 use Rattle.route_choice.specs.Routings.{entry_of}
 use Rattle.route_choice.specs.RoundTables.{table_at, PutsTable}
 use Rattle.route_choice.specs.Slots.{over}
-use Rattle.route_choice.specs.Tables.{held_at, joined, prefix_of, change_at, places_of, overlay_uses, table_uses, table_spare}
+use Rattle.route_choice.specs.Tables.{held_at, joined, prefix_of, change_at, places_of, overlay_uses, table_uses, HasRoomForChanges}
 use Rattle.leak_round.specs.declared.changes.Change.{Change}
 use Rattle.leak_round.specs.Tables.{tables_in, entry_uses, AreRoundsFull}
 use Rattle.as_graph.specs.declared.build.TheConstants.{MOST_ASES}
@@ -58,7 +58,7 @@ changes_count xs = sum_by (λ x. length (places_of x.overlay)) xs
 pub record FitsIn (rounds : List RoundTables) (x : Change) : Type 0 where
   pub table : Table
   pub at : table_in rounds x.round x.prefix ≡ Some table
-  pub room : length (places_of x.overlay) ≤ table_spare table
+  pub room : HasRoomForChanges table x.overlay
 
 -- the ASes that have a change are listed, each once
 pub record IsListed (o : Overlay) : Type 0 where
@@ -75,7 +75,7 @@ pub record AreChangesOf (rounds : List RoundTables) (xs : List Change) : Type 0 
 pub record CanPut (old : RoundTables) (prefix : PrefixValue) (overlay : Overlay) (pool : PathPool) : Type 0 where
   pub was : Table
   pub at : table_at old prefix ≡ Some was
-  pub room : length (places_of overlay) ≤ table_spare was
+  pub room : HasRoomForChanges was overlay
   pub held : (k : ℕ) → table_uses was k + overlay_uses overlay k ≤ holds_of pool k
 
 -- the table of the prefix has the changes in place, and the holds of what they replace are given back

@@ -1,10 +1,11 @@
 -- How often a path is used by some entries.
-use Rattle.std.proofs.Common.{◌≡◌, ◌≢◌, ℕ, zero, suc, ◌+◌, ◌<◌, ◌≤◌, Bool, true, false, cond, ◌||◌, List, [], ◌∷◌, length, get_or, slice_get, take, Option, Some, None, nat_eq, unwrap_or, refl, ap, sym, ◌∙◌, arith, inl, inr}
-use Rattle.std.specs.Prelude.{is_some}
+use Rattle.std.proofs.Common.{◌≡◌, ◌≢◌, ℕ, zero, suc, ◌+◌, ◌<◌, ◌≤◌, Bool, true, false, cond, ◌||◌, List, [], ◌∷◌, length, get_or, slice_get, take, drop, Option, Some, None, nat_eq, unwrap_or, refl, ap, sym, ◌∙◌, arith, inl, inr}
+use Rattle.std.specs.Prelude.{◌⊎◌, is_some, IsSome}
+use Rattle.std.specs.Option.{is_none}
 use Rattle.net_names.specs.Numbers.{occurs}
 use Rattle.std.specs.List.{list_any, sum_by}
 use Rattle.std.specs.Map.{keys_of, values_of, lookup}
-use Rattle.std.proofs.lemmas.List.Sums.{sum_by_more, sum_by-take-le}
+use Rattle.std.proofs.lemmas.List.Sums.{sum_by_more, sum_by-cons, sum_by-drop_more, sum_by-take-le}
 use Rattle.std.proofs.lemmas.Map.Entries.{sum_by-set_value}
 use Rattle.std.proofs.lemmas.Bool.{cases_eq, eq-eqb, ne_eqb, or_right}
 use Rattle.std.proofs.lemmas.List.{get_or-map, take_all, length-map}
@@ -12,7 +13,7 @@ use Rattle.std.proofs.lemmas.List.Folds.{list_any_more}
 use Rattle.path_pool.specs.declared.pool.PathPool.{PathPool}
 use Rattle.path_pool.specs.Pool.{holds_of}
 use Rattle.route_choice.specs.declared.held.Held.{Held}
-use Rattle.route_choice.specs.Slots.{Slots, slot_at, entry_at, keys, over, use_of, uses_of}
+use Rattle.route_choice.specs.Slots.{Slots, slot_at, entry_at, keys, missing_count, over, use_of, uses_of}
 use Rattle.route_choice.specs.Holds.{GivesBack}
 
 -- an entry that stands at an AS is one of the uses
@@ -55,13 +56,53 @@ uses_before-le m n k = sum_by-take-le (use_of k) (values_of m.entries) n
 pub uses_before-all : (m : Slots) (n k : ℕ) → length m.entries ≤ n → uses_before m n k ≡ uses_of m k
 uses_before-all m n k l = ap (sum_by (use_of k)) (take_all n (values_of m.entries) (omega (arith, l, length-map m.entries (λ (e : ℕ × Option Held). e.1))))
 
-pub is_before-more : (m : Slots) (n a b : ℕ) (entry : Option Held) → slice_get m.entries n ≡ Some (a, entry) → is_before m (n + 1) b ≡ (is_before m n b || nat_eq b a)
-is_before-more m n a b entry read =
+-- the AS of an entry that was read is the key at its place
+pub key_at : (m : Slots) (n a : ℕ) (entry : Option Held) → slice_get m.entries n ≡ Some (a, entry) → (n < length (keys m)) × (get_or (keys m) n a ≡ a)
+key_at m n a entry read =
     let es : List (ℕ × Option Held) = m.entries in
     let at : (n < length es) × (get_or es n (a, entry) ≡ (a, entry)) = read_at es n (a, entry) read in
-    let key : get_or (keys_of es) n a ≡ a = get_or-map (λ (e : ℕ × Option Held). e.0) es n (a, entry) a at.0 ∙ ap (λ (e : ℕ × Option Held). e.0) at.1 in
-    let inside : n < length (keys_of es) = omega (arith, at.0, length-map es (λ (e : ℕ × Option Held). e.0)) in
-    list_any_more (nat_eq b) (keys_of es) n a inside ∙ ap (λ k. is_before m n b || nat_eq b k) key
+    (omega (arith, at.0, length-map es (λ (e : ℕ × Option Held). e.0)), get_or-map (λ (e : ℕ × Option Held). e.0) es n (a, entry) a at.0 ∙ ap (λ (e : ℕ × Option Held). e.0) at.1)
+
+pub is_before-more : (m : Slots) (n a b : ℕ) (entry : Option Held) → slice_get m.entries n ≡ Some (a, entry) → is_before m (n + 1) b ≡ (is_before m n b || nat_eq b a)
+is_before-more m n a b entry read =
+    let key = key_at m n a entry read in
+    list_any_more (nat_eq b) (keys m) n a key.0 ∙ ap (λ k. is_before m n b || nat_eq b k) key.1
+
+-- 1 where an AS has no place, else 0
+abbrev pub missing_at : Option (Option Held) → ℕ
+missing_at o = cond (is_none o) 1 0
+
+-- how many of the ASes of the changes from the n-th on have no place
+abbrev pub missing_from : Slots → Slots → ℕ → ℕ
+missing_from m changes n = missing_count m (drop n (keys changes))
+
+pub missing_from-more : (m changes : Slots) (n a : ℕ) (entry : Option Held) → slice_get changes.entries n ≡ Some (a, entry) →
+    missing_from m changes n ≡ missing_at (slot_at m a) + missing_from m changes (n + 1)
+missing_from-more m changes n a entry read =
+    let key = key_at changes n a entry read in
+    sum_by-drop_more (λ b. missing_at (slot_at m b)) (keys changes) n a key.0 ∙ ap (λ b. missing_at (slot_at m b) + missing_from m changes (n + 1)) key.1
+
+-- no more ASes miss a place where one more has one
+pub missing_count-le : (m m' : Slots) (a : ℕ) (entry : Option Held) → slot_at m' a ≡ Some entry → ((b : ℕ) → b ≢ a → slot_at m' b ≡ slot_at m b) → (ases : List ℕ) → missing_count m' ases ≤ missing_count m ases
+missing_count-le m m' a entry this others [] = omega arith
+missing_count-le m m' a entry this others (b ∷ ases) =
+    let rest = missing_count-le m m' a entry this others ases in
+    let old = sum_by-cons (λ (x : ℕ). missing_at (slot_at m x)) b ases in
+    let new = sum_by-cons (λ (x : ℕ). missing_at (slot_at m' x)) b ases in
+    elim (cases_eq b a) [
+      | inl e ↦ (let none : missing_at (slot_at m' b) ≡ 0 = ap (λ (x : ℕ). missing_at (slot_at m' x)) e ∙ ap missing_at this in omega (arith, old, new, none, rest))
+      | inr ne ↦ (let same : missing_at (slot_at m' b) ≡ missing_at (slot_at m b) = ap missing_at (others b ne) in omega (arith, old, new, same, rest))
+    ]
+
+-- an AS without a place takes up room for one, and another one none
+room_left : (old new missing missing' : ℕ) (o : Option (Option Held)) → missing_at o + missing ≤ old → missing' ≤ missing → old ≤ new + 1 → (IsSome o → new ≡ old) → missing' ≤ new
+room_left old new missing missing' None room few spare kept = omega (arith, room, few, spare)
+room_left old new missing missing' (Some v) room few spare kept = omega (arith, room, few, kept refl)
+
+-- a change has a place, or there is room for one
+pub has_place : (spare missing : ℕ) (o : Option (Option Held)) → missing_at o + missing ≤ spare → IsSome o ⊎ (0 < spare)
+has_place spare missing None room = inr (omega (arith, room))
+has_place spare missing (Some v) room = inl refl
 
 -- an AS is among the keys exactly where something stands at it
 found_when : (es : List (ℕ × Option Held)) (a : ℕ) (o : Option Held) →
@@ -97,7 +138,7 @@ pub record IsReplacing (before now changes : Slots) (old new : PathPool) (n : �
   pub entries : (a : ℕ) → entry_at now a ≡ cond (is_before changes n a) (entry_at changes a) (entry_at before a)
   pub holds : (k : ℕ) → uses_of now k + holds_of old k ≡ uses_of before k + uses_before changes n k + holds_of new k
   pub back : GivesBack old new
-  pub room : length changes.entries ≤ now.spare + n
+  pub room : missing_from now changes n ≤ now.spare
 
 pub replacing_more : (before now after changes : Slots) (old mid new : PathPool) (n asn : ℕ) (entry : Option Held) →
     IsReplacing before now changes old mid n →
@@ -106,9 +147,9 @@ pub replacing_more : (before now after changes : Slots) (old mid new : PathPool)
     slot_at after asn ≡ Some entry →
     ((a : ℕ) → a ≢ asn → slot_at after a ≡ slot_at now a) →
     ((k : ℕ) → uses_of after k + holds_of mid k ≡ uses_of now k + holds_of new k + use_of k entry) →
-    GivesBack mid new → now.spare ≤ after.spare + 1 →
+    GivesBack mid new → now.spare ≤ after.spare + 1 → (IsSome (slot_at now asn) → after.spare ≡ now.spare) →
     IsReplacing before after changes old new (n + 1)
-replacing_more before now after changes old mid new n asn entry w read here this others holds back room =
+replacing_more before now after changes old mid new n asn entry w read here this others holds back spare kept =
     let at : (k : ℕ) → uses_before changes (n + 1) k ≡ uses_before changes n k + use_of k entry = λ k. uses_before-more changes n asn k entry read in
     record {
       entries = λ a. elim (cases_eq a asn) [
@@ -121,7 +162,10 @@ replacing_more before now after changes old mid new n asn entry w read here this
       ];
       holds = λ k. omega (arith, holds k, w.holds k, at k);
       back = back_more old mid new w.back back;
-      room = omega (arith, w.room, room);
+      room =
+          let few = missing_count-le now after asn entry this others (drop (n + 1) (keys changes)) in
+          let before = missing_from-more now changes n asn entry read in
+          room_left now.spare after.spare (missing_from now changes (n + 1)) (missing_from after changes (n + 1)) (slot_at now asn) (omega (arith, before, w.room)) few spare kept;
     }
   where
     or_false : (b : Bool) → (b || false) ≡ b

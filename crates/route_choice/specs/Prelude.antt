@@ -1,6 +1,6 @@
 -- The words of this crate that the clauses of crates above use, to import from one place.
 pub use Rattle.route_choice.specs.Holds.{GivesBack}
-pub use Rattle.route_choice.specs.Tables.{change_at, held_at, joined, overlay_spare, overlay_uses, places_of, prefix_of, seed_at, table_spare, table_uses}
+pub use Rattle.route_choice.specs.Tables.{change_at, held_at, joined, overlay_uses, places_of, prefix_of, seed_at, table_uses, HasRoomForChanges}
 pub use Rattle.route_choice.specs.Routings.{entry_of, routing_of, seed_of, seeds_of, table_routing}
 pub use Rattle.route_choice.specs.PrefixWorlds.{HasNoLoopsAt, named_at, setting_at}
 pub use Rattle.route_choice.specs.Choices.{IsStepOf, named_by}

@@ -1,7 +1,8 @@
 -- Entries by AS, and how often each path is used by them.
 use Rattle.std.specs.Prelude.{◌≡◌, ℕ, ◌≤◌, List, Option, None, Some, ◌==◌, if◌then◌else◌, map, nat_eq, unwrap_or}
-use Rattle.std.specs.List.{sum_by}
+use Rattle.std.specs.List.{count_by, sum_by}
 use Rattle.std.specs.Map.{keys_of, values_of, lookup}
+use Rattle.std.specs.Option.{is_none}
 use Rattle.net_names.specs.Numbers.{occurs}
 use Rattle.route_choice.specs.declared.held.Held.{Held}
 
@@ -21,6 +22,10 @@ slot_at m a = lookup (nat_eq a) m.entries
 -- The entry at an AS, if there is one.
 abbrev pub entry_at : Slots → ℕ → Option Held
 entry_at m a = unwrap_or (slot_at m a) None
+
+-- How many of these ASes are not among them.
+abbrev pub missing_count : Slots → List ℕ → ℕ
+missing_count m ases = count_by (λ (a : ℕ). is_none (slot_at m a)) ases
 
 -- These ASes, in their order, each with the entry at it, if there is one.
 abbrev pub entries_at : Slots → List ℕ → List (ℕ × Option Held)

@@ -1,6 +1,6 @@
 -- What contracts see of a table, of changes of it, and of seeds: what stands at each AS, how often each path is used, and
 -- for how many more ASes there is room.
-use Rattle.std.specs.Prelude.{ℕ, ◌⊎◌, ◌<◌, IsSome, List, Option, nat_eq}
+use Rattle.std.specs.Prelude.{◌≡◌, ℕ, ◌⊎◌, ◌<◌, ◌≤◌, [], IsSome, List, Option, nat_eq}
 use Rattle.indexmap.specs.IndexMap.{get}
 use Rattle.net_names.specs.Prefixes.{PrefixValue as Prefix}
 use Rattle.route_choice.specs.declared.held.Held.{Held}
@@ -9,7 +9,7 @@ use Rattle.route_choice.specs.declared.table.Table.{Table}
 use Rattle.route_choice.specs.declared.table.room.TableRoom.{TableRoom}
 use Rattle.route_choice.specs.declared.overlay.Overlay.{Overlay}
 use Rattle.route_choice.specs.declared.seeds.SeedIds.{SeedIds}
-use Rattle.route_choice.specs.Slots.{slot_at, entry_at, keys, over, uses_of}
+use Rattle.route_choice.specs.Slots.{slot_at, entry_at, keys, missing_count, over, uses_of}
 
 -- The prefix of a table.
 abbrev pub prefix_of : Table → Prefix
@@ -22,10 +22,6 @@ held_at t a = entry_at t.slots a
 -- How many entries of a table have the path.
 abbrev pub table_uses : Table → ℕ → ℕ
 table_uses t k = uses_of t.slots k
-
--- For how many more ASes a table has room.
-abbrev pub table_spare : Table → ℕ
-table_spare t = t.slots.spare
 
 -- The ASes for whose table there is room, in the order of its rows.
 abbrev pub ases_of : TableRoom → List ℕ
@@ -54,6 +50,10 @@ seed_at s a = get nat_eq s.seeds a
 -- What an AS holds in a table with the changes in place.
 abbrev pub joined : Table → Overlay → ℕ → Option Held
 joined t o a = over (change_at o a) (held_at t a)
+
+-- The table has room for the changes: it has no AS yet, or room for all ASes that have a change and no place in it.
+abbrev pub HasRoomForChanges : Table → Overlay → Type 0
+HasRoomForChanges t o = (keys t.slots ≡ []) ⊎ (missing_count t.slots (places_of o) ≤ t.slots.spare)
 
 -- The overlay has the AS, or room for one more.
 abbrev pub HasPlace : Overlay → ℕ → Type 0

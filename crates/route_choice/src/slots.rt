@@ -5,7 +5,7 @@ ghost use Rattle.std.specs.List.{IsDistinct};
 ghost use Rattle.net_names.specs.Prelude.{occurs};
 ghost use Rattle.as_places.specs.Places.{place_of};
 ghost use Rattle.path_pool.specs.Pool.{holds_of};
-ghost use Rattle.route_choice.specs.Slots.{slot_at, entry_at, entries_at, keys, over, use_of, uses_in, uses_of, IsBlank};
+ghost use Rattle.route_choice.specs.Slots.{slot_at, entry_at, entries_at, keys, missing_count, over, use_of, uses_in, uses_of, IsBlank};
 ghost use Rattle.route_choice.specs.Holds.{GivesBack};
 ghost use Rattle.route_choice.specs.Rows.{asns_of, entries_of, entry_in, placed_in};
 ghost use Rattle.std.specs.Rc.{rc_value};
@@ -244,14 +244,31 @@ fn replace(slots: &mut Slots, pool: &mut PathPool, asn: Asn, place: usize, entry
         ≡ uses_of slots.old k + holds_of pool.new k + use_of k entry }
     ensures back { GivesBack pool.old pool.new }
     ensures spare { slots.old.spare ≤ slots.new.spare + 1 }
+    ensures kept_spare { IsSome (slot_at slots.old asn) → slots.new.spare ≡ slots.old.spare }
 {
     let old = slots.exchange_near(asn, place, entry);
     let_go(pool, old);
 }
 
+/// How many ASes of the changes have no place in the slots yet.
+pub(crate) fn count_missing(slots: &Slots, changes: &Slots) -> usize
+    ensures { result ≡ missing_count slots.now (keys changes.now) }
+{
+    let mut missing = 0;
+    for place in 0..changes.len() {
+        let Some(pair) = changes.at(place) else {
+            unreachable!();
+        };
+        if slots.get_near(pair.0, changes.near(place)).is_none() {
+            missing += 1;
+        }
+    }
+    missing
+}
+
 // Puts all changes in place, and gives back the holds of what stood there.
 pub(crate) fn replace_all(slots: &mut Slots, changes: &Slots, pool: &mut PathPool)
-    requires room { length (keys changes.now) ≤ slots.old.spare }
+    requires room { missing_count slots.old (keys changes.now) ≤ slots.old.spare }
     requires held { (k : ℕ) → uses_of slots.old k + uses_of changes.now k ≤ holds_of pool.old k }
     ensures entries { (a : ℕ) → entry_at slots.new a ≡ over (slot_at changes.now a) (entry_at slots.old a) }
     ensures holds { (k : ℕ) → uses_of slots.new k + holds_of pool.old k

@@ -1,11 +1,11 @@
 //! The routing of one prefix and one round.
 
-ghost use Rattle.std.specs.Prelude.{◌≡◌, ℕ, ◌+◌, ◌≤◌, length, None, IsOk, OnOk, unwrap_or};
+ghost use Rattle.std.specs.Prelude.{◌≡◌, ℕ, ◌+◌, ◌≤◌, None, IsOk, OnOk, unwrap_or};
 
 mod counted;
 mod room;
 
-use crate::slots::{Slots, replace_all};
+use crate::slots::{Slots, count_missing, replace_all};
 use crate::{Held, Overlay};
 pub use counted::uses_are_counted;
 use net_names::{Asn, NoMemory, Prefix};
@@ -22,7 +22,7 @@ pub struct Table {
 }
 
 impl Table {
-    ghost use Rattle.route_choice.specs.Tables.{prefix_of, held_at, table_uses, table_spare, change_at, places_of, overlay_uses, joined};
+    ghost use Rattle.route_choice.specs.Tables.{prefix_of, held_at, table_uses, change_at, overlay_uses, joined, HasRoomForChanges};
     ghost use Rattle.route_choice.specs.Routings.{table_routing, routing_of};
     ghost use Rattle.route_choice.specs.Holds.{GivesBack};
     ghost use Rattle.path_pool.specs.Pool.{holds_of};
@@ -84,21 +84,26 @@ impl Table {
         }
     }
 
-    /// Makes room for `n` more ASes. The entries stay, also after a refusal.
-    pub fn room(&mut self, n: usize) -> Result<(), NoMemory>
-        ensures room { OnOk result (n ≤ table_spare self.new) }
-        ensures succeeds { n ≤ table_spare self.old → IsOk result }
+    /// Makes room for the changes: for each AS that has one and no place in the table yet. A table without any
+    /// AS needs none. The entries stay, also after a refusal.
+    pub fn room_for(&mut self, overlay: &Overlay) -> Result<(), NoMemory>
+        ensures room { OnOk result (HasRoomForChanges self.new overlay.now) }
+        ensures succeeds { HasRoomForChanges self.old overlay.now → IsOk result }
         ensures prefix { prefix_of self.new ≡ prefix_of self.old }
         ensures same { (a : ℕ) → held_at self.new a ≡ held_at self.old a }
         ensures uses { (k : ℕ) → table_uses self.new k ≡ table_uses self.old k }
     {
-        self.slots.room(n)
+        if self.slots.len() == 0 {
+            return Ok(());
+        }
+        let missing = count_missing(&self.slots, &overlay.changes);
+        self.slots.room(missing)
     }
 
     /// Puts the changes in place, and gives back the holds of the entries that are replaced or
     /// taken away. Each cell that stays live keeps its path. Takes no memory.
     pub fn commit(&mut self, overlay: Overlay, pool: &mut PathPool)
-        requires room { length (places_of overlay) ≤ table_spare self.old }
+        requires room { HasRoomForChanges self.old overlay }
         requires held { (k : ℕ) → table_uses self.old k + overlay_uses overlay k ≤ holds_of pool.old k }
         ensures prefix { prefix_of self.new ≡ prefix_of self.old }
         ensures entries { (a : ℕ) → held_at self.new a ≡ joined self.old overlay a }
