@@ -32,7 +32,7 @@ pub returns-then-is_err-clause-table : goal.returns-then-is_err-clause-table
 returns-then-is_err-clause-table g c =
     elim c.then-is_err.branch [
       | then-is_err-via-then-is_err w ↦ subst (SameTable c.args.table.now) (sym w.table-is) (record { prefix = refl; entries = λ a. refl; uses = λ k. refl })
-      | then-is_err-via-else-is_err+then-is_err-2 w ↦ subst (SameTable c.args.table.now) (sym w.table-is) (record { prefix = w.room.ensures.prefix; entries = w.room.ensures.same; uses = w.room.ensures.uses })
+      | then-is_err-via-else-is_err+then-is_err-2 w ↦ subst (SameTable c.args.table.now) (sym w.table-is) (record { prefix = w.room_for.ensures.prefix; entries = w.room_for.ensures.same; uses = w.room_for.ensures.uses })
     ]
 
 pub returns-then-is_err-clause-err : goal.returns-then-is_err-clause-err
@@ -46,7 +46,7 @@ returns-clause-exact g c =
     let pool = c.args.pool.now in let pool' = c.put_changes-put.new.pool in let overlay = c.put_changes-put.new.overlay in
     let same_seeds : seeds_of pool seeds ≡ seeds_of pool' seeds = seeds_same pool pool' seeds c.put_changes-put.ensures.kept.keeps in
     let same_table : table_routing pool table ≡ table_routing pool' table = table_same pool pool' seeds table c.put_changes-put.ensures.kept.keeps c.requires.entries_live in
-    let roomed : routing_of pool' c.room.new.self overlay ≡ routing_of pool' table overlay = sym (same_routing pool' table c.room.new.self overlay c.room.ensures.same) in
+    let roomed : routing_of pool' c.room_for.new.self overlay ≡ routing_of pool' table overlay = sym (same_routing pool' table c.room_for.new.self overlay c.room_for.ensures.same) in
     coe 1 0 (i. IsExact here (same_seeds i) (same_table i) (roomed i) (has_change overlay)) (not_err c.put_changes-put.result (sym c.is_err.ensures.value ∙ c.if-is_err.false) c.put_changes-put.ensures.exact)
 
 pub returns-clause-holds : goal.returns-clause-holds
