@@ -1,7 +1,13 @@
-use Rattle.std.proofs.Common.{sym, subst}
+use Rattle.std.proofs.Common.{Option, unwrap_or, sym, subst, ◌∙◌}
 use Rattle.std.specs.Prelude.{OnSome}
+use Rattle.route_choice.specs.declared.table.Table.{Table}
 use Rattle.route_choice.specs.RoundTables.{PutsTable}
+use Rattle.route_choice.specs.Tables.{HasRoomForChanges}
 use Rattle.leak_round.proofs.changes.put_changes.Goals as goal
+
+pub commit-requires-clause-room : goal.commit-requires-clause-room
+commit-requires-clause-room c =
+    subst (λ (o : Option Table). HasRoomForChanges (unwrap_or o c.requires.was) c.args.overlay) (sym c.requires.at ∙ sym c.in-Some.ensures.value) c.requires.room
 
 pub returns-in-Some-clause-put : goal.returns-in-Some-clause-put
 returns-in-Some-clause-put c = record {
