@@ -299,6 +299,7 @@ pub(crate) fn let_all_go(slots: &Slots, pool: &mut PathPool)
 
 /// The rows of these ASes, with the entries that stand in the slots at them, which go. The place of each row
 /// is where its AS may stand in the slots, a hint.
+#[inline(never)]
 pub(crate) fn take_rows(ases: &[Asn], room: Vec<Row>, from: &mut Slots, places: &[u32]) -> Vec<Row>
     requires empty { room.items ≡ [] }
     requires room { length ases.now ≤ room.cap }
@@ -313,10 +314,7 @@ pub(crate) fn take_rows(ases: &[Asn], room: Vec<Row>, from: &mut Slots, places: 
     let mut rows = room;
     for (index, asn) in ases.iter().enumerate() {
         let slot = from.take_near(*asn, place_at(places, index));
-        match rows.push(Row { asn: *asn, slot }) {
-            Ok(()) => {}
-            Err(_) => unreachable!(),
-        }
+        rows.push_reserved(Row { asn: *asn, slot });
     }
     rows
 }

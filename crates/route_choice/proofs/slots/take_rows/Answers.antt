@@ -20,12 +20,12 @@ loop-index-preserved c =
     let kept = c.loop-index.invariant in
     let row : Row = record { asn = x; slot = c.take_near-slot.result } in
     record {
-      entries = ap entries_of c.in-Ok.ensures.items
+      entries = ap entries_of c.push_reserved.ensures.items
           ∙ pairs_more first old new ases i x inside is taken.others c.requires.apart kept.others c.loop-index.rows.items row refl taken.taken kept.entries;
       none = none_more first old new ases i x inside is taken.others taken.none kept.none;
       others = others_more first old new ases i x inside is taken.others kept.others;
       kept = kept_more first old new ases i x inside is taken.others taken.kept kept.kept;
-      uses = λ k. omega (arith, ap (λ rows. uses_in (entries_of rows) k) c.in-Ok.ensures.items, row_uses c.loop-index.rows.items row k, taken.uses k, kept.uses k);
+      uses = λ k. omega (arith, ap (λ rows. uses_in (entries_of rows) k) c.push_reserved.ensures.items, row_uses c.loop-index.rows.items row k, taken.uses k, kept.uses k);
       spare = taken.spare ∙ kept.spare;
       len = search rules;
       room = search rules;
