@@ -1,8 +1,9 @@
 -- The best offer of plain providers, and the entry that it makes.
-use Rattle.std.proofs.Common.{◌≡◌, ℕ, suc, Bool, true, false, ◌&&◌, not, cond, ◌==◌, inl, inr, Option, Some, None, option_map, subst, List, [], ◌∷◌, ◌<◌, length, arith, refl, sym, ◌∙◌, ap}
+use Rattle.std.proofs.Common.{◌≡◌, ◌≢◌, Ordering, Less, Equal, Greater, ℕ, suc, ◌+◌, ◌*◌, ◌≤◌, Bool, true, false, ◌&&◌, not, cond, ◌==◌, inl, inr, Option, Some, None, option_map, subst, List, [], ◌∷◌, ◌<◌, length, arith, refl, sym, ◌∙◌, ap}
 use Rattle.std.specs.Prelude.{is_some, slice_get, IsSome, IsSomeAnd}
 use Rattle.std.proofs.lemmas.Bool.{or_cases, eqb-true}
-use Rattle.std.specs.Ordering.{nat_cmp, is_lt}
+use Rattle.std.specs.Ordering.{nat_cmp, is_lt, ordering_then, MatchOrdering}
+use Rattle.std.specs.Cmp.{nat_cmp_is, ranks}
 use Rattle.std.specs.Cmp.Lexicographic.{slice_cmp}
 use Rattle.net_names.specs.declared.routes.Class.TheVariants as class
 use Rattle.net_names.specs.declared.routes.Rel.{Rel}
@@ -26,7 +27,9 @@ use Rattle.route_choice.specs.declared.held.Held.{Held}
 use Rattle.route_choice.specs.declared.plain.Lead.{Lead}
 use Rattle.route_choice.specs.Slots.{over}
 use Rattle.route_choice.specs.Routings.{entry_of as held_entry}
-use Rattle.route_choice.specs.Leads.{ArePlainProviders, IsLead, IsSeenAs, better_lead, lead_key, lead_with}
+use Rattle.route_choice.specs.Leads.{ArePlainProviders, IsLead, IsLeadOn, IsLeadWith, IsSeenAs}
+use Rattle.route_choice.specs.Rows.{number_in}
+use Rattle.route_choice.specs.declared.plain.TheConstants.{NOBODY}
 use Rattle.route_choice.proofs.Givers.{Giver, giver}
 
 -- a list that is not empty has a first item
@@ -44,44 +47,64 @@ provider_offers s r from own st n a e some out =
     (λ i. from.to_customers e.class e.otc i && (some i && (not (out i) && own.accepts view i))) in
     ap (λ b. option_map (λ (o : Offer). o.view) (cond b (Some made) None)) all
 
--- the plain policy compares providers' offers as leads are compared
-leads_compare : (p : Policy) → IsPlain p → (x y : View) (new old : Lead) → IsSeenAs (Some new) (Some x) → IsSeenAs (Some old) (Some y) → p.before x y ≡ is_lt (slice_cmp nat_cmp (lead_key new) (lead_key old))
-leads_compare p own x y new old (rel, (len, num)) (rel', (len', num')) =
-    let with : Rel → ℕ → ℕ → View = λ r l n. record x { rel = r; length = l; neighbour = n } in
-    own.before x y ∙ (λ i. is_lt (slice_cmp nat_cmp (plain_key (record x { rel = rel i; length = len i; neighbour = num i })) (plain_key (record y { rel = rel' i; length = len' i; neighbour = num' i }))))
-
-pub leads_weighed : (p : Policy) → IsPlain p → (old new : Option Lead) (v x : Option View) → IsSeenAs old v → IsSeenAs new x → IsSeenAs (better_lead old new) (better_of p v x)
-leads_weighed p own None new None x seen is = is
-leads_weighed p own None new (Some y) x seen is = absurd seen
-leads_weighed p own (Some old) new None x seen is = absurd seen
-leads_weighed p own (Some old) None (Some y) None seen is = seen
-leads_weighed p own (Some old) None (Some y) (Some x) seen is = absurd is
-leads_weighed p own (Some old) (Some new) (Some y) None seen is = absurd is
-leads_weighed p own (Some old) (Some new) (Some y) (Some x) seen is = both (p.before x y) (is_lt (slice_cmp nat_cmp (lead_key new) (lead_key old))) (leads_compare p own x y new old is seen)
+-- as one number, a length and a number behind it are in the order of the two
+keys_alike : (a b m n x y : ℕ) → m < 4294967296 → n < 4294967296 → x ≡ a * 4294967296 + m → y ≡ b * 4294967296 + n → slice_cmp nat_cmp ((a + 1) ∷ m ∷ []) ((b + 1) ∷ n ∷ []) ≡ nat_cmp x y
+keys_alike a b m n x y small small' is is' = nat_cmp_is x y (slice_cmp nat_cmp ((a + 1) ∷ m ∷ []) ((b + 1) ∷ n ∷ [])) (by (nat_cmp (a + 1) (b + 1)) (nat_cmp m n) (ranks (a + 1) (b + 1)) (ranks m n))
   where
-    both : (b c : Bool) → b ≡ c → IsSeenAs (Some (cond c new old)) (cond b (Some x) (Some y))
-    both true true e = is
-    both true false e = cc
-    both false true e = cc
-    both false false e = seen
+    by : (o q : Ordering) → MatchOrdering o (a + 1 < b + 1) (a + 1 ≡ b + 1) (b + 1 < a + 1) → MatchOrdering q (m < n) (m ≡ n) (n < m) → MatchOrdering (ordering_then o (ordering_then q Equal)) (x < y) (x ≡ y) (y < x)
+    by Less q lt other = omega (arith, lt, small, small', is, is')
+    by Equal Less eq lt = omega (arith, eq, lt, is, is')
+    by Equal Equal eq eq' = omega (arith, eq, eq', is, is')
+    by Equal Greater eq gt = omega (arith, eq, gt, is, is')
+    by Greater q gt other = omega (arith, gt, small, small', is, is')
+
+-- a lead of somebody comes before that of nobody
+under : (pool : PathPool) (n : ℕ) (h : Held) (l : Lead) → IsLeadOn pool n h l → l.key < NOBODY
+under pool n h l on = omega (arith, on.key, on.short, on.small)
+
+module _ (p : Policy) (own : IsPlain p) (pool : PathPool) (held : ℕ → Option Held) where
+  -- the plain policy compares providers' offers as leads are compared
+  leads_compare : (x y : View) (new old : Lead) → IsSeenAs pool held new (Some x) → IsSeenAs pool held old (Some y) → p.before x y ≡ is_lt (nat_cmp new.key old.key)
+  leads_compare x y new old (h, (holds, (on, (rel, len)))) (h', (holds', (on', (rel', len')))) =
+      own.before x y
+      ∙ (λ i. is_lt (slice_cmp nat_cmp (plain_key (record x { rel = rel i; length = len i })) (plain_key (record y { rel = rel' i; length = len' i }))))
+      ∙ ap is_lt (keys_alike (length (list_of pool h.path.0)) (length (list_of pool h'.path.0)) x.neighbour y.neighbour new.key old.key on.small on'.small on.key on'.key)
+
+  pub leads_weighed : (old new l : Lead) (v x : Option View) → (new.key < old.key → l ≡ new) → (old.key ≤ new.key → l ≡ old) → IsSeenAs pool held old v → IsSeenAs pool held new x → IsSeenAs pool held l (better_of p v x)
+  leads_weighed old new l None None first second seen is = ap (λ (t : Lead). t.key) (second (omega (arith, seen, is))) ∙ seen
+  leads_weighed old new l None (Some x) first second seen is =
+      let lower : new.key < NOBODY = under pool x.neighbour is.0 new is.1.1.0 in
+      subst (λ t. IsSeenAs pool held t (Some x)) (sym (first (omega (arith, seen, lower)))) is
+  leads_weighed old new l (Some y) None first second seen is =
+      let lower : old.key < NOBODY = under pool y.neighbour seen.0 old seen.1.1.0 in
+      subst (λ t. IsSeenAs pool held t (Some y)) (sym (second (omega (arith, is, lower)))) seen
+  leads_weighed old new l (Some y) (Some x) first second seen is = both (p.before x y) (nat_cmp new.key old.key) (leads_compare x y new old is seen) (ranks new.key old.key)
+    where
+      both : (b : Bool) (o : Ordering) → b ≡ is_lt o → MatchOrdering o (new.key < old.key) (new.key ≡ old.key) (old.key < new.key) → IsSeenAs pool held l (cond b (Some x) (Some y))
+      both true Less e lt = subst (λ t. IsSeenAs pool held t (Some x)) (sym (first lt)) is
+      both false Less e lt = cc
+      both true Equal e eq = cc
+      both false Equal e eq = subst (λ t. IsSeenAs pool held t (Some y)) (sym (second (omega (arith, eq)))) seen
+      both true Greater e gt = cc
+      both false Greater e gt = subst (λ t. IsSeenAs pool held t (Some y)) (sym (second (omega (arith, gt)))) seen
 
 -- what a plain provider holds is seen by a plain AS as its lead says
-pub lead_seen : (w : Setting) (pool : PathPool) (held : ℕ → Option Held) (a n place : ℕ) → IsPlain (w.policy a) → IsPlain (w.policy n) → w.relation a n ≡ Some Provider →
-    ((h : Held) → held n ≡ Some h → (0 < length (list_of pool h.path.0)) × (occurs a (list_of pool h.path.0) ≡ false)) →
-    IsSeenAs (option_map (lead_with pool n place) (held n)) (option_map (λ (o : Offer). o.view) (offer w (λ m. option_map (held_entry pool) (held m)) n a))
-lead_seen w pool held a n place own from linked fits = by (held n) refl
+pub lead_seen : (w : Setting) (pool : PathPool) (held : ℕ → Option Held) (a n : ℕ) (l : Lead) → IsPlain (w.policy a) → IsPlain (w.policy n) → w.relation a n ≡ Some Provider →
+    ((h : Held) → held n ≡ Some h → (0 < length (list_of pool h.path.0)) × (occurs a (list_of pool h.path.0) ≡ false)) → IsLeadWith pool n (held n) l →
+    IsSeenAs pool held l (option_map (λ (o : Offer). o.view) (offer w (λ m. option_map (held_entry pool) (held m)) n a))
+lead_seen w pool held a n l own from linked fits with = by (held n) refl with
   where
-    by : (h : Option Held) → held n ≡ h → IsSeenAs (option_map (lead_with pool n place) h) (option_map (λ (o : Offer). o.view) (offer w (λ m. option_map (held_entry pool) (held m)) n a))
-    by None none =
-        subst (λ (o : Option Offer). IsSeenAs None (option_map (λ (x : Offer). x.view) o))
-        (λ i. offer_given (w.policy n) (w.policy a) w.state n a (sym linked i) (option_map (held_entry pool) (sym none i))) tt
-    by (Some h) some =
+    by : (h : Option Held) → held n ≡ h → IsLeadWith pool n h l → IsSeenAs pool held l (option_map (λ (o : Offer). o.view) (offer w (λ m. option_map (held_entry pool) (held m)) n a))
+    by None none is =
+        subst (λ (o : Option Offer). IsSeenAs pool held l (option_map (λ (x : Offer). x.view) o))
+        (λ i. offer_given (w.policy n) (w.policy a) w.state n a (sym linked i) (option_map (held_entry pool) (sym none i))) is
+    by (Some h) some is =
         let e : Entry = held_entry pool h in
         let (there, out) = fits h some in
         let made : option_map (λ (o : Offer). o.view) (offer w (λ m. option_map (held_entry pool) (held m)) n a) ≡ Some (view_of (w.policy n).marks w.state n Provider e) =
         (λ i. option_map (λ (o : Offer). o.view) (offer_given (w.policy n) (w.policy a) w.state n a (linked i) (option_map (held_entry pool) (some i))))
         ∙ provider_offers (w.policy n) (w.policy a) from own w.state n a e (first_there e.path there) out in
-        subst (IsSeenAs (Some (lead_with pool n place h))) (sym made) (refl, (refl, refl))
+        subst (IsSeenAs pool held l) (sym made) (h, (some, (is, (refl, refl))))
 
 -- without a number that is sent, and where neither end marks, the number is kept
 kept_number : (n : ℕ) (to : Rel) (otc : Option ℕ) → marked false n to otc ≡ otc
@@ -95,30 +118,47 @@ plainly_passed s r from own n a e =
     (λ i. with (from.unmarked i) (own.unmarked i))
     ∙ ap (λ (o : Option ℕ). let x : Entry = record { class = class.Provider; path = a ∷ e.path; otc = o } in x) (kept_number n Customer (marked false n Customer e.otc) ∙ kept_number n Customer e.otc)
 
--- What a lead stands for: its provider holds an entry, and with that entry passed on the AS is right.
-pub record IsTaken (w : Setting) (f : ℕ → Option Entry) (a n : ℕ) : Type 0 where
-  pub entry : Entry
-  pub held : f n ≡ Some entry
-  pub right : IsRightGiven (w.policy a) None (λ m. offer w f m a) (Some (record { class = class.Provider; path = a ∷ entry.path; otc = entry.otc }))
+-- What a lead stands for: a provider holds an entry, and with that entry passed on the AS is right.
+pub record IsTaken (w : Setting) (pool : PathPool) (held : ℕ → Option Held) (a : ℕ) (l : Lead) : Type 0 where
+  pub giver : ℕ
+  pub entry : Held
+  pub holds : held giver ≡ Some entry
+  pub path : entry.path ≡ l.path
+  pub right : IsRightGiven (w.policy a) None (λ m. offer w (λ n. option_map (held_entry pool) (held n)) m a) (Some (record { class = class.Provider; path = a ∷ list_of pool l.path.0; otc = number_in l.otc }))
 
-pub lead_taken : (w : Setting) (f : ℕ → Option Entry) (a : ℕ) (l : Lead) → IsPlain (w.policy a) → ((n : ℕ) (o : Offer) → offer w f n a ≡ Some o → IsPlain (w.policy n)) → IsLead (w.policy a) (λ n. offer w f n a) (Some l) → IsTaken w f a l.provider
-lead_taken w f a l own plain (None, (best, seen)) = absurd seen
-lead_taken w f a l own plain (Some v, ((o, best, is), (rel, (len, num)))) =
+pub lead_taken : (w : Setting) (pool : PathPool) (held : ℕ → Option Held) (a : ℕ) (l : Lead) → IsPlain (w.policy a) →
+    ((n : ℕ) (o : Offer) → offer w (λ m. option_map (held_entry pool) (held m)) n a ≡ Some o → IsPlain (w.policy n)) →
+    IsLead (w.policy a) pool held (λ n. offer w (λ m. option_map (held_entry pool) (held m)) n a) l → l.key ≢ NOBODY → IsTaken w pool held a l
+lead_taken w pool held a l own plain (None, (best, seen)) some = absurd (some seen)
+lead_taken w pool held a l own plain (Some v, ((o, best, is), (h, (holds, (on, (rel, len)))))) some =
     let n : ℕ = v.neighbour in
+    let f : ℕ → Option Entry = λ m. option_map (held_entry pool) (held m) in
     let by : Giver Whole w f a n = giver Whole w f a n o best.made in
     let e : Entry = by.exports.entry in
     let passed : o.entry ≡ passed_on (w.policy n).marks (w.policy a).marks n a o.view.rel e = entry_of (w.policy n) (w.policy a) w.state n a (w.relation a n) (f n) o e best.made by.exports.is in
     let as_provider : o.view.rel ≡ Provider = ap (λ (x : View). x.rel) is ∙ rel in
+    let there : f n ≡ Some (held_entry pool h) = ap (option_map (held_entry pool)) holds in
+    let given : f n ≡ Some e = by.exports.is in
+    let same : e ≡ held_entry pool h = cc in
+    let longer : Entry → Entry = λ x. record { class = class.Provider; path = a ∷ x.path; otc = x.otc } in
     record {
-      entry = e;
-      held = sym (ap f num) ∙ by.exports.is;
-      right = (n, o, best, sym (passed ∙ ap (λ r. passed_on (w.policy n).marks (w.policy a).marks n a r e) as_provider ∙ plainly_passed (w.policy n) (w.policy a) (plain n o best.made) own n a e));
+      giver = n;
+      entry = h;
+      holds = holds;
+      path = on.path;
+      right = (
+        n,
+        o,
+        best,
+        sym (passed ∙ ap (λ r. passed_on (w.policy n).marks (w.policy a).marks n a r e) as_provider ∙ plainly_passed (w.policy n) (w.policy a) (plain n o best.made) own n a e ∙ ap longer same
+            ∙ (λ i. let x : Entry = record { class = class.Provider; path = a ∷ list_of pool (on.path i).0; otc = on.otc i } in x)),
+      );
     }
 
 -- without a lead there is no offer
-pub no_lead : (p : Policy) (offers : ℕ → Option Offer) → IsLead p offers None → (n : ℕ) → offers n ≡ None
-no_lead p offers (None, (best, seen)) = best
-no_lead p offers (Some v, (best, seen)) = absurd seen
+pub no_lead : (p : Policy) (pool : PathPool) (held : ℕ → Option Held) (offers : ℕ → Option Offer) (l : Lead) → IsLead p pool held offers l → l.key ≡ NOBODY → (n : ℕ) → offers n ≡ None
+no_lead p pool held offers l (None, (best, seen)) none = best
+no_lead p pool held offers l (Some v, (best, (h, (holds, (on, is))))) none = (let lower : l.key < NOBODY = under pool v.neighbour h l on in absurd (omega (arith, lower, none)))
 
 -- a provider of the list has the plain policy
 pub plain_among : (policy : ℕ → Policy) (xs : List Neighbour) (n : ℕ) → ArePlainProviders policy xs → occurs n (asns xs) ≡ true → IsPlain (policy n)

@@ -2,57 +2,58 @@
 //!
 //! Then the shortest of the providers' paths wins, and of the shortest that of the lowest number. No view is made.
 
-ghost use Rattle.std.specs.Prelude.{◌≡◌, ◌+◌, Option, None, Some, option_map};
-ghost use Rattle.std.specs.Ordering.{nat_cmp, is_lt};
-ghost use Rattle.std.specs.Cmp.Lexicographic.{slice_cmp};
+ghost use Rattle.std.specs.Prelude.{◌≡◌, ◌+◌, ◌<◌, ◌≤◌, None};
 ghost use Rattle.policy_laws.specs.Prelude.{IsPlain};
 ghost use Rattle.stability_laws.specs.Prelude.{policy_at, offer};
 ghost use Rattle.route_choice.specs.declared.choice.Part.TheVariants.{Whole as AWhole};
-ghost use Rattle.route_choice.specs.Leads.{ArePlainProviders, IsLead, better_lead, lead_key, lead_with};
+ghost use Rattle.route_choice.specs.Leads.{ArePlainProviders, IsLead, IsLeadWith};
 ghost use Rattle.route_choice.specs.PrefixWorlds.{setting_at, AreGiversAt, CanStepAt, HasNoLoopsAt};
 ghost use Rattle.route_choice.specs.Resources.{AreLive};
 ghost use Rattle.route_choice.specs.Routings.{routing_of};
 ghost use Rattle.route_choice.specs.Tables.{joined, seed_at};
 ghost use Rattle.route_choice.specs.Visits.{IsVisit};
 
-use crate::looks::{held_near, place_at};
+use crate::looks::{place_at, slot_near};
 use crate::settling::put_longer;
+use crate::slot::{Slot, asn_or_none};
 use crate::{Held, Overlay, PlacedAs, PrefixWorld, Steps};
 use as_graph::Neighbour;
 use net_names::{Asn, Class};
-use path_pool::{PathPool, paths_are_not_empty};
+use path_pool::{PathId, PathPool, paths_are_not_empty};
 use policy_laws::{OriginStates, RoutePolicy};
 use std::sync::ledger::Ledger;
 
-/// The best provider so far, the length that its path has from the AS itself on, and the place where the provider
-/// was last found, which is a hint.
+/// The best provider so far: its number behind the length of its path as one number, and what it holds. The
+/// number of the attribute Only to Customer is 0 where there is none.
 #[derive(Clone, Copy)]
 pub(crate) struct Lead {
-    pub(crate) length: u32,
-    pub(crate) provider: Asn,
-    pub(crate) place: usize,
+    pub(crate) key: u64,
+    pub(crate) path: PathId,
+    pub(crate) otc: u32,
 }
 
-// Whether a lead comes before another one.
-#[inline(always)]
-fn is_ahead(new: &Lead, old: &Lead) -> bool
-    ensures { result ≡ is_lt (slice_cmp nat_cmp (lead_key new.now) (lead_key old.now)) }
-{
-    (new.length, new.provider) < (old.length, old.provider)
-}
+// The key where there is no provider.
+pub(crate) const NOBODY: u64 = 18_446_744_073_709_551_615;
 
-// The better one of two leads that may be missing.
+// The lead of nobody.
 #[inline(always)]
-fn better(old: Option<Lead>, new: Option<Lead>) -> Option<Lead>
-    ensures { result ≡ better_lead old new }
+fn nobody() -> Lead
+    ensures { result.key ≡ NOBODY }
 {
-    match old {
-        Some(had) => match new {
-            Some(other) => Some(if is_ahead(&other, &had) { other } else { had }),
-            None => Some(had),
-        },
-        None => new,
+    Lead {
+        key: NOBODY,
+        path: PathId(0),
+        otc: 0,
     }
+}
+
+// The better one of two leads.
+#[inline(always)]
+fn better(old: Lead, new: Lead) -> Lead
+    ensures new { new.key < old.key → result ≡ new }
+    ensures old { old.key ≤ new.key → result ≡ old }
+{
+    if new.key < old.key { new } else { old }
 }
 
 // The lead that a provider is, if it holds something. It is sought first at the place.
@@ -63,20 +64,25 @@ fn lead_of<P, V>(
     overlay: &Overlay,
     provider: Asn,
     place: usize,
-) -> Option<Lead>
+) -> Lead
     requires { AreLive pool.now at.now.table.now overlay.now }
-    ensures { result ≡ option_map (lead_with pool.now provider place) (joined at.now.table.now overlay.now provider) }
+    ensures { IsLeadWith pool.now provider (joined at.now.table.now overlay.now provider) result }
 {
-    let held = held_near(at.table, overlay, provider, place)?;
-    let length = pool.length(held.path) + 1;
-    Some(Lead {
-        length,
-        provider,
-        place,
-    })
+    match slot_near(at.table, overlay, provider, place) {
+        Slot::Full { path, otc, .. } => {
+            let length = pool.length(path) as u64;
+            let number = provider.get() as u64;
+            Lead {
+                key: length * 4_294_967_296 + number,
+                path,
+                otc,
+            }
+        }
+        Slot::Empty => nobody(),
+    }
 }
 
-// The provider that makes the best offer, if there is an offer, where all that make one are among these
+// The lead of the provider that makes the best offer, or of nobody, where all that make one are among these
 // providers. The places, in the order of the providers, are hints.
 #[inline(always)]
 fn best_provider<P: RoutePolicy, V: OriginStates>(
@@ -86,17 +92,18 @@ fn best_provider<P: RoutePolicy, V: OriginStates>(
     asn: Asn,
     providers: &[Neighbour],
     places: &[u32],
-) -> Option<Lead>
+) -> Lead
     requires own { IsPlain (P.meaning (policy_at at.now.book.now asn)) }
     requires plain { ArePlainProviders (λ n. P.meaning (policy_at at.now.book.now n)) providers.now }
     requires givers { AreGiversAt P.meaning at.now pool.now overlay.now AWhole asn providers.now }
     requires live { AreLive pool.now at.now.table.now overlay.now }
     requires no_loops { HasNoLoopsAt P.meaning at.now pool.now overlay.now AWhole asn }
-    ensures { IsLead (P.meaning (policy_at at.now.book.now asn)) (λ n. offer (setting_at P.meaning V.state_of at.now)
-        (routing_of pool.now at.now.table.now overlay.now) n asn) result }
+    ensures { IsLead (P.meaning (policy_at at.now.book.now asn)) pool.now (joined at.now.table.now overlay.now)
+        (λ n. offer (setting_at P.meaning V.state_of at.now) (routing_of pool.now at.now.table.now overlay.now) n asn)
+        result }
 {
     paths_are_not_empty(pool);
-    let mut lead = None;
+    let mut lead = nobody();
     for (index, provider) in providers.iter().enumerate() {
         let place = place_at(places, index);
         lead = better(lead, lead_of(at, pool, overlay, provider.asn, place));
@@ -129,16 +136,14 @@ pub fn visit_providers<P: RoutePolicy, V: OriginStates, L: Ledger>(
 {
     steps.tick();
     let PlacedAs { asn, place } = placed;
-    let Some(lead) = best_provider(at, pool, overlay, asn, providers, places) else {
+    let lead = best_provider(at, pool, overlay, asn, providers, places);
+    if lead.key == NOBODY {
         return false;
-    };
-    let Some(given) = held_near(at.table, overlay, lead.provider, lead.place) else {
-        return false;
-    };
+    }
     let longer = Held {
         class: Class::Provider,
-        path: given.path,
-        otc: given.otc,
+        path: lead.path,
+        otc: asn_or_none(lead.otc),
     };
     put_longer(pool, overlay, asn, place, longer);
     true

@@ -43,7 +43,7 @@ impl Slot {
             Slot::Full { class, path, otc } => Some(Held {
                 class,
                 path,
-                otc: Asn::new(otc),
+                otc: asn_or_none(otc),
             }),
             Slot::Empty => None,
         }
@@ -59,4 +59,12 @@ fn number_or_none(asn: Option<Asn>) -> u32
         Some(asn) => asn.get(),
         None => 0,
     }
+}
+
+/// The AS of a number, or none for 0.
+#[inline(always)]
+pub(crate) fn asn_or_none(number: u32) -> Option<Asn>
+    ensures { result ≡ number_in number }
+{
+    Asn::new(number)
 }

@@ -163,6 +163,17 @@ impl Slots {
         }
     }
 
+    /// The slot of the row at a place, if it is that of the AS.
+    #[inline(always)]
+    pub(crate) fn row_near(&self, asn: Asn, place: usize) -> Option<Slot>
+        ensures { IfSome result (λ s. slot_at self.now asn ≡ Some (entry_in s)) }
+    {
+        match self.rows.get(place) {
+            Some(row) if row.asn == asn => Some(row.slot),
+            _ => None,
+        }
+    }
+
     /// Puts an entry, or none, at an AS, sought first at a place. Returns what stood there.
     #[inline(always)]
     pub(crate) fn exchange_near(

@@ -13,7 +13,6 @@ use Rattle.stability_laws.proofs.BestViews.{among_more}
 use Rattle.route_choice.specs.declared.choice.Part.TheVariants.{Whole}
 use Rattle.route_choice.specs.PrefixWorlds.{setting_at}
 use Rattle.route_choice.specs.declared.held.Held.{Held}
-use Rattle.route_choice.specs.Leads.{IsSeenAs, better_lead, lead_with}
 use Rattle.route_choice.specs.Routings.{entry_of, routing_of}
 use Rattle.route_choice.specs.Tables.{joined}
 use Rattle.route_choice.proofs.BestOffers.{best_of_givers, best_with}
@@ -21,7 +20,7 @@ use Rattle.route_choice.proofs.Leads.{lead_seen, leads_weighed}
 use Rattle.route_choice.proofs.plain.best_provider.Goals as goal
 
 pub loop-index-init : goal.loop-index-init
-loop-index-init g c = (None, ((λ n is. (let e : false ≡ true = is in cc)), tt))
+loop-index-init g c = (None, ((λ n is. (let e : false ≡ true = is in cc)), c.nobody-lead.ensures))
 
 pub loop-index-preserved : goal.loop-index-preserved
 loop-index-preserved g c =
@@ -46,8 +45,8 @@ loop-index-preserved g c =
             x.asn (asns (take i xs)) (asns (take (i + 1) xs))
             (λ m is. subst (λ t. (t.asn ≡ m) ⊎ (occurs m (asns (take i xs)) ≡ true)) (sym c.index-providers-index.is) (among_more xs i m x c.loop-index-test.true is))
             v best,
-        subst (λ l. IsSeenAs l (better_of (here.policy a) v new)) (sym (c.better-lead.ensures ∙ ap (better_lead c.loop-index.lead) c.lead_of.ensures))
-            (leads_weighed (here.policy a) c.requires.own c.loop-index.lead (option_map (lead_with c.args.pool.now x.asn c.place_at-place.result) (held x.asn)) v new seen (lead_seen here c.args.pool.now held a x.asn c.place_at-place.result c.requires.own plain.1 linked fits)),
+        leads_weighed (here.policy a) c.requires.own c.args.pool.now held c.loop-index.lead c.lead_of.result c.better-lead.result v new c.better-lead.ensures.new c.better-lead.ensures.old seen
+            (lead_seen here c.args.pool.now held a x.asn c.lead_of.result c.requires.own plain.1 linked fits c.lead_of.ensures),
       ),
     )
 
