@@ -37,7 +37,8 @@ module _ (old new : FirstMap) (line : ℕ) (text : List ℕ) where
   judged next (Err (fault.Conflict n m)) h = rw h refl
   judged next (Err (fault.TooManyLinks n)) h = rw h refl
 
-unless_memory : (f : Option RelError) (P Q : Type 0) → (P → Q) → UnlessMemory f P → UnlessMemory f Q
+-- what follows from a fact holds too, unless memory ran out
+pub unless_memory : (f : Option RelError) (P Q : Type 0) → (P → Q) → UnlessMemory f P → UnlessMemory f Q
 unless_memory None P Q h p = h p
 unless_memory (Some fault.Memory) P Q h p = tt
 unless_memory (Some (fault.Unreadable n)) P Q h p = h p

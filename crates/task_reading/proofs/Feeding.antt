@@ -5,9 +5,10 @@ use Rattle.std.proofs.KnownBytes.{Consumes-trans}
 use Rattle.net_names.specs.Links.{LinkMap}
 use Rattle.caida_reader.specs.Value.{links_of}
 use Rattle.caida_reader.specs.Progress.{Progress, outcome, UnlessMemory, Fails}
-use Rattle.net_names.specs.Steps.{unless as outcome_unless}
+use Rattle.net_names.specs.Steps.{unless}
 use Rattle.caida_reader.specs.declared.errors.RelError.{RelError}
 use Rattle.caida_reader.specs.declared.errors.RelError.TheVariants as rel
+use Rattle.caida_reader.proofs.Reading.{unless_memory}
 use Rattle.scenario_text.specs.Walks.{◌>>=◌}
 use Rattle.task_reading.specs.Files.{IsFaultOf, ReadsTo}
 use Rattle.task_reading.specs.declared.types.File.TheVariants as file
@@ -32,22 +33,14 @@ pub record Fed (held left : Option (List ℕ)) (reader : Progress) (taken : ℕ)
   pub took : Consumes held left bytes
   pub goes_on : UnlessMemory reader.failed ((more : List ℕ) → outcome reader more ≡ links_of (bytes ++ more))
 
-unless : (f : Option RelError) (P Q : Type 0) → (P → Q) → UnlessMemory f P → UnlessMemory f Q
-unless None P Q h p = h p
-unless (Some rel.Memory) P Q h p = tt
-unless (Some (rel.Unreadable n)) P Q h p = h p
-unless (Some (rel.SelfLink n)) P Q h p = h p
-unless (Some (rel.Conflict n m)) P Q h p = h p
-unless (Some (rel.TooManyLinks n)) P Q h p = h p
-
 -- two facts, the second of which holds unless memory ran out before
 unless_both : (f before : Option RelError) (P Q R : Type 0) → (before ≡ Some rel.Memory → f ≡ Some rel.Memory) → (P → Q → R) → UnlessMemory f P → UnlessMemory before Q → UnlessMemory f R
-unless_both f None P Q R stays h p q = unless f P R (λ x. h x q) p
+unless_both f None P Q R stays h p q = unless_memory f P R (λ x. h x q) p
 unless_both f (Some rel.Memory) P Q R stays h p q = rw (stays refl) tt
-unless_both f (Some (rel.Unreadable n)) P Q R stays h p q = unless f P R (λ x. h x q) p
-unless_both f (Some (rel.SelfLink n)) P Q R stays h p q = unless f P R (λ x. h x q) p
-unless_both f (Some (rel.Conflict n m)) P Q R stays h p q = unless f P R (λ x. h x q) p
-unless_both f (Some (rel.TooManyLinks n)) P Q R stays h p q = unless f P R (λ x. h x q) p
+unless_both f (Some (rel.Unreadable n)) P Q R stays h p q = unless_memory f P R (λ x. h x q) p
+unless_both f (Some (rel.SelfLink n)) P Q R stays h p q = unless_memory f P R (λ x. h x q) p
+unless_both f (Some (rel.Conflict n m)) P Q R stays h p q = unless_memory f P R (λ x. h x q) p
+unless_both f (Some (rel.TooManyLinks n)) P Q R stays h p q = unless_memory f P R (λ x. h x q) p
 
 stays_failed : {T : Type 0} (result : Result T RelError) (old new : Progress) → IfSome old.failed (λ e. (result ≡ Err e) × (new ≡ old)) → old.failed ≡ Some rel.Memory → new.failed ≡ Some rel.Memory
 stays_failed result old new h is =
@@ -73,11 +66,11 @@ whole_bytes None left bytes h e = tt
 whole_bytes (Some x) None bytes h e = absurd h
 whole_bytes (Some x) (Some y) bytes h e = sym (h ∙ ap (λ l. bytes ++ l) e ∙ append-nil bytes)
 
-known_ok : (f : Option RelError) (rest value : Result LinkMap RelError) (links : LinkMap) → UnlessMemory f (outcome_unless f rest ≡ value) → outcome_unless f rest ≡ Ok links → value ≡ Ok links
+known_ok : (f : Option RelError) (rest value : Result LinkMap RelError) (links : LinkMap) → UnlessMemory f (unless f rest ≡ value) → unless f rest ≡ Ok links → value ≡ Ok links
 known_ok None rest value links h is = sym h ∙ is
 known_ok (Some e) rest value links h is = cc
 
-known_err : (f : Option RelError) (e : RelError) (rest value : Result LinkMap RelError) → UnlessMemory f (outcome_unless f rest ≡ value) → Fails e (outcome_unless f rest) → Fails e value
+known_err : (f : Option RelError) (e : RelError) (rest value : Result LinkMap RelError) → UnlessMemory f (unless f rest ≡ value) → Fails e (unless f rest) → Fails e value
 known_err None e rest value h is = subst (Fails e) h is
 known_err (Some rel.Memory) rel.Memory rest value h is = tt
 known_err (Some rel.Memory) (rel.Unreadable n) rest value h is = cc
@@ -90,7 +83,7 @@ known_err (Some (rel.Conflict n m)) e rest value h is = subst (Fails e) h is
 known_err (Some (rel.TooManyLinks n)) e rest value h is = subst (Fails e) h is
 
 at_end : (p : Progress) (bytes : List ℕ) → UnlessMemory p.failed ((more : List ℕ) → outcome p more ≡ links_of (bytes ++ more)) → UnlessMemory p.failed (outcome p [] ≡ links_of bytes)
-at_end p bytes h = unless p.failed _ _ (λ on. on [] ∙ ap links_of (append-nil bytes)) h
+at_end p bytes h = unless_memory p.failed _ _ (λ on. on [] ∙ ap links_of (append-nil bytes)) h
 
 taken_long : (held left : Option (List ℕ)) (bytes : List ℕ) (fails : Type 0) → Consumes held left bytes → 268435456 < length bytes → ReadsTo held fails (λ (links : LinkMap). links) (Err (error.Fault (fault.InFile file.Relations (cause.TooLong 268435456)))) (λ reads. relations (reads file.Relations))
 taken_long None left bytes fails took many = record { read = Some bytes; is_read = tt; finds = long_links bytes many }
