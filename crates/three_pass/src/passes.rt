@@ -145,6 +145,7 @@ fn step_up<P: RoutePolicy, V: OriginStates, L: Ledger>(
 }
 
 // Customers' routes go up, and who holds one tells its peers and its providers.
+#[inline(never)]
 pub fn go_up<P: RoutePolicy, V: OriginStates, L: Ledger>(
     at: &PrefixWorld<'_, P, V>,
     pass: &Pass<'_>,
@@ -251,6 +252,7 @@ fn step_down<P: RoutePolicy, V: OriginStates, L: Ledger>(
 }
 
 // Peers' routes go across and providers' routes down, to those that hold nothing yet.
+#[inline(never)]
 pub fn go_down<P: RoutePolicy, V: OriginStates, L: Ledger>(
     at: &PrefixWorld<'_, P, V>,
     pass: &Pass<'_>,

@@ -207,6 +207,7 @@ impl<'a> Told<'a> {
 }
 
 /// Whether an AS, whose entry was last found at a place, holds something.
+#[inline(always)]
 pub fn holds(table: &Table, overlay: &Overlay, asn: Asn, place: usize) -> bool
     ensures { result ≡ is_some (joined table.now overlay.now asn) }
 {
