@@ -92,8 +92,54 @@ fn step<P: RoutePolicy, V: OriginStates, L: Ledger>(
     }
 }
 
+// A step upwards of the AS at a place of the order, which tells its peers and its providers if it holds something
+// then.
+#[inline(never)]
+fn step_and_tell<P: RoutePolicy, V: OriginStates, L: Ledger>(
+    at: &PrefixWorld<'_, P, V>,
+    pass: &Pass<'_>,
+    gathered: &mut Gathered<'_>,
+    pool: &mut PathPool,
+    overlay: &mut Overlay,
+    placed: PlacedAs,
+    steps: &mut Steps<L>,
+) -> bool
+    requires can { CanStep pool.old at.now.seeds.now at.now.table.now overlay.old 1 }
+    requires inside { placed.place < count_of pass.now.course.now.above }
+    requires above { AreProviders (relation at.now.graph.now) placed.asn
+        (list_at pass.now.course.now.above placed.place) }
+    requires true_notes { AreTrue (relation at.now.graph.now) gathered.old.told }
+    requires told { HaveTold (IsTold gathered.old.told) (setting_at P.meaning V.state_of at.now)
+        (routing_of pool.old at.now.table.now overlay.old) placed.asn }
+    requires no_loops { is_among pass.now.named placed.asn ≡ false →
+        HasNoLoopsAt P.meaning at.now pool.old overlay.old Part.Up placed.asn }
+    ensures cost { steps.new ≡ steps.old + 1 }
+    ensures visit { IsVisit Part.Up (setting_at P.meaning V.state_of at.now) at.now.seeds.now at.now.table.now
+        pool.old pool.new overlay.old overlay.new placed.asn result }
+    ensures around { routing_of pool.new at.now.table.now overlay.new placed.asn ≢ None → (n : ℕ) (r : ARel) →
+        relation at.now.graph.now placed.asn n ≡ Some r → r ≢ Customer → IsTold gathered.new.told n placed.asn }
+    ensures others { (a b : ℕ) → IsTold gathered.old.told a b → IsTold gathered.new.told a b }
+    ensures true_notes { AreTrue (relation at.now.graph.now) gathered.new.told }
+{
+    let PlacedAs { asn, place } = placed;
+    let may_loop = pass.named.has(asn);
+    let turn = Turn {
+        asn,
+        place,
+        may_loop,
+        part: Part::Up,
+    };
+    let taken = step(at, pass.course, gathered, pool, overlay, turn, steps);
+    let row = place_at(&pass.course.order.places, place) as usize;
+    gathered
+        .told
+        .add_holder(at.graph, asn, row, place, at.table, overlay);
+    taken
+}
+
 // The step upwards of the AS at a place of the order, which tells its peers and its providers if it holds
 // something then. Who has no seed, and was told nothing, takes none.
+#[inline(always)]
 fn step_up<P: RoutePolicy, V: OriginStates, L: Ledger>(
     at: &PrefixWorld<'_, P, V>,
     pass: &Pass<'_>,
@@ -126,22 +172,10 @@ fn step_up<P: RoutePolicy, V: OriginStates, L: Ledger>(
     ensures spent { HasSpent pool.old pool.new at.now.seeds.now at.now.table.now overlay.old overlay.new
         pass.now.course.now.order.ases.items }
 {
-    let PlacedAs { asn, place } = placed;
-    if has_none_to_take(&gathered.told, &pass.named, asn, place) {
+    if has_none_to_take(&gathered.told, &pass.named, placed.asn, placed.place) {
         return;
     }
-    let may_loop = pass.named.has(asn);
-    let turn = Turn {
-        asn,
-        place,
-        may_loop,
-        part: Part::Up,
-    };
-    step(at, pass.course, gathered, pool, overlay, turn, steps);
-    let row = place_at(&pass.course.order.places, place) as usize;
-    gathered
-        .told
-        .add_holder(at.graph, asn, row, place, at.table, overlay);
+    step_and_tell(at, pass, gathered, pool, overlay, placed, steps);
 }
 
 // Customers' routes go up, and who holds one tells its peers and its providers.
