@@ -99,8 +99,8 @@ fn reserve_cell(pool: &mut PathPool) -> Result<(), NoMemory>
     }
 }
 
-// Makes room for one more entry. All ASes hold what they held.
-fn make_room(pool: &mut PathPool, overlay: &mut Overlay) -> Result<(), NoMemory>
+// Makes room for one more entry, which is mostly at an AS of the table. All ASes hold what they held.
+fn make_room(below: &Table, pool: &mut PathPool, overlay: &mut Overlay) -> Result<(), NoMemory>
     ensures can { OnOk result ((seeds : TheSeeds) (table : ATable) → CanTurn pool.old seeds table overlay.old →
         CanStep pool.new seeds table overlay.new 1) }
     ensures same { (table : ATable) → AreHeld pool.old table overlay.old →
@@ -109,7 +109,7 @@ fn make_room(pool: &mut PathPool, overlay: &mut Overlay) -> Result<(), NoMemory>
     ensures kept { (seeds : TheSeeds) → AreSeedsLive pool.old seeds →
         IsKept pool.old pool.new seeds overlay.old overlay.new }
 {
-    overlay.room(1)?;
+    overlay.room_over(below, 1)?;
     reserve_cell(pool)?;
     Ok(())
 }
@@ -136,7 +136,7 @@ fn take_away(
     let Some(_) = before else {
         return Ok(false);
     };
-    overlay.room(1)?;
+    overlay.room_over(table, 1)?;
     let _ = overlay.exchange_near(asn, place, None);
     Ok(true)
 }
@@ -168,7 +168,7 @@ pub(crate) fn give_chosen<P: RoutePolicy, V>(
     match chosen.choice {
         Choice::Nothing => take_away(at.table, overlay, asn, place, before),
         Choice::Seed | Choice::Via { .. } => {
-            make_room(pool, overlay)?;
+            make_room(at.table, pool, overlay)?;
             Ok(settle_near(at, pool, overlay, asn, place, chosen))
         }
     }

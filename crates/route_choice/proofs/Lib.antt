@@ -8,6 +8,7 @@ pub mod Unread
 pub mod Room
 pub mod RoundLemmas
 pub mod RowLemmas
+pub mod DenseLemmas
 pub mod Filling
 pub mod Counted
 pub mod Leads

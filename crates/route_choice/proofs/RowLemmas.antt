@@ -218,6 +218,11 @@ module _ (ases : List ℕ) {rows : List Row} {es : List (ℕ × Option Held)} (e
     room = room;
   }
 
+-- nothing is there at first
+pub none_kept : {rows : List Row} {es : List (ℕ × Option Held)} → rows ≡ [] → es ≡ [] → AreByPlace [] rows es
+unfolding IsDistinct
+none_kept empty none = blank_kept [] empty none tt
+
 -- where what stands beside is as before at an AS, so is what stands there in all
 pub put_others : (rows : List Row) (es after : List (ℕ × Option Held)) (a : ℕ) → lookup (nat_eq a) after ≡ lookup (nat_eq a) es → lookup (nat_eq a) (entries_of rows ++ after) ≡ lookup (nat_eq a) (entries_of rows ++ es)
 put_others [] es after a same = same

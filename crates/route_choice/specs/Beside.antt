@@ -1,24 +1,25 @@
 -- Entries of ASes that have no place.
-use Rattle.std.specs.Prelude.{ℕ, ◌+◌, List, [], ◌∷◌, ◌++◌, Option, None, Some}
-use Rattle.indexmap.specs.IndexMap.{spare}
+use Rattle.std.specs.Prelude.{ℕ, List, Option, None, Some, Box}
+use Rattle.std.specs.Global.{Global}
 use Rattle.route_choice.specs.declared.held.Held.{Held}
-use Rattle.route_choice.specs.declared.first.First.{First}
-use Rattle.route_choice.specs.declared.first.Beside.{Beside}
+use Rattle.route_choice.specs.declared.beside.Beside.{Beside}
+use Rattle.route_choice.specs.Few.{few_entries, few_spare}
+use Rattle.route_choice.specs.Slots.{Slots}
 
--- The AS that came first with its entry, if there is one.
-abbrev pub first_in : Option First → List (ℕ × Option Held)
-first_in None = []
-first_in (Some f) = (f.asn, f.entry) ∷ []
+-- The entries of many, or without those the entries of a few.
+abbrev pub entries_or : List (ℕ × Option Held) → Option (Box Slots Global) → List (ℕ × Option Held)
+entries_or few None = few
+entries_or few (Some many) = many.value.entries
 
--- 1 where no AS has come yet, else 0.
-abbrev pub room_for : Option First → ℕ
-room_for None = 1
-room_for (Some f) = 0
+-- The room of many, or without those the room of a few.
+abbrev pub spare_or : ℕ → Option (Box Slots Global) → ℕ
+spare_or few None = few
+spare_or few (Some many) = many.value.spare
 
 -- The ASes with their entries, in the order in which they came.
 abbrev pub beside_entries : Beside → List (ℕ × Option Held)
-beside_entries b = first_in b.first ++ b.others.entries
+beside_entries b = entries_or (few_entries b.few) b.many
 
 -- For how many more ASes there is room.
 abbrev pub beside_spare : Beside → ℕ
-beside_spare b = room_for b.first + spare b.others
+beside_spare b = spare_or (few_spare b.few) b.many

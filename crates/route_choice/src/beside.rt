@@ -1,79 +1,70 @@
-//! How entries beside are read and put.
+//! Entries of ASes that have no place: of a few, or of many.
 
-ghost use Rattle.std.specs.Prelude.{◌≡◌, ◌≢◌, ◌⊎◌, ℕ, ◌+◌, ◌^◌, ◌<◌, ◌≤◌, [], ◌∷◌, ◌++◌, length, slice_get, Some, None, IsSome, IsOk, IfOk, OnOk, nat_eq, unwrap_or};
+ghost use Rattle.std.specs.Prelude.{◌≡◌, ◌≢◌, ◌⊎◌, ℕ, ◌+◌, ◌^◌, ◌<◌, ◌≤◌, [], ◌∷◌, ◌++◌, length, slice_get, Some, None, IsSome, IsOk, IfOk, IfSome, OnOk, nat_eq, unwrap_or};
 ghost use Rattle.std.specs.Map.{keys_of, lookup};
-ghost use Rattle.indexmap.specs.IndexMap.{get, keys, spare};
 ghost use Rattle.route_choice.specs.Slots.{use_of, uses_in};
-ghost use Rattle.route_choice.specs.Beside.{beside_entries, beside_spare, room_for};
+ghost use Rattle.route_choice.specs.Few.{few_entries};
+ghost use Rattle.route_choice.specs.Beside.{beside_entries, beside_spare};
 
 use crate::Held;
-use crate::first::{Beside, First};
-use indexmap::IndexMap;
+use crate::dense::Dense;
+use crate::first::Few;
+use as_places::AsPlaces;
 use net_names::{Asn, NoMemory};
 use std::alloc::Global;
+use std::rc::Rc;
 
-// What stands at an AS, by its hash.
+/// Few ASes are less than one in so many of a list.
+const SHARE: usize = 64;
+
+/// Entries, or none, at ASes that have no place. Once there are many, they are found through a list of ASes.
+#[derive(Drop)]
+pub(crate) struct Beside {
+    pub alloc: Global,
+    pub few: Few,
+    pub many: Option<Box<Dense>>,
+}
+
+// Entries of many ASes, which begin with those of a few.
+fn begun(alloc: Global, list: &Rc<AsPlaces>, few: &Few, n: usize) -> Result<Dense, NoMemory>
+    ensures entries { IfOk result (λ d. d.entries ≡ few_entries few.now) }
+    ensures room { IfOk result (λ d. n ≤ d.spare) }
+{
+    let mut dense = Dense::new(alloc, list)?;
+    for index in 0..few.len() {
+        let Some(pair) = few.at(index) else {
+            unreachable!();
+        };
+        dense.reserve(1)?;
+        match dense.get(pair.0, 0) {
+            None => dense.push(pair.0, 0, pair.1),
+            Some(_) => return Err(NoMemory),
+        }
+    }
+    dense.reserve(n)?;
+    Ok(dense)
+}
+
+// Entries of many ASes, where a few have become many of a list, and there is memory. Who has them among its
+// locals clears them at each call, so that they have a function of their own.
+#[cold]
 #[inline(never)]
-fn look_up(slots: &IndexMap<Asn, Option<Held>>, asn: Asn) -> Option<Option<Held>>
-    ensures { result ≡ get nat_eq slots.now asn }
+fn many_of(alloc: Global, list: &Option<Rc<AsPlaces>>, few: &Few, n: usize) -> Option<Box<Dense>>
+    ensures entries { IfSome result (λ d. d.value.entries ≡ few_entries few.now) }
+    ensures room { IfSome result (λ d. n ≤ d.value.spare) }
 {
-    slots.get(&asn).copied()
-}
-
-// Puts an entry, or none, at an AS. Returns what stood there.
-fn exchange_in(
-    slots: &mut IndexMap<Asn, Option<Held>>,
-    asn: Asn,
-    entry: Option<Held>,
-) -> Option<Held>
-    requires { IsSome (get nat_eq slots.old asn) ⊎ (0 < spare slots.old) }
-    ensures old { result ≡ unwrap_or (get nat_eq slots.old asn) None }
-    ensures this { get nat_eq slots.new asn ≡ Some entry }
-    ensures others { (a : ℕ) → a ≢ asn → get nat_eq slots.new a ≡ get nat_eq slots.old a }
-    ensures uses { (k : ℕ) → uses_in slots.new.entries k + use_of k result
-        ≡ uses_in slots.old.entries k + use_of k entry }
-    ensures spare { spare slots.old ≤ spare slots.new + 1 }
-    ensures kept { IsSome (get nat_eq slots.old asn) → keys slots.new ≡ keys slots.old }
-    ensures kept_spare { IsSome (get nat_eq slots.old asn) → spare slots.new ≡ spare slots.old }
-    ensures new_place { get nat_eq slots.old asn ≡ None → keys slots.new ≡ keys slots.old ++ asn ∷ [] }
-{
-    match slots.get_mut(&asn) {
-        Some(place) => {
-            let old = *place;
-            *place = entry;
-            old
-        }
-        None => {
-            add(slots, asn, entry);
-            None
-        }
+    let Some(ases) = list else {
+        return None;
+    };
+    if few.len() < ases.len() / SHARE {
+        return None;
     }
-}
-
-// Puts an entry, or none, at an AS at which there is nothing yet.
-fn add(slots: &mut IndexMap<Asn, Option<Held>>, asn: Asn, entry: Option<Held>)
-    requires absent { get nat_eq slots.old asn ≡ None }
-    requires room { 0 < spare slots.old }
-    ensures this { get nat_eq slots.new asn ≡ Some entry }
-    ensures others { (a : ℕ) → a ≢ asn → get nat_eq slots.new a ≡ get nat_eq slots.old a }
-    ensures uses { (k : ℕ) → uses_in slots.new.entries k ≡ uses_in slots.old.entries k + use_of k entry }
-    ensures spare { spare slots.old ≤ spare slots.new + 1 }
-    ensures new_place { keys slots.new ≡ keys slots.old ++ asn ∷ [] }
-{
-    match slots.insert(asn, entry) {
-        Ok(_) => {}
-        Err(_) => unreachable!(),
-    }
-}
-
-// How many of so many more ASes the hash table needs room for.
-fn left_for(first: &Option<First>, n: usize) -> usize
-    ensures enough { n ≤ result + room_for first.now }
-    ensures least { (m : ℕ) → n ≤ m + room_for first.now → result ≤ m }
-{
-    match first {
-        Some(_) => n,
-        None => n.saturating_sub(1),
+    match begun(alloc, ases, few, n) {
+        Ok(dense) => match Box::new(alloc, dense) {
+            Ok(many) => Some(many),
+            Err(_) => None,
+        },
+        Err(_) => None,
     }
 }
 
@@ -83,8 +74,9 @@ impl Beside {
         ensures { beside_entries result ≡ [] }
     {
         Beside {
-            first: None,
-            others: IndexMap::new(alloc),
+            alloc,
+            few: Few::new(alloc),
+            many: None,
         }
     }
 
@@ -93,9 +85,13 @@ impl Beside {
         ensures none { IfOk result (λ b. beside_entries b ≡ []) }
         ensures room { IfOk result (λ b. n ≤ beside_spare b) }
     {
-        let mut beside = Beside::new(alloc);
-        beside.room(n)?;
-        Ok(beside)
+        let mut few = Few::new(alloc);
+        few.room(n)?;
+        Ok(Beside {
+            alloc,
+            few,
+            many: None,
+        })
     }
 
     /// How many ASes there are.
@@ -103,59 +99,78 @@ impl Beside {
         ensures len { result ≡ length (beside_entries self.now) }
         ensures small { result ≤ 2 ^ 63 }
     {
-        match self.first {
-            Some(_) => self.others.len() + 1,
-            None => 0,
+        match &self.many {
+            Some(many) => many.len(),
+            None => self.few.len(),
         }
     }
 
-    /// Makes room for `n` more ASes. The entries stay, also after a refusal.
-    pub fn room(&mut self, n: usize) -> Result<(), NoMemory>
+    // Makes room for `n` more ASes, where it may be wanting.
+    #[inline(never)]
+    fn more_room(&mut self, list: &Option<Rc<AsPlaces>>, n: usize) -> Result<(), NoMemory>
         ensures room { OnOk result (n ≤ beside_spare self.new) }
         ensures more { beside_spare self.old ≤ beside_spare self.new }
         ensures succeeds { n ≤ beside_spare self.old → IsOk result }
         ensures same { beside_entries self.new ≡ beside_entries self.old }
     {
-        let left = left_for(&self.first, n);
-        self.others.reserve(left)?;
-        Ok(())
+        if let Some(many) = &mut self.many {
+            return many.reserve(n);
+        }
+        if self.few.has_room(n) {
+            return Ok(());
+        }
+        match many_of(self.alloc, list, &self.few, n) {
+            Some(many) => {
+                self.many = Some(many);
+                self.few = Few::new(self.alloc);
+                Ok(())
+            }
+            None => self.few.room(n),
+        }
+    }
+
+    /// Makes room for `n` more ASes. The entries stay, also after a refusal. Where they become many of a list,
+    /// they are found through it from then on.
+    #[inline(always)]
+    pub fn room(&mut self, list: &Option<Rc<AsPlaces>>, n: usize) -> Result<(), NoMemory>
+        ensures room { OnOk result (n ≤ beside_spare self.new) }
+        ensures more { beside_spare self.old ≤ beside_spare self.new }
+        ensures succeeds { n ≤ beside_spare self.old → IsOk result }
+        ensures same { beside_entries self.new ≡ beside_entries self.old }
+    {
+        match self.many {
+            None if self.few.has_room(n) => Ok(()),
+            _ => self.more_room(list, n),
+        }
     }
 
     /// The AS at an index, and what stands at it.
+    #[inline(always)]
     pub fn at(&self, index: usize) -> Option<(Asn, Option<Held>)>
         ensures { result ≡ slice_get (beside_entries self.now) index }
     {
-        let Some(first) = self.first else {
-            return None;
-        };
-        if index == 0 {
-            return Some((first.asn, first.entry));
-        }
-        match self.others.get_index(index - 1) {
-            Some((asn, entry)) => Some((*asn, *entry)),
-            None => None,
+        match &self.many {
+            Some(many) => many.pair_at(index),
+            None => self.few.at(index),
         }
     }
 
-    /// What stands at an AS.
+    /// What stands at an AS, sought first at a place.
     #[inline(always)]
-    pub fn get(&self, asn: Asn) -> Option<Option<Held>>
+    pub fn get(&self, asn: Asn, near: usize) -> Option<Option<Held>>
         ensures { result ≡ lookup (nat_eq asn) (beside_entries self.now) }
     {
-        let Some(first) = self.first else {
-            return None;
-        };
-        if first.asn == asn {
-            return Some(first.entry);
+        match &self.many {
+            Some(many) => many.get(asn, near),
+            None => self.few.get(asn),
         }
-        look_up(&self.others, asn)
     }
 
-    /// Where the AS that came first may stand in a table. It is a hint.
-    pub fn near(&self) -> usize {
-        match self.first {
-            Some(first) => first.near,
-            None => 0,
+    /// Where the AS at an index may stand in a table. It is a hint.
+    pub fn near(&self, index: usize) -> usize {
+        match &self.many {
+            Some(many) => many.hint(index),
+            None => self.few.near(),
         }
     }
 
@@ -178,16 +193,12 @@ impl Beside {
         ensures new_place { lookup (nat_eq asn) (beside_entries self.old) ≡ None →
             keys_of (beside_entries self.new) ≡ keys_of (beside_entries self.old) ++ asn ∷ [] }
     {
-        let Some(first) = self.first else {
-            self.first = Some(First { asn, entry, near });
-            return None;
-        };
-        if first.asn == asn {
-            self.first = Some(First { asn, entry, near });
-            return first.entry;
+        if let Some(many) = &mut self.many {
+            return many.put(asn, near, entry);
         }
-        exchange_in(&mut self.others, asn, entry)
+        self.few.put_in(asn, near, entry)
     }
+
     /// Takes the entry at an AS away, which may stand at that place in a table. An AS that is there stays,
     /// without an entry.
     #[inline(never)]
@@ -203,7 +214,7 @@ impl Beside {
         ensures keys { keys_of (beside_entries self.new) ≡ keys_of (beside_entries self.old) }
         ensures spare { beside_spare self.new ≡ beside_spare self.old }
     {
-        match self.get(asn) {
+        match self.get(asn, near) {
             Some(Some(held)) => {
                 let _held = self.exchange(asn, near, None);
                 Some(held)

@@ -1,4 +1,4 @@
-//! Entries of ASes that have no place: of the one that came first, and of the others.
+//! Entries of a few ASes: of the one that came first, and of the others.
 
 ghost use Rattle.std.specs.Prelude.{◌≡◌, [], None};
 
@@ -14,10 +14,10 @@ pub(crate) struct First {
     pub near: usize,
 }
 
-/// Entries, or none, at ASes that have no place. The AS that came first stands by itself and takes no
-/// memory. The others stand in a hash table.
+/// Entries, or none, at a few ASes. The AS that came first stands by itself and takes no memory. The
+/// others stand in a hash table.
 #[derive(Drop)]
-pub(crate) struct Beside {
+pub(crate) struct Few {
     pub first: Option<First>,
     pub others: IndexMap<Asn, Option<Held>>,
     pub ghost after: { first ≡ None → others.entries ≡ [] },

@@ -14,6 +14,8 @@ mod best;
 mod choice;
 mod choosing;
 mod counts;
+mod dense;
+mod few;
 mod first;
 mod held;
 mod looks;

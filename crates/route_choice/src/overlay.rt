@@ -4,8 +4,8 @@ ghost use Rattle.std.specs.Prelude.{◌≡◌, ◌≢◌, ℕ, ◌+◌, ◌<◌,
 ghost use Rattle.std.specs.List.{IsDistinct};
 ghost use Rattle.net_names.specs.Prelude.{occurs};
 
-use crate::Held;
 use crate::slots::{Slots, let_all_go};
+use crate::{Held, Table};
 use as_places::AsPlaces;
 use net_names::{Asn, NoMemory};
 use path_pool::PathPool;
@@ -59,6 +59,18 @@ impl Overlay {
         ensures uses { (k : ℕ) → overlay_uses self.new k ≡ overlay_uses self.old k }
     {
         self.changes.room(n)
+    }
+
+    /// Makes room for `n` more ASes, as `room` does it, for changes of this table.
+    pub fn room_over(&mut self, table: &Table, n: usize) -> Result<(), NoMemory>
+        ensures room { OnOk result (n ≤ overlay_spare self.new) }
+        ensures more { overlay_spare self.old ≤ overlay_spare self.new }
+        ensures succeeds { n ≤ overlay_spare self.old → IsOk result }
+        ensures same { (a : ℕ) → change_at self.new a ≡ change_at self.old a }
+        ensures places { places_of self.new ≡ places_of self.old }
+        ensures uses { (k : ℕ) → overlay_uses self.new k ≡ overlay_uses self.old k }
+    {
+        self.changes.room_over(table.slots(), n)
     }
 
     /// The change at an AS, if there is one: a new entry, or none.

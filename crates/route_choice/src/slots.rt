@@ -11,7 +11,7 @@ ghost use Rattle.route_choice.specs.Rows.{asns_of, entries_of, entry_in, placed_
 ghost use Rattle.std.specs.Rc.{rc_value};
 
 use crate::Held;
-use crate::first::Beside;
+use crate::beside::Beside;
 use crate::looks::place_at;
 use crate::row::{Row, rows_of};
 use crate::slot::Slot;
@@ -138,10 +138,22 @@ impl Slots {
         ensures succeeds { n ≤ self.old.spare → IsOk result }
         ensures same { self.new.entries ≡ self.old.entries }
     {
-        self.beside.room(n)
+        self.beside.room(&self.ases, n)
+    }
+
+    /// Makes room for `n` more ASes, as `room` does it. They are mostly among those that have places in `below`.
+    #[inline(always)]
+    pub(crate) fn room_over(&mut self, below: &Slots, n: usize) -> Result<(), NoMemory>
+        ensures room { OnOk result (n ≤ self.new.spare) }
+        ensures more { self.old.spare ≤ self.new.spare }
+        ensures succeeds { n ≤ self.old.spare → IsOk result }
+        ensures same { self.new.entries ≡ self.old.entries }
+    {
+        self.beside.room(&below.ases, n)
     }
 
     /// The AS at a place, and what stands at it.
+    #[inline(always)]
     pub(crate) fn at(&self, place: usize) -> Option<(Asn, Option<Held>)>
         ensures entry { result ≡ slice_get self.now.entries place }
         ensures value { IfSome result (λ e. slot_at self.now e.0 ≡ Some e.1) }
@@ -159,7 +171,7 @@ impl Slots {
     {
         match place_among(&self.ases, self.rows.as_slice(), asn, place) {
             Some(found) => Some(self.rows[found].slot.entry()),
-            None => self.beside.get(asn),
+            None => self.beside.get(asn, place),
         }
     }
 
@@ -227,7 +239,7 @@ impl Slots {
         if place < self.rows.len() {
             place
         } else {
-            self.beside.near()
+            self.beside.near(place - self.rows.len())
         }
     }
 }

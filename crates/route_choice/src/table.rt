@@ -59,6 +59,12 @@ impl Table {
         self.prefix
     }
 
+    // The entries.
+    #[inline(always)]
+    pub(crate) fn slots(&self) -> &Slots {
+        &self.slots
+    }
+
     /// What an AS holds, if anything.
     pub fn get(&self, asn: Asn) -> Option<Held>
         ensures { result ≡ held_at self.now asn }

@@ -9,7 +9,7 @@ returns-clause-uses c = λ k.
       arith,
       c.exchange_near.ensures.uses k,
       ap (use_of k) c.exchange_near.ensures.old,
-      ap (λ o. use_of k (unwrap_or o None)) (c.in_ok-room.ensures.same c.args.asn),
+      ap (λ o. use_of k (unwrap_or o None)) (c.in_ok-room_over.ensures.same c.args.asn),
       ap (λ o. use_of k (unwrap_or o None)) (c.requires.fresh c.in-Some.field-0 c.in-Some.is),
-      c.in_ok-room.ensures.uses k,
+      c.in_ok-room_over.ensures.uses k,
     )

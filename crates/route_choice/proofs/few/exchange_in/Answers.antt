@@ -4,7 +4,7 @@ use Rattle.std.specs.Map.{values_of}
 use Rattle.std.proofs.lemmas.Bool.{ne_eqb}
 use Rattle.std.proofs.lemmas.Map.Entries.{sum_by-set_value}
 use Rattle.route_choice.specs.Slots.{use_of}
-use Rattle.route_choice.proofs.beside.exchange_in.Goals as goal
+use Rattle.route_choice.proofs.few.exchange_in.Goals as goal
 
 pub returns-in-Some-clause-others : goal.returns-in-Some-clause-others
 returns-in-Some-clause-others c = λ a ne. ((c.get_mut.follows.holds c.args.entry).3 (search rules)).2 a (ne_eqb c.args.asn a (λ e. ne (sym e)))

@@ -6,7 +6,7 @@ use Rattle.std.specs.List.{sum_by}
 use Rattle.std.specs.Map.{keys_of, values_of}
 use Rattle.indexmap.proofs.CallerLemmas.{insert_entry-new}
 use Rattle.route_choice.specs.Slots.{use_of}
-use Rattle.route_choice.proofs.beside.add.Goals as goal
+use Rattle.route_choice.proofs.few.add.Goals as goal
 
 pub returns-clause-others : goal.returns-clause-others
 returns-clause-others c = λ a ne. c.in-Ok.ensures.updates.2 a (ne_eqb c.args.asn a (λ e. ne (sym e)))

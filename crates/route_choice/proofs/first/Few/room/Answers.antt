@@ -1,6 +1,6 @@
 use Rattle.std.proofs.Common.{◌≡◌, true, false, arith}
 use Rattle.indexmap.specs.IndexMap.{spare}
-use Rattle.route_choice.proofs.first.Beside.room.Goals as goal
+use Rattle.route_choice.proofs.first.Few.room.Goals as goal
 
 pub returns-in_err-reserve-clause-succeeds : goal.returns-in_err-reserve-clause-succeeds
 returns-in_err-reserve-clause-succeeds c = λ fits.
