@@ -4,7 +4,7 @@ use Rattle.std.proofs.lemmas.Bool.{cases_Bool, eq-eqb, eqb-true}
 use Rattle.net_names.specs.declared.routes.Rel.{Rel}
 use Rattle.net_names.specs.declared.routes.Rel.TheVariants.{Customer, Peer, Provider}
 use Rattle.net_names.specs.declared.routes.State.{State}
-use Rattle.net_names.specs.Numbers.{occurs}
+use Rattle.net_names.specs.Numbers.{last_or, occurs}
 use Rattle.net_names.specs.Prefixes.{PrefixValue as Prefix}
 use Rattle.policy_laws.specs.Policy.{Policy}
 use Rattle.as_graph.proofs.Chains.{IsMutual}
@@ -24,7 +24,7 @@ use Rattle.route_choice.specs.Loops.{HasNoLoops}
 use Rattle.route_choice.specs.Naming.{AreNamed}
 use Rattle.route_choice.specs.PrefixWorlds.{setting_at, HasNoLoopsAt}
 use Rattle.route_choice.specs.Routings.{routing_of, seeds_of}
-use Rattle.route_choice.proofs.NoLoops.{up_no_loops, down_no_loops}
+use Rattle.route_choice.proofs.NoLoops.{up_loops, down_loops, no_loops}
 use Rattle.dirty_recompute.specs.declared.queue.Queue.{Queue}
 use Rattle.dirty_recompute.specs.declared.ranked_world.RankedWorld.{RankedWorld}
 use Rattle.dirty_recompute.specs.Laws.{AreLaws}
@@ -35,14 +35,14 @@ use Rattle.dirty_recompute.specs.Steps.{decided_by, IsRightLow}
 use Rattle.dirty_recompute.specs.Work.{HasGoneUp, HasGoneDown}
 
 -- a number that isn't among some that have all on the paths of seeds stands on none
-pub on_no_path : (named : ℕ → Bool) (seeds : ℕ → Option Seed) → AreNamed named seeds → (a : ℕ) → named a ≡ false → IsOnNoPath seeds a
+pub on_no_path : (named : ℕ → ℕ → Bool) (seeds : ℕ → Option Seed) → AreNamed named seeds → (a : ℕ) → ((origin : ℕ) → named a origin ≡ false) → IsOnNoPath seeds a
 on_no_path named seeds are a out b s is = elim (cases_Bool (occurs a s.path)) [
-  | inl there ↦ absurd (true≢false (sym (are b a s is there) ∙ out))
+  | inl there ↦ absurd (true≢false (sym (are b a s is there) ∙ out (last_or 0 s.path)))
   | inr away ↦ away
 ]
 
 -- and all others have all on the paths
-others_named : (seeds : ℕ → Option Seed) (a : ℕ) → IsOnNoPath seeds a → AreNamed (λ x. not (x == a)) seeds
+others_named : (seeds : ℕ → Option Seed) (a : ℕ) → IsOnNoPath seeds a → AreNamed (λ x origin. not (x == a)) seeds
 others_named seeds a off b x s is on = elim (cases_Bool (x == a)) [
   | inl same ↦ absurd (true≢false (sym on ∙ ap (λ t. occurs t s.path) (eqb-true x a same) ∙ off b s is))
   | inr other ↦ ap not other
@@ -67,7 +67,9 @@ module _ (w : Setting) (lawful : (a : ℕ) → IsLawful (w.policy a)) (seeds : �
   module _ (rank : ℕ → ℕ) (falls : (b n : ℕ) → w.relation b n ≡ Some Customer → suc (rank n) ≤ rank b) (a : ℕ) (off : IsOnNoPath seeds a) (queue : ℕ → Bool) where
     -- upwards, one of the lowest that wait
     no_loops_upwards : ((b : ℕ) → queue b ≡ false → IsRightLow w seeds f b) → ((b : ℕ) → queue b ≡ true → rank a ≤ rank b) → HasNoLoops Up w.relation w.policy f a
-    no_loops_upwards right least = up_no_loops w lawful (λ x. not (x == a)) seeds (others_named seeds a off) f rank falls a below (ap not (eq-eqb a a refl))
+    no_loops_upwards right least =
+        no_loops Up w.relation w.policy f a (λ origin. not (a == a)) (up_loops w lawful (λ x origin. not (x == a)) seeds (others_named seeds a off) f rank falls a below)
+        (λ n r e linked looked held exported. ap not (eq-eqb a a refl))
       where
         below : (b : ℕ) (e : Entry) → rank b < rank a → lows f b ≡ Some e → IsRightUp w seeds (lows f) b
         below b e less held = elim (cases_Bool (queue b)) [
@@ -78,7 +80,9 @@ module _ (w : Setting) (lawful : (a : ℕ) → IsLawful (w.policy a)) (seeds : �
     -- downwards, one of the highest that wait, where it holds no Origin and no Customer entry
     no_loops_downwards : IsMutual w.relation → ((b : ℕ) → IsRightLow w seeds f b) → ((b : ℕ) → queue b ≡ false → IsRight w seeds f b) → ((b : ℕ) → queue b ≡ true → rank b ≤ rank a) → low (f a) ≡ None → HasNoLoops Whole w.relation w.policy f a
     no_loops_downwards mutual_links low_right right greatest nothing =
-        down_no_loops w lawful (λ x. not (x == a)) seeds (others_named seeds a off) f mutual_links rank falls (λ b e held. right_up b (low_right b)) a above Whole nothing (ap not (eq-eqb a a refl))
+        no_loops Whole w.relation w.policy f a (λ origin. not (a == a))
+        (down_loops w lawful (λ x origin. not (x == a)) seeds (others_named seeds a off) f mutual_links rank falls (λ b e held. right_up b (low_right b)) a above Whole nothing)
+        (λ n r e linked looked held exported. ap not (eq-eqb a a refl))
       where
         above : (b : ℕ) (e : Entry) → rank a < rank b → f b ≡ Some e → IsRight w seeds f b
         above b e less held = elim (cases_Bool (queue b)) [

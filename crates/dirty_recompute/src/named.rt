@@ -2,7 +2,7 @@
 
 use net_names::Asn;
 use path_pool::PathPool;
-use route_choice::{AsnSet, SeedIds, named_by};
+use route_choice::{NamedSet, SeedIds, named_by};
 use std::alloc::Global;
 
 /// So many ASes ask before the numbers are listed.
@@ -15,8 +15,8 @@ pub(crate) struct Named {
     alloc: Global,
     // How many asked before the numbers were listed.
     asked: usize,
-    // The numbers, once they are listed, or more of them.
-    pub listed: Option<Box<AsnSet>>,
+    // The numbers, once they are listed.
+    pub listed: Option<Box<NamedSet>>,
 }
 
 impl Named {
@@ -45,9 +45,12 @@ impl Named {
         requires all { HasAll self.old (seeds_of pool.now seeds.now) }
         ensures { HasAll self.new (seeds_of pool.now seeds.now) }
     {
-        match Box::new(self.alloc, named_by(self.alloc, seeds, pool)) {
-            Ok(listed) => self.listed = Some(listed),
-            Err(_) => self.asked = 0,
+        self.asked = 0;
+        let Ok(named) = named_by(self.alloc, seeds, pool) else {
+            return;
+        };
+        if let Ok(listed) = Box::new(self.alloc, named) {
+            self.listed = Some(listed);
         }
     }
 

@@ -12,5 +12,5 @@ pub mod DenseLemmas
 pub mod Filling
 pub mod Counted
 pub mod Leads
-pub mod Adding
 pub mod NoLoops
+pub mod Naming

@@ -1,8 +1,8 @@
 -- Lists of AS numbers.
-use Rattle.std.proofs.Common.{◌≡◌, ◌⊎◌, inl, inr, ℕ, zero, suc, ◌<◌, ◌||◌, ◌==◌, true, false, nat_eq, List, [], ◌∷◌, ◌++◌, length, take, slice_index_or, refl, sym, ◌∙◌, ap, arith}
-use Rattle.std.proofs.lemmas.Bool.{or_cases, eqb-true}
+use Rattle.std.proofs.Common.{◌≡◌, ◌⊎◌, inl, inr, ℕ, zero, suc, ◌<◌, ◌||◌, ◌==◌, Bool, true, false, nat_eq, List, [], ◌∷◌, ◌++◌, length, take, slice_index_or, refl, sym, ◌∙◌, ap, arith}
+use Rattle.std.proofs.lemmas.Bool.{or_cases, or_left, or_right, eq-eqb, eqb-true}
 use Rattle.std.proofs.lemmas.List.Folds.{list_any-append}
-use Rattle.std.specs.List.{IsDistinct, AllByRecursion}
+use Rattle.std.specs.List.{list_any, IsDistinct, AllByRecursion}
 use Rattle.net_names.specs.Numbers.{occurs}
 
 -- a list of one differs from a longer one
@@ -25,6 +25,22 @@ apart_at (x ∷ xs) (suc i) d (all, rest) h =
     let b = slice_index_or xs i d in
     let first : (x == b) ≡ false = all_at (λ y. nat_eq x y ≡ false) xs i d all (omega arith) in
     ap (λ t. t || occurs b (take i xs)) first ∙ apart_at xs i d rest (omega arith)
+
+-- where some number of a list passes a test, one that stands in the list does,
+pub found : (test : ℕ → Bool) (xs : List ℕ) → list_any test xs ≡ true → (b : ℕ) × (occurs b xs ≡ true) × (test b ≡ true)
+found test [] is = cc
+found test (x ∷ xs) is = elim (or_cases (test x) (list_any test xs) is) [
+  | inl here ↦ (x, or_left (x == x) (occurs x xs) (eq-eqb x x refl), here)
+  | inr further ↦ (let (b, there, passes) = found test xs further in (b, or_right (x == b) (occurs b xs) there, passes))
+]
+
+-- and the other way round
+pub any_of : (test : ℕ → Bool) (xs : List ℕ) (b : ℕ) → occurs b xs ≡ true → test b ≡ true → list_any test xs ≡ true
+any_of test [] b there passes = cc
+any_of test (x ∷ xs) b there passes = elim (or_cases (x == b) (occurs b xs) there) [
+  | inl same ↦ or_left (test x) (list_any test xs) (ap test (eqb-true x b same) ∙ passes)
+  | inr further ↦ or_right (test x) (list_any test xs) (any_of test xs b further passes)
+]
 
 -- what stands in a list with one more at its end is that one, or stood there before
 pub in_more : (b a : ℕ) (xs ys : List ℕ) → ys ≡ xs ++ a ∷ [] → occurs b ys ≡ true → (a ≡ b) ⊎ (occurs b xs ≡ true)

@@ -1,5 +1,5 @@
 -- The world at one prefix.
-use Rattle.std.specs.Prelude.{◌≡◌, ℕ, false, List, Option}
+use Rattle.std.specs.Prelude.{◌≡◌, ℕ, Bool, false, List, Option}
 use Rattle.net_names.specs.declared.routes.State.{State}
 use Rattle.net_names.specs.Prefixes.{PrefixValue as Prefix}
 use Rattle.as_graph.specs.declared.neighbour.Neighbour.{Neighbour}
@@ -17,7 +17,7 @@ use Rattle.route_choice.specs.declared.prefix_world.PrefixWorld.{PrefixWorld}
 use Rattle.route_choice.specs.declared.turn.Turn.{Turn}
 use Rattle.route_choice.specs.Choices.{named_by}
 use Rattle.route_choice.specs.Givers.{AreGivers}
-use Rattle.route_choice.specs.Loops.{HasNoLoops}
+use Rattle.route_choice.specs.Loops.{HasLoopsFrom, HasNoLoops}
 use Rattle.route_choice.specs.Resources.{CanStep}
 use Rattle.route_choice.specs.Routings.{routing_of, seeds_of}
 use Rattle.route_choice.specs.Tables.{prefix_of}
@@ -38,7 +38,11 @@ AreGiversAt meaning w pool overlay part a xs = AreGivers part (relation w.graph.
 abbrev pub HasNoLoopsAt : {P V : Type 0} → (P → Policy) → PrefixWorld P V → PathPool → Overlay → Part → ℕ → Type 0
 HasNoLoopsAt meaning w pool overlay part a = HasNoLoops part (relation w.graph.now) (λ n. meaning (policy_at w.book.now n)) (routing_of pool w.table.now overlay) a
 
--- that this is so of the AS and the part of a turn, where the turn says so,
+-- that each one with such a path has an origin that passes the test,
+abbrev pub HasLoopsFromAt : {P V : Type 0} → (P → Policy) → PrefixWorld P V → PathPool → Overlay → Part → ℕ → (ℕ → Bool) → Type 0
+HasLoopsFromAt meaning w pool overlay part a test = HasLoopsFrom part (relation w.graph.now) (λ n. meaning (policy_at w.book.now n)) (routing_of pool w.table.now overlay) a test
+
+-- that there is no such path at the AS and the part of a turn, where the turn says so,
 abbrev pub HasNoLoopsIn : {P V : Type 0} → (P → Policy) → PrefixWorld P V → PathPool → Overlay → Turn → Type 0
 HasNoLoopsIn meaning w pool overlay turn = turn.may_loop ≡ false → HasNoLoopsAt meaning w pool overlay turn.part turn.asn
 

@@ -4,8 +4,8 @@
 //! names into the overlay. It takes no memory, and each step is counted. Who makes steps needs only
 //! that they can be made, and learns what each leaves: the routing, the holds and the room.
 //!
-//! An AS that stands on no seed's path (`named_by`) is offered no path through itself when it takes its step in the order
-//! of ranks.
+//! When an AS takes its step in the order of ranks, each path through itself that it is offered ends as a seed's path on
+//! which it stands (`named_by`).
 #![tactic(auto)]
 
 mod asn_set;
@@ -19,8 +19,10 @@ mod few;
 mod first;
 mod held;
 mod looks;
+mod loops;
 mod marks;
 mod named;
+mod named_set;
 mod overlay;
 mod plain;
 mod prefix_world;
@@ -41,8 +43,10 @@ pub use choice::{Choice, ChoiceNear, Part};
 pub use choosing::{evaluate, evaluate_near};
 pub use counts::MOST_COUNTED;
 pub use held::{Held, SeedHeld};
+pub use loops::may_loop_among;
 pub use marks::Marks;
 pub use named::named_by;
+pub use named_set::NamedSet;
 pub use overlay::Overlay;
 pub use plain::visit_providers;
 pub use prefix_world::PrefixWorld;

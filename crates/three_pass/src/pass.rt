@@ -3,7 +3,7 @@
 use crate::course::Course;
 use crate::looks::Looks;
 use crate::told::Told;
-use route_choice::AsnSet;
+use route_choice::NamedSet;
 
 /// What a pass goes along, and what is known of its seeds.
 #[derive(Drop)]
@@ -12,8 +12,8 @@ pub struct Pass<'a> {
     pub course: &'a Course,
     /// For each place of the order whether the AS there and all its providers have the plain policy for certain.
     pub plain: &'a [bool],
-    /// The numbers on the paths of the seeds, and the ASes that have these.
-    pub named: AsnSet,
+    /// The numbers on the paths of the seeds, each with the paths' origins, and the ASes that have these.
+    pub named: NamedSet,
 }
 
 /// What steps gather.

@@ -6,7 +6,7 @@ ghost use Rattle.net_names.specs.declared.routes.Rel.{Rel as ARel};
 ghost use Rattle.net_names.specs.declared.routes.Rel.TheVariants.{Customer};
 ghost use Rattle.as_graph.specs.Prelude.{relation, HasNoProviderCycle, asns};
 ghost use Rattle.stability_laws.specs.Prelude.{policy_at, IsStable};
-ghost use Rattle.route_choice.specs.Prelude.{joined, seed_at, setting_at, HasNoLoopsAt, IsStepOf, routing_of, seeds_of, CanStep, IsVisit, is_among, AreNamed};
+ghost use Rattle.route_choice.specs.Prelude.{joined, seed_at, setting_at, AreGiversAt, HasLoopsFromAt, IsStepOf, routing_of, seeds_of, CanStep, IsVisit, is_among, is_named, AreNamed};
 ghost use Rattle.three_pass.specs.Courses.{IsCourse};
 ghost use Rattle.three_pass.specs.Lists.{AreProviders, count_of, list_at};
 ghost use Rattle.three_pass.specs.Progress.{AfterUp};
@@ -19,17 +19,19 @@ use crate::course::{Course, place_at};
 use crate::looks::Looks;
 use crate::pass::{Gathered, Pass};
 use crate::told::{Told, holds};
+use as_graph::Neighbour;
 use net_names::Asn;
 use path_pool::PathPool;
 use policy_laws::{OriginStates, RoutePolicy};
 use route_choice::{
-    AsnSet, Overlay, Part, PlacedAs, PrefixWorld, Steps, Turn, visit, visit_among, visit_providers,
+    NamedSet, Overlay, Part, PlacedAs, PrefixWorld, Steps, Turn, may_loop_among, visit,
+    visit_among, visit_providers,
 };
 use std::sync::ledger::Ledger;
 
 // Whether an AS has no seed, and no customer and no peer of it told it that it holds something.
-fn has_none_to_take(told: &Told, named: &AsnSet, asn: Asn, place: usize) -> bool
-    ensures { result ≡ true → (is_among named.now asn ≡ false) × ((b : ℕ) → ¬ IsTold told.now asn b) }
+fn has_none_to_take(told: &Told, named: &NamedSet, asn: Asn, place: usize) -> bool
+    ensures { result ≡ true → (is_among named.now.asns asn ≡ false) × ((b : ℕ) → ¬ IsTold told.now asn b) }
 {
     told.is_untold(asn, place) && !named.has(asn)
 }
@@ -50,11 +52,38 @@ fn gather(course: &Course, place: usize, told: &Told, asn: Asn, looks: &mut Look
         && told.put_tellers(asn, place, looks)
 }
 
+// A step of an AS, as `visit_among` makes it, that looks only at these neighbours. Paths are walked in search of
+// the AS only where one of them may go through it.
+fn step_among<P: RoutePolicy, V: OriginStates, L: Ledger>(
+    at: &PrefixWorld<'_, P, V>,
+    named: &NamedSet,
+    pool: &mut PathPool,
+    overlay: &mut Overlay,
+    turn: Turn,
+    neighbours: &[Neighbour],
+    places: &[u32],
+    steps: &mut Steps<L>,
+) -> bool
+    requires can { CanStep pool.old at.now.seeds.now at.now.table.now overlay.old 1 }
+    requires givers { AreGiversAt P.meaning at.now pool.old overlay.old turn.part turn.asn neighbours.now }
+    requires loops { HasLoopsFromAt P.meaning at.now pool.old overlay.old turn.part turn.asn
+        (is_named named.now turn.asn) }
+    requires unnamed { turn.may_loop ≡ false → (origin : ℕ) → is_named named.now turn.asn origin ≡ false }
+    ensures cost { steps.new ≡ steps.old + 1 }
+    ensures visit { IsVisit turn.part (setting_at P.meaning V.state_of at.now) at.now.seeds.now at.now.table.now
+        pool.old pool.new overlay.old overlay.new turn.asn result }
+{
+    let may_loop = turn.may_loop
+        && may_loop_among(at, named, pool, overlay, &turn, neighbours, places);
+    let exact = Turn { may_loop, ..turn };
+    visit_among(at, pool, overlay, exact, neighbours, places, steps)
+}
+
 // A step of the AS at a place of the order, as `visit` makes it, that looks only at its providers and at
 // those that told it that they hold something, where these are known. Most are told nothing.
 fn step<P: RoutePolicy, V: OriginStates, L: Ledger>(
     at: &PrefixWorld<'_, P, V>,
-    course: &Course,
+    pass: &Pass<'_>,
     gathered: &mut Gathered<'_>,
     pool: &mut PathPool,
     overlay: &mut Overlay,
@@ -62,13 +91,15 @@ fn step<P: RoutePolicy, V: OriginStates, L: Ledger>(
     steps: &mut Steps<L>,
 ) -> bool
     requires can { CanStep pool.old at.now.seeds.now at.now.table.now overlay.old 1 }
-    requires inside { turn.place < count_of course.now.above }
-    requires above { AreProviders (relation at.now.graph.now) turn.asn (list_at course.now.above turn.place) }
+    requires inside { turn.place < count_of pass.now.course.now.above }
+    requires above { AreProviders (relation at.now.graph.now) turn.asn (list_at pass.now.course.now.above turn.place) }
     requires true_notes { AreTrue (relation at.now.graph.now) gathered.old.told }
     requires told { HaveTold (IsTold gathered.old.told) (setting_at P.meaning V.state_of at.now)
         (routing_of pool.old at.now.table.now overlay.old) turn.asn }
-    requires no_loops { turn.may_loop ≡ false →
-        HasNoLoopsAt P.meaning at.now pool.old overlay.old turn.part turn.asn }
+    requires loops { HasLoopsFromAt P.meaning at.now pool.old overlay.old turn.part turn.asn
+        (is_named pass.now.named turn.asn) }
+    requires unnamed { turn.may_loop ≡ false → (origin : ℕ) →
+        is_named pass.now.named turn.asn origin ≡ false }
     ensures cost { steps.new ≡ steps.old + 1 }
     ensures visit { IsVisit turn.part (setting_at P.meaning V.state_of at.now) at.now.seeds.now at.now.table.now
         pool.old pool.new overlay.old overlay.new turn.asn result }
@@ -77,16 +108,34 @@ fn step<P: RoutePolicy, V: OriginStates, L: Ledger>(
     let told = &gathered.told;
     let looks = &mut gathered.looks;
     if told.is_untold(turn.asn, turn.place) {
-        let above = course.above.list(turn.place);
-        let above_places = course.above.places(turn.place);
-        return visit_among(at, pool, overlay, turn, above, above_places, steps);
+        let above = pass.course.above.list(turn.place);
+        let above_places = pass.course.above.places(turn.place);
+        return step_among(
+            at,
+            &pass.named,
+            pool,
+            overlay,
+            turn,
+            above,
+            above_places,
+            steps,
+        );
     }
-    if gather(course, turn.place, told, turn.asn, looks) {
+    if gather(pass.course, turn.place, told, turn.asn, looks) {
         let neighbours = looks.neighbours.as_slice();
         let places = looks.places.as_slice();
-        visit_among(at, pool, overlay, turn, neighbours, places, steps)
+        step_among(
+            at,
+            &pass.named,
+            pool,
+            overlay,
+            turn,
+            neighbours,
+            places,
+            steps,
+        )
     } else {
-        let row = place_at(&course.order.places, turn.place) as usize;
+        let row = place_at(&pass.course.order.places, turn.place) as usize;
         let by_row = Turn { place: row, ..turn };
         visit(at, pool, overlay, by_row, steps)
     }
@@ -111,8 +160,8 @@ fn step_and_tell<P: RoutePolicy, V: OriginStates, L: Ledger>(
     requires true_notes { AreTrue (relation at.now.graph.now) gathered.old.told }
     requires told { HaveTold (IsTold gathered.old.told) (setting_at P.meaning V.state_of at.now)
         (routing_of pool.old at.now.table.now overlay.old) placed.asn }
-    requires no_loops { is_among pass.now.named placed.asn ≡ false →
-        HasNoLoopsAt P.meaning at.now pool.old overlay.old Part.Up placed.asn }
+    requires loops { HasLoopsFromAt P.meaning at.now pool.old overlay.old Part.Up placed.asn
+        (is_named pass.now.named placed.asn) }
     ensures cost { steps.new ≡ steps.old + 1 }
     ensures visit { IsVisit Part.Up (setting_at P.meaning V.state_of at.now) at.now.seeds.now at.now.table.now
         pool.old pool.new overlay.old overlay.new placed.asn result }
@@ -129,7 +178,7 @@ fn step_and_tell<P: RoutePolicy, V: OriginStates, L: Ledger>(
         may_loop,
         part: Part::Up,
     };
-    let taken = step(at, pass.course, gathered, pool, overlay, turn, steps);
+    let taken = step(at, pass, gathered, pool, overlay, turn, steps);
     let row = place_at(&pass.course.order.places, place) as usize;
     gathered
         .told
@@ -153,12 +202,12 @@ fn step_up<P: RoutePolicy, V: OriginStates, L: Ledger>(
     requires inside { placed.place < length pass.now.course.now.order.ases.items }
     requires there { slice_index pass.now.course.now.order.ases.items placed.place ≡ placed.asn }
     requires nothing { routing_of pool.old at.now.table.now overlay.old placed.asn ≡ None }
-    requires unnamed { is_among pass.now.named placed.asn ≡ false → seed_at at.now.seeds.now placed.asn ≡ None }
+    requires unnamed { is_among pass.now.named.asns placed.asn ≡ false → seed_at at.now.seeds.now placed.asn ≡ None }
     requires true_notes { AreTrue (relation at.now.graph.now) gathered.old.told }
     requires told { HaveTold (IsTold gathered.old.told) (setting_at P.meaning V.state_of at.now)
         (routing_of pool.old at.now.table.now overlay.old) placed.asn }
-    requires no_loops { is_among pass.now.named placed.asn ≡ false →
-        HasNoLoopsAt P.meaning at.now pool.old overlay.old Part.Up placed.asn }
+    requires loops { HasLoopsFromAt P.meaning at.now pool.old overlay.old Part.Up placed.asn
+        (is_named pass.now.named placed.asn) }
     requires room { CanGo pool.old at.now.seeds.now at.now.table.now overlay.old pass.now.course.now.order.ases.items }
     ensures cost { steps.new ≤ steps.old + 1 }
     ensures step { IsStepOf Part.Up (setting_at P.meaning V.state_of at.now) (seeds_of pool.old at.now.seeds.now)
@@ -191,8 +240,8 @@ pub fn go_up<P: RoutePolicy, V: OriginStates, L: Ledger>(
     requires no_cycle { HasNoProviderCycle (relation at.now.graph.now) }
     requires course { IsCourse at.now.graph.now pass.now.course.now }
     requires empty { (a : ℕ) → joined at.now.table.now overlay.old a ≡ None }
-    requires named { AreNamed (is_among pass.now.named) (seeds_of pool.old at.now.seeds.now) }
-    requires unnamed { (a : ℕ) → is_among pass.now.named a ≡ false → seed_at at.now.seeds.now a ≡ None }
+    requires named { AreNamed (is_named pass.now.named) (seeds_of pool.old at.now.seeds.now) }
+    requires unnamed { (a : ℕ) → is_among pass.now.named.asns a ≡ false → seed_at at.now.seeds.now a ≡ None }
     requires true_notes { AreTrue (relation at.now.graph.now) gathered.old.told }
     requires room { CanGo pool.old at.now.seeds.now at.now.table.now overlay.old pass.now.course.now.order.ases.items }
     ensures cost { steps.new ≤ steps.old + length pass.now.course.now.order.ases.items }
@@ -250,7 +299,7 @@ fn step_down<P: RoutePolicy, V: OriginStates, L: Ledger>(
     requires there { slice_index pass.now.course.now.order.ases.items placed.place ≡ placed.asn }
     requires plain { ArePlainMarks (λ a. P.meaning (policy_at at.now.book.now a)) pass.now.course.now
         pass.now.plain.now }
-    requires unnamed { is_among pass.now.named placed.asn ≡ false → seed_at at.now.seeds.now placed.asn ≡ None }
+    requires unnamed { is_among pass.now.named.asns placed.asn ≡ false → seed_at at.now.seeds.now placed.asn ≡ None }
     requires held { routing_of pool.old at.now.table.now overlay.old placed.asn ≢ None →
         IsStepOf Part.Whole (setting_at P.meaning V.state_of at.now) (seeds_of pool.old at.now.seeds.now)
         (routing_of pool.old at.now.table.now overlay.old) placed.asn
@@ -258,9 +307,9 @@ fn step_down<P: RoutePolicy, V: OriginStates, L: Ledger>(
     requires true_notes { AreTrue (relation at.now.graph.now) gathered.old.told }
     requires told { HaveTold (IsTold gathered.old.told) (setting_at P.meaning V.state_of at.now)
         (routing_of pool.old at.now.table.now overlay.old) placed.asn }
-    requires no_loops { routing_of pool.old at.now.table.now overlay.old placed.asn ≡ None →
-        is_among pass.now.named placed.asn ≡ false →
-        HasNoLoopsAt P.meaning at.now pool.old overlay.old Part.Whole placed.asn }
+    requires loops { routing_of pool.old at.now.table.now overlay.old placed.asn ≡ None →
+        HasLoopsFromAt P.meaning at.now pool.old overlay.old Part.Whole placed.asn
+        (is_named pass.now.named placed.asn) }
     ensures cost { steps.new ≤ steps.old + 1 }
     ensures visit { IsVisit Part.Whole (setting_at P.meaning V.state_of at.now) at.now.seeds.now at.now.table.now
         pool.old pool.new overlay.old overlay.new placed.asn result }
@@ -282,7 +331,7 @@ fn step_down<P: RoutePolicy, V: OriginStates, L: Ledger>(
         may_loop,
         part: Part::Whole,
     };
-    step(at, pass.course, gathered, pool, overlay, turn, steps)
+    step(at, pass, gathered, pool, overlay, turn, steps)
 }
 
 // Peers' routes go across and providers' routes down, to those that hold nothing yet.
@@ -302,8 +351,8 @@ pub fn go_down<P: RoutePolicy, V: OriginStates, L: Ledger>(
         (routing_of pool.old at.now.table.now overlay.old) a }
     requires plain { ArePlainMarks (λ a. P.meaning (policy_at at.now.book.now a)) pass.now.course.now
         pass.now.plain.now }
-    requires named { AreNamed (is_among pass.now.named) (seeds_of pool.old at.now.seeds.now) }
-    requires unnamed { (a : ℕ) → is_among pass.now.named a ≡ false → seed_at at.now.seeds.now a ≡ None }
+    requires named { AreNamed (is_named pass.now.named) (seeds_of pool.old at.now.seeds.now) }
+    requires unnamed { (a : ℕ) → is_among pass.now.named.asns a ≡ false → seed_at at.now.seeds.now a ≡ None }
     requires up { AfterUp (setting_at P.meaning V.state_of at.now) (seeds_of pool.old at.now.seeds.now)
         pass.now.course.now.order.ases.items (routing_of pool.old at.now.table.now overlay.old) }
     requires room { CanGo pool.old at.now.seeds.now at.now.table.now overlay.old pass.now.course.now.order.ases.items }

@@ -1,24 +1,24 @@
-use Rattle.std.proofs.Common.{◌≡◌, ◌⊎◌, ◌+◌, ◌++◌, ◌∷◌, [], ◌==◌, inl, inr, ℕ, Bool, true, false, take, slice_index_or, Option, Some, None, option_map, is_some, refl, sym, ◌∙◌, ap}
+use Rattle.std.proofs.Common.{◌≡◌, ◌+◌, ◌||◌, ◌==◌, inl, inr, ℕ, Bool, true, false, take, Option, Some, None, option_map, is_some, refl, sym, ◌∙◌, ap}
+use Rattle.std.specs.List.{list_any}
 use Rattle.std.specs.Option.{option_map_or}
-use Rattle.std.proofs.lemmas.Bool.{or_cases, eq-eqb, eqb-true}
-use Rattle.std.proofs.lemmas.List.{take_more, take_all}
-use Rattle.std.proofs.lemmas.List.Folds.{list_any_at}
+use Rattle.std.proofs.lemmas.Bool.{or_cases, or_left, or_right, eq-eqb, eqb-true}
+use Rattle.std.proofs.lemmas.List.{take_all}
+use Rattle.std.proofs.lemmas.List.Folds.{list_any_more}
 use Rattle.net_names.specs.Numbers.{occurs}
 use Rattle.path_pool.specs.declared.pool.PathPool.{PathPool}
-use Rattle.path_pool.specs.Pool.{list_of}
 use Rattle.stability_laws.specs.declared.entry.Seed.{Seed}
 use Rattle.route_choice.specs.declared.held.SeedHeld.{SeedHeld}
 use Rattle.route_choice.specs.Routings.{seed_of, seeds_of}
 use Rattle.route_choice.specs.Tables.{seed_at}
 use Rattle.route_choice.specs.AsnSets.{is_among}
-use Rattle.route_choice.specs.Naming.{is_on_seed}
-use Rattle.route_choice.proofs.Adding.{adds_old, adds_new}
-use Rattle.route_choice.proofs.Numbers.{in_more}
+use Rattle.route_choice.specs.NamedSets.{is_named}
+use Rattle.route_choice.specs.Naming.{is_on_seed, is_on_seed_from}
+use Rattle.route_choice.proofs.Numbers.{any_of, found}
 use Rattle.route_choice.proofs.named.named_by.Goals as goal
 
-some_map : (pool : PathPool) (o : Option SeedHeld) → is_some o ≡ true → is_some (option_map (seed_of pool) o) ≡ true
-some_map pool None is = is
-some_map pool (Some h) is = refl
+or_assoc : (a b c : Bool) → ((a || b) || c) ≡ (a || (b || c))
+or_assoc true b c = refl
+or_assoc false b c = refl
 
 pub loop-asn-preserved : goal.loop-asn-preserved
 loop-asn-preserved c =
@@ -27,59 +27,54 @@ loop-asn-preserved c =
     let asn = c.asn-item.result in
     let seeds = seeds_of c.args.pool.now c.args.seeds.now in
     let before = c.loop-asn.named in
-    let between = c.add.new.self in
-    let after = c.add_seed.new.named in
-    let is_asn : ℕ → Bool = λ x. asn == x in
-    let is_on = is_on_seed seeds asn in
-    let kept : (x : ℕ) → is_among before x ≡ true → is_among after x ≡ true = λ x there. adds_old between after is_on c.add_seed.ensures x (adds_old before between is_asn c.add.ensures.added x there) in
-    let more : take (i + 1) xs ≡ take i xs ++ asn ∷ [] = take_more xs i asn c.loop-asn-test.true ∙ ap (λ y. take i xs ++ y ∷ []) (sym c.asn-item.is) in
-    let which : (a : ℕ) → occurs a (take (i + 1) xs) ≡ true → (asn ≡ a) ⊎ (occurs a (take i xs) ≡ true) = λ a. in_more a asn (take i xs) (take (i + 1) xs) more in
-    let listed : occurs asn xs ≡ true = list_any_at (λ y. y == asn) xs i asn c.loop-asn-test.true (eq-eqb (slice_index_or xs i asn) asn (sym c.asn-item.is)) in
-    let has : is_some (seeds asn) ≡ true = some_map c.args.pool.now (seed_at c.args.seeds.now asn) (sym (c.ases-ases.ensures asn) ∙ listed) in
+    let more : (p : ℕ → Bool) → list_any p (take (i + 1) xs) ≡ (list_any p (take i xs) || p asn) = λ p. list_any_more p xs i asn c.loop-asn-test.true ∙ ap (λ b. list_any p (take i xs) || p b) (sym c.asn-item.is) in
     record {
-      ases = λ a there. elim (which a there) [
-        | inl is ↦ adds_old between after is_on c.add_seed.ensures a (adds_new before between is_asn c.add.ensures.added a (eq-eqb asn a is))
-        | inr first ↦ kept a (c.loop-asn.invariant.ases a first)
-      ];
-      paths = λ a x s there at on. elim (which a there) [
-        | inl is ↦ adds_new between after is_on c.add_seed.ensures x (ap (λ o. option_map_or (λ (t : Seed). occurs x t.path) (option_map (seed_of c.args.pool.now) o) false) (ap (seed_at c.args.seeds.now) is ∙ at) ∙ on)
-        | inr first ↦ kept x (c.loop-asn.invariant.paths a x s first at on)
-      ];
-      none = λ unseeded x. (let x : true ≡ false = sym listed ∙ c.ases-ases.ensures asn ∙ ap is_some (unseeded asn) in cc);
-      only = elim (c.loop-asn.invariant.only) [
-        | inl all ↦ inl (λ x. kept x (all x))
-        | inr was ↦ elim (c.add_seed.ensures) [
-          | inl all ↦ inl all
-          | inr path ↦ elim (c.add.ensures.added) [
-            | inl all ↦ inl (λ x. adds_old between after is_on c.add_seed.ensures x (all x))
-            | inr this ↦ inr (λ x there. elim (or_cases (is_among between x) (is_on x) (sym (path x) ∙ there)) [
-              | inr on ↦ inr (asn, on)
-              | inl there ↦ elim (or_cases (is_among before x) (asn == x) (sym (this x) ∙ there)) [
-                | inl there ↦ was x there
-                | inr is ↦ inl (ap (λ a. is_some (seeds a)) (sym (eqb-true asn x is)) ∙ has)
-              ]
-            ])
-          ]
-        ]
-      ];
+      asns = λ x.
+          let on = is_on_seed seeds asn x in
+          let is : ℕ → Bool = λ b. (b == x) || is_on_seed seeds b x in
+          c.in_ok-add_seed.ensures.asns x ∙ ap (λ t. t || on) (c.in_ok-add.ensures.asns x ∙ ap (λ t. t || (asn == x)) (c.loop-asn.invariant.asns x))
+          ∙ or_assoc (list_any is (take i xs)) (asn == x) on ∙ sym (more is);
+      ends = λ x e.
+          let on = is_on_seed_from seeds asn x e in
+          let is : ℕ → Bool = λ b. is_on_seed_from seeds b x e in
+          c.in_ok-add_seed.ensures.ends x e ∙ ap (λ t. t || on) (c.in_ok-add.ensures.ends x e ∙ ap (λ t. t || false) (c.loop-asn.invariant.ends x e))
+          ∙ or_assoc (list_any is (take i xs)) false on ∙ sym (more is);
     }
 
-on_path : (pool : PathPool) (named : Bool) (x : ℕ) (s : Seed) (o : Option SeedHeld) → option_map (seed_of pool) o ≡ Some s → occurs x s.path ≡ true → ((h : SeedHeld) → o ≡ Some h → occurs x (list_of pool h.path.0) ≡ true → named ≡ true) → named ≡ true
-on_path pool named x s None is there each = cc
-on_path pool named x s (Some h) is there each = (let same : seed_of pool h ≡ s = cc in each h refl (ap (λ (t : Seed). occurs x t.path) same ∙ there))
+same_some : (pool : PathPool) (o : Option SeedHeld) → is_some o ≡ is_some (option_map (seed_of pool) o)
+same_some pool None = refl
+same_some pool (Some h) = refl
 
-pub returns-clause-paths : goal.returns-clause-paths
-returns-clause-paths c = λ a x s is there.
-    let all = take_all c.loop-asn.asn-index c.ases-ases.result.now c.loop-asn-test.false in
-    on_path c.args.pool.now (is_among c.loop-asn.named x) x s (seed_at c.args.seeds.now a) is there
-    (λ h at on. c.loop-asn.invariant.paths a x h (ap (occurs a) all ∙ c.ases-ases.ensures a ∙ ap is_some at) at on)
+-- who has what passes a test has a seed
+tested : (test : Seed → Bool) (o : Option Seed) → option_map_or test o false ≡ true → is_some o ≡ true
+tested test None is = is
+tested test (Some s) is = refl
 
-no_seed : (o : Option SeedHeld) (listed named : Bool) → listed ≡ is_some o → (listed ≡ true → named ≡ true) → named ≡ false → o ≡ None
-no_seed None listed named is kept out = refl
-no_seed (Some h) listed named is kept out = (let x : true ≡ false = sym (kept is) ∙ out in cc)
-
-pub returns-clause-seeds : goal.returns-clause-seeds
-returns-clause-seeds c = λ a out.
+pub returns-clause-asns : goal.returns-clause-asns
+returns-clause-asns c = λ x.
     let xs = c.ases-ases.result.now in
-    let all = take_all c.loop-asn.asn-index xs c.loop-asn-test.false in
-    no_seed (seed_at c.args.seeds.now a) (occurs a xs) (is_among c.loop-asn.named a) (c.ases-ases.ensures a) (λ there. c.loop-asn.invariant.ases a (ap (occurs a) all ∙ there)) out
+    let seeds = seeds_of c.args.pool.now c.args.seeds.now in
+    let has : (a : ℕ) → occurs a xs ≡ is_some (seeds a) = λ a. c.ases-ases.ensures a ∙ same_some c.args.pool.now (seed_at c.args.seeds.now a) in
+    let is : ℕ → Bool = λ b. (b == x) || is_on_seed seeds b x in
+    let among : is_among c.loop-asn.named.asns x ≡ list_any is xs = c.loop-asn.invariant.asns x ∙ ap (list_any is) (take_all c.loop-asn.asn-index xs c.loop-asn-test.false) in (
+      λ there.
+          let (b, on, passes) = found is xs (sym among ∙ there) in
+          elim (or_cases (b == x) (is_on_seed seeds b x) passes) [
+            | inl same ↦ inl (sym (has x) ∙ sym (ap (λ t. occurs t xs) (eqb-true b x same)) ∙ on)
+            | inr through ↦ inr (b, through)
+          ],
+      λ part. among ∙ elim part [
+        | inl seeded ↦ any_of is xs x (has x ∙ seeded) (or_left (x == x) (is_on_seed seeds x x) (eq-eqb x x refl))
+        | inr (a, on) ↦ any_of is xs a (has a ∙ tested (λ s. occurs x s.path) (seeds a) on) (or_right (a == x) (is_on_seed seeds a x) on)
+      ],
+    )
+
+pub returns-clause-ends : goal.returns-clause-ends
+returns-clause-ends c = λ x e.
+    let xs = c.ases-ases.result.now in
+    let seeds = seeds_of c.args.pool.now c.args.seeds.now in
+    let is : ℕ → Bool = λ b. is_on_seed_from seeds b x e in
+    let named : is_named c.loop-asn.named x e ≡ list_any is xs = c.loop-asn.invariant.ends x e ∙ ap (list_any is) (take_all c.loop-asn.asn-index xs c.loop-asn-test.false) in (
+      λ there. (let (b, on, passes) = found is xs (sym named ∙ there) in (b, passes)),
+      λ (a, on). named ∙ any_of is xs a (c.ases-ases.ensures a ∙ same_some c.args.pool.now (seed_at c.args.seeds.now a) ∙ tested _ (seeds a) on) on,
+    )

@@ -6,11 +6,11 @@ use Rattle.stability_laws.specs.Steps.{IsStepWhole}
 use Rattle.route_choice.specs.declared.choice.Part.TheVariants.{Whole}
 use Rattle.route_choice.specs.Routings.{routing_of, seeds_of}
 use Rattle.route_choice.specs.PrefixWorlds.{setting_at}
-use Rattle.route_choice.specs.AsnSets.{is_among}
+use Rattle.route_choice.specs.NamedSets.{is_named}
 use Rattle.three_pass.specs.Lists.{AreProviders, list_at}
 use Rattle.three_pass.specs.Progress.{AfterWhole}
 use Rattle.three_pass.proofs.ByRank.{by_rank, stands_at, is_listed, is_reached}
-use Rattle.three_pass.proofs.InOrder.{turn, down_same, down_more, down_fresh, no_loops_downwards, all_right}
+use Rattle.three_pass.proofs.InOrder.{turn, down_same, down_more, down_fresh, loops_downwards, all_right}
 use Rattle.three_pass.specs.Told.{AreTrue, IsTold}
 use Rattle.three_pass.specs.Telling.{HaveTold}
 use Rattle.three_pass.proofs.Quiet.{still_told}
@@ -71,8 +71,8 @@ step_down-requires-clause-held g c = λ some.
     (settled here ranked.lawful f a seeds some (c.loop-left.invariant.so_far.still a still) (c.loop-left.invariant.so_far.low a (sym (c.requires.course.order.complete a) ∙ is_listed xs i a at)))
     (sym (c.loop-left.invariant.spent.keeps.same_seeds a))
 
-pub step_down-requires-clause-no_loops : goal.step_down-requires-clause-no_loops
-step_down-requires-clause-no_loops g c =
+pub step_down-requires-clause-loops : goal.step_down-requires-clause-loops
+step_down-requires-clause-loops g c =
     let here = setting_at g.P.RoutePolicy.meaning g.V.OriginStates.state_of c.args.at.now in
     let ranked = by_rank g.P.RoutePolicy.meaning g.met.P.RoutePolicy.ranks_offers g.met.P.RoutePolicy.prefers_customers g.met.P.RoutePolicy.exports_down_only g.V.OriginStates.state_of c.args.at.now c.args.pass.now.course.now c.requires.no_cycle c.requires.course in
     let xs = c.args.pass.now.course.now.order.ases.items in
@@ -83,7 +83,7 @@ step_down-requires-clause-no_loops g c =
     let f = routing_of c.loop-left.pool c.args.at.now.table.now c.loop-left.overlay in
     let back : i + 1 ≡ c.loop-left.left = omega arith in
     let at = stands_at xs i a (omega (arith, c.loop-left.invariant.within)) c.index-asn.ensures in
-    no_loops_downwards ranked seeds (is_among c.args.pass.now.named) c.requires.named i a f at
+    loops_downwards ranked seeds (is_named c.args.pass.now.named) c.requires.named i a f at
     (subst (λ k. AfterWhole here seeds (take k xs) f) (sym back) c.loop-left.invariant.so_far)
 
 pub loop-left-init : goal.loop-left-init

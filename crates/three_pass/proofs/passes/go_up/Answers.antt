@@ -8,10 +8,10 @@ use Rattle.route_choice.specs.declared.choice.Part.TheVariants.{Up}
 use Rattle.route_choice.specs.Routings.{entry_of, routing_of, seeds_of}
 use Rattle.route_choice.specs.PrefixWorlds.{setting_at}
 use Rattle.route_choice.proofs.Numbers.{in_more}
-use Rattle.route_choice.specs.AsnSets.{is_among}
+use Rattle.route_choice.specs.NamedSets.{is_named}
 use Rattle.three_pass.specs.Told.{IsTold}
 use Rattle.three_pass.proofs.ByRank.{by_rank, stands_at}
-use Rattle.three_pass.proofs.InOrder.{none_yet, up_more, up_fresh, no_loops_upwards}
+use Rattle.three_pass.proofs.InOrder.{none_yet, up_more, up_fresh, loops_upwards}
 use Rattle.three_pass.proofs.Quiet.{told_from}
 use Rattle.three_pass.proofs.Spending.{spent_nothing, spent_more, step_seeds}
 use Rattle.three_pass.proofs.passes.go_up.Goals as goal
@@ -42,11 +42,11 @@ step_up-requires-clause-nothing g c =
     let at = stands_at xs i a (omega (arith, c.loop-place-test.true, c.len-place-end.ensures)) c.index-asn.ensures in
     up_fresh ranked (seeds_of c.args.pool.now c.args.at.now.seeds.now) i a (routing_of c.loop-place.pool c.args.at.now.table.now c.loop-place.overlay) at c.loop-place.invariant.so_far
 
-pub step_up-requires-clause-no_loops : goal.step_up-requires-clause-no_loops
-step_up-requires-clause-no_loops g c =
+pub step_up-requires-clause-loops : goal.step_up-requires-clause-loops
+step_up-requires-clause-loops g c =
     let ranked = by_rank g.P.RoutePolicy.meaning g.met.P.RoutePolicy.ranks_offers g.met.P.RoutePolicy.prefers_customers g.met.P.RoutePolicy.exports_down_only g.V.OriginStates.state_of c.args.at.now c.args.pass.now.course.now c.requires.no_cycle c.requires.course in
     let done = take c.loop-place.place c.args.pass.now.course.now.order.ases.items in
-    no_loops_upwards ranked (seeds_of c.args.pool.now c.args.at.now.seeds.now) (is_among c.args.pass.now.named) c.requires.named
+    loops_upwards ranked (seeds_of c.args.pool.now c.args.at.now.seeds.now) (is_named c.args.pass.now.named) c.requires.named
     done (routing_of c.loop-place.pool c.args.at.now.table.now c.loop-place.overlay) c.loop-place.invariant.so_far c.index-asn.result.now
 
 pub step_up-requires-clause-told : goal.step_up-requires-clause-told

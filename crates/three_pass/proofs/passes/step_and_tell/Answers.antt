@@ -1,9 +1,6 @@
-use Rattle.std.proofs.Common.{option_map, ◌∙◌, sym, ap}
+use Rattle.std.proofs.Common.{option_map, ap}
 use Rattle.route_choice.specs.Routings.{entry_of}
 use Rattle.three_pass.proofs.passes.step_and_tell.Goals as goal
-
-pub step-taken-requires-clause-no_loops : goal.step-taken-requires-clause-no_loops
-step-taken-requires-clause-no_loops g c = λ out. c.requires.no_loops (sym c.has-may_loop.ensures ∙ out)
 
 pub returns-clause-around : goal.returns-clause-around
 returns-clause-around g c = λ some n r linked other.

@@ -1,8 +1,11 @@
 use Rattle.std.proofs.Common.{◌≡◌, ◌≢◌, true, false, Option, Some, None, is_some, option_map, arith, refl, sym, ◌∙◌, subst}
+use Rattle.net_names.specs.Numbers.{last_or}
 use Rattle.path_pool.specs.declared.pool.PathPool.{PathPool}
 use Rattle.route_choice.specs.declared.held.Held.{Held}
 use Rattle.route_choice.specs.Routings.{entry_of, routing_of}
 use Rattle.route_choice.specs.Tables.{joined}
+use Rattle.route_choice.specs.NamedSets.{is_named}
+use Rattle.route_choice.proofs.NoLoops.{no_loops}
 use Rattle.route_choice.proofs.Room.{keeps_itself}
 use Rattle.as_graph.specs.Topology.{relation}
 use Rattle.policy_laws.specs.Plain.{IsPlain}
@@ -50,7 +53,7 @@ pub visit_providers-requires-clause-nothing : goal.visit_providers-requires-clau
 visit_providers-requires-clause-nothing g c = joined_none c.args.pool.now (joined c.args.at.now.table.now c.args.overlay.now c.args.placed.asn) (sym c.holds.ensures ∙ c.if-holds.false)
 
 pub visit_providers-requires-clause-unseeded : goal.visit_providers-requires-clause-unseeded
-visit_providers-requires-clause-unseeded g c = c.requires.unnamed (sym c.has-may_loop.ensures ∙ c.is_plainly_untold.ensures.unnamed c.if-is_plainly_untold.true)
+visit_providers-requires-clause-unseeded g c = c.requires.unnamed (sym c.has-may_loop.ensures.value ∙ c.is_plainly_untold.ensures.unnamed c.if-is_plainly_untold.true)
 
 pub visit_providers-requires-clause-own : goal.visit_providers-requires-clause-own
 visit_providers-requires-clause-own g c =
@@ -74,10 +77,15 @@ visit_providers-requires-clause-givers g c =
 
 pub visit_providers-requires-clause-no_loops : goal.visit_providers-requires-clause-no_loops
 visit_providers-requires-clause-no_loops g c =
+    let out = c.is_plainly_untold.ensures.unnamed c.if-is_plainly_untold.true in
     let none : routing_of c.args.pool.now c.args.at.now.table.now c.args.overlay.now c.args.placed.asn ≡ None = joined_none c.args.pool.now (joined c.args.at.now.table.now c.args.overlay.now c.args.placed.asn) (sym c.holds.ensures ∙ c.if-holds.false) in
-    c.requires.no_loops none (sym c.has-may_loop.ensures ∙ c.is_plainly_untold.ensures.unnamed c.if-is_plainly_untold.true)
+    no_loops Whole (relation c.args.at.now.graph.now) (λ n. g.P.RoutePolicy.meaning (policy_at c.args.at.now.book.now n)) (routing_of c.args.pool.now c.args.at.now.table.now c.args.overlay.now)
+    c.args.placed.asn (is_named c.args.pass.now.named c.args.placed.asn) (c.requires.loops none) (λ n r e linked looked held exported. c.has-may_loop.ensures.none out (last_or 0 e.path))
 
-pub step-requires-clause-no_loops : goal.step-requires-clause-no_loops
-step-requires-clause-no_loops g c = λ out n r e linked looked held exported.
+pub step-requires-clause-loops : goal.step-requires-clause-loops
+step-requires-clause-loops g c = λ n r e linked looked held exported.
     let none : routing_of c.args.pool.now c.args.at.now.table.now c.args.overlay.now c.args.placed.asn ≡ None = joined_none c.args.pool.now (joined c.args.at.now.table.now c.args.overlay.now c.args.placed.asn) (sym c.holds.ensures ∙ c.if-holds.false) in
-    c.requires.no_loops none (sym c.has-may_loop.ensures ∙ out) n r e linked refl held exported
+    c.requires.loops none n r e linked refl held exported
+
+pub step-requires-clause-unnamed : goal.step-requires-clause-unnamed
+step-requires-clause-unnamed g c = c.has-may_loop.ensures.none
