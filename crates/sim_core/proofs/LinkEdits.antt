@@ -24,22 +24,22 @@ use Rattle.policy_kinds.specs.Kinds.{kind_policy}
 use Rattle.policy_kinds.specs.declared.kind.Kind.{Kind}
 use Rattle.roa_table.specs.Sets.{Payloads}
 use Rattle.stability_laws.specs.Book.{PolicyBook, policy_at}
-use Rattle.stability_laws.specs.Plans.{has_prefix}
+use Rattle.stability_laws.specs.Plans.{Plan, has_prefix}
 use Rattle.leak_round.specs.Rounds.{plan_of, round_count}
 use Rattle.leak_round.specs.declared.rounds.Rounds.{Rounds}
 use Rattle.scenario_text.specs.declared.acts.Edit.{Edit}
 use Rattle.scenario_text.specs.declared.acts.Edit.TheVariants.{Link}
 use Rattle.sim_core.specs.Editing.{BeginsWithLink, HasLinks, IsLinkStop, IsSmall, IsUnchanged, IsUndone, KeepsRest, ground_of, links_with}
 use Rattle.sim_core.specs.Edits.{IsEditRefusal, absent, edited, refusal_of_edit}
-use Rattle.sim_core.specs.Ground.{DiffersAround}
-use Rattle.sim_core.specs.Views.{world_seen}
+use Rattle.sim_core.specs.Ground.{BelongTo, DiffersAround, Ground}
+use Rattle.sim_core.specs.Views.{AreRight, world_seen}
 use Rattle.sim_core.specs.World.{World, HasCycle, graph_of, topology}
 use Rattle.sim_core.specs.declared.errors.EditError.{EditError}
 use Rattle.sim_core.specs.declared.errors.EditError.TheVariants as refused
 use Rattle.sim_core.specs.declared.errors.EditLimit.TheVariants.{Links, Announcements, Ases}
 use Rattle.sim_core.specs.declared.parts.Parts.{Parts}
 use Rattle.sim_core.proofs.CycleLemmas.{new_below, none_below, without_below}
-use Rattle.sim_core.proofs.Doing.{all_undone, unchanged_world}
+use Rattle.sim_core.proofs.Doing.{all_undone, begun_belongs, unchanged_world}
 
 -- the world with these links
 pub links_world : (old new : Parts) (a b : ℕ) (links : LinkMap) → HasLinks old new a b links → world_seen new ≡ record (world_seen old) { links = links }
@@ -199,6 +199,16 @@ link_differs setting taken ases old mid a b o touched apart h touches = record {
   marks = λ prefix x n r known free at. ap (λ (k : PolicyBook Kind). (kind_policy (policy_at k n)).marks) h.book;
   states = λ prefix x known free there. inr (λ origin is. ap (λ (v : Payloads). state_of v prefix origin) h.vrps);
 }
+
+-- what is kept belongs to the world before the edit, from which the new one differs around the two ends alone
+pub link_begun : LinksAreSet → LinksAreTaken → AsesAreKept → (old mid : Parts) (a b : ℕ) (o : Option Rel) (touched : PrefixValue → ℕ → Bool) → AreRight old → (HasCycle (world_seen old) → ⊥) → a ≢ b
+    → HasLinks old mid a b (links_with old.graph a b o) → (plan : Plan) → plan ≡ plan_of old.rounds → ((prefix : PrefixValue) (x : ℕ) → IsTrue (has_prefix plan prefix) → occurs x (a ∷ b ∷ []) ≡ true → touched prefix x ≡ true)
+    → (was : Ground) × BelongTo was mid.ranks mid.rounds mid.watches.items × DiffersAround was (ground_of mid) mid.rounds (a ∷ b ∷ []) touched
+link_begun setting taken ases old mid a b o touched right none apart h plan is touches = (
+  ground_of old,
+  begun_belongs old mid right none h.rest,
+  link_differs setting taken ases old mid a b o touched apart h (λ prefix x known end. touches prefix x (ap (λ (p : Plan). has_prefix p prefix) is ∙ known) end),
+)
 
 -- without its link the pair takes it again
 pub fits_cut : EditsAreUndone → (old mid : Parts) (a b : ℕ) → a ≢ b → HasLinks old mid a b (links_with old.graph a b None) → relation mid.graph a b ≡ None → IsSmall old.graph old.vrps → (r : Rel) → relation old.graph a b ≡ Some r → (e : GraphError) → IsLinkRefusal mid.graph a b r e → ⊥

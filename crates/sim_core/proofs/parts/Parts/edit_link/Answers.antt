@@ -3,14 +3,12 @@ use Rattle.net_names.specs.Links.{LinkMap}
 use Rattle.as_graph.specs.Topology.{Topology, relation}
 use Rattle.leak_round.specs.Touched.{touches}
 use Rattle.scenario_text.specs.declared.acts.Edit.TheVariants.{Link}
-use Rattle.stability_laws.specs.Plans.{Plan, has_prefix}
-use Rattle.sim_core.specs.Editing.{ground_of}
 use Rattle.sim_core.specs.Edits.{passed_limit, refusal_of_edit}
 use Rattle.sim_core.specs.Views.{world_seen}
 use Rattle.sim_core.specs.World.{graph_of}
 use Rattle.sim_core.specs.declared.errors.EditError.TheVariants as refused
-use Rattle.sim_core.proofs.Doing.{begun_belongs, small_world}
-use Rattle.sim_core.proofs.LinkEdits.{pair_end, back_linked, link_differs, link_stopped, links_undone, links_world, there_none}
+use Rattle.sim_core.proofs.Doing.{small_world}
+use Rattle.sim_core.proofs.LinkEdits.{pair_end, back_linked, link_begun, link_stopped, links_undone, links_world, there_none}
 use Rattle.sim_core.proofs.Outcomes.{changed_quickly, edit_refused, edit_unbegun}
 use Rattle.sim_core.proofs.parts.Parts.edit_link.Goals as goal
 
@@ -24,14 +22,8 @@ change_linked-requires-clause-back g c =
 
 pub change_linked-requires-clause-from : goal.change_linked-requires-clause-from
 change_linked-requires-clause-from g c =
-    let old = c.args.self.now in
-    let mid = c.set_link.new.self in
-    let h = c.in_ok-set_link.ensures.ok in (
-      ground_of old,
-      begun_belongs old mid c.requires.editable.right c.requires.editable.no_cycle h.rest,
-      link_differs c.link_laws.ensures.set c.link_laws.ensures.taken c.link_laws.ensures.kept old mid c.args.a c.args.b (Some c.args.rel) (touches c.in_ok-touched.touched) c.requires.apart h
-          (λ prefix x known end. c.in_ok-touched.ensures.these prefix x (ap (λ (p : Plan). has_prefix p prefix) c.seed_plan.ensures ∙ known) end),
-    )
+    link_begun c.link_laws.ensures.set c.link_laws.ensures.taken c.link_laws.ensures.kept c.args.self.now c.set_link.new.self c.args.a c.args.b (Some c.args.rel) (touches c.in_ok-touched.touched) c.requires.editable.right c.requires.editable.no_cycle
+    c.requires.apart c.in_ok-set_link.ensures.ok _ c.seed_plan.ensures c.in_ok-touched.ensures.these
 
 pub returns-in-Ok : goal.returns-in-Ok
 returns-in-Ok g c =

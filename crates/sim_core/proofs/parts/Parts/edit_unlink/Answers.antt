@@ -3,11 +3,9 @@ use Rattle.std.specs.Prelude.{IfSome}
 use Rattle.as_graph.specs.Topology.{Topology, relation}
 use Rattle.leak_round.specs.Touched.{touches}
 use Rattle.scenario_text.specs.declared.acts.Edit.TheVariants.{Unlink}
-use Rattle.stability_laws.specs.Plans.{Plan, has_prefix}
-use Rattle.sim_core.specs.Editing.{ground_of}
 use Rattle.sim_core.specs.declared.errors.EditError.TheVariants.{AbsentLink}
-use Rattle.sim_core.proofs.Doing.{begun_belongs, small_world}
-use Rattle.sim_core.proofs.LinkEdits.{pair_end, absent_cut, back_any, cut_apart, cut_no_cycle, cut_none, fits_back, if_none_some, link_differs, links_undone, links_world}
+use Rattle.sim_core.proofs.Doing.{small_world}
+use Rattle.sim_core.proofs.LinkEdits.{pair_end, absent_cut, back_any, cut_apart, cut_no_cycle, cut_none, fits_back, if_none_some, link_begun, links_undone, links_world}
 use Rattle.as_graph.specs.Refusals.{IsLinkRefusal}
 use Rattle.as_graph.specs.declared.error.GraphError.{GraphError}
 use Rattle.sim_core.proofs.Outcomes.{changed_quickly, edit_refused, edit_unbegun}
@@ -18,14 +16,8 @@ change_at-requires-clause-no_cycle g c = cut_no_cycle c.link_laws.ensures.sound 
 
 pub change_at-requires-clause-from : goal.change_at-requires-clause-from
 change_at-requires-clause-from g c =
-    let old = c.args.self.now in
-    let mid = c.cut_link.new.self in
-    let h = c.in_ok-cut_link.ensures.ok in (
-      ground_of old,
-      begun_belongs old mid c.requires.right c.requires.no_cycle h.rest,
-      link_differs c.link_laws.ensures.set c.link_laws.ensures.taken c.link_laws.ensures.kept old mid c.args.a c.args.b None (touches c.in_ok-touched.touched) (cut_apart c.link_laws.ensures.sound old c.args.a c.args.b c.in_ok-cut_link.ensures.there) h
-          (λ prefix x known end. c.in_ok-touched.ensures.these prefix x (ap (λ (p : Plan). has_prefix p prefix) c.seed_plan.ensures ∙ known) end),
-    )
+    link_begun c.link_laws.ensures.set c.link_laws.ensures.taken c.link_laws.ensures.kept c.args.self.now c.cut_link.new.self c.args.a c.args.b None (touches c.in_ok-touched.touched) c.requires.right c.requires.no_cycle
+    (cut_apart c.link_laws.ensures.sound c.args.self.now c.args.a c.args.b c.in_ok-cut_link.ensures.there) c.in_ok-cut_link.ensures.ok _ c.seed_plan.ensures c.in_ok-touched.ensures.these
 
 pub returns-in-Ok : goal.returns-in-Ok
 returns-in-Ok g c =
