@@ -30,5 +30,6 @@ pub use prefixes::Prefix;
 pub use reading::{cut, number, read_addr, read_asn, read_class, read_prefix, read_vrp_asn, strip};
 pub use routes::{Class, Rel, State};
 pub use writing::{
-    put_addr, put_asn, put_prefix, texts_are_read_again, v4_has_one_text, v6_has_one_text,
+    put_addr, put_asn, put_bytes, put_number, put_prefix, texts_are_read_again, v4_has_one_text,
+    v6_has_one_text,
 };

@@ -16,14 +16,30 @@ use std::net::{Ipv4Addr, Ipv6Addr};
 /// The most bytes that a text takes: eight groups of four digits, seven colons, a slash and three digits.
 const MOST_BYTES: usize = 43;
 
+/// Appends the bytes. Where memory is wanting, nothing changes.
+pub fn put_bytes(out: &mut Vec<u8>, bytes: &[u8]) -> Result<(), NoMemory>
+    ensures ok { OnOk result (out.new.items ≡ out.old.items ++ bytes.now) }
+    ensures err { OnErr result (out.new.items ≡ out.old.items) }
+{
+    out.extend_from_slice(bytes)?;
+    Ok(())
+}
+
 /// Appends the number in decimal digits. Where memory is wanting, nothing changes.
+pub fn put_number(out: &mut Vec<u8>, number: u64) -> Result<(), NoMemory>
+    ensures ok { OnOk result (out.new.items ≡ out.old.items ++ decimal number) }
+    ensures err { OnErr result (out.new.items ≡ out.old.items) }
+{
+    let mut digits = Buffer::new();
+    put_bytes(out, digits.format(number).as_bytes())
+}
+
+/// Appends the number of the AS in decimal digits. Where memory is wanting, nothing changes.
 pub fn put_asn(out: &mut Vec<u8>, asn: Asn) -> Result<(), NoMemory>
     ensures ok { OnOk result (out.new.items ≡ out.old.items ++ decimal asn) }
     ensures err { OnErr result (out.new.items ≡ out.old.items) }
 {
-    let mut digits = Buffer::new();
-    out.extend_from_slice(digits.format(asn.get()).as_bytes())?;
-    Ok(())
+    put_number(out, u64::from(asn.get()))
 }
 
 /// Appends the text of the value, which is at most `MOST_BYTES` long.
