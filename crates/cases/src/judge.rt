@@ -6,18 +6,12 @@ ghost use Rattle.cases.specs.Runs.{IsJudged, IsTried, Ran, inputs_of, sink_of, w
 use crate::case::{Case, CaseFile, USUAL_WAYS, Way};
 use crate::report::all_passed;
 use asprop_run::run;
-use io_edge::{MemInputs, MemSink, NoMemory};
+use io_edge::{MemInputs, MemSink};
 use std::alloc::{AllocError, AllocFailed, Global};
 
 /// Memory ran out.
 #[derive(Clone, Copy, Debug, PartialEq, Eq)]
 pub(crate) struct OutOfMemory;
-
-impl From<NoMemory> for OutOfMemory {
-    fn from(_: NoMemory) -> OutOfMemory {
-        OutOfMemory
-    }
-}
 
 impl From<AllocError> for OutOfMemory {
     fn from(_: AllocError) -> OutOfMemory {

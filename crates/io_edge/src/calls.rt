@@ -1,9 +1,8 @@
-// The calls of an object in memory, some of which are to fail.
+//! The calls of an object in memory, some of which are to fail.
 ghost use Rattle.std.specs.Prelude.{◌≡◌, ◌+◌, ◌↔◌, [], OnOk, OnErr, IsTrue, if◌then◌else◌};
 ghost use Rattle.io_edge.specs.Calls.{FailsNext, after_call, after_fault, one_more, with_failure};
 
-use crate::NoMemory;
-use std::alloc::Global;
+use std::alloc::{AllocError, Global};
 use std::marker::Model;
 
 /// The numbers of the calls that are to fail, how many calls were made, and how many faults were counted.
@@ -34,7 +33,7 @@ impl CallList {
     }
 
     /// The call of this number is to fail.
-    pub(crate) fn fail_at(&mut self, call: u64) -> Result<(), NoMemory>
+    pub(crate) fn fail_at(&mut self, call: u64) -> Result<(), AllocError>
         ensures ok { OnOk result (self.new ≡ with_failure self.old call) }
         ensures err { OnErr result (self.new ≡ self.old) }
     {

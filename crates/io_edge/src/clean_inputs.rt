@@ -1,10 +1,10 @@
-// Files in memory, which are read without a fault.
+//! Files in memory, which are read without a fault.
 ghost use Rattle.std.specs.Prelude.{◌≡◌, ℕ, List, Some, [], ◌∷◌, length, take, drop, min, IfOk, IsOk, OnOk, OnErr};
 ghost use Rattle.io_edge.specs.Files.{bytes_under};
 
 use crate::files::NamedFiles;
-use crate::{Failed, Inputs, NoMemory};
-use std::alloc::Global;
+use crate::{Failed, Inputs};
+use std::alloc::{AllocError, Global};
 use std::marker::Model;
 
 /// Files in memory, which are read without a fault. A name that isn't there holds nothing.
@@ -34,7 +34,7 @@ impl CleanInputs {
     }
 
     /// Puts in a file. A later call for the same name replaces the bytes, and what is left of a file that was begun stays.
-    pub fn file(&mut self, name: &str, bytes: &[u8]) -> Result<(), NoMemory>
+    pub fn file(&mut self, name: &str, bytes: &[u8]) -> Result<(), AllocError>
         ensures ok { OnOk result
             (self.new ≡ record self.old { files = record { name = name.now; bytes = bytes.now } ∷ self.old.files }) }
         ensures err { OnErr result (self.new ≡ self.old) }

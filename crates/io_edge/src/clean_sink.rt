@@ -1,4 +1,4 @@
-// A sink in memory that never fails.
+//! A sink in memory that never fails.
 ghost use Rattle.std.specs.Prelude.{◌≡◌, [], length, true, vec_capacity};
 ghost use Rattle.io_edge.specs.Room.{told, with_bytes};
 

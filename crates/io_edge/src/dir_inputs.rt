@@ -1,4 +1,4 @@
-// The real files. What they hold is told nowhere, and no name is sound.
+//! The real files. What they hold is told nowhere, and no name is sound.
 ghost use Rattle.std.specs.Prelude.{◌≡◌, None, Some, []};
 ghost use Rattle.std.specs.Io.{ReadsAtMost};
 ghost use Rattle.std.specs.Io.KnownBytes.{ReadConsumes};

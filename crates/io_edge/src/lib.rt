@@ -21,7 +21,6 @@ mod whole;
 pub use clean_inputs::CleanInputs;
 pub use clean_sink::CleanSink;
 pub use dir_inputs::DirInputs;
-pub use files::NoMemory;
 pub use mem_inputs::MemInputs;
 pub use mem_sink::MemSink;
 pub use std_sink::StdSink;

@@ -1,4 +1,4 @@
-// Files in memory, read by calls of which some are to fail.
+//! Files in memory, read by calls of which some are to fail.
 ghost use Rattle.std.specs.Prelude.{◌≡◌, ◌≤◌, ◌-◌, ◌^◌, ◌↔◌, ◌⊎◌, ℕ, List, Some, [], ◌∷◌, length, take, drop, min, IfOk, OnOk, OnErr, IsErr, IsSome, IsNone};
 ghost use Rattle.std.specs.Io.KnownBytes.{ReadConsumes};
 ghost use Rattle.io_edge.specs.Files.{held, bytes_under};
@@ -6,8 +6,8 @@ ghost use Rattle.io_edge.specs.Calls.{IsPast, FailsNext, after_call, after_fault
 
 use crate::calls::CallList;
 use crate::files::NamedFiles;
-use crate::{Failed, Inputs, NoMemory};
-use std::alloc::Global;
+use crate::{Failed, Inputs};
+use std::alloc::{AllocError, Global};
 use std::marker::Model;
 
 /// Files in memory. A call fails where its number is in a list, and `begin` also for a name that isn't there.
@@ -50,7 +50,7 @@ impl MemInputs {
     }
 
     /// Puts in a file. A later call for the same name replaces the bytes, and what is left of a file that was begun stays.
-    pub fn file(&mut self, name: &str, bytes: &[u8]) -> Result<(), NoMemory>
+    pub fn file(&mut self, name: &str, bytes: &[u8]) -> Result<(), AllocError>
         ensures ok { OnOk result
             (self.new ≡ record self.old { files = record { name = name.now; bytes = bytes.now } ∷ self.old.files }) }
         ensures err { OnErr result (self.new ≡ self.old) }
@@ -59,7 +59,7 @@ impl MemInputs {
     }
 
     /// The call of this number is to fail, besides those that were named before.
-    pub fn fail_at(&mut self, call: u64) -> Result<(), NoMemory>
+    pub fn fail_at(&mut self, call: u64) -> Result<(), AllocError>
         ensures ok { OnOk result (self.new ≡ record self.old { calls = with_failure self.old.calls call }) }
         ensures err { OnErr result (self.new ≡ self.old) }
     {

@@ -1,11 +1,11 @@
-// A sink in memory, written by calls of which some are to fail.
+//! A sink in memory, written by calls of which some are to fail.
 ghost use Rattle.std.specs.Prelude.{◌≡◌, ◌≤◌, ◌<◌, ◌-◌, ◌^◌, ◌↔◌, [], length, take, min, true, vec_capacity, IfOk, OnOk, OnErr, IsErr};
 ghost use Rattle.io_edge.specs.Calls.{FailsNext, after_call, after_fault, with_failure};
 ghost use Rattle.io_edge.specs.Room.{told, with_bytes};
 
 use crate::calls::CallList;
-use crate::{CleanSink, Failed, NoMemory, Sink};
-use std::alloc::Global;
+use crate::{CleanSink, Failed, Sink};
+use std::alloc::{AllocError, Global};
 use std::marker::Model;
 
 /// A sink over a buffer, as [`CleanSink`]. A `put` fails where its number is in a list, counted from 1.
@@ -47,7 +47,7 @@ impl MemSink {
     }
 
     /// The call of this number is to fail, besides those that were named before.
-    pub fn fail_at(&mut self, call: u64) -> Result<(), NoMemory>
+    pub fn fail_at(&mut self, call: u64) -> Result<(), AllocError>
         ensures ok { OnOk result (self.new ≡ record self.old { calls = with_failure self.old.calls call }) }
         ensures err { OnErr result (self.new ≡ self.old) }
     {

@@ -1,4 +1,4 @@
-// The real streams. What is written to them is told nowhere.
+//! The real streams. What is written to them is told nowhere.
 ghost use Rattle.std.specs.Prelude.{◌≡◌, ◌≤◌, ◌<◌, None, length, IfOk};
 ghost use Rattle.std.specs.Io.KnownBytes.{WriteAppends};
 ghost use Rattle.io_edge.specs.Faults.{HasCause};

@@ -1,4 +1,4 @@
-// What the program asks of the outside.
+//! What the program asks of the outside.
 ghost use Rattle.std.specs.Prelude.{◌≡◌, ◌≤◌, ◌<◌, ℕ, List, Option, IsOk, OnOk, OnErr, IfOk, length, take, []};
 ghost use Rattle.std.specs.Io.{ReadsAtMost};
 ghost use Rattle.std.specs.Io.KnownBytes.{Keeps, ReadConsumes, IsAtEnd};

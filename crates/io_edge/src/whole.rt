@@ -1,4 +1,4 @@
-// Whole files and whole pieces, over any inputs and any sink.
+//! Whole files and whole pieces, over any inputs and any sink.
 ghost use Rattle.std.specs.Prelude.{◌≡◌, ◌+◌, ◌≤◌, ◌<◌, ℕ, List, Option, IsOk, OnOk, OnErr, IfOk, IfSome, IsErrOf, Some, length, take, drop, []};
 ghost use Rattle.std.specs.Io.KnownBytes.{Keeps};
 ghost use Rattle.io_edge.specs.Faults.{HasRisen, HasCause, KeepsNames};
