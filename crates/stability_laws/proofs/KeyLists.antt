@@ -1,5 +1,5 @@
 -- Rising lists of keys as sets, and the keys of a map as a list.
-use Rattle.std.proofs.Common.{◌≡◌, ◌≢◌, ◌⊎◌, inl, inr, ℕ, zero, suc, ◌<◌, Bool, true, false, cond, ◌||◌, ◌&&◌, IsTrue, T, List, [], ◌∷◌, map, length, ◌≤◌, refl, sym, ap, subst, ◌∙◌, arith, Result, Ok, Err, IsOk, OnOk, Option, Some, None, IfSome, MatchOption, slice_get, get_or}
+use Rattle.std.proofs.Common.{◌≡◌, ◌≢◌, ◌⊎◌, inl, inr, ℕ, zero, suc, ◌<◌, Bool, true, false, cond, ◌||◌, IsTrue, T, List, [], ◌∷◌, map, length, ◌≤◌, refl, sym, ap, subst, ◌∙◌, arith, Result, Ok, Err, IsOk, OnOk, Option, Some, None, IfSome, MatchOption, slice_get, get_or}
 use Rattle.std.specs.Option.{option_copied}
 use Rattle.std.specs.Borrow.{Bor}
 use Rattle.std.proofs.lemmas.Bool.{true≢false, cases_lt}
@@ -9,7 +9,7 @@ use Rattle.std.specs.List.{insert, list_any, HoldsAt}
 use Rattle.std.specs.List.Sorted.{IsSearchInRange, IsBinarySearchResult}
 use Rattle.std.specs.declared.cmp.Ordering.{Ordering}
 use Rattle.std.specs.declared.cmp.Ordering.TheVariants.{Less, Equal, Greater}
-use Rattle.std.specs.Ordering.{eq_by_cmp, is_eq, is_lt}
+use Rattle.std.specs.Ordering.{eq_by_cmp, is_eq}
 use Rattle.std.specs.Cmp.{IsTotalOrder, tied_itself}
 use Rattle.std.specs.FinMap as fin
 use Rattle.net_names.proofs.Marks.{keys_of_marks}

@@ -14,6 +14,8 @@ pub mod Verdicts
 pub mod Passes
 pub mod Pieces
 pub mod Activations
+pub mod Turns
+pub mod Families
 pub mod Stored
 pub mod Books
 pub mod Shorts

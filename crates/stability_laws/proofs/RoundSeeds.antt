@@ -11,7 +11,7 @@ use Rattle.policy_laws.specs.Policy.{is_own_or_customers}
 use Rattle.stability_laws.specs.declared.entry.Entry.{Entry}
 use Rattle.stability_laws.specs.declared.entry.Seed.{Seed}
 use Rattle.stability_laws.specs.Plans.{Plan, ListsRising, IsAnnouncer, announced_path, announcers_of}
-use Rattle.stability_laws.specs.Seeding.{announced_seed, own_seed, leaked_by, own_or_leaked}
+use Rattle.stability_laws.specs.Seeding.{announced_seed, own_seed, own_or_leaked}
 use Rattle.stability_laws.proofs.Leaking.{put_again}
 use Rattle.stability_laws.proofs.Listing.{occurs_at, at_occurs}
 

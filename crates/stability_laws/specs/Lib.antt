@@ -17,6 +17,7 @@ pub mod Verdict
 pub mod Steps
 pub mod Runs
 pub mod AnyOrder
+pub mod Existence
 pub mod Answers
 pub mod Seeding
 pub mod EntryTexts

@@ -2,6 +2,7 @@
 //! body: who needs a law calls it, and has its clause.
 ghost use Rattle.stability_laws.specs.Laws.{OfferFollows, OfferNames, RightByOffers, RightFollows, OneAnswer, NothingUp, CustomersDecide, OneStableRouting, OneFamily, PathsGoOn};
 ghost use Rattle.stability_laws.specs.AnyOrder.{AnyOrderSettles};
+ghost use Rattle.stability_laws.specs.Existence.{AStableRoutingExists, ExactlyOneFamily, ExactlyOneStableRouting};
 
 use policy_laws::RoutePolicy;
 
@@ -70,3 +71,28 @@ pub fn paths_go_on<P: RoutePolicy>()
 pub fn any_order_settles<P: RoutePolicy>()
     ensures { AnyOrderSettles P.meaning }
 {}
+
+/// In each world without a provider cycle there is a stable routing, whatever the policies, the states and
+/// the seeds: activations of all ASes in turn, often enough, end in it (Gao and Rexford 2001).
+pub fn a_stable_routing_exists<P: RoutePolicy>()
+    ensures { AStableRoutingExists P.meaning }
+{
+    one_answer::<P>();
+}
+
+/// In each world without a provider cycle exactly one routing is stable (Gao and Rexford 2001).
+pub fn exactly_one_stable_routing<P: RoutePolicy>()
+    ensures { ExactlyOneStableRouting P.meaning }
+{
+    a_stable_routing_exists::<P>();
+    one_stable_routing::<P>();
+}
+
+/// In each world without a provider cycle, and for each plan, there is exactly one family of stable
+/// routings, one for each round and prefix.
+pub fn exactly_one_family<P: RoutePolicy>()
+    ensures { ExactlyOneFamily P.meaning }
+{
+    a_stable_routing_exists::<P>();
+    one_family::<P>();
+}

@@ -11,8 +11,9 @@ use roa_table::payloads_are_those_given;
 use scenario_text::{lines_are_those_said, scenarios_are_those_said};
 use sim_core::answers_are_one;
 use stability_laws::{
-    any_order_settles, customers_decide, nothing_up, offer_follows, offer_names, one_answer,
-    one_family, one_stable_routing, right_by_offers, right_follows,
+    a_stable_routing_exists, any_order_settles, customers_decide, exactly_one_family,
+    exactly_one_stable_routing, nothing_up, offer_follows, offer_names, one_answer, one_family,
+    one_stable_routing, right_by_offers, right_follows,
 };
 
 #[test]
@@ -51,5 +52,8 @@ fn laws_of_routings_hold_of_the_kinds() {
     customers_decide::<Kind>();
     one_stable_routing::<Kind>();
     one_family::<Kind>();
+    a_stable_routing_exists::<Kind>();
+    exactly_one_stable_routing::<Kind>();
+    exactly_one_family::<Kind>();
     any_order_settles::<Kind>();
 }

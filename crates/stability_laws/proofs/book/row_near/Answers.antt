@@ -1,4 +1,4 @@
-use Rattle.std.proofs.Common.{nat_eq, Some, sym, ap, ◌∙◌, ◌≡◌}
+use Rattle.std.proofs.Common.{nat_eq, sym, ap, ◌∙◌, ◌≡◌}
 use Rattle.std.proofs.lemmas.Bool.{eqb-true}
 use Rattle.indexmap.specs.IndexMap.{get}
 use Rattle.stability_laws.proofs.book.row_near.Goals as goal
