@@ -1,5 +1,5 @@
 //! Numbers of ASes, and lists of them.
-ghost use Rattle.std.specs.Prelude.{◌≡◌, ℕ, ◌≤◌, ◌++◌, ◌∷◌, [], List, OnOk, OnErr};
+ghost use Rattle.std.specs.Prelude.{◌≡◌, ℕ, ◌≤◌, ◌++◌, ◌∷◌, [], List, IfOk, OnOk, OnErr};
 ghost use Rattle.std.specs.Option.{SomeIff};
 
 use std::alloc::{AllocError, AllocFailed, Global};
@@ -86,6 +86,31 @@ impl Path {
         ensures { result ≡ numbers.items }
     {
         Path { numbers }
+    }
+
+    /// The list of these ASes. The only refusal is want of memory.
+    pub fn of(alloc: Global, numbers: &[Asn]) -> Result<Path, NoMemory>
+        ensures { IfOk result (λ p. p ≡ numbers.now) }
+    {
+        let numbers = Vec::from_slice(alloc, numbers)?;
+        Ok(Path { numbers })
+    }
+
+    /// The same list once more. The only refusal is want of memory.
+    pub fn copied(&self, alloc: Global) -> Result<Path, NoMemory>
+        ensures { IfOk result (λ p. p ≡ self.now) }
+    {
+        Path::of(alloc, self.as_slice())
+    }
+
+    /// The list of an AS and these behind it. The only refusal is want of memory.
+    pub fn with_front(alloc: Global, first: Asn, rest: &[Asn]) -> Result<Path, NoMemory>
+        ensures { IfOk result (λ p. p ≡ first ∷ rest.now) }
+    {
+        let mut numbers = Vec::with_capacity(alloc, rest.len() + 1)?;
+        numbers.push(first)?;
+        numbers.extend_from_slice(rest)?;
+        Ok(Path { numbers })
     }
 
     /// Puts an AS at the end. `Err` where there is not enough memory; then the list stays as it was.
