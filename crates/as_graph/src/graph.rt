@@ -129,6 +129,14 @@ impl Graph {
         }
     }
 
+    /// Where the row of the first of these ASes stands. It is a hint, as in [`Graph::neighbour_places`].
+    pub fn row_of_first(&self, ases: &[Asn]) -> usize {
+        match ases.first() {
+            Some(asn) => self.place_near(*asn, 0),
+            None => 0,
+        }
+    }
+
     /// The ASes that have a row, each once, in the order of the rows. All ASes of the graph are
     /// among them.
     pub fn rows(&self) -> &[Asn]
