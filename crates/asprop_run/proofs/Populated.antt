@@ -51,7 +51,7 @@ module _ (links : LinkMap) (vrps : Payloads) (s : ScenarioValue) where
       omega (arith, one)
 
   -- a prefix of the plan is announced
-  has_an_as : (p : PrefixValue) → has_prefix (plan_of s) p ≡ true → 0 < as_count (topology (world_of links vrps s))
+  pub has_an_as : (p : PrefixValue) → has_prefix (plan_of s) p ≡ true → 0 < as_count (topology (world_of links vrps s))
   has_an_as p h = by s.announcements refl
     where
       by : (l : List Announcement) → s.announcements ≡ l → 0 < as_count (topology (world_of links vrps s))

@@ -1,7 +1,7 @@
 mod Listing
 mod Announcing
 mod Leaking
-mod Counting
+pub mod Counting
 mod Keeping
 mod Sums
 mod Rounding

@@ -13,10 +13,10 @@ use Rattle.sweep.specs.Trials.{IsAbove, IsNext}
 use Rattle.trial_world.specs.Trials.{as_set}
 use Rattle.sim_core.proofs.PolicyEdits.{is_key}
 
-abbrev keyed : List ℕ → set.FinSet nat_cmp
+abbrev pub keyed : List ℕ → set.FinSet nat_cmp
 keyed xs = fin.from_entries (map (λ a. (a, tt {0})) xs)
 
-keyed_has : (xs : List ℕ) (a : ℕ) → fin.contains_key (keyed xs) a ≡ occurs a xs
+pub keyed_has : (xs : List ℕ) (a : ℕ) → fin.contains_key (keyed xs) a ≡ occurs a xs
 keyed_has [] a = ap is_some (fin.get-empty nat_cmp a)
 keyed_has (x ∷ xs) a =
     ap is_some (fin.get-insert nat_cmp_total (keyed xs) x tt a) ∙ by (eq_by_cmp nat_cmp a x) (fin.get (keyed xs) a) ∙ (λ i. is_key a x i || keyed_has xs a i)
@@ -25,7 +25,7 @@ keyed_has (x ∷ xs) a =
     by true o = refl
     by false o = refl
 
-keyed_len : (xs : List ℕ) → fin.len (keyed xs) ≡ set.len (set.from_list {R = nat_cmp} xs)
+pub keyed_len : (xs : List ℕ) → fin.len (keyed xs) ≡ set.len (set.from_list {R = nat_cmp} xs)
 keyed_len [] = fin.len-empty nat_cmp (Unit {0}) ∙ sym (set.len-empty nat_cmp)
 keyed_len (x ∷ xs) =
     fin.len-insert nat_cmp_total (keyed xs) x tt

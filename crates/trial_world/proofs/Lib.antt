@@ -1,14 +1,14 @@
 mod PartPlans
-mod Subsets
+pub mod Subsets
 mod KindBooks
 mod LoneAses
 mod NextHops
 mod Routings
-mod TrialWorlds
+pub mod TrialWorlds
 mod RowCounts
-mod TrialNumbers
+pub mod TrialNumbers
 mod Watched
 mod TrialTables
 mod TouchedAround
-mod Following
+pub mod Following
 mod Lines
