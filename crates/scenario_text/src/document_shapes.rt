@@ -12,6 +12,7 @@ use crate::places::{Member, PartOf, Place};
 use crate::shapes::{NumberShape, Shape, TextShape, list, object};
 use std::alloc::Global;
 
+// The value as a list of numbers.
 fn numbers(alloc: Global, place: Place, value: &JsonValue<'_, '_>) -> Result<Numbers, ScenarioError>
     ensures { Gives result (list_at number_at place (data_at value.now.element)) }
 {
@@ -19,6 +20,7 @@ fn numbers(alloc: Global, place: Place, value: &JsonValue<'_, '_>) -> Result<Num
     Ok(Numbers { numbers })
 }
 
+// The member of this place, which has to be there.
 fn needed_value<S: Shape>(
     alloc: Global,
     place: Place,
@@ -112,6 +114,7 @@ impl Shape for LeakersShape {
     }
 }
 
+// The items of the member of this place, which has to be there.
 fn needed_list<S: Shape>(
     alloc: Global,
     place: Place,
@@ -125,6 +128,7 @@ fn needed_list<S: Shape>(
     }
 }
 
+// The items of the member of this place, and none where it is missing.
 fn optional_list<S: Shape>(
     alloc: Global,
     place: Place,

@@ -145,6 +145,7 @@ impl Field for MaxField {
     }
 }
 
+// Two fields that the first such byte parts.
 #[tactic(auto, unfolding(crate::specs::Forms::pair))]
 fn parted_at<F: Field, G: Field>(byte: u8, text: &[u8]) -> Option<(F::To, G::To)>
     ensures { result ≡ pair byte F.says G.says text.now }

@@ -1,4 +1,4 @@
-// When a scenario and a script are accepted, said of all their parts at once.
+//! When a scenario and a script are accepted, said of all their parts at once.
 ghost use Rattle.scenario_text.specs.Laws.{AcceptedExactly, ScriptAcceptedExactly, LinesAreThose};
 
 /// The scenario of a text is the one that the text says: a text is accepted, with these four lists, exactly where it is

@@ -32,6 +32,7 @@ pub const MOST_LEAKERS: usize = 64;
 /// How many addresses are watched at most.
 pub const MOST_WATCHED: usize = 16;
 
+// The set of these keys.
 fn set_of<K: Ord + Copy>(alloc: Global, keys: &[K]) -> Result<BTreeSet<K>, AllocError>
 where
     K: Drop,
@@ -40,6 +41,7 @@ where
     keys.iter().copied().collect(alloc)
 }
 
+// The prefix of each announcement.
 fn prefixes(alloc: Global, announcements: &[Announcement]) -> Result<Vec<Prefix>, AllocError>
     ensures { IfOk result (λ v. v.items ≡ map (λ a. a.prefix) announcements.now) }
 {
@@ -55,6 +57,7 @@ fn count_prefixes(alloc: Global, announcements: &[Announcement]) -> Result<usize
     Ok(different.len())
 }
 
+// Whether the path of an announcement has too many numbers.
 fn has_long_path(announcements: &[Announcement]) -> bool
     ensures { result ≡ list_any (λ a. nat_lt MOST_NUMBERS (length a.path)) announcements.now }
 {
@@ -63,6 +66,7 @@ fn has_long_path(announcements: &[Announcement]) -> bool
         .any(|a| a.path.as_slice().len() > MOST_NUMBERS)
 }
 
+// Whether too many ASes leak in a round.
 fn has_many_leakers(leaks: &[Leakers]) -> bool
     ensures { result ≡ list_any (λ leakers. nat_lt MOST_LEAKERS (length leakers)) leaks.now }
 {

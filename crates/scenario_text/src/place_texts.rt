@@ -7,6 +7,7 @@ ghost use Rattle.scenario_text.specs.PlaceTexts.{position_text, place_text};
 use crate::places::{Member, PartOf, Place};
 use std::alloc::{AllocError, Global};
 
+// The member's name, or `document` where there is none.
 fn member_text(member: Option<Member>) -> &'static str
     ensures { result.now ≡ option_map_or member_name member (codes "document") }
 {
@@ -16,6 +17,7 @@ fn member_text(member: Option<Member>) -> &'static str
     }
 }
 
+// A dot and the part's name, or nothing where there is none.
 fn part_string(alloc: Global, part: Option<PartOf>) -> Result<String, AllocError>
     ensures { IfOk result (λ s. string_bytes s ≡ option_map_or (λ part. 46 ∷ part_name part) part []) }
 {
@@ -25,6 +27,7 @@ fn part_string(alloc: Global, part: Option<PartOf>) -> Result<String, AllocError
     }
 }
 
+// The position in brackets, or nothing where there is none.
 fn position_string(alloc: Global, position: Option<usize>) -> Result<String, AllocError>
     ensures { IfOk result (λ s. string_bytes s ≡ position_text position) }
 {

@@ -14,8 +14,10 @@ use crate::tapes::tape;
 use crate::twice::test_once;
 use crate::values::lists;
 use json::Scratch;
+use net_names::MOST_TEXT_BYTES;
 use std::alloc::Global;
 
+// The document of a JSON text, each value of its type.
 fn document_in(alloc: Global, text: &str) -> Result<Document, ScenarioError>
     ensures { Gives result (document_in text.now) }
 {
@@ -24,6 +26,7 @@ fn document_in(alloc: Global, text: &str) -> Result<Document, ScenarioError>
     document(alloc, &JsonValue::of(tape.root()))
 }
 
+// The four lists that the bytes say, before it is asked what stands twice and which limits are passed.
 fn said(alloc: Global, bytes: &[u8]) -> Result<Lists, ScenarioError>
     ensures { Gives result (lists_of_bytes bytes.now) }
 {
@@ -47,7 +50,7 @@ fn said(alloc: Global, bytes: &[u8]) -> Result<Lists, ScenarioError>
 /// where there is not enough memory.
 #[tactic(auto, unfolding(crate::specs::Readings::scenario_of_bytes))]
 pub fn read_scenario(alloc: Global, bytes: &[u8]) -> Result<Scenario, ScenarioError>
-    requires { length bytes.now ≤ 16777216 }
+    requires { length bytes.now ≤ MOST_TEXT_BYTES }
     ensures { Gives result (scenario_of_bytes bytes.now) }
 {
     let lists = said(alloc, bytes)?;

@@ -7,7 +7,7 @@ ghost use Rattle.scenario_text.specs.Script.{command, script_of};
 use crate::forms::act;
 use crate::line_faults::LinesError;
 use crate::lines::{Line, Lines};
-use net_names::next_kept;
+use net_names::{MOST_TEXT_BYTES, next_kept};
 use std::alloc::Global;
 
 /// Why a script is refused. It may have 100,000 lines that aren't skipped.
@@ -37,7 +37,7 @@ fn command_of(alloc: Global, line: &[u8], number: u32, before: u32) -> Result<Li
 /// `Unreadable` exactly where the first faulty line has none of the forms, and `TooMany` exactly where it has one and
 /// 100,000 lines that aren't skipped stand before it; `Memory` where there is not enough memory.
 pub fn read_script(alloc: Global, bytes: &[u8]) -> Result<Lines, ScriptError>
-    requires { length bytes.now ≤ 16777216 }
+    requires { length bytes.now ≤ MOST_TEXT_BYTES }
     ensures { Gives result (script_of bytes.now) }
 {
     let mut lines = Lines::new(alloc);

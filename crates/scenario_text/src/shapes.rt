@@ -94,12 +94,14 @@ pub(crate) fn list<S: Shape>(
     Ok(out)
 }
 
+// Whether the name is one of these.
 fn is_known(known: &[&str], name: &str) -> bool
     ensures { result ≡ list_any (λ k. bytes_eq name.now k.now) known.now }
 {
     known.iter().any(|k| name == *k)
 }
 
+// Whether the value is an object each of whose members has one of these names.
 fn has_known(known: &[&str], value: &JsonValue<'_, '_>) -> bool
     ensures { result ≡
         option_map_or (all_in (map (λ k. k.now) known.now)) (as_object (data_at value.now.element)) false }

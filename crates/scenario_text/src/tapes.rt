@@ -15,6 +15,7 @@ use std::alloc::{AllocError, Global};
 // How many levels serde_json reads: one fewer than a tape has.
 const MOST_LEVELS: usize = 127;
 
+// Whether the text is one JSON value of at most 127 levels, whatever its numbers are.
 fn is_whole(text: &str, scratch: &mut Scratch) -> Result<bool, AllocError>
     ensures { IfOk result (λ b. IsTrue b ↔ IsSome (whole text.now)) }
 {
@@ -22,6 +23,7 @@ fn is_whole(text: &str, scratch: &mut Scratch) -> Result<bool, AllocError>
     Ok(reader.skip_value(MOST_LEVELS).is_ok() && reader.next().is_none())
 }
 
+// Whether the token is no number, or one that a float or 64 bits hold.
 fn has_room(node: &Node<'_>) -> bool
     ensures { result ≡ fits (node_token node.now) }
 {
@@ -31,6 +33,7 @@ fn has_room(node: &Node<'_>) -> bool
     }
 }
 
+// Whether a float or 64 bits hold each number among these tokens.
 fn all_fit(nodes: &[Node<'_>]) -> bool
     ensures { result ≡ list_all (λ n. fits (node_token n)) nodes.now }
 {

@@ -37,24 +37,28 @@ where
     Ok(())
 }
 
+// Tests that no prefix and AS stand twice among these.
 fn names_once(alloc: Global, place: Place, keys: &[(Prefix, Asn)]) -> Result<(), ScenarioError>
     ensures { Gives result (once_in announcement_cmp place keys.now) }
 {
     items_once(alloc, place, keys)
 }
 
+// Tests that no AS stands twice among these.
 fn numbers_once(alloc: Global, place: Place, keys: &[Asn]) -> Result<(), ScenarioError>
     ensures { Gives result (once_in nat_cmp place keys.now) }
 {
     items_once(alloc, place, keys)
 }
 
+// Tests that no address stands twice among these.
 fn addresses_once(alloc: Global, place: Place, keys: &[Addr]) -> Result<(), ScenarioError>
     ensures { Gives result (once_in addr_cmp place keys.now) }
 {
     items_once(alloc, place, keys)
 }
 
+// The prefix and the AS of each announcement.
 fn names(alloc: Global, announcements: &[Announcement]) -> Result<Vec<(Prefix, Asn)>, AllocError>
     ensures { IfOk result (λ v. v.items ≡ map announcement_name announcements.now) }
 {
@@ -64,12 +68,14 @@ fn names(alloc: Global, announcements: &[Announcement]) -> Result<Vec<(Prefix, A
         .collect(alloc)
 }
 
+// The AS of each policy.
 fn ruled(alloc: Global, policies: &[(Asn, Kind)]) -> Result<Vec<Asn>, AllocError>
     ensures { IfOk result (λ v. v.items ≡ map (λ p. p.0) policies.now) }
 {
     policies.iter().map(|p| p.0).collect(alloc)
 }
 
+// Tests that no AS announces a prefix twice.
 fn announcements_once(
     alloc: Global,
     place: Place,
@@ -81,6 +87,7 @@ fn announcements_once(
     names_once(alloc, place, &names)
 }
 
+// Tests that no AS has two policies.
 fn policies_once(alloc: Global, place: Place, policies: &[(Asn, Kind)]) -> Result<(), ScenarioError>
     ensures { Gives result (once_in nat_cmp place (map (λ p. p.0) policies.now)) }
 {
@@ -102,6 +109,7 @@ impl Reading for LeakersOnce {
     }
 }
 
+// Tests that in no round an AS leaks twice.
 fn leaks_once(alloc: Global, leaks: &[Leakers]) -> Result<Vec<()>, ScenarioError>
     ensures { GivesBy (λ v. v.items) result (each_from (λ i. once_in nat_cmp (item (in_member Leaks) i)) 0 leaks.now) }
 {

@@ -17,6 +17,7 @@ use net_names::{Addr, Asn, Path, read_addr, read_prefix};
 use policy_kinds::{Kind, read_kind};
 use std::alloc::Global;
 
+// The AS of this number.
 fn asn_value(place: Place, number: u64) -> Result<Asn, ScenarioError>
     ensures { Gives result (asn_at place number) }
 {
@@ -43,6 +44,7 @@ impl Reading for AsnValue {
     }
 }
 
+// Whether the path starts with the AS.
 fn is_own(path: &[Asn], asn: Asn) -> bool
     ensures { result ≡ starts_with nat_eq path.now (asn ∷ []) }
 {

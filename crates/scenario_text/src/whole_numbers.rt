@@ -17,6 +17,7 @@ fn as_float(negative: bool, numeral: &Numeral<'_>) -> Option<Option<u64>>
     }
 }
 
+// The number that a numeral without a minus writes.
 fn unsigned(numeral: &Numeral<'_>) -> Option<Option<u64>>
     ensures { result ≡ option_map as_u64 (number_from false numeral.now) }
 {
@@ -26,6 +27,7 @@ fn unsigned(numeral: &Numeral<'_>) -> Option<Option<u64>>
     }
 }
 
+// The number that a numeral behind a minus writes.
 fn negative(numeral: &Numeral<'_>) -> Option<Option<u64>>
     ensures { result ≡ option_map as_u64 (number_from true numeral.now) }
 {
@@ -37,6 +39,7 @@ fn negative(numeral: &Numeral<'_>) -> Option<Option<u64>>
     as_float(true, numeral)
 }
 
+// Whether the bytes begin with a minus.
 fn has_minus(bytes: &[u8]) -> bool
     ensures value { result ≡ (slice_index bytes.now 0 == 45) }
     ensures len { IsTrue result → 0 < length bytes.now }
