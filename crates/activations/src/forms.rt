@@ -5,7 +5,7 @@ ghost use Rattle.net_names.specs.Prelude.{fields};
 ghost use Rattle.scenario_text.specs.Prelude.{form};
 ghost use Rattle.activations.specs.Files.{act_of, hold_of, numbers_in};
 
-use net_names::{Asn, NoMemory, Path, cut, read_asn, read_class, strip};
+use net_names::{Asn, MOST_TEXT_BYTES, NoMemory, Path, cut, read_asn, read_class, strip};
 use stability_laws::Entry;
 use std::alloc::Global;
 
@@ -18,7 +18,7 @@ fn is_otc(word: &[u8]) -> bool
 
 // The numbers of a text with one space between, and the one behind `otc`.
 fn numbers(alloc: Global, text: &[u8]) -> Result<Option<(Path, Option<Asn>)>, NoMemory>
-    requires { length text.now ≤ 16777216 }
+    requires { length text.now ≤ MOST_TEXT_BYTES }
     ensures gives { IfOk result (λ r. r ≡ numbers_in (fields 32 text.now)) }
     ensures few { IfOk result (λ r. IfSome r (λ x. length x.0 ≤ length text.now + 1)) }
 {
@@ -56,10 +56,10 @@ fn begins(path: &[Asn], asn: Asn) -> bool
 
 /// What the line says that an AS holds; `None` exactly where the line has not the form.
 #[tactic(auto, unfolding(crate::specs::Files::hold_of, scenario_text::specs::Forms::pair))]
-pub(crate) fn hold(alloc: Global, line: &[u8]) -> Result<Option<(Asn, Entry)>, NoMemory>
-    requires { length line.now ≤ 16777216 }
+pub(crate) fn read_hold(alloc: Global, line: &[u8]) -> Result<Option<(Asn, Entry)>, NoMemory>
+    requires { length line.now ≤ MOST_TEXT_BYTES }
     ensures gives { IfOk result (λ r. r ≡ form "hold " hold_of (λ x. x) line.now) }
-    ensures few { IfOk result (λ r. IfSome r (λ x. length x.1.path < 16777216)) }
+    ensures few { IfOk result (λ r. IfSome r (λ x. length x.1.path < MOST_TEXT_BYTES)) }
     ensures begins { IfOk result (λ r. IfSome r (λ x. starts_with nat_eq x.1.path (x.0 ∷ []) ≡ true)) }
 {
     let Some(rest) = strip(line, b"hold ") else {
@@ -89,8 +89,8 @@ pub(crate) fn hold(alloc: Global, line: &[u8]) -> Result<Option<(Asn, Entry)>, N
 
 /// Which ASes the line activates; `None` exactly where the line has not the form.
 #[tactic(auto, unfolding(crate::specs::Files::act_of))]
-pub(crate) fn act(alloc: Global, line: &[u8]) -> Result<Option<Path>, NoMemory>
-    requires { length line.now ≤ 16777216 }
+pub(crate) fn read_act(alloc: Global, line: &[u8]) -> Result<Option<Path>, NoMemory>
+    requires { length line.now ≤ MOST_TEXT_BYTES }
     ensures { IfOk result (λ r. r ≡ form "act " act_of (λ x. x) line.now) }
 {
     let Some(rest) = strip(line, b"act ") else {

@@ -8,8 +8,8 @@ ghost use Rattle.activations.specs.Named.{AreSound};
 ghost use Rattle.activations.specs.declared.reading.ActsError.TheVariants.{Memory};
 
 use crate::acts::{Acts, NamedAses};
-use crate::forms::{act, hold};
-use net_names::{Asn, NoMemory, Path, Prefix, next_kept};
+use crate::forms::{read_act, read_hold};
+use net_names::{Asn, MOST_TEXT_BYTES, NoMemory, Path, Prefix, next_kept};
 use scenario_text::read_for;
 use stability_laws::{Entry, Routing};
 use std::alloc::Global;
@@ -54,7 +54,7 @@ impl From<NoMemory> for ActsError {
 // Puts in what an AS holds, as the line of this number says.
 fn put_hold(mut acts: Acts, number: u32, asn: Asn, entry: Entry) -> Result<Acts, ActsError>
     requires sound { AreSound acts }
-    requires few { length entry.path < 16777216 }
+    requires few { length entry.path < MOST_TEXT_BYTES }
     requires begins { starts_with nat_eq entry.path (asn ∷ []) ≡ true }
     ensures gives { Gives result (with_hold acts number (asn, entry)) }
     ensures sound { IfOk result AreSound }
@@ -88,15 +88,15 @@ fn put_acts(mut acts: Acts, number: u32, ases: &[Asn]) -> Result<Acts, ActsError
 
 // Puts in what the line of this number says.
 fn put_line(alloc: Global, acts: Acts, number: u32, line: &[u8]) -> Result<Acts, ActsError>
-    requires short { length line.now ≤ 16777216 }
+    requires short { length line.now ≤ MOST_TEXT_BYTES }
     requires sound { AreSound acts }
     ensures gives { Gives result (with_line acts (number, line.now)) }
     ensures sound { IfOk result AreSound }
 {
-    if let Some((asn, entry)) = hold(alloc, line)? {
+    if let Some((asn, entry)) = read_hold(alloc, line)? {
         return put_hold(acts, number, asn, entry);
     }
-    match act(alloc, line)? {
+    match read_act(alloc, line)? {
         Some(ases) => put_acts(acts, number, ases.as_slice()),
         None => Err(ActsError::Unreadable { line: number }),
     }
@@ -105,7 +105,7 @@ fn put_line(alloc: Global, acts: Acts, number: u32, line: &[u8]) -> Result<Acts,
 // Puts in what the lines of these bytes say, of which the first has this number.
 fn put_lines(alloc: Global, acts: Acts, number: u32, bytes: &[u8]) -> Result<Acts, ActsError>
     requires first { 1 ≤ number }
-    requires short { number + length bytes.now ≤ 16777217 }
+    requires short { number + length bytes.now ≤ MOST_TEXT_BYTES + 1 }
     requires sound { AreSound acts }
     ensures gives { Gives result (said_on with_line acts (kept_from number bytes.now)) }
     ensures sound { IfOk result AreSound }
@@ -154,7 +154,7 @@ fn begun(alloc: Global, number: u32, names: (u32, Prefix)) -> Acts
 /// AS holds; `TooMany` exactly where the file asks with it for more than 1,000,000 activations; `Memory`
 /// where there is not enough memory.
 pub fn read_acts(alloc: Global, bytes: &[u8]) -> Result<Acts, ActsError>
-    requires { length bytes.now ≤ 16777216 }
+    requires { length bytes.now ≤ MOST_TEXT_BYTES }
     ensures gives { Gives result (acts_by (kept_from 1 bytes.now)) }
     ensures sound { IfOk result AreSound }
 {
