@@ -1,5 +1,5 @@
 -- The lines of a file that count, and what they say one after the other (own format).
-use Rattle.std.specs.Prelude.{◌≡◌, ℕ, ◌+◌, not, if◌then◌else◌, List, [], ◌∷◌, map, filter, Result, Ok}
+use Rattle.std.specs.Prelude.{◌≡◌, ℕ, ◌+◌, not, if◌then◌else◌, List, [], ◌∷◌, map, filter, Result, Ok, Err}
 use Rattle.std.specs.List.{enumerate_from}
 use Rattle.std.specs.Str.Lines.{strip_carriage_return}
 use Rattle.net_names.specs.Texts.{fields, is_skipped}
@@ -18,3 +18,8 @@ IsLineAndRest bytes line rest = (number : ℕ) → kept_from number bytes
 unfoldable pub said_on : {S X E : Type 0} → (S → X → Result S E) → S → List X → Result S E
 said_on says said [] = Ok said
 said_on says said (x ∷ xs) = says said x >>= λ now. said_on says now xs
+
+-- what was returned is what the reading gives, or a fault with which the reading fails in this way
+abbrev pub GivesOrFails : {X E : Type 0} → (E → Result X E → Type 0) → Result X E → Result X E → Type 0
+GivesOrFails Fails (Ok x) reading = reading ≡ Ok x
+GivesOrFails Fails (Err e) reading = Fails e reading

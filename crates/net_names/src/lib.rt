@@ -26,7 +26,7 @@ pub use dealing::{Numbered, deal_by_number};
 pub use digits::{Digits, read_digits};
 pub use hints::{NumberGroups, place_at};
 pub use limits::{MOST_IN_PATH, MOST_LIST_BYTES, MOST_TEXT_BYTES};
-pub use lines::{KeptLine, next_kept};
+pub use lines::{KeptLine, LineByLine, next_kept, put_lines};
 pub use links::{Link, Links, LinksError, MOST_LINKS};
 pub use numbers::{Asn, NoMemory, Path};
 pub use payloads::Vrp;

@@ -1,10 +1,11 @@
 //! The lines of a file that count.
-ghost use Rattle.std.specs.Prelude.{◌≡◌, ◌+◌, ◌^◌, ◌<◌, ◌≤◌, [], ◌∷◌, length, IfSome, IfNone};
+ghost use Rattle.std.specs.Prelude.{◌≡◌, ℕ, ◌+◌, ◌^◌, ◌<◌, ◌≤◌, List, [], ◌∷◌, length, IfSome, IfNone, IfOk, Result, Err};
 ghost use Rattle.std.specs.Str.Lines.{strip_carriage_return};
-ghost use Rattle.net_names.specs.Lines.{kept_from, IsLineAndRest};
+ghost use Rattle.net_names.specs.Lines.{kept_from, said_on, GivesOrFails, IsLineAndRest};
 ghost use Rattle.net_names.specs.Texts.{is_skipped};
 
 use crate::reading::cut;
+use std::alloc::Global;
 
 /// A line that isn't skipped.
 #[derive(Clone, Copy)]
@@ -76,4 +77,67 @@ pub fn next_kept(bytes: &[u8], number: u32) -> Option<KeptLine<'_>>
         at += 1;
     }
     None
+}
+
+/// What a file says, put together line by line. [`put_lines`] is the one loop over the lines.
+///
+/// An `impl` says what a line adds (`says`), with which faults a reading fails (`Fails`, where want of memory says
+/// nothing), what holds before the line of a number is put in (`IsReady`), and how long a line is at most (`most`).
+pub trait LineByLine: Sized {
+    /// Why a line is refused.
+    type Error;
+
+    /// What a line that isn't skipped, with its number, says behind what was said before.
+    ghost says: { Self → ℕ × List ℕ → Result Self Self.Error };
+
+    /// A reading fails in this way.
+    ghost Fails: { Self.Error → Result Self Self.Error → Type 0 };
+
+    /// What was said stands before the line of this number.
+    ghost IsReady: { ℕ → Self → Type 0 };
+
+    /// How many bytes a line has at most.
+    ghost most: { ℕ };
+
+    /// Puts in what the line of this number says.
+    fn put_line(self, alloc: Global, number: u32, line: &[u8]) -> Result<Self, Self::Error>
+        requires short { length line.now ≤ most }
+        requires ready { IsReady number self }
+        ensures gives { GivesOrFails Fails result (says self (number, line.now)) }
+        ensures ready { IfOk result (IsReady (number + 1)) };
+
+    /// A reading that fails as another one does fails in the same way.
+    ghost fails_on: { (e : Self.Error) (r s : Result Self Self.Error) →
+        ((f : Self.Error) → r ≡ Err f → s ≡ Err f) → Fails e r → Fails e s };
+
+    /// What stands before a line stands before a later one.
+    ghost stays_ready: { (n m : ℕ) (s : Self) → n ≤ m → IsReady n s → IsReady m s };
+
+    /// A line is short enough for its file to be numbered.
+    ghost fits: { most + 1 < 2 ^ 32 };
+}
+
+/// Puts in what the lines of these bytes say that aren't skipped, of which the first has this number, up to the first
+/// fault.
+pub fn put_lines<S: LineByLine>(
+    alloc: Global,
+    said: S,
+    number: u32,
+    bytes: &[u8],
+) -> Result<S, S::Error>
+    requires first { 1 ≤ number }
+    requires short { number + length bytes.now ≤ S.most + 1 }
+    requires ready { S.IsReady number said }
+    ensures gives { GivesOrFails S.Fails result (said_on S.says said (kept_from number bytes.now)) }
+    ensures ready { IfOk result (S.IsReady (number + length bytes.now)) }
+{
+    let mut said = said;
+    let mut number = number;
+    let mut rest = bytes;
+    'lines: while let Some(kept) = next_kept(rest, number) {
+        rest = kept.rest;
+        number = kept.number + 1;
+        said = said.put_line(alloc, kept.number, kept.line)?;
+    }
+    Ok(said)
 }
