@@ -19,7 +19,7 @@ use Rattle.message_sim.specs.Agreement.{Agrees}
 use Rattle.message_sim.specs.Nets.{chosen, waiting_in}
 use Rattle.message_sim.specs.declared.news.News.{News}
 use Rattle.message_sim.specs.declared.choosing.Choice.{Choice}
-use Rattle.message_sim.specs.declared.tables.Tables.{Tables}
+use Rattle.message_sim.specs.declared.tables.NetState.{NetState}
 use Rattle.message_sim.specs.News.{told_by, told_to}
 use Rattle.message_sim.specs.Best.{IsChosen, IsHeldBy, received_with, offers_now, offers_after, IsChoiceAfter}
 use Rattle.message_sim.specs.Rows.{ChoiceRows, BestRows, LineRows, link_eq, choice_at, best_at, best_on, received_at, queue_at, KeepsWaiting}
@@ -126,7 +126,7 @@ module _ (w : Setting) (seeds : ℕ → Option Seed) (choices choices' : ChoiceR
     other_choices = λ b ne. ap chosen (put.other_choices b ne);
   })
 
-  module _ (t u : Tables) (from : Rel) (linked : w.relation a n ≡ Some from) (self : (a : ℕ) → w.relation a a ≡ None) (ends : (a b : ℕ) (r : Rel) → w.relation a b ≡ Some r → w.has a ≡ true)
+  module _ (t u : NetState) (from : Rel) (linked : w.relation a n ≡ Some from) (self : (a : ℕ) → w.relation a a ≡ None) (ends : (a b : ℕ) (r : Rel) → w.relation a b ≡ Some r → w.has a ≡ true)
       (kept : IsKept w seeds t) (waiting : BTreeSet (ℕ × ℕ))
       (c0 : t.choices.entries ≡ choices) (b0 : t.bests.entries ≡ bests) (l0 : t.lines.entries ≡ lines)
       (c1 : u.choices.entries ≡ choices') (b1 : u.bests.entries ≡ bests') (l1 : u.lines.entries ≡ lines')

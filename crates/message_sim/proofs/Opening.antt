@@ -13,7 +13,7 @@ use Rattle.stability_laws.specs.declared.entry.Seed.{Seed}
 use Rattle.stability_laws.specs.Entries.{seed_entry}
 use Rattle.stability_laws.specs.Offers.{Setting, Offer, offer_given}
 use Rattle.message_sim.specs.declared.line.Line.{Line}
-use Rattle.message_sim.specs.declared.tables.Tables.{Tables}
+use Rattle.message_sim.specs.declared.tables.NetState.{NetState}
 use Rattle.message_sim.specs.Messages.{sent_given, IsStart}
 use Rattle.message_sim.specs.Nets.{chosen, received_on, queue_on, waiting_in}
 use Rattle.message_sim.specs.Rows.{link_eq, choice_at, best_at, best_on, queue_at}
@@ -41,7 +41,7 @@ held_first : (p : Policy) (seed : Option Seed) (offers : ℕ → Option Offer) �
 held_first p None offers none = (none, refl)
 held_first p (Some s) offers none = refl
 
-module _ (w : Setting) (seeds : ℕ → Option Seed) (turns : IsMutual w.relation) (only : (a : ℕ) → w.has a ≡ false → seeds a ≡ None) (ases : List ℕ) (listed : (a : ℕ) → occurs a ases ≡ w.has a) (rows : List ℕ) (listed' : (a : ℕ) → occurs a rows ≡ w.has a) (t : Tables)
+module _ (w : Setting) (seeds : ℕ → Option Seed) (turns : IsMutual w.relation) (only : (a : ℕ) → w.has a ≡ false → seeds a ≡ None) (ases : List ℕ) (listed : (a : ℕ) → occurs a ases ≡ w.has a) (rows : List ℕ) (listed' : (a : ℕ) → occurs a rows ≡ w.has a) (t : NetState)
     (choices : AreFirstChoices ases seeds t.choices.entries) (bests : AreNoBests rows t.bests.entries)
     (lines : (n a : ℕ) → lookup (link_eq (n, a)) t.lines.entries ≡ line_at_start (w.policy n) (w.relation a n) (choice_at t.choices.entries n)) where
   choice_first : (a : ℕ) → choice_at t.choices.entries a ≡ option_map seed_entry (seeds a)

@@ -22,14 +22,14 @@ use Rattle.message_sim.specs.Rows.{LineRows, ChoiceRows, BestRows, link_eq, choi
 use Rattle.message_sim.specs.Best.{IsHeldBy, offers_now, offers_after}
 use Rattle.message_sim.specs.declared.news.News.{News}
 use Rattle.message_sim.specs.declared.choosing.Choice.{Choice}
-use Rattle.message_sim.specs.declared.tables.Tables.{Tables}
+use Rattle.message_sim.specs.declared.tables.NetState.{NetState}
 
 -- the net that the tables keep
 abbrev pub net_in : ChoiceRows → LineRows → MessageNet
 net_in choices lines = record { choice = choice_at choices; received = received_at lines; queue = queue_at lines }
 
 -- what the tables keep: the net agrees with what is sent; each AS has its rows, and what it holds is what its best view says; each link has a line, and no other pair; each waiting link is noted; and the messages are counted
-pub record IsKept (w : Setting) (seeds : ℕ → Option Seed) (t : Tables) : Type 0 where
+pub record IsKept (w : Setting) (seeds : ℕ → Option Seed) (t : NetState) : Type 0 where
   pub agrees : Agrees w seeds (net_in t.choices.entries t.lines.entries)
   pub choice_rows : (a : ℕ) → w.has a ≡ true → is_some (lookup (nat_eq a) t.choices.entries) ≡ true
   pub best_rows : (a : ℕ) → w.has a ≡ true → is_some (lookup (nat_eq a) t.bests.entries) ≡ true
@@ -63,17 +63,17 @@ pub record AreNewsAt (p : Policy) (relation : ℕ → Option Rel) (old new : Opt
   pub within : (k : ℕ) (d : News) → k < length news → is_some (relation (slice_index_or news k d).to) ≡ true
 
 -- the choices and the lines are the same
-pub record IsSameNet (t u : Tables) : Type 0 where
+pub record IsSameNet (t u : NetState) : Type 0 where
   pub choices : u.choices.entries ≡ t.choices.entries
   pub lines : u.lines.entries ≡ t.lines.entries
 
 -- a delivery where there was a message, and else the same choices and lines
-abbrev pub IsTurnIn : Setting → (ℕ → Option Seed) → Tables → Tables → ℕ → ℕ → Bool → Type 0
+abbrev pub IsTurnIn : Setting → (ℕ → Option Seed) → NetState → NetState → ℕ → ℕ → Bool → Type 0
 IsTurnIn w seeds t u n a true = IsDelivery w seeds (net_in t.choices.entries t.lines.entries) n a (net_in u.choices.entries u.lines.entries)
 IsTurnIn w seeds t u n a false = (queue_at t.lines.entries n a ≡ []) × IsSameNet t u
 
 -- there is no provider cycle, and the tables keep what they keep
-pub record IsNet (g : Topology) (w : Setting) (seeds : ℕ → Option Seed) (t : Tables) : Type 0 where
+pub record IsNet (g : Topology) (w : Setting) (seeds : ℕ → Option Seed) (t : NetState) : Type 0 where
   pub no_cycle : HasNoProviderCycle (relation g)
   pub kept : IsKept w seeds t
 

@@ -1,7 +1,7 @@
 //! A message that is about to be received.
 use crate::ground::Ground;
-use crate::held::Held;
 use crate::line::Line;
+use crate::route::Route;
 use indexmap::IndexMap;
 use net_names::Asn;
 
@@ -18,5 +18,5 @@ pub struct Arrival<'a, P, V> {
     /// The AS that is about to receive it.
     pub(crate) to: Asn,
     /// The message.
-    pub(crate) message: Option<&'a Held>,
+    pub(crate) message: Option<&'a Route>,
 }

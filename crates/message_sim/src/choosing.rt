@@ -7,8 +7,8 @@ ghost use Rattle.message_sim.specs.Arrivals.{offers_before, offers_upon};
 ghost use Rattle.message_sim.specs.Best.{received_with, IsChosen, IsChoiceAfter, IsNoWorse, IsKeptView};
 
 use crate::arrival::Arrival;
-use crate::held::Held;
 use crate::line::Line;
+use crate::route::Route;
 use as_graph::Neighbour;
 use indexmap::IndexMap;
 use net_names::{Asn, NoMemory, Rel};
@@ -20,11 +20,11 @@ use std::alloc::Global;
 #[derive(Drop)]
 pub struct Choice {
     pub(crate) best: Option<View>,
-    pub(crate) held: Option<Held>,
+    pub(crate) held: Option<Route>,
 }
 
 /// What was received last over a link.
-fn received_over(lines: &IndexMap<(Asn, Asn), Line>, from: Asn, to: Asn) -> Option<&Held>
+fn received_over(lines: &IndexMap<(Asn, Asn), Line>, from: Asn, to: Asn) -> Option<&Route>
     ensures { option_copied result ≡ received_at lines.now.entries from to }
 {
     match lines.get(&(from, to)) {
@@ -34,7 +34,7 @@ fn received_over(lines: &IndexMap<(Asn, Asn), Line>, from: Asn, to: Asn) -> Opti
 }
 
 /// What the receiver has received last of `n`, once it has received the message.
-fn heard<'a, P, V>(arrival: &Arrival<'a, P, V>, n: Asn) -> Option<&'a Held>
+fn heard<'a, P, V>(arrival: &Arrival<'a, P, V>, n: Asn) -> Option<&'a Route>
     ensures { option_copied result ≡
         received_with (λ m. received_at arrival.now.lines.now.entries m arrival.now.to) arrival.now.from
         (option_copied arrival.now.message) n }
@@ -135,14 +135,14 @@ fn held_of<P: RoutePolicy>(
     n: Asn,
     a: Asn,
     rel: Rel,
-    given: &Held,
-) -> Result<Held, NoMemory>
+    given: &Route,
+) -> Result<Route, NoMemory>
     ensures { IfOk result (λ h. h ≡
         passed_on (P.meaning sender.now).marks (P.meaning receiver.now).marks n a rel given.now) }
 {
     let entry = given.entry();
     let otc = carried(sender, receiver, n, rel.converse(), entry.otc);
-    Held::put_before(alloc, class_from(rel), a, entry.path.as_slice(), otc)
+    Route::put_before(alloc, class_from(rel), a, entry.path.as_slice(), otc)
 }
 
 /// What an AS holds where this is the view of its best offer.
@@ -150,7 +150,7 @@ fn held_by_view<P: RoutePolicy, V: OriginStates>(
     alloc: Global,
     arrival: &Arrival<'_, P, V>,
     best: Option<View>,
-) -> Result<Option<Held>, NoMemory>
+) -> Result<Option<Route>, NoMemory>
     requires { IsBestView (P.meaning (policy_at arrival.now.ground.now.book.now arrival.now.to))
         (offers_upon P.meaning V.state_of arrival.now) best }
     ensures { IfOk result (IsChosen (P.meaning (policy_at arrival.now.ground.now.book.now arrival.now.to))

@@ -9,18 +9,17 @@ mod arrival;
 mod choosing;
 mod forms;
 mod ground;
-mod held;
 mod laws;
 mod line;
 mod net;
 mod news;
 mod reading;
+mod route;
 mod starting;
 mod steps;
 mod tables;
 mod writes;
 
-pub use held::Held;
 pub use laws::{
     deliveries_are_those_said, deliveries_end, deliveries_settle, fair_orders_settle,
     quiet_nets_are_stable, rest_settles, turns_settle, worlds_have_heights,
@@ -28,4 +27,5 @@ pub use laws::{
 pub use line::Line;
 pub use net::Net;
 pub use reading::{DeliveriesError, read_deliveries};
-pub use steps::{Deliveries, MOST_DELIVERIES, Step, Steps};
+pub use route::Route;
+pub use steps::{Deliveries, DeliverySteps, MOST_DELIVERIES, Step};

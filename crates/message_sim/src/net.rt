@@ -11,8 +11,8 @@ ghost use Rattle.message_sim.specs.Turns.{AreTurns, first_foreign_in, is_foreign
 
 use crate::ground::Ground;
 use crate::starting::{count, first_choices, first_lines, no_bests, waiting_links};
-use crate::steps::{Step, Steps};
-use crate::tables::{Tables, are_none_waiting, choice_in, deliver_in, lowest, under_way};
+use crate::steps::{DeliverySteps, Step};
+use crate::tables::{NetState, are_none_waiting, choice_in, deliver_in, lowest, under_way};
 use as_graph::Graph;
 use net_names::{Asn, NoMemory, Prefix};
 use policy_laws::{OriginStates, RoutePolicy};
@@ -25,12 +25,8 @@ use std::marker::Model;
 /// world of the net, which stays as it is.
 #[derive(Drop)]
 pub struct Net<'a, P: RoutePolicy, V: OriginStates> {
-    graph: &'a Graph,
-    book: &'a Book<P>,
-    states: &'a V,
-    prefix: Prefix,
-    seeds: &'a Seeds,
-    tables: Tables,
+    ground: Ground<'a, P, V>,
+    tables: NetState,
 }
 
 impl<'a, P: RoutePolicy, V: OriginStates> Model for Net<'a, P, V> {
@@ -43,9 +39,9 @@ impl<'a, P: RoutePolicy, V: OriginStates> Model for Net<'a, P, V> {
 
     ghost coded = { net_code P.code V.code };
 
-    ghost view = { λ n. value_of (record { graph = n.graph.now; book = n.book.now; states = n.states.now; prefix = n.prefix; seeds = n.seeds.now }) n.tables.choices.entries n.tables.lines.entries };
+    ghost view = { λ n. value_of (record { graph = n.ground.graph.now; book = n.ground.book.now; states = n.ground.states.now; prefix = n.ground.prefix; seeds = n.ground.seeds.now }) n.tables.choices.entries n.tables.lines.entries };
 
-    ghost invariant = { λ n. IsNet n.graph.now (setting P.meaning n.graph.now n.book.now (V.state_of n.states.now n.prefix)) (fin.get n.seeds.now) n.tables };
+    ghost invariant = { λ n. IsNet n.ground.graph.now (setting P.meaning n.ground.graph.now n.ground.book.now (V.state_of n.ground.states.now n.ground.prefix)) (fin.get n.ground.seeds.now) n.tables };
 }
 
 // How many messages a turn takes out.
@@ -81,12 +77,14 @@ impl<'a, P: RoutePolicy, V: OriginStates> Net<'a, P, V> {
         let waiting = waiting_links(alloc, &lines)?;
         let queued = count(&lines)?;
         Ok(Net {
-            graph,
-            book,
-            states,
-            prefix,
-            seeds,
-            tables: Tables {
+            ground: Ground {
+                graph,
+                book,
+                states,
+                prefix,
+                seeds,
+            },
+            tables: NetState {
                 choices,
                 bests,
                 lines,
@@ -108,14 +106,7 @@ impl<'a, P: RoutePolicy, V: OriginStates> Net<'a, P, V> {
             (seeds_in self.old.world) self.old from to self.new) }
         ensures err { OnErr result (self.new ≡ self.old) }
     {
-        let ground = Ground {
-            graph: self.graph,
-            book: self.book,
-            states: self.states,
-            prefix: self.prefix,
-            seeds: self.seeds,
-        };
-        deliver_in(alloc, &ground, &mut self.tables, from, to)
+        deliver_in(alloc, &self.ground, &mut self.tables, from, to)
     }
 
     /// Whether no message is under way. Then what the ASes hold is the one stable routing of the seeds.
@@ -203,7 +194,7 @@ impl<'a, P: RoutePolicy, V: OriginStates> Net<'a, P, V> {
 
     /// Makes the turns that the steps ask for, one after the other; how many messages they take out. `Err`
     /// where there is not enough memory; then the turns before were made.
-    pub fn run(&mut self, alloc: Global, steps: &Steps) -> Result<u32, NoMemory>
+    pub fn run(&mut self, alloc: Global, steps: &DeliverySteps) -> Result<u32, NoMemory>
         requires linked { first_foreign_in (relation self.old.world.graph) steps.now ≡ None }
         ensures world { self.new.world ≡ self.old.world }
         ensures run { IfOk result (λ made. AreTurns (net_setting P.meaning V.state_of self.old.world)

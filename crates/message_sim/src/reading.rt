@@ -5,8 +5,8 @@ ghost use Rattle.message_sim.specs.Files.{Gives, deliveries_by, with_line};
 ghost use Rattle.message_sim.specs.declared.reading.DeliveriesError.TheVariants.{Memory};
 
 use crate::forms::step;
-use crate::steps::{Deliveries, MOST_DELIVERIES, Steps};
-use net_names::{NoMemory, Prefix, next_kept};
+use crate::steps::{Deliveries, DeliverySteps, MOST_DELIVERIES};
+use net_names::{MOST_TEXT_BYTES, NoMemory, Prefix, next_kept};
 use scenario_text::read_for;
 use std::alloc::Global;
 
@@ -64,7 +64,7 @@ fn put_lines(
     bytes: &[u8],
 ) -> Result<Deliveries, DeliveriesError>
     requires first { 1 ≤ number }
-    requires short { number + length bytes.now ≤ 16777217 }
+    requires short { number + length bytes.now ≤ MOST_TEXT_BYTES + 1 }
     ensures { Gives result (said_on with_line deliveries (kept_from number bytes.now)) }
 {
     let mut deliveries = deliveries;
@@ -87,7 +87,7 @@ fn begun(alloc: Global, number: u32, names: (u32, Prefix)) -> Deliveries
         for_line: number,
         round,
         prefix,
-        steps: Steps::new(alloc),
+        steps: DeliverySteps::new(alloc),
     }
 }
 
@@ -101,7 +101,7 @@ fn begun(alloc: Global, number: u32, names: (u32, Prefix)) -> Deliveries
 /// the form, and `TooMany` exactly where it has it and the file asks with it for more than 1,000,000
 /// deliveries; `Memory` where there is not enough memory.
 pub fn read_deliveries(alloc: Global, bytes: &[u8]) -> Result<Deliveries, DeliveriesError>
-    requires { length bytes.now ≤ 16777216 }
+    requires { length bytes.now ≤ MOST_TEXT_BYTES }
     ensures { Gives result (deliveries_by (kept_from 1 bytes.now)) }
 {
     let Some(first) = next_kept(bytes, 1) else {

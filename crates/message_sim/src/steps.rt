@@ -35,12 +35,12 @@ impl Model for Step {
 
 /// Steps in their order, which ask for at most 1,000,000 deliveries. Contracts see the list of them.
 #[derive(Drop)]
-pub struct Steps {
+pub struct DeliverySteps {
     items: Vec<Step>,
     asked: u32,
 }
 
-impl Model for Steps {
+impl Model for DeliverySteps {
     ghost use Rattle.std.specs.Prelude.{◌≡◌, ◌≤◌, List, length};
     ghost use Rattle.message_sim.specs.StepValues.{StepValue};
     ghost use Rattle.message_sim.specs.declared.steps.TheConstants.{MOST_DELIVERIES as most};
@@ -53,12 +53,12 @@ impl Model for Steps {
     ghost invariant = { λ s. (s.asked ≡ length (turns_of s.items.items)) × (s.asked ≤ most) };
 }
 
-impl Steps {
+impl DeliverySteps {
     /// No steps.
-    pub(crate) fn new(alloc: Global) -> Steps
+    pub(crate) fn new(alloc: Global) -> DeliverySteps
         ensures { result ≡ [] }
     {
-        Steps {
+        DeliverySteps {
             items: Vec::new(alloc),
             asked: 0,
         }
@@ -110,7 +110,7 @@ pub struct Deliveries {
     /// The prefix.
     pub prefix: Prefix,
     /// The steps.
-    pub steps: Steps,
+    pub steps: DeliverySteps,
 }
 
 // Whether the step names two ASes that have no link.

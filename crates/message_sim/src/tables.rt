@@ -16,9 +16,9 @@ ghost use Rattle.message_sim.specs.News.{news_count};
 use crate::arrival::Arrival;
 use crate::choosing::{Choice, choose};
 use crate::ground::Ground;
-use crate::held::{Held, same_held};
 use crate::line::Line;
 use crate::news::{News, news_of};
+use crate::route::{Route, same_route};
 use crate::starting::MOST_MESSAGES;
 use crate::writes::{is_waiting, note, oldest, put_best, put_choice, send_all, take};
 use as_graph::Graph;
@@ -32,8 +32,8 @@ use std::collections::BTreeSet;
 /// What each AS holds, the view of its best offer, the lines, links among which are all those on which
 /// messages are under way, and how many messages are.
 #[derive(Drop)]
-pub struct Tables {
-    pub(crate) choices: IndexMap<Asn, Option<Held>>,
+pub struct NetState {
+    pub(crate) choices: IndexMap<Asn, Option<Route>>,
     pub(crate) bests: IndexMap<Asn, Option<View>>,
     pub(crate) lines: IndexMap<(Asn, Asn), Line>,
     pub(crate) waiting: BTreeSet<(Asn, Asn)>,
@@ -63,9 +63,9 @@ fn news_at<P: RoutePolicy>(
     alloc: Global,
     graph: &Graph,
     book: &Book<P>,
-    choices: &IndexMap<Asn, Option<Held>>,
+    choices: &IndexMap<Asn, Option<Route>>,
     a: Asn,
-    new: &Option<Held>,
+    new: &Option<Route>,
 ) -> Result<Vec<News>, NoMemory>
     requires { is_some (lookup (nat_eq a) choices.now.entries) ≡ true }
     ensures { IfOk result (λ v. AreNewsAt (P.meaning (policy_at book.now a)) (relation graph.now a)
@@ -73,7 +73,7 @@ fn news_at<P: RoutePolicy>(
 {
     match choices.get(&a) {
         Some(old) => {
-            if same_held(old, new) {
+            if same_route(old, new) {
                 return Ok(Vec::new(alloc));
             }
             let news = news_of(alloc, book.policy(a), graph.neighbours(a), old, new)?;
@@ -87,7 +87,7 @@ fn news_at<P: RoutePolicy>(
 fn change_to<P: RoutePolicy, V: OriginStates>(
     alloc: Global,
     ground: &Ground<'_, P, V>,
-    choices: &IndexMap<Asn, Option<Held>>,
+    choices: &IndexMap<Asn, Option<Route>>,
     a: Asn,
     choice: Option<Choice>,
 ) -> Result<Change, NoMemory>
@@ -116,11 +116,11 @@ fn change_to<P: RoutePolicy, V: OriginStates>(
 fn change_by<P: RoutePolicy, V: OriginStates>(
     alloc: Global,
     ground: &Ground<'_, P, V>,
-    tables: &Tables,
+    tables: &NetState,
     from: Asn,
     to: Asn,
     rel: Rel,
-    message: &Option<Held>,
+    message: &Option<Route>,
 ) -> Result<Change, NoMemory>
     requires linked { relation ground.now.graph.now to from ≡ Some rel }
     requires kept { IsKept (ground_setting P.meaning V.state_of ground.now)
@@ -152,7 +152,7 @@ fn change_by<P: RoutePolicy, V: OriginStates>(
 
 /// Writes what an AS newly holds, where its choice has changed.
 fn put_change(
-    choices: &mut IndexMap<Asn, Option<Held>>,
+    choices: &mut IndexMap<Asn, Option<Route>>,
     bests: &mut IndexMap<Asn, Option<View>>,
     a: Asn,
     choice: Option<Choice>,
@@ -203,7 +203,7 @@ fn forget(
 pub(crate) fn deliver_in<P: RoutePolicy, V: OriginStates>(
     alloc: Global,
     ground: &Ground<'_, P, V>,
-    tables: &mut Tables,
+    tables: &mut NetState,
     from: Asn,
     to: Asn,
 ) -> Result<bool, NoMemory>
@@ -238,7 +238,7 @@ pub(crate) fn deliver_in<P: RoutePolicy, V: OriginStates>(
 }
 
 /// What an AS holds.
-pub(crate) fn choice_in(choices: &IndexMap<Asn, Option<Held>>, a: Asn) -> Option<&Entry>
+pub(crate) fn choice_in(choices: &IndexMap<Asn, Option<Route>>, a: Asn) -> Option<&Entry>
     ensures { option_copied result ≡ choice_at choices.now.entries a }
 {
     match choices.get(&a) {

@@ -8,4 +8,4 @@ pub returns : goal.returns
 returns g c =
     let s = c.self.inside in
     seen_as _ s.tables.choices.entries s.tables.lines.entries _ c.self.view_is (λ w x. c.under_way.result ≡ queued_in w.graph x)
-    (c.under_way.ensures (each s.graph.now) (each_once s.graph.now) (λ n a there. ends_in s.graph.now n a (sym (c.self.invariant.kept.linked n a) ∙ there)))
+    (c.under_way.ensures (each s.ground.graph.now) (each_once s.ground.graph.now) (λ n a there. ends_in s.ground.graph.now n a (sym (c.self.invariant.kept.linked n a) ∙ there)))

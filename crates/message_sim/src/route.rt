@@ -2,18 +2,18 @@
 ghost use Rattle.std.specs.Prelude.{◌≡◌, ◌↔◌, ◌∷◌, ◌<◌, ◌-◌, ◌^◌, length, IsTrue, IfOk, Some};
 ghost use Rattle.stability_laws.specs.Prelude.{seed_entry};
 
-use net_names::{Asn, Class, NoMemory, Path};
+use net_names::{Asn, Class, MOST_IN_PATH, NoMemory, Path};
 use stability_laws::{Entry, Seed, same_class, same_number, same_path};
 use std::alloc::Global;
 use std::marker::Model;
 
 /// An entry whose path has at most 4294967294 numbers.
 #[derive(Drop)]
-pub struct Held {
+pub struct Route {
     entry: Entry,
 }
 
-impl Model for Held {
+impl Model for Route {
     ghost use Rattle.std.specs.Prelude.{◌<◌, ◌-◌, ◌^◌, length};
     ghost use Rattle.stability_laws.specs.declared.entry.Entry.{Entry as AnEntry};
     ghost use Rattle.stability_laws.specs.contracts.entry.Entry as entry_contract;
@@ -27,7 +27,7 @@ impl Model for Held {
     ghost invariant = { λ h. length h.entry.path < 2 ^ 32 - 1 };
 }
 
-impl Held {
+impl Route {
     /// The entry.
     pub fn entry(&self) -> &Entry
         ensures value { result.now ≡ self.now }
@@ -37,11 +37,11 @@ impl Held {
     }
 
     /// A copy of it.
-    pub(crate) fn copy(&self, alloc: Global) -> Result<Held, NoMemory>
+    pub(crate) fn copy(&self, alloc: Global) -> Result<Route, NoMemory>
         ensures { IfOk result (λ h. h ≡ self.now) }
     {
-        let path = copied(alloc, self.entry.path.as_slice())?;
-        Ok(Held {
+        let path = self.entry.path.copied(alloc)?;
+        Ok(Route {
             entry: Entry {
                 class: self.entry.class,
                 path,
@@ -51,12 +51,12 @@ impl Held {
     }
 
     /// What an AS with the seed holds.
-    pub(crate) fn of_seed(alloc: Global, seed: &Seed) -> Result<Held, NoMemory>
+    pub(crate) fn of_seed(alloc: Global, seed: &Seed) -> Result<Route, NoMemory>
         requires { length seed.now.path < 2 ^ 32 - 1 }
         ensures { IfOk result (λ h. h ≡ seed_entry seed.now) }
     {
-        let path = copied(alloc, seed.path.as_slice())?;
-        Ok(Held {
+        let path = seed.path.copied(alloc)?;
+        Ok(Route {
             entry: Entry {
                 class: Class::Origin,
                 path,
@@ -73,36 +73,17 @@ impl Held {
         first: Asn,
         rest: &[Asn],
         otc: Option<Asn>,
-    ) -> Result<Held, NoMemory>
+    ) -> Result<Route, NoMemory>
         ensures { IfOk result (λ h. h ≡ record { class = class; path = first ∷ rest.now; otc = otc }) }
     {
-        if rest.len() > 4_294_967_290 {
+        if rest.len() >= MOST_IN_PATH {
             return Err(NoMemory);
         }
-        let path = longer(alloc, first, rest)?;
-        Ok(Held {
+        let path = Path::with_front(alloc, first, rest)?;
+        Ok(Route {
             entry: Entry { class, path, otc },
         })
     }
-}
-
-/// A copy of a path.
-fn copied(alloc: Global, path: &[Asn]) -> Result<Path, NoMemory>
-    ensures { IfOk result (λ p. p ≡ path.now) }
-{
-    let numbers = Vec::from_slice(alloc, path)?;
-    Ok(Path::from_vec(numbers))
-}
-
-/// The path of an AS and then the rest.
-fn longer(alloc: Global, first: Asn, rest: &[Asn]) -> Result<Path, NoMemory>
-    requires { length rest.now < 2 ^ 32 }
-    ensures { IfOk result (λ p. p ≡ first ∷ rest.now) }
-{
-    let mut numbers = Vec::with_capacity(alloc, rest.len() + 1)?;
-    numbers.push(first)?;
-    numbers.extend_from_slice(rest)?;
-    Ok(Path::from_vec(numbers))
 }
 
 fn same_entry(a: &Entry, b: &Entry) -> bool
@@ -115,7 +96,7 @@ fn same_entry(a: &Entry, b: &Entry) -> bool
 }
 
 /// Whether the same is held.
-pub(crate) fn same_held(a: &Option<Held>, b: &Option<Held>) -> bool
+pub(crate) fn same_route(a: &Option<Route>, b: &Option<Route>) -> bool
     ensures { IsTrue result ↔ (a.now ≡ b.now) }
 {
     match (a, b) {
