@@ -1,4 +1,4 @@
-// An AS number that the digits at the head of a text write.
+//! An AS number that the digits at the head of a text write.
 ghost use Rattle.std.specs.Prelude.{IfSome};
 ghost use Rattle.caida_reader.specs.Plain.{BeginsWithAsn};
 

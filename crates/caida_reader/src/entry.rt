@@ -1,4 +1,4 @@
-// A pair with its first line, in twelve bytes.
+//! A pair with its first line, in twelve bytes.
 ghost use Rattle.std.specs.Prelude.{◌≡◌, ◌<◌};
 ghost use Rattle.caida_reader.specs.Entries.{rel_at as rel_of_code, first_in, entry_of};
 ghost use Rattle.caida_reader.specs.Runs.{link_of, turned};

@@ -1,4 +1,4 @@
-// Why a relationship file has no links.
+//! Why a relationship file has no links.
 ghost use Rattle.std.specs.Prelude.{◌≡◌};
 ghost use Rattle.caida_reader.specs.declared.errors.RelError.TheVariants.{Memory};
 

@@ -1,4 +1,4 @@
-// The pairs of the lines so far, each with its first line.
+//! The pairs of the lines so far, each with its first line.
 ghost use Rattle.std.specs.Prelude.{◌≡◌, ◌<◌, All, Ok, Err, IfOk, OnOk, OnErr, unwrap_or, if◌then◌else◌};
 ghost use Rattle.std.specs.FinMap as fin;
 ghost use Rattle.caida_reader.specs.Says.{IsRising};

@@ -1,4 +1,4 @@
-// What the links of a file are, said of all its lines at once.
+//! What the links of a file are, said of all its lines at once.
 ghost use Rattle.caida_reader.specs.Laws.{AcceptedExactly, GivenExactly, AnyOrder, FirstFaulty, HasCause};
 
 /// The links of a relationship file are those that its lines give: a file has links exactly where its lines are readable,

@@ -1,4 +1,4 @@
-// One line of a relationship file.
+//! One line of a relationship file.
 ghost use Rattle.std.specs.Prelude.{◌≡◌, ◌∷◌, ◌++◌, ◌≤◌, ℕ, List, codes, option_map, unwrap_or, IfSome};
 ghost use Rattle.std.specs.Str.Lines.{strip_carriage_return};
 ghost use Rattle.net_names.specs.Prelude.{fields, rel_of};

@@ -1,4 +1,4 @@
-// Marks of pairs. Where the pairs that stand are marked, one that isn't needs no search.
+//! A Bloom filter of pairs. Where the pairs that stand are marked, one that isn't needs no search.
 ghost use Rattle.std.specs.Prelude.{◌≡◌, ◌↔◌, ℕ, All, IsTrue, OnOk, OnErr};
 ghost use Rattle.caida_reader.specs.Marks.{word_of, bits_of, IsMarked};
 
@@ -10,13 +10,20 @@ use std::marker::Model;
 /// For how many pairs there is a word when the marks are made.
 const PAIRS_A_WORD: usize = 4;
 
-/// Marks of pairs: at first all pairs, and then those that were marked, and a few others.
+/// How many words stand together for the pairs of one lower AS. They are a line of memory.
+const GROUP: u64 = 8;
+
+/// A number times this one has upper bits that depend on all of its bits: 2 ^ 64 by the golden ratio.
+const GOLDEN: u64 = 0x9e37_79b9_7f4a_7c15;
+
+/// Marks of pairs: at first all pairs, and then those that were marked, and a few others. A pair is marked by
+/// up to three bits of one word.
 #[derive(Drop)]
-pub(crate) struct Marks {
+pub(crate) struct PairFilter {
     words: Vec<u64>,
 }
 
-impl Model for Marks {
+impl Model for PairFilter {
     ghost use Rattle.std.specs.Prelude.{ℕ, List};
 
     ghost Value = { List ℕ };
@@ -31,17 +38,19 @@ struct Spot {
     bits: u64,
 }
 
+/// Where a pair is marked, among so many words. The lower AS says in which group, the last bits of the higher AS
+/// in which word of it, and three times six bits of the mixed higher AS which bits of the word.
 #[tactic(auto, unfolding(crate::specs::Marks::word_of, crate::specs::Marks::bits_of))]
 #[inline(always)]
 fn spot_of(count: usize, lo: Asn, hi: Asn) -> Spot
     ensures word { result.word ≡ word_of count (lo, hi) }
     ensures bits { result.bits ≡ bits_of (lo, hi) }
 {
-    let mixed_lo = (lo.get() as u64).wrapping_mul(0x9e37_79b9_7f4a_7c15);
-    let group = (mixed_lo >> 32).wrapping_mul(count as u64 / 8);
-    let mixed_hi = (hi.get() as u64).wrapping_mul(0x9e37_79b9_7f4a_7c15);
+    let mixed_lo = (lo.get() as u64).wrapping_mul(GOLDEN);
+    let group = (mixed_lo >> 32).wrapping_mul(count as u64 / GROUP);
+    let mixed_hi = (hi.get() as u64).wrapping_mul(GOLDEN);
     Spot {
-        word: (group >> 32) as usize * 8 + (hi.get() % 8) as usize,
+        word: (group >> 32) as usize * GROUP as usize + (hi.get() % GROUP as u32) as usize,
         bits: (1 << ((mixed_hi >> 58) % 64))
             | (1 << ((mixed_hi >> 52) % 64))
             | (1 << ((mixed_hi >> 46) % 64)),
@@ -53,12 +62,12 @@ fn make_words(alloc: Global, count: usize) -> Result<Vec<u64>, NoMemory> {
     Ok(vec![in alloc; 0; count]?)
 }
 
-impl Marks {
+impl PairFilter {
     /// Marks of all pairs, which take no memory.
-    pub(crate) fn new(alloc: Global) -> Marks
+    pub(crate) fn new(alloc: Global) -> PairFilter
         ensures { (pair : ℕ × ℕ) → IsMarked result pair }
     {
-        Marks {
+        PairFilter {
             words: Vec::new(alloc),
         }
     }

@@ -1,4 +1,4 @@
-// Pairs that come in any order.
+//! Pairs that come in any order.
 ghost use Rattle.std.specs.Prelude.{◌≡◌, ℕ, IsTrue, None, IfOk, OnOk, OnErr};
 ghost use Rattle.std.specs.FinMap as fin;
 ghost use Rattle.caida_reader.specs.Firsts.{with_first};

@@ -1,4 +1,4 @@
-// A relationship file, read in pieces.
+//! A relationship file, read in pieces.
 ghost use Rattle.std.specs.Prelude.{◌≡◌, ◌+◌, ◌<◌, ◌≤◌, ◌^◌, ◌++◌, ◌∷◌, [], ℕ, List, None, length, IfErr, IfSome, IfNone, OnOk};
 ghost use Rattle.caida_reader.specs.Lines.{IsOneLine};
 ghost use Rattle.caida_reader.specs.Says.{says, IsRising};

@@ -1,4 +1,4 @@
-// Pairs that come in rising order.
+//! Pairs that come in rising order.
 ghost use Rattle.std.specs.Prelude.{◌≡◌, ◌<◌, ◌-◌, IsTrue, OnOk, OnErr, length, map};
 ghost use Rattle.std.specs.FinMap as fin;
 ghost use Rattle.std.specs.List.{HoldsAt};

@@ -1,4 +1,4 @@
-// Pairs in two runs.
+//! Pairs in two runs.
 ghost use Rattle.std.specs.Prelude.{◌≡◌, ◌++◌, IsTrue, None, IfOk, OnErr, map, if◌then◌else◌};
 ghost use Rattle.std.specs.FinMap as fin;
 ghost use Rattle.caida_reader.specs.Firsts.{FirstMap};
@@ -7,7 +7,7 @@ ghost use Rattle.caida_reader.specs.Runs.{link_of, turned, joined, AreApart, Are
 
 use crate::entry::{Entry, LINES};
 use crate::firsts::First;
-use crate::marks::Marks;
+use crate::marks::PairFilter;
 use crate::merge::{both_ends, merge};
 use crate::run::Run;
 use net_names::{Asn, Link, NoMemory, deal_by_number};
@@ -24,7 +24,7 @@ const LONG: usize = 4096;
 #[derive(Drop)]
 pub(crate) struct Runs {
     rising: Run,
-    marks: Marks,
+    marks: PairFilter,
     turned: Run,
 }
 
@@ -42,7 +42,7 @@ impl Model for Runs {
 }
 
 // Sets the marks of a run's pairs apart from the others' once the run is long: searches cost more than marks from there on.
-fn mark_long(run: &Run, marks: &mut Marks) -> Result<(), NoMemory>
+fn mark_long(run: &Run, marks: &mut PairFilter) -> Result<(), NoMemory>
     requires { AreMarked run.now marks.old }
     ensures { AreMarked run.now marks.new }
 {
@@ -55,7 +55,7 @@ fn mark_long(run: &Run, marks: &mut Marks) -> Result<(), NoMemory>
 
 // Whether it is plain, without a search, that a pair doesn't stand in a run whose pairs are marked.
 #[inline(always)]
-fn is_new_in(run: &Run, marks: &Marks, lo: Asn, hi: Asn) -> bool
+fn is_new_in(run: &Run, marks: &PairFilter, lo: Asn, hi: Asn) -> bool
     requires { AreMarked run.now marks.now }
     ensures { IsTrue result → fin.get run.now (lo, hi) ≡ None }
 {
@@ -66,7 +66,7 @@ fn is_new_in(run: &Run, marks: &Marks, lo: Asn, hi: Asn) -> bool
 }
 
 // The first line of a pair of a run whose pairs are marked. A pair that isn't marked is not searched for.
-fn get_marked(run: &Run, marks: &Marks, lo: Asn, hi: Asn) -> Option<First>
+fn get_marked(run: &Run, marks: &PairFilter, lo: Asn, hi: Asn) -> Option<First>
     requires { AreMarked run.now marks.now }
     ensures { result ≡ fin.get run.now (lo, hi) }
 {
@@ -96,7 +96,7 @@ impl Runs {
     {
         Runs {
             rising: Run::new(alloc),
-            marks: Marks::new(alloc),
+            marks: PairFilter::new(alloc),
             turned: Run::new(alloc),
         }
     }

@@ -9,7 +9,7 @@ others_apart : (ys : List ℕ) (x : ℕ) → occurs x ys ≡ false → AllByRecu
 others_apart [] x o = tt
 others_apart (y ∷ ys) x o = let parts = or_parts (y == x) (occurs x ys) o in (nat_eq_equiv.symm x y ∙ parts.0, others_apart ys x parts.1)
 
-not_in : (ys : List ℕ) (x : ℕ) → AllByRecursion (λ y. nat_eq x y ≡ false) ys → occurs x ys ≡ false
+pub not_in : (ys : List ℕ) (x : ℕ) → AllByRecursion (λ y. nat_eq x y ≡ false) ys → occurs x ys ≡ false
 not_in [] x d = refl
 not_in (y ∷ ys) x d = rw (nat_eq_equiv.symm y x ∙ d.0, not_in ys x d.1) refl
 

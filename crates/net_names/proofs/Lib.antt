@@ -1,4 +1,5 @@
 pub mod Distinct
+pub mod Shared
 pub mod Rising
 pub mod Marks
 pub mod Pairs

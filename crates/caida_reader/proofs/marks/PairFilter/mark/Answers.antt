@@ -1,7 +1,7 @@
 use Rattle.std.proofs.Common.{◌<◌, length, sym, subst, arith}
 use Rattle.caida_reader.specs.Marks.{IsMarked}
 use Rattle.caida_reader.proofs.MarkLemmas.{still_marked}
-use Rattle.caida_reader.proofs.marks.Marks.mark.Goals as goal
+use Rattle.caida_reader.proofs.marks.PairFilter.mark.Goals as goal
 
 pub returns-then-spot-len-clause-kept : goal.returns-then-spot-len-clause-kept
 returns-then-spot-len-clause-kept c = λ pair marked.

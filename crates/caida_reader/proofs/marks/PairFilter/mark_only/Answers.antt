@@ -3,7 +3,7 @@ use Rattle.std.proofs.lemmas.List.{take_more, take_all}
 use Rattle.std.proofs.lemmas.List.Elements.{All-push, All-weaker}
 use Rattle.caida_reader.specs.Marks.{IsMarked}
 use Rattle.caida_reader.specs.declared.entry.Entry.{Entry}
-use Rattle.caida_reader.proofs.marks.Marks.mark_only.Goals as goal
+use Rattle.caida_reader.proofs.marks.PairFilter.mark_only.Goals as goal
 
 abbrev Marked : List ℕ → Entry → Type 0
 Marked words e = IsMarked words (e.a, e.b)
