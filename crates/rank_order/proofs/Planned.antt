@@ -1,5 +1,5 @@
 -- What a plan makes of the ranks.
-use Rattle.std.proofs.Common.{◌≡◌, inl, inr, ℕ, ◌≤◌, true, false, cond, Some, None, is_some, unwrap_or, List, length, sym, ap, arith, ◌∙◌}
+use Rattle.std.proofs.Common.{◌≡◌, inl, inr, ℕ, ◌≤◌, true, false, cond, Some, None, is_some, unwrap_or, List, [], length, sym, ap, arith, ◌∙◌}
 use Rattle.std.proofs.lemmas.Bool.{cases_Bool}
 use Rattle.std.specs.FinMap as map_of
 use Rattle.net_names.specs.Numbers.{occurs}
@@ -50,6 +50,13 @@ module _ (ranks : KeptRanks) (p : RankPlan) where
         let few : length xs ≤ length p.ases.items = distinct_le xs p.ases.items apart (λ x o. comes_numbered x (comes x o)) in
         omega (arith, few, enough);
   }
+
+  -- a plan that numbers nobody and has no ends changes nothing
+  pub none_last : p.ases.items ≡ [] → IsLastPlan ranks p
+  none_last none = last_plan (rw none (omega arith))
+
+  pub none_same : p.ases.items ≡ [] → p.ends.items ≡ [] → (a : ℕ) → rank_after ranks p a ≡ rank_at ranks a
+  none_same none no_ends a = rank_kept a (ap (occurs a) none) (ap (occurs a) no_ends)
 
   -- a plan that numbers the ASes of a list tells what the list tells
   pub rank_listed : (xs : List RankedAs) → p.ases.items ≡ numbers_of xs → p.ranks.items ≡ ranks_of xs → (a : ℕ) → (is_numbered p a ≡ false → occurs a p.ends.items ≡ false → rank_at ranks a ≡ 0) → rank_after ranks p a ≡ rank_in xs a

@@ -7,7 +7,7 @@ use std::collections::{BTreeMap, BTreeSet};
 
 /// ASes and a rank for each, by place.
 #[derive(Drop)]
-pub struct Trial {
+pub struct Attempt {
     pub ases: Vec<Asn>,
     pub ranks: Vec<u32>,
 }
@@ -114,16 +114,16 @@ fn begun(
 }
 
 // The numbers by place.
-fn listed(alloc: Global, numbers: &BTreeMap<Asn, u32>) -> Result<Trial, AllocError> {
-    let mut trial = Trial {
+fn listed(alloc: Global, numbers: &BTreeMap<Asn, u32>) -> Result<Attempt, AllocError> {
+    let mut attempt = Attempt {
         ases: Vec::with_capacity(alloc, numbers.len())?,
         ranks: Vec::with_capacity(alloc, numbers.len())?,
     };
     for (asn, number) in numbers.iter() {
-        trial.ases.push(*asn)?;
-        trial.ranks.push(*number)?;
+        attempt.ases.push(*asn)?;
+        attempt.ranks.push(*number)?;
     }
-    Ok(trial)
+    Ok(attempt)
 }
 
 /// Numbers the ends anew, and each AS above them whose number may change, the lowest first. It gives
@@ -133,7 +133,7 @@ pub fn tried(
     graph: &Graph,
     ranks: &Ranks,
     ends: &[Asn],
-) -> Result<Trial, AllocError> {
+) -> Result<Attempt, AllocError> {
     let mut numbering = begun(alloc, graph, ranks, ends)?;
     for _ in 0..graph.as_count() {
         match numbering.queue.pop_first() {

@@ -6,6 +6,7 @@
 //! graph that was edited, and `Ranks::commit` carries a plan out.
 #![tactic(auto)]
 
+mod attempt;
 mod check;
 mod commit;
 mod list;
@@ -13,7 +14,6 @@ mod order;
 mod plan;
 mod planning;
 mod ranks;
-mod trial;
 
 pub use order::{RankOrder, by_rank, placed_by_rank};
 pub use plan::RankPlan;

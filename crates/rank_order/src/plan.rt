@@ -1,5 +1,5 @@
 //! Plans: what ranks become with a graph that was edited.
-ghost use Rattle.std.specs.Prelude.{◌≡◌, length, None, Some, if◌then◌else◌};
+ghost use Rattle.std.specs.Prelude.{◌≡◌, ℕ, length, None, Some, if◌then◌else◌};
 ghost use Rattle.std.specs.List.Sorted.{IsStrictlyIncreasing};
 ghost use Rattle.net_names.specs.Prelude.{occurs};
 ghost use Rattle.cycle_check.specs.Prelude.{rank_by};
@@ -7,6 +7,7 @@ ghost use Rattle.cycle_check.specs.Prelude.{rank_by};
 use crate::ranks::{Ranks, rank_of};
 use cycle_check::place_in;
 use net_names::Asn;
+use std::alloc::Global;
 
 /// What ranks become with a graph that was edited: new ranks of some ASes, and which ASes come and
 /// go. Beside the ranks that it was made of, contracts see the map from each AS of the new graph to
@@ -24,10 +25,23 @@ pub struct RankPlan {
 }
 
 impl RankPlan {
-    ghost use Rattle.rank_order.specs.Plans.{is_numbered, rank_after};
+    ghost use Rattle.rank_order.specs.Plans.{IsLastPlan, is_numbered, rank_after};
+    ghost use Rattle.rank_order.specs.Ranks.{KeptRanks, rank_at};
 
-    // The rank that the plan itself tells of an AS, if it tells one.
-    fn told(&self, asn: Asn) -> Option<u32>
+    /// The plan that changes nothing, for any ranks. It takes no memory.
+    pub fn none(alloc: Global) -> RankPlan
+        ensures last { (r : KeptRanks) → IsLastPlan r result }
+        ensures same { (r : KeptRanks) (a : ℕ) → rank_after r result a ≡ rank_at r a }
+    {
+        RankPlan {
+            ases: Vec::new(alloc),
+            ranks: Vec::new(alloc),
+            ends: Vec::new(alloc),
+        }
+    }
+
+    // The rank that the plan gives to an AS by itself, if it gives one.
+    fn new_rank(&self, asn: Asn) -> Option<u32>
         ensures { result ≡ (if is_numbered self.now asn
             then Some (rank_by self.now.ases.items self.now.ranks.items asn)
             else if occurs asn self.now.ends.items then Some 0 else None) }
@@ -55,7 +69,7 @@ impl RankPlan {
     pub fn rank(&self, ranks: &Ranks, asn: Asn) -> u32
         ensures { result ≡ rank_after ranks.now self.now asn }
     {
-        match self.told(asn) {
+        match self.new_rank(asn) {
             Some(rank) => rank,
             None => ranks.rank(asn),
         }
@@ -65,7 +79,7 @@ impl RankPlan {
     pub fn rank_near(&self, ranks: &Ranks, asn: Asn, place: usize) -> u32
         ensures { result ≡ rank_after ranks.now self.now asn }
     {
-        match self.told(asn) {
+        match self.new_rank(asn) {
             Some(rank) => rank,
             None => ranks.rank_near(asn, place),
         }

@@ -8,10 +8,10 @@ ghost use Rattle.cycle_check.specs.Prelude.{numbers_of, ranks_of};
 ghost use Rattle.rank_order.specs.Ranks.{rank_at};
 ghost use Rattle.rank_order.specs.Plans.{IsLastPlan, IsPlanFor, entry_after, rank_after};
 
+use crate::attempt::tried;
 use crate::check::{is_rising, is_sound};
 use crate::plan::RankPlan;
 use crate::ranks::{Ranks, numbers, ranks_in};
-use crate::trial::tried;
 use as_graph::{Graph, fitting_are_ranks, links_are_sound};
 use cycle_check::{RankedAs, Ranking, rank_ases};
 use net_names::{Asn, NoMemory};
@@ -48,8 +48,8 @@ fn small_plan(
 {
     fitting_are_ranks();
     links_are_sound();
-    let trial = tried(alloc, graph, ranks, ends)?;
-    match plan_of(alloc, trial.ases, trial.ranks, ends)? {
+    let attempt = tried(alloc, graph, ranks, ends)?;
+    match plan_of(alloc, attempt.ases, attempt.ranks, ends)? {
         Some(plan) if is_sound(graph, &plan, ranks, ends) => Ok(Some(plan)),
         _ => Ok(None),
     }

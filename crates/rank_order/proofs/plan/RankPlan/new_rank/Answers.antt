@@ -4,7 +4,7 @@ use Rattle.net_names.specs.Numbers.{occurs}
 use Rattle.cycle_check.specs.Places.{place_in}
 use Rattle.cycle_check.specs.Providers.{rank_by}
 use Rattle.rank_order.proofs.Edited.{place_tells}
-use Rattle.rank_order.proofs.plan.RankPlan.told.Goals as goal
+use Rattle.rank_order.proofs.plan.RankPlan.new_rank.Goals as goal
 
 pub returns-then-place-len : goal.returns-then-place-len
 returns-then-place-len c =
