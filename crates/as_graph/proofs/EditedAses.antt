@@ -16,6 +16,7 @@ use Rattle.as_graph.proofs.Links.{found, ends_of}
 use Rattle.as_graph.proofs.RowAses.{same_test, occurs-items, occurs-append, end_found}
 use Rattle.as_graph.proofs.EditsLemmas.{put_pair, is_put, is_put_turned}
 use Rattle.as_graph.proofs.TakenLinks.{same_pair, pair_itself, take_pair, is_taken, is_taken_turned}
+use Rattle.net_names.proofs.Shared.{or_swap}
 
 -- a is an end of one of the links
 abbrev is_end : LinkMap → ℕ → Bool
@@ -104,11 +105,6 @@ or_third true true b e = refl
 or_third true false true e = refl
 or_third true false false e = refl
 or_third false a b e = refl
-
-or_swap : (a b c : Bool) → (a || (b || c)) ≡ (b || (a || c))
-or_swap true true c = refl
-or_swap true false c = refl
-or_swap false b c = refl
 
 has-put : (w : Topology) (lo hi : ℕ) (v : Rel) (x : ℕ) → has (put_pair w lo hi v) x ≡ (x == lo || (x == hi || has w x))
 unfolding put_pair

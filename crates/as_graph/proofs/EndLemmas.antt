@@ -6,7 +6,6 @@ use Rattle.std.proofs.lemmas.List.Elements.{All-append}
 use Rattle.std.proofs.lemmas.List.{get_or_append_left, get_or_default}
 use Rattle.std.proofs.Math.Seq.{get_or-append_seam}
 use Rattle.std.specs.Ordering.{nat_cmp, is_lt}
-use Rattle.std.specs.Option.{option_map_or}
 use Rattle.std.specs.List.Sorted.{ties, IsStableByKey}
 use Rattle.net_names.specs.declared.routes.Rel.{Rel}
 use Rattle.net_names.specs.Dealing.{IsDealt, items_at}
@@ -15,11 +14,9 @@ use Rattle.as_graph.specs.declared.neighbour.Neighbour.{Neighbour}
 use Rattle.as_graph.specs.declared.ends.End.{End}
 use Rattle.as_graph.specs.Rows.{asn_at, blank, IsRising, AreBelow}
 use Rattle.as_graph.specs.Ends.{lower_ends, higher_ends, ends_at, AreTurned, AreByAs, at_of}
+use Rattle.std.proofs.lemmas.Option.{same_Some as some_is}
 
 -- ---- places
-
-some_is : {A : Type 0} (x y : A) → Some x ≡ Some y → x ≡ y
-some_is x y e = ap (λ o. option_map_or (λ (z : _). z) o x) e
 
 take_next : (es : List ((ℕ × ℕ) × Rel)) (k : ℕ) (e : (ℕ × ℕ) × Rel) → slice_get es k ≡ Some e → take (suc k) es ≡ take k es ++ e ∷ []
 take_next [] k e is = cc

@@ -17,7 +17,6 @@ use Rattle.net_names.specs.declared.routes.Rel.{Rel}
 use Rattle.net_names.specs.Links.{pair_cmp, converse}
 use Rattle.net_names.specs.Numbers.{occurs}
 use Rattle.net_names.proofs.Pairs.{pairs_total, exact_pair}
-use Rattle.as_graph.specs.declared.row.Row.{Row}
 use Rattle.as_graph.specs.Topology.{has}
 use Rattle.as_graph.specs.Room.{is_room_for}
 use Rattle.as_graph.specs.Edits.{with_link, without_link}
@@ -27,6 +26,8 @@ use Rattle.as_graph.proofs.RowLinks.{pair_tied, get-links_of}
 use Rattle.as_graph.proofs.RowAses.{row_tested, contains-marked, has-topology_of, rising_distinct, distinct_len, len-from_list, occurs-keys}
 use Rattle.as_graph.proofs.TakenLinks.{same_pair}
 use Rattle.as_graph.proofs.EditedAses.{has-with_link}
+use Rattle.std.proofs.lemmas.Bool.{and_parts as both_true}
+pub use Rattle.std.proofs.lemmas.Bool.{or_parts as both_false}
 
 -- ---- the links
 
@@ -139,10 +140,6 @@ room_stays test room p is = elim (cases_Bool (test room)) [
   | inr e ↦ let no : None ≡ Some p = sym (ap (λ t. cond t room None) e) ∙ is in cc
 ]
 
-both_true : (x y : Bool) → (x && y) ≡ true → (x ≡ true) × (y ≡ true)
-both_true true y h = (refl, h)
-both_true false y h = cc
-
 -- room for a pair is for these two ASes
 pub pair_of_room : (x y a b : ℕ) → is_room_for (Some (x, y)) a b ≡ true → ((x ≡ a) × (y ≡ b)) ⊎ ((x ≡ b) × (y ≡ a))
 pair_of_room x y a b h = elim (or_cases (x == a && y == b) _ h) [
@@ -190,10 +187,6 @@ roomy-new m places a b ordered both = record {
 }
 
 -- ---- the order
-
-pub both_false : (x y : Bool) → (x || y) ≡ false → (x ≡ false) × (y ≡ false)
-both_false true y h = cc
-both_false false y h = (refl, h)
 
 distinct_more : (a : ℕ) (ks : List ℕ) → IsDistinct nat_eq ks → occurs a ks ≡ false → IsDistinct nat_eq (a ∷ ks)
 distinct_more a ks d n = IsDistinct-cons nat_eq a ks (none_equal ks n) d

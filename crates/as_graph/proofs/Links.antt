@@ -1,10 +1,8 @@
 -- The links of a topology are seen alike from both ends, and join its ASes.
-use Rattle.std.proofs.Common.{◌≡◌, ℕ, ◌<◌, Bool, true, false, ◌||◌, ◌==◌, cond, nat_lt, Option, Some, None, option_map, List, [], ◌∷◌, ◌++◌, refl, sym, ◌∙◌, ap, arith}
+use Rattle.std.proofs.Common.{◌≡◌, ℕ, ◌<◌, Bool, true, false, ◌||◌, ◌==◌, cond, nat_lt, Option, Some, None, option_map, List, [], ◌∷◌, refl, sym, ◌∙◌, ap, arith}
 use Rattle.std.proofs.lemmas.Bool.{or_right, ltb-true, eq-eqb}
 use Rattle.std.proofs.lemmas.Map.Lookups.{exact_pairs, exact_unsigned}
-use Rattle.std.specs.declared.cmp.Ordering.{Ordering}
-use Rattle.std.specs.declared.cmp.Ordering.TheVariants.{Less, Equal, Greater}
-use Rattle.std.specs.Ordering.{nat_cmp, eq_by_cmp, is_eq}
+use Rattle.std.specs.Ordering.{nat_cmp, eq_by_cmp}
 use Rattle.std.specs.FinMap as map
 use Rattle.std.specs.FinSet as set
 use Rattle.std.specs.List.{flat_map}
@@ -14,6 +12,8 @@ use Rattle.net_names.specs.Links.{pair_cmp, converse}
 use Rattle.net_names.specs.Numbers.{occurs}
 use Rattle.as_graph.specs.Topology.{Topology, relation, ases}
 use Rattle.as_graph.proofs.Chains.{IsMutual, AreLinks}
+pub use Rattle.net_names.proofs.Shared.{is_equal}
+use Rattle.net_names.proofs.Shared.{occurs_right}
 
 pub twice : (r : Option Rel) → r ≡ option_map converse (option_map converse r)
 twice None = refl
@@ -29,11 +29,6 @@ mutual_by false false p q n = refl
 
 pub relation_mutual : (g : Topology) → IsMutual (relation g)
 relation_mutual g a b = mutual_by (nat_lt a b) (nat_lt b a) (map.get g.links (a, b)) (map.get g.links (b, a)) (λ x y. let h : a < b = ltb-true a b x in let k : b < a = ltb-true b a y in absurd (omega arith))
-
-pub is_equal : (r : Ordering) → is_eq r ≡ true → r ≡ Equal
-is_equal Less e = cc
-is_equal Equal e = refl
-is_equal Greater e = cc
 
 -- both ends of each link
 abbrev pub ends_of : List ((ℕ × ℕ) × Rel) → List ℕ
@@ -53,10 +48,6 @@ found (e ∷ es) q r h = by (eq_by_cmp pair_cmp q e.0) refl (found es q r)
     by false is ih =
         let rest = ih (sym (ap (λ b. cond b (Some e.1) (map.find pair_cmp q es)) is) ∙ h) in
         (or_right (e.0.0 == q.0) _ (or_right (e.0.1 == q.0) _ rest.0), or_right (e.0.0 == q.1) _ (or_right (e.0.1 == q.1) _ rest.1))
-
-occurs_right : (x : ℕ) (xs ys : List ℕ) → occurs x ys ≡ true → occurs x (xs ++ ys) ≡ true
-occurs_right x [] ys h = h
-occurs_right x (z ∷ xs) ys h = or_right (z == x) _ (occurs_right x xs ys h)
 
 pub linked_end : (g : Topology) (a b : ℕ) (r : Rel) → relation g a b ≡ Some r → occurs b (ases g) ≡ true
 linked_end g a b r h = by (nat_lt a b) (nat_lt b a) h

@@ -24,6 +24,8 @@ use Rattle.as_graph.specs.Graphs.{Rows, rel_of, is_marked, is_needed, is_there, 
 use Rattle.net_names.proofs.Pairs.{pairs_total}
 use Rattle.as_graph.proofs.Links.{linked_end, relation_mutual, ends_of}
 use Rattle.as_graph.proofs.RowLinks.{lookup_absent, get-links_of, relation-topology_of}
+pub use Rattle.net_names.proofs.Distinct.{not_in as any_none}
+pub use Rattle.net_names.proofs.Shared.{same_test}
 
 -- ---- marks
 
@@ -59,12 +61,6 @@ row_tested test m a h = by (get nat_eq m a) h
     by (Some r) e = refl
 
 -- ---- the ASes
-
--- two tests that follow from each other are equal
-pub same_test : (a b : Bool) → (a ≡ true → b ≡ true) → (b ≡ true → a ≡ true) → a ≡ b
-same_test true b f g = sym (f refl)
-same_test false true f g = g refl
-same_test false false f g = refl
 
 any_same : (p q : ℕ → Bool) → ((x : ℕ) → p x ≡ q x) → (xs : List ℕ) → list_any p xs ≡ list_any q xs
 any_same p q same [] = refl
@@ -156,10 +152,6 @@ has-topology_of m graph a = same_test _ _ needed counted
     ]
 
 -- ---- how many there are
-
-pub any_none : (ks : List ℕ) (k : ℕ) → AllByRecursion (λ y. nat_eq k y ≡ false) ks → occurs k ks ≡ false
-any_none [] k h = refl
-any_none (x ∷ ks) k h = let differs : (x == k) ≡ false = sym (grind (arith, nat_tests, h.0)) in ap (λ b. b || occurs k ks) differs ∙ any_none ks k h.1
 
 pub len-from_list : (ks : List ℕ) → IsDistinct nat_eq ks → set.len (set.from_list {R = nat_cmp} ks) ≡ length ks
 len-from_list [] d = set.len-empty nat_cmp

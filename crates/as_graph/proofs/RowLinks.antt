@@ -2,9 +2,7 @@
 use Rattle.std.proofs.Common.{◌≡◌, inl, inr, ℕ, ◌<◌, ◌≤◌, Bool, true, false, ◌&&◌, ◌==◌, cond, nat_lt, nat_eq, Option, Some, None, is_some, option_map, true≢false, List, [], ◌∷◌, ◌++◌, refl, sym, ◌∙◌, ap, subst, arith}
 use Rattle.std.proofs.lemmas.Bool.{cases_Bool, ltb-true, ltb-false, lt-ltb, eqb-true}
 use Rattle.std.proofs.lemmas.Bool.Decides.{nat_tests}
-use Rattle.std.specs.declared.cmp.Ordering.{Ordering}
-use Rattle.std.specs.declared.cmp.Ordering.TheVariants.{Less, Equal, Greater}
-use Rattle.std.specs.Ordering.{nat_cmp, eq_by_cmp, is_eq, ordering_then}
+use Rattle.std.specs.Ordering.{nat_cmp, eq_by_cmp}
 use Rattle.std.specs.Cmp.{unsigned_tied}
 use Rattle.std.specs.List.{IsDistinct, AllByRecursion}
 use Rattle.std.specs.Map.{lookup, keys_of}
@@ -20,11 +18,7 @@ use Rattle.as_graph.specs.Topology.{relation}
 use Rattle.as_graph.specs.Rows.{rel_in}
 use Rattle.as_graph.specs.Graphs.{Rows, rel_of, upper_links, row_links, links_of, topology_of, IsGraph}
 use Rattle.net_names.proofs.Pairs.{pairs_total}
-
-then_tied : (r s : Ordering) → is_eq (ordering_then r s) ≡ (is_eq r && is_eq s)
-then_tied Less s = refl
-then_tied Equal s = refl
-then_tied Greater s = refl
+use Rattle.net_names.proofs.Shared.{then_tied}
 
 -- two pairs tie where both numbers are equal
 pub pair_tied : (p q : ℕ × ℕ) → eq_by_cmp pair_cmp p q ≡ (nat_eq p.0 q.0 && nat_eq p.1 q.1)

@@ -10,13 +10,10 @@ use Rattle.net_names.specs.declared.routes.Rel.{Rel}
 use Rattle.net_names.specs.Links.{LinkMap, pair_cmp, converse}
 use Rattle.net_names.proofs.Pairs.{pairs_total, exact_pair}
 use Rattle.as_graph.specs.Topology.{Topology, relation, with_mark}
-use Rattle.as_graph.specs.Edits.{with_link, without_link, without_mark, LinksAreTaken, EditsAreUndone, MarksKeepLinks}
-use Rattle.as_graph.proofs.Links.{is_equal, relation_mutual}
+use Rattle.as_graph.specs.Edits.{with_link, without_link, without_mark, LinksAreTaken, EditsAreUndone}
+use Rattle.as_graph.proofs.Links.{relation_mutual}
 use Rattle.as_graph.proofs.EditsLemmas.{twice_one}
-
--- a test of equal pairs is that of their order
-pub same_pair : (p q : ℕ × ℕ) → eq_by_cmp pair_cmp p q ≡ true → p ≡ q
-same_pair p q e = exact_pair p q (is_equal _ e)
+pub use Rattle.net_names.proofs.Shared.{same_pair}
 
 pub pair_itself : (p : ℕ × ℕ) → eq_by_cmp pair_cmp p p ≡ true
 pair_itself p = ap is_eq (tied_itself pairs_total p)
@@ -190,6 +187,3 @@ edits_are_undone_lem = record {
   new_mark = new_mark;
   lost_mark = lost_mark;
 }
-
-pub marks_keep_links_lem : MarksKeepLinks
-marks_keep_links_lem = record { after_mark = λ w a x y. refl; after_unmark = λ w a x y. refl }

@@ -55,8 +55,3 @@ pub record AsesAreKept : Type 0 where
   pub marked : (w : Topology) (a x : ℕ) → has (with_mark w a) x ≡ (x == a || has w x)
   pub unmarked : (w : Topology) (a x : ℕ) → has (without_mark w a) x ≡ true → has w x ≡ true
   pub other_marks : (w : Topology) (a x : ℕ) → x ≢ a → has (without_mark w a) x ≡ has w x
-
--- marks change no links
-pub record MarksKeepLinks : Type 0 where
-  pub after_mark : (w : Topology) (a x y : ℕ) → relation (with_mark w a) x y ≡ relation w x y
-  pub after_unmark : (w : Topology) (a x y : ℕ) → relation (without_mark w a) x y ≡ relation w x y

@@ -1,4 +1,4 @@
-//! Finds numbers in a rising list. What is found is a hint.
+//! Finds numbers in a rising list, by a bitmap with ranks and a search. What is found is a hint.
 ghost use Rattle.std.specs.Prelude.{◌≤◌, length};
 ghost use Rattle.as_graph.specs.declared.build.TheConstants.{MOST_ASES};
 

@@ -1,5 +1,5 @@
 //! What follows from the definitions of links, provider cycles and ranks.
-ghost use Rattle.as_graph.specs.Edits.{LinksAreSound, LinksAreSet, LinksAreTaken, EditsAreUndone, AsesAreKept, MarksKeepLinks};
+ghost use Rattle.as_graph.specs.Edits.{LinksAreSound, LinksAreSet, LinksAreTaken, EditsAreUndone, AsesAreKept};
 ghost use Rattle.as_graph.specs.Hierarchy.{FittingAreRanks, RanksFit, OneRank};
 
 /// Numbers are the ranks where each is 0 at an AS without customers, and else one more than the
@@ -42,9 +42,4 @@ pub fn edits_are_undone()
 /// takes away or brings no other AS.
 pub fn ases_are_kept()
     ensures { AsesAreKept }
-{}
-
-/// Marks change no links.
-pub fn marks_keep_links()
-    ensures { MarksKeepLinks }
 {}

@@ -23,6 +23,6 @@ pub use error::{Absent, GraphError};
 pub use graph::Graph;
 pub use laws::{
     ases_are_kept, edits_are_undone, fitting_are_ranks, links_are_set, links_are_sound,
-    links_are_taken, marks_keep_links, one_rank, ranks_fit,
+    links_are_taken, one_rank, ranks_fit,
 };
 pub use neighbour::Neighbour;

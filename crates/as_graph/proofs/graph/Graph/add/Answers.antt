@@ -1,6 +1,5 @@
 use Rattle.std.proofs.Common.{rules, ◌≡◌, ◌≤◌, ◌||◌, ◌==◌, ◌+◌, ℕ, List, length, false, None, sym, subst, ◌∙◌, ap, arith}
 use Rattle.std.proofs.lemmas.Bool.{false≢true, false_from_ne_true}
-use Rattle.std.specs.List.Sorted.{IsStrictlyIncreasing}
 use Rattle.indexmap.specs.IndexMap.{index_map_len}
 use Rattle.net_names.specs.Numbers.{occurs}
 use Rattle.as_graph.specs.declared.error.GraphError.TheVariants.{Memory}
@@ -8,9 +7,8 @@ use Rattle.as_graph.specs.Topology.{Topology, as_count}
 use Rattle.as_graph.specs.Room.{is_room_for}
 use Rattle.as_graph.specs.Edits.{with_link}
 use Rattle.as_graph.specs.Refusals.{IsLinkRefusal}
-use Rattle.as_graph.specs.Graphs.{rel_of, topology_of, IsKept}
+use Rattle.as_graph.specs.Graphs.{rel_of, topology_of}
 use Rattle.as_graph.proofs.Kept.{rel_read}
-use Rattle.as_graph.proofs.Marking.{topology_of-kept}
 use Rattle.as_graph.proofs.LinkTopology.{room_there, row_of_room, roomy-linked, place_left}
 use Rattle.as_graph.proofs.GraphEdits.{rows_listed, rows_more, invariant_made, place_made, refused_made, seen_linked, topology_of-added, kept-added}
 use Rattle.as_graph.proofs.graph.Graph.add.Goals as goal

@@ -1,9 +1,8 @@
-use Rattle.std.proofs.Common.{rules, ◌≡◌, ◌≤◌, ◌||◌, ◌==◌, ◌+◌, ℕ, List, length, true, false, nat_eq, refl, sym, subst, ◌∙◌, ap, arith}
+use Rattle.std.proofs.Common.{rules, ◌≡◌, ◌||◌, ◌==◌, ℕ, List, length, true, false, nat_eq, refl, sym, ◌∙◌, ap, arith}
 use Rattle.std.proofs.lemmas.Bool.{false≢true, false_from_ne_true}
-use Rattle.std.specs.List.Sorted.{IsStrictlyIncreasing}
-use Rattle.indexmap.specs.IndexMap.{get, index_map_len}
+use Rattle.indexmap.specs.IndexMap.{get}
 use Rattle.net_names.specs.Numbers.{occurs}
-use Rattle.as_graph.specs.Graphs.{is_there, IsKept}
+use Rattle.as_graph.specs.Graphs.{is_there}
 use Rattle.as_graph.specs.Topology.{Topology, with_mark}
 use Rattle.as_graph.specs.Room.{is_room_with}
 use Rattle.as_graph.specs.Refusals.{IsMarkRefusal}
