@@ -39,7 +39,8 @@ pub fn put_asn(out: &mut Vec<u8>, asn: Asn) -> Result<(), NoMemory>
     ensures ok { OnOk result (out.new.items ≡ out.old.items ++ decimal asn) }
     ensures err { OnErr result (out.new.items ≡ out.old.items) }
 {
-    put_number(out, u64::from(asn.get()))
+    let mut digits = Buffer::new();
+    put_bytes(out, digits.format(asn.get()).as_bytes())
 }
 
 /// Appends the text of the value, which is at most `MOST_BYTES` long.
