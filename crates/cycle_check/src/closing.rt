@@ -1,4 +1,4 @@
-//! Whether a new provider link closes a cycle.
+//! Whether a new provider link closes a cycle: a search from both ends of the link, by turns.
 ghost use Rattle.std.specs.Prelude.{◌≡◌, ◌≢◌, ◌↔◌, ◌<◌, ◌≤◌, ◌⊎◌, ◌+◌, true, false, nat_eq, length, IfOk, IfSome, IfNone, IsNone, OnOk};
 ghost use Rattle.indexmap.specs.IndexMap.{IsUnique};
 ghost use Rattle.as_graph.specs.Prelude.{HasNoProviderCycle};

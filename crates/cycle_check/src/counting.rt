@@ -1,4 +1,5 @@
-//! The ranks of places, or a provider cycle.
+//! The ranks of places, or a provider cycle, by Kahn's algorithm: each place waits until all its customers have ranks,
+//! and the places that wait to the end are above a cycle.
 ghost use Rattle.std.specs.Prelude.{◌≡◌, ◌<◌, length, slice_index, IfOk};
 ghost use Rattle.cycle_check.specs.Rows.{AreRows, count_of, row, relation};
 ghost use Rattle.cycle_check.specs.Counting.{IsCounted};

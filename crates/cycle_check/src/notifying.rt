@@ -1,4 +1,4 @@
-//! Each place that has its rank notifies its providers.
+//! Each place that has its rank notifies its providers: the loop of Kahn's algorithm, whose queue is the order itself.
 ghost use Rattle.std.specs.Prelude.{◌≡◌, ℕ, ◌+◌, ◌-◌, ◌<◌, ◌^◌, [], ◌∷◌, ◌++◌, length, take, replicate, slice_index, slice_set, IfOk, OnOk};
 ghost use Rattle.cycle_check.specs.Rows.{AreRows, count_of, row};
 ghost use Rattle.cycle_check.specs.Stages.{times, freed, AreFree, IsStage};

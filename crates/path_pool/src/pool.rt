@@ -1,4 +1,4 @@
-//! The region of cells, and the calls that change it.
+//! The region of cells, and the calls that change it: an arena of reference-counted cons cells with a free list.
 
 ghost use Rattle.path_pool.specs.Region.{IsRegion};
 ghost use Rattle.std.specs.Option.{ForSome};
@@ -19,7 +19,7 @@ pub const MOST_COUNT: u32 = 4_294_967_295;
 pub struct Cell {
     head: Asn,
     tail: u32,
-    /// How many cells hang together from here on.
+    /// How many cells hang together from here on: of a path, or, where this cell is not live, of those that are not.
     len: u32,
     /// The outside holds and the live cells whose tail this is.
     count: u32,

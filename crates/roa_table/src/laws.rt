@@ -1,4 +1,4 @@
-// What the payloads of a file are, said of all its rows at once.
+//! What the payloads of a file are, said of all its rows at once.
 ghost use Rattle.roa_table.specs.Laws.{AcceptedExactly, GivenExactly, FirstFaulty};
 
 /// The payloads of a file are those that its rows give: a file has payloads exactly where each row gives one and there are
