@@ -19,11 +19,6 @@ use Rattle.stability_laws.proofs.PlanListings.{announcers_listed, then_tied}
 use Rattle.net_names.specs.Orders.{announcement_total, exact_announcement}
 use Rattle.stability_laws.proofs.PlanReads.{key}
 
--- who leaks, by the pairs of a round and an AS
-pub any_second : (a : ℕ) (xs : List (ℕ × ℕ)) → list_any (λ (x : ℕ × ℕ). x.1 == a) xs ≡ occurs a (map (λ (x : ℕ × ℕ). x.1) xs)
-any_second a [] = refl
-any_second a (x ∷ xs) = ap (λ b. (x.1 == a) || b) (any_second a xs)
-
 -- it is an announcement of another prefix by the AS
 abbrev pub is_another : PrefixValue → ℕ → Announcement → Bool
 is_another prefix a x = (x.asn == a) && not (eq_by_cmp prefix_cmp x.prefix prefix)

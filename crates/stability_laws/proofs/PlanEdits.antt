@@ -23,20 +23,21 @@ entries_in = map entry_of
 no_announcement : fin.from_sorted {R = announcement_cmp} (entries_in []) ≡ fin.empty
 no_announcement = ap (λ (p : Plan). p.announced) plan_of_none
 
-module _ (prefixes : List PrefixValue) (announced : List Announcement) (announcers : List ℕ) (leakers : List (ℕ × ℕ)) (w : ArePlan prefixes announced announcers leakers) where
+module _ (prefixes : List PrefixValue) (announced : List Announcement) (announcers : List ℕ) (leakers : List (ℕ × ℕ)) (leaking : List ℕ) (w : ArePlan prefixes announced announcers leakers leaking) where
   pub silent_is : (plan : Plan) → plan_of prefixes announced leakers ≡ plan → plan_of prefixes [] leakers ≡ silent plan
   silent_is plan v = (λ i. record { prefixes = set_of prefix_cmp prefixes; announced = no_announcement i; leakers = set_of pair_cmp leakers }) ∙ ap silent v
 
   none_announced : (prefix : PrefixValue) (a : ℕ) (path : List ℕ) → announced_path (plan_of prefixes [] leakers) prefix a ≡ Some path → ⊥
   none_announced prefix a path is = none-some path (sym (fin.get-empty announcement_cmp (prefix, a)) ∙ sym (ap (λ m. fin.get m (prefix, a)) no_announcement) ∙ is)
 
-  pub silent_are : ArePlan prefixes [] [] leakers
+  pub silent_are : ArePlan prefixes [] [] leakers leaking
   silent_are = record {
     prefixes_rise = w.prefixes_rise;
     announced_rise = tt;
     announcers_rise = tt;
     leakers_rise = w.leakers_rise;
     announcers_are = none_are_plan.announcers_are;
+    leaking_are = w.leaking_are;
     sound = record {
       starts = λ prefix a path is. absurd (none_announced prefix a path is);
       short = λ prefix a path is. absurd (none_announced prefix a path is);
@@ -86,10 +87,10 @@ pub record AreAnnouncements (plan : Plan) (xs : List Announcement) : Type 0 wher
   pub rise : T (fin.is_sorted announcement_cmp (entries_in xs))
   pub are : fin.from_sorted (entries_in xs) ≡ plan.announced
 
-pub announcements_are : (prefixes : List PrefixValue) (announced : List Announcement) (announcers : List ℕ) (leakers : List (ℕ × ℕ)) → ArePlan prefixes announced announcers leakers → (plan : Plan) → plan_of prefixes announced leakers ≡ plan
+pub announcements_are : (prefixes : List PrefixValue) (announced : List Announcement) (announcers : List ℕ) (leakers : List (ℕ × ℕ)) (leaking : List ℕ) → ArePlan prefixes announced announcers leakers leaking → (plan : Plan) → plan_of prefixes announced leakers ≡ plan
     → (xs : List Announcement) → xs ≡ announced → AreAnnouncements plan xs
-announcements_are prefixes announced announcers leakers w plan v xs e = record {
-  sound = sound_plan prefixes announced announcers leakers w plan v;
+announcements_are prefixes announced announcers leakers leaking w plan v xs e = record {
+  sound = sound_plan prefixes announced announcers leakers leaking w plan v;
   rise = subst (λ (ys : List Announcement). T (fin.is_sorted announcement_cmp (entries_in ys))) (sym e) w.announced_rise;
   are = ap (λ (ys : List Announcement). fin.from_sorted {R = announcement_cmp} (entries_in ys)) e ∙ ap (λ (p : Plan). p.announced) v;
 }

@@ -3,12 +3,16 @@ use Rattle.std.proofs.Common.{◌≡◌, ℕ, zero, suc, ◌<◌, ◌≤◌, Boo
 use Rattle.std.specs.Option.{option_copied}
 use Rattle.std.specs.Borrow.{Bor}
 use Rattle.std.proofs.Math.Seq.{take-length}
-use Rattle.std.proofs.lemmas.List.{length-drop}
+use Rattle.std.proofs.lemmas.List.{take-map, drop-map}
+use Rattle.std.proofs.lemmas.List.Sorted.{IsPartitionedBy-leb, IsPartitionedBy-ltb}
+use Rattle.std.proofs.Math.Dec.{leb, ltb}
+use Rattle.net_names.specs.Numbers.{occurs}
+use Rattle.stability_laws.proofs.Listing.{occurs-listed}
 use Rattle.std.specs.Prelude.{nat_lt, filter}
-use Rattle.std.proofs.lemmas.Bool.{true≢false, eqb-true, eqb-false, ltb-true, ltb-false, lt-ltb, cases_lt, ne_eqb}
-use Rattle.std.proofs.lemmas.Option.{none-some}
+use Rattle.std.proofs.lemmas.Bool.{true≢false, eqb-true, eqb-false, ltb-true, ltb-false, leb-true, leb-false, cases_lt, ne_eqb, eq-eqb}
+use Rattle.std.proofs.lemmas.Option.{none-some, slice_get_past}
 use Rattle.std.specs.List.{list_any, HoldsAt}
-use Rattle.std.specs.List.Sorted.{IsPartitionPoint, IsPartitionedBy}
+use Rattle.std.specs.List.Sorted.{IsNonDecreasingBy, IsPartitionPoint, IsPartitionedBy}
 use Rattle.std.specs.declared.cmp.Ordering.{Ordering}
 use Rattle.std.specs.declared.cmp.Ordering.TheVariants.{Less, Equal, Greater}
 use Rattle.std.specs.Ordering.{nat_cmp, eq_by_cmp, is_eq, is_lt, ordering_then}
@@ -118,14 +122,6 @@ leakers_listed plan round =
     listed_as nat_cmp (λ a. IsTrue (fin.contains_key (set_of nat_cmp (leakers_of plan round)) a)) (λ a. IsTrue (leaks_in plan round a)) (leakers_of plan round) (λ a h. sym (same a) ∙ h) (λ a h. same a ∙ h)
     (subst (λ (ys : List ℕ). ListsRising nat_cmp (λ a. IsTrue (fin.contains_key (set_of nat_cmp (leakers_of plan round)) a)) ys) keys (keys_listed nat_cmp_total exact_unsigned (set_of nat_cmp (leakers_of plan round))))
 
--- the AS of a pair of the round
-abbrev pub picked : ℕ → Option (ℕ × ℕ) → Option ℕ
-picked r None = None
-picked r (Some x) = cond (x.0 == r) (Some x.1) None
-
-no_later : (x y : ℕ) → (x == y) ≡ false → nat_lt x y ≡ false → y < x
-no_later x y apart above = omega (arith, ltb-false x y above, eqb-false x y apart)
-
 first_rises : (x y : ℕ × ℕ) → T (is_lt (pair_cmp x y)) → x.0 ≤ y.0
 first_rises x y h = by (nat_cmp x.0 y.0) refl h
   where
@@ -134,58 +130,85 @@ first_rises x y h = by (nat_cmp x.0 y.0) refl h
     by Equal e h = let p : x.0 ≡ y.0 = ranked x.0 y.0 Equal (sym e) in omega (arith, p)
     by Greater e h = absurd h
 
--- after a pair of a later round there is none of the round
-none_after : (r : ℕ) (x : ℕ × ℕ) (xs : List (ℕ × ℕ)) (place : ℕ) → r < x.0 → T (fin.Entries.below_all pair_cmp x (marks xs)) → (in_round r xs ≡ []) × (picked r (slice_get xs place) ≡ None)
-none_after r x [] place late h = (refl, refl)
-none_after r x (y ∷ xs) place late h =
-    let after : r < y.0 = let p = first_rises x y (left _ _ h) in omega (arith, late, p) in
-    let apart : (y.0 == r) ≡ false = ne_eqb y.0 r (λ (e : y.0 ≡ r). omega (arith, e, after)) in
-    by place apart (λ (i : ℕ). none_after r x xs i late (right _ _ h))
-  where
-    by : (i : ℕ) → (y.0 == r) ≡ false → ((i : ℕ) → (in_round r xs ≡ []) × (picked r (slice_get xs i) ≡ None)) → (in_round r (y ∷ xs) ≡ []) × (picked r (slice_get (y ∷ xs) i) ≡ None)
-    by zero apart rest = (rw apart (rest 0).0, rw apart refl)
-    by (suc i) apart rest = (rw apart (rest i).0, (rest i).1)
+-- those who leak in the round occur among its leakers, and nobody else
+pub occurs_in_round : (plan : Plan) (round a : ℕ) → occurs a (leakers_of plan round) ≡ leaks_in plan round a
+occurs_in_round plan round a =
+    let xs = leakers_of plan round in
+    ap (occurs a) (sym (take-length xs)) ∙ occurs-listed (leaks_in plan round) xs (leakers_listed plan round) (length xs) (slice_get_past xs (length xs) (omega arith)) a
 
--- the pairs of the round begin where those of the earlier rounds end
-pub in_round_at : (r : ℕ) (xs : List (ℕ × ℕ)) (first place : ℕ) → IsRising pair_cmp xs
-    → ((j : ℕ) (d : ℕ × ℕ) → j < first → j < length xs → nat_lt (get_or xs j d).0 r ≡ true) → ((j : ℕ) (d : ℕ × ℕ) → first ≤ j → j < length xs → nat_lt (get_or xs j d).0 r ≡ false)
-    → picked r (slice_get (drop first xs) place) ≡ slice_get (in_round r xs) place
-in_round_at r [] zero place h before after = refl
-in_round_at r [] (suc first) place h before after = refl
-in_round_at r (x ∷ xs) (suc first) place h before after =
-    let earlier : x.0 < r = ltb-true x.0 r (before 0 x (omega arith) (omega arith)) in
-    let apart : (x.0 == r) ≡ false = ne_eqb x.0 r (λ (e : x.0 ≡ r). omega (arith, e, earlier)) in
-    in_round_at r xs first place (right _ _ h) (λ j d lt within. before (suc j) d (omega (arith, lt)) (omega (arith, within))) (λ j d le within. after (suc j) d (omega (arith, le)) (omega (arith, within)))
-    ∙ ap (λ b. slice_get (map (λ z. z.1) (cond b (x ∷ filter (λ z. z.0 == r) xs) (filter (λ z. z.0 == r) xs))) place) (sym apart)
-in_round_at r (x ∷ xs) zero place h before after = by place (x.0 == r) refl (λ (i : ℕ). in_round_at r xs zero i (right _ _ h) (λ j d lt within. absurd (omega (arith, lt))) (λ j d le within. after (suc j) d (omega arith) (omega (arith, within))))
-  where
-    by : (i : ℕ) (b : Bool) → (x.0 == r) ≡ b → ((i : ℕ) → picked r (slice_get xs i) ≡ slice_get (in_round r xs) i)
-        → picked r (slice_get (x ∷ xs) i) ≡ slice_get (map (λ z. z.1) (cond b (x ∷ filter (λ z. z.0 == r) xs) (filter (λ z. z.0 == r) xs))) i
-    by zero true t rest = ap (λ b. cond b (Some x.1) None) t
-    by (suc i) true t rest = rest i
-    by zero false t rest = ap (λ b. cond b (Some x.1) None) t ∙ ap (λ ys. slice_get ys zero) (sym (none_after r x xs zero (no_later x.0 r t (after 0 x (omega arith) (omega arith))) (left _ _ h)).0)
-    by (suc i) false t rest =
-        let none = none_after r x xs i (no_later x.0 r t (after 0 x (omega arith) (omega arith))) (left _ _ h) in
-        none.1 ∙ ap (λ ys. slice_get ys (suc i)) (sym none.0)
+-- the rounds do not fall
+rounds_rise : (xs : List (ℕ × ℕ)) → IsRising pair_cmp xs → IsNonDecreasingBy (λ (y : ℕ × ℕ). y.0) xs
+rounds_rise xs h i j d le within = elim (cases_lt i j) [
+  | inl lt ↦ first_rises (get_or xs i d) (get_or xs j d) (subst (λ (o : Ordering). T (is_lt o)) (sym (below_later pairs_total exact_pair xs h i j d lt within)) tt)
+  | inr ge ↦ (let same : i ≡ j = omega (arith, le, ge) in subst (λ (k : ℕ). (get_or xs i d).0 ≤ (get_or xs k d).0) same (omega arith))
+]
 
--- the first number does not fall
-pub earlier_first : (r : ℕ) (xs : List (ℕ × ℕ)) → IsRising pair_cmp xs → IsPartitionedBy (λ (y : ℕ × ℕ). nat_lt y.0 r) xs
-earlier_first r xs h i j d le within t = by (cases_lt i j)
-  where
-    by : (i < j) ⊎ (j ≤ i) → nat_lt (get_or xs i d).0 r ≡ true
-    by (inl lt) =
-        let p : (get_or xs i d).0 ≤ (get_or xs j d).0 = first_rises (get_or xs i d) (get_or xs j d) (subst (λ (o : Ordering). T (is_lt o)) (sym (below_later pairs_total exact_pair xs h i j d lt within)) tt) in
-        let q : (get_or xs j d).0 < r = ltb-true (get_or xs j d).0 r t in
-        lt-ltb (get_or xs i d).0 r (omega (arith, p, q))
-    by (inr ge) = let same : i ≡ j = omega (arith, le, ge) in subst (λ (k : ℕ). nat_lt (get_or xs k d).0 r ≡ true) (sym same) t
+pub earlier_first : (r : ℕ) (xs : List (ℕ × ℕ)) → IsRising pair_cmp xs → IsPartitionedBy (λ (y : ℕ × ℕ). ltb y.0 r) xs
+earlier_first r xs h = IsPartitionedBy-ltb (λ (y : ℕ × ℕ). y.0) xs r (rounds_rise xs h)
 
--- what stands at a place from there on
-pub in_round_by : (r : ℕ) (xs : List (ℕ × ℕ)) (first place : ℕ) → IsRising pair_cmp xs → IsPartitionPoint (λ (y : ℕ × ℕ). nat_lt y.0 r ≡ true) (λ (y : ℕ × ℕ). nat_lt y.0 r ≡ false) xs first
-    → (o : Option (Bor (ℕ × ℕ))) → IfSome o (λ x. x.now ≡ get_or (take (length xs - first) (drop first xs)) place x.now)
-    → MatchOption o (length (take (length xs - first) (drop first xs)) ≤ place) (λ x. (place < length (take (length xs - first) (drop first xs))) × HoldsAt (λ y. x.now ≡ y) (take (length xs - first) (drop first xs)) place)
-    → picked r (option_copied o) ≡ slice_get (in_round r xs) place
-in_round_by r xs first place h point o is at =
-    let rest : take (length xs - first) (drop first xs) ≡ drop first xs = ap (λ n. take n (drop first xs)) (sym (length-drop first xs)) ∙ take-length (drop first xs) in
-    ap (picked r) (copied_at (take (length xs - first) (drop first xs)) place o is at)
-    ∙ (ap (λ (ys : List (ℕ × ℕ)). picked r (slice_get ys place)) rest
-    ∙ in_round_at r xs first place h (λ j d lt within. point.0 j d (omega arith) lt) (λ j d le within. point.1 j d le within))
+pub later_last : (r : ℕ) (xs : List (ℕ × ℕ)) → IsRising pair_cmp xs → IsPartitionedBy (λ (y : ℕ × ℕ). leb y.0 r) xs
+later_last r xs h = IsPartitionedBy-leb (λ (y : ℕ × ℕ). y.0) xs r (rounds_rise xs h)
+
+-- the leakers of a round stand between those of earlier and those of later rounds
+module _ (r : ℕ) where
+  abbrev Begins : List (ℕ × ℕ) → ℕ → Type 0
+  Begins = IsPartitionPoint (λ (y : ℕ × ℕ). ltb y.0 r ≡ true) (λ (y : ℕ × ℕ). ltb y.0 r ≡ false)
+
+  abbrev Ends : List (ℕ × ℕ) → ℕ → Type 0
+  Ends = IsPartitionPoint (λ (y : ℕ × ℕ). leb y.0 r ≡ true) (λ (y : ℕ × ℕ). leb y.0 r ≡ false)
+
+  nothing : (m n : ℕ) → ◌≡◌ {A = List (ℕ × ℕ)} (take m (drop n [])) []
+  nothing zero zero = refl
+  nothing zero (suc n) = refl
+  nothing (suc m) zero = refl
+  nothing (suc m) (suc n) = refl
+
+  rest : (x : ℕ × ℕ) (xs : List (ℕ × ℕ)) (P Q : ℕ × ℕ → Type 0) (i : ℕ) → IsPartitionPoint P Q (x ∷ xs) (suc i) → IsPartitionPoint P Q xs i
+  rest x xs P Q i h = (λ k d from lt. h.0 (suc k) d (omega arith) (omega (arith, lt)), λ k d le within. h.1 (suc k) d (omega (arith, le)) (omega (arith, within)))
+
+  all_after : (x : ℕ × ℕ) (xs : List (ℕ × ℕ)) (P Q : ℕ × ℕ → Type 0) → IsPartitionPoint P Q (x ∷ xs) 0 → IsPartitionPoint P Q xs 0
+  all_after x xs P Q h = (λ k d from lt. absurd (omega (arith, lt)), λ k d le within. h.1 (suc k) d (omega arith) (omega (arith, within)))
+
+  pub begins_before : (xs : List (ℕ × ℕ)) (first end : ℕ) → first ≤ length xs → Begins xs first → Ends xs end → first ≤ end
+  begins_before xs first end within b e = elim (cases_lt end first) [
+    | inl lt ↦ absurd (
+        let d : ℕ × ℕ = (0, 0) in
+        let below : (get_or xs end d).0 < r = ltb-true (get_or xs end d).0 r (b.0 end d (omega arith) lt) in
+        let above : r < (get_or xs end d).0 = leb-false (get_or xs end d).0 r (e.1 end d (omega arith) (omega (arith, lt, within))) in
+        omega (arith, below, above)
+      )
+    | inr ge ↦ ge
+  ]
+
+  span : (xs : List (ℕ × ℕ)) (first end : ℕ) → Begins xs first → Ends xs end → take (end - first) (drop first xs) ≡ filter (λ x. x.0 == r) xs
+  span [] first end b e = nothing (end - first) first
+  span (x ∷ xs) (suc first) zero b e =
+      let below : x.0 < r = ltb-true x.0 r (b.0 0 x (omega arith) (omega arith)) in
+      let above : r < x.0 = leb-false x.0 r (e.1 0 x (omega arith) (omega arith)) in
+      absurd (omega (arith, below, above))
+  span (x ∷ xs) (suc first) (suc end) b e =
+      let below : x.0 < r = ltb-true x.0 r (b.0 0 x (omega arith) (omega arith)) in
+      let apart : (x.0 == r) ≡ false = ne_eqb x.0 r (λ (same : x.0 ≡ r). omega (arith, same, below)) in
+      let less : suc end - suc first ≡ end - first = omega arith in
+      ap (λ n. take n (drop first xs)) less
+      ∙ span xs first end (rest x xs (λ (y : ℕ × ℕ). ltb y.0 r ≡ true) (λ (y : ℕ × ℕ). ltb y.0 r ≡ false) first b) (rest x xs (λ (y : ℕ × ℕ). leb y.0 r ≡ true) (λ (y : ℕ × ℕ). leb y.0 r ≡ false) end e)
+      ∙ ap (λ b. cond b (x ∷ filter (λ z. z.0 == r) xs) (filter (λ z. z.0 == r) xs)) (sym apart)
+  span (x ∷ xs) zero (suc end) b e =
+      let from : r ≤ x.0 = ltb-false x.0 r (b.1 0 x (omega arith) (omega arith)) in
+      let to : x.0 ≤ r = leb-true x.0 r (e.0 0 x (omega arith) (omega arith)) in
+      let same : (x.0 == r) ≡ true = eq-eqb x.0 r (omega (arith, from, to)) in
+      let all : suc end - 0 ≡ suc end = omega arith in
+      let less : end ≡ end - 0 = omega arith in
+      ap (λ n. take n (x ∷ xs)) all
+      ∙ ap (λ l. x ∷ l) (ap (λ n. take n xs) less ∙ span xs zero end (all_after x xs (λ (y : ℕ × ℕ). ltb y.0 r ≡ true) (λ (y : ℕ × ℕ). ltb y.0 r ≡ false) b) (rest x xs (λ (y : ℕ × ℕ). leb y.0 r ≡ true) (λ (y : ℕ × ℕ). leb y.0 r ≡ false) end e))
+      ∙ ap (λ b. cond b (x ∷ filter (λ z. z.0 == r) xs) (filter (λ z. z.0 == r) xs)) (sym same)
+  span (x ∷ xs) zero zero b e =
+      let above : r < x.0 = leb-false x.0 r (e.1 0 x (omega arith) (omega arith)) in
+      let apart : (x.0 == r) ≡ false = ne_eqb x.0 r (λ (same : x.0 ≡ r). omega (arith, same, above)) in
+      span xs zero zero (all_after x xs (λ (y : ℕ × ℕ). ltb y.0 r ≡ true) (λ (y : ℕ × ℕ). ltb y.0 r ≡ false) b) (all_after x xs (λ (y : ℕ × ℕ). leb y.0 r ≡ true) (λ (y : ℕ × ℕ). leb y.0 r ≡ false) e)
+      ∙ ap (λ b. cond b (x ∷ filter (λ z. z.0 == r) xs) (filter (λ z. z.0 == r) xs)) (sym apart)
+
+  -- the ASes from the one place to the other are those of the round
+  pub in_round_span : (xs : List (ℕ × ℕ)) (first end : ℕ) → Begins xs first → Ends xs end → take (end - first) (drop first (map (λ x. x.1) xs)) ≡ in_round r xs
+  in_round_span xs first end b e =
+      ap (take (end - first)) (drop-map (λ (x : ℕ × ℕ). x.1) first xs) ∙ take-map (λ (x : ℕ × ℕ). x.1) (end - first) (drop first xs) ∙ ap (map (λ x. x.1)) (span xs first end b e)

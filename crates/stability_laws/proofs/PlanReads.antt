@@ -31,12 +31,13 @@ plan_of_none = λ i. record {
   leakers = set_of_none pair_cmp i;
 }
 
-pub none_are_plan : ArePlan [] [] [] []
+pub none_are_plan : ArePlan [] [] [] [] []
 none_are_plan = record {
   prefixes_rise = tt;
   announced_rise = tt;
   announcers_rise = tt;
   leakers_rise = tt;
+  leaking_are = λ i. [];
   announcers_are = set_of_none nat_cmp ∙ sym (ap announcing_set plan_of_none ∙ announcing_set-empty_plan);
   sound = subst IsSound (sym plan_of_none) sound_empty_plan;
 }
@@ -45,7 +46,7 @@ pub first_is : (xs : List ℕ) (a : ℕ) → 1 ≤ length xs → a ≡ get_or xs
 first_is [] a some e = absurd (omega (arith, some))
 first_is (x ∷ xs) a some e = e
 
-module _ (prefixes : List PrefixValue) (announced : List Announcement) (announcers : List ℕ) (leakers : List (ℕ × ℕ)) (w : ArePlan prefixes announced announcers leakers) (plan : Plan) (v : plan_of prefixes announced leakers ≡ plan) where
+module _ (prefixes : List PrefixValue) (announced : List Announcement) (announcers : List ℕ) (leakers : List (ℕ × ℕ)) (leaking : List ℕ) (w : ArePlan prefixes announced announcers leakers leaking) (plan : Plan) (v : plan_of prefixes announced leakers ≡ plan) where
   pub sound_plan : IsSound plan
   sound_plan = subst IsSound v w.sound
 
@@ -67,8 +68,12 @@ module _ (prefixes : List PrefixValue) (announced : List Announcement) (announce
   pub announcer_at_place : (i : ℕ) → slice_get announcers i ≡ slice_get (announcers_of plan) i
   announcer_at_place i = ap (λ ks. slice_get ks i) (sym (keys_set_of nat_cmp announcers w.announcers_rise)) ∙ (ap (λ m. slice_get (fin.keys m) i) w.announcers_are ∙ ap (λ (p : Plan). slice_get (announcers_of p) i) v)
 
-  pub leaker_at_place : (round i : ℕ) → slice_get (in_round round leakers) i ≡ slice_get (leakers_of plan round) i
-  leaker_at_place round i = ap (λ ks. slice_get (in_round round ks) i) (sym (keys_set_of pair_cmp leakers w.leakers_rise)) ∙ ap (λ (p : Plan). slice_get (leakers_of p round) i) v
+  pub leakers_are : (round : ℕ) → in_round round leakers ≡ leakers_of plan round
+  leakers_are round = ap (in_round round) (sym (keys_set_of pair_cmp leakers w.leakers_rise)) ∙ ap (λ (p : Plan). leakers_of p round) v
+
+  -- whom the plan has leak in some round
+  pub leaking_in_some : leaking ≡ map (λ x. x.1) (fin.keys plan.leakers)
+  leaking_in_some = w.leaking_are ∙ ap (map (λ x. x.1)) (sym (keys_set_of pair_cmp leakers w.leakers_rise)) ∙ ap (λ (p : Plan). map (λ x. x.1) (fin.keys p.leakers)) v
 
   -- a search for the announcement of the prefix by the AS
   module _ (s : List Announcement) (e : s ≡ announced) (prefix : PrefixValue) (a : ℕ) where
@@ -113,32 +118,38 @@ module _ (prefixes : List PrefixValue) (announced : List Announcement) (announce
       pub plan_announced : plan_of new_prefixes (insert announced at new) leakers ≡ with_announcement plan prefix path
       plan_announced = lists_announced ∙ ap (λ (p : Plan). with_announcement p prefix path) v
 
-      pub are_announced : ArePlan new_prefixes (insert announced at new) new_announcers leakers
+      pub are_announced : ArePlan new_prefixes (insert announced at new) new_announcers leakers leaking
       are_announced = record {
         prefixes_rise = prefixes_rise;
         announced_rise = rising.rising_insert announcement_cmp key path_of announcement_total exact_announcement announced new at w.announced_rise (gap at h);
         announcers_rise = announcers_rise;
         leakers_rise = w.leakers_rise;
+        leaking_are = w.leaking_are;
         announcers_are =
             announcers_are ∙ (ap (λ m. fin.insert m a tt) w.announcers_are ∙ ap (λ (x : ℕ). fin.insert (announcing_set (plan_of prefixes announced leakers)) x tt) first)
             ∙ sym (ap announcing_set lists_announced ∙ announcing_set-with_announcement (plan_of prefixes announced leakers) prefix path);
         sound = subst IsSound (sym lists_announced) (sound_with_announcement (plan_of prefixes announced leakers) w.sound prefix path some short);
       }
 
+  -- who leaks already
+  pub plan_kept : (round a : ℕ) → set_of pair_cmp leakers ≡ fin.insert (set_of pair_cmp leakers) (round, a) tt → plan ≡ with_leaker plan round a
+  plan_kept round a e = sym v ∙ (λ i. record { prefixes = set_of prefix_cmp prefixes; announced = fin.from_sorted (map entry_of announced); leakers = e i }) ∙ ap (λ (p : Plan). with_leaker p round a) v
+
   -- one leaker more
-  module _ (round a : ℕ) (late : 2 ≤ round) (new_leakers : List (ℕ × ℕ)) (leakers_rise : IsRising pair_cmp new_leakers) (leakers_are : set_of pair_cmp new_leakers ≡ fin.insert (set_of pair_cmp leakers) (round, a) tt) where
+  module _ (round a : ℕ) (late : 2 ≤ round) (new_leakers : List (ℕ × ℕ)) (leakers_rise : IsRising pair_cmp new_leakers) (leakers_are : set_of pair_cmp new_leakers ≡ fin.insert (set_of pair_cmp leakers) (round, a) tt) (new_leaking : List ℕ) (leaking_are : new_leaking ≡ map (λ x. x.1) new_leakers) where
     lists_leaking : plan_of prefixes announced new_leakers ≡ with_leaker (plan_of prefixes announced leakers) round a
     lists_leaking = λ i. record { prefixes = set_of prefix_cmp prefixes; announced = fin.from_sorted (map entry_of announced); leakers = leakers_are i }
 
     pub plan_leaking : plan_of prefixes announced new_leakers ≡ with_leaker plan round a
     plan_leaking = lists_leaking ∙ ap (λ (p : Plan). with_leaker p round a) v
 
-    pub are_leaking : ArePlan prefixes announced announcers new_leakers
+    pub are_leaking : ArePlan prefixes announced announcers new_leakers new_leaking
     are_leaking = record {
       prefixes_rise = w.prefixes_rise;
       announced_rise = w.announced_rise;
       announcers_rise = w.announcers_rise;
       leakers_rise = leakers_rise;
       announcers_are = w.announcers_are;
+      leaking_are = leaking_are;
       sound = subst IsSound (sym lists_leaking) (sound_with_leaker (plan_of prefixes announced leakers) w.sound round a late);
     }

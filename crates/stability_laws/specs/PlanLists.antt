@@ -37,11 +37,13 @@ plan_of prefixes announced leakers = record {
 abbrev pub announcing_set : Plan → set.FinSet nat_cmp
 announcing_set plan = fin.from_entries (map (λ x. (x.1, tt)) (fin.keys plan.announced))
 
--- the lists rise, the plan that they make is sound, and the announcers are the ASes that announce in it
-pub record ArePlan (prefixes : List PrefixValue) (announced : List Announcement) (announcers : List ℕ) (leakers : List (ℕ × ℕ)) : Type 0 where
+-- the lists rise, the plan that they make is sound, the announcers are the ASes that announce in it, and
+-- those that leak are the ASes of the leakers
+pub record ArePlan (prefixes : List PrefixValue) (announced : List Announcement) (announcers : List ℕ) (leakers : List (ℕ × ℕ)) (leaking : List ℕ) : Type 0 where
   pub prefixes_rise : IsRising prefix_cmp prefixes
   pub announced_rise : T (fin.is_sorted announcement_cmp (map entry_of announced))
   pub announcers_rise : IsRising nat_cmp announcers
   pub leakers_rise : IsRising pair_cmp leakers
   pub announcers_are : set_of nat_cmp announcers ≡ announcing_set (plan_of prefixes announced leakers)
+  pub leaking_are : leaking ≡ map (λ x. x.1) leakers
   pub sound : IsSound (plan_of prefixes announced leakers)

@@ -1,5 +1,9 @@
 //! What an AS holds, and what it puts in by itself.
-use net_names::{Asn, Class, Path};
+ghost use Rattle.std.specs.Prelude.{◌≡◌, IfOk};
+
+use crate::right::path_of;
+use net_names::{Asn, Class, NoMemory, Path};
+use std::alloc::Global;
 
 /// What an AS holds for a prefix.
 #[derive(Drop)]
@@ -20,4 +24,17 @@ pub struct Seed {
     pub path: Path,
     /// The number that it carries in the attribute Only to Customer, where it has one.
     pub otc: Option<Asn>,
+}
+
+impl Entry {
+    /// The same entry once more.
+    pub fn copied(&self, alloc: Global) -> Result<Entry, NoMemory>
+        ensures { IfOk result (λ e. e ≡ self.now) }
+    {
+        Ok(Entry {
+            class: self.class,
+            path: path_of(alloc, self.path.as_slice())?,
+            otc: self.otc,
+        })
+    }
 }

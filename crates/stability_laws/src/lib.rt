@@ -35,7 +35,7 @@ pub use offers::{carried, class_from, last_of, number_sent, offered_view};
 pub use right::right_entry;
 pub use round_seeds::seeds_at;
 pub use routing::{Routing, Seeds};
-pub use same::{same_class, same_number, same_path};
+pub use same::{is_of_seed, same_class, same_number, same_path};
 pub use seed_plan::{SeedEdit, SeedPlan, plans_are_sound};
 pub use world::World;
 pub use wrong::Wrong;

@@ -93,12 +93,8 @@ fn leak_all(
     ensures { OnOk result ((a : ℕ) → map.get seeds.new a ≡
         own_or_leaked (map.get seeds.old a) (leaks_in plan.now round a) (map.get before.now a)) }
 {
-    let mut place = 0;
-    'leakers: while let Some(asn) = plan.leaker_at(round, place) {
-        leak(alloc, asn, before, seeds)?;
-        // The numbers rise, so that none is below its place.
-        let _number = asn.get();
-        place += 1;
+    'leakers: for asn in plan.leakers(round) {
+        leak(alloc, *asn, before, seeds)?;
     }
     Ok(())
 }

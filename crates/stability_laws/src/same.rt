@@ -37,7 +37,7 @@ fn is_longer(path: &[Asn], a: Asn, rest: &[Asn]) -> bool
 }
 
 /// Whether it is the entry of an AS with the seed.
-pub(crate) fn is_of_seed(entry: &Entry, seed: &Seed) -> bool
+pub fn is_of_seed(entry: &Entry, seed: &Seed) -> bool
     ensures { IsTrue result ↔ (entry.now ≡ seed_entry seed.now) }
 {
     let class = same_class(entry.class, Class::Origin);

@@ -1,11 +1,11 @@
 //! Who announces what, and who leaks in which round.
-ghost use Rattle.std.specs.Prelude.{◌≡◌, ◌≤◌, ◌<◌, false, IsTrue, length, slice_get, option_copied, OnOk, OnErr, IsOk, vec_len, vec_capacity};
+ghost use Rattle.std.specs.Prelude.{◌≡◌, ◌≤◌, ◌<◌, ◌-◌, ℕ, false, IsTrue, length, take, drop, map, slice_get, option_copied, OnOk, OnErr, IsOk, vec_len, vec_capacity};
 ghost use Rattle.std.specs.FinMap as fin;
 ghost use Rattle.std.specs.FinMap.{IsAntisymmetric};
 ghost use Rattle.std.specs.Ordering.{eq_by_cmp, nat_cmp};
 ghost use Rattle.std.specs.List.{list_any};
 ghost use Rattle.std.specs.List.Sorted.{IsSearchInRange, IsBinarySearchResult};
-ghost use Rattle.net_names.specs.Prelude.{pair_cmp, prefix_cmp};
+ghost use Rattle.net_names.specs.Prelude.{occurs, pair_cmp, prefix_cmp};
 ghost use Rattle.stability_laws.specs.Plans.{announcement_cmp, announces, announced_path, announcer_of, empty_plan, with_announcement, with_leaker, has_prefix, leaks_in, prefixes_of, announcers_of, in_round, leakers_of, IsAnnouncer, IsSound, ListsRising};
 ghost use Rattle.stability_laws.specs.PlanLists.{set_of, IsRising};
 
@@ -34,6 +34,8 @@ pub struct SeedPlan {
     announced: Vec<Announcement>,
     announcers: Vec<Asn>,
     leakers: Vec<(u32, Asn)>,
+    // The ASes of the leakers, in the same order, so that those of a round are a part of the list.
+    leaking: Vec<Asn>,
 }
 
 impl Model for SeedPlan {
@@ -47,7 +49,8 @@ impl Model for SeedPlan {
 
     ghost view = { λ p. plan_of p.prefixes.items p.announced.items p.leakers.items };
 
-    ghost invariant = { λ p. ArePlan p.prefixes.items p.announced.items p.announcers.items p.leakers.items };
+    ghost invariant = { λ p. ArePlan p.prefixes.items p.announced.items p.announcers.items p.leakers.items
+        p.leaking.items };
 }
 
 // Where the announcement of the prefix by the AS stands, or where it has to be put in.
@@ -77,18 +80,17 @@ fn put_key<K: Ord + Copy>(keys: &mut Vec<K>, key: K) -> Result<(), NoMemory>
     }
 }
 
-// The AS at a place among those that leak in the round.
-fn leaker_in(leakers: &[(u32, Asn)], round: u32, place: usize) -> Option<Asn>
+// Where the leakers of the round begin, and where they end.
+fn span_of(leakers: &[(u32, Asn)], round: u32) -> (usize, usize)
     requires { IsRising pair_cmp leakers.now }
-    ensures { result ≡ slice_get (in_round round leakers.now) place }
+    ensures order { result.0 ≤ result.1 }
+    ensures within { result.1 ≤ length leakers.now }
+    ensures span { take (result.1 - result.0) (drop result.0 (map (λ x. x.1) leakers.now)) ≡
+        in_round round leakers.now }
 {
     let first = leakers.partition_point(|leaker| leaker.0 < round);
-    let leaker = leakers[first..].get(place)?;
-    if leaker.0 == round {
-        Some(leaker.1)
-    } else {
-        None
-    }
+    let end = leakers.partition_point(|leaker| leaker.0 <= round);
+    (first, end)
 }
 
 // Whether the prefix stands in the list.
@@ -117,6 +119,7 @@ impl SeedPlan {
             announced: Vec::new(alloc),
             announcers: Vec::new(alloc),
             leakers: Vec::new(alloc),
+            leaking: Vec::new(alloc),
         }
     }
 
@@ -154,7 +157,13 @@ impl SeedPlan {
         ensures ok { OnOk result (self.new ≡ with_leaker self.old round asn) }
         ensures err { OnErr result (self.new ≡ self.old) }
     {
-        put_key(&mut self.leakers, (round, asn))?;
+        let Err(at) = self.leakers.as_slice().binary_search(&(round, asn)) else {
+            return Ok(());
+        };
+        // One list gets its room before the other is written, so that a failure changes neither.
+        self.leaking.reserve(1)?;
+        self.leakers.insert(at, (round, asn))?;
+        let _ = self.leaking.insert(at, asn);
         Ok(())
     }
 
@@ -225,12 +234,21 @@ impl SeedPlan {
         self.announcers.as_slice()
     }
 
+    /// The ASes that leak in that round, in rising order.
+    pub fn leakers(&self, round: u32) -> &[Asn]
+        ensures value { result.now ≡ leakers_of self.now round }
+        ensures who { (a : ℕ) → occurs a result.now ≡ leaks_in self.now round a }
+    {
+        let (first, end) = span_of(self.leakers.as_slice(), round);
+        &self.leaking[first..end]
+    }
+
     /// The AS at a place among the ASes that leak in that round, in rising order; `None` exactly where
     /// the place is not below their number.
     pub fn leaker_at(&self, round: u32, place: usize) -> Option<Asn>
         ensures value { result ≡ slice_get (leakers_of self.now round) place }
         ensures listed { ListsRising nat_cmp (λ a. IsTrue (leaks_in self.now round a)) (leakers_of self.now round) }
     {
-        leaker_in(self.leakers.as_slice(), round, place)
+        self.leakers(round).get(place).copied()
     }
 }

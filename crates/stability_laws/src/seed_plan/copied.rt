@@ -50,6 +50,7 @@ impl SeedPlan {
             announced: announcements_of(alloc, self.announced.as_slice())?,
             announcers: items_of(alloc, self.announcers.as_slice())?,
             leakers: items_of(alloc, self.leakers.as_slice())?,
+            leaking: items_of(alloc, self.leaking.as_slice())?,
         })
     }
 }

@@ -52,6 +52,7 @@ impl SeedPlan {
             announced: Vec::new(alloc),
             announcers: Vec::new(alloc),
             leakers: items_of(alloc, self.leakers.as_slice())?,
+            leaking: items_of(alloc, self.leaking.as_slice())?,
         })
     }
 

@@ -1,5 +1,5 @@
 //! Whom a plan names.
-ghost use Rattle.std.specs.Prelude.{◌≡◌, ◌&&◌, ◌||◌, ◌==◌, not, ℕ, map};
+ghost use Rattle.std.specs.Prelude.{◌≡◌, ◌&&◌, ◌||◌, ◌==◌, not, map};
 ghost use Rattle.std.specs.List.{list_any};
 ghost use Rattle.std.specs.Ordering.{eq_by_cmp};
 ghost use Rattle.std.specs.FinMap as fin;
@@ -10,13 +10,6 @@ ghost use Rattle.stability_laws.specs.SeedEdits.{without_announcement};
 
 use super::{Announcement, SeedPlan};
 use net_names::{Asn, Prefix};
-
-// Whether the AS leaks in some round.
-fn leaks_in_some(leakers: &[(u32, Asn)], asn: Asn) -> bool
-    ensures { result ≡ list_any (λ (x : ℕ × ℕ). x.1 == asn) leakers.now }
-{
-    leakers.iter().any(|leaker| leaker.1 == asn)
-}
 
 // Whether the AS announces another prefix.
 fn announces_another(announced: &[Announcement], prefix: Prefix, asn: Asn) -> bool
@@ -35,7 +28,7 @@ impl SeedPlan {
             (map (λ x. x.1) (fin.keys self.now.leakers))) }
     {
         let announces = self.announcers().contains(&asn);
-        announces | leaks_in_some(self.leakers.as_slice(), asn)
+        announces | self.leaking.contains(&asn)
     }
 
     /// Whether the AS announces a prefix, or leaks in some round, where it does not announce this prefix any more.
@@ -44,6 +37,6 @@ impl SeedPlan {
             (map (λ x. x.1) (fin.keys self.now.leakers))) }
     {
         let announces = announces_another(self.announced.as_slice(), prefix, asn);
-        announces | leaks_in_some(self.leakers.as_slice(), asn)
+        announces | self.leaking.contains(&asn)
     }
 }

@@ -1,4 +1,4 @@
-use Rattle.std.proofs.Common.{◌≡◌, ℕ, ◌-◌, ◌≤◌, length, take}
+use Rattle.std.proofs.Common.{◌≡◌, ℕ, take}
 use Rattle.std.specs.FinMap as map
 use Rattle.net_names.specs.Numbers.{occurs}
 use Rattle.stability_laws.specs.Plans.{leakers_of}
@@ -6,10 +6,4 @@ use Rattle.stability_laws.specs.Seeding.{own_or_leaked}
 use Rattle.stability_laws.proofs.round_seeds.leak_all.Given as goal
 
 abbrev pub invariant-leakers : goal.invariant-leakers
-invariant-leakers l = record {
-  so_far : (a : ℕ) → map.get l.seeds a ≡ own_or_leaked (map.get l.fn.seeds a) (occurs a (take l.place (leakers_of l.plan l.round))) (map.get l.before a);
-  within : l.place ≤ length (leakers_of l.plan l.round);
-}
-
-abbrev pub decreases-leakers : goal.decreases-leakers
-decreases-leakers l = length (leakers_of l.plan l.round) - l.place
+invariant-leakers l = (a : ℕ) → map.get l.seeds a ≡ own_or_leaked (map.get l.fn.seeds a) (occurs a (take l.asn-index (leakers_of l.plan l.round))) (map.get l.before a)

@@ -33,10 +33,10 @@ module _ (c : goal.After-put_key-2) where
   abbrev new : Announcement
   new = record { prefix = c.args.prefix; asn = c.index-as_slice-0.result; path = c.args.path }
 
-  missed : Answers c.self.inside.prefixes.items c.self.inside.announced.items c.self.inside.announcers.items c.self.inside.leakers.items c.self.invariant c.args.self.now c.self.view_is c.as_slice-2.result.now c.as_slice-2.ensures.value c.args.prefix c.index-as_slice-0.result (Err c.match-place_of.at) c.as_slice-2.result.now
+  missed : Answers c.self.inside.prefixes.items c.self.inside.announced.items c.self.inside.announcers.items c.self.inside.leakers.items c.self.inside.leaking.items c.self.invariant c.args.self.now c.self.view_is c.as_slice-2.result.now c.as_slice-2.ensures.value c.args.prefix c.index-as_slice-0.result (Err c.match-place_of.at) c.as_slice-2.result.now
   missed = elim c.match-place_of.branch [
     | in-Ok w ↦ absurd (
-        not_new c.self.inside.prefixes.items c.self.inside.announced.items c.self.inside.announcers.items c.self.inside.leakers.items c.self.invariant c.args.self.now c.self.view_is c.as_slice-2.result.now c.as_slice-2.ensures.value c.args.prefix c.index-as_slice-0.result
+        not_new c.self.inside.prefixes.items c.self.inside.announced.items c.self.inside.announcers.items c.self.inside.leakers.items c.self.inside.leaking.items c.self.invariant c.args.self.now c.self.view_is c.as_slice-2.result.now c.as_slice-2.ensures.value c.args.prefix c.index-as_slice-0.result
         w.in-Ok.at new (w.in-Ok.ensures.bound, w.in-Ok.ensures.position) (subst (λ (a : ℕ). announces c.args.self.now c.args.prefix a ≡ false) (sym first) c.requires.new)
         )
     | in-Err w ↦ rw w.at-is (w.in-Err.ensures.bound, w.in-Err.ensures.position)
@@ -50,11 +50,11 @@ put_key-requires-clause-rising c =
 pub returns-clause-ok : goal.returns-clause-ok
 returns-clause-ok c =
     ap (λ (xs : List Announcement). plan_of c.put_key.new.keys.items xs c.self.inside.leakers.items) c.in_ok-insert.ensures.items
-    ∙ plan_announced c.self.inside.prefixes.items c.self.inside.announced.items c.self.inside.announcers.items c.self.inside.leakers.items c.self.invariant c.args.self.now c.self.view_is c.as_slice-2.result.now c.as_slice-2.ensures.value c.args.prefix c.index-as_slice-0.result
+    ∙ plan_announced c.self.inside.prefixes.items c.self.inside.announced.items c.self.inside.announcers.items c.self.inside.leakers.items c.self.inside.leaking.items c.self.invariant c.args.self.now c.self.view_is c.as_slice-2.result.now c.as_slice-2.ensures.value c.args.prefix c.index-as_slice-0.result
     c.match-place_of.at (missed c) c.args.path (first c) c.requires.some c.requires.short c.put_key.new.keys.items (prefixes c).0 (prefixes c).1 c.put_key-2.new.keys.items (announcers c).0 (announcers c).1
 
 pub invariant_of-self-2 : goal.invariant_of-self-2
 invariant_of-self-2 c =
-    subst (λ (xs : List Announcement). ArePlan c.put_key.new.keys.items xs c.put_key-2.new.keys.items c.self.inside.leakers.items) (sym c.in_ok-insert.ensures.items)
-    (are_announced c.self.inside.prefixes.items c.self.inside.announced.items c.self.inside.announcers.items c.self.inside.leakers.items c.self.invariant c.args.self.now c.self.view_is c.as_slice-2.result.now c.as_slice-2.ensures.value c.args.prefix c.index-as_slice-0.result
+    subst (λ (xs : List Announcement). ArePlan c.put_key.new.keys.items xs c.put_key-2.new.keys.items c.self.inside.leakers.items c.self.inside.leaking.items) (sym c.in_ok-insert.ensures.items)
+    (are_announced c.self.inside.prefixes.items c.self.inside.announced.items c.self.inside.announcers.items c.self.inside.leakers.items c.self.inside.leaking.items c.self.invariant c.args.self.now c.self.view_is c.as_slice-2.result.now c.as_slice-2.ensures.value c.args.prefix c.index-as_slice-0.result
     c.match-place_of.at (missed c) c.args.path (first c) c.requires.some c.requires.short c.put_key.new.keys.items (prefixes c).0 (prefixes c).1 c.put_key-2.new.keys.items (announcers c).0 (announcers c).1)
