@@ -176,7 +176,7 @@ module _ (r : ℕ) where
         let below : (get_or xs end d).0 < r = ltb-true (get_or xs end d).0 r (b.0 end d (omega arith) lt) in
         let above : r < (get_or xs end d).0 = leb-false (get_or xs end d).0 r (e.1 end d (omega arith) (omega (arith, lt, within))) in
         omega (arith, below, above)
-      )
+        )
     | inr ge ↦ ge
   ]
 

@@ -9,6 +9,7 @@ use Rattle.std.specs.Coded.{Coded, code_by, coded×, coded_ℕ, coded_list}
 use Rattle.net_names.specs.Prefixes.{PrefixValue, prefix_code, prefix_cmp}
 pub use Rattle.net_names.specs.Prefixes.{announcement_cmp}
 use Rattle.net_names.specs.Links.{pair_cmp}
+use Rattle.net_names.specs.declared.limits.TheConstants.{MOST_IN_PATH}
 
 -- a plan has the prefixes, the path that an AS announces of a prefix, and which AS leaks in which round
 pub record Plan : Type 0 where
@@ -55,11 +56,11 @@ with_announcement plan p path = record plan { prefixes = fin.insert plan.prefixe
 abbrev pub with_leaker : Plan → ℕ → ℕ → Plan
 with_leaker plan round a = record plan { leakers = fin.insert plan.leakers (round, a) tt }
 
--- each announced path starts with its AS and has at most 4294967294 numbers, its prefix is one of
+-- each announced path starts with its AS and has at most MOST_IN_PATH numbers, its prefix is one of
 -- the plan's, and there are leakers in rounds from 2 on alone
 pub record IsSound (plan : Plan) : Type 0 where
   pub starts : (prefix : PrefixValue) (a : ℕ) (path : List ℕ) → announced_path plan prefix a ≡ Some path → slice_get path 0 ≡ Some a
-  pub short : (prefix : PrefixValue) (a : ℕ) (path : List ℕ) → announced_path plan prefix a ≡ Some path → length path ≤ 4294967294
+  pub short : (prefix : PrefixValue) (a : ℕ) (path : List ℕ) → announced_path plan prefix a ≡ Some path → length path ≤ MOST_IN_PATH
   pub known : (prefix : PrefixValue) (a : ℕ) (path : List ℕ) → announced_path plan prefix a ≡ Some path → IsTrue (has_prefix plan prefix)
   pub later : (round a : ℕ) → IsTrue (leaks_in plan round a) → 2 ≤ round
 

@@ -11,8 +11,8 @@ use net_names::{Asn, NoMemory};
 use std::alloc::Global;
 use std::marker::Model;
 
-/// So many ASes at most are looked at one after the other, which is quicker than a hash.
-const FEW: usize = 4;
+/// Up to this number of named ASes, one is found by looking at each, which is quicker than by a hash.
+pub const FEW_NAMED: usize = 4;
 
 // Where the row of an AS stands, if it has one.
 fn row_of<P>(named: &IndexMap<Asn, Option<P>>, asn: Asn) -> Option<usize>
@@ -20,7 +20,7 @@ fn row_of<P>(named: &IndexMap<Asn, Option<P>>, asn: Asn) -> Option<usize>
     ensures once { IsDistinct nat_eq (keys named.now) }
 {
     let ases = named.keys().as_slice();
-    if ases.len() > FEW {
+    if ases.len() > FEW_NAMED {
         return named.get_index_of(&asn);
     }
     ases.iter().position(|a| asn == *a)

@@ -1,7 +1,6 @@
 //! What an AS holds, and what it puts in by itself.
 ghost use Rattle.std.specs.Prelude.{◌≡◌, IfOk};
 
-use crate::right::path_of;
 use net_names::{Asn, Class, NoMemory, Path};
 use std::alloc::Global;
 
@@ -33,7 +32,7 @@ impl Entry {
     {
         Ok(Entry {
             class: self.class,
-            path: path_of(alloc, self.path.as_slice())?,
+            path: self.path.copied(alloc)?,
             otc: self.otc,
         })
     }

@@ -22,7 +22,7 @@ mod seed_plan;
 mod world;
 mod wrong;
 
-pub use book::Book;
+pub use book::{Book, FEW_NAMED};
 pub use check::{better, check_at, holds_given};
 pub use entry::{Entry, Seed};
 pub use laws::{

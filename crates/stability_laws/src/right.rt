@@ -1,5 +1,5 @@
 //! The entry with which an AS is right.
-ghost use Rattle.std.specs.Prelude.{◌≡◌, ◌∷◌, ℕ, IfOk};
+ghost use Rattle.std.specs.Prelude.{◌≡◌, ℕ, IfOk};
 ghost use Rattle.std.specs.FinMap as map;
 ghost use Rattle.stability_laws.specs.Book.{policy_at};
 ghost use Rattle.stability_laws.specs.Offers.{passed_on};
@@ -17,31 +17,13 @@ use net_names::{Asn, Class, NoMemory, Path, Prefix};
 use policy_laws::{OriginStates, RoutePolicy, View};
 use std::alloc::Global;
 
-/// The path of these ASes.
-pub(crate) fn path_of(alloc: Global, numbers: &[Asn]) -> Result<Path, NoMemory>
-    ensures { IfOk result (λ p. p ≡ numbers.now) }
-{
-    let items = Vec::from_slice(alloc, numbers)?;
-    Ok(Path::from_vec(items))
-}
-
-/// The path of the AS, followed by these.
-fn path_after(alloc: Global, asn: Asn, rest: &[Asn]) -> Result<Path, NoMemory>
-    ensures { IfOk result (λ p. p ≡ asn ∷ rest.now) }
-{
-    let mut numbers = Vec::new(alloc);
-    numbers.push(asn)?;
-    numbers.extend_from_slice(rest)?;
-    Ok(Path::from_vec(numbers))
-}
-
 /// The entry of an AS with the seed.
 fn entry_of_seed(alloc: Global, seed: &Seed) -> Result<Entry, NoMemory>
     ensures { IfOk result (λ e. e ≡ seed_entry seed.now) }
 {
     Ok(Entry {
         class: Class::Origin,
-        path: path_of(alloc, seed.path.as_slice())?,
+        path: seed.path.copied(alloc)?,
         otc: seed.otc,
     })
 }
@@ -60,7 +42,7 @@ fn entry_given<P: RoutePolicy>(
     let sender = book.policy(view.neighbour);
     let to = view.rel.converse();
     let otc = carried(sender, book.policy(asn), view.neighbour, to, given.otc);
-    let path = path_after(alloc, asn, given.path.as_slice())?;
+    let path = Path::with_front(alloc, asn, given.path.as_slice())?;
     Ok(Entry {
         class: class_from(view.rel),
         path,

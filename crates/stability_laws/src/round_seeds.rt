@@ -7,15 +7,14 @@ ghost use Rattle.policy_laws.specs.Prelude.{is_own_or_customers};
 ghost use Rattle.stability_laws.specs.Seeding.{announced_seed, own_or_leaked};
 
 use crate::entry::Seed;
-use crate::right::path_of;
 use crate::routing::{Routing, Seeds};
 use crate::seed_plan::SeedPlan;
-use net_names::{Asn, Class, NoMemory, Prefix};
+use net_names::{Asn, Class, MOST_IN_PATH, NoMemory, Prefix};
 use std::alloc::Global;
 
 /// Puts the seed in, and nothing else.
 fn put_seed(asn: Asn, seed: Seed, seeds: &mut Seeds) -> Result<(), NoMemory>
-    requires { length seed.path ≤ 4294967294 }
+    requires { length seed.path ≤ MOST_IN_PATH }
     ensures this { OnOk result (map.get seeds.new asn ≡ Some seed) }
     ensures others { OnOk result ((a : ℕ) → a ≢ asn → map.get seeds.new a ≡ map.get seeds.old a) }
 {
@@ -37,7 +36,7 @@ fn announce(
     let Some(announced) = plan.path(prefix, asn) else {
         return Ok(());
     };
-    let path = path_of(alloc, announced.as_slice())?;
+    let path = announced.copied(alloc)?;
     put_seed(asn, Seed { path, otc: None }, seeds)
 }
 
@@ -77,7 +76,7 @@ fn leak(alloc: Global, asn: Asn, before: &Routing, seeds: &mut Seeds) -> Result<
     if is_own_or_given_by_customer(held.class) {
         return Ok(());
     }
-    let path = path_of(alloc, held.path.as_slice())?;
+    let path = held.path.copied(alloc)?;
     let otc = held.otc;
     put_seed(asn, Seed { path, otc }, seeds)
 }

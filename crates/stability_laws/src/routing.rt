@@ -6,14 +6,14 @@ ghost use Rattle.stability_laws.specs.Short.{HasShortPaths};
 ghost use Rattle.stability_laws.specs.Answers.{IsNextHolder};
 
 use crate::entry::{Entry, Seed};
-use net_names::{Asn, NoMemory};
+use net_names::{Asn, MOST_IN_PATH, NoMemory};
 use std::alloc::Global;
 use std::collections::BTreeMap;
 use std::marker::Model;
 use std::ops::Bound;
 
 /// What each AS holds, for one prefix and one round. Contracts see a finite map; each path has at most
-/// 4294967294 numbers.
+/// `MOST_IN_PATH` numbers.
 #[derive(Drop)]
 pub struct Routing {
     entries: BTreeMap<Asn, Entry>,
@@ -50,7 +50,7 @@ impl Routing {
     /// Makes the AS hold this entry, in place of what it held. `Err` where there is not enough memory;
     /// then the routing stays as it was.
     pub fn put(&mut self, asn: Asn, entry: Entry) -> Result<(), NoMemory>
-        requires { length entry.path ≤ 4294967294 }
+        requires { length entry.path ≤ MOST_IN_PATH }
         ensures ok { OnOk result (self.new ≡ map.insert self.old asn entry) }
         ensures err { OnErr result (self.new ≡ self.old) }
     {
@@ -123,7 +123,7 @@ impl Seeds {
     /// Makes the AS put in this seed, in place of what it put in. `Err` where there is not enough
     /// memory; then the seeds stay as they were.
     pub fn put(&mut self, asn: Asn, seed: Seed) -> Result<(), NoMemory>
-        requires { length seed.path ≤ 4294967294 }
+        requires { length seed.path ≤ MOST_IN_PATH }
         ensures ok { OnOk result (self.new ≡ map.insert self.old asn seed) }
         ensures err { OnErr result (self.new ≡ self.old) }
     {

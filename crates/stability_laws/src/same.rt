@@ -40,18 +40,16 @@ fn is_longer(path: &[Asn], a: Asn, rest: &[Asn]) -> bool
 pub fn is_of_seed(entry: &Entry, seed: &Seed) -> bool
     ensures { IsTrue result ↔ (entry.now ≡ seed_entry seed.now) }
 {
-    let class = same_class(entry.class, Class::Origin);
-    let path = same_path(entry.path.as_slice(), seed.path.as_slice());
-    let otc = same_number(entry.otc, seed.otc);
-    class & path & otc
+    same_class(entry.class, Class::Origin)
+        && same_number(entry.otc, seed.otc)
+        && same_path(entry.path.as_slice(), seed.path.as_slice())
 }
 
 /// Whether it is the entry with this class, the path of `a` and then the rest, and this number.
 pub(crate) fn has_parts(entry: &Entry, class: Class, a: Asn, rest: &[Asn], otc: Option<Asn>) -> bool
     ensures { IsTrue result ↔ (entry.now ≡ record { class = class; path = a ∷ rest.now; otc = otc }) }
 {
-    let class = same_class(entry.class, class);
-    let path = is_longer(entry.path.as_slice(), a, rest);
-    let otc = same_number(entry.otc, otc);
-    class & path & otc
+    same_class(entry.class, class)
+        && same_number(entry.otc, otc)
+        && is_longer(entry.path.as_slice(), a, rest)
 }

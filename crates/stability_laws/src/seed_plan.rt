@@ -14,7 +14,7 @@ mod edits;
 mod names;
 
 pub use edits::SeedEdit;
-use net_names::{Asn, NoMemory, Path, Prefix};
+use net_names::{Asn, MOST_IN_PATH, NoMemory, Path, Prefix};
 use std::alloc::Global;
 use std::marker::Model;
 
@@ -100,7 +100,7 @@ fn stands_in(prefixes: &[Prefix], prefix: Prefix) -> bool
     prefixes.iter().any(|one| prefix.cmp(one).is_eq())
 }
 
-/// What holds of every plan: each announced path starts with its AS and has at most 4294967294 numbers,
+/// What holds of every plan: each announced path starts with its AS and has at most `MOST_IN_PATH` numbers,
 /// its prefix is one of the plan's, and there are leakers in rounds from 2 on alone.
 pub fn plans_are_sound(plan: &SeedPlan)
     ensures { IsSound plan.now }
@@ -124,11 +124,11 @@ impl SeedPlan {
     }
 
     /// Makes the first AS of the path announce the path of the prefix, in every round. The path has 1
-    /// to 4294967294 numbers, and that AS does not announce the prefix yet. `Err` where there is not
+    /// to `MOST_IN_PATH` numbers, and that AS does not announce the prefix yet. `Err` where there is not
     /// enough memory; then the plan stays as it was.
     pub fn announce(&mut self, prefix: Prefix, path: Path) -> Result<(), NoMemory>
         requires some { 1 ≤ length path }
-        requires short { length path ≤ 4294967294 }
+        requires short { length path ≤ MOST_IN_PATH }
         requires new { announces self.old prefix (announcer_of path) ≡ false }
         ensures ok { OnOk result (self.new ≡ with_announcement self.old prefix path) }
         ensures err { OnErr result (self.new ≡ self.old) }
@@ -190,7 +190,7 @@ impl SeedPlan {
     }
 
     /// The path that the AS announces of the prefix; `None` exactly where it does not announce it. It
-    /// starts with the AS and has at most 4294967294 numbers.
+    /// starts with the AS and has at most `MOST_IN_PATH` numbers.
     pub fn path(&self, prefix: Prefix, asn: Asn) -> Option<&Path>
         ensures value { option_copied result ≡ announced_path self.now prefix asn }
         ensures sound { IsSound self.now }

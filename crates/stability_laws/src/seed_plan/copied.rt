@@ -2,7 +2,6 @@
 ghost use Rattle.std.specs.Prelude.{◌≡◌, IfOk};
 
 use super::{Announcement, SeedPlan};
-use crate::right::path_of;
 use net_names::NoMemory;
 use std::alloc::Global;
 
@@ -13,7 +12,7 @@ fn announcement_of(alloc: Global, announcement: &Announcement) -> Result<Announc
     Ok(Announcement {
         prefix: announcement.prefix,
         asn: announcement.asn,
-        path: path_of(alloc, announcement.path.as_slice())?,
+        path: announcement.path.copied(alloc)?,
     })
 }
 

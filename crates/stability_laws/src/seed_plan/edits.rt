@@ -7,8 +7,7 @@ ghost use Rattle.stability_laws.specs.SeedEdits.{silent, without_announcement, e
 
 use super::copied::items_of;
 use super::{Announcement, SeedPlan};
-use crate::right::path_of;
-use net_names::{Asn, NoMemory, Path, Prefix};
+use net_names::{Asn, MOST_IN_PATH, NoMemory, Path, Prefix};
 use std::alloc::Global;
 
 /// An edit of who announces what, in every round.
@@ -29,7 +28,7 @@ fn announce_unless(
     plan: &mut SeedPlan,
 ) -> Result<(), NoMemory>
     requires some { 1 ≤ length one.now.path }
-    requires short { length one.now.path ≤ 4294967294 }
+    requires short { length one.now.path ≤ MOST_IN_PATH }
     requires new { announces plan.old one.now.prefix (announcer_of one.now.path) ≡ false }
     ensures { OnOk result (plan.new ≡
         (if eq_by_cmp announcement_cmp (one.now.prefix, one.now.asn) (prefix, asn)
@@ -38,7 +37,7 @@ fn announce_unless(
     if one.prefix == prefix && one.asn == asn {
         return Ok(());
     }
-    let path = path_of(alloc, one.path.as_slice())?;
+    let path = one.path.copied(alloc)?;
     plan.announce(one.prefix, path)
 }
 
@@ -73,13 +72,13 @@ impl SeedPlan {
     /// memory.
     pub fn edited(&self, alloc: Global, edit: &SeedEdit) -> Result<SeedPlan, NoMemory>
         requires known { IsEditOf self.now edit.now }
-        requires within { IsEditWithin 4294967294 edit.now }
+        requires within { IsEditWithin MOST_IN_PATH edit.now }
         ensures { IfOk result (λ p. p ≡ edited self.now edit.now) }
     {
         match edit {
             SeedEdit::Announce { prefix, path } => {
                 let mut plan = self.without(alloc, *prefix, path.as_slice()[0])?;
-                let path = path_of(alloc, path.as_slice())?;
+                let path = path.copied(alloc)?;
                 plan.announce(*prefix, path)?;
                 Ok(plan)
             }
