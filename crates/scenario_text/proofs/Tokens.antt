@@ -5,7 +5,7 @@ use Rattle.std.specs.List.{list_all}
 use Rattle.json.specs.Token.{Token}
 use Rattle.json.specs.Lex.{tokens}
 use Rattle.json.specs.Json as json
-use Rattle.json.specs.Json.{Json, value, if_last}
+use Rattle.json.specs.Json.{Json, document, value, if_last}
 use Rattle.json.specs.Find as find
 use Rattle.json.specs.Find.{BeginsWith, Finds}
 use Rattle.json.specs.Tape.{node_token}
@@ -161,3 +161,13 @@ no_data (Some d) h = absurd (cc)
 
 pub text_refused : (text : List ℕ) (nodes : List Node) → IsSome (whole text) → map node_token nodes ≡ tokens text → false ≡ list_all (λ n. fits (node_token n)) nodes → read text ≡ None
 text_refused text nodes some are h = let w = whole_text text nodes false some are h in w.reads ∙ no_data (of_json w.j) w.fit
+
+-- a text that is whole is one that a tape takes, which has one level more
+pub whole_document : (text : List ℕ) → IsSome (whole text) → document text ≡ None → ⊥
+whole_document text some none =
+    let w = some_json text (whole text) refl some in
+    let tells = last (value 127 (tokens text)) w.0 w.1 in
+    let spelled : tokens text ≡ json_tokens w.0 ++ [] = value-json_tokens_back 127 (tokens text) [] w.0 tells in
+    let read : value 128 (tokens text) ≡ Some (w.0, []) = ap (value 128) spelled ∙ value-json_tokens w.0 128 [] (omega (arith, value-depth 127 (tokens text) [] w.0 tells)) in
+    let is : document text ≡ Some w.0 = ap (λ o. option_and_then (λ (p : Json × List Token). if_last p.0 p.1) o) read in
+    absurd cc

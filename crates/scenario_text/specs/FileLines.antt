@@ -1,5 +1,6 @@
 -- What a file says whose first line names a round and a prefix, and what is known of it where memory may run out (own format).
-use Rattle.std.specs.Prelude.{◌≡◌, ℕ, List, [], ◌∷◌, ok_or, Result, Ok, Err}
+use Rattle.std.specs.Prelude.{ℕ, List, [], ◌∷◌, ok_or, Result, Err}
+pub use Rattle.net_names.specs.Lines.{GivesOrFails}
 use Rattle.net_names.specs.Prefixes.{PrefixValue}
 use Rattle.net_names.specs.Trials.{◌>>=◌}
 use Rattle.scenario_text.specs.Forms.{for_of}
@@ -8,8 +9,3 @@ use Rattle.scenario_text.specs.Forms.{for_of}
 abbrev pub by_for : {S E : Type 0} → E → (ℕ → E) → (ℕ → ℕ × PrefixValue → List (ℕ × List ℕ) → Result S E) → List (ℕ × List ℕ) → Result S E
 by_for no_for unreadable says [] = Err no_for
 by_for no_for unreadable says (l ∷ ls) = ok_or (for_of l.1) (unreadable l.0) >>= λ x. says l.0 x ls
-
--- what was returned is what the reading gives, or a fault with which the reading fails in this way
-abbrev pub GivesOrFails : {X E : Type 0} → (E → Result X E → Type 0) → Result X E → Result X E → Type 0
-GivesOrFails Fails (Ok x) reading = reading ≡ Ok x
-GivesOrFails Fails (Err e) reading = Fails e reading

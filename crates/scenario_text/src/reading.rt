@@ -19,6 +19,7 @@ use std::alloc::Global;
 
 // The document of a JSON text, each value of its type.
 fn document_in(alloc: Global, text: &str) -> Result<Document, ScenarioError>
+    requires { length text.now ≤ MOST_TEXT_BYTES }
     ensures { Gives result (document_in text.now) }
 {
     let mut scratch = Scratch::new(alloc);
@@ -28,6 +29,7 @@ fn document_in(alloc: Global, text: &str) -> Result<Document, ScenarioError>
 
 // The four lists that the bytes say, before it is asked what stands twice and which limits are passed.
 fn said(alloc: Global, bytes: &[u8]) -> Result<Lists, ScenarioError>
+    requires { length bytes.now ≤ MOST_TEXT_BYTES }
     ensures { Gives result (lists_of_bytes bytes.now) }
 {
     match simdutf8::basic::from_utf8(bytes) {

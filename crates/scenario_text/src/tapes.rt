@@ -1,5 +1,5 @@
 //! The tokens of a JSON text, each with where its value ends.
-ghost use Rattle.std.specs.Prelude.{◌≡◌, ◌↔◌, IfOk, IsTrue, IsSome, ok_or};
+ghost use Rattle.std.specs.Prelude.{◌≡◌, ◌≤◌, ◌↔◌, length, IfOk, IsTrue, IsSome, ok_or};
 ghost use Rattle.std.specs.List.{list_all};
 ghost use Rattle.json.specs.Tape.{node_token};
 ghost use Rattle.serde_json.specs.Read.{read};
@@ -9,7 +9,8 @@ ghost use Rattle.scenario_text.specs.Tokens.{IsData, data_at, fits, whole};
 
 use crate::faults::ScenarioError;
 use crate::whole_numbers::whole_number;
-use json::{Node, Reader, Scratch, Tape};
+use json::{Error, Node, Reader, Scratch, Tape};
+use net_names::MOST_TEXT_BYTES;
 use std::alloc::{AllocError, Global};
 
 // How many levels serde_json reads: one fewer than a tape has.
@@ -41,20 +42,26 @@ fn all_fit(nodes: &[Node<'_>]) -> bool
 }
 
 /// The tokens of a text that is JSON as serde_json reads it. They take at most 24 bytes for each byte of the text.
+#[tactic(auto, using(crate::proofs::Tokens::whole_document))]
 pub(crate) fn tape<'a>(
     alloc: Global,
     text: &'a str,
     scratch: &'a mut Scratch,
 ) -> Result<Tape<'a>, ScenarioError>
+    requires { length text.now ≤ MOST_TEXT_BYTES }
     ensures says { GivesBy (λ tape. data_at tape) result (ok_or (read text.now) NotJson) }
     ensures is_data { IfOk result IsData }
 {
     if !is_whole(text, scratch)? {
         return Err(ScenarioError::NotJson);
     }
-    // A text that is whole has tokens, unless there is no room for them.
-    let Ok(tape) = Tape::parse(text, scratch, Vec::new(alloc)) else {
-        return Err(ScenarioError::Memory);
+    let tape = match Tape::parse(text, scratch, Vec::new(alloc)) {
+        Ok(tape) => tape,
+        Err(Error::OutOfMemory) => return Err(ScenarioError::Memory),
+        // A tape takes a text that is whole, and one of this length.
+        Err(Error::Invalid) => unreachable!(),
+        Err(Error::TooLong) => unreachable!(),
+        Err(Error::DuplicateKey) => unreachable!(),
     };
     if all_fit(tape.nodes()) {
         Ok(tape)
