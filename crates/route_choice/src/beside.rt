@@ -1,4 +1,4 @@
-//! Entries of ASes that have no place: of a few, or of many.
+//! Entries of ASes that have no place: of a few, or of many. It is a small map that turns into a sparse set.
 
 ghost use Rattle.std.specs.Prelude.{◌≡◌, ◌≢◌, ◌⊎◌, ℕ, ◌+◌, ◌^◌, ◌<◌, ◌≤◌, [], ◌∷◌, ◌++◌, length, slice_get, Some, None, IsSome, IsOk, IfOk, IfSome, OnOk, nat_eq, unwrap_or};
 ghost use Rattle.std.specs.Map.{keys_of, lookup};

@@ -12,10 +12,10 @@ ghost use Rattle.route_choice.specs.Choices.{is_looked_at, offers_of, state_seen
 ghost use Rattle.route_choice.specs.PrefixWorlds.{AreGiversAt, HasNoLoopsAt, HasNoLoopsIn};
 ghost use Rattle.route_choice.specs.Resources.{AreLive};
 
-use crate::looks::{held_near, place_at};
+use crate::looks::held_near;
 use crate::{Held, Overlay, Part, PrefixWorld, Turn};
 use as_graph::Neighbour;
-use net_names::{Asn, Rel, State};
+use net_names::{Asn, Rel, State, place_at};
 use path_pool::{PathId, PathPool};
 use policy_laws::{OriginStates, RoutePolicy, View};
 use stability_laws::number_sent;

@@ -1,4 +1,4 @@
-//! Entries of many ASes.
+//! Entries of many ASes: a sparse set, whose marks by place lead to dense rows.
 
 ghost use Rattle.std.specs.Prelude.{◌≡◌, ◌≢◌, ◌⊎◌, ℕ, ◌+◌, ◌^◌, ◌<◌, ◌≤◌, [], ◌∷◌, ◌++◌, length, get_or, slice_get, Some, None, IsSome, IsOk, IfOk, OnOk, nat_eq, unwrap_or};
 ghost use Rattle.indexmap.specs.IndexMap.{get, spare};
@@ -7,12 +7,11 @@ ghost use Rattle.route_choice.specs.Dense.{marked, row_of};
 ghost use Rattle.route_choice.specs.Slots.{keys, slot_at, use_of, uses_of};
 
 use crate::Held;
-use crate::looks::place_at;
 use crate::row::Row;
 use crate::slot::Slot;
 use as_places::AsPlaces;
 use indexmap::IndexMap;
-use net_names::{Asn, NoMemory};
+use net_names::{Asn, NoMemory, place_at};
 use std::alloc::Global;
 use std::marker::Model;
 use std::rc::Rc;

@@ -45,12 +45,3 @@ fn slot_far(table: &Table, overlay: &Overlay, asn: Asn, place: usize) -> Slot
 {
     Slot::of(held_near(table, overlay, asn, place))
 }
-
-/// The place at an index, or the first one where there is none.
-#[inline(always)]
-pub(crate) fn place_at(places: &[u32], index: usize) -> usize {
-    match places.get(index) {
-        Some(place) => *place as usize,
-        None => 0,
-    }
-}

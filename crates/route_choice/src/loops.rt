@@ -8,10 +8,10 @@ ghost use Rattle.route_choice.specs.PrefixWorlds.{AreGiversAt, HasLoopsFromAt, H
 ghost use Rattle.route_choice.specs.Resources.{AreLive};
 ghost use Rattle.route_choice.specs.Routings.{routing_of};
 
-use crate::looks::{held_near, place_at};
+use crate::looks::held_near;
 use crate::{NamedSet, Overlay, PlacedAs, PrefixWorld, Table, Turn};
 use as_graph::Neighbour;
-use net_names::Asn;
+use net_names::{Asn, place_at};
 use path_pool::PathPool;
 use policy_laws::{OriginStates, RoutePolicy};
 

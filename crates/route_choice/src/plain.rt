@@ -13,12 +13,12 @@ ghost use Rattle.route_choice.specs.Routings.{routing_of};
 ghost use Rattle.route_choice.specs.Tables.{joined, seed_at};
 ghost use Rattle.route_choice.specs.Visits.{IsVisit};
 
-use crate::looks::{place_at, slot_near};
+use crate::looks::slot_near;
 use crate::settling::put_longer;
 use crate::slot::{Slot, asn_or_none};
 use crate::{Held, Overlay, PlacedAs, PrefixWorld, Steps};
 use as_graph::Neighbour;
-use net_names::{Asn, Class};
+use net_names::{Asn, Class, place_at};
 use path_pool::{PathId, PathPool, paths_are_not_empty};
 use policy_laws::{OriginStates, RoutePolicy};
 use std::sync::ledger::Ledger;

@@ -12,11 +12,10 @@ ghost use Rattle.std.specs.Rc.{rc_value};
 
 use crate::Held;
 use crate::beside::Beside;
-use crate::looks::place_at;
 use crate::row::{Row, rows_of};
 use crate::slot::Slot;
 use as_places::AsPlaces;
-use net_names::{Asn, NoMemory};
+use net_names::{Asn, NoMemory, place_at};
 use path_pool::PathPool;
 use std::alloc::Global;
 use std::marker::Model;
