@@ -1,5 +1,4 @@
 pub mod NumberLists
-pub mod Linewise
 pub mod Lists
 pub mod KindChanges
 pub mod Drawn

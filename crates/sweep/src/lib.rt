@@ -6,7 +6,6 @@
 //! whose fates are counted. Afterwards the policies are as they were.
 #![tactic(auto)]
 
-mod bytes;
 mod drawing;
 mod forms;
 mod laws;

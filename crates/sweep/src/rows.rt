@@ -4,10 +4,9 @@ ghost use Rattle.std.specs.List.{flat_map};
 ghost use Rattle.sweep.specs.Swept.{trial_text};
 ghost use Rattle.sweep.specs.Texts.{delivered_row, row};
 
-use crate::bytes::{put_bytes, put_number};
 use crate::sweeps::Sweep;
 use crate::trial::{Fate, Trial};
-use net_names::{Asn, NoMemory, put_asn};
+use net_names::{Asn, NoMemory, put_asn, put_bytes, put_number};
 
 // Which trial it is: how many ASes adopt, and the trial's number.
 #[derive(Clone, Copy)]

@@ -101,8 +101,8 @@ impl Sweeps {
         }
     }
 
-    // How many there are.
-    pub(crate) fn len(&self) -> usize
+    /// How many there are.
+    pub fn len(&self) -> usize
         ensures { result ≡ length self.now }
     {
         self.items.len()
