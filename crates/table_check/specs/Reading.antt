@@ -19,6 +19,11 @@ abbrev pub Fails : {X : Type 0} → TablesError → Result X TablesError → Typ
 Fails Memory reading = Unit {0}
 Fails e reading = reading ≡ Err e
 
+-- a reading that fails as another one does fails in the same way
+pub fails_on : (e : TablesError) (r s : Result Tables TablesError) → ((f : TablesError) → r ≡ Err f → s ≡ Err f) → Fails e r → Fails e s
+fails_on Memory r s same fails = tt
+fails_on e r s same fails = same e fails
+
 -- with a row of the last section, in the line of this number: an AS has one row in a section (own format)
 abbrev pub with_row : Tables → ℕ → ℕ × Option Entry → Result Tables TablesError
 with_row t n row = if map.contains_key t.rows (length t.starts, row.0) then Err (Twice n)

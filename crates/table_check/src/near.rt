@@ -9,11 +9,12 @@ ghost use Rattle.table_check.specs.Rows.{held_by};
 ghost use Rattle.table_check.specs.Walk.{brief_of};
 
 use crate::placed::{Brief, Placed};
-use crate::seeds::is_of_seed;
 use as_graph::Neighbour;
-use net_names::{Asn, Prefix, State};
+use net_names::{Asn, Prefix, State, place_at};
 use policy_laws::{OriginStates, RoutePolicy, View};
-use stability_laws::{Entry, Seeds, World, better, holds_given, number_sent, offered_view};
+use stability_laws::{
+    Entry, Seeds, World, better, holds_given, is_of_seed, number_sent, offered_view,
+};
 
 /// The AS whose offers are looked at, and a place at which its row is sought first.
 #[derive(Drop)]
@@ -27,14 +28,6 @@ struct Receiver {
 struct Best {
     view: Option<View>,
     place: usize,
-}
-
-// A place at which to look, of those of neighbours.
-fn place_at(places: &[u32], index: usize) -> usize {
-    match places.get(index) {
-        Some(place) => *place as usize,
-        None => 0,
-    }
 }
 
 // The place of the neighbour, where the view names it, or else the other one.

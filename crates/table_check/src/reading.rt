@@ -1,15 +1,19 @@
 //! Reading a printed table.
+ghost use Rattle.std.proofs.Common.{rules};
 ghost use Rattle.std.specs.Prelude.{◌≡◌, ◌+◌, ◌<◌, ◌≤◌, ◌&&◌, ◌==◌, [], IfOk, IfSome, length};
 ghost use Rattle.std.specs.FinMap as map;
 ghost use Rattle.std.specs.Ordering.{eq_by_cmp};
-ghost use Rattle.net_names.specs.Prelude.{kept_from, said_on, prefix_cmp};
+ghost use Rattle.net_names.specs.Prelude.{kept_from, prefix_cmp};
+ghost use Rattle.net_names.specs.declared.limits.TheConstants.{MOST_LIST_BYTES as most_bytes};
 ghost use Rattle.table_check.specs.declared.reading.TablesError.TheVariants.{Memory};
-ghost use Rattle.table_check.specs.Reading.{Gives, tables_by, with_line, with_row};
+ghost use Rattle.table_check.specs.Reading.{Fails as FailsBy, fails_on as fails_alike, Gives, tables_by, with_line, with_row};
 
 use crate::forms::row;
 use crate::rows::Rows;
 use crate::tables::{Starts, Tables};
-use net_names::{Asn, NoMemory, Prefix, next_kept};
+use net_names::{
+    Asn, LineByLine, MOST_IN_PATH, MOST_LIST_BYTES, NoMemory, Prefix, next_kept, put_lines,
+};
 use scenario_text::read_for;
 use stability_laws::Entry;
 use std::alloc::Global;
@@ -56,7 +60,7 @@ fn put_row(
     asn: Asn,
     held: Option<Entry>,
 ) -> Result<Tables, TablesError>
-    requires { IfSome held (λ e. length e.path ≤ 4294967294) }
+    requires { IfSome held (λ e. length e.path ≤ MOST_IN_PATH) }
     ensures gives { Gives result (with_row tables number (asn, held)) }
     ensures few { IfOk result (λ t. t.starts ≡ tables.starts) }
 {
@@ -68,50 +72,35 @@ fn put_row(
     }
 }
 
-// Puts in what the line of this number says.
-fn put_line(
-    alloc: Global,
-    mut tables: Tables,
-    number: u32,
-    line: &[u8],
-) -> Result<Tables, TablesError>
-    requires short { length line.now ≤ 268435456 }
-    requires few { length tables.starts < 268435457 }
-    ensures gives { Gives result (with_line tables (number, line.now)) }
-    ensures few { IfOk result (λ t. length t.starts ≤ length tables.starts + 1) }
-{
-    if let Some((round, prefix)) = read_for(line) {
-        if is_next(&tables, round, prefix) {
-            tables.starts.push(number)?;
-            return Ok(tables);
+impl LineByLine for Tables {
+    type Error = TablesError;
+
+    ghost says = { with_line };
+
+    ghost Fails = { FailsBy };
+
+    ghost IsReady = { λ number tables. length tables.starts < number };
+
+    ghost most = { most_bytes };
+
+    fn put_line(mut self, alloc: Global, number: u32, line: &[u8]) -> Result<Tables, TablesError> {
+        if let Some((round, prefix)) = read_for(line) {
+            if is_next(&self, round, prefix) {
+                self.starts.push(number)?;
+                return Ok(self);
+            }
+        }
+        match row(alloc, line)? {
+            Some((asn, held)) => put_row(self, number, asn, held),
+            None => Err(TablesError::Unreadable { line: number }),
         }
     }
-    match row(alloc, line)? {
-        Some((asn, held)) => put_row(tables, number, asn, held),
-        None => Err(TablesError::Unreadable { line: number }),
-    }
-}
 
-// Puts in what the lines of these bytes say, of which the first has this number.
-fn put_lines(
-    alloc: Global,
-    tables: Tables,
-    number: u32,
-    bytes: &[u8],
-) -> Result<Tables, TablesError>
-    requires short { number + length bytes.now ≤ 268435457 }
-    requires few { length tables.starts < number }
-    ensures { Gives result (said_on with_line tables (kept_from number bytes.now)) }
-{
-    let mut tables = tables;
-    let mut number = number;
-    let mut rest = bytes;
-    while let Some(kept) = next_kept(rest, number) {
-        rest = kept.rest;
-        number = kept.number + 1;
-        tables = put_line(alloc, tables, kept.number, kept.line)?;
-    }
-    Ok(tables)
+    ghost fails_on = { fails_alike };
+
+    ghost stays_ready = { Prim.search rules };
+
+    ghost fits = { Prim.search rules };
 }
 
 // The table of this prefix that has no section yet.
@@ -134,7 +123,7 @@ fn begun(alloc: Global, prefix: Prefix) -> Tables
 /// `for` line of the next section, and `Twice` exactly where it is a row of an AS that has one in its section already;
 /// `Memory` where there is not enough memory.
 pub fn read_tables(alloc: Global, bytes: &[u8]) -> Result<Tables, TablesError>
-    requires { length bytes.now ≤ 268435456 }
+    requires { length bytes.now ≤ MOST_LIST_BYTES }
     ensures { Gives result (tables_by (kept_from 1 bytes.now)) }
 {
     let Some(first) = next_kept(bytes, 1) else {

@@ -5,7 +5,7 @@ ghost use Rattle.as_graph.specs.Prelude.{has};
 ghost use Rattle.table_check.specs.Rows.{HasShortRows, HoldsShort, held_by, inside_row};
 
 use as_graph::Graph;
-use net_names::{Asn, NoMemory, Path};
+use net_names::{Asn, MOST_IN_PATH, NoMemory};
 use stability_laws::{Entry, Routing};
 use std::alloc::Global;
 use std::collections::BTreeMap;
@@ -31,18 +31,6 @@ impl Model for Rows {
     ghost invariant = { λ r. HasShortRows (map.from_entries r.entries.entries) };
 }
 
-// A copy of the entry.
-fn copy_of(alloc: Global, entry: &Entry) -> Result<Entry, NoMemory>
-    ensures { IfOk result (λ copy. copy ≡ entry.now) }
-{
-    let numbers = Vec::from_slice(alloc, entry.path.as_slice())?;
-    Ok(Entry {
-        class: entry.class,
-        path: Path::from_vec(numbers),
-        otc: entry.otc,
-    })
-}
-
 /// Makes the AS hold a copy of this.
 pub(crate) fn put_copy(
     alloc: Global,
@@ -50,10 +38,10 @@ pub(crate) fn put_copy(
     asn: Asn,
     held: &Entry,
 ) -> Result<(), NoMemory>
-    requires { length held.now.path ≤ 4294967294 }
+    requires { length held.now.path ≤ MOST_IN_PATH }
     ensures { OnOk result (routing.new ≡ map.insert routing.old asn held.now) }
 {
-    let copy = copy_of(alloc, held)?;
+    let copy = held.copied(alloc)?;
     routing.put(asn, copy)?;
     Ok(())
 }
@@ -85,7 +73,7 @@ impl Rows {
         asn: Asn,
         held: Option<Entry>,
     ) -> Result<bool, NoMemory>
-        requires { IfSome held (λ e. length e.path ≤ 4294967294) }
+        requires { IfSome held (λ e. length e.path ≤ MOST_IN_PATH) }
         ensures new { IfOk result (λ is_new. is_new ≡ not (map.contains_key self.old (round, asn))) }
         ensures with { OnOk result (self.new ≡ map.insert self.old (round, asn) held) }
     {

@@ -1,14 +1,12 @@
-//! The seeds of a section, and whether an AS holds its own.
-ghost use Rattle.std.specs.Prelude.{◌≡◌, ◌≢◌, ◌↔◌, ◌+◌, ◌-◌, ◌<◌, ◌^◌, ℕ, IsTrue, None, OnOk, IfOk, if◌then◌else◌};
+//! The seeds of a section.
+ghost use Rattle.std.specs.Prelude.{◌≡◌, ◌≢◌, ◌+◌, ◌-◌, ◌<◌, ◌^◌, ℕ, None, OnOk, IfOk, if◌then◌else◌};
 ghost use Rattle.std.specs.FinMap as map;
-ghost use Rattle.stability_laws.specs.Prelude.{seed_entry, leaks_in, seeds_of};
+ghost use Rattle.stability_laws.specs.Prelude.{leaks_in, seeds_of};
 ghost use Rattle.table_check.specs.Rows.{held_by};
 
 use crate::rows::{Rows, put_copy};
-use net_names::{Asn, Class, NoMemory, Prefix};
-use stability_laws::{
-    Entry, Routing, Seed, SeedPlan, Seeds, same_class, same_number, same_path, seeds_at,
-};
+use net_names::{Asn, NoMemory, Prefix};
+use stability_laws::{Routing, SeedPlan, Seeds, seeds_at};
 use std::alloc::Global;
 
 // Makes the AS hold what it holds by the rows of the round.
@@ -45,12 +43,8 @@ fn held_by_leakers(
 {
     let round = before + 1;
     let mut routing = Routing::new(alloc);
-    let mut place = 0;
-    'leakers: while let Some(asn) = plan.leaker_at(round, place) {
-        put_held(alloc, table, before, asn, &mut routing)?;
-        // The numbers rise, so that none is below its place.
-        let _number = asn.get();
-        place += 1;
+    'leakers: for asn in plan.leakers(round) {
+        put_held(alloc, table, before, *asn, &mut routing)?;
     }
     Ok(routing)
 }
@@ -69,14 +63,4 @@ pub(crate) fn seeds_after(
 {
     let held = held_by_leakers(alloc, plan, table, before)?;
     seeds_at(alloc, plan, before + 1, prefix, &held)
-}
-
-/// Whether it is the entry of an AS with the seed.
-pub(crate) fn is_of_seed(entry: &Entry, seed: &Seed) -> bool
-    ensures { IsTrue result ↔ (entry.now ≡ seed_entry seed.now) }
-{
-    let class = same_class(entry.class, Class::Origin);
-    let path = same_path(entry.path.as_slice(), seed.path.as_slice());
-    let otc = same_number(entry.otc, seed.otc);
-    class & path & otc
 }

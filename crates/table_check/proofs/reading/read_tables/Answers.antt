@@ -20,4 +20,4 @@ pub returns : goal.returns
 returns c =
     let lines = kept_from 1 c.args.bytes.now in
     let whole = tables_are lines ∙ named NoFor Unreadable (λ _ x _. said_on with_line (none_yet x.1) lines) lines _ _ _ _ c.in-Some.ensures.some c.in-Some-read_for.ensures.value in
-    subst (λ t. Gives c.put_lines.result t) (ap (λ t. said_on with_line t lines) c.begun.ensures ∙ sym whole) c.put_lines.ensures
+    subst (λ t. Gives c.put_lines.result t) (ap (λ t. said_on with_line t lines) c.begun.ensures ∙ sym whole) c.put_lines.ensures.gives

@@ -1,4 +1,4 @@
-use Rattle.std.proofs.Common.{◌≡◌, ℕ, ◌+◌, ◌-◌, ◌≤◌, None, length, take}
+use Rattle.std.proofs.Common.{◌≡◌, ℕ, ◌+◌, None, take}
 use Rattle.std.specs.FinMap as map
 use Rattle.net_names.specs.Numbers.{occurs}
 use Rattle.stability_laws.specs.Plans.{leakers_of}
@@ -7,10 +7,4 @@ use Rattle.table_check.proofs.Leakers.{given}
 use Rattle.table_check.proofs.seeds.held_by_leakers.Given as goal
 
 abbrev pub invariant-leakers : goal.invariant-leakers
-invariant-leakers l = record {
-  so_far : (a : ℕ) → map.get l.routing a ≡ given None (occurs a (take l.place (leakers_of l.plan (l.before + 1)))) (held_by l.table l.before a);
-  within : l.place ≤ length (leakers_of l.plan (l.before + 1));
-}
-
-abbrev pub decreases-leakers : goal.decreases-leakers
-decreases-leakers l = length (leakers_of l.plan (l.before + 1)) - l.place
+invariant-leakers l = (a : ℕ) → map.get l.routing a ≡ given None (occurs a (take l.asn-index (leakers_of l.plan (l.before + 1)))) (held_by l.table l.before a)
