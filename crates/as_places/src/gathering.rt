@@ -41,14 +41,9 @@ pub(crate) fn gather(alloc: Global, ases: &[Asn]) -> Result<IndexSet<Asn>, NoMem
     ensures { IfOk result (λ s. s.keys ≡ ases.now) }
 {
     let mut set = IndexSet::new(alloc);
-    if set.reserve(ases.len()).is_err() {
-        return Err(NoMemory);
-    }
+    set.reserve(ases.len())?;
     for asn in ases {
-        match set.insert(*asn) {
-            Ok(_) => {}
-            Err(_) => return Err(NoMemory),
-        }
+        set.insert(*asn)?;
     }
     Ok(set)
 }

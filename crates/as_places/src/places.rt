@@ -56,14 +56,12 @@ impl AsPlaces {
     {
         let front = rising_front(ases);
         let behind = gather(alloc, &ases[front..])?;
-        match Vec::from_slice(alloc, ases) {
-            Ok(numbers) => Ok(AsPlaces {
-                numbers,
-                front,
-                behind,
-            }),
-            Err(_) => Err(NoMemory),
-        }
+        let numbers = Vec::from_slice(alloc, ases)?;
+        Ok(AsPlaces {
+            numbers,
+            front,
+            behind,
+        })
     }
 
     /// These numbers, each at its index, in a list that tables can share.
@@ -133,13 +131,9 @@ impl AsPlaces {
         ensures succeeds { n ≤ self.old.spare → IsOk result }
         ensures same { self.new.ases ≡ self.old.ases }
     {
-        if self.numbers.reserve(n).is_err() {
-            return Err(NoMemory);
-        }
-        match self.behind.reserve(n) {
-            Ok(()) => Ok(()),
-            Err(_) => Err(NoMemory),
-        }
+        self.numbers.reserve(n)?;
+        self.behind.reserve(n)?;
+        Ok(())
     }
 
     /// Puts a number behind the others, and returns its place. Takes no memory.

@@ -15,6 +15,7 @@ use Rattle.caida_reader.specs.declared.firsts.First.{First}
 use Rattle.caida_reader.specs.declared.errors.RelError.{RelError}
 use Rattle.caida_reader.specs.declared.errors.RelError.TheVariants as fault
 use Rattle.caida_reader.proofs.Values.{first_fault}
+use Rattle.net_names.proofs.Shared.{take-take}
 
 if_some : (b : Bool) (f e : RelError) → (if b then None else Some f) ≡ Some e → f ≡ e
 if_some true f e h = cc
@@ -84,12 +85,6 @@ front_faultless before (x ∷ xs) ys h = by_first (fault_after before x) refl h 
         → (first_fault (before ++ x ∷ []) (xs ++ ys) ≡ None → first_fault (before ++ x ∷ []) xs ≡ None) → first_fault before (x ∷ xs) ≡ None
     by_first None is none later = rw is (later none)
     by_first (Some f) is none later = cc
-
-take-take : {X : Type 0} (k n : ℕ) (xs : List X) → k ≤ n → take k (take n xs) ≡ take k xs
-take-take zero n xs le = refl
-take-take (suc k) zero xs le = absurd (omega (arith, le))
-take-take (suc k) (suc n) [] le = refl
-take-take (suc k) (suc n) (x ∷ xs) le = ap (λ ys. x ∷ ys) (take-take k n xs (omega (arith, le)))
 
 pub take_faultless : (said : List Line) (k n : ℕ) → k ≤ n → first_fault [] (take n said) ≡ None → first_fault [] (take k said) ≡ None
 take_faultless said k n le h =

@@ -12,6 +12,8 @@ use Rattle.net_names.specs.Links.{pair_cmp}
 use Rattle.net_names.proofs.Pairs.{exact_pair, pairs_total}
 use Rattle.caida_reader.specs.Firsts.{FirstMap, ArePairs}
 use Rattle.caida_reader.specs.declared.firsts.First.{First}
+use Rattle.net_names.proofs.Shared.{is_equal as equal}
+pub use Rattle.net_names.proofs.Shared.{same_pair}
 
 -- what the entries have at a pair
 abbrev pub first_at : List ((ℕ × ℕ) × First) → ℕ × ℕ → Option First
@@ -34,15 +36,6 @@ one_put es fs s n h = same_map pairs_total exact_pair _ _ (λ q.
 back : (b : Bool) (o : Option First) (given first : First) → (b ≡ true → o ≡ Some first) → cond b (Some first) (cond b (Some given) o) ≡ o
 back true o given first h = sym (h refl)
 back false o given first h = refl
-
-equal : (r : Ordering) → is_eq r ≡ true → r ≡ Equal
-equal Less h = cc
-equal Equal h = refl
-equal Greater h = cc
-
--- only equal pairs tie
-pub same_pair : (q s : ℕ × ℕ) → eq_by_cmp pair_cmp q s ≡ true → q ≡ s
-same_pair q s h = exact_pair q s (equal (pair_cmp q s) h)
 
 -- the first line that is put back
 pub put_back : (m : FirstMap) (s : ℕ × ℕ) (given first : First) → get m s ≡ Some first → insert (insert m s given) s first ≡ m

@@ -5,29 +5,13 @@ use Rattle.std.proofs.lemmas.List.{take_more}
 use Rattle.net_names.specs.Numbers.{occurs, IsDistinct}
 use Rattle.as_graph.proofs.Chains.{distinct_le}
 use Rattle.cycle_check.proofs.Descents.{occurs_push, occurs_before, occurs_last, distinct_init}
-
-pub occurs_head : (x : ℕ) (xs : List ℕ) → occurs x (x ∷ xs) ≡ true
-occurs_head x xs = or_left (x == x) (occurs x xs) (eq-eqb x x refl)
-
-pub occurs_rest : (x y : ℕ) (xs : List ℕ) → occurs x xs ≡ true → occurs x (y ∷ xs) ≡ true
-occurs_rest x y xs o = or_right (y == x) (occurs x xs) o
-
-pub occurs_cons : (x y : ℕ) (xs : List ℕ) → occurs x (y ∷ xs) ≡ true → (y ≡ x) ⊎ (occurs x xs ≡ true)
-occurs_cons x y xs o = elim (or_cases (y == x) (occurs x xs) o) [ inl e ↦ inl (eqb-true y x e) | inr e ↦ inr e ]
+pub use Rattle.net_names.proofs.Shared.{occurs_head, occurs_rest, occurs_cons, occurs_index}
 
 -- what stands at an index stands in the list
 pub occurs_get : (xs : List ℕ) (i d : ℕ) → i < length xs → occurs (get_or xs i d) xs ≡ true
 occurs_get [] i d h = absurd (omega arith)
 occurs_get (x ∷ xs) zero d h = occurs_head x xs
 occurs_get (x ∷ xs) (suc i) d h = occurs_rest (get_or xs i d) x xs (occurs_get xs i d (omega arith))
-
--- what stands in the list stands at an index
-pub occurs_index : (x : ℕ) (xs : List ℕ) → occurs x xs ≡ true → (i : ℕ) × (i < length xs) × (get_or xs i 0 ≡ x)
-occurs_index x [] o = cc
-occurs_index x (y ∷ ys) o = elim (occurs_cons x y ys o) [
-  | inl e ↦ (0, omega arith, e)
-  | inr e ↦ (let (i, less, is) = occurs_index x ys e in (suc i, omega (arith, less), is))
-]
 
 -- what stands among the first n stands at one of their indices
 pub occurs_take : (n x : ℕ) (xs : List ℕ) → occurs x (take n xs) ≡ true → (i : ℕ) × (i < n) × (i < length xs) × (get_or xs i 0 ≡ x)

@@ -22,14 +22,7 @@ use Rattle.as_graph.proofs.RowAses.{length-le-as_count}
 use Rattle.cycle_check.specs.Cycles.{without_pair}
 use Rattle.cycle_check.specs.Searches.{toward, is_wanted, is_pair, reached_at, from_at, is_reached, gains, gains_wanted, AreReached, GoesOn}
 use Rattle.cycle_check.proofs.Reaching.{gains_it, gains_keeps, goes_further}
-
-both_true : (x y : Bool) → (x && y) ≡ true → (x ≡ true) × (y ≡ true)
-both_true true y h = (refl, h)
-both_true false y h = cc
-
-both_same : (x y : Bool) → x ≡ true → y ≡ true → (x && y) ≡ true
-both_same true y e f = f
-both_same false y e f = cc
+use Rattle.std.proofs.lemmas.Bool.{and_parts as both_true, and_from as both_same, not-true as not_true}
 
 some_some : (o : Option Rel) (r s : Rel) → o ≡ Some r → o ≡ Some s → r ≡ s
 some_some o r s e f = ap (λ (t : Option Rel). option_map_or (λ x. x) t r) (sym e ∙ f)
@@ -39,10 +32,6 @@ none_or o r e f = absurd_by (sym e ∙ f)
   where
     absurd_by : None ≡ Some r → ⊥
     absurd_by e = cc
-
-not_true : (x : Bool) → not x ≡ true → x ≡ false
-not_true true h = cc
-not_true false h = refl
 
 -- the search goes to the neighbour at a place
 abbrev pub is_wanted_at : Bool → ℕ → ℕ → ℕ → List Neighbour → ℕ → Bool

@@ -16,6 +16,7 @@ use Rattle.cycle_check.proofs.Listing.{occurs_index}
 use Rattle.cycle_check.proofs.Places.{place_less, place_none}
 use Rattle.rank_order.specs.Ranks.{rank_map}
 use Rattle.rank_order.proofs.Kept.{same_sides, find_zip}
+use Rattle.net_names.proofs.Shared.{not_falling}
 
 -- what the lists tell of a number
 abbrev find : List ℕ → List ℕ → ℕ → Option ℕ
@@ -121,12 +122,6 @@ module _ (ases ranks : List ℕ) (rising : IsStrictlyIncreasing ases) (each : le
       by false p = refl
 
 -- ---- what a search finds
-
-not_falling : (xs : List ℕ) → IsStrictlyIncreasing xs → (i j : ℕ) → i ≤ j → j < length xs → get_or xs i 0 ≤ get_or xs j 0
-not_falling xs rising i j le less = elim (cases_eq i j) [
-  | inl e ↦ (let same : get_or xs i 0 ≡ get_or xs j 0 = ap (λ k. get_or xs k 0) e in omega arith)
-  | inr ne ↦ (let rises : get_or xs i 0 < get_or xs j 0 = AllPairs-from_increasing xs rising i j 0 (omega (arith, le, ne)) less in omega arith)
-]
 
 module _ (xs : List ℕ) (rising : IsStrictlyIncreasing xs) (k at : ℕ) where
   pub found_at : IsBinarySearchResult (λ n. nat_cmp n k) xs (Ok at) → (at < length xs) × (get_or xs at 0 ≡ k)

@@ -4,18 +4,8 @@ use Rattle.std.specs.Result.{OnErr}
 use Rattle.std.specs.List.{insert, remove, list_any, list_all, filter, AllByRecursion}
 use Rattle.std.proofs.lemmas.List.Elements.{filter-append}
 use Rattle.net_names.proofs.Shortening.{both, both_true}
-
-pub either_true : (a b : Bool) → (a || b) ≡ true → (a ≡ true) ⊎ (b ≡ true)
-either_true true b e = inl refl
-either_true false b e = inr e
-
-pub or_left : (a b : Bool) → a ≡ true → (a || b) ≡ true
-or_left true b e = refl
-or_left false b e = cc e
-
-pub or_right : (a b : Bool) → b ≡ true → (a || b) ≡ true
-or_right true b e = refl
-or_right false b e = e
+pub use Rattle.net_names.proofs.Shared.{or_false, on_err}
+pub use Rattle.std.proofs.lemmas.Bool.{not-true as not_true, not-false as not_false, not_from_false as not-false, or_cases as either_true, or_left, or_right}
 
 -- two tests that both fail
 pub record BothFalse (a b : Bool) : Type 0 where
@@ -26,17 +16,6 @@ pub neither : (a b : Bool) → (a || b) ≡ false → BothFalse a b
 neither true b e = cc e
 neither false b e = record { left = refl; right = e }
 
-pub not_true : (b : Bool) → not b ≡ true → b ≡ false
-not_true true e = cc e
-not_true false e = refl
-
-pub not_false : (b : Bool) → not b ≡ false → b ≡ true
-not_false true e = refl
-not_false false e = cc e
-
-pub not-false : (b : Bool) → b ≡ false → not b ≡ true
-not-false b e = ap not e
-
 pub and_true : (a : Bool) → (a && true) ≡ a
 and_true true = refl
 and_true false = refl
@@ -44,15 +23,6 @@ and_true false = refl
 pub and_false : (a : Bool) → (a && false) ≡ false
 and_false true = refl
 and_false false = refl
-
-pub or_false : (a : Bool) → (a || false) ≡ a
-or_false true = refl
-or_false false = refl
-
--- what holds anyhow holds on an error
-pub on_err : {X E P : Type 0} (r : Result X E) → P → OnErr r P
-on_err (Ok x) h = tt
-on_err (Err e) h = h
 
 module _ {A : Type 0} where
   -- what passes one test passes another

@@ -8,6 +8,7 @@ use Rattle.csv.specs.declared.parser.State.TheVariants as st
 use Rattle.csv.specs.declared.parser.Action.{Action}
 use Rattle.csv.specs.declared.parser.Action.TheVariants as act
 use Rattle.roa_table.specs.Standing.{Record, ByteReader, records_left, Stands, GoesOn}
+pub use Rattle.std.proofs.lemmas.Option.{same_Some as some_is}
 
 -- a state in which a record starts
 abbrev pub IsStart : State → Type 0
@@ -48,13 +49,6 @@ step_ends st.InEscape c h = cc h
 step_ends st.AfterQuote c h = after_quote_ends (c == 34) c h
 step_ends st.InComment c h = cond_ends (c == 10) (st.StartRecord, act.Skip) (st.InComment, act.Skip) (λ e. cc) (λ e. cc) h
 step_ends st.AfterCr c h = cond_ends (c == 10) (st.StartRecord, act.Skip) (start_record default_config c) (λ e. cc) (record_ends ((c == 13) || (c == 10)) (c == 34) c) h
-
-pub some_is : {A : Type 0} (x y : A) → Some x ≡ Some y → x ≡ y
-some_is {A} x y e = ap from e
-  where
-    from : Option A → A
-    from None = x
-    from (Some z) = z
 
 -- a record takes bytes, and the next one starts after it
 pub record IsNext (xs : List ℕ) (p : Read) : Type 0 where

@@ -16,6 +16,7 @@ use Rattle.net_names.proofs.Shortening.{both}
 use Rattle.roa_table.specs.Standing.{Record, records_left}
 use Rattle.roa_table.specs.Plain.{stops_line, stops_field, SplitsField, EndsLine, BeginsRows}
 use Rattle.roa_table.proofs.CsvRecords.{enough, records_suc, left_is, left_some}
+use Rattle.std.proofs.lemmas.Bool.{not-true as not_so}
 
 append_none : {X : Type 0} (xs : List X) → xs ++ [] ≡ xs
 append_none [] = refl
@@ -24,10 +25,6 @@ append_none (x ∷ xs) = ap (λ l. x ∷ l) (append_none xs)
 assoc : {X : Type 0} (xs ys zs : List X) → (xs ++ ys) ++ zs ≡ xs ++ (ys ++ zs)
 assoc [] ys zs = refl
 assoc (x ∷ xs) ys zs = ap (λ l. x ∷ l) (assoc xs ys zs)
-
-not_so : (b : Bool) → not b ≡ true → b ≡ false
-not_so true h = cc h
-not_so false h = refl
 
 -- what is read from a byte on, where it does this
 abbrev after_step : State × Action → ℕ → Record → List ℕ → List ℕ → Option Read

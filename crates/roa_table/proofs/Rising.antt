@@ -16,16 +16,12 @@ use Rattle.net_names.proofs.Marks.{marks, keys_of_marks}
 use Rattle.net_names.proofs.Rising.{mono}
 use Rattle.net_names.proofs.Shortening.{both, both_true}
 use Rattle.roa_table.proofs.Booleans.{list_all_mono, list_all_append, list_all_left, all_take, all_drop, or_left, or_right}
+use Rattle.net_names.proofs.Shared.{is_equal as equal}
 
 pub less : (r : Ordering) → is_lt r ≡ true → r ≡ Less
 less Less e = refl
 less Equal e = cc e
 less Greater e = cc e
-
-pub equal : (r : Ordering) → is_eq r ≡ true → r ≡ Equal
-equal Less e = cc e
-equal Equal e = refl
-equal Greater e = cc e
 
 marks_of_keys : {K : Type 0} (es : List (K × Unit {0})) → marks (map (λ (e : K × Unit {0}). e.0) es) ≡ es
 marks_of_keys [] = refl

@@ -11,6 +11,7 @@ use Rattle.net_names.specs.declared.links.TheConstants.{MOST_LINKS}
 use Rattle.net_names.specs.declared.routes.Rel.{Rel}
 use Rattle.net_names.specs.declared.routes.Rel.TheVariants.{Customer, Peer}
 use Rattle.net_names.proofs.Pairs.{pairs_total}
+use Rattle.topo_gen.specs.declared.demo.TheConstants.{MOST_DRAWN}
 use Rattle.topo_gen.specs.Drawn.{drawn_links, first_peers, joined, picked, with_as}
 use Rattle.topo_gen.proofs.Entries.{Entry, map_with}
 use Rattle.topo_gen.proofs.Drawing.{peers_of}
@@ -72,7 +73,7 @@ len-fold : (xs : List ℕ) (d : LinkMap × ℕ) → fin.len (fold with_as d xs).
 len-fold [] d = omega arith
 len-fold (a ∷ xs) d = omega (arith, len-with_as d a, len-fold xs (with_as d a))
 
-pub len-drawn_links : (n : ℕ) → n ≤ 20000 → fin.len (drawn_links n) ≤ MOST_LINKS
+pub len-drawn_links : (n : ℕ) → n ≤ MOST_DRAWN → fin.len (drawn_links n) ≤ MOST_LINKS
 unfolding drawn_links first_peers
 len-drawn_links n most =
     let first = len-first_peers (min n 8) (omega arith) in

@@ -7,8 +7,6 @@ use Rattle.std.specs.List.Sorted.{IsStrictlySortedBy}
 use Rattle.std.specs.Map.{keys_of, lookup}
 use Rattle.std.specs.Ordering.{eq_by_cmp, is_eq}
 use Rattle.std.specs.BTreeMap.{is_at}
-use Rattle.std.specs.declared.cmp.Ordering.{Ordering}
-use Rattle.std.specs.declared.cmp.Ordering.TheVariants.{Less, Equal, Greater}
 use Rattle.std.proofs.lemmas.Bool.{lt-ltb}
 use Rattle.std.proofs.lemmas.List.{length-map}
 use Rattle.net_names.specs.Links.{pair_cmp, LinkMap}
@@ -20,6 +18,7 @@ use Rattle.net_names.proofs.Pairs.{exact_pair, pairs_total}
 use Rattle.net_names.proofs.Rising.{rises_strictly}
 use Rattle.topo_gen.specs.Drawn.{joined}
 use Rattle.topo_gen.specs.Rising.{AreRising}
+pub use Rattle.net_names.proofs.Shared.{is_equal as equal}
 
 abbrev pub Entry : Type 0
 Entry = (ℕ × ℕ) × Rel
@@ -65,11 +64,6 @@ none_stands (Some rel) e h = cc
 
 pub empty_rises : AreRising fin.empty
 empty_rises q h = absurd (none_stands (fin.get fin.empty q) (fin.get-empty pair_cmp q) h)
-
-pub equal : (r : Ordering) → is_eq r ≡ true → r ≡ Equal
-equal Less h = cc
-equal Equal h = refl
-equal Greater h = cc
 
 rising : (b : Bool) (o : Option Rel) (rel : Rel) (q s : ℕ × ℕ) → (b ≡ true → q ≡ s) → (IsSome o → q.0 < q.1) → s.0 < s.1 → IsSome (cond b (Some rel) o) → q.0 < q.1
 rising true o rel q s same lower rises h = rw (same refl) rises

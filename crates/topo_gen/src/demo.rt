@@ -2,6 +2,7 @@
 ghost use Rattle.std.specs.Prelude.{◌≡◌, ◌≤◌, IfOk};
 ghost use Rattle.topo_gen.specs.Drawn.{drawn_links};
 ghost use Rattle.topo_gen.specs.Lines.{drawn_lines};
+ghost use Rattle.topo_gen.specs.declared.demo.TheConstants.{MOST_DRAWN};
 ghost use Rattle.topo_gen.specs.Scenarios.{drawn_payloads, drawn_scenario};
 
 use crate::lines::generate_lines;
@@ -11,6 +12,9 @@ use net_names::{Links, NoMemory};
 use roa_table::Vrps;
 use scenario_text::{Lines, Scenario};
 use std::alloc::Global;
+
+/// How many ASes a generated input has at most.
+pub const MOST_DRAWN: u32 = 20_000;
 
 /// A generated input: what the four files of a run would say.
 #[derive(Drop)]
@@ -29,7 +33,7 @@ pub struct Demo {
 /// enough memory.
 pub fn generate(alloc: Global, n: u32) -> Result<Demo, NoMemory>
     requires least { 4 ≤ n }
-    requires most { n ≤ 20000 }
+    requires most { n ≤ MOST_DRAWN }
     ensures links { IfOk result (λ d. d.links ≡ drawn_links n) }
     ensures vrps { IfOk result (λ d. d.vrps ≡ drawn_payloads n) }
     ensures scenario { IfOk result (λ d. d.scenario ≡ drawn_scenario n) }

@@ -12,4 +12,4 @@ mod links;
 mod pairs;
 mod scenario;
 
-pub use demo::{Demo, generate};
+pub use demo::{Demo, MOST_DRAWN, generate};

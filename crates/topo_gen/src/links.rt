@@ -1,4 +1,5 @@
 //! The links of a generated input.
+ghost use Rattle.topo_gen.specs.declared.demo.TheConstants.{MOST_DRAWN};
 ghost use Rattle.std.specs.Prelude.{◌≡◌, ◌+◌, ◌-◌, ◌%◌, ◌==◌, ◌<◌, ◌≤◌, if◌then◌else◌, ℕ, List, ◌++◌, map, OnOk, IfOk, min};
 ghost use Rattle.std.specs.FinMap as fin;
 ghost use Rattle.std.specs.Fn.{iterate};
@@ -113,7 +114,7 @@ fn join_as(links: &mut Pairs, rng: &mut SplitMix64, a: u32) -> Result<(), NoMemo
 
 /// The links of a generated input of so many ASes.
 pub fn generate_links(alloc: Global, n: u32) -> Result<Links, NoMemory>
-    requires { n ≤ 20000 }
+    requires { n ≤ MOST_DRAWN }
     ensures { IfOk result (λ links. links ≡ drawn_links n) }
 {
     let mut links = first_links(alloc, n.min(8))?;

@@ -1,4 +1,5 @@
 //! The scenario and the payloads of a generated input.
+ghost use Rattle.topo_gen.specs.declared.demo.TheConstants.{MOST_DRAWN};
 ghost use Rattle.std.specs.Prelude.{◌≡◌, ◌<◌, ◌≤◌, ◌+◌, ◌∷◌, [], IfOk, OnOk, map, min};
 ghost use Rattle.topo_gen.specs.Scenarios.{block, drawn_payloads, drawn_scenario, host, kind_of as kind_by, leakers_to};
 ghost use Rattle.std.specs.List.{range_with_len};
@@ -7,7 +8,7 @@ ghost use Rattle.scenario_text.specs.Prelude.{nothing};
 use crate::links::as_of;
 use net_names::{Addr, Asn, Family, NoMemory, Path, Prefix, Vrp};
 use policy_kinds::Kind;
-use roa_table::Vrps;
+use roa_table::{AddError, Vrps};
 use scenario_text::{Announcement, Scenario};
 use std::alloc::Global;
 
@@ -89,7 +90,7 @@ fn kind_of(number: u32) -> Kind
 
 // Gives each AS up to `n` its policy.
 fn set_policies(scenario: &mut Scenario, n: u32) -> Result<(), NoMemory>
-    requires few { n ≤ 20000 }
+    requires few { n ≤ MOST_DRAWN }
     requires none { scenario.old.policies ≡ [] }
     ensures { OnOk result
         (scenario.new ≡ record scenario.old { policies = map (λ a. (a, kind_by a)) (range_with_len 1 n) }) }
@@ -138,7 +139,7 @@ fn watch(scenario: &mut Scenario) -> Result<(), NoMemory>
 /// The scenario of a generated input of so many ASes.
 pub fn generate_scenario(alloc: Global, n: u32) -> Result<Scenario, NoMemory>
     requires least { 1 ≤ n }
-    requires most { n ≤ 20000 }
+    requires most { n ≤ MOST_DRAWN }
     ensures { IfOk result (λ s. s ≡ drawn_scenario n) }
 {
     let mut scenario = Scenario::new(alloc);
@@ -159,6 +160,7 @@ pub fn generate_payloads(alloc: Global, n: u32) -> Result<Vrps, NoMemory>
     let mut vrps = Vrps::new(alloc);
     match vrps.add(vrp) {
         Ok(_) => Ok(vrps),
-        Err(_) => Err(NoMemory),
+        Err(AddError::Memory) => Err(NoMemory),
+        Err(AddError::TooMany) => unreachable!(),
     }
 }

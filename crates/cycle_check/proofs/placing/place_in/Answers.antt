@@ -5,13 +5,7 @@ use Rattle.std.proofs.lemmas.List.Sorted.{searched}
 use Rattle.std.specs.List.Sorted.{IsStrictlyIncreasing}
 use Rattle.cycle_check.proofs.Places.{place_is, place_past}
 use Rattle.cycle_check.proofs.placing.place_in.Goals as goal
-
-not_falling : (xs : List ℕ) → IsStrictlyIncreasing xs → (i j : ℕ) → i ≤ j → j < length xs → get_or xs i 0 ≤ get_or xs j 0
-not_falling xs rising i j le less = elim (cases_order i j) [
-  | inl e ↦ (let same : get_or xs i 0 ≡ get_or xs j 0 = ap (λ k. get_or xs k 0) e in omega arith)
-  | inr (inl below) ↦ (let rises : get_or xs i 0 < get_or xs j 0 = AllPairs-from_increasing xs rising i j 0 below less in omega arith)
-  | inr (inr above) ↦ absurd (omega arith)
-]
+use Rattle.net_names.proofs.Shared.{not_falling}
 
 pub returns-in-Ok-clause-place : goal.returns-in-Ok-clause-place
 returns-in-Ok-clause-place c =
