@@ -1,4 +1,5 @@
-//! ASes that wait, each under its rank, in a set.
+//! ASes that wait, each under its rank, in a set: the small form of a priority queue, which turns into the bitmap of
+//! spots.rt once many wait.
 
 ghost use Rattle.std.specs.Prelude.{◌≡◌, ℕ, Some, []};
 

@@ -34,14 +34,6 @@ use stability_laws::World;
 use std::alloc::Global;
 use std::sync::ledger::Ledger;
 
-// Where the row of the first of these ASes stands. It is a hint.
-fn row_of_first(graph: &Graph, ases: &[Asn]) -> usize {
-    match ases.first() {
-        Some(asn) => graph.place_near(*asn, 0),
-        None => 0,
-    }
-}
-
 // The touched ASes, each under its rank.
 fn queue_of(
     alloc: Global,
@@ -52,7 +44,7 @@ fn queue_of(
     ensures touched { IfOk result (λ q. (b : ℕ) → waits (rank_of ranks.now) q b ≡ occurs b touched.now) }
     ensures ranks { IfOk result (HasRanks (rank_of ranks.now)) }
 {
-    let mut queue = Queue::new(alloc, row_of_first(graph, touched));
+    let mut queue = Queue::new(alloc, graph.row_of_first(touched));
     queue.add_all(graph, ranks, touched)?;
     Ok(queue)
 }

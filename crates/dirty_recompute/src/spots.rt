@@ -1,4 +1,4 @@
-//! The ASes of a graph by rising rank, each with a mark where it waits.
+//! The ASes of a graph by rising rank, each with a mark where it waits: a priority queue as a bitmap over the order.
 
 ghost use Rattle.std.specs.Prelude.{◌≡◌, ◌-◌, ◌<◌, true, false, Some, slice_get, IfSome, IfNone};
 ghost use Rattle.dirty_recompute.specs.declared.spot.Spot.{Spot as ASpot};
