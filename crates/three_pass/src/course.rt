@@ -16,7 +16,7 @@ use crate::lists::ProviderLists;
 use crate::looks::Looks;
 use as_graph::{Graph, Neighbour};
 use as_places::AsPlaces;
-use net_names::{Asn, NoMemory, Rel};
+use net_names::{Asn, NoMemory, Rel, place_at};
 use rank_order::{RankOrder, Ranks, placed_by_rank};
 use route_choice::Overlay;
 use std::alloc::Global;
@@ -69,14 +69,6 @@ pub(crate) fn stands_at(rows: &[Asn], row: usize, asn: Asn) -> bool
     }
 }
 
-// The place at an index, or the first one where there is none.
-pub(crate) fn place_at(places: &[u32], index: usize) -> u32 {
-    match places.get(index) {
-        Some(place) => *place,
-        None => 0,
-    }
-}
-
 // Puts the providers among the neighbours of an AS into an empty list.
 fn put_providers(
     list: &mut Looks,
@@ -91,7 +83,7 @@ fn put_providers(
     let neighbours = graph.neighbours_near(asn, row);
     let rows = graph.neighbour_places(row);
     for (index, neighbour) in neighbours.iter().enumerate() {
-        let place = place_at(places, place_at(rows, index) as usize);
+        let place = places.get(place_at(rows, index)).copied().unwrap_or(0);
         put_if_provider(list, neighbour, place)?;
     }
     Ok(())
@@ -111,7 +103,7 @@ fn providers_of(
     let mut list = Looks::none(alloc);
     for (place, asn) in ases.iter().enumerate() {
         list.clear();
-        let row = place_at(rows, place) as usize;
+        let row = place_at(rows, place);
         put_providers(&mut list, graph, *asn, row, places)?;
         lists.push(&list)?;
     }

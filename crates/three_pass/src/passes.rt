@@ -15,12 +15,12 @@ ghost use Rattle.three_pass.specs.Telling.{HaveTold};
 ghost use Rattle.three_pass.specs.Told.{AreTrue, IsTold};
 ghost use Rattle.three_pass.specs.Ways.{ArePlainMarks};
 
-use crate::course::{Course, place_at};
+use crate::course::Course;
 use crate::looks::Looks;
 use crate::pass::{Gathered, Pass};
 use crate::told::{Told, holds};
 use as_graph::Neighbour;
-use net_names::Asn;
+use net_names::{Asn, place_at};
 use path_pool::PathPool;
 use policy_laws::{OriginStates, RoutePolicy};
 use route_choice::{
@@ -135,7 +135,7 @@ fn step<P: RoutePolicy, V: OriginStates, L: Ledger>(
             steps,
         )
     } else {
-        let row = place_at(&pass.course.order.places, turn.place) as usize;
+        let row = place_at(&pass.course.order.places, turn.place);
         let by_row = Turn { place: row, ..turn };
         visit(at, pool, overlay, by_row, steps)
     }
@@ -179,7 +179,7 @@ fn step_and_tell<P: RoutePolicy, V: OriginStates, L: Ledger>(
         part: Part::Up,
     };
     let taken = step(at, pass, gathered, pool, overlay, turn, steps);
-    let row = place_at(&pass.course.order.places, place) as usize;
+    let row = place_at(&pass.course.order.places, place);
     gathered
         .told
         .add_holder(at.graph, asn, row, place, at.table, overlay);

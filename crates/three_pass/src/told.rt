@@ -10,10 +10,10 @@ ghost use Rattle.as_graph.specs.Prelude.{relation, asns};
 ghost use Rattle.route_choice.specs.Prelude.{joined};
 ghost use Rattle.three_pass.specs.Notes.{befores, tos, IsChained};
 
-use crate::course::{place_at, stands_at};
+use crate::course::stands_at;
 use crate::looks::Looks;
 use as_graph::{Graph, Neighbour, links_are_sound};
-use net_names::{Asn, NoMemory, Rel};
+use net_names::{Asn, NoMemory, Rel, place_at};
 use route_choice::{Overlay, Table};
 use std::alloc::Global;
 
@@ -150,7 +150,7 @@ impl<'a> Told<'a> {
         let rows = graph.neighbour_places(row);
         let here = u32::try_from(place).unwrap_or(0);
         for (index, neighbour) in neighbours.iter().enumerate() {
-            let at = place_at(self.places, place_at(rows, index) as usize) as usize;
+            let at = place_at(self.places, place_at(rows, index));
             self.tell_if_above(neighbour, at, asn, here);
         }
     }

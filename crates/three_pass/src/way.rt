@@ -9,9 +9,9 @@ ghost use Rattle.three_pass.specs.Courses.{IsCourse};
 ghost use Rattle.three_pass.specs.Lists.{count_of};
 ghost use Rattle.three_pass.specs.Ways.{IsPlainAt, IsWay};
 
-use crate::course::{Course, place_at};
+use crate::course::Course;
 use as_graph::Neighbour;
-use net_names::{NoMemory, Rel};
+use net_names::{NoMemory, Rel, place_at};
 use policy_laws::RoutePolicy;
 use stability_laws::{Book, World};
 
@@ -40,7 +40,7 @@ fn are_plain_providers<P: RoutePolicy>(
     ensures { IsTrue result ↔ ArePlainProviders (λ a. P.meaning (policy_at book.now a)) providers.now }
 {
     for (index, provider) in providers.iter().enumerate() {
-        let place = place_at(places, index) as usize;
+        let place = place_at(places, index);
         if !is_plain_provider(book, provider, place) {
             return false;
         }
