@@ -2,7 +2,7 @@
 use super::right_routes::hold;
 use super::worlds::{main_prefix, number, path_of, prefix};
 use net_names::{Asn, Class, Prefix};
-use stability_laws::{Routing, SeedPlan, Seeds, seeds_at};
+use stability_laws::{Entry, Routing, SeedPlan, Seeds, seeds_at};
 use std::alloc::Global;
 use std::process::Abort;
 
@@ -33,6 +33,21 @@ fn a_plan_lists_prefixes_announcers_and_leakers_in_order(rt: HostRuntime) {
     let (first, second) = (plan.leaker_at(2, 0), plan.leaker_at(2, 1));
     assert!(rt; first == Asn::new(3) && second == Asn::new(9));
     assert!(rt; plan.leaker_at(2, 2).is_none() && plan.leaker_at(1, 0).is_none());
+    assert!(rt; plan.leakers(2) == [number(&rt, 3), number(&rt, 9)].as_slice());
+    assert!(rt; plan.leakers(3) == [number(&rt, 7)].as_slice() && plan.leakers(1).is_empty());
+}
+
+#[test]
+fn an_entry_once_more_is_the_same(rt: HostRuntime) {
+    let (four, six) = (number(&rt, 4), number(&rt, 6));
+    let entry = Entry {
+        class: Class::Peer,
+        path: path_of(&rt, rt.alloc(), &[six, four]),
+        otc: Some(four),
+    };
+    let copy = entry.copied(rt.alloc()).expect(&rt, "memory");
+    assert!(rt; copy.class == Class::Peer && copy.otc == Some(four));
+    assert!(rt; copy.path.as_slice() == [six, four].as_slice());
 }
 
 // What three leakers of round 2 or 3 held in the round before: AS 9 has its route from a customer.
