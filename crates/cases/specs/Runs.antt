@@ -14,7 +14,6 @@ use Rattle.asprop_run.specs.Runs.{IsRun}
 use Rattle.asprop_run.specs.Streams.{Stream, stream_of}
 use Rattle.cases.specs.declared.case.Case.{Case}
 use Rattle.cases.specs.declared.case.CaseFile.{CaseFile}
-use Rattle.cases.specs.declared.case.TheConstants.{USUAL_WAYS}
 use Rattle.cases.specs.declared.case.Way.{Way}
 use Rattle.cases.specs.declared.judge.Left.{Left}
 
@@ -74,9 +73,13 @@ is_as_wanted c way left = nat_eq left.status c.status
 abbrev pub IsTried : Case → Way → Bool → Type 0
 IsTried c way passed = (left : Left) × Ran c way left × (passed ≡ is_as_wanted c way left)
 
--- the ways to run a case: those that it names, or the usual ones (own format)
+-- a way in which no call fails, with at most so many bytes a call (own format)
+abbrev pub whole_way : ℕ → Way
+whole_way most = record { most = most; read = 0; write = 0; tell = 0 }
+
+-- the ways to run a case: those that it names, or with at most 1, 2, 3 and 1,000,000 bytes a call (own format)
 abbrev pub ways_of : Case → List Way
-ways_of c = elim c.ways.items [ [] ↦ USUAL_WAYS | _ ∷ _ ↦ c.ways.items ]
+ways_of c = elim c.ways.items [ [] ↦ map whole_way (1 ∷ 2 ∷ 3 ∷ 1000000 ∷ []) | _ ∷ _ ↦ c.ways.items ]
 
 -- the program was run on the case in each of its ways, and this says whether it left what the case wants each time (own format)
 abbrev pub IsJudged : Case → Bool → Type 0

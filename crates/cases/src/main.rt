@@ -6,17 +6,33 @@
 //! it says, and last how many passed and how many failed.
 #![tactic(auto)]
 
+ghost use Rattle.std.specs.Prelude.{◌≡◌, ◌↔◌, Ok, true};
+ghost use Rattle.std.specs.Process.{exit_status};
+
 mod case;
 mod check;
 mod judge;
+mod lines;
 mod read;
 mod report;
 mod text;
 
 use check::check;
 use io_edge::StdSink;
+use judge::OutOfMemory;
 use std::io::Read;
 use std::process::ExitCode;
+
+// The exit status: 0 exactly where all cases passed, and that was written.
+fn code(checked: Result<bool, OutOfMemory>) -> ExitCode
+    ensures { (exit_status result ≡ 0) ↔ (checked ≡ Ok true) }
+{
+    match checked {
+        Ok(true) => ExitCode::SUCCESS,
+        Ok(false) => ExitCode::FAILURE,
+        Err(OutOfMemory) => ExitCode::FAILURE,
+    }
+}
 
 fn main(rt: HostRuntime) -> ExitCode {
     let mut text = Vec::new(rt.alloc());
@@ -24,8 +40,5 @@ fn main(rt: HostRuntime) -> ExitCode {
     if rt.reader().read_to_end(&mut text).is_err() {
         return ExitCode::FAILURE;
     }
-    match check(rt.alloc(), &text, &mut out) {
-        Ok(true) => ExitCode::SUCCESS,
-        _ => ExitCode::FAILURE,
-    }
+    code(check(rt.alloc(), &text, &mut out))
 }

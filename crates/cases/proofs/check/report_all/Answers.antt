@@ -1,7 +1,7 @@
-use Rattle.std.proofs.Common.{◌≡◌, sym, ap, subst, ◌∙◌}
+use Rattle.std.proofs.Common.{◌≡◌, ap, inl, subst, ◌∙◌}
 use Rattle.std.proofs.lemmas.Slice.Zip.{AllZip-long}
 use Rattle.std.specs.List.{list_all}
-use Rattle.io_edge.specs.Bytes.{Appends, AppendsFront}
+use Rattle.io_edge.specs.Bytes.{Appends}
 use Rattle.cases.specs.Reports.{report_text}
 use Rattle.cases.proofs.check.report_all.Goals as goal
 
@@ -15,9 +15,8 @@ returns-in-Ok g c =
     record {
       each = each;
       judged = c.in_ok-verdicts.ensures;
-      says = subst (AppendsFront (g.O.Sink.written c.args.out.now) (g.O.Sink.written c.write_all.new.sink)) said c.in-Ok.ensures.front;
-      all = λ e. (
-        sym (c.all_passed-passed.ensures ∙ ap (list_all (λ b. b)) c.deref-2.ensures.value) ∙ e,
+      said = inl (
         subst (Appends (g.O.Sink.written c.args.out.now) (g.O.Sink.written c.write_all.new.sink)) said c.in-Ok.ensures.whole,
+        c.all_passed-passed.ensures ∙ ap (list_all (λ b. b)) c.deref-2.ensures.value,
       );
     }
