@@ -34,8 +34,8 @@ from asprop import Announcement, Counts, Script, Sweep, Validity, World
 ATTACKS = {'same-prefix': 'drop-invalid', 'sub-prefix': 'drop-invalid', 'forged-origin': 'drop-invalid', 'leak': 'otc'}
 #: The victim's prefix in a study, the half that a sub-prefix hijack takes, and an address in that half.
 PREFIX, HALF, ADDRESS = '10.0.0.0/8', '10.128.0.0/9', '10.128.0.1'
-#: At most so many numbers of adopters stand in a line of sweeps.
-_IN_A_LINE = 32
+#: At most so many numbers of adopters stand in a line of sweeps, and so many lines in a script.
+_IN_A_LINE, _IN_A_SCRIPT = 32, 100000
 
 
 @dataclass(frozen=True)
@@ -123,6 +123,8 @@ class _Plan:
                 for it in asprop.sweep(self.world(task, payloads), lines, self.program)]
 
     def _edits(self, task: _Task, payloads: str) -> List[Row]:
+        if len(self.adopters) + self.adopters[-1] > _IN_A_SCRIPT:
+            return [self._counted(task, count, 1, self._reported(task, payloads, self.largest[:count])) for count in self.adopters]
         script, before = Script(), 0
         for count in self.adopters:
             for asn in self.largest[before:count]:
@@ -132,16 +134,22 @@ class _Plan:
         return [self._counted(task, count, 1, total)
                 for count, total in zip(self.adopters, _totals(self.world(task, payloads), script, self.program))]
 
+    def _reported(self, task: _Task, payloads: str, adopters: Sequence[int]) -> Counts:
+        script = Script()
+        if task.kind == 'leak':
+            # Where packets end tells little of a leak, so its table is counted.
+            script.drawn_by(2, PREFIX, task.attacker)
+        else:
+            script.report(1, ADDRESS)
+        total, = _totals(self.world(task, payloads, adopters), script, self.program)
+        return total
+
     def _leaks(self, task: _Task, payloads: str) -> List[Row]:
-        # Where packets end tells little of a leak, so its tables are counted.  Many edits of otc cost more than a load.
+        # No sweep tells whom a leak draws, and many edits of otc cost more than a load.
         found: List[Row] = []
         for trial in range(1, self.trials + 1):
             order = drawn_adopters(self.largest, task.draw, trial) if self.order == 'random' else self.largest
-            for count in self.adopters:
-                script = Script()
-                script.drawn_by(2, PREFIX, task.attacker)
-                total, = _totals(self.world(task, payloads, order[:count]), script, self.program)
-                found.append(self._counted(task, count, trial, total))
+            found += [self._counted(task, count, trial, self._reported(task, payloads, order[:count])) for count in self.adopters]
         return sorted(found, key=lambda row: (row.adopters, row.trial))
 
     def _counted(self, task: _Task, count: int, trial: int, counts: Counts) -> Row:
