@@ -234,6 +234,19 @@ def _refuse_open_quotes(payloads: str) -> None:
         raise ValueError('%s has %d rows on %d lines: a quote is not closed' % (payloads, rows, lines))
 
 
+def _built(program: str) -> str:
+    """The built program, in place of a repository's ./asprop: that looks at its sources in each run, and makes a trial of minutes
+    of each if nothing is built of them.
+    """
+    top = os.path.dirname(os.path.realpath(program))
+    build = os.path.join(top, 'build')
+    if os.path.basename(program) != 'asprop' or not os.path.isfile(build):
+        return program
+    if subprocess.run([build, '--is-current'], check=False).returncode != 0:
+        raise ValueError('the program is not built of these sources, so that each run would take minutes: %s builds it' % build)
+    return os.path.join(top, 'crates', 'asprop', 'out', 'asprop')
+
+
 def _number_of(adopters: Union[int, str], ases: int) -> int:
     if isinstance(adopters, str):
         share = re.fullmatch(r'([0-9]+(?:\.[0-9]+)?)%', adopters)
@@ -418,6 +431,7 @@ def study(links: str, pairs: int = 20, kinds: Sequence[str] = ('sub-prefix',), a
         raise ValueError('%s is no file, and a study reads its relationships more than once' % links)
     if payloads is not None:
         _refuse_open_quotes(payloads)
+    program = _built(program or asprop.PROGRAM)
     first = Script()
     first.ranks()
     ranks, = asprop.run(World(links), first, program)
@@ -452,6 +466,10 @@ def _done(plan: _Plan, tasks: Sequence[_Task], jobs: Optional[int], name: Option
     found: Dict[Tuple[int, str], List[Row]] = {}
     for row in kept:
         found.setdefault((row.pair, row.kind), []).append(row)
+    for task in tasks:
+        if any((row.attacker, row.victim, row.draw) != (task.attacker, task.victim, task.draw)
+               for row in found.get((task.pair, task.kind), [])):
+            raise ValueError('%s is of another study: its pair %d is another one' % (name, task.pair))
     wanted = [task for task in tasks if (task.pair, task.kind) not in found]
     file = None if name is None else open(name + '.new', 'w', encoding='ascii', newline='\n')
     start = time.monotonic()
