@@ -1,4 +1,4 @@
-//! The lists of a watch, and room for what an update goes through.
+//! The doubly linked lists of a watch in their three arrays, and room for what an update goes through.
 ghost use Rattle.std.specs.Prelude.{◌+◌, ◌<◌, ◌≤◌, length, vec_capacity, IfOk, OnOk};
 ghost use Rattle.data_trace.specs.declared.places.TheConstants.{PLACE_LIMIT};
 ghost use Rattle.data_trace.specs.Marks.{IsWithin};

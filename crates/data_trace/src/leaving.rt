@@ -1,4 +1,4 @@
-//! Places whose next hops change, and that leave the lists of the places that they send to.
+//! Places whose next hops change, and that are unlinked from the doubly linked lists of the places that they send to.
 ghost use Rattle.std.specs.Prelude.{◌≡◌, ℕ, ◌<◌, [], ◌∷◌, ◌++◌, List, length, nat_eq, true, false};
 ghost use Rattle.std.specs.List.{list_any};
 ghost use Rattle.net_names.specs.Prelude.{occurs};
@@ -65,20 +65,7 @@ fn leave(
 fn same_hop(a: PlaceHop, b: PlaceHop) -> bool
     ensures { result ≡ true → a ≡ b }
 {
-    match a {
-        PlaceHop::NoRoute => match b {
-            PlaceHop::NoRoute => true,
-            _ => false,
-        },
-        PlaceHop::Here => match b {
-            PlaceHop::Here => true,
-            _ => false,
-        },
-        PlaceHop::To(x) => match b {
-            PlaceHop::To(y) => x == y,
-            _ => false,
-        },
-    }
+    a == b
 }
 
 // Gives `a` the next hop of its AS, whose row is sought first at a place. Where that differs from the one

@@ -1,4 +1,5 @@
-//! Which places send to which, in lists through the places.
+//! Which places send to which: doubly linked lists in three arrays. The list of a place begins at its `first`, and
+//! from each place in it `before` and `after` lead to its neighbours.
 ghost use Rattle.std.specs.Prelude.{◌≡◌, ◌≢◌, ℕ, ◌<◌, ◌≤◌, [], ◌∷◌, ◌++◌, length, List, slice_index, nat_eq, false, vec_capacity, IfOk, IfSome, Some};
 ghost use Rattle.data_trace.specs.declared.places.TheConstants.{PLACE_LIMIT};
 ghost use Rattle.std.specs.List.{list_any, IsDistinct};

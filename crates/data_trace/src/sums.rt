@@ -23,7 +23,14 @@ pub struct Sums {
 // By how many remainders keys are told apart, while many ASes are counted.
 const NEAR: usize = 1024;
 
-// The remainder of an end and groups.
+// How far the remainders of stubs stand behind those of other ASes.
+const STUBS: usize = 512;
+
+// How far the remainders of one number of a policy's group stand behind those of the number before it.
+const LABELS: usize = 64;
+
+// The remainder of an end and groups. Ends count from 0, so that where few ASes are ends, stubs and others and the
+// groups of policies have remainders of their own.
 fn remainder(end: &End, stub: bool, label: u8) -> usize
     ensures { result < NEAR }
 {
@@ -32,8 +39,8 @@ fn remainder(end: &End, stub: bool, label: u8) -> usize
         End::NoRoute => 1,
         End::Loop => 2,
     };
-    let groups = if stub { 512 } else { 0 };
-    (number + groups + 64 * label as usize) % NEAR
+    let groups = if stub { STUBS } else { 0 };
+    (number + groups + LABELS * label as usize) % NEAR
 }
 
 // Whether an AS is one of the group.
@@ -58,7 +65,7 @@ fn same_end(a: &End, b: &End) -> bool
 fn same_flag(a: bool, b: bool) -> bool
     ensures { result ≡ is_same_flag a b }
 {
-    if a { b } else { !b }
+    a == b
 }
 
 // Whether the cell counts ASes of this end and these groups.

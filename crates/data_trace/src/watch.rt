@@ -74,14 +74,6 @@ pub struct Watch {
     ghost sums_room: { has_lists ≡ true → length ases.ases + spare ≤ room_of columns.sums },
 }
 
-// Where the row of the first of these ASes stands. It is a hint.
-fn row_of_first(graph: &Graph, ases: &[Asn]) -> usize {
-    match ases.first() {
-        Some(asn) => graph.place_near(*asn, 0),
-        None => 0,
-    }
-}
-
 impl Watch {
     ghost use Rattle.data_trace.specs.Views.{rows_of, addr_of, spare_of, SameColumns};
     ghost use Rattle.data_trace.specs.Indexes.{IsIndexOf, StaysAmong};
@@ -375,7 +367,7 @@ impl Watch {
             return;
         }
         let regrouped = differing.groups;
-        let near = row_of_first(graph, regrouped);
+        let near = graph.row_of_first(regrouped);
         self.come(graph, regrouped, near);
         regroup(&self.ases, &mut self.columns, graph, book, regrouped, near);
         let source = Source {

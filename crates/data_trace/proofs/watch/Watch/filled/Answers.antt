@@ -7,7 +7,7 @@ use Rattle.data_trace.specs.declared.places.PlaceHop.TheVariants.{NoRoute}
 use Rattle.data_trace.specs.declared.places.PlaceEnd.{PlaceEnd}
 use Rattle.data_trace.specs.declared.places.PlaceEnd.TheVariants.{At}
 use Rattle.data_trace.specs.declared.places.Mark.{Mark}
-use Rattle.data_trace.specs.declared.places.Mark.TheVariants.{Unknown, Known}
+use Rattle.data_trace.specs.declared.places.Mark.TheVariants.{Unknown, Walked, Known}
 use Rattle.data_trace.specs.declared.places.Group.{Group}
 use Rattle.data_trace.specs.Marks.{mark_of, next_of, AreRight, AreEnds}
 use Rattle.data_trace.specs.Counted.{AreCounted}
@@ -22,6 +22,14 @@ invariant_of-result-clause-ready c = λ l. absurd (omega (arith, l))
 
 unknown_known : (e : PlaceEnd) → Unknown ≡ Known e → ⊥
 unknown_known e q = cc
+
+unknown_walked : Unknown ≡ Walked → ⊥
+unknown_walked q = cc
+
+pub find_all-requires-clause-right : goal.find_all-requires-clause-right
+find_all-requires-clause-right c =
+    let is = λ (x : ℕ). sym (c.requires.unknown x) ∙ sym (ap (λ ms. mark_of ms x) c.as_mut_slice.ensures.value) in
+    record { known = λ x e known. absurd (unknown_known e (is x ∙ known)); none_walked = λ x walked. unknown_walked (is x ∙ walked) }
 
 pub find_all-requires-clause-below : goal.find_all-requires-clause-below
 find_all-requires-clause-below c = λ x y e. absurd (unknown_known (At y) (sym (c.requires.unknown x) ∙ sym (ap (λ ms. mark_of ms x) c.as_mut_slice.ensures.value) ∙ e))
