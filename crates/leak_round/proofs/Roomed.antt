@@ -26,7 +26,7 @@ use Rattle.leak_round.proofs.Rounding.{same_or_not}
 use Rattle.leak_round.proofs.Seeding.{held_of-live}
 
 module _ (old : List RoundTables) (round : ℕ) (prefix : PrefixValue) (before : RoundTables) (read : before ≡ get_or old (round - 1) before) (t : Table) (there : table_in old round prefix ≡ Some t) where
-  before_is : tables_in old round ≡ Some before
+  pub before_is : tables_in old round ≡ Some before
   before_is =
       let (r, is, here) = tables_there old round prefix t there in
       let place = round_place old round r is in
@@ -39,17 +39,17 @@ module _ (old : List RoundTables) (round : ℕ) (prefix : PrefixValue) (before :
   read_back x at = ap (option_and_then (λ (y : RoundTables). table_at y prefix)) before_is ∙ at
 
   module _ (after : RoundTables) (p : IsRoomed before after prefix) where
-    after_is : tables_in (set old (round - 1) after) round ≡ Some after
+    pub after_is : tables_in (set old (round - 1) after) round ≡ Some after
     after_is =
         let place = round_place old round before before_is in
         place_round (set old (round - 1) after) round place.0 ∙ got_set old (round - 1) after (slice_get_within old (round - 1) before place.1)
 
-    other_is : (r : ℕ) → r ≢ round → tables_in (set old (round - 1) after) r ≡ tables_in old r
+    pub other_is : (r : ℕ) → r ≢ round → tables_in (set old (round - 1) after) r ≡ tables_in old r
     other_is zero ne = refl
     other_is (suc n) ne = got_other old (round - 1) n after (λ e. (let some = (round_place old round before before_is).0 in ne (omega (arith, e, some))))
 
     -- one table has perhaps more room
-    pub roomed : AreRoomed old (set old (round - 1) after) round prefix
+    unfoldable pub roomed : AreRoomed old (set old (round - 1) after) round prefix
     roomed = record {
       was = p.was;
       now = p.now;

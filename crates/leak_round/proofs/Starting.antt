@@ -23,7 +23,7 @@ use Rattle.leak_round.specs.Tables.{kept_in, AreRoundsFull}
 use Rattle.leak_round.proofs.Closing.{announced_taken, prefixes_taken}
 use Rattle.leak_round.proofs.Keeping.{all_kept, announced_kept, rounds_full_kept}
 
-module _ (plan : Plan) (xs : List Announced) (pool next : PathPool) (limits : IsWithinLimits plan) (announced : AreAnnounced pool plan xs) (edit : Option SeedEdit) (o : Option EditedSeeds) (made : IsEdited pool next plan edit o) where
+module _ (plan : Plan) (xs : List Announced) (pool next : PathPool) (limits : IsWithinLimits plan) (announced : AreAnnounced pool plan xs) (edit : Option SeedEdit) (o : Option EditedSeeds) (made : IsEdited pool next plan xs edit o) where
   -- the prefixes stay
   pub prefixes_stay : (prefix : PrefixValue) → has_prefix (seeds_after o plan) prefix ≡ has_prefix plan prefix
   prefixes_stay prefix = ap (λ s. fin.contains_key s prefix) (prefixes_taken next plan xs limits (announced_kept pool next made.keeps plan xs announced) o made.seeds)

@@ -8,11 +8,12 @@ ghost use Rattle.path_pool.specs.Pool.{IsLive, holds_of, count_of, live_count, l
 ghost use Rattle.path_pool.specs.declared.pool.TheConstants.{MOST_COUNT};
 ghost use Rattle.stability_laws.specs.Prelude.{has_prefix, prefixes_of, announcers_of};
 ghost use Rattle.route_choice.specs.Prelude.{seed_at, GivesBack};
-ghost use Rattle.leak_round.specs.Limits.{announced_length, announced_count};
+ghost use Rattle.leak_round.specs.Limits.{announced_length, announced_count, numbers_of};
 ghost use Rattle.leak_round.specs.declared.announced.Announced.{Announced as AnAnnouncement};
 ghost use Rattle.leak_round.specs.Growth.{KeepsPaths};
 ghost use Rattle.leak_round.specs.Announced.{own_path, own_seed, announced_uses, AnnouncesMore, IsAnnouncing, HasAnnounced};
 
+use crate::reserving::reserve_numbers;
 use net_names::{Asn, NoMemory, Prefix};
 use path_pool::{PathId, PathPool};
 use route_choice::{SeedHeld, SeedIds};
@@ -36,6 +37,7 @@ fn announce(
     announced: &mut Vec<Announced>,
 ) -> Result<(), NoMemory>
     requires so_far { IsAnnouncing pool.old plan.now announced.old.items }
+    requires room { live_count pool.old + announced_length plan.now prefix asn ≤ limit_of pool.old }
     ensures more { OnOk result (AnnouncesMore pool.new plan.now announced.old.items announced.new.items) }
     ensures this { OnOk result (HasAnnounced plan.now announced.new.items prefix asn) }
     ensures few { OnOk result (length announced.new.items ≤
@@ -47,10 +49,7 @@ fn announce(
         return Ok(());
     };
     let numbers = path.as_slice();
-    match pool.reserve(numbers.len()) {
-        Ok(()) => {}
-        Err(_) => return Err(NoMemory),
-    }
+    reserve_numbers(pool, numbers.len())?;
     let path = pool.copy_in(numbers);
     announced.push(Announced { prefix, asn, path })?;
     Ok(())
@@ -64,6 +63,8 @@ fn announce_prefix(
     announced: &mut Vec<Announced>,
 ) -> Result<(), NoMemory>
     requires so_far { IsAnnouncing pool.old plan.now announced.old.items }
+    requires room { live_count pool.old + sum_by (announced_length plan.now prefix) (announcers_of plan.now) ≤
+        limit_of pool.old }
     ensures more { OnOk result (AnnouncesMore pool.new plan.now announced.old.items announced.new.items) }
     ensures whole { OnOk result ((a : ℕ) → HasAnnounced plan.now announced.new.items prefix a) }
     ensures few { OnOk result (length announced.new.items ≤
@@ -84,7 +85,8 @@ pub fn announce_all(
     plan: &SeedPlan,
     pool: &mut PathPool,
 ) -> Result<Vec<Announced>, NoMemory>
-    requires { IsAnnouncing pool.old plan.now [] }
+    requires so_far { IsAnnouncing pool.old plan.now [] }
+    requires room { live_count pool.old + numbers_of plan.now ≤ limit_of pool.old }
     ensures so_far { IfOk result (λ v. IsAnnouncing pool.new plan.now v.items) }
     ensures whole { IfOk result (λ v. (prefix : PrefixValue) (a : ℕ) → IsTrue (has_prefix plan.now prefix) →
         HasAnnounced plan.now v.items prefix a) }

@@ -3,20 +3,20 @@
 ghost use Rattle.std.specs.Prelude.{◌≡◌, ℕ, ◌+◌, ◌≤◌, length, slice_get, IsTrue, Some, IfOk, OnOk, OnErr};
 ghost use Rattle.std.specs.Option.{option_map_or};
 ghost use Rattle.path_pool.specs.Pool.{IsLive, SamePaths, holds_of, count_of, live_count, limit_of};
-ghost use Rattle.stability_laws.specs.Prelude.{announcer_of, has_prefix, with_announcement, edit_asn, edited, without_announcement, IsEditOf, IsEditWithin};
+ghost use Rattle.stability_laws.specs.Prelude.{announcer_of, has_prefix, with_announcement, edit_asn, edited, without_announcement};
 ghost use Rattle.route_choice.specs.Prelude.{GivesBack};
 ghost use Rattle.route_choice.specs.declared.counts.TheConstants.{MOST_COUNTED};
 ghost use Rattle.dirty_recompute.specs.Resources.{IsUndone};
 ghost use Rattle.leak_round.specs.declared.announced.Announced.{Announced as AnAnnouncement};
 ghost use Rattle.leak_round.specs.declared.limits.TheConstants.{MOST_ANNOUNCEMENTS, MOST_NUMBERS};
 ghost use Rattle.leak_round.specs.Limits.{IsWithinLimits};
-ghost use Rattle.leak_round.specs.Announced.{is_of, announced_uses, AreAnnounced};
-ghost use Rattle.leak_round.specs.Growth.{KeepsPaths};
+ghost use Rattle.leak_round.specs.Announced.{is_of, announced_uses};
 ghost use Rattle.leak_round.specs.OwnSeeds.{AreOwn, AreOwnEdited, AreOwnSeeds, AreOthersKept};
-ghost use Rattle.leak_round.specs.Edited.{announced_after, edited_uses, given_up, others_of, prefix_edited, seeds_after, AreHeldToo, EndsWithPath, AreSeedsOf, edit_numbers, AreMade};
+ghost use Rattle.leak_round.specs.Edited.{announced_after, edited_uses, given_up, others_of, prefix_edited, seeds_after, edit_numbers, AreHeldToo, AreMade, CanEdit, EndsWithPath, HasRoomToEdit};
 
 use crate::announced::{Announced, announced_seeds, hold_all, release_all};
 use crate::own_seeds::put_own_seeds;
+use crate::reserving::reserve_numbers;
 use net_names::{Asn, NoMemory, Path, Prefix};
 use path_pool::PathPool;
 use route_choice::SeedIds;
@@ -142,6 +142,7 @@ fn add_path(
     requires live { (place : ℕ) (x : AnAnnouncement) → slice_get announced.old.items place ≡ Some x →
         IsLive pool.old x.path.0 }
     requires few { length announced.old.items ≤ MOST_ANNOUNCEMENTS }
+    requires room { live_count pool.old + length path.now ≤ limit_of pool.old }
     requires counts { (k : ℕ) → count_of pool.old k ≤ MOST_COUNTED }
     ensures last { OnOk result (EndsWithPath pool.new prefix path.now announced.old.items announced.new.items) }
     ensures held { OnOk result (AreHeldToo pool.old pool.new announced.new.items (length path.now)) }
@@ -150,10 +151,7 @@ fn add_path(
 {
     let numbers = path.as_slice();
     announced.reserve(1)?;
-    match pool.reserve(numbers.len()) {
-        Ok(()) => {}
-        Err(_) => return Err(NoMemory),
-    }
+    reserve_numbers(pool, numbers.len())?;
     let path = pool.copy_in(numbers);
     hold_all(announced.as_slice(), pool);
     let _ = announced.push(Announced {
@@ -204,11 +202,9 @@ fn announce_anew(
     requires short { length path.now ≤ MOST_NUMBERS }
     requires after { after ≡ with_announcement plan.now prefix path.now }
     requires limits { IsWithinLimits after }
-    requires announced { AreAnnounced pool.old plan.now announced.now }
-    requires counts { (k : ℕ) → count_of pool.old k ≤ MOST_COUNTED }
-    ensures made { IfOk result (AreMade pool.old pool.new plan.now after (announcer_of path.now) (length path.now)) }
-    ensures others { IfOk result (λ e. AreOthersKept (Some e.prefix) announced.now e.announced.items) }
-    ensures own { IfOk result (λ e. AreOwn e.announced.items e.prefix e.own) }
+    requires room { HasRoomToEdit pool.old plan.now announced.now }
+    ensures made { IfOk result (AreMade pool.old pool.new plan.now after announced.now (announcer_of path.now)
+        (length path.now)) }
     ensures err { OnErr result (IsUndone pool.old pool.new) }
     ensures limit { limit_of pool.new ≡ limit_of pool.old }
 {
@@ -240,11 +236,8 @@ fn withdraw(
     requires known { IsTrue (has_prefix plan.now prefix) }
     requires after { after ≡ without_announcement plan.now prefix asn }
     requires limits { IsWithinLimits after }
-    requires announced { AreAnnounced pool.old plan.now announced.now }
-    requires counts { (k : ℕ) → count_of pool.old k ≤ MOST_COUNTED }
-    ensures made { IfOk result (AreMade pool.old pool.new plan.now after asn 0) }
-    ensures others { IfOk result (λ e. AreOthersKept (Some e.prefix) announced.now e.announced.items) }
-    ensures own { IfOk result (λ e. AreOwn e.announced.items e.prefix e.own) }
+    requires room { HasRoomToEdit pool.old plan.now announced.now }
+    ensures made { IfOk result (AreMade pool.old pool.new plan.now after announced.now asn 0) }
     ensures err { OnErr result (IsUndone pool.old pool.new) }
     ensures limit { limit_of pool.new ≡ limit_of pool.old }
 {
@@ -271,25 +264,10 @@ pub fn edit_seeds(
     edit: &SeedEdit,
     pool: &mut PathPool,
 ) -> Result<EditedSeeds, NoMemory>
-    requires known { IsEditOf plan.now edit.now }
-    requires within { IsEditWithin MOST_NUMBERS edit.now }
-    requires limits { IsWithinLimits (edited plan.now edit.now) }
-    requires announced { AreAnnounced pool.old plan.now announced.now }
-    requires room { live_count pool.old + MOST_NUMBERS ≤ limit_of pool.old }
-    requires counts { (k : ℕ) → count_of pool.old k ≤ MOST_COUNTED }
-    ensures seeds { IfOk result (λ e. AreSeedsOf pool.new plan.now e) }
-    ensures others { IfOk result (λ e. AreOthersKept (Some e.prefix) announced.now e.announced.items) }
-    ensures own { IfOk result (λ e. AreOwn e.announced.items e.prefix e.own) }
-    ensures plan { IfOk result (λ e. e.plan ≡ edited plan.now edit.now) }
-    ensures asn { IfOk result (λ e. e.asn ≡ edit_asn edit.now) }
-    ensures numbers { IfOk result (λ e. e.numbers ≡ edit_numbers edit.now) }
-    ensures few { IfOk result (λ e. e.numbers ≤ MOST_NUMBERS) }
-    ensures holds { IfOk result (λ e. (k : ℕ) →
-        holds_of pool.new k ≡ holds_of pool.old k + announced_uses e.announced.items k) }
-    ensures keeps { OnOk result (KeepsPaths pool.old pool.new) }
-    ensures cells { IfOk result (λ e. live_count pool.new ≤ live_count pool.old + e.numbers) }
-    ensures counts { OnOk result ((k : ℕ) →
-        count_of pool.new k ≤ count_of pool.old k + MOST_ANNOUNCEMENTS + 1) }
+    requires can { CanEdit plan.now edit.now }
+    requires room { HasRoomToEdit pool.old plan.now announced.now }
+    ensures made { IfOk result (AreMade pool.old pool.new plan.now (edited plan.now edit.now) announced.now
+        (edit_asn edit.now) (edit_numbers edit.now)) }
     ensures limit { limit_of pool.new ≡ limit_of pool.old }
     ensures err { OnErr result (IsUndone pool.old pool.new) }
 {

@@ -110,12 +110,9 @@ pub fn leak_all(
         (held_with tables.now changes.now (round - 1) prefix a)) }
 {
     let before = round - 1;
-    let mut place = 0;
-    'leakers: while let Some(asn) = plan.leaker_at(round, place) {
-        leak(prefix, asn, tables, changes, before, seeds)?;
-        // The numbers rise, so that none is below its place.
-        let _number = asn.get();
-        place += 1;
+    let leakers = plan.leakers(round);
+    'leakers: for asn in leakers {
+        leak(prefix, *asn, tables, changes, before, seeds)?;
     }
     Ok(())
 }

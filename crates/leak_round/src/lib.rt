@@ -14,7 +14,7 @@
 //! - `find_in_round` goes through the prefixes of a round;
 //! - `find_change` finds the changes of one table, for which it asks `seeds_and_wrong` for the seeds after the edit and
 //!   the ASes that may hold something wrong, and `find_with_seeds` to put the changes behind the others;
-//! - `changes_in_rounds` and `changes_in_round` look the table up;
+//! - `changes_in_round` looks the table up;
 //! - `changes_of_table` has its changes from `plan_edit` of `dirty_recompute`;
 //! - `listed` lists what is told of the changes;
 //! - `Rounds::commit` puts them in place by `commit_changes`, and the plan of seeds by `take_seeds`;
@@ -34,6 +34,7 @@ mod limits;
 mod moving;
 mod own_seeds;
 mod plans;
+mod reserving;
 mod round;
 mod round_changes;
 mod round_prefix;

@@ -20,6 +20,7 @@ ghost use Rattle.leak_round.specs.Tables.{kept_in, tables_in, AreRoundsFull};
 
 use crate::announced::Announced;
 use crate::holders::{Holder, holders_by_length};
+use crate::reserving::reserve_numbers;
 use crate::round_seeds::seeds_with;
 use as_places::AsPlaces;
 use net_names::{Asn, NoMemory, Prefix};
@@ -189,10 +190,7 @@ fn moved_table(
     } = *moving;
     let seeds = seeds_with(alloc, plan, announced, earlier, &[], round, prefix)?;
     let holders = holders_by_length(alloc, from, table, ases.as_slice())?;
-    match pool.reserve(holders.len()) {
-        Ok(()) => {}
-        Err(_) => return Err(NoMemory),
-    }
+    reserve_numbers(pool, holders.len())?;
     let mut made = Overlay::blank(alloc, ases, 0)?;
     move_entries(from, table, holders.as_slice(), &seeds, &mut made, pool);
     let table = Table::from_changes(prefix, made);

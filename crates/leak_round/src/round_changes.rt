@@ -12,7 +12,7 @@ ghost use Rattle.leak_round.specs.Findings.{AreFoundBy, AreRanked, CanFindInTabl
 use crate::changes::Change;
 use crate::finding::Finding;
 use crate::round_prefix::RoundPrefix;
-use crate::table_changes::changes_in_rounds;
+use crate::table_changes::changes_in_round;
 use crate::table_seeds::seeds_and_wrong;
 use dirty_recompute::PrefixEdit;
 use net_names::{Asn, NoMemory};
@@ -62,7 +62,7 @@ fn find_with_seeds<P: RoutePolicy, V: OriginStates, L: Ledger>(
     ensures same { AreSame tables.old.items tables.new.items }
 {
     make_place(changes)?;
-    let overlay = changes_in_rounds(finding, at, edit, tables, pool, steps)?;
+    let overlay = changes_in_round(finding, at, edit, tables, pool, steps)?;
     add_change(
         changes,
         Change {

@@ -1,17 +1,15 @@
 //! The tables of all rounds.
 
-ghost use Rattle.std.specs.Prelude.{◌≡◌, ◌↔◌, ℕ, suc, ◌+◌, ◌-◌, ◌*◌, ◌<◌, ◌≤◌, false, IsTrue, IsSome, IfSome, IfOk, Option, length, is_some};
+ghost use Rattle.std.specs.Prelude.{◌≡◌, ◌↔◌, ℕ, ◌+◌, ◌*◌, ◌≤◌, false, IsSome, IfSome, IfOk, length, is_some};
 ghost use Rattle.net_names.specs.Prelude.{PrefixValue};
 ghost use Rattle.as_graph.specs.Prelude.{relation, as_count, HasNoProviderCycle, IsRank};
 ghost use Rattle.rank_order.specs.Prelude.{rank_at};
 ghost use Rattle.three_pass.specs.Prelude.{IsCourse, IsScratch, IsWay};
-ghost use Rattle.path_pool.specs.Pool.{holds_of, live_count, limit_of};
-ghost use Rattle.stability_laws.specs.declared.entry.Entry.{Entry as AnEntry};
+ghost use Rattle.path_pool.specs.Pool.{holds_of, limit_of};
 ghost use Rattle.stability_laws.specs.Prelude.{has_prefix, prefixes_of, AreRounds, setting_in};
 ghost use Rattle.route_choice.specs.Prelude.{table_at, round_routing, AreAllLive, AreByPrefix};
-ghost use Rattle.leak_round.specs.Limits.{IsWithinLimits, numbers_of};
+ghost use Rattle.leak_round.specs.Limits.{IsWithinLimits};
 ghost use Rattle.leak_round.specs.Announced.{AreAnnounced, announced_uses};
-ghost use Rattle.leak_round.specs.Entries.{HasEntries, of_rounds};
 ghost use Rattle.leak_round.specs.Growth.{HasRoomFor};
 ghost use Rattle.leak_round.specs.Made.{AreRoundsMade, CanStand};
 ghost use Rattle.leak_round.specs.OwnSeeds.{AreOwnSeeds};
@@ -114,6 +112,7 @@ fn closed_rounds(
 }
 
 impl Rounds {
+    ghost use Rattle.leak_round.specs.Built.{AreBuilt};
     ghost use Rattle.leak_round.specs.Rounds.{is_open, plan_of, pool_of, round_count, kept, announced_of, uses_of};
 
     /// The tables of the rounds from 1 to `rounds`, at most 4. For each round and prefix of the plan it
@@ -138,18 +137,7 @@ impl Rounds {
         requires limits { IsWithinLimits plan }
         requires rounds { rounds ≤ MOST_ROUNDS }
         ensures cost { steps.new ≤ steps.old + 2 * as_count world.now.graph.now * length (prefixes_of plan) * rounds }
-        ensures closed { IfOk result (λ r. is_open r ≡ false) }
-        ensures plan { IfOk result (λ r. plan_of r ≡ plan) }
-        ensures count { IfOk result (λ r. round_count r ≡ rounds) }
-        ensures stable { IfOk result (λ r.
-            AreRounds (setting_in P.meaning V.state_of world.now) plan rounds (kept r)) }
-        ensures only { IfOk result (λ r. (other : ℕ → PrefixValue → ℕ → Option AnEntry) →
-            AreRounds (setting_in P.meaning V.state_of world.now) plan rounds other →
-            (before : ℕ) (prefix : PrefixValue) → before < rounds → IsTrue (has_prefix plan prefix) →
-            (a : ℕ) → other (suc before) prefix a ≡ kept r (suc before) prefix a) }
-        ensures cells { IfOk result (λ r.
-            HasEntries (of_rounds (kept r)) (live_count (pool_of r) - numbers_of plan)) }
-        ensures few { IfOk result (λ r. live_count (pool_of r) ≤ MOST_CELLS) }
+        ensures built { IfOk result (AreBuilt (setting_in P.meaning V.state_of world.now) plan rounds) }
     {
         let course = Course::of(alloc, world.graph, ranks)?;
         Rounds::build_along(alloc, world, &course, plan, rounds, steps)
@@ -170,18 +158,7 @@ impl Rounds {
         requires limits { IsWithinLimits plan }
         requires rounds { rounds ≤ MOST_ROUNDS }
         ensures cost { steps.new ≤ steps.old + 2 * as_count world.now.graph.now * length (prefixes_of plan) * rounds }
-        ensures closed { IfOk result (λ r. is_open r ≡ false) }
-        ensures plan { IfOk result (λ r. plan_of r ≡ plan) }
-        ensures count { IfOk result (λ r. round_count r ≡ rounds) }
-        ensures stable { IfOk result (λ r.
-            AreRounds (setting_in P.meaning V.state_of world.now) plan rounds (kept r)) }
-        ensures only { IfOk result (λ r. (other : ℕ → PrefixValue → ℕ → Option AnEntry) →
-            AreRounds (setting_in P.meaning V.state_of world.now) plan rounds other →
-            (before : ℕ) (prefix : PrefixValue) → before < rounds → IsTrue (has_prefix plan prefix) →
-            (a : ℕ) → other (suc before) prefix a ≡ kept r (suc before) prefix a) }
-        ensures cells { IfOk result (λ r.
-            HasEntries (of_rounds (kept r)) (live_count (pool_of r) - numbers_of plan)) }
-        ensures few { IfOk result (λ r. live_count (pool_of r) ≤ MOST_CELLS) }
+        ensures built { IfOk result (AreBuilt (setting_in P.meaning V.state_of world.now) plan rounds) }
     {
         one_family::<P>();
         let mut pool = PathPool::new(alloc, MAX_CELLS);

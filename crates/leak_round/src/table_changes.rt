@@ -3,17 +3,17 @@
 ghost use Rattle.std.specs.Prelude.{◌≡◌, IsSome, Some, IfOk, OnErr};
 ghost use Rattle.path_pool.specs.Pool.{limit_of};
 ghost use Rattle.route_choice.specs.declared.table.Table.{Table as ATable};
-ghost use Rattle.route_choice.specs.Prelude.{table_at, prefix_of};
+ghost use Rattle.route_choice.specs.Prelude.{prefix_of};
 ghost use Rattle.dirty_recompute.specs.Resources.{IsUndone, SameTable};
 ghost use Rattle.leak_round.specs.Growth.{HasRoomFor};
 ghost use Rattle.leak_round.specs.Overlays.{table_in};
 ghost use Rattle.leak_round.specs.Findings.{AreRanked, AreTableChangesBy, CanFindInTableBy};
-ghost use Rattle.leak_round.specs.Found.{IsRoomed, AreRoomed, AreSame};
+ghost use Rattle.leak_round.specs.Found.{AreRoomed, AreSame};
 
 use crate::finding::Finding;
 use crate::round_prefix::RoundPrefix;
 use dirty_recompute::{PrefixEdit, plan_edit};
-use net_names::{NoMemory, Prefix};
+use net_names::NoMemory;
 use path_pool::PathPool;
 use policy_laws::{OriginStates, RoutePolicy};
 use route_choice::{Overlay, RoundTables, Steps, Table};
@@ -52,36 +52,8 @@ fn changes_of_table<P: RoutePolicy, V: OriginStates, L: Ledger>(
     Ok(overlay)
 }
 
-// The changes of the table of a prefix.
-fn changes_in_round<P: RoutePolicy, V: OriginStates, L: Ledger>(
-    finding: &Finding<'_, P, V>,
-    prefix: Prefix,
-    edit: &PrefixEdit<'_>,
-    tables: &mut RoundTables,
-    pool: &mut PathPool,
-    steps: &mut Steps<L>,
-) -> Result<Overlay, NoMemory>
-    requires there { IsSome (table_at tables.old prefix) }
-    requires ranks { AreRanked finding.now }
-    requires can { (t : ATable) → table_at tables.old prefix ≡ Some t →
-        CanFindInTableBy P.meaning V.state_of finding.now prefix edit.now pool.old t }
-    requires room { HasRoomFor pool.old 1 }
-    ensures found { IfOk result (λ o. (t u : ATable) → table_at tables.old prefix ≡ Some t →
-        table_at tables.new prefix ≡ Some u →
-        AreTableChangesBy P.meaning V.state_of finding.now prefix edit.now pool.old pool.new t u
-        steps.old steps.new o) }
-    ensures roomed { IsRoomed tables.old tables.new prefix }
-    ensures limit { limit_of pool.new ≡ limit_of pool.old }
-    ensures err { OnErr result (IsUndone pool.old pool.new) }
-{
-    match tables.table_mut(prefix) {
-        Some(table) => changes_of_table(finding, edit, table, pool, steps),
-        None => unreachable!(),
-    }
-}
-
 // The changes of the table of a prefix in a round.
-pub fn changes_in_rounds<P: RoutePolicy, V: OriginStates, L: Ledger>(
+pub fn changes_in_round<P: RoutePolicy, V: OriginStates, L: Ledger>(
     finding: &Finding<'_, P, V>,
     at: &RoundPrefix,
     edit: &PrefixEdit<'_>,
@@ -105,5 +77,8 @@ pub fn changes_in_rounds<P: RoutePolicy, V: OriginStates, L: Ledger>(
     ensures err { OnErr result (IsUndone pool.old pool.new) }
 {
     let place = at.round as usize - 1;
-    changes_in_round(finding, at.prefix, edit, &mut tables[place], pool, steps)
+    match tables[place].table_mut(at.prefix) {
+        Some(table) => changes_of_table(finding, edit, table, pool, steps),
+        None => unreachable!(),
+    }
 }

@@ -1,19 +1,14 @@
 //! The changes of all tables after an edit, also of who announces what.
 
-ghost use Rattle.std.specs.Prelude.{◌≡◌, ℕ, ◌+◌, ◌≤◌, [], Some, length, option_map, IfOk, OnOk, OnErr};
+ghost use Rattle.std.specs.Prelude.{◌≡◌, ℕ, ◌≤◌, [], Some, length, option_map, IfOk, OnOk, OnErr};
 ghost use Rattle.std.specs.Option.{option_copied};
 ghost use Rattle.std.specs.Ordering.{nat_cmp};
-ghost use Rattle.path_pool.specs.Pool.{count_of, live_count, limit_of};
+ghost use Rattle.path_pool.specs.Pool.{limit_of};
 ghost use Rattle.stability_laws.specs.declared.seed_plan.edits.SeedEdit.{SeedEdit as AnEdit};
-ghost use Rattle.stability_laws.specs.Prelude.{ListsRising, edited, IsEditOf, IsEditWithin};
-ghost use Rattle.route_choice.specs.declared.counts.TheConstants.{MOST_COUNTED};
+ghost use Rattle.stability_laws.specs.Prelude.{ListsRising};
 ghost use Rattle.dirty_recompute.specs.Resources.{IsUndone};
-ghost use Rattle.leak_round.specs.declared.limits.TheConstants.{MOST_NUMBERS};
-ghost use Rattle.leak_round.specs.Announced.{AreAnnounced};
-ghost use Rattle.leak_round.specs.Edited.{announced_after, prefix_edited, IsEdited};
-ghost use Rattle.leak_round.specs.Limits.{IsWithinLimits};
+ghost use Rattle.leak_round.specs.Edited.{CanEdit, HasRoomToEdit, IsEdited};
 ghost use Rattle.leak_round.specs.Overlays.{changes_count};
-ghost use Rattle.leak_round.specs.OwnSeeds.{AreOthersKept, AreOwnEdited};
 ghost use Rattle.leak_round.specs.Found.{AreSame, IsCutOff};
 ghost use Rattle.leak_round.specs.Findings.{AreAllFound, CanFindAll};
 ghost use Rattle.leak_round.specs.Plans.{count_told, ases_told};
@@ -42,16 +37,9 @@ pub fn edit_if_any(
     edit: Option<&SeedEdit>,
     pool: &mut PathPool,
 ) -> Result<Option<EditedSeeds>, NoMemory>
-    requires known { (e : AnEdit) → option_copied edit ≡ Some e → IsEditOf plan.now e }
-    requires within { (e : AnEdit) → option_copied edit ≡ Some e → IsEditWithin MOST_NUMBERS e }
-    requires limits { (e : AnEdit) → option_copied edit ≡ Some e → IsWithinLimits (edited plan.now e) }
-    requires announced { AreAnnounced pool.old plan.now announced.now }
-    requires room { live_count pool.old + MOST_NUMBERS ≤ limit_of pool.old }
-    requires counts { (k : ℕ) → count_of pool.old k ≤ MOST_COUNTED }
-    ensures made { IfOk result (IsEdited pool.old pool.new plan.now (option_copied edit.entry)) }
-    ensures others { IfOk result (λ o. AreOthersKept (prefix_edited o) announced.now
-        (announced_after o announced.now)) }
-    ensures own { IfOk result AreOwnEdited }
+    requires can { (e : AnEdit) → option_copied edit ≡ Some e → CanEdit plan.now e }
+    requires room { HasRoomToEdit pool.old plan.now announced.now }
+    ensures made { IfOk result (IsEdited pool.old pool.new plan.now announced.now (option_copied edit.entry)) }
     ensures limit { limit_of pool.new ≡ limit_of pool.old }
     ensures err { OnErr result (IsUndone pool.old pool.new) }
 {

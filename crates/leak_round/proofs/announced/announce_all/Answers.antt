@@ -1,4 +1,4 @@
-use Rattle.std.proofs.Common.{◌≡◌, ℕ, ◌≤◌, Some, List, length, refl, subst, ◌∙◌, arith}
+use Rattle.std.proofs.Common.{◌≡◌, ℕ, ◌+◌, ◌≤◌, Some, List, length, refl, subst, ◌∙◌, arith}
 use Rattle.std.specs.Prelude.{slice_get, IsTrue}
 use Rattle.std.proofs.lemmas.Option.{slice_get_past, slice_get_read}
 use Rattle.std.specs.List.{sum_by}
@@ -11,8 +11,19 @@ use Rattle.leak_round.specs.Limits.{announced_length, announced_count}
 use Rattle.leak_round.specs.Announced.{HasAnnounced}
 use Rattle.stability_laws.proofs.Listing.{at_next}
 use Rattle.leak_round.proofs.Listing.{sum_next}
-use Rattle.leak_round.proofs.Numbers.{announcements_counted}
+use Rattle.leak_round.proofs.Numbers.{announcements_counted, numbers_counted}
 use Rattle.leak_round.proofs.announced.announce_all.Goals as goal
+
+pub announce_prefix-requires-clause-room : goal.announce_prefix-requires-clause-room
+announce_prefix-requires-clause-room c =
+    let plan = c.args.plan.now in
+    let f = λ (q : PrefixValue). sum_by (announced_length plan q) (announcers_of plan) in
+    let i = c.prefixes.prefix-index in
+    let x = c.prefix-item.result in
+    let items : List PrefixValue = c.prefixes-prefix-items.result.now in
+    let at : slice_get (prefixes_of plan) i ≡ Some x = subst (λ (ys : List PrefixValue). slice_get ys i ≡ Some x) c.prefixes-prefix-items.ensures (slice_get_read items (length items) i x refl c.prefixes-test.true c.prefix-item.is) in
+    let old = c.prefixes.invariant in
+    omega (arith, c.requires.room, old.cells, old.limit, sum_next f (prefixes_of plan) i x at, sum_by-take-le f (prefixes_of plan) (i + 1), numbers_counted plan)
 
 pub prefixes-preserved : goal.prefixes-preserved
 prefixes-preserved c =

@@ -1,4 +1,4 @@
-use Rattle.std.proofs.Common.{◌≡◌, ℕ, ◌≤◌, Some, List, length, refl, subst, ◌∙◌, arith}
+use Rattle.std.proofs.Common.{◌≡◌, ℕ, ◌+◌, ◌≤◌, Some, List, length, refl, subst, ◌∙◌, arith}
 use Rattle.std.specs.Prelude.{slice_get}
 use Rattle.std.specs.Ordering.{nat_cmp}
 use Rattle.std.proofs.lemmas.List.Sums.{sum_by-take-le}
@@ -11,6 +11,18 @@ use Rattle.leak_round.specs.Limits.{announced_length, announced_count}
 use Rattle.leak_round.specs.Announced.{HasAnnounced}
 use Rattle.leak_round.proofs.Listing.{sum_next, some_of}
 use Rattle.leak_round.proofs.announced.announce_prefix.Goals as goal
+
+pub announce-requires-clause-room : goal.announce-requires-clause-room
+announce-requires-clause-room c =
+    let plan = c.args.plan.now in
+    let xs = announcers_of plan in
+    let f = announced_length plan c.args.prefix in
+    let i = c.announcers.asn-index in
+    let x = c.asn-item.result in
+    let items : List ℕ = c.announcers-asn-items.result.now in
+    let at : slice_get xs i ≡ Some x = subst (λ (ys : List ℕ). slice_get ys i ≡ Some x) c.announcers-asn-items.ensures (slice_get_read items (length items) i x refl c.announcers-test.true c.asn-item.is) in
+    let old = c.announcers.invariant in
+    omega (arith, c.requires.room, old.cells, old.limit, sum_next f xs i x at, sum_by-take-le f xs (i + 1))
 
 pub announcers-preserved : goal.announcers-preserved
 announcers-preserved c =

@@ -72,3 +72,12 @@ returns-clause-made g c =
     let at = setting_in g.P.RoutePolicy.meaning g.V.OriginStates.state_of c.args.building.now.world.now in
     let plan = c.args.building.now.plan.now in
     rounds_made (λ before p f h. IsStable (at p) (seeds_of plan (suc before) p f) h) plan c.args.pool.now c.loop-past.pool c.loop-past.tables.items c.loop-past._past c.args.rounds c.loop-past.invariant.so_far (omega arith)
+
+pub returns-clause-stable : goal.returns-clause-stable
+returns-clause-stable g c = λ before prefix less known. c.loop-past.invariant.so_far.fits before prefix (let count = c.loop-past.invariant.so_far.count in omega (arith, less, count)) known
+
+pub returns-clause-cost : goal.returns-clause-cost
+returns-clause-cost g c =
+    let each = 2 * as_count c.args.building.now.world.now.graph.now * length (prefixes_of c.args.building.now.plan.now) in
+    let end : c.loop-past._past ≡ c.args.rounds = omega arith in
+    subst (λ (n : ℕ). c.loop-past.steps ≤ c.args.steps.now + each * n) end c.loop-past.invariant.cost

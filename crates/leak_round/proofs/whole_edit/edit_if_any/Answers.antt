@@ -1,37 +1,38 @@
-use Rattle.std.proofs.Common.{◌≡◌, ℕ, ◌+◌, ◌≤◌, Some, None, ap, subst, refl, arith}
+use Rattle.std.proofs.Common.{◌≡◌, ℕ, Some, None, List, ap, subst, refl, arith}
 use Rattle.path_pool.specs.declared.pool.PathPool.{PathPool}
-use Rattle.path_pool.specs.Pool.{holds_of, count_of, live_count}
 use Rattle.stability_laws.specs.declared.seed_plan.edits.SeedEdit.{SeedEdit}
 use Rattle.stability_laws.specs.Plans.{Plan}
 use Rattle.stability_laws.specs.SeedEdits.{edited, edit_asn}
+use Rattle.leak_round.specs.declared.announced.Announced.{Announced}
 use Rattle.leak_round.specs.declared.edited.EditedSeeds.{EditedSeeds}
-use Rattle.leak_round.specs.declared.limits.TheConstants.{MOST_ANNOUNCEMENTS, MOST_NUMBERS}
-use Rattle.leak_round.specs.Announced.{announced_uses}
-use Rattle.leak_round.specs.Edited.{AreSeedsOf, IsEdited, edit_numbers}
-use Rattle.leak_round.specs.Growth.{KeepsPaths}
+use Rattle.leak_round.specs.Edited.{edit_numbers, AreMade, AreSeedsOf, IsEdited}
+use Rattle.leak_round.specs.OwnSeeds.{AreOwn}
 use Rattle.leak_round.proofs.Keeping.{keeps_itself}
 
-one_edit : (old new : PathPool) (plan : Plan) (edit : SeedEdit) (e : EditedSeeds) → AreSeedsOf new plan e → e.plan ≡ edited plan edit → e.asn ≡ edit_asn edit → e.numbers ≤ MOST_NUMBERS → ((k : ℕ) → holds_of new k ≡ holds_of old k + announced_uses e.announced.items k) → KeepsPaths old new
-    → live_count new ≤ live_count old + e.numbers → ((k : ℕ) → count_of new k ≤ count_of old k + MOST_ANNOUNCEMENTS + 1) → e.numbers ≡ edit_numbers edit → IsEdited old new plan (Some edit) (Some e)
-one_edit old new plan edit e seeds is asn few holds keeps cells counts numbers = record {
-  seeds = λ o same. (let one : e ≡ o = cc in subst (AreSeedsOf new plan) one seeds);
-  plan_is = is;
-  asn_is = ap (λ (a : ℕ). Some a) asn;
-  numbers_is = numbers;
-  few = few;
-  holds = holds;
-  keeps = keeps;
-  cells = cells;
-  counts = counts;
+one_edit : (old new : PathPool) (plan : Plan) (xs : List Announced) (edit : SeedEdit) (e : EditedSeeds) → AreMade old new plan (edited plan edit) xs (edit_asn edit) (edit_numbers edit) e → IsEdited old new plan xs (Some edit) (Some e)
+one_edit old new plan xs edit e made = record {
+  seeds = λ o same. (let one : e ≡ o = cc in subst (AreSeedsOf new plan) one made.seeds);
+  plan_is = made.plan_is;
+  asn_is = ap (λ (a : ℕ). Some a) made.asn_is;
+  numbers_is = made.numbers_is;
+  few = made.few;
+  others = made.others;
+  own = λ o same. (let one : e ≡ o = cc in subst (λ (s : EditedSeeds). AreOwn s.announced.items s.prefix s.own) one made.own);
+  holds = made.held.holds;
+  keeps = made.held.keeps;
+  cells = made.held.cells;
+  counts = made.held.counts;
 }
 
-no_edit : (pool : PathPool) (plan : Plan) → IsEdited pool pool plan None None
-no_edit pool plan = record {
+no_edit : (pool : PathPool) (plan : Plan) (xs : List Announced) → IsEdited pool pool plan xs None None
+no_edit pool plan xs = record {
   seeds = λ o same. cc;
   plan_is = refl;
   asn_is = refl;
   numbers_is = refl;
   few = omega arith;
+  others = λ p other a. refl;
+  own = λ o same. cc;
   holds = λ k. omega arith;
   keeps = keeps_itself pool;
   cells = omega arith;

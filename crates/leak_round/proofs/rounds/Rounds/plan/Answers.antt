@@ -5,7 +5,7 @@ use Rattle.stability_laws.specs.World.{setting_in}
 use Rattle.dirty_recompute.specs.Resources.{IsUndone}
 use Rattle.leak_round.specs.declared.announced.Announced.{Announced}
 use Rattle.leak_round.specs.Announced.{AreAnnounced}
-use Rattle.leak_round.specs.Edited.{announced_after, prefix_edited, seeds_after}
+use Rattle.leak_round.specs.Edited.{announced_after, prefix_edited, seeds_after, IsEdited}
 use Rattle.leak_round.specs.OwnSeeds.{AreOwnSeeds, AreOthersKept}
 use Rattle.leak_round.specs.Found.{CanFind, AreFoundUpTo}
 use Rattle.leak_round.specs.Touched.{touches}
@@ -19,13 +19,14 @@ use Rattle.leak_round.proofs.rounds.Rounds.plan.Given as given
 use Rattle.leak_round.proofs.rounds.Rounds.plan.Goals as goal
 use Rattle.leak_round.proofs.rounds.Rounds.plan.Goals.{After-drop_seeds}
 
-pub edit_if_any-requires-clause-announced : goal.edit_if_any-requires-clause-announced
-edit_if_any-requires-clause-announced g c = subst (AreAnnounced c.args.self.now.pool c.args.self.now.plan) (sym c.deref-2.ensures.value) c.args.self.now.announcements
-
-pub edit_if_any-requires-clause-counts : goal.edit_if_any-requires-clause-counts
-edit_if_any-requires-clause-counts g c =
+pub edit_if_any-requires-clause-room : goal.edit_if_any-requires-clause-room
+edit_if_any-requires-clause-room g c =
     let r = c.args.self.now in
-    λ k. (let few = counts_few r.pool r.plan r.announced.items r.tables.items r.limits r.announcements r.full r.few (r.closed c.requires.closed) c.requires.few_cells k in omega (arith, few))
+    record {
+      announced = subst (AreAnnounced r.pool r.plan) (sym c.deref-2.ensures.value) r.announcements;
+      room = omega (arith, c.requires.few_cells, r.cells);
+      counts = λ k. (let few = counts_few r.pool r.plan r.announced.items r.tables.items r.limits r.announcements r.full r.few (r.closed c.requires.closed) c.requires.few_cells k in omega (arith, few));
+    }
 
 pub find_and_tell-requires-clause-can : goal.find_and_tell-requires-clause-can
 find_and_tell-requires-clause-can g c =
@@ -34,8 +35,8 @@ find_and_tell-requires-clause-can g c =
     let graph = c.args.world.now.graph.now in
     let touched = touches c.args.touched.now in
     let edited = c.in_ok-edited.edited in
-    let made = c.in_ok-edited.ensures.made in
     let next = c.edit_if_any.new.pool in
+    let made = subst (λ (xs : List Announced). IsEdited r.pool next r.plan xs (option_copied c.args.edit) edited) c.deref-2.ensures.value c.in_ok-edited.ensures.made in
     record {
       ranks = c.requires.ranks;
       can = subst (λ (xs : List Announced). CanFind w graph touched r.plan (seeds_after edited r.plan) xs (announced_after edited xs) next r.tables.items) (sym c.as_slice.ensures.value)
@@ -52,8 +53,8 @@ invariant_of-finding g c =
       no_cycle = c.requires.no_cycle;
       last = c.requires.last;
       own_seeds = coe 1 0 (i. AreOwnSeeds r.plan (c.as_slice.ensures.value i) (c.as_slice-2.ensures.value i)) (subst (λ (xs : List Announced). AreOwnSeeds r.plan xs c.fill_own_seeds.new.own.items) c.deref.ensures.value c.fill_own_seeds.ensures);
-      fresh = c.in_ok-edited.ensures.own;
-      others = subst (λ (xs : List Announced). AreOthersKept (prefix_edited c.in_ok-edited.edited) xs (announced_after c.in_ok-edited.edited xs)) (c.deref-2.ensures.value ∙ sym c.as_slice.ensures.value) c.in_ok-edited.ensures.others;
+      fresh = c.in_ok-edited.ensures.made.own;
+      others = subst (λ (xs : List Announced). AreOthersKept (prefix_edited c.in_ok-edited.edited) xs (announced_after c.in_ok-edited.edited xs)) (c.deref-2.ensures.value ∙ sym c.as_slice.ensures.value) c.in_ok-edited.ensures.made.others;
     }
 
 pub invariant_of-self-in-Ok : goal.invariant_of-self-in-Ok
@@ -84,8 +85,8 @@ returns-in-Ok g c =
     let touched = touches c.args.touched.now in
     let edited = c.in_ok-edited.edited in
     let after = seeds_after edited r.plan in
-    let made = c.in_ok-edited.ensures.made in
     let next = c.edit_if_any.new.pool in
+    let made = subst (λ (xs : List Announced). IsEdited r.pool next r.plan xs (option_copied c.args.edit) edited) c.deref-2.ensures.value c.in_ok-edited.ensures.made in
     let new = c.find_and_tell.new in
     let pool = new.pool in
     let now = c.in-Ok.ensures in
@@ -94,28 +95,32 @@ returns-in-Ok g c =
     let full = now.same.full pool r.plan (rounds_full_kept r.pool pool keeps r.plan r.tables.items r.full) in
     let more = subst (AreFoundUpTo r.plan new.changes.items) (sym now.same.count) all.whole in
     record {
-      «open» = record {
-        planned = refl;
-        holds = λ k. omega (arith, all.paid.holds k, made.holds k, r.closed c.requires.closed k, now.same.uses k);
-        changes = all.found.changes;
-        differs = laid_differs w graph touched r.plan after pool new.tables.items new.changes.items c.args.steps.now new.steps all.found more full;
-        few = few_laid w graph touched r.plan after pool new.tables.items new.changes.items c.args.steps.now new.steps all.found more full (omega (arith, c.as_count-count.ensures.value, c.as_count-count.ensures.few)) (λ p b. refl);
-        edited = edited_kept next pool r.plan edited all.paid.keeps made.seeds;
-        others = subst (λ (xs : List Announced). AreOthersKept (prefix_edited edited) xs (announced_after edited xs)) c.deref-2.ensures.value c.in_ok-edited.ensures.others;
-        own = c.in_ok-edited.ensures.own;
-        count = now.count;
-        told = λ round from to. now.told round from (omega (arith, to, now.same.count));
-        cells = omega (arith, all.paid.cells, made.cells, now.count, c.live-before.ensures.value);
+      planned = record {
+        «open» = record {
+          planned = refl;
+          holds = λ k. omega (arith, all.paid.holds k, made.holds k, r.closed c.requires.closed k, now.same.uses k);
+          changes = all.found.changes;
+          differs = laid_differs w graph touched r.plan after pool new.tables.items new.changes.items c.args.steps.now new.steps all.found more full;
+          few = few_laid w graph touched r.plan after pool new.tables.items new.changes.items c.args.steps.now new.steps all.found more full (omega (arith, c.as_count-count.ensures.value, c.as_count-count.ensures.few)) (λ p b. refl);
+          edited = edited_kept next pool r.plan edited all.paid.keeps made.seeds;
+          others = made.others;
+          own = made.own;
+          count = now.count;
+          told = λ round from to. now.told round from (omega (arith, to, now.same.count));
+          cells = omega (arith, all.paid.cells, made.cells, now.count, c.live-before.ensures.value);
+        };
+        before = c.live-before.ensures.value;
+        edited = made.plan_is;
+        asn = made.asn_is;
+        numbers = made.numbers_is;
+        stable = rounds_stable w graph touched r.plan after pool new.tables.items new.changes.items c.args.steps.now new.steps all.found more full (prefixes_stay r.plan r.announced.items r.pool next r.limits r.announcements (option_copied c.args.edit) edited made);
+        enough = steps_enough w graph touched r.plan after pool new.tables.items new.changes.items c.args.steps.now new.steps all.found more full;
       };
-      before = c.live-before.ensures.value;
-      edited = made.plan_is;
-      asn = made.asn_is;
-      numbers = made.numbers_is;
-      stable = rounds_stable w graph touched r.plan after pool new.tables.items new.changes.items c.args.steps.now new.steps all.found more full (prefixes_stay r.plan r.announced.items r.pool next r.limits r.announcements (option_copied c.args.edit) edited made);
-      enough = steps_enough w graph touched r.plan after pool new.tables.items new.changes.items c.args.steps.now new.steps all.found more full;
-      plan = refl;
-      rounds = now.same.count;
-      kept = kept_same r.plan r.pool pool r.tables.items new.tables.items keeps now.same r.full;
+      stays = record {
+        plan = refl;
+        rounds = now.same.count;
+        kept = kept_same r.plan r.pool pool r.tables.items new.tables.items keeps now.same r.full;
+      };
       err = tt;
     }
 
@@ -149,13 +154,14 @@ invariant_of-self-in-Err g c =
       cells = c.drop_seeds.ensures.back.limit ∙ c.undo_changes.ensures.back.limit ∙ c.find_and_tell.ensures.cut.limit ∙ c.edit_if_any.ensures.limit ∙ r.cells;
     }
 
-pub returns-in-Err-clause-kept : goal.returns-in-Err-clause-kept
-returns-in-Err-clause-kept g c =
+pub returns-in-Err-clause-stays : goal.returns-in-Err-clause-stays
+returns-in-Err-clause-stays g c =
     let r = c.args.self.now in
-    kept_stays r.pool c.drop_seeds.new.pool r.plan r.announced.items r.tables.items c.find_and_tell.new.tables.items (pool_undone g (goal.at.returns-in-Err-clause-kept g c).After-drop_seeds) c.find_and_tell.ensures.same (r.closed c.requires.closed)
-
-pub returns-in-Err-clause-rounds : goal.returns-in-Err-clause-rounds
-returns-in-Err-clause-rounds g c = c.find_and_tell.ensures.same.count
+    record {
+      plan = refl;
+      rounds = c.find_and_tell.ensures.same.count;
+      kept = kept_stays r.pool c.drop_seeds.new.pool r.plan r.announced.items r.tables.items c.find_and_tell.new.tables.items (pool_undone g (goal.at.returns-in-Err-clause-stays g c).After-drop_seeds) c.find_and_tell.ensures.same (r.closed c.requires.closed);
+    }
 
 pub invariant_of-self-in-Break-branch-3 : goal.invariant_of-self-in-Break-branch-3
 invariant_of-self-in-Break-branch-3 g c =
@@ -175,13 +181,17 @@ invariant_of-self-in-Break-branch-3 g c =
       cells = c.edit_if_any.ensures.limit ∙ r.cells;
     }
 
-pub returns-in_err-edited-clause-kept : goal.returns-in_err-edited-clause-kept
-returns-in_err-edited-clause-kept g c =
+pub returns-in_err-edited-clause-stays : goal.returns-in_err-edited-clause-stays
+returns-in_err-edited-clause-stays g c =
     let r = c.args.self.now in
     let pool = c.edit_if_any.new.pool in
     let same = same_itself r.tables.items in
     let undone = c.in_err-edited.ensures.err in
-    kept_stays r.pool pool r.plan r.announced.items r.tables.items r.tables.items undone same (r.closed c.requires.closed)
+    record {
+      plan = refl;
+      rounds = refl;
+      kept = kept_stays r.pool pool r.plan r.announced.items r.tables.items r.tables.items undone same (r.closed c.requires.closed);
+    }
 
 pub invariant_of-self : goal.invariant_of-self
 invariant_of-self g c =

@@ -14,10 +14,13 @@ use Rattle.leak_round.specs.Overlays.{AreFew}
 use Rattle.leak_round.specs.Tables.{kept_in, AreRoundsFull}
 use Rattle.leak_round.proofs.Built.{all_room, can_stand, few_cells}
 use Rattle.leak_round.proofs.Counting.{fewer_entries}
-use Rattle.leak_round.proofs.Numbers.{numbers_counted}
+use Rattle.leak_round.proofs.Numbers.{few_numbers, numbers_counted}
 use Rattle.leak_round.proofs.PassedOn.{passed_on}
 use Rattle.leak_round.proofs.Tidying.{few_anywhere, kept_anew, kept_there}
 use Rattle.leak_round.proofs.rounds.Rounds.tidy.Goals as goal
+
+pub announce_all-requires-clause-room : goal.announce_all-requires-clause-room
+announce_all-requires-clause-room c = omega (arith, few_numbers c.in_ok-plan.plan (subst IsWithinLimits (sym c.in_ok-plan.ensures) c.args.self.now.limits), c.new-pool.ensures.live, c.new-pool.ensures.limit)
 
 pub invariant_of-moving : goal.invariant_of-moving
 invariant_of-moving c =

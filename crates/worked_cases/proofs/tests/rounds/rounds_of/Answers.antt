@@ -6,4 +6,4 @@ use Rattle.worked_cases.proofs.tests.rounds.rounds_of.Goals as goal
 pub returns-clause-stable : goal.returns-clause-stable
 returns-clause-stable g c =
     let r = c.in-Ok-build.rounds in
-    same_rounds _ c.in-Ok.plan (plan_of r) c.args.count (round_count r) (kept r) (kept r) c.in-Ok-build.ensures.plan c.in-Ok-build.ensures.count (λ round p a. refl) c.in-Ok-build.ensures.stable
+    same_rounds _ c.in-Ok.plan (plan_of r) c.args.count (round_count r) (kept r) (kept r) c.in-Ok-build.ensures.built.plan c.in-Ok-build.ensures.built.count (λ round p a. refl) c.in-Ok-build.ensures.built.stable
