@@ -4,13 +4,11 @@ use Rattle.std.proofs.lemmas.Grind.{flat_map-append}
 use Rattle.std.proofs.lemmas.List.{length-replicate}
 use Rattle.net_names.specs.Lines.{said_on}
 use Rattle.net_names.specs.Prefixes.{PrefixValue}
-use Rattle.net_names.proofs.KeptLines.{stops}
 use Rattle.message_sim.specs.Turns.{turns_of}
 use Rattle.message_sim.specs.declared.steps.Deliveries.{Deliveries}
 use Rattle.message_sim.specs.StepValues.{StepValue}
 use Rattle.message_sim.specs.declared.reading.DeliveriesError.{DeliveriesError}
-use Rattle.message_sim.specs.declared.reading.DeliveriesError.TheVariants.{Memory}
-use Rattle.message_sim.specs.Files.{Fails, with_line}
+use Rattle.message_sim.specs.Files.{with_line}
 
 -- how many turns steps with one more ask for
 pub one_step : (s : StepValue) → length (turns_of (s ∷ [])) ≡ s.most
@@ -22,8 +20,3 @@ step_more steps s = ap length (flat_map-append _ steps (s ∷ [])) ∙ length-ap
 -- what lines say behind one of this number that names these
 abbrev pub begins : ℕ → ℕ × PrefixValue → List (ℕ × List ℕ) → Result Deliveries DeliveriesError
 begins number names = said_on with_line (record { for_line = number; round = names.0; prefix = names.1; steps = [] })
-
--- the fault of a line is that of the file
-pub fails_at : (e : DeliveriesError) (d : Deliveries) (line : ℕ × List ℕ) (lines more : List (ℕ × List ℕ)) (whole : Result Deliveries DeliveriesError) → lines ≡ line ∷ more → Fails e (with_line d line) → said_on with_line d lines ≡ whole → Fails e whole
-fails_at Memory d line lines more whole is fault so_far = tt
-fails_at e d line lines more whole is fault so_far = stops with_line e d line lines more whole is fault so_far

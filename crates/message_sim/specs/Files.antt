@@ -19,6 +19,11 @@ abbrev pub Fails : {X : Type 0} → DeliveriesError → Result X DeliveriesError
 Fails Memory reading = Unit {0}
 Fails e reading = reading ≡ Err e
 
+-- a reading that fails as another one does fails in the same way
+pub fails_on : (e : DeliveriesError) (r s : Result Deliveries DeliveriesError) → ((f : DeliveriesError) → r ≡ Err f → s ≡ Err f) → Fails e r → Fails e s
+fails_on Memory r s same fails = tt
+fails_on e r s same fails = same e fails
+
 -- `deliver N A` asks for one turn of the link from AS N to another AS A, and `rest K` for K turns, each of the lowest link with a message; K is 1 to 7 digits with a value from 1 to 1,000,000 (own format)
 abbrev pub step_of : ℕ × List ℕ → Option StepValue
 step_of l = option_or (form "deliver " (λ t. option_filter (λ x. not (x.0 == x.1))

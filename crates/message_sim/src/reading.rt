@@ -1,12 +1,14 @@
 //! Reading a file of deliveries.
-ghost use Rattle.std.specs.Prelude.{◌≡◌, ◌+◌, ◌≤◌, [], length};
-ghost use Rattle.net_names.specs.Prelude.{kept_from, said_on};
-ghost use Rattle.message_sim.specs.Files.{Gives, deliveries_by, with_line};
+ghost use Rattle.std.proofs.Common.{rules};
+ghost use Rattle.std.specs.Prelude.{◌≡◌, ◌≤◌, ⊤, [], length};
+ghost use Rattle.net_names.specs.Prelude.{kept_from};
+ghost use Rattle.net_names.specs.declared.limits.TheConstants.{MOST_TEXT_BYTES as most_bytes};
+ghost use Rattle.message_sim.specs.Files.{Fails as FailsBy, fails_on as fails_alike, Gives, deliveries_by, with_line};
 ghost use Rattle.message_sim.specs.declared.reading.DeliveriesError.TheVariants.{Memory};
 
 use crate::forms::step;
 use crate::steps::{Deliveries, DeliverySteps, MOST_DELIVERIES};
-use net_names::{MOST_TEXT_BYTES, NoMemory, Prefix, next_kept};
+use net_names::{LineByLine, MOST_TEXT_BYTES, NoMemory, Prefix, next_kept, put_lines};
 use scenario_text::read_for;
 use std::alloc::Global;
 
@@ -39,43 +41,38 @@ impl From<NoMemory> for DeliveriesError {
     }
 }
 
-// Puts in what the line of this number asks for.
-fn put_line(
-    mut deliveries: Deliveries,
-    number: u32,
-    line: &[u8],
-) -> Result<Deliveries, DeliveriesError>
-    ensures { Gives result (with_line deliveries (number, line.now)) }
-{
-    let Some(step) = step(number, line) else {
-        return Err(DeliveriesError::Unreadable { line: number });
-    };
-    if step.most > MOST_DELIVERIES - deliveries.steps.asked() {
-        return Err(DeliveriesError::TooMany { line: step.line });
-    }
-    deliveries.steps.push(step)?;
-    Ok(deliveries)
-}
+impl LineByLine for Deliveries {
+    type Error = DeliveriesError;
 
-// Puts in what the lines of these bytes ask for, of which the first has this number.
-fn put_lines(
-    deliveries: Deliveries,
-    number: u32,
-    bytes: &[u8],
-) -> Result<Deliveries, DeliveriesError>
-    requires first { 1 ≤ number }
-    requires short { number + length bytes.now ≤ MOST_TEXT_BYTES + 1 }
-    ensures { Gives result (said_on with_line deliveries (kept_from number bytes.now)) }
-{
-    let mut deliveries = deliveries;
-    let mut number = number;
-    let mut rest = bytes;
-    while let Some(kept) = next_kept(rest, number) {
-        rest = kept.rest;
-        number = kept.number + 1;
-        deliveries = put_line(deliveries, kept.number, kept.line)?;
+    ghost says = { with_line };
+
+    ghost Fails = { FailsBy };
+
+    ghost IsReady = { λ _ _. ⊤ };
+
+    ghost most = { most_bytes };
+
+    fn put_line(
+        mut self,
+        _alloc: Global,
+        number: u32,
+        line: &[u8],
+    ) -> Result<Deliveries, DeliveriesError> {
+        let Some(step) = step(number, line) else {
+            return Err(DeliveriesError::Unreadable { line: number });
+        };
+        if step.most > MOST_DELIVERIES - self.steps.asked() {
+            return Err(DeliveriesError::TooMany { line: step.line });
+        }
+        self.steps.push(step)?;
+        Ok(self)
     }
-    Ok(deliveries)
+
+    ghost fails_on = { fails_alike };
+
+    ghost stays_ready = { λ _ _ _ _ ready. ready };
+
+    ghost fits = { Prim.search rules };
 }
 
 // What a line of this number says alone that names these.
@@ -111,5 +108,5 @@ pub fn read_deliveries(alloc: Global, bytes: &[u8]) -> Result<Deliveries, Delive
         return Err(DeliveriesError::Unreadable { line: first.number });
     };
     let deliveries = begun(alloc, first.number, names);
-    put_lines(deliveries, first.number + 1, first.rest)
+    put_lines(alloc, deliveries, first.number + 1, first.rest)
 }

@@ -40,14 +40,8 @@ impl Route {
     pub(crate) fn copy(&self, alloc: Global) -> Result<Route, NoMemory>
         ensures { IfOk result (λ h. h ≡ self.now) }
     {
-        let path = self.entry.path.copied(alloc)?;
-        Ok(Route {
-            entry: Entry {
-                class: self.entry.class,
-                path,
-                otc: self.entry.otc,
-            },
-        })
+        let entry = self.entry.copied(alloc)?;
+        Ok(Route { entry })
     }
 
     /// What an AS with the seed holds.

@@ -19,4 +19,4 @@ unfolding deliveries_by
 returns c =
     let behind = kept_from (c.in-Some.first.number + 1) c.in-Some.first.rest.now in
     let whole = named NoFor Unreadable begins (kept_from 1 c.args.bytes.now) _ _ _ _ c.in-Some.ensures.some c.in-Some-read_for.ensures.value in
-    subst (λ t. Gives c.put_lines.result t) (ap (λ d. said_on with_line d behind) c.begun-deliveries.ensures ∙ sym whole) c.put_lines.ensures
+    subst (λ t. Gives c.put_lines.result t) (ap (λ d. said_on with_line d behind) c.begun-deliveries.ensures ∙ sym whole) c.put_lines.ensures.gives
