@@ -4,6 +4,5 @@ mod Counting
 mod Runs
 mod Heights
 mod Words
-mod Lines
 pub mod Sound
 mod Said

@@ -20,6 +20,11 @@ abbrev pub Fails : {X : Type 0} → ActsError → Result X ActsError → Type 0
 Fails Memory reading = Unit {0}
 Fails e reading = reading ≡ Err e
 
+-- a reading that fails as another one does fails in the same way
+pub fails_on : (e : ActsError) (r s : Result Acts ActsError) → ((f : ActsError) → r ≡ Err f → s ≡ Err f) → Fails e r → Fails e s
+fails_on Memory r s same fails = tt
+fails_on e r s same fails = same e fails
+
 -- the numbers that the words are; in place of a number the word `otc` may stand, with one number behind it, which is the last word (own format)
 unfoldable pub numbers_in : List (List ℕ) → Option (List ℕ × Option ℕ)
 numbers_in [] = Some ([], None)

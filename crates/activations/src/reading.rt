@@ -1,15 +1,17 @@
 //! Reading a file of activations.
+ghost use Rattle.std.proofs.Common.{rules};
 ghost use Rattle.std.specs.Prelude.{◌≡◌, ◌==◌ as nat_eq, ◌+◌, ◌<◌, ◌≤◌, [], ◌∷◌, IfOk, true, length};
 ghost use Rattle.std.specs.List.{starts_with};
 ghost use Rattle.std.specs.FinMap as map;
-ghost use Rattle.net_names.specs.Prelude.{kept_from, said_on};
-ghost use Rattle.activations.specs.Files.{Gives, acts_by, with_acts, with_hold, with_line};
+ghost use Rattle.net_names.specs.Prelude.{kept_from};
+ghost use Rattle.net_names.specs.declared.limits.TheConstants.{MOST_TEXT_BYTES as most_bytes};
+ghost use Rattle.activations.specs.Files.{Fails as FailsBy, fails_on as fails_alike, Gives, acts_by, with_acts, with_hold, with_line};
 ghost use Rattle.activations.specs.Named.{AreSound};
 ghost use Rattle.activations.specs.declared.reading.ActsError.TheVariants.{Memory};
 
 use crate::acts::{Acts, NamedAses};
 use crate::forms::{read_act, read_hold};
-use net_names::{Asn, MOST_TEXT_BYTES, NoMemory, Path, Prefix, next_kept};
+use net_names::{Asn, LineByLine, MOST_TEXT_BYTES, NoMemory, Path, Prefix, next_kept, put_lines};
 use scenario_text::read_for;
 use stability_laws::{Entry, Routing};
 use std::alloc::Global;
@@ -86,39 +88,32 @@ fn put_acts(mut acts: Acts, number: u32, ases: &[Asn]) -> Result<Acts, ActsError
     Ok(acts)
 }
 
-// Puts in what the line of this number says.
-fn put_line(alloc: Global, acts: Acts, number: u32, line: &[u8]) -> Result<Acts, ActsError>
-    requires short { length line.now ≤ MOST_TEXT_BYTES }
-    requires sound { AreSound acts }
-    ensures gives { Gives result (with_line acts (number, line.now)) }
-    ensures sound { IfOk result AreSound }
-{
-    if let Some((asn, entry)) = read_hold(alloc, line)? {
-        return put_hold(acts, number, asn, entry);
-    }
-    match read_act(alloc, line)? {
-        Some(ases) => put_acts(acts, number, ases.as_slice()),
-        None => Err(ActsError::Unreadable { line: number }),
-    }
-}
+impl LineByLine for Acts {
+    type Error = ActsError;
 
-// Puts in what the lines of these bytes say, of which the first has this number.
-fn put_lines(alloc: Global, acts: Acts, number: u32, bytes: &[u8]) -> Result<Acts, ActsError>
-    requires first { 1 ≤ number }
-    requires short { number + length bytes.now ≤ MOST_TEXT_BYTES + 1 }
-    requires sound { AreSound acts }
-    ensures gives { Gives result (said_on with_line acts (kept_from number bytes.now)) }
-    ensures sound { IfOk result AreSound }
-{
-    let mut acts = acts;
-    let mut number = number;
-    let mut rest = bytes;
-    while let Some(kept) = next_kept(rest, number) {
-        rest = kept.rest;
-        number = kept.number + 1;
-        acts = put_line(alloc, acts, kept.number, kept.line)?;
+    ghost says = { with_line };
+
+    ghost Fails = { FailsBy };
+
+    ghost IsReady = { λ _ acts. AreSound acts };
+
+    ghost most = { most_bytes };
+
+    fn put_line(self, alloc: Global, number: u32, line: &[u8]) -> Result<Acts, ActsError> {
+        if let Some((asn, entry)) = read_hold(alloc, line)? {
+            return put_hold(self, number, asn, entry);
+        }
+        match read_act(alloc, line)? {
+            Some(ases) => put_acts(self, number, ases.as_slice()),
+            None => Err(ActsError::Unreadable { line: number }),
+        }
     }
-    Ok(acts)
+
+    ghost fails_on = { fails_alike };
+
+    ghost stays_ready = { λ _ _ _ _ ready. ready };
+
+    ghost fits = { Prim.search rules };
 }
 
 // What a line of this number says alone that names these.

@@ -14,8 +14,8 @@ pub returns-in_default-read_for-clause-gives : goal.returns-in_default-read_for-
 unfolding acts_by
 returns-in_default-read_for-clause-gives c = unnamed NoFor Unreadable (λ n x. said_on with_line (no_acts n x)) (kept_from 1 c.args.bytes.now) _ _ _ c.in-Some.ensures.some c.in_default-read_for.ensures.value
 
-pub put_lines-requires-clause-sound : goal.put_lines-requires-clause-sound
-put_lines-requires-clause-sound c = sound_none _ _ _ c.begun-acts.ensures
+pub put_lines-requires-clause-ready : goal.put_lines-requires-clause-ready
+put_lines-requires-clause-ready c = sound_none _ _ _ c.begun-acts.ensures
 
 pub returns-clause-gives : goal.returns-clause-gives
 unfolding acts_by
