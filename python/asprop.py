@@ -405,7 +405,7 @@ def run(world: World, script: Script, program: Optional[str] = None, seconds: Op
     """Runs the program over the world and gives the answers, one for each line of the script.
 
     A line that is refused has a Refusal as its answer.  Raises Fault if the program ends without all answers, with the
-    status 125 if ./asprop couldn't build it, and subprocess.TimeoutExpired if it takes longer than so many seconds.
+    status 125 if ./asprop had no answer, and subprocess.TimeoutExpired if it takes longer than so many seconds.
     Raises ValueError or TypeError for a value that no file could hold, and for a relationship file without links.
     Nothing stands on the program's standard input.
     """
