@@ -13,6 +13,10 @@ use Rattle.reports.specs.Rows.{more_numbers}
 pub Grows-trans : (a b c : List ℕ) → Grows a b → Grows b c → Grows a c
 Grows-trans a b c g h = record { more = g.more ++ h.more; is = h.is ∙ ap (λ (x : List ℕ). x ++ h.more) g.is ∙ append_assoc a g.more h.more }
 
+-- what stays as it was has grown by nothing
+pub stayed : (a b : List ℕ) → b ≡ a → Grows a b
+stayed a b same = record { more = []; is = same ∙ sym (append-nil a) }
+
 -- what grows after a text has grown
 pub grown : (a b c text : List ℕ) → b ≡ a ++ text → Grows b c → Grows a c
 grown a b c text is g = Grows-trans a b c (record { more = text; is = is }) g

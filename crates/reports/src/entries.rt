@@ -3,9 +3,8 @@ ghost use Rattle.std.specs.Prelude.{◌≡◌, ◌++◌, OnOk, OnErr, Some, opti
 ghost use Rattle.reports.specs.Growth.{Grows};
 ghost use Rattle.stability_laws.specs.Prelude.{entry_text, entry_row};
 
-use crate::bytes::put_bytes;
 use crate::rows::{append_numbers, append_otc, begin_entry, begin_row};
-use net_names::{Asn, NoMemory};
+use net_names::{Asn, NoMemory, put_bytes};
 use stability_laws::Entry;
 
 // Appends what a row says of an entry.

@@ -5,9 +5,8 @@ ghost use Rattle.reports.specs.Counts.{group_name};
 ghost use Rattle.reports.specs.Groups.{group_size, is_printed as is_group_printed, which_of};
 ghost use Rattle.reports.specs.Growth.{Grows};
 
-use crate::bytes::put_bytes;
 use data_trace::{Watch, Which};
-use net_names::NoMemory;
+use net_names::{NoMemory, put_bytes};
 use policy_kinds::{Kind, put_kind};
 use policy_laws::Labelled;
 

@@ -2,10 +2,9 @@
 //!
 //! Each call appends the exact text of an answer to a buffer that its caller keeps and uses again, so
 //! that printing takes no memory once the buffer is large enough. Where memory runs out, the buffer is
-//! as it was.
+//! as it was after a call `put_..`; after one of the private calls `append_..` it may have grown.
 #![tactic(auto)]
 
-mod bytes;
 mod entries;
 mod group;
 mod ranks;

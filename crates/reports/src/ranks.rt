@@ -5,9 +5,8 @@ ghost use Rattle.reports.specs.Growth.{Grows};
 ghost use Rattle.stability_laws.specs.Prelude.{row};
 ghost use Rattle.reports.specs.Rows.{table as table_of};
 
-use crate::bytes::{put_bytes, put_number};
 use as_graph::Graph;
-use net_names::{Asn, NoMemory, put_asn};
+use net_names::{Asn, NoMemory, put_asn, put_bytes, put_number};
 use rank_order::Ranks;
 
 // Appends the row of an AS.

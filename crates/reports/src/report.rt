@@ -7,10 +7,9 @@ ghost use Rattle.reports.specs.Growth.{Grows};
 ghost use Rattle.reports.specs.Counts.{count_row, group_text, report_text};
 ghost use Rattle.reports.specs.Groups.{delivered_text, group_count, group_size, printed_text};
 
-use crate::bytes::{put_bytes, put_number};
 use crate::group::Group;
 use data_trace::{End, Watch};
-use net_names::{Asn, NoMemory, put_asn};
+use net_names::{Asn, NoMemory, put_asn, put_bytes, put_number};
 use policy_kinds::Kind;
 use stability_laws::SeedPlan;
 

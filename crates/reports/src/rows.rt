@@ -9,9 +9,8 @@ ghost use Rattle.net_names.specs.Prelude.{class_word, numbers_text};
 ghost use Rattle.stability_laws.specs.Prelude.{entry_text, entry_row};
 ghost use Rattle.reports.specs.Rows.{more_numbers, table as table_of};
 
-use crate::bytes::put_bytes;
 use as_graph::Graph;
-use net_names::{Asn, Class, NoMemory, put_asn};
+use net_names::{Asn, Class, NoMemory, put_asn, put_bytes};
 use path_pool::{PathId, PathPool};
 use route_choice::{Held, Table};
 
@@ -194,7 +193,7 @@ pub fn put_routes(
     Ok(())
 }
 
-/// Appends the row of one AS, as it stands in its table. Where memory runs out, nothing changes.
+/// Appends the row of one AS, as it stands in the table. Where memory runs out, nothing changes.
 pub fn put_route(
     out: &mut Vec<u8>,
     table: &Table,

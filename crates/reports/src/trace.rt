@@ -5,10 +5,9 @@ ghost use Rattle.net_names.specs.Prelude.{numbers_text};
 ghost use Rattle.stability_laws.specs.Prelude.{row};
 ghost use Rattle.reports.specs.Traces.{end_word};
 
-use crate::bytes::put_bytes;
 use crate::rows::put_numbers;
 use data_trace::{End, Trace};
-use net_names::{Asn, NoMemory};
+use net_names::{Asn, NoMemory, put_bytes};
 
 fn end_name(end: End) -> &'static str
     ensures { result.now ≡ end_word end }

@@ -4,8 +4,7 @@ ghost use Rattle.std.specs.List.{flat_map};
 ghost use Rattle.reports.specs.Growth.{Grows};
 ghost use Rattle.reports.specs.Validity.{state_word, payload_row, validity_text};
 
-use crate::bytes::{put_bytes, put_number};
-use net_names::{NoMemory, State, Vrp, put_prefix};
+use net_names::{NoMemory, State, Vrp, put_bytes, put_number, put_prefix};
 use origin_validation::Explained;
 
 fn state_name(state: State) -> &'static str

@@ -1,6 +1,6 @@
 use Rattle.std.proofs.lemmas.Result.{on_err_weaker}
-use Rattle.reports.proofs.Paths.{grown}
+use Rattle.reports.proofs.Paths.{grown, stayed}
 use Rattle.reports.proofs.rows.begin_entry.Goals as goal
 
 pub returns-clause-err : goal.returns-clause-err
-returns-clause-err c = on_err_weaker c.put_bytes-2.result (grown _ _ _ _ c.in_ok-put_bytes.ensures.ok) c.put_bytes-2.ensures.err
+returns-clause-err c = on_err_weaker c.put_bytes-2.result (λ same. grown _ _ _ _ c.in_ok-put_bytes.ensures.ok (stayed _ _ same)) c.put_bytes-2.ensures.err
