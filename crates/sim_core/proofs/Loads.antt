@@ -49,10 +49,14 @@ cyclic_world links payloads s graph (load_error.ProviderCycle cycle) is few h =
     let same : graph ≡ topology (world_of links payloads s) = is ∙ sym (topology-world_of links payloads s) in
     (subst (λ (g : Topology). as_count g ≤ 150000) same few, subst (λ (g : Topology). IsCycleFromLowest (relation g) cycle) same h)
 
+-- marks leave the links of a graph
+pub marked_links : (links : LinkMap) (s : ScenarioValue) (graph : Topology) → graph ≡ marked (unmarked links) (names_in s) → graph.links ≡ links
+marked_links links s graph is = ap (λ (g : Topology). g.links) is ∙ links-marked (unmarked links) (names_in s)
+
 module _ (links : LinkMap) (payloads : Payloads) (s : ScenarioValue) (graph : Topology) (book : PolicyBook Kind) (plan : Plan) (count : ℕ) (is : graph ≡ marked (unmarked links) (names_in s)) (named : book.named ≡ kinds_of s.policies) (planned : plan ≡ plan_of s) (counted : count ≡ length s.leaks + 1) (watched : List AddrValue) (watching : watched ≡ s.watch) where
   pub world_is : world_from graph payloads book plan count watched ≡ world_of links payloads s
   world_is =
-      let same : graph.links ≡ links = ap (λ (g : Topology). g.links) is ∙ links-marked (unmarked links) (names_in s) in
+      let same = marked_links links s graph is in
       λ i. record { links = same i; payloads = payloads; kinds = named i; plan = planned i; rounds = counted i; watched = set.from_list (watching i) }
 
   pub marks_are : IsNamed graph book plan

@@ -49,6 +49,12 @@ wanting false e x rest more f h = h
 pub no_reason : {E P : Type 0} (x : E) → ◌≡◌ {A = Option E} None (Some x) → P
 no_reason x h = cc
 
+-- where one of two things is wanting, they are not both there
+pub not_both : {E : Type 0} (one other : Bool) (a b e : E) → needs one a (needs other b None) ≡ Some e → (one && other) ≡ false
+not_both true true a b e h = cc
+not_both true false a b e h = refl
+not_both false other a b e h = refl
+
 -- a reason to refuse a query is a refusal of it
 pub query_refused : (w : World) (q : Query) (e : QueryError) → refusal_of w q ≡ Some e → IsQueryRefusal w q e
 query_refused w q Memory h = tt

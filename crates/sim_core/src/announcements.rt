@@ -17,7 +17,6 @@ use crate::difference::Difference;
 use crate::marking::{set_mark, set_mark_back};
 use crate::naming::is_other;
 use crate::parts::Parts;
-use crate::planning::copy_of;
 use crate::{Changed, EditError, EditLimit};
 use as_graph::{ases_are_kept, links_are_sound};
 use leak_round::Touched;
@@ -118,6 +117,7 @@ impl Parts {
             Err(_) => return Err(EditError::Memory),
         }
         set_mark(&mut self.graph, asn, is)?;
+        // `as_count` is called for its clause that no graph has more than 150,000 ASes.
         let _count = self.graph.as_count();
         let states = States::of(&self.vrps);
         let world = World {
@@ -173,7 +173,7 @@ impl Parts {
                 which: EditLimit::Announcements,
             });
         }
-        let path = copy_of(alloc, path)?;
+        let path = path.copied(alloc)?;
         self.edit_announcement(alloc, &SeedEdit::Announce { prefix, path }, steps)
     }
 

@@ -1,6 +1,7 @@
 //! Answers of a simulation.
-ghost use Rattle.std.specs.Prelude.{◌≡◌, ◌≤◌, true, Some, IfOk, IfErr, OnOk, OnErr};
+ghost use Rattle.std.specs.Prelude.{◌≡◌, ◌≤◌, ◌&&◌, true, false, Some, IfOk, IfErr, IfNone, IfSome, OnOk, OnErr};
 ghost use Rattle.std.specs.FinMap as fin;
+ghost use Rattle.std.specs.FinSet as set;
 ghost use Rattle.as_graph.specs.Prelude.{as_count};
 ghost use Rattle.data_trace.specs.Prelude.{next_hop, IsTrace};
 ghost use Rattle.scenario_text.specs.declared.acts.Query.TheVariants as query;
@@ -125,10 +126,24 @@ impl Sim {
         ensures found { IfOk result (λ w. IsWatchOf (world_seen self.now) (kept self.now) round addr w.now) }
         ensures refused { IfErr result (λ e. no_watch (world_seen self.now) round addr ≡ Some e) }
     {
+        // `tables_of` is called for its refusal of a round that isn't there.
         let _tables = self.tables_of(round)?;
         match place_of_addr(self.parts.watched.as_slice(), addr) {
             Some(place) => Ok(self.watch_at(round, addr, place)),
             None => Err(QueryError::NotWatched { addr }),
+        }
+    }
+
+    /// The watch of a round and a watched address; `None` exactly where the world has not the round or the address is
+    /// not watched.
+    pub fn watched(&self, round: u32, addr: Addr) -> Option<&Watch>
+        ensures found { IfSome result (λ w. IsWatchOf (world_seen self.now) (kept self.now) round addr w.now) }
+        ensures none { IfNone result
+            ((has_round (world_seen self.now) round && set.contains (world_seen self.now).watched addr) ≡ false) }
+    {
+        match self.watch_of(round, addr) {
+            Ok(watch) => Some(watch),
+            Err(_) => None,
         }
     }
 

@@ -1,9 +1,13 @@
 //! What belongs to an edited world: planned with all memory, and then put in place without any.
 ghost use Rattle.std.specs.Prelude.{◌≡◌, ◌≤◌, false, true, Some, IfOk, OnOk, OnErr, map};
 ghost use Rattle.std.specs.Option.{option_copied};
-ghost use Rattle.as_graph.specs.Prelude.{HasNoProviderCycle, relation};
+ghost use Rattle.as_graph.specs.Hierarchy.{RanksFit};
+ghost use Rattle.as_graph.specs.Prelude.{HasNoProviderCycle, LinksAreSound, relation};
 ghost use Rattle.origin_validation.specs.Prelude.{less};
 ghost use Rattle.path_pool.specs.Pool.{live_count};
+ghost use Rattle.policy_kinds.specs.Prelude.{kind_policy};
+ghost use Rattle.stability_laws.specs.Laws.{OneFamily, PathsGoOn, RightByOffers, RightFollows};
+ghost use Rattle.stability_laws.specs.OfferPaths.{OfferPath};
 ghost use Rattle.leak_round.specs.Prelude.{HasChanges, plan_edited, is_open, kept as kept_rounds, plan_of, pool_of, round_count, touches};
 ghost use Rattle.sim_core.specs.Editing.{IsChanged, IsQuickChange, IsSmall, IsUnchanged, ground_less};
 ghost use Rattle.sim_core.specs.Ground.{AreSeenAlike, BelongTo, DiffersAround, Ground as AGround, IsSeedChange, ground_in};
@@ -31,6 +35,25 @@ use stability_laws::{
 };
 use std::alloc::Global;
 use std::sync::ledger::Ledger;
+
+// What holds of links, ranks and routings, by which an edit is planned.
+fn change_laws()
+    ensures sound { LinksAreSound }
+    ensures fit { RanksFit }
+    ensures follows { RightFollows kind_policy }
+    ensures by_offers { RightByOffers kind_policy }
+    ensures offer { OfferPath kind_policy }
+    ensures one { OneFamily kind_policy }
+    ensures go_on { PathsGoOn kind_policy }
+{
+    links_are_sound();
+    ranks_fit();
+    right_follows::<Kind>();
+    right_by_offers::<Kind>();
+    offer_path::<Kind>();
+    one_family::<Kind>();
+    paths_go_on::<Kind>();
+}
 
 /// Takes ranks, rounds and watches to an edited world, and to an edit of announcements, if there is one. It
 /// says how many entries differ.
@@ -66,13 +89,7 @@ pub fn change<L: Ledger>(
     ensures err { OnErr result
         (AreSeenAlike ranks.old ranks.new rounds.old rounds.new watches.old.items watches.new.items) }
 {
-    links_are_sound();
-    ranks_fit();
-    right_follows::<Kind>();
-    right_by_offers::<Kind>();
-    offer_path::<Kind>();
-    one_family::<Kind>();
-    paths_go_on::<Kind>();
+    change_laws();
     plans_are_sound(rounds.seed_plan());
     make_room(world.graph, watches)?;
     let rank_plan = ranks.plan(alloc, world.graph, difference.ends)?;
@@ -113,6 +130,7 @@ impl Parts {
     pub(crate) fn is_small(&self)
         ensures { IsSmall self.now.graph self.now.vrps }
     {
+        // These three are called for their clauses that say so.
         let _links = self.graph.link_count();
         let _ases = self.graph.as_count();
         let _vrps = self.vrps.len();

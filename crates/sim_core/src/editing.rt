@@ -34,6 +34,7 @@ impl Parts {
         if self.rounds.pool().live() <= MOST_CELLS {
             return Ok(());
         }
+        // `as_count` is called for its clause that no graph has more than 150,000 ASes.
         let _count = self.graph.as_count();
         self.rounds.tidy(alloc, self.graph.rows())
     }

@@ -2,7 +2,7 @@
 ghost use Rattle.std.specs.Prelude.{◌≡◌, ◌≤◌, ℕ, false, None, IfOk, IfErr, OnOk};
 ghost use Rattle.std.specs.FinMap as fin;
 ghost use Rattle.std.specs.FinSet as set;
-ghost use Rattle.as_graph.specs.Prelude.{as_count, has};
+ghost use Rattle.as_graph.specs.Prelude.{IsRank, as_count, has, relation};
 ghost use Rattle.leak_round.specs.Prelude.{IsWithinLimits, HaveAtMost};
 ghost use Rattle.rank_order.specs.Prelude.{rank_at};
 ghost use Rattle.scenario_text.specs.declared.acts.Query.TheVariants as query;
@@ -50,6 +50,24 @@ impl Base {
         Ok(base)
     }
 
+    /// The world, made and refused as `Base::load` says, with the rank of each AS (Gao and Rexford 2001).
+    pub fn load_ranked(
+        alloc: Global,
+        links: Links,
+        vrps: Vrps,
+        scenario: Scenario,
+    ) -> Result<(Base, Ranks), LoadError>
+        ensures world { IfOk result (λ r. base_world r.0 ≡ world_of links vrps scenario) }
+        ensures no_cycle { IfOk result (λ r. HasCycle (base_world r.0) → ⊥) }
+        ensures few { IfOk result (λ r. as_count (topology (base_world r.0)) ≤ MOST_ASES) }
+        ensures ranks { IfOk result (λ r. (a : ℕ) →
+            IsRank (relation (topology (base_world r.0))) a (rank_at r.1 a)) }
+        ensures refused { IfErr result (IsLoadRefusal (world_of links vrps scenario)) }
+    {
+        let (base, ranks) = load_base(alloc, &links, vrps, &scenario)?;
+        Ok((base, ranks))
+    }
+
     /// The ASes with their links.
     pub fn graph(&self) -> &Graph
         ensures { IsGraphOf (base_world self.now) result.now }
@@ -91,10 +109,7 @@ impl Base {
     pub fn is_watched(&self, addr: Addr) -> bool
         ensures { result ≡ set.contains (base_world self.now).watched addr }
     {
-        match place_of_addr(self.watched.as_slice(), addr) {
-            Some(_) => true,
-            None => false,
-        }
+        place_of_addr(self.watched.as_slice(), addr).is_some()
     }
 }
 
@@ -159,6 +174,7 @@ impl Sim {
         ensures known { OnOk result (refusal_of (world_seen self.now) (query.Routes round prefix) ≡ None) }
         ensures refused { IfErr result (IsQueryRefusal (world_seen self.now) (query.Routes round prefix)) }
     {
+        // `table_of` is called for its refusals.
         let _table = self.table_of(round, prefix)?;
         paths_go_on::<Kind>();
         plans_are_sound(self.parts.rounds.seed_plan());

@@ -15,8 +15,8 @@ ghost use Rattle.as_graph.specs.declared.build.TheConstants.{MOST_ASES};
 
 use crate::naming::world_graph;
 use crate::parts::Parts;
-use crate::planning::{policies, seed_plan};
 use crate::readers::readers_of;
+use crate::seeding::{policies, seed_plan};
 use crate::validating::known_states;
 use crate::watching::{watch_rounds, watched_addrs};
 use crate::{Base, LoadError};
@@ -86,15 +86,9 @@ fn graph_and_ranks(
 }
 
 // The world of a graph, payloads and a scenario.
-fn base_of(
-    alloc: Global,
-    graph: Graph,
-    vrps: Vrps,
-    _links: &Links,
-    scenario: &Scenario,
-) -> Result<Base, NoMemory>
-    requires { graph ≡ marked (unmarked _links.now) (names_in scenario.now) }
-    ensures world { IfOk result (λ base. base_world base ≡ world_of _links.now vrps scenario.now) }
+fn base_of(alloc: Global, graph: Graph, vrps: Vrps, scenario: &Scenario) -> Result<Base, NoMemory>
+    requires { graph ≡ marked (unmarked graph.links) (names_in scenario.now) }
+    ensures world { IfOk result (λ base. base_world base ≡ world_of graph.links vrps scenario.now) }
     ensures graph { IfOk result (λ base. base.graph ≡ graph) }
 {
     let book = policies(alloc, scenario, &graph)?;
@@ -125,7 +119,7 @@ pub fn load_base(
     ensures refused { IfErr result (IsLoadRefusal (world_of links.now vrps scenario.now)) }
 {
     let (graph, ranks) = graph_and_ranks(alloc, links, scenario)?;
-    let base = base_of(alloc, graph, vrps, links, scenario)?;
+    let base = base_of(alloc, graph, vrps, scenario)?;
     Ok((base, ranks))
 }
 

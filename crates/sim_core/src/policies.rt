@@ -5,6 +5,7 @@ ghost use Rattle.net_names.specs.Prelude.{occurs, PrefixValue};
 ghost use Rattle.net_names.specs.declared.routes.Rel.{Rel as ARel};
 ghost use Rattle.leak_round.specs.Prelude.{plan_of, touches};
 ghost use Rattle.policy_kinds.specs.Prelude.{kind_policy};
+ghost use Rattle.policy_kinds.specs.declared.kind.Kind.{Kind as AKind};
 ghost use Rattle.scenario_text.specs.declared.acts.Edit.TheVariants.{Policy};
 ghost use Rattle.sim_core.specs.Editing.{HasRoomToGive, IsEditable, IsEditedQuickly, IsGiven, IsRoomed, IsUndone};
 ghost use Rattle.sim_core.specs.Edits.{refusal_of_edit};
@@ -88,9 +89,8 @@ impl Parts {
     }
 
     // Gives an AS the plain policy again.
-    fn give_plain(&mut self, asn: Asn, _kind: Kind)
-        requires { is_other_policy (asn, _kind) ≡ false }
-        ensures { IsGiven self.old self.new asn _kind }
+    fn give_plain(&mut self, asn: Asn)
+        ensures { (kind : AKind) → is_other_policy (asn, kind) ≡ false → IsGiven self.old self.new asn kind }
     {
         ases_are_kept();
         let named = self.rounds.seed_plan().names(asn);
@@ -108,7 +108,7 @@ impl Parts {
         if is_other(kind) {
             self.give_other(asn, kind)
         } else {
-            self.give_plain(asn, kind);
+            self.give_plain(asn);
             Ok(())
         }
     }

@@ -37,6 +37,7 @@ pub fn touched_ases(alloc: Global, plan: &SeedPlan, ases: &[Asn]) -> Result<Touc
     ensures only { IfOk result (λ t. (prefix : PrefixValue) (a : ℕ) → touches t prefix a ≡ true →
         occurs a ases.now ≡ true) }
 {
+    // `prefix_at` is called for its clause that the list has all prefixes of the plan.
     let _first = plan.prefix_at(0);
     let mut touched = Touched::new(alloc);
     for prefix in plan.prefixes() {
@@ -95,6 +96,7 @@ fn differs_at(vrps: &Vrps, vrp: Vrp, plan: &SeedPlan, prefix: Prefix) -> bool
     ensures { result ≡ false → (origin : ℕ) → IsOrigin plan.now prefix origin →
         state_of (taken vrps.now vrp) prefix origin ≡ state_of vrps.now prefix origin }
 {
+    // `announcer_at` is called for its clause that the list has all announcers of the plan.
     let _first = plan.announcer_at(0);
     for asn in plan.announcers() {
         if differs(vrps, vrp, prefix, origin_of(plan, prefix, *asn)) {
@@ -145,6 +147,7 @@ pub fn touched_readers(
     ensures only { IfOk result (λ t. (prefix : PrefixValue) (a : ℕ) → touches t prefix a ≡ true →
         (covers_it vrp.prefix prefix ≡ true) × ((kind_policy (policy_at book.now a)).reads_state ≡ true)) }
 {
+    // `prefix_at` is called for its clause that the list has all prefixes of the plan.
     let _first = plan.prefix_at(0);
     let mut touched = Touched::new(alloc);
     for prefix in plan.prefixes() {

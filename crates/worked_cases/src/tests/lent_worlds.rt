@@ -1,7 +1,8 @@
 //! What worlds lend, with what is kept of them and without.
 use super::worlds::{number, prefix};
 use caida_reader::read_links;
-use net_names::{Asn, State};
+use data_trace::{End, Which};
+use net_names::{Addr, Asn, State, read_addr};
 use origin_validation::state;
 use policy_kinds::Kind;
 use roa_table::{Vrps, read};
@@ -85,6 +86,23 @@ fn expect_refusals(rt: &impl Abort, alloc: Global, sim: &Sim) {
     assert!(rt; sim.seeds(alloc, 2, other).err() == unknown);
 }
 
+fn address(rt: &impl Abort, text: &[u8]) -> Addr {
+    read_addr(text).expect(rt, "an address")
+}
+
+// The packets of all four ASes are delivered in both rounds; there is no round 3, and no other address is watched.
+fn expect_watched(rt: &impl Abort, sim: &Sim) {
+    let (watched, other) = (address(rt, b"10.0.0.1"), address(rt, b"10.0.0.2"));
+    let five = number(rt, 5);
+    for round in 1..3 {
+        let watch = sim.watched(round, watched).expect(rt, "a watch");
+        assert!(rt; watch.ases(Which::All) == 4);
+        assert!(rt; watch.count(Which::All, End::At(five)) == 4);
+    }
+    assert!(rt; sim.watched(3, watched).is_none() && sim.watched(0, watched).is_none());
+    assert!(rt; sim.watched(1, other).is_none());
+}
+
 // The state of the prefix with AS 5, by these payloads.
 fn state_in(rt: &impl Abort, vrps: &Vrps) -> State {
     state(vrps, prefix(rt, b"10.0.0.0/8"), number(rt, 5))
@@ -105,6 +123,7 @@ fn a_simulation_lends_its_world_and_the_seeds_of_its_rounds(rt: HostRuntime) {
     expect_lent(&rt, &sim);
     expect_seeds(&rt, rt.alloc(), &sim);
     expect_refusals(&rt, rt.alloc(), &sim);
+    expect_watched(&rt, &sim);
 }
 
 fn expect_base(rt: &impl Abort, base: &Base) {

@@ -23,12 +23,12 @@ returns-in_err-make_room-clause-addrs g c = seen_addrs c.args.watches.now.items 
 pub plan-requires-clause-fits : goal.plan-requires-clause-fits
 plan-requires-clause-fits g c =
     let (old, belong, differs) = c.requires.from in
-    still_fits old (ground_in c.args.world.now) c.args.ranks.now c.args.rounds.now c.args.watches.now.items c.args.difference.now.ends.now (touches c.args.difference.now.touched.now) belong differs c.ranks_fit.ensures
+    still_fits old (ground_in c.args.world.now) c.args.ranks.now c.args.rounds.now c.args.watches.now.items c.args.difference.now.ends.now (touches c.args.difference.now.touched.now) belong differs c.change_laws.ensures.fit
 
 pub plan-requires-clause-only : goal.plan-requires-clause-only
 plan-requires-clause-only g c =
     let (old, belong, differs) = c.requires.from in
-    no_rank old (ground_in c.args.world.now) c.args.ranks.now c.args.rounds.now c.args.watches.now.items c.args.difference.now.ends.now (touches c.args.difference.now.touched.now) belong differs c.ranks_fit.ensures c.links_are_sound.ensures
+    no_rank old (ground_in c.args.world.now) c.args.ranks.now c.args.rounds.now c.args.watches.now.items c.args.difference.now.ends.now (touches c.args.difference.now.touched.now) belong differs c.change_laws.ensures.fit c.change_laws.ensures.sound
 
 pub returns-in_err-rank_plan-clause-addrs : goal.returns-in_err-rank_plan-clause-addrs
 returns-in_err-rank_plan-clause-addrs g c = seen_addrs c.args.watches.now.items c.make_room.new.all.items c.make_room.ensures.seen
@@ -46,7 +46,7 @@ plan-requires-2 g c =
       can_edit = λ e is. record { known = seeds.known e is; within = seeds.within e is; limits = seeds.limits e is };
       announcers = seeds.announcers;
       entries = no_entry old (ground_in c.args.world.now) c.args.ranks.now c.args.rounds.now c.args.watches.now.items c.args.difference.now.ends.now (touches c.args.difference.now.touched.now) belong differs;
-      right = still_right old (ground_in c.args.world.now) c.args.ranks.now c.args.rounds.now c.args.watches.now.items c.args.difference.now.ends.now (touches c.args.difference.now.touched.now) belong differs c.right_follows.ensures c.right_by_offers.ensures c.offer_path.ensures c.paths_go_on.ensures (subst IsSound c.seed_plan.ensures c.plans_are_sound.ensures);
+      right = still_right old (ground_in c.args.world.now) c.args.ranks.now c.args.rounds.now c.args.watches.now.items c.args.difference.now.ends.now (touches c.args.difference.now.touched.now) belong differs c.change_laws.ensures.follows c.change_laws.ensures.by_offers c.change_laws.ensures.offer c.change_laws.ensures.go_on (subst IsSound c.seed_plan.ensures c.plans_are_sound.ensures);
     }
 
 pub returns-in_err-plan-clause-addrs : goal.returns-in_err-plan-clause-addrs
@@ -58,7 +58,7 @@ renew-requires-clause-inside g c =
     let rounds = c.commit-done.new.self in
     let stable = rounds_as new (plan_after c.plan-2.new.self c.in_ok-plan.plan) (plan_of rounds) (round_count c.plan-2.new.self) (round_count rounds) (kept_with c.plan-2.new.self c.in_ok-plan.plan) (kept rounds) c.commit-done.ensures.plan c.commit-done.ensures.rounds c.commit-done.ensures.kept c.in_ok-plan.ensures.planned.stable in
     let sound : IsSound (plan_of rounds) = subst IsSound c.seed_plan-2.ensures c.plans_are_sound-2.ensures in
-    goes_on_inside c.paths_go_on.ensures c.args.world.now.graph.now c.args.world.now.book.now c.args.world.now.states.now (plan_of rounds) (round_count rounds) (kept rounds) sound stable
+    goes_on_inside c.change_laws.ensures.go_on c.args.world.now.graph.now c.args.world.now.book.now c.args.world.now.states.now (plan_of rounds) (round_count rounds) (kept rounds) sound stable
 
 pub renew-requires-clause-follow : goal.renew-requires-clause-follow
 renew-requires-clause-follow g c =
@@ -88,7 +88,7 @@ returns-clause-belong g c =
     record {
       no_cycle = c.requires.no_cycle;
       ranks_are = λ a. subst (IsRank (relation c.args.world.now.graph.now) a) (sym (ap (λ o. unwrap_or o 0) (c.commit.ensures a))) (c.in_ok-rank_plan.ensures.ranks a);
-      rounds_are = only_rounds c.one_family.ensures new rounds c.requires.no_cycle stable;
+      rounds_are = only_rounds c.change_laws.ensures.one new rounds c.requires.no_cycle stable;
       watching = c.renew.ensures.rows;
     }
 

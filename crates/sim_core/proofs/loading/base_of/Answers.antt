@@ -8,7 +8,7 @@ use Rattle.sim_core.proofs.loading.base_of.Goals as goal
 
 pub invariant_of-result : goal.invariant_of-result
 invariant_of-result c = record {
-  named = marks_are c.args._links.now c.args.vrps c.args.scenario.now c.args.graph c.in_ok-book.book c.in_ok-plan.plan _ c.requires c.in_ok-book.ensures.named c.in_ok-plan.ensures (ap (λ n. n + 1) c.leak_lists.ensures.value) c.in_ok-watched.watched.items c.in_ok-watched.ensures.value;
+  named = marks_are c.args.graph.links c.args.vrps c.args.scenario.now c.args.graph c.in_ok-book.book c.in_ok-plan.plan _ c.requires c.in_ok-book.ensures.named c.in_ok-plan.ensures (ap (λ n. n + 1) c.leak_lists.ensures.value) c.in_ok-watched.watched.items c.in_ok-watched.ensures.value;
   plain = c.in_ok-book.ensures.rest;
   other = kinds_are_other c.args.scenario.now.policies c.in_ok-book.book.named c.in_ok-book.ensures.named;
   small = subst IsWithinLimits (sym c.in_ok-plan.ensures) (within c.args.scenario.now c.leak_lists.ensures.scenario);
@@ -18,4 +18,4 @@ invariant_of-result c = record {
 
 pub returns-clause-world : goal.returns-clause-world
 returns-clause-world c =
-    world_is c.args._links.now c.args.vrps c.args.scenario.now c.args.graph c.in_ok-book.book c.in_ok-plan.plan _ c.requires c.in_ok-book.ensures.named c.in_ok-plan.ensures (ap (λ n. n + 1) c.leak_lists.ensures.value) c.in_ok-watched.watched.items c.in_ok-watched.ensures.value
+    world_is c.args.graph.links c.args.vrps c.args.scenario.now c.args.graph c.in_ok-book.book c.in_ok-plan.plan _ c.requires c.in_ok-book.ensures.named c.in_ok-plan.ensures (ap (λ n. n + 1) c.leak_lists.ensures.value) c.in_ok-watched.watched.items c.in_ok-watched.ensures.value

@@ -2,7 +2,7 @@ use Rattle.sim_core.proofs.Plans.{announced_more, announced_new, planned}
 use Rattle.std.proofs.Common.{◌≡◌, ◌∙◌, ap, subst, sym, length, get_or, ◌<◌, ◌+◌}
 use Rattle.scenario_text.specs.declared.scenario.Announcement.{Announcement}
 use Rattle.std.proofs.Common.{List, take, []}
-use Rattle.sim_core.proofs.planning.announce_all.Goals as goal
+use Rattle.sim_core.proofs.seeding.announce_all.Goals as goal
 
 pub announce-requires-clause-new : goal.announce-requires-clause-new
 announce-requires-clause-new c =

@@ -1,6 +1,6 @@
 use Rattle.std.proofs.Common.{◌≡◌, ◌∙◌, ◌+◌, ◌<◌, ◌++◌, ap, subst, sym, length, get_or, take, [], List, ℕ, arith}
 use Rattle.sim_core.proofs.Plans.{leaks_from, leaks_in, leaks_more, planned}
-use Rattle.sim_core.proofs.planning.seed_plan.Goals as goal
+use Rattle.sim_core.proofs.seeding.seed_plan.Goals as goal
 
 pub loop-leakers-preserved : goal.loop-leakers-preserved
 loop-leakers-preserved c =

@@ -2,7 +2,7 @@ use Rattle.std.proofs.Common.{◌∙◌, ◌++◌, ◌∷◌, ◌+◌, ◌<◌, 
 use Rattle.std.proofs.lemmas.List.{take_more}
 use Rattle.policy_kinds.specs.declared.kind.Kind.{Kind}
 use Rattle.sim_core.proofs.Plans.{kinds_of, policy_new}
-use Rattle.sim_core.proofs.planning.policies.Goals as goal
+use Rattle.sim_core.proofs.seeding.policies.Goals as goal
 
 pub loop-policy-preserved : goal.loop-policy-preserved
 loop-policy-preserved c =

@@ -8,7 +8,7 @@ ghost use Rattle.sim_core.specs.Loaded.{is_other as is_other_policy, plan_of};
 
 use crate::naming::is_other;
 use as_graph::Graph;
-use net_names::{Asn, NoMemory, Path};
+use net_names::{Asn, NoMemory};
 use policy_kinds::Kind;
 use scenario_text::{Announcement, Scenario};
 use stability_laws::{Book, SeedPlan};
@@ -17,21 +17,13 @@ use std::alloc::Global;
 // So many ASes with a policy of their own, at most, are looked at one after the other.
 const FEW: usize = 4;
 
-/// The same path once more.
-pub fn copy_of(alloc: Global, path: &Path) -> Result<Path, NoMemory>
-    ensures { IfOk result (λ p. p ≡ path.now) }
-{
-    let numbers = Vec::from_slice(alloc, path.as_slice())?;
-    Ok(Path::from_vec(numbers))
-}
-
 // Makes the ASes announce.
 fn announce_all(alloc: Global, plan: &mut SeedPlan, scenario: &Scenario) -> Result<(), NoMemory>
     requires { plan.old ≡ empty_plan }
     ensures { OnOk result (plan.new ≡ plan_of (record scenario.now { leaks = [] })) }
 {
     for announcement in scenario.announcements() {
-        let path = copy_of(alloc, &announcement.path)?;
+        let path = announcement.path.copied(alloc)?;
         plan.announce(announcement.prefix, path)?;
     }
     Ok(())

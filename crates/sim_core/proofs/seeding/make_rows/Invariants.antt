@@ -1,5 +1,5 @@
 use Rattle.std.proofs.Common.{◌≡◌}
-use Rattle.sim_core.proofs.planning.make_rows.Given as goal
+use Rattle.sim_core.proofs.seeding.make_rows.Given as goal
 
 abbrev pub invariant-loop-asn : goal.invariant-loop-asn
 invariant-loop-asn l = record {

@@ -1,6 +1,6 @@
 use Rattle.std.proofs.Common.{◌≡◌, ◌+◌, take}
 use Rattle.sim_core.proofs.Plans.{leaks_from, planned}
-use Rattle.sim_core.proofs.planning.seed_plan.Given as goal
+use Rattle.sim_core.proofs.seeding.seed_plan.Given as goal
 
 abbrev pub invariant-loop-leakers : goal.invariant-loop-leakers
 invariant-loop-leakers l = record {

@@ -4,7 +4,7 @@ use Rattle.stability_laws.specs.Book.{PolicyBook}
 use Rattle.policy_kinds.specs.declared.kind.Kind.{Kind}
 use Rattle.std.specs.FinMap as fin
 use Rattle.sim_core.proofs.Plans.{named_too, unnamed, has_room}
-use Rattle.sim_core.proofs.planning.name_policy.Goals as goal
+use Rattle.sim_core.proofs.seeding.name_policy.Goals as goal
 
 pub set-requires : goal.set-requires
 set-requires c = subst (λ (b : PolicyBook Kind). IsTrue (set.contains b.room c.args.policy.0)) (sym c.in_ok-room.ensures.ok) (has_room c.args.book.now.room c.args.policy.0)
