@@ -2,8 +2,8 @@
 ghost use Rattle.std.specs.Prelude.{◌≡◌, ◌≤◌, All, IfErr, IfOk};
 ghost use Rattle.as_graph.specs.Prelude.{as_count};
 ghost use Rattle.as_graph.specs.declared.build.TheConstants.{MOST_ASES};
-ghost use Rattle.sim_core.specs.Prelude.{IsGraphOf, world_of, IsLoadRefusal, HasCycle, topology, base_world};
-ghost use Rattle.asprop_run.specs.Loaded.{AreRanks, Serves, loaded_world};
+ghost use Rattle.sim_core.specs.Prelude.{IsGraphOf, world_of, IsLoadRefusal, HasCycle, topology};
+ghost use Rattle.asprop_run.specs.Loaded.{Serves, loaded_world};
 
 use as_graph::Graph;
 use net_names::Links;
@@ -26,27 +26,6 @@ pub enum Loaded {
     Ranked(Base, Ranks),
 }
 
-// The world of these links, these payloads and this scenario, with its ranks.
-fn load_ranked(
-    alloc: Global,
-    links: Links,
-    vrps: Vrps,
-    scenario: Scenario,
-) -> Result<(Base, Ranks), LoadError>
-    ensures world { IfOk result (λ r. base_world r.0 ≡ world_of links vrps scenario) }
-    ensures no_cycle { IfOk result (λ r. HasCycle (base_world r.0) → ⊥) }
-    ensures few { IfOk result (λ r. as_count (topology (base_world r.0)) ≤ MOST_ASES) }
-    ensures ranks { IfOk result (λ r. AreRanks (base_world r.0) r.1) }
-    ensures refused { IfErr result (IsLoadRefusal (world_of links vrps scenario)) }
-{
-    let base = Base::load(alloc, links, vrps, scenario)?;
-    match Ranks::build(alloc, base.graph()) {
-        Ok(ranks) => Ok((base, ranks)),
-        // The world has no provider cycle.
-        Err(_) => Err(LoadError::Memory),
-    }
-}
-
 impl Loaded {
     /// The world of these links, these payloads and this scenario, with what is kept of it where the jobs need that. It is
     /// refused as `Sim::load` says.
@@ -67,7 +46,7 @@ impl Loaded {
             Needs::Kept => Ok(Loaded::Whole(Sim::load(alloc, links, vrps, scenario)?)),
             Needs::World => Ok(Loaded::Bare(Base::load(alloc, links, vrps, scenario)?)),
             Needs::Ranks => {
-                let (base, ranks) = load_ranked(alloc, links, vrps, scenario)?;
+                let (base, ranks) = Base::load_ranked(alloc, links, vrps, scenario)?;
                 Ok(Loaded::Ranked(base, ranks))
             }
         }

@@ -19,8 +19,8 @@ use Rattle.topo_gen.specs.Scenarios.{drawn_payloads, drawn_scenario}
 use Rattle.topo_gen.specs.Lines.{drawn_lines}
 use Rattle.activations.specs.Files.{acts_by}
 use Rattle.message_sim.specs.Files.{deliveries_by}
-use Rattle.net_names.specs.Lines.{kept_from, said_on}
-use Rattle.sweep.specs.Reading.{with_line}
+use Rattle.net_names.specs.Lines.{kept_from}
+use Rattle.sweep.specs.Reading.{sweeps_by}
 use Rattle.table_check.specs.Reading.{tables_by}
 use Rattle.task_reading.specs.Jobs.{Job, acts_job, counts_job, line_job, messages_job, sweep_job, tables_job}
 use Rattle.task_reading.specs.Words.{Form, file_form, origin_form, demo_form}
@@ -48,7 +48,7 @@ abbrev pub jobs_in : FileOption → Text → Result (List Job) Cause
 jobs_in Script text = result_map_both (map (line_job true)) cause.Script (script_of text)
 jobs_in Activations text = result_map_both (λ a. acts_job a ∷ []) Acts (acts_by (kept_from 1 text))
 jobs_in Messages text = result_map_both (λ d. messages_job d ∷ []) Deliveries (deliveries_by (kept_from 1 text))
-jobs_in Sweep t = result_map_both (map sweep_job) Sweeps (said_on with_line [] (kept_from 1 t))
+jobs_in Sweep text = result_map_both (map sweep_job) Sweeps (sweeps_by (kept_from 1 text))
 jobs_in Check text = result_map_both (λ t. tables_job t ∷ []) Tables (tables_by (kept_from 1 text))
 
 -- how many bytes an option's file may have (own format)

@@ -17,7 +17,7 @@ use Rattle.as_graph.proofs.RowAses.{same_test}
 use Rattle.stability_laws.specs.Plans.{IsSound, ListsRising, Plan, announced_path, announcement_cmp, announcer_of, announcers_of, announces, empty_plan, has_prefix, leakers_of, leaks_in, prefixes_of, with_announcement, with_leaker}
 use Rattle.stability_laws.proofs.KeyLists.{eq_is, eq_same}
 use Rattle.stability_laws.proofs.Leaking.{occurs_more}
-use Rattle.stability_laws.proofs.Listing.{at_next, occurs_at, place_le, take_next}
+use Rattle.stability_laws.proofs.Listing.{at_next, occurs_at, take_next}
 use Rattle.stability_laws.proofs.PlanListings.{announcers_listed}
 use Rattle.leak_round.specs.Limits.{IsWithinLimits}
 use Rattle.trial_world.specs.Fixed.{IsPart}
@@ -161,10 +161,6 @@ all_held addr whole part end sound are past each p a held = by (has_prefix whole
     by false e = both_none addr whole part are p a (unknown whole sound p a e)
 
 -- ---- leakers
-
--- the numbers of the leakers of a round rise, so that none is below its place
-pub leaker_place : (plan : Plan) (round place a : ℕ) → ListsRising nat_cmp (λ x. IsTrue (leaks_in plan round x)) (leakers_of plan round) → Some a ≡ slice_get (leakers_of plan round) place → (place ≤ a) × (place < length (leakers_of plan round))
-leaker_place plan round place a rising at = (place_le (λ x. IsTrue (leaks_in plan round x)) (leakers_of plan round) rising place a (sym at), slice_get_within (leakers_of plan round) place a (sym at))
 
 pub pair_is : (r a s x : ℕ) → eq_by_cmp pair_cmp (r, a) (s, x) ≡ ((r == s) && (x == a))
 pair_is r a s x = same_test (eq_by_cmp pair_cmp (r, a) (s, x)) ((r == s) && (x == a)) to back

@@ -42,7 +42,7 @@ use Rattle.trial_world.specs.Fixed.{IsFixed, label_in, world_of}
 use Rattle.trial_world.specs.Tables.{AreLineRounds, AreLineRows, AreTablesIn, AreTouched, HadKinds, IsTouchedAround, StayTables}
 use Rattle.trial_world.specs.Trials.{IsWatchIn}
 use Rattle.trial_world.specs.declared.fixed.Fixed.{Fixed}
-use Rattle.trial_world.specs.declared.tables.Tables.{Tables}
+use Rattle.trial_world.specs.declared.tables.LineTables.{LineTables}
 use Rattle.trial_world.proofs.PartPlans.{announces_whole}
 use Rattle.trial_world.proofs.Watched.{no_table}
 
@@ -57,7 +57,7 @@ nothing_held rounds round p away a = by (tables_in rounds.tables.items round) re
     by (Some t) e = no_table rounds.pool t p ((rounds.full round t e).there p ∙ away) a
 
 -- the watch of the tables is that of the line in the world of the book
-pub watch_in : (f : Fixed) → IsFixed f → (book : PolicyBook Kind) (t : Tables) → AreTablesIn f book t → IsWatchIn f.graph.now (world_of f).payloads book (world_of f).plan f.plan f.round f.addr t.watch
+pub watch_in : (f : Fixed) → IsFixed f → (book : PolicyBook Kind) (t : LineTables) → AreTablesIn f book t → IsWatchIn f.graph.now (world_of f).payloads book (world_of f).plan f.plan f.round f.addr t.watch
 watch_in f is book t are = record {
   held = kept t.rounds;
   stable = subst (λ (v : Payloads). AreRounds (λ p. setting kind_policy f.graph.now book (state_of v p)) f.plan f.round (kept t.rounds)) is.payloads are.stable;
@@ -69,7 +69,7 @@ watch_in f is book t are = record {
 -- ---- tables that stay
 
 -- a book that gives each AS the same policy has the same tables
-pub other_book : (f : Fixed) (old new : PolicyBook Kind) (t : Tables) → ((a : ℕ) → policy_at new a ≡ policy_at old a) → AreTablesIn f old t → AreTablesIn f new t
+pub other_book : (f : Fixed) (old new : PolicyBook Kind) (t : LineTables) → ((a : ℕ) → policy_at new a ≡ policy_at old a) → AreTablesIn f old t → AreTablesIn f new t
 other_book f old new t same are = record {
   line = are.line;
   stable = subst (λ (k : ℕ → Kind). AreRounds (λ p. record { has = has f.graph.now; relation = relation f.graph.now; policy = λ a. kind_policy (k a); state = state_of f.states.payloads p }) f.plan f.round (kept t.rounds)) (λ i a. sym (same a) i) are.stable;
@@ -78,7 +78,7 @@ other_book f old new t same are = record {
 }
 
 -- tables of which the same is seen
-pub stay : (f : Fixed) (old : Tables) (rounds : Rounds) (watch : Watch) → (is_open old.rounds ≡ false → is_open rounds ≡ false) → plan_of rounds ≡ plan_of old.rounds → round_count rounds ≡ round_count old.rounds → ((r : ℕ) (p : PrefixValue) (a : ℕ) → kept rounds r p a ≡ kept old.rounds r p a)
+pub stay : (f : Fixed) (old : LineTables) (rounds : Rounds) (watch : Watch) → (is_open old.rounds ≡ false → is_open rounds ≡ false) → plan_of rounds ≡ plan_of old.rounds → round_count rounds ≡ round_count old.rounds → ((r : ℕ) (p : PrefixValue) (a : ℕ) → kept rounds r p a ≡ kept old.rounds r p a)
     → rows_of watch ≡ rows_of old.watch → addr_of watch ≡ addr_of old.watch → StayTables f old (record { rounds = rounds; watch = watch })
 stay f old rounds watch closed plan count same rows addr = λ book are. record {
   line = record { closed = closed are.line.closed; plan_is = plan ∙ are.line.plan_is; count_is = count ∙ are.line.count_is };
@@ -112,11 +112,11 @@ announcer_in f is p a h =
     ∙ announcer_there (topology (world_of f)) (world_of f).plan (world_of f).kinds refl p a (announces_whole f.addr (world_of f).plan f.plan is.plan.is_part p a h)
 
 -- who is no AS of the graph holds nothing
-pub nothing_outside : (f : Fixed) (book : PolicyBook Kind) (t : Tables) → AreTablesIn f book t → (round : ℕ) (p : PrefixValue) (b : ℕ) → 1 ≤ round → round ≤ round_count t.rounds → IsTrue (has_prefix (plan_of t.rounds) p) → has f.graph.now b ≡ false → kept t.rounds round p b ≡ None
+pub nothing_outside : (f : Fixed) (book : PolicyBook Kind) (t : LineTables) → AreTablesIn f book t → (round : ℕ) (p : PrefixValue) (b : ℕ) → 1 ≤ round → round ≤ round_count t.rounds → IsTrue (has_prefix (plan_of t.rounds) p) → has f.graph.now b ≡ false → kept t.rounds round p b ≡ None
 nothing_outside f book t are zero p b low high known none = absurd (omega (arith, low))
 nothing_outside f book t are (suc before) p b low high known none = (are.stable before p (omega (arith, high, are.line.count_is)) (ap (λ (x : Plan). has_prefix x p) (sym are.line.plan_is) ∙ known)).only_ases b none
 
-module _ (sound : LinksAreSound) (f : Fixed) (old new : PolicyBook Kind) (before : List (ℕ × Kind)) (had : HadKinds old new before) (t : Tables) (are : AreTablesIn f old t) (touched : Touched) (all : AreTouched f.graph.now f.plan new before touched) where
+module _ (sound : LinksAreSound) (f : Fixed) (old new : PolicyBook Kind) (before : List (ℕ × Kind)) (had : HadKinds old new before) (t : LineTables) (are : AreTablesIn f old t) (touched : Touched) (all : AreTouched f.graph.now f.plan new before touched) where
   -- who is not touched has the policy that it had
   same_kind : (p : PrefixValue) (b : ℕ) → IsTrue (has_prefix f.plan p) → touches touched p b ≡ false → policy_at new b ≡ policy_at old b
   same_kind p b known free = by (occurs b (map (λ (c : ℕ × Kind). c.0) before)) refl

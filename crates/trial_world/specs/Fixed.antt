@@ -13,6 +13,7 @@ use Rattle.rank_order.specs.Plans.{IsLastPlan, rank_after}
 use Rattle.three_pass.specs.Courses.{IsCourse}
 use Rattle.stability_laws.specs.Plans.{Plan, announced_path, announcers_of, announces, has_prefix, leaks_in}
 use Rattle.leak_round.specs.Limits.{IsWithinLimits}
+use Rattle.leak_round.specs.declared.limits.TheConstants.{MOST_ROUNDS}
 use Rattle.data_trace.specs.Indexes.{IsIndexOf}
 use Rattle.sim_core.specs.Bases.{base_world}
 use Rattle.sim_core.specs.Lent.{IsGraphOf}
@@ -62,11 +63,11 @@ pub record IsFixed (f : Fixed) : Type 0 where
   pub payloads : f.states.payloads ≡ (world_of f).payloads
   pub course : IsCourse f.graph.now f.course
   pub no_cycle : HasNoProviderCycle (relation f.graph.now)
-  pub last : IsLastPlan f.ranks f.rank_plan
-  pub ranks_are : (a : ℕ) → IsRank (relation f.graph.now) a (rank_after f.ranks f.rank_plan a)
+  pub last : IsLastPlan f.ranks.now f.rank_plan
+  pub ranks_are : (a : ℕ) → IsRank (relation f.graph.now) a (rank_after f.ranks.now f.rank_plan a)
   pub plan : IsPlanFor f.addr f.round (world_of f).plan f.plan
   pub small : IsWithinLimits f.plan
   pub from : 1 ≤ f.round
-  pub to : f.round ≤ 4
+  pub to : f.round ≤ MOST_ROUNDS
   pub index : IsIndexOf f.graph.now (label_in f) f.index
   pub lone : AreLone f.graph.now (world_of f).plan f.lone.items

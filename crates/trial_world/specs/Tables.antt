@@ -23,7 +23,7 @@ use Rattle.leak_round.specs.declared.touched.Touched.{Touched}
 use Rattle.trial_world.specs.Fixed.{label_in, world_of}
 use Rattle.trial_world.specs.declared.fixed.Fixed.{Fixed}
 use Rattle.trial_world.specs.declared.tables.Seen.{Seen}
-use Rattle.trial_world.specs.declared.tables.Tables.{Tables}
+use Rattle.trial_world.specs.declared.tables.LineTables.{LineTables}
 
 -- the rows are those of all ASes for the line's address, by what is held in its round
 abbrev pub AreLineRows : Fixed → (PrefixValue → ℕ → Option Entry) → List Row → Type 0
@@ -43,7 +43,7 @@ pub record IsSeen (f : Fixed) (rounds : Rounds) (seen : Seen) : Type 0 where
   pub plan : seen.plan.now ≡ (world_of f).plan
 
 -- the tables are the stable ones of the line's rounds where the ASes have the policies of the book, and the watch has the rows of the last (Gao and Rexford 2001; RFC 7908, section 3)
-pub record AreTablesIn (f : Fixed) (book : PolicyBook Kind) (t : Tables) : Type 0 where
+pub record AreTablesIn (f : Fixed) (book : PolicyBook Kind) (t : LineTables) : Type 0 where
   pub line : AreLineRounds f t.rounds
   pub stable : AreRounds (λ p. setting kind_policy f.graph.now book (state_of f.states.payloads p)) f.plan f.round (kept t.rounds)
   pub addr : addr_of t.watch ≡ f.addr
@@ -55,11 +55,11 @@ pub record HadKinds (old new : PolicyBook Kind) (before : List (ℕ × Kind)) : 
   pub others : (a : ℕ) → occurs a (map (λ c. c.0) before) ≡ false → policy_at new a ≡ policy_at old a
 
 -- the tables are those of a book in which the ASes of the list had the policies beside them, and all others those of this one
-abbrev pub AreTablesBefore : Fixed → PolicyBook Kind → List (ℕ × Kind) → Tables → Type 0
+abbrev pub AreTablesBefore : Fixed → PolicyBook Kind → List (ℕ × Kind) → LineTables → Type 0
 AreTablesBefore f book before t = (old : PolicyBook Kind) × HadKinds old book before × AreTablesIn f old t
 
 -- the new tables are those of each book of which the old ones were
-abbrev pub StayTables : Fixed → Tables → Tables → Type 0
+abbrev pub StayTables : Fixed → LineTables → LineTables → Type 0
 StayTables f old new = (book : PolicyBook Kind) → AreTablesIn f book old → AreTablesIn f book new
 
 -- an AS with the policy that it had is touched, and so are its neighbours where that of the book begins or ceases to mark (RFC 9234, section 5)

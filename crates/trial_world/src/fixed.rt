@@ -1,15 +1,14 @@
 //! What no trial of a line changes.
-ghost use Rattle.std.specs.Prelude.{◌≡◌, ℕ, true, is_some, IfOk};
-ghost use Rattle.std.specs.FinMap as fin;
-ghost use Rattle.as_graph.specs.Prelude.{HasNoProviderCycle, IsRank, has, relation};
-ghost use Rattle.rank_order.specs.Prelude.{IsLastPlan, rank_after, rank_at};
+ghost use Rattle.std.specs.Prelude.{◌≡◌, ℕ, true, IfOk};
+ghost use Rattle.as_graph.specs.Prelude.{IsRank, relation};
+ghost use Rattle.rank_order.specs.Prelude.{rank_at};
 ghost use Rattle.sim_core.specs.Prelude.{base_world, HasCycle, topology};
 ghost use Rattle.trial_world.specs.Fixed.{IsFixed};
 ghost use Rattle.trial_world.specs.Sweeps.{is_inside};
 
 use crate::lone::lone_ases;
 use crate::parts::part_for;
-use as_graph::{Graph, ranks_fit};
+use as_graph::Graph;
 use data_trace::WatchIndex;
 use net_names::{Addr, Asn, NoMemory};
 use origin_validation::KnownStates;
@@ -29,7 +28,7 @@ pub struct Fixed<'a> {
     // What propagation goes along, which no policy changes.
     pub(crate) course: Course,
     // The ranks, and what they become where no link changes, which is what an edit goes by.
-    pub(crate) ranks: Ranks,
+    pub(crate) ranks: &'a Ranks,
     pub(crate) rank_plan: RankPlan,
     pub(crate) states: KnownStates<'a>,
     // The announcements of the prefixes that hold the address, and the leaks of the rounds up to the round.
@@ -41,36 +40,11 @@ pub struct Fixed<'a> {
     pub(crate) addr: Addr,
 }
 
-// The ranks of a graph without a provider cycle.
-fn ranks_of(alloc: Global, graph: &Graph) -> Result<Ranks, NoMemory>
-    requires { HasNoProviderCycle (relation graph.now) }
-    ensures ranks { IfOk result (λ r. (a : ℕ) → IsRank (relation graph.now) a (rank_at r a)) }
-    ensures ases { IfOk result (λ r. (a : ℕ) → is_some (fin.get r.by_as a) ≡ has graph.now a) }
-{
-    match Ranks::build(alloc, graph) {
-        Ok(ranks) => Ok(ranks),
-        // There is no provider cycle, so that memory ran out.
-        Err(_) => Err(NoMemory),
-    }
-}
-
-// The ranks of a graph without a provider cycle, and what they become where no link changes.
-fn planned_ranks(alloc: Global, graph: &Graph) -> Result<(Ranks, RankPlan), NoMemory>
-    requires { HasNoProviderCycle (relation graph.now) }
-    ensures last { IfOk result (λ r. IsLastPlan r.0 r.1) }
-    ensures after { IfOk result (λ r. (a : ℕ) → IsRank (relation graph.now) a (rank_after r.0 r.1 a)) }
-{
-    ranks_fit();
-    let mut ranks = ranks_of(alloc, graph)?;
-    let plan = ranks.plan(alloc, graph, &[])?;
-    Ok((ranks, plan))
-}
-
 /// What the trials of a line begin with.
 pub fn fixed_for<'a>(
     alloc: Global,
     base: &'a Base,
-    ranks: &Ranks,
+    ranks: &'a Ranks,
     line: &Sweep,
 ) -> Result<Fixed<'a>, NoMemory>
     requires ranks { (a : ℕ) → IsRank (relation (topology (base_world base.now))) a (rank_at ranks.now a) }
@@ -83,9 +57,10 @@ pub fn fixed_for<'a>(
 {
     kept_are_stable();
     let (graph, whole) = (base.graph(), base.plan());
+    // `rounds` is called for its clause that no world has more than four.
     let _rounds = base.rounds();
     let course = Course::of(alloc, graph, ranks)?;
-    let (own_ranks, rank_plan) = planned_ranks(alloc, graph)?;
+    let rank_plan = RankPlan::none(alloc);
     let plan = part_for(alloc, whole, line.addr, line.round)?;
     let states = known_states(alloc, base.vrps(), &plan)?;
     let index = WatchIndex::of(alloc, graph, base.book())?;
@@ -95,7 +70,7 @@ pub fn fixed_for<'a>(
         base,
         graph,
         course,
-        ranks: own_ranks,
+        ranks,
         rank_plan,
         states,
         plan,

@@ -2,11 +2,11 @@
 ghost use Rattle.std.specs.Prelude.{◌≡◌, ◌≤◌, ◌&&◌, ◌||◌, ◌==◌, ℕ, true, IfOk, OnOk};
 ghost use Rattle.net_names.specs.Prelude.{holds as holds_of, AddrValue, PrefixValue};
 ghost use Rattle.leak_round.specs.Prelude.{IsWithinLimits};
+ghost use Rattle.leak_round.specs.declared.limits.TheConstants.{MOST_ROUNDS};
 ghost use Rattle.stability_laws.specs.Prelude.{announced_path, leaks_in, empty_plan};
 ghost use Rattle.trial_world.specs.Fixed.{IsGrown, IsPart, IsPlanFor};
 
 use net_names::{Addr, Asn, NoMemory, Prefix, holds};
-use sim_core::copy_of;
 use stability_laws::{SeedPlan, plans_are_sound};
 use std::alloc::Global;
 
@@ -28,7 +28,7 @@ fn announce_at(
     }
     match whole.path(prefix, asn) {
         Some(path) => {
-            let copy = copy_of(alloc, path)?;
+            let copy = path.copied(alloc)?;
             part.announce(prefix, copy)
         }
         None => Ok(()),
@@ -83,19 +83,15 @@ fn leak_round(whole: &SeedPlan, round: u32, part: &mut SeedPlan) -> Result<(), N
     ensures announced { part.new.announced ≡ part.old.announced }
     ensures prefixes { part.new.prefixes ≡ part.old.prefixes }
 {
-    let mut place = 0;
-    'leakers: while let Some(asn) = whole.leaker_at(round, place) {
-        part.leaker(round, asn)?;
-        // The numbers rise, so that none is below its place.
-        let _number = asn.get();
-        place += 1;
+    for asn in whole.leakers(round) {
+        part.leaker(round, *asn)?;
     }
     Ok(())
 }
 
 // Makes those leak in the rounds from 2 to the last who leak in them in the whole plan.
 fn leak_to(whole: &SeedPlan, last: u32, part: &mut SeedPlan) -> Result<(), NoMemory>
-    requires few { last ≤ 4 }
+    requires few { last ≤ MOST_ROUNDS }
     ensures leaks { OnOk result ((r a : ℕ) → 2 ≤ r → r ≤ last →
         leaks_in part.new r a ≡ (leaks_in whole.now r a || leaks_in part.old r a)) }
     ensures announced { part.new.announced ≡ part.old.announced }
@@ -115,7 +111,7 @@ pub fn part_for(
     last: u32,
 ) -> Result<SeedPlan, NoMemory>
     requires small { IsWithinLimits whole.now }
-    requires few { last ≤ 4 }
+    requires few { last ≤ MOST_ROUNDS }
     ensures part { IfOk result (IsPlanFor addr last whole.now) }
     ensures small { IfOk result IsWithinLimits }
 {

@@ -31,6 +31,6 @@ pub fn put_sweep(
     ensures err { OnErr result (out.new.items ≡ out.old.items) }
 {
     let fixed = fixed_for(alloc, base, ranks, line)?;
-    let mut trial = trial_of(fixed, ranks)?;
+    let mut trial = trial_of(fixed)?;
     sweep_rows(alloc, &mut trial, line, out)
 }

@@ -3,6 +3,7 @@ ghost use Rattle.std.specs.Prelude.{◌≡◌, ◌<◌, ◌≤◌, true, false, 
 ghost use Rattle.as_graph.specs.Prelude.{HasNoProviderCycle, as_count, relation};
 ghost use Rattle.data_trace.specs.Prelude.{addr_of, rows_of, spare_of};
 ghost use Rattle.leak_round.specs.Prelude.{IsWithinLimits, is_open, kept, pool_of};
+ghost use Rattle.leak_round.specs.declared.limits.TheConstants.{MOST_ROUNDS};
 ghost use Rattle.leak_round.specs.declared.rounds.TheConstants.{MOST_CELLS};
 ghost use Rattle.path_pool.specs.Pool.{live_count};
 ghost use Rattle.sim_core.specs.Prelude.{AreRoundsOf, GoesOnInside};
@@ -37,7 +38,7 @@ const ONE_OF: usize = 64;
 
 /// The tables of a line's rounds in the world of a trial, and the watch for the line's address in its round.
 #[derive(Drop)]
-pub struct Tables {
+pub struct LineTables {
     pub(crate) rounds: Rounds,
     pub(crate) watch: Watch,
 }
@@ -55,7 +56,7 @@ fn rounds_of<L: Ledger>(
     requires no_cycle { HasNoProviderCycle (relation world.now.graph.now) }
     requires course { IsCourse world.now.graph.now course.now }
     requires small { IsWithinLimits plan }
-    requires few { count ≤ 4 }
+    requires few { count ≤ MOST_ROUNDS }
     ensures rounds { IfOk result
         (AreRoundsOf world.now.graph.now world.now.states.now.payloads world.now.book.now plan count) }
     ensures closed { IfOk result (λ rounds. is_open rounds ≡ false) }
@@ -100,7 +101,7 @@ fn watch_of(fixed: &Fixed<'_>, rounds: &Rounds) -> Result<Watch, NoMemory>
 }
 
 /// The tables where the ASes have the policies of the book, made anew.
-pub fn tables_by(fixed: &Fixed<'_>, book: &Book<Kind>) -> Result<Tables, NoMemory>
+pub fn tables_by(fixed: &Fixed<'_>, book: &Book<Kind>) -> Result<LineTables, NoMemory>
     requires { IsFixed fixed.now }
     ensures { IfOk result (AreTablesIn fixed.now book.now) }
 {
@@ -115,7 +116,7 @@ pub fn tables_by(fixed: &Fixed<'_>, book: &Book<Kind>) -> Result<Tables, NoMemor
     paths_go_on::<Kind>();
     plans_are_sound(&fixed.plan);
     let watch = watch_of(fixed, &rounds)?;
-    Ok(Tables { rounds, watch })
+    Ok(LineTables { rounds, watch })
 }
 
 // Takes the watch to the rounds as they are, where the ASes of the list hold something else than before. It takes no
@@ -147,7 +148,7 @@ fn renew(fixed: &Fixed<'_>, rounds: &Rounds, changed: &[Asn], watch: &mut Watch)
     );
 }
 
-impl Tables {
+impl LineTables {
     // Whether the tables are edited: where few of so many ASes change their policy, and few cells are live.
     fn can_edit(&self, ases: usize, changed: usize) -> bool
         ensures { result ≡ true → live_count (pool_of self.now.rounds) ≤ MOST_CELLS }
@@ -184,7 +185,7 @@ impl Tables {
             states: &fixed.states,
         };
         let ranks = PlannedRanks {
-            ranks: &fixed.ranks,
+            ranks: fixed.ranks,
             plan: &fixed.rank_plan,
         };
         let mut steps = Steps::<L>::new(blank);

@@ -9,11 +9,11 @@ ghost use Rattle.trial_world.specs.Trials.{IsRight, gone_with as gone_with_fate,
 use crate::fixed::Fixed;
 use crate::kinds::{copy_at, give_all, kinds_of, room_for};
 use crate::lone::plain_count;
-use crate::tables::{Tables, tables_by};
+use crate::tables::{LineTables, tables_by};
 use data_trace::{End, Which};
 use net_names::{Addr, Asn, NoMemory};
 use policy_kinds::Kind;
-use rank_order::{Ranks, by_rank};
+use rank_order::by_rank;
 use stability_laws::{Book, plans_are_sound, right_follows};
 use sweep::{Fate, Trial};
 
@@ -23,7 +23,7 @@ use sweep::{Fate, Trial};
 pub struct LineTrial<'a> {
     pub(crate) fixed: Fixed<'a>,
     pub(crate) book: Book<Kind>,
-    pub(crate) tables: Tables,
+    pub(crate) tables: LineTables,
     pub(crate) gone: u64,
 }
 
@@ -49,7 +49,7 @@ fn gone_with(fate: &Fate, gone: u64) -> u64
 }
 
 /// The trial of a line in which no AS has changed its kind yet.
-pub fn trial_of<'a>(fixed: Fixed<'a>, ranks: &Ranks) -> Result<LineTrial<'a>, NoMemory>
+pub fn trial_of<'a>(fixed: Fixed<'a>) -> Result<LineTrial<'a>, NoMemory>
     requires { IsFixed fixed }
     ensures right { IfOk result IsRight }
     ensures base { IfOk result (λ t. line_base t ≡ (world_of fixed.entry, (fixed.entry.round, fixed.entry.addr))) }
@@ -57,7 +57,7 @@ pub fn trial_of<'a>(fixed: Fixed<'a>, ranks: &Ranks) -> Result<LineTrial<'a>, No
 {
     let alloc = fixed.alloc;
     // Policies are sought at the places of ASes by rank first, as propagation goes along them.
-    let order = by_rank(alloc, fixed.graph, ranks)?;
+    let order = by_rank(alloc, fixed.graph, fixed.ranks)?;
     let book = copy_at(alloc, fixed.base.book(), order.as_slice())?;
     let tables = tables_by(&fixed, &book)?;
     let gone = plain_count(fixed.lone.as_slice(), &book);

@@ -6,14 +6,14 @@ use Rattle.sim_core.specs.Loaded.{is_other}
 use Rattle.sweep.specs.Trials.{changed}
 use Rattle.trial_world.specs.Trials.{IsRight, plain_in}
 use Rattle.trial_world.specs.Tables.{AreTablesIn}
-use Rattle.trial_world.specs.declared.tables.Tables.{Tables}
+use Rattle.trial_world.specs.declared.tables.LineTables.{LineTables}
 use Rattle.trial_world.specs.declared.trial.LineTrial.{LineTrial}
 use Rattle.trial_world.proofs.KindBooks.{changed_from, given_back, had_kinds, room_back}
 use Rattle.trial_world.proofs.TrialTables.{other_book}
 use Rattle.trial_world.proofs.trial.LineTrialTrial.adopt_all.Goals as goal
 
 -- a trial stays right where each AS has the kind that it had, and the tables are those of before
-right_still : (t : LineTrial) (book : PolicyBook Kind) (tables : Tables) → ((a : ℕ) → policy_at book a ≡ policy_at t.book a) → AreTablesIn t.fixed t.book tables → IsRight t → IsRight (record { fixed = t.fixed; book = book; tables = tables; gone = t.gone })
+right_still : (t : LineTrial) (book : PolicyBook Kind) (tables : LineTables) → ((a : ℕ) → policy_at book a ≡ policy_at t.book a) → AreTablesIn t.fixed t.book tables → IsRight t → IsRight (record { fixed = t.fixed; book = book; tables = tables; gone = t.gone })
 right_still t book tables same are right = record {
   fixed = right.fixed;
   tables = other_book t.fixed t.book book tables same are;
