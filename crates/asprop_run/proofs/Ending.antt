@@ -104,8 +104,8 @@ answering task (Err (failure.Fault f)) out has h = absurd h
 
 -- a line names what isn't in the world
 pub foreign : (task : Task) (line : ℕ) (f : Fault) (out : Stream) → (HasCycle task.world → ⊥) → outside task.world task.jobs ≡ Some line
-    → f ≡ fault.InFile file.Script (cause.NotInWorld line) → out.wrote [] → Outcome (Ok task) (Err (failure.Fault f)) out
-foreign task line f out none names is nil = (none, ap (option_map (λ n. fault.InFile file.Script (cause.NotInWorld n))) names ∙ ap Some (sym is), nil)
+    → f ≡ fault.InFile file.Asked (cause.NotInWorld line) → out.wrote [] → Outcome (Ok task) (Err (failure.Fault f)) out
+foreign task line f out none names is nil = (none, ap (option_map (λ n. fault.InFile file.Asked (cause.NotInWorld n))) names ∙ ap Some (sym is), nil)
 
 module _ {from : Source} {form : Option Form} {out : Stream} where
   -- the task is the one that was asked for

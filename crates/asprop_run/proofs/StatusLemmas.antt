@@ -26,7 +26,7 @@ read_is held fails None bytes h told ok = absurd (ok h)
 read_is held fails (Some read) bytes h told ok = let P : Option (List ℕ) → Type 0 = λ held. IsRead held fails (Some read) in ap Some (subst P told h)
 
 -- a task with answers has no line that names what isn't in its world
-not_outside : (line : Option ℕ) (f : Fault) → line ≡ None → option_map (λ n. fault.InFile file.Script (cause.NotInWorld n)) line ≡ Some f → ⊥
+not_outside : (line : Option ℕ) (f : Fault) → line ≡ None → option_map (λ n. fault.InFile file.Asked (cause.NotInWorld n)) line ≡ Some f → ⊥
 not_outside None f none h = cc
 not_outside (Some line) f none h = cc
 

@@ -34,9 +34,9 @@ of_task form reads e h =
     ]
 
 -- the fault of a line that names what isn't in the world is neither one of the words nor a failed read
-of_line : (form : Option Form) (reads : Reads) (line : Option ℕ) (f : Fault) → option_map (λ n. fault.InFile file.Script (cause.NotInWorld n)) line ≡ Some f → Stopped form reads f
+of_line : (form : Option Form) (reads : Reads) (line : Option ℕ) (f : Fault) → option_map (λ n. fault.InFile file.Asked (cause.NotInWorld n)) line ≡ Some f → Stopped form reads f
 of_line form reads None f h = cc
-of_line form reads (Some line) f h = let is : fault.InFile file.Script (cause.NotInWorld line) ≡ f = cc in subst (Stopped form reads) is (by_value _ (other_line form file.Script line))
+of_line form reads (Some line) f h = let is : fault.InFile file.Asked (cause.NotInWorld line) ≡ f = cc in subst (Stopped form reads) is (by_value _ (other_line form file.Asked line))
 
 -- the work stops by a fault only for the reason of that fault
 fault_by : (form : Option Form) (reads : Reads) (task : Result Task Fault) (f : Fault) (out : Stream) → task_of form reads ≡ task → Outcome task (Err (failure.Fault f)) out → Stopped form reads f

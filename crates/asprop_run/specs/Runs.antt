@@ -13,7 +13,7 @@ use Rattle.task_reading.specs.Files.{AreReads}
 use Rattle.asprop_run.specs.Written.{Wrote, WroteSome}
 use Rattle.task_reading.specs.declared.types.Cause.TheVariants.{NotInWorld}
 use Rattle.task_reading.specs.declared.types.File.{File}
-use Rattle.task_reading.specs.declared.types.File.TheVariants.{Script}
+use Rattle.task_reading.specs.declared.types.File.TheVariants.{Asked}
 use Rattle.task_reading.specs.declared.types.Fault.{Fault}
 use Rattle.task_reading.specs.declared.types.Fault.TheVariants.{InFile}
 use Rattle.asprop_run.specs.declared.types.Failure.{Failure}
@@ -28,7 +28,7 @@ Outcome (Ok t) (Err Memory) o = o.wrote [] ⊎ (HasAnswers t × WroteSome t o.wr
 Outcome (Ok t) (Err Write) o = HasAnswers t × WroteSome t o.failed
 Outcome (Ok t) (Err (Cycle c)) o = IsCycleFromLowest (relation (topology t.world)) c × o.wrote []
 Outcome (Ok t) (Err (failure.Fault f)) o = (HasCycle t.world → ⊥) ×
-    (option_map (λ n. InFile Script (NotInWorld n)) (outside t.world t.jobs) ≡ Some f) × o.wrote []
+    (option_map (λ n. InFile Asked (NotInWorld n)) (outside t.world t.jobs) ≡ Some f) × o.wrote []
 Outcome (Err fault) (Err Memory) o = o.wrote []
 Outcome (Err fault) (Err (failure.Fault found)) o = (found ≡ fault) × o.wrote []
 Outcome _ _ o = ⊥

@@ -10,7 +10,7 @@ ghost use Rattle.asprop_run.specs.Runs.{IsRun, Outcome, Worked};
 ghost use Rattle.task_reading.specs.Prelude.{AreAlike, source_of, HasSize, form_of, form_seen, name_by};
 ghost use Rattle.asprop_run.specs.Streams.{stream_of};
 ghost use Rattle.task_reading.specs.declared.types.File.{File as AFile};
-ghost use Rattle.task_reading.specs.declared.types.File.TheVariants.{Script};
+ghost use Rattle.task_reading.specs.declared.types.File.TheVariants as files;
 ghost use Rattle.task_reading.specs.declared.types.Cause.TheVariants.{NotInWorld};
 ghost use Rattle.task_reading.specs.declared.types.Fault.TheVariants.{InFile};
 
@@ -27,9 +27,9 @@ use task_reading::{
 
 // The fault of a line of the option's file.
 fn not_in_world(line: u32) -> Fault
-    ensures { result ≡ InFile Script (NotInWorld line) }
+    ensures { result ≡ InFile files.Asked (NotInWorld line) }
 {
-    Fault::InFile(File::Script, Cause::NotInWorld(line))
+    Fault::InFile(File::Asked, Cause::NotInWorld(line))
 }
 
 // Writes the answers to the jobs, where the world that is loaded has all that they name.

@@ -1,5 +1,5 @@
 -- The faults of the words and the files.
-use Rattle.std.proofs.Common.{◌≡◌, ◌⊎◌, inl, inr, ℕ, List, [], ◌∷◌, map, Option, Some, None, Result, Ok, Err, refl, sym, ap, subst, ◌∙◌, Bool, true, false, cond, codes}
+use Rattle.std.proofs.Common.{◌≡◌, ◌⊎◌, inl, inr, ℕ, List, [], ◌∷◌, map, Option, Some, None, Result, Ok, Err, refl, sym, ap, subst, ◌∙◌, Bool, true, false, cond, codes, decimal, ◌++◌}
 use Rattle.caida_reader.specs.Value.{links_of}
 use Rattle.caida_reader.specs.declared.errors.RelError.{RelError}
 use Rattle.scenario_text.specs.Readings.{scenario_of_bytes}
@@ -106,10 +106,10 @@ other_lines form which c most (lines.Unreadable n) is = bad form _ (ap (λ (row 
 other_lines form which c most (lines.TooMany n) is = large form _ (ap (λ (row : Status × List ℕ). row.0) is)
 
 pub other_script : (form : Option Form) (which : File) (e : LinesError) → IsOther form (fault.InFile which (cause.Script e))
-other_script form which e = other_lines form which (cause.Script e) (codes "100000 commands") e refl
+other_script form which e = other_lines form which (cause.Script e) (decimal 100000 ++ codes " commands") e refl
 
 pub other_sweeps : (form : Option Form) (which : File) (e : LinesError) → IsOther form (fault.InFile which (cause.Sweeps e))
-other_sweeps form which e = other_lines form which (cause.Sweeps e) (codes "1000 sweeps") e refl
+other_sweeps form which e = other_lines form which (cause.Sweeps e) (decimal 1000 ++ codes " sweeps") e refl
 
 pub other_acts : (form : Option Form) (which : File) (e : ActsError) → IsOther form (fault.InFile which (cause.Acts e))
 other_acts form which acts.Memory = bad form _ refl
@@ -181,8 +181,8 @@ module _ (form : Option Form) (reads : Reads) where
   of_scenario None e h = cc
   of_scenario (Some name) e h = of_read file.Scenario 16777216 cause.Scenario scenario_of_bytes (λ _ e _. other_scenario form file.Scenario e) e h
 
-  of_jobs : (o : FileOption) (e : Fault) → jobs_by o (reads file.Script) ≡ Err e → Stopped form reads e
-  of_jobs o e h = of_read file.Script (most_bytes o) (λ c. c) (jobs_in o) (other_jobs form file.Script o) e h
+  of_jobs : (o : FileOption) (e : Fault) → jobs_by o (reads file.Asked) ≡ Err e → Stopped form reads e
+  of_jobs o e h = of_read file.Asked (most_bytes o) (λ c. c) (jobs_in o) (other_jobs form file.Asked o) e h
 
 -- each fault of what is asked for has its reason
 pub of_asked : (form : Option Form) (reads : Reads) (e : Fault) → asked form reads ≡ Err e → Stopped form reads e
@@ -194,13 +194,13 @@ of_asked (Some (origin_form rel origin)) reads e h =
       | inr late ↦ cc
     ]
 of_asked (Some (file_form rel vrps scenario named o)) reads e h =
-    elim (bind_err (relations (reads file.Relations)) (λ links. payloads_of (reads file.Payloads) >>= λ payloads. scenario_by scenario (reads file.Scenario) >>= λ plan. jobs_by o (reads file.Script) >>= λ jobs. Ok (file_task links payloads plan jobs)) e h) [
+    elim (bind_err (relations (reads file.Relations)) (λ links. payloads_of (reads file.Payloads) >>= λ payloads. scenario_by scenario (reads file.Scenario) >>= λ plan. jobs_by o (reads file.Asked) >>= λ jobs. Ok (file_task links payloads plan jobs)) e h) [
       | inl early ↦ of_read _ reads file.Relations 268435456 cause.Relation links_of (λ _ e _. other_relation _ file.Relations e) e early
-      | inr links ↦ elim (bind_err (payloads_of (reads file.Payloads)) (λ payloads. scenario_by scenario (reads file.Scenario) >>= λ plan. jobs_by o (reads file.Script) >>= λ jobs. Ok (file_task links.0 payloads plan jobs)) e links.2) [
+      | inr links ↦ elim (bind_err (payloads_of (reads file.Payloads)) (λ payloads. scenario_by scenario (reads file.Scenario) >>= λ plan. jobs_by o (reads file.Asked) >>= λ jobs. Ok (file_task links.0 payloads plan jobs)) e links.2) [
         | inl early ↦ of_payloads _ reads e early
-        | inr payloads ↦ elim (bind_err (scenario_by scenario (reads file.Scenario)) (λ plan. jobs_by o (reads file.Script) >>= λ jobs. Ok (file_task links.0 payloads.0 plan jobs)) e payloads.2) [
+        | inr payloads ↦ elim (bind_err (scenario_by scenario (reads file.Scenario)) (λ plan. jobs_by o (reads file.Asked) >>= λ jobs. Ok (file_task links.0 payloads.0 plan jobs)) e payloads.2) [
           | inl early ↦ of_scenario _ reads scenario e early
-          | inr plan ↦ elim (bind_err (jobs_by o (reads file.Script)) (λ jobs. Ok (file_task links.0 payloads.0 plan.0 jobs)) e plan.2) [
+          | inr plan ↦ elim (bind_err (jobs_by o (reads file.Asked)) (λ jobs. Ok (file_task links.0 payloads.0 plan.0 jobs)) e plan.2) [
             | inl early ↦ of_jobs _ reads o e early
             | inr late ↦ cc
           ]

@@ -17,6 +17,7 @@ use Rattle.task_reading.specs.declared.types.AskError.TheVariants as error
 use Rattle.task_reading.specs.declared.types.Fault.TheVariants as fault
 use Rattle.task_reading.specs.declared.types.Cause.TheVariants as cause
 use Rattle.task_reading.proofs.ReadLemmas.{by_bytes, or_fault, relations, whole, too_long}
+use Rattle.io_edge.specs.Whole.{TakesAtMost}
 
 -- a relationship file within its limit
 whole_links : (bytes : List ℕ) → length bytes ≤ 268435456 → relations (Some bytes) ≡ or_fault file.Relations cause.Relation (links_of bytes)
@@ -112,3 +113,11 @@ module _ {held left : Option (List ℕ)} {fails : Type 0} {reader : Progress} {t
   -- more was taken than a file may have
   pub ends_long : 268435456 < taken → ReadsTo held fails (λ (links : LinkMap). links) (Err (error.Fault (fault.InFile file.Relations (cause.TooLong 268435456)))) (λ reads. relations (reads file.Relations))
   ends_long many = taken_long held left fed.bytes fails fed.took (omega (arith, fed.long, many))
+
+-- nothing was left to take, and no more was taken than a file may have
+pub all_taken : {held left : Option (List ℕ)} {reader : Progress} {taken : ℕ} → Fed held left reader taken → (now : Option (List ℕ)) → Consumes left now [] → taken ≤ 268435456 → TakesAtMost 268435456 held now
+all_taken {held} {left} fed now took few = record {
+  bytes = fed.bytes;
+  within = omega (arith, fed.long, few);
+  taken = rw append-nil at (Consumes-trans held left now fed.bytes [] fed.took took);
+}

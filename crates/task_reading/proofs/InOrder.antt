@@ -47,7 +47,7 @@ module _ {I : Type 0} {holds : I → List ℕ → Option (List ℕ)} {is_sound :
       → ReadsAs (source_of holds is_sound faults a b) (Some rel) (λ (links : LinkMap). links) (Ok links) (λ reads. relations (reads file.Relations))
       → ReadsAs (source_of holds is_sound faults b c) vrps (λ (payloads : Payloads). payloads) (Ok payloads) (λ reads. payloads_of (reads file.Payloads))
       → ReadsAs (source_of holds is_sound faults c d) scenario (λ (plan : ScenarioValue). plan) (Ok plan) (λ reads. scenario_by scenario (reads file.Scenario))
-      → ReadsAs (source_of holds is_sound faults d e) named (λ (jobs : List Job). jobs) (Err s) (λ reads. jobs_by option (reads file.Script))
+      → ReadsAs (source_of holds is_sound faults d e) named (λ (jobs : List Job). jobs) (Err s) (λ reads. jobs_by option (reads file.Asked))
       → Prepares (source_of holds is_sound faults a e) (Some (file_form rel vrps scenario named option)) (Err s)
   jobs_error {a} {b} {c} {d} {e} p q r t rel vrps scenario named option links payloads plan s f g h k =
       no_jobs rel vrps scenario named option f.read g.read h.read k.read links payloads plan s
@@ -61,7 +61,7 @@ module _ {I : Type 0} {holds : I → List ℕ → Option (List ℕ)} {is_sound :
       → ReadsAs (source_of holds is_sound faults a b) (Some rel) (λ (links : LinkMap). links) (Ok links) (λ reads. relations (reads file.Relations))
       → ReadsAs (source_of holds is_sound faults b c) vrps (λ (payloads : Payloads). payloads) (Ok payloads) (λ reads. payloads_of (reads file.Payloads))
       → ReadsAs (source_of holds is_sound faults c d) scenario (λ (plan : ScenarioValue). plan) (Ok plan) (λ reads. scenario_by scenario (reads file.Scenario))
-      → ReadsAs (source_of holds is_sound faults d e) named (λ (jobs : List Job). jobs) (Ok jobs) (λ reads. jobs_by option (reads file.Script))
+      → ReadsAs (source_of holds is_sound faults d e) named (λ (jobs : List Job). jobs) (Ok jobs) (λ reads. jobs_by option (reads file.Asked))
       → x ≡ file_task links payloads plan jobs
       → Prepares (source_of holds is_sound faults a e) (Some (file_form rel vrps scenario named option)) (Ok x)
   all_found {a} {b} {c} {d} {e} p q r t rel vrps scenario named option links payloads plan jobs x f g h k is =

@@ -51,7 +51,7 @@ abbrev pub four : Option (List ℕ) → Option (List ℕ) → Option (List ℕ) 
 four relations payloads scenario script file.Relations = relations
 four relations payloads scenario script file.Payloads = payloads
 four relations payloads scenario script file.Scenario = scenario
-four relations payloads scenario script file.Script = script
+four relations payloads scenario script file.Asked = script
 
 -- the relationship file alone
 abbrev alone : Option (List ℕ) → Reads
@@ -71,14 +71,14 @@ module _ (from : Source) (rel : List ℕ) where
   one_read origin read h file.Relations = h
   one_read origin read h file.Payloads = refl
   one_read origin read h file.Scenario = refl
-  one_read origin read h file.Script = refl
+  one_read origin read h file.Asked = refl
 
   four_read : (vrps scenario named : Option (List ℕ)) (option : FileOption) (a b c d : Option (List ℕ)) → IsReadAs from (Some rel) a → IsReadAs from vrps b → IsReadAs from scenario c → IsReadAs from named d
       → AreReads from (Some (file_form rel vrps scenario named option)) (four a b c d)
   four_read vrps scenario named option a b c d p q r t file.Relations = p
   four_read vrps scenario named option a b c d p q r t file.Payloads = q
   four_read vrps scenario named option a b c d p q r t file.Scenario = r
-  four_read vrps scenario named option a b c d p q r t file.Script = t
+  four_read vrps scenario named option a b c d p q r t file.Asked = t
 
 -- what follows what is asked, the scenario and the payloads
 abbrev last : LinkMap → Payloads → ScenarioValue → Result (List Job) Fault → Result Asked Fault

@@ -73,7 +73,7 @@ scenario_by name read = option_map_or (λ _. read_as file.Scenario 16777216 caus
 
 -- what is asked by what was read of the option's file
 abbrev pub jobs_by : FileOption → Option (List ℕ) → Result (List Job) Fault
-jobs_by option read = read_as file.Script (most_bytes option) (λ c. c) (jobs_in option) (λ _. read)
+jobs_by option read = read_as file.Asked (most_bytes option) (λ c. c) (jobs_in option) (λ _. read)
 
 -- something was read of each file
 some_read : (held : Option (List ℕ)) (fails : Type 0) → (read : Option (List ℕ)) × IsRead held fails read
@@ -138,15 +138,15 @@ no_bytes {A} of_y view which most as_cause value s found = record {
 }
 
 -- what is asked was found in the bytes of the option's file, and so in what was read
-found_in : (result : Result (List Job) AskError) (value : Result (List Job) Cause) → FindsJobs result value → Finds (λ (jobs : List Job). jobs) result (or_fault file.Script (λ (c : Cause). c) value)
-found_in (Ok jobs) value h = ap (or_fault file.Script (λ (c : Cause). c)) h
+found_in : (result : Result (List Job) AskError) (value : Result (List Job) Cause) → FindsJobs result value → Finds (λ (jobs : List Job). jobs) result (or_fault file.Asked (λ (c : Cause). c) value)
+found_in (Ok jobs) value h = ap (or_fault file.Asked (λ (c : Cause). c)) h
 found_in (Err e) value h = h
 
 -- what is asked was found in no bytes, and so in a file that isn't named
 pub jobs_found : (o : FileOption) (result : Result (List Job) AskError) → FindsJobs result (jobs_in o []) → Finds (λ (jobs : List Job). jobs) result (jobs_by o (Some []))
 jobs_found o result h =
-    subst (λ (v : Result (List Job) Fault). Finds (λ (jobs : List Job). jobs) result v) (sym (by_bytes file.Script (most_bytes o) (λ (c : Cause). c) (jobs_in o) (Some [])))
-    (subst (λ (bytes : Result (List ℕ) Fault). Finds (λ (jobs : List Job). jobs) result (bytes >>= λ b. or_fault file.Script (λ (c : Cause). c) (jobs_in o b))) (sym (whole file.Script (most_bytes o) [] (omega arith)))
+    subst (λ (v : Result (List Job) Fault). Finds (λ (jobs : List Job). jobs) result v) (sym (by_bytes file.Asked (most_bytes o) (λ (c : Cause). c) (jobs_in o) (Some [])))
+    (subst (λ (bytes : Result (List ℕ) Fault). Finds (λ (jobs : List Job). jobs) result (bytes >>= λ b. or_fault file.Asked (λ (c : Cause). c) (jobs_in o b))) (sym (whole file.Asked (most_bytes o) [] (omega arith)))
     (found_in result (jobs_in o []) h))
 
 -- what is known of a file that was read in the middle is known of the inputs at their start and end

@@ -1,5 +1,5 @@
 -- The jobs of what is kept are alike.
-use Rattle.std.proofs.Common.{◌≡◌, inl, inr, Bool, true, false, All, List, [], ◌∷◌, map, refl}
+use Rattle.std.proofs.Common.{◌≡◌, inl, inr, Bool, true, false, All, List, [], ◌∷◌, ◌++◌, cond, map, refl}
 use Rattle.std.proofs.lemmas.List.Elements.{All-cons, All-nil}
 use Rattle.scenario_text.specs.LineValues.{LineValue}
 use Rattle.task_reading.specs.Jobs.{AreAlike, IsOfLines, Job, acts_job, counts_job, jobs_of, line_job, messages_job, needs_of, sweep_job, tables_job}
@@ -13,9 +13,12 @@ of_lines : (heads : Bool) (lines : List LineValue) → All IsOfLines (map (line_
 of_lines heads [] = All-nil IsOfLines
 of_lines heads (line ∷ lines) = All-cons IsOfLines (line_job heads line) (map (line_job heads) lines) tt (of_lines heads lines)
 
+of_asked : (counts heads : Bool) (lines : List LineValue) → All IsOfLines (cond counts (counts_job ∷ []) [] ++ map (line_job heads) lines)
+of_asked true heads lines = All-cons IsOfLines counts_job (map (line_job heads) lines) tt (of_lines heads lines)
+of_asked false heads lines = of_lines heads lines
+
 pub alike : (a : Asks) → AreAlike (jobs_of a)
-alike (asks.Lines true heads lines) = inl (All-cons IsOfLines counts_job (map (line_job heads) lines) tt (of_lines heads lines))
-alike (asks.Lines false heads lines) = inl (of_lines heads lines)
+alike (asks.Lines asked) = inl (of_asked asked.counts_first asked.heads asked.lines)
 alike (asks.Activations acts) = inr (inr (acts_job acts, refl))
 alike (asks.Messages deliveries) = inr (inr (messages_job deliveries, refl))
 alike (asks.Sweeps sweeps) = inr (inl (sweeps, refl))
@@ -24,6 +27,10 @@ alike (asks.Tables tables) = inr (inr (tables_job tables, refl))
 lines_need : (heads : Bool) (lines : List LineValue) → All (λ job. needs_of job ≡ needs.Kept) (map (line_job heads) lines)
 lines_need heads [] = All-nil (λ job. needs_of job ≡ needs.Kept)
 lines_need heads (line ∷ lines) = All-cons (λ job. needs_of job ≡ needs.Kept) (line_job heads line) (map (line_job heads) lines) refl (lines_need heads lines)
+
+asked_need : (counts heads : Bool) (lines : List LineValue) → All (λ job. needs_of job ≡ needs.Kept) (cond counts (counts_job ∷ []) [] ++ map (line_job heads) lines)
+asked_need true heads lines = All-cons (λ job. needs_of job ≡ needs.Kept) counts_job (map (line_job heads) lines) refl (lines_need heads lines)
+asked_need false heads lines = lines_need heads lines
 
 sweeps_need : (lines : List Sweep) → All (λ job. needs_of job ≡ needs.Ranks) (map sweep_job lines)
 sweeps_need [] = All-nil (λ job. needs_of job ≡ needs.Ranks)
@@ -39,8 +46,7 @@ asks_need (asks.Tables tables) = needs.World
 asks_need _ = needs.Kept
 
 pub need_alike : (a : Asks) → All (λ job. needs_of job ≡ asks_need a) (jobs_of a)
-need_alike (asks.Lines true heads lines) = All-cons (λ job. needs_of job ≡ needs.Kept) counts_job (map (line_job heads) lines) refl (lines_need heads lines)
-need_alike (asks.Lines false heads lines) = lines_need heads lines
+need_alike (asks.Lines asked) = asked_need asked.counts_first asked.heads asked.lines
 need_alike (asks.Activations acts) = alone (acts_job acts)
 need_alike (asks.Messages deliveries) = alone (messages_job deliveries)
 need_alike (asks.Sweeps sweeps) = sweeps_need sweeps

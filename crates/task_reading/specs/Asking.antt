@@ -25,7 +25,7 @@ use Rattle.table_check.specs.Reading.{tables_by}
 use Rattle.task_reading.specs.Jobs.{Job, acts_job, counts_job, line_job, messages_job, sweep_job, tables_job}
 use Rattle.task_reading.specs.Words.{Form, file_form, origin_form, demo_form}
 use Rattle.task_reading.specs.declared.asking.Asked.{Asked}
-use Rattle.task_reading.specs.declared.reading.TheConstants.{MOST_LIST_BYTES, MOST_TEXT_BYTES}
+use Rattle.net_names.specs.declared.limits.TheConstants.{MOST_LIST_BYTES, MOST_TEXT_BYTES}
 use Rattle.task_reading.specs.declared.types.File.{File}
 use Rattle.task_reading.specs.declared.types.File.TheVariants as file
 use Rattle.task_reading.specs.declared.types.Cause.{Cause}
@@ -68,6 +68,6 @@ asked (Some (file_form _ _ scenario _ option)) reads = do
   links ← read_as file.Relations MOST_LIST_BYTES cause.Relation links_of reads
   payloads ← read_as file.Payloads MOST_LIST_BYTES cause.Payload payloads_in reads
   plan ← option_map_or (λ _. read_as file.Scenario MOST_TEXT_BYTES cause.Scenario scenario_of_bytes reads) scenario (Ok nothing)
-  jobs ← read_as file.Script (elim option [ Check ↦ MOST_LIST_BYTES | _ ↦ MOST_TEXT_BYTES ])
+  jobs ← read_as file.Asked (elim option [ Check ↦ MOST_LIST_BYTES | _ ↦ MOST_TEXT_BYTES ])
       (λ c. c) (jobs_in option) reads
   Ok (record { links = links; vrps = payloads; scenario = plan; jobs = jobs })

@@ -1,8 +1,10 @@
 -- What was read of the files, and what comes of it.
-use Rattle.std.specs.Prelude.{◌≡◌, List, [], Option, Some, Result, Ok, Err, IsSomeAnd, MatchOption}
+use Rattle.std.specs.Prelude.{◌≡◌, ◌⊎◌, ◌+◌, List, [], Option, Some, Result, Ok, Err, IsSomeAnd, MatchOption}
 use Rattle.std.specs.Option.{option_map_or}
-use Rattle.std.specs.Io.KnownBytes.{Keeps}
+use Rattle.std.specs.Io.KnownBytes.{IsAtEnd, Keeps}
 use Rattle.clap.specs.Walk.{Text}
+use Rattle.io_edge.specs.Whole.{TakesAtMost}
+use Rattle.net_names.specs.declared.limits.TheConstants.{MOST_LIST_BYTES}
 use Rattle.task_reading.specs.Sources.{Source}
 use Rattle.task_reading.specs.Words.{Form, name_by}
 use Rattle.task_reading.specs.Jobs.{Job}
@@ -10,6 +12,7 @@ use Rattle.task_reading.specs.Asking.{asked}
 use Rattle.task_reading.specs.declared.asking.Asked.{Asked}
 use Rattle.std.specs.Result.{result_map_both}
 use Rattle.task_reading.specs.declared.types.Cause.{Cause}
+use Rattle.task_reading.specs.declared.types.Cause.TheVariants.{Unread}
 use Rattle.task_reading.specs.declared.types.Fault.TheVariants.{InFile}
 use Rattle.task_reading.specs.declared.types.File.TheVariants as file
 use Rattle.task_reading.specs.declared.types.AskError.{AskError}
@@ -42,7 +45,7 @@ IsFaultIn which as_cause error value = IsFaultOf error (result_map_both (λ x. x
 -- the jobs were found in the bytes of the option's file, or the error says why there are none
 abbrev pub FindsJobs : Result (List Job) AskError → Result (List Job) Cause → Type 0
 FindsJobs (Ok jobs) value = value ≡ Ok jobs
-FindsJobs (Err e) value = IsFaultIn file.Script (λ c. c) e value
+FindsJobs (Err e) value = IsFaultIn file.Asked (λ c. c) e value
 
 -- what was found is the value, or the error says why there is none
 abbrev pub Finds : {X A : Type 0} → (X → A) → Result X AskError → Result A Fault → Type 0
@@ -58,6 +61,12 @@ pub record ReadsTo {X A : Type 0} (held : Option Text) (fails : Type 0) (view : 
 -- One file was read under its name, if it has one, and what was found is the value of what was read.
 abbrev pub ReadsAs : {X A : Type 0} → Source → Option Text → (X → A) → Result X AskError → ((File → Option Text) → Result A Fault) → Type 0
 ReadsAs from name view result value = ReadsTo (option_map_or from.holds name (Some [])) (IsSomeAnd name from.fails) view result value
+
+-- What was taken of the relationship file: all of it where it gave links, and one byte past its limit at most. Where `begin` failed, nothing is begun.
+abbrev pub IsTaken : {X : Type 0} → Option Text → Option Text → Result X AskError → Type 0
+IsTaken held left (Ok links) = IsAtEnd left × TakesAtMost MOST_LIST_BYTES held left
+IsTaken held left (Err e) = ((e ≡ error.Fault (InFile file.Relations Unread)) × IsAtEnd left)
+    ⊎ TakesAtMost (MOST_LIST_BYTES + 1) held left
 
 -- The files were read under the names of the form, and what was found is what they ask for.
 pub record Prepares (from : Source) (form : Option Form) (result : Result Asked AskError) : Type 0 where

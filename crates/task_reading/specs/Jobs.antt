@@ -1,5 +1,5 @@
 -- What is asked in a world: jobs, one after the other.
-use Rattle.std.specs.Prelude.{◌≡◌, ◌≤◌, ◌⊎◌, All, Bool, length, List, [], ◌∷◌, false, true, map}
+use Rattle.std.specs.Prelude.{◌≡◌, ◌≤◌, ◌⊎◌, All, Bool, length, List, [], ◌∷◌, ◌++◌, if◌then◌else◌, map}
 use Rattle.activations.specs.Named.{AreSound}
 use Rattle.activations.specs.declared.acts.Acts.{Acts}
 use Rattle.message_sim.specs.declared.steps.Deliveries.{Deliveries}
@@ -11,6 +11,7 @@ use Rattle.task_reading.specs.declared.jobs.Asks.{Asks}
 use Rattle.task_reading.specs.declared.jobs.Asks.TheVariants.{Lines, Activations, Messages, Sweeps, Tables}
 use Rattle.task_reading.specs.declared.jobs.Job.{Job as LentJob}
 use Rattle.task_reading.specs.declared.jobs.Job.TheVariants as lent
+use Rattle.task_reading.specs.declared.jobs.LinesAsked.{LinesAsked}
 use Rattle.task_reading.specs.declared.jobs.Needs.{Needs}
 use Rattle.task_reading.specs.declared.jobs.Needs.TheVariants as needs
 
@@ -24,13 +25,12 @@ pub data Job : Type 0 where
   tables_job : (tables : PrintedTables) → Job
 
 -- the jobs of lines, and before them the numbers of ASes and links, if they come first
-abbrev pub line_jobs : Bool → Bool → List LineValue → List Job
-line_jobs true heads lines = counts_job ∷ map (line_job heads) lines
-line_jobs false heads lines = map (line_job heads) lines
+abbrev pub line_jobs : LinesAsked → List Job
+line_jobs asked = (if asked.counts_first then counts_job ∷ [] else []) ++ map (line_job asked.heads) asked.lines
 
 -- the jobs that are kept so
 abbrev pub jobs_of : Asks → List Job
-jobs_of (Lines counts heads lines) = line_jobs counts heads lines
+jobs_of (Lines asked) = line_jobs asked
 jobs_of (Activations acts) = acts_job acts ∷ []
 jobs_of (Messages deliveries) = messages_job deliveries ∷ []
 jobs_of (Sweeps sweeps) = map sweep_job sweeps

@@ -9,7 +9,7 @@ use Rattle.net_names.specs.Steps.{option_filter}
 use Rattle.net_names.specs.Texts.{asn_of, numeral}
 use Rattle.task_reading.specs.Command.{asprop_command, file_options}
 use Rattle.task_reading.specs.declared.types.File.{File}
-use Rattle.task_reading.specs.declared.types.File.TheVariants.{Relations, Payloads, Scenario, Script}
+use Rattle.task_reading.specs.declared.types.File.TheVariants.{Relations, Payloads, Scenario, Asked}
 use Rattle.task_reading.specs.declared.words.FileOption.{FileOption}
 use Rattle.task_reading.specs.declared.words.FileOption.TheVariants as option
 use Rattle.task_reading.specs.declared.words.Standing.{Standing}
@@ -48,10 +48,10 @@ form_of words = let value = λ (n : String). first_of (codes n) (matches_of aspr
     let files = filter_map (λ o. option_map (λ f. (o.0, f)) (value o.1)) file_options in
     if is_empty (fault_of asprop_command words) then form_by files (value "rel") (value "vrps") (value "scenario") (value "origin") (value "demo") else None
 
--- the name that a form gives to a file, if it names one; the file of an option is read in the place of the script (own format)
+-- the name that a form gives to a file, if it names one; the last file is that of an option (own format)
 abbrev pub name_by : Option Form → File → Option Text
 name_by (Some (file_form rel vrps scenario file option)) which =
-    elim which [ Relations ↦ Some rel | Payloads ↦ vrps | Scenario ↦ scenario | Script ↦ file ]
+    elim which [ Relations ↦ Some rel | Payloads ↦ vrps | Scenario ↦ scenario | Asked ↦ file ]
 name_by (Some (origin_form rel origin)) Relations = Some rel
 name_by _ _ = None
 

@@ -8,7 +8,7 @@ ghost use Rattle.task_reading.specs.Files.{Prepares};
 ghost use Rattle.task_reading.specs.Sources.{source_of};
 ghost use Rattle.task_reading.specs.Words.{HasSize, demo_form, file_form, form_seen, origin_form, text_seen};
 
-use crate::jobs::{Asks, Jobs};
+use crate::jobs::{Asks, Jobs, LinesAsked};
 use crate::reading::{read_jobs, read_payloads, read_plan, read_relations};
 use crate::types::{AskError, Fault};
 use crate::words::{FileOption, WordForm};
@@ -91,7 +91,11 @@ fn ask_origin<I: Inputs>(
         links,
         vrps: Vrps::new(alloc),
         scenario,
-        jobs: Jobs::of_asks(Asks::Lines(false, false, lines)),
+        jobs: Jobs::of_asks(Asks::Lines(LinesAsked {
+            counts_first: false,
+            heads: false,
+            lines,
+        })),
     })
 }
 
@@ -138,7 +142,11 @@ fn ask_demo<I: Inputs>(alloc: Global, size: u32, _inputs: &mut I) -> Result<Aske
         links,
         vrps,
         scenario,
-        jobs: Jobs::of_asks(Asks::Lines(true, true, lines)),
+        jobs: Jobs::of_asks(Asks::Lines(LinesAsked {
+            counts_first: true,
+            heads: true,
+            lines,
+        })),
     })
 }
 

@@ -1,21 +1,29 @@
 //! The texts and statuses of faults.
-ghost use Rattle.std.specs.Prelude.{◌≡◌, [], IfOk, Option, option_map, string_bytes, unwrap_or};
+ghost use Rattle.std.specs.Prelude.{◌≡◌, [], IfOk, None, Option, option_map, string_bytes, unwrap_or};
+ghost use Rattle.clap.specs.Walk.{Text};
 ghost use Rattle.task_reading.specs.Texts.{cause_of, fault_ending, lines_cause};
 ghost use Rattle.task_reading.specs.Words.{Form, form_seen, name_by};
 
+use crate::forms::{acts, deliveries, script, sweeps, tables};
 use crate::types::{Cause, Fault, File, Status};
 use crate::words::WordForm;
-use activations::ActsError;
 use caida_reader::RelError;
-use message_sim::DeliveriesError;
-use roa_table::VrpError;
+use net_names::MOST_LINKS;
+use roa_table::{MOST_PAYLOADS, VrpError};
 use scenario_text::{LimitOf, LinesError, ScenarioError, place_string};
 use std::alloc::{AllocError, Global};
-use table_check::TablesError;
 
-const USAGE: &str =
-    "usage: asprop REL [--vrps FILE] [--scenario FILE] [--script FILE]\n       asprop REL --origin N\n       asprop --demo N\n       asprop REL [--vrps FILE] [--scenario FILE] --activations FILE\n       asprop REL [--vrps FILE] [--scenario FILE] --messages FILE\n       asprop REL [--vrps FILE] [--scenario FILE] --sweep FILE\n       asprop REL [--vrps FILE] [--scenario FILE] --check FILE\n";
+const USAGE: &str = concat!(
+    "usage: asprop REL [--vrps FILE] [--scenario FILE] [--script FILE]\n",
+    "       asprop REL --origin N\n",
+    "       asprop --demo N\n",
+    "       asprop REL [--vrps FILE] [--scenario FILE] --activations FILE\n",
+    "       asprop REL [--vrps FILE] [--scenario FILE] --messages FILE\n",
+    "       asprop REL [--vrps FILE] [--scenario FILE] --sweep FILE\n",
+    "       asprop REL [--vrps FILE] [--scenario FILE] --check FILE\n",
+);
 
+// What is said of a fault of the relationship file.
 fn relation_text(alloc: Global, error: RelError) -> Result<String, AllocError>
     ensures { IfOk result (λ text. string_bytes text ≡ (cause_of (Cause.Relation error)).1) }
 {
@@ -27,11 +35,12 @@ fn relation_text(alloc: Global, error: RelError) -> Result<String, AllocError>
             format!(in alloc; "line {line}: conflicts with line {earlier}")
         }
         RelError::TooManyLinks { line } => format!(in alloc;
-            "line {line}: more than 1500000 links"
+            "line {line}: more than {MOST_LINKS} links"
         ),
     }
 }
 
+// What is said of a fault of the payload file.
 fn payload_text(alloc: Global, error: VrpError) -> Result<String, AllocError>
     ensures { IfOk result (λ text. string_bytes text ≡ (cause_of (Cause.Payload error)).1) }
 {
@@ -41,10 +50,13 @@ fn payload_text(alloc: Global, error: VrpError) -> Result<String, AllocError>
         VrpError::BadAsn { row } => format!(in alloc; "row {row}: bad AS number"),
         VrpError::BadPrefix { row } => format!(in alloc; "row {row}: bad prefix"),
         VrpError::BadMax { row } => format!(in alloc; "row {row}: bad maximum length"),
-        VrpError::TooMany { row } => format!(in alloc; "row {row}: more than 2000000 payloads"),
+        VrpError::TooMany { row } => format!(in alloc;
+            "row {row}: more than {MOST_PAYLOADS} payloads"
+        ),
     }
 }
 
+// The limit that a scenario passes.
 fn limit_text(which: LimitOf) -> &'static str
     ensures { result.now ≡ (cause_of (Cause.Scenario (ScenarioError.Limit which))).1 }
 {
@@ -58,6 +70,7 @@ fn limit_text(which: LimitOf) -> &'static str
     }
 }
 
+// What is said of a fault of the scenario.
 fn scenario_text(alloc: Global, error: ScenarioError) -> Result<String, AllocError>
     ensures { IfOk result (λ text. string_bytes text ≡ (cause_of (Cause.Scenario error)).1) }
 {
@@ -80,8 +93,8 @@ fn scenario_text(alloc: Global, error: ScenarioError) -> Result<String, AllocErr
     }
 }
 
-// What is said of a fault of a file of lines, of which it may have so many.
-fn lines_text(alloc: Global, error: LinesError, most: &str) -> Result<String, AllocError>
+/// What is said of a fault of a file of lines, of which it may have so many.
+pub fn lines_text(alloc: Global, error: LinesError, most: &str) -> Result<String, AllocError>
     ensures { IfOk result (λ text. string_bytes text ≡ (lines_cause most.now error).1) }
 {
     match error {
@@ -91,41 +104,13 @@ fn lines_text(alloc: Global, error: LinesError, most: &str) -> Result<String, Al
     }
 }
 
-fn acts_text(alloc: Global, error: ActsError) -> Result<String, AllocError>
-    ensures { IfOk result (λ text. string_bytes text ≡ (cause_of (Cause.Acts error)).1) }
+/// The status of a fault of a file of lines.
+pub fn lines_status(error: LinesError) -> Status
+    ensures { (most : Text) → result ≡ (lines_cause most error).0 }
 {
     match error {
-        ActsError::Memory => Ok(String::new(alloc)),
-        ActsError::Unreadable { line } => format!(in alloc; "line {line}: unreadable"),
-        ActsError::Twice { line } => format!(in alloc; "line {line}: named twice"),
-        ActsError::TooMany { line } => format!(in alloc;
-            "line {line}: more than 1000000 activations"
-        ),
-        ActsError::NoFor => String::from_str(alloc, "no for line"),
-    }
-}
-
-fn deliveries_text(alloc: Global, error: DeliveriesError) -> Result<String, AllocError>
-    ensures { IfOk result (λ text. string_bytes text ≡ (cause_of (Cause.Deliveries error)).1) }
-{
-    match error {
-        DeliveriesError::Memory => Ok(String::new(alloc)),
-        DeliveriesError::Unreadable { line } => format!(in alloc; "line {line}: unreadable"),
-        DeliveriesError::TooMany { line } => format!(in alloc;
-            "line {line}: more than 1000000 deliveries"
-        ),
-        DeliveriesError::NoFor => String::from_str(alloc, "no for line"),
-    }
-}
-
-fn tables_text(alloc: Global, error: TablesError) -> Result<String, AllocError>
-    ensures { IfOk result (λ text. string_bytes text ≡ (cause_of (Cause.Tables error)).1) }
-{
-    match error {
-        TablesError::Memory => Ok(String::new(alloc)),
-        TablesError::Unreadable { line } => format!(in alloc; "line {line}: unreadable"),
-        TablesError::Twice { line } => format!(in alloc; "line {line}: named twice"),
-        TablesError::NoFor => String::from_str(alloc, "no for line"),
+        LinesError::TooMany { line: _ } => Status::TooLarge,
+        _ => Status::BadInput,
     }
 }
 
@@ -139,11 +124,11 @@ fn cause_text(alloc: Global, cause: Cause) -> Result<String, AllocError>
         Cause::Relation(error) => relation_text(alloc, error),
         Cause::Payload(error) => payload_text(alloc, error),
         Cause::Scenario(error) => scenario_text(alloc, error),
-        Cause::Script(error) => lines_text(alloc, error, "100000 commands"),
-        Cause::Acts(error) => acts_text(alloc, error),
-        Cause::Deliveries(error) => deliveries_text(alloc, error),
-        Cause::Sweeps(error) => lines_text(alloc, error, "1000 sweeps"),
-        Cause::Tables(error) => tables_text(alloc, error),
+        Cause::Script(error) => script::text(alloc, error),
+        Cause::Acts(error) => acts::text(alloc, error),
+        Cause::Deliveries(error) => deliveries::text(alloc, error),
+        Cause::Sweeps(error) => sweeps::text(alloc, error),
+        Cause::Tables(error) => tables::text(alloc, error),
         Cause::NotInWorld(line) => format!(in alloc; "line {line}: not in the world"),
     }
 }
@@ -158,6 +143,35 @@ fn file_name<'a>(form: &Option<WordForm<'a>>, file: File) -> &'a str
     }
 }
 
+/// What is said of words that have none of the forms.
+pub fn usage_message() -> &'static str
+    ensures { result.now ≡ (fault_ending None Fault.Usage).1 }
+{
+    USAGE
+}
+
+/// What is said of a world with more ASes than a run takes.
+pub fn ases_message() -> &'static str
+    ensures { result.now ≡ (fault_ending None Fault.TooManyAses).1 }
+{
+    "asprop: more than 150000 ASes\n"
+}
+
+/// What is said of a file that isn't taken, with its name as the form gives it and the place in it.
+pub fn file_message(
+    alloc: Global,
+    form: &Option<WordForm<'_>>,
+    file: File,
+    cause: Cause,
+) -> Result<String, AllocError>
+    ensures { IfOk result (λ text. string_bytes text ≡
+        (fault_ending (option_map form_seen form.now) (Fault.InFile file cause)).1) }
+{
+    let name = file_name(form, file);
+    let text = cause_text(alloc, cause)?;
+    format!(in alloc; "asprop: {name}: {text}\n")
+}
+
 /// What is said of a fault, with the name of its file as the form gives it and the place in it.
 pub fn fault_message(
     alloc: Global,
@@ -167,16 +181,13 @@ pub fn fault_message(
     ensures { IfOk result (λ text. string_bytes text ≡ (fault_ending (option_map form_seen form.now) fault).1) }
 {
     match fault {
-        Fault::Usage => String::from_str(alloc, USAGE),
-        Fault::TooManyAses => String::from_str(alloc, "asprop: more than 150000 ASes\n"),
-        Fault::InFile(file, cause) => {
-            let name = file_name(form, file);
-            let text = cause_text(alloc, cause)?;
-            format!(in alloc; "asprop: {name}: {text}\n")
-        }
+        Fault::Usage => String::from_str(alloc, usage_message()),
+        Fault::TooManyAses => String::from_str(alloc, ases_message()),
+        Fault::InFile(file, cause) => file_message(alloc, form, file, cause),
     }
 }
 
+// The status of a file that isn't taken.
 fn cause_status(cause: Cause) -> Status
     ensures { result ≡ (cause_of cause).0 }
 {
@@ -189,16 +200,11 @@ fn cause_status(cause: Cause) -> Status
         Cause::Payload(_) => Status::BadInput,
         Cause::Scenario(ScenarioError::Limit { which: _ }) => Status::TooLarge,
         Cause::Scenario(_) => Status::BadInput,
-        Cause::Script(LinesError::TooMany { line: _ }) => Status::TooLarge,
-        Cause::Script(_) => Status::BadInput,
-        Cause::Acts(ActsError::TooMany { line: _ }) => Status::TooLarge,
-        Cause::Acts(_) => Status::BadInput,
-        Cause::Deliveries(DeliveriesError::TooMany { line: _ }) => Status::TooLarge,
-        Cause::Deliveries(_) => Status::BadInput,
-        Cause::Sweeps(LinesError::TooMany { line: _ }) => Status::TooLarge,
-        Cause::Sweeps(_) => Status::BadInput,
-        Cause::Tables(_) => Status::BadInput,
-        Cause::NotInWorld(_) => Status::BadInput,
+        Cause::Script(error) => script::status(error),
+        Cause::Acts(error) => acts::status(error),
+        Cause::Deliveries(error) => deliveries::status(error),
+        Cause::Sweeps(error) => sweeps::status(error),
+        Cause::Tables(_) | Cause::NotInWorld(_) => Status::BadInput,
     }
 }
 

@@ -1,8 +1,7 @@
 //! What is asked in a world: jobs, one after the other.
-ghost use Rattle.std.specs.Prelude.{◌≡◌, ◌≤◌, ◌∷◌, All, IfSome, length, map, option_map, slice_get};
+ghost use Rattle.std.specs.Prelude.{◌≡◌, ◌∷◌, All, IfSome, length, map, option_map, slice_get};
 ghost use Rattle.scenario_text.specs.Prelude.{AreSoundLines};
-ghost use Rattle.sweep.specs.declared.sweeps.TheConstants.{MOST_SWEEPS};
-ghost use Rattle.task_reading.specs.Jobs.{AreAlike, IsSoundAsks, IsSoundJob, counts_job, job_seen, jobs_of, line_job, needs_of};
+ghost use Rattle.task_reading.specs.Jobs.{AreAlike, IsSoundAsks, IsSoundJob, counts_job, job_seen, jobs_of, line_job, line_jobs, needs_of};
 
 use activations::Acts;
 use message_sim::Deliveries;
@@ -39,11 +38,22 @@ pub enum Needs {
     Ranks,
 }
 
+/// Lines, and what is answered to them.
+#[derive(Drop)]
+pub struct LinesAsked {
+    /// Whether the numbers of ASes and links are answered before.
+    pub counts_first: bool,
+    /// Whether each answer has a head line, with the number of its line.
+    pub heads: bool,
+    /// The lines.
+    pub lines: Lines,
+}
+
 /// How jobs are kept.
 #[derive(Drop)]
-pub(crate) enum Asks {
-    /// The answers to lines, each with a head line or without, and perhaps the numbers of ASes and links before.
-    Lines(bool, bool, Lines),
+pub enum Asks {
+    /// The answers to lines.
+    Lines(LinesAsked),
     /// What activations come to.
     Activations(Acts),
     /// What deliveries come to.
@@ -78,16 +88,11 @@ fn line_behind_counts(heads: bool, lines: &[Line], place: usize) -> Option<Job<'
     line_at(heads, lines, place - 1)
 }
 
-// How many sweeps there are.
-fn count_of(sweeps: &Sweeps) -> usize
-    requires { length sweeps.now ≤ MOST_SWEEPS }
-    ensures { result ≡ length sweeps.now }
+// How many jobs there are of lines.
+fn count_lines(asked: &LinesAsked) -> usize
+    ensures { result ≡ length (line_jobs asked.now) }
 {
-    let mut count = 0usize;
-    'sweeps: while let Some(_) = sweeps.at(count) {
-        count += 1;
-    }
-    count
+    asked.lines.as_slice().len() + usize::from(asked.counts_first)
 }
 
 /// Jobs, which are done one after the other. Contracts see the list of them.
@@ -136,7 +141,7 @@ impl Jobs {
         ensures { All (λ job. needs_of job ≡ result) self.now }
     {
         match &self.asks {
-            Asks::Lines(_, _, _) | Asks::Activations(_) | Asks::Messages(_) => Needs::Kept,
+            Asks::Lines(_) | Asks::Activations(_) | Asks::Messages(_) => Needs::Kept,
             Asks::Sweeps(_) => Needs::Ranks,
             Asks::Tables(_) => Needs::World,
         }
@@ -147,9 +152,8 @@ impl Jobs {
         ensures { result ≡ length self.now }
     {
         match &self.asks {
-            Asks::Lines(true, _, lines) => lines.as_slice().len() + 1,
-            Asks::Lines(false, _, lines) => lines.as_slice().len(),
-            Asks::Sweeps(sweeps) => count_of(sweeps),
+            Asks::Lines(asked) => count_lines(asked),
+            Asks::Sweeps(sweeps) => sweeps.len(),
             Asks::Activations(_) | Asks::Messages(_) | Asks::Tables(_) => 1,
         }
     }
@@ -160,8 +164,13 @@ impl Jobs {
         ensures sound { IfSome result (λ job. IsSoundJob (job_seen job)) }
     {
         match &self.asks {
-            Asks::Lines(true, heads, lines) => line_behind_counts(*heads, lines.as_slice(), place),
-            Asks::Lines(false, heads, lines) => line_at(*heads, lines.as_slice(), place),
+            Asks::Lines(asked) => {
+                if asked.counts_first {
+                    line_behind_counts(asked.heads, asked.lines.as_slice(), place)
+                } else {
+                    line_at(asked.heads, asked.lines.as_slice(), place)
+                }
+            }
             Asks::Activations(acts) => {
                 if place == 0 {
                     Some(Job::Activations(acts))

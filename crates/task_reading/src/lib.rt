@@ -10,13 +10,14 @@ mod asking;
 mod command;
 mod errors;
 mod fault_texts;
+mod forms;
 mod jobs;
 mod reading;
 mod types;
 mod words;
 
 pub use asking::{Asked, ask};
-pub use fault_texts::{fault_message, fault_status};
+pub use fault_texts::{ases_message, fault_message, fault_status, file_message, usage_message};
 pub use jobs::{Job, Jobs, Needs, jobs_are_alike};
 pub use types::{AskError, Cause, Fault, File, Status};
 pub use words::{FileOption, WordForm, read_words};

@@ -21,8 +21,8 @@ pub enum File {
     Payloads,
     /// The scenario.
     Scenario,
-    /// The script, or the file of another option for what is asked.
-    Script,
+    /// The file of an option for what is asked.
+    Asked,
 }
 
 /// Why the words and the files give no task.

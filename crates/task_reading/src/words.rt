@@ -67,7 +67,7 @@ impl<'a> WordForm<'a> {
             (WordForm::File { rel, .. }, File::Relations) => Some(rel),
             (WordForm::File { vrps, .. }, File::Payloads) => *vrps,
             (WordForm::File { scenario, .. }, File::Scenario) => *scenario,
-            (WordForm::File { file, .. }, File::Script) => *file,
+            (WordForm::File { file, .. }, File::Asked) => *file,
             (WordForm::Origin { rel, .. }, File::Relations) => Some(rel),
             (WordForm::Origin { .. }, _) => None,
             (WordForm::Demo { .. }, _) => None,

@@ -1,7 +1,7 @@
 use Rattle.std.proofs.Common.{◌≡◌, inr, arith, refl, length, take, ap, sym, drop, ◌++◌, ◌∙◌, length-append, length-drop}
 use Rattle.std.proofs.lemmas.List.{take-append-le, length-take}
 use Rattle.std.proofs.KnownBytes.{Consumes-kept}
-use Rattle.task_reading.proofs.Feeding.{more_fed, ends_ok, ends_err, ends_long}
+use Rattle.task_reading.proofs.Feeding.{all_taken, more_fed, ends_ok, ends_err, ends_long}
 use Rattle.task_reading.proofs.reading.read_pieces.Goals as goal
 
 pub returns-in-Ok-finish-clause-found : goal.returns-in-Ok-finish-clause-found
@@ -49,3 +49,20 @@ pub returns-in-Err-clause-taken : goal.returns-in-Err-clause-taken
 returns-in-Err-clause-taken g c =
     let fed = c.pieces.invariant.fed in
     inr (record { bytes = fed.bytes; within = omega (arith, fed.long, c.pieces.invariant.within); taken = Consumes-kept _ _ _ fed.bytes fed.took c.in-Err.ensures.bytes })
+
+pub returns-in-Ok-finish-clause-taken : goal.returns-in-Ok-finish-clause-taken
+returns-in-Ok-finish-clause-taken g c =
+    let bytes = rw c.in-Ok-eq0.field-0-test at c.in-Ok-eq0.ensures.bytes in
+    let end = bytes.1 refl (omega (arith, c.min-want.ensures, c.take.auto.room, length-take c.min-want.result c.pieces.room, c.pieces.invariant.room)) in
+    (end, all_taken c.pieces.invariant.fed _ bytes.0 c.pieces-test.true)
+
+pub returns-in-Err-finish-clause-taken : goal.returns-in-Err-finish-clause-taken
+returns-in-Err-finish-clause-taken g c =
+    let bytes = rw c.in-Ok-eq0.field-0-test at c.in-Ok-eq0.ensures.bytes in
+    let all = all_taken c.pieces.invariant.fed _ bytes.0 c.pieces-test.true in
+    inr (record { bytes = all.bytes; within = omega (arith, all.within); taken = all.taken })
+
+pub returns-clause-taken : goal.returns-clause-taken
+returns-clause-taken g c =
+    let fed = c.pieces.invariant.fed in
+    inr (record { bytes = fed.bytes; within = omega (arith, fed.long, c.pieces.invariant.within); taken = fed.took })
