@@ -1,5 +1,6 @@
 -- What deliveries come to: over what a world lends, in one text alone, and where they end.
-use Rattle.std.proofs.Common.{◌≡◌, ◌≤◌, ◌-◌, ◌⊎◌, ◌*◌, ◌^◌, ◌++◌, inl, inr, ℕ, true, false, not, is_some, Option, Some, None, List, [], ◌∷◌, length, slice_get, ◌&&◌, if◌then◌else◌, refl, sym, ap, subst, ◌∙◌}
+use Rattle.std.proofs.Common.{◌≡◌, ◌≤◌, ◌-◌, ◌⊎◌, ◌*◌, ◌^◌, ◌++◌, inl, inr, ℕ, Bool, IsTrue, ◌↔◌, ◌==◌, true, false, not, is_some, Option, Some, None, List, length, slice_get, ◌&&◌, if◌then◌else◌, refl, sym, ap, subst, ◌∙◌}
+use Rattle.std.proofs.lemmas.Bool.{eq-eqb, false≢true, ne_eqb}
 use Rattle.std.specs.Prelude.{filter}
 use Rattle.std.specs.FinMap as fin
 use Rattle.std.specs.Ordering.{nat_cmp}
@@ -7,7 +8,7 @@ use Rattle.clap.specs.Walk.{Text}
 use Rattle.as_graph.specs.Topology.{Topology, as_count, has, relation}
 use Rattle.as_graph.proofs.Links.{relation_mutual}
 use Rattle.message_sim.specs.Laws.{IsSettled, TurnsSettle}
-use Rattle.message_sim.specs.Messages.{IsStart, MessageNet}
+use Rattle.message_sim.specs.Messages.{IsQuiet, IsStart, MessageNet}
 use Rattle.message_sim.specs.Nets.{queued_in}
 use Rattle.message_sim.specs.Turns.{AreTurns, first_foreign_in, turns_of}
 use Rattle.message_sim.specs.declared.steps.Deliveries.{Deliveries}
@@ -49,6 +50,19 @@ pub delivered_in : LentIsSetting → (w : World) (k : Kept) (d : Deliveries) (g 
 delivered_in lent w k d g book payloads seeds x y made is_graph is_book same_payloads same_seeds start run =
     let here = lent_here lent w k d.round d.prefix g book payloads seeds is_graph is_book same_payloads same_seeds in
     subst (λ (t : Setting × (ℕ → Option Seed)). IsStart t.0 t.1 x × AreTurns t.0 t.1 (turns_of d.steps) x made y) (λ i. (here.0 i, here.1 i)) (start, run)
+
+quiet_by : (quiet : Bool) (queued : ℕ) → (quiet ≡ true → queued ≡ 0) → (queued ≡ 0 → quiet ≡ true) → quiet ≡ (queued == 0)
+quiet_by true queued none all = sym (eq-eqb queued 0 (none refl))
+quiet_by false queued none all = sym (ne_eqb queued 0 (λ is. false≢true (all is)))
+
+-- whether no message is under way is whether their number is 0
+pub quiet_is_none : (w : World) (d : Deliveries) (seeds : ℕ → Option Seed) (x y : MessageNet) (made : ℕ) (quiet : Bool) → IsStart (setting_of w d.prefix) seeds x
+    → AreTurns (setting_of w d.prefix) seeds (turns_of d.steps) x made y → (IsTrue quiet ↔ IsQuiet y) → quiet ≡ (queued_in (topology w) y == 0)
+quiet_is_none w d seeds x y made quiet start run is =
+    let here : Setting = setting_of w d.prefix in
+    let both = relation_mutual (topology w) in
+    let on = turns_on_links here seeds both (turns_of d.steps) x y made run (start_on_links here seeds both x start) in
+    quiet_by quiet (queued_in (topology w) y) (λ so. none_where_quiet (topology w) y (is.0 so)) (λ none. is.1 (quiet_where_none (topology w) y on none))
 
 -- the first job is one of deliveries whose round and prefix are there: what is outside is the first link that is none
 pub unlinked_first : (w : World) (jobs : List Job) (d : Deliveries) (line : Option ℕ) → Some (messages_job d) ≡ slice_get jobs 0 → (has_round w d.round && has_prefix w.plan d.prefix) ≡ true

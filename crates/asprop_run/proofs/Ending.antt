@@ -19,7 +19,7 @@ use Rattle.sim_core.specs.declared.errors.LoadError.TheVariants as load_error
 use Rattle.task_reading.specs.declared.types.AskError.TheVariants as ask_error
 use Rattle.asprop_run.specs.Failures.{unasked, unloaded}
 use Rattle.asprop_run.specs.Texts.{ending_of}
-use Rattle.asprop_run.specs.Runs.{Outcome, Explained, Reports, IsRun, Worked}
+use Rattle.asprop_run.specs.Runs.{Outcome, Explained, Reports, IsRun, TakesMemory, Worked}
 use Rattle.asprop_run.specs.declared.types.Failure.{Failure}
 use Rattle.asprop_run.specs.declared.types.Failure.TheVariants as failure
 use Rattle.task_reading.specs.declared.types.Status.{Status}
@@ -31,15 +31,15 @@ use Rattle.task_reading.specs.declared.types.Fault.TheVariants as fault
 use Rattle.task_reading.proofs.Preparing.{none_read}
 
 -- nothing was written, or whole answers, where memory ran out
-by_memory : (task : Result Task Fault) (reason : Failure) (out : Stream) → (reason ≡ failure.Write → ⊥) → Outcome task (Err reason) out → Outcome task (Err failure.Memory) out
-by_memory (Ok task) failure.Memory out not_write w = w
-by_memory (Ok task) failure.Write out not_write w = absurd (not_write refl)
-by_memory (Ok task) (failure.Cycle cycle) out not_write w = inl w.1
-by_memory (Ok task) (failure.Fault f) out not_write w = inl w.2
-by_memory (Err f) failure.Memory out not_write w = w
-by_memory (Err f) failure.Write out not_write w = absurd w
-by_memory (Err f) (failure.Cycle cycle) out not_write w = absurd w
-by_memory (Err f) (failure.Fault found) out not_write w = w.1
+by_memory : (task : Result Task Fault) (reason : Failure) (out : Stream) → TakesMemory reason → Outcome task (Err reason) out → Outcome task (Err failure.Memory) out
+by_memory (Ok task) failure.Memory out takes w = w
+by_memory (Ok task) failure.Write out takes w = absurd takes
+by_memory (Ok task) (failure.Cycle cycle) out takes w = inl w.1
+by_memory (Ok task) (failure.Fault f) out takes w = inl w.2
+by_memory (Err f) failure.Memory out takes w = w
+by_memory (Err f) failure.Write out takes w = absurd w
+by_memory (Err f) (failure.Cycle cycle) out takes w = absurd w
+by_memory (Err f) (failure.Fault found) out takes w = w.1
 
 module _ {from : Source} {words : List (List ℕ)} {out err : Stream} where
   -- a failure that was explained
@@ -156,5 +156,5 @@ pub own : {form : Option Form} {s : Status} {err : Stream} (reason : Failure) �
 own reason is says = record { told = reason; is = inl refl; status = is; says = says }
 
 -- or by the text for want of memory
-pub short : {form : Option Form} {err : Stream} (reason : Failure) → (reason ≡ failure.Write → ⊥) → Reports (ending_of form (Err failure.Memory)).1 err → Explained form reason status.NoMemory err
-short reason not_write says = record { told = failure.Memory; is = inr (refl, not_write); status = refl; says = says }
+pub short : {form : Option Form} {err : Stream} (reason : Failure) → TakesMemory reason → Reports (ending_of form (Err failure.Memory)).1 err → Explained form reason status.NoMemory err
+short reason takes says = record { told = failure.Memory; is = inr (refl, takes); status = refl; says = says }

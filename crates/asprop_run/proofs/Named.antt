@@ -5,10 +5,17 @@ use Rattle.activations.specs.declared.acts.Acts.{Acts}
 use Rattle.as_graph.specs.Topology.{has, relation}
 use Rattle.message_sim.specs.Turns.{first_foreign_in as first_unlinked_in}
 use Rattle.message_sim.specs.declared.steps.Deliveries.{Deliveries}
+use Rattle.net_names.specs.Prefixes.{PrefixValue}
+use Rattle.scenario_text.specs.declared.acts.Query.TheVariants.{Routes}
+use Rattle.sim_core.specs.Answers.{refusal_of}
 use Rattle.sim_core.specs.World.{World, has_round, topology}
 use Rattle.stability_laws.specs.Plans.{has_prefix}
 use Rattle.asprop_run.specs.Task.{outside}
 use Rattle.task_reading.specs.Jobs.{acts_job, messages_job}
+
+-- a query for the routes of a round and a prefix that are there is accepted
+pub accepted_routes : (w : World) (round : ℕ) (prefix : PrefixValue) → has_round w round ≡ true → has_prefix w.plan prefix ≡ true → refusal_of w (Routes round prefix) ≡ None
+accepted_routes w round prefix there known = rw (there, known) refl
 
 passes_by : (a b : Bool) (found : Option ℕ) (line : ℕ) → (if a && b then found else Some line) ≡ None → ((a ≡ true) × (b ≡ true)) × (found ≡ None)
 passes_by true true found line h = ((refl, refl), h)

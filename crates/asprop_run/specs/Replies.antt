@@ -42,8 +42,7 @@ abbrev pub AnswersJob : World → Job → Text → Bool → World → Type 0
 AnswersJob w counts_job text refused new = (refused ≡ false) × (new ≡ w)
     × (text ≡ fact "ases" (as_count (topology w)) ++ fact "links" (fin.len w.links))
 AnswersJob w (line_job heads line) text refused new = (k : Kept) × IsKept w k × (answer : Text)
-    × IsReply w k line.act answer refused new × (text ≡ (if heads
-    then codes "# " ++ (decimal line.number ++ 10 ∷ []) else []) ++ answer)
+    × IsReply w k line.act answer refused new × (text ≡ head heads line.number ++ answer)
 AnswersJob w (acts_job a) text refused new = (refused ≡ false) × (new ≡ w) × IsActsText w a text
 AnswersJob w (messages_job d) text refused new = (refused ≡ false) × (new ≡ w) × IsNetText w d text
 AnswersJob w (sweep_job s) text refused new = (refused ≡ false) × (new ≡ w) × IsSweptIn w s text

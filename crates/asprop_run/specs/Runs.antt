@@ -54,9 +54,15 @@ pub record Worked (from : Source) (form : Option Form) (result : Result Bool Fai
 abbrev pub Reports : Text → Stream → Type 0
 Reports text err = err.wrote text ⊎ err.failed text
 
--- how a failure is explained: by its own text, or where that can't be made by that for want of memory
+-- the text of the failure takes memory: it tells a cycle, or the name of a file and the place in it
+abbrev pub TakesMemory : Failure → Type 0
+TakesMemory (Cycle c) = Unit {0}
+TakesMemory (failure.Fault (InFile which cause)) = Unit {0}
+TakesMemory _ = ⊥
+
+-- how a failure is explained: by its own text, or where that takes memory and can't be made by that for want of it
 pub record Explained (form : Option Form) (reason : Failure) (s : Status) (err : Stream) : Type 0 where
   pub told : Failure
-  pub is : (told ≡ reason) ⊎ ((told ≡ failure.Memory) × (reason ≡ failure.Write → ⊥))
+  pub is : (told ≡ reason) ⊎ ((told ≡ failure.Memory) × TakesMemory reason)
   pub status : s ≡ (ending_of form (Err told)).0
   pub says : Reports (ending_of form (Err told)).1 err

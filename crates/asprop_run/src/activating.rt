@@ -1,135 +1,24 @@
-//! Activations of ASes: what is named in the world, and what the activations come to.
-ghost use Rattle.std.specs.Prelude.{◌≡◌, ◌++◌, All, ◌&&◌, ℕ, None, codes, false, if◌then◌else◌, IfOk, OnOk, List, ◌∷◌};
-ghost use Rattle.std.specs.Option.{option_or};
+//! Activations of ASes, and what they come to.
+ghost use Rattle.std.specs.Prelude.{◌≡◌, ◌++◌, ℕ, None, codes, false, if◌then◌else◌, IfOk, OnOk};
 ghost use Rattle.std.specs.FinMap as fin;
 ghost use Rattle.activations.specs.Prelude.{AreSound};
 ghost use Rattle.net_names.specs.Prelude.{occurs};
 ghost use Rattle.reports.specs.Rows.{table};
-ghost use Rattle.sim_core.specs.Prelude.{base_world, IsKept, kept, world_seen, HasCycle, has_round};
-ghost use Rattle.stability_laws.specs.Prelude.{entry_row, has_prefix};
+ghost use Rattle.sim_core.specs.Prelude.{IsKept, kept, world_seen, HasCycle};
+ghost use Rattle.stability_laws.specs.Prelude.{entry_row};
 ghost use Rattle.asprop_run.specs.Inside.{IsInside};
-ghost use Rattle.asprop_run.specs.Loaded.{Serves, loaded_world};
 ghost use Rattle.asprop_run.specs.Replies.{AnswersJob};
 ghost use Rattle.asprop_run.specs.Settling.{acts_rows};
-ghost use Rattle.asprop_run.specs.Task.{outside};
-ghost use Rattle.task_reading.specs.Prelude.{Job as AJob, acts_job, job_seen, needs_of};
-ghost use Rattle.task_reading.specs.declared.jobs.Needs.TheVariants as needs;
+ghost use Rattle.task_reading.specs.Prelude.{acts_job};
 
-use crate::loaded::Loaded;
-use crate::refusals::put_bytes;
+use crate::states::{seeds_at, states_at};
 use activations::{Acts, full_pieces, height_of, run_activations};
 use as_graph::Graph;
-use net_names::{Asn, NoMemory, Path, Prefix};
-use origin_validation::KnownStates;
+use net_names::{Asn, NoMemory, put_bytes};
 use reports::put_entry;
-use roa_table::Vrps;
-use sim_core::{Base, Sim, kept_are_stable};
-use stability_laws::{Entry, Routing, SeedPlan, World};
+use sim_core::{Sim, kept_are_stable};
+use stability_laws::{Routing, World};
 use std::alloc::Global;
-use task_reading::{Job, Jobs};
-use trial_world::is_inside;
-
-// Whether the world has the round and the prefix.
-fn has_table(loaded: &Loaded, round: u32, prefix: Prefix) -> bool
-    ensures { result ≡ (has_round (loaded_world loaded.now) round && has_prefix (loaded_world loaded.now).plan prefix) }
-{
-    round >= 1 && round <= loaded.rounds() && loaded.plan().has_prefix(prefix)
-}
-
-// The line of the sweep that the job is, where it isn't in the world.
-fn line_outside(base: &Base, job: Job<'_>) -> Option<u32>
-    requires { needs_of (job_seen job) ≡ needs.Ranks }
-    ensures { (jobs : List AJob) → outside (base_world base.now) (job_seen job.entry ∷ jobs) ≡
-        option_or result (outside (base_world base.now) jobs) }
-{
-    match job {
-        Job::Sweep(line) => if is_inside(base, line) {
-            None
-        } else {
-            Some(line.line)
-        },
-        Job::Counts | Job::Line(_, _) | Job::Activations(_) | Job::Messages(_) | Job::Tables(_) =>
-            unreachable!(),
-    }
-}
-
-// The first line of sweeps that isn't in the world.
-fn first_sweep_outside(base: &Base, jobs: &Jobs) -> Option<u32>
-    requires { All (λ job. needs_of job ≡ needs.Ranks) jobs.now }
-    ensures { result ≡ outside (base_world base.now) jobs.now }
-{
-    'jobs: for place in 0..jobs.count() {
-        let Some(job) = jobs.at(place) else {
-            unreachable!();
-        };
-        if let Some(line) = line_outside(base, job) {
-            return Some(line);
-        }
-    }
-    None
-}
-
-/// The first line of an option's file that names what isn't in the world: its round or its prefix, an AS or a link, or
-/// what a sweep asks for.
-pub fn first_outside(loaded: &Loaded, jobs: &Jobs) -> Option<u32>
-    requires { All (Serves loaded.now) jobs.now }
-    ensures { result ≡ outside (loaded_world loaded.now) jobs.now }
-{
-    if let Loaded::Ranked(base, _) = loaded {
-        return first_sweep_outside(base, jobs);
-    }
-    match jobs.at(0) {
-        Some(Job::Activations(acts)) => {
-            if has_table(loaded, acts.round, acts.prefix) {
-                acts.first_foreign(loaded.graph())
-            } else {
-                Some(acts.for_line)
-            }
-        }
-        Some(Job::Messages(deliveries)) => {
-            if has_table(loaded, deliveries.round, deliveries.prefix) {
-                deliveries.first_foreign(loaded.graph())
-            } else {
-                Some(deliveries.for_line)
-            }
-        }
-        Some(Job::Tables(tables)) => tables.first_outside(loaded.plan(), loaded.rounds()),
-        Some(Job::Counts) | Some(Job::Line(_, _)) | None => None,
-        Some(Job::Sweep(_)) => unreachable!(),
-    }
-}
-
-/// The states by the payloads. Those of the prefix with the origins that announce it are found ahead.
-pub fn states_at<'a>(
-    alloc: Global,
-    vrps: &'a Vrps,
-    plan: &SeedPlan,
-    prefix: Prefix,
-) -> Result<KnownStates<'a>, NoMemory>
-    ensures { IfOk result (λ states. states.payloads ≡ vrps.now) }
-{
-    let mut states = KnownStates::of(alloc, vrps);
-    for asn in plan.announcers() {
-        if let Some(path) = plan.path(prefix, *asn) {
-            if let Some(origin) = path.as_slice().last() {
-                states.find(prefix, *origin)?;
-            }
-        }
-    }
-    Ok(states)
-}
-
-// The same entry.
-fn same_entry(alloc: Global, entry: &Entry) -> Result<Entry, NoMemory>
-    ensures { IfOk result (λ e. e ≡ entry.now) }
-{
-    let numbers = Vec::from_slice(alloc, entry.path.as_slice())?;
-    Ok(Entry {
-        class: entry.class,
-        path: Path::from_vec(numbers),
-        otc: entry.otc,
-    })
-}
 
 // The same routing, whose entries stand at these ASes alone.
 fn same_routing(alloc: Global, ases: &[Asn], held: &Routing) -> Result<Routing, NoMemory>
@@ -139,7 +28,7 @@ fn same_routing(alloc: Global, ases: &[Asn], held: &Routing) -> Result<Routing, 
     let mut routing = Routing::new(alloc);
     for asn in ases {
         if let Some(entry) = held.get(*asn) {
-            routing.put(*asn, same_entry(alloc, entry)?)?;
+            routing.put(*asn, entry.copied(alloc)?)?;
         }
     }
     Ok(routing)
@@ -196,10 +85,7 @@ pub fn answer_activations(
 {
     kept_are_stable();
     let (graph, list) = (sim.graph(), acts.list.as_slice());
-    // The world has the round and the prefix.
-    let Ok(seeds) = sim.seeds(alloc, acts.round, acts.prefix) else {
-        return Err(NoMemory);
-    };
+    let seeds = seeds_at(alloc, sim, acts.round, acts.prefix)?;
     let states = states_at(alloc, sim.vrps(), sim.plan(), acts.prefix)?;
     let mut routing = same_routing(alloc, graph.ases(), &acts.held)?;
     let world = World {

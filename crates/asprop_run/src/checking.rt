@@ -6,9 +6,8 @@ ghost use Rattle.asprop_run.specs.Replies.{AnswersJob};
 ghost use Rattle.asprop_run.specs.Settling.{fact, said};
 ghost use Rattle.task_reading.specs.Prelude.{tables_job};
 
-use crate::activating::states_at;
-use crate::refusals::put_bytes;
-use net_names::{Asn, NoMemory};
+use crate::states::states_at;
+use net_names::{Asn, NoMemory, put_bytes};
 use reports::put_entry;
 use sim_core::{Base, kept_are_stable};
 use stability_laws::{Entry, World};

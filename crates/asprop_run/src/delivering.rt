@@ -1,5 +1,5 @@
 //! Deliveries of messages, and what they come to.
-ghost use Rattle.std.specs.Prelude.{◌≡◌, ◌++◌, false, OnOk};
+ghost use Rattle.std.specs.Prelude.{◌≡◌, ◌++◌, ◌==◌, false, OnOk};
 ghost use Rattle.message_sim.specs.Prelude.{net_of};
 ghost use Rattle.reports.specs.Rows.{table};
 ghost use Rattle.sim_core.specs.Prelude.{IsKept, kept, world_seen, HasCycle};
@@ -9,11 +9,11 @@ ghost use Rattle.asprop_run.specs.Inside.{IsInside};
 ghost use Rattle.asprop_run.specs.Replies.{AnswersJob};
 ghost use Rattle.task_reading.specs.Prelude.{messages_job};
 
-use crate::activating::{states_at, yes_or_no};
-use crate::refusals::put_bytes;
+use crate::activating::yes_or_no;
+use crate::states::{seeds_at, states_at};
 use as_graph::Graph;
 use message_sim::{Deliveries, Net};
-use net_names::NoMemory;
+use net_names::{NoMemory, put_bytes};
 use origin_validation::KnownStates;
 use policy_kinds::Kind;
 use reports::put_entry;
@@ -42,10 +42,12 @@ fn put_messages(
     text: &mut Vec<u8>,
     delivered: u32,
     queued: u64,
+    quiet: bool,
 ) -> Result<(), NoMemory>
+    requires { quiet ≡ (queued == 0) }
     ensures { OnOk result (text.new.items ≡ text.old.items ++ message_rows delivered queued) }
 {
-    let word = yes_or_no(queued == 0);
+    let word = yes_or_no(quiet);
     let rows = format!(in alloc; "delivered|{delivered}\nqueued|{queued}\nquiet|{word}\n")?;
     put_bytes(text, rows.as_bytes())
 }
@@ -66,14 +68,11 @@ pub fn answer_deliveries(
 {
     kept_are_stable();
     let graph = sim.graph();
-    // The world has the round and the prefix.
-    let Ok(seeds) = sim.seeds(alloc, deliveries.round, deliveries.prefix) else {
-        return Err(NoMemory);
-    };
+    let seeds = seeds_at(alloc, sim, deliveries.round, deliveries.prefix)?;
     let states = states_at(alloc, sim.vrps(), sim.plan(), deliveries.prefix)?;
     let mut net = Net::new(alloc, graph, sim.book(), &states, deliveries.prefix, &seeds)?;
     let delivered = net.run(alloc, &deliveries.steps)?;
     text.clear();
     put_choices(text, graph, &net)?;
-    put_messages(alloc, text, delivered, net.queued())
+    put_messages(alloc, text, delivered, net.queued(), net.quiet())
 }

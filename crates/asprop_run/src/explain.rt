@@ -11,7 +11,9 @@ use io_edge::{Sink, write_all};
 use net_names::NoMemory;
 use reports::put_numbers;
 use std::alloc::Global;
-use task_reading::{Status, WordForm, fault_message, fault_status};
+use task_reading::{
+    Fault, Status, WordForm, ases_message, fault_status, file_message, usage_message,
+};
 
 // The numbers of a cycle, the lowest first.
 fn cycle_message(alloc: Global, cycle: &Cycle) -> Result<Vec<u8>, NoMemory>
@@ -31,7 +33,40 @@ fn report<E: Sink>(err: &mut E, text: &[u8])
     let _ = write_all(err, text);
 }
 
-/// Says why the work stopped, and gives its status. Where memory for the text is wanting, that is said instead.
+// Says which fault the words or the files have, and gives its status.
+fn explain_fault<E: Sink>(
+    alloc: Global,
+    form: &Option<WordForm<'_>>,
+    fault: Fault,
+    err: &mut E,
+) -> Status
+    ensures { Explained (option_map form_seen form.now) (Failure.Fault fault) result
+        (stream_of E.written E.faults err.old err.new) }
+{
+    match fault {
+        Fault::Usage => {
+            report(err, usage_message().as_bytes());
+            Status::Usage
+        }
+        Fault::TooManyAses => {
+            report(err, ases_message().as_bytes());
+            Status::TooLarge
+        }
+        Fault::InFile(file, cause) => match file_message(alloc, form, file, cause) {
+            Ok(text) => {
+                report(err, text.as_bytes());
+                fault_status(fault)
+            }
+            Err(_) => {
+                report(err, b"asprop: out of memory\n");
+                Status::NoMemory
+            }
+        },
+    }
+}
+
+/// Says why the work stopped, and gives its status. Where memory for the text of a cycle or of a file is wanting, that is
+/// said instead.
 pub fn explain<E: Sink>(
     alloc: Global,
     form: &Option<WordForm<'_>>,
@@ -60,15 +95,6 @@ pub fn explain<E: Sink>(
                 Status::NoMemory
             }
         },
-        Failure::Fault(fault) => match fault_message(alloc, form, *fault) {
-            Ok(text) => {
-                report(err, text.as_bytes());
-                fault_status(*fault)
-            }
-            Err(_) => {
-                report(err, b"asprop: out of memory\n");
-                Status::NoMemory
-            }
-        },
+        Failure::Fault(fault) => explain_fault(alloc, form, *fault, err),
     }
 }

@@ -14,9 +14,11 @@ mod explain;
 mod failing;
 mod laws;
 mod loaded;
+mod outside;
 mod refusals;
 mod running;
 mod starting;
+mod states;
 mod types;
 
 pub use laws::{

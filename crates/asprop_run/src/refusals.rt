@@ -6,18 +6,13 @@ ghost use Rattle.sim_core.specs.declared.errors.EditLimit.TheVariants.{Announcem
 ghost use Rattle.asprop_run.specs.Refusals.{edit_refusal, refusal_text};
 
 use cycle_check::Cycle;
-use net_names::{Addr, Asn, NoMemory, Prefix, Vrp, put_addr, put_asn, put_prefix};
+use net_names::{
+    Addr, Asn, NoMemory, Prefix, Vrp, put_addr, put_asn, put_bytes, put_number, put_prefix,
+};
 use reports::put_numbers;
 use sim_core::{EditError, EditLimit, QueryError};
 
-/// Appends these bytes.
-pub fn put_bytes(out: &mut Vec<u8>, bytes: &[u8]) -> Result<(), NoMemory>
-    ensures { OnOk result (out.new.items ≡ out.old.items ++ bytes.now) }
-{
-    out.extend_from_slice(bytes)?;
-    Ok(())
-}
-
+// The world has no such round.
 fn put_unknown_round(out: &mut Vec<u8>, round: u32) -> Result<(), NoMemory>
     ensures { OnOk result (out.new.items ≡ out.old.items ++ refusal_text (UnknownRound round)) }
 {
@@ -26,6 +21,7 @@ fn put_unknown_round(out: &mut Vec<u8>, round: u32) -> Result<(), NoMemory>
     put_bytes(out, text.as_bytes())
 }
 
+// The world has no such prefix.
 fn put_unknown_prefix(out: &mut Vec<u8>, prefix: Prefix) -> Result<(), NoMemory>
     ensures { OnOk result (out.new.items ≡ out.old.items ++ refusal_text (UnknownPrefix prefix)) }
 {
@@ -34,6 +30,7 @@ fn put_unknown_prefix(out: &mut Vec<u8>, prefix: Prefix) -> Result<(), NoMemory>
     put_bytes(out, b"\n")
 }
 
+// The world has no such AS.
 fn put_unknown_as(out: &mut Vec<u8>, asn: Asn) -> Result<(), NoMemory>
     ensures { OnOk result (out.new.items ≡ out.old.items ++ refusal_text (UnknownAs asn)) }
 {
@@ -42,6 +39,7 @@ fn put_unknown_as(out: &mut Vec<u8>, asn: Asn) -> Result<(), NoMemory>
     put_bytes(out, b"\n")
 }
 
+// The address is not watched.
 fn put_not_watched(out: &mut Vec<u8>, addr: Addr) -> Result<(), NoMemory>
     ensures { OnOk result (out.new.items ≡ out.old.items ++ refusal_text (NotWatched addr)) }
 {
@@ -72,6 +70,7 @@ pub fn put_done(out: &mut Vec<u8>, routes: u64) -> Result<(), NoMemory>
     put_bytes(out, text.as_bytes())
 }
 
+// There is no such link.
 fn put_absent_link(out: &mut Vec<u8>, lo: Asn, hi: Asn) -> Result<(), NoMemory>
     ensures { OnOk result (out.new.items ≡ out.old.items ++ edit_refusal (AbsentLink lo hi)) }
 {
@@ -82,26 +81,20 @@ fn put_absent_link(out: &mut Vec<u8>, lo: Asn, hi: Asn) -> Result<(), NoMemory>
     put_bytes(out, b"\n")
 }
 
-fn put_number(out: &mut Vec<u8>, number: u32) -> Result<(), NoMemory>
-    ensures { OnOk result (out.new.items ≡ out.old.items ++ decimal number) }
-{
-    let alloc = *out.allocator();
-    let text = format!(in alloc; "{number}")?;
-    put_bytes(out, text.as_bytes())
-}
-
+// There is no such payload.
 fn put_absent_vrp(out: &mut Vec<u8>, vrp: Vrp) -> Result<(), NoMemory>
     ensures { OnOk result (out.new.items ≡ out.old.items ++ edit_refusal (AbsentVrp vrp)) }
 {
     put_bytes(out, b"refused absent-vrp ")?;
-    put_number(out, vrp.asn())?;
+    put_number(out, u64::from(vrp.asn()))?;
     put_bytes(out, b" ")?;
     put_prefix(out, vrp.prefix())?;
     put_bytes(out, b" ")?;
-    put_number(out, u32::from(vrp.max()))?;
+    put_number(out, u64::from(vrp.max()))?;
     put_bytes(out, b"\n")
 }
 
+// The AS does not announce the prefix.
 fn put_absent_announcement(out: &mut Vec<u8>, prefix: Prefix, asn: Asn) -> Result<(), NoMemory>
     ensures { OnOk result (out.new.items ≡ out.old.items ++ edit_refusal (AbsentAnnouncement prefix asn)) }
 {
@@ -112,6 +105,7 @@ fn put_absent_announcement(out: &mut Vec<u8>, prefix: Prefix, asn: Asn) -> Resul
     put_bytes(out, b"\n")
 }
 
+// The word for a limit.
 fn limit_name(which: EditLimit) -> &'static str
     ensures { result.now ≡ codes (elim which
         [ Links ↦ "links" | Announcements ↦ "announcements" | Ases ↦ "ases" | Vrps ↦ "payloads" ]) }
@@ -124,6 +118,7 @@ fn limit_name(which: EditLimit) -> &'static str
     }
 }
 
+// The edit would pass a limit.
 fn put_limit(out: &mut Vec<u8>, which: EditLimit) -> Result<(), NoMemory>
     ensures { OnOk result (out.new.items ≡ out.old.items ++ edit_refusal (Limit which)) }
 {
@@ -133,6 +128,7 @@ fn put_limit(out: &mut Vec<u8>, which: EditLimit) -> Result<(), NoMemory>
     put_bytes(out, text.as_bytes())
 }
 
+// The link would close a provider cycle.
 fn put_cycle(out: &mut Vec<u8>, cycle: &Cycle) -> Result<(), NoMemory>
     ensures { OnOk result (out.new.items ≡ out.old.items ++ edit_refusal (ProviderCycle cycle.now)) }
 {

@@ -14,10 +14,10 @@ ghost use Rattle.task_reading.specs.declared.types.File.TheVariants as files;
 ghost use Rattle.task_reading.specs.declared.types.Cause.TheVariants.{NotInWorld};
 ghost use Rattle.task_reading.specs.declared.types.Fault.TheVariants.{InFile};
 
-use crate::activating::first_outside;
 use crate::answers::write_answers;
 use crate::explain::explain;
 use crate::loaded::Loaded;
+use crate::outside::first_outside;
 use crate::types::Failure;
 use io_edge::{Inputs, Sink};
 use std::alloc::Global;

@@ -172,21 +172,6 @@ pub fn file_message(
     format!(in alloc; "asprop: {name}: {text}\n")
 }
 
-/// What is said of a fault, with the name of its file as the form gives it and the place in it.
-pub fn fault_message(
-    alloc: Global,
-    form: &Option<WordForm<'_>>,
-    fault: Fault,
-) -> Result<String, AllocError>
-    ensures { IfOk result (λ text. string_bytes text ≡ (fault_ending (option_map form_seen form.now) fault).1) }
-{
-    match fault {
-        Fault::Usage => String::from_str(alloc, usage_message()),
-        Fault::TooManyAses => String::from_str(alloc, ases_message()),
-        Fault::InFile(file, cause) => file_message(alloc, form, file, cause),
-    }
-}
-
 // The status of a file that isn't taken.
 fn cause_status(cause: Cause) -> Status
     ensures { result ≡ (cause_of cause).0 }

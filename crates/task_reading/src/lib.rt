@@ -2,8 +2,8 @@
 //!
 //! [`read_words`] gives the form of the words, and none exactly where the command doesn't take them or they have none of
 //! the forms. [`ask`] reads the files that a form names, each to its end or to one byte past its limit, and gives what they
-//! ask for, or the first fault in the order of reading; it yields to want of memory alone. [`fault_status`] and
-//! [`fault_message`] say with which status and text a run ends that has a fault.
+//! ask for, or the first fault in the order of reading; it yields to want of memory alone. [`fault_status`],
+//! [`usage_message`], [`ases_message`] and [`file_message`] say with which status and text a run ends that has a fault.
 #![tactic(auto)]
 
 mod asking;
@@ -17,7 +17,7 @@ mod types;
 mod words;
 
 pub use asking::{Asked, ask};
-pub use fault_texts::{ases_message, fault_message, fault_status, file_message, usage_message};
+pub use fault_texts::{ases_message, fault_status, file_message, usage_message};
 pub use jobs::{Job, Jobs, Needs, jobs_are_alike};
 pub use types::{AskError, Cause, Fault, File, Status};
 pub use words::{FileOption, WordForm, read_words};

@@ -11,7 +11,13 @@ use Rattle.sim_core.specs.Sims.{kept, world_seen}
 use Rattle.sim_core.specs.World.{topology}
 use Rattle.asprop_run.specs.Settling.{acts_rows}
 use Rattle.asprop_run.proofs.Acting.{activates_ases, holds_at_ases, same_has, same_height, same_table, settled_in}
+use Rattle.asprop_run.proofs.Named.{accepted_routes, acts_named}
 use Rattle.asprop_run.proofs.activating.answer_activations.Goals as goal
+
+pub seeds_at-requires : goal.seeds_at-requires
+seeds_at-requires c =
+    let there = (acts_named (world_seen c.args.sim.now) c.args.acts.now c.requires.inside.0).0 in
+    accepted_routes (world_seen c.args.sim.now) c.args.acts.now.round c.args.acts.now.prefix there.0 there.1
 
 pub same_routing-requires : goal.same_routing-requires
 same_routing-requires c a away =
@@ -35,8 +41,8 @@ returns c =
     let w = world_seen c.args.sim.now in
     let g = c.graph-graph.result.now in
     let f = fin.get c.run_activations.new.routing in
-    let run = settled_in c.kept_are_stable.ensures.setting w (kept c.args.sim.now) c.args.acts.now g c.book.result.now _ c.in-Ok.seeds c.in_ok-routing.routing c.run_activations.new.routing c.in_ok-settled.settled
-    c.graph-graph.ensures c.book.ensures (c.in_ok-states.ensures ∙ c.vrps.ensures) c.in-Ok.ensures.seeds c.in_ok-routing.ensures (rw c.as_slice-list.ensures at c.in_ok-settled.ensures.activated) c.in_ok-settled.ensures.stable in
+    let run = settled_in c.kept_are_stable.ensures.setting w (kept c.args.sim.now) c.args.acts.now g c.book.result.now _ c.in_ok-seeds.seeds c.in_ok-routing.routing c.run_activations.new.routing c.in_ok-settled.settled
+    c.graph-graph.ensures c.book.ensures (c.in_ok-states.ensures ∙ c.vrps.ensures) c.in_ok-seeds.ensures.seeds c.in_ok-routing.ensures (rw c.as_slice-list.ensures at c.in_ok-settled.ensures.activated) c.in_ok-settled.ensures.stable in
     let pieces : IsMostPieces (has (topology w)) c.args.acts.now.list c.in_ok-pieces.pieces =
     subst (λ (t : (ℕ → Bool) × List ℕ). IsMostPieces t.0 t.1 c.in_ok-pieces.pieces) (λ i. (same_has w g c.graph-graph.ensures i, c.as_slice-list.ensures i)) c.in_ok-pieces.ensures in
     let rows : c.put_rows.new.text.items ≡ table (topology w) (λ a. entry_row a (f a)) =

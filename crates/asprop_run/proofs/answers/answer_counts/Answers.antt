@@ -8,4 +8,4 @@ pub returns : goal.returns
 returns c =
     let text = c.as_bytes.ensures.value ∙ c.in_ok-rows.ensures.ok ∙ counts_text c.as_count-ases.result c.link_count-links.result
     ∙ ap₂ (λ (n m : ℕ). fact "ases" n ++ fact "links" m) c.as_count-ases.ensures.value c.link_count-links.ensures.value in
-    on_ok_weaker c.put_bytes.result (λ is. (refl, refl, is ∙ ap (λ (l : List ℕ). l ++ c.as_bytes.result.now) c.clear.ensures.items ∙ text)) c.put_bytes.ensures
+    on_ok_weaker c.put_bytes.result (λ is. (refl, refl, is ∙ ap (λ (l : List ℕ). l ++ c.as_bytes.result.now) c.clear.ensures.items ∙ text)) c.put_bytes.ensures.ok

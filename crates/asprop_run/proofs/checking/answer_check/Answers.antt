@@ -16,7 +16,7 @@ returns-in-Stable c =
       refl,
       (
         subst (IsVerdict (setting_of w t.prefix) w.plan t) c.in-Stable.is told,
-        c.in_ok-put_bytes-in-Stable.ensures ∙ ap (λ (l : List ℕ). l ++ codes "stable|yes\n") c.clear.ensures.items,
+        c.in_ok-put_bytes-in-Stable.ensures.ok ∙ ap (λ (l : List ℕ). l ++ codes "stable|yes\n") c.clear.ensures.items,
       ),
     )
 

@@ -18,17 +18,4 @@ pub returns-in-Err : goal.returns-in-Err
 returns-in-Err g c =
     let err = stream_of g.E.Sink.written g.E.Sink.faults c.args.err.now c.report-in-Err.new.err in
     let P : Failure → Type 0 = λ reason. Explained (option_map form_seen c.args.form.now) reason status.NoMemory err in
-    subst P (sym c.in-Cycle.is) (short (failure.Cycle _) (λ e. cc) c.report-in-Err.ensures)
-
-pub returns-in-Err-fault_message : goal.returns-in-Err-fault_message
-returns-in-Err-fault_message g c =
-    let err = stream_of g.E.Sink.written g.E.Sink.faults c.args.err.now c.report-in-Err-fault_message.new.err in
-    let P : Failure → Type 0 = λ reason. Explained (option_map form_seen c.args.form.now) reason status.NoMemory err in
-    subst P (sym c.in-Fault.is) (short (failure.Fault _) (λ e. cc) c.report-in-Err-fault_message.ensures)
-
-pub returns-in-Ok-fault_message : goal.returns-in-Ok-fault_message
-returns-in-Ok-fault_message g c =
-    let err = stream_of g.E.Sink.written g.E.Sink.faults c.args.err.now c.report-in-Ok-fault_message.new.err in
-    let P : Failure → Type 0 = λ reason. Explained (option_map form_seen c.args.form.now) reason c.fault_status.result err in
-    let says = subst (λ (text : List ℕ). Reports text err) (c.as_bytes.ensures.value ∙ c.in-Ok-fault_message.ensures) c.report-in-Ok-fault_message.ensures in
-    subst P (sym c.in-Fault.is) (own (failure.Fault _) (c.fault_status.ensures _) says)
+    subst P (sym c.in-Cycle.is) (short (failure.Cycle _) tt c.report-in-Err.ensures)

@@ -9,5 +9,5 @@ returns c =
     let text : List ℕ = prefix_text c.args.prefix in
     five_pieces c.put_bytes-3.result c.args.out.now.items front text (decimal c.args.asn)
     c.put_prefix.new.out.items c.put_bytes-2.new.out.items c.put_asn.new.out.items c.put_bytes-3.new.out.items
-    (c.in_ok-put_prefix.ensures.ok ∙ ap (λ (l : List ℕ). l ++ text) c.in_ok-put_bytes.ensures)
-    c.in_ok-put_bytes-2.ensures c.in_ok-put_asn.ensures.ok c.put_bytes-3.ensures
+    (c.in_ok-put_prefix.ensures.ok ∙ ap (λ (l : List ℕ). l ++ text) c.in_ok-put_bytes.ensures.ok)
+    c.in_ok-put_bytes-2.ensures.ok c.in_ok-put_asn.ensures.ok c.put_bytes-3.ensures.ok

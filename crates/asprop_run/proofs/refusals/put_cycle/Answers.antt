@@ -8,4 +8,4 @@ returns c =
     let front : List ℕ = codes "refused provider-cycle " in
     let text : List ℕ = numbers_text c.args.cycle.now in
     three_pieces c.put_bytes-2.result c.args.out.now.items front text c.put_numbers.new.out.items c.put_bytes-2.new.out.items
-    (c.in_ok-put_numbers.ensures.ok ∙ ap (λ (l : List ℕ). l ++ numbers_text c.as_slice.result.now) c.in_ok-put_bytes.ensures ∙ ap (λ (l : List ℕ). (c.args.out.now.items ++ front) ++ numbers_text l) c.as_slice.ensures) c.put_bytes-2.ensures
+    (c.in_ok-put_numbers.ensures.ok ∙ ap (λ (l : List ℕ). l ++ numbers_text c.as_slice.result.now) c.in_ok-put_bytes.ensures.ok ∙ ap (λ (l : List ℕ). (c.args.out.now.items ++ front) ++ numbers_text l) c.as_slice.ensures) c.put_bytes-2.ensures.ok

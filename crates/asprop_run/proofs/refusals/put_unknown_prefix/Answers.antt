@@ -7,4 +7,4 @@ pub returns : goal.returns
 returns c =
     let front : List ℕ = codes "refused unknown-prefix " in
     let text : List ℕ = prefix_text c.args.prefix in
-    three_pieces c.put_bytes-2.result c.args.out.now.items front text c.put_prefix.new.out.items c.put_bytes-2.new.out.items (c.in_ok-put_prefix.ensures.ok ∙ ap (λ (l : List ℕ). l ++ text) c.in_ok-put_bytes.ensures) c.put_bytes-2.ensures
+    three_pieces c.put_bytes-2.result c.args.out.now.items front text c.put_prefix.new.out.items c.put_bytes-2.new.out.items (c.in_ok-put_prefix.ensures.ok ∙ ap (λ (l : List ℕ). l ++ text) c.in_ok-put_bytes.ensures.ok) c.put_bytes-2.ensures.ok

@@ -7,7 +7,7 @@ use Rattle.asprop_run.specs.Loaded.{loaded_world}
 use Rattle.asprop_run.proofs.Acting.{outside_first, same_has}
 use Rattle.asprop_run.proofs.Checked.{tables_first}
 use Rattle.asprop_run.proofs.Delivered.{unlinked_first}
-use Rattle.asprop_run.proofs.activating.first_outside.Goals as goal
+use Rattle.asprop_run.proofs.outside.first_outside.Goals as goal
 
 pub returns-then-has_table : goal.returns-then-has_table
 returns-then-has_table c =

@@ -5,7 +5,7 @@ use Rattle.asprop_run.specs.Task.{outside}
 use Rattle.asprop_run.proofs.Answering.{drop_next, of_all}
 use Rattle.task_reading.specs.Jobs.{Job, job_seen, needs_of}
 use Rattle.task_reading.specs.declared.jobs.Needs.TheVariants.{Ranks}
-use Rattle.asprop_run.proofs.activating.first_sweep_outside.Goals as goal
+use Rattle.asprop_run.proofs.outside.first_sweep_outside.Goals as goal
 
 pub line_outside-requires : goal.line_outside-requires
 line_outside-requires c = of_all (λ (job : Job). needs_of job ≡ Ranks) c.args.jobs.now c.jobs.place (job_seen c.in-Some.job) (sym c.in-Some.ensures.value) c.requires
