@@ -17,9 +17,9 @@ plan-requires g c =
     record {
       closed = c.requires.closed;
       few_cells = c.requires.few;
-      no_cycle = c.planned_ranks.ensures.no_cycle;
-      last = c.planned_ranks.ensures.last;
-      ranks = c.planned_ranks.ensures.after;
+      no_cycle = c.planned_ranks-ranks.ensures.no_cycle;
+      last = c.planned_ranks-ranks.ensures.last;
+      ranks = c.planned_ranks-ranks.ensures.after;
       can_edit = λ e is. (
           let same : edit ≡ e = cc in
           subst (CanEdit (plan_of r)) same (record {
