@@ -177,8 +177,8 @@ class World:
             if isinstance(announcement, str) or len(announcement) not in (2, 3):
                 raise ValueError('an announcement is a prefix, an AS and perhaps a path, and not %r' % (announcement,))
             one: Dict[str, object] = {'prefix': _word(announcement[0]), 'as': operator.index(announcement[1])}
-            if len(announcement) == 3:
-                one['path'] = _list(announcement[2])
+            for path in announcement[2:]:
+                one['path'] = _list(path)
             announced.append(one)
         if isinstance(self.watch, str):
             raise TypeError('a list of addresses is wanted and not the text %r' % self.watch)

@@ -78,7 +78,8 @@ class _Task:
     draw: int
 
     def row(self, adopters: int, trial: int, ases: int, to_attacker: int, nowhere: int) -> Row:
-        return Row(*astuple(self), adopters, trial, to_attacker, ases - to_attacker - nowhere, nowhere)
+        return Row(self.pair, self.kind, self.attacker, self.victim, self.draw, adopters, trial,
+                   to_attacker, ases - to_attacker - nowhere, nowhere)
 
 
 @dataclass(frozen=True)
