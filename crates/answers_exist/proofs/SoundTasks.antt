@@ -2,7 +2,7 @@
 use Rattle.std.proofs.Common.{◌≡◌, ◌≤◌, inl, inr, ℕ, All, List, [], ◌∷◌, length, zero, suc, Option, Some, None, Ok, refl, sym, subst, arith}
 use Rattle.net_names.specs.Prefixes.{PrefixValue}
 use Rattle.scenario_text.specs.Laws.{AcceptedExactly}
-use Rattle.scenario_text.specs.Scenarios.{ScenarioValue, StartsWith, nothing}
+use Rattle.scenario_text.specs.Scenarios.{ScenarioValue, StartsWith}
 use Rattle.scenario_text.specs.declared.limits.TheConstants.{MOST_NUMBERS}
 use Rattle.scenario_text.specs.declared.scenario.Announcement.{Announcement}
 use Rattle.stability_laws.specs.Plans.{IsSound}
