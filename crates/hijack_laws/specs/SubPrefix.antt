@@ -47,8 +47,8 @@ is_hijacked plan q (the_end.At c) = announces plan q c
 is_hijacked plan q the_end.NoRoute = false
 is_hijacked plan q the_end.Loop = false
 
--- the two books differ only in which ASes drop invalid routes, and those that do by the first do by the second (RFC
--- 6811, section 3)
+-- the two books differ only in which ASes drop invalid routes, and those that do by the first do by the second
+-- (RFC 6811, section 3)
 pub record OnlyAddsDroppers (book more : PolicyBook Kind) : Type 0 where
   pub else_same : (a : ℕ) → undropping (policy_at book a) ≡ undropping (policy_at more a)
   pub added : HasMoreDroppers book more

@@ -29,8 +29,8 @@ abbrev pub EditedPlansStaySound : Type 0
 EditedPlansStaySound = (w : World) (e : Edit) → IsSound w.plan → IsWellFormed e → refusal_of_edit w e ≡ None → IsSound (edited w e).plan
 
 -- in round 1 of a world with a sound plan no packet to a watched address runs in a loop, and one finds no route exactly
--- where its first AS has no entry of a prefix that holds the address (RFC 4271, section 9.1.2, on AS loops; RFC 4632,
--- section 5.1)
+-- where its first AS has no entry of a prefix that holds the address (RFC 4271, section 9.1.2, on AS loops;
+-- RFC 4632, section 5.1)
 abbrev pub KeptPacketsArrive : Type 0
 KeptPacketsArrive = (w : World) (k : Kept) (addr : AddrValue) (a : ℕ) → IsSound w.plan → IsKept w k → IsTrue (has_round w 1) → IsTrue (set.contains w.watched addr) → IsTrue (has (topology w) a) →
     (k.ends 1 addr a ≢ the_end.Loop) × (k.ends 1 addr a ≡ the_end.NoRoute ↔ ((p : PrefixValue) → CanSendBy w.plan (k.routings 1) addr a p → ⊥))

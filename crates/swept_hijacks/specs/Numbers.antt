@@ -23,8 +23,8 @@ use Rattle.routing_laws.specs.KindLaws.{is_dropper, undropping}
 use Rattle.hijack_laws.specs.SubPrefix.{IsSubPrefixHijack}
 
 -- in a world without a provider cycle and with a sound plan, x alone announces q, which hijacks the address as a longer
--- prefix, and nobody leaks in the round; `has_as` says which numbers are taken for ASes (RFC 4632, section 5.1; RFC
--- 6811, section 2)
+-- prefix, and nobody leaks in the round; `has_as` says which numbers are taken for ASes (RFC 4632, section 5.1;
+-- RFC 6811, section 2)
 pub record IsHijackedBy (has_as : ℕ → Bool) (w : World) (round : ℕ) (addr : AddrValue) (q : PrefixValue) (x : ℕ) : Type 0 where
   pub no_cycle : HasCycle w → ⊥
   pub sound : IsSound w.plan
@@ -33,14 +33,14 @@ pub record IsHijackedBy (has_as : ℕ → Bool) (w : World) (round : ℕ) (addr 
   pub announced : IsTrue (announces w.plan q x)
   pub alone : (a : ℕ) → IsTrue (announces w.plan q a) → a ≡ x
 
--- the kinds differ only in which ASes drop invalid routes, and whoever does by the first does by the second (RFC 6811,
--- section 3)
+-- the kinds differ only in which ASes drop invalid routes, and whoever does by the first does by the second
+-- (RFC 6811, section 3)
 pub record OnlyAdds (kinds more : ℕ → Kind) : Type 0 where
   pub else_same : (a : ℕ) → undropping (kinds a) ≡ undropping (more a)
   pub added : (a : ℕ) → IsTrue (is_dropper (kinds a)) → IsTrue (is_dropper (more a))
 
--- where only droppers are added, packets of no more ASes are delivered at the hijacker (RFC 6811, section 3; RFC 4632,
--- section 5.1)
+-- where only droppers are added, packets of no more ASes are delivered at the hijacker (RFC 6811, section 3;
+-- RFC 4632, section 5.1)
 abbrev pub NumbersFall : Type 0
 NumbersFall =
     (w : World) (kinds : fin.FinMap nat_cmp Kind) (round : ℕ) (addr : AddrValue) (numbers later : Fate → ℕ) (q : PrefixValue) (x : ℕ) → 1 ≤ round →
