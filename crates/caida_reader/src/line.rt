@@ -1,4 +1,7 @@
 //! One line of a relationship file.
+//!
+//! A line that lies whole in a piece is judged where it stands: its two numbers by one pass over the bytes, and then `-1`
+//! or `0` with a bar or a line feed behind it. Other lines are cut at their bars.
 ghost use Rattle.std.specs.Prelude.{◌≡◌, ◌∷◌, ◌++◌, ◌≤◌, ℕ, List, codes, option_map, unwrap_or, IfSome};
 ghost use Rattle.std.specs.Str.Lines.{strip_carriage_return};
 ghost use Rattle.net_names.specs.Prelude.{fields, rel_of};

@@ -1,4 +1,4 @@
-//! What the watches of one graph and one book begin with.
+//! What the watches of one graph and one book begin with, made once for all rounds and addresses.
 ghost use Rattle.std.specs.Prelude.{◌≡◌, ℕ, ◌<◌, ◌≤◌, true, length, IfOk};
 ghost use Rattle.stability_laws.specs.Prelude.{policy_at};
 ghost use Rattle.data_trace.specs.Columns.{here_at};

@@ -1,4 +1,5 @@
-//! The region of cells, and the calls that change it: an arena of reference-counted cons cells with a free list.
+//! The region of cells, and the calls that change it: an arena of reference-counted cons cells with a free list. A cell
+//! knows how long its path is and with which AS it ends, so that offers are compared without a walk.
 
 ghost use Rattle.path_pool.specs.Region.{IsRegion};
 ghost use Rattle.std.specs.Option.{ForSome};

@@ -1,4 +1,5 @@
-//! New ranks that are tried: nothing is known of them before they are checked.
+//! New ranks that are tried, from the ends of an edited link upwards and no further than they change: nothing is known of
+//! them before they are checked.
 use crate::ranks::Ranks;
 use as_graph::{Graph, Neighbour};
 use net_names::{Asn, Rel};

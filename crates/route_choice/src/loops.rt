@@ -1,4 +1,7 @@
 //! Whether a path that is offered to an AS may go through it.
+//!
+//! Only then an AS walks a path in search of itself. By the ranks that is so only of a path with the origin of a seed's path
+//! on which the AS stands.
 
 ghost use Rattle.std.specs.Prelude.{◌≡◌, ℕ, Some, false};
 ghost use Rattle.net_names.specs.Prelude.{last_or};

@@ -1,4 +1,4 @@
-//! Marks of AS numbers.
+//! Marks of AS numbers: a bit by remainder, so that most numbers that are in no set need no look-up.
 
 ghost use Rattle.std.specs.Prelude.{◌≡◌, ℕ, ◌<◌, ◌%◌, ◌||◌, ◌==◌, false};
 

@@ -1,4 +1,7 @@
 //! The two passes along a course. The rows and places of ASes are hints.
+//!
+//! An AS takes a step upwards only if it has a seed or was told something, and downwards only if it holds nothing. It looks
+//! at its providers and at those that told it, so that only an AS that holds something goes along its links of peers.
 
 ghost use Rattle.std.specs.Prelude.{◌≡◌, ◌≢◌, ℕ, true, false, Some, None, length, slice_get, slice_index, ◌<◌, ◌≤◌, ◌+◌, Option, All};
 ghost use Rattle.net_names.specs.Prelude.{occurs};
