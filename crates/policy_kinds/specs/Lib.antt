@@ -1,4 +1,5 @@
 pub mod Kinds
 pub mod KindLaws
+pub mod Stances
 pub mod Names
 pub mod Prelude

@@ -7,10 +7,11 @@ ghost use Rattle.net_names.specs.declared.routes.Rel.TheVariants.{Customer};
 ghost use Rattle.net_names.specs.declared.routes.State.TheVariants.{Invalid};
 ghost use Rattle.policy_laws.specs.Prelude.{is_own_or_customers as is_of_own_or_customers};
 ghost use Rattle.policy_kinds.specs.Kinds.{is_leak as is_route_leak};
+ghost use Rattle.policy_kinds.specs.Stances.{stance_of as the_stance};
 
 use crate::rows::Row;
 use net_names::{Asn, Class, Rel, State};
-use policy_laws::{Labelled, RoutePolicy, View};
+use policy_laws::{Labelled, RoutePolicy, Stance, View};
 
 /// A kind of policy. Each takes a customer's offer before others, and hands what peers and providers
 /// gave on to customers only.
@@ -66,6 +67,18 @@ fn is_own_or_customers(held: Class) -> bool
     }
 }
 
+// What a kind does with the offers of providers if all their states are this one, or any.
+fn stance_of(kind: Kind, all: Option<State>) -> Stance
+    ensures { result ≡ the_stance kind all }
+{
+    match (kind, all) {
+        (Kind::Plain | Kind::ProviderFirst, _) => Stance::Plain,
+        (Kind::DropInvalid | Kind::DropInvalidOtc, Some(State::Invalid)) => Stance::Nothing,
+        (Kind::DropInvalid | Kind::PreferValid, Some(_)) => Stance::Plain,
+        _ => Stance::Other,
+    }
+}
+
 impl RoutePolicy for Kind {
     ghost use Rattle.policy_kinds.specs.Kinds.{kind_policy};
     ghost use Rattle.policy_kinds.specs.KindLaws.{kind_ranks_offers, kind_prefers_customers, kind_exports_down_only, kind_ignores_state};
@@ -95,6 +108,16 @@ impl RoutePolicy for Kind {
 
     fn marks(&self) -> bool {
         Row::of(*self).marks
+    }
+
+    #[tactic(auto, using(crate::specs::Stances::kind_stance))]
+    fn stance(&self, all: Option<State>) -> Stance {
+        stance_of(*self, all)
+    }
+
+    #[tactic(auto, using(crate::specs::Stances::kind_sends))]
+    fn sends_plainly(&self) -> bool {
+        !Row::of(*self).marks
     }
 
     #[tactic(auto, using(crate::specs::KindLaws::plain_alone))]

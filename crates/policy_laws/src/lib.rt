@@ -9,5 +9,5 @@
 mod policy;
 mod states;
 
-pub use policy::{Labelled, RoutePolicy, View};
+pub use policy::{Labelled, RoutePolicy, Stance, View};
 pub use states::{NoStates, OriginStates};

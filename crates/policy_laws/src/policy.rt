@@ -1,7 +1,7 @@
 //! Policies and what they see.
 ghost use Rattle.std.specs.Prelude.{◌≡◌, ◌↔◌, ℕ, IsTrue};
 ghost use Rattle.policy_laws.specs.Policy.{Policy, RanksOffers, PrefersCustomers, ExportsDownOnly, IgnoresState};
-ghost use Rattle.policy_laws.specs.Plain.{IsPlain as IsPlainPolicy};
+ghost use Rattle.policy_laws.specs.Plain.{IsPlain as IsPlainPolicy, IsStance, SendsPlainly};
 
 use net_names::{Asn, Class, Rel, State};
 
@@ -18,6 +18,17 @@ pub struct View {
     pub state: State,
     /// The number that the route carries in the attribute Only to Customer, where it has one.
     pub otc: Option<Asn>,
+}
+
+/// What a policy does with the offers of providers.
+#[derive(Clone, Copy, Debug, PartialEq, Eq)]
+pub enum Stance {
+    /// It takes them as the plain policy does: the shortest path first, then the lowest neighbour.
+    Plain,
+    /// It takes none of them.
+    Nothing,
+    /// Neither of these is known.
+    Other,
 }
 
 /// A routing policy of an AS: what it takes, what it likes better, and what it hands on. No call
@@ -46,6 +57,15 @@ pub trait RoutePolicy {
     /// Whether the AS marks routes with the attribute Only to Customer, as RFC 9234, section 5, says.
     fn marks(&self) -> bool
         ensures { result ≡ (meaning self.now).marks };
+
+    /// What the policy does with the offers of providers if all their states are this one, or if
+    /// they are any states where none is given.
+    fn stance(&self, all: Option<State>) -> Stance
+        ensures { IsStance (meaning self.now) all result };
+
+    /// Whether the policy is known to hand every route to customers, and to set no mark.
+    fn sends_plainly(&self) -> bool
+        ensures { IsTrue result → SendsPlainly (meaning self.now) };
 
     /// Whether this is the plain policy of Gao and Rexford (2001).
     fn is_plain(&self) -> bool

@@ -2,8 +2,8 @@
 ghost use Rattle.std.specs.Prelude.{◌≡◌};
 ghost use Rattle.worked_cases.specs.Narrows.{class_place as place_of_class};
 
-use net_names::{Asn, Class, Rel};
-use policy_laws::{RoutePolicy, View};
+use net_names::{Asn, Class, Rel, State};
+use policy_laws::{RoutePolicy, Stance, View};
 
 /// Takes offers whose paths have at most three numbers, the AS's own included; customers before the
 /// others, then the shorter path, then the higher neighbour number. It hands its own routes to all,
@@ -51,6 +51,14 @@ impl RoutePolicy for Narrow {
     }
 
     fn marks(&self) -> bool {
+        false
+    }
+
+    fn stance(&self, _all: Option<State>) -> Stance {
+        Stance::Other
+    }
+
+    fn sends_plainly(&self) -> bool {
         false
     }
 
