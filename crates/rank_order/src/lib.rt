@@ -14,7 +14,9 @@ mod order;
 mod plan;
 mod planning;
 mod ranks;
+mod staying;
 
 pub use order::{RankOrder, by_rank, placed_by_rank};
 pub use plan::RankPlan;
 pub use ranks::{RankError, Ranks};
+pub use staying::ranks_stay;

@@ -7,6 +7,7 @@ use as_graph::{
 use caida_reader::links_are_those_given;
 use net_names::{texts_are_read_again, v4_has_one_text, v6_has_one_text};
 use policy_kinds::Kind;
+use rank_order::ranks_stay;
 use roa_table::payloads_are_those_given;
 use scenario_text::{lines_are_those_said, scenarios_are_those_said};
 use sim_core::answers_are_one;
@@ -26,6 +27,7 @@ fn laws_of_graphs_are_called() {
     links_are_taken();
     one_rank();
     ranks_fit();
+    ranks_stay();
 }
 
 #[test]
