@@ -286,7 +286,7 @@ HOSTILE = [
     ('a path of 64 numbers that names the end of a chain', lambda folder: far_paths(folder, 1), origin(149000, 150000)),
     ('63 such paths, which name 3,969 ASes', lambda folder: far_paths(folder, 63), origin(149000, 150000)),
     ('the same, where all paths end with one AS', lambda folder: far_paths(folder, 63, True), origin(149000, 150000)),
-    ('64 leakers at the end of a chain of 10,000, each a peer of all on it but one', far_leakers, watched(10064, 650000, 2, 0)),
+    ('64 leakers at the end of a chain of 10,000, each a peer of all on it except one', far_leakers, watched(10064, 650000, 2, 0)),
     ('10,000 links that give an AS one customer after the other', growing_hub, one_link),
     ('64 deliveries to an AS with 150,000 neighbours, each of a better route', hub_messages('better', lambda asn: 65 - asn),
      hub_messages('alike', lambda asn: 1)),
