@@ -1,12 +1,12 @@
 -- The entries of a table are counted.
 use Rattle.std.proofs.Common.{◌≡◌, ℕ, ◌≤◌, Bool, true, false, cond, ◌==◌, List, [], ◌∷◌, length, Option, Some, None, nat_eq, unwrap_or, refl, sym, ap, subst, ◌∙◌, arith, inl, inr}
 use Rattle.std.specs.Prelude.{IsSome}
-use Rattle.std.specs.List.{AllByRecursion, sum_by, IsDistinct as AreDistinct}
+use Rattle.std.specs.List.{sum_by, IsDistinct as AreDistinct}
 use Rattle.std.specs.Map.{keys_of, values_of, lookup}
 use Rattle.std.proofs.lemmas.Bool.{true≢false, cases_Bool, or_cases, or_left, or_right, eqb-true, eq-eqb, ne_eqb, cases_eq}
-use Rattle.std.proofs.lemmas.Cmp.{nat_eq_equiv}
 use Rattle.std.proofs.lemmas.List.Sums.{sum_by-cons}
 use Rattle.net_names.specs.Numbers.{occurs, IsDistinct}
+use Rattle.net_names.proofs.Distinct.{not_in}
 use Rattle.path_pool.specs.declared.pool.PathPool.{PathPool}
 use Rattle.path_pool.specs.Pool.{IsLive, holds_of}
 use Rattle.route_choice.specs.declared.held.Held.{Held}
@@ -15,10 +15,6 @@ use Rattle.route_choice.specs.declared.table.Table.{Table}
 use Rattle.route_choice.specs.Slots.{use_of}
 use Rattle.route_choice.specs.Tables.{held_at, change_at, places_of, overlay_uses, table_uses}
 use Rattle.route_choice.proofs.Lists.{entry_live}
-
-others_apart : (ys : List ℕ) (x : ℕ) → AllByRecursion (λ y. nat_eq x y ≡ false) ys → occurs x ys ≡ false
-others_apart [] x d = refl
-others_apart (y ∷ ys) x d = rw (nat_eq_equiv.symm y x ∙ d.0, others_apart ys x d.1) refl
 
 -- ASes that hold something, as many as use the path
 pub record Found (es : List (ℕ × Option Held)) (k : ℕ) : Type 0 where
@@ -61,7 +57,7 @@ module _ (e : ℕ × Option Held) (es : List (ℕ × Option Held)) (k : ℕ) (al
 pub found_all : (es : List (ℕ × Option Held)) (k : ℕ) → AreDistinct nat_eq (keys_of es) → Found es k
 unfolding AreDistinct
 found_all [] k d = record { ases = []; distinct = tt; inside = λ a o. cc; entries = λ a o. cc; enough = omega arith }
-found_all (e ∷ es) k d = found_more e es k (others_apart (keys_of es) e.0 d.0) (found_all es k d.1) e.1 refl
+found_all (e ∷ es) k d = found_more e es k (not_in (keys_of es) e.0 d.0) (found_all es k d.1) e.1 refl
 
 -- the paths of a table's entries are live where the pool has their holds
 pub held_is_live : (pool : PathPool) (t : Table) → ((k : ℕ) → table_uses t k ≤ holds_of pool k) → (a : ℕ) (h : Held) → held_at t a ≡ Some h → IsLive pool h.path.0

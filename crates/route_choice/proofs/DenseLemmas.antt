@@ -1,9 +1,9 @@
 -- Entries of many ASes, found by marks.
-use Rattle.std.proofs.Common.{◌≡◌, ◌≢◌, ℕ, suc, ◌+◌, ◌-◌, ◌<◌, ◌≤◌, Bool, true, false, cond, ◌==◌, List, [], ◌∷◌, ◌++◌, length, get_or, set, slice_get, take, Option, Some, None, is_some, option_map, nat_eq, refl, ap, sym, subst, ◌∙◌, inl, inr, arith}
+use Rattle.std.proofs.Common.{◌≡◌, ◌≢◌, ℕ, suc, ◌+◌, ◌-◌, ◌<◌, ◌≤◌, Bool, true, false, cond, ◌==◌, List, [], ◌∷◌, ◌++◌, length, get_or, set, slice_get, Option, Some, None, is_some, option_map, nat_eq, refl, ap, sym, subst, ◌∙◌, inl, inr, arith}
 use Rattle.std.specs.List.{sum_by, IsDistinct}
 use Rattle.std.specs.Map.{keys_of, values_of, lookup}
 use Rattle.std.proofs.lemmas.Bool.{cases_eq, eq-eqb, ne_eqb}
-use Rattle.std.proofs.lemmas.List.{append-nil, get_or-set_same, get_or-set_other, length-append, length-map, length-set, map-append, take_more}
+use Rattle.std.proofs.lemmas.List.{append-nil, get_or-set_same, get_or-set_other, length-append, length-map, length-set, map-append}
 use Rattle.std.proofs.lemmas.List.Sums.{sum_by_push}
 use Rattle.std.proofs.lemmas.Option.{get_or_from_slice_get, slice_get_within}
 use Rattle.indexmap.specs.IndexMap.{IndexMap, spare}
@@ -108,10 +108,6 @@ module _ (es : List (ℕ × Option Held)) (a : ℕ) (e : Option Held) where
 
   pub pair_uses : (k : ℕ) → uses_in (es ++ (a, e) ∷ []) k ≡ uses_in es k + use_of k e
   pair_uses k = ap (sum_by (use_of k)) (map-append _ es ((a, e) ∷ [])) ∙ sum_by_push (use_of k) (values_of es) e
-
--- one more item of a list
-pub take_next : {X : Type 0} (xs : List X) (i : ℕ) (x : X) → slice_get xs i ≡ Some x → take i xs ++ x ∷ [] ≡ take (i + 1) xs
-take_next xs i x e = ap (λ y. take i xs ++ y ∷ []) (sym (get_or_from_slice_get xs i x x e)) ∙ sym (take_more xs i x (slice_get_within xs i x e))
 
 -- one more row
 module _ (rows rows' : List Row) (r : Row) (new : lookup (nat_eq r.asn) (entries_of rows) ≡ None) (pushed : rows' ≡ rows ++ r ∷ []) where

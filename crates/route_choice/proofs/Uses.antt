@@ -3,6 +3,7 @@ use Rattle.std.proofs.Common.{◌≡◌, ◌≢◌, ℕ, zero, suc, ◌+◌, ◌
 use Rattle.std.specs.Prelude.{◌⊎◌, is_some, IsSome}
 use Rattle.std.specs.Option.{is_none}
 use Rattle.net_names.specs.Numbers.{occurs}
+use Rattle.net_names.proofs.Shared.{or_false}
 use Rattle.std.specs.List.{list_any, sum_by}
 use Rattle.std.specs.Map.{keys_of, values_of, lookup}
 use Rattle.std.proofs.lemmas.List.Sums.{sum_by_more, sum_by-cons, sum_by-drop_more, sum_by-take-le}
@@ -167,10 +168,6 @@ replacing_more before now after changes old mid new n asn entry w read here this
           let before = missing_from-more now changes n asn entry read in
           room_left now.spare after.spare (missing_from now changes (n + 1)) (missing_from after changes (n + 1)) (slot_at now asn) (omega (arith, before, w.room)) few spare kept;
     }
-  where
-    or_false : (b : Bool) → (b || false) ≡ b
-    or_false true = refl
-    or_false false = refl
 
 -- an AS is among the keys exactly where something stands at it
 pub occurs-keys : {X : Type 0} (es : List (ℕ × X)) (a : ℕ) → occurs a (keys_of es) ≡ is_some (lookup (nat_eq a) es)

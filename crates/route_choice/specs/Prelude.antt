@@ -12,4 +12,4 @@ pub use Rattle.route_choice.specs.AsnSets.{is_among}
 pub use Rattle.route_choice.specs.NamedSets.{is_named}
 pub use Rattle.route_choice.specs.Naming.{AreNamed}
 pub use Rattle.route_choice.specs.RoundTables.{AreAllLive, AreByPrefix, round_routing, table_at}
-pub use Rattle.route_choice.specs.Leads.{ArePlainProviders}
+pub use Rattle.route_choice.specs.Leads.{ArePlainSenders}

@@ -1,12 +1,12 @@
-//! One step of an AS that holds nothing, where the AS and its providers have the plain policy.
+//! One step of an AS that holds nothing, where it takes what its providers send, and they send, as the plain policy does.
 //!
 //! Then the shortest of the providers' paths wins, and of the shortest that of the lowest number. No view is made.
 
 ghost use Rattle.std.specs.Prelude.{◌≡◌, ◌+◌, ◌<◌, ◌≤◌, None};
-ghost use Rattle.policy_laws.specs.Prelude.{IsPlain};
+ghost use Rattle.policy_laws.specs.Prelude.{TakesPlainly};
 ghost use Rattle.stability_laws.specs.Prelude.{policy_at, offer};
 ghost use Rattle.route_choice.specs.declared.choice.Part.TheVariants.{Whole as AWhole};
-ghost use Rattle.route_choice.specs.Leads.{ArePlainProviders, IsLead, IsLeadWith};
+ghost use Rattle.route_choice.specs.Leads.{ArePlainSenders, IsLead, IsLeadWith, IsOffered};
 ghost use Rattle.route_choice.specs.PrefixWorlds.{setting_at, AreGiversAt, CanStepAt, HasNoLoopsAt};
 ghost use Rattle.route_choice.specs.Resources.{AreLive};
 ghost use Rattle.route_choice.specs.Routings.{routing_of};
@@ -93,12 +93,15 @@ fn best_provider<P: RoutePolicy, V: OriginStates>(
     providers: &[Neighbour],
     places: &[u32],
 ) -> Lead
-    requires own { IsPlain (P.meaning (policy_at at.now.book.now asn)) }
-    requires plain { ArePlainProviders (λ n. P.meaning (policy_at at.now.book.now n)) providers.now }
+    requires own { TakesPlainly (P.meaning (policy_at at.now.book.now asn))
+        (IsOffered (setting_at P.meaning V.state_of at.now) (routing_of pool.now at.now.table.now overlay.now) asn) }
+    requires plain { ArePlainSenders (λ n. P.meaning (policy_at at.now.book.now n)) providers.now }
     requires givers { AreGiversAt P.meaning at.now pool.now overlay.now AWhole asn providers.now }
     requires live { AreLive pool.now at.now.table.now overlay.now }
     requires no_loops { HasNoLoopsAt P.meaning at.now pool.now overlay.now AWhole asn }
-    ensures { IsLead (P.meaning (policy_at at.now.book.now asn)) pool.now (joined at.now.table.now overlay.now)
+    ensures { IsLead
+        (IsOffered (setting_at P.meaning V.state_of at.now) (routing_of pool.now at.now.table.now overlay.now) asn)
+        (P.meaning (policy_at at.now.book.now asn)) pool.now (joined at.now.table.now overlay.now)
         (λ n. offer (setting_at P.meaning V.state_of at.now) (routing_of pool.now at.now.table.now overlay.now) n asn)
         result }
 {
@@ -112,8 +115,9 @@ fn best_provider<P: RoutePolicy, V: OriginStates>(
 }
 
 /// One step of an AS that holds nothing and has no seed, as [`visit_among`](crate::visit_among) makes it for all
-/// offers, where these neighbours are providers, and they and the AS have the plain policy. All that export to the
-/// AS what they hold are among them, and no path of theirs goes through it. The places are hints.
+/// offers, where these neighbours are providers that send as the plain policy does, and the AS takes offers of the
+/// states that they hold as the plain policy does. All that export to the AS what they hold are among them, and no
+/// path of theirs goes through it. The places are hints.
 pub fn visit_providers<P: RoutePolicy, V: OriginStates, L: Ledger>(
     at: &PrefixWorld<'_, P, V>,
     pool: &mut PathPool,
@@ -126,8 +130,9 @@ pub fn visit_providers<P: RoutePolicy, V: OriginStates, L: Ledger>(
     requires can { CanStepAt at.now pool.old overlay.old 1 }
     requires nothing { routing_of pool.old at.now.table.now overlay.old placed.asn ≡ None }
     requires unseeded { seed_at at.now.seeds.now placed.asn ≡ None }
-    requires own { IsPlain (P.meaning (policy_at at.now.book.now placed.asn)) }
-    requires plain { ArePlainProviders (λ n. P.meaning (policy_at at.now.book.now n)) providers.now }
+    requires own { TakesPlainly (P.meaning (policy_at at.now.book.now placed.asn)) (IsOffered
+        (setting_at P.meaning V.state_of at.now) (routing_of pool.old at.now.table.now overlay.old) placed.asn) }
+    requires plain { ArePlainSenders (λ n. P.meaning (policy_at at.now.book.now n)) providers.now }
     requires givers { AreGiversAt P.meaning at.now pool.old overlay.old AWhole placed.asn providers.now }
     requires no_loops { HasNoLoopsAt P.meaning at.now pool.old overlay.old AWhole placed.asn }
     ensures cost { steps.new ≡ steps.old + 1 }

@@ -1,14 +1,19 @@
 -- What is known of the policies along a course.
-use Rattle.std.specs.Prelude.{◌≡◌, ◌↔◌, ◌<◌, ℕ, Bool, true, Some, List, length, slice_get, slice_index}
+use Rattle.std.specs.Prelude.{◌≡◌, ◌↔◌, ◌<◌, ℕ, Bool, true, Some, List, length, slice_get, slice_index, All}
 use Rattle.policy_laws.specs.Plain.{IsPlain}
 use Rattle.policy_laws.specs.Policy.{Policy}
 use Rattle.stability_laws.specs.Book.{policy_at}
 use Rattle.stability_laws.specs.declared.world.World.{World}
-use Rattle.route_choice.specs.Leads.{ArePlainProviders}
+use Rattle.as_graph.specs.declared.neighbour.Neighbour.{Neighbour}
+use Rattle.net_names.specs.declared.routes.Rel.TheVariants.{Provider}
 use Rattle.three_pass.specs.declared.course.Course.{Course}
 use Rattle.three_pass.specs.declared.way.Way.{Way}
 use Rattle.three_pass.specs.Courses.{IsCourse}
 use Rattle.three_pass.specs.Lists.{list_at}
+
+-- the neighbours are providers, and have the plain policy
+abbrev pub ArePlainProviders : (ℕ → Policy) → List Neighbour → Type 0
+ArePlainProviders policy xs = All (λ x. (x.rel ≡ Provider) × IsPlain (policy x.asn)) xs
 
 -- the AS at a place of the order and all its providers have the plain policy
 abbrev pub IsPlainAt : (ℕ → Policy) → Course → ℕ → Type 0

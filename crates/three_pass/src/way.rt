@@ -4,10 +4,9 @@ ghost use Rattle.std.specs.Prelude.{◌≡◌, ◌<◌, ◌↔◌, IsTrue, lengt
 ghost use Rattle.net_names.specs.declared.routes.Rel.TheVariants.{Provider as AProvider};
 ghost use Rattle.policy_laws.specs.Prelude.{IsPlain};
 ghost use Rattle.stability_laws.specs.Prelude.{policy_at};
-ghost use Rattle.route_choice.specs.Prelude.{ArePlainProviders};
 ghost use Rattle.three_pass.specs.Courses.{IsCourse};
 ghost use Rattle.three_pass.specs.Lists.{count_of};
-ghost use Rattle.three_pass.specs.Ways.{IsPlainAt, IsWay};
+ghost use Rattle.three_pass.specs.Ways.{ArePlainProviders, IsPlainAt, IsWay};
 
 use crate::course::Course;
 use as_graph::Neighbour;

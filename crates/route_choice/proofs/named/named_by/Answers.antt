@@ -5,6 +5,7 @@ use Rattle.std.proofs.lemmas.Bool.{or_cases, or_left, or_right, eq-eqb, eqb-true
 use Rattle.std.proofs.lemmas.List.{take_all}
 use Rattle.std.proofs.lemmas.List.Folds.{list_any_more}
 use Rattle.net_names.specs.Numbers.{occurs}
+use Rattle.net_names.proofs.Shared.{or_assoc}
 use Rattle.path_pool.specs.declared.pool.PathPool.{PathPool}
 use Rattle.stability_laws.specs.declared.entry.Seed.{Seed}
 use Rattle.route_choice.specs.declared.held.SeedHeld.{SeedHeld}
@@ -15,10 +16,6 @@ use Rattle.route_choice.specs.NamedSets.{is_named}
 use Rattle.route_choice.specs.Naming.{is_on_seed, is_on_seed_from}
 use Rattle.route_choice.proofs.Numbers.{any_of, found}
 use Rattle.route_choice.proofs.named.named_by.Goals as goal
-
-or_assoc : (a b c : Bool) → ((a || b) || c) ≡ (a || (b || c))
-or_assoc true b c = refl
-or_assoc false b c = refl
 
 pub loop-asn-preserved : goal.loop-asn-preserved
 loop-asn-preserved c =

@@ -1,7 +1,9 @@
 use Rattle.std.proofs.Common.{◌≡◌, ◌+◌, ◌<◌, ◌⊎◌, true, false, None, Some, length, refl, sym, ◌∙◌, ap, subst, option_map, take, take_all}
 use Rattle.net_names.specs.declared.routes.Rel.TheVariants.{Provider}
+use Rattle.net_names.specs.declared.routes.State.{State}
 use Rattle.net_names.specs.Numbers.{occurs}
-use Rattle.policy_laws.specs.Plain.{IsPlain}
+use Rattle.policy_laws.specs.Plain.{SendsPlainly}
+use Rattle.route_choice.specs.Leads.{IsOffered}
 use Rattle.path_pool.specs.Pool.{list_of}
 use Rattle.as_graph.specs.Topology.{relation}
 use Rattle.as_graph.specs.declared.neighbour.Neighbour.{Neighbour}
@@ -32,12 +34,13 @@ loop-index-preserved g c =
     let held = joined c.args.at.now.table.now c.args.overlay.now in
     let a = c.args.asn in
     let new = option_map (λ (o : Offer). o.view) (offer here f x.asn a) in
-    let plain : (x.rel ≡ Provider) × IsPlain (here.policy x.asn) = subst (λ (t : Neighbour). (t.rel ≡ Provider) × IsPlain (here.policy t.asn)) (sym c.index-providers-index.is) (c.requires.plain i x c.loop-index-test.true) in
+    let plain : (x.rel ≡ Provider) × SendsPlainly (here.policy x.asn) = subst (λ (t : Neighbour). (t.rel ≡ Provider) × SendsPlainly (here.policy t.asn)) (sym c.index-providers-index.is) (c.requires.plain i x c.loop-index-test.true) in
     let linked : relation c.args.at.now.graph.now a x.asn ≡ Some Provider = subst (λ (t : Neighbour). relation c.args.at.now.graph.now a t.asn ≡ Some t.rel) (sym c.index-providers-index.is) (c.requires.givers.each i x c.loop-index-test.true) ∙ ap Some plain.0 in
     let fits : (h : Held) → held x.asn ≡ Some h → (0 < length (list_of c.args.pool.now h.path.0)) × (occurs a (list_of c.args.pool.now h.path.0) ≡ false) = λ h is. (
       c.paths_are_not_empty.ensures h.path.0 (c.requires.live x.asn h is),
       c.requires.no_loops x.asn Provider (entry_of c.args.pool.now h) linked refl (ap (option_map (entry_of c.args.pool.now)) is) (plain.1.to_customers h.class h.otc),
     ) in
+    let test : State → Type 0 = IsOffered here f a in
     let (v, (best, seen)) = c.loop-index.invariant in (
       better_of (here.policy a) v new,
       (
@@ -45,8 +48,8 @@ loop-index-preserved g c =
             x.asn (asns (take i xs)) (asns (take (i + 1) xs))
             (λ m is. subst (λ t. (t.asn ≡ m) ⊎ (occurs m (asns (take i xs)) ≡ true)) (sym c.index-providers-index.is) (among_more xs i m x c.loop-index-test.true is))
             v best,
-        leads_weighed (here.policy a) c.requires.own c.args.pool.now held c.loop-index.lead c.lead_of.result c.better-lead.result v new c.better-lead.ensures.new c.better-lead.ensures.old seen
-            (lead_seen here c.args.pool.now held a x.asn c.lead_of.result c.requires.own plain.1 linked fits c.lead_of.ensures),
+        leads_weighed test (here.policy a) c.requires.own c.args.pool.now held c.loop-index.lead c.lead_of.result c.better-lead.result v new c.better-lead.ensures.new c.better-lead.ensures.old seen
+            (lead_seen test here c.args.pool.now held a x.asn c.lead_of.result c.requires.own plain.1 linked (λ h is. (x.asn, (entry_of c.args.pool.now h, (linked, (ap (option_map (entry_of c.args.pool.now)) is, refl))))) fits c.lead_of.ensures),
       ),
     )
 

@@ -9,7 +9,7 @@ use Rattle.route_choice.specs.declared.prefix_world.PrefixWorld.{PrefixWorld}
 use Rattle.route_choice.specs.declared.overlay.Overlay.{Overlay}
 use Rattle.route_choice.specs.declared.plain.Lead.{Lead}
 use Rattle.route_choice.specs.declared.plain.TheConstants.{NOBODY}
-use Rattle.route_choice.specs.Leads.{ArePlainProviders, IsLead}
+use Rattle.route_choice.specs.Leads.{ArePlainSenders, IsLead, IsOffered}
 use Rattle.route_choice.specs.Rows.{number_in}
 use Rattle.path_pool.specs.declared.pool.PathPool.{PathPool}
 use Rattle.path_pool.specs.declared.path_id.PathId.{PathId}
@@ -18,7 +18,7 @@ use Rattle.net_names.specs.declared.routes.State.{State}
 use Rattle.net_names.specs.Prefixes.{PrefixValue}
 use Rattle.as_graph.specs.declared.neighbour.Neighbour.{Neighbour}
 use Rattle.policy_laws.specs.Policy.{Policy}
-use Rattle.policy_laws.specs.Plain.{IsPlain}
+use Rattle.policy_laws.specs.Plain.{TakesPlainly}
 use Rattle.stability_laws.specs.Book.{policy_at}
 use Rattle.route_choice.specs.Routings.{entry_of, routing_of, seed_of}
 use Rattle.route_choice.specs.Tables.{change_at, held_at, joined}
@@ -31,14 +31,14 @@ pub best_provider-lead-requires-clause-live : goal.best_provider-lead-requires-c
 best_provider-lead-requires-clause-live g c = joined_live c.args.pool.now c.args.at.now.table.now c.args.overlay.now c.requires.can.changes.held
 
 -- what the lead of somebody stands for
-taken_by : {P Q : Type 0} (meaning : P → Policy) (state_of : Q → PrefixValue → ℕ → State) (at : PrefixWorld P Q) (pool : PathPool) (overlay : Overlay) (a : ℕ) (providers : List Neighbour) (lead : Lead) → IsPlain (meaning (policy_at at.book.now a)) →
-    ArePlainProviders (λ n. meaning (policy_at at.book.now n)) providers → AreGiversAt meaning at pool overlay Whole a providers →
-    IsLead (meaning (policy_at at.book.now a)) pool (joined at.table.now overlay) (λ n. offer (setting_at meaning state_of at) (routing_of pool at.table.now overlay) n a) lead → lead.key ≢ NOBODY →
+taken_by : {P Q : Type 0} (meaning : P → Policy) (state_of : Q → PrefixValue → ℕ → State) (at : PrefixWorld P Q) (pool : PathPool) (overlay : Overlay) (a : ℕ) (providers : List Neighbour) (lead : Lead) → TakesPlainly (meaning (policy_at at.book.now a)) (IsOffered (setting_at meaning state_of at) (routing_of pool at.table.now overlay) a) →
+    ArePlainSenders (λ n. meaning (policy_at at.book.now n)) providers → AreGiversAt meaning at pool overlay Whole a providers →
+    IsLead (IsOffered (setting_at meaning state_of at) (routing_of pool at.table.now overlay) a) (meaning (policy_at at.book.now a)) pool (joined at.table.now overlay) (λ n. offer (setting_at meaning state_of at) (routing_of pool at.table.now overlay) n a) lead → lead.key ≢ NOBODY →
     IsTaken (setting_at meaning state_of at) pool (joined at.table.now overlay) a lead
 taken_by meaning state_of at pool overlay a providers lead own plain givers is some =
     let here = setting_at meaning state_of at in
     let f = routing_of pool at.table.now overlay in
-    lead_taken here pool (joined at.table.now overlay) a lead own
+    lead_taken (IsOffered here f a) here pool (joined at.table.now overlay) a lead own
     (λ n o made. let by : Giver Whole here f a n = giver Whole here f a n o made in
     plain_among here.policy providers n plain (givers.complete n by.exports.from by.exports.entry by.exports.linked by.looked by.exports.is by.exports.exported))
     is some

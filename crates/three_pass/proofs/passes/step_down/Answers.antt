@@ -5,6 +5,7 @@ use Rattle.route_choice.specs.declared.held.Held.{Held}
 use Rattle.route_choice.specs.Routings.{entry_of, routing_of}
 use Rattle.route_choice.specs.Tables.{joined}
 use Rattle.route_choice.specs.NamedSets.{is_named}
+use Rattle.route_choice.proofs.Leads.{plain_sends, plain_takes}
 use Rattle.route_choice.proofs.NoLoops.{no_loops}
 use Rattle.route_choice.proofs.Room.{keeps_itself}
 use Rattle.as_graph.specs.Topology.{relation}
@@ -12,7 +13,7 @@ use Rattle.policy_laws.specs.Plain.{IsPlain}
 use Rattle.stability_laws.specs.Book.{policy_at}
 use Rattle.route_choice.specs.declared.choice.Part.TheVariants.{Whole}
 use Rattle.route_choice.specs.Givers.{AreGivers}
-use Rattle.route_choice.specs.Leads.{ArePlainProviders}
+use Rattle.route_choice.specs.Leads.{ArePlainSenders, IsOffered}
 use Rattle.route_choice.specs.PrefixWorlds.{setting_at}
 use Rattle.three_pass.specs.Lists.{list_at}
 use Rattle.three_pass.specs.Told.{IsTold}
@@ -58,12 +59,13 @@ visit_providers-requires-clause-unseeded g c = c.requires.unnamed (sym c.has-may
 pub visit_providers-requires-clause-own : goal.visit_providers-requires-clause-own
 visit_providers-requires-clause-own g c =
     let marked = c.requires.plain c.args.placed.place (c.is_plainly_untold.ensures.marked c.if-is_plainly_untold.true) in
-    subst (λ a. IsPlain (g.P.RoutePolicy.meaning (policy_at c.args.at.now.book.now a))) c.requires.there marked.0
+    let here = setting_at g.P.RoutePolicy.meaning g.V.OriginStates.state_of c.args.at.now in
+    plain_takes (here.policy c.args.placed.asn) (IsOffered here (routing_of c.args.pool.now c.args.at.now.table.now c.args.overlay.now) c.args.placed.asn) (subst (λ a. IsPlain (here.policy a)) c.requires.there marked.0)
 
 pub visit_providers-requires-clause-plain : goal.visit_providers-requires-clause-plain
 visit_providers-requires-clause-plain g c =
     let marked = c.requires.plain c.args.placed.place (c.is_plainly_untold.ensures.marked c.if-is_plainly_untold.true) in
-    subst (ArePlainProviders (λ n. g.P.RoutePolicy.meaning (policy_at c.args.at.now.book.now n))) (sym c.list-above.ensures) marked.1
+    subst (ArePlainSenders (λ n. g.P.RoutePolicy.meaning (policy_at c.args.at.now.book.now n))) (sym c.list-above.ensures) (λ k d less. ((marked.1 k d less).0, plain_sends _ (marked.1 k d less).1))
 
 pub visit_providers-requires-clause-givers : goal.visit_providers-requires-clause-givers
 visit_providers-requires-clause-givers g c =
