@@ -11,7 +11,7 @@ use Rattle.std.specs.Ordering.{nat_cmp, is_eq, is_gt, is_lt, ordering_then}
 use Rattle.std.specs.Cmp.{IsTotalOrder}
 use Rattle.std.specs.BTreeSet as keys
 use Rattle.std.specs.BTreeMap.{is_at}
-use Rattle.as_graph.proofs.Links.{is_equal}
+use Rattle.net_names.proofs.Shared.{is_equal, or_false}
 use Rattle.dirty_recompute.specs.declared.few.Few.{Few}
 use Rattle.dirty_recompute.specs.Spots.{key_cmp}
 use Rattle.dirty_recompute.specs.Fews.{is_one, few_has, AreKeys, HasTurned, IsNextKey, IsNextOf}
@@ -27,10 +27,6 @@ key_is k q e = exact_pairs nat_cmp nat_cmp exact_unsigned exact_unsigned k q (is
 
 pub key_at : (k : ℕ × ℕ) → is_at (key_cmp k) k ≡ true
 key_at k = ap is_eq (tied_itself keys_total k)
-
-pub either : (b : Bool) → (b ≡ true) ⊎ (b ≡ false)
-either true = inl refl
-either false = inr refl
 
 first_le : (x y : ℕ) (o : Ordering) → is_gt (ordering_then (nat_cmp x y) o) ≡ false → x ≤ y
 first_le x y o e = elim (cases_order x y) [ inl is ↦ omega arith | inr (inl lt) ↦ omega arith | inr (inr gt) ↦ grind (arith) ]
@@ -64,10 +60,6 @@ module _ (way : Way) (rank : ℕ → ℕ) (before after : ℕ × ℕ → Bool) (
 module _ (rank : ℕ → ℕ) (queue : Few) where
   only_one : (a : ℕ) → queue.one ≡ Some a → queue.many.keys ≡ [] → (q : ℕ × ℕ) → few_has rank queue q ≡ is_at (key_cmp (rank a, a)) q
   only_one a one none q = (λ i. is_one rank (one i) q || list_any (is_at (key_cmp q)) (none i)) ∙ or_false (is_at (key_cmp (rank a, a)) q)
-    where
-      or_false : (b : Bool) → (b || false) ≡ b
-      or_false true = refl
-      or_false false = refl
 
   pub only_many : queue.one ≡ None → (q : ℕ × ℕ) → few_has rank queue q ≡ keys.contains key_cmp queue.many q
   only_many none q = ap (λ o. is_one rank o q || keys.contains key_cmp queue.many q) none

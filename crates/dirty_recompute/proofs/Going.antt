@@ -1,9 +1,8 @@
 -- What turns leave of the pool, the table and the overlay.
-use Rattle.std.proofs.Common.{nat_eq, ◌≡◌, ◌≢◌, ◌⊎◌, inl, inr, ℕ, ◌+◌, ◌≤◌, Bool, true, false, ◌||◌, ◌==◌, true≢false, IsSome, is_some, Option, Some, None, option_map, List, [], ◌∷◌, length, refl, sym, ◌∙◌, subst, arith}
-use Rattle.std.specs.List.{AllByRecursion, IsDistinct as AreApart}
+use Rattle.std.proofs.Common.{◌≡◌, ◌≢◌, ◌⊎◌, inl, inr, ℕ, ◌+◌, ◌≤◌, Bool, true, false, ◌||◌, ◌==◌, true≢false, IsSome, is_some, Option, Some, None, option_map, List, [], ◌∷◌, length, refl, sym, ◌∙◌, subst, arith}
 use Rattle.std.proofs.lemmas.Bool.{cases_eq, cases_Bool, or_cases, eqb-true}
-use Rattle.std.proofs.lemmas.Cmp.{nat_eq_equiv}
 use Rattle.net_names.specs.Numbers.{occurs, IsDistinct}
+use Rattle.net_names.proofs.Distinct.{apart_from_distinct}
 use Rattle.as_graph.specs.Topology.{Topology, has, as_count}
 use Rattle.as_graph.proofs.RowAses.{length-le-as_count}
 use Rattle.path_pool.specs.declared.pool.PathPool.{PathPool}
@@ -59,28 +58,13 @@ gives_entry p t o a put some = by (change_at o a) refl put some
 pub seeds_same : (p q : PathPool) (seeds : SeedIds) → Keeps p q seeds → seeds_of p seeds ≡ seeds_of q seeds
 seeds_same p q seeds keeps i a = sym (keeps.same_seeds a) i
 
-apart_all : (x : ℕ) (xs : List ℕ) → occurs x xs ≡ false → AllByRecursion (λ y. nat_eq x y ≡ false) xs
-apart_all x [] h = tt
-apart_all x (y ∷ xs) h = by (y == x) (occurs x xs) refl refl h (apart_all x xs)
-  where
-    by : (s t : Bool) → (y == x) ≡ s → occurs x xs ≡ t → (s || t) ≡ false → (occurs x xs ≡ false → AllByRecursion (λ y. nat_eq x y ≡ false) xs) → AllByRecursion (λ y. nat_eq x y ≡ false) (y ∷ xs)
-    by false false is not e rest = (nat_eq_equiv.symm x y ∙ is, rest not)
-    by false true is not e rest = absurd (true≢false e)
-    by true t is not e rest = absurd (true≢false e)
-
--- numbers that are distinct, in std's words
-apart : (xs : List ℕ) → IsDistinct xs → AreApart nat_eq xs
-unfolding AreApart
-apart [] d = tt
-apart (x ∷ xs) (h, d) = (apart_all x xs h, apart xs d)
-
 module _ (g : Topology) (seeds : SeedIds) (table : Table) where
   -- a turn can be taken
   pub can_turn : (p0 pool : PathPool) (o0 overlay : Overlay) → as_count g ≤ 150000 → (first : PathPool) × CanGoOn (has g) first p0 seeds table o0 → GoesOn (has g) p0 pool seeds table o0 overlay → CanTurn pool seeds table overlay
   can_turn p0 pool o0 overlay few (first, could) goes = let can : CanGoOn (has g) first pool seeds table overlay = goes first could in record {
     held = can.held;
     seeds_live = can.seeds_live;
-    counts = λ k. omega (arith, can.counts k, can.few k, length-le-as_count g can.ases (apart can.ases can.distinct) (λ x there. (can.are x there).0), few);
+    counts = λ k. omega (arith, can.counts k, can.few k, length-le-as_count g can.ases (apart_from_distinct can.ases can.distinct) (λ x there. (can.are x there).0), few);
   }
 
   module _ (first p q : PathPool) (o o' : Overlay) (a : ℕ)

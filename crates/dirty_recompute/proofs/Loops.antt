@@ -1,6 +1,6 @@
 -- The two loops: what each iteration keeps.
 use Rattle.std.proofs.Common.{◌≡◌, ◌≢◌, ◌⊎◌, inl, inr, ℕ, zero, suc, ◌≤◌, ◌+◌, Bool, true, false, ◌||◌, ◌==◌, true≢false, is_some, Option, Some, None, List, [], ◌∷◌, ◌++◌, length, refl, sym, ◌∙◌, ap, subst, arith}
-use Rattle.std.proofs.lemmas.Bool.{eq-eqb, eqb-true, or_right}
+use Rattle.std.proofs.lemmas.Bool.{eq-eqb, eqb-true, or_left, or_right}
 use Rattle.std.specs.List.{slice_get}
 use Rattle.dirty_recompute.specs.Queues.{IsIn}
 use Rattle.net_names.specs.declared.routes.Rel.{Rel}
@@ -10,9 +10,11 @@ use Rattle.net_names.specs.declared.routes.State.{State}
 use Rattle.as_graph.specs.Topology.{Topology, relation, has, ases}
 use Rattle.net_names.specs.Links.{converse}
 use Rattle.net_names.specs.Numbers.{occurs}
+use Rattle.net_names.proofs.Shared.{occurs_right}
 use Rattle.as_graph.specs.Hierarchy.{HasNoProviderCycle}
 use Rattle.as_graph.proofs.Links.{relation_self, linked_end}
 use Rattle.as_graph.proofs.Chains.{distinct_le}
+use Rattle.as_graph.proofs.RowAses.{occurs-append}
 use Rattle.stability_laws.specs.declared.entry.Entry.{Entry}
 use Rattle.stability_laws.specs.declared.entry.Seed.{Seed}
 use Rattle.stability_laws.specs.Book.{PolicyBook}
@@ -31,23 +33,10 @@ use Rattle.dirty_recompute.specs.Queues.{contains, waits, HasRanks, IsAdded, IsT
 use Rattle.dirty_recompute.specs.Turns.{IsTurnUp, IsTurnDown}
 use Rattle.dirty_recompute.proofs.TurnLemmas.{turned}
 
-occurs_append : (b : ℕ) (xs ys : List ℕ) → (occurs b xs ≡ true) ⊎ (occurs b ys ≡ true) → occurs b (xs ++ ys) ≡ true
-occurs_append b [] ys (inl e) = absurd (true≢false (sym e))
-occurs_append b [] ys (inr e) = e
-occurs_append b (x ∷ xs) ys h = by (x == b) refl h (occurs_append b xs ys)
-  where
-    by : (t : Bool) → (x == b) ≡ t → ((t || occurs b xs) ≡ true) ⊎ (occurs b ys ≡ true) → ((occurs b xs ≡ true) ⊎ (occurs b ys ≡ true) → occurs b (xs ++ ys) ≡ true) → (t || occurs b (xs ++ ys)) ≡ true
-    by true is h ih = refl
-    by false is h ih = ih h
-
 -- whoever counts is touched or an AS
 counted_in : (g : Topology) (touched : List ℕ) (overlay : ℕ → Bool) (b : ℕ) → IsCounted (relation g) (λ x. occurs x touched) overlay b → occurs b (touched ++ ases g) ≡ true
-counted_in g touched overlay b (inl t) = occurs_append b touched (ases g) (inl t)
-counted_in g touched overlay b (inr (c, r, link, t)) = occurs_append b touched (ases g) (inr (linked_end g c b (converse r) (turned g b c r link)))
-
-unless : (x y : Bool) → (x ≡ true → y ≡ true) → y ≡ false → x ≡ false
-unless true y h n = absurd (true≢false (sym (h refl) ∙ n))
-unless false y h n = refl
+counted_in g touched overlay b (inl t) = occurs-append b touched (ases g) ∙ or_left (occurs b touched) (occurs b (ases g)) t
+counted_in g touched overlay b (inr (c, r, link, t)) = occurs_right b touched (ases g) (linked_end g c b (converse r) (turned g b c r link))
 
 -- who waits once a was taken out is not a, and waited before
 module _ (g : Topology) (rank : ℕ → ℕ) (a : ℕ) (queue between : Queue) (out : IsTaken rank queue between a) (r : Rel) (changed : Bool) where

@@ -2,10 +2,11 @@
 use Rattle.std.proofs.Common.{◌≡◌, ◌≢◌, ◌⊎◌, inl, inr, ℕ, ◌<◌, Bool, true, false, cond, true≢false, refl, sym, ◌∙◌, ap, subst, arith}
 use Rattle.std.proofs.Common.{List, Some, None, ◌+◌, ◌||◌, Option, is_some, IfSome, IfNone, OnOk, Result, Ok, Err}
 use Rattle.std.proofs.lemmas.Option.{IfSome_then, none-some, same_Some}
-use Rattle.std.proofs.lemmas.Bool.{cases_eq}
+use Rattle.std.proofs.lemmas.Bool.{cases_eq, cases_Bool}
 use Rattle.std.specs.List.{slice_get, list_any}
 use Rattle.std.specs.BTreeMap.{is_at}
 use Rattle.net_names.specs.declared.routes.Rel.{Rel}
+use Rattle.net_names.proofs.Shared.{none_from, or_false}
 use Rattle.as_graph.specs.declared.neighbour.Neighbour.{Neighbour}
 use Rattle.dirty_recompute.specs.declared.queue.Queue.{Queue}
 use Rattle.dirty_recompute.specs.declared.spots.Spots.{Spots}
@@ -14,15 +15,15 @@ use Rattle.dirty_recompute.specs.declared.way.Way.{Way}
 use Rattle.dirty_recompute.specs.Spots.{key_cmp, spots_have, AreRanked, IsSpotOf, IsMarked, IsNextTaken, NoneWaits}
 use Rattle.dirty_recompute.specs.Fews.{few_has, AreKeys, HasTurned, IsNextOf}
 use Rattle.dirty_recompute.specs.Queues.{contains, spots_in, waits, HasRanks, IsAdded, IsSame, IsTaken, IsNext, AreQueued}
-use Rattle.dirty_recompute.proofs.FewLemmas.{either, key_is, key_at, only_many}
+use Rattle.dirty_recompute.proofs.FewLemmas.{key_is, key_at, only_many}
 use Rattle.dirty_recompute.proofs.SpotLemmas.{marked_turned, marked_ranked, next_spot, none_has}
 
 pub added : (rank : ℕ → ℕ) (before after : Queue) (a : ℕ) → HasTurned (contains rank before) (contains rank after) (rank a, a) true → (HasRanks rank before → (s : Spots) → after.spots ≡ Some s → AreRanked rank s.items.items) → IsAdded rank before after (λ b. b ≡ a)
 added rank before after a up spots = record {
   ranks = ranks;
-  kept = λ b t. elim (either (is_at (key_cmp k) (rank b, b))) [ inl e ↦ at (rank b, b) ∙ ap (λ x. cond x true (contains rank before (rank b, b))) e | inr e ↦ at (rank b, b) ∙ ap (λ x. cond x true (contains rank before (rank b, b))) e ∙ t ];
+  kept = λ b t. elim (cases_Bool (is_at (key_cmp k) (rank b, b))) [ inl e ↦ at (rank b, b) ∙ ap (λ x. cond x true (contains rank before (rank b, b))) e | inr e ↦ at (rank b, b) ∙ ap (λ x. cond x true (contains rank before (rank b, b))) e ∙ t ];
   put = λ b is. at (rank b, b) ∙ ap (λ x. cond x true (contains rank before (rank b, b))) (subst (λ t. is_at (key_cmp k) (rank t, t) ≡ true) (sym is) (key_at k));
-  from = λ b t. elim (either (is_at (key_cmp k) (rank b, b))) [ inl e ↦ inr (sym (ap (λ (p : ℕ × ℕ). p.1) (key_is k (rank b, b) e))) | inr e ↦ inl (sym (at (rank b, b) ∙ ap (λ x. cond x true (contains rank before (rank b, b))) e) ∙ t) ];
+  from = λ b t. elim (cases_Bool (is_at (key_cmp k) (rank b, b))) [ inl e ↦ inr (sym (ap (λ (p : ℕ × ℕ). p.1) (key_is k (rank b, b) e))) | inr e ↦ inl (sym (at (rank b, b) ∙ ap (λ x. cond x true (contains rank before (rank b, b))) e) ∙ t) ];
 }
   where
     k : ℕ × ℕ
@@ -33,7 +34,7 @@ added rank before after a up spots = record {
 
     ranks : HasRanks rank before → HasRanks rank after
     ranks was = record {
-      keys = λ q t. elim (either (is_at (key_cmp k) q)) [
+      keys = λ q t. elim (cases_Bool (is_at (key_cmp k) q)) [
         | inl e ↦ subst (λ (p : ℕ × ℕ). p.0 ≡ rank p.1) (key_is k q e) refl
         | inr e ↦ was.keys q (sym (at q ∙ ap (λ x. cond x true (contains rank before q)) e) ∙ t)
       ];
@@ -63,16 +64,16 @@ module _ (rank : ℕ → ℕ) (before after : Queue) (a : ℕ) (was : HasRanks r
   taken = record {
     waited = member;
     gone = none k (key_at k);
-    kept = λ b ne t. elim (either (is_at (key_cmp k) (rank b, b))) [
+    kept = λ b ne t. elim (cases_Bool (is_at (key_cmp k) (rank b, b))) [
       | inl e ↦ absurd (ne (sym (ap (λ (p : ℕ × ℕ). p.1) (key_is k (rank b, b) e))))
       | inr e ↦ old (rank b, b) e ∙ t
     ];
-    from = λ b t. elim (either (is_at (key_cmp k) (rank b, b))) [
+    from = λ b t. elim (cases_Bool (is_at (key_cmp k) (rank b, b))) [
       | inl e ↦ absurd (true≢false (sym t ∙ none (rank b, b) e))
       | inr e ↦ sym (old (rank b, b) e) ∙ t
     ];
     ranks = record {
-      keys = λ q t. elim (either (is_at (key_cmp k) q)) [
+      keys = λ q t. elim (cases_Bool (is_at (key_cmp k) q)) [
         | inl e ↦ absurd (true≢false (sym t ∙ none q e))
         | inr e ↦ was.keys q (sym (old q e) ∙ t)
       ];
@@ -83,13 +84,9 @@ module _ (rank : ℕ → ℕ) (before after : Queue) (a : ℕ) (was : HasRanks r
 pub next_taken : (way : Way) (rank : ℕ → ℕ) (before after : Queue) (a : ℕ) → HasRanks rank before → ((s : Spots) → after.spots ≡ Some s → AreRanked rank s.items.items) → IsNextOf way rank (contains rank before) (contains rank after) a → IsNext way rank before after a
 next_taken way rank before after a was spots x = record { taken = taken rank before after a was x.was x.turned spots; next = x.next }
 
-or_right : (x y : Bool) → y ≡ false → (x || y) ≡ x
-or_right true y e = refl
-or_right false y e = e
-
 -- the pairs of a queue that has spots
 pub with_spots : (rank : ℕ → ℕ) (queue : Queue) (s : Spots) → queue.spots ≡ Some s → (q : ℕ × ℕ) → contains rank queue q ≡ spots_have rank s.items.items q
-with_spots rank queue s is q = ap (λ o. spots_in rank o q || few_has rank queue.few q) is ∙ or_right (spots_have rank s.items.items q) (few_has rank queue.few q) (queue.apart s is rank q)
+with_spots rank queue s is q = ap (λ o. spots_in rank o q || few_has rank queue.few q) is ∙ ap (λ x. spots_have rank s.items.items q || x) (queue.apart s is rank q) ∙ or_false (spots_have rank s.items.items q)
 
 -- and of one that has none
 pub without_spots : (rank : ℕ → ℕ) (queue : Queue) → queue.spots ≡ None → (q : ℕ × ℕ) → contains rank queue q ≡ few_has rank queue.few q
@@ -151,16 +148,12 @@ pub few_nobody : (rank : ℕ → ℕ) (before : Queue) (o : Option ℕ) → befo
 few_nobody rank before None none f = λ b. without_spots rank before none (rank b, b) ∙ f (rank b, b)
 few_nobody rank before (Some a) none f = f
 
-none_of : {X : Type 0} (o : Option X) → is_some o ≡ false → o ≡ None
-none_of None e = refl
-none_of (Some x) e = absurd (true≢false e)
-
 -- a queue of whose pairs spots were made
 pub widened : (rank : ℕ → ℕ) (before after : Queue) (t : Spots) (ks : List (ℕ × ℕ)) → is_some before.spots ≡ false → after.spots ≡ Some t → before.few.one ≡ None → ks ≡ before.few.many.keys → ((k : ℕ × ℕ) → spots_have rank t.items.items k ≡ list_any (is_at (key_cmp k)) ks) → AreRanked rank t.items.items → IsSame rank before after
 widened rank before after t ks bare at one is filled ranked = record { pairs = pairs; ranks = λ was. record { keys = λ k e. was.keys k (sym (pairs k) ∙ e); spots = ranked_now rank after t at ranked } }
   where
     pairs : (k : ℕ × ℕ) → contains rank after k ≡ contains rank before k
-    pairs k = with_spots rank after t at k ∙ filled k ∙ ap (list_any (is_at (key_cmp k))) is ∙ sym (without_spots rank before (none_of before.spots bare) k ∙ only_many rank before.few one k)
+    pairs k = with_spots rank after t at k ∙ filled k ∙ ap (list_any (is_at (key_cmp k))) is ∙ sym (without_spots rank before (none_from before.spots bare) k ∙ only_many rank before.few one k)
 
 pub spots_nobody : (rank : ℕ → ℕ) (before : Queue) (s : Spots) → before.spots ≡ Some s → NoneWaits s.items.items → (b : ℕ) → waits rank before b ≡ false
 spots_nobody rank before s is none b = with_spots rank before s is (rank b, b) ∙ none_has rank s.items.items none (rank b, b)

@@ -1,8 +1,8 @@
 -- What a mark at a spot changes.
 use Rattle.std.proofs.Common.{◌≡◌, ◌≢◌, ◌+◌, ◌-◌, inl, inr, ℕ, zero, suc, ◌<◌, ◌≤◌, Bool, true, false, ◌&&◌, ◌||◌, cond, true≢false, refl, sym, ◌∙◌, ap, subst, arith, List, [], ◌∷◌, Some, slice_get}
-use Rattle.std.proofs.lemmas.Bool.{cases_eq}
+use Rattle.std.proofs.lemmas.Bool.{cases_eq, cases_Bool, and_parts}
 use Rattle.std.proofs.lemmas.List.Folds.{list_any_at}
-use Rattle.std.proofs.lemmas.Option.{slice_get_within, get_or_from_slice_get}
+use Rattle.std.proofs.lemmas.Option.{slice_get_within, get_or_from_slice_get, same_Some}
 use Rattle.std.specs.List.{list_any}
 use Rattle.std.specs.BTreeMap.{is_at}
 use Rattle.dirty_recompute.specs.declared.spot.Spot.{Spot}
@@ -11,7 +11,7 @@ use Rattle.dirty_recompute.specs.Fews.{HasTurned, IsNextOf}
 use Rattle.dirty_recompute.specs.declared.way.Way.{Way}
 use Rattle.dirty_recompute.specs.declared.way.Way.TheVariants.{Up, Down}
 use Rattle.dirty_recompute.specs.Ways.{IsNoLater}
-use Rattle.dirty_recompute.proofs.FewLemmas.{either, key_is, key_at}
+use Rattle.dirty_recompute.proofs.FewLemmas.{key_is, key_at}
 
 pub any_in : {X : Type 0} (p : X → Bool) (xs : List X) (j : ℕ) (x : X) → slice_get xs j ≡ Some x → p x ≡ true → list_any p xs ≡ true
 any_in p xs j x got is = list_any_at p xs j x (slice_get_within xs j x got) (ap p (get_or_from_slice_get xs j x x got) ∙ is)
@@ -24,23 +24,16 @@ any_out {X} p (x ∷ xs) e = by (p x) refl e (any_out p xs)
     by true is e ih = (zero, x, refl, is)
     by false is e ih = let (j, y, got, at) = ih e in (suc j, y, got, at)
 
-both_true : (x y : Bool) → (x && y) ≡ true → (x ≡ true) × (y ≡ true)
-both_true true y e = (refl, e)
-both_true false y e = absurd (true≢false (sym e))
-
 and_true : (x y : Bool) → x ≡ true → y ≡ true → (x && y) ≡ true
 and_true true y a b = b
 and_true false y a b = absurd (true≢false (sym a))
 
-same_spot : (s t : Spot) → Some s ≡ Some t → s ≡ t
-same_spot s t e = let all : Some s ≡ Some t = e in let is : s ≡ t = cc in is
-
 -- the pair of an AS that waits
 pub pair_of : (rank : ℕ → ℕ) (q : ℕ × ℕ) (t : Spot) → waits_at rank q t ≡ true → q ≡ (rank t.asn, t.asn)
-pair_of rank q t w = key_is q (rank t.asn, t.asn) (both_true t.waits _ w).1
+pair_of rank q t w = key_is q (rank t.asn, t.asn) (and_parts t.waits _ w).1
 
 pub waits_of : (rank : ℕ → ℕ) (q : ℕ × ℕ) (t : Spot) → waits_at rank q t ≡ true → t.waits ≡ true
-waits_of rank q t w = (both_true t.waits _ w).0
+waits_of rank q t w = (and_parts t.waits _ w).0
 
 pub has_own : (rank : ℕ → ℕ) (spots : List Spot) (j : ℕ) (t : Spot) → slice_get spots j ≡ Some t → t.waits ≡ true → spots_have rank spots (rank t.asn, t.asn) ≡ true
 has_own rank spots j t got w = any_in (waits_at rank (rank t.asn, t.asn)) spots j t got (and_true t.waits _ w (key_at (rank t.asn, t.asn)))
@@ -62,7 +55,7 @@ module _ (before after : List Spot) (i : ℕ) (b : Bool) (s : Spot) (at : slice_
 
   back : (j : ℕ) (t : Spot) → slice_get after j ≡ Some t → (u : Spot) × (slice_get before j ≡ Some u) × (u.asn ≡ t.asn) × (u.rank ≡ t.rank)
   back j t got = elim (cases_eq j i) [
-    | inl e ↦ let is : now ≡ t = same_spot now t (sym here ∙ ap (slice_get after) (sym e) ∙ got) in (s, ap (slice_get before) e ∙ at, ap (λ (x : Spot). x.asn) is, ap (λ (x : Spot). x.rank) is)
+    | inl e ↦ let is : now ≡ t = same_Some now t (sym here ∙ ap (slice_get after) (sym e) ∙ got) in (s, ap (slice_get before) e ∙ at, ap (λ (x : Spot). x.asn) is, ap (λ (x : Spot). x.rank) is)
     | inr ne ↦ (t, sym (m.others j ne) ∙ got, refl, refl)
   ]
 
@@ -96,7 +89,7 @@ module _ (before after : List Spot) (i : ℕ) (b : Bool) (s : Spot) (at : slice_
             let (j, t, got, w) = any_out (waits_at rank key) after e in
             let is : s.asn ≡ t.asn = ap (λ (p : ℕ × ℕ). p.1) (pair_of rank key t w) in
             let place : j ≡ i = marked_apart apart j i t now got here (sym is) in
-            let same : t ≡ now = same_spot t now (sym got ∙ ap (slice_get after) place ∙ here) in
+            let same : t ≡ now = same_Some t now (sym got ∙ ap (slice_get after) place ∙ here) in
             absurd (true≢false (sym (waits_of rank key t w) ∙ ap (λ (x : Spot). x.waits) same ∙ f))
 
     -- at another pair nothing changes
@@ -110,16 +103,16 @@ module _ (before after : List Spot) (i : ℕ) (b : Bool) (s : Spot) (at : slice_
         by true true a c = refl
         by false false a c = refl
         by true false a c = let (j, t, got, w) = any_out (waits_at rank q) after a in elim (cases_eq j i) [
-          | inl is ↦ absurd (true≢false (not_here t (ap (λ (x : Spot). x.asn) (same_spot t now (sym got ∙ ap (slice_get after) is ∙ here))) (pair_of rank q t w)))
+          | inl is ↦ absurd (true≢false (not_here t (ap (λ (x : Spot). x.asn) (same_Some t now (sym got ∙ ap (slice_get after) is ∙ here))) (pair_of rank q t w)))
           | inr ne ↦ absurd (true≢false (sym (any_in (waits_at rank q) before j t (sym (m.others j ne) ∙ got) w) ∙ c))
         ]
         by false true a c = let (j, t, got, w) = any_out (waits_at rank q) before c in elim (cases_eq j i) [
-          | inl is ↦ absurd (true≢false (not_here t (ap (λ (x : Spot). x.asn) (same_spot t s (sym got ∙ ap (slice_get before) is ∙ at))) (pair_of rank q t w)))
+          | inl is ↦ absurd (true≢false (not_here t (ap (λ (x : Spot). x.asn) (same_Some t s (sym got ∙ ap (slice_get before) is ∙ at))) (pair_of rank q t w)))
           | inr ne ↦ absurd (true≢false (sym (any_in (waits_at rank q) after j t (m.others j ne ∙ got) w) ∙ a))
         ]
 
     pub marked_turned : HasTurned (spots_have rank before) (spots_have rank after) key b
-    marked_turned q = elim (either (is_at (key_cmp key) q)) [
+    marked_turned q = elim (cases_Bool (is_at (key_cmp key) q)) [
       | inl e ↦ subst (λ p. spots_have rank after p ≡ b) (key_is key q e) at_key ∙ sym (ap (λ x. cond x b (spots_have rank before q)) e)
       | inr e ↦ elsewhere q e ∙ sym (ap (λ x. cond x b (spots_have rank before q)) e)
     ]
@@ -132,7 +125,7 @@ no_later_rank Down spots rising i j s t le at_i at_j = rising j i t s le at_j at
 pub next_spot : (way : Way) (rank : ℕ → ℕ) (before after : List Spot) (s : Spot) → AreApart before → AreRising before → AreRanked rank before → IsNextTaken way before after s → IsNextOf way rank (spots_have rank before) (spots_have rank after) s.asn
 next_spot way rank before after s apart rising ranked x =
     let ((u, got, w), first) = x.next in
-    let same : u ≡ s = same_spot u s (sym got ∙ x.at) in
+    let same : u ≡ s = same_Some u s (sym got ∙ x.at) in
     record {
       was = has_own rank before x.place s x.at (sym (ap (λ (t : Spot). t.waits) same) ∙ w);
       turned = marked_turned before after x.place false s x.at x.marked rank apart;

@@ -23,7 +23,7 @@ use Rattle.dirty_recompute.specs.Steps.{IsRightLow, without_low, after_up, IsLef
 use Rattle.dirty_recompute.specs.Work.{IsWholeWork}
 use Rattle.dirty_recompute.proofs.Parts.{low_some, down_low, stays, right_of_low, whole_choice, by_customer, same_offers, unlinked}
 use Rattle.dirty_recompute.specs.Exact.{IsCounted, IsExact, AreEnough}
-use Rattle.dirty_recompute.proofs.Working.{IsUpStep, IsWholeStep}
+use Rattle.dirty_recompute.proofs.Working.{IsUpStep, IsWholeStep, unset}
 
 module _ {P : Type 0} (meaning : P → Policy) (ranks_offers : (p : P) → RanksOffers (meaning p)) (prefers : (p : P) → PrefersCustomers (meaning p)) (names : OfferNames meaning) (follows : OfferFollows meaning) (by_offers : RightByOffers meaning) (nothing_up : NothingUp meaning) (decide : CustomersDecide meaning) (w : Topology) (book : PolicyBook P) (state : ℕ → State) (seeds : ℕ → Option Seed) where
   abbrev here : Setting
@@ -242,10 +242,6 @@ module _ {P : Type 0} (meaning : P → Policy) (ranks_offers : (p : P) → Ranks
       settled_by (inl s) = inl s
       settled_by (inr (ne, t)) = inr ((λ x. differs_after new (f a) is_low (λ y. ne (at ∙ y)) (ap low (sym at) ∙ x)), t, ap low at ∙ low_changed new (f a) is_low (λ y. ne (at ∙ y)) ∙ sym at)
 
-      unset : (x y : Bool) → (x ≡ true → y ≡ true) → y ≡ false → x ≡ false
-      unset true y h n = absurd (true≢false (sym (h refl) ∙ n))
-      unset false y h n = refl
-
       stay_low : (b : ℕ) → b ≢ a → up' b ≡ false → (up' b ≡ true) ⊎ ((relation w b a ≢ Some Customer) ⊎ IsLeft here seeds f g a b) → Low f b → Low g b
       stay_low b ne n (inl t) = absurd (true≢false (sym t ∙ n))
       stay_low b ne n (inr (inl across)) = low_across f g a back b ne across
@@ -292,10 +288,6 @@ module _ {P : Type 0} (meaning : P → Policy) (ranks_offers : (p : P) → Ranks
       low_kept : (g a ≡ f a) ⊎ (IsForCustomersOnly (f a) × IsForCustomersOnly (g a)) → low (g a) ≡ low (f a)
       low_kept (inl e) = ap low e
       low_kept (inr d) = down_low (g a) d.1 ∙ sym (down_low (f a) d.0)
-
-      unset : (x y : Bool) → (x ≡ true → y ≡ true) → y ≡ false → x ≡ false
-      unset true y h n = absurd (true≢false (sym (h refl) ∙ n))
-      unset false y h n = refl
 
       -- a makes the same offer as before to whom it isn't a provider
       same : (b : ℕ) → relation w b a ≢ Some Provider → (g a ≡ f a) ⊎ (IsForCustomersOnly (f a) × IsForCustomersOnly (g a)) → offer here f a b ≡ offer here g a b

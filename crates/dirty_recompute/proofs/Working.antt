@@ -1,9 +1,10 @@
 -- Turns over two queues: each keeps what holds between turns. Nothing here knows what `right` is.
 use Rattle.std.proofs.Common.{◌≡◌, ◌≢◌, ◌⊎◌, inl, inr, ℕ, Bool, true, false, ◌==◌, ◌||◌, true≢false, Option, Some, List, [], ◌∷◌, refl, sym, ◌∙◌, ap, subst}
-use Rattle.std.proofs.lemmas.Bool.{cases_eq, eqb-true, eq-eqb}
+use Rattle.std.proofs.lemmas.Bool.{cases_eq, cases_Bool, eqb-true}
 use Rattle.net_names.specs.declared.routes.Rel.{Rel}
 use Rattle.net_names.specs.declared.routes.Rel.TheVariants.{Customer, Provider}
 use Rattle.net_names.specs.Numbers.{occurs}
+use Rattle.net_names.proofs.Shared.{occurs_cons, occurs_head, occurs_rest}
 use Rattle.stability_laws.specs.declared.entry.Entry.{Entry}
 use Rattle.stability_laws.specs.Steps.{low}
 use Rattle.dirty_recompute.specs.Exact.{IsCounted}
@@ -36,17 +37,6 @@ pub record IsWholeStep (LowRight Right : (ℕ → Option Entry) → ℕ → Type
 both : (b : Bool) → b ≡ true → b ≡ false → ⊥
 both b t f = true≢false (sym t ∙ f)
 
-either : (b : Bool) → (b ≡ true) ⊎ (b ≡ false)
-either true = inl refl
-either false = inr refl
-
-occurs_cases : (b a : ℕ) (xs : List ℕ) → occurs b (a ∷ xs) ≡ true → (a ≡ b) ⊎ (occurs b xs ≡ true)
-occurs_cases b a xs e = by (a == b) refl e
-  where
-    by : (t : Bool) → (a == b) ≡ t → (t || occurs b xs) ≡ true → (a ≡ b) ⊎ (occurs b xs ≡ true)
-    by true is e = inl (eqb-true a b is)
-    by false is e = inr e
-
 occurs_neither : (b a : ℕ) (xs : List ℕ) → b ≢ a → occurs b xs ≡ false → occurs b (a ∷ xs) ≡ false
 occurs_neither b a xs ne e = by (a == b) refl
   where
@@ -54,27 +44,22 @@ occurs_neither b a xs ne e = by (a == b) refl
     by true is = absurd (ne (sym (eqb-true a b is)))
     by false is = e
 
-occurs_here : (a : ℕ) (xs : List ℕ) → occurs a (a ∷ xs) ≡ true
-occurs_here a xs = ap (λ t. t || occurs a xs) (eq-eqb a a refl)
-
-occurs_there : (b a : ℕ) (xs : List ℕ) → occurs b xs ≡ true → occurs b (a ∷ xs) ≡ true
-occurs_there b a xs e = by (a == b)
-  where
-    by : (t : Bool) → (t || occurs b xs) ≡ true
-    by true = refl
-    by false = e
+-- what a failing test would follow from fails too
+pub unset : (x y : Bool) → (x ≡ true → y ≡ true) → y ≡ false → x ≡ false
+unset true y h n = absurd (true≢false (sym (h refl) ∙ n))
+unset false y h n = refl
 
 not_later : (b a : ℕ) (xs : List ℕ) → occurs b (a ∷ xs) ≡ false → (b ≢ a) × (occurs b xs ≡ false)
 not_later b a xs e = (away, rest)
   where
     away : b ≢ a
-    away x = both (occurs b (a ∷ xs)) (subst (λ t. occurs b (t ∷ xs) ≡ true) x (occurs_here b xs)) e
+    away x = both (occurs b (a ∷ xs)) (subst (λ t. occurs b (t ∷ xs) ≡ true) x (occurs_head b xs)) e
 
     rest : occurs b xs ≡ false
     rest = by (occurs b xs) refl
       where
         by : (t : Bool) → occurs b xs ≡ t → occurs b xs ≡ false
-        by true is = absurd (both (occurs b (a ∷ xs)) (occurs_there b a xs is) e)
+        by true is = absurd (both (occurs b (a ∷ xs)) (occurs_rest b a xs is) e)
         by false is = is
 
 -- a turn of one of the first keeps the order, if only later ones are put in
@@ -86,7 +71,7 @@ in_order le trans a queue queue' taken is least from was = record { ahead = ahea
     after b q = elim (from b q).1 [ inl old ↦ least b old | inr new ↦ new.0 ]
 
     ahead : (b c : ℕ) → queue' b ≡ true → occurs c (a ∷ taken) ≡ true → le c b
-    ahead b c q t = elim (occurs_cases c a taken t) [
+    ahead b c q t = elim (occurs_cons c a taken t) [
       | inl e ↦ subst (λ x. le x b) e (after b q)
       | inr old ↦ trans c a b (was.ahead a c is old) (after b q)
     ]
@@ -117,7 +102,7 @@ at_or_away F a b at away = elim (cases_eq b a) [ inl e ↦ subst F (sym e) at | 
 
 -- what holds of a, and of all who had a turn before, holds of all who had one
 all_taken : (F : ℕ → Type 0) (a : ℕ) (taken : List ℕ) → F a → ((b : ℕ) → occurs b taken ≡ true → F b) → (b : ℕ) → occurs b (a ∷ taken) ≡ true → F b
-all_taken F a taken at before b t = elim (occurs_cases b a taken t) [ inl e ↦ subst F e at | inr old ↦ before b old ]
+all_taken F a taken at before b t = elim (occurs_cons b a taken t) [ inl e ↦ subst F e at | inr old ↦ before b old ]
 
 -- b waits after a turn of a: it waited, or it is this to a, which has changed
 abbrev IsAsked : (ℕ → ℕ → Option Rel) → Rel → (ℕ → Bool) → (ℕ → Bool) → ℕ → ℕ → Type 0
@@ -140,7 +125,7 @@ module _ (LowRight Right : (ℕ → Option Entry) → ℕ → Type 0) (le : ℕ 
       same = λ b. at_or_away (λ x. overlay' x ≡ false → g x ≡ table x) a b (same_here step.settled) (λ ne n. step.others b ne ∙ was.same b (sym (step.changed_others b ne) ∙ n));
       differs = λ b. at_or_away (λ x. overlay' x ≡ true → low (g x) ≢ low (table x)) a b (differs_here step.settled) (λ ne t x. was.differs b (sym (step.changed_others b ne) ∙ t) (ap low (sym (step.others b ne)) ∙ x));
       put_low = λ b. at_or_away (λ x. overlay' x ≡ true → low (g x) ≡ g x) a b (low_here step.settled) (λ ne t. ap low (step.others b ne) ∙ was.put_low b (sym (step.changed_others b ne) ∙ t) ∙ sym (step.others b ne));
-      put = λ b. at_or_away (λ x. overlay' x ≡ true → occurs x (a ∷ taken) ≡ true) a b (λ t. occurs_here a taken) (λ ne t. occurs_there b a taken (was.put b (sym (step.changed_others b ne) ∙ t)));
+      put = λ b. at_or_away (λ x. overlay' x ≡ true → occurs x (a ∷ taken) ≡ true) a b (λ t. occurs_head a taken) (λ ne t. occurs_rest b a taken (was.put b (sym (step.changed_others b ne) ∙ t)));
       order = in_order le trans a up up' taken is least (λ b q. ((step.from b q).0, asked_later relation Customer up overlay' a b (le a b × (le b a → ⊥)) (above a b) (step.from b q).1)) was.order;
       queued = λ b q. asked_counted relation touched Customer up overlay' a b (λ old. on b (was.queued b old)) (step.from b q).1;
       queued_whole = λ b q. queued_whole b (step.from_whole b q);
@@ -221,7 +206,7 @@ module _ (LowRight Right : (ℕ → Option Entry) → ℕ → Type 0) (le : ℕ 
 
         differs_here : ((g a ≡ f a) × (overlay' a ≡ overlay a)) ⊎ ((g a ≢ f a) × (overlay' a ≡ true)) → overlay' a ≡ true → g a ≢ table a
         differs_here (inl s) t x = was.differs a (sym s.1 ∙ t) (sym s.0 ∙ x)
-        differs_here (inr s) t x = elim (either (overlay a)) [
+        differs_here (inr s) t x = elim (cases_Bool (overlay a)) [
           | inl old ↦ was.differs_low a old (was.order.fresh a is) (sym step.low_kept ∙ ap low x)
           | inr new ↦ s.0 (x ∙ sym (was.same a new))
         ]

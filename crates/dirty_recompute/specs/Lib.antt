@@ -9,6 +9,7 @@ pub mod Queues
 pub mod Turns
 pub mod Work
 pub mod PlannedRanks
+pub mod Plans
 pub mod Giving
 pub mod Named
 pub mod Spared

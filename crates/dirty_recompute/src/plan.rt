@@ -1,19 +1,17 @@
 //! Who changes after an edit.
 
-ghost use Rattle.std.specs.Prelude.{◌≡◌, ℕ, ◌+◌, ◌*◌, ◌≤◌, true, false, None, OnOk, OnErr, IfOk};
+ghost use Rattle.std.specs.Prelude.{◌≡◌, ℕ, ◌+◌, ◌≤◌, None, OnOk, OnErr, IfOk};
 ghost use Rattle.net_names.specs.Prelude.{occurs};
-ghost use Rattle.as_graph.specs.Prelude.{relation, has, as_count, HasNoProviderCycle, IsRank};
+ghost use Rattle.as_graph.specs.Prelude.{relation, has, as_count};
 ghost use Rattle.path_pool.specs.declared.pool.PathPool.{PathPool as APool};
-ghost use Rattle.path_pool.specs.Pool.{holds_of, count_of, live_count, limit_of};
-ghost use Rattle.rank_order.specs.Prelude.{rank_after, IsLastPlan};
-ghost use Rattle.stability_laws.specs.Prelude.{IsRight, setting_in};
-ghost use Rattle.route_choice.specs.declared.counts.TheConstants.{MOST_COUNTED};
-ghost use Rattle.route_choice.specs.Prelude.{setting_at, AreEntriesLive, AreSeedsLive, Keeps, routing_of, seeds_of, table_routing, change_at, held_at, overlay_uses, prefix_of, seed_at, table_uses, HasRoomForChanges};
+ghost use Rattle.path_pool.specs.Pool.{limit_of};
+ghost use Rattle.route_choice.specs.Prelude.{setting_at, routing_of, seeds_of, table_routing, change_at};
 ghost use Rattle.dirty_recompute.specs.Exact.{IsExact, AreEnough};
 ghost use Rattle.dirty_recompute.specs.Named.{HasAll};
 ghost use Rattle.dirty_recompute.specs.PlannedRanks.{rank_of};
+ghost use Rattle.dirty_recompute.specs.Plans.{CanPlan, IsPlanned};
 ghost use Rattle.dirty_recompute.specs.Queues.{waits, HasRanks};
-ghost use Rattle.dirty_recompute.specs.Resources.{has_change, FewNewCells, IsKept, IsUndone, SameTable};
+ghost use Rattle.dirty_recompute.specs.Resources.{has_change, IsKept, IsUndone, SameTable};
 ghost use Rattle.dirty_recompute.specs.Work.{HasGoneDown, CanGoOn, GoesOn, IsRightBut};
 ghost use Rattle.as_graph.specs.declared.build.TheConstants.{MOST_ASES};
 
@@ -195,31 +193,10 @@ pub fn plan_edit<P: RoutePolicy, V: OriginStates, L: Ledger>(
     pool: &mut PathPool,
     steps: &mut Steps<L>,
 ) -> Result<Overlay, NoMemory>
-    requires no_cycle { HasNoProviderCycle (relation world.now.graph.now) }
-    requires plan { IsLastPlan ranks.now.ranks.now ranks.now.plan.now }
-    requires ranks { (a : ℕ) → IsRank (relation world.now.graph.now) a
-        (rank_after ranks.now.ranks.now ranks.now.plan.now a) }
-    requires entries { (b : ℕ) → has world.now.graph.now b ≡ false → occurs b edit.now.touched.now ≡ false →
-        held_at table.old b ≡ None }
-    requires right { (b : ℕ) → has world.now.graph.now b ≡ true → occurs b edit.now.touched.now ≡ false →
-        IsRight (setting_in P.meaning V.state_of world.now (prefix_of table.old))
-        (seeds_of pool.old edit.now.seeds.now) (table_routing pool.old table.old) b }
-    requires seeds { (b : ℕ) → has world.now.graph.now b ≡ false → seed_at edit.now.seeds.now b ≡ None }
-    requires seeds_live { AreSeedsLive pool.old edit.now.seeds.now }
-    requires entries_live { AreEntriesLive pool.old table.old }
-    requires held { (k : ℕ) → table_uses table.old k ≤ holds_of pool.old k }
-    requires counts { (k : ℕ) → count_of pool.old k ≤ MOST_COUNTED }
-    requires room { live_count pool.old + 2 * as_count world.now.graph.now ≤ limit_of pool.old }
-    ensures exact { IfOk result (λ o. IsExact (setting_in P.meaning V.state_of world.now (prefix_of table.old))
-        (seeds_of pool.old edit.now.seeds.now) (table_routing pool.old table.old) (routing_of pool.new table.new o)
-        (has_change o)) }
-    ensures enough { IfOk result (λ o. AreEnough (relation world.now.graph.now) (λ b. occurs b edit.now.touched.now)
-        (has_change o) steps.old steps.new) }
+    requires { CanPlan P.meaning V.state_of world.now ranks.now edit.now table.old pool.old }
+    ensures planned { IfOk result (IsPlanned P.meaning V.state_of world.now edit.now table.old table.new
+        pool.old pool.new steps.old steps.new) }
     ensures table { SameTable table.old table.new }
-    ensures spare { IfOk result (HasRoomForChanges table.new) }
-    ensures holds { IfOk result (λ o. (k : ℕ) → holds_of pool.new k ≡ holds_of pool.old k + overlay_uses o k) }
-    ensures cells { IfOk result (FewNewCells pool.old pool.new) }
-    ensures kept { OnOk result (Keeps pool.old pool.new edit.now.seeds.now) }
     ensures limit { limit_of pool.new ≡ limit_of pool.old }
     ensures err { OnErr result (IsUndone pool.old pool.new) }
 {

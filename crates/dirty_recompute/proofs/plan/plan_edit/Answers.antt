@@ -1,4 +1,4 @@
-use Rattle.std.proofs.Common.{◌≡◌, false, true≢false, Result, Ok, Err, refl, sym, ◌∙◌, subst, arith}
+use Rattle.std.proofs.Common.{◌≡◌, false, true≢false, Result, Ok, Err, refl, sym, ◌∙◌, subst, arith, rules}
 use Rattle.std.specs.Prelude.{is_err, OnOk}
 use Rattle.stability_laws.specs.World.{setting_in}
 use Rattle.route_choice.specs.Routings.{routing_of, seeds_of, table_routing}
@@ -39,20 +39,21 @@ pub returns-then-is_err-clause-err : goal.returns-then-is_err-clause-err
 returns-then-is_err-clause-err g c =
     undone c.args.pool.now c.put_changes-put.new.pool c.undo.new.pool c.args.edit.now.seeds.now c.new-overlay.result c.put_changes-put.new.overlay c.new-overlay.ensures.uses c.put_changes-put.ensures.kept c.undo.ensures.holds c.undo.ensures.back
 
-pub returns-clause-exact : goal.returns-clause-exact
-returns-clause-exact g c =
+pub returns-clause-planned : goal.returns-clause-planned
+returns-clause-planned g c =
     let here = setting_in g.P.RoutePolicy.meaning g.V.OriginStates.state_of c.args.world.now (prefix_of c.args.table.now) in
     let seeds = c.args.edit.now.seeds.now in let table = c.args.table.now in
     let pool = c.args.pool.now in let pool' = c.put_changes-put.new.pool in let overlay = c.put_changes-put.new.overlay in
-    let same_seeds : seeds_of pool seeds ≡ seeds_of pool' seeds = seeds_same pool pool' seeds c.put_changes-put.ensures.kept.keeps in
-    let same_table : table_routing pool table ≡ table_routing pool' table = table_same pool pool' seeds table c.put_changes-put.ensures.kept.keeps c.requires.entries_live in
+    let put = c.put_changes-put.ensures in
+    let good : is_err c.put_changes-put.result ≡ false = sym c.is_err.ensures.value ∙ c.if-is_err.false in
+    let same_seeds : seeds_of pool seeds ≡ seeds_of pool' seeds = seeds_same pool pool' seeds put.kept.keeps in
+    let same_table : table_routing pool table ≡ table_routing pool' table = table_same pool pool' seeds table put.kept.keeps c.requires.entries_live in
     let roomed : routing_of pool' c.room_for.new.self overlay ≡ routing_of pool' table overlay = sym (same_routing pool' table c.room_for.new.self overlay c.room_for.ensures.same) in
-    coe 1 0 (i. IsExact here (same_seeds i) (same_table i) (roomed i) (has_change overlay)) (not_err c.put_changes-put.result (sym c.is_err.ensures.value ∙ c.if-is_err.false) c.put_changes-put.ensures.exact)
-
-pub returns-clause-holds : goal.returns-clause-holds
-returns-clause-holds g c = λ k. omega (arith, c.put_changes-put.ensures.kept.holds k, c.new-overlay.ensures.uses k)
-
-pub returns-clause-cells : goal.returns-clause-cells
-returns-clause-cells g c =
-    few_new_cells c.args.world.now.graph.now c.args.edit.now.seeds.now c.args.table.now c.args.pool.now c.put_changes-put.new.pool c.put_changes-put.new.overlay
-    (not_err c.put_changes-put.result (sym c.is_err.ensures.value ∙ c.if-is_err.false) c.put_changes-put.ensures.can)
+    record {
+      exact = coe 1 0 (i. IsExact here (same_seeds i) (same_table i) (roomed i) (has_change overlay)) (not_err c.put_changes-put.result good put.exact);
+      enough = not_err c.put_changes-put.result good put.enough;
+      spare = search rules;
+      holds = λ k. omega (arith, put.kept.holds k, c.new-overlay.ensures.uses k);
+      cells = few_new_cells c.args.world.now.graph.now seeds table pool pool' overlay (not_err c.put_changes-put.result good put.can);
+      kept = put.kept.keeps;
+    }

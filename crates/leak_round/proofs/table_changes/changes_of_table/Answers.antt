@@ -25,10 +25,27 @@ few_ases g pool pool' t o h away = few_entries g (routing_of pool' t o) h.ases h
 few_places : (pool pool' : PathPool) (o : Overlay) (h : FewNewCells pool pool' o) → IsListed o → length h.ases ≤ length (places_of o)
 few_places pool pool' o h listed = distinct_le h.ases (places_of o) h.distinct (λ a there. (let (held, is) = h.entries a there in listed.whole a ∙ ap is_some is))
 
+pub plan_edit-requires : goal.plan_edit-requires
+plan_edit-requires g c =
+    let can = c.requires.can in
+    record {
+      no_cycle = c.args.finding.now.no_cycle;
+      last = c.args.finding.now.last;
+      ranks = c.requires.ranks;
+      entries = can.entries;
+      right = can.right;
+      seeds = can.at_ases;
+      seeds_live = can.seeds_live;
+      entries_live = can.entries_live;
+      held = can.held;
+      counts = λ k. omega (arith, c.requires.room.counts k);
+      room = omega (arith, c.requires.room.cells, c.as_count-count.ensures.value, c.as_count-count.ensures.few);
+    }
+
 pub returns-clause-found : goal.returns-clause-found
 returns-clause-found g c =
     let o = c.in_ok-overlay.overlay in
-    let now = c.in_ok-overlay.ensures in
+    let now = c.in_ok-overlay.ensures.planned in
     let pool = c.args.pool.now in
     let pool' = c.plan_edit.new.pool in
     let listed : IsListed o = record { whole = c.len-changes.ensures.listed; apart = c.len-changes.ensures.apart } in
@@ -42,6 +59,6 @@ returns-clause-found g c =
       listed = listed;
       holds = now.holds;
       keeps = record { live = now.kept.live; lists = now.kept.lists };
-      grows = record { cells = omega (arith, now.cells.few, most); counts = λ k. omega (arith, now.cells.counts k, most); limit = now.limit };
+      grows = record { cells = omega (arith, now.cells.few, most); counts = λ k. omega (arith, now.cells.counts k, most); limit = c.in_ok-overlay.ensures.limit };
       cells = omega (arith, now.cells.few, listed_few);
     }
