@@ -59,3 +59,20 @@ module _ (p s r : Policy) (state : ℕ → State) (n a : ℕ) where
         by : (b : Bool) → Some best ≡ better_of p (Some best) (seen (cond b (Some made) None))
         by true = sym (ap (λ t. cond t (Some view) (Some best)) h)
         by false = refl
+
+  -- an entry whose path goes through the receiver is not offered
+  pub looped : (link : Option Rel) (from : Rel) (f : Option Entry) (e : Entry) (best : Option View) → link ≡ Some from → Some e ≡ f → occurs a e.path ≡ true
+      → best ≡ better_of p best (seen (offer_given s r state n a link f))
+  looped link from f e best linked holds there =
+      subst (λ l. best ≡ better_of p best (seen (offer_given s r state n a l f))) (sym linked)
+      (subst (λ g. best ≡ better_of p best (seen (offer_given s r state n a (Some from) g))) holds
+      (subst (λ (b : Bool). best ≡ better_of p best (seen (cond (s.exports e.class e.otc (converse from) && (is_some (slice_get e.path 0) && (not b && r.accepts (view from e)))) (Some (made from e)) None))) (sym there)
+      (by (s.exports e.class e.otc (converse from)) (is_some (slice_get e.path 0)) best)))
+    where
+      by : (x y : Bool) (best : Option View) → best ≡ better_of p best (seen (cond (x && (y && false)) (Some (made from e)) None))
+      by true true None = refl
+      by true true (Some b) = refl
+      by true false None = refl
+      by true false (Some b) = refl
+      by false y None = refl
+      by false y (Some b) = refl

@@ -1,6 +1,8 @@
 pub mod Behind
 mod BestNear
 pub mod RowMaps
+pub mod Sought
+pub mod Numbered
 pub mod PathNumbers
 pub mod Lines
 pub mod Walking

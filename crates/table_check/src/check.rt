@@ -7,7 +7,7 @@ ghost use Rattle.table_check.specs.Walk.{IsFault};
 
 use crate::everywhere::is_right_everywhere;
 use crate::lowest::lowest_wrong;
-use crate::placed::{Placed, held_by_rows};
+use crate::placed::{Placed, held_by_rows, long_paths};
 use crate::seeds::seeds_after;
 use crate::tables::Tables;
 use crate::verdict::{Fault, Verdict};
@@ -35,7 +35,8 @@ fn fault_after<P: RoutePolicy, V: OriginStates>(
     let seeds = seeds_after(alloc, plan, prefix, table, before)?;
     let rows = world.graph.rows();
     let (briefs, held) = held_by_rows(alloc, rows, table, round)?;
-    let placed = Placed::new(table, round, rows, &briefs, &held);
+    let long = long_paths(alloc, world.graph, table, round, &briefs)?;
+    let placed = Placed::new(table, round, rows, &briefs, &held, &long);
     if is_right_everywhere(world, prefix, &seeds, &placed) {
         return Ok(None);
     }

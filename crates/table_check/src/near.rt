@@ -1,6 +1,7 @@
 //! Whether a routing is right at an AS, sought by the places of the graph's rows.
-ghost use Rattle.std.specs.Prelude.{◌≡◌, ℕ, IsTrue, Some, option_map};
+ghost use Rattle.std.specs.Prelude.{◌≡◌, ◌<◌, ◌-◌, ◌^◌, ℕ, IsTrue, Some, false, length, option_map};
 ghost use Rattle.std.specs.FinMap as map;
+ghost use Rattle.net_names.specs.Prelude.{occurs};
 ghost use Rattle.net_names.specs.declared.routes.State.{State as AState};
 ghost use Rattle.as_graph.specs.Prelude.{relation, AreNeighbours};
 ghost use Rattle.stability_laws.specs.declared.entry.Entry.{Entry as AnEntry};
@@ -13,7 +14,7 @@ use as_graph::Neighbour;
 use net_names::{Asn, Prefix, State, place_at};
 use policy_laws::{OriginStates, RoutePolicy, View};
 use stability_laws::{
-    Entry, Seeds, World, better, holds_given, is_of_seed, number_sent, offered_view,
+    Entry, Seeds, World, better, holds_given, is_of_seed, last_of, number_sent, offered_view,
 };
 
 /// The AS whose offers are looked at, and a place at which its row is sought first.
@@ -76,6 +77,40 @@ fn is_no_better<P: RoutePolicy>(
     !own.before(&view, old)
 }
 
+// The view of the offer that a neighbour makes of an entry to an AS that doesn't stand in its path, as `offered_view`
+// gives it.
+fn view_past<P: RoutePolicy, V: OriginStates>(
+    sender: &P,
+    own: &P,
+    states: &V,
+    prefix: Prefix,
+    neighbour: &Neighbour,
+    held: &Entry,
+) -> Option<View>
+    requires { length held.now.path < 2 ^ 32 - 1 }
+    ensures { (a : ℕ) → occurs a held.now.path ≡ false → result ≡ option_map (λ o. o.view)
+        (offer_given (P.meaning sender.now) (P.meaning own.now) (V.state_of states.now prefix)
+        neighbour.now.asn a (Some neighbour.now.rel) (Some held.now)) }
+{
+    let Neighbour { asn, rel } = *neighbour;
+    let path = held.path.as_slice();
+    let to = rel.converse();
+    if !sender.exports(held.class, held.otc, to) {
+        return None;
+    }
+    let Some(origin) = last_of(path) else {
+        return None;
+    };
+    let view = View {
+        rel,
+        neighbour: asn,
+        length: path.len() as u32 + 1,
+        state: states.state(prefix, origin),
+        otc: number_sent(sender.marks(), asn, to, held.otc),
+    };
+    if own.accepts(&view) { Some(view) } else { None }
+}
+
 // The better one of the best view so far and that of the offer that the neighbour makes, where it makes one.
 fn better_with<P: RoutePolicy, V: OriginStates>(
     world: &World<'_, P, V>,
@@ -94,6 +129,7 @@ fn better_with<P: RoutePolicy, V: OriginStates>(
     let Some(brief) = placed.brief_near(neighbour.asn, place) else {
         return best;
     };
+    let length = brief.length;
     let own = world.book.policy_near(receiver.asn, receiver.place);
     let sender = world.book.policy_near(neighbour.asn, place);
     if is_no_better(own, sender, neighbour, brief, &best) {
@@ -102,15 +138,15 @@ fn better_with<P: RoutePolicy, V: OriginStates>(
     let Some(held) = placed.near(neighbour.asn, place) else {
         return best;
     };
-    let view = offered_view(
-        sender,
-        own,
-        world.states,
-        prefix,
-        neighbour,
-        receiver.asn,
-        held,
-    );
+    let a = receiver.asn;
+    let Some(numbers) = placed.numbers_of(neighbour.asn, length) else {
+        let view = offered_view(sender, own, world.states, prefix, neighbour, a, held);
+        return better(own, best, view);
+    };
+    if numbers.has(a) {
+        return best;
+    }
+    let view = view_past(sender, own, world.states, prefix, neighbour, held);
     better(own, best, view)
 }
 

@@ -1,12 +1,24 @@
 //! What the ASes hold in a section, by the places of the graph's rows.
-ghost use Rattle.std.specs.Prelude.{◌≡◌, ◌<◌, ◌-◌, ◌^◌, length, map as each, option_copied, option_map, IfOk};
+ghost use Rattle.std.specs.Prelude.{◌≡◌, ◌<◌, ◌-◌, ◌^◌, ℕ, length, map as each, option_copied, option_map, Some, IfOk, IfSome, OnOk};
+ghost use Rattle.net_names.specs.Prelude.{occurs};
+ghost use Rattle.stability_laws.specs.declared.entry.Entry.{Entry as AnEntry};
+ghost use Rattle.table_check.specs.Numbers.{AreNumbers};
 ghost use Rattle.table_check.specs.Rows.{HoldsShort, held_by};
 ghost use Rattle.table_check.specs.Walk.{brief_of};
 
+use crate::long_paths::LongPaths;
+use crate::numbers::Numbers;
 use crate::rows::Rows;
+use as_graph::Graph;
 use net_names::{Asn, Class, NoMemory};
 use stability_laws::Entry;
 use std::alloc::Global;
+
+// An entry whose offer shows at most this length has a path that is short enough for each neighbour to look through it.
+const MOST_IN_SHORT: u32 = 256;
+
+// How many neighbours may each look through a long path.
+const FEW_NEIGHBOURS: usize = 64;
 
 /// What an offer of an entry shows of it without a look at its path.
 #[derive(Clone, Copy)]
@@ -25,9 +37,11 @@ pub(crate) struct Placed<'a> {
     rows: &'a [Asn],
     briefs: &'a [Option<Brief>],
     held: &'a [Option<&'a Entry>],
+    long: &'a LongPaths,
     ghost shown: { briefs.now ≡ each (λ a. option_map brief_of (held_by table.now round a)) rows.now },
     ghost same: { each option_copied held.now ≡ each (held_by table.now round) rows.now },
     ghost short: { HoldsShort table.now },
+    ghost numbered: { AreNumbers (held_by table.now round) long.now },
 }
 
 // What an offer of the entry shows.
@@ -75,17 +89,70 @@ pub(crate) fn held_by_rows<'a>(
     Ok((briefs, held))
 }
 
+// Whether the AS holds a long path at this place, and has many neighbours.
+fn is_looked_through(graph: &Graph, briefs: &[Option<Brief>], asn: Asn, place: usize) -> bool {
+    if place >= briefs.len() {
+        return false;
+    }
+    match briefs[place] {
+        Some(brief) => {
+            brief.length > MOST_IN_SHORT && graph.neighbours_near(asn, place).len() > FEW_NEIGHBOURS
+        },
+        None => false,
+    }
+}
+
+// Puts in the numbers of the path that the AS holds in the round.
+fn put_path(
+    alloc: Global,
+    table: &Rows,
+    round: u32,
+    asn: Asn,
+    long: &mut LongPaths,
+) -> Result<(), NoMemory>
+    ensures { OnOk result (AreNumbers (held_by table.now round) long.old → AreNumbers (held_by table.now round) long.new) }
+{
+    match table.held(round, asn) {
+        Some(entry) => long.put(alloc, asn, entry.path.as_slice()),
+        None => Ok(()),
+    }
+}
+
+/// The numbers of the long paths that ASes with many neighbours hold in the round. What offers show stands in the
+/// order of the graph's rows.
+pub(crate) fn long_paths(
+    alloc: Global,
+    graph: &Graph,
+    table: &Rows,
+    round: u32,
+    briefs: &[Option<Brief>],
+) -> Result<LongPaths, NoMemory>
+    ensures { IfOk result (λ long. AreNumbers (held_by table.now round) long) }
+{
+    let mut long = LongPaths::none(alloc);
+    let mut place = 0usize;
+    for asn in graph.rows() {
+        if is_looked_through(graph, briefs, *asn, place) {
+            put_path(alloc, table, round, *asn, &mut long)?;
+        }
+        place = place.wrapping_add(1);
+    }
+    Ok(long)
+}
+
 impl<'a> Placed<'a> {
-    /// The rows of the round, and what these ASes hold by them.
+    /// The rows of the round, what these ASes hold by them, and the numbers of long paths.
     pub(crate) fn new(
         table: &'a Rows,
         round: u32,
         rows: &'a [Asn],
         briefs: &'a [Option<Brief>],
         held: &'a [Option<&'a Entry>],
+        long: &'a LongPaths,
     ) -> Placed<'a>
         requires shown { briefs.now ≡ each (λ a. option_map brief_of (held_by table.now round a)) rows.now }
         requires same { each option_copied held.now ≡ each (held_by table.now round) rows.now }
+        requires numbered { AreNumbers (held_by table.now round) long.now }
         ensures table { result.table.now ≡ table.now }
         ensures round { result.round ≡ round }
     {
@@ -96,6 +163,19 @@ impl<'a> Placed<'a> {
             rows,
             briefs,
             held,
+            long,
+        }
+    }
+
+    /// The numbers of the path that the AS holds, whose offer shows this length, where they are known.
+    pub(crate) fn numbers_of(&self, asn: Asn, length: u32) -> Option<&Numbers>
+        ensures { IfSome result (λ s. (e : AnEntry) → held_by self.now.table.now self.now.round asn ≡ Some e →
+            (a : ℕ) → occurs a s.now.sorted.items ≡ occurs a e.path) }
+    {
+        if length > MOST_IN_SHORT {
+            self.long.numbers(asn)
+        } else {
+            None
         }
     }
 
